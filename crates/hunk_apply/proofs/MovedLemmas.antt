@@ -1,0 +1,60 @@
+-- The state behind a hunk.
+use Rattle.std.proofs.Common.{◌≡◌, ℕ, ◌+◌, ◌-◌, ◌<◌, ◌≤◌, ◌^◌, List, [], ◌∷◌, ◌++◌, length, reverse, count_by, Bool, true, false, cond, ◌&&◌, eqb, refl, sym, ap, ◌∙◌, arith, to_z, of_z, w64}
+use Rattle.std.specs.Prelude.{ℤ, pos, negsuc, ◌+ℤ◌, ◌-ℤ◌, ◌≤ℤ◌, ◌==◌}
+use Rattle.std.specs.List.{prefix_len}
+use Rattle.std.proofs.lemmas.Int.{ints}
+use Rattle.std.proofs.lemmas.List.{append-nil}
+use Rattle.std.proofs.lemmas.Bool.Decides.{nat_tests}
+use Rattle.hunk_core.specs.declared.Side.{Side}
+use Rattle.hunk_core.specs.declared.Hunk.{Hunk}
+use Rattle.hunk_core.specs.Sides.{taken_count}
+use Rattle.hunk_core.specs.PlainHunk.{PlainHunk, old_lines}
+use Rattle.hunk_core.specs.Turned.{trailing, is_add, is_drop}
+use Rattle.hunk_place.specs.declared.PlaceState.{PlaceState}
+use Rattle.hunk_place.specs.Taken.{taken}
+use Rattle.hunk_place.specs.Verdicts.{adds, drops}
+use Rattle.hunk_place.proofs.TakenLemmas.{taken-trailing}
+use Rattle.hunk_apply.specs.Body.{turned_mark}
+use Rattle.hunk_apply.specs.Splice.{Edit, body_edits}
+use Rattle.hunk_apply.specs.Moved.{moved_state}
+use Rattle.hunk_apply.proofs.BodyLemmas.{is_kept}
+use Rattle.hunk_apply.proofs.HunkLemmas.{adds-are, drops-are, old-length, no-edits}
+
+pub net-is : (n : ℤ) (a d : ℕ) → a < 2 ^ 32 → d < 2 ^ 32 → negsuc (2 ^ 62) ≤ℤ n → n ≤ℤ pos (2 ^ 62) → to_z w64 (of_z w64 (to_z w64 (of_z w64 n) +ℤ to_z w64 (of_z w64 (to_z w64 a -ℤ to_z w64 d)))) ≡ n +ℤ (pos a -ℤ pos d)
+net-is n a d high_a high_d low high = omega (arith, ints)
+
+moved-is : (c : PlainHunk) (s : PlaceState) (line : ℕ) (offset : ℤ) (k : ℕ) (o n : ℤ) → k ≡ cond ((adds c == 0) && (drops c == 0)) s.consumed ((line - 1 + length (old_lines c.body)) - trailing c.body) → o ≡ offset → n ≡ s.net +ℤ (pos (adds c) -ℤ pos (drops c))
+    → let p : PlaceState = record { consumed = k; offset = o; net = n } in p ≡ moved_state c s line offset
+moved-is c s line offset k o n ek eo en =
+    ap (λ x. let p : PlaceState = record { consumed = x; offset = o; net = n } in p) ek
+    ∙ ap (λ x. let p : PlaceState = record { consumed = cond ((adds c == 0) && (drops c == 0)) s.consumed ((line - 1 + length (old_lines c.body)) - trailing c.body); offset = x; net = n } in p) eo
+    ∙ ap (λ x. let p : PlaceState = record { consumed = cond ((adds c == 0) && (drops c == 0)) s.consumed ((line - 1 + length (old_lines c.body)) - trailing c.body); offset = offset; net = x } in p) en
+
+test-is : (text : List ℕ) (side : Side) (h : Hunk) (a d : ℕ) (b : Bool) → a ≡ count_by (λ l. is_add (turned_mark side l.mark)) h.body.items → d ≡ count_by (λ l. is_drop (turned_mark side l.mark)) h.body.items → b ≡ ((a == 0) && (d == 0)) → ((adds (taken text side h) == 0) && (drops (taken text side h) == 0)) ≡ b
+test-is text side h a d b ea ed eb =
+    ap (λ x. (x == 0) && (drops (taken text side h) == 0)) (adds-are text side h ∙ sym ea)
+    ∙ ap (λ x. (a == 0) && (x == 0)) (drops-are text side h ∙ sym ed) ∙ sym eb
+
+pub moved-none : (text : List ℕ) (side : Side) (h : Hunk) (s : PlaceState) (line : ℕ) (offset : ℤ) (a d : ℕ) (b : Bool) (o n : ℤ) → a ≡ count_by (λ l. is_add (turned_mark side l.mark)) h.body.items → d ≡ count_by (λ l. is_drop (turned_mark side l.mark)) h.body.items → b ≡ ((a == 0) && (d == 0)) → b ≡ true → o ≡ offset → n ≡ s.net +ℤ (pos a -ℤ pos d)
+    → let p : PlaceState = record { consumed = s.consumed; offset = o; net = n } in p ≡ moved_state (taken text side h) s line offset
+moved-none text side h s line offset a d b o n ea ed eb t eo en =
+    moved-is (taken text side h) s line offset s.consumed o n
+    (sym (ap (λ x. cond x s.consumed ((line - 1 + length (old_lines (taken text side h).body)) - trailing (taken text side h).body)) (test-is text side h a d b ea ed eb ∙ t))) eo
+    (en ∙ ap (λ x. s.net +ℤ (pos x -ℤ pos d)) (ea ∙ sym (adds-are text side h)) ∙ ap (λ x. s.net +ℤ (pos (adds (taken text side h)) -ℤ pos x)) (ed ∙ sym (drops-are text side h)))
+
+pub moved-some : (text : List ℕ) (side : Side) (h : Hunk) (s : PlaceState) (line : ℕ) (offset : ℤ) (a d k : ℕ) (b : Bool) (o n : ℤ) → a ≡ count_by (λ l. is_add (turned_mark side l.mark)) h.body.items → d ≡ count_by (λ l. is_drop (turned_mark side l.mark)) h.body.items → b ≡ ((a == 0) && (d == 0)) → b ≡ false
+    → k ≡ line - 1 + taken_count side h.body.items - prefix_len is_kept (reverse h.body.items) → o ≡ offset → n ≡ s.net +ℤ (pos a -ℤ pos d)
+    → let p : PlaceState = record { consumed = k; offset = o; net = n } in p ≡ moved_state (taken text side h) s line offset
+moved-some text side h s line offset a d k b o n ea ed eb t ek eo en =
+    moved-is (taken text side h) s line offset k o n
+    (ek ∙ ap (λ x. line - 1 + x - prefix_len is_kept (reverse h.body.items)) (sym (old-length text side h)) ∙ ap (λ x. line - 1 + length (old_lines (taken text side h).body) - x) (sym (taken-trailing text side h))
+    ∙ sym (ap (λ x. cond x s.consumed ((line - 1 + length (old_lines (taken text side h).body)) - trailing (taken text side h).body)) (test-is text side h a d b ea ed eb ∙ t))) eo
+    (en ∙ ap (λ x. s.net +ℤ (pos x -ℤ pos d)) (ea ∙ sym (adds-are text side h)) ∙ ap (λ x. s.net +ℤ (pos (adds (taken text side h)) -ℤ pos x)) (ed ∙ sym (drops-are text side h)))
+
+both-zero : (a d : ℕ) → ((a == 0) && (d == 0)) ≡ true → (a ≡ 0) × (d ≡ 0)
+both-zero a d h = (grind (arith, nat_tests), grind (arith, nat_tests))
+
+pub same-edits : (text : List ℕ) (side : Side) (h : Hunk) (at a d : ℕ) (b : Bool) (es : List Edit) → a ≡ count_by (λ l. is_add (turned_mark side l.mark)) h.body.items → d ≡ count_by (λ l. is_drop (turned_mark side l.mark)) h.body.items → b ≡ ((a == 0) && (d == 0)) → b ≡ true → es ≡ es ++ body_edits at (taken text side h).body
+same-edits text side h at a d b es ea ed eb t =
+    let z : (adds (taken text side h) ≡ 0) × (drops (taken text side h) ≡ 0) = both-zero (adds (taken text side h)) (drops (taken text side h)) (test-is text side h a d b ea ed eb ∙ t) in
+    sym (ap (λ x. es ++ x) (no-edits (taken text side h).body at z.0 z.1) ∙ append-nil es)

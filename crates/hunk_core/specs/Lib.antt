@@ -1,0 +1,4 @@
+pub mod Sides
+pub mod PlainHunk
+pub mod Reading
+pub mod Turned

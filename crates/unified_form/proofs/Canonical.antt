@@ -1,0 +1,165 @@
+-- The canonical text of a hunk spells it.
+use Rattle.std.proofs.Common.{◌≡◌, ◌≢◌, ℕ, ◌+◌, ◌-◌, ◌⊎◌, Bool, true, false, cond, eqb, List, [], ◌∷◌, ◌++◌, length, take, None, Ok, refl, sym, ap, subst, ◌∙◌, append_assoc, arith, inl, inr}
+use Rattle.std.proofs.lemmas.Bool.{eqb-true, eqb-false}
+use Rattle.std.proofs.lemmas.List.{take_at, length-append}
+use Rattle.std.specs.List.{AllByRecursion}
+use Rattle.std.specs.Prelude.{codes}
+use Rattle.std.specs.List.{flat_map}
+use Rattle.std.proofs.lemmas.List.Concat.{flat_map-cons}
+use Rattle.line_list.proofs.Pieces.{line-first}
+use Rattle.line_list.specs.Lines.{lines, IsLine}
+use Rattle.num_text.specs.Numbers.{decimal, is_digit, AllDigits}
+use Rattle.hunk_core.specs.declared.Mark.{Mark}
+use Rattle.hunk_core.specs.declared.Mark.TheVariants.{Keep, Drop, Add}
+use Rattle.hunk_core.specs.PlainHunk.{Marked, PlainHunk}
+use Rattle.unified_form.specs.Bodies.{marked, after_backslash, is_backslash, is_last_line, unended}
+use Rattle.unified_form.specs.Ranges.{after}
+use Rattle.unified_form.specs.Grammar.{mark_byte, counts_of, SpellsLine, SpellsBody, SpellsRange, SpellsHunk}
+use Rattle.unified_form.specs.Canonical.{range_text, range_line_text, no_newline, ends_line, line_lines, body_lines, hunk_lines, canonical, LinesFit, IsHunk}
+use Rattle.hunk_core.specs.Reading.{ahead}
+use Rattle.unified_form.specs.Hunks.{hunk_at}
+use Rattle.unified_form.proofs.Pieces.{hunk_again}
+use Rattle.num_text.proofs.Decimal.{decimal-numeral}
+use Rattle.unified_form.proofs.Steps.{chosen}
+
+pub range-spelled : (start count : ℕ) → SpellsRange (range_text start count) start count
+range-spelled start count =
+    elim (chosen (eqb count 1) (decimal start) (decimal start ++ 44 ∷ decimal count) _ refl) [
+      | inl one ↦ (decimal start, decimal-numeral start, inl (eqb-true count 1 one.0, sym one.1))
+      | inr many ↦ (decimal start, decimal-numeral start, inr (decimal count, decimal-numeral count, sym many.1))
+    ]
+
+-- ---- lines
+
+line-ends : (line : List ℕ) → IsLine line → ends_line line ≡ true
+line-ends [] h = absurd h
+line-ends (b ∷ []) h = grind arith
+line-ends (b ∷ c ∷ bytes) h = line-ends (c ∷ bytes) h.1
+
+no-end : (line : List ℕ) → AllByRecursion (λ b. b ≢ 10) line → ends_line line ≡ false
+no-end [] h = refl
+no-end (b ∷ []) h = let ne = h.0 in grind arith
+no-end (b ∷ c ∷ bytes) h = no-end (c ∷ bytes) h.1
+
+backslash : is_backslash no_newline ≡ true
+unfolding after
+backslash = refl
+
+shorter : (mark : Mark) (line : List ℕ) → marked mark line ≡ unended (marked mark (line ++ 10 ∷ []))
+shorter mark line =
+    let len : length (line ++ 10 ∷ []) - 1 ≡ length line = omega (arith, length-append line (10 ∷ [])) in
+    ap (marked mark) (sym (ap (λ n. take n (line ++ 10 ∷ [])) len ∙ take_at line (10 ∷ []) (length line) refl))
+
+line-spelled : (m : Marked) (body : List Marked) → IsLine m.line ⊎ (AllByRecursion (λ b. b ≢ 10) m.line × (is_last_line m.mark (counts_of body) ≡ true)) → SpellsLine (line_lines m) m body
+line-spelled m body (inl h) = subst (λ (b : Bool). SpellsLine (cond b ((mark_byte m.mark ∷ m.line) ∷ []) ((mark_byte m.mark ∷ (m.line ++ 10 ∷ [])) ∷ no_newline ∷ [])) m body) (sym (line-ends m.line h)) (inl refl)
+line-spelled m body (inr h) = subst (λ (b : Bool). SpellsLine (cond b ((mark_byte m.mark ∷ m.line) ∷ []) ((mark_byte m.mark ∷ (m.line ++ 10 ∷ [])) ∷ no_newline ∷ [])) m body) (sym (no-end m.line h.0))
+    (backslash, h.1, marked m.mark (m.line ++ 10 ∷ []), inl refl, shorter m.mark m.line)
+
+pub body-spelled : (body : List Marked) → LinesFit body → SpellsBody (body_lines body) body
+body-spelled [] h = refl
+body-spelled (m ∷ body) h = (line_lines m, body_lines body, refl, line-spelled m body h.0, body-spelled body h.1)
+
+pub hunk-spelled : (least : ℕ) (h : PlainHunk) → IsHunk least h → SpellsHunk least (hunk_lines h) h
+hunk-spelled least h is = (
+  record {
+    old = range_text h.old_start (counts_of h.body).old;
+    new = range_text h.new_start (counts_of h.body).new;
+    rest = 10 ∷ [];
+    parts = refl;
+    old_range = range-spelled h.old_start (counts_of h.body).old;
+    new_range = range-spelled h.new_start (counts_of h.body).new;
+  },
+  is.ranges,
+  body-spelled h.body is.body,
+)
+
+-- ---- the text
+
+no-feed : (ds : List ℕ) → AllDigits ds → AllByRecursion (λ b. b ≢ 10) ds
+no-feed [] h = tt
+no-feed (d ∷ ds) h = (not_feed d h.0, no-feed ds h.1)
+  where
+    not_feed : (b : ℕ) → is_digit b ≡ true → b ≢ 10
+    not_feed b is e = let ten : is_digit 10 ≡ true = subst (λ (x : ℕ). is_digit x ≡ true) e is in cc
+
+both : (xs ys : List ℕ) → AllByRecursion (λ b. b ≢ 10) xs → AllByRecursion (λ b. b ≢ 10) ys → AllByRecursion (λ b. b ≢ 10) (xs ++ ys)
+both [] ys h k = k
+both (x ∷ xs) ys h k = (h.0, both xs ys h.1 k)
+
+pub closes : (bs : List ℕ) → AllByRecursion (λ b. b ≢ 10) bs → IsLine (bs ++ 10 ∷ [])
+closes [] h = refl
+closes (b ∷ []) h = (h.0, refl)
+closes (b ∷ c ∷ bs) h = (h.0, closes (c ∷ bs) h.1)
+
+range-clean : (start count : ℕ) → AllByRecursion (λ b. b ≢ 10) (range_text start count)
+range-clean start count =
+    elim (chosen (eqb count 1) (decimal start) (decimal start ++ 44 ∷ decimal count) _ refl) [
+      | inl one ↦ subst (λ t. AllByRecursion (λ b. b ≢ 10) t) one.1 (no-feed (decimal start) (decimal-numeral start).digits)
+      | inr many ↦ subst (λ t. AllByRecursion (λ b. b ≢ 10) t) many.1 (both (decimal start) (44 ∷ decimal count) (no-feed (decimal start) (decimal-numeral start).digits) ((λ e. cc), no-feed (decimal count) (decimal-numeral count).digits))
+    ]
+
+longer : (b : ℕ) (line : List ℕ) → b ≢ 10 → IsLine line → IsLine (b ∷ line)
+longer b [] ne h = absurd h
+longer b (c ∷ bs) ne h = (ne, h)
+
+line-prefix : (xs ys : List ℕ) → AllByRecursion (λ b. b ≢ 10) xs → IsLine ys → IsLine (xs ++ ys)
+line-prefix [] ys h k = k
+line-prefix (x ∷ xs) ys h k = longer x (xs ++ ys) h.0 (line-prefix xs ys h.1 k)
+
+abbrev is_clean : List ℕ → Bool
+is_clean [] = true
+is_clean (b ∷ bs) = cond (eqb b 10) false (is_clean bs)
+
+clean : (bs : List ℕ) → is_clean bs ≡ true → AllByRecursion (λ b. b ≢ 10) bs
+clean [] e = tt
+clean (b ∷ bs) e =
+    elim (chosen (eqb b 10) false (is_clean bs) true e) [
+      | inl feed ↦ absurd cc
+      | inr other ↦ (eqb-false b 10 other.0, clean bs other.1)
+    ]
+
+range-line : (a b c d : ℕ) → IsLine (range_line_text a b c d)
+range-line a b c d =
+    line-prefix (64 ∷ 64 ∷ 32 ∷ 45 ∷ []) _ (clean (64 ∷ 64 ∷ 32 ∷ 45 ∷ []) refl)
+    (line-prefix (range_text a b) _ (range-clean a b)
+    (line-prefix (32 ∷ 43 ∷ []) _ (clean (32 ∷ 43 ∷ []) refl)
+    (line-prefix (range_text c d) _ (range-clean c d)
+    (line-prefix (32 ∷ 64 ∷ 64 ∷ []) (10 ∷ []) (clean (32 ∷ 64 ∷ 64 ∷ []) refl) refl))))
+
+no-newline-line : IsLine no_newline
+no-newline-line = line-prefix (92 ∷ 32 ∷ codes "No newline at end of file") (10 ∷ []) (clean (92 ∷ 32 ∷ codes "No newline at end of file") refl) refl
+
+mark-clean : (mark : Mark) → mark_byte mark ≢ 10
+mark-clean Keep = λ e. cc
+mark-clean Drop = λ e. cc
+mark-clean Add = λ e. cc
+
+abbrev pub AreLines : List (List ℕ) → Type 0
+AreLines ls = AllByRecursion IsLine ls
+
+lines-both : (xs ys : List (List ℕ)) → AreLines xs → AreLines ys → AreLines (xs ++ ys)
+lines-both [] ys h k = k
+lines-both (x ∷ xs) ys h k = (h.0, lines-both xs ys h.1 k)
+
+line-lines : (m : Marked) (body : List Marked) → IsLine m.line ⊎ (AllByRecursion (λ b. b ≢ 10) m.line × (is_last_line m.mark (counts_of body) ≡ true)) → AreLines (line_lines m)
+line-lines m body (inl h) = subst (λ (b : Bool). AreLines (cond b ((mark_byte m.mark ∷ m.line) ∷ []) ((mark_byte m.mark ∷ (m.line ++ 10 ∷ [])) ∷ no_newline ∷ []))) (sym (line-ends m.line h)) (longer (mark_byte m.mark) m.line (mark-clean m.mark) h, tt)
+line-lines m body (inr h) = subst (λ (b : Bool). AreLines (cond b ((mark_byte m.mark ∷ m.line) ∷ []) ((mark_byte m.mark ∷ (m.line ++ 10 ∷ [])) ∷ no_newline ∷ []))) (sym (no-end m.line h.0)) (longer (mark_byte m.mark) (m.line ++ 10 ∷ []) (mark-clean m.mark) (closes m.line h.0), (no-newline-line, tt))
+
+body-lines : (body : List Marked) → LinesFit body → AreLines (body_lines body)
+body-lines [] h = tt
+body-lines (m ∷ body) h = lines-both (line_lines m) (body_lines body) (line-lines m body h.0) (body-lines body h.1)
+
+lines-whole : (ls : List (List ℕ)) (rest : List ℕ) → AreLines ls → lines (flat_map (λ line. line) ls ++ rest) ≡ ls ++ lines rest
+lines-whole [] rest h = refl
+lines-whole (line ∷ ls) rest h =
+    ap (λ bs. lines (bs ++ rest)) (flat_map-cons (λ line. line) line ls)
+    ∙ ap lines (append_assoc line (flat_map (λ line. line) ls) rest)
+    ∙ line-first line (flat_map (λ line. line) ls ++ rest) h.0
+    ∙ ap (λ more. line ∷ more) (lines-whole ls rest h.1)
+
+-- the canonical text of a hunk is read as that hunk, whatever follows that doesn't begin with a backslash line
+pub canonical-read : (least number : ℕ) (h : PlainHunk) (rest : List ℕ) → IsHunk least h → after_backslash (lines rest) ≡ None
+    → hunk_at least (ahead number (lines (canonical h ++ rest))) ≡ Ok (h, ahead (number + length (hunk_lines h)) (lines rest))
+canonical-read least number h rest is quiet =
+    ap (λ ls. hunk_at least (ahead number ls)) (lines-whole (hunk_lines h) rest (range-line h.old_start (counts_of h.body).old h.new_start (counts_of h.body).new, body-lines h.body is.body))
+    ∙ hunk_again h (hunk_lines h) (lines rest) least number (hunk-spelled least h is) quiet

@@ -1,0 +1,48 @@
+-- Hunks that follow each other, read line by line.
+use Rattle.std.specs.Prelude.{ℕ, zero, suc, ◌+◌, Bool, false, List, [], ◌∷◌, length, is_some, Result, Ok, Err, if◌then◌else◌}
+use Rattle.hunk_core.specs.declared.BadKind.{BadKind}
+use Rattle.hunk_core.specs.declared.BadKind.TheVariants as kinds
+use Rattle.hunk_core.specs.PlainHunk.{Marked, PlainHunk}
+use Rattle.hunk_core.specs.Reading.{Fault, fault, ◌>>=◌, Ahead, ahead}
+use Rattle.unified_form.specs.declared.range.Ranges.{Ranges}
+use Rattle.unified_form.specs.declared.body.Left.{Left}
+use Rattle.unified_form.specs.Ranges.{opening, is_opening}
+use Rattle.unified_form.specs.Bodies.{after_backslash, body_at}
+
+abbrev pub at_line : ℕ → Result Ranges BadKind → Result Ranges Fault
+at_line number (Ok r) = Ok r
+at_line number (Err kind) = Err (fault number kind)
+
+abbrev pub left_of : Ranges → Left
+left_of r = record { old = r.old_count; new = r.new_count }
+
+abbrev pub change : Ranges → List Marked → PlainHunk
+change r body = record { old_start = r.old_start; new_start = r.new_start; body = body }
+
+-- no backslash line stands behind a hunk
+abbrev pub settled : PlainHunk → Ahead → Result (PlainHunk × Ahead) Fault
+settled h p = if is_some (after_backslash p.rest) then Err (fault p.number kinds.MisplacedBackslash) else Ok (h, p)
+
+unfoldable pub first_hunk : ℕ → ℕ → List (List ℕ) → Result (PlainHunk × Ahead) Fault
+first_hunk least number [] = Err (fault number kinds.ShortEnd)
+first_hunk least number (line ∷ rest) = do
+  r ← at_line number (opening least line)
+  body ← body_at (r.old_count + r.new_count) (left_of r) (ahead (number + 1) rest)
+  settled (change r body.0) body.1
+
+-- a hunk that starts at least
+abbrev pub hunk_at : ℕ → Ahead → Result (PlainHunk × Ahead) Fault
+hunk_at least p = first_hunk least p.number p.rest
+
+abbrev pub begins_hunk : List (List ℕ) → Bool
+begins_hunk [] = false
+begins_hunk (line ∷ rest) = is_opening line
+
+-- at most so many hunks that follow each other
+unfoldable pub hunks_at : ℕ → ℕ → Ahead → Result (List PlainHunk × Ahead) Fault
+hunks_at zero least p = Ok ([], p)
+hunks_at (suc most) least p = if begins_hunk p.rest then (hunk_at least p >>= λ first. hunks_at most first.0.old_start first.1 >>= λ others. Ok (first.0 ∷ others.0, others.1)) else Ok ([], p)
+
+-- the hunks at the front of these lines, and what stands behind them, or the first fault
+abbrev pub reading : ℕ → List (List ℕ) → Result (List PlainHunk × Ahead) Fault
+reading number rest = hunks_at (length rest) 0 (ahead number rest)

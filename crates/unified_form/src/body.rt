@@ -1,0 +1,204 @@
+//! The body of a hunk.
+
+ghost use Rattle.std.specs.Prelude.{◌≡◌, ℕ, List, ◌+◌, ◌<◌, ◌≤◌, ◌^◌, length, drop, slice_range, Option, IfSome, IfOk};
+ghost use Rattle.line_list.specs.Lines.{lines, IsLineAt};
+ghost use Rattle.hunk_core.specs.PlainHunk.{marked_of, body_of};
+ghost use Rattle.hunk_core.specs.Reading.{Gives, IsPlace, ahead_of};
+ghost use Rattle.unified_form.specs.Ranges.{Reads};
+ghost use Rattle.unified_form.specs.Bodies.{mark_at, marked_at, room_at, is_last_line, unended, is_backslash, after_backslash, line_at, body_at};
+
+use crate::range::after_prefix;
+use hunk_core::{BadKind, FormFault, HunkLine, Mark, Place};
+use line_list::{Span, next_line};
+use std::alloc::Global;
+
+/// How many lines a body still has on each side.
+#[derive(Clone, Copy)]
+pub struct Left {
+    pub old: u32,
+    pub new: u32,
+}
+
+pub fn bad(line: u64, kind: BadKind) -> FormFault
+    ensures { result ≡ FormFault.Malformed line kind }
+{
+    FormFault::Malformed { line, kind }
+}
+
+/// The mark of the line from `at` to `end`, and what stands behind it.
+fn mark_of(text: &[u8], at: usize, end: usize) -> Option<HunkLine>
+    requires low { at < end }
+    requires high { end ≤ length text.now }
+    requires short { length text.now < 2 ^ 32 }
+    ensures exact { Reads (marked_of text.now) result (mark_at (slice_range text.now at end)) }
+    ensures ends { IfSome result (λ x. x.span.end ≡ end) }
+{
+    let span = Span {
+        start: at as u32 + 1,
+        end: end as u32,
+    };
+    match text[at] {
+        b' ' => Some(HunkLine {
+            mark: Mark::Keep,
+            span,
+        }),
+        b'-' => Some(HunkLine {
+            mark: Mark::Drop,
+            span,
+        }),
+        b'+' => Some(HunkLine {
+            mark: Mark::Add,
+            span,
+        }),
+        b'\n' => Some(HunkLine {
+            mark: Mark::Keep,
+            span: Span {
+                start: at as u32,
+                end: end as u32,
+            },
+        }),
+        _ => None,
+    }
+}
+
+fn begins_backslash(line: &[u8]) -> bool
+    ensures { result ≡ is_backslash line.now }
+{
+    after_prefix(line, b"\\ ").is_some()
+}
+
+/// The place after the backslash line at `at`, if there is one.
+pub fn backslash_end(text: &[u8], at: usize) -> Option<usize>
+    requires { at ≤ length text.now }
+    ensures range { IfSome result (λ e. at < e × e ≤ length text.now) }
+    ensures exact { Reads (λ e. lines (drop e text.now)) result (after_backslash (lines (drop at text.now))) }
+{
+    let end = next_line(text, at)?;
+    if begins_backslash(&text[at..end]) {
+        Some(end)
+    } else {
+        None
+    }
+}
+
+/// The mark of a line that must have one.
+fn marked_line(text: &[u8], at: usize, end: usize, number: u64) -> Result<HunkLine, FormFault>
+    requires low { at < end }
+    requires high { end ≤ length text.now }
+    requires short { length text.now < 2 ^ 32 }
+    ensures ends { IfOk result (λ x. x.span.end ≡ end) }
+    ensures exact { Gives (marked_of text.now) result (marked_at number (slice_range text.now at end)) }
+{
+    match mark_of(text, at, end) {
+        Some(line) => Ok(line),
+        None if begins_backslash(&text[at..end]) => Err(bad(number, BadKind::MisplacedBackslash)),
+        None => Err(bad(number, BadKind::Mark)),
+    }
+}
+
+/// What is left after a line with this mark.
+fn left_after(mark: Mark, left: Left, number: u64) -> Result<Left, FormFault>
+    ensures less { IfOk result (λ x. x.old + x.new < left.old + left.new) }
+    ensures exact { Gives (λ x. x) result (room_at number mark left) }
+{
+    match mark {
+        Mark::Keep if left.old > 0 && left.new > 0 => Ok(Left {
+            old: left.old - 1,
+            new: left.new - 1,
+        }),
+        Mark::Drop if left.old > 0 => Ok(Left {
+            old: left.old - 1,
+            new: left.new,
+        }),
+        Mark::Add if left.new > 0 => Ok(Left {
+            old: left.old,
+            new: left.new - 1,
+        }),
+        _ => Err(bad(number, BadKind::Count)),
+    }
+}
+
+/// Whether a line with this mark, behind which this much is left, is the last of its sides.
+fn is_last(mark: Mark, left: Left) -> bool
+    ensures { result ≡ is_last_line mark left }
+{
+    match mark {
+        Mark::Keep => left.old == 0 && left.new == 0,
+        Mark::Drop => left.old == 0,
+        Mark::Add => left.new == 0,
+    }
+}
+
+/// The line without its line feed.
+fn without_feed(line: HunkLine) -> HunkLine
+    requires { 0 < line.span.end }
+    ensures { (text : List ℕ) → line.span.end ≤ length text → marked_of text result ≡ unended (marked_of text line) }
+{
+    HunkLine {
+        mark: line.mark,
+        span: Span {
+            start: line.span.start,
+            end: line.span.end - 1,
+        },
+    }
+}
+
+/// A line of the body, what is left behind it, and the place after it.
+#[tactic(auto, unfolding(crate::specs::Bodies::first_line))]
+fn line_of(text: &[u8], left: Left, place: Place) -> Result<(HunkLine, Left, Place), FormFault>
+    requires { IsPlace text.now place }
+    ensures place { IfOk result (λ x. IsPlace text.now x.2 × (place.at < x.2.at)) }
+    ensures less { IfOk result (λ x. x.1.old + x.1.new < left.old + left.new) }
+    ensures exact { Gives (λ x. (marked_of text.now x.0, x.1, ahead_of text.now x.2)) result (line_at left (ahead_of text.now place)) }
+{
+    let number = place.number;
+    let Some(end) = next_line(text, place.at) else {
+        return Err(bad(number, BadKind::ShortEnd));
+    };
+    let line = marked_line(text, place.at, end, number)?;
+    let left = left_after(line.mark, left, number)?;
+    match backslash_end(text, end) {
+        None => Ok((
+            line,
+            left,
+            Place {
+                at: end,
+                number: number + 1,
+            },
+        )),
+        Some(at) if is_last(line.mark, left) => {
+            Ok((
+                without_feed(line),
+                left,
+                Place {
+                    at,
+                    number: number + 2,
+                },
+            ))
+        }
+        Some(_) => Err(bad(number + 1, BadKind::MisplacedBackslash)),
+    }
+}
+
+/// The lines of a body with these counts, and the place after it.
+pub fn read_body(
+    alloc: Global,
+    text: &[u8],
+    left: Left,
+    place: Place,
+) -> Result<(Vec<HunkLine>, Place), FormFault>
+    requires { IsPlace text.now place }
+    ensures place { IfOk result (λ x. IsPlace text.now x.1 × (place.at ≤ x.1.at)) }
+    ensures exact { Gives (λ x. (body_of text.now x.0.items, ahead_of text.now x.1)) result (body_at (left.old + left.new) left (ahead_of text.now place)) }
+{
+    let mut lines = Vec::new(alloc);
+    let mut left = left;
+    let mut place = place;
+    while left.old > 0 || left.new > 0 {
+        let (line, behind, next) = line_of(text, left, place)?;
+        lines.push(line)?;
+        left = behind;
+        place = next;
+    }
+    Ok((lines, place))
+}

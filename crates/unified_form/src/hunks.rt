@@ -1,0 +1,132 @@
+//! Hunks that follow each other.
+
+ghost use Rattle.std.specs.Prelude.{◌≡◌, ℕ, List, true, ◌+◌, ◌<◌, ◌≤◌, ◌^◌, length, drop, IfOk};
+ghost use Rattle.line_list.specs.Lines.{lines};
+ghost use Rattle.hunk_core.specs.PlainHunk.{PlainHunk, hunk_of, hunks_of};
+ghost use Rattle.hunk_core.specs.Reading.{Gives, IsPlace, ahead_of};
+ghost use Rattle.unified_form.specs.Grammar.{IsPiece};
+ghost use Rattle.unified_form.specs.Views.{read_of, these};
+ghost use Rattle.unified_form.specs.Hunks.{hunk_at, begins_hunk, reading};
+
+use crate::body::{Left, backslash_end, bad, read_body};
+use crate::range::{opening_of, opens_hunk};
+use hunk_core::{BadKind, FormFault, Hunk, Place};
+use line_list::{Span, next_line};
+use std::alloc::Global;
+
+/// Hunks that were read.
+#[derive(Debug, Drop)]
+pub struct Hunks {
+    pub items: Vec<Hunk>,
+    /// The pieces of the text that the hunks stand in.
+    pub spans: Vec<Span>,
+    /// The place after the last hunk.
+    pub end: usize,
+    /// The number of the line there.
+    pub next: u64,
+}
+
+/// Whether a hunk opens at `at`.
+pub fn at_opening(text: &[u8], at: usize) -> bool
+    requires { at ≤ length text.now }
+    ensures { result ≡ begins_hunk (lines (drop at text.now)) }
+{
+    match next_line(text, at) {
+        None => false,
+        Some(end) => opens_hunk(&text[at..end]),
+    }
+}
+
+/// A hunk whose old start is at least `least`.
+#[tactic(auto, unfolding(crate::specs::Hunks::first_hunk))]
+fn read_hunk(
+    alloc: Global,
+    text: &[u8],
+    least: u64,
+    place: Place,
+) -> Result<(Hunk, Place), FormFault>
+    requires { IsPlace text.now place }
+    ensures place { IfOk result (λ x. IsPlace text.now x.1 × (place.at < x.1.at)) }
+    ensures exact { Gives (λ x. (hunk_of text.now x.0, ahead_of text.now x.1)) result (hunk_at least (ahead_of text.now place)) }
+{
+    let number = place.number;
+    let Some(end) = next_line(text, place.at) else {
+        return Err(bad(number, BadKind::ShortEnd));
+    };
+    let ranges = match opening_of(&text[place.at..end], least) {
+        Ok(ranges) => ranges,
+        Err(kind) => return Err(bad(number, kind)),
+    };
+    let left = Left {
+        old: ranges.old_count as u32,
+        new: ranges.new_count as u32,
+    };
+    let (body, next) = read_body(
+        alloc,
+        text,
+        left,
+        Place {
+            at: end,
+            number: number + 1,
+        },
+    )?;
+    if backslash_end(text, next.at).is_some() {
+        return Err(bad(next.number, BadKind::MisplacedBackslash));
+    }
+    let hunk = Hunk {
+        old_start: ranges.old_start as u32,
+        new_start: ranges.new_start as u32,
+        body,
+    };
+    Ok((hunk, next))
+}
+
+/// The hunks that follow each other, by reading on.
+fn read_all(alloc: Global, text: &[u8], at: usize, line: u64) -> Result<Hunks, FormFault>
+    requires short { length text.now < 2 ^ 32 }
+    requires within { at ≤ length text.now }
+    requires small { line < 2 ^ 32 }
+    ensures within { IfOk result (λ h. h.end ≤ length text.now) }
+    ensures exact { Gives (read_of text.now) result
+        (reading line (lines (drop at text.now))) }
+{
+    let mut items = Vec::new(alloc);
+    let mut spans = Vec::new(alloc);
+    let mut place = Place { at, number: line };
+    let mut least: u64 = 0;
+    'hunks: while at_opening(text, place.at) {
+        let (hunk, next) = read_hunk(alloc, text, least, place)?;
+        spans.push(Span {
+            start: place.at as u32,
+            end: next.at as u32,
+        })?;
+        least = u64::from(hunk.old_start);
+        items.push(hunk)?;
+        place = next;
+    }
+    Ok(Hunks {
+        items,
+        spans,
+        end: place.at,
+        next: place.number,
+    })
+}
+
+/// The hunks that follow each other from `at` on, where the line has this number.
+pub fn read_hunks(alloc: Global, text: &[u8], at: usize, line: u64) -> Result<Hunks, FormFault>
+    requires short { length text.now < 2 ^ 32 }
+    requires within { at ≤ length text.now }
+    requires opens { begins_hunk (lines (drop at text.now)) ≡ true }
+    requires small { line < 2 ^ 32 }
+    ensures within { IfOk result (λ h. h.end ≤ length text.now) }
+    // What is read is spelled so, by the lines up to the end, and no hunk nor backslash line stands there.
+    ensures found { IfOk result (λ h. IsPiece line (lines (drop at text.now)) (hunks_of text.now h.items.items) h.next (lines (drop h.end text.now))) }
+    // What is spelled so is read, unless memory runs out.
+    ensures only { (hs : List PlainHunk) (next : ℕ) (rest : List (List ℕ)) → IsPiece line (lines (drop at text.now)) hs next rest
+        → Gives (read_of text.now) result (these hs next rest) }
+    // Where nothing is spelled, which fault is the first.
+    ensures exact { Gives (read_of text.now) result
+        (reading line (lines (drop at text.now))) }
+{
+    read_all(alloc, text, at, line)
+}
