@@ -1,0 +1,48 @@
+-- The text of a name: components with a slash between each two (POSIX, definitions of pathname and filename).
+use Rattle.std.specs.Prelude.{ℕ, List, [], ◌∷◌, ◌++◌, codes, length, take, filter, flat_map, Bool, true, false, not, nat_eq, nat_lt, ◌==◌, ◌&&◌, ◌||◌, if◌then◌else◌, bytes_eq, Option, None, Some}
+use Rattle.std.specs.List.{slice_split, list_any, join_with_byte}
+use Rattle.std.specs.Str.Lossy.{utf8_valid_len}
+use Rattle.outside.specs.declared.name.NameRule.{NameRule}
+use Rattle.outside.specs.declared.name.NameRule.TheVariants.{NotUtf8, Control, Absolute, Parent, Empty}
+
+abbrev pub is_slash : ℕ → Bool
+is_slash b = b == 47
+
+abbrev pub components : List ℕ → List (List ℕ)
+components text = slice_split is_slash text
+
+-- neither empty nor `.`
+abbrev pub is_kept : List ℕ → Bool
+is_kept component = not (bytes_eq component [] || bytes_eq component (codes "."))
+
+-- the components that stay
+abbrev pub kept : List ℕ → List (List ℕ)
+kept text = filter is_kept (components text)
+
+-- the text without components that are empty or `.`
+abbrev pub normal_form : List ℕ → List ℕ
+normal_form text = join_with_byte 47 (kept text)
+
+abbrev pub is_control : ℕ → Bool
+is_control b = nat_lt b 32 || b == 127
+
+abbrev pub is_absolute : List ℕ → Bool
+is_absolute [] = false
+is_absolute (b ∷ bs) = is_slash b
+
+abbrev pub is_empty : List (List ℕ) → Bool
+is_empty [] = true
+is_empty (c ∷ cs) = false
+
+-- the first rule of names that the text breaks
+abbrev pub broken_rule : List ℕ → Option NameRule
+broken_rule text = if not (utf8_valid_len text == length text) then Some NotUtf8
+    else if list_any is_control text then Some Control
+    else if is_absolute text then Some Absolute
+    else if list_any (bytes_eq (codes "..")) (components text) then Some Parent
+    else if is_empty (kept text) then Some Empty
+    else None
+
+-- the first components with a slash behind each: what the name of a file below them begins with
+abbrev pub directory_text : ℕ → List ℕ → List ℕ
+directory_text parts text = flat_map (λ c. c ++ 47 ∷ []) (take parts (components text))
