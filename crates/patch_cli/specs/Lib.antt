@@ -1,0 +1,4 @@
+pub mod Request
+pub mod Plain
+pub mod Command
+pub mod Carries
