@@ -2,3 +2,6 @@ pub mod Sides
 pub mod PlainHunk
 pub mod Reading
 pub mod Turned
+pub mod LineTests
+pub mod Rules
+pub mod Pieces
