@@ -5,3 +5,4 @@ pub mod Turned
 pub mod LineTests
 pub mod Rules
 pub mod Pieces
+pub mod Writing
