@@ -1,5 +1,5 @@
 -- What a run leaves behind, whatever it answers, beside what the command does.
-use Rattle.std.specs.Prelude.{◌≡◌, ◌≢◌, ◌⊎◌, ℕ, ◌<◌, ◌≤◌, List, [], length, take, Some, None, Result, Ok, Err}
+use Rattle.std.specs.Prelude.{◌≡◌, ◌≢◌, ◌⊎◌, ℕ, ◌<◌, ◌≤◌, List, [], length, take, false, true, Some, None, Result, Ok, Err}
 use Rattle.std.specs.FinMap.{get}
 use Rattle.outside.specs.Files.{Files, SameLasting}
 use Rattle.outside.specs.TreeView.{TreeView, Passes, MayLeave, LeftSince}
@@ -9,8 +9,12 @@ use Rattle.outside.specs.SinkView as sink
 use Rattle.outside.specs.Quiet.{IsQuiet, Effect, TellsPrefix, after_all}
 use Rattle.patch_cli.specs.declared.why.Why.{Why}
 use Rattle.patch_cli.specs.declared.why.Why.TheVariants.{Done, Usage, NoPatchFile, WriteFault, TreeFault, Disagree, Memory, Unsupported}
-use Rattle.patch_cli.specs.Plain.{completed}
-use Rattle.patch_cli.specs.Command.{Outcome, refused, made_all, longest_text}
+use Rattle.line_list.specs.Completed.{completed}
+use Rattle.patch_cli.specs.Command.{Outcome, refused, made_all, longest_text, buffer_size, on_text, on_hunks, stand_at_their_lines}
+use Rattle.hunk_core.specs.PlainHunk.{PlainHunk}
+use Rattle.hunk_apply.specs.Applied.{applied}
+use Rattle.line_store.specs.Taking.{refusal}
+use Rattle.line_list.specs.Lines.{lines}
 
 -- a fault comes only where its device's count rose
 abbrev pub WhyCause : Why → TreeView → TreeView → SinkView → SinkView → Type 0
@@ -107,11 +111,6 @@ StopsEarly Unsupported u w o = (f : Files) → u.told ≡ Some f → o f ≡ ref
 StopsEarly Done u w o = ⊥
 StopsEarly WriteFault u w o = ⊥
 
--- a step before the first change gives what the command goes on with, or ends it
-abbrev pub Leads : {X : Type 0} → TreeView → TreeView → Result X Why → (Files → Outcome) → (X → Files → Outcome) → Type 0
-Leads u w (Ok x) before behind = (f : Files) → u.told ≡ Some f → before f ≡ behind x f
-Leads u w (Err why) before behind = StopsEarly why u w before
-
 -- an answer to words that are no command, or none that is built
 abbrev pub IsRefusalOfWords : Why → Type 0
 IsRefusalOfWords Usage = Unit {0}
@@ -127,16 +126,21 @@ IsRefusalOfWords Memory = ⊥
 abbrev pub HasCompleted : Files → List ℕ → List ℕ → Type 0
 HasCompleted f name whole = (text : List ℕ) × ((get f name ≡ Some text) × (length text ≤ longest_text) × (whole ≡ completed text))
 
--- the patch file couldn't be read: it isn't there, is too long, or its device failed
-abbrev pub HasRefused : TreeView → TreeView → List ℕ → Why → Type 0
-HasRefused u w name NoPatchFile = (f : Files) → u.told ≡ Some f → get f name ≡ None
-HasRefused u w name Unsupported = (f : Files) → u.told ≡ Some f → (text : List ℕ) × ((get f name ≡ Some text) × (longest_text < length text))
-HasRefused u w name TreeFault = tree.Rises u w
-HasRefused u w name Memory = Unit {0}
-HasRefused u w name Done = ⊥
-HasRefused u w name Usage = ⊥
-HasRefused u w name WriteFault = ⊥
-HasRefused u w name (Disagree want got) = ⊥
+-- the run ends so at the patch file, whatever file is to be patched
+abbrev pub StopsAtText : Why → TreeView → TreeView → List ℕ → Type 0
+StopsAtText why u w name = (file : List ℕ) → StopsEarly why u w (λ f. on_text (record { file = file; patch = name }) (get f name) f)
+
+-- the bytes are those of the file with its hunks applied, each of which stands where it says
+pub record IsPatched (f : Files) (name : List ℕ) (hunks : List PlainHunk) (new : List ℕ) : Type 0 where
+  pub old : List ℕ
+  pub there : get f name ≡ Some old
+  pub admitted : refusal buffer_size old ≡ None
+  pub stand : stand_at_their_lines (lines old) hunks ≡ true
+  pub bytes : new ≡ applied (lines old) 0 false hunks
+
+-- the run ends so at the file to be patched, whatever the patch file is called
+abbrev pub StopsAtFile : Why → TreeView → TreeView → List ℕ → List PlainHunk → Type 0
+StopsAtFile why u w name hunks = (patch : List ℕ) → StopsEarly why u w (λ f. on_hunks (record { file = name; patch = patch }) (Some hunks) f)
 
 -- the answer of a run that came to its end, or stopped
 abbrev pub why_of : Result (Unit {0}) Why → Why

@@ -2,18 +2,11 @@
 use Rattle.std.specs.Prelude.{◌≡◌, ℕ, List, [], ◌∷◌, ◌++◌, codes, drop, length, map, Bool, true, false, not, nat_eq, ◌==◌, ◌&&◌, ◌||◌, if◌then◌else◌, bytes_eq, Option, None, Some, Result, Ok, Err}
 use Rattle.std.specs.List.{starts_with, ends_with, list_any, list_all, before_first, prefix_len}
 use Rattle.line_list.specs.Lines.{lines}
+use Rattle.line_list.specs.Completed.{completed}
 use Rattle.hunk_core.specs.declared.Side.TheVariants.{Forward, Reversed}
 use Rattle.hunk_core.specs.PlainHunk.{PlainHunk, Marked, side_count}
 use Rattle.hunk_core.specs.Reading.{Fault, Ahead}
 use Rattle.unified_form.specs.Hunks.{reading}
-
--- the text, with a line feed where its last line lacks one
-abbrev pub completed : List ℕ → List ℕ
-completed text = if (length text == 0) || ends_with nat_eq text (10 ∷ []) then text else text ++ 10 ∷ []
-
--- nothing, or bytes with a line feed at their end
-abbrev pub EndsWithFeed : List ℕ → Type 0
-EndsWithFeed text = completed text ≡ text
 
 abbrev pub is_tab : ℕ → Bool
 is_tab b = b == 9

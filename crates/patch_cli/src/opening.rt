@@ -4,10 +4,11 @@ ghost use Rattle.std.specs.FinMap.{get};
 ghost use Rattle.outside.specs.Files.{Files};
 ghost use Rattle.outside.specs.TreeView.{Rises};
 ghost use Rattle.outside.specs.Quiet.{IsQuiet};
-ghost use Rattle.patch_cli.specs.Plain.{completed, EndsWithFeed};
-ghost use Rattle.patch_cli.specs.Carries.{Opens, HasCompleted, HasRefused};
+ghost use Rattle.line_list.specs.Completed.{completed, IsComplete};
+ghost use Rattle.patch_cli.specs.Carries.{Opens, HasCompleted, StopsAtText};
 
 use crate::why::Why;
+use line_list::lacks_last_feed;
 use outside::{Name, Tree};
 use std::alloc::{AllocError, Global};
 
@@ -31,9 +32,9 @@ pub fn read_text<T: Tree>(alloc: Global, tree: &mut T, name: &Name) -> Result<Ve
     ensures opens { Opens (T.view tree.old) (T.view tree.new) }
     ensures quiet { IsQuiet (T.view tree.old) → IsQuiet (T.view tree.new) }
     ensures short { IfOk result (λ text. length text.items ≤ 268435457) }
-    ensures feed { IfOk result (λ text. EndsWithFeed text.items) }
+    ensures complete { IfOk result (λ text. IsComplete text.items) }
     ensures text { IfOk result (λ text. (f : Files) → (T.view tree.old).told ≡ Some f → HasCompleted f name.now text.items) }
-    ensures refused { IfErr result (λ why. HasRefused (T.view tree.old) (T.view tree.new) name.now why) }
+    ensures refused { IfErr result (λ why. StopsAtText why (T.view tree.old) (T.view tree.new) name.now) }
 {
     Ok(complete(read_bytes(alloc, tree, name)?)?)
 }
@@ -44,7 +45,7 @@ fn read_bytes<T: Tree>(alloc: Global, tree: &mut T, name: &Name) -> Result<Vec<u
     ensures quiet { IsQuiet (T.view tree.old) → IsQuiet (T.view tree.new) }
     ensures short { IfOk result (λ text. length text.items ≤ 268435456) }
     ensures text { IfOk result (λ text. (f : Files) → (T.view tree.old).told ≡ Some f → get f name.now ≡ Some text.items) }
-    ensures refused { IfErr result (λ why. HasRefused (T.view tree.old) (T.view tree.new) name.now why) }
+    ensures refused { IfErr result (λ why. StopsAtText why (T.view tree.old) (T.view tree.new) name.now) }
 {
     let size = match tree.size(name) {
         Ok(Some(size)) => size,
@@ -71,7 +72,7 @@ fn complete(text: Vec<u8>) -> Result<Vec<u8>, AllocError>
     ensures { IfOk result (λ whole. whole.items ≡ completed text.items) }
 {
     let mut text = text;
-    if !text.is_empty() && !text.ends_with(b"\n") {
+    if lacks_last_feed(&text) {
         text.push(b'\n')?;
     }
     Ok(text)
