@@ -5,13 +5,12 @@ use Rattle.std.proofs.Math.Seq.{take-append_seam, take-append-add}
 use Rattle.std.proofs.lemmas.List.{take-append-le, take_all, append-nil}
 use Rattle.std.proofs.lemmas.Bool.{cases_lt}
 use Rattle.std.proofs.lemmas.Result.{on_ok_weaker, on_err_weaker}
-use Rattle.outside.specs.SinkView.{SinkView, Rises, IsSinkCall, Receives, ReceivesPart}
+use Rattle.outside.specs.SinkView.{SinkView, SinkPasses, sink_passes_none, sink_passes_both, Receives, ReceivesPart}
 use Rattle.hunk_core.specs.Writing.{Puts}
 
 -- what has been received so far, before a further call
 pub record HasPut {O : Type 0} (view : O → SinkView) (same_rest : O → O → Type 0) (old new : O) (bytes : List ℕ) : Type 0 where
-  pub counts : (view old).faults ≤ (view new).faults
-  pub silent : (view old).told ≡ None → (view new).told ≡ None
+  pub passes : SinkPasses (view old) (view new)
   pub rest : same_rest old new
   pub received : Receives (view old) (view new) bytes
 
@@ -27,30 +26,25 @@ part n a c =
     ]
 
 pub has-put : {O R E : Type 0} {view : O → SinkView} {same : O → O → Type 0} {old new : O} {bytes : List ℕ} (x : R) → Puts {E = E} view same old new (Ok x) bytes → HasPut view same old new bytes
-has-put x p = record { counts = p.call.counts; silent = p.call.silent; rest = p.rest; received = p.received }
+has-put x p = record { passes = p.call.passes; rest = p.rest; received = p.received }
 
 pub has-none : {O : Type 0} {view : O → SinkView} {same : O → O → Type 0} → ((x : O) → same x x) → (old : O) → HasPut view same old old []
-has-none stays old = record { counts = omega arith; silent = λ e. e; rest = stays old; received = λ b is. is ∙ ap (λ (l : List ℕ). Some l) (sym (append-nil b)) }
+has-none {view = view} stays old = record { passes = sink_passes_none (view old); rest = stays old; received = λ b is. is ∙ ap (λ (l : List ℕ). Some l) (sym (append-nil b)) }
 
 pub has-more : {O : Type 0} {view : O → SinkView} {same : O → O → Type 0} {old mid new : O} {a b : List ℕ} → GoesOn same → HasPut view same old mid a → HasPut view same mid new b → HasPut view same old new (a ++ b)
 has-more {a = a} {b = b} on p q = record {
-  counts = omega (arith, p.counts, q.counts);
-  silent = λ e. q.silent (p.silent e);
+  passes = sink_passes_both p.passes q.passes;
   rest = on _ _ _ p.rest q.rest;
   received = λ front is. q.received _ (p.received front is) ∙ ap (λ (l : List ℕ). Some l) (append_assoc front a b);
 }
 
 pub puts-done : {O R E : Type 0} {view : O → SinkView} {same : O → O → Type 0} {old new : O} {bytes : List ℕ} (x : R) → HasPut view same old new bytes → Puts {E = E} view same old new (Ok x) bytes
-puts-done x p = record { call = record { counts = p.counts; cause = λ none. absurd (cc); silent = p.silent }; rest = p.rest; received = p.received; failed = tt }
+puts-done x p = record { call = record { passes = p.passes; cause = λ none. absurd (cc) }; rest = p.rest; received = p.received; failed = tt }
 
 -- a further call, whose answer is the whole's
 pub puts-more : {O R E : Type 0} {view : O → SinkView} {same : O → O → Type 0} {old mid new : O} {r : Result R E} {a b : List ℕ} → GoesOn same → HasPut view same old mid a → Puts view same mid new r b → Puts view same old new r (a ++ b)
 puts-more {view = view} {old = old} {mid = mid} {new = new} {r = r} {a = a} {b = b} on p q = record {
-  call = record {
-    counts = omega (arith, p.counts, q.call.counts);
-    cause = λ err. λ small. omega (arith, p.counts, q.call.cause err small);
-    silent = λ e. q.call.silent (p.silent e);
-  };
+  call = record { passes = sink_passes_both p.passes q.call.passes; cause = λ err. λ small. omega (arith, p.passes.counts, q.call.cause err small) };
   rest = on _ _ _ p.rest q.rest;
   received = on_ok_weaker r (λ got. λ front is. got _ (p.received front is) ∙ ap (λ (l : List ℕ). Some l) (append_assoc front a b)) q.received;
   failed = on_err_weaker r (λ got. λ front is. late front (got _ (p.received front is))) q.failed;
@@ -66,7 +60,7 @@ puts-more {view = view} {old = old} {mid = mid} {new = new} {r = r} {a = a} {b =
 -- a call that failed, of a whole that would have gone on
 pub puts-stop : {O R S E F : Type 0} {view : O → SinkView} {same : O → O → Type 0} {old new : O} {a : List ℕ} (e : E) (f : F) (c : List ℕ) → Puts {R = R} view same old new (Err e) a → Puts {R = S} view same old new (Err f) (a ++ c)
 puts-stop {view = view} {old = old} {new = new} {a = a} e f c p = record {
-  call = record { counts = p.call.counts; cause = λ err. p.call.cause refl; silent = p.call.silent };
+  call = record { passes = p.call.passes; cause = λ err. p.call.cause refl };
   rest = p.rest;
   received = tt;
   failed = λ front is. early front (p.failed front is);
