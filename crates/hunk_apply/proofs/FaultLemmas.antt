@@ -14,7 +14,7 @@ pub goes-both : (u v w : SinkView) → GoesOn u v → GoesOn v w → GoesOn u w
 goes-both u v w h k = record { counts = omega (arith, h.counts, k.counts); silent = λ none. k.silent (h.silent none) }
 
 pub call-goes : {R E : Type 0} (u v : SinkView) (r : Result R E) → IsSinkCall u v r → GoesOn u v
-call-goes u v r h = record { counts = h.counts; silent = h.silent }
+call-goes u v r h = record { counts = h.passes.counts; silent = h.passes.silent }
 
 -- a fault of a later call has its cause since the first
 pub apply-cause-more : (e : ApplyFault) (a b c : Seen) (u v w : SinkView) → Keeps a b → GoesOn u v → HasApplyCause e b c v w → HasApplyCause e a c u w

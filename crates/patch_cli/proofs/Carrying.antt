@@ -89,7 +89,7 @@ module _ {u v : TreeView} (opens : Opens u v) (a b : SinkView) (line name bytes 
   pub carries_unsaid : {R E : Type 0} (e : E) → Writes {R = R} a b (Err e) line → Carries u v a b WriteFault o
   carries_unsaid e said = record {
     passes = opens.passes;
-    counts = said.call.counts;
+    counts = said.call.passes.counts;
     cause = said.call.cause refl;
     untouched = tt;
     quiet = tt;
@@ -114,7 +114,7 @@ module _ {u v : TreeView} (opens : Opens u v) (a b : SinkView) (line name bytes 
     pub carries_fault : {S F : Type 0} (e : F) → IsRun {R = S} v w (Err e) → TellsEither v w (λ f. insert f name bytes) → Carries u w a b TreeFault o
     carries_fault e run either = record {
       passes = passes_both opens.passes run.passes;
-      counts = said.call.counts;
+      counts = said.call.passes.counts;
       cause = rises_then u v w opens.passes (run.cause refl);
       untouched = tt;
       quiet = tt;
@@ -131,7 +131,7 @@ module _ {u v : TreeView} (opens : Opens u v) (a b : SinkView) (line name bytes 
     pub carries_done : {S F : Type 0} (y : S) → IsRun {E = F} v w (Ok y) → temp ≡ temporary_of name → Becomes v w (λ f. remove (insert f name bytes) temp) → IsQuiet w → Carries u w a b Done o
     carries_done y run temporary becomes quiet = record {
       passes = passes_both opens.passes run.passes;
-      counts = said.call.counts;
+      counts = said.call.passes.counts;
       cause = tt;
       untouched = tt;
       quiet = quiet;
