@@ -1,0 +1,19 @@
+use Rattle.std.proofs.Common.{inl}
+use Rattle.std.proofs.lemmas.Result.{on_ok_weaker}
+use Rattle.replace_file.proofs.Removing.{spoilt_same, removed_quiet, removed}
+use Rattle.replace_file.proofs.put.remove_name.Goals as goal
+
+pub returns-in_err-drop_name-clause-tells : goal.returns-in_err-drop_name-clause-tells
+returns-in_err-drop_name-clause-tells g c f h told now = inl (spoilt_same (g.T.Tree.view c.args.tree.now) (g.T.Tree.view c.drop_name.new.self) c.args.name.now c.requires.lasting c.in_err-drop_name.ensures.err f h told now)
+
+pub returns-clause-quiet : goal.returns-clause-quiet
+returns-clause-quiet g c =
+    let e = c.drop_name.ensures in
+    let d = c.fix_names.ensures in
+    on_ok_weaker c.fix_names.result (removed_quiet c.drop_name.result c.fix_names.result (g.T.Tree.view c.args.tree.now) (g.T.Tree.view c.drop_name.new.self) (g.T.Tree.view c.fix_names.new.self) c.args.name.now c.requires.quiet e.call e.crash c.in_ok-drop_name.ensures.ok d.call d.same d.crash (d.seals c.args.name.now c.in_ok-drop_name.ensures.sealed)) d.fixed
+
+pub returns-clause-makes : goal.returns-clause-makes
+returns-clause-makes g c =
+    let e = c.drop_name.ensures in
+    let d = c.fix_names.ensures in
+    removed c.drop_name.result c.fix_names.result (g.T.Tree.view c.args.tree.now) (g.T.Tree.view c.drop_name.new.self) (g.T.Tree.view c.fix_names.new.self) c.args.name.now c.requires.quiet e.call e.crash c.in_ok-drop_name.ensures.ok d.call d.same d.crash (d.seals c.args.name.now c.in_ok-drop_name.ensures.sealed) d.fixed
