@@ -10,7 +10,7 @@ use Rattle.hunk_place.specs.declared.Spot.{Spot}
 use Rattle.hunk_place.specs.Taken.{taken}
 use Rattle.hunk_place.specs.Verdicts.{verdicts, spots, spot, verdict_of, after_hunk, at_start}
 use Rattle.hunk_apply.specs.Applied.{taken_all, applied}
-use Rattle.hunk_apply.specs.Join.{join}
+use Rattle.line_list.specs.Join.{join}
 use Rattle.hunk_apply.specs.Splice.{Edit, body_edits, all_edits, spliced}
 use Rattle.hunk_apply.specs.Moved.{hunk_edits}
 

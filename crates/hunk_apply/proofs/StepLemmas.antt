@@ -13,7 +13,7 @@ use Rattle.hunk_core.specs.declared.Hunk.{Hunk}
 use Rattle.hunk_core.specs.Sides.{is_on_side, taken_count}
 use Rattle.hunk_core.specs.PlainHunk.{Marked, marked_of, bytes_at}
 use Rattle.hunk_place.specs.Taken.{taken}
-use Rattle.hunk_apply.specs.Join.{lacks_feed, feed_if}
+use Rattle.line_list.specs.Join.{lacks_feed, feed_if}
 use Rattle.hunk_apply.specs.Body.{turned_mark, side_marked, side_body}
 use Rattle.hunk_apply.specs.Splice.{Edit, add, drop_line, marked_edits, body_edits, IsWritten}
 use Rattle.hunk_apply.proofs.BodyLemmas.{on-side, edits-none, edits-mark, body-is, rest-edits, rest-count, is_kept}

@@ -5,7 +5,7 @@ use Rattle.hunk_core.specs.declared.Hunk.{Hunk}
 use Rattle.hunk_core.specs.PlainHunk.{PlainHunk}
 use Rattle.hunk_place.specs.Taken.{taken}
 use Rattle.hunk_place.specs.Verdicts.{spots, at_start}
-use Rattle.hunk_apply.specs.Join.{join}
+use Rattle.line_list.specs.Join.{join}
 use Rattle.hunk_apply.specs.Splice.{Edit, all_edits, spliced}
 
 abbrev pub taken_all : List ℕ → Side → List Hunk → List PlainHunk

@@ -7,7 +7,7 @@ use Rattle.hunk_core.specs.declared.Mark.TheVariants.{Keep, Drop, Add}
 use Rattle.hunk_core.specs.PlainHunk.{Marked, PlainHunk}
 use Rattle.hunk_place.specs.Order.{from_to}
 use Rattle.hunk_place.specs.declared.Spot.{Spot}
-use Rattle.hunk_apply.specs.Join.{join, ends_open}
+use Rattle.line_list.specs.Join.{join, ends_open}
 
 -- a line is added in the gap before line `at`, or line `at` is dropped
 pub record Edit : Type 0 where

@@ -1,0 +1,9 @@
+//! All that the program does, over any tree, scratch, source and sinks.
+#![tactic(auto)]
+
+mod gathered;
+mod opening;
+mod report;
+mod why;
+
+pub use why::Why;
