@@ -1,6 +1,7 @@
 //! A sink whose bytes go to a temporary.
-ghost use Rattle.std.specs.Prelude.{◌≡◌, ℕ, List, true, false, Some, OnOk};
+ghost use Rattle.std.specs.Prelude.{◌≡◌, ◌<◌, ◌≤◌, ◌↔◌, ◌++◌, [], ℕ, List, true, false, Some, IsTrue, IsErr, IfOk, OnOk, OnErr, length, take};
 ghost use Rattle.outside.specs.Files.{is_temp};
+ghost use Rattle.outside.specs.SinkView.{IsSinkCall, Receives, ReceivesPart};
 ghost use Rattle.outside.specs.TreeView.{IsRun};
 ghost use Rattle.outside.specs.Calls.{IsThere, SealsStay};
 ghost use Rattle.outside.specs.Quiet.{IsQuiet, WorksOn, Holds};
@@ -60,6 +61,8 @@ fn mend<T: Tree>(tree: &mut T, temp: &Temp<'_>, broken: bool) -> Result<(), Fail
     ensures works { WorksOn (T.view tree.old) (T.view tree.new) temp.now.name.now }
     ensures seals { SealsStay (T.view tree.old) (T.view tree.new) temp.now.name.now }
     ensures there { OnOk result (IsThere (T.view tree.new) temp.now.name.now) }
+    ensures cause { IsErr result → broken ≡ true }
+    ensures anew { OnOk result (broken ≡ true → Holds (T.view tree.new) temp.now.name.now []) }
     ensures same { broken ≡ false → (T.view tree.new).told ≡ (T.view tree.old).told }
 {
     if broken {
@@ -85,7 +88,19 @@ impl<'a, 'n, T: Tree> Sink for TempSink<'a, 'n, T> {
           (subst (λ n. SameAround (T.view y.tree.now) (T.view z.tree.now) n) a.1 b.2),
     ) };
 
-    fn write(&mut self, piece: &[u8]) -> Result<usize, Failed> {
+    /// Hands the whole piece on. After `Failed` the next write makes the temporary anew, and later ones add to it.
+    fn write(&mut self, piece: &[u8]) -> Result<usize, Failed>
+        ensures call { IsSinkCall (sink_view (T.view self.old.tree.now) self.old.temp.name.now self.old.silent) (sink_view (T.view self.new.tree.now) self.new.temp.name.now self.new.silent) result }
+        ensures rest { (self.new.tree.ghost_name ≡ self.old.tree.ghost_name) × (self.new.temp.name.now ≡ self.old.temp.name.now) × SameAround (T.view self.old.tree.now) (T.view self.new.tree.now) self.old.temp.name.now }
+        ensures fits { IfOk result (λ n. n ≤ length piece.now) }
+        ensures some { IfOk result (λ n. 0 < length piece.now → 0 < n) }
+        ensures received { IfOk result (λ n. Receives (sink_view (T.view self.old.tree.now) self.old.temp.name.now self.old.silent) (sink_view (T.view self.new.tree.now) self.new.temp.name.now self.new.silent) (take n piece.now)) }
+        ensures failed { OnErr result (ReceivesPart (sink_view (T.view self.old.tree.now) self.old.temp.name.now self.old.silent) (sink_view (T.view self.new.tree.now) self.new.temp.name.now self.new.silent) (take 0 piece.now)) }
+        ensures whole { IfOk result (λ n. n ≡ length piece.now) }
+        ensures breaks { IsErr result ↔ IsTrue self.new.broken }
+        ensures anew { OnOk result (self.old.broken ≡ true → Holds (T.view self.new.tree.now) self.old.temp.name.now piece.now) }
+        ensures adds { OnOk result (self.old.broken ≡ false → (b : List ℕ) → Holds (T.view self.old.tree.now) self.old.temp.name.now b → Holds (T.view self.new.tree.now) self.old.temp.name.now (b ++ piece.now)) }
+    {
         mend(self.tree, &self.temp, self.broken)?;
         self.broken = false;
         match self.temp.put(self.tree, piece) {

@@ -1,8 +1,8 @@
-use Rattle.std.proofs.Common.{refl, sym, subst, ℕ, List, length, take}
+use Rattle.std.proofs.Common.{[], ◌∙◌, refl, sym, subst, ℕ, List, length, take}
 use Rattle.outside.specs.SinkView.{Receives}
 use Rattle.outside.proofs.Quiet.{works_both}
 use Rattle.replace_file.specs.TempSink.{sink_view}
-use Rattle.replace_file.proofs.Sinking.{received, works_around}
+use Rattle.replace_file.proofs.Sinking.{received, works_around, holds_more}
 use Rattle.replace_file.proofs.Work.{stays_both}
 use Rattle.replace_file.proofs.sink.TempSinkSink.write.Goals as goal
 
@@ -53,3 +53,16 @@ returns-in-Ok-clause-received g c =
     let n = self.temp.name.now in
     let piece = c.args.piece.now in
     subst (λ (m : List ℕ). Receives (sink_view u n self.silent) (sink_view w m self.silent) (take (length piece) piece)) (sym c.put.ensures.name) (received u v w n piece (length piece) self.broken self.silent refl self.breaks c.mend.ensures.same c.in-Ok.ensures.ok)
+
+pub returns-in_err-mend-clause-breaks : goal.returns-in_err-mend-clause-breaks
+returns-in_err-mend-clause-breaks g c = (λ err. c.in_err-mend.ensures.cause refl, λ broken. c.from_residual.ensures.0)
+
+pub returns-in-Ok-clause-anew : goal.returns-in-Ok-clause-anew
+returns-in-Ok-clause-anew g c broken =
+    let self = c.args.self.now in
+    holds_more (g.T.Tree.view c.mend.new.tree) (g.T.Tree.view c.put.new.tree) self.temp.name.now [] c.args.piece.now c.put.ensures.run.passes (c.in_ok-mend.ensures.anew broken) c.in-Ok.ensures.ok
+
+pub returns-in-Ok-clause-adds : goal.returns-in-Ok-clause-adds
+returns-in-Ok-clause-adds g c whole b held =
+    let self = c.args.self.now in
+    holds_more (g.T.Tree.view c.mend.new.tree) (g.T.Tree.view c.put.new.tree) self.temp.name.now b c.args.piece.now c.put.ensures.run.passes (λ f told. held f (sym (c.mend.ensures.same whole) ∙ told)) c.in-Ok.ensures.ok
