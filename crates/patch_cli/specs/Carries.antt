@@ -13,6 +13,7 @@ use Rattle.line_list.specs.Completed.{completed}
 use Rattle.patch_cli.specs.Command.{Outcome, refused, made_all, longest_text, buffer_size, on_text, on_hunks, stand_at_their_lines}
 use Rattle.hunk_core.specs.PlainHunk.{PlainHunk}
 use Rattle.hunk_apply.specs.Applied.{applied}
+use Rattle.line_store.specs.Store.{Seen}
 use Rattle.line_store.specs.Taking.{refusal}
 use Rattle.line_list.specs.Lines.{lines}
 
@@ -137,6 +138,13 @@ pub record IsPatched (f : Files) (name : List ℕ) (hunks : List PlainHunk) (new
   pub admitted : refusal buffer_size old ≡ None
   pub stand : stand_at_their_lines (lines old) hunks ≡ true
   pub bytes : new ≡ applied (lines old) 0 false hunks
+
+-- the plan took the file of that name
+pub record HasTaken (f : Files) (name : List ℕ) (plan : Seen) : Type 0 where
+  pub bytes : List ℕ
+  pub there : get f name ≡ Some bytes
+  pub admitted : refusal buffer_size bytes ≡ None
+  pub told : plan.told ≡ Some (lines bytes)
 
 -- the run ends so at the file to be patched, whatever the patch file is called
 abbrev pub StopsAtFile : Why → TreeView → TreeView → List ℕ → List PlainHunk → Type 0

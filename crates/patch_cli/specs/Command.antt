@@ -1,17 +1,17 @@
 -- What a command does, as a function of its words and the files of the tree.
-use Rattle.std.specs.Prelude.{ℕ, ◌≤◌, ◌^◌, List, [], ◌∷◌, ◌++◌, codes, decimal, is_none, length, ℤ, pos, negsuc, Bool, true, false, nat_lt, ◌==◌, ◌&&◌, if◌then◌else◌, bytes_eq, Option, None, Some, Result, Ok, Err}
-use Rattle.std.specs.List.{list_all}
+use Rattle.std.specs.Prelude.{ℕ, ◌≤◌, ◌^◌, List, [], ◌∷◌, ◌++◌, codes, is_none, length, Bool, true, false, not, nat_lt, if◌then◌else◌, bytes_eq, Option, None, Some, Result, Ok, Err}
+use Rattle.std.specs.List.{list_any}
 use Rattle.std.specs.FinMap.{get, insert, remove}
 use Rattle.line_list.specs.Lines.{lines}
 use Rattle.outside.specs.Files.{Files}
 use Rattle.outside.specs.Quiet.{Effect}
 use Rattle.outside.specs.Quiet.Effect.{Put, Remove}
 use Rattle.line_store.specs.Taking.{refusal}
-use Rattle.hunk_core.specs.declared.Verdict.{Verdict}
-use Rattle.hunk_core.specs.declared.Verdict.TheVariants.{Untried, Ignored, Nowhere, At}
 use Rattle.hunk_core.specs.PlainHunk.{PlainHunk}
 use Rattle.hunk_place.specs.Verdicts.{verdicts, at_start}
 use Rattle.hunk_apply.specs.Applied.{applied}
+use Rattle.hunk_apply.specs.Session.{is_inexact}
+use Rattle.num_text.specs.Numbers.{decimal}
 use Rattle.patch_cli.specs.declared.why.Why.{Why}
 use Rattle.patch_cli.specs.declared.why.Why.TheVariants.{Done, Usage, NoPatchFile, WriteFault, TreeFault, Disagree, Memory, Unsupported}
 use Rattle.patch_cli.specs.Request.{Request, request_of}
@@ -35,21 +35,11 @@ longest_text = 268435456
 abbrev pub buffer_size : ℕ
 buffer_size = 65536
 
-abbrev pub is_zero : ℤ → Bool
-is_zero (pos n) = n == 0
-is_zero (negsuc n) = false
-
--- the hunk stands where it says
-abbrev pub is_at_its_line : Verdict → Bool
-is_at_its_line Untried = false
-is_at_its_line Ignored = false
-is_at_its_line Nowhere = false
-is_at_its_line (At line fuzz offset) = (fuzz == 0) && is_zero offset
-
--- each hunk, the hunks before it having been placed, stands where it says, with no fuzz
+-- each hunk, the hunks before it having been placed, stands at its stated line, with no fuzz
 abbrev pub stand_at_their_lines : List (List ℕ) → List PlainHunk → Bool
-stand_at_their_lines ls hunks = list_all is_at_its_line (verdicts ls 0 false at_start hunks)
+stand_at_their_lines ls hunks = not (list_any is_inexact (verdicts ls 0 false at_start hunks))
 
+-- the line that names the file
 abbrev pub patching_line : List ℕ → List ℕ
 patching_line name = codes "patching file " ++ (name ++ 10 ∷ [])
 

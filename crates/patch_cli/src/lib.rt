@@ -5,5 +5,6 @@ mod gathered;
 mod opening;
 mod report;
 mod why;
+mod words;
 
 pub use why::Why;
