@@ -2,7 +2,7 @@
 use Rattle.std.proofs.Common.{◌≡◌, inl, inr, ⊎_elim, ◌+◌, ◌<◌, ◌≤◌, ℕ, suc, List, [], ◌∷◌, ◌++◌, length, take, Some, Result, Ok, Err, IsErr, refl, sym, ◌∙◌, ap, subst, arith, append_assoc, zero-add}
 use Rattle.std.proofs.lemmas.Bool.{cases_lt}
 use Rattle.std.proofs.lemmas.List.{take-append-le, take_all, append-nil}
-use Rattle.outside.specs.SinkView.{SinkView, Receives, ReceivesPart, Writes}
+use Rattle.outside.specs.SinkView.{SinkView, sink_passes_none, sink_passes_both, Receives, ReceivesPart, Writes}
 
 take-over : {A : Type 0} (xs ys : List A) (n : ℕ) → take (length xs + n) (xs ++ ys) ≡ xs ++ take n ys
 take-over [] ys n = ap (λ m. take m ys) (zero-add n)
@@ -43,29 +43,25 @@ received_none a x told = told ∙ ap (λ (l : List ℕ). Some l) (sym (append-ni
 pub writes_stop : {R S E D : Type 0} {a b : SinkView} {p : List ℕ} (e : E) (s : Result S D) (q : List ℕ) → IsErr s → Writes {R = R} a b (Err e) p → Writes a b s (p ++ q)
 writes_stop e (Ok x) q is w = absurd (cc)
 writes_stop {a = a} {b = b} {p = p} e (Err d) q is w = record {
-  call = record { counts = w.call.counts; cause = λ err. w.call.cause refl; silent = w.call.silent };
+  call = record { passes = w.call.passes; cause = λ err. w.call.cause refl };
   received = tt;
   failed = part_longer a b p q w.failed;
 }
 
 pub writes_then : {R S E D : Type 0} {a b c : SinkView} {p q : List ℕ} (x : R) (r : Result S D) → Writes {E = E} a b (Ok x) p → Writes b c r q → Writes a c r (p ++ q)
 writes_then {a = a} {b = b} {c = c} {p = p} {q = q} x (Ok y) v w = record {
-  call = record { counts = omega (arith, v.call.counts, w.call.counts); cause = λ err. absurd (cc); silent = λ none. w.call.silent (v.call.silent none) };
+  call = record { passes = sink_passes_both v.call.passes w.call.passes; cause = λ err. absurd (cc) };
   received = received_both a b c p q v.received w.received;
   failed = tt;
 }
 writes_then {a = a} {b = b} {c = c} {p = p} {q = q} x (Err d) v w = record {
-  call = record {
-    counts = omega (arith, v.call.counts, w.call.counts);
-    cause = λ err small. omega (arith, w.call.cause refl small, v.call.counts);
-    silent = λ none. w.call.silent (v.call.silent none);
-  };
+  call = record { passes = sink_passes_both v.call.passes w.call.passes; cause = λ err small. omega (arith, w.call.cause refl small, v.call.passes.counts) };
   received = tt;
   failed = part_after a b c p q v.received w.failed;
 }
 
 pub writes_none : {R E : Type 0} (a : SinkView) (x : R) → Writes {E = E} a a (Ok x) []
-writes_none a x = record { call = record { counts = omega arith; cause = λ err. absurd (cc); silent = λ none. none }; received = received_none a; failed = tt }
+writes_none a x = record { call = record { passes = sink_passes_none a; cause = λ err. absurd (cc) }; received = received_none a; failed = tt }
 
 pub writes_is : {R E : Type 0} {a b : SinkView} {p : List ℕ} (r : Result R E) (q : List ℕ) → Writes a b r p → p ≡ q → Writes a b r q
 writes_is {a = a} {b = b} r q w e = subst (λ (l : List ℕ). Writes a b r l) e w
