@@ -30,13 +30,14 @@ ended n m at buffer bytes le is none some =
 pub joined : (xs bytes : List ℕ) (at n : ℕ) → xs ++ take at bytes ++ take n (drop at bytes) ≡ xs ++ take (at + n) bytes
 joined xs bytes at n = append_assoc xs (take at bytes) (take n (drop at bytes)) ∙ ap (λ (l : List ℕ). xs ++ l) (sym (take-add at n bytes))
 
--- ---- trees
-pub reads_works : {R E : Type 0} (u v : TreeView) (r : Result R E) (n : List ℕ) → is_temp n ≡ true → IsCall u v r → IsUntouched u v → IsQuiet u → WorksOn u v n
-reads_works u v r n is call same quiet = worked u v r n is call (λ q. untouched_quiet same q)
-    (λ f g told now q ne. ap (λ (x : Files). get x q) (same_Some _ _ (sym now ∙ same.told ∙ told))) quiet
-
 pub reads_seals : (u v : TreeView) (n : List ℕ) → IsUntouched u v → SealsStay u v n
 reads_seals u v n same q ne was = same.sealed q ∙ was
+
+-- ---- trees
+pub reads_works : {R E : Type 0} (u v : TreeView) (r : Result R E) (n : List ℕ) → is_temp n ≡ true → IsCall u v r → IsUntouched u v → IsQuiet u → WorksOn u v n
+reads_works u v r n is call same quiet = worked u v r n is call (λ q. untouched_quiet same q) (reads_seals u v n same)
+    (λ f g told now q ne. ap (λ (x : Files). get x q) (same_Some _ _ (sym now ∙ same.told ∙ told))) quiet
+
 
 pub there_told : (u v : TreeView) (n : List ℕ) → v.told ≡ u.told → IsThere u n → IsThere v n
 there_told u v n same there f now = there f (sym same ∙ now)

@@ -11,8 +11,9 @@ use Rattle.outside.specs.Quiet.{IsQuiet, LeavesEither, IsFixed, TellsEither, Lea
 use Rattle.outside.specs.Quiet.Effect.{Put}
 use Rattle.outside.proofs.Names.{apart, get-gone, get-gone_other, get-put, get-put_other, same_files, equal_or_not, lasting-both}
 use Rattle.outside.proofs.Views.{run_on, passes_both, rises_then, told_on, told_back, since_split}
-use Rattle.outside.proofs.Quiet.{works_none, lasting-only, put_since, fix_since, fix_becomes, fix_quiet}
-use Rattle.replace_file.specs.Puts.{TellsEitherBut, OtherSealsStay, Puts}
+use Rattle.outside.proofs.Effects.{after_put-insert, tells_put, leaves_put}
+use Rattle.outside.proofs.Quiet.{seals_temp, works_none, lasting-only, put_since, fix_since, fix_becomes, fix_quiet}
+use Rattle.replace_file.specs.Puts.{TellsEitherBut, Puts}
 
 pub on_ok : {T E : Type 0} (r : Result T E) (P : Type 0) → P → OnOk r P
 on_ok (Ok x) P p = p
@@ -22,7 +23,7 @@ pub on_err : {T E : Type 0} (r : Result T E) (P : Type 0) → P → OnErr r P
 on_err (Ok x) P p = tt
 on_err (Err e) P p = p
 
-on_ok_true : {T E : Type 0} (r : Result T E) (P : Type 0) → IsErr r → OnOk r P
+pub on_ok_true : {T E : Type 0} (r : Result T E) (P : Type 0) → IsErr r → OnOk r P
 on_ok_true (Ok x) P e = absurd (cc)
 on_ok_true (Err e) P is = tt
 
@@ -50,7 +51,7 @@ quiet_where_told u w passes quiet = record {
 
 -- ---- the swap of a sealed temporary, and the names put on the disk
 module _ {R E : Type 0} (r : Result R E) (u v : TreeView) (temp to : List ℕ) (is : is_temp temp ≡ true) (lasting : is_temp to ≡ false) (quiet : IsQuiet u) (there : IsThere u temp)
-    (call : IsCall u v r) (crash : LeavesEither u v (λ f. moved f temp to)) (seals : OtherSealsStay u v temp to) where
+    (call : IsCall u v r) (crash : LeavesEither u v (λ f. moved f temp to)) (seals : SealsStay u v temp) where
   pub swap_failed : {S D : Type 0} (s : Result S D) → IsErr s → Rises u v → Spoils u v temp → Puts u v s temp to (λ f. bytes_at f temp)
   swap_failed s err rises spoils = record {
     run = record { passes = call.passes; cause = λ e. rises };
@@ -74,7 +75,7 @@ module _ {R E : Type 0} (r : Result R E) (u v : TreeView) (temp to : List ℕ) (
       ok = on_ok s _ becomes_put;
       tells = λ f g told now. inr (put_but f g temp to (bytes_at f temp) is (same_Some _ _ (sym (becomes_put f told) ∙ now)));
       since = λ f told c left. fix_since u u v temp to (bytes_at f temp) is lasting (works_none u temp quiet) (holds_bytes u temp there f told) x same crash no_more becomes r s call fix f told c left;
-      seals = λ q nto ntemp was. sealed q (seals q nto ntemp was);
+      seals = λ q ntemp was. sealed q (seals q ntemp was);
     }
 
 -- ---- a temporary that is worked on first
@@ -113,7 +114,7 @@ module _ (u v : TreeView) (temp : List ℕ) (is : is_temp temp ≡ true) (works 
     ok = on_ok_true r _ err;
     tells = λ f g told now. inl (but f g told now);
     since = λ f told c left. inl (works.since f told c left);
-    seals = λ q nto ntemp was. stay q ntemp was;
+    seals = stay;
   }
 
   pub puts_after : {R E : Type 0} (r : Result R E) (w : TreeView) (to : List ℕ) (bytes : Files → List ℕ)
@@ -141,7 +142,7 @@ module _ (u v : TreeView) (temp : List ℕ) (is : is_temp temp ≡ true) (works 
         (λ new. inr (lasting-both (but_lasting (but_put to (bytes f) (bytes_at mid.0 temp) (sym (is_filled f mid.0 told mid.1)) so_far)) new))
         (puts.since mid.0 mid.1 c later))
         (since_split puts.run.passes u.moment c works.passes.later left);
-    seals = λ q nto ntemp was. puts.seals q nto ntemp (stay q ntemp was);
+    seals = λ q ntemp was. puts.seals q ntemp (stay q ntemp was);
   }
 
 -- ---- the effect
@@ -159,9 +160,10 @@ module _ {R E : Type 0} (u w : TreeView) (r : Result R E) (temp to b : List ℕ)
   puts_makes = record {
     run = puts.run;
     quiet = puts.quiet;
-    live = puts_live;
-    either = puts_tells;
-    since = λ f told c left. ⊎_elim (λ old. inl old) (λ new. inr (put_as f c told new)) (puts.since f told c left);
+    live = on_ok_weaker r (λ live f g told now. lasting-both (after_put-insert to b f) (live f g told now)) puts_live;
+    either = tells_put u w to b puts_tells;
+    since = leaves_put u w to b (λ f told c left. ⊎_elim (λ old. inl old) (λ new. inr (put_as f c told new)) (puts.since f told c left));
+    seals = seals_temp u w temp is puts.seals;
   }
 
 pub bytes_same : (u : TreeView) (k : Files → List ℕ) (f : Files) → u.told ≡ Some f → (g : Files) → u.told ≡ Some g → k g ≡ k f

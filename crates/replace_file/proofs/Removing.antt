@@ -1,17 +1,17 @@
 -- A name that is taken away.
-use Rattle.std.proofs.Common.{◌≡◌, ◌≢◌, ◌⊎◌, inl, inr, ⊎_elim, ℕ, List, true, false, Some, Result, OnOk, sym, ◌∙◌, ap, subst}
+use Rattle.std.proofs.Common.{◌≡◌, ◌≢◌, ◌⊎◌, inl, inr, ⊎_elim, ℕ, List, true, false, Some, Result, IsErr, OnOk, sym, ◌∙◌, ap, subst}
 use Rattle.std.proofs.lemmas.Option.{same_Some}
 use Rattle.std.proofs.lemmas.Result.{on_ok_weaker}
 use Rattle.std.specs.FinMap.{get, remove}
 use Rattle.outside.specs.Files.{Files, is_temp, SameLasting}
-use Rattle.outside.specs.TreeView.{TreeView, IsCall}
-use Rattle.outside.specs.Calls.{Becomes, Spoils, LeavesNoMore}
+use Rattle.outside.specs.TreeView.{TreeView, IsCall, Rises}
+use Rattle.outside.specs.Calls.{Becomes, Spoils, LastingSealsStay, LeavesNoMore}
 use Rattle.outside.specs.Quiet.{IsQuiet, LeavesEither, IsFixed, LeavesEitherSince, MakesEffect}
 use Rattle.outside.specs.Quiet.Effect.{Remove}
 use Rattle.outside.proofs.Names.{equal_or_not, same_files, get-gone_other, lasting-same}
 use Rattle.outside.proofs.Views.{run_on, since_call, told_back}
-use Rattle.outside.proofs.Quiet.{works_none}
-use Rattle.replace_file.proofs.Putting.{on_ok}
+use Rattle.outside.proofs.Quiet.{works_none, seals_both}
+use Rattle.replace_file.proofs.Putting.{on_ok, on_ok_true}
 
 -- a name that isn't temporary is spoilt by nothing
 pub spoilt_same : (u v : TreeView) (n : List ℕ) → is_temp n ≡ false → Spoils u v n → (f g : Files) → u.told ≡ Some f → v.told ≡ Some g → g ≡ f
@@ -44,7 +44,7 @@ module _ {R S E : Type 0} (r : Result R E) (s : Result S E) (u v x : TreeView) (
           let is = gone_now was.0 g was.1 now in
           record {
             at = λ q l. ⊎_elim
-                (λ (eq : q ≡ n). subst (λ y. get c y ≡ get g y) (sym eq) (fixed g c now left n tight))
+                (λ (eq : q ≡ n). subst (λ y. get c y ≡ get g y) (sym eq) (fixed.files g c now left n tight))
                 (λ (ne : q ≢ n). ⊎_elim
                 (λ old. old.at q l ∙ sym (get-gone_other was.0 n q ne) ∙ ap (λ (y : Files). get y q) is)
                 (λ new. new.at q l ∙ ap (λ (y : Files). get y q) is)
@@ -53,11 +53,26 @@ module _ {R S E : Type 0} (r : Result R E) (s : Result S E) (u v x : TreeView) (
           };
     }
 
-    pub removed : OnOk s (IsFixed x) → MakesEffect u x s (Remove n)
-    removed fixed = record {
+    pub removed : OnOk s (IsFixed x) → LastingSealsStay u v → LastingSealsStay v x → MakesEffect u x s (Remove n)
+    removed fixed seals stay = record {
       run = run_on call.passes fix;
       quiet = on_ok_weaker s removed_quiet fixed;
       live = on_ok s _ live;
       either = λ f g told now. inr (live f g told now);
       since = since;
+      seals = seals_both u v x seals stay;
     }
+
+-- a drop that failed
+pub drop_failed : {R S E D : Type 0} (r : Result R E) (s : Result S D) (u v : TreeView) (n : List ℕ) → IsErr s → IsQuiet u → IsCall u v r → Rises u v → LeavesEither u v (λ f. remove f n) → Spoils u v n → LastingSealsStay u v → MakesEffect u v s (Remove n)
+drop_failed r s u v n err quiet call rises crash spoils seals = record {
+  run = record { passes = call.passes; cause = λ e. rises };
+  quiet = on_ok_true s _ err;
+  live = on_ok_true s _ err;
+  either = λ f g told now. inl (record { at = λ q l. (spoils f g told now).lasting q l });
+  since = λ f told c left. ⊎_elim
+      (λ old. inl ((works_none u n quiet).since f told c old))
+      (λ now. crash quiet f c told now)
+      (since_call call u.moment c left);
+  seals = seals;
+}

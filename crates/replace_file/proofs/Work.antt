@@ -11,8 +11,8 @@ use Rattle.outside.proofs.Views.{told_on, told_back}
 use Rattle.outside.proofs.Quiet.{only_same, only_spoils, works_none, works_on}
 
 -- one call on a temporary name, over a quiet tree
-pub worked : {R E : Type 0} (u v : TreeView) (r : Result R E) (n : List ℕ) → is_temp n ≡ true → IsCall u v r → (IsQuiet u → IsQuiet v) → ChangesOnly u v n → IsQuiet u → WorksOn u v n
-worked u v r n is call keeps only quiet = works_on u u v r n is (works_none u n quiet) call keeps only
+pub worked : {R E : Type 0} (u v : TreeView) (r : Result R E) (n : List ℕ) → is_temp n ≡ true → IsCall u v r → (IsQuiet u → IsQuiet v) → SealsStay u v n → ChangesOnly u v n → IsQuiet u → WorksOn u v n
+worked u v r n is call keeps seals only quiet = works_on u u v r n is (works_none u n quiet) call keeps seals only
 
 pub only_kept : {R E : Type 0} (r : Result R E) (v w : TreeView) (n : List ℕ) → OnOk r (Becomes v w (λ f. f)) → OnErr r (Spoils v w n) → ChangesOnly v w n
 only_kept (Ok x) v w n ok err = only_same v w n ok
@@ -28,20 +28,6 @@ there_same v w n passes is there g now =
 pub only_gone : {R E : Type 0} (r : Result R E) (v w : TreeView) (n : List ℕ) → OnOk r (Becomes v w (λ f. remove f n)) → OnErr r (Spoils v w n) → ChangesOnly v w n
 only_gone (Ok x) v w n ok err f g told now q ne = ap (λ (x : Files). get x q) (same_Some _ _ (sym now ∙ ok f told)) ∙ get-gone_other f n q ne
 only_gone (Err e) v w n ok err f g told now q ne = (err f g told now).others q ne
-
-pub gone_quiet : {R E : Type 0} (r : Result R E) (v w : TreeView) (n : List ℕ) → is_temp n ≡ true → IsCall v w r → ChangesOnly v w n → LeavesEither v w (λ f. remove f n) → IsQuiet v → IsQuiet w
-gone_quiet r v w n temp call only crash quiet = record {
-  each = λ g c now left.
-      let was = told_back g call.passes now in
-      record {
-        at = λ q l.
-            let ne = apart q n l temp in
-            ⊎_elim
-            (λ old. old.at q l ∙ sym (only was.0 g was.1 now q ne))
-            (λ new. new.at q l ∙ get-gone_other was.0 n q ne ∙ sym (only was.0 g was.1 now q ne))
-            (crash quiet was.0 c was.1 left);
-      };
-}
 
 -- ---- bytes behind what a temporary holds
 pub stays_both : (u v w : TreeView) (n : List ℕ) → SealsStay u v n → SealsStay v w n → SealsStay u w n

@@ -6,7 +6,7 @@ ghost use Rattle.outside.specs.TreeView.{IsRun};
 ghost use Rattle.outside.specs.Calls.{Becomes, IsThere, SealsStay};
 ghost use Rattle.outside.specs.Quiet.{IsQuiet, TellsEither, LeavesEitherSince, MakesEffect};
 ghost use Rattle.outside.specs.Quiet.Effect.{Put, Remove};
-ghost use Rattle.replace_file.specs.Puts.{Puts, TellsEitherBut, OtherSealsStay};
+ghost use Rattle.replace_file.specs.Puts.{Puts, TellsEitherBut};
 
 use crate::temp::{Temp, begin_temp};
 use outside::{Failed, Name, Tree};
@@ -53,7 +53,7 @@ pub fn put_whole<T: Tree>(tree: &mut T, temp: &Name, to: &Name, bytes: &[u8]) ->
 
     // Of the temporary names it changes this one alone.
     ensures tells { TellsEitherBut (T.view tree.old) (T.view tree.new) temp.now (λ f. insert f to.now bytes.now) }
-    ensures seals { OtherSealsStay (T.view tree.old) (T.view tree.new) temp.now to.now }
+    ensures seals { SealsStay (T.view tree.old) (T.view tree.new) temp.now }
 {
     put_bytes(tree, temp, to, bytes)
 }

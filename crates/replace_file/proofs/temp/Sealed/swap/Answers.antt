@@ -1,5 +1,6 @@
 use Rattle.std.proofs.Common.{refl, ℕ, List}
 use Rattle.outside.specs.Files.{Files, bytes_at}
+use Rattle.outside.proofs.Quiet.{swap_either, seals_swap}
 use Rattle.replace_file.proofs.Putting.{swap_failed, swapped, puts_makes, bytes_same}
 use Rattle.replace_file.proofs.temp.Sealed.swap.Goals as goal
 
@@ -10,7 +11,7 @@ returns-in_err-swap-clause-puts g c =
     let s = c.args.self in
     let q = c.requires in
     let e = c.swap.ensures in
-    swap_failed c.swap.result u v s.name.now c.args.to.now s.temporary q.lasting q.quiet q.there e.call (e.crash s.temporary q.sealed) e.seals c.from_residual.result c.from_residual.ensures.0 (c.in_err-swap.ensures.call.cause refl) c.in_err-swap.ensures.err
+    swap_failed c.swap.result u v s.name.now c.args.to.now s.temporary q.lasting q.quiet q.there e.call (swap_either c.swap.result u v s.name.now c.args.to.now s.temporary e.call.passes e.ok e.err e.quiet (e.crash q.sealed)) (seals_swap c.swap.result u v s.name.now c.args.to.now q.sealed e.sealed e.seal e.seals) c.from_residual.result c.from_residual.ensures.0 (c.in_err-swap.ensures.call.cause refl) c.in_err-swap.ensures.err
 
 pub returns-in_err-swap-clause-makes : goal.returns-in_err-swap-clause-makes
 returns-in_err-swap-clause-makes g c f told =
@@ -20,7 +21,7 @@ returns-in_err-swap-clause-makes g c f told =
     let q = c.requires in
     let e = c.swap.ensures in
     let k : Files → List ℕ = λ g. bytes_at g s.name.now in
-    puts_makes u v c.from_residual.result s.name.now c.args.to.now (k f) k s.temporary (swap_failed c.swap.result u v s.name.now c.args.to.now s.temporary q.lasting q.quiet q.there e.call (e.crash s.temporary q.sealed) e.seals c.from_residual.result c.from_residual.ensures.0 (c.in_err-swap.ensures.call.cause refl) c.in_err-swap.ensures.err) (bytes_same u k f told)
+    puts_makes u v c.from_residual.result s.name.now c.args.to.now (k f) k s.temporary (swap_failed c.swap.result u v s.name.now c.args.to.now s.temporary q.lasting q.quiet q.there e.call (swap_either c.swap.result u v s.name.now c.args.to.now s.temporary e.call.passes e.ok e.err e.quiet (e.crash q.sealed)) (seals_swap c.swap.result u v s.name.now c.args.to.now q.sealed e.sealed e.seal e.seals) c.from_residual.result c.from_residual.ensures.0 (c.in_err-swap.ensures.call.cause refl) c.in_err-swap.ensures.err) (bytes_same u k f told)
 
 pub returns-clause-puts : goal.returns-clause-puts
 returns-clause-puts g c =
@@ -31,7 +32,7 @@ returns-clause-puts g c =
     let q = c.requires in
     let e = c.swap.ensures in
     let d = c.fix_names.ensures in
-    swapped c.swap.result u v s.name.now c.args.to.now s.temporary q.lasting q.quiet q.there e.call (e.crash s.temporary q.sealed) e.seals c.fix_names.result x c.in_ok-swap.ensures.ok (c.in_ok-swap.ensures.sealed q.sealed) d.call d.same d.seals d.crash d.fixed
+    swapped c.swap.result u v s.name.now c.args.to.now s.temporary q.lasting q.quiet q.there e.call (swap_either c.swap.result u v s.name.now c.args.to.now s.temporary e.call.passes e.ok e.err e.quiet (e.crash q.sealed)) (seals_swap c.swap.result u v s.name.now c.args.to.now q.sealed e.sealed e.seal e.seals) c.fix_names.result x c.in_ok-swap.ensures.ok (c.in_ok-swap.ensures.sealed q.sealed) d.call d.same d.seals d.crash d.fixed
 
 pub returns-clause-makes : goal.returns-clause-makes
 returns-clause-makes g c f told =
@@ -43,4 +44,4 @@ returns-clause-makes g c f told =
     let e = c.swap.ensures in
     let d = c.fix_names.ensures in
     let k : Files → List ℕ = λ g. bytes_at g s.name.now in
-    puts_makes u x c.fix_names.result s.name.now c.args.to.now (k f) k s.temporary (swapped c.swap.result u v s.name.now c.args.to.now s.temporary q.lasting q.quiet q.there e.call (e.crash s.temporary q.sealed) e.seals c.fix_names.result x c.in_ok-swap.ensures.ok (c.in_ok-swap.ensures.sealed q.sealed) d.call d.same d.seals d.crash d.fixed) (bytes_same u k f told)
+    puts_makes u x c.fix_names.result s.name.now c.args.to.now (k f) k s.temporary (swapped c.swap.result u v s.name.now c.args.to.now s.temporary q.lasting q.quiet q.there e.call (swap_either c.swap.result u v s.name.now c.args.to.now s.temporary e.call.passes e.ok e.err e.quiet (e.crash q.sealed)) (seals_swap c.swap.result u v s.name.now c.args.to.now q.sealed e.sealed e.seal e.seals) c.fix_names.result x c.in_ok-swap.ensures.ok (c.in_ok-swap.ensures.sealed q.sealed) d.call d.same d.seals d.crash d.fixed) (bytes_same u k f told)

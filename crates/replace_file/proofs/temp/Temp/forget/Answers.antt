@@ -1,4 +1,5 @@
-use Rattle.replace_file.proofs.Work.{worked, only_gone, gone_quiet}
+use Rattle.outside.proofs.Quiet.{quiet_kept}
+use Rattle.replace_file.proofs.Work.{worked, only_gone}
 use Rattle.replace_file.proofs.temp.Temp.forget.Goals as goal
 
 pub returns-clause-works : goal.returns-clause-works
@@ -9,4 +10,4 @@ returns-clause-works g c =
     let is = c.args.self.temporary in
     let e = c.drop_name.ensures in
     let only = only_gone c.drop_name.result u v n e.ok e.err in
-    worked u v c.drop_name.result n is e.call (gone_quiet c.drop_name.result u v n is e.call only e.crash) only
+    worked u v c.drop_name.result n is e.call (quiet_kept u v n is e.quiet) e.seals only

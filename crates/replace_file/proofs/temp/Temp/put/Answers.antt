@@ -1,7 +1,7 @@
 use Rattle.std.proofs.Common.{◌++◌}
 use Rattle.std.proofs.lemmas.Result.{on_ok_weaker}
 use Rattle.outside.specs.Files.{bytes_at}
-use Rattle.outside.proofs.Quiet.{only_either, there_put}
+use Rattle.outside.proofs.Quiet.{only_either, there_put, quiet_kept}
 use Rattle.replace_file.proofs.Work.{worked}
 use Rattle.replace_file.proofs.temp.Temp.put.Goals as goal
 
@@ -17,4 +17,4 @@ returns-clause-works g c =
     let n = c.args.self.now.name.now in
     let e = c.append.ensures in
     let is = c.args.self.now.temporary in
-    worked u v c.append.result n is e.call (e.quiet is) (only_either c.append.result u v n (λ f. bytes_at f n ++ c.args.piece.now) e.ok e.err)
+    worked u v c.append.result n is e.call (quiet_kept u v n is e.quiet) e.seals (only_either c.append.result u v n (λ f. bytes_at f n ++ c.args.piece.now) e.ok e.err)
