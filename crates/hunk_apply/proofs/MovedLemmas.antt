@@ -20,7 +20,7 @@ use Rattle.hunk_apply.specs.Moved.{moved_state}
 use Rattle.hunk_apply.proofs.BodyLemmas.{is_kept}
 use Rattle.hunk_apply.proofs.HunkLemmas.{adds-are, drops-are, old-length, no-edits}
 
-pub net-is : (n : ℤ) (a d : ℕ) → a < 2 ^ 32 → d < 2 ^ 32 → negsuc (2 ^ 62) ≤ℤ n → n ≤ℤ pos (2 ^ 62) → to_z w64 (of_z w64 (to_z w64 (of_z w64 n) +ℤ to_z w64 (of_z w64 (to_z w64 a -ℤ to_z w64 d)))) ≡ n +ℤ (pos a -ℤ pos d)
+pub net-is : (n : ℤ) (a d : ℕ) → a < 2 ^ 32 → d < 2 ^ 32 → negsuc (2 ^ 33) ≤ℤ n → n ≤ℤ pos (2 ^ 33) → to_z w64 (of_z w64 (to_z w64 (of_z w64 n) +ℤ to_z w64 (of_z w64 (to_z w64 a -ℤ to_z w64 d)))) ≡ n +ℤ (pos a -ℤ pos d)
 net-is n a d high_a high_d low high = omega (arith, ints)
 
 moved-is : (c : PlainHunk) (s : PlaceState) (line : ℕ) (offset : ℤ) (k : ℕ) (o n : ℤ) → k ≡ cond ((adds c == 0) && (drops c == 0)) s.consumed ((line - 1 + length (old_lines c.body)) - trailing c.body) → o ≡ offset → n ≡ s.net +ℤ (pos (adds c) -ℤ pos (drops c))
