@@ -1,11 +1,11 @@
 -- What a tree in memory tells, and what its calls do.
-use Rattle.std.specs.Prelude.{◌≡◌, ◌≢◌, ◌↔◌, ◌++◌, ℕ, List, [], Some, true, min, ◌+◌, ◌-◌, ◌^◌, Result, IsOk, IsErr, OnOk, OnErr}
+use Rattle.std.specs.Prelude.{◌≡◌, ◌≢◌, ◌↔◌, ◌++◌, ℕ, List, [], Some, true, false, min, ◌+◌, ◌-◌, ◌^◌, Result, IsOk, IsErr, OnOk, OnErr}
 use Rattle.std.specs.FinMap.{insert, remove}
 use Rattle.std.specs.List.{Contains}
 use Rattle.outside.specs.Files.{Files, is_temp, bytes_at, moved}
 use Rattle.outside.specs.TreeView.{TreeView, MayLeave, IsCall}
 use Rattle.outside.specs.Calls.{Becomes, Spoils, SealsStay, LeavesNoMore, IsUntouched}
-use Rattle.outside.specs.Quiet.{IsQuiet, LeavesEither, IsFixed}
+use Rattle.outside.specs.Quiet.{IsQuietAt, QuietStays, LeavesEitherAt, IsFixed}
 use Rattle.mem_world.specs.declared.tree.MemTree.{MemTree}
 use Rattle.mem_world.specs.Count.{Raises}
 use Rattle.mem_world.specs.Device.{Device, began_at, ended_at}
@@ -47,6 +47,7 @@ pub record Settles {R E : Type 0} (old new : TreeView) (result : Result R E) : T
   pub same : new.told ≡ old.told
   pub seals : (q : List ℕ) → old.is_sealed q ≡ true → new.is_sealed q ≡ true
   pub crash : LeavesNoMore old new
+  pub sealed : OnOk result ((q : List ℕ) → new.is_sealed q ≡ true)
   pub settled : OnOk result ((f c : Files) → new.told ≡ Some f → MayLeave new c → c ≡ f)
 
 -- a call that reads
@@ -59,14 +60,14 @@ pub record Starts {R E : Type 0} (old new : TreeView) (temp : List ℕ) (result 
   pub ok : OnOk result (Becomes old new (λ f. insert f temp []))
   pub err : OnErr result (Spoils old new temp)
   pub seals : SealsStay old new temp
-  pub quiet : is_temp temp ≡ true → IsQuiet old → IsQuiet new
+  pub quiet : QuietStays old new temp
 
 pub record Appends {R E : Type 0} (old new : TreeView) (temp piece : List ℕ) (result : Result R E) : Type 0 where
   pub call : IsCall old new result
   pub ok : OnOk result (Becomes old new (λ f. insert f temp (bytes_at f temp ++ piece)))
   pub err : OnErr result (Spoils old new temp)
   pub seals : SealsStay old new temp
-  pub quiet : is_temp temp ≡ true → IsQuiet old → IsQuiet new
+  pub quiet : QuietStays old new temp
 
 pub record Seals {R E : Type 0} (old new : TreeView) (temp : List ℕ) (result : Result R E) : Type 0 where
   pub call : IsCall old new result
@@ -74,15 +75,18 @@ pub record Seals {R E : Type 0} (old new : TreeView) (temp : List ℕ) (result :
   pub sealed : OnOk result (new.is_sealed temp ≡ true)
   pub err : OnErr result (Spoils old new temp)
   pub seals : SealsStay old new temp
-  pub quiet : is_temp temp ≡ true → IsQuiet old → IsQuiet new
+  pub quiet : QuietStays old new temp
 
 pub record Swaps {R E : Type 0} (old new : TreeView) (temp to : List ℕ) (result : Result R E) : Type 0 where
   pub call : IsCall old new result
   pub ok : OnOk result (Becomes old new (λ f. moved f temp to))
   pub sealed : OnOk result (old.is_sealed temp ≡ true → new.is_sealed to ≡ true)
+  pub gone : OnOk result (new.is_sealed temp ≡ true)
   pub err : OnErr result (Spoils old new temp)
   pub seals : (q : List ℕ) → q ≢ to → q ≢ temp → old.is_sealed q ≡ true → new.is_sealed q ≡ true
-  pub crash : is_temp temp ≡ true → old.is_sealed temp ≡ true → LeavesEither old new (λ f. moved f temp to)
+  pub seal : OnErr result (old.is_sealed to ≡ true → new.is_sealed to ≡ true)
+  pub quiet : (q : List ℕ) → q ≢ to → q ≢ temp → IsQuietAt old q → IsQuietAt new q
+  pub crash : old.is_sealed temp ≡ true → LeavesEitherAt old new to (λ f. moved f temp to)
 
 pub record Drops {R E : Type 0} (old new : TreeView) (name : List ℕ) (result : Result R E) : Type 0 where
   pub call : IsCall old new result
@@ -90,7 +94,9 @@ pub record Drops {R E : Type 0} (old new : TreeView) (name : List ℕ) (result :
   pub sealed : OnOk result (new.is_sealed name ≡ true)
   pub err : OnErr result (Spoils old new name)
   pub seals : SealsStay old new name
-  pub crash : LeavesEither old new (λ f. remove f name)
+  pub seal : OnErr result (is_temp name ≡ false → old.is_sealed name ≡ true → new.is_sealed name ≡ true)
+  pub quiet : QuietStays old new name
+  pub crash : LeavesEitherAt old new name (λ f. remove f name)
 
 pub record Fixes {R E : Type 0} (old new : TreeView) (result : Result R E) : Type 0 where
   pub call : IsCall old new result
