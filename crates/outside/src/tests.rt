@@ -55,6 +55,8 @@ fn names_of_a_name(rt: HostRuntime) -> Result<(), Fail> {
     };
     assert_eq!(rt; name.copy(rt.alloc())?.text(), "d/f");
     assert_eq!(rt; name.followed_by(rt.alloc(), ".rej")?.text(), "d/f.rej");
+    assert_eq!(rt; name.preceded_by(rt.alloc(), "old/b-")?.text(), "old/b-d/f");
+    assert_eq!(rt; name.below(rt.alloc(), &name)?.text(), "d/f/d/f");
     let temp = name.temporary(rt.alloc())?;
     assert_eq!(rt; temp.text(), "d/f.ptmp");
     assert_eq!(rt; (name.is_temp(), temp.is_temp()), (false, true));
