@@ -203,8 +203,8 @@ name_below d n directory name utf8 =
 kept_ahead : (c d : List ℕ) → is_kept d ≡ true → is_kept (c ++ d) ≡ true
 kept_ahead [] d is = is
 kept_ahead (b ∷ []) [] is = cc (is)
-kept_ahead (b ∷ []) (x ∷ d) is = elim (nat_eq b 46) as (λ t. not (false || (t && false)) ≡ true) [ | true ↦ refl | false ↦ refl ]
-kept_ahead (b ∷ e ∷ c) d is = elim (nat_eq b 46) as (λ t. not (false || (t && false)) ≡ true) [ | true ↦ refl | false ↦ refl ]
+kept_ahead (b ∷ []) (x ∷ d) is = elim (nat_eq b 46) as (λ t. not (false || (t && false)) ≡ true) [ true ↦ refl | false ↦ refl ]
+kept_ahead (b ∷ e ∷ c) d is = elim (nat_eq b 46) as (λ t. not (false || (t && false)) ≡ true) [ true ↦ refl | false ↦ refl ]
 
 never : (x y : Bool) → (x && (y && false)) ≡ false
 never true true = refl

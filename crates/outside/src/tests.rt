@@ -44,7 +44,10 @@ fn refused_texts(rt: HostRuntime) {
         (b"/../\x01\xC3", NameRule::NotUtf8),
     ];
     for (text, rule) in rows {
-        assert_eq!(rt; fault_of(Name::new(rt.alloc(), text)), Some(NameFault::Refused { rule }));
+        assert_eq!(rt;
+            fault_of(Name::new(rt.alloc(), text)),
+            Some(NameFault::Refused { rule })
+        );
     }
 }
 
@@ -54,11 +57,24 @@ fn names_of_a_name(rt: HostRuntime) -> Result<(), Fail> {
         return Ok(assert!(rt; false));
     };
     assert_eq!(rt; name.copy(rt.alloc())?.text(), "d/f");
+    assert!(rt; is_ending(".rej"));
     assert_eq!(rt; name.followed_by(rt.alloc(), ".rej")?.text(), "d/f.rej");
-    assert_eq!(rt; name.preceded_by(rt.alloc(), "old/b-")?.text(), "old/b-d/f");
     assert_eq!(rt; name.below(rt.alloc(), &name)?.text(), "d/f/d/f");
     let temp = name.temporary(rt.alloc())?;
     assert_eq!(rt; temp.text(), "d/f.ptmp");
     assert_eq!(rt; (name.is_temp(), temp.is_temp()), (false, true));
+    Ok(())
+}
+
+#[test]
+fn name_with_a_front(rt: HostRuntime) -> Result<(), Fail> {
+    let Ok(fitting) = Name::new(rt.alloc(), b"old/b-x") else {
+        return Ok(assert!(rt; false));
+    };
+    assert_eq!(rt; fitting.text(), "old/b-x");
+    assert_eq!(rt;
+        fitting.preceded_by(rt.alloc(), "old/b-")?.text(),
+        "old/b-old/b-x"
+    );
     Ok(())
 }
