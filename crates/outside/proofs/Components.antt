@@ -1,5 +1,6 @@
 -- A text and its components.
 use Rattle.std.proofs.Common.{◌≡◌, ℕ, List, [], ◌∷◌, ◌++◌, Bool, true, false, cond, ◌||◌, refl, sym, ◌∙◌, ap, append_assoc}
+use Rattle.std.proofs.lemmas.List.{append-nil}
 use Rattle.std.proofs.lemmas.List.Elements.{All-from_recursion}
 use Rattle.std.proofs.lemmas.List.Splits.{slice_split_none, slice_split_at, join_with_byte-slice_split}
 use Rattle.std.specs.List.{All, onto_first, list_any, join_with_byte}
@@ -136,3 +137,60 @@ unfolding onto_last
 each_last P [] s more some each = cc
 each_last P (c ∷ []) s more some each = (more c each.0, tt)
 each_last P (c ∷ d ∷ cs) s more some each = (each.0, each_last P (d ∷ cs) s more refl each.1)
+
+-- ---- two texts in a row
+pub glue : List (List ℕ) → List (List ℕ) → List (List ℕ)
+glue [] ds = ds
+glue (c ∷ []) [] = c ∷ []
+glue (c ∷ []) (d ∷ ds) = (c ++ d) ∷ ds
+glue (c ∷ e ∷ cs) ds = c ∷ glue (e ∷ cs) ds
+
+glue_none : (ds : List (List ℕ)) → is_empty ds ≡ false → ds ≡ glue ([] ∷ []) ds
+unfolding glue
+glue_none [] some = cc
+glue_none (d ∷ ds) some = refl
+
+glue_more : (cs ds : List (List ℕ)) → is_empty cs ≡ false → [] ∷ glue cs ds ≡ glue ([] ∷ cs) ds
+unfolding glue
+glue_more [] ds some = cc
+glue_more (c ∷ cs) ds some = refl
+
+glue_first : (x : ℕ) (cs ds : List (List ℕ)) → is_empty cs ≡ false → onto_first x (glue cs ds) ≡ glue (onto_first x cs) ds
+unfolding glue
+glue_first x [] ds some = cc
+glue_first x (c ∷ []) [] some = refl
+glue_first x (c ∷ []) (d ∷ ds) some = refl
+glue_first x (c ∷ e ∷ cs) ds some = refl
+
+-- the last component of the first text and the first of the second become one
+pub components_ahead : (q r : List ℕ) → components (q ++ r) ≡ glue (components q) (components r)
+components_ahead [] r = glue_none (components r) (components_some r)
+components_ahead (x ∷ xs) r = elim (is_slash x) as (λ b. cond b ([] ∷ components (xs ++ r)) (onto_first x (components (xs ++ r))) ≡ glue (cond b ([] ∷ components xs) (onto_first x (components xs))) (components r)) [
+  | true ↦ ap (λ (l : List (List ℕ)). [] ∷ l) (components_ahead xs r) ∙ glue_more (components xs) (components r) (components_some xs)
+  | false ↦ ap (λ (l : List (List ℕ)). onto_first x l) (components_ahead xs r) ∙ glue_first x (components xs) (components r) (components_some xs)
+]
+
+glue_slash : (cs ds : List (List ℕ)) → is_empty cs ≡ false → glue cs ([] ∷ ds) ≡ cs ++ ds
+unfolding glue
+glue_slash [] ds some = cc
+glue_slash (c ∷ []) ds some = ap (λ (l : List ℕ). l ∷ ds) (append-nil c)
+glue_slash (c ∷ e ∷ cs) ds some = ap (λ (l : List (List ℕ)). c ∷ l) (glue_slash (e ∷ cs) ds refl)
+
+pub components_slash : (q r : List ℕ) → components (q ++ 47 ∷ r) ≡ components q ++ components r
+components_slash q r = components_ahead q (47 ∷ r) ∙ glue_slash (components q) (components r) (components_some q)
+
+pub each_append : {X : Type 0} (P : X → Type 0) (xs ys : List X) → Each P xs → Each P ys → Each P (xs ++ ys)
+each_append P [] ys a b = b
+each_append P (x ∷ xs) ys a b = (a.0, each_append P xs ys a.1 b)
+
+-- what holds of each component of a text holds of each where another text takes the place of its end
+pub each_ahead : (P : List ℕ → Type 0) (fs ds : List (List ℕ)) (x : List ℕ) → ((c d : List ℕ) → P d → P (c ++ d)) → is_empty ds ≡ false → Each P (glue fs (x ∷ [])) → Each P ds → Each P (glue fs ds)
+unfolding glue
+each_ahead P [] ds x ahead some a b = b
+each_ahead P (c ∷ []) [] x ahead some a b = cc
+each_ahead P (c ∷ []) (d ∷ ds) x ahead some a b = (ahead c d b.0, b.1)
+each_ahead P (c ∷ e ∷ cs) ds x ahead some a b = (a.0, each_ahead P (e ∷ cs) ds x ahead some a.1 b)
+
+pub front_free : (p : ℕ → Bool) (c d : List ℕ) → Free p (c ++ d) → Free p c
+front_free p [] d is = refl
+front_free p (e ∷ c) d is = let both = neither (p e) (list_any p (c ++ d)) is in either_free (p e) (list_any p c) both.0 (front_free p c d both.1)

@@ -9,8 +9,8 @@ use Rattle.std.specs.Str.{IsUtf8}
 use Rattle.std.specs.Str.Lossy.{utf8_valid_len}
 use Rattle.outside.specs.declared.name.NameRule.{NameRule}
 use Rattle.outside.specs.declared.name.NameRule.TheVariants.{NotUtf8, Control, Absolute, Parent, Empty}
-use Rattle.outside.specs.Names.{is_slash, is_control, is_absolute, is_empty, is_kept, components, kept, normal_form, broken_rule, with_component, IsName, IsEnding}
-use Rattle.outside.proofs.Components.{Each, Free, neither, either_free, append_free, components_free, slash_free, components_some, components_joined, joined, join_free, components_behind, each_last}
+use Rattle.outside.specs.Names.{is_slash, is_control, is_absolute, is_empty, is_kept, components, kept, normal_form, broken_rule, with_component, IsName, IsEnding, IsFront}
+use Rattle.outside.proofs.Components.{Each, Free, neither, either_free, append_free, components_free, slash_free, components_some, components_joined, joined, join_free, components_behind, each_last, components_ahead, components_slash, each_append, each_ahead, front_free}
 
 abbrev pub is_parent : List ℕ → Bool
 is_parent c = bytes_eq (codes "..") c
@@ -161,32 +161,82 @@ part_parent (c ∷ cs) each = (each.0.1, part_parent cs each.1)
 pub name_components : (n : List ℕ) → IsName n → components n ≡ kept n
 name_components n is = ap (λ (l : List ℕ). components l) (sym is.normal) ∙ normal_components n (obeys n is.lawful)
 
-module _ (n e : List ℕ) (name : IsName n) (ending : IsEnding e) (utf8 : IsUtf8 (n ++ e)) where
-  rules : Obeys n
-  rules = obeys n name.lawful
+-- a text whose components are those of names is a name
+module _ (text : List ℕ) (utf8 : IsUtf8 text) (control : Free is_control text) (absolute : is_absolute text ≡ false) (each : Each IsPart (components text)) where
+  all_kept : kept text ≡ components text
+  all_kept = filter_whole is_kept (components text) (part_kept (components text) each)
 
-  parts : Each IsPart (components n)
-  parts = each_part (components n) (subst (λ (l : List (List ℕ)). Each (λ c. is_kept c ≡ true) l) (sym (name_components n name)) (filter_kept is_kept (components n))) (any_each is_parent (components n) rules.parent)
-
-  longer : Each IsPart (components (n ++ e))
-  longer = subst (λ (l : List (List ℕ)). Each IsPart l) (sym (components_behind n e ending.no_slash))
-      (each_last IsPart (components n) e (λ c part. (kept_behind c e part.0, parent_behind c e part.0 part.1)) (components_some n) parts)
-
-  all_kept : kept (n ++ e) ≡ components (n ++ e)
-  all_kept = filter_whole is_kept (components (n ++ e)) (part_kept (components (n ++ e)) longer)
-
-  -- with an ending it is a name
-  pub name_behind : IsName (n ++ e)
-  name_behind = record {
-    lawful = obeyed (n ++ e) (record {
-      utf8 = utf8_whole (n ++ e) utf8;
-      control = append_free is_control n e rules.control ending.no_control;
-      absolute = absolute_behind n e rules;
-      parent = each_any is_parent (components (n ++ e)) (part_parent (components (n ++ e)) longer);
-      empty = ap (λ (l : List (List ℕ)). is_empty l) all_kept ∙ components_some (n ++ e);
+  pub name_made : IsName text
+  name_made = record {
+    lawful = obeyed text (record {
+      utf8 = utf8_whole text utf8;
+      control = control;
+      absolute = absolute;
+      parent = each_any is_parent (components text) (part_parent (components text) each);
+      empty = ap (λ (l : List (List ℕ)). is_empty l) all_kept ∙ components_some text;
     });
-    normal = ap (λ (l : List (List ℕ)). join_with_byte 47 l) all_kept ∙ joined (n ++ e);
+    normal = ap (λ (l : List (List ℕ)). join_with_byte 47 l) all_kept ∙ joined text;
   }
+
+name_parts : (n : List ℕ) → IsName n → Each IsPart (components n)
+name_parts n name = each_part (components n)
+    (subst (λ (l : List (List ℕ)). Each (λ c. is_kept c ≡ true) l) (sym (name_components n name)) (filter_kept is_kept (components n)))
+    (any_each is_parent (components n) (obeys n name.lawful).parent)
+
+-- with an ending it is a name
+pub name_behind : (n e : List ℕ) → IsName n → IsEnding e → IsUtf8 (n ++ e) → IsName (n ++ e)
+name_behind n e name ending utf8 =
+    let rules : Obeys n = obeys n name.lawful in
+    name_made (n ++ e) utf8 (append_free is_control n e rules.control ending.no_control) (absolute_behind n e rules)
+    (subst (λ (l : List (List ℕ)). Each IsPart l) (sym (components_behind n e ending.no_slash))
+    (each_last IsPart (components n) e (λ c part. (kept_behind c e part.0, parent_behind c e part.0 part.1)) (components_some n) (name_parts n name)))
+
+-- below a directory it is a name
+pub name_below : (d n : List ℕ) → IsName d → IsName n → IsUtf8 (d ++ 47 ∷ n) → IsName (d ++ 47 ∷ n)
+name_below d n directory name utf8 =
+    let rules : Obeys d = obeys d directory.lawful in
+    name_made (d ++ 47 ∷ n) utf8 (append_free is_control d (47 ∷ n) rules.control (obeys n name.lawful).control) (absolute_behind d (47 ∷ n) rules)
+    (subst (λ (l : List (List ℕ)). Each IsPart l) (sym (components_slash d n))
+    (each_append IsPart (components d) (components n) (name_parts d directory) (name_parts n name)))
+
+-- ---- what stands before a name
+kept_ahead : (c d : List ℕ) → is_kept d ≡ true → is_kept (c ++ d) ≡ true
+kept_ahead [] d is = is
+kept_ahead (b ∷ []) [] is = cc (is)
+kept_ahead (b ∷ []) (x ∷ d) is = elim (nat_eq b 46) as (λ t. not (false || (t && false)) ≡ true) [ true ↦ refl | false ↦ refl ]
+kept_ahead (b ∷ e ∷ c) d is = elim (nat_eq b 46) as (λ t. not (false || (t && false)) ≡ true) [ true ↦ refl | false ↦ refl ]
+
+never : (x y : Bool) → (x && (y && false)) ≡ false
+never true true = refl
+never true false = refl
+never false y = refl
+
+second : (x y : Bool) → y ≡ false → (x && (y && true)) ≡ false
+second true y is = simp is
+second false y is = refl
+
+parent_ahead : (c d : List ℕ) → is_kept d ≡ true → is_parent d ≡ false → is_parent (c ++ d) ≡ false
+parent_ahead [] d keeps is = is
+parent_ahead (b ∷ []) [] keeps is = cc (keeps)
+parent_ahead (b ∷ []) (x ∷ []) keeps is = second (nat_eq 46 b) (nat_eq 46 x) (is_other x (one_other x keeps))
+parent_ahead (b ∷ []) (x ∷ y ∷ d) keeps is = never (nat_eq 46 b) (nat_eq 46 x)
+parent_ahead (b ∷ e ∷ []) [] keeps is = cc (keeps)
+parent_ahead (b ∷ e ∷ []) (x ∷ d) keeps is = never (nat_eq 46 b) (nat_eq 46 e)
+parent_ahead (b ∷ e ∷ f ∷ c) d keeps is = never (nat_eq 46 b) (nat_eq 46 e)
+
+absolute_ahead : (f x n : List ℕ) → is_absolute (f ++ x) ≡ false → Obeys n → is_absolute (f ++ n) ≡ false
+absolute_ahead [] x n is name = name.absolute
+absolute_ahead (b ∷ f) x n is name = is
+
+-- with a fitting front it is a name
+pub name_ahead : (f n : List ℕ) → IsFront f → IsName n → IsUtf8 (f ++ n) → IsName (f ++ n)
+name_ahead f n front name utf8 =
+    let rules : Obeys (f ++ codes "x") = obeys (f ++ codes "x") front.lawful in
+    name_made (f ++ n) utf8 (append_free is_control f n (front_free is_control f (codes "x") rules.control) (obeys n name.lawful).control)
+    (absolute_ahead f (codes "x") n rules.absolute (obeys n name.lawful))
+    (subst (λ (l : List (List ℕ)). Each IsPart l) (sym (components_ahead f n))
+    (each_ahead IsPart (components f) (components n) (codes "x") (λ c d part. (kept_ahead c d part.0, parent_ahead c d part.0 part.1)) (components_some n)
+    (subst (λ (l : List (List ℕ)). Each IsPart l) (components_ahead f (codes "x")) (name_parts (f ++ codes "x") front)) (name_parts n name)))
 
 -- ---- each rule, where those before it are kept
 pub kept_any : (cs : List (List ℕ)) → is_empty (filter is_kept cs) ≡ not (list_any is_kept cs)

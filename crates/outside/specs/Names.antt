@@ -53,6 +53,10 @@ pub record IsEnding (end : List ℕ) : Type 0 where
   pub no_slash : list_any is_slash end ≡ false
   pub no_control : list_any is_control end ≡ false
 
+-- what may be put before a name: with `x` behind it, it is the text of a name
+abbrev pub IsFront : List ℕ → Type 0
+IsFront front = IsName (front ++ codes "x")
+
 abbrev pub last_of : List (List ℕ) → List ℕ
 last_of [] = []
 last_of (c ∷ []) = c

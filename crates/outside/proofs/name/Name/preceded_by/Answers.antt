@@ -1,0 +1,13 @@
+use Rattle.std.proofs.Common.{◌≡◌, List, ℕ, ◌++◌, string_bytes, sym, ◌∙◌, ap, subst}
+use Rattle.std.proofs.lemmas.Str.{IsUtf8-string_bytes}
+use Rattle.std.specs.Str.{IsUtf8}
+use Rattle.outside.specs.Names.{IsName}
+use Rattle.outside.proofs.Lawful.{name_ahead}
+use Rattle.outside.proofs.name.Name.preceded_by.Goals as goal
+
+pub invariant_of-result : goal.invariant_of-result
+invariant_of-result c =
+    let own = string_bytes c.self.inside.text in
+    let has : string_bytes c.push_str.new.self ≡ c.args.front.now ++ own =
+    c.in_ok-push_str.ensures.bytes ∙ ap (λ (l : List ℕ). l ++ c.as_str.result.now) c.in_ok-text.ensures.ok ∙ ap (λ (l : List ℕ). c.args.front.now ++ l) c.as_str.ensures.value in
+    subst (λ (l : List ℕ). IsName l) (sym has) (name_ahead c.args.front.now own c.requires c.self.invariant (subst (λ (l : List ℕ). IsUtf8 l) has (IsUtf8-string_bytes c.push_str.new.self)))
