@@ -113,7 +113,7 @@ pub fn copy_backup<T: Tree>(tree: &mut T, from: &Name, temp: &Name, to: &Name) -
     copy_to_temp(tree, from, temp, to)
 }
 
-// The same, by way of the temporary.
+// Copies to the temporary, and puts it.
 fn copy_to_temp<T: Tree>(tree: &mut T, from: &Name, temp: &Name, to: &Name) -> Result<(), Failed>
     requires temporary { is_temp temp.now ≡ true }
     requires lasting_from { is_temp from.now ≡ false }

@@ -1,3 +1,4 @@
+//! Each call over a tree in memory, and calls that fail.
 use crate::{TempSink, begin_temp, copy_backup, put_whole, remove_name};
 use mem_world::MemTree;
 use outside::{Name, Sink, put_all};
