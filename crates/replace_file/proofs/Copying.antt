@@ -1,13 +1,13 @@
 -- A file that is copied piece by piece.
-use Rattle.std.proofs.Common.{◌≡◌, ◌≢◌, ◌⊎◌, ⊎_elim, ◌++◌, ◌+◌, ◌<◌, ◌≤◌, ℕ, List, [], true, false, Some, None, IsSome, Option, unwrap_or, length, take, drop, min, Result, refl, sym, ◌∙◌, ap, ap₂, subst, arith, append-nil, append_assoc, take-add, take-take, take_all}
+use Rattle.std.proofs.Common.{◌≡◌, ◌++◌, ◌+◌, ◌<◌, ◌≤◌, ℕ, List, [], true, false, Some, None, IsSome, Option, unwrap_or, length, take, drop, min, Result, refl, sym, ◌∙◌, ap, ap₂, subst, arith, append-nil, append_assoc, take-add, take-take}
 use Rattle.std.proofs.lemmas.List.{length-take, length-take-le, length-drop}
 use Rattle.std.proofs.lemmas.Option.{same_Some}
 use Rattle.std.specs.Option.{option_map}
 use Rattle.std.specs.FinMap.{get, insert}
 use Rattle.outside.specs.Files.{Files, is_temp, bytes_at}
-use Rattle.outside.specs.TreeView.{TreeView, Passes, IsCall}
+use Rattle.outside.specs.TreeView.{TreeView, IsCall}
 use Rattle.outside.specs.Calls.{Becomes, IsThere, SealsStay, IsUntouched}
-use Rattle.outside.specs.Quiet.{IsQuiet, ChangesOnly, WorksOn}
+use Rattle.outside.specs.Quiet.{IsQuiet, WorksOn}
 use Rattle.outside.proofs.Views.{told_on, told_back, untouched_quiet}
 use Rattle.outside.proofs.Quiet.{works_none, works_both}
 use Rattle.outside.proofs.Names.{apart}

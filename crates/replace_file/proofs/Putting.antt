@@ -1,13 +1,12 @@
 -- A temporary that is put at its name.
-use Rattle.std.proofs.Common.{◌≡◌, ◌≢◌, ◌⊎◌, inl, inr, ⊎_elim, ℕ, List, true, false, Option, Some, None, IsSome, unwrap_or, [], Result, Ok, Err, IsErr, OnOk, OnErr, refl, sym, ◌∙◌, ap, subst}
-use Rattle.std.proofs.lemmas.Bool.{false≢true}
+use Rattle.std.proofs.Common.{◌≡◌, inl, inr, ⊎_elim, ℕ, List, true, false, Some, None, IsSome, unwrap_or, [], Result, Ok, Err, IsErr, OnOk, OnErr, refl, sym, ◌∙◌, ap, subst}
 use Rattle.std.proofs.lemmas.Option.{same_Some}
 use Rattle.std.proofs.lemmas.Result.{on_ok_weaker}
 use Rattle.std.specs.FinMap.{get, insert, remove}
 use Rattle.outside.specs.Files.{Files, is_temp, bytes_at, moved, SameLasting, SameButTemp}
-use Rattle.outside.specs.TreeView.{TreeView, Passes, IsCall, IsRun, Rises}
+use Rattle.outside.specs.TreeView.{TreeView, Passes, IsCall, Rises}
 use Rattle.outside.specs.Calls.{Becomes, Spoils, IsThere, SealsStay, LeavesNoMore}
-use Rattle.outside.specs.Quiet.{IsQuiet, LeavesEither, IsFixed, TellsEither, LeavesEitherSince, Holds, ChangesOnly, WorksOn, MakesEffect}
+use Rattle.outside.specs.Quiet.{IsQuiet, LeavesEither, IsFixed, TellsEither, Holds, WorksOn, MakesEffect}
 use Rattle.outside.specs.Quiet.Effect.{Put}
 use Rattle.outside.proofs.Names.{apart, get-gone, get-gone_other, get-put, get-put_other, same_files, equal_or_not, lasting-both}
 use Rattle.outside.proofs.Views.{run_on, passes_both, rises_then, told_on, told_back, since_split}
@@ -71,7 +70,7 @@ module _ {R E : Type 0} (r : Result R E) (u v : TreeView) (temp to : List ℕ) (
     swapped = record {
       run = run_on call.passes fix;
       quiet = on_ok_weaker s (λ on. quiet_where_told u x (passes_both call.passes fix.passes) (λ f told.
-      fix_quiet u u v temp to (bytes_at f temp) is lasting (works_none u temp quiet) (holds_bytes u temp there f told) x same crash no_more becomes r call (sealed to tight) on)) fixed;
+          fix_quiet u u v temp to (bytes_at f temp) is lasting (works_none u temp quiet) (holds_bytes u temp there f told) x same crash no_more becomes r call (sealed to tight) on)) fixed;
       ok = on_ok s _ becomes_put;
       tells = λ f g told now. inr (put_but f g temp to (bytes_at f temp) is (same_Some _ _ (sym (becomes_put f told) ∙ now)));
       since = λ f told c left. fix_since u u v temp to (bytes_at f temp) is lasting (works_none u temp quiet) (holds_bytes u temp there f told) x same crash no_more becomes r s call fix f told c left;
@@ -123,8 +122,8 @@ module _ (u v : TreeView) (temp : List ℕ) (is : is_temp temp ≡ true) (works 
     run = record { passes = passes_both works.passes puts.run.passes; cause = λ e. rises_then u v w works.passes (puts.run.cause e) };
     quiet = puts.quiet;
     ok = on_ok_weaker r (λ becomes f told.
-    let mid = told_on f works.passes told in
-    becomes mid.0 mid.1 ∙ ap (λ (x : Files). Some x) (gone_same f mid.0 temp to (bytes f) (bytes_at mid.0 temp) (sym (is_filled f mid.0 told mid.1)) (but f mid.0 told mid.1))) puts.ok;
+        let mid = told_on f works.passes told in
+        becomes mid.0 mid.1 ∙ ap (λ (x : Files). Some x) (gone_same f mid.0 temp to (bytes f) (bytes_at mid.0 temp) (sym (is_filled f mid.0 told mid.1)) (but f mid.0 told mid.1))) puts.ok;
     tells = λ f g told now.
         let mid = told_on f works.passes told in
         let so_far = but f mid.0 told mid.1 in

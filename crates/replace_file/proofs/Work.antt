@@ -1,5 +1,5 @@
 -- Calls on a temporary name.
-use Rattle.std.proofs.Common.{◌≡◌, ◌≢◌, ⊎_elim, ℕ, List, [], ◌++◌, true, Some, unwrap_or, IsSome, Option, Result, Ok, Err, OnOk, OnErr, sym, ◌∙◌, ap, subst}
+use Rattle.std.proofs.Common.{◌≡◌, ⊎_elim, ℕ, List, [], ◌++◌, true, Some, unwrap_or, IsSome, Option, Result, Ok, Err, OnOk, OnErr, sym, ◌∙◌, ap, subst}
 use Rattle.std.proofs.lemmas.Option.{same_Some}
 use Rattle.std.specs.FinMap.{get, insert, remove}
 use Rattle.outside.specs.Files.{Files, is_temp, bytes_at}

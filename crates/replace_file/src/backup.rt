@@ -27,7 +27,13 @@ fn piece_length(left: u64) -> usize
 }
 
 // Adds as much of a file, from a place on, as the buffer takes.
-fn copy_piece<T: Tree>(tree: &mut T, from: &Name, at: u64, buffer: &mut [u8], begun: &mut Temp<'_>) -> Result<usize, Failed>
+fn copy_piece<T: Tree>(
+    tree: &mut T,
+    from: &Name,
+    at: u64,
+    buffer: &mut [u8],
+    begun: &mut Temp<'_>,
+) -> Result<usize, Failed>
     requires quiet { IsQuiet (T.view tree.old) }
     requires lasting { is_temp from.now ≡ false }
     requires there { IsThere (T.view tree.old) from.now }
@@ -46,7 +52,12 @@ fn copy_piece<T: Tree>(tree: &mut T, from: &Name, at: u64, buffer: &mut [u8], be
 }
 
 // Adds the first bytes of a file that has so many. Over a tree that tells nothing it ends where a read gives none.
-fn copy_bytes<T: Tree>(tree: &mut T, from: &Name, size: u64, begun: &mut Temp<'_>) -> Result<(), Failed>
+fn copy_bytes<T: Tree>(
+    tree: &mut T,
+    from: &Name,
+    size: u64,
+    begun: &mut Temp<'_>,
+) -> Result<(), Failed>
     requires quiet { IsQuiet (T.view tree.old) }
     requires lasting { is_temp from.now ≡ false }
     requires there { IsThere (T.view tree.old) from.now }
@@ -102,7 +113,7 @@ pub fn copy_backup<T: Tree>(tree: &mut T, from: &Name, temp: &Name, to: &Name) -
     copy_to_temp(tree, from, temp, to)
 }
 
-// The same, by way of the temporary.
+// Copies to the temporary, and puts it.
 fn copy_to_temp<T: Tree>(tree: &mut T, from: &Name, temp: &Name, to: &Name) -> Result<(), Failed>
     requires temporary { is_temp temp.now ≡ true }
     requires lasting_from { is_temp from.now ≡ false }

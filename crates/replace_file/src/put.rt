@@ -11,7 +11,7 @@ ghost use Rattle.replace_file.specs.Puts.{Puts, TellsEitherBut};
 use crate::temp::{Temp, begin_temp};
 use outside::{Failed, Name, Tree};
 
-// The bytes by way of the temporary.
+// Puts the bytes, by way of the temporary.
 fn put_bytes<T: Tree>(tree: &mut T, temp: &Name, to: &Name, bytes: &[u8]) -> Result<(), Failed>
     requires temporary { is_temp temp.now ≡ true }
     requires lasting { is_temp to.now ≡ false }
@@ -23,7 +23,7 @@ fn put_bytes<T: Tree>(tree: &mut T, temp: &Name, to: &Name, bytes: &[u8]) -> Res
     put_begun(tree, begun, to)
 }
 
-/// Puts what a temporary holds at a name.
+// Puts what a temporary holds at a name.
 pub fn put_begun<T: Tree>(tree: &mut T, begun: Temp<'_>, to: &Name) -> Result<(), Failed>
     requires there { IsThere (T.view tree.old) begun.name.now }
     requires lasting { is_temp to.now ≡ false }

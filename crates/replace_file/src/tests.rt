@@ -1,3 +1,4 @@
+//! Each call over a tree in memory, and calls that fail.
 use crate::{TempSink, begin_temp, copy_backup, put_whole, remove_name};
 use mem_world::MemTree;
 use outside::{Name, Sink, put_all};
@@ -29,7 +30,10 @@ fn files_are_put_copied_and_removed(rt: HostRuntime) -> Result<(), Fail> {
     put_whole(&mut tree, &temp, &file, &bytes)?;
     copy_backup(&mut tree, &file, &temp, &backup)?;
     assert_eq!(rt; tree.bytes_of(&file).ok_or("no file")?, bytes.as_slice());
-    assert_eq!(rt; tree.bytes_of(&backup).ok_or("no backup")?, bytes.as_slice());
+    assert_eq!(rt;
+        tree.bytes_of(&backup).ok_or("no backup")?,
+        bytes.as_slice()
+    );
     assert!(rt; tree.bytes_of(&temp).is_none());
     assert!(rt; tree.bytes_of(&file).is_some());
     remove_name(&mut tree, &file)?;
@@ -64,11 +68,24 @@ fn a_failed_call_leaves_the_file_whole(rt: HostRuntime) -> Result<(), Fail> {
     assert!(rt; temp.is_temp());
     assert!(rt; !file.is_temp());
     // The calls are start, append, seal, swap and fix_names, five for each of the two files that are put.
-    for (failing, left) in [(6, b"old"), (7, b"old"), (8, b"old"), (9, b"old"), (10, b"new")] {
+    for (failing, left) in [
+        (6, b"old"),
+        (7, b"old"),
+        (8, b"old"),
+        (9, b"old"),
+        (10, b"new"),
+    ] {
         let mut tree = MemTree::new(alloc, vec![in alloc; failing]?);
         put_whole(&mut tree, &temp, &file, b"old")?;
-        assert!(rt; put_whole(&mut tree, &temp, &file, b"new").is_err(), "call {failing}");
-        assert_eq!(rt; tree.bytes_of(&file).ok_or("no file")?, left.as_slice(), "call {failing}");
+        assert!(rt;
+            put_whole(&mut tree, &temp, &file, b"new").is_err(),
+            "call {failing}"
+        );
+        assert_eq!(rt;
+            tree.bytes_of(&file).ok_or("no file")?,
+            left.as_slice(),
+            "call {failing}"
+        );
     }
     Ok(())
 }
@@ -86,6 +103,9 @@ fn a_write_after_a_failed_one_begins_anew(rt: HostRuntime) -> Result<(), Fail> {
     put_all(&mut sink, b"three")?;
     put_all(&mut sink, b"four")?;
     let _temp = sink.into_temp();
-    assert_eq!(rt; tree.bytes_of(&temp).ok_or("no temporary")?, b"threefour".as_slice());
+    assert_eq!(rt;
+        tree.bytes_of(&temp).ok_or("no temporary")?,
+        b"threefour".as_slice()
+    );
     Ok(())
 }

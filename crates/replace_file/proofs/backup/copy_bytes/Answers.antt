@@ -1,4 +1,4 @@
-use Rattle.std.proofs.Common.{◌≡◌, ◌∙◌, ◌+◌, ◌≤◌, ℕ, List, refl, subst, arith, rules}
+use Rattle.std.proofs.Common.{◌∙◌, ◌+◌, ◌≤◌, subst, arith, rules}
 use Rattle.std.proofs.lemmas.List.{length-take}
 use Rattle.outside.specs.Calls.{SealsStay, IsThere}
 use Rattle.outside.specs.Quiet.{WorksOn}
@@ -41,8 +41,7 @@ pieces-preserved g c =
     let begun = c.args.begun.now in
     let n = begun.name.now in
     let same = c.pieces.invariant.0 in
-    let le : c.pieces.at + c.in_ok-count.count ≤ c.args.size = omega (arith, c.in_ok-count.ensures.count, length-take c.piece_length-wanted.result c.pieces.buffer, c.piece_length-wanted.ensures, c.pieces-test.true) in
-    (
+    let le : c.pieces.at + c.in_ok-count.count ≤ c.args.size = omega (arith, c.in_ok-count.ensures.count, length-take c.piece_length-wanted.result c.pieces.buffer, c.piece_length-wanted.ensures, c.pieces-test.true) in (
       c.copy_piece.ensures.name ∙ same,
       copied_more (g.T.Tree.view c.args.tree.now) v w n c.args.from.now c.pieces.at c.in_ok-count.count c.args.size begun.temporary c.requires.lasting le c.pieces.invariant.1
           (subst (λ m. WorksOn v w m) same c.copy_piece.ensures.works) (subst (λ m. SealsStay v w m) same c.copy_piece.ensures.seals)

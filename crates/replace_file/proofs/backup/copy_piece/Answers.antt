@@ -1,5 +1,4 @@
 use Rattle.std.proofs.Common.{arith}
-use Rattle.outside.proofs.Views.{untouched_quiet}
 use Rattle.outside.proofs.Quiet.{works_both}
 use Rattle.replace_file.proofs.Copying.{given, ended, reads_works, copies_piece}
 use Rattle.replace_file.proofs.backup.copy_piece.Goals as goal

@@ -1,4 +1,4 @@
-use Rattle.std.proofs.Common.{◌≡◌, ◌++◌, ◌∙◌, ℕ, List, [], refl, sym, subst}
+use Rattle.std.proofs.Common.{◌≡◌, ◌++◌, ◌∙◌, ℕ, List, refl, subst}
 use Rattle.std.specs.FinMap.{insert}
 use Rattle.outside.specs.Files.{bytes_at}
 use Rattle.outside.specs.Calls.{Becomes, SealsStay}

@@ -9,8 +9,7 @@ use Rattle.replace_file.proofs.sink.TempSinkSink.write.Goals as goal
 pub returns-in_err-mend-clause-rest : goal.returns-in_err-mend-clause-rest
 returns-in_err-mend-clause-rest g c =
     let self = c.args.self.now in
-    let stands = g.met.T.Tree.told_may_stay in
-    (
+    let stands = g.met.T.Tree.told_may_stay in (
       refl,
       refl,
       works_around (g.T.Tree.view self.tree.now) (g.T.Tree.view c.mend.new.tree) self.temp.name.now self.temp.temporary self.quiet (stands self.tree.now) (stands c.mend.new.tree) c.mend.ensures.works c.mend.ensures.seals,
@@ -23,8 +22,7 @@ returns-in-Ok-clause-rest g c =
     let v = g.T.Tree.view c.mend.new.tree in
     let w = g.T.Tree.view c.put.new.tree in
     let n = self.temp.name.now in
-    let stands = g.met.T.Tree.told_may_stay in
-    (
+    let stands = g.met.T.Tree.told_may_stay in (
       refl,
       c.put.ensures.name,
       works_around u w n self.temp.temporary self.quiet (stands self.tree.now) (stands c.put.new.tree) (works_both u v w n self.temp.temporary c.mend.ensures.works (c.put.ensures.works c.mend.ensures.works.quiet)) (stays_both u v w n c.mend.ensures.seals c.put.ensures.seals),
@@ -37,8 +35,7 @@ returns-in-Err-clause-rest g c =
     let v = g.T.Tree.view c.mend.new.tree in
     let w = g.T.Tree.view c.put.new.tree in
     let n = self.temp.name.now in
-    let stands = g.met.T.Tree.told_may_stay in
-    (
+    let stands = g.met.T.Tree.told_may_stay in (
       refl,
       c.put.ensures.name,
       works_around u w n self.temp.temporary self.quiet (stands self.tree.now) (stands c.put.new.tree) (works_both u v w n self.temp.temporary c.mend.ensures.works (c.put.ensures.works c.mend.ensures.works.quiet)) (stays_both u v w n c.mend.ensures.seals c.put.ensures.seals),
