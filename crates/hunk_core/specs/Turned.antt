@@ -27,6 +27,10 @@ abbrev pub turned : Side → PlainHunk → PlainHunk
 turned Forward c = c
 turned Reversed c = swapped c
 
+-- a hunk taken from a side, with these starts
+abbrev pub taken : Side → ℕ → ℕ → PlainHunk → PlainHunk
+taken side old_start new_start h = record { old_start = old_start; new_start = new_start; body = (turned side h).body }
+
 abbrev pub other_side : Side → Side
 other_side Forward = Reversed
 other_side Reversed = Forward

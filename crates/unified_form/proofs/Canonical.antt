@@ -12,15 +12,17 @@ use Rattle.num_text.specs.Numbers.{decimal, is_digit, AllDigits}
 use Rattle.hunk_core.specs.declared.Mark.{Mark}
 use Rattle.hunk_core.specs.declared.Mark.TheVariants.{Keep, Drop, Add}
 use Rattle.hunk_core.specs.PlainHunk.{Marked, PlainHunk}
-use Rattle.unified_form.specs.Bodies.{marked, after_backslash, is_backslash, is_last_line, unended}
-use Rattle.unified_form.specs.Ranges.{after}
+use Rattle.unified_form.specs.Bodies.{is_last_line}
+use Rattle.hunk_core.specs.LineTests.{marked, after_backslash, is_backslash, unended}
+use Rattle.hunk_core.specs.LineTests.{after}
 use Rattle.unified_form.specs.Grammar.{mark_byte, counts_of, SpellsLine, SpellsBody, SpellsRange, SpellsHunk}
-use Rattle.unified_form.specs.Canonical.{range_text, range_line_text, no_newline, ends_line, line_lines, body_lines, hunk_lines, canonical, LinesFit, IsHunk}
+use Rattle.unified_form.specs.Canonical.{range_text, range_line_text, no_newline, line_lines, body_lines, hunk_lines, canonical, LinesFit, IsHunk}
+use Rattle.hunk_core.specs.LineTests.{ends_line}
 use Rattle.hunk_core.specs.Reading.{ahead}
 use Rattle.unified_form.specs.Hunks.{hunk_at}
 use Rattle.unified_form.proofs.Pieces.{hunk_again}
 use Rattle.num_text.proofs.Decimal.{decimal-numeral}
-use Rattle.unified_form.proofs.Steps.{chosen}
+use Rattle.hunk_core.proofs.ReadSteps.{chosen}
 
 pub range-spelled : (start count : ℕ) → SpellsRange (range_text start count) start count
 range-spelled start count =

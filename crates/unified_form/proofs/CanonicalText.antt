@@ -5,10 +5,11 @@ use Rattle.std.proofs.lemmas.List.Concat.{flat_map-cons, flat_map-append}
 use Rattle.line_list.specs.Lines.{lines}
 use Rattle.hunk_core.specs.PlainHunk.{Marked, PlainHunk}
 use Rattle.hunk_core.specs.Reading.{ahead}
-use Rattle.unified_form.specs.Bodies.{after_backslash}
+use Rattle.hunk_core.specs.LineTests.{after_backslash}
 use Rattle.unified_form.specs.Hunks.{hunk_at}
 use Rattle.unified_form.specs.Grammar.{mark_byte, counts_of}
-use Rattle.unified_form.specs.Canonical.{range_line_text, no_newline, ends_line, line_lines, body_lines, hunk_lines, canonical, IsHunk}
+use Rattle.unified_form.specs.Canonical.{range_line_text, no_newline, line_lines, body_lines, hunk_lines, canonical, IsHunk}
+use Rattle.hunk_core.specs.LineTests.{ends_line}
 use Rattle.unified_form.specs.Writing.{line_text, hunk_text}
 use Rattle.unified_form.proofs.Canonical.{canonical-read}
 

@@ -6,7 +6,7 @@ use Rattle.hunk_core.specs.declared.fault.FormFault.TheVariants as errors
 use Rattle.hunk_core.specs.PlainHunk.{PlainHunk}
 use Rattle.hunk_core.specs.Reading.{◌>>=◌, Fault, Fails, Ahead}
 use Rattle.unified_form.specs.Hunks.{hunk_at, hunks_at, begins_hunk}
-use Rattle.unified_form.proofs.Loops.{with_front, regroup}
+use Rattle.hunk_core.proofs.ReadSteps.{with_front, regroup}
 use Rattle.unified_form.proofs.Steps.{hunk-shrinks}
 
 -- these hunks were read, and what is left gives the whole

@@ -4,7 +4,8 @@ use Rattle.hunk_core.specs.PlainHunk.{Marked, PlainHunk}
 use Rattle.hunk_core.specs.Reading.{◌>>=◌, Fault, Ahead, ahead}
 use Rattle.unified_form.specs.declared.body.Left.{Left}
 use Rattle.unified_form.specs.Ranges.{opening}
-use Rattle.unified_form.specs.Bodies.{is_backslash, after_backslash, is_last_line, marked_at, room_at, ended_by, first_line, line_at, body_at}
+use Rattle.unified_form.specs.Bodies.{is_last_line, marked_at, room_at, ended_by, first_line, line_at, body_at}
+use Rattle.hunk_core.specs.LineTests.{is_backslash, after_backslash}
 use Rattle.unified_form.specs.Hunks.{at_line, left_of, change, settled, first_hunk}
 
 -- the value of a step that did not fail

@@ -13,8 +13,10 @@ use Rattle.hunk_core.specs.declared.Hunk.{Hunk}
 use Rattle.hunk_core.specs.PlainHunk.{marked_of, body_of, hunk_of}
 use Rattle.unified_form.specs.declared.body.Left.{Left}
 use Rattle.unified_form.specs.Grammar.{one_more, counts_of}
-use Rattle.unified_form.specs.Canonical.{range_line_text, ends_line}
-use Rattle.unified_form.specs.Writing.{taken, hunk_text, other_side, taken_mark, taken_line, line_text}
+use Rattle.unified_form.specs.Canonical.{range_line_text}
+use Rattle.hunk_core.specs.LineTests.{ends_line}
+use Rattle.unified_form.specs.Writing.{hunk_text, taken_mark, taken_line, line_text}
+use Rattle.hunk_core.specs.Turned.{taken, other_side}
 
 pub ends-last : (line : List ℕ) → 0 < length line → eqb (get_or line (length line - 1) 0) 10 ≡ ends_line line
 ends-last [] lt = absurd (omega arith)

@@ -6,7 +6,7 @@ use Rattle.hunk_core.specs.declared.BadKind.TheVariants as kinds
 use Rattle.hunk_core.specs.PlainHunk.{Marked}
 use Rattle.hunk_core.specs.Reading.{Fault, fault, ◌>>=◌, Ahead, ahead}
 use Rattle.unified_form.specs.declared.body.Left.{Left}
-use Rattle.unified_form.specs.Ranges.{after}
+use Rattle.hunk_core.specs.LineTests.{after}
 
 abbrev pub marked : Mark → List ℕ → Marked
 marked mark line = record { mark = mark; line = line }

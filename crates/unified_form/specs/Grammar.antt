@@ -7,7 +7,8 @@ use Rattle.unified_form.specs.declared.body.Left.{Left}
 use Rattle.unified_form.specs.declared.range.Ranges.{Ranges}
 use Rattle.num_text.specs.Numbers.{IsNumeral}
 use Rattle.unified_form.specs.Ranges.{Fits}
-use Rattle.unified_form.specs.Bodies.{marked, unended, is_backslash, after_backslash, is_last_line}
+use Rattle.unified_form.specs.Bodies.{is_last_line}
+use Rattle.hunk_core.specs.LineTests.{marked, unended, is_backslash, after_backslash}
 use Rattle.unified_form.specs.Hunks.{begins_hunk}
 
 abbrev pub mark_byte : Mark → ℕ

@@ -7,7 +7,8 @@ use Rattle.hunk_core.specs.Reading.{Fault, fault, ◌>>=◌, Ahead, ahead}
 use Rattle.unified_form.specs.declared.range.Ranges.{Ranges}
 use Rattle.unified_form.specs.declared.body.Left.{Left}
 use Rattle.unified_form.specs.Ranges.{opening, is_opening}
-use Rattle.unified_form.specs.Bodies.{after_backslash, body_at}
+use Rattle.unified_form.specs.Bodies.{body_at}
+use Rattle.hunk_core.specs.LineTests.{after_backslash}
 
 abbrev pub at_line : ℕ → Result Ranges BadKind → Result Ranges Fault
 at_line number (Ok r) = Ok r

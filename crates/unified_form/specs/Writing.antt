@@ -8,7 +8,8 @@ use Rattle.hunk_core.specs.declared.Side.TheVariants.{Forward, Reversed}
 use Rattle.hunk_core.specs.declared.HunkLine.{HunkLine}
 use Rattle.hunk_core.specs.PlainHunk.{Marked, PlainHunk}
 use Rattle.unified_form.specs.Grammar.{mark_byte, counts_of}
-use Rattle.unified_form.specs.Canonical.{range_line_text, no_newline, ends_line}
+use Rattle.unified_form.specs.Canonical.{range_line_text, no_newline}
+use Rattle.hunk_core.specs.LineTests.{ends_line}
 
 pub record IsWithin (text : List ℕ) (l : HunkLine) : Type 0 where
   pub order : l.span.start ≤ l.span.end

@@ -5,7 +5,7 @@ ghost use Rattle.line_list.specs.Lines.{lines};
 ghost use Rattle.hunk_core.specs.PlainHunk.{PlainHunk, hunk_of, hunks_of};
 ghost use Rattle.hunk_core.specs.Reading.{Gives, IsPlace, ahead_of};
 ghost use Rattle.unified_form.specs.Grammar.{IsPiece};
-ghost use Rattle.unified_form.specs.Views.{read_of, these};
+ghost use Rattle.hunk_core.specs.Pieces.{read_of, these};
 ghost use Rattle.unified_form.specs.Hunks.{hunk_at, begins_hunk, reading};
 
 use crate::body::{Left, backslash_end, bad, read_body};

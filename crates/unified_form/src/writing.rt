@@ -4,10 +4,12 @@ ghost use Rattle.std.specs.Prelude.{◌≡◌, ℕ, List, None, ◌<◌, ◌≤�
 ghost use Rattle.hunk_core.specs.PlainHunk.{hunk_of, marked_of};
 ghost use Rattle.unified_form.specs.Grammar.{mark_byte};
 ghost use Rattle.line_list.specs.Lines.{lines};
-ghost use Rattle.unified_form.specs.Bodies.{after_backslash};
+ghost use Rattle.hunk_core.specs.LineTests.{after_backslash};
 ghost use Rattle.unified_form.specs.Views.{IsReadAgain};
-ghost use Rattle.unified_form.specs.Canonical.{IsHunk, range_text, range_line_text, ends_line};
-ghost use Rattle.unified_form.specs.Writing.{IsWithin, other_side, taken_mark, taken_line, taken, line_text, hunk_text};
+ghost use Rattle.unified_form.specs.Canonical.{IsHunk, range_text, range_line_text};
+ghost use Rattle.hunk_core.specs.LineTests.{ends_line};
+ghost use Rattle.unified_form.specs.Writing.{IsWithin, taken_mark, taken_line, line_text, hunk_text};
+ghost use Rattle.hunk_core.specs.Turned.{other_side, taken};
 
 use hunk_core::{Hunk, HunkLine, Mark, Side};
 use num_text::put_number;

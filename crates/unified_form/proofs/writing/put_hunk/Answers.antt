@@ -1,5 +1,5 @@
 use Rattle.hunk_core.specs.PlainHunk.{hunk_of}
-use Rattle.unified_form.specs.Writing.{taken}
+use Rattle.hunk_core.specs.Turned.{taken}
 use Rattle.unified_form.proofs.CanonicalText.{text-read}
 use Rattle.unified_form.proofs.writing.put_hunk.Goals as goal
 
