@@ -27,6 +27,14 @@ abbrev pub turned : Side → PlainHunk → PlainHunk
 turned Forward c = c
 turned Reversed c = swapped c
 
+-- a line of a hunk as it is taken from a side
+abbrev pub taken_mark : Side → Mark → Mark
+taken_mark Forward mark = mark
+taken_mark Reversed mark = swapped_mark mark
+
+abbrev pub taken_line : Side → Marked → Marked
+taken_line side m = record { mark = taken_mark side m.mark; line = m.line }
+
 -- a hunk taken from a side, with these starts
 abbrev pub taken : Side → ℕ → ℕ → PlainHunk → PlainHunk
 taken side old_start new_start h = record { old_start = old_start; new_start = new_start; body = (turned side h).body }

@@ -6,7 +6,7 @@ use Rattle.hunk_core.specs.declared.fault.FormFault.TheVariants as errors
 use Rattle.hunk_core.specs.PlainHunk.{PlainHunk}
 use Rattle.hunk_core.specs.Reading.{◌>>=◌, Fault, Fails, Ahead}
 use Rattle.unified_form.specs.Hunks.{hunk_at, hunks_at, begins_hunk}
-use Rattle.hunk_core.proofs.ReadSteps.{with_front, regroup}
+use Rattle.hunk_core.proofs.ReadSteps.{with_front, front_none, regroup}
 use Rattle.unified_form.proofs.Steps.{hunk-shrinks}
 
 -- these hunks were read, and what is left gives the whole
@@ -17,10 +17,6 @@ pub record HunksSoFar (front : List PlainHunk) (least : ℕ) (p : Ahead) (total 
 
 pub hunks_begin : (least : ℕ) (p : Ahead) → HunksSoFar [] least p (hunks_at (length p.rest) least p)
 hunks_begin least p = record { most = length p.rest; enough = omega arith; same = front_none (hunks_at (length p.rest) least p) }
-  where
-    front_none : (read : Result (List PlainHunk × Ahead) Fault) → with_front [] read ≡ read
-    front_none (Ok x) = refl
-    front_none (Err f) = refl
 
 some_lines : (rest : List (List ℕ)) → begins_hunk rest ≡ true → 0 < length rest
 some_lines [] h = absurd cc

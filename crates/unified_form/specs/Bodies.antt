@@ -4,12 +4,10 @@ use Rattle.hunk_core.specs.declared.Mark.{Mark}
 use Rattle.hunk_core.specs.declared.Mark.TheVariants.{Keep, Drop, Add}
 use Rattle.hunk_core.specs.declared.BadKind.TheVariants as kinds
 use Rattle.hunk_core.specs.PlainHunk.{Marked}
+use Rattle.hunk_core.specs.LineTests.{marked, unended, is_backslash, after_backslash}
 use Rattle.hunk_core.specs.Reading.{Fault, fault, ◌>>=◌, Ahead, ahead}
 use Rattle.unified_form.specs.declared.body.Left.{Left}
 use Rattle.hunk_core.specs.LineTests.{after}
-
-abbrev pub marked : Mark → List ℕ → Marked
-marked mark line = record { mark = mark; line = line }
 
 -- a mark, and what stands behind it; an empty line is an empty line that is kept
 abbrev pub mark_at : List ℕ → Option Marked
@@ -19,15 +17,6 @@ mark_at (b ∷ bytes) = if b == 32 then Some (marked Keep bytes)
     else if b == 43 then Some (marked Add bytes)
     else if b == 10 then Some (marked Keep (b ∷ bytes))
     else None
-
--- a backslash and a space
-abbrev pub is_backslash : List ℕ → Bool
-is_backslash line = is_some (after (92 ∷ 32 ∷ []) line)
-
--- what stands after a backslash line, if there is one
-abbrev pub after_backslash : List (List ℕ) → Option (List (List ℕ))
-after_backslash [] = None
-after_backslash (line ∷ rest) = if is_backslash line then Some rest else None
 
 abbrev pub must_be_marked : ℕ → List ℕ → Option Marked → Result Marked Fault
 must_be_marked number line (Some m) = Ok m
@@ -47,10 +36,6 @@ abbrev pub is_last_line : Mark → Left → Bool
 is_last_line Keep left = left.old == 0 && left.new == 0
 is_last_line Drop left = left.old == 0
 is_last_line Add left = left.new == 0
-
--- the line without its line feed
-abbrev pub unended : Marked → Marked
-unended m = marked m.mark (take (length m.line - 1) m.line)
 
 -- a line with what is left, and whether a backslash line follows it
 abbrev pub ended_by : ℕ → Marked → Left → List (List ℕ) → Option (List (List ℕ)) → Result (Marked × Left × Ahead) Fault

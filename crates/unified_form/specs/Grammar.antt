@@ -65,7 +65,7 @@ pub record SpellsRanges (line : List ℕ) (r : Ranges) : Type 0 where
   pub new_range : SpellsRange new r.new_start r.new_count
 
 -- no range of lines starts at 0, no number is too large, some line is counted, and the old start is not below the least
-pub record IsLawful (least : ℕ) (r : Ranges) : Type 0 where
+pub record AreFair (least : ℕ) (r : Ranges) : Type 0 where
   pub old_begins : r.old_start ≡ 0 → r.old_count ≡ 0
   pub new_begins : r.new_start ≡ 0 → r.new_count ≡ 0
   pub fits : Fits r
@@ -75,7 +75,7 @@ pub record IsLawful (least : ℕ) (r : Ranges) : Type 0 where
 -- these lines are this hunk, behind one that starts at least
 abbrev pub SpellsHunk : ℕ → List (List ℕ) → PlainHunk → Type 0
 SpellsHunk least [] h = ⊥
-SpellsHunk least (line ∷ rest) h = SpellsRanges line (ranges_of h) × IsLawful least (ranges_of h) × SpellsBody rest h.body
+SpellsHunk least (line ∷ rest) h = SpellsRanges line (ranges_of h) × AreFair least (ranges_of h) × SpellsBody rest h.body
 
 abbrev pub SpellsHunks : ℕ → List (List ℕ) → List PlainHunk → Type 0
 SpellsHunks least piece [] = piece ≡ []

@@ -1,30 +1,20 @@
 //! Hunks that follow each other.
 
-ghost use Rattle.std.specs.Prelude.{◌≡◌, ℕ, List, true, ◌+◌, ◌<◌, ◌≤◌, ◌^◌, length, drop, IfOk};
+ghost use Rattle.std.specs.Prelude.{◌≡◌, ℕ, List, true, None, ◌+◌, ◌<◌, ◌≤◌, ◌^◌, length, drop, slice_range, IfOk};
 ghost use Rattle.line_list.specs.Lines.{lines};
 ghost use Rattle.hunk_core.specs.PlainHunk.{PlainHunk, hunk_of, hunks_of};
 ghost use Rattle.hunk_core.specs.Reading.{Gives, IsPlace, ahead_of};
-ghost use Rattle.unified_form.specs.Grammar.{IsPiece};
-ghost use Rattle.hunk_core.specs.Pieces.{read_of, these};
+ghost use Rattle.hunk_core.specs.Turned.{IsLawful};
+ghost use Rattle.hunk_core.specs.Rules.{first_broken};
+ghost use Rattle.unified_form.specs.Grammar.{IsPiece, SpellsHunk};
+ghost use Rattle.hunk_core.specs.Pieces.{read_of, these, AreInTurn, SpellInTurn, AreSound};
 ghost use Rattle.unified_form.specs.Hunks.{hunk_at, begins_hunk, reading};
 
-use crate::body::{Left, backslash_end, bad, read_body};
+use crate::body::{Left, read_body};
 use crate::range::{opening_of, opens_hunk};
-use hunk_core::{BadKind, FormFault, Hunk, Place};
+use hunk_core::{BadKind, FormFault, Hunk, Hunks, Place, backslash_end, bad};
 use line_list::{Span, next_line};
 use std::alloc::Global;
-
-/// Hunks that were read.
-#[derive(Debug, Drop)]
-pub struct Hunks {
-    pub items: Vec<Hunk>,
-    /// The pieces of the text that the hunks stand in.
-    pub spans: Vec<Span>,
-    /// The place after the last hunk.
-    pub end: usize,
-    /// The number of the line there.
-    pub next: u64,
-}
 
 /// Whether a hunk opens at `at`.
 pub fn at_opening(text: &[u8], at: usize) -> bool
@@ -47,6 +37,9 @@ fn read_hunk(
 ) -> Result<(Hunk, Place), FormFault>
     requires { IsPlace text.now place }
     ensures place { IfOk result (λ x. IsPlace text.now x.1 × (place.at < x.1.at)) }
+    ensures piece { IfOk result (λ x. SpellsHunk least (lines (slice_range text.now place.at x.1.at)) (hunk_of text.now x.0)) }
+    ensures lawful { IfOk result (λ x. IsLawful text.now x.0) }
+    ensures unbroken { IfOk result (λ x. first_broken (hunk_of text.now x.0) ≡ None) }
     ensures exact { Gives (λ x. (hunk_of text.now x.0, ahead_of text.now x.1)) result (hunk_at least (ahead_of text.now place)) }
 {
     let number = place.number;
@@ -87,6 +80,9 @@ fn read_all(alloc: Global, text: &[u8], at: usize, line: u64) -> Result<Hunks, F
     requires within { at ≤ length text.now }
     requires small { line < 2 ^ 32 }
     ensures within { IfOk result (λ h. h.end ≤ length text.now) }
+    ensures turn { IfOk result (λ h. AreInTurn at h.spans.items h.end) }
+    ensures pieces { IfOk result (λ h. SpellInTurn SpellsHunk text.now 0 h.spans.items (hunks_of text.now h.items.items)) }
+    ensures sound { IfOk result (λ h. AreSound text.now h) }
     ensures exact { Gives (read_of text.now) result
         (reading line (lines (drop at text.now))) }
 {
@@ -119,6 +115,11 @@ pub fn read_hunks(alloc: Global, text: &[u8], at: usize, line: u64) -> Result<Hu
     requires opens { begins_hunk (lines (drop at text.now)) ≡ true }
     requires small { line < 2 ^ 32 }
     ensures within { IfOk result (λ h. h.end ≤ length text.now) }
+    // The spans are the pieces of the hunks, one behind the other from `at` up to the end.
+    ensures turn { IfOk result (λ h. AreInTurn at h.spans.items h.end) }
+    ensures pieces { IfOk result (λ h. SpellInTurn SpellsHunk text.now 0 h.spans.items (hunks_of text.now h.items.items)) }
+    // Each hunk is lawful over the text, and breaks none of the rules of `Hunk::check`.
+    ensures sound { IfOk result (λ h. AreSound text.now h) }
     // What is read is spelled so, by the lines up to the end, and no hunk nor backslash line stands there.
     ensures found { IfOk result (λ h. IsPiece line (lines (drop at text.now)) (hunks_of text.now h.items.items) h.next (lines (drop h.end text.now))) }
     // What is spelled so is read, unless memory runs out.
