@@ -217,7 +217,7 @@ some_left Keep room = grind arith
 some_left Drop room = grind arith
 some_left Add room = grind arith
 
-one_line : (mark : Mark) (room : Left) → 0 < (one_more mark room).old + (one_more mark room).new
+pub one_line : (mark : Mark) (room : Left) → 0 < (one_more mark room).old + (one_more mark room).new
 one_line Keep room = omega arith
 one_line Drop room = omega arith
 one_line Add room = omega arith

@@ -110,7 +110,7 @@ opening_quiet : (rest : List (List ℕ)) → begins_hunk rest ≡ true → after
 opening_quiet [] e = refl
 opening_quiet (line ∷ rest) e = rw (opening_first line e) refl
 
-hunk_opens : (least : ℕ) (own tail : List (List ℕ)) (h : PlainHunk) → SpellsHunk least own h → begins_hunk (own ++ tail) ≡ true
+pub hunk_opens : (least : ℕ) (own tail : List (List ℕ)) (h : PlainHunk) → SpellsHunk least own h → begins_hunk (own ++ tail) ≡ true
 hunk_opens least [] tail h s = absurd s
 hunk_opens least (line ∷ lines) tail h s = opens least line (ranges_of h) (opening-again least line (ranges_of h) s.0 s.1)
 

@@ -27,9 +27,9 @@ pub fn at_opening(text: &[u8], at: usize) -> bool
     }
 }
 
-/// A hunk whose old start is at least `least`.
+/// A hunk whose old start is at least `least`, with the place after it.
 #[tactic(auto, unfolding(crate::specs::Hunks::first_hunk))]
-fn read_hunk(
+fn take_hunk(
     alloc: Global,
     text: &[u8],
     least: u64,
@@ -37,9 +37,7 @@ fn read_hunk(
 ) -> Result<(Hunk, Place), FormFault>
     requires { IsPlace text.now place }
     ensures place { IfOk result (λ x. IsPlace text.now x.1 × (place.at < x.1.at)) }
-    ensures piece { IfOk result (λ x. SpellsHunk least (lines (slice_range text.now place.at x.1.at)) (hunk_of text.now x.0)) }
     ensures lawful { IfOk result (λ x. IsLawful text.now x.0) }
-    ensures unbroken { IfOk result (λ x. first_broken (hunk_of text.now x.0) ≡ None) }
     ensures exact { Gives (λ x. (hunk_of text.now x.0, ahead_of text.now x.1)) result (hunk_at least (ahead_of text.now place)) }
 {
     let number = place.number;
@@ -72,6 +70,23 @@ fn read_hunk(
         body,
     };
     Ok((hunk, next))
+}
+
+/// The same, with what its piece of the text is.
+fn read_hunk(
+    alloc: Global,
+    text: &[u8],
+    least: u64,
+    place: Place,
+) -> Result<(Hunk, Place), FormFault>
+    requires { IsPlace text.now place }
+    ensures place { IfOk result (λ x. IsPlace text.now x.1 × (place.at < x.1.at)) }
+    ensures piece { IfOk result (λ x. SpellsHunk least (lines (slice_range text.now place.at x.1.at)) (hunk_of text.now x.0)) }
+    ensures lawful { IfOk result (λ x. IsLawful text.now x.0) }
+    ensures unbroken { IfOk result (λ x. first_broken (hunk_of text.now x.0) ≡ None) }
+    ensures exact { Gives (λ x. (hunk_of text.now x.0, ahead_of text.now x.1)) result (hunk_at least (ahead_of text.now place)) }
+{
+    take_hunk(alloc, text, least, place)
 }
 
 /// The hunks that follow each other, by reading on.
