@@ -1,10 +1,9 @@
 -- The lines that a reader took are the lines of the piece of the text.
-use Rattle.std.proofs.Common.{◌≡◌, ℕ, ◌+◌, ◌-◌, ◌≤◌, ◌<◌, List, [], ◌∷◌, ◌++◌, length, take, drop, slice_range, refl, sym, ap, subst, ◌∙◌, arith, inl, inr}
-use Rattle.std.specs.List.{flat_map}
+use Rattle.std.proofs.Common.{◌≡◌, ℕ, ◌-◌, ◌≤◌, ◌<◌, List, [], ◌∷◌, ◌++◌, length, take, drop, slice_range, refl, sym, ap, subst, ◌∙◌, arith, inl}
 use Rattle.std.proofs.Math.Seq.{take-append_seam}
 use Rattle.std.proofs.lemmas.List.{length-append, length-drop}
 use Rattle.std.proofs.lemmas.List.Concat.{flat_map-append}
-use Rattle.line_list.specs.Lines.{lines, IsLine, ArePieces}
+use Rattle.line_list.specs.Lines.{lines, ArePieces}
 use Rattle.line_list.specs.declared.Span.{Span}
 use Rattle.hunk_core.specs.PlainHunk.{PlainHunk, bytes_at}
 use Rattle.hunk_core.specs.Pieces.{AreInTurn, SpellInTurn}
@@ -32,7 +31,7 @@ same-width text at next own le high e =
 pub piece-lines : (text : List ℕ) (at next : ℕ) (own : List (List ℕ)) → at ≤ next → next ≤ length text → lines (drop at text) ≡ own ++ lines (drop next text) → lines (slice_range text at next) ≡ own
 piece-lines text at next own le high e =
     let whole : drop at text ≡ joined own ++ drop next text =
-      sym (lines-joined (drop at text)) ∙ ap joined e ∙ flat_map-append (λ line. line) own (lines (drop next text)) ∙ ap (λ bs. joined own ++ bs) (lines-joined (drop next text)) in
+    sym (lines-joined (drop at text)) ∙ ap joined e ∙ flat_map-append (λ line. line) own (lines (drop next text)) ∙ ap (λ bs. joined own ++ bs) (lines-joined (drop next text)) in
     ap lines (same-width text at next (joined own) le high whole)
     ∙ pieces-only own (pieces-first own (lines (drop next text)) (subst ArePieces e (lines-pieces (drop at text))))
 

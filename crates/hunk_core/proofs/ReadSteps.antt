@@ -1,5 +1,5 @@
 -- Steps of reading that did not fail, and one thing read after the other.
-use Rattle.std.proofs.Common.{◌≡◌, ℕ, ◌⊎◌, Bool, true, false, cond, List, [], ◌∷◌, ◌++◌, Option, None, Some, Result, Ok, Err, refl, ap, append_assoc, inl, inr}
+use Rattle.std.proofs.Common.{◌≡◌, ◌⊎◌, Bool, true, false, cond, List, [], ◌∷◌, ◌++◌, Option, Some, Result, Ok, Err, refl, ap, append_assoc, inl, inr}
 use Rattle.hunk_core.specs.Reading.{◌>>=◌, Fault, Ahead}
 
 -- the value of a step that did not fail

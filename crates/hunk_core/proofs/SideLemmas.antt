@@ -1,9 +1,8 @@
 -- The lines of a body on a side, one after the other.
-use Rattle.std.proofs.Common.{◌≡◌, ℕ, zero, suc, ◌+◌, ◌-◌, ◌<◌, Bool, true, false, cond, ◌||◌, not, List, [], ◌∷◌, length, get_or, take, drop, map, refl, sym, ap, ◌∙◌, arith}
+use Rattle.std.proofs.Common.{◌≡◌, ℕ, ◌+◌, ◌<◌, Bool, true, false, cond, ◌||◌, not, List, [], ◌∷◌, length, get_or, drop, map, refl, sym, ap, ◌∙◌, arith}
 use Rattle.std.proofs.lemmas.List.{drop_more}
 use Rattle.std.proofs.lemmas.List.Recursion.{is_count_by}
-use Rattle.std.specs.Prelude.{filter, count_by}
-use Rattle.line_list.specs.declared.Span.{Span}
+use Rattle.std.specs.Prelude.{filter}
 use Rattle.hunk_core.specs.declared.Mark.{Mark}
 use Rattle.hunk_core.specs.declared.Mark.TheVariants.{Keep, Drop, Add}
 use Rattle.hunk_core.specs.declared.Side.{Side}
@@ -55,7 +54,7 @@ one_on false x xs = refl
 pub lines-counted : (text : List ℕ) (side : Side) (ls : List HunkLine) → length (lines_on side (body_of text ls)) ≡ taken_count side ls
 lines-counted text side ls =
     is_count_by (λ (xs : List HunkLine). length (lines_on side (body_of text xs))) (λ l. is_on_side side l.mark) refl
-      (λ x xs. one_on (is_on_side side x.mark) (marked_of text x) (filter (λ m. is_on_side side m.mark) (body_of text xs))) ls
+    (λ x xs. one_on (is_on_side side x.mark) (marked_of text x) (filter (λ m. is_on_side side m.mark) (body_of text xs))) ls
 
 -- ---- from the line at an index on
 

@@ -1,14 +1,13 @@
 -- A hunk taken from one of its sides, and what its place is counted from.
-use Rattle.std.specs.Prelude.{ℕ, ◌+◌, ◌-◌, ◌<◌, ◌≤◌, ◌^◌, ◌==◌, if◌then◌else◌, Bool, true, false, List, [], ◌∷◌, length, map, filter, count_by, reverse, All}
+use Rattle.std.specs.Prelude.{ℕ, ◌+◌, ◌<◌, ◌≤◌, ◌^◌, ◌==◌, if◌then◌else◌, Bool, true, false, List, length, map, reverse, All}
 use Rattle.std.specs.List.{prefix_len}
 use Rattle.line_list.specs.declared.Span.{Span}
 use Rattle.hunk_core.specs.declared.Mark.{Mark}
 use Rattle.hunk_core.specs.declared.Mark.TheVariants.{Keep, Drop, Add}
 use Rattle.hunk_core.specs.declared.Side.{Side}
 use Rattle.hunk_core.specs.declared.Side.TheVariants.{Forward, Reversed}
-use Rattle.hunk_core.specs.declared.HunkLine.{HunkLine}
 use Rattle.hunk_core.specs.declared.Hunk.{Hunk}
-use Rattle.hunk_core.specs.PlainHunk.{Marked, PlainHunk, hunk_of, old_lines, new_lines}
+use Rattle.hunk_core.specs.PlainHunk.{Marked, PlainHunk, old_lines}
 
 abbrev pub swapped_mark : Mark → Mark
 swapped_mark Keep = Keep

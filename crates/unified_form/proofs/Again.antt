@@ -1,9 +1,8 @@
 -- The canonical text of a hunk that breaks no rule is read as that hunk.
-use Rattle.std.proofs.Common.{◌≡◌, ◌≢◌, ◌⊎◌, ℕ, zero, suc, ◌+◌, ◌-◌, ◌≤◌, ◌<◌, Bool, true, false, cond, not, eqb, ltb, ◌&&◌, ◌||◌, List, [], ◌∷◌, ◌++◌, length, take, map, Option, None, Some, Ok, refl, sym, ap, subst, ◌∙◌, arith, inl, inr}
+use Rattle.std.proofs.Common.{◌≡◌, ◌≢◌, ◌⊎◌, ℕ, suc, ◌+◌, ◌-◌, ◌<◌, Bool, true, false, cond, not, eqb, ◌||◌, List, [], ◌∷◌, ◌++◌, length, take, map, Option, None, Some, Ok, refl, sym, ap, subst, ◌∙◌, arith, inl, inr}
 use Rattle.std.specs.Prelude.{filter}
 use Rattle.std.specs.List.{AllByRecursion}
 use Rattle.std.proofs.lemmas.Bool.{eqb-true, eqb-false, ltb-false}
-use Rattle.std.proofs.lemmas.List.{length-append}
 use Rattle.line_list.specs.Lines.{lines, IsLine}
 use Rattle.hunk_core.specs.declared.Mark.{Mark}
 use Rattle.hunk_core.specs.declared.Mark.TheVariants.{Keep, Drop, Add}
@@ -18,7 +17,7 @@ use Rattle.hunk_core.specs.Reading.{◌>>=◌, Ahead, ahead}
 use Rattle.hunk_core.proofs.ReadSteps.{bind_ok, ok_is}
 use Rattle.unified_form.specs.declared.body.Left.{Left}
 use Rattle.unified_form.specs.Bodies.{is_last_line}
-use Rattle.unified_form.specs.Hunks.{hunk_at, hunks_at, begins_hunk, reading}
+use Rattle.unified_form.specs.Hunks.{hunk_at, hunks_at}
 use Rattle.unified_form.specs.Grammar.{counts_of, ranges_of, AreFair, SpellsHunk, IsPiece}
 use Rattle.unified_form.specs.Canonical.{canonical, SpellsFirst}
 use Rattle.unified_form.proofs.Counts.{counts-old, counts-new}
@@ -134,8 +133,8 @@ lines-fit (m ∷ body) clean old new =
     by false e = inr (
       open-line m.line clean.0 e,
       last-of m.mark (counts_of body)
-        (λ on. counts-old body ∙ last-on (is_on_side Forward m.mark) m (filter (λ x. is_on_side Forward x.mark) body) old e on)
-        (λ on. counts-new body ∙ last-on (is_on_side Reversed m.mark) m (filter (λ x. is_on_side Reversed x.mark) body) new e on),
+          (λ on. counts-old body ∙ last-on (is_on_side Forward m.mark) m (filter (λ x. is_on_side Forward x.mark) body) old e on)
+          (λ on. counts-new body ∙ last-on (is_on_side Reversed m.mark) m (filter (λ x. is_on_side Reversed x.mark) body) new e on),
     )
 
 pub is-hunk : (h : PlainHunk) → first_broken h ≡ None → AllByRecursion HasNoInnerFeed h.body → IsHunk 0 h

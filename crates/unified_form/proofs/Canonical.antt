@@ -1,5 +1,5 @@
 -- The canonical text of a hunk spells it.
-use Rattle.std.proofs.Common.{◌≡◌, ◌≢◌, ℕ, ◌+◌, ◌-◌, ◌⊎◌, Bool, true, false, cond, eqb, List, [], ◌∷◌, ◌++◌, length, take, None, Ok, refl, sym, ap, subst, ◌∙◌, append_assoc, arith, inl, inr}
+use Rattle.std.proofs.Common.{◌≡◌, ◌≢◌, ℕ, ◌-◌, ◌⊎◌, Bool, true, false, cond, eqb, List, [], ◌∷◌, ◌++◌, length, take, refl, sym, ap, subst, ◌∙◌, append_assoc, arith, inl, inr}
 use Rattle.std.proofs.lemmas.Bool.{eqb-true, eqb-false}
 use Rattle.std.proofs.lemmas.List.{take_at, length-append}
 use Rattle.std.specs.List.{AllByRecursion}
@@ -13,14 +13,11 @@ use Rattle.hunk_core.specs.declared.Mark.{Mark}
 use Rattle.hunk_core.specs.declared.Mark.TheVariants.{Keep, Drop, Add}
 use Rattle.hunk_core.specs.PlainHunk.{Marked, PlainHunk}
 use Rattle.unified_form.specs.Bodies.{is_last_line}
-use Rattle.hunk_core.specs.LineTests.{marked, after_backslash, is_backslash, unended}
+use Rattle.hunk_core.specs.LineTests.{marked, is_backslash, unended}
 use Rattle.hunk_core.specs.LineTests.{after}
 use Rattle.unified_form.specs.Grammar.{mark_byte, counts_of, SpellsLine, SpellsBody, SpellsRange, SpellsHunk, ranges_of, AreFair}
 use Rattle.unified_form.specs.Canonical.{range_text, range_line_text, no_newline, line_text, canonical}
 use Rattle.hunk_core.specs.LineTests.{ends_line}
-use Rattle.hunk_core.specs.Reading.{ahead}
-use Rattle.unified_form.specs.Hunks.{hunk_at}
-use Rattle.unified_form.proofs.Pieces.{hunk_again}
 use Rattle.num_text.proofs.Decimal.{decimal-numeral}
 use Rattle.hunk_core.proofs.ReadSteps.{chosen}
 

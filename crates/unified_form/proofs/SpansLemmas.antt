@@ -1,13 +1,13 @@
 -- A hunk that was read is spelled by the lines of its piece.
-use Rattle.std.proofs.Common.{◌≡◌, ℕ, ◌≤◌, ◌<◌, length, arith, List, ◌++◌, drop, slice_range, None, Result, Ok, Err, subst, sym}
+use Rattle.std.proofs.Common.{◌≡◌, ℕ, ◌≤◌, ◌<◌, length, arith, List, drop, slice_range, None, Result, Ok, Err, subst, sym}
 use Rattle.std.specs.Prelude.{IfOk}
-use Rattle.line_list.specs.Lines.{lines, ArePieces}
+use Rattle.line_list.specs.Lines.{lines}
 use Rattle.line_list.proofs.Pieces.{lines-pieces}
 use Rattle.hunk_core.specs.declared.Hunk.{Hunk}
 use Rattle.hunk_core.specs.declared.fault.FormFault.{FormFault}
 use Rattle.hunk_core.specs.declared.fault.Place.{Place}
 use Rattle.hunk_core.specs.PlainHunk.{PlainHunk, hunk_of}
-use Rattle.hunk_core.specs.Reading.{Ahead, ahead, ahead_of, IsPlace, Gives}
+use Rattle.hunk_core.specs.Reading.{ahead, ahead_of, IsPlace, Gives}
 use Rattle.hunk_core.specs.Rules.{first_broken}
 use Rattle.hunk_core.proofs.PieceLemmas.{piece-lines}
 use Rattle.unified_form.specs.Hunks.{hunk_at}
@@ -22,7 +22,6 @@ hunk-piece text at next number after least h le high read =
 
 pub piece-unbroken : (text : List ℕ) (at next least : ℕ) (h : PlainHunk) → SpellsHunk least (lines (slice_range text at next)) h → first_broken h ≡ None
 piece-unbroken text at next least h s = hunk-unbroken least (lines (slice_range text at next)) h s (lines-pieces (slice_range text at next))
-
 
 pub result-piece : (text : List ℕ) (least : ℕ) (place : Place) (r : Result (Hunk × Place) FormFault) → IfOk r (λ x. IsPlace text x.1 × (place.at < x.1.at)) → Gives (λ x. (hunk_of text x.0, ahead_of text x.1)) r (hunk_at least (ahead_of text place))
     → IfOk r (λ x. SpellsHunk least (lines (slice_range text place.at x.1.at)) (hunk_of text x.0))

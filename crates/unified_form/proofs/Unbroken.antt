@@ -1,7 +1,7 @@
 -- What is spelled breaks none of the rules of a hunk.
-use Rattle.std.proofs.Common.{◌≡◌, ◌≢◌, ℕ, zero, suc, ◌+◌, ◌≤◌, ◌<◌, Bool, true, false, cond, not, eqb, ltb, ◌&&◌, ◌||◌, List, [], ◌∷◌, ◌++◌, length, map, Option, None, Some, refl, sym, ap, subst, ◌∙◌, arith, inl, inr, ⊎_elim}
+use Rattle.std.proofs.Common.{◌≡◌, ◌≢◌, ℕ, ◌+◌, ◌≤◌, ◌<◌, Bool, true, false, cond, not, eqb, ◌&&◌, ◌||◌, List, [], ◌∷◌, ◌++◌, length, map, None, Some, refl, sym, subst, arith, inl, inr}
 use Rattle.std.specs.Prelude.{filter}
-use Rattle.std.proofs.lemmas.Bool.{eqb-true, eqb-false}
+use Rattle.std.proofs.lemmas.Bool.{eqb-true}
 use Rattle.line_list.specs.Lines.{IsLine, ArePieces}
 use Rattle.hunk_core.specs.declared.Mark.{Mark}
 use Rattle.hunk_core.specs.declared.Mark.TheVariants.{Keep, Drop, Add}
@@ -10,14 +10,12 @@ use Rattle.hunk_core.specs.declared.Side.TheVariants.{Forward, Reversed}
 use Rattle.hunk_core.specs.declared.check.BadHunk.{BadHunk}
 use Rattle.hunk_core.specs.Sides.{is_on_side}
 use Rattle.hunk_core.specs.PlainHunk.{Marked, PlainHunk, lines_on, old_lines, new_lines}
-use Rattle.hunk_core.specs.LineTests.{ends_line, marked}
+use Rattle.hunk_core.specs.LineTests.{ends_line}
 use Rattle.hunk_core.specs.Rules.{starts_at_zero, runs_over, lacks_inner_end, first_broken}
-use Rattle.hunk_core.proofs.PieceLemmas.{pieces-first, pieces-last}
+use Rattle.hunk_core.proofs.PieceLemmas.{pieces-last}
 use Rattle.unified_form.specs.declared.body.Left.{Left}
-use Rattle.unified_form.specs.declared.range.Ranges.{Ranges}
-use Rattle.unified_form.specs.Ranges.{Fits}
 use Rattle.unified_form.specs.Bodies.{is_last_line}
-use Rattle.unified_form.specs.Grammar.{mark_byte, IsEmptyLine, Shows, counts_of, ranges_of, SpellsLine, SpellsBody, AreFair, SpellsHunk}
+use Rattle.unified_form.specs.Grammar.{mark_byte, Shows, counts_of, SpellsLine, SpellsBody, SpellsHunk}
 use Rattle.unified_form.proofs.Counts.{counts-old, counts-new, left_on, counts-on}
 
 -- ---- a line that stands before another has its line feed
@@ -124,10 +122,10 @@ hunk-unbroken least (line ∷ own) h s pieces =
     let fair = s.1 in
     let rest : ArePieces own = pieces-last (line ∷ []) own pieces in
     no-rule _ _ _ _ _ _ _ _ _ _ _
-      (some-body h.body fair.counts)
-      (zero-start h.old_start (counts_of h.body).old (old_lines h.body) (counts-old h.body) fair.old_begins)
-      (zero-start h.new_start (counts_of h.body).new (new_lines h.body) (counts-new h.body) fair.new_begins)
-      (no-run h.old_start (counts_of h.body).old (old_lines h.body) (counts-old h.body) fair.fits.old)
-      (no-run h.new_start (counts_of h.body).new (new_lines h.body) (counts-new h.body) fair.fits.new)
-      (body-ends Forward h.body own s.2 rest)
-      (body-ends Reversed h.body own s.2 rest)
+    (some-body h.body fair.counts)
+    (zero-start h.old_start (counts_of h.body).old (old_lines h.body) (counts-old h.body) fair.old_begins)
+    (zero-start h.new_start (counts_of h.body).new (new_lines h.body) (counts-new h.body) fair.new_begins)
+    (no-run h.old_start (counts_of h.body).old (old_lines h.body) (counts-old h.body) fair.fits.old)
+    (no-run h.new_start (counts_of h.body).new (new_lines h.body) (counts-new h.body) fair.fits.new)
+    (body-ends Forward h.body own s.2 rest)
+    (body-ends Reversed h.body own s.2 rest)

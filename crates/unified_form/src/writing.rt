@@ -38,12 +38,7 @@ fn stands_before(text: &[u8], start: usize, byte: u8) -> bool
 }
 
 /// A line behind its mark. Mostly the mark stands before the line in the text too, and both go out at once.
-fn put_marked<O: Sink>(
-    out: &mut O,
-    text: &[u8],
-    line: HunkLine,
-    side: Side,
-) -> Result<(), Failed>
+fn put_marked<O: Sink>(out: &mut O, text: &[u8], line: HunkLine, side: Side) -> Result<(), Failed>
     requires { LiesIn text.now line.span }
     ensures { Puts O.view O.same_rest out.old out.new result (mark_byte (taken_mark side line.mark) ∷ bytes_at text.now line.span) }
 {

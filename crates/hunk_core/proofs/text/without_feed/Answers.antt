@@ -1,4 +1,4 @@
-use Rattle.std.proofs.Common.{◌≡◌, ℕ, List, ap, slice_range, refl}
+use Rattle.std.proofs.Common.{ap}
 use Rattle.hunk_core.specs.LineTests.{marked}
 use Rattle.hunk_core.proofs.TextLemmas.{slice-short, slice-none}
 use Rattle.hunk_core.proofs.text.without_feed.Goals as goal

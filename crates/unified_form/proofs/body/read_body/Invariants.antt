@@ -1,5 +1,5 @@
 use Rattle.std.proofs.Common.{◌+◌, ◌≤◌, length}
-use Rattle.std.specs.Prelude.{All, vec_len}
+use Rattle.std.specs.Prelude.{All}
 use Rattle.hunk_core.specs.PlainHunk.{body_of}
 use Rattle.hunk_core.specs.Turned.{LiesIn}
 use Rattle.hunk_core.specs.Reading.{IsPlace, ahead_of}

@@ -1,7 +1,6 @@
-use Rattle.std.proofs.Common.{◌≡◌, ◌<◌, ◌≤◌, ◌+◌, ◌++◌, List, ℕ, take, drop, length, map, subst, sym, arith, ap, ◌∙◌, rules}
+use Rattle.std.proofs.Common.{◌<◌, ◌≤◌, ◌+◌, drop, length, subst, rules}
 use Rattle.std.proofs.lemmas.Result.{err_from_is_err_and}
 use Rattle.std.proofs.lemmas.List.{take_all}
-use Rattle.hunk_core.specs.Writing.{Puts}
 use Rattle.hunk_core.proofs.SinkSteps.{HasPut, has-none, has-put, has-more, puts-more, puts-stop, puts-done}
 use Rattle.unified_form.proofs.WritingLemmas.{written, put-more, cut-off}
 use Rattle.unified_form.proofs.writing.put_body.Goals as goal
@@ -15,14 +14,14 @@ returns-in_err-put_line g c =
     let items = c.args.hunk.now.body.items in
     let lt : c.loop-i.i < length items = search rules in
     rw (p.1, ← cut-off c.args.text.now c.args.side items c.loop-i.i c.index.result.now lt c.index.ensures)
-      (puts-stop c.in_err-put_line.field-0.0 p.0 (written c.args.text.now c.args.side (drop (c.loop-i.i + 1) items)) (puts-more g.met.O.Sink.rest_both c.loop-i.invariant c.in_err-put_line.ensures))
+    (puts-stop c.in_err-put_line.field-0.0 p.0 (written c.args.text.now c.args.side (drop (c.loop-i.i + 1) items)) (puts-more g.met.O.Sink.rest_both c.loop-i.invariant c.in_err-put_line.ensures))
 
 pub loop-i-preserved : goal.loop-i-preserved
 loop-i-preserved g c =
     let items = c.args.hunk.now.body.items in
     let lt : c.loop-i.i < length items = search rules in
     rw (← put-more c.args.text.now c.args.side items c.loop-i.i c.index.result.now lt c.index.ensures)
-      (has-more g.met.O.Sink.rest_both c.loop-i.invariant (has-put c.in_ok-put_line.field-0 c.in_ok-put_line.ensures))
+    (has-more g.met.O.Sink.rest_both c.loop-i.invariant (has-put c.in_ok-put_line.field-0 c.in_ok-put_line.ensures))
 
 pub returns : goal.returns
 returns g c =

@@ -1,4 +1,4 @@
-use Rattle.std.proofs.Common.{◌≡◌, ◌∷◌, ◌++◌, [], List, ℕ, true, false, cond, subst, sym, ap, ◌∙◌}
+use Rattle.std.proofs.Common.{◌≡◌, ◌∷◌, List, ℕ, true, false, subst, sym, ◌∙◌}
 use Rattle.std.proofs.lemmas.Result.{err_from_is_err_and}
 use Rattle.std.proofs.lemmas.List.{append-nil}
 use Rattle.hunk_core.specs.PlainHunk.{Marked, marked_of}
@@ -26,4 +26,4 @@ returns g c =
     let m : Marked = taken_line c.args.side (marked_of c.args.text.now c.args.line) in
     let ens = c.put_all.ensures in
     subst (λ (bs : List ℕ). Puts g.O.Sink.view g.O.Sink.same_rest c.args.out.now c.put_all.new.out c.put_all.result bs) (line-written m false (sym c.has_feed.ensures ∙ c.if-has_feed.false))
-      (puts-more {b = 10 ∷ no_newline} g.met.O.Sink.rest_both (has-put c.in_ok-put_marked.field-0 c.in_ok-put_marked.ensures) (record { call = ens.call; rest = ens.rest; received = ens.received; failed = ens.failed }))
+    (puts-more {b = 10 ∷ no_newline} g.met.O.Sink.rest_both (has-put c.in_ok-put_marked.field-0 c.in_ok-put_marked.ensures) (record { call = ens.call; rest = ens.rest; received = ens.received; failed = ens.failed }))
