@@ -1,9 +1,10 @@
 //! Hunks that follow each other.
 
-ghost use Rattle.std.specs.Prelude.{◌≡◌, ℕ, List, true, None, ◌+◌, ◌<◌, ◌≤◌, ◌^◌, length, drop, slice_range, IfOk};
+ghost use Rattle.std.specs.Prelude.{◌≡◌, ◌≢◌, ℕ, List, ◌++◌, Err, true, None, ◌+◌, ◌<◌, ◌≤◌, ◌^◌, length, drop, slice_range, IfOk};
 ghost use Rattle.line_list.specs.Lines.{lines};
 ghost use Rattle.hunk_core.specs.PlainHunk.{PlainHunk, hunk_of, hunks_of};
-ghost use Rattle.hunk_core.specs.Reading.{Gives, IsPlace, ahead_of};
+ghost use Rattle.hunk_core.specs.Reading.{Fault, Gives, IsPlace, ahead_of};
+ghost use Rattle.unified_form.specs.FirstFault.{AgreeTo};
 ghost use Rattle.hunk_core.specs.Turned.{IsLawful};
 ghost use Rattle.hunk_core.specs.Rules.{first_broken};
 ghost use Rattle.unified_form.specs.Grammar.{IsPiece, SpellsHunk};
@@ -146,3 +147,18 @@ pub fn read_hunks(alloc: Global, text: &[u8], at: usize, line: u64) -> Result<Hu
 {
     read_all(alloc, text, at, line)
 }
+
+/// What makes a fault the first one.
+pub fn first_faults()
+    // It stays whatever lines come after its own, unless the text ends too early.
+    ensures stays { (number : ℕ) (lines others : List (List ℕ)) (e : Fault) → reading number lines ≡ Err e → e.kind ≢ BadKind.ShortEnd
+        → AgreeTo e.line number lines others → reading number others ≡ Err e }
+    // No lines that are the same up to the fault are spelled.
+    ensures unspelled { (number : ℕ) (lines others : List (List ℕ)) (e : Fault) (hs : List PlainHunk) (next : ℕ) (rest : List (List ℕ))
+        → reading number lines ≡ Err e → e.kind ≢ BadKind.ShortEnd → AgreeTo e.line number lines others → IsPiece number others hs next rest → ⊥ }
+    // A text that ends too early is at fault one line after its last.
+    ensures short { (number : ℕ) (lines : List (List ℕ)) (e : Fault) → reading number lines ≡ Err e → e.kind ≡ BadKind.ShortEnd → e.line ≡ number + length lines }
+    // No fault comes before a line that hunks begin with.
+    ensures late { (number : ℕ) (front behind others : List (List ℕ)) (e : Fault) (hs : List PlainHunk) (next : ℕ) (rest : List (List ℕ))
+        → IsPiece number (front ++ others) hs next rest → reading number (front ++ behind) ≡ Err e → number + length front ≤ e.line }
+{}
