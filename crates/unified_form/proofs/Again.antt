@@ -116,7 +116,7 @@ last-on : (b : Bool) (m : Marked) (ms : List Marked) → lacks_inner_end (map (�
 last-on true m ms e bare on = lacks-last m.line (map (λ x. x.line) ms) e bare
 last-on false m ms e bare on = absurd cc
 
-last-of : (mark : Mark) (left : Left) → (is_on_side Forward mark ≡ true → left.old ≡ 0) → (is_on_side Reversed mark ≡ true → left.new ≡ 0) → is_last_line mark left ≡ true
+pub last-of : (mark : Mark) (left : Left) → (is_on_side Forward mark ≡ true → left.old ≡ 0) → (is_on_side Reversed mark ≡ true → left.new ≡ 0) → is_last_line mark left ≡ true
 last-of Keep left o n = let a : left.old ≡ 0 = o refl in let b : left.new ≡ 0 = n refl in rw (a, b) refl
 last-of Drop left o n = let a : left.old ≡ 0 = o refl in rw a refl
 last-of Add left o n = let b : left.new ≡ 0 = n refl in rw b refl

@@ -43,7 +43,7 @@ whole-before line next more h = h.0
 
 -- ---- no line of a side is left behind the last
 
-last-none : (side : Side) (mark : Mark) (left : Left) → is_on_side side mark ≡ true → is_last_line mark left ≡ true → left_on side left ≡ 0
+pub last-none : (side : Side) (mark : Mark) (left : Left) → is_on_side side mark ≡ true → is_last_line mark left ≡ true → left_on side left ≡ 0
 last-none Forward Keep left on e = eqb-true left.old 0 (both (eqb left.old 0) (eqb left.new 0) e).0
   where
     both : (a b : Bool) → (a && b) ≡ true → (a ≡ true) × (b ≡ true)

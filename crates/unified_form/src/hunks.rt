@@ -1,13 +1,19 @@
 //! Hunks that follow each other.
 
-ghost use Rattle.std.specs.Prelude.{◌≡◌, ◌≢◌, ℕ, List, ◌++◌, Err, true, None, ◌+◌, ◌<◌, ◌≤◌, ◌^◌, length, drop, slice_range, IfOk};
+ghost use Rattle.std.specs.Prelude.{◌≡◌, ◌≢◌, ◌↔◌, ℕ, List, [], ◌∷◌, ◌++◌, Err, true, None, ◌+◌, ◌<◌, ◌≤◌, ◌^◌, length, drop, slice_range, IfOk};
 ghost use Rattle.line_list.specs.Lines.{lines};
-ghost use Rattle.hunk_core.specs.PlainHunk.{PlainHunk, hunk_of, hunks_of};
+ghost use Rattle.hunk_core.specs.PlainHunk.{Marked, PlainHunk, hunk_of, hunks_of, lines_on, old_lines, new_lines};
+ghost use Rattle.hunk_core.specs.declared.Mark.{Mark};
+ghost use Rattle.hunk_core.specs.declared.Side.{Side};
+ghost use Rattle.hunk_core.specs.Sides.{is_on_side};
+ghost use Rattle.num_text.specs.Numbers.{is_digit};
+ghost use Rattle.unified_form.specs.Ranges.{is_opening};
+ghost use Rattle.unified_form.specs.Bodies.{is_last_line};
 ghost use Rattle.hunk_core.specs.Reading.{Fault, Gives, IsPlace, ahead_of};
 ghost use Rattle.unified_form.specs.FirstFault.{AgreeTo};
 ghost use Rattle.hunk_core.specs.Turned.{IsLawful};
 ghost use Rattle.hunk_core.specs.Rules.{first_broken};
-ghost use Rattle.unified_form.specs.Grammar.{IsPiece, SpellsHunk};
+ghost use Rattle.unified_form.specs.Grammar.{counts_of, IsPiece, SpellsHunk};
 ghost use Rattle.hunk_core.specs.Pieces.{read_of, these, AreInTurn, SpellInTurn, AreSound};
 ghost use Rattle.unified_form.specs.Hunks.{hunk_at, begins_hunk, reading};
 
@@ -161,4 +167,15 @@ pub fn first_faults()
     // No fault comes before a line that hunks begin with.
     ensures late { (number : ℕ) (front behind others : List (List ℕ)) (e : Fault) (hs : List PlainHunk) (next : ℕ) (rest : List (List ℕ))
         → IsPiece number (front ++ others) hs next rest → reading number (front ++ behind) ≡ Err e → number + length front ≤ e.line }
+{}
+
+/// The tests of the grammar, in the words of the diffutils manual.
+pub fn grammar_in_words()
+    // '@@ -' and a digit.
+    ensures opening { (line : List ℕ) → is_opening line ≡ true ↔ ((d : ℕ) × (rest : List ℕ) × (line ≡ 64 ∷ 64 ∷ 32 ∷ 45 ∷ d ∷ rest) × (is_digit d ≡ true)) }
+    // A line is the last of each side that it belongs to.
+    ensures last { (mark : Mark) (body : List Marked) → is_last_line mark (counts_of body) ≡ true ↔ ((side : Side) → is_on_side side mark ≡ true → lines_on side body ≡ []) }
+    // The counts are those of the lines.
+    ensures old { (body : List Marked) → (counts_of body).old ≡ length (old_lines body) }
+    ensures new { (body : List Marked) → (counts_of body).new ≡ length (new_lines body) }
 {}
