@@ -17,10 +17,12 @@ mark_at (b ∷ bytes) = if b == 32 then Some (marked Keep bytes)
     else if b == 10 then Some (marked Keep (b ∷ bytes))
     else None
 
+-- a line of a body has a mark
 abbrev pub must_be_marked : ℕ → List ℕ → Option Marked → Result Marked Fault
 must_be_marked number line (Some m) = Ok m
 must_be_marked number line None = Err (fault number (if is_backslash line then kinds.MisplacedBackslash else kinds.Mark))
 
+-- the mark of a line of a body, or why it has none
 abbrev pub marked_at : ℕ → List ℕ → Result Marked Fault
 marked_at number line = must_be_marked number line (mark_at line)
 
@@ -41,6 +43,7 @@ abbrev pub ended_by : ℕ → Marked → Left → List (List ℕ) → Option (Li
 ended_by number m left rest None = Ok (m, left, ahead (number + 1) rest)
 ended_by number m left rest (Some more) = if is_last_line m.mark left then Ok (unended m, left, ahead (number + 2) more) else Err (fault (number + 1) kinds.MisplacedBackslash)
 
+-- the first of these lines as a line of a body with this left, what is left behind it, and what is ahead
 unfoldable pub first_line : Left → ℕ → List (List ℕ) → Result (Marked × Left × Ahead) Fault
 first_line left number [] = Err (fault number kinds.ShortEnd)
 first_line left number (line ∷ rest) = do

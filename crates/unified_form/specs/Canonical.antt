@@ -23,6 +23,7 @@ no_newline = 92 ∷ 32 ∷ (codes "No newline at end of file" ++ 10 ∷ [])
 abbrev pub line_text : Marked → List ℕ
 line_text m = mark_byte m.mark ∷ (m.line ++ (if ends_line m.line then [] else 10 ∷ no_newline))
 
+-- the range line, and the lines of the body
 abbrev pub canonical : PlainHunk → List ℕ
 canonical h = range_line_text h.old_start (counts_of h.body).old h.new_start (counts_of h.body).new ++ flat_map line_text h.body
 
