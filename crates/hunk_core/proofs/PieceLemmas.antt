@@ -1,10 +1,12 @@
 -- The lines that a reader took are the lines of the piece of the text.
-use Rattle.std.proofs.Common.{◌≡◌, ℕ, ◌+◌, ◌-◌, ◌≤◌, List, [], ◌∷◌, ◌++◌, length, take, drop, slice_range, refl, sym, ap, subst, ◌∙◌, arith, inl, inr}
-use Rattle.std.specs.List.{flat_map}
+use Rattle.std.proofs.Common.{◌≡◌, ℕ, ◌-◌, ◌≤◌, ◌<◌, List, [], ◌∷◌, ◌++◌, length, take, drop, slice_range, refl, sym, ap, subst, ◌∙◌, arith, inl}
 use Rattle.std.proofs.Math.Seq.{take-append_seam}
 use Rattle.std.proofs.lemmas.List.{length-append, length-drop}
 use Rattle.std.proofs.lemmas.List.Concat.{flat_map-append}
-use Rattle.line_list.specs.Lines.{lines, IsLine, ArePieces}
+use Rattle.line_list.specs.Lines.{lines, ArePieces}
+use Rattle.line_list.specs.declared.Span.{Span}
+use Rattle.hunk_core.specs.PlainHunk.{PlainHunk, bytes_at}
+use Rattle.hunk_core.specs.Pieces.{AreInTurn, SpellInTurn}
 use Rattle.line_list.proofs.Pieces.{joined, lines-joined, lines-pieces, pieces-only}
 
 -- the first of some pieces are pieces
@@ -29,6 +31,46 @@ same-width text at next own le high e =
 pub piece-lines : (text : List ℕ) (at next : ℕ) (own : List (List ℕ)) → at ≤ next → next ≤ length text → lines (drop at text) ≡ own ++ lines (drop next text) → lines (slice_range text at next) ≡ own
 piece-lines text at next own le high e =
     let whole : drop at text ≡ joined own ++ drop next text =
-      sym (lines-joined (drop at text)) ∙ ap joined e ∙ flat_map-append (λ line. line) own (lines (drop next text)) ∙ ap (λ bs. joined own ++ bs) (lines-joined (drop next text)) in
+    sym (lines-joined (drop at text)) ∙ ap joined e ∙ flat_map-append (λ line. line) own (lines (drop next text)) ∙ ap (λ bs. joined own ++ bs) (lines-joined (drop next text)) in
     ap lines (same-width text at next (joined own) le high whole)
     ∙ pieces-only own (pieces-first own (lines (drop next text)) (subst ArePieces e (lines-pieces (drop at text))))
+
+-- ---- one span behind the other
+
+-- the start of the last hunk, or what stood before the first
+abbrev pub last_start : ℕ → List PlainHunk → ℕ
+last_start least [] = least
+last_start least (h ∷ hs) = last_start h.old_start hs
+
+turn-push : (at : ℕ) (ss : List Span) (mid : ℕ) (s : Span) → AreInTurn at ss mid → s.start ≡ mid → mid < s.end → AreInTurn at (ss ++ s ∷ []) s.end
+turn-push at [] mid s h start some = (start ∙ sym h, omega (arith, h, some), refl)
+turn-push at (x ∷ ss) mid s h start some = (h.0, h.1, turn-push x.end ss mid s h.2 start some)
+
+spell-push : (Spells : ℕ → List (List ℕ) → PlainHunk → Type 0) (text : List ℕ) (least : ℕ) (ss : List Span) (hs : List PlainHunk) (s : Span) (h : PlainHunk)
+    → SpellInTurn Spells text least ss hs → Spells (last_start least hs) (lines (bytes_at text s)) h → SpellInTurn Spells text least (ss ++ s ∷ []) (hs ++ h ∷ [])
+spell-push Spells text least [] [] s h so_far one = (one, tt)
+spell-push Spells text least [] (x ∷ hs) s h so_far one = absurd so_far
+spell-push Spells text least (y ∷ ss) [] s h so_far one = absurd so_far
+spell-push Spells text least (y ∷ ss) (x ∷ hs) s h so_far one = (so_far.0, spell-push Spells text x.old_start ss hs s h so_far.1 one)
+
+last-push : (least : ℕ) (hs : List PlainHunk) (h : PlainHunk) → last_start least (hs ++ h ∷ []) ≡ h.old_start
+last-push least [] h = refl
+last-push least (x ∷ hs) h = last-push x.old_start hs h
+
+-- the spans of the hunks that were read so far, with the start of the last
+pub record SpansSoFar (Spells : ℕ → List (List ℕ) → PlainHunk → Type 0) (text : List ℕ) (at : ℕ) (ss : List Span) (hs : List PlainHunk) (end least : ℕ) : Type 0 where
+  pub turn : AreInTurn at ss end
+  pub pieces : SpellInTurn Spells text 0 ss hs
+  pub last : last_start 0 hs ≡ least
+
+pub spans_begin : (Spells : ℕ → List (List ℕ) → PlainHunk → Type 0) (text : List ℕ) (at : ℕ) → SpansSoFar Spells text at [] [] at 0
+spans_begin Spells text at = record { turn = refl; pieces = tt; last = refl }
+
+pub spans_go_on : (Spells : ℕ → List (List ℕ) → PlainHunk → Type 0) (text : List ℕ) (at : ℕ) (ss : List Span) (hs : List PlainHunk) (start end least : ℕ) (h : PlainHunk)
+    → SpansSoFar Spells text at ss hs start least → start < end → Spells least (lines (slice_range text start end)) h
+    → SpansSoFar Spells text at (ss ++ (record { start = start; end = end }) ∷ []) (hs ++ h ∷ []) end h.old_start
+spans_go_on Spells text at ss hs start end least h so_far some one = record {
+  turn = turn-push at ss start (record { start = start; end = end }) so_far.turn refl some;
+  pieces = spell-push Spells text 0 ss hs (record { start = start; end = end }) h so_far.pieces (subst (λ l. Spells l (lines (slice_range text start end)) h) (sym so_far.last) one);
+  last = last-push 0 hs h;
+}

@@ -1,5 +1,5 @@
 -- How lines begin and end.
-use Rattle.std.proofs.Common.{◌≡◌, ◌↔◌, ℕ, suc, ◌+◌, ◌-◌, ◌≤◌, ◌<◌, Bool, true, false, cond, ◌&&◌, eqb, List, [], ◌∷◌, ◌++◌, length, get_or, take, drop, slice_range, Option, None, Some, refl, sym, ap, ◌∙◌, arith}
+use Rattle.std.proofs.Common.{◌≡◌, ◌↔◌, ℕ, suc, ◌+◌, ◌-◌, ◌≤◌, ◌<◌, Bool, true, false, cond, ◌&&◌, eqb, List, [], ◌∷◌, ◌++◌, length, get_or, take, drop, slice_range, Option, None, Some, refl, sym, ap, arith}
 use Rattle.std.specs.Prelude.{MatchOption, is_some}
 use Rattle.std.specs.Borrow.{Bor}
 use Rattle.std.proofs.lemmas.Bool.{eqb-true}
@@ -95,3 +95,8 @@ slice-short text at end le =
     let len : length (slice_range text at end) ≡ end - at = omega (arith, length-take (end - at) (drop at text), length-drop at text) in
     let width : (end - 1) - at ≡ (end - at) - 1 = omega arith in
     rw (len, width) (sym (take-take ((end - at) - 1) (end - at) (drop at text) (omega arith)))
+
+pub slice-none : (text : List ℕ) (at end : ℕ) → at ≡ end → slice_range text at end ≡ take (length (slice_range text at end) - 1) (slice_range text at end)
+slice-none text at end e =
+    let width : end - at ≡ 0 = omega (arith, e) in
+    rw width refl

@@ -10,9 +10,9 @@ use Rattle.hunk_core.specs.declared.Side.TheVariants.{Forward, Reversed}
 use Rattle.hunk_core.specs.declared.HunkLine.{HunkLine}
 use Rattle.hunk_core.specs.declared.Hunk.{Hunk}
 use Rattle.hunk_core.specs.Sides.{start_of, taken_count}
-use Rattle.hunk_core.specs.PlainHunk.{Marked, PlainHunk, hunk_of, body_of, marked_of, old_lines}
-use Rattle.hunk_core.specs.Turned.{swapped_mark, swapped_line, is_keep, turned, leading, trailing, base}
-use Rattle.hunk_core.proofs.SideLemmas.{turned-lines, lines-counted}
+use Rattle.hunk_core.specs.PlainHunk.{Marked, PlainHunk, hunk_of, body_of, marked_of, old_lines, new_lines}
+use Rattle.hunk_core.specs.Turned.{swapped_mark, swapped_line, taken_line, other_side, is_keep, turned, leading, trailing, base}
+use Rattle.hunk_core.proofs.SideLemmas.{turned-lines, turned-others, lines-counted}
 
 prefix_len-map : {A B : Type 0} (p : B → Bool) (f : A → B) (q : A → Bool) → ((x : A) → p (f x) ≡ q x) → (xs : List A) → prefix_len p (map f xs) ≡ prefix_len q xs
 prefix_len-map p f q same [] = refl
@@ -58,7 +58,23 @@ turned-start text Reversed h = refl
 pub turned-count : (text : List ℕ) (side : Side) (h : Hunk) → length (old_lines (turned side (hunk_of text h)).body) ≡ taken_count side h.body.items
 turned-count text side h = ap length (turned-lines text side h) ∙ lines-counted text side h.body.items
 
+pub turned-other-count : (text : List ℕ) (side : Side) (h : Hunk) → length (new_lines (turned side (hunk_of text h)).body) ≡ taken_count (other_side side) h.body.items
+turned-other-count text side h = ap length (turned-others text side h) ∙ lines-counted text (other_side side) h.body.items
+
 pub turned-base : (text : List ℕ) (side : Side) (h : Hunk) → base (turned side (hunk_of text h)) ≡ (if taken_count side h.body.items == 0 then start_of side h + 1 else start_of side h)
 turned-base text side h =
     ap (λ k. if k == 0 then (turned side (hunk_of text h)).old_start + 1 else (turned side (hunk_of text h)).old_start) (turned-count text side h)
     ∙ ap (λ s. if taken_count side h.body.items == 0 then s + 1 else s) (turned-start text side h)
+
+same-body : (body : List Marked) → body ≡ map (taken_line Forward) body
+same-body [] = refl
+same-body (m ∷ body) = ap (λ ms. m ∷ ms) (same-body body)
+
+swapped-body : (body : List Marked) → map swapped_line body ≡ map (taken_line Reversed) body
+swapped-body [] = refl
+swapped-body (m ∷ body) = ap (λ ms. swapped_line m ∷ ms) (swapped-body body)
+
+-- the body of a hunk taken from a side, line by line
+pub turned-body : (side : Side) (h : PlainHunk) → (turned side h).body ≡ map (taken_line side) h.body
+turned-body Forward h = same-body h.body
+turned-body Reversed h = swapped-body h.body

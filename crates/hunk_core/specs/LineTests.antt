@@ -24,6 +24,7 @@ ends_line [] = false
 ends_line (b ∷ []) = b == 10
 ends_line (b ∷ c ∷ bytes) = ends_line (c ∷ bytes)
 
+-- a line with its mark
 abbrev pub marked : Mark → List ℕ → Marked
 marked mark line = record { mark = mark; line = line }
 

@@ -8,15 +8,18 @@ use Rattle.hunk_core.specs.declared.HunkLine.{HunkLine}
 use Rattle.hunk_core.specs.declared.Hunk.{Hunk}
 use Rattle.hunk_core.specs.Sides.{is_on_side}
 
+-- a line of a hunk: kept, dropped or added
 pub record Marked : Type 0 where
   pub mark : Mark
   pub line : List ℕ
 
+-- the stated starts, and the lines as they follow each other
 pub record PlainHunk : Type 0 where
   pub old_start : ℕ
   pub new_start : ℕ
   pub body : List Marked
 
+-- the bytes of a span of the text
 abbrev pub bytes_at : List ℕ → Span → List ℕ
 bytes_at text span = slice_range text span.start span.end
 
@@ -24,6 +27,7 @@ bytes_at text span = slice_range text span.start span.end
 abbrev pub marked_of : List ℕ → HunkLine → Marked
 marked_of text l = record { mark = l.mark; line = bytes_at text l.span }
 
+-- what the lines of a body stand for
 abbrev pub body_of : List ℕ → List HunkLine → List Marked
 body_of text ls = map (marked_of text) ls
 
@@ -31,6 +35,7 @@ body_of text ls = map (marked_of text) ls
 abbrev pub hunk_of : List ℕ → Hunk → PlainHunk
 hunk_of text h = record { old_start = h.old_start; new_start = h.new_start; body = body_of text h.body.items }
 
+-- what hunks stand for
 abbrev pub hunks_of : List ℕ → List Hunk → List PlainHunk
 hunks_of text hs = map (hunk_of text) hs
 

@@ -1,5 +1,5 @@
 -- What a call that writes bytes to a sink promises.
-use Rattle.std.specs.Prelude.{◌≡◌, List, ℕ, Result, OnOk, OnErr}
+use Rattle.std.specs.Prelude.{List, ℕ, Result, OnOk, OnErr}
 use Rattle.outside.specs.SinkView.{SinkView, IsSinkCall, Receives, ReceivesPart}
 
 -- on Ok the sink received these bytes, after a refusal a first part of them or it tells nothing any more; the rest stays

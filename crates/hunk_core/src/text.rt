@@ -47,14 +47,16 @@ pub fn backslash_end(text: &[u8], at: usize) -> Option<usize>
     }
 }
 
-/// The line without its line feed.
+/// The line without its line feed; an empty one stays as it is.
 pub fn without_feed(line: HunkLine) -> HunkLine
-    requires { 0 < line.span.end }
-    ensures mark { result.mark ≡ line.mark }
-    ensures start { result.span.start ≡ line.span.start }
-    ensures end { result.span.end + 1 ≡ line.span.end }
+    requires { line.span.start ≤ line.span.end }
+    ensures order { result.span.start ≤ result.span.end }
+    ensures end { result.span.end ≤ line.span.end }
     ensures unended { (text : List ℕ) → line.span.end ≤ length text → marked_of text result ≡ unended (marked_of text line) }
 {
+    if line.span.start == line.span.end {
+        return line;
+    }
     HunkLine {
         mark: line.mark,
         span: Span {

@@ -7,11 +7,12 @@ use Rattle.hunk_core.specs.declared.Mark.TheVariants.{Keep, Drop, Add}
 use Rattle.hunk_core.specs.PlainHunk.{Marked}
 use Rattle.hunk_core.specs.Reading.{◌>>=◌, Ahead, ahead}
 use Rattle.unified_form.specs.declared.body.Left.{Left}
-use Rattle.unified_form.specs.Ranges.{after}
-use Rattle.unified_form.specs.Bodies.{marked, mark_at, is_backslash, after_backslash, unended, is_last_line, must_be_marked, marked_at, room_at, ended_by, first_line, line_at, body_at}
+use Rattle.hunk_core.specs.LineTests.{after}
+use Rattle.unified_form.specs.Bodies.{mark_at, is_last_line, must_be_marked, marked_at, room_at, ended_by, first_line, line_at, body_at}
+use Rattle.hunk_core.specs.LineTests.{marked, is_backslash, after_backslash, unended}
 use Rattle.unified_form.specs.Grammar.{mark_byte, IsEmptyLine, Shows, one_more, counts_of, SpellsLine, SpellsBody}
 use Rattle.unified_form.proofs.Loops.{body_empty}
-use Rattle.unified_form.proofs.Steps.{bind_ok, chosen, guard_ok, must_ok, ok_is}
+use Rattle.hunk_core.proofs.ReadSteps.{bind_ok, chosen, guard_ok, must_ok, ok_is}
 
 -- ---- one line
 
@@ -216,7 +217,7 @@ some_left Keep room = grind arith
 some_left Drop room = grind arith
 some_left Add room = grind arith
 
-one_line : (mark : Mark) (room : Left) → 0 < (one_more mark room).old + (one_more mark room).new
+pub one_line : (mark : Mark) (room : Left) → 0 < (one_more mark room).old + (one_more mark room).new
 one_line Keep room = omega arith
 one_line Drop room = omega arith
 one_line Add room = omega arith

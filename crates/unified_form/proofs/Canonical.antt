@@ -1,26 +1,46 @@
 -- The canonical text of a hunk spells it.
-use Rattle.std.proofs.Common.{◌≡◌, ◌≢◌, ℕ, ◌+◌, ◌-◌, ◌⊎◌, Bool, true, false, cond, eqb, List, [], ◌∷◌, ◌++◌, length, take, None, Ok, refl, sym, ap, subst, ◌∙◌, append_assoc, arith, inl, inr}
+use Rattle.std.proofs.Common.{◌≡◌, ◌≢◌, ℕ, ◌-◌, ◌⊎◌, Bool, true, false, cond, eqb, List, [], ◌∷◌, ◌++◌, length, take, refl, sym, ap, subst, ◌∙◌, append_assoc, arith, inl, inr}
 use Rattle.std.proofs.lemmas.Bool.{eqb-true, eqb-false}
 use Rattle.std.proofs.lemmas.List.{take_at, length-append}
 use Rattle.std.specs.List.{AllByRecursion}
 use Rattle.std.specs.Prelude.{codes}
 use Rattle.std.specs.List.{flat_map}
-use Rattle.std.proofs.lemmas.List.Concat.{flat_map-cons}
+use Rattle.std.proofs.lemmas.List.Concat.{flat_map-cons, flat_map-append}
 use Rattle.line_list.proofs.Pieces.{line-first}
 use Rattle.line_list.specs.Lines.{lines, IsLine}
 use Rattle.num_text.specs.Numbers.{decimal, is_digit, AllDigits}
 use Rattle.hunk_core.specs.declared.Mark.{Mark}
 use Rattle.hunk_core.specs.declared.Mark.TheVariants.{Keep, Drop, Add}
 use Rattle.hunk_core.specs.PlainHunk.{Marked, PlainHunk}
-use Rattle.unified_form.specs.Bodies.{marked, after_backslash, is_backslash, is_last_line, unended}
-use Rattle.unified_form.specs.Ranges.{after}
-use Rattle.unified_form.specs.Grammar.{mark_byte, counts_of, SpellsLine, SpellsBody, SpellsRange, SpellsHunk}
-use Rattle.unified_form.specs.Canonical.{range_text, range_line_text, no_newline, ends_line, line_lines, body_lines, hunk_lines, canonical, LinesFit, IsHunk}
-use Rattle.hunk_core.specs.Reading.{ahead}
-use Rattle.unified_form.specs.Hunks.{hunk_at}
-use Rattle.unified_form.proofs.Pieces.{hunk_again}
+use Rattle.unified_form.specs.Bodies.{is_last_line}
+use Rattle.hunk_core.specs.LineTests.{marked, is_backslash, unended}
+use Rattle.hunk_core.specs.LineTests.{after}
+use Rattle.unified_form.specs.Grammar.{mark_byte, counts_of, SpellsLine, SpellsBody, SpellsRange, SpellsHunk, ranges_of, AreFair}
+use Rattle.unified_form.specs.Canonical.{range_text, range_line_text, no_newline, line_text, canonical}
+use Rattle.hunk_core.specs.LineTests.{ends_line}
 use Rattle.num_text.proofs.Decimal.{decimal-numeral}
-use Rattle.unified_form.proofs.Steps.{chosen}
+use Rattle.hunk_core.proofs.ReadSteps.{chosen}
+
+abbrev pub line_lines : Marked → List (List ℕ)
+line_lines m = cond (ends_line m.line) ((mark_byte m.mark ∷ m.line) ∷ []) ((mark_byte m.mark ∷ (m.line ++ 10 ∷ [])) ∷ no_newline ∷ [])
+
+abbrev pub body_lines : List Marked → List (List ℕ)
+body_lines [] = []
+body_lines (m ∷ body) = line_lines m ++ body_lines body
+
+-- the lines of the canonical text
+abbrev pub hunk_lines : PlainHunk → List (List ℕ)
+hunk_lines h = range_line_text h.old_start (counts_of h.body).old h.new_start (counts_of h.body).new ∷ body_lines h.body
+
+-- a line has a line feed at its end, or it has none and is the last of its sides
+abbrev pub LinesFit : List Marked → Type 0
+LinesFit [] = Unit {0}
+LinesFit (m ∷ body) = (IsLine m.line ⊎ (AllByRecursion (λ b. b ≢ 10) m.line × (is_last_line m.mark (counts_of body) ≡ true))) × LinesFit body
+
+-- what has a canonical text
+pub record IsHunk (least : ℕ) (h : PlainHunk) : Type 0 where
+  pub ranges : AreFair least (ranges_of h)
+  pub body : LinesFit h.body
 
 pub range-spelled : (start count : ℕ) → SpellsRange (range_text start count) start count
 range-spelled start count =
@@ -157,9 +177,28 @@ lines-whole (line ∷ ls) rest h =
     ∙ line-first line (flat_map (λ line. line) ls ++ rest) h.0
     ∙ ap (λ more. line ∷ more) (lines-whole ls rest h.1)
 
--- the canonical text of a hunk is read as that hunk, whatever follows that doesn't begin with a backslash line
-pub canonical-read : (least number : ℕ) (h : PlainHunk) (rest : List ℕ) → IsHunk least h → after_backslash (lines rest) ≡ None
-    → hunk_at least (ahead number (lines (canonical h ++ rest))) ≡ Ok (h, ahead (number + length (hunk_lines h)) (lines rest))
-canonical-read least number h rest is quiet =
-    ap (λ ls. hunk_at least (ahead number ls)) (lines-whole (hunk_lines h) rest (range-line h.old_start (counts_of h.body).old h.new_start (counts_of h.body).new, body-lines h.body is.body))
-    ∙ hunk_again h (hunk_lines h) (lines rest) least number (hunk-spelled least h is) quiet
+-- ---- the bytes are these lines
+
+line-joined : (m : Marked) → flat_map (λ line. line) (line_lines m) ≡ line_text m
+line-joined m = by (ends_line m.line)
+  where
+    by : (v : Bool) → flat_map (λ line. line) (cond v ((mark_byte m.mark ∷ m.line) ∷ []) ((mark_byte m.mark ∷ (m.line ++ 10 ∷ [])) ∷ no_newline ∷ [])) ≡ mark_byte m.mark ∷ (m.line ++ cond v [] (10 ∷ no_newline))
+    by true = flat_map-cons (λ line. line) (mark_byte m.mark ∷ m.line) []
+    by false = flat_map-cons (λ line. line) (mark_byte m.mark ∷ (m.line ++ 10 ∷ [])) (no_newline ∷ []) ∙ ap (λ bs. mark_byte m.mark ∷ bs) (append_assoc m.line (10 ∷ []) no_newline)
+
+body-joined : (body : List Marked) → flat_map (λ line. line) (body_lines body) ≡ flat_map line_text body
+body-joined [] = refl
+body-joined (m ∷ body) =
+    flat_map-append (λ line. line) (line_lines m) (body_lines body) ∙ ap (λ bs. bs ++ flat_map (λ line. line) (body_lines body)) (line-joined m) ∙ ap (λ bs. line_text m ++ bs) (body-joined body)
+    ∙ sym (flat_map-cons line_text m body)
+
+joined-is : (h : PlainHunk) → flat_map (λ line. line) (hunk_lines h) ≡ canonical h
+joined-is h =
+    flat_map-cons (λ line. line) (range_line_text h.old_start (counts_of h.body).old h.new_start (counts_of h.body).new) (body_lines h.body)
+    ∙ ap (λ bs. range_line_text h.old_start (counts_of h.body).old h.new_start (counts_of h.body).new ++ bs) (body-joined h.body)
+
+-- the lines of the canonical text with a rest behind it
+pub canonical-lines : (least : ℕ) (h : PlainHunk) (rest : List ℕ) → IsHunk least h → lines (canonical h ++ rest) ≡ hunk_lines h ++ lines rest
+canonical-lines least h rest is =
+    ap (λ bs. lines (bs ++ rest)) (sym (joined-is h))
+    ∙ lines-whole (hunk_lines h) rest (range-line h.old_start (counts_of h.body).old h.new_start (counts_of h.body).new, body-lines h.body is.body)

@@ -1,20 +1,13 @@
 -- Reading one thing after the other, as a loop does.
-use Rattle.std.proofs.Common.{◌≡◌, ℕ, zero, suc, ◌-◌, ◌+◌, ◌≤◌, ◌<◌, false, eqb, List, [], ◌∷◌, ◌++◌, Result, Ok, Err, refl, sym, ap, ◌∙◌, append_assoc, arith}
+use Rattle.std.proofs.Common.{◌≡◌, ℕ, zero, suc, ◌-◌, ◌+◌, ◌≤◌, ◌<◌, false, eqb, List, [], ◌∷◌, ◌++◌, Result, Ok, Err, refl, sym, ap, ◌∙◌, arith}
 use Rattle.std.proofs.lemmas.List.{append-nil}
 use Rattle.hunk_core.specs.declared.fault.FormFault.{FormFault}
 use Rattle.hunk_core.specs.declared.fault.FormFault.TheVariants as errors
 use Rattle.hunk_core.specs.PlainHunk.{Marked}
+use Rattle.hunk_core.proofs.ReadSteps.{with_front, front_none, regroup}
 use Rattle.hunk_core.specs.Reading.{◌>>=◌, Fault, Fails, Ahead}
 use Rattle.unified_form.specs.declared.body.Left.{Left}
 use Rattle.unified_form.specs.Bodies.{line_at, body_at}
-
--- what was read before, and what is still read
-abbrev pub with_front : {X : Type 0} → List X → Result (List X × Ahead) Fault → Result (List X × Ahead) Fault
-with_front front read = read >>= λ x. Ok (front ++ x.0, x.1)
-
-pub regroup : {X : Type 0} (front : List X) (n : X) (read : Result (List X × Ahead) Fault) → with_front front (read >>= λ x. Ok (n ∷ x.0, x.1)) ≡ with_front (front ++ n ∷ []) read
-regroup front n (Ok x) = ap (λ ns. Ok (ns, x.1)) (simp append_assoc)
-regroup front n (Err f) = refl
 
 -- these lines were read of a body, and what is left gives the whole
 pub record BodySoFar (front : List Marked) (left : Left) (p : Ahead) (total : Result (List Marked × Ahead) Fault) : Type 0 where
@@ -24,10 +17,6 @@ pub record BodySoFar (front : List Marked) (left : Left) (p : Ahead) (total : Re
 
 pub body_begins : (left : Left) (p : Ahead) → BodySoFar [] left p (body_at (left.old + left.new) left p)
 body_begins left p = record { most = left.old + left.new; enough = omega arith; same = front_none (body_at (left.old + left.new) left p) }
-  where
-    front_none : (read : Result (List Marked × Ahead) Fault) → with_front [] read ≡ read
-    front_none (Ok x) = refl
-    front_none (Err f) = refl
 
 step : (most : ℕ) (left : Left) (p : Ahead) → 0 < left.old + left.new → body_at (suc most) left p ≡ (line_at left p >>= λ first. body_at most first.1 first.2 >>= λ others. Ok (first.0 ∷ others.0, others.1))
 unfolding body_at

@@ -10,11 +10,14 @@ use Rattle.hunk_core.specs.PlainHunk.{PlainHunk}
 use Rattle.hunk_core.specs.Reading.{◌>>=◌, Ahead, ahead}
 use Rattle.unified_form.specs.declared.body.Left.{Left}
 use Rattle.unified_form.specs.declared.range.Ranges.{Ranges}
-use Rattle.unified_form.specs.Ranges.{◌>>=◌ as ◌>>?◌, after, size_at, count_at, range_at, range_line, from_ranges, opening, is_opening}
-use Rattle.unified_form.specs.Bodies.{is_backslash, after_backslash, body_at}
+use Rattle.unified_form.specs.Ranges.{◌>>=◌ as ◌>>?◌, size_at, count_at, range_at, range_line, from_ranges, opening, is_opening}
+use Rattle.hunk_core.specs.LineTests.{after}
+use Rattle.unified_form.specs.Bodies.{body_at}
+use Rattle.hunk_core.specs.LineTests.{is_backslash, after_backslash}
 use Rattle.unified_form.specs.Hunks.{at_line, left_of, change, settled, first_hunk, hunk_at, begins_hunk, hunks_at, reading}
 use Rattle.unified_form.specs.Grammar.{counts_of, ranges_of, SpellsHunk, SpellsHunks, EndsPiece, IsPiece}
-use Rattle.unified_form.proofs.Steps.{bind_ok, chosen, guard_ok, ok_is, hunk-shrinks}
+use Rattle.unified_form.proofs.Steps.{hunk-shrinks}
+use Rattle.hunk_core.proofs.ReadSteps.{bind_ok, chosen, guard_ok, ok_is}
 use Rattle.unified_form.proofs.RangeGrammar.{opening-takes, opening-again}
 use Rattle.unified_form.proofs.Bodies.{body_takes, body_again}
 
@@ -107,7 +110,7 @@ opening_quiet : (rest : List (List ℕ)) → begins_hunk rest ≡ true → after
 opening_quiet [] e = refl
 opening_quiet (line ∷ rest) e = rw (opening_first line e) refl
 
-hunk_opens : (least : ℕ) (own tail : List (List ℕ)) (h : PlainHunk) → SpellsHunk least own h → begins_hunk (own ++ tail) ≡ true
+pub hunk_opens : (least : ℕ) (own tail : List (List ℕ)) (h : PlainHunk) → SpellsHunk least own h → begins_hunk (own ++ tail) ≡ true
 hunk_opens least [] tail h s = absurd s
 hunk_opens least (line ∷ lines) tail h s = opens least line (ranges_of h) (opening-again least line (ranges_of h) s.0 s.1)
 

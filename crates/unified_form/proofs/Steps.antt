@@ -1,36 +1,13 @@
 -- A step that did not fail, and how many lines it leaves.
-use Rattle.std.proofs.Common.{◌≡◌, ℕ, zero, suc, ◌+◌, ◌≤◌, ◌<◌, ◌⊎◌, Bool, true, false, cond, eqb, List, [], ◌∷◌, length, Option, None, Some, Result, Ok, Err, refl, arith, inl, inr}
+use Rattle.std.proofs.Common.{◌≡◌, ℕ, zero, suc, ◌+◌, ◌≤◌, ◌<◌, Bool, true, false, cond, eqb, List, [], ◌∷◌, length, Option, None, Some, Ok, refl, arith, inl, inr}
 use Rattle.hunk_core.specs.PlainHunk.{Marked, PlainHunk}
-use Rattle.hunk_core.specs.Reading.{◌>>=◌, Fault, Ahead, ahead}
+use Rattle.hunk_core.proofs.ReadSteps.{bind_ok, chosen, guard_ok, must_ok, ok_is}
+use Rattle.hunk_core.specs.Reading.{◌>>=◌, Ahead, ahead}
 use Rattle.unified_form.specs.declared.body.Left.{Left}
 use Rattle.unified_form.specs.Ranges.{opening}
-use Rattle.unified_form.specs.Bodies.{is_backslash, after_backslash, is_last_line, marked_at, room_at, ended_by, first_line, line_at, body_at}
+use Rattle.unified_form.specs.Bodies.{is_last_line, marked_at, room_at, ended_by, first_line, line_at, body_at}
+use Rattle.hunk_core.specs.LineTests.{is_backslash, after_backslash}
 use Rattle.unified_form.specs.Hunks.{at_line, left_of, change, settled, first_hunk}
-
--- the value of a step that did not fail
-pub bind_ok : {A B : Type 0} (r : Result A Fault) (f : A → Result B Fault) (y : B) → (r >>= f) ≡ Ok y → (x : A) × (r ≡ Ok x) × (f x ≡ Ok y)
-bind_ok (Ok x) f y e = (x, refl, e)
-bind_ok (Err d) f y e = absurd cc
-
--- which way a test went
-pub chosen : {A : Type 0} (b : Bool) (x y z : A) → cond b x y ≡ z → ((b ≡ true) × (x ≡ z)) ⊎ ((b ≡ false) × (y ≡ z))
-chosen true x y z e = inl (refl, e)
-chosen false x y z e = inr (refl, e)
-
--- a test that must be passed
-pub guard_ok : {A : Type 0} (b : Bool) (d : Fault) (x y : A) → cond b (Err d) (Ok x) ≡ Ok y → (b ≡ false) × (x ≡ y)
-guard_ok true d x y e = absurd cc
-guard_ok false d x y e = (refl, cc)
-
-pub must_ok : {A : Type 0} (b : Bool) (d : Fault) (x y : A) → cond b (Ok x) (Err d) ≡ Ok y → (b ≡ true) × (x ≡ y)
-must_ok true d x y e = (refl, cc)
-must_ok false d x y e = absurd cc
-
-abbrev done : {A : Type 0} → A → Result A Fault
-done x = Ok x
-
-pub ok_is : {A : Type 0} (x y : A) → done x ≡ done y → x ≡ y
-ok_is x y e = cc
 
 -- a backslash line is one line
 pub after_backslash-shrinks : (rest more : List (List ℕ)) → after_backslash rest ≡ Some more → length more < length rest

@@ -1,15 +1,12 @@
 -- The body of a hunk, read line by line.
-use Rattle.std.specs.Prelude.{ℕ, zero, suc, ◌+◌, ◌-◌, Bool, ◌==◌, ◌&&◌, ◌||◌, List, [], ◌∷◌, length, take, Option, None, Some, is_some, Result, Ok, Err, if◌then◌else◌}
+use Rattle.std.specs.Prelude.{ℕ, zero, suc, ◌+◌, ◌-◌, Bool, ◌==◌, ◌&&◌, ◌||◌, List, [], ◌∷◌, Option, None, Some, Result, Ok, Err, if◌then◌else◌}
 use Rattle.hunk_core.specs.declared.Mark.{Mark}
 use Rattle.hunk_core.specs.declared.Mark.TheVariants.{Keep, Drop, Add}
 use Rattle.hunk_core.specs.declared.BadKind.TheVariants as kinds
 use Rattle.hunk_core.specs.PlainHunk.{Marked}
+use Rattle.hunk_core.specs.LineTests.{marked, unended, is_backslash, after_backslash}
 use Rattle.hunk_core.specs.Reading.{Fault, fault, ◌>>=◌, Ahead, ahead}
 use Rattle.unified_form.specs.declared.body.Left.{Left}
-use Rattle.unified_form.specs.Ranges.{after}
-
-abbrev pub marked : Mark → List ℕ → Marked
-marked mark line = record { mark = mark; line = line }
 
 -- a mark, and what stands behind it; an empty line is an empty line that is kept
 abbrev pub mark_at : List ℕ → Option Marked
@@ -20,19 +17,12 @@ mark_at (b ∷ bytes) = if b == 32 then Some (marked Keep bytes)
     else if b == 10 then Some (marked Keep (b ∷ bytes))
     else None
 
--- a backslash and a space
-abbrev pub is_backslash : List ℕ → Bool
-is_backslash line = is_some (after (92 ∷ 32 ∷ []) line)
-
--- what stands after a backslash line, if there is one
-abbrev pub after_backslash : List (List ℕ) → Option (List (List ℕ))
-after_backslash [] = None
-after_backslash (line ∷ rest) = if is_backslash line then Some rest else None
-
+-- a line of a body has a mark
 abbrev pub must_be_marked : ℕ → List ℕ → Option Marked → Result Marked Fault
 must_be_marked number line (Some m) = Ok m
 must_be_marked number line None = Err (fault number (if is_backslash line then kinds.MisplacedBackslash else kinds.Mark))
 
+-- the mark of a line of a body, or why it has none
 abbrev pub marked_at : ℕ → List ℕ → Result Marked Fault
 marked_at number line = must_be_marked number line (mark_at line)
 
@@ -48,15 +38,12 @@ is_last_line Keep left = left.old == 0 && left.new == 0
 is_last_line Drop left = left.old == 0
 is_last_line Add left = left.new == 0
 
--- the line without its line feed
-abbrev pub unended : Marked → Marked
-unended m = marked m.mark (take (length m.line - 1) m.line)
-
 -- a line with what is left, and whether a backslash line follows it
 abbrev pub ended_by : ℕ → Marked → Left → List (List ℕ) → Option (List (List ℕ)) → Result (Marked × Left × Ahead) Fault
 ended_by number m left rest None = Ok (m, left, ahead (number + 1) rest)
 ended_by number m left rest (Some more) = if is_last_line m.mark left then Ok (unended m, left, ahead (number + 2) more) else Err (fault (number + 1) kinds.MisplacedBackslash)
 
+-- the first of these lines as a line of a body with this left, what is left behind it, and what is ahead
 unfoldable pub first_line : Left → ℕ → List (List ℕ) → Result (Marked × Left × Ahead) Fault
 first_line left number [] = Err (fault number kinds.ShortEnd)
 first_line left number (line ∷ rest) = do

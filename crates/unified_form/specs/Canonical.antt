@@ -1,16 +1,17 @@
 -- The canonical text of a hunk.
-use Rattle.std.specs.Prelude.{◌≡◌, ◌≢◌, ℕ, Bool, true, false, ◌==◌, ◌⊎◌, List, [], ◌∷◌, ◌++◌, codes, if◌then◌else◌}
-use Rattle.std.specs.List.{flat_map, AllByRecursion}
+use Rattle.std.specs.Prelude.{◌≡◌, ℕ, ◌==◌, List, [], ◌∷◌, ◌++◌, codes, if◌then◌else◌}
+use Rattle.std.specs.List.{flat_map}
+use Rattle.line_list.specs.Lines.{lines}
 use Rattle.num_text.specs.Numbers.{decimal}
-use Rattle.line_list.specs.Lines.{IsLine}
 use Rattle.hunk_core.specs.PlainHunk.{Marked, PlainHunk}
-use Rattle.unified_form.specs.Bodies.{is_last_line}
-use Rattle.unified_form.specs.Grammar.{mark_byte, counts_of, ranges_of, IsLawful}
+use Rattle.hunk_core.specs.LineTests.{ends_line}
+use Rattle.unified_form.specs.Grammar.{mark_byte, counts_of, SpellsHunk, IsPiece}
 
 -- a count of 1 is left off
 abbrev pub range_text : ℕ → ℕ → List ℕ
 range_text start count = if count == 1 then decimal start else decimal start ++ 44 ∷ decimal count
 
+-- '@@ -', the old range, ' +', the new range, ' @@' and nothing behind it
 abbrev pub range_line_text : ℕ → ℕ → ℕ → ℕ → List ℕ
 range_line_text old_start old_count new_start new_count = (64 ∷ 64 ∷ 32 ∷ 45 ∷ []) ++ (range_text old_start old_count ++ ((32 ∷ 43 ∷ []) ++ (range_text new_start new_count ++ ((32 ∷ 64 ∷ 64 ∷ []) ++ 10 ∷ []))))
 
@@ -18,31 +19,17 @@ range_line_text old_start old_count new_start new_count = (64 ∷ 64 ∷ 32 ∷ 
 abbrev pub no_newline : List ℕ
 no_newline = 92 ∷ 32 ∷ (codes "No newline at end of file" ++ 10 ∷ [])
 
-abbrev pub ends_line : List ℕ → Bool
-ends_line [] = false
-ends_line (b ∷ []) = b == 10
-ends_line (b ∷ c ∷ bytes) = ends_line (c ∷ bytes)
+-- a line behind its mark
+abbrev pub line_text : Marked → List ℕ
+line_text m = mark_byte m.mark ∷ (m.line ++ (if ends_line m.line then [] else 10 ∷ no_newline))
 
-abbrev pub line_lines : Marked → List (List ℕ)
-line_lines m = if ends_line m.line then (mark_byte m.mark ∷ m.line) ∷ [] else (mark_byte m.mark ∷ (m.line ++ 10 ∷ [])) ∷ no_newline ∷ []
-
-abbrev pub body_lines : List Marked → List (List ℕ)
-body_lines [] = []
-body_lines (m ∷ body) = line_lines m ++ body_lines body
-
-abbrev pub hunk_lines : PlainHunk → List (List ℕ)
-hunk_lines h = range_line_text h.old_start (counts_of h.body).old h.new_start (counts_of h.body).new ∷ body_lines h.body
-
--- a line has a line feed at its end, or it has none and is the last of its sides
-abbrev pub LinesFit : List Marked → Type 0
-LinesFit [] = Unit {0}
-LinesFit (m ∷ body) = (IsLine m.line ⊎ (AllByRecursion (λ b. b ≢ 10) m.line × (is_last_line m.mark (counts_of body) ≡ true))) × LinesFit body
-
--- what has a canonical text
-pub record IsHunk (least : ℕ) (h : PlainHunk) : Type 0 where
-  pub ranges : IsLawful least (ranges_of h)
-  pub body : LinesFit h.body
-
--- the bytes
+-- the range line, and the lines of the body
 abbrev pub canonical : PlainHunk → List ℕ
-canonical h = flat_map (λ line. line) (hunk_lines h)
+canonical h = range_line_text h.old_start (counts_of h.body).old h.new_start (counts_of h.body).new ++ flat_map line_text h.body
+
+-- what was written spells the hunk before this rest, and whatever hunks the whole spells begin with it
+pub record SpellsFirst (h : PlainHunk) (written rest : List ℕ) : Type 0 where
+  pub own : List (List ℕ)
+  pub parts : lines (written ++ rest) ≡ own ++ lines rest
+  pub spelled : SpellsHunk 0 own h
+  pub first : (number next : ℕ) (hs : List PlainHunk) (behind : List (List ℕ)) → IsPiece number (lines (written ++ rest)) hs next behind → (others : List PlainHunk) × (hs ≡ h ∷ others)

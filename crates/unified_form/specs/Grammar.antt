@@ -7,14 +7,17 @@ use Rattle.unified_form.specs.declared.body.Left.{Left}
 use Rattle.unified_form.specs.declared.range.Ranges.{Ranges}
 use Rattle.num_text.specs.Numbers.{IsNumeral}
 use Rattle.unified_form.specs.Ranges.{Fits}
-use Rattle.unified_form.specs.Bodies.{marked, unended, is_backslash, after_backslash, is_last_line}
+use Rattle.unified_form.specs.Bodies.{is_last_line}
+use Rattle.hunk_core.specs.LineTests.{marked, unended, is_backslash, after_backslash}
 use Rattle.unified_form.specs.Hunks.{begins_hunk}
 
+-- a space, a minus or a plus
 abbrev pub mark_byte : Mark → ℕ
 mark_byte Keep = 32
 mark_byte Drop = 45
 mark_byte Add = 43
 
+-- nothing but its line feed
 abbrev pub IsEmptyLine : List ℕ → Type 0
 IsEmptyLine [] = ⊥
 IsEmptyLine (b ∷ bytes) = b ≡ 10
@@ -29,6 +32,7 @@ one_more Keep left = record { old = left.old + 1; new = left.new + 1 }
 one_more Drop left = record { old = left.old + 1; new = left.new }
 one_more Add left = record { old = left.old; new = left.new + 1 }
 
+-- how many lines of a body are on each side
 abbrev pub counts_of : List Marked → Left
 counts_of [] = record { old = 0; new = 0 }
 counts_of (m ∷ body) = one_more m.mark (counts_of body)
@@ -64,7 +68,7 @@ pub record SpellsRanges (line : List ℕ) (r : Ranges) : Type 0 where
   pub new_range : SpellsRange new r.new_start r.new_count
 
 -- no range of lines starts at 0, no number is too large, some line is counted, and the old start is not below the least
-pub record IsLawful (least : ℕ) (r : Ranges) : Type 0 where
+pub record AreFair (least : ℕ) (r : Ranges) : Type 0 where
   pub old_begins : r.old_start ≡ 0 → r.old_count ≡ 0
   pub new_begins : r.new_start ≡ 0 → r.new_count ≡ 0
   pub fits : Fits r
@@ -74,8 +78,9 @@ pub record IsLawful (least : ℕ) (r : Ranges) : Type 0 where
 -- these lines are this hunk, behind one that starts at least
 abbrev pub SpellsHunk : ℕ → List (List ℕ) → PlainHunk → Type 0
 SpellsHunk least [] h = ⊥
-SpellsHunk least (line ∷ rest) h = SpellsRanges line (ranges_of h) × IsLawful least (ranges_of h) × SpellsBody rest h.body
+SpellsHunk least (line ∷ rest) h = SpellsRanges line (ranges_of h) × AreFair least (ranges_of h) × SpellsBody rest h.body
 
+-- these lines are these hunks, the first behind one that starts at least
 abbrev pub SpellsHunks : ℕ → List (List ℕ) → List PlainHunk → Type 0
 SpellsHunks least piece [] = piece ≡ []
 SpellsHunks least piece (h ∷ hs) = (own : List (List ℕ)) × (rest : List (List ℕ)) × (piece ≡ own ++ rest) × SpellsHunk least own h × SpellsHunks h.old_start rest hs

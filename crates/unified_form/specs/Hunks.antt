@@ -7,15 +7,19 @@ use Rattle.hunk_core.specs.Reading.{Fault, fault, ◌>>=◌, Ahead, ahead}
 use Rattle.unified_form.specs.declared.range.Ranges.{Ranges}
 use Rattle.unified_form.specs.declared.body.Left.{Left}
 use Rattle.unified_form.specs.Ranges.{opening, is_opening}
-use Rattle.unified_form.specs.Bodies.{after_backslash, body_at}
+use Rattle.unified_form.specs.Bodies.{body_at}
+use Rattle.hunk_core.specs.LineTests.{after_backslash}
 
+-- the ranges, or the fault of this line
 abbrev pub at_line : ℕ → Result Ranges BadKind → Result Ranges Fault
 at_line number (Ok r) = Ok r
 at_line number (Err kind) = Err (fault number kind)
 
+-- what a body with these ranges has on each side
 abbrev pub left_of : Ranges → Left
 left_of r = record { old = r.old_count; new = r.new_count }
 
+-- a hunk with these starts
 abbrev pub change : Ranges → List Marked → PlainHunk
 change r body = record { old_start = r.old_start; new_start = r.new_start; body = body }
 
@@ -23,6 +27,7 @@ change r body = record { old_start = r.old_start; new_start = r.new_start; body 
 abbrev pub settled : PlainHunk → Ahead → Result (PlainHunk × Ahead) Fault
 settled h p = if is_some (after_backslash p.rest) then Err (fault p.number kinds.MisplacedBackslash) else Ok (h, p)
 
+-- a hunk whose range line is the first of these lines, and what is ahead behind it
 unfoldable pub first_hunk : ℕ → ℕ → List (List ℕ) → Result (PlainHunk × Ahead) Fault
 first_hunk least number [] = Err (fault number kinds.ShortEnd)
 first_hunk least number (line ∷ rest) = do
@@ -34,6 +39,7 @@ first_hunk least number (line ∷ rest) = do
 abbrev pub hunk_at : ℕ → Ahead → Result (PlainHunk × Ahead) Fault
 hunk_at least p = first_hunk least p.number p.rest
 
+-- a hunk opens these lines
 abbrev pub begins_hunk : List (List ℕ) → Bool
 begins_hunk [] = false
 begins_hunk (line ∷ rest) = is_opening line

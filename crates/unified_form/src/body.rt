@@ -1,14 +1,17 @@
 //! The body of a hunk.
 
-ghost use Rattle.std.specs.Prelude.{◌≡◌, ℕ, List, ◌+◌, ◌<◌, ◌≤◌, ◌^◌, length, drop, slice_range, Option, IfSome, IfOk};
+ghost use Rattle.std.specs.Prelude.{◌≡◌, ℕ, List, ◌+◌, ◌<◌, ◌≤◌, ◌^◌, length, drop, slice_range, Option, IfSome, IfOk, All, vec_len, ◌-◌};
 ghost use Rattle.line_list.specs.Lines.{lines, IsLineAt};
 ghost use Rattle.hunk_core.specs.PlainHunk.{marked_of, body_of};
+ghost use Rattle.hunk_core.specs.Turned.{LiesIn};
 ghost use Rattle.hunk_core.specs.Reading.{Gives, IsPlace, ahead_of};
-ghost use Rattle.unified_form.specs.Ranges.{Reads};
-ghost use Rattle.unified_form.specs.Bodies.{mark_at, marked_at, room_at, is_last_line, unended, is_backslash, after_backslash, line_at, body_at};
+ghost use Rattle.hunk_core.specs.Reading.{Reads};
+ghost use Rattle.unified_form.specs.Bodies.{mark_at, marked_at, room_at, is_last_line, line_at, body_at};
+ghost use Rattle.hunk_core.specs.LineTests.{unended, is_backslash, after_backslash};
 
-use crate::range::after_prefix;
-use hunk_core::{BadKind, FormFault, HunkLine, Mark, Place};
+use hunk_core::{
+    BadKind, FormFault, HunkLine, Mark, Place, backslash_end, bad, begins_backslash, without_feed,
+};
 use line_list::{Span, next_line};
 use std::alloc::Global;
 
@@ -19,12 +22,6 @@ pub struct Left {
     pub new: u32,
 }
 
-pub fn bad(line: u64, kind: BadKind) -> FormFault
-    ensures { result ≡ FormFault.Malformed line kind }
-{
-    FormFault::Malformed { line, kind }
-}
-
 /// The mark of the line from `at` to `end`, and what stands behind it.
 fn mark_of(text: &[u8], at: usize, end: usize) -> Option<HunkLine>
     requires low { at < end }
@@ -32,6 +29,7 @@ fn mark_of(text: &[u8], at: usize, end: usize) -> Option<HunkLine>
     requires short { length text.now < 2 ^ 32 }
     ensures exact { Reads (marked_of text.now) result (mark_at (slice_range text.now at end)) }
     ensures ends { IfSome result (λ x. x.span.end ≡ end) }
+    ensures order { IfSome result (λ x. x.span.start ≤ end) }
 {
     let span = Span {
         start: at as u32 + 1,
@@ -61,32 +59,13 @@ fn mark_of(text: &[u8], at: usize, end: usize) -> Option<HunkLine>
     }
 }
 
-fn begins_backslash(line: &[u8]) -> bool
-    ensures { result ≡ is_backslash line.now }
-{
-    after_prefix(line, b"\\ ").is_some()
-}
-
-/// The place after the backslash line at `at`, if there is one.
-pub fn backslash_end(text: &[u8], at: usize) -> Option<usize>
-    requires { at ≤ length text.now }
-    ensures range { IfSome result (λ e. at < e × e ≤ length text.now) }
-    ensures exact { Reads (λ e. lines (drop e text.now)) result (after_backslash (lines (drop at text.now))) }
-{
-    let end = next_line(text, at)?;
-    if begins_backslash(&text[at..end]) {
-        Some(end)
-    } else {
-        None
-    }
-}
-
 /// The mark of a line that must have one.
 fn marked_line(text: &[u8], at: usize, end: usize, number: u64) -> Result<HunkLine, FormFault>
     requires low { at < end }
     requires high { end ≤ length text.now }
     requires short { length text.now < 2 ^ 32 }
     ensures ends { IfOk result (λ x. x.span.end ≡ end) }
+    ensures order { IfOk result (λ x. x.span.start ≤ end) }
     ensures exact { Gives (marked_of text.now) result (marked_at number (slice_range text.now at end)) }
 {
     match mark_of(text, at, end) {
@@ -129,26 +108,13 @@ fn is_last(mark: Mark, left: Left) -> bool
     }
 }
 
-/// The line without its line feed.
-fn without_feed(line: HunkLine) -> HunkLine
-    requires { 0 < line.span.end }
-    ensures { (text : List ℕ) → line.span.end ≤ length text → marked_of text result ≡ unended (marked_of text line) }
-{
-    HunkLine {
-        mark: line.mark,
-        span: Span {
-            start: line.span.start,
-            end: line.span.end - 1,
-        },
-    }
-}
-
 /// A line of the body, what is left behind it, and the place after it.
 #[tactic(auto, unfolding(crate::specs::Bodies::first_line))]
 fn line_of(text: &[u8], left: Left, place: Place) -> Result<(HunkLine, Left, Place), FormFault>
     requires { IsPlace text.now place }
     ensures place { IfOk result (λ x. IsPlace text.now x.2 × (place.at < x.2.at)) }
     ensures less { IfOk result (λ x. x.1.old + x.1.new < left.old + left.new) }
+    ensures lies { IfOk result (λ x. LiesIn text.now x.0.span) }
     ensures exact { Gives (λ x. (marked_of text.now x.0, x.1, ahead_of text.now x.2)) result (line_at left (ahead_of text.now place)) }
 {
     let number = place.number;
@@ -180,6 +146,33 @@ fn line_of(text: &[u8], left: Left, place: Place) -> Result<(HunkLine, Left, Pla
     }
 }
 
+/// How many lines a body with these counts has at `at`, so that no more is reserved than the text holds.
+fn lines_ahead(text: &[u8], at: usize, left: Left) -> usize
+    requires { at ≤ length text.now }
+    ensures { result ≤ length text.now - at }
+{
+    let mut count = 0;
+    let mut at = at;
+    let mut left = left;
+    while left.old > 0 || left.new > 0 {
+        let Some(end) = next_line(text, at) else {
+            break;
+        };
+        match text[at] {
+            b'-' => left.old = left.old.saturating_sub(1),
+            b'+' => left.new = left.new.saturating_sub(1),
+            b'\\' => {}
+            _ => {
+                left.old = left.old.saturating_sub(1);
+                left.new = left.new.saturating_sub(1);
+            }
+        }
+        count += 1;
+        at = end;
+    }
+    count
+}
+
 /// The lines of a body with these counts, and the place after it.
 pub fn read_body(
     alloc: Global,
@@ -189,9 +182,11 @@ pub fn read_body(
 ) -> Result<(Vec<HunkLine>, Place), FormFault>
     requires { IsPlace text.now place }
     ensures place { IfOk result (λ x. IsPlace text.now x.1 × (place.at ≤ x.1.at)) }
+    ensures few { IfOk result (λ x. vec_len x.0 ≤ x.1.at) }
+    ensures lies { IfOk result (λ x. All (λ l. LiesIn text.now l.span) x.0.items) }
     ensures exact { Gives (λ x. (body_of text.now x.0.items, ahead_of text.now x.1)) result (body_at (left.old + left.new) left (ahead_of text.now place)) }
 {
-    let mut lines = Vec::new(alloc);
+    let mut lines = Vec::with_capacity(alloc, lines_ahead(text, place.at, left))?;
     let mut left = left;
     let mut place = place;
     while left.old > 0 || left.new > 0 {

@@ -1,30 +1,27 @@
 //! Hunks that follow each other.
 
-ghost use Rattle.std.specs.Prelude.{◌≡◌, ℕ, List, true, ◌+◌, ◌<◌, ◌≤◌, ◌^◌, length, drop, IfOk};
+ghost use Rattle.std.specs.Prelude.{◌≡◌, ◌≢◌, ◌↔◌, ℕ, List, [], ◌∷◌, ◌++◌, Err, true, None, ◌+◌, ◌<◌, ◌≤◌, ◌^◌, length, drop, slice_range, IfOk};
 ghost use Rattle.line_list.specs.Lines.{lines};
-ghost use Rattle.hunk_core.specs.PlainHunk.{PlainHunk, hunk_of, hunks_of};
-ghost use Rattle.hunk_core.specs.Reading.{Gives, IsPlace, ahead_of};
-ghost use Rattle.unified_form.specs.Grammar.{IsPiece};
-ghost use Rattle.unified_form.specs.Views.{read_of, these};
+ghost use Rattle.hunk_core.specs.PlainHunk.{Marked, PlainHunk, hunk_of, hunks_of, lines_on, old_lines, new_lines};
+ghost use Rattle.hunk_core.specs.declared.Mark.{Mark};
+ghost use Rattle.hunk_core.specs.declared.Side.{Side};
+ghost use Rattle.hunk_core.specs.Sides.{is_on_side};
+ghost use Rattle.num_text.specs.Numbers.{is_digit};
+ghost use Rattle.unified_form.specs.Ranges.{is_opening};
+ghost use Rattle.unified_form.specs.Bodies.{is_last_line};
+ghost use Rattle.hunk_core.specs.Reading.{Fault, Gives, IsPlace, ahead_of};
+ghost use Rattle.unified_form.specs.FirstFault.{AgreeTo};
+ghost use Rattle.hunk_core.specs.Turned.{IsLawful};
+ghost use Rattle.hunk_core.specs.Rules.{first_broken};
+ghost use Rattle.unified_form.specs.Grammar.{counts_of, IsPiece, SpellsHunk};
+ghost use Rattle.hunk_core.specs.Pieces.{read_of, these, AreInTurn, SpellInTurn, AreSound};
 ghost use Rattle.unified_form.specs.Hunks.{hunk_at, begins_hunk, reading};
 
-use crate::body::{Left, backslash_end, bad, read_body};
+use crate::body::{Left, read_body};
 use crate::range::{opening_of, opens_hunk};
-use hunk_core::{BadKind, FormFault, Hunk, Place};
+use hunk_core::{BadKind, FormFault, Hunk, Hunks, Place, backslash_end, bad};
 use line_list::{Span, next_line};
 use std::alloc::Global;
-
-/// Hunks that were read.
-#[derive(Debug, Drop)]
-pub struct Hunks {
-    pub items: Vec<Hunk>,
-    /// The pieces of the text that the hunks stand in.
-    pub spans: Vec<Span>,
-    /// The place after the last hunk.
-    pub end: usize,
-    /// The number of the line there.
-    pub next: u64,
-}
 
 /// Whether a hunk opens at `at`.
 pub fn at_opening(text: &[u8], at: usize) -> bool
@@ -37,9 +34,9 @@ pub fn at_opening(text: &[u8], at: usize) -> bool
     }
 }
 
-/// A hunk whose old start is at least `least`.
+/// A hunk whose old start is at least `least`, with the place after it.
 #[tactic(auto, unfolding(crate::specs::Hunks::first_hunk))]
-fn read_hunk(
+fn take_hunk(
     alloc: Global,
     text: &[u8],
     least: u64,
@@ -47,6 +44,7 @@ fn read_hunk(
 ) -> Result<(Hunk, Place), FormFault>
     requires { IsPlace text.now place }
     ensures place { IfOk result (λ x. IsPlace text.now x.1 × (place.at < x.1.at)) }
+    ensures lawful { IfOk result (λ x. IsLawful text.now x.0) }
     ensures exact { Gives (λ x. (hunk_of text.now x.0, ahead_of text.now x.1)) result (hunk_at least (ahead_of text.now place)) }
 {
     let number = place.number;
@@ -81,12 +79,32 @@ fn read_hunk(
     Ok((hunk, next))
 }
 
+/// The same, with what its piece of the text is.
+fn read_hunk(
+    alloc: Global,
+    text: &[u8],
+    least: u64,
+    place: Place,
+) -> Result<(Hunk, Place), FormFault>
+    requires { IsPlace text.now place }
+    ensures place { IfOk result (λ x. IsPlace text.now x.1 × (place.at < x.1.at)) }
+    ensures piece { IfOk result (λ x. SpellsHunk least (lines (slice_range text.now place.at x.1.at)) (hunk_of text.now x.0)) }
+    ensures lawful { IfOk result (λ x. IsLawful text.now x.0) }
+    ensures unbroken { IfOk result (λ x. first_broken (hunk_of text.now x.0) ≡ None) }
+    ensures exact { Gives (λ x. (hunk_of text.now x.0, ahead_of text.now x.1)) result (hunk_at least (ahead_of text.now place)) }
+{
+    take_hunk(alloc, text, least, place)
+}
+
 /// The hunks that follow each other, by reading on.
 fn read_all(alloc: Global, text: &[u8], at: usize, line: u64) -> Result<Hunks, FormFault>
     requires short { length text.now < 2 ^ 32 }
     requires within { at ≤ length text.now }
     requires small { line < 2 ^ 32 }
     ensures within { IfOk result (λ h. h.end ≤ length text.now) }
+    ensures turn { IfOk result (λ h. AreInTurn at h.spans.items h.end) }
+    ensures pieces { IfOk result (λ h. SpellInTurn SpellsHunk text.now 0 h.spans.items (hunks_of text.now h.items.items)) }
+    ensures sound { IfOk result (λ h. AreSound text.now h) }
     ensures exact { Gives (read_of text.now) result
         (reading line (lines (drop at text.now))) }
 {
@@ -119,6 +137,11 @@ pub fn read_hunks(alloc: Global, text: &[u8], at: usize, line: u64) -> Result<Hu
     requires opens { begins_hunk (lines (drop at text.now)) ≡ true }
     requires small { line < 2 ^ 32 }
     ensures within { IfOk result (λ h. h.end ≤ length text.now) }
+    // The spans are the pieces of the hunks, one behind the other from `at` up to the end.
+    ensures turn { IfOk result (λ h. AreInTurn at h.spans.items h.end) }
+    ensures pieces { IfOk result (λ h. SpellInTurn SpellsHunk text.now 0 h.spans.items (hunks_of text.now h.items.items)) }
+    // Each hunk is lawful over the text, and breaks none of the rules of `Hunk::check`.
+    ensures sound { IfOk result (λ h. AreSound text.now h) }
     // What is read is spelled so, by the lines up to the end, and no hunk nor backslash line stands there.
     ensures found { IfOk result (λ h. IsPiece line (lines (drop at text.now)) (hunks_of text.now h.items.items) h.next (lines (drop h.end text.now))) }
     // What is spelled so is read, unless memory runs out.
@@ -130,3 +153,29 @@ pub fn read_hunks(alloc: Global, text: &[u8], at: usize, line: u64) -> Result<Hu
 {
     read_all(alloc, text, at, line)
 }
+
+/// What makes a fault the first one.
+pub fn first_faults()
+    // It stays whatever lines come after its own, unless the text ends too early.
+    ensures stays { (number : ℕ) (lines others : List (List ℕ)) (e : Fault) → reading number lines ≡ Err e → e.kind ≢ BadKind.ShortEnd
+        → AgreeTo e.line number lines others → reading number others ≡ Err e }
+    // No lines that are the same up to the fault are spelled.
+    ensures unspelled { (number : ℕ) (lines others : List (List ℕ)) (e : Fault) (hs : List PlainHunk) (next : ℕ) (rest : List (List ℕ))
+        → reading number lines ≡ Err e → e.kind ≢ BadKind.ShortEnd → AgreeTo e.line number lines others → IsPiece number others hs next rest → ⊥ }
+    // A text that ends too early is at fault one line after its last.
+    ensures short { (number : ℕ) (lines : List (List ℕ)) (e : Fault) → reading number lines ≡ Err e → e.kind ≡ BadKind.ShortEnd → e.line ≡ number + length lines }
+    // No fault comes before a line that hunks begin with.
+    ensures late { (number : ℕ) (front behind others : List (List ℕ)) (e : Fault) (hs : List PlainHunk) (next : ℕ) (rest : List (List ℕ))
+        → IsPiece number (front ++ others) hs next rest → reading number (front ++ behind) ≡ Err e → number + length front ≤ e.line }
+{}
+
+/// The tests of the grammar, in the words of the diffutils manual.
+pub fn grammar_in_words()
+    // '@@ -' and a digit.
+    ensures opening { (line : List ℕ) → is_opening line ≡ true ↔ ((d : ℕ) × (rest : List ℕ) × (line ≡ 64 ∷ 64 ∷ 32 ∷ 45 ∷ d ∷ rest) × (is_digit d ≡ true)) }
+    // A line is the last of each side that it belongs to.
+    ensures last { (mark : Mark) (body : List Marked) → is_last_line mark (counts_of body) ≡ true ↔ ((side : Side) → is_on_side side mark ≡ true → lines_on side body ≡ []) }
+    // The counts are those of the lines.
+    ensures old { (body : List Marked) → (counts_of body).old ≡ length (old_lines body) }
+    ensures new { (body : List Marked) → (counts_of body).new ≡ length (new_lines body) }
+{}

@@ -1,4 +1,4 @@
-use Rattle.hunk_core.proofs.TurnedLemmas.{turned-count, turned-leading, turned-trailing, turned-base}
+use Rattle.hunk_core.proofs.TurnedLemmas.{turned-count, turned-other-count, turned-leading, turned-trailing, turned-base}
 use Rattle.hunk_core.proofs.sides_in_words.Goals as goal
 
 pub returns-clause-count : goal.returns-clause-count
@@ -12,3 +12,6 @@ returns-clause-post c = turned-trailing
 
 pub returns-clause-base : goal.returns-clause-base
 returns-clause-base c = turned-base
+
+pub returns-clause-other_count : goal.returns-clause-other_count
+returns-clause-other_count c = turned-other-count

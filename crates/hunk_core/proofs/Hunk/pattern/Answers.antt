@@ -1,6 +1,5 @@
-use Rattle.std.proofs.Common.{arith, ap, get_or, [], List, ℕ, ◌<◌, length}
-use Rattle.hunk_core.specs.PlainHunk.{body_of, lines_on}
-use Rattle.hunk_core.proofs.SideLemmas.{turned-lines, lines-counted, rest_on}
+use Rattle.std.proofs.Common.{arith, ap, get_or, [], List, ℕ}
+use Rattle.hunk_core.proofs.SideLemmas.{turned-lines, lines-counted}
 use Rattle.hunk_core.proofs.Hunk.pattern.Goals as goal
 
 pub loop-k-init : goal.loop-k-init

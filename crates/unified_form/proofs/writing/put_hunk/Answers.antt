@@ -1,7 +1,7 @@
 use Rattle.hunk_core.specs.PlainHunk.{hunk_of}
-use Rattle.unified_form.specs.Writing.{taken}
-use Rattle.unified_form.proofs.CanonicalText.{text-read}
+use Rattle.hunk_core.specs.Turned.{taken}
+use Rattle.unified_form.proofs.Again.{spells-first}
 use Rattle.unified_form.proofs.writing.put_hunk.Goals as goal
 
 pub returns-clause-again : goal.returns-clause-again
-returns-clause-again c = λ least number rest is quiet. text-read least number (taken c.args.side c.args.starts.0 c.args.starts.1 (hunk_of c.args.text.now c.args.hunk.now)) rest is quiet
+returns-clause-again g c = λ rest unbroken clean quiet. spells-first (taken c.args.side c.args.starts.0 c.args.starts.1 (hunk_of c.args.text.now c.args.hunk.now)) rest unbroken clean quiet
