@@ -26,32 +26,60 @@ pub struct Pattern<'a> {
     pub last: u32,
 }
 
-/// All old lines of the hunk but the first `front` and the last `back`.
-pub fn pattern<'a>(
-    text: &'a [u8],
-    hunk: &'a Hunk,
-    side: Side,
-    front: u32,
-    back: u32,
-    loose: bool,
-) -> Pattern<'a>
-    requires { IsLawful text.now hunk.now }
-    ensures is { IsPattern result }
-    ensures text { result.text.now ≡ text.now }
-    ensures hunk { result.hunk.now ≡ hunk.now }
-    ensures side { result.side ≡ side }
-    ensures loose { result.loose ≡ loose }
-    ensures front { result.front ≡ front }
-    ensures last { result.last ≡ taken_count side hunk.now.body.items - back }
-{
-    Pattern {
-        text,
-        hunk,
-        side,
-        loose,
-        from: index_behind(text, hunk, side, front),
-        front,
-        last: hunk.count(side).saturating_sub(back),
+impl<'a> Pattern<'a> {
+    /// All old lines of the hunk but the first `front` and the last `back`.
+    pub fn new(
+        text: &'a [u8],
+        hunk: &'a Hunk,
+        side: Side,
+        front: u32,
+        back: u32,
+        loose: bool,
+    ) -> Pattern<'a>
+        requires { IsLawful text.now hunk.now }
+        ensures is { IsPattern result }
+        ensures text { result.text.now ≡ text.now }
+        ensures hunk { result.hunk.now ≡ hunk.now }
+        ensures side { result.side ≡ side }
+        ensures loose { result.loose ≡ loose }
+        ensures front { result.front ≡ front }
+        ensures last { result.last ≡ taken_count side hunk.now.body.items - back }
+        ensures same_last { result.last ≡ taken_count result.side result.hunk.now.body.items - back }
+    {
+        Pattern {
+            text,
+            hunk,
+            side,
+            loose,
+            from: index_behind(text, hunk, side, front),
+            front,
+            last: hunk.count(side).saturating_sub(back),
+        }
+    }
+
+    /// Whether the pattern's lines are those of the store when the first old line stands at `at`.
+    pub fn fits_at<S: LineStore>(&self, store: &mut S, at: u64) -> Result<bool, LineFault>
+        requires pattern { IsPattern self.now }
+        requires within { LieWithin self.now (S.seen store.old).count at }
+        ensures value { IfOk result (λ yes. (lines : List (List ℕ)) → (S.seen store.old).told ≡ Some lines → (back : ℕ) → self.now.last ≡ taken_count self.now.side self.now.hunk.now.body.items - back → yes ≡ fits lines (taken_lines self.now.text.now self.now.side self.now.hunk.now) self.now.loose self.now.front back at) }
+        ensures keeps { Keeps (S.seen store.old) (S.seen store.new) }
+        ensures cause { IfErr result (λ e. HasCause e (S.seen store.old) (S.seen store.new)) }
+    {
+        let mut i = self.front;
+        for k in self.from..self.hunk.body.len() {
+            if i >= self.last {
+                return Ok(true);
+            }
+            let line = &self.hunk.body[k];
+            if is_taken(line.mark, self.side) {
+                let want = &self.text[line.span.start as usize..line.span.end as usize];
+                if !is_line(store, want, at + i as u64, self.loose)? {
+                    return Ok(false);
+                }
+                i += 1;
+            }
+        }
+        Ok(true)
     }
 }
 
@@ -70,31 +98,6 @@ fn index_behind(text: &[u8], hunk: &Hunk, side: Side, front: u32) -> usize
         }
     }
     hunk.body.len()
-}
-
-/// Whether the pattern's lines are those of the store when the first old line stands at `at`.
-pub fn fits_at<S: LineStore>(store: &mut S, pattern: &Pattern, at: u64) -> Result<bool, LineFault>
-    requires pattern { IsPattern pattern.now }
-    requires within { LieWithin pattern.now (S.seen store.old).count at }
-    ensures value { IfOk result (λ yes. (lines : List (List ℕ)) → (S.seen store.old).told ≡ Some lines → (back : ℕ) → pattern.now.last ≡ taken_count pattern.now.side pattern.now.hunk.now.body.items - back → yes ≡ fits lines (taken_lines pattern.now.text.now pattern.now.side pattern.now.hunk.now) pattern.now.loose pattern.now.front back at) }
-    ensures keeps { Keeps (S.seen store.old) (S.seen store.new) }
-    ensures cause { IfErr result (λ e. HasCause e (S.seen store.old) (S.seen store.new)) }
-{
-    let mut i = pattern.front;
-    for k in pattern.from..pattern.hunk.body.len() {
-        if i >= pattern.last {
-            return Ok(true);
-        }
-        let line = &pattern.hunk.body[k];
-        if is_taken(line.mark, pattern.side) {
-            let want = &pattern.text[line.span.start as usize..line.span.end as usize];
-            if !is_line(store, want, at + i as u64, pattern.loose)? {
-                return Ok(false);
-            }
-            i += 1;
-        }
-    }
-    Ok(true)
 }
 
 /// Whether the store's line `k` is this one.
