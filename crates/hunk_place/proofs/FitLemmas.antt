@@ -18,12 +18,7 @@ use Rattle.hunk_core.specs.Turned.{turned, swapped_line}
 use Rattle.hunk_place.specs.Loose.{same_line}
 use Rattle.hunk_place.specs.Order.{from_to}
 use Rattle.hunk_place.specs.Placing.{fits}
-use Rattle.hunk_place.specs.Taken.{taken_lines}
-
--- the old lines of a body
-abbrev pub side_lines : List ℕ → Side → List HunkLine → List (List ℕ)
-side_lines text Forward ls = old_lines (body_of text ls)
-side_lines text Reversed ls = old_lines (map swapped_line (body_of text ls))
+use Rattle.hunk_place.specs.Taken.{taken_lines, side_lines}
 
 pub side-is : (text : List ℕ) (side : Side) (h : Hunk) → taken_lines text side h ≡ side_lines text side h.body.items
 unfolding taken_lines
@@ -106,12 +101,30 @@ pub fits-false : (lines old : List (List ℕ)) (loose : Bool) (front back w k : 
 unfolding fits
 fits-false lines old loose front back w k low high e = all-false (λ i. same_line loose (line_at old i) (line_at lines (w + i - 1))) (front + 1) (suc (length old - back) - (front + 1)) k (omega arith) (omega arith) e
 
--- what holds of the lines that are compared, one line on
-pub one-more : (P : ℕ → Type 0) (front back n i : ℕ) → ((k : ℕ) → front < k → k ≤ i → k + back ≤ n → P k) → (front < i + 1 → i + 1 + back ≤ n → P (i + 1)) → (k : ℕ) → front < k → k ≤ i + 1 → k + back ≤ n → P k
-one-more P front back n i h here k low high room = elim (cases_eq k (i + 1)) [
-  | inl e ↦ (let a : front < i + 1 = omega arith in let b : i + 1 + back ≤ n = omega arith in subst P (sym e) (here a b))
-  | inr ne ↦ h k low (omega arith) room
+-- what holds of the lines that were compared, one line on
+pub one-more : (P : ℕ → Type 0) (front i : ℕ) → ((k : ℕ) → front < k → k ≤ i → P k) → P (i + 1) → (k : ℕ) → front < k → k ≤ i + 1 → P k
+one-more P front i h here k low high = elim (cases_eq k (i + 1)) [
+  | inl e ↦ subst P (sym e) here
+  | inr ne ↦ h k low (omega arith)
 ]
+
+-- the lines that are compared were, and were equal
+pub fits-so : (text : List ℕ) (side : Side) (h : Hunk) (lines : List (List ℕ)) (loose : Bool) (front back w i : ℕ)
+    → ((k : ℕ) → front < k → k ≤ i → same_line loose (line_at (side_lines text side h.body.items) k) (line_at lines (w + k - 1)) ≡ true)
+    → length (side_lines text side h.body.items) - back ≤ i
+    → true ≡ fits lines (taken_lines text side h) loose front back w
+fits-so text side h lines loose front back w i same all =
+    sym (ap (λ old. fits lines old loose front back w) (side-is text side h)
+    ∙ fits-true lines (side_lines text side h.body.items) loose front back w (λ k low room. same k low (omega arith)))
+
+-- one of them differs
+pub fits-not : (text : List ℕ) (side : Side) (h : Hunk) (lines : List (List ℕ)) (loose : Bool) (front back w k : ℕ)
+    → front < k → k + back ≤ length (side_lines text side h.body.items)
+    → same_line loose (line_at (side_lines text side h.body.items) k) (line_at lines (w + k - 1)) ≡ false
+    → false ≡ fits lines (taken_lines text side h) loose front back w
+fits-not text side h lines loose front back w k low high e =
+    sym (ap (λ old. fits lines old loose front back w) (side-is text side h)
+    ∙ fits-false lines (side_lines text side h.body.items) loose front back w k low high e)
 
 -- the test of the next old line
 pub same-at : (lines old : List (List ℕ)) (loose : Bool) (w i : ℕ) (line : List ℕ) (rest : List (List ℕ)) (b : Bool) → drop i old ≡ line ∷ rest → b ≡ same_line loose line (line_at lines (w + i)) → same_line loose (line_at old (i + 1)) (line_at lines (w + (i + 1) - 1)) ≡ b
@@ -129,3 +142,7 @@ none-left xs i e =
 
 pub taken-length : (text : List ℕ) (side : Side) (h : Hunk) → length (taken_lines text side h) ≡ taken_count side h.body.items
 taken-length text side h = ap length (side-is text side h) ∙ side-length text side h.body.items
+
+-- behind as many lines as there are
+pub all-behind : {X : Type 0} (xs : List X) (i front : ℕ) → [] ≡ drop i xs → i ≤ front → [] ≡ drop front xs
+all-behind xs i front e le = sym (drop_all front xs (let n : length xs ≤ i = none-left xs i e in omega arith))

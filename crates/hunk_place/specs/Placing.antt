@@ -1,5 +1,5 @@
 -- Where a hunk stands in a list of lines. Lines are counted from 1.
-use Rattle.std.specs.Prelude.{ℕ, suc, ◌+◌, ◌-◌, max, min, ℤ, pos, negsuc, ◌+ℤ◌, List, [], ◌∷◌, length, Bool, ◌==◌, ◌&&◌, nat_lt, nat_le, if◌then◌else◌, Option, None, Some, find}
+use Rattle.std.specs.Prelude.{ℕ, suc, ◌+◌, ◌-◌, ◌<◌, ◌≤◌, max, min, ℤ, pos, negsuc, ◌+ℤ◌, List, [], ◌∷◌, length, Bool, ◌==◌, ◌&&◌, nat_lt, nat_le, if◌then◌else◌, Option, None, Some, find}
 use Rattle.std.specs.List.{list_all, range_with_len}
 use Rattle.line_store.specs.Store.{line_at}
 use Rattle.hunk_core.specs.PlainHunk.{Marked, PlainHunk, old_lines}
@@ -12,6 +12,10 @@ use Rattle.hunk_place.specs.declared.PlaceState.{PlaceState}
 -- the old lines, all but the first `front` and the last `back`, equal the lines from w + front on
 unfoldable pub fits : List (List ℕ) → List (List ℕ) → Bool → ℕ → ℕ → ℕ → Bool
 fits lines old loose front back w = list_all (λ i. same_line loose (line_at old i) (line_at lines (w + i - 1))) (from_to (front + 1) (length old - back))
+
+-- the old lines that are compared lie in a list of so many lines
+abbrev pub IsWithin : ℕ → ℕ → ℕ → ℕ → ℕ → Type 0
+IsWithin count old_count front back w = front + back < old_count → (1 ≤ w + front) × (w + old_count ≤ count + 1 + back)
 
 -- what a place is looked for with
 pub record Search : Type 0 where

@@ -1,5 +1,5 @@
 -- The line that each half holds.
-use Rattle.std.specs.Prelude.{ℕ, Option, if◌then◌else◌, Bool, true, false}
+use Rattle.std.specs.Prelude.{ℕ, Option}
 use Rattle.line_store.specs.declared.Half.{Half}
 use Rattle.line_store.specs.declared.Half.TheVariants.{First, Second}
 use Rattle.line_store.specs.declared.halves.Halves.{Halves}

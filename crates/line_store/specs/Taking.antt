@@ -1,5 +1,5 @@
 -- What a plan does when it takes a file.
-use Rattle.std.specs.Prelude.{◌≡◌, ◌≢◌, ℕ, ◌-◌, ◌^◌, ◌<◌, ◌≤◌, List, [], length, Bool, true, is_some, nat_lt, nat_le, if◌then◌else◌, Option, Some, None, find}
+use Rattle.std.specs.Prelude.{◌≡◌, ◌≢◌, ℕ, ◌-◌, ◌^◌, ◌<◌, ◌≤◌, List, [], length, true, is_some, nat_lt, nat_le, if◌then◌else◌, Option, Some, None, find}
 use Rattle.std.specs.List.{range_with_len}
 use Rattle.std.specs.Option.{option_map}
 use Rattle.line_list.specs.Lines.{lines}

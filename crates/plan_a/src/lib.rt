@@ -42,9 +42,13 @@ impl PlanA {
 }
 
 impl LineStore for PlanA {
+    ghost use Rattle.std.proofs.Common.{arith};
+    ghost use Rattle.std.proofs.lemmas.Grind.{common_steps};
     ghost use Rattle.plan_a.specs.PlanSeen.{plan_seen};
 
     ghost seen = { plan_seen };
+
+    ghost counted = { λ p. record { most = Prim.omega (arith, p.text.cut.count, p.text.cut.few, p.text.short); told = λ lines is. Prim.grind (arith, common_steps) } };
 
     fn count(&self) -> u64 {
         self.text.count()
@@ -83,3 +87,6 @@ impl Plan for PlanA {
         true
     }
 }
+
+#[cfg(test)]
+mod tests;

@@ -1,0 +1,62 @@
+use Rattle.std.proofs.Common.{◌≡◌, ◌<◌, ◌≤◌, ◌+◌, ◌-◌, ℕ, List, [], ◌∷◌, length, true, false, refl, sym, ap, ◌∙◌, subst, arith, rules, Some, drop}
+use Rattle.std.proofs.lemmas.List.{drop_all}
+use Rattle.line_store.specs.Store.{Keeps, line_at}
+use Rattle.line_store.proofs.StoreLemmas.{keeps-more}
+use Rattle.hunk_core.specs.PlainHunk.{bytes_at}
+use Rattle.hunk_core.specs.Sides.{taken_count}
+use Rattle.hunk_place.specs.Loose.{same_line}
+use Rattle.hunk_place.specs.Taken.{side_lines}
+use Rattle.hunk_place.proofs.FitLemmas.{side-length, side-skip, side-take, front-rest, fits-so, fits-not, one-more, same-at, none-left, nothing}
+use Rattle.hunk_place.proofs.pattern.Pattern.fits_at.Goals as goal
+use Rattle.hunk_place.proofs.pattern.Pattern.fits_at.Goals.{then-is_taken+in_ok-is_line+else-not-branch, else-is_taken}
+
+pub returns-then-i-self-clause-value : goal.returns-then-i-self-clause-value
+returns-then-i-self-clause-value g c lines told back last =
+    let count : length (side_lines c.args.self.now.text.now c.args.self.now.side c.args.self.now.hunk.now.body.items) ≡ taken_count c.args.self.now.side c.args.self.now.hunk.now.body.items = side-length c.args.self.now.text.now c.args.self.now.side c.args.self.now.hunk.now.body.items in
+    fits-so c.args.self.now.text.now c.args.self.now.side c.args.self.now.hunk.now lines c.args.self.now.loose c.args.self.now.front back c.args.at c.loop-k.i (c.loop-k.invariant.same lines told) (omega arith)
+
+pub returns-then-not-branch-clause-value : goal.returns-then-not-branch-clause-value
+returns-then-not-branch-clause-value g c lines told back last =
+    let old : List (List ℕ) = side_lines c.args.self.now.text.now c.args.self.now.side c.args.self.now.hunk.now.body.items in
+    let count : length old ≡ taken_count c.args.self.now.side c.args.self.now.hunk.now.body.items = side-length c.args.self.now.text.now c.args.self.now.side c.args.self.now.hunk.now.body.items in
+    let value : c.in_ok-is_line.field-0 ≡ same_line c.args.self.now.loose (bytes_at c.args.self.now.text.now c.index-line.result.now.span) (line_at lines (c.args.at + c.loop-k.i)) = c.in_ok-is_line.ensures.value lines (c.loop-k.invariant.keeps.told ∙ told) in
+    let head : drop c.loop-k.i old ≡ bytes_at c.args.self.now.text.now c.index-line.result.now.span ∷ side_lines c.args.self.now.text.now c.args.self.now.side (drop (c.loop-k.k + 1) c.args.self.now.hunk.now.body.items) =
+    side-take c.args.self.now.text.now c.args.self.now.side c.args.self.now.hunk.now.body.items c.loop-k.k c.loop-k.i c.index-line.result.now (search rules) c.index-line.ensures (search rules) c.loop-k.invariant.rest in
+    fits-not c.args.self.now.text.now c.args.self.now.side c.args.self.now.hunk.now lines c.args.self.now.loose c.args.self.now.front back c.args.at (c.loop-k.i + 1) (omega arith) (omega arith)
+    (same-at lines old c.args.self.now.loose c.args.at c.loop-k.i _ _ c.in_ok-is_line.field-0 head value ∙ c.if-not-branch.true)
+
+pub loop-k-preserved : goal.loop-k-preserved
+loop-k-preserved g c =
+    let old : List (List ℕ) = side_lines c.args.self.now.text.now c.args.self.now.side c.args.self.now.hunk.now.body.items in
+    let rest : List (List ℕ) = side_lines c.args.self.now.text.now c.args.self.now.side (drop (c.loop-k.k + 1) c.args.self.now.hunk.now.body.items) in
+    elim c.if-is_taken.branch [
+  | then-is_taken+in_ok-is_line+else-not-branch w ↦
+      let head : drop c.loop-k.i old ≡ bytes_at c.args.self.now.text.now c.index-line.result.now.span ∷ rest =
+      side-take c.args.self.now.text.now c.args.self.now.side c.args.self.now.hunk.now.body.items c.loop-k.k c.loop-k.i c.index-line.result.now (search rules) c.index-line.ensures (search rules) c.loop-k.invariant.rest in
+      record {
+        keeps = subst (λ s. Keeps (g.S.LineStore.seen c.args.store.now) (g.S.LineStore.seen s)) (sym w.store-is) (keeps-more _ _ _ c.loop-k.invariant.keeps w.in_ok-is_line.ensures.keeps);
+        low = omega (arith, w.i-is);
+        rest = sym (ap (λ n. drop n old) w.i-is ∙ front-rest _ _ _ c.loop-k.i head);
+        same = λ lines told n low high.
+            let value : w.in_ok-is_line.field-0 ≡ same_line c.args.self.now.loose (bytes_at c.args.self.now.text.now c.index-line.result.now.span) (line_at lines (c.args.at + c.loop-k.i)) = w.in_ok-is_line.ensures.value lines (c.loop-k.invariant.keeps.told ∙ told) in
+            one-more (λ n. same_line c.args.self.now.loose (line_at old n) (line_at lines (c.args.at + n - 1)) ≡ true) c.args.self.now.front c.loop-k.i
+            (c.loop-k.invariant.same lines told)
+            (same-at lines old c.args.self.now.loose c.args.at c.loop-k.i _ _ w.in_ok-is_line.field-0 head value ∙ w.if-not-branch.false)
+            n low (omega (arith, w.i-is));
+      }
+  | else-is_taken w ↦
+      record {
+        keeps = subst (λ s. Keeps (g.S.LineStore.seen c.args.store.now) (g.S.LineStore.seen s)) (sym w.store-is) c.loop-k.invariant.keeps;
+        low = omega (arith, w.i-is);
+        rest = side-skip c.args.self.now.text.now c.args.self.now.side c.args.self.now.hunk.now.body.items c.loop-k.k c.loop-k.i c.index-line.result.now (search rules) c.index-line.ensures (search rules) c.loop-k.invariant.rest ∙ ap (λ n. drop n old) (sym w.i-is);
+        same = λ lines told n low high. c.loop-k.invariant.same lines told n low (omega (arith, w.i-is));
+      }
+]
+
+pub returns-clause-value : goal.returns-clause-value
+returns-clause-value g c lines told back last =
+    let old : List (List ℕ) = side_lines c.args.self.now.text.now c.args.self.now.side c.args.self.now.hunk.now.body.items in
+    let gone : drop c.loop-k.k c.args.self.now.hunk.now.body.items ≡ [] = drop_all c.loop-k.k c.args.self.now.hunk.now.body.items (search rules) in
+    let none : side_lines c.args.self.now.text.now c.args.self.now.side [] ≡ [] = nothing c.args.self.now.text.now c.args.self.now.side in
+    let n : length old ≤ c.loop-k.i = none-left old c.loop-k.i (sym (ap (side_lines c.args.self.now.text.now c.args.self.now.side) gone ∙ none) ∙ c.loop-k.invariant.rest) in
+    fits-so c.args.self.now.text.now c.args.self.now.side c.args.self.now.hunk.now lines c.args.self.now.loose c.args.self.now.front back c.args.at c.loop-k.i (c.loop-k.invariant.same lines told) (omega arith)
