@@ -1,13 +1,13 @@
 -- Digits at fixed places of a text.
-use Rattle.std.proofs.Common.{◌≡◌, ℕ, zero, suc, ◌+◌, ◌-◌, ◌*◌, ◌/◌, ◌%◌, ◌<◌, ◌≤◌, Bool, true, false, cond, eqb, leb, ◌&&◌, List, [], ◌∷◌, ◌++◌, length, get_or, drop, Option, None, Some, refl, sym, ap, ◌∙◌, arith, inl, inr}
+use Rattle.std.proofs.Common.{◌≡◌, ℕ, zero, suc, ◌+◌, ◌-◌, ◌*◌, ◌/◌, ◌%◌, ◌<◌, ◌≤◌, true, false, leb, List, [], ◌∷◌, ◌++◌, length, get_or, drop, None, Some, refl, ap, ◌∙◌, arith, inl, inr}
 use Rattle.std.proofs.lemmas.Bool.{cases_lt, and_parts, and_from, leb-true, le-leb, eqb-true}
 use Rattle.std.proofs.lemmas.List.{drop_more}
 use Rattle.std.proofs.lemmas.Option.{option_and_then_some}
-use Rattle.std.specs.Option.{option_map, option_and_then}
+use Rattle.std.specs.Option.{option_map}
 use Rattle.num_text.specs.Numbers.{is_digit}
 use Rattle.stamp.specs.Forms.{two, four}
 use Rattle.stamp.specs.Reading.{digit_at, two_at, four_at, stands}
-use Rattle.stamp.proofs.Tests.{map-some, if-some}
+use Rattle.stamp.proofs.OptionLemmas.{map-some, if-some}
 
 -- a byte that is there
 pub piece : (text : List ℕ) (at b : ℕ) → get_or text at 0 ≡ b → 0 < b → drop at text ≡ b ∷ drop (at + 1) text

@@ -1,4 +1,4 @@
-pub mod Tests
+pub mod OptionLemmas
 pub mod Digits
 pub mod Parts
 pub mod NumericLemmas

@@ -1,15 +1,15 @@
 -- A named stamp is read as its instant, and nothing else is.
-use Rattle.std.proofs.Common.{◌≡◌, ℕ, ◌+◌, ◌-◌, ◌*◌, ◌/◌, ◌%◌, ◌<◌, ◌≤◌, Bool, true, false, cond, eqb, ◌&&◌, List, [], ◌∷◌, ◌++◌, length, get_or, take, drop, Option, None, Some, refl, sym, ap, subst, ◌∙◌, arith, inl, inr, append_assoc, length-drop}
+use Rattle.std.proofs.Common.{◌≡◌, ℕ, ◌+◌, ◌-◌, ◌*◌, ◌/◌, ◌%◌, ◌<◌, Bool, true, false, cond, eqb, ◌&&◌, List, [], ◌∷◌, ◌++◌, length, get_or, take, drop, None, Some, refl, sym, ap, ◌∙◌, arith, inl, inr, append_assoc, length-drop}
 use Rattle.std.specs.Prelude.{ℤ, pos, ◌+ℤ◌, ◌*ℤ◌, slice_range}
-use Rattle.std.proofs.lemmas.Bool.{and_parts, and_from, eqb-true, eq-eqb}
+use Rattle.std.proofs.lemmas.Bool.{and_parts, and_from, eqb-true}
 use Rattle.std.proofs.lemmas.List.{take-append-drop, drop-drop}
 use Rattle.std.proofs.lemmas.Option.{option_and_then_some}
 use Rattle.std.specs.Option.{option_map, option_and_then}
 use Rattle.jiff_core.specs.Calendar.{days_from_civil}
 use Rattle.stamp.specs.Forms.{two, four, Civil, IsCivil, IsDay, IsDayText, seconds, time_text, IsNamedStamp, IsStamp, weekdays, months}
 use Rattle.stamp.specs.Reading.{stands, digit_at, two_at, four_at, day_number, clock_of, day_of, place_among, named_day, named_of, numeric_day, numeric_of}
-use Rattle.stamp.proofs.Tests.{map-some, if-other}
-use Rattle.stamp.proofs.Digits.{byte-piece, piece, digit-some, digit-read, digit-none, two-piece, two-below, two-read, four-piece, four-read}
+use Rattle.stamp.proofs.OptionLemmas.{map-some, if-other}
+use Rattle.stamp.proofs.Digits.{byte-piece, piece, digit-some, digit-read, digit-none, two-piece, two-read, four-piece, four-read}
 use Rattle.stamp.proofs.Parts.{Clock, clock-some, clock-read, day-some, day-read, day-small}
 use Rattle.stamp.proofs.NumericLemmas.{numeric-read}
 use Rattle.stamp.proofs.NameLemmas.{place-some, Letters, weekday-letters, month-letters}

@@ -1,12 +1,11 @@
 -- A numeric stamp is read as its instant, and nothing else is.
-use Rattle.std.proofs.Common.{◌≡◌, ℕ, ◌+◌, ◌*◌, ◌≤◌, List, [], ◌∷◌, ◌++◌, length, get_or, drop, Option, None, Some, refl, sym, ap, subst, ◌∙◌, arith}
+use Rattle.std.proofs.Common.{◌≡◌, ℕ, ◌+◌, ◌*◌, List, ◌∷◌, ◌++◌, drop, Some, refl, sym, ap, ◌∙◌}
 use Rattle.std.specs.Prelude.{ℤ, pos, ◌+ℤ◌, ◌-ℤ◌, ◌*ℤ◌}
 use Rattle.std.proofs.lemmas.Option.{option_and_then_some}
-use Rattle.std.specs.Option.{option_map, option_and_then}
 use Rattle.jiff_core.specs.Calendar.{days_from_civil}
-use Rattle.stamp.specs.Forms.{two, four, Civil, IsCivil, seconds, time_text, Offset, offset_text, offset_seconds, IsNumericStamp}
+use Rattle.stamp.specs.Forms.{two, four, Civil, seconds, time_text, offset_text, offset_seconds, IsNumericStamp}
 use Rattle.stamp.specs.Reading.{clock_of, zone_of, after_fraction, numeric_day, numeric_of}
-use Rattle.stamp.proofs.Tests.{map-some}
+use Rattle.stamp.proofs.OptionLemmas.{map-some}
 use Rattle.stamp.proofs.Parts.{Clock, clock-some, clock-read, NumericDay, numeric_day-some, numeric_day-read, Zone, zone-some, zone-read, fraction-some, fraction-read}
 
 numeric-by : (text : List ℕ) (z day zone : ℤ) (clock : ℕ) → NumericDay text day → Clock text clock → Zone (after_fraction (drop 19 text)) zone → day *ℤ pos 86_400 +ℤ pos clock -ℤ zone ≡ z → IsNumericStamp text z

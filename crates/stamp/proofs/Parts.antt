@@ -1,16 +1,15 @@
 -- The day, the clock, the fraction and the zone of a stamp.
-use Rattle.std.proofs.Common.{◌≡◌, ℕ, zero, suc, ◌+◌, ◌-◌, ◌*◌, ◌/◌, ◌%◌, ◌<◌, ◌≤◌, Bool, true, false, cond, eqb, leb, ◌&&◌, ◌||◌, List, [], ◌∷◌, ◌++◌, length, get_or, drop, Option, None, Some, refl, sym, ap, ◌∙◌, arith, inl, inr, length-drop, ◌⊎◌}
+use Rattle.std.proofs.Common.{◌≡◌, ℕ, ◌+◌, ◌-◌, ◌*◌, ◌/◌, ◌%◌, ◌<◌, ◌≤◌, Bool, true, false, cond, eqb, leb, ◌&&◌, ◌||◌, List, [], ◌∷◌, ◌++◌, length, get_or, drop, None, Some, refl, sym, ap, ◌∙◌, arith, inl, inr, length-drop}
 use Rattle.std.specs.Prelude.{ℤ, pos, neg_ℤ}
 use Rattle.std.proofs.lemmas.List.{get_or-drop, drop-drop}
 use Rattle.std.proofs.lemmas.Bool.{and_right, and_parts, and_from, leb-true, le-leb, eqb-true, eq-eqb}
 use Rattle.std.proofs.lemmas.Option.{option_and_then_some}
-use Rattle.std.specs.Option.{option_map, option_and_then}
-use Rattle.jiff_core.specs.Calendar.{is_leap_year, days_in_month, days_from_civil}
+use Rattle.jiff_core.specs.Calendar.{is_leap_year, days_from_civil}
 use Rattle.num_text.specs.Numbers.{is_digit, after_digits, AllDigits}
 use Rattle.stamp.specs.Forms.{two, four, IsDay, IsTime, time_text, Offset, offset_text, offset_seconds, IsFraction}
 use Rattle.stamp.specs.Reading.{two_at, four_at, stands, is_day, day_number, clock_of, zone_of, after_fraction, numeric_day}
-use Rattle.stamp.proofs.Tests.{map-some, if-some, if-other}
-use Rattle.stamp.proofs.Digits.{byte-piece, piece, two-piece, two-below, two-read, four-piece, four-read}
+use Rattle.stamp.proofs.OptionLemmas.{if-some, if-other}
+use Rattle.stamp.proofs.Digits.{byte-piece, piece, two-piece, two-read, four-piece, four-read}
 
 -- ---- the day
 

@@ -1,13 +1,11 @@
 -- What stands at the fixed places of a stamp.
-use Rattle.std.specs.Prelude.{◌≡◌, ℕ, ◌+◌, ◌-◌, ◌*◌, Bool, true, false, nat_le, ◌&&◌, ◌==◌, if◌then◌else◌, List, [], ◌∷◌, length, drop, slice_index, slice_range, slice_index_or, Option, None, Some, ℤ, pos, neg_ℤ, ◌+ℤ◌, ◌-ℤ◌, ◌*ℤ◌, option_map, IsSome}
+use Rattle.std.specs.Prelude.{ℕ, ◌+◌, ◌-◌, ◌*◌, Bool, nat_le, ◌&&◌, ◌==◌, if◌then◌else◌, List, length, drop, slice_index, slice_range, Option, None, Some, ℤ, pos, neg_ℤ, ◌+ℤ◌, ◌-ℤ◌, ◌*ℤ◌, option_map}
 use Rattle.std.specs.Option.{option_and_then}
 use Rattle.std.specs.List.{position}
 use Rattle.std.specs.Str.{bytes_eq}
 use Rattle.jiff_core.specs.Calendar.{days_in_month, days_from_civil}
 use Rattle.num_text.specs.Numbers.{is_digit, after_digits}
 use Rattle.stamp.specs.Forms.{weekdays, months}
-use Rattle.stamp.specs.declared.Stamp.{Stamp}
-use Rattle.stamp.specs.declared.Stamp.TheVariants.{Instant, Unknown}
 
 -- the byte stands there; past the end stands 0
 abbrev pub stands : List ℕ → ℕ → ℕ → Bool

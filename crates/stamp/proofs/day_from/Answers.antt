@@ -1,11 +1,10 @@
-use Rattle.std.proofs.Common.{◌≡◌, ℕ, ◌<◌, length, sym, arith, ap, subst, ◌∙◌, w64, w32, w16, w8, Some, refl}
+use Rattle.std.proofs.Common.{◌≡◌, ℕ, ◌<◌, sym, arith, ap, subst, ◌∙◌, w64, w32, w16, w8, Some, refl}
 use Rattle.std.proofs.lemmas.Int.{ints, to_z-of_z, to_z_pos}
 use Rattle.std.specs.Prelude.{ℤ, pos, neg_ℤ}
 use Rattle.std.specs.Int.{IsInRange}
 use Rattle.jiff_core.specs.Calendar.{days_from_civil, days_in_month, IsBetween}
 use Rattle.jiff.specs.Words.{epoch_day}
 use Rattle.stamp.specs.Forms.{IsDay}
-use Rattle.stamp.specs.Reading.{day_number}
 use Rattle.stamp.proofs.Parts.{day-read}
 use Rattle.stamp.proofs.day_from.Goals as goal
 use mir.Val.{SFits, to_z, of_z}

@@ -1,4 +1,4 @@
-use Rattle.std.proofs.Common.{sym, ◌∙◌}
+use Rattle.std.proofs.Common.{sym}
 use Rattle.stamp.proofs.Parts.{fraction-then, fraction-else}
 use Rattle.stamp.proofs.fraction_end.Goals as goal
 

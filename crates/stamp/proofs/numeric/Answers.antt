@@ -5,7 +5,7 @@ use Rattle.std.proofs.lemmas.List.{take_rest}
 use Rattle.jiff_core.specs.Calendar.{IsBetween}
 use Rattle.stamp.proofs.Parts.{clock-long}
 use Rattle.stamp.proofs.NumericLemmas.{numeric-of}
-use Rattle.stamp.specs.Reading.{numeric_of, zone_of, after_fraction}
+use Rattle.stamp.specs.Reading.{zone_of, after_fraction}
 use Rattle.stamp.proofs.numeric.Goals as goal
 use mir.Val.{SFits, to_z, of_z}
 

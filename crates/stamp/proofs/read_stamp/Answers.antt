@@ -1,8 +1,7 @@
-use Rattle.std.proofs.Common.{◌≡◌, List, ℕ, Option, None, Some, refl, sym, subst, ap, arith, ◌∙◌, inl, inr, w64}
+use Rattle.std.proofs.Common.{◌≡◌, List, ℕ, None, Some, refl, sym, subst, ap, arith, ◌∙◌, inl, inr, w64}
 use Rattle.std.specs.Prelude.{ℤ, pos, neg_ℤ}
 use Rattle.std.proofs.lemmas.Int.{ints, to_z-of_z}
 use Rattle.jiff_core.specs.Calendar.{IsBetween}
-use Rattle.stamp.specs.declared.Stamp.{Stamp}
 use Rattle.stamp.specs.declared.Stamp.TheVariants.{Instant, Unknown}
 use Rattle.stamp.specs.Forms.{IsStamp}
 use Rattle.stamp.specs.Reading.{numeric_of, named_of}
