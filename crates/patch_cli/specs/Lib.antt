@@ -1,5 +1,0 @@
-pub mod Request
-pub mod Plain
-pub mod Command
-pub mod Carries
-pub mod Gathered

@@ -1,0 +1,6 @@
+pub mod OptionLemmas
+pub mod Digits
+pub mod Parts
+pub mod NumericLemmas
+pub mod NameLemmas
+pub mod NamedLemmas

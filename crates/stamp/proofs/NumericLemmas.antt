@@ -1,0 +1,49 @@
+-- A numeric stamp is read as its instant, and nothing else is.
+use Rattle.std.proofs.Common.{◌≡◌, ℕ, ◌+◌, ◌*◌, List, ◌∷◌, ◌++◌, drop, Some, refl, sym, ap, ◌∙◌}
+use Rattle.std.specs.Prelude.{ℤ, pos, ◌+ℤ◌, ◌-ℤ◌, ◌*ℤ◌}
+use Rattle.std.proofs.lemmas.Option.{option_and_then_some}
+use Rattle.jiff_core.specs.Calendar.{days_from_civil}
+use Rattle.stamp.specs.Forms.{two, four, Civil, seconds, time_text, offset_text, offset_seconds, IsNumericStamp}
+use Rattle.stamp.specs.Reading.{clock_of, zone_of, after_fraction, numeric_day, numeric_of}
+use Rattle.stamp.proofs.OptionLemmas.{map-some}
+use Rattle.stamp.proofs.Parts.{Clock, clock-some, clock-read, NumericDay, numeric_day-some, numeric_day-read, Zone, zone-some, zone-read, fraction-some, fraction-read}
+
+numeric-by : (text : List ℕ) (z day zone : ℤ) (clock : ℕ) → NumericDay text day → Clock text clock → Zone (after_fraction (drop 19 text)) zone → day *ℤ pos 86_400 +ℤ pos clock -ℤ zone ≡ z → IsNumericStamp text z
+numeric-by text z day zone clock d c o e =
+    let f = fraction-some (drop 19 text) in
+    let civil : Civil = record { year = d.year; month = d.month; day = d.day; hour = c.hour; minute = c.minute; second = c.second } in
+    let same : seconds civil ≡ day *ℤ pos 86_400 +ℤ pos clock = rw (d.value, c.value) refl in
+    record {
+      civil = civil;
+      fraction = f.bytes;
+      offset = o.offset;
+      is_civil = record { day = d.is_day; time = c.time };
+      is_fraction = f.is_fraction;
+      is_offset = o.is_offset;
+      spelled = d.spelled ∙ ap (λ r. four d.year ++ (45 ∷ two d.month) ++ (45 ∷ two d.day) ++ (32 ∷ r)) (c.spelled ∙ ap (λ r. time_text c.hour c.minute c.second ++ r) (f.spelled ∙ ap (λ r. f.bytes ++ r) o.spelled));
+      value = sym e ∙ (rw (same, o.value) refl);
+    }
+
+pub numeric-some : (text : List ℕ) (z : ℤ) → numeric_of text ≡ Some z → IsNumericStamp text z
+unfolding numeric_of
+numeric-some text z e =
+    option_and_then_some _ (numeric_day text) z e (λ day d more.
+    option_and_then_some _ (clock_of text) z more (λ clock c rest.
+    map-some (λ zone. day *ℤ pos 86_400 +ℤ pos clock -ℤ zone) (zone_of (after_fraction (drop 19 text))) z rest (λ zone o value.
+    numeric-by text z day zone clock (numeric_day-some text day d) (clock-some text clock c) (zone-some (after_fraction (drop 19 text)) zone o) value)))
+
+pub numeric-read : (text : List ℕ) (z : ℤ) → IsNumericStamp text z → numeric_of text ≡ Some z
+unfolding numeric_of
+numeric-read text z s =
+    let c = s.civil in
+    let t : List ℕ = four c.year ++ (45 ∷ two c.month) ++ (45 ∷ two c.day) ++ (32 ∷ time_text c.hour c.minute c.second) ++ s.fraction ++ (32 ∷ offset_text s.offset) in
+    let day : numeric_day t ≡ Some (days_from_civil (pos c.year) c.month c.day) = numeric_day-read t c.year c.month c.day s.is_civil.day refl refl refl refl refl refl refl refl refl refl refl in
+    let clock : clock_of t ≡ Some (c.hour * 3600 + c.minute * 60 + c.second) = clock-read t c.hour c.minute c.second s.is_civil.time refl refl refl refl refl refl refl refl in
+    let past : after_fraction (drop 19 t) ≡ 32 ∷ offset_text s.offset = fraction-read s.fraction (offset_text s.offset) s.is_fraction in
+    let zone : zone_of (after_fraction (drop 19 t)) ≡ Some (offset_seconds s.offset) = ap zone_of past ∙ zone-read s.offset s.is_offset in
+    ap numeric_of s.spelled ∙ (rw (day, clock, zone) (ap Some (sym s.value)))
+
+pub numeric-of : (text : List ℕ) (day zone start : ℤ) (clock : ℕ) → numeric_day text ≡ Some day → clock_of text ≡ Some clock → zone_of (after_fraction (drop 19 text)) ≡ Some zone → start ≡ day *ℤ pos 86_400 +ℤ pos clock
+    → numeric_of text ≡ Some (start -ℤ zone)
+unfolding numeric_of
+numeric-of text day zone start clock d c o e = rw (d, c, o, e) refl
