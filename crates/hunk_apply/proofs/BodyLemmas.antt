@@ -1,7 +1,8 @@
 -- The edits of a body, line by line.
-use Rattle.std.proofs.Common.{◌≡◌, ◌≢◌, ℕ, zero, suc, ◌+◌, ◌-◌, ◌<◌, ◌≤◌, List, [], ◌∷◌, ◌++◌, length, get_or, take, drop, map, reverse, Bool, true, false, cond, refl, sym, ap, subst, ◌∙◌, arith, append_assoc, count_by}
-use Rattle.std.proofs.lemmas.List.{append-nil, take_more, take_all, map-append, get_or-reverse, length-reverse, length-take}
-use Rattle.std.proofs.lemmas.List.Sums.{sum_by-cons, count_by_more_yes, count_by_more_no, count_by-le-length, prefix_len_passes, prefix_len-le-length}
+use Rattle.std.proofs.Common.{◌≡◌, ◌⊎◌, inl, inr, ℕ, zero, suc, ◌+◌, ◌-◌, ◌<◌, ◌≤◌, List, [], ◌∷◌, ◌++◌, length, get_or, take, drop, map, reverse, Bool, true, false, cond, refl, sym, ap, subst, ◌∙◌, arith}
+use Rattle.std.proofs.lemmas.Bool.{cases_lt}
+use Rattle.std.proofs.lemmas.List.{take_all, drop_all, at_drop_more, get_or-reverse, length-reverse}
+use Rattle.std.proofs.lemmas.List.Sums.{count_by_more_yes, count_by_more_no, prefix_len_passes, prefix_len-le-length}
 use Rattle.std.specs.List.{prefix_len}
 use Rattle.hunk_core.specs.declared.Mark.{Mark}
 use Rattle.hunk_core.specs.declared.Mark.TheVariants.{Keep, Drop, Add}
@@ -10,11 +11,12 @@ use Rattle.hunk_core.specs.declared.Side.TheVariants.{Forward, Reversed}
 use Rattle.hunk_core.specs.declared.HunkLine.{HunkLine}
 use Rattle.hunk_core.specs.declared.Hunk.{Hunk}
 use Rattle.hunk_core.specs.Sides.{is_on_side, taken_count}
-use Rattle.hunk_core.specs.PlainHunk.{Marked, PlainHunk, marked_of, body_of}
-use Rattle.hunk_core.specs.Turned.{swapped_mark, swapped_line, is_keep}
+use Rattle.hunk_core.specs.PlainHunk.{Marked, marked_of, body_of, bytes_at}
+use Rattle.hunk_core.specs.Turned.{swapped_line, is_keep}
 use Rattle.hunk_place.specs.Taken.{taken}
 use Rattle.hunk_apply.specs.Body.{turned_mark, side_marked, side_body}
-use Rattle.hunk_apply.specs.Splice.{Edit, add, drop_line, marked_edits, body_edits}
+use Rattle.hunk_apply.specs.Splice.{Edit, add, marked_edits, body_edits, AreFrom}
+use Rattle.hunk_apply.proofs.SpliceLemmas.{sooner}
 
 -- the body of a hunk as it is taken
 both : (text : List ℕ) (ls : List HunkLine) → map swapped_line (body_of text ls) ≡ side_body text Reversed ls
@@ -25,10 +27,6 @@ pub body-is : (text : List ℕ) (side : Side) (h : Hunk) → (taken text side h)
 body-is text Forward h = refl
 body-is text Reversed h = both text h.body.items
 
-abbrev olds : List Marked → ℕ
-olds [] = 0
-olds (m ∷ ms) = cond (is_on_side Forward m.mark) 1 0 + olds ms
-
 pub edits-none : (at : ℕ) → body_edits at [] ≡ []
 unfolding body_edits
 edits-none at = refl
@@ -37,40 +35,42 @@ pub edits-mark : (at : ℕ) (k : Mark) (line : List ℕ) (ms : List Marked) → 
 unfolding body_edits
 edits-mark at k line ms = refl
 
-edits-push : (ms : List Marked) (at : ℕ) (m : Marked) → body_edits at (ms ++ m ∷ []) ≡ body_edits at ms ++ body_edits (at + olds ms) (m ∷ [])
-edits-push [] at m = (let z : at + 0 ≡ at = omega arith in ap (λ n. body_edits n (m ∷ [])) (sym z)) ∙ ap (λ r. r ++ body_edits (at + 0) (m ∷ [])) (sym (edits-none at))
-edits-push (x ∷ ms) at m = by x.mark (edits-push ms at m) (edits-push ms (at + 1) m)
-  where
-    by : (k : Mark) → body_edits at (ms ++ m ∷ []) ≡ body_edits at ms ++ body_edits (at + olds ms) (m ∷ []) → body_edits (at + 1) (ms ++ m ∷ []) ≡ body_edits (at + 1) ms ++ body_edits (at + 1 + olds ms) (m ∷ [])
-        → let y : Marked = record { mark = k; line = x.line } in body_edits at (y ∷ ms ++ m ∷ []) ≡ body_edits at (y ∷ ms) ++ body_edits (at + (cond (is_on_side Forward k) 1 0 + olds ms)) (m ∷ [])
-    by Keep same next = let z : at + 1 + olds ms ≡ at + (1 + olds ms) = omega arith in
-        edits-mark at Keep x.line (ms ++ m ∷ []) ∙ next ∙ ap (λ n. body_edits (at + 1) ms ++ body_edits n (m ∷ [])) z ∙ ap (λ r. r ++ body_edits (at + (1 + olds ms)) (m ∷ [])) (sym (edits-mark at Keep x.line ms))
-    by Drop same next = let z : at + 1 + olds ms ≡ at + (1 + olds ms) = omega arith in
-        edits-mark at Drop x.line (ms ++ m ∷ []) ∙ ap (λ r. drop_line at ∷ r) (next ∙ ap (λ n. body_edits (at + 1) ms ++ body_edits n (m ∷ [])) z) ∙ ap (λ r. r ++ body_edits (at + (1 + olds ms)) (m ∷ [])) (sym (edits-mark at Drop x.line ms))
-    by Add same next = let z : at + olds ms ≡ at + (0 + olds ms) = omega arith in
-        edits-mark at Add x.line (ms ++ m ∷ []) ∙ ap (λ r. add at x.line ∷ r) (same ∙ ap (λ n. body_edits at ms ++ body_edits n (m ∷ [])) z) ∙ ap (λ r. r ++ body_edits (at + (0 + olds ms)) (m ∷ [])) (sym (edits-mark at Add x.line ms))
-
 pub on-side : (side : Side) (k : Mark) → is_on_side Forward (turned_mark side k) ≡ is_on_side side k
 on-side Forward k = refl
 on-side Reversed Keep = refl
 on-side Reversed Drop = refl
 on-side Reversed Add = refl
 
-olds-is : (text : List ℕ) (side : Side) (ls : List HunkLine) → olds (side_body text side ls) ≡ taken_count side ls
-olds-is text side [] = refl
-olds-is text side (l ∷ ls) =
-    ap (λ b. cond b 1 0 + olds (side_body text side ls)) (on-side side l.mark)
-    ∙ ap (λ n. cond (is_on_side side l.mark) 1 0 + n) (olds-is text side ls)
-    ∙ sym (sum_by-cons (λ x. cond (is_on_side side x.mark) 1 0) l ls)
+-- how many old lines a line with this mark is
+abbrev pub width : Side → Mark → ℕ
+width side k = cond (is_on_side side k) 1 0
 
--- the edits of one line more
-pub edits-more : (text : List ℕ) (side : Side) (items : List HunkLine) (k at : ℕ) (l : HunkLine) → k < length items → l ≡ get_or items k l
-    → body_edits at (side_body text side (take (k + 1) items)) ≡ body_edits at (side_body text side (take k items)) ++ body_edits (at + taken_count side (take k items)) (side_marked text side l ∷ [])
-edits-more text side items k at l lt is =
-    ap (λ ls. body_edits at (side_body text side ls)) (take_more items k l lt ∙ ap (λ x. take k items ++ x ∷ []) (sym is))
-    ∙ ap (body_edits at) (map-append (side_marked text side) (take k items) (l ∷ []))
-    ∙ edits-push (side_body text side (take k items)) at (side_marked text side l)
-    ∙ ap (λ n. body_edits at (side_body text side (take k items)) ++ body_edits (at + n) (side_marked text side l ∷ [])) (olds-is text side (take k items))
+pub marked-width : (side : Side) (k t : Mark) → turned_mark side k ≡ t → width side k ≡ width Forward t
+marked-width side k t e = ap (λ b. cond b 1 0) (sym (on-side side k)) ∙ ap (λ m. cond (is_on_side Forward m) 1 0) e
+
+-- the edits of a body, its first line before the others
+edits-cons : (at : ℕ) (k : Mark) (line : List ℕ) (ms : List Marked) (later : List Edit) → let m : Marked = record { mark = k; line = line } in body_edits at (m ∷ ms) ++ later ≡ marked_edits k at line (λ _. body_edits (at + cond (is_on_side Forward k) 1 0) ms ++ later)
+edits-cons at Keep line ms later = ap (λ r. r ++ later) (edits-mark at Keep line ms)
+edits-cons at Drop line ms later = ap (λ r. r ++ later) (edits-mark at Drop line ms)
+edits-cons at Add line ms later = let z : at ≡ at + 0 = omega arith in ap (λ r. r ++ later) (edits-mark at Add line ms) ∙ ap (λ n. add at line ∷ body_edits n ms ++ later) z
+
+pub edits-next : (text : List ℕ) (side : Side) (items : List HunkLine) (k q : ℕ) (l : HunkLine) (later : List Edit) → k < length items → l ≡ get_or items k l
+    → body_edits q (side_body text side (drop k items)) ++ later ≡ marked_edits (turned_mark side l.mark) q (bytes_at text l.span) (λ _. body_edits (q + cond (is_on_side side l.mark) 1 0) (side_body text side (drop (k + 1) items)) ++ later)
+edits-next text side items k q l later lt is =
+    at_drop_more (λ ls. body_edits q (side_body text side ls) ++ later) items k l lt
+    ∙ ap (λ x. body_edits q (side_body text side (x ∷ drop (k + 1) items)) ++ later) (sym is)
+    ∙ edits-cons q (turned_mark side l.mark) (bytes_at text l.span) (side_body text side (drop (k + 1) items)) later
+    ∙ ap (λ b. marked_edits (turned_mark side l.mark) q (bytes_at text l.span) (λ _. body_edits (q + cond b 1 0) (side_body text side (drop (k + 1) items)) ++ later)) (on-side side l.mark)
+
+-- the edits of a body lie from its place on
+pub edits-from : (at : ℕ) (ms : List Marked) → AreFrom at (body_edits at ms)
+edits-from at [] = subst (AreFrom at) (sym (edits-none at)) tt
+edits-from at (m ∷ ms) = by m.mark (edits-from at ms) (edits-from (at + 1) ms)
+  where
+    by : (k : Mark) → AreFrom at (body_edits at ms) → AreFrom (at + 1) (body_edits (at + 1) ms) → let y : Marked = record { mark = k; line = m.line } in AreFrom at (body_edits at (y ∷ ms))
+    by Keep same next = subst (AreFrom at) (sym (edits-mark at Keep m.line ms)) (sooner at (at + 1) (body_edits (at + 1) ms) (omega arith) next)
+    by Drop same next = subst (AreFrom at) (sym (edits-mark at Drop m.line ms)) (omega arith, sooner at (at + 1) (body_edits (at + 1) ms) (omega arith) next)
+    by Add same next = subst (AreFrom at) (sym (edits-mark at Add m.line ms)) (omega arith, same)
 
 pub count-more : (side : Side) (items : List HunkLine) (k : ℕ) (l : HunkLine) → k < length items → l ≡ get_or items k l → taken_count side (take (k + 1) items) ≡ taken_count side (take k items) + cond (is_on_side side l.mark) 1 0
 count-more side items k l lt is = by (is_on_side side l.mark) refl
@@ -96,15 +96,6 @@ is-kept items j d low lt =
     let there : get_or (reverse items) (length items - 1 - j) d ≡ get_or items j d = get_or-reverse items (length items - 1 - j) d (omega arith) ∙ ap (λ k. get_or items k d) back in
     ap is_kept (sym there) ∙ here
 
-kept-edits : (text : List ℕ) (side : Side) (at : ℕ) (k : Mark) (s : HunkLine) → is_keep s.mark ≡ true → body_edits at (side_marked text side s ∷ []) ≡ []
-kept-edits text side at k s e = by side s.mark e
-  where
-    by : (side : Side) (k : Mark) → is_keep k ≡ true → let m : Marked = record { mark = turned_mark side k; line = (marked_of text s).line } in body_edits at (m ∷ []) ≡ []
-    by Forward Keep e = edits-mark at Keep (marked_of text s).line [] ∙ edits-none (at + 1)
-    by Reversed Keep e = edits-mark at Keep (marked_of text s).line [] ∙ edits-none (at + 1)
-    by side Drop e = cc
-    by side Add e = cc
-
 kept-on : (side : Side) (k : Mark) → is_keep k ≡ true → is_on_side side k ≡ true
 kept-on side Keep e = refl
 kept-on side Drop e = cc
@@ -115,17 +106,29 @@ at-place [] k lt = absurd (omega arith)
 at-place (x ∷ xs) zero lt = (x, refl)
 at-place (x ∷ xs) (suc k) lt = at-place xs k (omega arith)
 
-pub rest-edits : (text : List ℕ) (side : Side) (items : List HunkLine) (at e n : ℕ) → length items ≤ e + prefix_len is_kept (reverse items) → e + n ≤ length items → body_edits at (side_body text side (take (e + n) items)) ≡ body_edits at (side_body text side (take e items))
-rest-edits text side items at e zero low high = let z : e + 0 ≡ e = omega arith in ap (λ k. body_edits at (side_body text side (take k items))) z
-rest-edits text side items at e (suc n) low high =
-    let z : e + suc n ≡ e + n + 1 = omega arith in
-    let p : (l : HunkLine) × (l ≡ get_or items (e + n) l) = at-place items (e + n) (omega arith) in
-    let kept : is_keep p.0.mark ≡ true = ap is_kept p.1 ∙ is-kept items (e + n) p.0 (omega arith) (omega arith) in
-    ap (λ k. body_edits at (side_body text side (take k items))) z
-    ∙ edits-more text side items (e + n) at p.0 (omega arith) p.1
-    ∙ ap (λ r. body_edits at (side_body text side (take (e + n) items)) ++ r) (kept-edits text side (at + taken_count side (take (e + n) items)) Keep p.0 kept)
-    ∙ append-nil (body_edits at (side_body text side (take (e + n) items)))
-    ∙ rest-edits text side items at e n low (omega arith)
+kept-edits : (text : List ℕ) (side : Side) (at : ℕ) (s : HunkLine) (ms : List Marked) → is_keep s.mark ≡ true → body_edits at (side_marked text side s ∷ ms) ≡ body_edits (at + 1) ms
+kept-edits text side at s ms e = by side s.mark e
+  where
+    by : (side : Side) (k : Mark) → is_keep k ≡ true → let m : Marked = record { mark = turned_mark side k; line = (marked_of text s).line } in body_edits at (m ∷ ms) ≡ body_edits (at + 1) ms
+    by Forward Keep e = edits-mark at Keep (marked_of text s).line ms
+    by Reversed Keep e = edits-mark at Keep (marked_of text s).line ms
+    by side Drop e = cc
+    by side Add e = cc
+
+-- trailing context has no edits
+pub rest-edits : (text : List ℕ) (side : Side) (items : List HunkLine) (q e n : ℕ) → length items ≤ e + prefix_len is_kept (reverse items) → length items ≤ e + n → body_edits q (side_body text side (drop e items)) ≡ []
+rest-edits text side items q e zero low high = ap (λ ls. body_edits q (side_body text side ls)) (drop_all e items (omega arith)) ∙ edits-none q
+rest-edits text side items q e (suc n) low high = by (λ lt. rest-edits text side items (q + 1) (e + 1) n (omega arith) (omega arith)) (cases_lt e (length items))
+  where
+    by : (e < length items → body_edits (q + 1) (side_body text side (drop (e + 1) items)) ≡ []) → (e < length items) ⊎ (length items ≤ e) → body_edits q (side_body text side (drop e items)) ≡ []
+    by again (inr le) = ap (λ ls. body_edits q (side_body text side ls)) (drop_all e items le) ∙ edits-none q
+    by again (inl lt) =
+        let p : (l : HunkLine) × (l ≡ get_or items e l) = at-place items e lt in
+        let kept : is_keep p.0.mark ≡ true = ap is_kept p.1 ∙ is-kept items e p.0 low lt in
+        at_drop_more (λ ls. body_edits q (side_body text side ls)) items e p.0 lt
+        ∙ ap (λ x. body_edits q (side_body text side (x ∷ drop (e + 1) items))) (sym p.1)
+        ∙ kept-edits text side q p.0 (side_body text side (drop (e + 1) items)) kept
+        ∙ again lt
 
 pub rest-count : (side : Side) (items : List HunkLine) (e n : ℕ) → length items ≤ e + prefix_len is_kept (reverse items) → e + n ≤ length items → taken_count side (take (e + n) items) ≡ taken_count side (take e items) + n
 rest-count side items e zero low high = let z : e + 0 ≡ e = omega arith in ap (λ k. taken_count side (take k items)) z ∙ omega arith
@@ -145,4 +148,30 @@ count-grows side items a (suc n) high =
     let p : (l : HunkLine) × (l ≡ get_or items (a + n) l) = at-place items (a + n) (omega arith) in
     let again : taken_count side (take a items) ≤ taken_count side (take (a + n) items) = count-grows side items a n (omega arith) in
     let one : taken_count side (take (a + n + 1) items) ≡ taken_count side (take (a + n) items) + cond (is_on_side side p.0.mark) 1 0 = count-more side items (a + n) p.0 (omega arith) p.1 in
+    omega arith
+
+pub post-fits : (items : List HunkLine) → prefix_len is_kept (reverse items) ≤ length items
+post-fits items = let a : prefix_len is_kept (reverse items) ≤ length (reverse items) = prefix_len-le-length is_kept (reverse items) in let b : length (reverse items) ≡ length items = length-reverse items in omega arith
+
+-- the old lines but for trailing context
+pub body-count : (side : Side) (items : List HunkLine) (e : ℕ) → e + prefix_len is_kept (reverse items) ≡ length items → taken_count side (take e items) + prefix_len is_kept (reverse items) ≡ taken_count side items
+body-count side items e len =
+    let whole : taken_count side (take (e + (length items - e)) items) ≡ taken_count side items = ap (taken_count side) (take_all (e + (length items - e)) items (omega arith)) in
+    let rest : taken_count side (take (e + (length items - e)) items) ≡ taken_count side (take e items) + (length items - e) = rest-count side items e (length items - e) (omega arith) (omega arith) in
+    omega arith
+
+-- up to a line of the body there are no more old lines than in all but trailing context
+pub count-within : (side : Side) (items : List HunkLine) (k : ℕ) → k + prefix_len is_kept (reverse items) ≤ length items → taken_count side (take k items) + prefix_len is_kept (reverse items) ≤ taken_count side items
+count-within side items k le =
+    let e : k + (length items - prefix_len is_kept (reverse items) - k) ≡ length items - prefix_len is_kept (reverse items) = omega arith in
+    let grows : taken_count side (take k items) ≤ taken_count side (take (k + (length items - prefix_len is_kept (reverse items) - k)) items) = count-grows side items k (length items - prefix_len is_kept (reverse items) - k) (omega arith) in
+    let same : taken_count side (take (k + (length items - prefix_len is_kept (reverse items) - k)) items) ≡ taken_count side (take (length items - prefix_len is_kept (reverse items)) items) = ap (λ n. taken_count side (take n items)) e in
+    let whole : taken_count side (take (length items - prefix_len is_kept (reverse items)) items) + prefix_len is_kept (reverse items) ≡ taken_count side items = body-count side items (length items - prefix_len is_kept (reverse items)) (omega arith) in
+    omega arith
+
+-- trailing context is old
+pub post-old : (side : Side) (items : List HunkLine) → prefix_len is_kept (reverse items) ≤ taken_count side items
+post-old side items =
+    let fits : prefix_len is_kept (reverse items) ≤ length items = post-fits items in
+    let whole : taken_count side (take (length items - prefix_len is_kept (reverse items)) items) + prefix_len is_kept (reverse items) ≡ taken_count side items = body-count side items (length items - prefix_len is_kept (reverse items)) (omega arith) in
     omega arith

@@ -21,8 +21,7 @@ use Rattle.hunk_place.proofs.FitLemmas.{taken-length}
 use Rattle.hunk_place.proofs.TakenLemmas.{lines-are, taken-trailing}
 use Rattle.hunk_apply.specs.Body.{turned_mark, side_marked, side_body}
 use Rattle.hunk_apply.specs.Splice.{Edit, marked_edits, body_edits}
-use Rattle.hunk_apply.proofs.BodyLemmas.{body-is, edits-none, edits-mark, is_kept}
-use Rattle.hunk_apply.proofs.StepLemmas.{body-count, post-fits}
+use Rattle.hunk_apply.proofs.BodyLemmas.{body-is, edits-none, edits-mark, is_kept, post-old}
 
 count-map : (p : Marked → Bool) (f : HunkLine → Marked) (ls : List HunkLine) → count_by p (map f ls) ≡ count_by (λ l. p (f l)) ls
 count-map p f [] = refl
@@ -48,15 +47,15 @@ no-edits (m ∷ ms) at a d =
     by Drop a d again = absurd (omega arith)
     by Add a d again = absurd (omega arith)
 
--- trailing context is old
-pub post-old : (side : Side) (h : Hunk) → prefix_len is_kept (reverse h.body.items) ≤ taken_count side h.body.items
-post-old side h =
-    let fits : prefix_len is_kept (reverse h.body.items) ≤ length h.body.items = post-fits h.body.items in
-    let whole : taken_count side (take (length h.body.items - prefix_len is_kept (reverse h.body.items)) h.body.items) + prefix_len is_kept (reverse h.body.items) ≡ taken_count side h.body.items = body-count side h (length h.body.items - prefix_len is_kept (reverse h.body.items)) (omega arith) in
-    omega arith
-
 pub old-length : (text : List ℕ) (side : Side) (h : Hunk) → length (old_lines (taken text side h).body) ≡ taken_count side h.body.items
 old-length text side h = ap length (sym (lines-are text side h)) ∙ taken-length text side h
+
+pub trailing-old : (text : List ℕ) (side : Side) (h : Hunk) → trailing (taken text side h).body ≤ length (old_lines (taken text side h).body)
+trailing-old text side h =
+    let n : length (old_lines (taken text side h).body) ≡ taken_count side h.body.items = old-length text side h in
+    let m : trailing (taken text side h).body ≡ prefix_len is_kept (reverse h.body.items) = taken-trailing text side h in
+    let old : prefix_len is_kept (reverse h.body.items) ≤ taken_count side h.body.items = post-old side h.body.items in
+    omega arith
 
 -- what a verdict says of the place
 pub placed-at : (c : PlainHunk) (s : Option Spot) (line fuzz : ℕ) (offset : ℤ) → At line fuzz offset ≡ verdict_of c s → let p : Spot = record { line = line; fuzz = fuzz } in (s ≡ Some p) × (offset ≡ pos line -ℤ pos (base c))

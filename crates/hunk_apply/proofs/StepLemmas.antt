@@ -1,70 +1,63 @@
 -- One line of a body, by its mark.
-use Rattle.std.proofs.Common.{◌≡◌, ℕ, ◌+◌, ◌-◌, ◌<◌, ◌≤◌, List, [], ◌∷◌, ◌++◌, length, take, reverse, Bool, true, false, cond, refl, sym, ap, subst, ◌∙◌, arith, append_assoc}
-use Rattle.std.proofs.lemmas.List.{append-nil, take_all}
-use Rattle.std.proofs.lemmas.List.Sums.{prefix_len-le-length}
-use Rattle.std.proofs.lemmas.List.{length-reverse}
-use Rattle.std.specs.List.{prefix_len}
+use Rattle.std.proofs.Common.{◌≡◌, ℕ, ◌+◌, ◌<◌, ◌≤◌, List, [], ◌∷◌, ◌++◌, Bool, ◌&&◌, length, refl, sym, ap, subst, ◌∙◌, arith}
+use Rattle.outside.specs.SinkView.{SinkView, Receives, ReceivesPart}
 use Rattle.hunk_core.specs.declared.Mark.{Mark}
 use Rattle.hunk_core.specs.declared.Mark.TheVariants.{Keep, Drop, Add}
 use Rattle.hunk_core.specs.declared.Side.{Side}
-use Rattle.hunk_core.specs.declared.Side.TheVariants.{Forward, Reversed}
-use Rattle.hunk_core.specs.declared.HunkLine.{HunkLine}
-use Rattle.hunk_core.specs.declared.Hunk.{Hunk}
-use Rattle.hunk_core.specs.Sides.{is_on_side, taken_count}
-use Rattle.hunk_core.specs.PlainHunk.{Marked, marked_of, bytes_at}
-use Rattle.hunk_place.specs.Taken.{taken}
+use Rattle.hunk_apply.specs.declared.put.Tail.{Tail}
 use Rattle.hunk_apply.specs.Join.{lacks_feed, feed_if}
-use Rattle.hunk_apply.specs.Body.{turned_mark, side_marked, side_body}
-use Rattle.hunk_apply.specs.Splice.{Edit, add, drop_line, marked_edits, body_edits, IsWritten}
-use Rattle.hunk_apply.proofs.BodyLemmas.{on-side, edits-none, edits-mark, body-is, rest-edits, rest-count, is_kept}
-use Rattle.hunk_apply.proofs.WrittenLemmas.{add-written, drop-written}
+use Rattle.hunk_apply.specs.Body.{turned_mark}
+use Rattle.hunk_apply.specs.Splice.{Edit, add, drop_line, marked_edits, spliced_from, AreFrom}
+use Rattle.hunk_apply.specs.Written.{is_nothing, join_behind, Wrote}
+use Rattle.hunk_apply.proofs.BodyLemmas.{width, marked-width}
+use Rattle.hunk_apply.proofs.SpliceLemmas.{line-dropped, line-added}
+use Rattle.hunk_apply.proofs.WrittenLemmas.{wrote-none, wrote-line, wrote-same, part-line, part-same}
 
-pub moved : (lines : List (List ℕ)) (es fs : List Edit) (q r : ℕ) (before out : List ℕ) (is_open : Bool) → es ≡ fs → q ≡ r → IsWritten lines es q before out is_open → IsWritten lines fs r before out is_open
-moved lines es fs q r before out is_open e f h = subst (λ x. IsWritten lines x r before out is_open) e (subst (λ n. IsWritten lines es n before out is_open) f h)
+-- the lines from a line of a body on
+abbrev pub with_line : List (List ℕ) → Mark → ℕ → List ℕ → List Edit → List (List ℕ)
+with_line lines k q line later = spliced_from lines (marked_edits k q line (λ _. later)) q
 
-mark-edits : (text : List ℕ) (side : Side) (l : HunkLine) (q : ℕ) (k : Mark) → turned_mark side l.mark ≡ k → body_edits q (side_marked text side l ∷ []) ≡ marked_edits k q (bytes_at text l.span) (λ n. body_edits n [])
-mark-edits text side l q k e = edits-mark q (turned_mark side l.mark) (bytes_at text l.span) [] ∙ ap (λ m. marked_edits m q (bytes_at text l.span) (λ n. body_edits n [])) e
+pub keep-wide : (side : Side) (k : Mark) (q : ℕ) → turned_mark side k ≡ Keep → q + 1 ≡ q + width side k
+keep-wide side k q e = let w : width side k ≡ 1 = marked-width side k Keep e in ap (λ n. q + n) (sym w)
 
-wide : (side : Side) (l : HunkLine) (q : ℕ) (k : Mark) → turned_mark side l.mark ≡ k → q + cond (is_on_side Forward k) 1 0 ≡ q + cond (is_on_side side l.mark) 1 0
-wide side l q k e = ap (λ m. q + cond (is_on_side Forward m) 1 0) (sym e) ∙ ap (λ b. q + cond b 1 0) (on-side side l.mark)
+pub drop-wide : (side : Side) (k : Mark) (q : ℕ) → turned_mark side k ≡ Drop → q + 1 ≡ q + width side k
+drop-wide side k q e = let w : width side k ≡ 1 = marked-width side k Drop e in ap (λ n. q + n) (sym w)
 
-pub keep-step : (lines : List (List ℕ)) (es : List Edit) (q : ℕ) (before out : List ℕ) (is_open : Bool) (text : List ℕ) (side : Side) (l : HunkLine) → turned_mark side l.mark ≡ Keep → IsWritten lines es (q + 1) before out is_open
-    → IsWritten lines (es ++ body_edits q (side_marked text side l ∷ [])) (q + cond (is_on_side side l.mark) 1 0) before out is_open
-keep-step lines es q before out is_open text side l e h =
-    moved lines es (es ++ body_edits q (side_marked text side l ∷ [])) (q + 1) (q + cond (is_on_side side l.mark) 1 0) before out is_open
-    (sym (ap (λ x. es ++ x) (mark-edits text side l q Keep e ∙ edits-none (q + 1)) ∙ append-nil es)) (wide side l q Keep e) h
+pub add-wide : (side : Side) (k : Mark) (q : ℕ) → turned_mark side k ≡ Add → q ≡ q + width side k
+add-wide side k q e = let w : width side k ≡ 0 = marked-width side k Add e in omega arith
 
-pub drop-step : (lines : List (List ℕ)) (es : List Edit) (q : ℕ) (before out : List ℕ) (is_open : Bool) (text : List ℕ) (side : Side) (l : HunkLine) → turned_mark side l.mark ≡ Drop → IsWritten lines es q before out is_open
-    → IsWritten lines (es ++ body_edits q (side_marked text side l ∷ [])) (q + cond (is_on_side side l.mark) 1 0) before out is_open
-drop-step lines es q before out is_open text side l e h =
-    moved lines (es ++ drop_line q ∷ []) (es ++ body_edits q (side_marked text side l ∷ [])) (q + 1) (q + cond (is_on_side side l.mark) 1 0) before out is_open
-    (sym (ap (λ x. es ++ x) (mark-edits text side l q Drop e ∙ ap (λ x. drop_line q ∷ x) (edits-none (q + 1))))) (wide side l q Drop e) (drop-written lines es q before out is_open h)
+pub keep-step : (u v : SinkView) (r s : Tail) (lines : List (List ℕ)) (later : List Edit) (side : Side) (k : Mark) (q : ℕ) (line : List ℕ) → turned_mark side k ≡ Keep
+    → Wrote u v r s (spliced_from lines later q) (spliced_from lines later (q + 1)) → Wrote u v r s (with_line lines (turned_mark side k) q line later) (spliced_from lines later (q + width side k))
+keep-step u v r s lines later side k q line e w =
+    wrote-same u v r s (spliced_from lines later q) (with_line lines (turned_mark side k) q line later) (spliced_from lines later (q + 1)) (spliced_from lines later (q + width side k))
+    (ap (λ m. with_line lines m q line later) (sym e)) (ap (spliced_from lines later) (keep-wide side k q e)) w
 
-pub add-step : (lines : List (List ℕ)) (es : List Edit) (q : ℕ) (before out new : List ℕ) (is_open still : Bool) (text : List ℕ) (side : Side) (l : HunkLine) → turned_mark side l.mark ≡ Add → new ≡ out ++ (feed_if is_open ++ bytes_at text l.span) → still ≡ lacks_feed (bytes_at text l.span) → IsWritten lines es q before out is_open
-    → IsWritten lines (es ++ body_edits q (side_marked text side l ∷ [])) (q + cond (is_on_side side l.mark) 1 0) before new still
-add-step lines es q before out new is_open still text side l e w s h =
-    moved lines (es ++ add q (bytes_at text l.span) ∷ []) (es ++ body_edits q (side_marked text side l ∷ [])) q (q + cond (is_on_side side l.mark) 1 0) before new still
-    (sym (ap (λ x. es ++ x) (mark-edits text side l q Add e ∙ ap (λ x. add q (bytes_at text l.span) ∷ x) (edits-none q)))) ((let z : q ≡ q + 0 = omega arith in z) ∙ wide side l q Add e) (add-written lines es q before out new (bytes_at text l.span) is_open still w s h)
+pub keep-part : (u v : SinkView) (is_open : Bool) (lines : List (List ℕ)) (later : List Edit) (side : Side) (k : Mark) (q : ℕ) (line : List ℕ) → turned_mark side k ≡ Keep
+    → ReceivesPart u v (join_behind is_open (spliced_from lines later q)) → ReceivesPart u v (join_behind is_open (with_line lines (turned_mark side k) q line later))
+keep-part u v is_open lines later side k q line e h =
+    part-same u v is_open (spliced_from lines later q) (with_line lines (turned_mark side k) q line later) (ap (λ m. with_line lines m q line later) (sym e)) h
 
--- the whole body, by the part before its trailing context
-pub body-edits : (text : List ℕ) (side : Side) (h : Hunk) (at e : ℕ) → e + prefix_len is_kept (reverse h.body.items) ≡ length h.body.items → body_edits at (side_body text side (take e h.body.items)) ≡ body_edits at (taken text side h).body
-body-edits text side h at e len =
-    let high : e + (length h.body.items - e) ≤ length h.body.items = omega arith in
-    let all : length h.body.items ≤ e + (length h.body.items - e) = omega arith in
-    sym (ap (body_edits at) (body-is text side h)
-    ∙ ap (λ ls. body_edits at (side_body text side ls)) (sym (take_all (e + (length h.body.items - e)) h.body.items all))
-    ∙ rest-edits text side h.body.items at e (length h.body.items - e) (omega arith) high)
+pub drop-step : (v : SinkView) (r : Tail) (lines : List (List ℕ)) (later : List Edit) (side : Side) (k : Mark) (q : ℕ) (line : List ℕ) → turned_mark side k ≡ Drop
+    → q + width side k ≤ length lines + 1 → AreFrom (q + width side k) later → Wrote v v r r (with_line lines (turned_mark side k) q line later) (spliced_from lines later (q + width side k))
+drop-step v r lines later side k q line e high from =
+    let w : q + 1 ≡ q + width side k = drop-wide side k q e in
+    wrote-same v v r r (spliced_from lines later (q + 1)) (with_line lines (turned_mark side k) q line later) (spliced_from lines later (q + 1)) (spliced_from lines later (q + width side k))
+    (sym (ap (λ m. with_line lines m q line later) e ∙ line-dropped lines later q (omega arith) (subst (λ n. AreFrom n later) (sym w) from)))
+    (ap (spliced_from lines later) w) (wrote-none v r (spliced_from lines later (q + 1)))
 
-pub body-count : (side : Side) (h : Hunk) (e : ℕ) → e + prefix_len is_kept (reverse h.body.items) ≡ length h.body.items → taken_count side (take e h.body.items) + prefix_len is_kept (reverse h.body.items) ≡ taken_count side h.body.items
-body-count side h e len =
-    let n : ℕ = length h.body.items - e in
-    let all : length h.body.items ≤ e + (length h.body.items - e) = omega arith in
-    let whole : taken_count side (take (e + (length h.body.items - e)) h.body.items) ≡ taken_count side h.body.items = ap (taken_count side) (take_all (e + (length h.body.items - e)) h.body.items all) in
-    let rest : taken_count side (take (e + (length h.body.items - e)) h.body.items) ≡ taken_count side (take e h.body.items) + (length h.body.items - e) = rest-count side h.body.items e (length h.body.items - e) (omega arith) (omega arith) in
-    omega arith
+added : (lines : List (List ℕ)) (later : List Edit) (side : Side) (k : Mark) (q : ℕ) (line : List ℕ) → turned_mark side k ≡ Add
+    → q + width side k ≤ length lines + 1 → with_line lines (turned_mark side k) q line later ≡ line ∷ spliced_from lines later (q + width side k)
+added lines later side k q line e high =
+    let w : q ≡ q + width side k = add-wide side k q e in
+    ap (λ m. with_line lines m q line later) e ∙ line-added lines later q line (omega arith) ∙ ap (λ n. line ∷ spliced_from lines later n) w
 
-pub post-fits : (items : List HunkLine) → prefix_len is_kept (reverse items) ≤ length items
-post-fits items = let a : prefix_len is_kept (reverse items) ≤ length (reverse items) = prefix_len-le-length is_kept (reverse items) in let b : length (reverse items) ≡ length items = length-reverse items in omega arith
+pub add-step : (u v : SinkView) (r s : Tail) (lines : List (List ℕ)) (later : List Edit) (side : Side) (k : Mark) (q : ℕ) (line : List ℕ) → turned_mark side k ≡ Add → q + width side k ≤ length lines + 1
+    → Receives u v (feed_if r.is_open ++ line) → s.is_open ≡ lacks_feed line → s.is_empty ≡ (r.is_empty && is_nothing (feed_if r.is_open ++ line))
+    → Wrote u v r s (with_line lines (turned_mark side k) q line later) (spliced_from lines later (q + width side k))
+add-step u v r s lines later side k q line e high received end nothing =
+    wrote-line u v r s line (with_line lines (turned_mark side k) q line later) (spliced_from lines later (q + width side k)) (added lines later side k q line e high) received end nothing
 
-pub start-edits : (es : List Edit) (at : ℕ) (text : List ℕ) (side : Side) → es ≡ es ++ body_edits at (side_body text side [])
-start-edits es at text side = sym (ap (λ x. es ++ x) (edits-none at) ∙ append-nil es)
+pub add-part : (u v : SinkView) (r : Tail) (lines : List (List ℕ)) (later : List Edit) (side : Side) (k : Mark) (q : ℕ) (line : List ℕ) → turned_mark side k ≡ Add → q + width side k ≤ length lines + 1
+    → ReceivesPart u v (feed_if r.is_open ++ line) → ReceivesPart u v (join_behind r.is_open (with_line lines (turned_mark side k) q line later))
+add-part u v r lines later side k q line e high h =
+    part-line u v r line (with_line lines (turned_mark side k) q line later) (spliced_from lines later (q + width side k)) (added lines later side k q line e high) h

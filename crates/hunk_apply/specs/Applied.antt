@@ -6,11 +6,12 @@ use Rattle.hunk_core.specs.PlainHunk.{PlainHunk}
 use Rattle.hunk_place.specs.Taken.{taken}
 use Rattle.hunk_place.specs.Verdicts.{spots, at_start}
 use Rattle.hunk_apply.specs.Join.{join}
-use Rattle.hunk_apply.specs.Splice.{Edit, all_edits, spliced}
+use Rattle.hunk_apply.specs.Splice.{all_edits, spliced}
 
+-- hunks as they are taken from a side
 abbrev pub taken_all : List ℕ → Side → List Hunk → List PlainHunk
 taken_all text side hunks = map (taken text side) hunks
 
--- the text of a file with its changes made
+-- the text of a file with its hunks applied (GNU diffutils manual, "Applying Patches with Changed Context")
 unfoldable pub applied : List (List ℕ) → ℕ → Bool → List PlainHunk → List ℕ
-applied lines fuzz loose cs = join (spliced lines (all_edits (spots lines fuzz loose at_start cs) cs))
+applied lines fuzz loose hunks = join (spliced lines (all_edits (spots lines fuzz loose at_start hunks) hunks))

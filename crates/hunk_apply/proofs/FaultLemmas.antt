@@ -1,0 +1,34 @@
+-- Calls of a store and a sink, one after another.
+use Rattle.std.proofs.Common.{◌≡◌, ◌<◌, ◌≤◌, ◌+◌, ◌^◌, None, Result, Ok, Err, OnErr, IfOk, refl, sym, ◌∙◌, arith}
+use Rattle.line_store.specs.Store.{Seen, Keeps}
+use Rattle.line_store.proofs.StoreLemmas.{cause-more}
+use Rattle.outside.specs.SinkView.{SinkView, IsSinkCall, Rises}
+use Rattle.hunk_apply.specs.declared.ApplyFault.{ApplyFault}
+use Rattle.hunk_apply.specs.declared.ApplyFault.TheVariants.{Line, Write}
+use Rattle.hunk_apply.specs.Faults.{HasApplyCause, GoesOn, IsCounted}
+
+pub goes-none : (v : SinkView) → GoesOn v v
+goes-none v = record { counts = omega arith; silent = λ none. none }
+
+pub goes-both : (u v w : SinkView) → GoesOn u v → GoesOn v w → GoesOn u w
+goes-both u v w h k = record { counts = omega (arith, h.counts, k.counts); silent = λ none. k.silent (h.silent none) }
+
+pub call-goes : {R E : Type 0} (u v : SinkView) (r : Result R E) → IsSinkCall u v r → GoesOn u v
+call-goes u v r h = record { counts = h.counts; silent = h.silent }
+
+-- a fault of a later call has its cause since the first
+pub apply-cause-more : (e : ApplyFault) (a b c : Seen) (u v w : SinkView) → Keeps a b → GoesOn u v → HasApplyCause e b c v w → HasApplyCause e a c u w
+apply-cause-more (Line e) a b c u v w h k cause = cause-more e a b c h cause
+apply-cause-more Write a b c u v w h k rises = λ small. omega (arith, rises small, k.counts)
+
+-- what holds holds after an error too
+pub on-err : {R E : Type 0} (r : Result R E) (P : Type 0) → P → OnErr r P
+on-err (Ok x) P p = tt
+on-err (Err e) P p = p
+
+pub counted-still : (a b : Seen) → IsCounted a → Keeps a b → IsCounted b
+counted-still a b h k lines told = k.count ∙ h lines (sym k.told ∙ told)
+
+pub if-ok-map : {R E : Type 0} (r : Result R E) (P Q : R → Type 0) → ((x : R) → P x → Q x) → IfOk r P → IfOk r Q
+if-ok-map (Ok x) P Q f p = f x p
+if-ok-map (Err e) P Q f p = tt
