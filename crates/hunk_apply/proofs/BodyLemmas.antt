@@ -16,7 +16,7 @@ use Rattle.hunk_core.specs.Turned.{swapped_line, is_keep}
 use Rattle.hunk_place.specs.Taken.{taken}
 use Rattle.hunk_apply.specs.Body.{turned_mark, side_marked, side_body}
 use Rattle.hunk_apply.specs.Splice.{Edit, add, marked_edits, body_edits, AreFrom}
-use Rattle.hunk_apply.proofs.SpliceLemmas.{sooner}
+use Rattle.hunk_apply.proofs.SpliceLemmas.{sooner, from-append}
 
 -- the body of a hunk as it is taken
 both : (text : List ℕ) (ls : List HunkLine) → map swapped_line (body_of text ls) ≡ side_body text Reversed ls
@@ -175,3 +175,17 @@ post-old side items =
     let fits : prefix_len is_kept (reverse items) ≤ length items = post-fits items in
     let whole : taken_count side (take (length items - prefix_len is_kept (reverse items)) items) + prefix_len is_kept (reverse items) ≡ taken_count side items = body-count side items (length items - prefix_len is_kept (reverse items)) (omega arith) in
     omega arith
+
+-- one line of a body more, before its trailing context
+pub place-more : (side : Side) (items : List HunkLine) (k q at : ℕ) (l : HunkLine) → q ≡ at + taken_count side (take k items) → k < length items → l ≡ get_or items k l → q + width side l.mark ≡ at + taken_count side (take (k + 1) items)
+place-more side items k q at l e lt is = let more : taken_count side (take (k + 1) items) ≡ taken_count side (take k items) + width side l.mark = count-more side items k l lt is in omega arith
+
+pub place-within : (side : Side) (items : List HunkLine) (k q at : ℕ) (l : HunkLine) → q ≡ at + taken_count side (take k items) → k + 1 + prefix_len is_kept (reverse items) ≤ length items → l ≡ get_or items k l → q + width side l.mark ≤ at + taken_count side items - prefix_len is_kept (reverse items)
+place-within side items k q at l e le is =
+    let here : q + width side l.mark ≡ at + taken_count side (take (k + 1) items) = place-more side items k q at l e (omega arith) is in
+    let within : taken_count side (take (k + 1) items) + prefix_len is_kept (reverse items) ≤ taken_count side items = count-within side items (k + 1) le in
+    omega arith
+
+-- the edits that are left of a body, and later ones
+pub body-from : (q end : ℕ) (ms : List Marked) (later : List Edit) → q ≤ end → AreFrom end later → AreFrom q (body_edits q ms ++ later)
+body-from q end ms later le from = from-append q (body_edits q ms) later (edits-from q ms) (sooner q end later le from)
