@@ -1,5 +1,5 @@
 -- The state behind a hunk.
-use Rattle.std.proofs.Common.{◌≡◌, ℕ, ◌+◌, ◌-◌, ◌<◌, ◌≤◌, ◌^◌, List, [], ◌∷◌, ◌++◌, length, reverse, count_by, Bool, true, false, cond, ◌&&◌, eqb, refl, sym, ap, ◌∙◌, arith, to_z, of_z, w64}
+use Rattle.std.proofs.Common.{◌≡◌, ℕ, ◌+◌, ◌-◌, ◌<◌, ◌≤◌, ◌^◌, List, [], ◌∷◌, ◌++◌, length, reverse, count_by, Bool, true, false, cond, ◌&&◌, eqb, refl, sym, ap, ◌∙◌, arith, to_z, of_z, w64, Option, Some, None}
 use Rattle.std.specs.Prelude.{ℤ, pos, negsuc, ◌+ℤ◌, ◌-ℤ◌, ◌≤ℤ◌, ◌==◌}
 use Rattle.std.specs.List.{prefix_len}
 use Rattle.std.proofs.lemmas.Int.{ints}
@@ -10,12 +10,14 @@ use Rattle.hunk_core.specs.declared.Hunk.{Hunk}
 use Rattle.hunk_core.specs.Sides.{taken_count}
 use Rattle.hunk_core.specs.PlainHunk.{PlainHunk, old_lines}
 use Rattle.hunk_core.specs.Turned.{trailing, is_add, is_drop}
+use Rattle.hunk_core.specs.declared.Verdict.TheVariants.{At}
 use Rattle.hunk_place.specs.declared.PlaceState.{PlaceState}
+use Rattle.hunk_place.specs.declared.Spot.{Spot}
 use Rattle.hunk_place.specs.Taken.{taken}
-use Rattle.hunk_place.specs.Verdicts.{adds, drops}
+use Rattle.hunk_place.specs.Verdicts.{adds, drops, verdict_of, after_hunk}
 use Rattle.hunk_place.proofs.TakenLemmas.{taken-trailing}
 use Rattle.hunk_apply.specs.Body.{turned_mark}
-use Rattle.hunk_apply.specs.Splice.{body_edits}
+use Rattle.hunk_apply.specs.Splice.{body_edits, hunk_edits}
 use Rattle.hunk_apply.specs.Moved.{moved_state}
 use Rattle.hunk_apply.proofs.BodyLemmas.{is_kept, post-old}
 use Rattle.hunk_apply.proofs.HunkLemmas.{adds-are, drops-are, old-length, no-edits}
@@ -79,3 +81,14 @@ consumed-some text side h s line offset a d b ea ed eb t low =
     let old : prefix_len is_kept (reverse h.body.items) ≤ taken_count side h.body.items = post-old side h.body.items in
     ap (λ x. cond x s.consumed ((line - 1 + length (old_lines (taken text side h).body)) - trailing (taken text side h).body) + 1) (test-is text side h a d b ea ed eb ∙ t)
     ∙ (let sum : (line - 1 + length (old_lines (taken text side h).body)) - trailing (taken text side h).body + 1 ≡ line + taken_count side h.body.items - prefix_len is_kept (reverse h.body.items) = omega arith in sum)
+
+-- where a verdict says that a hunk stands
+pub placed-consumed : (h : PlainHunk) (state : PlaceState) (place : Option Spot) (line fuzz : ℕ) (offset : ℤ) → At line fuzz offset ≡ verdict_of h place → (after_hunk h state place).consumed ≡ (moved_state h state line offset).consumed
+placed-consumed h state None line fuzz offset e = cc
+placed-consumed h state (Some s) line fuzz offset e =
+    let same : line ≡ s.line = cc in
+    ap (λ n. cond ((adds h == 0) && (drops h == 0)) state.consumed ((n - 1 + length (old_lines h.body)) - trailing h.body)) (sym same)
+
+pub placed-edits : (h : PlainHunk) (place : Option Spot) (line fuzz : ℕ) (offset : ℤ) → At line fuzz offset ≡ verdict_of h place → body_edits line h.body ≡ hunk_edits place h
+placed-edits h None line fuzz offset e = cc
+placed-edits h (Some s) line fuzz offset e = let same : line ≡ s.line = cc in ap (λ n. body_edits n h.body) same
