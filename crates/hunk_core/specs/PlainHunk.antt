@@ -38,8 +38,14 @@ hunks_of text hs = map (hunk_of text) hs
 abbrev pub side_count : Side → List Marked → ℕ
 side_count side body = count_by (λ m. is_on_side side m.mark) body
 
-abbrev pub old_lines : List Marked → List (List ℕ)
-old_lines body = map (λ m. m.line) (filter (λ m. is_on_side Forward m.mark) body)
+-- the lines of a body on the side that is taken as old
+abbrev pub lines_on : Side → List Marked → List (List ℕ)
+lines_on side body = map (λ m. m.line) (filter (λ m. is_on_side side m.mark) body)
 
+-- the lines that are kept or dropped
+abbrev pub old_lines : List Marked → List (List ℕ)
+old_lines body = lines_on Forward body
+
+-- the lines that are kept or added
 abbrev pub new_lines : List Marked → List (List ℕ)
-new_lines body = map (λ m. m.line) (filter (λ m. is_on_side Reversed m.mark) body)
+new_lines body = lines_on Reversed body

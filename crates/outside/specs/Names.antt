@@ -1,5 +1,5 @@
 -- The text of a name: components with a slash between each two (POSIX, definitions of pathname and filename).
-use Rattle.std.specs.Prelude.{ℕ, List, [], ◌∷◌, ◌++◌, codes, length, take, filter, flat_map, Bool, true, false, not, nat_eq, nat_lt, ◌==◌, ◌&&◌, ◌||◌, if◌then◌else◌, bytes_eq, Option, None, Some}
+use Rattle.std.specs.Prelude.{◌≡◌, ℕ, ◌<◌, List, [], ◌∷◌, ◌++◌, codes, length, take, filter, flat_map, Bool, true, false, not, nat_lt, ◌==◌, ◌||◌, if◌then◌else◌, bytes_eq, Option, None, Some}
 use Rattle.std.specs.List.{slice_split, list_any, join_with_byte}
 use Rattle.std.specs.Str.Lossy.{utf8_valid_len}
 use Rattle.outside.specs.declared.name.NameRule.{NameRule}
@@ -43,6 +43,35 @@ broken_rule text = if not (utf8_valid_len text == length text) then Some NotUtf8
     else if is_empty (kept text) then Some Empty
     else None
 
+-- the text of a name: it breaks no rule, and is in normal form
+pub record IsName (text : List ℕ) : Type 0 where
+  pub lawful : broken_rule text ≡ None
+  pub normal : normal_form text ≡ text
+
+-- what may be put behind a name: neither a slash nor a control byte is in it
+pub record IsEnding (end : List ℕ) : Type 0 where
+  pub no_slash : list_any is_slash end ≡ false
+  pub no_control : list_any is_control end ≡ false
+
+abbrev pub last_of : List (List ℕ) → List ℕ
+last_of [] = []
+last_of (c ∷ []) = c
+last_of (c ∷ d ∷ cs) = last_of (d ∷ cs)
+
+-- what stands after the last slash
+abbrev pub last_component : List ℕ → List ℕ
+last_component text = last_of (components text)
+
 -- the first components with a slash behind each: what the name of a file below them begins with
 abbrev pub directory_text : ℕ → List ℕ → List ℕ
 directory_text parts text = flat_map (λ c. c ++ 47 ∷ []) (take parts (components text))
+
+-- the file stands below the first components of a name: it has these first, and more
+pub record StandsBelow (file : List ℕ) (parts : ℕ) (name : List ℕ) : Type 0 where
+  pub same : take parts (components file) ≡ take parts (components name)
+  pub more : parts < length (components file)
+
+-- a component more, with a slash before it if it isn't the first
+abbrev pub with_component : List ℕ → List ℕ → List ℕ
+with_component [] component = component
+with_component (b ∷ bs) component = (b ∷ bs) ++ 47 ∷ component

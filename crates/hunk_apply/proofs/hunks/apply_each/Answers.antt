@@ -11,7 +11,7 @@ use Rattle.hunk_place.specs.Taken.{taken}
 use Rattle.hunk_place.specs.Verdicts.{spots, spot, after_hunk, at_start}
 use Rattle.hunk_apply.specs.declared.put.Tail.{Tail}
 use Rattle.hunk_apply.specs.Applied.{taken_all, applied}
-use Rattle.hunk_apply.specs.Join.{join}
+use Rattle.line_list.specs.Join.{join}
 use Rattle.hunk_apply.specs.Session.{IsTried, body_lines}
 use Rattle.hunk_apply.specs.Splice.{Edit, all_edits, hunk_edits, spliced_from}
 use Rattle.hunk_apply.specs.Written.{Wrote, is_nothing, join_behind}

@@ -1,0 +1,75 @@
+-- The lines of a body on a side, one after the other.
+use Rattle.std.proofs.Common.{◌≡◌, ℕ, zero, suc, ◌+◌, ◌-◌, ◌<◌, Bool, true, false, cond, ◌||◌, not, List, [], ◌∷◌, length, get_or, take, drop, map, refl, sym, ap, ◌∙◌, arith}
+use Rattle.std.proofs.lemmas.List.{drop_more}
+use Rattle.std.proofs.lemmas.List.Recursion.{is_count_by}
+use Rattle.std.specs.Prelude.{filter, count_by}
+use Rattle.line_list.specs.declared.Span.{Span}
+use Rattle.hunk_core.specs.declared.Mark.{Mark}
+use Rattle.hunk_core.specs.declared.Mark.TheVariants.{Keep, Drop, Add}
+use Rattle.hunk_core.specs.declared.Side.{Side}
+use Rattle.hunk_core.specs.declared.Side.TheVariants.{Forward, Reversed}
+use Rattle.hunk_core.specs.declared.HunkLine.{HunkLine}
+use Rattle.hunk_core.specs.declared.Hunk.{Hunk}
+use Rattle.hunk_core.specs.Sides.{is_on_side, taken_count}
+use Rattle.hunk_core.specs.PlainHunk.{Marked, bytes_at, marked_of, body_of, hunk_of, lines_on, old_lines}
+use Rattle.hunk_core.specs.Turned.{swapped_line, turned}
+use Rattle.hunk_core.specs.LineTests.{ends_line}
+use Rattle.hunk_core.specs.Rules.{lacks_inner_end}
+
+-- ---- a side of a hunk that is taken reversed
+
+swapped-side : (mark : Mark) → is_on_side Reversed mark ≡ is_on_side Forward (swapped_line (record { mark = mark; line = [] })).mark
+swapped-side Keep = refl
+swapped-side Drop = refl
+swapped-side Add = refl
+
+swapped-lines : (body : List Marked) → lines_on Forward (map swapped_line body) ≡ lines_on Reversed body
+swapped-lines [] = refl
+swapped-lines (m ∷ body) =
+    let side = swapped-side m.mark in
+    let more = swapped-lines body in
+    let first : cond (is_on_side Forward (swapped_line m).mark) (m.line ∷ lines_on Forward (map swapped_line body)) (lines_on Forward (map swapped_line body)) ≡ cond (is_on_side Reversed m.mark) (m.line ∷ lines_on Reversed body) (lines_on Reversed body) = rw (more, side) refl in
+    out (is_on_side Forward (swapped_line m).mark) (swapped_line m) (filter (λ x. is_on_side Forward x.mark) (map swapped_line body)) ∙ first ∙ sym (out (is_on_side Reversed m.mark) m (filter (λ x. is_on_side Reversed x.mark) body))
+  where
+    out : (b : Bool) (x : Marked) (xs : List Marked) → map (λ y. y.line) (cond b (x ∷ xs) xs) ≡ cond b (x.line ∷ map (λ y. y.line) xs) (map (λ y. y.line) xs)
+    out true x xs = refl
+    out false x xs = refl
+
+pub turned-lines : (text : List ℕ) (side : Side) (h : Hunk) → old_lines (turned side (hunk_of text h)).body ≡ lines_on side (body_of text h.body.items)
+turned-lines text Forward h = refl
+turned-lines text Reversed h = swapped-lines (body_of text h.body.items)
+
+one_on : (b : Bool) (x : Marked) (xs : List Marked) → length (map (λ y. y.line) (cond b (x ∷ xs) xs)) ≡ cond b (1 + length (map (λ y. y.line) xs)) (length (map (λ y. y.line) xs))
+one_on true x xs = omega arith
+one_on false x xs = refl
+
+pub lines-counted : (text : List ℕ) (side : Side) (ls : List HunkLine) → length (lines_on side (body_of text ls)) ≡ taken_count side ls
+lines-counted text side ls =
+    is_count_by (λ (xs : List HunkLine). length (lines_on side (body_of text xs))) (λ l. is_on_side side l.mark) refl
+      (λ x xs. one_on (is_on_side side x.mark) (marked_of text x) (filter (λ m. is_on_side side m.mark) (body_of text xs))) ls
+
+-- ---- from the line at an index on
+
+abbrev pub rest_on : List ℕ → Side → List HunkLine → ℕ → List (List ℕ)
+rest_on text side ls i = lines_on side (body_of text (drop i ls))
+
+from-here : (ls : List HunkLine) (i : ℕ) (x : HunkLine) → i < length ls → x ≡ get_or ls i x → drop i ls ≡ x ∷ drop (i + 1) ls
+from-here ls i x lt is = drop_more ls i x lt ∙ ap (λ y. y ∷ drop (i + 1) ls) (sym is)
+
+pub on-yes : (text : List ℕ) (side : Side) (ls : List HunkLine) (i : ℕ) (x : HunkLine) → i < length ls → x ≡ get_or ls i x → is_on_side side x.mark ≡ true → rest_on text side ls i ≡ bytes_at text x.span ∷ rest_on text side ls (i + 1)
+on-yes text side ls i x lt is on = rw (from-here ls i x lt is, on) refl
+
+pub on-no : (text : List ℕ) (side : Side) (ls : List HunkLine) (i : ℕ) (x : HunkLine) → i < length ls → x ≡ get_or ls i x → is_on_side side x.mark ≡ false → rest_on text side ls i ≡ rest_on text side ls (i + 1)
+on-no text side ls i x lt is on = rw (from-here ls i x lt is, on) refl
+
+-- ---- inner ends
+
+-- a line lacks its end, behind one that has its own or not
+abbrev pub lacks_behind : Bool → List (List ℕ) → Bool
+lacks_behind ended [] = false
+lacks_behind ended (line ∷ more) = not ended || lacks_behind (ends_line line) more
+
+pub lacks-behind : (ls : List (List ℕ)) → lacks_inner_end ls ≡ lacks_behind true ls
+lacks-behind [] = refl
+lacks-behind (line ∷ []) = refl
+lacks-behind (line ∷ next ∷ more) = ap (λ b. not (ends_line line) || b) (lacks-behind (next ∷ more))

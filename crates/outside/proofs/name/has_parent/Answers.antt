@@ -1,0 +1,7 @@
+use Rattle.std.proofs.Common.{rules, tests, codes, bytes_eq, lit<}
+use Rattle.std.proofs.lemmas.Iterator.Splits.{YieldsList-from_str_split}
+use Rattle.std.proofs.lemmas.Iterator.Search.{any_from_yields_List}
+use Rattle.outside.proofs.name.has_parent.Goals as goal
+
+pub returns : goal.returns
+returns c = any_from_yields_List (bytes_eq (codes "..")) _ _ _ c.any.ensures.ran (YieldsList-from_str_split 47 c.args.text.now (lit< tt) c.split.ensures.text c.split.ensures.has_more c.split.ensures.pattern) (λ x b q k. search (rules, tests))

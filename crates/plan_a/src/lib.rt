@@ -1,0 +1,85 @@
+//! A plan that holds the whole file in memory.
+#![tactic(auto)]
+
+ghost use Rattle.std.specs.Prelude.{◌≡◌, ◌≤◌, true};
+ghost use Rattle.line_store.specs.Taking.{IsSize, IsReset, IsEmpty};
+
+mod cut;
+mod text;
+
+use crate::text::{Text, take_text};
+use line_store::{Half, Halves, LineFault, LineStore, OpenFault, Plan};
+use outside::{Name, Tree};
+use std::alloc::Global;
+
+/// The file's bytes in one block, and eight bytes for each of its lines.
+#[derive(Drop)]
+pub struct PlanA {
+    alloc: Global,
+    buffer: u32,
+    text: Text,
+    halves: Halves,
+    ghost sized: { IsSize buffer },
+}
+
+impl PlanA {
+    /// A plan that stands for no lines and takes no memory yet. A line with its line feed may have `buffer` - 4 bytes.
+    pub fn new(alloc: Global, buffer: u32) -> PlanA
+        requires { IsSize buffer }
+        ensures size { (⟦<PlanA as LineStore>⟧.seen result).size ≡ buffer }
+        ensures memory { (⟦<PlanA as LineStore>⟧.seen result).needs_memory ≡ true }
+        ensures faults { (⟦<PlanA as LineStore>⟧.seen result).faults ≡ 0 }
+        ensures empty { IsEmpty (⟦<PlanA as LineStore>⟧.seen result) }
+        ensures reset { IsReset (⟦<PlanA as LineStore>⟧.seen result) }
+    {
+        PlanA {
+            alloc,
+            buffer,
+            text: Text::empty(alloc),
+            halves: Halves::new(),
+        }
+    }
+}
+
+impl LineStore for PlanA {
+    ghost use Rattle.plan_a.specs.PlanSeen.{plan_seen};
+
+    ghost seen = { plan_seen };
+
+    fn count(&self) -> u64 {
+        self.text.count()
+    }
+
+    fn load(&mut self, k: u64, half: Half) -> Result<(), LineFault> {
+        self.halves.set(half, Some(k));
+        Ok(())
+    }
+
+    fn line(&self, half: Half) -> &[u8] {
+        match self.halves.get(half) {
+            Some(k) => self.text.line(k),
+            None => &[],
+        }
+    }
+}
+
+impl Plan for PlanA {
+    ghost scratch_after = { λ size file before. before };
+
+    ghost sized = { λ p. p.sized };
+
+    fn take_file<T: Tree>(&mut self, tree: &mut T, name: &Name) -> Result<(), OpenFault> {
+        self.take_empty();
+        self.text = take_text(self.alloc, self.buffer, tree, name)?;
+        Ok(())
+    }
+
+    fn take_empty(&mut self) {
+        self.text = Text::empty(self.alloc);
+        self.halves = Halves::new();
+    }
+
+    fn needs_memory(&self) -> bool {
+        true
+    }
+}

@@ -1,0 +1,132 @@
+//! A text in memory with its lines, and how it is taken from a tree.
+
+ghost use Rattle.std.specs.Prelude.{◌≡◌, ◌≤◌, ◌<◌, ◌^◌, ℕ, [], length, vec_len, slice_index_or, None, Some, IfOk, IfErr};
+ghost use Rattle.line_list.specs.Lines.{lines};
+ghost use Rattle.outside.specs.Files.{Files, bytes_at};
+ghost use Rattle.outside.specs.TreeView.{Passes};
+ghost use Rattle.outside.specs.Calls.{IsThere, IsUntouched};
+ghost use Rattle.line_store.specs.Store.{line_at};
+ghost use Rattle.line_store.specs.Taking.{refusal};
+ghost use Rattle.plan_a.specs.Taken.{HasLength, IsFile, HasTextCause, IsCutFault};
+ghost use Rattle.plan_a.specs.Cut.{IsCut};
+
+use crate::cut::{count_lines, ends_of};
+use line_store::OpenFault;
+use outside::{Name, Tree};
+use std::alloc::Global;
+
+/// The least number of bytes that is too many.
+const TOO_LONG: u64 = 1 << 40;
+
+/// The bytes of a file, and the place where each of its lines ends.
+#[derive(Drop)]
+pub struct Text {
+    pub bytes: Vec<u8>,
+    pub ends: Vec<u64>,
+    ghost cut: { IsCut bytes.items ends.items },
+    ghost short: { length bytes.items ≤ 2 ^ 40 },
+}
+
+impl Text {
+    pub fn empty(alloc: Global) -> Text
+        ensures { result.bytes.items ≡ [] }
+    {
+        Text {
+            bytes: Vec::new(alloc),
+            ends: Vec::new(alloc),
+        }
+    }
+
+    /// The number of lines.
+    pub fn count(&self) -> u64
+        ensures is { result ≡ length (lines self.now.bytes.items) }
+        ensures most { result ≤ 2 ^ 40 }
+    {
+        self.ends.len() as u64
+    }
+
+    /// Line `k`, counted from 1, or nothing where there is none.
+    pub fn line(&self, k: u64) -> &[u8]
+        ensures { result.now ≡ line_at (lines self.now.bytes.items) k }
+    {
+        let before = k.saturating_sub(1) as usize;
+        if before >= self.ends.len() {
+            return &[];
+        }
+        let from = if before == 0 {
+            0
+        } else {
+            self.ends[before - 1]
+        };
+        &self.bytes[from as usize..self.ends[before] as usize]
+    }
+}
+
+/// Takes a file whole.
+pub fn take_text<T: Tree>(
+    alloc: Global,
+    size: u32,
+    tree: &mut T,
+    name: &Name,
+) -> Result<Text, OpenFault>
+    requires { IsThere (T.view tree.old) name.now }
+    ensures untouched { IsUntouched (T.view tree.old) (T.view tree.new) }
+    ensures passes { Passes (T.view tree.old) (T.view tree.new) }
+    ensures bytes { IfOk result (λ text. IsFile (T.view tree.old) name.now text.bytes.items) }
+    ensures admitted { IfOk result (λ text. refusal size text.bytes.items ≡ None) }
+    ensures cause { IfErr result (λ e. HasTextCause e size (T.view tree.old) (T.view tree.new) name.now) }
+{
+    let length = size_of(tree, name)?;
+    if length >= TOO_LONG {
+        return Err(OpenFault::FileTooLong { length });
+    }
+    let bytes = read_bytes(alloc, tree, name, length)?;
+    cut_text(alloc, bytes, size)
+}
+
+/// The stated size of a file. One that isn't told to be there counts as empty: reading it fails.
+fn size_of<T: Tree>(tree: &mut T, name: &Name) -> Result<u64, OpenFault>
+    requires { IsThere (T.view tree.old) name.now }
+    ensures untouched { IsUntouched (T.view tree.old) (T.view tree.new) }
+    ensures passes { Passes (T.view tree.old) (T.view tree.new) }
+    ensures size { IfOk result (HasLength (T.view tree.old) name.now) }
+    ensures cause { (size : ℕ) → IfErr result (λ e. HasTextCause e size (T.view tree.old) (T.view tree.new) name.now) }
+{
+    Ok(tree.size(name)?.unwrap_or(0))
+}
+
+/// Reads a file whole, of which so many bytes are stated.
+fn read_bytes<T: Tree>(
+    alloc: Global,
+    tree: &mut T,
+    name: &Name,
+    length: u64,
+) -> Result<Vec<u8>, OpenFault>
+    requires there { IsThere (T.view tree.old) name.now }
+    requires stated { HasLength (T.view tree.old) name.now length }
+    ensures untouched { IsUntouched (T.view tree.old) (T.view tree.new) }
+    ensures passes { Passes (T.view tree.old) (T.view tree.new) }
+    ensures bytes { IfOk result (λ bytes. IsFile (T.view tree.old) name.now bytes.items) }
+    ensures all { IfOk result (λ bytes. vec_len bytes ≡ length) }
+    ensures cause { (size : ℕ) → IfErr result (λ e. HasTextCause e size (T.view tree.old) (T.view tree.new) name.now) }
+{
+    let mut bytes = Vec::with_capacity(alloc, length as usize)?;
+    bytes.resize(length as usize, 0)?;
+    let got = tree.read_at(name, 0, &mut bytes)? as u64;
+    if got != length {
+        return Err(OpenFault::Disagree { want: length, got });
+    }
+    Ok(bytes)
+}
+
+/// The text with its lines, unless one is too long.
+fn cut_text(alloc: Global, bytes: Vec<u8>, size: u32) -> Result<Text, OpenFault>
+    requires { vec_len bytes < 2 ^ 40 }
+    ensures bytes { IfOk result (λ text. text.bytes.items ≡ bytes.items) }
+    ensures admitted { IfOk result (λ text. refusal size bytes.items ≡ None) }
+    ensures cause { IfErr result (IsCutFault size bytes.items) }
+{
+    let count = count_lines(&bytes, size)?;
+    let ends = ends_of(alloc, &bytes, count)?;
+    Ok(Text { bytes, ends })
+}

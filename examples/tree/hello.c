@@ -1,0 +1,11 @@
+#include <stdio.h>
+
+int main(void)
+{
+	printf("hello\n");
+	return 0;
+}
+
+void unused(void)
+{
+}
