@@ -55,18 +55,18 @@ returns-in_err-step-clause-part g c =
     let hunk = c.index-hunks-j.result in
     on-err _ ((lines : List (List ℕ)) → (g.S.LineStore.seen c.args.store.now).told ≡ Some lines → ReceivesPart (view c.args.out.now) (view c.apply_hunk.new.out) (applied lines fuzz loose (taken_all text side hunks)))
     (λ lines told.
-        let h = taken text side hunk in
-        let place = spot lines fuzz loose h state in
-        let next = after_hunk h state place in
-        let later : List Edit = all_edits (spots lines fuzz loose next (taken_all text side (drop (j + 1) hunks))) (taken_all text side (drop (j + 1) hunks)) in
-        let all : List (List ℕ) = spliced_from lines (all_edits (spots lines fuzz loose at_start (taken_all text side hunks)) (taken_all text side hunks)) 1 in
-        let left : List (List ℕ) = spliced_from lines (all_edits (spots lines fuzz loose state (taken_all text side (drop j hunks))) (taken_all text side (drop j hunks))) (state.consumed + 1) in
-        let there : spliced_from lines (hunk_edits place h ++ later) (state.consumed + 1) ≡ left = ap (λ es. spliced_from lines es (state.consumed + 1)) (sym (edits-more lines fuzz loose text side hunks j hunk state (omega arith) c.index-hunks-j.is)) in
-        subst (ReceivesPart (view c.args.out.now) (view c.apply_hunk.new.out)) (applied-is lines fuzz loose (taken_all text side hunks))
-        (part-whole (view c.args.out.now) (view c.apply_hunk.new.out) false all refl
-        (part-after (view c.args.out.now) (view c.loop-j.out) (view c.apply_hunk.new.out) first c.loop-j.tail all left (c.loop-j.invariant.written lines told)
-        (part-same (view c.loop-j.out) (view c.apply_hunk.new.out) c.loop-j.tail.is_open (spliced_from lines (hunk_edits place h ++ later) (state.consumed + 1)) left there
-        (c.in_err-step.ensures.part lines (c.loop-j.invariant.keeps.told ∙ told) later (edits-behind lines fuzz loose text side (drop (j + 1) hunks) next))))))
+    let h = taken text side hunk in
+    let place = spot lines fuzz loose h state in
+    let next = after_hunk h state place in
+    let later : List Edit = all_edits (spots lines fuzz loose next (taken_all text side (drop (j + 1) hunks))) (taken_all text side (drop (j + 1) hunks)) in
+    let all : List (List ℕ) = spliced_from lines (all_edits (spots lines fuzz loose at_start (taken_all text side hunks)) (taken_all text side hunks)) 1 in
+    let left : List (List ℕ) = spliced_from lines (all_edits (spots lines fuzz loose state (taken_all text side (drop j hunks))) (taken_all text side (drop j hunks))) (state.consumed + 1) in
+    let there : spliced_from lines (hunk_edits place h ++ later) (state.consumed + 1) ≡ left = ap (λ es. spliced_from lines es (state.consumed + 1)) (sym (edits-more lines fuzz loose text side hunks j hunk state (omega arith) c.index-hunks-j.is)) in
+    subst (ReceivesPart (view c.args.out.now) (view c.apply_hunk.new.out)) (applied-is lines fuzz loose (taken_all text side hunks))
+    (part-whole (view c.args.out.now) (view c.apply_hunk.new.out) false all refl
+    (part-after (view c.args.out.now) (view c.loop-j.out) (view c.apply_hunk.new.out) first c.loop-j.tail all left (c.loop-j.invariant.written lines told)
+    (part-same (view c.loop-j.out) (view c.apply_hunk.new.out) c.loop-j.tail.is_open (spliced_from lines (hunk_edits place h ++ later) (state.consumed + 1)) left there
+    (c.in_err-step.ensures.part lines (c.loop-j.invariant.keeps.told ∙ told) later (edits-behind lines fuzz loose text side (drop (j + 1) hunks) next))))))
 
 pub loop-j-preserved : goal.loop-j-preserved
 loop-j-preserved g c =
@@ -133,14 +133,14 @@ returns-in_err-end-clause-part g c =
     let state = c.loop-j.state in
     on-err _ ((lines : List (List ℕ)) → (g.S.LineStore.seen c.args.store.now).told ≡ Some lines → ReceivesPart (view c.args.out.now) (view c.copy_lines.new.out) (applied lines fuzz loose (taken_all text side hunks)))
     (λ lines told.
-        let all : List (List ℕ) = spliced_from lines (all_edits (spots lines fuzz loose at_start (taken_all text side hunks)) (taken_all text side hunks)) 1 in
-        let left : List (List ℕ) = spliced_from lines (all_edits (spots lines fuzz loose state (taken_all text side (drop c.loop-j.j hunks))) (taken_all text side (drop c.loop-j.j hunks))) (state.consumed + 1) in
-        let there : spliced_from lines [] (state.consumed + 1) ≡ left = ap (λ es. spliced_from lines es (state.consumed + 1)) (sym (edits-end lines fuzz loose text side hunks c.loop-j.j state (omega arith))) in
-        subst (ReceivesPart (view c.args.out.now) (view c.copy_lines.new.out)) (applied-is lines fuzz loose (taken_all text side hunks))
-        (part-whole (view c.args.out.now) (view c.copy_lines.new.out) false all refl
-        (part-after (view c.args.out.now) (view c.loop-j.out) (view c.copy_lines.new.out) first c.loop-j.tail all left (c.loop-j.invariant.written lines told)
-        (part-same (view c.loop-j.out) (view c.copy_lines.new.out) c.loop-j.tail.is_open (spliced_from lines [] (state.consumed + 1)) left there
-        (c.in_err-end.ensures.part lines (c.loop-j.invariant.keeps.told ∙ told) [] tt)))))
+    let all : List (List ℕ) = spliced_from lines (all_edits (spots lines fuzz loose at_start (taken_all text side hunks)) (taken_all text side hunks)) 1 in
+    let left : List (List ℕ) = spliced_from lines (all_edits (spots lines fuzz loose state (taken_all text side (drop c.loop-j.j hunks))) (taken_all text side (drop c.loop-j.j hunks))) (state.consumed + 1) in
+    let there : spliced_from lines [] (state.consumed + 1) ≡ left = ap (λ es. spliced_from lines es (state.consumed + 1)) (sym (edits-end lines fuzz loose text side hunks c.loop-j.j state (omega arith))) in
+    subst (ReceivesPart (view c.args.out.now) (view c.copy_lines.new.out)) (applied-is lines fuzz loose (taken_all text side hunks))
+    (part-whole (view c.args.out.now) (view c.copy_lines.new.out) false all refl
+    (part-after (view c.args.out.now) (view c.loop-j.out) (view c.copy_lines.new.out) first c.loop-j.tail all left (c.loop-j.invariant.written lines told)
+    (part-same (view c.loop-j.out) (view c.copy_lines.new.out) c.loop-j.tail.is_open (spliced_from lines [] (state.consumed + 1)) left there
+    (c.in_err-end.ensures.part lines (c.loop-j.invariant.keeps.told ∙ told) [] tt)))))
 
 -- all lines were written
 wholly : (g : given.Over) (c : goal.After-session_of g) → (lines : List (List ℕ)) → (g.S.LineStore.seen c.args.store.now).told ≡ Some lines

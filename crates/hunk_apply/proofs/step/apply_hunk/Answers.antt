@@ -17,9 +17,9 @@ returns-in_err-moved-in-At-clause-part g c =
     let state = c.args.state.now in
     on-err _ ((lines : List (List ℕ)) → (g.S.LineStore.seen c.args.store.now).told ≡ Some lines → (later : List Edit) → AreFrom ((after_hunk h state (spot lines c.args.fuzz c.args.loose h state)).consumed + 1) later → ReceivesPart (view c.args.out.now) (view c.apply_at.new.out) (join_behind c.args.tail.is_open (spliced_from lines (hunk_edits (spot lines c.args.fuzz c.args.loose h state) h ++ later) (state.consumed + 1))))
     (λ lines told later from.
-        let place = spot lines c.args.fuzz c.args.loose h state in
-        let at : At c.in-At.line c.in-At.fuzz c.in-At.offset ≡ verdict_of h place = sym c.in-At.is ∙ c.in_ok-verdict.ensures.value lines told in
-        part-same (view c.args.out.now) (view c.apply_at.new.out) c.args.tail.is_open
-        (spliced_from lines (body_edits c.in-At.line h.body ++ later) (state.consumed + 1)) (spliced_from lines (hunk_edits place h ++ later) (state.consumed + 1))
-        (ap (λ es. spliced_from lines (es ++ later) (state.consumed + 1)) (placed-edits h place c.in-At.line c.in-At.fuzz c.in-At.offset at))
-        (c.in_err-moved-in-At.ensures.part lines (c.in_ok-verdict.ensures.keeps.told ∙ told) later (subst (λ n. AreFrom (n + 1) later) (placed-consumed h state place c.in-At.line c.in-At.fuzz c.in-At.offset at) from)))
+    let place = spot lines c.args.fuzz c.args.loose h state in
+    let at : At c.in-At.line c.in-At.fuzz c.in-At.offset ≡ verdict_of h place = sym c.in-At.is ∙ c.in_ok-verdict.ensures.value lines told in
+    part-same (view c.args.out.now) (view c.apply_at.new.out) c.args.tail.is_open
+    (spliced_from lines (body_edits c.in-At.line h.body ++ later) (state.consumed + 1)) (spliced_from lines (hunk_edits place h ++ later) (state.consumed + 1))
+    (ap (λ es. spliced_from lines (es ++ later) (state.consumed + 1)) (placed-edits h place c.in-At.line c.in-At.fuzz c.in-At.offset at))
+    (c.in_err-moved-in-At.ensures.part lines (c.in_ok-verdict.ensures.keeps.told ∙ told) later (subst (λ n. AreFrom (n + 1) later) (placed-consumed h state place c.in-At.line c.in-At.fuzz c.in-At.offset at) from)))
