@@ -1,6 +1,6 @@
 //! Worked rows: a file, the hunks of a patch, and what comes of them.
 
-ghost use Rattle.std.specs.Prelude.{◌≡◌, ◌+◌, ◌-◌, ◌<◌, ◌≤◌, ◌^◌, ◌++◌, length, vec_len, Some, OnOk, IfOk};
+ghost use Rattle.std.specs.Prelude.{◌≡◌, ◌+◌, ◌-◌, ◌<◌, ◌≤◌, ◌^◌, ◌++◌, length, Some, OnOk, IfOk};
 ghost use Rattle.std.specs.List.{All};
 ghost use Rattle.hunk_core.specs.Turned.{IsLawful, LiesIn};
 ghost use Rattle.hunk_apply.specs.Session.{body_lines};
@@ -118,6 +118,31 @@ fn hunk_of(
     })
 }
 
+/// Adds the hunk whose body goes from `from` to `to`, if there is one.
+fn add_hunk(
+    hunks: &mut Vec<Hunk>,
+    alloc: Global,
+    text: &[u8],
+    from: usize,
+    to: usize,
+    start: u32,
+) -> Result<(), AllocError>
+    requires short { length text.now < 1000 }
+    requires order { from ≤ to }
+    requires within { to ≤ length text.now }
+    requires lawful { All (IsLawful text.now) hunks.old.items }
+    ensures lawful { OnOk result (All (IsLawful text.now) hunks.new.items) }
+    ensures few { OnOk result (length hunks.new.items ≤ length hunks.old.items + 1) }
+    ensures short { OnOk result (body_lines hunks.new.items ≤ body_lines hunks.old.items + 1000) }
+{
+    if from == to {
+        return Ok(());
+    }
+    let hunk = hunk_of(alloc, text, from, to, start)?;
+    hunks.push(hunk)?;
+    Ok(())
+}
+
 fn hunks_of(
     alloc: Global,
     text: &[u8],
@@ -127,15 +152,33 @@ fn hunks_of(
     requires short { length text.now < 1000 }
     requires within { second ≤ length text.now }
     ensures lawful { IfOk result (λ hs. All (IsLawful text.now) hs.items) }
-    ensures few { IfOk result (λ hs. vec_len hs ≤ 2) }
+    ensures few { IfOk result (λ hs. length hs.items ≤ 2) }
     ensures short { IfOk result (λ hs. body_lines hs.items ≤ 2000) }
 {
     let mut hunks = Vec::new(alloc);
-    hunks.push(hunk_of(alloc, text, 0, second, starts[0])?)?;
-    if second < text.len() {
-        hunks.push(hunk_of(alloc, text, second, text.len(), starts[1])?)?;
-    }
+    add_hunk(&mut hunks, alloc, text, 0, second, starts[0])?;
+    add_hunk(&mut hunks, alloc, text, second, text.len(), starts[1])?;
     Ok(hunks)
+}
+
+/// Adds the line of a file that ends at `at`, if one does, and says where the next begins.
+fn add_piece(
+    lines: &mut Vec<Vec<u8>>,
+    alloc: Global,
+    text: &[u8],
+    start: usize,
+    at: usize,
+) -> Result<usize, AllocError>
+    requires order { start ≤ at }
+    requires within { at < length text.now }
+    ensures next { IfOk result (λ next. next ≤ at + 1) }
+    ensures few { OnOk result (length lines.new.items ≤ length lines.old.items + 1) }
+{
+    if text[at] != b'\n' && at + 1 < text.len() {
+        return Ok(start);
+    }
+    lines.push(Vec::from_slice(alloc, &text[start..at + 1])?)?;
+    Ok(at + 1)
 }
 
 fn store_of(alloc: Global, text: &[u8]) -> Result<VecLines, AllocError>
@@ -144,10 +187,7 @@ fn store_of(alloc: Global, text: &[u8]) -> Result<VecLines, AllocError>
     let mut lines = Vec::new(alloc);
     let mut start = 0;
     for at in 0..text.len() {
-        if text[at] == b'\n' || at + 1 == text.len() {
-            lines.push(Vec::from_slice(alloc, &text[start..at + 1])?)?;
-            start = at + 1;
-        }
+        start = add_piece(&mut lines, alloc, text, start, at)?;
     }
     let halves = Halves::new();
     Ok(VecLines { lines, halves })
