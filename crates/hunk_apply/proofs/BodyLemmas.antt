@@ -45,6 +45,9 @@ on-side Reversed Add = refl
 abbrev pub width : Side → Mark → ℕ
 width side k = cond (is_on_side side k) 1 0
 
+pub wider : (q w r : ℕ) → r ≡ w → q + w ≡ q + r
+wider q w r e = omega arith
+
 pub marked-width : (side : Side) (k t : Mark) → turned_mark side k ≡ t → width side k ≡ width Forward t
 marked-width side k t e = ap (λ b. cond b 1 0) (sym (on-side side k)) ∙ ap (λ m. cond (is_on_side Forward m) 1 0) e
 

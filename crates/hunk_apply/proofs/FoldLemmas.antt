@@ -12,7 +12,7 @@ use Rattle.hunk_place.specs.declared.Spot.{Spot}
 use Rattle.hunk_place.specs.Taken.{taken}
 use Rattle.hunk_place.specs.Verdicts.{verdicts, spots, spot, verdict_of, after_hunk, at_start, adds, drops}
 use Rattle.hunk_apply.specs.Applied.{taken_all, applied}
-use Rattle.hunk_apply.specs.Join.{join}
+use Rattle.line_list.specs.Join.{join}
 use Rattle.hunk_apply.specs.Splice.{body_edits, hunk_edits, all_edits, spliced_from, AreFrom}
 use Rattle.hunk_apply.proofs.SpliceLemmas.{sooner, from-append, spliced-whole}
 use Rattle.hunk_apply.proofs.BodyLemmas.{edits-from}

@@ -56,16 +56,3 @@ trailing-old text side h =
     let m : trailing (taken text side h).body ≡ prefix_len is_kept (reverse h.body.items) = taken-trailing text side h in
     let old : prefix_len is_kept (reverse h.body.items) ≤ taken_count side h.body.items = post-old side h.body.items in
     omega arith
-
--- what a verdict says of the place
-pub placed-at : (c : PlainHunk) (s : Option Spot) (line fuzz : ℕ) (offset : ℤ) → At line fuzz offset ≡ verdict_of c s → let p : Spot = record { line = line; fuzz = fuzz } in (s ≡ Some p) × (offset ≡ pos line -ℤ pos (base c))
-placed-at c None line fuzz offset e = cc
-placed-at c (Some s) line fuzz offset e =
-    let a : line ≡ s.line = cc in
-    let b : fuzz ≡ s.fuzz = cc in
-    let o : offset ≡ pos s.line -ℤ pos (base c) = cc in
-    (ap (λ n. let p : Spot = record { line = n; fuzz = s.fuzz } in Some p) (sym a) ∙ ap (λ k. let p : Spot = record { line = line; fuzz = k } in Some p) (sym b), o ∙ ap (λ n. pos n -ℤ pos (base c)) (sym a))
-
-pub placed-nowhere : (c : PlainHunk) (s : Option Spot) → Nowhere ≡ verdict_of c s → s ≡ None
-placed-nowhere c None e = refl
-placed-nowhere c (Some s) e = cc

@@ -1,5 +1,5 @@
 -- The state behind a hunk.
-use Rattle.std.proofs.Common.{◌≡◌, ℕ, ◌+◌, ◌-◌, ◌<◌, ◌≤◌, ◌^◌, List, [], ◌∷◌, ◌++◌, length, reverse, count_by, Bool, true, false, cond, ◌&&◌, eqb, refl, sym, ap, ◌∙◌, arith, to_z, of_z, w64}
+use Rattle.std.proofs.Common.{◌≡◌, ℕ, ◌+◌, ◌-◌, ◌<◌, ◌≤◌, ◌^◌, List, [], ◌∷◌, ◌++◌, length, reverse, count_by, Bool, true, false, cond, ◌&&◌, eqb, refl, sym, ap, ◌∙◌, arith, to_z, of_z, w64, Option, Some, None}
 use Rattle.std.specs.Prelude.{ℤ, pos, negsuc, ◌+ℤ◌, ◌-ℤ◌, ◌≤ℤ◌, ◌==◌}
 use Rattle.std.specs.List.{prefix_len}
 use Rattle.std.proofs.lemmas.Int.{ints}
@@ -10,14 +10,16 @@ use Rattle.hunk_core.specs.declared.Hunk.{Hunk}
 use Rattle.hunk_core.specs.Sides.{taken_count}
 use Rattle.hunk_core.specs.PlainHunk.{PlainHunk, old_lines}
 use Rattle.hunk_core.specs.Turned.{trailing, is_add, is_drop}
+use Rattle.hunk_core.specs.declared.Verdict.TheVariants.{At}
 use Rattle.hunk_place.specs.declared.PlaceState.{PlaceState}
+use Rattle.hunk_place.specs.declared.Spot.{Spot}
 use Rattle.hunk_place.specs.Taken.{taken}
-use Rattle.hunk_place.specs.Verdicts.{adds, drops}
+use Rattle.hunk_place.specs.Verdicts.{adds, drops, verdict_of, after_hunk}
 use Rattle.hunk_place.proofs.TakenLemmas.{taken-trailing}
 use Rattle.hunk_apply.specs.Body.{turned_mark}
-use Rattle.hunk_apply.specs.Splice.{Edit, body_edits}
+use Rattle.hunk_apply.specs.Splice.{body_edits, hunk_edits}
 use Rattle.hunk_apply.specs.Moved.{moved_state}
-use Rattle.hunk_apply.proofs.BodyLemmas.{is_kept}
+use Rattle.hunk_apply.proofs.BodyLemmas.{is_kept, post-old}
 use Rattle.hunk_apply.proofs.HunkLemmas.{adds-are, drops-are, old-length, no-edits}
 
 pub net-is : (n : ℤ) (a d : ℕ) → a < 2 ^ 32 → d < 2 ^ 32 → negsuc (2 ^ 33) ≤ℤ n → n ≤ℤ pos (2 ^ 33) → to_z w64 (of_z w64 (to_z w64 (of_z w64 n) +ℤ to_z w64 (of_z w64 (to_z w64 a -ℤ to_z w64 d)))) ≡ n +ℤ (pos a -ℤ pos d)
@@ -54,7 +56,39 @@ moved-some text side h s line offset a d k b o n ea ed eb t ek eo en =
 both-zero : (a d : ℕ) → ((a == 0) && (d == 0)) ≡ true → (a ≡ 0) × (d ≡ 0)
 both-zero a d h = (grind (arith, nat_tests), grind (arith, nat_tests))
 
-pub same-edits : (text : List ℕ) (side : Side) (h : Hunk) (at a d : ℕ) (b : Bool) (es : List Edit) → a ≡ count_by (λ l. is_add (turned_mark side l.mark)) h.body.items → d ≡ count_by (λ l. is_drop (turned_mark side l.mark)) h.body.items → b ≡ ((a == 0) && (d == 0)) → b ≡ true → es ≡ es ++ body_edits at (taken text side h).body
-same-edits text side h at a d b es ea ed eb t =
+pub same-edits : (text : List ℕ) (side : Side) (h : Hunk) (at a d : ℕ) (b : Bool) → a ≡ count_by (λ l. is_add (turned_mark side l.mark)) h.body.items → d ≡ count_by (λ l. is_drop (turned_mark side l.mark)) h.body.items → b ≡ ((a == 0) && (d == 0)) → b ≡ true → body_edits at (taken text side h).body ≡ []
+same-edits text side h at a d b ea ed eb t =
     let z : (adds (taken text side h) ≡ 0) × (drops (taken text side h) ≡ 0) = both-zero (adds (taken text side h)) (drops (taken text side h)) (test-is text side h a d b ea ed eb ∙ t) in
-    sym (ap (λ x. es ++ x) (no-edits (taken text side h).body at z.0 z.1) ∙ append-nil es)
+    no-edits (taken text side h).body at z.0 z.1
+
+pub net-below : (n : ℤ) (a d len : ℕ) → a < 2 ^ 32 → d < 2 ^ 32 → negsuc (2 ^ 33) ≤ℤ n → n ≤ℤ pos (2 ^ 33) → a ≤ len → to_z w64 (of_z w64 (to_z w64 (of_z w64 n) +ℤ to_z w64 (of_z w64 (to_z w64 a -ℤ to_z w64 d)))) ≤ℤ (n +ℤ pos len)
+net-below n a d len high_a high_d low high few = omega (arith, ints)
+
+pub net-above : (n : ℤ) (a d len : ℕ) → a < 2 ^ 32 → d < 2 ^ 32 → negsuc (2 ^ 33) ≤ℤ n → n ≤ℤ pos (2 ^ 33) → d ≤ len → (n -ℤ pos len) ≤ℤ to_z w64 (of_z w64 (to_z w64 (of_z w64 n) +ℤ to_z w64 (of_z w64 (to_z w64 a -ℤ to_z w64 d))))
+net-above n a d len high_a high_d low high few = omega (arith, ints)
+
+-- a hunk that changes nothing consumes nothing
+pub consumed-none : (text : List ℕ) (side : Side) (h : Hunk) (s : PlaceState) (line : ℕ) (offset : ℤ) (a d : ℕ) (b : Bool) → a ≡ count_by (λ l. is_add (turned_mark side l.mark)) h.body.items → d ≡ count_by (λ l. is_drop (turned_mark side l.mark)) h.body.items → b ≡ ((a == 0) && (d == 0)) → b ≡ true → (moved_state (taken text side h) s line offset).consumed ≡ s.consumed
+consumed-none text side h s line offset a d b ea ed eb t =
+    ap (λ x. cond x s.consumed ((line - 1 + length (old_lines (taken text side h).body)) - trailing (taken text side h).body)) (test-is text side h a d b ea ed eb ∙ t)
+
+-- another one consumes its old lines but for trailing context
+pub consumed-some : (text : List ℕ) (side : Side) (h : Hunk) (s : PlaceState) (line : ℕ) (offset : ℤ) (a d : ℕ) (b : Bool) → a ≡ count_by (λ l. is_add (turned_mark side l.mark)) h.body.items → d ≡ count_by (λ l. is_drop (turned_mark side l.mark)) h.body.items → b ≡ ((a == 0) && (d == 0)) → b ≡ false → 1 ≤ line
+    → (moved_state (taken text side h) s line offset).consumed + 1 ≡ line + taken_count side h.body.items - prefix_len is_kept (reverse h.body.items)
+consumed-some text side h s line offset a d b ea ed eb t low =
+    let n : length (old_lines (taken text side h).body) ≡ taken_count side h.body.items = old-length text side h in
+    let m : trailing (taken text side h).body ≡ prefix_len is_kept (reverse h.body.items) = taken-trailing text side h in
+    let old : prefix_len is_kept (reverse h.body.items) ≤ taken_count side h.body.items = post-old side h.body.items in
+    ap (λ x. cond x s.consumed ((line - 1 + length (old_lines (taken text side h).body)) - trailing (taken text side h).body) + 1) (test-is text side h a d b ea ed eb ∙ t)
+    ∙ (let sum : (line - 1 + length (old_lines (taken text side h).body)) - trailing (taken text side h).body + 1 ≡ line + taken_count side h.body.items - prefix_len is_kept (reverse h.body.items) = omega arith in sum)
+
+-- where a verdict says that a hunk stands
+pub placed-consumed : (h : PlainHunk) (state : PlaceState) (place : Option Spot) (line fuzz : ℕ) (offset : ℤ) → At line fuzz offset ≡ verdict_of h place → (after_hunk h state place).consumed ≡ (moved_state h state line offset).consumed
+placed-consumed h state None line fuzz offset e = cc
+placed-consumed h state (Some s) line fuzz offset e =
+    let same : line ≡ s.line = cc in
+    ap (λ n. cond ((adds h == 0) && (drops h == 0)) state.consumed ((n - 1 + length (old_lines h.body)) - trailing h.body)) (sym same)
+
+pub placed-edits : (h : PlainHunk) (place : Option Spot) (line fuzz : ℕ) (offset : ℤ) → At line fuzz offset ≡ verdict_of h place → body_edits line h.body ≡ hunk_edits place h
+placed-edits h None line fuzz offset e = cc
+placed-edits h (Some s) line fuzz offset e = let same : line ≡ s.line = cc in ap (λ n. body_edits n h.body) same

@@ -5,7 +5,7 @@ use Rattle.hunk_core.specs.declared.Mark.{Mark}
 use Rattle.hunk_core.specs.declared.Mark.TheVariants.{Keep, Drop, Add}
 use Rattle.hunk_core.specs.declared.Side.{Side}
 use Rattle.hunk_apply.specs.declared.put.Tail.{Tail}
-use Rattle.hunk_apply.specs.Join.{lacks_feed, feed_if}
+use Rattle.line_list.specs.Join.{lacks_feed, feed_if}
 use Rattle.hunk_apply.specs.Body.{turned_mark}
 use Rattle.hunk_apply.specs.Splice.{Edit, add, drop_line, marked_edits, spliced_from, AreFrom}
 use Rattle.hunk_apply.specs.Written.{is_nothing, join_behind, Wrote}

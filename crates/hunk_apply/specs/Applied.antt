@@ -5,7 +5,7 @@ use Rattle.hunk_core.specs.declared.Hunk.{Hunk}
 use Rattle.hunk_core.specs.PlainHunk.{PlainHunk}
 use Rattle.hunk_place.specs.Taken.{taken}
 use Rattle.hunk_place.specs.Verdicts.{spots, at_start}
-use Rattle.hunk_apply.specs.Join.{join}
+use Rattle.line_list.specs.Join.{join}
 use Rattle.hunk_apply.specs.Splice.{all_edits, spliced}
 
 -- hunks as they are taken from a side

@@ -2,7 +2,7 @@
 use Rattle.std.specs.Prelude.{◌≡◌, ℕ, List, [], ◌∷◌, ◌++◌, Bool, true, false, ◌&&◌}
 use Rattle.outside.specs.SinkView.{SinkView, Receives}
 use Rattle.hunk_apply.specs.declared.put.Tail.{Tail}
-use Rattle.hunk_apply.specs.Join.{join, feed_if}
+use Rattle.line_list.specs.Join.{join, feed_if}
 
 -- there is no byte
 abbrev pub is_nothing : List ℕ → Bool

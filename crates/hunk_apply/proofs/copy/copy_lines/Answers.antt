@@ -27,10 +27,10 @@ returns-in_err-now-clause-part g c =
     let view = g.O.Sink.view in
     on-err _ ((lines : List (List ℕ)) → (g.S.LineStore.seen c.args.store.now).told ≡ Some lines → (later : List Edit) → AreFrom c.args.to later → ReceivesPart (view c.args.out.now) (view c.copy_line.new.out) (join_behind c.args.tail.is_open (spliced_from lines later c.args.from)))
     (λ lines told later from.
-        let lt : c.loop-q.q < c.args.to = c.loop-q-test.true in
-        part-after (view c.args.out.now) (view c.loop-q.out) (view c.copy_line.new.out) c.args.tail c.loop-q.now (spliced_from lines later c.args.from) (spliced_from lines later c.loop-q.q)
-        (c.loop-q.invariant.written lines told later (sooner c.loop-q.q c.args.to later (omega arith) from))
-        (c.in_err-now.ensures.part lines (c.loop-q.invariant.keeps.told ∙ told) later (sooner (c.loop-q.q + 1) c.args.to later (omega arith) from)))
+    let lt : c.loop-q.q < c.args.to = c.loop-q-test.true in
+    part-after (view c.args.out.now) (view c.loop-q.out) (view c.copy_line.new.out) c.args.tail c.loop-q.now (spliced_from lines later c.args.from) (spliced_from lines later c.loop-q.q)
+    (c.loop-q.invariant.written lines told later (sooner c.loop-q.q c.args.to later (omega arith) from))
+    (c.in_err-now.ensures.part lines (c.loop-q.invariant.keeps.told ∙ told) later (sooner (c.loop-q.q + 1) c.args.to later (omega arith) from)))
 
 pub loop-q-preserved : goal.loop-q-preserved
 loop-q-preserved g c =

@@ -1,6 +1,6 @@
 use Rattle.std.proofs.Common.{◌≡◌, ◌++◌}
 use Rattle.outside.specs.SinkView.{ReceivesPart}
-use Rattle.hunk_apply.specs.Join.{feed_if}
+use Rattle.line_list.specs.Join.{feed_if}
 use Rattle.hunk_apply.proofs.FaultLemmas.{on-err}
 use Rattle.hunk_apply.proofs.WrittenLemmas.{receives-both, part-behind}
 use Rattle.hunk_apply.proofs.put.put_line.Goals as goal
