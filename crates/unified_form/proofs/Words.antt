@@ -35,9 +35,9 @@ pub opening-words : (line : List ℕ) → is_opening line ≡ true ↔ ((d : ℕ
 unfolding is_opening
 opening-words line = (
   λ e. (
-    let s = some_first (after (64 ∷ 64 ∷ 32 ∷ 45 ∷ []) line) e in
-    let d = digit_first s.0 s.2 in
-    (d.0, d.1, after-takes (64 ∷ 64 ∷ 32 ∷ 45 ∷ []) line s.0 s.1 ∙ ap (λ (bs : List ℕ). 64 ∷ 64 ∷ 32 ∷ 45 ∷ bs) d.2, d.3)),
+      let s = some_first (after (64 ∷ 64 ∷ 32 ∷ 45 ∷ []) line) e in
+      let d = digit_first s.0 s.2 in
+      (d.0, d.1, after-takes (64 ∷ 64 ∷ 32 ∷ 45 ∷ []) line s.0 s.1 ∙ ap (λ (bs : List ℕ). 64 ∷ 64 ∷ 32 ∷ 45 ∷ bs) d.2, d.3)),
   λ h. rw (h.2, after-again (64 ∷ 64 ∷ 32 ∷ 45 ∷ []) (h.0 ∷ h.1), h.3) refl,
 )
 
