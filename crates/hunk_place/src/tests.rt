@@ -94,7 +94,10 @@ fn places_of_hunks(rt: HostRuntime) {
     assert_eq!(rt; placed(alloc, b"qbqbq", 3, b"-b+B", 2), at(4, 0, 1));
     assert_eq!(rt; placed(alloc, b"Abc", 1, b" a-b+B c", 2), at(1, 1, 0));
     assert_eq!(rt; placed(alloc, b"abz", 2, b" a b+c", 2), at(2, 2, 0));
-    assert_eq!(rt; placed(alloc, b"abz", 2, b" a b+c", 1), Some(Verdict::Nowhere));
+    assert_eq!(rt;
+        placed(alloc, b"abz", 2, b" a b+c", 1),
+        Some(Verdict::Nowhere)
+    );
     assert_eq!(rt; placed(alloc, b"a", 0, b"+x", 2), at(1, 0, 0));
     assert_eq!(rt; reversed(alloc, b"aBc", 1, b" a-b+B c"), Some(true));
     assert_eq!(rt; reversed(alloc, b"abc", 1, b" a-b+B c"), Some(false));

@@ -5,7 +5,11 @@ use mem_world::MemTree;
 use std::test::*;
 
 /// The plan behind the only file of a tree, and what `take_file` answered.
-fn taken(alloc: Global, buffer: u32, bytes: Vec<u8>) -> Result<(PlanA, Result<(), OpenFault>), OpenFault>
+fn taken(
+    alloc: Global,
+    buffer: u32,
+    bytes: Vec<u8>,
+) -> Result<(PlanA, Result<(), OpenFault>), OpenFault>
     requires { IsSize buffer }
 {
     let mut tree = MemTree::new(alloc, Vec::new(alloc));

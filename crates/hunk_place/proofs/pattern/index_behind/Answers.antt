@@ -11,21 +11,21 @@ loop-k-preserved c =
     let old : List (List ℕ) = side_lines c.args.text.now c.args.side c.args.hunk.now.body.items in
     let rest : List (List ℕ) = side_lines c.args.text.now c.args.side (drop (c.loop-k.k + 1) c.args.hunk.now.body.items) in
     elim c.if-is_taken.branch [
-  | then-is_taken+else-i-front w ↦
-      let head : drop c.loop-k.i old ≡ bytes_at c.args.text.now c.index.result.now.span ∷ rest =
-      side-take c.args.text.now c.args.side c.args.hunk.now.body.items c.loop-k.k c.loop-k.i c.index.result.now (search rules) c.index.ensures (search rules) c.loop-k.invariant.rest in
-      record {
-        few = omega (arith, w.i-is);
-        most = omega (arith, w.i-is);
-        rest = sym (ap (λ n. drop n old) w.i-is ∙ front-rest _ _ _ c.loop-k.i head);
-      }
-  | else-is_taken w ↦
-      record {
-        few = omega (arith, w.i-is);
-        most = omega (arith, w.i-is);
-        rest = side-skip c.args.text.now c.args.side c.args.hunk.now.body.items c.loop-k.k c.loop-k.i c.index.result.now (search rules) c.index.ensures (search rules) c.loop-k.invariant.rest ∙ ap (λ n. drop n old) (sym w.i-is);
-      }
-]
+      | then-is_taken+else-i-front w ↦
+          let head : drop c.loop-k.i old ≡ bytes_at c.args.text.now c.index.result.now.span ∷ rest =
+          side-take c.args.text.now c.args.side c.args.hunk.now.body.items c.loop-k.k c.loop-k.i c.index.result.now (search rules) c.index.ensures (search rules) c.loop-k.invariant.rest in
+          record {
+            few = omega (arith, w.i-is);
+            most = omega (arith, w.i-is);
+            rest = sym (ap (λ n. drop n old) w.i-is ∙ front-rest _ _ _ c.loop-k.i head);
+          }
+      | else-is_taken w ↦
+          record {
+            few = omega (arith, w.i-is);
+            most = omega (arith, w.i-is);
+            rest = side-skip c.args.text.now c.args.side c.args.hunk.now.body.items c.loop-k.k c.loop-k.i c.index.result.now (search rules) c.index.ensures (search rules) c.loop-k.invariant.rest ∙ ap (λ n. drop n old) (sym w.i-is);
+          }
+    ]
 
 pub returns : goal.returns
 returns c =

@@ -30,28 +30,28 @@ loop-k-preserved g c =
     let old : List (List ℕ) = side_lines c.args.self.now.text.now c.args.self.now.side c.args.self.now.hunk.now.body.items in
     let rest : List (List ℕ) = side_lines c.args.self.now.text.now c.args.self.now.side (drop (c.loop-k.k + 1) c.args.self.now.hunk.now.body.items) in
     elim c.if-is_taken.branch [
-  | then-is_taken+in_ok-is_line+else-not-branch w ↦
-      let head : drop c.loop-k.i old ≡ bytes_at c.args.self.now.text.now c.index-line.result.now.span ∷ rest =
-      side-take c.args.self.now.text.now c.args.self.now.side c.args.self.now.hunk.now.body.items c.loop-k.k c.loop-k.i c.index-line.result.now (search rules) c.index-line.ensures (search rules) c.loop-k.invariant.rest in
-      record {
-        keeps = subst (λ s. Keeps (g.S.LineStore.seen c.args.store.now) (g.S.LineStore.seen s)) (sym w.store-is) (keeps-more _ _ _ c.loop-k.invariant.keeps w.in_ok-is_line.ensures.keeps);
-        low = omega (arith, w.i-is);
-        rest = sym (ap (λ n. drop n old) w.i-is ∙ front-rest _ _ _ c.loop-k.i head);
-        same = λ lines told n low high.
-            let value : w.in_ok-is_line.field-0 ≡ same_line c.args.self.now.loose (bytes_at c.args.self.now.text.now c.index-line.result.now.span) (line_at lines (c.args.at + c.loop-k.i)) = w.in_ok-is_line.ensures.value lines (c.loop-k.invariant.keeps.told ∙ told) in
-            one-more (λ n. same_line c.args.self.now.loose (line_at old n) (line_at lines (c.args.at + n - 1)) ≡ true) c.args.self.now.front c.loop-k.i
-            (c.loop-k.invariant.same lines told)
-            (same-at lines old c.args.self.now.loose c.args.at c.loop-k.i _ _ w.in_ok-is_line.field-0 head value ∙ w.if-not-branch.false)
-            n low (omega (arith, w.i-is));
-      }
-  | else-is_taken w ↦
-      record {
-        keeps = subst (λ s. Keeps (g.S.LineStore.seen c.args.store.now) (g.S.LineStore.seen s)) (sym w.store-is) c.loop-k.invariant.keeps;
-        low = omega (arith, w.i-is);
-        rest = side-skip c.args.self.now.text.now c.args.self.now.side c.args.self.now.hunk.now.body.items c.loop-k.k c.loop-k.i c.index-line.result.now (search rules) c.index-line.ensures (search rules) c.loop-k.invariant.rest ∙ ap (λ n. drop n old) (sym w.i-is);
-        same = λ lines told n low high. c.loop-k.invariant.same lines told n low (omega (arith, w.i-is));
-      }
-]
+      | then-is_taken+in_ok-is_line+else-not-branch w ↦
+          let head : drop c.loop-k.i old ≡ bytes_at c.args.self.now.text.now c.index-line.result.now.span ∷ rest =
+          side-take c.args.self.now.text.now c.args.self.now.side c.args.self.now.hunk.now.body.items c.loop-k.k c.loop-k.i c.index-line.result.now (search rules) c.index-line.ensures (search rules) c.loop-k.invariant.rest in
+          record {
+            keeps = subst (λ s. Keeps (g.S.LineStore.seen c.args.store.now) (g.S.LineStore.seen s)) (sym w.store-is) (keeps-more _ _ _ c.loop-k.invariant.keeps w.in_ok-is_line.ensures.keeps);
+            low = omega (arith, w.i-is);
+            rest = sym (ap (λ n. drop n old) w.i-is ∙ front-rest _ _ _ c.loop-k.i head);
+            same = λ lines told n low high.
+                let value : w.in_ok-is_line.field-0 ≡ same_line c.args.self.now.loose (bytes_at c.args.self.now.text.now c.index-line.result.now.span) (line_at lines (c.args.at + c.loop-k.i)) = w.in_ok-is_line.ensures.value lines (c.loop-k.invariant.keeps.told ∙ told) in
+                one-more (λ n. same_line c.args.self.now.loose (line_at old n) (line_at lines (c.args.at + n - 1)) ≡ true) c.args.self.now.front c.loop-k.i
+                (c.loop-k.invariant.same lines told)
+                (same-at lines old c.args.self.now.loose c.args.at c.loop-k.i _ _ w.in_ok-is_line.field-0 head value ∙ w.if-not-branch.false)
+                n low (omega (arith, w.i-is));
+          }
+      | else-is_taken w ↦
+          record {
+            keeps = subst (λ s. Keeps (g.S.LineStore.seen c.args.store.now) (g.S.LineStore.seen s)) (sym w.store-is) c.loop-k.invariant.keeps;
+            low = omega (arith, w.i-is);
+            rest = side-skip c.args.self.now.text.now c.args.self.now.side c.args.self.now.hunk.now.body.items c.loop-k.k c.loop-k.i c.index-line.result.now (search rules) c.index-line.ensures (search rules) c.loop-k.invariant.rest ∙ ap (λ n. drop n old) (sym w.i-is);
+            same = λ lines told n low high. c.loop-k.invariant.same lines told n low (omega (arith, w.i-is));
+          }
+    ]
 
 pub returns-clause-value : goal.returns-clause-value
 returns-clause-value g c lines told back last =
