@@ -81,7 +81,7 @@ loose_step (Swapped n to) d loose = record {
       ⊎_elim
       (λ (eq : q ≡ to). subst (λ x. is_some (get (moved d.live n to) x) ≡ true) (sym eq) (ap is_some (get-put (remove d.live n) to (bytes_at d.live n))))
       (λ (net : q ≢ to). ap is_some (get-put_other (remove d.live n) to (bytes_at d.live n) q net ∙ get-gone_other d.live n q ne)
-          ∙ loose.there q (sym (marked_other (marked d.loose to (d.loose n)) n false q ne ∙ marked_other d.loose to (d.loose n) q net) ∙ is))
+      ∙ loose.there q (sym (marked_other (marked d.loose to (d.loose n)) n false q ne ∙ marked_other d.loose to (d.loose n) q net) ∙ is))
       (equal_or_not q to);
 }
 loose_step (Gone n) d loose = record { there = λ q is. gone_there d n q loose is }

@@ -38,7 +38,6 @@ pub reads_works : {R E : Type 0} (u v : TreeView) (r : Result R E) (n : List ℕ
 reads_works u v r n is call same quiet = worked u v r n is call (λ q. untouched_quiet same q) (reads_seals u v n same)
     (λ f g told now q ne. ap (λ (x : Files). get x q) (same_Some _ _ (sym now ∙ same.told ∙ told))) quiet
 
-
 pub there_told : (u v : TreeView) (n : List ℕ) → v.told ≡ u.told → IsThere u n → IsThere v n
 there_told u v n same there f now = there f (sym same ∙ now)
 
