@@ -1,0 +1,4 @@
+pub mod Carrying
+pub mod Reporting
+pub mod Texts
+pub mod Naming
