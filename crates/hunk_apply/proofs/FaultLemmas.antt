@@ -1,8 +1,8 @@
 -- Calls of a store and a sink, one after another.
-use Rattle.std.proofs.Common.{◌≡◌, ◌<◌, ◌≤◌, ◌+◌, ◌^◌, None, Result, Ok, Err, OnErr, IfOk, refl, sym, ◌∙◌, arith}
+use Rattle.std.proofs.Common.{Result, Ok, Err, OnErr, IfOk, sym, ◌∙◌, arith}
 use Rattle.line_store.specs.Store.{Seen, Keeps}
 use Rattle.line_store.proofs.StoreLemmas.{cause-more}
-use Rattle.outside.specs.SinkView.{SinkView, IsSinkCall, Rises}
+use Rattle.outside.specs.SinkView.{SinkView, IsSinkCall}
 use Rattle.hunk_apply.specs.declared.ApplyFault.{ApplyFault}
 use Rattle.hunk_apply.specs.declared.ApplyFault.TheVariants.{Line, Write}
 use Rattle.hunk_apply.specs.Faults.{HasApplyCause, GoesOn, IsCounted}

@@ -1,26 +1,21 @@
 -- A hunk as one step of the fold.
-use Rattle.std.proofs.Common.{◌≡◌, ℕ, zero, suc, ◌+◌, ◌-◌, ◌<◌, ◌≤◌, List, [], ◌∷◌, ◌++◌, length, take, reverse, map, count_by, Bool, true, false, cond, ◌&&◌, eqb, refl, sym, ap, subst, ◌∙◌, arith, Option, Some, None}
-use Rattle.std.specs.Prelude.{ℤ, pos, ◌-ℤ◌, ◌==◌}
+use Rattle.std.proofs.Common.{◌≡◌, ℕ, ◌+◌, ◌≤◌, List, [], ◌∷◌, length, reverse, map, count_by, Bool, cond, refl, sym, ap, ◌∙◌, arith}
 use Rattle.std.specs.List.{prefix_len}
-use Rattle.std.proofs.lemmas.Bool.Decides.{nat_tests}
 use Rattle.std.proofs.lemmas.List.Sums.{sum_by-cons}
 use Rattle.hunk_core.specs.declared.Mark.{Mark}
 use Rattle.hunk_core.specs.declared.Mark.TheVariants.{Keep, Drop, Add}
 use Rattle.hunk_core.specs.declared.Side.{Side}
 use Rattle.hunk_core.specs.declared.HunkLine.{HunkLine}
 use Rattle.hunk_core.specs.declared.Hunk.{Hunk}
-use Rattle.hunk_core.specs.declared.Verdict.{Verdict}
-use Rattle.hunk_core.specs.declared.Verdict.TheVariants.{Nowhere, At}
 use Rattle.hunk_core.specs.Sides.{taken_count}
-use Rattle.hunk_core.specs.PlainHunk.{Marked, PlainHunk, old_lines}
-use Rattle.hunk_core.specs.Turned.{is_add, is_drop, trailing, base}
-use Rattle.hunk_place.specs.declared.Spot.{Spot}
+use Rattle.hunk_core.specs.PlainHunk.{Marked, old_lines}
+use Rattle.hunk_core.specs.Turned.{is_add, is_drop, trailing}
 use Rattle.hunk_place.specs.Taken.{taken}
-use Rattle.hunk_place.specs.Verdicts.{adds, drops, verdict_of}
+use Rattle.hunk_place.specs.Verdicts.{adds, drops}
 use Rattle.hunk_place.proofs.FitLemmas.{taken-length}
 use Rattle.hunk_place.proofs.TakenLemmas.{lines-are, taken-trailing}
-use Rattle.hunk_apply.specs.Body.{turned_mark, side_marked, side_body}
-use Rattle.hunk_apply.specs.Splice.{Edit, marked_edits, body_edits}
+use Rattle.hunk_apply.specs.Body.{turned_mark, side_marked}
+use Rattle.hunk_apply.specs.Splice.{body_edits}
 use Rattle.hunk_apply.proofs.BodyLemmas.{body-is, edits-none, edits-mark, is_kept, post-old}
 
 count-map : (p : Marked → Bool) (f : HunkLine → Marked) (ls : List HunkLine) → count_by p (map f ls) ≡ count_by (λ l. p (f l)) ls

@@ -1,5 +1,5 @@
 -- One line of a body, by its mark.
-use Rattle.std.proofs.Common.{◌≡◌, ℕ, ◌+◌, ◌<◌, ◌≤◌, List, [], ◌∷◌, ◌++◌, Bool, ◌&&◌, length, refl, sym, ap, subst, ◌∙◌, arith}
+use Rattle.std.proofs.Common.{◌≡◌, ℕ, ◌+◌, ◌≤◌, List, ◌∷◌, ◌++◌, Bool, ◌&&◌, length, sym, ap, subst, ◌∙◌, arith}
 use Rattle.outside.specs.SinkView.{SinkView, Receives, ReceivesPart}
 use Rattle.hunk_core.specs.declared.Mark.{Mark}
 use Rattle.hunk_core.specs.declared.Mark.TheVariants.{Keep, Drop, Add}
@@ -7,7 +7,7 @@ use Rattle.hunk_core.specs.declared.Side.{Side}
 use Rattle.hunk_apply.specs.declared.put.Tail.{Tail}
 use Rattle.line_list.specs.Join.{lacks_feed, feed_if}
 use Rattle.hunk_apply.specs.Body.{turned_mark}
-use Rattle.hunk_apply.specs.Splice.{Edit, add, drop_line, marked_edits, spliced_from, AreFrom}
+use Rattle.hunk_apply.specs.Splice.{Edit, marked_edits, spliced_from, AreFrom}
 use Rattle.hunk_apply.specs.Written.{is_nothing, join_behind, Wrote}
 use Rattle.hunk_apply.proofs.BodyLemmas.{width, marked-width}
 use Rattle.hunk_apply.proofs.SpliceLemmas.{line-dropped, line-added}

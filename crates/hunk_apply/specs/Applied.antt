@@ -12,6 +12,6 @@ use Rattle.hunk_apply.specs.Splice.{all_edits, spliced}
 abbrev pub taken_all : List ℕ → Side → List Hunk → List PlainHunk
 taken_all text side hunks = map (taken text side) hunks
 
--- the text of a file with its hunks applied (GNU diffutils manual, "Applying Patches with Changed Context")
+-- the text of a file with its hunks applied (POSIX patch, Patch Application)
 unfoldable pub applied : List (List ℕ) → ℕ → Bool → List PlainHunk → List ℕ
 applied lines fuzz loose hunks = join (spliced lines (all_edits (spots lines fuzz loose at_start hunks) hunks))

@@ -5,7 +5,7 @@ use Rattle.hunk_core.specs.declared.Side.TheVariants.{Forward, Reversed}
 use Rattle.hunk_core.specs.declared.HunkLine.{HunkLine}
 use Rattle.hunk_core.specs.declared.Mark.{Mark}
 use Rattle.hunk_core.specs.PlainHunk.{Marked, marked_of}
-use Rattle.hunk_core.specs.Turned.{swapped_line, swapped_mark}
+use Rattle.hunk_core.specs.Turned.{swapped_mark}
 
 abbrev pub turned_mark : Side → Mark → Mark
 turned_mark Forward mark = mark

@@ -1,5 +1,5 @@
 -- What came of the hunks of a file, by their verdicts.
-use Rattle.std.specs.Prelude.{◌≡◌, ◌≤◌, ℕ, ℤ, pos, negsuc, List, take, drop, length, Bool, true, false, not, ◌==◌, ◌&&◌}
+use Rattle.std.specs.Prelude.{◌≡◌, ℕ, ℤ, pos, negsuc, List, take, drop, length, Bool, true, false, not, ◌==◌, ◌&&◌}
 use Rattle.std.specs.List.{All, sum_by}
 use Rattle.hunk_core.specs.declared.Hunk.{Hunk}
 use Rattle.hunk_core.specs.declared.Verdict.{Verdict}

@@ -1,5 +1,5 @@
 -- Hunks that were read, and the pieces of the text that they stand in.
-use Rattle.std.specs.Prelude.{◌≡◌, ℕ, ◌<◌, List, [], ◌∷◌, drop, Result, Ok, None, All}
+use Rattle.std.specs.Prelude.{◌≡◌, ℕ, ◌<◌, ◌^◌, List, [], ◌∷◌, length, drop, sum_by, Result, Ok, None, All}
 use Rattle.line_list.specs.Lines.{lines}
 use Rattle.line_list.specs.declared.Span.{Span}
 use Rattle.hunk_core.specs.declared.hunks.Hunks.{Hunks}
@@ -28,7 +28,9 @@ SpellInTurn Spells text least [] (h ∷ hs) = ⊥
 SpellInTurn Spells text least (s ∷ ss) [] = ⊥
 SpellInTurn Spells text least (s ∷ ss) (h ∷ hs) = Spells least (lines (bytes_at text s)) h × SpellInTurn Spells text h.old_start ss hs
 
--- what each reader gives: hunks that are lawful over the text and break no rule
+-- what each reader gives: hunks that are lawful over the text and break no rule, and whose lines can be counted together
 pub record AreSound (text : List ℕ) (h : Hunks) : Type 0 where
+  pub count : length h.items.items < 2 ^ 32
+  pub few : sum_by (λ x. length x.body.items) h.items.items < 2 ^ 32
   pub lawful : All (IsLawful text) h.items.items
   pub unbroken : All (λ x. first_broken (hunk_of text x) ≡ None) h.items.items

@@ -1,4 +1,4 @@
--- Where a hunk stands in a list of lines. Lines are counted from 1.
+-- Where a hunk stands in a list of lines, which are counted from 1 (GNU diffutils manual, "Helping patch Find Inexact Matches").
 use Rattle.std.specs.Prelude.{ℕ, suc, ◌+◌, ◌-◌, ◌<◌, ◌≤◌, max, min, ℤ, pos, negsuc, ◌+ℤ◌, List, [], ◌∷◌, length, Bool, ◌==◌, ◌&&◌, nat_lt, nat_le, if◌then◌else◌, Option, None, Some, find}
 use Rattle.std.specs.List.{list_all, range_with_len}
 use Rattle.line_store.specs.Store.{line_at}
@@ -31,6 +31,7 @@ pub record Search : Type 0 where
   pub guess : ℤ
   pub loose : Bool
 
+-- the lines of context on the side that has more
 abbrev pub context : Search → ℕ
 context s = max s.pre s.post
 
@@ -48,19 +49,22 @@ lowest s = s.consumed + 1
 abbrev pub highest : Search → ℕ → ℕ
 highest s k = (length s.lines + 1 + back_fuzz s k) - length s.old
 
+-- the one number w, if it lies from low to high
 abbrev pub one_in : ℕ → ℕ → ℕ → List ℕ
 one_in low high w = if nat_le low w && nat_le w high then w ∷ [] else []
 
--- the places at fuzz k, in the order in which they are tried
+-- the places at fuzz k, in the order in which they are tried: the first line alone where the hunk lacks leading context and is stated there, the end alone where it lacks trailing context, else all of the room, the nearest to the guess first
 unfoldable pub tries : Search → ℕ → List ℕ
 tries s k =
     if nat_lt k (context s - s.pre) && (s.start == 1) then one_in (lowest s) (highest s k) 1
     else if nat_lt k (context s - s.post) then one_in (lowest s) (highest s k) (length s.lines + 1 - length s.old)
     else by_distance (distance s.guess) (from_to (lowest s) (highest s k))
 
+-- the first of them where the hunk fits
 unfoldable pub first_fit : Search → ℕ → Option ℕ
 first_fit s k = find (fits s.lines s.old s.loose (front_fuzz s k) (back_fuzz s k)) (tries s k)
 
+-- this place, if there is one, else the other
 abbrev pub spot_or : ℕ → Option ℕ → Option Spot → Option Spot
 spot_or k (Some w) other = Some (record { line = w; fuzz = k })
 spot_or k None other = other
@@ -75,6 +79,7 @@ abbrev pub at_guess : ℕ → ℕ → ℤ → Option Spot
 at_guess low high (pos w) = if nat_le low w && nat_le w high then Some (record { line = w; fuzz = 0 }) else None
 at_guess low high (negsuc w) = None
 
+-- the place: the guess for a hunk without old lines, else the first place for the least fuzz
 unfoldable pub place : Search → ℕ → Option Spot
 place s fuzz = if length s.old == 0 then at_guess (lowest s) (length s.lines + 1) s.guess else least_fuzz s (from_to 0 (min fuzz (context s)))
 

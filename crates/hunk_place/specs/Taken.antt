@@ -7,6 +7,7 @@ use Rattle.hunk_core.specs.declared.Hunk.{Hunk}
 use Rattle.hunk_core.specs.PlainHunk.{PlainHunk, hunk_of, body_of, old_lines}
 use Rattle.hunk_core.specs.Turned.{turned, swapped_line}
 
+-- the old lines of a hunk as it is taken from a side
 unfoldable pub taken_lines : List ℕ → Side → Hunk → List (List ℕ)
 taken_lines text side h = old_lines (turned side (hunk_of text h)).body
 

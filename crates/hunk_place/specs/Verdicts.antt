@@ -8,16 +8,19 @@ use Rattle.hunk_place.specs.declared.Spot.{Spot}
 use Rattle.hunk_place.specs.Placing.{place, search_of}
 use Rattle.hunk_place.specs.declared.PlaceState.{PlaceState}
 
+-- what is said of a hunk with this place, or none
 abbrev pub verdict_of : PlainHunk → Option Spot → Verdict
 verdict_of c None = Nowhere
 verdict_of c (Some s) = At s.line s.fuzz (pos s.line -ℤ pos (base c))
 
+-- how many lines a hunk adds, and drops
 abbrev pub adds : PlainHunk → ℕ
 adds c = count_by (λ m. is_add m.mark) c.body
 
 abbrev pub drops : PlainHunk → ℕ
 drops c = count_by (λ m. is_drop m.mark) c.body
 
+-- the state behind a hunk: trailing context is never consumed, and a hunk without changes consumes nothing
 abbrev pub after_hunk : PlainHunk → PlaceState → Option Spot → PlaceState
 after_hunk c state None = state
 after_hunk c state (Some s) = record {
@@ -26,9 +29,11 @@ after_hunk c state (Some s) = record {
   net = state.net +ℤ (pos (adds c) -ℤ pos (drops c));
 }
 
+-- the state at the beginning of a file
 abbrev pub at_start : PlaceState
 at_start = record { consumed = 0; offset = pos 0; net = pos 0 }
 
+-- the place of a hunk in a list of lines
 unfoldable pub spot : List (List ℕ) → ℕ → Bool → PlainHunk → PlaceState → Option Spot
 spot lines fuzz loose c state = place (search_of lines loose c state) fuzz
 
@@ -37,6 +42,7 @@ unfoldable pub spots : List (List ℕ) → ℕ → Bool → PlaceState → List 
 spots lines fuzz loose state [] = []
 spots lines fuzz loose state (c ∷ cs) = spot lines fuzz loose c state ∷ spots lines fuzz loose (after_hunk c state (spot lines fuzz loose c state)) cs
 
+-- the verdicts of the hunks, one after another
 unfoldable pub verdicts : List (List ℕ) → ℕ → Bool → PlaceState → List PlainHunk → List Verdict
 verdicts lines fuzz loose state [] = []
 verdicts lines fuzz loose state (c ∷ cs) = verdict_of c (spot lines fuzz loose c state) ∷ verdicts lines fuzz loose (after_hunk c state (spot lines fuzz loose c state)) cs
@@ -47,6 +53,7 @@ is_sooner None other = false
 is_sooner (Some s) None = true
 is_sooner (Some s) (Some t) = nat_lt s.fuzz t.fuzz
 
+-- the exchanged hunk has old lines, and a place with less fuzz than any that the hunk itself has (GNU diffutils manual, "Applying Reversed Patches")
 unfoldable pub looks_reversed : List (List ℕ) → ℕ → Bool → PlainHunk → Bool
 looks_reversed lines fuzz loose c =
     not (length (old_lines (swapped c).body) == 0) && is_sooner (spot lines fuzz loose (swapped c) at_start) (spot lines fuzz loose c at_start)
@@ -58,7 +65,7 @@ IsPlaced count consumed old_count post Ignored = ⊥
 IsPlaced count consumed old_count post Nowhere = Unit {0}
 IsPlaced count consumed old_count post (At line fuzz offset) = (consumed < line) × (line + old_count ≤ count + 1 + post) × (negsuc (2 ^ 41) ≤ℤ offset) × (offset ≤ℤ pos (2 ^ 41))
 
--- the same of verdicts
+-- less fuzz, told by two verdicts
 abbrev pub verdict_sooner : Verdict → Verdict → Bool
 verdict_sooner (At line fuzz offset) (At line2 fuzz2 offset2) = nat_lt fuzz fuzz2
 verdict_sooner (At line fuzz offset) Nowhere = true
@@ -68,6 +75,7 @@ verdict_sooner Nowhere other = false
 verdict_sooner Untried other = false
 verdict_sooner Ignored other = false
 
+-- a place with no fuzz
 abbrev pub is_without_fuzz : Verdict → Bool
 is_without_fuzz (At line fuzz offset) = fuzz == 0
 is_without_fuzz Nowhere = false

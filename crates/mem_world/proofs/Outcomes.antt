@@ -111,6 +111,10 @@ module _ (old begun new : MemTree) (store : Store) (event : Event) where
       counts (Err a) e = omega (arith, begins.starved, (e.err refl).1.counts)
 
 -- ---- a call that reads
+-- a call that is listed, and did nothing
+pub happens_none : {R E Q F : Type 0} (old new : MemTree) (e : F) (done : Type 0) (r : Result R E) → IsErr r → Begins {R = Q} old new (Err e) → Happens (log_of old) (log_of new) old.count.faults new.count.faults done ⊥ r
+happens_none old new e done r err begins = record { counts = omega (arith, begins.err.counts); cause = λ _ most. omega (arith, begins.err.rises most); log = inr (inl (err, begins.log)) }
+
 pub device_read : {R E Q : Type 0} (old new : MemTree) (r0 : Result Q E) (r : Result R E) → Begins old new r0 → (IsErr r → IsErr r0) → (IsErr r0 → IsErr r) → IsReading (device old) (device new) (tells old).moment (tells new).moment r
 unfolding view_of
 device_read old new r0 r begins to from =

@@ -182,7 +182,7 @@ pub fn read_body(
 ) -> Result<(Vec<HunkLine>, Place), FormFault>
     requires { IsPlace text.now place }
     ensures place { IfOk result (λ x. IsPlace text.now x.1 × (place.at ≤ x.1.at)) }
-    ensures few { IfOk result (λ x. vec_len x.0 ≤ x.1.at) }
+    ensures few { IfOk result (λ x. place.at + vec_len x.0 ≤ x.1.at) }
     ensures lies { IfOk result (λ x. All (λ l. LiesIn text.now l.span) x.0.items) }
     ensures exact { Gives (λ x. (body_of text.now x.0.items, ahead_of text.now x.1)) result (body_at (left.old + left.new) left (ahead_of text.now place)) }
 {

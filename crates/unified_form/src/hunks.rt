@@ -1,6 +1,6 @@
 //! Hunks that follow each other.
 
-ghost use Rattle.std.specs.Prelude.{◌≡◌, ◌≢◌, ◌↔◌, ℕ, List, [], ◌∷◌, ◌++◌, Err, true, None, ◌+◌, ◌<◌, ◌≤◌, ◌^◌, length, drop, slice_range, IfOk};
+ghost use Rattle.std.specs.Prelude.{◌≡◌, ◌≢◌, ◌↔◌, ℕ, List, [], ◌∷◌, ◌++◌, Err, true, None, ◌+◌, ◌<◌, ◌≤◌, ◌^◌, length, vec_len, drop, slice_range, IfOk};
 ghost use Rattle.line_list.specs.Lines.{lines};
 ghost use Rattle.hunk_core.specs.PlainHunk.{Marked, PlainHunk, hunk_of, hunks_of, lines_on, old_lines, new_lines};
 ghost use Rattle.hunk_core.specs.declared.Mark.{Mark};
@@ -44,6 +44,7 @@ fn take_hunk(
 ) -> Result<(Hunk, Place), FormFault>
     requires { IsPlace text.now place }
     ensures place { IfOk result (λ x. IsPlace text.now x.1 × (place.at < x.1.at)) }
+    ensures few { IfOk result (λ x. place.at + vec_len x.0.body ≤ x.1.at) }
     ensures lawful { IfOk result (λ x. IsLawful text.now x.0) }
     ensures exact { Gives (λ x. (hunk_of text.now x.0, ahead_of text.now x.1)) result (hunk_at least (ahead_of text.now place)) }
 {
@@ -89,6 +90,7 @@ fn read_hunk(
     requires { IsPlace text.now place }
     ensures place { IfOk result (λ x. IsPlace text.now x.1 × (place.at < x.1.at)) }
     ensures piece { IfOk result (λ x. SpellsHunk least (lines (slice_range text.now place.at x.1.at)) (hunk_of text.now x.0)) }
+    ensures few { IfOk result (λ x. place.at + vec_len x.0.body ≤ x.1.at) }
     ensures lawful { IfOk result (λ x. IsLawful text.now x.0) }
     ensures unbroken { IfOk result (λ x. first_broken (hunk_of text.now x.0) ≡ None) }
     ensures exact { Gives (λ x. (hunk_of text.now x.0, ahead_of text.now x.1)) result (hunk_at least (ahead_of text.now place)) }

@@ -1,4 +1,4 @@
-use Rattle.std.proofs.Common.{◌≡◌, ◌+◌, ◌<◌, ◌≤◌, ℕ, List, Some, refl, sym, ◌∙◌, arith}
+use Rattle.std.proofs.Common.{◌≡◌, ◌+◌, ◌<◌, ℕ, List, Some, ◌∙◌, arith}
 use Rattle.line_store.proofs.StoreLemmas.{keeps-same, keeps-more}
 use Rattle.outside.specs.SinkView.{ReceivesPart}
 use Rattle.hunk_apply.specs.Splice.{Edit, spliced_from, AreFrom}

@@ -1,9 +1,8 @@
-use Rattle.std.proofs.Common.{◌≡◌, ℕ, ◌+◌, ◌<◌, ◌≤◌, ◌^◌, List, [], ◌++◌, Some, length, get_or, take, drop, true, false, refl, sym, ap, subst, ◌∙◌, arith, rules}
-use Rattle.std.specs.Prelude.{pos, negsuc, ◌+ℤ◌, ◌-ℤ◌, ◌≤ℤ◌}
+use Rattle.std.proofs.Common.{◌≡◌, ℕ, ◌+◌, ◌≤◌, List, [], ◌++◌, Some, length, take, drop, true, false, refl, sym, ap, subst, ◌∙◌, arith}
 use Rattle.std.specs.List.{All}
 use Rattle.std.proofs.lemmas.Int.{ints}
 use Rattle.std.proofs.lemmas.List.{take_all}
-use Rattle.std.proofs.lemmas.List.Sums.{sum_by_more, sum_by-take-le}
+use Rattle.std.proofs.lemmas.List.Sums.{sum_by_more}
 use Rattle.line_store.proofs.StoreLemmas.{keeps-same, keeps-more}
 use Rattle.outside.specs.SinkView.{Receives, ReceivesPart}
 use Rattle.hunk_core.specs.declared.Hunk.{Hunk}
@@ -11,10 +10,9 @@ use Rattle.hunk_place.specs.Taken.{taken}
 use Rattle.hunk_place.specs.Verdicts.{spots, spot, after_hunk, at_start}
 use Rattle.hunk_apply.specs.declared.put.Tail.{Tail}
 use Rattle.hunk_apply.specs.Applied.{taken_all, applied}
-use Rattle.line_list.specs.Join.{join}
 use Rattle.hunk_apply.specs.Session.{IsTried, body_lines}
 use Rattle.hunk_apply.specs.Splice.{Edit, all_edits, hunk_edits, spliced_from}
-use Rattle.hunk_apply.specs.Written.{Wrote, is_nothing, join_behind}
+use Rattle.hunk_apply.specs.Written.{Wrote, is_nothing}
 use Rattle.hunk_apply.proofs.FaultLemmas.{goes-none, goes-both, on-err}
 use Rattle.hunk_apply.proofs.FoldLemmas.{verdicts-more, edits-more, verdicts-end, edits-end, edits-behind, applied-is}
 use Rattle.hunk_apply.proofs.RowLemmas.{tried-more, others-more}

@@ -1,4 +1,4 @@
-use Rattle.std.proofs.Common.{◌≡◌, ◌++◌}
+use Rattle.std.proofs.Common.{◌++◌}
 use Rattle.outside.specs.SinkView.{ReceivesPart}
 use Rattle.line_list.specs.Join.{feed_if}
 use Rattle.hunk_apply.proofs.FaultLemmas.{on-err}

@@ -11,7 +11,7 @@ abbrev pub invariant-loop-left : goal.invariant-loop-left
 invariant-loop-left l = record {
   place : IsPlace l.text l.place;
   later : l.fn.place.at ≤ l.place.at;
-  few : length l.lines.items ≤ l.place.at;
+  few : l.fn.place.at + length l.lines.items ≤ l.place.at;
   lies : All (λ x. LiesIn l.text x.span) l.lines.items;
   so_far : BodySoFar (body_of l.text l.lines.items) l.left (ahead_of l.text l.place) (body_at (l.fn.left.old + l.fn.left.new) l.fn.left (ahead_of l.text l.fn.place));
 }
