@@ -1,5 +1,5 @@
 -- How a run is put together from the steps before its change, its line and its change.
-use Rattle.std.proofs.Common.{◌≡◌, ◌≢◌, ◌⊎◌, inl, inr, ⊎_elim, ◌≤◌, ℕ, zero, suc, List, [], ◌∷◌, ◌++◌, length, take, Option, Some, None, Result, Ok, Err, IsErr, refl, sym, ◌∙◌, ap, subst, arith}
+use Rattle.std.proofs.Common.{◌≡◌, ◌≢◌, ◌⊎◌, inl, inr, ⊎_elim, ◌≤◌, ℕ, zero, suc, List, [], ◌∷◌, ◌++◌, length, take, Option, Some, None, Result, Ok, Err, IsErr, IfErr, OnOk, refl, sym, ◌∙◌, ap, subst, arith}
 use Rattle.std.proofs.lemmas.List.{append-nil}
 use Rattle.std.proofs.lemmas.Option.{same_Some, none-some}
 use Rattle.std.specs.FinMap.{insert, remove}
@@ -18,7 +18,7 @@ use Rattle.outside.proofs.Writing.{received_part}
 use Rattle.patch_cli.specs.declared.why.Why.{Why}
 use Rattle.patch_cli.specs.declared.why.Why.TheVariants.{Done, Usage, NoPatchFile, WriteFault, TreeFault, Disagree, Memory, Unsupported}
 use Rattle.patch_cli.specs.Command.{Outcome, refused, puts}
-use Rattle.patch_cli.specs.Carries.{FirstPart, IsAnswer, IsAsAtEntry, WhyCause, Untouched, Answers, LeavesAllowed, Carries, Opens, StopsEarly}
+use Rattle.patch_cli.specs.Carries.{FirstPart, IsAnswer, IsAsAtEntry, WhyCause, Untouched, Answers, LeavesAllowed, Carries, Opens, StopsEarly, why_of}
 
 at_now : (u : TreeView) (c : Files) → LeftSince u u.moment c → MayLeave u c
 at_now u c (k, from, to, left) = let e : k ≡ u.moment = omega (arith, from, to) in subst (λ n. u.left_at n c) e left
@@ -138,8 +138,15 @@ module _ {v : TreeView} (a b : SinkView) (line name bytes : List ℕ) where
       images = images;
     }
 
+  -- the answer that putting the file gives
+  pub carries_put : {R E : Type 0} (x : R) → Writes {E = E} a b (Ok x) line → (w : TreeView) (result : Result (Unit {0}) Why) → MakesEffect v w result (Put name bytes)
+      → IfErr result (λ why. why ≡ TreeFault) → (temp : List ℕ) → temp ≡ temp_of name → OnOk result (Becomes v w (λ f. remove (insert f name bytes) temp)) → Carries v w a b (why_of result) (λ f. puts line name bytes)
+  carries_put x said w (Ok y) makes fault temp is_temp becomes = carries_done x said w (Ok y) makes temp is_temp becomes makes.quiet
+  carries_put x said w (Err e) makes fault temp is_temp becomes =
+      subst (λ (y : Why). Carries v w a b y (λ f. puts line name bytes)) (sym fault) (carries_fault x said w (Err e) makes refl)
+
 -- what a run carries behind steps before its first change
-module _ {u v w : TreeView} {a b : SinkView} (opens : Opens u v) (o p : Files → Outcome) (is : (f : Files) → u.told ≡ Some f → o f ≡ p f) where
+module _ {u v : TreeView} (w : TreeView) (a b : SinkView) (opens : Opens u v) (o p : Files → Outcome) (is : (f : Files) → u.told ≡ Some f → o f ≡ p f) where
   as_before : IsAsAtEntry v w a b → Passes v w → IsAsAtEntry u w a b
   as_before same passes = record {
     told = same.told ∙ opens.told;

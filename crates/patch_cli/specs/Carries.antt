@@ -13,6 +13,8 @@ use Rattle.line_list.specs.Completed.{completed}
 use Rattle.patch_cli.specs.Command.{Outcome, refused, longest_text, buffer_size, on_text, on_hunks, stand_at_their_lines}
 use Rattle.hunk_core.specs.PlainHunk.{PlainHunk}
 use Rattle.hunk_apply.specs.Applied.{applied}
+use Rattle.line_store.specs.declared.fault.OpenFault.{OpenFault}
+use Rattle.line_store.specs.declared.fault.OpenFault.TheVariants as open_fault
 use Rattle.line_store.specs.Store.{Seen}
 use Rattle.line_store.specs.Taking.{refusal}
 use Rattle.line_list.specs.Lines.{lines}
@@ -154,3 +156,12 @@ StopsAtFile why u w name hunks = (patch : List ℕ) → StopsEarly why u w (λ f
 abbrev pub why_of : Result (Unit {0}) Why → Why
 why_of (Ok done) = Done
 why_of (Err why) = why
+
+-- the answer where the plan takes no file
+abbrev pub why_not_taken : OpenFault → Why
+why_not_taken open_fault.Tree = TreeFault
+why_not_taken open_fault.Scratch = TreeFault
+why_not_taken (open_fault.LongLine line length) = Unsupported
+why_not_taken (open_fault.FileTooLong length) = Unsupported
+why_not_taken (open_fault.Disagree want got) = Disagree want got
+why_not_taken open_fault.Memory = Memory

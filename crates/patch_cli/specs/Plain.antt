@@ -4,7 +4,7 @@ use Rattle.std.specs.List.{starts_with, ends_with, list_all, position}
 use Rattle.line_list.specs.Lines.{lines}
 use Rattle.line_list.specs.Completed.{completed}
 use Rattle.hunk_core.specs.declared.Side.TheVariants.{Forward, Reversed}
-use Rattle.hunk_core.specs.PlainHunk.{PlainHunk, Marked, side_count}
+use Rattle.hunk_core.specs.PlainHunk.{PlainHunk, lines_on}
 use Rattle.hunk_core.specs.Reading.{Fault, Ahead}
 use Rattle.unified_form.specs.Hunks.{reading}
 
@@ -53,7 +53,7 @@ names_file mark line = starts_with nat_eq line mark && not (bytes_eq (header_nam
 
 -- both sides have lines, and each line has its line feed
 abbrev pub is_plain : PlainHunk → Bool
-is_plain h = (not (side_count Forward h.body == 0) && not (side_count Reversed h.body == 0)) && list_all (λ m. ends_with nat_eq m.line (10 ∷ [])) h.body
+is_plain h = (not (length (lines_on Forward h.body) == 0) && not (length (lines_on Reversed h.body) == 0)) && list_all (λ m. ends_with nat_eq m.line (10 ∷ [])) h.body
 
 abbrev pub is_empty : {X : Type 0} → List X → Bool
 is_empty [] = true
@@ -61,7 +61,7 @@ is_empty (x ∷ xs) = false
 
 -- one hunk or more, each of them plain
 abbrev pub are_plain : List PlainHunk → Bool
-are_plain hunks = not (is_empty hunks) && list_all is_plain hunks
+are_plain hunks = not (length hunks == 0) && list_all is_plain hunks
 
 -- all of the lines are hunks, one or more
 abbrev pub whole_hunks : Result (List PlainHunk × Ahead) Fault → Option (List PlainHunk)

@@ -1,5 +1,5 @@
 //! The bytes of the file with the hunks applied.
-ghost use Rattle.std.specs.Prelude.{◌≡◌, ◌<◌, ◌^◌, ℕ, List, All, length, Some, None, OnOk, IfOk, IfErr, if◌then◌else◌};
+ghost use Rattle.std.specs.Prelude.{◌≡◌, ◌<◌, ◌^◌, ℕ, List, All, length, Some, None, true, false, OnOk, IfOk, IfErr, if◌then◌else◌};
 ghost use Rattle.std.specs.Option.{option_map};
 ghost use Rattle.outside.specs.Files.{Files};
 ghost use Rattle.outside.specs.Quiet.{IsQuiet};
@@ -8,13 +8,13 @@ ghost use Rattle.hunk_core.specs.Turned.{IsLawful};
 ghost use Rattle.hunk_apply.specs.Applied.{applied};
 ghost use Rattle.hunk_apply.specs.Session.{body_lines};
 ghost use Rattle.patch_cli.specs.Command.{stand_at_their_lines, buffer_size};
-ghost use Rattle.patch_cli.specs.Carries.{Opens, IsPatched, HasTaken, StopsAtFile};
+ghost use Rattle.patch_cli.specs.Carries.{Opens, IsPatched, HasTaken, StopsAtFile, why_not_taken};
 
 use crate::gathered::Gathered;
 use crate::why::Why;
 use hunk_apply::{ApplyFault, apply_each};
 use hunk_core::{Hunk, Side, Verdict};
-use line_store::{OpenFault, Plan};
+use line_store::{LineStore, OpenFault, Plan};
 use outside::{Name, Tree};
 use plan_a::PlanA;
 use std::alloc::{AllocError, Global};

@@ -1,5 +1,5 @@
 //! Plain patch texts: two header lines, and unified hunks to the end.
-ghost use Rattle.std.specs.Prelude.{◌≡◌, ◌⊎◌, ◌<◌, ◌≤◌, ◌^◌, ℕ, List, All, length, drop, take, sum_by, None, Some, Ok, IfOk, IfSome, IfErr, ◌==◌, ◌&&◌, not, nat_eq, vec_len, ◌∷◌, []};
+ghost use Rattle.std.specs.Prelude.{◌≡◌, ◌⊎◌, ◌<◌, ◌≤◌, ◌^◌, ℕ, List, All, length, drop, None, Some, Ok, IfOk, IfSome, IfErr, ◌==◌, ◌&&◌, not, nat_eq, vec_len, ◌∷◌, []};
 ghost use Rattle.std.specs.List.{position, ends_with, list_all};
 ghost use Rattle.std.specs.Option.{ForSome};
 ghost use Rattle.line_list.specs.Lines.{lines};
@@ -7,6 +7,7 @@ ghost use Rattle.hunk_core.specs.declared.Side.TheVariants.{Forward, Reversed};
 ghost use Rattle.hunk_core.specs.Sides.{taken_count};
 ghost use Rattle.hunk_core.specs.PlainHunk.{hunk_of, hunks_of, bytes_at};
 ghost use Rattle.hunk_core.specs.Turned.{IsLawful, LiesIn};
+ghost use Rattle.hunk_apply.specs.Session.{body_lines};
 ghost use Rattle.unified_form.specs.Hunks.{reading};
 ghost use Rattle.patch_cli.specs.Plain.{behind_names, whole_hunks, is_empty, NamesEnd, names_file, header_name, up_to, up_to_blank, without_blanks, is_feed, is_tab, is_space, is_no_blank, is_plain, are_plain};
 
@@ -21,6 +22,8 @@ pub fn read_plain(alloc: Global, text: &[u8]) -> Result<Vec<Hunk>, Why>
     requires { length text.now ≤ 268435457 }
     ensures hunks { IfOk result (λ hunks. behind_names (lines text.now) ≡ Some (hunks_of text.now hunks.items)) }
     ensures lawful { IfOk result (λ hunks. All (IsLawful text.now) hunks.items) }
+    ensures count { IfOk result (λ hunks. length hunks.items < 2 ^ 32) }
+    ensures few { IfOk result (λ hunks. body_lines hunks.items < 2 ^ 32) }
     ensures refused { IfErr result (λ why. (why ≡ Why.Memory) ⊎ ((why ≡ Why.Unsupported) × (behind_names (lines text.now) ≡ None))) }
 {
     match names_end(text) {
@@ -35,6 +38,8 @@ fn read_whole(alloc: Global, text: &[u8], at: usize) -> Result<Vec<Hunk>, Why>
     requires within { at ≤ length text.now }
     ensures hunks { IfOk result (λ hunks. whole_hunks (reading 3 (lines (drop at text.now))) ≡ Some (hunks_of text.now hunks.items)) }
     ensures lawful { IfOk result (λ hunks. All (IsLawful text.now) hunks.items) }
+    ensures count { IfOk result (λ hunks. length hunks.items < 2 ^ 32) }
+    ensures few { IfOk result (λ hunks. body_lines hunks.items < 2 ^ 32) }
     ensures refused { IfErr result (λ why. (why ≡ Why.Memory) ⊎ ((why ≡ Why.Unsupported) × (whole_hunks (reading 3 (lines (drop at text.now))) ≡ None))) }
 {
     if !at_opening(text, at) {
@@ -156,14 +161,28 @@ fn up_to_blank(bytes: &[u8]) -> &[u8]
     }
 }
 
-/// Whether each hunk has lines on both sides, each with its line feed, and there is one hunk or more.
+/// Whether there is one hunk or more, and each is plain.
 fn are_plain(text: &[u8], hunks: &[Hunk]) -> bool
     requires { All (IsLawful text.now) hunks.now }
     ensures { result ≡ are_plain (hunks_of text.now hunks.now) }
 {
-    !hunks.is_empty() && hunks.iter().all(|hunk| is_plain(text, hunk))
+    is_some_hunk(hunks) && all_plain(text, hunks)
 }
 
+fn is_some_hunk(hunks: &[Hunk]) -> bool
+    ensures { result ≡ not (length hunks.now == 0) }
+{
+    !hunks.is_empty()
+}
+
+fn all_plain(text: &[u8], hunks: &[Hunk]) -> bool
+    requires { All (IsLawful text.now) hunks.now }
+    ensures { result ≡ list_all (λ h. is_plain (hunk_of text.now h)) hunks.now }
+{
+    hunks.iter().all(|hunk| is_plain(text, hunk))
+}
+
+/// Whether a hunk has lines on both sides, each with its line feed.
 fn is_plain(text: &[u8], hunk: &Hunk) -> bool
     requires { IsLawful text.now hunk.now }
     ensures { result ≡ is_plain (hunk_of text.now hunk.now) }
