@@ -108,8 +108,12 @@ fn apply_at_lines(
         &mut gathered,
     );
     match applied {
-        Ok(session) if session.inexact => Ok(None),
-        Ok(_) => Ok(Some(gathered.bytes)),
+        Ok(session) => {
+            if session.inexact {
+                return Ok(None);
+            }
+            Ok(Some(gathered.bytes))
+        }
         Err(ApplyFault::Write) => Err(AllocError),
         Err(ApplyFault::Line(_)) => unreachable!(),
     }
