@@ -5,7 +5,7 @@ use Rattle.std.specs.List.{slice_get}
 use Rattle.std.specs.declared.string.String.{String}
 use Rattle.std.proofs.lemmas.Option.{same_Some}
 use Rattle.outside.specs.SinkView.{SinkView, IsSinkCall, Receives, ReceivesPart, Writes}
-use Rattle.outside.proofs.Writing.{writes_stop, writes_then}
+use Rattle.outside.proofs.Writing.{received_part, writes_stop, writes_then}
 use Rattle.patch_cli.specs.declared.why.Why.{Why}
 use Rattle.patch_cli.specs.declared.why.Why.TheVariants.{Done, Usage, NoPatchFile, WriteFault, TreeFault, Disagree, Memory, Unsupported}
 use Rattle.patch_cli.specs.Command.{refusal_line, tool_of, reason_of, is_done}
@@ -40,3 +40,8 @@ behind_tool {a = a} {b = b} r words why tool is not_done w =
 pub tool_of-patch : {Z : Type 0} (words : List (String Z)) (tool : String Z) → Some tool ≡ slice_get words 0 → bytes_eq (string_bytes tool) (codes "patch") ≡ true → codes "patch" ≡ tool_of (map string_bytes words)
 tool_of-patch [] tool first is = absurd (cc)
 tool_of-patch (word ∷ words) tool first is = ap (λ (b : Bool). if b then codes "patch" else codes "patchkit") (sym is ∙ ap (λ t. bytes_eq (string_bytes t) (codes "patch")) (same_Some _ _ first))
+
+-- however the writing ended, it left a first part
+pub writes_part : {R E : Type 0} (a b : SinkView) (s : Result R E) (p : List ℕ) → Writes a b s p → ReceivesPart a b p
+writes_part a b (Ok r) p w = received_part a b p w.received
+writes_part a b (Err e) p w = w.failed

@@ -8,6 +8,8 @@ mod patched;
 mod plain;
 mod report;
 mod why;
+#[cfg(test)]
+mod tests;
 mod words;
 
 pub use cli::{Exit, run};
