@@ -85,8 +85,8 @@ fn each_call_fails(rt: HostRuntime) -> Result<(), Fail> {
         assert_eq!(rt; left.exit.status, 2);
         let file = bytes_of(alloc, &left.tree, b"f")?;
         assert!(rt; file == Some(b"a\nb\nc\n".as_slice()) || file == Some(b"a\nB\nc\n".as_slice()));
-        assert!(rt; b"patching file f\n".starts_with(left.out.as_slice()));
-        assert!(rt; left.err.as_slice() == b"patch: **** tree fault\n");
+        assert!(rt; b"patching file f\n".as_slice().starts_with(left.out.as_slice()));
+        assert!(rt; left.err.as_slice() == b"patch: **** tree fault\n".as_slice());
     }
     Ok(())
 }

@@ -12,6 +12,7 @@ use crate::pages::Pages;
 use crate::streams::{Input, Output};
 use patch_cli::run;
 use std::env;
+use std::env::Env;
 use std::io;
 use std::process::ExitCode;
 
@@ -22,9 +23,9 @@ fn main(rt: HostRuntime) -> io::Result<ExitCode> {
     let alloc = rt.alloc();
     let words = words_of(&rt)?;
     let mut tree = Disk::new(alloc, &rt);
-    let mut input = Input::new(stdin());
-    let mut out = Output::new(alloc, stdout())?;
-    let mut err = Output::new(alloc, stderr())?;
+    let mut input = Input::new(rt.stdin());
+    let mut out = Output::new(alloc, rt.stdout())?;
+    let mut err = Output::new(alloc, rt.stderr())?;
     let scratch = Pages::new(&rt);
     let (exit, pages) = run(
         alloc, &words, &mut tree, scratch, &mut input, &mut out, &mut err,
