@@ -10,6 +10,7 @@ mod streams;
 use crate::disk::Disk;
 use crate::pages::Pages;
 use crate::streams::{Input, Output};
+use outside::put_all;
 use patch_cli::run;
 use std::env;
 use std::env::Env;
@@ -36,7 +37,7 @@ fn main(rt: HostRuntime) -> io::Result<ExitCode> {
         Ok(()) => exit.status,
         Err(_) => {
             // What was said last didn't reach its reader, whatever the run answered.
-            let _ = err.put(b"patch: **** write fault\n");
+            let _ = put_all(&mut err, b"patch: **** write fault\n");
             REFUSED
         }
     };

@@ -40,16 +40,6 @@ impl<'r, R: Files<File = File>> Pages<'r, R> {
         }
     }
 
-    fn empty(&mut self) -> io::Result<()> {
-        match &self.file {
-            Some(file) => file.set_len(0),
-            None => {
-                self.file = Some(make_scratch(self.rt)?);
-                Ok(())
-            }
-        }
-    }
-
     fn write(&self, at: u64, piece: &[u8]) -> io::Result<()> {
         match &self.file {
             Some(file) => file.write_all_at(piece, at),
@@ -63,6 +53,17 @@ impl<'r, R: Files<File = File>> Pages<'r, R> {
         match &self.file {
             Some(file) => read_whole(file, at, buf),
             None => Err(io::Error::from(ErrorKind::NotFound)),
+        }
+    }
+}
+
+/// Takes away what the file holds, and makes it where there is none.
+fn empty<R: Files<File = File>>(rt: &R, kept: &mut Option<File>) -> io::Result<()> {
+    match kept {
+        Some(file) => file.set_len(0),
+        None => {
+            *kept = Some(make_scratch(rt)?);
+            Ok(())
         }
     }
 }
@@ -85,7 +86,7 @@ impl<'r, R: Files<File = File>> Scratch for Pages<'r, R> {
     ghost view = { λ s. silent_scratch s.faults s.reads };
 
     fn restart(&mut self) -> Result<(), Failed> {
-        let done = self.empty();
+        let done = empty(self.rt, &mut self.file);
         counted(&mut self.faults, done)
     }
 

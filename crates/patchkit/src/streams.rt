@@ -61,11 +61,6 @@ impl<W: Write + Drop> Output<W> {
         })
     }
 
-    /// Gathers a piece, and writes what was gathered where there is no room for it.
-    pub fn put(&mut self, piece: &[u8]) -> io::Result<()> {
-        self.writer.write_all(piece)
-    }
-
     /// Writes what was gathered.
     pub fn flush(&mut self) -> io::Result<()> {
         self.writer.flush()
@@ -82,8 +77,10 @@ impl<W: Write + Drop> Sink for Output<W> {
     ghost rest_both = { λ _ _ _ _ _. tt };
 
     fn write(&mut self, piece: &[u8]) -> Result<usize, Failed> {
-        let put = self.put(piece);
-        counted(&mut self.faults, put)?;
-        Ok(piece.len())
+        let put = self.writer.write_all(piece);
+        match counted(&mut self.faults, put) {
+            Ok(()) => Ok(piece.len()),
+            Err(fault) => Err(fault),
+        }
     }
 }
