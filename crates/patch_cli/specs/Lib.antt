@@ -1,0 +1,5 @@
+pub mod Request
+pub mod Plain
+pub mod Command
+pub mod Carries
+pub mod Gathered

@@ -1,0 +1,83 @@
+//! The tree below the working directory.
+ghost use Rattle.outside.specs.Silent.{silent_tree};
+
+use crate::faults::counted;
+use crate::files::OpenFiles;
+use outside::{Failed, Name, Tree};
+use std::alloc::Global;
+use std::fs::File;
+use std::rt::Files;
+
+/// The files below the working directory, and the count of their faults. It tells no content.
+#[derive(Drop)]
+pub struct Disk<'r, R: Files<File = File>> {
+    files: OpenFiles<'r, R>,
+    faults: u64,
+}
+
+impl<'r, R: Files<File = File>> Disk<'r, R> {
+    pub fn new(alloc: Global, rt: &'r R) -> Disk<'r, R> {
+        Disk {
+            files: OpenFiles::new(alloc, rt),
+            faults: 0,
+        }
+    }
+}
+
+impl<'r, R: Files<File = File>> Tree for Disk<'r, R> {
+    ghost use Rattle.std.proofs.lemmas.Option.{none-some};
+
+    ghost view = { λ d. silent_tree d.faults };
+
+    ghost told_may_stay = { λ d f is. absurd (none-some f is) };
+
+    /// Nothing: that the tree is settled when a run begins is a premise over real files.
+    fn settle(&mut self) -> Result<(), Failed> {
+        Ok(())
+    }
+
+    fn size(&mut self, name: &Name) -> Result<Option<u64>, Failed> {
+        let done = self.files.size(name.text());
+        counted(&mut self.faults, done)
+    }
+
+    fn read_at(&mut self, name: &Name, at: u64, buf: &mut [u8]) -> Result<usize, Failed> {
+        let done = self.files.read_at(name.text(), at, buf);
+        counted(&mut self.faults, done)
+    }
+
+    fn has_dir(&mut self, name: &Name, parts: u64) -> Result<bool, Failed> {
+        let done = self.files.has_dir(name.text(), parts);
+        counted(&mut self.faults, done)
+    }
+
+    fn start(&mut self, temp: &Name) -> Result<(), Failed> {
+        let done = self.files.start(temp.text());
+        counted(&mut self.faults, done)
+    }
+
+    fn append(&mut self, temp: &Name, piece: &[u8]) -> Result<(), Failed> {
+        let done = self.files.append(temp.text(), piece);
+        counted(&mut self.faults, done)
+    }
+
+    fn seal(&mut self, temp: &Name) -> Result<(), Failed> {
+        let done = self.files.seal(temp.text());
+        counted(&mut self.faults, done)
+    }
+
+    fn swap(&mut self, temp: &Name, to: &Name) -> Result<(), Failed> {
+        let done = self.files.swap(temp.text(), to.text());
+        counted(&mut self.faults, done)
+    }
+
+    fn drop_name(&mut self, name: &Name) -> Result<(), Failed> {
+        let done = self.files.remove(name.text());
+        counted(&mut self.faults, done)
+    }
+
+    fn fix_names(&mut self) -> Result<(), Failed> {
+        let done = self.files.sync_directories();
+        counted(&mut self.faults, done)
+    }
+}

@@ -1,0 +1,103 @@
+//! The scratch of a run that pages its lines: the file `.ptmp` of the working directory, the temporary of no name.
+ghost use Rattle.std.specs.Prelude.{◌≤◌, length, IfOk};
+ghost use Rattle.outside.specs.Silent.{silent_scratch};
+
+use crate::faults::counted;
+use crate::files::read_whole;
+use outside::{Failed, Scratch};
+use std::fs;
+use std::fs::{File, OpenOptions};
+use std::io;
+use std::io::ErrorKind;
+use std::os::unix::fs::FileExt;
+use std::rt::Files;
+
+const NAME: &str = ".ptmp";
+
+/// The scratch file, made at its first restart.
+#[derive(Drop)]
+pub struct Pages<'r, R: Files<File = File>> {
+    rt: &'r R,
+    file: Option<File>,
+    faults: u64,
+    reads: u64,
+}
+
+impl<'r, R: Files<File = File>> Pages<'r, R> {
+    pub fn new(rt: &'r R) -> Pages<'r, R> {
+        Pages {
+            rt,
+            file: None,
+            faults: 0,
+            reads: 0,
+        }
+    }
+
+    /// Removes the file, if it was made.
+    pub fn remove(self) {
+        if self.file.is_some() {
+            let _ = fs::remove_file(self.rt, NAME);
+        }
+    }
+
+    fn write(&self, at: u64, piece: &[u8]) -> io::Result<()> {
+        match &self.file {
+            Some(file) => file.write_all_at(piece, at),
+            None => Err(io::Error::from(ErrorKind::NotFound)),
+        }
+    }
+
+    fn read(&self, at: u64, buf: &mut [u8]) -> io::Result<usize>
+        ensures { IfOk result (λ n. n ≤ length buf.old) }
+    {
+        match &self.file {
+            Some(file) => read_whole(file, at, buf),
+            None => Err(io::Error::from(ErrorKind::NotFound)),
+        }
+    }
+}
+
+/// Takes away what the file holds, and makes it where there is none.
+fn empty<R: Files<File = File>>(rt: &R, kept: &mut Option<File>) -> io::Result<()> {
+    match kept {
+        Some(file) => file.set_len(0),
+        None => {
+            *kept = Some(make_scratch(rt)?);
+            Ok(())
+        }
+    }
+}
+
+/// A new file in place of an old one of that name, so that a planted link is never followed.
+fn make_scratch<R: Files>(rt: &R) -> io::Result<R::File> {
+    match fs::remove_file(rt, NAME) {
+        Ok(()) => {}
+        Err(error) if error.kind() == ErrorKind::NotFound => {}
+        Err(error) => return Err(error),
+    }
+    OpenOptions::new()
+        .read(true)
+        .write(true)
+        .create_new(true)
+        .open(rt, NAME)
+}
+
+impl<'r, R: Files<File = File>> Scratch for Pages<'r, R> {
+    ghost view = { λ s. silent_scratch s.faults s.reads };
+
+    fn restart(&mut self) -> Result<(), Failed> {
+        let done = empty(self.rt, &mut self.file);
+        counted(&mut self.faults, done)
+    }
+
+    fn write_at(&mut self, at: u64, piece: &[u8]) -> Result<(), Failed> {
+        let done = self.write(at, piece);
+        counted(&mut self.faults, done)
+    }
+
+    fn read_at(&mut self, at: u64, buf: &mut [u8]) -> Result<usize, Failed> {
+        self.reads = self.reads.saturating_add(1);
+        let done = self.read(at, buf);
+        counted(&mut self.faults, done)
+    }
+}
