@@ -1,9 +1,9 @@
 -- Reading a pattern element by element.
-use Rattle.std.proofs.Common.{◌≡◌, ◌≢◌, ℕ, zero, suc, ◌+◌, ◌-◌, ◌<◌, ◌≤◌, Bool, true, false, cond, eqb, List, [], ◌∷◌, ◌++◌, length, get_or, take, drop, Option, None, Some, refl, sym, ap, ◌∙◌, arith, inl, inr}
+use Rattle.std.proofs.Common.{◌≡◌, ◌≢◌, ℕ, zero, suc, ◌+◌, ◌-◌, ◌<◌, ◌≤◌, true, false, cond, eqb, List, [], ◌∷◌, length, get_or, take, drop, None, Some, refl, sym, ap, ◌∙◌, arith}
 use Rattle.std.specs.Prelude.{option_map, slice_range}
 use Rattle.std.proofs.lemmas.List.{drop_more, drop-drop, drop_all}
-use Rattle.std.proofs.lemmas.Bool.{eqb-true, eq-eqb}
-use Rattle.glob_match.specs.Pattern.{Element, Front, before_bracket, members_of, set_front, is_sign, after_open, front_of, elements_after, elements}
+use Rattle.std.proofs.lemmas.Bool.{eq-eqb}
+use Rattle.glob_match.specs.Pattern.{before_bracket, members_of, set_front, is_sign, after_open, front_of, elements_after, elements}
 
 skipped : (skip : ℕ) (bs : List ℕ) → elements_after skip bs ≡ elements_after 0 (drop skip bs)
 unfolding elements_after

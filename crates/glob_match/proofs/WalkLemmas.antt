@@ -1,15 +1,14 @@
 -- One step of a walk, at places of a pattern and a name.
-use Rattle.std.proofs.Common.{◌≡◌, ◌≢◌, ℕ, zero, suc, ◌+◌, ◌-◌, ◌*◌, ◌<◌, ◌≤◌, Bool, true, false, cond, List, [], ◌∷◌, length, get_or, drop, refl, sym, ap, subst, ◌∙◌, arith}
+use Rattle.std.proofs.Common.{◌≡◌, ℕ, ◌+◌, ◌-◌, ◌*◌, ◌<◌, ◌≤◌, true, false, cond, List, [], ◌∷◌, length, get_or, drop, refl, sym, ap, ◌∙◌, arith}
 use Rattle.std.proofs.Math.Nat.{mul-le-mul_right}
 use Rattle.std.proofs.lemmas.List.{drop_more, drop_all}
-use Rattle.glob_match.specs.Pattern.{Element, Run, Any, Byte, OneOf, front_of, elements}
-use Rattle.glob_match.specs.Matching.{takes, Match}
-use Rattle.glob_match.specs.Walking.{plain, LiesIn, IsFront, IsRead, Walked, Stop, Done, Met, walked}
+use Rattle.glob_match.specs.Pattern.{Element, Run, elements}
+use Rattle.glob_match.specs.Matching.{takes}
+use Rattle.glob_match.specs.Walking.{plain, IsRead, Stop, Done, Met, walked}
 use Rattle.glob_match.specs.declared.Piece.{Piece}
 use Rattle.glob_match.specs.declared.Piece.TheVariants.{Run as RunPiece, Any as AnyPiece, Byte as BytePiece, OneOf as OneOfPiece}
 use Rattle.glob_match.specs.declared.Read.{Read}
 use Rattle.glob_match.proofs.PatternLemmas.{elements-at, elements-none}
-use Rattle.glob_match.proofs.MatchLemmas.{stop-fails, done-match}
 
 run-step : (es : List Element) (bs : List ℕ) → walked (Run ∷ es) bs ≡ Met es bs
 unfolding walked

@@ -1,5 +1,5 @@
 -- A pattern read as a list of elements (POSIX Shell Command Language, "Pattern Matching Notation"; here `*` takes slashes too).
-use Rattle.std.specs.Prelude.{ℕ, zero, suc, ◌+◌, ◌-◌, Bool, true, false, not, nat_le, ◌&&◌, ◌||◌, ◌==◌, if◌then◌else◌, List, [], ◌∷◌, length, drop, Option, None, Some, option_map}
+use Rattle.std.specs.Prelude.{ℕ, zero, suc, ◌+◌, ◌-◌, Bool, true, false, ◌||◌, ◌==◌, if◌then◌else◌, List, [], ◌∷◌, length, drop, Option, None, Some, option_map}
 
 -- an element: any run of bytes, any one byte, one byte, or one byte of a set or of its opposite
 pub data Element : Type 0 where

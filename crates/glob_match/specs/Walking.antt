@@ -1,5 +1,5 @@
 -- How the matcher goes through a pattern and a name.
-use Rattle.std.specs.Prelude.{◌≡◌, ℕ, ◌+◌, ◌<◌, ◌≤◌, Bool, if◌then◌else◌, List, [], ◌∷◌, length, drop, slice_index, slice_range}
+use Rattle.std.specs.Prelude.{◌≡◌, ℕ, ◌+◌, ◌<◌, ◌≤◌, if◌then◌else◌, List, [], ◌∷◌, length, drop, slice_index, slice_range}
 use Rattle.glob_match.specs.Pattern.{Element, Run, Any, Byte, OneOf, Front, front_of, elements}
 use Rattle.glob_match.specs.Matching.{takes, Match}
 use Rattle.glob_match.specs.declared.Piece.{Piece}

@@ -1,7 +1,6 @@
-use Rattle.std.proofs.Common.{◌≡◌, ◌∷◌, ◌+◌, [], ◌<◌, ℕ, List, length, drop, get_or, true, false, refl, sym, ap, subst, ◌∙◌, arith}
-use Rattle.std.proofs.lemmas.List.{drop_all, drop_more}
-use Rattle.glob_match.specs.Pattern.{elements, Run}
-use Rattle.glob_match.specs.Matching.{Match}
+use Rattle.std.proofs.Common.{drop, refl, arith}
+use Rattle.std.proofs.lemmas.List.{drop_all}
+use Rattle.glob_match.specs.Pattern.{elements}
 use Rattle.glob_match.proofs.MatchLemmas.{run-met, run-on-at, run-end-at, run-whole}
 use Rattle.glob_match.proofs.matches_after_run.Goals as goal
 

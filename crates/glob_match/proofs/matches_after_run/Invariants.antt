@@ -1,4 +1,4 @@
-use Rattle.std.proofs.Common.{◌≡◌, ◌≤◌, ◌-◌, ◌+◌, ◌*◌, ◌∷◌, length, drop}
+use Rattle.std.proofs.Common.{◌≤◌, ◌-◌, ◌+◌, ◌*◌, ◌∷◌, length, drop}
 use Rattle.glob_match.specs.Pattern.{elements, Run}
 use Rattle.glob_match.specs.Matching.{Match}
 use Rattle.glob_match.proofs.matches_after_run.Given as goal

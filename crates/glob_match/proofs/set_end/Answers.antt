@@ -1,6 +1,5 @@
-use Rattle.glob_match.proofs.MatchLemmas.{run-met}
 use Rattle.glob_match.proofs.MemberLemmas.{}
-use Rattle.std.proofs.Common.{◌≡◌, ◌+◌, ◌<◌, ℕ, length, drop, get_or, arith, eq-eqb, length-drop}
+use Rattle.std.proofs.Common.{◌+◌, ◌<◌, length, drop, arith, eq-eqb, length-drop}
 use Rattle.std.proofs.lemmas.Bool.{eqb-true}
 use Rattle.std.proofs.lemmas.List.{take_rest}
 use Rattle.glob_match.proofs.PatternLemmas.{members-none, members-found}

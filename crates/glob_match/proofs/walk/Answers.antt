@@ -1,4 +1,4 @@
-use Rattle.std.proofs.Common.{◌≡◌, ◌∷◌, [], ◌<◌, length, drop, true, false, refl, sym, ap, ◌∙◌, arith, length-drop}
+use Rattle.std.proofs.Common.{◌≡◌, length, drop, true, sym, ap, ◌∙◌, arith, length-drop}
 use Rattle.glob_match.specs.declared.Piece.TheVariants.{Run as RunPiece}
 use Rattle.std.proofs.lemmas.List.{drop_all}
 use Rattle.glob_match.specs.Pattern.{elements}
