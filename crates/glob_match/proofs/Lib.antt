@@ -1,0 +1,4 @@
+pub mod PatternLemmas
+pub mod MatchLemmas
+pub mod MemberLemmas
+pub mod WalkLemmas

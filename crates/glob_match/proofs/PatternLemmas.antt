@@ -1,0 +1,69 @@
+-- Reading a pattern element by element.
+use Rattle.std.proofs.Common.{◌≡◌, ◌≢◌, ℕ, zero, suc, ◌+◌, ◌-◌, ◌<◌, ◌≤◌, true, false, cond, eqb, List, [], ◌∷◌, length, get_or, take, drop, None, Some, refl, sym, ap, ◌∙◌, arith}
+use Rattle.std.specs.Prelude.{option_map, slice_range}
+use Rattle.std.proofs.lemmas.List.{drop_more, drop-drop, drop_all}
+use Rattle.std.proofs.lemmas.Bool.{eq-eqb}
+use Rattle.glob_match.specs.Pattern.{before_bracket, members_of, set_front, is_sign, after_open, front_of, elements_after, elements}
+
+skipped : (skip : ℕ) (bs : List ℕ) → elements_after skip bs ≡ elements_after 0 (drop skip bs)
+unfolding elements_after
+skipped zero [] = refl
+skipped zero (b ∷ bs) = refl
+skipped (suc skip) [] = refl
+skipped (suc skip) (b ∷ bs) = skipped skip bs
+
+elements-cons : (b : ℕ) (bs : List ℕ) → elements (b ∷ bs) ≡ (front_of b bs).element ∷ elements (drop ((front_of b bs).size - 1) bs)
+unfolding elements_after
+elements-cons b bs = ap (λ es. (front_of b bs).element ∷ es) (skipped ((front_of b bs).size - 1) bs)
+
+pub elements-none : elements [] ≡ []
+unfolding elements_after
+elements-none = refl
+
+-- the elements from a place on
+pub elements-at : (pattern : List ℕ) (at next : ℕ) → at < length pattern → next ≡ at + (front_of (get_or pattern at 0) (drop (at + 1) pattern)).size → at < next
+    → elements (drop at pattern) ≡ (front_of (get_or pattern at 0) (drop (at + 1) pattern)).element ∷ elements (drop next pattern)
+elements-at pattern at next lt e low =
+    let size : ℕ = (front_of (get_or pattern at 0) (drop (at + 1) pattern)).size in
+    let far : at + 1 + (size - 1) ≡ next = omega arith in
+    ap elements (drop_more pattern at 0 lt) ∙ elements-cons (get_or pattern at 0) (drop (at + 1) pattern)
+    ∙ ap (λ bs. (front_of (get_or pattern at 0) (drop (at + 1) pattern)).element ∷ elements bs) (drop-drop (size - 1) (at + 1) pattern ∙ ap (λ k. drop k pattern) far)
+
+Clean : List ℕ → ℕ → Type 0
+Clean s k = (i : ℕ) → i < k → get_or s i 0 ≢ 93
+
+pub bracket-found : (s : List ℕ) (k : ℕ) → k < length s → get_or s k 0 ≡ 93 → ((i : ℕ) → i < k → get_or s i 0 ≢ 93) → before_bracket s ≡ Some (take k s)
+unfolding before_bracket
+bracket-found [] k lt is before = absurd (omega arith)
+bracket-found (b ∷ bs) zero lt is before = let t : eqb b 93 ≡ true = eq-eqb b 93 is in rw t refl
+bracket-found (b ∷ bs) (suc k) lt is before =
+    let ne : eqb b 93 ≡ false = grind (arith, before 0 (omega arith)) in
+    let more : before_bracket bs ≡ Some (take k bs) = bracket-found bs k (omega arith) is (λ i h. before (suc i) (omega arith)) in
+    rw (ne, more) refl
+
+pub bracket-none : (s : List ℕ) → ((i : ℕ) → i < length s → get_or s i 0 ≢ 93) → before_bracket s ≡ None
+unfolding before_bracket
+bracket-none [] before = refl
+bracket-none (b ∷ bs) before =
+    let ne : eqb b 93 ≡ false = grind (arith, before 0 (omega arith)) in
+    let more : before_bracket bs ≡ None = bracket-none bs (λ i h. before (suc i) (omega arith)) in
+    rw (ne, more) refl
+
+pub members-none : (pattern : List ℕ) (start : ℕ) → start < length pattern → ((i : ℕ) → i < length (drop (start + 1) pattern) → get_or (drop (start + 1) pattern) i 0 ≢ 93) → members_of (drop start pattern) ≡ None
+members-none pattern start lt none =
+    ap members_of (drop_more pattern start 0 lt) ∙ ap (option_map (λ ms. get_or pattern start 0 ∷ ms)) (bracket-none (drop (start + 1) pattern) none)
+
+pub members-found : (pattern : List ℕ) (start k : ℕ) → start < length pattern → k < length (drop (start + 1) pattern) → get_or (drop (start + 1) pattern) k 0 ≡ 93 → ((i : ℕ) → i < k → get_or (drop (start + 1) pattern) i 0 ≢ 93)
+    → members_of (drop start pattern) ≡ Some (slice_range pattern start (start + 1 + k))
+members-found pattern start k lt high is before =
+    let width : start + 1 + k - start ≡ suc k = omega arith in
+    ap members_of (drop_more pattern start 0 lt) ∙ ap (option_map (λ ms. get_or pattern start 0 ∷ ms)) (bracket-found (drop (start + 1) pattern) k high is before)
+    ∙ sym (rw (width, drop_more pattern start 0 lt) refl)
+
+pub members-end : (pattern : List ℕ) (start : ℕ) → length pattern ≤ start → members_of (drop start pattern) ≡ None
+members-end pattern start le = ap members_of (drop_all start pattern le)
+
+pub sign-open : (pattern : List ℕ) (at : ℕ) → true ≡ is_sign (drop (at + 1) pattern) → after_open (drop (at + 1) pattern) ≡ set_front true 1 (members_of (drop (at + 1 + 1) pattern))
+sign-open pattern at e =
+    ap (λ v. cond v (set_front true 1 (members_of (drop 1 (drop (at + 1) pattern)))) (set_front false 0 (members_of (drop (at + 1) pattern)))) (sym e)
+    ∙ ap (λ r. set_front true 1 (members_of r)) (drop-drop 1 (at + 1) pattern)
