@@ -1,15 +1,13 @@
 -- How a run is put together from the steps before its change, its line and its change.
-use Rattle.std.proofs.Common.{◌≡◌, ◌≢◌, ◌⊎◌, inl, inr, ⊎_elim, ◌≤◌, ℕ, zero, suc, List, [], ◌∷◌, ◌++◌, length, take, Option, Some, None, Result, Ok, Err, IsErr, IfErr, OnOk, refl, sym, ◌∙◌, ap, subst, arith}
+use Rattle.std.proofs.Common.{◌≡◌, inl, inr, ⊎_elim, ℕ, zero, List, [], ◌∷◌, Some, Result, Ok, Err, IsErr, IfErr, OnOk, refl, sym, ◌∙◌, ap, subst, arith}
 use Rattle.std.proofs.lemmas.List.{append-nil}
-use Rattle.std.proofs.lemmas.Option.{same_Some, none-some}
+use Rattle.std.proofs.lemmas.Option.{same_Some}
 use Rattle.std.specs.FinMap.{insert, remove}
 use Rattle.outside.specs.Files.{Files, SameLasting, temp_of}
-use Rattle.outside.specs.TreeView.{TreeView, Passes, IsCall, IsRun, MayLeave, LeftSince}
-use Rattle.outside.specs.TreeView as tree
-use Rattle.outside.specs.SinkView.{SinkView, sink_passes_none, Receives, ReceivesPart, Writes}
-use Rattle.outside.specs.SinkView as sink
+use Rattle.outside.specs.TreeView.{TreeView, Passes, IsCall, MayLeave, LeftSince}
+use Rattle.outside.specs.SinkView.{SinkView, sink_passes_none, Writes}
 use Rattle.outside.specs.Calls.{IsUntouched, LeavesNoMore, Becomes}
-use Rattle.outside.specs.Quiet.{IsQuiet, Effect, MakesEffect, after, after_all}
+use Rattle.outside.specs.Quiet.{IsQuiet, MakesEffect, after}
 use Rattle.outside.specs.Quiet.Effect.{Put}
 use Rattle.outside.proofs.Names.{lasting-same}
 use Rattle.outside.specs.TreeView.{passes_none, passes_both}

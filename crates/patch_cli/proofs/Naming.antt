@@ -1,5 +1,5 @@
 -- The lines of a patch text that is plain.
-use Rattle.std.proofs.Common.{◌≡◌, ◌≤◌, ◌+◌, ℕ, zero, suc, List, [], ◌∷◌, codes, drop, length, map, Bool, true, false, not, ◌==◌, ◌&&◌, nat_eq, if◌then◌else◌, slice_range, Option, Some, None, Result, Ok, Err, refl, sym, ◌∙◌, ap}
+use Rattle.std.proofs.Common.{◌≡◌, ℕ, zero, suc, List, [], ◌∷◌, codes, drop, length, Bool, true, false, not, ◌==◌, ◌&&◌, nat_eq, if◌then◌else◌, slice_range, Some, None, Result, Ok, refl, sym, ◌∙◌, ap}
 use Rattle.line_list.specs.Lines.{lines, EndsLine, IsLineAt}
 use Rattle.hunk_core.specs.declared.Side.TheVariants.{Forward, Reversed}
 use Rattle.hunk_core.specs.declared.Hunk.{Hunk}
@@ -74,7 +74,7 @@ is_plain-hunk_of text h sides feeds some whole =
     ∙ ap (λ (n : ℕ). (not (n == 0) && not (taken_count Reversed h.body.items == 0)) && feeds) (sym (lines-counted text Forward h.body.items))
     ∙ ap (λ (n : ℕ). (not (length (lines_on Forward (body_of text h.body.items)) == 0) && not (n == 0)) && feeds) (sym (lines-counted text Reversed h.body.items))
     ∙ ap (λ (b : Bool). (not (length (lines_on Forward (body_of text h.body.items)) == 0) && not (length (lines_on Reversed (body_of text h.body.items)) == 0)) && b)
-        (whole ∙ sym (list_all-map (λ (m : Marked). ends_with nat_eq m.line (10 ∷ [])) (marked_of text) h.body.items))
+    (whole ∙ sym (list_all-map (λ (m : Marked). ends_with nat_eq m.line (10 ∷ [])) (marked_of text) h.body.items))
 
 pub are_plain-hunks_of : (text : List ℕ) (hs : List Hunk) (some all : Bool) → some ≡ not (length hs == 0) → all ≡ list_all (λ (h : Hunk). is_plain (hunk_of text h)) hs
     → (some && all) ≡ are_plain (hunks_of text hs)

@@ -1,11 +1,10 @@
 -- What the command goes on with behind each step of a run.
-use Rattle.std.proofs.Common.{◌≡◌, ◌⊎◌, ⊎_elim, ◌<◌, ◌≤◌, ℕ, List, Bool, true, false, nat_lt, if◌then◌else◌, is_none, length, Option, Some, None, Result, Ok, Err, refl, sym, ◌∙◌, ap, subst, arith}
+use Rattle.std.proofs.Common.{◌≡◌, ◌⊎◌, ⊎_elim, ◌≤◌, ℕ, List, Bool, false, nat_lt, if◌then◌else◌, is_none, length, Some, None, Result, Ok, Err, sym, ◌∙◌, ap, subst, arith}
 use Rattle.std.proofs.lemmas.Bool.Decides.{nat_tests}
 use Rattle.std.specs.Result.{IsErrAnd}
 use Rattle.std.specs.FinMap.{get}
 use Rattle.line_list.specs.Lines.{lines}
 use Rattle.line_list.specs.Completed.{completed}
-use Rattle.line_store.specs.Taking.{refusal}
 use Rattle.hunk_core.specs.PlainHunk.{PlainHunk}
 use Rattle.hunk_apply.specs.Applied.{applied}
 use Rattle.outside.specs.Files.{Files}
@@ -16,7 +15,7 @@ use Rattle.patch_cli.specs.declared.why.Why.{Why}
 use Rattle.patch_cli.specs.declared.why.Why.TheVariants.{Done, Usage, NoPatchFile, WriteFault, TreeFault, Disagree, Memory, Unsupported}
 use Rattle.patch_cli.specs.Request.{Request, request_of}
 use Rattle.patch_cli.specs.Plain.{behind_names}
-use Rattle.patch_cli.specs.Command.{Outcome, refused, puts, patching_line, longest_text, buffer_size, stand_at_their_lines, on_request, on_text, on_hunks, on_bytes, on_lines, command}
+use Rattle.patch_cli.specs.Command.{Outcome, refused, puts, patching_line, longest_text, on_request, on_text, on_hunks, on_bytes, on_lines, command}
 use Rattle.patch_cli.specs.Carries.{Carries, StopsEarly, IsRefusalOfWords, HasCompleted, IsPatched, why_of}
 
 -- a run that stopped with an answer

@@ -1,5 +1,5 @@
 -- The file that is taken, and its bytes with the hunks applied.
-use Rattle.std.proofs.Common.{◌≡◌, ◌≢◌, ◌⊎◌, ◌<◌, ◌+◌, ◌^◌, ℕ, zero, List, [], Bool, true, false, not, if◌then◌else◌, is_none, is_some, length, Option, Some, None, IsSome, unwrap_or, Result, Ok, Err, IfErr, refl, sym, ◌∙◌, ap, subst, rules, arith}
+use Rattle.std.proofs.Common.{◌≡◌, ℕ, List, [], Bool, true, false, not, if◌then◌else◌, is_none, is_some, length, Option, Some, None, IsSome, unwrap_or, Result, Ok, Err, IfErr, refl, sym, ◌∙◌, ap, subst, rules, arith}
 use Rattle.std.specs.Option.{option_map}
 use Rattle.std.specs.Result.{IsErrAnd}
 use Rattle.std.specs.List.{list_any}
@@ -20,7 +20,7 @@ use Rattle.hunk_place.specs.Verdicts.{verdicts, at_start}
 use Rattle.hunk_apply.specs.Session.{is_inexact}
 use Rattle.hunk_apply.specs.Applied.{applied}
 use Rattle.patch_cli.specs.declared.why.Why.{Why}
-use Rattle.patch_cli.specs.declared.why.Why.TheVariants.{Done, Usage, NoPatchFile, WriteFault, TreeFault, Disagree, Memory, Unsupported}
+use Rattle.patch_cli.specs.declared.why.Why.TheVariants.{Unsupported}
 use Rattle.patch_cli.specs.Request.{Request}
 use Rattle.patch_cli.specs.Command.{refused, puts, patching_line, buffer_size, stand_at_their_lines, on_bytes, on_lines}
 use Rattle.patch_cli.specs.Carries.{Opens, StopsAtFile, HasTaken, IsPatched, why_not_taken}

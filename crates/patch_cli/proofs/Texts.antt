@@ -1,5 +1,5 @@
 -- The patch text with a line feed at its end.
-use Rattle.std.proofs.Common.{◌≡◌, ◌+◌, ◌≤◌, ℕ, List, [], ◌++◌, length, Bool, true, false, arith, length-append}
+use Rattle.std.proofs.Common.{◌+◌, ◌≤◌, ℕ, List, length, Bool, true, false, arith, length-append}
 use Rattle.line_list.specs.Lines.{lines}
 use Rattle.line_list.specs.Join.{feed_if, ends_open}
 use Rattle.line_list.specs.Completed.{completed}

@@ -1,5 +1,5 @@
 -- What a run leaves behind, whatever it answers, beside what the command does.
-use Rattle.std.specs.Prelude.{◌≡◌, ◌≢◌, ◌⊎◌, ℕ, ◌<◌, ◌≤◌, List, [], length, take, false, true, Some, None, Result, Ok, Err}
+use Rattle.std.specs.Prelude.{◌≡◌, ◌≢◌, ◌⊎◌, ℕ, ◌≤◌, List, length, take, false, true, Some, None, Result, Ok, Err}
 use Rattle.std.specs.FinMap.{get}
 use Rattle.outside.specs.Files.{Files, SameLasting}
 use Rattle.outside.specs.TreeView.{TreeView, Passes, MayLeave, LeftSince}

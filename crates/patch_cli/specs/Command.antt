@@ -1,5 +1,5 @@
 -- What a command does, as a function of its words and the files of the tree.
-use Rattle.std.specs.Prelude.{ℕ, ◌≤◌, ◌^◌, List, [], ◌∷◌, ◌++◌, codes, is_none, length, Bool, true, false, not, nat_lt, if◌then◌else◌, bytes_eq, Option, None, Some, Result, Ok, Err}
+use Rattle.std.specs.Prelude.{ℕ, List, [], ◌∷◌, ◌++◌, codes, is_none, length, Bool, true, false, not, nat_lt, if◌then◌else◌, bytes_eq, Option, None, Some, Result, Ok, Err}
 use Rattle.std.specs.List.{list_any}
 use Rattle.std.specs.FinMap.{get}
 use Rattle.line_list.specs.Lines.{lines}

@@ -1,5 +1,5 @@
 -- A patch text that holds one unified patch and nothing else (GNU diffutils manual, "Detailed Description of Unified Format").
-use Rattle.std.specs.Prelude.{◌≡◌, ◌≤◌, ℕ, List, [], ◌∷◌, ◌++◌, codes, take, drop, length, map, Bool, true, false, not, nat_eq, ◌==◌, ◌&&◌, ◌||◌, if◌then◌else◌, bytes_eq, Option, None, Some, Result, Ok, Err}
+use Rattle.std.specs.Prelude.{◌≡◌, ◌≤◌, ℕ, List, [], ◌∷◌, codes, take, drop, length, Bool, true, false, not, nat_eq, ◌==◌, ◌&&◌, ◌||◌, if◌then◌else◌, bytes_eq, Option, None, Some, Result, Ok, Err}
 use Rattle.std.specs.List.{starts_with, ends_with, list_all, position}
 use Rattle.line_list.specs.Lines.{lines}
 use Rattle.line_list.specs.Completed.{completed}

@@ -1,5 +1,5 @@
 -- What the words of a command ask for.
-use Rattle.std.specs.Prelude.{ℕ, List, [], ◌∷◌, codes, Bool, true, false, not, is_none, ◌==◌, ◌&&◌, ◌||◌, if◌then◌else◌, bytes_eq, Result, Ok, Err}
+use Rattle.std.specs.Prelude.{ℕ, List, [], ◌∷◌, codes, Bool, false, not, is_none, ◌==◌, ◌&&◌, ◌||◌, if◌then◌else◌, bytes_eq, Result, Ok, Err}
 use Rattle.outside.specs.Files.{is_temp}
 use Rattle.outside.specs.Names.{broken_rule, normal_form}
 use Rattle.patch_cli.specs.declared.why.Why.{Why}

@@ -7,9 +7,9 @@ mod opening;
 mod patched;
 mod plain;
 mod report;
-mod why;
 #[cfg(test)]
 mod tests;
+mod why;
 mod words;
 
 pub use cli::{Exit, run};

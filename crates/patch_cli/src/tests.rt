@@ -52,11 +52,46 @@ fn rows(rt: HostRuntime) -> Result<(), Fail> {
     let alloc = rt.alloc();
     let patched = ["patch", "f", "p.diff"];
     let rows: [(&[&str], &[u8], Why, &[u8], &[u8], &[u8]); 5] = [
-        (&patched, b"a\nb\nc\n", Why::Done, b"a\nB\nc\n", b"patching file f\n", b""),
-        (&patched, b"x\ny\na\nb\nc\n", Why::Unsupported, b"x\ny\na\nb\nc\n", b"", b"patch: **** not supported yet\n"),
-        (&["patch", "f", "none.diff"], b"a\nb\nc\n", Why::NoPatchFile, b"a\nb\nc\n", b"", b"patch: **** Can't find the patch file\n"),
-        (&["pach"], b"a\nb\nc\n", Why::Usage, b"a\nb\nc\n", b"", b"patchkit: **** the words are not a command\n"),
-        (&["patch", "../f", "p.diff"], b"a\nb\nc\n", Why::Usage, b"a\nb\nc\n", b"", b"patch: **** the words are not a command\n"),
+        (
+            &patched,
+            b"a\nb\nc\n",
+            Why::Done,
+            b"a\nB\nc\n",
+            b"patching file f\n",
+            b"",
+        ),
+        (
+            &patched,
+            b"x\ny\na\nb\nc\n",
+            Why::Unsupported,
+            b"x\ny\na\nb\nc\n",
+            b"",
+            b"patch: **** not supported yet\n",
+        ),
+        (
+            &["patch", "f", "none.diff"],
+            b"a\nb\nc\n",
+            Why::NoPatchFile,
+            b"a\nb\nc\n",
+            b"",
+            b"patch: **** Can't find the patch file\n",
+        ),
+        (
+            &["pach"],
+            b"a\nb\nc\n",
+            Why::Usage,
+            b"a\nb\nc\n",
+            b"",
+            b"patchkit: **** the words are not a command\n",
+        ),
+        (
+            &["patch", "../f", "p.diff"],
+            b"a\nb\nc\n",
+            Why::Usage,
+            b"a\nb\nc\n",
+            b"",
+            b"patch: **** the words are not a command\n",
+        ),
     ];
     for (words, file, why, after, out, err) in rows {
         let left = left_by(alloc, words, file, Vec::new(alloc))?;
@@ -76,7 +111,9 @@ fn rows(rt: HostRuntime) -> Result<(), Fail> {
 fn each_call_fails(rt: HostRuntime) -> Result<(), Fail> {
     let alloc = rt.alloc();
     let words = ["patch", "f", "p.diff"];
-    let calls = left_by(alloc, &words, b"a\nb\nc\n", Vec::new(alloc))?.tree.calls();
+    let calls = left_by(alloc, &words, b"a\nb\nc\n", Vec::new(alloc))?
+        .tree
+        .calls();
     for call in 1..calls.saturating_add(1) {
         let mut failing = Vec::new(alloc);
         failing.push(call)?;
@@ -85,7 +122,11 @@ fn each_call_fails(rt: HostRuntime) -> Result<(), Fail> {
         assert_eq!(rt; left.exit.status, 2);
         let file = bytes_of(alloc, &left.tree, b"f")?;
         assert!(rt; file == Some(b"a\nb\nc\n".as_slice()) || file == Some(b"a\nB\nc\n".as_slice()));
-        assert!(rt; b"patching file f\n".as_slice().starts_with(left.out.as_slice()));
+        assert!(rt;
+            b"patching file f\n"
+                .as_slice()
+                .starts_with(left.out.as_slice())
+        );
         assert!(rt; left.err.as_slice() == b"patch: **** tree fault\n".as_slice());
     }
     Ok(())

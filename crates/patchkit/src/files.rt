@@ -4,12 +4,11 @@
 ghost use Rattle.std.specs.Prelude.{◌≤◌, length, IfOk};
 
 use std::alloc::Global;
-use std::fs;
 use std::fs::{File, Metadata, OpenOptions};
-use std::io;
 use std::io::{BufWriter, ErrorKind, Write};
 use std::os::unix::fs::FileExt;
 use std::rt::Files;
+use std::{fs, io};
 
 /// How many bytes are gathered before they are written.
 const PIECE: usize = 65_536;
@@ -252,7 +251,8 @@ impl<'r, R: Files<File = File>> OpenFiles<'r, R> {
             None => ".",
         };
         if !self.unsynced.iter().any(|kept| kept.as_str() == directory) {
-            self.unsynced.push(String::from_str(self.alloc, directory)?)?;
+            self.unsynced
+                .push(String::from_str(self.alloc, directory)?)?;
         }
         Ok(())
     }

@@ -12,10 +12,9 @@ use crate::pages::Pages;
 use crate::streams::{Input, Output};
 use outside::put_all;
 use patch_cli::run;
-use std::env;
 use std::env::Env;
-use std::io;
 use std::process::ExitCode;
+use std::{env, io};
 
 /// The status of every answer that is no application: a refusal, a fault or want of memory.
 const REFUSED: u8 = 2;

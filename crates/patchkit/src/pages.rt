@@ -5,12 +5,11 @@ ghost use Rattle.outside.specs.Silent.{silent_scratch};
 use crate::faults::counted;
 use crate::files::read_whole;
 use outside::{Failed, Scratch};
-use std::fs;
 use std::fs::{File, OpenOptions};
-use std::io;
 use std::io::ErrorKind;
 use std::os::unix::fs::FileExt;
 use std::rt::Files;
+use std::{fs, io};
 
 const NAME: &str = ".ptmp";
 

@@ -1,4 +1,4 @@
-use Rattle.std.proofs.Common.{◌≡◌, List, ℕ, Some, map, string_bytes, sym, ◌∙◌, ap}
+use Rattle.std.proofs.Common.{List, ℕ, Some, map, string_bytes, sym, ◌∙◌, ap}
 use Rattle.line_list.specs.Lines.{lines}
 use Rattle.outside.specs.Files.{Files}
 use Rattle.hunk_core.specs.PlainHunk.{hunks_of}
@@ -56,9 +56,9 @@ returns-in_err-hunks-clause-carries g c =
     stopped o c.from_residual-in_err-hunks.result e c.from_residual-in_err-hunks.ensures.1
     (carries_behind w a a (opens_both c.settle.ensures.opens c.read_text.ensures.opens) o p
     (λ f told.
-        behind_words ws r f c.in_ok-request.ensures.request
-        ∙ behind_text r c.in_ok-text.text.items f (c.in_ok-text.ensures.text f (c.settle.ensures.opens.told ∙ told))
-        ∙ ap (λ (l : List ℕ). on_hunks r (behind_names (lines l)) f) (sym c.deref.ensures.value)) e
+    behind_words ws r f c.in_ok-request.ensures.request
+    ∙ behind_text r c.in_ok-text.text.items f (c.in_ok-text.ensures.text f (c.settle.ensures.opens.told ∙ told))
+    ∙ ap (λ (l : List ℕ). on_hunks r (behind_names (lines l)) f) (sym c.deref.ensures.value)) e
     (carries_early a (opens_none w) p e (stops_at_plain r ls w e c.in_err-hunks.ensures.refused)))
 
 pub returns-in_err-bytes-clause-carries : goal.returns-in_err-bytes-clause-carries
@@ -73,12 +73,12 @@ returns-in_err-bytes-clause-carries g c =
     stopped o c.from_residual-in_err-bytes.result e c.from_residual-in_err-bytes.ensures.1
     (carries_behind w a a (opens_both c.settle.ensures.opens c.read_text.ensures.opens) o p
     (λ f told.
-        behind_words ws r f c.in_ok-request.ensures.request
-        ∙ behind_text r c.in_ok-text.text.items f (c.in_ok-text.ensures.text f (c.settle.ensures.opens.told ∙ told))
-        ∙ ap (λ (l : List ℕ). on_hunks r (behind_names (lines l)) f) (sym c.deref.ensures.value)
-        ∙ ap (λ x. on_hunks r x f) c.in_ok-hunks.ensures.hunks
-        ∙ ap (λ (l : List ℕ). on_hunks r (Some (hunks_of l c.in_ok-hunks.hunks.items)) f) (c.deref.ensures.value ∙ sym c.deref-2.ensures.value)
-        ∙ ap (λ l. on_hunks r (Some (hunks_of c.deref-2.result.now l)) f) (sym c.deref-3.ensures.value)) e
+    behind_words ws r f c.in_ok-request.ensures.request
+    ∙ behind_text r c.in_ok-text.text.items f (c.in_ok-text.ensures.text f (c.settle.ensures.opens.told ∙ told))
+    ∙ ap (λ (l : List ℕ). on_hunks r (behind_names (lines l)) f) (sym c.deref.ensures.value)
+    ∙ ap (λ x. on_hunks r x f) c.in_ok-hunks.ensures.hunks
+    ∙ ap (λ (l : List ℕ). on_hunks r (Some (hunks_of l c.in_ok-hunks.hunks.items)) f) (c.deref.ensures.value ∙ sym c.deref-2.ensures.value)
+    ∙ ap (λ l. on_hunks r (Some (hunks_of c.deref-2.result.now l)) f) (sym c.deref-3.ensures.value)) e
     (carries_early a c.patched_bytes.ensures.opens p e (c.in_err-bytes.ensures.refused r.patch)))
 
 pub returns-clause-carries : goal.returns-clause-carries
@@ -92,12 +92,12 @@ returns-clause-carries g c =
     let p : Files → Outcome = λ f. puts (patching_line r.file) r.file c.deref-4.result.now in
     carries_behind w a b (opens_both (opens_both c.settle.ensures.opens c.read_text.ensures.opens) c.patched_bytes.ensures.opens) o p
     (λ f told.
-        behind_words ws r f c.in_ok-request.ensures.request
-        ∙ behind_text r c.in_ok-text.text.items f (c.in_ok-text.ensures.text f (c.settle.ensures.opens.told ∙ told))
-        ∙ ap (λ (l : List ℕ). on_hunks r (behind_names (lines l)) f) (sym c.deref.ensures.value)
-        ∙ ap (λ x. on_hunks r x f) c.in_ok-hunks.ensures.hunks
-        ∙ ap (λ (l : List ℕ). on_hunks r (Some (hunks_of l c.in_ok-hunks.hunks.items)) f) (c.deref.ensures.value ∙ sym c.deref-2.ensures.value)
-        ∙ ap (λ l. on_hunks r (Some (hunks_of c.deref-2.result.now l)) f) (sym c.deref-3.ensures.value)
-        ∙ behind_file r (hunks_of c.deref-2.result.now c.deref-3.result.now) c.in_ok-bytes.bytes.items f (c.in_ok-bytes.ensures.patched f (c.read_text.ensures.opens.told ∙ c.settle.ensures.opens.told ∙ told))
-        ∙ ap (λ (l : List ℕ). puts (patching_line r.file) r.file l) (sym c.deref-4.ensures.value))
+    behind_words ws r f c.in_ok-request.ensures.request
+    ∙ behind_text r c.in_ok-text.text.items f (c.in_ok-text.ensures.text f (c.settle.ensures.opens.told ∙ told))
+    ∙ ap (λ (l : List ℕ). on_hunks r (behind_names (lines l)) f) (sym c.deref.ensures.value)
+    ∙ ap (λ x. on_hunks r x f) c.in_ok-hunks.ensures.hunks
+    ∙ ap (λ (l : List ℕ). on_hunks r (Some (hunks_of l c.in_ok-hunks.hunks.items)) f) (c.deref.ensures.value ∙ sym c.deref-2.ensures.value)
+    ∙ ap (λ l. on_hunks r (Some (hunks_of c.deref-2.result.now l)) f) (sym c.deref-3.ensures.value)
+    ∙ behind_file r (hunks_of c.deref-2.result.now c.deref-3.result.now) c.in_ok-bytes.bytes.items f (c.in_ok-bytes.ensures.patched f (c.read_text.ensures.opens.told ∙ c.settle.ensures.opens.told ∙ told))
+    ∙ ap (λ (l : List ℕ). puts (patching_line r.file) r.file l) (sym c.deref-4.ensures.value))
     (why_of c.finish.result) c.finish.ensures.carries

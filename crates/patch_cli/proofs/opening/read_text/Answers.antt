@@ -1,5 +1,5 @@
-use Rattle.std.proofs.Common.{◌≡◌, ◌≤◌, ℕ, List, length, subst, sym, arith}
-use Rattle.line_list.specs.Completed.{completed, IsComplete}
+use Rattle.std.proofs.Common.{◌≤◌, ℕ, List, length, subst, sym}
+use Rattle.line_list.specs.Completed.{IsComplete}
 use Rattle.line_list.proofs.JoinLemmas.{completed-complete}
 use Rattle.patch_cli.proofs.Texts.{completed-short}
 use Rattle.patch_cli.proofs.opening.read_text.Goals as goal

@@ -12,7 +12,7 @@ pub returns-in-Ok-clause-taken : goal.returns-in-Ok-clause-taken
 returns-in-Ok-clause-taken g c =
     let view = g.T.Tree.view in
     has_taken (plan_seen c.args.plan.now) (plan_seen c.take_file.new.self) (view c.args.tree.now) (view c.size.new.self) (view c.take_file.new.tree) c.args.file.now c.in-Ok-Some.field-0-0
-        c.requires refl refl (opens_untouched c.size.ensures.untouched) (λ f told. sym c.in-Ok-Some.field-0-is ∙ c.in-Ok-Some.ensures.size f told) [] c.in-Ok.ensures.taken
+    c.requires refl refl (opens_untouched c.size.ensures.untouched) (λ f told. sym c.in-Ok-Some.field-0-is ∙ c.in-Ok-Some.ensures.size f told) [] c.in-Ok.ensures.taken
 
 pub returns-in-Err-take_file-clause-opens : goal.returns-in-Err-take_file-clause-opens
 returns-in-Err-take_file-clause-opens g c = opens_both (opens_untouched c.size.ensures.untouched) (opens_untouched c.in-Err-take_file.ensures.untouched)
@@ -21,6 +21,6 @@ pub returns-in-Err-take_file-clause-refused : goal.returns-in-Err-take_file-clau
 returns-in-Err-take_file-clause-refused g c = λ hunks.
     let view = g.T.Tree.view in
     subst (λ why. StopsAtFile why (view c.args.tree.now) (view c.take_file.new.tree) c.args.file.now hunks) (sym c.why_not_taken.ensures)
-        (stops_taken (plan_seen c.args.plan.now) (plan_seen c.take_file.new.self) (view c.args.tree.now) (view c.size.new.self) (view c.take_file.new.tree) c.args.file.now c.in-Ok-Some.field-0-0
-            c.requires refl refl (opens_untouched c.size.ensures.untouched) (λ f told. sym c.in-Ok-Some.field-0-is ∙ c.in-Ok-Some.ensures.size f told) hunks
-            c.in-Err-take_file.fault c.in-Err-take_file.ensures.cause)
+    (stops_taken (plan_seen c.args.plan.now) (plan_seen c.take_file.new.self) (view c.args.tree.now) (view c.size.new.self) (view c.take_file.new.tree) c.args.file.now c.in-Ok-Some.field-0-0
+    c.requires refl refl (opens_untouched c.size.ensures.untouched) (λ f told. sym c.in-Ok-Some.field-0-is ∙ c.in-Ok-Some.ensures.size f told) hunks
+    c.in-Err-take_file.fault c.in-Err-take_file.ensures.cause)

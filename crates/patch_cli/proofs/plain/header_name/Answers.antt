@@ -9,7 +9,7 @@ returns c =
     let line = c.args.line.now in
     let rest = take (length line - 4) (drop 4 line) in
     c.up_to_blank.ensures ∙ ap (λ (l : List ℕ). up_to_blank l)
-        (c.without_blanks.ensures ∙ ap (λ (l : List ℕ). without_blanks l)
-        (c.up_to-text.ensures
-        ∙ ap (λ o. up_to o rest) c.first_feed.ensures.place
-        ∙ ap (λ (l : List ℕ). up_to (position is_feed l) l) (take_all (length line - 4) (drop 4 line) (omega (arith, length-drop 4 line)))))
+    (c.without_blanks.ensures ∙ ap (λ (l : List ℕ). without_blanks l)
+    (c.up_to-text.ensures
+    ∙ ap (λ o. up_to o rest) c.first_feed.ensures.place
+    ∙ ap (λ (l : List ℕ). up_to (position is_feed l) l) (take_all (length line - 4) (drop 4 line) (omega (arith, length-drop 4 line)))))

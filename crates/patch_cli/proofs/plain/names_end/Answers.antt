@@ -1,4 +1,4 @@
-use Rattle.std.proofs.Common.{subst, sym, ◌∙◌, Option, None, ℕ}
+use Rattle.std.proofs.Common.{subst, sym, ◌∙◌, Option, ℕ}
 use Rattle.patch_cli.specs.Plain.{NamesEnd}
 use Rattle.patch_cli.proofs.Naming.{names_none, names_one, names_both, names_not_old, names_not_new}
 use Rattle.patch_cli.proofs.plain.names_end.Goals as goal

@@ -1,4 +1,4 @@
-use Rattle.std.proofs.Common.{ap, ◌∙◌, ◌-◌, take, length, drop, length-drop, arith}
+use Rattle.std.proofs.Common.{ap, ◌∙◌, ◌-◌, length, drop, length-drop, arith}
 use Rattle.std.proofs.lemmas.List.{take_all}
 use Rattle.patch_cli.specs.Plain.{from}
 use Rattle.patch_cli.proofs.plain.without_blanks.Goals as goal

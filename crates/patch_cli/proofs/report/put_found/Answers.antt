@@ -1,5 +1,4 @@
 use Rattle.std.proofs.Common.{codes}
-use Rattle.num_text.specs.Numbers.{decimal}
 use Rattle.outside.proofs.Writing.{writes_stop, writes_then}
 use Rattle.patch_cli.proofs.report.put_found.Goals as goal
 
