@@ -1,8 +1,9 @@
 //! Two pages of bytes, lent apart.
 #![tactic(auto)]
 
-ghost use Rattle.std.specs.Prelude.{◌≡◌, ◌*◌, ℕ, List, length, replicate, IfOk};
+ghost use Rattle.std.specs.Prelude.{◌≡◌, ◌+◌, ◌≤◌, ℕ, length, take, drop, replicate, IfOk};
 ghost use Rattle.std.specs.Borrow.{sem};
+ghost use Rattle.outside.specs.ScratchView.{overwritten};
 ghost use Rattle.line_store.specs.Taking.{IsSize};
 ghost use Rattle.page_pair.specs.Pair.{Pair, IsPair, page_of, other_half};
 ghost use Rattle.page_pair.specs.Lending.{LendsPage};
@@ -28,13 +29,6 @@ impl Model for PagePair {
     ghost view = { λ p. record { size = vec_len p.first; first = p.first.items; second = p.second.items } };
 
     ghost invariant = { λ p. IsSize (vec_len p.first) × (vec_len p.second ≡ vec_len p.first) };
-}
-
-/// One page to be read, and the other to be written.
-#[derive(Drop)]
-pub struct Pages<'a> {
-    pub fixed: &'a [u8],
-    pub free: &'a mut [u8],
 }
 
 impl PagePair {
@@ -80,22 +74,46 @@ impl PagePair {
         }
     }
 
-    /// The named page to be read beside the other one to be written.
-    pub fn page_and_other(&mut self, half: Half) -> Pages<'_>
-        ensures* writes_back { sem 𝓛 (LendsPage self.entry (other_half half) result.free) }
-        ensures fixed { result.fixed.now ≡ page_of self.old half }
-        ensures free { result.free.now ≡ page_of self.old (other_half half) }
-        ensures pair { IsPair self.old }
+    /// Copies bytes of the named page into the other one, from a place in each on.
+    pub fn copy_across(&mut self, half: Half, from: usize, to: usize, count: usize)
+        requires read { from + count ≤ self.old.size }
+        requires written { to + count ≤ self.old.size }
+        ensures same { page_of self.new half ≡ page_of self.old half }
+        ensures copied { page_of self.new (other_half half) ≡ overwritten (page_of self.old (other_half half)) to (take count (drop from (page_of self.old half))) }
+        ensures size { self.new.size ≡ self.old.size }
     {
         match half {
-            Half::First => Pages {
-                fixed: self.first.as_slice(),
-                free: self.second.as_mut_slice(),
-            },
-            Half::Second => Pages {
-                fixed: self.second.as_slice(),
-                free: self.first.as_mut_slice(),
-            },
+            Half::First => copy_part(&self.first, from, &mut self.second, to, count),
+            Half::Second => copy_part(&self.second, from, &mut self.first, to, count),
         }
+    }
+}
+
+fn copy_part(source: &[u8], from: usize, target: &mut [u8], to: usize, count: usize)
+    requires read { from + count ≤ length source.now }
+    requires written { to + count ≤ length target.old }
+    ensures { target.new ≡ overwritten target.old to (take count (drop from source.now)) }
+{
+    target[to..to + count].copy_from_slice(&source[from..from + count]);
+}
+
+#[cfg(test)]
+mod tests {
+    use super::*;
+    use std::test::*;
+
+    #[test]
+    fn writes_one_page(rt: HostRuntime) {
+        let Ok(mut pair) = PagePair::new(rt.alloc(), 512) else {
+            assert!(rt; false);
+            return;
+        };
+        assert_eq!(rt; pair.size(), 512);
+        assert_eq!(rt; pair.page(Half::Second)[511], 0);
+        pair.page_mut(Half::First)[0] = 7;
+        assert_eq!(rt; pair.page(Half::First)[0], 7);
+        assert_eq!(rt; pair.page(Half::Second)[0], 0);
+        pair.copy_across(Half::First, 0, 510, 2);
+        assert_eq!(rt; pair.page(Half::Second)[510], 7);
     }
 }
