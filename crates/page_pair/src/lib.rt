@@ -1,0 +1,119 @@
+//! Two pages of bytes, lent apart.
+#![tactic(auto)]
+
+ghost use Rattle.std.specs.Prelude.{◌≡◌, ◌+◌, ◌≤◌, ℕ, length, take, drop, replicate, IfOk};
+ghost use Rattle.std.specs.Borrow.{sem};
+ghost use Rattle.outside.specs.ScratchView.{overwritten};
+ghost use Rattle.line_store.specs.Taking.{IsSize};
+ghost use Rattle.page_pair.specs.Pair.{Pair, IsPair, page_of, other_half};
+ghost use Rattle.page_pair.specs.Lending.{LendsPage};
+
+use line_store::Half;
+use std::alloc::{AllocError, Global};
+use std::marker::Model;
+
+/// Two pages of one size. Their memory is freed with the pair.
+#[derive(Drop)]
+pub struct PagePair {
+    first: Vec<u8>,
+    second: Vec<u8>,
+}
+
+impl Model for PagePair {
+    ghost use Rattle.std.specs.Prelude.{◌≡◌, vec_len};
+    ghost use Rattle.line_store.specs.Taking.{IsSize};
+    ghost use Rattle.page_pair.specs.Pair.{Pair};
+
+    ghost Value = { Pair };
+
+    ghost view = { λ p. record { size = vec_len p.first; first = p.first.items; second = p.second.items } };
+
+    ghost invariant = { λ p. IsSize (vec_len p.first) × (vec_len p.second ≡ vec_len p.first) };
+}
+
+impl PagePair {
+    /// Two pages of zero bytes. A size is from 512 to 1,048,576.
+    pub fn new(alloc: Global, size: usize) -> Result<PagePair, AllocError>
+        requires { IsSize size }
+        ensures size { IfOk result (λ pair. pair.size ≡ size) }
+        ensures zero { IfOk result (λ pair. (h : Half) → page_of pair h ≡ replicate size 0) }
+    {
+        let first = Vec::from_elem(alloc, 0, size)?;
+        let second = Vec::from_elem(alloc, 0, size)?;
+        Ok(PagePair { first, second })
+    }
+
+    /// The size of each page in bytes.
+    pub fn size(&self) -> usize
+        ensures size { result ≡ self.now.size }
+        ensures pair { IsPair self.now }
+    {
+        self.first.len()
+    }
+
+    /// The bytes of a page.
+    pub fn page(&self, half: Half) -> &[u8]
+        ensures is { result.now ≡ page_of self.now half }
+        ensures pair { IsPair self.now }
+    {
+        match half {
+            Half::First => &self.first,
+            Half::Second => &self.second,
+        }
+    }
+
+    /// A page to be written. The other page stays as it is.
+    pub fn page_mut(&mut self, half: Half) -> &mut [u8]
+        ensures* writes_back { sem 𝓛 (LendsPage self.entry half result) }
+        ensures is { result.now ≡ page_of self.old half }
+        ensures pair { IsPair self.old }
+    {
+        match half {
+            Half::First => self.first.as_mut_slice(),
+            Half::Second => self.second.as_mut_slice(),
+        }
+    }
+
+    /// Copies bytes of the named page into the other one, from a place in each on.
+    pub fn copy_across(&mut self, half: Half, from: usize, to: usize, count: usize)
+        requires read { from + count ≤ self.old.size }
+        requires written { to + count ≤ self.old.size }
+        ensures same { page_of self.new half ≡ page_of self.old half }
+        ensures copied { page_of self.new (other_half half) ≡ overwritten (page_of self.old (other_half half)) to (take count (drop from (page_of self.old half))) }
+        ensures size { self.new.size ≡ self.old.size }
+    {
+        match half {
+            Half::First => copy_part(&self.first, from, &mut self.second, to, count),
+            Half::Second => copy_part(&self.second, from, &mut self.first, to, count),
+        }
+    }
+}
+
+fn copy_part(source: &[u8], from: usize, target: &mut [u8], to: usize, count: usize)
+    requires read { from + count ≤ length source.now }
+    requires written { to + count ≤ length target.old }
+    ensures { target.new ≡ overwritten target.old to (take count (drop from source.now)) }
+{
+    target[to..to + count].copy_from_slice(&source[from..from + count]);
+}
+
+#[cfg(test)]
+mod tests {
+    use super::*;
+    use std::test::*;
+
+    #[test]
+    fn writes_one_page(rt: HostRuntime) {
+        let Ok(mut pair) = PagePair::new(rt.alloc(), 512) else {
+            assert!(rt; false);
+            return;
+        };
+        assert_eq!(rt; pair.size(), 512);
+        assert_eq!(rt; pair.page(Half::Second)[511], 0);
+        pair.page_mut(Half::First)[0] = 7;
+        assert_eq!(rt; pair.page(Half::First)[0], 7);
+        assert_eq!(rt; pair.page(Half::Second)[0], 0);
+        pair.copy_across(Half::First, 0, 510, 2);
+        assert_eq!(rt; pair.page(Half::Second)[510], 7);
+    }
+}
