@@ -1,0 +1,8 @@
+//! The normal form of a patch (GNU diffutils manual, "Detailed Description of Normal Format").
+#![tactic(auto)]
+
+mod command;
+mod hunks;
+mod stretch;
+
+pub use hunks::at_opening;
