@@ -1,3 +1,5 @@
 pub mod Commands
 pub mod Stretches
 pub mod Hunks
+pub mod Grammar
+pub mod FirstFault

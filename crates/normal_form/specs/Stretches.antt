@@ -36,17 +36,17 @@ must_be_marked number side line None = Err (fault number (unmarked line))
 abbrev pub marked_at : ℕ → Side → List ℕ → Result Marked Fault
 marked_at number side line = must_be_marked number side line (after (marks side) line)
 
--- a line behind which so many are left, and whether a backslash line follows it
-abbrev pub ended_by : ℕ → Marked → ℕ → List (List ℕ) → Option (List (List ℕ)) → Result (Marked × Ahead) Fault
-ended_by number m left rest None = Ok (m, ahead (number + 1) rest)
-ended_by number m left rest (Some more) = if left == 0 then Ok (unended m, ahead (number + 2) more) else Err (fault (number + 1) kinds.MisplacedBackslash)
+-- a line behind which so many are left, with what is ahead, and whether that begins with a backslash line
+abbrev pub ended_by : Marked → ℕ → Ahead → Option (List (List ℕ)) → Result (Marked × Ahead) Fault
+ended_by m left p None = Ok (m, p)
+ended_by m left p (Some more) = if left == 0 then Ok (unended m, ahead (p.number + 1) more) else Err (fault p.number kinds.MisplacedBackslash)
 
 -- the first of these lines as a line of this side behind which so many are left
 unfoldable pub first_line : Side → ℕ → ℕ → List (List ℕ) → Result (Marked × Ahead) Fault
 first_line side left number [] = Err (fault number kinds.ShortEnd)
 first_line side left number (line ∷ rest) = do
   m ← marked_at number side line
-  ended_by number m left rest (after_backslash rest)
+  ended_by m left (ahead (number + 1) rest) (after_backslash rest)
 
 -- a line of this side behind which so many are left
 abbrev pub line_at : Side → ℕ → Ahead → Result (Marked × Ahead) Fault

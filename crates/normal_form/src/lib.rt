@@ -5,4 +5,4 @@ mod command;
 mod hunks;
 mod stretch;
 
-pub use hunks::at_opening;
+pub use hunks::{at_opening, first_faults, read_hunks};

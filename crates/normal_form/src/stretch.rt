@@ -65,12 +65,11 @@ fn marked_line(
     if !has_mark(line, side) {
         return Err(bad(number, unmarked_kind(line)));
     }
-    let mut start = at as u32;
-    start = start.saturating_add(2);
+    let start = at + 2;
     Ok(HunkLine {
         mark: mark_of(side),
         span: Span {
-            start,
+            start: start as u32,
             end: end as u32,
         },
     })
@@ -94,22 +93,20 @@ fn line_of(
         return Err(bad(number, BadKind::ShortEnd));
     };
     let line = marked_line(text, place.at, end, number, side)?;
+    let behind = Place {
+        at: end,
+        number: number + 1,
+    };
     match backslash_end(text, end) {
-        None => Ok((
-            line,
-            Place {
-                at: end,
-                number: number + 1,
-            },
-        )),
+        None => Ok((line, behind)),
         Some(at) if left == 0 => Ok((
             without_feed(line),
             Place {
                 at,
-                number: number + 2,
+                number: behind.number + 1,
             },
         )),
-        Some(_) => Err(bad(number + 1, BadKind::MisplacedBackslash)),
+        Some(_) => Err(bad(behind.number, BadKind::MisplacedBackslash)),
     }
 }
 
