@@ -8,3 +8,5 @@ pub mod Unbroken
 pub mod SpansLemmas
 pub mod Steady
 pub mod FirstFault
+pub mod WritingLemmas
+pub mod Again

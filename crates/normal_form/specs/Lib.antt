@@ -3,3 +3,4 @@ pub mod Stretches
 pub mod Hunks
 pub mod Grammar
 pub mod FirstFault
+pub mod Canonical

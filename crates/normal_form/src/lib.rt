@@ -4,5 +4,10 @@
 mod command;
 mod hunks;
 mod stretch;
+mod writing;
 
 pub use hunks::{at_opening, first_faults, read_hunks};
+pub use writing::{is_in_order, put_hunk};
+
+#[cfg(test)]
+mod tests;
