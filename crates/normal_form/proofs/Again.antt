@@ -8,7 +8,6 @@ use Rattle.std.proofs.lemmas.List.Concat.{flat_map-cons, flat_map-append}
 use Rattle.line_list.specs.Lines.{lines, IsLine}
 use Rattle.line_list.proofs.Pieces.{line-first}
 use Rattle.num_text.specs.Numbers.{decimal, is_digit, AllDigits}
-use Rattle.num_text.specs.NumberRanges.{SpellsRange}
 use Rattle.num_text.proofs.Decimal.{decimal-numeral}
 use Rattle.hunk_core.specs.declared.Mark.{Mark}
 use Rattle.hunk_core.specs.declared.Mark.TheVariants as its
@@ -18,13 +17,12 @@ use Rattle.hunk_core.specs.declared.check.BadHunk.{BadHunk}
 use Rattle.hunk_core.specs.declared.check.BadHunk.TheVariants as rules
 use Rattle.hunk_core.specs.Sides.{is_on_side}
 use Rattle.hunk_core.specs.PlainHunk.{Marked, PlainHunk, lines_on, old_lines, new_lines}
-use Rattle.hunk_core.specs.LineTests.{after, marked, ends_line, is_backslash, after_backslash}
+use Rattle.hunk_core.specs.LineTests.{after, ends_line, is_backslash, after_backslash}
 use Rattle.hunk_core.specs.Rules.{starts_at_zero, runs_over, lacks_inner_end, first_broken, HasNoInnerFeed}
 use Rattle.hunk_core.specs.Reading.{◌>>=◌, Ahead, ahead}
 use Rattle.hunk_core.proofs.ReadSteps.{bind_ok, ok_is, chosen}
 use Rattle.normal_form.specs.declared.command.Action.{Action}
 use Rattle.normal_form.specs.declared.command.Action.TheVariants.{Add, Change, Delete}
-use Rattle.normal_form.specs.Commands.{takes_lines}
 use Rattle.normal_form.specs.Stretches.{marks, is_divider}
 use Rattle.normal_form.specs.Hunks.{hunk_at, hunks_at}
 use Rattle.normal_form.specs.Grammar.{letter, SpellsLine, SpellsStretch, SpellsBody, SpellsSpan, SpellsCommand, command_of, AreFair, SpellsHunk, IsPiece}
@@ -287,6 +285,7 @@ span-clean start count = by (ltb 1 count)
   where
     digits : (n : ℕ) → NoFeed (decimal n)
     digits n = no-feed (decimal n) (decimal-numeral n).digits
+
     by : (b : Bool) → NoFeed (cond b (decimal start ++ 44 ∷ decimal (start + count - 1)) (decimal start))
     by true = both (decimal start) (44 ∷ decimal (start + count - 1)) (digits start) ((λ e. cc), digits (start + count - 1))
     by false = digits start

@@ -1,19 +1,18 @@
 -- A command that is read is spelled so, and one that is spelled so is read.
-use Rattle.std.proofs.Common.{◌≡◌, ℕ, ◌+◌, ◌-◌, ◌^◌, ◌<◌, ◌≤◌, Bool, true, false, not, cond, eqb, ltb, ◌||◌, List, [], ◌∷◌, ◌++◌, Option, None, Some, Result, Ok, Err, refl, sym, ap, subst, ◌∙◌, append_assoc, arith, inl, inr}
+use Rattle.std.proofs.Common.{◌≡◌, ℕ, ◌+◌, ◌^◌, ◌<◌, Bool, true, false, not, cond, eqb, ltb, ◌||◌, List, [], ◌∷◌, ◌++◌, Option, None, Some, Result, Ok, Err, refl, sym, ap, subst, ◌∙◌, arith, inl, inr}
 use Rattle.std.proofs.lemmas.Bool.{eqb-true, eqb-false, ltb-false, le-ltb, ne_eqb}
 use Rattle.hunk_core.specs.declared.BadKind.{BadKind}
 use Rattle.hunk_core.specs.declared.BadKind.TheVariants as kinds
 use Rattle.hunk_core.specs.declared.Side.TheVariants.{Forward, Reversed}
 use Rattle.hunk_core.proofs.ReadSteps.{chosen, some_is}
-use Rattle.num_text.specs.Numbers.{IsNumeral}
 use Rattle.num_text.specs.declared.range.NumberRange.{NumberRange}
 use Rattle.num_text.specs.NumberRanges.{range_at, SpellsRange}
-use Rattle.num_text.proofs.RangeGrammar.{TakesRange, range-takes, StopsRange, ranged, range-again, stops-nil, range-single}
+use Rattle.num_text.proofs.RangeGrammar.{range-takes, StopsRange, ranged, range-again, stops-nil, range-single}
 use Rattle.normal_form.specs.declared.command.Action.{Action}
 use Rattle.normal_form.specs.declared.command.Action.TheVariants.{Add, Change, Delete}
 use Rattle.normal_form.specs.declared.command.Parts.{Parts}
 use Rattle.normal_form.specs.declared.command.Command.{Command}
-use Rattle.normal_form.specs.Commands.{◌>>=◌, action_at, is_line_end, whole, parts_at, takes_lines, is_bad_range, size, command, is_too_large, placed, checked, from_parts, opening, Fits}
+use Rattle.normal_form.specs.Commands.{◌>>=◌, action_at, is_line_end, whole, parts_at, takes_lines, is_bad_range, size, command, is_too_large, placed, checked, from_parts, opening}
 use Rattle.normal_form.specs.Grammar.{SpellsSpan, letter, SpellsCommand, AreFair}
 
 -- ---- steps
@@ -219,16 +218,18 @@ opening-takes least line c e =
     let fair : AreFair least (command p) = subst (AreFair least) (sym q.same) q.fair in
     let old_small = last-small p.old (takes_lines p.action Forward) q.old single.0 fair.fits.old in
     let new_small = last-small p.new (takes_lines p.action Reversed) q.new single.1 fair.fits.new in
-    let t = parts-takes line p a.1 (record { old_first = old_small.0; old_last = old_small.1; new_first = new_small.0; new_last = new_small.1 }) in
-    (subst (SpellsCommand line) q.same (record {
-      old = t.old;
-      new = t.new;
-      rest = t.rest;
-      parts = t.parts;
-      ends = t.ends;
-      old_span = range-small p.old (takes_lines p.action Forward) q.old t.old t.old_range t.old_turned;
-      new_span = range-small p.new (takes_lines p.action Reversed) q.new t.new t.new_range t.new_turned;
-    }), q.fair)
+    let t = parts-takes line p a.1 (record { old_first = old_small.0; old_last = old_small.1; new_first = new_small.0; new_last = new_small.1 }) in (
+      subst (SpellsCommand line) q.same (record {
+        old = t.old;
+        new = t.new;
+        rest = t.rest;
+        parts = t.parts;
+        ends = t.ends;
+        old_span = range-small p.old (takes_lines p.action Forward) q.old t.old t.old_range t.old_turned;
+        new_span = range-small p.new (takes_lines p.action Reversed) q.new t.new t.new_range t.new_turned;
+      }),
+      q.fair,
+    )
 
 not-large : (start count : ℕ) → start + count < 2 ^ 32 → is_too_large start count ≡ false
 not-large start count lt = le-ltb 4294967295 (start + count) (omega (arith, lt))
@@ -249,7 +250,7 @@ opening-again least line c s fair =
     let old = span-range s.old (takes_lines c.action Forward) c.old_start c.old_count s.old_span in
     let new = span-range s.new (takes_lines c.action Reversed) c.new_start c.new_count s.new_span in
     let read = parts-again line s.old s.new s.rest c.action old.single new.single c.old_start old.last c.new_start new.last s.parts s.ends old.spelled new.spelled
-        (omega (arith, fair.fits.old)) (old.small fair.fits.old) (omega (arith, fair.fits.new)) (new.small fair.fits.new) in
+    (omega (arith, fair.fits.old)) (old.small fair.fits.old) (omega (arith, fair.fits.new)) (new.small fair.fits.new) in
     let p : Parts = made (ranged old.single c.old_start old.last) c.action (ranged new.single c.new_start new.last) in
     let counted : command p ≡ c =
     ap (λ n. command_is c.action c.old_start n c.new_start (size (ranged new.single c.new_start new.last) (takes_lines c.action Reversed))) old.sized

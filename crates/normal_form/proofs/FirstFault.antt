@@ -10,17 +10,17 @@ use Rattle.hunk_core.specs.declared.Side.TheVariants.{Forward, Reversed}
 use Rattle.hunk_core.specs.PlainHunk.{Marked, PlainHunk}
 use Rattle.hunk_core.specs.LineTests.{after, unended, is_backslash, after_backslash}
 use Rattle.hunk_core.specs.Reading.{◌>>=◌, Fault, fault, Ahead, ahead}
-use Rattle.hunk_core.proofs.ReadSteps.{bind_ok, chosen, ok_is}
+use Rattle.hunk_core.proofs.ReadSteps.{chosen}
 use Rattle.normal_form.specs.FirstFault.{AgreeTo}
 use Rattle.normal_form.specs.declared.command.Action.{Action}
 use Rattle.normal_form.specs.declared.command.Action.TheVariants.{Add, Change, Delete}
 use Rattle.normal_form.specs.declared.command.Command.{Command}
 use Rattle.normal_form.specs.declared.command.Parts.{Parts}
-use Rattle.normal_form.specs.Commands.{takes_lines, is_bad_range, is_too_large, command, placed, checked, from_parts, parts_at, opening, is_command}
+use Rattle.normal_form.specs.Commands.{takes_lines, is_bad_range, is_too_large, command, placed, from_parts, parts_at, opening, is_command}
 use Rattle.normal_form.specs.Stretches.{marks, unmarked, must_be_marked, marked_at, ended_by, first_line, line_at, stretch_at, is_divider, first_divider, divider_at}
 use Rattle.normal_form.specs.Hunks.{at_line, body_at, change, settled, first_hunk, hunk_at, begins_marked, begins_hunk, hunks_at, reading}
 use Rattle.normal_form.specs.Grammar.{IsPiece}
-use Rattle.normal_form.proofs.Steady.{failed, bind_err, agree_head, agree_less, Steady, Goes, steady-then, steady-value, one_line, with_rest, steady-same, FailsHere, steady-line, peek_by, steady-peek}
+use Rattle.normal_form.proofs.Steady.{failed, bind_err, agree_head, agree_less, Steady, steady-then, steady-value, one_line, with_rest, steady-same, FailsHere, steady-line, peek_by, steady-peek}
 use Rattle.normal_form.proofs.HunkLoops.{hunks_step}
 use Rattle.normal_form.proofs.Pieces.{hunk-shrinks, reading_again}
 
@@ -130,15 +130,19 @@ opening-kind least line kind h = by (parts_at line) h
   where
     is : (k : BadKind) → (x : Result Command BadKind) → x ≡ Err k → k ≢ kinds.ShortEnd → x ≡ Err kind → kind ≢ kinds.ShortEnd
     is k x e ne f = subst (λ z. z ≢ kinds.ShortEnd) (let same : k ≡ kind = cc in same) ne
+
     order : (c : Command) (b : Bool) → cond b (Err kinds.HunkOrder) (Ok c) ≡ Err kind → kind ≢ kinds.ShortEnd
     order c true h = is kinds.HunkOrder (Err kinds.HunkOrder) refl (λ z. cc) h
     order c false h = absurd cc
+
     large : (c : Command) (b : Bool) → cond b (Err kinds.NumberTooLarge) (cond (ltb c.old_start least) (Err kinds.HunkOrder) (Ok c)) ≡ Err kind → kind ≢ kinds.ShortEnd
     large c true h = is kinds.NumberTooLarge (Err kinds.NumberTooLarge) refl (λ z. cc) h
     large c false h = order c (ltb c.old_start least) h
+
     bad : (p : Parts) (b : Bool) → cond b (Err kinds.Range) (placed least (command p)) ≡ Err kind → kind ≢ kinds.ShortEnd
     bad p true h = is kinds.Range (Err kinds.Range) refl (λ z. cc) h
     bad p false h = large (command p) (is_too_large (command p).old_start (command p).old_count || is_too_large (command p).new_start (command p).new_count) h
+
     by : (o : Option Parts) → from_parts least o ≡ Err kind → kind ≢ kinds.ShortEnd
     by None h = is kinds.Range (Err kinds.Range) refl (λ z. cc) h
     by (Some p) h = bad p (is_bad_range p.old (takes_lines p.action Forward) || is_bad_range p.new (takes_lines p.action Reversed)) h
@@ -171,7 +175,7 @@ hunk-same least number (line ∷ rest) = assoc (at_line number (opening least li
 steady-hunk : (least : ℕ) → Steady (hunk_at least)
 steady-hunk least = steady-same (λ p. one_line (λ n l. at_line n (opening least l)) p.number p.rest >>= λ x. with_body x.0 x.1) (hunk_at least) (λ p. hunk-same least p.number p.rest)
     (steady-then (λ p. one_line (λ n l. at_line n (opening least l)) p.number p.rest) with_body (steady-line (λ n l. at_line n (opening least l)) (opening-here least))
-      (λ c. steady-then (body_at c) (λ body. settled (change c body)) (steady-body c) (λ body. steady-settled (change c body))))
+    (λ c. steady-then (body_at c) (λ body. settled (change c body)) (steady-body c) (λ body. steady-settled (change c body))))
 
 -- ---- hunks that follow each other
 

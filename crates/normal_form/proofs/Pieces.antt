@@ -1,10 +1,9 @@
 -- Hunks that are read are spelled so, and what is spelled so is read.
-use Rattle.std.proofs.Common.{◌≡◌, ℕ, zero, suc, ◌+◌, ◌≤◌, ◌<◌, Bool, true, false, cond, eqb, ◌&&◌, ◌||◌, List, [], ◌∷◌, ◌++◌, length, Option, None, Some, Result, Ok, Err, refl, sym, ap, subst, ◌∙◌, append_assoc, arith, inl, inr}
+use Rattle.std.proofs.Common.{◌≡◌, ℕ, zero, suc, ◌+◌, ◌≤◌, ◌<◌, Bool, true, false, eqb, ◌&&◌, List, [], ◌∷◌, ◌++◌, length, Option, None, Some, Result, Ok, Err, refl, sym, ap, subst, ◌∙◌, append_assoc, arith, inl, inr}
 use Rattle.std.specs.Prelude.{is_some, IfOk}
 use Rattle.std.proofs.lemmas.Bool.{eqb-true}
 use Rattle.std.proofs.lemmas.List.{length-append, append-nil}
 use Rattle.hunk_core.specs.declared.BadKind.{BadKind}
-use Rattle.hunk_core.specs.declared.BadKind.TheVariants as kinds
 use Rattle.hunk_core.specs.declared.fault.FormFault.{FormFault}
 use Rattle.hunk_core.specs.declared.Side.{Side}
 use Rattle.hunk_core.specs.declared.Side.TheVariants.{Forward, Reversed}
@@ -12,7 +11,6 @@ use Rattle.hunk_core.specs.PlainHunk.{Marked, PlainHunk}
 use Rattle.hunk_core.specs.LineTests.{after, is_backslash, after_backslash}
 use Rattle.hunk_core.specs.Reading.{Fault, Gives, ◌>>=◌, Ahead, ahead}
 use Rattle.hunk_core.proofs.ReadSteps.{bind_ok, chosen, guard_ok, must_ok, ok_is}
-use Rattle.hunk_core.proofs.TextLemmas.{after-again}
 use Rattle.num_text.specs.NumberRanges.{range_at}
 use Rattle.normal_form.specs.declared.command.Action.{Action}
 use Rattle.normal_form.specs.declared.command.Action.TheVariants.{Add, Change, Delete}
@@ -22,7 +20,7 @@ use Rattle.normal_form.specs.Stretches.{marks, stretch_at, is_divider, first_div
 use Rattle.normal_form.specs.Hunks.{at_line, body_at, change, settled, first_hunk, hunk_at, is_marked, begins_marked, begins_hunk, hunks_at, reading}
 use Rattle.normal_form.specs.Grammar.{on_side, SpellsLine, SpellsStretch, SpellsBody, SpellsSpan, command_of, SpellsCommand, AreFair, SpellsHunk, SpellsHunks, EndsPiece, IsPiece}
 use Rattle.normal_form.proofs.CommandGrammar.{opening-takes, opening-again, opening-is}
-use Rattle.normal_form.proofs.Stretches.{TakesStretch, stretch_takes, stretch_quiet, stretch_again, divider-quiet, none-left}
+use Rattle.normal_form.proofs.Stretches.{TakesStretch, stretch_takes, stretch_again, divider-quiet, none-left}
 
 -- ---- the lines of a hunk
 
@@ -156,6 +154,7 @@ stretch-first side piece tail (l ∷ ls) s some = rw (s.2, append_assoc s.0 s.1 
   where
     shows : (line bytes : List ℕ) → line ≡ marks side ++ bytes → is_marked line ≡ true
     shows line bytes e = rw e (marks-show side bytes)
+
     first : (own : List (List ℕ)) → SpellsLine side own l ls → begins_marked (own ++ (s.1 ++ tail)) ≡ true
     first [] h = absurd h
     first (line ∷ []) h = shows line l h
@@ -267,6 +266,7 @@ hunk_opens least (line ∷ lines) tail h s =
     let p = opening-is least line c (opening-again least line c s.4 s.5) in
     let marked = body-first s.0 lines tail s.1 s.2 s.4.old s.4.new h.old_start h.new_start s.6 s.4.old_span s.4.new_span in
     rw (p.1, marked) refl
+
 hunk_lines : (least : ℕ) (own : List (List ℕ)) (h : PlainHunk) → SpellsHunk least own h → 0 < length own
 hunk_lines least [] h s = absurd s
 hunk_lines least (line ∷ lines) h s = omega arith

@@ -1,6 +1,5 @@
 -- Reading that looks at one line after the other, and no further than where it stops.
-use Rattle.std.proofs.Common.{◌≡◌, ◌≢◌, ◌⊎◌, inl, inr, ℕ, zero, suc, ◌+◌, ◌-◌, ◌≤◌, ◌<◌, Bool, true, false, cond, List, [], ◌∷◌, ◌++◌, length, Option, None, Some, Result, Ok, Err, refl, sym, ap, subst, ◌∙◌, arith}
-use Rattle.hunk_core.specs.declared.BadKind.{BadKind}
+use Rattle.std.proofs.Common.{◌≡◌, ◌≢◌, ◌⊎◌, inl, inr, ℕ, ◌+◌, ◌≤◌, Bool, true, false, cond, List, [], ◌∷◌, length, Option, None, Some, Result, Ok, Err, refl, sym, ap, subst, ◌∙◌, arith}
 use Rattle.hunk_core.specs.declared.BadKind.TheVariants as kinds
 use Rattle.hunk_core.specs.LineTests.{is_backslash, after_backslash}
 use Rattle.hunk_core.specs.Reading.{◌>>=◌, Fault, fault, Ahead, ahead}
@@ -60,12 +59,14 @@ steady-then {A = A} {B = B} f g one two = record {
               let l = (two good.0.0).low good.0.1 e good.2 in
               (omega (arith, u.0, l.0), λ short. l.1 short ∙ u.1))
         ]
+
     up : (p : Ahead) (y : B × Ahead) → (f p >>= λ x. g x.0 x.1) ≡ Ok y → (p.number ≤ y.1.number) × (y.1.number + length y.1.rest ≡ p.number + length p.rest)
     up p y h =
         let a = bind_ok (f p) (λ x. g x.0 x.1) y h in
         let u = one.up p a.0 a.1 in
         let v = (two a.0.0).up a.0.1 y a.2 in
         (omega (arith, u.0, v.0), v.1 ∙ u.1)
+
     stays : (p : Ahead) (others : List (List ℕ)) (e : Fault) → (f p >>= λ x. g x.0 x.1) ≡ Err e → e.kind ≢ kinds.ShortEnd → AgreeTo e.line p.number p.rest others → (f (ahead p.number others) >>= λ x. g x.0 x.1) ≡ Err e
     stays p others e h long agree =
         elim (bind_err (f p) (λ x. g x.0 x.1) e h) [
@@ -75,6 +76,7 @@ steady-then {A = A} {B = B} f g one two = record {
               let go = one.goes e.line p others good.0 good.1 l.0 agree in
               rw go.read ((two good.0.0).stays good.0.1 go.rest e good.2 long go.agree))
         ]
+
     goes : (last : ℕ) (p : Ahead) (others : List (List ℕ)) (y : B × Ahead) → (f p >>= λ x. g x.0 x.1) ≡ Ok y → y.1.number ≤ last → AgreeTo last p.number p.rest others → Goes (λ q. f q >>= λ x. g x.0 x.1) last p.number others y
     goes last p others y h le agree =
         let a = bind_ok (f p) (λ x. g x.0 x.1) y h in
@@ -130,18 +132,21 @@ steady-line {A = A} take here = record { low = λ p. low p.number p.rest; up = �
     low : (number : ℕ) (lines : List (List ℕ)) (e : Fault) → one_line take number lines ≡ Err e → (number ≤ e.line) × (e.kind ≡ kinds.ShortEnd → e.line ≡ number + length lines)
     low number [] e h = let is : fault number kinds.ShortEnd ≡ e = err_is {A = A × Ahead} _ e h in (omega (arith, ap (λ (x : Fault). x.line) is), λ _. omega (arith, ap (λ (x : Fault). x.line) is))
     low number (line ∷ rest) e h = let l = here number line e (line_err (take number line) (ahead (number + 1) rest) e h) in (omega (arith, l.0), λ short. absurd (l.1 short))
+
     up : (number : ℕ) (lines : List (List ℕ)) (x : A × Ahead) → one_line take number lines ≡ Ok x → (number ≤ x.1.number) × (x.1.number + length x.1.rest ≡ number + length lines)
     up number [] x h = absurd cc
     up number (line ∷ rest) x h =
         let a = bind_ok (take number line) (with_rest (ahead (number + 1) rest)) x h in
         let same : (a.0, ahead (number + 1) rest) ≡ x = ok_is _ _ a.2 in
         subst (λ (y : A × Ahead). (number ≤ y.1.number) × (y.1.number + length y.1.rest ≡ number + length (line ∷ rest))) same (omega arith, omega arith)
+
     stays : (number : ℕ) (lines others : List (List ℕ)) (e : Fault) → one_line take number lines ≡ Err e → e.kind ≢ kinds.ShortEnd → AgreeTo e.line number lines others → one_line take number others ≡ Err e
     stays number [] others e h long agree = absurd (long (sym (ap (λ (x : Fault). x.kind) (err_is {A = A × Ahead} (fault number kinds.ShortEnd) e h))))
     stays number (line ∷ rest) others e h long agree =
         let bad = line_err (take number line) (ahead (number + 1) rest) e h in
         let head = agree_head e.line number line rest others agree (omega (arith, (here number line e bad).0)) in
         ap (one_line take number) head.1 ∙ line_fails take number line head.0 e bad
+
     goes : (last number : ℕ) (lines others : List (List ℕ)) (x : A × Ahead) → one_line take number lines ≡ Ok x → x.1.number ≤ last → AgreeTo last number lines others → Goes (λ p. one_line take p.number p.rest) last number others x
     goes last number [] others x h le agree = absurd cc
     goes last number (line ∷ rest) others x h le agree =
@@ -207,12 +212,14 @@ steady-peek {A = A} a b = record {
     low None p (Some more) e h =
         let is : fault p.number kinds.MisplacedBackslash ≡ e = err_is {A = A × Ahead} _ e h in
         (omega (arith, ap (λ (x : Fault). x.line) is), λ short. absurd (let bad : kinds.MisplacedBackslash ≡ kinds.ShortEnd = ap (λ (x : Fault). x.kind) is ∙ short in cc))
+
     up : (b : Option A) (p : Ahead) (o : Option (List (List ℕ))) (x : A × Ahead) → Hears p.rest o → peek_by a b p o ≡ Ok x → (p.number ≤ x.1.number) × (x.1.number + length x.1.rest ≡ p.number + length p.rest)
     up b p None x heard h = let same : (a, p) ≡ x = ok_is _ _ h in subst (λ (y : A × Ahead). (p.number ≤ y.1.number) × (y.1.number + length y.1.rest ≡ p.number + length p.rest)) same (omega arith, refl)
     up (Some c) p (Some more) x heard h =
         let same : (c, ahead (p.number + 1) more) ≡ x = ok_is _ _ h in
         subst (λ (y : A × Ahead). (p.number ≤ y.1.number) × (y.1.number + length y.1.rest ≡ p.number + length p.rest)) same (omega arith, omega (arith, ap length heard.parts))
     up None p (Some more) x heard h = absurd cc
+
     stays : (b : Option A) (p : Ahead) (others : List (List ℕ)) (o : Option (List (List ℕ))) (e : Fault) → Hears p.rest o → peek_by a b p o ≡ Err e → AgreeTo e.line p.number p.rest others → peek_by a b (ahead p.number others) (after_backslash others) ≡ Err e
     stays b p others None e heard h agree = absurd (let bad : Ok (a, p) ≡ failed {A = A × Ahead} e = h in cc)
     stays (Some c) p others (Some more) e heard h agree = absurd (let bad : Ok (c, ahead (p.number + 1) more) ≡ failed {A = A × Ahead} e = h in cc)
@@ -220,6 +227,7 @@ steady-peek {A = A} a b = record {
         let is : fault p.number kinds.MisplacedBackslash ≡ e = err_is {A = A × Ahead} _ e h in
         let l = agree_loud e.line p.number p.rest others more heard agree (omega (arith, ap (λ (x : Fault). x.line) is)) in
         rw (l.1, is) refl
+
     goes : (b : Option A) (last : ℕ) (p : Ahead) (others : List (List ℕ)) (o : Option (List (List ℕ))) (x : A × Ahead) → after_backslash p.rest ≡ o → Hears p.rest o → peek_by a b p o ≡ Ok x → x.1.number ≤ last → AgreeTo last p.number p.rest others → Goes (λ q. peek_by a b q (after_backslash q.rest)) last p.number others x
     goes b last p others None x quiet heard h le agree =
         let same : (a, p) ≡ x = ok_is _ _ h in

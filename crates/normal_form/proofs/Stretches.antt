@@ -1,18 +1,15 @@
 -- Lines of a side that are read are spelled so, and what is spelled so is read.
-use Rattle.std.proofs.Common.{◌≡◌, ℕ, zero, suc, ◌+◌, ◌-◌, ◌≤◌, ◌<◌, Bool, true, false, cond, eqb, List, [], ◌∷◌, ◌++◌, length, map, take, Option, None, Some, Ok, Err, Result, refl, sym, ap, subst, ◌∙◌, append_assoc, arith, inl, inr}
+use Rattle.std.proofs.Common.{◌≡◌, ℕ, zero, suc, ◌+◌, ◌-◌, Bool, true, false, cond, eqb, List, [], ◌∷◌, ◌++◌, length, take, Option, None, Some, Ok, refl, sym, ap, subst, ◌∙◌, append_assoc, arith, inl, inr}
 use Rattle.std.proofs.lemmas.Bool.{eqb-true}
 use Rattle.std.proofs.lemmas.List.{length-append, append-nil}
-use Rattle.hunk_core.specs.declared.BadKind.TheVariants as kinds
 use Rattle.hunk_core.specs.declared.Side.{Side}
 use Rattle.hunk_core.specs.declared.Side.TheVariants.{Forward, Reversed}
 use Rattle.hunk_core.specs.PlainHunk.{Marked}
 use Rattle.hunk_core.specs.LineTests.{after, marked, unended, is_backslash, after_backslash}
-use Rattle.hunk_core.specs.Reading.{◌>>=◌, Ahead, ahead}
+use Rattle.hunk_core.specs.Reading.{Ahead, ahead}
 use Rattle.hunk_core.proofs.ReadSteps.{bind_ok, chosen, must_ok, ok_is}
 use Rattle.hunk_core.proofs.TextLemmas.{after-takes, after-again}
-use Rattle.normal_form.specs.declared.command.Action.{Action}
-use Rattle.normal_form.specs.declared.command.Action.TheVariants.{Add, Change, Delete}
-use Rattle.normal_form.specs.Stretches.{marks, own_mark, must_be_marked, marked_at, ended_by, first_line, line_at, stretch_at, is_divider, first_divider, divider_at}
+use Rattle.normal_form.specs.Stretches.{marks, own_mark, must_be_marked, marked_at, ended_by, first_line, line_at, stretch_at, is_divider}
 use Rattle.normal_form.specs.Grammar.{on_side, SpellsLine, SpellsStretch}
 
 -- ---- one line
@@ -65,7 +62,7 @@ line_takes side left number (line ∷ rest) x h =
     let a = bind_ok (marked_at number side line) (λ m. ended_by m left (ahead (number + 1) rest) (after_backslash rest)) x h in
     let m = marked-ok number side line (after (marks side) line) a.0 a.1 in
     line_ends side line m.0 left number rest (after_backslash rest) x (after-takes (marks side) line m.0 m.1) refl
-      (subst (λ (y : Marked). ended_by y left (ahead (number + 1) rest) (after_backslash rest) ≡ Ok x) (sym m.2) a.2)
+    (subst (λ (y : Marked). ended_by y left (ahead (number + 1) rest) (after_backslash rest) ≡ Ok x) (sym m.2) a.2)
 
 -- ---- a stretch
 

@@ -1,21 +1,18 @@
 -- A hunk that a piece of a text spells breaks no rule.
-use Rattle.std.proofs.Common.{◌≡◌, ℕ, suc, ◌+◌, ◌-◌, ◌^◌, ◌≤◌, ◌<◌, Bool, true, false, not, cond, eqb, ltb, ◌&&◌, ◌||◌, List, [], ◌∷◌, ◌++◌, length, map, take, Option, None, Some, refl, sym, ap, subst, ◌∙◌, arith, inl, inr}
-use Rattle.std.specs.Prelude.{filter}
+use Rattle.std.proofs.Common.{◌≡◌, ℕ, suc, ◌+◌, ◌<◌, Bool, true, false, not, cond, eqb, ◌&&◌, ◌||◌, List, [], ◌∷◌, ◌++◌, length, None, Some, refl, ap, subst, ◌∙◌, arith}
 use Rattle.std.proofs.lemmas.Bool.{eqb-true, ne_eqb, le-ltb}
-use Rattle.std.proofs.lemmas.List.{length-append}
 use Rattle.line_list.specs.Lines.{IsLine, ArePieces}
 use Rattle.hunk_core.specs.declared.Side.{Side}
 use Rattle.hunk_core.specs.declared.Side.TheVariants.{Forward, Reversed}
 use Rattle.hunk_core.specs.declared.check.BadHunk.{BadHunk}
-use Rattle.hunk_core.specs.Sides.{is_on_side}
-use Rattle.hunk_core.specs.PlainHunk.{Marked, PlainHunk, lines_on, old_lines, new_lines}
-use Rattle.hunk_core.specs.LineTests.{marked, ends_line}
+use Rattle.hunk_core.specs.PlainHunk.{Marked, PlainHunk, old_lines, new_lines}
+use Rattle.hunk_core.specs.LineTests.{ends_line}
 use Rattle.hunk_core.specs.Rules.{starts_at_zero, runs_over, lacks_inner_end, first_broken}
 use Rattle.hunk_core.proofs.PieceLemmas.{pieces-first, pieces-last}
 use Rattle.normal_form.specs.declared.command.Action.{Action}
 use Rattle.normal_form.specs.declared.command.Action.TheVariants.{Add, Change, Delete}
 use Rattle.normal_form.specs.Commands.{takes_lines}
-use Rattle.normal_form.specs.Stretches.{marks, own_mark}
+use Rattle.normal_form.specs.Stretches.{marks}
 use Rattle.normal_form.specs.Grammar.{on_side, SpellsLine, SpellsStretch, SpellsBody, SpellsSpan, SpellsHunk}
 
 -- ---- the lines of the sides

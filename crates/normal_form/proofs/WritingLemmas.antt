@@ -1,16 +1,15 @@
 -- Writing a hunk line by line.
-use Rattle.std.proofs.Common.{◌≡◌, Bool, true, false, cond, ℕ, ◌+◌, ◌-◌, ◌≤◌, ◌<◌, List, [], ◌∷◌, ◌++◌, length, get_or, take, drop, map, refl, sym, ap, ◌∙◌, append_assoc, arith}
+use Rattle.std.proofs.Common.{◌≡◌, Bool, true, false, cond, ℕ, ◌+◌, ◌<◌, List, [], ◌∷◌, ◌++◌, length, get_or, take, drop, map, refl, sym, ap, ◌∙◌, append_assoc}
 use Rattle.std.specs.Prelude.{filter}
 use Rattle.std.specs.List.{flat_map}
-use Rattle.std.proofs.lemmas.List.{take_more, drop_more, take-append-drop, map-append, append-nil}
-use Rattle.std.proofs.lemmas.List.Concat.{flat_map-append, flat_map-cons}
-use Rattle.hunk_core.specs.declared.Mark.TheVariants.{Keep, Drop, Add}
+use Rattle.std.proofs.lemmas.List.{take_more, drop_more, take-append-drop, append-nil}
+use Rattle.std.proofs.lemmas.List.Concat.{flat_map-cons}
 use Rattle.hunk_core.specs.declared.Side.{Side}
 use Rattle.hunk_core.specs.declared.Side.TheVariants.{Forward, Reversed}
 use Rattle.hunk_core.specs.declared.HunkLine.{HunkLine}
 use Rattle.hunk_core.specs.declared.Hunk.{Hunk}
 use Rattle.hunk_core.specs.Sides.{is_on_side, taken_count}
-use Rattle.hunk_core.specs.PlainHunk.{Marked, bytes_at, marked_of, body_of, hunk_of, lines_on, old_lines, new_lines}
+use Rattle.hunk_core.specs.PlainHunk.{bytes_at, marked_of, body_of, hunk_of, lines_on, old_lines, new_lines}
 use Rattle.hunk_core.specs.Turned.{is_drop, is_add, taken, turned, other_side}
 use Rattle.hunk_core.proofs.SideLemmas.{turned-lines, turned-others, lines-counted}
 use Rattle.normal_form.specs.Canonical.{are_added, drops_come_first, action_for, command_text, divider_text, line_text, lines_text, canonical}

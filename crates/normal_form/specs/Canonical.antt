@@ -1,14 +1,12 @@
 -- The canonical text of a hunk.
-use Rattle.std.specs.Prelude.{◌≡◌, ℕ, ◌+◌, ◌-◌, Bool, true, false, nat_lt, ◌==◌, List, [], ◌∷◌, ◌++◌, length, filter, codes, if◌then◌else◌}
+use Rattle.std.specs.Prelude.{◌≡◌, ℕ, ◌+◌, ◌-◌, Bool, true, false, nat_lt, ◌==◌, List, [], ◌∷◌, ◌++◌, length, codes, if◌then◌else◌}
 use Rattle.std.specs.List.{flat_map}
 use Rattle.line_list.specs.Lines.{lines}
 use Rattle.num_text.specs.Numbers.{decimal}
-use Rattle.hunk_core.specs.declared.Mark.TheVariants as its
-use Rattle.hunk_core.specs.declared.Mark.{Mark}
 use Rattle.hunk_core.specs.declared.HunkLine.{HunkLine}
 use Rattle.hunk_core.specs.declared.Side.{Side}
 use Rattle.hunk_core.specs.declared.Side.TheVariants.{Forward, Reversed}
-use Rattle.hunk_core.specs.PlainHunk.{Marked, PlainHunk, old_lines, new_lines}
+use Rattle.hunk_core.specs.PlainHunk.{PlainHunk, old_lines, new_lines}
 use Rattle.hunk_core.specs.Turned.{is_drop, is_add}
 use Rattle.hunk_core.specs.LineTests.{ends_line}
 use Rattle.normal_form.specs.declared.command.Action.{Action}

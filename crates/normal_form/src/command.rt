@@ -79,9 +79,8 @@ fn has_lines(action: Action, side: Side) -> bool
 {
     match (action, side) {
         (Action::Add, Side::Forward) | (Action::Delete, Side::Reversed) => false,
-        (Action::Add, Side::Reversed)
-        | (Action::Change, _)
-        | (Action::Delete, Side::Forward) => true,
+        (Action::Add, Side::Reversed) | (Action::Change, _) | (Action::Delete, Side::Forward) =>
+            true,
     }
 }
 

@@ -180,7 +180,6 @@ pub fn read_hunks(alloc: Global, text: &[u8], at: usize, line: u64) -> Result<Hu
     read_all(alloc, text, at, line)
 }
 
-
 /// What makes a fault the first one. Whether a line is a command of a hunk is told by the line behind
 /// it too, so a fault is fixed by the lines up to the one behind its own.
 pub fn first_faults()

@@ -77,12 +77,7 @@ fn marked_line(
 
 /// A line of a stretch behind which so many are left, and the place after it.
 #[tactic(auto, unfolding(crate::specs::Stretches::first_line))]
-fn line_of(
-    text: &[u8],
-    side: Side,
-    left: u64,
-    place: Place,
-) -> Result<(HunkLine, Place), FormFault>
+fn line_of(text: &[u8], side: Side, left: u64, place: Place) -> Result<(HunkLine, Place), FormFault>
     requires { IsPlace text.now place }
     ensures place { IfOk result (λ x. IsPlace text.now x.1 × (place.at < x.1.at)) }
     ensures lies { IfOk result (λ x. LiesIn text.now x.0.span) }

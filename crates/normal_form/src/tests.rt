@@ -101,9 +101,11 @@ fn written(alloc: Global, text: &[u8], side: Side) -> (u64, Vec<u8>) {
 }
 
 // What `diff` of GNU diffutils wrote for two files, and for these files exchanged.
-const DIFF: &[u8] = b"2c2,3\n< b\n---\n> B\n> B2\n4d4\n< d\n6a7,8\n> x\n> y\n8c10\n< h\n\\ No newline at end of file\n---\n> H\n";
+const DIFF: &[u8] =
+    b"2c2,3\n< b\n---\n> B\n> B2\n4d4\n< d\n6a7,8\n> x\n> y\n8c10\n< h\n\\ No newline at end of file\n---\n> H\n";
 
-const UNDONE: &[u8] = b"2,3c2\n< B\n< B2\n---\n> b\n4a4\n> d\n7,8d6\n< x\n< y\n10c8\n< H\n---\n> h\n\\ No newline at end of file\n";
+const UNDONE: &[u8] =
+    b"2,3c2\n< B\n< B2\n---\n> b\n4a4\n> d\n7,8d6\n< x\n< y\n10c8\n< H\n---\n> h\n\\ No newline at end of file\n";
 
 // The file of one byte without a line feed, and a line after it.
 const ROW: &[u8] = b"1a2\n> b\n";

@@ -167,11 +167,7 @@ fn letter_of(action: Action) -> u8
     }
 }
 
-fn put_command<O: Sink>(
-    out: &mut O,
-    starts: (u32, u32),
-    counts: (u32, u32),
-) -> Result<(), Failed>
+fn put_command<O: Sink>(out: &mut O, starts: (u32, u32), counts: (u32, u32)) -> Result<(), Failed>
     ensures { Puts O.view O.same_rest out.old out.new result (command_text starts.0 counts.0 starts.1 counts.1) }
 {
     let mut gathered = ArrayVec::new();

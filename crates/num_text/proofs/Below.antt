@@ -4,7 +4,7 @@ use Rattle.std.proofs.lemmas.Bool.{cases_lt, ltb-true, ltb-false, leb-true, lt-l
 use Rattle.std.proofs.lemmas.List.{length-drop}
 use Rattle.num_text.specs.Numbers.{is_digit, value_after, after_digits}
 use Rattle.num_text.specs.NumberRanges.{place_value}
-use Rattle.num_text.proofs.NumberLemmas.{digit-step, rest-step, rest-stop, rest-nil, rest-more, value-stop, value-nil, value-ge, value-more, value-ends}
+use Rattle.num_text.proofs.NumberLemmas.{digit-step, rest-step, rest-stop, rest-nil, rest-more, value-stop, value-nil, value-ge, value-more}
 
 -- the digits at the front go up to this end
 pub record RunsTo (a : List ℕ) (end : ℕ) : Type 0 where
@@ -22,6 +22,7 @@ digits-inside (b ∷ bs) (suc e) k le same lt = by (is_digit b) refl (λ is j le
     inner : (is_digit b ≡ true) → ((j : ℕ) → j < e → is_digit (get_or bs j 0) ≡ true) → (j : ℕ) → j < suc e → is_digit (get_or (b ∷ bs) j 0) ≡ true
     inner is more zero less = is
     inner is more (suc j) less = more j (omega arith)
+
     by : (v : Bool) → is_digit b ≡ v → ((is_digit b ≡ true) → (j : ℕ) → j < e → is_digit (get_or bs j 0) ≡ true) → is_digit (get_or (b ∷ bs) k 0) ≡ true
     by true is more = inner is (more is) k lt
     by false is more = absurd (no-run b bs e (omega arith) (same ∙ rest-stop b bs is))

@@ -1,5 +1,5 @@
 -- A number that is too large counts as 2 ^ 32.
-use Rattle.std.proofs.Common.{◌≡◌, ℕ, ◌^◌, ◌≤◌, min, Bool, true, false, cond, List, [], ◌∷◌, Option, None, Some, refl, ◌∙◌, arith}
+use Rattle.std.proofs.Common.{◌≡◌, ℕ, ◌^◌, ◌≤◌, min, Bool, true, false, cond, List, [], ◌∷◌, None, Some, refl, ◌∙◌, arith}
 use Rattle.std.specs.Prelude.{IsSomeAnd}
 use Rattle.num_text.specs.Numbers.{is_digit, value_after, number_at, after_digits}
 use Rattle.num_text.specs.NumberRanges.{capped, capped_at}

@@ -1,7 +1,7 @@
 -- A range that is read is spelled so, and one that is spelled so is read.
-use Rattle.std.proofs.Common.{◌≡◌, ℕ, ◌^◌, ◌<◌, ◌≤◌, min, Bool, true, false, cond, eqb, ltb, List, [], ◌∷◌, ◌++◌, Option, None, Some, refl, sym, ap, subst, ◌∙◌, append_assoc, arith}
+use Rattle.std.proofs.Common.{◌≡◌, ℕ, ◌^◌, ◌<◌, min, Bool, true, false, cond, eqb, ltb, List, [], ◌∷◌, ◌++◌, Option, None, Some, refl, sym, ap, subst, ◌∙◌, append_assoc, arith}
 use Rattle.std.proofs.lemmas.Bool.{eqb-true, le-ltb}
-use Rattle.num_text.specs.Numbers.{number_at, IsNumeral, NoDigitFirst, BeginsWithNumeral}
+use Rattle.num_text.specs.Numbers.{number_at, NoDigitFirst, BeginsWithNumeral}
 use Rattle.num_text.specs.declared.range.NumberRange.{NumberRange}
 use Rattle.num_text.specs.NumberRanges.{one, two, with_second, behind_first, from_first, range_at, SpellsRange}
 use Rattle.num_text.proofs.Runs.{number-takes, number-again}
@@ -56,6 +56,7 @@ range-takes bytes x e small small2 = by (number_at bytes) refl e
         let same : (one n, rest) ≡ x = some_is (one n, rest) x (Some (one n, rest)) refl h in
         let t = number-takes bytes (n, rest) read in
         subst (TakesRange bytes) same (takes-one bytes t.0 n rest t.1 (small-one n x.0 (ap (λ (y : NumberRange × List ℕ). y.0) same) small))
+
     second : (n : ℕ) (middle : List ℕ) → number_at bytes ≡ Some (n, 44 ∷ middle) → (o : Option (ℕ × List ℕ)) → number_at middle ≡ o → with_second n o ≡ Some x → TakesRange bytes x
     second n middle read None read2 h = absurd cc
     second n middle read (Some m) read2 h =
@@ -64,12 +65,15 @@ range-takes bytes x e small small2 = by (number_at bytes) refl e
         let u = number-takes middle m read2 in
         let s = small-two n m.0 x.0 (ap (λ (y : NumberRange × List ℕ). y.0) same) small small2 in
         subst (TakesRange bytes) same (takes-two bytes t.0 u.0 n m.0 middle m.1 t.1 u.1 s.0 s.1)
+
     comma : (n b : ℕ) (rest : List ℕ) → number_at bytes ≡ Some (n, b ∷ rest) → (v : Bool) → eqb b 44 ≡ v → cond v (with_second n (number_at rest)) (Some (one n, b ∷ rest)) ≡ Some x → TakesRange bytes x
     comma n b rest read true is h = second n rest (read ∙ ap (λ c. Some (n, c ∷ rest)) (eqb-true b 44 is)) (number_at rest) refl h
     comma n b rest read false is h = alone n (b ∷ rest) read h
+
     behind : (n : ℕ) (rest : List ℕ) → number_at bytes ≡ Some (n, rest) → behind_first n rest ≡ Some x → TakesRange bytes x
     behind n [] read h = alone n [] read h
     behind n (b ∷ rest) read h = comma n b rest read (eqb b 44) refl h
+
     by : (o : Option (ℕ × List ℕ)) → number_at bytes ≡ o → from_first o ≡ Some x → TakesRange bytes x
     by None read h = absurd cc
     by (Some n) read h = behind n.0 n.1 read h
@@ -110,15 +114,19 @@ range-single bytes x e = by (number_at bytes) e
   where
     found : (r : NumberRange) (rest : List ℕ) → IsOne r → Some (r, rest) ≡ Some x → IsOne x.0
     found r rest one_is h = let same : (r, rest) ≡ x = some_is (r, rest) x (Some (r, rest)) refl h in subst (λ (y : NumberRange × List ℕ). IsOne y.0) same one_is
+
     second : (n : ℕ) (o : Option (ℕ × List ℕ)) → with_second n o ≡ Some x → IsOne x.0
     second n None h = absurd cc
     second n (Some m) h = found (two n m.0) m.1 (λ is. absurd cc) h
+
     comma : (n b : ℕ) (rest : List ℕ) (v : Bool) → cond v (with_second n (number_at rest)) (Some (one n, b ∷ rest)) ≡ Some x → IsOne x.0
     comma n b rest true h = second n (number_at rest) h
     comma n b rest false h = found (one n) (b ∷ rest) (λ is. refl) h
+
     behind : (n : ℕ) (rest : List ℕ) → behind_first n rest ≡ Some x → IsOne x.0
     behind n [] h = found (one n) [] (λ is. refl) h
     behind n (b ∷ rest) h = comma n b rest (eqb b 44) h
+
     by : (o : Option (ℕ × List ℕ)) → from_first o ≡ Some x → IsOne x.0
     by None h = absurd cc
     by (Some n) h = behind n.0 n.1 h

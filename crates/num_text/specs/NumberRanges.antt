@@ -1,5 +1,5 @@
 -- A number, or two with a comma between them.
-use Rattle.std.specs.Prelude.{◌≡◌, ℕ, ◌+◌, ◌-◌, ◌^◌, ◌≤◌, ◌⊎◌, min, Bool, true, false, nat_lt, ◌==◌, List, [], ◌∷◌, ◌++◌, slice_index_or, Option, None, Some, if◌then◌else◌}
+use Rattle.std.specs.Prelude.{◌≡◌, ℕ, ◌-◌, ◌^◌, ◌≤◌, min, Bool, true, false, nat_lt, ◌==◌, List, [], ◌∷◌, ◌++◌, slice_index_or, Option, None, Some, if◌then◌else◌}
 use Rattle.num_text.specs.Numbers.{number_at, IsNumeral}
 use Rattle.num_text.specs.declared.range.NumberRange.{NumberRange}
 

@@ -1,4 +1,4 @@
-use Rattle.std.proofs.Common.{◌≡◌, ◌≤◌, ◌-◌, arith, refl, slice_range, true, Some, sym, rules}
+use Rattle.std.proofs.Common.{◌≡◌, arith, refl, slice_range, true, rules}
 use Rattle.std.specs.Prelude.{is_some}
 use Rattle.hunk_core.specs.LineTests.{after}
 use Rattle.normal_form.specs.Stretches.{marks}

@@ -1,5 +1,4 @@
-use Rattle.std.proofs.Common.{subst, sym, arith, rules, drop, ◌≡◌, ◌≤◌}
-use Rattle.num_text.specs.Numbers.{after_digits}
+use Rattle.std.proofs.Common.{subst, sym, arith, rules, ◌≡◌}
 use Rattle.num_text.proofs.Below.{RunsTo, Agree, agree-on, agree-whole, decided}
 use Rattle.num_text.proofs.range.is_below.Goals as goal
 
