@@ -1,0 +1,302 @@
+-- A fault stays whatever lines come after the one behind its own.
+use Rattle.std.proofs.Common.{◌≡◌, ◌≢◌, ◌⊎◌, inl, inr, ℕ, zero, suc, ◌+◌, ◌-◌, ◌≤◌, ◌<◌, Bool, true, false, cond, eqb, ltb, ◌&&◌, ◌||◌, List, [], ◌∷◌, ◌++◌, length, Option, None, Some, Result, Ok, Err, refl, sym, ap, subst, ◌∙◌, arith}
+use Rattle.std.specs.Prelude.{is_some}
+use Rattle.std.proofs.lemmas.Bool.{cases_lt}
+use Rattle.std.proofs.lemmas.List.{length-append}
+use Rattle.hunk_core.specs.declared.BadKind.{BadKind}
+use Rattle.hunk_core.specs.declared.BadKind.TheVariants as kinds
+use Rattle.hunk_core.specs.declared.Side.{Side}
+use Rattle.hunk_core.specs.declared.Side.TheVariants.{Forward, Reversed}
+use Rattle.hunk_core.specs.PlainHunk.{Marked, PlainHunk}
+use Rattle.hunk_core.specs.LineTests.{after, unended, is_backslash, after_backslash}
+use Rattle.hunk_core.specs.Reading.{◌>>=◌, Fault, fault, Ahead, ahead}
+use Rattle.hunk_core.proofs.ReadSteps.{chosen}
+use Rattle.normal_form.specs.FirstFault.{AgreeTo}
+use Rattle.normal_form.specs.declared.command.Action.{Action}
+use Rattle.normal_form.specs.declared.command.Action.TheVariants.{Add, Change, Delete}
+use Rattle.normal_form.specs.declared.command.Command.{Command}
+use Rattle.normal_form.specs.declared.command.Parts.{Parts}
+use Rattle.normal_form.specs.Commands.{takes_lines, is_bad_range, is_too_large, command, placed, from_parts, parts_at, opening, is_command}
+use Rattle.normal_form.specs.Stretches.{marks, unmarked, must_be_marked, marked_at, ended_by, first_line, line_at, stretch_at, is_divider, first_divider, divider_at}
+use Rattle.normal_form.specs.Hunks.{at_line, body_at, change, settled, first_hunk, hunk_at, begins_marked, begins_hunk, hunks_at, reading}
+use Rattle.normal_form.specs.Grammar.{IsPiece}
+use Rattle.normal_form.proofs.Steady.{failed, bind_err, agree_head, agree_less, Steady, steady-then, steady-value, one_line, with_rest, steady-same, FailsHere, steady-line, peek_by, steady-peek}
+use Rattle.normal_form.proofs.HunkLoops.{hunks_step}
+use Rattle.normal_form.proofs.Pieces.{hunk-shrinks, reading_again}
+
+-- ---- lines
+
+here-is : (number : ℕ) (kind : BadKind) (e : Fault) → kind ≢ kinds.ShortEnd → fault number kind ≡ e → (e.line ≡ number) × (e.kind ≢ kinds.ShortEnd)
+here-is number kind e ne is = (sym (ap (λ (x : Fault). x.line) is), λ short. ne (ap (λ (x : Fault). x.kind) is ∙ short))
+
+err_fault : {A : Type 0} (d e : Fault) → failed {A = A} d ≡ failed e → d ≡ e
+err_fault d e h = cc
+
+unmarked-kind : (line : List ℕ) → unmarked line ≢ kinds.ShortEnd
+unmarked-kind line = by (is_backslash line)
+  where
+    by : (b : Bool) → cond b kinds.MisplacedBackslash kinds.Mark ≢ kinds.ShortEnd
+    by true = λ h. cc
+    by false = λ h. cc
+
+marked-here : (side : Side) → FailsHere (λ number line. marked_at number side line)
+marked-here side number line e h = by (after (marks side) line) h
+  where
+    by : (o : Option (List ℕ)) → must_be_marked number side line o ≡ Err e → (e.line ≡ number) × (e.kind ≢ kinds.ShortEnd)
+    by None h = here-is number (unmarked line) e (unmarked-kind line) (err_fault {A = Marked} _ e h)
+    by (Some bytes) h = absurd cc
+
+assoc : {A B : Type 0} (r : Result A Fault) (q : Ahead) (g : A → Ahead → Result (B × Ahead) Fault) → ((r >>= with_rest q) >>= λ x. g x.0 x.1) ≡ (r >>= λ a. g a q)
+assoc (Ok a) q g = refl
+assoc (Err d) q g = refl
+
+abbrev ended : ℕ → Marked → Ahead → Result (Marked × Ahead) Fault
+ended left m q = peek_by m (cond (eqb left 0) (Some (unended m)) None) q (after_backslash q.rest)
+
+ended-same : (left : ℕ) (m : Marked) (q : Ahead) (o : Option (List (List ℕ))) → peek_by m (cond (eqb left 0) (Some (unended m)) None) q o ≡ ended_by m left q o
+ended-same left m q None = by (eqb left 0)
+  where
+    by : (b : Bool) → peek_by m (cond b (Some (unended m)) None) q None ≡ Ok (m, q)
+    by true = refl
+    by false = refl
+ended-same left m q (Some more) = by (eqb left 0)
+  where
+    by : (b : Bool) → peek_by m (cond b (Some (unended m)) None) q (Some more) ≡ cond b (Ok (unended m, ahead (q.number + 1) more)) (Err (fault q.number kinds.MisplacedBackslash))
+    by true = refl
+    by false = refl
+
+line-same : (side : Side) (left number : ℕ) (lines : List (List ℕ)) → (one_line (λ n l. marked_at n side l) number lines >>= λ x. ended left x.0 x.1) ≡ first_line side left number lines
+unfolding first_line
+line-same side left number [] = refl
+line-same side left number (line ∷ rest) = assoc (marked_at number side line) (ahead (number + 1) rest) (ended left) ∙ by (marked_at number side line)
+  where
+    by : (r : Result Marked Fault) → (r >>= λ m. ended left m (ahead (number + 1) rest)) ≡ (r >>= λ m. ended_by m left (ahead (number + 1) rest) (after_backslash rest))
+    by (Ok m) = ended-same left m (ahead (number + 1) rest) (after_backslash rest)
+    by (Err d) = refl
+
+steady-marked : (side : Side) (left : ℕ) → Steady (line_at side left)
+steady-marked side left = steady-same (λ p. one_line (λ n l. marked_at n side l) p.number p.rest >>= λ x. ended left x.0 x.1) (line_at side left) (λ p. line-same side left p.number p.rest)
+    (steady-then (λ p. one_line (λ n l. marked_at n side l) p.number p.rest) (ended left) (steady-line (λ n l. marked_at n side l) (marked-here side)) (λ m. steady-peek m (cond (eqb left 0) (Some (unended m)) None)))
+
+steady-stretch : (side : Side) (left : ℕ) (before : List Marked) → Steady (stretch_at side left before)
+unfolding stretch_at
+steady-stretch side zero before = steady-value before
+steady-stretch side (suc left) before = steady-then (line_at side left) (λ m. stretch_at side left (before ++ m ∷ [])) (steady-marked side left) (λ m. steady-stretch side left (before ++ m ∷ []))
+
+-- ---- the line between
+
+abbrev nothing : Unit {0}
+nothing = tt
+
+abbrev divided : Bool → ℕ → List ℕ → Result (Unit {0}) Fault
+divided b number line = cond b (Ok nothing) (Err (fault number (unmarked line)))
+
+abbrev dividing : ℕ → List ℕ → Result (Unit {0}) Fault
+dividing number line = divided (is_divider line) number line
+
+dividing-here : FailsHere dividing
+dividing-here number line e h = by (is_divider line) h
+  where
+    by : (b : Bool) → divided b number line ≡ failed {A = Unit {0}} e → (e.line ≡ number) × (e.kind ≢ kinds.ShortEnd)
+    by true h = absurd cc
+    by false h = here-is number (unmarked line) e (unmarked-kind line) (err_fault {A = Unit {0}} _ e h)
+
+abbrev divides_to : Bool → ℕ → List ℕ → List (List ℕ) → Result (Unit {0} × Ahead) Fault
+divides_to b number line rest = cond b (Ok (nothing, ahead (number + 1) rest)) (Err (fault number (unmarked line)))
+
+divided-by : (b : Bool) (number : ℕ) (line : List ℕ) (rest : List (List ℕ)) → (divided b number line >>= with_rest (ahead (number + 1) rest)) ≡ divides_to b number line rest
+divided-by true number line rest = refl
+divided-by false number line rest = refl
+
+divider-same : (number : ℕ) (lines : List (List ℕ)) → one_line dividing number lines ≡ first_divider number lines
+unfolding first_divider
+divider-same number [] = refl
+divider-same number (line ∷ rest) = divided-by (is_divider line) number line rest
+
+steady-divider : (action : Action) → Steady (divider_at action)
+steady-divider Add = steady-value tt
+steady-divider Change = steady-same (λ p. one_line dividing p.number p.rest) (divider_at Change) (λ p. divider-same p.number p.rest) (steady-line dividing dividing-here)
+steady-divider Delete = steady-value tt
+
+-- ---- a hunk
+
+steady-body : (c : Command) → Steady (body_at c)
+unfolding body_at
+steady-body c = steady-then (stretch_at Forward c.old_count []) (λ old q. divider_at c.action q >>= λ middle. stretch_at Reversed c.new_count old middle.1) (steady-stretch Forward c.old_count [])
+    (λ old. steady-then (divider_at c.action) (λ none. stretch_at Reversed c.new_count old) (steady-divider c.action) (λ none. steady-stretch Reversed c.new_count old))
+
+opening-kind : (least : ℕ) (line : List ℕ) (kind : BadKind) → opening least line ≡ Err kind → kind ≢ kinds.ShortEnd
+opening-kind least line kind h = by (parts_at line) h
+  where
+    is : (k : BadKind) → (x : Result Command BadKind) → x ≡ Err k → k ≢ kinds.ShortEnd → x ≡ Err kind → kind ≢ kinds.ShortEnd
+    is k x e ne f = subst (λ z. z ≢ kinds.ShortEnd) (let same : k ≡ kind = cc in same) ne
+
+    order : (c : Command) (b : Bool) → cond b (Err kinds.HunkOrder) (Ok c) ≡ Err kind → kind ≢ kinds.ShortEnd
+    order c true h = is kinds.HunkOrder (Err kinds.HunkOrder) refl (λ z. cc) h
+    order c false h = absurd cc
+
+    large : (c : Command) (b : Bool) → cond b (Err kinds.NumberTooLarge) (cond (ltb c.old_start least) (Err kinds.HunkOrder) (Ok c)) ≡ Err kind → kind ≢ kinds.ShortEnd
+    large c true h = is kinds.NumberTooLarge (Err kinds.NumberTooLarge) refl (λ z. cc) h
+    large c false h = order c (ltb c.old_start least) h
+
+    bad : (p : Parts) (b : Bool) → cond b (Err kinds.Range) (placed least (command p)) ≡ Err kind → kind ≢ kinds.ShortEnd
+    bad p true h = is kinds.Range (Err kinds.Range) refl (λ z. cc) h
+    bad p false h = large (command p) (is_too_large (command p).old_start (command p).old_count || is_too_large (command p).new_start (command p).new_count) h
+
+    by : (o : Option Parts) → from_parts least o ≡ Err kind → kind ≢ kinds.ShortEnd
+    by None h = is kinds.Range (Err kinds.Range) refl (λ z. cc) h
+    by (Some p) h = bad p (is_bad_range p.old (takes_lines p.action Forward) || is_bad_range p.new (takes_lines p.action Reversed)) h
+
+opening-here : (least : ℕ) → FailsHere (λ number line. at_line number (opening least line))
+opening-here least number line e h = by (opening least line) refl h
+  where
+    by : (o : Result Command BadKind) → opening least line ≡ o → at_line number o ≡ Err e → (e.line ≡ number) × (e.kind ≢ kinds.ShortEnd)
+    by (Ok c) is h = absurd cc
+    by (Err kind) is h = here-is number kind e (opening-kind least line kind is) (err_fault {A = Command} _ e h)
+
+abbrev settles : Command → List Marked → Ahead → Result (PlainHunk × Ahead) Fault
+settles c body q = settled (change c body) q
+
+settled-same : (h : PlainHunk) (q : Ahead) (o : Option (List (List ℕ))) → peek_by h None q o ≡ cond (is_some o) (Err (fault q.number kinds.MisplacedBackslash)) (Ok (h, q))
+settled-same h q None = refl
+settled-same h q (Some more) = refl
+
+steady-settled : (h : PlainHunk) → Steady (settled h)
+steady-settled h = steady-same (λ q. peek_by h None q (after_backslash q.rest)) (settled h) (λ q. settled-same h q (after_backslash q.rest)) (steady-peek h None)
+
+abbrev with_body : Command → Ahead → Result (PlainHunk × Ahead) Fault
+with_body c q = body_at c q >>= λ body. settled (change c body.0) body.1
+
+hunk-same : (least number : ℕ) (lines : List (List ℕ)) → (one_line (λ n l. at_line n (opening least l)) number lines >>= λ x. with_body x.0 x.1) ≡ first_hunk least number lines
+unfolding first_hunk
+hunk-same least number [] = refl
+hunk-same least number (line ∷ rest) = assoc (at_line number (opening least line)) (ahead (number + 1) rest) with_body
+
+steady-hunk : (least : ℕ) → Steady (hunk_at least)
+steady-hunk least = steady-same (λ p. one_line (λ n l. at_line n (opening least l)) p.number p.rest >>= λ x. with_body x.0 x.1) (hunk_at least) (λ p. hunk-same least p.number p.rest)
+    (steady-then (λ p. one_line (λ n l. at_line n (opening least l)) p.number p.rest) with_body (steady-line (λ n l. at_line n (opening least l)) (opening-here least))
+    (λ c. steady-then (body_at c) (λ body. settled (change c body)) (steady-body c) (λ body. steady-settled (change c body))))
+
+-- ---- hunks that follow each other
+
+marked_too : (last number : ℕ) (rest others : List (List ℕ)) → AgreeTo last number rest others → number ≤ last → begins_marked rest ≡ true → begins_marked others ≡ true
+marked_too last number [] others agree le e = absurd cc
+marked_too last number (line ∷ rest) others agree le e = let a = agree_head last number line rest others agree le in rw a.1 e
+
+both : (x y : Bool) → (x && y) ≡ true → (x ≡ true) × (y ≡ true)
+both true y e = (refl, e)
+both false y e = absurd cc
+
+begins_again : (line : List ℕ) (rest : List (List ℕ)) → is_command line ≡ true → begins_marked rest ≡ true → begins_hunk (line ∷ rest) ≡ true
+begins_again line rest c m = rw (c, m) refl
+
+begins_too : (last number : ℕ) (rest others : List (List ℕ)) → AgreeTo last number rest others → number + 1 ≤ last → begins_hunk rest ≡ true → begins_hunk others ≡ true
+begins_too last number [] others agree le e = absurd cc
+begins_too last number (line ∷ rest) others agree le e =
+    let a = agree_head last number line rest others agree (omega (arith, le)) in
+    let b = both (is_command line) (begins_marked rest) e in
+    ap begins_hunk a.1 ∙ begins_again line a.0 b.0 (marked_too last (number + 1) rest a.0 a.2 le b.1)
+
+begins_some : (rest : List (List ℕ)) → begins_hunk rest ≡ true → 0 < length rest
+begins_some [] e = absurd cc
+begins_some (line ∷ rest) e = omega arith
+
+abbrev more_hunks : ℕ → PlainHunk × Ahead → Result (List PlainHunk × Ahead) Fault
+more_hunks most first = hunks_at most first.0.old_start first.1 >>= λ others. Ok (first.0 ∷ others.0, others.1)
+
+abbrev put_first : PlainHunk → List PlainHunk × Ahead → Result (List PlainHunk × Ahead) Fault
+put_first h others = Ok (h ∷ others.0, others.1)
+
+add_err : (h : PlainHunk) (r : Result (List PlainHunk × Ahead) Fault) (e : Fault) → (r >>= put_first h) ≡ Err e → r ≡ Err e
+add_err h (Ok x) e f = absurd (let bad : put_first h x ≡ failed {A = List PlainHunk × Ahead} e = f in cc)
+add_err h (Err d) e f = ap (λ x. Err x) (err_fault {A = List PlainHunk × Ahead} d e f)
+
+pub hunks_low : (most least : ℕ) (p : Ahead) (e : Fault) → hunks_at most least p ≡ Err e → (p.number ≤ e.line) × (e.kind ≡ kinds.ShortEnd → e.line ≡ p.number + length p.rest)
+unfolding hunks_at
+hunks_low zero least p e h = absurd cc
+hunks_low (suc most) least p e h =
+    elim (chosen (begins_hunk p.rest) _ _ (Err e) h) [
+      | inl some ↦ elim (bind_err (hunk_at least p) (more_hunks most) e some.1) [
+        | inl bad ↦ (steady-hunk least).low p e bad
+        | inr good ↦ (
+            let up = (steady-hunk least).up p good.0 good.1 in
+            let l = hunks_low most good.0.0.old_start good.0.1 e (add_err good.0.0 (hunks_at most good.0.0.old_start good.0.1) e good.2) in
+            (omega (arith, up.0, l.0), λ short. l.1 short ∙ up.1))
+      ]
+      | inr none ↦ absurd (let bad : Ok ([], p) ≡ failed {A = List PlainHunk × Ahead} e = none.1 in cc)
+    ]
+
+hunks_err : (most least : ℕ) (p : Ahead) (e : Fault) → begins_hunk p.rest ≡ true → hunk_at least p ≡ Err e → hunks_at (suc most) least p ≡ Err e
+hunks_err most least p e begins h = hunks_step most least p begins ∙ (rw h refl)
+
+hunks_on : (most least : ℕ) (p : Ahead) (x : PlainHunk × Ahead) (e : Fault) → begins_hunk p.rest ≡ true → hunk_at least p ≡ Ok x → hunks_at most x.0.old_start x.1 ≡ Err e → hunks_at (suc most) least p ≡ Err e
+hunks_on most least p x e begins h more = hunks_step most least p begins ∙ (rw (h, more) refl)
+
+pub hunks_stay : (most most2 least : ℕ) (p : Ahead) (others : List (List ℕ)) (e : Fault) → hunks_at most least p ≡ Err e → e.kind ≢ kinds.ShortEnd → AgreeTo (e.line + 1) p.number p.rest others → length others ≤ most2 → hunks_at most2 least (ahead p.number others) ≡ Err e
+unfolding hunks_at
+hunks_stay zero most2 least p others e h long agree enough = absurd cc
+hunks_stay (suc most) most2 least p others e h long agree enough =
+    let low = hunks_low (suc most) least p e h in
+    elim (chosen (begins_hunk p.rest) _ _ (Err e) h) [
+      | inl some ↦ (
+          let begins = begins_too (e.line + 1) p.number p.rest others agree (omega (arith, low.0)) some.0 in
+          let k : most2 ≡ suc (most2 - 1) = omega (arith, enough, begins_some others begins) in
+          subst (λ n. hunks_at n least (ahead p.number others) ≡ Err e) (sym k) (elim (bind_err (hunk_at least p) (more_hunks most) e some.1) [
+            | inl bad ↦ hunks_err (most2 - 1) least (ahead p.number others) e begins ((steady-hunk least).stays p others e bad long (agree_less (e.line + 1) e.line p.number p.rest others (omega arith) agree))
+            | inr good ↦ (
+                let x = good.0 in
+                let rest : hunks_at most x.0.old_start x.1 ≡ Err e = add_err x.0 (hunks_at most x.0.old_start x.1) e good.2 in
+                let there = hunks_low most x.0.old_start x.1 e rest in
+                let go = (steady-hunk least).goes (e.line + 1) p others x good.1 (omega (arith, there.0)) agree in
+                let fewer : length go.rest ≤ most2 - 1 = omega (arith, enough, hunk-shrinks least p.number others (x.0, ahead x.1.number go.rest) go.read) in
+                hunks_on (most2 - 1) least (ahead p.number others) (x.0, ahead x.1.number go.rest) e begins go.read (hunks_stay most (most2 - 1) x.0.old_start x.1 go.rest e rest long go.agree fewer))
+          ]))
+      | inr none ↦ absurd (let bad : Ok ([], p) ≡ failed {A = List PlainHunk × Ahead} e = none.1 in cc)
+    ]
+
+-- ---- the first fault
+
+pub fault-stays : (number : ℕ) (lines others : List (List ℕ)) (e : Fault) → reading number lines ≡ Err e → e.kind ≢ kinds.ShortEnd → AgreeTo (e.line + 1) number lines others → reading number others ≡ Err e
+fault-stays number lines others e h long agree = hunks_stay (length lines) (length others) 0 (ahead number lines) others e h long agree (omega arith)
+
+pub fault-short : (number : ℕ) (lines : List (List ℕ)) (e : Fault) → reading number lines ≡ Err e → e.kind ≡ kinds.ShortEnd → e.line ≡ number + length lines
+fault-short number lines e h short = (hunks_low (length lines) 0 (ahead number lines) e h).1 short
+
+pub fault-unspelled : (number : ℕ) (lines others : List (List ℕ)) (e : Fault) (hs : List PlainHunk) (next : ℕ) (rest : List (List ℕ)) → reading number lines ≡ Err e → e.kind ≢ kinds.ShortEnd → AgreeTo (e.line + 1) number lines others → IsPiece number others hs next rest → ⊥
+fault-unspelled number lines others e hs next rest h long agree piece =
+    let fails = fault-stays number lines others e h long agree in
+    let reads = reading_again number others hs next rest piece in
+    cc
+
+agree_past : (last number : ℕ) (lines others : List (List ℕ)) → last < number → AgreeTo last number lines others
+agree_past last number [] others past = past
+agree_past last number (line ∷ lines) [] past = past
+agree_past last number (line ∷ lines) (other ∷ others) past = ((λ le. absurd (omega (arith, past, le))), agree_past last (number + 1) lines others (omega (arith, past)))
+
+agree_front : (last number : ℕ) (front behind others : List (List ℕ)) → last < number + length front → AgreeTo last number (front ++ behind) (front ++ others)
+agree_front last number [] behind others past = agree_past last number behind others (omega (arith, past))
+agree_front last number (line ∷ front) behind others past = ((λ le. refl), agree_front last (number + 1) front behind others (omega (arith, past)))
+
+short_or : (k : BadKind) → (k ≡ kinds.ShortEnd) ⊎ (k ≢ kinds.ShortEnd)
+short_or kinds.Range = inr (λ h. cc)
+short_or kinds.Mark = inr (λ h. cc)
+short_or kinds.Count = inr (λ h. cc)
+short_or kinds.ShortEnd = inl refl
+short_or kinds.NumberTooLarge = inr (λ h. cc)
+short_or kinds.SidesDiffer = inr (λ h. cc)
+short_or kinds.MisplacedBackslash = inr (λ h. cc)
+short_or kinds.EdCommand = inr (λ h. cc)
+short_or kinds.EdOrder = inr (λ h. cc)
+short_or kinds.EdNoDot = inr (λ h. cc)
+short_or kinds.Binary = inr (λ h. cc)
+short_or kinds.HunkOrder = inr (λ h. cc)
+
+pub fault-late : (number : ℕ) (front behind others : List (List ℕ)) (e : Fault) (hs : List PlainHunk) (next : ℕ) (rest : List (List ℕ)) → IsPiece number (front ++ others) hs next rest → reading number (front ++ behind) ≡ Err e → number + length front ≤ e.line + 1
+fault-late number front behind others e hs next rest piece h =
+    elim (cases_lt (e.line + 1) (number + length front)) [
+      | inl early ↦ elim (short_or e.kind) [
+        | inl short ↦ omega (arith, fault-short number (front ++ behind) e h short, length-append front behind)
+        | inr long ↦ absurd (fault-unspelled number (front ++ behind) (front ++ others) e hs next rest h long (agree_front (e.line + 1) number front behind others early) piece)
+      ]
+      | inr late ↦ late
+    ]

@@ -1,0 +1,7 @@
+use Rattle.std.proofs.Common.{take}
+use Rattle.hunk_core.proofs.SinkSteps.{HasPut}
+use Rattle.normal_form.proofs.WritingLemmas.{written}
+use Rattle.normal_form.proofs.writing.put_side.Given as goal
+
+abbrev pub invariant-loop-i : goal.invariant-loop-i
+invariant-loop-i g l = HasPut g.O.Sink.view g.O.Sink.same_rest l.fn.out l.out (written l.text l.on l.side (take l.i l.hunk.body.items))

@@ -1,0 +1,89 @@
+-- The grammar of the normal form, apart from any reading: which lines spell which hunks.
+use Rattle.std.specs.Prelude.{◌≡◌, ℕ, ◌+◌, ◌-◌, ◌≤◌, Bool, true, false, List, [], ◌∷◌, ◌++◌, length, map, take, None}
+use Rattle.hunk_core.specs.declared.Side.{Side}
+use Rattle.hunk_core.specs.declared.Side.TheVariants.{Forward, Reversed}
+use Rattle.hunk_core.specs.PlainHunk.{Marked, PlainHunk}
+use Rattle.hunk_core.specs.LineTests.{marked, is_backslash, after_backslash}
+use Rattle.num_text.specs.Numbers.{IsNumeral}
+use Rattle.num_text.specs.NumberRanges.{SpellsRange}
+use Rattle.normal_form.specs.declared.command.Action.{Action}
+use Rattle.normal_form.specs.declared.command.Action.TheVariants.{Add, Change, Delete}
+use Rattle.normal_form.specs.declared.command.Command.{Command}
+use Rattle.normal_form.specs.Commands.{takes_lines, is_line_end, Fits}
+use Rattle.normal_form.specs.Stretches.{marks, own_mark, is_divider}
+use Rattle.normal_form.specs.Hunks.{begins_hunk}
+
+-- lines of a body that are on this side alone
+abbrev pub on_side : Side → List (List ℕ) → List Marked
+on_side side ls = map (marked (own_mark side)) ls
+
+-- the lines that a line of this side takes, before these others: itself behind '< ' or '> ', and a backslash line where it is the last and has no line feed
+abbrev pub SpellsLine : Side → List (List ℕ) → List ℕ → List (List ℕ) → Type 0
+SpellsLine side [] l others = ⊥
+SpellsLine side (line ∷ []) l others = line ≡ marks side ++ l
+SpellsLine side (line ∷ mark ∷ []) l others = (is_backslash mark ≡ true) × (others ≡ []) × (full : List ℕ) × (line ≡ marks side ++ full) × (l ≡ take (length full - 1) full)
+SpellsLine side (line ∷ mark ∷ other ∷ more) l others = ⊥
+
+-- these lines are these of this side
+abbrev pub SpellsStretch : Side → List (List ℕ) → List (List ℕ) → Type 0
+SpellsStretch side piece [] = piece ≡ []
+SpellsStretch side piece (l ∷ ls) = (own : List (List ℕ)) × (rest : List (List ℕ)) × (piece ≡ own ++ rest) × SpellsLine side own l ls × SpellsStretch side rest ls
+
+-- 'a' has the new lines, 'd' the old ones; 'c' has the old ones, '---' and the new ones
+abbrev pub SpellsBody : Action → List (List ℕ) → List (List ℕ) → List (List ℕ) → Type 0
+SpellsBody Add piece olds news = (olds ≡ []) × SpellsStretch Reversed piece news
+SpellsBody Change piece olds news = (old : List (List ℕ)) × (line : List ℕ) × (new : List (List ℕ)) × (piece ≡ old ++ line ∷ new) × SpellsStretch Forward old olds × (is_divider line ≡ true) × SpellsStretch Reversed new news
+SpellsBody Delete piece olds news = SpellsStretch Forward piece olds × (news ≡ [])
+
+-- lines from start on, one number or two with a comma; or the place behind the line start, one number
+abbrev pub SpellsSpan : List ℕ → Bool → ℕ → ℕ → Type 0
+SpellsSpan text true start count = (single : Bool) × (last : ℕ) × SpellsRange text single start last × (1 ≤ start) × (start ≤ last) × (start + count ≡ last + 1)
+SpellsSpan text false start count = IsNumeral text start × (count ≡ 0)
+
+-- 'a', 'c' or 'd'
+abbrev pub letter : Action → ℕ
+letter Add = 97
+letter Change = 99
+letter Delete = 100
+
+-- the old lines, a letter, the new lines, and nothing more
+pub record SpellsCommand (line : List ℕ) (c : Command) : Type 0 where
+  pub old : List ℕ
+  pub new : List ℕ
+  pub rest : List ℕ
+  pub parts : line ≡ old ++ letter c.action ∷ (new ++ rest)
+  pub ends : is_line_end rest ≡ true
+  pub old_span : SpellsSpan old (takes_lines c.action Forward) c.old_start c.old_count
+  pub new_span : SpellsSpan new (takes_lines c.action Reversed) c.new_start c.new_count
+
+-- no number is too large, and the old start is not below the least
+pub record AreFair (least : ℕ) (c : Command) : Type 0 where
+  pub fits : Fits c
+  pub order : least ≤ c.old_start
+
+-- the command of a hunk with these old and new lines
+abbrev pub command_of : Action → PlainHunk → List (List ℕ) → List (List ℕ) → Command
+command_of action h olds news = record { action = action; old_start = h.old_start; old_count = length olds; new_start = h.new_start; new_count = length news }
+
+-- these lines are this hunk, behind one that starts at least: old lines, and then new ones
+abbrev pub SpellsHunk : ℕ → List (List ℕ) → PlainHunk → Type 0
+SpellsHunk least [] h = ⊥
+SpellsHunk least (line ∷ rest) h = (action : Action) × (olds : List (List ℕ)) × (news : List (List ℕ)) × (h.body ≡ on_side Forward olds ++ on_side Reversed news)
+    × SpellsCommand line (command_of action h olds news) × AreFair least (command_of action h olds news) × SpellsBody action rest olds news
+
+-- these lines are these hunks, the first behind one that starts at least
+abbrev pub SpellsHunks : ℕ → List (List ℕ) → List PlainHunk → Type 0
+SpellsHunks least piece [] = piece ≡ []
+SpellsHunks least piece (h ∷ hs) = (own : List (List ℕ)) × (rest : List (List ℕ)) × (piece ≡ own ++ rest) × SpellsHunk least own h × SpellsHunks h.old_start rest hs
+
+-- neither a hunk nor a backslash line follows
+abbrev pub EndsPiece : List (List ℕ) → Type 0
+EndsPiece rest = (begins_hunk rest ≡ false) × (after_backslash rest ≡ None)
+
+-- the lines ahead are these hunks, and then this rest, whose first line has this number
+pub record IsPiece (number : ℕ) (lines : List (List ℕ)) (hs : List PlainHunk) (next : ℕ) (rest : List (List ℕ)) : Type 0 where
+  pub own : List (List ℕ)
+  pub parts : lines ≡ own ++ rest
+  pub spelled : SpellsHunks 0 own hs
+  pub ends : EndsPiece rest
+  pub counted : next ≡ number + length own

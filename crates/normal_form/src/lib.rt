@@ -1,0 +1,13 @@
+//! The normal form of a patch (GNU diffutils manual, "Detailed Description of Normal Format").
+#![tactic(auto)]
+
+mod command;
+mod hunks;
+mod stretch;
+mod writing;
+
+pub use hunks::{at_opening, first_faults, read_hunks};
+pub use writing::{is_in_order, put_hunk};
+
+#[cfg(test)]
+mod tests;
