@@ -60,7 +60,10 @@ fn read_bytes<T: Tree>(alloc: Global, tree: &mut T, name: &Name) -> Result<Vec<u
     text.truncate(size as usize);
     match tree.read_at(name, 0, &mut text) {
         Ok(count) => {
-            text.truncate(count);
+            if count < text.len() {
+                let got = count as u64;
+                return Err(Why::Disagree { want: size, got });
+            }
             Ok(text)
         }
         Err(_) => Err(Why::TreeFault),
