@@ -4,14 +4,17 @@
 ghost use Rattle.std.specs.Prelude.{◌≤◌, length, IfOk};
 
 use std::alloc::Global;
-use std::fs::{File, Metadata, OpenOptions};
+use std::fs::{File, Metadata, OpenFile, OpenOptions, Permissions};
 use std::io::{BufWriter, ErrorKind, Write};
-use std::os::unix::fs::FileExt;
+use std::os::unix::fs::{FileExt, OpenOptionsExt, PermissionsExt};
 use std::rt::Files;
 use std::{fs, io};
 
 /// How many bytes are gathered before they are written.
 const PIECE: usize = 65_536;
+
+/// Who may read, write and run a file; the bits for sets of users and groups are never carried, since the owner isn't.
+const PERMISSION_BITS: u32 = 0o777;
 
 /// The file that was read last, kept open for its next piece.
 #[derive(Drop)]
@@ -27,14 +30,20 @@ struct Writing {
     writer: BufWriter<File>,
 }
 
+/// A directory in which a name was made, moved or taken away since the names were last synced.
+#[derive(Drop)]
+struct Unsynced {
+    name: String,
+    directory: File,
+}
+
 #[derive(Drop)]
 pub struct OpenFiles<'r, R: Files<File = File>> {
     rt: &'r R,
     alloc: Global,
     reading: Option<Reading>,
     writing: Option<Writing>,
-    /// Directories in which a name was made, moved or taken away since the names were last synced.
-    unsynced: Vec<String>,
+    unsynced: Vec<Unsynced>,
 }
 
 impl<'r, R: Files<File = File>> OpenFiles<'r, R> {
@@ -79,11 +88,22 @@ impl<'r, R: Files<File = File>> OpenFiles<'r, R> {
         }
     }
 
-    /// Takes an old file of that name away, makes the directories that are missing, and a new file that is empty.
+    /// Takes an old file of that name away, makes the directories that are missing, and a new file that is empty. Until it
+    /// is sealed, only its owner reads one that is to replace a file.
     pub fn start(&mut self, name: &str) -> io::Result<()> {
-        self.close(name)?;
+        if is_named(&self.reading, name) {
+            self.reading = None;
+        }
+        if self.is_writing(name) {
+            self.writing = None;
+        }
         self.finish_writing()?;
         self.make_directories(name)?;
+        self.note_directory(name)?;
+        let mode = match replaced_bits(self.rt, name)? {
+            Some(_) => 0o600,
+            None => 0o666,
+        };
         let kept = String::from_str(self.alloc, name)?;
         match fs::remove_file(self.rt, name) {
             Ok(()) => {}
@@ -93,8 +113,8 @@ impl<'r, R: Files<File = File>> OpenFiles<'r, R> {
         let file = OpenOptions::new()
             .write(true)
             .create_new(true)
+            .mode(mode)
             .open(self.rt, name)?;
-        self.note_directory(name)?;
         let writer = BufWriter::with_capacity(self.alloc, PIECE, file)?;
         self.writing = Some(Writing { name: kept, writer });
         Ok(())
@@ -109,13 +129,18 @@ impl<'r, R: Files<File = File>> OpenFiles<'r, R> {
         }
     }
 
-    /// Writes what was gathered, and syncs the file.
+    /// Writes what was gathered, gives the file the permission bits of the one that it is to replace, and syncs it.
     pub fn seal(&mut self, name: &str) -> io::Result<()> {
         self.resume_writing(name)?;
+        let bits = replaced_bits(self.rt, name)?;
         match &mut self.writing {
             Some(writing) => {
                 writing.writer.flush()?;
-                writing.writer.get_ref().sync_all()?;
+                let file = writing.writer.get_ref();
+                if let Some(bits) = bits {
+                    set_bits(file, bits)?;
+                }
+                file.sync_all()?;
             }
             None => return Err(io::Error::from(ErrorKind::NotFound)),
         }
@@ -123,14 +148,16 @@ impl<'r, R: Files<File = File>> OpenFiles<'r, R> {
         Ok(())
     }
 
-    /// Renames the temporary. The permission bits of a file that it replaces are kept.
+    /// Renames the temporary. Nothing but a regular file is ever replaced.
     pub fn swap(&mut self, temp: &str, to: &str) -> io::Result<()> {
         self.close(temp)?;
         self.close(to)?;
-        match plain_metadata(self.rt, to)? {
-            Some(old) if old.is_file() => fs::set_permissions(self.rt, temp, old.permissions())?,
-            Some(_) => return Err(io::Error::from(ErrorKind::AlreadyExists)),
-            None => {}
+        if !lies_in_directories(self.rt, to)? {
+            return Err(io::Error::from(ErrorKind::NotADirectory));
+        }
+        match found_at(self.rt, to)? {
+            Some(old) if !old.is_file() => return Err(io::Error::from(ErrorKind::AlreadyExists)),
+            _ => {}
         }
         self.note_directory(temp)?;
         self.note_directory(to)?;
@@ -149,8 +176,8 @@ impl<'r, R: Files<File = File>> OpenFiles<'r, R> {
 
     /// Syncs each directory in which a name was made, moved or taken away.
     pub fn sync_directories(&mut self) -> io::Result<()> {
-        for directory in &self.unsynced {
-            File::open(self.rt, directory.as_str())?.sync_all()?;
+        for unsynced in &self.unsynced {
+            unsynced.directory.sync_all()?;
         }
         self.unsynced.clear();
         Ok(())
@@ -244,17 +271,25 @@ impl<'r, R: Files<File = File>> OpenFiles<'r, R> {
         }
     }
 
-    /// Keeps the directory that a name stands in, to be synced.
+    /// Keeps the directory that a name stands in, to be synced. It is opened before anything in it changes, so that one that
+    /// can't be synced is a fault before the change.
     fn note_directory(&mut self, name: &str) -> io::Result<()> {
-        let directory = match name.rsplit_once('/') {
-            Some((directory, _)) => directory,
+        let path = match name.rsplit_once('/') {
+            Some((path, _)) => path,
             None => ".",
         };
-        if !self.unsynced.iter().any(|kept| kept.as_str() == directory) {
-            self.unsynced
-                .push(String::from_str(self.alloc, directory)?)?;
+        if !self.is_noted(path) {
+            let directory = File::open(self.rt, path)?;
+            let name = String::from_str(self.alloc, path)?;
+            self.unsynced.push(Unsynced { name, directory })?;
         }
         Ok(())
+    }
+
+    fn is_noted(&self, path: &str) -> bool {
+        self.unsynced
+            .iter()
+            .any(|noted| noted.name.as_str() == path)
     }
 }
 
@@ -278,17 +313,44 @@ fn is_missing(kind: ErrorKind) -> bool {
     kind == ErrorKind::NotFound || kind == ErrorKind::NotADirectory
 }
 
-/// What stands at a path that goes through directories alone, and no link.
-fn plain_metadata<R: Files>(rt: &R, path: &str) -> io::Result<Option<Metadata>> {
+/// Whether a path goes through directories alone, and no link.
+fn lies_in_directories<R: Files>(rt: &R, path: &str) -> io::Result<bool> {
     for (slash, _) in path.match_indices('/') {
         if let Some(directory) = path.get(..slash) {
             match found_at(rt, directory)? {
                 Some(found) if found.is_dir() => {}
-                _ => return Ok(None),
+                _ => return Ok(false),
             }
         }
     }
+    Ok(true)
+}
+
+/// What stands at a path that goes through directories alone.
+fn plain_metadata<R: Files>(rt: &R, path: &str) -> io::Result<Option<Metadata>> {
+    if !lies_in_directories(rt, path)? {
+        return Ok(None);
+    }
     found_at(rt, path)
+}
+
+/// The permission bits of the file that a temporary is to replace, where there is one.
+fn replaced_bits<R: Files>(rt: &R, temp: &str) -> io::Result<Option<u32>> {
+    let Some(target) = temp.strip_suffix(".ptmp") else {
+        return Ok(None);
+    };
+    match plain_metadata(rt, target)? {
+        Some(found) if found.is_file() => Ok(Some(found.permissions().mode() & PERMISSION_BITS)),
+        _ => Ok(None),
+    }
+}
+
+/// Gives a file these permission bits, where it has others.
+fn set_bits(file: &File, bits: u32) -> io::Result<()> {
+    if file.metadata()?.permissions().mode() & PERMISSION_BITS == bits {
+        return Ok(());
+    }
+    file.set_permissions(Permissions::from_mode(bits))
 }
 
 /// The first components of a name, or all of them.

@@ -13,6 +13,7 @@ use crate::streams::{Input, Output};
 use outside::put_all;
 use patch_cli::run;
 use std::env::Env;
+use std::io::{ErrorKind, Write};
 use std::process::ExitCode;
 use std::{env, io};
 
@@ -21,7 +22,10 @@ const REFUSED: u8 = 2;
 
 fn main(rt: HostRuntime) -> io::Result<ExitCode> {
     let alloc = rt.alloc();
-    let words = words_of(&rt)?;
+    let words = match words_of(&rt) {
+        Ok(words) => words,
+        Err(error) => return refused(&rt, &error),
+    };
     let mut tree = Disk::new(alloc, &rt);
     let mut input = Input::new(rt.stdin());
     let mut out = Output::new(alloc, rt.stdout())?;
@@ -42,6 +46,17 @@ fn main(rt: HostRuntime) -> io::Result<ExitCode> {
     };
     let _ = err.flush();
     Ok(ExitCode::from(status))
+}
+
+/// The answer where the words can't be had: one that isn't UTF-8 is no command.
+fn refused(rt: &HostRuntime, error: &io::Error) -> io::Result<ExitCode> {
+    let line: &[u8] = if error.kind() == ErrorKind::OutOfMemory {
+        b"patchkit: **** out of memory\n"
+    } else {
+        b"patchkit: **** the words are not a command\n"
+    };
+    let _ = rt.stderr().write_all(line);
+    Ok(ExitCode::from(REFUSED))
 }
 
 /// The words behind the program's own.
