@@ -1,0 +1,5 @@
+pub mod Flags
+pub mod Forms
+pub mod PlainJob
+pub mod Table
+pub mod Words

@@ -1,0 +1,121 @@
+-- The table of the words of `patch`: what each switch and each value gives, over what `clap` matched.
+use Rattle.std.specs.Prelude.{ℕ, ◌+◌, List, [], ◌∷◌, codes, nat_le, nat_lt, Bool, true, false, not, ◌&&◌, ◌||◌, if◌then◌else◌, bytes_eq, Option, None, Some, is_some, option_map, option_and_then, unwrap_or}
+use Rattle.std.specs.List.{list_all}
+use Rattle.std.specs.Option.{option_map_or}
+use Rattle.clap.specs.Words.{Row, Text, count_of, first_of}
+use Rattle.outside.specs.Names.{normal_form}
+use Rattle.hunk_core.specs.declared.Form.{Form}
+use Rattle.hunk_core.specs.declared.Form.TheVariants.{Unified, Context, Normal, Ed}
+use Rattle.patch_options.specs.Forms.{number_of, buffer_of, plan_of, reject_form_of, is_suffix, is_prefix, is_name, is_lasting_name, is_patch_file}
+use Rattle.patch_options.specs.PlainJob.{PlainOptions}
+use Rattle.patch_options.specs.declared.options.PlanKind.TheVariants.{Auto}
+use Rattle.patch_options.specs.declared.options.Input.{Input}
+use Rattle.patch_options.specs.declared.options.Input.TheVariants.{Standard, File}
+
+-- the switch was given
+abbrev pub is_used : List Row → Text → Bool
+is_used rows name = nat_lt 0 (count_of name rows)
+
+abbrev pub is_single : List Row → Text → Bool
+is_single rows name = nat_le (count_of name rows) 1
+
+abbrev pub are_both_used : List Row → Text → Text → Bool
+are_both_used rows one other = is_used rows one && is_used rows other
+
+abbrev pub switch_names : List Text
+switch_names = codes "context" ∷ codes "ed" ∷ codes "normal" ∷ codes "unified" ∷ codes "reverse" ∷ codes "force" ∷ codes "batch"
+    ∷ codes "forward" ∷ codes "ignore-whitespace" ∷ codes "remove-empty-files" ∷ codes "backup" ∷ codes "backup-if-mismatch"
+    ∷ codes "no-backup-if-mismatch" ∷ codes "dry-run" ∷ codes "silent" ∷ codes "quiet" ∷ codes "verbose" ∷ []
+
+abbrev pub form_uses : List Row → ℕ
+form_uses rows = count_of (codes "context") rows + count_of (codes "ed") rows + count_of (codes "normal") rows + count_of (codes "unified") rows
+
+-- no switch is given twice, and no two that exclude each other
+abbrev pub switches_agree : List Row → Bool
+switches_agree rows = list_all (is_single rows) switch_names
+    && (nat_le (form_uses rows) 1
+    && (not (are_both_used rows (codes "backup-if-mismatch") (codes "no-backup-if-mismatch"))
+    && (not (are_both_used rows (codes "silent") (codes "verbose"))
+    && not (are_both_used rows (codes "silent") (codes "quiet")))))
+
+-- the value of an option or an operand
+abbrev pub value_of : List Row → Text → Option Text
+value_of rows name = first_of name rows
+
+-- where there is a value, it has this form
+abbrev pub has_form : (Text → Bool) → Option Text → Bool
+has_form form value = option_map_or form value true
+
+-- numbers, words and endings have their forms
+abbrev pub values_agree : List Row → Bool
+values_agree rows = has_form (λ t. is_some (number_of t)) (value_of rows (codes "strip"))
+    && (has_form (λ t. is_some (number_of t)) (value_of rows (codes "fuzz"))
+    && (has_form (λ t. is_some (buffer_of t)) (value_of rows (codes "buffer"))
+    && (has_form (λ t. is_some (plan_of t)) (value_of rows (codes "plan"))
+    && (has_form (λ t. is_some (reject_form_of t)) (value_of rows (codes "reject-format"))
+    && has_form is_suffix (value_of rows (codes "suffix"))))))
+
+-- the patch file is given once
+abbrev pub is_one_patch_file : List Row → Bool
+is_one_patch_file rows = not (is_some (value_of rows (codes "input")) && is_some (value_of rows (codes "patchfile")))
+
+-- names are lawful
+abbrev pub names_agree : List Row → Bool
+names_agree rows = is_one_patch_file rows
+    && (has_form is_name (value_of rows (codes "directory"))
+    && (has_form is_lasting_name (value_of rows (codes "file"))
+    && (has_form is_patch_file (value_of rows (codes "input"))
+    && (has_form is_patch_file (value_of rows (codes "patchfile"))
+    && (has_form is_lasting_name (value_of rows (codes "output"))
+    && (has_form is_lasting_name (value_of rows (codes "reject-file"))
+    && has_form is_prefix (value_of rows (codes "prefix"))))))))
+
+-- what was matched is a command
+abbrev pub is_command : List Row → Bool
+is_command rows = switches_agree rows && (values_agree rows && names_agree rows)
+
+-- ---- what it asks for
+
+abbrev pub only_form : List Row → Option Form
+only_form rows = if is_used rows (codes "context") then Some Context
+    else if is_used rows (codes "ed") then Some Ed
+    else if is_used rows (codes "normal") then Some Normal
+    else if is_used rows (codes "unified") then Some Unified
+    else None
+
+abbrev pub first_given : Option Text → Option Text → Option Text
+first_given None other = other
+first_given (Some text) other = Some text
+
+-- the patch file, `-` or none being standard input
+abbrev pub input_of : Option Text → Input
+input_of None = Standard
+input_of (Some text) = if bytes_eq text (codes "-") then Standard else File (normal_form text)
+
+abbrev pub options_of : List Row → PlainOptions
+options_of rows = record {
+  only = only_form rows;
+  strip = option_and_then number_of (value_of rows (codes "strip"));
+  fuzz = unwrap_or (option_and_then number_of (value_of rows (codes "fuzz"))) 2;
+  reverse = is_used rows (codes "reverse");
+  force = is_used rows (codes "force");
+  batch = is_used rows (codes "batch");
+  forward = is_used rows (codes "forward");
+  loose = is_used rows (codes "ignore-whitespace");
+  remove_empty = is_used rows (codes "remove-empty-files");
+  backup = is_used rows (codes "backup");
+  mismatch_backup = not (is_used rows (codes "no-backup-if-mismatch"));
+  suffix = value_of rows (codes "suffix");
+  prefix = value_of rows (codes "prefix");
+  dir = option_map normal_form (value_of rows (codes "directory"));
+  file = option_map normal_form (value_of rows (codes "file"));
+  input = input_of (first_given (value_of rows (codes "input")) (value_of rows (codes "patchfile")));
+  output = option_map normal_form (value_of rows (codes "output"));
+  reject = option_map normal_form (value_of rows (codes "reject-file"));
+  reject_form = option_and_then reject_form_of (value_of rows (codes "reject-format"));
+  dry_run = is_used rows (codes "dry-run");
+  silent = is_used rows (codes "silent") || is_used rows (codes "quiet");
+  verbose = is_used rows (codes "verbose");
+  plan = unwrap_or (option_and_then plan_of (value_of rows (codes "plan"))) Auto;
+  buffer = unwrap_or (option_and_then buffer_of (value_of rows (codes "buffer"))) 65536;
+}

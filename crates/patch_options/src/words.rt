@@ -1,0 +1,46 @@
+//! The words of a command.
+ghost use Rattle.std.specs.Prelude.{◌≡◌, ◌⊎◌, map, Ok, Err, IfOk, IfErr, string_bytes};
+ghost use Rattle.patch_options.specs.PlainJob.{plain_job, IsLawfulJob};
+ghost use Rattle.patch_options.specs.Words.{job_of, patch_job};
+
+use crate::flags::matched;
+use crate::table::read_options;
+use crate::{Job, PlanKind, WordFault};
+use std::alloc::Global;
+
+/// What the words ask for. The first names the tool.
+pub fn read_words(alloc: Global, words: &[String]) -> Result<Job, WordFault>
+    ensures job { IfOk result (λ job. job_of (map string_bytes words.now) ≡ Ok (plain_job job)) }
+    ensures lawful { IfOk result (λ job. IsLawfulJob (plain_job job)) }
+    ensures refused { IfErr result (λ fault. (fault ≡ WordFault.Memory) ⊎ (job_of (map string_bytes words.now) ≡ Err fault)) }
+{
+    match words {
+        [tool, ..] if tool.as_str() == "patch" => read_patch(alloc, words),
+        [tool, ..] => Err(why_no_patch(tool.as_str())),
+        [] => Err(WordFault::Usage),
+    }
+}
+
+/// Why a word that isn't `patch` names no tool.
+fn why_no_patch(tool: &str) -> WordFault {
+    match tool {
+        "lsdiff" | "filterdiff" | "grepdiff" | "splitdiff" | "recountdiff" | "patchgen" => {
+            WordFault::Unsupported
+        }
+        _ => WordFault::Usage,
+    }
+}
+
+/// What the words of `patch` ask for.
+fn read_patch(alloc: Global, words: &[String]) -> Result<Job, WordFault>
+    ensures job { IfOk result (λ job. patch_job (map string_bytes words.now) ≡ Ok (plain_job job)) }
+    ensures lawful { IfOk result (λ job. IsLawfulJob (plain_job job)) }
+    ensures refused { IfErr result (λ fault. (fault ≡ WordFault.Memory) ⊎ (patch_job (map string_bytes words.now) ≡ Err fault)) }
+{
+    let matches = matched(alloc, words)?;
+    let options = read_options(alloc, &matches)?;
+    match options.plan {
+        PlanKind::Padded => Err(WordFault::Unsupported),
+        _ => Ok(Job::Patch(options)),
+    }
+}
