@@ -1,7 +1,9 @@
 -- The command line of `patch` as `clap` reads it: switches that are counted, options with a text, and two operands.
-use Rattle.std.specs.Prelude.{ℕ, List, [], ◌∷◌, codes, None, Some, true, Bool}
+use Rattle.std.specs.Prelude.{◌≡◌, ℕ, List, [], ◌∷◌, ◌++◌, codes, None, Some, true, Bool}
 use Rattle.std.specs.List.{list_all}
-use Rattle.clap.specs.Words.{App, Rule, Row, Text, new_app, new_rule, with_rule, fault_of}
+use Rattle.clap.specs.Words.{App, Rule, Row, Text, new_app, new_rule, with_rule, fault_of, matches_of, rows_of, found_of, app_of}
+use Rattle.clap.specs.declared.builder.command.Command.{Command}
+use Rattle.clap.specs.declared.parser.matches.ArgMatches.{ArgMatches}
 use Rattle.clap.specs.Walk.{is_empty}
 use Rattle.clap.specs.declared.builder.action.ArgAction.TheVariants.{Count}
 
@@ -42,13 +44,28 @@ abbrev pub with_rules : App → List Rule → App
 with_rules app [] = app
 with_rules app (rule ∷ rules) = with_rules (with_rule app rule) rules
 
--- without help and version flags
-abbrev pub bare_command : App
-bare_command = record { top = record (new_app (codes "patch")).top { disable_help_flag = true }; subs = [] }
+-- `new` is `old` with these arguments behind its own
+pub record Extends (old : Command) (rules : List Rule) (new : Command) : Type 0 where
+  pub app : app_of new ≡ with_rules (app_of old) rules
 
-abbrev pub patch_command : App
-patch_command = with_rules (with_rules (with_rules bare_command switches) options) operands
+-- without help and version flags
+abbrev pub without_help : App → App
+without_help app = record app { top = record app.top { disable_help_flag = true } }
+
+abbrev pub bare_command : App
+bare_command = without_help (new_app (codes "patch"))
+
+unfoldable pub patch_command : App
+patch_command = with_rules bare_command ((switches ++ options) ++ operands)
 
 -- the command takes the words: `clap` finds no fault in them
-abbrev pub takes_words : List Text → Bool
+unfoldable pub takes_words : List Text → Bool
 takes_words words = is_empty (fault_of patch_command words)
+
+-- what `clap` matches in the words, where it takes them
+unfoldable pub matched_rows : List Text → List Row
+matched_rows words = matches_of patch_command words
+
+-- the rows that were matched
+abbrev pub rows_in : ArgMatches → List Row
+rows_in m = rows_of (found_of m)

@@ -19,45 +19,45 @@ whole_number None = None
 whole_number (Some p) = if nat_lt p.0 (2 ^ 32) && is_empty p.1 then Some p.0 else None
 
 -- the number that a text writes: digits and nothing else, at most 4,294,967,295
-abbrev pub number_of : List ℕ → Option ℕ
+unfoldable pub number_of : List ℕ → Option ℕ
 number_of text = whole_number (number_at text)
 
 abbrev pub buffer_in : ℕ → Option ℕ
 buffer_in n = if nat_le 512 n && nat_le n 1048576 then Some n else None
 
 -- the size of a buffer: a number from 512 to 1,048,576
-abbrev pub buffer_of : List ℕ → Option ℕ
+unfoldable pub buffer_of : List ℕ → Option ℕ
 buffer_of text = option_and_then buffer_in (number_of text)
 
 -- the plan that a text names
-abbrev pub plan_of : List ℕ → Option PlanKind
+unfoldable pub plan_of : List ℕ → Option PlanKind
 plan_of text = if bytes_eq text (codes "a") then Some Whole
     else if bytes_eq text (codes "b") then Some Padded
     else if bytes_eq text (codes "auto") then Some Auto
     else None
 
 -- the form of rejects that a text names
-abbrev pub reject_form_of : List ℕ → Option Form
+unfoldable pub reject_form_of : List ℕ → Option Form
 reject_form_of text = if bytes_eq text (codes "context") then Some Context
     else if bytes_eq text (codes "unified") then Some Unified
     else None
 
 -- what may stand behind a name to make the name of a backup
-abbrev pub is_suffix : List ℕ → Bool
+unfoldable pub is_suffix : List ℕ → Bool
 is_suffix text = not (is_empty text) && (not (list_any is_slash text) && (not (list_any is_control text) && not (is_temp text)))
 
 -- the text of a name that breaks no rule
-abbrev pub is_name : List ℕ → Bool
+unfoldable pub is_name : List ℕ → Bool
 is_name text = is_none (broken_rule text)
 
 -- a name whose last component isn't that of a temporary
-abbrev pub is_lasting_name : List ℕ → Bool
+unfoldable pub is_lasting_name : List ℕ → Bool
 is_lasting_name text = is_name text && not (is_temp (normal_form text))
 
 -- a name, or `-` for standard input
-abbrev pub is_patch_file : List ℕ → Bool
+unfoldable pub is_patch_file : List ℕ → Bool
 is_patch_file text = bytes_eq text (codes "-") || is_name text
 
 -- what may stand before a name: with `x` behind it, it is the text of a name in normal form
-abbrev pub is_prefix : List ℕ → Bool
+unfoldable pub is_prefix : List ℕ → Bool
 is_prefix text = is_name (text ++ codes "x") && bytes_eq (normal_form (text ++ codes "x")) (text ++ codes "x")

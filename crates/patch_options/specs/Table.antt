@@ -2,6 +2,7 @@
 use Rattle.std.specs.Prelude.{ℕ, ◌+◌, List, [], ◌∷◌, codes, nat_le, nat_lt, Bool, true, false, not, ◌&&◌, ◌||◌, if◌then◌else◌, bytes_eq, Option, None, Some, is_some, option_map, option_and_then, unwrap_or}
 use Rattle.std.specs.List.{list_all}
 use Rattle.std.specs.Option.{option_map_or}
+use Rattle.std.specs.Borrow.{Bor}
 use Rattle.clap.specs.Words.{Row, Text, count_of, first_of}
 use Rattle.outside.specs.Names.{normal_form}
 use Rattle.hunk_core.specs.declared.Form.{Form}
@@ -12,12 +13,15 @@ use Rattle.patch_options.specs.declared.options.PlanKind.TheVariants.{Auto}
 use Rattle.patch_options.specs.declared.options.Input.{Input}
 use Rattle.patch_options.specs.declared.options.Input.TheVariants.{Standard, File}
 
--- the switch was given
+-- how often the switch was given
+unfoldable pub uses : List Row → Text → ℕ
+uses rows name = count_of name rows
+
 abbrev pub is_used : List Row → Text → Bool
-is_used rows name = nat_lt 0 (count_of name rows)
+is_used rows name = nat_lt 0 (uses rows name)
 
 abbrev pub is_single : List Row → Text → Bool
-is_single rows name = nat_le (count_of name rows) 1
+is_single rows name = nat_le (uses rows name) 1
 
 abbrev pub are_both_used : List Row → Text → Text → Bool
 are_both_used rows one other = is_used rows one && is_used rows other
@@ -28,7 +32,7 @@ switch_names = codes "context" ∷ codes "ed" ∷ codes "normal" ∷ codes "unif
     ∷ codes "no-backup-if-mismatch" ∷ codes "dry-run" ∷ codes "silent" ∷ codes "quiet" ∷ codes "verbose" ∷ []
 
 abbrev pub form_uses : List Row → ℕ
-form_uses rows = count_of (codes "context") rows + count_of (codes "ed") rows + count_of (codes "normal") rows + count_of (codes "unified") rows
+form_uses rows = uses rows (codes "context") + uses rows (codes "ed") + uses rows (codes "normal") + uses rows (codes "unified")
 
 -- no switch is given twice, and no two that exclude each other
 abbrev pub switches_agree : List Row → Bool
@@ -39,7 +43,7 @@ switches_agree rows = list_all (is_single rows) switch_names
     && not (are_both_used rows (codes "silent") (codes "quiet")))))
 
 -- the value of an option or an operand
-abbrev pub value_of : List Row → Text → Option Text
+unfoldable pub value_of : List Row → Text → Option Text
 value_of rows name = first_of name rows
 
 -- where there is a value, it has this form
@@ -55,20 +59,22 @@ values_agree rows = has_form (λ t. is_some (number_of t)) (value_of rows (codes
     && (has_form (λ t. is_some (reject_form_of t)) (value_of rows (codes "reject-format"))
     && has_form is_suffix (value_of rows (codes "suffix"))))))
 
--- the patch file is given once
-abbrev pub is_one_patch_file : List Row → Bool
-is_one_patch_file rows = not (is_some (value_of rows (codes "input")) && is_some (value_of rows (codes "patchfile")))
+-- the text behind a reference
+abbrev pub text_of : Option (Bor Text) → Option Text
+text_of text = option_map (λ t. t.now) text
+
+-- the patch file is given once at most, as a name or `-`
+abbrev pub inputs_agree : Option Text → Option Text → Bool
+inputs_agree input operand = not (is_some input && is_some operand) && (has_form is_patch_file input && has_form is_patch_file operand)
 
 -- names are lawful
 abbrev pub names_agree : List Row → Bool
-names_agree rows = is_one_patch_file rows
+names_agree rows = inputs_agree (value_of rows (codes "input")) (value_of rows (codes "patchfile"))
     && (has_form is_name (value_of rows (codes "directory"))
     && (has_form is_lasting_name (value_of rows (codes "file"))
-    && (has_form is_patch_file (value_of rows (codes "input"))
-    && (has_form is_patch_file (value_of rows (codes "patchfile"))
     && (has_form is_lasting_name (value_of rows (codes "output"))
     && (has_form is_lasting_name (value_of rows (codes "reject-file"))
-    && has_form is_prefix (value_of rows (codes "prefix"))))))))
+    && has_form is_prefix (value_of rows (codes "prefix"))))))
 
 -- what was matched is a command
 abbrev pub is_command : List Row → Bool

@@ -1,8 +1,7 @@
 //! The command line of `patch`, read by `clap`.
-ghost use Rattle.std.specs.Prelude.{◌≡◌, ◌⊎◌, map, string_bytes, true, false, IfOk, IfErr};
-ghost use Rattle.clap.specs.Words.{app_of, new_app, found_of, rows_of, matches_of, with_rule};
-ghost use Rattle.patch_options.specs.Flags.{switch, long_switch, option, long_option, switches, options, operands, with_rules, bare_command, patch_command, takes_words};
-ghost use Rattle.clap.specs.Simple.{new_rule};
+ghost use Rattle.std.specs.Prelude.{◌≡◌, ◌≢◌, ◌⊎◌, ◌∷◌, [], map, string_bytes, true, false, IfOk, IfErr};
+ghost use Rattle.clap.specs.Words.{app_of, kind_of, new_rule};
+ghost use Rattle.patch_options.specs.Flags.{switch, long_switch, option, long_option, switches, options, operands, Extends, patch_command, takes_words, matched_rows, rows_in};
 
 use crate::WordFault;
 use clap::error::ErrorKind;
@@ -12,7 +11,7 @@ use std::alloc::{AllocError, Global};
 /// What `clap` matches in the words, the first of which is the tool's name.
 pub fn matched(alloc: Global, words: &[String]) -> Result<ArgMatches<'_>, WordFault>
     ensures taken { IfOk result (λ m. takes_words (map string_bytes words.now) ≡ true) }
-    ensures rows { IfOk result (λ m. rows_of (found_of m) ≡ matches_of patch_command (map string_bytes words.now)) }
+    ensures rows { IfOk result (λ m. rows_in m ≡ matched_rows (map string_bytes words.now)) }
     ensures refused { IfErr result (λ fault. (fault ≡ WordFault.Memory) ⊎ ((fault ≡ WordFault.Usage) × (takes_words (map string_bytes words.now) ≡ false))) }
 {
     let command = patch_command(alloc)?;
@@ -22,7 +21,9 @@ pub fn matched(alloc: Global, words: &[String]) -> Result<ArgMatches<'_>, WordFa
     }
 }
 
-fn why_refused(error: &Error) -> WordFault {
+fn why_refused(error: &Error) -> WordFault
+    ensures { (result ≡ WordFault.Memory) ⊎ ((result ≡ WordFault.Usage) × (kind_of error.now ≢ ErrorKind.OutOfMemory)) }
+{
     match error.kind() {
         ErrorKind::OutOfMemory => WordFault::Memory,
         _ => WordFault::Usage,
@@ -40,7 +41,7 @@ fn patch_command<'a>(alloc: Global) -> Result<Command<'a>, AllocError>
 }
 
 fn with_switches<'a>(alloc: Global, command: Command<'a>) -> Result<Command<'a>, AllocError>
-    ensures { IfOk result (λ c. app_of c ≡ with_rules (app_of command.entry) switches) }
+    ensures { IfOk result (λ c. Extends command.entry switches c) }
 {
     let command = add_switch(alloc, command, 'c', "context")?;
     let command = add_switch(alloc, command, 'e', "ed")?;
@@ -62,7 +63,7 @@ fn with_switches<'a>(alloc: Global, command: Command<'a>) -> Result<Command<'a>,
 }
 
 fn with_options<'a>(alloc: Global, command: Command<'a>) -> Result<Command<'a>, AllocError>
-    ensures { IfOk result (λ c. app_of c ≡ with_rules (app_of command.entry) options) }
+    ensures { IfOk result (λ c. Extends command.entry options c) }
 {
     let command = add_option(alloc, command, 'p', "strip")?;
     let command = add_option(alloc, command, 'F', "fuzz")?;
@@ -78,7 +79,7 @@ fn with_options<'a>(alloc: Global, command: Command<'a>) -> Result<Command<'a>, 
 }
 
 fn with_operands<'a>(alloc: Global, command: Command<'a>) -> Result<Command<'a>, AllocError>
-    ensures { IfOk result (λ c. app_of c ≡ with_rules (app_of command.entry) operands) }
+    ensures { IfOk result (λ c. Extends command.entry operands c) }
 {
     let command = add_operand(alloc, command, "file")?;
     add_operand(alloc, command, "patchfile")
@@ -91,7 +92,7 @@ fn add_switch<'a>(
     letter: char,
     name: &'a str,
 ) -> Result<Command<'a>, AllocError>
-    ensures { IfOk result (λ c. app_of c ≡ with_rule (app_of command.entry) (switch letter name.entry.now)) }
+    ensures { IfOk result (λ c. Extends command.entry (switch letter name.entry.now ∷ []) c) }
 {
     let switch = Arg::new(alloc, name)
         .short(letter)
@@ -106,7 +107,7 @@ fn add_long_switch<'a>(
     command: Command<'a>,
     name: &'a str,
 ) -> Result<Command<'a>, AllocError>
-    ensures { IfOk result (λ c. app_of c ≡ with_rule (app_of command.entry) (long_switch name.entry.now)) }
+    ensures { IfOk result (λ c. Extends command.entry (long_switch name.entry.now ∷ []) c) }
 {
     let switch = Arg::new(alloc, name)
         .long(name)
@@ -121,7 +122,7 @@ fn add_option<'a>(
     letter: char,
     name: &'a str,
 ) -> Result<Command<'a>, AllocError>
-    ensures { IfOk result (λ c. app_of c ≡ with_rule (app_of command.entry) (option letter name.entry.now)) }
+    ensures { IfOk result (λ c. Extends command.entry (option letter name.entry.now ∷ []) c) }
 {
     let option = Arg::new(alloc, name)
         .short(letter)
@@ -135,7 +136,7 @@ fn add_long_option<'a>(
     command: Command<'a>,
     name: &'a str,
 ) -> Result<Command<'a>, AllocError>
-    ensures { IfOk result (λ c. app_of c ≡ with_rule (app_of command.entry) (long_option name.entry.now)) }
+    ensures { IfOk result (λ c. Extends command.entry (long_option name.entry.now ∷ []) c) }
 {
     let option = Arg::new(alloc, name).long(name);
     command.arg(option)
@@ -146,7 +147,7 @@ fn add_operand<'a>(
     command: Command<'a>,
     name: &'a str,
 ) -> Result<Command<'a>, AllocError>
-    ensures { IfOk result (λ c. app_of c ≡ with_rule (app_of command.entry) (new_rule name.entry.now)) }
+    ensures { IfOk result (λ c. Extends command.entry (new_rule name.entry.now ∷ []) c) }
 {
     let operand = Arg::new(alloc, name);
     command.arg(operand)

@@ -8,6 +8,7 @@ use num_text::{Number, read_number};
 use outside::is_ending;
 
 /// The number that the text writes: digits and nothing else.
+#[tactic(auto, unfolding(patch_options::specs::Forms::number_of))]
 pub fn number_of(text: &str) -> Option<u32>
     ensures { result ≡ number_of text.now }
 {
@@ -18,6 +19,7 @@ pub fn number_of(text: &str) -> Option<u32>
 }
 
 /// The size of a buffer, from 512 to 1,048,576.
+#[tactic(auto, unfolding(patch_options::specs::Forms::buffer_of))]
 pub fn buffer_of(text: &str) -> Option<u32>
     ensures { result ≡ buffer_of text.now }
 {
@@ -27,6 +29,7 @@ pub fn buffer_of(text: &str) -> Option<u32>
     }
 }
 
+#[tactic(auto, unfolding(patch_options::specs::Forms::plan_of))]
 pub fn plan_of(text: &str) -> Option<PlanKind>
     ensures { result ≡ plan_of text.now }
 {
@@ -38,6 +41,7 @@ pub fn plan_of(text: &str) -> Option<PlanKind>
     }
 }
 
+#[tactic(auto, unfolding(patch_options::specs::Forms::reject_form_of))]
 pub fn reject_form_of(text: &str) -> Option<Form>
     ensures { result ≡ reject_form_of text.now }
 {
@@ -49,6 +53,7 @@ pub fn reject_form_of(text: &str) -> Option<Form>
 }
 
 /// Whether it may be the suffix of backups.
+#[tactic(auto, unfolding(patch_options::specs::Forms::is_suffix))]
 pub fn is_suffix(text: &str) -> bool
     ensures { result ≡ is_suffix text.now }
 {

@@ -1,10 +1,12 @@
 //! The names that a command gives.
 ghost use Rattle.std.specs.Prelude.{◌≡◌, ◌⊎◌, ◌++◌, codes, true, false, IfOk, IfErr, string_bytes, option_map};
-ghost use Rattle.clap.specs.Words.{found_of, rows_of};
+ghost use Rattle.patch_options.specs.Flags.{rows_in};
+ghost use Rattle.patch_options.specs.HasNames.{HasNames};
 ghost use Rattle.outside.specs.Names.{normal_form};
 ghost use Rattle.patch_options.specs.Forms.{is_name, is_lasting_name, is_patch_file, is_prefix};
-ghost use Rattle.patch_options.specs.Table.{value_of, has_form, names_agree, input_of, first_given, is_one_patch_file};
+ghost use Rattle.patch_options.specs.Table.{text_of, has_form, names_agree, inputs_agree, input_of, first_given};
 
+use crate::table::value_of;
 use crate::{Input, WordFault};
 use clap::ArgMatches;
 use outside::{Name, NameFault};
@@ -22,26 +24,40 @@ pub struct Names {
 }
 
 /// The names that were matched, if they are lawful.
-pub fn read_names(alloc: Global, matches: &ArgMatches<'_>) -> Result<Names, WordFault> {
+pub fn read_names(alloc: Global, matches: &ArgMatches<'_>) -> Result<Names, WordFault>
+    ensures names { IfOk result (λ names. HasNames (rows_in matches.now) names) }
+    ensures lawful { IfOk result (λ names. names_agree (rows_in matches.now) ≡ true) }
+    ensures refused { IfErr result (λ fault. (fault ≡ WordFault.Memory) ⊎ ((fault ≡ WordFault.Usage) × (names_agree (rows_in matches.now) ≡ false))) }
+{
     Ok(Names {
-        input: read_input(alloc, matches)?,
-        dir: read_name(alloc, matches.get_str("directory"))?,
-        file: read_lasting_name(alloc, matches.get_str("file"))?,
-        output: read_lasting_name(alloc, matches.get_str("output"))?,
-        reject: read_lasting_name(alloc, matches.get_str("reject-file"))?,
-        prefix: read_prefix(alloc, matches.get_str("prefix"))?,
+        input: read_input(alloc, value_of(matches, "input"), value_of(matches, "patchfile"))?,
+        dir: read_name(alloc, value_of(matches, "directory"))?,
+        file: read_lasting_name(alloc, value_of(matches, "file"))?,
+        output: read_lasting_name(alloc, value_of(matches, "output"))?,
+        reject: read_lasting_name(alloc, value_of(matches, "reject-file"))?,
+        prefix: read_prefix(alloc, value_of(matches, "prefix"))?,
     })
 }
 
 /// The patch file, which is the value of `-i` or the second operand.
-fn read_input(alloc: Global, matches: &ArgMatches<'_>) -> Result<Input, WordFault> {
-    match (matches.get_str("input"), matches.get_str("patchfile")) {
+fn read_input(
+    alloc: Global,
+    input: Option<&str>,
+    operand: Option<&str>,
+) -> Result<Input, WordFault>
+    ensures input { IfOk result (λ given. given ≡ input_of (first_given (text_of input) (text_of operand))) }
+    ensures lawful { IfOk result (λ given. inputs_agree (text_of input) (text_of operand) ≡ true) }
+    ensures refused { IfErr result (λ fault. (fault ≡ WordFault.Memory) ⊎ ((fault ≡ WordFault.Usage) × (inputs_agree (text_of input) (text_of operand) ≡ false))) }
+{
+    match (input, operand) {
         (None, None) => Ok(Input::Standard),
-        (Some(text), None) | (None, Some(text)) => input_of(alloc, text),
+        (Some(text), None) => input_of(alloc, text),
+        (None, Some(text)) => input_of(alloc, text),
         (Some(_), Some(_)) => Err(WordFault::Usage),
     }
 }
 
+#[tactic(auto, unfolding(patch_options::specs::Forms::is_patch_file))]
 fn input_of(alloc: Global, text: &str) -> Result<Input, WordFault>
     ensures input { IfOk result (λ input. input ≡ input_of (Some text.now)) }
     ensures lawful { IfOk result (λ input. is_patch_file text.now ≡ true) }
@@ -54,6 +70,7 @@ fn input_of(alloc: Global, text: &str) -> Result<Input, WordFault>
     }
 }
 
+#[tactic(auto, unfolding(patch_options::specs::Forms::is_name))]
 fn name_of(alloc: Global, text: &str) -> Result<Name, WordFault>
     ensures name { IfOk result (λ name. name ≡ normal_form text.now) }
     ensures lawful { IfOk result (λ name. is_name text.now ≡ true) }
@@ -66,7 +83,11 @@ fn name_of(alloc: Global, text: &str) -> Result<Name, WordFault>
     }
 }
 
-fn read_name(alloc: Global, text: Option<&str>) -> Result<Option<Name>, WordFault> {
+fn read_name(alloc: Global, text: Option<&str>) -> Result<Option<Name>, WordFault>
+    ensures name { IfOk result (λ given. given ≡ option_map normal_form (text_of text)) }
+    ensures lawful { IfOk result (λ given. has_form is_name (text_of text) ≡ true) }
+    ensures refused { IfErr result (λ fault. (fault ≡ WordFault.Memory) ⊎ ((fault ≡ WordFault.Usage) × (has_form is_name (text_of text) ≡ false))) }
+{
     match text {
         Some(text) => Ok(Some(name_of(alloc, text)?)),
         None => Ok(None),
@@ -74,6 +95,7 @@ fn read_name(alloc: Global, text: Option<&str>) -> Result<Option<Name>, WordFaul
 }
 
 /// A name that is no temporary's.
+#[tactic(auto, unfolding(patch_options::specs::Forms::is_lasting_name))]
 fn lasting_name_of(alloc: Global, text: &str) -> Result<Name, WordFault>
     ensures name { IfOk result (λ name. name ≡ normal_form text.now) }
     ensures lawful { IfOk result (λ name. is_lasting_name text.now ≡ true) }
@@ -86,7 +108,11 @@ fn lasting_name_of(alloc: Global, text: &str) -> Result<Name, WordFault>
     Ok(name)
 }
 
-fn read_lasting_name(alloc: Global, text: Option<&str>) -> Result<Option<Name>, WordFault> {
+fn read_lasting_name(alloc: Global, text: Option<&str>) -> Result<Option<Name>, WordFault>
+    ensures name { IfOk result (λ given. given ≡ option_map normal_form (text_of text)) }
+    ensures lawful { IfOk result (λ given. has_form is_lasting_name (text_of text) ≡ true) }
+    ensures refused { IfErr result (λ fault. (fault ≡ WordFault.Memory) ⊎ ((fault ≡ WordFault.Usage) × (has_form is_lasting_name (text_of text) ≡ false))) }
+{
     match text {
         Some(text) => Ok(Some(lasting_name_of(alloc, text)?)),
         None => Ok(None),
@@ -94,6 +120,7 @@ fn read_lasting_name(alloc: Global, text: Option<&str>) -> Result<Option<Name>, 
 }
 
 /// What may stand before a name: with `x` behind it, it is a name in normal form.
+#[tactic(auto, unfolding(patch_options::specs::Forms::is_prefix))]
 fn prefix_of(alloc: Global, text: &str) -> Result<String, WordFault>
     ensures prefix { IfOk result (λ prefix. string_bytes prefix ≡ text.now) }
     ensures lawful { IfOk result (λ prefix. is_prefix text.now ≡ true) }
@@ -108,7 +135,11 @@ fn prefix_of(alloc: Global, text: &str) -> Result<String, WordFault>
     Ok(String::from_str(alloc, text)?)
 }
 
-fn read_prefix(alloc: Global, text: Option<&str>) -> Result<Option<String>, WordFault> {
+fn read_prefix(alloc: Global, text: Option<&str>) -> Result<Option<String>, WordFault>
+    ensures prefix { IfOk result (λ given. option_map string_bytes given ≡ text_of text) }
+    ensures lawful { IfOk result (λ given. has_form is_prefix (text_of text) ≡ true) }
+    ensures refused { IfErr result (λ fault. (fault ≡ WordFault.Memory) ⊎ ((fault ≡ WordFault.Usage) × (has_form is_prefix (text_of text) ≡ false))) }
+{
     match text {
         Some(text) => Ok(Some(prefix_of(alloc, text)?)),
         None => Ok(None),

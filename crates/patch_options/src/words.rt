@@ -1,7 +1,7 @@
 //! The words of a command.
 ghost use Rattle.std.specs.Prelude.{◌≡◌, ◌⊎◌, map, Ok, Err, IfOk, IfErr, string_bytes};
 ghost use Rattle.patch_options.specs.PlainJob.{plain_job, IsLawfulJob};
-ghost use Rattle.patch_options.specs.Words.{job_of, patch_job};
+ghost use Rattle.patch_options.specs.Words.{job_of, patch_job, no_patch_job};
 
 use crate::flags::matched;
 use crate::table::read_options;
@@ -22,7 +22,9 @@ pub fn read_words(alloc: Global, words: &[String]) -> Result<Job, WordFault>
 }
 
 /// Why a word that isn't `patch` names no tool.
-fn why_no_patch(tool: &str) -> WordFault {
+fn why_no_patch(tool: &str) -> WordFault
+    ensures { Err result ≡ no_patch_job tool.now }
+{
     match tool {
         "lsdiff" | "filterdiff" | "grepdiff" | "splitdiff" | "recountdiff" | "patchgen" => {
             WordFault::Unsupported
@@ -32,6 +34,7 @@ fn why_no_patch(tool: &str) -> WordFault {
 }
 
 /// What the words of `patch` ask for.
+#[tactic(auto, unfolding(patch_options::specs::Words::patch_job, patch_options::specs::Words::matched_job))]
 fn read_patch(alloc: Global, words: &[String]) -> Result<Job, WordFault>
     ensures job { IfOk result (λ job. patch_job (map string_bytes words.now) ≡ Ok (plain_job job)) }
     ensures lawful { IfOk result (λ job. IsLawfulJob (plain_job job)) }
