@@ -1,12 +1,11 @@
 -- What a parse of the command says of the words.
 use Rattle.std.proofs.Common.{◌≡◌, ◌≢◌, ◌⊎◌, ◌∙◌, List, [], ◌∷◌, Bool, true, false, ap, refl, sym, subst, inl, inr}
 use Rattle.clap.specs.Words.{App, Row, Text, HasMatchesOf, Kinds, HasKind, IsAmong, fault_of, is_simple, is_simple_and_free, matches_of, kind_of}
-use Rattle.clap.specs.Walk.{is_empty}
 use Rattle.clap.proofs.OnLiterals.{clap_on_literals}
 use Rattle.clap.specs.declared.error.Error.{Error}
 use Rattle.clap.specs.declared.error.kind.ErrorKind.TheVariants.{OutOfMemory}
 use Rattle.clap.specs.declared.parser.matches.ArgMatches.{ArgMatches}
-use Rattle.patch_options.specs.Flags.{patch_command, takes_words, matched_rows, rows_in}
+use Rattle.patch_options.specs.Flags.{is_empty, patch_command, takes_words, matched_rows, rows_in}
 use Rattle.patch_options.specs.declared.options.WordFault.{WordFault}
 use Rattle.patch_options.specs.declared.options.WordFault.TheVariants.{Usage, Memory}
 

@@ -1,10 +1,8 @@
 -- The command line of `patch` as `clap` reads it: switches that are counted, options with a text, and two operands.
-use Rattle.std.specs.Prelude.{◌≡◌, ℕ, List, [], ◌∷◌, ◌++◌, codes, None, Some, true, Bool}
-use Rattle.std.specs.List.{list_all}
-use Rattle.clap.specs.Words.{App, Rule, Row, Text, new_app, new_rule, with_rule, fault_of, matches_of, rows_of, found_of, app_of}
+use Rattle.std.specs.Prelude.{◌≡◌, ℕ, List, [], ◌∷◌, ◌++◌, codes, None, Some, true, false, Bool}
+use Rattle.clap.specs.Words.{App, Rule, Row, Text, new_app, new_rule, with_rule, fault_of, matches_of, rows_of, found_of, app_of, Kinds}
 use Rattle.clap.specs.declared.builder.command.Command.{Command}
 use Rattle.clap.specs.declared.parser.matches.ArgMatches.{ArgMatches}
-use Rattle.clap.specs.Walk.{is_empty}
 use Rattle.clap.specs.declared.builder.action.ArgAction.TheVariants.{Count}
 
 -- a switch with a letter and a name
@@ -57,6 +55,10 @@ bare_command = without_help (new_app (codes "patch"))
 
 unfoldable pub patch_command : App
 patch_command = with_rules bare_command ((switches ++ options) ++ operands)
+
+abbrev pub is_empty : Kinds → Bool
+is_empty [] = true
+is_empty (k ∷ ks) = false
 
 -- the command takes the words: `clap` finds no fault in them
 unfoldable pub takes_words : List Text → Bool

@@ -16,7 +16,7 @@ is_empty (b ∷ bs) = false
 
 abbrev pub whole_number : Option (ℕ × List ℕ) → Option ℕ
 whole_number None = None
-whole_number (Some p) = if nat_lt p.0 (2 ^ 32) && is_empty p.1 then Some p.0 else None
+whole_number (Some p) = if is_empty p.1 && nat_lt p.0 (2 ^ 32) then Some p.0 else None
 
 -- the number that a text writes: digits and nothing else, at most 4,294,967,295
 unfoldable pub number_of : List ℕ → Option ℕ

@@ -57,7 +57,7 @@ fn read_input(
     }
 }
 
-#[tactic(auto, unfolding(patch_options::specs::Forms::is_patch_file))]
+#[tactic(auto, unfolding(crate::specs::Forms::is_patch_file))]
 fn input_of(alloc: Global, text: &str) -> Result<Input, WordFault>
     ensures input { IfOk result (λ input. input ≡ input_of (Some text.now)) }
     ensures lawful { IfOk result (λ input. is_patch_file text.now ≡ true) }
@@ -70,7 +70,7 @@ fn input_of(alloc: Global, text: &str) -> Result<Input, WordFault>
     }
 }
 
-#[tactic(auto, unfolding(patch_options::specs::Forms::is_name))]
+#[tactic(auto, unfolding(crate::specs::Forms::is_name))]
 fn name_of(alloc: Global, text: &str) -> Result<Name, WordFault>
     ensures name { IfOk result (λ name. name ≡ normal_form text.now) }
     ensures lawful { IfOk result (λ name. is_name text.now ≡ true) }
@@ -95,7 +95,7 @@ fn read_name(alloc: Global, text: Option<&str>) -> Result<Option<Name>, WordFaul
 }
 
 /// A name that is no temporary's.
-#[tactic(auto, unfolding(patch_options::specs::Forms::is_lasting_name))]
+#[tactic(auto, unfolding(crate::specs::Forms::is_lasting_name))]
 fn lasting_name_of(alloc: Global, text: &str) -> Result<Name, WordFault>
     ensures name { IfOk result (λ name. name ≡ normal_form text.now) }
     ensures lawful { IfOk result (λ name. is_lasting_name text.now ≡ true) }
@@ -120,7 +120,7 @@ fn read_lasting_name(alloc: Global, text: Option<&str>) -> Result<Option<Name>, 
 }
 
 /// What may stand before a name: with `x` behind it, it is a name in normal form.
-#[tactic(auto, unfolding(patch_options::specs::Forms::is_prefix))]
+#[tactic(auto, unfolding(crate::specs::Forms::is_prefix))]
 fn prefix_of(alloc: Global, text: &str) -> Result<String, WordFault>
     ensures prefix { IfOk result (λ prefix. string_bytes prefix ≡ text.now) }
     ensures lawful { IfOk result (λ prefix. is_prefix text.now ≡ true) }

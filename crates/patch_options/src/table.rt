@@ -59,7 +59,7 @@ pub fn read_options(alloc: Global, matches: &ArgMatches<'_>) -> Result<Options, 
 }
 
 /// How often the switch was given.
-#[tactic(auto, unfolding(patch_options::specs::Table::uses))]
+#[tactic(auto, unfolding(crate::specs::Table::uses))]
 fn uses(matches: &ArgMatches<'_>, name: &str) -> u32
     ensures uses { result ≡ uses (rows_in matches.now) name.now }
     ensures few { result < 256 }
@@ -68,7 +68,7 @@ fn uses(matches: &ArgMatches<'_>, name: &str) -> u32
 }
 
 /// The value of an option or an operand.
-#[tactic(auto, unfolding(patch_options::specs::Table::value_of))]
+#[tactic(auto, unfolding(crate::specs::Table::value_of))]
 pub fn value_of<'a>(matches: &ArgMatches<'a>, name: &str) -> Option<&'a str>
     ensures { text_of result ≡ value_of (rows_in matches.now) name.now }
 {

@@ -34,7 +34,7 @@ fn why_no_patch(tool: &str) -> WordFault
 }
 
 /// What the words of `patch` ask for.
-#[tactic(auto, unfolding(patch_options::specs::Words::patch_job, patch_options::specs::Words::matched_job))]
+#[tactic(auto, unfolding(crate::specs::Words::patch_job, crate::specs::Words::matched_job))]
 fn read_patch(alloc: Global, words: &[String]) -> Result<Job, WordFault>
     ensures job { IfOk result (λ job. patch_job (map string_bytes words.now) ≡ Ok (plain_job job)) }
     ensures lawful { IfOk result (λ job. IsLawfulJob (plain_job job)) }
