@@ -1,4 +1,3 @@
 pub mod Extending
 pub mod Matching
 pub mod Numbers
-pub mod Suffixes
