@@ -34,13 +34,17 @@ switch_names = codes "context" ∷ codes "ed" ∷ codes "normal" ∷ codes "unif
 abbrev pub form_uses : List Row → ℕ
 form_uses rows = uses rows (codes "context") + uses rows (codes "ed") + uses rows (codes "normal") + uses rows (codes "unified")
 
+-- no switch is given twice
+unfoldable pub are_single : List Row → Bool
+are_single rows = list_all (is_single rows) switch_names
+
+abbrev pub exclusions_hold : List Row → Bool
+exclusions_hold rows = not (are_both_used rows (codes "backup-if-mismatch") (codes "no-backup-if-mismatch"))
+    && (not (are_both_used rows (codes "silent") (codes "verbose")) && not (are_both_used rows (codes "silent") (codes "quiet")))
+
 -- no switch is given twice, and no two that exclude each other
 abbrev pub switches_agree : List Row → Bool
-switches_agree rows = list_all (is_single rows) switch_names
-    && (nat_le (form_uses rows) 1
-    && (not (are_both_used rows (codes "backup-if-mismatch") (codes "no-backup-if-mismatch"))
-    && (not (are_both_used rows (codes "silent") (codes "verbose"))
-    && not (are_both_used rows (codes "silent") (codes "quiet")))))
+switches_agree rows = are_single rows && (nat_le (form_uses rows) 1 && exclusions_hold rows)
 
 -- the value of an option or an operand
 unfoldable pub value_of : List Row → Text → Option Text
@@ -50,14 +54,19 @@ value_of rows name = first_of name rows
 abbrev pub has_form : (Text → Bool) → Option Text → Bool
 has_form form value = option_map_or form value true
 
--- numbers, words and endings have their forms
-abbrev pub values_agree : List Row → Bool
-values_agree rows = has_form (λ t. is_some (number_of t)) (value_of rows (codes "strip"))
+abbrev pub numbers_agree : List Row → Bool
+numbers_agree rows = has_form (λ t. is_some (number_of t)) (value_of rows (codes "strip"))
     && (has_form (λ t. is_some (number_of t)) (value_of rows (codes "fuzz"))
-    && (has_form (λ t. is_some (buffer_of t)) (value_of rows (codes "buffer"))
-    && (has_form (λ t. is_some (plan_of t)) (value_of rows (codes "plan"))
+    && has_form (λ t. is_some (buffer_of t)) (value_of rows (codes "buffer")))
+
+abbrev pub words_agree : List Row → Bool
+words_agree rows = has_form (λ t. is_some (plan_of t)) (value_of rows (codes "plan"))
     && (has_form (λ t. is_some (reject_form_of t)) (value_of rows (codes "reject-format"))
-    && has_form is_suffix (value_of rows (codes "suffix"))))))
+    && has_form is_suffix (value_of rows (codes "suffix")))
+
+-- numbers, words and the suffix have their forms
+abbrev pub values_agree : List Row → Bool
+values_agree rows = numbers_agree rows && words_agree rows
 
 -- the text behind a reference
 abbrev pub text_of : Option (Bor Text) → Option Text

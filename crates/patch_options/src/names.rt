@@ -45,9 +45,9 @@ fn read_input(
     input: Option<&str>,
     operand: Option<&str>,
 ) -> Result<Input, WordFault>
-    ensures input { IfOk result (λ given. given ≡ input_of (first_given (text_of input) (text_of operand))) }
-    ensures lawful { IfOk result (λ given. inputs_agree (text_of input) (text_of operand) ≡ true) }
-    ensures refused { IfErr result (λ fault. (fault ≡ WordFault.Memory) ⊎ ((fault ≡ WordFault.Usage) × (inputs_agree (text_of input) (text_of operand) ≡ false))) }
+    ensures input { IfOk result (λ given. given ≡ input_of (first_given (text_of input.entry) (text_of operand.entry))) }
+    ensures lawful { IfOk result (λ given. inputs_agree (text_of input.entry) (text_of operand.entry) ≡ true) }
+    ensures refused { IfErr result (λ fault. (fault ≡ WordFault.Memory) ⊎ ((fault ≡ WordFault.Usage) × (inputs_agree (text_of input.entry) (text_of operand.entry) ≡ false))) }
 {
     match (input, operand) {
         (None, None) => Ok(Input::Standard),
@@ -84,9 +84,9 @@ fn name_of(alloc: Global, text: &str) -> Result<Name, WordFault>
 }
 
 fn read_name(alloc: Global, text: Option<&str>) -> Result<Option<Name>, WordFault>
-    ensures name { IfOk result (λ given. given ≡ option_map normal_form (text_of text)) }
-    ensures lawful { IfOk result (λ given. has_form is_name (text_of text) ≡ true) }
-    ensures refused { IfErr result (λ fault. (fault ≡ WordFault.Memory) ⊎ ((fault ≡ WordFault.Usage) × (has_form is_name (text_of text) ≡ false))) }
+    ensures name { IfOk result (λ given. given ≡ option_map normal_form (text_of text.entry)) }
+    ensures lawful { IfOk result (λ given. has_form is_name (text_of text.entry) ≡ true) }
+    ensures refused { IfErr result (λ fault. (fault ≡ WordFault.Memory) ⊎ ((fault ≡ WordFault.Usage) × (has_form is_name (text_of text.entry) ≡ false))) }
 {
     match text {
         Some(text) => Ok(Some(name_of(alloc, text)?)),
@@ -109,9 +109,9 @@ fn lasting_name_of(alloc: Global, text: &str) -> Result<Name, WordFault>
 }
 
 fn read_lasting_name(alloc: Global, text: Option<&str>) -> Result<Option<Name>, WordFault>
-    ensures name { IfOk result (λ given. given ≡ option_map normal_form (text_of text)) }
-    ensures lawful { IfOk result (λ given. has_form is_lasting_name (text_of text) ≡ true) }
-    ensures refused { IfErr result (λ fault. (fault ≡ WordFault.Memory) ⊎ ((fault ≡ WordFault.Usage) × (has_form is_lasting_name (text_of text) ≡ false))) }
+    ensures name { IfOk result (λ given. given ≡ option_map normal_form (text_of text.entry)) }
+    ensures lawful { IfOk result (λ given. has_form is_lasting_name (text_of text.entry) ≡ true) }
+    ensures refused { IfErr result (λ fault. (fault ≡ WordFault.Memory) ⊎ ((fault ≡ WordFault.Usage) × (has_form is_lasting_name (text_of text.entry) ≡ false))) }
 {
     match text {
         Some(text) => Ok(Some(lasting_name_of(alloc, text)?)),
@@ -136,9 +136,9 @@ fn prefix_of(alloc: Global, text: &str) -> Result<String, WordFault>
 }
 
 fn read_prefix(alloc: Global, text: Option<&str>) -> Result<Option<String>, WordFault>
-    ensures prefix { IfOk result (λ given. option_map string_bytes given ≡ text_of text) }
-    ensures lawful { IfOk result (λ given. has_form is_prefix (text_of text) ≡ true) }
-    ensures refused { IfErr result (λ fault. (fault ≡ WordFault.Memory) ⊎ ((fault ≡ WordFault.Usage) × (has_form is_prefix (text_of text) ≡ false))) }
+    ensures prefix { IfOk result (λ given. option_map string_bytes given ≡ text_of text.entry) }
+    ensures lawful { IfOk result (λ given. has_form is_prefix (text_of text.entry) ≡ true) }
+    ensures refused { IfErr result (λ fault. (fault ≡ WordFault.Memory) ⊎ ((fault ≡ WordFault.Usage) × (has_form is_prefix (text_of text.entry) ≡ false))) }
 {
     match text {
         Some(text) => Ok(Some(prefix_of(alloc, text)?)),

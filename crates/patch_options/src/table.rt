@@ -3,7 +3,7 @@ ghost use Rattle.std.specs.Prelude.{◌≡◌, ◌⊎◌, ◌<◌, codes, true, 
 ghost use Rattle.patch_options.specs.Flags.{rows_in};
 ghost use Rattle.patch_options.specs.Forms.{number_of, buffer_of, plan_of, reject_form_of, is_suffix};
 ghost use Rattle.patch_options.specs.PlainJob.{plain_options};
-ghost use Rattle.patch_options.specs.Table.{uses, value_of, text_of, has_form, is_used, are_both_used, form_uses, switches_agree, values_agree, is_command, options_of, only_form};
+ghost use Rattle.patch_options.specs.Table.{uses, value_of, text_of, has_form, is_used, are_both_used, form_uses, are_single, exclusions_hold, switches_agree, numbers_agree, words_agree, values_agree, is_command, options_of, only_form};
 
 use crate::forms::{buffer_of, is_suffix, number_of, plan_of, reject_form_of};
 use crate::names::read_names;
@@ -91,11 +91,27 @@ fn are_both_used(matches: &ArgMatches<'_>, one: &str, other: &str) -> bool
 fn switches_agree(matches: &ArgMatches<'_>) -> bool
     ensures { result ≡ switches_agree (rows_in matches.now) }
 {
+    are_single(matches) && form_uses(matches) <= 1 && exclusions_hold(matches)
+}
+
+/// Whether no switch was given twice.
+fn are_single(matches: &ArgMatches<'_>) -> bool
+    ensures { result ≡ are_single (rows_in matches.now) }
+{
     SWITCHES.iter().all(|name| uses(matches, name) <= 1)
-        && form_uses(matches) <= 1
-        && !are_both_used(matches, "backup-if-mismatch", "no-backup-if-mismatch")
-        && !are_both_used(matches, "silent", "verbose")
-        && !are_both_used(matches, "silent", "quiet")
+}
+
+/// Whether no two switches were given together that exclude each other.
+fn exclusions_hold(matches: &ArgMatches<'_>) -> bool
+    ensures { result ≡ exclusions_hold (rows_in matches.now) }
+{
+    if are_both_used(matches, "backup-if-mismatch", "no-backup-if-mismatch") {
+        return false;
+    }
+    if are_both_used(matches, "silent", "verbose") {
+        return false;
+    }
+    !are_both_used(matches, "silent", "quiet")
 }
 
 /// How often a switch was given that admits one form alone.
@@ -112,16 +128,27 @@ fn form_uses(matches: &ArgMatches<'_>) -> u32
 fn values_agree(matches: &ArgMatches<'_>) -> bool
     ensures { result ≡ values_agree (rows_in matches.now) }
 {
+    numbers_agree(matches) && words_agree(matches)
+}
+
+fn numbers_agree(matches: &ArgMatches<'_>) -> bool
+    ensures { result ≡ numbers_agree (rows_in matches.now) }
+{
     is_number(value_of(matches, "strip"))
         && is_number(value_of(matches, "fuzz"))
         && is_buffer(value_of(matches, "buffer"))
-        && is_plan(value_of(matches, "plan"))
+}
+
+fn words_agree(matches: &ArgMatches<'_>) -> bool
+    ensures { result ≡ words_agree (rows_in matches.now) }
+{
+    is_plan(value_of(matches, "plan"))
         && is_reject_form(value_of(matches, "reject-format"))
         && has_suffix_form(value_of(matches, "suffix"))
 }
 
 fn is_number(text: Option<&str>) -> bool
-    ensures { result ≡ has_form (λ t. is_some (number_of t)) (text_of text) }
+    ensures { result ≡ has_form (λ t. is_some (number_of t)) (text_of text.entry) }
 {
     match text {
         Some(text) => number_of(text).is_some(),
@@ -130,7 +157,7 @@ fn is_number(text: Option<&str>) -> bool
 }
 
 fn is_buffer(text: Option<&str>) -> bool
-    ensures { result ≡ has_form (λ t. is_some (buffer_of t)) (text_of text) }
+    ensures { result ≡ has_form (λ t. is_some (buffer_of t)) (text_of text.entry) }
 {
     match text {
         Some(text) => buffer_of(text).is_some(),
@@ -139,7 +166,7 @@ fn is_buffer(text: Option<&str>) -> bool
 }
 
 fn is_plan(text: Option<&str>) -> bool
-    ensures { result ≡ has_form (λ t. is_some (plan_of t)) (text_of text) }
+    ensures { result ≡ has_form (λ t. is_some (plan_of t)) (text_of text.entry) }
 {
     match text {
         Some(text) => plan_of(text).is_some(),
@@ -148,7 +175,7 @@ fn is_plan(text: Option<&str>) -> bool
 }
 
 fn is_reject_form(text: Option<&str>) -> bool
-    ensures { result ≡ has_form (λ t. is_some (reject_form_of t)) (text_of text) }
+    ensures { result ≡ has_form (λ t. is_some (reject_form_of t)) (text_of text.entry) }
 {
     match text {
         Some(text) => reject_form_of(text).is_some(),
@@ -157,7 +184,7 @@ fn is_reject_form(text: Option<&str>) -> bool
 }
 
 fn has_suffix_form(text: Option<&str>) -> bool
-    ensures { result ≡ has_form is_suffix (text_of text) }
+    ensures { result ≡ has_form is_suffix (text_of text.entry) }
 {
     match text {
         Some(text) => is_suffix(text),
@@ -212,7 +239,7 @@ fn buffer_in(matches: &ArgMatches<'_>) -> u32
 }
 
 fn copied(alloc: Global, text: Option<&str>) -> Result<Option<String>, AllocError>
-    ensures { IfOk result (λ copy. option_map string_bytes copy ≡ text_of text) }
+    ensures { IfOk result (λ copy. option_map string_bytes copy ≡ text_of text.entry) }
 {
     match text {
         Some(text) => Ok(Some(String::from_str(alloc, text)?)),
