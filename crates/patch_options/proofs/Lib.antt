@@ -1,3 +1,4 @@
 pub mod Extending
 pub mod Matching
 pub mod Numbers
+pub mod Singles

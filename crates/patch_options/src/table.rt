@@ -1,9 +1,10 @@
 //! The table of the words of `patch`: what each switch and each value gives.
 ghost use Rattle.std.specs.Prelude.{◌≡◌, ◌⊎◌, ◌<◌, codes, true, false, is_some, IfOk, IfErr, string_bytes, option_map, option_and_then, unwrap_or};
+ghost use Rattle.std.specs.List.{list_all};
 ghost use Rattle.patch_options.specs.Flags.{rows_in};
 ghost use Rattle.patch_options.specs.Forms.{number_of, buffer_of, plan_of, reject_form_of, is_suffix};
 ghost use Rattle.patch_options.specs.PlainJob.{plain_options};
-ghost use Rattle.patch_options.specs.Table.{uses, value_of, text_of, has_form, is_used, are_both_used, form_uses, are_single, exclusions_hold, switches_agree, numbers_agree, words_agree, values_agree, is_command, options_of, only_form};
+ghost use Rattle.patch_options.specs.Table.{uses, value_of, text_of, has_form, is_used, is_single, are_both_used, form_uses, are_single, exclusions_hold, switches_agree, numbers_agree, words_agree, values_agree, is_command, options_of, only_form};
 
 use crate::forms::{buffer_of, is_suffix, number_of, plan_of, reject_form_of};
 use crate::names::read_names;
@@ -98,7 +99,14 @@ fn switches_agree(matches: &ArgMatches<'_>) -> bool
 fn are_single(matches: &ArgMatches<'_>) -> bool
     ensures { result ≡ are_single (rows_in matches.now) }
 {
-    SWITCHES.iter().all(|name| uses(matches, name) <= 1)
+    each_single(matches, SWITCHES.as_slice())
+}
+
+/// Whether none of these switches was given twice.
+fn each_single(matches: &ArgMatches<'_>, names: &[&str]) -> bool
+    ensures { result ≡ list_all (λ name. is_single (rows_in matches.now) name.now) names.now }
+{
+    names.iter().all(|name| uses(matches, name) <= 1)
 }
 
 /// Whether no two switches were given together that exclude each other.
