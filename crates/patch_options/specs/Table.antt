@@ -76,14 +76,16 @@ text_of text = option_map (λ t. t.now) text
 abbrev pub inputs_agree : Option Text → Option Text → Bool
 inputs_agree input operand = not (is_some input && is_some operand) && (has_form is_patch_file input && has_form is_patch_file operand)
 
+-- the names that are written, and what stands before that of a backup, are lawful
+unfoldable pub outputs_agree : List Row → Bool
+outputs_agree rows = has_form is_lasting_name (value_of rows (codes "output"))
+    && (has_form is_lasting_name (value_of rows (codes "reject-file")) && has_form is_prefix (value_of rows (codes "prefix")))
+
 -- names are lawful
 abbrev pub names_agree : List Row → Bool
 names_agree rows = inputs_agree (value_of rows (codes "input")) (value_of rows (codes "patchfile"))
     && (has_form is_name (value_of rows (codes "directory"))
-    && (has_form is_lasting_name (value_of rows (codes "file"))
-    && (has_form is_lasting_name (value_of rows (codes "output"))
-    && (has_form is_lasting_name (value_of rows (codes "reject-file"))
-    && has_form is_prefix (value_of rows (codes "prefix"))))))
+    && (has_form is_lasting_name (value_of rows (codes "file")) && outputs_agree rows))
 
 -- what was matched is a command
 abbrev pub is_command : List Row → Bool

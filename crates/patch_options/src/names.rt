@@ -1,10 +1,10 @@
 //! The names that a command gives.
 ghost use Rattle.std.specs.Prelude.{◌≡◌, ◌⊎◌, ◌++◌, codes, true, false, IfOk, IfErr, string_bytes, option_map};
 ghost use Rattle.patch_options.specs.Flags.{rows_in};
-ghost use Rattle.patch_options.specs.HasNames.{HasNames};
+ghost use Rattle.patch_options.specs.HasNames.{HasNames, HasOutputs};
 ghost use Rattle.outside.specs.Names.{normal_form};
 ghost use Rattle.patch_options.specs.Forms.{is_name, is_lasting_name, is_patch_file, is_prefix};
-ghost use Rattle.patch_options.specs.Table.{text_of, has_form, names_agree, inputs_agree, input_of, first_given};
+ghost use Rattle.patch_options.specs.Table.{text_of, has_form, names_agree, outputs_agree, inputs_agree, input_of, first_given};
 
 use crate::table::value_of;
 use crate::{Input, WordFault};
@@ -12,15 +12,21 @@ use clap::ArgMatches;
 use outside::{Name, NameFault};
 use std::alloc::Global;
 
-/// The names of a command, and what stands before that of a backup.
+/// The names that are written, and what stands before that of a backup.
+#[derive(Drop)]
+pub struct Outputs {
+    pub output: Option<Name>,
+    pub reject: Option<Name>,
+    pub prefix: Option<String>,
+}
+
+/// The names of a command.
 #[derive(Drop)]
 pub struct Names {
     pub dir: Option<Name>,
     pub file: Option<Name>,
     pub input: Input,
-    pub output: Option<Name>,
-    pub reject: Option<Name>,
-    pub prefix: Option<String>,
+    pub outputs: Outputs,
 }
 
 /// The names that were matched, if they are lawful.
@@ -33,6 +39,17 @@ pub fn read_names(alloc: Global, matches: &ArgMatches<'_>) -> Result<Names, Word
         input: read_input(alloc, value_of(matches, "input"), value_of(matches, "patchfile"))?,
         dir: read_name(alloc, value_of(matches, "directory"))?,
         file: read_lasting_name(alloc, value_of(matches, "file"))?,
+        outputs: read_outputs(alloc, matches)?,
+    })
+}
+
+#[tactic(auto, unfolding(crate::specs::Table::outputs_agree))]
+fn read_outputs(alloc: Global, matches: &ArgMatches<'_>) -> Result<Outputs, WordFault>
+    ensures outputs { IfOk result (λ outputs. HasOutputs (rows_in matches.now) outputs) }
+    ensures lawful { IfOk result (λ outputs. outputs_agree (rows_in matches.now) ≡ true) }
+    ensures refused { IfErr result (λ fault. (fault ≡ WordFault.Memory) ⊎ ((fault ≡ WordFault.Usage) × (outputs_agree (rows_in matches.now) ≡ false))) }
+{
+    Ok(Outputs {
         output: read_lasting_name(alloc, value_of(matches, "output"))?,
         reject: read_lasting_name(alloc, value_of(matches, "reject-file"))?,
         prefix: read_prefix(alloc, value_of(matches, "prefix"))?,
