@@ -2,3 +2,4 @@ pub mod Extending
 pub mod Matching
 pub mod Numbers
 pub mod Singles
+pub mod Lawful

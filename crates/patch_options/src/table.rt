@@ -7,7 +7,7 @@ ghost use Rattle.patch_options.specs.PlainJob.{plain_options};
 ghost use Rattle.patch_options.specs.Table.{uses, value_of, text_of, has_form, is_used, is_single, are_both_used, form_uses, are_single, exclusions_hold, switches_agree, numbers_agree, words_agree, values_agree, is_command, options_of, only_form};
 
 use crate::forms::{buffer_of, is_suffix, number_of, plan_of, reject_form_of};
-use crate::names::read_names;
+use crate::names::{Names, Outputs, read_names};
 use crate::{Options, PlanKind, WordFault};
 use clap::ArgMatches;
 use hunk_core::Form;
@@ -29,7 +29,17 @@ pub fn read_options(alloc: Global, matches: &ArgMatches<'_>) -> Result<Options, 
     if !switches_agree(matches) || !values_agree(matches) {
         return Err(WordFault::Usage);
     }
-    let names = read_names(alloc, matches)?;
+    let Names {
+        dir,
+        file,
+        input,
+        outputs,
+    } = read_names(alloc, matches)?;
+    let Outputs {
+        output,
+        reject,
+        prefix,
+    } = outputs;
     let suffix = copied(alloc, value_of(matches, "suffix"))?;
     Ok(Options {
         only: only_form(matches),
@@ -44,12 +54,12 @@ pub fn read_options(alloc: Global, matches: &ArgMatches<'_>) -> Result<Options, 
         backup: is_used(matches, "backup"),
         mismatch_backup: !is_used(matches, "no-backup-if-mismatch"),
         suffix,
-        prefix: names.outputs.prefix,
-        dir: names.dir,
-        file: names.file,
-        input: names.input,
-        output: names.outputs.output,
-        reject: names.outputs.reject,
+        prefix,
+        dir,
+        file,
+        input,
+        output,
+        reject,
         reject_form: reject_form_in(matches),
         dry_run: is_used(matches, "dry-run"),
         silent: is_used(matches, "silent") || is_used(matches, "quiet"),
