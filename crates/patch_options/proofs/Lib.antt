@@ -3,3 +3,4 @@ pub mod Matching
 pub mod Numbers
 pub mod Singles
 pub mod Lawful
+pub mod Jobs

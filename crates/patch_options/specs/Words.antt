@@ -16,7 +16,7 @@ is_padded Padded = true
 is_padded _ = false
 
 -- the padded plan isn't built yet
-abbrev pub as_supported : PlainOptions → Result PlainJob WordFault
+unfoldable pub as_supported : PlainOptions → Result PlainJob WordFault
 as_supported o = if is_padded o.plan then Err Unsupported else Ok (patch o)
 
 unfoldable pub matched_job : List Row → Result PlainJob WordFault
