@@ -1,8 +1,8 @@
 -- What the words of `patch` ask for, by what was matched in them.
-use Rattle.std.proofs.Common.{◌≡◌, ◌⊎◌, ◌∙◌, Bool, true, false, List, Result, Ok, Err, ap, refl, sym, subst, inl, inr, if◌then◌else◌}
+use Rattle.std.proofs.Common.{◌≡◌, ◌⊎◌, ◌∙◌, Bool, true, false, List, Err, ap, refl, sym, subst, inl, inr, if◌then◌else◌}
 use Rattle.clap.specs.Words.{Row, Text}
 use Rattle.patch_options.specs.Flags.{takes_words, matched_rows}
-use Rattle.patch_options.specs.PlainJob.{PlainOptions, PlainJob, IsLawful, IsLawfulJob}
+use Rattle.patch_options.specs.PlainJob.{PlainOptions, PlainJob, IsLawfulJob}
 use Rattle.patch_options.specs.PlainJob.PlainJob.{patch}
 use Rattle.patch_options.specs.Table.{is_command, options_of}
 use Rattle.patch_options.specs.Words.{patch_job, matched_job, as_supported}

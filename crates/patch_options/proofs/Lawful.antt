@@ -1,13 +1,11 @@
 -- What a command asks for is lawful.
-use Rattle.std.proofs.Common.{◌≡◌, ◌∙◌, ◌≢◌, ◌&&◌, ◌<◌, ◌≤◌, ◌++◌, Bool, true, false, not, List, [], ◌∷◌, ℕ, Option, Some, None, codes, refl, ap, sym, subst, arith, is_some, is_none, if◌then◌else◌, bytes_eq, length, option_and_then, unwrap_or, nat_le}
+use Rattle.std.proofs.Common.{◌≡◌, ◌&&◌, ◌<◌, ◌≤◌, ◌++◌, Bool, true, false, not, List, [], ◌∷◌, ℕ, Option, Some, None, codes, refl, ap, subst, arith, is_some, is_none, if◌then◌else◌, bytes_eq, length, option_and_then, unwrap_or, nat_le}
 use Rattle.std.specs.List.{list_any}
 use Rattle.std.specs.Option.{ForSome}
 use Rattle.std.proofs.lemmas.Slice.Eq.{bytes_eq-Decides}
-use Rattle.outside.specs.Files.{is_temp}
-use Rattle.outside.specs.Names.{is_slash, is_control, broken_rule, normal_form, IsEnding, IsFront, IsName}
+use Rattle.outside.specs.Names.{is_slash, is_control, broken_rule, IsFront}
 use Rattle.clap.specs.Words.{Row, Text}
-use Rattle.hunk_core.specs.declared.Form.{Form}
-use Rattle.hunk_core.specs.declared.Form.TheVariants.{Unified, Context, Normal, Ed}
+use Rattle.hunk_core.specs.declared.Form.TheVariants.{Unified, Context}
 use Rattle.patch_options.specs.Forms.{is_suffix, is_prefix, is_name, is_lasting_name, is_empty, buffer_of, buffer_in, number_of, reject_form_of}
 use Rattle.patch_options.specs.PlainJob.{IsSuffix, HasContext, IsLawful}
 use Rattle.patch_options.specs.Table.{is_command, options_of, value_of, has_form, outputs_agree, switches_agree, values_agree, names_agree, numbers_agree, words_agree}
@@ -86,6 +84,7 @@ size_of (Some text) = from_number (number_of text)
     given : (o : Option ℕ) → ForSome o IsSize → IsSize (unwrap_or o 65536)
     given None h = (omega arith, omega arith)
     given (Some n) h = h n refl
+
     from_number : (o : Option ℕ) → IsSize (unwrap_or (option_and_then buffer_in o) 65536)
     from_number None = (omega arith, omega arith)
     from_number (Some n) = given (buffer_in n) (size_in n)

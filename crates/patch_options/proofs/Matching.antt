@@ -1,6 +1,6 @@
 -- What a parse of the command says of the words.
-use Rattle.std.proofs.Common.{◌≡◌, ◌≢◌, ◌⊎◌, ◌∙◌, List, [], ◌∷◌, Bool, true, false, ap, refl, sym, subst, inl, inr}
-use Rattle.clap.specs.Words.{App, Row, Text, HasMatchesOf, Kinds, HasKind, IsAmong, fault_of, is_simple, is_simple_and_free, matches_of, kind_of}
+use Rattle.std.proofs.Common.{◌≡◌, ◌≢◌, ◌⊎◌, ◌∙◌, List, [], ◌∷◌, true, false, ap, refl, sym, inl, inr}
+use Rattle.clap.specs.Words.{App, Text, HasMatchesOf, Kinds, HasKind, IsAmong, fault_of, is_simple, is_simple_and_free, matches_of, kind_of}
 use Rattle.clap.proofs.OnLiterals.{clap_on_literals}
 use Rattle.clap.specs.declared.error.Error.{Error}
 use Rattle.clap.specs.declared.error.kind.ErrorKind.TheVariants.{OutOfMemory}

@@ -1,5 +1,5 @@
 -- A number that doesn't fill its text.
-use Rattle.std.proofs.Common.{◌≡◌, ℕ, ◌<◌, ◌≤◌, ◌-◌, List, [], ◌∷◌, Option, Some, None, length, drop, ap, refl, sym, length-drop, ◌∙◌, arith}
+use Rattle.std.proofs.Common.{◌≡◌, ℕ, ◌≤◌, ◌-◌, List, [], ◌∷◌, Some, None, length, drop, ap, refl, sym, length-drop, ◌∙◌, arith}
 use Rattle.num_text.specs.Numbers.{IsNumberAt, number_at}
 use Rattle.patch_options.specs.Forms.{number_of}
 

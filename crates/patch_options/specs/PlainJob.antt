@@ -1,7 +1,6 @@
 -- What a command asks for, with texts as lists, and which options are lawful.
-use Rattle.std.specs.Prelude.{◌≡◌, ◌≢◌, ℕ, ◌<◌, ◌≤◌, List, codes, length, Bool, true, false, string_bytes, Option, None, Some, option_map}
+use Rattle.std.specs.Prelude.{◌≡◌, ◌≢◌, ℕ, ◌<◌, ◌≤◌, List, length, Bool, false, string_bytes, Option, option_map}
 use Rattle.std.specs.Option.{ForSome}
-use Rattle.std.specs.List.{ends_with}
 use Rattle.outside.specs.Files.{is_temp}
 use Rattle.outside.specs.Names.{IsEnding, IsFront}
 use Rattle.hunk_core.specs.declared.Form.{Form}

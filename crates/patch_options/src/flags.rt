@@ -109,9 +109,7 @@ fn add_long_switch<'a>(
 ) -> Result<Command<'a>, AllocError>
     ensures { IfOk result (λ c. Extends command.entry (long_switch name.entry.now ∷ []) c) }
 {
-    let switch = Arg::new(alloc, name)
-        .long(name)
-        .action(ArgAction::Count);
+    let switch = Arg::new(alloc, name).long(name).action(ArgAction::Count);
     command.arg(switch)
 }
 
@@ -124,9 +122,7 @@ fn add_option<'a>(
 ) -> Result<Command<'a>, AllocError>
     ensures { IfOk result (λ c. Extends command.entry (option letter name.entry.now ∷ []) c) }
 {
-    let option = Arg::new(alloc, name)
-        .short(letter)
-        .long(name);
+    let option = Arg::new(alloc, name).short(letter).long(name);
     command.arg(option)
 }
 

@@ -36,7 +36,11 @@ pub fn read_names(alloc: Global, matches: &ArgMatches<'_>) -> Result<Names, Word
     ensures refused { IfErr result (λ fault. (fault ≡ WordFault.Memory) ⊎ ((fault ≡ WordFault.Usage) × (names_agree (rows_in matches.now) ≡ false))) }
 {
     Ok(Names {
-        input: read_input(alloc, value_of(matches, "input"), value_of(matches, "patchfile"))?,
+        input: read_input(
+            alloc,
+            value_of(matches, "input"),
+            value_of(matches, "patchfile"),
+        )?,
         dir: read_name(alloc, value_of(matches, "directory"))?,
         file: read_lasting_name(alloc, value_of(matches, "file"))?,
         outputs: read_outputs(alloc, matches)?,
@@ -57,11 +61,7 @@ fn read_outputs(alloc: Global, matches: &ArgMatches<'_>) -> Result<Outputs, Word
 }
 
 /// The patch file, which is the value of `-i` or the second operand.
-fn read_input(
-    alloc: Global,
-    input: Option<&str>,
-    operand: Option<&str>,
-) -> Result<Input, WordFault>
+fn read_input(alloc: Global, input: Option<&str>, operand: Option<&str>) -> Result<Input, WordFault>
     ensures input { IfOk result (λ given. given ≡ input_of (first_given (text_of input.entry) (text_of operand.entry))) }
     ensures lawful { IfOk result (λ given. inputs_agree (text_of input.entry) (text_of operand.entry) ≡ true) }
     ensures refused { IfErr result (λ fault. (fault ≡ WordFault.Memory) ⊎ ((fault ≡ WordFault.Usage) × (inputs_agree (text_of input.entry) (text_of operand.entry) ≡ false))) }

@@ -15,9 +15,23 @@ use std::alloc::{AllocError, Global};
 
 /// The names of the switches, which are counted.
 static SWITCHES: [&str; 17] = [
-    "context", "ed", "normal", "unified", "reverse", "force", "batch", "forward",
-    "ignore-whitespace", "remove-empty-files", "backup", "backup-if-mismatch",
-    "no-backup-if-mismatch", "dry-run", "silent", "quiet", "verbose",
+    "context",
+    "ed",
+    "normal",
+    "unified",
+    "reverse",
+    "force",
+    "batch",
+    "forward",
+    "ignore-whitespace",
+    "remove-empty-files",
+    "backup",
+    "backup-if-mismatch",
+    "no-backup-if-mismatch",
+    "dry-run",
+    "silent",
+    "quiet",
+    "verbose",
 ];
 
 /// The options that were matched, if they are a command.

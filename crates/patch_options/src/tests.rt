@@ -109,7 +109,12 @@ fn not_commands(rt: HostRuntime) -> Result<(), Fail> {
     for words in [&["lsdiff"], &["patchgen"], &["splitdiff"]] {
         assert!(rt; matches!(read(rt.alloc(), words)?, Err(WordFault::Unsupported)));
     }
-    assert!(rt; matches!(read(rt.alloc(), &["patch", "--plan=b"])?, Err(WordFault::Unsupported)));
+    assert!(rt;
+        matches!(
+            read(rt.alloc(), &["patch", "--plan=b"])?,
+            Err(WordFault::Unsupported)
+        )
+    );
     Ok(())
 }
 
@@ -130,7 +135,10 @@ fn defaults(rt: HostRuntime) -> Result<(), Fail> {
 #[test]
 fn commands(rt: HostRuntime) -> Result<(), Fail> {
     let alloc = rt.alloc();
-    let joined = options(alloc, &["patch", "-RftNlEbs", "-p007", "-F", "0", "--", "-f", "-"])?;
+    let joined = options(
+        alloc,
+        &["patch", "-RftNlEbs", "-p007", "-F", "0", "--", "-f", "-"],
+    )?;
     assert!(rt; joined.reverse && joined.force && joined.batch && joined.forward && joined.loose);
     assert!(rt; joined.remove_empty && joined.backup && joined.silent && !joined.verbose);
     assert!(rt; joined.strip == Some(7) && joined.fuzz == 0);
@@ -138,9 +146,23 @@ fn commands(rt: HostRuntime) -> Result<(), Fail> {
     let named = options(
         alloc,
         &[
-            "patch", "-u", "--no-backup-if-mismatch", "-d./d/", "--output=o", "-r", "a//r",
-            "--reject-format=context", "--dry-run", "--verbose", "--plan=a", "--buffer=512",
-            "-p4294967295", "-z~", "-Bold/", "f", "p.ptmp",
+            "patch",
+            "-u",
+            "--no-backup-if-mismatch",
+            "-d./d/",
+            "--output=o",
+            "-r",
+            "a//r",
+            "--reject-format=context",
+            "--dry-run",
+            "--verbose",
+            "--plan=a",
+            "--buffer=512",
+            "-p4294967295",
+            "-z~",
+            "-Bold/",
+            "f",
+            "p.ptmp",
         ],
     )?;
     assert!(rt; named.only == Some(Form::Unified) && !named.mismatch_backup && named.dry_run);
@@ -151,7 +173,10 @@ fn commands(rt: HostRuntime) -> Result<(), Fail> {
     assert!(rt; named.buffer == 512 && named.strip == Some(u32::MAX));
     assert!(rt; matches!(&named.suffix, Some(text) if text.as_str() == "~"));
     assert!(rt; matches!(&named.prefix, Some(text) if text.as_str() == "old/"));
-    let input = options(alloc, &["patch", "-ni-", "f", "--quiet", "--backup-if-mismatch"])?;
+    let input = options(
+        alloc,
+        &["patch", "-ni-", "f", "--quiet", "--backup-if-mismatch"],
+    )?;
     assert!(rt; input.only == Some(Form::Normal) && input_of(&input.input) == None);
     assert!(rt; input.silent && input.mismatch_backup);
     Ok(())

@@ -1,4 +1,4 @@
-use Rattle.std.proofs.Common.{rules, ◌≡◌, ◌∙◌, ap, length, arith, subst}
+use Rattle.std.proofs.Common.{◌∙◌, ap, length}
 use Rattle.patch_options.specs.Forms.{number_of}
 use Rattle.patch_options.proofs.Numbers.{not_whole}
 use Rattle.patch_options.proofs.forms.number_of.Goals as goal

@@ -1,5 +1,4 @@
-use Rattle.std.proofs.Common.{rules, ◌≡◌, ◌∙◌, map, List}
-use Rattle.clap.specs.Words.{Text}
+use Rattle.std.proofs.Common.{rules, ◌≡◌, ◌∙◌, map}
 use Rattle.patch_options.specs.Flags.{rows_in}
 use Rattle.patch_options.specs.Table.{are_single, switch_names}
 use Rattle.patch_options.proofs.Singles.{each_is}

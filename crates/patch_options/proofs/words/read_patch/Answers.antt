@@ -1,4 +1,4 @@
-use Rattle.std.proofs.Common.{rules, map, string_bytes, ◌∙◌}
+use Rattle.std.proofs.Common.{map, string_bytes, ◌∙◌}
 use Rattle.std.proofs.lemmas.Result.{IfOk-weaker, IfErr-weaker}
 use Rattle.std.proofs.Common.{inr}
 use Rattle.clap.proofs.TakesLemmas.{passed_up}
