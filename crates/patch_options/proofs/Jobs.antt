@@ -1,0 +1,42 @@
+-- What the words of `patch` ask for, by what was matched in them.
+use Rattle.std.proofs.Common.{◌≡◌, ◌⊎◌, ◌∙◌, Bool, true, false, List, Err, ap, refl, sym, subst, inl, inr, if◌then◌else◌}
+use Rattle.clap.specs.Words.{Row, Text}
+use Rattle.patch_options.specs.Flags.{takes_words, matched_rows}
+use Rattle.patch_options.specs.PlainJob.{PlainOptions, PlainJob, IsLawfulJob}
+use Rattle.patch_options.specs.PlainJob.PlainJob.{patch}
+use Rattle.patch_options.specs.Table.{is_command, options_of}
+use Rattle.patch_options.specs.Words.{patch_job, matched_job, as_supported}
+use Rattle.patch_options.specs.declared.options.WordFault.{WordFault}
+use Rattle.patch_options.specs.declared.options.WordFault.TheVariants.{Usage, Memory}
+use Rattle.patch_options.proofs.Lawful.{lawful_options}
+
+if_true : {X : Type 0} (b : Bool) (x y : X) → b ≡ true → (if b then x else y) ≡ x
+if_true true x y h = refl
+if_true false x y h = cc
+
+if_false : {X : Type 0} (b : Bool) (x y : X) → b ≡ false → (if b then x else y) ≡ y
+if_false true x y h = cc
+if_false false x y h = refl
+
+pub words_refused : (words : List Text) (fault : WordFault) → (fault ≡ Memory) ⊎ ((fault ≡ Usage) × (takes_words words ≡ false)) → (fault ≡ Memory) ⊎ (patch_job words ≡ Err fault)
+unfolding patch_job
+words_refused words fault (inl memory) = inl memory
+words_refused words fault (inr usage) = inr (if_false (takes_words words) (matched_job (matched_rows words)) (Err Usage) usage.1 ∙ ap (λ (f : WordFault). Err f) (sym usage.0))
+
+matched_is : (words : List Text) (rows : List Row) → takes_words words ≡ true → rows ≡ matched_rows words → patch_job words ≡ matched_job rows
+unfolding patch_job
+matched_is words rows takes are = if_true (takes_words words) (matched_job (matched_rows words)) (Err Usage) takes ∙ ap matched_job (sym are)
+
+pub table_refused : (words : List Text) (rows : List Row) (fault : WordFault) → takes_words words ≡ true → rows ≡ matched_rows words
+    → (fault ≡ Memory) ⊎ ((fault ≡ Usage) × (is_command rows ≡ false)) → (fault ≡ Memory) ⊎ (patch_job words ≡ Err fault)
+unfolding matched_job
+table_refused words rows fault takes are (inl memory) = inl memory
+table_refused words rows fault takes are (inr usage) = inr (matched_is words rows takes are ∙ (if_false (is_command rows) (as_supported (options_of rows)) (Err Usage) usage.1 ∙ ap (λ (f : WordFault). Err f) (sym usage.0)))
+
+pub supported_is : (words : List Text) (rows : List Row) (o : PlainOptions) → takes_words words ≡ true → rows ≡ matched_rows words → is_command rows ≡ true → o ≡ options_of rows
+    → patch_job words ≡ as_supported o
+unfolding matched_job
+supported_is words rows o takes are command is = matched_is words rows takes are ∙ (if_true (is_command rows) (as_supported (options_of rows)) (Err Usage) command ∙ ap as_supported (sym is))
+
+pub lawful_job : (rows : List Row) (o : PlainOptions) (job : PlainJob) → is_command rows ≡ true → o ≡ options_of rows → job ≡ patch o → IsLawfulJob job
+lawful_job rows o job command is same = subst IsLawfulJob (sym (same ∙ ap (λ (p : PlainOptions). patch p) is)) (lawful_options rows command)

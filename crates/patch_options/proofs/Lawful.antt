@@ -1,0 +1,112 @@
+-- What a command asks for is lawful.
+use Rattle.std.proofs.Common.{◌≡◌, ◌&&◌, ◌<◌, ◌≤◌, ◌++◌, Bool, true, false, not, List, [], ◌∷◌, ℕ, Option, Some, None, codes, refl, ap, subst, arith, is_some, is_none, if◌then◌else◌, bytes_eq, length, option_and_then, unwrap_or, nat_le}
+use Rattle.std.specs.List.{list_any}
+use Rattle.std.specs.Option.{ForSome}
+use Rattle.std.proofs.lemmas.Slice.Eq.{bytes_eq-Decides}
+use Rattle.outside.specs.Names.{is_slash, is_control, broken_rule, IsFront}
+use Rattle.clap.specs.Words.{Row, Text}
+use Rattle.hunk_core.specs.declared.Form.TheVariants.{Unified, Context}
+use Rattle.patch_options.specs.Forms.{is_suffix, is_prefix, is_name, is_lasting_name, is_empty, buffer_of, buffer_in, number_of, reject_form_of}
+use Rattle.patch_options.specs.PlainJob.{IsSuffix, HasContext, IsLawful}
+use Rattle.patch_options.specs.Table.{is_command, options_of, value_of, has_form, outputs_agree, switches_agree, values_agree, names_agree, numbers_agree, words_agree}
+
+both : (a b : Bool) → (a && b) ≡ true → (a ≡ true) × (b ≡ true)
+both true b h = (refl, h)
+both false b h = cc
+
+is_false : (b : Bool) → not b ≡ true → b ≡ false
+is_false true h = cc
+is_false false h = refl
+
+some_byte : (text : List ℕ) → not (is_empty text) ≡ true → 0 < length text
+some_byte [] h = cc
+some_byte (b ∷ bs) h = omega arith
+
+suffix_is : (text : List ℕ) → is_suffix text ≡ true → IsSuffix text
+unfolding is_suffix
+suffix_is text h =
+    let some = both (not (is_empty text)) _ h in
+    let slash = both (not (list_any is_slash text)) _ some.1 in
+    let control = both (not (list_any is_control text)) _ slash.1 in
+    record {
+      some = some_byte text some.0;
+      ending = record { no_slash = is_false _ slash.0; no_control = is_false _ control.0 };
+      lasting = is_false _ control.1;
+    }
+
+none_of : {X : Type 0} (o : Option X) → is_none o ≡ true → o ≡ None
+none_of None h = refl
+none_of (Some x) h = cc
+
+prefix_is : (text : List ℕ) → is_prefix text ≡ true → IsFront text
+unfolding is_prefix is_name
+prefix_is text h =
+    let parts = both (is_none (broken_rule (text ++ codes "x"))) _ h in
+    record { lawful = none_of _ parts.0; normal = (bytes_eq-Decides _ _).0 parts.1 }
+
+none_has : {X : Type 0} (P : X → Type 0) → ForSome None P
+none_has P = λ x e. cc
+
+some_has : {X : Type 0} (P : X → Type 0) (x : X) → P x → ForSome (Some x) P
+some_has P x h = λ y e. subst P (ap (λ o. unwrap_or o x) e) h
+
+-- a value that has a form
+pub of_form : (form : Text → Bool) (P : Text → Type 0) (value : Option Text) → ((text : Text) → form text ≡ true → P text) → has_form form value ≡ true → ForSome value P
+of_form form P None law h = none_has P
+of_form form P (Some text) law h = some_has P text (law text h)
+
+context_is : (text : Option Text) → ForSome (option_and_then reject_form_of text) HasContext
+unfolding reject_form_of
+context_is None = none_has HasContext
+context_is (Some text) = go (bytes_eq text (codes "context")) (bytes_eq text (codes "unified"))
+  where
+    go : (a b : Bool) → ForSome (if a then Some Context else if b then Some Unified else None) HasContext
+    go true b = some_has HasContext Context (record { not_normal = λ e. cc; not_ed = λ e. cc })
+    go false true = some_has HasContext Unified (record { not_normal = λ e. cc; not_ed = λ e. cc })
+    go false false = none_has HasContext
+
+abbrev pub IsSize : ℕ → Type 0
+IsSize n = (512 ≤ n) × (n ≤ 1048576)
+
+size_in : (n : ℕ) → ForSome (buffer_in n) IsSize
+size_in n = go (nat_le 512 n) (nat_le n 1048576) refl refl
+  where
+    go : (a b : Bool) → nat_le 512 n ≡ a → nat_le n 1048576 ≡ b → ForSome (if a && b then Some n else None) IsSize
+    go true true least most = some_has IsSize n (grind arith, grind arith)
+    go true false least most = none_has IsSize
+    go false b least most = none_has IsSize
+
+size_of : (value : Option Text) → IsSize (unwrap_or (option_and_then buffer_of value) 65536)
+unfolding buffer_of
+size_of None = (omega arith, omega arith)
+size_of (Some text) = from_number (number_of text)
+  where
+    given : (o : Option ℕ) → ForSome o IsSize → IsSize (unwrap_or o 65536)
+    given None h = (omega arith, omega arith)
+    given (Some n) h = h n refl
+
+    from_number : (o : Option ℕ) → IsSize (unwrap_or (option_and_then buffer_in o) 65536)
+    from_number None = (omega arith, omega arith)
+    from_number (Some n) = given (buffer_in n) (size_in n)
+
+pub lawful_options : (rows : List Row) → is_command rows ≡ true → IsLawful (options_of rows)
+unfolding outputs_agree
+lawful_options rows h =
+    let rest = both (switches_agree rows) (values_agree rows && names_agree rows) h in
+    let parts = both (values_agree rows) (names_agree rows) rest.1 in
+    let words = both (numbers_agree rows) (words_agree rows) parts.0 in
+    let behind_plan = both _ (has_form (λ t. is_some (reject_form_of t)) (value_of rows (codes "reject-format")) && has_form is_suffix (value_of rows (codes "suffix"))) words.1 in
+    let suffix = both _ (has_form is_suffix (value_of rows (codes "suffix"))) behind_plan.1 in
+    let behind_input = both _ (has_form is_name (value_of rows (codes "directory")) && (has_form is_lasting_name (value_of rows (codes "file")) && outputs_agree rows)) parts.1 in
+    let behind_dir = both _ (has_form is_lasting_name (value_of rows (codes "file")) && outputs_agree rows) behind_input.1 in
+    let outputs = both _ (outputs_agree rows) behind_dir.1 in
+    let behind_output = both _ (has_form is_lasting_name (value_of rows (codes "reject-file")) && has_form is_prefix (value_of rows (codes "prefix"))) outputs.1 in
+    let prefix = both _ (has_form is_prefix (value_of rows (codes "prefix"))) behind_output.1 in
+    let size = size_of (value_of rows (codes "buffer")) in
+    record {
+      suffix = of_form is_suffix IsSuffix (value_of rows (codes "suffix")) suffix_is suffix.1;
+      prefix = of_form is_prefix IsFront (value_of rows (codes "prefix")) prefix_is prefix.1;
+      reject_form = context_is (value_of rows (codes "reject-format"));
+      least = size.0;
+      most = size.1;
+    }

@@ -1,0 +1,6 @@
+pub mod Extending
+pub mod Matching
+pub mod Numbers
+pub mod Singles
+pub mod Lawful
+pub mod Jobs

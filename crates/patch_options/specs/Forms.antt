@@ -1,0 +1,62 @@
+-- The forms that values have.
+use Rattle.std.specs.Prelude.{ℕ, ◌^◌, List, [], ◌∷◌, ◌++◌, codes, nat_le, nat_lt, Bool, true, false, not, ◌&&◌, ◌||◌, if◌then◌else◌, bytes_eq, Option, None, Some, is_none, option_and_then}
+use Rattle.std.specs.List.{list_any}
+use Rattle.num_text.specs.Numbers.{number_at}
+use Rattle.outside.specs.Files.{is_temp}
+use Rattle.outside.specs.Names.{broken_rule, normal_form, is_slash, is_control}
+use Rattle.hunk_core.specs.declared.Form.{Form}
+use Rattle.hunk_core.specs.declared.Form.TheVariants.{Unified, Context}
+use Rattle.patch_options.specs.declared.options.PlanKind.{PlanKind}
+use Rattle.patch_options.specs.declared.options.PlanKind.TheVariants.{Whole, Padded, Auto}
+
+abbrev pub is_empty : List ℕ → Bool
+is_empty [] = true
+is_empty (b ∷ bs) = false
+
+abbrev pub whole_number : Option (ℕ × List ℕ) → Option ℕ
+whole_number None = None
+whole_number (Some p) = if is_empty p.1 && nat_lt p.0 (2 ^ 32) then Some p.0 else None
+
+-- the number that a text writes: digits and nothing else, at most 4,294,967,295
+unfoldable pub number_of : List ℕ → Option ℕ
+number_of text = whole_number (number_at text)
+
+abbrev pub buffer_in : ℕ → Option ℕ
+buffer_in n = if nat_le 512 n && nat_le n 1048576 then Some n else None
+
+-- the size of a buffer: a number from 512 to 1,048,576
+unfoldable pub buffer_of : List ℕ → Option ℕ
+buffer_of text = option_and_then buffer_in (number_of text)
+
+-- the plan that a text names
+unfoldable pub plan_of : List ℕ → Option PlanKind
+plan_of text = if bytes_eq text (codes "a") then Some Whole
+    else if bytes_eq text (codes "b") then Some Padded
+    else if bytes_eq text (codes "auto") then Some Auto
+    else None
+
+-- the form of rejects that a text names
+unfoldable pub reject_form_of : List ℕ → Option Form
+reject_form_of text = if bytes_eq text (codes "context") then Some Context
+    else if bytes_eq text (codes "unified") then Some Unified
+    else None
+
+-- what may stand behind a name to make the name of a backup
+unfoldable pub is_suffix : List ℕ → Bool
+is_suffix text = not (is_empty text) && (not (list_any is_slash text) && (not (list_any is_control text) && not (is_temp text)))
+
+-- the text of a name that breaks no rule
+unfoldable pub is_name : List ℕ → Bool
+is_name text = is_none (broken_rule text)
+
+-- a name whose last component isn't that of a temporary
+unfoldable pub is_lasting_name : List ℕ → Bool
+is_lasting_name text = is_name text && not (is_temp (normal_form text))
+
+-- a name, or `-` for standard input
+unfoldable pub is_patch_file : List ℕ → Bool
+is_patch_file text = bytes_eq text (codes "-") || is_name text
+
+-- what may stand before a name: with `x` behind it, it is the text of a name in normal form
+unfoldable pub is_prefix : List ℕ → Bool
+is_prefix text = is_name (text ++ codes "x") && bytes_eq (normal_form (text ++ codes "x")) (text ++ codes "x")

@@ -1,0 +1,6 @@
+pub mod Flags
+pub mod Forms
+pub mod HasNames
+pub mod PlainJob
+pub mod Table
+pub mod Words

@@ -1,0 +1,95 @@
+-- What a command asks for, with texts as lists, and which options are lawful.
+use Rattle.std.specs.Prelude.{◌≡◌, ◌≢◌, ℕ, ◌<◌, ◌≤◌, List, length, Bool, false, string_bytes, Option, option_map}
+use Rattle.std.specs.Option.{ForSome}
+use Rattle.outside.specs.Files.{is_temp}
+use Rattle.outside.specs.Names.{IsEnding, IsFront}
+use Rattle.hunk_core.specs.declared.Form.{Form}
+use Rattle.hunk_core.specs.declared.Form.TheVariants.{Normal, Ed}
+use Rattle.patch_options.specs.declared.options.PlanKind.{PlanKind}
+use Rattle.patch_options.specs.declared.options.Input.{Input}
+use Rattle.patch_options.specs.declared.options.Options.{Options}
+use Rattle.patch_options.specs.declared.options.Job.{Job}
+use Rattle.patch_options.specs.declared.options.Job.TheVariants.{Patch}
+
+-- a command of `patch`; each field is that of `Options`
+pub record PlainOptions : Type 0 where
+  pub only : Option Form
+  pub strip : Option ℕ
+  pub fuzz : ℕ
+  pub reverse : Bool
+  pub force : Bool
+  pub batch : Bool
+  pub forward : Bool
+  pub loose : Bool
+  pub remove_empty : Bool
+  pub backup : Bool
+  pub mismatch_backup : Bool
+  pub suffix : Option (List ℕ)
+  pub prefix : Option (List ℕ)
+  pub dir : Option (List ℕ)
+  pub file : Option (List ℕ)
+  pub input : Input
+  pub output : Option (List ℕ)
+  pub reject : Option (List ℕ)
+  pub reject_form : Option Form
+  pub dry_run : Bool
+  pub silent : Bool
+  pub verbose : Bool
+  pub plan : PlanKind
+  pub buffer : ℕ
+
+abbrev pub plain_options : Options → PlainOptions
+plain_options o = record {
+  only = o.only;
+  strip = o.strip;
+  fuzz = o.fuzz;
+  reverse = o.reverse;
+  force = o.force;
+  batch = o.batch;
+  forward = o.forward;
+  loose = o.loose;
+  remove_empty = o.remove_empty;
+  backup = o.backup;
+  mismatch_backup = o.mismatch_backup;
+  suffix = option_map string_bytes o.suffix;
+  prefix = option_map string_bytes o.prefix;
+  dir = o.dir;
+  file = o.file;
+  input = o.input;
+  output = o.output;
+  reject = o.reject;
+  reject_form = o.reject_form;
+  dry_run = o.dry_run;
+  silent = o.silent;
+  verbose = o.verbose;
+  plan = o.plan;
+  buffer = o.buffer;
+}
+
+pub data PlainJob : Type 0 where
+  patch : PlainOptions → PlainJob
+
+abbrev pub plain_job : Job → PlainJob
+plain_job (Patch o) = patch (plain_options o)
+
+-- the suffix of a backup: it may stand behind a name, and with it no name is that of a temporary
+pub record IsSuffix (text : List ℕ) : Type 0 where
+  pub some : 0 < length text
+  pub ending : IsEnding text
+  pub lasting : is_temp text ≡ false
+
+-- rejects have lines of context
+pub record HasContext (form : Form) : Type 0 where
+  pub not_normal : form ≢ Normal
+  pub not_ed : form ≢ Ed
+
+-- the options that a command may have
+pub record IsLawful (o : PlainOptions) : Type 0 where
+  pub suffix : ForSome o.suffix IsSuffix
+  pub prefix : ForSome o.prefix IsFront
+  pub reject_form : ForSome o.reject_form HasContext
+  pub least : 512 ≤ o.buffer
+  pub most : o.buffer ≤ 1048576
+
+abbrev pub IsLawfulJob : PlainJob → Type 0
+IsLawfulJob (patch o) = IsLawful o

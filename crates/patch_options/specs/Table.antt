@@ -1,0 +1,138 @@
+-- The table of the words of `patch`: what each switch and each value gives, over what `clap` matched.
+use Rattle.std.specs.Prelude.{ℕ, ◌+◌, List, [], ◌∷◌, codes, nat_le, nat_lt, Bool, true, not, ◌&&◌, ◌||◌, if◌then◌else◌, bytes_eq, Option, None, Some, is_some, option_map, option_and_then, unwrap_or}
+use Rattle.std.specs.List.{list_all}
+use Rattle.std.specs.Option.{option_map_or}
+use Rattle.std.specs.Borrow.{Bor}
+use Rattle.clap.specs.Words.{Row, Text, count_of, first_of}
+use Rattle.outside.specs.Names.{normal_form}
+use Rattle.hunk_core.specs.declared.Form.{Form}
+use Rattle.hunk_core.specs.declared.Form.TheVariants.{Unified, Context, Normal, Ed}
+use Rattle.patch_options.specs.Forms.{number_of, buffer_of, plan_of, reject_form_of, is_suffix, is_prefix, is_name, is_lasting_name, is_patch_file}
+use Rattle.patch_options.specs.PlainJob.{PlainOptions}
+use Rattle.patch_options.specs.declared.options.PlanKind.TheVariants.{Auto}
+use Rattle.patch_options.specs.declared.options.Input.{Input}
+use Rattle.patch_options.specs.declared.options.Input.TheVariants.{Standard, File}
+
+-- how often the switch was given
+unfoldable pub uses : List Row → Text → ℕ
+uses rows name = count_of name rows
+
+abbrev pub is_used : List Row → Text → Bool
+is_used rows name = nat_lt 0 (uses rows name)
+
+abbrev pub is_single : List Row → Text → Bool
+is_single rows name = nat_le (uses rows name) 1
+
+abbrev pub are_both_used : List Row → Text → Text → Bool
+are_both_used rows one other = is_used rows one && is_used rows other
+
+abbrev pub switch_names : List Text
+switch_names = codes "context" ∷ codes "ed" ∷ codes "normal" ∷ codes "unified" ∷ codes "reverse" ∷ codes "force" ∷ codes "batch"
+    ∷ codes "forward" ∷ codes "ignore-whitespace" ∷ codes "remove-empty-files" ∷ codes "backup" ∷ codes "backup-if-mismatch"
+    ∷ codes "no-backup-if-mismatch" ∷ codes "dry-run" ∷ codes "silent" ∷ codes "quiet" ∷ codes "verbose" ∷ []
+
+abbrev pub form_uses : List Row → ℕ
+form_uses rows = uses rows (codes "context") + uses rows (codes "ed") + uses rows (codes "normal") + uses rows (codes "unified")
+
+-- no switch is given twice
+unfoldable pub are_single : List Row → Bool
+are_single rows = list_all (is_single rows) switch_names
+
+abbrev pub exclusions_hold : List Row → Bool
+exclusions_hold rows = not (are_both_used rows (codes "backup-if-mismatch") (codes "no-backup-if-mismatch"))
+    && (not (are_both_used rows (codes "silent") (codes "verbose")) && not (are_both_used rows (codes "silent") (codes "quiet")))
+
+-- no switch is given twice, and no two that exclude each other
+abbrev pub switches_agree : List Row → Bool
+switches_agree rows = are_single rows && (nat_le (form_uses rows) 1 && exclusions_hold rows)
+
+-- the value of an option or an operand
+unfoldable pub value_of : List Row → Text → Option Text
+value_of rows name = first_of name rows
+
+-- where there is a value, it has this form
+abbrev pub has_form : (Text → Bool) → Option Text → Bool
+has_form form value = option_map_or form value true
+
+abbrev pub numbers_agree : List Row → Bool
+numbers_agree rows = has_form (λ t. is_some (number_of t)) (value_of rows (codes "strip"))
+    && (has_form (λ t. is_some (number_of t)) (value_of rows (codes "fuzz"))
+    && has_form (λ t. is_some (buffer_of t)) (value_of rows (codes "buffer")))
+
+abbrev pub words_agree : List Row → Bool
+words_agree rows = has_form (λ t. is_some (plan_of t)) (value_of rows (codes "plan"))
+    && (has_form (λ t. is_some (reject_form_of t)) (value_of rows (codes "reject-format"))
+    && has_form is_suffix (value_of rows (codes "suffix")))
+
+-- numbers, words and the suffix have their forms
+abbrev pub values_agree : List Row → Bool
+values_agree rows = numbers_agree rows && words_agree rows
+
+-- the text behind a reference
+abbrev pub text_of : Option (Bor Text) → Option Text
+text_of text = option_map (λ t. t.now) text
+
+-- the patch file is given once at most, as a name or `-`
+abbrev pub inputs_agree : Option Text → Option Text → Bool
+inputs_agree input operand = not (is_some input && is_some operand) && (has_form is_patch_file input && has_form is_patch_file operand)
+
+-- the names that are written, and what stands before that of a backup, are lawful
+unfoldable pub outputs_agree : List Row → Bool
+outputs_agree rows = has_form is_lasting_name (value_of rows (codes "output"))
+    && (has_form is_lasting_name (value_of rows (codes "reject-file")) && has_form is_prefix (value_of rows (codes "prefix")))
+
+-- names are lawful
+abbrev pub names_agree : List Row → Bool
+names_agree rows = inputs_agree (value_of rows (codes "input")) (value_of rows (codes "patchfile"))
+    && (has_form is_name (value_of rows (codes "directory"))
+    && (has_form is_lasting_name (value_of rows (codes "file")) && outputs_agree rows))
+
+-- what was matched is a command
+abbrev pub is_command : List Row → Bool
+is_command rows = switches_agree rows && (values_agree rows && names_agree rows)
+
+-- ---- what it asks for
+
+abbrev pub only_form : List Row → Option Form
+only_form rows = if is_used rows (codes "context") then Some Context
+    else if is_used rows (codes "ed") then Some Ed
+    else if is_used rows (codes "normal") then Some Normal
+    else if is_used rows (codes "unified") then Some Unified
+    else None
+
+abbrev pub first_given : Option Text → Option Text → Option Text
+first_given None other = other
+first_given (Some text) other = Some text
+
+-- the patch file, `-` or none being standard input
+abbrev pub input_of : Option Text → Input
+input_of None = Standard
+input_of (Some text) = if bytes_eq text (codes "-") then Standard else File (normal_form text)
+
+abbrev pub options_of : List Row → PlainOptions
+options_of rows = record {
+  only = only_form rows;
+  strip = option_and_then number_of (value_of rows (codes "strip"));
+  fuzz = unwrap_or (option_and_then number_of (value_of rows (codes "fuzz"))) 2;
+  reverse = is_used rows (codes "reverse");
+  force = is_used rows (codes "force");
+  batch = is_used rows (codes "batch");
+  forward = is_used rows (codes "forward");
+  loose = is_used rows (codes "ignore-whitespace");
+  remove_empty = is_used rows (codes "remove-empty-files");
+  backup = is_used rows (codes "backup");
+  mismatch_backup = not (is_used rows (codes "no-backup-if-mismatch"));
+  suffix = value_of rows (codes "suffix");
+  prefix = value_of rows (codes "prefix");
+  dir = option_map normal_form (value_of rows (codes "directory"));
+  file = option_map normal_form (value_of rows (codes "file"));
+  input = input_of (first_given (value_of rows (codes "input")) (value_of rows (codes "patchfile")));
+  output = option_map normal_form (value_of rows (codes "output"));
+  reject = option_map normal_form (value_of rows (codes "reject-file"));
+  reject_form = option_and_then reject_form_of (value_of rows (codes "reject-format"));
+  dry_run = is_used rows (codes "dry-run");
+  silent = is_used rows (codes "silent") || is_used rows (codes "quiet");
+  verbose = is_used rows (codes "verbose");
+  plan = unwrap_or (option_and_then plan_of (value_of rows (codes "plan"))) Auto;
+  buffer = unwrap_or (option_and_then buffer_of (value_of rows (codes "buffer"))) 65536;
+}

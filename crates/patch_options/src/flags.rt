@@ -1,0 +1,150 @@
+//! The command line of `patch`, read by `clap`.
+ghost use Rattle.std.specs.Prelude.{◌≡◌, ◌≢◌, ◌⊎◌, ◌∷◌, [], map, string_bytes, true, false, IfOk, IfErr};
+ghost use Rattle.clap.specs.Words.{app_of, kind_of, new_rule};
+ghost use Rattle.patch_options.specs.Flags.{switch, long_switch, option, long_option, switches, options, operands, Extends, patch_command, takes_words, matched_rows, rows_in};
+
+use crate::WordFault;
+use clap::error::ErrorKind;
+use clap::{Arg, ArgAction, ArgMatches, Command, Error};
+use std::alloc::{AllocError, Global};
+
+/// What `clap` matches in the words, the first of which is the tool's name.
+pub fn matched(alloc: Global, words: &[String]) -> Result<ArgMatches<'_>, WordFault>
+    ensures taken { IfOk result (λ m. takes_words (map string_bytes words.now) ≡ true) }
+    ensures rows { IfOk result (λ m. rows_in m ≡ matched_rows (map string_bytes words.now)) }
+    ensures refused { IfErr result (λ fault. (fault ≡ WordFault.Memory) ⊎ ((fault ≡ WordFault.Usage) × (takes_words (map string_bytes words.now) ≡ false))) }
+{
+    let command = patch_command(alloc)?;
+    match command.try_get_matches_from(words) {
+        Ok(matches) => Ok(matches),
+        Err(error) => Err(why_refused(&error)),
+    }
+}
+
+fn why_refused(error: &Error) -> WordFault
+    ensures { (result ≡ WordFault.Memory) ⊎ ((result ≡ WordFault.Usage) × (kind_of error.now ≢ ErrorKind.OutOfMemory)) }
+{
+    match error.kind() {
+        ErrorKind::OutOfMemory => WordFault::Memory,
+        _ => WordFault::Usage,
+    }
+}
+
+/// The command without help and version flags, and with no rules between its arguments.
+fn patch_command<'a>(alloc: Global) -> Result<Command<'a>, AllocError>
+    ensures { IfOk result (λ c. app_of c ≡ patch_command) }
+{
+    let command = Command::new(alloc, "patch").disable_help_flag(true);
+    let command = with_switches(alloc, command)?;
+    let command = with_options(alloc, command)?;
+    with_operands(alloc, command)
+}
+
+fn with_switches<'a>(alloc: Global, command: Command<'a>) -> Result<Command<'a>, AllocError>
+    ensures { IfOk result (λ c. Extends command.entry switches c) }
+{
+    let command = add_switch(alloc, command, 'c', "context")?;
+    let command = add_switch(alloc, command, 'e', "ed")?;
+    let command = add_switch(alloc, command, 'n', "normal")?;
+    let command = add_switch(alloc, command, 'u', "unified")?;
+    let command = add_switch(alloc, command, 'R', "reverse")?;
+    let command = add_switch(alloc, command, 'f', "force")?;
+    let command = add_switch(alloc, command, 't', "batch")?;
+    let command = add_switch(alloc, command, 'N', "forward")?;
+    let command = add_switch(alloc, command, 'l', "ignore-whitespace")?;
+    let command = add_switch(alloc, command, 'E', "remove-empty-files")?;
+    let command = add_switch(alloc, command, 'b', "backup")?;
+    let command = add_long_switch(alloc, command, "backup-if-mismatch")?;
+    let command = add_long_switch(alloc, command, "no-backup-if-mismatch")?;
+    let command = add_long_switch(alloc, command, "dry-run")?;
+    let command = add_switch(alloc, command, 's', "silent")?;
+    let command = add_long_switch(alloc, command, "quiet")?;
+    add_long_switch(alloc, command, "verbose")
+}
+
+fn with_options<'a>(alloc: Global, command: Command<'a>) -> Result<Command<'a>, AllocError>
+    ensures { IfOk result (λ c. Extends command.entry options c) }
+{
+    let command = add_option(alloc, command, 'p', "strip")?;
+    let command = add_option(alloc, command, 'F', "fuzz")?;
+    let command = add_option(alloc, command, 'z', "suffix")?;
+    let command = add_option(alloc, command, 'B', "prefix")?;
+    let command = add_option(alloc, command, 'd', "directory")?;
+    let command = add_option(alloc, command, 'i', "input")?;
+    let command = add_option(alloc, command, 'o', "output")?;
+    let command = add_option(alloc, command, 'r', "reject-file")?;
+    let command = add_long_option(alloc, command, "reject-format")?;
+    let command = add_long_option(alloc, command, "plan")?;
+    add_long_option(alloc, command, "buffer")
+}
+
+fn with_operands<'a>(alloc: Global, command: Command<'a>) -> Result<Command<'a>, AllocError>
+    ensures { IfOk result (λ c. Extends command.entry operands c) }
+{
+    let command = add_operand(alloc, command, "file")?;
+    add_operand(alloc, command, "patchfile")
+}
+
+/// A switch with a letter and a name. Its uses are counted.
+fn add_switch<'a>(
+    alloc: Global,
+    command: Command<'a>,
+    letter: char,
+    name: &'a str,
+) -> Result<Command<'a>, AllocError>
+    ensures { IfOk result (λ c. Extends command.entry (switch letter name.entry.now ∷ []) c) }
+{
+    let switch = Arg::new(alloc, name)
+        .short(letter)
+        .long(name)
+        .action(ArgAction::Count);
+    command.arg(switch)
+}
+
+/// A switch with a name alone.
+fn add_long_switch<'a>(
+    alloc: Global,
+    command: Command<'a>,
+    name: &'a str,
+) -> Result<Command<'a>, AllocError>
+    ensures { IfOk result (λ c. Extends command.entry (long_switch name.entry.now ∷ []) c) }
+{
+    let switch = Arg::new(alloc, name).long(name).action(ArgAction::Count);
+    command.arg(switch)
+}
+
+/// An option with a letter and a name, whose value is a text.
+fn add_option<'a>(
+    alloc: Global,
+    command: Command<'a>,
+    letter: char,
+    name: &'a str,
+) -> Result<Command<'a>, AllocError>
+    ensures { IfOk result (λ c. Extends command.entry (option letter name.entry.now ∷ []) c) }
+{
+    let option = Arg::new(alloc, name).short(letter).long(name);
+    command.arg(option)
+}
+
+/// An option with a name alone.
+fn add_long_option<'a>(
+    alloc: Global,
+    command: Command<'a>,
+    name: &'a str,
+) -> Result<Command<'a>, AllocError>
+    ensures { IfOk result (λ c. Extends command.entry (long_option name.entry.now ∷ []) c) }
+{
+    let option = Arg::new(alloc, name).long(name);
+    command.arg(option)
+}
+
+fn add_operand<'a>(
+    alloc: Global,
+    command: Command<'a>,
+    name: &'a str,
+) -> Result<Command<'a>, AllocError>
+    ensures { IfOk result (λ c. Extends command.entry (new_rule name.entry.now ∷ []) c) }
+{
+    let operand = Arg::new(alloc, name);
+    command.arg(operand)
+}

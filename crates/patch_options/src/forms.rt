@@ -1,0 +1,73 @@
+//! The forms that values have.
+ghost use Rattle.std.specs.Prelude.{◌≡◌};
+ghost use Rattle.outside.specs.Files.{is_temp};
+ghost use Rattle.patch_options.specs.Forms.{number_of, buffer_of, plan_of, reject_form_of, is_suffix};
+
+use crate::PlanKind;
+use hunk_core::Form;
+use num_text::{Number, read_number};
+use outside::is_ending;
+
+/// The number that the text writes: digits and nothing else.
+#[tactic(auto, unfolding(crate::specs::Forms::number_of))]
+pub fn number_of(text: &str) -> Option<u32>
+    ensures { result ≡ number_of text.now }
+{
+    match read_number(text.as_bytes(), 0) {
+        Number::Value { value, end } if end == text.len() => Some(value),
+        _ => None,
+    }
+}
+
+/// The size of a buffer, from 512 to 1,048,576.
+#[tactic(auto, unfolding(crate::specs::Forms::buffer_of))]
+pub fn buffer_of(text: &str) -> Option<u32>
+    ensures { result ≡ buffer_of text.now }
+{
+    match number_of(text) {
+        Some(size) if 512 <= size && size <= 1_048_576 => Some(size),
+        _ => None,
+    }
+}
+
+#[tactic(auto, unfolding(crate::specs::Forms::plan_of))]
+pub fn plan_of(text: &str) -> Option<PlanKind>
+    ensures { result ≡ plan_of text.now }
+{
+    match text {
+        "a" => Some(PlanKind::Whole),
+        "b" => Some(PlanKind::Padded),
+        "auto" => Some(PlanKind::Auto),
+        _ => None,
+    }
+}
+
+#[tactic(auto, unfolding(crate::specs::Forms::reject_form_of))]
+pub fn reject_form_of(text: &str) -> Option<Form>
+    ensures { result ≡ reject_form_of text.now }
+{
+    match text {
+        "context" => Some(Form::Context),
+        "unified" => Some(Form::Unified),
+        _ => None,
+    }
+}
+
+/// Whether it may be the suffix of backups.
+#[tactic(auto, unfolding(crate::specs::Forms::is_suffix))]
+pub fn is_suffix(text: &str) -> bool
+    ensures { result ≡ is_suffix text.now }
+{
+    if text.is_empty() || !is_ending(text) {
+        return false;
+    }
+    !ends_as_temporary(text)
+}
+
+/// Whether the text ends as the name of a temporary does.
+#[tactic(auto, unfolding(outside::specs::Files::is_temp))]
+fn ends_as_temporary(text: &str) -> bool
+    ensures { result ≡ is_temp text.now }
+{
+    text.as_bytes().ends_with(b".ptmp")
+}

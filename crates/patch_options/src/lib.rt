@@ -1,0 +1,15 @@
+//! The words of a command, and the options that they give.
+#![tactic(auto)]
+
+mod flags;
+mod forms;
+mod names;
+mod options;
+mod table;
+mod words;
+
+pub use options::{Input, Job, Options, PlanKind, WordFault};
+pub use words::read_words;
+
+#[cfg(test)]
+mod tests;

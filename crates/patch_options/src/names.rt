@@ -1,0 +1,164 @@
+//! The names that a command gives.
+ghost use Rattle.std.specs.Prelude.{◌≡◌, ◌⊎◌, ◌++◌, codes, true, false, IfOk, IfErr, string_bytes, option_map};
+ghost use Rattle.patch_options.specs.Flags.{rows_in};
+ghost use Rattle.patch_options.specs.HasNames.{HasNames, HasOutputs};
+ghost use Rattle.outside.specs.Names.{normal_form};
+ghost use Rattle.patch_options.specs.Forms.{is_name, is_lasting_name, is_patch_file, is_prefix};
+ghost use Rattle.patch_options.specs.Table.{text_of, has_form, names_agree, outputs_agree, inputs_agree, input_of, first_given};
+
+use crate::table::value_of;
+use crate::{Input, WordFault};
+use clap::ArgMatches;
+use outside::{Name, NameFault};
+use std::alloc::Global;
+
+/// The names that are written, and what stands before that of a backup.
+#[derive(Drop)]
+pub struct Outputs {
+    pub output: Option<Name>,
+    pub reject: Option<Name>,
+    pub prefix: Option<String>,
+}
+
+/// The names of a command.
+#[derive(Drop)]
+pub struct Names {
+    pub dir: Option<Name>,
+    pub file: Option<Name>,
+    pub input: Input,
+    pub outputs: Outputs,
+}
+
+/// The names that were matched, if they are lawful.
+pub fn read_names(alloc: Global, matches: &ArgMatches<'_>) -> Result<Names, WordFault>
+    ensures names { IfOk result (λ names. HasNames (rows_in matches.now) names) }
+    ensures lawful { IfOk result (λ names. names_agree (rows_in matches.now) ≡ true) }
+    ensures refused { IfErr result (λ fault. (fault ≡ WordFault.Memory) ⊎ ((fault ≡ WordFault.Usage) × (names_agree (rows_in matches.now) ≡ false))) }
+{
+    Ok(Names {
+        input: read_input(
+            alloc,
+            value_of(matches, "input"),
+            value_of(matches, "patchfile"),
+        )?,
+        dir: read_name(alloc, value_of(matches, "directory"))?,
+        file: read_lasting_name(alloc, value_of(matches, "file"))?,
+        outputs: read_outputs(alloc, matches)?,
+    })
+}
+
+#[tactic(auto, unfolding(crate::specs::Table::outputs_agree))]
+fn read_outputs(alloc: Global, matches: &ArgMatches<'_>) -> Result<Outputs, WordFault>
+    ensures outputs { IfOk result (λ outputs. HasOutputs (rows_in matches.now) outputs) }
+    ensures lawful { IfOk result (λ outputs. outputs_agree (rows_in matches.now) ≡ true) }
+    ensures refused { IfErr result (λ fault. (fault ≡ WordFault.Memory) ⊎ ((fault ≡ WordFault.Usage) × (outputs_agree (rows_in matches.now) ≡ false))) }
+{
+    Ok(Outputs {
+        output: read_lasting_name(alloc, value_of(matches, "output"))?,
+        reject: read_lasting_name(alloc, value_of(matches, "reject-file"))?,
+        prefix: read_prefix(alloc, value_of(matches, "prefix"))?,
+    })
+}
+
+/// The patch file, which is the value of `-i` or the second operand.
+fn read_input(alloc: Global, input: Option<&str>, operand: Option<&str>) -> Result<Input, WordFault>
+    ensures input { IfOk result (λ given. given ≡ input_of (first_given (text_of input.entry) (text_of operand.entry))) }
+    ensures lawful { IfOk result (λ given. inputs_agree (text_of input.entry) (text_of operand.entry) ≡ true) }
+    ensures refused { IfErr result (λ fault. (fault ≡ WordFault.Memory) ⊎ ((fault ≡ WordFault.Usage) × (inputs_agree (text_of input.entry) (text_of operand.entry) ≡ false))) }
+{
+    match (input, operand) {
+        (None, None) => Ok(Input::Standard),
+        (Some(text), None) => input_of(alloc, text),
+        (None, Some(text)) => input_of(alloc, text),
+        (Some(_), Some(_)) => Err(WordFault::Usage),
+    }
+}
+
+#[tactic(auto, unfolding(crate::specs::Forms::is_patch_file))]
+fn input_of(alloc: Global, text: &str) -> Result<Input, WordFault>
+    ensures input { IfOk result (λ input. input ≡ input_of (Some text.now)) }
+    ensures lawful { IfOk result (λ input. is_patch_file text.now ≡ true) }
+    ensures refused { IfErr result (λ fault. (fault ≡ WordFault.Memory) ⊎ ((fault ≡ WordFault.Usage) × (is_patch_file text.now ≡ false))) }
+{
+    if text == "-" {
+        Ok(Input::Standard)
+    } else {
+        Ok(Input::File(name_of(alloc, text)?))
+    }
+}
+
+#[tactic(auto, unfolding(crate::specs::Forms::is_name))]
+fn name_of(alloc: Global, text: &str) -> Result<Name, WordFault>
+    ensures name { IfOk result (λ name. name ≡ normal_form text.now) }
+    ensures lawful { IfOk result (λ name. is_name text.now ≡ true) }
+    ensures refused { IfErr result (λ fault. (fault ≡ WordFault.Memory) ⊎ ((fault ≡ WordFault.Usage) × (is_name text.now ≡ false))) }
+{
+    match Name::new(alloc, text.as_bytes()) {
+        Ok(name) => Ok(name),
+        Err(NameFault::Refused { rule: _ }) => Err(WordFault::Usage),
+        Err(NameFault::Memory) => Err(WordFault::Memory),
+    }
+}
+
+fn read_name(alloc: Global, text: Option<&str>) -> Result<Option<Name>, WordFault>
+    ensures name { IfOk result (λ given. given ≡ option_map normal_form (text_of text.entry)) }
+    ensures lawful { IfOk result (λ given. has_form is_name (text_of text.entry) ≡ true) }
+    ensures refused { IfErr result (λ fault. (fault ≡ WordFault.Memory) ⊎ ((fault ≡ WordFault.Usage) × (has_form is_name (text_of text.entry) ≡ false))) }
+{
+    match text {
+        Some(text) => Ok(Some(name_of(alloc, text)?)),
+        None => Ok(None),
+    }
+}
+
+/// A name that is no temporary's.
+#[tactic(auto, unfolding(crate::specs::Forms::is_lasting_name))]
+fn lasting_name_of(alloc: Global, text: &str) -> Result<Name, WordFault>
+    ensures name { IfOk result (λ name. name ≡ normal_form text.now) }
+    ensures lawful { IfOk result (λ name. is_lasting_name text.now ≡ true) }
+    ensures refused { IfErr result (λ fault. (fault ≡ WordFault.Memory) ⊎ ((fault ≡ WordFault.Usage) × (is_lasting_name text.now ≡ false))) }
+{
+    let name = name_of(alloc, text)?;
+    if name.is_temp() {
+        return Err(WordFault::Usage);
+    }
+    Ok(name)
+}
+
+fn read_lasting_name(alloc: Global, text: Option<&str>) -> Result<Option<Name>, WordFault>
+    ensures name { IfOk result (λ given. given ≡ option_map normal_form (text_of text.entry)) }
+    ensures lawful { IfOk result (λ given. has_form is_lasting_name (text_of text.entry) ≡ true) }
+    ensures refused { IfErr result (λ fault. (fault ≡ WordFault.Memory) ⊎ ((fault ≡ WordFault.Usage) × (has_form is_lasting_name (text_of text.entry) ≡ false))) }
+{
+    match text {
+        Some(text) => Ok(Some(lasting_name_of(alloc, text)?)),
+        None => Ok(None),
+    }
+}
+
+/// What may stand before a name: with `x` behind it, it is a name in normal form.
+#[tactic(auto, unfolding(crate::specs::Forms::is_prefix))]
+fn prefix_of(alloc: Global, text: &str) -> Result<String, WordFault>
+    ensures prefix { IfOk result (λ prefix. string_bytes prefix ≡ text.now) }
+    ensures lawful { IfOk result (λ prefix. is_prefix text.now ≡ true) }
+    ensures refused { IfErr result (λ fault. (fault ≡ WordFault.Memory) ⊎ ((fault ≡ WordFault.Usage) × (is_prefix text.now ≡ false))) }
+{
+    let mut sample = String::from_str(alloc, text)?;
+    sample.push('x')?;
+    let name = name_of(alloc, sample.as_str())?;
+    if name.text() != sample.as_str() {
+        return Err(WordFault::Usage);
+    }
+    Ok(String::from_str(alloc, text)?)
+}
+
+fn read_prefix(alloc: Global, text: Option<&str>) -> Result<Option<String>, WordFault>
+    ensures prefix { IfOk result (λ given. option_map string_bytes given ≡ text_of text.entry) }
+    ensures lawful { IfOk result (λ given. has_form is_prefix (text_of text.entry) ≡ true) }
+    ensures refused { IfErr result (λ fault. (fault ≡ WordFault.Memory) ⊎ ((fault ≡ WordFault.Usage) × (has_form is_prefix (text_of text.entry) ≡ false))) }
+{
+    match text {
+        Some(text) => Ok(Some(prefix_of(alloc, text)?)),
+        None => Ok(None),
+    }
+}

@@ -1,0 +1,104 @@
+//! What a command asks for.
+
+use hunk_core::Form;
+use outside::Name;
+use std::alloc::{AllocError, AllocFailed};
+
+/// Where the patch text comes from.
+#[derive(Drop, Debug)]
+pub enum Input {
+    Standard,
+    File(Name),
+}
+
+/// How the lines of the file to be patched are held.
+#[derive(Clone, Copy, Debug, PartialEq, Eq)]
+pub enum PlanKind {
+    /// The whole file, in memory.
+    Whole,
+    /// Padded records in the scratch.
+    Padded,
+    /// Packed pages in the scratch.
+    Packed,
+    /// By the file's size.
+    Auto,
+}
+
+/// One command of `patch`. Names are as given, without the directory before them.
+#[derive(Drop, Debug)]
+pub struct Options {
+    /// The one form that the patch text may have.
+    pub only: Option<Form>,
+    /// How many slashes are stripped with what stands before them; none: all.
+    pub strip: Option<u32>,
+    /// The largest fuzz.
+    pub fuzz: u32,
+    pub reverse: bool,
+    /// It outweighs `forward`.
+    pub force: bool,
+    pub batch: bool,
+    /// It outweighs `batch`.
+    pub forward: bool,
+    /// White space is compared loosely.
+    pub loose: bool,
+    pub remove_empty: bool,
+    pub backup: bool,
+    /// A backup is made where a hunk failed or stands elsewhere than it says.
+    pub mismatch_backup: bool,
+    /// What stands behind the name of a backup.
+    pub suffix: Option<String>,
+    /// What stands before the name of a backup.
+    pub prefix: Option<String>,
+    pub dir: Option<Name>,
+    /// The file to be patched.
+    pub file: Option<Name>,
+    pub input: Input,
+    pub output: Option<Name>,
+    /// The reject file.
+    pub reject: Option<Name>,
+    pub reject_form: Option<Form>,
+    pub dry_run: bool,
+    pub silent: bool,
+    pub verbose: bool,
+    pub plan: PlanKind,
+    /// The size of a page in bytes, which bounds the lines of the file.
+    pub buffer: u32,
+}
+
+/// What a tool is asked for.
+#[derive(Drop, Debug)]
+pub enum Job {
+    Patch(Options),
+}
+
+/// Why words give no job.
+#[derive(Clone, Copy, Debug, PartialEq, Eq)]
+pub enum WordFault {
+    /// They are not a command.
+    Usage,
+    /// They name a tool or a plan that isn't built yet.
+    Unsupported,
+    Memory,
+}
+
+impl From<AllocError> for WordFault {
+    ghost use Rattle.std.specs.Prelude.{◌≡◌};
+    ghost use Rattle.patch_options.specs.declared.options.WordFault.TheVariants.{Memory};
+
+    ghost from_gives = { λ _ e. e ≡ Memory };
+
+    fn from(_: AllocError) -> Self {
+        WordFault::Memory
+    }
+}
+
+impl<T: Drop> From<AllocFailed<T>> for WordFault {
+    ghost use Rattle.std.specs.Prelude.{◌≡◌};
+    ghost use Rattle.patch_options.specs.declared.options.WordFault.TheVariants.{Memory};
+
+    ghost from_gives = { λ _ e. e ≡ Memory };
+
+    fn from(_: AllocFailed<T>) -> Self {
+        WordFault::Memory
+    }
+}

@@ -1,0 +1,280 @@
+//! The table of the words of `patch`: what each switch and each value gives.
+ghost use Rattle.std.specs.Prelude.{◌≡◌, ◌⊎◌, ◌<◌, codes, true, false, is_some, IfOk, IfErr, string_bytes, option_map, option_and_then, unwrap_or};
+ghost use Rattle.std.specs.List.{list_all};
+ghost use Rattle.patch_options.specs.Flags.{rows_in};
+ghost use Rattle.patch_options.specs.Forms.{number_of, buffer_of, plan_of, reject_form_of, is_suffix};
+ghost use Rattle.patch_options.specs.PlainJob.{plain_options};
+ghost use Rattle.patch_options.specs.Table.{uses, value_of, text_of, has_form, is_used, is_single, are_both_used, form_uses, are_single, exclusions_hold, switches_agree, numbers_agree, words_agree, values_agree, is_command, options_of, only_form};
+
+use crate::forms::{buffer_of, is_suffix, number_of, plan_of, reject_form_of};
+use crate::names::{Names, Outputs, read_names};
+use crate::{Options, PlanKind, WordFault};
+use clap::ArgMatches;
+use hunk_core::Form;
+use std::alloc::{AllocError, Global};
+
+/// The names of the switches, which are counted.
+static SWITCHES: [&str; 17] = [
+    "context",
+    "ed",
+    "normal",
+    "unified",
+    "reverse",
+    "force",
+    "batch",
+    "forward",
+    "ignore-whitespace",
+    "remove-empty-files",
+    "backup",
+    "backup-if-mismatch",
+    "no-backup-if-mismatch",
+    "dry-run",
+    "silent",
+    "quiet",
+    "verbose",
+];
+
+/// The options that were matched, if they are a command.
+pub fn read_options(alloc: Global, matches: &ArgMatches<'_>) -> Result<Options, WordFault>
+    ensures options { IfOk result (λ o. plain_options o ≡ options_of (rows_in matches.now)) }
+    ensures command { IfOk result (λ o. is_command (rows_in matches.now) ≡ true) }
+    ensures refused { IfErr result (λ fault. (fault ≡ WordFault.Memory) ⊎ ((fault ≡ WordFault.Usage) × (is_command (rows_in matches.now) ≡ false))) }
+{
+    if !switches_agree(matches) || !values_agree(matches) {
+        return Err(WordFault::Usage);
+    }
+    let Names {
+        dir,
+        file,
+        input,
+        outputs,
+    } = read_names(alloc, matches)?;
+    let Outputs {
+        output,
+        reject,
+        prefix,
+    } = outputs;
+    let suffix = copied(alloc, value_of(matches, "suffix"))?;
+    Ok(Options {
+        only: only_form(matches),
+        strip: number_in(matches, "strip"),
+        fuzz: number_in(matches, "fuzz").unwrap_or(2),
+        reverse: is_used(matches, "reverse"),
+        force: is_used(matches, "force"),
+        batch: is_used(matches, "batch"),
+        forward: is_used(matches, "forward"),
+        loose: is_used(matches, "ignore-whitespace"),
+        remove_empty: is_used(matches, "remove-empty-files"),
+        backup: is_used(matches, "backup"),
+        mismatch_backup: !is_used(matches, "no-backup-if-mismatch"),
+        suffix,
+        prefix,
+        dir,
+        file,
+        input,
+        output,
+        reject,
+        reject_form: reject_form_in(matches),
+        dry_run: is_used(matches, "dry-run"),
+        silent: is_used(matches, "silent") || is_used(matches, "quiet"),
+        verbose: is_used(matches, "verbose"),
+        plan: plan_in(matches),
+        buffer: buffer_in(matches),
+    })
+}
+
+/// How often the switch was given.
+#[tactic(auto, unfolding(crate::specs::Table::uses))]
+fn uses(matches: &ArgMatches<'_>, name: &str) -> u32
+    ensures uses { result ≡ uses (rows_in matches.now) name.now }
+    ensures few { result < 256 }
+{
+    u32::from(matches.get_count(name))
+}
+
+/// The value of an option or an operand.
+#[tactic(auto, unfolding(crate::specs::Table::value_of))]
+pub fn value_of<'a>(matches: &ArgMatches<'a>, name: &str) -> Option<&'a str>
+    ensures { text_of result ≡ value_of (rows_in matches.now) name.now }
+{
+    matches.get_str(name)
+}
+
+fn is_used(matches: &ArgMatches<'_>, name: &str) -> bool
+    ensures { result ≡ is_used (rows_in matches.now) name.now }
+{
+    uses(matches, name) > 0
+}
+
+fn are_both_used(matches: &ArgMatches<'_>, one: &str, other: &str) -> bool
+    ensures { result ≡ are_both_used (rows_in matches.now) one.now other.now }
+{
+    is_used(matches, one) && is_used(matches, other)
+}
+
+/// Whether no switch was given twice, and no two that exclude each other.
+fn switches_agree(matches: &ArgMatches<'_>) -> bool
+    ensures { result ≡ switches_agree (rows_in matches.now) }
+{
+    are_single(matches) && form_uses(matches) <= 1 && exclusions_hold(matches)
+}
+
+/// Whether no switch was given twice.
+fn are_single(matches: &ArgMatches<'_>) -> bool
+    ensures { result ≡ are_single (rows_in matches.now) }
+{
+    each_single(matches, SWITCHES.as_slice())
+}
+
+/// Whether none of these switches was given twice.
+fn each_single(matches: &ArgMatches<'_>, names: &[&str]) -> bool
+    ensures { result ≡ list_all (λ name. is_single (rows_in matches.now) name.now) names.now }
+{
+    names.iter().all(|name| uses(matches, name) <= 1)
+}
+
+/// Whether no two switches were given together that exclude each other.
+fn exclusions_hold(matches: &ArgMatches<'_>) -> bool
+    ensures { result ≡ exclusions_hold (rows_in matches.now) }
+{
+    if are_both_used(matches, "backup-if-mismatch", "no-backup-if-mismatch") {
+        return false;
+    }
+    if are_both_used(matches, "silent", "verbose") {
+        return false;
+    }
+    !are_both_used(matches, "silent", "quiet")
+}
+
+/// How often a switch was given that admits one form alone.
+fn form_uses(matches: &ArgMatches<'_>) -> u32
+    ensures { result ≡ form_uses (rows_in matches.now) }
+{
+    uses(matches, "context")
+        + uses(matches, "ed")
+        + uses(matches, "normal")
+        + uses(matches, "unified")
+}
+
+/// Whether numbers, words and the suffix have their forms.
+fn values_agree(matches: &ArgMatches<'_>) -> bool
+    ensures { result ≡ values_agree (rows_in matches.now) }
+{
+    numbers_agree(matches) && words_agree(matches)
+}
+
+fn numbers_agree(matches: &ArgMatches<'_>) -> bool
+    ensures { result ≡ numbers_agree (rows_in matches.now) }
+{
+    is_number(value_of(matches, "strip"))
+        && is_number(value_of(matches, "fuzz"))
+        && is_buffer(value_of(matches, "buffer"))
+}
+
+fn words_agree(matches: &ArgMatches<'_>) -> bool
+    ensures { result ≡ words_agree (rows_in matches.now) }
+{
+    is_plan(value_of(matches, "plan"))
+        && is_reject_form(value_of(matches, "reject-format"))
+        && has_suffix_form(value_of(matches, "suffix"))
+}
+
+fn is_number(text: Option<&str>) -> bool
+    ensures { result ≡ has_form (λ t. is_some (number_of t)) (text_of text.entry) }
+{
+    match text {
+        Some(text) => number_of(text).is_some(),
+        None => true,
+    }
+}
+
+fn is_buffer(text: Option<&str>) -> bool
+    ensures { result ≡ has_form (λ t. is_some (buffer_of t)) (text_of text.entry) }
+{
+    match text {
+        Some(text) => buffer_of(text).is_some(),
+        None => true,
+    }
+}
+
+fn is_plan(text: Option<&str>) -> bool
+    ensures { result ≡ has_form (λ t. is_some (plan_of t)) (text_of text.entry) }
+{
+    match text {
+        Some(text) => plan_of(text).is_some(),
+        None => true,
+    }
+}
+
+fn is_reject_form(text: Option<&str>) -> bool
+    ensures { result ≡ has_form (λ t. is_some (reject_form_of t)) (text_of text.entry) }
+{
+    match text {
+        Some(text) => reject_form_of(text).is_some(),
+        None => true,
+    }
+}
+
+fn has_suffix_form(text: Option<&str>) -> bool
+    ensures { result ≡ has_form is_suffix (text_of text.entry) }
+{
+    match text {
+        Some(text) => is_suffix(text),
+        None => true,
+    }
+}
+
+fn only_form(matches: &ArgMatches<'_>) -> Option<Form>
+    ensures { result ≡ only_form (rows_in matches.now) }
+{
+    if is_used(matches, "context") {
+        Some(Form::Context)
+    } else if is_used(matches, "ed") {
+        Some(Form::Ed)
+    } else if is_used(matches, "normal") {
+        Some(Form::Normal)
+    } else if is_used(matches, "unified") {
+        Some(Form::Unified)
+    } else {
+        None
+    }
+}
+
+fn number_in(matches: &ArgMatches<'_>, name: &str) -> Option<u32>
+    ensures { result ≡ option_and_then number_of (value_of (rows_in matches.now) name.now) }
+{
+    number_of(value_of(matches, name)?)
+}
+
+fn reject_form_in(matches: &ArgMatches<'_>) -> Option<Form>
+    ensures { result ≡ option_and_then reject_form_of (value_of (rows_in matches.now) (codes "reject-format")) }
+{
+    reject_form_of(value_of(matches, "reject-format")?)
+}
+
+fn plan_in(matches: &ArgMatches<'_>) -> PlanKind
+    ensures { result ≡ unwrap_or (option_and_then plan_of (value_of (rows_in matches.now) (codes "plan"))) PlanKind.Auto }
+{
+    match value_of(matches, "plan") {
+        Some(text) => plan_of(text).unwrap_or(PlanKind::Auto),
+        None => PlanKind::Auto,
+    }
+}
+
+fn buffer_in(matches: &ArgMatches<'_>) -> u32
+    ensures { result ≡ unwrap_or (option_and_then buffer_of (value_of (rows_in matches.now) (codes "buffer"))) 65536 }
+{
+    match value_of(matches, "buffer") {
+        Some(text) => buffer_of(text).unwrap_or(65_536),
+        None => 65_536,
+    }
+}
+
+fn copied(alloc: Global, text: Option<&str>) -> Result<Option<String>, AllocError>
+    ensures { IfOk result (λ copy. option_map string_bytes copy ≡ text_of text.entry) }
+{
+    match text {
+        Some(text) => Ok(Some(String::from_str(alloc, text)?)),
+        None => Ok(None),
+    }
+}

@@ -1,0 +1,59 @@
+//! The words of a command.
+ghost use Rattle.std.specs.Prelude.{◌≡◌, ◌⊎◌, map, Ok, Err, IfOk, IfErr, string_bytes};
+ghost use Rattle.patch_options.specs.PlainJob.{plain_job, plain_options, IsLawfulJob};
+ghost use Rattle.patch_options.specs.PlainJob.PlainJob.{patch};
+ghost use Rattle.patch_options.specs.Words.{job_of, patch_job, no_patch_job, as_supported};
+
+use crate::flags::matched;
+use crate::table::read_options;
+use crate::{Job, Options, PlanKind, WordFault};
+use std::alloc::Global;
+
+/// What the words ask for. The first names the tool.
+pub fn read_words(alloc: Global, words: &[String]) -> Result<Job, WordFault>
+    ensures job { IfOk result (λ job. job_of (map string_bytes words.now) ≡ Ok (plain_job job)) }
+    ensures lawful { IfOk result (λ job. IsLawfulJob (plain_job job)) }
+    ensures refused { IfErr result (λ fault. (fault ≡ WordFault.Memory) ⊎ (job_of (map string_bytes words.now) ≡ Err fault)) }
+{
+    match words {
+        [tool, ..] if tool.as_str() == "patch" => read_patch(alloc, words),
+        [tool, ..] => Err(why_no_patch(tool.as_str())),
+        [] => Err(WordFault::Usage),
+    }
+}
+
+/// Why a word that isn't `patch` names no tool.
+fn why_no_patch(tool: &str) -> WordFault
+    ensures { Err result ≡ no_patch_job tool.now }
+{
+    match tool {
+        "lsdiff" | "filterdiff" | "grepdiff" | "splitdiff" | "recountdiff" | "patchgen" => {
+            WordFault::Unsupported
+        }
+        _ => WordFault::Usage,
+    }
+}
+
+/// What the words of `patch` ask for.
+fn read_patch(alloc: Global, words: &[String]) -> Result<Job, WordFault>
+    ensures job { IfOk result (λ job. patch_job (map string_bytes words.now) ≡ Ok (plain_job job)) }
+    ensures lawful { IfOk result (λ job. IsLawfulJob (plain_job job)) }
+    ensures refused { IfErr result (λ fault. (fault ≡ WordFault.Memory) ⊎ (patch_job (map string_bytes words.now) ≡ Err fault)) }
+{
+    let matches = matched(alloc, words)?;
+    let options = read_options(alloc, &matches)?;
+    as_supported(options)
+}
+
+/// The job of the options, unless their plan is the padded one, which isn't built yet.
+#[tactic(auto, unfolding(crate::specs::Words::as_supported))]
+fn as_supported(options: Options) -> Result<Job, WordFault>
+    ensures job { IfOk result (λ job. as_supported (plain_options options) ≡ Ok (plain_job job)) }
+    ensures same { IfOk result (λ job. plain_job job ≡ patch (plain_options options)) }
+    ensures refused { IfErr result (λ fault. as_supported (plain_options options) ≡ Err fault) }
+{
+    match options.plan {
+        PlanKind::Padded => Err(WordFault::Unsupported),
+        _ => Ok(Job::Patch(options)),
+    }
+}
