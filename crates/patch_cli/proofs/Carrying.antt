@@ -1,18 +1,20 @@
 -- How a run is put together from the steps before its change, its line and its change.
-use Rattle.std.proofs.Common.{◌≡◌, inl, inr, ⊎_elim, ℕ, zero, List, [], ◌∷◌, Some, Result, Ok, Err, IsErr, IfErr, OnOk, refl, sym, ◌∙◌, ap, subst, arith}
+use Rattle.std.proofs.Common.{◌≡◌, ◌≢◌, true, false, inl, inr, ⊎_elim, ℕ, zero, List, [], ◌∷◌, Some, Result, Ok, Err, IsErr, IfErr, OnOk, refl, sym, ◌∙◌, ap, subst, arith}
 use Rattle.std.proofs.lemmas.List.{append-nil}
+use Rattle.std.proofs.lemmas.Bool.{false≢true}
 use Rattle.std.proofs.lemmas.Option.{same_Some}
-use Rattle.std.specs.FinMap.{insert, remove}
-use Rattle.outside.specs.Files.{Files, SameLasting, temp_of}
+use Rattle.std.specs.FinMap.{get, insert, remove}
+use Rattle.outside.specs.Files.{Files, SameLasting, SameButTemp, is_temp, temp_of}
 use Rattle.outside.specs.TreeView.{TreeView, Passes, IsCall, MayLeave, LeftSince}
 use Rattle.outside.specs.SinkView.{SinkView, sink_passes_none, Writes}
 use Rattle.outside.specs.Calls.{IsUntouched, LeavesNoMore, Becomes}
 use Rattle.outside.specs.Quiet.{IsQuiet, MakesEffect, after}
 use Rattle.outside.specs.Quiet.Effect.{Put}
-use Rattle.outside.proofs.Names.{lasting-same}
+use Rattle.outside.proofs.Names.{lasting-same, get-put_other}
 use Rattle.outside.specs.TreeView.{passes_none, passes_both}
 use Rattle.outside.proofs.Views.{rises_then, since_call, since_split}
 use Rattle.outside.proofs.Writing.{received_part}
+use Rattle.replace_file.specs.Puts.{TellsEitherBut}
 use Rattle.patch_cli.specs.declared.why.Why.{Why}
 use Rattle.patch_cli.specs.declared.why.Why.TheVariants.{Done, Usage, NoPatchFile, WriteFault, TreeFault, Disagree, Memory, Unsupported}
 use Rattle.patch_cli.specs.Command.{Outcome, refused, puts}
@@ -63,6 +65,7 @@ module _ {u w : TreeView} (a : SinkView) (opens : Opens u w) (o : Files → Outc
   nothing_yet : (f : Files) → u.told ≡ Some f → FirstPart u w a a (o f)
   nothing_yet f told = record {
     tells = λ f g was now. (zero, omega arith, subst (λ (x : Files). SameLasting f x) (same_Some _ _ (sym was ∙ sym opens.told ∙ now)) (lasting-same f));
+    others = λ f g was now n temp unused. sym (ap (λ (x : Files). get x n) (same_Some f g (sym was ∙ sym opens.told ∙ now)));
     said = λ b now. inr (zero, now ∙ ap (λ (l : List ℕ). Some l) (sym (append-nil b)));
   }
 
@@ -91,21 +94,31 @@ module _ {v : TreeView} (a b : SinkView) (line name bytes : List ℕ) where
     quiet = tt;
     answers = λ f told. record {
       tells = λ f g was now. (zero, omega arith, subst (λ (x : Files). SameLasting f x) (same_Some _ _ (sym was ∙ now)) (lasting-same f));
+      others = λ f g was now n temp unused. sym (ap (λ (x : Files). get x n) (same_Some f g (sym was ∙ now)));
       said = said.failed;
     };
     images = λ f told c left. inl (at_now v c left);
   }
 
-  -- it was, and the file is put
+  -- it was, and the file is put by way of its temporary
   module _ {R E S F : Type 0} (x : R) (said : Writes {E = E} a b (Ok x) line) (w : TreeView) (result : Result S F) (makes : MakesEffect v w result (Put name bytes)) where
+    others_stay : (temp : List ℕ) → temp ≡ temp_of name → is_temp name ≡ false → TellsEitherBut v w temp (λ f. insert f name bytes)
+        → (f g : Files) → v.told ≡ Some f → w.told ≡ Some g → (n : List ℕ) → is_temp n ≡ true → n ≢ temp_of name → get g n ≡ get f n
+    others_stay temp is_temp_of lasting but f g was now n is apart =
+        let other : n ≢ temp = λ e. apart (e ∙ is_temp_of) in
+        let elsewhere : n ≢ name = λ e. false≢true (sym lasting ∙ sym (ap is_temp e) ∙ is) in ⊎_elim
+        (λ (old : SameButTemp temp f g). old.others n other)
+        (λ (new : SameButTemp temp (insert f name bytes) g). new.others n other ∙ get-put_other f name bytes n elsewhere)
+        (but f g was now)
+
     images : (f : Files) → v.told ≡ Some f → LeavesAllowed v w f (Put name bytes ∷ [])
     images f told c left = inr (⊎_elim
         (λ (old : SameLasting f c). (zero, omega arith, old))
         (λ (new : SameLasting (after (Put name bytes) f) c). (1, omega arith, new))
         (makes.since f told c left))
 
-    pub carries_fault : IsErr result → Carries v w a b TreeFault (λ f. puts line name bytes)
-    carries_fault err = record {
+    pub carries_fault : (temp : List ℕ) → temp ≡ temp_of name → is_temp name ≡ false → TellsEitherBut v w temp (λ f. insert f name bytes) → IsErr result → Carries v w a b TreeFault (λ f. puts line name bytes)
+    carries_fault temp is_temp_of lasting but err = record {
       passes = makes.run.passes;
       sink = said.call.passes;
       cause = makes.run.cause err;
@@ -116,6 +129,7 @@ module _ {v : TreeView} (a b : SinkView) (line name bytes : List ℕ) where
             (λ (old : SameLasting f g). (zero, omega arith, old))
             (λ (new : SameLasting (after (Put name bytes) f) g). (1, omega arith, new))
             (makes.either f g was now);
+        others = λ f g was now n is unused. others_stay temp is_temp_of lasting but f g was now n is unused.0;
         said = received_part a b line said.received;
       };
       images = images;
@@ -138,10 +152,11 @@ module _ {v : TreeView} (a b : SinkView) (line name bytes : List ℕ) where
 
   -- the answer that putting the file gives
   pub carries_put : {R E : Type 0} (x : R) → Writes {E = E} a b (Ok x) line → (w : TreeView) (result : Result (Unit {0}) Why) → MakesEffect v w result (Put name bytes)
-      → IfErr result (λ why. why ≡ TreeFault) → (temp : List ℕ) → temp ≡ temp_of name → OnOk result (Becomes v w (λ f. remove (insert f name bytes) temp)) → Carries v w a b (why_of result) (λ f. puts line name bytes)
-  carries_put x said w (Ok y) makes fault temp is_temp becomes = carries_done x said w (Ok y) makes temp is_temp becomes makes.quiet
-  carries_put x said w (Err e) makes fault temp is_temp becomes =
-      subst (λ (y : Why). Carries v w a b y (λ f. puts line name bytes)) (sym fault) (carries_fault x said w (Err e) makes refl)
+      → IfErr result (λ why. why ≡ TreeFault) → (temp : List ℕ) → temp ≡ temp_of name → is_temp name ≡ false → TellsEitherBut v w temp (λ f. insert f name bytes)
+      → OnOk result (Becomes v w (λ f. remove (insert f name bytes) temp)) → Carries v w a b (why_of result) (λ f. puts line name bytes)
+  carries_put x said w (Ok y) makes fault temp is_temp_of lasting but becomes = carries_done x said w (Ok y) makes temp is_temp_of becomes makes.quiet
+  carries_put x said w (Err e) makes fault temp is_temp_of lasting but becomes =
+      subst (λ (y : Why). Carries v w a b y (λ f. puts line name bytes)) (sym fault) (carries_fault x said w (Err e) makes temp is_temp_of lasting but refl)
 
 -- what a run carries behind steps before its first change
 module _ {u v : TreeView} (w : TreeView) (a b : SinkView) (opens : Opens u v) (o p : Files → Outcome) (is : (f : Files) → u.told ≡ Some f → o f ≡ p f) where
@@ -158,6 +173,7 @@ module _ {u v : TreeView} (w : TreeView) (a b : SinkView) (opens : Opens u v) (o
   first_part : (f : Files) → u.told ≡ Some f → FirstPart v w a b (p f) → FirstPart u w a b (o f)
   first_part f told part = subst (λ (x : Outcome). FirstPart u w a b x) (sym (is f told)) (record {
     tells = λ f g was now. part.tells f g (opens.told ∙ was) now;
+    others = λ f g was now n temp unused. part.others f g (opens.told ∙ was) now n temp unused;
     said = part.said;
   })
 

@@ -1,12 +1,13 @@
 -- What a run leaves behind, whatever it answers, beside what the command does.
-use Rattle.std.specs.Prelude.{◌≡◌, ◌≢◌, ◌⊎◌, ℕ, ◌≤◌, List, length, take, false, true, Some, None, Result, Ok, Err}
+use Rattle.std.specs.Prelude.{◌≡◌, ◌≢◌, ◌⊎◌, ℕ, ◌≤◌, List, [], ◌∷◌, length, take, false, true, Some, None, Result, Ok, Err}
 use Rattle.std.specs.FinMap.{get}
-use Rattle.outside.specs.Files.{Files, SameLasting}
+use Rattle.outside.specs.Files.{Files, is_temp, temp_of, SameLasting}
 use Rattle.outside.specs.TreeView.{TreeView, Passes, MayLeave, LeftSince}
 use Rattle.outside.specs.TreeView as tree
 use Rattle.outside.specs.SinkView.{SinkView, SinkPasses, Receives, ReceivesPart}
 use Rattle.outside.specs.SinkView as sink
 use Rattle.outside.specs.Quiet.{IsQuiet, Effect, TellsPrefix, after_all}
+use Rattle.outside.specs.Quiet.Effect.{Put, Remove}
 use Rattle.patch_cli.specs.declared.why.Why.{Why}
 use Rattle.patch_cli.specs.declared.why.Why.TheVariants.{Done, Usage, NoPatchFile, WriteFault, TreeFault, Disagree, Memory, Unsupported}
 use Rattle.line_list.specs.Completed.{completed}
@@ -30,9 +31,16 @@ WhyCause (Disagree want got) u w a b = (want ≢ got) × (u.told ≡ None)
 WhyCause Memory u w a b = Unit {0}
 WhyCause Unsupported u w a b = Unit {0}
 
--- after a fault or want of memory: first parts of the effects and of the text
+-- no effect is made by way of this name
+abbrev pub IsUnused : List Effect → List ℕ → Type 0
+IsUnused [] n = Unit {0}
+IsUnused (Put name bytes ∷ es) n = (n ≢ temp_of name) × IsUnused es n
+IsUnused (Remove name ∷ es) n = IsUnused es n
+
+-- after a fault or want of memory: first parts of the effects and of the text, and no temporary is touched but those of the effects
 pub record FirstPart (u w : TreeView) (a b : SinkView) (o : Outcome) : Type 0 where
   pub tells : TellsPrefix u w o.effects
+  pub others : (f g : Files) → u.told ≡ Some f → w.told ≡ Some g → (n : List ℕ) → is_temp n ≡ true → IsUnused o.effects n → get g n ≡ get f n
   pub said : ReceivesPart a b o.text
 
 -- an answer of the command itself: its text, and the files after its effects

@@ -6,6 +6,7 @@ ghost use Rattle.outside.specs.Calls.{Becomes};
 ghost use Rattle.outside.specs.SinkView.{Receives, ReceivesPart, Writes, Rises as SinkRises};
 ghost use Rattle.outside.specs.Quiet.{IsQuiet, MakesEffect};
 ghost use Rattle.outside.specs.Quiet.Effect.{Put};
+ghost use Rattle.replace_file.specs.Puts.{TellsEitherBut};
 ghost use Rattle.patch_cli.specs.Command.{command, puts, patching_line, refusal_line, exit_status};
 ghost use Rattle.patch_cli.specs.Carries.{Carries, why_of};
 
@@ -121,6 +122,7 @@ fn put_file<T: Tree>(tree: &mut T, request: &Request, bytes: &[u8]) -> Result<()
     requires lasting { is_temp request.now.file ≡ false }
     ensures makes { MakesEffect (T.view tree.old) (T.view tree.new) result (Put request.now.file bytes.now) }
     ensures ok { OnOk result (Becomes (T.view tree.old) (T.view tree.new) (λ f. remove (insert f request.now.file bytes.now) request.now.temp)) }
+    ensures tells { TellsEitherBut (T.view tree.old) (T.view tree.new) request.now.temp (λ f. insert f request.now.file bytes.now) }
     ensures fault { IfErr result (λ why. why ≡ Why.TreeFault) }
 {
     match put_whole(tree, &request.temp, &request.file, bytes) {
