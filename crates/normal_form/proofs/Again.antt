@@ -21,11 +21,12 @@ use Rattle.hunk_core.specs.LineTests.{after, ends_line, is_backslash, after_back
 use Rattle.hunk_core.specs.Rules.{starts_at_zero, runs_over, lacks_inner_end, first_broken, HasNoInnerFeed}
 use Rattle.hunk_core.specs.Reading.{◌>>=◌, Ahead, ahead}
 use Rattle.hunk_core.proofs.ReadSteps.{bind_ok, ok_is, chosen}
-use Rattle.normal_form.specs.declared.command.Action.{Action}
-use Rattle.normal_form.specs.declared.command.Action.TheVariants.{Add, Change, Delete}
+use Rattle.diff_command.specs.declared.Action.{Action}
+use Rattle.diff_command.specs.declared.Action.TheVariants.{Add, Change, Delete}
 use Rattle.normal_form.specs.Stretches.{marks, is_divider}
 use Rattle.normal_form.specs.Hunks.{hunk_at, hunks_at}
-use Rattle.normal_form.specs.Grammar.{letter, SpellsLine, SpellsStretch, SpellsBody, SpellsSpan, SpellsCommand, command_of, AreFair, SpellsHunk, IsPiece}
+use Rattle.diff_command.specs.Letters.{letter}
+use Rattle.normal_form.specs.Grammar.{SpellsLine, SpellsStretch, SpellsBody, SpellsSpan, SpellsCommand, command_of, AreFair, SpellsHunk, IsPiece}
 use Rattle.normal_form.specs.Canonical.{action_for, span_text, command_text, divider_text, no_newline, line_text, lines_text, canonical, in_order, SpellsFirst}
 use Rattle.normal_form.proofs.HunkLoops.{hunks_step}
 use Rattle.normal_form.proofs.Pieces.{hunk_again, hunk_opens, reading_again}

@@ -8,12 +8,14 @@ use Rattle.hunk_core.proofs.ReadSteps.{chosen, some_is}
 use Rattle.num_text.specs.declared.range.NumberRange.{NumberRange}
 use Rattle.num_text.specs.NumberRanges.{range_at, SpellsRange}
 use Rattle.num_text.proofs.RangeGrammar.{range-takes, StopsRange, ranged, range-again, stops-nil, range-single}
-use Rattle.normal_form.specs.declared.command.Action.{Action}
-use Rattle.normal_form.specs.declared.command.Action.TheVariants.{Add, Change, Delete}
+use Rattle.diff_command.specs.declared.Action.{Action}
+use Rattle.diff_command.specs.declared.Action.TheVariants.{Add, Change, Delete}
 use Rattle.normal_form.specs.declared.command.Parts.{Parts}
 use Rattle.normal_form.specs.declared.command.Command.{Command}
-use Rattle.normal_form.specs.Commands.{◌>>=◌, action_at, is_line_end, whole, parts_at, takes_lines, is_bad_range, size, command, is_too_large, placed, checked, from_parts, opening}
-use Rattle.normal_form.specs.Grammar.{SpellsSpan, letter, SpellsCommand, AreFair}
+use Rattle.diff_command.specs.Letters.{◌>>=◌, action_at, is_line_end}
+use Rattle.normal_form.specs.Commands.{whole, parts_at, takes_lines, is_bad_range, size, command, is_too_large, placed, checked, from_parts, opening}
+use Rattle.diff_command.specs.Letters.{letter}
+use Rattle.normal_form.specs.Grammar.{SpellsSpan, SpellsCommand, AreFair}
 
 -- ---- steps
 

@@ -12,8 +12,8 @@ use Rattle.hunk_core.specs.LineTests.{after, unended, is_backslash, after_backsl
 use Rattle.hunk_core.specs.Reading.{◌>>=◌, Fault, fault, Ahead, ahead}
 use Rattle.hunk_core.proofs.ReadSteps.{chosen}
 use Rattle.normal_form.specs.FirstFault.{AgreeTo}
-use Rattle.normal_form.specs.declared.command.Action.{Action}
-use Rattle.normal_form.specs.declared.command.Action.TheVariants.{Add, Change, Delete}
+use Rattle.diff_command.specs.declared.Action.{Action}
+use Rattle.diff_command.specs.declared.Action.TheVariants.{Add, Change, Delete}
 use Rattle.normal_form.specs.declared.command.Command.{Command}
 use Rattle.normal_form.specs.declared.command.Parts.{Parts}
 use Rattle.normal_form.specs.Commands.{takes_lines, is_bad_range, is_too_large, command, placed, from_parts, parts_at, opening, is_command}

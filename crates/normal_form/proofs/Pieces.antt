@@ -12,8 +12,8 @@ use Rattle.hunk_core.specs.LineTests.{after, is_backslash, after_backslash}
 use Rattle.hunk_core.specs.Reading.{Fault, Gives, ◌>>=◌, Ahead, ahead}
 use Rattle.hunk_core.proofs.ReadSteps.{bind_ok, chosen, guard_ok, must_ok, ok_is}
 use Rattle.num_text.specs.NumberRanges.{range_at}
-use Rattle.normal_form.specs.declared.command.Action.{Action}
-use Rattle.normal_form.specs.declared.command.Action.TheVariants.{Add, Change, Delete}
+use Rattle.diff_command.specs.declared.Action.{Action}
+use Rattle.diff_command.specs.declared.Action.TheVariants.{Add, Change, Delete}
 use Rattle.normal_form.specs.declared.command.Command.{Command}
 use Rattle.normal_form.specs.Commands.{takes_lines, parts_at, opening, is_command}
 use Rattle.normal_form.specs.Stretches.{marks, stretch_at, is_divider, first_divider, divider_at}

@@ -9,8 +9,8 @@ use Rattle.hunk_core.specs.PlainHunk.{Marked, PlainHunk, old_lines, new_lines}
 use Rattle.hunk_core.specs.LineTests.{ends_line}
 use Rattle.hunk_core.specs.Rules.{starts_at_zero, runs_over, lacks_inner_end, first_broken}
 use Rattle.hunk_core.proofs.PieceLemmas.{pieces-first, pieces-last}
-use Rattle.normal_form.specs.declared.command.Action.{Action}
-use Rattle.normal_form.specs.declared.command.Action.TheVariants.{Add, Change, Delete}
+use Rattle.diff_command.specs.declared.Action.{Action}
+use Rattle.diff_command.specs.declared.Action.TheVariants.{Add, Change, Delete}
 use Rattle.normal_form.specs.Commands.{takes_lines}
 use Rattle.normal_form.specs.Stretches.{marks}
 use Rattle.normal_form.specs.Grammar.{on_side, SpellsLine, SpellsStretch, SpellsBody, SpellsSpan, SpellsHunk}

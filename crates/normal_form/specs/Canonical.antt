@@ -9,10 +9,11 @@ use Rattle.hunk_core.specs.declared.Side.TheVariants.{Forward, Reversed}
 use Rattle.hunk_core.specs.PlainHunk.{PlainHunk, old_lines, new_lines}
 use Rattle.hunk_core.specs.Turned.{is_drop, is_add}
 use Rattle.hunk_core.specs.LineTests.{ends_line}
-use Rattle.normal_form.specs.declared.command.Action.{Action}
-use Rattle.normal_form.specs.declared.command.Action.TheVariants.{Add, Change, Delete}
+use Rattle.diff_command.specs.declared.Action.{Action}
+use Rattle.diff_command.specs.declared.Action.TheVariants.{Add, Change, Delete}
 use Rattle.normal_form.specs.Stretches.{marks}
-use Rattle.normal_form.specs.Grammar.{letter, on_side, SpellsHunk, IsPiece}
+use Rattle.diff_command.specs.Letters.{letter}
+use Rattle.normal_form.specs.Grammar.{on_side, SpellsHunk, IsPiece}
 
 -- each of these lines is added
 unfoldable pub are_added : List HunkLine → Bool

@@ -4,29 +4,13 @@ use Rattle.hunk_core.specs.declared.BadKind.{BadKind}
 use Rattle.hunk_core.specs.declared.BadKind.TheVariants as kinds
 use Rattle.hunk_core.specs.declared.Side.{Side}
 use Rattle.hunk_core.specs.declared.Side.TheVariants.{Forward, Reversed}
+use Rattle.diff_command.specs.Letters.{◌>>=◌, action_at, is_line_end}
 use Rattle.num_text.specs.declared.range.NumberRange.{NumberRange}
 use Rattle.num_text.specs.NumberRanges.{range_at, HasSmallEnds}
-use Rattle.normal_form.specs.declared.command.Action.{Action}
-use Rattle.normal_form.specs.declared.command.Action.TheVariants.{Add, Change, Delete}
+use Rattle.diff_command.specs.declared.Action.{Action}
+use Rattle.diff_command.specs.declared.Action.TheVariants.{Add, Change, Delete}
 use Rattle.normal_form.specs.declared.command.Parts.{Parts}
 use Rattle.normal_form.specs.declared.command.Command.{Command}
-
--- a step, and what follows it where it gave a value
-infixl 10 ◌>>=◌
-abbrev pub ◌>>=◌ : {A B : Type 0} → Option A → (A → Option B) → Option B
-(Some x) >>= f = f x
-None >>= f = None
-
--- one of 'a', 'c' and 'd', and what stands after it
-unfoldable pub action_at : List ℕ → Option (Action × List ℕ)
-action_at [] = None
-action_at (b ∷ bytes) = if b == 97 then Some (Add, bytes) else if b == 99 then Some (Change, bytes) else if b == 100 then Some (Delete, bytes) else None
-
--- nothing, or a line feed alone
-abbrev pub is_line_end : List ℕ → Bool
-is_line_end [] = true
-is_line_end (b ∷ []) = b == 10
-is_line_end (b ∷ c ∷ bytes) = false
 
 -- the parts of a command, and nothing behind them
 abbrev pub whole : NumberRange → Action → NumberRange → List ℕ → Option Parts

@@ -6,10 +6,11 @@ use Rattle.hunk_core.specs.PlainHunk.{Marked, PlainHunk}
 use Rattle.hunk_core.specs.LineTests.{marked, is_backslash, after_backslash}
 use Rattle.num_text.specs.Numbers.{IsNumeral}
 use Rattle.num_text.specs.NumberRanges.{SpellsRange}
-use Rattle.normal_form.specs.declared.command.Action.{Action}
-use Rattle.normal_form.specs.declared.command.Action.TheVariants.{Add, Change, Delete}
+use Rattle.diff_command.specs.declared.Action.{Action}
+use Rattle.diff_command.specs.declared.Action.TheVariants.{Add, Change, Delete}
 use Rattle.normal_form.specs.declared.command.Command.{Command}
-use Rattle.normal_form.specs.Commands.{takes_lines, is_line_end, Fits}
+use Rattle.diff_command.specs.Letters.{letter, is_line_end}
+use Rattle.normal_form.specs.Commands.{takes_lines, Fits}
 use Rattle.normal_form.specs.Stretches.{marks, own_mark, is_divider}
 use Rattle.normal_form.specs.Hunks.{begins_hunk}
 
@@ -39,12 +40,6 @@ SpellsBody Delete piece olds news = SpellsStretch Forward piece olds × (news �
 abbrev pub SpellsSpan : List ℕ → Bool → ℕ → ℕ → Type 0
 SpellsSpan text true start count = (single : Bool) × (last : ℕ) × SpellsRange text single start last × (1 ≤ start) × (start ≤ last) × (start + count ≡ last + 1)
 SpellsSpan text false start count = IsNumeral text start × (count ≡ 0)
-
--- 'a', 'c' or 'd'
-abbrev pub letter : Action → ℕ
-letter Add = 97
-letter Change = 99
-letter Delete = 100
 
 -- the old lines, a letter, the new lines, and nothing more
 pub record SpellsCommand (line : List ℕ) (c : Command) : Type 0 where

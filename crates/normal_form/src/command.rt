@@ -1,20 +1,12 @@
 //! The command of a hunk.
 
 ghost use Rattle.std.specs.Prelude.{◌≡◌, ◌+◌, ◌≤◌, ◌^◌, IfOk, IfSome};
-ghost use Rattle.hunk_core.specs.Reading.{Reads};
 ghost use Rattle.num_text.specs.NumberRanges.{HasSmallEnds};
-ghost use Rattle.normal_form.specs.Commands.{Fits, HaveSmallEnds, IsSmall, action_at, parts_at, is_line_end, takes_lines, is_bad_range, is_too_large, size, command, checked, opening, is_command};
+ghost use Rattle.normal_form.specs.Commands.{Fits, HaveSmallEnds, IsSmall, parts_at, takes_lines, is_bad_range, is_too_large, size, command, checked, opening, is_command};
 
+use diff_command::{Action, action_of, ends_here};
 use hunk_core::{BadKind, Side};
 use num_text::{NumberRange, read_range};
-
-/// What a command does: `a`, `c` or `d`.
-#[derive(Clone, Copy, Debug, PartialEq, Eq)]
-pub enum Action {
-    Add,
-    Change,
-    Delete,
-}
 
 /// A command as it is written.
 #[derive(Clone, Copy)]
@@ -32,30 +24,6 @@ pub struct Command {
     pub old_count: u64,
     pub new_start: u64,
     pub new_count: u64,
-}
-
-/// The letter of a command, and what stands after it.
-#[tactic(auto, unfolding(crate::specs::Commands::action_at))]
-fn action_of(bytes: &[u8]) -> Option<(Action, &[u8])>
-    ensures { Reads (λ x. (x.0, x.1.now)) result (action_at bytes.now) }
-{
-    match bytes {
-        [b'a', rest @ ..] => Some((Action::Add, rest)),
-        [b'c', rest @ ..] => Some((Action::Change, rest)),
-        [b'd', rest @ ..] => Some((Action::Delete, rest)),
-        _ => None,
-    }
-}
-
-/// Whether a line has nothing more but its line feed.
-pub fn ends_here(bytes: &[u8]) -> bool
-    ensures { result ≡ is_line_end bytes.now }
-{
-    match bytes {
-        [] => true,
-        [byte] => *byte == b'\n',
-        _ => false,
-    }
 }
 
 #[tactic(auto, unfolding(crate::specs::Commands::parts_at))]

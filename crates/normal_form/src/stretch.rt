@@ -5,10 +5,10 @@ ghost use Rattle.hunk_core.specs.PlainHunk.{marked_of, body_of};
 ghost use Rattle.hunk_core.specs.Turned.{LiesIn};
 ghost use Rattle.hunk_core.specs.Reading.{Gives, IsPlace, ahead_of};
 ghost use Rattle.hunk_core.specs.LineTests.{after, is_backslash};
-ghost use Rattle.normal_form.specs.declared.command.Action.{Action};
+ghost use Rattle.diff_command.specs.declared.Action.{Action};
 ghost use Rattle.normal_form.specs.Stretches.{marks, own_mark, marked_at, unmarked, line_at, stretch_at, divider_at, is_divider};
 
-use crate::command::{Action, ends_here};
+use diff_command::{Action, ends_here};
 use hunk_core::{
     BadKind, FormFault, HunkLine, Mark, Place, Side, after_prefix, backslash_end, bad,
     begins_backslash, without_feed,

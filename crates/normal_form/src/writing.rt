@@ -10,12 +10,11 @@ ghost use Rattle.hunk_core.specs.Turned.{LiesIn, IsLawful, is_add, is_drop, take
 ghost use Rattle.hunk_core.specs.LineTests.{after_backslash};
 ghost use Rattle.hunk_core.specs.Rules.{HasNoInnerFeed, first_broken};
 ghost use Rattle.hunk_core.specs.Writing.{Puts};
-ghost use Rattle.normal_form.specs.Grammar.{letter};
 ghost use Rattle.normal_form.specs.Stretches.{marks};
 ghost use Rattle.normal_form.specs.Canonical.{are_added, drops_come_first, action_for, span_text, command_text, divider_text, line_text, canonical, in_order, SpellsFirst};
 
-use crate::command::Action;
 use arrayvec::ArrayVec;
+use diff_command::{Action, letter_of};
 use hunk_core::{Hunk, HunkLine, Mark, Side, add_piece, has_feed, is_taken};
 use line_list::Span;
 use num_text::put_number;
@@ -145,7 +144,7 @@ fn add_span(gathered: &mut ArrayVec<u8, 96>, start: u32, count: u32)
     }
 }
 
-fn action_of(old_count: u32, new_count: u32) -> Action
+fn action_for(old_count: u32, new_count: u32) -> Action
     ensures { result ≡ action_for old_count new_count }
 {
     if old_count == 0 {
@@ -157,22 +156,12 @@ fn action_of(old_count: u32, new_count: u32) -> Action
     }
 }
 
-fn letter_of(action: Action) -> u8
-    ensures { result ≡ letter action }
-{
-    match action {
-        Action::Add => b'a',
-        Action::Change => b'c',
-        Action::Delete => b'd',
-    }
-}
-
 fn put_command<O: Sink>(out: &mut O, starts: (u32, u32), counts: (u32, u32)) -> Result<(), Failed>
     ensures { Puts O.view O.same_rest out.old out.new result (command_text starts.0 counts.0 starts.1 counts.1) }
 {
     let mut gathered = ArrayVec::new();
     add_span(&mut gathered, starts.0, counts.0);
-    add_piece(&mut gathered, &[letter_of(action_of(counts.0, counts.1))]);
+    add_piece(&mut gathered, &[letter_of(action_for(counts.0, counts.1))]);
     add_span(&mut gathered, starts.1, counts.1);
     add_piece(&mut gathered, b"\n");
     put_all(out, gathered.as_slice())
@@ -203,7 +192,7 @@ fn write_hunk<O: Sink>(
     let new = hunk.count(other);
     put_command(out, starts, (old, new))?;
     put_side(out, hunk, text, side, Side::Forward)?;
-    put_divider(out, action_of(old, new))?;
+    put_divider(out, action_for(old, new))?;
     put_side(out, hunk, text, other, Side::Reversed)
 }
 
