@@ -1,0 +1,4 @@
+pub mod Candidates
+pub mod Numbered
+pub mod Stripped
+pub mod Targets

@@ -1,0 +1,45 @@
+-- The names that are formed from a name: below the directory, of backups, of rejects, and of temporaries (GNU patch manual, "Backups", "Reject Names").
+use Rattle.std.specs.Prelude.{◌≡◌, ℕ, suc, List, [], ◌∷◌, ◌++◌, codes, length, Bool, ◌||◌, Option, None, Some, unwrap_or}
+use Rattle.outside.specs.Files.{is_temp, temp_of}
+use Rattle.patch_options.specs.PlainJob.{PlainOptions}
+use Rattle.target_names.specs.declared.derived.Target.{Target}
+
+-- the name below a directory
+abbrev pub below : Option (List ℕ) → List ℕ → List ℕ
+below None name = name
+below (Some directory) name = directory ++ 47 ∷ name
+
+-- what stands behind the name of a backup: by default `.orig`, and nothing where only what stands before it is given
+abbrev pub backup_end : Option (List ℕ) → Option (List ℕ) → List ℕ
+backup_end prefix (Some suffix) = suffix
+backup_end None None = codes ".orig"
+backup_end (Some prefix) None = []
+
+abbrev pub backup_name : PlainOptions → List ℕ → List ℕ
+backup_name o name = (unwrap_or o.prefix [] ++ name) ++ backup_end o.prefix o.suffix
+
+-- the reject file of the options, or the name followed by `.rej`
+abbrev pub reject_name : PlainOptions → List ℕ → List ℕ
+reject_name o name = unwrap_or o.reject (name ++ codes ".rej")
+
+-- how many bytes messages leave off: the directory and the slash behind it
+abbrev pub shown_from : Option (List ℕ) → ℕ
+shown_from None = 0
+shown_from (Some directory) = suc (length directory)
+
+-- each name is formed without the directory, and then put below it
+abbrev pub target_of : PlainOptions → List ℕ → ℕ → Target
+target_of o name number = record {
+  number = number;
+  shown_from = shown_from o.dir;
+  name = below o.dir name;
+  temp = temp_of (below o.dir name);
+  backup = below o.dir (backup_name o name);
+  backup_temp = temp_of (below o.dir (backup_name o name));
+  reject = below o.dir (reject_name o name);
+  reject_temp = temp_of (below o.dir (reject_name o name));
+}
+
+-- a name that a run would write is that of a temporary
+abbrev pub is_reserved : Target → Bool
+is_reserved t = is_temp t.name || (is_temp t.backup || is_temp t.reject)

@@ -1,0 +1,16 @@
+//! The names that a file patch can be meant for, and the names that a run can need for each of them.
+#![tactic(auto)]
+
+mod derived;
+mod header_names;
+mod laws;
+mod numbering;
+mod strip;
+
+pub use derived::Target;
+pub use header_names::candidates;
+pub use laws::{numbers_tell_names_apart, stripped_fronts_hold_the_slashes};
+pub use numbering::Numbers;
+
+#[cfg(test)]
+mod tests;
