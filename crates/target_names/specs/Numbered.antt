@@ -1,9 +1,8 @@
 -- Numbers for names, from 0 in the order in which the names first come.
-use Rattle.std.specs.Prelude.{◌≡◌, ℕ, ◌<◌, List, [], ◌∷◌, ◌++◌, map, length, All, ◌==◌, if◌then◌else◌, bytes_eq, string_bytes, Option}
+use Rattle.std.specs.Prelude.{◌≡◌, ℕ, ◌<◌, List, [], ◌∷◌, ◌++◌, map, length, All, ◌==◌, if◌then◌else◌, bytes_eq, string_bytes, Option, String}
 use Rattle.std.specs.List.{position, find, list_any, range_with_len}
 use Rattle.std.specs.Option.{option_map_or}
 use Rattle.std.specs.BTreeMap.{BTreeMap, get_by_text, values}
-use Rattle.std.specs.String.{String}
 
 -- the place of a name among names, from 0
 abbrev pub place_of : List (List ℕ) → List ℕ → Option ℕ

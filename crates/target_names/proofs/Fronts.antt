@@ -1,0 +1,2 @@
+-- What is stripped holds the slashes.
+use Rattle.std.proofs.Common.{◌≡◌, ℕ}

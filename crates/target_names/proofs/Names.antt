@@ -1,0 +1,2 @@
+-- Names and their numbers.
+use Rattle.std.proofs.Common.{◌≡◌, ℕ}
