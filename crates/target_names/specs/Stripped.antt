@@ -1,5 +1,5 @@
 -- What is left of a name in a patch where its front is stripped (POSIX, `patch`, option -p; adjacent slashes count as one).
-use Rattle.std.specs.Prelude.{◌≡◌, ℕ, zero, suc, ◌+◌, ◌<◌, List, [], ◌∷◌, ◌++◌, length, Bool, true, false, not, ◌&&◌, if◌then◌else◌, Option, None, Some, option_and_then}
+use Rattle.std.specs.Prelude.{◌≡◌, ℕ, zero, suc, ◌<◌, List, [], ◌∷◌, ◌++◌, length, Bool, true, false, not, ◌&&◌, if◌then◌else◌, Option, None, Some, option_and_then}
 use Rattle.outside.specs.Names.{is_slash, is_absolute, last_component}
 
 -- the text without the slashes at its front
@@ -27,7 +27,7 @@ stripped (Some n) text = behind_slashes n text
 -- how many slashes a text holds, adjacent ones counting as one
 unfoldable pub slash_count : List ℕ → ℕ
 slash_count [] = 0
-slash_count (b ∷ bs) = (if is_slash b && not (is_absolute bs) then 1 else 0) + slash_count bs
+slash_count (b ∷ bs) = if is_slash b && not (is_absolute bs) then suc (slash_count bs) else slash_count bs
 
 -- its last byte, if there is one, is a slash
 unfoldable pub ends_with_slash : List ℕ → Bool
