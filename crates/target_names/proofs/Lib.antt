@@ -1,3 +1,4 @@
 pub mod Stripping
 pub mod Fronts
 pub mod Names
+pub mod Maps

@@ -1,15 +1,19 @@
 //! Laws of stripping and numbering.
-ghost use Rattle.std.specs.Prelude.{◌≡◌, ◌↔◌, ℕ, List, Some};
+ghost use Rattle.std.specs.Prelude.{◌≡◌, ◌↔◌, ◌<◌, ℕ, List, Some, length, true, false};
 ghost use Rattle.target_names.specs.Stripped.{behind_slashes, IsStripped};
-ghost use Rattle.target_names.specs.Numbered.{place_of, with_name, joined_by};
+ghost use Rattle.target_names.specs.Numbered.{number_in, is_among, with_name, joined_by};
 
 /// What stands behind so many slashes is what is left of a text whose front holds them all and ends with the last.
 pub fn stripped_fronts_hold_the_slashes()
     ensures { (n : ℕ) (text left : List ℕ) → (behind_slashes n text ≡ Some left) ↔ IsStripped n text left }
 {}
 
-/// Names that have the same number are equal, and a name keeps its number when others join.
+/// Each name has a number below their count, equal numbers are those of equal names, a name keeps its number when
+/// others join, and a new name has the count of those before it.
 pub fn numbers_tell_names_apart()
-    ensures apart { (names : List (List ℕ)) (one other : List ℕ) (n : ℕ) → place_of names one ≡ Some n → place_of names other ≡ Some n → one ≡ other }
-    ensures stays { (names others : List (List ℕ)) (name : List ℕ) (n : ℕ) → place_of names name ≡ Some n → place_of (joined_by names others) name ≡ Some n }
+    ensures below { (names : List (List ℕ)) (name : List ℕ) → is_among names name ≡ true → number_in names name < length names }
+    ensures apart { (names : List (List ℕ)) (one other : List ℕ) → is_among names one ≡ true → number_in names one ≡ number_in names other → one ≡ other }
+    ensures stays { (names others : List (List ℕ)) (name : List ℕ) → is_among names name ≡ true → number_in (joined_by names others) name ≡ number_in names name }
+    ensures next { (names : List (List ℕ)) (name : List ℕ) → is_among names name ≡ false → number_in (with_name names name) name ≡ length names }
+    ensures all { (names others : List (List ℕ)) (name : List ℕ) → is_among others name ≡ true → is_among (joined_by names others) name ≡ true }
 {}

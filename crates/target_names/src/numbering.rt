@@ -1,6 +1,6 @@
 //! Numbers for names.
-ghost use Rattle.std.specs.Prelude.{◌≡◌, [], Some, IfOk, OnErr};
-ghost use Rattle.target_names.specs.Numbered.{place_of, with_name};
+ghost use Rattle.std.specs.Prelude.{◌≡◌, [], IfOk, OnErr};
+ghost use Rattle.target_names.specs.Numbered.{number_in, with_name};
 
 use outside::Name;
 use std::alloc::{AllocError, Global};
@@ -38,7 +38,7 @@ impl Numbers {
     /// names are taken than that.
     pub fn number(&mut self, alloc: Global, name: &Name) -> Result<u32, AllocError>
         ensures names { IfOk result (λ number. self.new ≡ with_name self.old name.now) }
-        ensures number { IfOk result (λ number. place_of self.new name.now ≡ Some number) }
+        ensures number { IfOk result (λ number. number ≡ number_in self.new name.now) }
         ensures err { OnErr result (self.new ≡ self.old) }
     {
         if let Some(number) = self.numbers.get(name.text()) {
