@@ -159,6 +159,7 @@ so-stripped (suc n) (b ∷ c ∷ bs) left h = by (is_slash b) (is_slash c) refl 
   where
     from_next : behind_slash (b ∷ c ∷ bs) ≡ behind_slash (c ∷ bs) → behind_slashes (suc n) (c ∷ bs) ≡ Some left
     from_next same = sym (same-count (suc n) n (b ∷ c ∷ bs) (c ∷ bs) refl same) ∙ h
+
     run-tally : is_slash b ≡ true → is_slash c ≡ true → (s : IsStripped (suc n) (c ∷ bs) left) → slash_count (b ∷ s.front) ≡ slash_count s.front
     run-tally hb hc s =
         let f = front-some n (c ∷ bs) left s in
@@ -166,6 +167,7 @@ so-stripped (suc n) (b ∷ c ∷ bs) left h = by (is_slash b) (is_slash c) refl 
         let first : c ≡ f.0 = cc in
         let also : is_slash f.0 ≡ true = ap (λ x. is_slash x) (sym first) ∙ hc in
         ap (λ (l : List ℕ). slash_count (b ∷ l)) f.2 ∙ tally-run b (f.0 ∷ f.1) hb also ∙ ap (λ (l : List ℕ). slash_count l) (sym f.2)
+
     by : (v w : Bool) → is_slash b ≡ v → is_slash c ≡ w → (behind_slashes (suc n) (c ∷ bs) ≡ Some left → IsStripped (suc n) (c ∷ bs) left) → (behind_slashes n (c ∷ bs) ≡ Some left → IsStripped n (c ∷ bs) left) → IsStripped (suc n) (b ∷ c ∷ bs) left
     by false w hb hc next rest = let s = next (from_next (behind-step b (c ∷ bs) hb)) in longer-front n b (c ∷ bs) left s (tally-other b s.front hb)
     by true true hb hc next rest = let s = next (from_next (behind-run b c bs hb hc)) in longer-front n b (c ∷ bs) left s (run-tally hb hc s)

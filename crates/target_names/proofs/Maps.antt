@@ -30,6 +30,7 @@ module _ {K : Type 0} (cmp : K → K → Ordering) where
     where
       test : K × ℕ → Bool
       test x = eqb x.1 n
+
       by : (o : Ordering) → cmp k e.0 ≡ o → find test (insert_entry cmp es k v) ≡ find test es → find test (insert_entry cmp (e ∷ es) k v) ≡ find test (e ∷ es)
       by Less is more = rw is (rw ne refl)
       by Equal is more = absurd (let x : is_eq Equal ≡ false = subst (λ o. is_eq o ≡ false) is none.0 in cc)
@@ -44,10 +45,13 @@ module _ {K : Type 0} (cmp : K → K → Ordering) where
     where
       test : K × ℕ → Bool
       test x = eqb x.1 v
+
       other : eqb e.1 v ≡ false
       other = false_from_ne_true (eqb e.1 v) (λ t. omega (arith, eqb-true e.1 v t, All-head (λ x. x < v) e.1 (values_of es) below))
+
       same : eqb v v ≡ true
       same = eq-eqb v v refl
+
       by : (o : Ordering) → cmp k e.0 ≡ o → find test (insert_entry cmp es k v) ≡ Some (k, v) → find test (insert_entry cmp (e ∷ es) k v) ≡ Some (k, v)
       by Less is more = rw is (rw same refl)
       by Equal is more = absurd (let x : is_eq Equal ≡ false = subst (λ o. is_eq o ≡ false) is none.0 in cc)
@@ -150,10 +154,13 @@ module _ {Y : Type 0} (m n : BTreeMap (String Y) ℕ) (k : String Y) (a : AreNum
       other : bytes_eq q (string_bytes k) ≡ false
       other = false_from_ne_true (bytes_eq q (string_bytes k)) (λ t.
           let x = sym (ap (λ r. bytes_eq (string_bytes k) r) (are-same q (string_bytes k) t) ∙ same-is (string_bytes k)) ∙ e in cc)
+
       missing : is_among (texts m) q ≡ false → is_among (texts m ++ string_bytes k ∷ []) q ≡ false
       missing f = list_any-append (bytes_eq q) (texts m) (string_bytes k ∷ []) ∙ ap (λ b. b || list_any (bytes_eq q) (string_bytes k ∷ [])) f ∙ any-next (bytes_eq q) (string_bytes k) [] other
+
       kept : is_among (texts m) q ≡ true → is_among (texts m ++ string_bytes k ∷ []) q ≡ true
       kept t = list_any-append (bytes_eq q) (texts m) (string_bytes k ∷ []) ∙ ap (λ b. b || list_any (bytes_eq q) (string_bytes k ∷ [])) t
+
       by : (v : Bool) → is_among (texts m) q ≡ v → position (bytes_eq q) (texts m) ≡ position (bytes_eq q) (texts m ++ string_bytes k ∷ [])
       by true t = place-some (bytes_eq q) (texts m) t ∙ ap (λ c. Some c) (sym (place-kept (bytes_eq q) (texts m) (string_bytes k ∷ []) t))
           ∙ sym (place-some (bytes_eq q) (texts m ++ string_bytes k ∷ []) (kept t))

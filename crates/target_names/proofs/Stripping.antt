@@ -131,9 +131,9 @@ last-found text k after here =
     let s = drop (k + 1) text in
     let is : get_or text k 0 ≡ 47 = eqb-true _ _ here in
     let split : text ≡ take k text ++ 47 ∷ s =
-        sym (take-append-drop k text) ∙ ap (λ (l : List ℕ). take k text ++ l) (drop_more text k 0 after.high ∙ ap (λ b. b ∷ s) is) in
+    sym (take-append-drop k text) ∙ ap (λ (l : List ℕ). take k text ++ l) (drop_more text k 0 after.high ∙ ap (λ b. b ∷ s) is) in
     let free : All (λ x. is_slash x ≡ false) s = All-from_get_or (λ x. is_slash x ≡ false) s 0 (λ i lt.
-        rw (get_or-drop (k + 1) text i 0) (none_here text (k + 1 + i) (after.after (k + 1 + i) (omega arith) (omega (arith, lt, length-drop (k + 1) text))))) in
+    rw (get_or-drop (k + 1) text i 0) (none_here text (k + 1 + i) (after.after (k + 1 + i) (omega arith) (omega (arith, lt, length-drop (k + 1) text))))) in
     ap (λ (l : List ℕ). last_component l) split ∙ last_behind (take k text) s free
 
 pub last-missing : (text : List ℕ) → Nowhere (Passes (is_byte 47) text) 0 (length text) → last_component text ≡ text

@@ -1,5 +1,5 @@
 -- The names that are formed from a name: below the directory, of backups, of rejects, and of temporaries (GNU patch manual, "Backups", "Reject Names").
-use Rattle.std.specs.Prelude.{◌≡◌, ℕ, suc, List, [], ◌∷◌, ◌++◌, codes, length, Bool, ◌||◌, Option, None, Some, unwrap_or}
+use Rattle.std.specs.Prelude.{◌≡◌, ℕ, suc, List, [], ◌∷◌, ◌++◌, codes, length, Bool, true, false, ◌||◌, Option, None, Some, unwrap_or}
 use Rattle.outside.specs.Files.{is_temp, temp_of}
 use Rattle.patch_options.specs.PlainJob.{PlainOptions}
 use Rattle.target_names.specs.declared.derived.Target.{Target}
@@ -40,6 +40,18 @@ target_of o name number = record {
   reject_temp = temp_of (below o.dir (reject_name o name));
 }
 
+-- temporaries have names of temporaries
+pub record HasTemps (t : Target) : Type 0 where
+  pub own : is_temp t.temp ≡ true
+  pub backup : is_temp t.backup_temp ≡ true
+  pub reject : is_temp t.reject_temp ≡ true
+
 -- a name that a run would write is that of a temporary
 abbrev pub is_reserved : Target → Bool
 is_reserved t = is_temp t.name || (is_temp t.backup || is_temp t.reject)
+
+-- none is
+pub record IsLasting (t : Target) : Type 0 where
+  pub own : is_temp t.name ≡ false
+  pub backup : is_temp t.backup ≡ false
+  pub reject : is_temp t.reject ≡ false

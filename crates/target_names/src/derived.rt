@@ -1,10 +1,10 @@
 //! The names that are formed from a name.
-ghost use Rattle.std.specs.Prelude.{◌≡◌, ◌++◌, [], IfOk, unwrap_or, string_bytes, option_map};
+ghost use Rattle.std.specs.Prelude.{◌≡◌, ◌++◌, [], true, false, IfOk, unwrap_or, string_bytes, option_map};
 ghost use Rattle.std.specs.Option.{ForSome, option_copied};
-ghost use Rattle.outside.specs.Files.{temp_of};
+ghost use Rattle.outside.specs.Files.{is_temp, temp_of};
 ghost use Rattle.outside.specs.Names.{IsEnding, IsFront};
 ghost use Rattle.patch_options.specs.PlainJob.{plain_options, IsLawful, IsSuffix};
-ghost use Rattle.target_names.specs.Targets.{below, backup_end, backup_name, reject_name, shown_from, target_of, is_reserved};
+ghost use Rattle.target_names.specs.Targets.{below, backup_end, backup_name, reject_name, shown_from, target_of, HasTemps, is_reserved, IsLasting};
 
 use outside::Name;
 use patch_options::Options;
@@ -34,9 +34,10 @@ impl Target {
         number: u32,
     ) -> Result<Target, AllocError>
         requires { IsLawful (plain_options options.now) }
-        ensures { IfOk result (λ target. target ≡ target_of (plain_options options.now) name.now number) }
+        ensures names { IfOk result (λ target. target ≡ target_of (plain_options options.now) name.now number) }
+        ensures temps { IfOk result HasTemps }
     {
-        let own = put_below(alloc, options, name)?;
+        let own = put_below(alloc, options.dir.as_ref(), name)?;
         let backup = backup_of(alloc, options, name)?;
         let reject = reject_of(alloc, options, name)?;
         Ok(Target {
@@ -53,7 +54,8 @@ impl Target {
 
     /// Whether a name that a run would write ends as those of temporaries do.
     pub fn is_reserved(&self) -> bool
-        ensures { result ≡ is_reserved self.now }
+        ensures names { result ≡ is_reserved self.now }
+        ensures lasting { result ≡ false → IsLasting self.now }
     {
         self.name.is_temp() || self.backup.is_temp() || self.reject.is_temp()
     }
@@ -77,11 +79,12 @@ fn shown_from(dir: Option<&Name>) -> usize
 }
 
 /// A name put below the directory.
-fn put_below(alloc: Global, options: &Options, name: &Name) -> Result<WithTemp, AllocError>
-    ensures name { IfOk result (λ p. p.name ≡ below options.now.dir name.now) }
-    ensures temp { IfOk result (λ p. p.temp ≡ temp_of (below options.now.dir name.now)) }
+fn put_below(alloc: Global, dir: Option<&Name>, name: &Name) -> Result<WithTemp, AllocError>
+    ensures name { IfOk result (λ p. p.name ≡ below (option_copied dir.entry) name.now) }
+    ensures temp { IfOk result (λ p. p.temp ≡ temp_of (below (option_copied dir.entry) name.now)) }
+    ensures temporary { IfOk result (λ p. is_temp p.temp ≡ true) }
 {
-    let name = below(alloc, options.dir.as_ref(), name)?;
+    let name = below(alloc, dir, name)?;
     Ok(WithTemp {
         temp: name.temporary(alloc)?,
         name,
@@ -101,10 +104,15 @@ fn backup_of(alloc: Global, options: &Options, name: &Name) -> Result<WithTemp, 
     requires { IsLawful (plain_options options.now) }
     ensures name { IfOk result (λ p. p.name ≡ below options.now.dir (backup_name (plain_options options.now) name.now)) }
     ensures temp { IfOk result (λ p. p.temp ≡ temp_of (below options.now.dir (backup_name (plain_options options.now) name.now))) }
+    ensures temporary { IfOk result (λ p. is_temp p.temp ≡ true) }
 {
     let fronted = fronted(alloc, &options.prefix, name)?;
     let end = backup_end(&options.prefix, &options.suffix);
-    put_below(alloc, options, &fronted.followed_by(alloc, end)?)
+    put_below(
+        alloc,
+        options.dir.as_ref(),
+        &fronted.followed_by(alloc, end)?,
+    )
 }
 
 /// The name with the prefix before it, if there is one.
@@ -134,9 +142,14 @@ fn backup_end<'a>(prefix: &Option<String>, suffix: &'a Option<String>) -> &'a st
 fn reject_of(alloc: Global, options: &Options, name: &Name) -> Result<WithTemp, AllocError>
     ensures name { IfOk result (λ p. p.name ≡ below options.now.dir (reject_name (plain_options options.now) name.now)) }
     ensures temp { IfOk result (λ p. p.temp ≡ temp_of (below options.now.dir (reject_name (plain_options options.now) name.now))) }
+    ensures temporary { IfOk result (λ p. is_temp p.temp ≡ true) }
 {
     match &options.reject {
-        Some(reject) => put_below(alloc, options, reject),
-        None => put_below(alloc, options, &name.followed_by(alloc, ".rej")?),
+        Some(reject) => put_below(alloc, options.dir.as_ref(), reject),
+        None => put_below(
+            alloc,
+            options.dir.as_ref(),
+            &name.followed_by(alloc, ".rej")?,
+        ),
     }
 }

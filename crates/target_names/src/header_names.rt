@@ -79,11 +79,7 @@ fn header_candidate(
     candidate(alloc, strip, text)
 }
 
-fn candidate(
-    alloc: Global,
-    strip: Option<u32>,
-    text: &[u8],
-) -> Result<Option<Name>, AllocError>
+fn candidate(alloc: Global, strip: Option<u32>, text: &[u8]) -> Result<Option<Name>, AllocError>
     ensures { IfOk result (λ found. found ≡ candidate strip text.now) }
 {
     match stripped(strip, text) {

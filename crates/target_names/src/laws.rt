@@ -1,6 +1,8 @@
-//! Laws of stripping and numbering.
+//! Laws of stripping, of names below a directory, and of numbering.
 ghost use Rattle.std.specs.Prelude.{◌≡◌, ◌↔◌, ◌<◌, ℕ, List, Some, length, true, false};
 ghost use Rattle.target_names.specs.Stripped.{behind_slashes, IsStripped};
+ghost use Rattle.patch_options.specs.PlainJob.{PlainOptions};
+ghost use Rattle.target_names.specs.Targets.{below};
 ghost use Rattle.target_names.specs.Numbered.{number_in, is_among, with_name, joined_by};
 
 /// What stands behind so many slashes is what is left of a text whose front holds them all and ends with the last.
@@ -16,4 +18,9 @@ pub fn numbers_tell_names_apart()
     ensures stays { (names others : List (List ℕ)) (name : List ℕ) → is_among names name ≡ true → number_in (joined_by names others) name ≡ number_in names name }
     ensures next { (names : List (List ℕ)) (name : List ℕ) → is_among names name ≡ false → number_in (with_name names name) name ≡ length names }
     ensures all { (names others : List (List ℕ)) (name : List ℕ) → is_among others name ≡ true → is_among (joined_by names others) name ≡ true }
+{}
+
+/// Names that are the same below a directory are the same.
+pub fn targets_tell_names_apart()
+    ensures { (o : PlainOptions) (one other : List ℕ) → below o.dir one ≡ below o.dir other → one ≡ other }
 {}

@@ -9,7 +9,9 @@ mod strip;
 
 pub use derived::Target;
 pub use header_names::candidates;
-pub use laws::{numbers_tell_names_apart, stripped_fronts_hold_the_slashes};
+pub use laws::{
+    numbers_tell_names_apart, stripped_fronts_hold_the_slashes, targets_tell_names_apart,
+};
 pub use numbering::Numbers;
 
 #[cfg(test)]

@@ -100,11 +100,7 @@ const TARGETS: [(&[&str], &str, [&str; 3]); 8] = [
     (&["patch"], "f", ["f", "f.orig", "f.rej"]),
     (&["patch", "-z", "~"], "e/f", ["e/f", "e/f~", "e/f.rej"]),
     (&["patch", "-B", "o/"], "e/f", ["e/f", "o/e/f", "e/f.rej"]),
-    (
-        &["patch", "-Bo/", "-z~"],
-        "f",
-        ["f", "o/f~", "f.rej"],
-    ),
+    (&["patch", "-Bo/", "-z~"], "f", ["f", "o/f~", "f.rej"]),
     (&["patch", "-r", "r/r"], "f", ["f", "f.orig", "r/r"]),
     (
         &["patch", "-d", "d/s"],
@@ -155,7 +151,10 @@ fn names_of_temporaries_are_reserved(rt: HostRuntime) -> Result<(), Fail> {
         (["patch", "-zp"].as_slice(), "x.ptm", true),
         (["patch", "-p1"].as_slice(), "x.ptmp/f", false),
     ] {
-        assert!(rt; target(rt.alloc(), words, text)?.is_reserved() == want, "{text}");
+        assert!(rt;
+            target(rt.alloc(), words, text)?.is_reserved() == want,
+            "{text}"
+        );
     }
     Ok(())
 }

@@ -10,7 +10,7 @@ found c = subst (λ (t : List ℕ). get_by_text c.self.inside.numbers t ≡ Some
 pub returns-in-Some-clause-names : goal.returns-in-Some-clause-names
 returns-in-Some-clause-names c =
     subst (λ (l : List (List ℕ)). l ≡ with_name l c.args.name.now) c.self.view_is
-        (found-texts c.self.inside.numbers c.self.invariant c.args.name.now c.in-Some.number.now (found c))
+    (found-texts c.self.inside.numbers c.self.invariant c.args.name.now c.in-Some.number.now (found c))
 
 pub returns-in-Some-clause-number : goal.returns-in-Some-clause-number
 returns-in-Some-clause-number c =
