@@ -139,7 +139,7 @@ fn targets_have_their_names(rt: HostRuntime) -> Result<(), Fail> {
         assert!(rt; is_with_temp(&t.name, &t.temp, name), "{name}");
         assert!(rt; is_with_temp(&t.backup, &t.backup_temp, backup), "{backup}");
         assert!(rt; is_with_temp(&t.reject, &t.reject_temp, reject), "{reject}");
-        assert!(rt; t.number == 7 && t.shown_from == name.len() - text.len());
+        assert!(rt; t.number == 7 && name.len().checked_sub(text.len()) == Some(t.shown_from));
     }
     Ok(())
 }
