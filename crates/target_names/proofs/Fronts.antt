@@ -1,5 +1,5 @@
 -- What is stripped is the front that holds the slashes and ends with the last of them.
-use Rattle.std.proofs.Common.{◌≡◌, ◌↔◌, ℕ, zero, suc, ◌+◌, ◌<◌, Bool, true, false, not, ◌&&◌, cond, List, [], ◌∷◌, ◌++◌, length, Option, None, Some, refl, sym, ap, subst, ◌∙◌, arith}
+use Rattle.std.proofs.Common.{◌≡◌, ◌↔◌, ℕ, zero, suc, ◌<◌, Bool, true, false, List, [], ◌∷◌, ◌++◌, length, Option, None, Some, refl, sym, ap, subst, ◌∙◌, arith}
 use Rattle.outside.specs.Names.{is_slash, is_absolute}
 use Rattle.target_names.specs.Stripped.{without_slashes, behind_slash, behind_slashes, slash_count, ends_with_slash, IsStripped}
 use Rattle.target_names.proofs.Stripping.{slashes-step, slashes-stop, slashes-nil, behind-step, behind-here, behind-nil, count-zero, count-next, count-none}

@@ -1,14 +1,14 @@
 -- The map that has the numbers of texts.
 use Rattle.std.proofs.Common.{◌≡◌, ℕ, zero, suc, ◌+◌, ◌<◌, ◌≤◌, Bool, true, false, ◌||◌, cond, eqb, List, [], ◌∷◌, ◌++◌, map, length, Option, None, Some, refl, sym, ap, subst, ◌∙◌, arith, string_bytes, eq-eqb, Ordering}
 use Rattle.std.specs.Prelude.{String, bytes_eq, is_some, if◌then◌else◌}
-use Rattle.std.specs.List.{All, position, position_or_len, find, list_any, range_with_len}
+use Rattle.std.specs.List.{All, position, find, list_any, range_with_len}
 use Rattle.std.specs.Option.{option_map_or}
-use Rattle.std.specs.Ordering.{is_eq, match_ordering, nat_cmp}
+use Rattle.std.specs.Ordering.{is_eq, nat_cmp}
 use Rattle.std.specs.declared.cmp.Ordering.TheVariants.{Less, Equal, Greater}
 use Rattle.std.specs.Cmp.Lexicographic.{slice_cmp}
 use Rattle.std.specs.String.{string_cmp}
-use Rattle.std.specs.BTreeMap.{BTreeMap, get_by_text, insert_entry, is_at, values, UpdatesBy}
-use Rattle.std.specs.Map.{update, lookup, values_of}
+use Rattle.std.specs.BTreeMap.{BTreeMap, get_by_text, insert_entry, is_at, UpdatesBy}
+use Rattle.std.specs.Map.{lookup, values_of}
 use Rattle.std.proofs.lemmas.Bool.{false_from_ne_true, true_from_ne_false, eqb-true}
 use Rattle.std.proofs.lemmas.List.Elements.{All-head, All-tail, All-nil}
 use Rattle.std.proofs.lemmas.List.FromFn.{map-range_with_len_more, length-map-range_with_len}

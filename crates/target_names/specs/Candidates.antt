@@ -1,5 +1,5 @@
 -- The names that a file patch can be meant for, by its header lines (POSIX, `patch`, "File Name Determination").
-use Rattle.std.specs.Prelude.{◌≡◌, ℕ, List, [], ◌++◌, codes, Bool, ◌&&◌, if◌then◌else◌, bytes_eq, Option, None, Some, is_none, option_and_then}
+use Rattle.std.specs.Prelude.{ℕ, List, ◌++◌, codes, ◌&&◌, if◌then◌else◌, bytes_eq, Option, None, Some, is_none, option_and_then}
 use Rattle.std.specs.Option.{option_to_list}
 use Rattle.outside.specs.Names.{broken_rule, normal_form}
 use Rattle.target_names.specs.Stripped.{stripped}

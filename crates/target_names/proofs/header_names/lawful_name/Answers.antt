@@ -1,5 +1,5 @@
-use Rattle.std.proofs.Common.{ap, sym, ◌∙◌, Err, Some, None, is_none, if◌then◌else◌, Option, List, ℕ}
-use Rattle.outside.specs.Names.{broken_rule, normal_form}
+use Rattle.std.proofs.Common.{ap, sym, ◌∙◌, Err, Some, None, is_none, if◌then◌else◌}
+use Rattle.outside.specs.Names.{normal_form}
 use Rattle.target_names.proofs.header_names.lawful_name.Goals as goal
 
 pub returns-in-Err-Refused : goal.returns-in-Err-Refused

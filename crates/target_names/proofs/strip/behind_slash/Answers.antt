@@ -1,4 +1,4 @@
-use Rattle.std.proofs.Common.{ap, sym, ◌∙◌, List, ℕ, Some, Option}
+use Rattle.std.proofs.Common.{ap, sym, ◌∙◌, List, ℕ, Some}
 use Rattle.std.specs.Option.{option_copied}
 use Rattle.std.proofs.lemmas.List.{take_rest}
 use Rattle.target_names.specs.Stripped.{without_slashes}

@@ -1,4 +1,4 @@
-use Rattle.target_names.proofs.Maps.{no-texts, none-numbered, more-numbered}
+use Rattle.target_names.proofs.Maps.{no-texts, none-numbered}
 use Rattle.target_names.proofs.numbering.Numbers.new.Goals as goal
 
 pub invariant_of-result : goal.invariant_of-result

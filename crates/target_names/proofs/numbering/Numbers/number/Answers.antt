@@ -1,4 +1,4 @@
-use Rattle.std.proofs.Common.{◌≡◌, List, ℕ, Some, None, sym, ap, subst, ◌∙◌, arith, OnErr, Ok, Err}
+use Rattle.std.proofs.Common.{◌≡◌, List, ℕ, Some, sym, ap, subst, ◌∙◌, arith, OnErr, Ok, Err}
 use Rattle.std.specs.BTreeMap.{get_by_text}
 use Rattle.target_names.specs.Numbered.{number_in, with_name, texts}
 use Rattle.target_names.proofs.Maps.{found-texts, found-number, same-texts, same-numbered, Adds, adds}
