@@ -58,7 +58,7 @@ fn is_stripped_to(found: &[Name], want: Option<&str>) -> bool {
 fn names_are_stripped(rt: HostRuntime) -> Result<(), Fail> {
     for (text, strip, want) in STRIPPED {
         let found = candidates(rt.alloc(), strip, None, Some(text), None)?;
-        assert!(rt; is_stripped_to(&found, want), "{want:?}");
+        assert!(rt; is_stripped_to(&found, want));
     }
     Ok(())
 }
@@ -132,14 +132,24 @@ fn is_with_temp(name: &Name, temp: &Name, text: &str) -> bool {
     name.text() == text && temp.text().strip_suffix(".ptmp") == Some(text)
 }
 
+fn has_names(t: &Target, [name, backup, reject]: [&str; 3]) -> bool {
+    is_with_temp(&t.name, &t.temp, name)
+        && is_with_temp(&t.backup, &t.backup_temp, backup)
+        && is_with_temp(&t.reject, &t.reject_temp, reject)
+}
+
+fn is_shown_as(t: &Target, text: &str) -> bool {
+    t.name.text().len().checked_sub(text.len()) == Some(t.shown_from)
+}
+
 #[test]
 fn targets_have_their_names(rt: HostRuntime) -> Result<(), Fail> {
-    for (words, text, [name, backup, reject]) in TARGETS {
+    for (words, text, names) in TARGETS {
         let t = target(rt.alloc(), words, text)?;
-        assert!(rt; is_with_temp(&t.name, &t.temp, name), "{name}");
-        assert!(rt; is_with_temp(&t.backup, &t.backup_temp, backup), "{backup}");
-        assert!(rt; is_with_temp(&t.reject, &t.reject_temp, reject), "{reject}");
-        assert!(rt; t.number == 7 && name.len().checked_sub(text.len()) == Some(t.shown_from));
+        assert!(rt;
+            has_names(&t, names) && is_shown_as(&t, text) && t.number == 7,
+            "{text}"
+        );
     }
     Ok(())
 }
