@@ -1,4 +1,4 @@
--- The draws that a made tree is made from: a linear congruence modulo 2 ^ 64.
+-- The draws that a made tree is made from: a linear congruence modulo 2 ^ 64, with the constants of Knuth's MMIX.
 use Rattle.std.specs.Prelude.{ℕ, zero, suc, ◌+◌, ◌*◌, ◌/◌, ◌%◌, ◌^◌}
 
 -- the state that follows one

@@ -1,4 +1,4 @@
--- The patch over a made file, in the unified form. Its hunks speak of the numbered lines as if the extra ones weren't there.
+-- The patch over a made file, in the unified form (GNU diffutils manual, "Detailed Description of Unified Format"). Its hunks speak of the numbered lines as if the extra ones weren't there.
 use Rattle.std.specs.Prelude.{ℕ, ◌+◌, ◌-◌, ◌*◌, List, [], ◌∷◌, ◌++◌, codes}
 use Rattle.std.specs.List.{flat_map, range_with_len}
 use Rattle.num_text.specs.Numbers.{decimal}

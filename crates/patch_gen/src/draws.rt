@@ -1,4 +1,4 @@
-//! The draws of a linear congruence modulo 2 to the 64.
+//! The draws of a linear congruence modulo 2 to the 64, with the constants of Knuth's MMIX.
 
 ghost use Rattle.std.specs.Prelude.{◌≡◌, ◌/◌, ◌^◌};
 ghost use Rattle.patch_gen.specs.Draws.{next_state};
@@ -9,6 +9,7 @@ pub struct Draws {
 }
 
 impl Draws {
+    /// The upper 31 bits of the next state.
     pub fn next_draw(&mut self) -> u32
         ensures state { self.new.state ≡ next_state self.old.state }
         ensures drawn { result ≡ self.new.state / 2 ^ 33 }
