@@ -22,7 +22,7 @@ abbrev pub made_patch : ℕ → ℕ → ℕ → List ℕ
 made_patch seed lines i = file_patch (file_line (file_state seed lines i)) i (lines / 20)
 
 -- the files 1 to `files`, and the patch over all of them
-abbrev pub made : ℕ → ℕ → ℕ → MadeTree
+unfoldable pub made : ℕ → ℕ → ℕ → MadeTree
 made seed files lines = record {
   files = map (made_file seed lines) (range_with_len 1 files);
   patch = flat_map (made_patch seed lines) (range_with_len 1 files);

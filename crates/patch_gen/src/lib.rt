@@ -23,7 +23,7 @@ use text::{file_of, without_extras};
 
 /// A made tree: the texts of the files `gen/f1`, `gen/f2` and on, in order, and a patch over them
 /// in the unified form (GNU diffutils manual, "Detailed Description of Unified Format"). The
-/// patch was made without the extra lines at a file's front, so its hunks stand as many lines on.
+/// patch was made without the extra lines at a file's front, so its hunks stand that much further on.
 #[derive(Drop)]
 pub struct Made {
     pub files: Vec<Vec<u8>>,
@@ -55,6 +55,7 @@ fn add_file(
 /// The files and the patch that a seed makes. Each file has so many numbered lines behind at most
 /// four extra ones, and one hunk for every twenty. The memory for each file, and that for the
 /// whole patch, is taken at once.
+#[tactic(auto, unfolding(crate::specs::Tree::made))]
 pub fn generate(alloc: Global, seed: u32, files: u32, lines: u32) -> Result<Made, AllocError>
     requires files { (1 ≤ files) × (files ≤ 1_000) }
     requires lines { (20 ≤ lines) × (lines ≤ 9_999_999) }

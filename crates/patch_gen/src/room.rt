@@ -42,6 +42,7 @@ fn headers_length(files: u32) -> usize
     total
 }
 
+/// The length of the whole patch.
 pub fn patch_length(files: u32, lines: u32) -> usize
     requires { (files ≤ 1_000) × (lines ≤ 9_999_999) }
     ensures { (seed : ℕ) → length ((made seed files lines).patch) ≡ result }

@@ -1,6 +1,6 @@
 use super::*;
 
-// Made by a script of its own from the sentences, and applied by GNU patch.
+// What a script written apart from this crate makes from the same numbers. GNU patch applies the patch, 3 lines further on.
 const FILE: &[u8] = b"extra 00001
 extra 00002
 extra 00003

@@ -4,7 +4,7 @@ use Rattle.std.proofs.lemmas.List.FromFn.{map-range_with_len_more}
 use Rattle.patch_gen.specs.Draws.{state_after}
 use Rattle.patch_gen.specs.Texts.{file_line, file_text}
 use Rattle.patch_gen.specs.Patches.{file_patch}
-use Rattle.patch_gen.specs.Tree.{file_state, made_file, made_patch}
+use Rattle.patch_gen.specs.Tree.{file_state, made_file, made_patch, made}
 use Rattle.patch_gen.proofs.RunLemmas.{run-more, state-first, state-files}
 use Rattle.patch_gen.proofs.generate.Goals as goal
 
@@ -32,11 +32,13 @@ loop-done-preserved c =
     }
 
 pub returns-clause-files : goal.returns-clause-files
+unfolding made
 returns-clause-files c =
     let all : c.loop-done.done ≡ c.args.files = omega arith in
     c.loop-done.invariant.files ∙ ap (λ n. map (made_file c.args.seed c.args.lines) (range_with_len 1 n)) all
 
 pub returns-clause-patch : goal.returns-clause-patch
+unfolding made
 returns-clause-patch c =
     let all : c.loop-done.done ≡ c.args.files = omega arith in
     c.loop-done.invariant.patch ∙ ap (λ n. flat_map (made_patch c.args.seed c.args.lines) (range_with_len 1 n)) all
