@@ -1,6 +1,6 @@
 //! What is said of the hunks of a file.
 
-ghost use Rattle.std.specs.Prelude.{◌≡◌, Some};
+ghost use Rattle.std.specs.Prelude.{◌≡◌, ◌&&◌, not, Some};
 ghost use Rattle.std.specs.Option.{option_copied};
 ghost use Rattle.outside.specs.SinkView.{Writes};
 ghost use Rattle.patch_options.specs.PlainJob.{plain_options};
@@ -24,34 +24,17 @@ pub fn say_placed<O: Sink>(
     ensures writes { Writes (O.view out.old) (O.view out.new) result (silenced (plain_options options.now) (placed_text options.now.verbose number at fuzz offset)) }
     ensures rest { O.same_rest out.old out.new }
 {
-    if options.silent {
-        return Ok(());
-    }
-    put_placed(options.verbose, number, at, fuzz, offset, out)
-}
-
-fn is_told(is_verbose: bool, fuzz: u32, offset: i64) -> bool
-    ensures { result ≡ is_told is_verbose fuzz offset }
-{
-    is_verbose || !(fuzz == 0 && offset == 0)
-}
-
-fn put_placed<O: Sink>(
-    is_verbose: bool,
-    number: u32,
-    at: i64,
-    fuzz: u32,
-    offset: i64,
-    out: &mut O,
-) -> Result<(), Failed>
-    ensures writes { Writes (O.view out.old) (O.view out.new) result (placed_text is_verbose number at fuzz offset) }
-    ensures rest { O.same_rest out.old out.new }
-{
-    if !is_told(is_verbose, fuzz, offset) {
+    if !is_told(options, fuzz, offset) {
         return Ok(());
     }
     let line = placed_line(number, at, fuzz, offset);
     put_all(out, line.as_slice())
+}
+
+fn is_told(options: &Options, fuzz: u32, offset: i64) -> bool
+    ensures { result ≡ (not options.now.silent && is_told options.now.verbose fuzz offset) }
+{
+    !options.silent && (options.verbose || !(fuzz == 0 && offset == 0))
 }
 
 /// Says that a hunk has no place, and at which line it was to stand. Nothing is written with `-s`.
