@@ -1,9 +1,10 @@
--- What `patch` says on standard output while it works: each message is a line, one of them two lines.
+-- What `patch` says on standard output while it works: each message is a line with its line feed, one of them two lines.
+-- The texts are the project's own, in the wording of GNU patch where there is one.
 use Rattle.std.specs.Prelude.{ℕ, ◌==◌, ℤ, pos, negsuc, suc, List, [], ◌∷◌, ◌++◌, codes, Bool, true, false, ◌&&◌, ◌||◌, not, if◌then◌else◌, Option, None, Some}
 use Rattle.num_text.specs.Numbers.{decimal}
 use Rattle.patch_options.specs.PlainJob.{PlainOptions}
 
--- with `-s` nothing is said (GNU patch manual, "Messages and Questions")
+-- with `-s` nothing is said (GNU diffutils manual, "Messages and Questions from patch")
 abbrev pub silenced : PlainOptions → List ℕ → List ℕ
 silenced o text = if o.silent then [] else text
 
@@ -12,6 +13,7 @@ abbrev pub signed : ℤ → List ℕ
 signed (pos n) = decimal n
 signed (negsuc n) = 45 ∷ decimal (suc n)
 
+-- a signed number is 0, or 1
 abbrev pub is_int_zero : ℤ → Bool
 is_int_zero (pos n) = n == 0
 is_int_zero (negsuc n) = false
@@ -54,11 +56,11 @@ exists_line name is_turned = codes "The next patch would create the file " ++ (n
 abbrev pub fuzz_part : ℕ → List ℕ
 fuzz_part fuzz = if fuzz == 0 then [] else codes " with fuzz " ++ decimal fuzz
 
--- an offset of 1 is one line
+-- behind an offset of 1 stands one line
 abbrev pub line_word : ℤ → List ℕ
 line_word offset = if is_int_one offset then codes " line)" else codes " lines)"
 
--- an offset is told where it isn't 0
+-- an offset is told where it isn't 0, with its minus sign
 abbrev pub offset_part : ℤ → List ℕ
 offset_part offset = if is_int_zero offset then [] else codes " (offset " ++ (signed offset ++ line_word offset)
 
@@ -70,10 +72,11 @@ hunk_text number what at = codes "Hunk #" ++ (decimal number ++ (what ++ signed 
 abbrev pub placed_line : ℕ → ℤ → ℕ → ℤ → List ℕ
 placed_line number at fuzz offset = hunk_text number (codes " succeeded at ") at ++ (fuzz_part fuzz ++ (offset_part offset ++ codes ".\n"))
 
--- a placed hunk is told of where it has fuzz or an offset, and with `--verbose` always
+-- a placed hunk is told of where it has fuzz or an offset other than 0, and with `--verbose` always
 abbrev pub is_told : Bool → ℕ → ℤ → Bool
 is_told is_verbose fuzz offset = is_verbose || not ((fuzz == 0) && is_int_zero offset)
 
+-- what is said of a placed hunk
 abbrev pub placed_text : Bool → ℕ → ℤ → ℕ → ℤ → List ℕ
 placed_text is_verbose number at fuzz offset = if is_told is_verbose fuzz offset then placed_line number at fuzz offset else []
 
@@ -85,6 +88,7 @@ failed_line number at = hunk_text number (codes " FAILED at ") at ++ codes ".\n"
 abbrev pub not_deleting_line : List ℕ → List ℕ
 not_deleting_line name = codes "Not deleting file " ++ (name ++ codes " as content differs from patch\n")
 
+-- behind a number of 1 stands one hunk
 abbrev pub hunk_word : ℕ → List ℕ
 hunk_word hunks = if hunks == 1 then codes " hunk" else codes " hunks"
 

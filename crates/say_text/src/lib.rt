@@ -1,5 +1,6 @@
 //! What `patch` says on standard output while it works, over any sink: a call for each message. Names are handed in as
-//! they are shown. With `-s` most calls write nothing; each says so where it does.
+//! they are shown. With `-s` most calls write nothing; each says where it does. After a failure the sink received a first
+//! part of the message.
 #![tactic(auto)]
 
 mod files;

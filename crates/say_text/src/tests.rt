@@ -5,7 +5,6 @@ use mem_world::MemSink;
 use outside::{Failed, Name};
 use patch_options::{Input, Options, PlanKind};
 use std::alloc::Global;
-use std::test::Fail;
 
 fn plain() -> Options {
     Options {
@@ -85,6 +84,7 @@ fn say_all(options: &Options, name: &str, sink: &mut MemSink) -> Result<(), Fail
     say_rest(options, name, sink)
 }
 
+// With `batch` a patch that doesn't suit the file is turned round here.
 fn say_rest(options: &Options, name: &str, sink: &mut MemSink) -> Result<(), Failed> {
     say_reversed(options, options.batch, sink)?;
     say_exists(options, name, options.batch, sink)?;
@@ -140,7 +140,7 @@ fn has_all(alloc: Global, options: &Options, want: &str) -> bool {
 }
 
 #[test]
-fn messages(rt: HostRuntime) -> Result<(), Fail> {
+fn messages(rt: HostRuntime) {
     assert!(rt; has_all(rt.alloc(), &plain(), LOUD));
     assert!(rt; has_all(rt.alloc(), &silent(), SILENT));
     let mut options = plain();
@@ -149,5 +149,4 @@ fn messages(rt: HostRuntime) -> Result<(), Fail> {
     options.batch = true;
     options.output = Name::new(rt.alloc(), b"out").ok();
     assert!(rt; has_all(rt.alloc(), &options, OTHER));
-    Ok(())
 }
