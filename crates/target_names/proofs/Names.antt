@@ -1,12 +1,13 @@
 -- Names and their numbers.
-use Rattle.std.proofs.Common.{◌≡◌, ℕ, ◌+◌, ◌<◌, Bool, true, false, ◌||◌, List, [], ◌∷◌, ◌++◌, length, get_or, None, Some, refl, sym, ap, subst, ◌∙◌, arith}
+use Rattle.std.proofs.Common.{◌≡◌, ℕ, ◌+◌, ◌<◌, Bool, true, false, ◌||◌, List, [], ◌∷◌, ◌++◌, map, length, get_or, None, Some, refl, sym, ap, subst, ◌∙◌, arith}
 use Rattle.std.specs.Prelude.{bytes_eq, nat_lt}
 use Rattle.std.specs.List.{position, position_or_len, list_any}
 use Rattle.std.proofs.lemmas.Bool.{lt-ltb, le-ltb}
+use Rattle.std.proofs.lemmas.List.{map-append}
 use Rattle.std.proofs.lemmas.List.Folds.{list_any-append}
 use Rattle.std.proofs.lemmas.List.Sums.{passes_at_first}
 use Rattle.std.proofs.lemmas.Slice.Eq.{bytes_eq-Decides}
-use Rattle.target_names.specs.Numbered.{number_in, is_among, with_name, joined_by}
+use Rattle.target_names.specs.Numbered.{number_in, is_among, with_name, joined_by, distinct, numbered}
 
 -- ---- the first place that passes a test
 
@@ -143,3 +144,34 @@ all-join names (other ∷ others) name h =
     by : (v : Bool) → bytes_eq name other ≡ v → (is_among others name ≡ true → is_among (joined_by (with_name names other) others) name ≡ true) → is_among (joined_by (with_name names other) others) name ≡ true
     by true e more = (all-stay (with_name names other) others name (ap (λ l. is_among (with_name names other) l) (are-same name other e) ∙ with-among names other)).among
     by false e more = more (sym (any-next (bytes_eq name) other others e) ∙ h)
+
+-- ---- names one after another
+
+joined-push : (names others : List (List ℕ)) (name : List ℕ) → joined_by names (others ++ name ∷ []) ≡ with_name (joined_by names others) name
+joined-push names [] name =
+    joined-more names name [] ∙ joined-nil (with_name names name) ∙ ap (λ l. with_name l name) (sym (joined-nil names))
+joined-push names (other ∷ others) name =
+    joined-more names other (others ++ name ∷ []) ∙ joined-push (with_name names other) others name ∙ ap (λ l. with_name l name) (sym (joined-more names other others))
+
+pub distinct-push : (names : List (List ℕ)) (name : List ℕ) → distinct (names ++ name ∷ []) ≡ with_name (distinct names) name
+distinct-push names name = joined-push [] names name
+
+-- names that are there keep their numbers
+kept-numbers : (there : List (List ℕ)) (name : List ℕ) (names : List (List ℕ)) → ((y : List ℕ) → is_among names y ≡ true → is_among there y ≡ true)
+    → map (number_in (with_name there name)) names ≡ map (number_in there) names
+kept-numbers there name [] all = refl
+kept-numbers there name (y ∷ names) all =
+    let first = (one-stays there name y (all y (any-here (bytes_eq y) y names (same-is y)))).number in
+    let rest = kept-numbers there name names (λ z h. all z (later z (bytes_eq z y) refl h)) in
+    ap (λ n. n ∷ map (number_in (with_name there name)) names) first ∙ ap (λ l. number_in there y ∷ l) rest
+  where
+    later : (z : List ℕ) (v : Bool) → bytes_eq z y ≡ v → is_among names z ≡ true → is_among (y ∷ names) z ≡ true
+    later z true e h = any-here (bytes_eq z) y names e
+    later z false e h = any-next (bytes_eq z) y names e ∙ h
+
+pub numbered-push : (names : List (List ℕ)) (name : List ℕ) → numbered (names ++ name ∷ []) ≡ numbered names ++ number_in (distinct (names ++ name ∷ [])) name ∷ []
+numbered-push names name =
+    let now = distinct (names ++ name ∷ []) in
+    map-append (number_in now) names (name ∷ [])
+    ∙ ap (λ l. l ++ number_in now name ∷ [])
+    (ap (λ d. map (number_in d) names) (distinct-push names name) ∙ kept-numbers (distinct names) name names (λ y h. all-join [] names y h))

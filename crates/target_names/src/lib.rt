@@ -10,7 +10,8 @@ mod strip;
 pub use derived::Target;
 pub use header_names::candidates;
 pub use laws::{
-    numbers_tell_names_apart, stripped_fronts_hold_the_slashes, targets_tell_names_apart,
+    numbers_come_in_order, numbers_tell_names_apart, stripped_fronts_hold_the_slashes,
+    targets_tell_names_apart,
 };
 pub use numbering::Numbers;
 
