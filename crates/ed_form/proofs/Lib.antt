@@ -1,0 +1,4 @@
+pub mod Lasts
+pub mod TextLoops
+pub mod Counts
+pub mod EditLoops
