@@ -2,3 +2,8 @@ pub mod Lasts
 pub mod TextLoops
 pub mod Counts
 pub mod EditLoops
+pub mod CommandGrammar
+pub mod TextGrammar
+pub mod Pieces
+pub mod Lawful
+pub mod FirstFault
