@@ -1,5 +1,5 @@
 -- A script that is read is lawful, and its span is its piece of the text.
-use Rattle.std.proofs.Common.{◌≡◌, ℕ, zero, suc, ◌+◌, ◌≤◌, ◌<◌, ◌^◌, ◌≢◌, true, false, List, [], ◌∷◌, ◌++◌, length, map, drop, slice_range, Result, Ok, Err, refl, sym, ap, subst, ◌∙◌, append_assoc, arith, inl, inr}
+use Rattle.std.proofs.Common.{◌≡◌, ℕ, zero, suc, ◌+◌, ◌≤◌, ◌<◌, ◌^◌, ◌≢◌, true, false, List, [], ◌∷◌, ◌++◌, length, sum_by, map, drop, slice_range, Result, Ok, Err, refl, sym, ap, subst, ◌∙◌, append_assoc, arith, inl, inr}
 use Rattle.std.specs.Prelude.{IfOk, All}
 use Rattle.std.specs.List.{AllByRecursion}
 use Rattle.std.proofs.lemmas.List.Elements.{All-from_recursion}
@@ -113,13 +113,14 @@ is_piece text at line (Ok s) start within given =
     subst (λ ls. SpellsEdits (2 ^ 32) ls (edits_of text s.edits.items) (lines (drop s.span.end text))) (sym own) p.spelled
 is_piece text at line (Err e) start within given = tt
 
-pub is_lawful : (text : List ℕ) (at line : ℕ) (r : Result EdScript FormFault) → begins_script (lines (drop at text)) ≡ true → IfOk r (λ s. All (λ e. All (LiesIn text) e.added.items) s.edits.items) → Gives (read_of text) r (reading line (lines (drop at text))) → IfOk r (IsLawfulScript text)
-is_lawful text at line (Ok s) opens lies given =
+pub is_lawful : (text : List ℕ) (at line : ℕ) (r : Result EdScript FormFault) → begins_script (lines (drop at text)) ≡ true → length text < 2 ^ 32 → IfOk r (λ s. length s.edits.items + sum_by (λ e. length e.added.items) s.edits.items ≤ length text) → IfOk r (λ s. All (λ e. All (LiesIn text) e.added.items) s.edits.items) → Gives (read_of text) r (reading line (lines (drop at text))) → IfOk r (IsLawfulScript text)
+is_lawful text at line (Ok s) opens short few lies given =
     let p = reading_finds line (lines (drop at text)) (read_of text s) given in
     let some = some-edits (edits_of text s.edits.items) (2 ^ 32) p.own (lines (drop s.span.end text)) p.spelled (ap begins_script (sym p.parts) ∙ opens) p.ends.0 in
     record {
       some = omega (arith, some, length-map s.edits.items (edit_of text));
+      few = omega (arith, few, short);
       edits = edits-lawful (edits_of text s.edits.items) (2 ^ 32) p.own (lines (drop s.span.end text)) p.spelled (subst ArePieces p.parts (lines-pieces (drop at text)));
       within = lies;
     }
-is_lawful text at line (Err e) opens lies given = tt
+is_lawful text at line (Err e) opens short few lies given = tt

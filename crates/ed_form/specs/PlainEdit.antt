@@ -1,5 +1,5 @@
 -- An edit apart from where its text lies: the lines that it takes away, and the lines that it puts in their place.
-use Rattle.std.specs.Prelude.{◌≡◌, ℕ, ◌+◌, ◌<◌, ◌≤◌, ◌^◌, min, Bool, true, List, [], ◌∷◌, length, map, All}
+use Rattle.std.specs.Prelude.{◌≡◌, ℕ, ◌+◌, ◌<◌, ◌≤◌, ◌^◌, min, Bool, true, List, [], ◌∷◌, length, map, sum_by, All}
 use Rattle.line_list.specs.Lines.{IsLine}
 use Rattle.line_list.specs.declared.Span.{Span}
 use Rattle.hunk_core.specs.PlainHunk.{bytes_at}
@@ -41,8 +41,9 @@ abbrev pub AreLawful : ℕ → List PlainEdit → Type 0
 AreLawful below [] = Unit {0}
 AreLawful below (e ∷ es) = IsLawfulEdit e × (e.last < below) × AreLawful (lowest e) es
 
--- a script of one edit or more, lawful over the text
+-- a script of one edit or more, lawful over the text, whose edits and added lines can be counted together
 pub record IsLawfulScript (text : List ℕ) (s : EdScript) : Type 0 where
   pub some : 0 < length s.edits.items
+  pub few : length s.edits.items + sum_by (λ e. length e.added.items) s.edits.items < 2 ^ 32
   pub edits : AreLawful (2 ^ 32) (edits_of text s.edits.items)
   pub within : All (λ e. All (LiesIn text) e.added.items) s.edits.items

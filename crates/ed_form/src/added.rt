@@ -1,6 +1,6 @@
 //! The text of a command.
 
-ghost use Rattle.std.specs.Prelude.{◌≡◌, ◌↔◌, ◌⊎◌, ◌+◌, ◌<◌, ◌≤◌, ◌^◌, ℕ, List, [], ◌∷◌, ◌++◌, true, false, length, drop, slice_range, IfOk, IfErr, MatchOption, All, is_some};
+ghost use Rattle.std.specs.Prelude.{◌≡◌, ◌↔◌, ◌⊎◌, ◌+◌, ◌<◌, ◌≤◌, ◌^◌, ℕ, List, [], ◌∷◌, ◌++◌, true, false, length, vec_len, drop, slice_range, IfOk, IfErr, MatchOption, All, is_some};
 ghost use Rattle.line_list.specs.Lines.{lines, IsLineAt};
 ghost use Rattle.hunk_core.specs.LineTests.{after};
 ghost use Rattle.hunk_core.specs.PlainHunk.{bytes_at};
@@ -71,6 +71,7 @@ fn correct(text: &[u8], added: &mut Vec<Span>) -> Result<(), FormFault>
     requires lies { All (LiesIn text.now) added.now.items }
     requires double { ends_double (lines_of text.now added.now.items) ≡ true }
     ensures lies { IfOk result (λ _. All (LiesIn text.now) added.new.items) }
+    ensures len { IfOk result (λ _. vec_len added.new ≡ vec_len added.old) }
     ensures memory { IfErr result (λ e. e ≡ FormFault.Memory) }
     ensures exact { IfOk result (λ _. lines_of text.now added.new.items ≡ undoubled (lines_of text.now added.old.items)) }
 {
@@ -107,6 +108,7 @@ fn take_line(
     requires span { LiesIn text.now span }
     requires taken { is_taken part (lines_of text.now added.now.items) (bytes_at text.now span) ≡ true }
     ensures lies { IfOk result (λ _. All (LiesIn text.now) added.new.items) }
+    ensures few { IfOk result (λ _. vec_len added.new ≤ vec_len added.old + 1) }
     ensures memory { IfErr result (λ e. e ≡ FormFault.Memory) }
     ensures exact { IfOk result (λ next. step part (lines_of text.now added.old.items) (bytes_at text.now span) ≡ (next, lines_of text.now added.new.items)) }
 {
@@ -149,6 +151,7 @@ fn read_text(
 ) -> Result<(Vec<Span>, Place), FormFault>
     requires { IsPlace text.now place }
     ensures place { IfOk result (λ x. IsPlace text.now x.1 × (place.at ≤ x.1.at)) }
+    ensures few { IfOk result (λ x. place.at + vec_len x.0 ≤ x.1.at) }
     ensures lies { IfOk result (λ x. All (LiesIn text.now) x.0.items) }
     ensures exact { Gives (λ x. (lines_of text.now x.0.items, ahead_of text.now x.1)) result (text_at opened Part.Text [] place.number (lines (drop place.at text.now))) }
 {
@@ -182,6 +185,7 @@ pub fn read_added(
 ) -> Result<(Vec<Span>, Place), FormFault>
     requires { IsPlace text.now place }
     ensures place { IfOk result (λ x. IsPlace text.now x.1 × (place.at ≤ x.1.at)) }
+    ensures few { IfOk result (λ x. place.at + vec_len x.0 ≤ x.1.at) }
     ensures lies { IfOk result (λ x. All (LiesIn text.now) x.0.items) }
     ensures exact { Gives (λ x. (lines_of text.now x.0.items, ahead_of text.now x.1)) result (added_at opened action (ahead_of text.now place)) }
 {

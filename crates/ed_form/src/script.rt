@@ -1,6 +1,6 @@
 //! Edits that follow each other.
 
-ghost use Rattle.std.specs.Prelude.{◌≡◌, ◌≢◌, ℕ, List, [], ◌∷◌, ◌++◌, Err, true, false, ◌+◌, ◌<◌, ◌≤◌, ◌^◌, length, drop, IfOk, All};
+ghost use Rattle.std.specs.Prelude.{◌≡◌, ◌≢◌, ℕ, List, [], ◌∷◌, ◌++◌, Err, true, false, ◌+◌, ◌<◌, ◌≤◌, ◌^◌, length, vec_len, sum_by, drop, IfOk, All};
 ghost use Rattle.line_list.specs.Lines.{lines};
 ghost use Rattle.hunk_core.specs.PlainHunk.{bytes_at};
 ghost use Rattle.hunk_core.specs.Reading.{Fault, Gives, IsPlace, ahead_of};
@@ -69,6 +69,7 @@ fn read_edit(
 ) -> Result<(EdEdit, Place), FormFault>
     requires { IsPlace text.now place }
     ensures place { IfOk result (λ x. IsPlace text.now x.1 × (place.at < x.1.at)) }
+    ensures few { IfOk result (λ x. place.at + vec_len x.0.added < x.1.at) }
     ensures lies { IfOk result (λ x. All (LiesIn text.now) x.0.added.items) }
     ensures exact { Gives (λ x. (edit_of text.now x.0, ahead_of text.now x.1)) result (edit_at below (ahead_of text.now place)) }
 {
@@ -105,6 +106,7 @@ fn read_all(alloc: Global, text: &[u8], at: usize, line: u64) -> Result<EdScript
     requires small { line < 2 ^ 32 }
     ensures start { IfOk result (λ s. s.span.start ≡ at) }
     ensures within { IfOk result (λ s. (at ≤ s.span.end) × (s.span.end ≤ length text.now)) }
+    ensures few { IfOk result (λ s. length s.edits.items + sum_by (λ e. length e.added.items) s.edits.items ≤ length text.now) }
     ensures lies { IfOk result (λ s. All (λ e. All (LiesIn text.now) e.added.items) s.edits.items) }
     ensures exact { Gives (read_of text.now) result (reading line (lines (drop at text.now))) }
 {
@@ -146,7 +148,8 @@ pub fn read_script(
     ensures start { IfOk result (λ s. s.span.start ≡ at) }
     ensures within { IfOk result (λ s. (at < s.span.end) × (s.span.end ≤ length text.now)) }
     ensures piece { IfOk result (λ s. SpellsEdits (2 ^ 32) (lines (bytes_at text.now s.span)) (edits_of text.now s.edits.items) (lines (drop s.span.end text.now))) }
-    // There is an edit, each keeps the rules on addresses and order, and each added line is a line of the text, with its line feed.
+    // There is an edit, each keeps the rules on addresses and order, and each added line is a line of
+    // the text, with its line feed. Edits and lines can be counted together.
     ensures lawful { IfOk result (IsLawfulScript text.now) }
     // What is read is spelled so, by the lines up to the end, and neither a command nor a substitution stands there.
     ensures found { IfOk result (λ s. IsPiece line (lines (drop at text.now)) (edits_of text.now s.edits.items) s.next (lines (drop s.span.end text.now))) }

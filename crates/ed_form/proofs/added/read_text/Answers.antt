@@ -15,6 +15,7 @@ pub lines-preserved : goal.lines-preserved
 lines-preserved c = record {
   place = record { short = c.requires.short; within = c.in-Some.ensures.0.high; small = omega (arith, c.in-Some.ensures.0.low, c.lines.invariant.place.small) };
   later = omega (arith, c.in-Some.ensures.0.low, c.lines.invariant.later);
+  few = omega (arith, c.in-Some.ensures.0.low, c.lines.invariant.few, c.in_ok-part.ensures.few);
   lies = c.in_ok-part.ensures.lies;
   same = text-goes-on c.args.opened c.lines.part c.in_ok-part.part (lines_of c.args.text.now c.lines.added.items) (lines_of c.args.text.now c.take_line.new.added.items) c.lines.place.number _ _ _ _ c.in-Some.ensures.0.first (rw c.deref.ensures.value at c.in-Some.ensures.1) c.in_ok-part.ensures.exact c.lines.invariant.same;
 }

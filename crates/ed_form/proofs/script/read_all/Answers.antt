@@ -1,11 +1,13 @@
-use Rattle.std.proofs.Common.{◌≡◌, ◌++◌, ◌∷◌, [], sym, true, false, drop, arith, rules}
+use Rattle.std.proofs.Common.{◌≡◌, ◌++◌, ◌∷◌, [], sym, true, false, drop, length, arith, rules}
 use Rattle.std.specs.Prelude.{All}
 use Rattle.std.proofs.lemmas.Result.{err_from_is_err_and}
-use Rattle.std.proofs.lemmas.List.{map_push}
+use Rattle.std.proofs.lemmas.List.{map_push, length-append}
+use Rattle.std.proofs.lemmas.List.Sums.{sum_by-append}
 use Rattle.std.proofs.lemmas.List.Elements.{All-push}
 use Rattle.line_list.specs.Lines.{lines}
 use Rattle.hunk_core.specs.Turned.{LiesIn}
 use Rattle.hunk_core.specs.Reading.{ahead_of}
+use Rattle.ed_form.specs.declared.script.EdEdit.{EdEdit}
 use Rattle.ed_form.specs.Commands.{begins_script}
 use Rattle.ed_form.specs.PlainEdit.{edit_of, edits_of}
 use Rattle.ed_form.specs.Scripts.{begins_substitution, reading}
@@ -25,6 +27,7 @@ edits-preserved c =
     record {
       place = c.in_ok-edit.ensures.place.0;
       later = omega (arith, c.in_ok-edit.ensures.place.1, c.edits.invariant.later);
+      few = rw (c.in_ok-push.ensures.items, length-append, sum_by-append (λ (x : EdEdit). length x.added.items)) (omega (arith, c.in_ok-edit.ensures.few, c.edits.invariant.few));
       lies = rw c.in_ok-push.ensures.items (All-push (λ x. All (LiesIn c.args.text.now) x.added.items) c.edits.edits.items c.in_ok-edit.edit c.edits.invariant.lies c.in_ok-edit.ensures.lies);
       so_far = rw (e, c.from-below.ensures, c.min.ensures) (edits_go_on (edits_of c.args.text.now c.edits.edits.items) c.edits.below (ahead_of c.args.text.now c.edits.place) (edit_of c.args.text.now c.in_ok-edit.edit, ahead_of c.args.text.now c.in_ok-edit.next) (reading c.args.line (lines (drop c.args.at c.args.text.now))) opens c.in_ok-edit.ensures.exact c.edits.invariant.so_far);
     }

@@ -13,7 +13,7 @@ pub returns-clause-piece : goal.returns-clause-piece
 returns-clause-piece c = is_piece c.args.text.now c.args.at c.args.line c.read_all.result c.read_all.ensures.start c.read_all.ensures.within c.read_all.ensures.exact
 
 pub returns-clause-lawful : goal.returns-clause-lawful
-returns-clause-lawful c = is_lawful c.args.text.now c.args.at c.args.line c.read_all.result c.requires.opens c.read_all.ensures.lies c.read_all.ensures.exact
+returns-clause-lawful c = is_lawful c.args.text.now c.args.at c.args.line c.read_all.result c.requires.opens c.requires.short c.read_all.ensures.few c.read_all.ensures.lies c.read_all.ensures.exact
 
 pub returns-clause-found : goal.returns-clause-found
 returns-clause-found c = is_found (read_of c.args.text.now) c.args.line (lines (drop c.args.at c.args.text.now)) c.read_all.result c.read_all.ensures.exact
