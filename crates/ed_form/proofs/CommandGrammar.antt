@@ -17,7 +17,7 @@ use Rattle.ed_form.specs.Grammar.{SpellsAddresses, SpellsCommand}
 
 -- ---- steps
 
-some_step : {A B : Type 0} (r : Option A) (f : A → Option B) (y : B) → (r >>= f) ≡ Some y → (x : A) × (r ≡ Some x) × (f x ≡ Some y)
+pub some_step : {A B : Type 0} (r : Option A) (f : A → Option B) (y : B) → (r >>= f) ≡ Some y → (x : A) × (r ≡ Some x) × (f x ≡ Some y)
 some_step (Some x) f y e = (x, refl, e)
 some_step None f y e = absurd cc
 
@@ -35,7 +35,7 @@ must false d x q e = absurd cc
 
 -- ---- the letter
 
-action-takes : (bytes : List ℕ) (x : Action × List ℕ) → action_at bytes ≡ Some x → bytes ≡ letter x.0 ∷ x.1
+pub action-takes : (bytes : List ℕ) (x : Action × List ℕ) → action_at bytes ≡ Some x → bytes ≡ letter x.0 ∷ x.1
 unfolding action_at
 action-takes [] x e = absurd cc
 action-takes (b ∷ bytes) x e =
@@ -53,20 +53,20 @@ action-takes (b ∷ bytes) x e =
     is : (c n : ℕ) (y : Action × List ℕ) → c ≡ n → Some y ≡ Some x → n ∷ y.1 ≡ letter y.0 ∷ y.1 → c ∷ y.1 ≡ letter x.0 ∷ x.1
     is c n y same h l = let found : y ≡ x = some_is y x (Some y) refl h in ap (λ k. k ∷ y.1) same ∙ l ∙ ap (λ (z : Action × List ℕ). letter z.0 ∷ z.1) found
 
-action-again : (action : Action) (rest : List ℕ) → action_at (letter action ∷ rest) ≡ Some (action, rest)
+pub action-again : (action : Action) (rest : List ℕ) → action_at (letter action ∷ rest) ≡ Some (action, rest)
 unfolding action_at
 action-again Add rest = refl
 action-again Change rest = refl
 action-again Delete rest = refl
 
-stops-letter : (action : Action) (rest : List ℕ) → StopsRange (letter action ∷ rest)
+pub stops-letter : (action : Action) (rest : List ℕ) → StopsRange (letter action ∷ rest)
 stops-letter Add rest = record { digit = refl; comma = λ n. refl }
 stops-letter Change rest = record { digit = refl; comma = λ n. refl }
 stops-letter Delete rest = record { digit = refl; comma = λ n. refl }
 
 -- ---- the parts
 
-abbrev made : NumberRange → Action → Command
+abbrev pub made : NumberRange → Action → Command
 made range action = record { range = range; action = action }
 
 pub record TakesParts (line : List ℕ) (c : Command) : Type 0 where
@@ -77,7 +77,7 @@ pub record TakesParts (line : List ℕ) (c : Command) : Type 0 where
   pub spelled : SpellsRange text c.range.is_single c.range.first c.range.last
   pub turned : c.range.is_turned ≡ ltb c.range.last c.range.first
 
-whole-ok : (range : NumberRange) (action : Action) (rest : List ℕ) (c : Command) → whole range action rest ≡ Some c → (is_line_end rest ≡ true) × (made range action ≡ c)
+pub whole-ok : (range : NumberRange) (action : Action) (rest : List ℕ) (c : Command) → whole range action rest ≡ Some c → (is_line_end rest ≡ true) × (made range action ≡ c)
 whole-ok range action rest c e =
     elim (chosen (is_line_end rest) (Some (made range action)) None (Some c) e) [
       | inl ends ↦ (ends.0, some_is (made range action) c (Some (made range action)) refl ends.1)

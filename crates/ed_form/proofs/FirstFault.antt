@@ -64,6 +64,10 @@ cancel (x ∷ own) a b e = cancel own a b (behind (own ++ a) (own ++ b) e)
     behind : (c d : List (List ℕ)) → x ∷ c ≡ x ∷ d → c ≡ d
     behind c d h = cc
 
+-- lines that agree with a line and what stands behind it
+behind_line : (line : List ℕ) (others rest own more : List (List ℕ)) → others ≡ line ∷ rest → rest ≡ own ++ more → others ≡ (line ∷ own) ++ more
+behind_line line others rest own more e f = e ∙ ap (λ (r : List (List ℕ)). line ∷ r) f
+
 -- ---- a text
 
 -- what goes on over other lines as over these
@@ -98,7 +102,7 @@ text-goes opened part before number (line ∷ rest) x last others h le agree =
             own = line ∷ go.own;
             parts = ap (λ (r : List (List ℕ)). line ∷ r) go.parts;
             more = go.more;
-            over = head.1 ∙ ap (λ (r : List (List ℕ)). line ∷ r) go.over;
+            over = behind_line line others head.0 go.own go.more head.1 go.over;
             read = ap (text_at opened part before number) head.1 ∙ text-takes opened part before number line head.0 taken.0 ∙ go.read;
             agree = go.agree;
           })
@@ -300,7 +304,7 @@ edit-goes below number (line ∷ rest) x last others h le agree =
       own = line ∷ go.own;
       parts = ap (λ (r : List (List ℕ)). line ∷ r) go.parts;
       more = go.more;
-      over = head.1 ∙ ap (λ (r : List (List ℕ)). line ∷ r) go.over;
+      over = behind_line line others head.0 go.own go.more head.1 go.over;
       read = over-first below number line others head.0 parts.h (parts.text.0, ahead parts.text.1.number go.more) head.1 parts.heading go.read;
       agree = go.agree;
     })

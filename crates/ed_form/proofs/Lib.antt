@@ -7,3 +7,4 @@ pub mod TextGrammar
 pub mod Pieces
 pub mod Lawful
 pub mod FirstFault
+pub mod Words

@@ -11,6 +11,18 @@ use Rattle.ed_form.specs.Commands.{begins_script}
 use Rattle.ed_form.specs.Texts.{is_dot, is_correction, is_append}
 use Rattle.ed_form.specs.Scripts.{begins_substitution}
 
+-- a line is a command: one number, or two with a comma, a letter, and nothing more
+pub record IsCommand (line : List ℕ) : Type 0 where
+  pub text : List ℕ
+  pub single : Bool
+  pub first : ℕ
+  pub last : ℕ
+  pub action : Action
+  pub rest : List ℕ
+  pub parts : line ≡ text ++ letter action ∷ rest
+  pub ends : is_line_end rest ≡ true
+  pub numbers : SpellsRange text single first last
+
 -- none of these lines is '.'
 abbrev pub HaveNoDot : List (List ℕ) → Type 0
 HaveNoDot ls = AllByRecursion (λ line. is_dot line ≡ false) ls

@@ -1,15 +1,15 @@
 //! Edits that follow each other.
 
-ghost use Rattle.std.specs.Prelude.{◌≡◌, ◌≢◌, ℕ, List, [], ◌∷◌, ◌++◌, Err, true, false, ◌+◌, ◌<◌, ◌≤◌, ◌^◌, length, vec_len, sum_by, drop, IfOk, All};
+ghost use Rattle.std.specs.Prelude.{◌≡◌, ◌≢◌, ◌↔◌, ◌⊎◌, ℕ, List, [], ◌∷◌, ◌++◌, Err, true, false, ◌+◌, ◌<◌, ◌≤◌, ◌^◌, length, vec_len, sum_by, drop, IfOk, All};
 ghost use Rattle.line_list.specs.Lines.{lines};
 ghost use Rattle.hunk_core.specs.PlainHunk.{bytes_at};
 ghost use Rattle.hunk_core.specs.Reading.{Fault, Gives, IsPlace, ahead_of};
 ghost use Rattle.hunk_core.specs.Turned.{LiesIn};
-ghost use Rattle.ed_form.specs.Commands.{begins_script};
+ghost use Rattle.ed_form.specs.Commands.{is_command, begins_script};
 ghost use Rattle.ed_form.specs.PlainEdit.{PlainEdit, edit_of, edits_of, IsLawfulScript};
-ghost use Rattle.ed_form.specs.Texts.{is_dot};
+ghost use Rattle.ed_form.specs.Texts.{is_dot, is_word, is_substitution};
 ghost use Rattle.ed_form.specs.Scripts.{edit_at, begins_substitution, reading, read_of, these};
-ghost use Rattle.ed_form.specs.Grammar.{HaveNoDot, SpellsEdits, IsPiece};
+ghost use Rattle.ed_form.specs.Grammar.{IsCommand, HaveNoDot, SpellsEdits, IsPiece};
 ghost use Rattle.ed_form.specs.FirstFault.{AgreeTo};
 
 use crate::added::{read_added, substitutes};
@@ -180,4 +180,14 @@ pub fn first_faults()
     // A `.` behind which no substitution stands ends it: the fault is gone.
     ensures ended { (number : ℕ) (lines others : List (List ℕ)) (dot : List ℕ) (e : Fault) → reading number lines ≡ Err e → e.kind ≡ BadKind.EdNoDot
         → is_dot dot ≡ true → begins_substitution others ≡ false → reading number (lines ++ dot ∷ others) ≢ Err e }
+{}
+
+/// The tests on lines, in the words of the diffutils manual.
+pub fn lines_in_words()
+    // A command is one number, or two with a comma, a letter, and nothing more.
+    ensures command { (line : List ℕ) → is_command line ≡ true ↔ IsCommand line }
+    // A line is a word where it is that, with a line feed or without.
+    ensures word { (word line : List ℕ) → is_word word line ≡ true ↔ ((line ≡ word) ⊎ (line ≡ word ++ 10 ∷ [])) }
+    // A substitution begins with 's/'.
+    ensures substitution { (line : List ℕ) → is_substitution line ≡ true ↔ ((rest : List ℕ) × (line ≡ 115 ∷ 47 ∷ rest)) }
 {}
