@@ -189,15 +189,18 @@ opening-takes below line h e =
     let last : c.range.last < 2 ^ 32 = subst (λ (x : Heading). x.last < 2 ^ 32) (sym p.same) p.small_last in
     let order : c.range.last < below = subst (λ (x : Heading). x.last < below) (sym p.same) p.order in
     let t = parts-takes line c a.1 (first-small c.action c.range p.good (parts-single line c a.1) small) last in
-    subst (Takes below line) p.same (record {
-      text = t.text;
-      rest = t.rest;
-      parts = t.parts;
-      ends = t.ends;
-      addresses = addresses-of c.action c.range t.text p.good t.spelled t.turned;
-      small = small;
-      small_last = last;
-    }, order)
+    subst (Takes below line) p.same (
+      record {
+        text = t.text;
+        rest = t.rest;
+        parts = t.parts;
+        ends = t.ends;
+        addresses = addresses-of c.action c.range t.text p.good t.spelled t.turned;
+        small = small;
+        small_last = last;
+      },
+      order,
+    )
 
 abbrev pub heading_is : Action → ℕ → ℕ → Heading
 heading_is action first last = record { action = action; first = first; last = last }

@@ -77,13 +77,15 @@ address-order Delete text first last s = (s.2, omega (arith, s.3))
 edit-lawful : (below : ℕ) (own : List (List ℕ)) (e : PlainEdit) (others : List (List ℕ)) → SpellsEdit below own e others → ArePieces (own ++ others) → IsLawfulEdit e × (e.last < below)
 edit-lawful below [] e others s h = absurd s
 edit-lawful below (line ∷ rest) e others s h =
-    let order = address-order s.0 s.1.text e.first e.last s.1.addresses in
-    (record {
-      start = order.0;
-      order = order.1;
-      small = s.1.small;
-      added = All-from_recursion IsLine e.added (added-lines s.0 rest e.added others s.3 (pieces-last (line ∷ []) (rest ++ others) h));
-    }, s.2)
+    let order = address-order s.0 s.1.text e.first e.last s.1.addresses in (
+      record {
+        start = order.0;
+        order = order.1;
+        small = s.1.small;
+        added = All-from_recursion IsLine e.added (added-lines s.0 rest e.added others s.3 (pieces-last (line ∷ []) (rest ++ others) h));
+      },
+      s.2,
+    )
 
 edits-lawful : (es : List PlainEdit) (below : ℕ) (own others : List (List ℕ)) → SpellsEdits below own es others → ArePieces (own ++ others) → AreLawful below es
 edits-lawful [] below own others s h = tt

@@ -169,7 +169,7 @@ text_takes opened Text base seen text number (line ∷ rest) x single s h =
     elim (tested (is_dot line)) [
       | inl dot ↦ takes-step base seen number line rest x (text_takes opened Ended base (seen ++ line ∷ []) text (number + 1) rest x single (record { dot = line; parts = ap (λ (l : List (List ℕ)). l ++ line ∷ []) s.0; clear = s.1; ends = dot }) (sym (text-dot opened (base ++ text) number line rest dot) ∙ h))
       | inr other ↦ takes-step base seen number line rest x (text_takes opened Text base (seen ++ line ∷ []) (text ++ line ∷ []) (number + 1) rest x single (ap (λ (l : List (List ℕ)). l ++ line ∷ []) s.0, clear-push text line s.1 other)
-        (ap (λ (t : List (List ℕ)). text_at opened Text t (number + 1) rest) (sym (append_assoc base text (line ∷ []))) ∙ sym (text-line opened (base ++ text) number line rest other) ∙ h))
+          (ap (λ (t : List (List ℕ)). text_at opened Text t (number + 1) rest) (sym (append_assoc base text (line ∷ []))) ∙ sym (text-line opened (base ++ text) number line rest other) ∙ h))
     ]
 text_takes opened Ended base seen text number [] x single s h = takes-none base seen text number [] x (inl s) (closed-is opened Ended (base ++ text) (ahead number []) x h).1
 text_takes opened Ended base seen text number (line ∷ rest) x single s h =

@@ -97,12 +97,7 @@ fn takes(text: &[u8], part: Part, added: &[Span], line: &[u8]) -> bool
 }
 
 /// Takes a line, and tells where it leads.
-fn take_line(
-    text: &[u8],
-    part: Part,
-    added: &mut Vec<Span>,
-    span: Span,
-) -> Result<Part, FormFault>
+fn take_line(text: &[u8], part: Part, added: &mut Vec<Span>, span: Span) -> Result<Part, FormFault>
     requires short { length text.now < 2 ^ 32 }
     requires lies { All (LiesIn text.now) added.now.items }
     requires span { LiesIn text.now span }

@@ -134,12 +134,7 @@ fn read_all(alloc: Global, text: &[u8], at: usize, line: u64) -> Result<EdScript
 
 /// The ed script at `at`, where the line has this number. No editor is started: a script of other
 /// commands than `a`, `c`, `d` and the `s/.//` of `diff -e` is refused.
-pub fn read_script(
-    alloc: Global,
-    text: &[u8],
-    at: usize,
-    line: u64,
-) -> Result<EdScript, FormFault>
+pub fn read_script(alloc: Global, text: &[u8], at: usize, line: u64) -> Result<EdScript, FormFault>
     requires short { length text.now < 2 ^ 32 }
     requires within { at ≤ length text.now }
     requires opens { begins_script (lines (drop at text.now)) ≡ true }
