@@ -1,7 +1,7 @@
 -- Each line that is read is counted.
-use Rattle.std.proofs.Common.{◌≡◌, ℕ, zero, suc, ◌+◌, ◌≤◌, ◌<◌, Bool, true, false, cond, List, [], ◌∷◌, length, Result, Ok, Err, refl, sym, ap, subst, ◌∙◌, arith, inl, inr}
+use Rattle.std.proofs.Common.{◌≡◌, ℕ, ◌+◌, ◌≤◌, ◌<◌, List, [], ◌∷◌, length, Ok, refl, subst, arith, inl, inr}
 use Rattle.hunk_core.specs.declared.BadKind.TheVariants as kinds
-use Rattle.hunk_core.specs.Reading.{◌>>=◌, Fault, fault, Ahead, ahead}
+use Rattle.hunk_core.specs.Reading.{◌>>=◌, fault, Ahead, ahead}
 use Rattle.hunk_core.proofs.ReadSteps.{bind_ok, chosen, guard_ok, ok_is}
 use Rattle.diff_command.specs.declared.Action.{Action}
 use Rattle.diff_command.specs.declared.Action.TheVariants.{Add, Change, Delete}

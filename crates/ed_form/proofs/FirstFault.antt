@@ -1,7 +1,7 @@
 -- A fault stays whatever lines come after its own, but for a text without its end.
-use Rattle.std.proofs.Common.{◌≡◌, ◌≢◌, ◌⊎◌, inl, inr, ℕ, zero, suc, ◌+◌, ◌-◌, ◌≤◌, ◌<◌, ◌^◌, Bool, true, false, cond, ltb, ◌||◌, List, [], ◌∷◌, ◌++◌, length, Option, None, Some, Result, Ok, Err, refl, sym, ap, subst, ◌∙◌, append_assoc, arith}
+use Rattle.std.proofs.Common.{◌≡◌, ◌≢◌, ◌⊎◌, inl, inr, ℕ, zero, suc, ◌+◌, ◌-◌, ◌≤◌, ◌<◌, ◌^◌, Bool, true, false, cond, ltb, List, [], ◌∷◌, ◌++◌, length, Option, None, Some, Result, Ok, Err, refl, sym, ap, subst, ◌∙◌, append_assoc, arith}
 use Rattle.std.proofs.lemmas.Bool.{cases_lt}
-use Rattle.std.proofs.lemmas.List.{length-append, append-nil}
+use Rattle.std.proofs.lemmas.List.{append-nil}
 use Rattle.hunk_core.specs.declared.BadKind.{BadKind}
 use Rattle.hunk_core.specs.declared.BadKind.TheVariants as kinds
 use Rattle.hunk_core.specs.Reading.{◌>>=◌, Fault, fault, Ahead, ahead}
@@ -20,7 +20,7 @@ use Rattle.ed_form.specs.Grammar.{HaveNoDot, IsPiece}
 use Rattle.ed_form.specs.FirstFault.{AgreeTo}
 use Rattle.ed_form.proofs.TextLoops.{text-takes, text-stops}
 use Rattle.ed_form.proofs.TextGrammar.{text-dot, text-run, ended-stops}
-use Rattle.ed_form.proofs.Counts.{EditParts, edit-parts, edit-counts, text-counts}
+use Rattle.ed_form.proofs.Counts.{edit-parts, edit-counts, text-counts}
 use Rattle.ed_form.proofs.EditLoops.{edits_step, some_lines, no_more}
 use Rattle.ed_form.proofs.Pieces.{reading_again}
 

@@ -1,11 +1,10 @@
 -- A script that is read is lawful, and its span is its piece of the text.
-use Rattle.std.proofs.Common.{◌≡◌, ℕ, zero, suc, ◌+◌, ◌≤◌, ◌<◌, ◌^◌, ◌≢◌, true, false, List, [], ◌∷◌, ◌++◌, length, sum_by, map, drop, slice_range, Result, Ok, Err, refl, sym, ap, subst, ◌∙◌, append_assoc, arith, inl, inr}
+use Rattle.std.proofs.Common.{◌≡◌, ℕ, zero, suc, ◌+◌, ◌≤◌, ◌<◌, ◌^◌, ◌≢◌, true, false, List, [], ◌∷◌, ◌++◌, length, sum_by, drop, slice_range, Result, Ok, Err, sym, ap, subst, ◌∙◌, append_assoc, arith, inl, inr}
 use Rattle.std.specs.Prelude.{IfOk, All}
 use Rattle.std.specs.List.{AllByRecursion}
 use Rattle.std.proofs.lemmas.List.Elements.{All-from_recursion}
 use Rattle.std.proofs.lemmas.List.{length-map}
 use Rattle.line_list.specs.Lines.{lines, ArePieces, IsLine}
-use Rattle.line_list.specs.declared.Span.{Span}
 use Rattle.line_list.proofs.Pieces.{lines-pieces}
 use Rattle.hunk_core.specs.declared.fault.FormFault.{FormFault}
 use Rattle.hunk_core.specs.PlainHunk.{bytes_at}
@@ -19,7 +18,7 @@ use Rattle.ed_form.specs.Commands.{begins_script}
 use Rattle.ed_form.specs.PlainEdit.{PlainEdit, edit_of, edits_of, lowest, IsLawfulEdit, AreLawful, IsLawfulScript}
 use Rattle.ed_form.specs.Texts.{is_dot}
 use Rattle.ed_form.specs.Scripts.{reading, read_of}
-use Rattle.ed_form.specs.Grammar.{IsEnded, IsCorrected, SpellsText, SpellsAdded, SpellsAddresses, SpellsEdit, SpellsEdits, IsPiece}
+use Rattle.ed_form.specs.Grammar.{IsEnded, IsCorrected, SpellsText, SpellsAdded, SpellsAddresses, SpellsEdit, SpellsEdits}
 use Rattle.ed_form.proofs.Lasts.{word-takes}
 use Rattle.ed_form.proofs.Pieces.{reading_finds}
 

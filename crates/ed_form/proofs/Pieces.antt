@@ -1,26 +1,24 @@
 -- Edits that are read are spelled so, and what is spelled so is read.
-use Rattle.std.proofs.Common.{◌≡◌, ℕ, zero, suc, ◌+◌, ◌≤◌, ◌<◌, ◌^◌, Bool, true, false, eqb, List, [], ◌∷◌, ◌++◌, length, Option, None, Some, Result, Ok, Err, refl, sym, ap, subst, ◌∙◌, append_assoc, arith, inl, inr}
-use Rattle.std.specs.Prelude.{is_some, IfOk}
+use Rattle.std.proofs.Common.{◌≡◌, ℕ, zero, suc, ◌+◌, ◌≤◌, ◌<◌, ◌^◌, true, false, eqb, List, [], ◌∷◌, ◌++◌, length, Result, Ok, Err, refl, sym, ap, subst, ◌∙◌, append_assoc, arith, inl, inr}
+use Rattle.std.specs.Prelude.{IfOk}
 use Rattle.std.proofs.lemmas.Bool.{eqb-true}
 use Rattle.std.proofs.lemmas.List.{length-append}
 use Rattle.hunk_core.specs.declared.BadKind.{BadKind}
 use Rattle.hunk_core.specs.declared.BadKind.TheVariants as kinds
 use Rattle.hunk_core.specs.declared.fault.FormFault.{FormFault}
 use Rattle.hunk_core.specs.LineTests.{after}
-use Rattle.hunk_core.specs.Reading.{Fault, fault, Gives, ◌>>=◌, Ahead, ahead}
+use Rattle.hunk_core.specs.Reading.{fault, Gives, ◌>>=◌, Ahead, ahead}
 use Rattle.hunk_core.proofs.ReadSteps.{bind_ok, chosen, guard_ok, ok_is}
-use Rattle.hunk_core.proofs.TextLemmas.{has_some, after-takes}
 use Rattle.num_text.specs.NumberRanges.{range_at}
-use Rattle.diff_command.specs.declared.Action.{Action}
 use Rattle.ed_form.specs.declared.command.Heading.{Heading}
 use Rattle.ed_form.specs.Commands.{parts_at, is_command, begins_script, opening}
 use Rattle.ed_form.specs.PlainEdit.{PlainEdit, lowest}
 use Rattle.ed_form.specs.Texts.{is_substitution}
 use Rattle.ed_form.specs.Scripts.{at_line, added_at, edit, first_edit, edit_at, begins_substitution, no_edits, edits_at, reading}
-use Rattle.ed_form.specs.Grammar.{SpellsCommand, SpellsAdded, SpellsEdit, SpellsEdits, EndsPiece, IsPiece}
+use Rattle.ed_form.specs.Grammar.{SpellsEdit, SpellsEdits, EndsPiece, IsPiece}
 use Rattle.ed_form.proofs.CommandGrammar.{opening-takes, opening-again, opening-is, heading_is}
-use Rattle.ed_form.proofs.TextGrammar.{TakesAdded, added_takes, added_again}
-use Rattle.ed_form.proofs.Counts.{EditParts, edit-parts, edit-counts}
+use Rattle.ed_form.proofs.TextGrammar.{added_takes, added_again}
+use Rattle.ed_form.proofs.Counts.{edit-parts, edit-counts}
 use Rattle.ed_form.proofs.EditLoops.{no_more}
 
 -- ---- one edit

@@ -1,10 +1,9 @@
 -- A text that is read is spelled so, and one that is spelled so is read.
-use Rattle.std.proofs.Common.{◌≡◌, ◌⊎◌, inl, inr, ℕ, zero, suc, ◌+◌, ◌≤◌, Bool, true, false, cond, ◌&&◌, List, [], ◌∷◌, ◌++◌, length, drop, Option, Some, Result, Ok, Err, refl, sym, ap, subst, ◌∙◌, append_assoc, arith}
-use Rattle.std.specs.Prelude.{is_some}
+use Rattle.std.proofs.Common.{◌≡◌, ◌⊎◌, inl, inr, ℕ, zero, suc, ◌+◌, Bool, true, false, ◌&&◌, List, [], ◌∷◌, ◌++◌, length, drop, Ok, refl, sym, ap, subst, ◌∙◌, append_assoc, arith}
 use Rattle.std.proofs.lemmas.List.{length-append, append-nil}
 use Rattle.hunk_core.specs.declared.BadKind.TheVariants as kinds
 use Rattle.hunk_core.specs.LineTests.{after}
-use Rattle.hunk_core.specs.Reading.{Fault, fault, Ahead, ahead}
+use Rattle.hunk_core.specs.Reading.{fault, Ahead, ahead}
 use Rattle.hunk_core.proofs.ReadSteps.{chosen, guard_ok, ok_is}
 use Rattle.hunk_core.proofs.TextLemmas.{after-again}
 use Rattle.diff_command.specs.declared.Action.{Action}
@@ -12,7 +11,7 @@ use Rattle.diff_command.specs.declared.Action.TheVariants.{Add, Change, Delete}
 use Rattle.diff_command.specs.Letters.{is_line_end}
 use Rattle.ed_form.specs.declared.added.Part.{Part}
 use Rattle.ed_form.specs.declared.added.Part.TheVariants.{Text, Ended, Corrected}
-use Rattle.ed_form.specs.Texts.{is_dot, is_double, is_correction, is_append, is_substitution, ends_double, undoubled, is_open, is_taken, step, closed, text_at, goes_on}
+use Rattle.ed_form.specs.Texts.{is_dot, is_double, is_correction, is_append, is_substitution, ends_double, undoubled, is_open, is_taken, closed, text_at, goes_on}
 use Rattle.ed_form.specs.Scripts.{begins_substitution, added_at}
 use Rattle.ed_form.specs.Grammar.{HaveNoDot, IsEnded, IsCorrected, begins_append, SpellsText, SpellsAdded}
 use Rattle.ed_form.proofs.Lasts.{word-takes, word-again, ends-push, undoubled-push}

@@ -1,9 +1,7 @@
 -- Reading one line of a text after the other, as a loop does.
-use Rattle.std.proofs.Common.{◌≡◌, ℕ, ◌+◌, ◌-◌, ◌<◌, true, false, List, [], ◌∷◌, ◌++◌, Result, Ok, Err, refl, sym, ap, ◌∙◌, arith}
-use Rattle.hunk_core.specs.declared.BadKind.TheVariants as kinds
-use Rattle.hunk_core.specs.Reading.{Fault, fault, Ahead, ahead}
+use Rattle.std.proofs.Common.{◌≡◌, ℕ, ◌+◌, true, false, List, [], ◌∷◌, Result, refl, sym, ap, ◌∙◌}
+use Rattle.hunk_core.specs.Reading.{Fault, Ahead, ahead}
 use Rattle.ed_form.specs.declared.added.Part.{Part}
-use Rattle.ed_form.specs.declared.added.Part.TheVariants.{Text, Ended, Corrected}
 use Rattle.ed_form.specs.Texts.{is_taken, step, closed, text_at, goes_on}
 
 pub text-takes : (opened : ℕ) (part : Part) (before : List (List ℕ)) (number : ℕ) (line : List ℕ) (rest : List (List ℕ)) → is_taken part before line ≡ true

@@ -1,20 +1,18 @@
 -- The tests on lines, in words.
-use Rattle.std.proofs.Common.{◌≡◌, ◌↔◌, ◌⊎◌, inl, inr, ℕ, Bool, true, false, cond, eqb, List, [], ◌∷◌, ◌++◌, Option, None, Some, refl, sym, ap, subst, ◌∙◌, append_assoc, arith}
-use Rattle.std.specs.Prelude.{is_some}
+use Rattle.std.proofs.Common.{◌≡◌, ◌↔◌, ◌⊎◌, inl, inr, ℕ, Bool, true, false, cond, eqb, List, [], ◌∷◌, ◌++◌, Option, None, Some, refl, sym, ap, subst, ◌∙◌, append_assoc}
 use Rattle.std.proofs.lemmas.Bool.{eqb-true}
 use Rattle.std.proofs.lemmas.List.{append-nil}
 use Rattle.hunk_core.specs.LineTests.{after}
-use Rattle.hunk_core.proofs.ReadSteps.{chosen, some_is}
+use Rattle.hunk_core.proofs.ReadSteps.{some_is}
 use Rattle.hunk_core.proofs.TextLemmas.{has_some, after-takes, after-again}
-use Rattle.num_text.specs.Numbers.{number_at, BeginsWithNumeral}
+use Rattle.num_text.specs.Numbers.{number_at}
 use Rattle.num_text.specs.declared.range.NumberRange.{NumberRange}
 use Rattle.num_text.specs.NumberRanges.{one, two, with_second, behind_first, from_first, range_at, SpellsRange}
 use Rattle.num_text.proofs.Runs.{number-takes, number-again}
 use Rattle.num_text.proofs.RangeGrammar.{StopsRange}
-use Rattle.diff_command.specs.declared.Action.{Action}
-use Rattle.diff_command.specs.Letters.{◌>>=◌, action_at, is_line_end, letter}
+use Rattle.diff_command.specs.Letters.{action_at, is_line_end, letter}
 use Rattle.ed_form.specs.declared.command.Command.{Command}
-use Rattle.ed_form.specs.Commands.{whole, parts_at, is_command}
+use Rattle.ed_form.specs.Commands.{parts_at, is_command}
 use Rattle.ed_form.specs.Texts.{is_word, is_substitution}
 use Rattle.ed_form.specs.Grammar.{IsCommand}
 use Rattle.ed_form.proofs.Lasts.{word-takes, word-again}

@@ -1,5 +1,5 @@
 -- An edit apart from where its text lies: the lines that it takes away, and the lines that it puts in their place.
-use Rattle.std.specs.Prelude.{◌≡◌, ℕ, ◌+◌, ◌<◌, ◌≤◌, ◌^◌, min, Bool, true, List, [], ◌∷◌, length, map, sum_by, All}
+use Rattle.std.specs.Prelude.{ℕ, ◌+◌, ◌<◌, ◌≤◌, ◌^◌, min, List, [], ◌∷◌, length, map, sum_by, All}
 use Rattle.line_list.specs.Lines.{IsLine}
 use Rattle.line_list.specs.declared.Span.{Span}
 use Rattle.hunk_core.specs.PlainHunk.{bytes_at}

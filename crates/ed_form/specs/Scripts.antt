@@ -1,5 +1,5 @@
 -- Edits that follow each other, read line by line.
-use Rattle.std.specs.Prelude.{ℕ, zero, suc, ◌+◌, ◌^◌, Bool, true, false, List, [], ◌∷◌, length, Result, Ok, Err, if◌then◌else◌}
+use Rattle.std.specs.Prelude.{ℕ, zero, suc, ◌+◌, ◌^◌, Bool, false, List, [], ◌∷◌, length, Result, Ok, Err, if◌then◌else◌}
 use Rattle.line_list.specs.Lines.{lines}
 use Rattle.std.specs.Prelude.{drop}
 use Rattle.hunk_core.specs.declared.BadKind.{BadKind}

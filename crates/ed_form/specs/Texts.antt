@@ -1,5 +1,5 @@
 -- The text of a command, read line by line.
-use Rattle.std.specs.Prelude.{ℕ, ◌+◌, Bool, true, false, ◌==◌, ◌&&◌, List, [], ◌∷◌, ◌++◌, drop, Option, None, Some, is_some, Result, Ok, Err, if◌then◌else◌}
+use Rattle.std.specs.Prelude.{ℕ, ◌+◌, Bool, true, false, ◌&&◌, List, [], ◌∷◌, ◌++◌, drop, Option, None, Some, is_some, Result, Ok, Err, if◌then◌else◌}
 use Rattle.hunk_core.specs.declared.BadKind.TheVariants as kinds
 use Rattle.hunk_core.specs.LineTests.{after}
 use Rattle.hunk_core.specs.Reading.{Fault, fault, Ahead, ahead}
