@@ -1,1 +1,6 @@
+pub mod PlainEdit
 pub mod Commands
+pub mod Texts
+pub mod Scripts
+pub mod Grammar
+pub mod FirstFault

@@ -1,6 +1,12 @@
 //! Ed scripts as `diff -e` writes them (GNU diffutils manual, "Detailed Description of ed Scripts").
 #![tactic(auto)]
 
+mod added;
 mod command;
+mod script;
 
 pub use command::{Command, command_at, is_command_line};
+pub use script::{EdEdit, EdScript, at_command, first_faults, lines_in_words, read_script};
+
+#[cfg(test)]
+mod tests;

@@ -1,0 +1,58 @@
+-- Reading one edit after the other, as a loop does.
+use Rattle.std.proofs.Common.{◌≡◌, ℕ, zero, suc, ◌-◌, ◌≤◌, ◌<◌, true, false, List, [], ◌∷◌, ◌++◌, length, Result, Ok, Err, refl, sym, ap, ◌∙◌, arith}
+use Rattle.std.proofs.lemmas.List.{append-nil}
+use Rattle.hunk_core.specs.declared.BadKind.TheVariants as kinds
+use Rattle.hunk_core.specs.declared.fault.FormFault.{FormFault}
+use Rattle.hunk_core.specs.declared.fault.FormFault.TheVariants as errors
+use Rattle.hunk_core.specs.Reading.{◌>>=◌, Fault, fault, Fails, Ahead}
+use Rattle.hunk_core.proofs.ReadSteps.{with_front, front_none, regroup}
+use Rattle.ed_form.specs.Commands.{begins_script}
+use Rattle.ed_form.specs.PlainEdit.{PlainEdit, lowest}
+use Rattle.ed_form.specs.Scripts.{edit_at, begins_substitution, no_edits, edits_at}
+use Rattle.ed_form.proofs.Counts.{edit-counts}
+
+-- these edits were read, and what is left gives the whole
+pub record EditsSoFar (front : List PlainEdit) (below : ℕ) (p : Ahead) (total : Result (List PlainEdit × Ahead) Fault) : Type 0 where
+  pub most : ℕ
+  pub enough : length p.rest ≤ most
+  pub same : with_front front (edits_at most below p) ≡ total
+
+pub edits_begin : (below : ℕ) (p : Ahead) → EditsSoFar [] below p (edits_at (length p.rest) below p)
+edits_begin below p = record { most = length p.rest; enough = omega arith; same = front_none (edits_at (length p.rest) below p) }
+
+pub some_lines : (rest : List (List ℕ)) → begins_script rest ≡ true → 0 < length rest
+some_lines [] h = absurd cc
+some_lines (line ∷ rest) h = omega arith
+
+pub edits_step : (most below : ℕ) (p : Ahead) → begins_script p.rest ≡ true → edits_at (suc most) below p ≡ (edit_at below p >>= λ first. edits_at most (lowest first.0) first.1 >>= λ others. Ok (first.0 ∷ others.0, others.1))
+unfolding edits_at
+edits_step most below p opens = rw opens refl
+
+pub edits_go_on : (front : List PlainEdit) (below : ℕ) (p : Ahead) (x : PlainEdit × Ahead) (total : Result (List PlainEdit × Ahead) Fault) → begins_script p.rest ≡ true → edit_at below p ≡ Ok x
+    → EditsSoFar front below p total → EditsSoFar (front ++ x.0 ∷ []) (lowest x.0) x.1 total
+edits_go_on front below p x total opens read so_far =
+    let most = so_far.most in
+    let some = some_lines p.rest opens in
+    let k : most ≡ suc (most - 1) = omega (arith, so_far.enough) in
+    let counts = edit-counts below p.number p.rest x read in
+    let one : with_front front (edits_at most below p) ≡ with_front (front ++ x.0 ∷ []) (edits_at (most - 1) (lowest x.0) x.1) = ap (λ m. with_front front (edits_at m below p)) k ∙ rw (edits_step (most - 1) below p opens, read) (regroup front x.0 (edits_at (most - 1) (lowest x.0) x.1)) in
+    record { most = most - 1; enough = omega (arith, so_far.enough, counts.low, counts.same); same = sym one ∙ so_far.same }
+
+pub edits_fail : (e : FormFault) (front : List PlainEdit) (below : ℕ) (p : Ahead) (total : Result (List PlainEdit × Ahead) Fault) → begins_script p.rest ≡ true → Fails e (edit_at below p) → EditsSoFar front below p total → Fails e total
+edits_fail errors.Memory front below p total opens h so_far = tt
+edits_fail (errors.Malformed line kind) front below p total opens h so_far =
+    let some = some_lines p.rest opens in
+    let k : so_far.most ≡ suc (so_far.most - 1) = omega (arith, so_far.enough) in
+    let one : with_front front (edits_at so_far.most below p) ≡ Err (record { line = line; kind = kind }) = ap (λ m. with_front front (edits_at m below p)) k ∙ rw (edits_step (so_far.most - 1) below p opens, h) refl in
+    sym so_far.same ∙ one
+
+pub no_more : (most below : ℕ) (p : Ahead) → begins_script p.rest ≡ false → edits_at most below p ≡ no_edits p
+unfolding edits_at
+no_more zero below p none = refl
+no_more (suc most) below p none = rw none refl
+
+pub edits_done : (front : List PlainEdit) (below : ℕ) (p : Ahead) (total : Result (List PlainEdit × Ahead) Fault) → begins_script p.rest ≡ false → begins_substitution p.rest ≡ false → EditsSoFar front below p total → total ≡ Ok (front, p)
+edits_done front below p total none clean so_far = sym so_far.same ∙ rw (no_more so_far.most below p none, clean) (ap (λ es. Ok (es, p)) (append-nil front))
+
+pub edits_refused : (front : List PlainEdit) (below : ℕ) (p : Ahead) (total : Result (List PlainEdit × Ahead) Fault) → begins_script p.rest ≡ false → begins_substitution p.rest ≡ true → EditsSoFar front below p total → total ≡ Err (fault p.number kinds.EdCommand)
+edits_refused front below p total none substitutes so_far = sym so_far.same ∙ rw (no_more so_far.most below p none, substitutes) refl

@@ -1,0 +1,10 @@
+pub mod Lasts
+pub mod TextLoops
+pub mod Counts
+pub mod EditLoops
+pub mod CommandGrammar
+pub mod TextGrammar
+pub mod Pieces
+pub mod Lawful
+pub mod FirstFault
+pub mod Words
