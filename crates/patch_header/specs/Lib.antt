@@ -1,0 +1,5 @@
+pub mod Content
+pub mod Openings
+pub mod Region
+pub mod Values
+pub mod Steps

@@ -1,0 +1,80 @@
+-- What comes next in a patch text: a file patch with its header, a binary line, or the end.
+use Rattle.std.specs.Prelude.{◌≡◌, ℕ, ◌+◌, ◌<◌, ◌≤◌, Bool, true, List, [], ◌∷◌, ◌++◌, length, drop, sum_by, Option, None, Some, IfSome, codes, if◌then◌else◌}
+use Rattle.line_list.specs.declared.Span.{Span}
+use Rattle.line_list.specs.Lines.{lines}
+use Rattle.hunk_core.specs.declared.Form.{Form}
+use Rattle.patch_header.specs.Openings.{stop_at, opens}
+use Rattle.patch_header.specs.Region.{Row, rows, last_tail, old_tail, new_tail}
+use Rattle.patch_header.specs.Values.{name_in, word_in, stamp_in, Says, IsPieceOf}
+use Rattle.patch_header.specs.declared.openings.Stop.{Stop}
+use Rattle.patch_header.specs.declared.openings.Stop.TheVariants as stops
+use Rattle.patch_header.specs.declared.region.Tail.{Tail}
+use Rattle.patch_header.specs.declared.search.Header.{Header}
+use Rattle.patch_header.specs.declared.search.HeaderStep.{HeaderStep}
+use Rattle.patch_header.specs.declared.search.HeaderStep.TheVariants.{Found, Binary, End}
+
+-- nothing stands at any of these lines, which others follow
+abbrev pub AreQuiet : Option Form → List (List ℕ) → List (List ℕ) → Type 0
+AreQuiet only [] rest = Unit {0}
+AreQuiet only (line ∷ more) rest = (stop_at only (line ∷ (more ++ rest)) ≡ None) × AreQuiet only more rest
+
+-- from a place up to another go these lines, and nothing stands at any of them
+pub record IsRegion (only : Option Form) (text : List ℕ) (at : ℕ) (region : List (List ℕ)) (end : ℕ) : Type 0 where
+  pub parts : lines (drop at text) ≡ region ++ lines (drop end text)
+  pub end : end ≡ at + sum_by length region
+  pub quiet : AreQuiet only region (lines (drop end text))
+
+-- the line of the old name, or the opening where there is none
+abbrev pub names_line : Option Tail → Option Span → ℕ → ℕ
+names_line None name opening = opening
+names_line (Some t) None opening = opening
+names_line (Some t) (Some s) opening = t.number
+
+-- what a header says, by the lines in front of its opening
+pub record IsHeader (text : List ℕ) (rs : List Row) (h : Header) : Type 0 where
+  pub names_line : h.names_line ≡ names_line (old_tail h.form rs) h.old_name h.opening
+  pub old_name : h.old_name ≡ name_in text (old_tail h.form rs)
+  pub new_name : h.new_name ≡ name_in text (new_tail h.form rs)
+  pub index : h.index ≡ name_in text (last_tail (codes "Index:") rs)
+  pub prereq : h.prereq ≡ word_in text (last_tail (codes "Prereq:") rs)
+  pub old_stamp : Says (stamp_in text (old_tail h.form rs)) h.old_stamp
+  pub new_stamp : Says (stamp_in text (new_tail h.form rs)) h.new_stamp
+
+-- the first that stands at a line from a place on is the opening of this header
+pub record IsFirstOpening (only : Option Form) (text : List ℕ) (at line : ℕ) (h : Header) : Type 0 where
+  pub region : List (List ℕ)
+  pub is_region : IsRegion only text at region h.at
+  pub stands : stop_at only (lines (drop h.at text)) ≡ Some (stops.Opening h.form)
+  pub number : h.opening ≡ line + length region
+  pub header : IsHeader text (rows line at region) h
+
+-- the first that stands at a line from a place on is a binary line with this number
+pub record IsFirstBinary (only : Option Form) (text : List ℕ) (at line number : ℕ) : Type 0 where
+  pub region : List (List ℕ)
+  pub place : ℕ
+  pub is_region : IsRegion only text at region place
+  pub stands : stop_at only (lines (drop place text)) ≡ Some stops.Binary
+  pub number : number ≡ line + length region
+
+-- what comes next from a place on, whose line has this number
+abbrev pub Comes : Option Form → List ℕ → ℕ → ℕ → HeaderStep → Type 0
+Comes only text at line (Found h) = IsFirstOpening only text at line h
+Comes only text at line (Binary number) = IsFirstBinary only text at line number
+Comes only text at line End = AreQuiet only (lines (drop at text)) []
+
+-- where a header's opening and its names lie
+pub record LiesWithin (only : Option Form) (text : List ℕ) (at line : ℕ) (h : Header) : Type 0 where
+  pub low : at ≤ h.at
+  pub high : h.at ≤ length text
+  pub numbers : h.opening + at ≤ line + h.at
+  pub names_line : h.names_line ≤ h.opening
+  pub opens : opens only h.form (lines (drop h.at text)) ≡ true
+  pub old_name : IfSome h.old_name (IsPieceOf text)
+  pub new_name : IfSome h.new_name (IsPieceOf text)
+  pub index : IfSome h.index (IsPieceOf text)
+  pub prereq : IfSome h.prereq (IsPieceOf text)
+
+abbrev pub StepLies : Option Form → List ℕ → ℕ → ℕ → HeaderStep → Type 0
+StepLies only text at line (Found h) = LiesWithin only text at line h
+StepLies only text at line (Binary number) = Unit {0}
+StepLies only text at line End = Unit {0}

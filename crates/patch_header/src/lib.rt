@@ -1,0 +1,14 @@
+//! Where the next file patch of a patch text opens, and what the lines in front of it say.
+#![tactic(auto)]
+
+mod content;
+mod openings;
+mod region;
+mod search;
+mod values;
+
+pub use openings::{Stop, one_thing_stands};
+pub use search::{Header, HeaderStep, header_from, next_header};
+
+#[cfg(test)]
+mod tests;
