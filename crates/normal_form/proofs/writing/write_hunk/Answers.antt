@@ -22,11 +22,11 @@ returns-in_err-put_divider g c =
     rw (p.1, ← whole c.args.text.now c.args.side c.other-other.result c.args.hunk.now c.args.starts.0 c.args.starts.1 c.count-old.result c.count-new.result c.other-other.ensures c.count-old.ensures c.count-new.ensures)
     (puts-more g.met.O.Sink.rest_both (has-put c.in_ok-put_command.field-0 c.in_ok-put_command.ensures)
     (puts-more g.met.O.Sink.rest_both (has-put c.in_ok-put_side.field-0 c.in_ok-put_side.ensures)
-    (puts-stop c.in_err-put_divider.field-0.0 p.0 _ (rw c.action_of.ensures at c.in_err-put_divider.ensures))))
+    (puts-stop c.in_err-put_divider.field-0.0 p.0 _ (rw c.action_for.ensures at c.in_err-put_divider.ensures))))
 
 pub returns : goal.returns
 returns g c =
     rw (← whole c.args.text.now c.args.side c.other-other.result c.args.hunk.now c.args.starts.0 c.args.starts.1 c.count-old.result c.count-new.result c.other-other.ensures c.count-old.ensures c.count-new.ensures)
     (puts-more g.met.O.Sink.rest_both (has-put c.in_ok-put_command.field-0 c.in_ok-put_command.ensures)
     (puts-more g.met.O.Sink.rest_both (has-put c.in_ok-put_side.field-0 c.in_ok-put_side.ensures)
-    (puts-more g.met.O.Sink.rest_both (has-put c.in_ok-put_divider.field-0 (rw c.action_of.ensures at c.in_ok-put_divider.ensures)) c.put_side-2.ensures)))
+    (puts-more g.met.O.Sink.rest_both (has-put c.in_ok-put_divider.field-0 (rw c.action_for.ensures at c.in_ok-put_divider.ensures)) c.put_side-2.ensures)))
