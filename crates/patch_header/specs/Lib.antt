@@ -3,3 +3,4 @@ pub mod Openings
 pub mod Region
 pub mod Values
 pub mod Steps
+pub mod Searching

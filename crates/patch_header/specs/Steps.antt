@@ -1,15 +1,16 @@
 -- What comes next in a patch text: a file patch with its header, a binary line, or the end.
-use Rattle.std.specs.Prelude.{◌≡◌, ℕ, ◌+◌, ◌<◌, ◌≤◌, Bool, true, List, [], ◌∷◌, ◌++◌, length, drop, sum_by, Option, None, Some, IfSome, codes, if◌then◌else◌}
+use Rattle.std.specs.Prelude.{◌≡◌, ℕ, ◌+◌, ◌<◌, ◌≤◌, true, false, List, [], ◌∷◌, ◌++◌, length, drop, sum_by, Option, None, Some, IfSome, codes, if◌then◌else◌}
 use Rattle.line_list.specs.declared.Span.{Span}
 use Rattle.line_list.specs.Lines.{lines}
 use Rattle.hunk_core.specs.declared.Form.{Form}
+use Rattle.patch_header.specs.Content.{has_dot}
 use Rattle.patch_header.specs.Openings.{stop_at, opens}
 use Rattle.patch_header.specs.Region.{Row, rows, last_tail, old_tail, new_tail}
 use Rattle.patch_header.specs.Values.{name_in, word_in, stamp_in, Says, IsPieceOf}
 use Rattle.patch_header.specs.declared.openings.Stop.{Stop}
 use Rattle.patch_header.specs.declared.openings.Stop.TheVariants as stops
 use Rattle.patch_header.specs.declared.region.Tail.{Tail}
-use Rattle.patch_header.specs.declared.search.Header.{Header}
+use Rattle.patch_header.specs.declared.header.Header.{Header}
 use Rattle.patch_header.specs.declared.search.HeaderStep.{HeaderStep}
 use Rattle.patch_header.specs.declared.search.HeaderStep.TheVariants.{Found, Binary, End}
 
@@ -19,10 +20,10 @@ AreQuiet only [] rest = Unit {0}
 AreQuiet only (line ∷ more) rest = (stop_at only (line ∷ (more ++ rest)) ≡ None) × AreQuiet only more rest
 
 -- from a place up to another go these lines, and nothing stands at any of them
-pub record IsRegion (only : Option Form) (text : List ℕ) (at : ℕ) (region : List (List ℕ)) (end : ℕ) : Type 0 where
-  pub parts : lines (drop at text) ≡ region ++ lines (drop end text)
-  pub end : end ≡ at + sum_by length region
-  pub quiet : AreQuiet only region (lines (drop end text))
+pub record IsRegion (only : Option Form) (text : List ℕ) (at : ℕ) (region : List (List ℕ)) (place : ℕ) : Type 0 where
+  pub parts : lines (drop at text) ≡ region ++ lines (drop place text)
+  pub ends : place ≡ at + sum_by length region
+  pub quiet : AreQuiet only region (lines (drop place text))
 
 -- the line of the old name, or the opening where there is none
 abbrev pub names_line : Option Tail → Option Span → ℕ → ℕ
@@ -49,12 +50,12 @@ pub record IsFirstOpening (only : Option Form) (text : List ℕ) (at line : ℕ)
   pub header : IsHeader text (rows line at region) h
 
 -- the first that stands at a line from a place on is a binary line with this number
-pub record IsFirstBinary (only : Option Form) (text : List ℕ) (at line number : ℕ) : Type 0 where
+pub record IsFirstBinary (only : Option Form) (text : List ℕ) (at line opening : ℕ) : Type 0 where
   pub region : List (List ℕ)
   pub place : ℕ
   pub is_region : IsRegion only text at region place
   pub stands : stop_at only (lines (drop place text)) ≡ Some stops.Binary
-  pub number : number ≡ line + length region
+  pub number : opening ≡ line + length region
 
 -- what comes next from a place on, whose line has this number
 abbrev pub Comes : Option Form → List ℕ → ℕ → ℕ → HeaderStep → Type 0
@@ -62,19 +63,29 @@ Comes only text at line (Found h) = IsFirstOpening only text at line h
 Comes only text at line (Binary number) = IsFirstBinary only text at line number
 Comes only text at line End = AreQuiet only (lines (drop at text)) []
 
--- where a header's opening and its names lie
-pub record LiesWithin (only : Option Form) (text : List ℕ) (at line : ℕ) (h : Header) : Type 0 where
-  pub low : at ≤ h.at
-  pub high : h.at ≤ length text
-  pub numbers : h.opening + at ≤ line + h.at
-  pub names_line : h.names_line ≤ h.opening
-  pub opens : opens only h.form (lines (drop h.at text)) ≡ true
+-- each name of a header is a piece of the text
+pub record HasPieces (text : List ℕ) (h : Header) : Type 0 where
   pub old_name : IfSome h.old_name (IsPieceOf text)
   pub new_name : IfSome h.new_name (IsPieceOf text)
   pub index : IfSome h.index (IsPieceOf text)
   pub prereq : IfSome h.prereq (IsPieceOf text)
 
-abbrev pub StepLies : Option Form → List ℕ → ℕ → ℕ → HeaderStep → Type 0
-StepLies only text at line (Found h) = LiesWithin only text at line h
-StepLies only text at line (Binary number) = Unit {0}
-StepLies only text at line End = Unit {0}
+-- where a header's opening lies, and that it is one
+pub record LiesBehind (only : Option Form) (text : List ℕ) (at line : ℕ) (h : Header) : Type 0 where
+  pub low : at ≤ h.at
+  pub high : h.at < length text
+  pub numbers : h.opening + at ≤ line + h.at
+  pub opens : opens only h.form (lines (drop h.at text)) ≡ true
+  pub pieces : HasPieces text h
+
+-- what follows for the caller
+abbrev pub Lies : Option Form → List ℕ → ℕ → ℕ → HeaderStep → Type 0
+Lies only text at line (Found h) = LiesBehind only text at line h
+Lies only text at line (Binary number) = Unit {0}
+Lies only text at line End = Unit {0}
+
+-- no line from the opening on is '.'
+abbrev pub KnowsNoDot : List ℕ → HeaderStep → Type 0
+KnowsNoDot text (Found h) = has_dot (lines (drop h.at text)) ≡ false
+KnowsNoDot text (Binary number) = Unit {0}
+KnowsNoDot text End = Unit {0}

@@ -1,6 +1,6 @@
 //! A line without its line feed, and the lines that are told by all of it.
 
-ghost use Rattle.std.specs.Prelude.{◌≡◌, ◌≤◌, length, drop, list_any};
+ghost use Rattle.std.specs.Prelude.{◌≡◌, ◌≤◌, length, drop};
 ghost use Rattle.line_list.specs.Lines.{lines};
 ghost use Rattle.patch_header.specs.Content.{content, is_binary, is_dot, has_dot};
 

@@ -2,13 +2,15 @@
 #![tactic(auto)]
 
 mod content;
+mod header;
 mod openings;
 mod region;
 mod search;
 mod values;
 
+pub use header::Header;
 pub use openings::{Stop, one_thing_stands};
-pub use search::{Header, HeaderStep, header_from, next_header};
+pub use search::{HeaderStep, header_from, next_header};
 
 #[cfg(test)]
 mod tests;

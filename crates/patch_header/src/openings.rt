@@ -1,10 +1,11 @@
 //! What can stand at a line.
 
-ghost use Rattle.std.specs.Prelude.{◌≡◌, ◌↔◌, ◌≤◌, ℕ, List, Option, Some, None, true, false, length, drop};
+ghost use Rattle.std.specs.Prelude.{◌≡◌, ◌↔◌, ◌≤◌, ℕ, List, Option, Some, None, true, false, not, ◌&&◌, ◌||◌, length, drop, slice_range};
 ghost use Rattle.line_list.specs.Lines.{lines, IsLineAt};
 ghost use Rattle.hunk_core.specs.declared.Form.{Form};
+ghost use Rattle.ed_form.specs.Commands.{is_command};
 ghost use Rattle.patch_header.specs.Content.{has_dot};
-ghost use Rattle.patch_header.specs.Openings.{admits, asks_dot, begins, begins_binary, opens, stop_at};
+ghost use Rattle.patch_header.specs.Openings.{admits, takes_text, asks_dot, begins, begins_binary, opens, stop_at};
 
 use crate::content::{has_dot, is_binary};
 use diff_command::Action;

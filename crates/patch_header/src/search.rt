@@ -1,37 +1,20 @@
 //! The next header of a patch text.
 
-ghost use Rattle.std.specs.Prelude.{◌≡◌, ◌<◌, ◌≤◌, ◌+◌, ◌^◌, true, false, length, drop, IfSome};
+ghost use Rattle.std.specs.Prelude.{◌≡◌, ◌<◌, ◌≤◌, ◌+◌, ◌^◌, ℕ, Option, Some, None, true, false, List, length, drop};
 ghost use Rattle.line_list.specs.Lines.{lines, IsLineAt};
+ghost use Rattle.hunk_core.specs.declared.Form.{Form};
 ghost use Rattle.patch_header.specs.Content.{has_dot};
 ghost use Rattle.patch_header.specs.Openings.{stop_at};
-ghost use Rattle.patch_header.specs.Region.{seen_in, AllLieIn};
-ghost use Rattle.patch_header.specs.Steps.{Comes, StepLies, names_line};
+ghost use Rattle.patch_header.specs.Steps.{Comes, Lies, KnowsNoDot};
+ghost use Rattle.patch_header.specs.Searching.{HasPassed, IsLawful};
+ghost use Rattle.patch_header.specs.Region.{AllLieIn};
 ghost use Rattle.patch_header.specs.declared.search.HeaderStep.{HeaderStep};
 
+use crate::header::{Header, header_of};
 use crate::openings::{Stop, lacks_dot, stop_at};
-use crate::region::{Seen, Tail, nothing_seen, passed};
-use crate::values::{name_in, stamp_in, word_in};
+use crate::region::{Seen, nothing_seen, passed};
 use hunk_core::Form;
-use line_list::{Span, next_line};
-use stamp::Stamp;
-
-/// The opening of a file patch, and what the lines in front of it say. Spans are places in the text.
-#[derive(Clone, Copy, Debug, PartialEq, Eq)]
-pub struct Header {
-    pub form: Form,
-    /// The place of the opening's line.
-    pub at: usize,
-    /// The number of the opening's line.
-    pub opening: u64,
-    /// The number of the old name's line, or of the opening where there is no old name.
-    pub names_line: u64,
-    pub old_name: Option<Span>,
-    pub new_name: Option<Span>,
-    pub index: Option<Span>,
-    pub prereq: Option<Span>,
-    pub old_stamp: Stamp,
-    pub new_stamp: Stamp,
-}
+use line_list::next_line;
 
 /// What comes next in a patch text outside hunks.
 #[derive(Clone, Copy, Debug, PartialEq, Eq)]
@@ -45,67 +28,65 @@ pub enum HeaderStep {
 
 /// How far a search has come.
 #[derive(Clone, Copy)]
-struct Search {
-    at: usize,
-    number: u64,
-    /// It is known that no line from here on is a dot.
-    dotless: bool,
-    seen: Seen,
+pub struct Search {
+    pub at: usize,
+    pub number: u64,
+    pub seen: Seen,
 }
 
-fn names_line(tail: Option<Tail>, name: Option<Span>, opening: u64) -> u64
-    ensures { result ≡ names_line tail name opening }
+/// What stands here comes next.
+fn step_of(text: &[u8], stop: Stop, here: Search) -> HeaderStep
+    requires short { length text.now < 2 ^ 32 }
+    requires lawful { IsLawful text.now here }
+    ensures comes { (only : Option Form) (at line : ℕ) → HasPassed only text.now at line here
+        → stop_at only (lines (drop here.at text.now)) ≡ Some stop → Comes only text.now at line result }
+    ensures lies { (only : Option Form) (at line : ℕ) → HasPassed only text.now at line here
+        → stop_at only (lines (drop here.at text.now)) ≡ Some stop → Lies only text.now at line result }
 {
-    match (tail, name) {
-        (Some(tail), Some(_)) => tail.number,
-        _ => opening,
-    }
-}
-
-fn old_tail(form: Form, seen: Seen) -> Option<Tail>
-{
-    match form {
-        Form::Unified => seen.minus,
-        Form::Context => seen.stars,
-        Form::Normal | Form::Ed => None,
-    }
-}
-
-fn new_tail(form: Form, seen: Seen) -> Option<Tail>
-{
-    match form {
-        Form::Unified => seen.plus,
-        Form::Context => seen.minus,
-        Form::Normal | Form::Ed => None,
-    }
-}
-
-fn header_of(text: &[u8], form: Form, here: Search) -> Header
-{
-    let old = old_tail(form, here.seen);
-    let new = new_tail(form, here.seen);
-    let old_name = name_in(text, old);
-    Header {
-        form,
-        at: here.at,
-        opening: here.number,
-        names_line: names_line(old, old_name, here.number),
-        old_name,
-        new_name: name_in(text, new),
-        index: name_in(text, here.seen.index),
-        prereq: word_in(text, here.seen.prereq),
-        old_stamp: stamp_in(text, old),
-        new_stamp: stamp_in(text, new),
-    }
-}
-
-fn step_of(text: &[u8], stop: Stop, here: Search) -> HeaderStep {
     match stop {
-        Stop::Opening(form) => HeaderStep::Found(header_of(text, form, here)),
+        Stop::Opening(form) => {
+            HeaderStep::Found(header_of(text, form, here.at, here.number, here.seen))
+        }
         Stop::Binary => HeaderStep::Binary { line: here.number },
     }
 }
 
+/// The line up to `end` is passed.
+fn advance(text: &[u8], here: Search, end: usize) -> Search
+    requires short { length text.now < 2 ^ 32 }
+    requires lawful { IsLawful text.now here }
+    requires line { IsLineAt text.now here.at end }
+    ensures at { result.at ≡ end }
+    ensures lawful { IsLawful text.now result }
+    ensures passed { (only : Option Form) (at line : ℕ) → HasPassed only text.now at line here
+        → stop_at only (lines (drop here.at text.now)) ≡ None → HasPassed only text.now at line result }
+{
+    Search {
+        at: end,
+        number: here.number + 1,
+        seen: passed(here.seen, here.number, text, here.at, end),
+    }
+}
+
+/// The search, where nothing is passed yet.
+fn begin(at: usize, line: u64) -> Search
+    ensures at { result.at ≡ at }
+    ensures number { result.number ≡ line }
+    ensures seen { (text : List ℕ) → AllLieIn text result.seen }
+    ensures passed { (only : Option Form) (text : List ℕ) → HasPassed only text at line result }
+{
+    Search {
+        at,
+        number: line,
+        seen: nothing_seen(),
+    }
+}
+
+/// The same as `next_header`, by one who may know that no line from `at` on is `.`, and who is told so
+/// of what is behind the lines that were passed. A text is looked through for a dot once: from the first
+/// `1a` that stands where a script could open. Where a dot is found the script opens, and goes on up to
+/// it at least; where none is found, none is looked for again. So all headers of a text are found in
+/// linear time.
 pub fn header_from(
     text: &[u8],
     at: usize,
@@ -117,35 +98,34 @@ pub fn header_from(
     requires within { at ≤ length text.now }
     requires small { line < 2 ^ 32 }
     requires known { dotless ≡ true → has_dot (lines (drop at text.now)) ≡ false }
+    ensures comes { Comes only text.now at line result.0 }
+    ensures lies { Lies only text.now at line result.0 }
+    ensures known { result.1 ≡ true → KnowsNoDot text.now result.0 }
 {
-    let mut here = Search {
-        at,
-        number: line,
-        dotless,
-        seen: nothing_seen(),
-    };
+    let mut here = begin(at, line);
+    let mut known = dotless;
     'lines: while let Some(end) = next_line(text, here.at) {
-        let dotless = lacks_dot(text, here.at, end, only, here.dotless);
-        if let Some(stop) = stop_at(text, here.at, end, only, dotless) {
-            return (step_of(text, stop, here), here.dotless);
+        let behind = lacks_dot(text, here.at, end, only, known);
+        if let Some(stop) = stop_at(text, here.at, end, only, behind) {
+            return (step_of(text, stop, here), known);
         }
-        here = Search {
-            at: end,
-            number: here.number + 1,
-            dotless,
-            seen: passed(here.seen, here.number, text, here.at, end),
-        };
+        here = advance(text, here, end);
+        known = behind;
     }
-    (HeaderStep::End, here.dotless)
+    (HeaderStep::End, known)
 }
 
+/// What comes next from `at` on, where the line has this number: the first line at which an opening of a
+/// form stands (of this one form, where `only` names it) or that is a binary line. The lines from `at` up
+/// to an opening are read for names and stamps. `Lies` says where they lie.
 pub fn next_header(text: &[u8], at: usize, line: u64, only: Option<Form>) -> HeaderStep
     requires short { length text.now < 2 ^ 32 }
     requires within { at ≤ length text.now }
     requires small { line < 2 ^ 32 }
     ensures comes { Comes only text.now at line result }
-    ensures only_that { (other : HeaderStep) → Comes only text.now at line other → result ≡ other }
-    ensures lies { StepLies only text.now at line result }
+    // Nothing else comes next.
+    ensures alone { (other : HeaderStep) → Comes only text.now at line other → result ≡ other }
+    ensures lies { Lies only text.now at line result }
 {
     header_from(text, at, line, only, false).0
 }
