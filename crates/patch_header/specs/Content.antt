@@ -1,5 +1,5 @@
 -- A line without its line feed, and the lines that are told by all of it.
-use Rattle.std.specs.Prelude.{ℕ, ◌-◌, Bool, ◌&&◌, ◌||◌, List, [], ◌∷◌, length, take, is_some, nat_eq, bytes_eq, codes, if◌then◌else◌}
+use Rattle.std.specs.Prelude.{ℕ, ◌-◌, Bool, ◌&&◌, ◌||◌, List, length, take, is_some, nat_eq, bytes_eq, codes, if◌then◌else◌}
 use Rattle.std.specs.List.{list_any, ends_with}
 use Rattle.hunk_core.specs.LineTests.{after, ends_line}
 

@@ -2,7 +2,6 @@
 use Rattle.std.specs.Prelude.{ℕ, Bool, true, false, not, ◌&&◌, ◌||◌, List, [], ◌∷◌, Option, None, Some, if◌then◌else◌}
 use Rattle.hunk_core.specs.declared.Form.{Form}
 use Rattle.hunk_core.specs.declared.Form.TheVariants.{Unified, Context, Normal, Ed}
-use Rattle.diff_command.specs.declared.Action.{Action}
 use Rattle.diff_command.specs.declared.Action.TheVariants as actions
 use Rattle.ed_form.specs.declared.command.Command.{Command}
 use Rattle.ed_form.specs.Commands.{parts_at, is_command}
@@ -26,10 +25,10 @@ admits (Some only) form = false
 abbrev pub takes_text : Option Command → Bool
 takes_text None = false
 takes_text (Some c) = elim c.action as (λ _. Bool) [
-    | actions.Add ↦ true
-    | actions.Change ↦ true
-    | actions.Delete ↦ false
-  ]
+  | actions.Add ↦ true
+  | actions.Change ↦ true
+  | actions.Delete ↦ false
+]
 
 -- where all forms are admitted, a command that text follows opens a script only before a line '.'
 abbrev pub asks_dot : Option Form → List ℕ → Bool

@@ -1,5 +1,5 @@
 -- The lines in front of a file patch, and the last of each kind among them.
-use Rattle.std.specs.Prelude.{◌≡◌, ℕ, ◌+◌, ◌≤◌, Bool, List, [], ◌∷◌, length, reverse, Option, None, Some, is_some, IfSome, codes, if◌then◌else◌}
+use Rattle.std.specs.Prelude.{ℕ, ◌+◌, ◌≤◌, List, [], ◌∷◌, length, reverse, Option, None, Some, is_some, IfSome, codes, if◌then◌else◌}
 use Rattle.hunk_core.specs.declared.Form.{Form}
 use Rattle.hunk_core.specs.declared.Form.TheVariants.{Unified, Context, Normal, Ed}
 use Rattle.hunk_core.specs.LineTests.{after}
@@ -37,12 +37,12 @@ last_tail mark rs = first_some (tail_of mark) (reverse rs)
 -- the last line of each kind
 abbrev pub seen_in : List Row → Seen
 seen_in rs = record {
-    minus = last_tail (codes "--- ") rs;
-    plus = last_tail (codes "+++ ") rs;
-    stars = last_tail (codes "*** ") rs;
-    index = last_tail (codes "Index:") rs;
-    prereq = last_tail (codes "Prereq:") rs;
-  }
+  minus = last_tail (codes "--- ") rs;
+  plus = last_tail (codes "+++ ") rs;
+  stars = last_tail (codes "*** ") rs;
+  index = last_tail (codes "Index:") rs;
+  prereq = last_tail (codes "Prereq:") rs;
+}
 
 -- the last line of the old name: '--- ' in the unified form, '*** ' in the context form
 abbrev pub old_tail : Form → List Row → Option Tail

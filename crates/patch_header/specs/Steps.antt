@@ -1,5 +1,5 @@
 -- What comes next in a patch text: a file patch with its header, a binary line, or the end.
-use Rattle.std.specs.Prelude.{◌≡◌, ℕ, ◌+◌, ◌<◌, ◌≤◌, true, false, List, [], ◌∷◌, ◌++◌, length, drop, sum_by, Option, None, Some, IfSome, codes, if◌then◌else◌}
+use Rattle.std.specs.Prelude.{◌≡◌, ℕ, ◌+◌, ◌<◌, ◌≤◌, true, false, List, [], ◌∷◌, ◌++◌, length, drop, sum_by, Option, None, Some, IfSome, codes}
 use Rattle.line_list.specs.declared.Span.{Span}
 use Rattle.line_list.specs.Lines.{lines}
 use Rattle.hunk_core.specs.declared.Form.{Form}
@@ -7,7 +7,6 @@ use Rattle.patch_header.specs.Content.{has_dot}
 use Rattle.patch_header.specs.Openings.{stop_at, opens}
 use Rattle.patch_header.specs.Region.{Row, rows, last_tail, old_tail, new_tail}
 use Rattle.patch_header.specs.Values.{name_in, word_in, stamp_in, Says, IsPieceOf}
-use Rattle.patch_header.specs.declared.openings.Stop.{Stop}
 use Rattle.patch_header.specs.declared.openings.Stop.TheVariants as stops
 use Rattle.patch_header.specs.declared.region.Tail.{Tail}
 use Rattle.patch_header.specs.declared.header.Header.{Header}

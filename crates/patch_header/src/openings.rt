@@ -77,7 +77,13 @@ fn opens_script(line: &[u8], only: Option<Form>, dotless: bool) -> bool
 
 /// What stands at the line from `at` up to `end`.
 #[tactic(auto, unfolding(crate::specs::Openings::stop_at))]
-pub fn stop_at(text: &[u8], at: usize, end: usize, only: Option<Form>, dotless: bool) -> Option<Stop>
+pub fn stop_at(
+    text: &[u8],
+    at: usize,
+    end: usize,
+    only: Option<Form>,
+    dotless: bool,
+) -> Option<Stop>
     requires line { IsLineAt text.now at end }
     requires told { asks_dot only (slice_range text.now at end) ≡ true → dotless ≡ not (has_dot (lines (drop end text.now))) }
     ensures { result ≡ stop_at only (lines (drop at text.now)) }

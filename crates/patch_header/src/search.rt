@@ -42,6 +42,7 @@ fn step_of(text: &[u8], stop: Stop, here: Search) -> HeaderStep
         → stop_at only (lines (drop here.at text.now)) ≡ Some stop → Comes only text.now at line result }
     ensures lies { (only : Option Form) (at line : ℕ) → HasPassed only text.now at line here
         → stop_at only (lines (drop here.at text.now)) ≡ Some stop → Lies only text.now at line result }
+    ensures dots { has_dot (lines (drop here.at text.now)) ≡ false → KnowsNoDot text.now result }
 {
     match stop {
         Stop::Opening(form) => {

@@ -10,7 +10,6 @@ use line_list::Span;
 use stamp::{Stamp, read_stamp};
 
 /// How many blanks stand in front.
-#[tactic(auto, using(crate::proofs::Bytes::is_position), unfolding(bstr::specs::Bytes::is_in))]
 fn blanks(bytes: &[u8]) -> usize
     ensures is { result ≡ blanks bytes.now }
     ensures within { result ≤ length bytes.now }
