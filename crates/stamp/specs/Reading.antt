@@ -1,11 +1,13 @@
 -- What stands at the fixed places of a stamp.
 use Rattle.std.specs.Prelude.{ℕ, ◌+◌, ◌-◌, ◌*◌, Bool, nat_le, ◌&&◌, ◌==◌, if◌then◌else◌, List, length, drop, slice_index, slice_range, Option, None, Some, ℤ, pos, neg_ℤ, ◌+ℤ◌, ◌-ℤ◌, ◌*ℤ◌, option_map}
-use Rattle.std.specs.Option.{option_and_then}
+use Rattle.std.specs.Option.{option_and_then, option_or}
 use Rattle.std.specs.List.{position}
 use Rattle.std.specs.Str.{bytes_eq}
 use Rattle.jiff_core.specs.Calendar.{days_in_month, days_from_civil}
 use Rattle.num_text.specs.Numbers.{is_digit, after_digits}
 use Rattle.stamp.specs.Forms.{weekdays, months}
+use Rattle.stamp.specs.declared.Stamp.{Stamp}
+use Rattle.stamp.specs.declared.Stamp.TheVariants.{Instant, Unknown}
 
 -- the byte stands there; past the end stands 0
 abbrev pub stands : List ℕ → ℕ → ℕ → Bool
@@ -71,3 +73,12 @@ named_day text = option_and_then (λ _. option_and_then (λ month. option_and_th
 
 unfoldable pub named_of : List ℕ → Option ℤ
 named_of text = if length text == 24 then option_and_then (λ day. option_map (λ clock. day *ℤ pos 86_400 +ℤ pos clock) (clock_of text)) (named_day text) else None
+
+-- the instant, or nothing that is known
+abbrev pub as_stamp : Option ℤ → Stamp
+as_stamp None = Unknown
+as_stamp (Some instant) = Instant instant
+
+-- what the text says, read in the one form or else in the other
+abbrev pub stamp_of : List ℕ → Stamp
+stamp_of text = as_stamp (option_or (numeric_of text) (named_of text))

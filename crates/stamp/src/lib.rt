@@ -4,7 +4,7 @@
 ghost use Rattle.std.specs.Prelude.{◌≡◌, ◌↔◌, ℕ, ◌<◌, ◌≤◌, ◌+◌, length, drop, IfSome, ℤ, pos, neg_ℤ, ◌+ℤ◌, ◌*ℤ◌, option_map, slice_range};
 ghost use Rattle.jiff.specs.Words.{IsBetween};
 ghost use Rattle.stamp.specs.Forms.{IsStamp};
-ghost use Rattle.stamp.specs.Reading.{stands, digit_at, two_at, four_at, day_number, clock_of, numeric_day, zone_of, after_fraction, numeric_of, place_among, day_of, named_day, named_of};
+ghost use Rattle.stamp.specs.Reading.{stands, digit_at, two_at, four_at, day_number, clock_of, numeric_day, zone_of, after_fraction, numeric_of, place_among, day_of, named_day, named_of, stamp_of};
 
 use jiff::civil::Date;
 use num_text::digits_end;
@@ -238,6 +238,7 @@ fn named_date(text: &[u8]) -> Option<i64>
 pub fn read_stamp(text: &[u8]) -> Stamp
     ensures instant { (z : ℤ) → (result ≡ Stamp.Instant z) ↔ IsStamp text.now z }
     ensures unknown { (result ≡ Stamp.Unknown) ↔ ((z : ℤ) → ¬ IsStamp text.now z) }
+    ensures exact { result ≡ stamp_of text.now }
 {
     match numeric(text) {
         Some(instant) => Stamp::Instant(instant),

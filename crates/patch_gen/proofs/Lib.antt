@@ -1,0 +1,4 @@
+pub mod RunLemmas
+pub mod LineLemmas
+pub mod RoomLemmas
+pub mod PlaceLemmas

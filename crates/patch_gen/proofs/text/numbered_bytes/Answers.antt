@@ -1,0 +1,8 @@
+use Rattle.std.proofs.Common.{◌≡◌, ◌/◌, arith}
+use Rattle.patch_gen.proofs.text.numbered_bytes.Goals as goal
+
+pub returns : goal.returns
+returns c =
+    let ones : c.args.number / 1 ≡ c.args.number = omega arith in
+    let last : c.args.value / 1 ≡ c.args.value = omega arith in
+    cc

@@ -1,0 +1,4 @@
+pub mod Draws
+pub mod Texts
+pub mod Patches
+pub mod Tree

@@ -1,0 +1,106 @@
+-- What `patch` says on standard output while it works: each message is a line with its line feed, one of them two lines.
+-- The texts are the project's own, in the wording of GNU patch where there is one.
+use Rattle.std.specs.Prelude.{ℕ, ◌==◌, ℤ, pos, negsuc, suc, List, [], ◌∷◌, ◌++◌, codes, Bool, true, false, ◌&&◌, ◌||◌, not, if◌then◌else◌, Option, None, Some}
+use Rattle.num_text.specs.Numbers.{decimal}
+use Rattle.patch_options.specs.PlainJob.{PlainOptions}
+
+-- with `-s` nothing is said (GNU diffutils manual, "Messages and Questions from patch")
+abbrev pub silenced : PlainOptions → List ℕ → List ℕ
+silenced o text = if o.silent then [] else text
+
+-- a number, behind a minus sign where it is below 0
+abbrev pub signed : ℤ → List ℕ
+signed (pos n) = decimal n
+signed (negsuc n) = 45 ∷ decimal (suc n)
+
+-- a signed number is 0, or 1
+abbrev pub is_int_zero : ℤ → Bool
+is_int_zero (pos n) = n == 0
+is_int_zero (negsuc n) = false
+
+abbrev pub is_int_one : ℤ → Bool
+is_int_one (pos n) = n == 1
+is_int_one (negsuc n) = false
+
+-- what is done with a file; in a dry run it is only checked
+abbrev pub doing : Bool → List ℕ
+doing is_dry = if is_dry then codes "checking file " else codes "patching file "
+
+-- the chosen file, behind the output where `-o` names one
+abbrev pub patching_line : Bool → Option (List ℕ) → List ℕ → List ℕ
+patching_line is_dry None name = doing is_dry ++ (name ++ codes "\n")
+patching_line is_dry (Some output) name = doing is_dry ++ (output ++ (codes " (read from " ++ (name ++ codes ")\n")))
+
+-- no file was found for the patch that opens at this line: two lines
+abbrev pub no_file_lines : ℕ → List ℕ
+no_file_lines line = codes "can't find file to patch at input line " ++ (decimal line ++ codes "\nSkipping patch.\n")
+
+-- the file lacks the word of the `Prereq:` line; with `-f` that is a warning
+abbrev pub prereq_line : Bool → List ℕ → List ℕ
+prereq_line false word = codes "This file doesn't appear to be the " ++ (word ++ codes " version -- skipping patch.\n")
+prereq_line true word = codes "Warning: this file doesn't appear to be the " ++ (word ++ codes " version -- patching anyway.\n")
+
+-- what becomes of a patch that doesn't suit the file as it is: it is turned round, or skipped
+abbrev pub reaction : Bool → List ℕ
+reaction is_turned = if is_turned then codes "  Assuming -R.\n" else codes "  Skipping patch.\n"
+
+-- the patch looks reversed
+abbrev pub reversed_line : Bool → List ℕ
+reversed_line is_turned = codes "Reversed (or previously applied) patch detected!" ++ reaction is_turned
+
+-- the patch creates a file that is there
+abbrev pub exists_line : List ℕ → Bool → List ℕ
+exists_line name is_turned = codes "The next patch would create the file " ++ (name ++ (codes ", which already exists!" ++ reaction is_turned))
+
+-- fuzz is told where it isn't 0
+abbrev pub fuzz_part : ℕ → List ℕ
+fuzz_part fuzz = if fuzz == 0 then [] else codes " with fuzz " ++ decimal fuzz
+
+-- behind an offset of 1 stands one line
+abbrev pub line_word : ℤ → List ℕ
+line_word offset = if is_int_one offset then codes " line)" else codes " lines)"
+
+-- an offset is told where it isn't 0, with its minus sign
+abbrev pub offset_part : ℤ → List ℕ
+offset_part offset = if is_int_zero offset then [] else codes " (offset " ++ (signed offset ++ line_word offset)
+
+-- what came of a hunk, and at which line
+abbrev pub hunk_text : ℕ → List ℕ → ℤ → List ℕ
+hunk_text number what at = codes "Hunk #" ++ (decimal number ++ (what ++ signed at))
+
+-- where a hunk was placed
+abbrev pub placed_line : ℕ → ℤ → ℕ → ℤ → List ℕ
+placed_line number at fuzz offset = hunk_text number (codes " succeeded at ") at ++ (fuzz_part fuzz ++ (offset_part offset ++ codes ".\n"))
+
+-- a placed hunk is told of where it has fuzz or an offset other than 0, and with `--verbose` always
+abbrev pub is_told : Bool → ℕ → ℤ → Bool
+is_told is_verbose fuzz offset = is_verbose || not ((fuzz == 0) && is_int_zero offset)
+
+-- what is said of a placed hunk
+abbrev pub placed_text : Bool → ℕ → ℤ → ℕ → ℤ → List ℕ
+placed_text is_verbose number at fuzz offset = if is_told is_verbose fuzz offset then placed_line number at fuzz offset else []
+
+-- a hunk has no place
+abbrev pub failed_line : ℕ → ℤ → List ℕ
+failed_line number at = hunk_text number (codes " FAILED at ") at ++ codes ".\n"
+
+-- a file that was to be deleted is kept
+abbrev pub not_deleting_line : List ℕ → List ℕ
+not_deleting_line name = codes "Not deleting file " ++ (name ++ codes " as content differs from patch\n")
+
+-- behind a number of 1 stands one hunk
+abbrev pub hunk_word : ℕ → List ℕ
+hunk_word hunks = if hunks == 1 then codes " hunk" else codes " hunks"
+
+-- so many of a file's hunks
+abbrev pub share : ℕ → ℕ → List ℕ
+share some hunks = decimal some ++ (codes " out of " ++ (decimal hunks ++ hunk_word hunks))
+
+-- hunks failed, and where their rejects go, if they are written
+abbrev pub failures_line : ℕ → ℕ → Option (List ℕ) → List ℕ
+failures_line failed hunks None = share failed hunks ++ codes " FAILED\n"
+failures_line failed hunks (Some reject) = share failed hunks ++ (codes " FAILED -- saving rejects to file " ++ (reject ++ codes "\n"))
+
+-- all hunks of a patch that was skipped
+abbrev pub ignored_line : ℕ → List ℕ
+ignored_line hunks = share hunks hunks ++ codes " ignored\n"

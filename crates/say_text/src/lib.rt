@@ -1,0 +1,17 @@
+//! What `patch` says on standard output while it works, over any sink: a call for each message. Names are handed in as
+//! they are shown. With `-s` most calls write nothing; each says where it does. After a failure the sink received a first
+//! part of the message.
+#![tactic(auto)]
+
+mod files;
+mod hunks;
+mod lines;
+mod pieces;
+
+pub use files::{
+    say_exists, say_no_file, say_not_deleting, say_patching, say_prereq, say_reversed,
+};
+pub use hunks::{say_failed, say_failures, say_ignored, say_placed};
+
+#[cfg(test)]
+mod tests;
