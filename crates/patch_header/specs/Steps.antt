@@ -1,12 +1,13 @@
 -- What comes next in a patch text: a file patch with its header, a binary line, or the end.
-use Rattle.std.specs.Prelude.{◌≡◌, ℕ, ◌+◌, ◌<◌, ◌≤◌, true, false, List, [], ◌∷◌, ◌++◌, length, drop, sum_by, Option, None, Some, IfSome, codes}
+use Rattle.std.specs.Prelude.{◌≡◌, ℕ, ◌+◌, ◌<◌, ◌≤◌, true, false, List, [], ◌∷◌, ◌++◌, length, drop, sum_by, Option, None, Some, is_some, IfSome, codes, if◌then◌else◌}
 use Rattle.line_list.specs.declared.Span.{Span}
 use Rattle.line_list.specs.Lines.{lines}
 use Rattle.hunk_core.specs.declared.Form.{Form}
 use Rattle.patch_header.specs.Content.{has_dot}
-use Rattle.patch_header.specs.Openings.{stop_at, opens}
+use Rattle.patch_header.specs.Openings.{admits, begins, stop_at}
 use Rattle.patch_header.specs.Region.{Row, rows, last_tail, old_tail, new_tail}
-use Rattle.patch_header.specs.Values.{name_in, word_in, stamp_in, Says, IsPieceOf}
+use Rattle.patch_header.specs.Values.{name_in, word_in, stamp_in, IsPieceOf}
+use Rattle.patch_header.specs.declared.openings.Stop.{Stop}
 use Rattle.patch_header.specs.declared.openings.Stop.TheVariants as stops
 use Rattle.patch_header.specs.declared.region.Tail.{Tail}
 use Rattle.patch_header.specs.declared.header.Header.{Header}
@@ -30,37 +31,67 @@ names_line None name opening = opening
 names_line (Some t) None opening = opening
 names_line (Some t) (Some s) opening = t.number
 
--- what a header says, by the lines in front of its opening
-pub record IsHeader (text : List ℕ) (rs : List Row) (h : Header) : Type 0 where
-  pub names_line : h.names_line ≡ names_line (old_tail h.form rs) h.old_name h.opening
-  pub old_name : h.old_name ≡ name_in text (old_tail h.form rs)
-  pub new_name : h.new_name ≡ name_in text (new_tail h.form rs)
-  pub index : h.index ≡ name_in text (last_tail (codes "Index:") rs)
-  pub prereq : h.prereq ≡ word_in text (last_tail (codes "Prereq:") rs)
-  pub old_stamp : Says (stamp_in text (old_tail h.form rs)) h.old_stamp
-  pub new_stamp : Says (stamp_in text (new_tail h.form rs)) h.new_stamp
+-- what the header of an opening says, by the lines in front of it
+abbrev pub header_with : List ℕ → Form → ℕ → ℕ → List Row → Header
+header_with text form at opening rs = record {
+    form = form;
+    at = at;
+    opening = opening;
+    names_line = names_line (old_tail form rs) (name_in text (old_tail form rs)) opening;
+    old_name = name_in text (old_tail form rs);
+    new_name = name_in text (new_tail form rs);
+    index = name_in text (last_tail (codes "Index:") rs);
+    prereq = word_in text (last_tail (codes "Prereq:") rs);
+    old_stamp = stamp_in text (old_tail form rs);
+    new_stamp = stamp_in text (new_tail form rs);
+  }
 
--- the first that stands at a line from a place on is the opening of this header
+-- the first that stands at a line from a place on is an opening with this header
 pub record IsFirstOpening (only : Option Form) (text : List ℕ) (at line : ℕ) (h : Header) : Type 0 where
   pub region : List (List ℕ)
-  pub is_region : IsRegion only text at region h.at
-  pub stands : stop_at only (lines (drop h.at text)) ≡ Some (stops.Opening h.form)
-  pub number : h.opening ≡ line + length region
-  pub header : IsHeader text (rows line at region) h
+  pub place : ℕ
+  pub form : Form
+  pub is_region : IsRegion only text at region place
+  pub stands : stop_at only (lines (drop place text)) ≡ Some (stops.Opening form)
+  pub says : h ≡ header_with text form place (line + length region) (rows line at region)
 
 -- the first that stands at a line from a place on is a binary line with this number
-pub record IsFirstBinary (only : Option Form) (text : List ℕ) (at line opening : ℕ) : Type 0 where
+pub record IsFirstBinary (only : Option Form) (text : List ℕ) (at line number : ℕ) : Type 0 where
   pub region : List (List ℕ)
   pub place : ℕ
   pub is_region : IsRegion only text at region place
   pub stands : stop_at only (lines (drop place text)) ≡ Some stops.Binary
-  pub number : opening ≡ line + length region
+  pub counted : number ≡ line + length region
+
+-- nothing stands at any line from a place on
+abbrev pub IsEnd : Option Form → List ℕ → ℕ → Type 0
+IsEnd only text at = AreQuiet only (lines (drop at text)) []
 
 -- what comes next from a place on, whose line has this number
 abbrev pub Comes : Option Form → List ℕ → ℕ → ℕ → HeaderStep → Type 0
 Comes only text at line (Found h) = IsFirstOpening only text at line h
 Comes only text at line (Binary number) = IsFirstBinary only text at line number
-Comes only text at line End = AreQuiet only (lines (drop at text)) []
+Comes only text at line End = IsEnd only text at
+
+-- the lines in front of the first at which something stands, or all
+unfoldable pub region_of : Option Form → List (List ℕ) → List (List ℕ)
+region_of only [] = []
+region_of only (line ∷ rest) = if is_some (stop_at only (line ∷ rest)) then [] else line ∷ region_of only rest
+
+-- the first that stands at one of these lines
+unfoldable pub first_stop : Option Form → List (List ℕ) → Option Stop
+first_stop only [] = None
+first_stop only (line ∷ rest) = if is_some (stop_at only (line ∷ rest)) then stop_at only (line ∷ rest) else first_stop only rest
+
+-- what comes next, behind these lines
+abbrev pub step_behind : List ℕ → ℕ → ℕ → List (List ℕ) → Option Stop → HeaderStep
+step_behind text at line region None = End
+step_behind text at line region (Some (stops.Opening form)) = Found (header_with text form (at + sum_by length region) (line + length region) (rows line at region))
+step_behind text at line region (Some stops.Binary) = Binary (line + length region)
+
+-- the same as a function
+abbrev pub next_step : Option Form → List ℕ → ℕ → ℕ → HeaderStep
+next_step only text at line = step_behind text at line (region_of only (lines (drop at text))) (first_stop only (lines (drop at text)))
 
 -- each name of a header is a piece of the text
 pub record HasPieces (text : List ℕ) (h : Header) : Type 0 where
@@ -69,12 +100,13 @@ pub record HasPieces (text : List ℕ) (h : Header) : Type 0 where
   pub index : IfSome h.index (IsPieceOf text)
   pub prereq : IfSome h.prereq (IsPieceOf text)
 
--- where a header's opening lies, and that it is one
+-- where a header's opening lies, and that it is one of its form
 pub record LiesBehind (only : Option Form) (text : List ℕ) (at line : ℕ) (h : Header) : Type 0 where
   pub low : at ≤ h.at
   pub high : h.at < length text
   pub numbers : h.opening + at ≤ line + h.at
-  pub opens : opens only h.form (lines (drop h.at text)) ≡ true
+  pub admitted : admits only h.form ≡ true
+  pub begins : begins only h.form (lines (drop h.at text)) ≡ true
   pub pieces : HasPieces text h
 
 -- what follows for the caller

@@ -2,9 +2,9 @@
 use Rattle.std.specs.Prelude.{◌≡◌, ◌↔◌, ℕ, ◌+◌, ◌<◌, ◌≤◌, Bool, not, ◌||◌, ◌==◌, List, [], length, drop, slice_range, unwrap_or, Option, None, Some, ℤ, if◌then◌else◌}
 use Rattle.std.specs.List.{position}
 use Rattle.line_list.specs.declared.Span.{Span}
-use Rattle.stamp.specs.Forms.{IsStamp}
+use Rattle.stamp.specs.Reading.{stamp_of}
 use Rattle.stamp.specs.declared.Stamp.{Stamp}
-use Rattle.stamp.specs.declared.Stamp.TheVariants.{Instant, Unknown}
+use Rattle.stamp.specs.declared.Stamp.TheVariants.{Unknown}
 use Rattle.patch_header.specs.declared.region.Tail.{Tail}
 
 -- a space or a tab
@@ -57,15 +57,10 @@ word_in text (Some t) = span_at (t.start + blanks (bytes_of text t)) (word_lengt
 abbrev pub behind_name : List ℕ → List ℕ
 behind_name bytes = unblanked (drop (name_length bytes) bytes)
 
--- the stamp behind the name
-abbrev pub stamp_in : List ℕ → Option Tail → List ℕ
-stamp_in text None = []
-stamp_in text (Some t) = behind_name (unblanked (bytes_of text t))
-
--- what these bytes say: the instant of the stamp that they are, or nothing where they are none
-pub record Says (bytes : List ℕ) (s : Stamp) : Type 0 where
-  pub instant : (z : ℤ) → (s ≡ Instant z) ↔ IsStamp bytes z
-  pub unknown : (s ≡ Unknown) ↔ ((z : ℤ) → ¬ IsStamp bytes z)
+-- what the stamp behind the name says
+abbrev pub stamp_in : List ℕ → Option Tail → Stamp
+stamp_in text None = Unknown
+stamp_in text (Some t) = stamp_of (behind_name (unblanked (bytes_of text t)))
 
 -- one byte of the text, or more
 pub record IsPieceOf (text : List ℕ) (s : Span) : Type 0 where

@@ -3,7 +3,7 @@
 ghost use Rattle.std.specs.Prelude.{◌≡◌, ◌<◌, ◌^◌, List, ℕ, length, IfSome};
 ghost use Rattle.patch_header.specs.Region.{Row, seen_in, old_tail, new_tail, LiesIn, AllLieIn};
 ghost use Rattle.patch_header.specs.Values.{IsPieceOf};
-ghost use Rattle.patch_header.specs.Steps.{names_line, IsHeader, HasPieces};
+ghost use Rattle.patch_header.specs.Steps.{names_line, header_with, HasPieces};
 
 use crate::region::{Seen, Tail};
 use crate::values::{name_in, stamp_in, word_in};
@@ -72,7 +72,7 @@ pub fn header_of(text: &[u8], form: Form, at: usize, opening: u64, seen: Seen) -
     ensures form { result.form ≡ form }
     ensures at { result.at ≡ at }
     ensures opening { result.opening ≡ opening }
-    ensures says { (rs : List Row) → seen ≡ seen_in rs → IsHeader text.now rs result }
+    ensures says { (rs : List Row) → seen ≡ seen_in rs → result ≡ header_with text.now form at opening rs }
     ensures pieces { HasPieces text.now result }
 {
     let old = old_tail(form, seen);

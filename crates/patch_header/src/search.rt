@@ -1,14 +1,14 @@
 //! The next header of a patch text.
 
-ghost use Rattle.std.specs.Prelude.{◌≡◌, ◌<◌, ◌≤◌, ◌+◌, ◌^◌, ℕ, Option, Some, None, true, false, List, length, drop};
+ghost use Rattle.std.specs.Prelude.{◌≡◌, ◌↔◌, ◌<◌, ◌≤◌, ◌+◌, ◌^◌, ℕ, Option, Some, None, true, false, List, length, drop};
 ghost use Rattle.line_list.specs.Lines.{lines, IsLineAt};
 ghost use Rattle.hunk_core.specs.declared.Form.{Form};
 ghost use Rattle.patch_header.specs.Content.{has_dot};
 ghost use Rattle.patch_header.specs.Openings.{stop_at};
-ghost use Rattle.patch_header.specs.Steps.{Comes, Lies, KnowsNoDot};
+ghost use Rattle.patch_header.specs.Steps.{Comes, IsFirstOpening, IsFirstBinary, IsEnd, next_step, Lies, KnowsNoDot};
 ghost use Rattle.patch_header.specs.Searching.{HasPassed, IsLawful};
 ghost use Rattle.patch_header.specs.Region.{AllLieIn};
-ghost use Rattle.patch_header.specs.declared.search.HeaderStep.{HeaderStep};
+ghost use Rattle.patch_header.specs.declared.header.Header.{Header};
 
 use crate::header::{Header, header_of};
 use crate::openings::{Stop, lacks_dot, stop_at};
@@ -100,6 +100,7 @@ pub fn header_from(
     requires small { line < 2 ^ 32 }
     requires known { dotless ≡ true → has_dot (lines (drop at text.now)) ≡ false }
     ensures comes { Comes only text.now at line result.0 }
+    ensures exact { result.0 ≡ next_step only text.now at line }
     ensures lies { Lies only text.now at line result.0 }
     ensures known { result.1 ≡ true → KnowsNoDot text.now result.0 }
 {
@@ -123,9 +124,11 @@ pub fn next_header(text: &[u8], at: usize, line: u64, only: Option<Form>) -> Hea
     requires short { length text.now < 2 ^ 32 }
     requires within { at ≤ length text.now }
     requires small { line < 2 ^ 32 }
-    ensures comes { Comes only text.now at line result }
-    // Nothing else comes next.
-    ensures alone { (other : HeaderStep) → Comes only text.now at line other → result ≡ other }
+    ensures found { (h : Header) → (result ≡ HeaderStep.Found h) ↔ IsFirstOpening only text.now at line h }
+    ensures binary { (number : ℕ) → (result ≡ HeaderStep.Binary number) ↔ IsFirstBinary only text.now at line number }
+    ensures end { (result ≡ HeaderStep.End) ↔ IsEnd only text.now at }
+    // The same as a function.
+    ensures exact { result ≡ next_step only text.now at line }
     ensures lies { Lies only text.now at line result }
 {
     header_from(text, at, line, only, false).0

@@ -2,7 +2,7 @@
 
 ghost use Rattle.std.specs.Prelude.{◌≡◌, ◌<◌, ◌≤◌, ◌+◌, ◌^◌, length, IfSome};
 ghost use Rattle.patch_header.specs.Region.{LiesIn};
-ghost use Rattle.patch_header.specs.Values.{blanks, unblanked, name_length, word_length, behind_name, span_at, name_in, word_in, stamp_in, bytes_of, Says, IsPieceOf};
+ghost use Rattle.patch_header.specs.Values.{blanks, unblanked, name_length, word_length, behind_name, span_at, name_in, word_in, stamp_in, bytes_of, IsPieceOf};
 
 use crate::region::Tail;
 use bstr::ByteSlice;
@@ -101,24 +101,16 @@ fn behind_name(bytes: &[u8]) -> &[u8]
     &rest[blanks(rest)..]
 }
 
-/// What stands behind the name of the line.
-fn stamp_bytes(text: &[u8], tail: Option<Tail>) -> &[u8]
-    requires { IfSome tail (LiesIn text.now) }
-    ensures { result.now ≡ stamp_in text.now tail }
-{
-    match tail {
-        None => &[],
-        Some(tail) => {
-            let bytes = &text[tail.start..tail.end];
-            behind_name(&bytes[blanks(bytes)..])
-        }
-    }
-}
-
-/// The stamp of the line.
+/// What the stamp of the line says.
 pub fn stamp_in(text: &[u8], tail: Option<Tail>) -> Stamp
     requires { IfSome tail (LiesIn text.now) }
-    ensures { Says (stamp_in text.now tail) result }
+    ensures { result ≡ stamp_in text.now tail }
 {
-    read_stamp(stamp_bytes(text, tail))
+    match tail {
+        None => Stamp::Unknown,
+        Some(tail) => {
+            let bytes = &text[tail.start..tail.end];
+            read_stamp(behind_name(&bytes[blanks(bytes)..]))
+        }
+    }
 }

@@ -1,8 +1,8 @@
 use Rattle.std.proofs.Common.{◌≡◌, ◌+◌, ◌<◌, ◌≤◌, ◌∙◌, Some, true, length, drop, ap, arith}
 use Rattle.line_list.specs.Lines.{lines}
-use Rattle.patch_header.specs.Openings.{opens, stop_at}
+use Rattle.patch_header.specs.Openings.{admits, begins, opens, stop_at}
 use Rattle.patch_header.specs.declared.openings.Stop.TheVariants.{Opening}
-use Rattle.patch_header.proofs.Stands.{stop-opens}
+use Rattle.patch_header.proofs.Stands.{and_left, and_right, stop-opens}
 use Rattle.patch_header.proofs.Rows.{stands-within}
 use Rattle.patch_header.proofs.search.step_of.Goals as goal
 
@@ -17,10 +17,12 @@ returns-in-Opening-clause-lies c = λ only at line h s.
     let count : here.number + at ≤ line + here.at = h.count in
     let high : here.at < length text = stands-within only text here.at (Opening c.in-Opening.form) c.requires.lawful.within stands in
     let shown : opens only c.in-Opening.form (lines (drop here.at text)) ≡ true = stop-opens only c.in-Opening.form (lines (drop here.at text)) stands in
+    let form : c.header_of.result.form ≡ c.in-Opening.form = c.header_of.ensures.form in
     record {
       low = omega (arith, place, low);
       high = omega (arith, place, high);
       numbers = omega (arith, place, number, count);
-      opens = ap (λ f. opens only f (lines (drop c.header_of.result.at text))) c.header_of.ensures.form ∙ ap (λ p. opens only c.in-Opening.form (lines (drop p text))) place ∙ shown;
+      admitted = ap (admits only) form ∙ and_left (admits only c.in-Opening.form) _ shown;
+      begins = ap (λ f. begins only f (lines (drop c.header_of.result.at text))) form ∙ ap (λ p. begins only c.in-Opening.form (lines (drop p text))) place ∙ and_right (admits only c.in-Opening.form) _ shown;
       pieces = c.header_of.ensures.pieces;
     }
