@@ -126,7 +126,7 @@ content-front (b ∷ c ∷ bytes) n h = by (ends_line (c ∷ bytes)) h
     by true k = rw most at k
     by false k = k
 
-or_cases : (v w : Bool) → (v || w) ≡ true → (v ≡ true) ⊎ (w ≡ true)
+pub or_cases : (v w : Bool) → (v || w) ≡ true → (v ≡ true) ⊎ (w ≡ true)
 or_cases true w h = inl refl
 or_cases false w h = inr h
 

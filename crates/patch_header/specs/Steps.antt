@@ -34,17 +34,17 @@ names_line (Some t) (Some s) opening = t.number
 -- what the header of an opening says, by the lines in front of it
 abbrev pub header_with : List ℕ → Form → ℕ → ℕ → List Row → Header
 header_with text form at opening rs = record {
-    form = form;
-    at = at;
-    opening = opening;
-    names_line = names_line (old_tail form rs) (name_in text (old_tail form rs)) opening;
-    old_name = name_in text (old_tail form rs);
-    new_name = name_in text (new_tail form rs);
-    index = name_in text (last_tail (codes "Index:") rs);
-    prereq = word_in text (last_tail (codes "Prereq:") rs);
-    old_stamp = stamp_in text (old_tail form rs);
-    new_stamp = stamp_in text (new_tail form rs);
-  }
+  form = form;
+  at = at;
+  opening = opening;
+  names_line = names_line (old_tail form rs) (name_in text (old_tail form rs)) opening;
+  old_name = name_in text (old_tail form rs);
+  new_name = name_in text (new_tail form rs);
+  index = name_in text (last_tail (codes "Index:") rs);
+  prereq = word_in text (last_tail (codes "Prereq:") rs);
+  old_stamp = stamp_in text (old_tail form rs);
+  new_stamp = stamp_in text (new_tail form rs);
+}
 
 -- the first that stands at a line from a place on is an opening with this header
 pub record IsFirstOpening (only : Option Form) (text : List ℕ) (at line : ℕ) (h : Header) : Type 0 where
