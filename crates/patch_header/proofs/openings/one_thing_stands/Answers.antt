@@ -1,0 +1,17 @@
+use Rattle.patch_header.proofs.Stands.{alone, not_binary, opening-words, binary-words, nothing-words}
+use Rattle.patch_header.proofs.openings.one_thing_stands.Goals as goal
+
+pub returns-clause-alone : goal.returns-clause-alone
+returns-clause-alone c = alone
+
+pub returns-clause-text : goal.returns-clause-text
+returns-clause-text c = not_binary
+
+pub returns-clause-opening : goal.returns-clause-opening
+returns-clause-opening c = opening-words
+
+pub returns-clause-binary : goal.returns-clause-binary
+returns-clause-binary c = binary-words
+
+pub returns-clause-nothing : goal.returns-clause-nothing
+returns-clause-nothing c = nothing-words

@@ -1,0 +1,12 @@
+use Rattle.patch_header.specs.declared.search.HeaderStep.TheVariants.{Found, Binary, End}
+use Rattle.patch_header.proofs.StepLemmas.{just_that}
+use Rattle.patch_header.proofs.search.next_header.Goals as goal
+
+pub returns-clause-found : goal.returns-clause-found
+returns-clause-found c = λ h. just_that c.args.only c.args.text.now c.args.at c.args.line c.header_from.result.0 (Found h) c.header_from.ensures.comes
+
+pub returns-clause-binary : goal.returns-clause-binary
+returns-clause-binary c = λ n. just_that c.args.only c.args.text.now c.args.at c.args.line c.header_from.result.0 (Binary n) c.header_from.ensures.comes
+
+pub returns-clause-end : goal.returns-clause-end
+returns-clause-end c = just_that c.args.only c.args.text.now c.args.at c.args.line c.header_from.result.0 End c.header_from.ensures.comes

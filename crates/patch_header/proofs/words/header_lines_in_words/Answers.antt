@@ -1,0 +1,32 @@
+use Rattle.patch_header.proofs.Meanings.{last-none, last-words, other-words, blanks-words, all_blanks-words, tab-words, space-words, whole-words, white-words, word-words}
+use Rattle.patch_header.proofs.words.header_lines_in_words.Goals as goal
+
+pub returns-clause-nothing : goal.returns-clause-nothing
+returns-clause-nothing c = last-none
+
+pub returns-clause-last : goal.returns-clause-last
+returns-clause-last c = last-words
+
+pub returns-clause-other : goal.returns-clause-other
+returns-clause-other c = other-words
+
+pub returns-clause-blanks : goal.returns-clause-blanks
+returns-clause-blanks c = blanks-words
+
+pub returns-clause-all_blanks : goal.returns-clause-all_blanks
+returns-clause-all_blanks c = all_blanks-words
+
+pub returns-clause-tab : goal.returns-clause-tab
+returns-clause-tab c = tab-words
+
+pub returns-clause-space : goal.returns-clause-space
+returns-clause-space c = space-words
+
+pub returns-clause-whole : goal.returns-clause-whole
+returns-clause-whole c = whole-words
+
+pub returns-clause-white : goal.returns-clause-white
+returns-clause-white c = white-words
+
+pub returns-clause-word : goal.returns-clause-word
+returns-clause-word c = word-words

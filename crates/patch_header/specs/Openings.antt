@@ -1,0 +1,66 @@
+-- What can stand at a line: the opening of a form, or a binary line.
+use Rattle.std.specs.Prelude.{ℕ, Bool, true, false, not, ◌&&◌, ◌||◌, List, [], ◌∷◌, Option, None, Some, if◌then◌else◌}
+use Rattle.hunk_core.specs.declared.Form.{Form}
+use Rattle.hunk_core.specs.declared.Form.TheVariants.{Unified, Context, Normal, Ed}
+use Rattle.diff_command.specs.declared.Action.TheVariants as actions
+use Rattle.ed_form.specs.declared.command.Command.{Command}
+use Rattle.ed_form.specs.Commands.{parts_at, is_command}
+use Rattle.unified_form.specs.Hunks as unified
+use Rattle.context_form.specs.Openings as context
+use Rattle.normal_form.specs.Hunks as normal
+use Rattle.patch_header.specs.Content.{is_binary, has_dot}
+use Rattle.patch_header.specs.declared.openings.Stop.{Stop}
+use Rattle.patch_header.specs.declared.openings.Stop.TheVariants.{Opening, Binary}
+
+-- a form is admitted where it is the only one that is asked for, or all are
+abbrev pub admits : Option Form → Form → Bool
+admits None form = true
+admits (Some Unified) Unified = true
+admits (Some Context) Context = true
+admits (Some Normal) Normal = true
+admits (Some Ed) Ed = true
+admits (Some only) form = false
+
+-- 'a' or 'c', which text follows
+abbrev pub takes_text : Option Command → Bool
+takes_text None = false
+takes_text (Some c) = elim c.action as (λ _. Bool) [
+  | actions.Add ↦ true
+  | actions.Change ↦ true
+  | actions.Delete ↦ false
+]
+
+-- where all forms are admitted, a command that text follows opens a script only before a line '.'
+abbrev pub asks_dot : Option Form → List ℕ → Bool
+asks_dot None line = takes_text (parts_at line)
+asks_dot (Some only) line = false
+
+-- an ed script opens these lines
+abbrev pub begins_script : Option Form → List (List ℕ) → Bool
+begins_script only [] = false
+begins_script only (line ∷ rest) = is_command line && (not (asks_dot only line) || has_dot rest)
+
+-- a hunk of a form, or an ed script, opens these lines
+abbrev pub begins : Option Form → Form → List (List ℕ) → Bool
+begins only Unified rest = unified.begins_hunk rest
+begins only Context rest = context.begins_hunk rest
+begins only Normal rest = normal.begins_hunk rest
+begins only Ed rest = begins_script only rest
+
+-- an opening of a form that is admitted stands at the first of these lines
+abbrev pub opens : Option Form → Form → List (List ℕ) → Bool
+opens only form rest = admits only form && begins only form rest
+
+-- a binary line is the first of these lines
+abbrev pub begins_binary : List (List ℕ) → Bool
+begins_binary [] = false
+begins_binary (line ∷ rest) = is_binary line
+
+-- what stands at the first of these lines; no line has two of them, so the order of the tests tells nothing
+unfoldable pub stop_at : Option Form → List (List ℕ) → Option Stop
+stop_at only rest = if opens only Unified rest then Some (Opening Unified)
+    else if opens only Context rest then Some (Opening Context)
+    else if opens only Normal rest then Some (Opening Normal)
+    else if opens only Ed rest then Some (Opening Ed)
+    else if begins_binary rest then Some Binary
+    else None

@@ -1,0 +1,116 @@
+//! Names, words and stamps in header lines.
+
+ghost use Rattle.std.specs.Prelude.{◌≡◌, ◌<◌, ◌≤◌, ◌+◌, ◌^◌, length, IfSome};
+ghost use Rattle.patch_header.specs.Region.{LiesIn};
+ghost use Rattle.patch_header.specs.Values.{blanks, unblanked, name_length, word_length, behind_name, span_at, name_in, word_in, stamp_in, bytes_of, IsPieceOf};
+
+use crate::region::Tail;
+use bstr::ByteSlice;
+use line_list::Span;
+use stamp::{Stamp, read_stamp};
+
+/// How many blanks stand in front.
+fn blanks(bytes: &[u8]) -> usize
+    ensures is { result ≡ blanks bytes.now }
+    ensures within { result ≤ length bytes.now }
+{
+    match bytes.find_not_byteset(b" \t") {
+        Some(count) => count,
+        None => bytes.len(),
+    }
+}
+
+/// How long the name in front is.
+fn name_length(bytes: &[u8]) -> usize
+    ensures is { result ≡ name_length bytes.now }
+    ensures within { result ≤ length bytes.now }
+{
+    if let Some(tab) = bytes.find_byte(b'\t') {
+        return tab;
+    }
+    match bytes.find_byte(b' ') {
+        Some(space) => space,
+        None => bytes.len(),
+    }
+}
+
+/// How long the word in front is.
+fn word_length(bytes: &[u8]) -> usize
+    ensures is { result ≡ word_length bytes.now }
+    ensures within { result ≤ length bytes.now }
+{
+    match bytes.find_byteset(b" \t\n\x0b\x0c\r") {
+        Some(end) => end,
+        None => bytes.len(),
+    }
+}
+
+/// A piece of a text of less than 4 GiB, if it has a byte.
+fn span_at(start: usize, len: usize) -> Option<Span>
+    requires { start + len < 2 ^ 32 }
+    ensures { result ≡ span_at start len }
+{
+    if len == 0 {
+        return None;
+    }
+    Some(Span {
+        start: start as u32,
+        end: (start + len) as u32,
+    })
+}
+
+/// The name of the line.
+pub fn name_in(text: &[u8], tail: Option<Tail>) -> Option<Span>
+    requires short { length text.now < 2 ^ 32 }
+    requires lies { IfSome tail (LiesIn text.now) }
+    ensures is { result ≡ name_in text.now tail }
+    ensures piece { IfSome result (IsPieceOf text.now) }
+{
+    match tail {
+        None => None,
+        Some(tail) => {
+            let bytes = &text[tail.start..tail.end];
+            let skipped = blanks(bytes);
+            span_at(tail.start + skipped, name_length(&bytes[skipped..]))
+        }
+    }
+}
+
+/// The word of the line.
+pub fn word_in(text: &[u8], tail: Option<Tail>) -> Option<Span>
+    requires short { length text.now < 2 ^ 32 }
+    requires lies { IfSome tail (LiesIn text.now) }
+    ensures is { result ≡ word_in text.now tail }
+    ensures piece { IfSome result (IsPieceOf text.now) }
+{
+    match tail {
+        None => None,
+        Some(tail) => {
+            let bytes = &text[tail.start..tail.end];
+            let skipped = blanks(bytes);
+            span_at(tail.start + skipped, word_length(&bytes[skipped..]))
+        }
+    }
+}
+
+/// What follows the name and the blanks behind it.
+fn behind_name(bytes: &[u8]) -> &[u8]
+    ensures { result.now ≡ behind_name bytes.now }
+{
+    let rest = &bytes[name_length(bytes)..];
+    &rest[blanks(rest)..]
+}
+
+/// What the stamp of the line says.
+pub fn stamp_in(text: &[u8], tail: Option<Tail>) -> Stamp
+    requires { IfSome tail (LiesIn text.now) }
+    ensures { result ≡ stamp_in text.now tail }
+{
+    match tail {
+        None => Stamp::Unknown,
+        Some(tail) => {
+            let bytes = &text[tail.start..tail.end];
+            read_stamp(behind_name(&bytes[blanks(bytes)..]))
+        }
+    }
+}

@@ -1,0 +1,40 @@
+//! What the definitions of lines, names and words come to, in the words of the manuals.
+
+ghost use Rattle.std.specs.Prelude.{◌≡◌, ◌↔◌, ◌⊎◌, ℕ, List, [], ◌∷◌, ◌++◌, ◌==◌, ◌+◌, length, true, false, not, Some, None, codes};
+ghost use Rattle.std.specs.List.{list_any};
+ghost use Rattle.hunk_core.specs.LineTests.{ends_line};
+ghost use Rattle.patch_header.specs.Content.{content, is_binary, is_dot};
+ghost use Rattle.patch_header.specs.Region.{Row, tail_of, last_tail};
+ghost use Rattle.patch_header.specs.Values.{is_blank, is_white, unblanked, name_length, word_length};
+ghost use Rattle.patch_header.specs.declared.region.Tail.{Tail};
+
+/// Lines that are told by all of them.
+pub fn whole_lines_in_words()
+    // The content of a line is what stands in front of its line feed, or all of it.
+    ensures feed { (front : List ℕ) → content (front ++ 10 ∷ []) ≡ front }
+    ensures no_feed { (line : List ℕ) → ends_line line ≡ false → content line ≡ line }
+    ensures binary { (line : List ℕ) → is_binary line ≡ true ↔ ((content line ≡ codes "GIT binary patch")
+        ⊎ (((rest : List ℕ) × (content line ≡ codes "Binary files " ++ rest)) × ((front : List ℕ) × (content line ≡ front ++ codes " differ")))) }
+    ensures dot { (line : List ℕ) → is_dot line ≡ true ↔ content line ≡ codes "." }
+{}
+
+/// The last line of a kind, and what it says.
+pub fn header_lines_in_words()
+    // The last line that begins with the mark counts, and other lines don't.
+    ensures nothing { (mark : List ℕ) → last_tail mark [] ≡ None }
+    ensures last { (mark rest : List ℕ) (rs : List Row) (r : Row) → content r.line ≡ mark ++ rest
+        → last_tail mark (rs ++ r ∷ []) ≡ Some (record { number = r.number; start = r.start + length mark; end = r.start + length (mark ++ rest) }) }
+    ensures other { (mark : List ℕ) (rs : List Row) (r : Row) → ((rest : List ℕ) → ¬ (content r.line ≡ mark ++ rest))
+        → last_tail mark (rs ++ r ∷ []) ≡ last_tail mark rs }
+    // Blanks in front are skipped.
+    ensures blanks { (front rest : List ℕ) (b : ℕ) → list_any (λ x. not (is_blank x)) front ≡ false → is_blank b ≡ false → unblanked (front ++ b ∷ rest) ≡ b ∷ rest }
+    ensures all_blanks { (front : List ℕ) → list_any (λ x. not (is_blank x)) front ≡ false → unblanked front ≡ [] }
+    // A name ends at the first tab; where there is none, at the first space; else at the end.
+    ensures tab { (name rest : List ℕ) → list_any (λ b. b == 9) name ≡ false → name_length (name ++ 9 ∷ rest) ≡ length name }
+    ensures space { (name rest : List ℕ) → list_any (λ b. b == 9) (name ++ 32 ∷ rest) ≡ false → list_any (λ b. b == 32) name ≡ false
+        → name_length (name ++ 32 ∷ rest) ≡ length name }
+    ensures whole { (name : List ℕ) → list_any (λ b. b == 9) name ≡ false → list_any (λ b. b == 32) name ≡ false → name_length name ≡ length name }
+    // A word ends at the first white space, or at the end.
+    ensures white { (word rest : List ℕ) (b : ℕ) → list_any is_white word ≡ false → is_white b ≡ true → word_length (word ++ b ∷ rest) ≡ length word }
+    ensures word { (word : List ℕ) → list_any is_white word ≡ false → word_length word ≡ length word }
+{}
