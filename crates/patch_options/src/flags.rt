@@ -1,7 +1,7 @@
 //! The command line of `patch`, read by `clap`.
 ghost use Rattle.std.specs.Prelude.{◌≡◌, ◌≢◌, ◌⊎◌, ◌∷◌, [], map, string_bytes, true, false, IfOk, IfErr};
 ghost use Rattle.clap.specs.Words.{app_of, kind_of, new_rule};
-ghost use Rattle.patch_options.specs.Flags.{switch, long_switch, option, long_option, switches, options, operands, Extends, patch_command, takes_words, matched_rows, rows_in};
+ghost use Rattle.patch_options.specs.Flags.{switch, long_switch, option, long_option, switches, options, Extends, patch_command, takes_words, matched_rows, rows_in};
 
 use crate::WordFault;
 use clap::error::ErrorKind;
@@ -37,7 +37,7 @@ fn patch_command<'a>(alloc: Global) -> Result<Command<'a>, AllocError>
     let command = Command::new(alloc, "patch").disable_help_flag(true);
     let command = with_switches(alloc, command)?;
     let command = with_options(alloc, command)?;
-    with_operands(alloc, command)
+    with_operands(alloc, command, "file", "patchfile")
 }
 
 fn with_switches<'a>(alloc: Global, command: Command<'a>) -> Result<Command<'a>, AllocError>
@@ -78,11 +78,17 @@ fn with_options<'a>(alloc: Global, command: Command<'a>) -> Result<Command<'a>, 
     add_long_option(alloc, command, "buffer")
 }
 
-fn with_operands<'a>(alloc: Global, command: Command<'a>) -> Result<Command<'a>, AllocError>
-    ensures { IfOk result (λ c. Extends command.entry operands c) }
+/// Operands stand in the order in which they are added.
+fn with_operands<'a>(
+    alloc: Global,
+    command: Command<'a>,
+    first: &'a str,
+    second: &'a str,
+) -> Result<Command<'a>, AllocError>
+    ensures { IfOk result (λ c. Extends command.entry (new_rule first.entry.now ∷ new_rule second.entry.now ∷ []) c) }
 {
-    let command = add_operand(alloc, command, "file")?;
-    add_operand(alloc, command, "patchfile")
+    let command = add_operand(alloc, command, first)?;
+    add_operand(alloc, command, second)
 }
 
 /// A switch with a letter and a name. Its uses are counted.
