@@ -6,8 +6,11 @@ use std::process::Abort;
 use std::test::Fail;
 
 /// What `patch` alone asks for, as `Debug` shows it.
-const PLAIN: &str =
-    "only: None, strip: None, fuzz: 2, reverse: false, force: false, batch: false, forward: false, loose: false, remove_empty: false, backup: false, mismatch_backup: true, suffix: None, prefix: None, dir: None, file: None, input: Standard, output: None, reject: None, reject_form: None, dry_run: false, silent: false, verbose: false, plan: Auto, buffer: 65536";
+const PLAIN: &str = "only: None, strip: None, fuzz: 2, reverse: false, force: false, \
+    batch: false, forward: false, loose: false, remove_empty: false, backup: false, \
+    mismatch_backup: true, suffix: None, prefix: None, dir: None, file: None, \
+    input: Standard, output: None, reject: None, reject_form: None, dry_run: false, \
+    silent: false, verbose: false, plan: Auto, buffer: 65536";
 
 /// The words of a row. A bar stands between each two.
 fn words_of(alloc: Global, row: &str) -> Result<Vec<String>, Fail> {
@@ -61,6 +64,16 @@ fn assert_rows(rt: &impl Abort, alloc: Global, rows: &str) -> Result<(), Fail> {
     for row in rows.trim().split('\n') {
         assert_row(rt, alloc, row)?;
     }
+    Ok(())
+}
+
+#[test]
+fn plain_words_give_the_defaults(rt: HostRuntime) -> Result<(), Fail> {
+    let words = words_of(rt.alloc(), "patch")?;
+    let Ok(Job::Patch(options)) = read_words(rt.alloc(), &words) else {
+        return Err("no job")?;
+    };
+    assert_eq!(rt; shown(rt.alloc(), &options)?.as_str(), PLAIN);
     Ok(())
 }
 
@@ -135,6 +148,9 @@ patch|--suffix=x => suffix: Some("x")
 patch|-z|.orig => suffix: Some(".orig")
 patch|-z|.. => suffix: Some("..")
 patch|-z|.ptmp~ => suffix: Some(".ptmp~")
+patch|-z|- => suffix: Some("-")
+patch|-z-b => suffix: Some("-b")
+patch|-z|é => suffix: Some("é")
 patch|-z|  => suffix: Some(" ")
 patch|-B|b/ => prefix: Some("b/")
 patch|-Bb => prefix: Some("b")
@@ -174,6 +190,7 @@ patch|--input=a => input: File("a")
 patch|-i|- =>
 patch|-i- =>
 patch|--input=- =>
+patch|-i-x => input: File("-x")
 patch|-i|a|f => file: Some("f") input: File("a")
 patch|-d|d => dir: Some("d")
 patch|-dd => dir: Some("d")
@@ -278,20 +295,27 @@ patch|f|/p => Usage
 patch|f|../p => Usage
 patch|-i| => Usage
 patch|-i|. => Usage
+patch|-i => Usage
+patch|-i|-R => Usage
+patch|-i|-- => Usage
 patch|-i|/x => Usage
 patch|--input=.. => Usage
 patch|-d| => Usage
 patch|-d|./ => Usage
 patch|-d|/x => Usage
 patch|-d|.. => Usage
+patch|-d => Usage
 patch|-o| => Usage
 patch|-o|/x => Usage
 patch|-o|../x => Usage
+patch|-o => Usage
+patch|-o|-R => Usage
 patch|-o|x.ptmp => Usage
 patch|-o|d/.ptmp => Usage
 patch|-r| => Usage
 patch|-r|/x => Usage
 patch|-r|a/../b => Usage
+patch|-r => Usage
 patch|-r|x.ptmp => Usage
 patch|-r|x.ptmp/ => Usage
 "#;
@@ -360,16 +384,19 @@ fn control_bytes_are_refused(rt: HostRuntime) -> Result<(), Fail> {
 /// Each switch twice.
 const TWO_SWITCHES: &str = r#"
 patch|-c|-c => Usage
-patch|-e|--ed => Usage
+patch|-e|-e => Usage
 patch|-n|-n => Usage
 patch|-u|-u => Usage
 patch|-R|-R => Usage
+patch|-f|-f => Usage
 patch|-f|--force => Usage
 patch|-t|-t => Usage
+patch|-N|-N => Usage
 patch|-NN => Usage
 patch|-l|-l => Usage
 patch|-E|-E => Usage
 patch|-b|-b => Usage
+patch|-s|-s => Usage
 patch|-s|--silent => Usage
 patch|-RfR => Usage
 patch|--context|--context => Usage
@@ -431,6 +458,7 @@ patch|--reject-format=context|--reject-format=unified => Usage
 patch|--plan=a|--plan=a => Usage
 patch|--plan=a|--plan=auto => Usage
 patch|--plan=b|--plan=b => Usage
+patch|-b|--plan=b|--plan=b => Usage
 patch|--buffer=512|--buffer=512 => Usage
 patch|-i|a|f|b => Usage
 patch|-i|-|f|- => Usage
@@ -442,26 +470,33 @@ fn a_value_twice_is_refused(rt: HostRuntime) -> Result<(), Fail> {
     assert_rows(&rt, rt.alloc(), TWO_VALUES)
 }
 
-/// Switches that exclude each other.
+/// Switches that exclude each other, forms in each order.
 const EXCLUDED: &str = r#"
-patch|-c|-e => Usage
-patch|-c|-n => Usage
 patch|-c|-u => Usage
-patch|-e|-c => Usage
 patch|-en => Usage
+patch|-c|--context => Usage
+patch|-c|--ed => Usage
+patch|-c|--normal => Usage
+patch|-c|--unified => Usage
+patch|-e|--context => Usage
+patch|-e|--ed => Usage
+patch|-e|--normal => Usage
 patch|-e|--unified => Usage
 patch|-n|--context => Usage
-patch|-n|-e => Usage
-patch|--normal|--unified => Usage
-patch|-u|-c => Usage
+patch|-n|--ed => Usage
+patch|-n|--normal => Usage
+patch|-n|--unified => Usage
+patch|-u|--context => Usage
 patch|-u|--ed => Usage
-patch|-u|-n => Usage
+patch|-u|--normal => Usage
+patch|-u|--unified => Usage
 patch|-cenu => Usage
 patch|--backup-if-mismatch|--no-backup-if-mismatch => Usage
 patch|--no-backup-if-mismatch|--backup-if-mismatch => Usage
 patch|--silent|--verbose => Usage
 patch|-s|--verbose => Usage
 patch|--silent|--quiet => Usage
+patch|-s|--quiet => Usage
 patch|--quiet|-s => Usage
 patch|-s|--quiet|--verbose => Usage
 "#;
