@@ -20,19 +20,39 @@ option letter name = record (new_rule name) { short = Some letter; long = Some n
 abbrev pub long_option : Text → Rule
 long_option name = record (new_rule name) { long = Some name }
 
--- the letters in ASCII: c 99, e 101, n 110, u 117, R 82, f 102, t 116, N 78, l 108, E 69, b 98, s 115
-abbrev pub switches : List Rule
-switches = switch 99 (codes "context") ∷ switch 101 (codes "ed") ∷ switch 110 (codes "normal") ∷ switch 117 (codes "unified")
-    ∷ switch 82 (codes "reverse") ∷ switch 102 (codes "force") ∷ switch 116 (codes "batch") ∷ switch 78 (codes "forward")
-    ∷ switch 108 (codes "ignore-whitespace") ∷ switch 69 (codes "remove-empty-files") ∷ switch 98 (codes "backup")
-    ∷ long_switch (codes "backup-if-mismatch") ∷ long_switch (codes "no-backup-if-mismatch") ∷ long_switch (codes "dry-run")
-    ∷ switch 115 (codes "silent") ∷ long_switch (codes "quiet") ∷ long_switch (codes "verbose") ∷ []
+-- one form alone; the letters in ASCII: c 99, e 101, n 110, u 117
+abbrev pub form_switches : List Rule
+form_switches = switch 99 (codes "context") ∷ switch 101 (codes "ed") ∷ switch 110 (codes "normal") ∷ switch 117 (codes "unified") ∷ []
 
--- p 112, F 70, z 122, B 66, d 100, i 105, o 111, r 114
+-- R 82, f 102, t 116, N 78
+abbrev pub way_switches : List Rule
+way_switches = switch 82 (codes "reverse") ∷ switch 102 (codes "force") ∷ switch 116 (codes "batch") ∷ switch 78 (codes "forward") ∷ []
+
+-- l 108, E 69, b 98
+abbrev pub file_switches : List Rule
+file_switches = switch 108 (codes "ignore-whitespace") ∷ switch 69 (codes "remove-empty-files") ∷ switch 98 (codes "backup")
+    ∷ long_switch (codes "backup-if-mismatch") ∷ long_switch (codes "no-backup-if-mismatch") ∷ []
+
+-- s 115
+abbrev pub report_switches : List Rule
+report_switches = long_switch (codes "dry-run") ∷ switch 115 (codes "silent") ∷ long_switch (codes "quiet") ∷ long_switch (codes "verbose") ∷ []
+
+abbrev pub switches : List Rule
+switches = ((form_switches ++ way_switches) ++ file_switches) ++ report_switches
+
+-- p 112, F 70, z 122, B 66
+abbrev pub text_options : List Rule
+text_options = option 112 (codes "strip") ∷ option 70 (codes "fuzz") ∷ option 122 (codes "suffix") ∷ option 66 (codes "prefix") ∷ []
+
+-- d 100, i 105, o 111, r 114
+abbrev pub name_options : List Rule
+name_options = option 100 (codes "directory") ∷ option 105 (codes "input") ∷ option 111 (codes "output") ∷ option 114 (codes "reject-file") ∷ []
+
+abbrev pub long_options : List Rule
+long_options = long_option (codes "reject-format") ∷ long_option (codes "plan") ∷ long_option (codes "buffer") ∷ []
+
 abbrev pub options : List Rule
-options = option 112 (codes "strip") ∷ option 70 (codes "fuzz") ∷ option 122 (codes "suffix") ∷ option 66 (codes "prefix")
-    ∷ option 100 (codes "directory") ∷ option 105 (codes "input") ∷ option 111 (codes "output") ∷ option 114 (codes "reject-file")
-    ∷ long_option (codes "reject-format") ∷ long_option (codes "plan") ∷ long_option (codes "buffer") ∷ []
+options = (text_options ++ name_options) ++ long_options
 
 abbrev pub operands : List Rule
 operands = new_rule (codes "file") ∷ new_rule (codes "patchfile") ∷ []

@@ -3,6 +3,7 @@
 use hunk_core::Form;
 use outside::Name;
 use std::alloc::{AllocError, AllocFailed};
+use thiserror::Error;
 
 /// Where the patch text comes from.
 #[derive(Drop, Debug)]
@@ -71,13 +72,15 @@ pub enum Job {
     Patch(Options),
 }
 
-/// Why words give no job.
-#[derive(Clone, Copy, Debug, PartialEq, Eq)]
+/// Why words give no job. No message comes from its text.
+#[derive(Clone, Copy, Debug, PartialEq, Eq, Error)]
 pub enum WordFault {
-    /// They are not a command.
+    #[error("the words are not a command")]
     Usage,
-    /// They name a tool or a plan that isn't built yet.
+    /// A tool or a plan that isn't built yet.
+    #[error("the words name what isn't built yet")]
     Unsupported,
+    #[error("out of memory")]
     Memory,
 }
 
