@@ -1,7 +1,7 @@
 -- A fault stays whatever lines come after its own, but for a text without its end.
 use Rattle.std.proofs.Common.{◌≡◌, ◌≢◌, ◌⊎◌, inl, inr, ℕ, zero, suc, ◌+◌, ◌-◌, ◌≤◌, ◌<◌, ◌^◌, Bool, true, false, cond, ltb, List, [], ◌∷◌, ◌++◌, length, Option, None, Some, Result, Ok, Err, refl, sym, ap, subst, ◌∙◌, append_assoc, arith}
 use Rattle.std.proofs.lemmas.Bool.{cases_lt}
-use Rattle.std.proofs.lemmas.List.{append-nil}
+use Rattle.std.proofs.lemmas.List.{length-append, append-nil}
 use Rattle.hunk_core.specs.declared.BadKind.{BadKind}
 use Rattle.hunk_core.specs.declared.BadKind.TheVariants as kinds
 use Rattle.hunk_core.specs.Reading.{◌>>=◌, Fault, fault, Ahead, ahead}
@@ -16,13 +16,13 @@ use Rattle.ed_form.specs.Commands.{begins_script, is_bad_range, heading, is_too_
 use Rattle.ed_form.specs.PlainEdit.{PlainEdit, lowest}
 use Rattle.ed_form.specs.Texts.{is_dot, is_open, is_taken, step, closed, text_at}
 use Rattle.ed_form.specs.Scripts.{at_line, added_at, edit, first_edit, edit_at, begins_substitution, no_edits, edits_at, reading}
-use Rattle.ed_form.specs.Grammar.{HaveNoDot, IsPiece}
+use Rattle.ed_form.specs.Grammar.{HaveNoDot, SpellsEdit, IsPiece, StandsBehind}
 use Rattle.ed_form.specs.FirstFault.{AgreeTo}
 use Rattle.ed_form.proofs.TextLoops.{text-takes, text-stops}
 use Rattle.ed_form.proofs.TextGrammar.{text-dot, text-run, ended-stops}
 use Rattle.ed_form.proofs.Counts.{edit-parts, edit-counts, text-counts}
 use Rattle.ed_form.proofs.EditLoops.{edits_step, some_lines, no_more}
-use Rattle.ed_form.proofs.Pieces.{reading_again}
+use Rattle.ed_form.proofs.Pieces.{TakesEdit, edit_takes, reading_again}
 
 abbrev failed : {A : Type 0} → Fault → Result A Fault
 failed e = Err e
@@ -507,7 +507,38 @@ edits_ended (suc most) most2 below p dot others e fuel enough h is dotted clean 
       | inr none ↦ absurd (let bad : kinds.EdCommand ≡ kinds.EdNoDot = ap (λ (x : Fault). x.kind) none.2 ∙ is in cc)
     ]
 
+-- ---- what stands before a fault
+
+behind-first : (below number : ℕ) (lines : List (List ℕ)) (at : ℕ) → 0 < length lines → at ≡ number → StandsBehind below number lines at
+behind-first below number lines at some same = record { own = []; es = []; rest = lines; parts = refl; some = some; spelled = refl; counted = omega (arith, same) }
+
+behind-more : (below : ℕ) (p : Ahead) (x : PlainEdit × Ahead) (at : ℕ) → TakesEdit below p x → StandsBehind (lowest x.0) x.1.number x.1.rest at → StandsBehind below p.number p.rest at
+behind-more below p x at t b = record {
+  own = t.own ++ b.own;
+  es = x.0 ∷ b.es;
+  rest = b.rest;
+  parts = t.parts ∙ ap (λ (r : List (List ℕ)). t.own ++ r) b.parts ∙ sym (append_assoc t.own b.own b.rest);
+  some = b.some;
+  spelled = (t.own, b.own, refl, subst (SpellsEdit below t.own x.0) b.parts t.spelled, b.spelled);
+  counted = omega (arith, t.number, b.counted, length-append t.own b.own);
+}
+
+edits_behind : (most below : ℕ) (p : Ahead) (e : Fault) → edits_at most below p ≡ Err e → StandsBehind below p.number p.rest e.line
+edits_behind zero below p e h = behind-first below p.number p.rest e.line (some_rest zero below p e h) (sym (ap (λ (x : Fault). x.line) (last-fail below p e h).1))
+edits_behind (suc most) below p e h =
+    let some = some_rest (suc most) below p e h in
+    elim (edits-fail most below p e h) [
+      | inl failed_edit ↦ elim failed_edit [
+        | inl first ↦ behind-first below p.number p.rest e.line some (edit-low below p.number p.rest e first.1)
+        | inr later ↦ behind-more below p later.1 e.line (edit_takes below p.number p.rest later.1 later.2) (edits_behind most (lowest later.1.0) later.1.1 e later.3)
+      ]
+      | inr none ↦ behind-first below p.number p.rest e.line some (sym (ap (λ (x : Fault). x.line) none.2))
+    ]
+
 -- ---- the whole
+
+pub fault-behind : (number : ℕ) (lines : List (List ℕ)) (e : Fault) → reading number lines ≡ Err e → StandsBehind (2 ^ 32) number lines e.line
+fault-behind number lines e h = edits_behind (length lines) (2 ^ 32) (ahead number lines) e h
 
 pub fault-stays : (number : ℕ) (lines others : List (List ℕ)) (e : Fault) → reading number lines ≡ Err e → e.kind ≢ kinds.EdNoDot → AgreeTo e.line number lines others → reading number others ≡ Err e
 fault-stays number lines others e h ne agree = edits_stay (length lines) (length others) (2 ^ 32) (ahead number lines) others e (omega arith) (omega arith) h ne agree

@@ -50,7 +50,7 @@ heading c = record { action = c.action; first = start c.action c.range; last = c
 abbrev pub is_too_large : Heading → Bool
 is_too_large h = nat_lt 4294967295 h.first || nat_lt 4294967295 h.last
 
--- its numbers are no longer than an edit's
+-- no number is above the greatest
 pub record Fits (h : Heading) : Type 0 where
   pub first : h.first < 2 ^ 32
   pub last : h.last < 2 ^ 32

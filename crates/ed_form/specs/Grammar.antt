@@ -101,3 +101,13 @@ pub record IsPiece (number : ℕ) (lines : List (List ℕ)) (es : List PlainEdit
   pub spelled : SpellsEdits (2 ^ 32) own es rest
   pub ends : EndsPiece rest
   pub counted : next ≡ number + length own
+
+-- the line with this number stands behind whole edits
+pub record StandsBehind (below number : ℕ) (lines : List (List ℕ)) (at : ℕ) : Type 0 where
+  pub own : List (List ℕ)
+  pub es : List PlainEdit
+  pub rest : List (List ℕ)
+  pub parts : lines ≡ own ++ rest
+  pub some : 0 < length rest
+  pub spelled : SpellsEdits below own es rest
+  pub counted : at ≡ number + length own

@@ -1,8 +1,7 @@
 //! The text of a command.
 
-ghost use Rattle.std.specs.Prelude.{◌≡◌, ◌↔◌, ◌⊎◌, ◌+◌, ◌<◌, ◌≤◌, ◌^◌, ℕ, List, [], ◌∷◌, ◌++◌, true, false, length, vec_len, drop, slice_range, IfOk, IfErr, MatchOption, All, is_some};
+ghost use Rattle.std.specs.Prelude.{◌≡◌, ◌+◌, ◌<◌, ◌≤◌, ◌^◌, [], true, false, length, vec_len, drop, slice_range, IfOk, IfErr, MatchOption, All};
 ghost use Rattle.line_list.specs.Lines.{lines, IsLineAt};
-ghost use Rattle.hunk_core.specs.LineTests.{after};
 ghost use Rattle.hunk_core.specs.PlainHunk.{bytes_at};
 ghost use Rattle.hunk_core.specs.Reading.{Gives, IsPlace, ahead_of};
 ghost use Rattle.hunk_core.specs.Turned.{LiesIn};

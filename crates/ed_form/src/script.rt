@@ -9,7 +9,7 @@ ghost use Rattle.ed_form.specs.Commands.{is_command, begins_script};
 ghost use Rattle.ed_form.specs.PlainEdit.{PlainEdit, edit_of, edits_of, IsLawfulScript};
 ghost use Rattle.ed_form.specs.Texts.{is_dot, is_word, is_substitution};
 ghost use Rattle.ed_form.specs.Scripts.{edit_at, begins_substitution, reading, read_of, these};
-ghost use Rattle.ed_form.specs.Grammar.{IsCommand, HaveNoDot, SpellsEdits, IsPiece};
+ghost use Rattle.ed_form.specs.Grammar.{IsCommand, HaveNoDot, SpellsEdits, IsPiece, StandsBehind};
 ghost use Rattle.ed_form.specs.FirstFault.{AgreeTo};
 
 use crate::added::{read_added, substitutes};
@@ -132,8 +132,8 @@ fn read_all(alloc: Global, text: &[u8], at: usize, line: u64) -> Result<EdScript
     })
 }
 
-/// The ed script at `at`, where the line has this number. No editor is started: a script of other
-/// commands than `a`, `c`, `d` and the `s/.//` of `diff -e` is refused.
+/// The ed script at `at`, where the line has this number. It is read alone, and no editor is started.
+/// Another substitution than the `s/.//` of `diff -e` is refused; any other line that is no command ends it.
 pub fn read_script(alloc: Global, text: &[u8], at: usize, line: u64) -> Result<EdScript, FormFault>
     requires short { length text.now < 2 ^ 32 }
     requires within { at ≤ length text.now }
@@ -160,6 +160,8 @@ pub fn read_script(alloc: Global, text: &[u8], at: usize, line: u64) -> Result<E
 /// What makes a fault the first one. A fault is fixed by the lines up to its own, but for a text without
 /// its `.`, which is a fault of the line of its command and depends on all that follows.
 pub fn first_faults()
+    // Before its line stand whole edits.
+    ensures behind { (number : ℕ) (lines : List (List ℕ)) (e : Fault) → reading number lines ≡ Err e → StandsBehind (2 ^ 32) number lines e.line }
     // It stays whatever lines come later.
     ensures stays { (number : ℕ) (lines others : List (List ℕ)) (e : Fault) → reading number lines ≡ Err e → e.kind ≢ BadKind.EdNoDot
         → AgreeTo e.line number lines others → reading number others ≡ Err e }

@@ -1,5 +1,8 @@
-use Rattle.ed_form.proofs.FirstFault.{fault-stays, fault-unspelled, fault-late, fault-endless, fault-ended}
+use Rattle.ed_form.proofs.FirstFault.{fault-behind, fault-stays, fault-unspelled, fault-late, fault-endless, fault-ended}
 use Rattle.ed_form.proofs.script.first_faults.Goals as goal
+
+pub returns-clause-behind : goal.returns-clause-behind
+returns-clause-behind c = fault-behind
 
 pub returns-clause-stays : goal.returns-clause-stays
 returns-clause-stays c = fault-stays
