@@ -1,0 +1,64 @@
+-- Which side of a file patch is no file: what it creates, and what it deletes (POSIX `patch`, "Filename Determination"; GNU patch manual, "Creating and Removing Files").
+use Rattle.std.specs.Prelude.{◌≡◌, ℕ, Bool, true, false, ◌&&◌, ◌||◌, ◌==◌, List, [], ◌∷◌, length, Option, None, Some, bytes_eq, codes, ℤ, pos, negsuc}
+use Rattle.hunk_core.specs.declared.Side.{Side}
+use Rattle.hunk_core.specs.declared.Side.TheVariants.{Forward, Reversed}
+use Rattle.hunk_core.specs.PlainHunk.{PlainHunk, lines_on}
+use Rattle.hunk_core.specs.Turned.{other_side}
+use Rattle.stamp.specs.declared.Stamp.{Stamp}
+use Rattle.stamp.specs.declared.Stamp.TheVariants.{Instant, Unknown}
+use Rattle.file_patch.specs.declared.FilePatch.{FilePatch}
+use Rattle.file_patch.specs.PlainPatch.{PlainHeader, PlainChange, PlainPatch, hunks, script, patch_of, IsLawfulChange}
+
+-- the name and the stamp of the side that is taken as old
+abbrev pub name_on : Side → PlainHeader → Option (List ℕ)
+name_on Forward h = h.old_name
+name_on Reversed h = h.new_name
+
+abbrev pub stamp_on : Side → PlainHeader → Stamp
+stamp_on Forward h = h.old_stamp
+stamp_on Reversed h = h.new_stamp
+
+-- `/dev/null`
+abbrev pub is_null : Option (List ℕ) → Bool
+is_null None = false
+is_null (Some name) = bytes_eq name (codes "/dev/null")
+
+-- 1970-01-01 00:00:00 UTC
+abbrev pub is_zero : ℤ → Bool
+is_zero (pos n) = n == 0
+is_zero (negsuc n) = false
+
+abbrev pub is_epoch : Stamp → Bool
+is_epoch (Instant seconds) = is_zero seconds
+is_epoch Unknown = false
+
+-- there is one hunk, which has no line on this side
+abbrev pub is_one_empty : Side → List PlainHunk → Bool
+is_one_empty side [] = false
+is_one_empty side (h ∷ []) = length (lines_on side h.body) == 0
+is_one_empty side (h ∷ i ∷ hs) = false
+
+abbrev pub is_empty_on : Side → PlainChange → Bool
+is_empty_on side (hunks hs) = is_one_empty side hs
+is_empty_on side (script es) = false
+
+-- the side is no file: it is named `/dev/null`, or the one hunk has no line of it and its stamp is the epoch
+abbrev pub is_absent : Side → PlainPatch → Bool
+is_absent side p = is_null (name_on side p.header) || (is_empty_on side p.change && is_epoch (stamp_on side p.header))
+
+-- what the file patch says of the side that is taken as old
+abbrev pub told_absent : Side → FilePatch → Bool
+told_absent Forward p = p.old_absent
+told_absent Reversed p = p.new_absent
+
+-- taken from this side, the file patch makes a file, and takes one away
+abbrev pub creates : Side → PlainPatch → Bool
+creates side p = is_absent side p
+
+abbrev pub deletes : Side → PlainPatch → Bool
+deletes side p = is_absent (other_side side) p
+
+-- what a reader gives: a lawful change, and what is said of the sides holds
+pub record IsLawfulPatch (text : List ℕ) (p : FilePatch) : Type 0 where
+  pub change : IsLawfulChange text p.change
+  pub absent : (side : Side) → told_absent side p ≡ is_absent side (patch_of text p)

@@ -1,0 +1,2 @@
+pub mod PlainPatch
+pub mod Absent

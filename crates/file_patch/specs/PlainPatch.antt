@@ -1,0 +1,83 @@
+-- A file patch apart from where its lines lie: what its header says, and its hunks or its script.
+use Rattle.std.specs.Prelude.{◌≡◌, ℕ, ◌<◌, ◌^◌, List, length, sum_by, All, Option, option_map}
+use Rattle.line_list.specs.declared.Span.{Span}
+use Rattle.hunk_core.specs.declared.Form.{Form}
+use Rattle.hunk_core.specs.declared.Hunk.{Hunk}
+use Rattle.hunk_core.specs.PlainHunk.{PlainHunk, bytes_at, hunks_of}
+use Rattle.hunk_core.specs.Turned.{IsLawful}
+use Rattle.stamp.specs.declared.Stamp.{Stamp}
+use Rattle.ed_form.specs.PlainEdit.{PlainEdit, edits_of, IsLawfulScript}
+use Rattle.patch_header.specs.declared.header.Header.{Header}
+use Rattle.file_patch.specs.declared.Change.{Change}
+use Rattle.file_patch.specs.declared.Change.TheVariants.{Hunks, Script}
+use Rattle.file_patch.specs.declared.FilePatch.{FilePatch}
+
+-- what a header says
+pub record PlainHeader : Type 0 where
+  pub form : Form
+  -- the number of the opening's line, and of the old name's line or else of the opening
+  pub opening : ℕ
+  pub names_line : ℕ
+  pub old_name : Option (List ℕ)
+  pub new_name : Option (List ℕ)
+  pub index : Option (List ℕ)
+  pub prereq : Option (List ℕ)
+  pub old_stamp : Stamp
+  pub new_stamp : Stamp
+
+-- hunks, or the edits of an ed script
+pub data PlainChange : Type 0 where
+  hunks : List PlainHunk → PlainChange
+  script : List PlainEdit → PlainChange
+
+pub record PlainPatch : Type 0 where
+  pub header : PlainHeader
+  pub change : PlainChange
+
+-- the bytes of a span that may not be there
+abbrev pub bytes_in : List ℕ → Option Span → Option (List ℕ)
+bytes_in text span = option_map (bytes_at text) span
+
+-- what a header stands for over a text
+abbrev pub header_of : List ℕ → Header → PlainHeader
+header_of text h = record {
+  form = h.form;
+  opening = h.opening;
+  names_line = h.names_line;
+  old_name = bytes_in text h.old_name;
+  new_name = bytes_in text h.new_name;
+  index = bytes_in text h.index;
+  prereq = bytes_in text h.prereq;
+  old_stamp = h.old_stamp;
+  new_stamp = h.new_stamp;
+}
+
+-- what a change stands for
+abbrev pub change_of : List ℕ → Change → PlainChange
+change_of text (Hunks hs) = hunks (hunks_of text hs.items)
+change_of text (Script s) = script (edits_of text s.edits.items)
+
+-- what a file patch stands for
+abbrev pub patch_of : List ℕ → FilePatch → PlainPatch
+patch_of text p = record { header = header_of text p.header; change = change_of text p.change }
+
+-- how many hunks a change has; an ed script counts as one
+abbrev pub hunk_count : PlainChange → ℕ
+hunk_count (hunks hs) = length hs
+hunk_count (script es) = 1
+
+-- the same, told by the change itself
+abbrev pub row_count : Change → ℕ
+row_count (Hunks hs) = length hs.items
+row_count (Script s) = 1
+
+-- hunks that lie in the text, and can be counted with all their lines
+pub record AreLawfulHunks (text : List ℕ) (hs : List Hunk) : Type 0 where
+  pub count : length hs < 2 ^ 32
+  pub few : sum_by (λ x. length x.body.items) hs < 2 ^ 32
+  pub lawful : All (IsLawful text) hs
+
+-- lawful hunks, or a script of one edit or more
+abbrev pub IsLawfulChange : List ℕ → Change → Type 0
+IsLawfulChange text (Hunks hs) = AreLawfulHunks text hs.items
+IsLawfulChange text (Script s) = IsLawfulScript text s

@@ -1,0 +1,19 @@
+use Rattle.std.proofs.Common.{length, true, refl, ◌≡◌, ◌∙◌, arith}
+use Rattle.outside.proofs.Views.{untouched_both}
+use Rattle.name_choice.specs.Choice.{new_directories, names_of}
+use Rattle.name_choice.proofs.Walked.{walk-more, named-at, names-count, new-end}
+use Rattle.name_choice.proofs.search.best_new.Goals as goal
+
+pub returns-in_err-missing-clause-untouched : goal.returns-in_err-missing-clause-untouched
+returns-in_err-missing-clause-untouched g c = untouched_both c.loop-place.invariant.untouched c.in_err-missing.ensures.untouched
+
+pub loop-place-preserved : goal.loop-place-preserved
+loop-place-preserved g c =
+    let t = c.index-targets-place.result in
+    rw c.best_with-best.ensures
+    (walk-more _ _ _ (λ files name. true) new_directories (names_of c.args.targets.now) c.loop-place.place c.loop-place.best true c.in_ok-missing.missing t.name
+    c.loop-place.invariant c.in_ok-missing.ensures.untouched (λ files told. refl) c.in_ok-missing.ensures.count
+    (named-at c.args.targets.now c.loop-place.place t (omega arith) c.index-targets-place.is))
+
+pub returns-clause-best : goal.returns-clause-best
+returns-clause-best g c = λ files told. c.place_of.ensures ∙ new-end _ _ (names_of c.args.targets.now) c.loop-place.place c.loop-place.best c.loop-place.invariant (let a : c.loop-place.place ≡ length c.args.targets.now = omega arith in a ∙ names-count c.args.targets.now) files told
