@@ -1,6 +1,6 @@
 -- The definitions in words.
-use Rattle.std.proofs.Common.{◌≡◌, ◌≢◌, ◌⊎◌, inl, inr, ◌↔◌, ℕ, suc, ◌+◌, ◌-◌, ◌<◌, ◌≤◌, Bool, true, false, cond, not, ◌&&◌, ◌||◌, eqb, ltb, List, [], ◌∷◌, ◌++◌, length, take, drop, Option, None, Some, refl, sym, ap, subst, ◌∙◌, arith, length-append}
-use Rattle.std.specs.Prelude.{is_some, unwrap_or, codes, nat_eq, bytes_eq, reverse}
+use Rattle.std.proofs.Common.{◌≡◌, ◌⊎◌, inl, inr, ◌↔◌, ℕ, ◌+◌, ◌-◌, Bool, true, false, cond, not, ◌&&◌, ◌||◌, eqb, ltb, List, [], ◌∷◌, ◌++◌, length, take, drop, Option, None, Some, refl, ap, ◌∙◌, arith, length-append}
+use Rattle.std.specs.Prelude.{is_some, unwrap_or, codes, nat_eq, bytes_eq}
 use Rattle.std.specs.List.{list_any, position, position_or_len, ends_with}
 use Rattle.std.proofs.lemmas.Bool.Decides.{Decides-eqb}
 use Rattle.std.proofs.lemmas.Slice.Eq.{bytes_eq-Decides, ends_is}
@@ -10,7 +10,6 @@ use Rattle.hunk_core.proofs.TextLemmas.{prefix-words, has_some, ends-behind}
 use Rattle.patch_header.specs.Content.{content, is_binary, is_dot}
 use Rattle.patch_header.specs.Region.{Row, tail_of, first_some, last_tail}
 use Rattle.patch_header.specs.Values.{is_blank, is_white, first, blanks, unblanked, name_length, word_length}
-use Rattle.patch_header.specs.declared.region.Tail.{Tail}
 use Rattle.patch_header.proofs.Stands.{and_left, and_right, or_cases}
 
 -- ---- lines

@@ -1,12 +1,11 @@
 -- What comes next is one thing: the step that the function gives.
-use Rattle.std.proofs.Common.{◌≡◌, ◌↔◌, ℕ, ◌+◌, true, cond, List, [], ◌∷◌, ◌++◌, length, drop, Option, None, Some, refl, sym, ap, subst, ◌∙◌}
-use Rattle.std.specs.Prelude.{sum_by, is_some}
+use Rattle.std.proofs.Common.{◌≡◌, ◌↔◌, ℕ, ◌+◌, List, [], ◌∷◌, ◌++◌, length, drop, Option, None, Some, refl, sym, ap, subst, ◌∙◌}
 use Rattle.std.proofs.lemmas.List.{append-nil}
 use Rattle.line_list.specs.Lines.{lines}
 use Rattle.hunk_core.specs.declared.Form.{Form}
 use Rattle.patch_header.specs.Openings.{stop_at}
 use Rattle.patch_header.specs.Region.{rows}
-use Rattle.patch_header.specs.Steps.{AreQuiet, IsRegion, IsFirstOpening, IsFirstBinary, IsEnd, Comes, header_with, region_of, first_stop, step_behind, next_step}
+use Rattle.patch_header.specs.Steps.{AreQuiet, IsRegion, Comes, header_with, region_of, first_stop, step_behind, next_step}
 use Rattle.patch_header.specs.declared.openings.Stop.{Stop}
 use Rattle.patch_header.specs.declared.openings.Stop.TheVariants as stops
 use Rattle.patch_header.specs.declared.search.HeaderStep.{HeaderStep}

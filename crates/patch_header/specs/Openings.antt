@@ -2,6 +2,7 @@
 use Rattle.std.specs.Prelude.{ℕ, Bool, true, false, not, ◌&&◌, ◌||◌, List, [], ◌∷◌, Option, None, Some, if◌then◌else◌}
 use Rattle.hunk_core.specs.declared.Form.{Form}
 use Rattle.hunk_core.specs.declared.Form.TheVariants.{Unified, Context, Normal, Ed}
+use Rattle.diff_command.specs.declared.Action.{Action}
 use Rattle.diff_command.specs.declared.Action.TheVariants as actions
 use Rattle.ed_form.specs.declared.command.Command.{Command}
 use Rattle.ed_form.specs.Commands.{parts_at, is_command}
@@ -21,16 +22,18 @@ admits (Some Normal) Normal = true
 admits (Some Ed) Ed = true
 admits (Some only) form = false
 
--- 'a' or 'c', which text follows
+-- text follows 'a' and 'c'
+abbrev pub has_text : Action → Bool
+has_text actions.Add = true
+has_text actions.Change = true
+has_text actions.Delete = false
+
+-- a command that text follows
 abbrev pub takes_text : Option Command → Bool
 takes_text None = false
-takes_text (Some c) = elim c.action as (λ _. Bool) [
-  | actions.Add ↦ true
-  | actions.Change ↦ true
-  | actions.Delete ↦ false
-]
+takes_text (Some c) = has_text c.action
 
--- where all forms are admitted, a command that text follows opens a script only before a line '.'
+-- where all forms are admitted, a command that text follows opens a script only before a line '.'; where ed scripts alone are asked for, each command opens one
 abbrev pub asks_dot : Option Form → List ℕ → Bool
 asks_dot None line = takes_text (parts_at line)
 asks_dot (Some only) line = false

@@ -1,5 +1,5 @@
 -- The name, the word and the stamp behind the beginning of a header line (POSIX `patch`, "Filename Determination"; GNU diffutils manual, "Detailed Description of Unified Format").
-use Rattle.std.specs.Prelude.{◌≡◌, ◌↔◌, ℕ, ◌+◌, ◌<◌, ◌≤◌, Bool, not, ◌||◌, ◌==◌, List, [], length, drop, slice_range, unwrap_or, Option, None, Some, ℤ, if◌then◌else◌}
+use Rattle.std.specs.Prelude.{ℕ, ◌+◌, ◌<◌, ◌≤◌, Bool, not, ◌||◌, ◌==◌, List, length, drop, slice_range, unwrap_or, Option, None, Some, if◌then◌else◌}
 use Rattle.std.specs.List.{position}
 use Rattle.line_list.specs.declared.Span.{Span}
 use Rattle.stamp.specs.Reading.{stamp_of}

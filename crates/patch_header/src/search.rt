@@ -83,11 +83,10 @@ fn begin(at: usize, line: u64) -> Search
     }
 }
 
-/// The same as `next_header`, by one who may know that no line from `at` on is `.`, and who is told so
-/// of what is behind the lines that were passed. A text is looked through for a dot once: from the first
-/// `1a` that stands where a script could open. Where a dot is found the script opens, and goes on up to
-/// it at least; where none is found, none is looked for again. So all headers of a text are found in
-/// linear time.
+/// The same as `next_header`, for one who may know that no line from `at` on is `.`, and who is told
+/// where no line from the opening on is. A line as `1a` sends the search ahead for a dot. Where one is
+/// found a script opens, which goes on up to it at least; where none is found, none is looked for again.
+/// So a caller who hands on what it was told finds all headers of a text in linear time.
 pub fn header_from(
     text: &[u8],
     at: usize,
@@ -117,9 +116,11 @@ pub fn header_from(
     (HeaderStep::End, known)
 }
 
-/// What comes next from `at` on, where the line has this number: the first line at which an opening of a
-/// form stands (of this one form, where `only` names it) or that is a binary line. The lines from `at` up
-/// to an opening are read for names and stamps. `Lies` says where they lie.
+/// What comes next from `at` on, where a line begins, which has this number: the first line at which an
+/// opening of a form stands (of this one form, where `only` names it) or that is a binary line. The lines
+/// from `at` up to an opening are read for names and stamps (POSIX `patch`, "Filename Determination").
+/// Each line is passed once, and the lines behind are looked through for a dot once at most; where
+/// headers follow one another in a text without a dot, `header_from` spares that look.
 pub fn next_header(text: &[u8], at: usize, line: u64, only: Option<Form>) -> HeaderStep
     requires short { length text.now < 2 ^ 32 }
     requires within { at ≤ length text.now }

@@ -1,4 +1,4 @@
-use Rattle.std.proofs.Common.{◌≡◌, ◌∙◌, Some, length, drop, sym}
+use Rattle.std.proofs.Common.{◌≡◌, ◌∙◌, Some, drop, sym}
 use Rattle.line_list.specs.Lines.{lines}
 use Rattle.patch_header.specs.Openings.{stop_at}
 use Rattle.patch_header.specs.declared.search.HeaderStep.TheVariants.{End}
