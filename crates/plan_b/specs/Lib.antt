@@ -1,0 +1,5 @@
+pub mod Pages
+pub mod Layout
+pub mod Held
+pub mod Reading
+pub mod Filling

@@ -1,0 +1,89 @@
+//! A plan that holds a file's lines as padded records in a scratch, and lends them through two pages.
+#![tactic(auto)]
+
+ghost use Rattle.std.specs.Prelude.{◌≡◌, ◌≢◌, ◌≤◌, ◌-◌, ℕ, List, [], false, None, Some, IfErr, OnOk, OnErr};
+ghost use Rattle.line_store.specs.declared.Half.{Half};
+ghost use Rattle.line_store.specs.Taking.{IsReset, IsEmpty};
+ghost use Rattle.page_pair.specs.Pair.{page_of, IsPair};
+ghost use Rattle.plan_b.specs.Held.{IsHeld};
+
+mod layout;
+mod loading;
+mod record;
+
+use crate::layout::Layout;
+use crate::loading::load_line;
+use crate::record::line_of;
+use line_store::{Half, Halves, LineFault, LineStore};
+use outside::Scratch;
+use page_pair::PagePair;
+
+/// The lines of a file as records on padded pages of a scratch. Each half of the pair holds one of the pages.
+#[derive(Drop)]
+pub struct PlanB<C: Scratch> {
+    pair: PagePair,
+    scratch: C,
+    layout: Layout,
+    halves: Halves,
+    ghost held: { IsHeld pair layout halves (C.view scratch) },
+}
+
+impl<C: Scratch> PlanB<C> {
+    /// A plan that stands for no lines. It takes no memory beyond its pages.
+    pub fn new(pair: PagePair, scratch: C) -> PlanB<C>
+        ensures size { (⟦<PlanB<C> as LineStore>⟧.seen result).size ≡ pair.size }
+        ensures memory { (⟦<PlanB<C> as LineStore>⟧.seen result).needs_memory ≡ false }
+        ensures faults { (⟦<PlanB<C> as LineStore>⟧.seen result).faults ≡ (C.view scratch).faults }
+        ensures scratch { (⟦<PlanB<C> as LineStore>⟧.seen result).scratch ≡ (C.view scratch).told }
+    {
+        let layout = Layout::new(pair.size(), 0, 0);
+        PlanB {
+            pair,
+            scratch,
+            layout,
+            halves: Halves::new(),
+        }
+    }
+
+    /// The pages and the scratch, as the plan left them.
+    pub fn into_parts(self) -> (PagePair, C)
+        ensures pair { result.0 ≡ self.pair }
+        ensures scratch { result.1 ≡ self.scratch }
+    {
+        (self.pair, self.scratch)
+    }
+}
+
+impl<C: Scratch> LineStore for PlanB<C> {
+    ghost use Rattle.plan_b.specs.Held.{seen_of};
+    ghost use Rattle.plan_b.specs.Layout.{decoded-count};
+
+    ghost seen = { λ p. seen_of p.layout p.halves (C.view p.scratch) };
+
+    ghost counted = { λ p. record { most = p.held.layout.few; told = λ lines is. decoded-count p.layout (C.view p.scratch).told lines is } };
+
+    fn count(&self) -> u64 {
+        self.layout.count
+    }
+
+    fn load(&mut self, k: u64, half: Half) -> Result<(), LineFault> {
+        load_line(
+            &mut self.pair,
+            &mut self.scratch,
+            &mut self.halves,
+            self.layout,
+            k,
+            half,
+        )
+    }
+
+    fn line(&self, half: Half) -> &[u8] {
+        match self.halves.get(half) {
+            Some(k) => line_of(
+                self.pair.page(half),
+                self.layout.place_on_page(k - 1),
+            ),
+            None => &[],
+        }
+    }
+}
