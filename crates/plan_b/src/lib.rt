@@ -55,8 +55,13 @@ impl<C: Scratch> PlanB<C> {
 }
 
 impl<C: Scratch> LineStore for PlanB<C> {
-    ghost use Rattle.plan_b.specs.Held.{seen_of};
-    ghost use Rattle.plan_b.specs.Layout.{decoded-count};
+    ghost use Rattle.std.specs.Prelude.{◌≡◌, ◌≢◌, ◌≤◌, ◌-◌, ℕ, Some, None, IfErr, OnOk, OnErr};
+    ghost use Rattle.line_store.specs.declared.Half.{Half};
+    ghost use Rattle.line_store.specs.Halves.{half_of};
+    ghost use Rattle.line_store.specs.Store.{Keeps, HasCause};
+    ghost use Rattle.page_pair.specs.Pair.{page_of};
+    ghost use Rattle.plan_b.specs.Held.{seen_of, page_held, ReadsOnceAtMost};
+    ghost use Rattle.plan_b.specs.Layout.{decoded-count, page_number};
 
     ghost seen = { λ p. seen_of p.layout p.halves (C.view p.scratch) };
 
@@ -66,7 +71,21 @@ impl<C: Scratch> LineStore for PlanB<C> {
         self.layout.count
     }
 
-    fn load(&mut self, k: u64, half: Half) -> Result<(), LineFault> {
+    /// At most one read of the scratch, and none where the half holds the page of line `k`. That it holds then.
+    fn load(&mut self, k: u64, half: Half) -> Result<(), LineFault>
+        requires low { 1 ≤ k }
+        requires high { k ≤ self.old.layout.count }
+        ensures held { OnOk result (half_of self.new.halves half ≡ Some k) }
+        ensures dropped { OnErr result (half_of self.new.halves half ≡ None) }
+        ensures other { (h : Half) → h ≢ half → half_of self.new.halves h ≡ half_of self.old.halves h }
+        ensures keeps { Keeps (seen_of self.old.layout self.old.halves (C.view self.old.scratch)) (seen_of self.new.layout self.new.halves (C.view self.new.scratch)) }
+        ensures cause { IfErr result (λ e. HasCause e (seen_of self.old.layout self.old.halves (C.view self.old.scratch)) (seen_of self.new.layout self.new.halves (C.view self.new.scratch))) }
+        ensures reads { ReadsOnceAtMost (C.view self.old.scratch) (C.view self.new.scratch) }
+        ensures still { page_held self.old.layout self.old.halves half ≡ Some (page_number self.old.layout (k - 1)) → (C.view self.new.scratch).reads ≡ (C.view self.old.scratch).reads }
+        ensures page { OnOk result (page_held self.new.layout self.new.halves half ≡ Some (page_number self.old.layout (k - 1))) }
+        ensures other_page { (h : Half) → h ≢ half → page_held self.new.layout self.new.halves h ≡ page_held self.old.layout self.old.halves h }
+        ensures other_bytes { (h : Half) → h ≢ half → page_of self.new.pair h ≡ page_of self.old.pair h }
+    {
         load_line(
             &mut self.pair,
             &mut self.scratch,
