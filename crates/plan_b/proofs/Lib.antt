@@ -1,2 +1,5 @@
 pub mod Windows
 pub mod HeldLemmas
+pub mod Cuts
+pub mod Measures
+pub mod LongLines

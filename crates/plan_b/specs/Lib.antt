@@ -2,4 +2,5 @@ pub mod Pages
 pub mod Layout
 pub mod Held
 pub mod Reading
+pub mod Measuring
 pub mod Filling

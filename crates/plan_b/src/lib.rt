@@ -9,6 +9,8 @@ ghost use Rattle.plan_b.specs.Held.{IsHeld};
 
 mod layout;
 mod loading;
+mod measuring;
+mod reading;
 mod record;
 
 use crate::layout::Layout;
