@@ -1,5 +1,5 @@
 -- What is known of a file that is read in pieces.
-use Rattle.std.specs.Prelude.{◌≡◌, ◌≢◌, ℕ, ◌+◌, ◌-◌, ◌<◌, ◌≤◌, List, [], ◌∷◌, ◌++◌, length, take, drop, slice_range, slice_index_or, Bool, true, Option, None, Some}
+use Rattle.std.specs.Prelude.{◌≡◌, ◌≢◌, ℕ, ◌+◌, ◌-◌, ◌<◌, ◌≤◌, List, [], ◌∷◌, ◌++◌, length, take, drop, slice_range, slice_index_or, Bool, true, false, Option, None, Some}
 use Rattle.std.specs.Option.{option_map}
 use Rattle.line_list.specs.Lines.{lines}
 use Rattle.outside.specs.Files.{bytes_at}
@@ -72,3 +72,12 @@ pub record IsMeasured (text : List ℕ) (at count most : ℕ) : Type 0 where
 abbrev pub IsOpenEnd : ℕ → Bool → ℕ → Option ℕ → Type 0
 IsOpenEnd n is_last at None = is_last ≡ true → n ≤ at
 IsOpenEnd n is_last at (Some end) = (is_last ≡ true) × ((at < n) × (end ≡ n))
+
+-- no line feed stands between two places of a text
+pub record IsOpen (text : List ℕ) (at end : ℕ) : Type 0 where
+  pub each : (i : ℕ) → i < end - at → slice_index_or (drop at text) i 0 ≢ 10
+
+-- a line goes on up to a place at least, or ends there
+abbrev pub GoesTo : List ℕ → ℕ → ℕ → Bool → Type 0
+GoesTo text at end true = lines (drop at text) ≡ slice_range text at end ∷ lines (drop end text)
+GoesTo text at end false = IsOpen text at end

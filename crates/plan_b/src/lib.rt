@@ -9,6 +9,7 @@ ghost use Rattle.plan_b.specs.Held.{IsHeld};
 
 mod layout;
 mod loading;
+mod long;
 mod measuring;
 mod reading;
 mod record;
