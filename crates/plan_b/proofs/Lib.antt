@@ -5,3 +5,5 @@ pub mod Measures
 pub mod LongLines
 pub mod Opens
 pub mod Readings
+pub mod Records
+pub mod Fillings

@@ -1,0 +1,2 @@
+-- Lines filled in.
+use Rattle.std.proofs.Common.{◌≡◌}
