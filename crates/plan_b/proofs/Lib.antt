@@ -7,3 +7,5 @@ pub mod Opens
 pub mod Readings
 pub mod Records
 pub mod Fillings
+pub mod Layouts
+pub mod Decoding
