@@ -9,3 +9,4 @@ pub mod Records
 pub mod Fillings
 pub mod Layouts
 pub mod Decoding
+pub mod Copyings

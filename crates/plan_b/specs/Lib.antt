@@ -4,3 +4,4 @@ pub mod Held
 pub mod Reading
 pub mod Measuring
 pub mod Filling
+pub mod Copying

@@ -74,7 +74,7 @@ fn make_record(pair: &mut PagePair, from: usize, count: usize, at: usize, width:
 }
 
 /// Zero bytes from a place of the second page on, which is then written behind the pages before it.
-fn write_page<C: Scratch>(
+pub fn write_page<C: Scratch>(
     pair: &mut PagePair,
     scratch: &mut C,
     filled: usize,

@@ -7,6 +7,7 @@ ghost use Rattle.line_store.specs.Taking.{IsReset, IsEmpty};
 ghost use Rattle.page_pair.specs.Pair.{page_of, IsPair};
 ghost use Rattle.plan_b.specs.Held.{IsHeld};
 
+mod copying;
 mod filling;
 mod layout;
 mod loading;
