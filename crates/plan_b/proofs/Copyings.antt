@@ -1,14 +1,18 @@
 -- Lines copied, one behind another.
-use Rattle.std.proofs.Common.{◌≡◌, ℕ, zero, suc, ◌+◌, ◌-◌, ◌*◌, ◌<◌, ◌≤◌, Bool, List, [], ◌∷◌, ◌++◌, length, take, drop, max, Option, None, Some, refl, sym, ap, subst, ◌∙◌, arith, append_assoc}
+use Rattle.std.proofs.Common.{◌≡◌, ℕ, zero, suc, ◌+◌, ◌-◌, ◌*◌, ◌/◌, ◌%◌, ◌<◌, ◌≤◌, ◌≢◌, Bool, false, eqb, List, [], ◌∷◌, ◌++◌, length, get_or, take, drop, max, min, length-drop, Option, None, Some, refl, sym, ap, subst, ◌∙◌, arith, append_assoc}
 use Rattle.std.proofs.lemmas.List.{append-nil, take-take, drop-take}
 use Rattle.std.specs.List.{slice_range}
-use Rattle.line_list.specs.Lines.{lines}
+use Rattle.std.specs.Int.{div_ceil}
+use Rattle.std.proofs.lemmas.Nat.{div-mul-add, mod-mul-add}
+use Rattle.outside.specs.TreeView.{TreeView}
+use Rattle.line_list.specs.Lines.{lines, with_first}
 use Rattle.plan_b.specs.declared.layout.Layout.{Layout}
 use Rattle.plan_b.specs.declared.filling.Filling.{Filling}
-use Rattle.plan_b.specs.Pages.{longest}
-use Rattle.plan_b.specs.Reading.{IsPart, IsWhole}
+use Rattle.plan_b.specs.Pages.{longest, front_pages, pages_of_width}
+use Rattle.plan_b.specs.Reading.{IsPart, IsWhole, IsOpen}
 use Rattle.plan_b.specs.Filling.{IsFilled}
-use Rattle.plan_b.specs.Copying.{Copies, IsLineFault, IsCopyFault}
+use Rattle.plan_b.specs.Layout.{IsLayout}
+use Rattle.plan_b.specs.Copying.{Copies, IsLineFault, IsCopyFault, IsTakeFault, IsCopied}
 use Rattle.outside.specs.ScratchView.{ScratchView, ScratchPasses}
 use Rattle.line_store.specs.declared.fault.OpenFault.{OpenFault}
 use Rattle.line_store.specs.declared.fault.OpenFault.TheVariants.{Tree, Scratch, LongLine, FileTooLong, Disagree, Memory}
@@ -53,3 +57,72 @@ copy-fault (LongLine line length) l u v w n piece last p h wide = h
 copy-fault (FileTooLong length) l u v w n piece last p h wide = h
 copy-fault (Disagree want got) l u v w n piece last p h wide = (h.0, wide h.1)
 copy-fault Memory l u v w n piece last p h wide = h
+
+-- the length of the first line
+abbrev first_length : List (List ℕ) → ℕ
+first_length [] = 0
+first_length (line ∷ more) = length line
+
+first_more : (b : ℕ) (ls : List (List ℕ)) → first_length (with_first b ls) ≡ first_length ls + 1
+first_more b [] = omega arith
+first_more b (line ∷ more) = omega arith
+
+first_most : (ls : List (List ℕ)) → first_length ls ≤ longest ls
+first_most [] = omega arith
+first_most (line ∷ more) = omega arith
+
+-- a line has no line feed before its last byte
+first-wide : (s : List ℕ) (n : ℕ) → n ≤ length s → ((i : ℕ) → i < n → get_or s i 0 ≢ 10) → n ≤ first_length (lines s)
+unfolding lines
+first-wide [] n le none = omega arith
+first-wide (b ∷ bs) zero le none = omega arith
+first-wide (b ∷ bs) (suc n) le none =
+    let ne : eqb b 10 ≡ false = grind (arith, none 0 (omega arith)) in
+    let more : n ≤ first_length (lines bs) = first-wide bs n (omega arith) (λ i lt. none (suc i) (omega arith)) in
+    let one : first_length (with_first b (lines bs)) ≡ first_length (lines bs) + 1 = first_more b (lines bs) in
+    rw ne (omega arith)
+
+pub open-wide : (text : List ℕ) (at n : ℕ) → at + n ≤ length text → IsOpen text at (at + n) → n ≤ longest (lines (drop at text))
+open-wide text at n le open_ =
+    let left : length (drop at text) ≡ length text - at = length-drop at text in
+    let wide : n ≤ first_length (lines (drop at text)) = first-wide (drop at text) n (omega arith) (λ i lt. open_.each i (omega arith)) in
+    let most : first_length (lines (drop at text)) ≤ longest (lines (drop at text)) = first_most (lines (drop at text)) in
+    omega arith
+
+pub take-fault : (e : OpenFault) (l : Layout) (v w : ScratchView) (t u : TreeView) (piece : List ℕ) (last : Bool) → IsCopyFault e l v w piece last → (((text : List ℕ) (start : ℕ) → IsPart text piece start last → l.width < 4 + longest (lines (drop start text))) → t.told ≡ None) → IsTakeFault e v w t u
+take-fault Tree l v w t u piece last h f = absurd h
+take-fault Scratch l v w t u piece last h f = h
+take-fault (LongLine line length) l v w t u piece last h f = h
+take-fault (FileTooLong length) l v w t u piece last h f = h
+take-fault (Disagree want got) l v w t u piece last h f = (h.0, f h.1)
+take-fault Memory l v w t u piece last h f = h
+
+-- the piece behind what was copied
+pub copied-more : (l : Layout) (told now file : Option (List ℕ)) (page next : List ℕ) (at n : ℕ) (f g : Filling) (piece : List ℕ) (last : Bool) → IsCopied l told page at f file → Copies l told now page next f g piece last n → ((text : List ℕ) → file ≡ Some text → IsPart text piece at last) → IsCopied l now next (at + n) g file
+copied-more l told now file page next at n f g piece last was more part = record {
+  front = was.front ++ more.more;
+  filled = more.fill was.front was.filled;
+  split = λ text is. was.split text is ∙ ap (λ x. was.front ++ x) (more.cut text at (part text is)) ∙ sym (append_assoc was.front more.more (lines (drop (at + n) text)));
+}
+
+-- the lines that are left are no longer than the longest
+pub copied-short : (l : Layout) (told file : Option (List ℕ)) (page : List ℕ) (at : ℕ) (f : Filling) (text : List ℕ) → IsCopied l told page at f file → file ≡ Some text → longest (lines (drop at text)) ≤ longest (lines text)
+copied-short l told file page at f text was is =
+    let all : longest (lines text) ≡ longest (was.front ++ lines (drop at text)) = ap longest (was.split text is) in
+    let most : longest (lines (drop at text)) ≤ longest (was.front ++ lines (drop at text)) = longest-behind was.front (lines (drop at text)) in
+    omega arith
+
+-- so many pages as there are, once the last one is written
+pub pages-more : (l : Layout) (ls : List (List ℕ)) (p r : ℕ) → IsLayout l → length ls ≡ p * l.per_page + r → r < l.per_page → 0 < r → front_pages l.size l.width l.per_page ls (p + 1) ≡ pages_of_width l.size l.width ls
+pages-more l ls p r is n lt some =
+    let d : length ls / l.per_page ≡ p = ap (λ k. k / l.per_page) n ∙ div-mul-add p l.per_page r lt in
+    let m : length ls % l.per_page ≡ r = ap (λ k. k % l.per_page) n ∙ mod-mul-add p l.per_page r lt in
+    let c : p + 1 ≡ length ls / l.per_page + min 1 (length ls % l.per_page) = omega arith in
+    ap (front_pages l.size l.width l.per_page ls) c ∙ ap (λ q. front_pages l.size l.width q ls (div_ceil (length ls) q)) is.per_page
+
+pub pages-all : (l : Layout) (ls : List (List ℕ)) (p r : ℕ) → IsLayout l → length ls ≡ p * l.per_page + r → r < l.per_page → r ≡ 0 → front_pages l.size l.width l.per_page ls p ≡ pages_of_width l.size l.width ls
+pages-all l ls p r is n lt none =
+    let d : length ls / l.per_page ≡ p = ap (λ k. k / l.per_page) n ∙ div-mul-add p l.per_page r lt in
+    let m : length ls % l.per_page ≡ r = ap (λ k. k % l.per_page) n ∙ mod-mul-add p l.per_page r lt in
+    let c : p ≡ length ls / l.per_page + min 1 (length ls % l.per_page) = omega arith in
+    ap (front_pages l.size l.width l.per_page ls) c ∙ ap (λ q. front_pages l.size l.width q ls (div_ceil (length ls) q)) is.per_page

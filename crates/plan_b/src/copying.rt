@@ -10,6 +10,7 @@ ghost use Rattle.plan_b.specs.Layout.{IsLayout};
 ghost use Rattle.plan_b.specs.Pages.{width_of, pages_of_width};
 ghost use Rattle.plan_b.specs.Filling.{IsReady, IsFilled};
 ghost use Rattle.plan_b.specs.Reading.{told_file, HasLength, IsNoneWhole};
+ghost use Rattle.plan_b.specs.Measuring.{IsMeasuredAs};
 ghost use Rattle.plan_b.specs.Copying.{Copies, IsLineFault, IsCopyFault, IsTakeFault, IsCopied, IsEndFault, IsWritten};
 
 use crate::filling::{Filling, put_record, write_page};
@@ -130,7 +131,10 @@ fn copy_piece<T: Tree, C: Scratch>(
 {
     let got = read_piece(pair, tree, name, copied.at, length)?;
     let is_last = copied.at + got as u64 == length;
-    let now = copy_lines(pair, scratch, layout, copied.filling, got, is_last)?;
+    let now = match copy_lines(pair, scratch, layout, copied.filling, got, is_last) {
+        Ok(now) => now,
+        Err(fault) => return Err(fault),
+    };
     if now.at == 0 {
         return Err(OpenFault::Disagree {
             want: layout.width - 4,
@@ -170,7 +174,8 @@ fn finish<C: Scratch>(
         return Ok(());
     }
     let filled = filling.records * layout.width;
-    write_page(pair, scratch, filled as usize, filling.pages * layout.size)
+    write_page(pair, scratch, filled as usize, filling.pages * layout.size)?;
+    Ok(())
 }
 
 /// Copies the lines of a file of `length` bytes that was measured, into a scratch that holds nothing.
@@ -184,8 +189,7 @@ pub fn copy_file<T: Tree, C: Scratch>(
 ) -> Result<(), OpenFault>
     requires there { IsThere (T.view tree.old) name.now }
     requires stated { HasLength (told_file (T.view tree.old) name.now) length }
-    requires fits { (text : List ℕ) → told_file (T.view tree.old) name.now ≡ Some text → layout.width ≡ width_of (lines text) }
-    requires counted { (text : List ℕ) → told_file (T.view tree.old) name.now ≡ Some text → layout.count ≡ length (lines text) }
+    requires measured { (text : List ℕ) → told_file (T.view tree.old) name.now ≡ Some text → IsMeasuredAs layout (lines text) }
     requires layout { IsLayout layout }
     requires size { layout.size ≡ pair.old.size }
     requires empty { (bytes : List ℕ) → (C.view scratch.old).told ≡ Some bytes → bytes ≡ [] }
