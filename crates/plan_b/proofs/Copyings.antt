@@ -1,18 +1,22 @@
 -- Lines copied, one behind another.
 use Rattle.std.proofs.Common.{◌≡◌, ℕ, zero, suc, ◌+◌, ◌-◌, ◌*◌, ◌/◌, ◌%◌, ◌<◌, ◌≤◌, ◌≢◌, Bool, false, eqb, List, [], ◌∷◌, ◌++◌, length, get_or, take, drop, max, min, length-drop, Option, None, Some, refl, sym, ap, subst, ◌∙◌, arith, append_assoc}
 use Rattle.std.proofs.lemmas.List.{append-nil, take-take, drop-take}
-use Rattle.std.specs.List.{slice_range}
+use Rattle.std.specs.List.{slice_range, flat_map}
+use Rattle.std.proofs.Math.Nat.{zero-mul}
+use Rattle.outside.specs.Calls.{IsUntouched}
+use Rattle.outside.proofs.Views.{rises_then}
+use Rattle.line_list.proofs.LineLemmas.{lines-end}
 use Rattle.std.specs.Int.{div_ceil}
 use Rattle.std.proofs.lemmas.Nat.{div-mul-add, mod-mul-add}
 use Rattle.outside.specs.TreeView.{TreeView}
 use Rattle.line_list.specs.Lines.{lines, with_first}
 use Rattle.plan_b.specs.declared.layout.Layout.{Layout}
 use Rattle.plan_b.specs.declared.filling.Filling.{Filling}
-use Rattle.plan_b.specs.Pages.{longest, front_pages, pages_of_width}
+use Rattle.plan_b.specs.Pages.{longest, record_of, front_pages, pages_of_width}
 use Rattle.plan_b.specs.Reading.{IsPart, IsWhole, IsOpen}
-use Rattle.plan_b.specs.Filling.{IsFilled}
+use Rattle.plan_b.specs.Filling.{IsFilled, IsReady}
 use Rattle.plan_b.specs.Layout.{IsLayout}
-use Rattle.plan_b.specs.Copying.{Copies, IsLineFault, IsCopyFault, IsTakeFault, IsCopied}
+use Rattle.plan_b.specs.Copying.{Copies, IsLineFault, IsCopyFault, IsTakeFault, IsCopied, IsWritten, IsEndFault}
 use Rattle.outside.specs.ScratchView.{ScratchView, ScratchPasses}
 use Rattle.line_store.specs.declared.fault.OpenFault.{OpenFault}
 use Rattle.line_store.specs.declared.fault.OpenFault.TheVariants.{Tree, Scratch, LongLine, FileTooLong, Disagree, Memory}
@@ -126,3 +130,60 @@ pages-all l ls p r is n lt none =
     let m : length ls % l.per_page ≡ r = ap (λ k. k % l.per_page) n ∙ mod-mul-add p l.per_page r lt in
     let c : p ≡ length ls / l.per_page + min 1 (length ls % l.per_page) = omega arith in
     ap (front_pages l.size l.width l.per_page ls) c ∙ ap (λ q. front_pages l.size l.width q ls (div_ceil (length ls) q)) is.per_page
+
+pub ready-none : (l : Layout) (told : Option (List ℕ)) (f : Filling) → f.pages ≡ 0 → f.records ≡ 0 → 0 < l.per_page → ((b : List ℕ) → told ≡ Some b → b ≡ []) → IsReady l told f
+ready-none l told f p r some none =
+    let m : f.pages * l.per_page ≡ 0 = ap (λ n. n * l.per_page) p ∙ zero-mul l.per_page in
+    record {
+      some = omega arith;
+      few = omega arith;
+      behind = λ b is. ap length (none b is) ∙ sym (ap (λ n. n * l.size) p ∙ zero-mul l.size);
+    }
+
+pub copied-none : (l : Layout) (told file : Option (List ℕ)) (page : List ℕ) (f : Filling) → IsLayout l → f.pages ≡ 0 → f.records ≡ 0 → ((b : List ℕ) → told ≡ Some b → b ≡ []) → IsCopied l told page 0 f file
+unfolding front_pages
+copied-none l told file page f is p r none =
+    let m : f.pages * l.per_page ≡ 0 = ap (λ n. n * l.per_page) p ∙ zero-mul l.per_page in
+    let w : f.records * l.width ≡ 0 = ap (λ n. n * l.width) r ∙ zero-mul l.width in
+    let low : 4 ≤ l.width = is.low in
+    record {
+      front = [];
+      filled = record {
+        counted = omega arith;
+        narrow = omega arith;
+        last = ap (λ n. take n page) w ∙ sym (ap (λ n. flat_map (record_of l.width) (drop n [])) m);
+        front = λ b told. none b told ∙ sym (ap (front_pages l.size l.width l.per_page []) p);
+      };
+      split = λ text is. refl;
+    }
+
+-- what was copied is all
+pub written-all : (l : Layout) (told now file : Option (List ℕ)) (page : List ℕ) (at : ℕ) (f : Filling) → IsCopied l told page at f file → ((text : List ℕ) → file ≡ Some text → at ≡ length text) → l.count ≡ f.pages * l.per_page + f.records → ((ls : List (List ℕ)) → IsFilled l told page f ls → (b : List ℕ) → now ≡ Some b → b ≡ pages_of_width l.size l.width ls) → IsWritten l now file
+written-all l told now file page at f was end count pages = record {
+  all = was.front;
+  counted = was.filled.counted ∙ sym count;
+  narrow = was.filled.narrow;
+  pages = pages was.front was.filled;
+  lines_ = λ text is. was.split text is ∙ ap (λ x. was.front ++ x) (lines-end text at (end text is)) ∙ append-nil was.front;
+}
+
+pub end-fault : (e : OpenFault) (l : Layout) (f : Filling) (u v w : ScratchView) (s t : TreeView) → ScratchPasses u v → IsEndFault e l f v w → (l.count ≢ f.pages * l.per_page + f.records → s.told ≡ None) → IsTakeFault e u w s t
+end-fault Tree l f u v w s t p h g = absurd h
+end-fault Scratch l f u v w s t p h g = λ small. omega (arith, h small, p.counts)
+end-fault (LongLine line length) l f u v w s t p h g = h
+end-fault (FileTooLong length) l f u v w s t p h g = h
+end-fault (Disagree want got) l f u v w s t p h g = (h.0, g h.1)
+end-fault Memory l f u v w s t p h g = h
+
+-- a file that was measured so has as many lines
+pub copied-count : (l : Layout) (told file : Option (List ℕ)) (page text : List ℕ) (at : ℕ) (f : Filling) → IsCopied l told page at f file → file ≡ Some text → at ≡ length text → length (lines text) ≡ f.pages * l.per_page + f.records
+copied-count l told file page text at f was is end =
+    ap length (was.split text is ∙ ap (λ x. was.front ++ x) (lines-end text at end) ∙ append-nil was.front) ∙ was.filled.counted
+
+pub take-later : (e : OpenFault) (u v w : ScratchView) (s t x : TreeView) → ScratchPasses u v → IsUntouched s t → IsTakeFault e v w t x → IsTakeFault e u w s x
+take-later Tree u v w s t x p un h = rises_then s t x un.passes h
+take-later Scratch u v w s t x p un h = λ small. omega (arith, h small, p.counts)
+take-later (LongLine line length) u v w s t x p un h = h
+take-later (FileTooLong length) u v w s t x p un h = h
+take-later (Disagree want got) u v w s t x p un h = (h.0, sym un.told ∙ h.1)
+take-later Memory u v w s t x p un h = h

@@ -68,3 +68,6 @@ open-made text page at n e le none =
     let left : length (drop at text) ≡ length text - at = length-drop at text in
     let len : length (take n page) ≡ n = ap length e ∙ length-take-le n (drop at text) (omega arith) in
     record { each = λ i lt is. none.each i (omega arith) (ap (λ l. get_or l i 0) e ∙ get_or-take n (drop at text) i 0 (omega arith) ∙ is) }
+
+pub told-same : {t u : TreeView} (name : List ℕ) → IsUntouched t u → told_file u name ≡ told_file t name
+told-same name un = ap (option_map (λ f. bytes_at f name)) un.told

@@ -210,5 +210,8 @@ pub fn copy_file<T: Tree, C: Scratch>(
     while copied.at < length {
         copied = copy_piece(pair, scratch, tree, name, layout, copied, length)?;
     }
-    finish(pair, scratch, layout, copied.filling)
+    match finish(pair, scratch, layout, copied.filling) {
+        Ok(()) => Ok(()),
+        Err(fault) => Err(fault),
+    }
 }

@@ -4,7 +4,7 @@ ghost use Rattle.std.specs.Prelude.{◌≡◌, ◌≤◌, ◌<◌, ◌+◌, ◌-
 ghost use Rattle.line_store.specs.declared.Half.TheVariants.{First, Second};
 ghost use Rattle.outside.specs.TreeView.{Passes};
 ghost use Rattle.outside.specs.Calls.{IsThere, IsUntouched};
-ghost use Rattle.page_pair.specs.Pair.{page_of};
+ghost use Rattle.page_pair.specs.Pair.{page_of, IsPair};
 ghost use Rattle.plan_b.specs.Reading.{told_file, HasLength, IsReadFault, FindsWhole, IsOpenEnd};
 
 use line_store::{Half, OpenFault};
@@ -36,6 +36,7 @@ pub fn read_piece<T: Tree>(
     ensures untouched { IsUntouched (T.view tree.old) (T.view tree.new) }
     ensures size { pair.new.size ≡ pair.old.size }
     ensures second { page_of pair.new Second ≡ page_of pair.old Second }
+    ensures pair { IsPair pair.new }
     ensures count { IfOk result (λ n. n ≡ min pair.old.size (length - at)) }
     ensures bytes { IfOk result (λ n. (text : List ℕ) → told_file (T.view tree.old) name.now ≡ Some text → take n (page_of pair.new First) ≡ take n (drop at text)) }
     ensures cause { IfErr result (λ e. IsReadFault e (T.view tree.old) (T.view tree.new)) }
