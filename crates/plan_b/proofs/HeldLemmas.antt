@@ -2,7 +2,9 @@
 use Rattle.std.proofs.Common.{◌≡◌, ◌≢◌, ℕ, ◌+◌, ◌-◌, ◌*◌, ◌<◌, ◌≤◌, List, [], take, drop, Option, None, Some, refl, sym, ap, subst, ◌∙◌, arith}
 use Rattle.std.specs.Option.{option_map}
 use Rattle.std.proofs.lemmas.List.FromFn.{get_or-map-range_with_len}
-use Rattle.line_store.specs.Store.{line_at}
+use Rattle.line_store.specs.Store.{line_at, HasCause}
+use Rattle.line_store.specs.declared.fault.LineFault.{LineFault}
+use Rattle.line_store.specs.declared.fault.LineFault.TheVariants.{Scratch, Disagree}
 use Rattle.outside.specs.ScratchView.{ScratchView}
 use Rattle.line_store.specs.declared.Half.{Half}
 use Rattle.line_store.specs.declared.Half.TheVariants.{First, Second}
@@ -10,8 +12,8 @@ use Rattle.line_store.specs.declared.halves.Halves.{Halves}
 use Rattle.line_store.specs.Halves.{half_of}
 use Rattle.page_pair.specs.Pair.{Pair, page_of}
 use Rattle.plan_b.specs.declared.layout.Layout.{Layout}
-use Rattle.plan_b.specs.Layout.{IsLayout, HasRecords, page_number, place_on_page, place_of, stated, line_in, decoded}
-use Rattle.plan_b.specs.Held.{HoldsPage, IsLoaded, IsHeld, page_held}
+use Rattle.plan_b.specs.Layout.{IsLayout, HasRecords, page_number, place_on_page, place_of, stated, line_in, decoded, lines_told, told-some}
+use Rattle.plan_b.specs.Held.{seen_of, HoldsPage, HasPageCause, IsLoaded, IsHeld, page_held}
 use Rattle.plan_b.proofs.Windows.{window}
 
 mapped-some : (f : ℕ → ℕ) (o : Option ℕ) (j : ℕ) → option_map f o ≡ Some j → (k : ℕ) × ((o ≡ Some k) × (f k ≡ j))
@@ -68,12 +70,17 @@ unfolding decoded
 decoded-at l b k low high = get_or-map-range_with_len (λ k. line_in b (place_of l k)) 0 l.count (k - 1) (k - 1) [] (omega arith) (omega arith)
 
 -- the line that a half holds, on its page
-pub line-held : (pair : Pair) (l : Layout) (v : ScratchView) (h : Half) (k : ℕ) (ls : List (List ℕ)) → IsLoaded pair l v h k → option_map (decoded l) v.told ≡ Some ls → place_on_page l (k - 1) + l.width ≤ l.size → line_in (page_of pair h) (place_on_page l (k - 1)) ≡ line_at ls k
+pub line-held : (pair : Pair) (l : Layout) (v : ScratchView) (h : Half) (k : ℕ) (ls : List (List ℕ)) → IsLoaded pair l v h k → lines_told l v.told ≡ Some ls → place_on_page l (k - 1) + l.width ≤ l.size → line_in (page_of pair h) (place_on_page l (k - 1)) ≡ line_at ls k
 line-held pair l v h k ls loaded is within =
-    let b = mapped-lines (decoded l) v.told ls is in
+    let low : 1 ≤ k = loaded.low in let high : k ≤ l.count = loaded.high in
+    let b = mapped-lines (decoded l) v.told ls (sym (told-some l v.told (omega arith)) ∙ is) in
     let page : page_of pair h ≡ take l.size (drop (page_number l (k - 1) * l.size) b.0) = loaded.page b.0 b.1.0 in
     let fits : stated (take l.size (drop (page_number l (k - 1) * l.size) b.0)) (place_on_page l (k - 1)) + 4 ≤ l.width = subst (λ p. stated p (place_on_page l (k - 1)) + 4 ≤ l.width) page loaded.fits in
     ap (λ p. line_in p (place_on_page l (k - 1))) page
     ∙ line-on-page l.size (page_number l (k - 1) * l.size) (place_on_page l (k - 1)) b.0 (omega arith)
     ∙ sym (decoded-at l b.0 k loaded.low loaded.high)
     ∙ ap (λ ls. line_at ls k) b.1.1
+
+pub load-cause : (e : LineFault) (l : Layout) (hs ht : Halves) (v w : ScratchView) → 0 < l.count → HasPageCause e v w → HasCause e (seen_of l hs v) (seen_of l ht w)
+load-cause Scratch l hs ht v w some h = h
+load-cause (Disagree want got) l hs ht v w some h = (h.0, told-some l v.told some ∙ ap (option_map (decoded l)) h.1)

@@ -10,3 +10,4 @@ pub mod Fillings
 pub mod Layouts
 pub mod Decoding
 pub mod Copyings
+pub mod Takings

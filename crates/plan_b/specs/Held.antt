@@ -1,5 +1,5 @@
 -- What a plan of padded pages holds, and what it is seen as.
-use Rattle.std.specs.Prelude.{◌≡◌, ◌≢◌, ◌⊎◌, ℕ, ◌+◌, ◌-◌, ◌*◌, ◌≤◌, List, take, drop, false, Option, Some, None}
+use Rattle.std.specs.Prelude.{◌≡◌, ◌≢◌, ◌⊎◌, ℕ, ◌+◌, ◌-◌, ◌*◌, ◌≤◌, List, [], take, drop, false, Option, Some, None}
 use Rattle.std.specs.Option.{option_map}
 use Rattle.outside.specs.Faults.{HasRisen}
 use Rattle.outside.specs.ScratchView.{ScratchView, counted}
@@ -11,12 +11,12 @@ use Rattle.line_store.specs.Halves.{half_of}
 use Rattle.line_store.specs.Store.{Seen}
 use Rattle.page_pair.specs.Pair.{Pair, page_of}
 use Rattle.plan_b.specs.declared.layout.Layout.{Layout}
-use Rattle.plan_b.specs.Layout.{IsLayout, HasRecords, page_number, place_on_page, stated, decoded}
+use Rattle.plan_b.specs.Layout.{IsLayout, HasRecords, page_number, place_on_page, stated, lines_told}
 
 -- a plan stands for the lines that its scratch holds
 abbrev pub seen_of : Layout → Halves → ScratchView → Seen
 seen_of l halves v = record {
-  told = option_map (decoded l) v.told;
+  told = lines_told l v.told;
   count = l.count;
   held = half_of halves;
   faults = v.faults;
@@ -59,3 +59,7 @@ ReadsOnceAtMost v w = (w.reads ≡ v.reads) ⊎ (w.reads ≡ counted v.reads)
 abbrev pub HasPageCause : LineFault → ScratchView → ScratchView → Type 0
 HasPageCause Scratch v w = HasRisen v.faults w.faults
 HasPageCause (Disagree want got) v w = (want ≢ got) × (v.told ≡ None)
+
+-- a plan that stands for no lines, over a scratch
+abbrev pub bare : ℕ → ScratchView → Seen
+bare size v = record { told = Some []; count = 0; held = λ h. None; faults = v.faults; scratch = v.told; size = size; needs_memory = false }

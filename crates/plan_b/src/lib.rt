@@ -15,12 +15,14 @@ mod long;
 mod measuring;
 mod reading;
 mod record;
+mod taking;
 
 use crate::layout::Layout;
 use crate::loading::load_line;
 use crate::record::line_of;
-use line_store::{Half, Halves, LineFault, LineStore};
-use outside::Scratch;
+use crate::taking::take_pages;
+use line_store::{Half, Halves, LineFault, LineStore, OpenFault, Plan};
+use outside::{Name, Scratch, Tree};
 use page_pair::PagePair;
 
 /// The lines of a file as records on padded pages of a scratch. Each half of the pair holds one of the pages.
@@ -40,6 +42,8 @@ impl<C: Scratch> PlanB<C> {
         ensures memory { (⟦<PlanB<C> as LineStore>⟧.seen result).needs_memory ≡ false }
         ensures faults { (⟦<PlanB<C> as LineStore>⟧.seen result).faults ≡ (C.view scratch).faults }
         ensures scratch { (⟦<PlanB<C> as LineStore>⟧.seen result).scratch ≡ (C.view scratch).told }
+        ensures empty { IsEmpty (⟦<PlanB<C> as LineStore>⟧.seen result) }
+        ensures reset { IsReset (⟦<PlanB<C> as LineStore>⟧.seen result) }
     {
         let layout = Layout::new(pair.size(), 0, 0);
         PlanB {
@@ -109,5 +113,35 @@ impl<C: Scratch> LineStore for PlanB<C> {
             ),
             None => &[],
         }
+    }
+}
+
+impl<C: Scratch> Plan for PlanB<C> {
+    ghost use Rattle.std.specs.Option.{option_map};
+    ghost use Rattle.line_list.specs.Lines.{lines};
+    ghost use Rattle.plan_b.specs.Pages.{pages};
+
+    ghost scratch_after = { λ size file before. option_map (λ _. pages size (lines file)) before };
+
+    ghost sized = { λ p. p.held.layout.sized };
+
+    fn take_file<T: Tree>(&mut self, tree: &mut T, name: &Name) -> Result<(), OpenFault> {
+        self.take_empty();
+        match take_pages(&mut self.pair, &mut self.scratch, tree, name) {
+            Ok(layout) => {
+                self.layout = layout;
+                Ok(())
+            }
+            Err(fault) => Err(fault),
+        }
+    }
+
+    fn take_empty(&mut self) {
+        self.layout = Layout::new(self.pair.size(), 0, 0);
+        self.halves = Halves::new();
+    }
+
+    fn needs_memory(&self) -> bool {
+        false
     }
 }

@@ -1,7 +1,7 @@
-use Rattle.std.proofs.Common.{◌≡◌, ℕ, Some, sym, subst, ◌∙◌}
+use Rattle.std.proofs.Common.{◌≡◌, ℕ, Some, sym, subst, ◌∙◌, arith}
 use Rattle.plan_b.specs.Held.{IsLoaded}
 use Rattle.std.proofs.lemmas.Option.{none-some}
-use Rattle.plan_b.proofs.HeldLemmas.{held-more}
+use Rattle.plan_b.proofs.HeldLemmas.{held-more, load-cause}
 use Rattle.plan_b.proofs.loading.load_line.Goals as goal
 
 pub returns-in-Ok-clause-held : goal.returns-in-Ok-clause-held
@@ -18,3 +18,6 @@ returns-in-Err-clause-held g c =
     held-more c.args.pair.now c.find_line.new.pair c.args.layout c.args.halves.now c.set-in-Err.new.self (view c.args.scratch.now) (view c.find_line.new.scratch) c.args.half
     c.requires.held c.find_line.ensures.size c.find_line.ensures.told c.find_line.ensures.other c.set-in-Err.ensures.other
     (λ k is. absurd (none-some k (sym c.set-in-Err.ensures.held ∙ is)))
+
+pub returns-in-Err-clause-cause : goal.returns-in-Err-clause-cause
+returns-in-Err-clause-cause g c = load-cause c.in-Err.fault c.args.layout c.args.halves.now c.set-in-Err.new.self (g.C.Scratch.view c.args.scratch.now) (g.C.Scratch.view c.find_line.new.scratch) (omega arith) c.in-Err.ensures.cause
