@@ -29,8 +29,8 @@ whole-feed piece last at k le first passes =
       low = omega arith;
       high = omega arith;
       first = λ rest is. feed-first (drop at piece) rest k high here before
-        ∙ ap (λ n. take n (drop at piece) ∷ lines (drop (suc k) (drop at piece) ++ rest)) (sym width)
-        ∙ ap (λ l. slice_range piece at (at + k + 1) ∷ lines (l ++ rest)) (drop-drop (suc k) at piece ∙ ap (λ n. drop n piece) far);
+          ∙ ap (λ n. take n (drop at piece) ∷ lines (drop (suc k) (drop at piece) ++ rest)) (sym width)
+          ∙ ap (λ l. slice_range piece at (at + k + 1) ∷ lines (l ++ rest)) (drop-drop (suc k) at piece ∙ ap (λ n. drop n piece) far);
     }
 
 pub whole-open : (piece : List ℕ) (last : Bool) (at : ℕ) → last ≡ true → at < length piece → Nowhere (Passes (is_byte 10) (drop at piece)) 0 (length (drop at piece)) → IsWhole piece last at (length piece)
@@ -41,7 +41,7 @@ whole-open piece last at is lt none =
       low = omega arith;
       high = omega arith;
       first = λ rest none.
-        rw (none is, append-nil (drop at piece), append-nil (drop (length piece) piece), take_rest piece at, lines-end piece (length piece) refl) one;
+          rw (none is, append-nil (drop at piece), append-nil (drop (length piece) piece), take_rest piece at, lines-end piece (length piece) refl) one;
     }
 
 pub none-whole : (piece : List ℕ) (last : Bool) (at : ℕ) → at ≤ length piece → (last ≡ true → length piece ≤ at) → Nowhere (Passes (is_byte 10) (drop at piece)) 0 (length (drop at piece)) → IsNoneWhole piece last at

@@ -134,27 +134,27 @@ held-in b line at w e fits small =
 pub pages-records : (l : Layout) (ls : List (List ℕ)) (b : List ℕ) → IsLayout l → 4 + longest ls ≤ l.width → l.count ≡ length ls → b ≡ front_pages l.size l.width l.per_page ls (div_ceil (length ls) l.per_page) → HasRecords l b
 pages-records l ls b is narrow count e = record {
   whole = λ k lt.
-    let q : 0 < l.per_page = some-fit l is in
-    let all = div_ceil_times (length ls) l.per_page q in
-    let many : length ls ≤ div_ceil (length ls) l.per_page * l.per_page = all.0 in
-    let page : k / l.per_page < div_ceil (length ls) l.per_page = div_below k l.per_page (div_ceil (length ls) l.per_page) q (omega arith) in
-    let len : length b ≡ div_ceil (length ls) l.per_page * l.size = ap length e ∙ pages-length l ls (div_ceil (length ls) l.per_page) is narrow in
-    let fits : (k / l.per_page + 1) * l.size ≤ div_ceil (length ls) l.per_page * l.size = mul-le (k / l.per_page + 1) l.size (div_ceil (length ls) l.per_page) l.size (omega arith) (omega arith) in
-    let row : (k / l.per_page + 1) * l.size ≡ k / l.per_page * l.size + l.size = grind arith in
-    omega arith;
+      let q : 0 < l.per_page = some-fit l is in
+      let all = div_ceil_times (length ls) l.per_page q in
+      let many : length ls ≤ div_ceil (length ls) l.per_page * l.per_page = all.0 in
+      let page : k / l.per_page < div_ceil (length ls) l.per_page = div_below k l.per_page (div_ceil (length ls) l.per_page) q (omega arith) in
+      let len : length b ≡ div_ceil (length ls) l.per_page * l.size = ap length e ∙ pages-length l ls (div_ceil (length ls) l.per_page) is narrow in
+      let fits : (k / l.per_page + 1) * l.size ≤ div_ceil (length ls) l.per_page * l.size = mul-le (k / l.per_page + 1) l.size (div_ceil (length ls) l.per_page) l.size (omega arith) (omega arith) in
+      let row : (k / l.per_page + 1) * l.size ≡ k / l.per_page * l.size + l.size = grind arith in
+      omega arith;
   fits = λ k lt.
-    let most : length (get_or ls k []) ≤ longest ls = longest-at ls k (omega arith) in
-    let high : l.width ≤ l.size = is.high in
-    let size : l.size ≤ 1048576 = is.sized.1 in
-    let at : stated b (place_of l k) ≡ length (get_or ls k []) = stated-in b (get_or ls k []) (place_of l k) l.width (ap (λ x. take l.width (drop (place_of l k) x)) e ∙ placed l ls k is narrow (omega arith)) (omega arith) (omega arith) in
-    omega arith;
+      let most : length (get_or ls k []) ≤ longest ls = longest-at ls k (omega arith) in
+      let high : l.width ≤ l.size = is.high in
+      let size : l.size ≤ 1048576 = is.sized.1 in
+      let at : stated b (place_of l k) ≡ length (get_or ls k []) = stated-in b (get_or ls k []) (place_of l k) l.width (ap (λ x. take l.width (drop (place_of l k) x)) e ∙ placed l ls k is narrow (omega arith)) (omega arith) (omega arith) in
+      omega arith;
 }
 
 pub pages-decoded : (l : Layout) (ls : List (List ℕ)) (b : List ℕ) → IsLayout l → 4 + longest ls ≤ l.width → l.count ≡ length ls → b ≡ front_pages l.size l.width l.per_page ls (div_ceil (length ls) l.per_page) → decoded l b ≡ ls
 unfolding decoded
 pages-decoded l ls b is narrow count e =
     sym (fill_by_all (λ k. line_in b (place_of l k)) ls l.count [] (sym count) (λ k lt.
-      let most : length (get_or ls k []) ≤ longest ls = longest-at ls k (omega arith) in
-      let high : l.width ≤ l.size = is.high in
-      let size : l.size ≤ 1048576 = is.sized.1 in
-      sym (held-in b (get_or ls k []) (place_of l k) l.width (ap (λ x. take l.width (drop (place_of l k) x)) e ∙ placed l ls k is narrow (omega arith)) (omega arith) (omega arith))))
+    let most : length (get_or ls k []) ≤ longest ls = longest-at ls k (omega arith) in
+    let high : l.width ≤ l.size = is.high in
+    let size : l.size ≤ 1048576 = is.sized.1 in
+    sym (held-in b (get_or ls k []) (place_of l k) l.width (ap (λ x. take l.width (drop (place_of l k) x)) e ∙ placed l ls k is narrow (omega arith)) (omega arith) (omega arith))))

@@ -69,10 +69,10 @@ filled-more l told page next line f g ls same more fits made was =
       counted = omega arith;
       narrow = (let a : longest (ls ++ line ∷ []) ≡ max (longest ls) (length line) = longest-more ls line in let b : 4 + longest ls ≤ l.width = was.narrow in omega arith);
       last = ap (λ k. take k next) place ∙ made.is ∙ ap (λ r. r ++ record_of l.width line) was.last
-        ∙ ap (λ r. flat_map (record_of l.width) (drop (f.pages * l.per_page) ls) ++ r) (sym (append-nil (record_of l.width line)))
-        ∙ sym (flat_map-append (record_of l.width) (drop (f.pages * l.per_page) ls) (line ∷ []))
-        ∙ ap (flat_map (record_of l.width)) (sym (drop-append-le (f.pages * l.per_page) ls (line ∷ []) front))
-        ∙ ap (λ k. flat_map (record_of l.width) (drop k (ls ++ line ∷ []))) (sym pages);
+          ∙ ap (λ r. flat_map (record_of l.width) (drop (f.pages * l.per_page) ls) ++ r) (sym (append-nil (record_of l.width line)))
+          ∙ sym (flat_map-append (record_of l.width) (drop (f.pages * l.per_page) ls) (line ∷ []))
+          ∙ ap (flat_map (record_of l.width)) (sym (drop-append-le (f.pages * l.per_page) ls (line ∷ []) front))
+          ∙ ap (λ k. flat_map (record_of l.width) (drop k (ls ++ line ∷ []))) (sym pages);
       front = λ b is. was.front b is ∙ sym (front-kept l.size l.width l.per_page ls (line ∷ []) f.pages front) ∙ ap (front_pages l.size l.width l.per_page (ls ++ line ∷ [])) (sym same);
     }
 
@@ -114,11 +114,11 @@ ready-full l told now page filled f g le some pages none full few telling writte
       some = omega arith;
       few = omega arith;
       behind = λ b is.
-        let a = told-before told now b telling is in
-        let both : Some b ≡ Some (a.0 ++ padded l.size (take filled page)) = sym is ∙ written a.0 a.1 in
-        let same : b ≡ a.0 ++ padded l.size (take filled page) = cc in
-        let front : length a.0 ≡ f.pages * l.size = was.behind a.0 a.1 in
-        let short : length (take filled page) ≡ min filled (length page) = length-take filled page in
-        let last : length (padded l.size (take filled page)) ≡ l.size = padded-length l.size (take filled page) (omega arith) in
-        ap length same ∙ length-append a.0 (padded l.size (take filled page)) ∙ (ap (λ n. length a.0 + n) last) ∙ ap (λ n. n + l.size) front ∙ sym (once-more f.pages l.size) ∙ ap (λ n. n * l.size) (sym pages);
+          let a = told-before told now b telling is in
+          let both : Some b ≡ Some (a.0 ++ padded l.size (take filled page)) = sym is ∙ written a.0 a.1 in
+          let same : b ≡ a.0 ++ padded l.size (take filled page) = cc in
+          let front : length a.0 ≡ f.pages * l.size = was.behind a.0 a.1 in
+          let short : length (take filled page) ≡ min filled (length page) = length-take filled page in
+          let last : length (padded l.size (take filled page)) ≡ l.size = padded-length l.size (take filled page) (omega arith) in
+          ap length same ∙ length-append a.0 (padded l.size (take filled page)) ∙ (ap (λ n. length a.0 + n) last) ∙ ap (λ n. n + l.size) front ∙ sym (once-more f.pages l.size) ∙ ap (λ n. n * l.size) (sym pages);
     }

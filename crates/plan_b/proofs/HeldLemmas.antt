@@ -54,6 +54,7 @@ held-more p q l hs ht v w half held size told pages halves here = record {
         fits = subst (λ page. stated page (place_on_page l (k - 1)) + 4 ≤ l.width) (sym (pages h ne)) was.fits;
         page = λ b seen. pages h ne ∙ was.page b (sym told ∙ seen);
       }
+
   each : (g h : Half) → ((k : ℕ) → half_of ht g ≡ Some k → IsLoaded q l w g k) → ((h : Half) (k : ℕ) → h ≢ g → half_of ht h ≡ Some k → IsLoaded q l w h k) → (k : ℕ) → half_of ht h ≡ Some k → IsLoaded q l w h k
   each First First own others k is = own k is
   each First Second own others k is = others Second k (λ (e : Second ≡ First). (cc)) is

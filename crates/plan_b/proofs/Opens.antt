@@ -23,9 +23,9 @@ open-more : (text : List ℕ) (at end n k : ℕ) → at ≤ end → k ≤ n → 
 open-more text at end n k le high was none i lt e = elim (cases_lt i (end - at)) [
   | inl before ↦ was.each i before e
   | inr after ↦
-    let j : ℕ = i - (end - at) in
-    let same : end - at + (i - (end - at)) ≡ i = omega arith in
-    none (i - (end - at)) (omega arith) (piece-at text at end n (i - (end - at)) le (omega arith) ∙ ap (λ m. get_or (drop at text) m 0) same ∙ e)
+      let j : ℕ = i - (end - at) in
+      let same : end - at + (i - (end - at)) ≡ i = omega arith in
+      none (i - (end - at)) (omega arith) (piece-at text at end n (i - (end - at)) le (omega arith) ∙ ap (λ m. get_or (drop at text) m 0) same ∙ e)
 ]
 
 pub open-none : (text hay : List ℕ) (at end n : ℕ) → hay ≡ take n (drop end text) → at ≤ end → end + n ≤ length text → IsOpen text at end → Nowhere (Passes (is_byte 10) hay) 0 (length hay) → IsOpen text at (end + n)

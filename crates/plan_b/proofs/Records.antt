@@ -14,9 +14,11 @@ pub extends-over : (old piece : List ℕ) (at : ℕ) → at + length piece ≤ l
 extends-over old piece at le =
     let front : length (take at old) ≡ at = length-take-le at old (omega arith) in
     let both : length (take at old ++ piece) ≡ at + length piece = length-append (take at old) piece ∙ ap (λ n. n + length piece) front in
-    record { is =
-      ap (λ n. take n (overwritten old at piece)) (sym both)
-      ∙ take-append_seam (take at old ++ piece) (drop (at + length piece) old) }
+    record {
+      is =
+          ap (λ n. take n (overwritten old at piece)) (sym both)
+          ∙ take-append_seam (take at old ++ piece) (drop (at + length piece) old);
+    }
 
 pub extends-both : (x y z p q : List ℕ) (at : ℕ) → Extends x y at p → Extends y z (at + length p) q → Extends x z at (p ++ q)
 extends-both x y z p q at a b =
@@ -68,6 +70,7 @@ pub page-padded : (page : List ℕ) (filled size : ℕ) → length page ≡ size
 page-padded page filled size e le = with_zeros (replicate (size - filled) 0) (length-replicate (size - filled) 0) refl where
   front : length (take filled page) ≡ filled
   front = length-take-le filled page (omega arith)
+
   with_zeros : (zs : List ℕ) → length zs ≡ size - filled → zs ≡ replicate (size - filled) 0 → overwritten page filled zs ≡ padded size (take filled page)
   with_zeros zs many is =
       let none : drop (filled + length zs) page ≡ [] = drop_all (filled + length zs) page (omega arith) in

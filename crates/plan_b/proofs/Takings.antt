@@ -60,10 +60,10 @@ written-takes before l halves v file text is size telling was known m short = re
   admitted = admitted-is before.size text short (subst (λ n. first_long n (lines text) ≡ None) size m.short);
   count = m.counted;
   told = λ some.
-    let b = told-something v.told (telling ∙ some) in
-    decoded-told l v.told b.0 (lines text) b.1
-    (pages-decoded l was.all b.0 is was.narrow (sym was.counted) (pages-by l was.all b.0 is (was.pages b.0 b.1)) ∙ sym (was.lines_ text known))
-    m.counted;
+      let b = told-something v.told (telling ∙ some) in
+      decoded-told l v.told b.0 (lines text) b.1
+      (pages-decoded l was.all b.0 is was.narrow (sym was.counted) (pages-by l was.all b.0 is (was.pages b.0 b.1)) ∙ sym (was.lines_ text known))
+      m.counted;
 }
 
 pub written-scratch : (l : Layout) (told now file : Option (List ℕ)) (text : List ℕ) (size : ℕ) → l.size ≡ size → is_some now ≡ is_some told → IsWritten l now file → file ≡ Some text → IsMeasuredAs l (lines text) → now ≡ option_map (λ _. pages size (lines text)) told

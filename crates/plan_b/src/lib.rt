@@ -107,10 +107,7 @@ impl<C: Scratch> LineStore for PlanB<C> {
 
     fn line(&self, half: Half) -> &[u8] {
         match self.halves.get(half) {
-            Some(k) => line_of(
-                self.pair.page(half),
-                self.layout.place_on_page(k - 1),
-            ),
+            Some(k) => line_of(self.pair.page(half), self.layout.place_on_page(k - 1)),
             None => &[],
         }
     }
@@ -145,3 +142,6 @@ impl<C: Scratch> Plan for PlanB<C> {
         false
     }
 }
+
+#[cfg(test)]
+mod tests;

@@ -14,4 +14,4 @@ returns-in-Some g c lines k told is =
     ∙ ap (λ n. line_in c.page.result.now n) (c.place_on_page.ensures.is ∙ ap (λ n. place_on_page s.layout (n - 1)) e)
     ∙ ap (λ p. line_in p (place_on_page s.layout (k - 1))) c.page.ensures.is
     ∙ line-held s.pair s.layout (g.C.Scratch.view s.scratch) c.args.half k lines (s.held.loaded c.args.half k is) told
-      (rw (← e, ← c.place_on_page.ensures.is) c.place_on_page.ensures.within)
+    (rw (← e, ← c.place_on_page.ensures.is) c.place_on_page.ensures.within)

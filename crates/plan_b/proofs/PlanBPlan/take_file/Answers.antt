@@ -6,9 +6,11 @@ use Rattle.plan_b.proofs.Takings.{empty-seen, written-held, written-takes, writt
 use Rattle.plan_b.proofs.PlanBPlan.take_file.Goals as goal
 
 pub invariant_of-self : goal.invariant_of-self
-invariant_of-self g c = record { held =
-  written-held c.take_pages.new.pair c.in-Ok.layout c.take_empty.new.self.halves (g.C.Scratch.view c.take_pages.new.scratch) (told_file (g.T.Tree.view c.args.tree.now) c.args.name.now)
-  c.in-Ok.ensures.layout (c.in-Ok.ensures.page ∙ sym c.in-Ok.ensures.size) c.take_empty.ensures.reset.halves c.in-Ok.ensures.written }
+invariant_of-self g c = record {
+  held =
+      written-held c.take_pages.new.pair c.in-Ok.layout c.take_empty.new.self.halves (g.C.Scratch.view c.take_pages.new.scratch) (told_file (g.T.Tree.view c.args.tree.now) c.args.name.now)
+      c.in-Ok.ensures.layout (c.in-Ok.ensures.page ∙ sym c.in-Ok.ensures.size) c.take_empty.ensures.reset.halves c.in-Ok.ensures.written;
+}
 
 pub returns-in-Ok-clause-taken : goal.returns-in-Ok-clause-taken
 returns-in-Ok-clause-taken g c f told =

@@ -55,7 +55,7 @@ returns-in-Err-clause-cause g c =
     end-fault c.in-Err.fault c.args.layout c.loop-copied.copied.filling (view c.args.scratch.now) (view c.loop-copied.scratch) (view c.finish.new.scratch) (tree c.args.tree.now) (tree c.loop-copied.tree)
     c.loop-copied.invariant.passes c.in-Err.ensures.cause
     (λ other. none-unless _ (λ f told.
-      let file : told_file (tree c.args.tree.now) c.args.name.now ≡ Some (bytes_at f c.args.name.now) = rw told refl in
-      let len : length (bytes_at f c.args.name.now) ≡ c.args.length = c.requires.stated (bytes_at f c.args.name.now) file in
-      other ((c.requires.measured (bytes_at f c.args.name.now) file).counted
-      ∙ copied-count c.args.layout (view c.loop-copied.scratch).told (told_file (tree c.args.tree.now) c.args.name.now) (page_of c.loop-copied.pair Second) (bytes_at f c.args.name.now) c.loop-copied.copied.at c.loop-copied.copied.filling c.loop-copied.invariant.copied file (omega arith))))
+    let file : told_file (tree c.args.tree.now) c.args.name.now ≡ Some (bytes_at f c.args.name.now) = rw told refl in
+    let len : length (bytes_at f c.args.name.now) ≡ c.args.length = c.requires.stated (bytes_at f c.args.name.now) file in
+    other ((c.requires.measured (bytes_at f c.args.name.now) file).counted
+    ∙ copied-count c.args.layout (view c.loop-copied.scratch).told (told_file (tree c.args.tree.now) c.args.name.now) (page_of c.loop-copied.pair Second) (bytes_at f c.args.name.now) c.loop-copied.copied.at c.loop-copied.copied.filling c.loop-copied.invariant.copied file (omega arith))))

@@ -23,7 +23,7 @@ returns-in-Err-clause-cause g c =
     let view = g.C.Scratch.view in
     let piece : List ℕ = take c.args.got (page_of c.args.pair.now First) in
     let whole : IsWhole (take c.args.got (page_of c.args.pair.now First)) c.args.is_last c.loop-end.at c.in-Some.end =
-      subst (λ p. IsWhole (take c.args.got p) c.args.is_last c.loop-end.at c.in-Some.end) (c.page.ensures.is ∙ c.loop-end.invariant.first) c.in-Some.ensures in
+    subst (λ p. IsWhole (take c.args.got p) c.args.is_last c.loop-end.at c.in-Some.end) (c.page.ensures.is ∙ c.loop-end.invariant.first) c.in-Some.ensures in
     copy-fault c.in-Err.fault c.args.layout (view c.args.scratch.now) (view c.loop-end.scratch) (view c.copy_line.new.scratch) (c.in-Some.end - c.loop-end.at) (take c.args.got (page_of c.args.pair.now First)) c.args.is_last
     c.loop-end.invariant.passes c.in-Err.ensures.cause
     (λ wide text start part. copies-wide c.args.layout _ _ _ _ _ _ (take c.args.got (page_of c.args.pair.now First)) c.args.is_last c.loop-end.at c.in-Some.end c.loop-end.invariant.copies whole wide text start part)
@@ -33,7 +33,7 @@ loop-end-preserved g c =
     let view = g.C.Scratch.view in
     let n : length (take c.args.got (page_of c.args.pair.now First)) ≡ min c.args.got (length (page_of c.args.pair.now First)) = length-take c.args.got (page_of c.args.pair.now First) in
     let whole : IsWhole (take c.args.got (page_of c.args.pair.now First)) c.args.is_last c.loop-end.at c.in-Some.end =
-      subst (λ p. IsWhole (take c.args.got p) c.args.is_last c.loop-end.at c.in-Some.end) (c.page.ensures.is ∙ c.loop-end.invariant.first) c.in-Some.ensures in
+    subst (λ p. IsWhole (take c.args.got p) c.args.is_last c.loop-end.at c.in-Some.end) (c.page.ensures.is ∙ c.loop-end.invariant.first) c.in-Some.ensures in
     let low : c.loop-end.at < c.in-Some.end = whole.low in
     let high : c.in-Some.end ≤ length (take c.args.got (page_of c.args.pair.now First)) = whole.high in
     let one : c.in-Ok.next.pages * c.args.layout.per_page + c.in-Ok.next.records ≡ c.loop-end.now.pages * c.args.layout.per_page + c.loop-end.now.records + 1 = c.in-Ok.ensures.count in
@@ -46,8 +46,8 @@ loop-end-preserved g c =
       count = omega arith;
       within = omega arith;
       copies = copies-more c.args.layout (view c.args.scratch.now).told (view c.loop-end.scratch).told (view c.copy_line.new.scratch).told (page_of c.args.pair.now Second) (page_of c.loop-end.pair Second) (page_of c.copy_line.new.pair Second)
-        c.args.filling c.loop-end.now c.in-Ok.next (take c.args.got (page_of c.args.pair.now First)) c.args.is_last c.loop-end.at c.in-Some.end (take (c.in-Some.end - c.loop-end.at) (drop c.loop-end.at (page_of c.loop-end.pair First)))
-        c.loop-end.invariant.copies whole
-        (part-of-front (c.in-Some.end - c.loop-end.at) c.loop-end.at c.args.got (page_of c.args.pair.now First) (omega arith) ∙ ap (λ p. take (c.in-Some.end - c.loop-end.at) (drop c.loop-end.at p)) (sym c.loop-end.invariant.first))
-        c.in-Ok.ensures.filled;
+          c.args.filling c.loop-end.now c.in-Ok.next (take c.args.got (page_of c.args.pair.now First)) c.args.is_last c.loop-end.at c.in-Some.end (take (c.in-Some.end - c.loop-end.at) (drop c.loop-end.at (page_of c.loop-end.pair First)))
+          c.loop-end.invariant.copies whole
+          (part-of-front (c.in-Some.end - c.loop-end.at) c.loop-end.at c.args.got (page_of c.args.pair.now First) (omega arith) ∙ ap (λ p. take (c.in-Some.end - c.loop-end.at) (drop c.loop-end.at p)) (sym c.loop-end.invariant.first))
+          c.in-Ok.ensures.filled;
     }

@@ -13,6 +13,6 @@ returns-in-Ok-clause-written g c bytes told =
     let size : c.size-size.result ≡ c.args.pair.now.size = c.size-size.ensures.size in
     c.in-Ok.ensures.ok bytes told
     ∙ ap Some (over-end bytes c.page.result.now c.args.at (c.requires.behind bytes told)
-      ∙ ap (λ p. bytes ++ p) (c.page.ensures.is ∙ c.put_zeros.ensures.second
-        ∙ ap (λ n. overwritten (page_of c.args.pair.now Second) c.args.filled (replicate (n - c.args.filled) 0)) size
-        ∙ page-padded (page_of c.args.pair.now Second) c.args.filled c.args.pair.now.size c.size-size.ensures.pair.second c.requires.filled))
+    ∙ ap (λ p. bytes ++ p) (c.page.ensures.is ∙ c.put_zeros.ensures.second
+    ∙ ap (λ n. overwritten (page_of c.args.pair.now Second) c.args.filled (replicate (n - c.args.filled) 0)) size
+    ∙ page-padded (page_of c.args.pair.now Second) c.args.filled c.args.pair.now.size c.size-size.ensures.pair.second c.requires.filled))

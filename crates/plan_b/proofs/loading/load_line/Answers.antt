@@ -10,7 +10,7 @@ returns-in-Ok-clause-held g c =
     held-more c.args.pair.now c.find_line.new.pair c.args.layout c.args.halves.now c.set.new.self (view c.args.scratch.now) (view c.find_line.new.scratch) c.args.half
     c.requires.held c.find_line.ensures.size c.find_line.ensures.told c.find_line.ensures.other c.set.ensures.other
     (λ k is. let e : c.args.k ≡ k = (let f : Some c.args.k ≡ Some k = sym c.set.ensures.held ∙ is in cc) in
-      subst (λ n. IsLoaded c.find_line.new.pair c.args.layout (view c.find_line.new.scratch) c.args.half n) e c.in-Ok.ensures.loaded)
+    subst (λ n. IsLoaded c.find_line.new.pair c.args.layout (view c.find_line.new.scratch) c.args.half n) e c.in-Ok.ensures.loaded)
 
 pub returns-in-Err-clause-held : goal.returns-in-Err-clause-held
 returns-in-Err-clause-held g c =

@@ -6,9 +6,9 @@ pub returns-in-Ok-2-clause-cause : goal.returns-in-Ok-2-clause-cause
 returns-in-Ok-2-clause-cause g c = (
   λ e. c.if-got-want.false (sym e),
   none-unless _ (λ b told.
-    let at : ℕ = c.args.page * c.args.layout.size in
-    let whole : at + c.args.layout.size ≤ length b = c.requires.whole b told in
-    let left : length (drop at b) ≡ length b - at = length-drop at b in
-    let size : c.args.layout.size ≡ length c.page_mut.result.now = c.requires.size ∙ sym (page-length c.args.pair.now c.page_mut.ensures.pair c.args.half) ∙ ap length (sym c.page_mut.ensures.is) in
-    c.if-got-want.false (came-whole c.in-Ok.got (length c.page_mut.result.now) c.read_at.new.buf (drop at b) (c.in-Ok.ensures.bytes b told) (omega arith) c.in-Ok.ensures.count ∙ sym size))
+      let at : ℕ = c.args.page * c.args.layout.size in
+      let whole : at + c.args.layout.size ≤ length b = c.requires.whole b told in
+      let left : length (drop at b) ≡ length b - at = length-drop at b in
+      let size : c.args.layout.size ≡ length c.page_mut.result.now = c.requires.size ∙ sym (page-length c.args.pair.now c.page_mut.ensures.pair c.args.half) ∙ ap length (sym c.page_mut.ensures.is) in
+      c.if-got-want.false (came-whole c.in-Ok.got (length c.page_mut.result.now) c.read_at.new.buf (drop at b) (c.in-Ok.ensures.bytes b told) (omega arith) c.in-Ok.ensures.count ∙ sym size)),
 )

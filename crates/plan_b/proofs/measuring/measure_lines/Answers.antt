@@ -20,7 +20,7 @@ loop-end-preserved c =
       within = high;
       sound = c.in-Ok.ensures.sound;
       measured = λ text part was.
-        let now = c.loop-end.now in
-        measured-step text c.args.piece.now c.args.start.at c.args.is_last c.loop-end.at c.in-Some.end now.at now.count now.longest c.in-Ok.next.at c.in-Ok.next.count c.in-Ok.next.longest
-        part whole c.loop-end.invariant.place at c.in-Ok.ensures.count c.in-Ok.ensures.longest (c.loop-end.invariant.measured text part was);
+          let now = c.loop-end.now in
+          measured-step text c.args.piece.now c.args.start.at c.args.is_last c.loop-end.at c.in-Some.end now.at now.count now.longest c.in-Ok.next.at c.in-Ok.next.count c.in-Ok.next.longest
+          part whole c.loop-end.invariant.place at c.in-Ok.ensures.count c.in-Ok.ensures.longest (c.loop-end.invariant.measured text part was);
     }

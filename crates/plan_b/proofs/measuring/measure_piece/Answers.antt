@@ -35,15 +35,17 @@ pub returns-in-Err-clause-cause : goal.returns-in-Err-clause-cause
 returns-in-Err-clause-cause g c =
     let size : c.size.result ≡ c.args.pair.now.size = c.size.ensures.size in
     let sized : 512 ≤ c.args.pair.now.size = c.size.ensures.pair.sized.0 in
-    let over : c.size.result - 4 < c.in-Err.field-0.length = c.in-Err.ensures.long in
-    (omega arith, λ text told.
-      let len : length text ≡ c.args.length = c.requires.stated text told in
-      let n : c.in_ok-got.got ≡ min c.args.pair.now.size (c.args.length - c.args.start.at) = c.in_ok-got.ensures.count in
-      let end : c.args.start.at + c.in_ok-got.got ≤ length text = omega arith in
-      let four : c.size.result - 4 + 4 ≡ c.args.pair.now.size = omega arith in
-      refusal-long c.args.pair.now.size text _ (omega arith)
-      (subst (λ k. long_line k (lines text) ≡ Some (LongLine c.in-Err.field-0.line c.in-Err.field-0.length)) four
-        (c.in-Err.ensures.first text
-        (part-made text c.page-piece.result.now c.args.start.at c.in_ok-got.got (eqb (c.args.start.at + c.in_ok-got.got) c.args.length)
-        (ap (take c.in_ok-got.got) c.page-piece.ensures.is ∙ c.in_ok-got.ensures.bytes text told) end (λ is. eqb-true _ _ is ∙ sym len))
-        (c.requires.measured text told))))
+    let over : c.size.result - 4 < c.in-Err.field-0.length = c.in-Err.ensures.long in (
+      omega arith,
+      λ text told.
+          let len : length text ≡ c.args.length = c.requires.stated text told in
+          let n : c.in_ok-got.got ≡ min c.args.pair.now.size (c.args.length - c.args.start.at) = c.in_ok-got.ensures.count in
+          let end : c.args.start.at + c.in_ok-got.got ≤ length text = omega arith in
+          let four : c.size.result - 4 + 4 ≡ c.args.pair.now.size = omega arith in
+          refusal-long c.args.pair.now.size text _ (omega arith)
+          (subst (λ k. long_line k (lines text) ≡ Some (LongLine c.in-Err.field-0.line c.in-Err.field-0.length)) four
+          (c.in-Err.ensures.first text
+          (part-made text c.page-piece.result.now c.args.start.at c.in_ok-got.got (eqb (c.args.start.at + c.in_ok-got.got) c.args.length)
+          (ap (take c.in_ok-got.got) c.page-piece.ensures.is ∙ c.in_ok-got.ensures.bytes text told) end (λ is. eqb-true _ _ is ∙ sym len))
+          (c.requires.measured text told))),
+    )
