@@ -11,3 +11,4 @@ pub mod Layouts
 pub mod Decoding
 pub mod Copyings
 pub mod Takings
+pub mod Worked

@@ -69,7 +69,7 @@ impl<C: Scratch> LineStore for PlanB<C> {
     ghost use Rattle.line_store.specs.Halves.{half_of};
     ghost use Rattle.line_store.specs.Store.{Keeps, HasCause};
     ghost use Rattle.page_pair.specs.Pair.{page_of};
-    ghost use Rattle.plan_b.specs.Held.{seen_of, page_held, ReadsOnceAtMost};
+    ghost use Rattle.plan_b.specs.Held.{seen_of, page_held, HoldsPage, ReadsOnceAtMost};
     ghost use Rattle.plan_b.specs.Layout.{decoded-count, page_number};
 
     ghost seen = { λ p. seen_of p.layout p.halves (C.view p.scratch) };
@@ -92,6 +92,7 @@ impl<C: Scratch> LineStore for PlanB<C> {
         ensures reads { ReadsOnceAtMost (C.view self.old.scratch) (C.view self.new.scratch) }
         ensures still { page_held self.old.layout self.old.halves half ≡ Some (page_number self.old.layout (k - 1)) → (C.view self.new.scratch).reads ≡ (C.view self.old.scratch).reads }
         ensures page { OnOk result (page_held self.new.layout self.new.halves half ≡ Some (page_number self.old.layout (k - 1))) }
+        ensures bytes { OnOk result (HoldsPage self.new.pair self.new.layout (C.view self.new.scratch) half (page_number self.old.layout (k - 1))) }
         ensures other_page { (h : Half) → h ≢ half → page_held self.new.layout self.new.halves h ≡ page_held self.old.layout self.old.halves h }
         ensures other_bytes { (h : Half) → h ≢ half → page_of self.new.pair h ≡ page_of self.old.pair h }
     {

@@ -132,6 +132,7 @@ pub fn load_line<C: Scratch>(
     requires high { k ≤ layout.count }
     ensures held { IsHeld pair.new layout halves.new (C.view scratch.new) }
     ensures loaded { OnOk result (half_of halves.new half ≡ Some k) }
+    ensures page { OnOk result (HoldsPage pair.new layout (C.view scratch.new) half (page_number layout (k - 1))) }
     ensures dropped { OnErr result (half_of halves.new half ≡ None) }
     ensures other { (h : Half) → h ≢ half → half_of halves.new h ≡ half_of halves.old h }
     ensures other_page { (h : Half) → h ≢ half → page_of pair.new h ≡ page_of pair.old h }

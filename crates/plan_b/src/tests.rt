@@ -36,6 +36,15 @@ fn has_line(plan: &mut PlanB<MemScratch>, k: u64, half: Half, bytes: &[u8]) -> b
     }
 }
 
+/// Whether a page is these records and zero bytes behind them.
+fn is_padded(page: &[u8], records: &[u8]) -> bool {
+    if page.len() < records.len() {
+        return false;
+    }
+    let (front, rest) = page.split_at(records.len());
+    front == records && rest.iter().all(|byte| *byte == 0)
+}
+
 #[test]
 fn writes_padded_pages(rt: HostRuntime) {
     let alloc = rt.alloc();
@@ -56,13 +65,9 @@ fn writes_padded_pages(rt: HostRuntime) {
     assert_eq!(rt; plan.count(), 0);
     let (pair, scratch) = plan.into_parts();
     assert_eq!(rt; pair.size(), 512);
-    let page = scratch.bytes();
-    assert_eq!(rt; page.len(), 512);
-    if page.len() == 512 {
-        let records = b"\x02\0\0\0a\n\0\0\x04\0\0\0bcd\n";
-        assert!(rt; page[..16] == records[..]);
-        assert!(rt; page[16..].iter().all(|byte| *byte == 0));
-    }
+    assert_eq!(rt; scratch.bytes().len(), 512);
+    let records = b"\x02\0\0\0a\n\0\0\x04\0\0\0bcd\n";
+    assert!(rt; is_padded(scratch.bytes(), records));
 }
 
 #[test]
