@@ -1,5 +1,5 @@
 -- Whole lines of a piece, and of the text where it stands.
-use Rattle.std.proofs.Common.{◌≡◌, ◌≢◌, ℕ, zero, suc, ◌+◌, ◌-◌, ◌<◌, ◌≤◌, Bool, true, false, eqb, eq-eqb, List, [], ◌∷◌, ◌++◌, length, get_or, take, drop, refl, sym, ap, ◌∙◌, arith, append-nil, length-append, length-drop}
+use Rattle.std.proofs.Common.{◌≡◌, ℕ, suc, ◌+◌, ◌-◌, ◌<◌, ◌≤◌, Bool, true, eq-eqb, List, [], ◌∷◌, ◌++◌, length, get_or, take, drop, refl, sym, ap, ◌∙◌, arith, append-nil, length-append, length-drop}
 use Rattle.std.proofs.lemmas.Bool.{eqb-true}
 use Rattle.std.proofs.lemmas.List.{take_rest, drop_all, drop-drop, drop-append-le, take-append-le, length-take}
 use Rattle.std.proofs.Math.ListN.{get_or-append}
@@ -7,7 +7,7 @@ use Rattle.std.specs.List.{slice_range}
 use Rattle.memchr.specs.Find.{Passes, is_byte, Nowhere, NoneBefore}
 use Rattle.line_list.specs.Lines.{lines}
 use Rattle.line_list.proofs.LineLemmas.{Clean, lines-first, lines-last, lines-end}
-use Rattle.plan_b.specs.Reading.{IsPart, IsWhole, IsNoneWhole, HasNoFeed}
+use Rattle.plan_b.specs.Reading.{IsPart, IsWhole, IsNoneWhole}
 
 -- the first line of a text ends with its first line feed, whatever follows
 pub feed-first : (s rest : List ℕ) (k : ℕ) → k < length s → get_or s k 0 ≡ 10 → Clean s k → lines (s ++ rest) ≡ take (suc k) s ∷ lines (drop (suc k) s ++ rest)

@@ -1,6 +1,6 @@
 -- What pages of records hold.
-use Rattle.std.proofs.Common.{◌≡◌, ℕ, zero, suc, ◌+◌, ◌-◌, ◌*◌, ◌/◌, ◌%◌, ◌^◌, ◌<◌, ◌≤◌, List, [], ◌∷◌, ◌++◌, length, get_or, take, drop, map, replicate, min, refl, sym, ap, subst, ◌∙◌, arith, append_assoc, length-append, length-drop}
-use Rattle.std.proofs.lemmas.List.{append-nil, length-take, take-take, get_or-take, get_or-drop, drop-append-le, take-append-le}
+use Rattle.std.proofs.Common.{◌≡◌, ℕ, zero, suc, ◌+◌, ◌-◌, ◌*◌, ◌/◌, ◌%◌, ◌<◌, ◌≤◌, List, [], ◌∷◌, ◌++◌, length, get_or, take, drop, replicate, min, refl, sym, ap, ◌∙◌, arith, append_assoc, length-append, length-drop}
+use Rattle.std.proofs.lemmas.List.{append-nil, length-take, take-take}
 use Rattle.std.proofs.Math.Seq.{take-append_seam, drop-append-add}
 use Rattle.std.proofs.Math.Nat.{suc-mul, zero-mul}
 use Rattle.std.proofs.lemmas.Nat.{from_le_bytes-to_le_bytes_4, div_below, mod_below, div-add-mod', mul-le}
@@ -9,8 +9,8 @@ use Rattle.std.proofs.lemmas.List.FromFn.{length-range_with_len, get_or-range_wi
 use Rattle.std.specs.List.{flat_map, range_with_len}
 use Rattle.std.specs.Int.{w32, to_le_bytes, from_le_bytes, div_ceil}
 use Rattle.plan_b.specs.declared.layout.Layout.{Layout}
-use Rattle.plan_b.specs.Pages.{longest, padded, record_of, page_with, lines_on, front_pages, pages_of_width}
-use Rattle.plan_b.specs.Layout.{IsLayout, HasRecords, page_number, place_on_page, place_of, stated, line_in, decoded}
+use Rattle.plan_b.specs.Pages.{longest, record_of, page_with, lines_on, front_pages}
+use Rattle.plan_b.specs.Layout.{IsLayout, HasRecords, place_of, stated, line_in, decoded}
 use Rattle.plan_b.proofs.LongLines.{longest-at}
 use Rattle.plan_b.proofs.Records.{record-length, padded-length}
 use Rattle.plan_b.proofs.Layouts.{rows-fit, some-fit}

@@ -12,7 +12,7 @@ use Rattle.line_store.specs.declared.halves.Halves.{Halves}
 use Rattle.line_store.specs.Halves.{half_of}
 use Rattle.page_pair.specs.Pair.{Pair, page_of}
 use Rattle.plan_b.specs.declared.layout.Layout.{Layout}
-use Rattle.plan_b.specs.Layout.{IsLayout, HasRecords, page_number, place_on_page, place_of, stated, line_in, decoded, lines_told, told-some}
+use Rattle.plan_b.specs.Layout.{page_number, place_on_page, place_of, stated, line_in, decoded, lines_told, told-some}
 use Rattle.plan_b.specs.Held.{seen_of, HoldsPage, HasPageCause, IsLoaded, IsHeld, page_held}
 use Rattle.plan_b.proofs.Windows.{window}
 

@@ -1,9 +1,9 @@
 -- Places of records on a page.
-use Rattle.std.proofs.Common.{◌≡◌, ℕ, ◌+◌, ◌*◌, ◌/◌, ◌%◌, ◌<◌, ◌≤◌, arith}
+use Rattle.std.proofs.Common.{◌≡◌, ℕ, ◌*◌, ◌/◌, ◌<◌, ◌≤◌, arith}
 use Rattle.std.proofs.Math.Nat.{div-mul-le_self}
-use Rattle.std.proofs.lemmas.Nat.{mul-le, le-div, mod_below}
+use Rattle.std.proofs.lemmas.Nat.{mul-le, le-div}
 use Rattle.plan_b.specs.declared.layout.Layout.{Layout}
-use Rattle.plan_b.specs.Layout.{IsLayout, page_number, place_on_page}
+use Rattle.plan_b.specs.Layout.{IsLayout}
 
 pub rows-fit : (l : Layout) (n : ℕ) → IsLayout l → n ≤ l.per_page → n * l.width ≤ l.size
 rows-fit l n is le =

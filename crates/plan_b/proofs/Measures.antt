@@ -1,14 +1,14 @@
 -- Lines measured one after another.
-use Rattle.std.proofs.Common.{◌≡◌, ℕ, suc, ◌+◌, ◌-◌, ◌<◌, ◌≤◌, Bool, List, [], ◌∷◌, ◌++◌, length, drop, max, refl, sym, ap, subst, ◌∙◌, arith, append_assoc, append-nil, length-append, Some, None}
+use Rattle.std.proofs.Common.{◌≡◌, ℕ, ◌+◌, ◌-◌, ◌<◌, ◌≤◌, Bool, List, [], ◌∷◌, ◌++◌, length, drop, max, refl, sym, ap, subst, ◌∙◌, arith, append_assoc, append-nil, length-append, Some}
 use Rattle.std.specs.List.{slice_range}
 use Rattle.line_list.specs.Lines.{lines}
 use Rattle.line_list.proofs.LineLemmas.{lines-end}
 use Rattle.line_store.specs.declared.fault.OpenFault.TheVariants.{LongLine}
-use Rattle.line_store.specs.Taking.{first_long, long_line}
+use Rattle.line_store.specs.Taking.{long_line}
 use Rattle.plan_b.specs.Pages.{longest}
 use Rattle.plan_b.specs.Reading.{IsPart, IsWhole, IsMeasured}
 use Rattle.plan_b.proofs.Cuts.{part-line, slice-length}
-use Rattle.plan_b.proofs.LongLines.{longest-more, none-long, first-long}
+use Rattle.plan_b.proofs.LongLines.{longest-more, first-long}
 
 pub measured-none : (text : List ℕ) → IsMeasured text 0 0 0
 measured-none text = record { front = []; split = refl; counted = refl; widest = refl }

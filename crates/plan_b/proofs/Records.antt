@@ -1,7 +1,7 @@
 -- Bytes written one behind another on a page.
-use Rattle.std.proofs.Common.{◌≡◌, ℕ, ◌+◌, ◌-◌, ◌*◌, ◌<◌, ◌≤◌, List, [], ◌∷◌, ◌++◌, length, take, drop, replicate, refl, sym, ap, subst, ◌∙◌, arith, append_assoc, length-append, length-drop}
-use Rattle.std.proofs.lemmas.List.{length-take, length-take-le, take-append-le, length-replicate, drop_all, append-nil}
-use Rattle.std.proofs.Math.Seq.{take-append-add, take-append_seam}
+use Rattle.std.proofs.Common.{◌≡◌, ℕ, ◌+◌, ◌-◌, ◌≤◌, List, [], ◌++◌, length, take, drop, replicate, refl, sym, ap, subst, ◌∙◌, arith, append_assoc, length-append, length-drop}
+use Rattle.std.proofs.lemmas.List.{length-take, length-take-le, length-replicate, drop_all, append-nil}
+use Rattle.std.proofs.Math.Seq.{take-append_seam}
 use Rattle.std.specs.Int.{w32, to_le_bytes}
 use Rattle.outside.specs.ScratchView.{overwritten}
 use Rattle.plan_b.specs.Pages.{padded, record_of}

@@ -1,5 +1,5 @@
 -- A file that was taken.
-use Rattle.std.proofs.Common.{◌≡◌, ℕ, ◌+◌, ◌-◌, ◌^◌, ◌<◌, ◌≤◌, true, false, List, [], length, Option, None, Some, is_some, refl, sym, ap, subst, ◌∙◌, arith, inl, inr}
+use Rattle.std.proofs.Common.{◌≡◌, ℕ, ◌^◌, ◌<◌, true, false, List, length, Option, None, Some, is_some, refl, sym, ap, subst, ◌∙◌, arith, inl, inr}
 use Rattle.std.specs.Prelude.{nat_le}
 use Rattle.std.specs.Int.{div_ceil}
 use Rattle.std.specs.Option.{option_map}
@@ -13,17 +13,16 @@ use Rattle.line_store.specs.declared.Half.{Half}
 use Rattle.line_store.specs.declared.halves.Halves.{Halves}
 use Rattle.line_store.specs.Halves.{half_of}
 use Rattle.line_store.specs.Store.{Seen, line_at}
-use Rattle.line_store.specs.Taking.{refusal, long_line, first_long, Takes, IsEmpty}
+use Rattle.line_store.specs.Taking.{refusal, first_long, Takes, IsEmpty}
 use Rattle.line_store.specs.declared.fault.OpenFault.TheVariants.{LongLine}
 use Rattle.page_pair.specs.Pair.{Pair}
 use Rattle.plan_b.specs.declared.layout.Layout.{Layout}
-use Rattle.plan_b.specs.Pages.{longest, width_of, pages, pages_of_width, front_pages}
-use Rattle.plan_b.specs.Layout.{IsLayout, HasRecords, decoded, lines_told, told-none, told-some}
+use Rattle.plan_b.specs.Pages.{width_of, pages, pages_of_width, front_pages}
+use Rattle.plan_b.specs.Layout.{IsLayout, decoded, lines_told, told-none, told-some}
 use Rattle.plan_b.specs.Held.{seen_of, IsHeld}
 use Rattle.plan_b.specs.Measuring.{IsMeasuredAs}
 use Rattle.plan_b.specs.Copying.{IsWritten}
 use Rattle.plan_b.proofs.Decoding.{pages-records, pages-decoded}
-use Rattle.plan_b.proofs.Fillings.{told-before}
 
 pub empty-seen : (l : Layout) (halves : Halves) (v : ScratchView) → l.count ≡ 0 → IsEmpty (seen_of l halves v)
 empty-seen l halves v e = record { told = told-none l v.told e; count = e }

@@ -1,15 +1,13 @@
 -- Records made on a page, and pages written one behind another.
-use Rattle.std.specs.Prelude.{◌≡◌, ◌≢◌, ℕ, ◌+◌, ◌*◌, ◌^◌, ◌<◌, ◌≤◌, List, [], ◌∷◌, ◌++◌, length, take, drop, Bool, true, Option, Some}
+use Rattle.std.specs.Prelude.{◌≡◌, ℕ, ◌+◌, ◌*◌, ◌^◌, ◌<◌, ◌≤◌, List, ◌++◌, length, take, drop, Option, Some}
 use Rattle.std.specs.List.{flat_map}
 use Rattle.outside.specs.Faults.{HasRisen}
 use Rattle.outside.specs.ScratchView.{ScratchView}
-use Rattle.line_list.specs.Lines.{lines}
 use Rattle.line_store.specs.declared.fault.OpenFault.{OpenFault}
 use Rattle.line_store.specs.declared.fault.OpenFault.TheVariants.{Tree, Scratch, LongLine, FileTooLong, Disagree, Memory}
 use Rattle.plan_b.specs.declared.layout.Layout.{Layout}
 use Rattle.plan_b.specs.declared.filling.Filling.{Filling}
-use Rattle.plan_b.specs.Pages.{longest, record_of, front_pages, pages_of_width}
-use Rattle.plan_b.specs.Reading.{IsPart}
+use Rattle.plan_b.specs.Pages.{longest, record_of, front_pages}
 
 -- bytes hold a piece at a place, and before it what the old ones hold
 pub record Extends (old new : List ℕ) (at : ℕ) (piece : List ℕ) : Type 0 where

@@ -1,6 +1,5 @@
-use Rattle.std.proofs.Common.{◌≡◌, ◌≢◌, ◌+◌, ◌-◌, ◌*◌, ◌<◌, ◌≤◌, ℕ, List, length, Some, None, sym, refl, ap, subst, ◌∙◌, arith}
-use Rattle.line_list.specs.Lines.{lines}
-use Rattle.line_store.specs.declared.Half.TheVariants.{First, Second}
+use Rattle.std.proofs.Common.{◌≡◌, ◌≤◌, length, Some, refl, subst, ◌∙◌, arith}
+use Rattle.line_store.specs.declared.Half.TheVariants.{Second}
 use Rattle.outside.specs.Files.{bytes_at}
 use Rattle.outside.specs.ScratchView.{scratch_passes_none, scratch_passes_both}
 use Rattle.outside.proofs.Views.{untouched_none, untouched_both}
@@ -9,8 +8,8 @@ use Rattle.plan_b.specs.Reading.{told_file}
 use Rattle.plan_b.specs.Copying.{IsCopied}
 use Rattle.plan_b.proofs.Windows.{none-unless}
 use Rattle.plan_b.proofs.Layouts.{some-fit}
-use Rattle.plan_b.proofs.Readings.{told-later, told-same}
-use Rattle.plan_b.proofs.Copyings.{ready-none, copied-none, written-all, end-fault, copied-count, take-later}
+use Rattle.plan_b.proofs.Readings.{told-same}
+use Rattle.plan_b.proofs.Copyings.{ready-none, copied-none, written-all, end-fault, copied-count}
 use Rattle.plan_b.proofs.copying.copy_file.Goals as goal
 
 pub loop-copied-init : goal.loop-copied-init

@@ -1,5 +1,5 @@
-use Rattle.std.proofs.Common.{◌≡◌, ◌+◌, ◌-◌, ◌*◌, ◌≤◌, ℕ, List, Some}
-use Rattle.line_store.specs.declared.Half.TheVariants.{First, Second}
+use Rattle.std.proofs.Common.{◌≡◌, ◌+◌, ◌-◌, ◌*◌, ◌≤◌}
+use Rattle.line_store.specs.declared.Half.TheVariants.{Second}
 use Rattle.outside.specs.Calls.{IsUntouched}
 use Rattle.outside.specs.ScratchView.{ScratchPasses}
 use Rattle.page_pair.specs.Pair.{page_of}

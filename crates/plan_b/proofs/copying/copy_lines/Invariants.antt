@@ -1,4 +1,4 @@
-use Rattle.std.proofs.Common.{◌≡◌, ◌+◌, ◌-◌, ◌*◌, ◌≤◌, ℕ, List, length, take}
+use Rattle.std.proofs.Common.{◌≡◌, ◌+◌, ◌-◌, ◌*◌, ◌≤◌, take}
 use Rattle.line_store.specs.declared.Half.TheVariants.{First, Second}
 use Rattle.outside.specs.ScratchView.{ScratchPasses}
 use Rattle.page_pair.specs.Pair.{page_of}

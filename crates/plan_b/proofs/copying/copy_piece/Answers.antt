@@ -1,13 +1,13 @@
-use Rattle.std.proofs.Common.{◌≡◌, ◌+◌, ◌-◌, ◌*◌, ◌<◌, ◌≤◌, eqb, eq-eqb, true, ℕ, List, ◌++◌, length, min, take, drop, Some, None, sym, refl, ap, subst, ◌∙◌, arith, inl, inr}
+use Rattle.std.proofs.Common.{◌≡◌, ◌+◌, ◌-◌, ◌<◌, ◌≤◌, eqb, eq-eqb, ℕ, List, length, min, take, drop, Some, sym, refl, subst, ◌∙◌, arith, inl, inr}
 use Rattle.std.proofs.lemmas.Bool.{eqb-true, cases_eq}
 use Rattle.std.proofs.lemmas.List.{length-take}
 use Rattle.line_list.specs.Lines.{lines}
 use Rattle.line_store.specs.declared.Half.TheVariants.{First, Second}
 use Rattle.outside.specs.Files.{bytes_at}
 use Rattle.page_pair.specs.Pair.{page_of}
-use Rattle.plan_b.specs.Pages.{longest, width_of}
+use Rattle.plan_b.specs.Pages.{longest}
 use Rattle.plan_b.specs.Reading.{told_file, IsPart, HasNoFeed}
-use Rattle.plan_b.specs.Copying.{Copies, IsCopied}
+use Rattle.plan_b.specs.Copying.{IsCopied}
 use Rattle.plan_b.proofs.Windows.{none-unless}
 use Rattle.plan_b.proofs.Readings.{part-made, open-made}
 use Rattle.plan_b.proofs.Copyings.{take-fault, copied-more, copied-short, open-wide}

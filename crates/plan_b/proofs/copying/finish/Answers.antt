@@ -1,5 +1,5 @@
-use Rattle.std.proofs.Common.{◌≡◌, ◌+◌, ◌-◌, ◌*◌, ◌<◌, ◌≤◌, ℕ, List, ◌++◌, length, take, Some, sym, ap, ◌∙◌, arith}
-use Rattle.line_store.specs.declared.Half.TheVariants.{First, Second}
+use Rattle.std.proofs.Common.{◌*◌, ◌<◌, ◌++◌, take, Some, sym, ap, ◌∙◌, arith}
+use Rattle.line_store.specs.declared.Half.TheVariants.{Second}
 use Rattle.page_pair.specs.Pair.{page_of}
 use Rattle.plan_b.specs.Pages.{padded}
 use Rattle.plan_b.proofs.Fillings.{page-flushed}

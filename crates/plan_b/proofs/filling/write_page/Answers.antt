@@ -1,9 +1,8 @@
-use Rattle.std.proofs.Common.{◌≡◌, ◌+◌, ◌-◌, ◌<◌, ◌≤◌, ℕ, List, ◌++◌, length, take, Some, sym, ap, subst, ◌∙◌, arith}
+use Rattle.std.proofs.Common.{◌≡◌, ◌-◌, ◌++◌, Some, ap, ◌∙◌}
 use Rattle.std.specs.Prelude.{replicate}
-use Rattle.line_store.specs.declared.Half.TheVariants.{First, Second}
+use Rattle.line_store.specs.declared.Half.TheVariants.{Second}
 use Rattle.outside.specs.ScratchView.{overwritten}
 use Rattle.page_pair.specs.Pair.{page_of}
-use Rattle.plan_b.specs.Pages.{padded}
 use Rattle.plan_b.proofs.Records.{page-padded}
 use Rattle.plan_b.proofs.Fillings.{over-end}
 use Rattle.plan_b.proofs.filling.write_page.Goals as goal

@@ -1,4 +1,4 @@
-use Rattle.std.proofs.Common.{◌≡◌, ◌+◌, ◌-◌, ◌*◌, ◌≤◌, ℕ, length, sym, subst, arith}
+use Rattle.std.proofs.Common.{◌+◌, ◌-◌, ◌*◌, ◌≤◌, length, sym, subst, arith}
 use Rattle.plan_b.proofs.HeldLemmas.{page-kept}
 use Rattle.plan_b.proofs.loading.fetch_page.Goals as goal
 

@@ -1,5 +1,4 @@
-use Rattle.std.proofs.Common.{◌≡◌, ◌+◌, ◌-◌, ◌*◌, ◌≤◌, ◌<◌, ℕ, sym, ap, ◌∙◌, arith}
-use Rattle.page_pair.specs.Pair.{page_of}
+use Rattle.std.proofs.Common.{◌≡◌, ◌+◌, ◌-◌, ◌*◌, ◌≤◌, ℕ, ap, ◌∙◌, arith}
 use Rattle.plan_b.specs.Layout.{place_on_page, place_of, page_number, stated}
 use Rattle.plan_b.proofs.HeldLemmas.{stated-on-page}
 use Rattle.plan_b.proofs.Windows.{none-unless}

@@ -1,4 +1,4 @@
-use Rattle.std.proofs.Common.{◌≡◌, ℕ, Some, sym, subst, ◌∙◌, arith}
+use Rattle.std.proofs.Common.{◌≡◌, Some, sym, subst, ◌∙◌, arith}
 use Rattle.plan_b.specs.Held.{IsLoaded}
 use Rattle.std.proofs.lemmas.Option.{none-some}
 use Rattle.plan_b.proofs.HeldLemmas.{held-more, load-cause}

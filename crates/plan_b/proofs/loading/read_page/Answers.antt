@@ -1,4 +1,4 @@
-use Rattle.std.proofs.Common.{rules, ◌≡◌, ◌≢◌, ◌≤◌, ◌<◌, ◌+◌, ◌-◌, ◌*◌, ℕ, List, length, sym, arith, length-drop, take, drop, ap, ◌∙◌}
+use Rattle.std.proofs.Common.{◌≡◌, ◌≤◌, ◌+◌, ◌-◌, ◌*◌, ℕ, length, sym, arith, length-drop, drop, ap, ◌∙◌}
 use Rattle.plan_b.proofs.Windows.{none-unless, came-whole, page-length}
 use Rattle.plan_b.proofs.loading.read_page.Goals as goal
 

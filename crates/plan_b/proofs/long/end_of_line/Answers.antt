@@ -1,4 +1,4 @@
-use Rattle.std.proofs.Common.{◌≡◌, ◌+◌, ◌-◌, ◌<◌, ◌≤◌, ℕ, List, length, sym, ap, subst, ◌∙◌, arith, Bool, true, false}
+use Rattle.std.proofs.Common.{◌≡◌, ◌<◌, ℕ, List, length, ◌∙◌, arith, Bool, true, false}
 use Rattle.std.specs.Prelude.{not}
 use Rattle.outside.proofs.Views.{untouched_both}
 use Rattle.plan_b.specs.Reading.{GoesTo, IsOpen}

@@ -1,4 +1,4 @@
-use Rattle.std.proofs.Common.{◌≡◌, ◌-◌, ◌<◌, ◌≤◌, ℕ, List, Some}
+use Rattle.std.proofs.Common.{◌≡◌, ◌-◌, ◌≤◌, ℕ, List, Some}
 use Rattle.outside.specs.Calls.{IsUntouched}
 use Rattle.plan_b.specs.Reading.{told_file, GoesTo}
 use Rattle.plan_b.proofs.long.end_of_line.Given as goal

@@ -1,4 +1,4 @@
-use Rattle.std.proofs.Common.{◌≡◌, ◌+◌, ◌-◌, ◌<◌, ◌≤◌, ℕ, List, length, take, drop, min, sym, ap, ◌∙◌, arith}
+use Rattle.std.proofs.Common.{◌≡◌, ◌-◌, length, take, min, ap, ◌∙◌, arith}
 use Rattle.plan_b.proofs.Opens.{open-some, open-none}
 use Rattle.plan_b.proofs.long.read_on.Goals as goal
 

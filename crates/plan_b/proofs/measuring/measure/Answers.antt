@@ -1,10 +1,10 @@
-use Rattle.std.proofs.Common.{◌≡◌, ◌+◌, ◌-◌, ◌<◌, ◌≤◌, ℕ, List, length, None, sym, ap, subst, ◌∙◌, arith}
+use Rattle.std.proofs.Common.{◌≡◌, ◌+◌, ◌-◌, ◌≤◌, length, None, sym, ap, subst, ◌∙◌, arith}
 use Rattle.line_list.specs.Lines.{lines}
 use Rattle.line_store.specs.Taking.{first_long}
 use Rattle.outside.proofs.Views.{untouched_both}
 use Rattle.plan_b.specs.Pages.{longest}
 use Rattle.plan_b.proofs.LongLines.{none-long}
-use Rattle.plan_b.proofs.Measures.{measured-none, measured-all}
+use Rattle.plan_b.proofs.Measures.{measured-all}
 use Rattle.plan_b.proofs.Readings.{told-later}
 use Rattle.plan_b.proofs.measuring.measure.Goals as goal
 

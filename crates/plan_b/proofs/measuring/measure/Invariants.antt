@@ -1,4 +1,4 @@
-use Rattle.std.proofs.Common.{◌≡◌, ◌-◌, ◌<◌, ◌≤◌, ℕ, List, Some}
+use Rattle.std.proofs.Common.{◌≡◌, ◌-◌, ◌≤◌, ℕ, List, Some}
 use Rattle.outside.specs.Calls.{IsUntouched}
 use Rattle.line_store.specs.Taking.{IsSize}
 use Rattle.plan_b.specs.Reading.{told_file, IsMeasured}

@@ -1,4 +1,4 @@
-use Rattle.std.proofs.Common.{◌≡◌, ◌+◌, ◌-◌, ◌<◌, ◌≤◌, ℕ, length, arith}
+use Rattle.std.proofs.Common.{◌≡◌, ◌+◌, ◌-◌, ◌<◌, ◌≤◌, length, arith}
 use Rattle.plan_b.proofs.Measures.{measured-step, measured-stop}
 use Rattle.plan_b.proofs.measuring.measure_lines.Goals as goal
 

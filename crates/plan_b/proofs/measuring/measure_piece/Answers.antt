@@ -1,10 +1,10 @@
-use Rattle.std.proofs.Common.{◌≡◌, ◌+◌, ◌-◌, ◌<◌, ◌≤◌, eqb, ℕ, List, length, drop, take, min, Some, sym, ap, subst, ◌∙◌, arith}
+use Rattle.std.proofs.Common.{◌≡◌, ◌+◌, ◌-◌, ◌<◌, ◌≤◌, eqb, length, drop, take, min, Some, sym, ap, subst, ◌∙◌, arith}
 use Rattle.std.proofs.lemmas.Bool.{eqb-true}
 use Rattle.line_list.specs.Lines.{lines}
 use Rattle.line_store.specs.declared.fault.OpenFault.TheVariants.{LongLine}
 use Rattle.line_store.specs.Taking.{long_line}
 use Rattle.outside.proofs.Views.{untouched_both}
-use Rattle.plan_b.specs.Reading.{HasNoFeed, IsPart}
+use Rattle.plan_b.specs.Reading.{HasNoFeed}
 use Rattle.plan_b.proofs.Readings.{refusal-long, part-made, open-made, told-sooner}
 use Rattle.plan_b.proofs.measuring.measure_piece.Goals as goal
 

@@ -1,4 +1,4 @@
-use Rattle.std.proofs.Common.{◌≡◌, ◌+◌, ◌-◌, ◌<◌, ◌≤◌, ℕ, List, length, Some, ap, ◌∙◌, arith}
+use Rattle.std.proofs.Common.{◌≡◌, ◌+◌, ◌-◌, ◌≤◌, ℕ, length, Some, ap, ◌∙◌, arith}
 use Rattle.std.specs.List.{slice_range}
 use Rattle.line_store.specs.declared.fault.OpenFault.TheVariants.{LongLine}
 use Rattle.plan_b.proofs.Cuts.{slice-length}

@@ -1,4 +1,4 @@
-use Rattle.std.proofs.Common.{None, Some, Option, ◌≡◌, ℕ, length, subst, sym, refl}
+use Rattle.std.proofs.Common.{None, Some, length, subst, sym}
 use Rattle.std.proofs.lemmas.List.{take_rest}
 use Rattle.plan_b.specs.Reading.{FindsWhole, IsOpenEnd, IsWhole}
 use Rattle.plan_b.proofs.Cuts.{whole-feed, whole-open, none-whole}

@@ -1,5 +1,4 @@
-use Rattle.std.proofs.Common.{◌≡◌, ◌+◌, ℕ, length, get_or, take, drop, arith}
-use Rattle.std.specs.List.{slice_index}
+use Rattle.std.proofs.Common.{◌≡◌, ◌+◌, get_or, take, drop, arith}
 use Rattle.plan_b.specs.Layout.{stated}
 use Rattle.plan_b.proofs.Windows.{part-at}
 use Rattle.plan_b.proofs.record.stated_length.Goals as goal

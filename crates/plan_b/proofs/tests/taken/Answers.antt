@@ -1,4 +1,4 @@
-use Rattle.std.proofs.Common.{◌≡◌, ℕ, List, Some, rules, sym, ap, ◌∙◌}
+use Rattle.std.proofs.Common.{◌≡◌, Some, rules, sym, ap, ◌∙◌}
 use Rattle.std.specs.FinMap.{get, insert, empty}
 use Rattle.outside.specs.Files.{Files}
 use Rattle.outside.proofs.Names.{get-put}
