@@ -1,0 +1,14 @@
+pub mod Windows
+pub mod HeldLemmas
+pub mod Cuts
+pub mod Measures
+pub mod LongLines
+pub mod Opens
+pub mod Readings
+pub mod Records
+pub mod Fillings
+pub mod Layouts
+pub mod Decoding
+pub mod Copyings
+pub mod Takings
+pub mod Worked

@@ -1,0 +1,17 @@
+-- The format at the lines `a` and `bcd`, each with its line feed.
+use Rattle.std.proofs.Common.{◌≡◌, ℕ, List, [], ◌∷◌, refl}
+use Rattle.plan_b.specs.Pages.{width_of, record_of}
+
+abbrev pub two_lines : List (List ℕ)
+two_lines = (97 ∷ 10 ∷ []) ∷ (98 ∷ 99 ∷ 100 ∷ 10 ∷ []) ∷ []
+
+pub width_worked : width_of two_lines ≡ 8
+width_worked = refl
+
+pub first_worked : record_of 8 (97 ∷ 10 ∷ []) ≡ 2 ∷ 0 ∷ 0 ∷ 0 ∷ 97 ∷ 10 ∷ 0 ∷ 0 ∷ []
+unfolding record_of
+first_worked = refl
+
+pub second_worked : record_of 8 (98 ∷ 99 ∷ 100 ∷ 10 ∷ []) ≡ 4 ∷ 0 ∷ 0 ∷ 0 ∷ 98 ∷ 99 ∷ 100 ∷ 10 ∷ []
+unfolding record_of
+second_worked = refl

@@ -1,0 +1,42 @@
+use Rattle.std.proofs.Common.{◌≡◌, ◌+◌, ◌*◌, ◌<◌, ℕ, List, ◌++◌, [], ◌∷◌, length, min, take, drop, Some, refl, sym, ap, ◌∙◌, arith}
+use Rattle.std.proofs.lemmas.List.{length-take}
+use Rattle.line_store.specs.declared.Half.TheVariants.{First, Second}
+use Rattle.page_pair.specs.Pair.{page_of}
+use Rattle.plan_b.specs.Pages.{padded}
+use Rattle.plan_b.proofs.Fillings.{filled-more, filled-full, ready-full}
+use Rattle.plan_b.proofs.Layouts.{rows-fit}
+use Rattle.plan_b.proofs.filling.put_record.Goals as goal
+
+pub returns-then-records-layout-clause-filled : goal.returns-then-records-layout-clause-filled
+returns-then-records-layout-clause-filled g c ls was =
+    let line : List ℕ = take c.args.count (drop c.args.from (page_of c.args.pair.now First)) in
+    let short : length (take c.args.count (drop c.args.from (page_of c.args.pair.now First))) ≡ min c.args.count (length (drop c.args.from (page_of c.args.pair.now First))) = length-take c.args.count (drop c.args.from (page_of c.args.pair.now First)) in
+    filled-more c.args.layout (g.C.Scratch.view c.args.scratch.now).told (page_of c.args.pair.now Second) (page_of c.make_record.new.pair Second) (take c.args.count (drop c.args.from (page_of c.args.pair.now First))) c.args.filling (record { pages = c.args.filling.pages; records = c.args.filling.records + 1 }) ls
+    refl refl (omega arith) c.make_record.ensures.made was
+
+pub returns-clause-ready : goal.returns-clause-ready
+returns-clause-ready g c =
+    let view = g.C.Scratch.view in
+    let l = c.args.layout in
+    let some : c.args.filling.records < l.per_page = c.requires.ready.some in
+    let full : c.args.filling.records + 1 ≡ l.per_page = omega arith in
+    let size : c.make_record.new.pair.size ≡ l.size = c.make_record.ensures.size ∙ sym c.requires.size in
+    ready-full l (view c.args.scratch.now).told (view c.write_page.new.scratch).told (page_of c.make_record.new.pair Second) ((c.args.filling.records + 1) * l.width) c.args.filling (record { pages = c.args.filling.pages + 1; records = 0 })
+    (rows-fit l (c.args.filling.records + 1) c.requires.layout (omega arith)) (omega arith) refl refl full c.requires.few c.write_page.ensures.passes.telling
+    (λ b told. c.in_ok-write_page.ensures.written b told ∙ ap (λ n. Some (b ++ padded n (take ((c.args.filling.records + 1) * l.width) (page_of c.make_record.new.pair Second)))) size)
+    c.requires.ready
+
+pub returns-clause-filled : goal.returns-clause-filled
+returns-clause-filled g c ls was =
+    let view = g.C.Scratch.view in
+    let l = c.args.layout in
+    let line : List ℕ = take c.args.count (drop c.args.from (page_of c.args.pair.now First)) in
+    let some : c.args.filling.records < l.per_page = c.requires.ready.some in
+    let full : c.args.filling.records + 1 ≡ l.per_page = omega arith in
+    let size : c.make_record.new.pair.size ≡ l.size = c.make_record.ensures.size ∙ sym c.requires.size in
+    let short : length (take c.args.count (drop c.args.from (page_of c.args.pair.now First))) ≡ min c.args.count (length (drop c.args.from (page_of c.args.pair.now First))) = length-take c.args.count (drop c.args.from (page_of c.args.pair.now First)) in
+    filled-full l (view c.args.scratch.now).told (view c.write_page.new.scratch).told (page_of c.make_record.new.pair Second) (page_of c.write_page.new.pair Second) (record { pages = c.args.filling.pages; records = c.args.filling.records + 1 }) (record { pages = c.args.filling.pages + 1; records = 0 }) (ls ++ take c.args.count (drop c.args.from (page_of c.args.pair.now First)) ∷ [])
+    full refl refl c.write_page.ensures.passes.telling
+    (λ b told. c.in_ok-write_page.ensures.written b told ∙ ap (λ n. Some (b ++ padded n (take ((c.args.filling.records + 1) * l.width) (page_of c.make_record.new.pair Second)))) size)
+    (filled-more l (view c.args.scratch.now).told (page_of c.args.pair.now Second) (page_of c.make_record.new.pair Second) (take c.args.count (drop c.args.from (page_of c.args.pair.now First))) c.args.filling (record { pages = c.args.filling.pages; records = c.args.filling.records + 1 }) ls
+    refl refl (omega arith) c.make_record.ensures.made was)

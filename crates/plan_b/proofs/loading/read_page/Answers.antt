@@ -1,0 +1,14 @@
+use Rattle.std.proofs.Common.{◌≡◌, ◌≤◌, ◌+◌, ◌-◌, ◌*◌, ℕ, length, sym, arith, length-drop, drop, ap, ◌∙◌}
+use Rattle.plan_b.proofs.Windows.{none-unless, came-whole, page-length}
+use Rattle.plan_b.proofs.loading.read_page.Goals as goal
+
+pub returns-in-Ok-2-clause-cause : goal.returns-in-Ok-2-clause-cause
+returns-in-Ok-2-clause-cause g c = (
+  λ e. c.if-got-want.false (sym e),
+  none-unless _ (λ b told.
+      let at : ℕ = c.args.page * c.args.layout.size in
+      let whole : at + c.args.layout.size ≤ length b = c.requires.whole b told in
+      let left : length (drop at b) ≡ length b - at = length-drop at b in
+      let size : c.args.layout.size ≡ length c.page_mut.result.now = c.requires.size ∙ sym (page-length c.args.pair.now c.page_mut.ensures.pair c.args.half) ∙ ap length (sym c.page_mut.ensures.is) in
+      c.if-got-want.false (came-whole c.in-Ok.got (length c.page_mut.result.now) c.read_at.new.buf (drop at b) (c.in-Ok.ensures.bytes b told) (omega arith) c.in-Ok.ensures.count ∙ sym size)),
+)
