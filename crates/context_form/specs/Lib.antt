@@ -1,1 +1,5 @@
 pub mod Openings
+pub mod Ranges
+pub mod Parts
+pub mod Merging
+pub mod Hunks

@@ -1,6 +1,10 @@
 //! The context form of a patch (GNU diffutils manual, "Detailed Description of Context Format").
 #![tactic(auto)]
 
+mod merging;
+mod hunks;
 mod opening;
+mod part;
+mod range;
 
 pub use opening::at_opening;

@@ -1,0 +1,4 @@
+pub mod SliceLemmas
+pub mod Loops
+pub mod MergeLemmas
+pub mod MergeLaws
