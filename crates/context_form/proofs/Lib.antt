@@ -2,3 +2,5 @@ pub mod SliceLemmas
 pub mod Loops
 pub mod MergeLemmas
 pub mod MergeLaws
+pub mod RangeGrammar
+pub mod PartLemmas

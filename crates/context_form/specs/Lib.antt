@@ -3,3 +3,4 @@ pub mod Ranges
 pub mod Parts
 pub mod Merging
 pub mod Hunks
+pub mod Grammar

@@ -168,3 +168,157 @@ fn read_new(
     };
     Ok((part, place))
 }
+
+/// How many lines a part with this partner has: where it is left out, the kept lines of the partner.
+fn size_beside(part: &Body, partner: &Body) -> usize
+    ensures { (text : List ℕ) → result ≡ size_beside (plain_of text part.now) (plain_of text partner.now) }
+{
+    if part.lines.is_empty() {
+        kept_lines(&partner.lines)
+    } else {
+        part.lines.len()
+    }
+}
+
+/// Whether a part with this partner has the stated number of lines, and none above the greatest number.
+fn has_size(part: &Part, partner: &Part) -> Result<(), FormFault>
+    requires { Fits part.now.stated }
+    ensures { (text : List ℕ) → Gives (λ x. tt) result (sized (part_over text part.now) (part_over text partner.now)) }
+{
+    let size = size_beside(&part.body, &partner.body) as u64;
+    if !part.stated.is_count(size) {
+        return Err(bad(part.number, BadKind::Count));
+    }
+    if part.stated.start + size > 4_294_967_295 {
+        return Err(bad(part.number, BadKind::NumberTooLarge));
+    }
+    Ok(())
+}
+
+/// The hunk of two whole parts, where they agree.
+#[tactic(auto, unfolding(crate::specs::Hunks::whole))]
+fn hunk_from(alloc: Global, text: &[u8], old: Part, new: Part) -> Result<Hunk, FormFault>
+    requires old_within { All (λ l. LiesIn text.now l.span) old.body.lines.items }
+    requires new_within { All (λ l. LiesIn text.now l.span) new.body.lines.items }
+    requires few { vec_len old.body.lines + vec_len new.body.lines < 2 ^ 32 }
+    requires old_fits { Fits old.stated }
+    requires new_fits { Fits new.stated }
+    ensures few { IfOk result (λ x. vec_len x.body ≤ vec_len old.body.lines + vec_len new.body.lines) }
+    ensures lawful { IfOk result (IsLawful text.now) }
+    ensures exact { Gives (hunk_of text.now) result (whole (part_over text.now old) (part_over text.now new)) }
+{
+    has_size(&old, &new)?;
+    has_size(&new, &old)?;
+    let number = new.number;
+    let old_start = old.stated.start as u32;
+    let new_start = new.stated.start as u32;
+    match joined(alloc, text, old.body, new.body)? {
+        None => Err(bad(number, BadKind::SidesDiffer)),
+        Some(body) => Ok(Hunk {
+            old_start,
+            new_start,
+            body,
+        }),
+    }
+}
+
+/// Both parts, with the place after them, where no backslash line stands.
+#[tactic(auto, unfolding(crate::specs::Hunks::parts_at))]
+fn read_parts(
+    alloc: Global,
+    text: &[u8],
+    least: u64,
+    place: Place,
+) -> Result<((Part, Part), Place), FormFault>
+    requires { IsPlace text.now place }
+    ensures place { IfOk result (λ x. IsPlace text.now x.1 × (place.at < x.1.at)) }
+    ensures few { IfOk result (λ x. place.at + vec_len x.0.0.body.lines + vec_len x.0.1.body.lines ≤ x.1.at) }
+    ensures old_lies { IfOk result (λ x. All (λ l. LiesIn text.now l.span) x.0.0.body.lines.items) }
+    ensures new_lies { IfOk result (λ x. All (λ l. LiesIn text.now l.span) x.0.1.body.lines.items) }
+    ensures old_fits { IfOk result (λ x. Fits x.0.0.stated) }
+    ensures new_fits { IfOk result (λ x. Fits x.0.1.stated) }
+    ensures exact { Gives (λ x. ((part_over text.now x.0.0, part_over text.now x.0.1), ahead_of text.now x.1)) result (parts_at least (ahead_of text.now place)) }
+{
+    let (old, place) = read_old(alloc, text, least, place)?;
+    let (new, place) = read_new(alloc, text, &old, place)?;
+    if backslash_end(text, place.at).is_some() {
+        return Err(bad(place.number, BadKind::MisplacedBackslash));
+    }
+    Ok(((old, new), place))
+}
+
+/// A hunk whose old start is at least `least`, with the place after it.
+#[tactic(auto, unfolding(crate::specs::Hunks::first_hunk))]
+fn take_hunk(
+    alloc: Global,
+    text: &[u8],
+    least: u64,
+    place: Place,
+) -> Result<(Hunk, Place), FormFault>
+    requires { IsPlace text.now place }
+    ensures place { IfOk result (λ x. IsPlace text.now x.1 × (place.at < x.1.at)) }
+    ensures few { IfOk result (λ x. place.at + vec_len x.0.body ≤ x.1.at) }
+    ensures lawful { IfOk result (λ x. IsLawful text.now x.0) }
+    ensures exact { Gives (λ x. (hunk_of text.now x.0, ahead_of text.now x.1)) result (hunk_at least (ahead_of text.now place)) }
+{
+    let number = place.number;
+    let Some(end) = next_line(text, place.at) else {
+        return Err(bad(number, BadKind::ShortEnd));
+    };
+    let ((old, new), next) = read_parts(
+        alloc,
+        text,
+        least,
+        Place {
+            at: end,
+            number: number + 1,
+        },
+    )?;
+    let hunk = hunk_from(alloc, text, old, new)?;
+    Ok((hunk, next))
+}
+
+/// The hunks that follow each other, by reading on.
+fn read_all(alloc: Global, text: &[u8], at: usize, line: u64) -> Result<Hunks, FormFault>
+    requires short { length text.now < 2 ^ 32 }
+    requires within { at ≤ length text.now }
+    requires small { line < 2 ^ 32 }
+    ensures within { IfOk result (λ h. h.end ≤ length text.now) }
+    ensures exact { Gives (read_of text.now) result
+        (reading line (lines (drop at text.now))) }
+{
+    let mut items = Vec::new(alloc);
+    let mut spans = Vec::new(alloc);
+    let mut place = Place { at, number: line };
+    let mut least: u64 = 0;
+    'hunks: while at_opening(text, place.at) {
+        let (hunk, next) = take_hunk(alloc, text, least, place)?;
+        spans.push(Span {
+            start: place.at as u32,
+            end: next.at as u32,
+        })?;
+        least = u64::from(hunk.old_start);
+        items.push(hunk)?;
+        place = next;
+    }
+    Ok(Hunks {
+        items,
+        spans,
+        end: place.at,
+        next: place.number,
+    })
+}
+
+/// The hunks that follow each other from `at` on, where the line has this number.
+pub fn read_hunks(alloc: Global, text: &[u8], at: usize, line: u64) -> Result<Hunks, FormFault>
+    requires short { length text.now < 2 ^ 32 }
+    requires within { at ≤ length text.now }
+    requires opens { begins_hunk (lines (drop at text.now)) ≡ true }
+    requires small { line < 2 ^ 32 }
+    ensures within { IfOk result (λ h. h.end ≤ length text.now) }
+    // Where nothing is spelled, which fault is the first.
+    ensures exact { Gives (read_of text.now) result
+        (reading line (lines (drop at text.now))) }
+{
+    read_all(alloc, text, at, line)
+}

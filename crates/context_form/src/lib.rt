@@ -7,4 +7,8 @@ mod opening;
 mod part;
 mod range;
 
+pub use hunks::read_hunks;
 pub use opening::at_opening;
+
+#[cfg(test)]
+mod tests;
