@@ -4,3 +4,7 @@ pub mod MergeLemmas
 pub mod MergeLaws
 pub mod RangeGrammar
 pub mod PartLemmas
+pub mod JoinLemmas
+pub mod Halves
+pub mod HalvesAgain
+pub mod Pieces

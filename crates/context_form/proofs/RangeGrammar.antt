@@ -6,16 +6,19 @@ use Rattle.hunk_core.specs.declared.BadKind.{BadKind}
 use Rattle.hunk_core.specs.declared.BadKind.TheVariants as kinds
 use Rattle.hunk_core.specs.declared.Side.{Side}
 use Rattle.hunk_core.specs.declared.Side.TheVariants.{Forward, Reversed}
-use Rattle.hunk_core.specs.LineTests.{after}
+use Rattle.hunk_core.specs.LineTests.{after, is_backslash}
 use Rattle.hunk_core.proofs.ReadSteps.{chosen, some_is}
 use Rattle.hunk_core.proofs.TextLemmas.{after-takes, after-again}
 use Rattle.num_text.specs.declared.range.NumberRange.{NumberRange}
+use Rattle.num_text.specs.Numbers.{number_at, NoDigitFirst}
+use Rattle.num_text.proofs.Runs.{number-again}
 use Rattle.num_text.specs.NumberRanges.{range_at}
 use Rattle.num_text.specs.NumberRanges as ranges
 use Rattle.num_text.proofs.RangeGrammar.{range-takes, StopsRange, ranged, range-again, range-single}
 use Rattle.diff_command.specs.Letters.{◌>>=◌, is_line_end}
 use Rattle.context_form.specs.declared.range.Stated.{Stated}
 use Rattle.context_form.specs.Ranges.{before_range, behind_range, closed, numbers_at, is_bad_range, is_too_large, stated, checked, from_numbers, range_line, most, is_count, is_count_by, FitsBy, Fits}
+use Rattle.context_form.specs.Openings.{opens_old}
 use Rattle.context_form.specs.Grammar.{SpellsNumbers, SpellsRange, stated_as}
 
 -- ---- steps
@@ -130,6 +133,7 @@ pub record Known (side : Side) (least : ℕ) (line : List ℕ) (s : Stated) : Ty
   pub spelled : (n : ℕ) → is_count s n ≡ true → SpellsRange side line (is_one s) s.start n
   pub same : (n : ℕ) → is_count s n ≡ true → s ≡ stated_as (is_one s) s.start n
   pub order : least ≤ s.start
+  pub many : (count : ℕ) → s.count ≡ Some count → 0 < count
 
 known-one : (side : Side) (least : ℕ) (line : List ℕ) (first last : ℕ) (turned : Bool) → numbers_at side line ≡ Some (made first last true turned) → last ≡ first → ltb 4294967295 first ≡ false → least ≤ first → Known side least line (record { start = first; count = None })
 known-one side least line first last turned read one fits order =
@@ -139,6 +143,7 @@ known-one side least line first last turned read one fits order =
       spelled = λ n is. let c = counted n is in record { text = t.text; rest = t.rest; parts = t.parts; ends = t.ends; numbers = (t.spelled.1, c.0, c.1) };
       same = λ n is. refl;
       order = order;
+      many = λ count e. absurd cc;
     }
   where
     counted : (n : ℕ) → is_count_by first None n ≡ true → (n < 2) × (first ≡ 0 → n ≡ 0)
@@ -160,6 +165,7 @@ known-two side least line first last turned read good fits order =
       spelled = λ n is. let same : n ≡ (last - first) + 1 = eqb-true n ((last - first) + 1) is in record { text = t.text; rest = t.rest; parts = t.parts; ends = t.ends; numbers = (t.spelled.0, t.spelled.1, last, t.spelled.4, t.spelled.2, t.spelled.3, omega (arith, ne), le, omega (arith, same, le)) };
       same = λ n is. let same : n ≡ (last - first) + 1 = eqb-true n ((last - first) + 1) is in rw same refl;
       order = order;
+      many = λ count e. let is : (last - first) + 1 ≡ count = cc in omega (arith, is);
     }
 
 by_single : (side : Side) (least : ℕ) (line : List ℕ) (first last : ℕ) (single turned : Bool) → numbers_at side line ≡ Some (made first last single turned) → is_bad_range (made first last single turned) ≡ false → is_too_large (made first last single turned) ≡ false → least ≤ first
@@ -199,3 +205,45 @@ line-again side least line false start n s fits order =
     let good : is_bad_range (ranged false start last) ≡ false = rw (later, begins) refl in
     from_read side least line (ranged false start last) (numbers-again side line s.text s.rest false start last s.parts s.ends (m.0, m.1, m.4, m.5, m.3) (omega (arith, fits)) (omega (arith, fits, m.8)))
     ∙ passed least (ranged false start last) good small low ∙ ap (λ k. Ok (record { start = start; count = Some k })) count
+
+eqb-same : (n m : ℕ) → n ≡ m → eqb n m ≡ true
+eqb-same n m e = grind arith
+
+-- how many lines are read of a part with so many
+pub most-again : (side : Side) (line : List ℕ) (single : Bool) (start n : ℕ) → SpellsRange side line single start n → 0 < n → most (stated_as single start n) ≡ n
+most-again side line true start n s some = by (eqb start 0) refl
+  where
+    by : (b : Bool) → eqb start 0 ≡ b → cond b 0 1 ≡ n
+    by true is = absurd (omega (arith, some, s.numbers.2 (eqb-true start 0 is)))
+    by false is = omega (arith, some, s.numbers.1)
+most-again side line false start n s some = refl
+
+pub count-again : (side : Side) (line : List ℕ) (single : Bool) (start n : ℕ) → SpellsRange side line single start n → is_count (stated_as single start n) n ≡ true
+count-again side line true start n s = by (eqb start 0) refl
+  where
+    by : (b : Bool) → eqb start 0 ≡ b → cond b (eqb n 0) (ltb n 2) ≡ true
+    by true is = eqb-same n 0 (s.numbers.2 (eqb-true start 0 is))
+    by false is = lt-ltb n 2 s.numbers.1
+count-again side line false start n s = eqb-same n n refl
+
+-- ---- how a range line begins
+
+first-again : (side : Side) (line : List ℕ) (text rest : List ℕ) → line ≡ before_range side ++ (text ++ (behind_range side ++ rest)) → after (before_range side) line ≡ Some (text ++ (behind_range side ++ rest))
+first-again side line text rest e = ap (after (before_range side)) e ∙ after-again (before_range side) (text ++ (behind_range side ++ rest))
+
+pub dashes-again : (line : List ℕ) (single : Bool) (start n : ℕ) → SpellsRange Reversed line single start n → is_some (after (before_range Reversed) line) ≡ true
+dashes-again line single start n s = rw (first-again Reversed line s.text s.rest s.parts) refl
+
+quiet-dashes : (bytes : List ℕ) → is_backslash (before_range Reversed ++ bytes) ≡ false
+unfolding after
+quiet-dashes bytes = refl
+
+pub dashes-quiet : (line : List ℕ) (single : Bool) (start n : ℕ) → SpellsRange Reversed line single start n → is_backslash line ≡ false
+dashes-quiet line single start n s = subst (λ l. is_backslash l ≡ false) (sym s.parts) (quiet-dashes (s.text ++ (behind_range Reversed ++ s.rest)))
+
+numeral-first : (text rest : List ℕ) (single : Bool) (start n : ℕ) → SpellsNumbers text single start n → NoDigitFirst rest → is_some (number_at (text ++ rest)) ≡ true
+numeral-first text rest true start n s stops = rw (number-again text start rest s.0 stops) refl
+numeral-first text rest false start n s stops = rw (s.3, append_assoc s.0 (44 ∷ s.1) rest, number-again s.0 start (44 ∷ (s.1 ++ rest)) s.4 refl) refl
+
+pub stars-again : (line : List ℕ) (single : Bool) (start n : ℕ) → SpellsRange Forward line single start n → opens_old line ≡ true
+stars-again line single start n s = rw (first-again Forward line s.text s.rest s.parts) (numeral-first s.text (behind_range Forward ++ s.rest) single start n s.numbers refl)

@@ -80,10 +80,10 @@ abbrev pub stated_as : Bool → ℕ → ℕ → Stated
 stated_as true start count = record { start = start; count = None }
 stated_as false start count = record { start = start; count = Some count }
 
--- the lines of an old part that are written
-abbrev pub written : List (List ℕ) → List Marked → List Marked
-written [] body = []
-written (line ∷ piece) body = part_of Forward body
+-- the lines of a part that are written
+abbrev pub written : Side → List (List ℕ) → List Marked → List Marked
+written side [] body = []
+written side (line ∷ piece) body = part_of side body
 
 -- these lines are this hunk, behind one that starts at least and before these others: asterisks, the old range, the old part, the new range, the new part
 pub record SpellsHunk (least : ℕ) (own behind : List (List ℕ)) (h : PlainHunk) : Type 0 where
@@ -109,7 +109,7 @@ pub record SpellsHunk (least : ℕ) (own behind : List (List ℕ)) (h : PlainHun
   pub new_fits : h.new_start + length (part_of Reversed h.body) < 2 ^ 32
   pub order : least ≤ h.old_start
   -- no line follows that would begin a new part which is left out
-  pub told : new ≡ [] → is_there (stated_as new_single h.new_start (length (part_of Reversed h.body))) (written old h.body) behind ≡ false
+  pub told : new ≡ [] → is_there (stated_as new_single h.new_start (length (part_of Reversed h.body))) (written Forward old h.body) behind ≡ false
 
 -- these lines are these hunks, the first behind one that starts at least, before this rest
 abbrev pub SpellsHunks : ℕ → List (List ℕ) → List (List ℕ) → List PlainHunk → Type 0
