@@ -102,7 +102,7 @@ drops-alone side (m ∷ part) h = (by part h.1, drops-alone side part h.1)
         both Reversed its.Add its.Add e f = refl
 
 -- a body whose one part has kept lines alone is its other part
-kept-other : (side : Side) (body : List Marked) → AreKept (part_of side body) → part_of (other_side side) body ≡ body
+pub kept-other : (side : Side) (body : List Marked) → AreKept (part_of side body) → part_of (other_side side) body ≡ body
 kept-other side [] h = refl
 kept-other side (m ∷ body) h = by side m.mark (λ k. kept-other side body k) h
   where

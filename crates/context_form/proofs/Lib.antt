@@ -8,3 +8,6 @@ pub mod JoinLemmas
 pub mod Halves
 pub mod HalvesAgain
 pub mod Pieces
+pub mod HunkLoops
+pub mod Unbroken
+pub mod SpansLemmas

@@ -111,6 +111,10 @@ pub record SpellsHunk (least : ℕ) (own behind : List (List ℕ)) (h : PlainHun
   -- no line follows that would begin a new part which is left out
   pub told : new ≡ [] → is_there (stated_as new_single h.new_start (length (part_of Reversed h.body))) (written Forward old h.body) behind ≡ false
 
+-- these lines are this hunk, behind one that starts at least, where the text ends with them
+abbrev pub SpellsPiece : ℕ → List (List ℕ) → PlainHunk → Type 0
+SpellsPiece least own h = SpellsHunk least own [] h
+
 -- these lines are these hunks, the first behind one that starts at least, before this rest
 abbrev pub SpellsHunks : ℕ → List (List ℕ) → List (List ℕ) → List PlainHunk → Type 0
 SpellsHunks least piece rest [] = piece ≡ []

@@ -11,6 +11,7 @@ ghost use Rattle.context_form.specs.Openings.{begins_hunk};
 ghost use Rattle.context_form.specs.Ranges.{Fits};
 ghost use Rattle.context_form.specs.Parts.{plain_of};
 ghost use Rattle.context_form.specs.Merging.{joined, size_beside};
+ghost use Rattle.context_form.specs.Grammar.{IsPiece, SpellsPiece};
 ghost use Rattle.context_form.specs.Hunks.{part_over, range_here, old_part, enough, begins_part, drops_alone, is_there, new_count, new_part, sized, whole, parts_at, hunk_at, reading};
 
 use crate::merging::{joined, kept_lines};
@@ -278,12 +279,34 @@ fn take_hunk(
     Ok((hunk, next))
 }
 
+/// The same, with what its piece of the text is.
+fn read_hunk(
+    alloc: Global,
+    text: &[u8],
+    least: u64,
+    place: Place,
+) -> Result<(Hunk, Place), FormFault>
+    requires place { IsPlace text.now place }
+    requires opens { begins_hunk (lines (drop place.at text.now)) ≡ true }
+    ensures place { IfOk result (λ x. IsPlace text.now x.1 × (place.at < x.1.at)) }
+    ensures piece { IfOk result (λ x. SpellsPiece least (lines (slice_range text.now place.at x.1.at)) (hunk_of text.now x.0)) }
+    ensures few { IfOk result (λ x. place.at + vec_len x.0.body ≤ x.1.at) }
+    ensures lawful { IfOk result (λ x. IsLawful text.now x.0) }
+    ensures unbroken { IfOk result (λ x. first_broken (hunk_of text.now x.0) ≡ None) }
+    ensures exact { Gives (λ x. (hunk_of text.now x.0, ahead_of text.now x.1)) result (hunk_at least (ahead_of text.now place)) }
+{
+    take_hunk(alloc, text, least, place)
+}
+
 /// The hunks that follow each other, by reading on.
 fn read_all(alloc: Global, text: &[u8], at: usize, line: u64) -> Result<Hunks, FormFault>
     requires short { length text.now < 2 ^ 32 }
     requires within { at ≤ length text.now }
     requires small { line < 2 ^ 32 }
     ensures within { IfOk result (λ h. h.end ≤ length text.now) }
+    ensures turn { IfOk result (λ h. AreInTurn at h.spans.items h.end) }
+    ensures pieces { IfOk result (λ h. SpellInTurn SpellsPiece text.now 0 h.spans.items (hunks_of text.now h.items.items)) }
+    ensures sound { IfOk result (λ h. AreSound text.now h) }
     ensures exact { Gives (read_of text.now) result
         (reading line (lines (drop at text.now))) }
 {
@@ -292,7 +315,7 @@ fn read_all(alloc: Global, text: &[u8], at: usize, line: u64) -> Result<Hunks, F
     let mut place = Place { at, number: line };
     let mut least: u64 = 0;
     'hunks: while at_opening(text, place.at) {
-        let (hunk, next) = take_hunk(alloc, text, least, place)?;
+        let (hunk, next) = read_hunk(alloc, text, least, place)?;
         spans.push(Span {
             start: place.at as u32,
             end: next.at as u32,
@@ -316,6 +339,16 @@ pub fn read_hunks(alloc: Global, text: &[u8], at: usize, line: u64) -> Result<Hu
     requires opens { begins_hunk (lines (drop at text.now)) ≡ true }
     requires small { line < 2 ^ 32 }
     ensures within { IfOk result (λ h. h.end ≤ length text.now) }
+    // The spans are the pieces of the hunks, one behind the other from `at` up to the end.
+    ensures turn { IfOk result (λ h. AreInTurn at h.spans.items h.end) }
+    ensures pieces { IfOk result (λ h. SpellInTurn SpellsPiece text.now 0 h.spans.items (hunks_of text.now h.items.items)) }
+    // Each hunk is lawful over the text, and breaks none of the rules of `Hunk::check`.
+    ensures sound { IfOk result (λ h. AreSound text.now h) }
+    // What is read is spelled so, by the lines up to the end, and no hunk nor backslash line stands there.
+    ensures found { IfOk result (λ h. IsPiece line (lines (drop at text.now)) (hunks_of text.now h.items.items) h.next (lines (drop h.end text.now))) }
+    // What is spelled so is read, unless memory runs out.
+    ensures only { (hs : List PlainHunk) (next : ℕ) (rest : List (List ℕ)) → IsPiece line (lines (drop at text.now)) hs next rest
+        → Gives (read_of text.now) result (these hs next rest) }
     // Where nothing is spelled, which fault is the first.
     ensures exact { Gives (read_of text.now) result
         (reading line (lines (drop at text.now))) }
