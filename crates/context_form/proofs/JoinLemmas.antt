@@ -124,11 +124,11 @@ part-some [] m part s = absurd (none s.0 s.1 s.2 s.3)
     none (line ∷ mine) rest e h = cc
 part-some (line ∷ own) m part s = omega arith
 
-side-written : (side : Side) (own partner : List (List ℕ)) (body : List Marked) → 0 < length own → SpellsPart own (part_of side body) → SpellsSide side own partner body
+pub side-written : (side : Side) (own partner : List (List ℕ)) (body : List Marked) → 0 < length own → SpellsPart own (part_of side body) → SpellsSide side own partner body
 side-written side [] partner body some s = absurd (omega (arith, some))
 side-written side (line ∷ own) partner body some s = s
 
-side-left-out : (side : Side) (own partner : List (List ℕ)) (body : List Marked) → own ≡ [] → AreKept (part_of side body) → has_change partner ≡ false → SpellsSide side own partner body
+pub side-left-out : (side : Side) (own partner : List (List ℕ)) (body : List Marked) → own ≡ [] → AreKept (part_of side body) → has_change partner ≡ false → SpellsSide side own partner body
 side-left-out side own partner body e kept quiet = subst (λ o. SpellsSide side o partner body) (sym e) (kept, quiet)
 
 written-is : (side : Side) (own : List (List ℕ)) (body : List Marked) → 0 < length own → written side own body ≡ part_of side body

@@ -11,3 +11,5 @@ pub mod Pieces
 pub mod HunkLoops
 pub mod Unbroken
 pub mod SpansLemmas
+pub mod MixedLemmas
+pub mod Again

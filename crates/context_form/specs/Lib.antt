@@ -4,3 +4,4 @@ pub mod Parts
 pub mod Merging
 pub mod Hunks
 pub mod Grammar
+pub mod Canonical

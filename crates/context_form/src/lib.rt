@@ -6,9 +6,11 @@ mod hunks;
 mod opening;
 mod part;
 mod range;
+mod writing;
 
 pub use hunks::read_hunks;
 pub use opening::at_opening;
+pub use writing::put_hunk;
 
 #[cfg(test)]
 mod tests;

@@ -13,7 +13,7 @@ use hunk_core::{HunkLine, Mark, Side};
 use line_list::Span;
 use std::alloc::{AllocError, Global};
 
-fn keeps(mark: Mark) -> bool
+pub fn keeps(mark: Mark) -> bool
     ensures { result ≡ is_keep mark }
 {
     match mark {

@@ -16,7 +16,7 @@ pub struct Stated {
     pub count: Option<u64>,
 }
 
-fn before(side: Side) -> &'static [u8]
+pub fn before(side: Side) -> &'static [u8]
     ensures { result.now ≡ before_range side }
 {
     match side {
@@ -25,7 +25,7 @@ fn before(side: Side) -> &'static [u8]
     }
 }
 
-fn behind(side: Side) -> &'static [u8]
+pub fn behind(side: Side) -> &'static [u8]
     ensures { result.now ≡ behind_range side }
 {
     match side {
