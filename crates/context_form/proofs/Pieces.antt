@@ -12,7 +12,8 @@ use Rattle.hunk_core.proofs.ReadSteps.{bind_ok, chosen, guard_ok, ok_is}
 use Rattle.context_form.specs.Openings.{is_stars, opens_old, begins_old, begins_hunk}
 use Rattle.context_form.specs.Parts.{begins_new}
 use Rattle.context_form.specs.Merging.{part_of, size_by}
-use Rattle.context_form.specs.Hunks.{PlainPart, old_part, new_part, quiet, parts_at, whole, first_hunk, hunk_at, hunks_at, reading, is_there}
+use Rattle.context_form.specs.Hunks.{PlainPart, old_part, new_part, quiet, parts_at, whole, first_hunk, hunk_at, hunks_at, reading}
+use Rattle.context_form.specs.Presence.{is_there}
 use Rattle.context_form.specs.Grammar.{SpellsRange, has_change, stated_as, written, SpellsHunk, SpellsHunks, EndsPiece, IsPiece}
 use Rattle.context_form.proofs.RangeGrammar.{is_one, line-known, dashes-again, dashes-quiet, stars-again}
 use Rattle.context_form.proofs.JoinLemmas.{TakesJoin, join-takes}

@@ -16,7 +16,7 @@ use Rattle.hunk_core.specs.Rules.{starts_at_zero, runs_over, lacks_inner_end, fi
 use Rattle.hunk_core.specs.Turned.{other_side}
 use Rattle.hunk_core.proofs.PieceLemmas.{pieces-first, pieces-last}
 use Rattle.context_form.specs.Merging.{part_of}
-use Rattle.context_form.specs.Hunks.{is_there}
+use Rattle.context_form.specs.Presence.{is_there}
 use Rattle.context_form.specs.Grammar.{mark_byte, Shows, SpellsLine, SpellsPart, SpellsNumbers, SpellsRange, SpellsSide, AreKept, SpellsHunk, SpellsPiece, stated_as, written}
 use Rattle.context_form.proofs.JoinLemmas.{kept-other}
 

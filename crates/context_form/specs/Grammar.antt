@@ -13,7 +13,7 @@ use Rattle.context_form.specs.declared.range.Stated.{Stated}
 use Rattle.context_form.specs.Openings.{is_stars, begins_hunk}
 use Rattle.context_form.specs.Ranges.{before_range, behind_range}
 use Rattle.context_form.specs.Merging.{part_of, DropsFirst}
-use Rattle.context_form.specs.Hunks.{is_there}
+use Rattle.context_form.specs.Presence.{is_there}
 
 -- ---- range lines
 

@@ -2,19 +2,18 @@
 use Rattle.std.specs.Prelude.{ℕ, zero, suc, ◌+◌, Bool, true, false, not, nat_lt, ◌==◌, ◌&&◌, ◌||◌, List, [], ◌∷◌, length, Option, None, Some, is_some, Result, Ok, Err, if◌then◌else◌}
 use Rattle.hunk_core.specs.declared.BadKind.{BadKind}
 use Rattle.hunk_core.specs.declared.BadKind.TheVariants as kinds
-use Rattle.hunk_core.specs.declared.Mark.{Mark}
 use Rattle.hunk_core.specs.declared.Side.{Side}
 use Rattle.hunk_core.specs.declared.Side.TheVariants.{Forward, Reversed}
 use Rattle.hunk_core.specs.PlainHunk.{Marked, PlainHunk}
-use Rattle.hunk_core.specs.Turned.{is_keep}
 use Rattle.hunk_core.specs.LineTests.{after_backslash}
 use Rattle.hunk_core.specs.Reading.{Fault, fault, ◌>>=◌, Ahead, ahead}
 use Rattle.context_form.specs.declared.range.Stated.{Stated}
 use Rattle.context_form.specs.declared.hunks.Part.{Part}
 use Rattle.context_form.specs.Openings.{begins_hunk}
 use Rattle.context_form.specs.Ranges.{range_line, most, is_count}
-use Rattle.context_form.specs.Parts.{mark_at, PlainBody, plain_of, no_body, body_at}
-use Rattle.context_form.specs.Merging.{joined, kept_count, size_beside}
+use Rattle.context_form.specs.Parts.{PlainBody, plain_of, no_body, body_at}
+use Rattle.context_form.specs.Merging.{joined, size_beside}
+use Rattle.context_form.specs.Presence.{is_there}
 
 -- a part with its range line, which has this number
 pub record PlainPart : Type 0 where
@@ -55,30 +54,6 @@ too_few s (m ∷ part) = not (is_count s (length (m ∷ part)))
 -- the old part has the stated number of lines, or the fault of this line
 abbrev pub enough : ℕ → PlainPart → Result (Unit {0}) Fault
 enough number old = if too_few old.stated old.body.lines then Err (fault number kinds.Count) else Ok tt
-
--- a line with a mark of the new part; two spaces only where they may
-abbrev pub may_begin : Bool → Option (Mark × Bool) → Bool
-may_begin may_keep None = false
-may_begin may_keep (Some m) = may_keep || not (is_keep m.0)
-
--- '+ ' or '! ' comes first, or two spaces where they may
-abbrev pub begins_part : Bool → List (List ℕ) → Bool
-begins_part may_keep [] = false
-begins_part may_keep (line ∷ rest) = may_begin may_keep (mark_at Reversed line)
-
--- the old part is there, and no line of it is kept
-abbrev pub drops_alone : List Marked → Bool
-drops_alone part = not (length part == 0) && kept_count part == 0
-
--- whether the new part is there. It is left out for 0. Behind one number, and an old part that keeps no
--- line, it is there where '+ ' or '! ' follows, else where two spaces follow too
-abbrev pub is_there_by : ℕ → Option ℕ → List Marked → List (List ℕ) → Bool
-is_there_by start None olds rest = if start == 0 then false else begins_part (not (drops_alone olds)) rest
-is_there_by start (Some count) olds rest = begins_part true rest
-
--- whether the new part is there
-abbrev pub is_there : Stated → List Marked → List (List ℕ) → Bool
-is_there s olds rest = is_there_by s.start s.count olds rest
 
 -- how many lines are read of the new part
 abbrev pub new_count : Stated → List Marked → List (List ℕ) → ℕ

@@ -12,7 +12,8 @@ ghost use Rattle.context_form.specs.Ranges.{Fits};
 ghost use Rattle.context_form.specs.Parts.{plain_of};
 ghost use Rattle.context_form.specs.Merging.{joined, size_beside};
 ghost use Rattle.context_form.specs.Grammar.{IsPiece, SpellsPiece};
-ghost use Rattle.context_form.specs.Hunks.{part_over, range_here, old_part, enough, begins_part, drops_alone, is_there, new_count, new_part, sized, whole, parts_at, hunk_at, reading};
+ghost use Rattle.context_form.specs.Hunks.{part_over, range_here, old_part, enough, new_count, new_part, sized, whole, parts_at, hunk_at, reading};
+ghost use Rattle.context_form.specs.Presence.{begins_part, drops_alone, is_there};
 
 use crate::merging::{joined, kept_lines};
 use crate::opening::at_opening;
