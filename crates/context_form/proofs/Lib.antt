@@ -13,3 +13,5 @@ pub mod Unbroken
 pub mod SpansLemmas
 pub mod MixedLemmas
 pub mod Again
+pub mod Steady
+pub mod SteadyParts

@@ -6,3 +6,4 @@ pub mod Presence
 pub mod Hunks
 pub mod Grammar
 pub mod Canonical
+pub mod FirstFault
