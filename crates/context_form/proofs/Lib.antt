@@ -15,3 +15,4 @@ pub mod MixedLemmas
 pub mod Again
 pub mod Steady
 pub mod SteadyParts
+pub mod FirstFault

@@ -12,6 +12,7 @@ ghost use Rattle.context_form.specs.Ranges.{Fits};
 ghost use Rattle.context_form.specs.Parts.{plain_of};
 ghost use Rattle.context_form.specs.Merging.{joined, size_beside};
 ghost use Rattle.context_form.specs.Grammar.{IsPiece, SpellsPiece};
+ghost use Rattle.context_form.specs.FirstFault.{AgreeTo, decided_by};
 ghost use Rattle.context_form.specs.Hunks.{part_over, range_here, old_part, enough, new_count, new_part, sized, whole, parts_at, hunk_at, reading};
 ghost use Rattle.context_form.specs.Presence.{begins_part, drops_alone, is_there};
 
@@ -356,3 +357,22 @@ pub fn read_hunks(alloc: Global, text: &[u8], at: usize, line: u64) -> Result<Hu
 {
     read_all(alloc, text, at, line)
 }
+
+/// What makes a fault the first one. A fault in the lines of the parts is decided by its own line, and
+/// one of two whole parts by the line behind them.
+pub fn first_faults()
+    // It stays whatever lines come after the one that decides it, unless the text ends too early.
+    ensures stays { (number : ℕ) (lines others : List (List ℕ)) (e : Fault) → reading number lines ≡ Err e → e.kind ≢ BadKind.ShortEnd
+        → AgreeTo (decided_by number lines) number lines others → reading number others ≡ Err e }
+    // No lines that are the same up to there are spelled.
+    ensures unspelled { (number : ℕ) (lines others : List (List ℕ)) (e : Fault) (hs : List PlainHunk) (next : ℕ) (rest : List (List ℕ))
+        → reading number lines ≡ Err e → e.kind ≢ BadKind.ShortEnd → AgreeTo (decided_by number lines) number lines others → IsPiece number others hs next rest → ⊥ }
+    // Only three kinds can be faults of two whole parts.
+    ensures own { (number : ℕ) (lines : List (List ℕ)) (e : Fault) → reading number lines ≡ Err e
+        → e.kind ≢ BadKind.Count → e.kind ≢ BadKind.NumberTooLarge → e.kind ≢ BadKind.SidesDiffer → decided_by number lines ≡ e.line }
+    // A text that ends too early is at fault one line after its last.
+    ensures short { (number : ℕ) (lines : List (List ℕ)) (e : Fault) → reading number lines ≡ Err e → e.kind ≡ BadKind.ShortEnd → e.line ≡ number + length lines }
+    // No fault is decided before the end of lines that hunks begin with.
+    ensures late { (number : ℕ) (front behind others : List (List ℕ)) (e : Fault) (hs : List PlainHunk) (next : ℕ) (rest : List (List ℕ))
+        → IsPiece number (front ++ others) hs next rest → reading number (front ++ behind) ≡ Err e → number + length front ≤ decided_by number (front ++ behind) }
+{}
