@@ -16,10 +16,11 @@ use Rattle.hunk_core.proofs.ReadSteps.{bind_ok, chosen, guard_ok, ok_is}
 use Rattle.context_form.specs.declared.range.Stated.{Stated}
 use Rattle.context_form.specs.Ranges.{range_line, most, is_count}
 use Rattle.context_form.specs.Parts.{mark_at, PlainBody, no_body, body_at, begins_new, is_done}
-use Rattle.context_form.specs.Merging.{kept_count, size_by, size_beside, joined, part_of, AllOn}
+use Rattle.context_form.specs.Merging.{kept_count, size_by, size_beside, joined, part_of}
 use Rattle.context_form.specs.Hunks.{PlainPart, at_line, first_range, range_here, old_part, too_few, enough, new_count, new_part, sized, agreed, whole}
 use Rattle.context_form.specs.Presence.{may_begin, begins_part, drops_alone, is_there}
 use Rattle.context_form.specs.Grammar.{mark_byte, Shows, SpellsRange, SpellsPart, has_change, SpellsSide, stated_as, written}
+use Rattle.context_form.proofs.MergeIs.{AllOn}
 use Rattle.context_form.proofs.Loops.{body_done}
 use Rattle.context_form.proofs.RangeGrammar.{is_one, Known, line-known, line-again, most-again, count-again, dashes-again, dashes-quiet}
 use Rattle.context_form.proofs.PartLemmas.{TakesBody, body_takes, body_again, First, first-of, mark-again}

@@ -15,10 +15,11 @@ use Rattle.hunk_core.proofs.ReadSteps.{chosen}
 use Rattle.context_form.specs.declared.range.Stated.{Stated}
 use Rattle.context_form.specs.Ranges.{range_line, most, is_count}
 use Rattle.context_form.specs.Parts.{mark_at, PlainBody, no_body, body_at, begins_new, is_done}
-use Rattle.context_form.specs.Merging.{kept_count, size_by, joined, part_of, DropsFirst, AllOn}
+use Rattle.context_form.specs.Merging.{kept_count, size_by, joined, part_of, DropsFirst}
 use Rattle.context_form.specs.Hunks.{PlainPart, first_range, old_part, too_few, enough, new_count, new_part, sized, agreed, whole}
 use Rattle.context_form.specs.Presence.{may_begin, begins_part, drops_alone, is_there}
 use Rattle.context_form.specs.Grammar.{mark_byte, Shows, SpellsRange, SpellsPart, has_change, AreKept, SpellsSide, stated_as, written}
+use Rattle.context_form.proofs.MergeIs.{AllOn}
 use Rattle.context_form.proofs.Loops.{body_done}
 use Rattle.context_form.proofs.RangeGrammar.{line-again, most-again, count-again, dashes-again, dashes-quiet}
 use Rattle.context_form.proofs.PartLemmas.{body_again, First, first-of, mark-again}

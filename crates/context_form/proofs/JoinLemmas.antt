@@ -11,8 +11,9 @@ use Rattle.hunk_core.specs.Sides.{is_on_side}
 use Rattle.hunk_core.specs.PlainHunk.{Marked}
 use Rattle.hunk_core.specs.Turned.{is_keep, other_side}
 use Rattle.context_form.specs.Parts.{PlainBody}
-use Rattle.context_form.specs.Merging.{merge, alone, joined_by, joined, kept_count, size_by, part_of, may_follow, DropsFirst, AllOn, IsMerge}
+use Rattle.context_form.specs.Merging.{merge, alone, joined_by, joined, kept_count, size_by, part_of, may_follow, DropsFirst}
 use Rattle.context_form.specs.Grammar.{SpellsPart, SpellsLine, has_change, AreKept, SpellsSide, written}
+use Rattle.context_form.proofs.MergeIs.{AllOn, IsMerge}
 use Rattle.context_form.proofs.MergeLaws.{merge-again, merge-takes}
 
 -- ---- counting kept lines

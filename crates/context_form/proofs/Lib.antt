@@ -1,5 +1,6 @@
 pub mod SliceLemmas
 pub mod Loops
+pub mod MergeIs
 pub mod MergeLemmas
 pub mod MergeLaws
 pub mod RangeGrammar

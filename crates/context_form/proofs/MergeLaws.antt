@@ -9,7 +9,8 @@ use Rattle.hunk_core.specs.declared.Side.{Side}
 use Rattle.hunk_core.specs.declared.Side.TheVariants.{Forward, Reversed}
 use Rattle.hunk_core.specs.Sides.{is_on_side}
 use Rattle.hunk_core.specs.Turned.{is_keep}
-use Rattle.context_form.specs.Merging.{before_kept, from_kept, agrees, rest_of, with_front, only_changes, merge, part_of, may_follow, DropsFirst, AllOn, IsMerge}
+use Rattle.context_form.specs.Merging.{before_kept, from_kept, agrees, rest_of, with_front, only_changes, merge, part_of, may_follow, DropsFirst}
+use Rattle.context_form.proofs.MergeIs.{AllOn, IsMerge}
 use Rattle.context_form.proofs.MergeLemmas.{front-none, rest-none, front-step, rest-step, front-stop, rest-stop, front-front, merge-change, merge-kept, merge-apart, merge-end}
 
 abbrev line_of : Mark → List ℕ → Marked

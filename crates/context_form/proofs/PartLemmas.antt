@@ -14,8 +14,8 @@ use Rattle.hunk_core.specs.Reading.{◌>>=◌, Fault, Ahead, ahead}
 use Rattle.hunk_core.proofs.ReadSteps.{bind_ok, chosen, guard_ok, must_ok, ok_is}
 use Rattle.context_form.specs.Ranges.{before_range}
 use Rattle.context_form.specs.Parts.{own_mark, own_byte, mark_by, mark_at, Shown, must_be_marked, marked_at, room_at, cut, ended_by, first_line, line_at, begins_new, is_done, PlainBody, with_line, body_at}
-use Rattle.context_form.specs.Merging.{AllOn}
 use Rattle.context_form.specs.Grammar.{mark_byte, Shows, SpellsLine, SpellsPart, is_change, has_change}
+use Rattle.context_form.proofs.MergeIs.{AllOn}
 
 -- ---- one line
 

@@ -3,7 +3,6 @@ use Rattle.std.specs.Prelude.{◌≡◌, ℕ, Bool, true, false, not, ◌&&◌, 
 use Rattle.std.specs.Str.{bytes_eq}
 use Rattle.hunk_core.specs.declared.Mark.{Mark}
 use Rattle.hunk_core.specs.declared.Side.{Side}
-use Rattle.hunk_core.specs.declared.Side.TheVariants.{Forward, Reversed}
 use Rattle.hunk_core.specs.Sides.{is_on_side}
 use Rattle.hunk_core.specs.PlainHunk.{Marked}
 use Rattle.hunk_core.specs.Turned.{is_keep, is_drop, is_add}
@@ -90,14 +89,3 @@ may_follow mark (m ∷ body) = not (is_add mark && is_drop m.mark)
 abbrev pub DropsFirst : List Marked → Type 0
 DropsFirst [] = Unit {0}
 DropsFirst (m ∷ body) = (may_follow m.mark body ≡ true) × DropsFirst body
-
--- a body shows these two parts, and its dropped lines come first
-pub record IsMerge (body olds news : List Marked) : Type 0 where
-  pub old_side : part_of Forward body ≡ olds
-  pub new_side : part_of Reversed body ≡ news
-  pub order : DropsFirst body
-
--- each line is of this side
-abbrev pub AllOn : Side → List Marked → Type 0
-AllOn side [] = Unit {0}
-AllOn side (m ∷ part) = (is_on_side side m.mark ≡ true) × AllOn side part

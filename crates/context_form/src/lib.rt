@@ -1,8 +1,8 @@
 //! The context form of a patch (GNU diffutils manual, "Detailed Description of Context Format").
 #![tactic(auto)]
 
-mod merging;
 mod hunks;
+mod merging;
 mod opening;
 mod part;
 mod range;

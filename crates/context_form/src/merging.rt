@@ -5,11 +5,10 @@ ghost use Rattle.hunk_core.specs.PlainHunk.{Marked, body_of, marked_of, bytes_at
 ghost use Rattle.hunk_core.specs.Turned.{LiesIn, is_keep};
 ghost use Rattle.hunk_core.specs.Reading.{Reads};
 ghost use Rattle.context_form.specs.Parts.{plain_of};
-ghost use Rattle.context_form.specs.Merging.{agrees, before_kept, from_kept, merge, alone, joined, kept_count, size_beside, AllOn, IsMerge};
-ghost use Rattle.hunk_core.specs.declared.Side.{Side};
+ghost use Rattle.context_form.specs.Merging.{agrees, before_kept, from_kept, merge, alone, joined, kept_count, size_beside};
 
 use crate::part::Body;
-use hunk_core::{HunkLine, Mark, Side};
+use hunk_core::{HunkLine, Mark};
 use line_list::Span;
 use std::alloc::{AllocError, Global};
 
@@ -148,9 +147,3 @@ pub fn joined(
     }
     merge_parts(alloc, text, &old.lines, &new.lines)
 }
-
-/// Two parts merge to the one body whose sides they are, the dropped lines first between two kept ones.
-pub fn merging_is_by_sides()
-    ensures takes { (olds news body : List Marked) → AllOn Side.Forward olds → AllOn Side.Reversed news → merge olds news ≡ Some body → IsMerge body olds news }
-    ensures again { (olds news body : List Marked) → IsMerge body olds news → merge olds news ≡ Some body }
-{}
