@@ -22,15 +22,14 @@ use Rattle.hunk_core.specs.LineTests.{after, marked, ends_line, is_backslash, af
 use Rattle.hunk_core.specs.Rules.{starts_at_zero, runs_over, lacks_inner_end, first_broken, HasNoInnerFeed}
 use Rattle.hunk_core.specs.Reading.{◌>>=◌, Ahead, ahead}
 use Rattle.hunk_core.proofs.ReadSteps.{bind_ok, ok_is, chosen}
-use Rattle.context_form.specs.Openings.{is_stars, begins_hunk}
+use Rattle.context_form.specs.Openings.{is_stars}
 use Rattle.context_form.specs.Ranges.{before_range, behind_range}
 use Rattle.context_form.specs.Parts.{mark_at}
 use Rattle.context_form.specs.Merging.{part_of, may_follow, DropsFirst}
 use Rattle.context_form.specs.Hunks.{hunk_at, hunks_at}
 use Rattle.context_form.specs.Presence.{may_begin, begins_part, drops_alone, is_there}
-use Rattle.context_form.specs.Grammar.{mark_byte, Shows, SpellsLine, SpellsPart, is_change, has_change, AreKept, SpellsSide, SpellsNumbers, SpellsRange, stated_as, written, SpellsHunk, IsPiece}
+use Rattle.context_form.specs.Grammar.{mark_byte, SpellsLine, SpellsPart, is_change, has_change, AreKept, SpellsSide, SpellsRange, stated_as, written, SpellsHunk, IsPiece}
 use Rattle.context_form.specs.Canonical.{stars_text, span_text, range_line_text, no_newline, line_text, stretch_has, mixed, mixed_behind, part_text, canonical, drops_before, in_order, SpellsFirst}
-use Rattle.context_form.proofs.MergeIs.{AllOn}
 use Rattle.context_form.proofs.JoinLemmas.{part-some, side-written, side-left-out}
 use Rattle.context_form.proofs.HunkLoops.{hunks_step}
 use Rattle.context_form.proofs.Pieces.{hunk_again, hunk_opens, reading_again}

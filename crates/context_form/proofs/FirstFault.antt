@@ -7,13 +7,13 @@ use Rattle.hunk_core.specs.declared.BadKind.TheVariants as kinds
 use Rattle.hunk_core.specs.PlainHunk.{Marked, PlainHunk}
 use Rattle.hunk_core.specs.Reading.{◌>>=◌, Fault, fault, Ahead, ahead}
 use Rattle.hunk_core.proofs.ReadSteps.{bind_ok, ok_is, chosen}
-use Rattle.context_form.specs.Openings.{is_stars, opens_old, begins_old, begins_hunk}
+use Rattle.context_form.specs.Openings.{is_stars, begins_old, begins_hunk}
 use Rattle.context_form.specs.Ranges.{is_count}
 use Rattle.context_form.specs.Merging.{joined, size_beside}
-use Rattle.context_form.specs.Hunks.{PlainPart, old_part, new_part, quiet, sized, agreed, whole, parts_at, first_hunk, hunk_at, hunks_at, reading}
+use Rattle.context_form.specs.Hunks.{PlainPart, sized, agreed, whole, parts_at, first_hunk, hunk_at, hunks_at, reading}
 use Rattle.context_form.specs.Grammar.{IsPiece}
-use Rattle.context_form.specs.FirstFault.{AgreeTo, behind_first, decided_whole, decided_parts, decided_at, decided_by}
-use Rattle.context_form.proofs.Steady.{failed, bind_err, agree_head, agree_less, Steady}
+use Rattle.context_form.specs.FirstFault.{AgreeTo, behind_first, decided_at, decided_by}
+use Rattle.context_form.proofs.Steady.{failed, bind_err, agree_head}
 use Rattle.context_form.proofs.SteadyParts.{steady-parts}
 use Rattle.context_form.proofs.HunkLoops.{hunks_step}
 use Rattle.context_form.proofs.Pieces.{hunk-shrinks, reading_again}

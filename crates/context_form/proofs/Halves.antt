@@ -1,30 +1,23 @@
 -- Each part with its range line, read and spelled.
-use Rattle.std.proofs.Common.{◌≡◌, ℕ, ◌+◌, ◌-◌, ◌^◌, ◌<◌, ◌≤◌, Bool, true, false, cond, eqb, ltb, ◌&&◌, ◌||◌, not, List, [], ◌∷◌, ◌++◌, length, Option, None, Some, Result, Ok, Err, refl, sym, ap, subst, ◌∙◌, append_assoc, arith, inl, inr}
-use Rattle.std.specs.Prelude.{is_some}
-use Rattle.std.proofs.lemmas.Bool.{eqb-true, eqb-false, ltb-false, le-ltb}
-use Rattle.std.proofs.lemmas.List.{length-append}
+use Rattle.std.proofs.Common.{◌≡◌, ℕ, ◌+◌, ◌^◌, ◌<◌, Bool, true, false, cond, eqb, ltb, not, List, [], ◌∷◌, ◌++◌, length, Option, None, Some, Result, Ok, Err, refl, sym, ap, subst, ◌∙◌, arith}
+use Rattle.std.proofs.lemmas.Bool.{eqb-true, ltb-false}
 use Rattle.hunk_core.specs.declared.BadKind.{BadKind}
 use Rattle.hunk_core.specs.declared.BadKind.TheVariants as kinds
-use Rattle.hunk_core.specs.declared.Mark.{Mark}
 use Rattle.hunk_core.specs.declared.Side.{Side}
 use Rattle.hunk_core.specs.declared.Side.TheVariants.{Forward, Reversed}
 use Rattle.hunk_core.specs.PlainHunk.{Marked, PlainHunk}
-use Rattle.hunk_core.specs.Turned.{is_keep}
-use Rattle.hunk_core.specs.LineTests.{marked, after_backslash}
-use Rattle.hunk_core.specs.Reading.{◌>>=◌, Fault, fault, Ahead, ahead}
-use Rattle.hunk_core.proofs.ReadSteps.{bind_ok, chosen, guard_ok, ok_is}
+use Rattle.hunk_core.specs.Reading.{◌>>=◌, fault, Ahead, ahead}
+use Rattle.hunk_core.proofs.ReadSteps.{bind_ok, guard_ok, ok_is}
 use Rattle.context_form.specs.declared.range.Stated.{Stated}
 use Rattle.context_form.specs.Ranges.{range_line, most, is_count}
-use Rattle.context_form.specs.Parts.{mark_at, PlainBody, no_body, body_at, begins_new, is_done}
-use Rattle.context_form.specs.Merging.{kept_count, size_by, size_beside, joined, part_of}
-use Rattle.context_form.specs.Hunks.{PlainPart, at_line, first_range, range_here, old_part, too_few, enough, new_count, new_part, sized, agreed, whole}
-use Rattle.context_form.specs.Presence.{may_begin, begins_part, drops_alone, is_there}
-use Rattle.context_form.specs.Grammar.{mark_byte, Shows, SpellsRange, SpellsPart, has_change, SpellsSide, stated_as, written}
+use Rattle.context_form.specs.Parts.{PlainBody, no_body, body_at}
+use Rattle.context_form.specs.Merging.{size_beside, joined}
+use Rattle.context_form.specs.Hunks.{PlainPart, at_line, first_range, range_here, old_part, enough, new_count, new_part, sized, agreed, whole}
+use Rattle.context_form.specs.Presence.{begins_part, drops_alone, is_there}
+use Rattle.context_form.specs.Grammar.{SpellsPart, has_change}
 use Rattle.context_form.proofs.MergeIs.{AllOn}
-use Rattle.context_form.proofs.Loops.{body_done}
-use Rattle.context_form.proofs.RangeGrammar.{is_one, Known, line-known, line-again, most-again, count-again, dashes-again, dashes-quiet}
-use Rattle.context_form.proofs.PartLemmas.{TakesBody, body_takes, body_again, First, first-of, mark-again}
-use Rattle.context_form.proofs.JoinLemmas.{kept-on}
+use Rattle.context_form.proofs.RangeGrammar.{line-known}
+use Rattle.context_form.proofs.PartLemmas.{TakesBody, body_takes, First, first-of}
 
 -- ---- a range line that is read
 

@@ -1,29 +1,27 @@
 -- Each part with its range line that is spelled is read.
-use Rattle.std.proofs.Common.{◌≡◌, ℕ, suc, ◌+◌, ◌-◌, ◌^◌, ◌<◌, ◌≤◌, Bool, true, false, cond, eqb, ltb, ◌&&◌, ◌||◌, not, List, [], ◌∷◌, ◌++◌, length, Option, None, Some, Result, Ok, Err, refl, sym, ap, subst, ◌∙◌, append_assoc, arith, inl, inr}
-use Rattle.std.proofs.lemmas.Bool.{eqb-true, eqb-false, le-ltb, ne_eqb}
+use Rattle.std.proofs.Common.{◌≡◌, ℕ, ◌+◌, ◌^◌, ◌<◌, ◌≤◌, Bool, true, false, cond, eqb, ltb, ◌&&◌, ◌||◌, not, List, [], ◌∷◌, ◌++◌, length, None, Some, Ok, refl, sym, ap, subst, ◌∙◌, append_assoc, arith}
+use Rattle.std.proofs.lemmas.Bool.{eqb-true, le-ltb}
 use Rattle.std.proofs.lemmas.List.{length-append}
 use Rattle.hunk_core.specs.declared.Mark.{Mark}
-use Rattle.hunk_core.specs.declared.Mark.TheVariants as its
 use Rattle.hunk_core.specs.declared.Side.{Side}
 use Rattle.hunk_core.specs.declared.Side.TheVariants.{Forward, Reversed}
 use Rattle.hunk_core.specs.Sides.{is_on_side}
 use Rattle.hunk_core.specs.PlainHunk.{Marked, PlainHunk}
 use Rattle.hunk_core.specs.Turned.{is_keep}
-use Rattle.hunk_core.specs.LineTests.{marked, is_backslash, after_backslash}
-use Rattle.hunk_core.specs.Reading.{◌>>=◌, Fault, Ahead, ahead}
-use Rattle.hunk_core.proofs.ReadSteps.{chosen}
+use Rattle.hunk_core.specs.LineTests.{after_backslash}
+use Rattle.hunk_core.specs.Reading.{ahead}
 use Rattle.context_form.specs.declared.range.Stated.{Stated}
 use Rattle.context_form.specs.Ranges.{range_line, most, is_count}
-use Rattle.context_form.specs.Parts.{mark_at, PlainBody, no_body, body_at, begins_new, is_done}
+use Rattle.context_form.specs.Parts.{PlainBody, no_body, body_at, begins_new, is_done}
 use Rattle.context_form.specs.Merging.{kept_count, size_by, joined, part_of, DropsFirst}
-use Rattle.context_form.specs.Hunks.{PlainPart, first_range, old_part, too_few, enough, new_count, new_part, sized, agreed, whole}
+use Rattle.context_form.specs.Hunks.{PlainPart, first_range, old_part, enough, new_count, new_part, sized, whole}
 use Rattle.context_form.specs.Presence.{may_begin, begins_part, drops_alone, is_there}
-use Rattle.context_form.specs.Grammar.{mark_byte, Shows, SpellsRange, SpellsPart, has_change, AreKept, SpellsSide, stated_as, written}
+use Rattle.context_form.specs.Grammar.{mark_byte, SpellsRange, SpellsPart, has_change, SpellsSide, stated_as, written}
 use Rattle.context_form.proofs.MergeIs.{AllOn}
 use Rattle.context_form.proofs.Loops.{body_done}
-use Rattle.context_form.proofs.RangeGrammar.{line-again, most-again, count-again, dashes-again, dashes-quiet}
-use Rattle.context_form.proofs.PartLemmas.{body_again, First, first-of, mark-again}
-use Rattle.context_form.proofs.JoinLemmas.{kept-first, kept-on, of-all, part-some, join-again, size-again}
+use Rattle.context_form.proofs.RangeGrammar.{line-again, most-again, count-again}
+use Rattle.context_form.proofs.PartLemmas.{body_again, first-of, mark-again}
+use Rattle.context_form.proofs.JoinLemmas.{kept-first, kept-on, of-all, join-again, size-again}
 
 abbrev pub bodied : List Marked → Bool → PlainBody
 bodied ls changed = record { lines = ls; changed = changed }

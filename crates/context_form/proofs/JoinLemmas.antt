@@ -1,6 +1,5 @@
 -- The two parts of a hunk are those of its body, each written or left out.
-use Rattle.std.proofs.Common.{◌≡◌, ℕ, suc, ◌+◌, ◌<◌, Bool, true, false, cond, ◌&&◌, not, List, [], ◌∷◌, ◌++◌, length, Option, None, Some, refl, sym, ap, subst, ◌∙◌, arith}
-use Rattle.std.specs.Prelude.{filter, count_by}
+use Rattle.std.proofs.Common.{◌≡◌, ℕ, ◌+◌, ◌<◌, Bool, true, false, cond, List, [], ◌∷◌, ◌++◌, length, None, Some, refl, sym, ap, subst, ◌∙◌, arith}
 use Rattle.std.proofs.lemmas.List.{length-append}
 use Rattle.std.proofs.lemmas.List.Recursion.{is_count_by}
 use Rattle.hunk_core.specs.declared.Mark.{Mark}
@@ -11,9 +10,9 @@ use Rattle.hunk_core.specs.Sides.{is_on_side}
 use Rattle.hunk_core.specs.PlainHunk.{Marked}
 use Rattle.hunk_core.specs.Turned.{is_keep, other_side}
 use Rattle.context_form.specs.Parts.{PlainBody}
-use Rattle.context_form.specs.Merging.{merge, alone, joined_by, joined, kept_count, size_by, part_of, may_follow, DropsFirst}
+use Rattle.context_form.specs.Merging.{merge, alone, joined, kept_count, size_by, part_of, may_follow, DropsFirst}
 use Rattle.context_form.specs.Grammar.{SpellsPart, SpellsLine, has_change, AreKept, SpellsSide, written}
-use Rattle.context_form.proofs.MergeIs.{AllOn, IsMerge}
+use Rattle.context_form.proofs.MergeIs.{AllOn}
 use Rattle.context_form.proofs.MergeLaws.{merge-again, merge-takes}
 
 -- ---- counting kept lines

@@ -17,3 +17,4 @@ pub mod Again
 pub mod Steady
 pub mod SteadyParts
 pub mod FirstFault
+pub mod Words

@@ -1,5 +1,5 @@
 -- The lines of a part that are read are spelled so, and what is spelled so is read.
-use Rattle.std.proofs.Common.{◌≡◌, ℕ, zero, suc, ◌+◌, ◌-◌, ◌<◌, ◌≤◌, Bool, true, false, cond, eqb, ◌||◌, List, [], ◌∷◌, ◌++◌, length, take, drop, Option, None, Some, Result, Ok, Err, refl, sym, ap, subst, ◌∙◌, append_assoc, arith, inl, inr}
+use Rattle.std.proofs.Common.{◌≡◌, ℕ, zero, suc, ◌+◌, ◌<◌, Bool, true, false, cond, eqb, ◌||◌, List, [], ◌∷◌, ◌++◌, length, drop, Option, None, Some, Result, Ok, refl, sym, ap, subst, ◌∙◌, append_assoc, arith, inl, inr}
 use Rattle.std.specs.Prelude.{is_some}
 use Rattle.std.proofs.lemmas.Bool.{eqb-true}
 use Rattle.std.proofs.lemmas.List.{length-append, append-nil}
@@ -9,11 +9,11 @@ use Rattle.hunk_core.specs.declared.Side.{Side}
 use Rattle.hunk_core.specs.declared.Side.TheVariants.{Forward, Reversed}
 use Rattle.hunk_core.specs.Sides.{is_on_side}
 use Rattle.hunk_core.specs.PlainHunk.{Marked}
-use Rattle.hunk_core.specs.LineTests.{after, marked, unended, is_backslash, after_backslash}
+use Rattle.hunk_core.specs.LineTests.{after, marked, is_backslash, after_backslash}
 use Rattle.hunk_core.specs.Reading.{◌>>=◌, Fault, Ahead, ahead}
 use Rattle.hunk_core.proofs.ReadSteps.{bind_ok, chosen, guard_ok, must_ok, ok_is}
 use Rattle.context_form.specs.Ranges.{before_range}
-use Rattle.context_form.specs.Parts.{own_mark, own_byte, mark_by, mark_at, Shown, must_be_marked, marked_at, room_at, cut, ended_by, first_line, line_at, begins_new, is_done, PlainBody, with_line, body_at}
+use Rattle.context_form.specs.Parts.{own_mark, own_byte, mark_by, mark_at, Shown, must_be_marked, marked_at, room_at, cut, ended_by, first_line, line_at, is_done, PlainBody, with_line, body_at}
 use Rattle.context_form.specs.Grammar.{mark_byte, Shows, SpellsLine, SpellsPart, is_change, has_change}
 use Rattle.context_form.proofs.MergeIs.{AllOn}
 

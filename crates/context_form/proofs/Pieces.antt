@@ -1,5 +1,5 @@
 -- Hunks that are read are spelled so, and what is spelled so is read.
-use Rattle.std.proofs.Common.{◌≡◌, ℕ, zero, suc, ◌+◌, ◌^◌, ◌≤◌, ◌<◌, Bool, true, false, eqb, ◌&&◌, List, [], ◌∷◌, ◌++◌, length, Option, None, Some, Result, Ok, Err, refl, sym, ap, subst, ◌∙◌, append_assoc, arith, inl, inr}
+use Rattle.std.proofs.Common.{◌≡◌, ℕ, zero, suc, ◌+◌, ◌≤◌, ◌<◌, Bool, true, false, eqb, ◌&&◌, List, [], ◌∷◌, ◌++◌, length, Option, None, Some, Result, Ok, Err, refl, sym, ap, subst, ◌∙◌, append_assoc, arith, inl, inr}
 use Rattle.std.specs.Prelude.{is_some, IfOk}
 use Rattle.std.proofs.lemmas.Bool.{eqb-true}
 use Rattle.std.proofs.lemmas.List.{length-append}
@@ -7,16 +7,16 @@ use Rattle.hunk_core.specs.declared.fault.FormFault.{FormFault}
 use Rattle.hunk_core.specs.declared.Side.TheVariants.{Forward, Reversed}
 use Rattle.hunk_core.specs.PlainHunk.{Marked, PlainHunk}
 use Rattle.hunk_core.specs.LineTests.{after, is_backslash, after_backslash}
-use Rattle.hunk_core.specs.Reading.{Fault, Gives, ◌>>=◌, Ahead, ahead}
+use Rattle.hunk_core.specs.Reading.{Gives, ◌>>=◌, Ahead, ahead}
 use Rattle.hunk_core.proofs.ReadSteps.{bind_ok, chosen, guard_ok, ok_is}
-use Rattle.context_form.specs.Openings.{is_stars, opens_old, begins_old, begins_hunk}
+use Rattle.context_form.specs.Openings.{is_stars, opens_old, begins_hunk}
 use Rattle.context_form.specs.Parts.{begins_new}
 use Rattle.context_form.specs.Merging.{part_of, size_by}
 use Rattle.context_form.specs.Hunks.{PlainPart, old_part, new_part, quiet, parts_at, whole, first_hunk, hunk_at, hunks_at, reading}
 use Rattle.context_form.specs.Presence.{is_there}
 use Rattle.context_form.specs.Grammar.{SpellsRange, has_change, stated_as, written, SpellsHunk, SpellsHunks, EndsPiece, IsPiece}
 use Rattle.context_form.proofs.RangeGrammar.{is_one, line-known, dashes-again, dashes-quiet, stars-again}
-use Rattle.context_form.proofs.JoinLemmas.{TakesJoin, join-takes}
+use Rattle.context_form.proofs.JoinLemmas.{join-takes}
 use Rattle.context_form.proofs.Halves.{TakesPart, TakesNew, TakesWhole, old-takes, new-takes, whole-takes}
 use Rattle.context_form.proofs.HalvesAgain.{bodied, parted, old-again, new-again, whole-again}
 

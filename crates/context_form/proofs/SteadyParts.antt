@@ -1,20 +1,20 @@
 -- The two parts of a hunk are read without a look behind where they stop, but for the line there.
-use Rattle.std.proofs.Common.{◌≡◌, ◌≢◌, ◌⊎◌, inl, inr, ℕ, zero, suc, ◌+◌, ◌-◌, ◌≤◌, ◌<◌, Bool, true, false, cond, eqb, ltb, ◌&&◌, ◌||◌, not, List, [], ◌∷◌, ◌++◌, length, Option, None, Some, Result, Ok, Err, refl, sym, ap, subst, ◌∙◌, arith}
+use Rattle.std.proofs.Common.{◌≡◌, ◌≢◌, ℕ, zero, suc, ◌+◌, Bool, true, false, cond, eqb, ltb, List, [], ◌∷◌, Option, None, Some, Result, Ok, Err, refl, sym, ap, subst, ◌∙◌}
 use Rattle.std.specs.Prelude.{is_some}
 use Rattle.hunk_core.specs.declared.BadKind.{BadKind}
 use Rattle.hunk_core.specs.declared.BadKind.TheVariants as kinds
 use Rattle.hunk_core.specs.declared.Mark.{Mark}
 use Rattle.hunk_core.specs.declared.Side.{Side}
 use Rattle.hunk_core.specs.declared.Side.TheVariants.{Forward, Reversed}
-use Rattle.hunk_core.specs.PlainHunk.{Marked, PlainHunk}
-use Rattle.hunk_core.specs.LineTests.{after, is_backslash, after_backslash}
+use Rattle.hunk_core.specs.PlainHunk.{Marked}
+use Rattle.hunk_core.specs.LineTests.{is_backslash, after_backslash}
 use Rattle.hunk_core.specs.Reading.{◌>>=◌, Fault, fault, Ahead, ahead}
 use Rattle.num_text.specs.declared.range.NumberRange.{NumberRange}
 use Rattle.context_form.specs.declared.range.Stated.{Stated}
-use Rattle.context_form.specs.Ranges.{is_bad_range, is_too_large, stated, checked, from_numbers, numbers_at, range_line, most, is_count}
-use Rattle.context_form.specs.Parts.{mark_at, Shown, unmarked, must_be_marked, marked_at, room_at, cut, ended_by, first_line, line_at, begins_new, is_done, PlainBody, no_body, with_line, body_at}
-use Rattle.context_form.specs.Presence.{may_begin, begins_part, drops_alone, is_there}
-use Rattle.context_form.specs.Hunks.{PlainPart, at_line, first_range, range_here, old_part, too_few, enough, new_count, new_part, quiet, parts_at}
+use Rattle.context_form.specs.Ranges.{is_bad_range, is_too_large, stated, from_numbers, numbers_at, range_line, most}
+use Rattle.context_form.specs.Parts.{mark_at, Shown, unmarked, must_be_marked, marked_at, room_at, cut, ended_by, first_line, line_at, is_done, PlainBody, no_body, with_line, body_at}
+use Rattle.context_form.specs.Presence.{begins_part, is_there}
+use Rattle.context_form.specs.Hunks.{PlainPart, at_line, first_range, old_part, too_few, enough, new_count, new_part, quiet, parts_at}
 use Rattle.context_form.proofs.Steady.{failed, Steady, steady-then, steady-value, one_line, with_rest, steady-same, LooksAhead, steady-test, FailsHere, steady-line, peek_by, steady-peek}
 
 -- ---- lines

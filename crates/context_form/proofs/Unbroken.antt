@@ -1,11 +1,8 @@
 -- A hunk that a piece of a text spells breaks no rule.
-use Rattle.std.proofs.Common.{◌≡◌, ℕ, suc, ◌+◌, ◌<◌, ◌≤◌, Bool, true, false, not, cond, eqb, ◌&&◌, ◌||◌, List, [], ◌∷◌, ◌++◌, length, map, None, Some, refl, sym, ap, subst, ◌∙◌, arith}
-use Rattle.std.specs.Prelude.{filter}
+use Rattle.std.proofs.Common.{◌≡◌, ℕ, suc, ◌+◌, ◌<◌, ◌≤◌, Bool, true, false, not, cond, eqb, ◌&&◌, ◌||◌, List, [], ◌∷◌, ◌++◌, length, map, None, Some, refl, ap, subst, ◌∙◌, arith}
 use Rattle.std.proofs.lemmas.Bool.{eqb-true, ne_eqb, le-ltb}
 use Rattle.std.proofs.lemmas.List.{length-map}
 use Rattle.line_list.specs.Lines.{IsLine, ArePieces}
-use Rattle.hunk_core.specs.declared.Mark.{Mark}
-use Rattle.hunk_core.specs.declared.Mark.TheVariants.{Keep, Drop, Add}
 use Rattle.hunk_core.specs.declared.Side.{Side}
 use Rattle.hunk_core.specs.declared.Side.TheVariants.{Forward, Reversed}
 use Rattle.hunk_core.specs.declared.check.BadHunk.{BadHunk}
@@ -17,7 +14,7 @@ use Rattle.hunk_core.specs.Turned.{other_side}
 use Rattle.hunk_core.proofs.PieceLemmas.{pieces-first, pieces-last}
 use Rattle.context_form.specs.Merging.{part_of}
 use Rattle.context_form.specs.Presence.{is_there}
-use Rattle.context_form.specs.Grammar.{mark_byte, Shows, SpellsLine, SpellsPart, SpellsNumbers, SpellsRange, SpellsSide, AreKept, SpellsHunk, SpellsPiece, stated_as, written}
+use Rattle.context_form.specs.Grammar.{mark_byte, SpellsLine, SpellsPart, SpellsNumbers, SpellsSide, SpellsHunk, SpellsPiece, stated_as, written}
 use Rattle.context_form.proofs.JoinLemmas.{kept-other}
 
 -- ---- a hunk at the end of a text

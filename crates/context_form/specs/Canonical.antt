@@ -1,5 +1,5 @@
 -- The canonical text of a hunk.
-use Rattle.std.specs.Prelude.{◌≡◌, ℕ, ◌+◌, ◌-◌, Bool, true, false, nat_lt, ◌==◌, ◌&&◌, List, [], ◌∷◌, ◌++◌, length, codes, replicate, if◌then◌else◌}
+use Rattle.std.specs.Prelude.{◌≡◌, ℕ, ◌+◌, ◌-◌, Bool, true, false, nat_lt, ◌&&◌, List, [], ◌∷◌, ◌++◌, length, codes, replicate, if◌then◌else◌}
 use Rattle.line_list.specs.Lines.{lines}
 use Rattle.num_text.specs.Numbers.{decimal}
 use Rattle.hunk_core.specs.declared.Mark.{Mark}

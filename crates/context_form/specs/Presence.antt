@@ -1,5 +1,5 @@
 -- Whether the new part of a hunk is there, or left out.
-use Rattle.std.specs.Prelude.{ℕ, Bool, true, false, not, ◌==◌, ◌&&◌, ◌||◌, List, [], ◌∷◌, length, Option, None, Some, if◌then◌else◌}
+use Rattle.std.specs.Prelude.{◌≡◌, ◌⊎◌, ℕ, Bool, true, false, not, ◌==◌, ◌&&◌, ◌||◌, List, [], ◌∷◌, length, Option, None, Some, if◌then◌else◌}
 use Rattle.hunk_core.specs.declared.Mark.{Mark}
 use Rattle.hunk_core.specs.declared.Side.TheVariants.{Reversed}
 use Rattle.hunk_core.specs.PlainHunk.{Marked}
@@ -31,3 +31,11 @@ is_there_by start (Some count) olds rest = begins_part true rest
 -- whether the new part is there
 abbrev pub is_there : Stated → List Marked → List (List ℕ) → Bool
 is_there s olds rest = is_there_by s.start s.count olds rest
+
+-- the first of these lines begins with this byte and a space
+abbrev pub Begins : ℕ → List (List ℕ) → Type 0
+Begins b rest = (bytes : List ℕ) × (more : List (List ℕ)) × (rest ≡ (b ∷ 32 ∷ bytes) ∷ more)
+
+-- '+ ' or '! ' comes first
+abbrev pub BeginsChange : List (List ℕ) → Type 0
+BeginsChange rest = Begins 43 rest ⊎ Begins 33 rest

@@ -1,12 +1,12 @@
 -- The range line of a part.
-use Rattle.std.specs.Prelude.{ℕ, ◌+◌, ◌-◌, ◌^◌, ◌<◌, ◌≤◌, Bool, true, false, nat_lt, ◌==◌, ◌||◌, ◌&&◌, not, List, [], ◌∷◌, Option, None, Some, Result, Ok, Err, if◌then◌else◌}
+use Rattle.std.specs.Prelude.{ℕ, ◌+◌, ◌-◌, ◌^◌, ◌<◌, ◌≤◌, Bool, false, nat_lt, ◌==◌, ◌||◌, List, [], ◌∷◌, Option, None, Some, Result, Ok, Err, if◌then◌else◌}
 use Rattle.hunk_core.specs.declared.BadKind.{BadKind}
 use Rattle.hunk_core.specs.declared.BadKind.TheVariants as kinds
 use Rattle.hunk_core.specs.declared.Side.{Side}
 use Rattle.hunk_core.specs.declared.Side.TheVariants.{Forward, Reversed}
 use Rattle.hunk_core.specs.LineTests.{after}
 use Rattle.num_text.specs.declared.range.NumberRange.{NumberRange}
-use Rattle.num_text.specs.NumberRanges.{range_at, HasSmallEnds}
+use Rattle.num_text.specs.NumberRanges.{range_at}
 use Rattle.diff_command.specs.Letters.{◌>>=◌, is_line_end}
 use Rattle.context_form.specs.declared.range.Stated.{Stated}
 

@@ -8,7 +8,7 @@ mod part;
 mod range;
 mod writing;
 
-pub use hunks::{first_faults, read_hunks};
+pub use hunks::{first_faults, grammar_in_words, read_hunks};
 pub use opening::at_opening;
 pub use writing::put_hunk;
 

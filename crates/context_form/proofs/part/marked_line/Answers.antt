@@ -1,5 +1,4 @@
-use Rattle.std.proofs.Common.{◌≡◌, ◌≤◌, ◌-◌, drop, slice_range, Some, refl, sym, arith}
-use Rattle.context_form.specs.Parts.{mark_at}
+use Rattle.std.proofs.Common.{◌≤◌, ◌-◌, slice_range, refl, arith}
 use Rattle.context_form.proofs.SliceLemmas.{slice-length, slice-behind}
 use Rattle.context_form.proofs.part.marked_line.Goals as goal
 

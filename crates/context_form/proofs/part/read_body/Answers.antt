@@ -6,7 +6,7 @@ use Rattle.line_list.specs.Lines.{lines}
 use Rattle.hunk_core.specs.Turned.{LiesIn}
 use Rattle.hunk_core.specs.PlainHunk.{marked_of, body_of}
 use Rattle.hunk_core.specs.Reading.{ahead_of}
-use Rattle.context_form.specs.Parts.{is_done, PlainBody}
+use Rattle.context_form.specs.Parts.{is_done}
 use Rattle.context_form.proofs.Loops.{body_goes_on, body_fails, body_done}
 use Rattle.context_form.proofs.part.read_body.Goals as goal
 
