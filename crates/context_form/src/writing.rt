@@ -1,6 +1,6 @@
 //! The canonical text of a hunk.
 
-ghost use Rattle.std.specs.Prelude.{◌≡◌, ℕ, List, [], None, ◌<◌, ◌≤◌, ◌^◌, ◌+◌, ◌++◌, ◌∷◌, true, false, length, map, vec_len, if◌then◌else◌, drop};
+ghost use Rattle.std.specs.Prelude.{◌≡◌, ℕ, List, [], None, ◌<◌, ◌≤◌, ◌^◌, ◌+◌, ◌++◌, ◌∷◌, true, false, length, map, slice_index, vec_len, if◌then◌else◌, drop};
 ghost use Rattle.std.specs.List.{AllByRecursion};
 ghost use Rattle.line_list.specs.Lines.{lines};
 ghost use Rattle.num_text.specs.Numbers.{decimal};
@@ -20,6 +20,7 @@ use crate::merging::keeps;
 use crate::range::{before, behind};
 use arrayvec::ArrayVec;
 use hunk_core::{Hunk, HunkLine, Mark, Side, add_piece, has_feed, is_taken};
+use line_list::Span;
 use num_text::put_number;
 use outside::{Failed, Sink, put_all};
 
@@ -49,7 +50,31 @@ fn byte_of(mark: Mark, changed: bool) -> u8
     }
 }
 
-/// A line behind its mark.
+/// Whether a mark of this byte and a space stands just before a place.
+fn stands_before(text: &[u8], start: usize, byte: u8) -> bool
+    requires { start ≤ length text.now }
+    ensures { result ≡ true → (n : ℕ) × (start ≡ n + 2) × (slice_index text.now n ≡ byte) × (slice_index text.now (n + 1) ≡ 32) }
+{
+    if start < 2 || text[start - 2] != byte {
+        return false;
+    }
+    text[start - 1] == b' '
+}
+
+/// A line behind its mark. Mostly the mark stands before the line in the text too, and both go out at once.
+fn put_marked<O: Sink>(out: &mut O, text: &[u8], span: Span, byte: u8) -> Result<(), Failed>
+    requires { LiesIn text.now span }
+    ensures { Puts O.view O.same_rest out.old out.new result (byte ∷ 32 ∷ bytes_at text.now span) }
+{
+    let start = span.start as usize;
+    let end = span.end as usize;
+    if stands_before(text, start, byte) {
+        return put_all(out, &text[start - 2..end]);
+    }
+    put_all(out, &[byte, b' '])?;
+    put_all(out, &text[start..end])
+}
+
 fn put_line<O: Sink>(
     out: &mut O,
     text: &[u8],
@@ -60,10 +85,9 @@ fn put_line<O: Sink>(
     requires { LiesIn text.now line.span }
     ensures { Puts O.view O.same_rest out.old out.new result (line_text changed (taken_line side (marked_of text.now line))) }
 {
-    let bytes = &text[line.span.start as usize..line.span.end as usize];
-    put_all(out, &[byte_of(mark_from(line.mark, side), changed), b' '])?;
-    put_all(out, bytes)?;
-    if has_feed(bytes) {
+    let byte = byte_of(mark_from(line.mark, side), changed);
+    put_marked(out, text, line.span, byte)?;
+    if has_feed(&text[line.span.start as usize..line.span.end as usize]) {
         return Ok(());
     }
     put_all(out, NO_NEWLINE)
