@@ -5,12 +5,14 @@ use Rattle.std.proofs.lemmas.List.{length-append}
 use Rattle.hunk_core.specs.declared.BadKind.{BadKind}
 use Rattle.hunk_core.specs.declared.BadKind.TheVariants as kinds
 use Rattle.hunk_core.specs.PlainHunk.{Marked, PlainHunk}
+use Rattle.std.specs.Prelude.{is_some}
+use Rattle.hunk_core.specs.LineTests.{is_backslash, after_backslash}
 use Rattle.hunk_core.specs.Reading.{◌>>=◌, Fault, fault, Ahead, ahead}
-use Rattle.hunk_core.proofs.ReadSteps.{bind_ok, ok_is, chosen}
+use Rattle.hunk_core.proofs.ReadSteps.{bind_ok, guard_ok, ok_is, chosen}
 use Rattle.context_form.specs.Openings.{is_stars, begins_old, begins_hunk}
 use Rattle.context_form.specs.Ranges.{is_count}
 use Rattle.context_form.specs.Merging.{joined, size_beside}
-use Rattle.context_form.specs.Hunks.{PlainPart, sized, agreed, whole, parts_at, first_hunk, hunk_at, hunks_at, reading}
+use Rattle.context_form.specs.Hunks.{quiet, PlainPart, sized, agreed, whole, parts_at, first_hunk, hunk_at, hunks_at, reading}
 use Rattle.context_form.specs.Grammar.{IsPiece}
 use Rattle.context_form.specs.FirstFault.{AgreeTo, behind_first, decided_at, decided_by}
 use Rattle.context_form.proofs.Steady.{failed, bind_err, agree_head}
@@ -19,6 +21,9 @@ use Rattle.context_form.proofs.HunkLoops.{hunks_step}
 use Rattle.context_form.proofs.Pieces.{hunk-shrinks, reading_again}
 
 -- ---- how a hunk fails
+
+err_fault : {A : Type 0} (d e : Fault) → failed {A = A} d ≡ failed e → d ≡ e
+err_fault d e h = cc
 
 -- a fault over two whole parts is none of these
 pub record IsOverParts (e : Fault) : Type 0 where
@@ -69,24 +74,43 @@ whole-over old new e h =
       ]
     ]
 
+-- a backslash line stands behind a hunk that is whole
+pub record FailsBehind (least : ℕ) (p : Ahead) (e : Fault) : Type 0 where
+  pub parts : (PlainPart × PlainPart) × Ahead
+  pub hunk : PlainHunk
+  pub read : parts_at least (behind_first p.number p.rest) ≡ Ok parts
+  pub good : whole parts.0.0 parts.0.1 ≡ Ok hunk
+  pub loud : is_some (after_backslash parts.1.rest) ≡ true
+  pub is : fault parts.1.number kinds.MisplacedBackslash ≡ e
+
 -- a hunk fails in its parts, or over them
 pub record FailsWhole (least : ℕ) (p : Ahead) (e : Fault) : Type 0 where
   pub parts : (PlainPart × PlainPart) × Ahead
   pub read : parts_at least (behind_first p.number p.rest) ≡ Ok parts
   pub bad : whole parts.0.0 parts.0.1 ≡ Err e
 
-hunk-fails : (least : ℕ) (p : Ahead) (e : Fault) → begins_hunk p.rest ≡ true → hunk_at least p ≡ Err e → (parts_at least (behind_first p.number p.rest) ≡ Err e) ⊎ FailsWhole least p e
+loud-is : (q : Ahead) (e : Fault) → quiet q ≡ Err e → (is_some (after_backslash q.rest) ≡ true) × (fault q.number kinds.MisplacedBackslash ≡ e)
+loud-is q e h = by (is_some (after_backslash q.rest)) refl h
+  where
+    by : (b : Bool) → is_some (after_backslash q.rest) ≡ b → cond b (Err (fault q.number kinds.MisplacedBackslash)) (Ok tt) ≡ failed {A = Unit {0}} e → (is_some (after_backslash q.rest) ≡ true) × (fault q.number kinds.MisplacedBackslash ≡ e)
+    by true is k = (is, err_fault {A = Unit {0}} _ e k)
+    by false is k = absurd cc
+
+hunk-fails : (least : ℕ) (p : Ahead) (e : Fault) → begins_hunk p.rest ≡ true → hunk_at least p ≡ Err e → (parts_at least (behind_first p.number p.rest) ≡ Err e) ⊎ (FailsWhole least p e ⊎ FailsBehind least p e)
 unfolding first_hunk
 hunk-fails least p e begins h = by p.number p.rest begins h
   where
-    by : (number : ℕ) (lines : List (List ℕ)) → begins_hunk lines ≡ true → first_hunk least number lines ≡ Err e → (parts_at least (behind_first number lines) ≡ Err e) ⊎ FailsWhole least (ahead number lines) e
+    by : (number : ℕ) (lines : List (List ℕ)) → begins_hunk lines ≡ true → first_hunk least number lines ≡ Err e → (parts_at least (behind_first number lines) ≡ Err e) ⊎ (FailsWhole least (ahead number lines) e ⊎ FailsBehind least (ahead number lines) e)
     by number [] b k = absurd cc
     by number (line ∷ rest) b k =
-        elim (bind_err (parts_at least (ahead (number + 1) rest)) (λ parts. whole parts.0.0 parts.0.1 >>= λ g. Ok (g, parts.1)) e k) [
+        elim (bind_err (parts_at least (ahead (number + 1) rest)) (λ parts. whole parts.0.0 parts.0.1 >>= λ g. quiet parts.1 >>= λ done. Ok (g, parts.1)) e k) [
           | inl bad ↦ inl bad
-          | inr good ↦ elim (bind_err (whole good.0.0.0 good.0.0.1) (λ g. Ok (g, good.0.1)) e good.2) [
-            | inl bad ↦ inr (record { parts = good.0; read = good.1; bad = bad })
-            | inr none ↦ absurd (no-err (none.0, good.0.1) e none.2)
+          | inr good ↦ elim (bind_err (whole good.0.0.0 good.0.0.1) (λ g. quiet good.0.1 >>= λ done. Ok (g, good.0.1)) e good.2) [
+            | inl bad ↦ inr (inl (record { parts = good.0; read = good.1; bad = bad }))
+            | inr fine ↦ elim (bind_err (quiet good.0.1) (λ done. Ok (fine.0, good.0.1)) e fine.2) [
+              | inl bad ↦ (let l = loud-is good.0.1 e bad in inr (inr (record { parts = good.0; hunk = fine.0; read = good.1; good = fine.1; loud = l.0; is = l.1 })))
+              | inr none ↦ absurd (no-err (fine.0, good.0.1) e none.2)
+            ]
           ]
         ]
 
@@ -95,6 +119,7 @@ pub record ReadsWhole (least : ℕ) (p : Ahead) (x : PlainHunk × Ahead) : Type 
   pub read : parts_at least (behind_first p.number p.rest) ≡ Ok parts
   pub good : whole parts.0.0 parts.0.1 ≡ Ok x.0
   pub same : parts.1 ≡ x.1
+  pub silent : is_some (after_backslash parts.1.rest) ≡ false
 
 hunk-reads : (least : ℕ) (p : Ahead) (x : PlainHunk × Ahead) → hunk_at least p ≡ Ok x → ReadsWhole least p x
 unfolding first_hunk
@@ -103,10 +128,12 @@ hunk-reads least p x h = by p.number p.rest h
     by : (number : ℕ) (lines : List (List ℕ)) → first_hunk least number lines ≡ Ok x → ReadsWhole least (ahead number lines) x
     by number [] k = absurd cc
     by number (line ∷ rest) k =
-        let a = bind_ok (parts_at least (ahead (number + 1) rest)) (λ parts. whole parts.0.0 parts.0.1 >>= λ g. Ok (g, parts.1)) x k in
-        let b = bind_ok (whole a.0.0.0 a.0.0.1) (λ g. Ok (g, a.0.1)) x a.2 in
-        let s : (b.0, a.0.1) ≡ x = ok_is _ _ b.2 in
-        record { parts = a.0; read = a.1; good = b.1 ∙ ap (λ (y : PlainHunk × Ahead). Ok y.0) s; same = ap (λ (y : PlainHunk × Ahead). y.1) s }
+        let a = bind_ok (parts_at least (ahead (number + 1) rest)) (λ parts. whole parts.0.0 parts.0.1 >>= λ g. quiet parts.1 >>= λ done. Ok (g, parts.1)) x k in
+        let b = bind_ok (whole a.0.0.0 a.0.0.1) (λ g. quiet a.0.1 >>= λ done. Ok (g, a.0.1)) x a.2 in
+        let c = bind_ok (quiet a.0.1) (λ done. Ok (b.0, a.0.1)) x b.2 in
+        let g = guard_ok (is_some (after_backslash a.0.1.rest)) _ tt c.0 c.1 in
+        let s : (b.0, a.0.1) ≡ x = ok_is _ _ c.2 in
+        record { parts = a.0; read = a.1; good = b.1 ∙ ap (λ (y : PlainHunk × Ahead). Ok y.0) s; same = ap (λ (y : PlainHunk × Ahead). y.1) s; silent = g.0 }
 
 -- ---- which line decides
 
@@ -118,9 +145,13 @@ decided-whole : (most least : ℕ) (p : Ahead) (x : (PlainPart × PlainPart) × 
 unfolding decided_at
 decided-whole most least p x e h k = rw (h, k) refl
 
-decided-later : (most least : ℕ) (p : Ahead) (x : (PlainPart × PlainPart) × Ahead) (h : PlainHunk) → parts_at least (behind_first p.number p.rest) ≡ Ok x → whole x.0.0 x.0.1 ≡ Ok h → decided_at (suc most) least p ≡ decided_at most h.old_start x.1
+decided-later : (most least : ℕ) (p : Ahead) (x : (PlainPart × PlainPart) × Ahead) (h : PlainHunk) → parts_at least (behind_first p.number p.rest) ≡ Ok x → whole x.0.0 x.0.1 ≡ Ok h → is_some (after_backslash x.1.rest) ≡ false → decided_at (suc most) least p ≡ decided_at most h.old_start x.1
 unfolding decided_at
-decided-later most least p x h e k = rw (e, k) refl
+decided-later most least p x h e k s = rw (e, k, s) refl
+
+decided-loud : (most least : ℕ) (p : Ahead) (x : (PlainPart × PlainPart) × Ahead) (h : PlainHunk) → parts_at least (behind_first p.number p.rest) ≡ Ok x → whole x.0.0 x.0.1 ≡ Ok h → is_some (after_backslash x.1.rest) ≡ true → decided_at (suc most) least p ≡ x.1.number
+unfolding decided_at
+decided-loud most least p x h e k s = rw (e, k, s) refl
 
 -- ---- hunks that follow each other
 
@@ -164,9 +195,6 @@ more_hunks most first = hunks_at most first.0.old_start first.1 >>= λ others. O
 abbrev put_first : PlainHunk → List PlainHunk × Ahead → Result (List PlainHunk × Ahead) Fault
 put_first h others = Ok (h ∷ others.0, others.1)
 
-err_fault : {A : Type 0} (d e : Fault) → failed {A = A} d ≡ failed e → d ≡ e
-err_fault d e h = cc
-
 add_err : (h : PlainHunk) (r : Result (List PlainHunk × Ahead) Fault) (e : Fault) → (r >>= put_first h) ≡ Err e → r ≡ Err e
 add_err h (Ok x) e f = absurd (let bad : put_first h x ≡ failed {A = List PlainHunk × Ahead} e = f in cc)
 add_err h (Err d) e f = ap (λ x. Err x) (err_fault {A = List PlainHunk × Ahead} d e f)
@@ -192,9 +220,16 @@ fault-whole most least p e begins f =
     let over = whole-over f.parts.0.0 f.parts.0.1 e f.bad in
     record { later = omega (arith, d, n.0, u.0); short = λ k. absurd (over.long k); own = λ a b c. absurd (over.known a b c) }
 
+fault-behind : (most least : ℕ) (p : Ahead) (e : Fault) → begins_hunk p.rest ≡ true → FailsBehind least p e → FaultIs (suc most) least p e
+fault-behind most least p e begins f =
+    let d = decided-loud most least p f.parts f.hunk f.read f.good f.loud in
+    let n = behind-number p.number p.rest begins in
+    let u = (steady-parts least).up (behind_first p.number p.rest) f.parts f.read in
+    record { later = omega (arith, d, n.0, u.0); short = λ k. absurd (let bad : kinds.MisplacedBackslash ≡ kinds.ShortEnd = ap (λ (x : Fault). x.kind) f.is ∙ k in cc); own = λ a b c. d ∙ ap (λ (x : Fault). x.line) f.is }
+
 fault-later : (most least : ℕ) (p : Ahead) (x : PlainHunk × Ahead) (e : Fault) → begins_hunk p.rest ≡ true → ReadsWhole least p x → FaultIs most x.0.old_start x.1 e → FaultIs (suc most) least p e
 fault-later most least p x e begins r f =
-    let d = decided-later most least p r.parts x.0 r.read r.good ∙ ap (decided_at most x.0.old_start) r.same in
+    let d = decided-later most least p r.parts x.0 r.read r.good r.silent ∙ ap (decided_at most x.0.old_start) r.same in
     let n = behind-number p.number p.rest begins in
     let u = (steady-parts least).up (behind_first p.number p.rest) r.parts r.read in
     let here : r.parts.1.number ≡ x.1.number = ap (λ (q : Ahead). q.number) r.same in
@@ -209,7 +244,10 @@ hunks-fault (suc most) least p e h =
       | inl some ↦ elim (bind_err (hunk_at least p) (more_hunks most) e some.1) [
         | inl bad ↦ elim (hunk-fails least p e some.0 bad) [
           | inl parts ↦ fault-parts most least p e some.0 parts
-          | inr over ↦ fault-whole most least p e some.0 over
+          | inr others ↦ elim others [
+            | inl over ↦ fault-whole most least p e some.0 over
+            | inr loud ↦ fault-behind most least p e some.0 loud
+          ]
         ]
         | inr good ↦ fault-later most least p good.0 e some.0 (hunk-reads least p good.0 good.1) (hunks-fault most good.0.0.old_start good.0.1 e (add_err good.0.0 (hunks_at most good.0.0.old_start good.0.1) e good.2))
       ]
@@ -239,13 +277,30 @@ hunk-over least p x e begins h bad = by p.number p.rest begins h
     by number [] b k = absurd cc
     by number (line ∷ rest) b k = rw (k, bad) refl
 
-hunk-good : (least : ℕ) (p : Ahead) (x : (PlainPart × PlainPart) × Ahead) (h : PlainHunk) → begins_hunk p.rest ≡ true → parts_at least (behind_first p.number p.rest) ≡ Ok x → whole x.0.0 x.0.1 ≡ Ok h → hunk_at least p ≡ Ok (h, x.1)
+hunk-good : (least : ℕ) (p : Ahead) (x : (PlainPart × PlainPart) × Ahead) (h : PlainHunk) → begins_hunk p.rest ≡ true → parts_at least (behind_first p.number p.rest) ≡ Ok x → whole x.0.0 x.0.1 ≡ Ok h → is_some (after_backslash x.1.rest) ≡ false → hunk_at least p ≡ Ok (h, x.1)
 unfolding first_hunk
-hunk-good least p x h begins e good = by p.number p.rest begins e
+hunk-good least p x h begins e good silent = by p.number p.rest begins e
   where
     by : (number : ℕ) (lines : List (List ℕ)) → begins_hunk lines ≡ true → parts_at least (behind_first number lines) ≡ Ok x → first_hunk least number lines ≡ Ok (h, x.1)
     by number [] b k = absurd cc
-    by number (line ∷ rest) b k = rw (k, good) refl
+    by number (line ∷ rest) b k = rw (k, good, silent) refl
+
+hunk-loud : (least : ℕ) (p : Ahead) (x : (PlainPart × PlainPart) × Ahead) (h : PlainHunk) → begins_hunk p.rest ≡ true → parts_at least (behind_first p.number p.rest) ≡ Ok x → whole x.0.0 x.0.1 ≡ Ok h → is_some (after_backslash x.1.rest) ≡ true → hunk_at least p ≡ Err (fault x.1.number kinds.MisplacedBackslash)
+unfolding first_hunk
+hunk-loud least p x h begins e good loud = by p.number p.rest begins e
+  where
+    by : (number : ℕ) (lines : List (List ℕ)) → begins_hunk lines ≡ true → parts_at least (behind_first number lines) ≡ Ok x → first_hunk least number lines ≡ Err (fault x.1.number kinds.MisplacedBackslash)
+    by number [] b k = absurd cc
+    by number (line ∷ rest) b k = rw (k, good, loud) refl
+
+-- the line behind a hunk is a backslash line over other lines too
+loud_too : (last number : ℕ) (rest others : List (List ℕ)) (v : Bool) → AgreeTo last number rest others → number ≤ last → is_some (after_backslash rest) ≡ v → is_some (after_backslash others) ≡ v
+loud_too last number [] others v agree le e = absurd (omega (arith, le, agree))
+loud_too last number (line ∷ rest) others v agree le e = let a = agree_head last number line rest others agree le in rw a.1 (same (is_backslash line) e)
+  where
+    same : (b : Bool) → is_some (cond b (Some rest) None) ≡ v → is_some (cond b (Some (agree_head last number line rest others agree le).0) None) ≡ v
+    same true h = h
+    same false h = h
 
 -- ahead with another number for the same
 renumber : (q : Ahead) (n : ℕ) → q.number ≡ n → q ≡ ahead n q.rest
@@ -267,19 +322,26 @@ hunks_stay (suc most) most2 least p others e h long agree enough =
           subst (λ n. hunks_at n least (ahead p.number others) ≡ Err e) (sym k) (elim (bind_err (hunk_at least p) (more_hunks most) e some.1) [
             | inl bad ↦ hunks_err (most2 - 1) least (ahead p.number others) e o.begins (elim (hunk-fails least p e some.0 bad) [
               | inl parts ↦ hunk-bad least (ahead p.number others) e o.begins (ap (parts_at least) q2 ∙ (steady-parts least).stays q (behind_first p.number others).rest e parts long (subst (λ n. AgreeTo n (behind_first p.number p.rest).number (behind_first p.number p.rest).rest (behind_first p.number others).rest) (decided-parts most least p e parts) agree2))
-              | inr over ↦ (
-                  let go = (steady-parts least).goes last q (behind_first p.number others).rest over.parts over.read (omega (arith, decided-whole most least p over.parts e over.read over.bad)) agree2 in
-                  hunk-over least (ahead p.number others) (over.parts.0, ahead over.parts.1.number go.rest) e o.begins (ap (parts_at least) q2 ∙ go.read) over.bad)
+              | inr either ↦ elim either [
+                | inl over ↦ (
+                    let go = (steady-parts least).goes last q (behind_first p.number others).rest over.parts over.read (omega (arith, decided-whole most least p over.parts e over.read over.bad)) agree2 in
+                    hunk-over least (ahead p.number others) (over.parts.0, ahead over.parts.1.number go.rest) e o.begins (ap (parts_at least) q2 ∙ go.read) over.bad)
+                | inr loud ↦ (
+                    let d = decided-loud most least p loud.parts loud.hunk loud.read loud.good loud.loud in
+                    let go = (steady-parts least).goes last q (behind_first p.number others).rest loud.parts loud.read (omega (arith, d)) agree2 in
+                    let still = loud_too last loud.parts.1.number loud.parts.1.rest go.rest true go.agree (omega (arith, d)) loud.loud in
+                    hunk-loud least (ahead p.number others) (loud.parts.0, ahead loud.parts.1.number go.rest) loud.hunk o.begins (ap (parts_at least) q2 ∙ go.read) loud.good still ∙ ap (λ (x : Fault). Err x) loud.is)
+              ]
             ])
             | inr good ↦ (
                 let x = good.0 in
                 let r = hunk-reads least p x good.1 in
                 let rest : hunks_at most x.0.old_start x.1 ≡ Err e = add_err x.0 (hunks_at most x.0.old_start x.1) e good.2 in
-                let d : decided_at (suc most) least p ≡ decided_at most x.0.old_start x.1 = decided-later most least p r.parts x.0 r.read r.good ∙ ap (decided_at most x.0.old_start) r.same in
+                let d : decided_at (suc most) least p ≡ decided_at most x.0.old_start x.1 = decided-later most least p r.parts x.0 r.read r.good r.silent ∙ ap (decided_at most x.0.old_start) r.same in
                 let there = hunks-fault most x.0.old_start x.1 e rest in
                 let here : r.parts.1.number ≡ x.1.number = ap (λ (y : Ahead). y.number) r.same in
                 let go = (steady-parts least).goes last q (behind_first p.number others).rest r.parts r.read (omega (arith, d, there.later, here)) agree2 in
-                let read2 : hunk_at least (ahead p.number others) ≡ Ok (x.0, ahead x.1.number go.rest) = hunk-good least (ahead p.number others) (r.parts.0, ahead r.parts.1.number go.rest) x.0 o.begins (ap (parts_at least) q2 ∙ go.read) r.good ∙ ap (λ n. Ok (x.0, ahead n go.rest)) here in
+                let read2 : hunk_at least (ahead p.number others) ≡ Ok (x.0, ahead x.1.number go.rest) = hunk-good least (ahead p.number others) (r.parts.0, ahead r.parts.1.number go.rest) x.0 o.begins (ap (parts_at least) q2 ∙ go.read) r.good (loud_too last r.parts.1.number r.parts.1.rest go.rest false go.agree (omega (arith, d, there.later, here)) r.silent) ∙ ap (λ n. Ok (x.0, ahead n go.rest)) here in
                 let agree3 : AgreeTo (decided_at most x.0.old_start x.1) x.1.number x.1.rest go.rest = subst (λ n. AgreeTo n x.1.number x.1.rest go.rest) d (subst (λ (y : Ahead). AgreeTo (decided_at (suc most) least p) y.number y.rest go.rest) r.same go.agree) in
                 let fewer : length go.rest ≤ most2 - 1 = omega (arith, enough, hunk-shrinks least p.number others (x.0, ahead x.1.number go.rest) o.begins read2) in
                 hunks_on (most2 - 1) least (ahead p.number others) (x.0, ahead x.1.number go.rest) e o.begins read2 (hunks_stay most (most2 - 1) x.0.old_start x.1 go.rest e rest long agree3 fewer))

@@ -43,16 +43,13 @@ record TakesParts (least : ℕ) (p : Ahead) (x : (PlainPart × PlainPart) × Ahe
   middle : Ahead
   old : TakesPart Forward least p (x.0.0, middle)
   new : TakesNew x.0.0 middle (x.0.1, x.1)
-  silent : after_backslash x.1.rest ≡ None
 
 parts-take : (least : ℕ) (p : Ahead) (x : (PlainPart × PlainPart) × Ahead) → parts_at least p ≡ Ok x → TakesParts least p x
 unfolding parts_at
 parts-take least p x h =
-    let a = bind_ok (old_part least p) (λ old. new_part old.0 old.1 >>= λ new. quiet new.1 >>= λ done. Ok ((old.0, new.0), new.1)) x h in
-    let b = bind_ok (new_part a.0.0 a.0.1) (λ new. quiet new.1 >>= λ done. Ok ((a.0.0, new.0), new.1)) x a.2 in
-    let c = bind_ok (quiet b.0.1) (λ done. Ok ((a.0.0, b.0.0), b.0.1)) x b.2 in
-    let g = guard_ok (is_some (after_backslash b.0.1.rest)) _ tt c.0 c.1 in
-    subst (TakesParts least p) (ok_is _ _ c.2) (record { middle = a.0.1; old = old-takes least p a.0 a.1; new = new-takes a.0.0 a.0.1 b.0 b.1; silent = is_none (after_backslash b.0.1.rest) g.0 })
+    let a = bind_ok (old_part least p) (λ old. new_part old.0 old.1 >>= λ new. Ok ((old.0, new.0), new.1)) x h in
+    let b = bind_ok (new_part a.0.0 a.0.1) (λ new. Ok ((a.0.0, new.0), new.1)) x a.2 in
+    subst (TakesParts least p) (ok_is _ _ b.2) (record { middle = a.0.1; old = old-takes least p a.0 a.1; new = new-takes a.0.0 a.0.1 b.0 b.1 })
 
 join_lines : (stars : List ℕ) (rest : List (List ℕ)) (line : List ℕ) (old middle : List (List ℕ)) (line2 : List ℕ) (new behind : List (List ℕ)) → rest ≡ line ∷ (old ++ middle) → middle ≡ line2 ∷ (new ++ behind) → stars ∷ rest ≡ (stars ∷ line ∷ (old ++ line2 ∷ new)) ++ behind
 join_lines stars rest line old middle line2 new behind e1 e2 = rw (e1, e2) (ap (λ (ls : List (List ℕ)). stars ∷ line ∷ ls) (sym (append_assoc old (line2 ∷ new) behind)))
@@ -60,8 +57,8 @@ join_lines stars rest line old middle line2 new behind e1 e2 = rw (e1, e2) (ap (
 abbrev hunk_is : ℕ → ℕ → List Marked → PlainHunk
 hunk_is a m body = record { old_start = a; new_start = m; body = body }
 
-hunk-from : (least number : ℕ) (stars : List ℕ) (rest : List (List ℕ)) (old new : PlainPart) (next : Ahead) (h : PlainHunk) → is_stars stars ≡ true → TakesParts least (ahead (number + 1) rest) ((old, new), next) → TakesWhole old new h → TakesHunk least (ahead number (stars ∷ rest)) (h, next)
-hunk-from least number stars rest old new next h opens t w =
+hunk-from : (least number : ℕ) (stars : List ℕ) (rest : List (List ℕ)) (old new : PlainPart) (next : Ahead) (h : PlainHunk) → is_stars stars ≡ true → TakesParts least (ahead (number + 1) rest) ((old, new), next) → TakesWhole old new h → after_backslash next.rest ≡ None → TakesHunk least (ahead number (stars ∷ rest)) (h, next)
+hunk-from least number stars rest old new next h opens t w silent =
     let o = t.old in
     let n = t.new.part in
     let j = join-takes o.own n.own old.body.lines new.body.lines old.body.changed new.body.changed h.body o.spelled n.spelled o.on n.on o.change n.change w.joins in
@@ -99,29 +96,31 @@ hunk-from least number stars rest old new next h opens t w =
         order = rw w.old_start ko.order;
         told = λ e. subst (λ (ls : List Marked). is_there (stated_as (is_one new.stated) h.new_start (length (part_of Reversed h.body))) ls next.rest ≡ false) j.is (subst (λ s. is_there s old.body.lines next.rest ≡ false) same (t.new.told e));
       };
-      silent = t.silent;
+      silent = silent;
     }
 
 pub hunk_takes : (least number : ℕ) (rest : List (List ℕ)) (x : PlainHunk × Ahead) → begins_hunk rest ≡ true → first_hunk least number rest ≡ Ok x → TakesHunk least (ahead number rest) x
 unfolding first_hunk
 hunk_takes least number [] x opens h = absurd cc
 hunk_takes least number (stars ∷ rest) x opens h =
-    let a = bind_ok (parts_at least (ahead (number + 1) rest)) (λ parts. whole parts.0.0 parts.0.1 >>= λ g. Ok (g, parts.1)) x h in
-    let b = bind_ok (whole a.0.0.0 a.0.0.1) (λ g. Ok (g, a.0.1)) x a.2 in
-    subst (TakesHunk least (ahead number (stars ∷ rest))) (ok_is _ _ b.2) (hunk-from least number stars rest a.0.0.0 a.0.0.1 a.0.1 b.0 (both _ _ opens).0 (parts-take least (ahead (number + 1) rest) a.0 a.1) (whole-takes a.0.0.0 a.0.0.1 b.0 b.1))
+    let a = bind_ok (parts_at least (ahead (number + 1) rest)) (λ parts. whole parts.0.0 parts.0.1 >>= λ g. quiet parts.1 >>= λ done. Ok (g, parts.1)) x h in
+    let b = bind_ok (whole a.0.0.0 a.0.0.1) (λ g. quiet a.0.1 >>= λ done. Ok (g, a.0.1)) x a.2 in
+    let c = bind_ok (quiet a.0.1) (λ done. Ok (b.0, a.0.1)) x b.2 in
+    let g = guard_ok (is_some (after_backslash a.0.1.rest)) _ tt c.0 c.1 in
+    subst (TakesHunk least (ahead number (stars ∷ rest))) (ok_is _ _ c.2) (hunk-from least number stars rest a.0.0.0 a.0.0.1 a.0.1 b.0 (both _ _ opens).0 (parts-take least (ahead (number + 1) rest) a.0 a.1) (whole-takes a.0.0.0 a.0.0.1 b.0 b.1) (is_none (after_backslash a.0.1.rest) g.0))
 
 pub hunk-shrinks : (least number : ℕ) (rest : List (List ℕ)) (x : PlainHunk × Ahead) → begins_hunk rest ≡ true → first_hunk least number rest ≡ Ok x → length x.1.rest < length rest
 hunk-shrinks least number rest x opens h = let t = hunk_takes least number rest x opens h in omega (arith, ap length t.parts, length-append t.own x.1.rest, t.some)
 
 -- ---- one hunk that is spelled
 
-parts-step : (least number middle after : ℕ) (rest tail behind : List (List ℕ)) (old new : PlainPart) → old_part least (ahead number rest) ≡ Ok (old, ahead middle tail) → new_part old (ahead middle tail) ≡ Ok (new, ahead after behind) → after_backslash behind ≡ None → parts_at least (ahead number rest) ≡ Ok ((old, new), ahead after behind)
+parts-step : (least number middle after : ℕ) (rest tail behind : List (List ℕ)) (old new : PlainPart) → old_part least (ahead number rest) ≡ Ok (old, ahead middle tail) → new_part old (ahead middle tail) ≡ Ok (new, ahead after behind) → parts_at least (ahead number rest) ≡ Ok ((old, new), ahead after behind)
 unfolding parts_at
-parts-step least number middle after rest tail behind old new e1 e2 e3 = rw (e1, e2, e3) refl
+parts-step least number middle after rest tail behind old new e1 e2 = rw (e1, e2) refl
 
-hunk-step : (least number after : ℕ) (stars : List ℕ) (rest behind : List (List ℕ)) (old new : PlainPart) (h : PlainHunk) → parts_at least (ahead (number + 1) rest) ≡ Ok ((old, new), ahead after behind) → whole old new ≡ Ok h → first_hunk least number (stars ∷ rest) ≡ Ok (h, ahead after behind)
+hunk-step : (least number after : ℕ) (stars : List ℕ) (rest behind : List (List ℕ)) (old new : PlainPart) (h : PlainHunk) → parts_at least (ahead (number + 1) rest) ≡ Ok ((old, new), ahead after behind) → whole old new ≡ Ok h → after_backslash behind ≡ None → first_hunk least number (stars ∷ rest) ≡ Ok (h, ahead after behind)
 unfolding first_hunk
-hunk-step least number after stars rest behind old new h e1 e2 = rw (e1, e2) refl
+hunk-step least number after stars rest behind old new h e1 e2 e3 = rw (e1, e2, e3) refl
 
 line_quiet : (line : List ℕ) (rest : List (List ℕ)) → is_backslash line ≡ false → after_backslash (line ∷ rest) ≡ None
 line_quiet line rest e = rw e refl
@@ -142,7 +141,7 @@ hunk_again h own rest least number s none =
     let after = number + 1 + 1 + length s.old + 1 + length s.new in
     let count : number + 1 + 1 + length s.old + 1 + length s.new ≡ number + length own = omega (arith, ap length s.parts, length-append s.old (s.new_line ∷ s.new)) in
     ap (first_hunk least number) parts
-    ∙ hunk-step least number after s.stars (s.old_line ∷ (s.old ++ (s.new_line ∷ (s.new ++ rest)))) rest old new h (parts-step least (number + 1) (number + 1 + 1 + length s.old) after (s.old_line ∷ (s.old ++ (s.new_line ∷ (s.new ++ rest)))) (s.new_line ∷ (s.new ++ rest)) rest old new one two none) three
+    ∙ hunk-step least number after s.stars (s.old_line ∷ (s.old ++ (s.new_line ∷ (s.new ++ rest)))) rest old new h (parts-step least (number + 1) (number + 1 + 1 + length s.old) after (s.old_line ∷ (s.old ++ (s.new_line ∷ (s.new ++ rest)))) (s.new_line ∷ (s.new ++ rest)) rest old new one two) three none
     ∙ ap (λ k. Ok (h, ahead k rest)) count
 
 -- ---- hunks that follow each other

@@ -216,16 +216,9 @@ steady-new old = steady-same (λ p. one_line (new_range old) p.number p.rest >>=
 
 -- ---- both
 
-abbrev silent : PlainPart × PlainPart → Ahead → Result ((PlainPart × PlainPart) × Ahead) Fault
-silent x q = quiet q >>= λ done. Ok (x, q)
-
-silent-same : (x : PlainPart × PlainPart) (q : Ahead) (o : Option (List (List ℕ))) → peek_by x None q o ≡ (guarded (is_some o) q.number kinds.MisplacedBackslash >>= λ done. Ok (x, q))
-silent-same x q None = refl
-silent-same x q (Some more) = refl
-
-steady-silent : (x : PlainPart × PlainPart) → Steady (silent x)
-steady-silent x = steady-same (λ q. peek_by x None q (after_backslash q.rest)) (silent x) (λ q. silent-same x q (after_backslash q.rest)) (steady-peek x None)
+abbrev both_parts : PlainPart × PlainPart → Ahead → Result ((PlainPart × PlainPart) × Ahead) Fault
+both_parts x q = Ok (x, q)
 
 pub steady-parts : (least : ℕ) → Steady (parts_at least)
 unfolding parts_at
-steady-parts least = steady-then (old_part least) (λ old q. new_part old q >>= λ new. silent (old, new.0) new.1) (steady-old least) (λ old. steady-then (new_part old) (λ new. silent (old, new)) (steady-new old) (λ new. steady-silent (old, new)))
+steady-parts least = steady-then (old_part least) (λ old q. new_part old q >>= λ new. both_parts (old, new.0) new.1) (steady-old least) (λ old. steady-then (new_part old) (λ new. both_parts (old, new)) (steady-new old) (λ new. steady-value (old, new)))

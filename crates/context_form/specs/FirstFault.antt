@@ -1,6 +1,7 @@
 -- What makes a fault the first one.
-use Rattle.std.specs.Prelude.{◌≡◌, ℕ, zero, suc, ◌+◌, ◌≤◌, ◌<◌, List, [], ◌∷◌, length, Result, Ok, Err}
+use Rattle.std.specs.Prelude.{◌≡◌, ℕ, zero, suc, ◌+◌, ◌≤◌, ◌<◌, List, [], ◌∷◌, length, is_some, Result, Ok, Err, if◌then◌else◌}
 use Rattle.hunk_core.specs.PlainHunk.{PlainHunk}
+use Rattle.hunk_core.specs.LineTests.{after_backslash}
 use Rattle.hunk_core.specs.Reading.{Fault, Ahead, ahead}
 use Rattle.context_form.specs.Hunks.{PlainPart, parts_at, whole}
 
@@ -25,10 +26,14 @@ abbrev pub decided_parts : Result ((PlainPart × PlainPart) × Ahead) Fault → 
 decided_parts (Err e) later = e.line
 decided_parts (Ok x) later = later x
 
+-- a backslash line behind a hunk is decided by its own line
+abbrev pub decided_behind : Ahead → ℕ → ℕ
+decided_behind p later = if is_some (after_backslash p.rest) then p.number else later
+
 -- the line up to which the fault of at most so many hunks is decided, where they have one
 unfoldable pub decided_at : ℕ → ℕ → Ahead → ℕ
 decided_at zero least p = p.number
-decided_at (suc most) least p = decided_parts (parts_at least (behind_first p.number p.rest)) (λ x. decided_whole x.1.number (whole x.0.0 x.0.1) (λ h. decided_at most h.old_start x.1))
+decided_at (suc most) least p = decided_parts (parts_at least (behind_first p.number p.rest)) (λ x. decided_whole x.1.number (whole x.0.0 x.0.1) (λ h. decided_behind x.1 (decided_at most h.old_start x.1)))
 
 -- the line up to which the fault of these lines is decided: its own, or for a fault of two whole parts the line behind them
 abbrev pub decided_by : ℕ → List (List ℕ) → ℕ

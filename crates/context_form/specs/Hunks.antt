@@ -90,12 +90,11 @@ whole old new = do
 abbrev pub quiet : Ahead → Result (Unit {0}) Fault
 quiet p = if is_some (after_backslash p.rest) then Err (fault p.number kinds.MisplacedBackslash) else Ok tt
 
--- both parts, and no backslash line behind them
+-- both parts
 unfoldable pub parts_at : ℕ → Ahead → Result ((PlainPart × PlainPart) × Ahead) Fault
 parts_at least p = do
   old ← old_part least p
   new ← new_part old.0 old.1
-  done ← quiet new.1
   Ok ((old.0, new.0), new.1)
 
 -- a hunk whose line of asterisks is the first of these lines, and what is ahead behind it
@@ -104,6 +103,7 @@ first_hunk least number [] = Err (fault number kinds.ShortEnd)
 first_hunk least number (line ∷ rest) = do
   parts ← parts_at least (ahead (number + 1) rest)
   h ← whole parts.0.0 parts.0.1
+  done ← quiet parts.1
   Ok (h, parts.1)
 
 -- a hunk that starts at least

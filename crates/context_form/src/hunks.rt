@@ -227,7 +227,7 @@ fn hunk_from(alloc: Global, text: &[u8], old: Part, new: Part) -> Result<Hunk, F
     }
 }
 
-/// Both parts, with the place after them, where no backslash line stands.
+/// Both parts, with the place after them.
 #[tactic(auto, unfolding(crate::specs::Hunks::parts_at))]
 fn read_parts(
     alloc: Global,
@@ -246,9 +246,6 @@ fn read_parts(
 {
     let (old, place) = read_old(alloc, text, least, place)?;
     let (new, place) = read_new(alloc, text, &old, place)?;
-    if backslash_end(text, place.at).is_some() {
-        return Err(bad(place.number, BadKind::MisplacedBackslash));
-    }
     Ok(((old, new), place))
 }
 
@@ -280,6 +277,9 @@ fn take_hunk(
         },
     )?;
     let hunk = hunk_from(alloc, text, old, new)?;
+    if backslash_end(text, next.at).is_some() {
+        return Err(bad(next.number, BadKind::MisplacedBackslash));
+    }
     Ok((hunk, next))
 }
 
