@@ -14,7 +14,7 @@ use Rattle.context_form.specs.Ranges.{is_count}
 use Rattle.context_form.specs.Merging.{joined, size_beside}
 use Rattle.context_form.specs.Hunks.{quiet, PlainPart, sized, agreed, whole, parts_at, first_hunk, hunk_at, hunks_at, reading}
 use Rattle.context_form.specs.Grammar.{IsPiece}
-use Rattle.context_form.specs.FirstFault.{AgreeTo, behind_first, decided_at, decided_by}
+use Rattle.context_form.specs.FirstFault.{AgreeTo, lines_behind, reach, behind_first, decided_at, decided_by}
 use Rattle.context_form.proofs.Steady.{failed, bind_err, agree_head}
 use Rattle.context_form.proofs.SteadyParts.{steady-parts}
 use Rattle.context_form.proofs.HunkLoops.{hunks_step}
@@ -137,7 +137,7 @@ hunk-reads least p x h = by p.number p.rest h
 
 -- ---- which line decides
 
-decided-parts : (most least : ℕ) (p : Ahead) (e : Fault) → parts_at least (behind_first p.number p.rest) ≡ Err e → decided_at (suc most) least p ≡ e.line
+decided-parts : (most least : ℕ) (p : Ahead) (e : Fault) → parts_at least (behind_first p.number p.rest) ≡ Err e → decided_at (suc most) least p ≡ reach e
 unfolding decided_at
 decided-parts most least p e h = rw h refl
 
@@ -205,12 +205,30 @@ pub record FaultIs (most least : ℕ) (p : Ahead) (e : Fault) : Type 0 where
   pub short : e.kind ≡ kinds.ShortEnd → e.line ≡ p.number + length p.rest
   pub own : e.kind ≢ kinds.Count → e.kind ≢ kinds.NumberTooLarge → e.kind ≢ kinds.SidesDiffer → decided_at most least p ≡ e.line
 
+-- a fault of another kind is decided by its own line
+own-line : (e : Fault) → e.kind ≢ kinds.Count → e.kind ≢ kinds.NumberTooLarge → reach e ≡ e.line
+own-line e a b = let none : lines_behind e.kind ≡ 0 = by e.kind a b in omega (arith, none)
+  where
+    by : (k : BadKind) → k ≢ kinds.Count → k ≢ kinds.NumberTooLarge → lines_behind k ≡ 0
+    by kinds.Range c d = refl
+    by kinds.Mark c d = refl
+    by kinds.Count c d = absurd (c refl)
+    by kinds.ShortEnd c d = refl
+    by kinds.NumberTooLarge c d = absurd (d refl)
+    by kinds.SidesDiffer c d = refl
+    by kinds.MisplacedBackslash c d = refl
+    by kinds.EdCommand c d = refl
+    by kinds.EdOrder c d = refl
+    by kinds.EdNoDot c d = refl
+    by kinds.Binary c d = refl
+    by kinds.HunkOrder c d = refl
+
 fault-parts : (most least : ℕ) (p : Ahead) (e : Fault) → begins_hunk p.rest ≡ true → parts_at least (behind_first p.number p.rest) ≡ Err e → FaultIs (suc most) least p e
 fault-parts most least p e begins h =
     let d = decided-parts most least p e h in
     let n = behind-number p.number p.rest begins in
     let l = (steady-parts least).low (behind_first p.number p.rest) e h in
-    record { later = omega (arith, d, n.0, l.0); short = λ k. omega (arith, l.1 k, n.0, n.1); own = λ a b c. d }
+    record { later = omega (arith, d, n.0, l.0); short = λ k. omega (arith, l.1 k, n.0, n.1); own = λ a b c. d ∙ own-line e a b }
 
 fault-whole : (most least : ℕ) (p : Ahead) (e : Fault) → begins_hunk p.rest ≡ true → FailsWhole least p e → FaultIs (suc most) least p e
 fault-whole most least p e begins f =

@@ -12,8 +12,8 @@ use Rattle.context_form.specs.declared.range.Stated.{Stated}
 use Rattle.context_form.specs.Ranges.{range_line, most, is_count}
 use Rattle.context_form.specs.Parts.{PlainBody, no_body, body_at}
 use Rattle.context_form.specs.Merging.{size_beside, joined}
-use Rattle.context_form.specs.Hunks.{PlainPart, at_line, first_range, range_here, old_part, enough, new_count, new_part, sized, agreed, whole}
-use Rattle.context_form.specs.Presence.{begins_part, drops_alone, is_there}
+use Rattle.context_form.specs.Hunks.{fitting, PlainPart, at_line, first_range, range_here, old_part, enough, new_count, new_part, sized, agreed, whole}
+use Rattle.context_form.specs.Presence.{begins_part, drops_alone, is_there, begins_old_part}
 use Rattle.context_form.specs.Grammar.{SpellsPart, has_change}
 use Rattle.context_form.proofs.MergeIs.{AllOn}
 use Rattle.context_form.proofs.RangeGrammar.{line-known}
@@ -64,8 +64,9 @@ part-of side least left p s b r t = record {
 pub old-takes : (least : ℕ) (p : Ahead) (x : PlainPart × Ahead) → old_part least p ≡ Ok x → TakesPart Forward least p x
 unfolding old_part
 old-takes least p x h =
-    let a = bind_ok (range_here Forward least p) (λ s. body_at Forward (most s.0) no_body s.1 >>= λ b. Ok (record { number = p.number; stated = s.0; body = b.0 }, b.1)) x h in
-    let b = bind_ok (body_at Forward (most a.0.0) no_body a.0.1) (λ b. Ok (record { number = p.number; stated = a.0.0; body = b.0 }, b.1)) x a.2 in
+    let a = bind_ok (range_here Forward least p) (λ s. fitting p.number s.0 (begins_old_part s.1.rest) >>= λ fits. body_at Forward (most s.0) no_body s.1 >>= λ b. Ok (record { number = p.number; stated = s.0; body = b.0 }, b.1)) x h in
+    let f = bind_ok (fitting p.number a.0.0 (begins_old_part a.0.1.rest)) (λ fits. body_at Forward (most a.0.0) no_body a.0.1 >>= λ b. Ok (record { number = p.number; stated = a.0.0; body = b.0 }, b.1)) x a.2 in
+    let b = bind_ok (body_at Forward (most a.0.0) no_body a.0.1) (λ b. Ok (record { number = p.number; stated = a.0.0; body = b.0 }, b.1)) x f.2 in
     subst (TakesPart Forward least p) (ok_is _ _ b.2) (part-of Forward least (most a.0.0) p a.0 b.0 (range-takes Forward least p.number p.rest a.0 a.1) (body_takes Forward (most a.0.0) no_body a.0.1 b.0 b.1))
 
 -- ---- a new part that is left out
@@ -114,8 +115,9 @@ new-of old p s b r t = record { part = part-of Reversed 0 (new_count s.0 old.bod
 pub new-takes : (old : PlainPart) (p : Ahead) (x : PlainPart × Ahead) → new_part old p ≡ Ok x → TakesNew old p x
 unfolding new_part
 new-takes old p x h =
-    let a = bind_ok (range_here Reversed 0 p) (λ s. enough p.number old >>= λ few. body_at Reversed (new_count s.0 old.body.lines s.1.rest) no_body s.1 >>= λ b. Ok (record { number = p.number; stated = s.0; body = b.0 }, b.1)) x h in
-    let e = bind_ok (enough p.number old) (λ few. body_at Reversed (new_count a.0.0 old.body.lines a.0.1.rest) no_body a.0.1 >>= λ b. Ok (record { number = p.number; stated = a.0.0; body = b.0 }, b.1)) x a.2 in
+    let a = bind_ok (range_here Reversed 0 p) (λ s. fitting p.number s.0 (is_there s.0 old.body.lines s.1.rest) >>= λ fits. enough p.number old >>= λ few. body_at Reversed (new_count s.0 old.body.lines s.1.rest) no_body s.1 >>= λ b. Ok (record { number = p.number; stated = s.0; body = b.0 }, b.1)) x h in
+    let f = bind_ok (fitting p.number a.0.0 (is_there a.0.0 old.body.lines a.0.1.rest)) (λ fits. enough p.number old >>= λ few. body_at Reversed (new_count a.0.0 old.body.lines a.0.1.rest) no_body a.0.1 >>= λ b. Ok (record { number = p.number; stated = a.0.0; body = b.0 }, b.1)) x a.2 in
+    let e = bind_ok (enough p.number old) (λ few. body_at Reversed (new_count a.0.0 old.body.lines a.0.1.rest) no_body a.0.1 >>= λ b. Ok (record { number = p.number; stated = a.0.0; body = b.0 }, b.1)) x f.2 in
     let b = bind_ok (body_at Reversed (new_count a.0.0 old.body.lines a.0.1.rest) no_body a.0.1) (λ b. Ok (record { number = p.number; stated = a.0.0; body = b.0 }, b.1)) x e.2 in
     subst (TakesNew old p) (ok_is _ _ b.2) (new-of old p a.0 b.0 (range-takes Reversed 0 p.number p.rest a.0 a.1) (body_takes Reversed (new_count a.0.0 old.body.lines a.0.1.rest) no_body a.0.1 b.0 b.1))
 

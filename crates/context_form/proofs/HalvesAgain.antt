@@ -14,8 +14,8 @@ use Rattle.context_form.specs.declared.range.Stated.{Stated}
 use Rattle.context_form.specs.Ranges.{range_line, most, is_count}
 use Rattle.context_form.specs.Parts.{PlainBody, no_body, body_at, begins_new, is_done}
 use Rattle.context_form.specs.Merging.{kept_count, size_by, joined, part_of, DropsFirst}
-use Rattle.context_form.specs.Hunks.{PlainPart, first_range, old_part, enough, new_count, new_part, sized, whole}
-use Rattle.context_form.specs.Presence.{may_begin, begins_part, drops_alone, is_there}
+use Rattle.context_form.specs.Hunks.{fitting, PlainPart, first_range, old_part, enough, new_count, new_part, sized, whole}
+use Rattle.context_form.specs.Presence.{may_begin, begins_part, drops_alone, is_there, begins_old_part}
 use Rattle.context_form.specs.Grammar.{mark_byte, SpellsRange, SpellsPart, has_change, SpellsSide, stated_as, written}
 use Rattle.context_form.proofs.MergeIs.{AllOn}
 use Rattle.context_form.proofs.Loops.{body_done}
@@ -51,18 +51,42 @@ some-side side (line ∷ own) partner body s some = by (part_of side body) s
     by [] t = absurd (let bad : line ∷ own ≡ [] = t in cc)
     by (m ∷ part) t = omega arith
 
+-- ---- numbers that fit
+
+start-is : (single : Bool) (start n : ℕ) → (stated_as single start n).start ≡ start
+start-is true start n = refl
+start-is false start n = refl
+
+fitting-small : (number : ℕ) (s : Stated) (there : Bool) → ltb 4294967295 (s.start + most s) ≡ false → fitting number s there ≡ Ok tt
+fitting-small number s true e = rw e refl
+fitting-small number s false e = refl
+
+fitting-none : (number : ℕ) (s : Stated) (there : Bool) → there ≡ false → fitting number s there ≡ Ok tt
+fitting-none number s there e = rw e refl
+
+-- a part that is written has numbers that fit
+fitting-again : (side : Side) (number : ℕ) (line : List ℕ) (single : Bool) (start n : ℕ) (there : Bool) → SpellsRange side line single start n → start + n < 2 ^ 32 → 0 < n → fitting number (stated_as single start n) there ≡ Ok tt
+fitting-again side number line single start n there r fits some =
+    let sum : (stated_as single start n).start + most (stated_as single start n) ≡ start + n = omega (arith, start-is single start n, most-again side line single start n r some) in
+    fitting-small number (stated_as single start n) there (le-ltb 4294967295 ((stated_as single start n).start + most (stated_as single start n)) (omega (arith, sum, fits)))
+
 -- ---- the old part
 
-old-step : (least number after : ℕ) (line : List ℕ) (rest tail : List (List ℕ)) (s : Stated) (b : PlainBody) → range_line Forward least line ≡ Ok s → body_at Forward (most s) no_body (ahead (number + 1) rest) ≡ Ok (b, ahead after tail) → old_part least (ahead number (line ∷ rest)) ≡ Ok (parted number s b, ahead after tail)
+old-step : (least number after : ℕ) (line : List ℕ) (rest tail : List (List ℕ)) (s : Stated) (b : PlainBody) → range_line Forward least line ≡ Ok s → fitting number s (begins_old_part rest) ≡ Ok tt → body_at Forward (most s) no_body (ahead (number + 1) rest) ≡ Ok (b, ahead after tail) → old_part least (ahead number (line ∷ rest)) ≡ Ok (parted number s b, ahead after tail)
 unfolding old_part
-old-step least number after line rest tail s b e1 e2 = rw (range-step Forward least number line rest s e1, e2) refl
+old-step least number after line rest tail s b e1 e2 e3 = rw (range-step Forward least number line rest s e1, e2, e3) refl
+
+old-fits : (number : ℕ) (line : List ℕ) (single : Bool) (start : ℕ) (own partner : List (List ℕ)) (body : List Marked) (tail : List (List ℕ)) → SpellsRange Forward line single start (length (part_of Forward body)) → start + length (part_of Forward body) < 2 ^ 32
+    → SpellsSide Forward own partner body → begins_old_part tail ≡ false → fitting number (stated_as single start (length (part_of Forward body))) (begins_old_part (own ++ tail)) ≡ Ok tt
+old-fits number line single start [] partner body tail r fits s unmarked = fitting-none number (stated_as single start (length (part_of Forward body))) (begins_old_part tail) unmarked
+old-fits number line single start (l ∷ own) partner body tail r fits s unmarked = fitting-again Forward number line single start (length (part_of Forward body)) (begins_old_part ((l ∷ own) ++ tail)) r fits (some-side Forward (l ∷ own) partner body s (omega arith))
 
 pub old-again : (least number : ℕ) (line : List ℕ) (single : Bool) (start : ℕ) (own partner : List (List ℕ)) (body : List Marked) (tail : List (List ℕ)) → SpellsRange Forward line single start (length (part_of Forward body)) → start + length (part_of Forward body) < 2 ^ 32 → least ≤ start
-    → SpellsSide Forward own partner body → begins_new tail ≡ true → after_backslash tail ≡ None
+    → SpellsSide Forward own partner body → begins_new tail ≡ true → after_backslash tail ≡ None → begins_old_part tail ≡ false
     → old_part least (ahead number (line ∷ (own ++ tail))) ≡ Ok (parted number (stated_as single start (length (part_of Forward body))) (bodied (written Forward own body) (has_change own)), ahead (number + 1 + length own) tail)
-old-again least number line single start own partner body tail r fits order s begins none =
+old-again least number line single start own partner body tail r fits order s begins none unmarked =
     let n = length (part_of Forward body) in
-    old-step least number (number + 1 + length own) line (own ++ tail) tail (stated_as single start n) (bodied (written Forward own body) (has_change own)) (line-again Forward least line single start n r fits order)
+    old-step least number (number + 1 + length own) line (own ++ tail) tail (stated_as single start n) (bodied (written Forward own body) (has_change own)) (line-again Forward least line single start n r fits order) (old-fits number line single start own partner body tail r fits s unmarked)
     (side_again Forward own partner body tail (most (stated_as single start n)) (number + 1) s none (λ e. begins) (λ some. most-again Forward line single start n r (some-side Forward own partner body s some)) begins)
 
 -- ---- the new part
@@ -124,10 +148,15 @@ there-again single line start old (l ∷ new) rest body r s some =
     there-part single line start (length (part_of Reversed body)) (written Forward old body) ((l ∷ new) ++ rest) r (some-side Reversed (l ∷ new) old body s (omega arith))
     (λ may_keep alone. there-first may_keep (l ∷ new) rest (part_of Reversed body) s (of-all Reversed body) (omega arith) (λ h. kept-on Reversed body ∙ none-dropped old body (alone h)))
 
-new-step : (old : PlainPart) (number after : ℕ) (line : List ℕ) (rest tail : List (List ℕ)) (s : Stated) (b : PlainBody) → range_line Reversed 0 line ≡ Ok s → enough number old ≡ Ok tt → body_at Reversed (new_count s old.body.lines rest) no_body (ahead (number + 1) rest) ≡ Ok (b, ahead after tail)
+new-step : (old : PlainPart) (number after : ℕ) (line : List ℕ) (rest tail : List (List ℕ)) (s : Stated) (b : PlainBody) → range_line Reversed 0 line ≡ Ok s → fitting number s (is_there s old.body.lines rest) ≡ Ok tt → enough number old ≡ Ok tt → body_at Reversed (new_count s old.body.lines rest) no_body (ahead (number + 1) rest) ≡ Ok (b, ahead after tail)
     → new_part old (ahead number (line ∷ rest)) ≡ Ok (parted number s b, ahead after tail)
 unfolding new_part
-new-step old number after line rest tail s b e1 e2 e3 = rw (range-step Reversed 0 number line rest s e1, e2, e3) refl
+new-step old number after line rest tail s b e1 e2 e3 e4 = rw (range-step Reversed 0 number line rest s e1, e2, e3, e4) refl
+
+new-fits : (at : ℕ) (line : List ℕ) (single : Bool) (start : ℕ) (old new : List (List ℕ)) (body : List Marked) (tail : List (List ℕ)) → SpellsRange Reversed line single start (length (part_of Reversed body)) → start + length (part_of Reversed body) < 2 ^ 32 → SpellsSide Reversed new old body
+    → (new ≡ [] → is_there (stated_as single start (length (part_of Reversed body))) (written Forward old body) tail ≡ false) → fitting at (stated_as single start (length (part_of Reversed body))) (is_there (stated_as single start (length (part_of Reversed body))) (written Forward old body) (new ++ tail)) ≡ Ok tt
+new-fits at line single start old [] body tail r fits s told = fitting-none at (stated_as single start (length (part_of Reversed body))) (is_there (stated_as single start (length (part_of Reversed body))) (written Forward old body) tail) (told refl)
+new-fits at line single start old (l ∷ new) body tail r fits s told = fitting-again Reversed at line single start (length (part_of Reversed body)) (is_there (stated_as single start (length (part_of Reversed body))) (written Forward old body) ((l ∷ new) ++ tail)) r fits (some-side Reversed (l ∷ new) old body s (omega arith))
 
 count-there : (s : Stated) (olds : List Marked) (rest : List (List ℕ)) → is_there s olds rest ≡ true → new_count s olds rest ≡ most s
 count-there s olds rest e = ap (λ b. cond b (most s) 0) e
@@ -147,7 +176,7 @@ new-again number at old_line old_single old_start line single start old new body
     let before = parted number (stated_as old_single old_start (length (part_of Forward body))) (bodied olds (has_change old)) in
     let empty : new ≡ [] → new_count st olds (new ++ tail) ≡ 0 = (λ e. ap (λ (ls : List (List ℕ)). new_count st olds (ls ++ tail)) e ∙ count-none st olds tail (told e)) in
     let full : 0 < length new → new_count st olds (new ++ tail) ≡ n = (λ some. count-there st olds (new ++ tail) (there-again single line start old new tail body r s some) ∙ most-again Reversed line single start n r (some-side Reversed new old body s some)) in
-    new-step before at (at + 1 + length new) line (new ++ tail) tail st (bodied (written Reversed new body) (has_change new)) (line-again Reversed 0 line single start n r fits (omega arith)) (enough-again number at old_line old_single old_start old body (has_change old) r0)
+    new-step before at (at + 1 + length new) line (new ++ tail) tail st (bodied (written Reversed new body) (has_change new)) (line-again Reversed 0 line single start n r fits (omega arith)) (new-fits at line single start old new body tail r fits s told) (enough-again number at old_line old_single old_start old body (has_change old) r0)
     (side_again Reversed new old body tail (new_count st olds (new ++ tail)) (at + 1) s none (λ e. zero-done (new_count st olds (new ++ tail)) (empty e)) full refl)
   where
     zero-done : (k : ℕ) → k ≡ 0 → eqb k 0 ≡ true
@@ -161,10 +190,6 @@ sized-step part partner n e c f = rw (e, c, f) refl
 whole-step : (old new : PlainPart) (body : List Marked) → sized old new ≡ Ok tt → sized new old ≡ Ok tt → joined old.body new.body ≡ Some body → whole old new ≡ Ok (record { old_start = old.stated.start; new_start = new.stated.start; body = body })
 unfolding whole
 whole-step old new body e1 e2 e3 = rw (e1, e2, e3) refl
-
-start-is : (single : Bool) (start n : ℕ) → (stated_as single start n).start ≡ start
-start-is true start n = refl
-start-is false start n = refl
 
 swap-some : (old new : List (List ℕ)) → 0 < length (old ++ new) → 0 < length (new ++ old)
 swap-some old new some = omega (arith, some, length-append old new, length-append new old)

@@ -15,7 +15,7 @@ use Rattle.context_form.specs.Merging.{part_of, size_by}
 use Rattle.context_form.specs.Hunks.{PlainPart, old_part, new_part, quiet, parts_at, whole, first_hunk, hunk_at, hunks_at, reading}
 use Rattle.context_form.specs.Presence.{is_there}
 use Rattle.context_form.specs.Grammar.{SpellsRange, has_change, stated_as, written, SpellsHunk, SpellsHunks, EndsPiece, IsPiece}
-use Rattle.context_form.proofs.RangeGrammar.{is_one, line-known, dashes-again, dashes-quiet, stars-again}
+use Rattle.context_form.proofs.RangeGrammar.{is_one, line-known, dashes-again, dashes-quiet, dashes-unmarked, stars-again}
 use Rattle.context_form.proofs.JoinLemmas.{join-takes}
 use Rattle.context_form.proofs.Halves.{TakesPart, TakesNew, TakesWhole, old-takes, new-takes, whole-takes}
 use Rattle.context_form.proofs.HalvesAgain.{bodied, parted, old-again, new-again, whole-again}
@@ -135,7 +135,7 @@ hunk_again h own rest least number s none =
     let silent : after_backslash (s.new_line ∷ (s.new ++ rest)) ≡ None = line_quiet s.new_line (s.new ++ rest) (dashes-quiet s.new_line s.new_single h.new_start n s.new_range) in
     let old = parted (number + 1) (stated_as s.old_single h.old_start n0) (bodied (written Forward s.old h.body) (has_change s.old)) in
     let new = parted (number + 1 + 1 + length s.old) (stated_as s.new_single h.new_start n) (bodied (written Reversed s.new h.body) (has_change s.new)) in
-    let one = old-again least (number + 1) s.old_line s.old_single h.old_start s.old s.new h.body (s.new_line ∷ (s.new ++ rest)) s.old_range s.old_fits s.order s.old_part dashes silent in
+    let one = old-again least (number + 1) s.old_line s.old_single h.old_start s.old s.new h.body (s.new_line ∷ (s.new ++ rest)) s.old_range s.old_fits s.order s.old_part dashes silent (dashes-unmarked s.new_line s.new_single h.new_start n s.new_range) in
     let two = new-again (number + 1) (number + 1 + 1 + length s.old) s.old_line s.old_single h.old_start s.new_line s.new_single h.new_start s.old s.new h.body rest s.old_range s.new_range s.new_fits s.new_part none s.told in
     let three = whole-again (number + 1) (number + 1 + 1 + length s.old) s.old_line s.old_single h.old_start s.new_line s.new_single h.new_start s.old s.new h.body s.old_range s.new_range s.old_fits s.new_fits s.old_part s.new_part s.some s.drops in
     let after = number + 1 + 1 + length s.old + 1 + length s.new in

@@ -19,6 +19,7 @@ use Rattle.diff_command.specs.Letters.{◌>>=◌, is_line_end}
 use Rattle.context_form.specs.declared.range.Stated.{Stated}
 use Rattle.context_form.specs.Ranges.{before_range, behind_range, closed, numbers_at, is_bad_range, is_too_large, stated, checked, from_numbers, range_line, most, is_count, is_count_by}
 use Rattle.context_form.specs.Openings.{opens_old}
+use Rattle.context_form.specs.Parts.{mark_at}
 use Rattle.context_form.specs.Grammar.{SpellsNumbers, SpellsRange, stated_as}
 
 -- ---- steps
@@ -240,6 +241,12 @@ quiet-dashes bytes = refl
 
 pub dashes-quiet : (line : List ℕ) (single : Bool) (start n : ℕ) → SpellsRange Reversed line single start n → is_backslash line ≡ false
 dashes-quiet line single start n s = subst (λ l. is_backslash l ≡ false) (sym s.parts) (quiet-dashes (s.text ++ (behind_range Reversed ++ s.rest)))
+
+unmarked-dashes : (bytes : List ℕ) → is_some (mark_at Forward (before_range Reversed ++ bytes)) ≡ false
+unmarked-dashes bytes = refl
+
+pub dashes-unmarked : (line : List ℕ) (single : Bool) (start n : ℕ) → SpellsRange Reversed line single start n → is_some (mark_at Forward line) ≡ false
+dashes-unmarked line single start n s = subst (λ l. is_some (mark_at Forward l) ≡ false) (sym s.parts) (unmarked-dashes (s.text ++ (behind_range Reversed ++ s.rest)))
 
 numeral-first : (text rest : List ℕ) (single : Bool) (start n : ℕ) → SpellsNumbers text single start n → NoDigitFirst rest → is_some (number_at (text ++ rest)) ≡ true
 numeral-first text rest true start n s stops = rw (number-again text start rest s.0 stops) refl

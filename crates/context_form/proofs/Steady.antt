@@ -1,10 +1,11 @@
 -- Reading that looks at one line after the other, and no further than where it stops.
-use Rattle.std.proofs.Common.{◌≡◌, ◌≢◌, ◌⊎◌, inl, inr, ℕ, ◌+◌, ◌≤◌, Bool, true, false, cond, List, [], ◌∷◌, length, Option, None, Some, Result, Ok, Err, refl, sym, ap, subst, ◌∙◌, arith}
+use Rattle.std.proofs.Common.{◌≡◌, ◌≢◌, ◌⊎◌, inl, inr, ℕ, ◌+◌, ◌-◌, ◌≤◌, Bool, true, false, cond, List, [], ◌∷◌, length, Option, None, Some, Result, Ok, Err, refl, sym, ap, subst, ◌∙◌, arith}
+use Rattle.hunk_core.specs.declared.BadKind.{BadKind}
 use Rattle.hunk_core.specs.declared.BadKind.TheVariants as kinds
 use Rattle.hunk_core.specs.LineTests.{is_backslash, after_backslash}
 use Rattle.hunk_core.specs.Reading.{◌>>=◌, Fault, fault, Ahead, ahead}
 use Rattle.hunk_core.proofs.ReadSteps.{bind_ok, ok_is, chosen}
-use Rattle.context_form.specs.FirstFault.{AgreeTo}
+use Rattle.context_form.specs.FirstFault.{AgreeTo, lines_behind, reach}
 
 abbrev pub failed : {A : Type 0} → Fault → Result A Fault
 failed e = Err e
@@ -36,9 +37,9 @@ pub record Goes {A : Type 0} (f : Ahead → Result (A × Ahead) Fault) (last num
 
 -- a reading that fails at a line doesn't look behind it, and one that goes on doesn't look behind where it stops but for the line there
 pub record Steady {A : Type 0} (f : Ahead → Result (A × Ahead) Fault) : Type 0 where
-  pub low : (p : Ahead) (e : Fault) → f p ≡ Err e → (p.number ≤ e.line) × (e.kind ≡ kinds.ShortEnd → e.line ≡ p.number + length p.rest)
+  pub low : (p : Ahead) (e : Fault) → f p ≡ Err e → (p.number ≤ reach e) × (e.kind ≡ kinds.ShortEnd → e.line ≡ p.number + length p.rest)
   pub up : (p : Ahead) (x : A × Ahead) → f p ≡ Ok x → (p.number ≤ x.1.number) × (x.1.number + length x.1.rest ≡ p.number + length p.rest)
-  pub stays : (p : Ahead) (others : List (List ℕ)) (e : Fault) → f p ≡ Err e → e.kind ≢ kinds.ShortEnd → AgreeTo e.line p.number p.rest others → f (ahead p.number others) ≡ Err e
+  pub stays : (p : Ahead) (others : List (List ℕ)) (e : Fault) → f p ≡ Err e → e.kind ≢ kinds.ShortEnd → AgreeTo (reach e) p.number p.rest others → f (ahead p.number others) ≡ Err e
   pub goes : (last : ℕ) (p : Ahead) (others : List (List ℕ)) (x : A × Ahead) → f p ≡ Ok x → x.1.number ≤ last → AgreeTo last p.number p.rest others → Goes f last p.number others x
 
 -- one reading after the other
@@ -50,7 +51,7 @@ steady-then {A = A} {B = B} f g one two = record {
   goes = goes;
 }
   where
-    low : (p : Ahead) (e : Fault) → (f p >>= λ x. g x.0 x.1) ≡ Err e → (p.number ≤ e.line) × (e.kind ≡ kinds.ShortEnd → e.line ≡ p.number + length p.rest)
+    low : (p : Ahead) (e : Fault) → (f p >>= λ x. g x.0 x.1) ≡ Err e → (p.number ≤ reach e) × (e.kind ≡ kinds.ShortEnd → e.line ≡ p.number + length p.rest)
     low p e h =
         elim (bind_err (f p) (λ x. g x.0 x.1) e h) [
           | inl bad ↦ one.low p e bad
@@ -67,13 +68,13 @@ steady-then {A = A} {B = B} f g one two = record {
         let v = (two a.0.0).up a.0.1 y a.2 in
         (omega (arith, u.0, v.0), v.1 ∙ u.1)
 
-    stays : (p : Ahead) (others : List (List ℕ)) (e : Fault) → (f p >>= λ x. g x.0 x.1) ≡ Err e → e.kind ≢ kinds.ShortEnd → AgreeTo e.line p.number p.rest others → (f (ahead p.number others) >>= λ x. g x.0 x.1) ≡ Err e
+    stays : (p : Ahead) (others : List (List ℕ)) (e : Fault) → (f p >>= λ x. g x.0 x.1) ≡ Err e → e.kind ≢ kinds.ShortEnd → AgreeTo (reach e) p.number p.rest others → (f (ahead p.number others) >>= λ x. g x.0 x.1) ≡ Err e
     stays p others e h long agree =
         elim (bind_err (f p) (λ x. g x.0 x.1) e h) [
           | inl bad ↦ rw (one.stays p others e bad long agree) refl
           | inr good ↦ (
               let l = (two good.0.0).low good.0.1 e good.2 in
-              let go = one.goes e.line p others good.0 good.1 l.0 agree in
+              let go = one.goes (reach e) p others good.0 good.1 l.0 agree in
               rw go.read ((two good.0.0).stays good.0.1 go.rest e good.2 long go.agree))
         ]
 
@@ -106,7 +107,7 @@ test_agrees test looks last number (line ∷ rest) others le agree = let a = agr
 pub steady-test : {A : Type 0} (test : List (List ℕ) → Bool) (f g : Ahead → Result (A × Ahead) Fault) → LooksAhead test → Steady f → Steady g → Steady (λ p. cond (test p.rest) (f p) (g p))
 steady-test {A = A} test f g looks one two = record { low = low; up = up; stays = stays; goes = goes }
   where
-    low : (p : Ahead) (e : Fault) → cond (test p.rest) (f p) (g p) ≡ Err e → (p.number ≤ e.line) × (e.kind ≡ kinds.ShortEnd → e.line ≡ p.number + length p.rest)
+    low : (p : Ahead) (e : Fault) → cond (test p.rest) (f p) (g p) ≡ Err e → (p.number ≤ reach e) × (e.kind ≡ kinds.ShortEnd → e.line ≡ p.number + length p.rest)
     low p e h = elim (chosen (test p.rest) (f p) (g p) (Err e) h) [
       | inl yes_it ↦ one.low p e yes_it.1
       | inr no_it ↦ two.low p e no_it.1
@@ -118,9 +119,9 @@ steady-test {A = A} test f g looks one two = record { low = low; up = up; stays 
       | inr no_it ↦ two.up p x no_it.1
     ]
 
-    stays : (p : Ahead) (others : List (List ℕ)) (e : Fault) → cond (test p.rest) (f p) (g p) ≡ Err e → e.kind ≢ kinds.ShortEnd → AgreeTo e.line p.number p.rest others → cond (test others) (f (ahead p.number others)) (g (ahead p.number others)) ≡ Err e
+    stays : (p : Ahead) (others : List (List ℕ)) (e : Fault) → cond (test p.rest) (f p) (g p) ≡ Err e → e.kind ≢ kinds.ShortEnd → AgreeTo (reach e) p.number p.rest others → cond (test others) (f (ahead p.number others)) (g (ahead p.number others)) ≡ Err e
     stays p others e h long agree =
-        let same : test others ≡ test p.rest = test_agrees test looks e.line p.number p.rest others (low p e h).0 agree in
+        let same : test others ≡ test p.rest = test_agrees test looks (reach e) p.number p.rest others (low p e h).0 agree in
         elim (chosen (test p.rest) (f p) (g p) (Err e) h) [
           | inl yes_it ↦ ap (λ b. cond b (f (ahead p.number others)) (g (ahead p.number others))) (same ∙ yes_it.0) ∙ one.stays p others e yes_it.1 long agree
           | inr no_it ↦ ap (λ b. cond b (f (ahead p.number others)) (g (ahead p.number others))) (same ∙ no_it.0) ∙ two.stays p others e no_it.1 long agree
@@ -133,6 +134,25 @@ steady-test {A = A} test f g looks one two = record { low = low; up = up; stays 
           | inl yes_it ↦ (let go = one.goes last p others x yes_it.1 le agree in record { rest = go.rest; read = ap (λ b. cond b (f (ahead p.number others)) (g (ahead p.number others))) (same ∙ yes_it.0) ∙ go.read; agree = go.agree })
           | inr no_it ↦ (let go = two.goes last p others x no_it.1 le agree in record { rest = go.rest; read = ap (λ b. cond b (f (ahead p.number others)) (g (ahead p.number others))) (same ∙ no_it.0) ∙ go.read; agree = go.agree })
         ]
+
+-- a fault of the line before
+pub steady-before : {A : Type 0} (kind : BadKind) → lines_behind kind ≡ 1 → kind ≢ kinds.ShortEnd → Steady {A = A} (λ p. Err (fault (p.number - 1) kind))
+steady-before {A = A} kind one long = record { low = low; up = up; stays = stays; goes = goes }
+  where
+    low : (p : Ahead) (e : Fault) → failed {A = A × Ahead} (fault (p.number - 1) kind) ≡ Err e → (p.number ≤ reach e) × (e.kind ≡ kinds.ShortEnd → e.line ≡ p.number + length p.rest)
+    low p e h =
+        let is : fault (p.number - 1) kind ≡ e = err_is {A = A × Ahead} _ e h in
+        let far : (p.number - 1) + lines_behind kind ≡ reach e = ap (λ (x : Fault). reach x) is in
+        (omega (arith, far, one), λ short. absurd (long (ap (λ (x : Fault). x.kind) is ∙ short)))
+
+    up : (p : Ahead) (x : A × Ahead) → failed {A = A × Ahead} (fault (p.number - 1) kind) ≡ Ok x → (p.number ≤ x.1.number) × (x.1.number + length x.1.rest ≡ p.number + length p.rest)
+    up p x h = absurd cc
+
+    stays : (p : Ahead) (others : List (List ℕ)) (e : Fault) → failed {A = A × Ahead} (fault (p.number - 1) kind) ≡ Err e → e.kind ≢ kinds.ShortEnd → AgreeTo (reach e) p.number p.rest others → failed {A = A × Ahead} (fault (p.number - 1) kind) ≡ Err e
+    stays p others e h l agree = h
+
+    goes : (last : ℕ) (p : Ahead) (others : List (List ℕ)) (x : A × Ahead) → failed {A = A × Ahead} (fault (p.number - 1) kind) ≡ Ok x → x.1.number ≤ last → AgreeTo last p.number p.rest others → Goes (λ q. Err (fault (q.number - 1) kind)) last p.number others x
+    goes last p others x h le agree = absurd cc
 
 -- a value, and what is ahead
 abbrev pub with_rest : {A : Type 0} → Ahead → A → Result (A × Ahead) Fault
@@ -169,7 +189,7 @@ line_gives take number line rest a good = rw good refl
 pub steady-line : {A : Type 0} (take : ℕ → List ℕ → Result A Fault) → FailsHere take → Steady (λ p. one_line take p.number p.rest)
 steady-line {A = A} take here = record { low = λ p. low p.number p.rest; up = λ p. up p.number p.rest; stays = λ p. stays p.number p.rest; goes = λ last p. goes last p.number p.rest }
   where
-    low : (number : ℕ) (lines : List (List ℕ)) (e : Fault) → one_line take number lines ≡ Err e → (number ≤ e.line) × (e.kind ≡ kinds.ShortEnd → e.line ≡ number + length lines)
+    low : (number : ℕ) (lines : List (List ℕ)) (e : Fault) → one_line take number lines ≡ Err e → (number ≤ reach e) × (e.kind ≡ kinds.ShortEnd → e.line ≡ number + length lines)
     low number [] e h = let is : fault number kinds.ShortEnd ≡ e = err_is {A = A × Ahead} _ e h in (omega (arith, ap (λ (x : Fault). x.line) is), λ _. omega (arith, ap (λ (x : Fault). x.line) is))
     low number (line ∷ rest) e h = let l = here number line e (line_err (take number line) (ahead (number + 1) rest) e h) in (omega (arith, l.0), λ short. absurd (l.1 short))
 
@@ -180,11 +200,11 @@ steady-line {A = A} take here = record { low = λ p. low p.number p.rest; up = �
         let same : (a.0, ahead (number + 1) rest) ≡ x = ok_is _ _ a.2 in
         subst (λ (y : A × Ahead). (number ≤ y.1.number) × (y.1.number + length y.1.rest ≡ number + length (line ∷ rest))) same (omega arith, omega arith)
 
-    stays : (number : ℕ) (lines others : List (List ℕ)) (e : Fault) → one_line take number lines ≡ Err e → e.kind ≢ kinds.ShortEnd → AgreeTo e.line number lines others → one_line take number others ≡ Err e
+    stays : (number : ℕ) (lines others : List (List ℕ)) (e : Fault) → one_line take number lines ≡ Err e → e.kind ≢ kinds.ShortEnd → AgreeTo (reach e) number lines others → one_line take number others ≡ Err e
     stays number [] others e h long agree = absurd (long (sym (ap (λ (x : Fault). x.kind) (err_is {A = A × Ahead} (fault number kinds.ShortEnd) e h))))
     stays number (line ∷ rest) others e h long agree =
         let bad = line_err (take number line) (ahead (number + 1) rest) e h in
-        let head = agree_head e.line number line rest others agree (omega (arith, (here number line e bad).0)) in
+        let head = agree_head (reach e) number line rest others agree (omega (arith, (here number line e bad).0)) in
         ap (one_line take number) head.1 ∙ line_fails take number line head.0 e bad
 
     goes : (last number : ℕ) (lines others : List (List ℕ)) (x : A × Ahead) → one_line take number lines ≡ Ok x → x.1.number ≤ last → AgreeTo last number lines others → Goes (λ p. one_line take p.number p.rest) last number others x
@@ -246,7 +266,7 @@ steady-peek {A = A} a b = record {
   goes = λ last p others x h le agree. goes b last p others (after_backslash p.rest) x refl (hears p.rest) h le agree;
 }
   where
-    low : (b : Option A) (p : Ahead) (o : Option (List (List ℕ))) (e : Fault) → peek_by a b p o ≡ Err e → (p.number ≤ e.line) × (e.kind ≡ kinds.ShortEnd → e.line ≡ p.number + length p.rest)
+    low : (b : Option A) (p : Ahead) (o : Option (List (List ℕ))) (e : Fault) → peek_by a b p o ≡ Err e → (p.number ≤ reach e) × (e.kind ≡ kinds.ShortEnd → e.line ≡ p.number + length p.rest)
     low b p None e h = absurd (let bad : Ok (a, p) ≡ failed {A = A × Ahead} e = h in cc)
     low (Some c) p (Some more) e h = absurd (let bad : Ok (c, ahead (p.number + 1) more) ≡ failed {A = A × Ahead} e = h in cc)
     low None p (Some more) e h =
@@ -260,12 +280,12 @@ steady-peek {A = A} a b = record {
         subst (λ (y : A × Ahead). (p.number ≤ y.1.number) × (y.1.number + length y.1.rest ≡ p.number + length p.rest)) same (omega arith, omega (arith, ap length heard.parts))
     up None p (Some more) x heard h = absurd cc
 
-    stays : (b : Option A) (p : Ahead) (others : List (List ℕ)) (o : Option (List (List ℕ))) (e : Fault) → Hears p.rest o → peek_by a b p o ≡ Err e → AgreeTo e.line p.number p.rest others → peek_by a b (ahead p.number others) (after_backslash others) ≡ Err e
+    stays : (b : Option A) (p : Ahead) (others : List (List ℕ)) (o : Option (List (List ℕ))) (e : Fault) → Hears p.rest o → peek_by a b p o ≡ Err e → AgreeTo (reach e) p.number p.rest others → peek_by a b (ahead p.number others) (after_backslash others) ≡ Err e
     stays b p others None e heard h agree = absurd (let bad : Ok (a, p) ≡ failed {A = A × Ahead} e = h in cc)
     stays (Some c) p others (Some more) e heard h agree = absurd (let bad : Ok (c, ahead (p.number + 1) more) ≡ failed {A = A × Ahead} e = h in cc)
     stays None p others (Some more) e heard h agree =
         let is : fault p.number kinds.MisplacedBackslash ≡ e = err_is {A = A × Ahead} _ e h in
-        let l = agree_loud e.line p.number p.rest others more heard agree (omega (arith, ap (λ (x : Fault). x.line) is)) in
+        let l = agree_loud (reach e) p.number p.rest others more heard agree (omega (arith, ap (λ (x : Fault). x.line) is)) in
         rw (l.1, is) refl
 
     goes : (b : Option A) (last : ℕ) (p : Ahead) (others : List (List ℕ)) (o : Option (List (List ℕ))) (x : A × Ahead) → after_backslash p.rest ≡ o → Hears p.rest o → peek_by a b p o ≡ Ok x → x.1.number ≤ last → AgreeTo last p.number p.rest others → Goes (λ q. peek_by a b q (after_backslash q.rest)) last p.number others x

@@ -1,6 +1,5 @@
 -- The two parts of a hunk are read without a look behind where they stop, but for the line there.
-use Rattle.std.proofs.Common.{◌≡◌, ◌≢◌, ℕ, zero, suc, ◌+◌, Bool, true, false, cond, eqb, ltb, List, [], ◌∷◌, Option, None, Some, Result, Ok, Err, refl, sym, ap, subst, ◌∙◌}
-use Rattle.std.specs.Prelude.{is_some}
+use Rattle.std.proofs.Common.{◌≡◌, ◌≢◌, ℕ, zero, suc, ◌-◌, ◌&&◌, ◌+◌, Bool, true, false, cond, eqb, ltb, List, [], ◌∷◌, Option, None, Some, Result, Ok, Err, refl, sym, ap, subst, ◌∙◌, arith}
 use Rattle.hunk_core.specs.declared.BadKind.{BadKind}
 use Rattle.hunk_core.specs.declared.BadKind.TheVariants as kinds
 use Rattle.hunk_core.specs.declared.Mark.{Mark}
@@ -13,9 +12,9 @@ use Rattle.num_text.specs.declared.range.NumberRange.{NumberRange}
 use Rattle.context_form.specs.declared.range.Stated.{Stated}
 use Rattle.context_form.specs.Ranges.{is_bad_range, is_too_large, stated, from_numbers, numbers_at, range_line, most}
 use Rattle.context_form.specs.Parts.{mark_at, Shown, unmarked, must_be_marked, marked_at, room_at, cut, ended_by, first_line, line_at, is_done, PlainBody, no_body, with_line, body_at}
-use Rattle.context_form.specs.Presence.{begins_part, is_there}
-use Rattle.context_form.specs.Hunks.{PlainPart, at_line, first_range, old_part, too_few, enough, new_count, new_part, quiet, parts_at}
-use Rattle.context_form.proofs.Steady.{failed, Steady, steady-then, steady-value, one_line, with_rest, steady-same, LooksAhead, steady-test, FailsHere, steady-line, peek_by, steady-peek}
+use Rattle.context_form.specs.Presence.{begins_part, is_there, begins_old_part}
+use Rattle.context_form.specs.Hunks.{PlainPart, fitting, at_line, first_range, old_part, too_few, enough, new_count, new_part, parts_at}
+use Rattle.context_form.proofs.Steady.{failed, Steady, steady-then, steady-value, one_line, with_rest, steady-same, LooksAhead, steady-test, FailsHere, steady-line, steady-before, peek_by, steady-peek}
 
 -- ---- lines
 
@@ -140,53 +139,94 @@ old-here least number line e h = by (range_line Forward least line) refl h
 abbrev part_with : ℕ × Stated → PlainBody → PlainPart
 part_with s b = record { number = s.0; stated = s.1; body = b }
 
+-- the first line of a part behind one number
+abbrev large_test : (List (List ℕ) → Bool) → Stated → List (List ℕ) → Bool
+large_test there s rest = there rest && ltb 4294967295 (s.start + most s)
+
+abbrev checked_line : (List (List ℕ) → Bool) → ℕ × Stated → Ahead → Result ((ℕ × Stated) × Ahead) Fault
+checked_line there s q = cond (large_test there s.1 q.rest) (Err (fault (q.number - 1) kinds.NumberTooLarge)) (Ok (s, q))
+
+large-looks : (there : List (List ℕ) → Bool) (s : Stated) → LooksAhead there → LooksAhead (large_test there s)
+large-looks there s looks = record { same = λ line rest others. ap (λ b. b && ltb 4294967295 (s.start + most s)) (looks.same line rest others) }
+
+steady-checked : (there : List (List ℕ) → Bool) (s : ℕ × Stated) → LooksAhead there → Steady (checked_line there s)
+steady-checked there s looks = steady-test (large_test there s.1) (λ q. Err (fault (q.number - 1) kinds.NumberTooLarge)) (λ q. Ok (s, q)) (large-looks there s.1 looks) (steady-before kinds.NumberTooLarge refl (λ h. cc)) (steady-value s)
+
+-- the same behind the range line
+checked-same : {B : Type 0} (b : Bool) (number : ℕ) (s : ℕ × Stated) (q : Ahead) (g : (ℕ × Stated) × Ahead → Result (B × Ahead) Fault) → q.number - 1 ≡ number → (cond b (Err (fault (q.number - 1) kinds.NumberTooLarge)) (Ok (s, q)) >>= g) ≡ (guarded b number kinds.NumberTooLarge >>= λ fits. g (s, q))
+checked-same true number s q g e = ap (λ n. Err (fault n kinds.NumberTooLarge)) e
+checked-same false number s q g e = refl
+
+one-less : (n : ℕ) → n + 1 - 1 ≡ n
+one-less n = omega arith
+
+abbrev old_body : ℕ × Stated → Ahead → Result (PlainPart × Ahead) Fault
+old_body s q = body_at Forward (most s.1) no_body q >>= λ b. Ok (part_with s b.0, b.1)
+
 abbrev old_rest : ℕ × Stated → Ahead → Result (PlainPart × Ahead) Fault
-old_rest s q = body_at Forward (most s.1) no_body q >>= λ b. Ok (part_with s b.0, b.1)
+old_rest s q = checked_line begins_old_part s q >>= λ x. old_body x.0 x.1
 
 old-same : (least number : ℕ) (lines : List (List ℕ)) → (one_line (old_range least) number lines >>= λ x. old_rest x.0 x.1) ≡ old_part least (ahead number lines)
 unfolding old_part first_range
 old-same least number [] = refl
 old-same least number (line ∷ rest) = by (at_line number (range_line Forward least line))
   where
-    by : (r : Result Stated Fault) → (((r >>= λ s. numbered number s) >>= with_rest (ahead (number + 1) rest)) >>= λ x. old_rest x.0 x.1) ≡ ((r >>= and_ahead (ahead (number + 1) rest)) >>= λ s. body_at Forward (most s.0) no_body s.1 >>= λ b. Ok (part_with (number, s.0) b.0, b.1))
-    by (Ok s) = refl
+    by : (r : Result Stated Fault) → (((r >>= λ s. numbered number s) >>= with_rest (ahead (number + 1) rest)) >>= λ x. old_rest x.0 x.1)
+        ≡ ((r >>= and_ahead (ahead (number + 1) rest)) >>= λ s. fitting number s.0 (begins_old_part s.1.rest) >>= λ fits. body_at Forward (most s.0) no_body s.1 >>= λ b. Ok (part_with (number, s.0) b.0, b.1))
+    by (Ok s) = checked-same (large_test begins_old_part s rest) number (number, s) (ahead (number + 1) rest) (λ x. old_body x.0 x.1) (one-less number)
     by (Err d) = refl
+
+marked-looks : LooksAhead begins_old_part
+marked-looks = record { same = λ line rest others. refl }
 
 pub steady-old : (least : ℕ) → Steady (old_part least)
 steady-old least = steady-same (λ p. one_line (old_range least) p.number p.rest >>= λ x. old_rest x.0 x.1) (old_part least) (λ p. old-same least p.number p.rest)
-    (steady-then (λ p. one_line (old_range least) p.number p.rest) old_rest (steady-line (old_range least) (old-here least)) (λ s. steady-then (body_at Forward (most s.1) no_body) (λ b q. Ok (part_with s b, q)) (steady-body Forward (most s.1) no_body) (λ b. steady-value (part_with s b))))
+    (steady-then (λ p. one_line (old_range least) p.number p.rest) old_rest (steady-line (old_range least) (old-here least)) (λ s. steady-then (checked_line begins_old_part s) old_body (steady-checked begins_old_part s marked-looks) (λ t. steady-then (body_at Forward (most t.1) no_body) (λ b q. Ok (part_with t b, q)) (steady-body Forward (most t.1) no_body) (λ b. steady-value (part_with t b)))))
 
 -- ---- the new part
 
-abbrev new_range : PlainPart → ℕ → List ℕ → Result (ℕ × Stated) Fault
-new_range old number line = at_line number (range_line Reversed 0 line) >>= λ s. enough number old >>= λ few. numbered number s
+abbrev new_range : ℕ → List ℕ → Result (ℕ × Stated) Fault
+new_range number line = at_line number (range_line Reversed 0 line) >>= λ s. numbered number s
 
-enough-here : (old : PlainPart) (number : ℕ) (s : Stated) (e : Fault) (b : Bool) → (guarded b number kinds.Count >>= λ few. numbered number s) ≡ Err e → (e.line ≡ number) × (e.kind ≢ kinds.ShortEnd)
-enough-here old number s e true k = here-is number kinds.Count e (λ z. cc) (err_fault {A = ℕ × Stated} _ e k)
-enough-here old number s e false k = absurd cc
-
-new-here : (old : PlainPart) → FailsHere (new_range old)
-new-here old number line e h = by (range_line Reversed 0 line) refl h
+new-here : FailsHere new_range
+new-here number line e h = by (range_line Reversed 0 line) refl h
   where
-    by : (o : Result Stated BadKind) → range_line Reversed 0 line ≡ o → (at_line number o >>= λ s. enough number old >>= λ few. numbered number s) ≡ Err e → (e.line ≡ number) × (e.kind ≢ kinds.ShortEnd)
-    by (Ok s) is k = enough-here old number s e (too_few old.stated old.body.lines) k
+    by : (o : Result Stated BadKind) → range_line Reversed 0 line ≡ o → (at_line number o >>= λ s. numbered number s) ≡ Err e → (e.line ≡ number) × (e.kind ≢ kinds.ShortEnd)
+    by (Ok s) is k = absurd cc
     by (Err kind) is k = here-is number kind e (range-kind Reversed 0 line kind is) (err_fault {A = ℕ × Stated} _ e k)
 
-abbrev new_rest : PlainPart → ℕ × Stated → Ahead → Result (PlainPart × Ahead) Fault
-new_rest old s q = body_at Reversed (new_count s.1 old.body.lines q.rest) no_body q >>= λ b. Ok (part_with s b.0, b.1)
+-- the old part has its lines
+abbrev enough_line : PlainPart → ℕ × Stated → Ahead → Result ((ℕ × Stated) × Ahead) Fault
+enough_line old s q = cond (too_few old.stated old.body.lines) (Err (fault (q.number - 1) kinds.Count)) (Ok (s, q))
 
-new-same : (old : PlainPart) (number : ℕ) (lines : List (List ℕ)) → (one_line (new_range old) number lines >>= λ x. new_rest old x.0 x.1) ≡ new_part old (ahead number lines)
+steady-enough : (old : PlainPart) (s : ℕ × Stated) → Steady (enough_line old s)
+steady-enough old s = steady-test (λ rest. too_few old.stated old.body.lines) (λ q. Err (fault (q.number - 1) kinds.Count)) (λ q. Ok (s, q)) (record { same = λ line rest others. refl }) (steady-before kinds.Count refl (λ h. cc)) (steady-value s)
+
+enough-same : {B : Type 0} (b : Bool) (number : ℕ) (s : ℕ × Stated) (q : Ahead) (g : (ℕ × Stated) × Ahead → Result (B × Ahead) Fault) → q.number - 1 ≡ number → (cond b (Err (fault (q.number - 1) kinds.Count)) (Ok (s, q)) >>= g) ≡ (guarded b number kinds.Count >>= λ few. g (s, q))
+enough-same true number s q g e = ap (λ n. Err (fault n kinds.Count)) e
+enough-same false number s q g e = refl
+
+abbrev new_body : PlainPart → ℕ × Stated → Ahead → Result (PlainPart × Ahead) Fault
+new_body old s q = body_at Reversed (new_count s.1 old.body.lines q.rest) no_body q >>= λ b. Ok (part_with s b.0, b.1)
+
+abbrev new_counted : PlainPart → ℕ × Stated → Ahead → Result (PlainPart × Ahead) Fault
+new_counted old s q = enough_line old s q >>= λ x. new_body old x.0 x.1
+
+abbrev new_rest : PlainPart → ℕ × Stated → Ahead → Result (PlainPart × Ahead) Fault
+new_rest old s q = checked_line (is_there s.1 old.body.lines) s q >>= λ x. new_counted old x.0 x.1
+
+new-same : (old : PlainPart) (number : ℕ) (lines : List (List ℕ)) → (one_line new_range number lines >>= λ x. new_rest old x.0 x.1) ≡ new_part old (ahead number lines)
 unfolding new_part first_range
 new-same old number [] = refl
 new-same old number (line ∷ rest) = by (at_line number (range_line Reversed 0 line))
   where
-    inner : (s : Stated) (r : Result (Unit {0}) Fault) → (((r >>= λ few. numbered number s) >>= with_rest (ahead (number + 1) rest)) >>= λ x. new_rest old x.0 x.1) ≡ (r >>= λ few. body_at Reversed (new_count s old.body.lines rest) no_body (ahead (number + 1) rest) >>= λ b. Ok (part_with (number, s) b.0, b.1))
-    inner s (Ok x) = refl
+    inner : (s : Stated) (r : Result (Unit {0}) Fault) → (r >>= λ fits. new_counted old (number, s) (ahead (number + 1) rest)) ≡ (r >>= λ fits. enough number old >>= λ few. body_at Reversed (new_count s old.body.lines rest) no_body (ahead (number + 1) rest) >>= λ b. Ok (part_with (number, s) b.0, b.1))
+    inner s (Ok x) = enough-same (too_few old.stated old.body.lines) number (number, s) (ahead (number + 1) rest) (λ x. new_body old x.0 x.1) (one-less number)
     inner s (Err d) = refl
 
-    by : (r : Result Stated Fault) → (((r >>= λ s. enough number old >>= λ few. numbered number s) >>= with_rest (ahead (number + 1) rest)) >>= λ x. new_rest old x.0 x.1)
-        ≡ ((r >>= and_ahead (ahead (number + 1) rest)) >>= λ s. enough number old >>= λ few. body_at Reversed (new_count s.0 old.body.lines s.1.rest) no_body s.1 >>= λ b. Ok (part_with (number, s.0) b.0, b.1))
-    by (Ok s) = inner s (enough number old)
+    by : (r : Result Stated Fault) → (((r >>= λ s. numbered number s) >>= with_rest (ahead (number + 1) rest)) >>= λ x. new_rest old x.0 x.1)
+        ≡ ((r >>= and_ahead (ahead (number + 1) rest)) >>= λ s. fitting number s.0 (is_there s.0 old.body.lines s.1.rest) >>= λ fits. enough number old >>= λ few. body_at Reversed (new_count s.0 old.body.lines s.1.rest) no_body s.1 >>= λ b. Ok (part_with (number, s.0) b.0, b.1))
+    by (Ok s) = checked-same (large_test (is_there s old.body.lines) s rest) number (number, s) (ahead (number + 1) rest) (λ x. new_counted old x.0 x.1) (one-less number) ∙ inner s (fitting number s (is_there s old.body.lines rest))
     by (Err d) = refl
 
 begins-looks : (may_keep : Bool) → LooksAhead (begins_part may_keep)
@@ -211,8 +251,9 @@ steady-counted s olds = steady-same (λ q. cond (is_there s olds q.rest) (body_a
     (steady-test (is_there s olds) (body_at Reversed (most s) no_body) (body_at Reversed 0 no_body) (there-looks s olds) (steady-body Reversed (most s) no_body) (steady-body Reversed 0 no_body))
 
 pub steady-new : (old : PlainPart) → Steady (new_part old)
-steady-new old = steady-same (λ p. one_line (new_range old) p.number p.rest >>= λ x. new_rest old x.0 x.1) (new_part old) (λ p. new-same old p.number p.rest)
-    (steady-then (λ p. one_line (new_range old) p.number p.rest) (new_rest old) (steady-line (new_range old) (new-here old)) (λ s. steady-then (λ q. body_at Reversed (new_count s.1 old.body.lines q.rest) no_body q) (λ b q. Ok (part_with s b, q)) (steady-counted s.1 old.body.lines) (λ b. steady-value (part_with s b))))
+steady-new old = steady-same (λ p. one_line new_range p.number p.rest >>= λ x. new_rest old x.0 x.1) (new_part old) (λ p. new-same old p.number p.rest)
+    (steady-then (λ p. one_line new_range p.number p.rest) (new_rest old) (steady-line new_range new-here) (λ s. steady-then (checked_line (is_there s.1 old.body.lines) s) (new_counted old) (steady-checked (is_there s.1 old.body.lines) s (there-looks s.1 old.body.lines))
+    (λ t. steady-then (enough_line old t) (new_body old) (steady-enough old t) (λ u. steady-then (λ q. body_at Reversed (new_count u.1 old.body.lines q.rest) no_body q) (λ b q. Ok (part_with u b, q)) (steady-counted u.1 old.body.lines) (λ b. steady-value (part_with u b))))))
 
 -- ---- both
 

@@ -1,5 +1,5 @@
 -- Hunks that follow each other, read line by line.
-use Rattle.std.specs.Prelude.{ℕ, zero, suc, ◌+◌, Bool, false, not, nat_lt, List, [], ◌∷◌, length, Option, None, Some, is_some, Result, Ok, Err, if◌then◌else◌}
+use Rattle.std.specs.Prelude.{ℕ, ◌&&◌, zero, suc, ◌+◌, Bool, false, not, nat_lt, List, [], ◌∷◌, length, Option, None, Some, is_some, Result, Ok, Err, if◌then◌else◌}
 use Rattle.hunk_core.specs.declared.BadKind.{BadKind}
 use Rattle.hunk_core.specs.declared.BadKind.TheVariants as kinds
 use Rattle.hunk_core.specs.declared.Side.{Side}
@@ -13,7 +13,7 @@ use Rattle.context_form.specs.Openings.{begins_hunk}
 use Rattle.context_form.specs.Ranges.{range_line, most, is_count}
 use Rattle.context_form.specs.Parts.{PlainBody, plain_of, no_body, body_at}
 use Rattle.context_form.specs.Merging.{joined, size_beside}
-use Rattle.context_form.specs.Presence.{is_there}
+use Rattle.context_form.specs.Presence.{is_there, begins_old_part}
 
 -- a part with its range line, which has this number
 pub record PlainPart : Type 0 where
@@ -39,10 +39,15 @@ first_range side least number (line ∷ rest) = at_line number (range_line side 
 abbrev pub range_here : Side → ℕ → Ahead → Result (Stated × Ahead) Fault
 range_here side least p = first_range side least p.number p.rest
 
+-- behind one number, the first line of a part makes its count 1: the start and the count don't come above the greatest number
+abbrev pub fitting : ℕ → Stated → Bool → Result (Unit {0}) Fault
+fitting number s there = if there && nat_lt 4294967295 (s.start + most s) then Err (fault number kinds.NumberTooLarge) else Ok tt
+
 -- the old part, which starts at least: its range line, and the lines up to the range line of the new part
 unfoldable pub old_part : ℕ → Ahead → Result (PlainPart × Ahead) Fault
 old_part least p = do
   s ← range_here Forward least p
+  fits ← fitting p.number s.0 (begins_old_part s.1.rest)
   b ← body_at Forward (most s.0) no_body s.1
   Ok (record { number = p.number; stated = s.0; body = b.0 }, b.1)
 
@@ -63,6 +68,7 @@ new_count s olds rest = if is_there s olds rest then most s else 0
 unfoldable pub new_part : PlainPart → Ahead → Result (PlainPart × Ahead) Fault
 new_part old p = do
   s ← range_here Reversed 0 p
+  fits ← fitting p.number s.0 (is_there s.0 old.body.lines s.1.rest)
   few ← enough p.number old
   b ← body_at Reversed (new_count s.0 old.body.lines s.1.rest) no_body s.1
   Ok (record { number = p.number; stated = s.0; body = b.0 }, b.1)

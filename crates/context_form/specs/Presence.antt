@@ -1,7 +1,7 @@
 -- Whether the new part of a hunk is there, or left out.
-use Rattle.std.specs.Prelude.{◌≡◌, ◌⊎◌, ℕ, Bool, true, false, not, ◌==◌, ◌&&◌, ◌||◌, List, [], ◌∷◌, length, Option, None, Some, if◌then◌else◌}
+use Rattle.std.specs.Prelude.{◌≡◌, ◌⊎◌, ℕ, Bool, true, false, not, ◌==◌, ◌&&◌, ◌||◌, List, [], ◌∷◌, length, Option, None, Some, is_some, if◌then◌else◌}
 use Rattle.hunk_core.specs.declared.Mark.{Mark}
-use Rattle.hunk_core.specs.declared.Side.TheVariants.{Reversed}
+use Rattle.hunk_core.specs.declared.Side.TheVariants.{Forward, Reversed}
 use Rattle.hunk_core.specs.PlainHunk.{Marked}
 use Rattle.hunk_core.specs.Turned.{is_keep}
 use Rattle.context_form.specs.declared.range.Stated.{Stated}
@@ -31,6 +31,11 @@ is_there_by start (Some count) olds rest = begins_part true rest
 -- whether the new part is there
 abbrev pub is_there : Stated → List Marked → List (List ℕ) → Bool
 is_there s olds rest = is_there_by s.start s.count olds rest
+
+-- a line with a mark of the old part comes first
+abbrev pub begins_old_part : List (List ℕ) → Bool
+begins_old_part [] = false
+begins_old_part (line ∷ rest) = is_some (mark_at Forward line)
 
 -- the first of these lines begins with this byte and a space
 abbrev pub Begins : ℕ → List (List ℕ) → Type 0

@@ -1,6 +1,6 @@
 //! Hunks that follow each other.
 
-ghost use Rattle.std.specs.Prelude.{◌≡◌, ◌≢◌, ◌↔◌, ◌⊎◌, false, replicate, ℕ, List, [], ◌∷◌, ◌++◌, Err, true, None, ◌+◌, ◌<◌, ◌≤◌, ◌^◌, length, vec_len, drop, slice_range, IfOk, IfSome, All};
+ghost use Rattle.std.specs.Prelude.{◌≡◌, ◌≢◌, ◌↔◌, ◌⊎◌, false, replicate, ℕ, List, [], ◌∷◌, ◌++◌, Err, true, None, ◌+◌, ◌<◌, ◌≤◌, ◌^◌, length, vec_len, if◌then◌else◌, drop, slice_range, IfOk, IfSome, All};
 ghost use Rattle.line_list.specs.Lines.{lines};
 ghost use Rattle.hunk_core.specs.PlainHunk.{Marked, PlainHunk, hunk_of, hunks_of, body_of};
 ghost use Rattle.hunk_core.specs.Reading.{Fault, Gives, Reads, IsPlace, ahead_of};
@@ -8,15 +8,15 @@ ghost use Rattle.hunk_core.specs.Turned.{IsLawful, LiesIn};
 ghost use Rattle.hunk_core.specs.Rules.{first_broken};
 ghost use Rattle.hunk_core.specs.Pieces.{read_of, these, AreInTurn, SpellInTurn, AreSound};
 ghost use Rattle.context_form.specs.Openings.{begins_hunk};
-ghost use Rattle.context_form.specs.Ranges.{Fits};
+ghost use Rattle.context_form.specs.Ranges.{most, Fits};
 ghost use Rattle.context_form.specs.Parts.{plain_of};
 ghost use Rattle.context_form.specs.Merging.{joined, size_beside, kept_count, part_of};
 ghost use Rattle.num_text.specs.Numbers.{is_digit};
 ghost use Rattle.hunk_core.specs.declared.Side.{Side};
 ghost use Rattle.context_form.specs.Grammar.{IsPiece, SpellsPiece, SpellsHunk, stated_as, written};
 ghost use Rattle.context_form.specs.FirstFault.{AgreeTo, decided_by};
-ghost use Rattle.context_form.specs.Hunks.{part_over, range_here, old_part, enough, new_count, new_part, sized, whole, parts_at, hunk_at, reading};
-ghost use Rattle.context_form.specs.Presence.{Begins, BeginsChange, begins_part, drops_alone, is_there};
+ghost use Rattle.context_form.specs.Hunks.{fitting, part_over, range_here, old_part, enough, new_part, sized, whole, parts_at, hunk_at, reading};
+ghost use Rattle.context_form.specs.Presence.{Begins, BeginsChange, begins_part, drops_alone, is_there, begins_old_part};
 
 use crate::merging::{joined, kept_lines};
 use crate::opening::at_opening;
@@ -63,6 +63,28 @@ fn read_range_line(
     }
 }
 
+/// Whether a line with a mark of the old part stands at `at`.
+fn at_old_part(text: &[u8], at: usize) -> bool
+    requires { at ≤ length text.now }
+    ensures { result ≡ begins_old_part (lines (drop at text.now)) }
+{
+    match next_line(text, at) {
+        None => false,
+        Some(end) => mark_of(&text[at..end], Side::Forward).is_some(),
+    }
+}
+
+/// Behind one number, the first line of a part makes its count 1: then the sum isn't above the greatest number.
+fn fits_part(stated: Stated, is_there: bool, number: u64) -> Result<(), FormFault>
+    requires { Fits stated }
+    ensures { Gives (λ x. tt) result (fitting number stated is_there) }
+{
+    if is_there && stated.start + stated.most() > 4_294_967_295 {
+        return Err(bad(number, BadKind::NumberTooLarge));
+    }
+    Ok(())
+}
+
 /// The old part, which starts at `least` or later, and the place after it.
 #[tactic(auto, unfolding(crate::specs::Hunks::old_part))]
 fn read_old(
@@ -80,6 +102,7 @@ fn read_old(
 {
     let number = place.number;
     let (stated, place) = read_range_line(text, Side::Forward, least, place)?;
+    fits_part(stated, at_old_part(text, place.at), number)?;
     let (body, place) = read_body(alloc, text, Side::Forward, stated.most(), place)?;
     let part = Part {
         number,
@@ -134,16 +157,11 @@ fn has_new(text: &[u8], stated: Stated, olds: &[HunkLine], at: usize) -> bool
     }
 }
 
-/// How many lines are read of the new part.
-fn new_lines(text: &[u8], stated: Stated, olds: &[HunkLine], at: usize) -> u64
-    requires { at ≤ length text.now }
-    ensures { result ≡ new_count stated (body_of text.now olds.now) (lines (drop at text.now)) }
+/// How many lines are read of a part that is there or left out.
+fn lines_of(stated: Stated, is_there: bool) -> u64
+    ensures { result ≡ (if is_there then most stated else 0) }
 {
-    if has_new(text, stated, olds, at) {
-        stated.most()
-    } else {
-        0
-    }
+    if is_there { stated.most() } else { 0 }
 }
 
 /// The new part behind this old part, and the place after it.
@@ -163,8 +181,10 @@ fn read_new(
 {
     let number = place.number;
     let (stated, place) = read_range_line(text, Side::Reversed, 0, place)?;
+    let is_there = has_new(text, stated, &old.body.lines, place.at);
+    fits_part(stated, is_there, number)?;
     has_enough(old, number)?;
-    let most = new_lines(text, stated, &old.body.lines, place.at);
+    let most = lines_of(stated, is_there);
     let (body, place) = read_body(alloc, text, Side::Reversed, most, place)?;
     let part = Part {
         number,
@@ -360,8 +380,8 @@ pub fn read_hunks(alloc: Global, text: &[u8], at: usize, line: u64) -> Result<Hu
     read_all(alloc, text, at, line)
 }
 
-/// What makes a fault the first one. A fault in the lines of the parts is decided by its own line, and
-/// one of two whole parts by the line behind them.
+/// What makes a fault the first one. A fault in the lines of the parts is decided by its own line, or
+/// by the one behind it, and one of two whole parts by the line behind them.
 pub fn first_faults()
     // It stays whatever lines come after the one that decides it, unless the text ends too early.
     ensures stays { (number : ℕ) (lines others : List (List ℕ)) (e : Fault) → reading number lines ≡ Err e → e.kind ≢ BadKind.ShortEnd
@@ -369,7 +389,7 @@ pub fn first_faults()
     // No lines that are the same up to there are spelled.
     ensures unspelled { (number : ℕ) (lines others : List (List ℕ)) (e : Fault) (hs : List PlainHunk) (next : ℕ) (rest : List (List ℕ))
         → reading number lines ≡ Err e → e.kind ≢ BadKind.ShortEnd → AgreeTo (decided_by number lines) number lines others → IsPiece number others hs next rest → ⊥ }
-    // Only three kinds can be faults of two whole parts.
+    // Only three kinds can be decided later than by their own line.
     ensures own { (number : ℕ) (lines : List (List ℕ)) (e : Fault) → reading number lines ≡ Err e
         → e.kind ≢ BadKind.Count → e.kind ≢ BadKind.NumberTooLarge → e.kind ≢ BadKind.SidesDiffer → decided_by number lines ≡ e.line }
     // A text that ends too early is at fault one line after its last.

@@ -45,7 +45,12 @@ fn is_fault(alloc: Global, text: &[u8], want: (u64, BadKind)) -> bool {
 }
 
 // The first line of each text is line 3 of a patch, behind two header lines.
-const FAULTS: [(&[u8], u64, BadKind); 25] = [
+const FAULTS: [(&[u8], u64, BadKind); 26] = [
+    (
+        b"***************\n*** 4294967295 ****\n- a\n--- x ----\n",
+        4,
+        BadKind::NumberTooLarge,
+    ),
     (
         b"***************\n*** 1 ****\n  a\n--- 1 ----\n  b\n\\ No newline at end of file\n\\ No newline at end of file\n",
         6,
