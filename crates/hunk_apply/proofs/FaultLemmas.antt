@@ -2,22 +2,13 @@
 use Rattle.std.proofs.Common.{Result, Ok, Err, OnErr, IfOk, sym, ◌∙◌, arith}
 use Rattle.line_store.specs.Store.{Seen, Keeps}
 use Rattle.line_store.proofs.StoreLemmas.{cause-more}
-use Rattle.outside.specs.SinkView.{SinkView, IsSinkCall}
+use Rattle.outside.specs.SinkView.{SinkView, SinkPasses}
 use Rattle.hunk_apply.specs.declared.ApplyFault.{ApplyFault}
 use Rattle.hunk_apply.specs.declared.ApplyFault.TheVariants.{Line, Write}
-use Rattle.hunk_apply.specs.Faults.{HasApplyCause, GoesOn, IsCounted}
-
-pub goes-none : (v : SinkView) → GoesOn v v
-goes-none v = record { counts = omega arith; silent = λ none. none }
-
-pub goes-both : (u v w : SinkView) → GoesOn u v → GoesOn v w → GoesOn u w
-goes-both u v w h k = record { counts = omega (arith, h.counts, k.counts); silent = λ none. k.silent (h.silent none) }
-
-pub call-goes : {R E : Type 0} (u v : SinkView) (r : Result R E) → IsSinkCall u v r → GoesOn u v
-call-goes u v r h = record { counts = h.passes.counts; silent = h.passes.silent }
+use Rattle.hunk_apply.specs.Faults.{HasApplyCause, IsCounted}
 
 -- a fault of a later call has its cause since the first
-pub apply-cause-more : (e : ApplyFault) (a b c : Seen) (u v w : SinkView) → Keeps a b → GoesOn u v → HasApplyCause e b c v w → HasApplyCause e a c u w
+pub apply-cause-more : (e : ApplyFault) (a b c : Seen) (u v w : SinkView) → Keeps a b → SinkPasses u v → HasApplyCause e b c v w → HasApplyCause e a c u w
 apply-cause-more (Line e) a b c u v w h k cause = cause-more e a b c h cause
 apply-cause-more Write a b c u v w h k rises = λ small. omega (arith, rises small, k.counts)
 

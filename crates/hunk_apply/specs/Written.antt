@@ -1,5 +1,6 @@
 -- What was written of the lines that are to be written.
-use Rattle.std.specs.Prelude.{◌≡◌, ℕ, List, [], ◌∷◌, ◌++◌, Bool, true, false, ◌&&◌}
+use Rattle.std.specs.Prelude.{◌≡◌, ℕ, ◌-◌, List, [], ◌∷◌, ◌++◌, Bool, true, false, ◌&&◌}
+use Rattle.std.specs.List.{slice_range}
 use Rattle.outside.specs.SinkView.{SinkView, Receives}
 use Rattle.hunk_apply.specs.declared.put.Tail.{Tail}
 use Rattle.line_list.specs.Join.{join, feed_if}
@@ -8,6 +9,10 @@ use Rattle.line_list.specs.Join.{join, feed_if}
 abbrev pub is_nothing : List ℕ → Bool
 is_nothing [] = true
 is_nothing (b ∷ bs) = false
+
+-- the lines from `from` up to, not including, `to`
+abbrev pub lines_between : List (List ℕ) → ℕ → ℕ → List (List ℕ)
+lines_between lines from to = slice_range lines (from - 1) (to - 1)
 
 -- lines behind a text whose last line is open, or isn't
 unfoldable pub join_behind : Bool → List (List ℕ) → List ℕ

@@ -17,9 +17,9 @@ use std::test::Fail;
 
 /// A sink in memory.
 #[derive(Drop)]
-struct Bytes {
-    bytes: Vec<u8>,
-    faults: u64,
+pub struct Bytes {
+    pub bytes: Vec<u8>,
+    pub faults: u64,
 }
 
 impl Sink for Bytes {
@@ -181,7 +181,7 @@ fn add_piece(
     Ok(at + 1)
 }
 
-fn store_of(alloc: Global, text: &[u8]) -> Result<VecLines, AllocError>
+pub fn store_of(alloc: Global, text: &[u8]) -> Result<VecLines, AllocError>
     requires { length text.now < 1000 }
 {
     let mut lines = Vec::new(alloc);
@@ -227,7 +227,7 @@ fn at(line: u64, fuzz: u32, offset: i64) -> [Verdict; 2] {
     [Verdict::At { line, fuzz, offset }, Verdict::Untried]
 }
 
-fn session(applied: u32, failed: u32, inexact: bool, output_empty: bool) -> Session {
+pub fn session(applied: u32, failed: u32, inexact: bool, output_empty: bool) -> Session {
     Session {
         applied,
         failed,

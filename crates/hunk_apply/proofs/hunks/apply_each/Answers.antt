@@ -4,7 +4,7 @@ use Rattle.std.proofs.lemmas.Int.{ints}
 use Rattle.std.proofs.lemmas.List.{take_all}
 use Rattle.std.proofs.lemmas.List.Sums.{sum_by_more}
 use Rattle.line_store.proofs.StoreLemmas.{keeps-same, keeps-more}
-use Rattle.outside.specs.SinkView.{Receives, ReceivesPart}
+use Rattle.outside.specs.SinkView.{sink_passes_none, sink_passes_both, Receives, ReceivesPart}
 use Rattle.hunk_core.specs.declared.Hunk.{Hunk}
 use Rattle.hunk_place.specs.Taken.{taken}
 use Rattle.hunk_place.specs.Verdicts.{spots, spot, after_hunk, at_start}
@@ -13,7 +13,8 @@ use Rattle.hunk_apply.specs.Applied.{taken_all, applied}
 use Rattle.hunk_apply.specs.Session.{IsTried, body_lines}
 use Rattle.hunk_apply.specs.Splice.{Edit, all_edits, hunk_edits, spliced_from}
 use Rattle.hunk_apply.specs.Written.{Wrote, is_nothing}
-use Rattle.hunk_apply.proofs.FaultLemmas.{goes-none, goes-both, on-err}
+use Rattle.hunk_apply.proofs.CopyLemmas.{copied, copied-part}
+use Rattle.hunk_apply.proofs.FaultLemmas.{on-err}
 use Rattle.hunk_apply.proofs.FoldLemmas.{verdicts-more, edits-more, verdicts-end, edits-end, edits-behind, applied-is}
 use Rattle.hunk_apply.proofs.RowLemmas.{tried-more, others-more}
 use Rattle.hunk_apply.proofs.SpliceLemmas.{nothing-left}
@@ -27,7 +28,7 @@ first = record { is_open = false; is_empty = true }
 pub loop-j-init : goal.loop-j-init
 loop-j-init g c = record {
   keeps = keeps-same _;
-  sink = goes-none _;
+  sink = sink_passes_none _;
   rest = g.met.O.Sink.rest_none _;
   within = omega arith;
   far_back = omega (arith, ints);
@@ -81,7 +82,7 @@ loop-j-preserved g c =
     let sum : body_lines (take (j + 1) hunks) ≡ body_lines (take j hunks) + length hunk.body.items = sum_by_more (λ (h : Hunk). length h.body.items) hunks j hunk (omega arith) ∙ ap (λ (h : Hunk). body_lines (take j hunks) + length h.body.items) (sym c.index-hunks-j.is) in
     record {
       keeps = keeps-more _ _ _ c.loop-j.invariant.keeps c.in_ok-step.ensures.keeps;
-      sink = goes-both _ _ _ c.loop-j.invariant.sink c.in_ok-step.ensures.sink;
+      sink = sink_passes_both c.loop-j.invariant.sink c.in_ok-step.ensures.sink;
       rest = g.met.O.Sink.rest_both _ _ _ c.loop-j.invariant.rest c.in_ok-step.ensures.rest;
       within = (let w : step.state.consumed ≤ (g.S.LineStore.seen c.loop-j.store).count = c.in_ok-step.ensures.within in let same : (g.S.LineStore.seen c.loop-j.store).count ≡ (g.S.LineStore.seen c.args.store.now).count = c.loop-j.invariant.keeps.count in omega arith);
       far_back = c.in_ok-step.ensures.far_back;
@@ -131,6 +132,7 @@ returns-in_err-end-clause-part g c =
     let state = c.loop-j.state in
     on-err _ ((lines : List (List ℕ)) → (g.S.LineStore.seen c.args.store.now).told ≡ Some lines → ReceivesPart (view c.args.out.now) (view c.copy_lines.new.out) (applied lines fuzz loose (taken_all text side hunks)))
     (λ lines told.
+    let count : c.count-count.result ≡ length lines = c.count-count.ensures.is ∙ (c.count-count.ensures.told lines told).count in
     let all : List (List ℕ) = spliced_from lines (all_edits (spots lines fuzz loose at_start (taken_all text side hunks)) (taken_all text side hunks)) 1 in
     let left : List (List ℕ) = spliced_from lines (all_edits (spots lines fuzz loose state (taken_all text side (drop c.loop-j.j hunks))) (taken_all text side (drop c.loop-j.j hunks))) (state.consumed + 1) in
     let there : spliced_from lines [] (state.consumed + 1) ≡ left = ap (λ es. spliced_from lines es (state.consumed + 1)) (sym (edits-end lines fuzz loose text side hunks c.loop-j.j state (omega arith))) in
@@ -138,7 +140,8 @@ returns-in_err-end-clause-part g c =
     (part-whole (view c.args.out.now) (view c.copy_lines.new.out) false all refl
     (part-after (view c.args.out.now) (view c.loop-j.out) (view c.copy_lines.new.out) first c.loop-j.tail all left (c.loop-j.invariant.written lines told)
     (part-same (view c.loop-j.out) (view c.copy_lines.new.out) c.loop-j.tail.is_open (spliced_from lines [] (state.consumed + 1)) left there
-    (c.in_err-end.ensures.part lines (c.loop-j.invariant.keeps.told ∙ told) [] tt)))))
+    (copied-part (view c.loop-j.out) (view c.copy_lines.new.out) c.loop-j.tail.is_open lines [] (state.consumed + 1) (c.count-count.result + 1) (omega arith) (omega arith) (omega arith) tt
+    (c.in_err-end.ensures.part lines (c.loop-j.invariant.keeps.told ∙ told) (spliced_from lines [] (c.count-count.result + 1))))))))
 
 -- all lines were written
 wholly : (g : given.Over) (c : goal.After-session_of g) → (lines : List (List ℕ)) → (g.S.LineStore.seen c.args.store.now).told ≡ Some lines
@@ -158,7 +161,8 @@ wholly g c lines told =
     let none : spliced_from lines [] (c.count-count.result + 1) ≡ [] = ap (λ n. spliced_from lines [] (n + 1)) count ∙ nothing-left lines in
     wrote-both (view c.args.out.now) (view c.loop-j.out) (view c.copy_lines.new.out) first c.loop-j.tail c.in_ok-end.end all left [] (c.loop-j.invariant.written lines told)
     (wrote-same (view c.loop-j.out) (view c.copy_lines.new.out) c.loop-j.tail c.in_ok-end.end (spliced_from lines [] (state.consumed + 1)) left (spliced_from lines [] (c.count-count.result + 1)) [] there none
-    (c.in_ok-end.ensures.written lines (c.loop-j.invariant.keeps.told ∙ told) [] tt))
+    (copied (view c.loop-j.out) (view c.copy_lines.new.out) c.loop-j.tail c.in_ok-end.end lines [] (state.consumed + 1) (c.count-count.result + 1) (omega arith) (omega arith) (omega arith) tt
+    (c.in_ok-end.ensures.written lines (c.loop-j.invariant.keeps.told ∙ told) (spliced_from lines [] (c.count-count.result + 1)))))
 
 pub returns-clause-received : goal.returns-clause-received
 returns-clause-received g c lines told =

@@ -7,7 +7,7 @@ use Rattle.hunk_apply.specs.Applied.{taken_all}
 use Rattle.hunk_apply.specs.Splice.{all_edits, spliced_from}
 use Rattle.hunk_apply.specs.Written.{Wrote}
 use Rattle.hunk_apply.specs.Session.{IsTried, body_lines}
-use Rattle.hunk_apply.specs.Faults.{GoesOn}
+use Rattle.outside.specs.SinkView.{SinkPasses}
 use Rattle.hunk_apply.proofs.hunks.apply_each.Given as goal
 
 abbrev pub invariant-loop-j : goal.invariant-loop-j
@@ -16,7 +16,7 @@ invariant-loop-j g l =
     let edits_of = λ (lines : List (List ℕ)). all_edits (spots lines l.fuzz l.loose l.state (taken_all l.text l.side (drop l.j l.hunks))) (taken_all l.text l.side (drop l.j l.hunks)) in
     record {
       keeps : Keeps (g.S.LineStore.seen l.fn.store) (g.S.LineStore.seen l.store);
-      sink : GoesOn (view l.fn.out) (view l.out);
+      sink : SinkPasses (view l.fn.out) (view l.out);
       rest : g.O.Sink.same_rest l.fn.out l.out;
       within : l.state.consumed ≤ (g.S.LineStore.seen l.fn.store).count;
       far_back : negsuc (2 ^ 41) ≤ℤ l.state.offset;

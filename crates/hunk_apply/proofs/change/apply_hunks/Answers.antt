@@ -1,0 +1,75 @@
+use Rattle.std.proofs.Common.{◌≡◌, ℕ, List, Some, sym, ap, subst, ◌∙◌}
+use Rattle.std.proofs.lemmas.Result.{on_ok_weaker, on_err_weaker}
+use Rattle.outside.specs.SinkView.{Receives, ReceivesPart}
+use Rattle.line_list.specs.Join.{join}
+use Rattle.hunk_core.specs.declared.Hunk.{Hunk}
+use Rattle.hunk_core.specs.PlainHunk.{hunks_of}
+use Rattle.hunk_place.specs.Verdicts.{verdicts, at_start}
+use Rattle.ed_form.specs.PlainEdit.{edits_of}
+use Rattle.file_patch.specs.PlainPatch.{hunks, change_of}
+use Rattle.hunk_apply.specs.declared.Session.{Session}
+use Rattle.hunk_apply.specs.Applied.{taken_all, applied}
+use Rattle.hunk_apply.specs.Change.{change_output}
+use Rattle.hunk_apply.specs.Script.{script_lines}
+use Rattle.hunk_apply.specs.Written.{is_nothing}
+use Rattle.hunk_apply.proofs.ChangeLemmas.{hunks-verdicts, hunks-output, script-output}
+use Rattle.hunk_apply.proofs.FaultLemmas.{if-ok-map}
+use Rattle.hunk_apply.proofs.change.apply_hunks.Goals as goal
+
+pub returns-in-Hunks-clause-placed : goal.returns-in-Hunks-clause-placed
+returns-in-Hunks-clause-placed g c =
+    let hs = c.deref.result.now in
+    let text = c.args.text.now in
+    let change = change_of text c.args.patch.now.change in
+    let is : change_of text c.args.patch.now.change ≡ hunks (hunks_of text c.deref.result.now) = ap (change_of text) c.in-Hunks.is ∙ ap (λ (hs : List Hunk). hunks (hunks_of text hs)) (sym c.deref.ensures.value) in
+    on_ok_weaker {P = (lines : List (List ℕ)) → (g.S.LineStore.seen c.args.store.now).told ≡ Some lines → c.apply_each.new.verdicts ≡ verdicts lines c.args.fuzz c.args.loose at_start (taken_all text c.args.side hs)}
+    c.apply_each.result
+    (λ h lines told. h lines told ∙ hunks-verdicts lines c.args.fuzz c.args.loose text c.args.side hs change is)
+    c.apply_each.ensures.placed
+
+pub returns-in-Hunks-clause-received : goal.returns-in-Hunks-clause-received
+returns-in-Hunks-clause-received g c =
+    let view = g.O.Sink.view in
+    let hs = c.deref.result.now in
+    let text = c.args.text.now in
+    let change = change_of text c.args.patch.now.change in
+    let is : change_of text c.args.patch.now.change ≡ hunks (hunks_of text c.deref.result.now) = ap (change_of text) c.in-Hunks.is ∙ ap (λ (hs : List Hunk). hunks (hunks_of text hs)) (sym c.deref.ensures.value) in
+    on_ok_weaker {P = (lines : List (List ℕ)) → (g.S.LineStore.seen c.args.store.now).told ≡ Some lines → Receives (view c.args.out.now) (view c.apply_each.new.out) (applied lines c.args.fuzz c.args.loose (taken_all text c.args.side hs))}
+    c.apply_each.result
+    (λ h lines told. subst (λ (bytes : List ℕ). Receives (view c.args.out.now) (view c.apply_each.new.out) bytes) (hunks-output lines c.args.fuzz c.args.loose text c.args.side hs change is) (h lines told))
+    c.apply_each.ensures.received
+
+pub returns-in-Hunks-clause-output_empty : goal.returns-in-Hunks-clause-output_empty
+returns-in-Hunks-clause-output_empty g c =
+    let hs = c.deref.result.now in
+    let text = c.args.text.now in
+    let change = change_of text c.args.patch.now.change in
+    let is : change_of text c.args.patch.now.change ≡ hunks (hunks_of text c.deref.result.now) = ap (change_of text) c.in-Hunks.is ∙ ap (λ (hs : List Hunk). hunks (hunks_of text hs)) (sym c.deref.ensures.value) in
+    if-ok-map c.apply_each.result
+    (λ (session : Session). (lines : List (List ℕ)) → (g.S.LineStore.seen c.args.store.now).told ≡ Some lines → session.output_empty ≡ is_nothing (applied lines c.args.fuzz c.args.loose (taken_all text c.args.side hs)))
+    (λ (session : Session). (lines : List (List ℕ)) → (g.S.LineStore.seen c.args.store.now).told ≡ Some lines → session.output_empty ≡ is_nothing (change_output lines c.args.fuzz c.args.loose c.args.side change))
+    (λ session h lines told. h lines told ∙ ap is_nothing (hunks-output lines c.args.fuzz c.args.loose text c.args.side hs change is))
+    c.apply_each.ensures.output_empty
+
+pub returns-in-Hunks-clause-part : goal.returns-in-Hunks-clause-part
+returns-in-Hunks-clause-part g c =
+    let view = g.O.Sink.view in
+    let hs = c.deref.result.now in
+    let text = c.args.text.now in
+    let change = change_of text c.args.patch.now.change in
+    let is : change_of text c.args.patch.now.change ≡ hunks (hunks_of text c.deref.result.now) = ap (change_of text) c.in-Hunks.is ∙ ap (λ (hs : List Hunk). hunks (hunks_of text hs)) (sym c.deref.ensures.value) in
+    on_err_weaker {P = (lines : List (List ℕ)) → (g.S.LineStore.seen c.args.store.now).told ≡ Some lines → ReceivesPart (view c.args.out.now) (view c.apply_each.new.out) (applied lines c.args.fuzz c.args.loose (taken_all text c.args.side hs))}
+    c.apply_each.result
+    (λ h lines told. subst (λ (bytes : List ℕ). ReceivesPart (view c.args.out.now) (view c.apply_each.new.out) bytes) (hunks-output lines c.args.fuzz c.args.loose text c.args.side hs change is) (h lines told))
+    c.apply_each.ensures.part
+
+pub returns-in-Script-clause-part : goal.returns-in-Script-clause-part
+returns-in-Script-clause-part g c =
+    let view = g.O.Sink.view in
+    let text = c.args.text.now in
+    let change = change_of text c.args.patch.now.change in
+    let es = edits_of text c.in-Script.script.edits.items in
+    on_err_weaker {P = (lines : List (List ℕ)) → (g.S.LineStore.seen c.args.store.now).told ≡ Some lines → ReceivesPart (view c.args.out.now) (view c.apply_script.new.out) (join (script_lines lines es))}
+    c.apply_script.result
+    (λ h lines told. subst (λ (bytes : List ℕ). ReceivesPart (view c.args.out.now) (view c.apply_script.new.out) bytes) (script-output lines c.args.fuzz c.args.loose c.args.side es change (ap (change_of text) c.in-Script.is)) (h lines told))
+    c.apply_script.ensures.part
