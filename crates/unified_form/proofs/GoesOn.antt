@@ -1,6 +1,8 @@
 -- The lines in front of a fault can go on to a piece.
 use Rattle.std.proofs.Common.{◌≡◌, ℕ, zero, suc, ◌+◌, ◌-◌, ◌≤◌, eqb, List, [], ◌∷◌, ◌++◌, length, take, Ok, Err, refl, sym, ap, ◌∙◌, append_assoc, arith, inl, inr}
+use Rattle.std.specs.List.{AllByRecursion}
 use Rattle.std.proofs.lemmas.List.{append-nil}
+use Rattle.line_list.specs.Lines.{IsLine}
 use Rattle.std.proofs.Math.Seq.{take-append-add}
 use Rattle.hunk_core.specs.declared.Mark.TheVariants.{Drop, Add}
 use Rattle.hunk_core.specs.declared.BadKind.TheVariants as kinds
@@ -57,6 +59,14 @@ adds-spelled : (n : ℕ) → SpellsBody (adds n) (added n)
 adds-spelled zero = refl
 adds-spelled (suc n) = ((43 ∷ 10 ∷ []) ∷ [], adds n, refl, inl refl, adds-spelled n)
 
+adds-lines : (n : ℕ) → AllByRecursion IsLine (adds n)
+adds-lines zero = tt
+adds-lines (suc n) = (((λ h. absurd (omega (arith, h))), refl), adds-lines n)
+
+drops-lines : (n : ℕ) (rest : List (List ℕ)) → AllByRecursion IsLine rest → AllByRecursion IsLine (drops n rest)
+drops-lines zero rest h = h
+drops-lines (suc n) rest h = (((λ h. absurd (omega (arith, h))), refl), drops-lines n rest h)
+
 adds-counts : (n : ℕ) → counts_of (added n) ≡ made 0 n
 adds-counts zero = refl
 adds-counts (suc n) = ap (one_more Add) (adds-counts n) ∙ is_left 0 (n + 1) 0 (suc n) refl (omega arith)
@@ -74,6 +84,7 @@ drops-counts (suc n) a body h = ap (one_more Drop) (drops-counts n a body h) ∙
 -- the lines in front of the fault, with others, are a body with these counts
 record FillsBody (left : Left) (p : Ahead) (e : Fault) : Type 0 where
   others : List (List ℕ)
+  are_lines : AllByRecursion IsLine others
   body : List Marked
   counts : left ≡ counts_of body
   spelled : SpellsBody (take (e.line - p.number) p.rest ++ others) body
@@ -81,6 +92,7 @@ record FillsBody (left : Left) (p : Ahead) (e : Fault) : Type 0 where
 fills_at_once : (left : Left) (p : Ahead) (e : Fault) → e.line ≡ p.number → FillsBody left p e
 fills_at_once left p e here = record {
   others = drops left.old (adds left.new);
+  are_lines = drops-lines left.old (adds left.new) (adds-lines left.new);
   body = dropped left.old (added left.new);
   counts = sym (drops-counts left.old left.new (added left.new) (adds-counts left.new));
   spelled = rw (none_in_front e.line p.number p.rest here) (drops-spelled left.old (adds left.new) (added left.new) (adds-spelled left.new));
@@ -89,6 +101,7 @@ fills_at_once left p e here = record {
 fills_past : (left : Left) (p : Ahead) (e : Fault) (x : Marked × Left × Ahead) → TakesLine left p x → x.2.number ≤ e.line → FillsBody x.1 x.2 e → FillsBody left p e
 fills_past left p e x t le more = record {
   others = more.others;
+  are_lines = more.are_lines;
   body = x.0 ∷ more.body;
   counts = t.counts ∙ ap (one_more x.0.mark) more.counts;
   spelled = (t.own, take (e.line - x.2.number) x.2.rest ++ more.others, front_with e.line p.number x.2.number p.rest t.own x.2.rest more.others t.parts t.number le, t.spelled more.body (sym more.counts), more.spelled);
@@ -137,15 +150,17 @@ body_fills (suc most) left p e h =
 -- the lines in front of the fault, with others, are hunks
 record FillsHunks (least : ℕ) (p : Ahead) (e : Fault) : Type 0 where
   others : List (List ℕ)
+  are_lines : AllByRecursion IsLine others
   hs : List PlainHunk
   spelled : SpellsHunks least (take (e.line - p.number) p.rest ++ others) hs
 
 no_hunk : (least : ℕ) (p : Ahead) (e : Fault) → e.line ≡ p.number → FillsHunks least p e
-no_hunk least p e here = record { others = []; hs = []; spelled = rw (none_in_front e.line p.number p.rest here) refl }
+no_hunk least p e here = record { others = []; are_lines = tt; hs = []; spelled = rw (none_in_front e.line p.number p.rest here) refl }
 
 past_hunk : (least : ℕ) (p : Ahead) (e : Fault) (x : PlainHunk × Ahead) → TakesHunk least p x → x.1.number ≤ e.line → FillsHunks x.0.old_start x.1 e → FillsHunks least p e
 past_hunk least p e x t le more = record {
   others = more.others;
+  are_lines = more.are_lines;
   hs = x.0 ∷ more.hs;
   spelled = (t.own, take (e.line - x.1.number) x.1.rest ++ more.others, front_with e.line p.number x.1.number p.rest t.own x.1.rest more.others t.parts t.number le, t.spelled, more.spelled);
 }
@@ -162,6 +177,7 @@ short_hunk least number line rest e r h le f =
     let ranges = ranges_spelled least number line r f.body h f.counts in
     record {
       others = f.others;
+      are_lines = f.are_lines;
       hs = change r f.body ∷ [];
       spelled = (own, [], front_with e.line number (number + 1) (line ∷ rest) (line ∷ []) rest f.others refl refl le ∙ sym (append-nil own), (ranges.0, ranges.1, f.spelled), refl);
     }
@@ -175,6 +191,7 @@ whole_hunk least number line rest e r body h t here =
     let front : take (e.line - number) (line ∷ rest) ++ [] ≡ own ++ (take (e.line - body.1.number) body.1.rest ++ []) = front_with e.line number body.1.number (line ∷ rest) own body.1.rest [] parts (omega (arith, t.number)) (omega (arith, here)) in
     record {
       others = [];
+      are_lines = tt;
       hs = change r body.0 ∷ [];
       spelled = (own, [], front ∙ ap (λ (ls : List (List ℕ)). own ++ (ls ++ [])) (none_in_front e.line body.1.number body.1.rest here), (ranges.0, ranges.1, t.spelled), refl);
     }
@@ -216,4 +233,4 @@ pub fault-goes_on : (number : ℕ) (lines : List (List ℕ)) (e : Fault) → rea
 fault-goes_on number lines e h =
     let f = hunks_fill (length lines) 0 (ahead number lines) e h in
     let own = take (e.line - number) lines ++ f.others in
-    record { others = f.others; hs = f.hs; next = number + length own; whole = record { own = own; parts = sym (append-nil own); spelled = f.spelled; ends = (refl, refl); counted = refl } }
+    record { others = f.others; are_lines = f.are_lines; hs = f.hs; next = number + length own; whole = record { own = own; parts = sym (append-nil own); spelled = f.spelled; ends = (refl, refl); counted = refl } }
