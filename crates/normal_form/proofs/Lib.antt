@@ -11,3 +11,4 @@ pub mod FirstFault
 pub mod GoesOn
 pub mod WritingLemmas
 pub mod Again
+pub mod Words
