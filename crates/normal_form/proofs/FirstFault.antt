@@ -277,7 +277,7 @@ agree_front : (last number : ℕ) (front behind others : List (List ℕ)) → la
 agree_front last number [] behind others past = agree_past last number behind others (omega (arith, past))
 agree_front last number (line ∷ front) behind others past = ((λ le. refl), agree_front last (number + 1) front behind others (omega (arith, past)))
 
-short_or : (k : BadKind) → (k ≡ kinds.ShortEnd) ⊎ (k ≢ kinds.ShortEnd)
+pub short_or : (k : BadKind) → (k ≡ kinds.ShortEnd) ⊎ (k ≢ kinds.ShortEnd)
 short_or kinds.Range = inr (λ h. cc)
 short_or kinds.Mark = inr (λ h. cc)
 short_or kinds.Count = inr (λ h. cc)

@@ -1,9 +1,9 @@
 -- The lines in front of a fault can go on to a piece.
-use Rattle.std.proofs.Common.{◌≡◌, ℕ, zero, suc, ◌+◌, ◌-◌, ◌≤◌, Bool, true, false, cond, eqb, List, [], ◌∷◌, ◌++◌, length, take, Option, None, Some, Result, Ok, Err, refl, sym, ap, subst, ◌∙◌, append_assoc, arith, inl, inr}
+use Rattle.std.proofs.Common.{◌≡◌, ℕ, zero, suc, ◌+◌, ◌-◌, ◌≤◌, Bool, true, false, cond, eqb, List, [], ◌∷◌, ◌++◌, length, take, Option, None, Some, Result, Ok, Err, refl, sym, ap, subst, ◌∙◌, append_assoc, arith, inl, inr, ◌≢◌, ◌↔◌, ◌<◌}
 use Rattle.std.specs.Prelude.{is_some}
 use Rattle.std.specs.List.{AllByRecursion}
-use Rattle.std.proofs.lemmas.List.{append-nil}
-use Rattle.std.proofs.Math.Seq.{take-append-add}
+use Rattle.std.proofs.lemmas.List.{append-nil, length-append}
+use Rattle.std.proofs.Math.Seq.{take-append-add, take-append_seam}
 use Rattle.line_list.specs.Lines.{IsLine}
 use Rattle.hunk_core.specs.declared.BadKind.{BadKind}
 use Rattle.hunk_core.specs.declared.BadKind.TheVariants as kinds
@@ -26,7 +26,7 @@ use Rattle.normal_form.proofs.CommandGrammar.{opening-takes}
 use Rattle.normal_form.proofs.Stretches.{marked-ok, TakesLine, line_takes, TakesStretch, stretch_takes, none-left}
 use Rattle.normal_form.proofs.Pieces.{CountsNone, counts-none, no-lines, empty-piece, divider_takes, TakesBody, body_takes, at_line-ok, is_counted, TakesHunk, hunk_takes}
 use Rattle.normal_form.proofs.Steady.{failed, bind_err}
-use Rattle.normal_form.proofs.FirstFault.{err_fault, marked-here, steady-stretch, steady-body, opening-here, with_body, more_hunks, add_err, hunks_low}
+use Rattle.normal_form.proofs.FirstFault.{short_or, fault-short, fault-not_sooner, err_fault, marked-here, steady-stretch, steady-body, opening-here, with_body, more_hunks, add_err, hunks_low}
 
 fault_at : {A : Type 0} (number : ℕ) (kind : BadKind) (e : Fault) → failed {A = A} (fault number kind) ≡ failed e → e.line ≡ number
 fault_at {A = A} number kind e h = sym (ap (λ (x : Fault). x.line) (err_fault {A = A} (fault number kind) e h))
@@ -50,6 +50,23 @@ front_with at number next lines own rest others parts count le =
 front_to : (at number next : ℕ) (lines own rest others : List (List ℕ)) → lines ≡ own ++ rest → next ≡ number + length own → at ≡ next → take (at - number) lines ++ others ≡ own ++ others
 front_to at number next lines own rest others parts count here =
     front_with at number next lines own rest others parts count (omega (arith, here)) ∙ ap (λ (ls : List (List ℕ)). own ++ (ls ++ others)) (none_in_front at next rest here)
+
+-- a fault lies in one of the lines, unless the text ends too early
+abbrev IsInside : Ahead → Fault → Type 0
+IsInside p e = e.kind ≢ kinds.ShortEnd → e.line < p.number + length p.rest
+
+none_inside : {A : Type 0} (number : ℕ) (e : Fault) → failed {A = A} (fault number kinds.ShortEnd) ≡ failed e → IsInside (ahead number []) e
+none_inside {A = A} number e h long = absurd (long (sym (ap (λ (x : Fault). x.kind) (err_fault {A = A} (fault number kinds.ShortEnd) e h))))
+
+first_inside : (number : ℕ) (line : List ℕ) (rest : List (List ℕ)) (e : Fault) → e.line ≡ number → IsInside (ahead number (line ∷ rest)) e
+first_inside number line rest e here long = omega (arith, here)
+
+past_inside : (p q : Ahead) (e : Fault) (own : List (List ℕ)) → p.rest ≡ own ++ q.rest → q.number ≡ p.number + length own → IsInside q e → IsInside p e
+past_inside p q e own parts number more long = omega (arith, more long, number, ap length parts, length-append own q.rest)
+
+some_loud : (rest more : List (List ℕ)) → after_backslash rest ≡ Some more → 0 < length rest
+some_loud [] more e = absurd cc
+some_loud (line ∷ rest) more e = omega arith
 
 -- ---- lines that fill a hunk up
 
@@ -100,14 +117,16 @@ record FillsStretch (side : Side) (left : ℕ) (p : Ahead) (e : Fault) : Type 0 
   ls : List (List ℕ)
   counts : length ls ≡ left
   spelled : SpellsStretch side (take (e.line - p.number) p.rest ++ others) ls
+  inside : IsInside p e
 
-fills_at_once : (side : Side) (left : ℕ) (p : Ahead) (e : Fault) → e.line ≡ p.number → FillsStretch side left p e
-fills_at_once side left p e here = record {
+fills_at_once : (side : Side) (left : ℕ) (p : Ahead) (e : Fault) → e.line ≡ p.number → IsInside p e → FillsStretch side left p e
+fills_at_once side left p e here inside = record {
   others = fill side left;
   are_lines = fill-lines side left;
   ls = filled left;
   counts = fill-counts left;
   spelled = rw (none_in_front e.line p.number p.rest here) (fill-spelled side left);
+  inside = inside;
 }
 
 fills_past : (side : Side) (left : ℕ) (p : Ahead) (e : Fault) (x : Marked × Ahead) → TakesLine side left p x → x.1.number ≤ e.line → FillsStretch side left x.1 e → FillsStretch side (suc left) p e
@@ -117,24 +136,29 @@ fills_past side left p e x t le more = record {
   ls = t.line ∷ more.ls;
   counts = ap suc more.counts;
   spelled = (t.own, take (e.line - x.1.number) x.1.rest ++ more.others, front_with e.line p.number x.1.number p.rest t.own x.1.rest more.others t.parts t.number le, t.spelled more.ls more.counts, more.spelled);
+  inside = past_inside p x.1 e t.own t.parts t.number more.inside;
 }
 
-ended_at : (m : Marked) (left : ℕ) (q : Ahead) (o : Option (List (List ℕ))) (e : Fault) → ended_by m left q o ≡ Err e → e.line ≡ q.number
-ended_at m left q None e h = absurd (let bad : Ok (m, q) ≡ failed {A = Marked × Ahead} e = h in cc)
-ended_at m left q (Some more) e h = by (eqb left 0) h
+ended_at : (m : Marked) (left : ℕ) (q : Ahead) (e : Fault) → ended_by m left q (after_backslash q.rest) ≡ Err e → (e.line ≡ q.number) × (0 < length q.rest)
+ended_at m left q e h = by (after_backslash q.rest) refl h
   where
-    by : (b : Bool) → cond {A = Result (Marked × Ahead) Fault} b (Ok (unended m, ahead (q.number + 1) more)) (Err (fault q.number kinds.MisplacedBackslash)) ≡ Err e → e.line ≡ q.number
-    by true h = absurd cc
-    by false h = fault_at {A = Marked × Ahead} q.number kinds.MisplacedBackslash e h
+    late : (more : List (List ℕ)) (b : Bool) → cond {A = Result (Marked × Ahead) Fault} b (Ok (unended m, ahead (q.number + 1) more)) (Err (fault q.number kinds.MisplacedBackslash)) ≡ Err e → e.line ≡ q.number
+    late more true h = absurd cc
+    late more false h = fault_at {A = Marked × Ahead} q.number kinds.MisplacedBackslash e h
+
+    by : (o : Option (List (List ℕ))) → after_backslash q.rest ≡ o → ended_by m left q o ≡ Err e → (e.line ≡ q.number) × (0 < length q.rest)
+    by None is h = absurd (let bad : Ok (m, q) ≡ failed {A = Marked × Ahead} e = h in cc)
+    by (Some more) is h = (late more (eqb left 0) h, some_loud q.rest more is)
 
 line_fills : (side : Side) (left number : ℕ) (lines : List (List ℕ)) (e : Fault) → first_line side left number lines ≡ Err e → FillsStretch side (suc left) (ahead number lines) e
 unfolding first_line
-line_fills side left number [] e h = fills_at_once side (suc left) (ahead number []) e (fault_at {A = Marked × Ahead} number kinds.ShortEnd e h)
+line_fills side left number [] e h = fills_at_once side (suc left) (ahead number []) e (fault_at {A = Marked × Ahead} number kinds.ShortEnd e h) (none_inside {A = Marked × Ahead} number e h)
 line_fills side left number (line ∷ rest) e h =
     elim (bind_err (marked_at number side line) (λ m. ended_by m left (ahead (number + 1) rest) (after_backslash rest)) e h) [
-      | inl bad ↦ fills_at_once side (suc left) (ahead number (line ∷ rest)) e (marked-here side number line e bad).0
+      | inl bad ↦ (let here = (marked-here side number line e bad).0 in fills_at_once side (suc left) (ahead number (line ∷ rest)) e here (first_inside number line rest e here))
       | inr good ↦ (
-          let here : e.line ≡ number + 1 = ended_at good.0 left (ahead (number + 1) rest) (after_backslash rest) e good.2 in
+          let late = ended_at good.0 left (ahead (number + 1) rest) e good.2 in
+          let here : e.line ≡ number + 1 = late.0 in
           let m = marked-ok number side line (after (marks side) line) good.0 good.1 in
           let one : TakesLine side left (ahead number (line ∷ rest)) (good.0, ahead (number + 1) rest) = record {
             own = line ∷ [];
@@ -144,7 +168,7 @@ line_fills side left number (line ∷ rest) e h =
             is = sym m.2;
             spelled = λ others same. after-takes (marks side) line m.0 m.1;
           } in
-          fills_past side left (ahead number (line ∷ rest)) e (good.0, ahead (number + 1) rest) one (omega (arith, here)) (fills_at_once side left (ahead (number + 1) rest) e here))
+          fills_past side left (ahead number (line ∷ rest)) e (good.0, ahead (number + 1) rest) one (omega (arith, here)) (fills_at_once side left (ahead (number + 1) rest) e here (λ long. omega (arith, here, late.1))))
     ]
 
 stretch_fills : (side : Side) (left : ℕ) (before : List Marked) (p : Ahead) (e : Fault) → stretch_at side left before p ≡ Err e → FillsStretch side left p e
@@ -170,6 +194,7 @@ record FillsBody (action : Action) (old new : ℕ) (p : Ahead) (e : Fault) : Typ
   old_count : length olds ≡ old
   new_count : length news ≡ new
   spelled : SpellsBody action (take (e.line - p.number) p.rest ++ others) olds news
+  inside : IsInside p e
 
 -- the fault lies in the old lines
 old_fills : (action : Action) (old new : ℕ) (p : Ahead) (e : Fault) → CountsNone action old new → stretch_at Forward old [] p ≡ Err e → FillsBody action old new p e
@@ -185,6 +210,7 @@ old_fills Change old new p e none bad =
       old_count = f.counts;
       new_count = fill-counts new;
       spelled = (front ++ f.others, dashes, fill Reversed new, sym (append_assoc front f.others (dashes ∷ fill Reversed new)), f.spelled, divides, fill-spelled Reversed new);
+      inside = f.inside;
     }
 old_fills Delete old new p e none bad =
     let f = stretch_fills Forward old [] p e bad in
@@ -196,12 +222,13 @@ old_fills Delete old new p e none bad =
       old_count = f.counts;
       new_count = sym none;
       spelled = (f.spelled, refl);
+      inside = f.inside;
     }
 
-divider_fault : (number : ℕ) (lines : List (List ℕ)) (e : Fault) → first_divider number lines ≡ Err e → e.line ≡ number
+divider_fault : (number : ℕ) (lines : List (List ℕ)) (e : Fault) → first_divider number lines ≡ Err e → (e.line ≡ number) × IsInside (ahead number lines) e
 unfolding first_divider
-divider_fault number [] e h = fault_at {A = Unit {0} × Ahead} number kinds.ShortEnd e h
-divider_fault number (line ∷ rest) e h = by (is_divider line) h
+divider_fault number [] e h = (fault_at {A = Unit {0} × Ahead} number kinds.ShortEnd e h, none_inside {A = Unit {0} × Ahead} number e h)
+divider_fault number (line ∷ rest) e h = let here = by (is_divider line) h in (here, first_inside number line rest e here)
   where
     by : (b : Bool) → cond {A = Result (Unit {0} × Ahead) Fault} b (Ok (tt, ahead (number + 1) rest)) (Err (fault number (unmarked line))) ≡ Err e → e.line ≡ number
     by true h = absurd cc
@@ -211,7 +238,7 @@ divider_fault number (line ∷ rest) e h = by (is_divider line) h
 middle_fills : (action : Action) (old new : ℕ) (p : Ahead) (e : Fault) (y : List Marked × Ahead) → TakesStretch Forward old [] p y → divider_at action y.1 ≡ Err e → FillsBody action old new p e
 middle_fills Add old new p e y a bad = absurd (let wrong : Ok (tt, y.1) ≡ failed {A = Unit {0} × Ahead} e = bad in cc)
 middle_fills Change old new p e y a bad =
-    let here = divider_fault y.1.number y.1.rest e bad in
+    let d = divider_fault y.1.number y.1.rest e bad in
     let others = dashes ∷ fill Reversed new in
     record {
       others = others;
@@ -220,7 +247,8 @@ middle_fills Change old new p e y a bad =
       news = filled new;
       old_count = a.counts;
       new_count = fill-counts new;
-      spelled = (a.own, dashes, fill Reversed new, front_to e.line p.number y.1.number p.rest a.own y.1.rest others a.parts a.number here, a.spelled, divides, fill-spelled Reversed new);
+      spelled = (a.own, dashes, fill Reversed new, front_to e.line p.number y.1.number p.rest a.own y.1.rest others a.parts a.number d.0, a.spelled, divides, fill-spelled Reversed new);
+      inside = past_inside p y.1 e a.own a.parts a.number d.1;
     }
 middle_fills Delete old new p e y a bad = absurd (let wrong : Ok (tt, y.1) ≡ failed {A = Unit {0} × Ahead} e = bad in cc)
 
@@ -243,6 +271,7 @@ new_fills Add old new p e y z none a d bad =
       old_count = a.counts;
       new_count = f.counts;
       spelled = (olds, subst (λ (ls : List (List ℕ)). SpellsStretch Reversed ls f.ls) (sym piece) f.spelled);
+      inside = past_inside p z.1 e a.own (a.parts ∙ ap (λ r. a.own ++ r) rest) (sym number ∙ a.number) f.inside;
     }
 new_fills Change old new p e y z none a d bad =
     let t = divider_takes y.1.number y.1.rest z d in
@@ -259,6 +288,7 @@ new_fills Change old new p e y z none a d bad =
       old_count = a.counts;
       new_count = f.counts;
       spelled = (a.own, t.0, front, one ∙ ap (λ (ls : List (List ℕ)). a.own ++ ls) two, a.spelled, t.3, f.spelled);
+      inside = past_inside p y.1 e a.own a.parts a.number (past_inside y.1 z.1 e (t.0 ∷ []) t.1 t.2 f.inside);
     }
 new_fills Delete old new p e y z none a d bad = absurd (let good = no-lines Reversed new y.0 z.1 none in cc)
 
@@ -283,9 +313,10 @@ record FillsHunks (least : ℕ) (p : Ahead) (e : Fault) : Type 0 where
   are_lines : AllByRecursion IsLine others
   hs : List PlainHunk
   spelled : SpellsHunks least (take (e.line - p.number) p.rest ++ others) hs
+  inside : IsInside p e
 
-no_hunk : (least : ℕ) (p : Ahead) (e : Fault) → e.line ≡ p.number → FillsHunks least p e
-no_hunk least p e here = record { others = []; are_lines = tt; hs = []; spelled = rw (none_in_front e.line p.number p.rest here) refl }
+no_hunk : (least : ℕ) (p : Ahead) (e : Fault) → e.line ≡ p.number → IsInside p e → FillsHunks least p e
+no_hunk least p e here inside = record { others = []; are_lines = tt; hs = []; spelled = rw (none_in_front e.line p.number p.rest here) refl; inside = inside }
 
 past_hunk : (least : ℕ) (p : Ahead) (e : Fault) (x : PlainHunk × Ahead) → TakesHunk least p x → x.1.number ≤ e.line → FillsHunks x.0.old_start x.1 e → FillsHunks least p e
 past_hunk least p e x t le more = record {
@@ -293,6 +324,7 @@ past_hunk least p e x t le more = record {
   are_lines = more.are_lines;
   hs = x.0 ∷ more.hs;
   spelled = (t.own, take (e.line - x.1.number) x.1.rest ++ more.others, front_with e.line p.number x.1.number p.rest t.own x.1.rest more.others t.parts t.number le, t.spelled, more.spelled);
+  inside = past_inside p x.1 e t.own t.parts t.number more.inside;
 }
 
 -- a command, and lines that are its lines
@@ -312,30 +344,32 @@ short_hunk least number line rest e c s le f =
       are_lines = f.are_lines;
       hs = change c body ∷ [];
       spelled = (line ∷ lines, [], front_with e.line number (number + 1) (line ∷ rest) (line ∷ []) rest f.others refl refl le ∙ sym (append-nil (line ∷ lines)), hunk_spelled least line lines f.olds f.news c body s f.old_count f.new_count refl f.spelled, refl);
+      inside = past_inside (ahead number (line ∷ rest)) (ahead (number + 1) rest) e (line ∷ []) refl refl f.inside;
     }
 
 -- a hunk that is whole
-whole_hunk : (least number : ℕ) (line : List ℕ) (rest : List (List ℕ)) (e : Fault) (c : Command) (body : List Marked × Ahead) → SpellsCommand line c × AreFair least c → TakesBody c.action c.old_count c.new_count (ahead (number + 1) rest) body → e.line ≡ body.1.number → FillsHunks least (ahead number (line ∷ rest)) e
-whole_hunk least number line rest e c body s t here = record {
+whole_hunk : (least number : ℕ) (line : List ℕ) (rest : List (List ℕ)) (e : Fault) (c : Command) (body : List Marked × Ahead) → SpellsCommand line c × AreFair least c → TakesBody c.action c.old_count c.new_count (ahead (number + 1) rest) body → (e.line ≡ body.1.number) × (0 < length body.1.rest) → FillsHunks least (ahead number (line ∷ rest)) e
+whole_hunk least number line rest e c body s t late = record {
   others = [];
   are_lines = tt;
   hs = change c body.0 ∷ [];
-  spelled = (line ∷ t.own, [], front_to e.line number body.1.number (line ∷ rest) (line ∷ t.own) body.1.rest [] (ap (λ (ls : List (List ℕ)). line ∷ ls) t.parts) (omega (arith, t.number)) here, hunk_spelled least line t.own t.olds t.news c body.0 s t.old_count t.new_count t.is t.spelled, refl);
+  spelled = (line ∷ t.own, [], front_to e.line number body.1.number (line ∷ rest) (line ∷ t.own) body.1.rest [] (ap (λ (ls : List (List ℕ)). line ∷ ls) t.parts) (omega (arith, t.number)) late.0, hunk_spelled least line t.own t.olds t.news c body.0 s t.old_count t.new_count t.is t.spelled, refl);
+  inside = past_inside (ahead number (line ∷ rest)) body.1 e (line ∷ t.own) (ap (λ (ls : List (List ℕ)). line ∷ ls) t.parts) (omega (arith, t.number)) (λ long. omega (arith, late.0, late.1));
 }
 
-settled_at : (h : PlainHunk) (p : Ahead) (e : Fault) → settled h p ≡ Err e → e.line ≡ p.number
-settled_at h p e is = by (is_some (after_backslash p.rest)) is
+settled_at : (h : PlainHunk) (p : Ahead) (e : Fault) → settled h p ≡ Err e → (e.line ≡ p.number) × (0 < length p.rest)
+settled_at h p e is = by (after_backslash p.rest) refl is
   where
-    by : (b : Bool) → cond {A = Result (PlainHunk × Ahead) Fault} b (Err (fault p.number kinds.MisplacedBackslash)) (Ok (h, p)) ≡ Err e → e.line ≡ p.number
-    by true h = fault_at {A = PlainHunk × Ahead} p.number kinds.MisplacedBackslash e h
-    by false h = absurd cc
+    by : (o : Option (List (List ℕ))) → after_backslash p.rest ≡ o → cond {A = Result (PlainHunk × Ahead) Fault} (is_some o) (Err (fault p.number kinds.MisplacedBackslash)) (Ok (h, p)) ≡ Err e → (e.line ≡ p.number) × (0 < length p.rest)
+    by None is h = absurd cc
+    by (Some more) is h = (fault_at {A = PlainHunk × Ahead} p.number kinds.MisplacedBackslash e h, some_loud p.rest more is)
 
 hunk_fills : (least number : ℕ) (lines : List (List ℕ)) (e : Fault) → first_hunk least number lines ≡ Err e → FillsHunks least (ahead number lines) e
 unfolding first_hunk
-hunk_fills least number [] e h = no_hunk least (ahead number []) e (fault_at {A = PlainHunk × Ahead} number kinds.ShortEnd e h)
+hunk_fills least number [] e h = no_hunk least (ahead number []) e (fault_at {A = PlainHunk × Ahead} number kinds.ShortEnd e h) (none_inside {A = PlainHunk × Ahead} number e h)
 hunk_fills least number (line ∷ rest) e h =
     elim (bind_err (at_line number (opening least line)) (λ c. with_body c (ahead (number + 1) rest)) e h) [
-      | inl bad ↦ no_hunk least (ahead number (line ∷ rest)) e (opening-here least number line e bad).0
+      | inl bad ↦ (let here = (opening-here least number line e bad).0 in no_hunk least (ahead number (line ∷ rest)) e here (first_inside number line rest e here))
       | inr good ↦ (
           let c = good.0 in
           let p : Ahead = ahead (number + 1) rest in
@@ -369,3 +403,20 @@ fault-goes_on number lines e h =
     let f = hunks_fill (length lines) 0 (ahead number lines) e h in
     let own = take (e.line - number) lines ++ f.others in
     record { others = f.others; are_lines = f.are_lines; hs = f.hs; next = number + length own; whole = record { own = own; parts = sym (append-nil own); spelled = f.spelled; ends = (refl, refl); counted = refl } }
+
+whole_front : (number : ℕ) (lines : List (List ℕ)) (at : ℕ) → at ≡ number + length lines → take (at - number) lines ≡ lines
+whole_front number lines at e =
+    let k : at - number ≡ length lines = omega (arith, e) in
+    ap (λ n. take n lines) k ∙ ap (take (length lines)) (sym (append-nil lines)) ∙ take-append_seam lines []
+
+pub fault-short_end : (number : ℕ) (lines : List (List ℕ)) (e : Fault) → reading number lines ≡ Err e → e.kind ≡ kinds.ShortEnd ↔ CanGoOn number lines
+fault-short_end number lines e h = (
+  λ short. subst (CanGoOn number) (whole_front number lines e.line (fault-short number lines e h short)) (fault-goes_on number lines e h),
+  λ g. elim (short_or e.kind) [
+    | inl short ↦ short
+    | inr long ↦ (
+        let late = fault-not_sooner number lines [] e g (subst (λ (ls : List (List ℕ)). reading number ls ≡ Err e) (sym (append-nil lines)) h) in
+        let inside = (hunks_fill (length lines) 0 (ahead number lines) e h).inside long in
+        absurd (omega (arith, late, inside)))
+  ],
+)

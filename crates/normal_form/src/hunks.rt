@@ -200,6 +200,8 @@ pub fn first_faults()
     ensures goes_on { (number : ℕ) (lines : List (List ℕ)) (e : Fault) → reading number lines ≡ Err e → CanGoOn number (take (e.line - number) lines) }
     // No fault comes in lines that can go on to a piece.
     ensures not_sooner { (number : ℕ) (front behind : List (List ℕ)) (e : Fault) → CanGoOn number front → reading number (front ++ behind) ≡ Err e → number + length front ≤ e.line }
+    // A text ends too early exactly where all its lines can go on to a piece.
+    ensures short_end { (number : ℕ) (lines : List (List ℕ)) (e : Fault) → reading number lines ≡ Err e → e.kind ≡ BadKind.ShortEnd ↔ CanGoOn number lines }
 {}
 
 /// The tests of the grammar, in the words of the diffutils manual.

@@ -28,7 +28,7 @@ use Rattle.unified_form.proofs.Steps.{hunk-shrinks}
 abbrev pub failed : {A : Type 0} → Fault → Result A Fault
 failed e = Err e
 
-err_is : {A : Type 0} (d e : Fault) → failed {A = A} d ≡ failed e → d ≡ e
+pub err_is : {A : Type 0} (d e : Fault) → failed {A = A} d ≡ failed e → d ≡ e
 err_is d e h = cc
 
 pub bind_err : {A B : Type 0} (r : Result A Fault) (f : A → Result B Fault) (e : Fault) → (r >>= f) ≡ Err e → (r ≡ Err e) ⊎ ((x : A) × (r ≡ Ok x) × (f x ≡ Err e))
@@ -67,7 +67,7 @@ backslash_by : (b : Bool) (line : List ℕ) (rest more : List (List ℕ)) → co
 backslash_by true line rest more h = let same : rest ≡ more = cc in rw same refl
 backslash_by false line rest more h = absurd cc
 
-backslash_one : (rest more : List (List ℕ)) → after_backslash rest ≡ Some more → length rest ≡ suc (length more)
+pub backslash_one : (rest more : List (List ℕ)) → after_backslash rest ≡ Some more → length rest ≡ suc (length more)
 backslash_one [] more h = absurd cc
 backslash_one (line ∷ rest) more h = backslash_by (is_backslash line) line rest more h
 
@@ -499,7 +499,7 @@ agree_front : (last number : ℕ) (front behind others : List (List ℕ)) → la
 agree_front last number [] behind others past = agree_past last number behind others (omega (arith, past))
 agree_front last number (line ∷ front) behind others past = ((λ le. refl), agree_front last (number + 1) front behind others (omega (arith, past)))
 
-short_or : (k : BadKind) → (k ≡ kinds.ShortEnd) ⊎ (k ≢ kinds.ShortEnd)
+pub short_or : (k : BadKind) → (k ≡ kinds.ShortEnd) ⊎ (k ≢ kinds.ShortEnd)
 short_or kinds.Range = inr (λ h. cc)
 short_or kinds.Mark = inr (λ h. cc)
 short_or kinds.Count = inr (λ h. cc)

@@ -1,15 +1,16 @@
 -- The lines in front of a fault can go on to a piece.
-use Rattle.std.proofs.Common.{◌≡◌, ℕ, zero, suc, ◌+◌, ◌-◌, ◌≤◌, eqb, List, [], ◌∷◌, ◌++◌, length, take, Ok, Err, refl, sym, ap, ◌∙◌, append_assoc, arith, inl, inr}
+use Rattle.std.proofs.Common.{subst, ◌≡◌, ◌≢◌, ◌↔◌, ℕ, zero, suc, ◌+◌, ◌-◌, ◌≤◌, ◌<◌, eqb, List, [], ◌∷◌, ◌++◌, length, take, Ok, Err, refl, sym, ap, ◌∙◌, append_assoc, arith, inl, inr}
 use Rattle.std.specs.List.{AllByRecursion}
-use Rattle.std.proofs.lemmas.List.{append-nil}
+use Rattle.std.proofs.lemmas.List.{append-nil, length-append}
 use Rattle.line_list.specs.Lines.{IsLine}
-use Rattle.std.proofs.Math.Seq.{take-append-add}
+use Rattle.std.proofs.Math.Seq.{take-append-add, take-append_seam}
 use Rattle.hunk_core.specs.declared.Mark.TheVariants.{Drop, Add}
 use Rattle.hunk_core.specs.declared.BadKind.TheVariants as kinds
 use Rattle.hunk_core.specs.PlainHunk.{Marked, PlainHunk}
 use Rattle.hunk_core.specs.LineTests.{marked, after_backslash}
 use Rattle.hunk_core.specs.Reading.{Fault, fault, Ahead, ahead}
 use Rattle.hunk_core.proofs.ReadSteps.{chosen}
+use Rattle.hunk_core.proofs.TextLemmas.{has_some}
 use Rattle.unified_form.specs.declared.body.Left.{Left}
 use Rattle.unified_form.specs.declared.range.Ranges.{Ranges}
 use Rattle.unified_form.specs.Ranges.{opening}
@@ -20,7 +21,7 @@ use Rattle.unified_form.specs.FirstFault.{CanGoOn}
 use Rattle.unified_form.proofs.Bodies.{made, is_left, marked-ok, room-back, mark_at-shows, TakesLine, line_takes, TakesBody, body_takes}
 use Rattle.unified_form.proofs.RangeGrammar.{opening-takes}
 use Rattle.unified_form.proofs.Pieces.{at_line-ok, is_ranges, TakesHunk, hunk_takes}
-use Rattle.unified_form.proofs.FirstFault.{failed, bind_err, marked_low, room_low, ended_low, range_low, settled_err, rest_of_line, one_more_line, add_err, body_low, with_body, more_hunks, hunks_low}
+use Rattle.unified_form.proofs.FirstFault.{failed, err_is, backslash_one, short_or, fault-short, fault-late, bind_err, marked_low, room_low, ended_low, range_low, settled_err, rest_of_line, one_more_line, add_err, body_low, with_body, more_hunks, hunks_low}
 
 -- ---- the lines in front
 
@@ -36,6 +37,19 @@ front_past at number next lines own rest parts count le =
 front_with : (at number next : ℕ) (lines own rest others : List (List ℕ)) → lines ≡ own ++ rest → next ≡ number + length own → next ≤ at → take (at - number) lines ++ others ≡ own ++ (take (at - next) rest ++ others)
 front_with at number next lines own rest others parts count le =
     ap (λ (ls : List (List ℕ)). ls ++ others) (front_past at number next lines own rest parts count le) ∙ append_assoc own (take (at - next) rest) others
+
+-- a fault lies in one of the lines, unless the text ends too early
+abbrev IsInside : Ahead → Fault → Type 0
+IsInside p e = e.kind ≢ kinds.ShortEnd → e.line < p.number + length p.rest
+
+none_inside : {A : Type 0} (number : ℕ) (e : Fault) → failed {A = A} (fault number kinds.ShortEnd) ≡ failed e → IsInside (ahead number []) e
+none_inside {A = A} number e h long = absurd (long (sym (ap (λ (x : Fault). x.kind) (err_is {A = A} (fault number kinds.ShortEnd) e h))))
+
+first_inside : (number : ℕ) (line : List ℕ) (rest : List (List ℕ)) (e : Fault) → e.line ≡ number → IsInside (ahead number (line ∷ rest)) e
+first_inside number line rest e here long = omega (arith, here)
+
+past_inside : (p q : Ahead) (e : Fault) (own : List (List ℕ)) → p.rest ≡ own ++ q.rest → q.number ≡ p.number + length own → IsInside q e → IsInside p e
+past_inside p q e own parts number more long = omega (arith, more long, number, ap length parts, length-append own q.rest)
 
 -- ---- lines that fill a body up
 
@@ -88,14 +102,16 @@ record FillsBody (left : Left) (p : Ahead) (e : Fault) : Type 0 where
   body : List Marked
   counts : left ≡ counts_of body
   spelled : SpellsBody (take (e.line - p.number) p.rest ++ others) body
+  inside : IsInside p e
 
-fills_at_once : (left : Left) (p : Ahead) (e : Fault) → e.line ≡ p.number → FillsBody left p e
-fills_at_once left p e here = record {
+fills_at_once : (left : Left) (p : Ahead) (e : Fault) → e.line ≡ p.number → IsInside p e → FillsBody left p e
+fills_at_once left p e here inside = record {
   others = drops left.old (adds left.new);
   are_lines = drops-lines left.old (adds left.new) (adds-lines left.new);
   body = dropped left.old (added left.new);
   counts = sym (drops-counts left.old left.new (added left.new) (adds-counts left.new));
   spelled = rw (none_in_front e.line p.number p.rest here) (drops-spelled left.old (adds left.new) (added left.new) (adds-spelled left.new));
+  inside = inside;
 }
 
 fills_past : (left : Left) (p : Ahead) (e : Fault) (x : Marked × Left × Ahead) → TakesLine left p x → x.2.number ≤ e.line → FillsBody x.1 x.2 e → FillsBody left p e
@@ -105,16 +121,17 @@ fills_past left p e x t le more = record {
   body = x.0 ∷ more.body;
   counts = t.counts ∙ ap (one_more x.0.mark) more.counts;
   spelled = (t.own, take (e.line - x.2.number) x.2.rest ++ more.others, front_with e.line p.number x.2.number p.rest t.own x.2.rest more.others t.parts t.number le, t.spelled more.body (sym more.counts), more.spelled);
+  inside = past_inside p x.2 e t.own t.parts t.number more.inside;
 }
 
 line_fills : (left : Left) (number : ℕ) (lines : List (List ℕ)) (e : Fault) → first_line left number lines ≡ Err e → FillsBody left (ahead number lines) e
 unfolding first_line
-line_fills left number [] e h = let is : fault number kinds.ShortEnd ≡ e = cc in fills_at_once left (ahead number []) e (sym (ap (λ (x : Fault). x.line) is))
+line_fills left number [] e h = let is : fault number kinds.ShortEnd ≡ e = cc in fills_at_once left (ahead number []) e (sym (ap (λ (x : Fault). x.line) is)) (none_inside {A = Marked × Left × Ahead} number e h)
 line_fills left number (line ∷ rest) e h =
     elim (bind_err (marked_at number line) (rest_of_line left number rest) e h) [
-      | inl bad ↦ fills_at_once left (ahead number (line ∷ rest)) e (marked_low number line e bad).0
+      | inl bad ↦ (let here = (marked_low number line e bad).0 in fills_at_once left (ahead number (line ∷ rest)) e here (first_inside number line rest e here))
       | inr good ↦ elim (bind_err (room_at number good.0.mark left) (λ room. ended_by number good.0 room rest (after_backslash rest)) e good.2) [
-        | inl bad ↦ fills_at_once left (ahead number (line ∷ rest)) e (room_low number good.0.mark left e bad).0
+        | inl bad ↦ (let here = (room_low number good.0.mark left e bad).0 in fills_at_once left (ahead number (line ∷ rest)) e here (first_inside number line rest e here))
         | inr room ↦ (
             let m = good.0 in
             let l = ended_low number m room.0 rest (after_backslash rest) e room.2 in
@@ -126,7 +143,7 @@ line_fills left number (line ∷ rest) e h =
               counts = room-back number m.mark left room.0 room.1;
               spelled = λ body same. mark_at-shows line m (marked-ok number line (mark_at line) m good.1);
             } in
-            fills_past left (ahead number (line ∷ rest)) e (m, room.0, ahead (number + 1) rest) one (omega (arith, here)) (fills_at_once room.0 (ahead (number + 1) rest) e here))
+            fills_past left (ahead number (line ∷ rest)) e (m, room.0, ahead (number + 1) rest) one (omega (arith, here)) (fills_at_once room.0 (ahead (number + 1) rest) e here (λ long. omega (arith, here, backslash_one rest l.2 l.3))))
       ]
     ]
 
@@ -153,9 +170,10 @@ record FillsHunks (least : ℕ) (p : Ahead) (e : Fault) : Type 0 where
   are_lines : AllByRecursion IsLine others
   hs : List PlainHunk
   spelled : SpellsHunks least (take (e.line - p.number) p.rest ++ others) hs
+  inside : IsInside p e
 
-no_hunk : (least : ℕ) (p : Ahead) (e : Fault) → e.line ≡ p.number → FillsHunks least p e
-no_hunk least p e here = record { others = []; are_lines = tt; hs = []; spelled = rw (none_in_front e.line p.number p.rest here) refl }
+no_hunk : (least : ℕ) (p : Ahead) (e : Fault) → e.line ≡ p.number → IsInside p e → FillsHunks least p e
+no_hunk least p e here inside = record { others = []; are_lines = tt; hs = []; spelled = rw (none_in_front e.line p.number p.rest here) refl; inside = inside }
 
 past_hunk : (least : ℕ) (p : Ahead) (e : Fault) (x : PlainHunk × Ahead) → TakesHunk least p x → x.1.number ≤ e.line → FillsHunks x.0.old_start x.1 e → FillsHunks least p e
 past_hunk least p e x t le more = record {
@@ -163,6 +181,7 @@ past_hunk least p e x t le more = record {
   are_lines = more.are_lines;
   hs = x.0 ∷ more.hs;
   spelled = (t.own, take (e.line - x.1.number) x.1.rest ++ more.others, front_with e.line p.number x.1.number p.rest t.own x.1.rest more.others t.parts t.number le, t.spelled, more.spelled);
+  inside = past_inside p x.1 e t.own t.parts t.number more.inside;
 }
 
 ranges_spelled : (least number : ℕ) (line : List ℕ) (r : Ranges) (body : List Marked) → at_line number (opening least line) ≡ Ok r → left_of r ≡ counts_of body → SpellsRanges line (ranges_of (change r body)) × AreFair least (ranges_of (change r body))
@@ -180,11 +199,12 @@ short_hunk least number line rest e r h le f =
       are_lines = f.are_lines;
       hs = change r f.body ∷ [];
       spelled = (own, [], front_with e.line number (number + 1) (line ∷ rest) (line ∷ []) rest f.others refl refl le ∙ sym (append-nil own), (ranges.0, ranges.1, f.spelled), refl);
+      inside = past_inside (ahead number (line ∷ rest)) (ahead (number + 1) rest) e (line ∷ []) refl refl f.inside;
     }
 
 -- a hunk that is whole
-whole_hunk : (least number : ℕ) (line : List ℕ) (rest : List (List ℕ)) (e : Fault) (r : Ranges) (body : List Marked × Ahead) → at_line number (opening least line) ≡ Ok r → TakesBody (left_of r) (ahead (number + 1) rest) body → e.line ≡ body.1.number → FillsHunks least (ahead number (line ∷ rest)) e
-whole_hunk least number line rest e r body h t here =
+whole_hunk : (least number : ℕ) (line : List ℕ) (rest : List (List ℕ)) (e : Fault) (r : Ranges) (body : List Marked × Ahead) → at_line number (opening least line) ≡ Ok r → TakesBody (left_of r) (ahead (number + 1) rest) body → e.line ≡ body.1.number → 0 < length body.1.rest → FillsHunks least (ahead number (line ∷ rest)) e
+whole_hunk least number line rest e r body h t here some =
     let own = line ∷ t.own in
     let ranges = ranges_spelled least number line r body.0 h t.counts in
     let parts : line ∷ rest ≡ own ++ body.1.rest = ap (λ (ls : List (List ℕ)). line ∷ ls) t.parts in
@@ -194,21 +214,22 @@ whole_hunk least number line rest e r body h t here =
       are_lines = tt;
       hs = change r body.0 ∷ [];
       spelled = (own, [], front ∙ ap (λ (ls : List (List ℕ)). own ++ (ls ++ [])) (none_in_front e.line body.1.number body.1.rest here), (ranges.0, ranges.1, t.spelled), refl);
+      inside = past_inside (ahead number (line ∷ rest)) body.1 e own parts (omega (arith, t.number)) (λ long. omega (arith, here, some));
     }
 
 hunk_fills : (least number : ℕ) (lines : List (List ℕ)) (e : Fault) → first_hunk least number lines ≡ Err e → FillsHunks least (ahead number lines) e
 unfolding first_hunk
-hunk_fills least number [] e h = let is : fault number kinds.ShortEnd ≡ e = cc in no_hunk least (ahead number []) e (sym (ap (λ (x : Fault). x.line) is))
+hunk_fills least number [] e h = let is : fault number kinds.ShortEnd ≡ e = cc in no_hunk least (ahead number []) e (sym (ap (λ (x : Fault). x.line) is)) (none_inside {A = PlainHunk × Ahead} number e h)
 hunk_fills least number (line ∷ rest) e h =
     elim (bind_err (at_line number (opening least line)) (with_body number rest) e h) [
-      | inl bad ↦ no_hunk least (ahead number (line ∷ rest)) e (range_low least number line e bad).0
+      | inl bad ↦ (let here = (range_low least number line e bad).0 in no_hunk least (ahead number (line ∷ rest)) e here (first_inside number line rest e here))
       | inr good ↦ (
           let r = good.0 in
           elim (bind_err (body_at (r.old_count + r.new_count) (left_of r) (ahead (number + 1) rest)) (λ body. settled (change r body.0) body.1) e good.2) [
             | inl bad ↦ short_hunk least number line rest e r good.1 (body_low _ (left_of r) (ahead (number + 1) rest) e bad).0 (body_fills _ (left_of r) (ahead (number + 1) rest) e bad)
             | inr body ↦ (
                 let s = settled_err (change r body.0.0) body.0.1 e body.2 in
-                whole_hunk least number line rest e r body.0 good.1 (body_takes _ (left_of r) (ahead (number + 1) rest) body.0 (omega arith) body.1) (sym (ap (λ (x : Fault). x.line) s.0)))
+                whole_hunk least number line rest e r body.0 good.1 (body_takes _ (left_of r) (ahead (number + 1) rest) body.0 (omega arith) body.1) (sym (ap (λ (x : Fault). x.line) s.0)) (let more = has_some (after_backslash body.0.1.rest) s.1 in omega (arith, backslash_one body.0.1.rest more.0 more.1)))
           ])
     ]
 
@@ -234,3 +255,21 @@ fault-goes_on number lines e h =
     let f = hunks_fill (length lines) 0 (ahead number lines) e h in
     let own = take (e.line - number) lines ++ f.others in
     record { others = f.others; are_lines = f.are_lines; hs = f.hs; next = number + length own; whole = record { own = own; parts = sym (append-nil own); spelled = f.spelled; ends = (refl, refl); counted = refl } }
+
+whole_front : (number : ℕ) (lines : List (List ℕ)) (at : ℕ) → at ≡ number + length lines → take (at - number) lines ≡ lines
+whole_front number lines at e =
+    let k : at - number ≡ length lines = omega (arith, e) in
+    ap (λ n. take n lines) k ∙ ap (take (length lines)) (sym (append-nil lines)) ∙ take-append_seam lines []
+
+pub fault-short_end : (number : ℕ) (lines : List (List ℕ)) (e : Fault) → reading number lines ≡ Err e → e.kind ≡ kinds.ShortEnd ↔ CanGoOn number lines
+fault-short_end number lines e h = (
+  λ short. subst (CanGoOn number) (whole_front number lines e.line (fault-short number lines e h short)) (fault-goes_on number lines e h),
+  λ g. elim (short_or e.kind) [
+    | inl short ↦ short
+    | inr long ↦ (
+        let same : lines ++ [] ≡ lines = append-nil lines in
+        let late = fault-late number lines [] g.others e g.hs g.next [] g.whole (subst (λ (ls : List (List ℕ)). reading number ls ≡ Err e) (sym same) h) in
+        let inside = (hunks_fill (length lines) 0 (ahead number lines) e h).inside long in
+        absurd (omega (arith, late, inside)))
+  ],
+)

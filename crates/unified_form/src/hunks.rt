@@ -171,6 +171,8 @@ pub fn first_faults()
         → IsPiece number (front ++ others) hs next rest → reading number (front ++ behind) ≡ Err e → number + length front ≤ e.line }
     // The lines in front of a fault can go on to a piece, so no earlier line is at fault.
     ensures goes_on { (number : ℕ) (lines : List (List ℕ)) (e : Fault) → reading number lines ≡ Err e → CanGoOn number (take (e.line - number) lines) }
+    // A text ends too early exactly where all its lines can go on to a piece.
+    ensures short_end { (number : ℕ) (lines : List (List ℕ)) (e : Fault) → reading number lines ≡ Err e → e.kind ≡ BadKind.ShortEnd ↔ CanGoOn number lines }
 {}
 
 /// The tests of the grammar, in the words of the diffutils manual.

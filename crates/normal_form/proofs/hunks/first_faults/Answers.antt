@@ -1,5 +1,5 @@
 use Rattle.normal_form.proofs.FirstFault.{fault-stays, fault-unspelled, fault-short, fault-late, fault-not_sooner}
-use Rattle.normal_form.proofs.GoesOn.{fault-goes_on}
+use Rattle.normal_form.proofs.GoesOn.{fault-goes_on, fault-short_end}
 use Rattle.normal_form.proofs.hunks.first_faults.Goals as goal
 
 pub returns-clause-stays : goal.returns-clause-stays
@@ -19,3 +19,6 @@ returns-clause-goes_on c = fault-goes_on
 
 pub returns-clause-not_sooner : goal.returns-clause-not_sooner
 returns-clause-not_sooner c = fault-not_sooner
+
+pub returns-clause-short_end : goal.returns-clause-short_end
+returns-clause-short_end c = fault-short_end
