@@ -19,7 +19,7 @@ use Rattle.normal_form.specs.Grammar.{SpellsSpan, SpellsCommand, AreFair}
 
 -- ---- steps
 
-some_step : {A B : Type 0} (r : Option A) (f : A → Option B) (y : B) → (r >>= f) ≡ Some y → (x : A) × (r ≡ Some x) × (f x ≡ Some y)
+pub some_step : {A B : Type 0} (r : Option A) (f : A → Option B) (y : B) → (r >>= f) ≡ Some y → (x : A) × (r ≡ Some x) × (f x ≡ Some y)
 some_step (Some x) f y e = (x, refl, e)
 some_step None f y e = absurd cc
 
@@ -33,7 +33,7 @@ pass false d x q e = (refl, e)
 
 -- ---- the letter
 
-action-takes : (bytes : List ℕ) (x : Action × List ℕ) → action_at bytes ≡ Some x → bytes ≡ letter x.0 ∷ x.1
+pub action-takes : (bytes : List ℕ) (x : Action × List ℕ) → action_at bytes ≡ Some x → bytes ≡ letter x.0 ∷ x.1
 unfolding action_at
 action-takes [] x e = absurd cc
 action-takes (b ∷ bytes) x e =
@@ -51,18 +51,18 @@ action-takes (b ∷ bytes) x e =
     is : (c n : ℕ) (y : Action × List ℕ) → c ≡ n → Some y ≡ Some x → n ∷ y.1 ≡ letter y.0 ∷ y.1 → c ∷ y.1 ≡ letter x.0 ∷ x.1
     is c n y same h l = let found : y ≡ x = some_is y x (Some y) refl h in ap (λ k. k ∷ y.1) same ∙ l ∙ ap (λ (z : Action × List ℕ). letter z.0 ∷ z.1) found
 
-action-again : (action : Action) (rest : List ℕ) → action_at (letter action ∷ rest) ≡ Some (action, rest)
+pub action-again : (action : Action) (rest : List ℕ) → action_at (letter action ∷ rest) ≡ Some (action, rest)
 unfolding action_at
 action-again Add rest = refl
 action-again Change rest = refl
 action-again Delete rest = refl
 
-stops-letter : (action : Action) (rest : List ℕ) → StopsRange (letter action ∷ rest)
+pub stops-letter : (action : Action) (rest : List ℕ) → StopsRange (letter action ∷ rest)
 stops-letter Add rest = record { digit = refl; comma = λ n. refl }
 stops-letter Change rest = record { digit = refl; comma = λ n. refl }
 stops-letter Delete rest = record { digit = refl; comma = λ n. refl }
 
-stops-end : (rest : List ℕ) → is_line_end rest ≡ true → StopsRange rest
+pub stops-end : (rest : List ℕ) → is_line_end rest ≡ true → StopsRange rest
 stops-end [] e = stops-nil
 stops-end (b ∷ []) e = let ten : b ≡ 10 = eqb-true b 10 e in subst (λ k. StopsRange (k ∷ [])) (sym ten) (record { digit = refl; comma = λ n. refl })
 stops-end (b ∷ c ∷ rest) e = absurd cc
@@ -87,17 +87,17 @@ record AreSmall (p : Parts) : Type 0 where
   new_first : p.new.first < 2 ^ 32
   new_last : p.new.last < 2 ^ 32
 
-abbrev made : NumberRange → Action → NumberRange → Parts
+abbrev pub made : NumberRange → Action → NumberRange → Parts
 made old action new = record { old = old; action = action; new = new }
 
-whole-ok : (old : NumberRange) (action : Action) (new : NumberRange) (rest : List ℕ) (p : Parts) → whole old action new rest ≡ Some p → (is_line_end rest ≡ true) × (made old action new ≡ p)
+pub whole-ok : (old : NumberRange) (action : Action) (new : NumberRange) (rest : List ℕ) (p : Parts) → whole old action new rest ≡ Some p → (is_line_end rest ≡ true) × (made old action new ≡ p)
 whole-ok old action new rest p e =
     elim (chosen (is_line_end rest) (Some (made old action new)) None (Some p) e) [
       | inl ends ↦ (ends.0, some_is (made old action new) p (Some (made old action new)) refl ends.1)
       | inr not_there ↦ absurd cc
     ]
 
-join_parts : (line old a : List ℕ) (n : ℕ) (b new rest : List ℕ) → line ≡ old ++ a → a ≡ n ∷ b → b ≡ new ++ rest → line ≡ old ++ n ∷ (new ++ rest)
+pub join_parts : (line old a : List ℕ) (n : ℕ) (b new rest : List ℕ) → line ≡ old ++ a → a ≡ n ∷ b → b ≡ new ++ rest → line ≡ old ++ n ∷ (new ++ rest)
 join_parts line old a n b new rest e1 e2 e3 = rw (e1, e2, e3) refl
 
 parts-takes : (line : List ℕ) (p : Parts) → parts_at line ≡ Some p → AreSmall p → TakesParts line p

@@ -10,8 +10,8 @@ use Rattle.hunk_core.specs.declared.Side.TheVariants.{Forward, Reversed}
 use Rattle.hunk_core.specs.PlainHunk.{Marked, PlainHunk}
 use Rattle.hunk_core.specs.LineTests.{after, unended, is_backslash, after_backslash}
 use Rattle.hunk_core.specs.Reading.{◌>>=◌, Fault, fault, Ahead, ahead}
-use Rattle.hunk_core.proofs.ReadSteps.{chosen}
-use Rattle.normal_form.specs.FirstFault.{AgreeTo}
+use Rattle.hunk_core.proofs.ReadSteps.{bind_ok, chosen, ok_is}
+use Rattle.normal_form.specs.FirstFault.{AgreeTo, CanGoOn}
 use Rattle.diff_command.specs.declared.Action.{Action}
 use Rattle.diff_command.specs.declared.Action.TheVariants.{Add, Change, Delete}
 use Rattle.normal_form.specs.declared.command.Command.{Command}
@@ -22,24 +22,24 @@ use Rattle.normal_form.specs.Hunks.{at_line, body_at, change, settled, first_hun
 use Rattle.normal_form.specs.Grammar.{IsPiece}
 use Rattle.normal_form.proofs.Steady.{failed, bind_err, agree_head, agree_less, Steady, steady-then, steady-value, one_line, with_rest, steady-same, FailsHere, steady-line, peek_by, steady-peek}
 use Rattle.normal_form.proofs.HunkLoops.{hunks_step}
-use Rattle.normal_form.proofs.Pieces.{hunk-shrinks, reading_again}
+use Rattle.normal_form.proofs.Pieces.{hunk-shrinks, no_hunks, reading_again}
 
 -- ---- lines
 
 here-is : (number : ℕ) (kind : BadKind) (e : Fault) → kind ≢ kinds.ShortEnd → fault number kind ≡ e → (e.line ≡ number) × (e.kind ≢ kinds.ShortEnd)
 here-is number kind e ne is = (sym (ap (λ (x : Fault). x.line) is), λ short. ne (ap (λ (x : Fault). x.kind) is ∙ short))
 
-err_fault : {A : Type 0} (d e : Fault) → failed {A = A} d ≡ failed e → d ≡ e
+pub err_fault : {A : Type 0} (d e : Fault) → failed {A = A} d ≡ failed e → d ≡ e
 err_fault d e h = cc
 
-unmarked-kind : (line : List ℕ) → unmarked line ≢ kinds.ShortEnd
+pub unmarked-kind : (line : List ℕ) → unmarked line ≢ kinds.ShortEnd
 unmarked-kind line = by (is_backslash line)
   where
     by : (b : Bool) → cond b kinds.MisplacedBackslash kinds.Mark ≢ kinds.ShortEnd
     by true = λ h. cc
     by false = λ h. cc
 
-marked-here : (side : Side) → FailsHere (λ number line. marked_at number side line)
+pub marked-here : (side : Side) → FailsHere (λ number line. marked_at number side line)
 marked-here side number line e h = by (after (marks side) line) h
   where
     by : (o : Option (List ℕ)) → must_be_marked number side line o ≡ Err e → (e.line ≡ number) × (e.kind ≢ kinds.ShortEnd)
@@ -74,11 +74,11 @@ line-same side left number (line ∷ rest) = assoc (marked_at number side line) 
     by (Ok m) = ended-same left m (ahead (number + 1) rest) (after_backslash rest)
     by (Err d) = refl
 
-steady-marked : (side : Side) (left : ℕ) → Steady (line_at side left)
+pub steady-marked : (side : Side) (left : ℕ) → Steady (line_at side left)
 steady-marked side left = steady-same (λ p. one_line (λ n l. marked_at n side l) p.number p.rest >>= λ x. ended left x.0 x.1) (line_at side left) (λ p. line-same side left p.number p.rest)
     (steady-then (λ p. one_line (λ n l. marked_at n side l) p.number p.rest) (ended left) (steady-line (λ n l. marked_at n side l) (marked-here side)) (λ m. steady-peek m (cond (eqb left 0) (Some (unended m)) None)))
 
-steady-stretch : (side : Side) (left : ℕ) (before : List Marked) → Steady (stretch_at side left before)
+pub steady-stretch : (side : Side) (left : ℕ) (before : List Marked) → Steady (stretch_at side left before)
 unfolding stretch_at
 steady-stretch side zero before = steady-value before
 steady-stretch side (suc left) before = steady-then (line_at side left) (λ m. stretch_at side left (before ++ m ∷ [])) (steady-marked side left) (λ m. steady-stretch side left (before ++ m ∷ []))
@@ -113,14 +113,14 @@ unfolding first_divider
 divider-same number [] = refl
 divider-same number (line ∷ rest) = divided-by (is_divider line) number line rest
 
-steady-divider : (action : Action) → Steady (divider_at action)
+pub steady-divider : (action : Action) → Steady (divider_at action)
 steady-divider Add = steady-value tt
 steady-divider Change = steady-same (λ p. one_line dividing p.number p.rest) (divider_at Change) (λ p. divider-same p.number p.rest) (steady-line dividing dividing-here)
 steady-divider Delete = steady-value tt
 
 -- ---- a hunk
 
-steady-body : (c : Command) → Steady (body_at c)
+pub steady-body : (c : Command) → Steady (body_at c)
 unfolding body_at
 steady-body c = steady-then (stretch_at Forward c.old_count []) (λ old q. divider_at c.action q >>= λ middle. stretch_at Reversed c.new_count old middle.1) (steady-stretch Forward c.old_count [])
     (λ old. steady-then (divider_at c.action) (λ none. stretch_at Reversed c.new_count old) (steady-divider c.action) (λ none. steady-stretch Reversed c.new_count old))
@@ -147,7 +147,7 @@ opening-kind least line kind h = by (parts_at line) h
     by None h = is kinds.Range (Err kinds.Range) refl (λ z. cc) h
     by (Some p) h = bad p (is_bad_range p.old (takes_lines p.action Forward) || is_bad_range p.new (takes_lines p.action Reversed)) h
 
-opening-here : (least : ℕ) → FailsHere (λ number line. at_line number (opening least line))
+pub opening-here : (least : ℕ) → FailsHere (λ number line. at_line number (opening least line))
 opening-here least number line e h = by (opening least line) refl h
   where
     by : (o : Result Command BadKind) → opening least line ≡ o → at_line number o ≡ Err e → (e.line ≡ number) × (e.kind ≢ kinds.ShortEnd)
@@ -164,7 +164,7 @@ settled-same h q (Some more) = refl
 steady-settled : (h : PlainHunk) → Steady (settled h)
 steady-settled h = steady-same (λ q. peek_by h None q (after_backslash q.rest)) (settled h) (λ q. settled-same h q (after_backslash q.rest)) (steady-peek h None)
 
-abbrev with_body : Command → Ahead → Result (PlainHunk × Ahead) Fault
+abbrev pub with_body : Command → Ahead → Result (PlainHunk × Ahead) Fault
 with_body c q = body_at c q >>= λ body. settled (change c body.0) body.1
 
 hunk-same : (least number : ℕ) (lines : List (List ℕ)) → (one_line (λ n l. at_line n (opening least l)) number lines >>= λ x. with_body x.0 x.1) ≡ first_hunk least number lines
@@ -172,7 +172,7 @@ unfolding first_hunk
 hunk-same least number [] = refl
 hunk-same least number (line ∷ rest) = assoc (at_line number (opening least line)) (ahead (number + 1) rest) with_body
 
-steady-hunk : (least : ℕ) → Steady (hunk_at least)
+pub steady-hunk : (least : ℕ) → Steady (hunk_at least)
 steady-hunk least = steady-same (λ p. one_line (λ n l. at_line n (opening least l)) p.number p.rest >>= λ x. with_body x.0 x.1) (hunk_at least) (λ p. hunk-same least p.number p.rest)
     (steady-then (λ p. one_line (λ n l. at_line n (opening least l)) p.number p.rest) with_body (steady-line (λ n l. at_line n (opening least l)) (opening-here least))
     (λ c. steady-then (body_at c) (λ body. settled (change c body)) (steady-body c) (λ body. steady-settled (change c body))))
@@ -201,13 +201,13 @@ begins_some : (rest : List (List ℕ)) → begins_hunk rest ≡ true → 0 < len
 begins_some [] e = absurd cc
 begins_some (line ∷ rest) e = omega arith
 
-abbrev more_hunks : ℕ → PlainHunk × Ahead → Result (List PlainHunk × Ahead) Fault
+abbrev pub more_hunks : ℕ → PlainHunk × Ahead → Result (List PlainHunk × Ahead) Fault
 more_hunks most first = hunks_at most first.0.old_start first.1 >>= λ others. Ok (first.0 ∷ others.0, others.1)
 
-abbrev put_first : PlainHunk → List PlainHunk × Ahead → Result (List PlainHunk × Ahead) Fault
+abbrev pub put_first : PlainHunk → List PlainHunk × Ahead → Result (List PlainHunk × Ahead) Fault
 put_first h others = Ok (h ∷ others.0, others.1)
 
-add_err : (h : PlainHunk) (r : Result (List PlainHunk × Ahead) Fault) (e : Fault) → (r >>= put_first h) ≡ Err e → r ≡ Err e
+pub add_err : (h : PlainHunk) (r : Result (List PlainHunk × Ahead) Fault) (e : Fault) → (r >>= put_first h) ≡ Err e → r ≡ Err e
 add_err h (Ok x) e f = absurd (let bad : put_first h x ≡ failed {A = List PlainHunk × Ahead} e = f in cc)
 add_err h (Err d) e f = ap (λ x. Err x) (err_fault {A = List PlainHunk × Ahead} d e f)
 
@@ -277,7 +277,7 @@ agree_front : (last number : ℕ) (front behind others : List (List ℕ)) → la
 agree_front last number [] behind others past = agree_past last number behind others (omega (arith, past))
 agree_front last number (line ∷ front) behind others past = ((λ le. refl), agree_front last (number + 1) front behind others (omega (arith, past)))
 
-short_or : (k : BadKind) → (k ≡ kinds.ShortEnd) ⊎ (k ≢ kinds.ShortEnd)
+pub short_or : (k : BadKind) → (k ≡ kinds.ShortEnd) ⊎ (k ≢ kinds.ShortEnd)
 short_or kinds.Range = inr (λ h. cc)
 short_or kinds.Mark = inr (λ h. cc)
 short_or kinds.Count = inr (λ h. cc)
@@ -297,6 +297,58 @@ fault-late number front behind others e hs next rest piece h =
       | inl early ↦ elim (short_or e.kind) [
         | inl short ↦ omega (arith, fault-short number (front ++ behind) e h short, length-append front behind)
         | inr long ↦ absurd (fault-unspelled number (front ++ behind) (front ++ others) e hs next rest h long (agree_front (e.line + 1) number front behind others early) piece)
+      ]
+      | inr late ↦ late
+    ]
+
+-- ---- lines that hunks are whole with
+
+nothing_begins : (most least : ℕ) (p : Ahead) (x : List PlainHunk × Ahead) → begins_hunk p.rest ≡ false → hunks_at most least p ≡ Ok x → x.1.rest ≡ p.rest
+nothing_begins most least p x none h = ap (λ (y : List PlainHunk × Ahead). y.1.rest) (ok_is x ([], p) (sym h ∙ no_hunks most least p none))
+
+some_agree : (last number : ℕ) (lines : List (List ℕ)) → 0 < length lines → number ≤ last → AgreeTo last number lines [] → ⊥
+some_agree last number [] some le agree = omega (arith, some)
+some_agree last number (line ∷ lines) some le agree = omega (arith, le, agree)
+
+-- over lines that are the same up to the fault, reading doesn't come to an end of all lines
+hunks_stop : (most most2 least : ℕ) (p : Ahead) (others : List (List ℕ)) (e : Fault) (x : List PlainHunk × Ahead) → hunks_at most least p ≡ Err e → e.kind ≢ kinds.ShortEnd → AgreeTo e.line p.number p.rest others → length others ≤ most2 → hunks_at most2 least (ahead p.number others) ≡ Ok x → x.1.rest ≡ [] → ⊥
+unfolding hunks_at
+hunks_stop zero most2 least p others e x h long agree enough read none = absurd cc
+hunks_stop (suc most) most2 least p others e x h long agree enough read none =
+    let low = hunks_low (suc most) least p e h in
+    elim (chosen (begins_hunk p.rest) _ _ (Err e) h) [
+      | inl some ↦ elim (chosen (begins_hunk others) true false _ refl) [
+        | inl begins ↦ (
+            let k : most2 ≡ suc (most2 - 1) = omega (arith, enough, begins_some others begins.0) in
+            let on : (hunk_at least (ahead p.number others) >>= more_hunks (most2 - 1)) ≡ Ok x = sym (hunks_step (most2 - 1) least (ahead p.number others) begins.0) ∙ subst (λ n. hunks_at n least (ahead p.number others) ≡ Ok x) k read in
+            elim (bind_err (hunk_at least p) (more_hunks most) e some.1) [
+              | inl bad ↦ (let same : hunk_at least (ahead p.number others) ≡ Err e = (steady-hunk least).stays p others e bad long agree in let a = bind_ok (hunk_at least (ahead p.number others)) (more_hunks (most2 - 1)) x on in cc)
+              | inr good ↦ (
+                  let y = good.0 in
+                  let rest : hunks_at most y.0.old_start y.1 ≡ Err e = add_err y.0 (hunks_at most y.0.old_start y.1) e good.2 in
+                  let there = hunks_low most y.0.old_start y.1 e rest in
+                  let go = (steady-hunk least).goes e.line p others y good.1 there.0 agree in
+                  let fewer : length go.rest ≤ most2 - 1 = omega (arith, enough, hunk-shrinks least p.number others (y.0, ahead y.1.number go.rest) go.read) in
+                  let a = bind_ok (hunk_at least (ahead p.number others)) (more_hunks (most2 - 1)) x on in
+                  let first : a.0 ≡ (y.0, ahead y.1.number go.rest) = ok_is _ _ (sym a.1 ∙ go.read) in
+                  let second : more_hunks (most2 - 1) (y.0, ahead y.1.number go.rest) ≡ Ok x = subst (λ z. more_hunks (most2 - 1) z ≡ Ok x) first a.2 in
+                  let b = bind_ok (hunks_at (most2 - 1) y.0.old_start (ahead y.1.number go.rest)) (put_first y.0) x second in
+                  let end : b.0.1.rest ≡ [] = ap (λ (z : List PlainHunk × Ahead). z.1.rest) (ok_is _ _ b.2) ∙ none in
+                  hunks_stop most (most2 - 1) y.0.old_start y.1 go.rest e b.0 rest long go.agree fewer b.1 end)
+            ])
+        | inr quiet ↦ (
+            let left : others ≡ [] = sym (nothing_begins most2 least (ahead p.number others) x quiet.0 read) ∙ none in
+            some_agree e.line p.number p.rest (begins_some p.rest some.0) low.0 (subst (AgreeTo e.line p.number p.rest) left agree))
+      ]
+      | inr other ↦ absurd (let bad : Ok ([], p) ≡ failed {A = List PlainHunk × Ahead} e = other.1 in cc)
+    ]
+
+pub fault-not_sooner : (number : ℕ) (front behind : List (List ℕ)) (e : Fault) → CanGoOn number front → reading number (front ++ behind) ≡ Err e → number + length front ≤ e.line
+fault-not_sooner number front behind e g h =
+    elim (cases_lt e.line (number + length front)) [
+      | inl early ↦ elim (short_or e.kind) [
+        | inl short ↦ omega (arith, fault-short number (front ++ behind) e h short, length-append front behind)
+        | inr long ↦ absurd (hunks_stop (length (front ++ behind)) (length (front ++ g.others)) 0 (ahead number (front ++ behind)) (front ++ g.others) e (g.hs, ahead g.next []) h long (agree_front e.line number front behind g.others early) (omega arith) (reading_again number (front ++ g.others) g.hs g.next [] g.whole) refl)
       ]
       | inr late ↦ late
     ]

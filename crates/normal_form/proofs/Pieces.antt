@@ -48,7 +48,7 @@ pub record TakesBody (action : Action) (old new : ℕ) (p : Ahead) (x : List Mar
   pub new_count : length news ≡ new
   pub spelled : SpellsBody action own olds news
 
-empty-piece : (side : Side) (piece ls : List (List ℕ)) → ls ≡ [] → SpellsStretch side piece ls → piece ≡ []
+pub empty-piece : (side : Side) (piece ls : List (List ℕ)) → ls ≡ [] → SpellsStretch side piece ls → piece ≡ []
 empty-piece side piece ls e s = subst (SpellsStretch side piece) e s
 
 body_by : (action : Action) (old new : ℕ) (p : Ahead) (y : List Marked × Ahead) (z : Unit {0} × Ahead) (x : List Marked × Ahead) → CountsNone action old new → TakesStretch Forward old [] p y → divider_at action y.1 ≡ Ok z → TakesStretch Reversed new y.0 z.1 x → TakesBody action old new p x
@@ -107,7 +107,7 @@ body_takes c p x none h =
     let d = bind_ok (divider_at c.action a.0.1) (λ middle. stretch_at Reversed c.new_count a.0.0 middle.1) x a.2 in
     body_by c.action c.old_count c.new_count p a.0 d.0 x none (stretch_takes Forward c.old_count [] p a.0 a.1) d.1 (stretch_takes Reversed c.new_count a.0.0 d.0.1 x d.2)
 
-no-lines : (side : Side) (n : ℕ) (before : List Marked) (p : Ahead) → n ≡ 0 → stretch_at side n before p ≡ Ok (before, p)
+pub no-lines : (side : Side) (n : ℕ) (before : List Marked) (p : Ahead) → n ≡ 0 → stretch_at side n before p ≡ Ok (before, p)
 unfolding stretch_at
 no-lines side n before p e = rw e refl
 
@@ -169,7 +169,7 @@ body-first Add piece tail olds news old new a m s o n = stretch-first Reversed p
 body-first Change piece tail olds news old new a m s o n = rw (s.3, append_assoc s.0 (s.1 ∷ s.2) tail) (stretch-first Forward s.0 ((s.1 ∷ s.2) ++ tail) olds s.4 (some-lines old a (length olds) o))
 body-first Delete piece tail olds news old new a m s o n = stretch-first Forward piece tail olds s.0 (some-lines old a (length olds) o)
 
-counts-none : (action : Action) (old new : List ℕ) (a b m n : ℕ) → SpellsSpan old (takes_lines action Forward) a b → SpellsSpan new (takes_lines action Reversed) m n → CountsNone action b n
+pub counts-none : (action : Action) (old new : List ℕ) (a b m n : ℕ) → SpellsSpan old (takes_lines action Forward) a b → SpellsSpan new (takes_lines action Reversed) m n → CountsNone action b n
 counts-none Add old new a b m n s t = s.1
 counts-none Change old new a b m n s t = tt
 counts-none Delete old new a b m n s t = t.1
@@ -201,14 +201,14 @@ is_none : (o : Option (List (List ℕ))) → is_some o ≡ false → o ≡ None
 is_none None e = refl
 is_none (Some x) e = absurd cc
 
-at_line-ok : (number : ℕ) (o : Result Command BadKind) (c : Command) → at_line number o ≡ Ok c → o ≡ Ok c
+pub at_line-ok : (number : ℕ) (o : Result Command BadKind) (c : Command) → at_line number o ≡ Ok c → o ≡ Ok c
 at_line-ok number (Ok q) c e = cc
 at_line-ok number (Err kind) c e = absurd cc
 
-abbrev made : Action → ℕ → ℕ → ℕ → ℕ → Command
+abbrev pub made : Action → ℕ → ℕ → ℕ → ℕ → Command
 made action a b m n = record { action = action; old_start = a; old_count = b; new_start = m; new_count = n }
 
-is_counted : (action : Action) (a b m n e f : ℕ) → e ≡ b → f ≡ n → made action a b m n ≡ made action a e m f
+pub is_counted : (action : Action) (a b m n e f : ℕ) → e ≡ b → f ≡ n → made action a b m n ≡ made action a e m f
 is_counted action a b m n e f h k = rw (h, k) refl
 
 pub hunk_takes : (least number : ℕ) (rest : List (List ℕ)) (x : PlainHunk × Ahead) → first_hunk least number rest ≡ Ok x → TakesHunk least (ahead number rest) x
@@ -314,7 +314,7 @@ hunks_quiet : (hs : List PlainHunk) (least : ℕ) (own rest : List (List ℕ)) �
 hunks_quiet [] least own rest s none = rw s none
 hunks_quiet (h ∷ hs) least own rest s none = rw (s.2, append_assoc s.0 s.1 rest) (opening_quiet (s.0 ++ (s.1 ++ rest)) (hunk_opens least s.0 (s.1 ++ rest) h s.3))
 
-no_hunks : (most least : ℕ) (p : Ahead) → begins_hunk p.rest ≡ false → hunks_at most least p ≡ Ok ([], p)
+pub no_hunks : (most least : ℕ) (p : Ahead) → begins_hunk p.rest ≡ false → hunks_at most least p ≡ Ok ([], p)
 unfolding hunks_at
 no_hunks zero least p none = refl
 no_hunks (suc most) least p none = rw none refl

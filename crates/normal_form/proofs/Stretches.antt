@@ -14,7 +14,7 @@ use Rattle.normal_form.specs.Grammar.{on_side, SpellsLine, SpellsStretch}
 
 -- ---- one line
 
-marked-ok : (number : ℕ) (side : Side) (line : List ℕ) (o : Option (List ℕ)) (m : Marked) → must_be_marked number side line o ≡ Ok m → (bytes : List ℕ) × (o ≡ Some bytes) × (marked (own_mark side) bytes ≡ m)
+pub marked-ok : (number : ℕ) (side : Side) (line : List ℕ) (o : Option (List ℕ)) (m : Marked) → must_be_marked number side line o ≡ Ok m → (bytes : List ℕ) × (o ≡ Some bytes) × (marked (own_mark side) bytes ≡ m)
 marked-ok number side line None m e = absurd cc
 marked-ok number side line (Some bytes) m e = (bytes, refl, cc)
 

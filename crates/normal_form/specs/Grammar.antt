@@ -1,5 +1,5 @@
 -- The grammar of the normal form, apart from any reading: which lines spell which hunks.
-use Rattle.std.specs.Prelude.{◌≡◌, ℕ, ◌+◌, ◌-◌, ◌≤◌, Bool, true, false, List, [], ◌∷◌, ◌++◌, length, map, take, None}
+use Rattle.std.specs.Prelude.{◌≡◌, ◌⊎◌, ℕ, ◌+◌, ◌-◌, ◌≤◌, Bool, true, false, List, [], ◌∷◌, ◌++◌, length, map, take, None}
 use Rattle.hunk_core.specs.declared.Side.{Side}
 use Rattle.hunk_core.specs.declared.Side.TheVariants.{Forward, Reversed}
 use Rattle.hunk_core.specs.PlainHunk.{Marked, PlainHunk}
@@ -82,3 +82,18 @@ pub record IsPiece (number : ℕ) (lines : List (List ℕ)) (hs : List PlainHunk
   pub spelled : SpellsHunks 0 own hs
   pub ends : EndsPiece rest
   pub counted : next ≡ number + length own
+
+-- a number, or two with a comma between them
+abbrev pub IsRange : List ℕ → Type 0
+IsRange text = (single : Bool) × (first : ℕ) × (last : ℕ) × SpellsRange text single first last
+
+-- a range, one of 'a', 'c' and 'd', a range, and nothing more but a line feed
+pub record IsCommand (line : List ℕ) : Type 0 where
+  pub old : List ℕ
+  pub action : Action
+  pub new : List ℕ
+  pub rest : List ℕ
+  pub parts : line ≡ old ++ letter action ∷ (new ++ rest)
+  pub old_range : IsRange old
+  pub new_range : IsRange new
+  pub ends : (rest ≡ []) ⊎ (rest ≡ 10 ∷ [])

@@ -1,16 +1,18 @@
 //! Hunks that follow each other.
 
-ghost use Rattle.std.specs.Prelude.{◌≡◌, ◌≢◌, ◌↔◌, ℕ, List, [], ◌∷◌, ◌++◌, Err, true, None, ◌+◌, ◌<◌, ◌≤◌, ◌^◌, length, vec_len, drop, slice_range, IfOk, All};
+ghost use Rattle.std.specs.Prelude.{◌≡◌, ◌≢◌, ◌↔◌, ◌⊎◌, ℕ, List, [], ◌∷◌, ◌++◌, Err, true, None, ◌+◌, ◌<◌, ◌≤◌, ◌^◌, ◌-◌, length, vec_len, take, drop, slice_range, IfOk, All};
 ghost use Rattle.line_list.specs.Lines.{lines};
 ghost use Rattle.hunk_core.specs.PlainHunk.{PlainHunk, hunk_of, hunks_of, body_of};
 ghost use Rattle.hunk_core.specs.Reading.{Fault, Gives, IsPlace, ahead_of};
 ghost use Rattle.hunk_core.specs.Turned.{IsLawful, LiesIn};
 ghost use Rattle.hunk_core.specs.Rules.{first_broken};
 ghost use Rattle.hunk_core.specs.Pieces.{read_of, these, AreInTurn, SpellInTurn, AreSound};
-ghost use Rattle.normal_form.specs.Commands.{Fits};
-ghost use Rattle.normal_form.specs.FirstFault.{AgreeTo};
-ghost use Rattle.normal_form.specs.Grammar.{IsPiece, SpellsHunk};
-ghost use Rattle.normal_form.specs.Hunks.{body_at, hunk_at, begins_marked, begins_hunk, reading};
+ghost use Rattle.hunk_core.specs.declared.Side.{Side};
+ghost use Rattle.normal_form.specs.Commands.{is_command};
+ghost use Rattle.normal_form.specs.Stretches.{marks, is_divider};
+ghost use Rattle.normal_form.specs.FirstFault.{AgreeTo, CanGoOn};
+ghost use Rattle.normal_form.specs.Grammar.{IsCommand, IsPiece, SpellsHunk};
+ghost use Rattle.normal_form.specs.Hunks.{body_at, hunk_at, is_marked, begins_marked, begins_hunk, reading};
 
 use crate::command::{Command, is_command_line, opening_of};
 use crate::stretch::{after_divider, has_mark, read_stretch};
@@ -194,4 +196,20 @@ pub fn first_faults()
     // No fault comes before the last of lines that hunks begin with.
     ensures late { (number : ℕ) (front behind others : List (List ℕ)) (e : Fault) (hs : List PlainHunk) (next : ℕ) (rest : List (List ℕ))
         → IsPiece number (front ++ others) hs next rest → reading number (front ++ behind) ≡ Err e → number + length front ≤ e.line + 1 }
+    // The lines in front of a fault can go on to a piece, so no earlier line is at fault.
+    ensures goes_on { (number : ℕ) (lines : List (List ℕ)) (e : Fault) → reading number lines ≡ Err e → CanGoOn number (take (e.line - number) lines) }
+    // No fault comes in lines that can go on to a piece.
+    ensures not_sooner { (number : ℕ) (front behind : List (List ℕ)) (e : Fault) → CanGoOn number front → reading number (front ++ behind) ≡ Err e → number + length front ≤ e.line }
+    // A text ends too early exactly where all its lines can go on to a piece.
+    ensures short_end { (number : ℕ) (lines : List (List ℕ)) (e : Fault) → reading number lines ≡ Err e → e.kind ≡ BadKind.ShortEnd ↔ CanGoOn number lines }
+{}
+
+/// The tests of the grammar, in the words of the diffutils manual.
+pub fn grammar_in_words()
+    // A number, perhaps a comma and a number; one of 'a', 'c' and 'd'; a number, perhaps a comma and a number; nothing more.
+    ensures command { (line : List ℕ) → is_command line ≡ true ↔ IsCommand line }
+    // '< ' or '> '.
+    ensures marked { (line : List ℕ) → is_marked line ≡ true ↔ ((side : Side) × (bytes : List ℕ) × (line ≡ marks side ++ bytes)) }
+    // '---', and nothing more.
+    ensures divider { (line : List ℕ) → is_divider line ≡ true ↔ ((line ≡ 45 ∷ 45 ∷ 45 ∷ []) ⊎ (line ≡ 45 ∷ 45 ∷ 45 ∷ 10 ∷ [])) }
 {}

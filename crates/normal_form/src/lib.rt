@@ -6,7 +6,7 @@ mod hunks;
 mod stretch;
 mod writing;
 
-pub use hunks::{at_opening, first_faults, read_hunks};
+pub use hunks::{at_opening, first_faults, grammar_in_words, read_hunks};
 pub use writing::{is_in_order, put_hunk};
 
 #[cfg(test)]

@@ -121,3 +121,37 @@ fn what_diff_writes_is_read_and_written_again(rt: HostRuntime) {
     assert!(rt; next > 1);
     assert!(rt; bytes.as_slice() == UNDONE);
 }
+
+/// Whether two hunks that begin at `at`, on line 3, stand in these spans, and this place and this line
+/// are behind them.
+fn are_placed(
+    alloc: Global,
+    text: &[u8],
+    at: usize,
+    first: (u32, u32),
+    second: (u32, u32),
+    behind: (usize, u64),
+) -> bool {
+    if text.len() > 4096 || at > text.len() || !at_opening(text, at) {
+        return false;
+    }
+    let Ok(found) = read_hunks(alloc, text, at, 3) else {
+        return false;
+    };
+    if found.spans.len() != 2 || found.end != behind.0 || found.next != behind.1 {
+        return false;
+    }
+    let spans = (found.spans[0], found.spans[1]);
+    spans.0.start == first.0
+        && spans.0.end == first.1
+        && spans.1.start == second.0
+        && spans.1.end == second.1
+}
+
+// Two hunks behind two lines, or 19 bytes, and a line behind them.
+const IN_PATCH: &[u8] = b"Index: a\nPrereq: 1\n2c2,3\n< b\n---\n> B\n> C\n6a8\n> x\nOnly in a: z\n";
+
+#[test]
+fn hunks_behind_other_lines_are_found_where_they_stand(rt: HostRuntime) {
+    assert!(rt; are_placed(rt.alloc(), IN_PATCH, 19, (19, 41), (41, 49), (49, 10)));
+}

@@ -64,13 +64,13 @@ pub shows-no_backslash : (line : List ℕ) (m : Marked) → Shows line m → is_
 shows-no_backslash line m (inl e) = rw e (no_backslash_byte m.mark m.line)
 shows-no_backslash line m (inr h) = empty_no_backslash line h.0
 
-marked-ok : (number : ℕ) (line : List ℕ) (o : Option Marked) (m : Marked) → must_be_marked number line o ≡ Ok m → o ≡ Some m
+pub marked-ok : (number : ℕ) (line : List ℕ) (o : Option Marked) (m : Marked) → must_be_marked number line o ≡ Ok m → o ≡ Some m
 marked-ok number line None m e = absurd cc
 marked-ok number line (Some x) m e = cc
 
 -- ---- what is left
 
-abbrev made : ℕ → ℕ → Left
+abbrev pub made : ℕ → ℕ → Left
 made o n = record { old = o; new = n }
 
 or_false : (x y : Bool) → (x || y) ≡ false → (x ≡ false) × (y ≡ false)
@@ -80,7 +80,7 @@ or_false false y e = (refl, e)
 not_zero : (a : ℕ) → eqb a 0 ≡ false → 0 < a
 not_zero a e = let ne = eqb-false a 0 e in omega arith
 
-is_left : (a b c d : ℕ) → a ≡ c → b ≡ d → made a b ≡ made c d
+pub is_left : (a b c d : ℕ) → a ≡ c → b ≡ d → made a b ≡ made c d
 is_left a b c d e f = rw (e, f) refl
 
 pub room-back : (number : ℕ) (mark : Mark) (before room : Left) → room_at number mark before ≡ Ok room → before ≡ one_more mark room
@@ -169,7 +169,7 @@ body_more before p x y line body =
       spelled = (line.own, body.own, refl, line.spelled y.0 (sym body.counts), body.spelled);
     }
 
-fewer : (mark : Mark) (before room : Left) (most : ℕ) → before ≡ one_more mark room → before.old + before.new ≤ suc most → room.old + room.new ≤ most
+pub fewer : (mark : Mark) (before room : Left) (most : ℕ) → before ≡ one_more mark room → before.old + before.new ≤ suc most → room.old + room.new ≤ most
 fewer Keep before room most e le = omega (arith, ap (λ (r : Left). r.old) e, ap (λ (r : Left). r.new) e)
 fewer Drop before room most e le = omega (arith, ap (λ (r : Left). r.old) e, ap (λ (r : Left). r.new) e)
 fewer Add before room most e le = omega (arith, ap (λ (r : Left). r.old) e, ap (λ (r : Left). r.new) e)

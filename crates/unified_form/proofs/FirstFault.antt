@@ -25,10 +25,10 @@ use Rattle.unified_form.proofs.Steps.{hunk-shrinks}
 
 -- ---- steps that fail
 
-abbrev failed : {A : Type 0} → Fault → Result A Fault
+abbrev pub failed : {A : Type 0} → Fault → Result A Fault
 failed e = Err e
 
-err_is : {A : Type 0} (d e : Fault) → failed {A = A} d ≡ failed e → d ≡ e
+pub err_is : {A : Type 0} (d e : Fault) → failed {A = A} d ≡ failed e → d ≡ e
 err_is d e h = cc
 
 pub bind_err : {A B : Type 0} (r : Result A Fault) (f : A → Result B Fault) (e : Fault) → (r >>= f) ≡ Err e → (r ≡ Err e) ⊎ ((x : A) × (r ≡ Ok x) × (f x ≡ Err e))
@@ -67,14 +67,14 @@ backslash_by : (b : Bool) (line : List ℕ) (rest more : List (List ℕ)) → co
 backslash_by true line rest more h = let same : rest ≡ more = cc in rw same refl
 backslash_by false line rest more h = absurd cc
 
-backslash_one : (rest more : List (List ℕ)) → after_backslash rest ≡ Some more → length rest ≡ suc (length more)
+pub backslash_one : (rest more : List (List ℕ)) → after_backslash rest ≡ Some more → length rest ≡ suc (length more)
 backslash_one [] more h = absurd cc
 backslash_one (line ∷ rest) more h = backslash_by (is_backslash line) line rest more h
 
 -- ---- a line
 
 -- the numbers of faults, and of what stands behind
-ended_low : (number : ℕ) (m : Marked) (room : Left) (rest : List (List ℕ)) (o : Option (List (List ℕ))) (e : Fault) → ended_by number m room rest o ≡ Err e → (e ≡ fault (number + 1) kinds.MisplacedBackslash) × (is_last_line m.mark room ≡ false) × (more : List (List ℕ)) × (o ≡ Some more)
+pub ended_low : (number : ℕ) (m : Marked) (room : Left) (rest : List (List ℕ)) (o : Option (List (List ℕ))) (e : Fault) → ended_by number m room rest o ≡ Err e → (e ≡ fault (number + 1) kinds.MisplacedBackslash) × (is_last_line m.mark room ≡ false) × (more : List (List ℕ)) × (o ≡ Some more)
 ended_low number m room rest None e h = absurd cc
 ended_low number m room rest (Some more) e h = by (is_last_line m.mark room) refl h
   where
@@ -82,7 +82,7 @@ ended_low number m room rest (Some more) e h = by (is_last_line m.mark room) ref
     by true is h = absurd cc
     by false is h = (cc, is, more, refl)
 
-marked_low : (number : ℕ) (line : List ℕ) (e : Fault) → marked_at number line ≡ Err e → (e.line ≡ number) × (e.kind ≢ kinds.ShortEnd)
+pub marked_low : (number : ℕ) (line : List ℕ) (e : Fault) → marked_at number line ≡ Err e → (e.line ≡ number) × (e.kind ≢ kinds.ShortEnd)
 marked_low number line e h = by (mark_at line) h
   where
     kind : (b : Bool) → cond b kinds.MisplacedBackslash kinds.Mark ≢ kinds.ShortEnd
@@ -100,12 +100,12 @@ guard_err false d e x h = absurd cc
 count_low : (number : ℕ) (e : Fault) → fault number kinds.Count ≡ e → (e.line ≡ number) × (e.kind ≢ kinds.ShortEnd)
 count_low number e is = (sym (ap (λ (x : Fault). x.line) is), subst (λ (x : Fault). x.kind ≢ kinds.ShortEnd) is (λ h. cc))
 
-room_low : (number : ℕ) (mark : Mark) (left : Left) (e : Fault) → room_at number mark left ≡ Err e → (e.line ≡ number) × (e.kind ≢ kinds.ShortEnd)
+pub room_low : (number : ℕ) (mark : Mark) (left : Left) (e : Fault) → room_at number mark left ≡ Err e → (e.line ≡ number) × (e.kind ≢ kinds.ShortEnd)
 room_low number Keep left e h = count_low number e (guard_err _ (fault number kinds.Count) e _ h)
 room_low number Drop left e h = count_low number e (guard_err _ (fault number kinds.Count) e _ h)
 room_low number Add left e h = count_low number e (guard_err _ (fault number kinds.Count) e _ h)
 
-abbrev rest_of_line : Left → ℕ → List (List ℕ) → Marked → Result (Marked × Left × Ahead) Fault
+abbrev pub rest_of_line : Left → ℕ → List (List ℕ) → Marked → Result (Marked × Left × Ahead) Fault
 rest_of_line left number rest m = room_at number m.mark left >>= λ room. ended_by number m room rest (after_backslash rest)
 
 -- where a line fails, and whether it is missing
@@ -201,13 +201,13 @@ line_goes left last number (line ∷ rest) others x h le agree =
 
 -- ---- a body
 
-abbrev one_more_line : ℕ → Marked × Left × Ahead → Result (List Marked × Ahead) Fault
+abbrev pub one_more_line : ℕ → Marked × Left × Ahead → Result (List Marked × Ahead) Fault
 one_more_line most first = body_at most first.1 first.2 >>= λ others. Ok (first.0 ∷ others.0, others.1)
 
-abbrev add : {X : Type 0} → X → List X × Ahead → Result (List X × Ahead) Fault
+abbrev pub add : {X : Type 0} → X → List X × Ahead → Result (List X × Ahead) Fault
 add x others = Ok (x ∷ others.0, others.1)
 
-add_err : {X : Type 0} (m : X) (r : Result (List X × Ahead) Fault) (e : Fault) → (r >>= add m) ≡ Err e → r ≡ Err e
+pub add_err : {X : Type 0} (m : X) (r : Result (List X × Ahead) Fault) (e : Fault) → (r >>= add m) ≡ Err e → r ≡ Err e
 add_err m (Ok x) e h = absurd cc
 add_err {X = X} m (Err d) e h = ap (λ x. Err x) (err_is {A = List X × Ahead} d e h)
 
@@ -312,15 +312,15 @@ at_line_err : (number : ℕ) (o : Result Ranges BadKind) (e : Fault) → at_line
 at_line_err number (Ok r) e h = absurd cc
 at_line_err number (Err kind) e h = (kind, refl, sym (err_is {A = Ranges} (fault number kind) e h))
 
-range_low : (least number : ℕ) (line : List ℕ) (e : Fault) → at_line number (opening least line) ≡ Err e → (e.line ≡ number) × (e.kind ≢ kinds.ShortEnd)
+pub range_low : (least number : ℕ) (line : List ℕ) (e : Fault) → at_line number (opening least line) ≡ Err e → (e.line ≡ number) × (e.kind ≢ kinds.ShortEnd)
 range_low least number line e h =
     let a = at_line_err number (opening least line) e h in
     (ap (λ (x : Fault). x.line) a.2, subst (λ (x : Fault). x.kind ≢ kinds.ShortEnd) (sym a.2) (opening_kind least line a.0 a.1))
 
-abbrev with_body : ℕ → List (List ℕ) → Ranges → Result (PlainHunk × Ahead) Fault
+abbrev pub with_body : ℕ → List (List ℕ) → Ranges → Result (PlainHunk × Ahead) Fault
 with_body number rest r = body_at (r.old_count + r.new_count) (left_of r) (ahead (number + 1) rest) >>= λ body. settled (change r body.0) body.1
 
-settled_err : (h : PlainHunk) (p : Ahead) (e : Fault) → settled h p ≡ Err e → (fault p.number kinds.MisplacedBackslash ≡ e) × (is_some (after_backslash p.rest) ≡ true)
+pub settled_err : (h : PlainHunk) (p : Ahead) (e : Fault) → settled h p ≡ Err e → (fault p.number kinds.MisplacedBackslash ≡ e) × (is_some (after_backslash p.rest) ≡ true)
 settled_err h p e is = by (is_some (after_backslash p.rest)) refl is
   where
     by : (b : Bool) → is_some (after_backslash p.rest) ≡ b → cond {A = Result (PlainHunk × Ahead) Fault} b (Err (fault p.number kinds.MisplacedBackslash)) (Ok (h, p)) ≡ Err e → (fault p.number kinds.MisplacedBackslash ≡ e) × (is_some (after_backslash p.rest) ≡ true)
@@ -430,7 +430,7 @@ begins_some : (rest : List (List ℕ)) → begins_hunk rest ≡ true → 0 < len
 begins_some [] e = absurd cc
 begins_some (line ∷ rest) e = omega arith
 
-abbrev more_hunks : ℕ → PlainHunk × Ahead → Result (List PlainHunk × Ahead) Fault
+abbrev pub more_hunks : ℕ → PlainHunk × Ahead → Result (List PlainHunk × Ahead) Fault
 more_hunks most first = hunks_at most first.0.old_start first.1 >>= λ others. Ok (first.0 ∷ others.0, others.1)
 
 pub hunks_low : (most least : ℕ) (p : Ahead) (e : Fault) → hunks_at most least p ≡ Err e → (p.number ≤ e.line) × (e.kind ≡ kinds.ShortEnd → e.line ≡ p.number + length p.rest)
@@ -499,7 +499,7 @@ agree_front : (last number : ℕ) (front behind others : List (List ℕ)) → la
 agree_front last number [] behind others past = agree_past last number behind others (omega (arith, past))
 agree_front last number (line ∷ front) behind others past = ((λ le. refl), agree_front last (number + 1) front behind others (omega (arith, past)))
 
-short_or : (k : BadKind) → (k ≡ kinds.ShortEnd) ⊎ (k ≢ kinds.ShortEnd)
+pub short_or : (k : BadKind) → (k ≡ kinds.ShortEnd) ⊎ (k ≢ kinds.ShortEnd)
 short_or kinds.Range = inr (λ h. cc)
 short_or kinds.Mark = inr (λ h. cc)
 short_or kinds.Count = inr (λ h. cc)

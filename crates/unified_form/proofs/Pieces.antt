@@ -67,14 +67,14 @@ is_none : (o : Option (List (List ℕ))) → is_some o ≡ false → o ≡ None
 is_none None e = refl
 is_none (Some x) e = absurd cc
 
-at_line-ok : (number : ℕ) (o : Result Ranges BadKind) (r : Ranges) → at_line number o ≡ Ok r → o ≡ Ok r
+pub at_line-ok : (number : ℕ) (o : Result Ranges BadKind) (r : Ranges) → at_line number o ≡ Ok r → o ≡ Ok r
 at_line-ok number (Ok q) r e = cc
 at_line-ok number (Err kind) r e = absurd cc
 
 abbrev made : ℕ → ℕ → ℕ → ℕ → Ranges
 made a b c d = record { old_start = a; old_count = b; new_start = c; new_count = d }
 
-is_ranges : (a b c d e f : ℕ) → b ≡ e → d ≡ f → made a b c d ≡ made a e c f
+pub is_ranges : (a b c d e f : ℕ) → b ≡ e → d ≡ f → made a b c d ≡ made a e c f
 is_ranges a b c d e f h k = rw (h, k) refl
 
 pub hunk_takes : (least number : ℕ) (rest : List (List ℕ)) (x : PlainHunk × Ahead) → first_hunk least number rest ≡ Ok x → TakesHunk least (ahead number rest) x

@@ -1,6 +1,6 @@
 //! Hunks that follow each other.
 
-ghost use Rattle.std.specs.Prelude.{◌≡◌, ◌≢◌, ◌↔◌, ℕ, List, [], ◌∷◌, ◌++◌, Err, true, None, ◌+◌, ◌<◌, ◌≤◌, ◌^◌, length, vec_len, drop, slice_range, IfOk};
+ghost use Rattle.std.specs.Prelude.{◌≡◌, ◌≢◌, ◌↔◌, ℕ, List, [], ◌∷◌, ◌++◌, Err, true, None, ◌+◌, ◌<◌, ◌≤◌, ◌^◌, ◌-◌, length, vec_len, take, drop, slice_range, IfOk};
 ghost use Rattle.line_list.specs.Lines.{lines};
 ghost use Rattle.hunk_core.specs.PlainHunk.{Marked, PlainHunk, hunk_of, hunks_of, lines_on, old_lines, new_lines};
 ghost use Rattle.hunk_core.specs.declared.Mark.{Mark};
@@ -10,7 +10,7 @@ ghost use Rattle.num_text.specs.Numbers.{is_digit};
 ghost use Rattle.unified_form.specs.Ranges.{is_opening};
 ghost use Rattle.unified_form.specs.Bodies.{is_last_line};
 ghost use Rattle.hunk_core.specs.Reading.{Fault, Gives, IsPlace, ahead_of};
-ghost use Rattle.unified_form.specs.FirstFault.{AgreeTo};
+ghost use Rattle.unified_form.specs.FirstFault.{AgreeTo, CanGoOn};
 ghost use Rattle.hunk_core.specs.Turned.{IsLawful};
 ghost use Rattle.hunk_core.specs.Rules.{first_broken};
 ghost use Rattle.unified_form.specs.Grammar.{counts_of, IsPiece, SpellsHunk};
@@ -169,6 +169,10 @@ pub fn first_faults()
     // No fault comes before a line that hunks begin with.
     ensures late { (number : ℕ) (front behind others : List (List ℕ)) (e : Fault) (hs : List PlainHunk) (next : ℕ) (rest : List (List ℕ))
         → IsPiece number (front ++ others) hs next rest → reading number (front ++ behind) ≡ Err e → number + length front ≤ e.line }
+    // The lines in front of a fault can go on to a piece, so no earlier line is at fault.
+    ensures goes_on { (number : ℕ) (lines : List (List ℕ)) (e : Fault) → reading number lines ≡ Err e → CanGoOn number (take (e.line - number) lines) }
+    // A text ends too early exactly where all its lines can go on to a piece.
+    ensures short_end { (number : ℕ) (lines : List (List ℕ)) (e : Fault) → reading number lines ≡ Err e → e.kind ≡ BadKind.ShortEnd ↔ CanGoOn number lines }
 {}
 
 /// The tests of the grammar, in the words of the diffutils manual.

@@ -1,4 +1,5 @@
 use Rattle.unified_form.proofs.FirstFault.{fault-stays, fault-unspelled, fault-short, fault-late}
+use Rattle.unified_form.proofs.GoesOn.{fault-goes_on, fault-short_end}
 use Rattle.unified_form.proofs.hunks.first_faults.Goals as goal
 
 pub returns-clause-stays : goal.returns-clause-stays
@@ -12,3 +13,9 @@ returns-clause-short c = fault-short
 
 pub returns-clause-late : goal.returns-clause-late
 returns-clause-late c = fault-late
+
+pub returns-clause-goes_on : goal.returns-clause-goes_on
+returns-clause-goes_on c = fault-goes_on
+
+pub returns-clause-short_end : goal.returns-clause-short_end
+returns-clause-short_end c = fault-short_end
