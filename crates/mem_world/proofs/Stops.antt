@@ -1,60 +1,32 @@
 -- What a crash within a device call leaves.
-use Rattle.std.proofs.Common.{◌≡◌, ◌≢◌, ◌⊎◌, inl, inr, ⊎_elim, ℕ, ◌+◌, ◌-◌, ◌<◌, ◌≤◌, List, [], ◌∷◌, ◌++◌, length, take, get_or, Bool, true, false, cond, Option, Some, None, IsSome, IfOk, OnOk, Result, Ok, Err, ◌&&◌, nat_eq, unwrap_or, refl, sym, ◌∙◌, ap, subst, arith, below_more}
-use Rattle.std.proofs.lemmas.Bool.{false≢true}
-use Rattle.std.proofs.lemmas.List.{take_more, take_all, take-map, length-map, get_or_default}
+use Rattle.std.proofs.Common.{◌≡◌, ◌≢◌, ◌⊎◌, inl, inr, ⊎_elim, ℕ, ◌+◌, ◌-◌, ◌%◌, ◌<◌, ◌≤◌, List, [], ◌∷◌, ◌++◌, length, take, drop, get_or, Bool, true, false, cond, Option, Some, None, IsSome, IfOk, OnOk, Result, Ok, Err, ◌&&◌, nat_eq, refl, sym, ◌∙◌, ap, subst, arith}
+use Rattle.std.proofs.lemmas.Bool.{false≢true, ne_eqb, eq-eqb}
+use Rattle.std.proofs.lemmas.List.{take_more, take_all, drop_more, drop_all, take-map, drop-map, length-map, get_or_default}
 use Rattle.std.proofs.Math.Nat.{le_refl}
+use Rattle.std.proofs.Math.Dec.{eqb}
 use Rattle.std.specs.Prelude.{IfSome}
-use Rattle.mem_world.specs.declared.stop.Trace.{Trace}
 use Rattle.std.specs.Option.{option_map}
-use Rattle.std.specs.FinMap.{get, insert, remove}
-use Rattle.std.specs.FinMap.{get, get-empty}
+use Rattle.std.specs.FinMap.{get, insert, remove, get-empty}
 use Rattle.std.specs.Ordering.{nat_cmp}
 use Rattle.std.specs.Cmp.Lexicographic.{slice_cmp}
+use Rattle.std.specs.List.{count_by}
 use Rattle.outside.specs.Files.{Files, bytes_at, moved}
-use Rattle.outside.proofs.Names.{equal_or_not, alike, named, get-put, get-put_other, get-gone, get-gone_other}
+use Rattle.outside.proofs.Names.{equal_or_not, get-put, get-put_other, get-gone, get-gone_other}
+use Rattle.mem_world.specs.declared.stop.Trace.{Trace}
 use Rattle.mem_world.specs.declared.log.Entry.{Entry}
 use Rattle.mem_world.specs.declared.log.Slot.{Slot}
-use Rattle.mem_world.specs.Disk.{Event, Note, Binding, Disk, Had, Stands, IsImage, Logs, step, replay, disk, blank, same_text, without, marked, spoiled}
-use Rattle.mem_world.specs.Disk.Event.{Started, Appended, Sealed, Swapped, Gone, Fixed, Settled, Bound, HalfSwapped, HalfGone}
-use Rattle.std.specs.List.{count_by}
 use Rattle.mem_world.specs.Device.{is_call, began_at, ended_at}
-use Rattle.mem_world.specs.Log.{notes, note_of, event_of, look, place, Keeps}
-use Rattle.mem_world.specs.Stop.{shown, as_made, is_rest, WasAt, Remembers, Rebinds, Traces, loose_by, StoodAt, Shows, Puts, LeftWithin}
+use Rattle.mem_world.specs.Disk.{Event, Note, Binding, Disk, Had, Stands, IsImage, Logs, step, replay, disk, blank, bound, marked, spoiled}
+use Rattle.mem_world.specs.Disk.Event.{Started, Appended, Sealed, Swapped, Gone, Fixed, Settled, Bound, HalfSwapped, HalfGone}
+use Rattle.mem_world.specs.Log.{notes, note_of, event_of, look, Keeps}
+use Rattle.mem_world.specs.Stop.{emptied, shown, among, several, oldest, older_or, is_set, number, picked_from, picked, as_made, is_rest, first_event, event_at, within, whole, Picks, LeftWithin, IsAtRest, Chosen, StopsAt, slot_names, forgets, binds, several_after, binding_at, Traces, loose_by, Shows, Puts}
 use Rattle.mem_world.proofs.Disk.{replay-push, marked_same, marked_other, spoiled-other, freed-other}
 use Rattle.mem_world.proofs.Matching.{notes-push}
-use Rattle.mem_world.proofs.Places.{name-at_place, look-none, place-within, place-there}
+use Rattle.mem_world.proofs.Several.{among-push, among-front, among-back, several-step, several-oldest, look-among, older_or-none, older_or-both, oldest-forgets, oldest-binds, oldest-keeps, oldest-had, empty_was}
 
--- ---- events that bind a name
-was_same : (d : Disk) (q n : List ℕ) (o : Option (List ℕ)) → q ≡ n → WasAt d q o → WasAt d n o
-was_same d q n o eq was = subst (λ x. WasAt d x o) eq was
-
-pub rebinds_started : (n q : List ℕ) → q ≡ n → Rebinds (Started n) q
-rebinds_started n q eq = record { at = λ d o was. inl (eq, was_same d q n o eq was) }
-
-pub rebinds_gone : (n q : List ℕ) → q ≡ n → Rebinds (Gone n) q
-rebinds_gone n q eq = record { at = λ d o was. inl (eq, was_same d q n o eq was) }
-
-pub rebinds_half_gone : (n q : List ℕ) → q ≡ n → Rebinds (HalfGone n) q
-rebinds_half_gone n q eq = record { at = λ d o was. inr (inl (eq, was_same d q n o eq was)) }
-
-pub rebinds_swapped : (n to q : List ℕ) → (q ≡ n) ⊎ (q ≡ to) → Rebinds (Swapped n to) q
-rebinds_swapped n to q (inl eq) = record { at = λ d o was. inl (eq, was_same d q n o eq was) }
-rebinds_swapped n to q (inr eq) = record { at = λ d o was. inr (inl (eq, was_same d q to o eq was)) }
-
-pub rebinds_half_swapped : (n to q : List ℕ) → (q ≡ n) ⊎ (q ≡ to) → Rebinds (HalfSwapped n to) q
-rebinds_half_swapped n to q (inl eq) = record { at = λ d o was. inr (inr (inl (eq, was_same d q n o eq was))) }
-rebinds_half_swapped n to q (inr eq) = record { at = λ d o was. inr (inr (inr (inl (eq, was_same d q to o eq was)))) }
-
-had_still : (n : List ℕ) (bs : List Binding) (q : List ℕ) (o : Option (List ℕ)) → same_text n q ≡ false → Had bs q o → Had (without n bs) q o
-had_still n [] q o other none = none
-had_still n (b ∷ bs) q o other had =
-    elim (same_text n b.name) as (λ t. same_text n b.name ≡ t → Had (cond t (without n bs) (b ∷ without n bs)) q o) [
-      | true ↦ λ is. ⊎_elim (λ here. absurd (false≢true (sym other ∙ ap (same_text n) here.0 ∙ is))) (λ h. had_still n bs q o other h) had
-      | false ↦ λ is. ⊎_elim (λ here. inl here) (λ h. inr (had_still n bs q o other h)) had
-    ] refl
-
-pub remembers_bound : (n bytes q : List ℕ) → same_text n q ≡ false → Remembers (Bound n bytes) q
-remembers_bound n bytes q other = record { at = λ d o had. had_still n d.older q o other had }
+-- the name's file, or any bytes where it isn't sealed
+abbrev WasAt : Disk → List ℕ → Option (List ℕ) → Type 0
+WasAt d q o = (o ≡ get d.live q) ⊎ ((d.loose q ≡ true) × IsSome o)
 
 -- ---- one change more of the log
 pub disk_more : (log : List Entry) (i : ℕ) (x : Entry) → i < length log → x ≡ get_or log i x → disk (notes (take (i + 1) log)) ≡ step (event_of x.change) (disk (notes (take i log)))
@@ -72,79 +44,76 @@ disk_last log i x some le is =
 pub loose_last : (log : List Entry) (i : ℕ) (x : Entry) (q : List ℕ) (t : Trace) → 0 < i → i ≤ length log → x ≡ get_or log (i - 1) x → Traces (event_of (get_or log (i - 1) x).change) q t → (disk (notes (take i log))).loose q ≡ loose_by t (disk (notes (take (i - 1) log))).loose
 loose_last log i x q t some le is traces = ap (λ (d : Disk). d.loose q) (disk_last log i x some le is) ∙ (subst (λ (y : Entry). Traces (event_of y.change) q t) (sym is) traces).at _
 
--- ---- the first change that binds a name, among those from one on
+-- ---- the names with more than one binding, one change more
+pub several_more : (log : List Entry) (i : ℕ) (x : Entry) → i < length log → x ≡ get_or log i x → several_after (event_of x.change) (several (disk (notes (take i log))).older) ≡ several (disk (notes (take (i + 1) log))).older
+several_more log i x lt is = sym (ap (λ (d : Disk). several d.older) (disk_more log i x lt is) ∙ several-step (event_of x.change) (disk (notes (take i log))))
+
+-- ---- the change that took the oldest binding away, among those from one on
 pub record Looked (log : List Entry) (i : ℕ) (q : List ℕ) (first : Option ℕ) : Type 0 where
-  pub keeps : (o : Option (List ℕ)) → Had (disk (notes (take i log))).older q o → Had (disk (notes log)).older q o
-  pub stood : IfSome first (StoodAt (notes log) q)
+  pub inside : IfSome first (λ k. k ≤ length log)
+  pub is : oldest (disk (notes log)).older q ≡ older_or (oldest (disk (notes (take i log))).older q) (binding_at (notes log) q first)
 
 pub looked_none : (log : List Entry) (q : List ℕ) → Looked log (length log) q None
-looked_none log q = record { keeps = λ o had. subst (λ (l : List Entry). Had (disk (notes l)).older q o) (take_all (length log) log (le_refl (length log))) had; stood = tt }
-
-keeps_last : (log : List Entry) (i : ℕ) (x : Entry) (q : List ℕ) (first : Option ℕ) → 0 < i → i ≤ length log → x ≡ get_or log (i - 1) x → Looked log i q first → (o : Option (List ℕ)) → Had (step (event_of x.change) (disk (notes (take (i - 1) log)))).older q o → Had (disk (notes log)).older q o
-keeps_last log i x q first some le is looked o had = looked.keeps o (subst (λ (d : Disk). Had d.older q o) (sym (disk_last log i x some le is)) had)
-
-pub looked_more : (log : List Entry) (i : ℕ) (x : Entry) (q : List ℕ) (first : Option ℕ) → 0 < i → i ≤ length log → x ≡ get_or log (i - 1) x → Remembers (event_of (get_or log (i - 1) x).change) q → Looked log i q first → Looked log (i - 1) q first
-looked_more log i x q first some le is remembers looked = record { keeps = λ o had. keeps_last log i x q first some le is looked o ((subst (λ (z : Entry). Remembers (event_of z.change) q) (sym is) remembers).at _ o had); stood = looked.stood }
-
-pub looked_first : (log : List Entry) (i : ℕ) (x : Entry) (q : List ℕ) (first : Option ℕ) → 0 < i → i ≤ length log → x ≡ get_or log (i - 1) x → Remembers (event_of (get_or log (i - 1) x).change) q → (y : Entry) → Rebinds (event_of (get_or log (i - 1) y).change) q → Looked log i q first → Looked log (i - 1) q (Some (i - 1))
-looked_first log i x q first some le is remembers y rebinds looked = record {
-  keeps = λ o had. keeps_last log i x q first some le is looked o ((subst (λ (z : Entry). Remembers (event_of z.change) q) (sym is) remembers).at _ o had);
-  stood = record {
-    within = omega (arith, length-map log note_of);
-    had = λ o was. keeps_last log i x q first some le is looked o ((subst (λ (z : Entry). Rebinds (event_of z.change) q) (get_or_default log (i - 1) y x (omega arith) ∙ sym is) rebinds).at _ o (subst (λ (l : List Note). WasAt (disk l) q o) (take-map note_of (i - 1) log) was));
-  };
+looked_none log q = record {
+  inside = tt;
+  is = sym (older_or-none (oldest (disk (notes (take (length log) log))).older q) ∙ ap (λ (l : List Entry). oldest (disk (notes l)).older q) (take_all (length log) log (le_refl (length log))));
 }
 
+-- the change before, as it is found
+found : (log : List Entry) (i : ℕ) (x : Entry) (q : List ℕ) (first : Option ℕ) (o : Option Binding) → 0 < i → i ≤ length log → x ≡ get_or log (i - 1) x → Looked log i q first → oldest (step (event_of x.change) (disk (notes (take (i - 1) log)))).older q ≡ o
+    → oldest (disk (notes log)).older q ≡ older_or o (binding_at (notes log) q first)
+found log i x q first o some le at looked before =
+    looked.is ∙ ap (λ (p : Option Binding). older_or p (binding_at (notes log) q first)) (ap (λ (d : Disk). oldest d.older q) (disk_last log i x some le at) ∙ before)
+
+-- at a change that forgets, nothing older is left
+pub looked_stop : (log : List Entry) (i : ℕ) (x : Entry) (q : List ℕ) (first : Option ℕ) → 0 < i → i ≤ length log → x ≡ get_or log (i - 1) x → forgets (event_of (get_or log (i - 1) x).change) q ≡ true → Looked log i q first
+    → oldest (disk (notes log)).older q ≡ binding_at (notes log) q first
+looked_stop log i x q first some le at forgets_ looked =
+    found log i x q first None some le at looked (oldest-forgets (event_of x.change) (disk (notes (take (i - 1) log))) q (ap (λ (z : Entry). forgets (event_of z.change) q) at ∙ forgets_))
+
+pub looked_more : (log : List Entry) (i : ℕ) (x : Entry) (q : List ℕ) (first : Option ℕ) → 0 < i → i ≤ length log → x ≡ get_or log (i - 1) x → forgets (event_of (get_or log (i - 1) x).change) q ≡ false
+    → (y : Entry) → binds (event_of (get_or log (i - 1) y).change) q ≡ false → Looked log i q first → Looked log (i - 1) q first
+looked_more log i x q first some le at kept y still looked = record {
+  inside = looked.inside;
+  is = found log i x q first _ some le at looked
+      (oldest-keeps (event_of x.change) (disk (notes (take (i - 1) log))) q (ap (λ (z : Entry). forgets (event_of z.change) q) at ∙ kept)
+      (ap (λ (z : Entry). binds (event_of z.change) q) (at ∙ get_or_default log (i - 1) x y (omega arith)) ∙ still));
+}
+
+pub looked_first : (log : List Entry) (i : ℕ) (x : Entry) (q : List ℕ) (first : Option ℕ) → 0 < i → i ≤ length log → x ≡ get_or log (i - 1) x → (y : Entry) → binds (event_of (get_or log (i - 1) y).change) q ≡ true
+    → Looked log i q first → Looked log (i - 1) q (Some (i - 1))
+looked_first log i x q first some le at y bound_ looked =
+    let d = disk (notes (take (i - 1) log)) in
+    record {
+      inside = omega arith;
+      is =
+          found log i x q first _ some le at looked (oldest-binds (event_of x.change) d q (ap (λ (z : Entry). binds (event_of z.change) q) (at ∙ get_or_default log (i - 1) x y (omega arith)) ∙ bound_))
+          ∙ older_or-both (oldest d.older q) (Some (bound d q)) (binding_at (notes log) q first)
+          ∙ ap (λ (l : List Note). older_or (oldest d.older q) (Some (bound (disk l) q))) (sym (take-map note_of (i - 1) log));
+    }
+
+pub looked_end : (log : List Entry) (i : ℕ) (q : List ℕ) (first : Option ℕ) → i ≡ 0 → Looked log i q first → oldest (disk (notes log)).older q ≡ binding_at (notes log) q first
+looked_end log i q first is looked = looked.is ∙ ap (λ (k : ℕ). older_or (oldest (disk (notes (take k log))).older q) (binding_at (notes log) q first)) is
+
 -- ---- what is shown may have been
-was_empty : (d : Disk) (q : List ℕ) (o : Option (List ℕ)) → d.loose q ≡ true → (option_map (λ (b : List ℕ). let e : List ℕ = [] in e) o ≡ o) ⊎ ((d.loose q ≡ true) × IsSome (option_map (λ (b : List ℕ). let e : List ℕ = [] in e) o))
-was_empty d q None is = inl refl
-was_empty d q (Some b) is = inr (is, refl)
-
 pub shown_was : (d : Disk) (q : List ℕ) → WasAt d q (shown d q)
-shown_was d q =
-    elim (d.loose q) as (λ t. d.loose q ≡ t → WasAt d q (cond t (option_map (λ (b : List ℕ). let e : List ℕ = [] in e) (get d.live q)) (get d.live q))) [
-      | true ↦ λ is. was_empty d q (get d.live q) is
-      | false ↦ λ is. inl refl
-    ] refl
+shown_was d q = empty_was (d.loose q) (get d.live q)
 
-pub was_stands : (d : Disk) (q : List ℕ) (o : Option (List ℕ)) → WasAt d q o → Stands d q o
+was_stands : (d : Disk) (q : List ℕ) (o : Option (List ℕ)) → WasAt d q o → Stands d q o
 was_stands d q o (inl is) = inl is
 was_stands d q o (inr any) = inr (inl any)
 
 pub shows_itself : (d : Disk) → Shows d d
 shows_itself d = record { at = λ q. was_stands d q (shown d q) (shown_was d q) }
 
--- ---- the files chosen so far
-pub record Chosen (d made : Disk) (files : List Slot) (i : ℕ) (live : Files) : Type 0 where
-  pub each : (q : List ℕ) → (get live q ≡ None) ⊎ Stands d q (get live q)
-  pub done : (k : ℕ) (s : Slot) → k < i → Stands d (get_or files k s).name (get live (get_or files k s).name)
-
-pub chosen_none : (d made : Disk) (files : List Slot) → Chosen d made files 0 blank.live
-chosen_none d made files = record { each = λ q. inl (get-empty (slice_cmp nat_cmp) q); done = λ k s lt. absurd (omega arith) }
-
--- what was chosen for one slot more
-pub chosen_more : (d made : Disk) (files : List Slot) (i : ℕ) (x : Slot) (live later : Files) (o : Option (List ℕ)) → i < length files → x ≡ get_or files i x → Stands d x.name o
-    → ((q : List ℕ) → q ≢ x.name → get later q ≡ get live q) → (get later x.name ≡ o) ⊎ ((o ≡ None) × (get later x.name ≡ get live x.name)) → Chosen d made files i live → Chosen d made files (i + 1) later
-chosen_more d made files i x live later o lt is stands others here chosen =
-    let at_name : Stands d x.name (get later x.name) = ⊎_elim
-    (λ (same : get later x.name ≡ o). subst (λ (y : Option (List ℕ)). Stands d x.name y) (sym same) stands)
-    (λ (kept : (o ≡ None) × (get later x.name ≡ get live x.name)). subst (λ (y : Option (List ℕ)). Stands d x.name y) (sym kept.1) (⊎_elim
-    (λ (none : get live x.name ≡ None). subst (λ (y : Option (List ℕ)). Stands d x.name y) (kept.0 ∙ sym none) stands)
-    (λ (old : Stands d x.name (get live x.name)). old)
-    (chosen.each x.name)))
-    here in
-    record {
-      each = λ q. ⊎_elim
-          (λ (eq : q ≡ x.name). inr (subst (λ n. Stands d n (get later n)) (sym eq) at_name))
-          (λ (ne : q ≢ x.name). subst (λ (y : Option (List ℕ)). (y ≡ None) ⊎ Stands d q y) (sym (others q ne)) (chosen.each q))
-          (equal_or_not q x.name);
-      done = λ k s. below_more (λ (m : ℕ). Stands d (get_or files m s).name (get later (get_or files m s).name)) i
-          (λ m h. ⊎_elim
-          (λ (eq : (get_or files m s).name ≡ x.name). subst (λ n. Stands d n (get later n)) (sym eq) at_name)
-          (λ (ne : (get_or files m s).name ≢ x.name). subst (λ (y : Option (List ℕ)). Stands d (get_or files m s).name y) (sym (others _ ne)) (chosen.done m s h))
-          (equal_or_not (get_or files m s).name x.name))
-          (subst (λ (y : Slot). Stands d y.name (get later y.name)) (is ∙ get_or_default files i x s lt) at_name) k;
-    }
+-- what is picked may stand
+pub picked_stands : (d made : Disk) (choice : ℕ) (q : List ℕ) → Shows d made → Stands d q (picked d made choice q)
+picked_stands d made choice q shows =
+    let newest = is_set choice (number (several d.older) q % 3) in
+    elim (oldest d.older q) as (λ o. oldest d.older q ≡ o → Stands d q (picked_from o newest (shown made q))) [
+      | None ↦ λ is. shows.at q
+      | Some b ↦ λ is. elim newest as (λ t. Stands d q (cond t (shown made q) (emptied b.loose b.was))) [ true ↦ shows.at q | false ↦ inr (inr (oldest-had d.older q b is)) ]
+    ] refl
 
 -- ---- the call counting as made
 shown_same : (d e : Disk) (q : List ℕ) → e.loose q ≡ d.loose q → get e.live q ≡ get d.live q → shown e q ≡ shown d q
@@ -231,69 +200,181 @@ pub if_ok : {V E : Type 0} (P Q : V → Type 0) → ((v : V) → P v → Q v) �
 if_ok P Q f (Ok v) p = f v p
 if_ok P Q f (Err e) p = tt
 
-pub stood_shown : (log : List Entry) (q : List ℕ) (i : ℕ) (before : Disk) → before ≡ disk (notes (take i log)) → StoodAt (notes log) q i → (o : Option (List ℕ)) → o ≡ shown before q → Stands (disk (notes log)) q o
-stood_shown log q i before is stood o same =
-    inr (inr (stood.had o (subst (λ (d : Disk). WasAt d q o) (is ∙ ap disk (sym (take-map note_of i log))) (subst (λ (y : Option (List ℕ)). WasAt before q y) (sym same) (shown_was before q)))))
+-- ---- one name
+-- a name at its newest
+pub picked_now : (o : Option Binding) (now : Option (List ℕ)) → picked_from o true now ≡ now
+picked_now None now = refl
+picked_now (Some b) now = refl
 
--- ---- the end of the choice
-chosen_at : (d made : Disk) (files all : List Slot) (live : Files) (q : List ℕ) (s : Slot) → IsSome (look all q) → Chosen d made all (length all) live → Stands d q (get live q)
-chosen_at d made files all live q s some chosen =
-    let lt = place-there all q some in
-    subst (λ n. Stands d n (get live n)) (name-at_place all q s lt) (chosen.done (place all q) s lt)
+-- at its oldest
+pub picked_old : (log : List Entry) (q : List ℕ) (i : ℕ) (before : Disk) (o : Option Binding) (now : Option (List ℕ)) → before ≡ disk (notes (take i log)) → o ≡ binding_at (notes log) q (Some i) → shown before q ≡ picked_from o false now
+picked_old log q i before o now is old =
+    ap (λ (d : Disk). shown d q) (is ∙ ap disk (sym (take-map note_of i log))) ∙ ap (λ (p : Option Binding). picked_from p false now) (sym old)
 
-chosen_there : (d made : Disk) (all : List Slot) (live : Files) (q : List ℕ) → IsSome (look all q) → Chosen d made all (length all) live → Stands d q (get live q)
-chosen_there d made [] live q some chosen = absurd (false≢true some)
-chosen_there d made (s ∷ ss) live q some chosen = chosen_at d made (s ∷ ss) (s ∷ ss) live q s some chosen
+-- ---- the files filled in, name by name
+pub record Filled (target : List ℕ → Option (List ℕ)) (all : List (List ℕ)) (i : ℕ) (live : Files) : Type 0 where
+  pub each : (q : List ℕ) → (get live q ≡ None) ⊎ (get live q ≡ target q)
+  pub done : (q : List ℕ) → among q (take i all) ≡ true → get live q ≡ target q
 
-chosen_each : (d made : Disk) (all : List Slot) (live : Files) → ((q : List ℕ) → look all q ≡ get made.live q) → Shows d made → Chosen d made all (length all) live → (q : List ℕ) (o : Option (List ℕ)) → look all q ≡ o → Stands d q (get live q)
-chosen_each d made all live looks shows chosen q None is = ⊎_elim
-    (λ (none : get live q ≡ None). subst (λ (y : Option (List ℕ)). Stands d q y) (sym (shown_gone (made.loose q) (get made.live q) (sym (looks q) ∙ is)) ∙ sym none) (shows.at q))
-    (λ (st : Stands d q (get live q)). st)
-    (chosen.each q)
-chosen_each d made all live looks shows chosen q (Some b) is = chosen_there d made all live q (subst (λ (y : Option (List ℕ)). IsSome y) (sym is) refl) chosen
+pub filled_none : (target : List ℕ → Option (List ℕ)) (all : List (List ℕ)) → Filled target all 0 blank.live
+filled_none target all = record { each = λ q. inl (get-empty (slice_cmp nat_cmp) q); done = λ q none. absurd (false≢true none) }
 
-pub chosen_done : (d made : Disk) (all : List Slot) (live : Files) → ((q : List ℕ) → look all q ≡ get made.live q) → Shows d made → Chosen d made all (length all) live → IsImage d live
-chosen_done d made all live looks shows chosen = record { at = λ q. chosen_each d made all live looks shows chosen q (look all q) refl }
+filled_more : (target : List ℕ → Option (List ℕ)) (all : List (List ℕ)) (i : ℕ) (x : List ℕ) (live later : Files) → i < length all → x ≡ get_or all i [] → get later x ≡ target x → ((q : List ℕ) → q ≢ x → get later q ≡ get live q)
+    → Filled target all i live → Filled target all (i + 1) later
+filled_more target all i x live later lt is here others filled = record {
+  each = λ q. ⊎_elim
+      (λ (eq : q ≡ x). inr (subst (λ n. get later n ≡ target n) (sym eq) here))
+      (λ (ne : q ≢ x). subst (λ (y : Option (List ℕ)). (y ≡ None) ⊎ (y ≡ target q)) (sym (others q ne)) (filled.each q))
+      (equal_or_not q x);
+  done = λ q there. ⊎_elim
+      (λ (eq : q ≡ x). subst (λ n. get later n ≡ target n) (sym eq) here)
+      (λ (ne : q ≢ x). others q ne ∙ ⊎_elim
+      (λ (before : among q (take i all) ≡ true). filled.done q before)
+      (λ (last : q ≡ get_or all i []). absurd (ne (last ∙ sym is)))
+      (among-push q (get_or all i []) (take i all) (subst (λ (l : List (List ℕ)). among q l ≡ true) (take_more all i [] lt) there)))
+      (equal_or_not q x);
+}
 
-pub chosen_bound : (d made : Disk) (files : List Slot) (i : ℕ) (x : Slot) (ns later : List Note) (k : ℕ) (bytes : List ℕ) → i < length files → x ≡ get_or files i x → Stands d x.name (Some bytes) → Logs ns later k (Bound x.name bytes)
-    → Chosen d made files i (disk ns).live → Chosen d made files (i + 1) (disk later).live
-chosen_bound d made files i x ns later k bytes lt is stands logs chosen =
-    let live = (disk ns).live in
-    subst (λ (f : Files). Chosen d made files (i + 1) f) (sym (ap (λ (e : Disk). e.live) (ap disk logs ∙ replay-push ns (record { call = k; event = Bound x.name bytes }) blank)))
-    (chosen_more d made files i x live (insert live x.name bytes) (Some bytes) lt is stands (λ q ne. get-put_other live x.name bytes q ne) (inl (get-put live x.name bytes)) chosen)
-
-pub chosen_skip : (d made : Disk) (files : List Slot) (i : ℕ) (x : Slot) (live : Files) → i < length files → x ≡ get_or files i x → Stands d x.name None → Chosen d made files i live → Chosen d made files (i + 1) live
-chosen_skip d made files i x live lt is stands chosen = chosen_more d made files i x live live None lt is stands (λ q ne. refl) (inr (refl, refl)) chosen
+pub filled_put : (target : List ℕ → Option (List ℕ)) (all : List (List ℕ)) (i : ℕ) (x : List ℕ) (ns later : List Note) (o : Option (List ℕ)) → i < length all → x ≡ get_or all i [] → o ≡ target x → Puts ns later x o
+    → Filled target all i (disk ns).live → Filled target all (i + 1) (disk later).live
+filled_put target all i x ns later o lt is aim puts filled = ⊎_elim
+    (λ (put : (k : ℕ) × (b : List ℕ) × (o ≡ Some b) × Logs ns later k (Bound x b)).
+      let live = (disk ns).live in
+      subst (λ (f : Files). Filled target all (i + 1) f) (sym (ap (λ (e : Disk). e.live) (ap disk put.3 ∙ replay-push ns (record { call = put.0; event = Bound x put.1 }) blank)))
+      (filled_more target all i x live (insert live x put.1) lt is (get-put live x put.1 ∙ sym put.2 ∙ aim) (λ q ne. get-put_other live x put.1 q ne) filled))
+    (λ (none : (o ≡ None) × (later ≡ ns)).
+      let live = (disk ns).live in
+      subst (λ (l : List Note). Filled target all (i + 1) (disk l).live) (sym none.1)
+      (filled_more target all i x live live lt is (⊎_elim (λ (empty : get live x ≡ None). empty ∙ sym none.0 ∙ aim) (λ (set : get live x ≡ target x). set) (filled.each x)) (λ q ne. refl) filled))
+    puts.either
 
 pub puts_bound : {R E : Type 0} (old new : List Note) (k : ℕ) (q b : List ℕ) (o : Option (List ℕ)) (r : Result R E) → o ≡ Some b → Keeps old new k (Bound q b) r → OnOk r (Puts old new q o)
 puts_bound old new k q b o (Ok v) is keeps = record { either = inl (k, b, is, keeps.ok) }
 puts_bound old new k q b o (Err e) is keeps = tt
 
-pub chosen_puts : (d made : Disk) (files : List Slot) (i : ℕ) (x : Slot) (ns later : List Note) (o : Option (List ℕ)) → i < length files → x ≡ get_or files i x → Stands d x.name o → Puts ns later x.name o
-    → Chosen d made files i (disk ns).live → Chosen d made files (i + 1) (disk later).live
-chosen_puts d made files i x ns later o lt is stands puts chosen = ⊎_elim
-    (λ (bound_ : (k : ℕ) × (b : List ℕ) × (o ≡ Some b) × Logs ns later k (Bound x.name b)). chosen_bound d made files i x ns later bound_.0 bound_.1 lt is (subst (λ (y : Option (List ℕ)). Stands d x.name y) bound_.2 stands) bound_.3 chosen)
-    (λ (none : (o ≡ None) × (later ≡ ns)). subst (λ (l : List Note). Chosen d made files (i + 1) (disk l).live) (sym none.1) (chosen_skip d made files i x (disk ns).live lt is (subst (λ (y : Option (List ℕ)). Stands d x.name y) none.0 stands) chosen))
-    puts.either
+-- ---- the end of the choice
+empty_none : (loose : Bool) (o : Option (List ℕ)) → o ≡ None → emptied loose o ≡ None
+empty_none true o none = ap (λ (p : Option (List ℕ)). emptied true p) none
+empty_none false o none = none
+
+filled_rest : (d made : Disk) (choice : ℕ) (files : List Slot) (live : Files) (q : List ℕ) (o : Option (List ℕ)) → look files q ≡ o → look files q ≡ get made.live q → among q (several d.older) ≡ false
+    → Filled (picked d made choice) (several d.older ++ slot_names files) (length (several d.older ++ slot_names files)) live → get live q ≡ picked d made choice q
+filled_rest d made choice files live q (Some b) is looks one filled =
+    filled.done q (subst (λ (l : List (List ℕ)). among q l ≡ true) (sym (take_all _ (several d.older ++ slot_names files) (le_refl _)))
+    (among-back q (several d.older) (slot_names files) (look-among files q (subst (λ (y : Option (List ℕ)). IsSome y) (sym is) refl))))
+filled_rest d made choice files live q None is looks one filled = ⊎_elim
+    (λ (none : get live q ≡ None).
+      none ∙ sym (ap (λ (p : Option Binding). picked_from p (is_set choice (number (several d.older) q % 3)) (shown made q)) (several-oldest d.older q one) ∙ empty_none (made.loose q) (get made.live q) (sym looks ∙ is)))
+    (λ (set : get live q ≡ picked d made choice q). set)
+    (filled.each q)
+
+filled_all : (d made : Disk) (choice : ℕ) (files : List Slot) (live : Files) (q : List ℕ) → look files q ≡ get made.live q
+    → Filled (picked d made choice) (several d.older ++ slot_names files) (length (several d.older ++ slot_names files)) live → get live q ≡ picked d made choice q
+filled_all d made choice files live q looks filled =
+    elim (among q (several d.older)) as (λ b. among q (several d.older) ≡ b → get live q ≡ picked d made choice q) [
+      | true ↦ λ there. filled.done q (subst (λ (l : List (List ℕ)). among q l ≡ true) (sym (take_all _ (several d.older ++ slot_names files) (le_refl _))) (among-front q (several d.older) (slot_names files) there))
+      | false ↦ λ one. filled_rest d made choice files live q (look files q) refl looks one filled
+    ] refl
+
+pub filled_end : (d made : Disk) (choice i k : ℕ) (files : List Slot) (names : List (List ℕ)) (ns later : List Note) → names ≡ several d.older → i ≡ length (names ++ slot_names files) → ((q : List ℕ) → look files q ≡ get made.live q)
+    → Logs ns later k Settled → Filled (picked d made choice) (names ++ slot_names files) i (disk ns).live → Chosen d made choice (disk later)
+filled_end d made choice i k files names ns later are all looks logs filled =
+    let live = (disk ns).live in
+    let whole_ : Filled (picked d made choice) (several d.older ++ slot_names files) (length (several d.older ++ slot_names files)) live =
+    subst (λ (l : List (List ℕ)). Filled (picked d made choice) (l ++ slot_names files) (length (l ++ slot_names files)) live) are
+    (subst (λ (n : ℕ). Filled (picked d made choice) (names ++ slot_names files) n live) all filled) in
+    subst (λ (e : Disk). Chosen d made choice e) (sym (ap disk logs ∙ replay-push ns (record { call = k; event = Settled }) blank))
+    (record { at = λ q. filled_all d made choice files live q (looks q) whole_; rest = record { older = refl; tight = λ q. refl } })
 
 -- ---- within the call
-pub left_before : (log : List Entry) (call i : ℕ) (f : Files) → i ≡ began_at (notes log) call → IsImage (disk (notes (take i log))) f → LeftWithin (notes log) call f
-left_before log call i f is image = inl (subst (λ (k : ℕ). IsImage (disk (take k (notes log))) f) is (subst (λ (l : List Note). IsImage (disk l) f) (sym (take-map note_of i log)) image))
+left_before : (ns : List Note) (call : ℕ) (f : Files) → IsImage (disk (take (began_at ns call) ns)) f → LeftWithin ns call f
+left_before ns call f image = inl image
 
-pub left_after : (log : List Entry) (call i m : ℕ) (f : Files) → i ≡ began_at (notes log) call → m ≡ count_by (λ (x : Note). nat_eq x.call call && is_call x.event) (notes log) → m ≡ 1 → IsImage (disk (notes (take (i + 1) log))) f → LeftWithin (notes log) call f
-left_after log call i m f is made one image =
-    let same : i + 1 ≡ ended_at (notes log) call = omega (arith, is, made, one) in
-    inr (subst (λ (k : ℕ). IsImage (disk (take k (notes log))) f) same (subst (λ (l : List Note). IsImage (disk l) f) (sym (take-map note_of (i + 1) log)) image))
+left_after : (ns : List Note) (call : ℕ) (f : Files) → IsImage (disk (take (ended_at ns call) ns)) f → LeftWithin ns call f
+left_after ns call f image = inr image
+
+-- what was chosen is an image
+chosen_image : (d made : Disk) (choice : ℕ) (image : Disk) → Shows d made → Chosen d made choice image → IsImage d image.live
+chosen_image d made choice image shows chosen = record { at = λ q. subst (λ (o : Option (List ℕ)). Stands d q o) (sym (chosen.at q)) (picked_stands d made choice q shows) }
+
+stops : (ns : List Note) (call choice : ℕ) (d made image : Disk) (event : Option Event) → event_at ns call ≡ event → d ≡ within event (disk (take (began_at ns call) ns)) (disk (take (ended_at ns call) ns))
+    → made ≡ whole event (disk (take (began_at ns call) ns)) → LeftWithin ns call image.live → Chosen d made choice image → StopsAt ns call choice image
+stops ns call choice d made image event is disk_is made_is left chosen = record {
+  left = left;
+  picks = record {
+    at = λ q.
+        let before = disk (take (began_at ns call) ns) in
+        let later = disk (take (ended_at ns call) ns) in
+        chosen.at q ∙ ap (λ (x : Disk). picked x made choice q) disk_is ∙ ap (λ (y : Disk). picked (within event before later) y choice q) made_is
+        ∙ ap (λ (e : Option Event). picked (within e before later) (whole e before) choice q) (sym is);
+  };
+  rest = chosen.rest;
+}
+
+-- a call that changed nothing
+pub stops_none : (log : List Entry) (call choice i : ℕ) (made image : Disk) → i ≡ began_at (notes log) call → event_at (notes log) call ≡ None → made ≡ disk (notes (take i log)) → Chosen (disk (notes (take i log))) made choice image
+    → StopsAt (notes log) call choice image
+stops_none log call choice i made image at none is chosen =
+    let d = disk (notes (take i log)) in
+    let same : d ≡ disk (take (began_at (notes log) call) (notes log)) = ap disk (sym (take-map note_of i log)) ∙ ap (λ (k : ℕ). disk (take k (notes log))) at in
+    stops (notes log) call choice d made image None none same (is ∙ same)
+    (left_before (notes log) call image.live (subst (λ (x : Disk). IsImage x image.live) same (chosen_image d made choice image (subst (λ (x : Disk). Shows d x) (sym is) (shows_itself d)) chosen)))
+    chosen
 
 completed : (e : Event) (d : Disk) (ns later : List Note) (k : ℕ) → disk ns ≡ d → Logs ns later k (as_made e) → disk later ≡ step (as_made e) d
 completed e d ns later k is logs = ap disk logs ∙ replay-push ns (record { call = k; event = as_made e }) blank ∙ ap (λ (x : Disk). step (as_made e) x) is
 
-pub rest_shows : (e : Event) (d : Disk) (ns later : List Note) (k : ℕ) → disk ns ≡ d → Logs ns later k (as_made e) → is_rest e ≡ true → Shows d (disk later)
-rest_shows e d ns later k is logs rest = subst (λ (x : Disk). Shows d x) (sym (completed e d ns later k is logs)) (shows_rest e d rest)
-
-pub call_shows : (log : List Entry) (i : ℕ) (x : Entry) (ns later : List Note) (k : ℕ) → i < length log → x ≡ get_or log i x → disk ns ≡ disk (notes (take i log)) → Logs ns later k (as_made (event_of (get_or log i x).change)) → is_rest (event_of (get_or log i x).change) ≡ false → Shows (disk (notes (take (i + 1) log))) (disk later)
-call_shows log i x ns later k lt at is logs going =
-    let e = event_of (get_or log i x).change in
+-- one that puts names on the disk
+pub stops_rest : (log : List Entry) (call choice i k : ℕ) (e : Event) (ns later : List Note) (image : Disk) → i ≡ began_at (notes log) call → event_at (notes log) call ≡ Some e → disk ns ≡ disk (notes (take i log)) → Logs ns later k (as_made e) → is_rest e ≡ true
+    → Chosen (disk (notes (take i log))) (disk later) choice image → StopsAt (notes log) call choice image
+stops_rest log call choice i k e ns later image at some is logs rest chosen =
     let d = disk (notes (take i log)) in
-    subst (λ (y : Disk). Shows y (disk later)) (sym (disk_more log i x lt at ∙ ap (λ (y : Entry). step (event_of y.change) d) at))
-    (subst (λ (y : Disk). Shows (step e d) y) (sym (completed e d ns later k is logs)) (shows_made e d going))
+    let same : d ≡ disk (take (began_at (notes log) call) (notes log)) = ap disk (sym (take-map note_of i log)) ∙ ap (λ (n : ℕ). disk (take n (notes log))) at in
+    let done : disk later ≡ step (as_made e) d = completed e d ns later k is logs in
+    stops (notes log) call choice d (disk later) image (Some e) some (same ∙ sym (ap (λ b. cond b (disk (take (began_at (notes log) call) (notes log))) (disk (take (ended_at (notes log) call) (notes log)))) rest))
+    (done ∙ ap (λ (x : Disk). step (as_made e) x) same)
+    (left_before (notes log) call image.live (subst (λ (x : Disk). IsImage x image.live) same (chosen_image d (disk later) choice image (subst (λ (x : Disk). Shows d x) (sym done) (shows_rest e d rest)) chosen)))
+    chosen
+
+-- any other
+pub stops_after : (log : List Entry) (call choice i m k : ℕ) (x : Entry) (e : Event) (ns later : List Note) (image : Disk) → i ≡ began_at (notes log) call → m ≡ count_by (λ (y : Note). nat_eq y.call call && is_call y.event) (notes log) → m ≡ 1
+    → i < length log → x ≡ get_or log i x → event_of x.change ≡ e → event_at (notes log) call ≡ Some e → disk ns ≡ disk (notes (take i log)) → Logs ns later k (as_made e) → is_rest e ≡ false → Chosen (disk (notes (take (i + 1) log))) (disk later) choice image
+    → StopsAt (notes log) call choice image
+stops_after log call choice i m k x e ns later image at count one lt found_ of_ some is logs going chosen =
+    let before = disk (notes (take i log)) in
+    let d = disk (notes (take (i + 1) log)) in
+    let first = disk (take (began_at (notes log) call) (notes log)) in
+    let last = disk (take (ended_at (notes log) call) (notes log)) in
+    let same : before ≡ first = ap disk (sym (take-map note_of i log)) ∙ ap (λ (n : ℕ). disk (take n (notes log))) at in
+    let end : i + 1 ≡ ended_at (notes log) call = omega (arith, at, count, one) in
+    let later_is : d ≡ last = ap disk (sym (take-map note_of (i + 1) log)) ∙ ap (λ (n : ℕ). disk (take n (notes log))) end in
+    let done : disk later ≡ step (as_made e) before = completed e before ns later k is logs in
+    let shows : Shows d (disk later) = subst (λ (y : Disk). Shows y (disk later)) (sym (disk_more log i x lt found_ ∙ ap (λ (f : Event). step f before) of_)) (subst (λ (y : Disk). Shows (step e before) y) (sym done) (shows_made e before going)) in
+    stops (notes log) call choice d (disk later) image (Some e) some (later_is ∙ sym (ap (λ b. cond b first last) going)) (done ∙ ap (λ (y : Disk). step (as_made e) y) same)
+    (left_after (notes log) call image.live (subst (λ (y : Disk). IsImage y image.live) later_is (chosen_image d (disk later) choice image shows chosen)))
+    chosen
+
+-- ---- the event of the call
+plus_one : (b c : ℕ) → c ≢ 1 → b + c ≡ b + 1 → ⊥
+plus_one b c ne is = ne (omega (arith, is))
+
+pub event_not_one : (ns : List Note) (call m : ℕ) → m ≡ count_by (λ (y : Note). nat_eq y.call call && is_call y.event) ns → m ≢ 1 → event_at ns call ≡ None
+event_not_one ns call m count ne =
+    ap (λ b. cond b (first_event (drop (began_at ns call) ns)) None) (ne_eqb (ended_at ns call) (began_at ns call + 1) (plus_one (began_at ns call) _ (λ one. ne (count ∙ one))))
+
+no_event : (b : Bool) (o : Option Event) → o ≡ None → cond b o None ≡ None
+no_event true o none = none
+no_event false o none = refl
+
+pub event_past : (log : List Entry) (call i : ℕ) → i ≡ began_at (notes log) call → length log ≤ i → event_at (notes log) call ≡ None
+event_past log call i at le =
+    no_event _ (first_event (drop (began_at (notes log) call) (notes log))) (ap first_event (drop_all (began_at (notes log) call) (notes log) (omega (arith, length-map log note_of, at, le))))
+
+pub event_one : (log : List Entry) (call i m : ℕ) (x : Entry) → i ≡ began_at (notes log) call → m ≡ count_by (λ (y : Note). nat_eq y.call call && is_call y.event) (notes log) → m ≡ 1 → i < length log → x ≡ get_or log i x
+    → event_at (notes log) call ≡ Some (event_of x.change)
+event_one log call i m x at count one lt is =
+    let end : ended_at (notes log) call ≡ began_at (notes log) call + 1 = omega (arith, count, one) in
+    ap (λ (n : ℕ). cond (nat_eq n (began_at (notes log) call + 1)) (first_event (drop (began_at (notes log) call) (notes log))) None) end
+    ∙ ap (λ b. cond b (first_event (drop (began_at (notes log) call) (notes log))) None) (eq-eqb (began_at (notes log) call + 1) (began_at (notes log) call + 1) refl)
+    ∙ ap (λ (n : ℕ). first_event (drop n (notes log))) (sym at)
+    ∙ ap first_event (drop-map note_of i log ∙ ap notes (drop_more log i x lt ∙ ap (λ (y : Entry). y ∷ drop (i + 1) log) (sym is)))

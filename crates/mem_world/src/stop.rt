@@ -1,12 +1,15 @@
 //! The files that a crash within a device call may leave.
-ghost use Rattle.std.specs.Prelude.{◌≡◌, ◌⊎◌, ◌+◌, ◌&&◌, ℕ, List, nat_eq, true, false, IsTrue, IfOk, IfSome, OnOk};
+ghost use Rattle.std.specs.Prelude.{◌≡◌, ◌+◌, ◌<◌, ◌≤◌, ◌++◌, [], ◌&&◌, ℕ, List, length, get_or, nat_eq, true, IfOk, IfSome, OnOk, if◌then◌else◌};
 ghost use Rattle.std.specs.List.{count_by};
+ghost use Rattle.std.specs.BinaryHeap.{lt_by_cmp};
+ghost use Rattle.std.specs.Cmp.Lexicographic.{slice_cmp};
 ghost use Rattle.std.specs.Option.{option_map};
+ghost use Rattle.std.specs.Ordering.{nat_cmp};
 ghost use Rattle.mem_world.specs.Device.{began_at, is_call};
-ghost use Rattle.mem_world.specs.Disk.{Note, Stands, IsImage, disk};
+ghost use Rattle.mem_world.specs.Disk.{Note, disk, same_text};
 ghost use Rattle.mem_world.specs.Log.{notes, event_of};
 ghost use Rattle.mem_world.specs.Store.{Records};
-ghost use Rattle.mem_world.specs.Stop.{shown, as_made, is_rest, Remembers, Rebinds, Traces, StoodAt, Shows, Puts, LeftWithin};
+ghost use Rattle.mem_world.specs.Stop.{shown, among, with_name, several, number, oldest, is_set, picked_from, as_made, is_rest, forgets, binds, without_name, several_after, binding_at, slot_names, Traces, Puts, Chosen, StopsAt};
 
 use crate::log::{Change, Entry, Slot};
 use crate::slots::is_same;
@@ -79,7 +82,7 @@ fn is_device(change: &Change) -> bool
 
 // Whether what the name stood for is forgotten with the change.
 fn forgets(change: &Change, name: &Name) -> bool
-    ensures { result ≡ false → Remembers (event_of change.now) name.now }
+    ensures { result ≡ forgets (event_of change.now) name.now }
 {
     match change {
         Change::Fixed | Change::Settled => true,
@@ -90,7 +93,7 @@ fn forgets(change: &Change, name: &Name) -> bool
 
 // Whether the name stands for another file from the change on, or may do so.
 fn binds(change: &Change, name: &Name) -> bool
-    ensures { IsTrue result → Rebinds (event_of change.now) name.now }
+    ensures { result ≡ binds (event_of change.now) name.now }
 {
     match change {
         Change::Started(other) => is_same(name, other),
@@ -103,7 +106,7 @@ fn binds(change: &Change, name: &Name) -> bool
 }
 
 fn is_either(name: &Name, one: &Name, other: &Name) -> bool
-    ensures { IsTrue result → (name.now ≡ one.now) ⊎ (name.now ≡ other.now) }
+    ensures { result ≡ if same_text name.now one.now then true else same_text name.now other.now }
 {
     if is_same(name, one) {
         return true;
@@ -111,9 +114,10 @@ fn is_either(name: &Name, one: &Name, other: &Name) -> bool
     is_same(name, other)
 }
 
-// The first change since names were put on the disk that binds the name.
+// The change that took the name's oldest binding from it, the first since names were put on the disk.
 fn first_binding(log: &[Entry], name: &Name) -> Option<usize>
-    ensures { IfSome result (StoodAt (notes log.now) name.now) }
+    ensures within { IfSome result (λ i. i ≤ length log.now) }
+    ensures oldest { oldest (disk (notes log.now)).older name.now ≡ binding_at (notes log.now) name.now result }
 {
     let mut first = None;
     for i in (0..log.len()).rev() {
@@ -125,6 +129,73 @@ fn first_binding(log: &[Entry], name: &Name) -> Option<usize>
         }
     }
     first
+}
+
+fn is_among(names: &[Name], name: &Name) -> bool
+    ensures { result ≡ among name.now names.now }
+{
+    names.iter().any(|other| is_same(name, other))
+}
+
+// Adds the name where it isn't there.
+fn add_name(alloc: Global, names: &mut Vec<Name>, name: &Name) -> Result<(), AllocError>
+    ensures { OnOk result (names.new.items ≡ with_name name.now names.old.items) }
+{
+    if !is_among(names, name) {
+        names.push(name.copy(alloc)?)?;
+    }
+    Ok(())
+}
+
+// The names with more than one binding, after a change more.
+fn note_names(alloc: Global, names: &mut Vec<Name>, change: &Change) -> Result<(), AllocError>
+    ensures { OnOk result (names.new.items ≡ several_after (event_of change.now) names.old.items) }
+{
+    match change {
+        Change::Started(name) => add_name(alloc, names, name),
+        Change::Gone(name) => add_name(alloc, names, name),
+        Change::HalfGone(name) => add_name(alloc, names, name),
+        Change::Swapped(name, to) => add_two(alloc, names, to, name),
+        Change::HalfSwapped(name, to) => add_two(alloc, names, to, name),
+        Change::Bound(name, _) => {
+            remove_name(names, name);
+            Ok(())
+        }
+        Change::Fixed | Change::Settled => {
+            names.clear();
+            Ok(())
+        }
+        Change::Appended(_, _) | Change::Sealed(_) => Ok(()),
+    }
+}
+
+fn remove_name(names: &mut Vec<Name>, name: &Name)
+    ensures { names.new.items ≡ without_name name.now names.old.items }
+{
+    names.retain(|other| !is_same(name, other));
+}
+
+fn add_two(
+    alloc: Global,
+    names: &mut Vec<Name>,
+    one: &Name,
+    other: &Name,
+) -> Result<(), AllocError>
+    ensures { OnOk result (names.new.items ≡ with_name other.now (with_name one.now names.old.items)) }
+{
+    add_name(alloc, names, one)?;
+    add_name(alloc, names, other)
+}
+
+// The names with more than one binding.
+fn several(alloc: Global, log: &[Entry]) -> Result<Vec<Name>, AllocError>
+    ensures { IfOk result (λ names. names.items ≡ several (disk (notes log.now)).older) }
+{
+    let mut names = Vec::new(alloc);
+    for i in 0..log.len() {
+        note_names(alloc, &mut names, &log[i].change)?;
+    }
+    Ok(names)
 }
 
 // What a change says of whether a file is sealed.
@@ -186,8 +257,7 @@ fn stood(
     name: &Name,
     is_newest: bool,
 ) -> Result<Option<Vec<u8>>, AllocError>
-    requires { Shows (disk (notes log.now)) (disk (notes made.now.log.items)) }
-    ensures { IfOk result (λ o. Stands (disk (notes log.now)) name.now (option_map (λ v. v.items) o)) }
+    ensures { IfOk result (λ o. option_map (λ v. v.items) o ≡ picked_from (oldest (disk (notes log.now)).older name.now) is_newest (shown (disk (notes made.now.log.items)) name.now)) }
 {
     if is_newest {
         return newest(alloc, made, name);
@@ -201,21 +271,36 @@ fn stood(
     }
 }
 
-// The number of a name among those with several bindings, in the order of their texts.
-fn rank(files: &[Slot], log: &[Entry], name: &Name) -> usize {
-    let mut before = 0;
-    for i in 0..files.len() {
-        let other = &files[i].name;
-        if other.text().as_bytes() < name.text().as_bytes() && first_binding(log, other).is_some() {
-            before += 1;
-        }
-    }
-    before
+fn comes_before(one: &Name, other: &Name) -> bool
+    ensures { result ≡ lt_by_cmp (slice_cmp nat_cmp) one.now other.now }
+{
+    one.text()
+        .as_bytes()
+        .cmp(other.text().as_bytes())
+        .is_lt()
+}
+
+// How many of the names come before this one, in the order of their texts.
+fn number(names: &[Name], name: &Name) -> usize
+    ensures { result ≡ number names.now name.now }
+{
+    names
+        .iter()
+        .filter(|other| comes_before(other, name))
+        .count()
+}
+
+fn is_set(choice: u64, bit: usize) -> bool
+    requires { bit < 64 }
+    ensures { result ≡ is_set choice bit }
+{
+    (choice >> bit) % 2 == 1
 }
 
 // Binds the name, where it stands for a file.
 fn put(image: &mut Store, name: &Name, bytes: Option<Vec<u8>>) -> Result<(), AllocError>
-    ensures { OnOk result (Puts (notes image.old.log.items) (notes image.new.log.items) name.now (option_map (λ v. v.items) bytes)) }
+    ensures calls { image.new.calls ≡ image.old.calls }
+    ensures puts { OnOk result (Puts (notes image.old.log.items) (notes image.new.log.items) name.now (option_map (λ v. v.items) bytes)) }
 {
     match bytes {
         Some(bytes) => image.add(name, bytes),
@@ -223,19 +308,31 @@ fn put(image: &mut Store, name: &Name, bytes: Option<Vec<u8>>) -> Result<(), All
     }
 }
 
+// The names with more than one binding, and then those that have a slot.
+fn nth_name<'a>(names: &'a [Name], files: &'a [Slot], i: usize) -> &'a Name
+    requires { i < length names.now + length files.now }
+    ensures { result.now ≡ get_or (names.now ++ slot_names files.now) i [] }
+{
+    if i < names.len() {
+        return &names[i];
+    }
+    &files[i - names.len()].name
+}
+
 // Each name at its newest or at its oldest.
 fn chosen(alloc: Global, log: &[Entry], made: &Store, choice: u64) -> Result<Store, AllocError>
-    requires { Shows (disk (notes log.now)) (disk (notes made.now.log.items)) }
-    ensures { IfOk result (λ s. IsImage (disk (notes log.now)) (disk (notes s.log.items)).live) }
+    ensures calls { IfOk result (λ s. s.calls ≡ 0) }
+    ensures chosen { IfOk result (λ s. Chosen (disk (notes log.now)) (disk (notes made.now.log.items)) choice (disk (notes s.log.items))) }
 {
+    let names = several(alloc, log)?;
     let mut image = Store::new(alloc);
-    for i in 0..made.files.len() {
-        let name = &made.files[i].name;
-        let bit = rank(&made.files, log, name) % 3;
-        let is_newest = (choice >> bit) % 2 == 1;
+    for i in 0..names.len() + made.files.len() {
+        let name = nth_name(&names, &made.files, i);
+        let is_newest = is_set(choice, number(&names, name) % 3);
         let bytes = stood(alloc, log, made, name, is_newest)?;
         put(&mut image, name, bytes)?;
     }
+    image.settle()?;
     Ok(image)
 }
 
@@ -257,7 +354,8 @@ fn made_by(log: &[Entry], call: u32) -> usize
 
 /// The files as a crash within the call may leave them.
 pub fn image(alloc: Global, log: &[Entry], call: u32, choice: u64) -> Result<Store, AllocError>
-    ensures { IfOk result (λ s. LeftWithin (notes log.now) call (disk (notes s.log.items)).live) }
+    ensures calls { IfOk result (λ s. s.calls ≡ 0) }
+    ensures stops { IfOk result (λ s. StopsAt (notes log.now) call choice (disk (notes s.log.items))) }
 {
     let at = made_before(log, call);
     let mut made = again(alloc, &log[..at])?;

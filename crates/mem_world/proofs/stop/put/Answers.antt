@@ -7,8 +7,8 @@ use Rattle.mem_world.proofs.stop.put.Goals as goal
 abbrev items_of : Option (Vec ℕ Global) → Option (List ℕ)
 items_of o = option_map (λ v. v.items) o
 
-pub returns-in-Some : goal.returns-in-Some
-returns-in-Some c = puts_bound _ _ _ c.args.name.now _ _ c.add.result (ap items_of c.in-Some.is) c.add.ensures.kept
+pub returns-in-Some-clause-puts : goal.returns-in-Some-clause-puts
+returns-in-Some-clause-puts c = puts_bound _ _ _ c.args.name.now _ _ c.add.result (ap items_of c.in-Some.is) c.add.ensures.kept
 
-pub returns-in-None : goal.returns-in-None
-returns-in-None c = record { either = inr (ap items_of c.in-None.is, refl) }
+pub returns-in-None-clause-puts : goal.returns-in-None-clause-puts
+returns-in-None-clause-puts c = record { either = inr (ap items_of c.in-None.is, refl) }
