@@ -239,13 +239,13 @@ pub filled_put : (target : List ℕ → Option (List ℕ)) (all : List (List ℕ
     → Filled target all i (disk ns).live → Filled target all (i + 1) (disk later).live
 filled_put target all i x ns later o lt is aim puts filled = ⊎_elim
     (λ (put : (k : ℕ) × (b : List ℕ) × (o ≡ Some b) × Logs ns later k (Bound x b)).
-      let live = (disk ns).live in
-      subst (λ (f : Files). Filled target all (i + 1) f) (sym (ap (λ (e : Disk). e.live) (ap disk put.3 ∙ replay-push ns (record { call = put.0; event = Bound x put.1 }) blank)))
-      (filled_more target all i x live (insert live x put.1) lt is (get-put live x put.1 ∙ sym put.2 ∙ aim) (λ q ne. get-put_other live x put.1 q ne) filled))
+    let live = (disk ns).live in
+    subst (λ (f : Files). Filled target all (i + 1) f) (sym (ap (λ (e : Disk). e.live) (ap disk put.3 ∙ replay-push ns (record { call = put.0; event = Bound x put.1 }) blank)))
+    (filled_more target all i x live (insert live x put.1) lt is (get-put live x put.1 ∙ sym put.2 ∙ aim) (λ q ne. get-put_other live x put.1 q ne) filled))
     (λ (none : (o ≡ None) × (later ≡ ns)).
-      let live = (disk ns).live in
-      subst (λ (l : List Note). Filled target all (i + 1) (disk l).live) (sym none.1)
-      (filled_more target all i x live live lt is (⊎_elim (λ (empty : get live x ≡ None). empty ∙ sym none.0 ∙ aim) (λ (set : get live x ≡ target x). set) (filled.each x)) (λ q ne. refl) filled))
+    let live = (disk ns).live in
+    subst (λ (l : List Note). Filled target all (i + 1) (disk l).live) (sym none.1)
+    (filled_more target all i x live live lt is (⊎_elim (λ (empty : get live x ≡ None). empty ∙ sym none.0 ∙ aim) (λ (set : get live x ≡ target x). set) (filled.each x)) (λ q ne. refl) filled))
     puts.either
 
 pub puts_bound : {R E : Type 0} (old new : List Note) (k : ℕ) (q b : List ℕ) (o : Option (List ℕ)) (r : Result R E) → o ≡ Some b → Keeps old new k (Bound q b) r → OnOk r (Puts old new q o)
@@ -264,7 +264,7 @@ filled_rest d made choice files live q (Some b) is looks one filled =
     (among-back q (several d.older) (slot_names files) (look-among files q (subst (λ (y : Option (List ℕ)). IsSome y) (sym is) refl))))
 filled_rest d made choice files live q None is looks one filled = ⊎_elim
     (λ (none : get live q ≡ None).
-      none ∙ sym (ap (λ (p : Option Binding). picked_from p (is_set choice (number (several d.older) q % 3)) (shown made q)) (several-oldest d.older q one) ∙ empty_none (made.loose q) (get made.live q) (sym looks ∙ is)))
+    none ∙ sym (ap (λ (p : Option Binding). picked_from p (is_set choice (number (several d.older) q % 3)) (shown made q)) (several-oldest d.older q one) ∙ empty_none (made.loose q) (get made.live q) (sym looks ∙ is)))
     (λ (set : get live q ≡ picked d made choice q). set)
     (filled.each q)
 

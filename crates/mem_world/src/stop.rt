@@ -175,12 +175,7 @@ fn remove_name(names: &mut Vec<Name>, name: &Name)
     names.retain(|other| !is_same(name, other));
 }
 
-fn add_two(
-    alloc: Global,
-    names: &mut Vec<Name>,
-    one: &Name,
-    other: &Name,
-) -> Result<(), AllocError>
+fn add_two(alloc: Global, names: &mut Vec<Name>, one: &Name, other: &Name) -> Result<(), AllocError>
     ensures { OnOk result (names.new.items ≡ with_name other.now (with_name one.now names.old.items)) }
 {
     add_name(alloc, names, one)?;
@@ -274,10 +269,7 @@ fn stood(
 fn comes_before(one: &Name, other: &Name) -> bool
     ensures { result ≡ lt_by_cmp (slice_cmp nat_cmp) one.now other.now }
 {
-    one.text()
-        .as_bytes()
-        .cmp(other.text().as_bytes())
-        .is_lt()
+    one.text().as_bytes().cmp(other.text().as_bytes()).is_lt()
 }
 
 // How many of the names come before this one, in the order of their texts.

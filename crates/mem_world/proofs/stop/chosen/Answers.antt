@@ -23,11 +23,13 @@ loop-i-preserved c =
     let made = disk (notes c.args.made.now.log.items) in
     let names = c.in_ok-names.names.items in
     let files = c.args.made.now.files.items in
-    let x = c.nth_name-name.result.now in
-    (c.put.ensures.calls ∙ c.loop-i.invariant.0, filled_put (picked d made c.args.choice) (names ++ slot_names files) c.loop-i.i x (notes c.loop-i.image.log.items) (notes c.put.new.image.log.items) _
-    (omega (arith, all_long names files, c.loop-i-test.true, c.len.ensures, c.len-2.ensures, c.in_ok-names.names.ok, c.args.made.now.files.ok)) (c.nth_name-name.ensures ∙ (λ j. get_or (c.deref.ensures.value j ++ slot_names (c.deref-in-loop-i.ensures.value j)) c.loop-i.i []))
-    (c.in_ok-bytes.ensures ∙ ap (λ (b : Bool). picked_from (oldest d.older x) b (shown made x)) (c.is_set-is_newest.ensures ∙ ap (λ (n : ℕ). is_set c.args.choice (n % 3)) (c.number.ensures ∙ ap (λ (l : List (List ℕ)). number l x) (c.deref-in-loop-i-2.ensures.value ∙ c.in_ok-names.ensures))))
-    c.in_ok-put.ensures.puts c.loop-i.invariant.1)
+    let x = c.nth_name-name.result.now in (
+      c.put.ensures.calls ∙ c.loop-i.invariant.0,
+      filled_put (picked d made c.args.choice) (names ++ slot_names files) c.loop-i.i x (notes c.loop-i.image.log.items) (notes c.put.new.image.log.items) _
+          (omega (arith, all_long names files, c.loop-i-test.true, c.len.ensures, c.len-2.ensures, c.in_ok-names.names.ok, c.args.made.now.files.ok)) (c.nth_name-name.ensures ∙ (λ j. get_or (c.deref.ensures.value j ++ slot_names (c.deref-in-loop-i.ensures.value j)) c.loop-i.i []))
+          (c.in_ok-bytes.ensures ∙ ap (λ (b : Bool). picked_from (oldest d.older x) b (shown made x)) (c.is_set-is_newest.ensures ∙ ap (λ (n : ℕ). is_set c.args.choice (n % 3)) (c.number.ensures ∙ ap (λ (l : List (List ℕ)). number l x) (c.deref-in-loop-i-2.ensures.value ∙ c.in_ok-names.ensures))))
+          c.in_ok-put.ensures.puts c.loop-i.invariant.1,
+    )
 
 pub returns-clause-chosen : goal.returns-clause-chosen
 returns-clause-chosen c =
