@@ -45,3 +45,12 @@ fn scratch_fails_in_mid_stream(rt: HostRuntime) -> Result<(), Fail> {
     assert_eq!(rt; (scratch.calls(), scratch.starved()), (6, 0));
     Ok(())
 }
+
+#[test]
+fn endless_source_gives_zeros(rt: HostRuntime) {
+    let mut source = EndlessSource::new();
+    let mut buf = [1; 3];
+    assert_eq!(rt; source.read(&mut buf), Ok(3));
+    assert_eq!(rt; buf, [0; 3]);
+    assert_eq!(rt; source.read(&mut buf), Ok(3));
+}

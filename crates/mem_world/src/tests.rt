@@ -53,6 +53,44 @@ fn puts_a_file(rt: HostRuntime) {
     assert!(rt; tree.bytes_of(&temp).is_none());
 }
 
+// What the file and its temporary stand for within each call of a put, from choice 0 on: `-` where there is none.
+const WITHIN: [(u32, [(&str, &str); 4]); 5] = [
+    (1, [("old", "-"), ("old", ""), ("old", "-"), ("old", "")]),
+    (2, [("old", "-"), ("old", ""), ("old", "-"), ("old", "")]),
+    (
+        3,
+        [("old", "-"), ("old", "new"), ("old", "-"), ("old", "new")],
+    ),
+    (4, [("old", "-"), ("new", "-"), ("old", "-"), ("new", "-")]),
+    (5, [("old", "-"), ("new", "-"), ("old", "-"), ("new", "-")]),
+];
+
+// Whether the tree has these bytes at a name, or no file for `-`.
+fn stands(tree: &MemTree, name: &Name, bytes: &str) -> bool {
+    tree.bytes_of(name).unwrap_or(b"-") == bytes.as_bytes()
+}
+
+#[test]
+fn stops_within_a_put(rt: HostRuntime) {
+    let alloc = rt.alloc();
+    let Ok((mut tree, temp, name)) = one_file(alloc, &[]) else {
+        assert!(rt; false);
+        return;
+    };
+    assert!(rt; put(&mut tree, &temp, &name, b"new").is_ok());
+    for (call, files) in WITHIN {
+        for choice in 0..8_usize {
+            let (file, other) = files[choice % 4];
+            match tree.stop_at(alloc, call, choice as u64) {
+                Ok(image) => {
+                    assert!(rt; stands(&image, &name, file) && stands(&image, &temp, other));
+                }
+                Err(_) => assert!(rt; false),
+            }
+        }
+    }
+}
+
 #[test]
 fn fails_in_the_middle(rt: HostRuntime) {
     let Ok((mut tree, temp, name)) = one_file(rt.alloc(), &[4]) else {
@@ -69,6 +107,28 @@ fn fails_in_the_middle(rt: HostRuntime) {
     assert!(rt; tree.has_dir(&name, 2) == Ok(false));
     assert!(rt; read_and_drop(&mut tree, &name) == Ok(2));
     assert!(rt; tree.bytes_of(&name).is_none());
+}
+
+#[test]
+fn claims_a_size(rt: HostRuntime) {
+    let Ok((tree, temp, name)) = one_file(rt.alloc(), &[5]) else {
+        assert!(rt; false);
+        return;
+    };
+    let Ok(same) = name.copy(rt.alloc()) else {
+        assert!(rt; false);
+        return;
+    };
+    let mut sized = SizedTree::new(tree, same, 1 << 40);
+    assert!(rt; sized.size(&name) == Ok(Some(1 << 40)));
+    assert!(rt; sized.size(&temp) == Ok(None));
+    let mut buf = [0; 8];
+    assert!(rt; sized.read_at(&name, 1, &mut buf) == Ok(2));
+    assert_eq!(rt; &buf[..2], b"ld".as_slice());
+    assert!(rt; sized.read_at(&temp, 0, &mut buf).is_err());
+    assert!(rt; sized.start(&temp).is_ok());
+    assert!(rt; sized.size(&name).is_err());
+    assert!(rt; sized.size(&temp) == Ok(Some(0)));
 }
 
 #[test]
