@@ -1,13 +1,11 @@
 -- The names with more than one binding, and the oldest of each.
-use Rattle.std.proofs.Common.{◌≡◌, ◌≢◌, ◌⊎◌, inl, inr, ⊎_elim, ℕ, ◌+◌, ◌-◌, ◌<◌, ◌≤◌, List, [], ◌∷◌, ◌++◌, length, take, filter, not, get_or, Bool, true, false, cond, ◌||◌, Option, Some, None, IsSome, refl, sym, ◌∙◌, ap, subst, arith}
+use Rattle.std.proofs.Common.{◌≡◌, ◌⊎◌, inl, inr, ℕ, List, [], ◌∷◌, ◌++◌, not, Bool, true, false, cond, ◌||◌, Option, Some, None, IsSome, refl, sym, ◌∙◌, ap, subst}
 use Rattle.std.proofs.lemmas.Bool.{false≢true}
 use Rattle.std.proofs.lemmas.Option.{none-some, same_Some}
-use Rattle.std.specs.List.{list_any}
 use Rattle.outside.specs.Files.{bytes_at}
-use Rattle.outside.proofs.Names.{equal_or_not, alike, named, differ}
-use Rattle.mem_world.specs.declared.log.Entry.{Entry}
+use Rattle.outside.proofs.Names.{alike, named, differ}
 use Rattle.mem_world.specs.declared.log.Slot.{Slot}
-use Rattle.mem_world.specs.Disk.{Event, Note, Binding, Disk, Had, step, bound, same_text, without}
+use Rattle.mem_world.specs.Disk.{Event, Binding, Disk, Had, step, bound, same_text, without}
 use Rattle.mem_world.specs.Disk.Event.{Started, Appended, Sealed, Swapped, Gone, Fixed, Settled, Bound, HalfSwapped, HalfGone}
 use Rattle.mem_world.specs.Log.{look, bytes_in}
 use Rattle.mem_world.specs.Stop.{emptied, among, with_name, several, oldest, older_or, slot_names, forgets, binds, without_name, several_after}

@@ -1,10 +1,10 @@
 -- What a tree tells that stands for what a crash left.
-use Rattle.std.proofs.Common.{◌≡◌, ◌⊎◌, inl, inr, ℕ, List, Bool, true, false, not, Option, Some, refl, sym, ◌∙◌, ap, subst}
+use Rattle.std.proofs.Common.{◌≡◌, ◌⊎◌, inl, inr, ℕ, List, true, not, Option, Some, sym, ◌∙◌, ap, subst}
 use Rattle.std.proofs.lemmas.Bool.{false≢true}
 use Rattle.std.proofs.lemmas.Option.{same_Some}
 use Rattle.std.specs.FinMap.{get}
 use Rattle.outside.specs.Files.{Files}
-use Rattle.outside.specs.TreeView.{TreeView, MayLeave}
+use Rattle.outside.specs.TreeView.{MayLeave}
 use Rattle.outside.proofs.Names.{same_files}
 use Rattle.mem_world.specs.Device.{began_at, ended_at}
 use Rattle.mem_world.specs.Disk.{Note, Binding, Disk, Had, Stands, IsImage, disk, view_of}

@@ -16,10 +16,10 @@ use Rattle.mem_world.specs.declared.stop.Trace.{Trace}
 use Rattle.mem_world.specs.declared.log.Entry.{Entry}
 use Rattle.mem_world.specs.declared.log.Slot.{Slot}
 use Rattle.mem_world.specs.Device.{is_call, began_at, ended_at}
-use Rattle.mem_world.specs.Disk.{Event, Note, Binding, Disk, Had, Stands, IsImage, Logs, step, replay, disk, blank, bound, marked, spoiled}
+use Rattle.mem_world.specs.Disk.{Event, Note, Binding, Disk, Stands, IsImage, Logs, step, disk, blank, bound, marked}
 use Rattle.mem_world.specs.Disk.Event.{Started, Appended, Sealed, Swapped, Gone, Fixed, Settled, Bound, HalfSwapped, HalfGone}
 use Rattle.mem_world.specs.Log.{notes, note_of, event_of, look, Keeps}
-use Rattle.mem_world.specs.Stop.{emptied, shown, among, several, oldest, older_or, is_set, number, picked_from, picked, as_made, is_rest, first_event, event_at, within, whole, Picks, LeftWithin, IsAtRest, Chosen, StopsAt, slot_names, forgets, binds, several_after, binding_at, Traces, loose_by, Shows, Puts}
+use Rattle.mem_world.specs.Stop.{emptied, shown, among, several, oldest, older_or, is_set, number, picked_from, picked, as_made, is_rest, first_event, event_at, within, whole, LeftWithin, Chosen, StopsAt, slot_names, forgets, binds, several_after, binding_at, Traces, loose_by, Shows, Puts}
 use Rattle.mem_world.proofs.Disk.{replay-push, marked_same, marked_other, spoiled-other, freed-other}
 use Rattle.mem_world.proofs.Matching.{notes-push}
 use Rattle.mem_world.proofs.Several.{among-push, among-front, among-back, several-step, several-oldest, look-among, older_or-none, older_or-both, oldest-forgets, oldest-binds, oldest-keeps, oldest-had, empty_was}

@@ -1,5 +1,5 @@
 -- What a crash within a device call leaves, as a choice between what names may stand for.
-use Rattle.std.specs.Prelude.{◌≡◌, ◌⊎◌, ◌+◌, ◌/◌, ◌%◌, ◌^◌, ℕ, List, [], ◌∷◌, ◌++◌, take, drop, filter, map, Bool, true, false, not, ◌||◌, nat_eq, if◌then◌else◌, Option, Some, None}
+use Rattle.std.specs.Prelude.{◌≡◌, ◌⊎◌, ◌+◌, ◌/◌, ◌%◌, ◌^◌, ℕ, List, [], ◌∷◌, ◌++◌, take, drop, filter, map, Bool, true, false, not, nat_eq, if◌then◌else◌, Option, Some, None}
 use Rattle.std.specs.List.{list_any, count_by}
 use Rattle.std.specs.Option.{option_map}
 use Rattle.std.specs.FinMap.{get}
@@ -12,7 +12,7 @@ use Rattle.mem_world.specs.declared.stop.Trace.{Trace}
 use Rattle.mem_world.specs.declared.stop.Trace.TheVariants.{Loose, Tight, Same}
 use Rattle.mem_world.specs.Device.{began_at, ended_at}
 use Rattle.mem_world.specs.Disk.{Event, Note, Binding, Disk, Stands, IsImage, Logs, step, disk, bound, same_text}
-use Rattle.mem_world.specs.Disk.Event.{Started, Appended, Sealed, Swapped, Gone, Fixed, Settled, Bound, HalfSwapped, HalfGone}
+use Rattle.mem_world.specs.Disk.Event.{Started, Swapped, Gone, Fixed, Settled, Bound, HalfSwapped, HalfGone}
 
 -- a file that isn't sealed is empty
 abbrev pub emptied : Bool → Option (List ℕ) → Option (List ℕ)

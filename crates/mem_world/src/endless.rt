@@ -8,6 +8,7 @@ use outside::{Failed, Source};
 pub struct EndlessSource;
 
 impl EndlessSource {
+    /// A source of which no call fails.
     pub fn new() -> EndlessSource {
         EndlessSource
     }

@@ -5,7 +5,7 @@ ghost use Rattle.std.specs.Option.{option_map};
 ghost use Rattle.outside.specs.Files.{Files, bytes_at, HasFileBelow};
 ghost use Rattle.outside.specs.Names.{directory_text};
 ghost use Rattle.outside.specs.TreeView.{IsCall};
-ghost use Rattle.outside.specs.Calls.{IsThere};
+ghost use Rattle.outside.specs.Calls.{IsThere, IsUntouched};
 ghost use Rattle.outside.specs.Silent.{silent_tree};
 ghost use Rattle.mem_world.specs.Sized.{SameClaim, claimed};
 ghost use Rattle.mem_world.specs.Tree.{tells, Settles, Reads, Starts, Appends, Seals, Swaps, Drops, Fixes};
@@ -28,7 +28,7 @@ pub struct SizedTree {
 impl SizedTree {
     /// The tree with that size for that name. All other calls are passed on to the inner tree.
     pub fn new(inner: MemTree, name: Name, size: u64) -> SizedTree
-        ensures inner { result.inner ≡ inner }
+        ensures inner { IsUntouched (tells inner) (tells result.inner) }
         ensures name { result.name ≡ name }
         ensures size { result.size ≡ size }
         ensures faults { result.faults ≡ 0 }

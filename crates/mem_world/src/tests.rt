@@ -53,41 +53,47 @@ fn puts_a_file(rt: HostRuntime) {
     assert!(rt; tree.bytes_of(&temp).is_none());
 }
 
-// What the file and its temporary stand for within each call of a put, from choice 0 on: `-` where there is none.
-const WITHIN: [(u32, [(&str, &str); 4]); 5] = [
-    (1, [("old", "-"), ("old", ""), ("old", "-"), ("old", "")]),
-    (2, [("old", "-"), ("old", ""), ("old", "-"), ("old", "")]),
-    (
-        3,
-        [("old", "-"), ("old", "new"), ("old", "-"), ("old", "new")],
-    ),
-    (4, [("old", "-"), ("new", "-"), ("old", "-"), ("new", "-")]),
-    (5, [("old", "-"), ("new", "-"), ("old", "-"), ("new", "-")]),
-];
+// Whether a stop within a call leaves these bytes at a name, or no file for `-`.
+fn leaves(
+    alloc: Global,
+    tree: &MemTree,
+    (call, choice): (u32, u64),
+    name: &Name,
+    bytes: &str,
+) -> bool {
+    match tree.stop_at(alloc, call, choice) {
+        Ok(image) => image.bytes_of(name).unwrap_or(b"-") == bytes.as_bytes(),
+        Err(_) => false,
+    }
+}
 
-// Whether the tree has these bytes at a name, or no file for `-`.
-fn stands(tree: &MemTree, name: &Name, bytes: &str) -> bool {
-    tree.bytes_of(name).unwrap_or(b"-") == bytes.as_bytes()
+// Whether a stop within each of the five calls of a put leaves the old bytes or the new ones, as the first bit says.
+fn leaves_either(alloc: Global, tree: &MemTree, name: &Name, choice: u64) -> bool {
+    let newest = if choice % 2 == 1 { "new" } else { "old" };
+    let rows = [(1, "old"), (2, "old"), (3, "old"), (4, newest), (5, newest)];
+    rows.iter().all(|(call, bytes)| leaves(alloc, tree, (*call, choice), name, bytes))
 }
 
 #[test]
 fn stops_within_a_put(rt: HostRuntime) {
-    let alloc = rt.alloc();
-    let Ok((mut tree, temp, name)) = one_file(alloc, &[]) else {
+    let Ok((mut tree, temp, name)) = one_file(rt.alloc(), &[]) else {
         assert!(rt; false);
         return;
     };
     assert!(rt; put(&mut tree, &temp, &name, b"new").is_ok());
-    for (call, files) in WITHIN {
-        for choice in 0..8_usize {
-            let (file, other) = files[choice % 4];
-            match tree.stop_at(alloc, call, choice as u64) {
-                Ok(image) => {
-                    assert!(rt; stands(&image, &name, file) && stands(&image, &temp, other));
-                }
-                Err(_) => assert!(rt; false),
-            }
-        }
+    for choice in 0..8 {
+        assert!(rt; leaves_either(rt.alloc(), &tree, &name, choice));
+    }
+    // Of the temporary, unsealed bytes are never seen; from the swap on it is the second of two names.
+    let rows = [
+        (1, 0, "-"),
+        (2, 1, ""),
+        (3, 1, "new"),
+        (4, 5, "-"),
+        (4, 7, "-"),
+    ];
+    for (call, choice, bytes) in rows {
+        assert!(rt; leaves(rt.alloc(), &tree, (call, choice), &temp, bytes));
     }
 }
 

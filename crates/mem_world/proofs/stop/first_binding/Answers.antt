@@ -1,5 +1,5 @@
 use Rattle.std.proofs.Common.{sym, ◌∙◌, arith}
-use Rattle.mem_world.proofs.Stops.{Looked, looked_none, looked_stop, looked_more, looked_first, looked_end}
+use Rattle.mem_world.proofs.Stops.{looked_none, looked_stop, looked_more, looked_first, looked_end}
 use Rattle.mem_world.proofs.stop.first_binding.Goals as goal
 
 pub loop-i-init : goal.loop-i-init

@@ -1,4 +1,4 @@
-use Rattle.std.proofs.Common.{◌≡◌, ⊎_elim, Some, sym, ◌∙◌, ap, arith}
+use Rattle.std.proofs.Common.{⊎_elim, Some, sym, ◌∙◌, ap, arith}
 use Rattle.mem_world.specs.declared.log.Entry.{Entry}
 use Rattle.mem_world.specs.declared.store.Store.{Store}
 use Rattle.mem_world.specs.Disk.{disk}

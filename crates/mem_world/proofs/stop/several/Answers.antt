@@ -1,4 +1,4 @@
-use Rattle.std.proofs.Common.{List, sym, ◌∙◌, ap}
+use Rattle.std.proofs.Common.{sym, ◌∙◌, ap}
 use Rattle.mem_world.specs.declared.log.Entry.{Entry}
 use Rattle.mem_world.specs.Log.{event_of}
 use Rattle.mem_world.specs.Stop.{several_after}

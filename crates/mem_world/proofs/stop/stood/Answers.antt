@@ -1,4 +1,4 @@
-use Rattle.std.proofs.Common.{◌≡◌, Option, Vec, ℕ, List, Bool, sym, ◌∙◌, ap, arith}
+use Rattle.std.proofs.Common.{◌≡◌, Option, Vec, ℕ, List, Bool, sym, ◌∙◌, ap}
 use Rattle.std.specs.Option.{option_map}
 use Rattle.std.specs.declared.alloc.Global.{Global}
 use Rattle.mem_world.specs.Disk.{Binding, disk}
