@@ -1,0 +1,343 @@
+-- A fault stays whatever lines come after the one that decides it.
+use Rattle.std.proofs.Common.{◌≡◌, ◌≢◌, ◌⊎◌, inl, inr, ℕ, zero, suc, ◌+◌, ◌-◌, ◌≤◌, ◌<◌, Bool, true, false, cond, ltb, not, ◌&&◌, List, [], ◌∷◌, ◌++◌, length, Option, None, Some, Result, Ok, Err, refl, sym, ap, subst, ◌∙◌, arith}
+use Rattle.std.proofs.lemmas.Bool.{cases_lt}
+use Rattle.std.proofs.lemmas.List.{length-append}
+use Rattle.hunk_core.specs.declared.BadKind.{BadKind}
+use Rattle.hunk_core.specs.declared.BadKind.TheVariants as kinds
+use Rattle.hunk_core.specs.PlainHunk.{Marked, PlainHunk}
+use Rattle.hunk_core.specs.Reading.{◌>>=◌, Fault, fault, Ahead, ahead}
+use Rattle.hunk_core.proofs.ReadSteps.{bind_ok, ok_is, chosen}
+use Rattle.context_form.specs.Openings.{is_stars, begins_old, begins_hunk}
+use Rattle.context_form.specs.Ranges.{is_count}
+use Rattle.context_form.specs.Merging.{joined, size_beside}
+use Rattle.context_form.specs.Hunks.{PlainPart, sized, agreed, whole, parts_at, first_hunk, hunk_at, hunks_at, reading}
+use Rattle.context_form.specs.Grammar.{IsPiece}
+use Rattle.context_form.specs.FirstFault.{AgreeTo, behind_first, decided_at, decided_by}
+use Rattle.context_form.proofs.Steady.{failed, bind_err, agree_head}
+use Rattle.context_form.proofs.SteadyParts.{steady-parts}
+use Rattle.context_form.proofs.HunkLoops.{hunks_step}
+use Rattle.context_form.proofs.Pieces.{hunk-shrinks, reading_again}
+
+-- ---- how a hunk fails
+
+-- a fault over two whole parts is none of these
+pub record IsOverParts (e : Fault) : Type 0 where
+  pub long : e.kind ≢ kinds.ShortEnd
+  pub known : e.kind ≢ kinds.Count → e.kind ≢ kinds.NumberTooLarge → e.kind ≢ kinds.SidesDiffer → ⊥
+
+over-count : (e : Fault) → e.kind ≡ kinds.Count → IsOverParts e
+over-count e is = record { long = λ h. absurd (let bad : kinds.Count ≡ kinds.ShortEnd = sym is ∙ h in cc); known = λ a b c. a is }
+
+over-large : (e : Fault) → e.kind ≡ kinds.NumberTooLarge → IsOverParts e
+over-large e is = record { long = λ h. absurd (let bad : kinds.NumberTooLarge ≡ kinds.ShortEnd = sym is ∙ h in cc); known = λ a b c. b is }
+
+over-sides : (e : Fault) → e.kind ≡ kinds.SidesDiffer → IsOverParts e
+over-sides e is = record { long = λ h. absurd (let bad : kinds.SidesDiffer ≡ kinds.ShortEnd = sym is ∙ h in cc); known = λ a b c. c is }
+
+kind-of : {A : Type 0} (number : ℕ) (kind : BadKind) (e : Fault) → failed {A = A} (fault number kind) ≡ failed e → e.kind ≡ kind
+kind-of number kind e h = cc
+
+sized-over : (part partner : PlainPart) (e : Fault) → sized part partner ≡ Err e → IsOverParts e
+sized-over part partner e h = by (not (is_count part.stated (size_beside part.body partner.body))) (ltb 4294967295 (part.stated.start + size_beside part.body partner.body)) h
+  where
+    by : (a b : Bool) → cond a (Err (fault part.number kinds.Count)) (cond b (Err (fault part.number kinds.NumberTooLarge)) (Ok tt)) ≡ failed {A = Unit {0}} e → IsOverParts e
+    by true b k = over-count e (kind-of {A = Unit {0}} part.number kinds.Count e k)
+    by false true k = over-large e (kind-of {A = Unit {0}} part.number kinds.NumberTooLarge e k)
+    by false false k = absurd cc
+
+agreed-over : (number : ℕ) (o : Option (List Marked)) (e : Fault) → agreed number o ≡ Err e → IsOverParts e
+agreed-over number None e h = over-sides e (kind-of {A = List Marked} number kinds.SidesDiffer e h)
+agreed-over number (Some body) e h = absurd cc
+
+abbrev made : PlainPart → PlainPart → List Marked → PlainHunk
+made old new body = record { old_start = old.stated.start; new_start = new.stated.start; body = body }
+
+no-err : {A : Type 0} (a : A) (e : Fault) → Ok a ≡ failed {A = A} e → ⊥
+no-err a e h = cc
+
+whole-over : (old new : PlainPart) (e : Fault) → whole old new ≡ Err e → IsOverParts e
+unfolding whole
+whole-over old new e h =
+    elim (bind_err (sized old new) (λ x. sized new old >>= λ y. agreed new.number (joined old.body new.body) >>= λ body. Ok (made old new body)) e h) [
+      | inl bad ↦ sized-over old new e bad
+      | inr good ↦ elim (bind_err (sized new old) (λ y. agreed new.number (joined old.body new.body) >>= λ body. Ok (made old new body)) e good.2) [
+        | inl bad ↦ sized-over new old e bad
+        | inr fine ↦ elim (bind_err (agreed new.number (joined old.body new.body)) (λ body. Ok (made old new body)) e fine.2) [
+          | inl bad ↦ agreed-over new.number (joined old.body new.body) e bad
+          | inr none ↦ absurd (no-err (made old new none.0) e none.2)
+        ]
+      ]
+    ]
+
+-- a hunk fails in its parts, or over them
+pub record FailsWhole (least : ℕ) (p : Ahead) (e : Fault) : Type 0 where
+  pub parts : (PlainPart × PlainPart) × Ahead
+  pub read : parts_at least (behind_first p.number p.rest) ≡ Ok parts
+  pub bad : whole parts.0.0 parts.0.1 ≡ Err e
+
+hunk-fails : (least : ℕ) (p : Ahead) (e : Fault) → begins_hunk p.rest ≡ true → hunk_at least p ≡ Err e → (parts_at least (behind_first p.number p.rest) ≡ Err e) ⊎ FailsWhole least p e
+unfolding first_hunk
+hunk-fails least p e begins h = by p.number p.rest begins h
+  where
+    by : (number : ℕ) (lines : List (List ℕ)) → begins_hunk lines ≡ true → first_hunk least number lines ≡ Err e → (parts_at least (behind_first number lines) ≡ Err e) ⊎ FailsWhole least (ahead number lines) e
+    by number [] b k = absurd cc
+    by number (line ∷ rest) b k =
+        elim (bind_err (parts_at least (ahead (number + 1) rest)) (λ parts. whole parts.0.0 parts.0.1 >>= λ g. Ok (g, parts.1)) e k) [
+          | inl bad ↦ inl bad
+          | inr good ↦ elim (bind_err (whole good.0.0.0 good.0.0.1) (λ g. Ok (g, good.0.1)) e good.2) [
+            | inl bad ↦ inr (record { parts = good.0; read = good.1; bad = bad })
+            | inr none ↦ absurd (no-err (none.0, good.0.1) e none.2)
+          ]
+        ]
+
+pub record ReadsWhole (least : ℕ) (p : Ahead) (x : PlainHunk × Ahead) : Type 0 where
+  pub parts : (PlainPart × PlainPart) × Ahead
+  pub read : parts_at least (behind_first p.number p.rest) ≡ Ok parts
+  pub good : whole parts.0.0 parts.0.1 ≡ Ok x.0
+  pub same : parts.1 ≡ x.1
+
+hunk-reads : (least : ℕ) (p : Ahead) (x : PlainHunk × Ahead) → hunk_at least p ≡ Ok x → ReadsWhole least p x
+unfolding first_hunk
+hunk-reads least p x h = by p.number p.rest h
+  where
+    by : (number : ℕ) (lines : List (List ℕ)) → first_hunk least number lines ≡ Ok x → ReadsWhole least (ahead number lines) x
+    by number [] k = absurd cc
+    by number (line ∷ rest) k =
+        let a = bind_ok (parts_at least (ahead (number + 1) rest)) (λ parts. whole parts.0.0 parts.0.1 >>= λ g. Ok (g, parts.1)) x k in
+        let b = bind_ok (whole a.0.0.0 a.0.0.1) (λ g. Ok (g, a.0.1)) x a.2 in
+        let s : (b.0, a.0.1) ≡ x = ok_is _ _ b.2 in
+        record { parts = a.0; read = a.1; good = b.1 ∙ ap (λ (y : PlainHunk × Ahead). Ok y.0) s; same = ap (λ (y : PlainHunk × Ahead). y.1) s }
+
+-- ---- which line decides
+
+decided-parts : (most least : ℕ) (p : Ahead) (e : Fault) → parts_at least (behind_first p.number p.rest) ≡ Err e → decided_at (suc most) least p ≡ e.line
+unfolding decided_at
+decided-parts most least p e h = rw h refl
+
+decided-whole : (most least : ℕ) (p : Ahead) (x : (PlainPart × PlainPart) × Ahead) (e : Fault) → parts_at least (behind_first p.number p.rest) ≡ Ok x → whole x.0.0 x.0.1 ≡ Err e → decided_at (suc most) least p ≡ x.1.number
+unfolding decided_at
+decided-whole most least p x e h k = rw (h, k) refl
+
+decided-later : (most least : ℕ) (p : Ahead) (x : (PlainPart × PlainPart) × Ahead) (h : PlainHunk) → parts_at least (behind_first p.number p.rest) ≡ Ok x → whole x.0.0 x.0.1 ≡ Ok h → decided_at (suc most) least p ≡ decided_at most h.old_start x.1
+unfolding decided_at
+decided-later most least p x h e k = rw (e, k) refl
+
+-- ---- hunks that follow each other
+
+old_too : (last number : ℕ) (rest others : List (List ℕ)) → AgreeTo last number rest others → number ≤ last → begins_old rest ≡ true → begins_old others ≡ true
+old_too last number [] others agree le e = absurd cc
+old_too last number (line ∷ rest) others agree le e = let a = agree_head last number line rest others agree le in rw a.1 e
+
+both : (x y : Bool) → (x && y) ≡ true → (x ≡ true) × (y ≡ true)
+both true y e = (refl, e)
+both false y e = absurd cc
+
+begins_again : (line : List ℕ) (rest : List (List ℕ)) → is_stars line ≡ true → begins_old rest ≡ true → begins_hunk (line ∷ rest) ≡ true
+begins_again line rest c m = rw (c, m) refl
+
+-- other lines that agree begin a hunk too, and agree behind the first
+pub record Opens (last number : ℕ) (rest others : List (List ℕ)) : Type 0 where
+  pub begins : begins_hunk others ≡ true
+  pub number_is : (behind_first number others).number ≡ number + 1
+  pub same : (behind_first number rest).number ≡ number + 1
+  pub agree : AgreeTo last (number + 1) (behind_first number rest).rest (behind_first number others).rest
+  pub count : (number + 1) + length (behind_first number rest).rest ≡ number + length rest
+
+opens_too : (last number : ℕ) (rest others : List (List ℕ)) → AgreeTo last number rest others → number + 1 ≤ last → begins_hunk rest ≡ true → Opens last number rest others
+opens_too last number [] others agree le e = absurd cc
+opens_too last number (line ∷ rest) others agree le e =
+    let a = agree_head last number line rest others agree (omega (arith, le)) in
+    let b = both (is_stars line) (begins_old rest) e in
+    subst (Opens last number (line ∷ rest)) (sym a.1) (record { begins = begins_again line a.0 b.0 (old_too last (number + 1) rest a.0 a.2 le b.1); number_is = refl; same = refl; agree = a.2; count = omega arith })
+
+behind-number : (number : ℕ) (rest : List (List ℕ)) → begins_hunk rest ≡ true → ((behind_first number rest).number ≡ number + 1) × ((number + 1) + length (behind_first number rest).rest ≡ number + length rest)
+behind-number number [] e = absurd cc
+behind-number number (line ∷ rest) e = (refl, omega arith)
+
+begins_some : (rest : List (List ℕ)) → begins_hunk rest ≡ true → 0 < length rest
+begins_some [] e = absurd cc
+begins_some (line ∷ rest) e = omega arith
+
+abbrev more_hunks : ℕ → PlainHunk × Ahead → Result (List PlainHunk × Ahead) Fault
+more_hunks most first = hunks_at most first.0.old_start first.1 >>= λ others. Ok (first.0 ∷ others.0, others.1)
+
+abbrev put_first : PlainHunk → List PlainHunk × Ahead → Result (List PlainHunk × Ahead) Fault
+put_first h others = Ok (h ∷ others.0, others.1)
+
+err_fault : {A : Type 0} (d e : Fault) → failed {A = A} d ≡ failed e → d ≡ e
+err_fault d e h = cc
+
+add_err : (h : PlainHunk) (r : Result (List PlainHunk × Ahead) Fault) (e : Fault) → (r >>= put_first h) ≡ Err e → r ≡ Err e
+add_err h (Ok x) e f = absurd (let bad : put_first h x ≡ failed {A = List PlainHunk × Ahead} e = f in cc)
+add_err h (Err d) e f = ap (λ x. Err x) (err_fault {A = List PlainHunk × Ahead} d e f)
+
+-- what a fault of hunks is
+pub record FaultIs (most least : ℕ) (p : Ahead) (e : Fault) : Type 0 where
+  pub later : p.number + 1 ≤ decided_at most least p
+  pub short : e.kind ≡ kinds.ShortEnd → e.line ≡ p.number + length p.rest
+  pub own : e.kind ≢ kinds.Count → e.kind ≢ kinds.NumberTooLarge → e.kind ≢ kinds.SidesDiffer → decided_at most least p ≡ e.line
+
+fault-parts : (most least : ℕ) (p : Ahead) (e : Fault) → begins_hunk p.rest ≡ true → parts_at least (behind_first p.number p.rest) ≡ Err e → FaultIs (suc most) least p e
+fault-parts most least p e begins h =
+    let d = decided-parts most least p e h in
+    let n = behind-number p.number p.rest begins in
+    let l = (steady-parts least).low (behind_first p.number p.rest) e h in
+    record { later = omega (arith, d, n.0, l.0); short = λ k. omega (arith, l.1 k, n.0, n.1); own = λ a b c. d }
+
+fault-whole : (most least : ℕ) (p : Ahead) (e : Fault) → begins_hunk p.rest ≡ true → FailsWhole least p e → FaultIs (suc most) least p e
+fault-whole most least p e begins f =
+    let d = decided-whole most least p f.parts e f.read f.bad in
+    let n = behind-number p.number p.rest begins in
+    let u = (steady-parts least).up (behind_first p.number p.rest) f.parts f.read in
+    let over = whole-over f.parts.0.0 f.parts.0.1 e f.bad in
+    record { later = omega (arith, d, n.0, u.0); short = λ k. absurd (over.long k); own = λ a b c. absurd (over.known a b c) }
+
+fault-later : (most least : ℕ) (p : Ahead) (x : PlainHunk × Ahead) (e : Fault) → begins_hunk p.rest ≡ true → ReadsWhole least p x → FaultIs most x.0.old_start x.1 e → FaultIs (suc most) least p e
+fault-later most least p x e begins r f =
+    let d = decided-later most least p r.parts x.0 r.read r.good ∙ ap (decided_at most x.0.old_start) r.same in
+    let n = behind-number p.number p.rest begins in
+    let u = (steady-parts least).up (behind_first p.number p.rest) r.parts r.read in
+    let here : r.parts.1.number ≡ x.1.number = ap (λ (q : Ahead). q.number) r.same in
+    let there : length r.parts.1.rest ≡ length x.1.rest = ap (λ (q : Ahead). length q.rest) r.same in
+    record { later = omega (arith, d, n.0, u.0, here, f.later); short = λ k. omega (arith, f.short k, n.0, n.1, u.1, here, there); own = λ a b c. d ∙ f.own a b c }
+
+pub hunks-fault : (most least : ℕ) (p : Ahead) (e : Fault) → hunks_at most least p ≡ Err e → FaultIs most least p e
+unfolding hunks_at
+hunks-fault zero least p e h = absurd cc
+hunks-fault (suc most) least p e h =
+    elim (chosen (begins_hunk p.rest) _ _ (Err e) h) [
+      | inl some ↦ elim (bind_err (hunk_at least p) (more_hunks most) e some.1) [
+        | inl bad ↦ elim (hunk-fails least p e some.0 bad) [
+          | inl parts ↦ fault-parts most least p e some.0 parts
+          | inr over ↦ fault-whole most least p e some.0 over
+        ]
+        | inr good ↦ fault-later most least p good.0 e some.0 (hunk-reads least p good.0 good.1) (hunks-fault most good.0.0.old_start good.0.1 e (add_err good.0.0 (hunks_at most good.0.0.old_start good.0.1) e good.2))
+      ]
+      | inr none ↦ absurd (let bad : Ok ([], p) ≡ failed {A = List PlainHunk × Ahead} e = none.1 in cc)
+    ]
+
+hunks_err : (most least : ℕ) (p : Ahead) (e : Fault) → begins_hunk p.rest ≡ true → hunk_at least p ≡ Err e → hunks_at (suc most) least p ≡ Err e
+hunks_err most least p e begins h = hunks_step most least p begins ∙ (rw h refl)
+
+hunks_on : (most least : ℕ) (p : Ahead) (x : PlainHunk × Ahead) (e : Fault) → begins_hunk p.rest ≡ true → hunk_at least p ≡ Ok x → hunks_at most x.0.old_start x.1 ≡ Err e → hunks_at (suc most) least p ≡ Err e
+hunks_on most least p x e begins h more = hunks_step most least p begins ∙ (rw (h, more) refl)
+
+-- a hunk by its parts
+hunk-bad : (least : ℕ) (p : Ahead) (e : Fault) → begins_hunk p.rest ≡ true → parts_at least (behind_first p.number p.rest) ≡ Err e → hunk_at least p ≡ Err e
+unfolding first_hunk
+hunk-bad least p e begins h = by p.number p.rest begins h
+  where
+    by : (number : ℕ) (lines : List (List ℕ)) → begins_hunk lines ≡ true → parts_at least (behind_first number lines) ≡ Err e → first_hunk least number lines ≡ Err e
+    by number [] b k = absurd cc
+    by number (line ∷ rest) b k = rw k refl
+
+hunk-over : (least : ℕ) (p : Ahead) (x : (PlainPart × PlainPart) × Ahead) (e : Fault) → begins_hunk p.rest ≡ true → parts_at least (behind_first p.number p.rest) ≡ Ok x → whole x.0.0 x.0.1 ≡ Err e → hunk_at least p ≡ Err e
+unfolding first_hunk
+hunk-over least p x e begins h bad = by p.number p.rest begins h
+  where
+    by : (number : ℕ) (lines : List (List ℕ)) → begins_hunk lines ≡ true → parts_at least (behind_first number lines) ≡ Ok x → first_hunk least number lines ≡ Err e
+    by number [] b k = absurd cc
+    by number (line ∷ rest) b k = rw (k, bad) refl
+
+hunk-good : (least : ℕ) (p : Ahead) (x : (PlainPart × PlainPart) × Ahead) (h : PlainHunk) → begins_hunk p.rest ≡ true → parts_at least (behind_first p.number p.rest) ≡ Ok x → whole x.0.0 x.0.1 ≡ Ok h → hunk_at least p ≡ Ok (h, x.1)
+unfolding first_hunk
+hunk-good least p x h begins e good = by p.number p.rest begins e
+  where
+    by : (number : ℕ) (lines : List (List ℕ)) → begins_hunk lines ≡ true → parts_at least (behind_first number lines) ≡ Ok x → first_hunk least number lines ≡ Ok (h, x.1)
+    by number [] b k = absurd cc
+    by number (line ∷ rest) b k = rw (k, good) refl
+
+-- ahead with another number for the same
+renumber : (q : Ahead) (n : ℕ) → q.number ≡ n → q ≡ ahead n q.rest
+renumber q n e = ap (λ k. ahead k q.rest) e
+
+pub hunks_stay : (most most2 least : ℕ) (p : Ahead) (others : List (List ℕ)) (e : Fault) → hunks_at most least p ≡ Err e → e.kind ≢ kinds.ShortEnd → AgreeTo (decided_at most least p) p.number p.rest others → length others ≤ most2 → hunks_at most2 least (ahead p.number others) ≡ Err e
+unfolding hunks_at
+hunks_stay zero most2 least p others e h long agree enough = absurd cc
+hunks_stay (suc most) most2 least p others e h long agree enough =
+    let f = hunks-fault (suc most) least p e h in
+    let last = decided_at (suc most) least p in
+    elim (chosen (begins_hunk p.rest) _ _ (Err e) h) [
+      | inl some ↦ (
+          let o = opens_too (decided_at (suc most) least p) p.number p.rest others agree f.later some.0 in
+          let q = behind_first p.number p.rest in
+          let q2 : behind_first p.number others ≡ ahead (behind_first p.number p.rest).number (behind_first p.number others).rest = renumber (behind_first p.number others) (behind_first p.number p.rest).number (o.number_is ∙ sym o.same) in
+          let agree2 : AgreeTo (decided_at (suc most) least p) (behind_first p.number p.rest).number (behind_first p.number p.rest).rest (behind_first p.number others).rest = subst (λ n. AgreeTo (decided_at (suc most) least p) n (behind_first p.number p.rest).rest (behind_first p.number others).rest) (sym o.same) o.agree in
+          let k : most2 ≡ suc (most2 - 1) = omega (arith, enough, begins_some others o.begins) in
+          subst (λ n. hunks_at n least (ahead p.number others) ≡ Err e) (sym k) (elim (bind_err (hunk_at least p) (more_hunks most) e some.1) [
+            | inl bad ↦ hunks_err (most2 - 1) least (ahead p.number others) e o.begins (elim (hunk-fails least p e some.0 bad) [
+              | inl parts ↦ hunk-bad least (ahead p.number others) e o.begins (ap (parts_at least) q2 ∙ (steady-parts least).stays q (behind_first p.number others).rest e parts long (subst (λ n. AgreeTo n (behind_first p.number p.rest).number (behind_first p.number p.rest).rest (behind_first p.number others).rest) (decided-parts most least p e parts) agree2))
+              | inr over ↦ (
+                  let go = (steady-parts least).goes last q (behind_first p.number others).rest over.parts over.read (omega (arith, decided-whole most least p over.parts e over.read over.bad)) agree2 in
+                  hunk-over least (ahead p.number others) (over.parts.0, ahead over.parts.1.number go.rest) e o.begins (ap (parts_at least) q2 ∙ go.read) over.bad)
+            ])
+            | inr good ↦ (
+                let x = good.0 in
+                let r = hunk-reads least p x good.1 in
+                let rest : hunks_at most x.0.old_start x.1 ≡ Err e = add_err x.0 (hunks_at most x.0.old_start x.1) e good.2 in
+                let d : decided_at (suc most) least p ≡ decided_at most x.0.old_start x.1 = decided-later most least p r.parts x.0 r.read r.good ∙ ap (decided_at most x.0.old_start) r.same in
+                let there = hunks-fault most x.0.old_start x.1 e rest in
+                let here : r.parts.1.number ≡ x.1.number = ap (λ (y : Ahead). y.number) r.same in
+                let go = (steady-parts least).goes last q (behind_first p.number others).rest r.parts r.read (omega (arith, d, there.later, here)) agree2 in
+                let read2 : hunk_at least (ahead p.number others) ≡ Ok (x.0, ahead x.1.number go.rest) = hunk-good least (ahead p.number others) (r.parts.0, ahead r.parts.1.number go.rest) x.0 o.begins (ap (parts_at least) q2 ∙ go.read) r.good ∙ ap (λ n. Ok (x.0, ahead n go.rest)) here in
+                let agree3 : AgreeTo (decided_at most x.0.old_start x.1) x.1.number x.1.rest go.rest = subst (λ n. AgreeTo n x.1.number x.1.rest go.rest) d (subst (λ (y : Ahead). AgreeTo (decided_at (suc most) least p) y.number y.rest go.rest) r.same go.agree) in
+                let fewer : length go.rest ≤ most2 - 1 = omega (arith, enough, hunk-shrinks least p.number others (x.0, ahead x.1.number go.rest) o.begins read2) in
+                hunks_on (most2 - 1) least (ahead p.number others) (x.0, ahead x.1.number go.rest) e o.begins read2 (hunks_stay most (most2 - 1) x.0.old_start x.1 go.rest e rest long agree3 fewer))
+          ]))
+      | inr none ↦ absurd (let bad : Ok ([], p) ≡ failed {A = List PlainHunk × Ahead} e = none.1 in cc)
+    ]
+
+-- ---- the first fault
+
+pub fault-stays : (number : ℕ) (lines others : List (List ℕ)) (e : Fault) → reading number lines ≡ Err e → e.kind ≢ kinds.ShortEnd → AgreeTo (decided_by number lines) number lines others → reading number others ≡ Err e
+fault-stays number lines others e h long agree = hunks_stay (length lines) (length others) 0 (ahead number lines) others e h long agree (omega arith)
+
+pub fault-short : (number : ℕ) (lines : List (List ℕ)) (e : Fault) → reading number lines ≡ Err e → e.kind ≡ kinds.ShortEnd → e.line ≡ number + length lines
+fault-short number lines e h short = (hunks-fault (length lines) 0 (ahead number lines) e h).short short
+
+pub fault-own : (number : ℕ) (lines : List (List ℕ)) (e : Fault) → reading number lines ≡ Err e → e.kind ≢ kinds.Count → e.kind ≢ kinds.NumberTooLarge → e.kind ≢ kinds.SidesDiffer → decided_by number lines ≡ e.line
+fault-own number lines e h a b c = (hunks-fault (length lines) 0 (ahead number lines) e h).own a b c
+
+pub fault-unspelled : (number : ℕ) (lines others : List (List ℕ)) (e : Fault) (hs : List PlainHunk) (next : ℕ) (rest : List (List ℕ)) → reading number lines ≡ Err e → e.kind ≢ kinds.ShortEnd → AgreeTo (decided_by number lines) number lines others → IsPiece number others hs next rest → ⊥
+fault-unspelled number lines others e hs next rest h long agree piece =
+    let fails = fault-stays number lines others e h long agree in
+    let reads = reading_again number others hs next rest piece in
+    cc
+
+agree_past : (last number : ℕ) (lines others : List (List ℕ)) → last < number → AgreeTo last number lines others
+agree_past last number [] others past = past
+agree_past last number (line ∷ lines) [] past = past
+agree_past last number (line ∷ lines) (other ∷ others) past = ((λ le. absurd (omega (arith, past, le))), agree_past last (number + 1) lines others (omega (arith, past)))
+
+agree_front : (last number : ℕ) (front behind others : List (List ℕ)) → last < number + length front → AgreeTo last number (front ++ behind) (front ++ others)
+agree_front last number [] behind others past = agree_past last number behind others (omega (arith, past))
+agree_front last number (line ∷ front) behind others past = ((λ le. refl), agree_front last (number + 1) front behind others (omega (arith, past)))
+
+short_or : (k : BadKind) → (k ≡ kinds.ShortEnd) ⊎ (k ≢ kinds.ShortEnd)
+short_or kinds.Range = inr (λ h. cc)
+short_or kinds.Mark = inr (λ h. cc)
+short_or kinds.Count = inr (λ h. cc)
+short_or kinds.ShortEnd = inl refl
+short_or kinds.NumberTooLarge = inr (λ h. cc)
+short_or kinds.SidesDiffer = inr (λ h. cc)
+short_or kinds.MisplacedBackslash = inr (λ h. cc)
+short_or kinds.EdCommand = inr (λ h. cc)
+short_or kinds.EdOrder = inr (λ h. cc)
+short_or kinds.EdNoDot = inr (λ h. cc)
+short_or kinds.Binary = inr (λ h. cc)
+short_or kinds.HunkOrder = inr (λ h. cc)
+
+differs : (k other : BadKind) → k ≡ kinds.ShortEnd → kinds.ShortEnd ≢ other → k ≢ other
+differs k other is ne h = ne (sym is ∙ h)
+
+pub fault-late : (number : ℕ) (front behind others : List (List ℕ)) (e : Fault) (hs : List PlainHunk) (next : ℕ) (rest : List (List ℕ)) → IsPiece number (front ++ others) hs next rest → reading number (front ++ behind) ≡ Err e → number + length front ≤ decided_by number (front ++ behind)
+fault-late number front behind others e hs next rest piece h =
+    elim (cases_lt (decided_by number (front ++ behind)) (number + length front)) [
+      | inl early ↦ elim (short_or e.kind) [
+        | inl short ↦ (
+            let own = fault-own number (front ++ behind) e h (differs e.kind kinds.Count short (λ z. cc)) (differs e.kind kinds.NumberTooLarge short (λ z. cc)) (differs e.kind kinds.SidesDiffer short (λ z. cc)) in
+            omega (arith, own, fault-short number (front ++ behind) e h short, length-append front behind))
+        | inr long ↦ absurd (fault-unspelled number (front ++ behind) (front ++ others) e hs next rest h long (agree_front (decided_by number (front ++ behind)) number front behind others early) piece)
+      ]
+      | inr late ↦ late
+    ]

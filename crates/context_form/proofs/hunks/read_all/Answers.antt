@@ -1,0 +1,43 @@
+use Rattle.std.proofs.Common.{◌≡◌, ◌++◌, ◌∷◌, [], sym, true, false, drop, length, length-append, arith}
+use Rattle.std.proofs.lemmas.Result.{err_from_is_err_and}
+use Rattle.std.proofs.lemmas.List.{map_push}
+use Rattle.std.proofs.lemmas.List.Sums.{sum_by-append}
+use Rattle.line_list.specs.Lines.{lines}
+use Rattle.hunk_core.specs.PlainHunk.{hunk_of, hunks_of}
+use Rattle.std.proofs.Common.{None}
+use Rattle.std.proofs.lemmas.List.Elements.{All-push}
+use Rattle.hunk_core.specs.Turned.{IsLawful}
+use Rattle.hunk_core.specs.Rules.{first_broken}
+use Rattle.hunk_core.proofs.PieceLemmas.{spans_go_on}
+use Rattle.context_form.specs.Grammar.{SpellsPiece}
+use Rattle.hunk_core.specs.Reading.{ahead_of}
+use Rattle.context_form.specs.Openings.{begins_hunk}
+use Rattle.context_form.specs.Hunks.{reading}
+use Rattle.context_form.proofs.HunkLoops.{hunks_go_on, hunks_fail, hunks_done}
+use Rattle.hunk_core.specs.declared.Hunk.{Hunk}
+use Rattle.context_form.proofs.hunks.read_all.Goals as goal
+
+pub returns-in_err-hunk-clause-exact : goal.returns-in_err-hunk-clause-exact
+returns-in_err-hunk-clause-exact c =
+    let p = err_from_is_err_and c.from_residual.result c.from_residual.ensures.1 in
+    let opens : begins_hunk (lines (drop c.hunks.place.at c.args.text.now)) ≡ true = sym c.hunks-test.ensures in
+    rw (p.1, p.2) (hunks_fail c.in_err-hunk.field-0.0 (hunks_of c.args.text.now c.hunks.items.items) c.hunks.least (ahead_of c.args.text.now c.hunks.place) _ opens c.in_err-hunk.ensures.exact c.hunks.invariant.so_far)
+
+pub hunks-preserved : goal.hunks-preserved
+hunks-preserved c =
+    let opens : begins_hunk (lines (drop c.hunks.place.at c.args.text.now)) ≡ true = sym c.hunks-test.ensures in
+    let e : hunks_of c.args.text.now c.push-in-hunks.new.self.items ≡ hunks_of c.args.text.now c.hunks.items.items ++ hunk_of c.args.text.now c.in_ok-hunk.hunk ∷ [] = rw c.in_ok-push-2.ensures.items (map_push _ c.hunks.items.items c.in_ok-hunk.hunk) in
+    record {
+      place = c.in_ok-hunk.ensures.place.0;
+      spans = rw (e, c.in_ok-push.ensures.items, c.from-least.ensures) (spans_go_on SpellsPiece c.args.text.now c.args.at c.hunks.spans.items (hunks_of c.args.text.now c.hunks.items.items) c.hunks.place.at c.in_ok-hunk.next.at c.hunks.least (hunk_of c.args.text.now c.in_ok-hunk.hunk) c.hunks.invariant.spans c.in_ok-hunk.ensures.place.1 c.in_ok-hunk.ensures.piece);
+      count = rw c.in_ok-push-2.ensures.items (simp length-append (omega (arith, c.in_ok-hunk.ensures.place.1, c.hunks.invariant.count)));
+      few = rw (c.in_ok-push-2.ensures.items, sum_by-append (λ (x : Hunk). length x.body.items)) (omega (arith, c.in_ok-hunk.ensures.few, c.hunks.invariant.few));
+      lawful = rw c.in_ok-push-2.ensures.items (All-push (IsLawful c.args.text.now) c.hunks.items.items c.in_ok-hunk.hunk c.hunks.invariant.lawful c.in_ok-hunk.ensures.lawful);
+      unbroken = rw c.in_ok-push-2.ensures.items (All-push (λ x. first_broken (hunk_of c.args.text.now x) ≡ None) c.hunks.items.items c.in_ok-hunk.hunk c.hunks.invariant.unbroken c.in_ok-hunk.ensures.unbroken);
+      so_far = rw (e, c.from-least.ensures) (hunks_go_on (hunks_of c.args.text.now c.hunks.items.items) c.hunks.least (ahead_of c.args.text.now c.hunks.place) (hunk_of c.args.text.now c.in_ok-hunk.hunk, ahead_of c.args.text.now c.in_ok-hunk.next) (reading c.args.line (lines (drop c.args.at c.args.text.now))) opens c.in_ok-hunk.ensures.exact c.hunks.invariant.so_far);
+    }
+
+pub returns-clause-exact : goal.returns-clause-exact
+returns-clause-exact c =
+    let none : begins_hunk (lines (drop c.hunks.place.at c.args.text.now)) ≡ false = sym c.hunks-test.ensures in
+    hunks_done (hunks_of c.args.text.now c.hunks.items.items) c.hunks.least (ahead_of c.args.text.now c.hunks.place) _ none c.hunks.invariant.so_far

@@ -1,0 +1,34 @@
+use Rattle.std.proofs.Common.{◌≡◌, ◌++◌, ◌∷◌, [], true, false, drop, sym, ◌∙◌, arith}
+use Rattle.std.proofs.lemmas.Result.{err_from_is_err_and}
+use Rattle.std.proofs.lemmas.List.{map_push, length-append}
+use Rattle.std.proofs.lemmas.List.Elements.{All-push}
+use Rattle.line_list.specs.Lines.{lines}
+use Rattle.hunk_core.specs.Turned.{LiesIn}
+use Rattle.hunk_core.specs.PlainHunk.{marked_of, body_of}
+use Rattle.hunk_core.specs.Reading.{ahead_of}
+use Rattle.context_form.specs.Parts.{is_done}
+use Rattle.context_form.proofs.Loops.{body_goes_on, body_fails, body_done}
+use Rattle.context_form.proofs.part.read_body.Goals as goal
+
+pub returns-in_err-line-clause-exact : goal.returns-in_err-line-clause-exact
+returns-in_err-line-clause-exact c =
+    let p = err_from_is_err_and c.from_residual-in_err-line.result c.from_residual-in_err-line.ensures.1 in
+    let on : is_done c.args.side c.body.left (lines (drop c.body.place.at c.args.text.now)) ≡ false = sym c.body-test.ensures in
+    rw (p.1, p.2) (body_fails c.in_err-line.field-0.0 c.args.side c.body.left (record { lines = body_of c.args.text.now c.body.lines.items; changed = c.body.changed }) (ahead_of c.args.text.now c.body.place) _ on c.in_err-line.ensures.exact c.body.invariant.same)
+
+pub body-preserved : goal.body-preserved
+body-preserved c =
+    let on : is_done c.args.side c.body.left (lines (drop c.body.place.at c.args.text.now)) ≡ false = sym c.body-test.ensures in
+    let e : body_of c.args.text.now c.push.new.self.items ≡ body_of c.args.text.now c.body.lines.items ++ marked_of c.args.text.now c.in_ok-line.line ∷ [] = rw c.in_ok-push.ensures.items (map_push _ c.body.lines.items c.in_ok-line.line) in
+    record {
+      place = c.in_ok-line.ensures.place.0;
+      later = omega (arith, c.in_ok-line.ensures.place.1, c.body.invariant.later);
+      few = rw c.in_ok-push.ensures.items (simp length-append (omega (arith, c.in_ok-line.ensures.place.1, c.body.invariant.few)));
+      lies = rw c.in_ok-push.ensures.items (All-push (λ x. LiesIn c.args.text.now x.span) c.body.lines.items c.in_ok-line.line c.body.invariant.lies c.in_ok-line.ensures.lies);
+      same = rw e (body_goes_on c.args.side c.body.left (record { lines = body_of c.args.text.now c.body.lines.items; changed = c.body.changed }) (ahead_of c.args.text.now c.body.place) ((marked_of c.args.text.now c.in_ok-line.line, c.in_ok-line.is_change), ahead_of c.args.text.now c.in_ok-line.next) on c.in_ok-line.ensures.some c.in_ok-line.ensures.exact ∙ c.body.invariant.same);
+    }
+
+pub returns-clause-exact : goal.returns-clause-exact
+returns-clause-exact c =
+    let done : is_done c.args.side c.body.left (lines (drop c.body.place.at c.args.text.now)) ≡ true = sym c.body-test.ensures in
+    sym c.body.invariant.same ∙ body_done c.args.side c.body.left (record { lines = body_of c.args.text.now c.body.lines.items; changed = c.body.changed }) (ahead_of c.args.text.now c.body.place) done

@@ -1,0 +1,73 @@
+-- The canonical text of a hunk.
+use Rattle.std.specs.Prelude.{◌≡◌, ℕ, ◌+◌, ◌-◌, Bool, true, false, nat_lt, ◌&&◌, List, [], ◌∷◌, ◌++◌, length, codes, replicate, if◌then◌else◌}
+use Rattle.line_list.specs.Lines.{lines}
+use Rattle.num_text.specs.Numbers.{decimal}
+use Rattle.hunk_core.specs.declared.Mark.{Mark}
+use Rattle.hunk_core.specs.declared.Side.{Side}
+use Rattle.hunk_core.specs.declared.Side.TheVariants.{Forward, Reversed}
+use Rattle.hunk_core.specs.Sides.{is_on_side}
+use Rattle.hunk_core.specs.PlainHunk.{Marked, PlainHunk, old_lines, new_lines}
+use Rattle.hunk_core.specs.Turned.{is_keep, is_drop}
+use Rattle.hunk_core.specs.LineTests.{ends_line}
+use Rattle.context_form.specs.Ranges.{before_range, behind_range}
+use Rattle.context_form.specs.Grammar.{mark_byte, SpellsHunk, IsPiece}
+
+-- 15 asterisks
+abbrev pub stars_text : List ℕ
+stars_text = replicate 15 42 ++ 10 ∷ []
+
+-- one number for at most one line, and two for more
+abbrev pub span_text : ℕ → ℕ → List ℕ
+span_text start count = if nat_lt 1 count then decimal start ++ 44 ∷ decimal (start + count - 1) else decimal start
+
+-- the range line of a part
+abbrev pub range_line_text : Side → ℕ → ℕ → List ℕ
+range_line_text side start count = before_range side ++ (span_text start count ++ (behind_range side ++ 10 ∷ []))
+
+-- the line after one that has no line feed
+abbrev pub no_newline : List ℕ
+no_newline = 92 ∷ 32 ∷ (codes "No newline at end of file" ++ 10 ∷ [])
+
+-- a line behind its mark, '! ' for one of changed lines
+abbrev pub line_text : Bool → Marked → List ℕ
+line_text changed m = (mark_byte changed m.mark ∷ 32 ∷ []) ++ (m.line ++ (if ends_line m.line then [] else 10 ∷ no_newline))
+
+-- the stretch up to the next kept line has a line that is on this side
+unfoldable pub stretch_has : Side → List Marked → Bool
+stretch_has side [] = false
+stretch_has side (m ∷ body) = if is_keep m.mark then false else if is_on_side side m.mark then true else stretch_has side body
+
+-- the stretch up to the next kept line has dropped lines and added ones
+abbrev pub mixed : List Marked → Bool
+mixed body = stretch_has Forward body && stretch_has Reversed body
+
+-- the stretch that goes on behind a line, or begins there, has dropped lines and added ones
+abbrev pub mixed_behind : Bool → Mark → List Marked → Bool
+mixed_behind changed mark body = if is_keep mark then mixed body else changed
+
+-- the lines of a part, where the stretch at the front has dropped lines and added ones, or not
+unfoldable pub part_text : Side → Bool → List Marked → List ℕ
+part_text side changed [] = []
+part_text side changed (m ∷ body) = (if is_on_side side m.mark then line_text changed m else []) ++ part_text side (mixed_behind changed m.mark body) body
+
+-- asterisks, the old range, the old part, the new range, the new part
+abbrev pub canonical : PlainHunk → List ℕ
+canonical h = (stars_text ++ range_line_text Forward h.old_start (length (old_lines h.body))) ++ (part_text Forward (mixed h.body) h.body ++ (range_line_text Reversed h.new_start (length (new_lines h.body)) ++ part_text Reversed (mixed h.body) h.body))
+
+-- the dropped lines, and then the added ones, of each stretch, behind added lines that wait
+unfoldable pub drops_before : List Marked → List Marked → List Marked
+drops_before waiting [] = waiting
+drops_before waiting (m ∷ body) = if is_keep m.mark then waiting ++ m ∷ drops_before [] body
+    else if is_drop m.mark then m ∷ drops_before waiting body
+    else drops_before (waiting ++ m ∷ []) body
+
+-- a hunk with its dropped lines before its added ones in each stretch
+abbrev pub in_order : PlainHunk → PlainHunk
+in_order h = record { old_start = h.old_start; new_start = h.new_start; body = drops_before [] h.body }
+
+-- what was written spells the hunk before this rest, and whatever hunks the whole spells begin with it
+pub record SpellsFirst (h : PlainHunk) (written rest : List ℕ) : Type 0 where
+  pub own : List (List ℕ)
+  pub parts : lines (written ++ rest) ≡ own ++ lines rest
+  pub spelled : SpellsHunk 0 own (lines rest) h
+  pub first : (number next : ℕ) (hs : List PlainHunk) (behind : List (List ℕ)) → IsPiece number (lines (written ++ rest)) hs next behind → (others : List PlainHunk) × (hs ≡ h ∷ others)

@@ -1,0 +1,399 @@
+//! Hunks that follow each other.
+
+ghost use Rattle.std.specs.Prelude.{◌≡◌, ◌≢◌, ◌↔◌, ◌⊎◌, false, replicate, ℕ, List, [], ◌∷◌, ◌++◌, Err, true, None, ◌+◌, ◌<◌, ◌≤◌, ◌^◌, length, vec_len, drop, slice_range, IfOk, IfSome, All};
+ghost use Rattle.line_list.specs.Lines.{lines};
+ghost use Rattle.hunk_core.specs.PlainHunk.{Marked, PlainHunk, hunk_of, hunks_of, body_of};
+ghost use Rattle.hunk_core.specs.Reading.{Fault, Gives, Reads, IsPlace, ahead_of};
+ghost use Rattle.hunk_core.specs.Turned.{IsLawful, LiesIn};
+ghost use Rattle.hunk_core.specs.Rules.{first_broken};
+ghost use Rattle.hunk_core.specs.Pieces.{read_of, these, AreInTurn, SpellInTurn, AreSound};
+ghost use Rattle.context_form.specs.Openings.{begins_hunk};
+ghost use Rattle.context_form.specs.Ranges.{Fits};
+ghost use Rattle.context_form.specs.Parts.{plain_of};
+ghost use Rattle.context_form.specs.Merging.{joined, size_beside, kept_count, part_of};
+ghost use Rattle.num_text.specs.Numbers.{is_digit};
+ghost use Rattle.hunk_core.specs.declared.Side.{Side};
+ghost use Rattle.context_form.specs.Grammar.{IsPiece, SpellsPiece, SpellsHunk, stated_as, written};
+ghost use Rattle.context_form.specs.FirstFault.{AgreeTo, decided_by};
+ghost use Rattle.context_form.specs.Hunks.{part_over, range_here, old_part, enough, new_count, new_part, sized, whole, parts_at, hunk_at, reading};
+ghost use Rattle.context_form.specs.Presence.{Begins, BeginsChange, begins_part, drops_alone, is_there};
+
+use crate::merging::{joined, kept_lines};
+use crate::opening::at_opening;
+use crate::part::{Body, mark_of, read_body};
+use crate::range::{Stated, stated_of};
+use hunk_core::{BadKind, FormFault, Hunk, HunkLine, Hunks, Mark, Place, Side, backslash_end, bad};
+use line_list::{Span, next_line};
+use std::alloc::Global;
+
+/// A part with its range line, which has this number.
+#[derive(Drop)]
+pub struct Part {
+    pub number: u64,
+    pub stated: Stated,
+    pub body: Body,
+}
+
+/// What the range line of a part states, and the place after it.
+#[tactic(auto, unfolding(crate::specs::Hunks::first_range))]
+fn read_range_line(
+    text: &[u8],
+    side: Side,
+    least: u64,
+    place: Place,
+) -> Result<(Stated, Place), FormFault>
+    requires { IsPlace text.now place }
+    ensures place { IfOk result (λ x. IsPlace text.now x.1 × (place.at < x.1.at)) }
+    ensures fits { IfOk result (λ x. Fits x.0) }
+    ensures exact { Gives (λ x. (x.0, ahead_of text.now x.1)) result (range_here side least (ahead_of text.now place)) }
+{
+    let number = place.number;
+    let Some(end) = next_line(text, place.at) else {
+        return Err(bad(number, BadKind::ShortEnd));
+    };
+    match stated_of(&text[place.at..end], side, least) {
+        Ok(stated) => Ok((
+            stated,
+            Place {
+                at: end,
+                number: number + 1,
+            },
+        )),
+        Err(kind) => Err(bad(number, kind)),
+    }
+}
+
+/// The old part, which starts at `least` or later, and the place after it.
+#[tactic(auto, unfolding(crate::specs::Hunks::old_part))]
+fn read_old(
+    alloc: Global,
+    text: &[u8],
+    least: u64,
+    place: Place,
+) -> Result<(Part, Place), FormFault>
+    requires { IsPlace text.now place }
+    ensures place { IfOk result (λ x. IsPlace text.now x.1 × (place.at < x.1.at)) }
+    ensures few { IfOk result (λ x. place.at + vec_len x.0.body.lines ≤ x.1.at) }
+    ensures lies { IfOk result (λ x. All (λ l. LiesIn text.now l.span) x.0.body.lines.items) }
+    ensures fits { IfOk result (λ x. Fits x.0.stated) }
+    ensures exact { Gives (λ x. (part_over text.now x.0, ahead_of text.now x.1)) result (old_part least (ahead_of text.now place)) }
+{
+    let number = place.number;
+    let (stated, place) = read_range_line(text, Side::Forward, least, place)?;
+    let (body, place) = read_body(alloc, text, Side::Forward, stated.most(), place)?;
+    let part = Part {
+        number,
+        stated,
+        body,
+    };
+    Ok((part, place))
+}
+
+/// An old part that isn't left out has all its lines, where the line behind it has this number.
+fn has_enough(old: &Part, number: u64) -> Result<(), FormFault>
+    ensures { (text : List ℕ) → Gives (λ x. tt) result (enough number (part_over text old.now)) }
+{
+    let lines = old.body.lines.len();
+    if lines > 0 && !old.stated.is_count(lines as u64) {
+        return Err(bad(number, BadKind::Count));
+    }
+    Ok(())
+}
+
+/// Whether a line with a mark of the new part stands at `at`, or one with two spaces where it may.
+fn at_part(text: &[u8], may_keep: bool, at: usize) -> bool
+    requires { at ≤ length text.now }
+    ensures { result ≡ begins_part may_keep (lines (drop at text.now)) }
+{
+    let Some(end) = next_line(text, at) else {
+        return false;
+    };
+    match mark_of(&text[at..end], Side::Reversed) {
+        None => false,
+        Some((Mark::Keep, _)) => may_keep,
+        Some(_) => true,
+    }
+}
+
+/// Whether the old part is there, and no line of it is kept.
+fn keeps_none(olds: &[HunkLine]) -> bool
+    ensures { (text : List ℕ) → result ≡ drops_alone (body_of text olds.now) }
+{
+    !olds.is_empty() && kept_lines(olds) == 0
+}
+
+/// Whether the new part is there.
+fn has_new(text: &[u8], stated: Stated, olds: &[HunkLine], at: usize) -> bool
+    requires { at ≤ length text.now }
+    ensures { result ≡ is_there stated (body_of text.now olds.now) (lines (drop at text.now)) }
+{
+    match stated.count {
+        Some(_) => at_part(text, true, at),
+        None if stated.start == 0 => false,
+        None => at_part(text, !keeps_none(olds), at),
+    }
+}
+
+/// How many lines are read of the new part.
+fn new_lines(text: &[u8], stated: Stated, olds: &[HunkLine], at: usize) -> u64
+    requires { at ≤ length text.now }
+    ensures { result ≡ new_count stated (body_of text.now olds.now) (lines (drop at text.now)) }
+{
+    if has_new(text, stated, olds, at) {
+        stated.most()
+    } else {
+        0
+    }
+}
+
+/// The new part behind this old part, and the place after it.
+#[tactic(auto, unfolding(crate::specs::Hunks::new_part))]
+fn read_new(
+    alloc: Global,
+    text: &[u8],
+    old: &Part,
+    place: Place,
+) -> Result<(Part, Place), FormFault>
+    requires { IsPlace text.now place }
+    ensures place { IfOk result (λ x. IsPlace text.now x.1 × (place.at < x.1.at)) }
+    ensures few { IfOk result (λ x. place.at + vec_len x.0.body.lines ≤ x.1.at) }
+    ensures lies { IfOk result (λ x. All (λ l. LiesIn text.now l.span) x.0.body.lines.items) }
+    ensures fits { IfOk result (λ x. Fits x.0.stated) }
+    ensures exact { Gives (λ x. (part_over text.now x.0, ahead_of text.now x.1)) result (new_part (part_over text.now old.now) (ahead_of text.now place)) }
+{
+    let number = place.number;
+    let (stated, place) = read_range_line(text, Side::Reversed, 0, place)?;
+    has_enough(old, number)?;
+    let most = new_lines(text, stated, &old.body.lines, place.at);
+    let (body, place) = read_body(alloc, text, Side::Reversed, most, place)?;
+    let part = Part {
+        number,
+        stated,
+        body,
+    };
+    Ok((part, place))
+}
+
+/// How many lines a part with this partner has: where it is left out, the kept lines of the partner.
+fn size_beside(part: &Body, partner: &Body) -> usize
+    ensures { (text : List ℕ) → result ≡ size_beside (plain_of text part.now) (plain_of text partner.now) }
+{
+    if part.lines.is_empty() {
+        kept_lines(&partner.lines)
+    } else {
+        part.lines.len()
+    }
+}
+
+/// Whether a part with this partner has the stated number of lines, and none above the greatest number.
+fn has_size(part: &Part, partner: &Part) -> Result<(), FormFault>
+    requires { Fits part.now.stated }
+    ensures { (text : List ℕ) → Gives (λ x. tt) result (sized (part_over text part.now) (part_over text partner.now)) }
+{
+    let size = size_beside(&part.body, &partner.body) as u64;
+    if !part.stated.is_count(size) {
+        return Err(bad(part.number, BadKind::Count));
+    }
+    if part.stated.start + size > 4_294_967_295 {
+        return Err(bad(part.number, BadKind::NumberTooLarge));
+    }
+    Ok(())
+}
+
+/// The hunk of two whole parts, where they agree.
+#[tactic(auto, unfolding(crate::specs::Hunks::whole))]
+fn hunk_from(alloc: Global, text: &[u8], old: Part, new: Part) -> Result<Hunk, FormFault>
+    requires old_within { All (λ l. LiesIn text.now l.span) old.body.lines.items }
+    requires new_within { All (λ l. LiesIn text.now l.span) new.body.lines.items }
+    requires few { vec_len old.body.lines + vec_len new.body.lines < 2 ^ 32 }
+    requires old_fits { Fits old.stated }
+    requires new_fits { Fits new.stated }
+    ensures few { IfOk result (λ x. vec_len x.body ≤ vec_len old.body.lines + vec_len new.body.lines) }
+    ensures lawful { IfOk result (IsLawful text.now) }
+    ensures exact { Gives (hunk_of text.now) result (whole (part_over text.now old) (part_over text.now new)) }
+{
+    has_size(&old, &new)?;
+    has_size(&new, &old)?;
+    let number = new.number;
+    let old_start = old.stated.start as u32;
+    let new_start = new.stated.start as u32;
+    match joined(alloc, text, old.body, new.body)? {
+        None => Err(bad(number, BadKind::SidesDiffer)),
+        Some(body) => Ok(Hunk {
+            old_start,
+            new_start,
+            body,
+        }),
+    }
+}
+
+/// Both parts, with the place after them, where no backslash line stands.
+#[tactic(auto, unfolding(crate::specs::Hunks::parts_at))]
+fn read_parts(
+    alloc: Global,
+    text: &[u8],
+    least: u64,
+    place: Place,
+) -> Result<((Part, Part), Place), FormFault>
+    requires { IsPlace text.now place }
+    ensures place { IfOk result (λ x. IsPlace text.now x.1 × (place.at < x.1.at)) }
+    ensures few { IfOk result (λ x. place.at + vec_len x.0.0.body.lines + vec_len x.0.1.body.lines ≤ x.1.at) }
+    ensures old_lies { IfOk result (λ x. All (λ l. LiesIn text.now l.span) x.0.0.body.lines.items) }
+    ensures new_lies { IfOk result (λ x. All (λ l. LiesIn text.now l.span) x.0.1.body.lines.items) }
+    ensures old_fits { IfOk result (λ x. Fits x.0.0.stated) }
+    ensures new_fits { IfOk result (λ x. Fits x.0.1.stated) }
+    ensures exact { Gives (λ x. ((part_over text.now x.0.0, part_over text.now x.0.1), ahead_of text.now x.1)) result (parts_at least (ahead_of text.now place)) }
+{
+    let (old, place) = read_old(alloc, text, least, place)?;
+    let (new, place) = read_new(alloc, text, &old, place)?;
+    if backslash_end(text, place.at).is_some() {
+        return Err(bad(place.number, BadKind::MisplacedBackslash));
+    }
+    Ok(((old, new), place))
+}
+
+/// A hunk whose old start is at least `least`, with the place after it.
+#[tactic(auto, unfolding(crate::specs::Hunks::first_hunk))]
+fn take_hunk(
+    alloc: Global,
+    text: &[u8],
+    least: u64,
+    place: Place,
+) -> Result<(Hunk, Place), FormFault>
+    requires { IsPlace text.now place }
+    ensures place { IfOk result (λ x. IsPlace text.now x.1 × (place.at < x.1.at)) }
+    ensures few { IfOk result (λ x. place.at + vec_len x.0.body ≤ x.1.at) }
+    ensures lawful { IfOk result (λ x. IsLawful text.now x.0) }
+    ensures exact { Gives (λ x. (hunk_of text.now x.0, ahead_of text.now x.1)) result (hunk_at least (ahead_of text.now place)) }
+{
+    let number = place.number;
+    let Some(end) = next_line(text, place.at) else {
+        return Err(bad(number, BadKind::ShortEnd));
+    };
+    let ((old, new), next) = read_parts(
+        alloc,
+        text,
+        least,
+        Place {
+            at: end,
+            number: number + 1,
+        },
+    )?;
+    let hunk = hunk_from(alloc, text, old, new)?;
+    Ok((hunk, next))
+}
+
+/// The same, with what its piece of the text is.
+fn read_hunk(
+    alloc: Global,
+    text: &[u8],
+    least: u64,
+    place: Place,
+) -> Result<(Hunk, Place), FormFault>
+    requires place { IsPlace text.now place }
+    requires opens { begins_hunk (lines (drop place.at text.now)) ≡ true }
+    ensures place { IfOk result (λ x. IsPlace text.now x.1 × (place.at < x.1.at)) }
+    ensures piece { IfOk result (λ x. SpellsPiece least (lines (slice_range text.now place.at x.1.at)) (hunk_of text.now x.0)) }
+    ensures few { IfOk result (λ x. place.at + vec_len x.0.body ≤ x.1.at) }
+    ensures lawful { IfOk result (λ x. IsLawful text.now x.0) }
+    ensures unbroken { IfOk result (λ x. first_broken (hunk_of text.now x.0) ≡ None) }
+    ensures exact { Gives (λ x. (hunk_of text.now x.0, ahead_of text.now x.1)) result (hunk_at least (ahead_of text.now place)) }
+{
+    take_hunk(alloc, text, least, place)
+}
+
+/// The hunks that follow each other, by reading on.
+fn read_all(alloc: Global, text: &[u8], at: usize, line: u64) -> Result<Hunks, FormFault>
+    requires short { length text.now < 2 ^ 32 }
+    requires within { at ≤ length text.now }
+    requires small { line < 2 ^ 32 }
+    ensures within { IfOk result (λ h. h.end ≤ length text.now) }
+    ensures turn { IfOk result (λ h. AreInTurn at h.spans.items h.end) }
+    ensures pieces { IfOk result (λ h. SpellInTurn SpellsPiece text.now 0 h.spans.items (hunks_of text.now h.items.items)) }
+    ensures sound { IfOk result (λ h. AreSound text.now h) }
+    ensures exact { Gives (read_of text.now) result
+        (reading line (lines (drop at text.now))) }
+{
+    let mut items = Vec::new(alloc);
+    let mut spans = Vec::new(alloc);
+    let mut place = Place { at, number: line };
+    let mut least: u64 = 0;
+    'hunks: while at_opening(text, place.at) {
+        let (hunk, next) = read_hunk(alloc, text, least, place)?;
+        spans.push(Span {
+            start: place.at as u32,
+            end: next.at as u32,
+        })?;
+        least = u64::from(hunk.old_start);
+        items.push(hunk)?;
+        place = next;
+    }
+    Ok(Hunks {
+        items,
+        spans,
+        end: place.at,
+        next: place.number,
+    })
+}
+
+/// The hunks that follow each other from `at` on, where the line has this number.
+pub fn read_hunks(alloc: Global, text: &[u8], at: usize, line: u64) -> Result<Hunks, FormFault>
+    requires short { length text.now < 2 ^ 32 }
+    requires within { at ≤ length text.now }
+    requires opens { begins_hunk (lines (drop at text.now)) ≡ true }
+    requires small { line < 2 ^ 32 }
+    ensures within { IfOk result (λ h. h.end ≤ length text.now) }
+    // The spans are the pieces of the hunks, one behind the other from `at` up to the end.
+    ensures turn { IfOk result (λ h. AreInTurn at h.spans.items h.end) }
+    ensures pieces { IfOk result (λ h. SpellInTurn SpellsPiece text.now 0 h.spans.items (hunks_of text.now h.items.items)) }
+    // Each hunk is lawful over the text, and breaks none of the rules of `Hunk::check`.
+    ensures sound { IfOk result (λ h. AreSound text.now h) }
+    // What is read is spelled so, by the lines up to the end, and no hunk nor backslash line stands there.
+    ensures found { IfOk result (λ h. IsPiece line (lines (drop at text.now)) (hunks_of text.now h.items.items) h.next (lines (drop h.end text.now))) }
+    // What is spelled so is read, unless memory runs out.
+    ensures only { (hs : List PlainHunk) (next : ℕ) (rest : List (List ℕ)) → IsPiece line (lines (drop at text.now)) hs next rest
+        → Gives (read_of text.now) result (these hs next rest) }
+    // Where nothing is spelled, which fault is the first.
+    ensures exact { Gives (read_of text.now) result
+        (reading line (lines (drop at text.now))) }
+{
+    read_all(alloc, text, at, line)
+}
+
+/// What makes a fault the first one. A fault in the lines of the parts is decided by its own line, and
+/// one of two whole parts by the line behind them.
+pub fn first_faults()
+    // It stays whatever lines come after the one that decides it, unless the text ends too early.
+    ensures stays { (number : ℕ) (lines others : List (List ℕ)) (e : Fault) → reading number lines ≡ Err e → e.kind ≢ BadKind.ShortEnd
+        → AgreeTo (decided_by number lines) number lines others → reading number others ≡ Err e }
+    // No lines that are the same up to there are spelled.
+    ensures unspelled { (number : ℕ) (lines others : List (List ℕ)) (e : Fault) (hs : List PlainHunk) (next : ℕ) (rest : List (List ℕ))
+        → reading number lines ≡ Err e → e.kind ≢ BadKind.ShortEnd → AgreeTo (decided_by number lines) number lines others → IsPiece number others hs next rest → ⊥ }
+    // Only three kinds can be faults of two whole parts.
+    ensures own { (number : ℕ) (lines : List (List ℕ)) (e : Fault) → reading number lines ≡ Err e
+        → e.kind ≢ BadKind.Count → e.kind ≢ BadKind.NumberTooLarge → e.kind ≢ BadKind.SidesDiffer → decided_by number lines ≡ e.line }
+    // A text that ends too early is at fault one line after its last.
+    ensures short { (number : ℕ) (lines : List (List ℕ)) (e : Fault) → reading number lines ≡ Err e → e.kind ≡ BadKind.ShortEnd → e.line ≡ number + length lines }
+    // No fault is decided before the end of lines that hunks begin with.
+    ensures late { (number : ℕ) (front behind others : List (List ℕ)) (e : Fault) (hs : List PlainHunk) (next : ℕ) (rest : List (List ℕ))
+        → IsPiece number (front ++ others) hs next rest → reading number (front ++ behind) ≡ Err e → number + length front ≤ decided_by number (front ++ behind) }
+{}
+
+/// The tests of the grammar, in the words of the diffutils manual.
+pub fn grammar_in_words()
+    // 15 asterisks, and behind their line '*** ' and a digit.
+    ensures opening { (lines : List (List ℕ)) → begins_hunk lines ≡ true
+        ↔ ((bytes : List ℕ) × (d : ℕ) × (more : List ℕ) × (rest : List (List ℕ)) × (lines ≡ (replicate 15 42 ++ bytes) ∷ (42 ∷ 42 ∷ 42 ∷ 32 ∷ d ∷ more) ∷ rest) × (is_digit d ≡ true)) }
+    // A new part is left out for 0.
+    ensures zero { (olds : List Marked) (rest : List (List ℕ)) → is_there (stated_as true 0 0) olds rest ≡ false }
+    // Behind one number, and an old part that is there and keeps no line, it is there where '+ ' or '! ' follows.
+    ensures alone { (start n : ℕ) (olds : List Marked) (rest : List (List ℕ)) → 0 < start → 0 < length olds → kept_count olds ≡ 0
+        → is_there (stated_as true start n) olds rest ≡ true ↔ BeginsChange rest }
+    // Behind another old part, or two numbers, it is there where two spaces follow too.
+    ensures other { (start n : ℕ) (olds : List Marked) (rest : List (List ℕ)) → 0 < start → (length olds ≡ 0) ⊎ (0 < kept_count olds)
+        → is_there (stated_as true start n) olds rest ≡ true ↔ (Begins 32 rest ⊎ BeginsChange rest) }
+    ensures two { (start n : ℕ) (olds : List Marked) (rest : List (List ℕ)) → is_there (stated_as false start n) olds rest ≡ true ↔ (Begins 32 rest ⊎ BeginsChange rest) }
+    // A new part that is written is there.
+    ensures written { (least : ℕ) (own behind : List (List ℕ)) (h : PlainHunk) (s : SpellsHunk least own behind h) → 0 < length s.new
+        → is_there (stated_as s.new_single h.new_start (length (part_of Side.Reversed h.body))) (written Side.Forward s.old h.body) (s.new ++ behind) ≡ true }
+{}
