@@ -1,0 +1,4 @@
+pub mod Balance
+pub mod Moved
+pub mod Rows
+pub mod Unbroken

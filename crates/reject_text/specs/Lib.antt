@@ -1,0 +1,3 @@
+pub mod Headers
+pub mod Starts
+pub mod Rejects
