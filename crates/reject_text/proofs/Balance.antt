@@ -23,7 +23,9 @@ counted : (body : List Marked) → count_by (λ m. is_add m.mark) body + side_co
 counted [] = refl
 counted (m ∷ body) =
     omega (
-      arith, one m.mark, counted body,
+      arith,
+      one m.mark,
+      counted body,
       sum_by-cons (λ (x : Marked). cond (is_add x.mark) 1 0) m body,
       sum_by-cons (λ (x : Marked). cond (is_drop x.mark) 1 0) m body,
       sum_by-cons (λ (x : Marked). cond (is_on_side Forward x.mark) 1 0) m body,

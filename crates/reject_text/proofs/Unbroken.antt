@@ -1,4 +1,4 @@
--- Hunks that break no rule, turned and moved.
+-- Hunks that break no rule, and whose lines have no inner line feed, turned and moved.
 use Rattle.std.proofs.Common.{◌≡◌, ℕ, zero, suc, ◌+◌, ◌-◌, ◌≤◌, ◌<◌, Bool, true, false, cond, eqb, not, ◌&&◌, ◌||◌, List, [], ◌∷◌, ◌++◌, length, map, drop, Option, None, Some, refl, sym, ap, subst, ◌∙◌, arith}
 use Rattle.std.specs.Prelude.{ℤ, pos, negsuc, nat_lt}
 use Rattle.std.specs.List.{AllByRecursion, flat_map, range_with_len, zip}
@@ -11,12 +11,13 @@ use Rattle.hunk_core.specs.declared.Side.{Side}
 use Rattle.hunk_core.specs.declared.Side.TheVariants.{Forward, Reversed}
 use Rattle.hunk_core.specs.declared.Verdict.{Verdict}
 use Rattle.hunk_core.specs.declared.Verdict.TheVariants.{Untried, Ignored, Nowhere, At}
-use Rattle.hunk_core.specs.PlainHunk.{PlainHunk, old_lines, new_lines}
-use Rattle.hunk_core.specs.Rules.{starts_at_zero, runs_over, lacks_inner_end, first_broken}
+use Rattle.hunk_core.specs.PlainHunk.{Marked, PlainHunk, old_lines, new_lines}
+use Rattle.hunk_core.specs.Rules.{starts_at_zero, runs_over, lacks_inner_end, first_broken, HasNoInnerFeed}
 use Rattle.hunk_core.specs.Turned.{swapped_line, turned}
 use Rattle.hunk_core.proofs.SideLemmas.{swapped-lines}
 use Rattle.reject_text.specs.Starts.{Row, net, least_start, greatest_start, put_between, moved_start, moved}
-use Rattle.reject_text.specs.Rejects.{AreUnbroken, rows_of, if_nowhere, first_reject, reject_at, rejects}
+use Rattle.reject_text.specs.Again.{AreUnbroken, AreClean}
+use Rattle.reject_text.specs.Rejects.{rows_of, if_nowhere, first_reject, reject_at, rejects}
 
 -- ---- the four rules, side by side
 
@@ -94,16 +95,10 @@ moved-kept net h k =
 
 -- ---- all that are written
 
-abbrev Unbroken : PlainHunk → Type 0
-Unbroken h = first_broken h ≡ None
-
-abbrev RowUnbroken : Row → Type 0
-RowUnbroken row = first_broken row.0 ≡ None
-
-rows-unbroken : (side : Side) (hs : List PlainHunk) (vs : List Verdict) → AllByRecursion Unbroken hs → AllByRecursion RowUnbroken (rows_of side hs vs)
-rows-unbroken side [] vs all = tt
-rows-unbroken side (h ∷ hs) [] all = tt
-rows-unbroken side (h ∷ hs) (v ∷ vs) all = (unbroken (turned side h) (turned-kept side h (kept h all.0)), rows-unbroken side hs vs all.1)
+-- what holds of a hunk holds of it turned and moved
+record Stays (P : PlainHunk → Type 0) : Type 0 where
+  turns : (side : Side) (h : PlainHunk) → P h → P (turned side h)
+  moves : (net : ℤ) (h : PlainHunk) → P h → P (moved net h)
 
 all-drop : {X : Type 0} (P : X → Type 0) (n : ℕ) (xs : List X) → AllByRecursion P xs → AllByRecursion P (drop n xs)
 all-drop P zero xs all = all
@@ -118,19 +113,41 @@ all-pieces : {X Y : Type 0} (P : Y → Type 0) (f : X → List Y) → ((x : X) �
 all-pieces P f each [] = tt
 all-pieces P f each (x ∷ xs) = subst (AllByRecursion P) (sym (flat_map-cons f x xs)) (all-append P (f x) (flat_map f xs) (each x) (all-pieces P f each xs))
 
-one-kept : (v : Verdict) (h : PlainHunk) → first_broken h ≡ None → AllByRecursion Unbroken (if_nowhere v h)
-one-kept Untried h e = tt
-one-kept Ignored h e = tt
-one-kept Nowhere h e = (e, tt)
-one-kept (At line fuzz offset) h e = tt
+module _ (P : PlainHunk → Type 0) (stays : Stays P) where
+  rows-keep : (side : Side) (hs : List PlainHunk) (vs : List Verdict) → AllByRecursion P hs → AllByRecursion (λ (row : Row). P row.0) (rows_of side hs vs)
+  rows-keep side [] vs all = tt
+  rows-keep side (h ∷ hs) [] all = tt
+  rows-keep side (h ∷ hs) (v ∷ vs) all = (stays.turns side h all.0, rows-keep side hs vs all.1)
 
-first-kept : (n : ℤ) (rows : List Row) → AllByRecursion RowUnbroken rows → AllByRecursion Unbroken (first_reject n rows)
-first-kept n [] all = tt
-first-kept n (row ∷ rows) all = one-kept row.1 (moved n row.0) (unbroken (moved n row.0) (moved-kept n row.0 (kept row.0 all.0)))
+  one-keeps : (v : Verdict) (h : PlainHunk) → P h → AllByRecursion P (if_nowhere v h)
+  one-keeps Untried h e = tt
+  one-keeps Ignored h e = tt
+  one-keeps Nowhere h e = (e, tt)
+  one-keeps (At line fuzz offset) h e = tt
 
-rejects-kept : (rows : List Row) → AllByRecursion RowUnbroken rows → AllByRecursion Unbroken (rejects rows)
-unfolding rejects
-rejects-kept rows all = all-pieces Unbroken (reject_at rows) (λ i. first-kept _ (drop i rows) (all-drop RowUnbroken i rows all)) (range_with_len 0 (length rows))
+  first-keeps : (n : ℤ) (rows : List Row) → AllByRecursion (λ (row : Row). P row.0) rows → AllByRecursion P (first_reject n rows)
+  first-keeps n [] all = tt
+  first-keeps n (row ∷ rows) all = one-keeps row.1 (moved n row.0) (stays.moves n row.0 all.0)
+
+  rejects-keep : (side : Side) (hs : List PlainHunk) (vs : List Verdict) → AllByRecursion P hs → AllByRecursion P (rejects (rows_of side hs vs))
+  unfolding rejects
+  rejects-keep side hs vs all =
+      let rows : List Row = rows_of side hs vs in
+      all-pieces P (reject_at rows) (λ i. first-keeps _ (drop i rows) (all-drop (λ (row : Row). P row.0) i rows (rows-keep side hs vs all))) (range_with_len 0 (length rows))
 
 pub rejects-unbroken : (side : Side) (hs : List PlainHunk) (vs : List Verdict) → AreUnbroken hs → AreUnbroken (rejects (rows_of side hs vs))
-rejects-unbroken side hs vs all = rejects-kept (rows_of side hs vs) (rows-unbroken side hs vs all)
+rejects-unbroken side hs vs all =
+    rejects-keep (λ h. first_broken h ≡ None)
+    (record { turns = λ s h e. unbroken (turned s h) (turned-kept s h (kept h e)); moves = λ n h e. unbroken (moved n h) (moved-kept n h (kept h e)) })
+    side hs vs all
+
+clean-swapped : (body : List Marked) → AllByRecursion HasNoInnerFeed body → AllByRecursion HasNoInnerFeed (map swapped_line body)
+clean-swapped [] all = tt
+clean-swapped (m ∷ body) all = (all.0, clean-swapped body all.1)
+
+clean-turned : (side : Side) (h : PlainHunk) → AllByRecursion HasNoInnerFeed h.body → AllByRecursion HasNoInnerFeed (turned side h).body
+clean-turned Forward h all = all
+clean-turned Reversed h all = clean-swapped h.body all
+
+pub rejects-clean : (side : Side) (hs : List PlainHunk) (vs : List Verdict) → AreClean hs → AreClean (rejects (rows_of side hs vs))
+rejects-clean side hs vs all = rejects-keep (λ h. AllByRecursion HasNoInnerFeed h.body) (record { turns = clean-turned; moves = λ n h e. e }) side hs vs all

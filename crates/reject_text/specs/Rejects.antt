@@ -1,6 +1,6 @@
 -- The text of the hunks of a file patch that have no place (GNU diffutils manual, "Reject Names"; POSIX `patch`, "Patch Application").
-use Rattle.std.specs.Prelude.{◌≡◌, ℕ, ◌+◌, ℤ, List, [], ◌∷◌, ◌++◌, length, take, drop, map, None}
-use Rattle.std.specs.List.{flat_map, range_with_len, zip, AllByRecursion}
+use Rattle.std.specs.Prelude.{ℕ, ℤ, List, [], ◌∷◌, ◌++◌, length, take, drop, map}
+use Rattle.std.specs.List.{flat_map, range_with_len, zip}
 use Rattle.hunk_core.specs.declared.Form.{Form}
 use Rattle.hunk_core.specs.declared.Form.TheVariants.{Unified, Context, Normal, Ed}
 use Rattle.hunk_core.specs.declared.Side.{Side}
@@ -8,7 +8,6 @@ use Rattle.hunk_core.specs.declared.Verdict.{Verdict}
 use Rattle.hunk_core.specs.declared.Verdict.TheVariants.{Untried, Ignored, Nowhere, At}
 use Rattle.hunk_core.specs.PlainHunk.{PlainHunk}
 use Rattle.hunk_core.specs.Turned.{turned}
-use Rattle.hunk_core.specs.Rules.{first_broken}
 use Rattle.unified_form.specs.Canonical as unified
 use Rattle.context_form.specs.Canonical as context
 use Rattle.file_patch.specs.declared.Change.{Change}
@@ -63,7 +62,3 @@ hunk_text Ed h = []
 -- two header lines, and the hunks that have no place
 abbrev pub reject_text : List PlainHunk → List Verdict → Side → List ℕ → Form → List ℕ
 reject_text hs verdicts side name form = headers form name ++ flat_map (hunk_text form) (rejects (rows_of side hs verdicts))
-
--- the hunks break no rule
-abbrev pub AreUnbroken : List PlainHunk → Type 0
-AreUnbroken hs = AllByRecursion (λ h. first_broken h ≡ None) hs

@@ -1,9 +1,10 @@
 -- Where a hunk starts in a file that other hunks have changed (POSIX `patch`, "Patch Application"; GNU diffutils manual, "Imperfect Patches").
-use Rattle.std.specs.Prelude.{ℕ, ◌-◌, ◌==◌, nat_lt, ℤ, pos, negsuc, ◌+ℤ◌, ◌-ℤ◌, List, length, sum_by, if◌then◌else◌, Bool, true, false}
+use Rattle.std.specs.Prelude.{ℕ, ◌-◌, ◌==◌, nat_lt, ℤ, pos, negsuc, ◌+ℤ◌, ◌-ℤ◌, List, [], ◌∷◌, length, sum_by, if◌then◌else◌, Bool}
 use Rattle.hunk_core.specs.declared.Verdict.{Verdict}
 use Rattle.hunk_core.specs.declared.Verdict.TheVariants.{Untried, Ignored, Nowhere, At}
 use Rattle.hunk_core.specs.PlainHunk.{PlainHunk, old_lines, new_lines}
-use Rattle.hunk_place.specs.Verdicts.{adds, drops}
+use Rattle.hunk_place.specs.declared.PlaceState.{PlaceState}
+use Rattle.hunk_place.specs.Verdicts.{adds, drops, after_hunk, spot}
 
 -- a hunk as it was tried, and what became of it
 abbrev pub Row : Type 0
@@ -25,6 +26,11 @@ placed_drops row = if_placed row.1 (drops row.0)
 -- the lines that the placed ones of these hunks add, less those that they drop
 abbrev pub net : List Row → ℤ
 net rows = pos (sum_by placed_adds rows) -ℤ pos (sum_by placed_drops rows)
+
+-- how far the placing has come behind these hunks
+unfoldable pub state_behind : List (List ℕ) → ℕ → Bool → PlaceState → List PlainHunk → PlaceState
+state_behind lines fuzz loose state [] = state
+state_behind lines fuzz loose state (h ∷ hs) = state_behind lines fuzz loose (after_hunk h state (spot lines fuzz loose h state)) hs
 
 -- the least and the greatest start of a side with so many lines
 abbrev pub least_start : ℕ → ℕ

@@ -5,6 +5,7 @@ mod header;
 mod moving;
 mod rejects;
 
+pub use moving::nets_in_words;
 pub use rejects::put_reject;
 
 #[cfg(test)]

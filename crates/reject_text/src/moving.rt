@@ -1,10 +1,11 @@
 //! By how many lines the placed hunks move those behind them.
 
-ghost use Rattle.std.specs.Prelude.{◌≡◌, ◌<◌, ◌^◌, ℕ, List, length, pos, negsuc, ◌≤ℤ◌, ◌-ℤ◌};
-ghost use Rattle.hunk_core.specs.PlainHunk.{hunk_of};
+ghost use Rattle.std.specs.Prelude.{◌≡◌, ◌<◌, ◌^◌, ℕ, List, Bool, length, take, pos, negsuc, ◌≤ℤ◌, ◌-ℤ◌};
+ghost use Rattle.std.specs.List.{zip};
+ghost use Rattle.hunk_core.specs.PlainHunk.{PlainHunk, hunk_of};
 ghost use Rattle.hunk_core.specs.Turned.{turned};
-ghost use Rattle.hunk_place.specs.Verdicts.{adds, drops};
-ghost use Rattle.reject_text.specs.Starts.{placed_adds, placed_drops, moved_start};
+ghost use Rattle.hunk_place.specs.Verdicts.{adds, drops, at_start, verdicts};
+ghost use Rattle.reject_text.specs.Starts.{placed_adds, placed_drops, net, state_behind, moved_start};
 
 use hunk_core::{Hunk, Side, Verdict};
 
@@ -48,3 +49,8 @@ pub fn placed_growth(hunk: &Hunk, verdict: Verdict, side: Side) -> i64
         Verdict::Untried | Verdict::Ignored | Verdict::Nowhere => 0,
     }
 }
+
+/// The net in front of a hunk is the one that placing the hunks there came to.
+pub fn nets_in_words()
+    ensures { (lines : List (List ℕ)) (fuzz : ℕ) (loose : Bool) (hs : List PlainHunk) (n : ℕ) → net (take n (zip hs (verdicts lines fuzz loose at_start hs))) ≡ (state_behind lines fuzz loose at_start (take n hs)).net }
+{}

@@ -9,7 +9,8 @@ ghost use Rattle.hunk_core.specs.Writing.{Puts};
 ghost use Rattle.file_patch.specs.PlainPatch.{AreLawfulHunks, IsLawfulChange, change_of, row_count};
 ghost use Rattle.reject_text.specs.Headers.{IsRejectForm};
 ghost use Rattle.reject_text.specs.Starts.{moved};
-ghost use Rattle.reject_text.specs.Rejects.{AreHunks, AreUnbroken, hunks_in, rows_of, reject_of, rejects, hunk_text, reject_text};
+ghost use Rattle.reject_text.specs.Again.{AreUnbroken, AreClean, AreReadAgain};
+ghost use Rattle.reject_text.specs.Rejects.{AreHunks, hunks_in, rows_of, reject_of, rejects, hunk_text, reject_text};
 
 use crate::header::put_headers;
 use crate::moving::{moved_start, placed_growth};
@@ -138,8 +139,11 @@ pub fn put_reject<O: Sink>(
     requires form { IsRejectForm form }
     ensures writes { Writes (O.view out.old) (O.view out.new) result (reject_text (hunks_in (change_of text.now patch.now.change)) verdicts.now side name.now form) }
     ensures rest { O.same_rest out.old out.new }
-    // What is written breaks no rule of a hunk where the patch doesn't.
+    // Where the hunks of the patch break no rule, what is written doesn't either.
     ensures unbroken { AreUnbroken (hunks_in (change_of text.now patch.now.change)) → AreUnbroken (rejects (rows_of side (hunks_in (change_of text.now patch.now.change)) verdicts.now)) }
+    // Then each hunk is the first one that its text spells, with what is written behind it, if there
+    // is a line feed at most at the end of each line.
+    ensures again { AreUnbroken (hunks_in (change_of text.now patch.now.change)) → AreClean (hunks_in (change_of text.now patch.now.change)) → AreReadAgain form (rejects (rows_of side (hunks_in (change_of text.now patch.now.change)) verdicts.now)) }
 {
     match &patch.change {
         Change::Hunks(hunks) => {
