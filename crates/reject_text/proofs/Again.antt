@@ -1,11 +1,10 @@
 -- What was written is read again, hunk by hunk.
-use Rattle.std.proofs.Common.{◌≡◌, ℕ, Bool, true, false, cond, List, [], ◌∷◌, ◌++◌, None, Some, Option, refl, sym, ap, ◌∙◌}
-use Rattle.std.specs.List.{AllByRecursion, flat_map}
+use Rattle.std.proofs.Common.{◌≡◌, ℕ, Bool, true, false, cond, List, [], ◌∷◌, None, refl, ap, ◌∙◌}
+use Rattle.std.specs.List.{flat_map}
 use Rattle.std.proofs.lemmas.List.Concat.{flat_map-cons}
 use Rattle.line_list.specs.Lines.{lines, with_first}
 use Rattle.hunk_core.specs.declared.Form.{Form}
 use Rattle.hunk_core.specs.declared.Form.TheVariants.{Unified, Context, Normal, Ed}
-use Rattle.hunk_core.specs.declared.Mark.{Mark}
 use Rattle.hunk_core.specs.PlainHunk.{PlainHunk}
 use Rattle.hunk_core.specs.LineTests.{after, after_backslash}
 use Rattle.unified_form.proofs.Again as unified
@@ -13,7 +12,7 @@ use Rattle.context_form.proofs.Again as context
 use Rattle.context_form.specs.Presence.{may_begin, begins_part}
 use Rattle.reject_text.specs.Headers.{IsRejectForm}
 use Rattle.reject_text.specs.Rejects.{hunk_text}
-use Rattle.reject_text.specs.Again.{AreUnbroken, AreClean, IsReadFirst, AreReadAgain}
+use Rattle.reject_text.specs.Again.{AreUnbroken, AreClean, AreReadAgain}
 
 -- ---- the text of a hunk doesn't begin as a line of the one before it
 

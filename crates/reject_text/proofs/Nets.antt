@@ -1,5 +1,5 @@
 -- The net of placed hunks is the one that the placing counts.
-use Rattle.std.proofs.Common.{◌≡◌, ℕ, zero, suc, ◌+◌, List, [], ◌∷◌, take, Bool, Option, Some, None, refl, sym, ap, ◌∙◌, arith}
+use Rattle.std.proofs.Common.{◌≡◌, ℕ, zero, suc, List, [], ◌∷◌, take, Bool, Option, Some, None, refl, sym, ap, ◌∙◌, arith}
 use Rattle.std.specs.Prelude.{ℤ, pos, ◌+ℤ◌, ◌-ℤ◌}
 use Rattle.std.specs.List.{zip}
 use Rattle.std.proofs.lemmas.Int.{ints}
@@ -7,7 +7,7 @@ use Rattle.std.proofs.lemmas.List.Sums.{sum_by-cons}
 use Rattle.hunk_core.specs.PlainHunk.{PlainHunk}
 use Rattle.hunk_place.specs.declared.Spot.{Spot}
 use Rattle.hunk_place.specs.declared.PlaceState.{PlaceState}
-use Rattle.hunk_place.specs.Verdicts.{adds, drops, verdict_of, after_hunk, at_start, spot, verdicts}
+use Rattle.hunk_place.specs.Verdicts.{verdict_of, after_hunk, at_start, spot, verdicts}
 use Rattle.reject_text.specs.Starts.{Row, placed_adds, placed_drops, net, state_behind}
 
 abbrev growth : Row → ℤ

@@ -1,4 +1,3 @@
-use Rattle.std.proofs.Common.{◌++◌}
 use Rattle.std.proofs.lemmas.Result.{err_from_is_err_and}
 use Rattle.hunk_core.proofs.SinkSteps.{has-put, puts-more, puts-stop}
 use Rattle.reject_text.specs.Headers.{new_mark, name_line}
