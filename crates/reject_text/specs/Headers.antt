@@ -1,4 +1,4 @@
--- The two lines that a reject text begins with (GNU diffutils manual, "Example of Unified Format" and "Example of Context Format").
+-- The two lines that a reject text begins with (GNU diffutils manual, "Detailed Description of Unified Format" and "Detailed Description of Context Format").
 use Rattle.std.specs.Prelude.{ℕ, Bool, ◌==◌, List, [], ◌∷◌, ◌++◌, codes, if◌then◌else◌}
 use Rattle.std.specs.List.{list_any}
 use Rattle.hunk_core.specs.declared.Form.{Form}
@@ -24,7 +24,7 @@ new_mark Context = codes "--- "
 new_mark Normal = []
 new_mark Ed = []
 
--- there is a space, behind which a reader would look for a stamp
+-- there is a space, where a reader may take the name to end
 abbrev pub holds_space : List ℕ → Bool
 holds_space name = list_any (λ b. b == 32) name
 
@@ -32,6 +32,7 @@ holds_space name = list_any (λ b. b == 32) name
 abbrev pub name_end : List ℕ → List ℕ
 name_end name = if holds_space name then 9 ∷ 10 ∷ [] else 10 ∷ []
 
+-- a mark, the name, and its end
 abbrev pub name_line : List ℕ → List ℕ → List ℕ
 name_line mark name = mark ++ (name ++ name_end name)
 

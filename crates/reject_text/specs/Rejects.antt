@@ -1,4 +1,4 @@
--- The text of the hunks of a file patch that have no place (GNU diffutils manual, "Reject Names"; POSIX `patch`, "Patch Application").
+-- The text of the hunks of a file patch that have no place (GNU diffutils manual, "Reject File Names"; POSIX `patch`, "Patch Application").
 use Rattle.std.specs.Prelude.{ℕ, ℤ, List, [], ◌∷◌, ◌++◌, length, take, drop, map}
 use Rattle.std.specs.List.{flat_map, range_with_len, zip}
 use Rattle.hunk_core.specs.declared.Form.{Form}
@@ -30,21 +30,23 @@ hunks_in (script es) = []
 abbrev pub rows_of : Side → List PlainHunk → List Verdict → List Row
 rows_of side hs verdicts = zip (map (turned side) hs) verdicts
 
--- a hunk that has no place, behind hunks with this net
+-- a hunk where it has no place, else nothing
 abbrev pub if_nowhere : Verdict → PlainHunk → List PlainHunk
 if_nowhere Untried h = []
 if_nowhere Ignored h = []
 if_nowhere Nowhere h = h ∷ []
 if_nowhere (At line fuzz offset) h = []
 
+-- what is written of a hunk, behind hunks with this net
 abbrev pub reject_of : ℤ → Row → List PlainHunk
 reject_of net row = if_nowhere row.1 (moved net row.0)
 
+-- what is written of the first of these hunks
 abbrev pub first_reject : ℤ → List Row → List PlainHunk
 first_reject net [] = []
 first_reject net (row ∷ rows) = reject_of net row
 
--- the one at this index, moved by the net of all in front of it
+-- what is written of the hunk at this index, behind all that stand in front of it
 abbrev pub reject_at : List Row → ℕ → List PlainHunk
 reject_at rows i = first_reject (net (take i rows)) (drop i rows)
 

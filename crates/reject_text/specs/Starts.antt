@@ -1,4 +1,4 @@
--- Where a hunk starts in a file that other hunks have changed (POSIX `patch`, "Patch Application"; GNU diffutils manual, "Imperfect Patches").
+-- Where a hunk starts in a file that other hunks have changed (POSIX `patch`, "Patch Application"; GNU diffutils manual, "Applying Imperfect Patches").
 use Rattle.std.specs.Prelude.{ℕ, ◌-◌, ◌==◌, nat_lt, ℤ, pos, negsuc, ◌+ℤ◌, ◌-ℤ◌, List, [], ◌∷◌, length, sum_by, if◌then◌else◌, Bool}
 use Rattle.hunk_core.specs.declared.Verdict.{Verdict}
 use Rattle.hunk_core.specs.declared.Verdict.TheVariants.{Untried, Ignored, Nowhere, At}
@@ -10,13 +10,14 @@ use Rattle.hunk_place.specs.Verdicts.{adds, drops, after_hunk, spot}
 abbrev pub Row : Type 0
 Row = PlainHunk × Verdict
 
--- the lines that a placed hunk adds, and drops
+-- a number of a hunk that counts only where the hunk is placed
 abbrev pub if_placed : Verdict → ℕ → ℕ
 if_placed Untried n = 0
 if_placed Ignored n = 0
 if_placed Nowhere n = 0
 if_placed (At line fuzz offset) n = n
 
+-- the lines that a placed hunk adds, and drops
 abbrev pub placed_adds : Row → ℕ
 placed_adds row = if_placed row.1 (adds row.0)
 
@@ -27,7 +28,7 @@ placed_drops row = if_placed row.1 (drops row.0)
 abbrev pub net : List Row → ℤ
 net rows = pos (sum_by placed_adds rows) -ℤ pos (sum_by placed_drops rows)
 
--- how far the placing has come behind these hunks
+-- how far the placing has come behind these hunks, each hunk placed in turn
 unfoldable pub state_behind : List (List ℕ) → ℕ → Bool → PlaceState → List PlainHunk → PlaceState
 state_behind lines fuzz loose state [] = state
 state_behind lines fuzz loose state (h ∷ hs) = state_behind lines fuzz loose (after_hunk h state (spot lines fuzz loose h state)) hs

@@ -48,7 +48,7 @@ returns-in_err-put_if_nowhere g c =
     let put : Puts g.O.Sink.view g.O.Sink.same_rest c.loop-i.out c.put_if_nowhere.new.out (Err c.in_err-put_if_nowhere.field-0.0) (text_at form rows i row) =
     subst (λ n. Puts {R = Unit {0}} g.O.Sink.view g.O.Sink.same_rest c.loop-i.out c.put_if_nowhere.new.out (Err c.in_err-put_if_nowhere.field-0.0) (flat_map (hunk_text form) (reject_of n row))) c.loop-i.invariant.is c.in_err-put_if_nowhere.ensures in
     rw (p.1, ← cut-off form rows i row (omega arith) here)
-    (puts-stop c.in_err-put_if_nowhere.field-0.0 p.0 (text_behind form rows (i + 1)) (puts-more g.met.O.Sink.rest_both c.loop-i.invariant.put put))
+    (puts-stop c.in_err-put_if_nowhere.field-0.0 p.0 (text_behind form rows (i + 1)) (puts-more {a = text_to form rows i} g.met.O.Sink.rest_both c.loop-i.invariant.put put))
 
 pub loop-i-preserved : goal.loop-i-preserved
 loop-i-preserved g c =
