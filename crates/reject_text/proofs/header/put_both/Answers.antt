@@ -1,0 +1,16 @@
+use Rattle.std.proofs.lemmas.Result.{err_from_is_err_and}
+use Rattle.hunk_core.proofs.SinkSteps.{has-put, puts-more, puts-stop}
+use Rattle.reject_text.proofs.header.put_both.Goals as goal
+
+pub returns-in_err-put_all : goal.returns-in_err-put_all
+returns-in_err-put_all g c =
+    let p = err_from_is_err_and c.from_residual.result c.from_residual.ensures.1 in
+    let first = c.in_err-put_all.ensures in
+    rw p.1 (puts-stop c.in_err-put_all.field-0.0 p.0 c.args.second.now (record { call = first.call; rest = first.rest; received = first.received; failed = first.failed }))
+
+pub returns : goal.returns
+returns g c =
+    let first = c.in_ok-put_all.ensures in
+    let second = c.put_all-2.ensures in
+    puts-more g.met.O.Sink.rest_both (has-put c.in_ok-put_all.field-0 (record { call = first.call; rest = first.rest; received = first.received; failed = first.failed }))
+    (record { call = second.call; rest = second.rest; received = second.received; failed = second.failed })

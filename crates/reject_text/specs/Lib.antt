@@ -1,0 +1,4 @@
+pub mod Headers
+pub mod Starts
+pub mod Rejects
+pub mod Again

@@ -1,0 +1,66 @@
+-- The text of the hunks of a file patch that have no place (GNU diffutils manual, "Reject File Names"; POSIX `patch`, "Patch Application").
+use Rattle.std.specs.Prelude.{ℕ, ℤ, List, [], ◌∷◌, ◌++◌, length, take, drop, map}
+use Rattle.std.specs.List.{flat_map, range_with_len, zip}
+use Rattle.hunk_core.specs.declared.Form.{Form}
+use Rattle.hunk_core.specs.declared.Form.TheVariants.{Unified, Context, Normal, Ed}
+use Rattle.hunk_core.specs.declared.Side.{Side}
+use Rattle.hunk_core.specs.declared.Verdict.{Verdict}
+use Rattle.hunk_core.specs.declared.Verdict.TheVariants.{Untried, Ignored, Nowhere, At}
+use Rattle.hunk_core.specs.PlainHunk.{PlainHunk}
+use Rattle.hunk_core.specs.Turned.{turned}
+use Rattle.unified_form.specs.Canonical as unified
+use Rattle.context_form.specs.Canonical as context
+use Rattle.file_patch.specs.declared.Change.{Change}
+use Rattle.file_patch.specs.declared.Change.TheVariants.{Hunks, Script}
+use Rattle.file_patch.specs.PlainPatch.{PlainChange, hunks, script}
+use Rattle.reject_text.specs.Headers.{headers}
+use Rattle.reject_text.specs.Starts.{Row, net, moved}
+
+-- a change is hunks, and no ed script
+abbrev pub AreHunks : Change → Type 0
+AreHunks (Hunks hs) = Unit {0}
+AreHunks (Script s) = ⊥
+
+-- the hunks of a change; an ed script has none
+abbrev pub hunks_in : PlainChange → List PlainHunk
+hunks_in (hunks hs) = hs
+hunks_in (script es) = []
+
+-- the hunks in the direction tried, each with its verdict
+abbrev pub rows_of : Side → List PlainHunk → List Verdict → List Row
+rows_of side hs verdicts = zip (map (turned side) hs) verdicts
+
+-- a hunk where it has no place, else nothing
+abbrev pub if_nowhere : Verdict → PlainHunk → List PlainHunk
+if_nowhere Untried h = []
+if_nowhere Ignored h = []
+if_nowhere Nowhere h = h ∷ []
+if_nowhere (At line fuzz offset) h = []
+
+-- what is written of a hunk, behind hunks with this net
+abbrev pub reject_of : ℤ → Row → List PlainHunk
+reject_of net row = if_nowhere row.1 (moved net row.0)
+
+-- what is written of the first of these hunks
+abbrev pub first_reject : ℤ → List Row → List PlainHunk
+first_reject net [] = []
+first_reject net (row ∷ rows) = reject_of net row
+
+-- what is written of the hunk at this index, behind all that stand in front of it
+abbrev pub reject_at : List Row → ℕ → List PlainHunk
+reject_at rows i = first_reject (net (take i rows)) (drop i rows)
+
+-- the hunks that have no place, in their order
+unfoldable pub rejects : List Row → List PlainHunk
+rejects rows = flat_map (reject_at rows) (range_with_len 0 (length rows))
+
+-- a hunk in its canonical text
+abbrev pub hunk_text : Form → PlainHunk → List ℕ
+hunk_text Unified h = unified.canonical h
+hunk_text Context h = context.canonical h
+hunk_text Normal h = []
+hunk_text Ed h = []
+
+-- two header lines, and the hunks that have no place
+abbrev pub reject_text : List PlainHunk → List Verdict → Side → List ℕ → Form → List ℕ
+reject_text hs verdicts side name form = headers form name ++ flat_map (hunk_text form) (rejects (rows_of side hs verdicts))
