@@ -1,0 +1,4 @@
+pub mod ChangeLemmas
+pub mod HeaderLemmas
+pub mod TextLoops
+pub mod TextLaws

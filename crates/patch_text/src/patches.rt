@@ -1,0 +1,160 @@
+//! File patches that follow each other.
+
+ghost use Rattle.std.specs.Prelude.{◌≡◌, ◌<◌, ◌≤◌, ◌^◌, ◌+◌, ℕ, List, Option, None, Ok, Err, true, false, length, drop, map, sum_by, IfOk, IfSome, All, option_map};
+ghost use Rattle.line_list.specs.Lines.{lines};
+ghost use Rattle.hunk_core.specs.declared.BadKind.{BadKind};
+ghost use Rattle.hunk_core.specs.declared.fault.FormFault.{FormFault};
+ghost use Rattle.hunk_core.specs.Reading.{Gives, fault};
+ghost use Rattle.patch_header.specs.Content.{has_dot};
+ghost use Rattle.patch_header.specs.Steps.{IsFirstOpening, IsEnd};
+ghost use Rattle.file_patch.specs.PlainPatch.{PlainPatch, patch_of, row_count};
+ghost use Rattle.file_patch.specs.Absent.{IsLawfulPatch};
+ghost use Rattle.patch_text.specs.Patches.{change_at, patch_at, next_patch, patches_of};
+ghost use Rattle.patch_text.specs.Reading.{IsProgress, IsHeaderFrom, ahead_of};
+ghost use Rattle.patch_text.specs.Spans.{IsPatch, ArePatches};
+ghost use Rattle.patch_text.specs.Texts.{ComesFault, IsFaulty, HasPatches};
+
+use crate::absent::is_absent;
+use crate::change::read_change;
+use file_patch::FilePatch;
+use hunk_core::{BadKind, Form, FormFault, Side, bad};
+use line_list::Span;
+use patch_header::{Header, HeaderStep, header_from};
+use std::alloc::Global;
+
+/// How far a text is read.
+#[derive(Clone, Copy)]
+pub struct Progress {
+    /// The place behind the last file patch, and the number of the line there.
+    pub at: usize,
+    pub number: u64,
+    /// It is known that no line from there on is `.`.
+    pub dotless: bool,
+    /// How many hunks were read.
+    pub hunks: u32,
+}
+
+/// The file patch with this header, and how far the text is read behind it.
+fn read_patch(
+    alloc: Global,
+    text: &[u8],
+    header: Header,
+    here: Progress,
+) -> Result<(FilePatch, Progress), FormFault>
+    requires short { length text.now < 2 ^ 32 }
+    requires few { here.hunks ≤ here.at }
+    requires numbers { here.number ≤ here.at + 1 }
+    requires header { IsHeaderFrom text.now here.at here.number header }
+    requires known { here.dotless ≡ true → has_dot (lines (drop header.at text.now)) ≡ false }
+    ensures is { IfOk result (λ x. IsPatch text.now here.at here.hunks x.0 x.1.number) }
+    ensures header { IfOk result (λ x. x.0.header ≡ header) }
+    ensures progress { IfOk result (λ x. IsProgress text.now x.1) }
+    ensures behind { IfOk result (λ x. (here.at < x.1.at) × (x.1.at ≡ x.0.span.end) × (x.1.hunks ≡ here.hunks + row_count x.0.change)) }
+    ensures exact { Gives (λ x. (patch_of text.now x.0, ahead_of text.now x.1)) result (patch_at text.now header) }
+    ensures malformed { (number : ℕ) (kind : BadKind) → result ≡ Err (FormFault.Malformed number kind) → change_at header.form header.opening (lines (drop header.at text.now)) ≡ Err (fault number kind) }
+{
+    let read = read_change(alloc, text, header.form, header.at, header.opening)?;
+    let patch = FilePatch {
+        old_absent: is_absent(text, Side::Forward, &header, &read.change),
+        new_absent: is_absent(text, Side::Reversed, &header, &read.change),
+        header,
+        span: Span {
+            start: here.at as u32,
+            end: read.end as u32,
+        },
+        hunk_spans: read.spans,
+        change: read.change,
+        targets: Vec::new(alloc),
+        first_verdict: here.hunks,
+    };
+    let behind = Progress {
+        at: read.end,
+        number: read.next,
+        dotless: here.dotless,
+        hunks: here.hunks + patch.hunks(),
+    };
+    Ok((patch, behind))
+}
+
+/// The file patch that comes next, if there is one.
+fn next_patch(
+    alloc: Global,
+    text: &[u8],
+    only: Option<Form>,
+    here: Progress,
+) -> Result<Option<(FilePatch, Progress)>, FormFault>
+    requires short { length text.now < 2 ^ 32 }
+    requires progress { IsProgress text.now here }
+    ensures is { IfOk result (λ o. IfSome o (λ x. IsPatch text.now here.at here.hunks x.0 x.1.number)) }
+    ensures opens { IfOk result (λ o. IfSome o (λ x. IsFirstOpening only text.now here.at here.number x.0.header)) }
+    ensures malformed { (number : ℕ) (kind : BadKind) → result ≡ Err (FormFault.Malformed number kind) → ComesFault only text.now here.at here.number number kind }
+    ensures ends { IfOk result (λ o. o ≡ None → IsEnd only text.now here.at) }
+    ensures progress { IfOk result (λ o. IfSome o (λ x. IsProgress text.now x.1)) }
+    ensures behind { IfOk result (λ o. IfSome o (λ x. (here.at < x.1.at) × (x.1.at ≡ x.0.span.end) × (x.1.hunks ≡ here.hunks + row_count x.0.change))) }
+    ensures exact { Gives (option_map (λ x. (patch_of text.now x.0, ahead_of text.now x.1))) result (next_patch only text.now here.at here.number) }
+{
+    if here.at == text.len() {
+        return Ok(None);
+    }
+    let (step, dotless) = header_from(text, here.at, here.number, only, here.dotless);
+    match step {
+        HeaderStep::Found(header) => {
+            let here = Progress { dotless, ..here };
+            let found = read_patch(alloc, text, header, here)?;
+            Ok(Some(found))
+        }
+        HeaderStep::Binary { line } => Err(bad(line, BadKind::Binary)),
+        HeaderStep::End => Ok(None),
+    }
+}
+
+/// All file patches, by reading on.
+fn read_all(alloc: Global, text: &[u8], only: Option<Form>) -> Result<Vec<FilePatch>, FormFault>
+    requires { length text.now < 2 ^ 32 }
+    ensures are { IfOk result (λ ps. ArePatches only text.now ps.items) }
+    ensures lawful { IfOk result (λ ps. All (IsLawfulPatch text.now) ps.items) }
+    ensures count { IfOk result (λ ps. length ps.items < 2 ^ 32) }
+    ensures hunks { IfOk result (λ ps. sum_by (λ p. row_count p.change) ps.items < 2 ^ 32) }
+    ensures malformed { (line : ℕ) (kind : BadKind) → result ≡ Err (FormFault.Malformed line kind) → IsFaulty only text.now line kind }
+    ensures exact { Gives (λ ps. map (patch_of text.now) ps.items) result (patches_of only text.now) }
+{
+    let mut patches = Vec::new(alloc);
+    let mut here = Progress {
+        at: 0,
+        number: 1,
+        dotless: false,
+        hunks: 0,
+    };
+    'patches: while let Some((patch, behind)) = next_patch(alloc, text, only, here)? {
+        patches.push(patch)?;
+        here = behind;
+    }
+    Ok(patches)
+}
+
+/// The file patches of a text, or the first fault. The text is meant to be completed: each of its lines
+/// has its line feed. Garbage in front of a file patch is in its span, and garbage behind the last is in
+/// none. With `only` a file patch of another form is garbage too. The time is linear in the text.
+pub fn read_patches(
+    alloc: Global,
+    text: &[u8],
+    only: Option<Form>,
+) -> Result<Vec<FilePatch>, FormFault>
+    requires { length text.now < 2 ^ 32 }
+    // What is read is what the text has by the grammars of the forms.
+    ensures found { IfOk result (λ ps. HasPatches only text.now (map (patch_of text.now) ps.items)) }
+    // What a text has so is read, unless memory runs out.
+    ensures only { (ps : List PlainPatch) → HasPatches only text.now ps → Gives (λ xs. map (patch_of text.now) xs.items) result (Ok ps) }
+    // What is malformed comes behind file patches that the text has.
+    ensures malformed { (line : ℕ) (kind : BadKind) → result ≡ Err (FormFault.Malformed line kind) → IsFaulty only text.now line kind }
+    // The same as a function: the file patches, or the first fault.
+    ensures exact { Gives (λ ps. map (patch_of text.now) ps.items) result (patches_of only text.now) }
+    // Where each lies: it begins where the one before ends, and its verdicts come behind those before.
+    ensures are { IfOk result (λ ps. ArePatches only text.now ps.items) }
+    // Each has lawful hunks or edits, and says rightly which of its sides is no file.
+    ensures lawful { IfOk result (λ ps. All (IsLawfulPatch text.now) ps.items) }
+    ensures count { IfOk result (λ ps. length ps.items < 2 ^ 32) }
+    ensures hunks { IfOk result (λ ps. sum_by (λ p. row_count p.change) ps.items < 2 ^ 32) }
+{
+    read_all(alloc, text, only)
+}
