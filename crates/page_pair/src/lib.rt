@@ -5,8 +5,9 @@ ghost use Rattle.std.specs.Prelude.{◌≡◌, ◌+◌, ◌≤◌, ℕ, length, 
 ghost use Rattle.std.specs.Borrow.{sem};
 ghost use Rattle.outside.specs.ScratchView.{overwritten};
 ghost use Rattle.line_store.specs.Taking.{IsSize};
+ghost use Rattle.line_store.specs.declared.Half.TheVariants.{First, Second};
 ghost use Rattle.page_pair.specs.Pair.{Pair, IsPair, page_of, other_half};
-ghost use Rattle.page_pair.specs.Lending.{LendsPage};
+ghost use Rattle.page_pair.specs.Lending.{LendsPage, LendsOther};
 
 use line_store::Half;
 use std::alloc::{AllocError, Global};
@@ -17,6 +18,13 @@ use std::marker::Model;
 pub struct PagePair {
     first: Vec<u8>,
     second: Vec<u8>,
+}
+
+/// One page for reading, and the other for writing.
+#[derive(Drop)]
+pub struct Pages<'a> {
+    pub fixed: &'a [u8],
+    pub free: &'a mut [u8],
 }
 
 impl Model for PagePair {
@@ -74,6 +82,41 @@ impl PagePair {
         }
     }
 
+    /// The named page for reading, and the other for writing. The named page stays as it is.
+    pub fn page_and_other(&mut self, half: Half) -> Pages<'_>
+        ensures* writes_back { sem 𝓛 (LendsOther self.entry half result.free) }
+        ensures fixed { result.fixed.now ≡ page_of self.old half }
+        ensures free { result.free.now ≡ page_of self.old (other_half half) }
+        ensures pair { IsPair self.old }
+    {
+        match half {
+            Half::First => self.first_and_other(),
+            Half::Second => self.second_and_other(),
+        }
+    }
+
+    fn first_and_other(&mut self) -> Pages<'_>
+        ensures* writes_back { sem 𝓛 (LendsOther self.entry First result.free) }
+        ensures fixed { result.fixed.now ≡ self.old.first }
+        ensures free { result.free.now ≡ self.old.second }
+        ensures pair { IsPair self.old }
+    {
+        let fixed = self.first.as_slice();
+        let free = self.second.as_mut_slice();
+        Pages { fixed, free }
+    }
+
+    fn second_and_other(&mut self) -> Pages<'_>
+        ensures* writes_back { sem 𝓛 (LendsOther self.entry Second result.free) }
+        ensures fixed { result.fixed.now ≡ self.old.second }
+        ensures free { result.free.now ≡ self.old.first }
+        ensures pair { IsPair self.old }
+    {
+        let fixed = self.second.as_slice();
+        let free = self.first.as_mut_slice();
+        Pages { fixed, free }
+    }
+
     /// Copies bytes of the named page into the other one, from a place in each on.
     pub fn copy_across(&mut self, half: Half, from: usize, to: usize, count: usize)
         requires read { from + count ≤ self.old.size }
@@ -82,19 +125,9 @@ impl PagePair {
         ensures copied { page_of self.new (other_half half) ≡ overwritten (page_of self.old (other_half half)) to (take count (drop from (page_of self.old half))) }
         ensures size { self.new.size ≡ self.old.size }
     {
-        match half {
-            Half::First => copy_part(&self.first, from, &mut self.second, to, count),
-            Half::Second => copy_part(&self.second, from, &mut self.first, to, count),
-        }
+        let Pages { fixed, free } = self.page_and_other(half);
+        free[to..to + count].copy_from_slice(&fixed[from..from + count]);
     }
-}
-
-fn copy_part(source: &[u8], from: usize, target: &mut [u8], to: usize, count: usize)
-    requires read { from + count ≤ length source.now }
-    requires written { to + count ≤ length target.old }
-    ensures { target.new ≡ overwritten target.old to (take count (drop from source.now)) }
-{
-    target[to..to + count].copy_from_slice(&source[from..from + count]);
 }
 
 #[cfg(test)]
@@ -115,5 +148,22 @@ mod tests {
         assert_eq!(rt; pair.page(Half::Second)[0], 0);
         pair.copy_across(Half::First, 0, 510, 2);
         assert_eq!(rt; pair.page(Half::Second)[510], 7);
+    }
+
+    #[test]
+    fn lends_one_page_beside_the_other(rt: HostRuntime) {
+        let Ok(mut pair) = PagePair::new(rt.alloc(), 512) else {
+            assert!(rt; false);
+            return;
+        };
+        pair.page_mut(Half::Second)[511] = 9;
+        let pages = pair.page_and_other(Half::Second);
+        assert_eq!(rt; pages.fixed.len(), 512);
+        pages.free[0] = pages.fixed[511];
+        pages.free[511] = 1;
+        assert_eq!(rt; pages.fixed[511], 9);
+        assert_eq!(rt; pair.page(Half::First)[0], 9);
+        assert_eq!(rt; pair.page(Half::Second)[0], 0);
+        assert_eq!(rt; pair.page(Half::Second)[511], 9);
     }
 }
