@@ -44,6 +44,7 @@ fn added_of(alloc: Global, text: &[u8], count: usize) -> Result<Vec<Span>, Alloc
     requires text { text.now ≡ 46 ∷ 10 ∷ 120 ∷ 10 ∷ [] }
     ensures lies { IfOk result (λ spans. All (LiesIn text.now) spans.items) }
     ensures lines { IfOk result (λ spans. All IsLine (lines_of text.now spans.items)) }
+    ensures few { IfOk result (λ spans. length spans.items ≤ 2) }
 {
     let dot = Span { start: 0, end: 2 };
     let x = Span { start: 2, end: 4 };
@@ -60,6 +61,7 @@ fn edit_of(alloc: Global, text: &[u8], row: EditRow) -> Result<EdEdit, AllocErro
     ensures last { IfOk result (λ e. e.last ≡ row.last) }
     ensures lies { IfOk result (λ e. All (LiesIn text.now) e.added.items) }
     ensures lines { IfOk result (λ e. All IsLine (lines_of text.now e.added.items)) }
+    ensures few { IfOk result (λ e. length e.added.items ≤ 2) }
 {
     let added = added_of(alloc, text, row.added)?;
     Ok(EdEdit {
