@@ -1,0 +1,2 @@
+pub mod OnePatch
+pub mod Run

@@ -1,0 +1,39 @@
+-- The refusal of a text, and of the file patches of the completed text.
+use Rattle.std.proofs.Common.{◌≡◌, ℕ, ◌+◌, ◌≤◌, Bool, true, false, not, ◌&&◌, if◌then◌else◌, List, [], ◌∷◌, ◌++◌, length, Option, None, Some, Result, Ok, Err, refl, sym, ap, subst, ◌∙◌, arith, length-append}
+use Rattle.std.specs.Prelude.{◌==◌}
+use Rattle.std.proofs.Math.Dec.{eqb-suc-zero}
+use Rattle.line_list.specs.Lines.{lines}
+use Rattle.line_list.specs.Join.{ends_open, feed_if}
+use Rattle.line_list.specs.Completed.{completed}
+use Rattle.file_patch.specs.PlainPatch.{PlainPatch}
+use Rattle.patch_options.specs.PlainJob.{PlainOptions}
+use Rattle.patch_text.specs.Patches.{patches_of}
+use Rattle.patch_set.specs.declared.fault.SetFault.{SetFault}
+use Rattle.patch_set.specs.declared.fault.SetFault.TheVariants as faults
+use Rattle.patch_set.specs.Refusals.{first_of, garbage, out_many, ed_reverse, reserved, is_too_long, refusal, refusal_of}
+
+one-byte : (v : Bool) → length (feed_if v) ≤ 1
+one-byte true = omega arith
+one-byte false = omega arith
+
+pub completed-length : (text : List ℕ) → length (completed text) ≤ length text + 1
+unfolding completed
+completed-length text =
+    omega (arith, length-append text (feed_if (ends_open (lines text))), one-byte (ends_open (lines text)))
+
+same-empty : (text : List ℕ) → (length (completed text) == 0) ≡ (length text == 0)
+unfolding completed lines ends_open
+same-empty [] = refl
+same-empty (b ∷ bs) = eqb-suc-zero (length (bs ++ feed_if (ends_open (lines (b ∷ bs))))) ∙ sym (eqb-suc-zero (length bs))
+
+same-refusal : (o : PlainOptions) (text : List ℕ) (ps : List PlainPatch) → refusal_of o (completed text) (Ok ps) ≡ refusal_of o text (Ok ps)
+same-refusal o text ps =
+    ap (λ v. first_of ((if length ps == 0 && not v then Some faults.Garbage else None) ∷ out_many o ps ∷ ed_reverse o ps ∷ reserved o ps ∷ [])) (same-empty text)
+
+-- the refusal of the file patches that were read is that of the text
+pub read-refusal : (o : PlainOptions) (text whole : List ℕ) (ps : List PlainPatch) → is_too_long text ≡ false → whole ≡ completed text
+    → patches_of o.only whole ≡ Ok ps → refusal_of o whole (Ok ps) ≡ refusal o text
+read-refusal o text whole ps short is read =
+    ap (λ t. refusal_of o t (Ok ps)) is ∙ same-refusal o text ps
+    ∙ ap (λ r. refusal_of o text r) (sym read) ∙ ap (λ t. refusal_of o text (patches_of o.only t)) is
+    ∙ ap (λ v. if v then Some faults.TooLong else refusal_of o text (patches_of o.only (completed text))) (sym short)

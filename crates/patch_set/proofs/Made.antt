@@ -1,0 +1,91 @@
+-- A set that is made of file patches with their targets.
+use Rattle.std.proofs.Common.{◌≡◌, ℕ, ◌<◌, ◌^◌, List, map, length, All, Option, None, option_map, arith, refl, sym, ap, subst, ◌∙◌}
+use Rattle.std.specs.List.{find}
+use Rattle.std.specs.Option.{ForSome}
+use Rattle.file_patch.specs.declared.FilePatch.{FilePatch}
+use Rattle.file_patch.specs.PlainPatch.{patch_of}
+use Rattle.patch_options.specs.PlainJob.{PlainOptions}
+use Rattle.target_names.specs.declared.derived.Target.{Target}
+use Rattle.target_names.specs.Targets.{HasTemps}
+use Rattle.patch_set.specs.Spans.{ArePlaced}
+use Rattle.patch_set.specs.Looks.{is_reserving}
+use Rattle.patch_set.specs.Named.{known_names, output_of}
+use Rattle.patch_set.specs.Naming.{AreNamed}
+use Rattle.patch_set.specs.SetView.{SetView, HasTargets, IsSetOf, hunks_in, plain_patches}
+use Rattle.patch_set.specs.Refusals.{reserved}
+use Rattle.patch_set.specs.declared.fault.SetFault.TheVariants as faults
+use Rattle.file_patch.specs.Absent.{IsLawfulPatch}
+use Rattle.patch_set.proofs.Named.{named-few, named-count, named-hunks, named-lawful, named-placed, named-plain, named-targets}
+use Rattle.patch_set.proofs.Found.{named-fit, output-fit, reserved-named}
+
+none-found : (found : Option FilePatch) → None ≡ option_map (λ q. q.header.opening) found → found ≡ None
+none-found None is = refl
+none-found (Option.Some q) is = absurd cc
+
+has-targets : (o : PlainOptions) (text : List ℕ) (known : List (List ℕ)) (ps : List FilePatch) (v : SetView)
+    → v.text ≡ text → AreNamed o text known ps v.patches → v.output ≡ output_of o known → ForSome v.output HasTemps
+    → find (is_reserving v.output) v.patches ≡ None → HasTargets o known v
+has-targets o text known ps v same are out temps none = record {
+  targets = rw same (named-targets o text known ps v.patches are);
+  output = out;
+  few = named-few o text known ps v.patches are;
+  fit = named-fit o text known v.output ps v.patches are none;
+  output_fit = λ some. output-fit v.output v.patches some temps none;
+}
+
+set-of : (o : PlainOptions) (text : List ℕ) (ps : List FilePatch) (v : SetView)
+    → v.text ≡ text → AreNamed o text (known_names o (map (patch_of text) ps)) ps v.patches
+    → v.output ≡ output_of o (known_names o (map (patch_of text) ps)) → ForSome v.output HasTemps
+    → find (is_reserving v.output) v.patches ≡ None → ArePlaced text 0 0 ps → IsSetOf o text (map (patch_of text) ps) v
+set-of o text ps v same are out temps none at =
+    let known = known_names o (map (patch_of text) ps) in
+    let plain : plain_patches v ≡ map (patch_of text) ps = ap (λ t. map (patch_of t) v.patches) same ∙ named-plain o text known ps v.patches are in
+    record {
+      text = same;
+      plain = plain;
+      spans = rw same (named-placed o text known 0 0 ps v.patches are at);
+      names = subst (λ rs. HasTargets o (known_names o rs) v) (sym plain) (has-targets o text known ps v same are out temps none);
+    }
+
+-- file patches and an output with their targets
+pub record HaveTargets (o : PlainOptions) (text : List ℕ) (ps qs : List FilePatch) (output : Option Target) : Type 0 where
+  pub are : AreNamed o text (known_names o (map (patch_of text) ps)) ps qs
+  pub out : output ≡ output_of o (known_names o (map (patch_of text) ps))
+  pub temps : ForSome output HasTemps
+
+pub have-targets : (o : PlainOptions) (text lent : List ℕ) (ps qs : List FilePatch) (output : Option Target) → lent ≡ text
+    → AreNamed o lent (known_names o (map (patch_of lent) ps)) ps qs → output ≡ output_of o (known_names o (map (patch_of lent) ps))
+    → ForSome output HasTemps → HaveTargets o text ps qs output
+have-targets o text lent ps qs output same are out temps = subst (λ t. HaveTargets o t ps qs output) same (record { are = are; out = out; temps = temps })
+
+-- the set holds these file patches, and this output
+pub made-set : (o : PlainOptions) (text : List ℕ) (ps qs : List FilePatch) (output : Option Target) (v : SetView)
+    → v.text ≡ text → v.patches ≡ qs → v.output ≡ output → HaveTargets o text ps qs output
+    → None ≡ option_map (λ q. q.header.opening) (find (is_reserving output) qs)
+    → ArePlaced text 0 0 ps → IsSetOf o text (map (patch_of text) ps) v
+made-set o text ps qs output v same patches out have none at =
+    set-of o text ps v same (subst (λ rs. AreNamed o text (known_names o (map (patch_of text) ps)) ps rs) (sym patches) have.are) (out ∙ have.out)
+    (subst (λ x. ForSome x HasTemps) (sym out) have.temps)
+    (ap (λ x. find (is_reserving x) v.patches) out ∙ ap (λ rs. find (is_reserving output) rs) patches ∙ none-found (find (is_reserving output) qs) none) at
+
+-- what the file patches keep
+pub record AreKept (text : List ℕ) (qs : List FilePatch) : Type 0 where
+  pub lawful : All (IsLawfulPatch text) qs
+  pub count : length qs < 2 ^ 32
+  pub hunks : hunks_in qs < 2 ^ 32
+
+pub kept : (o : PlainOptions) (text : List ℕ) (ps qs : List FilePatch) (output : Option Target) → HaveTargets o text ps qs output
+    → All (IsLawfulPatch text) ps → length ps < 2 ^ 32 → hunks_in ps < 2 ^ 32 → AreKept text qs
+kept o text ps qs output have lawful count hunks =
+    let known = known_names o (map (patch_of text) ps) in
+    record {
+      lawful = named-lawful o text known ps qs have.are lawful;
+      count = omega (arith, named-count o text known ps qs have.are);
+      hunks = omega (arith, named-hunks o text known ps qs have.are);
+    }
+
+-- the line of a name of a temporary, or none
+pub told-reserved : (o : PlainOptions) (text : List ℕ) (ps qs : List FilePatch) (output : Option Target) (line : Option ℕ) → HaveTargets o text ps qs output
+    → line ≡ option_map (λ q. q.header.opening) (find (is_reserving output) qs)
+    → reserved o (map (patch_of text) ps) ≡ option_map faults.Reserved line
+told-reserved o text ps qs output line have is = sym (reserved-named o text output ps qs line have.are have.out is)

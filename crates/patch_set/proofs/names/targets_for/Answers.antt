@@ -1,0 +1,37 @@
+use Rattle.std.proofs.Common.{◌≡◌, ◌+◌, ◌<◌, ◌∷◌, ◌++◌, [], List, ℕ, take, length, All, refl, sym, ap, subst, ◌∙◌, arith, rules}
+use Rattle.std.proofs.lemmas.List.{take_more, get_or_read_under}
+use Rattle.std.proofs.lemmas.List.Elements.{All-push}
+use Rattle.patch_options.specs.PlainJob.{plain_options}
+use Rattle.target_names.specs.declared.derived.Target.{Target}
+use Rattle.target_names.specs.Numbered.{joined_by, with_name}
+use Rattle.target_names.specs.Targets.{HasTemps}
+use Rattle.patch_set.specs.Named.{target_in}
+use Rattle.patch_set.proofs.Joined.{AreTargets, joined-nil, known-more, targets-more}
+use Rattle.patch_set.proofs.names.targets_for.Goals as goal
+
+none-yet : (ts : List Target) → ts ≡ [] → All HasTemps ts
+none-yet ts e = subst (λ l. All HasTemps l) (sym e) (λ k d h. absurd (omega arith))
+
+pub loop-name-init : goal.loop-name-init
+loop-name-init c = record {
+  known = sym (joined-nil c.args.numbers.now);
+  targets = record { are = λ others. c.in_ok-targets.ensures.items };
+  temps = none-yet _ c.in_ok-targets.ensures.items;
+}
+
+pub loop-name-preserved : goal.loop-name-preserved
+loop-name-preserved c =
+    let i = c.loop-name.name-index in
+    let name = c.name-item.result in
+    let t = c.in_ok-target.field-0 in
+    let o = plain_options c.args.options.now in
+    let more : take (i + 1) c.args.names.now ≡ take i c.args.names.now ++ name ∷ [] =
+        take_more c.args.names.now i name (omega arith) ∙ ap (λ n. take i c.args.names.now ++ n ∷ []) (sym c.name-item.is) in
+    let pushed : c.push.new.self.items ≡ c.loop-name.targets.items ++ t ∷ [] = c.in_ok-push.ensures.items in
+    let one = c.in_ok-target.ensures.known in
+    let is : t ≡ target_in o (with_name c.loop-name.numbers name) name = c.in_ok-target.ensures.target ∙ ap (λ k. target_in o k name) one in
+    record {
+      known = known-more c.args.numbers.now c.args.names.now i name c.loop-name.numbers c.target.new.numbers c.loop-name.invariant.known one more;
+      targets = rw (more, pushed, one) (targets-more o c.loop-name.numbers (take i c.args.names.now) c.loop-name.targets.items name t c.loop-name.invariant.targets is);
+      temps = subst (λ l. All HasTemps l) (sym pushed) (All-push HasTemps c.loop-name.targets.items t c.loop-name.invariant.temps c.in_ok-target.ensures.temps);
+    }

@@ -1,0 +1,16 @@
+use Rattle.std.proofs.Common.{◌≡◌, ◌+◌, ◌<◌, [], take, sym, ap, ◌∙◌, arith}
+use Rattle.std.proofs.lemmas.List.Sums.{sum_by_more}
+use Rattle.file_patch.specs.PlainPatch.{row_count}
+use Rattle.patch_set.specs.SetView.{hunks_in}
+use Rattle.patch_set.proofs.Named.{rows-counted}
+use Rattle.patch_set.proofs.set.hunks_in.Goals as goal
+
+pub loop-patch-preserved : goal.loop-patch-preserved
+loop-patch-preserved c =
+    let i = c.loop-patch.patch-index in
+    let p = c.patch-item.result in
+    let before = hunks_in (take i c.args.patches.now) in
+    ap (λ n. c.loop-patch.count + n) (c.hunks.ensures [] ∙ rows-counted [] p.change)
+    ∙ ap (λ n. n + row_count p.change) c.loop-patch.invariant
+    ∙ ap (λ q. before + row_count q.change) c.patch-item.is
+    ∙ sym (sum_by_more (λ q. row_count q.change) c.args.patches.now i p (omega arith))

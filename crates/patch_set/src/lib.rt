@@ -1,0 +1,17 @@
+//! The file patches of a patch text as one set, with their targets, their verdicts and what was done with them.
+#![tactic(auto)]
+
+mod fault;
+mod names;
+mod reading;
+mod refusals;
+mod set;
+
+pub use fault::SetFault;
+pub use file_patch::{Change, FilePatch};
+pub use reading::read_set;
+pub use set::{PatchSet, Row};
+pub use target_names::Target;
+
+// #[cfg(test)]
+// mod tests;

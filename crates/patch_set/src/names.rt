@@ -1,0 +1,167 @@
+//! The targets of file patches.
+ghost use Rattle.std.specs.Prelude.{◌≡◌, ◌++◌, ℕ, List, [], IfOk, OnOk, All, length, map};
+ghost use Rattle.std.specs.Option.{ForSome, option_copied, option_to_list};
+ghost use Rattle.file_patch.specs.PlainPatch.{bytes_in, header_of, patch_of};
+ghost use Rattle.patch_options.specs.PlainJob.{plain_options, IsLawful};
+ghost use Rattle.target_names.specs.Candidates.{candidates};
+ghost use Rattle.target_names.specs.Numbered.{number_in, with_name, joined_by};
+ghost use Rattle.target_names.specs.Targets.{target_of, HasTemps};
+ghost use Rattle.patch_set.specs.Named.{known_names, names_of, output_of, patch_names, target_in};
+ghost use Rattle.patch_set.specs.Naming.{IsNamed, AreNamed};
+
+use file_patch::FilePatch;
+use line_list::Span;
+use outside::Name;
+use patch_header::Header;
+use patch_options::Options;
+use std::alloc::{AllocError, Global};
+use target_names::{Numbers, Target, candidates};
+
+/// File patches with their targets, and the output's target.
+#[derive(Drop)]
+pub struct Named {
+    pub patches: Vec<FilePatch>,
+    pub output: Option<Target>,
+}
+
+/// Gives the file patches of a text their targets.
+pub fn name_all(
+    alloc: Global,
+    text: &[u8],
+    options: &Options,
+    patches: Vec<FilePatch>,
+) -> Result<Named, AllocError>
+    requires { IsLawful (plain_options options.now) }
+    ensures patches { IfOk result (λ named.
+        AreNamed (plain_options options.now) text.now (known_names (plain_options options.now) (map (patch_of text.now) patches.items)) patches.items named.patches.items) }
+    ensures output { IfOk result (λ named.
+        named.output ≡ output_of (plain_options options.now) (known_names (plain_options options.now) (map (patch_of text.now) patches.items))) }
+    ensures temps { IfOk result (λ named. ForSome named.output HasTemps) }
+{
+    let mut patches = patches;
+    let mut numbers = Numbers::new(alloc);
+    name_patches(
+        alloc,
+        text,
+        options,
+        &mut numbers,
+        patches.as_mut_slice(),
+    )?;
+    let output = name_output(alloc, options, &mut numbers)?;
+    Ok(Named { patches, output })
+}
+
+fn name_output(
+    alloc: Global,
+    options: &Options,
+    numbers: &mut Numbers,
+) -> Result<Option<Target>, AllocError>
+    requires { IsLawful (plain_options options.now) }
+    ensures output { IfOk result (λ output. output ≡ output_of (plain_options options.now) (joined_by numbers.old (option_to_list options.now.output))) }
+    ensures temps { IfOk result (λ output. ForSome output HasTemps) }
+{
+    match &options.output {
+        Some(name) => Ok(Some(target(alloc, options, numbers, name)?)),
+        None => Ok(None),
+    }
+}
+
+fn name_patches(
+    alloc: Global,
+    text: &[u8],
+    options: &Options,
+    numbers: &mut Numbers,
+    patches: &mut [FilePatch],
+) -> Result<(), AllocError>
+    requires { IsLawful (plain_options options.now) }
+    ensures known { OnOk result (numbers.new ≡ joined_by numbers.old (patch_names (plain_options options.now) (map (patch_of text.now) patches.old))) }
+    ensures named { OnOk result ((others : List (List ℕ)) → AreNamed (plain_options options.now) text.now (joined_by numbers.new others) patches.old patches.new) }
+{
+    for patch in patches.iter_mut() {
+        name_patch(alloc, text, options, numbers, patch)?;
+    }
+    Ok(())
+}
+
+fn name_patch(
+    alloc: Global,
+    text: &[u8],
+    options: &Options,
+    numbers: &mut Numbers,
+    patch: &mut FilePatch,
+) -> Result<(), AllocError>
+    requires { IsLawful (plain_options options.now) }
+    ensures known { OnOk result (numbers.new ≡ joined_by numbers.old (names_of (plain_options options.now) (header_of text.now patch.old.header))) }
+    ensures named { OnOk result ((others : List (List ℕ)) → IsNamed (plain_options options.now) text.now (joined_by numbers.new others) patch.old patch.new) }
+{
+    let names = names_of(alloc, text, options, &patch.header)?;
+    patch.targets = targets_for(alloc, options, numbers, &names)?;
+    Ok(())
+}
+
+/// The targets with these names.
+fn targets_for(
+    alloc: Global,
+    options: &Options,
+    numbers: &mut Numbers,
+    names: &[Name],
+) -> Result<Vec<Target>, AllocError>
+    requires { IsLawful (plain_options options.now) }
+    ensures known { OnOk result (numbers.new ≡ joined_by numbers.old names.now) }
+    ensures targets { IfOk result (λ targets. (others : List (List ℕ)) →
+        targets.items ≡ map (target_in (plain_options options.now) (joined_by numbers.new others)) names.now) }
+    ensures temps { IfOk result (λ targets. All HasTemps targets.items) }
+{
+    let mut targets = Vec::with_capacity(alloc, names.len())?;
+    for name in names {
+        targets.push(target(alloc, options, numbers, name)?)?;
+    }
+    Ok(targets)
+}
+
+/// The target with a name, whose number is a new one if the name has none.
+fn target(
+    alloc: Global,
+    options: &Options,
+    numbers: &mut Numbers,
+    name: &Name,
+) -> Result<Target, AllocError>
+    requires { IsLawful (plain_options options.now) }
+    ensures known { OnOk result (numbers.new ≡ with_name numbers.old name.now) }
+    ensures target { IfOk result (λ target. target ≡ target_in (plain_options options.now) numbers.new name.now) }
+    ensures temps { IfOk result HasTemps }
+{
+    let number = numbers.number(alloc, name)?;
+    Target::new(alloc, options, name, number)
+}
+
+/// The names that a file patch with this header can be meant for: the file operand, or the candidates.
+fn names_of(
+    alloc: Global,
+    text: &[u8],
+    options: &Options,
+    header: &Header,
+) -> Result<Vec<Name>, AllocError>
+    ensures names { IfOk result (λ names. names.items ≡ names_of (plain_options options.now) (header_of text.now header.now)) }
+{
+    match &options.file {
+        Some(file) => Ok(vec![in alloc; file.copy(alloc)?]?),
+        None => candidates(
+            alloc,
+            options.strip,
+            piece(text, header.old_name),
+            piece(text, header.new_name),
+            piece(text, header.index),
+        ),
+    }
+}
+
+/// The bytes of a span, as far as it lies in the text.
+fn piece(text: &[u8], span: Option<Span>) -> Option<&[u8]>
+    ensures { option_copied result ≡ bytes_in text.now span }
+{
+    let span = span?;
+    let end = usize::min(span.end as usize, text.len());
+    let start = usize::min(span.start as usize, end);
+    Some(&text[start..end])
+}

@@ -1,0 +1,99 @@
+//! Reading a set.
+ghost use Rattle.std.specs.Prelude.{◌≡◌, ◌≤◌, ◌<◌, ◌^◌, Ok, Err, IfOk, All, length, map};
+ghost use Rattle.line_list.specs.Completed.{completed};
+ghost use Rattle.file_patch.specs.PlainPatch.{patch_of};
+ghost use Rattle.file_patch.specs.Absent.{IsLawfulPatch};
+ghost use Rattle.patch_options.specs.PlainJob.{plain_options, IsLawful};
+ghost use Rattle.patch_set.specs.Spans.{ArePlaced};
+ghost use Rattle.patch_set.specs.Refusals.{refusal, refusal_of, reserved};
+ghost use Rattle.patch_set.specs.SetView.{IsRead, IsSetOf, IsFresh, IsWhole, Meets, hunks_in};
+
+use crate::names::name_all;
+use crate::refusals::{refused, reserved};
+use crate::set::{PatchSet, untried};
+use crate::SetFault;
+use file_patch::FilePatch;
+use line_list::lacks_last_feed;
+use patch_options::Options;
+use patch_text::read_patches;
+use std::alloc::{AllocError, Global};
+
+/// The longest text that is read, in bytes.
+const LONGEST: usize = 268_435_456;
+
+/// Reads a patch text, as if its last line had its line feed, for these options.
+pub fn read_set(alloc: Global, text: Vec<u8>, options: &Options) -> Result<PatchSet, SetFault>
+    requires { IsLawful (plain_options options.now) }
+    ensures read { IfOk result (IsRead (plain_options options.now) text.items) }
+    ensures fresh { IfOk result IsFresh }
+    ensures whole { IfOk result IsWhole }
+    ensures refused { Meets (refusal (plain_options options.now) text.items) result }
+    ensures memory { result ≡ Err SetFault.Memory → length text.items ≤ 268435456 }
+{
+    if text.len() > LONGEST {
+        return Err(SetFault::TooLong);
+    }
+    let text = completed(text)?;
+    let patches = read_patches(alloc, &text, options.only)?;
+    set_of(alloc, text, options, patches)
+}
+
+/// The text with a line feed at its end.
+#[tactic(auto, unfolding(line_list::specs::Completed::completed))]
+fn completed(text: Vec<u8>) -> Result<Vec<u8>, AllocError>
+    ensures { IfOk result (λ whole. whole.items ≡ completed text.items) }
+{
+    let mut text = text;
+    if !lacks_last_feed(&text) {
+        return Ok(text);
+    }
+    text.push(b'\n')?;
+    Ok(text)
+}
+
+/// The set of the file patches of a text, unless they are refused.
+fn set_of(
+    alloc: Global,
+    text: Vec<u8>,
+    options: &Options,
+    patches: Vec<FilePatch>,
+) -> Result<PatchSet, SetFault>
+    requires options { IsLawful (plain_options options.now) }
+    requires lawful { All (IsLawfulPatch text.items) patches.items }
+    requires spans { ArePlaced text.items 0 0 patches.items }
+    requires count { length patches.items < 2 ^ 32 }
+    requires hunks { hunks_in patches.items < 2 ^ 32 }
+    ensures set { IfOk result (IsSetOf (plain_options options.now) text.items (map (patch_of text.items) patches.items)) }
+    ensures fresh { IfOk result IsFresh }
+    ensures whole { IfOk result IsWhole }
+    ensures refused { Meets (refusal_of (plain_options options.now) text.items (Ok (map (patch_of text.items) patches.items))) result }
+{
+    match refused(&text, options, &patches) {
+        Some(fault) => Err(fault),
+        None => named_set(alloc, text, options, patches),
+    }
+}
+
+/// The same, where the names alone are looked at.
+fn named_set(
+    alloc: Global,
+    text: Vec<u8>,
+    options: &Options,
+    patches: Vec<FilePatch>,
+) -> Result<PatchSet, SetFault>
+    requires options { IsLawful (plain_options options.now) }
+    requires lawful { All (IsLawfulPatch text.items) patches.items }
+    requires spans { ArePlaced text.items 0 0 patches.items }
+    requires count { length patches.items < 2 ^ 32 }
+    requires hunks { hunks_in patches.items < 2 ^ 32 }
+    ensures set { IfOk result (IsSetOf (plain_options options.now) text.items (map (patch_of text.items) patches.items)) }
+    ensures fresh { IfOk result IsFresh }
+    ensures whole { IfOk result IsWhole }
+    ensures refused { Meets (reserved (plain_options options.now) (map (patch_of text.items) patches.items)) result }
+{
+    let named = name_all(alloc, &text, options, patches)?;
+    match reserved(&named) {
+        Some(line) => Err(SetFault::Reserved { line }),
+        None => Ok(untried(alloc, text, named)?),
+    }
+}

@@ -1,0 +1,146 @@
+//! A set of file patches.
+ghost use Rattle.std.specs.Prelude.{◌≡◌, ◌<◌, ◌^◌, [], IfOk, All, length, slice_index_or};
+ghost use Rattle.std.specs.Option.{option_copied};
+ghost use Rattle.file_patch.specs.Absent.{IsLawfulPatch};
+ghost use Rattle.patch_set.specs.SetView.{IsFresh, IsWhole, hunks_in, with_row, with_verdicts};
+
+use crate::names::Named;
+use file_patch::FilePatch;
+use hunk_core::{Side, Verdict};
+use std::alloc::{AllocError, Global};
+use std::marker::Model;
+use target_names::Target;
+
+/// What was done with a file patch.
+#[derive(Clone, Copy, Debug, PartialEq, Eq)]
+pub struct Row {
+    /// The side that it was taken from.
+    pub side: Side,
+    /// The place of its chosen name among its targets, from 0.
+    pub target: Option<u32>,
+    /// Whether it had an effect on its target.
+    pub wrote: bool,
+}
+
+/// The file patches of a patch text, with the verdicts on their hunks and what was done with each of them.
+#[derive(Drop)]
+pub struct PatchSet {
+    text: Vec<u8>,
+    patches: Vec<FilePatch>,
+    output: Option<Target>,
+    verdicts: Vec<Verdict>,
+    rows: Vec<Row>,
+}
+
+impl Model for PatchSet {
+    ghost use Rattle.patch_set.specs.SetView.{SetView, IsWhole};
+
+    ghost Value = { SetView };
+
+    ghost view = { λ s. record { text = s.text.items; patches = s.patches.items; output = s.output; verdicts = s.verdicts.items; rows = s.rows.items } };
+
+    ghost invariant = { λ s. IsWhole (record { text = s.text.items; patches = s.patches.items; output = s.output; verdicts = s.verdicts.items; rows = s.rows.items }) };
+}
+
+impl PatchSet {
+    /// The text that was read; its last line has its line feed.
+    pub fn text(&self) -> &[u8]
+        ensures { result.now ≡ self.now.text }
+    {
+        &self.text
+    }
+
+    /// The file patches in the order of the text.
+    pub fn patches(&self) -> &[FilePatch]
+        ensures patches { result.now ≡ self.now.patches }
+        ensures whole { IsWhole self.now }
+    {
+        &self.patches
+    }
+
+    /// The file that the result goes to in place of the one that is patched.
+    pub fn output(&self) -> Option<&Target>
+        ensures { option_copied result ≡ self.now.output }
+    {
+        self.output.as_ref()
+    }
+
+    /// One for each hunk, an ed script counting as one, or none while they are taken.
+    pub fn verdicts(&self) -> &[Verdict]
+        ensures { result.now ≡ self.now.verdicts }
+    {
+        &self.verdicts
+    }
+
+    /// What was done with a file patch, counted from 0.
+    pub fn row(&self, patch: u32) -> Row
+        requires { patch < length self.now.patches }
+        ensures { result ≡ slice_index_or self.now.rows patch result }
+    {
+        self.rows[patch as usize]
+    }
+
+    /// Puts a row in place of that of a file patch, counted from 0.
+    pub fn note(&mut self, patch: u32, row: Row)
+        requires { patch < length self.old.patches }
+        ensures { self.new ≡ with_row self.old patch row }
+    {
+        self.rows[patch as usize] = row;
+    }
+
+    /// Hands out the verdicts, and leaves none.
+    pub fn take_verdicts(&mut self) -> Vec<Verdict>
+        ensures taken { result.items ≡ self.old.verdicts }
+        ensures left { self.new ≡ with_verdicts self.old [] }
+    {
+        let empty = Vec::new(*self.verdicts.allocator());
+        std::mem::replace(&mut self.verdicts, empty)
+    }
+
+    /// Puts the verdicts back, one for each hunk, an ed script counting as one.
+    pub fn give_verdicts(&mut self, verdicts: Vec<Verdict>)
+        requires { length verdicts.items ≡ hunks_in self.old.patches }
+        ensures { self.new ≡ with_verdicts self.old verdicts.items }
+    {
+        self.verdicts = verdicts;
+    }
+}
+
+/// The set of these file patches, of which nothing was tried yet.
+pub fn untried(alloc: Global, text: Vec<u8>, named: Named) -> Result<PatchSet, AllocError>
+    requires lawful { All (IsLawfulPatch text.items) named.patches.items }
+    requires count { length named.patches.items < 2 ^ 32 }
+    requires hunks { hunks_in named.patches.items < 2 ^ 32 }
+    ensures text { IfOk result (λ set. set.text ≡ text.items) }
+    ensures patches { IfOk result (λ set. set.patches ≡ named.patches.items) }
+    ensures output { IfOk result (λ set. set.output ≡ named.output) }
+    ensures fresh { IfOk result IsFresh }
+    ensures whole { IfOk result IsWhole }
+{
+    let verdicts = vec![in alloc; Verdict::Untried; hunks_in(&named.patches)]?;
+    let first = Row {
+        side: Side::Forward,
+        target: None,
+        wrote: false,
+    };
+    let rows = vec![in alloc; first; named.patches.len()]?;
+    Ok(PatchSet {
+        text,
+        patches: named.patches,
+        output: named.output,
+        verdicts,
+        rows,
+    })
+}
+
+/// How many hunks the file patches have, an ed script counting as one.
+fn hunks_in(patches: &[FilePatch]) -> usize
+    requires { hunks_in patches.now < 2 ^ 32 }
+    ensures { result ≡ hunks_in patches.now }
+{
+    let mut count = 0;
+    for patch in patches {
+        count += patch.hunks() as usize;
+    }
+    count
+}
