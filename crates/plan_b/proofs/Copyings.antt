@@ -12,15 +12,16 @@ use Rattle.outside.specs.TreeView.{TreeView}
 use Rattle.line_list.specs.Lines.{lines, with_first}
 use Rattle.plan_b.specs.declared.layout.Layout.{Layout}
 use Rattle.plan_b.specs.declared.filling.Filling.{Filling}
-use Rattle.plan_b.specs.Pages.{longest, record_of, front_pages, pages_of_width}
-use Rattle.plan_b.specs.Reading.{IsPart, IsWhole, IsOpen}
+use Rattle.file_pieces.specs.Records.{longest, record_of}
+use Rattle.plan_b.specs.Pages.{front_pages, pages_of_width}
+use Rattle.file_pieces.specs.Reading.{IsPart, IsWhole, IsOpen}
 use Rattle.plan_b.specs.Filling.{IsFilled, IsReady}
 use Rattle.plan_b.specs.Layout.{IsLayout}
 use Rattle.plan_b.specs.Copying.{Copies, IsLineFault, IsCopyFault, IsTakeFault, IsCopied, IsWritten, IsEndFault}
 use Rattle.outside.specs.ScratchView.{ScratchView, ScratchPasses}
 use Rattle.line_store.specs.declared.fault.OpenFault.{OpenFault}
 use Rattle.line_store.specs.declared.fault.OpenFault.TheVariants.{Tree, Scratch, LongLine, FileTooLong, Disagree, Memory}
-use Rattle.plan_b.proofs.Cuts.{part-line, slice-length}
+use Rattle.file_pieces.proofs.Cuts.{part-line, slice-length}
 
 pub part-of-front : (n a m : ℕ) (xs : List ℕ) → a + n ≤ m → take n (drop a (take m xs)) ≡ take n (drop a xs)
 part-of-front n a m xs le =

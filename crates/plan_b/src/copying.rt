@@ -9,13 +9,14 @@ ghost use Rattle.page_pair.specs.Pair.{page_of};
 ghost use Rattle.plan_b.specs.Layout.{IsLayout};
 ghost use Rattle.plan_b.specs.Pages.{width_of, pages_of_width};
 ghost use Rattle.plan_b.specs.Filling.{IsReady, IsFilled};
-ghost use Rattle.plan_b.specs.Reading.{told_file, HasLength, IsNoneWhole};
+ghost use Rattle.file_pieces.specs.Reading.{told_file, HasLength, IsNoneWhole};
 ghost use Rattle.plan_b.specs.Measuring.{IsMeasuredAs};
 ghost use Rattle.plan_b.specs.Copying.{Copies, IsLineFault, IsCopyFault, IsTakeFault, IsCopied, IsEndFault, IsWritten};
 
-use crate::filling::{Filling, put_record, write_page};
+use crate::filling::{Filling, put_record};
 use crate::layout::Layout;
-use crate::reading::{read_piece, whole_line};
+use file_pieces::paging::write_page;
+use file_pieces::reading::{read_piece, whole_line};
 use line_store::{Half, OpenFault};
 use outside::{Name, Scratch, Tree};
 use page_pair::PagePair;
