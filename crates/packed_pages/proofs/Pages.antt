@@ -8,6 +8,7 @@ use Rattle.std.proofs.lemmas.Bool.{cases_lt}
 use Rattle.std.proofs.Common.{inl, inr}
 use Rattle.std.proofs.lemmas.Grind.{flat_map-append}
 use Rattle.std.proofs.lemmas.List.{append-nil, take-append-drop, drop-drop, take-take, take_all}
+use Rattle.std.proofs.lemmas.List.FromFn.{length-map-range_with_len}
 use Rattle.std.proofs.lemmas.List.Folds.{length-flat_map-take}
 use Rattle.std.proofs.lemmas.Nat.{from_le_bytes-to_le_bytes_4, from_le_bytes-to_le_bytes_8}
 use Rattle.std.proofs.Math.Seq.{take-append_seam, drop-append-add, take-suc}
@@ -16,7 +17,7 @@ use Rattle.file_pieces.proofs.Records.{padded-length}
 use Rattle.file_pieces.proofs.Windows.{uniform-length, uniform-at}
 use Rattle.packed_pages.specs.declared.layout.Layout.{Layout}
 use Rattle.packed_pages.specs.Packs.{record_of, records, joined, page_with, entries_from, bytes_of}
-use Rattle.packed_pages.specs.Layout.{place_in, first_line, page_in}
+use Rattle.packed_pages.specs.Layout.{place_in, first_line, page_in, pages_in, lines_on}
 
 pub place-more : (n : ℕ) (page : List ℕ) → place_in (n + 1) page ≡ place_in n page + 4 + stated page (place_in n page)
 place-more n page = let e : n + 1 ≡ suc n = omega arith in rw e refl
@@ -24,6 +25,10 @@ place-more n page = let e : n + 1 ≡ suc n = omega arith in rw e refl
 pub record-length : (line : List ℕ) → length (record_of line) ≡ 4 + length line
 unfolding record_of
 record-length line = length-append (to_le_bytes w32 (length line)) line
+
+pub pages-many : (l : Layout) (b : List ℕ) → length (pages_in l b) ≡ l.pages
+unfolding pages_in
+pages-many l b = length-map-range_with_len (lines_on l b) 0 l.pages
 
 -- the record that has i before it
 record-at : (p : List (List ℕ)) (z : List ℕ) (i : ℕ) → i < length p → drop (length (records (take i p))) (records p ++ z) ≡ record_of (get_or p i []) ++ (records (drop (suc i) p) ++ z)

@@ -71,7 +71,7 @@ HoldsPacks l v = (b : List ℕ) → v.told ≡ Some b → HasPacks l b
 pub record IsHeld (pair : Pair) (l : Layout) (places : Places) (v : ScratchView) : Type 0 where
   pub layout : IsLayout l
   pub size : l.size ≡ pair.size
-  pub packs : HoldsPacks l v
+  pub packs : 0 < l.count → HoldsPacks l v
   pub loaded : (h : Half) (p : Place) → place_of places h ≡ Some p → IsLoaded pair l v h p
 
 -- the page that a half holds is told to be the page of line k

@@ -5,7 +5,7 @@ use Rattle.std.proofs.lemmas.Bool.{cases_eq}
 use Rattle.std.proofs.lemmas.Bool.Decides.{nat_tests}
 use Rattle.std.proofs.lemmas.List.FromFn.{length-map-range_with_len}
 use Rattle.std.specs.Option.{option_map}
-use Rattle.std.specs.List.{flat_map, range_with_len}
+use Rattle.std.specs.List.{range_with_len}
 use Rattle.std.specs.Int.{w64, from_le_bytes}
 use Rattle.line_store.specs.Taking.{IsSize}
 use Rattle.file_pieces.specs.Records.{stated, line_in}
@@ -42,21 +42,19 @@ place_in (suc i) page = place_in i page + 4 + stated page (place_in i page)
 unfoldable pub lines_on : Layout → List ℕ → ℕ → List (List ℕ)
 lines_on l b j = map (λ i. line_in (page_in l b j) (place_in i (page_in l b j))) (range_with_len 0 (first_line l b (j + 1) - first_line l b j))
 
--- the lines of all pages
-unfoldable pub lines_of_pages : Layout → List ℕ → List (List ℕ)
-lines_of_pages l b = flat_map (lines_on l b) (range_with_len 0 l.pages)
+-- the lines of each page
+unfoldable pub pages_in : Layout → List ℕ → List (List (List ℕ))
+pages_in l b = map (lines_on l b) (range_with_len 0 l.pages)
 
--- the lines that the pages hold, as many as the layout counts
+-- the lines of all pages, as many as the layout counts
 unfoldable pub decoded : Layout → List ℕ → List (List ℕ)
-decoded l b = map (λ i. slice_index_or (lines_of_pages l b) i []) (range_with_len 0 l.count)
+decoded l b = map (λ i. slice_index_or (joined (pages_in l b)) i []) (range_with_len 0 l.count)
 
--- the scratch holds packed pages of this layout
+-- the scratch holds the packed pages of the lines that it is read to hold, with their entries
 pub record HasPacks (l : Layout) (b : List ℕ) : Type 0 where
-  pub pages : List (List (List ℕ))
-  pub is : b ≡ bytes_of l.size pages
-  pub many : length pages ≡ l.pages
-  pub counted : length (joined pages) ≡ l.count
-  pub fits : (j : ℕ) → j < length pages → length (records (slice_index_or pages j [])) ≤ l.size
+  pub is : b ≡ bytes_of l.size (pages_in l b)
+  pub counted : length (joined (pages_in l b)) ≡ l.count
+  pub fits : (j : ℕ) → j < length (pages_in l b) → length (records (slice_index_or (pages_in l b) j [])) ≤ l.size
 
 -- the lines that a scratch is told to hold; a layout without lines holds none, whatever is told
 unfoldable pub lines_told : Layout → Option (List ℕ) → Option (List (List ℕ))
@@ -72,7 +70,7 @@ told-some l told lt = let t : nat_eq l.count 0 ≡ false = grind (arith, nat_tes
 
 decoded-length : (l : Layout) (b : List ℕ) → length (decoded l b) ≡ l.count
 unfolding decoded
-decoded-length l b = length-map-range_with_len (λ i. slice_index_or (lines_of_pages l b) i []) 0 l.count
+decoded-length l b = length-map-range_with_len (λ i. slice_index_or (joined (pages_in l b)) i []) 0 l.count
 
 mapped-count : (l : Layout) (told : Option (List ℕ)) (ls : List (List ℕ)) → option_map (decoded l) told ≡ Some ls → l.count ≡ length ls
 mapped-count l None ls e = absurd cc

@@ -19,6 +19,7 @@ use outside::Scratch;
 use page_pair::PagePair;
 
 /// Reads a page of the scratch into a half.
+#[tactic(auto, unfolding(crate::specs::Layout::page_in))]
 fn read_page<C: Scratch>(
     pair: &mut PagePair,
     scratch: &mut C,
