@@ -5,3 +5,4 @@ pub mod LongLines
 pub mod Opens
 pub mod Readings
 pub mod Records
+pub mod Rooms

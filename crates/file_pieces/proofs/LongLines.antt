@@ -69,3 +69,7 @@ first-long size ls line more short long =
     ap (option_map (λ k. LongLine k (length (line_at (ls ++ line ∷ more) k)))) (first-is size ls line more short long)
     ∙ ap (λ l. Some (LongLine (1 + length ls) (length l))) (seam-is ls line more)
     ∙ ap (λ n. Some (LongLine n (length line))) c
+
+pub longest-behind : (ls more : List (List ℕ)) → longest more ≤ longest (ls ++ more)
+longest-behind [] more = omega arith
+longest-behind (l ∷ ls) more = let e : longest more ≤ longest (ls ++ more) = longest-behind ls more in omega arith

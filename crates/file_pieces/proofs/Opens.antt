@@ -1,11 +1,12 @@
 -- A line that goes on over pieces.
-use Rattle.std.proofs.Common.{◌≡◌, ◌≢◌, ℕ, suc, ◌+◌, ◌-◌, ◌<◌, ◌≤◌, eq-eqb, List, [], ◌∷◌, length, get_or, take, drop, sym, ap, ◌∙◌, arith, min, inl, inr, length-drop}
+use Rattle.std.proofs.Common.{◌≡◌, ◌≢◌, ℕ, zero, suc, false, eqb, max, ◌+◌, ◌-◌, ◌<◌, ◌≤◌, eq-eqb, List, [], ◌∷◌, length, get_or, take, drop, sym, ap, ◌∙◌, arith, min, inl, inr, length-drop}
 use Rattle.std.proofs.lemmas.Bool.{eqb-true, cases_lt}
 use Rattle.std.proofs.lemmas.List.{take_rest, drop-drop, length-take, get_or-drop}
 use Rattle.std.specs.List.{slice_range}
 use Rattle.memchr.specs.Find.{Passes, is_byte, Nowhere, NoneBefore}
-use Rattle.line_list.specs.Lines.{lines}
+use Rattle.line_list.specs.Lines.{lines, with_first}
 use Rattle.line_list.proofs.LineLemmas.{Clean, lines-first, lines-last, lines-end}
+use Rattle.file_pieces.specs.Records.{longest}
 use Rattle.file_pieces.specs.Reading.{IsOpen}
 use Rattle.file_pieces.proofs.Windows.{part-at}
 
@@ -53,3 +54,34 @@ open-end text at end e lt was =
     ∙ ap (λ l. l ∷ []) (sym (take_rest text at))
     ∙ ap (λ n. take (n - at) (drop at text) ∷ []) (sym e)
     ∙ ap (λ l. slice_range text at end ∷ l) (sym (lines-end text end e))
+
+-- the length of the first line
+abbrev first_length : List (List ℕ) → ℕ
+first_length [] = 0
+first_length (line ∷ more) = length line
+
+first_more : (b : ℕ) (ls : List (List ℕ)) → first_length (with_first b ls) ≡ first_length ls + 1
+first_more b [] = omega arith
+first_more b (line ∷ more) = omega arith
+
+first_most : (ls : List (List ℕ)) → first_length ls ≤ longest ls
+first_most [] = omega arith
+first_most (line ∷ more) = omega arith
+
+-- a line has no line feed before its last byte
+first-wide : (s : List ℕ) (n : ℕ) → n ≤ length s → ((i : ℕ) → i < n → get_or s i 0 ≢ 10) → n ≤ first_length (lines s)
+unfolding lines
+first-wide [] n le none = omega arith
+first-wide (b ∷ bs) zero le none = omega arith
+first-wide (b ∷ bs) (suc n) le none =
+    let ne : eqb b 10 ≡ false = grind (arith, none 0 (omega arith)) in
+    let more : n ≤ first_length (lines bs) = first-wide bs n (omega arith) (λ i lt. none (suc i) (omega arith)) in
+    let one : first_length (with_first b (lines bs)) ≡ first_length (lines bs) + 1 = first_more b (lines bs) in
+    rw ne (omega arith)
+
+pub open-wide : (text : List ℕ) (at n : ℕ) → at + n ≤ length text → IsOpen text at (at + n) → n ≤ longest (lines (drop at text))
+open-wide text at n le open_ =
+    let left : length (drop at text) ≡ length text - at = length-drop at text in
+    let wide : n ≤ first_length (lines (drop at text)) = first-wide (drop at text) n (omega arith) (λ i lt. open_.each i (omega arith)) in
+    let most : first_length (lines (drop at text)) ≤ longest (lines (drop at text)) = first_most (lines (drop at text)) in
+    omega arith

@@ -8,11 +8,12 @@ use Rattle.line_store.specs.Taking.{refusal, long_line}
 use Rattle.std.specs.Option.{option_map}
 use Rattle.outside.specs.Files.{bytes_at}
 use Rattle.outside.specs.TreeView.{TreeView}
+use Rattle.outside.specs.ScratchView.{ScratchView, ScratchPasses}
 use Rattle.outside.specs.Calls.{IsUntouched}
 use Rattle.outside.proofs.Views.{rises_then}
 use Rattle.line_store.specs.declared.fault.OpenFault.{OpenFault}
 use Rattle.line_store.specs.declared.fault.OpenFault.TheVariants.{Tree, Scratch, LongLine, FileTooLong, Disagree, Memory}
-use Rattle.file_pieces.specs.Reading.{told_file, IsReadFault, IsMeasureFault, IsPart, HasNoFeed, IsOpen}
+use Rattle.file_pieces.specs.Reading.{told_file, IsReadFault, IsMeasureFault, IsPart, HasNoFeed, IsOpen, IsTakeFault}
 
 -- what is told of a file is told on
 pub told-later : {t u : TreeView} (name text : List ℕ) → IsUntouched t u → told_file t name ≡ Some text → told_file u name ≡ Some text
@@ -71,3 +72,11 @@ open-made text page at n e le none =
 
 pub told-same : {t u : TreeView} (name : List ℕ) → IsUntouched t u → told_file u name ≡ told_file t name
 told-same name un = ap (option_map (λ f. bytes_at f name)) un.told
+
+pub take-later : (e : OpenFault) (u v w : ScratchView) (s t x : TreeView) → ScratchPasses u v → IsUntouched s t → IsTakeFault e v w t x → IsTakeFault e u w s x
+take-later Tree u v w s t x p un h = rises_then s t x un.passes h
+take-later Scratch u v w s t x p un h = λ small. omega (arith, h small, p.counts)
+take-later (LongLine line length) u v w s t x p un h = h
+take-later (FileTooLong length) u v w s t x p un h = h
+take-later (Disagree want got) u v w s t x p un h = (h.0, sym un.told ∙ h.1)
+take-later Memory u v w s t x p un h = h

@@ -2,10 +2,11 @@
 use Rattle.line_store.specs.declared.Half.{Half}
 use Rattle.line_store.specs.declared.Half.TheVariants.{First, Second}
 use Rattle.page_pair.specs.Pair.{Pair, IsPair, page_of}
-use Rattle.std.proofs.Common.{◌≡◌, ℕ, zero, suc, ◌+◌, ◌-◌, ◌*◌, ◌<◌, ◌≤◌, List, [], ◌∷◌, ◌++◌, length, get_or, take, drop, Option, None, Some, refl, sym, ap, ◌∙◌, arith, min, append_assoc, length-append}
+use Rattle.std.proofs.Common.{◌≡◌, ℕ, zero, suc, ◌+◌, ◌-◌, ◌*◌, ◌<◌, ◌≤◌, List, [], ◌∷◌, ◌++◌, length, get_or, take, drop, Option, None, Some, refl, sym, ap, ◌∙◌, arith, min, is_some, append_assoc, length-append}
 use Rattle.std.proofs.Math.Nat.{suc-mul, zero-mul}
 use Rattle.std.proofs.Math.Seq.{take-append_seam, drop-append-add}
 use Rattle.std.specs.List.{flat_map}
+use Rattle.std.proofs.lemmas.Bool.{false≢true}
 use Rattle.std.proofs.lemmas.List.{length-take, drop-drop, drop-take, take-take, get_or-take, get_or-drop}
 
 -- nothing is told where each thing that may be told is wrong
@@ -53,3 +54,13 @@ uniform-at f w d rest (x ∷ xs) (suc i) each lt =
     ∙ ap (λ l. take w (drop (length (f x) + i * w) l)) (append_assoc (f x) (flat_map f xs) rest)
     ∙ ap (take w) (drop-append-add (f x) (flat_map f xs ++ rest) (i * w))
     ∙ uniform-at f w d rest xs i (λ j lt. each (suc j) (omega arith)) (omega arith)
+
+pub part-of-front : (n a m : ℕ) (xs : List ℕ) → a + n ≤ m → take n (drop a (take m xs)) ≡ take n (drop a xs)
+part-of-front n a m xs le =
+    let e : a + (m - a) ≡ m = omega arith in
+    ap (λ k. take n (drop a (take k xs))) (sym e) ∙ ap (take n) (drop-take a (m - a) xs) ∙ take-take n (m - a) (drop a xs) (omega arith)
+
+-- what was told is told
+pub told-before : (t u : Option (List ℕ)) (b : List ℕ) → is_some u ≡ is_some t → u ≡ Some b → (a : List ℕ) × (t ≡ Some a)
+told-before None u b e is = absurd (false≢true (sym e ∙ ap is_some is))
+told-before (Some a) u b e is = (a, refl)

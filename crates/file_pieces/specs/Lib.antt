@@ -1,3 +1,4 @@
 pub mod Records
+pub mod Room
 pub mod Reading
 pub mod Measuring

@@ -3,6 +3,8 @@ use Rattle.std.specs.Prelude.{◌≡◌, ◌≢◌, ℕ, ◌+◌, ◌-◌, ◌<�
 use Rattle.std.specs.Option.{option_map}
 use Rattle.line_list.specs.Lines.{lines}
 use Rattle.outside.specs.Files.{bytes_at}
+use Rattle.outside.specs.Faults.{HasRisen}
+use Rattle.outside.specs.ScratchView.{ScratchView}
 use Rattle.outside.specs.TreeView as tree
 use Rattle.line_store.specs.declared.fault.OpenFault.{OpenFault}
 use Rattle.line_store.specs.declared.fault.OpenFault.TheVariants.{Tree, Scratch, LongLine, FileTooLong, Disagree, Memory}
@@ -81,3 +83,12 @@ pub record IsOpen (text : List ℕ) (at end : ℕ) : Type 0 where
 abbrev pub GoesTo : List ℕ → ℕ → ℕ → Bool → Type 0
 GoesTo text at end true = lines (drop at text) ≡ slice_range text at end ∷ lines (drop end text)
 GoesTo text at end false = IsOpen text at end
+
+-- why a file that was measured was not copied
+abbrev pub IsTakeFault : OpenFault → ScratchView → ScratchView → tree.TreeView → tree.TreeView → Type 0
+IsTakeFault Tree v w t u = tree.Rises t u
+IsTakeFault Scratch v w t u = HasRisen v.faults w.faults
+IsTakeFault (LongLine line length) v w t u = ⊥
+IsTakeFault (FileTooLong length) v w t u = ⊥
+IsTakeFault (Disagree want got) v w t u = (want ≢ got) × (t.told ≡ None)
+IsTakeFault Memory v w t u = ⊥

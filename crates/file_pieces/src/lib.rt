@@ -6,3 +6,4 @@ pub mod measuring;
 pub mod paging;
 pub mod reading;
 pub mod record;
+pub mod room;

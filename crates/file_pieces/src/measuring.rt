@@ -8,9 +8,11 @@ ghost use Rattle.outside.specs.TreeView.{Passes};
 ghost use Rattle.outside.specs.Calls.{IsThere, IsUntouched};
 ghost use Rattle.file_pieces.specs.Reading.{told_file, HasLength, IsReadFault, IsMeasureFault, IsPart, IsMeasured, IsNoneWhole, IsOpen};
 ghost use Rattle.file_pieces.specs.Measuring.{IsSound};
+ghost use Rattle.file_pieces.specs.Room.{HasRoom, room_with};
 
 use crate::long::end_of_line;
 use crate::reading::{read_piece, whole_line};
+use crate::room::Room;
 use line_store::{Half, OpenFault};
 use outside::{Name, Tree};
 use page_pair::PagePair;
@@ -22,12 +24,14 @@ pub struct Long {
     pub length: u64,
 }
 
-/// The lines before a place of a file: how many they are, and how many bytes the longest has.
+/// The lines before a place of a file: how many they are, how many bytes the longest has, and the room of their
+/// records without padding.
 #[derive(Clone, Copy)]
 pub struct Measured {
     pub at: u64,
     pub count: u64,
     pub longest: u64,
+    pub room: Room,
 }
 
 /// Measures the whole lines of a piece, of which each may have `most` bytes.
@@ -39,11 +43,13 @@ pub fn measure_lines(
 ) -> Result<Measured, Long>
     requires sound { IsSound start most }
     requires few { start.at + length piece.now ≤ 2 ^ 40 }
+    requires small { most ≤ 2 ^ 30 }
     ensures sound { IfOk result (λ now. IsSound now most) }
     ensures on { IfOk result (λ now. start.at ≤ now.at) }
     ensures within { IfOk result (λ now. now.at ≤ start.at + length piece.now) }
     ensures left { IfOk result (λ now. IsNoneWhole piece.now is_last (now.at - start.at)) }
     ensures measured { IfOk result (λ now. (text : List ℕ) → IsPart text piece.now start.at is_last → IsMeasured text start.at start.count start.longest → IsMeasured text now.at now.count now.longest) }
+    ensures room { IfOk result (λ now. (text : List ℕ) → IsPart text piece.now start.at is_last → HasRoom (most + 4) text start.at start.room → HasRoom (most + 4) text now.at now.room) }
     ensures long { IfErr result (λ long. most < long.length) }
     ensures first { IfErr result (λ long. (text : List ℕ) → IsPart text piece.now start.at is_last → IsMeasured text start.at start.count start.longest → long_line (most + 4) (lines text) ≡ Some (LongLine long.line long.length)) }
 {
@@ -65,10 +71,12 @@ fn with_line(now: Measured, length: u64, most: u64) -> Result<Measured, Long>
     requires sound { IsSound now most }
     requires few { now.at + length ≤ 2 ^ 40 }
     requires some { 1 ≤ length }
+    requires small { most ≤ 2 ^ 30 }
     ensures sound { IfOk result (λ next. IsSound next most) }
     ensures at { IfOk result (λ next. next.at ≡ now.at + length) }
     ensures count { IfOk result (λ next. next.count ≡ now.count + 1) }
     ensures longest { IfOk result (λ next. next.longest ≡ max now.longest length) }
+    ensures room { IfOk result (λ next. next.room ≡ room_with (most + 4) now.room (4 + length)) }
     ensures long { IfErr result (λ long. most < long.length) }
     ensures line { IfErr result (λ long. (long.line ≡ now.count + 1) × (long.length ≡ length)) }
 {
@@ -83,6 +91,7 @@ fn with_line(now: Measured, length: u64, most: u64) -> Result<Measured, Long>
         at: now.at + length,
         count,
         longest: u64::max(now.longest, length),
+        room: now.room.with(most + 4, 4 + length),
     })
 }
 
@@ -130,12 +139,14 @@ fn measure_piece<T: Tree>(
     requires within { start.at < length }
     requires few { length < 2 ^ 40 }
     requires measured { (text : List ℕ) → told_file (T.view tree.old) name.now ≡ Some text → IsMeasured text start.at start.count start.longest }
+    requires room { (text : List ℕ) → told_file (T.view tree.old) name.now ≡ Some text → HasRoom pair.old.size text start.at start.room }
     ensures untouched { IsUntouched (T.view tree.old) (T.view tree.new) }
     ensures size { pair.new.size ≡ pair.old.size }
     ensures sound { IfOk result (λ now. IsSound now (pair.old.size - 4)) }
     ensures on { IfOk result (λ now. start.at < now.at) }
     ensures within { IfOk result (λ now. now.at ≤ length) }
     ensures measured { IfOk result (λ now. (text : List ℕ) → told_file (T.view tree.old) name.now ≡ Some text → IsMeasured text now.at now.count now.longest) }
+    ensures room { IfOk result (λ now. (text : List ℕ) → told_file (T.view tree.old) name.now ≡ Some text → HasRoom pair.old.size text now.at now.room) }
     ensures cause { IfErr result (λ e. IsMeasureFault e pair.old.size (T.view tree.old) (T.view tree.new) name.now) }
 {
     let most = pair.size() as u64 - 4;
@@ -167,12 +178,17 @@ pub fn measure<T: Tree>(
     ensures sound { IfOk result (λ now. IsSound now (pair.old.size - 4)) }
     ensures end { IfOk result (λ now. now.at ≡ length) }
     ensures measured { IfOk result (λ now. (text : List ℕ) → told_file (T.view tree.old) name.now ≡ Some text → IsMeasured text now.at now.count now.longest) }
+    ensures room { IfOk result (λ now. (text : List ℕ) → told_file (T.view tree.old) name.now ≡ Some text → HasRoom pair.old.size text now.at now.room) }
     ensures cause { IfErr result (λ e. IsMeasureFault e pair.old.size (T.view tree.old) (T.view tree.new) name.now) }
 {
     let mut now = Measured {
         at: 0,
         count: 0,
         longest: 0,
+        room: Room {
+            pages: 0,
+            filled: 0,
+        },
     };
     while now.at < length {
         now = measure_piece(pair, tree, name, now, length)?;

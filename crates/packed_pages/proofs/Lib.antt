@@ -1,3 +1,4 @@
 pub mod Pages
 pub mod Spans
 pub mod HeldLemmas
+pub mod Fillings

@@ -16,14 +16,14 @@ use Rattle.file_pieces.specs.Records.{stated, line_in}
 use Rattle.file_pieces.proofs.Records.{padded-length}
 use Rattle.file_pieces.proofs.Windows.{uniform-length, uniform-at}
 use Rattle.packed_pages.specs.declared.layout.Layout.{Layout}
-use Rattle.packed_pages.specs.Packs.{record_of, records, joined, page_with, entries_from, bytes_of}
+use Rattle.packed_pages.specs.Packs.{packed_record, records, joined, page_with, entries_from, bytes_of}
 use Rattle.packed_pages.specs.Layout.{place_in, first_line, page_in, pages_in, lines_on}
 
 pub place-more : (n : ℕ) (page : List ℕ) → place_in (n + 1) page ≡ place_in n page + 4 + stated page (place_in n page)
 place-more n page = let e : n + 1 ≡ suc n = omega arith in rw e refl
 
-pub record-length : (line : List ℕ) → length (record_of line) ≡ 4 + length line
-unfolding record_of
+pub record-length : (line : List ℕ) → length (packed_record line) ≡ 4 + length line
+unfolding packed_record
 record-length line = length-append (to_le_bytes w32 (length line)) line
 
 pub pages-many : (l : Layout) (b : List ℕ) → length (pages_in l b) ≡ l.pages
@@ -31,27 +31,27 @@ unfolding pages_in
 pages-many l b = length-map-range_with_len (lines_on l b) 0 l.pages
 
 -- the record that has i before it
-record-at : (p : List (List ℕ)) (z : List ℕ) (i : ℕ) → i < length p → drop (length (records (take i p))) (records p ++ z) ≡ record_of (get_or p i []) ++ (records (drop (suc i) p) ++ z)
+record-at : (p : List (List ℕ)) (z : List ℕ) (i : ℕ) → i < length p → drop (length (records (take i p))) (records p ++ z) ≡ packed_record (get_or p i []) ++ (records (drop (suc i) p) ++ z)
 record-at [] z i lt = absurd (omega arith)
-record-at (x ∷ p) z zero lt = append_assoc (record_of x) (records p) z
+record-at (x ∷ p) z zero lt = append_assoc (packed_record x) (records p) z
 record-at (x ∷ p) z (suc i) lt =
-    ap (λ n. drop n ((record_of x ++ records p) ++ z)) (length-append (record_of x) (records (take i p)))
-    ∙ ap (drop (length (record_of x) + length (records (take i p)))) (append_assoc (record_of x) (records p) z)
-    ∙ drop-append-add (record_of x) (records p ++ z) (length (records (take i p)))
+    ap (λ n. drop n ((packed_record x ++ records p) ++ z)) (length-append (packed_record x) (records (take i p)))
+    ∙ ap (drop (length (packed_record x) + length (records (take i p)))) (append_assoc (packed_record x) (records p) z)
+    ∙ drop-append-add (packed_record x) (records p ++ z) (length (records (take i p)))
     ∙ record-at p z i (omega arith)
 
 pub record-within : (p : List (List ℕ)) (i : ℕ) → i < length p → length (records (take i p)) + (4 + length (get_or p i [])) ≤ length (records p)
 record-within p i lt =
-    let a : length (records (take i p)) + length (record_of (get_or p i [])) ≤ length (records p) = length-flat_map-take record_of p i [] lt in
-    let b : length (record_of (get_or p i [])) ≡ 4 + length (get_or p i []) = record-length (get_or p i []) in
+    let a : length (records (take i p)) + length (packed_record (get_or p i [])) ≤ length (records p) = length-flat_map-take packed_record p i [] lt in
+    let b : length (packed_record (get_or p i [])) ≡ 4 + length (get_or p i []) = record-length (get_or p i []) in
     omega arith
 
-front-number : (line rest : List ℕ) → take 4 (record_of line ++ rest) ≡ to_le_bytes w32 (length line)
-unfolding record_of
+front-number : (line rest : List ℕ) → take 4 (packed_record line ++ rest) ≡ to_le_bytes w32 (length line)
+unfolding packed_record
 front-number line rest = refl
 
-front-line : (line rest : List ℕ) → take (length line) (drop 4 (record_of line ++ rest)) ≡ line
-unfolding record_of
+front-line : (line rest : List ℕ) → take (length line) (drop 4 (packed_record line ++ rest)) ≡ line
+unfolding packed_record
 front-line line rest = take-append_seam line rest
 
 pub stated-at : (p : List (List ℕ)) (z : List ℕ) (i : ℕ) → i < length p → length (records p) ≤ 1048576 → stated (records p ++ z) (length (records (take i p))) ≡ length (get_or p i [])
@@ -72,9 +72,9 @@ line-in-at p z i lt small =
 records-more : (p : List (List ℕ)) (i : ℕ) → i < length p → length (records (take (suc i) p)) ≡ length (records (take i p)) + (4 + length (get_or p i []))
 records-more p i lt =
     ap (λ q. length (records q)) (take-suc p i [] lt)
-    ∙ ap length (flat_map-append record_of (take i p) (get_or p i [] ∷ []))
-    ∙ length-append (records (take i p)) (record_of (get_or p i []) ++ [])
-    ∙ ap (λ l. length (records (take i p)) + length l) (append-nil (record_of (get_or p i [])))
+    ∙ ap length (flat_map-append packed_record (take i p) (get_or p i [] ∷ []))
+    ∙ length-append (records (take i p)) (packed_record (get_or p i []) ++ [])
+    ∙ ap (λ l. length (records (take i p)) + length l) (append-nil (packed_record (get_or p i [])))
     ∙ ap (λ n. length (records (take i p)) + n) (record-length (get_or p i []))
 
 pub place-at : (p : List (List ℕ)) (z : List ℕ) (i : ℕ) → i ≤ length p → length (records p) ≤ 1048576 → place_in i (records p ++ z) ≡ length (records (take i p))

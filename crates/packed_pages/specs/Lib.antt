@@ -1,3 +1,5 @@
 pub mod Packs
 pub mod Layout
 pub mod Held
+pub mod Filling
+pub mod Copying

@@ -6,12 +6,12 @@ use Rattle.std.specs.Int.{w32, w64, to_le_bytes}
 use Rattle.file_pieces.specs.Records.{padded}
 
 -- a record: the line's length as 4 bytes, the lowest first, and the line
-unfoldable pub record_of : List ℕ → List ℕ
-record_of line = to_le_bytes w32 (length line) ++ line
+unfoldable pub packed_record : List ℕ → List ℕ
+packed_record line = to_le_bytes w32 (length line) ++ line
 
 -- the records of lines one after another
 abbrev pub records : List (List ℕ) → List ℕ
-records lines = flat_map record_of lines
+records lines = flat_map packed_record lines
 
 -- a page that is begun, if it has lines
 abbrev pub begun : List (List ℕ) → List (List (List ℕ))

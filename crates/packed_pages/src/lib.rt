@@ -7,7 +7,9 @@ ghost use Rattle.line_store.specs.Taking.{IsReset, IsEmpty};
 ghost use Rattle.page_pair.specs.Pair.{page_of, IsPair};
 ghost use Rattle.packed_pages.specs.Held.{IsHeld};
 
+mod copying;
 mod layout;
+mod filling;
 mod loading;
 mod places;
 mod searching;

@@ -4,6 +4,7 @@ use Rattle.std.proofs.lemmas.Bool.{false≢true}
 use Rattle.std.proofs.lemmas.List.{append-nil, take_all, drop_all, take-append-le, drop-append-le, length-take}
 use Rattle.std.proofs.lemmas.List.Concat.{flat_map-append}
 use Rattle.std.specs.List.{flat_map, range_with_len}
+use Rattle.file_pieces.proofs.Windows.{told-before}
 use Rattle.plan_b.specs.declared.layout.Layout.{Layout}
 use Rattle.plan_b.specs.declared.filling.Filling.{Filling}
 use Rattle.file_pieces.specs.Records.{longest, padded, record_of}
@@ -15,11 +16,6 @@ use Rattle.file_pieces.proofs.Records.{record-length, padded-length}
 
 pub once-more : (a q : ℕ) → (a + 1) * q ≡ a * q + q
 once-more a q = grind arith
-
--- what was told is told
-pub told-before : (t u : Option (List ℕ)) (b : List ℕ) → is_some u ≡ is_some t → u ≡ Some b → (a : List ℕ) × (t ≡ Some a)
-told-before None u b e is = absurd (false≢true (sym e ∙ ap is_some is))
-told-before (Some a) u b e is = (a, refl)
 
 on-kept : (q : ℕ) (ls more : List (List ℕ)) (j : ℕ) → j * q + q ≤ length ls → lines_on q (ls ++ more) j ≡ lines_on q ls j
 unfolding lines_on

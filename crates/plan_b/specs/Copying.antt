@@ -37,15 +37,6 @@ IsCopyFault (FileTooLong length) l v w piece is_last = ⊥
 IsCopyFault (Disagree want got) l v w piece is_last = (want ≢ got) × ((text : List ℕ) (start : ℕ) → IsPart text piece start is_last → l.width < 4 + longest (lines (drop start text)))
 IsCopyFault Memory l v w piece is_last = ⊥
 
--- why a file that was measured was not copied
-abbrev pub IsTakeFault : OpenFault → ScratchView → ScratchView → tree.TreeView → tree.TreeView → Type 0
-IsTakeFault Tree v w t u = tree.Rises t u
-IsTakeFault Scratch v w t u = HasRisen v.faults w.faults
-IsTakeFault (LongLine line length) v w t u = ⊥
-IsTakeFault (FileTooLong length) v w t u = ⊥
-IsTakeFault (Disagree want got) v w t u = (want ≢ got) × (t.told ≡ None)
-IsTakeFault Memory v w t u = ⊥
-
 -- the lines before a place of a file are filled in
 pub record IsCopied (l : Layout) (told : Option (List ℕ)) (page : List ℕ) (at : ℕ) (f : Filling) (file : Option (List ℕ)) : Type 0 where
   pub front : List (List ℕ)

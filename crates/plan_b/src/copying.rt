@@ -11,7 +11,8 @@ ghost use Rattle.plan_b.specs.Pages.{width_of, pages_of_width};
 ghost use Rattle.plan_b.specs.Filling.{IsReady, IsFilled};
 ghost use Rattle.file_pieces.specs.Reading.{told_file, HasLength, IsNoneWhole};
 ghost use Rattle.plan_b.specs.Measuring.{IsMeasuredAs};
-ghost use Rattle.plan_b.specs.Copying.{Copies, IsLineFault, IsCopyFault, IsTakeFault, IsCopied, IsEndFault, IsWritten};
+ghost use Rattle.plan_b.specs.Copying.{Copies, IsLineFault, IsCopyFault, IsCopied, IsEndFault, IsWritten};
+ghost use Rattle.file_pieces.specs.Reading.{IsTakeFault};
 
 use crate::filling::{Filling, put_record};
 use crate::layout::Layout;

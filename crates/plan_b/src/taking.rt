@@ -9,7 +9,8 @@ ghost use Rattle.plan_b.specs.Layout.{IsLayout};
 ghost use Rattle.plan_b.specs.Held.{bare};
 ghost use Rattle.file_pieces.specs.Records.{IsWriteFault};
 ghost use Rattle.file_pieces.specs.Reading.{told_file, HasLength};
-ghost use Rattle.plan_b.specs.Copying.{IsTakeFault, IsWritten};
+ghost use Rattle.file_pieces.specs.Reading.{IsTakeFault};
+ghost use Rattle.plan_b.specs.Copying.{IsWritten};
 ghost use Rattle.plan_b.specs.Measuring.{IsMeasuredAs};
 
 use crate::copying::copy_file;

@@ -5,6 +5,7 @@ use Rattle.outside.proofs.Views.{untouched_both}
 use Rattle.file_pieces.specs.Records.{longest}
 use Rattle.file_pieces.proofs.LongLines.{none-long}
 use Rattle.file_pieces.proofs.Measures.{measured-all}
+use Rattle.file_pieces.specs.Room.{HasRoom}
 use Rattle.file_pieces.proofs.Readings.{told-later}
 use Rattle.file_pieces.proofs.measuring.measure.Goals as goal
 
@@ -20,4 +21,5 @@ loop-now-preserved g c =
       sound = rw size at c.in_ok-now.ensures.sound;
       within = c.in_ok-now.ensures.within;
       measured = λ text told. c.in_ok-now.ensures.measured text (told-later c.args.name.now text c.loop-now.invariant.untouched told);
+      room = λ text told. subst (λ n. HasRoom n text c.in_ok-now.now.at c.in_ok-now.now.room) size (c.in_ok-now.ensures.room text (told-later c.args.name.now text c.loop-now.invariant.untouched told));
     }

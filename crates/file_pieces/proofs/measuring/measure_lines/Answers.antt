@@ -1,5 +1,6 @@
 use Rattle.std.proofs.Common.{◌≡◌, ◌+◌, ◌-◌, ◌<◌, ◌≤◌, length, arith}
 use Rattle.file_pieces.proofs.Measures.{measured-step, measured-stop}
+use Rattle.file_pieces.proofs.Rooms.{room-step}
 use Rattle.file_pieces.proofs.measuring.measure_lines.Goals as goal
 
 pub returns-in-Err-clause-first : goal.returns-in-Err-clause-first
@@ -23,4 +24,8 @@ loop-end-preserved c =
           let now = c.loop-end.now in
           measured-step text c.args.piece.now c.args.start.at c.args.is_last c.loop-end.at c.in-Some.end now.at now.count now.longest c.in-Ok.next.at c.in-Ok.next.count c.in-Ok.next.longest
           part whole c.loop-end.invariant.place at c.in-Ok.ensures.count c.in-Ok.ensures.longest (c.loop-end.invariant.measured text part was);
+      room = λ text part was.
+          let now = c.loop-end.now in
+          room-step (c.args.most + 4) text c.args.piece.now c.args.start.at c.args.is_last c.loop-end.at c.in-Some.end now.at now.room c.in-Ok.next.at c.in-Ok.next.room
+          part whole c.loop-end.invariant.place at c.in-Ok.ensures.room (c.loop-end.invariant.room text part was);
     }

@@ -5,6 +5,7 @@ use Rattle.line_store.specs.declared.fault.OpenFault.TheVariants.{LongLine}
 use Rattle.line_store.specs.Taking.{long_line}
 use Rattle.outside.proofs.Views.{untouched_both}
 use Rattle.file_pieces.specs.Reading.{HasNoFeed}
+use Rattle.file_pieces.specs.Room.{HasRoom}
 use Rattle.file_pieces.proofs.Readings.{refusal-long, part-made, open-made, told-sooner}
 use Rattle.file_pieces.proofs.measuring.measure_piece.Goals as goal
 
@@ -30,6 +31,20 @@ returns-clause-measured g c text told =
     (part-made text c.page-piece.result.now c.args.start.at c.in_ok-got.got (eqb (c.args.start.at + c.in_ok-got.got) c.args.length)
     (ap (take c.in_ok-got.got) c.page-piece.ensures.is ∙ c.in_ok-got.ensures.bytes text told) end (λ is. eqb-true _ _ is ∙ sym len))
     (c.requires.measured text told)
+
+pub returns-clause-room : goal.returns-clause-room
+returns-clause-room g c text told =
+    let len : length text ≡ c.args.length = c.requires.stated text told in
+    let n : c.in_ok-got.got ≡ min c.args.pair.now.size (c.args.length - c.args.start.at) = c.in_ok-got.ensures.count in
+    let end : c.args.start.at + c.in_ok-got.got ≤ length text = omega arith in
+    let size : c.size.result ≡ c.args.pair.now.size = c.size.ensures.size in
+    let sized : 512 ≤ c.args.pair.now.size = c.size.ensures.pair.sized.0 in
+    let four : c.size.result - 4 + 4 ≡ c.args.pair.now.size = omega arith in
+    subst (λ k. HasRoom k text c.in-Ok.now.at c.in-Ok.now.room) four
+    (c.in-Ok.ensures.room text
+    (part-made text c.page-piece.result.now c.args.start.at c.in_ok-got.got (eqb (c.args.start.at + c.in_ok-got.got) c.args.length)
+    (ap (take c.in_ok-got.got) c.page-piece.ensures.is ∙ c.in_ok-got.ensures.bytes text told) end (λ is. eqb-true _ _ is ∙ sym len))
+    (subst (λ k. HasRoom k text c.args.start.at c.args.start.room) (sym four) (c.requires.room text told)))
 
 pub returns-in-Err-clause-cause : goal.returns-in-Err-clause-cause
 returns-in-Err-clause-cause g c =

@@ -10,7 +10,8 @@ use Rattle.file_pieces.specs.Reading.{told_file, IsPart, HasNoFeed}
 use Rattle.plan_b.specs.Copying.{IsCopied}
 use Rattle.file_pieces.proofs.Windows.{none-unless}
 use Rattle.file_pieces.proofs.Readings.{part-made, open-made}
-use Rattle.plan_b.proofs.Copyings.{take-fault, copied-more, copied-short, open-wide}
+use Rattle.plan_b.proofs.Copyings.{take-fault, copied-more, copied-short}
+use Rattle.file_pieces.proofs.Opens.{open-wide}
 use Rattle.plan_b.proofs.copying.copy_piece.Goals as goal
 
 pub returns-in-Err-clause-cause : goal.returns-in-Err-clause-cause
