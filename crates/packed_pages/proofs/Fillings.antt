@@ -43,7 +43,7 @@ entries-more k (q ∷ ps) p =
     ap (λ r. to_le_bytes w64 k ++ r) (entries-more (k + length q) ps p ∙ ap (λ m. entries_from (k + length q) ps ++ to_le_bytes w64 m) n)
     ∙ sym (append_assoc (to_le_bytes w64 k) (entries_from (k + length q) ps) (to_le_bytes w64 (k + length (q ++ joined ps))))
 
-joined-one : (ps : List (List (List ℕ))) (p : List (List ℕ)) → joined (ps ++ p ∷ []) ≡ joined ps ++ p
+pub joined-one : (ps : List (List (List ℕ))) (p : List (List ℕ)) → joined (ps ++ p ∷ []) ≡ joined ps ++ p
 joined-one ps p = flat_map-append (λ q. q) ps (p ∷ []) ∙ ap (λ r. joined ps ++ r) (append-nil p)
 
 -- an entry written over zero bytes
@@ -103,7 +103,7 @@ filled-fits l told page next line f g ls room first count fits made was =
       room = room-append l.size no_room ls (line ∷ []) ∙ ap (λ r. room_with l.size r (4 + length line)) was.room ∙ room-fits l.size (4 + length line) f.room fits ∙ sym room;
     }
 
-fits-one : (size : ℕ) (ps : List (List (List ℕ))) (p : List (List ℕ)) → ((i : ℕ) → i < length ps → length (records (get_or ps i [])) ≤ size) → length (records p) ≤ size → (i : ℕ) → i < length (ps ++ p ∷ []) → length (records (get_or (ps ++ p ∷ []) i [])) ≤ size
+pub fits-one : (size : ℕ) (ps : List (List (List ℕ))) (p : List (List ℕ)) → ((i : ℕ) → i < length ps → length (records (get_or ps i [])) ≤ size) → length (records p) ≤ size → (i : ℕ) → i < length (ps ++ p ∷ []) → length (records (get_or (ps ++ p ∷ []) i [])) ≤ size
 fits-one size ps p each one i lt =
     let n : length (ps ++ p ∷ []) ≡ length ps + 1 = length-append ps (p ∷ []) in
     elim (cases_lt i (length ps)) [
@@ -143,7 +143,7 @@ filled-next l told now page mid next line f g ls room first count over filled lt
       first = (let n : length (joined (was.full ++ was.last ∷ [])) ≡ length ls = ap length all in omega arith);
       lines_ = ap (λ x. x ++ line ∷ []) all;
       fits = fits-one l.size was.full was.last was.fits (omega arith);
-      on = ap (λ n. take n next) (full ∙ sym padded_) ∙ made.is ∙ record-same line ∙ sym (records-one line);
+      on = ap (λ n. take n next) (let z : g.room.filled ≡ 0 + length (record_of (4 + length line) line) = omega arith in z) ∙ made.is ∙ record-same line ∙ sym (records-one line);
       bytes = λ b is. page-flushed l told now page f ls was lt telling written b is ∙ ap (λ n. entries_from 1 (was.full ++ was.last ∷ []) ++ replicate (8 * (l.pages - n)) 0 ++ flat_map (page_with l.size) (was.full ++ was.last ∷ [])) (sym pages);
       greedy = λ more. ap (pages_of l.size) (append_assoc ls (line ∷ []) more) ∙ was.greedy (line ∷ more) ∙ rw t (sym (append_assoc was.full (was.last ∷ []) (pages_from l.size (line ∷ []) more)));
       room = room-append l.size no_room ls (line ∷ []) ∙ ap (λ r. room_with l.size r (4 + length line)) was.room ∙ room-next l.size (4 + length line) f.room over ∙ sym room;

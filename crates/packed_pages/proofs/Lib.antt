@@ -2,3 +2,4 @@ pub mod Pages
 pub mod Spans
 pub mod HeldLemmas
 pub mod Fillings
+pub mod Copyings
