@@ -1,10 +1,11 @@
 -- The room of records, one behind another.
-use Rattle.std.proofs.Common.{◌≡◌, ℕ, ◌+◌, ◌-◌, ◌<◌, ◌≤◌, Bool, true, false, List, [], ◌∷◌, ◌++◌, length, drop, refl, sym, ap, subst, ◌∙◌, arith, append_assoc, inl, inr}
+use Rattle.std.proofs.Common.{◌≡◌, ℕ, ◌+◌, ◌-◌, ◌<◌, ◌≤◌, Bool, true, false, List, [], ◌∷◌, ◌++◌, length, drop, refl, sym, ap, subst, ◌∙◌, arith, append_assoc, append-nil, inl, inr}
 use Rattle.std.specs.Prelude.{nat_le}
 use Rattle.std.specs.List.{slice_range}
 use Rattle.std.proofs.lemmas.Bool.{cases_lt}
 use Rattle.std.proofs.lemmas.Bool.Decides.{nat_tests}
 use Rattle.line_list.specs.Lines.{lines}
+use Rattle.line_list.proofs.LineLemmas.{lines-end}
 use Rattle.file_pieces.specs.declared.room.Room.{Room}
 use Rattle.file_pieces.specs.Room.{no_room, room_with, room_from, HasRoom}
 use Rattle.file_pieces.specs.Reading.{IsPart, IsWhole}
@@ -53,3 +54,7 @@ room-step size text piece start last at end p r q s part whole e f g was =
     let len : room_with size r (4 + length (slice_range piece at end)) ≡ s = ap (λ n. room_with size r (4 + n)) (slice-length piece at end (omega arith) high) ∙ sym g in
     let line : lines (drop p text) ≡ slice_range piece at end ∷ lines (drop (start + end) text) = ap (λ k. lines (drop k text)) e ∙ part-line text piece start last at end part whole in
     subst (λ k. HasRoom size text k s) far (subst (HasRoom size text (start + end)) len (room-more size text p (start + end) r (slice_range piece at end) was line))
+
+-- all lines
+pub room-all : (size : ℕ) (text : List ℕ) (at : ℕ) (r : Room) → HasRoom size text at r → at ≡ length text → room_from size no_room (lines text) ≡ r
+room-all size text at r was end = ap (room_from size no_room) (was.split ∙ ap (λ l. was.front ++ l) (lines-end text at end) ∙ append-nil was.front) ∙ was.is

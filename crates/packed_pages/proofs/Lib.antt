@@ -3,3 +3,4 @@ pub mod Spans
 pub mod HeldLemmas
 pub mod Fillings
 pub mod Copyings
+pub mod Takings

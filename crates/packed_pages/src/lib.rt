@@ -13,14 +13,16 @@ mod filling;
 mod loading;
 mod places;
 mod searching;
+mod taking;
 mod walking;
 
 use crate::layout::Layout;
 use crate::loading::load_line;
 use crate::places::Places;
+use crate::taking::take_pages;
 use file_pieces::record::line_of;
-use line_store::{Half, LineFault, LineStore};
-use outside::Scratch;
+use line_store::{Half, LineFault, LineStore, OpenFault, Plan};
+use outside::{Name, Scratch, Tree};
 use page_pair::PagePair;
 
 /// The lines of a file as records on packed pages of a scratch, behind an index. Each half of the pair holds one of the pages.
@@ -110,3 +112,36 @@ impl<C: Scratch> LineStore for PackedB<C> {
         }
     }
 }
+
+impl<C: Scratch> Plan for PackedB<C> {
+    ghost use Rattle.std.specs.Option.{option_map};
+    ghost use Rattle.line_list.specs.Lines.{lines};
+    ghost use Rattle.packed_pages.specs.Packs.{packs};
+
+    ghost scratch_after = { λ size file before. option_map (λ _. packs size (lines file)) before };
+
+    ghost sized = { λ p. p.held.layout.sized };
+
+    fn take_file<T: Tree>(&mut self, tree: &mut T, name: &Name) -> Result<(), OpenFault> {
+        self.take_empty();
+        match take_pages(&mut self.pair, &mut self.scratch, tree, name) {
+            Ok(layout) => {
+                self.layout = layout;
+                Ok(())
+            }
+            Err(fault) => Err(fault),
+        }
+    }
+
+    fn take_empty(&mut self) {
+        self.layout = Layout::new(self.pair.size());
+        self.places = Places::new();
+    }
+
+    fn needs_memory(&self) -> bool {
+        false
+    }
+}
+
+#[cfg(test)]
+mod tests;
