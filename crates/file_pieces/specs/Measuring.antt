@@ -1,5 +1,5 @@
 -- The lines before a place of a file.
-use Rattle.std.specs.Prelude.{◌≤◌, ◌+◌, ℕ}
+use Rattle.std.specs.Prelude.{◌<◌, ◌≤◌, ◌+◌, ℕ}
 use Rattle.file_pieces.specs.Room.{page_count}
 use Rattle.file_pieces.specs.declared.measuring.Measured.{Measured}
 
@@ -9,3 +9,4 @@ pub record IsSound (m : Measured) (most : ℕ) : Type 0 where
   pub short : m.longest ≤ most
   pub paged : page_count m.room ≤ m.count
   pub filled : m.room.filled ≤ most + 4
+  pub begun : 0 < m.count → 0 < m.room.filled

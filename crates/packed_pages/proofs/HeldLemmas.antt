@@ -211,3 +211,11 @@ line-lent pair l places v h p k ls held is line told =
     let some : 1 ≤ p.line = loaded.some in
     let most : p.line ≤ l.count = loaded.most in
     line-held pair l v h p k ls held.layout (held.packs (omega arith)) loaded e told
+
+unheld : (o : Option Place) → option_map (λ p. p.line) o ≡ None → o ≡ None
+unheld None e = refl
+unheld (Some p) e = absurd (none-some p.line (sym e))
+
+-- a half that holds no line has no place
+pub no-place : (places : Places) → ((h : Half) → line_held places h ≡ None) → (h : Half) → place_of places h ≡ None
+no-place places none h = unheld (place_of places h) (none h)
