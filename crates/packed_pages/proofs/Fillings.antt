@@ -33,7 +33,7 @@ record-same line =
 records-one : (line : List ℕ) → records (line ∷ []) ≡ packed_record line
 records-one line = append-nil (packed_record line)
 
-records-more : (ls : List (List ℕ)) (line : List ℕ) → records (ls ++ line ∷ []) ≡ records ls ++ packed_record line
+pub records-more : (ls : List (List ℕ)) (line : List ℕ) → records (ls ++ line ∷ []) ≡ records ls ++ packed_record line
 records-more ls line = flat_map-append packed_record ls (line ∷ []) ∙ ap (λ r. records ls ++ r) (records-one line)
 
 entries-more : (k : ℕ) (ps : List (List (List ℕ))) (p : List (List ℕ)) → entries_from k (ps ++ p ∷ []) ≡ entries_from k ps ++ to_le_bytes w64 (k + length (joined ps))
@@ -176,8 +176,8 @@ behind-kept told mid at n first telling was le written b is =
     let same : b ≡ overwritten a.0 at (to_le_bytes w64 first) = cc in
     let len : length a.0 ≡ n = was a.0 a.1 in
     ap length same ∙ over-length a.0 (to_le_bytes w64 first) at (eight at (to_le_bytes w64 first) (length a.0) refl (omega arith)) ∙ len where
-  eight : (at : ℕ) (w : List ℕ) (n : ℕ) → length w ≡ 8 → at + 8 ≤ n → at + length w ≤ n
-  eight at w n e le = omega arith
+      eight : (at : ℕ) (w : List ℕ) (n : ℕ) → length w ≡ 8 → at + 8 ≤ n → at + length w ≤ n
+      eight at w n e le = omega arith
 
 pub line-length : (page : List ℕ) (from n size : ℕ) → length page ≡ size → from + n ≤ size → length (take n (drop from page)) ≡ n
 line-length page from n size e le = let left : length (drop from page) ≡ length page - from = length-drop from page in length-take-le n (drop from page) (omega arith)

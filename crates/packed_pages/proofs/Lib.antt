@@ -4,3 +4,5 @@ pub mod HeldLemmas
 pub mod Fillings
 pub mod Copyings
 pub mod Takings
+pub mod Packings
+pub mod Worked

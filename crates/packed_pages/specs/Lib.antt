@@ -3,3 +3,4 @@ pub mod Layout
 pub mod Held
 pub mod Filling
 pub mod Copying
+pub mod Packing

@@ -8,8 +8,9 @@ ghost use Rattle.page_pair.specs.Pair.{page_of, IsPair};
 ghost use Rattle.packed_pages.specs.Held.{IsHeld};
 
 mod copying;
-mod layout;
 mod filling;
+mod laws;
+mod layout;
 mod loading;
 mod places;
 mod searching;
@@ -21,6 +22,7 @@ use crate::loading::load_line;
 use crate::places::Places;
 use crate::taking::take_pages;
 use file_pieces::record::line_of;
+pub use laws::packing_laws;
 use line_store::{Half, LineFault, LineStore, OpenFault, Plan};
 use outside::{Name, Scratch, Tree};
 use page_pair::PagePair;

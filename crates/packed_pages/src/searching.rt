@@ -41,12 +41,7 @@ fn read_entry<C: Scratch>(scratch: &mut C, layout: Layout, page: u64) -> Result<
 }
 
 /// The half of a span that has the page of line `k`.
-fn halve<C: Scratch>(
-    scratch: &mut C,
-    layout: Layout,
-    k: u64,
-    span: Span,
-) -> Result<Span, LineFault>
+fn halve<C: Scratch>(scratch: &mut C, layout: Layout, k: u64, span: Span) -> Result<Span, LineFault>
     requires layout { IsLayout layout }
     requires packs { HoldsPacks layout (C.view scratch.old) }
     requires span { IsSpan layout k span }

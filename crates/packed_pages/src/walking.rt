@@ -35,12 +35,7 @@ fn record_end(page: &[u8], at: usize) -> Result<usize, LineFault>
 }
 
 /// The place of the record that has `wanted` before it, found from that of the one that has `before` before it.
-pub fn find_record(
-    page: &[u8],
-    before: u64,
-    at: usize,
-    wanted: u64,
-) -> Result<usize, LineFault>
+pub fn find_record(page: &[u8], before: u64, at: usize, wanted: u64) -> Result<usize, LineFault>
     requires small { length page.now ≤ 2 ^ 20 }
     requires place { at ≡ place_in before page.now }
     requires within { at ≤ length page.now }

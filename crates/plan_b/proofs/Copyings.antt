@@ -142,4 +142,3 @@ end-fault Memory l f u v w s t p h g = h
 pub copied-count : (l : Layout) (told file : Option (List ℕ)) (page text : List ℕ) (at : ℕ) (f : Filling) → IsCopied l told page at f file → file ≡ Some text → at ≡ length text → length (lines text) ≡ f.pages * l.per_page + f.records
 copied-count l told file page text at f was is end =
     ap length (was.split text is ∙ ap (λ x. was.front ++ x) (lines-end text at end) ∙ append-nil was.front) ∙ was.filled.counted
-
