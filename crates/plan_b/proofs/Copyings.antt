@@ -10,26 +10,20 @@ use Rattle.std.specs.Int.{div_ceil}
 use Rattle.std.proofs.lemmas.Nat.{div-mul-add, mod-mul-add}
 use Rattle.outside.specs.TreeView.{TreeView}
 use Rattle.line_list.specs.Lines.{lines, with_first}
+use Rattle.file_pieces.proofs.LongLines.{longest-behind}
 use Rattle.plan_b.specs.declared.layout.Layout.{Layout}
 use Rattle.plan_b.specs.declared.filling.Filling.{Filling}
-use Rattle.plan_b.specs.Pages.{longest, record_of, front_pages, pages_of_width}
-use Rattle.plan_b.specs.Reading.{IsPart, IsWhole, IsOpen}
+use Rattle.file_pieces.specs.Records.{longest, record_of}
+use Rattle.plan_b.specs.Pages.{front_pages, pages_of_width}
+use Rattle.file_pieces.specs.Reading.{IsPart, IsWhole, IsOpen}
 use Rattle.plan_b.specs.Filling.{IsFilled, IsReady}
 use Rattle.plan_b.specs.Layout.{IsLayout}
-use Rattle.plan_b.specs.Copying.{Copies, IsLineFault, IsCopyFault, IsTakeFault, IsCopied, IsWritten, IsEndFault}
+use Rattle.plan_b.specs.Copying.{Copies, IsLineFault, IsCopyFault, IsCopied, IsWritten, IsEndFault}
+use Rattle.file_pieces.specs.Reading.{IsTakeFault}
 use Rattle.outside.specs.ScratchView.{ScratchView, ScratchPasses}
 use Rattle.line_store.specs.declared.fault.OpenFault.{OpenFault}
 use Rattle.line_store.specs.declared.fault.OpenFault.TheVariants.{Tree, Scratch, LongLine, FileTooLong, Disagree, Memory}
-use Rattle.plan_b.proofs.Cuts.{part-line, slice-length}
-
-pub part-of-front : (n a m : ℕ) (xs : List ℕ) → a + n ≤ m → take n (drop a (take m xs)) ≡ take n (drop a xs)
-part-of-front n a m xs le =
-    let e : a + (m - a) ≡ m = omega arith in
-    ap (λ k. take n (drop a (take k xs))) (sym e) ∙ ap (take n) (drop-take a (m - a) xs) ∙ take-take n (m - a) (drop a xs) (omega arith)
-
-pub longest-behind : (ls more : List (List ℕ)) → longest more ≤ longest (ls ++ more)
-longest-behind [] more = omega arith
-longest-behind (l ∷ ls) more = let e : longest more ≤ longest (ls ++ more) = longest-behind ls more in omega arith
+use Rattle.file_pieces.proofs.Cuts.{part-line, slice-length}
 
 pub copies-none : (l : Layout) (told : Option (List ℕ)) (page : List ℕ) (f : Filling) (piece : List ℕ) (last : Bool) → Copies l told told page page f f piece last 0
 copies-none l told page f piece last = record {
@@ -61,37 +55,6 @@ copy-fault (LongLine line length) l u v w n piece last p h wide = h
 copy-fault (FileTooLong length) l u v w n piece last p h wide = h
 copy-fault (Disagree want got) l u v w n piece last p h wide = (h.0, wide h.1)
 copy-fault Memory l u v w n piece last p h wide = h
-
--- the length of the first line
-abbrev first_length : List (List ℕ) → ℕ
-first_length [] = 0
-first_length (line ∷ more) = length line
-
-first_more : (b : ℕ) (ls : List (List ℕ)) → first_length (with_first b ls) ≡ first_length ls + 1
-first_more b [] = omega arith
-first_more b (line ∷ more) = omega arith
-
-first_most : (ls : List (List ℕ)) → first_length ls ≤ longest ls
-first_most [] = omega arith
-first_most (line ∷ more) = omega arith
-
--- a line has no line feed before its last byte
-first-wide : (s : List ℕ) (n : ℕ) → n ≤ length s → ((i : ℕ) → i < n → get_or s i 0 ≢ 10) → n ≤ first_length (lines s)
-unfolding lines
-first-wide [] n le none = omega arith
-first-wide (b ∷ bs) zero le none = omega arith
-first-wide (b ∷ bs) (suc n) le none =
-    let ne : eqb b 10 ≡ false = grind (arith, none 0 (omega arith)) in
-    let more : n ≤ first_length (lines bs) = first-wide bs n (omega arith) (λ i lt. none (suc i) (omega arith)) in
-    let one : first_length (with_first b (lines bs)) ≡ first_length (lines bs) + 1 = first_more b (lines bs) in
-    rw ne (omega arith)
-
-pub open-wide : (text : List ℕ) (at n : ℕ) → at + n ≤ length text → IsOpen text at (at + n) → n ≤ longest (lines (drop at text))
-open-wide text at n le open_ =
-    let left : length (drop at text) ≡ length text - at = length-drop at text in
-    let wide : n ≤ first_length (lines (drop at text)) = first-wide (drop at text) n (omega arith) (λ i lt. open_.each i (omega arith)) in
-    let most : first_length (lines (drop at text)) ≤ longest (lines (drop at text)) = first_most (lines (drop at text)) in
-    omega arith
 
 pub take-fault : (e : OpenFault) (l : Layout) (v w : ScratchView) (t u : TreeView) (piece : List ℕ) (last : Bool) → IsCopyFault e l v w piece last → (((text : List ℕ) (start : ℕ) → IsPart text piece start last → l.width < 4 + longest (lines (drop start text))) → t.told ≡ None) → IsTakeFault e v w t u
 take-fault Tree l v w t u piece last h f = absurd h
@@ -179,11 +142,3 @@ end-fault Memory l f u v w s t p h g = h
 pub copied-count : (l : Layout) (told file : Option (List ℕ)) (page text : List ℕ) (at : ℕ) (f : Filling) → IsCopied l told page at f file → file ≡ Some text → at ≡ length text → length (lines text) ≡ f.pages * l.per_page + f.records
 copied-count l told file page text at f was is end =
     ap length (was.split text is ∙ ap (λ x. was.front ++ x) (lines-end text at end) ∙ append-nil was.front) ∙ was.filled.counted
-
-pub take-later : (e : OpenFault) (u v w : ScratchView) (s t x : TreeView) → ScratchPasses u v → IsUntouched s t → IsTakeFault e v w t x → IsTakeFault e u w s x
-take-later Tree u v w s t x p un h = rises_then s t x un.passes h
-take-later Scratch u v w s t x p un h = λ small. omega (arith, h small, p.counts)
-take-later (LongLine line length) u v w s t x p un h = h
-take-later (FileTooLong length) u v w s t x p un h = h
-take-later (Disagree want got) u v w s t x p un h = (h.0, sym un.told ∙ h.1)
-take-later Memory u v w s t x p un h = h

@@ -9,36 +9,14 @@ use Rattle.std.proofs.lemmas.List.FromFn.{length-range_with_len, get_or-range_wi
 use Rattle.std.specs.List.{flat_map, range_with_len}
 use Rattle.std.specs.Int.{w32, to_le_bytes, from_le_bytes, div_ceil}
 use Rattle.plan_b.specs.declared.layout.Layout.{Layout}
-use Rattle.plan_b.specs.Pages.{longest, record_of, page_with, lines_on, front_pages}
-use Rattle.plan_b.specs.Layout.{IsLayout, HasRecords, place_of, stated, line_in, decoded}
-use Rattle.plan_b.proofs.LongLines.{longest-at}
-use Rattle.plan_b.proofs.Records.{record-length, padded-length}
+use Rattle.file_pieces.specs.Records.{longest, record_of}
+use Rattle.plan_b.specs.Pages.{page_with, lines_on, front_pages}
+use Rattle.plan_b.specs.Layout.{IsLayout, HasRecords, place_of, decoded}
+use Rattle.file_pieces.specs.Records.{stated, line_in}
+use Rattle.file_pieces.proofs.LongLines.{longest-at}
+use Rattle.file_pieces.proofs.Records.{record-length, padded-length}
 use Rattle.plan_b.proofs.Layouts.{rows-fit, some-fit}
-use Rattle.plan_b.proofs.Windows.{window, part-at}
-
--- lists of one length, one behind another
-uniform-length : {X : Type 0} (f : X → List ℕ) (w : ℕ) (d : X) (xs : List X) → ((j : ℕ) → j < length xs → length (f (get_or xs j d)) ≡ w) → length (flat_map f xs) ≡ length xs * w
-uniform-length f w d [] each = sym (zero-mul w)
-uniform-length f w d (x ∷ xs) each =
-    let here : length (f x) ≡ w = each 0 (omega arith) in
-    let more : length (flat_map f xs) ≡ length xs * w = uniform-length f w d xs (λ j lt. each (suc j) (omega arith)) in
-    length-append (f x) (flat_map f xs) ∙ ap (λ n. n + length (flat_map f xs)) here ∙ ap (λ n. w + n) more ∙ (let e : suc (length xs) * w ≡ length xs * w + w = suc-mul (length xs) w in omega arith)
-
-uniform-at : {X : Type 0} (f : X → List ℕ) (w : ℕ) (d : X) (rest : List ℕ) (xs : List X) (i : ℕ) → ((j : ℕ) → j < length xs → length (f (get_or xs j d)) ≡ w) → i < length xs → take w (drop (i * w) (flat_map f xs ++ rest)) ≡ f (get_or xs i d)
-uniform-at f w d rest [] i each lt = absurd (omega arith)
-uniform-at f w d rest (x ∷ xs) zero each lt =
-    let here : length (f x) ≡ w = each 0 (omega arith) in
-    ap (λ n. take w (drop n ((f x ++ flat_map f xs) ++ rest))) (zero-mul w)
-    ∙ ap (λ n. take n ((f x ++ flat_map f xs) ++ rest)) (sym here)
-    ∙ ap (take (length (f x))) (append_assoc (f x) (flat_map f xs) rest)
-    ∙ take-append_seam (f x) (flat_map f xs ++ rest)
-uniform-at f w d rest (x ∷ xs) (suc i) each lt =
-    let here : length (f x) ≡ w = each 0 (omega arith) in
-    let place : suc i * w ≡ length (f x) + i * w = (let e : suc i * w ≡ i * w + w = suc-mul i w in omega arith) in
-    ap (λ n. take w (drop n ((f x ++ flat_map f xs) ++ rest))) place
-    ∙ ap (λ l. take w (drop (length (f x) + i * w) l)) (append_assoc (f x) (flat_map f xs) rest)
-    ∙ ap (take w) (drop-append-add (f x) (flat_map f xs ++ rest) (i * w))
-    ∙ uniform-at f w d rest xs i (λ j lt. each (suc j) (omega arith)) (omega arith)
+use Rattle.file_pieces.proofs.Windows.{window, part-at, uniform-length, uniform-at}
 
 -- the lines of a page are lines
 on-at : (q : ℕ) (ls : List (List ℕ)) (j i : ℕ) → i < length (lines_on q ls j) → get_or (lines_on q ls j) i [] ≡ get_or ls (j * q + i) []

@@ -4,24 +4,18 @@ use Rattle.std.proofs.lemmas.Bool.{false≢true}
 use Rattle.std.proofs.lemmas.List.{append-nil, take_all, drop_all, take-append-le, drop-append-le, length-take}
 use Rattle.std.proofs.lemmas.List.Concat.{flat_map-append}
 use Rattle.std.specs.List.{flat_map, range_with_len}
-use Rattle.outside.specs.ScratchView.{overwritten}
+use Rattle.file_pieces.proofs.Windows.{told-before}
 use Rattle.plan_b.specs.declared.layout.Layout.{Layout}
 use Rattle.plan_b.specs.declared.filling.Filling.{Filling}
-use Rattle.plan_b.specs.Pages.{longest, padded, record_of, page_with, lines_on, front_pages}
-use Rattle.plan_b.specs.Filling.{Extends, IsReady, IsFilled}
-use Rattle.plan_b.proofs.LongLines.{longest-more}
-use Rattle.plan_b.proofs.Records.{record-length, padded-length}
-
-pub over-end : (b p : List ℕ) (at : ℕ) → length b ≡ at → overwritten b at p ≡ b ++ p
-over-end b p at e = rw (take_all at b (omega arith), drop_all (at + length p) b (omega arith)) (append-nil (b ++ p))
+use Rattle.file_pieces.specs.Records.{longest, padded, record_of}
+use Rattle.plan_b.specs.Pages.{page_with, lines_on, front_pages}
+use Rattle.file_pieces.specs.Records.{Extends}
+use Rattle.plan_b.specs.Filling.{IsReady, IsFilled}
+use Rattle.file_pieces.proofs.LongLines.{longest-more}
+use Rattle.file_pieces.proofs.Records.{record-length, padded-length}
 
 pub once-more : (a q : ℕ) → (a + 1) * q ≡ a * q + q
 once-more a q = grind arith
-
--- what was told is told
-pub told-before : (t u : Option (List ℕ)) (b : List ℕ) → is_some u ≡ is_some t → u ≡ Some b → (a : List ℕ) × (t ≡ Some a)
-told-before None u b e is = absurd (false≢true (sym e ∙ ap is_some is))
-told-before (Some a) u b e is = (a, refl)
 
 on-kept : (q : ℕ) (ls more : List (List ℕ)) (j : ℕ) → j * q + q ≤ length ls → lines_on q (ls ++ more) j ≡ lines_on q ls j
 unfolding lines_on

@@ -12,9 +12,10 @@ use Rattle.line_store.specs.declared.halves.Halves.{Halves}
 use Rattle.line_store.specs.Halves.{half_of}
 use Rattle.page_pair.specs.Pair.{Pair, page_of}
 use Rattle.plan_b.specs.declared.layout.Layout.{Layout}
-use Rattle.plan_b.specs.Layout.{page_number, place_on_page, place_of, stated, line_in, decoded, lines_told, told-some}
+use Rattle.plan_b.specs.Layout.{page_number, place_on_page, place_of, decoded, lines_told, told-some}
+use Rattle.file_pieces.specs.Records.{stated, line_in}
 use Rattle.plan_b.specs.Held.{seen_of, HoldsPage, HasPageCause, IsLoaded, IsHeld, page_held}
-use Rattle.plan_b.proofs.Windows.{window}
+use Rattle.file_pieces.proofs.Windows.{window}
 
 mapped-some : (f : ℕ → ℕ) (o : Option ℕ) (j : ℕ) → option_map f o ≡ Some j → (k : ℕ) × ((o ≡ Some k) × (f k ≡ j))
 mapped-some f None j e = absurd cc

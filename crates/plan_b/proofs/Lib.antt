@@ -1,11 +1,4 @@
-pub mod Windows
 pub mod HeldLemmas
-pub mod Cuts
-pub mod Measures
-pub mod LongLines
-pub mod Opens
-pub mod Readings
-pub mod Records
 pub mod Fillings
 pub mod Layouts
 pub mod Decoding

@@ -1,6 +1,7 @@
 -- The format at the lines `a` and `bcd`, each with its line feed.
 use Rattle.std.proofs.Common.{◌≡◌, ℕ, List, [], ◌∷◌, refl}
-use Rattle.plan_b.specs.Pages.{width_of, record_of}
+use Rattle.plan_b.specs.Pages.{width_of}
+use Rattle.file_pieces.specs.Records.{record_of}
 
 abbrev pub two_lines : List (List ℕ)
 two_lines = (97 ∷ 10 ∷ []) ∷ (98 ∷ 99 ∷ 100 ∷ 10 ∷ []) ∷ []

@@ -8,8 +8,9 @@ use Rattle.line_store.specs.declared.fault.OpenFault.{OpenFault}
 use Rattle.line_store.specs.declared.fault.OpenFault.TheVariants.{Tree, Scratch, LongLine, FileTooLong, Disagree, Memory}
 use Rattle.plan_b.specs.declared.layout.Layout.{Layout}
 use Rattle.plan_b.specs.declared.filling.Filling.{Filling}
-use Rattle.plan_b.specs.Pages.{longest, pages_of_width}
-use Rattle.plan_b.specs.Reading.{IsPart}
+use Rattle.file_pieces.specs.Records.{longest}
+use Rattle.plan_b.specs.Pages.{pages_of_width}
+use Rattle.file_pieces.specs.Reading.{IsPart}
 use Rattle.plan_b.specs.Filling.{IsFilled}
 
 -- whole lines of a piece were filled in, up to a place of it
@@ -35,15 +36,6 @@ IsCopyFault (LongLine line length) l v w piece is_last = ⊥
 IsCopyFault (FileTooLong length) l v w piece is_last = ⊥
 IsCopyFault (Disagree want got) l v w piece is_last = (want ≢ got) × ((text : List ℕ) (start : ℕ) → IsPart text piece start is_last → l.width < 4 + longest (lines (drop start text)))
 IsCopyFault Memory l v w piece is_last = ⊥
-
--- why a file that was measured was not copied
-abbrev pub IsTakeFault : OpenFault → ScratchView → ScratchView → tree.TreeView → tree.TreeView → Type 0
-IsTakeFault Tree v w t u = tree.Rises t u
-IsTakeFault Scratch v w t u = HasRisen v.faults w.faults
-IsTakeFault (LongLine line length) v w t u = ⊥
-IsTakeFault (FileTooLong length) v w t u = ⊥
-IsTakeFault (Disagree want got) v w t u = (want ≢ got) × (t.told ≡ None)
-IsTakeFault Memory v w t u = ⊥
 
 -- the lines before a place of a file are filled in
 pub record IsCopied (l : Layout) (told : Option (List ℕ)) (page : List ℕ) (at : ℕ) (f : Filling) (file : Option (List ℕ)) : Type 0 where

@@ -1,17 +1,10 @@
 -- Records made on a page, and pages written one behind another.
 use Rattle.std.specs.Prelude.{◌≡◌, ℕ, ◌+◌, ◌*◌, ◌^◌, ◌<◌, ◌≤◌, List, ◌++◌, length, take, drop, Option, Some}
 use Rattle.std.specs.List.{flat_map}
-use Rattle.outside.specs.Faults.{HasRisen}
-use Rattle.outside.specs.ScratchView.{ScratchView}
-use Rattle.line_store.specs.declared.fault.OpenFault.{OpenFault}
-use Rattle.line_store.specs.declared.fault.OpenFault.TheVariants.{Tree, Scratch, LongLine, FileTooLong, Disagree, Memory}
 use Rattle.plan_b.specs.declared.layout.Layout.{Layout}
 use Rattle.plan_b.specs.declared.filling.Filling.{Filling}
-use Rattle.plan_b.specs.Pages.{longest, record_of, front_pages}
-
--- bytes hold a piece at a place, and before it what the old ones hold
-pub record Extends (old new : List ℕ) (at : ℕ) (piece : List ℕ) : Type 0 where
-  pub is : take (at + length piece) new ≡ take at old ++ piece
+use Rattle.file_pieces.specs.Records.{longest, record_of}
+use Rattle.plan_b.specs.Pages.{front_pages}
 
 -- where the next record goes: behind whole pages, on a page that isn't full
 pub record IsReady (l : Layout) (told : Option (List ℕ)) (f : Filling) : Type 0 where
@@ -25,12 +18,3 @@ pub record IsFilled (l : Layout) (told : Option (List ℕ)) (page : List ℕ) (f
   pub narrow : 4 + longest ls ≤ l.width
   pub last : take (f.records * l.width) page ≡ flat_map (record_of l.width) (drop (f.pages * l.per_page) ls)
   pub front : (bytes : List ℕ) → told ≡ Some bytes → bytes ≡ front_pages l.size l.width l.per_page ls f.pages
-
--- why records were not written
-abbrev pub IsWriteFault : OpenFault → ScratchView → ScratchView → Type 0
-IsWriteFault Tree v w = ⊥
-IsWriteFault Scratch v w = HasRisen v.faults w.faults
-IsWriteFault (LongLine line length) v w = ⊥
-IsWriteFault (FileTooLong length) v w = ⊥
-IsWriteFault (Disagree want got) v w = ⊥
-IsWriteFault Memory v w = ⊥

@@ -6,7 +6,7 @@ use Rattle.std.proofs.lemmas.Bool.Decides.{nat_tests}
 use Rattle.std.proofs.lemmas.List.FromFn.{length-map-range_with_len}
 use Rattle.std.specs.Option.{option_map}
 use Rattle.std.specs.List.{range_with_len}
-use Rattle.std.specs.Int.{w32, from_le_bytes}
+use Rattle.file_pieces.specs.Records.{stated, line_in}
 use Rattle.line_store.specs.Taking.{IsSize}
 use Rattle.plan_b.specs.declared.layout.Layout.{Layout}
 
@@ -29,14 +29,6 @@ place_on_page l k = k % l.per_page * l.width
 -- where it stands in the scratch
 abbrev pub place_of : Layout → ℕ → ℕ
 place_of l k = page_number l k * l.size + place_on_page l k
-
--- the length that the record at a place states
-unfoldable pub stated : List ℕ → ℕ → ℕ
-stated bytes at = from_le_bytes w32 (take 4 (drop at bytes))
-
--- the line that the record at a place holds
-unfoldable pub line_in : List ℕ → ℕ → List ℕ
-line_in bytes at = take (stated bytes at) (drop (at + 4) bytes)
 
 -- the lines that the records of a layout hold
 unfoldable pub decoded : Layout → List ℕ → List (List ℕ)

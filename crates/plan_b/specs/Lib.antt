@@ -1,7 +1,6 @@
 pub mod Pages
 pub mod Layout
 pub mod Held
-pub mod Reading
 pub mod Measuring
 pub mod Filling
 pub mod Copying

@@ -1,24 +1,12 @@
 -- Padded pages: each line of a file is a record of one width, and a page holds as many as fit it.
-use Rattle.std.specs.Prelude.{ℕ, ◌+◌, ◌-◌, ◌*◌, ◌/◌, List, [], ◌∷◌, ◌++◌, length, take, drop, replicate, max}
+use Rattle.std.specs.Prelude.{ℕ, ◌+◌, ◌*◌, ◌/◌, List, length, take, drop}
 use Rattle.std.specs.List.{flat_map, range_with_len}
-use Rattle.std.specs.Int.{w32, to_le_bytes, div_ceil}
-
--- the length of the longest line
-abbrev pub longest : List (List ℕ) → ℕ
-longest [] = 0
-longest (line ∷ more) = max (length line) (longest more)
+use Rattle.std.specs.Int.{div_ceil}
+use Rattle.file_pieces.specs.Records.{longest, padded, record_of}
 
 -- the width of a record: 4 bytes, and the longest line
 abbrev pub width_of : List (List ℕ) → ℕ
 width_of ls = 4 + longest ls
-
--- bytes with zero bytes behind them, up to a size
-abbrev pub padded : ℕ → List ℕ → List ℕ
-padded size bytes = bytes ++ replicate (size - length bytes) 0
-
--- a record: the line's length as 4 bytes, the lowest first, the line, and zero bytes up to the width
-unfoldable pub record_of : ℕ → List ℕ → List ℕ
-record_of width line = padded width (to_le_bytes w32 (length line) ++ line)
 
 -- a page: the records of its lines one after another, and zero bytes to its end
 unfoldable pub page_with : ℕ → ℕ → List (List ℕ) → List ℕ

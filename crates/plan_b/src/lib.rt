@@ -11,16 +11,13 @@ mod copying;
 mod filling;
 mod layout;
 mod loading;
-mod long;
 mod measuring;
-mod reading;
-mod record;
 mod taking;
 
 use crate::layout::Layout;
 use crate::loading::load_line;
-use crate::record::line_of;
 use crate::taking::take_pages;
+use file_pieces::record::line_of;
 use line_store::{Half, Halves, LineFault, LineStore, OpenFault, Plan};
 use outside::{Name, Scratch, Tree};
 use page_pair::PagePair;

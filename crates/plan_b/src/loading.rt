@@ -6,11 +6,12 @@ ghost use Rattle.line_store.specs.declared.Half.{Half};
 ghost use Rattle.line_store.specs.Halves.{half_of};
 ghost use Rattle.line_store.specs.Store.{Keeps, HasCause};
 ghost use Rattle.page_pair.specs.Pair.{page_of};
-ghost use Rattle.plan_b.specs.Layout.{IsLayout, HasRecords, page_number, place_on_page, stated};
+ghost use Rattle.plan_b.specs.Layout.{IsLayout, HasRecords, page_number, place_on_page};
+ghost use Rattle.file_pieces.specs.Records.{stated};
 ghost use Rattle.plan_b.specs.Held.{seen_of, IsHeld, IsLoaded, HoldsPage, HoldsRecords, HasPageCause, page_held, ReadsOnceAtMost};
 
 use crate::layout::Layout;
-use crate::record::stated_length;
+use file_pieces::record::stated_length;
 use line_store::{Half, Halves, LineFault};
 use outside::Scratch;
 use page_pair::PagePair;

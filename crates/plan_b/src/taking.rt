@@ -7,32 +7,23 @@ ghost use Rattle.outside.specs.Calls.{IsThere, IsUntouched};
 ghost use Rattle.outside.specs.ScratchView.{ScratchPasses};
 ghost use Rattle.plan_b.specs.Layout.{IsLayout};
 ghost use Rattle.plan_b.specs.Held.{bare};
-ghost use Rattle.plan_b.specs.Filling.{IsWriteFault};
-ghost use Rattle.plan_b.specs.Reading.{told_file, HasLength};
-ghost use Rattle.plan_b.specs.Copying.{IsTakeFault, IsWritten};
+ghost use Rattle.file_pieces.specs.Records.{IsWriteFault};
+ghost use Rattle.file_pieces.specs.Reading.{told_file, HasLength};
+ghost use Rattle.file_pieces.specs.Reading.{IsTakeFault};
+ghost use Rattle.plan_b.specs.Copying.{IsWritten};
 ghost use Rattle.plan_b.specs.Measuring.{IsMeasuredAs};
 
 use crate::copying::copy_file;
 use crate::layout::Layout;
-use crate::measuring::measure;
-use crate::reading::size_of;
+use crate::measuring::measure_layout;
+use file_pieces::paging::restart;
+use file_pieces::reading::size_of;
 use line_store::OpenFault;
 use outside::{Name, Scratch, Tree};
 use page_pair::PagePair;
 
 /// The least number of bytes that is too many.
 const TOO_LONG: u64 = 1 << 40;
-
-fn restart<C: Scratch>(scratch: &mut C) -> Result<(), OpenFault>
-    ensures passes { ScratchPasses (C.view scratch.old) (C.view scratch.new) }
-    ensures empty { OnOk result ((bytes : List ℕ) → (C.view scratch.new).told ≡ Some bytes → bytes ≡ []) }
-    ensures cause { IfErr result (λ e. IsWriteFault e (C.view scratch.old) (C.view scratch.new)) }
-{
-    match scratch.restart() {
-        Ok(()) => Ok(()),
-        Err(_) => Err(OpenFault::Scratch),
-    }
-}
 
 /// Copies a file that was measured, over what the scratch held.
 fn copy_anew<T: Tree, C: Scratch>(
@@ -90,7 +81,7 @@ pub fn take_pages<T: Tree, C: Scratch>(
     if total >= TOO_LONG {
         return Err(OpenFault::FileTooLong { length: total });
     }
-    let layout = match measure(pair, tree, name, total) {
+    let layout = match measure_layout(pair, tree, name, total) {
         Ok(layout) => layout,
         Err(fault) => return Err(fault),
     };

@@ -1,5 +1,6 @@
 use Rattle.std.proofs.Common.{◌≡◌, ◌-◌, Some, sym, ap, ◌∙◌}
-use Rattle.plan_b.specs.Layout.{place_on_page, line_in}
+use Rattle.plan_b.specs.Layout.{place_on_page}
+use Rattle.file_pieces.specs.Records.{line_in}
 use Rattle.plan_b.proofs.HeldLemmas.{line-held}
 use Rattle.plan_b.proofs.PlanBLineStore.line.Goals as goal
 

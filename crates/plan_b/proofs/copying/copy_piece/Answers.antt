@@ -5,12 +5,13 @@ use Rattle.line_list.specs.Lines.{lines}
 use Rattle.line_store.specs.declared.Half.TheVariants.{First, Second}
 use Rattle.outside.specs.Files.{bytes_at}
 use Rattle.page_pair.specs.Pair.{page_of}
-use Rattle.plan_b.specs.Pages.{longest}
-use Rattle.plan_b.specs.Reading.{told_file, IsPart, HasNoFeed}
+use Rattle.file_pieces.specs.Records.{longest}
+use Rattle.file_pieces.specs.Reading.{told_file, IsPart, HasNoFeed}
 use Rattle.plan_b.specs.Copying.{IsCopied}
-use Rattle.plan_b.proofs.Windows.{none-unless}
-use Rattle.plan_b.proofs.Readings.{part-made, open-made}
-use Rattle.plan_b.proofs.Copyings.{take-fault, copied-more, copied-short, open-wide}
+use Rattle.file_pieces.proofs.Windows.{none-unless}
+use Rattle.file_pieces.proofs.Readings.{part-made, open-made}
+use Rattle.plan_b.proofs.Copyings.{take-fault, copied-more, copied-short}
+use Rattle.file_pieces.proofs.Opens.{open-wide}
 use Rattle.plan_b.proofs.copying.copy_piece.Goals as goal
 
 pub returns-in-Err-clause-cause : goal.returns-in-Err-clause-cause

@@ -1,7 +1,8 @@
 use Rattle.std.proofs.Common.{◌≡◌, ◌+◌, ◌-◌, ◌*◌, ◌≤◌, ℕ, ap, ◌∙◌, arith}
-use Rattle.plan_b.specs.Layout.{place_on_page, place_of, page_number, stated}
+use Rattle.plan_b.specs.Layout.{place_on_page, place_of, page_number}
+use Rattle.file_pieces.specs.Records.{stated}
 use Rattle.plan_b.proofs.HeldLemmas.{stated-on-page}
-use Rattle.plan_b.proofs.Windows.{none-unless}
+use Rattle.file_pieces.proofs.Windows.{none-unless}
 use Rattle.plan_b.proofs.loading.find_line.Goals as goal
 
 pub returns-then-length-most-clause-cause : goal.returns-then-length-most-clause-cause

@@ -1,5 +1,5 @@
 use Rattle.std.proofs.Common.{◌≡◌, ◌≤◌, ◌+◌, ◌-◌, ◌*◌, ℕ, length, sym, arith, length-drop, drop, ap, ◌∙◌}
-use Rattle.plan_b.proofs.Windows.{none-unless, came-whole, page-length}
+use Rattle.file_pieces.proofs.Windows.{none-unless, came-whole, page-length}
 use Rattle.plan_b.proofs.loading.read_page.Goals as goal
 
 pub returns-in-Ok-2-clause-cause : goal.returns-in-Ok-2-clause-cause

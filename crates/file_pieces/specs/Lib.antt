@@ -1,0 +1,4 @@
+pub mod Records
+pub mod Room
+pub mod Reading
+pub mod Measuring

@@ -1,0 +1,53 @@
+use Rattle.std.proofs.Common.{◌≡◌, ◌+◌, ◌-◌, ◌<◌, ◌≤◌, ℕ, List, length, min, take, drop, refl, sym, ap, subst, ◌∙◌, arith}
+use Rattle.std.proofs.lemmas.List.{length-take}
+use Rattle.line_store.specs.declared.Half.TheVariants.{First, Second}
+use Rattle.outside.specs.ScratchView.{scratch_passes_none, scratch_passes_both}
+use Rattle.page_pair.specs.Pair.{page_of}
+use Rattle.file_pieces.specs.Reading.{IsWhole}
+use Rattle.file_pieces.proofs.Windows.{part-of-front}
+use Rattle.packed_pages.proofs.Copyings.{copies-none, copies-more, copies-misfit, copy-fault}
+use Rattle.packed_pages.proofs.copying.copy_lines.Goals as goal
+
+pub loop-end-init : goal.loop-end-init
+loop-end-init g c = record {
+  size = refl;
+  first = refl;
+  passes = scratch_passes_none _;
+  ready = c.requires.ready;
+  count = omega arith;
+  within = omega arith;
+  copies = copies-none c.args.layout (g.C.Scratch.view c.args.scratch.now).told (page_of c.args.pair.now Second) c.args.filling (take c.args.got (page_of c.args.pair.now First)) c.args.is_last;
+}
+
+pub returns-in-Err-clause-cause : goal.returns-in-Err-clause-cause
+returns-in-Err-clause-cause g c =
+    let view = g.C.Scratch.view in
+    let whole : IsWhole (take c.args.got (page_of c.args.pair.now First)) c.args.is_last c.loop-end.at c.in-Some.end =
+    subst (λ p. IsWhole (take c.args.got p) c.args.is_last c.loop-end.at c.in-Some.end) (c.page.ensures.is ∙ c.loop-end.invariant.first) c.in-Some.ensures in
+    copy-fault c.in-Err.fault c.args.layout c.args.filling c.loop-end.now (view c.args.scratch.now) (view c.loop-end.scratch) (view c.copy_line.new.scratch) (c.in-Some.end - c.loop-end.at) (take c.args.got (page_of c.args.pair.now First)) c.args.is_last
+    c.loop-end.invariant.passes c.in-Err.ensures.cause
+    (λ wide text start part room. copies-misfit c.args.layout _ _ _ _ c.args.filling c.loop-end.now (take c.args.got (page_of c.args.pair.now First)) c.args.is_last c.loop-end.at c.in-Some.end c.loop-end.invariant.copies whole wide text start part room)
+
+pub loop-end-preserved : goal.loop-end-preserved
+loop-end-preserved g c =
+    let view = g.C.Scratch.view in
+    let n : length (take c.args.got (page_of c.args.pair.now First)) ≡ min c.args.got (length (page_of c.args.pair.now First)) = length-take c.args.got (page_of c.args.pair.now First) in
+    let whole : IsWhole (take c.args.got (page_of c.args.pair.now First)) c.args.is_last c.loop-end.at c.in-Some.end =
+    subst (λ p. IsWhole (take c.args.got p) c.args.is_last c.loop-end.at c.in-Some.end) (c.page.ensures.is ∙ c.loop-end.invariant.first) c.in-Some.ensures in
+    let low : c.loop-end.at < c.in-Some.end = whole.low in
+    let high : c.in-Some.end ≤ length (take c.args.got (page_of c.args.pair.now First)) = whole.high in
+    let one : c.in-Ok.next.count ≡ c.loop-end.now.count + 1 = c.in-Ok.ensures.count in
+    let many : c.loop-end.now.count ≤ c.args.filling.count + c.loop-end.at = c.loop-end.invariant.count in
+    record {
+      size = c.in-Ok.ensures.size ∙ c.loop-end.invariant.size;
+      first = c.in-Ok.ensures.first ∙ c.loop-end.invariant.first;
+      passes = scratch_passes_both c.loop-end.invariant.passes c.in-Ok.ensures.passes;
+      ready = c.in-Ok.ensures.ready;
+      count = omega arith;
+      within = omega arith;
+      copies = copies-more c.args.layout (view c.args.scratch.now).told (view c.loop-end.scratch).told (view c.copy_line.new.scratch).told (page_of c.args.pair.now Second) (page_of c.loop-end.pair Second) (page_of c.copy_line.new.pair Second)
+          c.args.filling c.loop-end.now c.in-Ok.next (take c.args.got (page_of c.args.pair.now First)) c.args.is_last c.loop-end.at c.in-Some.end (take (c.in-Some.end - c.loop-end.at) (drop c.loop-end.at (page_of c.loop-end.pair First)))
+          c.loop-end.invariant.copies whole
+          (part-of-front (c.in-Some.end - c.loop-end.at) c.loop-end.at c.args.got (page_of c.args.pair.now First) (omega arith) ∙ ap (λ p. take (c.in-Some.end - c.loop-end.at) (drop c.loop-end.at p)) (sym c.loop-end.invariant.first))
+          c.in-Ok.ensures.room c.in-Ok.ensures.filled;
+    }

@@ -1,0 +1,70 @@
+use Rattle.std.proofs.Common.{◌≡◌, ◌+◌, ◌-◌, ◌<◌, ◌≤◌, eqb, eq-eqb, ℕ, List, length, min, take, drop, Some, sym, refl, subst, ◌∙◌, arith, inl, inr}
+use Rattle.std.proofs.lemmas.Bool.{eqb-true, cases_eq}
+use Rattle.std.proofs.lemmas.List.{length-take}
+use Rattle.line_list.specs.Lines.{lines}
+use Rattle.line_store.specs.declared.Half.TheVariants.{First, Second}
+use Rattle.outside.specs.Files.{bytes_at}
+use Rattle.page_pair.specs.Pair.{page_of}
+use Rattle.file_pieces.specs.Records.{longest}
+use Rattle.file_pieces.specs.Reading.{told_file, IsPart, HasNoFeed}
+use Rattle.file_pieces.proofs.Windows.{none-unless}
+use Rattle.file_pieces.proofs.Readings.{part-made, open-made}
+use Rattle.file_pieces.proofs.Opens.{open-wide}
+use Rattle.packed_pages.specs.Copying.{IsCopied}
+use Rattle.packed_pages.proofs.Copyings.{take-fault, no-misfit, copied-room, copied-more, copied-short}
+use Rattle.packed_pages.proofs.copying.copy_piece.Goals as goal
+
+pub returns-in-Err-clause-cause : goal.returns-in-Err-clause-cause
+returns-in-Err-clause-cause g c =
+    let view = g.C.Scratch.view in
+    let tree = g.T.Tree.view in
+    take-fault c.in-Err.fault c.args.layout c.args.copied.filling (view c.args.scratch.now) (view c.copy_lines.new.scratch) (tree c.args.tree.now) (tree c.read_piece.new.tree) (take c.in_ok-got.got (page_of c.read_piece.new.pair First)) (eqb (c.args.copied.at + c.in_ok-got.got) c.args.length)
+    c.in-Err.ensures.cause
+    (λ misfit. none-unless _ (λ f told.
+    let text : List ℕ = bytes_at f c.args.name.now in
+    let file : told_file (tree c.args.tree.now) c.args.name.now ≡ Some (bytes_at f c.args.name.now) = rw told refl in
+    let len : length (bytes_at f c.args.name.now) ≡ c.args.length = c.requires.stated (bytes_at f c.args.name.now) file in
+    let n : c.in_ok-got.got ≡ min c.args.pair.now.size (c.args.length - c.args.copied.at) = c.in_ok-got.ensures.count in
+    let part : IsPart (bytes_at f c.args.name.now) (take c.in_ok-got.got (page_of c.read_piece.new.pair First)) c.args.copied.at (eqb (c.args.copied.at + c.in_ok-got.got) c.args.length) =
+    part-made (bytes_at f c.args.name.now) (page_of c.read_piece.new.pair First) c.args.copied.at c.in_ok-got.got (eqb (c.args.copied.at + c.in_ok-got.got) c.args.length) (c.in_ok-got.ensures.bytes (bytes_at f c.args.name.now) file) (omega arith) (λ is. eqb-true _ _ is ∙ sym len) in
+    no-misfit c.args.layout (lines (bytes_at f c.args.name.now)) (c.requires.measured (bytes_at f c.args.name.now) file)
+    (misfit (bytes_at f c.args.name.now) c.args.copied.at part (copied-room c.args.layout _ _ _ c.args.copied.at c.args.copied.filling (bytes_at f c.args.name.now) c.requires.copied file))))
+
+pub returns-then-now-eq0-clause-cause : goal.returns-then-now-eq0-clause-cause
+returns-then-now-eq0-clause-cause g c =
+    let tree = g.T.Tree.view in
+    let size : c.args.layout.size ≡ c.args.pair.now.size = c.requires.size in
+    let sized : 512 ≤ c.args.layout.size = c.requires.layout.sized.0 in
+    let n : c.in_ok-got.got ≡ min c.args.pair.now.size (c.args.length - c.args.copied.at) = c.in_ok-got.ensures.count in
+    let page : length (page_of c.read_piece.new.pair First) ≡ c.args.pair.now.size = c.in_ok-got.ensures.pair.first ∙ c.in_ok-got.ensures.size in
+    let piece : length (take c.in_ok-got.got (page_of c.read_piece.new.pair First)) ≡ min c.in_ok-got.got (length (page_of c.read_piece.new.pair First)) = length-take c.in_ok-got.got (page_of c.read_piece.new.pair First) in
+    let none : c.in-Ok.now.at ≡ 0 = c.if-now-eq0.true in
+    let full : c.in_ok-got.got ≡ c.args.layout.size = elim (cases_eq (c.args.copied.at + c.in_ok-got.got) c.args.length) [
+      | inl e ↦ absurd (let last : c.in-Ok.now.at ≡ length (take c.in_ok-got.got (page_of c.read_piece.new.pair First)) = c.in-Ok.ensures.left.last (eq-eqb _ _ e) in omega arith)
+      | inr ne ↦ omega arith
+    ] in (
+      (λ e. omega arith),
+      none-unless _ (λ f told.
+          let file : told_file (tree c.args.tree.now) c.args.name.now ≡ Some (bytes_at f c.args.name.now) = rw told refl in
+          let len : length (bytes_at f c.args.name.now) ≡ c.args.length = c.requires.stated (bytes_at f c.args.name.now) file in
+          let wide : c.in_ok-got.got ≤ longest (lines (drop c.args.copied.at (bytes_at f c.args.name.now))) =
+          open-wide (bytes_at f c.args.name.now) c.args.copied.at c.in_ok-got.got (omega arith)
+          (open-made (bytes_at f c.args.name.now) (page_of c.read_piece.new.pair First) c.args.copied.at c.in_ok-got.got (c.in_ok-got.ensures.bytes (bytes_at f c.args.name.now) file) (omega arith)
+          (subst (λ k. HasNoFeed (drop k (take c.in_ok-got.got (page_of c.read_piece.new.pair First)))) none c.in-Ok.ensures.left.open_)) in
+          let fits : 4 + longest (lines (bytes_at f c.args.name.now)) ≤ c.args.layout.size = (c.requires.measured (bytes_at f c.args.name.now) file).short in
+          let short : longest (lines (drop c.args.copied.at (bytes_at f c.args.name.now))) ≤ longest (lines (bytes_at f c.args.name.now)) = copied-short c.args.layout _ _ _ c.args.copied.at c.args.copied.filling (bytes_at f c.args.name.now) c.requires.copied file in
+          omega arith),
+    )
+
+pub returns-clause-copied : goal.returns-clause-copied
+returns-clause-copied g c =
+    let view = g.C.Scratch.view in
+    let tree = g.T.Tree.view in
+    let n : c.in_ok-got.got ≡ min c.args.pair.now.size (c.args.length - c.args.copied.at) = c.in_ok-got.ensures.count in
+    copied-more c.args.layout (view c.args.scratch.now).told (view c.copy_lines.new.scratch).told (told_file (tree c.args.tree.now) c.args.name.now) (page_of c.read_piece.new.pair Second) (page_of c.copy_lines.new.pair Second) c.args.copied.at c.in-Ok.now.at c.args.copied.filling c.in-Ok.now.filling
+    (take c.in_ok-got.got (page_of c.read_piece.new.pair First)) (eqb (c.args.copied.at + c.in_ok-got.got) c.args.length)
+    (subst (λ p. IsCopied c.args.layout (view c.args.scratch.now).told p c.args.copied.at c.args.copied.filling (told_file (tree c.args.tree.now) c.args.name.now)) (sym c.in_ok-got.ensures.second) c.requires.copied)
+    c.in-Ok.ensures.copies
+    (λ text file.
+    let len : length text ≡ c.args.length = c.requires.stated text file in
+    part-made text (page_of c.read_piece.new.pair First) c.args.copied.at c.in_ok-got.got (eqb (c.args.copied.at + c.in_ok-got.got) c.args.length) (c.in_ok-got.ensures.bytes text file) (omega arith) (λ is. eqb-true _ _ is ∙ sym len))

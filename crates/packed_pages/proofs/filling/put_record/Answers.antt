@@ -1,0 +1,39 @@
+use Rattle.std.proofs.Common.{◌≡◌, ◌+◌, ◌<◌, ◌≤◌, ℕ, List, ◌++◌, [], ◌∷◌, length, take, drop, refl, sym, ap, subst, ◌∙◌, arith}
+use Rattle.line_store.specs.declared.Half.TheVariants.{First, Second}
+use Rattle.page_pair.specs.Pair.{page_of}
+use Rattle.file_pieces.specs.Records.{Extends, record_of}
+use Rattle.packed_pages.specs.Filling.{IsFilled}
+use Rattle.packed_pages.proofs.Fillings.{filled-fits, filled-next, ready-next, line-length}
+use Rattle.packed_pages.proofs.filling.put_record.Goals as goal
+
+pub returns-then-filled-bytes-clause-filled : goal.returns-then-filled-bytes-clause-filled
+returns-then-filled-bytes-clause-filled g c ls was =
+    let f = c.args.filling in
+    let len : length (take c.args.count (drop c.args.from (page_of c.args.pair.now First))) ≡ c.args.count = line-length (page_of c.args.pair.now First) c.args.from c.args.count c.args.pair.now.size c.size-size.ensures.pair.first c.requires.read in
+    filled-fits c.args.layout (g.C.Scratch.view c.args.scratch.now).told (page_of c.args.pair.now Second) (page_of c.make_record.new.pair Second) (take c.args.count (drop c.args.from (page_of c.args.pair.now First))) c.args.filling
+    (record { room = record { pages = f.room.pages; filled = f.room.filled + (4 + c.args.count) }; first = f.first; count = f.count + 1 }) ls
+    (ap (λ n. record { pages = f.room.pages; filled = f.room.filled + (4 + n) }) (sym len)) refl refl (omega arith)
+    (subst (λ n. Extends (page_of c.args.pair.now Second) (page_of c.make_record.new.pair Second) f.room.filled (record_of (4 + n) (take c.args.count (drop c.args.from (page_of c.args.pair.now First))))) (sym len) c.make_record.ensures.made) was
+
+pub returns-clause-ready : goal.returns-clause-ready
+returns-clause-ready g c =
+    let view = g.C.Scratch.view in
+    let f = c.args.filling in
+    let second : length (page_of c.args.pair.now Second) ≡ c.args.pair.now.size = c.size-size.ensures.pair.second in
+    let size : c.args.layout.size ≡ c.args.pair.now.size = c.requires.size in
+    let filled : f.room.filled ≤ c.args.layout.size = c.requires.ready.filled in
+    let pages : f.room.pages ≤ c.args.layout.pages = c.requires.ready.pages in
+    ready-next c.args.layout (view c.args.scratch.now).told (view c.flush.new.scratch).told (page_of c.args.pair.now Second) f (record { room = record { pages = f.room.pages + 1; filled = 4 + c.args.count }; first = f.count + 1; count = f.count + 1 })
+    (omega arith) c.requires.ready (omega arith) refl (omega arith) (omega arith) c.flush.ensures.passes.telling c.in-Ok.ensures.written
+
+pub returns-clause-filled : goal.returns-clause-filled
+returns-clause-filled g c ls was =
+    let view = g.C.Scratch.view in
+    let f = c.args.filling in
+    let len : length (take c.args.count (drop c.args.from (page_of c.args.pair.now First))) ≡ c.args.count = line-length (page_of c.args.pair.now First) c.args.from c.args.count c.args.pair.now.size c.size-size.ensures.pair.first c.requires.read in
+    let pages : f.room.pages ≤ c.args.layout.pages = c.requires.ready.pages in
+    let made = subst (λ p. Extends (page_of c.flush.new.pair Second) (page_of c.make_record-2.new.pair Second) 0 (record_of (4 + c.args.count) (take c.args.count (drop c.args.from p)))) c.flush.ensures.first c.make_record-2.ensures.made in
+    filled-next c.args.layout (view c.args.scratch.now).told (view c.flush.new.scratch).told (page_of c.args.pair.now Second) (page_of c.flush.new.pair Second) (page_of c.make_record-2.new.pair Second) (take c.args.count (drop c.args.from (page_of c.args.pair.now First))) c.args.filling
+    (record { room = record { pages = f.room.pages + 1; filled = 4 + c.args.count }; first = f.count + 1; count = f.count + 1 }) ls
+    (ap (λ n. record { pages = f.room.pages + 1; filled = 4 + n }) (sym len)) refl refl (omega arith) c.requires.ready.filled (omega arith) c.flush.ensures.passes.telling c.in-Ok.ensures.written
+    (subst (λ n. Extends (page_of c.flush.new.pair Second) (page_of c.make_record-2.new.pair Second) 0 (record_of (4 + n) (take c.args.count (drop c.args.from (page_of c.args.pair.now First))))) (sym len) made) was

@@ -1,0 +1,6 @@
+pub mod Packs
+pub mod Layout
+pub mod Held
+pub mod Filling
+pub mod Copying
+pub mod Packing

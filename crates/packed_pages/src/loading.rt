@@ -1,0 +1,225 @@
+//! A line fetched into a half.
+
+ghost use Rattle.std.specs.Prelude.{◌≡◌, ◌≢◌, ◌≤◌, ◌<◌, ◌+◌, ◌-◌, ◌*◌, ◌^◌, ℕ, List, length, None, Some, IfErr, IfOk, OnOk, OnErr};
+ghost use Rattle.outside.specs.ScratchView.{ScratchPasses};
+ghost use Rattle.line_store.specs.declared.Half.{Half};
+ghost use Rattle.line_store.specs.Store.{Keeps, HasCause};
+ghost use Rattle.page_pair.specs.Pair.{page_of};
+ghost use Rattle.file_pieces.specs.Records.{stated};
+ghost use Rattle.packed_pages.specs.declared.places.Place.{Place};
+ghost use Rattle.packed_pages.specs.Layout.{IsLayout, page_in, place_in};
+ghost use Rattle.packed_pages.specs.Held.{seen_of, place_of, line_held, IsHeld, IsOnPage, IsLoaded, HoldsPage, HoldsPacks, HoldsPageOf, HasPageOf, HasPageCause, IsRecordFault, IfStart, ReadsAtMost, ReadsByDigits};
+
+use crate::layout::Layout;
+use crate::places::{Place, Places};
+use crate::searching::find_page;
+use crate::walking::find_record;
+use line_store::{Half, LineFault};
+use outside::Scratch;
+use page_pair::PagePair;
+
+/// Reads a page of the scratch into a half.
+#[tactic(auto, unfolding(crate::specs::Layout::page_in))]
+fn read_page<C: Scratch>(
+    pair: &mut PagePair,
+    scratch: &mut C,
+    layout: Layout,
+    half: Half,
+    page: u64,
+) -> Result<(), LineFault>
+    requires layout { IsLayout layout }
+    requires packs { HoldsPacks layout (C.view scratch.old) }
+    requires size { layout.size ≡ pair.old.size }
+    requires there { page < layout.pages }
+    ensures size { pair.new.size ≡ pair.old.size }
+    ensures other { (h : Half) → h ≢ half → page_of pair.new h ≡ page_of pair.old h }
+    ensures page { OnOk result ((b : List ℕ) → (C.view scratch.old).told ≡ Some b → page_of pair.new half ≡ page_in layout b page) }
+    ensures passes { ScratchPasses (C.view scratch.old) (C.view scratch.new) }
+    ensures told { (C.view scratch.new).told ≡ (C.view scratch.old).told }
+    ensures reads { ReadsAtMost 1 (C.view scratch.old) (C.view scratch.new) }
+    ensures cause { IfErr result (λ e. HasPageCause e (C.view scratch.old) (C.view scratch.new)) }
+{
+    let want = layout.size;
+    match scratch.read_at(8 * layout.pages + page * want, pair.page_mut(half)) {
+        Ok(got) if got as u64 == want => Ok(()),
+        Ok(got) => Err(LineFault::Disagree {
+            want,
+            got: got as u64,
+        }),
+        Err(_) => Err(LineFault::Scratch),
+    }
+}
+
+/// Reads the page of line `k` into a half. The answer is the place of the page's first line.
+fn open_page<C: Scratch>(
+    pair: &mut PagePair,
+    scratch: &mut C,
+    layout: Layout,
+    k: u64,
+    half: Half,
+) -> Result<Place, LineFault>
+    requires layout { IsLayout layout }
+    requires packs { HoldsPacks layout (C.view scratch.old) }
+    requires size { layout.size ≡ pair.old.size }
+    requires low { 1 ≤ k }
+    requires high { k ≤ layout.count }
+    ensures size { pair.new.size ≡ pair.old.size }
+    ensures other { (h : Half) → h ≢ half → page_of pair.new h ≡ page_of pair.old h }
+    ensures place { IfOk result (λ p. IsOnPage pair.new layout (C.view scratch.new) half p) }
+    ensures low { IfOk result (λ p. p.line ≤ k) }
+    ensures high { IfOk result (λ p. k < p.next) }
+    ensures passes { ScratchPasses (C.view scratch.old) (C.view scratch.new) }
+    ensures told { (C.view scratch.new).told ≡ (C.view scratch.old).told }
+    ensures reads { ReadsByDigits layout.pages 1 (C.view scratch.old) (C.view scratch.new) }
+    ensures cause { IfErr result (λ e. HasPageCause e (C.view scratch.old) (C.view scratch.new)) }
+{
+    let span = find_page(scratch, layout, k)?;
+    read_page(pair, scratch, layout, half, span.low)?;
+    Ok(Place {
+        line: span.first,
+        at: 0,
+        first: span.first,
+        next: span.next,
+        page: span.low,
+    })
+}
+
+/// A place from which line `k` is found on the page that a half holds, if that is its page.
+fn held_start(places: Places, half: Half, k: u64) -> Option<Place>
+    ensures { IfStart (place_of places half) k result }
+{
+    match places.get(half) {
+        Some(place) => start_on(place, k),
+        None => None,
+    }
+}
+
+/// The place itself, or that of its page's first line where line `k` stands before it.
+fn start_on(place: Place, k: u64) -> Option<Place>
+    ensures { IfStart (Some place) k result }
+{
+    if k < place.first || k >= place.next {
+        return None;
+    }
+    if place.line <= k {
+        return Some(place);
+    }
+    Some(Place {
+        line: place.first,
+        at: 0,
+        ..place
+    })
+}
+
+/// The place of line `k`, found from that of a line before it on its page.
+fn walk(pair: &PagePair, half: Half, start: Place, k: u64) -> Result<Place, LineFault>
+    requires low { start.first ≤ start.line }
+    requires place { start.at ≡ place_in (start.line - start.first) (page_of pair.now half) }
+    requires within { start.at ≤ pair.now.size }
+    requires order { start.line ≤ k }
+    ensures line { IfOk result (λ p. p ≡ record { line = k; at = p.at; first = start.first; next = start.next; page = start.page }) }
+    ensures place { IfOk result (λ p. p.at ≡ place_in (k - start.first) (page_of pair.now half)) }
+    ensures within { IfOk result (λ p. p.at + 4 + stated (page_of pair.now half) p.at ≤ pair.now.size) }
+    ensures cause { IfErr result (λ e. IsRecordFault e (k - start.first) (page_of pair.now half)) }
+{
+    let before = start.line - start.first;
+    let at = find_record(pair.page(half), before, start.at, k - start.first)?;
+    Ok(Place {
+        line: k,
+        at,
+        ..start
+    })
+}
+
+/// A place from which line `k` is found, on the page that a half holds or on one that is read into it.
+fn reach<C: Scratch>(
+    pair: &mut PagePair,
+    scratch: &mut C,
+    places: Places,
+    layout: Layout,
+    k: u64,
+    half: Half,
+) -> Result<Place, LineFault>
+    requires held { IsHeld pair.old layout places (C.view scratch.old) }
+    requires low { 1 ≤ k }
+    requires high { k ≤ layout.count }
+    ensures size { pair.new.size ≡ pair.old.size }
+    ensures other { (h : Half) → h ≢ half → page_of pair.new h ≡ page_of pair.old h }
+    ensures place { IfOk result (λ p. IsOnPage pair.new layout (C.view scratch.new) half p) }
+    ensures low { IfOk result (λ p. p.line ≤ k) }
+    ensures high { IfOk result (λ p. k < p.next) }
+    ensures passes { ScratchPasses (C.view scratch.old) (C.view scratch.new) }
+    ensures told { (C.view scratch.new).told ≡ (C.view scratch.old).told }
+    ensures reads { ReadsByDigits layout.pages 1 (C.view scratch.old) (C.view scratch.new) }
+    ensures still { HasPageOf places half k → (C.view scratch.new).reads ≡ (C.view scratch.old).reads }
+    ensures cause { IfErr result (λ e. HasPageCause e (C.view scratch.old) (C.view scratch.new)) }
+{
+    match held_start(places, half, k) {
+        Some(start) => Ok(start),
+        None => open_page(pair, scratch, layout, k, half),
+    }
+}
+
+/// Finds line `k`, on the page that a half holds or on one that is read into it.
+fn find_line<C: Scratch>(
+    pair: &mut PagePair,
+    scratch: &mut C,
+    places: Places,
+    layout: Layout,
+    k: u64,
+    half: Half,
+) -> Result<Place, LineFault>
+    requires held { IsHeld pair.old layout places (C.view scratch.old) }
+    requires low { 1 ≤ k }
+    requires high { k ≤ layout.count }
+    ensures size { pair.new.size ≡ pair.old.size }
+    ensures other { (h : Half) → h ≢ half → page_of pair.new h ≡ page_of pair.old h }
+    ensures loaded { IfOk result (λ p. IsLoaded pair.new layout (C.view scratch.new) half p) }
+    ensures line { IfOk result (λ p. p.line ≡ k) }
+    ensures passes { ScratchPasses (C.view scratch.old) (C.view scratch.new) }
+    ensures told { (C.view scratch.new).told ≡ (C.view scratch.old).told }
+    ensures reads { ReadsByDigits layout.pages 1 (C.view scratch.old) (C.view scratch.new) }
+    ensures still { HasPageOf places half k → (C.view scratch.new).reads ≡ (C.view scratch.old).reads }
+    ensures cause { IfErr result (λ e. HasPageCause e (C.view scratch.old) (C.view scratch.new)) }
+{
+    let start = reach(pair, scratch, places, layout, k, half)?;
+    match walk(pair, half, start, k) {
+        Ok(place) => Ok(place),
+        Err(fault) => Err(fault),
+    }
+}
+
+/// Has a half hold line `k`.
+pub fn load_line<C: Scratch>(
+    pair: &mut PagePair,
+    scratch: &mut C,
+    places: &mut Places,
+    layout: Layout,
+    k: u64,
+    half: Half,
+) -> Result<(), LineFault>
+    requires held { IsHeld pair.old layout places.old (C.view scratch.old) }
+    requires low { 1 ≤ k }
+    requires high { k ≤ layout.count }
+    ensures held { IsHeld pair.new layout places.new (C.view scratch.new) }
+    ensures loaded { OnOk result (line_held places.new half ≡ Some k) }
+    ensures page { OnOk result (HoldsPageOf layout places.new (C.view scratch.new) half k) }
+    ensures dropped { OnErr result (line_held places.new half ≡ None) }
+    ensures other { (h : Half) → h ≢ half → place_of places.new h ≡ place_of places.old h }
+    ensures other_page { (h : Half) → h ≢ half → page_of pair.new h ≡ page_of pair.old h }
+    ensures keeps { Keeps (seen_of layout places.old (C.view scratch.old)) (seen_of layout places.new (C.view scratch.new)) }
+    ensures cause { IfErr result (λ e. HasCause e (seen_of layout places.old (C.view scratch.old)) (seen_of layout places.new (C.view scratch.new))) }
+    ensures reads { ReadsByDigits layout.pages 1 (C.view scratch.old) (C.view scratch.new) }
+    ensures still { HasPageOf places.old half k → (C.view scratch.new).reads ≡ (C.view scratch.old).reads }
+{
+    match find_line(pair, scratch, *places, layout, k, half) {
+        Ok(place) => {
+            places.set(half, Some(place));
+            Ok(())
+        }
+        Err(fault) => {
+            places.set(half, None);
+            Err(fault)
+        }
+    }
+}

@@ -1,0 +1,22 @@
+use Rattle.std.proofs.Common.{◌≡◌, ◌+◌, ◌-◌, ◌≤◌, length, None, sym, ap, subst, ◌∙◌, arith}
+use Rattle.line_list.specs.Lines.{lines}
+use Rattle.line_store.specs.Taking.{first_long}
+use Rattle.file_pieces.specs.Records.{longest}
+use Rattle.file_pieces.proofs.LongLines.{none-long}
+use Rattle.file_pieces.proofs.Measures.{measured-all}
+use Rattle.plan_b.proofs.measuring.measure_layout.Goals as goal
+
+pub returns-clause-lines : goal.returns-clause-lines
+returns-clause-lines g c text told =
+    let now = c.in_ok-now.now in
+    let len : length text ≡ c.args.length = c.requires.stated text told in
+    let end : now.at ≡ c.args.length = c.in_ok-now.ensures.end in
+    let short : now.longest ≤ c.args.pair.now.size - 4 = c.in_ok-now.ensures.sound.short in
+    let page : c.new.result.size ≡ c.args.pair.now.size = c.new.ensures.size ∙ c.size-size.ensures.size in
+    let all = measured-all text now.at now.count now.longest (c.in_ok-now.ensures.measured text told) (omega arith) in
+    let widest : now.longest ≡ longest (lines text) = all.1 in
+    record {
+      counted = c.new.ensures.count ∙ all.0;
+      fits = c.new.ensures.width ∙ ap (λ n. 4 + n) all.1;
+      short = subst (λ n. first_long n (lines text) ≡ None) (sym page) (none-long c.args.pair.now.size (lines text) (omega arith));
+    }
