@@ -1,5 +1,5 @@
 -- The refusal of a text, and of the file patches of the completed text.
-use Rattle.std.proofs.Common.{◌≡◌, ℕ, ◌+◌, ◌≤◌, Bool, true, false, not, ◌&&◌, if◌then◌else◌, List, [], ◌∷◌, ◌++◌, length, Option, None, Some, Result, Ok, Err, refl, sym, ap, subst, ◌∙◌, arith, length-append}
+use Rattle.std.proofs.Common.{◌≡◌, ℕ, ◌+◌, ◌≤◌, Bool, true, false, not, ◌&&◌, if◌then◌else◌, List, [], ◌∷◌, ◌++◌, length, None, Some, Ok, refl, sym, ap, ◌∙◌, arith, length-append}
 use Rattle.std.specs.Prelude.{◌==◌}
 use Rattle.std.proofs.Math.Dec.{eqb-suc-zero}
 use Rattle.line_list.specs.Lines.{lines}
@@ -8,9 +8,8 @@ use Rattle.line_list.specs.Completed.{completed}
 use Rattle.file_patch.specs.PlainPatch.{PlainPatch}
 use Rattle.patch_options.specs.PlainJob.{PlainOptions}
 use Rattle.patch_text.specs.Patches.{patches_of}
-use Rattle.patch_set.specs.declared.fault.SetFault.{SetFault}
 use Rattle.patch_set.specs.declared.fault.SetFault.TheVariants as faults
-use Rattle.patch_set.specs.Refusals.{first_of, garbage, out_many, ed_reverse, reserved, is_too_long, refusal, refusal_of}
+use Rattle.patch_set.specs.Refusals.{first_of, out_many, ed_reverse, reserved, is_too_long, refusal, refusal_of}
 
 one-byte : (v : Bool) → length (feed_if v) ≤ 1
 one-byte true = omega arith

@@ -1,5 +1,5 @@
 -- What is found among file patches, and among what they stand for.
-use Rattle.std.proofs.Common.{◌≡◌, ℕ, Bool, true, false, ◌||◌, cond, List, [], ◌∷◌, map, length, ◌<◌, All, Option, None, Some, option_map, refl, sym, ap, subst, ◌∙◌, arith}
+use Rattle.std.proofs.Common.{◌≡◌, ℕ, Bool, true, false, ◌||◌, cond, List, [], ◌∷◌, map, length, ◌<◌, All, Option, None, Some, option_map, refl, sym, ap, ◌∙◌, arith}
 use Rattle.std.specs.List.{AllByRecursion, find, list_any}
 use Rattle.std.specs.Option.{option_map_or}
 use Rattle.std.proofs.lemmas.List.Elements.{recursion_from_All, All-from_recursion}
@@ -34,7 +34,7 @@ same-script text (Script s) = refl
 
 scripts : (text : List ℕ) (ps : List FilePatch)
     → option_map faults.EdReverse (option_map (λ x. x.header.opening) (find has_script ps))
-      ≡ option_map (λ x. faults.EdReverse x.header.opening) (find (λ x. is_script x.change) (map (patch_of text) ps))
+    ≡ option_map (λ x. faults.EdReverse x.header.opening) (find (λ x. is_script x.change) (map (patch_of text) ps))
 scripts text [] = refl
 scripts text (p ∷ ps) =
     let rest = find (λ x. is_script x.change) (map (patch_of text) ps) in
@@ -58,7 +58,7 @@ same-test o text known output p q is out =
 reserving : (o : PlainOptions) (text : List ℕ) (known : List (List ℕ)) (output : Option Target) (ps qs : List FilePatch)
     → AreNamed o text known ps qs → output ≡ output_of o known
     → option_map faults.Reserved (option_map (λ x. x.header.opening) (find (is_reserving output) qs))
-      ≡ option_map (λ x. faults.Reserved x.header.opening) (find (λ x. has_reserved o known x || reserves_output o known) (map (patch_of text) ps))
+    ≡ option_map (λ x. faults.Reserved x.header.opening) (find (λ x. has_reserved o known x || reserves_output o known) (map (patch_of text) ps))
 reserving o text known output [] [] are out = refl
 reserving o text known output [] (q ∷ qs) are out = absurd are
 reserving o text known output (p ∷ ps) [] are out = absurd are

@@ -1,12 +1,12 @@
 -- Names that are numbered one after another.
-use Rattle.std.proofs.Common.{◌≡◌, ℕ, ◌+◌, ◌<◌, ◌≤◌, ◌^◌, Bool, true, false, ◌&&◌, Option, None, Some, List, [], ◌∷◌, ◌++◌, map, take, length, is_none, refl, sym, ap, subst, ◌∙◌, arith, length-append}
+use Rattle.std.proofs.Common.{◌≡◌, ℕ, ◌+◌, ◌<◌, ◌≤◌, ◌^◌, Bool, true, false, ◌&&◌, Option, None, Some, List, [], ◌∷◌, ◌++◌, map, take, length, is_none, refl, sym, ap, ◌∙◌, arith, length-append}
 use Rattle.std.specs.Prelude.{option_and_then}
 use Rattle.std.specs.Option.{option_to_list}
 use Rattle.std.proofs.lemmas.List.{map-append}
 use Rattle.patch_options.specs.PlainJob.{PlainOptions}
 use Rattle.target_names.specs.declared.derived.Target.{Target}
 use Rattle.target_names.specs.Targets.{target_of}
-use Rattle.target_names.specs.Numbered.{number_in, with_name, joined_by, distinct}
+use Rattle.target_names.specs.Numbered.{with_name, joined_by, distinct}
 use Rattle.target_names.proofs.Names.{numbers-stay, with-among}
 use Rattle.file_patch.specs.PlainPatch.{PlainHeader}
 use Rattle.target_names.specs.Candidates.{candidate, candidates, header_candidate, header_names}
@@ -51,7 +51,7 @@ pub targets-more : (o : PlainOptions) (known names : List (List ℕ)) (targets :
 targets-more o known names targets name t are is = record {
   are = λ others.
       let before : targets ≡ map (target_in o (joined_by (with_name known name) others)) names =
-          are.are (name ∷ others) ∙ ap (λ k. map (target_in o k) names) (joined-first known name others) in
+      are.are (name ∷ others) ∙ ap (λ k. map (target_in o k) names) (joined-first known name others) in
       let last : t ≡ target_in o (joined_by (with_name known name) others) name = is ∙ sym (target-stays o known others name) in
       ap (λ l. l ++ t ∷ []) before ∙ ap (λ u. map (target_in o (joined_by (with_name known name) others)) names ++ u ∷ []) last
       ∙ sym (map-append (target_in o (joined_by (with_name known name) others)) names (name ∷ []));

@@ -1,20 +1,18 @@
 -- File patches with their targets.
-use Rattle.std.proofs.Common.{◌≡◌, ℕ, suc, ◌+◌, ◌<◌, ◌^◌, Bool, true, false, ◌||◌, List, [], ◌∷◌, ◌++◌, map, length, sum_by, All, Option, None, Some, option_map, refl, sym, ap, subst, ◌∙◌, arith}
-use Rattle.std.specs.List.{AllByRecursion, find, list_any}
+use Rattle.std.proofs.Common.{◌≡◌, ℕ, suc, ◌+◌, ◌<◌, ◌^◌, List, [], ◌∷◌, ◌++◌, map, length, All, refl, sym, ap, subst, ◌∙◌}
+use Rattle.std.specs.List.{AllByRecursion}
 use Rattle.std.proofs.lemmas.List.{length-map}
 use Rattle.std.proofs.lemmas.List.Sums.{sum_by-cons}
 use Rattle.std.proofs.lemmas.List.Elements.{recursion_from_All, All-from_recursion}
 use Rattle.hunk_core.specs.declared.Side.{Side}
 use Rattle.hunk_core.specs.declared.Side.TheVariants.{Forward, Reversed}
 use Rattle.hunk_core.specs.PlainHunk.{hunk_of}
-use Rattle.patch_header.specs.declared.header.Header.{Header}
 use Rattle.file_patch.specs.declared.Change.{Change}
 use Rattle.file_patch.specs.declared.Change.TheVariants.{Hunks, Script}
 use Rattle.file_patch.specs.declared.FilePatch.{FilePatch}
-use Rattle.file_patch.specs.PlainPatch.{PlainPatch, header_of, change_of, patch_of, hunk_count, row_count, IsLawfulChange}
+use Rattle.file_patch.specs.PlainPatch.{header_of, change_of, patch_of, hunk_count, row_count, IsLawfulChange}
 use Rattle.file_patch.specs.Absent.{told_absent, is_absent, IsLawfulPatch}
 use Rattle.patch_options.specs.PlainJob.{PlainOptions}
-use Rattle.target_names.specs.Targets.{is_reserved, HasTemps}
 use Rattle.target_names.specs.Numbered.{joined_by}
 use Rattle.patch_set.specs.Named.{names_of, targets_of}
 use Rattle.patch_set.specs.Naming.{IsNamed, AreNamed}

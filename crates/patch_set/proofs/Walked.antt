@@ -1,6 +1,5 @@
 -- File patches that are named one after another.
-use Rattle.std.proofs.Common.{◌≡◌, ℕ, ◌+◌, ◌<◌, List, [], ◌∷◌, ◌++◌, map, take, drop, length, get_or, set, refl, sym, ap, subst, ◌∙◌, arith}
-use Rattle.std.specs.List.{flat_map}
+use Rattle.std.proofs.Common.{◌≡◌, ℕ, ◌+◌, ◌<◌, List, [], ◌∷◌, ◌++◌, map, take, drop, length, get_or, set, sym, ap, ◌∙◌, arith}
 use Rattle.std.proofs.lemmas.List.{map-append, flat_map_more, take_more, take_more_set, drop-set-lt, drop-drop, get_or-drop, append-nil, take_all}
 use Rattle.std.proofs.Math.Seq.{drop-length}
 use Rattle.file_patch.specs.declared.FilePatch.{FilePatch}
@@ -36,11 +35,11 @@ pub walked-more : (o : PlainOptions) (text : List ℕ) (first known later : List
 walked-more o text first known later i ps qs p q w same lt here is one =
     let names = patch_names o (map (patch_of text) (take i ps)) in
     let there : p ≡ get_or ps i p =
-        here ∙ sym (at-front i qs p) ∙ ap (λ l. get_or l 0 p) w.rest ∙ at-front i ps p in
+    here ∙ sym (at-front i qs p) ∙ ap (λ l. get_or l 0 p) w.rest ∙ at-front i ps p in
     let more : take (i + 1) ps ≡ take i ps ++ p ∷ [] = take_more ps i p lt ∙ ap (λ r. take i ps ++ r ∷ []) (sym there) in
     let all : later ≡ joined_by first (patch_names o (map (patch_of text) (take i ps ++ p ∷ []))) =
-        is ∙ ap (λ k. joined_by k (names_of o (header_of text p.header))) w.joined ∙ sym (joined-append first names (names_of o (header_of text p.header)))
-        ∙ ap (joined_by first) (sym (one-more o text (take i ps) p)) in
+    is ∙ ap (λ k. joined_by k (names_of o (header_of text p.header))) w.joined ∙ sym (joined-append first names (names_of o (header_of text p.header)))
+    ∙ ap (joined_by first) (sym (one-more o text (take i ps) p)) in
     record {
       joined = rw more all;
       named = rw (more, take_more_set qs i q (omega arith)) (names-more o text known later (take i ps) (take i qs) p q w.named is one);

@@ -1,5 +1,5 @@
 -- What is looked for among the file patches themselves.
-use Rattle.std.specs.Prelude.{Bool, true, false, ◌||◌, List, Option}
+use Rattle.std.specs.Prelude.{Bool, true, false, ◌||◌, Option}
 use Rattle.std.specs.List.{list_any}
 use Rattle.std.specs.Option.{option_map_or}
 use Rattle.file_patch.specs.declared.Change.{Change}

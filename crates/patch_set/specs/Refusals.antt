@@ -1,5 +1,5 @@
 -- Why a patch text makes no set: the first of the refusals that applies.
-use Rattle.std.specs.Prelude.{◌≡◌, ℕ, Bool, true, false, ◌&&◌, ◌==◌, not, if◌then◌else◌, List, [], ◌∷◌, length, nat_lt, ◌||◌, Option, None, Some, option_map, is_some, Result, Ok, Err}
+use Rattle.std.specs.Prelude.{ℕ, Bool, true, false, ◌&&◌, ◌==◌, not, if◌then◌else◌, List, [], ◌∷◌, length, nat_lt, ◌||◌, Option, None, Some, option_map, is_some, Result, Ok, Err}
 use Rattle.std.specs.List.{find, list_any}
 use Rattle.std.specs.Option.{option_map_or}
 use Rattle.line_list.specs.Completed.{completed}
@@ -8,7 +8,6 @@ use Rattle.hunk_core.specs.declared.fault.FormFault.TheVariants as forms
 use Rattle.hunk_core.specs.Reading.{Fault}
 use Rattle.file_patch.specs.PlainPatch.{PlainChange, PlainPatch, hunks, script}
 use Rattle.patch_options.specs.PlainJob.{PlainOptions}
-use Rattle.target_names.specs.declared.derived.Target.{Target}
 use Rattle.target_names.specs.Targets.{is_reserved}
 use Rattle.patch_text.specs.Patches.{patches_of}
 use Rattle.patch_set.specs.declared.fault.SetFault.{SetFault}

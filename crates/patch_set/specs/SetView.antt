@@ -1,5 +1,5 @@
 -- What a set of file patches is seen as, and what one that was read is.
-use Rattle.std.specs.Prelude.{◌≡◌, ℕ, ◌<◌, ◌^◌, List, [], length, map, replicate, set, sum_by, All, Bool, false, Option, None, Result, Ok, Err, ◌⊎◌}
+use Rattle.std.specs.Prelude.{◌≡◌, ℕ, ◌<◌, ◌^◌, List, length, map, replicate, set, sum_by, All, false, Option, None, Result, Ok, Err, ◌⊎◌}
 use Rattle.std.specs.Option.{ForSome}
 use Rattle.line_list.specs.Completed.{completed}
 use Rattle.hunk_core.specs.declared.Side.TheVariants.{Forward}

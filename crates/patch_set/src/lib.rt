@@ -2,6 +2,7 @@
 #![tactic(auto)]
 
 mod fault;
+mod laws;
 mod names;
 mod reading;
 mod refusals;
@@ -9,9 +10,10 @@ mod set;
 
 pub use fault::SetFault;
 pub use file_patch::{Change, FilePatch};
+pub use laws::{numbers_tell_targets_apart, what_was_read_stays};
 pub use reading::read_set;
 pub use set::{PatchSet, Row};
 pub use target_names::Target;
 
-// #[cfg(test)]
-// mod tests;
+#[cfg(test)]
+mod tests;

@@ -40,13 +40,7 @@ pub fn name_all(
 {
     let mut patches = patches;
     let mut numbers = Numbers::new(alloc);
-    name_patches(
-        alloc,
-        text,
-        options,
-        &mut numbers,
-        patches.as_mut_slice(),
-    )?;
+    name_patches(alloc, text, options, &mut numbers, patches.as_mut_slice())?;
     let output = name_output(alloc, options, &mut numbers)?;
     Ok(Named { patches, output })
 }

@@ -8,10 +8,10 @@ ghost use Rattle.patch_set.specs.Spans.{ArePlaced};
 ghost use Rattle.patch_set.specs.Refusals.{refusal, refusal_of, reserved};
 ghost use Rattle.patch_set.specs.SetView.{IsRead, IsSetOf, IsFresh, IsWhole, Meets, hunks_in};
 
+use crate::SetFault;
 use crate::names::name_all;
 use crate::refusals::{refused, reserved};
 use crate::set::{PatchSet, untried};
-use crate::SetFault;
 use file_patch::FilePatch;
 use line_list::lacks_last_feed;
 use patch_options::Options;

@@ -75,7 +75,8 @@ impl PatchSet {
     /// What was done with a file patch, counted from 0.
     pub fn row(&self, patch: u32) -> Row
         requires { patch < length self.now.patches }
-        ensures { result ≡ slice_index_or self.now.rows patch result }
+        ensures row { result ≡ slice_index_or self.now.rows patch result }
+        ensures within { patch < length self.now.rows }
     {
         self.rows[patch as usize]
     }

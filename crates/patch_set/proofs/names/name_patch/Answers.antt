@@ -1,4 +1,4 @@
-use Rattle.std.proofs.Common.{◌≡◌, ◌<◌, ◌^◌, length, map, refl, sym, ap, ◌∙◌, arith}
+use Rattle.std.proofs.Common.{◌≡◌, length, map, refl, ap, ◌∙◌, arith}
 use Rattle.std.proofs.lemmas.List.{length-map}
 use Rattle.file_patch.specs.PlainPatch.{header_of}
 use Rattle.patch_options.specs.PlainJob.{plain_options}
@@ -14,7 +14,7 @@ returns-clause-named c = λ others.
     let h = header_of c.args.text.now c.args.patch.now.header in
     let names = c.deref.ensures.value ∙ c.in_ok-names.ensures.names in
     let targets : c.in_ok-patch.field-0.items ≡ targets_of o known h =
-        c.in_ok-patch.ensures.targets others ∙ ap (λ ns. map (target_in o known) ns) names in
+    c.in_ok-patch.ensures.targets others ∙ ap (λ ns. map (target_in o known) ns) names in
     record {
       header = refl;
       span = refl;

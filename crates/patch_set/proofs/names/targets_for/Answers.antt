@@ -1,12 +1,12 @@
-use Rattle.std.proofs.Common.{◌≡◌, ◌+◌, ◌<◌, ◌∷◌, ◌++◌, [], List, ℕ, take, length, All, refl, sym, ap, subst, ◌∙◌, arith, rules}
-use Rattle.std.proofs.lemmas.List.{take_more, get_or_read_under}
+use Rattle.std.proofs.Common.{◌≡◌, ◌+◌, ◌∷◌, ◌++◌, [], List, take, All, sym, ap, subst, ◌∙◌, arith}
+use Rattle.std.proofs.lemmas.List.{take_more}
 use Rattle.std.proofs.lemmas.List.Elements.{All-push}
 use Rattle.patch_options.specs.PlainJob.{plain_options}
 use Rattle.target_names.specs.declared.derived.Target.{Target}
-use Rattle.target_names.specs.Numbered.{joined_by, with_name}
+use Rattle.target_names.specs.Numbered.{with_name}
 use Rattle.target_names.specs.Targets.{HasTemps}
 use Rattle.patch_set.specs.Named.{target_in}
-use Rattle.patch_set.proofs.Joined.{AreTargets, joined-nil, known-more, targets-more}
+use Rattle.patch_set.proofs.Joined.{joined-nil, known-more, targets-more}
 use Rattle.patch_set.proofs.names.targets_for.Goals as goal
 
 none-yet : (ts : List Target) → ts ≡ [] → All HasTemps ts
@@ -26,7 +26,7 @@ loop-name-preserved c =
     let t = c.in_ok-target.field-0 in
     let o = plain_options c.args.options.now in
     let more : take (i + 1) c.args.names.now ≡ take i c.args.names.now ++ name ∷ [] =
-        take_more c.args.names.now i name (omega arith) ∙ ap (λ n. take i c.args.names.now ++ n ∷ []) (sym c.name-item.is) in
+    take_more c.args.names.now i name (omega arith) ∙ ap (λ n. take i c.args.names.now ++ n ∷ []) (sym c.name-item.is) in
     let pushed : c.push.new.self.items ≡ c.loop-name.targets.items ++ t ∷ [] = c.in_ok-push.ensures.items in
     let one = c.in_ok-target.ensures.known in
     let is : t ≡ target_in o (with_name c.loop-name.numbers name) name = c.in_ok-target.ensures.target ∙ ap (λ k. target_in o k name) one in

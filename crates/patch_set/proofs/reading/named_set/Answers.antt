@@ -1,4 +1,4 @@
-use Rattle.std.proofs.Common.{◌≡◌, None, Some, inr}
+use Rattle.std.proofs.Common.{None, Some, inr}
 use Rattle.patch_options.specs.PlainJob.{plain_options}
 use Rattle.patch_set.proofs.Made.{have-targets, kept, made-set, told-reserved}
 use Rattle.patch_set.proofs.reading.named_set.Goals as goal

@@ -1,4 +1,4 @@
-use Rattle.std.proofs.Common.{◌≡◌, ◌∙◌, Ok, sym, subst, ap, map, length, arith}
+use Rattle.std.proofs.Common.{◌≡◌, Ok, subst, ap, map, length, arith}
 use Rattle.std.proofs.lemmas.Bool.{le-ltb}
 use Rattle.file_patch.specs.PlainPatch.{patch_of}
 use Rattle.patch_options.specs.PlainJob.{plain_options}
@@ -18,7 +18,7 @@ returns-clause-refused c =
     let o = plain_options c.args.options.now in
     let ps = map (patch_of text) c.in_ok-patches.patches.items in
     let read : patches_of o.only text ≡ Ok ps =
-        subst (λ t. patches_of o.only t ≡ Ok (map (patch_of t) c.in_ok-patches.patches.items)) c.deref.ensures.value c.in_ok-patches.ensures.exact in
+    subst (λ t. patches_of o.only t ≡ Ok (map (patch_of t) c.in_ok-patches.patches.items)) c.deref.ensures.value c.in_ok-patches.ensures.exact in
     subst (λ r. Meets r c.set_of.result)
     (read-refusal o c.args.text.items text ps (le-ltb 268435456 (length c.args.text.items) (omega arith)) c.in_ok-text.ensures read) c.set_of.ensures.refused
 

@@ -1,4 +1,4 @@
-use Rattle.std.proofs.Common.{◌≡◌, ◌+◌, ◌<◌, [], take, sym, ap, ◌∙◌, arith}
+use Rattle.std.proofs.Common.{◌+◌, [], take, sym, ap, ◌∙◌, arith}
 use Rattle.std.proofs.lemmas.List.Sums.{sum_by_more}
 use Rattle.file_patch.specs.PlainPatch.{row_count}
 use Rattle.patch_set.specs.SetView.{hunks_in}

@@ -1,0 +1,24 @@
+//! Laws of the numbers of targets, and of a set while its rows and verdicts change.
+ghost use Rattle.std.specs.Prelude.{◌≡◌, ◌↔◌, ◌++◌, ℕ, List, true};
+ghost use Rattle.std.specs.Option.{option_to_list};
+ghost use Rattle.hunk_core.specs.declared.Verdict.{Verdict};
+ghost use Rattle.file_patch.specs.PlainPatch.{PlainPatch};
+ghost use Rattle.patch_options.specs.PlainJob.{PlainOptions};
+ghost use Rattle.target_names.specs.Numbered.{is_among};
+ghost use Rattle.patch_set.specs.declared.set.Row.{Row};
+ghost use Rattle.patch_set.specs.Named.{known_names, patch_names, target_in};
+ghost use Rattle.patch_set.specs.SetView.{SetView, IsRead, with_row, with_verdicts};
+
+/// Two targets of a run, the output's among them, have the same number exactly where their names are equal.
+pub fn numbers_tell_targets_apart()
+    ensures { (o : PlainOptions) (ps : List PlainPatch) (one other : List ℕ)
+        → is_among (patch_names o ps ++ option_to_list o.output) one ≡ true
+        → ((target_in o (known_names o ps) one).number ≡ (target_in o (known_names o ps) other).number)
+        ↔ ((target_in o (known_names o ps) one).name ≡ (target_in o (known_names o ps) other).name) }
+{}
+
+/// What was read stays whatever is noted of the file patches and their hunks.
+pub fn what_was_read_stays()
+    ensures rows { (o : PlainOptions) (given : List ℕ) (v : SetView) (patch : ℕ) (row : Row) → IsRead o given v → IsRead o given (with_row v patch row) }
+    ensures verdicts { (o : PlainOptions) (given : List ℕ) (v : SetView) (verdicts : List Verdict) → IsRead o given v → IsRead o given (with_verdicts v verdicts) }
+{}
