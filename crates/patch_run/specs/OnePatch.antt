@@ -1,6 +1,7 @@
 -- What one file patch says and does, step by step (POSIX `patch`; GNU patch manual, "Invoking patch").
-use Rattle.std.specs.Prelude.{ℕ, ◌+◌, List, [], ◌∷◌, ◌++◌, length, drop, map, replicate, count_by, slice_index_or, Bool, true, false, not, ◌&&◌, ◌||◌, ◌==◌, nat_lt, if◌then◌else◌, bytes_eq, Option, None, Some, is_some, is_none, unwrap_or, ℤ, pos, ◌+ℤ◌}
+use Rattle.std.specs.Prelude.{ℕ, ◌+◌, List, [], ◌∷◌, ◌++◌, length, drop, map, replicate, count_by, slice_index_or, Bool, true, false, not, ◌&&◌, ◌||◌, nat_lt, if◌then◌else◌, bytes_eq, Option, None, Some, is_some, is_none, unwrap_or, option_map, slice_get, ℤ, pos, ◌+ℤ◌}
 use Rattle.std.specs.List.{list_any, flat_map, slice_split}
+use Rattle.std.specs.Option.{option_or, option_and_then}
 use Rattle.std.specs.FinMap.{get}
 use Rattle.line_list.specs.Lines.{lines}
 use Rattle.outside.specs.Files.{Files, bytes_at}
@@ -13,12 +14,13 @@ use Rattle.hunk_core.specs.declared.Verdict.{Verdict}
 use Rattle.hunk_core.specs.declared.Verdict.TheVariants.{Untried, Ignored, Nowhere, At}
 use Rattle.hunk_core.specs.PlainHunk.{PlainHunk}
 use Rattle.hunk_core.specs.Turned.{turned, other_side, base}
-use Rattle.hunk_place.specs.Verdicts.{adds, drops, looks_reversed}
+use Rattle.hunk_place.specs.Verdicts.{looks_reversed}
 use Rattle.line_store.specs.declared.fault.OpenFault.{OpenFault}
 use Rattle.line_store.specs.Taking.{refusal}
 use Rattle.patch_header.specs.Values.{is_white}
 use Rattle.patch_options.specs.PlainJob.{PlainOptions}
 use Rattle.target_names.specs.declared.derived.Target.{Target}
+use Rattle.patch_set.specs.declared.set.Row.{Row}
 use Rattle.file_patch.specs.PlainPatch.{PlainChange, PlainPatch, hunks, script, hunk_count}
 use Rattle.file_patch.specs.Absent.{creates, deletes}
 use Rattle.name_choice.specs.declared.Choice.{Choice}
@@ -37,214 +39,83 @@ pub record Item : Type 0 where
   pub patch : PlainPatch
   pub targets : List Target
 
--- the run so far: the names that were made or taken away as targets, and each reject text with its file's name
-pub record Past : Type 0 where
-  pub written : List (List ℕ)
-  pub rejected : List (List ℕ × List ℕ)
+-- what later file patches ask of one: the name that it made or took away as its target, and its reject text with the name of that file
+pub record Mark : Type 0 where
+  pub written : Option (List ℕ)
+  pub rejected : Option (List ℕ × List ℕ)
+
+-- a file patch whose turn it is: the output of the options, if they name one, and the marks of the file patches in front of it
+pub record PlainTurn : Type 0 where
+  pub options : PlainOptions
+  pub output : Option Target
+  pub item : Item
+  pub past : List Mark
+
+-- how a file patch is taken, once this was said: it is skipped, and what its row holds; or its file isn't taken; or its hunks are tried from a side
+pub data Start : Type 0 where
+  skips : List ℕ → Row → Option (List ℕ) → Start
+  refuses : List ℕ → OpenFault → Start
+  tries : List ℕ → ℕ → Side → Start
 
 -- what a file patch says and does
 pub record Story : Type 0 where
   pub said : List ℕ
-  -- the name whose temporary is taken away, whether or not the name itself is put
-  pub cleared : Option (List ℕ)
   pub effects : List Effect
+  -- the name whose temporary is gone afterwards, whether or not the name itself was put
+  pub cleared : Option (List ℕ)
   pub verdicts : List Verdict
-  pub side : Side
-  pub target : Option ℕ
-  pub wrote : Bool
+  pub row : Row
   -- a hunk failed or was ignored, or a file that was to be deleted wasn't
   pub is_bad : Bool
   -- the bytes of the file that the plan took
   pub taken : Option (List ℕ)
-  pub past : Past
 
 -- it came to its end; or the file isn't taken, once this was said
 pub data Ending : Type 0 where
   ended : Story → Ending
   stopped : List ℕ → OpenFault → Ending
 
--- what is known of a file patch once its name is chosen
-pub record Chosen : Type 0 where
-  pub place : ℕ
-  -- the target that is read, and the one that is written
-  pub read : Target
-  pub written : Target
-  -- the bytes of the file that is read, where it is there
-  pub bytes : Option (List ℕ)
+-- ---- names
 
--- the name as messages show it
+abbrev pub no_target : Target
+no_target = record { number = 0; shown_from = 0; name = []; temp = []; backup = []; backup_temp = []; reject = []; reject_temp = [] }
+
+abbrev pub target_at : List Target → ℕ → Target
+target_at targets k = slice_index_or targets k no_target
+
+-- the target that is written: the output, or the chosen one
+abbrev pub written : PlainTurn → ℕ → Target
+written t place = unwrap_or t.output (target_at t.item.targets place)
+
+-- the same of a file patch whose turn was before, which may have chosen none
+abbrev pub written_by : PlainTurn → Row → Option Target
+written_by t r = option_or t.output (option_and_then (slice_get t.item.targets) r.target)
+
+-- the bytes of the chosen file, where it is there
+abbrev pub bytes_of : PlainTurn → Files → ℕ → Option (List ℕ)
+bytes_of t files place = get files (target_at t.item.targets place).name
+
+-- a name as messages show it
 abbrev pub shown : Target → List ℕ
 shown t = drop t.shown_from t.name
 
 abbrev pub shown_reject : Target → List ℕ
 shown_reject t = drop t.shown_from t.reject
 
--- what is said where nothing silences it
-abbrev pub total : Item → ℕ
-total i = hunk_count i.patch.change
+abbrev pub total : PlainTurn → ℕ
+total t = hunk_count t.item.patch.change
 
--- all hunks are ignored
-abbrev pub skipped : Item → Past → Side → Option ℕ → Option (List ℕ) → List ℕ → Ending
-skipped i past side target taken said = ended (record {
-  said = said ++ ignored_line (total i);
-  cleared = None;
-  effects = [];
-  verdicts = replicate (total i) Ignored;
-  side = side;
-  target = target;
-  wrote = false;
-  is_bad = true;
-  taken = taken;
-  past = past;
-})
+-- ---- how a file patch is taken
 
--- ---- what is said of the hunks
+-- this was said first
+abbrev pub said_first : List ℕ → Start → Start
+said_first text (skips said row taken) = skips (text ++ said) row taken
+said_first text (refuses said fault) = refuses (text ++ said) fault
+said_first text (tries said place side) = tries (text ++ said) place side
 
--- how a placed hunk and a failed one are told of; its number counts from 1
-abbrev pub hunk_said : PlainOptions → ℕ → ℤ → PlainHunk → Verdict → List ℕ
-hunk_said o number moved h Untried = []
-hunk_said o number moved h Ignored = []
-hunk_said o number moved h Nowhere = silenced o (failed_line number (pos (base h) +ℤ moved))
-hunk_said o number moved h (At line fuzz offset) = silenced o (placed_text o.verbose number (pos line +ℤ moved) fuzz offset)
-
--- the net lines that the hunks in front of each one added move what is said of it
-unfoldable pub hunks_said : PlainOptions → List (PlainHunk × Verdict) → List (PlainHunk × Verdict) → List ℕ
-hunks_said o before [] = []
-hunks_said o before (row ∷ rows) = hunk_said o (length before + 1) (net before) row.0 row.1 ++ hunks_said o (before ++ row ∷ []) rows
-
-abbrev pub script_said : PlainOptions → ℕ → Verdict → List ℕ
-script_said o address Untried = []
-script_said o address Ignored = []
-script_said o address Nowhere = silenced o (failed_line 1 (pos address))
-script_said o address (At line fuzz offset) = silenced o (placed_text o.verbose 1 (pos line) fuzz offset)
-
-abbrev pub first_verdict : List Verdict → Verdict
-first_verdict [] = Ignored
-first_verdict (v ∷ vs) = v
-
-abbrev pub change_said : PlainOptions → Side → PlainChange → List Verdict → List ℕ
-change_said o side (hunks hs) vs = hunks_said o [] (rows_of side hs vs)
-change_said o side (script es) vs = script_said o (first_address es) (first_verdict vs)
-
--- ---- the effects
-
-abbrev pub is_script : PlainChange → Bool
-is_script (hunks hs) = false
-is_script (script es) = true
-
--- rejects are unified for a unified patch, else context, unless the options say
-abbrev pub own_reject_form : Form → Form
-own_reject_form Unified = Unified
-own_reject_form Context = Context
-own_reject_form Normal = Context
-own_reject_form Ed = Context
-
-abbrev pub reject_form : PlainOptions → Form → Form
-reject_form o form = unwrap_or o.reject_form (own_reject_form form)
-
--- the lines of the file, and what came of the change on them
-pub record Tried : Type 0 where
-  pub side : Side
-  pub verdicts : List Verdict
-  pub output : List ℕ
-
-abbrev pub tried : PlainOptions → Item → Side → List (List ℕ) → Tried
-tried o i side ls = record {
-  side = side;
-  verdicts = change_verdicts ls o.fuzz o.loose side i.patch.change;
-  output = change_output ls o.fuzz o.loose side i.patch.change;
-}
-
-abbrev pub failed : Tried → ℕ
-failed t = count_by is_failed t.verdicts
-
-abbrev pub some_placed : Tried → Bool
-some_placed t = nat_lt 0 (count_by is_placed t.verdicts)
-
-abbrev pub some_failed : Tried → Bool
-some_failed t = nat_lt 0 (failed t)
-
--- with `-b` always, else where a hunk failed or stands elsewhere than it says; once for each name (GNU patch manual, "Backups")
-abbrev pub is_backup_due : PlainOptions → Past → Target → Tried → Bool
-is_backup_due o past w t = not (list_any (bytes_eq w.name) past.written) && not (bytes_eq w.backup w.name)
-    && (o.backup || (o.mismatch_backup && is_none o.output && list_any is_inexact t.verdicts))
-
-abbrev pub backup_effects : PlainOptions → Past → Files → Target → Tried → List Effect
-backup_effects o past files w t = if is_backup_due o past w t then Put w.backup (bytes_at files w.name) ∷ [] else []
-
--- an output without a byte is no file, where the file patch deletes its file or `-E` was given (GNU patch manual, "Creating and Removing Files")
-abbrev pub is_removal : PlainOptions → Item → Tried → Bool
-is_removal o i t = is_nothing t.output && is_none o.output && (deletes t.side i.patch || o.remove_empty)
-
--- taking away a name that isn't there is no effect
-abbrev pub target_effects : PlainOptions → Item → Files → Target → Tried → List Effect
-target_effects o i files w t = if is_removal o i t then (if is_some (get files w.name) then Remove w.name ∷ [] else []) else Put w.name t.output ∷ []
-
--- nothing is written where no hunk was placed
-abbrev pub written_effects : PlainOptions → Item → Past → Files → Target → Tried → List Effect
-written_effects o i past files w t = if some_placed t then backup_effects o past files w t ++ target_effects o i files w t else []
-
-abbrev pub own_reject : PlainOptions → Item → Target → Tried → List ℕ
-own_reject o i w t = reject_text (hunks_in i.patch.change) t.verdicts t.side (shown w) (reject_form o i.patch.header.form)
-
--- the reject texts so far of this name
-abbrev pub text_if : List ℕ → List ℕ × List ℕ → List ℕ
-text_if name r = if bytes_eq name r.0 then r.1 else []
-
-abbrev pub rejected_before : Past → List ℕ → List ℕ
-rejected_before past name = flat_map (text_if name) past.rejected
-
-abbrev pub has_rejects : Item → Tried → Bool
-has_rejects i t = some_failed t && not (is_script i.patch.change)
-
-abbrev pub reject_effects : PlainOptions → Item → Past → Target → Tried → List Effect
-reject_effects o i past w t = if has_rejects i t then Put w.reject (rejected_before past w.reject ++ own_reject o i w t) ∷ [] else []
-
--- in a dry run there is none
-abbrev pub effects_of : PlainOptions → Item → Past → Files → Target → Tried → List Effect
-effects_of o i past files w t = if o.dry_run then [] else written_effects o i past files w t ++ reject_effects o i past w t
-
--- the target was made or taken away
-abbrev pub has_target_effect : PlainOptions → Item → Files → Target → Tried → Bool
-has_target_effect o i files w t = not o.dry_run && some_placed t && (not (is_removal o i t) || is_some (get files w.name))
-
-abbrev pub past_after : PlainOptions → Item → Past → Files → Target → Tried → Past
-past_after o i past files w t = record {
-  written = if has_target_effect o i files w t then past.written ++ w.name ∷ [] else past.written;
-  rejected = if has_rejects i t && not o.dry_run then past.rejected ++ (w.reject, own_reject o i w t) ∷ [] else past.rejected;
-}
-
--- ---- the end of a file patch that was tried
-
--- a file that was to be deleted has bytes left
-abbrev pub is_kept : Item → Tried → Bool
-is_kept i t = deletes t.side i.patch && some_placed t && not (is_nothing t.output)
-
-abbrev pub kept_said : Item → Target → Tried → List ℕ
-kept_said i w t = if is_kept i t then not_deleting_line (shown w) else []
-
--- the file of the rejects is named where it is written
-abbrev pub named_reject : PlainOptions → Item → Target → Option (List ℕ)
-named_reject o i w = if o.dry_run || is_script i.patch.change then None else Some (shown_reject w)
-
-abbrev pub failures_said : PlainOptions → Item → Target → Tried → List ℕ
-failures_said o i w t = if some_failed t then failures_line (failed t) (total i) (named_reject o i w) else []
-
-abbrev pub finished : PlainOptions → Item → Past → Files → Chosen → List ℕ → Tried → Ending
-finished o i past files c said t = ended (record {
-  said = said ++ (change_said o t.side i.patch.change t.verdicts ++ (kept_said i c.written t ++ failures_said o i c.written t));
-  cleared = if o.dry_run then None else Some c.written.name;
-  effects = effects_of o i past files c.written t;
-  verdicts = t.verdicts;
-  side = t.side;
-  target = Some c.place;
-  wrote = has_target_effect o i files c.written t;
-  is_bad = some_failed t || is_kept i t;
-  taken = c.bytes;
-  past = past_after o i past files c.written t;
-})
-
--- ---- the steps before the hunks are placed
+-- skipped once a name was chosen
+abbrev pub skips_at : List ℕ → ℕ → Side → Option (List ℕ) → Start
+skips_at said place side taken = skips said (record { side = side; target = Some place; wrote = false }) taken
 
 abbrev pub lines_in : Option (List ℕ) → List (List ℕ)
 lines_in None = []
@@ -264,78 +135,269 @@ is_reversed o ls side (Some h) = looks_reversed ls o.fuzz o.loose (turned side h
 abbrev pub turns : PlainOptions → Bool
 turns o = o.batch && not o.forward
 
--- the hunks are placed; one that looks reversed is turned round, or skipped; with `-f`, or once turned round, it isn't asked
-abbrev pub on_direction : PlainOptions → Item → Past → Files → Chosen → Bool → Side → List ℕ → Ending
-on_direction o i past files c was_turned side said =
-    if o.force || was_turned || not (is_reversed o (lines_in c.bytes) side (first_hunk i.patch.change))
-    then finished o i past files c said (tried o i side (lines_in c.bytes))
-    else if turns o
-    then finished o i past files c (said ++ silenced o (reversed_line true)) (tried o i (other_side side) (lines_in c.bytes))
-    else skipped i past side (Some c.place) c.bytes (said ++ silenced o (reversed_line false))
+-- its hunks are tried; where the first looks reversed it is turned round, or skipped; with `-f`, or once turned round, that isn't asked
+abbrev pub on_direction : PlainTurn → ℕ → Option (List ℕ) → Bool → Side → Start
+on_direction t place bytes was_turned side =
+    if t.options.force || was_turned || not (is_reversed t.options (lines_in bytes) side (first_hunk t.item.patch.change)) then tries [] place side
+    else if turns t.options then tries (silenced t.options (reversed_line true)) place (other_side side)
+    else skips_at (silenced t.options (reversed_line false)) place side bytes
 
--- some run of bytes between white space is the word
-abbrev pub has_word : List ℕ → List ℕ → Bool
-has_word word bytes = list_any (bytes_eq word) (slice_split is_white bytes)
+-- some run of bytes between white space is the word; a line feed is white space, so a run lies in one line
+abbrev pub line_has_word : List ℕ → List ℕ → Bool
+line_has_word word line = list_any (bytes_eq word) (slice_split is_white line)
+
+abbrev pub has_word : List ℕ → List (List ℕ) → Bool
+has_word word ls = list_any (line_has_word word) ls
 
 -- a file that is there lacks the word of the `Prereq:` line
 abbrev pub lacks_word : Option (List ℕ) → Option (List ℕ) → Bool
 lacks_word None bytes = false
 lacks_word (Some word) None = false
-lacks_word (Some word) (Some bytes) = not (has_word word bytes)
+lacks_word (Some word) (Some bytes) = not (has_word word (lines bytes))
 
-abbrev pub on_prereq : PlainOptions → Item → Past → Files → Chosen → Bool → Side → List ℕ → Ending
-on_prereq o i past files c was_turned side said =
-    if not (lacks_word i.patch.header.prereq c.bytes) then on_direction o i past files c was_turned side said
-    else if o.force then on_direction o i past files c was_turned side (said ++ silenced o (prereq_line true (unwrap_or i.patch.header.prereq [])))
-    else skipped i past side (Some c.place) c.bytes (said ++ silenced o (prereq_line false (unwrap_or i.patch.header.prereq [])))
+abbrev pub prereq_said : PlainTurn → List ℕ
+prereq_said t = silenced t.options (prereq_line t.options.force (unwrap_or t.item.patch.header.prereq []))
+
+abbrev pub on_prereq : PlainTurn → ℕ → Option (List ℕ) → Bool → Side → Start
+on_prereq t place bytes was_turned side =
+    if not (lacks_word t.item.patch.header.prereq bytes) then on_direction t place bytes was_turned side
+    else if t.options.force then said_first (prereq_said t) (on_direction t place bytes was_turned side)
+    else skips_at (prereq_said t) place side bytes
 
 -- the file is taken, if it is there and its lines fit the buffer
-abbrev pub refusal_of : PlainOptions → Option (List ℕ) → Option OpenFault
-refusal_of o None = None
-refusal_of o (Some bytes) = refusal o.buffer bytes
+abbrev pub refusal_of : ℕ → Option (List ℕ) → Option OpenFault
+refusal_of size None = None
+refusal_of size (Some bytes) = refusal size bytes
 
-abbrev pub taken_or : Option OpenFault → List ℕ → Ending → Ending
-taken_or None said later = later
-taken_or (Some fault) said later = stopped said fault
+abbrev pub refused_or : Option OpenFault → Start → Start
+refused_or None later = later
+refused_or (Some fault) later = refuses [] fault
 
-abbrev pub on_taking : PlainOptions → Item → Past → Files → Chosen → Bool → Side → List ℕ → Ending
-on_taking o i past files c was_turned side said = taken_or (refusal_of o c.bytes) said (on_prereq o i past files c was_turned side said)
+abbrev pub on_taking : PlainTurn → ℕ → Option (List ℕ) → Bool → Side → Start
+on_taking t place bytes was_turned side = refused_or (refusal_of t.options.buffer bytes) (on_prereq t place bytes was_turned side)
 
--- the file patch makes a file that is there and has bytes
+-- the file is there and has bytes
 abbrev pub has_bytes : Option (List ℕ) → Bool
 has_bytes None = false
 has_bytes (Some bytes) = not (is_nothing bytes)
 
-abbrev pub on_creation : PlainOptions → Item → Past → Files → Chosen → Side → List ℕ → Ending
-on_creation o i past files c side said =
-    if not (creates side i.patch && has_bytes c.bytes) || o.force then on_taking o i past files c false side said
-    else if turns o then on_taking o i past files c true (other_side side) (said ++ silenced o (exists_line (shown c.written) true))
-    else skipped i past side (Some c.place) None (said ++ silenced o (exists_line (shown c.written) false))
+abbrev pub exists_said : PlainTurn → ℕ → Bool → List ℕ
+exists_said t place is_turned = silenced t.options (exists_line (shown (written t place)) is_turned)
+
+-- it would be made by the file patch, which is turned round, or skipped
+abbrev pub on_existing : PlainTurn → ℕ → Option (List ℕ) → Side → Start
+on_existing t place bytes side =
+    if turns t.options then said_first (exists_said t place true) (on_taking t place bytes true (other_side side))
+    else skips_at (exists_said t place false) place side None
+
+-- with `-f` that isn't asked
+abbrev pub on_creation : PlainTurn → ℕ → Option (List ℕ) → Side → Start
+on_creation t place bytes side =
+    if not (creates side t.item.patch && has_bytes bytes) || t.options.force then on_taking t place bytes false side
+    else on_existing t place bytes side
 
 -- the line that names the file
-abbrev pub shown_output : Option Target → Option (List ℕ)
-shown_output None = None
-shown_output (Some t) = Some (shown t)
+abbrev pub patching_said : PlainTurn → ℕ → List ℕ
+patching_said t place = silenced t.options (patching_line t.options.dry_run t.options.output (shown (target_at t.item.targets place)))
 
-abbrev pub patching_said : PlainOptions → Option Target → Target → List ℕ
-patching_said o output read = silenced o (patching_line o.dry_run (shown_output output) (shown read))
+abbrev pub on_target : PlainTurn → ℕ → Option (List ℕ) → Start
+on_target t place bytes = said_first (patching_said t place) (on_creation t place bytes (side_of t.options.reverse))
 
-abbrev pub on_target : PlainOptions → Option Target → Item → Past → Files → ℕ → Target → Ending
-on_target o output i past files place read = on_creation o i past files
-    (record { place = place; read = read; written = unwrap_or output read; bytes = get files read.name })
-    (side_of o.reverse) (patching_said o output read)
+abbrev pub on_choice : PlainTurn → Files → Choice → Start
+on_choice t files (Existing k) = on_target t k (bytes_of t files k)
+on_choice t files (Create k) = on_target t k (bytes_of t files k)
+on_choice t files Nothing = skips (no_file_lines t.item.patch.header.opening) (record { side = side_of t.options.reverse; target = None; wrote = false }) None
 
-abbrev pub no_target : Target
-no_target = record { number = 0; shown_from = 0; name = []; temp = []; backup = []; backup_temp = []; reject = []; reject_temp = [] }
+abbrev pub choice_of : PlainTurn → Files → Choice
+choice_of t files = choice (names_of t.item.targets) (is_some t.options.file) (creates (side_of t.options.reverse) t.item.patch) files
 
-abbrev pub target_at : List Target → ℕ → Target
-target_at targets k = slice_index_or targets k no_target
+unfoldable pub start : PlainTurn → Files → Start
+start t files = on_choice t files (choice_of t files)
 
-abbrev pub on_choice : PlainOptions → Option Target → Item → Past → Files → Choice → Ending
-on_choice o output i past files (Existing k) = on_target o output i past files k (target_at i.targets k)
-on_choice o output i past files (Create k) = on_target o output i past files k (target_at i.targets k)
-on_choice o output i past files Nothing = skipped i past (side_of o.reverse) None None (no_file_lines i.patch.header.opening)
+-- ---- what came of the hunks
 
--- what a file patch says and does on these files, behind what the run did so far
-unfoldable pub story : PlainOptions → Option Target → Item → Past → Files → Ending
-story o output i past files = on_choice o output i past files (choice (names_of i.targets) (is_some o.file) (creates (side_of o.reverse) i.patch) files)
+pub record Tried : Type 0 where
+  pub side : Side
+  pub verdicts : List Verdict
+  pub output : List ℕ
+
+abbrev pub tried : PlainTurn → Side → List (List ℕ) → Tried
+tried t side ls = record {
+  side = side;
+  verdicts = change_verdicts ls t.options.fuzz t.options.loose side t.item.patch.change;
+  output = change_output ls t.options.fuzz t.options.loose side t.item.patch.change;
+}
+
+abbrev pub failed : List Verdict → ℕ
+failed vs = count_by is_failed vs
+
+abbrev pub some_placed : List Verdict → Bool
+some_placed vs = nat_lt 0 (count_by is_placed vs)
+
+abbrev pub some_failed : List Verdict → Bool
+some_failed vs = nat_lt 0 (failed vs)
+
+-- how a placed hunk and a failed one are told of; its number counts from 1
+abbrev pub hunk_said : PlainOptions → ℕ → ℤ → PlainHunk → Verdict → List ℕ
+hunk_said o number moved h Untried = []
+hunk_said o number moved h Ignored = []
+hunk_said o number moved h Nowhere = silenced o (failed_line number (pos (base h) +ℤ moved))
+hunk_said o number moved h (At line fuzz offset) = silenced o (placed_text o.verbose number (pos line +ℤ moved) fuzz offset)
+
+-- the net lines that the hunks in front of each one added move what is said of it
+unfoldable pub hunks_said : PlainOptions → List (PlainHunk × Verdict) → List (PlainHunk × Verdict) → List ℕ
+hunks_said o before [] = []
+hunks_said o before (row ∷ rows) = hunk_said o (length before + 1) (net before) row.0 row.1 ++ hunks_said o (before ++ row ∷ []) rows
+
+abbrev pub script_said : PlainOptions → ℕ → List Verdict → List ℕ
+script_said o address [] = []
+script_said o address (Untried ∷ vs) = []
+script_said o address (Ignored ∷ vs) = []
+script_said o address (Nowhere ∷ vs) = silenced o (failed_line 1 (pos address))
+script_said o address (At line fuzz offset ∷ vs) = silenced o (placed_text o.verbose 1 (pos line) fuzz offset)
+
+abbrev pub change_said : PlainOptions → Side → PlainChange → List Verdict → List ℕ
+change_said o side (hunks hs) vs = hunks_said o [] (rows_of side hs vs)
+change_said o side (script es) vs = script_said o (first_address es) vs
+
+abbrev pub is_script : PlainChange → Bool
+is_script (hunks hs) = false
+is_script (script es) = true
+
+-- a file that was to be deleted has bytes left
+abbrev pub is_kept : PlainTurn → Tried → Bool
+is_kept t x = deletes x.side t.item.patch && some_placed x.verdicts && not (is_nothing x.output)
+
+abbrev pub kept_said : PlainTurn → Target → Tried → List ℕ
+kept_said t w x = if is_kept t x then not_deleting_line (shown w) else []
+
+-- the file of the rejects is named where it is written
+abbrev pub named_reject : PlainTurn → Target → Option (List ℕ)
+named_reject t w = if t.options.dry_run || is_script t.item.patch.change then None else Some (shown_reject w)
+
+abbrev pub failures_said : PlainTurn → Target → Tried → List ℕ
+failures_said t w x = if some_failed x.verdicts then failures_line (failed x.verdicts) (total t) (named_reject t w) else []
+
+-- what is said once the hunks were tried
+unfoldable pub tried_said : PlainTurn → Target → Tried → List ℕ
+tried_said t w x = change_said t.options x.side t.item.patch.change x.verdicts ++ (kept_said t w x ++ failures_said t w x)
+
+-- ---- marks
+
+-- rejects are unified for a unified patch, else context, unless the options say
+abbrev pub own_reject_form : Form → Form
+own_reject_form Unified = Unified
+own_reject_form Context = Context
+own_reject_form Normal = Context
+own_reject_form Ed = Context
+
+abbrev pub reject_form : PlainTurn → Form
+reject_form t = unwrap_or t.options.reject_form (own_reject_form t.item.patch.header.form)
+
+abbrev pub has_rejects : PlainTurn → List Verdict → Bool
+has_rejects t vs = some_failed vs && not (is_script t.item.patch.change)
+
+abbrev pub own_reject : PlainTurn → Target → Side → List Verdict → List ℕ
+own_reject t w side vs = reject_text (hunks_in t.item.patch.change) vs side (shown w) (reject_form t)
+
+-- the mark of a file patch, by its row and its verdicts; in a dry run nothing is written
+unfoldable pub mark_of : PlainTurn → Row → List Verdict → Mark
+mark_of t r vs = record {
+  written = if r.wrote then option_map (λ w. w.name) (written_by t r) else None;
+  rejected = if has_rejects t vs && not t.options.dry_run then option_map (λ w. (w.reject, own_reject t w r.side vs)) (written_by t r) else None;
+}
+
+abbrev pub is_name : List ℕ → Option (List ℕ) → Bool
+is_name name None = false
+is_name name (Some other) = bytes_eq name other
+
+-- an earlier file patch made or took away this name as its target
+abbrev pub was_written : List Mark → List ℕ → Bool
+was_written past name = list_any (λ m. is_name name m.written) past
+
+abbrev pub text_if : List ℕ → Option (List ℕ × List ℕ) → List ℕ
+text_if name None = []
+text_if name (Some r) = if bytes_eq name r.0 then r.1 else []
+
+-- the reject texts so far of this name
+unfoldable pub rejected_before : List Mark → List ℕ → List ℕ
+rejected_before past name = flat_map (λ m. text_if name m.rejected) past
+
+-- ---- the effects
+
+-- with `-b` always, else where a hunk failed or stands elsewhere than it says; once for each name (GNU patch manual, "Backups")
+abbrev pub is_backup_due : PlainTurn → Target → List Verdict → Bool
+is_backup_due t w vs = not (was_written t.past w.name) && not (bytes_eq w.backup w.name)
+    && (t.options.backup || (t.options.mismatch_backup && is_none t.options.output && list_any is_inexact vs))
+
+-- a file is put where that is due
+abbrev pub put_if : Bool → List ℕ → List ℕ → List Effect
+put_if due name bytes = if due then Put name bytes ∷ [] else []
+
+abbrev pub backup_effects : Bool → Files → Target → List Effect
+backup_effects due files w = put_if due w.backup (bytes_at files w.name)
+
+-- an output without a byte is no file, where the file patch deletes its file or `-E` was given (GNU patch manual, "Creating and Removing Files")
+abbrev pub is_removal : PlainTurn → Tried → Bool
+is_removal t x = is_nothing x.output && is_none t.options.output && (deletes x.side t.item.patch || t.options.remove_empty)
+
+-- taking away a name that isn't there is no effect
+abbrev pub target_effects : Bool → Files → Target → List ℕ → List Effect
+target_effects removal files w output = if removal then (if is_some (get files w.name) then Remove w.name ∷ [] else []) else Put w.name output ∷ []
+
+-- nothing is written where no hunk was placed
+abbrev pub written_effects : PlainTurn → Files → Target → Tried → List Effect
+written_effects t files w x = if some_placed x.verdicts
+    then backup_effects (is_backup_due t w x.verdicts) files w ++ target_effects (is_removal t x) files w x.output
+    else []
+
+abbrev pub rejects_text : PlainTurn → Target → Side → List Verdict → List ℕ
+rejects_text t w side vs = rejected_before t.past w.reject ++ own_reject t w side vs
+
+abbrev pub reject_effects : PlainTurn → Target → Tried → List Effect
+reject_effects t w x = put_if (has_rejects t x.verdicts) w.reject (rejects_text t w x.side x.verdicts)
+
+-- in a dry run there is none
+unfoldable pub effects_of : PlainTurn → Files → Target → Tried → List Effect
+effects_of t files w x = if t.options.dry_run then [] else written_effects t files w x ++ reject_effects t w x
+
+-- the target was made or taken away
+unfoldable pub wrote : PlainTurn → Files → Target → Tried → Bool
+wrote t files w x = not t.options.dry_run && some_placed x.verdicts && (not (is_removal t x) || is_some (get files w.name))
+
+-- ---- the whole story
+
+-- all hunks are ignored
+abbrev pub skipped : PlainTurn → List ℕ → Row → Option (List ℕ) → Story
+skipped t said row taken = record {
+  said = said ++ ignored_line (total t);
+  effects = [];
+  cleared = None;
+  verdicts = replicate (total t) Ignored;
+  row = row;
+  is_bad = true;
+  taken = taken;
+}
+
+abbrev pub finished : PlainTurn → Files → List ℕ → ℕ → Option (List ℕ) → Target → Tried → Story
+finished t files said place bytes w x = record {
+  said = said ++ tried_said t w x;
+  effects = effects_of t files w x;
+  cleared = if t.options.dry_run then None else Some w.name;
+  verdicts = x.verdicts;
+  row = record { side = x.side; target = Some place; wrote = wrote t files w x };
+  is_bad = some_failed x.verdicts || is_kept t x;
+  taken = bytes;
+}
+
+abbrev pub finished_at : PlainTurn → Files → List ℕ → ℕ → Side → Story
+finished_at t files said place side = finished t files said place (bytes_of t files place) (written t place) (tried t side (lines_in (bytes_of t files place)))
+
+abbrev pub ending_of : PlainTurn → Files → Start → Ending
+ending_of t files (skips said row taken) = ended (skipped t said row taken)
+ending_of t files (refuses said fault) = stopped said fault
+ending_of t files (tries said place side) = ended (finished_at t files said place side)
+
+-- what a file patch says and does on these files
+unfoldable pub ending : PlainTurn → Files → Ending
+ending t files = ending_of t files (start t files)

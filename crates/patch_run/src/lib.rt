@@ -1,7 +1,26 @@
-//! What one run of `patch` does with the file patches of a set: its definition, and the choices that
-//! don't touch a device.
+//! What one run of `patch` does with the file patches of a set.
 #![tactic(auto)]
 
+mod applied;
+mod apply;
 mod choices;
+mod discard;
+mod effects;
+mod fault;
+mod fill;
+mod names;
+mod past;
+mod rejects;
+mod set;
+mod starting;
+mod tell;
+mod turn;
+mod weighing;
+mod word;
 
-pub use choices::{shown, turns};
+pub use applied::Applied;
+pub use fault::RunFault;
+pub use set::apply_set;
+
+#[cfg(test)]
+mod tests;

@@ -11,6 +11,7 @@ mod set;
 pub use fault::SetFault;
 pub use file_patch::{Change, FilePatch};
 pub use laws::{numbers_tell_targets_apart, what_was_read_stays};
+pub use names::bytes_in;
 pub use reading::read_set;
 pub use set::{PatchSet, Row};
 pub use target_names::Target;

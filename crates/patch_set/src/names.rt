@@ -143,15 +143,15 @@ fn names_of(
         None => candidates(
             alloc,
             options.strip,
-            piece(text, header.old_name),
-            piece(text, header.new_name),
-            piece(text, header.index),
+            bytes_in(text, header.old_name),
+            bytes_in(text, header.new_name),
+            bytes_in(text, header.index),
         ),
     }
 }
 
 /// The bytes of a span, as far as it lies in the text.
-fn piece(text: &[u8], span: Option<Span>) -> Option<&[u8]>
+pub fn bytes_in(text: &[u8], span: Option<Span>) -> Option<&[u8]>
     ensures { option_copied result ≡ bytes_in text.now span }
 {
     let span = span?;

@@ -5,7 +5,7 @@ mod header;
 mod moving;
 mod rejects;
 
-pub use moving::nets_in_words;
+pub use moving::{nets_in_words, placed_growth};
 pub use rejects::put_reject;
 
 #[cfg(test)]

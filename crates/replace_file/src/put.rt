@@ -23,7 +23,7 @@ fn put_bytes<T: Tree>(tree: &mut T, temp: &Name, to: &Name, bytes: &[u8]) -> Res
     put_begun(tree, begun, to)
 }
 
-// Puts what a temporary holds at a name.
+/// Puts what a temporary holds at a name, whole at every moment.
 pub fn put_begun<T: Tree>(tree: &mut T, begun: Temp<'_>, to: &Name) -> Result<(), Failed>
     requires there { IsThere (T.view tree.old) begun.name.now }
     requires lasting { is_temp to.now ≡ false }

@@ -1,0 +1,209 @@
+-- How far a file patch, and a run, has come.
+use Rattle.std.specs.Prelude.{◌≡◌, ◌≢◌, ◌⊎◌, ℕ, List, [], ◌∷◌, ◌++◌, length, map, replicate, Bool, true, false, Option, None, Some, Result, Ok, Err, OnOk, IfOk, IfErr}
+use Rattle.std.specs.List.{fold, flat_map}
+use Rattle.outside.specs.Files.{Files}
+use Rattle.outside.specs.TreeView.{TreeView, Passes}
+use Rattle.outside.specs.SinkView.{SinkView, SinkPasses, Receives, ReceivesPart}
+use Rattle.outside.specs.Quiet.{IsQuiet, Effect, HasMade, TellsPrefix, LeavesPrefix}
+use Rattle.hunk_core.specs.declared.Verdict.{Verdict}
+use Rattle.line_store.specs.Store.{Seen}
+use Rattle.line_store.specs.Taking.{KeepsPlan}
+use Rattle.line_store.specs.declared.fault.OpenFault.{OpenFault}
+use Rattle.line_store.specs.declared.fault.OpenFault.TheVariants as open_fault
+use Rattle.patch_run.specs.declared.fault.RunFault.{RunFault}
+use Rattle.patch_run.specs.declared.fault.RunFault.TheVariants.{Tree, Write, Scratch, LongLine, FileTooLong, Disagree, Memory}
+use Rattle.std.specs.FinMap.{get}
+use Rattle.outside.specs.TreeView as tree
+use Rattle.outside.specs.SinkView as sink
+use Rattle.outside.specs.Quiet.{Holds, after_all}
+use Rattle.hunk_core.specs.declared.Side.{Side}
+use Rattle.hunk_apply.specs.declared.Session.{Session}
+use Rattle.target_names.specs.declared.derived.Target.{Target}
+use Rattle.patch_run.specs.declared.apply.Done.{Done}
+use Rattle.patch_run.specs.declared.effects.Made.{Made}
+use Rattle.patch_run.specs.Trying.{IsSession}
+use Rattle.patch_run.specs.Making.{IsGone}
+use Rattle.patch_run.specs.OnePatch.{PlainTurn, Tried, Story, Ending, ended, stopped, effects_of, tried_said, wrote}
+use Rattle.hunk_core.specs.declared.Verdict.TheVariants.{Ignored}
+use Rattle.hunk_apply.specs.Change.{change_verdicts}
+use Rattle.patch_options.specs.PlainJob.{PlainOptions}
+use Rattle.file_patch.specs.declared.FilePatch.{FilePatch}
+use Rattle.file_patch.specs.PlainPatch.{change_of, row_count}
+use Rattle.patch_set.specs.declared.set.Row.{Row}
+use Rattle.patch_set.specs.SetView.{SetView}
+use Rattle.patch_run.specs.Applied.{Receipt}
+use Rattle.patch_run.specs.Ready.{rows_in}
+use Rattle.patch_run.specs.Run.{Run, files_after}
+use Rattle.patch_run.specs.Devices.{Told, HasRunCause, scratch_with}
+
+-- what stays of the three devices over any part of a run, and what a fault says of them
+pub record Stays {R : Type 0} (u w : TreeView) (a b : Seen) (c d : SinkView) (result : Result R RunFault) : Type 0 where
+  pub tree : Passes u w
+  pub plan : KeepsPlan a b
+  pub sink : SinkPasses c d
+  pub cause : IfErr result (λ e. HasRunCause e u w a b c d)
+
+-- a first part of the effects and of the text
+pub record IsPartOf (u w : TreeView) (c d : SinkView) (es : List Effect) (text : List ℕ) : Type 0 where
+  pub tells : TellsPrefix u w es
+  pub leaves : LeavesPrefix u w es
+  pub said : ReceivesPart c d text
+
+-- effects made whole and a text said whole; reads give these files now
+pub record IsWholeOf (u w : TreeView) (c d : SinkView) (es : List Effect) (text : List ℕ) (files : Files) : Type 0 where
+  pub made : HasMade u w es
+  pub said : Receives c d text
+  pub files : w.told ≡ Some files
+
+-- ---- one file patch
+
+abbrev pub effects_in : Ending → List Effect
+effects_in (ended s) = s.effects
+effects_in (stopped said fault) = []
+
+abbrev pub said_of : Ending → List ℕ
+said_of (ended s) = s.said
+said_of (stopped said fault) = said
+
+-- what was done is what the story says
+pub record IsToldBy (s : Story) (done : Done) (verdicts : List Verdict) : Type 0 where
+  pub row : done.row ≡ s.row
+  pub bad : done.is_bad ≡ s.is_bad
+  pub effects : done.effects ≡ length s.effects
+  pub verdicts : verdicts ≡ s.verdicts
+
+-- what was done is this story, from those files on
+pub record IsDone (u w : TreeView) (c d : SinkView) (done : Done) (verdicts : List Verdict) (f : Files) (s : Story) : Type 0 where
+  pub told : IsToldBy s done verdicts
+  pub whole : IsWholeOf u w c d s.effects s.said (files_after s f)
+
+-- the file patch came to its end
+pub record IsEnded (u w : TreeView) (b : Seen) (c d : SinkView) (scratch : Option (List ℕ) → Option (List ℕ)) (done : Done) (verdicts : List Verdict) (f : Files) (e : Ending) : Type 0 where
+  pub story : Story
+  pub is : e ≡ ended story
+  pub done : IsDone u w c d done verdicts f story
+  pub scratch : b.scratch ≡ scratch story.taken
+
+-- its file isn't taken, and all that is said of it was said; or it was broken off
+abbrev pub IsStopped : TreeView → TreeView → SinkView → SinkView → Files → Ending → OpenFault → Type 0
+IsStopped u w c d f e fault = (e ≡ stopped (said_of e) fault) × IsWholeOf u w c d [] (said_of e) f
+
+abbrev pub IsBroken : RunFault → TreeView → TreeView → SinkView → SinkView → Files → Ending → Type 0
+IsBroken Tree u w c d f e = IsPartOf u w c d (effects_in e) (said_of e)
+IsBroken Write u w c d f e = IsPartOf u w c d (effects_in e) (said_of e)
+IsBroken Scratch u w c d f e = IsPartOf u w c d (effects_in e) (said_of e)
+IsBroken (LongLine line length) u w c d f e = IsStopped u w c d f e (open_fault.LongLine line length)
+IsBroken (FileTooLong length) u w c d f e = IsStopped u w c d f e (open_fault.FileTooLong length)
+IsBroken (Disagree want got) u w c d f e = IsPartOf u w c d (effects_in e) (said_of e)
+IsBroken Memory u w c d f e = IsPartOf u w c d (effects_in e) (said_of e)
+
+-- after an end, and after a file that isn't taken, the tree is quiet
+abbrev pub QuietAfter : {R : Type 0} → Result R RunFault → TreeView → Type 0
+QuietAfter (Ok x) w = IsQuiet w
+QuietAfter (Err Tree) w = Unit {0}
+QuietAfter (Err Write) w = Unit {0}
+QuietAfter (Err Scratch) w = Unit {0}
+QuietAfter (Err (LongLine line length)) w = IsQuiet w
+QuietAfter (Err (FileTooLong length)) w = IsQuiet w
+QuietAfter (Err (Disagree want got)) w = Unit {0}
+QuietAfter (Err Memory) w = Unit {0}
+
+-- one file patch
+pub record Does (u w : TreeView) (a b : Seen) (c d : SinkView) (scratch_after : ℕ → List ℕ → Option (List ℕ) → Option (List ℕ)) (result : Result Done RunFault) (verdicts : List Verdict) (ending : Files → Ending) : Type 0 where
+  pub stays : Stays u w a b c d result
+  pub quiet : QuietAfter result w
+  pub whole : IfOk result (λ done. (f : Files) → Told u a f → IsEnded u w b c d (λ taken. scratch_with scratch_after a.size taken a.scratch) done verdicts f (ending f))
+  pub broken : IfErr result (λ e. (f : Files) → Told u a f → IsBroken e u w c d f (ending f))
+
+-- ---- the end of a file patch whose hunks were tried
+
+-- a fault that no definition has
+abbrev pub IsDeviceFault : RunFault → Type 0
+IsDeviceFault Tree = Unit {0}
+IsDeviceFault Write = Unit {0}
+IsDeviceFault Scratch = Unit {0}
+IsDeviceFault (LongLine line length) = ⊥
+IsDeviceFault (FileTooLong length) = ⊥
+IsDeviceFault (Disagree want got) = Unit {0}
+IsDeviceFault Memory = ⊥
+
+-- a fault of the tree or the sink alone
+abbrev pub HasEndCause : RunFault → TreeView → TreeView → SinkView → SinkView → Type 0
+HasEndCause Tree u w c d = tree.Rises u w
+HasEndCause Write u w c d = sink.Rises c d
+HasEndCause Scratch u w c d = ⊥
+HasEndCause (LongLine line length) u w c d = ⊥
+HasEndCause (FileTooLong length) u w c d = ⊥
+HasEndCause (Disagree want got) u w c d = ⊥
+HasEndCause Memory u w c d = ⊥
+
+-- what came of the hunks is told by these counts and verdicts, and the temporary holds the output, but in a dry run
+pub record IsOutcome (dry : Bool) (u : TreeView) (session : Session) (temp : List ℕ) (side : Side) (verdicts : List Verdict) (x : Tried) : Type 0 where
+  pub side : x.side ≡ side
+  pub verdicts : x.verdicts ≡ verdicts
+  pub session : IsSession session x.verdicts x.output
+  pub holds : dry ≡ false → Holds u temp x.output
+
+-- all is said, the effects are made whole, and what was done is what they are; the temporary is gone, but in a dry run
+pub record IsMadeWhole (t : PlainTurn) (f : Files) (target : Target) (x : Tried) (done : Made) (u w : TreeView) (c d : SinkView) : Type 0 where
+  pub made : HasMade u w (effects_of t f target x)
+  pub said : Receives c d (tried_said t target x)
+  pub exact : (g : Files) → w.told ≡ Some g → (q : List ℕ) → q ≢ target.temp → get g q ≡ get (after_all (effects_of t f target x) f) q
+  pub gone : t.options.dry_run ≡ false → IsGone w target.temp
+  pub same : t.options.dry_run ≡ true → w.told ≡ Some f
+  pub wrote : done.wrote ≡ wrote t f target x
+  pub effects : done.effects ≡ length (effects_of t f target x)
+
+-- ---- a run
+
+-- the run came so far: its effects are made whole, its text is said, and reads give its files
+abbrev pub IsFar : TreeView → TreeView → SinkView → SinkView → Run → Type 0
+IsFar u w c d r = IsWholeOf u w c d r.effects r.said r.files
+
+-- the run ends so
+abbrev pub IsHalted : TreeView → TreeView → SinkView → SinkView → Run → OpenFault → Type 0
+IsHalted u w c d r fault = (r.stop ≡ Some fault) × IsFar u w c d r
+
+abbrev pub IsCutOff : RunFault → TreeView → TreeView → SinkView → SinkView → Run → Type 0
+IsCutOff Tree u w c d r = IsPartOf u w c d r.effects r.said
+IsCutOff Write u w c d r = IsPartOf u w c d r.effects r.said
+IsCutOff Scratch u w c d r = IsPartOf u w c d r.effects r.said
+IsCutOff (LongLine line length) u w c d r = IsHalted u w c d r (open_fault.LongLine line length)
+IsCutOff (FileTooLong length) u w c d r = IsHalted u w c d r (open_fault.FileTooLong length)
+IsCutOff (Disagree want got) u w c d r = IsPartOf u w c d r.effects r.said
+IsCutOff Memory u w c d r = IsPartOf u w c d r.effects r.said
+
+-- what the scratch holds once these files were taken, one after another
+abbrev pub scratch_behind : (ℕ → List ℕ → Option (List ℕ) → Option (List ℕ)) → ℕ → Option (List ℕ) → List (List ℕ) → Option (List ℕ)
+scratch_behind scratch_after size before taken = fold (λ scratch bytes. scratch_after size bytes scratch) before taken
+
+-- a whole run: its effects, text and files on `Ok` and where a file isn't taken; a first part of them after any other fault
+pub record Runs {R : Type 0} (u w : TreeView) (a b : Seen) (c d : SinkView) (scratch_after : ℕ → List ℕ → Option (List ℕ) → Option (List ℕ)) (result : Result R RunFault) (run : Files → Run) : Type 0 where
+  pub stays : Stays u w a b c d result
+  pub quiet : QuietAfter result w
+  pub whole : OnOk result ((f : Files) → Told u a f → IsFar u w c d (run f))
+  pub going : OnOk result ((f : Files) → Told u a f → (run f).stop ≡ None)
+  pub scratch : OnOk result ((f : Files) → Told u a f → b.scratch ≡ scratch_behind scratch_after a.size a.scratch (run f).taken)
+  pub cut : IfErr result (λ e. (f : Files) → Told u a f → IsCutOff e u w c d (run f))
+  -- a crash at any moment since the run began leaves a first part of its effects
+  pub moments : (f : Files) → Told u a f → LeavesPrefix u w (run f).effects
+
+-- the verdicts and the rows that a run leaves, and its receipt
+pub record IsReceipt (r : Run) (done : Receipt) (count : ℕ) (verdicts : List Verdict) (rows : List Row) : Type 0 where
+  pub receipt : done ≡ record { is_bad = r.is_bad; done = count; effects = length r.effects }
+  pub verdicts : verdicts ≡ flat_map (λ s. s.verdicts) r.stories
+  pub rows : rows ≡ map (λ s. s.row) r.stories
+
+-- what is read of a set stays, and it holds as many verdicts
+pub record StaysSet (old new : SetView) : Type 0 where
+  pub text : new.text ≡ old.text
+  pub patches : new.patches ≡ old.patches
+  pub output : new.output ≡ old.output
+
+-- the verdicts of a file patch are those of these lines, or all its hunks are ignored
+abbrev pub IsPlacedOn : PlainOptions → List ℕ → FilePatch → List Verdict → Row → List (List ℕ) → Type 0
+IsPlacedOn o text p verdicts r lines = (rows_in verdicts p ≡ replicate (row_count p.change) Ignored) ⊎ (rows_in verdicts p ≡ change_verdicts lines o.fuzz o.loose r.side (change_of text p.change))
+
+-- so are those of the last file patch
+abbrev pub IsPlacedLast : PlainOptions → SetView → List Verdict → List (List ℕ) → Type 0
+IsPlacedLast o v verdicts lines = (p : FilePatch) (r : Row) (front : List FilePatch) (rows : List Row) → v.patches ≡ front ++ p ∷ [] → v.rows ≡ rows ++ r ∷ [] → IsPlacedOn o v.text p verdicts r lines

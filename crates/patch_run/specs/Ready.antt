@@ -1,0 +1,74 @@
+-- What a file patch needs before its turn comes.
+use Rattle.std.specs.Prelude.{◌≡◌, ◌⊎◌, ℕ, suc, ◌+◌, ◌<◌, ◌≤◌, ◌^◌, List, [], ◌∷◌, length, map, take, drop, get_or, All}
+use Rattle.std.specs.List.{zip}
+use Rattle.std.specs.Option.{ForSome}
+use Rattle.outside.specs.Files.{temp_of}
+use Rattle.hunk_core.specs.declared.Verdict.{Verdict}
+use Rattle.patch_options.specs.PlainJob.{PlainOptions, HasContext}
+use Rattle.target_names.specs.declared.derived.Target.{Target}
+use Rattle.target_names.specs.Targets.{HasTemps, IsLasting}
+use Rattle.file_patch.specs.declared.FilePatch.{FilePatch}
+use Rattle.file_patch.specs.PlainPatch.{row_count}
+use Rattle.file_patch.specs.Absent.{IsLawfulPatch}
+use Rattle.patch_set.specs.declared.set.Row.{Row}
+use Rattle.patch_set.specs.SetView.{SetView}
+use Rattle.patch_run.specs.OnePatch.{Mark, PlainTurn, mark_of}
+use Rattle.patch_run.specs.Run.{item_of}
+
+-- a component of the name begins there
+abbrev pub BeginsComponent : List ℕ → ℕ → Type 0
+BeginsComponent name from = (from ≡ 0) ⊎ ((k : ℕ) × (from ≡ suc k) × (k < length name) × (get_or name k 0 ≡ 47))
+
+-- its names are apart from those of temporaries, which are formed from them, and what messages leave off is a directory
+pub record IsNamed (t : Target) : Type 0 where
+  pub temps : HasTemps t
+  pub lasting : IsLasting t
+  pub temp : t.temp ≡ temp_of t.name
+  pub backup_temp : t.backup_temp ≡ temp_of t.backup
+  pub reject_temp : t.reject_temp ≡ temp_of t.reject
+  pub shown : BeginsComponent t.name t.shown_from
+  pub shown_reject : BeginsComponent t.reject t.shown_from
+
+-- the verdicts on the hunks of a file patch
+abbrev pub rows_in : List Verdict → FilePatch → List Verdict
+rows_in verdicts p = take (row_count p.change) (drop p.first_verdict verdicts)
+
+-- a file patch of a set, with its targets
+pub record IsFit (text : List ℕ) (p : FilePatch) : Type 0 where
+  pub lawful : IsLawfulPatch text p
+  pub few : length p.targets.items < 2 ^ 32
+  pub named : All IsNamed p.targets.items
+  pub hunks : row_count p.change < 2 ^ 32
+
+-- the turn of a file patch without what was before it
+abbrev pub alone : PlainOptions → SetView → FilePatch → PlainTurn
+alone o v p = record { options = o; output = v.output; item = item_of v.text p; past = [] }
+
+-- the mark that a file patch has by its row and its verdicts
+abbrev pub mark_in : PlainOptions → SetView → List Verdict → FilePatch × Row → Mark
+mark_in o v verdicts x = mark_of (alone o v x.0) x.1 (rows_in verdicts x.0)
+
+-- the marks of the first file patches of a set, so many of them
+unfoldable pub marks : PlainOptions → SetView → ℕ → List Verdict → List Mark
+marks o v count verdicts = map (mark_in o v verdicts) (zip (take count v.patches) v.rows)
+
+-- the verdicts of the first file patches of a set are there
+abbrev pub HasVerdicts : SetView → ℕ → List Verdict → Type 0
+HasVerdicts v count verdicts = All (λ p. p.first_verdict + row_count p.change ≤ length verdicts) (take count v.patches)
+
+-- a set whose file patches are carried out with these options
+pub record IsReady (o : PlainOptions) (v : SetView) : Type 0 where
+  pub patches : All (IsFit v.text) v.patches
+  pub output : ForSome v.output IsNamed
+  pub reject_form : ForSome o.reject_form HasContext
+  pub rows : length v.rows ≡ length v.patches
+  pub count : length v.patches < 2 ^ 32
+
+-- each file patch has its verdicts behind those of the one before it
+abbrev pub AreNumbered : ℕ → List FilePatch → Type 0
+AreNumbered before [] = Unit {0}
+AreNumbered before (p ∷ ps) = (p.first_verdict ≡ before) × AreNumbered (before + row_count p.change) ps
+
+-- a file patch whose turn it is in a set, so many having had theirs
+abbrev pub turn_at : PlainOptions → SetView → ℕ → List Verdict → FilePatch → PlainTurn
+turn_at o v count verdicts p = record { options = o; output = v.output; item = item_of v.text p; past = marks o v count verdicts }

@@ -1,0 +1,14 @@
+-- A file patch whose turn it is, as a run sees it.
+use Rattle.patch_options.specs.PlainJob.{plain_options}
+use Rattle.patch_run.specs.declared.turn.Turn.{Turn}
+use Rattle.patch_run.specs.OnePatch.{PlainTurn}
+use Rattle.patch_run.specs.Run.{item_of}
+use Rattle.patch_run.specs.Ready.{marks}
+
+abbrev pub plain_turn : Turn → PlainTurn
+plain_turn t = record {
+  options = plain_options t.options.now;
+  output = t.set.now.output;
+  item = item_of t.set.now.text t.patch.now;
+  past = marks (plain_options t.options.now) t.set.now t.count t.verdicts.now;
+}

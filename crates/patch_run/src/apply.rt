@@ -1,0 +1,182 @@
+//! One file patch.
+
+ghost use Rattle.std.specs.Prelude.{◌≡◌, ◌<◌, ◌≤◌, ◌⊎◌, ◌||◌, [], ℕ, List, All, false, length, replicate, Some, IfOk, IfErr, OnOk, OnErr};
+ghost use Rattle.outside.specs.Files.{Files};
+ghost use Rattle.outside.specs.TreeView.{Passes};
+ghost use Rattle.outside.specs.SinkView.{SinkPasses, Writes};
+ghost use Rattle.outside.specs.Calls.{IsThere};
+ghost use Rattle.outside.specs.Quiet.{IsQuiet};
+ghost use Rattle.hunk_core.specs.declared.Verdict.TheVariants.{Ignored};
+ghost use Rattle.line_store.specs.Store.{Keeps};
+ghost use Rattle.hunk_apply.specs.Change.{change_verdicts};
+ghost use Rattle.hunk_apply.specs.Session.{IsTried};
+ghost use Rattle.file_patch.specs.PlainPatch.{row_count};
+ghost use Rattle.say_text.specs.Messages.{ignored_line};
+ghost use Rattle.patch_run.specs.OnePatch.{Tried, total, bytes_of, lines_in, effects_of, tried_said, some_failed, is_kept, finished_at, ending};
+ghost use Rattle.patch_run.specs.Trying.{IsSession, IsBegun};
+ghost use Rattle.patch_run.specs.Doing.{Does, Stays, QuietAfter, IsDone, IsPartOf, IsDeviceFault, HasEndCause, IsOutcome, IsMadeWhole};
+ghost use Rattle.patch_run.specs.Ready.{IsNamed};
+ghost use Rattle.patch_run.specs.TurnView.{plain_turn};
+
+use crate::effects::{Made, make_effects};
+use crate::fault::RunFault;
+use crate::fill::{Attempt, try_hunks};
+use crate::names::written;
+use crate::starting::{Decision, start};
+use crate::tell::{is_kept, tell};
+use crate::turn::Turn;
+use hunk_apply::Session;
+use hunk_core::{Side, Verdict};
+use line_store::{LineStore, Plan};
+use outside::{Sink, Tree};
+use patch_set::Row;
+use say_text::say_ignored;
+use target_names::Target;
+
+/// What became of a file patch.
+#[derive(Clone, Copy, Debug, PartialEq, Eq)]
+pub struct Done {
+    pub row: Row,
+    /// A hunk failed or was ignored, or a file that was to be deleted wasn't.
+    pub is_bad: bool,
+    /// How many effects there were.
+    pub effects: u64,
+}
+
+/// Carries out one file patch, and says in a row for each of its hunks what became of it.
+pub fn apply_one<P: Plan, T: Tree, O: Sink>(
+    turn: &Turn<'_>,
+    verdicts: &mut [Verdict],
+    plan: &mut P,
+    tree: &mut T,
+    out: &mut O,
+) -> Result<Done, RunFault>
+    requires size { (P.seen plan.old).size ≡ turn.now.options.now.buffer }
+    requires rows { length verdicts.old ≡ row_count turn.now.patch.now.change }
+    requires quiet { IsQuiet (T.view tree.old) }
+    ensures does { Does (T.view tree.old) (T.view tree.new) (P.seen plan.old) (P.seen plan.new) (O.view out.old) (O.view out.new) P.scratch_after result verdicts.new (ending (plain_turn turn.now)) }
+    ensures rest { O.same_rest out.old out.new }
+    ensures rows { length verdicts.new ≡ length verdicts.old }
+    ensures few { IfOk result (λ done. done.effects ≤ 3) }
+
+    // Whatever the tree tells, hunks are placed only on lines that the plan lends.
+    ensures placed { IfOk result (λ done. (lines : List (List ℕ)) → (P.seen plan.new).told ≡ Some lines
+        → (verdicts.new ≡ replicate (length verdicts.old) Ignored)
+        ⊎ (verdicts.new ≡ change_verdicts lines turn.now.options.now.fuzz turn.now.options.now.loose done.row.side (plain_turn turn.now).item.patch.change)) }
+{
+    match start(turn, plan, tree, out)? {
+        Decision::Skip(row) => skip(turn, row, verdicts, out),
+        Decision::Try { place, side } => try_at(turn, place, side, verdicts, plan, tree, out),
+    }
+}
+
+/// All hunks are ignored.
+fn skip<O: Sink>(
+    turn: &Turn<'_>,
+    row: Row,
+    verdicts: &mut [Verdict],
+    out: &mut O,
+) -> Result<Done, RunFault>
+    requires rows { length verdicts.old ≡ row_count turn.now.patch.now.change }
+    ensures writes { Writes (O.view out.old) (O.view out.new) result (ignored_line (total (plain_turn turn.now))) }
+    ensures fault { IfErr result (λ e. e ≡ RunFault.Write) }
+    ensures rest { O.same_rest out.old out.new }
+    ensures ignored { verdicts.new ≡ replicate (length verdicts.old) Ignored }
+    ensures done { IfOk result (λ done. done ≡ record { row = row; is_bad = true; effects = 0 }) }
+{
+    verdicts.fill(Verdict::Ignored);
+    say_ignored(turn.options, turn.patch.hunks(), out)?;
+    Ok(Done {
+        row,
+        is_bad: true,
+        effects: 0,
+    })
+}
+
+/// Tries the hunks on the lines that were taken, says what came of them, and makes the effects.
+fn try_at<P: LineStore, T: Tree, O: Sink>(
+    turn: &Turn<'_>,
+    place: u32,
+    side: Side,
+    verdicts: &mut [Verdict],
+    plan: &mut P,
+    tree: &mut T,
+    out: &mut O,
+) -> Result<Done, RunFault>
+    requires within { place < length turn.now.patch.now.targets.items }
+    requires rows { length verdicts.old ≡ row_count turn.now.patch.now.change }
+    requires quiet { IsQuiet (T.view tree.old) }
+    ensures stays { Stays (T.view tree.old) (T.view tree.new) (P.seen plan.old) (P.seen plan.new) (O.view out.old) (O.view out.new) result }
+    ensures keeps { Keeps (P.seen plan.old) (P.seen plan.new) }
+    ensures quiet { QuietAfter result (T.view tree.new) }
+    ensures cause { IfErr result IsDeviceFault }
+    ensures whole { IfOk result (λ done. (f : Files) → (T.view tree.old).told ≡ Some f → (P.seen plan.old).told ≡ Some (lines_in (bytes_of (plain_turn turn.now) f place))
+        → IsDone (T.view tree.old) (T.view tree.new) (O.view out.old) (O.view out.new) done verdicts.new f (finished_at (plain_turn turn.now) f [] place side)) }
+    ensures broken { OnErr result ((f : Files) → (T.view tree.old).told ≡ Some f → (P.seen plan.old).told ≡ Some (lines_in (bytes_of (plain_turn turn.now) f place))
+        → IsPartOf (T.view tree.old) (T.view tree.new) (O.view out.old) (O.view out.new) (finished_at (plain_turn turn.now) f [] place side).effects (finished_at (plain_turn turn.now) f [] place side).said) }
+    ensures rest { O.same_rest out.old out.new }
+    ensures rows { length verdicts.new ≡ length verdicts.old }
+    ensures few { IfOk result (λ done. done.effects ≤ 3) }
+    ensures placed { IfOk result (λ done. (lines : List (List ℕ)) → (P.seen plan.new).told ≡ Some lines
+        → verdicts.new ≡ change_verdicts lines turn.now.options.now.fuzz turn.now.options.now.loose done.row.side (plain_turn turn.now).item.patch.change) }
+{
+    let target = written(turn, place);
+    let attempt = try_hunks(turn, &target.temp, side, verdicts, plan, tree)?;
+    let session = attempt.session;
+    let made = tell_and_make(turn, target, side, attempt, verdicts, tree, out)?;
+    Ok(done_of(turn, place, side, &session, made))
+}
+
+/// Says what came of the hunks, and makes the effects, if it isn't a dry run.
+fn tell_and_make<T: Tree, O: Sink>(
+    turn: &Turn<'_>,
+    target: &Target,
+    side: Side,
+    attempt: Attempt<'_>,
+    verdicts: &[Verdict],
+    tree: &mut T,
+    out: &mut O,
+) -> Result<Made, RunFault>
+    requires named { IsNamed target.now }
+    requires rows { length verdicts.now ≡ row_count turn.now.patch.now.change }
+    requires tried { All IsTried verdicts.now }
+    requires begun { IsBegun turn.now.options.now.dry_run attempt.temp target.now.temp }
+    requires quiet { IsQuiet (T.view tree.old) }
+    requires there { turn.now.options.now.dry_run ≡ false → IsThere (T.view tree.old) target.now.temp }
+    ensures tree { Passes (T.view tree.old) (T.view tree.new) }
+    ensures sink { SinkPasses (O.view out.old) (O.view out.new) }
+    ensures cause { IfErr result (λ e. HasEndCause e (T.view tree.old) (T.view tree.new) (O.view out.old) (O.view out.new)) }
+    ensures quiet { OnOk result (IsQuiet (T.view tree.new)) }
+    ensures rest { O.same_rest out.old out.new }
+    ensures whole { IfOk result (λ made. (f : Files) (x : Tried) → (T.view tree.old).told ≡ Some f → IsOutcome turn.now.options.now.dry_run (T.view tree.old) attempt.session target.now.temp side verdicts.now x
+        → IsMadeWhole (plain_turn turn.now) f target.now x made (T.view tree.old) (T.view tree.new) (O.view out.old) (O.view out.new)) }
+    ensures broken { OnErr result ((f : Files) (x : Tried) → (T.view tree.old).told ≡ Some f → IsOutcome turn.now.options.now.dry_run (T.view tree.old) attempt.session target.now.temp side verdicts.now x
+        → IsPartOf (T.view tree.old) (T.view tree.new) (O.view out.old) (O.view out.new) (effects_of (plain_turn turn.now) f target.now x) (tried_said (plain_turn turn.now) target.now x)) }
+    ensures few { IfOk result (λ made. made.effects ≤ 3) }
+{
+    tell(turn, target, side, &attempt.session, verdicts, out)?;
+    match attempt.temp {
+        Some(temp) => make_effects(turn, target, side, &attempt.session, verdicts, temp, tree),
+        None => Ok(Made {
+            wrote: false,
+            effects: 0,
+        }),
+    }
+}
+
+fn done_of(turn: &Turn<'_>, place: u32, side: Side, session: &Session, made: Made) -> Done
+    ensures row { result.row ≡ record { side = side; target = Some place; wrote = made.wrote } }
+    ensures bad { (x : Tried) → x.side ≡ side → IsSession session.now x.verdicts x.output → result.is_bad ≡ (some_failed x.verdicts || is_kept (plain_turn turn.now) x) }
+    ensures effects { result.effects ≡ made.effects }
+{
+    let row = Row {
+        side,
+        target: Some(place),
+        wrote: made.wrote,
+    };
+    Done {
+        row,
+        is_bad: session.failed > 0 || is_kept(turn, side, session),
+        effects: made.effects,
+    }
+}

@@ -1,0 +1,194 @@
+//! The hunks of a file patch, tried on the lines that were taken.
+
+ghost use Rattle.std.specs.Prelude.{◌≡◌, [], ℕ, List, All, true, false, length, Some, IfOk, OnOk, IfErr};
+ghost use Rattle.outside.specs.Files.{is_temp};
+ghost use Rattle.outside.specs.TreeView.{IsRun};
+ghost use Rattle.outside.specs.Calls.{IsThere};
+ghost use Rattle.outside.specs.Quiet.{IsQuiet, WorksOn, Holds};
+ghost use Rattle.line_store.specs.Store.{Keeps};
+ghost use Rattle.file_patch.specs.PlainPatch.{row_count};
+ghost use Rattle.outside.specs.SinkView.{SinkPasses, Receives};
+ghost use Rattle.hunk_apply.specs.Faults.{HasApplyCause};
+ghost use Rattle.hunk_apply.specs.Session.{IsTried};
+ghost use Rattle.patch_run.specs.OnePatch.{tried};
+ghost use Rattle.patch_run.specs.Trying.{IsSession, HasTryCause, HasLineCause, filling_fault};
+ghost use Rattle.patch_run.specs.TurnView.{plain_turn};
+
+use crate::discard::Discard;
+use crate::fault::RunFault;
+use crate::turn::Turn;
+use hunk_apply::{ApplyFault, Session, apply_hunks};
+use hunk_core::{Side, Verdict};
+use line_store::LineStore;
+use outside::{Name, Sink, Tree};
+use replace_file::{Temp, TempSink, begin_temp};
+
+/// What came of the hunks, and the temporary with the output, which a dry run has not.
+#[derive(Drop)]
+pub struct Attempt<'n> {
+    pub session: Session,
+    pub temp: Option<Temp<'n>>,
+}
+
+/// Tries the hunks and writes the output to the temporary, unless in a dry run.
+pub fn try_hunks<'n, P: LineStore, T: Tree>(
+    turn: &Turn<'_>,
+    temp: &'n Name,
+    side: Side,
+    verdicts: &mut [Verdict],
+    plan: &mut P,
+    tree: &mut T,
+) -> Result<Attempt<'n>, RunFault>
+    requires temp { is_temp temp.now ≡ true }
+    requires rows { length verdicts.old ≡ row_count turn.now.patch.now.change }
+    requires quiet { IsQuiet (T.view tree.old) }
+    ensures works { WorksOn (T.view tree.old) (T.view tree.new) temp.now }
+    ensures keeps { Keeps (P.seen plan.old) (P.seen plan.new) }
+    ensures cause { IfErr result (λ e. HasTryCause e (T.view tree.old) (T.view tree.new) (P.seen plan.old) (P.seen plan.new)) }
+    ensures dry { turn.now.options.now.dry_run ≡ true → tree.new ≡ tree.old }
+    ensures begun { IfOk result (λ attempt. IsBegun turn.now.options.now.dry_run attempt.temp temp.now) }
+    ensures there { OnOk result (turn.now.options.now.dry_run ≡ false → IsThere (T.view tree.new) temp.now) }
+    ensures holds { OnOk result ((lines : List (List ℕ)) → (P.seen plan.old).told ≡ Some lines → turn.now.options.now.dry_run ≡ false → Holds (T.view tree.new) temp.now (tried (plain_turn turn.now) side lines).output) }
+    ensures session { IfOk result (λ attempt. (lines : List (List ℕ)) → (P.seen plan.old).told ≡ Some lines → IsSession attempt.session verdicts.new (tried (plain_turn turn.now) side lines).output) }
+    ensures verdicts { OnOk result ((lines : List (List ℕ)) → (P.seen plan.old).told ≡ Some lines → verdicts.new ≡ (tried (plain_turn turn.now) side lines).verdicts) }
+    ensures tried { OnOk result (All IsTried verdicts.new) }
+    ensures rows { length verdicts.new ≡ length verdicts.old }
+{
+    if turn.options.dry_run {
+        let session = try_dry(turn, side, verdicts, plan)?;
+        Ok(Attempt {
+            session,
+            temp: None,
+        })
+    } else {
+        fill_temp(turn, temp, side, verdicts, plan, tree)
+    }
+}
+
+/// Tries the hunks, and writes nothing.
+fn try_dry<P: LineStore>(
+    turn: &Turn<'_>,
+    side: Side,
+    verdicts: &mut [Verdict],
+    plan: &mut P,
+) -> Result<Session, RunFault>
+    requires rows { length verdicts.old ≡ row_count turn.now.patch.now.change }
+    ensures keeps { Keeps (P.seen plan.old) (P.seen plan.new) }
+    ensures cause { IfErr result (λ e. HasLineCause e (P.seen plan.old) (P.seen plan.new)) }
+    ensures session { IfOk result (λ session. (lines : List (List ℕ)) → (P.seen plan.old).told ≡ Some lines → IsSession session verdicts.new (tried (plain_turn turn.now) side lines).output) }
+    ensures verdicts { OnOk result ((lines : List (List ℕ)) → (P.seen plan.old).told ≡ Some lines → verdicts.new ≡ (tried (plain_turn turn.now) side lines).verdicts) }
+    ensures tried { OnOk result (All IsTried verdicts.new) }
+    ensures rows { length verdicts.new ≡ length verdicts.old }
+{
+    let mut nowhere = Discard {};
+    match try_into(turn, side, verdicts, plan, &mut nowhere) {
+        Ok(session) => Ok(session),
+        Err(ApplyFault::Line(fault)) => Err(RunFault::from(fault)),
+        Err(ApplyFault::Write) => unreachable!(),
+    }
+}
+
+/// Tries the hunks, and writes the output to a sink.
+fn try_into<P: LineStore, O: Sink>(
+    turn: &Turn<'_>,
+    side: Side,
+    verdicts: &mut [Verdict],
+    plan: &mut P,
+    out: &mut O,
+) -> Result<Session, ApplyFault>
+    requires rows { length verdicts.old ≡ row_count turn.now.patch.now.change }
+    ensures keeps { Keeps (P.seen plan.old) (P.seen plan.new) }
+    ensures sink { SinkPasses (O.view out.old) (O.view out.new) }
+    ensures rest { O.same_rest out.old out.new }
+    ensures cause { IfErr result (λ e. HasApplyCause e (P.seen plan.old) (P.seen plan.new) (O.view out.old) (O.view out.new)) }
+    ensures received { OnOk result ((lines : List (List ℕ)) → (P.seen plan.old).told ≡ Some lines → Receives (O.view out.old) (O.view out.new) (tried (plain_turn turn.now) side lines).output) }
+    ensures session { IfOk result (λ session. (lines : List (List ℕ)) → (P.seen plan.old).told ≡ Some lines → IsSession session verdicts.new (tried (plain_turn turn.now) side lines).output) }
+    ensures verdicts { OnOk result ((lines : List (List ℕ)) → (P.seen plan.old).told ≡ Some lines → verdicts.new ≡ (tried (plain_turn turn.now) side lines).verdicts) }
+    ensures tried { OnOk result (All IsTried verdicts.new) }
+    ensures rows { length verdicts.new ≡ length verdicts.old }
+{
+    let options = turn.options;
+    apply_hunks(
+        plan,
+        turn.set.text(),
+        turn.patch,
+        side,
+        options.fuzz,
+        options.loose,
+        verdicts,
+        out,
+    )
+}
+
+/// Tries the hunks, and writes the output to the temporary.
+fn fill_temp<'n, P: LineStore, T: Tree>(
+    turn: &Turn<'_>,
+    temp: &'n Name,
+    side: Side,
+    verdicts: &mut [Verdict],
+    plan: &mut P,
+    tree: &mut T,
+) -> Result<Attempt<'n>, RunFault>
+    requires temp { is_temp temp.now ≡ true }
+    requires rows { length verdicts.old ≡ row_count turn.now.patch.now.change }
+    requires quiet { IsQuiet (T.view tree.old) }
+    ensures works { WorksOn (T.view tree.old) (T.view tree.new) temp.now }
+    ensures keeps { Keeps (P.seen plan.old) (P.seen plan.new) }
+    ensures cause { IfErr result (λ e. HasTryCause e (T.view tree.old) (T.view tree.new) (P.seen plan.old) (P.seen plan.new)) }
+    ensures begun { IfOk result (λ attempt. IsSomeAnd attempt.temp (λ begun. begun.name.now ≡ temp.now)) }
+    ensures there { OnOk result (IsThere (T.view tree.new) temp.now) }
+    ensures holds { OnOk result ((lines : List (List ℕ)) → (P.seen plan.old).told ≡ Some lines → Holds (T.view tree.new) temp.now (tried (plain_turn turn.now) side lines).output) }
+    ensures session { IfOk result (λ attempt. (lines : List (List ℕ)) → (P.seen plan.old).told ≡ Some lines → IsSession attempt.session verdicts.new (tried (plain_turn turn.now) side lines).output) }
+    ensures verdicts { OnOk result ((lines : List (List ℕ)) → (P.seen plan.old).told ≡ Some lines → verdicts.new ≡ (tried (plain_turn turn.now) side lines).verdicts) }
+    ensures tried { OnOk result (All IsTried verdicts.new) }
+    ensures rows { length verdicts.new ≡ length verdicts.old }
+{
+    let begun = match begin_temp(tree, temp) {
+        Ok(begun) => begun,
+        Err(_) => return Err(RunFault::Tree),
+    };
+    fill_begun(turn, begun, side, verdicts, plan, tree)
+}
+
+/// Tries the hunks, and writes the output to an empty temporary.
+fn fill_begun<'n, P: LineStore, T: Tree>(
+    turn: &Turn<'_>,
+    begun: Temp<'n>,
+    side: Side,
+    verdicts: &mut [Verdict],
+    plan: &mut P,
+    tree: &mut T,
+) -> Result<Attempt<'n>, RunFault>
+    requires rows { length verdicts.old ≡ row_count turn.now.patch.now.change }
+    requires quiet { IsQuiet (T.view tree.old) }
+    requires empty { Holds (T.view tree.old) begun.name.now [] }
+    ensures works { WorksOn (T.view tree.old) (T.view tree.new) begun.entry.name.now }
+    ensures keeps { Keeps (P.seen plan.old) (P.seen plan.new) }
+    ensures cause { IfErr result (λ e. HasTryCause e (T.view tree.old) (T.view tree.new) (P.seen plan.old) (P.seen plan.new)) }
+    ensures begun { IfOk result (λ attempt. IsSomeAnd attempt.temp (λ filled. filled.name.now ≡ begun.entry.name.now)) }
+    ensures there { OnOk result (IsThere (T.view tree.new) begun.entry.name.now) }
+    ensures holds { OnOk result ((lines : List (List ℕ)) → (P.seen plan.old).told ≡ Some lines → Holds (T.view tree.new) begun.entry.name.now (tried (plain_turn turn.now) side lines).output) }
+    ensures session { IfOk result (λ attempt. (lines : List (List ℕ)) → (P.seen plan.old).told ≡ Some lines → IsSession attempt.session verdicts.new (tried (plain_turn turn.now) side lines).output) }
+    ensures verdicts { OnOk result ((lines : List (List ℕ)) → (P.seen plan.old).told ≡ Some lines → verdicts.new ≡ (tried (plain_turn turn.now) side lines).verdicts) }
+    ensures tried { OnOk result (All IsTried verdicts.new) }
+    ensures rows { length verdicts.new ≡ length verdicts.old }
+{
+    let mut sink = TempSink::new(tree, begun);
+    match try_into(turn, side, verdicts, plan, &mut sink) {
+        Ok(session) => Ok(Attempt {
+            session,
+            temp: Some(sink.into_temp()),
+        }),
+        Err(fault) => Err(filling_fault(fault)),
+    }
+}
+
+/// The fault of a run, where the sink is a temporary of the tree.
+fn filling_fault(fault: ApplyFault) -> RunFault
+    ensures { result ≡ filling_fault fault }
+{
+    match fault {
+        ApplyFault::Line(fault) => RunFault::from(fault),
+        ApplyFault::Write => RunFault::Tree,
+    }
+}

@@ -1,0 +1,133 @@
+//! All file patches of a set.
+
+ghost use Rattle.std.specs.Prelude.{◌≡◌, ◌<◌, ◌≤◌, ◌+◌, ◌||◌, ℕ, List, length, take, drop, slice_index_or, Some, IfOk, OnOk};
+ghost use Rattle.outside.specs.Files.{Files};
+ghost use Rattle.outside.specs.Quiet.{IsQuiet};
+ghost use Rattle.file_patch.specs.declared.FilePatch.{FilePatch as ThePatch};
+ghost use Rattle.file_patch.specs.PlainPatch.{row_count};
+ghost use Rattle.patch_options.specs.PlainJob.{plain_options, IsLawful};
+ghost use Rattle.patch_set.specs.SetView.{IsRead, hunks_in};
+ghost use Rattle.patch_run.specs.Run.{set_run};
+ghost use Rattle.patch_run.specs.Ready.{IsReady, AreNumbered, rows_in, turn_at};
+ghost use Rattle.patch_run.specs.OnePatch.{ending};
+ghost use Rattle.patch_run.specs.Doing.{Does, Runs, IsReceipt, StaysSet, IsPlacedOn, IsPlacedLast};
+ghost use Rattle.patch_run.specs.Devices.{Told};
+
+use crate::applied::Applied;
+use crate::apply::{Done, apply_one};
+use crate::fault::RunFault;
+use crate::turn::Turn;
+use hunk_core::Verdict;
+use line_store::Plan;
+use outside::{Sink, Tree};
+use patch_options::Options;
+use patch_set::PatchSet;
+
+/// Carries out the file patches of a set one after another, each on the files that those before it left: what is said
+/// goes to `out`, and the effects are made on the tree. The plan holds the lines of one file at a time. Afterwards the set
+/// has a verdict for each hunk, and tells in a row what was done with each file patch.
+pub fn apply_set<P: Plan, T: Tree, O: Sink>(
+    set: &mut PatchSet,
+    options: &Options,
+    plan: &mut P,
+    tree: &mut T,
+    out: &mut O,
+) -> Result<Applied, RunFault>
+    requires lawful { IsLawful (plain_options options.now) }
+    requires read { (given : List ℕ) × IsRead (plain_options options.now) given set.old }
+    requires verdicts { length set.old.verdicts ≡ hunks_in set.old.patches }
+    requires size { (P.seen plan.old).size ≡ options.now.buffer }
+    requires quiet { IsQuiet (T.view tree.old) }
+    ensures runs { Runs (T.view tree.old) (T.view tree.new) (P.seen plan.old) (P.seen plan.new) (O.view out.old) (O.view out.new) P.scratch_after result (set_run (plain_options options.now) set.old) }
+    ensures receipt { IfOk result (λ applied. (f : Files) → Told (T.view tree.old) (P.seen plan.old) f → IsReceipt (set_run (plain_options options.now) set.old f) applied (length set.old.patches) set.new.verdicts set.new.rows) }
+    ensures done { IfOk result (λ applied. applied.done ≡ length set.old.patches) }
+    ensures rest { O.same_rest out.old out.new }
+    ensures set { StaysSet set.old set.new }
+    ensures verdicts { length set.new.verdicts ≡ length set.old.verdicts }
+
+    // Whatever the tree tells, the hunks of the last file patch are placed only on lines that the plan lends.
+    ensures placed { OnOk result ((lines : List (List ℕ)) → (P.seen plan.new).told ≡ Some lines → IsPlacedLast (plain_options options.now) set.new set.new.verdicts lines) }
+{
+    let mut verdicts = set.take_verdicts();
+    let applied = apply_all(set, options, verdicts.as_mut_slice(), plan, tree, out);
+    set.give_verdicts(verdicts);
+    applied
+}
+
+/// The same while the verdicts are taken from the set.
+fn apply_all<P: Plan, T: Tree, O: Sink>(
+    set: &mut PatchSet,
+    options: &Options,
+    verdicts: &mut [Verdict],
+    plan: &mut P,
+    tree: &mut T,
+    out: &mut O,
+) -> Result<Applied, RunFault>
+    requires ready { IsReady (plain_options options.now) set.old }
+    requires numbered { AreNumbered 0 set.old.patches }
+    requires verdicts { length verdicts.old ≡ hunks_in set.old.patches }
+    requires size { (P.seen plan.old).size ≡ options.now.buffer }
+    requires quiet { IsQuiet (T.view tree.old) }
+    ensures runs { Runs (T.view tree.old) (T.view tree.new) (P.seen plan.old) (P.seen plan.new) (O.view out.old) (O.view out.new) P.scratch_after result (set_run (plain_options options.now) set.old) }
+    ensures receipt { IfOk result (λ applied. (f : Files) → Told (T.view tree.old) (P.seen plan.old) f → IsReceipt (set_run (plain_options options.now) set.old f) applied (length set.old.patches) verdicts.new set.new.rows) }
+    ensures done { IfOk result (λ applied. applied.done ≡ length set.old.patches) }
+    ensures rest { O.same_rest out.old out.new }
+    ensures set { StaysSet set.old set.new }
+    ensures verdicts { length verdicts.new ≡ length verdicts.old }
+    ensures placed { OnOk result ((lines : List (List ℕ)) → (P.seen plan.new).told ≡ Some lines → IsPlacedLast (plain_options options.now) set.new verdicts.new lines) }
+{
+    let count = set.patches().len() as u32;
+    let mut is_bad = false;
+    let mut effects = 0;
+    for k in 0..count {
+        let done = apply_at(set, k, options, verdicts, plan, tree, out)?;
+        set.note(k, done.row);
+        is_bad = either(is_bad, done.is_bad);
+        effects += done.effects;
+    }
+    Ok(Applied::new(is_bad, count, effects))
+}
+
+fn either(one: bool, other: bool) -> bool
+    ensures { result ≡ (one || other) }
+{
+    one || other
+}
+
+/// Carries out one file patch, counted from 0, those before it having had their turn.
+fn apply_at<P: Plan, T: Tree, O: Sink>(
+    set: &PatchSet,
+    k: u32,
+    options: &Options,
+    verdicts: &mut [Verdict],
+    plan: &mut P,
+    tree: &mut T,
+    out: &mut O,
+) -> Result<Done, RunFault>
+    requires within { k < length set.now.patches }
+    requires ready { IsReady (plain_options options.now) set.now }
+    requires numbered { AreNumbered 0 set.now.patches }
+    requires verdicts { length verdicts.old ≡ hunks_in set.now.patches }
+    requires size { (P.seen plan.old).size ≡ options.now.buffer }
+    requires quiet { IsQuiet (T.view tree.old) }
+    ensures does { (p : ThePatch) → p ≡ slice_index_or set.now.patches k p
+        → Does (T.view tree.old) (T.view tree.new) (P.seen plan.old) (P.seen plan.new) (O.view out.old) (O.view out.new) P.scratch_after result (rows_in verdicts.new p) (ending (turn_at (plain_options options.now) set.now k verdicts.old p)) }
+    ensures before { (p : ThePatch) → p ≡ slice_index_or set.now.patches k p → take p.first_verdict verdicts.new ≡ take p.first_verdict verdicts.old }
+    ensures behind { (p : ThePatch) → p ≡ slice_index_or set.now.patches k p → drop (p.first_verdict + row_count p.change) verdicts.new ≡ drop (p.first_verdict + row_count p.change) verdicts.old }
+    ensures verdicts { length verdicts.new ≡ length verdicts.old }
+    ensures rest { O.same_rest out.old out.new }
+    ensures few { IfOk result (λ done. done.effects ≤ 3) }
+    ensures placed { IfOk result (λ done. (p : ThePatch) (lines : List (List ℕ)) → p ≡ slice_index_or set.now.patches k p → (P.seen plan.new).told ≡ Some lines → IsPlacedOn (plain_options options.now) set.now.text p verdicts.new done.row lines) }
+{
+    let patch = &set.patches()[k as usize];
+    let (before, behind) = verdicts.split_at_mut(patch.first_verdict as usize);
+    let turn = Turn {
+        options,
+        set,
+        patch,
+        count: k,
+        verdicts: before,
+    };
+    let own = &mut behind[..patch.hunks() as usize];
+    apply_one(&turn, own, plan, tree, out)
+}

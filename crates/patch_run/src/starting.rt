@@ -1,0 +1,242 @@
+//! How a file patch is taken: whether its hunks are tried, and from which side.
+
+ghost use Rattle.std.specs.Prelude.{◌≡◌, ◌<◌, ◌&&◌, not, ℕ, List, length, is_some, Option, Some, None, IfOk, IfErr};
+ghost use Rattle.outside.specs.Files.{Files};
+ghost use Rattle.outside.specs.TreeView.{Rises};
+ghost use Rattle.outside.specs.Calls.{IsUntouched};
+ghost use Rattle.outside.specs.SinkView.{Writes};
+ghost use Rattle.file_patch.specs.Absent.{creates};
+ghost use Rattle.name_choice.specs.Choice.{IsWithin as IsAmong, side_of};
+ghost use Rattle.hunk_core.specs.Turned.{other_side};
+ghost use Rattle.patch_set.specs.declared.set.Row.{Row as TheRow};
+ghost use Rattle.patch_run.specs.declared.fault.RunFault.TheVariants.{Write, Tree as TreeFailed};
+ghost use Rattle.patch_run.specs.OnePatch.{bytes_of, has_bytes, start, choice_of, on_target, on_creation, on_taking, turns, exists_said, said_first, skips_at};
+ghost use Rattle.patch_run.specs.Starting.{Starts, Takes, IsWithin};
+ghost use Rattle.patch_run.specs.TurnView.{plain_turn};
+
+use crate::choices::turns;
+use crate::fault::RunFault;
+use crate::names::{chosen, shown, written};
+use crate::turn::Turn;
+use crate::weighing::weigh;
+use hunk_core::Side;
+use line_store::{OpenFault, Plan};
+use name_choice::{Choice, choose};
+use outside::{Failed, Name, Sink, Tree};
+use patch_set::Row;
+use say_text::{say_exists, say_no_file, say_patching};
+
+/// What becomes of a file patch.
+#[derive(Clone, Copy, Debug, PartialEq, Eq)]
+pub enum Decision {
+    /// All its hunks are ignored.
+    Skip(Row),
+    /// Its hunks are tried on the chosen file from this side.
+    Try { place: u32, side: Side },
+}
+
+/// Chooses the file, says so, takes its lines, and decides. The tree is left as it is.
+pub fn start<P: Plan, T: Tree, O: Sink>(
+    turn: &Turn<'_>,
+    plan: &mut P,
+    tree: &mut T,
+    out: &mut O,
+) -> Result<Decision, RunFault>
+    requires { (P.seen plan.old).size ≡ turn.now.options.now.buffer }
+    ensures starts { Starts (T.view tree.old) (T.view tree.new) (P.seen plan.old) (P.seen plan.new) (O.view out.old) (O.view out.new) P.scratch_after result (bytes_of (plain_turn turn.now)) (start (plain_turn turn.now)) }
+    ensures rest { O.same_rest out.old out.new }
+    ensures within { IfOk result (IsWithin (length turn.now.patch.now.targets.items)) }
+{
+    let choice = match choose_target(turn, tree) {
+        Ok(choice) => choice,
+        Err(_) => return Err(RunFault::Tree),
+    };
+    match choice {
+        Choice::Existing(place) => on_target(turn, place, true, plan, tree, out),
+        Choice::Create(place) => on_target(turn, place, false, plan, tree, out),
+        Choice::Nothing => without_target(turn, out),
+    }
+}
+
+/// Chooses the target.
+fn choose_target<T: Tree>(turn: &Turn<'_>, tree: &mut T) -> Result<Choice, Failed>
+    ensures untouched { IsUntouched (T.view tree.old) (T.view tree.new) }
+    ensures cause { OnErr result (Rises (T.view tree.old) (T.view tree.new)) }
+    ensures within { IfOk result (IsAmong (length turn.now.patch.now.targets.items)) }
+    ensures chosen { IfOk result (λ chosen. (f : Files) → (T.view tree.old).told ≡ Some f → chosen ≡ choice_of (plain_turn turn.now) f) }
+    ensures there { IfOk result (λ chosen. (f : Files) → (T.view tree.new).told ≡ Some f → IsPresent (bytes_of (plain_turn turn.now) f) chosen) }
+{
+    let options = turn.options;
+    choose(turn.patch, options.file.is_some(), options.reverse, tree)
+}
+
+/// The file patch is skipped, since no file is found for it.
+fn without_target<O: Sink>(turn: &Turn<'_>, out: &mut O) -> Result<Decision, RunFault>
+    ensures writes { Writes (O.view out.old) (O.view out.new) result (no_file_lines turn.now.patch.now.header.opening) }
+    ensures fault { IfErr result (λ e. e ≡ Write) }
+    ensures rest { O.same_rest out.old out.new }
+    ensures row { IfOk result (λ d. d ≡ Decision.Skip (record { side = side_of turn.now.options.now.reverse; target = None; wrote = false })) }
+{
+    say_no_file(turn.options, turn.patch.header.opening, out)?;
+    Ok(Decision::Skip(Row {
+        side: own_side(turn),
+        target: None,
+        wrote: false,
+    }))
+}
+
+/// The side that the options ask for.
+fn own_side(turn: &Turn<'_>) -> Side
+    ensures { result ≡ side_of turn.now.options.now.reverse }
+{
+    if turn.options.reverse {
+        Side::Reversed
+    } else {
+        Side::Forward
+    }
+}
+
+/// A file is chosen, which is there or isn't.
+fn on_target<P: Plan, T: Tree, O: Sink>(
+    turn: &Turn<'_>,
+    place: u32,
+    there: bool,
+    plan: &mut P,
+    tree: &mut T,
+    out: &mut O,
+) -> Result<Decision, RunFault>
+    requires size { (P.seen plan.old).size ≡ turn.now.options.now.buffer }
+    requires within { place < length turn.now.patch.now.targets.items }
+    requires there { (f : Files) → (T.view tree.old).told ≡ Some f → there ≡ is_some (bytes_of (plain_turn turn.now) f place) }
+    ensures starts { Starts (T.view tree.old) (T.view tree.new) (P.seen plan.old) (P.seen plan.new) (O.view out.old) (O.view out.new) P.scratch_after result (bytes_of (plain_turn turn.now)) (λ f. on_target (plain_turn turn.now) place (bytes_of (plain_turn turn.now) f place)) }
+    ensures rest { O.same_rest out.old out.new }
+    ensures within { IfOk result (IsWithin (length turn.now.patch.now.targets.items)) }
+{
+    say_patching(turn.options, shown(chosen(turn, place)), out)?;
+    on_creation(turn, place, there, own_side(turn), plan, tree, out)
+}
+
+/// Whether the file patch would make a file that is there and has bytes.
+fn is_in_the_way<T: Tree>(
+    turn: &Turn<'_>,
+    place: u32,
+    side: Side,
+    tree: &mut T,
+) -> Result<bool, Failed>
+    requires { place < length turn.now.patch.now.targets.items }
+    ensures untouched { IsUntouched (T.view tree.old) (T.view tree.new) }
+    ensures cause { OnErr result (Rises (T.view tree.old) (T.view tree.new)) }
+    ensures way { IfOk result (λ yes. (f : Files) → (T.view tree.old).told ≡ Some f → yes ≡ (creates side (plain_turn turn.now).item.patch && has_bytes (bytes_of (plain_turn turn.now) f place))) }
+{
+    if !turn.patch.creates(side) {
+        return Ok(false);
+    }
+    match tree.size(&chosen(turn, place).name)? {
+        Some(size) => Ok(size > 0),
+        None => Ok(false),
+    }
+}
+
+fn on_creation<P: Plan, T: Tree, O: Sink>(
+    turn: &Turn<'_>,
+    place: u32,
+    there: bool,
+    side: Side,
+    plan: &mut P,
+    tree: &mut T,
+    out: &mut O,
+) -> Result<Decision, RunFault>
+    requires size { (P.seen plan.old).size ≡ turn.now.options.now.buffer }
+    requires within { place < length turn.now.patch.now.targets.items }
+    requires there { (f : Files) → (T.view tree.old).told ≡ Some f → there ≡ is_some (bytes_of (plain_turn turn.now) f place) }
+    ensures starts { Starts (T.view tree.old) (T.view tree.new) (P.seen plan.old) (P.seen plan.new) (O.view out.old) (O.view out.new) P.scratch_after result (bytes_of (plain_turn turn.now)) (λ f. on_creation (plain_turn turn.now) place (bytes_of (plain_turn turn.now) f place) side) }
+    ensures rest { O.same_rest out.old out.new }
+    ensures within { IfOk result (IsWithin (length turn.now.patch.now.targets.items)) }
+{
+    let is_in_the_way = match is_in_the_way(turn, place, side, tree) {
+        Ok(yes) => yes,
+        Err(_) => return Err(RunFault::Tree),
+    };
+    if !is_in_the_way || turn.options.force {
+        on_taking(turn, place, there, false, side, plan, tree, out)
+    } else {
+        on_existing(turn, place, there, side, plan, tree, out)
+    }
+}
+
+/// The file is in the way: the file patch is turned round, or skipped.
+fn on_existing<P: Plan, T: Tree, O: Sink>(
+    turn: &Turn<'_>,
+    place: u32,
+    there: bool,
+    side: Side,
+    plan: &mut P,
+    tree: &mut T,
+    out: &mut O,
+) -> Result<Decision, RunFault>
+    requires size { (P.seen plan.old).size ≡ turn.now.options.now.buffer }
+    requires within { place < length turn.now.patch.now.targets.items }
+    requires there { (f : Files) → (T.view tree.old).told ≡ Some f → there ≡ is_some (bytes_of (plain_turn turn.now) f place) }
+    ensures starts { Starts (T.view tree.old) (T.view tree.new) (P.seen plan.old) (P.seen plan.new) (O.view out.old) (O.view out.new) P.scratch_after result (bytes_of (plain_turn turn.now)) (λ f. on_existing (plain_turn turn.now) place (bytes_of (plain_turn turn.now) f place) side) }
+    ensures rest { O.same_rest out.old out.new }
+    ensures within { IfOk result (IsWithin (length turn.now.patch.now.targets.items)) }
+{
+    let is_turned = turns(turn.options);
+    say_exists(turn.options, shown(written(turn, place)), is_turned, out)?;
+    if is_turned {
+        on_taking(turn, place, there, true, side.other(), plan, tree, out)
+    } else {
+        Ok(skip_at(place, side))
+    }
+}
+
+/// All hunks are ignored, though a file was chosen.
+pub fn skip_at(place: u32, side: Side) -> Decision
+    ensures { result ≡ Decision.Skip (record { side = side; target = Some place; wrote = false }) }
+{
+    Decision::Skip(Row {
+        side,
+        target: Some(place),
+        wrote: false,
+    })
+}
+
+/// The file is taken, and weighed.
+fn on_taking<P: Plan, T: Tree, O: Sink>(
+    turn: &Turn<'_>,
+    place: u32,
+    there: bool,
+    was_turned: bool,
+    side: Side,
+    plan: &mut P,
+    tree: &mut T,
+    out: &mut O,
+) -> Result<Decision, RunFault>
+    requires size { (P.seen plan.old).size ≡ turn.now.options.now.buffer }
+    requires within { place < length turn.now.patch.now.targets.items }
+    requires there { (f : Files) → (T.view tree.old).told ≡ Some f → there ≡ is_some (bytes_of (plain_turn turn.now) f place) }
+    ensures starts { Starts (T.view tree.old) (T.view tree.new) (P.seen plan.old) (P.seen plan.new) (O.view out.old) (O.view out.new) P.scratch_after result (bytes_of (plain_turn turn.now)) (λ f. on_taking (plain_turn turn.now) place (bytes_of (plain_turn turn.now) f place) was_turned side) }
+    ensures rest { O.same_rest out.old out.new }
+    ensures within { IfOk result (IsWithin (length turn.now.patch.now.targets.items)) }
+{
+    take(&chosen(turn, place).name, there, plan, tree)?;
+    weigh(turn, place, there, was_turned, side, plan, out)
+}
+
+/// Takes the lines of a file, or none where it isn't there.
+fn take<P: Plan, T: Tree>(
+    name: &Name,
+    there: bool,
+    plan: &mut P,
+    tree: &mut T,
+) -> Result<(), OpenFault>
+    requires { (f : Files) → (T.view tree.old).told ≡ Some f → there ≡ is_some (get f name.now) }
+    ensures { Takes (T.view tree.old) (T.view tree.new) (P.seen plan.old) (P.seen plan.new) P.scratch_after result (λ f. get f name.now) }
+{
+    if there {
+        plan.take_file(tree, name)
+    } else {
+        plan.take_empty();
+        Ok(())
+    }
+}

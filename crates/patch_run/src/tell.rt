@@ -1,0 +1,219 @@
+//! What is said once the hunks were tried.
+
+ghost use Rattle.std.specs.Prelude.{◌≡◌, ◌<◌, ◌^◌, ◌++◌, ℕ, List, Bool, length, All, pos, negsuc, ◌≤ℤ◌};
+ghost use Rattle.outside.specs.SinkView.{IsSinkCall, Writes};
+ghost use Rattle.hunk_core.specs.PlainHunk.{hunk_of, hunks_of};
+ghost use Rattle.hunk_core.specs.Turned.{turned};
+ghost use Rattle.file_patch.specs.PlainPatch.{AreLawfulHunks, row_count};
+ghost use Rattle.ed_form.specs.PlainEdit.{edits_of, IsLawfulScript};
+ghost use Rattle.reject_text.specs.Rejects.{rows_of};
+ghost use Rattle.hunk_apply.specs.Script.{first_address};
+ghost use Rattle.hunk_apply.specs.Session.{IsTried};
+ghost use Rattle.patch_options.specs.PlainJob.{plain_options};
+ghost use Rattle.patch_run.specs.OnePatch.{Tried, change_said, hunks_said, hunk_said, script_said, kept_said, failures_said, tried_said, is_kept};
+ghost use Rattle.patch_run.specs.Trying.{IsSession};
+ghost use Rattle.patch_run.specs.Ready.{IsNamed};
+ghost use Rattle.patch_run.specs.TurnView.{plain_turn};
+
+use crate::names::{shown, shown_reject};
+use crate::turn::Turn;
+use ed_form::EdScript;
+use file_patch::Change;
+use hunk_apply::Session;
+use hunk_core::{Hunk, Side, Verdict};
+use outside::{Failed, Sink};
+use patch_options::Options;
+use reject_text::placed_growth;
+use say_text::{say_failed, say_failures, say_not_deleting, say_placed};
+use target_names::Target;
+
+/// Says what came of the hunks.
+pub fn tell<O: Sink>(
+    turn: &Turn<'_>,
+    target: &Target,
+    side: Side,
+    session: &Session,
+    verdicts: &[Verdict],
+    out: &mut O,
+) -> Result<(), Failed>
+    requires named { IsNamed target.now }
+    requires rows { length verdicts.now ≡ row_count turn.now.patch.now.change }
+    requires tried { All IsTried verdicts.now }
+    ensures writes { (output : List ℕ) → IsSession session.now verdicts.now output → Writes (O.view out.old) (O.view out.new) result (tried_said (plain_turn turn.now) target.now (record { side = side; verdicts = verdicts.now; output = output })) }
+    ensures call { IsSinkCall (O.view out.old) (O.view out.new) result }
+    ensures rest { O.same_rest out.old out.new }
+{
+    say_change(turn, side, verdicts, out)?;
+    say_kept(turn, target, side, session, out)?;
+    say_rejected(turn, target, session, out)
+}
+
+/// Says what came of each hunk.
+fn say_change<O: Sink>(
+    turn: &Turn<'_>,
+    side: Side,
+    verdicts: &[Verdict],
+    out: &mut O,
+) -> Result<(), Failed>
+    requires rows { length verdicts.now ≡ row_count turn.now.patch.now.change }
+    requires tried { All IsTried verdicts.now }
+    ensures writes { Writes (O.view out.old) (O.view out.new) result (change_said (plain_turn turn.now).options side (plain_turn turn.now).item.patch.change verdicts.now) }
+    ensures rest { O.same_rest out.old out.new }
+{
+    match &turn.patch.change {
+        Change::Hunks(hunks) => {
+            say_hunks(turn.options, turn.set.text(), hunks, side, verdicts, out)
+        }
+        Change::Script(script) => say_script(turn.options, script, verdicts, out),
+    }
+}
+
+fn say_hunks<O: Sink>(
+    options: &Options,
+    text: &[u8],
+    hunks: &[Hunk],
+    side: Side,
+    verdicts: &[Verdict],
+    out: &mut O,
+) -> Result<(), Failed>
+    requires lawful { AreLawfulHunks text.now hunks.now }
+    requires rows { length verdicts.now ≡ length hunks.now }
+    requires tried { All IsTried verdicts.now }
+    ensures writes { Writes (O.view out.old) (O.view out.new) result (hunks_said (plain_options options.now) [] (rows_of side (hunks_of text.now hunks.now) verdicts.now)) }
+    ensures rest { O.same_rest out.old out.new }
+{
+    let mut net = 0;
+    for i in 0..hunks.len() {
+        let hunk = &hunks[i];
+        let verdict = verdicts[i];
+        say_hunk(options, i as u32 + 1, net, hunk, side, verdict, out)?;
+        net += placed_growth(hunk, verdict, side);
+    }
+    Ok(())
+}
+
+/// Says what came of one hunk, behind hunks that added `net` lines.
+fn say_hunk<O: Sink>(
+    options: &Options,
+    number: u32,
+    net: i64,
+    hunk: &Hunk,
+    side: Side,
+    verdict: Verdict,
+    out: &mut O,
+) -> Result<(), Failed>
+    requires small { length hunk.now.body.items < 2 ^ 32 }
+    requires low { negsuc (2 ^ 40) ≤ℤ net }
+    requires high { net ≤ℤ pos (2 ^ 40) }
+    requires tried { IsTried verdict }
+    ensures writes { (text : List ℕ) → Writes (O.view out.old) (O.view out.new) result (hunk_said (plain_options options.now) number net (turned side (hunk_of text hunk.now)) verdict) }
+    ensures rest { O.same_rest out.old out.new }
+{
+    match verdict {
+        Verdict::At { line, fuzz, offset } => {
+            say_placed(options, number, line as i64 + net, fuzz, offset, out)
+        }
+        Verdict::Nowhere => say_failed(options, number, hunk.base(side) as i64 + net, out),
+        Verdict::Untried | Verdict::Ignored => Ok(()),
+    }
+}
+
+fn say_script<O: Sink>(
+    options: &Options,
+    script: &EdScript,
+    verdicts: &[Verdict],
+    out: &mut O,
+) -> Result<(), Failed>
+    requires tried { All IsTried verdicts.now }
+    ensures writes { (text : List ℕ) → IsLawfulScript text script.now → Writes (O.view out.old) (O.view out.new) result (script_said (plain_options options.now) (first_address (edits_of text script.now.edits.items)) verdicts.now) }
+    ensures rest { O.same_rest out.old out.new }
+{
+    match verdicts.first() {
+        Some(Verdict::At { line, fuzz, offset }) => {
+            say_placed(options, 1, *line as i64, *fuzz, *offset, out)
+        }
+        Some(Verdict::Nowhere) => say_failed(options, 1, i64::from(first_address(script)), out),
+        _ => Ok(()),
+    }
+}
+
+/// The first address of the first command.
+fn first_address(script: &EdScript) -> u32
+    ensures { (text : List ℕ) → result ≡ first_address (edits_of text script.now.edits.items) }
+{
+    match script.edits.first() {
+        Some(edit) => u32::min(edit.first, edit.last),
+        None => 0,
+    }
+}
+
+/// Says that a file that was to be deleted has bytes left.
+fn say_kept<O: Sink>(
+    turn: &Turn<'_>,
+    target: &Target,
+    side: Side,
+    session: &Session,
+    out: &mut O,
+) -> Result<(), Failed>
+    requires named { IsNamed target.now }
+    ensures writes { (x : Tried) → x.side ≡ side → IsSession session.now x.verdicts x.output → Writes (O.view out.old) (O.view out.new) result (kept_said (plain_turn turn.now) target.now x) }
+    ensures call { IsSinkCall (O.view out.old) (O.view out.new) result }
+    ensures rest { O.same_rest out.old out.new }
+{
+    if is_kept(turn, side, session) {
+        say_not_deleting(turn.options, shown(target), out)
+    } else {
+        Ok(())
+    }
+}
+
+/// Whether a file that was to be deleted has bytes left.
+pub fn is_kept(turn: &Turn<'_>, side: Side, session: &Session) -> bool
+    ensures { (x : Tried) → x.side ≡ side → IsSession session.now x.verdicts x.output → result ≡ is_kept (plain_turn turn.now) x }
+{
+    turn.patch.deletes(side) && session.applied > 0 && !session.output_empty
+}
+
+/// Says how many hunks failed, if some did.
+fn say_rejected<O: Sink>(
+    turn: &Turn<'_>,
+    target: &Target,
+    session: &Session,
+    out: &mut O,
+) -> Result<(), Failed>
+    requires named { IsNamed target.now }
+    ensures writes { (x : Tried) → IsSession session.now x.verdicts x.output → Writes (O.view out.old) (O.view out.new) result (failures_said (plain_turn turn.now) target.now x) }
+    ensures call { IsSinkCall (O.view out.old) (O.view out.new) result }
+    ensures rest { O.same_rest out.old out.new }
+{
+    if session.failed == 0 {
+        return Ok(());
+    }
+    let reject = named_reject(turn, target);
+    say_failures(
+        turn.options,
+        session.failed,
+        turn.patch.hunks(),
+        reject,
+        out,
+    )
+}
+
+/// The file of the rejects, where it is written.
+fn named_reject<'a>(turn: &Turn<'_>, target: &'a Target) -> Option<&'a str>
+    requires named { IsNamed target.now }
+    ensures { option_copied result ≡ named_reject (plain_turn turn.now) target.now }
+{
+    if turn.options.dry_run || is_script(&turn.patch.change) {
+        None
+    } else {
+        Some(shown_reject(target))
+    }
+}
+
+/// Whether it is an ed script.
+pub fn is_script(change: &Change) -> bool
+    ensures { (text : List ℕ) → result ≡ is_script (change_of text change.now) }
+{
+    matches!(change, Change::Script(_))
+}

@@ -1,0 +1,193 @@
+//! Runs over trees in memory, row by row.
+
+ghost use Rattle.std.specs.Prelude.{IfOk};
+ghost use Rattle.patch_options.specs.PlainJob.{plain_options, IsLawful};
+
+use crate::{Applied, apply_set};
+use mem_world::{MemSink, MemTree};
+use outside::{Name, Tree};
+use patch_options::{Job, Options, read_words};
+use patch_set::read_set;
+use plan_a::PlanA;
+use std::alloc::Global;
+use std::process::Abort;
+use std::test::Fail;
+
+/// The words, the files, the patch text, and then the answer, what is said, and the files.
+struct Case {
+    words: &'static str,
+    files: &'static str,
+    patch: &'static str,
+    answer: &'static str,
+    said: &'static str,
+    after: &'static str,
+}
+
+const ONE: &str = "--- f\n+++ f\n@@ -1,3 +1,3 @@\n a\n-b\n+B\n c\n";
+
+const CASES: [Case; 6] = [
+    Case {
+        words: "patch",
+        files: "f=a,b,c",
+        patch: ONE,
+        answer: "status 0 done 1 effects 1",
+        said: "patching file f\n",
+        after: "f=a,B,c f.orig=! f.ptmp=!",
+    },
+    Case {
+        words: "patch",
+        files: "f=x,y,a,b,c",
+        patch: ONE,
+        answer: "status 0 done 1 effects 2",
+        said: "patching file f\nHunk #1 succeeded at 3 (offset 2 lines).\n",
+        after: "f=x,y,a,B,c f.orig=x,y,a,b,c",
+    },
+    Case {
+        words: "patch",
+        files: "f=a,B,c",
+        patch: ONE,
+        answer: "status 1 done 1 effects 0",
+        said: "patching file f\nReversed (or previously applied) patch detected!  Skipping patch.\n1 out of 1 hunk ignored\n",
+        after: "f=a,B,c",
+    },
+    Case {
+        words: "patch -f",
+        files: "f=a,B,c",
+        patch: ONE,
+        answer: "status 1 done 1 effects 1",
+        said: "patching file f\nHunk #1 FAILED at 1.\n1 out of 1 hunk FAILED -- saving rejects to file f.rej\n",
+        after: "f=a,B,c",
+    },
+    Case {
+        words: "patch -b",
+        files: "f=a,b,c",
+        patch: "--- f\n+++ f\n@@ -1,3 +1,3 @@\n a\n-b\n+B\n c\n--- f\n+++ f\n@@ -1,2 +1,2 @@\n-a\n+A\n B\n",
+        answer: "status 0 done 2 effects 3",
+        said: "patching file f\npatching file f\n",
+        after: "f=A,B,c f.orig=a,b,c",
+    },
+    Case {
+        words: "patch --dry-run",
+        files: "f=A,b,c",
+        patch: ONE,
+        answer: "status 0 done 1 effects 0",
+        said: "checking file f\nHunk #1 succeeded at 1 with fuzz 1.\n",
+        after: "f=A,b,c f.orig=!",
+    },
+];
+
+fn words_of(alloc: Global, words: &str) -> Result<Vec<String>, Fail> {
+    let mut list = Vec::new(alloc);
+    for word in words.split(' ') {
+        list.push(String::from_str(alloc, word)?)?;
+    }
+    Ok(list)
+}
+
+/// The bytes of a file whose lines are parted by commas here.
+fn bytes_of(alloc: Global, lines: &str) -> Result<Vec<u8>, Fail> {
+    let mut bytes = Vec::new(alloc);
+    for line in lines.split(',') {
+        bytes.extend_from_slice(line.as_bytes())?;
+        bytes.push(b'\n')?;
+    }
+    Ok(bytes)
+}
+
+fn name_of(alloc: Global, text: &str) -> Result<Name, Fail> {
+    match Name::new(alloc, text.as_bytes()) {
+        Ok(name) => Ok(name),
+        Err(_) => Err("no name".into()),
+    }
+}
+
+/// A settled tree with these files.
+fn tree_of(alloc: Global, files: &str) -> Result<MemTree, Fail> {
+    let mut tree = MemTree::new(alloc, Vec::new(alloc));
+    for file in files.split(' ') {
+        let (name, lines) = file.split_once('=').ok_or("no file")?;
+        tree.add(name_of(alloc, name)?, bytes_of(alloc, lines)?)?;
+    }
+    Ok(tree)
+}
+
+fn options_of(alloc: Global, words: &str) -> Result<Options, Fail>
+    ensures { IfOk result (λ options. IsLawful (plain_options options)) }
+{
+    let words = words_of(alloc, words)?;
+    match read_words(alloc, &words) {
+        Ok(Job::Patch(options)) => Ok(options),
+        Err(fault) => Err(fault.into()),
+    }
+}
+
+/// The answer of a run, with its receipt.
+fn answer_of(
+    alloc: Global,
+    options: &Options,
+    patch: &str,
+    tree: &mut MemTree,
+    out: &mut MemSink,
+) -> Result<String, Fail>
+    requires { IsLawful (plain_options options.now) }
+{
+    let text = Vec::from_slice(alloc, patch.as_bytes())?;
+    let mut set = match read_set(alloc, text, options) {
+        Ok(set) => set,
+        Err(fault) => return Err(fault.into()),
+    };
+    if tree.settle().is_err() {
+        return Err("not settled".into());
+    }
+    let mut plan = PlanA::new(alloc, options.buffer);
+    match apply_set(&mut set, options, &mut plan, tree, out) {
+        Ok(done) => receipt(alloc, &done),
+        Err(fault) => Ok(format!(in alloc; "{fault:?}")?),
+    }
+}
+
+fn receipt(alloc: Global, done: &Applied) -> Result<String, Fail> {
+    let (status, count, effects) = (done.status(), done.done(), done.effects());
+    Ok(format!(in alloc; "status {status} done {count} effects {effects}")?)
+}
+
+/// Whether the tree has these files; `!` is none.
+fn has_files(alloc: Global, tree: &MemTree, files: &str) -> Result<bool, Fail> {
+    for file in files.split(' ') {
+        let (name, lines) = file.split_once('=').ok_or("no file")?;
+        let name = name_of(alloc, name)?;
+        let wanted = bytes_of(alloc, lines)?;
+        let found = match tree.bytes_of(&name) {
+            Some(bytes) => bytes == wanted.as_slice(),
+            None => lines == "!",
+        };
+        if !found {
+            return Ok(false);
+        }
+    }
+    Ok(true)
+}
+
+fn assert_case(rt: &impl Abort, alloc: Global, case: &Case) -> Result<(), Fail> {
+    let options = options_of(alloc, case.words)?;
+    let mut tree = tree_of(alloc, case.files)?;
+    let mut out = MemSink::new(alloc, Vec::new(alloc));
+    let answer = answer_of(alloc, &options, case.patch, &mut tree, &mut out)?;
+    assert_eq!(*rt; answer.as_str(), case.answer, "{}", case.words);
+    assert_eq!(*rt;
+        str::from_utf8(out.bytes()),
+        Ok(case.said),
+        "{}",
+        case.words
+    );
+    assert!(*rt; has_files(alloc, &tree, case.after)?, "{}", case.words);
+    Ok(())
+}
+
+#[test]
+fn runs(rt: HostRuntime) -> Result<(), Fail> {
+    for case in &CASES {
+        assert_case(&rt, rt.alloc(), case)?;
+    }
+    Ok(())
+}
