@@ -1,6 +1,6 @@
 //! The effects of a file patch whose hunks were tried.
 
-ghost use Rattle.std.specs.Prelude.{◌≡◌, ◌≢◌, ◌≤◌, ◌++◌, ◌||◌, [], ℕ, List, Bool, All, true, false, not, length, is_some, bytes_eq, Some, IfOk, OnOk};
+ghost use Rattle.std.specs.Prelude.{◌≡◌, ◌≢◌, ◌≤◌, ◌+◌, ◌&&◌, ◌||◌, ◌∷◌, [], ℕ, List, true, false, not, length, is_some, if◌then◌else◌, Some, IfOk, OnOk};
 ghost use Rattle.std.specs.FinMap.{get};
 ghost use Rattle.outside.specs.Files.{Files};
 ghost use Rattle.outside.specs.Calls.{IsThere};
@@ -10,7 +10,7 @@ ghost use Rattle.patch_run.specs.OnePatch.{Tried, is_backup_due, is_removal, bac
 ghost use Rattle.patch_run.specs.Trying.{IsSession};
 ghost use Rattle.patch_run.specs.Making.{Makes, GoesQuietly, KeepsAt, IsGone};
 ghost use Rattle.patch_run.specs.Ready.{IsNamed};
-ghost use Rattle.patch_run.specs.TurnView.{plain_turn};
+ghost use Rattle.patch_run.specs.TurnView.{plain_turn, IsTurn};
 
 use crate::fault::RunFault;
 use crate::past::{is_same, was_written};
@@ -42,6 +42,7 @@ pub fn make_effects<T: Tree>(
     temp: Temp<'_>,
     tree: &mut T,
 ) -> Result<Made, RunFault>
+    requires turn { IsTurn turn.now }
     requires named { IsNamed target.now }
     requires temp { temp.name.now ≡ target.now.temp }
     requires rows { length verdicts.now ≡ row_count turn.now.patch.now.change }
@@ -84,6 +85,7 @@ fn write_target<T: Tree>(
     temp: Temp<'_>,
     tree: &mut T,
 ) -> Result<Made, RunFault>
+    requires turn { IsTurn turn.now }
     requires named { IsNamed target.now }
     requires temp { temp.name.now ≡ target.now.temp }
     requires quiet { IsQuiet (T.view tree.old) }
@@ -116,6 +118,7 @@ fn write_target<T: Tree>(
 
 /// Whether a backup is due.
 fn is_backup_due(turn: &Turn<'_>, target: &Target, session: &Session) -> bool
+    requires turn { IsTurn turn.now }
     ensures { (vs : List Verdict) → session.now.inexact ≡ list_any is_inexact vs → result ≡ is_backup_due (plain_turn turn.now) target.now vs }
 {
     let options = turn.options;
@@ -126,6 +129,7 @@ fn is_backup_due(turn: &Turn<'_>, target: &Target, session: &Session) -> bool
 
 /// Whether an output without a byte takes the target away.
 fn is_removal(turn: &Turn<'_>, side: Side, session: &Session) -> bool
+    requires turn { IsTurn turn.now }
     ensures { (x : Tried) → x.side ≡ side → session.now.output_empty ≡ is_nothing x.output → result ≡ is_removal (plain_turn turn.now) x }
 {
     let options = turn.options;
