@@ -1,6 +1,6 @@
 //! All file patches of a set.
 
-ghost use Rattle.std.specs.Prelude.{◌≡◌, ◌<◌, ◌≤◌, ◌+◌, ◌||◌, ℕ, List, length, take, drop, slice_index_or, Some, IfOk, OnOk};
+ghost use Rattle.std.specs.Prelude.{◌≡◌, ◌<◌, ◌≤◌, ◌+◌, ◌^◌, ◌||◌, ℕ, List, length, take, drop, slice_index_or, Some, IfOk, OnOk};
 ghost use Rattle.outside.specs.Files.{Files};
 ghost use Rattle.outside.specs.Quiet.{IsQuiet};
 ghost use Rattle.file_patch.specs.declared.FilePatch.{FilePatch as ThePatch};
@@ -63,7 +63,8 @@ fn apply_all<P: Plan, T: Tree, O: Sink>(
     tree: &mut T,
     out: &mut O,
 ) -> Result<Applied, RunFault>
-    requires ready { IsReady (plain_options options.now) set.old }
+    requires ready { 0 < length set.old.patches → IsReady (plain_options options.now) set.old }
+    requires count { length set.old.patches < 2 ^ 32 }
     requires numbered { AreNumbered 0 set.old.patches }
     requires verdicts { length verdicts.old ≡ hunks_in set.old.patches }
     requires size { (P.seen plan.old).size ≡ options.now.buffer }

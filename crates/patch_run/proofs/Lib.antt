@@ -1,0 +1,7 @@
+pub mod EffectLists
+pub mod Folding
+pub mod Marks
+pub mod Ready
+pub mod Going
+pub mod RunEnds
+pub mod Applying
