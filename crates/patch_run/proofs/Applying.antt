@@ -46,12 +46,12 @@ effects-dry t f w x dry = rw dry
 abbrev cleared_in : Bool → Target → Option (List ℕ)
 cleared_in dry w = if dry then None else Some w.name
 
-module _ (t : PlainTurn) (f g : Files) (w : Target) (x : Tried) (named : IsNamed w) {u v z : TreeView} {c d : SinkView} (works : WorksOn u v w.temp) (told : u.told ≡ Some f) (now : v.told ≡ Some g) where
+module _ (t : PlainTurn) (f g : Files) (w : Target) (x : Tried) (named : IsNamed w) {u v : TreeView} (works : WorksOn u v w.temp) (told : u.told ≡ Some f) (now : v.told ≡ Some g) where
   name_same : get g w.name ≡ get f w.name
   name_same = works.others f g told now w.name (apart w.name w.temp named.lasting.own named.temps.own)
 
-  pub part_tried : (text : List ℕ) → Passes v z → IsPartOf v z c d (effects_of t g w x) text → IsPartOf u z c d (effects_of t f w x) text
-  part_tried text passes part =
+  pub part_tried : {z : TreeView} {c d : SinkView} (text : List ℕ) → Passes v z → IsPartOf v z c d (effects_of t g w x) text → IsPartOf u z c d (effects_of t f w x) text
+  part_tried {z = z} {c = c} {d = d} text passes part =
       let made = works_made w.temp named.temps.own works in
       subst (λ (l : List Effect). IsPartOf u z c d l text) (effects-same t f g w x name_same)
       (record {
@@ -60,14 +60,14 @@ module _ (t : PlainTurn) (f g : Files) (w : Target) (x : Tried) (named : IsNamed
         said = part.said;
       })
 
-  files_dry : t.options.dry_run ≡ true → g ≡ f → z.told ≡ Some g → z.told ≡ Some (cleared (cleared_in t.options.dry_run w) (after_all (effects_of t f w x) f))
-  files_dry dry same told =
+  files_dry : (z : TreeView) → t.options.dry_run ≡ true → g ≡ f → z.told ≡ Some g → z.told ≡ Some (cleared (cleared_in t.options.dry_run w) (after_all (effects_of t f w x) f))
+  files_dry z dry same told =
       told
       ∙ ap (λ (h : Files). Some h) same
       ∙ ap (λ (l : List Effect). Some (after_all l f)) (sym (effects-dry t f w x dry))
       ∙ ap (λ b. Some (cleared (cleared_in b w) (after_all (effects_of t f w x) f))) (sym dry)
 
-  files_wet : (done : Made) → t.options.dry_run ≡ false → IsMadeWhole t g w x done v z c d → z.told ≡ Some (cleared (cleared_in t.options.dry_run w) (after_all (effects_of t f w x) f))
+  files_wet : {z : TreeView} {c d : SinkView} (done : Made) → t.options.dry_run ≡ false → IsMadeWhole t g w x done v z c d → z.told ≡ Some (cleared (cleared_in t.options.dry_run w) (after_all (effects_of t f w x) f))
   files_wet done wet whole =
       let last = told_on g whole.made.passes now in
       let es = effects_of t f w x in
@@ -85,12 +85,12 @@ module _ (t : PlainTurn) (f g : Files) (w : Target) (x : Tried) (named : IsNamed
       ∙ ap (λ (n : List ℕ). Some (remove (after_all es f) n)) named.temp
       ∙ ap (λ b. Some (cleared (cleared_in b w) (after_all es f))) (sym wet)
 
-  files_tried : (done : Made) (dry : Bool) → t.options.dry_run ≡ dry → (t.options.dry_run ≡ true → g ≡ f) → IsMadeWhole t g w x done v z c d → z.told ≡ Some (cleared (cleared_in t.options.dry_run w) (after_all (effects_of t f w x) f))
-  files_tried done true is same whole = files_dry is (same is) (whole.same is)
+  files_tried : {z : TreeView} {c d : SinkView} (done : Made) (dry : Bool) → t.options.dry_run ≡ dry → (t.options.dry_run ≡ true → g ≡ f) → IsMadeWhole t g w x done v z c d → z.told ≡ Some (cleared (cleared_in t.options.dry_run w) (after_all (effects_of t f w x) f))
+  files_tried {z = z} done true is same whole = files_dry z is (same is) (whole.same is)
   files_tried done false is same whole = files_wet done is whole
 
-  pub whole_tried : (done : Made) → (t.options.dry_run ≡ true → g ≡ f) → IsMadeWhole t g w x done v z c d → IsWholeOf u z c d (effects_of t f w x) (tried_said t w x) (cleared (cleared_in t.options.dry_run w) (after_all (effects_of t f w x) f))
-  whole_tried done same whole = record {
+  pub whole_tried : {z : TreeView} {c d : SinkView} (done : Made) → (t.options.dry_run ≡ true → g ≡ f) → IsMadeWhole t g w x done v z c d → IsWholeOf u z c d (effects_of t f w x) (tried_said t w x) (cleared (cleared_in t.options.dry_run w) (after_all (effects_of t f w x) f))
+  whole_tried {z = z} done same whole = record {
     made = subst (λ (l : List Effect). HasMade u z l) (effects-same t f g w x name_same) (made_both (works_made w.temp named.temps.own works) whole.made);
     said = whole.said;
     now = files_tried done t.options.dry_run refl same whole;

@@ -3,8 +3,8 @@ use Rattle.std.proofs.Common.{◌≡◌, ◌+◌, ◌<◌, ℕ, List, [], ◌∷
 use Rattle.std.proofs.lemmas.List.{append-nil}
 use Rattle.outside.specs.Files.{Files}
 use Rattle.outside.specs.TreeView.{TreeView, Passes}
-use Rattle.outside.specs.SinkView.{SinkView}
-use Rattle.outside.specs.Quiet.{Effect, LeavesPrefix}
+use Rattle.outside.specs.SinkView.{SinkView, ReceivesPart}
+use Rattle.outside.specs.Quiet.{Effect, HasMade, TellsPrefix, LeavesPrefix}
 use Rattle.outside.proofs.Effects.{since_longer, tells_longer}
 use Rattle.outside.proofs.Writing.{received_both, part_longer, part_after}
 use Rattle.hunk_core.specs.declared.Verdict.{Verdict}
@@ -77,12 +77,12 @@ pub part_longer_run : {u w : TreeView} {a b : SinkView} (r s : Run) → More r s
 part_longer_run {u = u} {w = w} {a = a} {b = b} r s m part = record {
   tells = tells_longer u w r.effects m.effects s.effects m.made part.tells;
   leaves = since_longer u w r.effects m.effects s.effects m.made part.leaves;
-  said = subst (λ (l : List ℕ). _) (sym m.told) (part_longer a b r.said m.said part.said);
+  said = subst (λ (l : List ℕ). ReceivesPart a b l) (sym m.told) (part_longer a b r.said m.said part.said);
 }
 
 -- one file patch more
-pub far_on : {u v w : TreeView} {a b c : SinkView} {done : Done} {verdicts : List Verdict} {r : Run} {s : Story} (t : PlainTurn) → IsFar u v a b r → IsDone v w b c done verdicts r.files s → IsFar u w a c (with_story t r s)
-far_on {a = a} {b = b} {c = c} {r = r} {s = s} t far done = record {
+pub far_on : {u v w : TreeView} {a b c : SinkView} {done : Done} {verdicts : List Verdict} (t : PlainTurn) (r : Run) (s : Story) → IsFar u v a b r → IsDone v w b c done verdicts r.files s → IsFar u w a c (with_story t r s)
+far_on {a = a} {b = b} {c = c} t r s far done = record {
   made = made_both far.made done.whole.made;
   said = received_both a b c r.said s.said far.said done.whole.said;
   now = done.whole.now;
@@ -96,7 +96,7 @@ part_on {a = a} {b = b} {c = c} t r (ended s) far passes part = record {
   said = part_after a b c r.said s.said far.said part.said;
 }
 part_on {u = u} {w = w} {a = a} {b = b} {c = c} t r (stopped said fault) far passes part = record {
-  tells = subst (λ (l : List Effect). _) (append-nil r.effects) (tells_after far.made passes [] part.tells);
+  tells = subst (λ (l : List Effect). TellsPrefix u w l) (append-nil r.effects) (tells_after far.made passes [] part.tells);
   leaves = subst (λ (l : List Effect). LeavesPrefix u w l) (append-nil r.effects) (leaves_after far.made passes [] part.leaves);
   said = part_after a b c r.said said far.said part.said;
 }
@@ -104,7 +104,7 @@ part_on {u = u} {w = w} {a = a} {b = b} {c = c} t r (stopped said fault) far pas
 -- all that is said of a file that isn't taken
 far_stops : {u v w : TreeView} {a b c : SinkView} (r : Run) (said : List ℕ) (fault : OpenFault) → IsFar u v a b r → IsWholeOf v w b c [] said r.files → IsFar u w a c (with_stop r said fault)
 far_stops {u = u} {w = w} {a = a} {b = b} {c = c} r said fault far whole = record {
-  made = subst (λ (l : List Effect). _) (append-nil r.effects) (made_both far.made whole.made);
+  made = subst (λ (l : List Effect). HasMade u w l) (append-nil r.effects) (made_both far.made whole.made);
   said = received_both a b c r.said said far.said whole.said;
   now = whole.now;
 }
@@ -126,7 +126,7 @@ module _ (o : PlainOptions) (output : Option Target) (xs : List Item) (i : Item)
       ∙ run-both o output (xs ++ i ∷ []) ys (begun f)
       ∙ ap (λ (s : Run). run_on o output ys s) run-next
 
-  module _ {u v w : TreeView} {a b c : SinkView} (ys : List Item) (far : IsFar u v a b (run_of o output xs f)) (passes : Passes v w) where
+  module _ (u v w : TreeView) (a b c : SinkView) (ys : List Item) (far : IsFar u v a b (run_of o output xs f)) (passes : Passes v w) where
     cut_part : IsPartOf v w b c (effects_in (ending t (run_of o output xs f).files)) (said_of (ending t (run_of o output xs f).files)) → IsPartOf u w a c (run_of o output (xs ++ i ∷ ys) f).effects (run_of o output (xs ++ i ∷ ys) f).said
     cut_part part =
         let r = run_of o output xs f in
@@ -148,17 +148,17 @@ module _ (o : PlainOptions) (output : Option Target) (xs : List Item) (i : Item)
     cut_off Tree broken = cut_part broken
     cut_off Write broken = cut_part broken
     cut_off Scratch broken = cut_part broken
-    cut_off (LongLine line length) broken = cut_stop (open_fault.LongLine line length) broken
-    cut_off (FileTooLong length) broken = cut_stop (open_fault.FileTooLong length) broken
+    cut_off (LongLine line count) broken = cut_stop (open_fault.LongLine line count) broken
+    cut_off (FileTooLong count) broken = cut_stop (open_fault.FileTooLong count) broken
     cut_off (Disagree want got) broken = cut_part broken
     cut_off Memory broken = cut_part broken
 
 -- what a crash leaves of a run that was cut off
-pub cut_moments : {u w : TreeView} {a c : SinkView} (e : RunFault) (r : Run) → IsCutOff e u w a c r → LeavesPrefix u w r.effects
-cut_moments Tree r cut = cut.leaves
-cut_moments Write r cut = cut.leaves
-cut_moments Scratch r cut = cut.leaves
-cut_moments (LongLine line length) r cut = cut.1.made.since
-cut_moments (FileTooLong length) r cut = cut.1.made.since
-cut_moments (Disagree want got) r cut = cut.leaves
-cut_moments Memory r cut = cut.leaves
+pub cut_moments : (u w : TreeView) (a c : SinkView) (e : RunFault) (r : Run) → IsCutOff e u w a c r → LeavesPrefix u w r.effects
+cut_moments u w a c Tree r cut = cut.leaves
+cut_moments u w a c Write r cut = cut.leaves
+cut_moments u w a c Scratch r cut = cut.leaves
+cut_moments u w a c (LongLine line count) r cut = cut.1.made.since
+cut_moments u w a c (FileTooLong count) r cut = cut.1.made.since
+cut_moments u w a c (Disagree want got) r cut = cut.leaves
+cut_moments u w a c Memory r cut = cut.leaves

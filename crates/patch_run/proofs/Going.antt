@@ -26,7 +26,7 @@ use Rattle.patch_run.specs.declared.fault.RunFault.TheVariants.{Tree, Write, Scr
 use Rattle.patch_run.specs.declared.apply.Done.{Done}
 use Rattle.patch_run.specs.Devices.{Told, HasRunCause, scratch_with}
 use Rattle.patch_run.specs.OnePatch.{Item, Mark, PlainTurn, Story, Ending, ended, ending, mark_of}
-use Rattle.patch_run.specs.Run.{Run, begun, turn_of, with_story, with_ending, run_of, item_of, items_of, set_run}
+use Rattle.patch_run.specs.Run.{Run, begun, run_on, turn_of, with_story, with_ending, run_of, item_of, items_of, set_run}
 use Rattle.patch_run.specs.Ready.{AreNumbered, marks, rows_in, turn_at}
 use Rattle.patch_run.specs.Doing.{Stays, QuietAfter, IsDone, IsEnded, IsBroken, Does, IsFar, IsCutOff, scratch_behind, Runs, IsReceipt, StaysSet}
 use Rattle.patch_run.proofs.Folding.{run-next, cut_off, cut_moments, far_on}
@@ -45,21 +45,21 @@ goes_none u a c quiet = record { tree = passes_none u; plan = record { faults = 
 pub plan_both : {a b c : Seen} → KeepsPlan a b → KeepsPlan b c → KeepsPlan a c
 plan_both x y = record { faults = omega (arith, x.faults, y.faults); telling = y.telling ∙ x.telling; size = y.size ∙ x.size; needs_memory = y.needs_memory ∙ x.needs_memory }
 
-pub goes_on : {R : Type 0} {u v w : TreeView} {a b c : Seen} {d e g : SinkView} (x : R) → Goes u v a b d e → Stays v w b c e g (Ok {E = RunFault} x) → IsQuiet w → Goes u w a c d g
+pub goes_on : {R : Type 0} {u v w : TreeView} {a b c : Seen} {d e g : SinkView} (x : R) → Goes u v a b d e → Stays v w b c e g (Ok x) → IsQuiet w → Goes u w a c d g
 goes_on x goes stays quiet = record { tree = passes_both goes.tree stays.tree; plan = plan_both goes.plan stays.plan; sink = sink_passes_both goes.sink stays.sink; quiet = quiet }
 
 -- what is told is told on
 pub told_then : {u v : TreeView} {a b : Seen} {c d : SinkView} (f : Files) → Goes u v a b c d → Told u a f → (g : Files) × Told v b g
 told_then f goes told = let mid = told_on f goes.tree told.0 in (mid.0, (mid.1, goes.plan.telling ∙ told.1))
 
-pub cause_then : {u v w : TreeView} {a b c : Seen} {d e g : SinkView} (x : RunFault) → Goes u v a b d e → HasRunCause x v w b c e g → HasRunCause x u w a c d g
-cause_then {u = u} {v = v} {w = w} Tree goes cause = rises_then u v w goes.tree cause
-cause_then Write goes cause = λ small. omega (arith, cause small, goes.sink.counts)
-cause_then Scratch goes cause = λ small. omega (arith, cause small, goes.plan.faults)
-cause_then (LongLine line length) goes cause = omega (arith, cause, goes.plan.size)
-cause_then (FileTooLong length) goes cause = cause
-cause_then (Disagree want got) goes cause = (cause.0, λ f told. let mid = told_then f goes told in cause.1 mid.0 mid.1)
-cause_then Memory goes cause = sym goes.plan.needs_memory ∙ cause
+pub cause_then : (u v w : TreeView) (a b c : Seen) (d e g : SinkView) (x : RunFault) → Goes u v a b d e → HasRunCause x v w b c e g → HasRunCause x u w a c d g
+cause_then u v w a b c d e g Tree goes cause = rises_then u v w goes.tree cause
+cause_then u v w a b c d e g Write goes cause = λ small. omega (arith, cause small, goes.sink.counts)
+cause_then u v w a b c d e g Scratch goes cause = λ small. omega (arith, cause small, goes.plan.faults)
+cause_then u v w a b c d e g (LongLine line count) goes cause = omega (arith, cause, goes.plan.size)
+cause_then u v w a b c d e g (FileTooLong count) goes cause = cause
+cause_then u v w a b c d e g (Disagree want got) goes cause = (cause.0, λ f told. let mid = told_then f goes told in cause.1 mid.0 mid.1)
+cause_then u v w a b c d e g Memory goes cause = sym goes.plan.needs_memory ∙ cause
 
 -- the scratch holds one file more
 fold-push : {A B : Type 0} (step : B → A → B) (r : B) (xs : List A) (x : A) → fold step r (xs ++ x ∷ []) ≡ step (fold step r xs) x
@@ -134,7 +134,7 @@ module _ (o : PlainOptions) (v : SetView) (k : ℕ) (p : FilePatch) (vs ws : Lis
   at_story {a = a} {b = b} {scratch_after = scratch_after} r done s size at does scratch =
       let t = turn_at o v k vs p in
       record {
-        far = far_on t at.far does;
+        far = far_on t r s at.far does;
         going = refl;
         past =
             ap (λ (l : List Mark). l ++ mark_of t s.row s.verdicts ∷ []) at.past
@@ -161,25 +161,25 @@ module _ (o : PlainOptions) (v : SetView) (k : ℕ) (p : FilePatch) (vs ws : Lis
             ∙ sym (scratch-push scratch_after a.size a.scratch r.taken s.taken);
       }
 
-  module _ (f : Files) {u x w : TreeView} {a b b' : Seen} {c d e : SinkView} {scratch_after : ℕ → List ℕ → Option (List ℕ) → Option (List ℕ)} {is_bad : Bool} {count : ℕ} (at : IsAt u x a b c d scratch_after o v k vs is_bad count (run_to o v k f)) where
+  module _ (f : Files) (u x w : TreeView) (a b b' : Seen) (c d e : SinkView) {scratch_after : ℕ → List ℕ → Option (List ℕ) → Option (List ℕ)} {is_bad : Bool} {count : ℕ} (at : IsAt u x a b c d scratch_after o v k vs is_bad count (run_to o v k f)) where
     pub at_next : (done : Done) → b.size ≡ a.size
         → IsEnded x w b' d e (λ taken. scratch_with scratch_after b.size taken b.scratch) done (rows_in ws p) (run_to o v k f).files (ending (turn_at o v k vs p) (run_to o v k f).files)
         → IsAt u w a b' c e scratch_after o (with_row v k done.row) (k + 1) ws (is_bad || done.is_bad) (count + done.effects) (run_to o v (k + 1) f)
-    at_next done size ended =
+    at_next done size came =
         let r = run_to o v k f in
         let t = turn_at o v k vs p in
-        let is : run_to o v (k + 1) f ≡ with_story t r ended.story =
+        let is : run_to o v (k + 1) f ≡ with_story t r came.story =
         ap (λ (l : List Item). run_of o v.output l f) (item-next v k p next.within next.at)
         ∙ run-next o v.output (take k (items_of v)) (item_of v.text p) t f at.going (same-turn r at.past)
-        ∙ ap (λ (y : Ending). with_ending t r y) ended.is in
+        ∙ ap (λ (y : Ending). with_ending t r y) came.is in
         subst (λ (s : Run). IsAt u w a b' c e scratch_after o (with_row v k done.row) (k + 1) ws (is_bad || done.is_bad) (count + done.effects) s) (sym is)
-        (at_story r done ended.story size at ended.does ended.scratch)
+        (at_story r done came.story size at came.does came.scratch)
 
     pub at_fault : (fault : RunFault) → Passes x w → IsBroken fault x w d e (run_to o v k f).files (ending (turn_at o v k vs p) (run_to o v k f).files) → IsCutOff fault u w c e (set_run o v f)
     at_fault fault passes broken =
         let r = run_to o v k f in
         subst (λ (l : List Item). IsCutOff fault u w c e (run_of o v.output l f)) (items-around v k p next.within next.at)
-        (cut_off o v.output (take k (items_of v)) (item_of v.text p) (turn_at o v k vs p) f at.going (same-turn r at.past) (drop (k + 1) (items_of v)) at.far passes fault broken)
+        (cut_off o v.output (take k (items_of v)) (item_of v.text p) (turn_at o v k vs p) f at.going (same-turn r at.past) u x w c d e (drop (k + 1) (items_of v)) at.far passes fault broken)
 
 -- the set whose rows were noted has the same file patches
 pub same-run : (o : PlainOptions) (old new : SetView) (f : Files) → StaysSet old new → set_run o new f ≡ set_run o old f

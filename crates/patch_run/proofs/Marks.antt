@@ -1,13 +1,16 @@
 -- The marks, verdicts and rows of the first file patches of a set, as the next one gets its own.
 use Rattle.std.proofs.Common.{◌≡◌, ℕ, zero, suc, ◌+◌, ◌<◌, ◌≤◌, List, [], ◌∷◌, ◌++◌, length, map, take, drop, get_or, set, All, refl, sym, ◌∙◌, ap, subst, arith, add-one}
 use Rattle.std.proofs.Math.Seq.{take-add}
-use Rattle.std.proofs.lemmas.List.{take-take, drop-take, map_push, take_more, take_more_set}
-use Rattle.std.proofs.lemmas.List.Elements.{All-nil, All-cons, All-head, All-tail, All-weaker}
-use Rattle.std.proofs.lemmas.List.Sums.{sum_by_push}
+use Rattle.std.proofs.lemmas.List.{take-take, drop-take, length-map, map_push, take_more, get_or_default, drop_at}
+use Rattle.std.proofs.lemmas.List.Elements.{All-nil, All-cons, All-head, All-tail, All-get_or}
+use Rattle.std.proofs.lemmas.List.Sums.{sum_by-cons, sum_by_push}
 use Rattle.std.specs.List.{zip}
 use Rattle.hunk_core.specs.declared.Verdict.{Verdict}
 use Rattle.file_patch.specs.declared.FilePatch.{FilePatch}
-use Rattle.file_patch.specs.PlainPatch.{row_count}
+use Rattle.hunk_core.specs.PlainHunk.{hunk_of}
+use Rattle.file_patch.specs.declared.Change.{Change}
+use Rattle.file_patch.specs.declared.Change.TheVariants.{Hunks, Script}
+use Rattle.file_patch.specs.PlainPatch.{row_count, hunk_count, change_of}
 use Rattle.patch_options.specs.PlainJob.{PlainOptions}
 use Rattle.patch_set.specs.declared.set.Row.{Row}
 use Rattle.patch_set.specs.SetView.{SetView, hunks_in, with_row}
@@ -31,13 +34,14 @@ numbered-first before k [] p is lt at = absurd (omega arith)
 numbered-first before zero (q ∷ ps) p is lt at = ap (λ (x : FilePatch). x.first_verdict) at ∙ is.0 ∙ omega arith
 numbered-first before (suc k) (q ∷ ps) p is lt at =
     let rest : p.first_verdict ≡ before + row_count q.change + hunks_in (take k ps) = numbered-first (before + row_count q.change) k ps p is.1 (omega (arith, lt)) at in
-    omega (arith, rest)
+    let more : hunks_in (q ∷ take k ps) ≡ row_count q.change + hunks_in (take k ps) = sum_by-cons (λ (x : FilePatch). row_count x.change) q (take k ps) in
+    omega (arith, rest, more)
 
 pub numbered-within : (before n : ℕ) (ps : List FilePatch) → AreNumbered before ps → before + hunks_in ps ≤ n → All (EndsWithin n) ps
 numbered-within before n [] is le = All-nil (EndsWithin n)
 numbered-within before n (p ∷ ps) is le =
-    let more : before + (row_count p.change + hunks_in ps) ≤ n = le in
-    All-cons (EndsWithin n) p ps (omega (arith, is.0, more)) (numbered-within (before + row_count p.change) n ps is.1 (omega (arith, more)))
+    let more : hunks_in (p ∷ ps) ≡ row_count p.change + hunks_in ps = sum_by-cons (λ (x : FilePatch). row_count x.change) p ps in
+    All-cons (EndsWithin n) p ps (omega (arith, is.0, more, le)) (numbered-within (before + row_count p.change) n ps is.1 (omega (arith, more, le)))
 
 pub hunks-next : (k : ℕ) (ps : List FilePatch) (p : FilePatch) → k < length ps → p ≡ get_or ps k p → hunks_in (take (k + 1) ps) ≡ hunks_in (take k ps) + row_count p.change
 hunks-next k ps p lt at =
@@ -103,3 +107,32 @@ marks-next o v k p r vs ws is lt long at same =
     ∙ map_push (mark_in o v ws) (zip (take k v.patches) v.rows) (p, r)
     ∙ ap (λ (l : List Mark). l ++ mark_in o v ws (p, r) ∷ []) (marks-kept o v v vs ws p.first_verdict (take k v.patches) v.rows refl refl within same)
     ∙ ap (λ (m : Mark). map (mark_in o v vs) (zip (take k v.patches) v.rows) ++ m ∷ []) (mark-alone o v k vs p r (rows_in ws p))
+
+-- ---- the place of a file patch among the verdicts
+
+pub rows-counted : (text : List ℕ) (change : Change) → hunk_count (change_of text change) ≡ row_count change
+rows-counted text (Hunks hs) = length-map hs.items (hunk_of text)
+rows-counted text (Script s) = refl
+
+pub place-at : (vs : List Verdict) (ps : List FilePatch) (k : ℕ) (p : FilePatch) → AreNumbered 0 ps → k < length ps → p ≡ get_or ps k p → length vs ≡ hunks_in ps → p.first_verdict + row_count p.change ≤ length vs
+place-at vs ps k p is lt at long =
+    let n = length vs in
+    let all : All (EndsWithin n) ps = numbered-within 0 n ps is (omega (arith, long)) in
+    subst (λ (x : FilePatch). EndsWithin n x) (sym at) (All-get_or (EndsWithin n) ps k p lt all)
+
+pub same-patch : (ps : List FilePatch) (k : ℕ) (p q : FilePatch) → k < length ps → p ≡ get_or ps k p → q ≡ get_or ps k q → q ≡ p
+same-patch ps k p q lt here there = there ∙ get_or_default ps k q p lt ∙ sym here
+
+pub all-first : (ps : List FilePatch) (k : ℕ) (p : FilePatch) (n : ℕ) → AreNumbered 0 ps → k < length ps → p ≡ get_or ps k p → p.first_verdict ≤ n → All (EndsWithin n) (take k ps)
+all-first ps k p n is lt at le =
+    let first = numbered-first 0 k ps p is lt at in
+    numbered-within 0 n (take k ps) (numbered-take 0 k ps is) (omega (arith, first, le))
+
+-- the verdicts behind a front of that length
+pub rows-last : (front rest : List Verdict) (p : FilePatch) → length front ≡ p.first_verdict → rows_in (front ++ rest) p ≡ take (row_count p.change) rest
+rows-last front rest p long = ap (λ (l : List Verdict). take (row_count p.change) l) (drop_at front rest p.first_verdict long)
+
+pub patch-there : (ps : List FilePatch) (k : ℕ) → k < length ps → (p : FilePatch) × (p ≡ get_or ps k p)
+patch-there [] k lt = absurd (omega arith)
+patch-there (p ∷ ps) zero lt = (p, refl)
+patch-there (p ∷ ps) (suc k) lt = patch-there ps k (omega (arith, lt))

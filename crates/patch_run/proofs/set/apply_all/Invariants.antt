@@ -12,8 +12,8 @@ abbrev pub invariant-loop-k : goal.invariant-loop-k
 invariant-loop-k g l =
     let u = g.T.Tree.view l.fn.tree in
     let v = g.T.Tree.view l.tree in
-    let a = g.P.Plan.seen l.fn.plan in
-    let b = g.P.Plan.seen l.plan in
+    let a = g.P.LineStore.seen l.fn.plan in
+    let b = g.P.LineStore.seen l.plan in
     let c = g.O.Sink.view l.fn.out in
     let d = g.O.Sink.view l.out in
     let o = plain_options l.options in
