@@ -5,3 +5,4 @@ pub mod Ready
 pub mod Going
 pub mod RunEnds
 pub mod Applying
+pub mod Turning

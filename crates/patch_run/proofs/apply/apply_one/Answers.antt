@@ -1,0 +1,30 @@
+use Rattle.std.proofs.Common.{◌≡◌, length, replicate, sym, ◌∙◌, ap}
+use Rattle.hunk_core.specs.declared.Verdict.TheVariants.{Ignored}
+use Rattle.patch_run.specs.OnePatch.{total}
+use Rattle.patch_run.specs.TurnView.{plain_turn}
+use Rattle.patch_run.proofs.Marks.{rows-counted}
+use Rattle.patch_run.proofs.Turning.{start_fails, lines_told, skip_does, try_does}
+use Rattle.patch_run.proofs.apply.apply_one.Goals as goal
+
+pub returns-in_err-row-clause-does : goal.returns-in_err-row-clause-does
+returns-in_err-row-clause-does g c =
+    start_fails (plain_turn c.args.turn.now) (g.T.Tree.view c.args.tree.now) (g.T.Tree.view c.start.new.tree) (g.P.LineStore.seen c.args.plan.now) (g.P.LineStore.seen c.start.new.plan) (g.O.Sink.view c.args.out.now) (g.O.Sink.view c.start.new.out) g.P.Plan.scratch_after c.requires.quiet
+    c.in_err-row.field-0.0 c.from_residual.result c.args.verdicts.now c.from_residual.ensures.1 c.in_err-row.ensures.starts
+
+pub try_at-requires-clause-told : goal.try_at-requires-clause-told
+try_at-requires-clause-told g c =
+    lines_told (plain_turn c.args.turn.now) (g.T.Tree.view c.args.tree.now) (g.T.Tree.view c.start.new.tree) (g.P.LineStore.seen c.args.plan.now) (g.P.LineStore.seen c.start.new.plan) (g.O.Sink.view c.args.out.now) (g.O.Sink.view c.start.new.out) g.P.Plan.scratch_after c.requires.quiet
+    c.in_ok-row.field-0 c.in_ok-row.ensures.starts c.in-Try.place c.in-Try.side c.in-Try.is
+
+pub returns-in-Skip-clause-does : goal.returns-in-Skip-clause-does
+returns-in-Skip-clause-does g c =
+    let t = plain_turn c.args.turn.now in
+    let count : length c.args.verdicts.now ≡ total t = c.requires.rows ∙ sym (rows-counted c.args.turn.now.set.now.text c.args.turn.now.patch.now.change) in
+    skip_does t (g.T.Tree.view c.args.tree.now) (g.T.Tree.view c.start.new.tree) (g.P.LineStore.seen c.args.plan.now) (g.P.LineStore.seen c.start.new.plan) (g.O.Sink.view c.args.out.now) (g.O.Sink.view c.start.new.out) g.P.Plan.scratch_after c.requires.quiet
+    c.in_ok-row.field-0 c.in_ok-row.ensures.starts c.in-Skip.row c.in-Skip.is (g.O.Sink.view c.skip.new.out) c.skip.new.verdicts (c.skip.ensures.ignored ∙ ap (λ n. replicate n Ignored) count) c.skip.result c.skip.ensures.writes c.skip.ensures.fault c.skip.ensures.done
+
+pub returns-in-Try-clause-does : goal.returns-in-Try-clause-does
+returns-in-Try-clause-does g c =
+    try_does (plain_turn c.args.turn.now) (g.T.Tree.view c.args.tree.now) (g.T.Tree.view c.start.new.tree) (g.P.LineStore.seen c.args.plan.now) (g.P.LineStore.seen c.start.new.plan) (g.O.Sink.view c.args.out.now) (g.O.Sink.view c.start.new.out) g.P.Plan.scratch_after c.requires.quiet
+    c.in_ok-row.field-0 c.in_ok-row.ensures.starts c.in-Try.place c.in-Try.side c.in-Try.is (g.T.Tree.view c.try_at.new.tree) (g.P.LineStore.seen c.try_at.new.plan) (g.O.Sink.view c.try_at.new.out) c.try_at.new.verdicts c.try_at.ensures.keeps
+    c.try_at.result c.try_at.ensures.stays c.try_at.ensures.quiet c.try_at.ensures.cause c.try_at.ensures.whole c.try_at.ensures.broken
