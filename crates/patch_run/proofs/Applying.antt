@@ -1,10 +1,10 @@
 -- Hunks that were tried, and then told of with their effects.
-use Rattle.std.proofs.Common.{◌≡◌, ◌≢◌, ⊎_elim, ℕ, zero, List, [], ◌∷◌, ◌++◌, length, map, Bool, true, false, ◌||◌, if◌then◌else◌, is_some, Option, None, Some, Result, Ok, Err, OnOk, OnErr, IfOk, refl, sym, ◌∙◌, ap, subst, arith}
+use Rattle.std.proofs.Common.{◌≡◌, ◌≢◌, ⊎_elim, ℕ, zero, List, [], length, Bool, true, false, ◌||◌, if◌then◌else◌, Option, None, Some, Result, Ok, Err, OnOk, OnErr, IfOk, refl, sym, ◌∙◌, ap, subst, arith}
 use Rattle.std.proofs.lemmas.Bool.{false≢true}
 use Rattle.std.proofs.lemmas.Option.{same_Some}
 use Rattle.std.specs.FinMap.{get, remove}
-use Rattle.outside.specs.Files.{Files, temp_of, is_temp}
-use Rattle.outside.specs.TreeView.{TreeView, Passes, passes_both, told_on}
+use Rattle.outside.specs.Files.{Files, is_temp}
+use Rattle.outside.specs.TreeView.{TreeView, Passes, told_on}
 use Rattle.outside.specs.SinkView.{SinkView, Receives, ReceivesPart}
 use Rattle.outside.specs.Quiet.{IsQuiet, Effect, HasMade, WorksOn, Holds, after_all}
 use Rattle.outside.proofs.Names.{equal_or_not, get-gone, get-gone_other, apart, same_files}
@@ -17,8 +17,6 @@ use Rattle.hunk_apply.specs.declared.Session.{Session}
 use Rattle.replace_file.specs.declared.temp.Temp.{Temp}
 use Rattle.patch_run.specs.declared.fault.RunFault.{RunFault}
 use Rattle.patch_run.specs.Trying.{IsSession, IsBegun}
-use Rattle.line_store.specs.Store.{Seen, Keeps}
-use Rattle.line_store.specs.Taking.{KeepsPlan}
 use Rattle.target_names.specs.declared.derived.Target.{Target}
 use Rattle.patch_set.specs.declared.set.Row.{Row}
 use Rattle.patch_run.specs.declared.apply.Done.{Done}
@@ -30,11 +28,8 @@ use Rattle.patch_run.specs.Ready.{IsNamed}
 use Rattle.patch_run.specs.Doing.{IsPartOf, IsWholeOf, IsDone, IsOutcome, IsMadeWhole}
 use Rattle.patch_run.proofs.EffectLists.{after_all-at, made_both, leaves_after, tells_after}
 
-pub keeps_plan : {a b : Seen} → Keeps a b → KeepsPlan a b
-keeps_plan keeps = record { faults = keeps.faults; telling = ap (λ (x : Option (List ℕ)). is_some x) keeps.scratch; size = keeps.size; needs_memory = keeps.needs_memory }
-
 -- work on a temporary alone has no effect
-pub works_made : {u v : TreeView} (temp : List ℕ) → is_temp temp ≡ true → WorksOn u v temp → HasMade u v []
+works_made : {u v : TreeView} (temp : List ℕ) → is_temp temp ≡ true → WorksOn u v temp → HasMade u v []
 works_made temp is works = record {
   passes = works.passes;
   quiet = works.quiet;
@@ -42,11 +37,11 @@ works_made temp is works = record {
   since = λ f told c left. (zero, omega arith, works.since f told c left);
 }
 
-pub effects-same : (t : PlainTurn) (f g : Files) (w : Target) (x : Tried) → get g w.name ≡ get f w.name → effects_of t g w x ≡ effects_of t f w x
+effects-same : (t : PlainTurn) (f g : Files) (w : Target) (x : Tried) → get g w.name ≡ get f w.name → effects_of t g w x ≡ effects_of t f w x
 unfolding effects_of
 effects-same t f g w x same = rw same
 
-pub wrote-same : (t : PlainTurn) (f g : Files) (w : Target) (x : Tried) → get g w.name ≡ get f w.name → wrote t g w x ≡ wrote t f w x
+wrote-same : (t : PlainTurn) (f g : Files) (w : Target) (x : Tried) → get g w.name ≡ get f w.name → wrote t g w x ≡ wrote t f w x
 unfolding wrote
 wrote-same t f g w x same = rw same
 
@@ -61,7 +56,7 @@ module _ (t : PlainTurn) (f g : Files) (w : Target) (x : Tried) (named : IsNamed
   name_same : get g w.name ≡ get f w.name
   name_same = works.others f g told now w.name (apart w.name w.temp named.lasting.own named.temps.own)
 
-  pub part_tried : {z : TreeView} {c d : SinkView} (text : List ℕ) → Passes v z → IsPartOf v z c d (effects_of t g w x) text → IsPartOf u z c d (effects_of t f w x) text
+  part_tried : {z : TreeView} {c d : SinkView} (text : List ℕ) → Passes v z → IsPartOf v z c d (effects_of t g w x) text → IsPartOf u z c d (effects_of t f w x) text
   part_tried {z = z} {c = c} {d = d} text passes part =
       let made = works_made w.temp named.temps.own works in
       subst (λ (l : List Effect). IsPartOf u z c d l text) (effects-same t f g w x name_same)
@@ -100,7 +95,7 @@ module _ (t : PlainTurn) (f g : Files) (w : Target) (x : Tried) (named : IsNamed
   files_tried {z = z} done true is same whole = files_dry z is (same is) (whole.same is)
   files_tried done false is same whole = files_wet done is whole
 
-  pub whole_tried : {z : TreeView} {c d : SinkView} (done : Made) → (t.options.dry_run ≡ true → g ≡ f) → IsMadeWhole t g w x done v z c d → IsWholeOf u z c d (effects_of t f w x) (tried_said t w x) (cleared (cleared_in t.options.dry_run w) (after_all (effects_of t f w x) f))
+  whole_tried : {z : TreeView} {c d : SinkView} (done : Made) → (t.options.dry_run ≡ true → g ≡ f) → IsMadeWhole t g w x done v z c d → IsWholeOf u z c d (effects_of t f w x) (tried_said t w x) (cleared (cleared_in t.options.dry_run w) (after_all (effects_of t f w x) f))
   whole_tried {z = z} done same whole = record {
     made = subst (λ (l : List Effect). HasMade u z l) (effects-same t f g w x name_same) (made_both (works_made w.temp named.temps.own works) whole.made);
     said = whole.said;
@@ -133,11 +128,11 @@ module _ {dry : Bool} {u : TreeView} {session : Session} {temp : List ℕ} {side
   outcome_is : outcome side vs x.output ≡ x
   outcome_is = ap (λ (s : Side). outcome s vs x.output) (sym is.side) ∙ ap (λ (l : List Verdict). outcome x.side l x.output) (sym is.verdicts)
 
-  pub outcome_counts : IsSession session vs x.output
+  outcome_counts : IsSession session vs x.output
   outcome_counts = subst (λ (l : List Verdict). IsSession session l x.output) is.verdicts is.counts
 
 -- nothing was made
-pub part_unmade : {u : TreeView} {c d : SinkView} (es : List Effect) (text : List ℕ) → IsQuiet u → ReceivesPart c d text → IsPartOf u u c d es text
+part_unmade : {u : TreeView} {c d : SinkView} (es : List Effect) (text : List ℕ) → IsQuiet u → ReceivesPart c d text → IsPartOf u u c d es text
 part_unmade {u = u} es text quiet said = record {
   tells = tells_longer u u [] es es refl (made_tells_all u u [] (made_none u quiet));
   leaves = since_longer u u [] es es refl (made_none u quiet).since;

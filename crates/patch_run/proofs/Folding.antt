@@ -1,5 +1,5 @@
 -- The run as a fold: one file patch more, and what a longer run adds to a shorter one.
-use Rattle.std.proofs.Common.{◌≡◌, ◌+◌, ◌<◌, ℕ, List, [], ◌∷◌, ◌++◌, map, length, Bool, ◌||◌, Option, Some, None, refl, sym, ◌∙◌, ap, subst, append_assoc}
+use Rattle.std.proofs.Common.{◌≡◌, ◌+◌, ℕ, List, [], ◌∷◌, ◌++◌, Option, Some, None, refl, sym, ◌∙◌, ap, subst, append_assoc}
 use Rattle.std.proofs.lemmas.List.{append-nil}
 use Rattle.outside.specs.Files.{Files}
 use Rattle.outside.specs.TreeView.{TreeView, Passes}
@@ -16,7 +16,7 @@ use Rattle.patch_run.specs.declared.fault.RunFault.{RunFault}
 use Rattle.patch_run.specs.declared.fault.RunFault.TheVariants.{Tree, Write, Scratch, LongLine, FileTooLong, Disagree, Memory}
 use Rattle.patch_run.specs.declared.apply.Done.{Done}
 use Rattle.patch_run.specs.OnePatch.{Item, PlainTurn, Story, Ending, ended, stopped, ending}
-use Rattle.patch_run.specs.Run.{Run, begun, turn_of, with_story, with_stop, with_ending, if_going, with_item, run_on, run_of, files_after}
+use Rattle.patch_run.specs.Run.{Run, begun, turn_of, with_story, with_stop, with_ending, if_going, with_item, run_on, run_of}
 use Rattle.patch_run.specs.Doing.{IsPartOf, IsWholeOf, IsDone, IsStopped, IsBroken, IsFar, IsHalted, IsCutOff, effects_in, said_of}
 use Rattle.patch_run.proofs.EffectLists.{made_both, leaves_after, tells_after}
 
@@ -25,7 +25,7 @@ unfolding run_on
 run-both o output [] ys r = refl
 run-both o output (i ∷ xs) ys r = run-both o output xs ys (with_item o output r i)
 
-pub run-push : (o : PlainOptions) (output : Option Target) (xs : List Item) (i : Item) (r : Run) → run_on o output (xs ++ i ∷ []) r ≡ with_item o output (run_on o output xs r) i
+run-push : (o : PlainOptions) (output : Option Target) (xs : List Item) (i : Item) (r : Run) → run_on o output (xs ++ i ∷ []) r ≡ with_item o output (run_on o output xs r) i
 unfolding run_on
 run-push o output xs i r = run-both o output xs (i ∷ []) r
 
@@ -61,10 +61,6 @@ more_on o output [] r = more_none r
 more_on o output (i ∷ xs) r =
     more_both (more_going r.stop r _ (more_ending (turn_of o output r i) r (ending (turn_of o output r i) r.files))) (more_on o output xs (with_item o output r i))
 
--- what all file patches add to the first ones
-pub run-more : (o : PlainOptions) (output : Option Target) (xs ys : List Item) (f : Files) → More (run_of o output xs f) (run_of o output (xs ++ ys) f)
-run-more o output xs ys f = subst (λ (s : Run). More (run_of o output xs f) s) (sym (run-both o output xs ys (begun f))) (more_on o output ys (run_of o output xs f))
-
 -- a stopped run does no more
 stays_stopped : (o : PlainOptions) (output : Option Target) (xs : List Item) (r : Run) (fault : OpenFault) → r.stop ≡ Some fault → run_on o output xs r ≡ r
 unfolding run_on
@@ -73,7 +69,7 @@ stays_stopped o output (i ∷ xs) r fault stop =
     let same : with_item o output r i ≡ r = ap (λ x. if_going x r (with_ending (turn_of o output r i) r (ending (turn_of o output r i) r.files))) stop in
     ap (λ (s : Run). run_on o output xs s) same ∙ stays_stopped o output xs r fault stop
 
-pub part_longer_run : {u w : TreeView} {a b : SinkView} (r s : Run) → More r s → IsPartOf u w a b r.effects r.said → IsPartOf u w a b s.effects s.said
+part_longer_run : {u w : TreeView} {a b : SinkView} (r s : Run) → More r s → IsPartOf u w a b r.effects r.said → IsPartOf u w a b s.effects s.said
 part_longer_run {u = u} {w = w} {a = a} {b = b} r s m part = record {
   tells = tells_longer u w r.effects m.effects s.effects m.made part.tells;
   leaves = since_longer u w r.effects m.effects s.effects m.made part.leaves;

@@ -1,20 +1,18 @@
 -- How far a run has come: the loop over the file patches of a set.
-use Rattle.std.proofs.Common.{◌≡◌, ◌≢◌, inl, inr, ℕ, suc, ◌+◌, ◌-◌, ◌<◌, ◌≤◌, ◌^◌, List, [], ◌∷◌, ◌++◌, length, map, take, drop, get_or, set, Bool, true, false, ◌||◌, is_some, Option, None, Some, Result, Ok, Err, IfErr, refl, sym, ◌∙◌, ap, subst, arith, length-append, add-one}
-use Rattle.std.proofs.lemmas.List.{append-nil, append_assoc, map_push, map_more, take_all, take_more_set, take-append-drop, drop_more, drop-map, take-map, length-map}
+use Rattle.std.proofs.Common.{◌≡◌, ℕ, ◌+◌, ◌-◌, ◌<◌, List, [], ◌∷◌, ◌++◌, length, map, take, drop, get_or, Bool, false, ◌||◌, Option, None, Some, Ok, refl, sym, ◌∙◌, ap, subst, arith, length-append}
+use Rattle.std.proofs.lemmas.List.{append-nil, append_assoc, map_push, map_more, take_all, take_more_set, take-append-drop, take-map, length-map}
 use Rattle.std.proofs.lemmas.List.Concat.{flat_map-append}
 use Rattle.std.specs.List.{fold, flat_map}
 use Rattle.std.specs.Option.{option_to_list}
-use Rattle.std.specs.Result.{IsErrAnd}
 use Rattle.outside.specs.Files.{Files}
 use Rattle.outside.specs.TreeView.{TreeView, Passes, passes_none, passes_both, told_on}
 use Rattle.outside.specs.SinkView.{SinkView, SinkPasses, sink_passes_none, sink_passes_both}
-use Rattle.outside.specs.Quiet.{IsQuiet, Effect, LeavesPrefix}
+use Rattle.outside.specs.Quiet.{IsQuiet}
 use Rattle.outside.proofs.Views.{rises_then}
 use Rattle.outside.proofs.Effects.{made_none}
 use Rattle.outside.proofs.Writing.{received_none}
 use Rattle.hunk_core.specs.declared.Verdict.{Verdict}
 use Rattle.file_patch.specs.declared.FilePatch.{FilePatch}
-use Rattle.file_patch.specs.PlainPatch.{row_count}
 use Rattle.line_store.specs.Store.{Seen}
 use Rattle.line_store.specs.Taking.{KeepsPlan}
 use Rattle.patch_options.specs.PlainJob.{PlainOptions}
@@ -25,11 +23,11 @@ use Rattle.patch_run.specs.declared.fault.RunFault.{RunFault}
 use Rattle.patch_run.specs.declared.fault.RunFault.TheVariants.{Tree, Write, Scratch, LongLine, FileTooLong, Disagree, Memory}
 use Rattle.patch_run.specs.declared.apply.Done.{Done}
 use Rattle.patch_run.specs.Devices.{Told, HasRunCause, scratch_with}
-use Rattle.patch_run.specs.OnePatch.{Item, Mark, PlainTurn, Story, Ending, ended, ending, mark_of}
-use Rattle.patch_run.specs.Run.{Run, begun, run_on, turn_of, with_story, with_ending, run_of, item_of, items_of, set_run}
+use Rattle.patch_run.specs.OnePatch.{Item, Mark, PlainTurn, Story, Ending, ending, mark_of}
+use Rattle.patch_run.specs.Run.{Run, run_on, turn_of, with_story, with_ending, run_of, item_of, items_of, set_run}
 use Rattle.patch_run.specs.Ready.{AreNumbered, marks, rows_in, turn_at}
-use Rattle.patch_run.specs.Doing.{Stays, QuietAfter, IsDone, IsEnded, IsBroken, Does, IsFar, IsCutOff, scratch_behind, Runs, IsReceipt, StaysSet}
-use Rattle.patch_run.proofs.Folding.{run-next, cut_off, cut_moments, far_on}
+use Rattle.patch_run.specs.Doing.{Stays, IsDone, IsEnded, IsBroken, IsFar, IsCutOff, scratch_behind, StaysSet}
+use Rattle.patch_run.proofs.Folding.{run-next, cut_off, far_on}
 use Rattle.patch_run.proofs.Marks.{verdicts-next, marks-next}
 
 -- what passes over the devices while a run goes on
@@ -49,7 +47,7 @@ pub goes_on : {R : Type 0} {u v w : TreeView} {a b c : Seen} {d e g : SinkView} 
 goes_on x goes stays quiet = record { tree = passes_both goes.tree stays.tree; plan = plan_both goes.plan stays.plan; sink = sink_passes_both goes.sink stays.sink; quiet = quiet }
 
 -- what is told is told on
-pub told_then : {u v : TreeView} {a b : Seen} {c d : SinkView} (f : Files) → Goes u v a b c d → Told u a f → (g : Files) × Told v b g
+told_then : {u v : TreeView} {a b : Seen} {c d : SinkView} (f : Files) → Goes u v a b c d → Told u a f → (g : Files) × Told v b g
 told_then f goes told = let mid = told_on f goes.tree told.0 in (mid.0, (mid.1, goes.plan.telling ∙ told.1))
 
 pub cause_then : (u v w : TreeView) (a b c : Seen) (d e g : SinkView) (x : RunFault) → Goes u v a b d e → HasRunCause x v w b c e g → HasRunCause x u w a c d g

@@ -24,7 +24,7 @@ use Rattle.patch_run.specs.Ready.{AreNumbered, alone, mark_in, marks, rows_in, t
 abbrev pub EndsWithin : ℕ → FilePatch → Type 0
 EndsWithin n p = p.first_verdict + row_count p.change ≤ n
 
-pub numbered-take : (before k : ℕ) (ps : List FilePatch) → AreNumbered before ps → AreNumbered before (take k ps)
+numbered-take : (before k : ℕ) (ps : List FilePatch) → AreNumbered before ps → AreNumbered before (take k ps)
 numbered-take before zero ps is = tt
 numbered-take before (suc k) [] is = tt
 numbered-take before (suc k) (p ∷ ps) is = (is.0, numbered-take (before + row_count p.change) k ps is.1)
@@ -37,19 +37,19 @@ numbered-first before (suc k) (q ∷ ps) p is lt at =
     let more : hunks_in (q ∷ take k ps) ≡ row_count q.change + hunks_in (take k ps) = sum_by-cons (λ (x : FilePatch). row_count x.change) q (take k ps) in
     omega (arith, rest, more)
 
-pub numbered-within : (before n : ℕ) (ps : List FilePatch) → AreNumbered before ps → before + hunks_in ps ≤ n → All (EndsWithin n) ps
+numbered-within : (before n : ℕ) (ps : List FilePatch) → AreNumbered before ps → before + hunks_in ps ≤ n → All (EndsWithin n) ps
 numbered-within before n [] is le = All-nil (EndsWithin n)
 numbered-within before n (p ∷ ps) is le =
     let more : hunks_in (p ∷ ps) ≡ row_count p.change + hunks_in ps = sum_by-cons (λ (x : FilePatch). row_count x.change) p ps in
     All-cons (EndsWithin n) p ps (omega (arith, is.0, more, le)) (numbered-within (before + row_count p.change) n ps is.1 (omega (arith, more, le)))
 
-pub hunks-next : (k : ℕ) (ps : List FilePatch) (p : FilePatch) → k < length ps → p ≡ get_or ps k p → hunks_in (take (k + 1) ps) ≡ hunks_in (take k ps) + row_count p.change
+hunks-next : (k : ℕ) (ps : List FilePatch) (p : FilePatch) → k < length ps → p ≡ get_or ps k p → hunks_in (take (k + 1) ps) ≡ hunks_in (take k ps) + row_count p.change
 hunks-next k ps p lt at =
     ap (λ (l : List FilePatch). hunks_in l) (take_more ps k p lt ∙ ap (λ (x : FilePatch). take k ps ++ x ∷ []) (sym at))
     ∙ sum_by_push (λ (q : FilePatch). row_count q.change) (take k ps) p
 
 -- verdicts in front stay
-pub rows-front : (vs ws : List Verdict) (n : ℕ) (p : FilePatch) → EndsWithin n p → take n ws ≡ take n vs → rows_in ws p ≡ rows_in vs p
+rows-front : (vs ws : List Verdict) (n : ℕ) (p : FilePatch) → EndsWithin n p → take n ws ≡ take n vs → rows_in ws p ≡ rows_in vs p
 rows-front vs ws n p le same =
     let m = row_count p.change in
     let k = p.first_verdict in

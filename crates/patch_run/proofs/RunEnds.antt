@@ -1,7 +1,6 @@
 -- The ends of a run over the file patches of a set.
-use Rattle.std.proofs.Common.{◌≡◌, ◌⊎◌, ℕ, zero, suc, ◌+◌, ◌<◌, ◌≤◌, List, [], ◌∷◌, ◌++◌, length, map, take, get_or, replicate, Bool, Option, None, Some, Result, Ok, Err, refl, sym, ◌∙◌, ap, subst, arith, length-append}
-use Rattle.std.proofs.lemmas.List.{take_all, take_more, take_more_set, same_from_push}
-use Rattle.std.specs.List.{flat_map}
+use Rattle.std.proofs.Common.{◌≡◌, ◌⊎◌, ℕ, ◌+◌, ◌<◌, List, [], ◌∷◌, ◌++◌, length, take, get_or, replicate, Bool, Option, Result, Ok, Err, sym, ◌∙◌, ap, subst, arith, length-append}
+use Rattle.std.proofs.lemmas.List.{take_more, take_more_set, same_from_push}
 use Rattle.std.specs.Result.{IsErrAnd}
 use Rattle.outside.specs.Files.{Files}
 use Rattle.outside.specs.TreeView.{TreeView, passes_both}
@@ -14,19 +13,18 @@ use Rattle.file_patch.specs.PlainPatch.{change_of, row_count}
 use Rattle.line_store.specs.Store.{Seen}
 use Rattle.patch_options.specs.PlainJob.{PlainOptions}
 use Rattle.patch_set.specs.declared.set.Row.{Row}
-use Rattle.patch_set.specs.SetView.{SetView, hunks_in, with_row}
+use Rattle.patch_set.specs.SetView.{SetView, with_row}
 use Rattle.patch_run.specs.declared.fault.RunFault.{RunFault}
 use Rattle.patch_run.specs.declared.fault.RunFault.TheVariants.{Tree, Write, Scratch, LongLine, FileTooLong, Disagree, Memory}
 use Rattle.patch_run.specs.declared.apply.Done.{Done}
-use Rattle.patch_run.specs.Applied.{Receipt}
-use Rattle.patch_run.specs.Devices.{Told, HasRunCause}
-use Rattle.patch_run.specs.OnePatch.{Story, ending}
+use Rattle.patch_run.specs.Devices.{Told}
+use Rattle.patch_run.specs.OnePatch.{ending}
 use Rattle.patch_run.specs.Run.{Run, set_run}
 use Rattle.patch_run.specs.Ready.{rows_in, turn_at}
-use Rattle.patch_run.specs.Doing.{QuietAfter, Does, IsFar, IsCutOff, Runs, IsReceipt, StaysSet, IsPlacedOn, IsPlacedLast}
+use Rattle.patch_run.specs.Doing.{QuietAfter, Does, IsCutOff, Runs, StaysSet, IsPlacedOn}
 use Rattle.patch_run.proofs.Folding.{cut_moments}
 use Rattle.patch_run.proofs.Marks.{rows-last}
-use Rattle.patch_run.proofs.Going.{Goes, IsAt, IsNext, run_to, same-run, all-run, plan_both, told_then, cause_then, at_fault}
+use Rattle.patch_run.proofs.Going.{Goes, IsAt, IsNext, run_to, same-run, all-run, plan_both, cause_then, at_fault}
 
 quiet_still : (R S : Type 0) (w : TreeView) (fault : RunFault) → QuietAfter {R = R} (Err fault) w → QuietAfter {R = S} (Err fault) w
 quiet_still R S w Tree quiet = tt

@@ -1,12 +1,12 @@
 -- A file patch from its start to its end.
-use Rattle.std.proofs.Common.{◌≡◌, ℕ, List, [], ◌++◌, length, replicate, Bool, true, is_some, Option, None, Some, Result, Ok, Err, IfOk, IfErr, OnErr, refl, sym, ◌∙◌, ap, subst, arith}
+use Rattle.std.proofs.Common.{◌≡◌, ℕ, List, [], replicate, true, is_some, Option, Some, Result, Ok, Err, IfOk, IfErr, OnErr, refl, sym, ◌∙◌, ap, subst, arith}
 use Rattle.std.proofs.lemmas.Option.{same_Some}
 use Rattle.std.specs.Result.{IsErrAnd}
 use Rattle.outside.specs.Files.{Files, SameLasting, lasting-same}
 use Rattle.outside.specs.TreeView.{TreeView, Passes, passes_both}
 use Rattle.outside.specs.Calls.{IsUntouched}
 use Rattle.outside.specs.SinkView.{SinkView, sink_passes_both, Receives, ReceivesPart, Writes}
-use Rattle.outside.specs.Quiet.{IsQuiet, Effect, HasMade}
+use Rattle.outside.specs.Quiet.{IsQuiet, HasMade}
 use Rattle.outside.proofs.Views.{untouched_quiet}
 use Rattle.outside.proofs.Effects.{made_none, made_tells_all, since_longer, tells_longer}
 use Rattle.outside.proofs.Writing.{received_both, part_longer, part_after}
@@ -23,7 +23,7 @@ use Rattle.patch_run.specs.declared.fault.RunFault.TheVariants.{Tree, Write, Scr
 use Rattle.patch_run.specs.declared.starting.Decision.{Decision}
 use Rattle.patch_run.specs.declared.starting.Decision.TheVariants.{Skip, Try}
 use Rattle.patch_run.specs.declared.apply.Done.{Done}
-use Rattle.patch_run.specs.OnePatch.{PlainTurn, Story, Ending, ended, stopped, Start, skips, refuses, tries, total, bytes_of, lines_in, start, skipped, finished_at, ending_of, ending}
+use Rattle.patch_run.specs.OnePatch.{PlainTurn, Start, skips, refuses, tries, total, bytes_of, lines_in, start, skipped, finished_at, ending_of, ending}
 use Rattle.patch_run.specs.Devices.{Told, scratch_with}
 use Rattle.patch_run.specs.Starting.{Starts, IsDecided, IsBrokenOff, said_in, taken_in}
 use Rattle.patch_run.specs.Doing.{Stays, QuietAfter, IsPartOf, IsWholeOf, IsDone, IsEnded, IsStopped, IsBroken, IsDeviceFault, Does, effects_in, said_of}

@@ -1,4 +1,4 @@
-use Rattle.std.proofs.Common.{Option, Some, None, subst}
+use Rattle.std.proofs.Common.{Option, None, subst}
 use Rattle.replace_file.specs.declared.temp.Temp.{Temp}
 use Rattle.patch_run.specs.TurnView.{plain_turn}
 use Rattle.patch_run.specs.Trying.{IsBegun}

@@ -1,18 +1,13 @@
-use Rattle.std.proofs.Common.{◌≡◌, ◌+◌, ◌*◌, ◌≤◌, ◌<◌, ◌||◌, ℕ, List, length, take, get_or, Bool, Some, refl, sym, ◌∙◌, ap, subst, arith}
+use Rattle.std.proofs.Common.{◌≡◌, ◌+◌, ◌<◌, ◌||◌, List, length, Bool, refl, sym, ◌∙◌, ap, subst, arith}
 use Rattle.std.proofs.lemmas.List.{length-set}
-use Rattle.outside.specs.Files.{Files}
-use Rattle.outside.specs.TreeView.{TreeView}
-use Rattle.hunk_core.specs.declared.Verdict.{Verdict}
 use Rattle.file_patch.specs.declared.FilePatch.{FilePatch}
 use Rattle.patch_options.specs.PlainJob.{plain_options}
 use Rattle.patch_set.specs.SetView.{SetView, hunks_in, with_row}
-use Rattle.patch_run.specs.Devices.{Told}
 use Rattle.patch_run.specs.Ready.{AreNumbered}
-use Rattle.patch_run.specs.Run.{set_run}
-use Rattle.patch_run.specs.Doing.{StaysSet, Runs, IsPlacedLast}
+use Rattle.patch_run.specs.Doing.{StaysSet}
 use Rattle.patch_run.proofs.Marks.{patch-there}
 use Rattle.patch_run.proofs.Ready.{ready, ready_still, numbered}
-use Rattle.patch_run.proofs.Going.{Goes, IsAt, IsNext, run_to, goes_none, goes_on, at_none, at_next}
+use Rattle.patch_run.proofs.Going.{IsAt, IsNext, run_to, goes_none, goes_on, at_none, at_next}
 use Rattle.patch_run.proofs.RunEnds.{IsPlacedTo, runs_cut, runs_all, placed_none, placed_next}
 use Rattle.patch_run.proofs.set.apply_all.Goals as goal
 

@@ -1,4 +1,4 @@
-use Rattle.std.proofs.Common.{◌≡◌, ◌⊎◌, ◌+◌, ◌≤◌, ◌<◌, ◌++◌, ℕ, List, length, take, drop, get_or, replicate, All, Some, refl, sym, ◌∙◌, ap, subst, arith}
+use Rattle.std.proofs.Common.{◌≡◌, ◌⊎◌, ◌+◌, ◌++◌, ℕ, List, length, take, drop, get_or, replicate, Some, sym, ◌∙◌, ap, subst, arith}
 use Rattle.std.proofs.lemmas.List.{take_at, take-take, drop_at, drop-drop}
 use Rattle.std.proofs.lemmas.List.Elements.{All-get_or}
 use Rattle.std.proofs.lemmas.Result.{IfOk-weaker}
@@ -7,10 +7,7 @@ use Rattle.file_patch.specs.declared.FilePatch.{FilePatch}
 use Rattle.hunk_core.specs.declared.Verdict.TheVariants.{Ignored}
 use Rattle.hunk_apply.specs.Change.{change_verdicts}
 use Rattle.file_patch.specs.PlainPatch.{change_of, row_count}
-use Rattle.line_store.specs.Store.{Seen}
-use Rattle.outside.specs.TreeView.{TreeView}
 use Rattle.patch_options.specs.PlainJob.{plain_options}
-use Rattle.patch_run.specs.declared.apply.Done.{Done}
 use Rattle.patch_run.specs.Doing.{Does, IsPlacedOn}
 use Rattle.patch_run.specs.OnePatch.{Mark, PlainTurn, ending}
 use Rattle.patch_run.specs.Run.{item_of}

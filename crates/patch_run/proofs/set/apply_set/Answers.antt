@@ -1,4 +1,4 @@
-use Rattle.std.proofs.Common.{◌≡◌, [], ℕ, List, sym, subst}
+use Rattle.std.proofs.Common.{[], sym, subst}
 use Rattle.patch_options.specs.PlainJob.{plain_options}
 use Rattle.patch_set.specs.SetView.{SetView, IsRead}
 use Rattle.patch_run.specs.Run.{set_run}
