@@ -1,0 +1,1 @@
+use Rattle.patch_run.proofs.StartSteps.{said-first}
