@@ -138,7 +138,7 @@ starts_said {u = u} {w = w} {a = a} {b = b} {c = c} {d = d} {e = e} {start = sta
 -- calls of the tree that leave it as it is, and then the rest
 pub starts_after : {u v w : TreeView} {a b : Seen} {c d : SinkView} {sa : ℕ → List ℕ → Option (List ℕ) → Option (List ℕ)} {bytes : Files → ℕ → Option (List ℕ)} {start : Files → Start} (r : Result Decision RunFault)
     → IsUntouched u v → Starts v w a b c d sa r bytes start → Starts u w a b c d sa r bytes start
-starts_after (Ok y) same rest = record {
+starts_after {a = a} (Ok y) same rest = record {
   untouched = untouched_both same rest.untouched;
   plan = rest.plan;
   sink = rest.sink;
