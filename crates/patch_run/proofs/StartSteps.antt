@@ -1,7 +1,8 @@
 -- How the start of a file patch goes on from step to step.
-use Rattle.std.proofs.Common.{◌≡◌, ℕ, zero, List, [], ◌∷◌, ◌++◌, Bool, true, Option, Some, None, is_some, Result, Ok, Err, IfOk, IfErr, IsErrAnd, refl, sym, ◌∙◌, ap, subst, arith}
+use Rattle.std.proofs.Common.{◌≡◌, ℕ, zero, List, [], ◌∷◌, ◌++◌, Bool, true, false, not, ◌&&◌, ◌||◌, if◌then◌else◌, Option, Some, None, is_some, Result, Ok, Err, IfOk, IfErr, IsErrAnd, refl, sym, ◌∙◌, ap, subst, arith}
 use Rattle.std.proofs.lemmas.List.{append-nil}
 use Rattle.std.proofs.lemmas.Option.{same_Some}
+use Rattle.std.specs.FinMap.{get}
 use Rattle.outside.specs.Files.{Files}
 use Rattle.outside.specs.TreeView.{TreeView, Passes}
 use Rattle.outside.specs.TreeView as tree
@@ -10,17 +11,21 @@ use Rattle.outside.specs.SinkView.{SinkView, SinkPasses, sink_passes_none, sink_
 use Rattle.outside.specs.SinkView as sink
 use Rattle.outside.proofs.Views.{rises_then}
 use Rattle.outside.proofs.Writing.{received_none, received_part, received_both, part_after, part_longer}
+use Rattle.hunk_core.specs.declared.Side.{Side}
+use Rattle.hunk_core.specs.Turned.{other_side}
+use Rattle.file_patch.specs.Absent.{creates}
 use Rattle.line_store.specs.Store.{Seen, Keeps}
 use Rattle.line_store.specs.Taking.{KeepsPlan}
 use Rattle.line_store.specs.declared.fault.OpenFault.{OpenFault}
 use Rattle.line_store.specs.declared.fault.OpenFault.TheVariants as open_fault
+use Rattle.target_names.specs.declared.derived.Target.{Target}
 use Rattle.patch_set.specs.declared.set.Row.{Row}
 use Rattle.patch_run.specs.declared.fault.RunFault.{RunFault}
 use Rattle.patch_run.specs.declared.fault.RunFault.TheVariants.{Tree, Write, Scratch, LongLine, FileTooLong, Disagree, Memory}
 use Rattle.patch_run.specs.declared.starting.Decision.{Decision}
 use Rattle.patch_run.specs.declared.starting.Decision.TheVariants.{Skip, Try}
 use Rattle.patch_run.specs.Faults.{of_open}
-use Rattle.patch_run.specs.OnePatch.{Start, skips, refuses, tries, said_first, lines_in, refusal_of, refused_or}
+use Rattle.patch_run.specs.OnePatch.{PlainTurn, Start, skips, refuses, tries, said_first, lines_in, refusal_of, refused_or, prereq_said, on_direction, on_prereq, turns, exists_said, on_taking, on_existing, on_creation, has_bytes, skips_at}
 use Rattle.patch_run.specs.Devices.{Told, HasRunCause, scratch_with}
 use Rattle.patch_run.specs.Starting.{Starts, Takes, Weighs, Holds, said_in, taken_in, IsDecided, IsBrokenOff, IsRefusal, HasPlanCause}
 
@@ -314,19 +319,18 @@ module _ {sa : ℕ → List ℕ → Option (List ℕ) → Option (List ℕ)} (by
   }
 
   -- it was taken, and its lines are weighed
-  pub starts_taken : {u w : TreeView} {a b e : Seen} {c d : SinkView} {there : Bool} (r : Result Decision RunFault)
-      → Takes u w a b sa (Ok tt) (λ f. bytes f place) → Weighs b e c d there r more
+  pub starts_taken : {u w : TreeView} {a b e : Seen} {c d : SinkView} {there : Bool} {size : ℕ} (r : Result Decision RunFault)
+      → a.size ≡ size → Takes u w a b sa (Ok tt) (λ f. bytes f place) → Weighs b e c d there r more
       → ((f : Files) → u.told ≡ Some f → there ≡ is_some (bytes f place)) → ((f : Files) → IsAbout place (bytes f place) (more (bytes f place)))
-      → Starts u w a e c d sa r bytes (λ f. refused_or (refusal_of a.size (bytes f place)) (more (bytes f place)))
-  starts_taken {a = a} r took weighs is about = starts_is r (λ f. refused_or (refusal_of a.size (bytes f place)) (more (bytes f place))) (weighed r took weighs is about)
-      (λ f told. ap (λ (o : Option OpenFault). refused_or o (more (bytes f place))) (sym (took.admitted f told)))
+      → Starts u w a e c d sa r bytes (λ f. refused_or (refusal_of size (bytes f place)) (more (bytes f place)))
+  starts_taken {size = size} r sized took weighs is about = starts_is r (λ f. refused_or (refusal_of size (bytes f place)) (more (bytes f place))) (weighed r took weighs is about)
+      (λ f told. ap (λ (o : Option OpenFault). refused_or o (more (bytes f place))) (sym (ap (λ (n : ℕ). refusal_of n (bytes f place)) (sym sized) ∙ took.admitted f told)))
 
-  -- it was not taken
-  pub starts_untaken : {u w : TreeView} {a b : Seen} (c : SinkView) (x : OpenFault) (r : Result Decision RunFault)
+  untaken : {u w : TreeView} {a b : Seen} (c : SinkView) (x : OpenFault) (r : Result Decision RunFault)
       → IsErrAnd r (λ e. e ≡ of_open x) → Takes u w a b sa (Err x) (λ f. bytes f place)
       → Starts u w a b c c sa r bytes (λ f. refused_or (refusal_of a.size (bytes f place)) (more (bytes f place)))
-  starts_untaken c x (Ok y) is took = absurd is
-  starts_untaken {u = u} {w = w} {a = a} {b = b} c x (Err y) is took = record {
+  untaken c x (Ok y) is took = absurd is
+  untaken {u = u} {w = w} {a = a} {b = b} c x (Err y) is took = record {
     untouched = took.untouched;
     plan = took.plan;
     sink = sink_passes_none c;
@@ -337,3 +341,52 @@ module _ {sa : ℕ → List ℕ → Option (List ℕ) → Option (List ℕ)} (by
     broken = λ f told. subst (λ (z : RunFault). IsBrokenOff z c c (refused_or (refusal_of a.size (bytes f place)) (more (bytes f place)))) (sym is)
         (untaken_broken c x (refusal_of a.size (bytes f place)) (more (bytes f place)) (took.refused f told));
   }
+
+  -- it was not taken
+  pub starts_untaken : {u w : TreeView} {a b : Seen} {size : ℕ} (c : SinkView) (x : OpenFault) (r : Result Decision RunFault)
+      → a.size ≡ size → IsErrAnd r (λ e. e ≡ of_open x) → Takes u w a b sa (Err x) (λ f. bytes f place)
+      → Starts u w a b c c sa r bytes (λ f. refused_or (refusal_of size (bytes f place)) (more (bytes f place)))
+  starts_untaken {size = size} c x r sized is took = starts_is r (λ f. refused_or (refusal_of size (bytes f place)) (more (bytes f place))) (untaken c x r is took)
+      (λ f told. ap (λ (n : ℕ). refused_or (refusal_of n (bytes f place)) (more (bytes f place))) sized)
+
+-- the file of a target
+pub takes_at : {u w : TreeView} {a b : Seen} {sa : ℕ → List ℕ → Option (List ℕ) → Option (List ℕ)} {r : Result (Unit {0}) OpenFault} {x y : Target} → x ≡ y → Takes u w a b sa r (λ f. get f x.name) → Takes u w a b sa r (λ f. get f y.name)
+takes_at {u = u} {w = w} {a = a} {b = b} {sa = sa} {r = r} is takes = subst (λ (t : Target). Takes u w a b sa r (λ f. get f t.name)) is takes
+
+-- ---- what is weighed is about the file that was taken
+
+about_if : (place : ℕ) (taken : Option (List ℕ)) (test : Bool) (x y : Start) → IsAbout place taken x → IsAbout place taken y → IsAbout place taken (if test then x else y)
+about_if place taken true x y yes no = yes
+about_if place taken false x y yes no = no
+
+direction_about : (t : PlainTurn) (place : ℕ) (bytes : Option (List ℕ)) (was_turned : Bool) (side : Side) → IsAbout place bytes (on_direction t place bytes was_turned side)
+direction_about t place bytes was_turned side = about_if place bytes _ _ _ refl (about_if place bytes _ _ _ refl refl)
+
+pub prereq_about : (t : PlainTurn) (place : ℕ) (bytes : Option (List ℕ)) (was_turned : Bool) (side : Side) → IsAbout place bytes (on_prereq t place bytes was_turned side)
+prereq_about t place bytes was_turned side =
+    let direction = direction_about t place bytes was_turned side in
+    about_if place bytes _ _ _ direction (about_if place bytes _ _ _ (about-first place bytes (prereq_said t) (on_direction t place bytes was_turned side) direction) refl)
+
+-- ---- a file that is in the way
+
+begins_if : (test : Bool) (text : Bool → List ℕ) (x y : Start) → Begins (text true) x → Begins (text false) y → Begins (text test) (if test then x else y)
+begins_if true text x y yes no = yes
+begins_if false text x y yes no = no
+
+module _ (t : PlainTurn) (place : ℕ) (bytes : Option (List ℕ)) (side : Side) where
+  pub begins_existing : Begins (exists_said t place (turns t.options)) (on_existing t place bytes side)
+  begins_existing = begins_if (turns t.options) (exists_said t place) _ _
+      (begins_first (exists_said t place true) (on_taking t place bytes true (other_side side)))
+      (begins_skips (exists_said t place false) _ None)
+
+  pub existing_turned : turns t.options ≡ true → said_first (exists_said t place true) (on_taking t place bytes true (other_side side)) ≡ on_existing t place bytes side
+  existing_turned is = sym (ap (λ (b : Bool). if b then said_first (exists_said t place true) (on_taking t place bytes true (other_side side)) else skips_at (exists_said t place false) place side None) is)
+
+  pub existing_skipped : turns t.options ≡ false → skips_at (exists_said t place false) place side None ≡ on_existing t place bytes side
+  existing_skipped is = sym (ap (λ (b : Bool). if b then said_first (exists_said t place true) (on_taking t place bytes true (other_side side)) else skips_at (exists_said t place false) place side None) is)
+
+  pub creation_free : (way : Bool) → way ≡ (creates side t.item.patch && has_bytes bytes) → (not way || t.options.force) ≡ true → on_taking t place bytes false side ≡ on_creation t place bytes side
+  creation_free way is free = sym (ap (λ (b : Bool). if b then on_taking t place bytes false side else on_existing t place bytes side) (ap (λ (x : Bool). not x || t.options.force) (sym is) ∙ free))
+
+  pub creation_taken : (way : Bool) → way ≡ (creates side t.item.patch && has_bytes bytes) → (not way || t.options.force) ≡ false → on_existing t place bytes side ≡ on_creation t place bytes side
+  creation_taken way is taken = sym (ap (λ (b : Bool). if b then on_taking t place bytes false side else on_existing t place bytes side) (ap (λ (x : Bool). not x || t.options.force) (sym is) ∙ taken))

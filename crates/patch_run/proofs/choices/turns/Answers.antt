@@ -1,1 +1,0 @@
-use Rattle.patch_run.proofs.StartSteps.{said-first}
