@@ -18,6 +18,7 @@ use Rattle.line_store.specs.Store.{Seen, Keeps}
 use Rattle.line_store.specs.Taking.{KeepsPlan}
 use Rattle.line_store.specs.declared.fault.OpenFault.{OpenFault}
 use Rattle.line_store.specs.declared.fault.OpenFault.TheVariants as open_fault
+use Rattle.say_text.specs.Messages.{silenced, reversed_line}
 use Rattle.target_names.specs.declared.derived.Target.{Target}
 use Rattle.patch_set.specs.declared.set.Row.{Row}
 use Rattle.patch_run.specs.declared.fault.RunFault.{RunFault}
@@ -25,7 +26,7 @@ use Rattle.patch_run.specs.declared.fault.RunFault.TheVariants.{Tree, Write, Scr
 use Rattle.patch_run.specs.declared.starting.Decision.{Decision}
 use Rattle.patch_run.specs.declared.starting.Decision.TheVariants.{Skip, Try}
 use Rattle.patch_run.specs.Faults.{of_open}
-use Rattle.patch_run.specs.OnePatch.{PlainTurn, Start, skips, refuses, tries, said_first, lines_in, refusal_of, refused_or, prereq_said, on_direction, on_prereq, turns, exists_said, on_taking, on_existing, on_creation, has_bytes, skips_at}
+use Rattle.patch_run.specs.OnePatch.{PlainTurn, Start, skips, refuses, tries, said_first, lines_in, refusal_of, refused_or, lacks_word, is_reversed, first_hunk, prereq_said, on_direction, on_prereq, turns, exists_said, on_taking, on_existing, on_creation, has_bytes, skips_at}
 use Rattle.patch_run.specs.Devices.{Told, HasRunCause, scratch_with}
 use Rattle.patch_run.specs.Starting.{Starts, Takes, Weighs, Holds, said_in, taken_in, IsDecided, IsBrokenOff, IsRefusal, HasPlanCause}
 
@@ -356,22 +357,31 @@ takes_at {u = u} {w = w} {a = a} {b = b} {sa = sa} {r = r} is takes = subst (λ 
 -- ---- what is weighed is about the file that was taken
 
 about_if : (place : ℕ) (taken : Option (List ℕ)) (test : Bool) (x y : Start) → IsAbout place taken x → IsAbout place taken y → IsAbout place taken (if test then x else y)
-about_if place taken true x y yes no = yes
-about_if place taken false x y yes no = no
+about_if place taken true x y first second = first
+about_if place taken false x y first second = second
 
 direction_about : (t : PlainTurn) (place : ℕ) (bytes : Option (List ℕ)) (was_turned : Bool) (side : Side) → IsAbout place bytes (on_direction t place bytes was_turned side)
-direction_about t place bytes was_turned side = about_if place bytes _ _ _ refl (about_if place bytes _ _ _ refl refl)
+direction_about t place bytes was_turned side =
+    let said = λ (is_turned : Bool). silenced t.options (reversed_line is_turned) in
+    let on = tries (said true) place (other_side side) in
+    let off = skips_at (said false) place side bytes in
+    about_if place bytes (t.options.force || was_turned || not (is_reversed t.options (lines_in bytes) side (first_hunk t.item.patch.change))) (tries [] place side) (if turns t.options then on else off) refl
+    (about_if place bytes (turns t.options) on off refl refl)
 
 pub prereq_about : (t : PlainTurn) (place : ℕ) (bytes : Option (List ℕ)) (was_turned : Bool) (side : Side) → IsAbout place bytes (on_prereq t place bytes was_turned side)
 prereq_about t place bytes was_turned side =
-    let direction = direction_about t place bytes was_turned side in
-    about_if place bytes _ _ _ direction (about_if place bytes _ _ _ (about-first place bytes (prereq_said t) (on_direction t place bytes was_turned side) direction) refl)
+    let direction = on_direction t place bytes was_turned side in
+    let about = direction_about t place bytes was_turned side in
+    let warned = said_first (prereq_said t) direction in
+    let off = skips_at (prereq_said t) place side bytes in
+    about_if place bytes (not (lacks_word t.item.patch.header.prereq bytes)) direction (if t.options.force then warned else off) about
+    (about_if place bytes t.options.force warned off (about-first place bytes (prereq_said t) direction about) refl)
 
 -- ---- a file that is in the way
 
 begins_if : (test : Bool) (text : Bool → List ℕ) (x y : Start) → Begins (text true) x → Begins (text false) y → Begins (text test) (if test then x else y)
-begins_if true text x y yes no = yes
-begins_if false text x y yes no = no
+begins_if true text x y first second = first
+begins_if false text x y first second = second
 
 module _ (t : PlainTurn) (place : ℕ) (bytes : Option (List ℕ)) (side : Side) where
   pub begins_existing : Begins (exists_said t place (turns t.options)) (on_existing t place bytes side)

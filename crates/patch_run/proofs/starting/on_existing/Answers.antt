@@ -1,4 +1,4 @@
-use Rattle.std.proofs.Common.{◌≡◌, Bool, true, false, List, ℕ, Ok, refl, sym, ◌∙◌, ap}
+use Rattle.std.proofs.Common.{◌≡◌, Bool, true, false, List, ℕ, Ok, sym, ◌∙◌, ap}
 use Rattle.outside.proofs.Writing.{writes_is}
 use Rattle.patch_options.specs.PlainJob.{plain_options}
 use Rattle.say_text.specs.Messages.{silenced, exists_line}
@@ -23,7 +23,7 @@ returns-then-is_turned-clause-starts g c =
     let t = plain_turn c.args.turn.now in
     starts_is c.on_taking.result (λ f. on_existing t c.args.place (bytes_of t f c.args.place) c.args.side)
         (starts_said _ c.on_taking.result
-        (writes_is _ _ c.in_ok-say_exists.ensures.writes (line t c.args.place _ _ _ true c.shown.ensures c.written.ensures.target refl))
+        (writes_is _ _ c.in_ok-say_exists.ensures.writes (line t c.args.place _ _ _ true c.shown.ensures c.written.ensures.target c.if-is_turned.true))
         (rw c.other.ensures at c.on_taking.ensures.starts))
         (λ f told. existing_turned t c.args.place (bytes_of t f c.args.place) c.args.side (sym c.if-is_turned.ensures))
 
@@ -31,5 +31,5 @@ pub returns-else-is_turned-clause-starts : goal.returns-else-is_turned-clause-st
 returns-else-is_turned-clause-starts g c =
     let t = plain_turn c.args.turn.now in
     starts_is (Ok _) (λ f. on_existing t c.args.place (bytes_of t f c.args.place) c.args.side)
-        (starts_skip _ _ _ _ _ (writes_is _ _ c.in_ok-say_exists.ensures.writes (line t c.args.place _ _ _ false c.shown.ensures c.written.ensures.target refl)) c.skip_at.ensures)
+        (starts_skip _ _ _ _ _ (writes_is _ _ c.in_ok-say_exists.ensures.writes (line t c.args.place _ _ _ false c.shown.ensures c.written.ensures.target c.if-is_turned.false)) c.skip_at.ensures)
         (λ f told. existing_skipped t c.args.place (bytes_of t f c.args.place) c.args.side (sym c.if-is_turned.ensures))
