@@ -1,0 +1,118 @@
+//! One block of memory from the allocator, cut into pages.
+
+ghost use Rattle.std.specs.Prelude.{◌≡◌, ℕ, ◌+◌, ◌-◌, ◌<◌, ◌≤◌, ◌^◌, List, length, replicate, IfOk};
+ghost use Rattle.std.specs.Borrow.{sem, full_share, Array, u8};
+ghost use Rattle.std.specs.Ptr.{lies_at, room_at, Ptr, ptr_add};
+ghost use denote.Struct.Lending.{lent_at};
+ghost use Rattle.page_pair.specs.Block.{right_to_free};
+
+use std::alloc::{AllocError, Allocator, Global};
+use std::marker::Model;
+
+// Memory for `count` bytes, none of them written.
+pub(crate) struct Room {
+    pub(crate) at: *mut u8,
+    pub(crate) count: usize,
+}
+
+impl Model for Room {
+    ghost also_owns = { λ r. room_at (Array u8 r.count) r.at };
+}
+
+// `count` bytes that were written.
+pub(crate) struct Page {
+    pub(crate) at: *mut u8,
+    pub(crate) count: usize,
+    pub(crate) ghost bytes: { List ℕ },
+    pub(crate) ghost counted: { count ≡ length bytes },
+}
+
+impl Model for Page {
+    ghost use Rattle.std.specs.Borrow.{full_share, Array, u8};
+    ghost use Rattle.std.specs.Ptr.{lies_at};
+    ghost use denote.Struct.Lending.{lent_at};
+
+    ghost also_owns = { λ p. lies_at (Array u8 p.count) full_share p.at p.bytes };
+
+    ghost also_shares = { λ p _ κ. lent_at (Array u8 p.count) p.at p.bytes κ };
+}
+
+// The right to give back the block of `count` bytes at `at`.
+pub(crate) struct Title {
+    alloc: Global,
+    pub(crate) ghost at: { Ptr },
+    pub(crate) ghost count: { ℕ },
+}
+
+impl Model for Title {
+    ghost use Rattle.page_pair.specs.Block.{right_to_free};
+
+    ghost also_owns = { λ t. right_to_free t.alloc t.count t.at };
+}
+
+impl Room {
+    pub(crate) fn take(alloc: Global, count: usize) -> Result<(Room, Title), AllocError>
+        requires { count < 2 ^ 63 }
+        ensures { IfOk result (λ taken. (taken.0.count ≡ count) × (taken.1.count ≡ count) × (taken.1.at ≡ taken.0.at)) }
+    {
+        match alloc.allocate(count, 1) {
+            Ok(at) => Ok((Room { at, count }, Title { alloc })),
+            Err(refused) => Err(refused),
+        }
+    }
+
+    // The first `size` bytes, and those behind them.
+    pub(crate) fn cut(self, size: usize) -> (Room, Room)
+        requires { size ≤ self.count }
+        ensures first { (result.0.at ≡ self.at) × (result.0.count ≡ size) }
+        ensures second { (result.1.at ≡ ptr_add u8 size self.at) × (result.1.count ≡ self.count - size) }
+    {
+        let Room { at, count } = self;
+        let behind = unsafe { at.add(size) };
+        let rest = count - size;
+        (Room { at, count: size }, Room { at: behind, count: rest })
+    }
+
+    pub(crate) fn zeroed(self) -> Page
+        ensures { (result.at ≡ self.at) × (result.count ≡ self.count) × (result.bytes ≡ replicate self.count 0) }
+    {
+        let Room { at, count } = self;
+        let mut i = 0;
+        while i < count {
+            unsafe { at.add(i).write(0) };
+            i += 1;
+        }
+        Page { at, count }
+    }
+}
+
+impl Page {
+    ghost use Rattle.page_pair.specs.PageLending.{LendsBytes};
+
+    pub(crate) fn as_slice(&self) -> &[u8]
+        ensures { result.now ≡ self.now.bytes }
+    {
+        unsafe { std::slice::from_raw_parts(self.at, self.count) }
+    }
+
+    pub(crate) fn as_mut_slice(&mut self) -> &mut [u8]
+        ensures* writes_back { sem 𝓛 (LendsBytes self.entry result) }
+        ensures is { result.now ≡ self.old.bytes }
+    {
+        unsafe { std::slice::from_raw_parts_mut(self.at, self.count) }
+    }
+}
+
+impl Title {
+    // Frees the block, of which `second` is the end.
+    pub(crate) fn give_back(self, first: Page, second: Page, count: usize)
+        requires whole { (count ≡ self.count) × (count ≡ first.count + second.count) × (count < 2 ^ 63) }
+        requires start { first.at ≡ self.at }
+        requires beside { second.at ≡ ptr_add u8 first.count first.at }
+    {
+        let Title { alloc } = self;
+        let Page { at, count: _ } = first;
+        let Page { at: _, count: _ } = second;
+        unsafe { alloc.deallocate(at, count, 1) };
+    }
+}
