@@ -1,12 +1,11 @@
 -- Two pages that are the halves of one block.
 use Rattle.std.specs.Prelude.{◌≡◌, ◌+◌}
-use Rattle.std.specs.Borrow.{u8}
-use Rattle.std.specs.Ptr.{ptr_add}
+use Rattle.page_pair.specs.Block.{ptr_behind}
 use Rattle.page_pair.specs.declared.block.Page.{Page}
 use Rattle.page_pair.specs.declared.block.Title.{Title}
 
 pub record AreHalves (first : Page) (second : Page) (title : Title) : Type 0 where
   pub alike : second.count ≡ first.count
-  pub beside : second.at ≡ ptr_add u8 first.count first.at
+  pub beside : second.at ≡ ptr_behind first.count first.at
   pub start : title.at ≡ first.at
   pub whole : title.count ≡ first.count + first.count

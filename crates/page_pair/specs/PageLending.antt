@@ -7,7 +7,7 @@ use Rattle.page_pair.specs.contracts.block.Page.{the_row}
 
 -- the page with other bytes, as many as fit it
 abbrev pub with_bytes : Page → List ℕ → Page
-with_bytes p bytes = record { at = p.at; count = p.count; bytes = refill p.count p.bytes bytes; counted = length_refill p.count p.bytes bytes p.counted }
+with_bytes p bytes = record { at = p.at; count = p.count; bytes = refill p.count p.bytes bytes; counted = length_refill p.count p.bytes bytes p.counted; fits = p.fits }
 
 -- the page ends with the last bytes behind the borrow
 abbrev pub LendsBytes : MutBor Page → MutBor (List ℕ) → Fml

@@ -2,9 +2,9 @@
 
 ghost use Rattle.std.specs.Prelude.{◌≡◌, ℕ, ◌+◌, ◌-◌, ◌<◌, ◌≤◌, ◌^◌, List, length, replicate, IfOk};
 ghost use Rattle.std.specs.Borrow.{sem, full_share, Array, u8};
-ghost use Rattle.std.specs.Ptr.{lies_at, room_at, Ptr, ptr_add};
+ghost use Rattle.std.specs.Ptr.{lies_at, room_at, Ptr};
 ghost use denote.Struct.Lending.{lent_at};
-ghost use Rattle.page_pair.specs.Block.{right_to_free};
+ghost use Rattle.page_pair.specs.Block.{right_to_free, ptr_behind};
 
 use std::alloc::{AllocError, Allocator, Global};
 use std::marker::Model;
@@ -25,6 +25,7 @@ pub(crate) struct Page {
     pub(crate) count: usize,
     pub(crate) ghost bytes: { List ℕ },
     pub(crate) ghost counted: { count ≡ length bytes },
+    pub(crate) ghost fits: { count < 2 ^ 63 },
 }
 
 impl Model for Page {
@@ -64,8 +65,7 @@ impl Room {
     // The first `size` bytes, and those behind them.
     pub(crate) fn cut(self, size: usize) -> (Room, Room)
         requires { size ≤ self.count }
-        ensures first { (result.0.at ≡ self.at) × (result.0.count ≡ size) }
-        ensures second { (result.1.at ≡ ptr_add u8 size self.at) × (result.1.count ≡ self.count - size) }
+        ensures { (result.0.at ≡ self.at) × (result.0.count ≡ size) × (result.1.at ≡ ptr_behind size self.at) × (result.1.count ≡ self.count - size) }
     {
         let Room { at, count } = self;
         let behind = unsafe { at.add(size) };
@@ -74,6 +74,7 @@ impl Room {
     }
 
     pub(crate) fn zeroed(self) -> Page
+        requires { self.count < 2 ^ 63 }
         ensures { (result.at ≡ self.at) × (result.count ≡ self.count) × (result.bytes ≡ replicate self.count 0) }
     {
         let Room { at, count } = self;
@@ -106,9 +107,7 @@ impl Page {
 impl Title {
     // Frees the block, of which `second` is the end.
     pub(crate) fn give_back(self, first: Page, second: Page, count: usize)
-        requires whole { (count ≡ self.count) × (count ≡ first.count + second.count) × (count < 2 ^ 63) }
-        requires start { first.at ≡ self.at }
-        requires beside { second.at ≡ ptr_add u8 first.count first.at }
+        requires { (count ≡ self.count) × (count ≡ first.count + second.count) × (count < 2 ^ 63) × (first.at ≡ self.at) × (second.at ≡ ptr_behind first.count first.at) }
     {
         let Title { alloc } = self;
         let Page { at, count: _ } = first;

@@ -1,0 +1,32 @@
+-- The bytes of a page in its memory.
+use Rattle.std.proofs.Common.{◌≡◌, ℕ, List, [], ◌∷◌, ◌++◌, length, sym, ap, ◌∙◌}
+use Rattle.std.proofs.Math.Seq.{take-append_seam}
+use Rattle.std.specs.List.{refill}
+use Rattle.std.specs.Prelude.{take, drop}
+use seplogic.Ra.Ura.{Ura}
+use base.Fraction.{full_share}
+use base.Fml.{fsep, feq}
+use base.Logic.{ent}
+use types.Logic.{Logic, sem}
+use types.Kit.{‵, ◌$◌, ◌∵◌, !, qed, use1, drop as drops, fsplit, fjoin, feq_i, done}
+use types.SemTy.{cells}
+use denote.Array.{Array}
+use denote.Builtin.{u8}
+use denote.Index.{whole_in, whole_out}
+use denote.Memory.{mem, part_at}
+use denote.RawPtr.Bytes.{bytes, bytes_apart, bytes_whole}
+
+-- as many bytes as fit take the place of all
+pub refill_whole : (n : ℕ) (old new : List ℕ) → length new ≡ n → refill n old new ≡ new
+refill_whole n old new e = ap (λ (k : ℕ). take k (new ++ drop (length new) old)) (sym e) ∙ take-append_seam new (drop (length new) old)
+
+module _ {M : Type 1} {𝓤 : Ura M} (𝓛 : Logic 𝓤) where
+  pub cells_out : (n : ℕ) (xs : List ℕ) (b o : ℕ) → ent 𝓤 (sem 𝓛 (part_at (Array u8 n) full_share xs b o)) (sem 𝓛 (cells (mem u8) xs b o))
+  cells_out n xs b o =
+      qed 𝓛 (‵ (part_at (Array u8 n) full_share xs b o) ∷ []) ∵ use1 𝓛 (‵ (fsep (feq ℕ (length xs) n) (bytes full_share xs b o))) (bytes_apart 𝓛 full_share n xs b o) $
+      fsplit ! $ drops ! $ use1 𝓛 (‵ (cells (mem u8) xs b o)) (whole_in 𝓛 u8 xs b o) $ done !
+
+  pub cells_in : (n : ℕ) (xs : List ℕ) (b o : ℕ) → length xs ≡ n → ent 𝓤 (sem 𝓛 (cells (mem u8) xs b o)) (sem 𝓛 (part_at (Array u8 n) full_share xs b o))
+  cells_in n xs b o e =
+      qed 𝓛 (‵ (cells (mem u8) xs b o) ∷ []) ∵ use1 𝓛 (‵ (bytes full_share xs b o)) (whole_out 𝓛 u8 xs b o) $ feq_i ! ℕ (length xs) n e $ fjoin ! $
+      use1 𝓛 (‵ (part_at (Array u8 n) full_share xs b o)) (bytes_whole 𝓛 full_share n xs b o) $ done !
