@@ -1,20 +1,22 @@
 -- The bytes of a page in its memory.
-use Rattle.std.proofs.Common.{◌≡◌, ℕ, List, [], ◌∷◌, ◌++◌, length, sym, ap, ◌∙◌}
+use Rattle.std.proofs.Common.{◌≡◌, ℕ, ◌+◌, List, [], ◌∷◌, ◌++◌, length, refl, sym, ap, ◌∙◌, arith}
 use Rattle.std.proofs.Math.Seq.{take-append_seam}
+use Rattle.std.proofs.lemmas.List.{length-replicate, replicate-append-replicate}
 use Rattle.std.specs.List.{refill}
-use Rattle.std.specs.Prelude.{take, drop}
+use Rattle.std.specs.Prelude.{take, drop, replicate}
 use seplogic.Ra.Ura.{Ura}
 use base.Fraction.{full_share}
 use base.Fml.{fsep, feq}
-use base.Logic.{ent}
+use base.Logic.{ent, sep}
 use types.Logic.{Logic, sem}
-use types.Kit.{‵, ◌$◌, ◌∵◌, !, qed, use1, drop as drops, fsplit, fjoin, feq_i, done}
+use types.Kit.{‵, ◌$◌, ◌∵◌, !, qed, move, use1, use2, rewrite, drop as drops, fsplit, fjoin, feq_i, done}
 use types.SemTy.{cells}
 use denote.Array.{Array}
 use denote.Builtin.{u8}
 use denote.Index.{whole_in, whole_out}
 use denote.Memory.{mem, part_at}
-use denote.RawPtr.Bytes.{bytes, bytes_apart, bytes_whole}
+use denote.Steps.{nothing}
+use denote.RawPtr.Bytes.{bytes, bytes_apart, bytes_whole, bytes_glue}
 
 -- as many bytes as fit take the place of all
 pub refill_whole : (n : ℕ) (old new : List ℕ) → length new ≡ n → refill n old new ≡ new
@@ -30,3 +32,12 @@ module _ {M : Type 1} {𝓤 : Ura M} (𝓛 : Logic 𝓤) where
   cells_in n xs b o e =
       qed 𝓛 (‵ (cells (mem u8) xs b o) ∷ []) ∵ use1 𝓛 (‵ (bytes full_share xs b o)) (whole_out 𝓛 u8 xs b o) $ feq_i ! ℕ (length xs) n e $ fjoin ! $
       use1 𝓛 (‵ (part_at (Array u8 n) full_share xs b o)) (bytes_whole 𝓛 full_share n xs b o) $ done !
+
+  -- one more zero behind others
+  pub zero_in : (i b o : ℕ) → ent 𝓤 (sep 𝓤 (sem 𝓛 (bytes full_share (replicate i 0) b o)) (sem 𝓛 (part_at u8 full_share 0 b (i + o)))) (sem 𝓛 (bytes full_share (replicate (i + 1) 0) b o))
+  zero_in i b o =
+      let zeros = replicate i 0 in let long : length zeros ≡ i = length-replicate i 0 in let behind : i + o ≡ o + length zeros = omega arith in
+      qed 𝓛 (‵ (bytes full_share zeros b o) ∷ ‵ (part_at u8 full_share 0 b (i + o)) ∷ []) ∵
+      nothing ! $ rewrite ! 2 (λ (k : ℕ). ‵ (part_at u8 full_share 0 b k)) behind refl $ move ! (2 ∷ 0 ∷ []) $ fjoin ! $ move ! (1 ∷ 0 ∷ []) $
+      use2 𝓛 (‵ (bytes full_share (zeros ++ 0 ∷ []) b o)) (bytes_glue 𝓛 full_share zeros (0 ∷ []) b o) $
+      rewrite ! 0 (λ (xs : List ℕ). ‵ (bytes full_share xs b o)) (replicate-append-replicate i 1 0) refl $ done !
