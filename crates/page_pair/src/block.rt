@@ -2,6 +2,7 @@
 
 ghost use Rattle.std.specs.Prelude.{◌≡◌, ℕ, ◌+◌, ◌-◌, ◌<◌, ◌≤◌, ◌^◌, List, length, replicate, IfOk};
 ghost use Rattle.std.specs.Borrow.{sem, full_share, Array, u8};
+ghost use Rattle.std.specs.Global.{Global};
 ghost use Rattle.std.specs.Ptr.{lies_at, room_at, Ptr};
 ghost use denote.Struct.Lending.{lent_at};
 ghost use Rattle.page_pair.specs.Block.{right_to_free, ptr_behind};
@@ -40,7 +41,7 @@ impl Model for Page {
 
 // The right to give back the block of `count` bytes at `at`.
 pub(crate) struct Title {
-    alloc: Global,
+    pub(crate) ghost alloc: { Global },
     pub(crate) ghost at: { Ptr },
     pub(crate) ghost count: { ℕ },
 }
@@ -52,12 +53,14 @@ impl Model for Title {
 }
 
 impl Room {
-    pub(crate) fn take(alloc: Global, count: usize) -> Result<(Room, Title), AllocError>
+    ghost use Rattle.page_pair.specs.Halves.{IsTaken};
+
+    pub(crate) fn take(alloc: &Global, count: usize) -> Result<(Room, Title), AllocError>
         requires { count < 2 ^ 63 }
-        ensures { IfOk result (λ taken. (taken.0.count ≡ count) × (taken.1.count ≡ count) × (taken.1.at ≡ taken.0.at)) }
+        ensures { IfOk result (λ taken. IsTaken alloc.now count taken.0 taken.1) }
     {
         match alloc.allocate(count, 1) {
-            Ok(at) => Ok((Room { at, count }, Title { alloc })),
+            Ok(at) => Ok((Room { at, count }, Title {})),
             Err(refused) => Err(refused),
         }
     }
@@ -105,11 +108,13 @@ impl Page {
 }
 
 impl Title {
-    // Frees the block, of which `second` is the end.
-    pub(crate) fn give_back(self, first: Page, second: Page, count: usize)
-        requires { (count ≡ self.count) × (count ≡ first.count + second.count) × (count < 2 ^ 63) × (first.at ≡ self.at) × (second.at ≡ ptr_behind first.count first.at) }
+    ghost use Rattle.page_pair.specs.Halves.{Fills, IsTitle};
+
+    // Frees the block, which the two pages fill.
+    pub(crate) fn give_back(self, alloc: &Global, first: Page, second: Page, count: usize)
+        requires { Fills first second count × IsTitle self alloc.now count first.at }
     {
-        let Title { alloc } = self;
+        let Title {} = self;
         let Page { at, count: _ } = first;
         let Page { at: _, count: _ } = second;
         unsafe { alloc.deallocate(at, count, 1) };

@@ -21,6 +21,7 @@ pub struct PagePair {
     first: Page,
     second: Page,
     title: Title,
+    alloc: Global,
 }
 
 /// One page for reading, and the other for writing.
@@ -40,7 +41,7 @@ impl Model for PagePair {
 
     ghost view = { λ p. record { size = p.first.count; first = p.first.bytes; second = p.second.bytes } };
 
-    ghost invariant = { λ p. IsSize p.first.count × AreHalves p.first p.second p.title };
+    ghost invariant = { λ p. IsSize p.first.count × AreHalves p.first p.second p.title p.alloc };
 }
 
 impl Drop for PagePair {
@@ -49,9 +50,10 @@ impl Drop for PagePair {
             first,
             second,
             title,
+            alloc,
         } = self;
         let whole = first.as_slice().len() + second.as_slice().len();
-        title.give_back(first, second, whole);
+        title.give_back(&alloc, first, second, whole);
     }
 }
 
@@ -62,7 +64,7 @@ impl PagePair {
         ensures size { IfOk result (λ pair. pair.size ≡ size) }
         ensures zero { IfOk result (λ pair. (h : Half) → page_of pair h ≡ replicate size 0) }
     {
-        let (block, title) = Room::take(alloc, 2 * size)?;
+        let (block, title) = Room::take(&alloc, 2 * size)?;
         let (first, second) = block.cut(size);
         let first = first.zeroed();
         let second = second.zeroed();
@@ -70,6 +72,7 @@ impl PagePair {
             first,
             second,
             title,
+            alloc,
         })
     }
 
