@@ -15,11 +15,13 @@ use denote.Copied.{Struct-Copied, uint_Copied}
 use denote.Laws.{Is}
 use denote.Opens.{Opens}
 use denote.Struct.Laws.{RawPtr-copy}
+use denote.Struct.Owning.{shape as owning}
 use denote.Struct.Struct.{Shape, Struct, Struct-Tells, within}
 use denote.Struct.Declared.{shape}
 use denote.Struct.Tuple.{Tuple, tuple_type}
 use Rattle.page_pair.specs.contracts.block.Page as Page
 use Rattle.page_pair.specs.contracts.block.Room as Room
+use Rattle.page_pair.specs.contracts.block.Title as Title
 
 -- a pointer and a count, as a struct of that name holds them
 abbrev pub words : Ptr → ℕ → Val
@@ -64,3 +66,8 @@ module _ {M : Type 1} {𝓤 : Ura M} (𝓛 : Logic 𝓤) where
   pub page_in : (p : Page.the_row.Denot) → p.count < 2 ^ 64 → ent 𝓤 (sem 𝓛 (Page.the_heap p)) (sem 𝓛 (Page.the_row.own_val p (words p.at p.count ∷ [])))
   page_in p fits =
       qed 𝓛 (‵ (Page.the_heap p) ∷ []) ∵ use0 𝓛 (‵ ((Struct (two Page.struct.name)).own_val (p.at, (p.count, tt)) (words p.at p.count ∷ []))) (words_in Page.struct.name p.at p.count fits) $ fjoin ! $ done !
+
+  -- the right to free a block makes a title, which has no words
+  pub title_in : (t : Title.the_row.Denot) → ent 𝓤 (sem 𝓛 (Title.the_heap t)) (sem 𝓛 (Title.the_row.own_val t (vstruct vnil ∷ [])))
+  title_in t =
+      qed 𝓛 (‵ (Title.the_heap t) ∷ []) ∵ nothing ! $ use1 𝓛 (‵ ((Struct (owning Title.the_type)).own_val tt (vstruct vnil ∷ []))) (fields_in (owning Title.the_type) tt tt) $ fjoin ! $ done !

@@ -25,12 +25,10 @@ use Rattle.page_pair.specs.contracts.block.Room.{the_row as room}
 use Rattle.page_pair.proofs.block.Room.TheLaws.{lowers}
 use Rattle.page_pair.proofs.block.Room.cut.Statement.{statement}
 use Rattle.page_pair.proofs.block.Room.cut.Code as code
+use Rattle.page_pair.proofs.Bytes.{space}
 use Rattle.page_pair.proofs.Owners.{words, room_in, pair_in}
 use Rattle.page_pair.specs.Block.{ptr_behind}
 use denote.Struct.Tuple.{Tuple}
-
-abbrev bytes : ℕ → Ty
-bytes n = ty_array (ty_int w8) n
 
 abbrev stayed : Stays f.ended.signature.params f.ended.kept
 stayed = (stay_dropped _ yes, (stay_dropped _ yes, tt))
@@ -46,12 +44,12 @@ cut_spec 𝓤 𝓛 𝓜 𝓡 wired =
     let count_fits = are.0.0.1.1.1.0.1 in
     qed 𝓛 ((‵ ftrue ⊛ ‵ (room.own_val r (lowers.lowered r ∷ [])) ⊛ ‵ (usize.own_val size (uint_vals w64 size)) ⊛ ‵ ftrue) ∷ raw (fact 𝓤 (size ≤ r.count)) ∷ []) ∵
     move ! (1 ∷ []) $ heard ! _ (λ below. split ! $ drop ! $ split ! $ fsplit ! $ drop ! $ move ! (1 ∷ []) $ drop ! $
-    in_a_block ! r.at (λ p. room_for (bytes r.count) p) (id⊢ 𝓤 _) (λ b o e.
+    in_a_block ! r.at (λ p. room_for (space r.count) p) (id⊢ 𝓤 _) (λ b o e.
     let rest = r.count - size in let size_fits : size < 2 ^ 64 = omega arith in let rest_fits : rest < 2 ^ 64 = omega arith in
     let parts : r.count ≡ size + rest = omega arith in let swap : o + size ≡ size + o = omega arith in let behind : past (ty_int w8) size o ≡ size + o = past_bytes size o ∙ swap in
-    rewrite ! 0 (λ (k : ℕ). ‵ (froom (bytes k) b o)) parts refl $
-    use1 𝓛 (‵ (froom (bytes size) b o) ⊛ ‵ (froom (bytes rest) b (past (ty_int w8) size o))) (room_cut 𝓛 (ty_int w8) size rest b o) $ split ! $
-    rewrite ! 1 (λ (k : ℕ). ‵ (froom (bytes rest) b k)) behind refl $
+    rewrite ! 0 (λ (k : ℕ). ‵ (froom (space k) b o)) parts refl $
+    use1 𝓛 (‵ (froom (space size) b o) ⊛ ‵ (froom (space rest) b (past (ty_int w8) size o))) (room_cut 𝓛 (ty_int w8) size rest b o) $ split ! $
+    rewrite ! 1 (λ (k : ℕ). ‵ (froom (space rest) b k)) behind refl $
     regoal ! (λ (p : Ptr). prop (WpFn 𝓤 𝓛.H 𝓣.C 𝓣.Λ code.function (words p r.count ∷ vint w64 size ∷ []) (W.post y))) e refl $
     enter ! _ _ _ _ _ $ alloc_all ! (λ l. pass_all ! refl ((tt, (tt, (record { fits = count_fits }, tt))), ((tt, record { fits = size_fits }), tt)) $
     -- let Room { at, count } = self;

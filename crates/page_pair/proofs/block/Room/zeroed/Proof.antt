@@ -36,7 +36,7 @@ use denote.Triple.Walked.{Stays, walk_of, says, stay_dropped, ends_at}
 use Rattle.page_pair.specs.contracts.block.Page.{the_row as page}
 use Rattle.page_pair.specs.contracts.block.Room.{the_row as room}
 use Rattle.page_pair.specs.contracts.block.Room.zeroed as f
-use Rattle.page_pair.proofs.Bytes.{zero_in}
+use Rattle.page_pair.proofs.Bytes.{space, zero_in}
 use Rattle.page_pair.proofs.Owners.{words, page_in}
 use Rattle.page_pair.proofs.block.Room.TheLaws.{lowers}
 use Rattle.page_pair.proofs.block.Room.zeroed.Statement.{statement}
@@ -44,9 +44,6 @@ use Rattle.page_pair.proofs.block.Room.zeroed.Code as code
 
 abbrev stayed : Stays f.ended.signature.params f.ended.kept
 stayed = (stay_dropped _ yes, tt)
-
-abbrev space : ℕ → Ty
-space n = ty_array (ty_int w8) n
 
 -- how many bytes are zero, and how many are left
 abbrev Count : ℕ → Type 0

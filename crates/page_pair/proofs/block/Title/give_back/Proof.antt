@@ -9,8 +9,6 @@ use mir.Syntax.{Ty, named, ty_int, ty_array}
 use mir.Val.{Val, vint, vptr, vunit}
 use contract.Monad.{fact, fact_i}
 use contract.Running.{tables}
-use prog.Capped.{capped_is}
-use prog.Memory.{size, align, capped}
 use prog.Wp.{WpFn}
 use types.Kit.{‵, raw, ◌⊛◌, some, later, prop, at_ret, ◌$◌, ◌∵◌, !, qed, done, move, drop, use0, use1, use2, split, join, pick, await, fsplit, fjoin, feq_i, feq_l, rewrite, regoal, suffices, group}
 use types.Part.{whole, sub}
@@ -38,7 +36,7 @@ use Rattle.page_pair.specs.Halves.{Fills, IsTitle}
 use Rattle.page_pair.specs.contracts.block.Page.{the_row as page}
 use Rattle.page_pair.specs.contracts.block.Title.{the_row as title}
 use Rattle.page_pair.specs.contracts.block.Title.give_back as f
-use Rattle.page_pair.proofs.Bytes.{both_room}
+use Rattle.page_pair.proofs.Bytes.{space, laid, both_room}
 use Rattle.page_pair.proofs.Owners.{words}
 use Rattle.page_pair.proofs.Walking.{settled}
 use Rattle.page_pair.proofs.block.Page.TheLaws as pages
@@ -48,12 +46,6 @@ use Rattle.page_pair.proofs.block.Title.give_back.Code as code
 
 abbrev stayed : Stays f.ended.signature.params f.ended.kept
 stayed = (stay_dropped _ yes, (stay_dropped _ yes, (stay_dropped _ yes, (stay_dropped _ yes, (stay_dropped _ yes, tt)))))
-
-abbrev space : ℕ → Ty
-space n = ty_array (ty_int w8) n
-
-laid : (n : ℕ) → n < 2 ^ 63 → HasLayout (space n) n 1
-laid n small = let fits : n * 1 < 2 ^ 64 = omega arith in let once : n * 1 ≡ n = omega arith in (capped_is (n * 1) fits ∙ once, refl)
 
 pub give_back_spec : {M : Type 1} → statement M
 give_back_spec 𝓤 𝓛 𝓜 𝓡 wired =
