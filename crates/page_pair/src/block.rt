@@ -73,7 +73,13 @@ impl Room {
         let Room { at, count } = self;
         let behind = unsafe { at.add(size) };
         let rest = count - size;
-        (Room { at, count: size }, Room { at: behind, count: rest })
+        (
+            Room { at, count: size },
+            Room {
+                at: behind,
+                count: rest,
+            },
+        )
     }
 
     pub(crate) fn zeroed(self) -> Page

@@ -1,5 +1,5 @@
 -- The open page's bytes leave as a slice; with any others in their place the rest is the page again.
-use Rattle.std.proofs.Common.{◌≡◌, ℕ, ◌*◌, ◌<◌, ◌^◌, List, [], ◌∷◌, length, MutBor, refl, sym, ap, ◌∙◌, w64, arith}
+use Rattle.std.proofs.Common.{◌≡◌, ℕ, ◌*◌, ◌<◌, ◌^◌, List, [], ◌∷◌, length, MutBor, refl, sym, ◌∙◌, arith}
 use Rattle.std.proofs.raw_atomic.Walks.{proved}
 use seplogic.Ra.Ura.{Ura}
 use base.Fraction.{full_share}
@@ -9,7 +9,7 @@ use mir.Syntax.{named}
 use mir.Val.{Val}
 use contract.Running.{tables}
 use types.Logic.{Logic, sem}
-use types.Kit.{‵, raw, ◌⊛◌, some, later, at_ret, ◌$◌, ◌∵◌, !, qed, done, move, keep, drop, use1, split, split3, join, pick, await, fsplit, fsplit3, fjoin, fpack, rewrite, suffices, frame, group}
+use types.Kit.{‵, raw, ◌⊛◌, some, later, at_ret, ◌$◌, ◌∵◌, !, qed, done, move, keep, use1, split, split3, join, pick, await, fsplit, fsplit3, fjoin, fpack, rewrite, suffices, frame, group}
 use types.Part.{whole, sub, look_in, agg}
 use types.Run.{enter, of_opd, load, fld, stop, and_then, no_more, first, blocks, exec, returns}
 use types.ByLocal.{alloc_all, pass_all, free_all, look_at, get, sets, sets_last, through, env}

@@ -1,12 +1,12 @@
 -- The fields are read through the `&`, and what it holds of the bytes is the slice.
-use Rattle.std.proofs.Common.{◌≡◌, ℕ, ◌*◌, ◌<◌, ◌^◌, List, [], ◌∷◌, length, refl, sym, ap, ◌∙◌, subst, w64, arith}
+use Rattle.std.proofs.Common.{◌≡◌, ℕ, ◌*◌, ◌<◌, ◌^◌, List, [], ◌∷◌, length, refl, sym, ap, arith}
 use Rattle.std.proofs.raw_atomic.Walks.{proved}
 use base.Logic.{id⊢}
 use base.Fml.{ftrue, fhide, flft}
 use mir.Syntax.{named}
 use mir.Val.{Val}
 use contract.Running.{tables}
-use types.Kit.{‵, raw, ◌⊛◌, at_ret, ◌$◌, ◌∵◌, !, qed, done, move, keep, drop, use1, split, join, fsplit, fjoin, feq_i, flt_i, rewrite, suffices, frame}
+use types.Kit.{‵, ◌⊛◌, at_ret, ◌$◌, ◌∵◌, !, qed, done, move, keep, drop, use1, split, join, fsplit, fjoin, feq_i, flt_i, rewrite, suffices, frame}
 use types.Part.{whole, sub, look_in, agg}
 use types.Run.{enter, of_opd, load, fld, stop, and_then, no_more, first, blocks, exec, returns}
 use types.ByLocal.{alloc_all, pass_all, free_all, look_at, get, sets, sets_last, through, env}
@@ -19,7 +19,7 @@ use denote.Opens.{unhide, hide}
 use denote.RawPtr.{Ptr, block_ptr, block_of, count_of, in_block, in_a_block}
 use denote.Ref.{ShrRef, shr_vals, shr_Tells}
 use denote.Signature.{plain}
-use denote.Slice.{elements_shared, slice_val}
+use denote.Slice.{slice_val}
 use denote.Steps.{nothing, peeks, looks, shuts}
 use denote.Struct.Lending.{lent_out}
 use denote.Triple.Walked.{Stays, walk_of, says, stay_dropped, Goes-dropped, ends_at}

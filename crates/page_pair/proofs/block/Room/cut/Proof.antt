@@ -1,14 +1,14 @@
-use Rattle.std.proofs.Common.{◌≡◌, ℕ, ◌+◌, ◌-◌, ◌≤◌, ◌<◌, ◌^◌, List, [], ◌∷◌, refl, sym, ap, ◌∙◌, w8, w64, arith}
+use Rattle.std.proofs.Common.{◌≡◌, ℕ, ◌+◌, ◌-◌, ◌≤◌, ◌<◌, ◌^◌, [], ◌∷◌, refl, sym, ap, ◌∙◌, w8, w64, arith}
 use Rattle.std.proofs.raw_atomic.Walks.{proved}
 use Rattle.std.proofs.alloc.Calls.{Goes-blank}
 use base.Logic.{id⊢}
 use base.Fml.{ftrue, froom}
-use mir.Syntax.{Ty, ty_int, ty_array}
+use mir.Syntax.{ty_int}
 use mir.Val.{vint, vstruct, vcons, vnil}
 use contract.Monad.{fact}
 use contract.Running.{tables}
 use prog.Wp.{WpFn}
-use types.Kit.{‵, raw, ◌⊛◌, prop, at_ret, ◌$◌, ◌∵◌, !, qed, done, move, drop, use0, use1, use2, split, join, fsplit, fjoin, rewrite, regoal, suffices}
+use types.Kit.{‵, raw, ◌⊛◌, prop, at_ret, ◌$◌, ◌∵◌, !, qed, done, move, drop, use1, use2, split, join, fsplit, rewrite, regoal, suffices}
 use types.Part.{whole, sub, agg}
 use types.Run.{enter, of_opd, bin, fld, stop, and_then, no_more, first, blocks, exec, returns}
 use types.ByLocal.{alloc_all, pass_all, free_all, look_at, get, get_in, sets, sets_last, env}

@@ -1,18 +1,17 @@
 -- The allocator's block is the room, and the right to free it the title.
-use Rattle.std.proofs.Common.{◌≡◌, ℕ, ◌+◌, ◌*◌, ◌<◌, ◌^◌, List, [], ◌∷◌, ◌++◌, refl, sym, ap, ◌∙◌, lit<, w8, w64, arith}
+use Rattle.std.proofs.Common.{◌≡◌, ℕ, ◌<◌, ◌^◌, List, [], ◌∷◌, ◌++◌, refl, ap, ◌∙◌, lit<, w64, arith}
 use Rattle.std.proofs.raw_atomic.Walks.{proved}
-use Rattle.std.proofs.alloc.Shapes.{head, arm_body}
+use Rattle.std.proofs.alloc.Shapes.{arm_body}
 use Rattle.std.proofs.ResultValues.{ok_of, err_of}
 use seplogic.Ra.Ura.{Ura}
 use base.Logic.{id⊢, emp}
 use base.Fml.{Fml, ftrue, froom, flft}
-use mir.Syntax.{Ty, named, ty_int, ty_array}
+use mir.Syntax.{Ty, named}
 use mir.Val.{Val, vint, vptr, vstruct, vcons, vnil, of_list}
 use contract.Monad.{fact, fact_i}
 use contract.Running.{tables}
-use prog.Capped.{capped_is}
 use prog.Wp.{Wp, at_return, after_seq}
-use types.Logic.{Logic, sem}
+use types.Logic.{Logic}
 use types.Kit.{Goal, Item, Seq, any_q, ‵, raw, ◌⊛◌, some, later, at_ret, ◌$◌, ◌∵◌, !, qed, done, move, drop, use0, use1, use2, split, join, pick, await, fsplit, fjoin, rewrite, suffices}
 use types.Part.{whole, agg}
 use types.Match.{live, vrt, in_variant}
@@ -20,23 +19,21 @@ use types.Run.{enter, of_opd, lit, fld, stop, and_then, no_more, first, switches
 use types.ByLocal.{alloc_all, pass_all, free_all, look_at, get, get_in, get_tag, sets, sets_last, lands_as, env}
 use denote.Builtin.{usize, RefOf}
 use denote.Exit.{yes}
-use denote.Laws.{Is, shows}
+use denote.Laws.{shows}
 use denote.Plain.{uint_vals, uint_Tells, uint_Makes}
 use denote.RattleType.{RattleType}
-use denote.RawPtr.{Ptr, RawPtr, block_ptr, null_ptr, ptr_val, room_for, in_a_block}
+use denote.RawPtr.{Ptr, RawPtr, block_ptr, ptr_val, room_for, in_a_block}
 use denote.Ref.{ShrRef, shr_vals, shr_Tells}
 use denote.Signature.{plain}
 use denote.Steps.{nothing, heard, owned, only, peeks}
 use denote.Struct.Declared.{shape}
-use denote.Struct.Struct.{Struct}
 use denote.Struct.Tuple.{Tuple}
 use denote.Triple.Call.{calls_at}
 use denote.Triple.Clauses.{lasts}
 use denote.Triple.Spec.{triple_of}
 use denote.Triple.Table.{framed}
 use denote.Triple.Walked.{Stays, walk_of, says, stay_dropped, Goes-dropped, ends_at}
-use Rattle.std.specs.Allocator.{HasLayout, owned_block, block_if_ok}
-use Rattle.std.specs.declared.result.Result.{Result}
+use Rattle.std.specs.Allocator.{HasLayout, block_if_ok}
 use Rattle.std.specs.declared.result.Result.TheVariants.{Ok, Err}
 use Rattle.std.specs.declared.alloc.AllocError.{AllocError}
 use Rattle.std.specs.contracts.result.Result as results
@@ -45,7 +42,6 @@ use Rattle.std.specs.contracts.alloc.Global.{the_row as heap}
 use Rattle.std.specs.contracts.impls.GlobalAllocator.TheImpl.{ghosts}
 use Rattle.std.specs.contracts.impls.GlobalAllocator.allocate as g
 use Rattle.std.proofs.impls.GlobalAllocator.allocate.Met.{met}
-use Rattle.page_pair.specs.Block.{right_to_free}
 use Rattle.page_pair.specs.contracts.block.Room.{the_row as room}
 use Rattle.page_pair.specs.contracts.block.Title.{the_row as title}
 use Rattle.page_pair.specs.contracts.block.Room.take as f

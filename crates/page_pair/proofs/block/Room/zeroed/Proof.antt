@@ -1,5 +1,5 @@
 -- Each turn of the loop takes a byte of room to the zeros before it.
-use Rattle.std.proofs.Common.{◌≡◌, ℕ, zero, suc, ◌+◌, ◌*◌, ◌≤◌, ◌<◌, ◌^◌, List, [], ◌∷◌, length, refl, sym, ap, ◌∙◌, lit<, nltb→le, w8, w64, arith}
+use Rattle.std.proofs.Common.{◌≡◌, ℕ, zero, suc, ◌+◌, ◌≤◌, ◌<◌, ◌^◌, List, [], ◌∷◌, length, refl, sym, lit<, nltb→le, w8, w64, arith}
 use Rattle.std.proofs.VecSteps.Shapes.{after}
 use Rattle.std.proofs.raw_atomic.Walks.{proved}
 use Rattle.std.proofs.alloc.Calls.{Goes-blank}
@@ -11,15 +11,15 @@ use native.Mathlib.Nat.{not-suc-le-zero}
 use lib.WfN.{lt-wf_rel}
 use seplogic.Ra.Ura.{Ura}
 use base.Fraction.{full_share}
-use base.Logic.{SProp, ent, sep, id⊢}
-use base.Fml.{ftrue, fat, froom}
-use mir.Syntax.{Ty, Body, ty_int, ty_array}
+use base.Logic.{SProp, ent, id⊢}
+use base.Fml.{ftrue, froom}
+use mir.Syntax.{ty_int}
 use mir.Val.{Val, vint, vptr}
 use contract.Monad.{fact}
 use contract.Running.{tables, tables_of}
 use prog.Wp.{Env, Out, Wp, WpFn, Tables, at_return, after_seq, after_block, after_turn}
 use types.Logic.{Logic, sem}
-use types.Kit.{Item, Sq, any_q, runs, ‵, raw, ◌⊛◌, prop, at_ret, ◌$◌, ◌∵◌, !, qed, done, move, drop, use0, use1, use2, split, join, fsplit, fjoin, feq_i, rewrite, regoal, suffices, by}
+use types.Kit.{Item, Sq, any_q, runs, ‵, raw, ◌⊛◌, prop, at_ret, ◌$◌, ◌∵◌, !, qed, done, move, drop, use1, use2, split, join, fsplit, fjoin, feq_i, rewrite, regoal, suffices, by}
 use types.Part.{whole, sub, agg}
 use types.Run.{enter, of_opd, bin, lit, fld, stop, and_then, no_more, init, assigns_last, first, blocks, branches, skips, jumps, exec, returns, loops, again, Below}
 use types.ByLocal.{alloc_all, pass_all, free_all, look_at, get, get_in, through, sets, sets_last, env, holding, forget_but}
@@ -101,9 +101,9 @@ zeroed_spec 𝓤 𝓛 𝓜 𝓡 wired =
     let small : n < 2 ^ 64 = omega arith in let zeros = replicate n 0 in let long : length zeros ≡ n = length-replicate n 0 in
     let p : page.Denot = record { at = block_ptr b o; count = n; bytes = zeros; counted = sym long; fits = fits } in
     let ends : ent 𝓤 (sem 𝓛 (bytes full_share zeros b o)) (W.post y (words (block_ptr b o) n)) =
-        qed 𝓛 (‵ (bytes full_share zeros b o) ∷ []) ∵ feq_i ! ℕ (length zeros) n long $ fjoin ! $ use1 𝓛 (‵ (part_at (Array u8 n) full_share zeros b o)) (bytes_whole 𝓛 full_share n zeros b o) $
-        suffices ! _ (ends_at 𝓛 f.ended stayed c y (words (block_ptr b o) n) p (tt, tt) (tt, tt)) $ says ! (sym e, refl, refl) $
-        use1 𝓛 (‵ (page.own_val p (words (block_ptr b o) n ∷ []))) (page_in 𝓛 p small) $ nothing ! $ nothing ! $ join ! $ nothing ! $ done ! in
+    qed 𝓛 (‵ (bytes full_share zeros b o) ∷ []) ∵ feq_i ! ℕ (length zeros) n long $ fjoin ! $ use1 𝓛 (‵ (part_at (Array u8 n) full_share zeros b o)) (bytes_whole 𝓛 full_share n zeros b o) $
+    suffices ! _ (ends_at 𝓛 f.ended stayed c y (words (block_ptr b o) n) p (tt, tt) (tt, tt)) $ says ! (sym e, refl, refl) $
+    use1 𝓛 (‵ (page.own_val p (words (block_ptr b o) n ∷ []))) (page_in 𝓛 p small) $ nothing ! $ nothing ! $ join ! $ nothing ! $ done ! in
     regoal ! (λ (p : Ptr). prop (WpFn 𝓤 𝓛.H 𝓣.C 𝓣.Λ code.function (words p n ∷ []) (W.post y))) e refl $
     enter ! _ _ _ _ _ $ alloc_all ! (λ l. pass_all ! refl ((tt, (tt, (record { fits = small }, tt))), tt) $
     sets ! (of_opd ! (get_in ! (fld ! refl (stop !)) (sub ! 0 refl (whole !)))) refl (tt, tt) $

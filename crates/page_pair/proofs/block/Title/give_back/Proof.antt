@@ -1,12 +1,12 @@
 -- The two pages are one room again, and it goes back with the title.
-use Rattle.std.proofs.Common.{◌≡◌, ℕ, ◌+◌, ◌*◌, ◌<◌, ◌^◌, List, [], ◌∷◌, refl, sym, ap, ◌∙◌, lit<, w8, w64, arith}
+use Rattle.std.proofs.Common.{◌≡◌, ℕ, ◌+◌, ◌<◌, ◌^◌, [], ◌∷◌, refl, sym, ap, ◌∙◌, lit<, w64, arith}
 use Rattle.std.proofs.raw_atomic.Walks.{proved}
 use Rattle.std.proofs.alloc.Calls.{Goes-blank}
 use base.Fraction.{full_share}
 use base.Logic.{id⊢, emp}
-use base.Fml.{ftrue, fsep, froom, flft}
-use mir.Syntax.{Ty, named, ty_int, ty_array}
-use mir.Val.{Val, vint, vptr, vunit}
+use base.Fml.{ftrue, froom, flft}
+use mir.Syntax.{named}
+use mir.Val.{vint, vptr, vunit}
 use contract.Monad.{fact, fact_i}
 use contract.Running.{tables}
 use prog.Wp.{WpFn}
@@ -60,7 +60,7 @@ give_back_spec 𝓤 𝓛 𝓜 𝓡 wired =
     let y : W.Ghost = ((κs, qs, bounds, a, (titles.lowered t ∷ [], (shr_vals alloc, (pages.lowered front ∷ [], (pages.lowered back ∷ [], (uint_vals w64 count, tt)))))), tt) in
     let ref = vptr alloc.ref_ptr.0 alloc.ref_ptr.1 in let Tokens = ‵ (flft κ q) ⊛ ‵ ftrue in
     qed 𝓛 ((Tokens ⊛ ‵ (title.own_val t (titles.lowered t ∷ [])) ⊛ ‵ ((ShrRef (named 0) κ heap).own_val alloc (shr_vals alloc)) ⊛ ‵ (page.own_val front (pages.lowered front ∷ [])) ⊛ ‵ (page.own_val back (pages.lowered back ∷ []))
-        ⊛ ‵ (usize.own_val count (uint_vals w64 count)) ⊛ ‵ ftrue) ∷ raw (fact 𝓤 (Fills front back count × IsTitle t alloc.now count front.at)) ∷ []) ∵
+    ⊛ ‵ (usize.own_val count (uint_vals w64 count)) ⊛ ‵ ftrue) ∷ raw (fact 𝓤 (Fills front back count × IsTitle t alloc.now count front.at)) ∷ []) ∵
     move ! (1 ∷ []) $ heard ! _ (λ ok. split ! $ move ! (1 ∷ []) $ split ! $ fsplit ! $ drop ! $ move ! (1 ∷ []) $ split ! $ move ! (1 ∷ []) $
     split ! $ fsplit ! $ drop ! $ move ! (1 ∷ []) $ split ! $ fsplit ! $ drop ! $ move ! (1 ∷ []) $ drop ! $ move ! (1 ∷ []) $
     -- [the first page's bytes; the second's; the handle; the title's right; the tokens]
