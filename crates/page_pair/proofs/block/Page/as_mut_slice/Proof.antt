@@ -41,8 +41,8 @@ use Rattle.page_pair.proofs.Owners.{words, two}
 abbrev R : RattleType
 R = page.the_row
 
-abbrev stayed : Stays f.ended.signature.params f.ended.kept
-stayed = (stay_dropped _ no, tt)
+abbrev dropped : Stays f.ended.signature.params f.ended.kept
+dropped = (stay_dropped _ no, tt)
 
 abbrev Fields : RattleType
 Fields = Struct (two page.struct.name)
@@ -64,12 +64,12 @@ module _ {M : Type 1} {𝓤 : Ura M} (𝓛 : Logic 𝓤) (p : R.Denot) (b o b' o
 
 pub as_mut_slice_spec : {M : Type 1} → statement M
 as_mut_slice_spec 𝓤 𝓛 𝓜 𝓡 wired =
-    let c = f.clauses 𝓛 𝓜.mem 𝓡.returns in let W = walk_of 𝓛 f.ended stayed c in let 𝓣 = tables 𝓤 𝓛.H 𝓜 𝓡 𝓡.env in
-    proved 𝓛 f.ended stayed c 𝓜 𝓡 (Goes-spent_ref 𝓛 1 (0 ∷ []) tt (plain (λ _. R)), tt)
+    let clauses = f.clauses 𝓛 𝓜.mem 𝓡.returns in let walk = walk_of 𝓛 f.ended dropped clauses in let 𝓣 = tables 𝓤 𝓛.H 𝓜 𝓡 𝓡.env in
+    proved 𝓛 f.ended dropped clauses 𝓜 𝓡 (Goes-spent_ref 𝓛 1 (0 ∷ []) tt (plain (λ _. R)), tt)
     f.Key.name code.function (code.unfolded 𝓤 𝓛.H 𝓜 𝓡 wired)
     (λ κs. (mut_vals, tt)) (λ κs. (mut_Tells (named 0) κs.0 R, tt)) (λ κs qs bounds a _ are.
     let b = a.0.ref_ptr.0 in let o = a.0.ref_ptr.1 in let p = a.0.now in let vs = mut_vals a.0 in
-    let y : W.Ghost = ((κs, qs, bounds, a, (vs, tt)), tt) in
+    let entry : walk.Ghost = ((κs, qs, bounds, a, (vs, tt)), tt) in
     let small : p.count < 2 ^ 63 = p.fits in let count_fits : p.count < 2 ^ 64 = omega arith in
     let n = length p.bytes in let counted : p.count ≡ n = p.counted in let low : n < 2 ^ 64 = omega arith in let fits : n * 1 < 2 ^ 63 = omega arith in
     qed 𝓛 (((‵ (flft κs.0 qs.0) ⊛ ‵ ftrue) ⊛ ‵ ((MutRef (named 0) κs.0 R).own_val a.0 vs) ⊛ ‵ ftrue) ∷ ‵ ftrue ∷ []) ∵
@@ -85,7 +85,7 @@ as_mut_slice_spec 𝓤 𝓛 𝓜 𝓡 wired =
     sets ! (of_opd ! (load ! (through ! refl (fld ! refl (stop !))) (look_in ! 2 (sub ! 0 refl (whole !))))) refl (tt, tt) $
     sets ! (of_opd ! (load ! (through ! refl (fld ! refl (stop !))) (look_in ! 2 (sub ! 1 refl (whole !))))) refl (tt, record { fits = count_fits }) $
     sets_last ! (agg ! (and_then ! (get ! refl) (and_then ! (get ! refl) (no_more !)))) refl (tt, (tt, (record { fits = count_fits }, tt))) $
-    exec ! 𝓣.C 𝓣.Λ (env code.Mir.locals l) code.Mir.t-2 (at_ret _ (W.post y)) $
+    exec ! 𝓣.C 𝓣.Λ (env code.Mir.locals l) code.Mir.t-2 (at_ret _ (walk.post entry)) $
     sets ! (of_opd ! (get ! refl)) refl (tt, (tt, (record { fits = count_fits }, tt))) $
     rewrite ! 2 (λ (x : Ptr). ‵ (cell_at full_share R.mir (words x p.count ∷ []) b o)) (sym e) refl $
     use1 𝓛 (‵ (cells (mem u8) p.bytes b' o')) (cells_out 𝓛 p.count p.bytes b' o') $ move ! (1 ∷ 2 ∷ []) $ fjoin ! $ move ! (2 ∷ 3 ∷ 4 ∷ 1 ∷ 0 ∷ []) $ group ! 5 $
@@ -97,6 +97,6 @@ as_mut_slice_spec 𝓤 𝓛 𝓜 𝓡 wired =
     use1 𝓛 (‵ (Lent n) ⊛ ‵ (flft κs.0 qs.0) ⊛ ‵ (follows R (Array u8 0) a.0.ghost_name γ (with_bytes p))) (id⊢ 𝓤 _) $ split3 ! $
     rewrite ! 0 (λ (k : ℕ). ‵ (Lent k)) (sym counted) refl $
     -- [the slice; the token; what the page follows]
-    suffices ! _ (ends_at 𝓛 f.ended stayed c y (slice_val (b', o') p.count) lent (tt, tt) (tt, tt)) $
+    suffices ! _ (ends_at 𝓛 f.ended dropped clauses entry (slice_val (b', o') p.count) lent (tt, tt) (tt, tt)) $
     nothing ! $ nothing ! $ join ! $ nothing ! $ move ! (3 ∷ 0 ∷ []) $ join ! $ move ! (0 ∷ 1 ∷ 2 ∷ 3 ∷ []) $ group ! 3 $ frame ! $ says ! refl $ done !)))))
     )

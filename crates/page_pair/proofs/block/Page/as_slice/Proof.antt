@@ -30,18 +30,18 @@ use Rattle.page_pair.proofs.block.Page.as_slice.Code as code
 use Rattle.page_pair.proofs.Owners.{words, two, words_open, words_are}
 use denote.Struct.Struct.{Struct}
 
-abbrev stayed : Stays f.ended.signature.params f.ended.kept
-stayed = (stay_dropped _ yes, tt)
+abbrev dropped : Stays f.ended.signature.params f.ended.kept
+dropped = (stay_dropped _ yes, tt)
 
 pub as_slice_spec : {M : Type 1} → statement M
 as_slice_spec 𝓤 𝓛 𝓜 𝓡 wired =
-    let c = f.clauses 𝓛 𝓜.mem 𝓡.returns in let W = walk_of 𝓛 f.ended stayed c in let 𝓣 = tables 𝓤 𝓛.H 𝓜 𝓡 𝓡.env in
+    let clauses = f.clauses 𝓛 𝓜.mem 𝓡.returns in let walk = walk_of 𝓛 f.ended dropped clauses in let 𝓣 = tables 𝓤 𝓛.H 𝓜 𝓡 𝓡.env in
     let R = page.the_row in
-    proved 𝓛 f.ended stayed c 𝓜 𝓡 (Goes-dropped 𝓛 1 (RefOf (0 ∷ []) tt (plain (λ _. page.the_row)) (λ _. tt)) yes (λ κs x w. refl), tt)
+    proved 𝓛 f.ended dropped clauses 𝓜 𝓡 (Goes-dropped 𝓛 1 (RefOf (0 ∷ []) tt (plain (λ _. page.the_row)) (λ _. tt)) yes (λ κs x w. refl), tt)
     f.Key.name code.function (code.unfolded 𝓤 𝓛.H 𝓜 𝓡 wired)
     (λ κs. (shr_vals, tt)) (λ κs. (shr_Tells (named 0) κs.0 R, tt)) (λ κs qs bounds a _ are.
     let b = a.0.ref_ptr.0 in let o = a.0.ref_ptr.1 in let p = a.0.now in let κ = κs.0 in let vs = shr_vals a.0 in
-    let y : W.Ghost = ((κs, qs, bounds, a, (vs, tt)), tt) in
+    let entry : walk.Ghost = ((κs, qs, bounds, a, (vs, tt)), tt) in
     let Fields = Struct (two page.struct.name) in let fields : Fields.Denot = (p.at, (p.count, tt)) in
     let small : p.count < 2 ^ 63 = p.fits in let count_fits : p.count < 2 ^ 64 = omega arith in
     qed 𝓛 (((‵ (flft κ qs.0) ⊛ ‵ ftrue) ⊛ ‵ ((ShrRef (named 0) κ R).own_val a.0 vs) ⊛ ‵ ftrue) ∷ ‵ ftrue ∷ []) ∵
@@ -59,14 +59,14 @@ as_slice_spec 𝓤 𝓛 𝓜 𝓡 wired =
     sets ! (of_opd ! (load ! (through ! refl (fld ! refl (stop !))) (look_in ! 1 (sub ! 0 refl (whole !))))) refl (tt, tt) $
     sets ! (of_opd ! (load ! (through ! refl (fld ! refl (stop !))) (look_in ! 1 (sub ! 1 refl (whole !))))) refl (tt, record { fits = count_fits }) $
     sets_last ! (agg ! (and_then ! (get ! refl) (and_then ! (get ! refl) (no_more !)))) refl (tt, (tt, (record { fits = count_fits }, tt))) $
-    exec ! 𝓣.C 𝓣.Λ (env code.Mir.locals l) code.Mir.t-2 (at_ret _ (W.post y)) $
+    exec ! 𝓣.C 𝓣.Λ (env code.Mir.locals l) code.Mir.t-2 (at_ret _ (walk.post entry)) $
     sets ! (of_opd ! (get ! refl)) refl (tt, (tt, (record { fits = count_fits }, tt))) $
     rewrite ! 1 (λ (x : Ptr). ‵ (cell_at q' Fields.mir (words x p.count ∷ []) b o)) (sym e) refl $ move ! (1 ∷ 0 ∷ []) $
     shuts ! tt Fields q' fields (words p.at p.count ∷ []) b o $
     returns ! (look_at ! 0 refl) $ free_all ! refl $ keep ! (0 ∷ 2 ∷ []) $
     -- [the token; what a `&` to each byte holds]
     let n = length p.bytes in let counted : p.count ≡ n = p.counted in let low : n < 2 ^ 64 = omega arith in let fits : n * 1 < 2 ^ 63 = omega arith in
-    suffices ! _ (ends_at 𝓛 f.ended stayed c y (slice_val (b', o') p.count) (record { ref_ptr = (b', o'); now = p.bytes }) (tt, tt) (tt, tt)) $ says ! refl $
+    suffices ! _ (ends_at 𝓛 f.ended dropped clauses entry (slice_val (b', o') p.count) (record { ref_ptr = (b', o'); now = p.bytes }) (tt, tt) (tt, tt)) $ says ! refl $
     nothing ! $ move ! (1 ∷ 0 ∷ []) $ join ! $ nothing ! $ nothing ! $ join ! $ move ! (1 ∷ 0 ∷ []) $ frame ! $ frame ! $
     flt_i ! (n * 1) (2 ^ 63) fits $ flt_i ! n (2 ^ 64) low $ fjoin ! $ feq_i ! (List Val) _ (slice_val (b', o') n ∷ []) (ap (λ (k : ℕ). slice_val (b', o') k ∷ []) counted) $ fjoin ! $ fjoin ! $ done !))))
     )

@@ -50,8 +50,8 @@ use Rattle.page_pair.proofs.Owners.{words, room_in, title_in, pair_in, fields_in
 use Rattle.page_pair.proofs.block.Room.take.Statement.{statement}
 use Rattle.page_pair.proofs.block.Room.take.Code as code
 
-abbrev stayed : Stays f.ended.signature.params f.ended.kept
-stayed = (stay_dropped _ yes, (stay_dropped _ yes, tt))
+abbrev dropped : Stays f.ended.signature.params f.ended.kept
+dropped = (stay_dropped _ yes, (stay_dropped _ yes, tt))
 
 abbrev Answer : RattleType
 Answer = results.the_row RawPtr refusal.the_row
@@ -79,12 +79,12 @@ module _ {M : Type 1} {𝓤 : Ura M} {𝓛 : Logic 𝓤} {K : Type 0} {Γ : List
 
 pub take_spec : {M : Type 1} → statement M
 take_spec 𝓤 𝓛 𝓜 𝓡 wired =
-    let c = f.clauses 𝓛 𝓜.mem 𝓡.returns in let W = walk_of 𝓛 f.ended stayed c in let 𝓣 = tables 𝓤 𝓛.H 𝓜 𝓡 𝓡.env in
-    proved 𝓛 f.ended stayed c 𝓜 𝓡 (Goes-dropped 𝓛 1 (RefOf (0 ∷ []) tt (plain (λ _. heap)) (λ _. tt)) yes (λ κs x w. refl), (Goes-dropped 𝓛 1 (plain (λ _. usize)) yes (λ κs x w. refl), tt))
+    let clauses = f.clauses 𝓛 𝓜.mem 𝓡.returns in let walk = walk_of 𝓛 f.ended dropped clauses in let 𝓣 = tables 𝓤 𝓛.H 𝓜 𝓡 𝓡.env in
+    proved 𝓛 f.ended dropped clauses 𝓜 𝓡 (Goes-dropped 𝓛 1 (RefOf (0 ∷ []) tt (plain (λ _. heap)) (λ _. tt)) yes (λ κs x w. refl), (Goes-dropped 𝓛 1 (plain (λ _. usize)) yes (λ κs x w. refl), tt))
     f.Key.name code.function (code.unfolded 𝓤 𝓛.H 𝓜 𝓡 wired)
     (λ κs. (shr_vals, (uint_vals w64, tt))) (λ κs. (shr_Tells (named 0) κs.0 heap, (uint_Tells w64, tt))) (λ κs qs bounds a _ are.
     let alloc = a.0 in let count = a.1.0 in let κ = κs.0 in let q = qs.0 in let τ = space count in let Tokens = ‵ (flft κ q) ⊛ ‵ ftrue in
-    let y : W.Ghost = ((κs, qs, bounds, a, (shr_vals alloc, (uint_vals w64 count, tt))), tt) in
+    let entry : walk.Ghost = ((κs, qs, bounds, a, (shr_vals alloc, (uint_vals w64 count, tt))), tt) in
     let G = triple_of 𝓛 g.signature (g.spec 𝓛 𝓜.mem 𝓡.returns) in
     let z : G.Ghost = (((κ, tt), (q, tt), tt, (alloc, (count, (1, tt))), (shr_vals alloc, (vint w64 count ∷ [], (vint w64 1 ∷ [], tt)))), τ) in
     qed 𝓛 ((Tokens ⊛ ‵ ((ShrRef (named 0) κ heap).own_val alloc (shr_vals alloc)) ⊛ ‵ (usize.own_val count (uint_vals w64 count)) ⊛ ‵ ftrue) ∷ raw (fact 𝓤 (count < 2 ^ 63)) ∷ []) ∵
@@ -94,7 +94,7 @@ take_spec 𝓤 𝓛 𝓜 𝓡 wired =
     nothing ! $ owned ! usize _ (uint_Makes 𝓛 w64) 1 _ (refl, lit< tt) $ fjoin ! $ owned ! usize _ (uint_Makes 𝓛 w64) count _ (refl, fits) $ fjoin ! $
     move ! (2 ∷ 0 ∷ []) $ fjoin ! $ move ! (2 ∷ 0 ∷ []) $ join ! $ join ! $ use1 𝓛 (raw (G.pre z)) (id⊢ 𝓤 _) $
     enter ! _ _ _ _ _ $ alloc_all ! (λ l. pass_all ! refl ((tt, tt), ((tt, record { fits = fits }), tt)) $
-    let E = env code.Mir.locals l in let Post = W.post y in let Rest = any_q (after_seq 𝓤 𝓛.H (Wp 𝓤 𝓛.H 𝓣.C 𝓣.Λ E code.Mir.t-3 (at_return 𝓤 𝓛.H E Post)) (at_return 𝓤 𝓛.H E Post)) in
+    let E = env code.Mir.locals l in let Post = walk.post entry in let Rest = any_q (after_seq 𝓤 𝓛.H (Wp 𝓤 𝓛.H 𝓣.C 𝓣.Λ E code.Mir.t-3 (at_return 𝓤 𝓛.H E Post)) (at_return 𝓤 𝓛.H E Post)) in
     calls_at ! (framed 𝓤 𝓛.H 𝓜 𝓣) G (met 𝓤 𝓛 𝓜 𝓡 (code.calls-std_heap::GlobalAllocator::allocate 𝓡.env wired)) z (and_then ! (get ! refl) (and_then ! (get ! refl) (and_then ! (lit ! tt) (no_more !)))) (λ v.
     use1 𝓛 (later (some (λ (r : Answer.Denot). (Tokens ⊛ ‵ (Answer.own_val r (v ∷ []))) ⊛ some (λ (ws : Unit {0} × (Unit {0} × (Unit {0} × Unit {0}))). ‵ (lasts g.ended z.0.0 z.0.3 ws) ⊛ ‵ (block_if_ok (λ σ p. ghosts.dealloc_token alloc.now σ p) τ r))))) (id⊢ 𝓤 _) $
     await ! tt $ pick ! (λ r. split ! $ move ! (1 ∷ []) $ pick ! (λ ws. split ! $ drop ! $ move ! (1 ∷ []) $ split ! $ move ! (1 ∷ 2 ∷ []) $
@@ -112,7 +112,7 @@ take_spec 𝓤 𝓛 𝓜 𝓡 wired =
     -- [the room; the right; the token]
     let r' : room.Denot = record { at = block_ptr b o; count = count } in let t' : title.Denot = record { alloc = alloc.now; at = block_ptr b o; count = count } in
     let both = vstruct (vcons (words (block_ptr b o) count) (vcons (vstruct vnil) vnil)) in
-    suffices ! _ (ends_at 𝓛 f.ended stayed c y (live 0 (vcons both vnil)) (Ok (r', t')) (tt, (tt, tt)) (tt, (tt, tt))) $
+    suffices ! _ (ends_at 𝓛 f.ended dropped clauses entry (live 0 (vcons both vnil)) (Ok (r', t')) (tt, (tt, tt)) (tt, (tt, tt))) $
     says ! (record { counted = refl; titled = record { alloc = refl; count = refl; at = refl } }) $
     use1 𝓛 (‵ (room.own_val r' (words r'.at count ∷ []))) (room_in 𝓛 r' fits) $ move ! (1 ∷ []) $ use1 𝓛 (‵ (title.own_val t' (vstruct vnil ∷ []))) (title_in 𝓛 t') $ move ! (1 ∷ 0 ∷ []) $
     use2 𝓛 (‵ ((Tuple (room ∷ title ∷ [])).own_val (r', t') (both ∷ []))) (pair_in 𝓛 room title r' t' (words r'.at count) (vstruct vnil)) $
@@ -125,7 +125,7 @@ take_spec 𝓤 𝓛 𝓜 𝓡 wired =
     exec ! 𝓣.C 𝓣.Λ E code.Mir.t-3 (at_ret E Post) $ sets ! (of_opd ! (get ! refl)) refl (tt, (record { fits = lit< tt }, (tt, tt))) $
     returns ! (look_at ! 0 refl) $ free_all ! refl $
     let none : AllocError = record {} in
-    suffices ! _ (ends_at 𝓛 f.ended stayed c y refused (Err none) (tt, (tt, tt)) (tt, (tt, tt))) $ says ! tt $
+    suffices ! _ (ends_at 𝓛 f.ended dropped clauses entry refused (Err none) (tt, (tt, tt)) (tt, (tt, tt))) $ says ! tt $
     nothing ! $ use1 𝓛 (‵ (refusal.the_row.own_val none (vstruct vnil ∷ []))) (fields_in 𝓛 (shape refusal.the_type) tt tt) $
     use1 𝓛 (‵ ((results.the_row (Tuple (room ∷ title ∷ [])) refusal.the_row).own_val (Err none) (refused ∷ []))) (err_of 𝓛 (Tuple (room ∷ title ∷ [])) refusal.the_row none (vstruct vnil)) $
     nothing ! $ nothing ! $ join ! $ nothing ! $ join ! $ move ! (2 ∷ []) $ done !))))))

@@ -42,8 +42,8 @@ use Rattle.page_pair.proofs.block.Room.TheLaws.{lowers}
 use Rattle.page_pair.proofs.block.Room.zeroed.Statement.{statement}
 use Rattle.page_pair.proofs.block.Room.zeroed.Code as code
 
-abbrev stayed : Stays f.ended.signature.params f.ended.kept
-stayed = (stay_dropped _ yes, tt)
+abbrev dropped : Stays f.ended.signature.params f.ended.kept
+dropped = (stay_dropped _ yes, tt)
 
 -- how many bytes are zero, and how many are left
 abbrev Count : ℕ → Type 0
@@ -89,27 +89,27 @@ module _ {M : Type 1} {𝓤 : Ura M} (𝓛 : Logic 𝓤) (𝓣 : Tables 𝓤 �
 pub zeroed_spec : {M : Type 1} → statement M
 unfolding tables_of
 zeroed_spec 𝓤 𝓛 𝓜 𝓡 wired =
-    let c = f.clauses 𝓛 𝓜.mem 𝓡.returns in let W = walk_of 𝓛 f.ended stayed c in let 𝓣 = tables_of 𝓤 𝓛.H 𝓜 (tables 𝓤 𝓛.H 𝓜 𝓡 𝓡.env) in
-    proved 𝓛 f.ended stayed c 𝓜 𝓡 (Goes-blank 𝓛 0 (plain (λ _. room)) yes (λ κs x w. tt), tt)
+    let clauses = f.clauses 𝓛 𝓜.mem 𝓡.returns in let walk = walk_of 𝓛 f.ended dropped clauses in let 𝓣 = tables_of 𝓤 𝓛.H 𝓜 (tables 𝓤 𝓛.H 𝓜 𝓡 𝓡.env) in
+    proved 𝓛 f.ended dropped clauses 𝓜 𝓡 (Goes-blank 𝓛 0 (plain (λ _. room)) yes (λ κs x w. tt), tt)
     f.Key.name code.function (code.unfolded 𝓤 𝓛.H 𝓜 𝓡 wired)
     (λ κs. ((λ r. lowers.lowered r ∷ []), tt)) (λ κs. (lowers.val_is, tt)) (λ κs qs bounds a _ are.
     let r = a.0 in let n = r.count in
-    let y : W.Ghost = ((κs, qs, bounds, a, (lowers.lowered r ∷ [], tt)), tt) in
+    let entry : walk.Ghost = ((κs, qs, bounds, a, (lowers.lowered r ∷ [], tt)), tt) in
     qed 𝓛 ((‵ ftrue ⊛ ‵ (room.own_val r (lowers.lowered r ∷ [])) ⊛ ‵ ftrue) ∷ raw (fact 𝓤 (n < 2 ^ 63)) ∷ []) ∵
     move ! (1 ∷ []) $ heard ! _ (λ fits. split ! $ drop ! $ split ! $ fsplit ! $ drop ! $
     in_a_block ! r.at (λ p. room_for (space n) p) (id⊢ 𝓤 _) (λ b o e.
     let small : n < 2 ^ 64 = omega arith in let zeros = replicate n 0 in let long : length zeros ≡ n = length-replicate n 0 in
     let p : page.Denot = record { at = block_ptr b o; count = n; bytes = zeros; counted = sym long; fits = fits } in
-    let ends : ent 𝓤 (sem 𝓛 (bytes full_share zeros b o)) (W.post y (words (block_ptr b o) n)) =
+    let ends : ent 𝓤 (sem 𝓛 (bytes full_share zeros b o)) (walk.post entry (words (block_ptr b o) n)) =
     qed 𝓛 (‵ (bytes full_share zeros b o) ∷ []) ∵ feq_i ! ℕ (length zeros) n long $ fjoin ! $ use1 𝓛 (‵ (part_at (Array u8 n) full_share zeros b o)) (bytes_whole 𝓛 full_share n zeros b o) $
-    suffices ! _ (ends_at 𝓛 f.ended stayed c y (words (block_ptr b o) n) p (tt, tt) (tt, tt)) $ says ! (sym e, refl, refl) $
+    suffices ! _ (ends_at 𝓛 f.ended dropped clauses entry (words (block_ptr b o) n) p (tt, tt) (tt, tt)) $ says ! (sym e, refl, refl) $
     use1 𝓛 (‵ (page.own_val p (words (block_ptr b o) n ∷ []))) (page_in 𝓛 p small) $ nothing ! $ nothing ! $ join ! $ nothing ! $ done ! in
-    regoal ! (λ (p : Ptr). prop (WpFn 𝓤 𝓛.H 𝓣.C 𝓣.Λ code.function (words p n ∷ []) (W.post y))) e refl $
+    regoal ! (λ (p : Ptr). prop (WpFn 𝓤 𝓛.H 𝓣.C 𝓣.Λ code.function (words p n ∷ []) (walk.post entry))) e refl $
     enter ! _ _ _ _ _ $ alloc_all ! (λ l. pass_all ! refl ((tt, (tt, (record { fits = small }, tt))), tt) $
     sets ! (of_opd ! (get_in ! (fld ! refl (stop !)) (sub ! 0 refl (whole !)))) refl (tt, tt) $
     sets ! (of_opd ! (get_in ! (fld ! refl (stop !)) (sub ! 1 refl (whole !)))) refl (tt, record { fits = small }) $
     sets ! (of_opd ! (lit ! tt)) refl (tt, record { fits = lit< tt }) $
     let none : o ≡ 0 + o = omega arith in let all : 0 + n ≡ n = omega arith in
     first ! $ blocks ! $ rewrite ! 0 (λ (k : ℕ). ‵ (froom (space n) b k)) none refl $ move ! (1 ∷ []) $
-    loops ! 𝓣 Less (InvImage.wf (λ (t : Count n). t.1) lt-wf_rel.wf) (Now 𝓛 𝓣 n b o fits small l (W.post y) ends) (λ t. turn 𝓛 𝓣 n b o fits small l (W.post y) ends t.0 t.1 t.2) (0, n, all))))
+    loops ! 𝓣 Less (InvImage.wf (λ (t : Count n). t.1) lt-wf_rel.wf) (Now 𝓛 𝓣 n b o fits small l (walk.post entry) ends) (λ t. turn 𝓛 𝓣 n b o fits small l (walk.post entry) ends t.0 t.1 t.2) (0, n, all))))
     )

@@ -44,20 +44,20 @@ use Rattle.page_pair.proofs.block.Title.TheLaws as titles
 use Rattle.page_pair.proofs.block.Title.give_back.Statement.{statement}
 use Rattle.page_pair.proofs.block.Title.give_back.Code as code
 
-abbrev stayed : Stays f.ended.signature.params f.ended.kept
-stayed = (stay_dropped _ yes, (stay_dropped _ yes, (stay_dropped _ yes, (stay_dropped _ yes, (stay_dropped _ yes, tt)))))
+abbrev dropped : Stays f.ended.signature.params f.ended.kept
+dropped = (stay_dropped _ yes, (stay_dropped _ yes, (stay_dropped _ yes, (stay_dropped _ yes, (stay_dropped _ yes, tt)))))
 
 pub give_back_spec : {M : Type 1} → statement M
 give_back_spec 𝓤 𝓛 𝓜 𝓡 wired =
-    let c = f.clauses 𝓛 𝓜.mem 𝓡.returns in let W = walk_of 𝓛 f.ended stayed c in let 𝓣 = tables 𝓤 𝓛.H 𝓜 𝓡 𝓡.env in
+    let clauses = f.clauses 𝓛 𝓜.mem 𝓡.returns in let walk = walk_of 𝓛 f.ended dropped clauses in let 𝓣 = tables 𝓤 𝓛.H 𝓜 𝓡 𝓡.env in
     let page_goes = Goes-blank 𝓛 1 (plain (λ _. page)) yes (λ κs x w. tt) in
-    proved 𝓛 f.ended stayed c 𝓜 𝓡
+    proved 𝓛 f.ended dropped clauses 𝓜 𝓡
     (Goes-blank 𝓛 1 (plain (λ _. title)) yes (λ κs x w. tt), (Goes-dropped 𝓛 1 (RefOf (0 ∷ []) tt (plain (λ _. heap)) (λ _. tt)) yes (λ κs x w. refl), (page_goes, (page_goes, (Goes-dropped 𝓛 1 (plain (λ _. usize)) yes (λ κs x w. refl), tt)))))
     f.Key.name code.function (code.unfolded 𝓤 𝓛.H 𝓜 𝓡 wired)
     (λ κs. ((λ t. titles.lowered t ∷ []), (shr_vals, ((λ p. pages.lowered p ∷ []), ((λ p. pages.lowered p ∷ []), (uint_vals w64, tt))))))
     (λ κs. (titles.lowers.val_is, (shr_Tells (named 0) κs.0 heap, (pages.lowers.val_is, (pages.lowers.val_is, (uint_Tells w64, tt)))))) (λ κs qs bounds a _ are.
     let t = a.0 in let alloc = a.1.0 in let front = a.1.1.0 in let back = a.1.1.1.0 in let count = a.1.1.1.1.0 in let κ = κs.0 in let q = qs.0 in
-    let y : W.Ghost = ((κs, qs, bounds, a, (titles.lowered t ∷ [], (shr_vals alloc, (pages.lowered front ∷ [], (pages.lowered back ∷ [], (uint_vals w64 count, tt)))))), tt) in
+    let entry : walk.Ghost = ((κs, qs, bounds, a, (titles.lowered t ∷ [], (shr_vals alloc, (pages.lowered front ∷ [], (pages.lowered back ∷ [], (uint_vals w64 count, tt)))))), tt) in
     let ref = vptr alloc.ref_ptr.0 alloc.ref_ptr.1 in let Tokens = ‵ (flft κ q) ⊛ ‵ ftrue in
     qed 𝓛 ((Tokens ⊛ ‵ (title.own_val t (titles.lowered t ∷ [])) ⊛ ‵ ((ShrRef (named 0) κ heap).own_val alloc (shr_vals alloc)) ⊛ ‵ (page.own_val front (pages.lowered front ∷ [])) ⊛ ‵ (page.own_val back (pages.lowered back ∷ []))
     ⊛ ‵ (usize.own_val count (uint_vals w64 count)) ⊛ ‵ ftrue) ∷ raw (fact 𝓤 (Fills front back count × IsTitle t alloc.now count front.at)) ∷ []) ∵
@@ -79,8 +79,8 @@ give_back_spec 𝓤 𝓛 𝓜 𝓡 wired =
     let G = triple_of 𝓛 g.signature (g.spec 𝓛 𝓜.mem 𝓡.returns) in
     let z : G.Ghost = (((κ, tt), (q, tt), tt, (alloc, (block_ptr b o, (count, (1, tt)))), (shr_vals alloc, (vptr b o ∷ [], (vint w64 count ∷ [], (vint w64 1 ∷ [], tt))))), τ) in
     use1 𝓛 (raw (G.pre z)) (id⊢ 𝓤 _) $
-    regoal ! (λ (p : Ptr). prop (WpFn 𝓤 𝓛.H 𝓣.C 𝓣.Λ code.function (titles.lowered t ∷ ref ∷ words p n ∷ words back.at back.count ∷ vint w64 count ∷ []) (W.post y))) e refl $
-    regoal ! (λ (p : Ptr). prop (WpFn 𝓤 𝓛.H 𝓣.C 𝓣.Λ code.function (titles.lowered t ∷ ref ∷ words (block_ptr b o) n ∷ words p back.count ∷ vint w64 count ∷ []) (W.post y))) second refl $
+    regoal ! (λ (p : Ptr). prop (WpFn 𝓤 𝓛.H 𝓣.C 𝓣.Λ code.function (titles.lowered t ∷ ref ∷ words p n ∷ words back.at back.count ∷ vint w64 count ∷ []) (walk.post entry))) e refl $
+    regoal ! (λ (p : Ptr). prop (WpFn 𝓤 𝓛.H 𝓣.C 𝓣.Λ code.function (titles.lowered t ∷ ref ∷ words (block_ptr b o) n ∷ words p back.count ∷ vint w64 count ∷ []) (walk.post entry))) second refl $
     enter ! _ _ _ _ _ $ alloc_all ! (λ l. pass_all ! refl ((tt, tt), ((tt, tt), ((tt, (tt, (record { fits = n_fits }, tt))), ((tt, (tt, (record { fits = back_fits }, tt))), ((tt, record { fits = count_fits }), tt))))) $
     let E = env code.Mir.locals l in
     sets ! (of_opd ! (get_in ! (fld ! refl (stop !)) (sub ! 0 refl (whole !)))) refl (tt, tt) $
@@ -90,8 +90,8 @@ give_back_spec 𝓤 𝓛 𝓜 𝓡 wired =
     use1 𝓛 (later (some (λ (r : Unit {0}). (Tokens ⊛ ‵ (unit.own_val r (v ∷ []))) ⊛ some (λ (ws : Unit {0} × (Unit {0} × (Unit {0} × (Unit {0} × Unit {0})))). ‵ (lasts g.ended z.0.0 z.0.3 ws) ⊛ ‵ ftrue)))) (id⊢ 𝓤 _) $
     await ! tt $ pick ! (λ r. split ! $ split ! $ move ! (1 ∷ []) $ feq_l ! (λ is_unit. move ! (1 ∷ []) $ drop ! $
     settled ! (ap only is_unit) $ lands_last ! refl (tt, tt) $
-    exec ! 𝓣.C 𝓣.Λ E code.Mir.t-3 (at_ret _ (W.post y)) $ sets ! (of_opd ! (unit_lit !)) refl (tt, tt) $
+    exec ! 𝓣.C 𝓣.Λ E code.Mir.t-3 (at_ret _ (walk.post entry)) $ sets ! (of_opd ! (unit_lit !)) refl (tt, tt) $
     returns ! (look_at ! 0 refl) $ free_all ! refl $
-    suffices ! _ (ends_at 𝓛 f.ended stayed c y vunit tt (tt, (tt, (tt, (tt, (tt, tt))))) (tt, (tt, (tt, (tt, (tt, tt)))))) $
+    suffices ! _ (ends_at 𝓛 f.ended dropped clauses entry vunit tt (tt, (tt, (tt, (tt, (tt, tt))))) (tt, (tt, (tt, (tt, (tt, tt)))))) $
     nothing ! $ feq_i ! _ (vunit ∷ []) _ refl $ nothing ! $ nothing ! $ join ! $ nothing ! $ join ! $ nothing ! $ join ! $ nothing ! $ join ! $ nothing ! $ join ! $ move ! (3 ∷ []) $ group ! 3 $ done !))))))
     )
