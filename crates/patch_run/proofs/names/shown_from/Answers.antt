@@ -1,4 +1,4 @@
-use Rattle.std.proofs.Common.{◌≡◌, ◌<◌, ℕ, suc, List, ⊎_elim, arith, subst}
+use Rattle.std.proofs.Common.{◌≡◌, ◌<◌, ℕ, List, ⊎_elim, arith, subst}
 use Rattle.std.specs.Str.{IsUtf8, IsCharBoundary}
 use Rattle.std.proofs.lemmas.Str.{IsCharBoundary-after_ascii}
 use Rattle.patch_run.specs.Ready.{BeginsComponent}
