@@ -23,7 +23,7 @@ returns-then-turn-clause-starts g c =
       | else-not-is_in_the_way w ↦ way_taken c.in-Ok.yes t.options.force c.if-not-is_in_the_way.value w.if-not-is_in_the_way.false w.value-is
     ] in
     starts_is c.on_taking.result (λ f. on_creation t c.args.place (bytes_of t f c.args.place) c.args.side) (starts_after c.on_taking.result c.is_in_the_way.ensures.untouched c.on_taking.ensures.starts)
-        (λ f told. creation_free t c.args.place (bytes_of t f c.args.place) c.args.side c.in-Ok.yes (c.in-Ok.ensures.way f told.0) (sym test ∙ c.if-turn.true))
+    (λ f told. creation_free t c.args.place (bytes_of t f c.args.place) c.args.side c.in-Ok.yes (c.in-Ok.ensures.way f told.0) (sym test ∙ c.if-turn.true))
 
 pub returns-else-turn-clause-starts : goal.returns-else-turn-clause-starts
 returns-else-turn-clause-starts g c =
@@ -33,4 +33,4 @@ returns-else-turn-clause-starts g c =
       | else-not-is_in_the_way w ↦ way_taken c.in-Ok.yes t.options.force c.if-not-is_in_the_way.value w.if-not-is_in_the_way.false w.value-is
     ] in
     starts_is c.on_existing.result (λ f. on_creation t c.args.place (bytes_of t f c.args.place) c.args.side) (starts_after c.on_existing.result c.is_in_the_way.ensures.untouched c.on_existing.ensures.starts)
-        (λ f told. creation_taken t c.args.place (bytes_of t f c.args.place) c.args.side c.in-Ok.yes (c.in-Ok.ensures.way f told.0) (sym test ∙ c.if-turn.false))
+    (λ f told. creation_taken t c.args.place (bytes_of t f c.args.place) c.args.side c.in-Ok.yes (c.in-Ok.ensures.way f told.0) (sym test ∙ c.if-turn.false))

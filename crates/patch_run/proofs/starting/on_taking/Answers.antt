@@ -12,4 +12,4 @@ pub returns-clause-starts : goal.returns-clause-starts
 returns-clause-starts g c =
     let t = plain_turn c.args.turn.now in
     starts_taken (bytes_of t) c.args.place (λ bytes. on_prereq t c.args.place bytes c.args.was_turned c.args.side) c.weigh.result c.requires.size (takes_at c.chosen.ensures.target (c.in_ok-take.ensures)) c.weigh.ensures.weighs c.requires.there
-        (λ f. prereq_about t c.args.place (bytes_of t f c.args.place) c.args.was_turned c.args.side)
+    (λ f. prereq_about t c.args.place (bytes_of t f c.args.place) c.args.was_turned c.args.side)

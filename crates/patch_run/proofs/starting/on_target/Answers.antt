@@ -15,8 +15,8 @@ pub returns-in_err-say_patching-clause-starts : goal.returns-in_err-say_patching
 returns-in_err-say_patching-clause-starts g c =
     let t = plain_turn c.args.turn.now in
     starts_unsaid _ _ c.in_err-say_patching.field-0.0 c.from_residual.result (λ f. on_target t c.args.place (bytes_of t f c.args.place)) c.from_residual.ensures.1
-        (writes_is _ _ (c.in_err-say_patching.ensures.writes) (line t c.args.place _ _ c.shown.ensures c.chosen.ensures.target))
-        (λ f. begins_first (patching_said t c.args.place) (on_creation t c.args.place (bytes_of t f c.args.place) (side_of t.options.reverse)))
+    (writes_is _ _ (c.in_err-say_patching.ensures.writes) (line t c.args.place _ _ c.shown.ensures c.chosen.ensures.target))
+    (λ f. begins_first (patching_said t c.args.place) (on_creation t c.args.place (bytes_of t f c.args.place) (side_of t.options.reverse)))
 
 pub returns-clause-starts : goal.returns-clause-starts
 returns-clause-starts g c =

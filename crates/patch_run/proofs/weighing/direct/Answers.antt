@@ -13,7 +13,7 @@ returns-in_err-say_reversed-clause-weighs g c =
     (λ bytes. on_direction (plain_turn c.args.turn.now) c.args.place bytes c.args.was_turned c.args.side) (λ bytes. [])
     c.from_residual-in_err-say_reversed.ensures.1 c.in_ok-is_reversed.ensures.keeps c.in_err-say_reversed.ensures.writes
     (λ bytes holds.
-      direction-said (plain_turn c.args.turn.now) c.args.place bytes c.args.was_turned c.args.side c.if-turn.false c.if-was_turned.false
-      (sym (c.in_ok-is_reversed.ensures.value (lines_in bytes) holds.0) ∙ c.if-not-branch.false)
-      ∙ ap (λ turned. silenced (plain_options c.args.turn.now.options.now) (reversed_line turned)) (sym c.turns-is_turned.ensures)
-      ∙ sym (append-nil (silenced (plain_options c.args.turn.now.options.now) (reversed_line c.turns-is_turned.result))))
+    direction-said (plain_turn c.args.turn.now) c.args.place bytes c.args.was_turned c.args.side c.if-turn.false c.if-was_turned.false
+    (sym (c.in_ok-is_reversed.ensures.value (lines_in bytes) holds.0) ∙ c.if-not-branch.false)
+    ∙ ap (λ turned. silenced (plain_options c.args.turn.now.options.now) (reversed_line turned)) (sym c.turns-is_turned.ensures)
+    ∙ sym (append-nil (silenced (plain_options c.args.turn.now.options.now) (reversed_line c.turns-is_turned.result))))
