@@ -1,0 +1,2 @@
+pub mod EffectLists
+pub mod Making
