@@ -1,2 +1,3 @@
 pub mod EffectLists
 pub mod Making
+pub mod Writing

@@ -3,10 +3,10 @@ use Rattle.std.proofs.Common.{◌≡◌, ◌≢◌, ℕ, zero, List, [], ◌∷�
 use Rattle.std.specs.Result.{IsErrAnd}
 use Rattle.std.proofs.lemmas.Option.{same_Some}
 use Rattle.std.specs.FinMap.{get, insert, remove}
-use Rattle.outside.specs.Files.{Files, is_temp, temp_of}
+use Rattle.outside.specs.Files.{Files, is_temp, temp_of, bytes_at}
 use Rattle.outside.specs.TreeView.{TreeView, Passes, Rises, passes_none, passes_both, told_on}
 use Rattle.outside.specs.Calls.{Becomes, IsThere, IsUntouched}
-use Rattle.outside.specs.Quiet.{IsQuiet, Effect, Holds, WorksOn, MakesEffect, HasMade, after_all}
+use Rattle.outside.specs.Quiet.{IsQuiet, Effect, Holds, WorksOn, MakesEffect, HasMade, after, after_all}
 use Rattle.outside.specs.Quiet.Effect.{Put}
 use Rattle.outside.proofs.Names.{get-gone, get-gone_other, get-put_other}
 use Rattle.outside.proofs.Views.{rises_then, told_back, untouched_quiet}
@@ -125,18 +125,27 @@ untouched_works {u = u} {w = w} temp same quiet = record {
 }
 
 -- ---- one effect
-pub effect_made : {R E : Type 0} {u w : TreeView} (temp : List ℕ) (y : R) (e : Effect) → IsQuiet u → MakesEffect {E = E} u w (Ok y) e
+effect_made : {R E : Type 0} {u w : TreeView} (temp : List ℕ) (y : R) (e : Effect) → IsQuiet u → MakesEffect {E = E} u w (Ok y) e
     → ((f g : Files) → u.told ≡ Some f → w.told ≡ Some g → (q : List ℕ) → q ≢ temp → get g q ≡ get (after_all (e ∷ []) f) q) → IsMade u w temp (e ∷ [])
 effect_made {u = u} {w = w} temp y e quiet makes exact = record {
   made = made_more u u w [] e (made_none u quiet) makes.run.passes makes.quiet makes.live makes.since;
   exact = exact;
 }
 
-pub effect_part : {R E : Type 0} {u w : TreeView} (d : E) (e : Effect) → IsQuiet u → MakesEffect {R = R} u w (Err d) e → IsPart u w (e ∷ [])
+effect_part : {R E : Type 0} {u w : TreeView} (d : E) (e : Effect) → IsQuiet u → MakesEffect {R = R} u w (Err d) e → IsPart u w (e ∷ [])
 effect_part {u = u} {w = w} d e quiet makes = record {
   tells = made_tells u u w [] e (made_none u quiet) makes.run.passes makes.either;
   leaves = made_since u u w [] e (made_none u quiet) makes.run.passes makes.since;
 }
+
+pub effect_makes : {R E X : Type 0} {u w : TreeView} (temp : List ℕ) (y : R) (x : X) (e : Effect) → IsQuiet u → MakesEffect {E = E} u w (Ok y) e → Becomes u w (after e) → Makes u w (Ok x) temp (λ f. e ∷ [])
+effect_makes temp y x e quiet makes becomes = record {
+  ok = λ f told. effect_made temp y e quiet makes (λ g h was now q ne. ap (λ (z : Files). get z q) (same_Some _ _ (sym now ∙ becomes g was)));
+  err = tt;
+}
+
+pub effect_fails : {R E X : Type 0} {u w : TreeView} (temp : List ℕ) (d : E) (fault : RunFault) (e : Effect) → IsQuiet u → MakesEffect {R = R} u w (Err d) e → Makes {R = X} u w (Err fault) temp (λ f. e ∷ [])
+effect_fails temp d fault e quiet makes = record { ok = tt; err = λ f told. effect_part d e quiet makes }
 
 -- a file that is put by way of its temporary
 module _ {R E X : Type 0} {u w : TreeView} (t to : List ℕ) (bytes : Files → List ℕ) (is : is_temp t ≡ true) (quiet : IsQuiet u) where
@@ -154,6 +163,9 @@ module _ {R E X : Type 0} {u w : TreeView} (t to : List ℕ) (bytes : Files → 
     ok = tt;
     err = λ f told. effect_part d (Put to (bytes f)) quiet (puts_makes u w (Err d) t to (bytes f) bytes is puts (bytes_same u bytes f told));
   }
+
+pub puts_named : {R E : Type 0} {u w : TreeView} {r : Result R E} {t n : List ℕ} (to : List ℕ) → t ≡ n → Puts u w r t to (λ f. bytes_at f t) → Puts u w r n to (λ f. bytes_at f n)
+puts_named {u = u} {w = w} {r = r} to is puts = subst (λ (n : List ℕ). Puts u w r n to (λ f. bytes_at f n)) is puts
 
 -- ---- what names stand for
 module _ (u w : TreeView) (t to : List ℕ) (bytes : Files → List ℕ) (becomes : Becomes u w (λ f. remove (insert f to (bytes f)) t)) where

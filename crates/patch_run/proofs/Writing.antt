@@ -1,0 +1,30 @@
+-- The effects of one file patch, in parts.
+use Rattle.std.proofs.Common.{◌≡◌, ◌∷◌, [], ℕ, List, Bool, true, false, if◌then◌else◌, length, Option, None, Some, is_some, refl, sym, ap}
+use Rattle.std.proofs.lemmas.Option.{none-some}
+use Rattle.std.specs.Option.{option_map}
+use Rattle.std.specs.FinMap.{get}
+use Rattle.outside.specs.Files.{Files}
+use Rattle.outside.specs.Quiet.{Effect}
+use Rattle.outside.specs.Quiet.Effect.{Put, Remove}
+use Rattle.target_names.specs.declared.derived.Target.{Target}
+use Rattle.patch_run.specs.OnePatch.{target_effects}
+
+-- a file that has a size is there
+pub sized_there : (o : Option (List ℕ)) (n : ℕ) → Some n ≡ option_map length o → is_some o ≡ true
+sized_there None n e = absurd (none-some n (sym e))
+sized_there (Some b) n e = refl
+
+pub unsized_missing : (o : Option (List ℕ)) → None ≡ option_map length o → is_some o ≡ false
+unsized_missing None e = refl
+unsized_missing (Some b) e = absurd (none-some (length b) e)
+
+-- what is done to the target depends on nothing but the target
+pub target_same : (removal : Bool) (w : Target) (output : List ℕ) (f g : Files) → get g w.name ≡ get f w.name → target_effects removal f w output ≡ target_effects removal g w output
+target_same true w output f g same = ap (λ (o : Option (List ℕ)). if is_some o then Remove w.name ∷ [] else []) (sym same)
+target_same false w output f g same = refl
+
+pub removes : (w : Target) (output : List ℕ) (f : Files) → is_some (get f w.name) ≡ true → target_effects true f w output ≡ Remove w.name ∷ []
+removes w output f there = ap (λ (b : Bool). if b then Remove w.name ∷ [] else []) there
+
+pub removes_none : (w : Target) (output : List ℕ) (f : Files) → is_some (get f w.name) ≡ false → target_effects true f w output ≡ []
+removes_none w output f missing = ap (λ (b : Bool). if b then Remove w.name ∷ [] else []) missing
