@@ -53,7 +53,7 @@ pub record IsPartOf (u w : TreeView) (c d : SinkView) (es : List Effect) (text :
 pub record IsWholeOf (u w : TreeView) (c d : SinkView) (es : List Effect) (text : List ℕ) (files : Files) : Type 0 where
   pub made : HasMade u w es
   pub said : Receives c d text
-  pub files : w.told ≡ Some files
+  pub now : w.told ≡ Some files
 
 -- ---- one file patch
 
@@ -66,11 +66,11 @@ said_of (ended s) = s.said
 said_of (stopped said fault) = said
 
 -- what was done is what the story says
-pub record IsToldBy (s : Story) (done : Done) (verdicts : List Verdict) : Type 0 where
+pub record IsToldBy (s : Story) (done : Done) (vs : List Verdict) : Type 0 where
   pub row : done.row ≡ s.row
   pub bad : done.is_bad ≡ s.is_bad
   pub effects : done.effects ≡ length s.effects
-  pub verdicts : verdicts ≡ s.verdicts
+  pub verdicts : vs ≡ s.verdicts
 
 -- what was done is this story, from those files on
 pub record IsDone (u w : TreeView) (c d : SinkView) (done : Done) (verdicts : List Verdict) (f : Files) (s : Story) : Type 0 where
@@ -78,11 +78,11 @@ pub record IsDone (u w : TreeView) (c d : SinkView) (done : Done) (verdicts : Li
   pub whole : IsWholeOf u w c d s.effects s.said (files_after s f)
 
 -- the file patch came to its end
-pub record IsEnded (u w : TreeView) (b : Seen) (c d : SinkView) (scratch : Option (List ℕ) → Option (List ℕ)) (done : Done) (verdicts : List Verdict) (f : Files) (e : Ending) : Type 0 where
+pub record IsEnded (u w : TreeView) (b : Seen) (c d : SinkView) (behind : Option (List ℕ) → Option (List ℕ)) (done : Done) (verdicts : List Verdict) (f : Files) (e : Ending) : Type 0 where
   pub story : Story
   pub is : e ≡ ended story
-  pub done : IsDone u w c d done verdicts f story
-  pub scratch : b.scratch ≡ scratch story.taken
+  pub does : IsDone u w c d done verdicts f story
+  pub scratch : b.scratch ≡ behind story.taken
 
 -- its file isn't taken, and all that is said of it was said; or it was broken off
 abbrev pub IsStopped : TreeView → TreeView → SinkView → SinkView → Files → Ending → OpenFault → Type 0
@@ -138,10 +138,10 @@ HasEndCause (Disagree want got) u w c d = ⊥
 HasEndCause Memory u w c d = ⊥
 
 -- what came of the hunks is told by these counts and verdicts, and the temporary holds the output, but in a dry run
-pub record IsOutcome (dry : Bool) (u : TreeView) (session : Session) (temp : List ℕ) (side : Side) (verdicts : List Verdict) (x : Tried) : Type 0 where
-  pub side : x.side ≡ side
-  pub verdicts : x.verdicts ≡ verdicts
-  pub session : IsSession session x.verdicts x.output
+pub record IsOutcome (dry : Bool) (u : TreeView) (session : Session) (temp : List ℕ) (from : Side) (vs : List Verdict) (x : Tried) : Type 0 where
+  pub side : x.side ≡ from
+  pub verdicts : x.verdicts ≡ vs
+  pub counts : IsSession session x.verdicts x.output
   pub holds : dry ≡ false → Holds u temp x.output
 
 -- all is said, the effects are made whole, and what was done is what they are; the temporary is gone, but in a dry run
@@ -189,10 +189,10 @@ pub record Runs {R : Type 0} (u w : TreeView) (a b : Seen) (c d : SinkView) (scr
   pub moments : (f : Files) → Told u a f → LeavesPrefix u w (run f).effects
 
 -- the verdicts and the rows that a run leaves, and its receipt
-pub record IsReceipt (r : Run) (done : Receipt) (count : ℕ) (verdicts : List Verdict) (rows : List Row) : Type 0 where
-  pub receipt : done ≡ record { is_bad = r.is_bad; done = count; effects = length r.effects }
-  pub verdicts : verdicts ≡ flat_map (λ s. s.verdicts) r.stories
-  pub rows : rows ≡ map (λ s. s.row) r.stories
+pub record IsReceipt (r : Run) (given : Receipt) (count : ℕ) (vs : List Verdict) (rs : List Row) : Type 0 where
+  pub receipt : given ≡ record { is_bad = r.is_bad; done = count; effects = length r.effects }
+  pub verdicts : vs ≡ flat_map (λ s. s.verdicts) r.stories
+  pub rows : rs ≡ map (λ s. s.row) r.stories
 
 -- what is read of a set stays, and it holds as many verdicts
 pub record StaysSet (old new : SetView) : Type 0 where

@@ -16,7 +16,7 @@ ghost use Rattle.patch_run.specs.OnePatch.{Tried, total, bytes_of, lines_in, eff
 ghost use Rattle.patch_run.specs.Trying.{IsSession, IsBegun};
 ghost use Rattle.patch_run.specs.Doing.{Does, Stays, QuietAfter, IsDone, IsPartOf, IsDeviceFault, HasEndCause, IsOutcome, IsMadeWhole};
 ghost use Rattle.patch_run.specs.Ready.{IsNamed};
-ghost use Rattle.patch_run.specs.TurnView.{plain_turn};
+ghost use Rattle.patch_run.specs.TurnView.{plain_turn, IsTurn};
 
 use crate::effects::{Made, make_effects};
 use crate::fault::RunFault;
@@ -51,6 +51,7 @@ pub fn apply_one<P: Plan, T: Tree, O: Sink>(
     tree: &mut T,
     out: &mut O,
 ) -> Result<Done, RunFault>
+    requires turn { IsTurn turn.now }
     requires size { (P.seen plan.old).size ≡ turn.now.options.now.buffer }
     requires rows { length verdicts.old ≡ row_count turn.now.patch.now.change }
     requires quiet { IsQuiet (T.view tree.old) }
@@ -77,6 +78,7 @@ fn skip<O: Sink>(
     verdicts: &mut [Verdict],
     out: &mut O,
 ) -> Result<Done, RunFault>
+    requires turn { IsTurn turn.now }
     requires rows { length verdicts.old ≡ row_count turn.now.patch.now.change }
     ensures writes { Writes (O.view out.old) (O.view out.new) result (ignored_line (total (plain_turn turn.now))) }
     ensures fault { IfErr result (λ e. e ≡ RunFault.Write) }
@@ -103,6 +105,7 @@ fn try_at<P: LineStore, T: Tree, O: Sink>(
     tree: &mut T,
     out: &mut O,
 ) -> Result<Done, RunFault>
+    requires turn { IsTurn turn.now }
     requires within { place < length turn.now.patch.now.targets.items }
     requires rows { length verdicts.old ≡ row_count turn.now.patch.now.change }
     requires quiet { IsQuiet (T.view tree.old) }
@@ -137,6 +140,7 @@ fn tell_and_make<T: Tree, O: Sink>(
     tree: &mut T,
     out: &mut O,
 ) -> Result<Made, RunFault>
+    requires turn { IsTurn turn.now }
     requires named { IsNamed target.now }
     requires rows { length verdicts.now ≡ row_count turn.now.patch.now.change }
     requires tried { All IsTried verdicts.now }
@@ -165,6 +169,7 @@ fn tell_and_make<T: Tree, O: Sink>(
 }
 
 fn done_of(turn: &Turn<'_>, place: u32, side: Side, session: &Session, made: Made) -> Done
+    requires turn { IsTurn turn.now }
     ensures row { result.row ≡ record { side = side; target = Some place; wrote = made.wrote } }
     ensures bad { (x : Tried) → x.side ≡ side → IsSession session.now x.verdicts x.output → result.is_bad ≡ (some_failed x.verdicts || is_kept (plain_turn turn.now) x) }
     ensures effects { result.effects ≡ made.effects }

@@ -15,7 +15,7 @@ ghost use Rattle.patch_run.specs.OnePatch.{Tried, is_backup_due, is_removal, bac
 ghost use Rattle.patch_run.specs.Trying.{IsSession};
 ghost use Rattle.patch_run.specs.Making.{Makes, GoesQuietly, KeepsAt, IsGone};
 ghost use Rattle.patch_run.specs.Ready.{IsNamed};
-ghost use Rattle.patch_run.specs.TurnView.{plain_turn};
+ghost use Rattle.patch_run.specs.TurnView.{plain_turn, IsTurn};
 
 use crate::fault::RunFault;
 use crate::past::{is_same, was_written};
@@ -48,6 +48,7 @@ pub fn make_effects<T: Tree>(
     temp: Temp<'_>,
     tree: &mut T,
 ) -> Result<Made, RunFault>
+    requires turn { IsTurn turn.now }
     requires named { IsNamed target.now }
     requires temp { temp.name.now ≡ target.now.temp }
     requires rows { length verdicts.now ≡ row_count turn.now.patch.now.change }
@@ -99,6 +100,7 @@ fn write_target<T: Tree>(
     temp: Temp<'_>,
     tree: &mut T,
 ) -> Result<Made, RunFault>
+    requires turn { IsTurn turn.now }
     requires named { IsNamed target.now }
     requires temp { temp.name.now ≡ target.now.temp }
     requires quiet { IsQuiet (T.view tree.old) }
@@ -165,6 +167,7 @@ fn with_backup(due: bool, wrote: bool) -> Made
 
 /// Whether a backup is due.
 fn is_backup_due(turn: &Turn<'_>, target: &Target, session: &Session) -> bool
+    requires turn { IsTurn turn.now }
     ensures due { (vs : List Verdict) → session.now.inexact ≡ list_any is_inexact vs → result ≡ is_backup_due (plain_turn turn.now) target.now vs }
     ensures apart { result ≡ true → target.now.backup ≢ target.now.name }
 {
@@ -184,6 +187,7 @@ fn is_backup_asked(options: &Options, session: &Session) -> bool
 
 /// Whether an output without a byte takes the target away.
 fn is_removal(turn: &Turn<'_>, side: Side, session: &Session) -> bool
+    requires turn { IsTurn turn.now }
     ensures { (x : Tried) → x.side ≡ side → session.now.output_empty ≡ is_nothing x.output → result ≡ is_removal (plain_turn turn.now) x }
 {
     let options = turn.options;

@@ -12,7 +12,7 @@ ghost use Rattle.hunk_apply.specs.Faults.{HasApplyCause};
 ghost use Rattle.hunk_apply.specs.Session.{IsTried};
 ghost use Rattle.patch_run.specs.OnePatch.{tried};
 ghost use Rattle.patch_run.specs.Trying.{IsSession, HasTryCause, HasLineCause, filling_fault};
-ghost use Rattle.patch_run.specs.TurnView.{plain_turn};
+ghost use Rattle.patch_run.specs.TurnView.{plain_turn, IsTurn};
 
 use crate::discard::Discard;
 use crate::fault::RunFault;
@@ -39,6 +39,7 @@ pub fn try_hunks<'n, P: LineStore, T: Tree>(
     plan: &mut P,
     tree: &mut T,
 ) -> Result<Attempt<'n>, RunFault>
+    requires turn { IsTurn turn.now }
     requires temp { is_temp temp.now ≡ true }
     requires rows { length verdicts.old ≡ row_count turn.now.patch.now.change }
     requires quiet { IsQuiet (T.view tree.old) }
@@ -72,6 +73,7 @@ fn try_dry<P: LineStore>(
     verdicts: &mut [Verdict],
     plan: &mut P,
 ) -> Result<Session, RunFault>
+    requires turn { IsTurn turn.now }
     requires rows { length verdicts.old ≡ row_count turn.now.patch.now.change }
     ensures keeps { Keeps (P.seen plan.old) (P.seen plan.new) }
     ensures cause { IfErr result (λ e. HasLineCause e (P.seen plan.old) (P.seen plan.new)) }
@@ -96,6 +98,7 @@ fn try_into<P: LineStore, O: Sink>(
     plan: &mut P,
     out: &mut O,
 ) -> Result<Session, ApplyFault>
+    requires turn { IsTurn turn.now }
     requires rows { length verdicts.old ≡ row_count turn.now.patch.now.change }
     ensures keeps { Keeps (P.seen plan.old) (P.seen plan.new) }
     ensures sink { SinkPasses (O.view out.old) (O.view out.new) }
@@ -129,6 +132,7 @@ fn fill_temp<'n, P: LineStore, T: Tree>(
     plan: &mut P,
     tree: &mut T,
 ) -> Result<Attempt<'n>, RunFault>
+    requires turn { IsTurn turn.now }
     requires temp { is_temp temp.now ≡ true }
     requires rows { length verdicts.old ≡ row_count turn.now.patch.now.change }
     requires quiet { IsQuiet (T.view tree.old) }
@@ -159,6 +163,7 @@ fn fill_begun<'n, P: LineStore, T: Tree>(
     plan: &mut P,
     tree: &mut T,
 ) -> Result<Attempt<'n>, RunFault>
+    requires turn { IsTurn turn.now }
     requires rows { length verdicts.old ≡ row_count turn.now.patch.now.change }
     requires quiet { IsQuiet (T.view tree.old) }
     requires empty { Holds (T.view tree.old) begun.name.now [] }

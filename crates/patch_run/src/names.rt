@@ -3,7 +3,7 @@
 ghost use Rattle.std.specs.Prelude.{◌≡◌, ◌<◌, length, slice_index_or};
 ghost use Rattle.patch_run.specs.OnePatch.{shown, shown_reject, written, target_at};
 ghost use Rattle.patch_run.specs.Ready.{BeginsComponent, IsNamed};
-ghost use Rattle.patch_run.specs.TurnView.{plain_turn};
+ghost use Rattle.patch_run.specs.TurnView.{plain_turn, IsTurn};
 
 use crate::turn::Turn;
 use outside::Name;
@@ -35,7 +35,8 @@ fn shown_from(name: &Name, from: usize) -> &str
 
 /// The target that is read, by its place among the targets of the file patch.
 pub fn chosen<'a>(turn: &Turn<'a>, place: u32) -> &'a Target
-    requires { place < length turn.now.patch.now.targets.items }
+    requires turn { IsTurn turn.now }
+    requires within { place < length turn.now.patch.now.targets.items }
     ensures target { result.now ≡ target_at (plain_turn turn.now).item.targets place }
     ensures named { IsNamed result.now }
 {
@@ -44,7 +45,8 @@ pub fn chosen<'a>(turn: &Turn<'a>, place: u32) -> &'a Target
 
 /// The target that is written: the output of the options, or the one that is read.
 pub fn written<'a>(turn: &Turn<'a>, place: u32) -> &'a Target
-    requires { place < length turn.now.patch.now.targets.items }
+    requires turn { IsTurn turn.now }
+    requires within { place < length turn.now.patch.now.targets.items }
     ensures target { result.now ≡ written (plain_turn turn.now) place }
     ensures named { IsNamed result.now }
 {

@@ -5,7 +5,7 @@ ghost use Rattle.std.specs.Option.{ForSome, option_copied};
 ghost use Rattle.file_patch.specs.PlainPatch.{row_count};
 ghost use Rattle.patch_run.specs.OnePatch.{Mark, mark_of, is_name, was_written, written_by};
 ghost use Rattle.patch_run.specs.Ready.{IsFit, IsNamed, alone};
-ghost use Rattle.patch_run.specs.TurnView.{plain_turn};
+ghost use Rattle.patch_run.specs.TurnView.{plain_turn, IsTurn};
 
 use crate::turn::Turn;
 use file_patch::FilePatch;
@@ -24,7 +24,8 @@ pub struct Earlier<'a> {
 
 /// One of those before it, counted from 0.
 pub fn earlier_patch<'a>(turn: &Turn<'a>, k: u32) -> Earlier<'a>
-    requires { k < turn.now.count }
+    requires turn { IsTurn turn.now }
+    requires low { k < turn.now.count }
     ensures mark { (m : Mark) → slice_index_or (plain_turn turn.now).past k m ≡ mark_of (alone (plain_turn turn.now).options turn.now.set.now result.patch.now) result.row result.verdicts.now }
     ensures fit { IsFit turn.now.set.now.text result.patch.now }
     ensures rows { length result.verdicts.now ≡ row_count result.patch.now.change }
@@ -40,7 +41,8 @@ pub fn earlier_patch<'a>(turn: &Turn<'a>, k: u32) -> Earlier<'a>
 
 /// The target that it wrote, if it chose one.
 pub fn written_by<'a>(turn: &Turn<'a>, earlier: &Earlier<'a>) -> Option<&'a Target>
-    requires { IsFit turn.now.set.now.text earlier.now.patch.now }
+    requires turn { IsTurn turn.now }
+    requires fit { IsFit turn.now.set.now.text earlier.now.patch.now }
     ensures target { option_copied result ≡ written_by (alone (plain_turn turn.now).options turn.now.set.now earlier.now.patch.now) earlier.now.row }
     ensures named { ForSome (option_copied result) IsNamed }
 {
@@ -53,6 +55,7 @@ pub fn written_by<'a>(turn: &Turn<'a>, earlier: &Earlier<'a>) -> Option<&'a Targ
 
 /// Whether one of those before it made or took away this name as its target.
 pub fn was_written(turn: &Turn<'_>, name: &Name) -> bool
+    requires turn { IsTurn turn.now }
     ensures { result ≡ was_written (plain_turn turn.now).past name.now }
 {
     for k in 0..turn.count {
@@ -64,7 +67,8 @@ pub fn was_written(turn: &Turn<'_>, name: &Name) -> bool
 }
 
 fn has_written(turn: &Turn<'_>, earlier: &Earlier<'_>, name: &Name) -> bool
-    requires { IsFit turn.now.set.now.text earlier.now.patch.now }
+    requires turn { IsTurn turn.now }
+    requires fit { IsFit turn.now.set.now.text earlier.now.patch.now }
     ensures { result ≡ is_name name.now (mark_of (alone (plain_turn turn.now).options turn.now.set.now earlier.now.patch.now) earlier.now.row earlier.now.verdicts.now).written }
 {
     if !earlier.row.wrote {

@@ -12,7 +12,7 @@ ghost use Rattle.reject_text.specs.Rejects.{AreHunks};
 ghost use Rattle.patch_run.specs.OnePatch.{PlainTurn, mark_of, own_reject, own_reject_form, put_if, reject_form, rejected_before, rejects_text, text_if, has_rejects};
 ghost use Rattle.patch_run.specs.Making.{Makes, GoesQuietly, IsGone};
 ghost use Rattle.patch_run.specs.Ready.{IsFit, IsNamed, alone};
-ghost use Rattle.patch_run.specs.TurnView.{plain_turn};
+ghost use Rattle.patch_run.specs.TurnView.{plain_turn, IsTurn};
 
 use crate::fault::RunFault;
 use crate::names::shown;
@@ -35,6 +35,7 @@ pub fn put_rejects<T: Tree>(
     rejected: bool,
     tree: &mut T,
 ) -> Result<(), RunFault>
+    requires turn { IsTurn turn.now }
     requires named { IsNamed target.now }
     requires rows { length verdicts.now ≡ row_count turn.now.patch.now.change }
     requires hunks { rejected ≡ true → AreHunks turn.now.patch.now.change }
@@ -60,6 +61,7 @@ fn swap_rejects<T: Tree>(
     verdicts: &[Verdict],
     tree: &mut T,
 ) -> Result<(), Failed>
+    requires turn { IsTurn turn.now }
     requires named { IsNamed target.now }
     requires rows { length verdicts.now ≡ row_count turn.now.patch.now.change }
     requires hunks { AreHunks turn.now.patch.now.change }
@@ -80,6 +82,7 @@ fn fill_rejects<'n, T: Tree>(
     begun: Temp<'n>,
     tree: &mut T,
 ) -> Result<Temp<'n>, Failed>
+    requires turn { IsTurn turn.now }
     requires named { IsNamed target.now }
     requires rows { length verdicts.now ≡ row_count turn.now.patch.now.change }
     requires hunks { AreHunks turn.now.patch.now.change }
@@ -107,6 +110,7 @@ fn put_texts<O: Sink>(
     verdicts: &[Verdict],
     out: &mut O,
 ) -> Result<(), Failed>
+    requires turn { IsTurn turn.now }
     requires named { IsNamed target.now }
     requires rows { length verdicts.now ≡ row_count turn.now.patch.now.change }
     requires hunks { AreHunks turn.now.patch.now.change }
@@ -119,6 +123,7 @@ fn put_texts<O: Sink>(
 
 /// Writes the reject texts of those before it that go to this file.
 fn put_earlier<O: Sink>(turn: &Turn<'_>, name: &Name, out: &mut O) -> Result<(), Failed>
+    requires turn { IsTurn turn.now }
     ensures writes { Writes (O.view out.old) (O.view out.new) result (rejected_before (plain_turn turn.now).past name.now) }
     ensures rest { O.same_rest out.old out.new }
 {
@@ -135,6 +140,7 @@ fn put_if_to<O: Sink>(
     name: &Name,
     out: &mut O,
 ) -> Result<(), Failed>
+    requires turn { IsTurn turn.now }
     requires fit { IsFit turn.now.set.now.text earlier.now.patch.now }
     requires rows { length earlier.now.verdicts.now ≡ row_count earlier.now.patch.now.change }
     ensures writes { Writes (O.view out.old) (O.view out.new) result (text_if name.now (mark_of (alone (plain_turn turn.now).options turn.now.set.now earlier.now.patch.now) earlier.now.row earlier.now.verdicts.now).rejected) }
@@ -178,6 +184,7 @@ fn put_own<O: Sink>(
     verdicts: &[Verdict],
     out: &mut O,
 ) -> Result<(), Failed>
+    requires turn { IsTurn turn.now }
     requires fit { IsFit turn.now.set.now.text patch.now }
     requires named { IsNamed target.now }
     requires rows { length verdicts.now ≡ row_count patch.now.change }
@@ -199,6 +206,7 @@ fn put_own<O: Sink>(
 
 /// The form of the rejects of a file patch.
 fn reject_form(turn: &Turn<'_>, patch: &FilePatch) -> Form
+    requires turn { IsTurn turn.now }
     ensures form { result ≡ reject_form (alone (plain_turn turn.now).options turn.now.set.now patch.now) }
     ensures fits { IsRejectForm result }
 {

@@ -1,6 +1,6 @@
 //! How a file patch is taken: whether its hunks are tried, and from which side.
 
-ghost use Rattle.std.specs.Prelude.{◌≡◌, ◌<◌, ◌&&◌, not, ℕ, List, length, is_some, Option, Some, None, IfOk, IfErr};
+ghost use Rattle.std.specs.Prelude.{◌≡◌, ◌<◌, ◌&&◌, ℕ, length, is_some, false, Some, None, IfOk, IfErr, OnErr};
 ghost use Rattle.outside.specs.Files.{Files};
 ghost use Rattle.outside.specs.TreeView.{Rises};
 ghost use Rattle.outside.specs.Calls.{IsUntouched};
@@ -12,7 +12,7 @@ ghost use Rattle.patch_set.specs.declared.set.Row.{Row as TheRow};
 ghost use Rattle.patch_run.specs.declared.fault.RunFault.TheVariants.{Write, Tree as TreeFailed};
 ghost use Rattle.patch_run.specs.OnePatch.{bytes_of, has_bytes, start, choice_of, on_target, on_creation, on_taking, turns, exists_said, said_first, skips_at};
 ghost use Rattle.patch_run.specs.Starting.{Starts, Takes, IsWithin};
-ghost use Rattle.patch_run.specs.TurnView.{plain_turn};
+ghost use Rattle.patch_run.specs.TurnView.{plain_turn, IsTurn};
 
 use crate::choices::turns;
 use crate::fault::RunFault;
@@ -42,7 +42,8 @@ pub fn start<P: Plan, T: Tree, O: Sink>(
     tree: &mut T,
     out: &mut O,
 ) -> Result<Decision, RunFault>
-    requires { (P.seen plan.old).size ≡ turn.now.options.now.buffer }
+    requires turn { IsTurn turn.now }
+    requires size { (P.seen plan.old).size ≡ turn.now.options.now.buffer }
     ensures starts { Starts (T.view tree.old) (T.view tree.new) (P.seen plan.old) (P.seen plan.new) (O.view out.old) (O.view out.new) P.scratch_after result (bytes_of (plain_turn turn.now)) (start (plain_turn turn.now)) }
     ensures rest { O.same_rest out.old out.new }
     ensures within { IfOk result (IsWithin (length turn.now.patch.now.targets.items)) }
@@ -60,6 +61,7 @@ pub fn start<P: Plan, T: Tree, O: Sink>(
 
 /// Chooses the target.
 fn choose_target<T: Tree>(turn: &Turn<'_>, tree: &mut T) -> Result<Choice, Failed>
+    requires turn { IsTurn turn.now }
     ensures untouched { IsUntouched (T.view tree.old) (T.view tree.new) }
     ensures cause { OnErr result (Rises (T.view tree.old) (T.view tree.new)) }
     ensures within { IfOk result (IsAmong (length turn.now.patch.now.targets.items)) }
@@ -72,6 +74,7 @@ fn choose_target<T: Tree>(turn: &Turn<'_>, tree: &mut T) -> Result<Choice, Faile
 
 /// The file patch is skipped, since no file is found for it.
 fn without_target<O: Sink>(turn: &Turn<'_>, out: &mut O) -> Result<Decision, RunFault>
+    requires turn { IsTurn turn.now }
     ensures writes { Writes (O.view out.old) (O.view out.new) result (no_file_lines turn.now.patch.now.header.opening) }
     ensures fault { IfErr result (λ e. e ≡ Write) }
     ensures rest { O.same_rest out.old out.new }
@@ -87,6 +90,7 @@ fn without_target<O: Sink>(turn: &Turn<'_>, out: &mut O) -> Result<Decision, Run
 
 /// The side that the options ask for.
 fn own_side(turn: &Turn<'_>) -> Side
+    requires turn { IsTurn turn.now }
     ensures { result ≡ side_of turn.now.options.now.reverse }
 {
     if turn.options.reverse {
@@ -105,6 +109,7 @@ fn on_target<P: Plan, T: Tree, O: Sink>(
     tree: &mut T,
     out: &mut O,
 ) -> Result<Decision, RunFault>
+    requires turn { IsTurn turn.now }
     requires size { (P.seen plan.old).size ≡ turn.now.options.now.buffer }
     requires within { place < length turn.now.patch.now.targets.items }
     requires there { (f : Files) → (T.view tree.old).told ≡ Some f → there ≡ is_some (bytes_of (plain_turn turn.now) f place) }
@@ -123,7 +128,8 @@ fn is_in_the_way<T: Tree>(
     side: Side,
     tree: &mut T,
 ) -> Result<bool, Failed>
-    requires { place < length turn.now.patch.now.targets.items }
+    requires turn { IsTurn turn.now }
+    requires within { place < length turn.now.patch.now.targets.items }
     ensures untouched { IsUntouched (T.view tree.old) (T.view tree.new) }
     ensures cause { OnErr result (Rises (T.view tree.old) (T.view tree.new)) }
     ensures way { IfOk result (λ yes. (f : Files) → (T.view tree.old).told ≡ Some f → yes ≡ (creates side (plain_turn turn.now).item.patch && has_bytes (bytes_of (plain_turn turn.now) f place))) }
@@ -146,6 +152,7 @@ fn on_creation<P: Plan, T: Tree, O: Sink>(
     tree: &mut T,
     out: &mut O,
 ) -> Result<Decision, RunFault>
+    requires turn { IsTurn turn.now }
     requires size { (P.seen plan.old).size ≡ turn.now.options.now.buffer }
     requires within { place < length turn.now.patch.now.targets.items }
     requires there { (f : Files) → (T.view tree.old).told ≡ Some f → there ≡ is_some (bytes_of (plain_turn turn.now) f place) }
@@ -174,6 +181,7 @@ fn on_existing<P: Plan, T: Tree, O: Sink>(
     tree: &mut T,
     out: &mut O,
 ) -> Result<Decision, RunFault>
+    requires turn { IsTurn turn.now }
     requires size { (P.seen plan.old).size ≡ turn.now.options.now.buffer }
     requires within { place < length turn.now.patch.now.targets.items }
     requires there { (f : Files) → (T.view tree.old).told ≡ Some f → there ≡ is_some (bytes_of (plain_turn turn.now) f place) }
@@ -212,6 +220,7 @@ fn on_taking<P: Plan, T: Tree, O: Sink>(
     tree: &mut T,
     out: &mut O,
 ) -> Result<Decision, RunFault>
+    requires turn { IsTurn turn.now }
     requires size { (P.seen plan.old).size ≡ turn.now.options.now.buffer }
     requires within { place < length turn.now.patch.now.targets.items }
     requires there { (f : Files) → (T.view tree.old).told ≡ Some f → there ≡ is_some (bytes_of (plain_turn turn.now) f place) }

@@ -13,7 +13,7 @@ ghost use Rattle.patch_options.specs.PlainJob.{plain_options};
 ghost use Rattle.patch_run.specs.OnePatch.{Tried, change_said, hunks_said, hunk_said, script_said, kept_said, failures_said, tried_said, is_kept, is_script};
 ghost use Rattle.patch_run.specs.Trying.{IsSession};
 ghost use Rattle.patch_run.specs.Ready.{IsNamed};
-ghost use Rattle.patch_run.specs.TurnView.{plain_turn};
+ghost use Rattle.patch_run.specs.TurnView.{plain_turn, IsTurn};
 
 use crate::names::{shown, shown_reject};
 use crate::turn::Turn;
@@ -36,6 +36,7 @@ pub fn tell<O: Sink>(
     verdicts: &[Verdict],
     out: &mut O,
 ) -> Result<(), Failed>
+    requires turn { IsTurn turn.now }
     requires named { IsNamed target.now }
     requires rows { length verdicts.now ≡ row_count turn.now.patch.now.change }
     requires tried { All IsTried verdicts.now }
@@ -55,6 +56,7 @@ fn say_change<O: Sink>(
     verdicts: &[Verdict],
     out: &mut O,
 ) -> Result<(), Failed>
+    requires turn { IsTurn turn.now }
     requires rows { length verdicts.now ≡ row_count turn.now.patch.now.change }
     requires tried { All IsTried verdicts.now }
     ensures writes { Writes (O.view out.old) (O.view out.new) result (change_said (plain_turn turn.now).options side (plain_turn turn.now).item.patch.change verdicts.now) }
@@ -155,6 +157,7 @@ fn say_kept<O: Sink>(
     session: &Session,
     out: &mut O,
 ) -> Result<(), Failed>
+    requires turn { IsTurn turn.now }
     requires named { IsNamed target.now }
     ensures writes { (x : Tried) → x.side ≡ side → IsSession session.now x.verdicts x.output → Writes (O.view out.old) (O.view out.new) result (kept_said (plain_turn turn.now) target.now x) }
     ensures call { IsSinkCall (O.view out.old) (O.view out.new) result }
@@ -169,6 +172,7 @@ fn say_kept<O: Sink>(
 
 /// Whether a file that was to be deleted has bytes left.
 pub fn is_kept(turn: &Turn<'_>, side: Side, session: &Session) -> bool
+    requires turn { IsTurn turn.now }
     ensures { (x : Tried) → x.side ≡ side → IsSession session.now x.verdicts x.output → result ≡ is_kept (plain_turn turn.now) x }
 {
     turn.patch.deletes(side) && session.applied > 0 && !session.output_empty
@@ -181,6 +185,7 @@ fn say_rejected<O: Sink>(
     session: &Session,
     out: &mut O,
 ) -> Result<(), Failed>
+    requires turn { IsTurn turn.now }
     requires named { IsNamed target.now }
     ensures writes { (x : Tried) → IsSession session.now x.verdicts x.output → Writes (O.view out.old) (O.view out.new) result (failures_said (plain_turn turn.now) target.now x) }
     ensures call { IsSinkCall (O.view out.old) (O.view out.new) result }
@@ -201,6 +206,7 @@ fn say_rejected<O: Sink>(
 
 /// The file of the rejects, where it is written.
 fn named_reject<'a>(turn: &Turn<'_>, target: &'a Target) -> Option<&'a str>
+    requires turn { IsTurn turn.now }
     requires named { IsNamed target.now }
     ensures { option_copied result ≡ named_reject (plain_turn turn.now) target.now }
 {

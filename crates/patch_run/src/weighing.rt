@@ -5,7 +5,7 @@ ghost use Rattle.std.specs.Option.{option_copied};
 ghost use Rattle.line_store.specs.Store.{Keeps, HasCause};
 ghost use Rattle.patch_run.specs.OnePatch.{first_hunk, is_reversed, lacks_word, on_direction, on_prereq};
 ghost use Rattle.patch_run.specs.Starting.{Holds, Weighs, IsWithin};
-ghost use Rattle.patch_run.specs.TurnView.{plain_turn};
+ghost use Rattle.patch_run.specs.TurnView.{plain_turn, IsTurn};
 
 use crate::choices::turns;
 use crate::fault::RunFault;
@@ -30,7 +30,8 @@ pub fn weigh<P: LineStore, O: Sink>(
     plan: &mut P,
     out: &mut O,
 ) -> Result<Decision, RunFault>
-    requires { place < length turn.now.patch.now.targets.items }
+    requires turn { IsTurn turn.now }
+    requires within { place < length turn.now.patch.now.targets.items }
     ensures weighs { Weighs (P.seen plan.old) (P.seen plan.new) (O.view out.old) (O.view out.new) there result (λ bytes. on_prereq (plain_turn turn.now) place bytes was_turned side) }
     ensures rest { O.same_rest out.old out.new }
     ensures within { IfOk result (IsWithin (length turn.now.patch.now.targets.items)) }
@@ -56,7 +57,8 @@ fn direct<P: LineStore, O: Sink>(
     plan: &mut P,
     out: &mut O,
 ) -> Result<Decision, RunFault>
-    requires { place < length turn.now.patch.now.targets.items }
+    requires turn { IsTurn turn.now }
+    requires within { place < length turn.now.patch.now.targets.items }
     ensures weighs { Weighs (P.seen plan.old) (P.seen plan.new) (O.view out.old) (O.view out.new) there result (λ bytes. on_direction (plain_turn turn.now) place bytes was_turned side) }
     ensures rest { O.same_rest out.old out.new }
     ensures within { IfOk result (IsWithin (length turn.now.patch.now.targets.items)) }
@@ -79,6 +81,7 @@ fn direct<P: LineStore, O: Sink>(
 
 /// Whether the first hunk looks reversed.
 fn is_reversed<P: LineStore>(turn: &Turn<'_>, side: Side, plan: &mut P) -> Result<bool, LineFault>
+    requires turn { IsTurn turn.now }
     ensures value { IfOk result (λ yes. (lines : List (List ℕ)) → (P.seen plan.old).told ≡ Some lines → yes ≡ is_reversed (plain_turn turn.now).options lines side (first_hunk (plain_turn turn.now).item.patch.change)) }
     ensures keeps { Keeps (P.seen plan.old) (P.seen plan.new) }
     ensures cause { IfErr result (λ e. HasCause e (P.seen plan.old) (P.seen plan.new)) }
@@ -98,6 +101,7 @@ fn is_reversed<P: LineStore>(turn: &Turn<'_>, side: Side, plan: &mut P) -> Resul
 }
 
 fn first_hunk<'a>(turn: &Turn<'a>) -> Option<&'a Hunk>
+    requires turn { IsTurn turn.now }
     ensures first { option_map (hunk_of turn.now.set.now.text) (option_copied result) ≡ first_hunk (plain_turn turn.now).item.patch.change }
     ensures lawful { ForSome (option_copied result) (IsLawful turn.now.set.now.text) }
 {
@@ -109,6 +113,7 @@ fn first_hunk<'a>(turn: &Turn<'a>) -> Option<&'a Hunk>
 
 /// The word of the `Prereq:` line, empty where there is none.
 fn prereq_word<'a>(turn: &Turn<'a>) -> &'a [u8]
+    requires turn { IsTurn turn.now }
     ensures { result.now ≡ unwrap_or (plain_turn turn.now).item.patch.header.prereq [] }
 {
     bytes_in(turn.set.text(), turn.patch.header.prereq).unwrap_or_default()
@@ -116,6 +121,7 @@ fn prereq_word<'a>(turn: &Turn<'a>) -> &'a [u8]
 
 /// Whether a file that is there lacks the word of the `Prereq:` line.
 fn lacks_word<P: LineStore>(turn: &Turn<'_>, there: bool, plan: &mut P) -> Result<bool, LineFault>
+    requires turn { IsTurn turn.now }
     ensures value { IfOk result (λ yes. (bytes : Option (List ℕ)) → Holds (P.seen plan.old) there bytes → yes ≡ lacks_word (plain_turn turn.now).item.patch.header.prereq bytes) }
     ensures keeps { Keeps (P.seen plan.old) (P.seen plan.new) }
     ensures cause { IfErr result (λ e. HasCause e (P.seen plan.old) (P.seen plan.new)) }
