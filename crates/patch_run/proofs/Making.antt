@@ -90,9 +90,12 @@ pub makes_value : {R S : Type 0} {u w : TreeView} {temp : List ℕ} {es : Files 
 makes_value x y one = record { ok = one.ok; err = tt }
 
 -- ---- no effect
+pub told_same : (u : TreeView) (f g : Files) → u.told ≡ Some f → u.told ≡ Some g → (q : List ℕ) → get g q ≡ get f q
+told_same u f g told now q = ap (λ (x : Files). get x q) (same_Some _ _ (sym now ∙ told))
+
 pub makes_none : {R : Type 0} (u : TreeView) (temp : List ℕ) (x : R) → IsQuiet u → Makes u u (Ok x) temp (λ f. [])
 makes_none u temp x quiet = record {
-  ok = λ f told. record { made = made_none u quiet; exact = λ f g told now q ne. ap (λ (z : Files). get z q) (same_Some _ _ (sym now ∙ told)) };
+  ok = λ f told. record { made = made_none u quiet; exact = λ f g told now q ne. told_same u f g told now q };
   err = tt;
 }
 

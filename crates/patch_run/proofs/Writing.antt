@@ -1,13 +1,16 @@
 -- The effects of one file patch, in parts.
-use Rattle.std.proofs.Common.{◌≡◌, ◌∷◌, [], ℕ, List, Bool, true, false, if◌then◌else◌, length, Option, None, Some, is_some, refl, sym, ap}
+use Rattle.std.proofs.Common.{◌≡◌, ◌≢◌, ◌∷◌, ◌∙◌, [], ℕ, codes, List, Bool, true, false, if◌then◌else◌, length, Option, None, Some, is_some, refl, sym, ap}
+use Rattle.std.proofs.lemmas.List.{append_cancel_right}
 use Rattle.std.proofs.lemmas.Option.{none-some}
 use Rattle.std.specs.Option.{option_map}
 use Rattle.std.specs.FinMap.{get}
-use Rattle.outside.specs.Files.{Files}
+use Rattle.outside.specs.Files.{Files, temp_of}
 use Rattle.outside.specs.Quiet.{Effect}
 use Rattle.outside.specs.Quiet.Effect.{Put, Remove}
+use Rattle.outside.proofs.Names.{apart}
 use Rattle.target_names.specs.declared.derived.Target.{Target}
 use Rattle.patch_run.specs.OnePatch.{target_effects}
+use Rattle.patch_run.specs.Ready.{IsNamed}
 
 -- a file that has a size is there
 pub sized_there : (o : Option (List ℕ)) (n : ℕ) → Some n ≡ option_map length o → is_some o ≡ true
@@ -28,3 +31,16 @@ removes w output f there = ap (λ (b : Bool). if b then Remove w.name ∷ [] els
 
 pub removes_none : (w : Target) (output : List ℕ) (f : Files) → is_some (get f w.name) ≡ false → target_effects true f w output ≡ []
 removes_none w output f missing = ap (λ (b : Bool). if b then Remove w.name ∷ [] else []) missing
+
+-- ---- where temporaries stand
+
+-- names with one temporary are one
+pub temps_apart : (one other : List ℕ) → one ≢ other → temp_of one ≢ temp_of other
+temps_apart one other ne eq = ne (append_cancel_right one other (codes ".ptmp") eq)
+
+-- the backup's names are others than the target's temporary
+pub backup_other : {w : Target} → IsNamed w → w.temp ≢ w.backup
+backup_other {w = w} named eq = apart w.backup w.temp named.lasting.backup named.temps.own (sym eq)
+
+pub backup_temp_other : {w : Target} → IsNamed w → w.backup ≢ w.name → w.temp ≢ w.backup_temp
+backup_temp_other {w = w} named other eq = temps_apart w.name w.backup (λ same. other (sym same)) (sym named.temp ∙ eq ∙ named.backup_temp)
