@@ -1,5 +1,6 @@
 -- The effects of one file patch, in parts.
-use Rattle.std.proofs.Common.{◌≡◌, ◌≢◌, ◌∷◌, ◌∙◌, [], ℕ, codes, List, Bool, true, false, if◌then◌else◌, length, Option, None, Some, is_some, refl, sym, ap}
+use Rattle.std.proofs.Common.{◌≡◌, ◌≢◌, ◌∷◌, ◌∙◌, [], ℕ, codes, List, Bool, true, false, not, if◌then◌else◌, length, Option, None, Some, is_some, refl, sym, ap}
+use Rattle.std.proofs.lemmas.Bool.{false≢true}
 use Rattle.std.proofs.lemmas.List.{append_cancel_right}
 use Rattle.std.proofs.lemmas.Option.{none-some}
 use Rattle.std.specs.Option.{option_map}
@@ -9,7 +10,11 @@ use Rattle.outside.specs.Quiet.{Effect}
 use Rattle.outside.specs.Quiet.Effect.{Put, Remove}
 use Rattle.outside.proofs.Names.{apart}
 use Rattle.target_names.specs.declared.derived.Target.{Target}
-use Rattle.patch_run.specs.OnePatch.{target_effects}
+use Rattle.file_patch.specs.declared.Change.{Change}
+use Rattle.file_patch.specs.declared.Change.TheVariants.{Hunks, Script}
+use Rattle.file_patch.specs.PlainPatch.{change_of}
+use Rattle.reject_text.specs.Rejects.{AreHunks}
+use Rattle.patch_run.specs.OnePatch.{target_effects, is_script}
 use Rattle.patch_run.specs.Ready.{IsNamed}
 
 -- a file that has a size is there
@@ -44,3 +49,9 @@ backup_other {w = w} named eq = apart w.backup w.temp named.lasting.backup named
 
 pub backup_temp_other : {w : Target} → IsNamed w → w.backup ≢ w.name → w.temp ≢ w.backup_temp
 backup_temp_other {w = w} named other eq = temps_apart w.name w.backup (λ same. other (sym same)) (sym named.temp ∙ eq ∙ named.backup_temp)
+
+-- ---- rejects
+
+pub are_hunks : (text : List ℕ) (change : Change) → not (is_script (change_of text change)) ≡ true → AreHunks change
+are_hunks text (Hunks hs) e = tt
+are_hunks text (Script s) e = absurd (false≢true e)
