@@ -80,6 +80,10 @@ pub makes_stops : {R S : Type 0} {u w : TreeView} {temp : List ℕ} {es : Files 
 makes_stops e (Ok x) rest all fault one is = absurd fault
 makes_stops e (Err d) rest all fault one is = record { ok = tt; err = λ f told. is_part_more (rest f) (all f) (is f told) (one.err f told) }
 
+pub makes_fault : {R S : Type 0} {u w : TreeView} {temp : List ℕ} {es : Files → List Effect} (e : RunFault) (s : Result S RunFault) → IsErrAnd s (λ d. d ≡ e) → Makes {R = R} u w (Err e) temp es → Makes u w s temp es
+makes_fault e (Ok x) fault one = absurd fault
+makes_fault e (Err d) fault one = record { ok = tt; err = one.err }
+
 -- the same effects, said otherwise
 pub makes_is : {R : Type 0} {u w : TreeView} {temp : List ℕ} {es : Files → List Effect} (r : Result R RunFault) (all : Files → List Effect) → Makes u w r temp es → ((f : Files) → u.told ≡ Some f → all f ≡ es f) → Makes u w r temp all
 makes_is {u = u} {w = w} {temp = temp} (Ok x) all one is = record { ok = λ f told. subst (λ (l : List Effect). IsMade u w temp l) (sym (is f told)) (one.ok f told); err = tt }

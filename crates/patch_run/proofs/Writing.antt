@@ -1,5 +1,5 @@
 -- The effects of one file patch, in parts.
-use Rattle.std.proofs.Common.{◌≡◌, ◌≢◌, ◌∷◌, ◌∙◌, [], ℕ, codes, List, Bool, true, false, not, if◌then◌else◌, length, Option, None, Some, is_some, refl, sym, ap}
+use Rattle.std.proofs.Common.{◌≡◌, ◌≢◌, ◌∷◌, ◌++◌, ◌+◌, ◌||◌, ◌∙◌, [], ℕ, arith, length-append, codes, List, Bool, true, false, not, if◌then◌else◌, length, Option, None, Some, is_some, refl, sym, ap}
 use Rattle.std.proofs.lemmas.Bool.{false≢true}
 use Rattle.std.proofs.lemmas.List.{append_cancel_right}
 use Rattle.std.proofs.lemmas.Option.{none-some}
@@ -14,7 +14,7 @@ use Rattle.file_patch.specs.declared.Change.{Change}
 use Rattle.file_patch.specs.declared.Change.TheVariants.{Hunks, Script}
 use Rattle.file_patch.specs.PlainPatch.{change_of}
 use Rattle.reject_text.specs.Rejects.{AreHunks}
-use Rattle.patch_run.specs.OnePatch.{target_effects, is_script}
+use Rattle.patch_run.specs.OnePatch.{backup_effects, target_effects, is_script}
 use Rattle.patch_run.specs.Ready.{IsNamed}
 
 -- a file that has a size is there
@@ -36,6 +36,31 @@ removes w output f there = ap (λ (b : Bool). if b then Remove w.name ∷ [] els
 
 pub removes_none : (w : Target) (output : List ℕ) (f : Files) → is_some (get f w.name) ≡ false → target_effects true f w output ≡ []
 removes_none w output f missing = ap (λ (b : Bool). if b then Remove w.name ∷ [] else []) missing
+
+-- ---- how many effects there are
+abbrev one_if : Bool → ℕ
+one_if b = if b then 1 else 0
+
+backup_count : (due : Bool) (w : Target) (f : Files) → length (backup_effects due f w) ≡ one_if due
+backup_count true w f = refl
+backup_count false w f = refl
+
+target_count : (removal : Bool) (w : Target) (output : List ℕ) (f : Files) → length (target_effects removal f w output) ≡ one_if (not removal || is_some (get f w.name))
+target_count false w output f = refl
+target_count true w output f = elim (is_some (get f w.name)) as (λ b. length (if b then Remove w.name ∷ [] else []) ≡ one_if b) [
+  | true ↦ refl
+  | false ↦ refl
+]
+
+pub written_count : (due removal wrote : Bool) (w : Target) (output : List ℕ) (f : Files) → wrote ≡ not removal || is_some (get f w.name)
+    → (if due then 1 else 0) + (if wrote then 1 else 0) ≡ length (backup_effects due f w ++ target_effects removal f w output)
+written_count due removal wrote w output f is = omega (
+  arith,
+  length-append (backup_effects due f w) (target_effects removal f w output),
+  backup_count due w f,
+  target_count removal w output f,
+  ap (λ b. one_if b) is,
+)
 
 -- ---- where temporaries stand
 
