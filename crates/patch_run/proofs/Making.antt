@@ -1,43 +1,22 @@
 -- How parts of a run that make effects go on from one another.
-use Rattle.std.proofs.Common.{◌≡◌, ◌≢◌, ℕ, zero, List, [], ◌∷◌, ◌++◌, true, false, Option, Some, None, IsSome, Result, Ok, Err, refl, sym, ◌∙◌, ap, subst, arith}
+use Rattle.std.proofs.Common.{◌≡◌, ◌≢◌, ℕ, zero, List, [], ◌∷◌, ◌++◌, true, Some, Result, Ok, Err, sym, ◌∙◌, ap, subst, arith}
 use Rattle.std.specs.Result.{IsErrAnd}
 use Rattle.std.proofs.lemmas.Option.{same_Some}
 use Rattle.std.specs.FinMap.{get, insert, remove}
 use Rattle.outside.specs.Files.{Files, is_temp, temp_of, bytes_at}
-use Rattle.outside.specs.TreeView.{TreeView, Passes, Rises, passes_none, passes_both, told_on}
-use Rattle.outside.specs.Calls.{Becomes, IsThere, IsUntouched}
+use Rattle.outside.specs.TreeView.{TreeView, Passes, told_on}
+use Rattle.outside.specs.Calls.{Becomes, IsUntouched}
 use Rattle.outside.specs.Quiet.{IsQuiet, Effect, Holds, WorksOn, MakesEffect, HasMade, after, after_all}
 use Rattle.outside.specs.Quiet.Effect.{Put}
 use Rattle.outside.proofs.Names.{get-gone, get-gone_other, get-put_other}
-use Rattle.outside.proofs.Views.{rises_then, told_back, untouched_quiet}
+use Rattle.outside.proofs.Views.{told_back, untouched_quiet}
 use Rattle.outside.proofs.Quiet.{lasting-only, works_none}
-use Rattle.outside.proofs.Effects.{made_none, made_more, made_since, made_tells, made_tells_all, since_longer, tells_longer}
+use Rattle.outside.proofs.Effects.{made_none, made_more, made_since, made_tells, since_longer, tells_longer}
 use Rattle.replace_file.specs.Puts.{Puts}
 use Rattle.replace_file.proofs.Putting.{puts_makes, bytes_same}
 use Rattle.patch_run.specs.declared.fault.RunFault.{RunFault}
-use Rattle.patch_run.specs.declared.fault.RunFault.TheVariants.{Tree}
-use Rattle.patch_run.specs.Making.{IsMade, IsPart, Makes, GoesQuietly, KeepsAt, IsGone}
+use Rattle.patch_run.specs.Making.{IsMade, IsPart, Makes, KeepsAt, IsGone}
 use Rattle.patch_run.proofs.EffectLists.{after_all-append, after_all-at, leaves_after, tells_after, made_both}
-
--- ---- whatever is told
-pub quietly_done : {R : Type 0} (u w : TreeView) (x : R) → Passes u w → IsQuiet w → GoesQuietly u w (Ok x)
-quietly_done u w x passes quiet = record { passes = passes; cause = tt; quiet = quiet }
-
-pub quietly_failed : {R : Type 0} (u w : TreeView) → Passes u w → Rises u w → GoesQuietly {R = R} u w (Err Tree)
-quietly_failed u w passes rises = record { passes = passes; cause = (refl, rises); quiet = tt }
-
-pub quietly_both : {R : Type 0} {u v w : TreeView} (r : Result R RunFault) → Passes u v → GoesQuietly v w r → GoesQuietly u w r
-quietly_both {u = u} {v = v} {w = w} (Ok x) passes goes = record { passes = passes_both passes goes.passes; cause = tt; quiet = goes.quiet }
-quietly_both {u = u} {v = v} {w = w} (Err e) passes goes = record { passes = passes_both passes goes.passes; cause = (goes.cause.0, rises_then u v w passes goes.cause.1); quiet = tt }
-
--- a fault ends it
-pub quietly_stops : {R S : Type 0} {u w : TreeView} (e : RunFault) (s : Result S RunFault) → IsErrAnd s (λ d. d ≡ e) → GoesQuietly {R = R} u w (Err e) → GoesQuietly u w s
-quietly_stops e (Ok x) is goes = absurd is
-quietly_stops e (Err d) is goes = record { passes = goes.passes; cause = (is ∙ goes.cause.0, goes.cause.1); quiet = tt }
-
--- with another value
-pub quietly_value : {R S : Type 0} {u w : TreeView} (x : R) (y : S) → GoesQuietly u w (Ok x) → GoesQuietly u w (Ok y)
-quietly_value x y goes = record { passes = goes.passes; cause = tt; quiet = goes.quiet }
 
 -- ---- one part after another
 is_made_both : {u v w : TreeView} {temp : List ℕ} {es ds : List Effect} → IsMade u v temp es → IsMade v w temp ds → IsMade u w temp (es ++ ds)
@@ -94,15 +73,6 @@ pub makes_value : {R S : Type 0} {u w : TreeView} {temp : List ℕ} {es : Files 
 makes_value x y one = record { ok = one.ok; err = tt }
 
 -- ---- no effect
-pub told_same : (u : TreeView) (f g : Files) → u.told ≡ Some f → u.told ≡ Some g → (q : List ℕ) → get g q ≡ get f q
-told_same u f g told now q = ap (λ (x : Files). get x q) (same_Some _ _ (sym now ∙ told))
-
-pub makes_none : {R : Type 0} (u : TreeView) (temp : List ℕ) (x : R) → IsQuiet u → Makes u u (Ok x) temp (λ f. [])
-makes_none u temp x quiet = record {
-  ok = λ f told. record { made = made_none u quiet; exact = λ f g told now q ne. told_same u f g told now q };
-  err = tt;
-}
-
 -- calls on a temporary alone
 module _ {u w : TreeView} (temp : List ℕ) (is : is_temp temp ≡ true) (works : WorksOn u w temp) where
   works_made : HasMade u w []
@@ -115,12 +85,6 @@ module _ {u w : TreeView} (temp : List ℕ) (is : is_temp temp ≡ true) (works 
 
   pub makes_works : {R : Type 0} (x : R) → Makes u w (Ok x) temp (λ f. [])
   makes_works x = record { ok = λ f told. record { made = works_made; exact = works.others }; err = tt }
-
-  pub makes_broken : {R : Type 0} (e : RunFault) (all : Files → List Effect) → Makes {R = R} u w (Err e) temp all
-  makes_broken e all = record {
-    ok = tt;
-    err = λ f told. is_part_more {es = []} (all f) (all f) refl (record { tells = made_tells_all u w [] works_made; leaves = works_made.since });
-  }
 
 pub untouched_works : {u w : TreeView} (temp : List ℕ) → IsUntouched u w → IsQuiet u → WorksOn u w temp
 untouched_works {u = u} {w = w} temp same quiet = record {
@@ -203,8 +167,3 @@ module _ {u w : TreeView} (q : List ℕ) (passes : Passes u w) (keeps : KeepsAt 
 
   pub holds_kept : (b : List ℕ) → Holds u q b → Holds w q b
   holds_kept b holds g now = let was = told_back g passes now in keeps was.0 g was.1 now ∙ holds was.0 was.1
-
-  pub there_kept : IsThere u q → IsThere w q
-  there_kept there g now =
-      let was = told_back g passes now in
-      subst (λ (o : Option (List ℕ)). IsSome o) (sym (keeps was.0 g was.1 now)) (there was.0 was.1)

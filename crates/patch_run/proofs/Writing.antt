@@ -7,8 +7,7 @@ use Rattle.std.proofs.lemmas.Option.{none-some}
 use Rattle.std.specs.Option.{option_map}
 use Rattle.std.specs.FinMap.{get}
 use Rattle.outside.specs.Files.{Files, temp_of, bytes_at}
-use Rattle.outside.specs.Quiet.{Effect}
-use Rattle.outside.specs.Quiet.Effect.{Put, Remove}
+use Rattle.outside.specs.Quiet.Effect.{Remove}
 use Rattle.outside.proofs.Names.{apart}
 use Rattle.hunk_core.specs.declared.Verdict.{Verdict}
 use Rattle.hunk_apply.specs.Session.{is_placed}
@@ -25,10 +24,6 @@ pub sized_there : (o : Option (List ℕ)) (n : ℕ) → Some n ≡ option_map le
 sized_there None n e = absurd (none-some n (sym e))
 sized_there (Some b) n e = refl
 
-pub unsized_missing : (o : Option (List ℕ)) → None ≡ option_map length o → is_some o ≡ false
-unsized_missing None e = refl
-unsized_missing (Some b) e = absurd (none-some (length b) e)
-
 -- what is done to the target depends on nothing but the target
 pub target_same : (removal : Bool) (w : Target) (output : List ℕ) (f g : Files) → get g w.name ≡ get f w.name → target_effects removal f w output ≡ target_effects removal g w output
 target_same true w output f g same = ap (λ (o : Option (List ℕ)). if is_some o then Remove w.name ∷ [] else []) (sym same)
@@ -36,9 +31,6 @@ target_same false w output f g same = refl
 
 pub removes : (w : Target) (output : List ℕ) (f : Files) → is_some (get f w.name) ≡ true → target_effects true f w output ≡ Remove w.name ∷ []
 removes w output f there = ap (λ (b : Bool). if b then Remove w.name ∷ [] else []) there
-
-pub removes_none : (w : Target) (output : List ℕ) (f : Files) → is_some (get f w.name) ≡ false → target_effects true f w output ≡ []
-removes_none w output f missing = ap (λ (b : Bool). if b then Remove w.name ∷ [] else []) missing
 
 -- ---- how many effects there are
 abbrev one_if : Bool → ℕ
@@ -100,7 +92,7 @@ module _ (t : PlainTurn) (f : Files) (w : Target) (x : Tried) (wet : t.options.d
 -- ---- where temporaries stand
 
 -- names with one temporary are one
-pub temps_apart : (one other : List ℕ) → one ≢ other → temp_of one ≢ temp_of other
+temps_apart : (one other : List ℕ) → one ≢ other → temp_of one ≢ temp_of other
 temps_apart one other ne eq = ne (append_cancel_right one other (codes ".ptmp") eq)
 
 -- the backup's names are others than the target's temporary

@@ -1,24 +1,14 @@
-use Rattle.std.proofs.Common.{◌≡◌, ◌∙◌, true, is_some, refl, ap}
+use Rattle.std.proofs.Common.{◌∙◌, true, is_some, refl, ap}
 use Rattle.std.proofs.lemmas.Result.{IfOk-weaker}
-use Rattle.std.specs.FinMap.{get}
 use Rattle.outside.proofs.Views.{told_on}
 use Rattle.patch_run.specs.OnePatch.{target_effects}
-use Rattle.patch_run.proofs.Making.{quietly_both, quietly_stops, makes_both, makes_stops}
+use Rattle.patch_run.proofs.Making.{makes_both, makes_stops}
 use Rattle.patch_run.proofs.Writing.{target_same}
 use Rattle.patch_run.proofs.effects.erase.Goals as goal
-
-pub returns-in_err-forget-clause-goes : goal.returns-in_err-forget-clause-goes
-returns-in_err-forget-clause-goes g c = quietly_stops c.in_err-forget.field-0.0 c.from_residual.result c.from_residual.ensures.1 c.in_err-forget.ensures.goes
 
 pub returns-in_err-forget-clause-makes : goal.returns-in_err-forget-clause-makes
 returns-in_err-forget-clause-makes g c output =
     makes_stops c.in_err-forget.field-0.0 c.from_residual.result (λ f. target_effects true f c.args.target.now output) _ c.from_residual.ensures.1 c.in_err-forget.ensures.makes (λ f told. refl)
-
-pub remove_if_there-requires-clause-quiet : goal.remove_if_there-requires-clause-quiet
-remove_if_there-requires-clause-quiet g c = c.in_ok-forget.ensures.goes.quiet
-
-pub returns-clause-goes : goal.returns-clause-goes
-returns-clause-goes g c = quietly_both c.remove_if_there.result c.in_ok-forget.ensures.goes.passes c.remove_if_there.ensures.goes
 
 pub returns-clause-makes : goal.returns-clause-makes
 returns-clause-makes g c output =

@@ -1,4 +1,4 @@
-use Rattle.std.proofs.Common.{◌≡◌, [], not, true, false, sym, ◌∙◌, ap}
+use Rattle.std.proofs.Common.{[], not, sym, ◌∙◌, ap}
 use Rattle.patch_run.proofs.Writing.{are_hunks}
 use Rattle.patch_run.proofs.effects.is_rejected.Goals as goal
 

@@ -1,4 +1,4 @@
-use Rattle.std.proofs.Common.{◌≡◌, ℕ, List, Ok, Err, refl, sym, ◌∙◌, ap}
+use Rattle.std.proofs.Common.{ℕ, List, Ok, Err, refl, sym, ◌∙◌}
 use Rattle.hunk_core.specs.declared.Side.{Side}
 use Rattle.hunk_core.specs.declared.Verdict.{Verdict}
 use Rattle.patch_run.specs.OnePatch.{Tried, effects_of, reject_effects}

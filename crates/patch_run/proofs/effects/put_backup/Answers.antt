@@ -1,28 +1,10 @@
-use Rattle.std.proofs.Common.{◌≡◌, Ok, Err, Bool, true, false, refl, sym, ap}
+use Rattle.std.proofs.Common.{Ok, Err, Bool, sym, ap}
 use Rattle.outside.specs.Files.{bytes_at}
 use Rattle.outside.proofs.Names.{apart}
-use Rattle.outside.proofs.Views.{passes_none}
 use Rattle.patch_run.specs.OnePatch.{backup_effects}
-use Rattle.patch_run.proofs.Making.{quietly_done, quietly_failed, makes_is, makes_none, puts_made, puts_part, put_keeps, told_same}
+use Rattle.patch_run.proofs.Making.{makes_is, puts_made, puts_part, put_keeps}
 use Rattle.patch_run.proofs.Writing.{backup_other, backup_temp_other}
 use Rattle.patch_run.proofs.effects.put_backup.Goals as goal
-
-pub returns-then-not-due-clause-goes : goal.returns-then-not-due-clause-goes
-returns-then-not-due-clause-goes g c = quietly_done (g.T.Tree.view c.args.tree.now) (g.T.Tree.view c.args.tree.now) tt (passes_none (g.T.Tree.view c.args.tree.now)) c.requires.quiet
-
-pub returns-then-not-due-clause-makes : goal.returns-then-not-due-clause-makes
-returns-then-not-due-clause-makes g c =
-    makes_is (Ok tt) _ (makes_none (g.T.Tree.view c.args.tree.now) c.args.target.now.temp tt c.requires.quiet)
-    (λ f told. ap (λ (b : Bool). backup_effects b f c.args.target.now) c.if-not-due.true)
-
-pub returns-then-not-due-clause-temp : goal.returns-then-not-due-clause-temp
-returns-then-not-due-clause-temp g c f h told now = told_same (g.T.Tree.view c.args.tree.now) f h told now c.args.target.now.temp
-
-pub returns-then-not-due-clause-name : goal.returns-then-not-due-clause-name
-returns-then-not-due-clause-name g c f h told now = told_same (g.T.Tree.view c.args.tree.now) f h told now c.args.target.now.name
-
-pub returns-in-Ok-clause-goes : goal.returns-in-Ok-clause-goes
-returns-in-Ok-clause-goes g c = quietly_done (g.T.Tree.view c.args.tree.now) (g.T.Tree.view c.copy_backup.new.tree) tt c.in-Ok.ensures.puts.run.passes c.in-Ok.ensures.puts.quiet
 
 pub returns-in-Ok-clause-makes : goal.returns-in-Ok-clause-makes
 returns-in-Ok-clause-makes g c =
@@ -44,9 +26,6 @@ returns-in-Ok-clause-name g c =
     let named = c.requires.named in
     put_keeps (g.T.Tree.view c.args.tree.now) (g.T.Tree.view c.copy_backup.new.tree) target.backup_temp target.backup (λ f. bytes_at f target.name) c.in-Ok.ensures.puts.ok
     target.name (λ eq. c.requires.apart c.if-not-due.false (sym eq)) (apart target.name target.backup_temp named.lasting.own named.temps.backup)
-
-pub returns-in-Err-clause-goes : goal.returns-in-Err-clause-goes
-returns-in-Err-clause-goes g c = quietly_failed (g.T.Tree.view c.args.tree.now) (g.T.Tree.view c.copy_backup.new.tree) c.in-Err.ensures.puts.run.passes (c.in-Err.ensures.puts.run.cause refl)
 
 pub returns-in-Err-clause-makes : goal.returns-in-Err-clause-makes
 returns-in-Err-clause-makes g c =

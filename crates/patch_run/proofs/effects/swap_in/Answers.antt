@@ -1,15 +1,8 @@
-use Rattle.std.proofs.Common.{◌≡◌, ◌∷◌, ℕ, [], List, Option, Ok, Err, true, unwrap_or, refl, sym, ap, subst}
+use Rattle.std.proofs.Common.{◌∷◌, ℕ, [], List, Option, Ok, Err, true, unwrap_or, sym, ap}
 use Rattle.outside.specs.Files.{Files, bytes_at}
-use Rattle.outside.specs.Calls.{IsThere}
 use Rattle.outside.specs.Quiet.Effect.{Put}
-use Rattle.patch_run.proofs.Making.{quietly_done, quietly_failed, makes_is, puts_made, puts_part, puts_named, put_gone}
+use Rattle.patch_run.proofs.Making.{makes_is, puts_made, puts_part, puts_named, put_gone}
 use Rattle.patch_run.proofs.effects.swap_in.Goals as goal
-
-pub put_begun-requires-clause-there : goal.put_begun-requires-clause-there
-put_begun-requires-clause-there g c = subst (λ (n : List ℕ). IsThere (g.T.Tree.view c.args.tree.now) n) (sym c.requires.temp) c.requires.there
-
-pub returns-in-Ok-clause-goes : goal.returns-in-Ok-clause-goes
-returns-in-Ok-clause-goes g c = quietly_done (g.T.Tree.view c.args.tree.now) (g.T.Tree.view c.put_begun.new.tree) true c.in-Ok.ensures.run.passes c.in-Ok.ensures.quiet
 
 pub returns-in-Ok-clause-makes : goal.returns-in-Ok-clause-makes
 returns-in-Ok-clause-makes g c output holds =
@@ -28,9 +21,6 @@ returns-in-Ok-clause-gone g c =
     let target = c.args.target.now in
     let puts = puts_named target.name c.requires.temp c.in-Ok.ensures in
     put_gone u w target.temp target.name (λ f. bytes_at f target.temp) puts.ok puts.run.passes
-
-pub returns-in-Err-clause-goes : goal.returns-in-Err-clause-goes
-returns-in-Err-clause-goes g c = quietly_failed (g.T.Tree.view c.args.tree.now) (g.T.Tree.view c.put_begun.new.tree) c.in-Err.ensures.run.passes (c.in-Err.ensures.run.cause refl)
 
 pub returns-in-Err-clause-makes : goal.returns-in-Err-clause-makes
 returns-in-Err-clause-makes g c output holds =

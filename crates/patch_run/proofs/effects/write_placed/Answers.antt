@@ -1,27 +1,13 @@
-use Rattle.std.proofs.Common.{◌≡◌, ◌++◌, ◌||◌, Ok, Err, not, is_some, refl, ◌∙◌, ap}
-use Rattle.std.specs.FinMap.{get}
+use Rattle.std.proofs.Common.{◌++◌, ◌||◌, Ok, Err, not, is_some, refl, ◌∙◌, ap}
 use Rattle.outside.proofs.Views.{told_on}
 use Rattle.patch_run.specs.OnePatch.{backup_effects, target_effects}
-use Rattle.patch_run.proofs.Making.{quietly_both, quietly_stops, quietly_value, makes_both, makes_stops, makes_fault, makes_value, holds_kept, there_kept}
+use Rattle.patch_run.proofs.Making.{makes_both, makes_stops, makes_fault, makes_value, holds_kept}
 use Rattle.patch_run.proofs.Writing.{target_same, written_count}
 use Rattle.patch_run.proofs.effects.write_placed.Goals as goal
-
-pub returns-in_err-put_backup-clause-goes : goal.returns-in_err-put_backup-clause-goes
-returns-in_err-put_backup-clause-goes g c = quietly_stops c.in_err-put_backup.field-0.0 c.from_residual.result c.from_residual.ensures.1 c.in_err-put_backup.ensures.goes
 
 pub returns-in_err-put_backup-clause-makes : goal.returns-in_err-put_backup-clause-makes
 returns-in_err-put_backup-clause-makes g c output holds =
     makes_stops c.in_err-put_backup.field-0.0 c.from_residual.result (λ f. target_effects c.args.removal f c.args.target.now output) _ c.from_residual.ensures.1 c.in_err-put_backup.ensures.makes (λ f told. refl)
-
-pub put_target-requires-clause-quiet : goal.put_target-requires-clause-quiet
-put_target-requires-clause-quiet g c = c.in_ok-put_backup.ensures.goes.quiet
-
-pub put_target-requires-clause-there : goal.put_target-requires-clause-there
-put_target-requires-clause-there g c = there_kept c.args.target.now.temp c.in_ok-put_backup.ensures.goes.passes c.in_ok-put_backup.ensures.temp c.requires.there
-
-pub returns-in_err-wrote-clause-goes : goal.returns-in_err-wrote-clause-goes
-returns-in_err-wrote-clause-goes g c =
-    quietly_stops c.in_err-wrote.field-0.0 c.from_residual-in_err-wrote.result c.from_residual-in_err-wrote.ensures.1 (quietly_both (Err c.in_err-wrote.field-0.0) c.in_ok-put_backup.ensures.goes.passes c.in_err-wrote.ensures.goes)
 
 pub returns-in_err-wrote-clause-makes : goal.returns-in_err-wrote-clause-makes
 returns-in_err-wrote-clause-makes g c output holds =
@@ -32,9 +18,6 @@ returns-in_err-wrote-clause-makes g c output holds =
     (makes_both tt (Err c.in_err-wrote.field-0.0) (λ f. backup_effects c.args.due f target ++ target_effects c.args.removal f target output) first.goes.passes second.goes.passes first.makes
     (second.makes output (holds_kept target.temp first.goes.passes first.temp output holds))
     (λ f h told now made. ap (λ l. backup_effects c.args.due f target ++ l) (target_same c.args.removal target output f h (first.name f h told now))))
-
-pub returns-clause-goes : goal.returns-clause-goes
-returns-clause-goes g c = quietly_value c.in_ok-wrote.wrote c.with_backup.result (quietly_both (Ok c.in_ok-wrote.wrote) c.in_ok-put_backup.ensures.goes.passes c.in_ok-wrote.ensures.goes)
 
 pub returns-clause-makes : goal.returns-clause-makes
 returns-clause-makes g c output holds =
