@@ -1,6 +1,6 @@
-pub mod EffectLists
-pub mod Making
-pub mod Writing
+mod EffectLists
+mod Making
+mod Writing
 mod Runs
 mod Deciding
 mod StartSteps

@@ -181,8 +181,7 @@ fn is_backup_due(turn: &Turn<'_>, target: &Target, session: &Session) -> bool
 fn is_backup_asked(options: &Options, session: &Session) -> bool
     ensures { result ≡ (options.now.backup || (options.now.mismatch_backup && is_none options.now.output && session.now.inexact)) }
 {
-    options.backup
-        || (options.mismatch_backup && options.output.is_none() && session.inexact)
+    options.backup || (options.mismatch_backup && options.output.is_none() && session.inexact)
 }
 
 /// Whether an output without a byte takes the target away.

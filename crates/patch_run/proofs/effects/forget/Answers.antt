@@ -7,4 +7,3 @@ pub returns-in-Ok-clause-gone : goal.returns-in-Ok-clause-gone
 returns-in-Ok-clause-gone g c =
     let w = g.T.Tree.view c.forget.new.tree in
     subst (λ (n : List ℕ). IsGone w n) c.requires.temp (remove_gone (g.T.Tree.view c.args.tree.now) w c.args.temp.name.now c.in-Ok.ensures.ok c.in-Ok.ensures.run.passes)
-

@@ -10,4 +10,3 @@ returns-then-removal-clause-makes g c output holds =
 pub returns-else-removal-clause-makes : goal.returns-else-removal-clause-makes
 returns-else-removal-clause-makes g c output holds =
     makes_is c.swap_in.result _ (c.swap_in.ensures.makes output holds) (λ f told. ap (λ (b : Bool). target_effects b f c.args.target.now output) c.if-removal.false)
-

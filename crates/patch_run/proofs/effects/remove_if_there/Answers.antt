@@ -10,4 +10,3 @@ returns-in-Ok-Some-clause-makes g c output =
     let works = untouched_works target.temp c.size.ensures.untouched c.requires.quiet in
     makes_both false c.remove.result _ works.passes c.remove.ensures.goes.passes (makes_works target.temp c.requires.named.temps.own works false) c.remove.ensures.makes
     (λ f h told now made. removes target output f (sized_there (get f target.name) c.in-Ok-Some.field-0-0 (sym c.in-Ok-Some.field-0-is ∙ c.in-Ok-Some.ensures.size f told)))
-
