@@ -1,3 +1,6 @@
+mod EffectLists
+mod Making
+mod Writing
 mod Runs
 mod Deciding
 mod StartSteps
