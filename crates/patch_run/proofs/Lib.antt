@@ -1,3 +1,4 @@
 mod Runs
 mod Deciding
 mod StartSteps
+mod Filling
