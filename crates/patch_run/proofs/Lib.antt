@@ -2,3 +2,4 @@ mod Runs
 mod Deciding
 mod StartSteps
 mod Filling
+mod Marks
