@@ -4,3 +4,5 @@ mod Writing
 mod Runs
 mod Deciding
 mod StartSteps
+mod Filling
+mod Marks
