@@ -5,4 +5,10 @@ mod Runs
 mod Deciding
 mod StartSteps
 mod Filling
+mod PastMarks
+mod Folding
 mod Marks
+mod Ready
+mod Going
+mod RunEnds
+mod Applying

@@ -2,7 +2,7 @@ use Rattle.std.proofs.Common.{◌∙◌, ap, sym, get_or}
 use Rattle.patch_options.specs.PlainJob.{plain_options}
 use Rattle.patch_run.specs.OnePatch.{mark_of}
 use Rattle.patch_run.specs.Ready.{alone}
-use Rattle.patch_run.proofs.Marks.{mark_at, verdicts_at}
+use Rattle.patch_run.proofs.PastMarks.{mark_at, verdicts_at}
 use Rattle.patch_run.proofs.past.earlier_patch.Goals as goal
 
 pub rows_in-requires-clause-within : goal.rows_in-requires-clause-within

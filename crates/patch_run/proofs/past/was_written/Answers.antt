@@ -2,7 +2,7 @@ use Rattle.std.proofs.Common.{◌≡◌, ◌<◌, length, sym, ◌∙◌, ap, tr
 use Rattle.patch_options.specs.PlainJob.{plain_options}
 use Rattle.patch_run.specs.OnePatch.{Mark, is_name}
 use Rattle.patch_run.specs.Ready.{marks}
-use Rattle.patch_run.proofs.Marks.{any_at, any_more, any_all, marks-length}
+use Rattle.patch_run.proofs.PastMarks.{any_at, any_more, any_all, marks-length}
 use Rattle.patch_run.proofs.past.was_written.Goals as goal
 
 abbrev no_mark : Mark
