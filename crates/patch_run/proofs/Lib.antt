@@ -1,4 +1,15 @@
+mod EffectLists
+mod Making
+mod Writing
 mod Runs
 mod Deciding
 mod StartSteps
 mod StartTaken
+mod Filling
+mod PastMarks
+mod Folding
+mod Marks
+mod Ready
+mod Going
+mod RunEnds
+mod Applying

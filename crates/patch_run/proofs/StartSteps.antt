@@ -33,7 +33,7 @@ taken-first at p (skips said row taken) = refl
 taken-first at p (refuses said fault) = refl
 taken-first at p (tries said place side) = refl
 
-decided-first : (x : Decision) (b : Seen) (at : ℕ → Option (List ℕ)) (p : List ℕ) (s : Start) → IsDecided x b at s → IsDecided x b at (said_first p s)
+pub decided-first : (x : Decision) (b : Seen) (at : ℕ → Option (List ℕ)) (p : List ℕ) (s : Start) → IsDecided x b at s → IsDecided x b at (said_first p s)
 decided-first x b at p (skips said row taken) is = is
 decided-first x b at p (refuses said fault) is = is
 decided-first x b at p (tries said place side) is = is

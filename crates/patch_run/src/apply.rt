@@ -1,6 +1,6 @@
 //! One file patch.
 
-ghost use Rattle.std.specs.Prelude.{◌≡◌, ◌<◌, ◌≤◌, ◌⊎◌, ◌||◌, [], ℕ, List, All, false, length, replicate, Some, IfOk, IfErr, OnOk, OnErr};
+ghost use Rattle.std.specs.Prelude.{◌≡◌, ◌<◌, ◌≤◌, ◌⊎◌, ◌||◌, [], ℕ, List, All, true, false, length, replicate, is_some, Some, IfOk, IfErr, OnOk, OnErr};
 ghost use Rattle.outside.specs.Files.{Files};
 ghost use Rattle.outside.specs.TreeView.{Passes};
 ghost use Rattle.outside.specs.SinkView.{SinkPasses, Writes};
@@ -15,6 +15,7 @@ ghost use Rattle.say_text.specs.Messages.{ignored_line};
 ghost use Rattle.patch_run.specs.OnePatch.{Tried, total, bytes_of, lines_in, effects_of, tried_said, some_failed, is_kept, finished_at, ending};
 ghost use Rattle.patch_run.specs.Trying.{IsSession, IsBegun};
 ghost use Rattle.patch_run.specs.Doing.{Does, Stays, QuietAfter, IsDone, IsPartOf, IsDeviceFault, HasEndCause, IsOutcome, IsMadeWhole};
+ghost use Rattle.patch_run.specs.Devices.{Told};
 ghost use Rattle.patch_run.specs.Ready.{IsNamed};
 ghost use Rattle.patch_run.specs.TurnView.{plain_turn, IsTurn};
 
@@ -109,6 +110,7 @@ fn try_at<P: LineStore, T: Tree, O: Sink>(
     requires within { place < length turn.now.patch.now.targets.items }
     requires rows { length verdicts.old ≡ row_count turn.now.patch.now.change }
     requires quiet { IsQuiet (T.view tree.old) }
+    requires told { (f : Files) → Told (T.view tree.old) (P.seen plan.old) f → is_some (P.seen plan.old).told ≡ true }
     ensures stays { Stays (T.view tree.old) (T.view tree.new) (P.seen plan.old) (P.seen plan.new) (O.view out.old) (O.view out.new) result }
     ensures keeps { Keeps (P.seen plan.old) (P.seen plan.new) }
     ensures quiet { QuietAfter result (T.view tree.new) }
@@ -152,9 +154,9 @@ fn tell_and_make<T: Tree, O: Sink>(
     ensures cause { IfErr result (λ e. HasEndCause e (T.view tree.old) (T.view tree.new) (O.view out.old) (O.view out.new)) }
     ensures quiet { OnOk result (IsQuiet (T.view tree.new)) }
     ensures rest { O.same_rest out.old out.new }
-    ensures whole { IfOk result (λ made. (f : Files) (x : Tried) → (T.view tree.old).told ≡ Some f → IsOutcome turn.now.options.now.dry_run (T.view tree.old) attempt.session target.now.temp side verdicts.now x
+    ensures whole { IfOk result (λ made. (f : Files) (x : Tried) → (T.view tree.old).told ≡ Some f → IsOutcome turn.now.options.now.dry_run (T.view tree.old) attempt.entry.session target.now.temp side verdicts.now x
         → IsMadeWhole (plain_turn turn.now) f target.now x made (T.view tree.old) (T.view tree.new) (O.view out.old) (O.view out.new)) }
-    ensures broken { OnErr result ((f : Files) (x : Tried) → (T.view tree.old).told ≡ Some f → IsOutcome turn.now.options.now.dry_run (T.view tree.old) attempt.session target.now.temp side verdicts.now x
+    ensures broken { OnErr result ((f : Files) (x : Tried) → (T.view tree.old).told ≡ Some f → IsOutcome turn.now.options.now.dry_run (T.view tree.old) attempt.entry.session target.now.temp side verdicts.now x
         → IsPartOf (T.view tree.old) (T.view tree.new) (O.view out.old) (O.view out.new) (effects_of (plain_turn turn.now) f target.now x) (tried_said (plain_turn turn.now) target.now x)) }
     ensures few { IfOk result (λ made. made.effects ≤ 3) }
 {

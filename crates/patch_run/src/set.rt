@@ -1,6 +1,6 @@
 //! All file patches of a set.
 
-ghost use Rattle.std.specs.Prelude.{◌≡◌, ◌<◌, ◌≤◌, ◌+◌, ◌||◌, ℕ, List, length, take, drop, slice_index_or, Some, IfOk, OnOk};
+ghost use Rattle.std.specs.Prelude.{◌≡◌, ◌<◌, ◌≤◌, ◌+◌, ◌⊎◌, ◌||◌, ℕ, List, length, take, drop, replicate, slice_index_or, Some, IfOk, OnOk};
 ghost use Rattle.outside.specs.Files.{Files};
 ghost use Rattle.outside.specs.Quiet.{IsQuiet};
 ghost use Rattle.file_patch.specs.declared.FilePatch.{FilePatch as ThePatch};
@@ -12,6 +12,9 @@ ghost use Rattle.patch_run.specs.Ready.{IsReady, AreNumbered, rows_in, turn_at};
 ghost use Rattle.patch_run.specs.OnePatch.{ending};
 ghost use Rattle.patch_run.specs.Doing.{Does, Runs, IsReceipt, StaysSet, IsPlacedOn, IsPlacedLast};
 ghost use Rattle.patch_run.specs.Devices.{Told};
+ghost use Rattle.patch_run.specs.TurnView.{IsTurn, plain_turn};
+ghost use Rattle.hunk_core.specs.declared.Verdict.TheVariants.{Ignored};
+ghost use Rattle.hunk_apply.specs.Change.{change_verdicts};
 
 use crate::applied::Applied;
 use crate::apply::{Done, apply_one};
@@ -63,8 +66,8 @@ fn apply_all<P: Plan, T: Tree, O: Sink>(
     tree: &mut T,
     out: &mut O,
 ) -> Result<Applied, RunFault>
-    requires ready { IsReady (plain_options options.now) set.old }
-    requires numbered { AreNumbered 0 set.old.patches }
+    requires lawful { IsLawful (plain_options options.now) }
+    requires read { (given : List ℕ) × IsRead (plain_options options.now) given set.old }
     requires verdicts { length verdicts.old ≡ hunks_in set.old.patches }
     requires size { (P.seen plan.old).size ≡ options.now.buffer }
     requires quiet { IsQuiet (T.view tree.old) }
@@ -128,6 +131,31 @@ fn apply_at<P: Plan, T: Tree, O: Sink>(
         count: k,
         verdicts: before,
     };
-    let own = &mut behind[..patch.hunks() as usize];
-    apply_one(&turn, own, plan, tree, out)
+    apply_front(&turn, behind, plan, tree, out)
+}
+
+/// Carries out one file patch, whose verdicts are the first of these.
+fn apply_front<P: Plan, T: Tree, O: Sink>(
+    turn: &Turn<'_>,
+    verdicts: &mut [Verdict],
+    plan: &mut P,
+    tree: &mut T,
+    out: &mut O,
+) -> Result<Done, RunFault>
+    requires turn { IsTurn turn.now }
+    requires size { (P.seen plan.old).size ≡ turn.now.options.now.buffer }
+    requires rows { row_count turn.now.patch.now.change ≤ length verdicts.old }
+    requires quiet { IsQuiet (T.view tree.old) }
+    ensures does { Does (T.view tree.old) (T.view tree.new) (P.seen plan.old) (P.seen plan.new) (O.view out.old) (O.view out.new) P.scratch_after result (take (row_count turn.now.patch.now.change) verdicts.new) (ending (plain_turn turn.now)) }
+    ensures behind { drop (row_count turn.now.patch.now.change) verdicts.new ≡ drop (row_count turn.now.patch.now.change) verdicts.old }
+    ensures verdicts { length verdicts.new ≡ length verdicts.old }
+    ensures rest { O.same_rest out.old out.new }
+    ensures few { IfOk result (λ done. done.effects ≤ 3) }
+    ensures placed { IfOk result (λ done. (lines : List (List ℕ)) → (P.seen plan.new).told ≡ Some lines
+        → (take (row_count turn.now.patch.now.change) verdicts.new ≡ replicate (row_count turn.now.patch.now.change) Ignored)
+        ⊎ (take (row_count turn.now.patch.now.change) verdicts.new ≡ change_verdicts lines turn.now.options.now.fuzz turn.now.options.now.loose done.row.side (plain_turn turn.now).item.patch.change)) }
+{
+    let count = turn.patch.hunks() as usize;
+    let own = &mut verdicts[..count];
+    apply_one(turn, own, plan, tree, out)
 }

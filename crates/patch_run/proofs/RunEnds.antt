@@ -1,0 +1,102 @@
+-- The ends of a run over the file patches of a set.
+use Rattle.std.proofs.Common.{◌≡◌, ◌⊎◌, ℕ, zero, suc, ◌+◌, ◌<◌, ◌≤◌, List, [], ◌∷◌, ◌++◌, length, map, take, get_or, replicate, Bool, Option, None, Some, Result, Ok, Err, refl, sym, ◌∙◌, ap, subst, arith, length-append}
+use Rattle.std.proofs.lemmas.List.{take_all, take_more, take_more_set, same_from_push}
+use Rattle.std.specs.List.{flat_map}
+use Rattle.std.specs.Result.{IsErrAnd}
+use Rattle.outside.specs.Files.{Files}
+use Rattle.outside.specs.TreeView.{TreeView, passes_both}
+use Rattle.outside.specs.SinkView.{SinkView, sink_passes_both}
+use Rattle.hunk_core.specs.declared.Verdict.{Verdict}
+use Rattle.hunk_core.specs.declared.Verdict.TheVariants.{Ignored}
+use Rattle.hunk_apply.specs.Change.{change_verdicts}
+use Rattle.file_patch.specs.declared.FilePatch.{FilePatch}
+use Rattle.file_patch.specs.PlainPatch.{change_of, row_count}
+use Rattle.line_store.specs.Store.{Seen}
+use Rattle.patch_options.specs.PlainJob.{PlainOptions}
+use Rattle.patch_set.specs.declared.set.Row.{Row}
+use Rattle.patch_set.specs.SetView.{SetView, hunks_in, with_row}
+use Rattle.patch_run.specs.declared.fault.RunFault.{RunFault}
+use Rattle.patch_run.specs.declared.fault.RunFault.TheVariants.{Tree, Write, Scratch, LongLine, FileTooLong, Disagree, Memory}
+use Rattle.patch_run.specs.declared.apply.Done.{Done}
+use Rattle.patch_run.specs.Applied.{Receipt}
+use Rattle.patch_run.specs.Devices.{Told, HasRunCause}
+use Rattle.patch_run.specs.OnePatch.{Story, ending}
+use Rattle.patch_run.specs.Run.{Run, set_run}
+use Rattle.patch_run.specs.Ready.{rows_in, turn_at}
+use Rattle.patch_run.specs.Doing.{QuietAfter, Does, IsFar, IsCutOff, Runs, IsReceipt, StaysSet, IsPlacedOn, IsPlacedLast}
+use Rattle.patch_run.proofs.Folding.{cut_moments}
+use Rattle.patch_run.proofs.Marks.{rows-last}
+use Rattle.patch_run.proofs.Going.{Goes, IsAt, IsNext, run_to, same-run, all-run, plan_both, told_then, cause_then, at_fault}
+
+quiet_still : (R S : Type 0) (w : TreeView) (fault : RunFault) → QuietAfter {R = R} (Err fault) w → QuietAfter {R = S} (Err fault) w
+quiet_still R S w Tree quiet = tt
+quiet_still R S w Write quiet = tt
+quiet_still R S w Scratch quiet = tt
+quiet_still R S w (LongLine line count) quiet = quiet
+quiet_still R S w (FileTooLong count) quiet = quiet
+quiet_still R S w (Disagree want got) quiet = tt
+quiet_still R S w Memory quiet = tt
+
+module _ (u x w : TreeView) (a b b' : Seen) (c d e : SinkView) {scratch_after : ℕ → List ℕ → Option (List ℕ) → Option (List ℕ)} {is_bad : Bool} {count : ℕ} (o : PlainOptions) (old v : SetView) (k : ℕ) (p : FilePatch) (vs ws : List Verdict) (next : IsNext v k p vs ws) (stays : StaysSet old v) (goes : Goes u x a b c d)
+    (at : (f : Files) → Told u a f → IsAt u x a b c d scratch_after o v k vs is_bad count (run_to o v k f)) where
+  cut_at : (fault : RunFault) → Does x w b b' d e scratch_after (Err fault) (rows_in ws p) (ending (turn_at o v k vs p)) → (f : Files) → Told u a f → IsCutOff fault u w c e (set_run o old f)
+  cut_at fault does f told =
+      let was = at f told in
+      subst (λ (r : Run). IsCutOff fault u w c e r) (same-run o old v f stays)
+      (at_fault o v k p vs ws next f u x w a b b' c d e was fault does.stays.tree (does.broken (run_to o v k f).files (was.far.now, goes.plan.telling ∙ told.1)))
+
+  -- a fault within a file patch
+  pub runs_cut : {R : Type 0} (fault : RunFault) (s : Result R RunFault) → IsErrAnd s (λ y. y ≡ fault) → Does x w b b' d e scratch_after (Err fault) (rows_in ws p) (ending (turn_at o v k vs p)) → Runs u w a b' c e scratch_after s (set_run o old)
+  runs_cut fault (Ok y) is does = absurd is
+  runs_cut {R = R} fault (Err y) is does =
+      subst (λ (z : RunFault). Runs {R = R} u w a b' c e scratch_after (Err z) (set_run o old)) (sym is)
+      (record {
+        stays = record { tree = passes_both goes.tree does.stays.tree; plan = plan_both goes.plan does.stays.plan; sink = sink_passes_both goes.sink does.stays.sink; cause = cause_then u x w a b b' c d e fault goes does.stays.cause };
+        quiet = quiet_still Done R w fault does.quiet;
+        whole = tt;
+        going = tt;
+        scratch = tt;
+        cut = cut_at fault does;
+        moments = λ f told. cut_moments u w c e fault (set_run o old f) (cut_at fault does f told);
+      })
+
+-- after the last file patch
+module _ {u w : TreeView} {a b : Seen} {c d : SinkView} {scratch_after : ℕ → List ℕ → Option (List ℕ) → Option (List ℕ)} {is_bad : Bool} {count : ℕ} (o : PlainOptions) (old v : SetView) (k : ℕ) (vs : List Verdict) (all : k ≡ length v.patches) (stays : StaysSet old v)
+    (at : (f : Files) → Told u a f → IsAt u w a b c d scratch_after o v k vs is_bad count (run_to o v k f)) where
+  at_all : (f : Files) → Told u a f → IsAt u w a b c d scratch_after o v k vs is_bad count (set_run o old f)
+  at_all f told = subst (λ (r : Run). IsAt u w a b c d scratch_after o v k vs is_bad count r) (all-run o v k f all ∙ same-run o old v f stays) (at f told)
+
+  pub runs_all : {R : Type 0} (y : R) → Goes u w a b c d → Runs u w a b c d scratch_after (Ok y) (set_run o old)
+  runs_all y goes = record {
+    stays = record { tree = goes.tree; plan = goes.plan; sink = goes.sink; cause = tt };
+    quiet = goes.quiet;
+    whole = λ f told. (at_all f told).far;
+    going = λ f told. (at_all f told).going;
+    scratch = λ f told. (at_all f told).scratch;
+    cut = tt;
+    moments = λ f told. (at_all f told).far.made.since;
+  }
+
+-- ---- where hunks are placed
+
+-- the hunks of the last of the first file patches are placed only on these lines
+abbrev pub IsPlacedTo : PlainOptions → SetView → ℕ → List Verdict → List (List ℕ) → Type 0
+IsPlacedTo o v k verdicts lines = (p : FilePatch) (r : Row) (front : List FilePatch) (rows : List Row) → take k v.patches ≡ front ++ p ∷ [] → take k v.rows ≡ rows ++ r ∷ [] → IsPlacedOn o v.text p verdicts r lines
+
+pub placed_none : (o : PlainOptions) (v : SetView) (vs : List Verdict) (lines : List (List ℕ)) → IsPlacedTo o v 0 vs lines
+placed_none o v vs lines p r front rows patches was =
+    let more : length front + 1 ≡ 0 = sym (length-append front (p ∷ [])) ∙ sym (ap (λ (l : List FilePatch). length l) patches) in
+    absurd (omega (arith, more))
+
+pub placed_next : (o : PlainOptions) (v : SetView) (k : ℕ) (p : FilePatch) (row : Row) (ws : List Verdict) (lines : List (List ℕ)) → k < length v.patches → p ≡ get_or v.patches k p → length v.rows ≡ length v.patches
+    → IsPlacedOn o v.text p ws row lines → IsPlacedTo o (with_row v k row) (k + 1) ws lines
+placed_next o v k p row ws lines lt at long placed q r front rows patches was =
+    let one : q ≡ p = (same_from_push front (take k v.patches) q p (sym patches ∙ take_more v.patches k p lt ∙ ap (λ (x : FilePatch). take k v.patches ++ x ∷ []) (sym at))).1 in
+    let other : r ≡ row = (same_from_push rows (take k v.rows) r row (sym was ∙ take_more_set v.rows k row (omega (arith, lt, long)))).1 in
+    subst (λ (x : FilePatch). IsPlacedOn o v.text x ws r lines) (sym one) (subst (λ (x : Row). IsPlacedOn o v.text p ws x lines) (sym other) placed)
+
+pub placed_rows : (o : PlainOptions) (text : List ℕ) (front rest : List Verdict) (p : FilePatch) (r : Row) (lines : List (List ℕ)) → length front ≡ p.first_verdict
+    → (take (row_count p.change) rest ≡ replicate (row_count p.change) Ignored) ⊎ (take (row_count p.change) rest ≡ change_verdicts lines o.fuzz o.loose r.side (change_of text p.change))
+    → IsPlacedOn o text p (front ++ rest) r lines
+placed_rows o text front rest p r lines long placed =
+    subst (λ (l : List Verdict). (l ≡ replicate (row_count p.change) Ignored) ⊎ (l ≡ change_verdicts lines o.fuzz o.loose r.side (change_of text p.change))) (sym (rows-last front rest p long)) placed

@@ -1,0 +1,29 @@
+use Rattle.std.proofs.Common.{◌≡◌, ◌*◌, ◌≤◌, ℕ, List, length, Some}
+use Rattle.outside.specs.Files.{Files}
+use Rattle.patch_options.specs.PlainJob.{plain_options}
+use Rattle.patch_set.specs.SetView.{hunks_in}
+use Rattle.patch_run.specs.Devices.{Told}
+use Rattle.patch_run.specs.Doing.{StaysSet}
+use Rattle.patch_run.proofs.Going.{Goes, IsAt, run_to}
+use Rattle.patch_run.proofs.RunEnds.{IsPlacedTo}
+use Rattle.patch_run.proofs.set.apply_all.Given as goal
+
+abbrev pub invariant-loop-k : goal.invariant-loop-k
+invariant-loop-k g l =
+    let u = g.T.Tree.view l.fn.tree in
+    let v = g.T.Tree.view l.tree in
+    let a = g.P.LineStore.seen l.fn.plan in
+    let b = g.P.LineStore.seen l.plan in
+    let c = g.O.Sink.view l.fn.out in
+    let d = g.O.Sink.view l.out in
+    let o = plain_options l.options in
+    record {
+      same : StaysSet l.fn.set l.set;
+      rows : length l.set.rows ≡ length l.set.patches;
+      long : length l.verdicts ≡ hunks_in l.set.patches;
+      few : l.effects ≤ 3 * l.k;
+      goes : Goes u v a b c d;
+      rest : g.O.Sink.same_rest l.fn.out l.out;
+      at : (f : Files) → Told u a f → IsAt u v a b c d g.P.Plan.scratch_after o l.set l.k l.verdicts l.is_bad l.effects (run_to o l.set l.k f);
+      placed : (lines : List (List ℕ)) → b.told ≡ Some lines → IsPlacedTo o l.set l.k l.verdicts lines;
+    }

@@ -1,0 +1,20 @@
+use Rattle.std.proofs.Common.{◌≡◌, [], ℕ, List, sym, subst}
+use Rattle.patch_options.specs.PlainJob.{plain_options}
+use Rattle.patch_set.specs.SetView.{SetView, IsRead}
+use Rattle.patch_run.specs.Run.{set_run}
+use Rattle.patch_run.specs.Doing.{Runs}
+use Rattle.patch_run.proofs.Ready.{read_still}
+use Rattle.patch_run.proofs.set.apply_set.Goals as goal
+
+pub apply_all-applied-requires-clause-read : goal.apply_all-applied-requires-clause-read
+apply_all-applied-requires-clause-read g c =
+    let o = plain_options c.args.options.now in
+    let given = c.requires.read.0 in
+    (given, subst (λ (s : SetView). IsRead o given s) (sym c.take_verdicts-verdicts.ensures.left) (read_still o given c.args.set.now [] c.requires.read.1))
+
+pub returns-clause-runs : goal.returns-clause-runs
+returns-clause-runs g c =
+    let o = plain_options c.args.options.now in
+    subst (λ (s : SetView). Runs (g.T.Tree.view c.args.tree.now) (g.T.Tree.view c.apply_all-applied.new.tree) (g.P.LineStore.seen c.args.plan.now) (g.P.LineStore.seen c.apply_all-applied.new.plan) (g.O.Sink.view c.args.out.now) (g.O.Sink.view c.apply_all-applied.new.out) g.P.Plan.scratch_after c.apply_all-applied.result (set_run o s))
+    c.take_verdicts-verdicts.ensures.left
+    c.apply_all-applied.ensures.runs
