@@ -23,7 +23,7 @@ use Rattle.patch_run.specs.Starting.{Starts, said_in, taken_in, IsDecided, IsBro
 
 -- ---- what is said first
 
-said-first : (p : List ℕ) (s : Start) → said_in (said_first p s) ≡ p ++ said_in s
+pub said-first : (p : List ℕ) (s : Start) → said_in (said_first p s) ≡ p ++ said_in s
 said-first p (skips said row taken) = refl
 said-first p (refuses said fault) = refl
 said-first p (tries said place side) = refl
