@@ -69,21 +69,13 @@ const CHANGED: [(&[&str], &[u8], &[u8], &[u8]); 4] = [
 
 // What `diff` of GNU diffutils 3.8 wrote: the old file, the patch text and the new file.
 const DIFFS: [(&[u8], &[u8], &[u8]); 11] = [
-    (
-        b"",
-        b"0a1,2\n> a\n> b\n",
-        b"a\nb\n",
-    ),
+    (b"", b"0a1,2\n> a\n> b\n", b"a\nb\n"),
     (
         b"2c2\n3a4\n---\na\n",
         b"0a1\n> b\n3d3\n< ---\n",
         b"b\n2c2\n3a4\na\n",
     ),
-    (
-        b"\nx\nx\n",
-        b"3c3\n< x\n---\n> < a\n",
-        b"\nx\n< a\n",
-    ),
+    (b"\nx\nx\n", b"3c3\n< x\n---\n> < a\n", b"\nx\n< a\n"),
     (
         b"x\n1d0\n",
         b"1,2c1\n< x\n< 1d0\n---\n> x\n\\ No newline at end of file\n",
