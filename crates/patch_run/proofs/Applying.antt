@@ -1,22 +1,33 @@
 -- Hunks that were tried, and then told of with their effects.
-use Rattle.std.proofs.Common.{◌≡◌, ◌≢◌, ⊎_elim, ℕ, zero, List, [], ◌∷◌, ◌++◌, length, map, Bool, true, false, if◌then◌else◌, is_some, Option, None, Some, refl, sym, ◌∙◌, ap, subst, arith}
-use Rattle.std.proofs.lemmas.List.{length-map}
+use Rattle.std.proofs.Common.{◌≡◌, ◌≢◌, ⊎_elim, ℕ, zero, List, [], ◌∷◌, ◌++◌, length, map, Bool, true, false, ◌||◌, if◌then◌else◌, is_some, Option, None, Some, Result, Ok, Err, OnOk, OnErr, IfOk, refl, sym, ◌∙◌, ap, subst, arith}
+use Rattle.std.proofs.lemmas.Bool.{false≢true}
+use Rattle.std.proofs.lemmas.Option.{same_Some}
 use Rattle.std.specs.FinMap.{get, remove}
 use Rattle.outside.specs.Files.{Files, temp_of, is_temp}
 use Rattle.outside.specs.TreeView.{TreeView, Passes, passes_both, told_on}
-use Rattle.outside.specs.SinkView.{SinkView}
-use Rattle.outside.specs.Quiet.{Effect, HasMade, WorksOn, after_all}
+use Rattle.outside.specs.SinkView.{SinkView, Receives, ReceivesPart}
+use Rattle.outside.specs.Quiet.{IsQuiet, Effect, HasMade, WorksOn, Holds, after_all}
 use Rattle.outside.proofs.Names.{equal_or_not, get-gone, get-gone_other, apart, same_files}
 use Rattle.outside.proofs.Quiet.{lasting-only}
+use Rattle.outside.proofs.Effects.{made_none, made_tells_all, since_longer, tells_longer}
+use Rattle.outside.proofs.Writing.{received_none, received_part, part_longer}
+use Rattle.hunk_core.specs.declared.Side.{Side}
+use Rattle.hunk_core.specs.declared.Verdict.{Verdict}
+use Rattle.hunk_apply.specs.declared.Session.{Session}
+use Rattle.replace_file.specs.declared.temp.Temp.{Temp}
+use Rattle.patch_run.specs.declared.fault.RunFault.{RunFault}
+use Rattle.patch_run.specs.Trying.{IsSession, IsBegun}
 use Rattle.line_store.specs.Store.{Seen, Keeps}
 use Rattle.line_store.specs.Taking.{KeepsPlan}
 use Rattle.target_names.specs.declared.derived.Target.{Target}
+use Rattle.patch_set.specs.declared.set.Row.{Row}
+use Rattle.patch_run.specs.declared.apply.Done.{Done}
 use Rattle.patch_run.specs.declared.effects.Made.{Made}
-use Rattle.patch_run.specs.OnePatch.{PlainTurn, Tried, effects_of, tried_said, wrote}
+use Rattle.patch_run.specs.OnePatch.{PlainTurn, Tried, bytes_of, tried, some_failed, is_kept, finished, effects_of, tried_said, wrote}
 use Rattle.patch_run.specs.Run.{cleared}
-use Rattle.patch_run.specs.Making.{IsGone}
+use Rattle.patch_run.specs.Making.{IsGone, Makes}
 use Rattle.patch_run.specs.Ready.{IsNamed}
-use Rattle.patch_run.specs.Doing.{IsPartOf, IsWholeOf, IsMadeWhole}
+use Rattle.patch_run.specs.Doing.{IsPartOf, IsWholeOf, IsDone, IsOutcome, IsMadeWhole}
 use Rattle.patch_run.proofs.EffectLists.{after_all-at, made_both, leaves_after, tells_after}
 
 pub keeps_plan : {a b : Seen} → Keeps a b → KeepsPlan a b
@@ -95,3 +106,144 @@ module _ (t : PlainTurn) (f g : Files) (w : Target) (x : Tried) (named : IsNamed
     said = whole.said;
     now = files_tried done t.options.dry_run refl same whole;
   }
+
+-- ---- the end of a file patch
+
+pub on_err : {R E P : Type 0} (r : Result R E) → P → OnErr r P
+on_err (Ok x) p = tt
+on_err (Err e) p = p
+
+is_wet : (dry : Bool) (name : List ℕ) (begun : Temp) → IsBegun dry (Some begun) name → dry ≡ false
+is_wet true name begun is = absurd is
+is_wet false name begun is = refl
+
+is_dry : (dry : Bool) (name : List ℕ) → IsBegun dry None name → dry ≡ true
+is_dry true name is = refl
+is_dry false name is = absurd is
+
+wrote-dry : (t : PlainTurn) (f : Files) (w : Target) (x : Tried) → t.options.dry_run ≡ true → wrote t f w x ≡ false
+unfolding wrote
+wrote-dry t f w x dry = rw dry
+
+-- the same outcome with its parts in place
+abbrev pub outcome : Side → List Verdict → List ℕ → Tried
+outcome side vs output = record { side = side; verdicts = vs; output = output }
+
+module _ {dry : Bool} {u : TreeView} {session : Session} {temp : List ℕ} {side : Side} {vs : List Verdict} (x : Tried) (is : IsOutcome dry u session temp side vs x) where
+  outcome_is : outcome side vs x.output ≡ x
+  outcome_is = ap (λ (s : Side). outcome s vs x.output) (sym is.side) ∙ ap (λ (l : List Verdict). outcome x.side l x.output) (sym is.verdicts)
+
+  pub outcome_counts : IsSession session vs x.output
+  outcome_counts = subst (λ (l : List Verdict). IsSession session l x.output) is.verdicts is.counts
+
+-- nothing was made
+pub part_unmade : {u : TreeView} {c d : SinkView} (es : List Effect) (text : List ℕ) → IsQuiet u → ReceivesPart c d text → IsPartOf u u c d es text
+part_unmade {u = u} es text quiet said = record {
+  tells = tells_longer u u [] es es refl (made_tells_all u u [] (made_none u quiet));
+  leaves = since_longer u u [] es es refl (made_none u quiet).since;
+  said = said;
+}
+
+module _ (t : PlainTurn) (w : Target) (session : Session) (side : Side) (vs : List Verdict) (u z : TreeView) (c d : SinkView) where
+  -- what was said of an outcome
+  abbrev pub Says : (List ℕ → List ℕ → Type 0) → Type 0
+  Says P = (output : List ℕ) → IsSession session vs output → P output (tried_said t w (outcome side vs output))
+
+  pub tell_fails : (f : Files) (x : Tried) → IsQuiet u → Says (λ output text. ReceivesPart c d text) → IsOutcome t.options.dry_run u session w.temp side vs x → IsPartOf u u c d (effects_of t f w x) (tried_said t w x)
+  tell_fails f x quiet says is =
+      subst (λ (y : Tried). IsPartOf u u c d (effects_of t f w y) (tried_said t w y)) (outcome_is x is)
+      (part_unmade (effects_of t f w (outcome side vs x.output)) (tried_said t w (outcome side vs x.output)) quiet (says x.output (outcome_counts x is)))
+
+  pub tell_dry : (f : Files) (x : Tried) → IsBegun t.options.dry_run None w.temp → IsQuiet u → u.told ≡ Some f → Says (λ output text. Receives c d text) → IsOutcome t.options.dry_run u session w.temp side vs x → IsMadeWhole t f w x (record { wrote = false; effects = 0 }) u u c d
+  tell_dry f x begun quiet told says is =
+      let dry = is_dry t.options.dry_run w.temp begun in
+      let none = effects-dry t f w x dry in
+      record {
+        made = subst (λ (l : List Effect). HasMade u u l) (sym none) (made_none u quiet);
+        said = subst (λ (y : Tried). Receives c d (tried_said t w y)) (outcome_is x is) (says x.output (outcome_counts x is));
+        exact = λ g now q ne. ap (λ (h : Files). get h q) (same_Some _ _ (sym now ∙ told)) ∙ ap (λ (l : List Effect). get (after_all l f) q) (sym none);
+        gone = λ wet. absurd (false≢true (sym wet ∙ dry));
+        same = λ yes. told;
+        wrote = sym (wrote-dry t f w x dry);
+        effects = ap (λ (l : List Effect). length l) (sym none);
+      }
+
+  module _ (temp : Temp) (begun : IsBegun t.options.dry_run (Some temp) w.temp) (says : Says (λ output text. Receives c d text)) where
+    abbrev pub Made_by : Result Made RunFault → Type 0
+    Made_by r = (output : List ℕ) → IsSession session vs output → Holds u w.temp output → Makes u z r w.temp (λ f. effects_of t f w (outcome side vs output))
+
+    pub tell_made : (r : Result Made RunFault) → Made_by r → OnOk r (IsGone z w.temp)
+        → IfOk r (λ made. (f : Files) (output : List ℕ) → u.told ≡ Some f → IsSession session vs output → made.wrote ≡ wrote t f w (outcome side vs output))
+        → IfOk r (λ made. (f : Files) (output : List ℕ) → u.told ≡ Some f → IsSession session vs output → made.effects ≡ length (effects_of t f w (outcome side vs output)))
+        → IfOk r (λ made. (f : Files) (x : Tried) → u.told ≡ Some f → IsOutcome t.options.dry_run u session w.temp side vs x → IsMadeWhole t f w x made u z c d)
+    tell_made (Err e) makes gone wrote count = tt
+    tell_made (Ok made) makes gone wrote count = λ f x told is.
+        let wet = is_wet t.options.dry_run w.temp temp begun in
+        let counts = outcome_counts x is in
+        let did = (makes x.output counts (is.holds wet)).ok f told in
+        subst (λ (y : Tried). IsMadeWhole t f w y made u z c d) (outcome_is x is)
+        (record {
+          made = did.made;
+          said = says x.output counts;
+          exact = λ g now q ne. did.exact f g told now q ne;
+          gone = λ yes. gone;
+          same = λ dry. absurd (false≢true (sym wet ∙ dry));
+          wrote = wrote f x.output told counts;
+          effects = count f x.output told counts;
+        })
+
+    pub tell_breaks : (r : Result Made RunFault) → Made_by r → OnErr r ((f : Files) (x : Tried) → u.told ≡ Some f → IsOutcome t.options.dry_run u session w.temp side vs x → IsPartOf u z c d (effects_of t f w x) (tried_said t w x))
+    tell_breaks (Ok made) makes = tt
+    tell_breaks (Err e) makes = λ f x told is.
+        let wet = is_wet t.options.dry_run w.temp temp begun in
+        let counts = outcome_counts x is in
+        let part = (makes x.output counts (is.holds wet)).err f told in
+        subst (λ (y : Tried). IsPartOf u z c d (effects_of t f w y) (tried_said t w y)) (outcome_is x is)
+        (record { tells = part.tells; leaves = part.leaves; said = received_part c d (tried_said t w (outcome side vs x.output)) (says x.output counts) })
+
+-- ---- hunks that were tried, from the files in front of them
+
+-- only the temporary was worked on
+pub part_worked : {u v : TreeView} (temp : List ℕ) (c : SinkView) (es : List Effect) (text : List ℕ) → is_temp temp ≡ true → WorksOn u v temp → IsPartOf u v c c es text
+part_worked {u = u} {v = v} temp c es text is works =
+    let made = works_made temp is works in
+    record {
+      tells = tells_longer u v [] es es refl (made_tells_all u v [] made);
+      leaves = since_longer u v [] es es refl made.since;
+      said = part_longer c c [] text (received_part c c [] (received_none c));
+    }
+
+module _ (t : PlainTurn) (f : Files) (w : Target) (side : Side) (ls : List (List ℕ)) (session : Session) (vs : List Verdict) (named : IsNamed w) {u v : TreeView} (works : WorksOn u v w.temp) (told : u.told ≡ Some f)
+    (verdicts : vs ≡ (tried t side ls).verdicts) (counts : IsSession session vs (tried t side ls).output) (holds : t.options.dry_run ≡ false → Holds v w.temp (tried t side ls).output) where
+  tried_outcome : IsOutcome t.options.dry_run v session w.temp side vs (tried t side ls)
+  tried_outcome = record { side = refl; verdicts = sym verdicts; counts = subst (λ (l : List Verdict). IsSession session l (tried t side ls).output) verdicts counts; holds = holds }
+
+  pub tried_breaks : {z : TreeView} {c d : SinkView} → Passes v z
+      → ((g : Files) (x : Tried) → v.told ≡ Some g → IsOutcome t.options.dry_run v session w.temp side vs x → IsPartOf v z c d (effects_of t g w x) (tried_said t w x))
+      → IsPartOf u z c d (effects_of t f w (tried t side ls)) (tried_said t w (tried t side ls))
+  tried_breaks passes broken =
+      let x = tried t side ls in
+      let mid = told_on f works.passes told in
+      part_tried t f mid.0 w x named works told mid.1 (tried_said t w x) passes (broken mid.0 x mid.1 tried_outcome)
+
+  pub tried_done : {z : TreeView} {c d : SinkView} (place : ℕ) (made : Made) (done : Done) → ((g : Files) → v.told ≡ Some g → t.options.dry_run ≡ true → g ≡ f)
+      → ((g : Files) (x : Tried) → v.told ≡ Some g → IsOutcome t.options.dry_run v session w.temp side vs x → IsMadeWhole t g w x made v z c d)
+      → done.row ≡ record { side = side; target = Some place; wrote = made.wrote }
+      → ((x : Tried) → x.side ≡ side → IsSession session x.verdicts x.output → done.is_bad ≡ (some_failed x.verdicts || is_kept t x))
+      → done.effects ≡ made.effects
+      → IsDone u z c d done vs f (finished t f [] place (bytes_of t f place) w (tried t side ls))
+  tried_done place made done same whole row bad effects =
+      let x = tried t side ls in
+      let mid = told_on f works.passes told in
+      let did = whole mid.0 x mid.1 tried_outcome in
+      let name : get mid.0 w.name ≡ get f w.name = works.others f mid.0 told mid.1 w.name (apart w.name w.temp named.lasting.own named.temps.own) in
+      let in_row : Bool → Row = λ b. record { side = side; target = Some place; wrote = b } in
+      record {
+        told = record {
+          row = row ∙ ap in_row (did.wrote ∙ wrote-same t f mid.0 w x name);
+          bad = bad x refl tried_outcome.counts;
+          effects = effects ∙ did.effects ∙ ap (λ (l : List Effect). length l) (effects-same t f mid.0 w x name);
+          verdicts = verdicts;
+        };
+        whole = whole_tried t f mid.0 w x named works told mid.1 made (same mid.0 mid.1) did;
+      }

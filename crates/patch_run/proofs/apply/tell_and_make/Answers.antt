@@ -1,0 +1,30 @@
+use Rattle.std.proofs.Common.{Option, Some, None, subst}
+use Rattle.replace_file.specs.declared.temp.Temp.{Temp}
+use Rattle.patch_run.specs.TurnView.{plain_turn}
+use Rattle.patch_run.specs.Trying.{IsBegun}
+use Rattle.patch_run.proofs.Applying.{on_err, tell_fails, tell_dry, tell_made, tell_breaks}
+use Rattle.patch_run.proofs.apply.tell_and_make.Goals as goal
+
+pub returns-in_err-tell-clause-broken : goal.returns-in_err-tell-clause-broken
+returns-in_err-tell-clause-broken g c =
+    let u = g.T.Tree.view c.args.tree.now in
+    on_err c.from_residual.result (λ f x told is.
+    tell_fails (plain_turn c.args.turn.now) c.args.target.now c.args.attempt.session c.args.side c.args.verdicts.now u u (g.O.Sink.view c.args.out.now) (g.O.Sink.view c.tell.new.out) f x c.requires.quiet
+    (λ output counts. (c.in_err-tell.ensures.writes output counts).failed) is)
+
+pub returns-in-Some-clause-whole : goal.returns-in-Some-clause-whole
+returns-in-Some-clause-whole g c =
+    tell_made (plain_turn c.args.turn.now) c.args.target.now c.args.attempt.session c.args.side c.args.verdicts.now (g.T.Tree.view c.args.tree.now) (g.T.Tree.view c.make_effects.new.tree) (g.O.Sink.view c.args.out.now) (g.O.Sink.view c.tell.new.out)
+    c.in-Some.temp (subst (λ (o : Option Temp). IsBegun c.args.turn.now.options.now.dry_run o c.args.target.now.temp) c.in-Some.is c.requires.begun) (λ output counts. (c.in_ok-tell.ensures.writes output counts).received) c.make_effects.result c.make_effects.ensures.makes c.make_effects.ensures.gone c.make_effects.ensures.wrote c.make_effects.ensures.count
+
+pub returns-in-Some-clause-broken : goal.returns-in-Some-clause-broken
+returns-in-Some-clause-broken g c =
+    tell_breaks (plain_turn c.args.turn.now) c.args.target.now c.args.attempt.session c.args.side c.args.verdicts.now (g.T.Tree.view c.args.tree.now) (g.T.Tree.view c.make_effects.new.tree) (g.O.Sink.view c.args.out.now) (g.O.Sink.view c.tell.new.out)
+    c.in-Some.temp (subst (λ (o : Option Temp). IsBegun c.args.turn.now.options.now.dry_run o c.args.target.now.temp) c.in-Some.is c.requires.begun) (λ output counts. (c.in_ok-tell.ensures.writes output counts).received) c.make_effects.result c.make_effects.ensures.makes
+
+pub returns-in-None-clause-whole : goal.returns-in-None-clause-whole
+returns-in-None-clause-whole g c f x told is =
+    let u = g.T.Tree.view c.args.tree.now in
+    let begun : IsBegun c.args.turn.now.options.now.dry_run None c.args.target.now.temp = subst (λ (o : Option Temp). IsBegun c.args.turn.now.options.now.dry_run o c.args.target.now.temp) c.in-None.is c.requires.begun in
+    tell_dry (plain_turn c.args.turn.now) c.args.target.now c.args.attempt.session c.args.side c.args.verdicts.now u u (g.O.Sink.view c.args.out.now) (g.O.Sink.view c.tell.new.out) f x begun c.requires.quiet told
+    (λ output counts. (c.in_ok-tell.ensures.writes output counts).received) is

@@ -1,0 +1,53 @@
+use Rattle.std.proofs.Common.{◌≡◌, [], List, Some, true, sym, ◌∙◌, ap, subst}
+use Rattle.std.proofs.lemmas.Option.{same_Some}
+use Rattle.outside.specs.Files.{Files}
+use Rattle.target_names.specs.declared.derived.Target.{Target}
+use Rattle.patch_run.specs.OnePatch.{bytes_of, lines_in, effects_of, tried, tried_said, finished}
+use Rattle.patch_run.specs.Doing.{IsDone, IsPartOf}
+use Rattle.patch_run.specs.TurnView.{plain_turn}
+use Rattle.patch_run.proofs.Applying.{on_err, part_worked, tried_breaks, tried_done}
+use Rattle.patch_run.proofs.apply.try_at.Goals as goal
+
+pub returns-in_err-attempt-clause-broken : goal.returns-in_err-attempt-clause-broken
+returns-in_err-attempt-clause-broken g c =
+    let t = plain_turn c.args.turn.now in
+    let u = g.T.Tree.view c.args.tree.now in
+    let v = g.T.Tree.view c.try_hunks.new.tree in
+    let d = g.O.Sink.view c.args.out.now in
+    let w = c.written-target.result.now in
+    on_err c.from_residual.result (λ f told lines.
+    let x = tried t c.args.side (lines_in (bytes_of t f c.args.place)) in
+    subst (λ (y : Target). IsPartOf u v d d (effects_of t f y x) (tried_said t y x)) c.written-target.ensures.target
+    (part_worked w.temp d (effects_of t f w x) (tried_said t w x) c.written-target.ensures.named.temps.own c.in_err-attempt.ensures.works))
+
+pub returns-in_err-made-clause-broken : goal.returns-in_err-made-clause-broken
+returns-in_err-made-clause-broken g c =
+    let t = plain_turn c.args.turn.now in
+    let u = g.T.Tree.view c.args.tree.now in
+    let z = g.T.Tree.view c.tell_and_make.new.tree in
+    let d = g.O.Sink.view c.args.out.now in
+    let e = g.O.Sink.view c.tell_and_make.new.out in
+    let w = c.written-target.result.now in
+    let tries = c.in_ok-attempt.ensures in
+    on_err c.from_residual-in_err-made.result (λ f told plan.
+    let ls = lines_in (bytes_of t f c.args.place) in
+    let x = tried t c.args.side ls in
+    subst (λ (y : Target). IsPartOf u z d e (effects_of t f y x) (tried_said t y x)) c.written-target.ensures.target
+    (tried_breaks t f w c.args.side ls c.in_ok-attempt.attempt.session c.try_hunks.new.verdicts c.written-target.ensures.named tries.works told (tries.verdicts ls plan) (tries.session ls plan) (tries.holds ls plan)
+    c.in_err-made.ensures.tree c.in_err-made.ensures.broken))
+
+pub returns-clause-whole : goal.returns-clause-whole
+returns-clause-whole g c f told plan =
+    let t = plain_turn c.args.turn.now in
+    let u = g.T.Tree.view c.args.tree.now in
+    let z = g.T.Tree.view c.tell_and_make.new.tree in
+    let d = g.O.Sink.view c.args.out.now in
+    let e = g.O.Sink.view c.tell_and_make.new.out in
+    let w = c.written-target.result.now in
+    let tries = c.in_ok-attempt.ensures in
+    let ls = lines_in (bytes_of t f c.args.place) in
+    let x = tried t c.args.side ls in
+    let same : (h : Files) → (g.T.Tree.view c.try_hunks.new.tree).told ≡ Some h → t.options.dry_run ≡ true → h ≡ f = λ h now dry. same_Some h f (sym now ∙ ap (λ s. (g.T.Tree.view s).told) (tries.dry dry) ∙ told) in
+    subst (λ (y : Target). IsDone u z d e c.done_of.result c.try_hunks.new.verdicts f (finished t f [] c.args.place (bytes_of t f c.args.place) y x)) c.written-target.ensures.target
+    (tried_done t f w c.args.side ls c.in_ok-attempt.attempt.session c.try_hunks.new.verdicts c.written-target.ensures.named tries.works told (tries.verdicts ls plan) (tries.session ls plan) (tries.holds ls plan)
+    c.args.place c.in_ok-made.made c.done_of.result same c.in_ok-made.ensures.whole c.done_of.ensures.row c.done_of.ensures.bad c.done_of.ensures.effects)
