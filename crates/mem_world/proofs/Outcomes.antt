@@ -1,5 +1,5 @@
 -- How a device call of a tree in memory comes out.
-use Rattle.std.proofs.Common.{◌≡◌, ◌⊎◌, inl, inr, ℕ, ◌≤◌, List, [], ◌∷◌, ◌++◌, true, Result, Ok, Err, IsErr, OnOk, OnErr, Some, refl, sym, ◌∙◌, ap, subst, arith}
+use Rattle.std.proofs.Common.{◌≡◌, ◌⊎◌, inl, inr, ℕ, ◌≤◌, List, [], ◌∷◌, ◌++◌, true, Result, Ok, Err, IsOk, IsErr, OnOk, OnErr, Some, refl, sym, ◌∙◌, ap, subst, arith}
 use Rattle.std.proofs.lemmas.Bool.{false≢true}
 use Rattle.std.specs.List.{Contains}
 use Rattle.outside.specs.Faults.{HasRisen}
@@ -16,7 +16,7 @@ use Rattle.mem_world.proofs.Disk.{quiet_bound}
 use Rattle.mem_world.specs.Log.{notes}
 use Rattle.mem_world.specs.Store.{Records}
 use Rattle.mem_world.specs.Tree.{tells, device, Begins, Ends}
-use Rattle.mem_world.proofs.Calls.{Happens, not_both, becomes_more, quiet_more}
+use Rattle.mem_world.proofs.Calls.{Happens, on_ok, not_both, becomes_more, quiet_more}
 use Rattle.mem_world.proofs.Counting.{numbers, past_bound}
 
 abbrev log_of : MemTree → List Note
@@ -73,6 +73,7 @@ module _ (old begun new : MemTree) (store : Store) (event : Event) where
         failing = ends.failing ∙ begins.failing;
         calls = calls ∙ begins.calls;
         starved = counts made ends;
+        fed = on_ok _ r (fed made ends);
         listed = λ is. absurd (false≢true (begins.listed.1 (subst (λ (k : ℕ). Contains old.count.failing.items k) calls is)));
         cause = λ err. inr (rises made ends err);
         began = n.began;
@@ -83,6 +84,10 @@ module _ (old begun new : MemTree) (store : Store) (event : Event) where
       counts : (m : Result R A) → Ends (record begun { store = store }) new m r → old.count.starved ≤ new.count.starved
       counts (Ok u) e = omega (arith, begins.starved, (e.ok refl).1)
       counts (Err a) e = omega (arith, begins.starved, (e.err refl).1.counts)
+
+      fed : (m : Result R A) → Ends (record begun { store = store }) new m r → IsOk r → new.count.starved ≡ old.count.starved
+      fed (Ok u) e ok = (e.ok refl).1 ∙ begins.starved
+      fed (Err a) e ok = absurd (not_both r ok (e.err refl).0)
 
       rises : (m : Result R A) → Ends (record begun { store = store }) new m r → IsErr r → HasRisen old.count.starved new.count.starved
       rises (Ok u) e err = absurd (not_both r (e.ok refl).0 err)
@@ -99,6 +104,7 @@ module _ (old begun new : MemTree) (store : Store) (event : Event) where
         failing = ends.failing ∙ begins.failing;
         calls = calls ∙ begins.calls;
         starved = counts made ends;
+        fed = tt;
         listed = λ is. refl;
         cause = λ err. inl (subst (λ (k : ℕ). Contains old.count.failing.items k) (sym calls) (begins.listed.0 refl));
         began = n.began;
@@ -124,6 +130,7 @@ device_read old new r0 r begins to from =
         failing = begins.failing;
         calls = begins.calls;
         starved = omega (arith, begins.starved);
+        fed = on_ok _ r (λ _. begins.starved);
         listed = λ is. from (begins.listed.1 is);
         cause = λ err. inl (begins.listed.0 (to err));
         began = n.began;
