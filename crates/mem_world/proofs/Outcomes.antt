@@ -1,5 +1,5 @@
 -- How a device call of a tree in memory comes out.
-use Rattle.std.proofs.Common.{◌≡◌, ◌⊎◌, inl, inr, ℕ, ◌≤◌, List, [], ◌∷◌, ◌++◌, true, Result, Ok, Err, IsErr, OnOk, OnErr, Some, refl, sym, ◌∙◌, ap, subst, arith}
+use Rattle.std.proofs.Common.{◌≡◌, ◌⊎◌, inl, inr, ℕ, ◌≤◌, List, [], ◌∷◌, ◌++◌, true, false, Result, Ok, Err, IsOk, IsErr, OnOk, OnErr, Some, refl, sym, ◌∙◌, ap, subst, arith}
 use Rattle.std.proofs.lemmas.Bool.{false≢true}
 use Rattle.std.specs.List.{Contains}
 use Rattle.outside.specs.Faults.{HasRisen}
@@ -8,15 +8,17 @@ use Rattle.mem_world.specs.declared.tree.MemTree.{MemTree}
 use Rattle.mem_world.specs.Device.{IsDeviceCall, IsReading, IsSetting, is_call, began_at, ended_at}
 use Rattle.mem_world.specs.Disk.{Event, Note, Logs, disk, view_of}
 use Rattle.mem_world.specs.Disk.Event.{Bound}
-use Rattle.std.specs.FinMap.{insert}
+use Rattle.std.specs.FinMap.{get, insert}
 use Rattle.outside.specs.Files.{Files}
-use Rattle.outside.specs.Calls.{Becomes}
+use Rattle.outside.specs.TreeView.{MayLeave}
+use Rattle.outside.proofs.Names.{get-put}
+use Rattle.outside.specs.Calls.{Becomes, SealsStay}
 use Rattle.outside.specs.Quiet.{IsQuiet}
-use Rattle.mem_world.proofs.Disk.{quiet_bound}
+use Rattle.mem_world.proofs.Disk.{quiet_bound, bound_at, marked_same, marked_other}
 use Rattle.mem_world.specs.Log.{notes}
 use Rattle.mem_world.specs.Store.{Records}
 use Rattle.mem_world.specs.Tree.{tells, device, Begins, Ends}
-use Rattle.mem_world.proofs.Calls.{Happens, not_both, becomes_more, quiet_more}
+use Rattle.mem_world.proofs.Calls.{Happens, on_ok, not_both, becomes_more, quiet_more, sealed_more, seal_stays, image_more}
 use Rattle.mem_world.proofs.Counting.{numbers, past_bound}
 
 abbrev log_of : MemTree → List Note
@@ -73,6 +75,7 @@ module _ (old begun new : MemTree) (store : Store) (event : Event) where
         failing = ends.failing ∙ begins.failing;
         calls = calls ∙ begins.calls;
         starved = counts made ends;
+        fed = on_ok _ r (fed made ends);
         listed = λ is. absurd (false≢true (begins.listed.1 (subst (λ (k : ℕ). Contains old.count.failing.items k) calls is)));
         cause = λ err. inr (rises made ends err);
         began = n.began;
@@ -83,6 +86,10 @@ module _ (old begun new : MemTree) (store : Store) (event : Event) where
       counts : (m : Result R A) → Ends (record begun { store = store }) new m r → old.count.starved ≤ new.count.starved
       counts (Ok u) e = omega (arith, begins.starved, (e.ok refl).1)
       counts (Err a) e = omega (arith, begins.starved, (e.err refl).1.counts)
+
+      fed : (m : Result R A) → Ends (record begun { store = store }) new m r → IsOk r → new.count.starved ≡ old.count.starved
+      fed (Ok u) e ok = (e.ok refl).1 ∙ begins.starved
+      fed (Err a) e ok = absurd (not_both r ok (e.err refl).0)
 
       rises : (m : Result R A) → Ends (record begun { store = store }) new m r → IsErr r → HasRisen old.count.starved new.count.starved
       rises (Ok u) e err = absurd (not_both r (e.ok refl).0 err)
@@ -99,6 +106,7 @@ module _ (old begun new : MemTree) (store : Store) (event : Event) where
         failing = ends.failing ∙ begins.failing;
         calls = calls ∙ begins.calls;
         starved = counts made ends;
+        fed = tt;
         listed = λ is. refl;
         cause = λ err. inl (subst (λ (k : ℕ). Contains old.count.failing.items k) (sym calls) (begins.listed.0 refl));
         began = n.began;
@@ -124,6 +132,7 @@ device_read old new r0 r begins to from =
         failing = begins.failing;
         calls = begins.calls;
         starved = omega (arith, begins.starved);
+        fed = on_ok _ r (λ _. begins.starved);
         listed = λ is. from (begins.listed.1 is);
         cause = λ err. inl (begins.listed.0 (to err));
         began = n.began;
@@ -151,6 +160,22 @@ module _ (t : MemTree) (store : Store) (n bytes : List ℕ) where
   pub adds_quiet : {R E : Type 0} (r : Result R E) → Records t.store store (Bound n bytes) r → IsQuiet (tells t) → IsQuiet (tells bound_tree)
   adds_quiet (Ok u) records quiet = quiet_more (log_of t) (notes store.log.items) t.store.calls (Bound n bytes) t.count.faults t.count.faults records.kept.ok (quiet_bound n bytes (disk (log_of t))) quiet
   adds_quiet (Err e) records quiet = subst (λ (l : List Note). IsQuiet (view_of l t.count.faults)) (sym records.kept.err) quiet
+
+  pub adds_sealed : {R E : Type 0} (r : Result R E) → Records t.store store (Bound n bytes) r → OnOk r ((tells bound_tree).is_sealed n ≡ true)
+  adds_sealed (Ok u) records = sealed_more (log_of t) (notes store.log.items) t.store.calls (Bound n bytes) t.count.faults t.count.faults records.kept.ok n false (marked_same (disk (log_of t)).loose n false)
+  adds_sealed (Err e) records = tt
+
+  pub adds_settled : {R E : Type 0} (r : Result R E) → Records t.store store (Bound n bytes) r → OnOk r ((c : Files) → MayLeave (tells bound_tree) c → get c n ≡ Some bytes)
+  adds_settled (Ok u) records =
+      let d = disk (log_of t) in
+      λ c left. bound_at n bytes d (get c n) ((image_more (log_of t) (notes store.log.items) t.store.calls (Bound n bytes) t.count.faults t.count.faults records.kept.ok c left).at n) ∙ get-put d.live n bytes
+  adds_settled (Err e) records = tt
+
+  pub adds_seals : {R E : Type 0} (r : Result R E) → Records t.store store (Bound n bytes) r → SealsStay (tells t) (tells bound_tree) n
+  adds_seals (Ok u) records =
+      let d = disk (log_of t) in
+      λ q ne was. seal_stays (log_of t) (notes store.log.items) t.store.calls (Bound n bytes) t.count.faults t.count.faults records.kept.ok q (marked_other d.loose n false q ne) was
+  adds_seals (Err e) records = λ q ne was. subst (λ (l : List Note). (view_of l t.count.faults).is_sealed q ≡ true) (sym records.kept.err) was
 
   pub adds_counted : {R E : Type 0} (r : Result R E) → Records t.store store (Bound n bytes) r → IsSetting (device t) (device bound_tree)
   adds_counted (Ok u) records = record { failing = refl; calls = records.calls; starved = refl; past = past_bound (log_of t) (notes store.log.items) t.store.calls (Bound n bytes) refl records.kept.ok }

@@ -1,5 +1,5 @@
 -- What a tree in memory counts of its device calls.
-use Rattle.std.specs.Prelude.{◌≡◌, ◌⊎◌, ℕ, ◌+◌, ◌-◌, ◌^◌, ◌≤◌, ◌<◌, min, List, Bool, true, false, ◌&&◌, nat_lt, nat_eq, Result, IsErr}
+use Rattle.std.specs.Prelude.{◌≡◌, ◌⊎◌, ℕ, ◌+◌, ◌-◌, ◌^◌, ◌≤◌, ◌<◌, min, List, Bool, true, false, ◌&&◌, nat_lt, nat_eq, Result, IsErr, OnOk}
 use Rattle.std.specs.List.{Contains, count_by}
 use Rattle.outside.specs.Faults.{HasRisen}
 use Rattle.mem_world.specs.Disk.{Event, Note}
@@ -35,6 +35,7 @@ pub record IsDeviceCall {R E : Type 0} (old new : Device) (from to : ℕ) (resul
   pub failing : new.failing ≡ old.failing
   pub calls : new.calls ≡ min (old.calls + 1) (2 ^ 32 - 1)
   pub starved : old.starved ≤ new.starved
+  pub fed : OnOk result (new.starved ≡ old.starved)
   pub listed : Contains old.failing new.calls → IsErr result
   pub cause : IsErr result → Contains old.failing new.calls ⊎ HasRisen old.starved new.starved
   pub began : old.calls < new.calls → new.began new.calls ≡ from

@@ -1,5 +1,5 @@
 //! A tree that claims a size for one file.
-ghost use Rattle.std.specs.Prelude.{◌≡◌, ◌≢◌, ◌≤◌, ◌↔◌, ℕ, true, Some, length, take, drop, IfOk, IsErr, IsTrue, is_err, if◌then◌else◌};
+ghost use Rattle.std.specs.Prelude.{◌≡◌, ◌≢◌, ◌≤◌, ◌↔◌, ℕ, true, Some, length, take, drop, IfOk, IsTrue, is_err, if◌then◌else◌};
 ghost use Rattle.std.specs.FinMap.{get};
 ghost use Rattle.std.specs.Option.{option_map};
 ghost use Rattle.outside.specs.Files.{Files, bytes_at, HasFileBelow};
@@ -7,8 +7,9 @@ ghost use Rattle.outside.specs.Names.{directory_text};
 ghost use Rattle.outside.specs.TreeView.{IsCall};
 ghost use Rattle.outside.specs.Calls.{IsThere, IsUntouched};
 ghost use Rattle.outside.specs.Silent.{silent_tree};
-ghost use Rattle.mem_world.specs.Sized.{SameClaim, claimed};
-ghost use Rattle.mem_world.specs.Tree.{tells, Settles, Reads, Starts, Appends, Seals, Swaps, Drops, Fixes};
+ghost use Rattle.mem_world.specs.Device.{IsDeviceCall, IsReading, IsSetting};
+ghost use Rattle.mem_world.specs.Sized.{SameClaim, IsRefused, claimed};
+ghost use Rattle.mem_world.specs.Tree.{tells, device, Settles, Reads, Starts, Appends, Seals, Swaps, Drops, Fixes};
 
 use crate::slots::is_same;
 use crate::tree::MemTree;
@@ -16,7 +17,8 @@ use outside::{Failed, Name, Tree};
 
 /// A tree in memory that tells no content, and that answers another size for one name where the file is there.
 ///
-/// It counts its own faults. A call that needs a file fails where it is missing, and isn't passed on then.
+/// It counts its own faults. A call that needs a file fails where it is missing, and isn't passed on then. Each other
+/// one is a device call of the inner tree.
 #[derive(Drop)]
 pub struct SizedTree {
     inner: MemTree,
@@ -29,6 +31,7 @@ impl SizedTree {
     /// The tree with that size for that name. All other calls are passed on to the inner tree.
     pub fn new(inner: MemTree, name: Name, size: u64) -> SizedTree
         ensures inner { IsUntouched (tells inner) (tells result.inner) }
+        ensures device { IsSetting (device inner) (device result.inner) }
         ensures name { result.name ≡ name }
         ensures size { result.size ≡ size }
         ensures faults { result.faults ≡ 0 }
@@ -85,6 +88,7 @@ impl Tree for SizedTree {
     fn settle(&mut self) -> Result<(), Failed>
         ensures settles { Settles (silent_tree self.old.faults) (silent_tree self.new.faults) result }
         ensures inner { Settles (tells self.old.inner) (tells self.new.inner) result }
+        ensures counted { IsDeviceCall (device self.old.inner) (device self.new.inner) (tells self.old.inner).moment (tells self.new.inner).moment result }
         ensures claim { SameClaim self.old self.new }
     {
         let made = self.inner.settle();
@@ -96,6 +100,7 @@ impl Tree for SizedTree {
         ensures size { IfOk result (λ size. (f : Files) → (silent_tree self.old.faults).told ≡ Some f → size ≡ option_map length (get f name.now)) }
         ensures claimed { IfOk result (λ size. (f : Files) → (tells self.old.inner).told ≡ Some f → size ≡ claimed self.old name.now (option_map length (get f name.now))) }
         ensures inner { Reads (tells self.old.inner) (tells self.new.inner) result }
+        ensures counted { IsReading (device self.old.inner) (device self.new.inner) (tells self.old.inner).moment (tells self.new.inner).moment result }
         ensures claim { SameClaim self.old self.new }
     {
         let made = self.inner.size(name);
@@ -109,7 +114,8 @@ impl Tree for SizedTree {
         ensures bytes { IfOk result (λ n. (f : Files) → (silent_tree self.old.faults).told ≡ Some f → take n buf.new ≡ take (length buf.old) (drop at (bytes_at f name.now))) }
         ensures gives { IfOk result (λ n. (f : Files) → (tells self.old.inner).told ≡ Some f → take n buf.new ≡ take (length buf.old) (drop at (bytes_at f name.now))) }
         ensures inner { IsThere (tells self.old.inner) name.now → Reads (tells self.old.inner) (tells self.new.inner) result }
-        ensures missing { (IsThere (tells self.old.inner) name.now → ⊥) → IsErr result }
+        ensures missing { (IsThere (tells self.old.inner) name.now → ⊥) → IsRefused self.old self.new result }
+        ensures counted { IsThere (tells self.old.inner) name.now → IsReading (device self.old.inner) (device self.new.inner) (tells self.old.inner).moment (tells self.new.inner).moment result }
         ensures claim { SameClaim self.old self.new }
     {
         if !has(&self.inner, name) {
@@ -124,6 +130,7 @@ impl Tree for SizedTree {
         ensures there { IfOk result (λ yes. (f : Files) → (silent_tree self.old.faults).told ≡ Some f → (IsTrue yes ↔ HasFileBelow f (directory_text parts name.now))) }
         ensures gives { IfOk result (λ yes. (f : Files) → (tells self.old.inner).told ≡ Some f → (IsTrue yes ↔ HasFileBelow f (directory_text parts name.now))) }
         ensures inner { Reads (tells self.old.inner) (tells self.new.inner) result }
+        ensures counted { IsReading (device self.old.inner) (device self.new.inner) (tells self.old.inner).moment (tells self.new.inner).moment result }
         ensures claim { SameClaim self.old self.new }
     {
         let made = self.inner.has_dir(name, parts);
@@ -133,6 +140,7 @@ impl Tree for SizedTree {
     fn start(&mut self, temp: &Name) -> Result<(), Failed>
         ensures starts { Starts (silent_tree self.old.faults) (silent_tree self.new.faults) temp.now result }
         ensures inner { Starts (tells self.old.inner) (tells self.new.inner) temp.now result }
+        ensures counted { IsDeviceCall (device self.old.inner) (device self.new.inner) (tells self.old.inner).moment (tells self.new.inner).moment result }
         ensures claim { SameClaim self.old self.new }
     {
         let made = self.inner.start(temp);
@@ -142,7 +150,8 @@ impl Tree for SizedTree {
     fn append(&mut self, temp: &Name, piece: &[u8]) -> Result<(), Failed>
         ensures appends { Appends (silent_tree self.old.faults) (silent_tree self.new.faults) temp.now piece.now result }
         ensures inner { IsThere (tells self.old.inner) temp.now → Appends (tells self.old.inner) (tells self.new.inner) temp.now piece.now result }
-        ensures missing { (IsThere (tells self.old.inner) temp.now → ⊥) → IsErr result }
+        ensures missing { (IsThere (tells self.old.inner) temp.now → ⊥) → IsRefused self.old self.new result }
+        ensures counted { IsThere (tells self.old.inner) temp.now → IsDeviceCall (device self.old.inner) (device self.new.inner) (tells self.old.inner).moment (tells self.new.inner).moment result }
         ensures claim { SameClaim self.old self.new }
     {
         if !has(&self.inner, temp) {
@@ -155,7 +164,8 @@ impl Tree for SizedTree {
     fn seal(&mut self, temp: &Name) -> Result<(), Failed>
         ensures seals { Seals (silent_tree self.old.faults) (silent_tree self.new.faults) temp.now result }
         ensures inner { IsThere (tells self.old.inner) temp.now → Seals (tells self.old.inner) (tells self.new.inner) temp.now result }
-        ensures missing { (IsThere (tells self.old.inner) temp.now → ⊥) → IsErr result }
+        ensures missing { (IsThere (tells self.old.inner) temp.now → ⊥) → IsRefused self.old self.new result }
+        ensures counted { IsThere (tells self.old.inner) temp.now → IsDeviceCall (device self.old.inner) (device self.new.inner) (tells self.old.inner).moment (tells self.new.inner).moment result }
         ensures claim { SameClaim self.old self.new }
     {
         if !has(&self.inner, temp) {
@@ -169,7 +179,8 @@ impl Tree for SizedTree {
         requires other { to.now ≢ temp.now }
         ensures swaps { Swaps (silent_tree self.old.faults) (silent_tree self.new.faults) temp.now to.now result }
         ensures inner { IsThere (tells self.old.inner) temp.now → Swaps (tells self.old.inner) (tells self.new.inner) temp.now to.now result }
-        ensures missing { (IsThere (tells self.old.inner) temp.now → ⊥) → IsErr result }
+        ensures missing { (IsThere (tells self.old.inner) temp.now → ⊥) → IsRefused self.old self.new result }
+        ensures counted { IsThere (tells self.old.inner) temp.now → IsDeviceCall (device self.old.inner) (device self.new.inner) (tells self.old.inner).moment (tells self.new.inner).moment result }
         ensures claim { SameClaim self.old self.new }
     {
         if !has(&self.inner, temp) {
@@ -182,7 +193,8 @@ impl Tree for SizedTree {
     fn drop_name(&mut self, name: &Name) -> Result<(), Failed>
         ensures drops { Drops (silent_tree self.old.faults) (silent_tree self.new.faults) name.now result }
         ensures inner { IsThere (tells self.old.inner) name.now → Drops (tells self.old.inner) (tells self.new.inner) name.now result }
-        ensures missing { (IsThere (tells self.old.inner) name.now → ⊥) → IsErr result }
+        ensures missing { (IsThere (tells self.old.inner) name.now → ⊥) → IsRefused self.old self.new result }
+        ensures counted { IsThere (tells self.old.inner) name.now → IsDeviceCall (device self.old.inner) (device self.new.inner) (tells self.old.inner).moment (tells self.new.inner).moment result }
         ensures claim { SameClaim self.old self.new }
     {
         if !has(&self.inner, name) {
@@ -195,6 +207,7 @@ impl Tree for SizedTree {
     fn fix_names(&mut self) -> Result<(), Failed>
         ensures fixes { Fixes (silent_tree self.old.faults) (silent_tree self.new.faults) result }
         ensures inner { Fixes (tells self.old.inner) (tells self.new.inner) result }
+        ensures counted { IsDeviceCall (device self.old.inner) (device self.new.inner) (tells self.old.inner).moment (tells self.new.inner).moment result }
         ensures claim { SameClaim self.old self.new }
     {
         let made = self.inner.fix_names();

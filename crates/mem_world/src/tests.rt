@@ -148,4 +148,7 @@ fn tells_nothing(rt: HostRuntime) {
         works: true,
     };
     assert!(rt; tree.size(&name) == Ok(None));
+    tree.works = false;
+    assert!(rt; tree.size(&name).is_err());
+    assert_eq!(rt; tree.faults, 1);
 }

@@ -1,2 +1,5 @@
 pub mod Pair
 pub mod Lending
+pub mod Block
+pub mod PageLending
+pub mod Halves

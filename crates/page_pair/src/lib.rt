@@ -9,15 +9,19 @@ ghost use Rattle.line_store.specs.declared.Half.TheVariants.{First, Second};
 ghost use Rattle.page_pair.specs.Pair.{Pair, IsPair, page_of, other_half};
 ghost use Rattle.page_pair.specs.Lending.{LendsPage, LendsOther};
 
+mod block;
+
+use block::{Page, Room, Title};
 use line_store::Half;
 use std::alloc::{AllocError, Global};
 use std::marker::Model;
 
-/// Two pages of one size. Their memory is freed with the pair.
-#[derive(Drop)]
+/// Two pages of one size, side by side in one block of memory that is freed with the pair.
 pub struct PagePair {
-    first: Vec<u8>,
-    second: Vec<u8>,
+    first: Page,
+    second: Page,
+    title: Title,
+    alloc: Global,
 }
 
 /// One page for reading, and the other for writing.
@@ -28,15 +32,29 @@ pub struct Pages<'a> {
 }
 
 impl Model for PagePair {
-    ghost use Rattle.std.specs.Prelude.{◌≡◌, vec_len};
+    ghost use Rattle.std.specs.Prelude.{◌≡◌};
     ghost use Rattle.line_store.specs.Taking.{IsSize};
     ghost use Rattle.page_pair.specs.Pair.{Pair};
+    ghost use Rattle.page_pair.specs.Halves.{AreHalves};
 
     ghost Value = { Pair };
 
-    ghost view = { λ p. record { size = vec_len p.first; first = p.first.items; second = p.second.items } };
+    ghost view = { λ p. record { size = p.first.count; first = p.first.bytes; second = p.second.bytes } };
 
-    ghost invariant = { λ p. IsSize (vec_len p.first) × (vec_len p.second ≡ vec_len p.first) };
+    ghost invariant = { λ p. IsSize p.first.count × AreHalves p.first p.second p.title p.alloc };
+}
+
+impl Drop for PagePair {
+    fn drop(self) {
+        let PagePair {
+            first,
+            second,
+            title,
+            alloc,
+        } = self;
+        let whole = first.as_slice().len() + second.as_slice().len();
+        title.give_back(&alloc, first, second, whole);
+    }
 }
 
 impl PagePair {
@@ -46,9 +64,16 @@ impl PagePair {
         ensures size { IfOk result (λ pair. pair.size ≡ size) }
         ensures zero { IfOk result (λ pair. (h : Half) → page_of pair h ≡ replicate size 0) }
     {
-        let first = Vec::from_elem(alloc, 0, size)?;
-        let second = Vec::from_elem(alloc, 0, size)?;
-        Ok(PagePair { first, second })
+        let (block, title) = Room::take(&alloc, 2 * size)?;
+        let (first, second) = block.cut(size);
+        let first = first.zeroed();
+        let second = second.zeroed();
+        Ok(PagePair {
+            first,
+            second,
+            title,
+            alloc,
+        })
     }
 
     /// The size of each page in bytes.
@@ -56,7 +81,7 @@ impl PagePair {
         ensures size { result ≡ self.now.size }
         ensures pair { IsPair self.now }
     {
-        self.first.len()
+        self.first.as_slice().len()
     }
 
     /// The bytes of a page.
@@ -65,8 +90,8 @@ impl PagePair {
         ensures pair { IsPair self.now }
     {
         match half {
-            Half::First => &self.first,
-            Half::Second => &self.second,
+            Half::First => self.first.as_slice(),
+            Half::Second => self.second.as_slice(),
         }
     }
 

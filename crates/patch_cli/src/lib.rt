@@ -6,6 +6,8 @@ mod gathered;
 mod opening;
 mod patched;
 mod plain;
+#[cfg(test)]
+mod plans_tests;
 mod report;
 #[cfg(test)]
 mod tests;

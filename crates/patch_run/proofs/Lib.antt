@@ -1,8 +1,16 @@
-pub mod EffectLists
-pub mod Folding
-pub mod Marks
-pub mod Ready
-pub mod Going
-pub mod RunEnds
-pub mod Applying
-pub mod Turning
+mod EffectLists
+mod Making
+mod Writing
+mod Runs
+mod Deciding
+mod StartSteps
+mod StartTaken
+mod Filling
+mod PastMarks
+mod Folding
+mod Marks
+mod Ready
+mod Going
+mod RunEnds
+mod Applying
+mod Turning

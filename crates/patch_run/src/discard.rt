@@ -10,8 +10,6 @@ use outside::{Failed, Sink};
 pub struct Discard {}
 
 impl Sink for Discard {
-    ghost use Rattle.std.specs.Prelude.{tt};
-
     ghost view = { λ _. record { told = None; faults = 0 } };
 
     ghost same_rest = { λ _ _. Unit {0} };

@@ -1,12 +1,17 @@
 //! The effects of a file patch whose hunks were tried.
 
-ghost use Rattle.std.specs.Prelude.{◌≡◌, ◌≢◌, ◌≤◌, ◌+◌, ◌&&◌, ◌||◌, ◌∷◌, [], ℕ, List, true, false, not, length, is_some, if◌then◌else◌, Some, IfOk, OnOk};
+ghost use Rattle.std.specs.Prelude.{◌≡◌, ◌≢◌, ◌≤◌, ◌++◌, ◌||◌, ◌+◌, ◌&&◌, if◌then◌else◌, [], ◌∷◌, ℕ, List, true, false, not, length, count_by, is_some, is_none, Some, IfOk, OnOk};
+ghost use Rattle.std.specs.List.{list_any};
 ghost use Rattle.std.specs.FinMap.{get};
 ghost use Rattle.outside.specs.Files.{Files};
 ghost use Rattle.outside.specs.Calls.{IsThere};
 ghost use Rattle.outside.specs.Quiet.{IsQuiet, Effect, Holds};
+ghost use Rattle.hunk_core.specs.declared.Verdict.{Verdict};
+ghost use Rattle.hunk_apply.specs.Session.{is_failed, is_inexact};
+ghost use Rattle.hunk_apply.specs.Written.{is_nothing};
+ghost use Rattle.reject_text.specs.Rejects.{AreHunks};
 ghost use Rattle.file_patch.specs.PlainPatch.{row_count};
-ghost use Rattle.patch_run.specs.OnePatch.{Tried, is_backup_due, is_removal, backup_effects, target_effects, written_effects, reject_effects, effects_of, wrote, has_rejects, was_written};
+ghost use Rattle.patch_run.specs.OnePatch.{Tried, is_backup_due, is_removal, backup_effects, target_effects, written_effects, effects_of, wrote, has_rejects, some_placed};
 ghost use Rattle.patch_run.specs.Trying.{IsSession};
 ghost use Rattle.patch_run.specs.Making.{Makes, GoesQuietly, KeepsAt, IsGone};
 ghost use Rattle.patch_run.specs.Ready.{IsNamed};
@@ -20,6 +25,7 @@ use crate::turn::Turn;
 use hunk_apply::Session;
 use hunk_core::{Side, Verdict};
 use outside::Tree;
+use patch_options::Options;
 use replace_file::{Temp, copy_backup, put_begun, remove_name};
 use target_names::Target;
 
@@ -60,11 +66,20 @@ pub fn make_effects<T: Tree>(
     ensures few { IfOk result (λ made. made.effects ≤ 3) }
 {
     let made = write_target(turn, target, side, session, temp, tree)?;
-    let rejected = session.failed > 0 && !is_script(&turn.patch.change);
+    let rejected = is_rejected(turn, session);
     put_rejects(turn, target, side, verdicts, rejected, tree)?;
     Ok(with_reject(made, rejected))
 }
 
+/// Whether hunks were rejected.
+fn is_rejected(turn: &Turn<'_>, session: &Session) -> bool
+    ensures rejected { (vs : List Verdict) → session.now.failed ≡ count_by is_failed vs → result ≡ has_rejects (plain_turn turn.now) vs }
+    ensures hunks { result ≡ true → AreHunks turn.now.patch.now.change }
+{
+    session.failed > 0 && !is_script(&turn.patch.change)
+}
+
+/// What was done, with a reject file, if there is one.
 fn with_reject(made: Made, rejected: bool) -> Made
     requires { made.effects ≤ 2 }
     ensures wrote { result.wrote ≡ made.wrote }
@@ -108,23 +123,65 @@ fn write_target<T: Tree>(
         });
     }
     let due = is_backup_due(turn, target, session);
+    let removal = is_removal(turn, side, session);
+    write_placed(target, due, removal, temp, tree)
+}
+
+/// Backs the target up, where that is due, and puts it or takes it away.
+fn write_placed<T: Tree>(
+    target: &Target,
+    due: bool,
+    removal: bool,
+    temp: Temp<'_>,
+    tree: &mut T,
+) -> Result<Made, RunFault>
+    requires named { IsNamed target.now }
+    requires temp { temp.name.now ≡ target.now.temp }
+    requires apart { due ≡ true → target.now.backup ≢ target.now.name }
+    requires quiet { IsQuiet (T.view tree.old) }
+    requires there { IsThere (T.view tree.old) target.now.temp }
+    ensures goes { GoesQuietly (T.view tree.old) (T.view tree.new) result }
+    ensures makes { (output : List ℕ) → Holds (T.view tree.old) target.now.temp output
+        → Makes (T.view tree.old) (T.view tree.new) result target.now.temp (λ f. backup_effects due f target.now ++ target_effects removal f target.now output) }
+    ensures gone { OnOk result (IsGone (T.view tree.new) target.now.temp) }
+    ensures wrote { IfOk result (λ made. (f : Files) → (T.view tree.old).told ≡ Some f → made.wrote ≡ (not removal || is_some (get f target.now.name))) }
+    ensures count { IfOk result (λ made. (f : Files) (output : List ℕ) → (T.view tree.old).told ≡ Some f
+        → made.effects ≡ length (backup_effects due f target.now ++ target_effects removal f target.now output)) }
+    ensures few { IfOk result (λ made. made.effects ≤ 2) }
+{
     put_backup(target, due, tree)?;
-    let wrote = put_target(temp, target, is_removal(turn, side, session), tree)?;
-    Ok(Made {
+    let wrote = put_target(temp, target, removal, tree)?;
+    Ok(with_backup(due, wrote))
+}
+
+/// A backup, if it was due, and what was done to the target.
+fn with_backup(due: bool, wrote: bool) -> Made
+    ensures wrote { result.wrote ≡ wrote }
+    ensures effects { result.effects ≡ (if due then 1 else 0) + (if wrote then 1 else 0) }
+{
+    Made {
         wrote,
         effects: u64::from(due) + u64::from(wrote),
-    })
+    }
 }
 
 /// Whether a backup is due.
 fn is_backup_due(turn: &Turn<'_>, target: &Target, session: &Session) -> bool
     requires turn { IsTurn turn.now }
-    ensures { (vs : List Verdict) → session.now.inexact ≡ list_any is_inexact vs → result ≡ is_backup_due (plain_turn turn.now) target.now vs }
+    ensures due { (vs : List Verdict) → session.now.inexact ≡ list_any is_inexact vs → result ≡ is_backup_due (plain_turn turn.now) target.now vs }
+    ensures apart { result ≡ true → target.now.backup ≢ target.now.name }
 {
-    let options = turn.options;
-    let is_asked = options.backup
-        || (options.mismatch_backup && options.output.is_none() && session.inexact);
-    is_asked && !is_same(&target.backup, &target.name) && !was_written(turn, &target.name)
+    if was_written(turn, &target.name) || is_same(&target.backup, &target.name) {
+        return false;
+    }
+    is_backup_asked(turn.options, session)
+}
+
+/// Whether the options ask for a backup of the target.
+fn is_backup_asked(options: &Options, session: &Session) -> bool
+    ensures { result ≡ (options.now.backup || (options.now.mismatch_backup && is_none options.now.output && session.now.inexact)) }
+{
+    options.backup || (options.mismatch_backup && options.output.is_none() && session.inexact)
 }
 
 /// Whether an output without a byte takes the target away.

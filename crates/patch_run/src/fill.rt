@@ -1,6 +1,6 @@
 //! The hunks of a file patch, tried on the lines that were taken.
 
-ghost use Rattle.std.specs.Prelude.{◌≡◌, [], ℕ, List, All, true, false, length, Some, IfOk, OnOk, IfErr};
+ghost use Rattle.std.specs.Prelude.{◌≡◌, [], ℕ, List, All, true, false, length, Some, IfOk, OnOk, IfErr, IsSomeAnd};
 ghost use Rattle.outside.specs.Files.{is_temp};
 ghost use Rattle.outside.specs.TreeView.{IsRun};
 ghost use Rattle.outside.specs.Calls.{IsThere};
@@ -11,7 +11,7 @@ ghost use Rattle.outside.specs.SinkView.{SinkPasses, Receives};
 ghost use Rattle.hunk_apply.specs.Faults.{HasApplyCause};
 ghost use Rattle.hunk_apply.specs.Session.{IsTried};
 ghost use Rattle.patch_run.specs.OnePatch.{tried};
-ghost use Rattle.patch_run.specs.Trying.{IsSession, HasTryCause, HasLineCause, filling_fault};
+ghost use Rattle.patch_run.specs.Trying.{IsSession, IsBegun, HasTryCause, HasLineCause, filling_fault};
 ghost use Rattle.patch_run.specs.TurnView.{plain_turn, IsTurn};
 
 use crate::discard::Discard;
@@ -179,12 +179,16 @@ fn fill_begun<'n, P: LineStore, T: Tree>(
     ensures rows { length verdicts.new ≡ length verdicts.old }
 {
     let mut sink = TempSink::new(tree, begun);
-    match try_into(turn, side, verdicts, plan, &mut sink) {
-        Ok(session) => Ok(Attempt {
+    let session = match try_into(turn, side, verdicts, plan, &mut sink) {
+        Ok(session) => session,
+        Err(fault) => return Err(filling_fault(fault)),
+    };
+    match sink.finish() {
+        Ok(()) => Ok(Attempt {
             session,
             temp: Some(sink.into_temp()),
         }),
-        Err(fault) => Err(filling_fault(fault)),
+        Err(_) => Err(RunFault::Tree),
     }
 }
 

@@ -1,10 +1,10 @@
 //! What the file patches before one did.
 
-ghost use Rattle.std.specs.Prelude.{◌≡◌, ◌<◌, ◌≤◌, ◌+◌, length, slice_index_or, bytes_eq};
+ghost use Rattle.std.specs.Prelude.{◌≡◌, ◌<◌, ◌≤◌, ◌+◌, ◌^◌, length, slice_index_or, bytes_eq};
 ghost use Rattle.std.specs.Option.{ForSome, option_copied};
 ghost use Rattle.file_patch.specs.PlainPatch.{row_count};
 ghost use Rattle.patch_run.specs.OnePatch.{Mark, mark_of, is_name, was_written, written_by};
-ghost use Rattle.patch_run.specs.Ready.{IsFit, IsNamed, alone};
+ghost use Rattle.patch_run.specs.Ready.{IsFit, IsNamed, alone, rows_in};
 ghost use Rattle.patch_run.specs.TurnView.{plain_turn, IsTurn};
 
 use crate::turn::Turn;
@@ -31,12 +31,31 @@ pub fn earlier_patch<'a>(turn: &Turn<'a>, k: u32) -> Earlier<'a>
     ensures rows { length result.verdicts.now ≡ row_count result.patch.now.change }
 {
     let patch = &turn.set.patches()[k as usize];
-    let first = patch.first_verdict as usize;
     Earlier {
         patch,
         row: turn.set.row(k),
-        verdicts: &turn.verdicts[first..first + patch.hunks() as usize],
+        verdicts: rows_in(turn.verdicts, patch),
     }
+}
+
+/// The verdicts on the hunks of a file patch.
+fn rows_in<'a>(verdicts: &'a [Verdict], patch: &FilePatch) -> &'a [Verdict]
+    requires few { row_count patch.now.change < 2 ^ 32 }
+    requires within { patch.now.first_verdict + row_count patch.now.change ≤ length verdicts.now }
+    ensures rows { result.now ≡ rows_in verdicts.now patch.now }
+    ensures count { length result.now ≡ row_count patch.now.change }
+{
+    let first = patch.first_verdict as usize;
+    let end = first + row_count(patch);
+    &verdicts[first..end]
+}
+
+/// How many verdicts a file patch has.
+fn row_count(patch: &FilePatch) -> usize
+    requires { row_count patch.now.change < 2 ^ 32 }
+    ensures { result ≡ row_count patch.now.change }
+{
+    patch.hunks() as usize
 }
 
 /// The target that it wrote, if it chose one.
@@ -66,6 +85,7 @@ pub fn was_written(turn: &Turn<'_>, name: &Name) -> bool
     false
 }
 
+#[tactic(auto, unfolding(crate::specs::OnePatch::mark_of))]
 fn has_written(turn: &Turn<'_>, earlier: &Earlier<'_>, name: &Name) -> bool
     requires turn { IsTurn turn.now }
     requires fit { IsFit turn.now.set.now.text earlier.now.patch.now }
@@ -75,7 +95,7 @@ fn has_written(turn: &Turn<'_>, earlier: &Earlier<'_>, name: &Name) -> bool
         return false;
     }
     match written_by(turn, earlier) {
-        Some(target) => is_same(&target.name, name),
+        Some(target) => is_same(name, &target.name),
         None => false,
     }
 }

@@ -96,10 +96,8 @@ fn fill_rejects<'n, T: Tree>(
     ensures holds { OnOk result (Holds (T.view tree.new) begun.entry.name.now (rejects_text (plain_turn turn.now) target.now side verdicts.now)) }
 {
     let mut sink = TempSink::new(tree, begun);
-    match put_texts(turn, target, side, verdicts, &mut sink) {
-        Ok(()) => Ok(sink.into_temp()),
-        Err(failed) => Err(failed),
-    }
+    put_texts(turn, target, side, verdicts, &mut sink)?;
+    Ok(sink.into_temp())
 }
 
 /// Writes the reject texts so far of the target's reject file, and its own.

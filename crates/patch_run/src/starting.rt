@@ -1,17 +1,17 @@
 //! How a file patch is taken: whether its hunks are tried, and from which side.
 
 ghost use Rattle.std.specs.Prelude.{◌≡◌, ◌<◌, ◌&&◌, ℕ, length, is_some, false, Some, None, IfOk, IfErr, OnErr};
+ghost use Rattle.std.specs.FinMap.{get};
 ghost use Rattle.outside.specs.Files.{Files};
 ghost use Rattle.outside.specs.TreeView.{Rises};
 ghost use Rattle.outside.specs.Calls.{IsUntouched};
 ghost use Rattle.outside.specs.SinkView.{Writes};
 ghost use Rattle.file_patch.specs.Absent.{creates};
 ghost use Rattle.name_choice.specs.Choice.{IsWithin as IsAmong, side_of};
-ghost use Rattle.hunk_core.specs.Turned.{other_side};
-ghost use Rattle.patch_set.specs.declared.set.Row.{Row as TheRow};
-ghost use Rattle.patch_run.specs.declared.fault.RunFault.TheVariants.{Write, Tree as TreeFailed};
-ghost use Rattle.patch_run.specs.OnePatch.{bytes_of, has_bytes, start, choice_of, on_target, on_creation, on_taking, turns, exists_said, said_first, skips_at};
-ghost use Rattle.patch_run.specs.Starting.{Starts, Takes, IsWithin};
+ghost use Rattle.say_text.specs.Messages.{no_file_lines};
+ghost use Rattle.patch_run.specs.declared.fault.RunFault.TheVariants.{Write};
+ghost use Rattle.patch_run.specs.OnePatch.{bytes_of, has_bytes, start, choice_of, on_target, on_creation, on_existing, on_taking};
+ghost use Rattle.patch_run.specs.Starting.{Starts, Takes, IsPresent, IsWithin};
 ghost use Rattle.patch_run.specs.TurnView.{plain_turn, IsTurn};
 
 use crate::choices::turns;
@@ -74,7 +74,6 @@ fn choose_target<T: Tree>(turn: &Turn<'_>, tree: &mut T) -> Result<Choice, Faile
 
 /// The file patch is skipped, since no file is found for it.
 fn without_target<O: Sink>(turn: &Turn<'_>, out: &mut O) -> Result<Decision, RunFault>
-    requires turn { IsTurn turn.now }
     ensures writes { Writes (O.view out.old) (O.view out.new) result (no_file_lines turn.now.patch.now.header.opening) }
     ensures fault { IfErr result (λ e. e ≡ Write) }
     ensures rest { O.same_rest out.old out.new }
@@ -90,7 +89,6 @@ fn without_target<O: Sink>(turn: &Turn<'_>, out: &mut O) -> Result<Decision, Run
 
 /// The side that the options ask for.
 fn own_side(turn: &Turn<'_>) -> Side
-    requires turn { IsTurn turn.now }
     ensures { result ≡ side_of turn.now.options.now.reverse }
 {
     if turn.options.reverse {

@@ -1,7 +1,9 @@
 //! Whether a file patch suits the lines that were taken.
 
-ghost use Rattle.std.specs.Prelude.{◌≡◌, ◌<◌, ℕ, List, length, Option, Some, IfOk, IfErr};
-ghost use Rattle.std.specs.Option.{option_copied};
+ghost use Rattle.std.specs.Prelude.{◌≡◌, ◌<◌, [], ℕ, List, length, Option, Some, IfOk, IfErr, option_map, unwrap_or};
+ghost use Rattle.std.specs.Option.{ForSome, option_copied};
+ghost use Rattle.hunk_core.specs.PlainHunk.{hunk_of};
+ghost use Rattle.hunk_core.specs.Turned.{IsLawful};
 ghost use Rattle.line_store.specs.Store.{Keeps, HasCause};
 ghost use Rattle.patch_run.specs.OnePatch.{first_hunk, is_reversed, lacks_word, on_direction, on_prereq};
 ghost use Rattle.patch_run.specs.Starting.{Holds, Weighs, IsWithin};

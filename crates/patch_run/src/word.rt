@@ -1,10 +1,9 @@
 //! Whether a word stands in a file between white space.
 
-ghost use Rattle.std.specs.Prelude.{◌≡◌, ℕ, List, Some, IfOk, IfErr, bytes_eq};
-ghost use Rattle.std.specs.List.{list_any, slice_split};
-ghost use Rattle.line_store.specs.Store.{Keeps, HasCause};
+ghost use Rattle.std.specs.Prelude.{◌≡◌, ◌≤◌, ℕ, List, Some, IfOk, IfErr};
+ghost use Rattle.line_store.specs.Store.{Keeps, HasCause, line_at};
 ghost use Rattle.patch_header.specs.Values.{is_white};
-ghost use Rattle.patch_run.specs.OnePatch.{has_word};
+ghost use Rattle.patch_run.specs.OnePatch.{has_word, line_has_word};
 
 use line_store::{Half, LineFault, LineStore};
 

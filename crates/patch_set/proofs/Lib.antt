@@ -5,3 +5,4 @@ pub mod Found
 pub mod Made
 pub mod Completing
 pub mod InTurn
+pub mod Verdicts

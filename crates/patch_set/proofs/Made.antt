@@ -71,15 +71,17 @@ made-set o text ps qs output v same patches out have none at =
 -- what the file patches keep
 pub record AreKept (text : List ℕ) (qs : List FilePatch) : Type 0 where
   pub lawful : All (IsLawfulPatch text) qs
+  pub placed : ArePlaced text 0 0 qs
   pub count : length qs < 2 ^ 32
   pub hunks : hunks_in qs < 2 ^ 32
 
 pub kept : (o : PlainOptions) (text : List ℕ) (ps qs : List FilePatch) (output : Option Target) → HaveTargets o text ps qs output
-    → All (IsLawfulPatch text) ps → length ps < 2 ^ 32 → hunks_in ps < 2 ^ 32 → AreKept text qs
-kept o text ps qs output have lawful count hunks =
+    → All (IsLawfulPatch text) ps → ArePlaced text 0 0 ps → length ps < 2 ^ 32 → hunks_in ps < 2 ^ 32 → AreKept text qs
+kept o text ps qs output have lawful at count hunks =
     let known = known_names o (map (patch_of text) ps) in
     record {
       lawful = named-lawful o text known ps qs have.are lawful;
+      placed = named-placed o text known 0 0 ps qs have.are at;
       count = omega (arith, named-count o text known ps qs have.are);
       hunks = omega (arith, named-hunks o text known ps qs have.are);
     }

@@ -1,5 +1,5 @@
 -- What a set of file patches is seen as, and what one that was read is.
-use Rattle.std.specs.Prelude.{◌≡◌, ℕ, ◌<◌, ◌^◌, List, length, map, replicate, set, sum_by, All, false, Option, None, Result, Ok, Err, ◌⊎◌}
+use Rattle.std.specs.Prelude.{◌≡◌, ℕ, ◌<◌, ◌^◌, List, length, map, take, drop, replicate, set, slice_get, sum_by, All, false, Option, None, Result, Ok, Err, ◌⊎◌}
 use Rattle.std.specs.Option.{ForSome}
 use Rattle.line_list.specs.Completed.{completed}
 use Rattle.hunk_core.specs.declared.Side.TheVariants.{Forward}
@@ -36,9 +36,22 @@ hunks_in ps = sum_by (λ p. row_count p.change) ps
 abbrev pub plain_patches : SetView → List PlainPatch
 plain_patches v = map (patch_of v.text) v.patches
 
--- what never changes: lawful file patches that can be counted with their hunks, and a row for each
+-- a file patch, counted from 0
+abbrev pub patch_at : SetView → ℕ → Option FilePatch
+patch_at v patch = slice_get v.patches patch
+
+-- the verdicts aren't taken
+abbrev pub HasVerdicts : SetView → Type 0
+HasVerdicts v = length v.verdicts ≡ hunks_in v.patches
+
+-- those on the hunks of a file patch
+abbrev pub verdicts_in : SetView → FilePatch → List Verdict
+verdicts_in v p = take (row_count p.change) (drop p.first_verdict v.verdicts)
+
+-- what never changes: lawful file patches that lie one behind the other and can be counted with their hunks, and a row for each
 pub record IsWhole (v : SetView) : Type 0 where
   pub lawful : All (IsLawfulPatch v.text) v.patches
+  pub placed : ArePlaced v.text 0 0 v.patches
   pub count : length v.patches < 2 ^ 32
   pub hunks : hunks_in v.patches < 2 ^ 32
   pub rows : length v.rows ≡ length v.patches

@@ -17,4 +17,6 @@ pub use set::{PatchSet, Row};
 pub use target_names::Target;
 
 #[cfg(test)]
+mod forms_tests;
+#[cfg(test)]
 mod tests;

@@ -2,6 +2,7 @@
 ghost use Rattle.std.specs.Prelude.{◌≡◌, ◌<◌, ◌^◌, [], IfOk, All, length, slice_index_or};
 ghost use Rattle.std.specs.Option.{option_copied};
 ghost use Rattle.file_patch.specs.Absent.{IsLawfulPatch};
+ghost use Rattle.patch_set.specs.Spans.{ArePlaced};
 ghost use Rattle.patch_set.specs.SetView.{IsFresh, IsWhole, hunks_in, with_row, with_verdicts};
 
 use crate::names::Named;
@@ -110,6 +111,7 @@ impl PatchSet {
 /// The set of these file patches, of which nothing was tried yet.
 pub fn untried(alloc: Global, text: Vec<u8>, named: Named) -> Result<PatchSet, AllocError>
     requires lawful { All (IsLawfulPatch text.items) named.patches.items }
+    requires placed { ArePlaced text.items 0 0 named.patches.items }
     requires count { length named.patches.items < 2 ^ 32 }
     requires hunks { hunks_in named.patches.items < 2 ^ 32 }
     ensures text { IfOk result (λ set. set.text ≡ text.items) }

@@ -137,14 +137,14 @@ fn options(alloc: Global, words: &[&str]) -> Result<Options, Fail>
     }
 }
 
-fn read(alloc: Global, words: &[&str], text: &[u8]) -> Result<Result<PatchSet, SetFault>, Fail>
+pub fn read(alloc: Global, words: &[&str], text: &[u8]) -> Result<Result<PatchSet, SetFault>, Fail>
     ensures { IfOk result (λ set. IfOk set IsFresh) }
 {
     let options = options(alloc, words)?;
     Ok(read_set(alloc, Vec::from_slice(alloc, text)?, &options))
 }
 
-fn set(alloc: Global, words: &[&str], text: &[u8]) -> Result<PatchSet, Fail>
+pub fn set(alloc: Global, words: &[&str], text: &[u8]) -> Result<PatchSet, Fail>
     ensures { IfOk result IsFresh }
 {
     match read(alloc, words, text)? {

@@ -4,9 +4,11 @@
 mod header;
 mod moving;
 mod rejects;
+mod set;
 
 pub use moving::{nets_in_words, placed_growth};
 pub use rejects::put_reject;
+pub use set::put_rejects;
 
 #[cfg(test)]
 mod tests;

@@ -1,7 +1,10 @@
-//! Reject texts as they are written, of patches in the unified form whose last hunk alone has no place.
+//! Reject texts as they are written, of patches in the unified form.
 
-ghost use Rattle.std.specs.Prelude.{◌≡◌};
+ghost use Rattle.std.specs.Prelude.{◌≡◌, ◌<◌, true, length, IfOk};
+ghost use Rattle.std.specs.Option.{ForSome};
+ghost use Rattle.patch_set.specs.SetView.{HasVerdicts, IsFresh, patch_at};
 ghost use Rattle.reject_text.specs.Headers.{IsRejectForm};
+ghost use Rattle.reject_text.specs.Rejects.{AreHunks};
 
 use super::*;
 use file_patch::{Change, FilePatch};
@@ -9,8 +12,11 @@ use hunk_core::{Form, Hunk, Side, Verdict};
 use line_list::Span;
 use mem_world::MemSink;
 use patch_header::Header;
+use patch_options::{Job, read_words};
+use patch_set::{PatchSet, read_set};
 use stamp::Stamp;
 use std::alloc::Global;
+use std::test::Fail;
 use unified_form::{at_opening, read_hunks};
 
 fn patch(alloc: Global, hunks: Vec<Hunk>) -> FilePatch
@@ -129,4 +135,68 @@ fn starts_beyond_their_range(rt: HostRuntime) {
     assert!(rt; is_written(rt.alloc(), LOW, Side::Forward, "f", Form::Unified, want));
     let want = "--- f\n+++ f\n@@ -4294967293,2 +4294967294 @@\n-y\n z\n";
     assert!(rt; is_written(rt.alloc(), HIGH, Side::Forward, "f", Form::Unified, want));
+}
+
+/// Two files. The second hunk of the other one stands a line further down.
+const FILES: &[u8] = b"--- f
++++ f
+@@ -1 +1 @@
+-a
++b
+--- g
++++ g
+@@ -1 +1,2 @@
+ a
++b
+@@ -3 +4 @@
+-c
++d
+";
+
+fn set(alloc: Global) -> Result<PatchSet, Fail>
+    ensures { IfOk result IsFresh }
+{
+    let words = vec![in alloc; String::from_str(alloc, "patch")?]?;
+    let options = match read_words(alloc, &words) {
+        Ok(Job::Patch(options)) => options,
+        Err(_) => Err("a command")?,
+    };
+    match read_set(alloc, Vec::from_slice(alloc, FILES)?, &options) {
+        Ok(set) => Ok(set),
+        Err(_) => Err("a set")?,
+    }
+}
+
+fn has_hunks(set: &PatchSet, patch: u32) -> bool
+    ensures { result ≡ true → (patch < length set.now.patches) × ForSome (patch_at set.now patch) (λ p. AreHunks p.change) }
+{
+    match set.patches().get(patch as usize) {
+        Some(patch) => matches!(&patch.change, Change::Hunks(_)),
+        None => false,
+    }
+}
+
+fn is_put(alloc: Global, set: &PatchSet, patch: u32, want: &str) -> bool
+    requires { HasVerdicts set.now }
+{
+    let mut sink = MemSink::new(alloc, Vec::new(alloc));
+    has_hunks(set, patch)
+        && put_rejects(set, patch, Side::Forward, "g", Form::Unified, &mut sink).is_ok()
+        && sink.bytes() == want.as_bytes()
+}
+
+#[test]
+fn of_a_set(rt: HostRuntime) -> Result<(), Fail> {
+    let mut set = set(rt.alloc())?;
+    let mut verdicts = set.take_verdicts();
+    assert!(rt; verdicts.len() == 3);
+    verdicts[0] = Verdict::Nowhere;
+    verdicts[1] = PLACED;
+    verdicts[2] = Verdict::Nowhere;
+    set.give_verdicts(verdicts);
+    let want = "--- g\n+++ g\n@@ -4 +5 @@\n-c\n+d\n";
+    assert!(rt; is_put(rt.alloc(), &set, 1, want));
+    let want = "--- g\n+++ g\n@@ -1 +1 @@\n-a\n+b\n";
+    assert!(rt; is_put(rt.alloc(), &set, 0, want));
+    Ok(())
 }

@@ -42,6 +42,18 @@ impl<'a, 'n, T: Tree> TempSink<'a, 'n, T> {
         }
     }
 
+    /// Makes the temporary anew where the last write has failed, so that it is there.
+    pub fn finish(&mut self) -> Result<(), Failed>
+        ensures run { IsRun (T.view self.old.tree.now) (T.view self.new.tree.now) result }
+        ensures rest { (self.new.tree.ghost_name ≡ self.old.tree.ghost_name) × (self.new.temp.name.now ≡ self.old.temp.name.now) × SameAround (T.view self.old.tree.now) (T.view self.new.tree.now) self.old.temp.name.now }
+        ensures there { OnOk result (IsThere (T.view self.new.tree.now) self.old.temp.name.now) }
+        ensures told { OnOk result ((sink_view (T.view self.new.tree.now) self.old.temp.name.now self.new.silent).told ≡ (sink_view (T.view self.old.tree.now) self.old.temp.name.now self.old.silent).told) }
+    {
+        mend(self.tree, &self.temp, self.broken)?;
+        self.broken = false;
+        Ok(())
+    }
+
     /// The temporary, with what the sink received.
     pub fn into_temp(self) -> Temp<'n>
         ensures name { result.name.now ≡ self.entry.temp.name.now }

@@ -102,6 +102,7 @@ fn a_write_after_a_failed_one_begins_anew(rt: HostRuntime) -> Result<(), Fail> {
     assert!(rt; sink.write(b"two").is_err());
     put_all(&mut sink, b"three")?;
     put_all(&mut sink, b"four")?;
+    sink.finish()?;
     let _temp = sink.into_temp();
     assert_eq!(rt;
         tree.bytes_of(&temp).ok_or("no temporary")?,

@@ -6,17 +6,22 @@ use Rattle.patch_set.proofs.reading.named_set.Goals as goal
 pub untried-requires-clause-lawful : goal.untried-requires-clause-lawful
 untried-requires-clause-lawful c = (kept (plain_options c.args.options.now) c.args.text.items c.args.patches.items c.in_ok-named.named.patches.items c.in_ok-named.named.output
     (have-targets (plain_options c.args.options.now) c.args.text.items c.deref.result.now c.args.patches.items c.in_ok-named.named.patches.items c.in_ok-named.named.output
-    c.deref.ensures.value c.in_ok-named.ensures.patches c.in_ok-named.ensures.output c.in_ok-named.ensures.temps) c.requires.lawful c.requires.count c.requires.hunks).lawful
+    c.deref.ensures.value c.in_ok-named.ensures.patches c.in_ok-named.ensures.output c.in_ok-named.ensures.temps) c.requires.lawful c.requires.spans c.requires.count c.requires.hunks).lawful
+
+pub untried-requires-clause-placed : goal.untried-requires-clause-placed
+untried-requires-clause-placed c = (kept (plain_options c.args.options.now) c.args.text.items c.args.patches.items c.in_ok-named.named.patches.items c.in_ok-named.named.output
+    (have-targets (plain_options c.args.options.now) c.args.text.items c.deref.result.now c.args.patches.items c.in_ok-named.named.patches.items c.in_ok-named.named.output
+    c.deref.ensures.value c.in_ok-named.ensures.patches c.in_ok-named.ensures.output c.in_ok-named.ensures.temps) c.requires.lawful c.requires.spans c.requires.count c.requires.hunks).placed
 
 pub untried-requires-clause-count : goal.untried-requires-clause-count
 untried-requires-clause-count c = (kept (plain_options c.args.options.now) c.args.text.items c.args.patches.items c.in_ok-named.named.patches.items c.in_ok-named.named.output
     (have-targets (plain_options c.args.options.now) c.args.text.items c.deref.result.now c.args.patches.items c.in_ok-named.named.patches.items c.in_ok-named.named.output
-    c.deref.ensures.value c.in_ok-named.ensures.patches c.in_ok-named.ensures.output c.in_ok-named.ensures.temps) c.requires.lawful c.requires.count c.requires.hunks).count
+    c.deref.ensures.value c.in_ok-named.ensures.patches c.in_ok-named.ensures.output c.in_ok-named.ensures.temps) c.requires.lawful c.requires.spans c.requires.count c.requires.hunks).count
 
 pub untried-requires-clause-hunks : goal.untried-requires-clause-hunks
 untried-requires-clause-hunks c = (kept (plain_options c.args.options.now) c.args.text.items c.args.patches.items c.in_ok-named.named.patches.items c.in_ok-named.named.output
     (have-targets (plain_options c.args.options.now) c.args.text.items c.deref.result.now c.args.patches.items c.in_ok-named.named.patches.items c.in_ok-named.named.output
-    c.deref.ensures.value c.in_ok-named.ensures.patches c.in_ok-named.ensures.output c.in_ok-named.ensures.temps) c.requires.lawful c.requires.count c.requires.hunks).hunks
+    c.deref.ensures.value c.in_ok-named.ensures.patches c.in_ok-named.ensures.output c.in_ok-named.ensures.temps) c.requires.lawful c.requires.spans c.requires.count c.requires.hunks).hunks
 
 pub returns-in-Some-clause-refused : goal.returns-in-Some-clause-refused
 returns-in-Some-clause-refused c = inr (told-reserved (plain_options c.args.options.now) c.args.text.items c.args.patches.items c.in_ok-named.named.patches.items c.in_ok-named.named.output (Some c.in-Some.line)

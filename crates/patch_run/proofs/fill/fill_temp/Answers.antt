@@ -1,0 +1,16 @@
+use Rattle.std.proofs.Common.{[], refl, subst, sym}
+use Rattle.outside.specs.Quiet.{WorksOn, Holds}
+use Rattle.outside.proofs.Quiet.{holds_put, works_both}
+use Rattle.patch_run.proofs.fill.fill_temp.Goals as goal
+
+pub fill_begun-requires-clause-empty : goal.fill_begun-requires-clause-empty
+fill_begun-requires-clause-empty g c =
+    let view = g.T.Tree.view in
+    subst (λ n. Holds (view c.begin_temp.new.tree) n []) (sym c.in-Ok.ensures.name)
+    (holds_put (view c.args.tree.now) (view c.begin_temp.new.tree) c.args.temp.now [] (λ f. []) c.begin_temp.ensures.run.passes c.in-Ok.ensures.ok (λ f told. refl))
+
+pub returns-clause-works : goal.returns-clause-works
+returns-clause-works g c =
+    let view = g.T.Tree.view in
+    works_both (view c.args.tree.now) (view c.begin_temp.new.tree) (view c.fill_begun.new.tree) c.args.temp.now c.requires.temp (c.begin_temp.ensures.works c.requires.quiet)
+    (subst (λ n. WorksOn (view c.begin_temp.new.tree) (view c.fill_begun.new.tree) n) c.in-Ok.ensures.name c.fill_begun.ensures.works)
