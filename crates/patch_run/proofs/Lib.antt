@@ -13,3 +13,5 @@ mod Ready
 mod Going
 mod RunEnds
 mod Applying
+mod Rejecting
+mod OnePut
