@@ -14,4 +14,3 @@ mod Going
 mod RunEnds
 mod Applying
 mod Rejecting
-mod OnePut

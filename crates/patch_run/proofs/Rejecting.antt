@@ -2,18 +2,19 @@
 use Rattle.std.proofs.Common.{◌≡◌, ◌+◌, ◌<◌, ◌++◌, ◌∷◌, ◌&&◌, ℕ, List, [], length, get_or, take, drop, Bool, true, false, not, bytes_eq, if◌then◌else◌, Option, Some, None, refl, sym, ◌∙◌, ap, take-append-drop, ◌||◌, nat_lt, cond, count_by, zero-add, arith}
 use Rattle.std.proofs.lemmas.Grind.{flat_map-append}
 use Rattle.std.proofs.lemmas.List.{take_more, append-nil}
+use Rattle.std.proofs.lemmas.Bool.{false≢true}
 use Rattle.std.proofs.lemmas.Bool.Decides.{nat_tests}
 use Rattle.std.proofs.lemmas.List.Sums.{sum_by-cons}
 use Rattle.std.specs.List.{flat_map, list_any}
 use Rattle.std.specs.Option.{option_map}
 use Rattle.hunk_core.specs.declared.Verdict.{Verdict}
 use Rattle.file_patch.specs.declared.Change.{Change}
-use Rattle.file_patch.specs.declared.Change.TheVariants.{Hunks, Script}
 use Rattle.file_patch.specs.PlainPatch.{change_of}
 use Rattle.patch_set.specs.declared.set.Row.{Row}
 use Rattle.reject_text.specs.Rejects.{AreHunks}
 use Rattle.target_names.specs.declared.derived.Target.{Target}
 use Rattle.patch_run.specs.OnePatch.{Mark, PlainTurn, mark_of, has_rejects, is_script, own_reject, written_by, text_if, rejected_before}
+use Rattle.patch_run.proofs.Writing.{are_hunks}
 
 -- a file patch of which nothing is rejected, or none in a dry run
 pub no_text : (t : PlainTurn) (r : Row) (vs : List Verdict) (name : List ℕ) → (has_rejects t vs && not t.options.dry_run) ≡ false → [] ≡ text_if name (mark_of t r vs).rejected
@@ -37,10 +38,9 @@ pub both : (a b : Bool) → a ≡ true → b ≡ false → (a && not b) ≡ true
 both a b is isnt = ap (λ x. x && not b) is ∙ ap not isnt
 
 -- what isn't a script is hunks
-pub are_hunks : (text : List ℕ) (x : Change) (some : Bool) → (some && not (is_script (change_of text x))) ≡ true → AreHunks x
-are_hunks text (Hunks hs) some is = tt
-are_hunks text (Script s) true is = cc
-are_hunks text (Script s) false is = cc
+pub rejected_hunks : (text : List ℕ) (x : Change) (some : Bool) → (some && not (is_script (change_of text x))) ≡ true → AreHunks x
+rejected_hunks text x true is = are_hunks text x is
+rejected_hunks text x false is = absurd (false≢true is)
 
 pub rejected-none : (name : List ℕ) → [] ≡ rejected_before [] name
 unfolding rejected_before

@@ -4,7 +4,7 @@ use Rattle.patch_options.specs.PlainJob.{plain_options}
 use Rattle.outside.proofs.Writing.{writes_none, writes_is}
 use Rattle.patch_run.specs.OnePatch.{PlainTurn, has_rejects}
 use Rattle.patch_run.specs.Ready.{alone}
-use Rattle.patch_run.proofs.Rejecting.{no_text, own_text, not_both, both, are_hunks}
+use Rattle.patch_run.proofs.Rejecting.{no_text, own_text, not_both, both, rejected_hunks}
 use Rattle.patch_run.proofs.rejects.put_if_to.Goals as goal
 use Rattle.patch_run.proofs.rejects.put_if_to.Goals.{then-turn-via-then-turn, then-turn-via-else-turn+then-not-has_rejects}
 
@@ -27,7 +27,7 @@ put_own-requires-clause-hunks g c =
     let turn = c.args.turn.now in
     let e = c.args.earlier.now in
     let t : PlainTurn = alone (plain_options turn.options.now) turn.set.now e.patch.now in
-    are_hunks turn.set.now.text e.patch.now.change _ (sym (c.has_rejects.ensures t turn.set.now.text refl) ∙ c.if-not-has_rejects.false)
+    rejected_hunks turn.set.now.text e.patch.now.change _ (sym (c.has_rejects.ensures t turn.set.now.text refl) ∙ c.if-not-has_rejects.false)
 
 pub returns-then-is_same-clause-writes : goal.returns-then-is_same-clause-writes
 returns-then-is_same-clause-writes g c =
