@@ -14,3 +14,4 @@ mod Going
 mod RunEnds
 mod Applying
 mod Turning
+mod Rejecting

@@ -1,5 +1,5 @@
 -- The marks of the file patches before one.
-use Rattle.std.proofs.Common.{◌≡◌, ◌+◌, ◌<◌, ◌≤◌, ◌||◌, ℕ, List, length, get_or, take, drop, map, Bool, true, false, min, refl, sym, ◌∙◌, ap, subst, arith, length-take, take-append-drop}
+use Rattle.std.proofs.Common.{◌≡◌, ◌+◌, ◌<◌, ◌≤◌, ◌||◌, ℕ, List, length, get_or, take, drop, map, Bool, true, false, None, min, refl, sym, ◌∙◌, ap, subst, arith, length-take, take-append-drop}
 use Rattle.std.proofs.lemmas.List.{get_or-map, get_or-take, length-map, take_all}
 use Rattle.std.proofs.lemmas.List.Elements.{All-get_or}
 use Rattle.std.proofs.lemmas.List.Folds.{list_any_more, list_any-append}
@@ -40,6 +40,10 @@ module _ (o : PlainOptions) (v : SetView) (count : ℕ) (verdicts : List Verdict
         let both : length (zip (take count v.patches) v.rows) ≡ min (length (take count v.patches)) (length v.rows) = length-zip (take count v.patches) v.rows in
         let all : length (map (mark_in o v verdicts) (zip (take count v.patches) v.rows)) ≡ length (zip (take count v.patches) v.rows) = length-map (zip (take count v.patches) v.rows) (mark_in o v verdicts) in
         omega arith
+
+-- a mark that says nothing
+abbrev pub no_mark : Mark
+no_mark = record { written = None; rejected = None }
 
 -- an element that passes is enough
 pub any_at : (p : Mark → Bool) (xs : List Mark) (i : ℕ) (d : Mark) → i < length xs → p (get_or xs i d) ≡ true → list_any p xs ≡ true

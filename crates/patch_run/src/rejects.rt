@@ -1,11 +1,13 @@
 //! The reject file of a file patch.
 
 ghost use Rattle.std.specs.Prelude.{◌≡◌, [], ℕ, List, true, length, IfOk, OnOk};
+ghost use Rattle.std.specs.List.{list_any};
 ghost use Rattle.outside.specs.SinkView.{Writes};
 ghost use Rattle.outside.specs.TreeView.{IsRun};
 ghost use Rattle.outside.specs.Calls.{IsThere};
 ghost use Rattle.outside.specs.Quiet.{IsQuiet, WorksOn, Holds};
 ghost use Rattle.file_patch.specs.PlainPatch.{change_of, row_count};
+ghost use Rattle.hunk_apply.specs.Session.{is_failed};
 ghost use Rattle.replace_file.specs.Puts.{Puts};
 ghost use Rattle.reject_text.specs.Headers.{IsRejectForm};
 ghost use Rattle.reject_text.specs.Rejects.{AreHunks};
@@ -132,6 +134,7 @@ fn put_earlier<O: Sink>(turn: &Turn<'_>, name: &Name, out: &mut O) -> Result<(),
 }
 
 /// Writes the reject text of one before it, if it goes to this file.
+#[tactic(auto, unfolding(crate::specs::OnePatch::mark_of))]
 fn put_if_to<O: Sink>(
     turn: &Turn<'_>,
     earlier: &Earlier<'_>,
@@ -149,7 +152,7 @@ fn put_if_to<O: Sink>(
     }
     match written_by(turn, earlier) {
         Some(target) => {
-            if is_same(&target.reject, name) {
+            if is_same(name, &target.reject) {
                 put_own(
                     turn,
                     earlier.patch,
@@ -170,7 +173,19 @@ fn put_if_to<O: Sink>(
 fn has_rejects(earlier: &Earlier<'_>) -> bool
     ensures { (t : PlainTurn) → (text : List ℕ) → t.item.patch.change ≡ change_of text earlier.now.patch.now.change → result ≡ has_rejects t earlier.now.verdicts.now }
 {
-    earlier.verdicts.contains(&Verdict::Nowhere) && !is_script(&earlier.patch.change)
+    some_failed(earlier.verdicts) && !is_script(&earlier.patch.change)
+}
+
+fn some_failed(verdicts: &[Verdict]) -> bool
+    ensures { result ≡ list_any is_failed verdicts.now }
+{
+    verdicts.iter().any(|verdict| is_failed(*verdict))
+}
+
+fn is_failed(verdict: Verdict) -> bool
+    ensures { result ≡ is_failed verdict }
+{
+    matches!(verdict, Verdict::Nowhere)
 }
 
 /// Writes the reject text of a file patch of the set.

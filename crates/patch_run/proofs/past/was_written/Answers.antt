@@ -2,11 +2,8 @@ use Rattle.std.proofs.Common.{◌≡◌, ◌<◌, length, sym, ◌∙◌, ap, tr
 use Rattle.patch_options.specs.PlainJob.{plain_options}
 use Rattle.patch_run.specs.OnePatch.{Mark, is_name}
 use Rattle.patch_run.specs.Ready.{marks}
-use Rattle.patch_run.proofs.PastMarks.{any_at, any_more, any_all, marks-length}
+use Rattle.patch_run.proofs.PastMarks.{no_mark, any_at, any_more, any_all, marks-length}
 use Rattle.patch_run.proofs.past.was_written.Goals as goal
-
-abbrev no_mark : Mark
-no_mark = record { written = None; rejected = None }
 
 pub returns-then-has_written : goal.returns-then-has_written
 returns-then-has_written c =

@@ -1,0 +1,40 @@
+use Rattle.std.proofs.Common.{◌≡◌, ◌&&◌, not, Ok, refl, sym, ◌∙◌, ap}
+use Rattle.std.specs.Option.{option_copied}
+use Rattle.patch_options.specs.PlainJob.{plain_options}
+use Rattle.outside.proofs.Writing.{writes_none, writes_is}
+use Rattle.patch_run.specs.OnePatch.{PlainTurn, has_rejects}
+use Rattle.patch_run.specs.Ready.{alone}
+use Rattle.patch_run.proofs.Rejecting.{no_text, own_text, not_both, both, rejected_hunks}
+use Rattle.patch_run.proofs.rejects.put_if_to.Goals as goal
+use Rattle.patch_run.proofs.rejects.put_if_to.Goals.{then-turn-via-then-turn, then-turn-via-else-turn+then-not-has_rejects}
+
+pub returns-then-turn-clause-writes : goal.returns-then-turn-clause-writes
+returns-then-turn-clause-writes g c =
+    let turn = c.args.turn.now in
+    let e = c.args.earlier.now in
+    let t : PlainTurn = alone (plain_options turn.options.now) turn.set.now e.patch.now in
+    let out = g.O.Sink.view c.args.out.now in
+    writes_is (Ok tt) _ (writes_none out tt) (no_text t e.row e.verdicts.now c.args.name.now (elim c.then-turn.branch [
+      | then-turn-via-then-turn w ↦ not_both (has_rejects t e.verdicts.now) t.options.dry_run w.if-turn.true
+      | then-turn-via-else-turn+then-not-has_rejects w ↦ ap (λ b. b && not t.options.dry_run) (sym (w.has_rejects.ensures t turn.set.now.text refl) ∙ w.if-not-has_rejects.true)
+    ]))
+
+pub put_own-requires-clause-named : goal.put_own-requires-clause-named
+put_own-requires-clause-named g c = c.written_by.ensures.named c.in-Some.target.now (ap option_copied c.in-Some.is)
+
+pub put_own-requires-clause-hunks : goal.put_own-requires-clause-hunks
+put_own-requires-clause-hunks g c =
+    let turn = c.args.turn.now in
+    let e = c.args.earlier.now in
+    let t : PlainTurn = alone (plain_options turn.options.now) turn.set.now e.patch.now in
+    rejected_hunks turn.set.now.text e.patch.now.change _ (sym (c.has_rejects.ensures t turn.set.now.text refl) ∙ c.if-not-has_rejects.false)
+
+pub returns-then-is_same-clause-writes : goal.returns-then-is_same-clause-writes
+returns-then-is_same-clause-writes g c =
+    let turn = c.args.turn.now in
+    let e = c.args.earlier.now in
+    let t : PlainTurn = alone (plain_options turn.options.now) turn.set.now e.patch.now in
+    writes_is c.put_own.result _ c.put_own.ensures.writes (own_text t e.row e.verdicts.now c.args.name.now c.in-Some.target.now
+    (both (has_rejects t e.verdicts.now) t.options.dry_run (sym (c.has_rejects.ensures t turn.set.now.text refl) ∙ c.if-not-has_rejects.false) c.if-turn.false)
+    (sym c.written_by.ensures.target ∙ ap option_copied c.in-Some.is)
+    (sym c.is_same.ensures ∙ c.if-is_same.true))
