@@ -1,5 +1,5 @@
 -- What came of the hunks of a file, by their verdicts.
-use Rattle.std.specs.Prelude.{◌≡◌, ℕ, ℤ, pos, negsuc, List, take, drop, length, Bool, true, false, not, ◌==◌, ◌&&◌}
+use Rattle.std.specs.Prelude.{◌≡◌, ◌≤◌, ◌^◌, ℕ, ℤ, pos, negsuc, List, take, drop, length, Bool, true, false, not, ◌==◌, ◌&&◌}
 use Rattle.std.specs.List.{All, sum_by}
 use Rattle.hunk_core.specs.declared.Hunk.{Hunk}
 use Rattle.hunk_core.specs.declared.Verdict.{Verdict}
@@ -28,12 +28,12 @@ is_inexact Ignored = false
 is_inexact Nowhere = true
 is_inexact (At line fuzz offset) = not ((fuzz == 0) && is_zero offset)
 
--- the hunk was tried
+-- the hunk was tried, and its line, where it was placed, is one of a store's lines or near them
 abbrev pub IsTried : Verdict → Type 0
 IsTried Untried = ⊥
 IsTried Ignored = ⊥
 IsTried Nowhere = Unit {0}
-IsTried (At line fuzz offset) = Unit {0}
+IsTried (At line fuzz offset) = line ≤ 2 ^ 41
 
 -- a first part of the rows was filled, the others hold what they held
 pub record FillsFirst (old new : List Verdict) : Type 0 where
