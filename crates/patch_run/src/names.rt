@@ -1,6 +1,6 @@
 //! The names of a target as messages show them.
 
-ghost use Rattle.std.specs.Prelude.{◌≡◌, ◌<◌, length, slice_index_or};
+ghost use Rattle.std.specs.Prelude.{◌≡◌, ◌<◌, length, drop};
 ghost use Rattle.patch_run.specs.OnePatch.{shown, shown_reject, written, target_at};
 ghost use Rattle.patch_run.specs.Ready.{BeginsComponent, IsNamed};
 ghost use Rattle.patch_run.specs.TurnView.{plain_turn, IsTurn};
