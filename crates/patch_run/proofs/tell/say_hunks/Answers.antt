@@ -51,7 +51,7 @@ returns-in_err-say_hunk-clause-writes g c =
     let next = said-step o rows i row (omega arith) here in
     let w : Writes (g.O.Sink.view c.loop-i.out) (g.O.Sink.view c.say_hunk.new.out) (Err c.in_err-say_hunk.field-0.0) (hunk_said o (i + 1) (net (take i rows)) row.0 row.1) =
     subst (λ (n : ℤ). Writes {R = Unit {0}} (g.O.Sink.view c.loop-i.out) (g.O.Sink.view c.say_hunk.new.out) (Err c.in_err-say_hunk.field-0.0) (hunk_said o (i + 1) n row.0 row.1)) c.loop-i.invariant.is (c.in_err-say_hunk.ensures.writes text) in
-    rw p.1 (writes-of (said-stop c.in_err-say_hunk.field-0.0 p.0 (hunk_said o (i + 1) (net (take i rows)) row.0 row.1) (hunks_said o (take (i + 1) rows) (drop (i + 1) rows)) g.met.O.Sink.rest_both c.loop-i.invariant.said next
+    rw p.1 (writes-of (said-stop {left = hunks_said o (take i rows) (drop i rows)} c.in_err-say_hunk.field-0.0 p.0 (hunk_said o (i + 1) (net (take i rows)) row.0 row.1) (hunks_said o (take (i + 1) rows) (drop (i + 1) rows)) g.met.O.Sink.rest_both c.loop-i.invariant.said next
     (puts-of {view = g.O.Sink.view} {same = g.O.Sink.same_rest} w c.in_err-say_hunk.ensures.rest)))
 
 pub loop-i-preserved : goal.loop-i-preserved
