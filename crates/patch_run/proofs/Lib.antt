@@ -15,3 +15,4 @@ mod RunEnds
 mod Applying
 mod Turning
 mod Rejecting
+mod Telling

@@ -9,3 +9,4 @@ pub mod Ready
 pub mod TurnView
 pub mod Applied
 pub mod Doing
+pub mod Auto

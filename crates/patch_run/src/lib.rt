@@ -3,6 +3,7 @@
 
 mod applied;
 mod apply;
+mod auto;
 mod choices;
 mod discard;
 mod effects;
@@ -19,6 +20,7 @@ mod weighing;
 mod word;
 
 pub use applied::Applied;
+pub use auto::AutoPlan;
 pub use fault::RunFault;
 pub use set::apply_set;
 

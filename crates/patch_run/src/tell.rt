@@ -1,16 +1,17 @@
 //! What is said once the hunks were tried.
 
-ghost use Rattle.std.specs.Prelude.{◌≡◌, ◌<◌, ◌^◌, ◌++◌, ℕ, List, Bool, length, All, pos, negsuc, ◌≤ℤ◌};
+ghost use Rattle.std.specs.Prelude.{◌≡◌, ◌<◌, ◌^◌, ℕ, List, [], length, All, pos, negsuc, ◌≤ℤ◌};
+ghost use Rattle.std.specs.Option.{option_copied};
 ghost use Rattle.outside.specs.SinkView.{IsSinkCall, Writes};
 ghost use Rattle.hunk_core.specs.PlainHunk.{hunk_of, hunks_of};
 ghost use Rattle.hunk_core.specs.Turned.{turned};
-ghost use Rattle.file_patch.specs.PlainPatch.{AreLawfulHunks, row_count, change_of};
+ghost use Rattle.file_patch.specs.PlainPatch.{AreLawfulHunks, change_of, row_count};
 ghost use Rattle.ed_form.specs.PlainEdit.{edits_of, IsLawfulScript};
 ghost use Rattle.reject_text.specs.Rejects.{rows_of};
 ghost use Rattle.hunk_apply.specs.Script.{first_address};
 ghost use Rattle.hunk_apply.specs.Session.{IsTried};
 ghost use Rattle.patch_options.specs.PlainJob.{plain_options};
-ghost use Rattle.patch_run.specs.OnePatch.{Tried, change_said, hunks_said, hunk_said, script_said, kept_said, failures_said, tried_said, is_kept, is_script};
+ghost use Rattle.patch_run.specs.OnePatch.{Tried, change_said, hunks_said, hunk_said, script_said, kept_said, failures_said, tried_said, is_kept, is_script, named_reject};
 ghost use Rattle.patch_run.specs.Trying.{IsSession};
 ghost use Rattle.patch_run.specs.Ready.{IsNamed};
 ghost use Rattle.patch_run.specs.TurnView.{plain_turn, IsTurn};
