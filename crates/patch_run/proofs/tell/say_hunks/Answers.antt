@@ -76,7 +76,7 @@ loop-i-preserved g c =
     let grown : c.placed_growth-net.result ≡ pos (placed_adds row) -ℤ pos (placed_drops row) = c.placed_growth-net.ensures.is text in
     record {
       said = said-more (hunk_said o (i + 1) (net (take i rows)) row.0 row.1) (hunks_said o (take (i + 1) rows) (drop (i + 1) rows)) g.met.O.Sink.rest_both c.loop-i.invariant.said (said-step o rows i row (omega arith) here)
-      (has-put c.in_ok-say_hunk.field-0 (puts-of {view = g.O.Sink.view} {same = g.O.Sink.same_rest} w c.in_ok-say_hunk.ensures.rest));
+          (has-put c.in_ok-say_hunk.field-0 (puts-of {view = g.O.Sink.view} {same = g.O.Sink.same_rest} w c.in_ok-say_hunk.ensures.rest));
       is = omega (arith, ints, sum, most, next, grown, c.loop-i.invariant.is, c.loop-i.invariant.high, c.loop-i.invariant.low, c.placed_growth-net.ensures.high, c.placed_growth-net.ensures.low);
       small = omega (arith, most, c.requires.lawful.few);
       high = omega (arith, ints, sum, most, c.loop-i.invariant.high, c.loop-i.invariant.low, c.placed_growth-net.ensures.high, c.placed_growth-net.ensures.low);
