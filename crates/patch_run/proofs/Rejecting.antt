@@ -25,9 +25,9 @@ no_text t r vs name is = sym (ap (λ (b : Bool). text_if name (if b then option_
 pub own_text : (t : PlainTurn) (r : Row) (vs : List Verdict) (name : List ℕ) (w : Target) → (has_rejects t vs && not t.options.dry_run) ≡ true → written_by t r ≡ Some w → bytes_eq name w.reject ≡ true → own_reject t w r.side vs ≡ text_if name (mark_of t r vs).rejected
 unfolding mark_of
 own_text t r vs name w is by same = sym (
-  ap (λ (b : Bool). text_if name (if b then option_map (λ x. (x.reject, own_reject t x r.side vs)) (written_by t r) else None)) is
-  ∙ ap (λ (o : Option Target). text_if name (option_map (λ x. (x.reject, own_reject t x r.side vs)) o)) by
-  ∙ ap (λ (b : Bool). if b then own_reject t w r.side vs else []) same)
+    ap (λ (b : Bool). text_if name (if b then option_map (λ x. (x.reject, own_reject t x r.side vs)) (written_by t r) else None)) is
+    ∙ ap (λ (o : Option Target). text_if name (option_map (λ x. (x.reject, own_reject t x r.side vs)) o)) by
+    ∙ ap (λ (b : Bool). if b then own_reject t w r.side vs else []) same)
 
 -- both, from how they are tested
 pub not_both : (a b : Bool) → b ≡ true → (a && not b) ≡ false

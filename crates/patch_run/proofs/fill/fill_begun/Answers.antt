@@ -30,7 +30,7 @@ returns-in-Ok-finish-clause-holds g c lines told =
     let filled = c.try_into.new.out in
     let last = c.finish.new.self in
     let stands : (b : List ℕ) → (sink_view (view filled.tree.now) filled.temp.name.now filled.silent).told ≡ Some b → Holds (view last.tree.now) last.temp.name.now b =
-        λ b is. c.into_temp.ensures.holds b (ap (λ n. (sink_view (view last.tree.now) n last.silent).told) c.finish.ensures.rest.1 ∙ c.in-Ok-finish.ensures.told ∙ is) in
+    λ b is. c.into_temp.ensures.holds b (ap (λ n. (sink_view (view last.tree.now) n last.silent).told) c.finish.ensures.rest.1 ∙ c.in-Ok-finish.ensures.told ∙ is) in
     holds_is view last.tree.now _ sink.temp.name.now _ _ (search rules) c.new-sink.ensures.name
     (received_holds (view sink.tree.now) (view last.tree.now) sink.temp.name.now last.temp.name.now _ sink.silent (sink_view (view filled.tree.now) filled.temp.name.now filled.silent)
     (passes_both c.try_into.ensures.rest.2.rest.passes c.finish.ensures.run.passes) c.new-sink.ensures.tells (c.finish.ensures.rest.1 ∙ c.try_into.ensures.rest.1)
