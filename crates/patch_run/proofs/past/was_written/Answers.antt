@@ -1,4 +1,4 @@
-use Rattle.std.proofs.Common.{◌≡◌, ◌<◌, length, sym, ◌∙◌, ap, true, false, None, arith}
+use Rattle.std.proofs.Common.{◌≡◌, length, sym, ◌∙◌, ap, arith}
 use Rattle.patch_options.specs.PlainJob.{plain_options}
 use Rattle.patch_run.specs.OnePatch.{Mark, is_name}
 use Rattle.patch_run.specs.Ready.{marks}

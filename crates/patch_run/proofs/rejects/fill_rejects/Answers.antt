@@ -1,7 +1,5 @@
 use Rattle.std.proofs.Common.{rules, ℕ, List, [], Option, IsSome, refl, sym, subst}
 use Rattle.replace_file.specs.TempSink.{sink_view}
-use Rattle.patch_run.specs.OnePatch.{rejects_text}
-use Rattle.patch_run.specs.TurnView.{plain_turn}
 use Rattle.patch_run.proofs.Filling.{around_works, around_is, received_holds, holds_is}
 use Rattle.patch_run.proofs.rejects.fill_rejects.Goals as goal
 

@@ -1,4 +1,4 @@
-use Rattle.std.proofs.Common.{◌≡◌, ◌&&◌, not, Ok, refl, sym, ◌∙◌, ap}
+use Rattle.std.proofs.Common.{◌&&◌, not, Ok, refl, sym, ◌∙◌, ap}
 use Rattle.std.specs.Option.{option_copied}
 use Rattle.patch_options.specs.PlainJob.{plain_options}
 use Rattle.outside.proofs.Writing.{writes_none, writes_is}

@@ -1,4 +1,4 @@
-use Rattle.std.proofs.Common.{◌≡◌, ℕ, List, [], unwrap_or, Option, refl, sym, ◌∙◌, ap, subst}
+use Rattle.std.proofs.Common.{ℕ, List, [], unwrap_or, Option, refl, sym, ◌∙◌, ap, subst}
 use Rattle.outside.specs.Files.{bytes_at}
 use Rattle.outside.specs.Quiet.{WorksOn, Holds}
 use Rattle.outside.proofs.Views.{rises_then}
