@@ -2,7 +2,7 @@
 
 ghost use Rattle.std.specs.Prelude.{◌≡◌, if◌then◌else◌, false, nat_lt, length};
 ghost use Rattle.line_store.specs.Taking.{IsReset, IsEmpty};
-ghost use Rattle.patch_run.specs.Auto.{auto_seen};
+ghost use Rattle.patch_run.specs.Auto.{auto_seen, auto_counted};
 
 use line_store::{Half, LineFault, LineStore, OpenFault, Plan};
 use outside::{Name, Tree};

@@ -25,4 +25,6 @@ pub use fault::RunFault;
 pub use set::apply_set;
 
 #[cfg(test)]
+mod auto_tests;
+#[cfg(test)]
 mod tests;
