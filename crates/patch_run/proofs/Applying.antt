@@ -108,7 +108,7 @@ pub on_err : {R E P : Type 0} (r : Result R E) → P → OnErr r P
 on_err (Ok x) p = tt
 on_err (Err e) p = p
 
-is_wet : (dry : Bool) (name : List ℕ) (begun : Temp) → IsBegun dry (Some begun) name → dry ≡ false
+pub is_wet : (dry : Bool) (name : List ℕ) (begun : Temp) → IsBegun dry (Some begun) name → dry ≡ false
 is_wet true name begun is = absurd is
 is_wet false name begun is = refl
 

@@ -4,7 +4,7 @@ ghost use Rattle.std.specs.Prelude.{◌≡◌, ◌<◌, ◌≤◌, ◌⊎◌, �
 ghost use Rattle.outside.specs.Files.{Files};
 ghost use Rattle.outside.specs.TreeView.{Passes};
 ghost use Rattle.outside.specs.SinkView.{SinkPasses, Writes};
-ghost use Rattle.outside.specs.Calls.{IsThere};
+ghost use Rattle.outside.specs.Calls.{IsThere, IsUntouched};
 ghost use Rattle.outside.specs.Quiet.{IsQuiet};
 ghost use Rattle.hunk_core.specs.declared.Verdict.TheVariants.{Ignored};
 ghost use Rattle.line_store.specs.Store.{Keeps};
@@ -58,6 +58,7 @@ pub fn apply_one<P: Plan, T: Tree, O: Sink>(
     requires quiet { IsQuiet (T.view tree.old) }
     ensures does { Does (T.view tree.old) (T.view tree.new) (P.seen plan.old) (P.seen plan.new) (O.view out.old) (O.view out.new) P.scratch_after result verdicts.new (ending (plain_turn turn.now)) }
     ensures rest { O.same_rest out.old out.new }
+    ensures dry { turn.now.options.now.dry_run ≡ true → IsUntouched (T.view tree.old) (T.view tree.new) }
     ensures rows { length verdicts.new ≡ length verdicts.old }
     ensures few { IfOk result (λ done. done.effects ≤ 3) }
 
@@ -120,6 +121,7 @@ fn try_at<P: LineStore, T: Tree, O: Sink>(
     ensures broken { OnErr result ((f : Files) → (T.view tree.old).told ≡ Some f → (P.seen plan.old).told ≡ Some (lines_in (bytes_of (plain_turn turn.now) f place))
         → IsPartOf (T.view tree.old) (T.view tree.new) (O.view out.old) (O.view out.new) (finished_at (plain_turn turn.now) f [] place side).effects (finished_at (plain_turn turn.now) f [] place side).said) }
     ensures rest { O.same_rest out.old out.new }
+    ensures dry { turn.now.options.now.dry_run ≡ true → IsUntouched (T.view tree.old) (T.view tree.new) }
     ensures rows { length verdicts.new ≡ length verdicts.old }
     ensures few { IfOk result (λ done. done.effects ≤ 3) }
     ensures placed { IfOk result (λ done. (lines : List (List ℕ)) → (P.seen plan.new).told ≡ Some lines
@@ -154,6 +156,7 @@ fn tell_and_make<T: Tree, O: Sink>(
     ensures cause { IfErr result (λ e. HasEndCause e (T.view tree.old) (T.view tree.new) (O.view out.old) (O.view out.new)) }
     ensures quiet { OnOk result (IsQuiet (T.view tree.new)) }
     ensures rest { O.same_rest out.old out.new }
+    ensures dry { turn.now.options.now.dry_run ≡ true → IsUntouched (T.view tree.old) (T.view tree.new) }
     ensures whole { IfOk result (λ made. (f : Files) (x : Tried) → (T.view tree.old).told ≡ Some f → IsOutcome turn.now.options.now.dry_run (T.view tree.old) attempt.entry.session target.now.temp side verdicts.now x
         → IsMadeWhole (plain_turn turn.now) f target.now x made (T.view tree.old) (T.view tree.new) (O.view out.old) (O.view out.new)) }
     ensures broken { OnErr result ((f : Files) (x : Tried) → (T.view tree.old).told ≡ Some f → IsOutcome turn.now.options.now.dry_run (T.view tree.old) attempt.entry.session target.now.temp side verdicts.now x

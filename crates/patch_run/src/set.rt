@@ -1,7 +1,8 @@
 //! All file patches of a set.
 
-ghost use Rattle.std.specs.Prelude.{◌≡◌, ◌<◌, ◌≤◌, ◌+◌, ◌⊎◌, ◌||◌, ℕ, List, length, take, drop, replicate, slice_index_or, Some, IfOk, OnOk};
+ghost use Rattle.std.specs.Prelude.{◌≡◌, ◌<◌, ◌≤◌, ◌+◌, ◌⊎◌, ◌||◌, ℕ, List, true, length, take, drop, replicate, slice_index_or, Some, IfOk, OnOk};
 ghost use Rattle.outside.specs.Files.{Files};
+ghost use Rattle.outside.specs.Calls.{IsUntouched};
 ghost use Rattle.outside.specs.Quiet.{IsQuiet};
 ghost use Rattle.file_patch.specs.declared.FilePatch.{FilePatch as ThePatch};
 ghost use Rattle.file_patch.specs.PlainPatch.{row_count};
@@ -45,6 +46,9 @@ pub fn apply_set<P: Plan, T: Tree, O: Sink>(
     ensures receipt { IfOk result (λ applied. (f : Files) → Told (T.view tree.old) (P.seen plan.old) f → IsReceipt (set_run (plain_options options.now) set.old f) applied (length set.old.patches) set.new.verdicts set.new.rows) }
     ensures done { IfOk result (λ applied. applied.done ≡ length set.old.patches) }
     ensures rest { O.same_rest out.old out.new }
+
+    // A dry run starts no temporary either, whatever is told.
+    ensures dry { options.now.dry_run ≡ true → IsUntouched (T.view tree.old) (T.view tree.new) }
     ensures set { StaysSet set.old set.new }
     ensures verdicts { length set.new.verdicts ≡ length set.old.verdicts }
 
@@ -75,6 +79,7 @@ fn apply_all<P: Plan, T: Tree, O: Sink>(
     ensures receipt { IfOk result (λ applied. (f : Files) → Told (T.view tree.old) (P.seen plan.old) f → IsReceipt (set_run (plain_options options.now) set.old f) applied (length set.old.patches) verdicts.new set.new.rows) }
     ensures done { IfOk result (λ applied. applied.done ≡ length set.old.patches) }
     ensures rest { O.same_rest out.old out.new }
+    ensures dry { options.now.dry_run ≡ true → IsUntouched (T.view tree.old) (T.view tree.new) }
     ensures set { StaysSet set.old set.new }
     ensures verdicts { length verdicts.new ≡ length verdicts.old }
     ensures placed { OnOk result ((lines : List (List ℕ)) → (P.seen plan.new).told ≡ Some lines → IsPlacedLast (plain_options options.now) set.new verdicts.new lines) }
@@ -119,6 +124,7 @@ fn apply_at<P: Plan, T: Tree, O: Sink>(
     ensures behind { (p : ThePatch) → p ≡ slice_index_or set.now.patches k p → drop (p.first_verdict + row_count p.change) verdicts.new ≡ drop (p.first_verdict + row_count p.change) verdicts.old }
     ensures verdicts { length verdicts.new ≡ length verdicts.old }
     ensures rest { O.same_rest out.old out.new }
+    ensures dry { options.now.dry_run ≡ true → IsUntouched (T.view tree.old) (T.view tree.new) }
     ensures few { IfOk result (λ done. done.effects ≤ 3) }
     ensures placed { IfOk result (λ done. (p : ThePatch) (lines : List (List ℕ)) → p ≡ slice_index_or set.now.patches k p → (P.seen plan.new).told ≡ Some lines → IsPlacedOn (plain_options options.now) set.now.text p verdicts.new done.row lines) }
 {
@@ -150,6 +156,7 @@ fn apply_front<P: Plan, T: Tree, O: Sink>(
     ensures behind { drop (row_count turn.now.patch.now.change) verdicts.new ≡ drop (row_count turn.now.patch.now.change) verdicts.old }
     ensures verdicts { length verdicts.new ≡ length verdicts.old }
     ensures rest { O.same_rest out.old out.new }
+    ensures dry { turn.now.options.now.dry_run ≡ true → IsUntouched (T.view tree.old) (T.view tree.new) }
     ensures few { IfOk result (λ done. done.effects ≤ 3) }
     ensures placed { IfOk result (λ done. (lines : List (List ℕ)) → (P.seen plan.new).told ≡ Some lines
         → (take (row_count turn.now.patch.now.change) verdicts.new ≡ replicate (row_count turn.now.patch.now.change) Ignored)

@@ -1,6 +1,7 @@
 use Rattle.std.proofs.Common.{◌≡◌, [], Some, true, sym, ◌∙◌, ap, subst}
 use Rattle.std.proofs.lemmas.Option.{same_Some}
 use Rattle.outside.specs.Files.{Files}
+use Rattle.outside.specs.Calls.{IsUntouched, untouched_none}
 use Rattle.target_names.specs.declared.derived.Target.{Target}
 use Rattle.patch_run.specs.OnePatch.{bytes_of, lines_in, effects_of, tried, tried_said, finished}
 use Rattle.patch_run.specs.Doing.{IsDone, IsPartOf}
@@ -51,3 +52,16 @@ returns-clause-whole g c f told plan =
     subst (λ (y : Target). IsDone u z d e c.done_of.result c.try_hunks.new.verdicts f (finished t f [] c.args.place (bytes_of t f c.args.place) y x)) c.written-target.ensures.target
     (tried_done t f w c.args.side ls c.in_ok-attempt.attempt.session c.try_hunks.new.verdicts c.written-target.ensures.named tries.works told (tries.verdicts ls plan) (tries.session ls plan) (tries.holds ls plan)
     c.args.place c.in_ok-made.made c.done_of.result same c.in_ok-made.ensures.whole c.done_of.ensures.row c.done_of.ensures.bad c.done_of.ensures.effects)
+
+pub returns-in_err-attempt-clause-dry : goal.returns-in_err-attempt-clause-dry
+returns-in_err-attempt-clause-dry g c dry =
+    let u = g.T.Tree.view c.args.tree.now in
+    subst (λ s. IsUntouched u (g.T.Tree.view s)) (sym (c.in_err-attempt.ensures.dry dry)) (untouched_none u)
+
+pub returns-in_err-made-clause-dry : goal.returns-in_err-made-clause-dry
+returns-in_err-made-clause-dry g c dry =
+    subst (λ s. IsUntouched (g.T.Tree.view s) (g.T.Tree.view c.tell_and_make.new.tree)) (c.in_ok-attempt.ensures.dry dry) (c.in_err-made.ensures.dry dry)
+
+pub returns-clause-dry : goal.returns-clause-dry
+returns-clause-dry g c dry =
+    subst (λ s. IsUntouched (g.T.Tree.view s) (g.T.Tree.view c.tell_and_make.new.tree)) (c.in_ok-attempt.ensures.dry dry) (c.in_ok-made.ensures.dry dry)

@@ -1,5 +1,6 @@
 use Rattle.std.proofs.Common.{◌≡◌, ◌+◌, ◌<◌, ◌||◌, List, length, Bool, refl, sym, ◌∙◌, ap, subst, arith}
 use Rattle.std.proofs.lemmas.List.{length-set}
+use Rattle.outside.specs.Calls.{untouched_none, untouched_both}
 use Rattle.file_patch.specs.declared.FilePatch.{FilePatch}
 use Rattle.patch_options.specs.PlainJob.{plain_options}
 use Rattle.patch_set.specs.SetView.{SetView, hunks_in, with_row}
@@ -24,6 +25,7 @@ loop-k-init g c =
       few = omega arith;
       goes = goes_none u a d c.requires.quiet;
       rest = g.met.O.Sink.rest_none _;
+      dry = λ dry. untouched_none u;
       at = λ f told. at_none u a d g.P.Plan.scratch_after o c.args.set.now c.args.verdicts.now f c.requires.quiet told;
       placed = λ lines told. placed_none o c.args.set.now c.args.verdicts.now lines;
     }
@@ -61,6 +63,9 @@ returns-in_err-done-clause-runs g c =
     let next : IsNext v k p.0 c.loop-k.verdicts c.apply_at.new.verdicts = record { within = lt; at = p.1; numbered = places; rows = inv.rows; before = c.in_err-done.ensures.before p.0 p.1 } in
     runs_cut u x w a b b' d e h o c.args.set.now v k p.0 c.loop-k.verdicts c.apply_at.new.verdicts next inv.same inv.goes inv.at c.in_err-done.field-0.0 c.from_residual.result c.from_residual.ensures.1 (c.in_err-done.ensures.does p.0 p.1)
 
+pub returns-in_err-done-clause-dry : goal.returns-in_err-done-clause-dry
+returns-in_err-done-clause-dry g c dry = untouched_both (c.loop-k.invariant.dry dry) (c.in_err-done.ensures.dry dry)
+
 pub loop-k-preserved : goal.loop-k-preserved
 loop-k-preserved g c =
     let u = g.T.Tree.view c.args.tree.now in
@@ -95,6 +100,7 @@ loop-k-preserved g c =
       few = omega (arith, inv.few, c.in_ok-done.ensures.few);
       goes = goes_on done inv.goes does.stays does.quiet;
       rest = g.met.O.Sink.rest_both _ _ _ inv.rest c.in_ok-done.ensures.rest;
+      dry = λ dry. untouched_both (inv.dry dry) (c.in_ok-done.ensures.dry dry);
       at = λ f told.
           let was = inv.at f told in
           let ended = does.whole (run_to o v k f).files (was.far.now, inv.goes.plan.telling ∙ told.1) in
