@@ -14,7 +14,7 @@ ghost use Rattle.file_patch.specs.PlainPatch.{row_count};
 ghost use Rattle.say_text.specs.Messages.{ignored_line};
 ghost use Rattle.patch_run.specs.OnePatch.{Tried, total, bytes_of, lines_in, effects_of, tried_said, some_failed, is_kept, finished_at, ending};
 ghost use Rattle.patch_run.specs.Trying.{IsSession, IsBegun};
-ghost use Rattle.patch_run.specs.Doing.{Does, Stays, QuietAfter, IsDone, IsPartOf, IsDeviceFault, HasEndCause, IsOutcome, IsMadeWhole};
+ghost use Rattle.patch_run.specs.Doing.{Does, Stays, QuietAfter, IsDone, IsPartOf, IsDeviceFault, HasEndCause, IsOutcome, IsMadeWhole, IsOrdered};
 ghost use Rattle.patch_run.specs.Devices.{Told};
 ghost use Rattle.patch_run.specs.Ready.{IsNamed};
 ghost use Rattle.patch_run.specs.TurnView.{plain_turn, IsTurn};
@@ -120,6 +120,8 @@ fn try_at<P: LineStore, T: Tree, O: Sink>(
         → IsDone (T.view tree.old) (T.view tree.new) (O.view out.old) (O.view out.new) done verdicts.new f (finished_at (plain_turn turn.now) f [] place side)) }
     ensures broken { OnErr result ((f : Files) → (T.view tree.old).told ≡ Some f → (P.seen plan.old).told ≡ Some (lines_in (bytes_of (plain_turn turn.now) f place))
         → IsPartOf (T.view tree.old) (T.view tree.new) (O.view out.old) (O.view out.new) (finished_at (plain_turn turn.now) f [] place side).effects (finished_at (plain_turn turn.now) f [] place side).said) }
+    ensures order { IfErr result (λ e. (f : Files) → (T.view tree.old).told ≡ Some f → (P.seen plan.old).told ≡ Some (lines_in (bytes_of (plain_turn turn.now) f place))
+        → IsOrdered e (T.view tree.old) (T.view tree.new) (O.view out.old) (O.view out.new) (finished_at (plain_turn turn.now) f [] place side).said) }
     ensures rest { O.same_rest out.old out.new }
     ensures dry { turn.now.options.now.dry_run ≡ true → IsUntouched (T.view tree.old) (T.view tree.new) }
     ensures rows { length verdicts.new ≡ length verdicts.old }
@@ -161,6 +163,8 @@ fn tell_and_make<T: Tree, O: Sink>(
         → IsMadeWhole (plain_turn turn.now) f target.now x made (T.view tree.old) (T.view tree.new) (O.view out.old) (O.view out.new)) }
     ensures broken { OnErr result ((f : Files) (x : Tried) → (T.view tree.old).told ≡ Some f → IsOutcome turn.now.options.now.dry_run (T.view tree.old) attempt.entry.session target.now.temp side verdicts.now x
         → IsPartOf (T.view tree.old) (T.view tree.new) (O.view out.old) (O.view out.new) (effects_of (plain_turn turn.now) f target.now x) (tried_said (plain_turn turn.now) target.now x)) }
+    ensures order { IfErr result (λ e. (x : Tried) → IsOutcome turn.now.options.now.dry_run (T.view tree.old) attempt.entry.session target.now.temp side verdicts.now x
+        → IsOrdered e (T.view tree.old) (T.view tree.new) (O.view out.old) (O.view out.new) (tried_said (plain_turn turn.now) target.now x)) }
     ensures few { IfOk result (λ made. made.effects ≤ 3) }
 {
     tell(turn, target, side, &attempt.session, verdicts, out)?;

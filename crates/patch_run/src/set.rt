@@ -1,6 +1,6 @@
 //! All file patches of a set.
 
-ghost use Rattle.std.specs.Prelude.{◌≡◌, ◌<◌, ◌≤◌, ◌+◌, ◌⊎◌, ◌||◌, ℕ, List, true, length, take, drop, replicate, slice_index_or, Some, IfOk, OnOk};
+ghost use Rattle.std.specs.Prelude.{◌≡◌, ◌<◌, ◌≤◌, ◌+◌, ◌⊎◌, ◌||◌, ℕ, List, true, length, take, drop, replicate, slice_index_or, Some, IfOk, IfErr, OnOk};
 ghost use Rattle.outside.specs.Files.{Files};
 ghost use Rattle.outside.specs.Calls.{IsUntouched};
 ghost use Rattle.outside.specs.Quiet.{IsQuiet};
@@ -8,10 +8,10 @@ ghost use Rattle.file_patch.specs.declared.FilePatch.{FilePatch as ThePatch};
 ghost use Rattle.file_patch.specs.PlainPatch.{row_count};
 ghost use Rattle.patch_options.specs.PlainJob.{plain_options, IsLawful};
 ghost use Rattle.patch_set.specs.SetView.{IsRead, hunks_in};
-ghost use Rattle.patch_run.specs.Run.{set_run};
+ghost use Rattle.patch_run.specs.Run.{items_of, set_run};
 ghost use Rattle.patch_run.specs.Ready.{IsReady, AreNumbered, rows_in, turn_at};
 ghost use Rattle.patch_run.specs.OnePatch.{ending};
-ghost use Rattle.patch_run.specs.Doing.{Does, Runs, IsReceipt, StaysSet, IsPlacedOn, IsPlacedLast};
+ghost use Rattle.patch_run.specs.Doing.{Does, Runs, IsReceipt, IsCutAt, StaysSet, IsPlacedOn, IsPlacedLast};
 ghost use Rattle.patch_run.specs.Devices.{Told};
 ghost use Rattle.patch_run.specs.TurnView.{IsTurn, plain_turn};
 ghost use Rattle.hunk_core.specs.declared.Verdict.TheVariants.{Ignored};
@@ -43,6 +43,9 @@ pub fn apply_set<P: Plan, T: Tree, O: Sink>(
     requires size { (P.seen plan.old).size ≡ options.now.buffer }
     requires quiet { IsQuiet (T.view tree.old) }
     ensures runs { Runs (T.view tree.old) (T.view tree.new) (P.seen plan.old) (P.seen plan.new) (O.view out.old) (O.view out.new) P.scratch_after result (set_run (plain_options options.now) set.old) }
+
+    // A fault cuts the run off at one file patch, of which nothing is done before all of it is said.
+    ensures cut { IfErr result (λ e. (f : Files) → Told (T.view tree.old) (P.seen plan.old) f → IsCutAt e (T.view tree.new) (O.view out.old) (O.view out.new) (plain_options options.now) set.old.output (items_of set.old) f) }
     ensures receipt { IfOk result (λ applied. (f : Files) → Told (T.view tree.old) (P.seen plan.old) f → IsReceipt (set_run (plain_options options.now) set.old f) applied (length set.old.patches) set.new.verdicts set.new.rows) }
     ensures done { IfOk result (λ applied. applied.done ≡ length set.old.patches) }
     ensures rest { O.same_rest out.old out.new }
@@ -76,6 +79,7 @@ fn apply_all<P: Plan, T: Tree, O: Sink>(
     requires size { (P.seen plan.old).size ≡ options.now.buffer }
     requires quiet { IsQuiet (T.view tree.old) }
     ensures runs { Runs (T.view tree.old) (T.view tree.new) (P.seen plan.old) (P.seen plan.new) (O.view out.old) (O.view out.new) P.scratch_after result (set_run (plain_options options.now) set.old) }
+    ensures cut { IfErr result (λ e. (f : Files) → Told (T.view tree.old) (P.seen plan.old) f → IsCutAt e (T.view tree.new) (O.view out.old) (O.view out.new) (plain_options options.now) set.old.output (items_of set.old) f) }
     ensures receipt { IfOk result (λ applied. (f : Files) → Told (T.view tree.old) (P.seen plan.old) f → IsReceipt (set_run (plain_options options.now) set.old f) applied (length set.old.patches) verdicts.new set.new.rows) }
     ensures done { IfOk result (λ applied. applied.done ≡ length set.old.patches) }
     ensures rest { O.same_rest out.old out.new }
