@@ -1,21 +1,23 @@
 -- Hunks that were tried, and then told of with their effects.
-use Rattle.std.proofs.Common.{◌≡◌, ◌≢◌, ⊎_elim, ℕ, zero, List, [], length, Bool, true, false, ◌||◌, if◌then◌else◌, Option, None, Some, Result, Ok, Err, OnOk, OnErr, IfOk, refl, sym, ◌∙◌, ap, subst, arith}
+use Rattle.std.proofs.Common.{◌≡◌, ◌≢◌, inl, inr, ⊎_elim, ℕ, zero, List, [], ◌++◌, length, Bool, true, false, ◌||◌, if◌then◌else◌, Option, None, Some, Result, Ok, Err, OnOk, OnErr, IfOk, IfErr, refl, sym, ◌∙◌, ap, subst, arith}
 use Rattle.std.proofs.lemmas.Bool.{false≢true}
 use Rattle.std.proofs.lemmas.Option.{same_Some}
 use Rattle.std.specs.FinMap.{get, remove}
+use Rattle.std.specs.Result.{IsErrAnd}
 use Rattle.outside.specs.Files.{Files, is_temp}
-use Rattle.outside.specs.TreeView.{TreeView, Passes, told_on}
+use Rattle.outside.specs.TreeView.{TreeView, Passes, Rises, told_on}
 use Rattle.outside.specs.SinkView.{SinkView, Receives, ReceivesPart}
 use Rattle.outside.specs.Quiet.{IsQuiet, Effect, HasMade, WorksOn, Holds, after_all}
 use Rattle.outside.proofs.Names.{equal_or_not, get-gone, get-gone_other, apart, same_files}
 use Rattle.outside.proofs.Quiet.{lasting-only}
 use Rattle.outside.proofs.Effects.{made_none, made_tells_all, since_longer, tells_longer}
-use Rattle.outside.proofs.Writing.{received_none, received_part, part_longer}
+use Rattle.outside.proofs.Writing.{received_none, received_part, received_both, part_longer}
 use Rattle.hunk_core.specs.declared.Side.{Side}
 use Rattle.hunk_core.specs.declared.Verdict.{Verdict}
 use Rattle.hunk_apply.specs.declared.Session.{Session}
 use Rattle.replace_file.specs.declared.temp.Temp.{Temp}
 use Rattle.patch_run.specs.declared.fault.RunFault.{RunFault}
+use Rattle.patch_run.specs.declared.fault.RunFault.TheVariants.{Tree}
 use Rattle.patch_run.specs.Trying.{IsSession, IsBegun}
 use Rattle.target_names.specs.declared.derived.Target.{Target}
 use Rattle.patch_set.specs.declared.set.Row.{Row}
@@ -23,13 +25,13 @@ use Rattle.patch_run.specs.declared.apply.Done.{Done}
 use Rattle.patch_run.specs.declared.effects.Made.{Made}
 use Rattle.patch_run.specs.OnePatch.{PlainTurn, Tried, bytes_of, tried, some_failed, is_kept, finished, effects_of, tried_said, wrote}
 use Rattle.patch_run.specs.Run.{cleared}
-use Rattle.patch_run.specs.Making.{IsGone, Makes}
+use Rattle.patch_run.specs.Making.{IsGone, IsPart, Makes}
 use Rattle.patch_run.specs.Ready.{IsNamed}
-use Rattle.patch_run.specs.Doing.{IsPartOf, IsWholeOf, IsDone, IsOutcome, IsMadeWhole}
+use Rattle.patch_run.specs.Doing.{IsPartOf, IsWholeOf, IsDone, IsOutcome, IsMadeWhole, IsOrdered}
 use Rattle.patch_run.proofs.EffectLists.{after_all-at, made_both, leaves_after, tells_after}
 
 -- work on a temporary alone has no effect
-works_made : {u v : TreeView} (temp : List ℕ) → is_temp temp ≡ true → WorksOn u v temp → HasMade u v []
+pub works_made : {u v : TreeView} (temp : List ℕ) → is_temp temp ≡ true → WorksOn u v temp → HasMade u v []
 works_made temp is works = record {
   passes = works.passes;
   quiet = works.quiet;
@@ -108,9 +110,18 @@ pub on_err : {R E P : Type 0} (r : Result R E) → P → OnErr r P
 on_err (Ok x) p = tt
 on_err (Err e) p = p
 
-is_wet : (dry : Bool) (name : List ℕ) (begun : Temp) → IsBegun dry (Some begun) name → dry ≡ false
+pub is_wet : (dry : Bool) (name : List ℕ) (begun : Temp) → IsBegun dry (Some begun) name → dry ≡ false
 is_wet true name begun is = absurd is
 is_wet false name begun is = refl
+
+-- a fault that is passed on, and any fault
+pub if_err : {R E : Type 0} (P : E → Type 0) (e : E) (r : Result R E) → IsErrAnd r (λ y. y ≡ e) → P e → IfErr r P
+if_err P e (Ok x) is p = tt
+if_err P e (Err y) is p = subst P (sym is) p
+
+pub if_any : {R E : Type 0} (P : E → Type 0) (r : Result R E) → ((e : E) → P e) → IfErr r P
+if_any P (Ok x) p = tt
+if_any P (Err e) p = p e
 
 is_dry : (dry : Bool) (name : List ℕ) → IsBegun dry None name → dry ≡ true
 is_dry true name is = refl
@@ -163,6 +174,11 @@ module _ (t : PlainTurn) (w : Target) (session : Session) (side : Side) (vs : Li
         effects = ap (λ (l : List Effect). length l) (sym none);
       }
 
+  pub tell_ordered : Says (λ output text. Receives c d text) → (r : Result Made RunFault) → IfErr r (λ e. (e ≡ Tree) × Rises u z)
+      → IfErr r (λ e. (x : Tried) → IsOutcome t.options.dry_run u session w.temp side vs x → IsOrdered e u z c d (tried_said t w x))
+  tell_ordered says (Ok made) cause = tt
+  tell_ordered says (Err e) cause = λ x is. inr (cause.0, subst (λ (y : Tried). Receives c d (tried_said t w y)) (outcome_is x is) (says x.output (outcome_counts x is)))
+
   module _ (temp : Temp) (begun : IsBegun t.options.dry_run (Some temp) w.temp) (says : Says (λ output text. Receives c d text)) where
     abbrev pub Made_by : Result Made RunFault → Type 0
     Made_by r = (output : List ℕ) → IsSession session vs output → Holds u w.temp output → Makes u z r w.temp (λ f. effects_of t f w (outcome side vs output))
@@ -196,6 +212,17 @@ module _ (t : PlainTurn) (w : Target) (session : Session) (side : Side) (vs : Li
         subst (λ (y : Tried). IsPartOf u z c d (effects_of t f w y) (tried_said t w y)) (outcome_is x is)
         (record { tells = part.tells; leaves = part.leaves; said = received_part c d (tried_said t w (outcome side vs x.output)) (says x.output counts) })
 
+-- ---- nothing is done before all is said
+
+pub unmade : {u v : TreeView} → HasMade u v [] → IsPart u v []
+unmade {u = u} {v = v} made = record { tells = made_tells_all u v [] made; leaves = made.since }
+
+pub ordered_after : {u v z : TreeView} (c d : SinkView) (e : RunFault) (text : List ℕ) → HasMade u v [] → Passes v z → IsOrdered e v z c d text → IsOrdered e u z c d text
+ordered_after c d e text made passes order = ⊎_elim (λ part. inl (record { tells = tells_after made passes [] part.tells; leaves = leaves_after made passes [] part.leaves })) (λ all. inr all) order
+
+pub ordered_behind : {u z : TreeView} (b c d : SinkView) (e : RunFault) (p q : List ℕ) → Receives b c p → IsOrdered e u z c d q → IsOrdered e u z b d (p ++ q)
+ordered_behind b c d e p q first order = ⊎_elim (λ part. inl part) (λ all. inr (all.0, received_both b c d p q first all.1)) order
+
 -- ---- hunks that were tried, from the files in front of them
 
 -- only the temporary was worked on
@@ -220,6 +247,11 @@ module _ (t : PlainTurn) (f : Files) (w : Target) (side : Side) (ls : List (List
       let x = tried t side ls in
       let mid = told_on f works.passes told in
       part_tried t f mid.0 w x named works told mid.1 (tried_said t w x) passes (broken mid.0 x mid.1 tried_outcome)
+
+  pub tried_ordered : {z : TreeView} (c d : SinkView) (e : RunFault) → Passes v z
+      → ((x : Tried) → IsOutcome t.options.dry_run v session w.temp side vs x → IsOrdered e v z c d (tried_said t w x))
+      → IsOrdered e u z c d (tried_said t w (tried t side ls))
+  tried_ordered c d e passes ordered = ordered_after c d e (tried_said t w (tried t side ls)) (works_made w.temp named.temps.own works) passes (ordered (tried t side ls) tried_outcome)
 
   pub tried_done : {z : TreeView} {c d : SinkView} (place : ℕ) (made : Made) (done : Done) → ((g : Files) → v.told ≡ Some g → t.options.dry_run ≡ true → g ≡ f)
       → ((g : Files) (x : Tried) → v.told ≡ Some g → IsOutcome t.options.dry_run v session w.temp side vs x → IsMadeWhole t g w x made v z c d)

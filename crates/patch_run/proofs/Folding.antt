@@ -1,12 +1,12 @@
 -- The run as a fold: one file patch more, and what a longer run adds to a shorter one.
-use Rattle.std.proofs.Common.{◌≡◌, ◌+◌, ℕ, List, [], ◌∷◌, ◌++◌, Option, Some, None, refl, sym, ◌∙◌, ap, subst, append_assoc}
+use Rattle.std.proofs.Common.{◌≡◌, ◌+◌, ⊎_elim, inl, inr, ℕ, List, [], ◌∷◌, ◌++◌, Option, Some, None, refl, sym, ◌∙◌, ap, subst, arith, append_assoc}
 use Rattle.std.proofs.lemmas.List.{append-nil}
 use Rattle.outside.specs.Files.{Files}
 use Rattle.outside.specs.TreeView.{TreeView, Passes}
 use Rattle.outside.specs.SinkView.{SinkView, ReceivesPart}
 use Rattle.outside.specs.Quiet.{Effect, HasMade, TellsPrefix, LeavesPrefix}
-use Rattle.outside.proofs.Effects.{since_longer, tells_longer}
-use Rattle.outside.proofs.Writing.{received_both, part_longer, part_after}
+use Rattle.outside.proofs.Effects.{made_tells_all, since_longer, tells_longer}
+use Rattle.outside.proofs.Writing.{received_part, received_both, part_longer, part_after}
 use Rattle.hunk_core.specs.declared.Verdict.{Verdict}
 use Rattle.line_store.specs.declared.fault.OpenFault.{OpenFault}
 use Rattle.line_store.specs.declared.fault.OpenFault.TheVariants as open_fault
@@ -17,7 +17,8 @@ use Rattle.patch_run.specs.declared.fault.RunFault.TheVariants.{Tree, Write, Scr
 use Rattle.patch_run.specs.declared.apply.Done.{Done}
 use Rattle.patch_run.specs.OnePatch.{Item, PlainTurn, Story, Ending, ended, stopped, ending}
 use Rattle.patch_run.specs.Run.{Run, begun, turn_of, with_story, with_stop, with_ending, if_going, with_item, run_on, run_of}
-use Rattle.patch_run.specs.Doing.{IsPartOf, IsWholeOf, IsDone, IsStopped, IsBroken, IsFar, IsHalted, IsCutOff, effects_in, said_of}
+use Rattle.patch_run.specs.Making.{IsPart}
+use Rattle.patch_run.specs.Doing.{IsPartOf, IsWholeOf, IsDone, IsStopped, IsBroken, IsFar, IsHalted, IsCutOff, IsOrdered, IsAmid, IsCutIn, IsCutAt, effects_in, said_of}
 use Rattle.patch_run.proofs.EffectLists.{made_both, leaves_after, tells_after}
 
 run-both : (o : PlainOptions) (output : Option Target) (xs ys : List Item) (r : Run) → run_on o output (xs ++ ys) r ≡ run_on o output ys (run_on o output xs r)
@@ -105,6 +106,35 @@ far_stops {u = u} {w = w} {a = a} {b = b} {c = c} r said fault far whole = recor
   now = whole.now;
 }
 
+-- where a run was cut off
+stopped_part : {v w : TreeView} {b c : SinkView} (files : Files) (e : Ending) → IsWholeOf v w b c [] (said_of e) files → IsPartOf v w b c (effects_in e) (said_of e)
+stopped_part {v = v} {w = w} {b = b} {c = c} files e whole = record {
+  tells = tells_longer v w [] (effects_in e) (effects_in e) refl (made_tells_all v w [] whole.made);
+  leaves = since_longer v w [] (effects_in e) (effects_in e) refl whole.made.since;
+  said = received_part b c (said_of e) whole.said;
+}
+
+broken_part : {v w : TreeView} {b c : SinkView} (fault : RunFault) (files : Files) (e : Ending) → IsBroken fault v w b c files e → IsPartOf v w b c (effects_in e) (said_of e)
+broken_part Tree files e broken = broken
+broken_part Write files e broken = broken
+broken_part Scratch files e broken = broken
+broken_part (LongLine line count) files e broken = stopped_part files e broken.1
+broken_part (FileTooLong count) files e broken = stopped_part files e broken.1
+broken_part (Disagree want got) files e broken = broken
+broken_part Memory files e broken = broken
+
+amid : {v w : TreeView} (files : Files) (es : List Effect) → v.told ≡ Some files → Passes v w → IsPart v w es → IsAmid w files es
+amid {w = w} files es told passes part = record { now = λ g now. part.tells files g told now; left = λ c left. part.leaves files told c (w.moment, passes.later, omega arith, left) }
+
+cut_in : {u v w : TreeView} {a b c : SinkView} (fault : RunFault) (r : Run) (e : Ending) → IsFar u v a b r → Passes v w → IsBroken fault v w b c r.files e → IsOrdered fault v w b c (said_of e) → IsCutIn fault w a c r e
+cut_in {a = a} {b = b} {c = c} fault r e far passes broken order =
+    let part = broken_part fault r.files e broken in
+    record {
+      done = amid r.files (effects_in e) far.now passes (record { tells = part.tells; leaves = part.leaves });
+      said = λ bytes told. part.said (bytes ++ r.said) (far.said bytes told);
+      order = ⊎_elim (λ none. inl (amid r.files [] far.now passes none)) (λ all. inr (all.0, received_both a b c r.said (said_of e) far.said all.1)) order;
+    }
+
 -- one file patch more, as a run that goes on takes it
 next_item : (o : PlainOptions) (output : Option Target) (r : Run) (i : Item) → r.stop ≡ None → with_item o output r i ≡ with_ending (turn_of o output r i) r (ending (turn_of o output r i) r.files)
 next_item o output r i going = ap (λ x. if_going x r (with_ending (turn_of o output r i) r (ending (turn_of o output r i) r.files))) going
@@ -138,6 +168,18 @@ module _ (o : PlainOptions) (output : Option Target) (xs : List Item) (i : Item)
         let is : run_of o output (xs ++ i ∷ ys) f ≡ s =
         whole-next ys ∙ ap (λ (e : Ending). run_on o output ys (with_ending t r e)) stops.0 ∙ stays_stopped o output ys s fault refl in
         subst (λ (x : Run). IsHalted u w a c x fault) (sym is) (refl, far_stops r said fault far stops.1)
+
+    pub cut_here : (e : RunFault) → IsBroken e v w b c (run_of o output xs f).files (ending t (run_of o output xs f).files) → IsOrdered e v w b c (said_of (ending t (run_of o output xs f).files)) → IsCutAt e w a c o output (xs ++ i ∷ ys) f
+    cut_here e broken order =
+        let r = run_of o output xs f in
+        record {
+          front = xs;
+          item = i;
+          behind = ys;
+          all = refl;
+          going = going;
+          cut = subst (λ (x : PlainTurn). IsCutIn e w a c r (ending x r.files)) (sym same) (cut_in e r (ending t r.files) far passes broken order);
+        }
 
     -- a fault within a file patch
     pub cut_off : (e : RunFault) → IsBroken e v w b c (run_of o output xs f).files (ending t (run_of o output xs f).files) → IsCutOff e u w a c (run_of o output (xs ++ i ∷ ys) f)

@@ -26,8 +26,8 @@ use Rattle.patch_run.specs.Devices.{Told, HasRunCause, scratch_with}
 use Rattle.patch_run.specs.OnePatch.{Item, Mark, PlainTurn, Story, Ending, ending, mark_of}
 use Rattle.patch_run.specs.Run.{Run, run_on, turn_of, with_story, with_ending, run_of, item_of, items_of, set_run}
 use Rattle.patch_run.specs.Ready.{AreNumbered, marks, rows_in, turn_at}
-use Rattle.patch_run.specs.Doing.{Stays, IsDone, IsEnded, IsBroken, IsFar, IsCutOff, scratch_behind, StaysSet}
-use Rattle.patch_run.proofs.Folding.{run-next, cut_off, far_on}
+use Rattle.patch_run.specs.Doing.{Stays, IsDone, IsEnded, IsBroken, IsFar, IsCutOff, IsOrdered, IsCutAt, said_of, scratch_behind, StaysSet}
+use Rattle.patch_run.proofs.Folding.{run-next, cut_off, cut_here, far_on}
 use Rattle.patch_run.proofs.Marks.{verdicts-next, marks-next}
 
 -- what passes over the devices while a run goes on
@@ -179,12 +179,21 @@ module _ (o : PlainOptions) (v : SetView) (k : ℕ) (p : FilePatch) (vs ws : Lis
         subst (λ (l : List Item). IsCutOff fault u w c e (run_of o v.output l f)) (items-around v k p next.within next.at)
         (cut_off o v.output (take k (items_of v)) (item_of v.text p) (turn_at o v k vs p) f at.going (same-turn r at.past) u x w c d e (drop (k + 1) (items_of v)) at.far passes fault broken)
 
+    pub at_cut : (fault : RunFault) → Passes x w → IsBroken fault x w d e (run_to o v k f).files (ending (turn_at o v k vs p) (run_to o v k f).files) → IsOrdered fault x w d e (said_of (ending (turn_at o v k vs p) (run_to o v k f).files))
+        → IsCutAt fault w c e o v.output (items_of v) f
+    at_cut fault passes broken order =
+        let r = run_to o v k f in
+        subst (λ (l : List Item). IsCutAt fault w c e o v.output l f) (items-around v k p next.within next.at)
+        (cut_here o v.output (take k (items_of v)) (item_of v.text p) (turn_at o v k vs p) f at.going (same-turn r at.past) u x w c d e (drop (k + 1) (items_of v)) at.far passes fault broken order)
+
 -- the set whose rows were noted has the same file patches
+pub same-items : (old new : SetView) → StaysSet old new → items_of new ≡ items_of old
+same-items old new stays = ap (λ (l : List ℕ). map (item_of l) new.patches) stays.text ∙ ap (λ (l : List FilePatch). map (item_of old.text) l) stays.patches
+
 pub same-run : (o : PlainOptions) (old new : SetView) (f : Files) → StaysSet old new → set_run o new f ≡ set_run o old f
 same-run o old new f stays =
     ap (λ (x : Option Target). run_of o x (items_of new) f) stays.output
-    ∙ ap (λ (l : List ℕ). run_of o old.output (map (item_of l) new.patches) f) stays.text
-    ∙ ap (λ (l : List FilePatch). run_of o old.output (map (item_of old.text) l) f) stays.patches
+    ∙ ap (λ (l : List Item). run_of o old.output l f) (same-items old new stays)
 
 pub all-run : (o : PlainOptions) (v : SetView) (k : ℕ) (f : Files) → k ≡ length v.patches → run_to o v k f ≡ set_run o v f
 all-run o v k f all = ap (λ (l : List Item). run_of o v.output l f) (take_all k (items_of v) (omega (arith, all, length-map v.patches (item_of v.text))))

@@ -1,5 +1,5 @@
 -- The ends of a run over the file patches of a set.
-use Rattle.std.proofs.Common.{◌≡◌, ◌⊎◌, ℕ, ◌+◌, ◌<◌, List, [], ◌∷◌, ◌++◌, length, take, get_or, replicate, Bool, Option, Result, Ok, Err, sym, ◌∙◌, ap, subst, arith, length-append}
+use Rattle.std.proofs.Common.{◌≡◌, ◌⊎◌, ℕ, ◌+◌, ◌<◌, List, [], ◌∷◌, ◌++◌, length, take, get_or, replicate, Bool, Option, Result, Ok, Err, IfErr, sym, ◌∙◌, ap, subst, arith, length-append}
 use Rattle.std.proofs.lemmas.List.{take_more, take_more_set, same_from_push}
 use Rattle.std.specs.Result.{IsErrAnd}
 use Rattle.outside.specs.Files.{Files}
@@ -14,17 +14,18 @@ use Rattle.line_store.specs.Store.{Seen}
 use Rattle.patch_options.specs.PlainJob.{PlainOptions}
 use Rattle.patch_set.specs.declared.set.Row.{Row}
 use Rattle.patch_set.specs.SetView.{SetView, with_row}
+use Rattle.target_names.specs.declared.derived.Target.{Target}
 use Rattle.patch_run.specs.declared.fault.RunFault.{RunFault}
 use Rattle.patch_run.specs.declared.fault.RunFault.TheVariants.{Tree, Write, Scratch, LongLine, FileTooLong, Disagree, Memory}
 use Rattle.patch_run.specs.declared.apply.Done.{Done}
 use Rattle.patch_run.specs.Devices.{Told}
-use Rattle.patch_run.specs.OnePatch.{ending}
-use Rattle.patch_run.specs.Run.{Run, set_run}
+use Rattle.patch_run.specs.OnePatch.{Item, ending}
+use Rattle.patch_run.specs.Run.{Run, items_of, set_run}
 use Rattle.patch_run.specs.Ready.{rows_in, turn_at}
-use Rattle.patch_run.specs.Doing.{QuietAfter, Does, IsCutOff, Runs, StaysSet, IsPlacedOn}
+use Rattle.patch_run.specs.Doing.{QuietAfter, Does, IsCutOff, IsCutAt, Runs, StaysSet, IsPlacedOn}
 use Rattle.patch_run.proofs.Folding.{cut_moments}
 use Rattle.patch_run.proofs.Marks.{rows-last}
-use Rattle.patch_run.proofs.Going.{Goes, IsAt, IsNext, run_to, same-run, all-run, plan_both, cause_then, at_fault}
+use Rattle.patch_run.proofs.Going.{Goes, IsAt, IsNext, run_to, same-items, same-run, all-run, plan_both, cause_then, at_fault, at_cut}
 
 quiet_still : (R S : Type 0) (w : TreeView) (fault : RunFault) → QuietAfter {R = R} (Err fault) w → QuietAfter {R = S} (Err fault) w
 quiet_still R S w Tree quiet = tt
@@ -57,6 +58,19 @@ module _ (u x w : TreeView) (a b b' : Seen) (c d e : SinkView) {scratch_after : 
         cut = cut_at fault does;
         moments = λ f told. cut_moments u w c e fault (set_run o old f) (cut_at fault does f told);
       })
+
+  ends_at : (fault : RunFault) → Does x w b b' d e scratch_after (Err fault) (rows_in ws p) (ending (turn_at o v k vs p)) → (f : Files) → Told u a f → IsCutAt fault w c e o old.output (items_of old) f
+  ends_at fault does f told =
+      let was = at f told in
+      let mid : Told x b (run_to o v k f).files = (was.far.now, goes.plan.telling ∙ told.1) in
+      subst (λ (y : Option Target). IsCutAt fault w c e o y (items_of old) f) stays.output
+      (subst (λ (l : List Item). IsCutAt fault w c e o v.output l f) (same-items old v stays)
+      (at_cut o v k p vs ws next f u x w a b b' c d e was fault does.stays.tree (does.broken (run_to o v k f).files mid) (does.order (run_to o v k f).files mid)))
+
+  pub cut_ends : {R : Type 0} (fault : RunFault) (s : Result R RunFault) → IsErrAnd s (λ y. y ≡ fault) → Does x w b b' d e scratch_after (Err fault) (rows_in ws p) (ending (turn_at o v k vs p))
+      → IfErr s (λ y. (f : Files) → Told u a f → IsCutAt y w c e o old.output (items_of old) f)
+  cut_ends fault (Ok y) is does = tt
+  cut_ends fault (Err y) is does = subst (λ (z : RunFault). (f : Files) → Told u a f → IsCutAt z w c e o old.output (items_of old) f) (sym is) (ends_at fault does)
 
 -- after the last file patch
 module _ {u w : TreeView} {a b : Seen} {c d : SinkView} {scratch_after : ℕ → List ℕ → Option (List ℕ) → Option (List ℕ)} {is_bad : Bool} {count : ℕ} (o : PlainOptions) (old v : SetView) (k : ℕ) (vs : List Verdict) (all : k ≡ length v.patches) (stays : StaysSet old v)

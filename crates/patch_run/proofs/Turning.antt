@@ -1,5 +1,5 @@
 -- A file patch from its start to its end.
-use Rattle.std.proofs.Common.{◌≡◌, ℕ, List, [], replicate, true, is_some, Option, Some, Result, Ok, Err, IfOk, IfErr, OnErr, refl, sym, ◌∙◌, ap, subst, arith}
+use Rattle.std.proofs.Common.{◌≡◌, inl, ℕ, List, [], replicate, true, is_some, Option, Some, Result, Ok, Err, IfOk, IfErr, OnErr, refl, sym, ◌∙◌, ap, subst, arith}
 use Rattle.std.proofs.lemmas.Option.{same_Some}
 use Rattle.std.specs.Result.{IsErrAnd}
 use Rattle.outside.specs.Files.{Files, SameLasting, lasting-same}
@@ -26,8 +26,9 @@ use Rattle.patch_run.specs.declared.apply.Done.{Done}
 use Rattle.patch_run.specs.OnePatch.{PlainTurn, Start, skips, refuses, tries, total, bytes_of, lines_in, start, skipped, finished_at, ending_of, ending}
 use Rattle.patch_run.specs.Devices.{Told, scratch_with}
 use Rattle.patch_run.specs.Starting.{Starts, IsDecided, IsBrokenOff, said_in, taken_in}
-use Rattle.patch_run.specs.Doing.{Stays, QuietAfter, IsPartOf, IsWholeOf, IsDone, IsEnded, IsStopped, IsBroken, IsDeviceFault, Does, effects_in, said_of}
+use Rattle.patch_run.specs.Doing.{Stays, QuietAfter, IsPartOf, IsWholeOf, IsDone, IsEnded, IsStopped, IsBroken, IsDeviceFault, IsOrdered, Does, effects_in, said_of}
 use Rattle.patch_run.proofs.EffectLists.{made_both, leaves_after, tells_after}
+use Rattle.patch_run.proofs.Applying.{unmade, ordered_after, ordered_behind}
 use Rattle.patch_run.proofs.Going.{Goes, plan_both, cause_then}
 
 untouched_made : {u v : TreeView} → IsUntouched u v → IsQuiet u → HasMade u v []
@@ -93,6 +94,7 @@ module _ (t : PlainTurn) (u v : TreeView) (a b : Seen) (c d : SinkView) (scratch
         quiet = still_quiet Done fault (untouched_quiet begins.untouched quiet);
         whole = tt;
         broken = λ f told. broken_off fault begins f told (begins.broken f told);
+        order = λ f told. inl (unmade (untouched_made begins.untouched quiet));
       })
 
   module _ (decision : Decision) (begins : Begins (Ok decision)) where
@@ -157,6 +159,7 @@ module _ (t : PlainTurn) (u v : TreeView) (a b : Seen) (c d : SinkView) (scratch
         quiet = goes.quiet;
         whole = skip_done done was writes.received;
         broken = tt;
+        order = tt;
       }
       skip_does (Err y) writes fault was =
           subst (λ (z : RunFault). Does u v a b c e scratch_after (Err z) vs (λ f. ending_of t f (start t f))) (sym fault)
@@ -165,6 +168,7 @@ module _ (t : PlainTurn) (u v : TreeView) (a b : Seen) (c d : SinkView) (scratch
             quiet = tt;
             whole = tt;
             broken = skip_part writes.failed;
+            order = λ f told. inl (unmade (untouched_made begins.untouched quiet));
           })
 
     -- its hunks are tried
@@ -199,6 +203,16 @@ module _ (t : PlainTurn) (u v : TreeView) (a b : Seen) (c d : SinkView) (scratch
           subst (λ (s : Start). IsPartOf u z c e (effects_in (ending_of t f s)) (said_of (ending_of t f s))) (sym tr.1.0)
           (record { tells = tells_after made passes last.effects did.tells; leaves = leaves_after made passes last.effects did.leaves; said = part_after c d e said last.said first did.said })
 
+      try_ordered : (fault : RunFault) → Passes v z → ((f : Files) → v.told ≡ Some f → b.told ≡ Some (lines_in (bytes_of t f place)) → IsOrdered fault v z d e (finished_at t f [] place side).said)
+          → (f : Files) → Told u a f → IsOrdered fault u z c e (said_of (ending_of t f (start t f)))
+      try_ordered fault passes ordered f told =
+          let tr = tries_is f (start t f) place side is (begins.decided f told) in
+          let said = tr.0 in
+          let last = finished_at t f [] place side in
+          let first : Receives c d said = subst (λ (s : Start). Receives c d (said_in s)) tr.1.0 (begins.said f told) in
+          subst (λ (s : Start). IsOrdered fault u z c e (said_of (ending_of t f s))) (sym tr.1.0)
+          (ordered_behind c d e fault said last.said first (ordered_after d e fault last.said (untouched_made begins.untouched quiet) passes (ordered f (begins.untouched.told ∙ told.0) tr.1.1)))
+
       device_broken : (fault : RunFault) → IsDeviceFault fault → (f : Files) → IsPartOf u z c e (effects_in (ending_of t f (start t f))) (said_of (ending_of t f (start t f))) → IsBroken fault u z c e f (ending_of t f (start t f))
       device_broken Tree device f part = part
       device_broken Write device f part = part
@@ -211,17 +225,20 @@ module _ (t : PlainTurn) (u v : TreeView) (a b : Seen) (c d : SinkView) (scratch
       pub try_does : (r : Result Done RunFault) → Stays v z b b' d e r → QuietAfter r z → IfErr r IsDeviceFault
           → IfOk r (λ done. (f : Files) → v.told ≡ Some f → b.told ≡ Some (lines_in (bytes_of t f place)) → IsDone v z d e done vs f (finished_at t f [] place side))
           → OnErr r ((f : Files) → v.told ≡ Some f → b.told ≡ Some (lines_in (bytes_of t f place)) → IsPartOf v z d e (finished_at t f [] place side).effects (finished_at t f [] place side).said)
+          → IfErr r (λ y. (f : Files) → v.told ≡ Some f → b.told ≡ Some (lines_in (bytes_of t f place)) → IsOrdered y v z d e (finished_at t f [] place side).said)
           → Does u z a b' c e scratch_after r vs (ending t)
       unfolding ending
-      try_does (Ok done) stays calm device whole part = record {
+      try_does (Ok done) stays calm device whole part order = record {
         stays = record { tree = passes_both goes.tree stays.tree; plan = plan_both goes.plan stays.plan; sink = sink_passes_both goes.sink stays.sink; cause = tt };
         quiet = calm;
         whole = try_done done whole;
         broken = tt;
+        order = tt;
       }
-      try_does (Err fault) stays calm device whole part = record {
+      try_does (Err fault) stays calm device whole part order = record {
         stays = record { tree = passes_both goes.tree stays.tree; plan = plan_both goes.plan stays.plan; sink = sink_passes_both goes.sink stays.sink; cause = cause_then u v z a b b' c d e fault goes stays.cause };
         quiet = calm;
         whole = tt;
         broken = λ f told. device_broken fault device f (try_part stays.tree part f told);
+        order = try_ordered fault stays.tree order;
       }

@@ -1,8 +1,8 @@
 -- How far a file patch, and a run, has come.
-use Rattle.std.specs.Prelude.{◌≡◌, ◌≢◌, ◌⊎◌, ℕ, List, [], ◌∷◌, ◌++◌, length, map, replicate, Bool, true, false, Option, None, Some, Result, Ok, Err, OnOk, IfOk, IfErr}
+use Rattle.std.specs.Prelude.{◌≡◌, ◌≢◌, ◌⊎◌, ℕ, ◌≤◌, List, [], ◌∷◌, ◌++◌, length, take, map, replicate, Bool, true, false, Option, None, Some, Result, Ok, Err, OnOk, IfOk, IfErr}
 use Rattle.std.specs.List.{fold, flat_map}
-use Rattle.outside.specs.Files.{Files}
-use Rattle.outside.specs.TreeView.{TreeView, Passes}
+use Rattle.outside.specs.Files.{Files, SameLasting}
+use Rattle.outside.specs.TreeView.{TreeView, Passes, MayLeave}
 use Rattle.outside.specs.SinkView.{SinkView, SinkPasses, Receives, ReceivesPart}
 use Rattle.outside.specs.Quiet.{IsQuiet, Effect, HasMade, TellsPrefix, LeavesPrefix}
 use Rattle.hunk_core.specs.declared.Verdict.{Verdict}
@@ -22,8 +22,8 @@ use Rattle.target_names.specs.declared.derived.Target.{Target}
 use Rattle.patch_run.specs.declared.apply.Done.{Done}
 use Rattle.patch_run.specs.declared.effects.Made.{Made}
 use Rattle.patch_run.specs.Trying.{IsSession}
-use Rattle.patch_run.specs.Making.{IsGone}
-use Rattle.patch_run.specs.OnePatch.{PlainTurn, Tried, Story, Ending, ended, stopped, effects_of, tried_said, wrote}
+use Rattle.patch_run.specs.Making.{IsGone, IsPart}
+use Rattle.patch_run.specs.OnePatch.{Item, PlainTurn, Tried, Story, Ending, ended, stopped, effects_of, tried_said, wrote, ending}
 use Rattle.hunk_core.specs.declared.Verdict.TheVariants.{Ignored}
 use Rattle.hunk_apply.specs.Change.{change_verdicts}
 use Rattle.patch_options.specs.PlainJob.{PlainOptions}
@@ -33,7 +33,7 @@ use Rattle.patch_set.specs.declared.set.Row.{Row}
 use Rattle.patch_set.specs.SetView.{SetView}
 use Rattle.patch_run.specs.Applied.{Receipt}
 use Rattle.patch_run.specs.Ready.{rows_in}
-use Rattle.patch_run.specs.Run.{Run, files_after}
+use Rattle.patch_run.specs.Run.{Run, files_after, turn_of, run_of}
 use Rattle.patch_run.specs.Devices.{Told, HasRunCause, scratch_with}
 
 -- what stays of the three devices over any part of a run, and what a fault says of them
@@ -97,6 +97,10 @@ IsBroken (FileTooLong length) u w c d f e = IsStopped u w c d f e (open_fault.Fi
 IsBroken (Disagree want got) u w c d f e = IsPartOf u w c d (effects_in e) (said_of e)
 IsBroken Memory u w c d f e = IsPartOf u w c d (effects_in e) (said_of e)
 
+-- a fault before any effect, or one of the tree once all was said
+abbrev pub IsOrdered : RunFault → TreeView → TreeView → SinkView → SinkView → List ℕ → Type 0
+IsOrdered e u w c d text = IsPart u w [] ⊎ ((e ≡ Tree) × Receives c d text)
+
 -- after an end, and after a file that isn't taken, the tree is quiet
 abbrev pub QuietAfter : {R : Type 0} → Result R RunFault → TreeView → Type 0
 QuietAfter (Ok x) w = IsQuiet w
@@ -114,6 +118,8 @@ pub record Does (u w : TreeView) (a b : Seen) (c d : SinkView) (scratch_after : 
   pub quiet : QuietAfter result w
   pub whole : IfOk result (λ done. (f : Files) → Told u a f → IsEnded u w b c d (λ taken. scratch_with scratch_after a.size taken a.scratch) done verdicts f (ending f))
   pub broken : IfErr result (λ e. (f : Files) → Told u a f → IsBroken e u w c d f (ending f))
+  -- nothing is done before all is said
+  pub order : IfErr result (λ e. (f : Files) → Told u a f → IsOrdered e u w c d (said_of (ending f)))
 
 -- ---- the end of a file patch whose hunks were tried
 
@@ -172,6 +178,30 @@ IsCutOff (LongLine line length) u w c d r = IsHalted u w c d r (open_fault.LongL
 IsCutOff (FileTooLong length) u w c d r = IsHalted u w c d r (open_fault.FileTooLong length)
 IsCutOff (Disagree want got) u w c d r = IsPartOf u w c d r.effects r.said
 IsCutOff Memory u w c d r = IsPartOf u w c d r.effects r.said
+
+-- reads, and a crash now, give these files after some of the effects, from the front
+pub record IsAmid (w : TreeView) (files : Files) (es : List Effect) : Type 0 where
+  pub now : (g : Files) → w.told ≡ Some g → (k : ℕ) × (k ≤ length es) × SameLasting (after_all (take k es) files) g
+  pub left : (c : Files) → MayLeave w c → (k : ℕ) × (k ≤ length es) × SameLasting (after_all (take k es) files) c
+
+-- it holds what it held, this text, and a first part of the piece, or tells nothing any more
+abbrev pub ReceivesBehind : SinkView → SinkView → List ℕ → List ℕ → Type 0
+ReceivesBehind c d text piece = (b : List ℕ) → c.told ≡ Some b → (d.told ≡ None) ⊎ ((n : ℕ) × (d.told ≡ Some ((b ++ text) ++ take n piece)))
+
+-- behind a run, a file patch that ends so was cut off: nothing of it is done, or all of it was said before a call of the tree failed
+pub record IsCutIn (e : RunFault) (w : TreeView) (c d : SinkView) (r : Run) (ending : Ending) : Type 0 where
+  pub done : IsAmid w r.files (effects_in ending)
+  pub said : ReceivesBehind c d r.said (said_of ending)
+  pub order : IsAmid w r.files [] ⊎ ((e ≡ Tree) × Receives c d (r.said ++ said_of ending))
+
+-- a run over these was cut off at one of them, those in front of it having come to their ends
+pub record IsCutAt (e : RunFault) (w : TreeView) (c d : SinkView) (o : PlainOptions) (output : Option Target) (items : List Item) (f : Files) : Type 0 where
+  pub front : List Item
+  pub item : Item
+  pub behind : List Item
+  pub all : items ≡ front ++ item ∷ behind
+  pub going : (run_of o output front f).stop ≡ None
+  pub cut : IsCutIn e w c d (run_of o output front f) (ending (turn_of o output (run_of o output front f) item) (run_of o output front f).files)
 
 -- what the scratch holds once these files were taken, one after another
 abbrev pub scratch_behind : (ℕ → List ℕ → Option (List ℕ) → Option (List ℕ)) → ℕ → Option (List ℕ) → List (List ℕ) → Option (List ℕ)

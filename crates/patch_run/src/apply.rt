@@ -4,7 +4,7 @@ ghost use Rattle.std.specs.Prelude.{◌≡◌, ◌<◌, ◌≤◌, ◌⊎◌, �
 ghost use Rattle.outside.specs.Files.{Files};
 ghost use Rattle.outside.specs.TreeView.{Passes};
 ghost use Rattle.outside.specs.SinkView.{SinkPasses, Writes};
-ghost use Rattle.outside.specs.Calls.{IsThere};
+ghost use Rattle.outside.specs.Calls.{IsThere, IsUntouched};
 ghost use Rattle.outside.specs.Quiet.{IsQuiet};
 ghost use Rattle.hunk_core.specs.declared.Verdict.TheVariants.{Ignored};
 ghost use Rattle.line_store.specs.Store.{Keeps};
@@ -14,7 +14,7 @@ ghost use Rattle.file_patch.specs.PlainPatch.{row_count};
 ghost use Rattle.say_text.specs.Messages.{ignored_line};
 ghost use Rattle.patch_run.specs.OnePatch.{Tried, total, bytes_of, lines_in, effects_of, tried_said, some_failed, is_kept, finished_at, ending};
 ghost use Rattle.patch_run.specs.Trying.{IsSession, IsBegun};
-ghost use Rattle.patch_run.specs.Doing.{Does, Stays, QuietAfter, IsDone, IsPartOf, IsDeviceFault, HasEndCause, IsOutcome, IsMadeWhole};
+ghost use Rattle.patch_run.specs.Doing.{Does, Stays, QuietAfter, IsDone, IsPartOf, IsDeviceFault, HasEndCause, IsOutcome, IsMadeWhole, IsOrdered};
 ghost use Rattle.patch_run.specs.Devices.{Told};
 ghost use Rattle.patch_run.specs.Ready.{IsNamed};
 ghost use Rattle.patch_run.specs.TurnView.{plain_turn, IsTurn};
@@ -58,6 +58,7 @@ pub fn apply_one<P: Plan, T: Tree, O: Sink>(
     requires quiet { IsQuiet (T.view tree.old) }
     ensures does { Does (T.view tree.old) (T.view tree.new) (P.seen plan.old) (P.seen plan.new) (O.view out.old) (O.view out.new) P.scratch_after result verdicts.new (ending (plain_turn turn.now)) }
     ensures rest { O.same_rest out.old out.new }
+    ensures dry { turn.now.options.now.dry_run ≡ true → IsUntouched (T.view tree.old) (T.view tree.new) }
     ensures rows { length verdicts.new ≡ length verdicts.old }
     ensures few { IfOk result (λ done. done.effects ≤ 3) }
 
@@ -119,7 +120,10 @@ fn try_at<P: LineStore, T: Tree, O: Sink>(
         → IsDone (T.view tree.old) (T.view tree.new) (O.view out.old) (O.view out.new) done verdicts.new f (finished_at (plain_turn turn.now) f [] place side)) }
     ensures broken { OnErr result ((f : Files) → (T.view tree.old).told ≡ Some f → (P.seen plan.old).told ≡ Some (lines_in (bytes_of (plain_turn turn.now) f place))
         → IsPartOf (T.view tree.old) (T.view tree.new) (O.view out.old) (O.view out.new) (finished_at (plain_turn turn.now) f [] place side).effects (finished_at (plain_turn turn.now) f [] place side).said) }
+    ensures order { IfErr result (λ e. (f : Files) → (T.view tree.old).told ≡ Some f → (P.seen plan.old).told ≡ Some (lines_in (bytes_of (plain_turn turn.now) f place))
+        → IsOrdered e (T.view tree.old) (T.view tree.new) (O.view out.old) (O.view out.new) (finished_at (plain_turn turn.now) f [] place side).said) }
     ensures rest { O.same_rest out.old out.new }
+    ensures dry { turn.now.options.now.dry_run ≡ true → IsUntouched (T.view tree.old) (T.view tree.new) }
     ensures rows { length verdicts.new ≡ length verdicts.old }
     ensures few { IfOk result (λ done. done.effects ≤ 3) }
     ensures placed { IfOk result (λ done. (lines : List (List ℕ)) → (P.seen plan.new).told ≡ Some lines
@@ -154,10 +158,13 @@ fn tell_and_make<T: Tree, O: Sink>(
     ensures cause { IfErr result (λ e. HasEndCause e (T.view tree.old) (T.view tree.new) (O.view out.old) (O.view out.new)) }
     ensures quiet { OnOk result (IsQuiet (T.view tree.new)) }
     ensures rest { O.same_rest out.old out.new }
+    ensures dry { turn.now.options.now.dry_run ≡ true → IsUntouched (T.view tree.old) (T.view tree.new) }
     ensures whole { IfOk result (λ made. (f : Files) (x : Tried) → (T.view tree.old).told ≡ Some f → IsOutcome turn.now.options.now.dry_run (T.view tree.old) attempt.entry.session target.now.temp side verdicts.now x
         → IsMadeWhole (plain_turn turn.now) f target.now x made (T.view tree.old) (T.view tree.new) (O.view out.old) (O.view out.new)) }
     ensures broken { OnErr result ((f : Files) (x : Tried) → (T.view tree.old).told ≡ Some f → IsOutcome turn.now.options.now.dry_run (T.view tree.old) attempt.entry.session target.now.temp side verdicts.now x
         → IsPartOf (T.view tree.old) (T.view tree.new) (O.view out.old) (O.view out.new) (effects_of (plain_turn turn.now) f target.now x) (tried_said (plain_turn turn.now) target.now x)) }
+    ensures order { IfErr result (λ e. (x : Tried) → IsOutcome turn.now.options.now.dry_run (T.view tree.old) attempt.entry.session target.now.temp side verdicts.now x
+        → IsOrdered e (T.view tree.old) (T.view tree.new) (O.view out.old) (O.view out.new) (tried_said (plain_turn turn.now) target.now x)) }
     ensures few { IfOk result (λ made. made.effects ≤ 3) }
 {
     tell(turn, target, side, &attempt.session, verdicts, out)?;

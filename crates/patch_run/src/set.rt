@@ -1,16 +1,17 @@
 //! All file patches of a set.
 
-ghost use Rattle.std.specs.Prelude.{◌≡◌, ◌<◌, ◌≤◌, ◌+◌, ◌⊎◌, ◌||◌, ℕ, List, length, take, drop, replicate, slice_index_or, Some, IfOk, OnOk};
+ghost use Rattle.std.specs.Prelude.{◌≡◌, ◌<◌, ◌≤◌, ◌+◌, ◌⊎◌, ◌||◌, ℕ, List, true, length, take, drop, replicate, slice_index_or, Some, IfOk, IfErr, OnOk};
 ghost use Rattle.outside.specs.Files.{Files};
+ghost use Rattle.outside.specs.Calls.{IsUntouched};
 ghost use Rattle.outside.specs.Quiet.{IsQuiet};
 ghost use Rattle.file_patch.specs.declared.FilePatch.{FilePatch as ThePatch};
 ghost use Rattle.file_patch.specs.PlainPatch.{row_count};
 ghost use Rattle.patch_options.specs.PlainJob.{plain_options, IsLawful};
 ghost use Rattle.patch_set.specs.SetView.{IsRead, hunks_in};
-ghost use Rattle.patch_run.specs.Run.{set_run};
+ghost use Rattle.patch_run.specs.Run.{items_of, set_run};
 ghost use Rattle.patch_run.specs.Ready.{IsReady, AreNumbered, rows_in, turn_at};
 ghost use Rattle.patch_run.specs.OnePatch.{ending};
-ghost use Rattle.patch_run.specs.Doing.{Does, Runs, IsReceipt, StaysSet, IsPlacedOn, IsPlacedLast};
+ghost use Rattle.patch_run.specs.Doing.{Does, Runs, IsReceipt, IsCutAt, StaysSet, IsPlacedOn, IsPlacedLast};
 ghost use Rattle.patch_run.specs.Devices.{Told};
 ghost use Rattle.patch_run.specs.TurnView.{IsTurn, plain_turn};
 ghost use Rattle.hunk_core.specs.declared.Verdict.TheVariants.{Ignored};
@@ -42,9 +43,15 @@ pub fn apply_set<P: Plan, T: Tree, O: Sink>(
     requires size { (P.seen plan.old).size ≡ options.now.buffer }
     requires quiet { IsQuiet (T.view tree.old) }
     ensures runs { Runs (T.view tree.old) (T.view tree.new) (P.seen plan.old) (P.seen plan.new) (O.view out.old) (O.view out.new) P.scratch_after result (set_run (plain_options options.now) set.old) }
+
+    // A fault cuts the run off at one file patch, of which nothing is done before all of it is said.
+    ensures cut { IfErr result (λ e. (f : Files) → Told (T.view tree.old) (P.seen plan.old) f → IsCutAt e (T.view tree.new) (O.view out.old) (O.view out.new) (plain_options options.now) set.old.output (items_of set.old) f) }
     ensures receipt { IfOk result (λ applied. (f : Files) → Told (T.view tree.old) (P.seen plan.old) f → IsReceipt (set_run (plain_options options.now) set.old f) applied (length set.old.patches) set.new.verdicts set.new.rows) }
     ensures done { IfOk result (λ applied. applied.done ≡ length set.old.patches) }
     ensures rest { O.same_rest out.old out.new }
+
+    // A dry run starts no temporary either, whatever is told.
+    ensures dry { options.now.dry_run ≡ true → IsUntouched (T.view tree.old) (T.view tree.new) }
     ensures set { StaysSet set.old set.new }
     ensures verdicts { length set.new.verdicts ≡ length set.old.verdicts }
 
@@ -72,9 +79,11 @@ fn apply_all<P: Plan, T: Tree, O: Sink>(
     requires size { (P.seen plan.old).size ≡ options.now.buffer }
     requires quiet { IsQuiet (T.view tree.old) }
     ensures runs { Runs (T.view tree.old) (T.view tree.new) (P.seen plan.old) (P.seen plan.new) (O.view out.old) (O.view out.new) P.scratch_after result (set_run (plain_options options.now) set.old) }
+    ensures cut { IfErr result (λ e. (f : Files) → Told (T.view tree.old) (P.seen plan.old) f → IsCutAt e (T.view tree.new) (O.view out.old) (O.view out.new) (plain_options options.now) set.old.output (items_of set.old) f) }
     ensures receipt { IfOk result (λ applied. (f : Files) → Told (T.view tree.old) (P.seen plan.old) f → IsReceipt (set_run (plain_options options.now) set.old f) applied (length set.old.patches) verdicts.new set.new.rows) }
     ensures done { IfOk result (λ applied. applied.done ≡ length set.old.patches) }
     ensures rest { O.same_rest out.old out.new }
+    ensures dry { options.now.dry_run ≡ true → IsUntouched (T.view tree.old) (T.view tree.new) }
     ensures set { StaysSet set.old set.new }
     ensures verdicts { length verdicts.new ≡ length verdicts.old }
     ensures placed { OnOk result ((lines : List (List ℕ)) → (P.seen plan.new).told ≡ Some lines → IsPlacedLast (plain_options options.now) set.new verdicts.new lines) }
@@ -119,6 +128,7 @@ fn apply_at<P: Plan, T: Tree, O: Sink>(
     ensures behind { (p : ThePatch) → p ≡ slice_index_or set.now.patches k p → drop (p.first_verdict + row_count p.change) verdicts.new ≡ drop (p.first_verdict + row_count p.change) verdicts.old }
     ensures verdicts { length verdicts.new ≡ length verdicts.old }
     ensures rest { O.same_rest out.old out.new }
+    ensures dry { options.now.dry_run ≡ true → IsUntouched (T.view tree.old) (T.view tree.new) }
     ensures few { IfOk result (λ done. done.effects ≤ 3) }
     ensures placed { IfOk result (λ done. (p : ThePatch) (lines : List (List ℕ)) → p ≡ slice_index_or set.now.patches k p → (P.seen plan.new).told ≡ Some lines → IsPlacedOn (plain_options options.now) set.now.text p verdicts.new done.row lines) }
 {
@@ -150,6 +160,7 @@ fn apply_front<P: Plan, T: Tree, O: Sink>(
     ensures behind { drop (row_count turn.now.patch.now.change) verdicts.new ≡ drop (row_count turn.now.patch.now.change) verdicts.old }
     ensures verdicts { length verdicts.new ≡ length verdicts.old }
     ensures rest { O.same_rest out.old out.new }
+    ensures dry { turn.now.options.now.dry_run ≡ true → IsUntouched (T.view tree.old) (T.view tree.new) }
     ensures few { IfOk result (λ done. done.effects ≤ 3) }
     ensures placed { IfOk result (λ done. (lines : List (List ℕ)) → (P.seen plan.new).told ≡ Some lines
         → (take (row_count turn.now.patch.now.change) verdicts.new ≡ replicate (row_count turn.now.patch.now.change) Ignored)

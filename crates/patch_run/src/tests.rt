@@ -4,6 +4,7 @@ ghost use Rattle.std.specs.Prelude.{IfOk};
 ghost use Rattle.patch_options.specs.PlainJob.{plain_options, IsLawful};
 
 use crate::{Applied, apply_set};
+use hunk_core::Verdict;
 use mem_world::{MemSink, MemTree};
 use outside::{Name, Tree};
 use patch_options::{Job, Options, read_words};
@@ -30,7 +31,7 @@ const CASES: [Case; 6] = [
         words: "patch",
         files: "f=a,b,c",
         patch: ONE,
-        answer: "status 0 done 1 effects 1",
+        answer: "status 0 done 1 effects 1 [At { line: 1, fuzz: 0, offset: 0 }]",
         said: "patching file f\n",
         after: "f=a,B,c f.orig=! f.ptmp=!",
     },
@@ -38,7 +39,7 @@ const CASES: [Case; 6] = [
         words: "patch",
         files: "f=x,y,a,b,c",
         patch: ONE,
-        answer: "status 0 done 1 effects 2",
+        answer: "status 0 done 1 effects 2 [At { line: 3, fuzz: 0, offset: 2 }]",
         said: "patching file f\nHunk #1 succeeded at 3 (offset 2 lines).\n",
         after: "f=x,y,a,B,c f.orig=x,y,a,b,c",
     },
@@ -46,7 +47,7 @@ const CASES: [Case; 6] = [
         words: "patch",
         files: "f=a,B,c",
         patch: ONE,
-        answer: "status 1 done 1 effects 0",
+        answer: "status 1 done 1 effects 0 [Ignored]",
         said: "patching file f\nReversed (or previously applied) patch detected!  Skipping patch.\n1 out of 1 hunk ignored\n",
         after: "f=a,B,c",
     },
@@ -54,7 +55,7 @@ const CASES: [Case; 6] = [
         words: "patch -f",
         files: "f=a,B,c",
         patch: ONE,
-        answer: "status 1 done 1 effects 1",
+        answer: "status 1 done 1 effects 1 [Nowhere]",
         said: "patching file f\nHunk #1 FAILED at 1.\n1 out of 1 hunk FAILED -- saving rejects to file f.rej\n",
         after: "f=a,B,c",
     },
@@ -62,7 +63,7 @@ const CASES: [Case; 6] = [
         words: "patch -b",
         files: "f=a,b,c",
         patch: "--- f\n+++ f\n@@ -1,3 +1,3 @@\n a\n-b\n+B\n c\n--- f\n+++ f\n@@ -1,2 +1,2 @@\n-a\n+A\n B\n",
-        answer: "status 0 done 2 effects 3",
+        answer: "status 0 done 2 effects 3 [At { line: 1, fuzz: 0, offset: 0 }, At { line: 1, fuzz: 0, offset: 0 }]",
         said: "patching file f\npatching file f\n",
         after: "f=A,B,c f.orig=a,b,c",
     },
@@ -70,7 +71,7 @@ const CASES: [Case; 6] = [
         words: "patch --dry-run",
         files: "f=A,b,c",
         patch: ONE,
-        answer: "status 0 done 1 effects 0",
+        answer: "status 0 done 1 effects 0 [At { line: 1, fuzz: 1, offset: 0 }]",
         said: "checking file f\nHunk #1 succeeded at 1 with fuzz 1.\n",
         after: "f=A,b,c f.orig=!",
     },
@@ -141,14 +142,14 @@ fn answer_of(
     }
     let mut plan = PlanA::new(alloc, options.buffer);
     match apply_set(&mut set, options, &mut plan, tree, out) {
-        Ok(done) => receipt(alloc, &done),
+        Ok(done) => receipt(alloc, &done, set.verdicts()),
         Err(fault) => Ok(format!(in alloc; "{fault:?}")?),
     }
 }
 
-fn receipt(alloc: Global, done: &Applied) -> Result<String, Fail> {
+fn receipt(alloc: Global, done: &Applied, verdicts: &[Verdict]) -> Result<String, Fail> {
     let (status, count, effects) = (done.status(), done.done(), done.effects());
-    Ok(format!(in alloc; "status {status} done {count} effects {effects}")?)
+    Ok(format!(in alloc; "status {status} done {count} effects {effects} {verdicts:?}")?)
 }
 
 /// Whether the tree has these files; `!` is none.

@@ -1,4 +1,5 @@
 use Rattle.std.proofs.Common.{◌≡◌, length, replicate, sym, ◌∙◌, ap}
+use Rattle.outside.specs.Calls.{untouched_both}
 use Rattle.hunk_core.specs.declared.Verdict.TheVariants.{Ignored}
 use Rattle.patch_run.specs.OnePatch.{total}
 use Rattle.patch_run.specs.TurnView.{plain_turn}
@@ -27,4 +28,13 @@ pub returns-in-Try-clause-does : goal.returns-in-Try-clause-does
 returns-in-Try-clause-does g c =
     try_does (plain_turn c.args.turn.now) (g.T.Tree.view c.args.tree.now) (g.T.Tree.view c.start.new.tree) (g.P.LineStore.seen c.args.plan.now) (g.P.LineStore.seen c.start.new.plan) (g.O.Sink.view c.args.out.now) (g.O.Sink.view c.start.new.out) g.P.Plan.scratch_after c.requires.quiet
     c.in_ok-row.field-0 c.in_ok-row.ensures.starts c.in-Try.place c.in-Try.side c.in-Try.is (g.T.Tree.view c.try_at.new.tree) (g.P.LineStore.seen c.try_at.new.plan) (g.O.Sink.view c.try_at.new.out) c.try_at.new.verdicts c.try_at.ensures.keeps
-    c.try_at.result c.try_at.ensures.stays c.try_at.ensures.quiet c.try_at.ensures.cause c.try_at.ensures.whole c.try_at.ensures.broken
+    c.try_at.result c.try_at.ensures.stays c.try_at.ensures.quiet c.try_at.ensures.cause c.try_at.ensures.whole c.try_at.ensures.broken c.try_at.ensures.order
+
+pub returns-in_err-row-clause-dry : goal.returns-in_err-row-clause-dry
+returns-in_err-row-clause-dry g c dry = c.in_err-row.ensures.starts.untouched
+
+pub returns-in-Skip-clause-dry : goal.returns-in-Skip-clause-dry
+returns-in-Skip-clause-dry g c dry = c.in_ok-row.ensures.starts.untouched
+
+pub returns-in-Try-clause-dry : goal.returns-in-Try-clause-dry
+returns-in-Try-clause-dry g c dry = untouched_both c.in_ok-row.ensures.starts.untouched (c.try_at.ensures.dry dry)

@@ -1,8 +1,14 @@
-use Rattle.std.proofs.Common.{Option, None, subst}
+use Rattle.std.proofs.Common.{inl, Option, None, sym, ◌∙◌, subst}
+use Rattle.std.proofs.lemmas.Bool.{false≢true}
+use Rattle.outside.specs.Calls.{untouched_none}
+use Rattle.outside.proofs.Effects.{made_none}
 use Rattle.replace_file.specs.declared.temp.Temp.{Temp}
+use Rattle.patch_run.specs.declared.fault.RunFault.{RunFault}
+use Rattle.patch_run.specs.OnePatch.{Tried, tried_said}
 use Rattle.patch_run.specs.TurnView.{plain_turn}
 use Rattle.patch_run.specs.Trying.{IsBegun}
-use Rattle.patch_run.proofs.Applying.{on_err, tell_fails, tell_dry, tell_made, tell_breaks}
+use Rattle.patch_run.specs.Doing.{IsOutcome, IsOrdered}
+use Rattle.patch_run.proofs.Applying.{on_err, if_any, is_wet, unmade, tell_ordered, tell_fails, tell_dry, tell_made, tell_breaks}
 use Rattle.patch_run.proofs.apply.tell_and_make.Goals as goal
 
 pub returns-in_err-tell-clause-broken : goal.returns-in_err-tell-clause-broken
@@ -28,3 +34,27 @@ returns-in-None-clause-whole g c f x told is =
     let begun : IsBegun c.args.turn.now.options.now.dry_run None c.args.target.now.temp = subst (λ (o : Option Temp). IsBegun c.args.turn.now.options.now.dry_run o c.args.target.now.temp) c.in-None.is c.requires.begun in
     tell_dry (plain_turn c.args.turn.now) c.args.target.now c.args.attempt.session c.args.side c.args.verdicts.now u u (g.O.Sink.view c.args.out.now) (g.O.Sink.view c.tell.new.out) f x begun c.requires.quiet told
     (λ output counts. (c.in_ok-tell.ensures.writes output counts).received) is
+
+pub returns-in_err-tell-clause-dry : goal.returns-in_err-tell-clause-dry
+returns-in_err-tell-clause-dry g c dry = untouched_none (g.T.Tree.view c.args.tree.now)
+
+pub returns-in-Some-clause-dry : goal.returns-in-Some-clause-dry
+returns-in-Some-clause-dry g c dry =
+    let begun = subst (λ (o : Option Temp). IsBegun c.args.turn.now.options.now.dry_run o c.args.target.now.temp) c.in-Some.is c.requires.begun in
+    absurd (false≢true (sym (is_wet c.args.turn.now.options.now.dry_run c.args.target.now.temp c.in-Some.temp begun) ∙ dry))
+
+pub returns-in-None-clause-dry : goal.returns-in-None-clause-dry
+returns-in-None-clause-dry g c dry = untouched_none (g.T.Tree.view c.args.tree.now)
+
+pub returns-in_err-tell-clause-order : goal.returns-in_err-tell-clause-order
+returns-in_err-tell-clause-order g c =
+    let u = g.T.Tree.view c.args.tree.now in
+    if_any
+    (λ (e : RunFault). (x : Tried) → IsOutcome c.args.turn.now.options.now.dry_run u c.args.attempt.session c.args.target.now.temp c.args.side c.args.verdicts.now x
+    → IsOrdered e u u (g.O.Sink.view c.args.out.now) (g.O.Sink.view c.tell.new.out) (tried_said (plain_turn c.args.turn.now) c.args.target.now x))
+    c.from_residual.result (λ e x is. inl (unmade (made_none u c.requires.quiet)))
+
+pub returns-in-Some-clause-order : goal.returns-in-Some-clause-order
+returns-in-Some-clause-order g c =
+    tell_ordered (plain_turn c.args.turn.now) c.args.target.now c.args.attempt.session c.args.side c.args.verdicts.now (g.T.Tree.view c.args.tree.now) (g.T.Tree.view c.make_effects.new.tree) (g.O.Sink.view c.args.out.now) (g.O.Sink.view c.tell.new.out)
+    (λ output counts. (c.in_ok-tell.ensures.writes output counts).received) c.make_effects.result c.make_effects.ensures.goes.cause

@@ -1,11 +1,13 @@
-use Rattle.std.proofs.Common.{◌≡◌, [], Some, true, sym, ◌∙◌, ap, subst}
+use Rattle.std.proofs.Common.{◌≡◌, inl, [], Some, true, sym, ◌∙◌, ap, subst}
 use Rattle.std.proofs.lemmas.Option.{same_Some}
 use Rattle.outside.specs.Files.{Files}
+use Rattle.outside.specs.Calls.{IsUntouched, untouched_none}
 use Rattle.target_names.specs.declared.derived.Target.{Target}
-use Rattle.patch_run.specs.OnePatch.{bytes_of, lines_in, effects_of, tried, tried_said, finished}
-use Rattle.patch_run.specs.Doing.{IsDone, IsPartOf}
+use Rattle.patch_run.specs.declared.fault.RunFault.{RunFault}
+use Rattle.patch_run.specs.OnePatch.{bytes_of, lines_in, effects_of, tried, tried_said, finished, finished_at}
+use Rattle.patch_run.specs.Doing.{IsDone, IsPartOf, IsOrdered}
 use Rattle.patch_run.specs.TurnView.{plain_turn}
-use Rattle.patch_run.proofs.Applying.{on_err, part_worked, tried_breaks, tried_done}
+use Rattle.patch_run.proofs.Applying.{on_err, if_err, if_any, works_made, unmade, part_worked, tried_breaks, tried_ordered, tried_done}
 use Rattle.patch_run.proofs.apply.try_at.Goals as goal
 
 pub returns-in_err-attempt-clause-broken : goal.returns-in_err-attempt-clause-broken
@@ -51,3 +53,43 @@ returns-clause-whole g c f told plan =
     subst (λ (y : Target). IsDone u z d e c.done_of.result c.try_hunks.new.verdicts f (finished t f [] c.args.place (bytes_of t f c.args.place) y x)) c.written-target.ensures.target
     (tried_done t f w c.args.side ls c.in_ok-attempt.attempt.session c.try_hunks.new.verdicts c.written-target.ensures.named tries.works told (tries.verdicts ls plan) (tries.session ls plan) (tries.holds ls plan)
     c.args.place c.in_ok-made.made c.done_of.result same c.in_ok-made.ensures.whole c.done_of.ensures.row c.done_of.ensures.bad c.done_of.ensures.effects)
+
+pub returns-in_err-attempt-clause-dry : goal.returns-in_err-attempt-clause-dry
+returns-in_err-attempt-clause-dry g c dry =
+    let u = g.T.Tree.view c.args.tree.now in
+    subst (λ s. IsUntouched u (g.T.Tree.view s)) (sym (c.in_err-attempt.ensures.dry dry)) (untouched_none u)
+
+pub returns-in_err-made-clause-dry : goal.returns-in_err-made-clause-dry
+returns-in_err-made-clause-dry g c dry =
+    subst (λ s. IsUntouched (g.T.Tree.view s) (g.T.Tree.view c.tell_and_make.new.tree)) (c.in_ok-attempt.ensures.dry dry) (c.in_err-made.ensures.dry dry)
+
+pub returns-clause-dry : goal.returns-clause-dry
+returns-clause-dry g c dry =
+    subst (λ s. IsUntouched (g.T.Tree.view s) (g.T.Tree.view c.tell_and_make.new.tree)) (c.in_ok-attempt.ensures.dry dry) (c.in_ok-made.ensures.dry dry)
+
+pub returns-in_err-attempt-clause-order : goal.returns-in_err-attempt-clause-order
+returns-in_err-attempt-clause-order g c =
+    let t = plain_turn c.args.turn.now in
+    let u = g.T.Tree.view c.args.tree.now in
+    let d = g.O.Sink.view c.args.out.now in
+    if_any
+    (λ (e : RunFault). (f : Files) → u.told ≡ Some f → (g.P.LineStore.seen c.args.plan.now).told ≡ Some (lines_in (bytes_of t f c.args.place)) → IsOrdered e u (g.T.Tree.view c.try_hunks.new.tree) d d (finished_at t f [] c.args.place c.args.side).said)
+    c.from_residual.result (λ e f told plan. inl (unmade (works_made c.written-target.result.now.temp c.written-target.ensures.named.temps.own c.in_err-attempt.ensures.works)))
+
+pub returns-in_err-made-clause-order : goal.returns-in_err-made-clause-order
+returns-in_err-made-clause-order g c =
+    let t = plain_turn c.args.turn.now in
+    let u = g.T.Tree.view c.args.tree.now in
+    let z = g.T.Tree.view c.tell_and_make.new.tree in
+    let d = g.O.Sink.view c.args.out.now in
+    let e = g.O.Sink.view c.tell_and_make.new.out in
+    let w = c.written-target.result.now in
+    let tries = c.in_ok-attempt.ensures in
+    let fault = c.in_err-made.field-0.0 in
+    if_err
+    (λ (x : RunFault). (f : Files) → u.told ≡ Some f → (g.P.LineStore.seen c.args.plan.now).told ≡ Some (lines_in (bytes_of t f c.args.place)) → IsOrdered x u z d e (finished_at t f [] c.args.place c.args.side).said)
+    fault c.from_residual-in_err-made.result c.from_residual-in_err-made.ensures.1 (λ f told plan.
+    let ls = lines_in (bytes_of t f c.args.place) in
+    subst (λ (y : Target). IsOrdered fault u z d e (tried_said t y (tried t c.args.side ls))) c.written-target.ensures.target
+    (tried_ordered t f w c.args.side ls c.in_ok-attempt.attempt.session c.try_hunks.new.verdicts c.written-target.ensures.named tries.works told (tries.verdicts ls plan) (tries.session ls plan) (tries.holds ls plan)
+    d e fault c.in_err-made.ensures.tree c.in_err-made.ensures.order))

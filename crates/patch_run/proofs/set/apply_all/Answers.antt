@@ -1,5 +1,6 @@
 use Rattle.std.proofs.Common.{◌≡◌, ◌+◌, ◌<◌, ◌||◌, List, length, Bool, refl, sym, ◌∙◌, ap, subst, arith}
 use Rattle.std.proofs.lemmas.List.{length-set}
+use Rattle.outside.specs.Calls.{untouched_none, untouched_both}
 use Rattle.file_patch.specs.declared.FilePatch.{FilePatch}
 use Rattle.patch_options.specs.PlainJob.{plain_options}
 use Rattle.patch_set.specs.SetView.{SetView, hunks_in, with_row}
@@ -8,7 +9,7 @@ use Rattle.patch_run.specs.Doing.{StaysSet}
 use Rattle.patch_run.proofs.Marks.{patch-there}
 use Rattle.patch_run.proofs.Ready.{ready, ready_still, numbered}
 use Rattle.patch_run.proofs.Going.{IsAt, IsNext, run_to, goes_none, goes_on, at_none, at_next}
-use Rattle.patch_run.proofs.RunEnds.{IsPlacedTo, runs_cut, runs_all, placed_none, placed_next}
+use Rattle.patch_run.proofs.RunEnds.{IsPlacedTo, cut_ends, runs_cut, runs_all, placed_none, placed_next}
 use Rattle.patch_run.proofs.set.apply_all.Goals as goal
 
 pub loop-k-init : goal.loop-k-init
@@ -24,6 +25,7 @@ loop-k-init g c =
       few = omega arith;
       goes = goes_none u a d c.requires.quiet;
       rest = g.met.O.Sink.rest_none _;
+      dry = λ dry. untouched_none u;
       at = λ f told. at_none u a d g.P.Plan.scratch_after o c.args.set.now c.args.verdicts.now f c.requires.quiet told;
       placed = λ lines told. placed_none o c.args.set.now c.args.verdicts.now lines;
     }
@@ -61,6 +63,31 @@ returns-in_err-done-clause-runs g c =
     let next : IsNext v k p.0 c.loop-k.verdicts c.apply_at.new.verdicts = record { within = lt; at = p.1; numbered = places; rows = inv.rows; before = c.in_err-done.ensures.before p.0 p.1 } in
     runs_cut u x w a b b' d e h o c.args.set.now v k p.0 c.loop-k.verdicts c.apply_at.new.verdicts next inv.same inv.goes inv.at c.in_err-done.field-0.0 c.from_residual.result c.from_residual.ensures.1 (c.in_err-done.ensures.does p.0 p.1)
 
+pub returns-in_err-done-clause-cut : goal.returns-in_err-done-clause-cut
+returns-in_err-done-clause-cut g c =
+    let u = g.T.Tree.view c.args.tree.now in
+    let x = g.T.Tree.view c.loop-k.tree in
+    let w = g.T.Tree.view c.apply_at.new.tree in
+    let a = g.P.LineStore.seen c.args.plan.now in
+    let b = g.P.LineStore.seen c.loop-k.plan in
+    let b' = g.P.LineStore.seen c.apply_at.new.plan in
+    let d = g.O.Sink.view c.args.out.now in
+    let e = g.O.Sink.view c.loop-k.out in
+    let h = g.O.Sink.view c.apply_at.new.out in
+    let o = plain_options c.args.options.now in
+    let v = c.loop-k.set in
+    let k = c.loop-k.k in
+    let inv = c.loop-k.invariant in
+    let same : length v.patches ≡ length c.args.set.now.patches = ap (λ (l : List FilePatch). length l) inv.same.patches in
+    let lt : k < length v.patches = omega (arith, c.loop-k-test.true, same, ap (λ (l : List FilePatch). length l) c.patches.ensures.patches) in
+    let p = patch-there v.patches k lt in
+    let places : AreNumbered 0 v.patches = subst (λ (l : List FilePatch). AreNumbered 0 l) (sym inv.same.patches) (numbered c.args.set.now.text 0 0 c.args.set.now.patches c.requires.read.1.spans) in
+    let next : IsNext v k p.0 c.loop-k.verdicts c.apply_at.new.verdicts = record { within = lt; at = p.1; numbered = places; rows = inv.rows; before = c.in_err-done.ensures.before p.0 p.1 } in
+    cut_ends u x w a b b' d e h o c.args.set.now v k p.0 c.loop-k.verdicts c.apply_at.new.verdicts next inv.same inv.goes inv.at c.in_err-done.field-0.0 c.from_residual.result c.from_residual.ensures.1 (c.in_err-done.ensures.does p.0 p.1)
+
+pub returns-in_err-done-clause-dry : goal.returns-in_err-done-clause-dry
+returns-in_err-done-clause-dry g c dry = untouched_both (c.loop-k.invariant.dry dry) (c.in_err-done.ensures.dry dry)
+
 pub loop-k-preserved : goal.loop-k-preserved
 loop-k-preserved g c =
     let u = g.T.Tree.view c.args.tree.now in
@@ -95,6 +122,7 @@ loop-k-preserved g c =
       few = omega (arith, inv.few, c.in_ok-done.ensures.few);
       goes = goes_on done inv.goes does.stays does.quiet;
       rest = g.met.O.Sink.rest_both _ _ _ inv.rest c.in_ok-done.ensures.rest;
+      dry = λ dry. untouched_both (inv.dry dry) (c.in_ok-done.ensures.dry dry);
       at = λ f told.
           let was = inv.at f told in
           let ended = does.whole (run_to o v k f).files (was.far.now, inv.goes.plan.telling ∙ told.1) in

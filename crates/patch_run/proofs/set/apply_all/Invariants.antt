@@ -1,5 +1,6 @@
-use Rattle.std.proofs.Common.{◌≡◌, ◌*◌, ◌≤◌, ℕ, List, length, Some}
+use Rattle.std.proofs.Common.{◌≡◌, ◌*◌, ◌≤◌, ℕ, List, length, true, Some}
 use Rattle.outside.specs.Files.{Files}
+use Rattle.outside.specs.Calls.{IsUntouched}
 use Rattle.patch_options.specs.PlainJob.{plain_options}
 use Rattle.patch_set.specs.SetView.{hunks_in}
 use Rattle.patch_run.specs.Devices.{Told}
@@ -24,6 +25,7 @@ invariant-loop-k g l =
       few : l.effects ≤ 3 * l.k;
       goes : Goes u v a b c d;
       rest : g.O.Sink.same_rest l.fn.out l.out;
+      dry : o.dry_run ≡ true → IsUntouched u v;
       at : (f : Files) → Told u a f → IsAt u v a b c d g.P.Plan.scratch_after o l.set l.k l.verdicts l.is_bad l.effects (run_to o l.set l.k f);
       placed : (lines : List (List ℕ)) → b.told ≡ Some lines → IsPlacedTo o l.set l.k l.verdicts lines;
     }

@@ -1,8 +1,11 @@
-use Rattle.std.proofs.Common.{[], sym, subst}
+use Rattle.std.proofs.Common.{[], IfErr, sym, subst}
+use Rattle.outside.specs.Files.{Files}
 use Rattle.patch_options.specs.PlainJob.{plain_options}
 use Rattle.patch_set.specs.SetView.{SetView, IsRead}
-use Rattle.patch_run.specs.Run.{set_run}
-use Rattle.patch_run.specs.Doing.{Runs}
+use Rattle.patch_run.specs.declared.fault.RunFault.{RunFault}
+use Rattle.patch_run.specs.Devices.{Told}
+use Rattle.patch_run.specs.Run.{items_of, set_run}
+use Rattle.patch_run.specs.Doing.{Runs, IsCutAt}
 use Rattle.patch_run.proofs.Ready.{read_still}
 use Rattle.patch_run.proofs.set.apply_set.Goals as goal
 
@@ -18,3 +21,11 @@ returns-clause-runs g c =
     subst (λ (s : SetView). Runs (g.T.Tree.view c.args.tree.now) (g.T.Tree.view c.apply_all-applied.new.tree) (g.P.LineStore.seen c.args.plan.now) (g.P.LineStore.seen c.apply_all-applied.new.plan) (g.O.Sink.view c.args.out.now) (g.O.Sink.view c.apply_all-applied.new.out) g.P.Plan.scratch_after c.apply_all-applied.result (set_run o s))
     c.take_verdicts-verdicts.ensures.left
     c.apply_all-applied.ensures.runs
+
+pub returns-clause-cut : goal.returns-clause-cut
+returns-clause-cut g c =
+    let o = plain_options c.args.options.now in
+    subst (λ (s : SetView). IfErr c.apply_all-applied.result (λ (e : RunFault). (f : Files) → Told (g.T.Tree.view c.args.tree.now) (g.P.LineStore.seen c.args.plan.now) f
+    → IsCutAt e (g.T.Tree.view c.apply_all-applied.new.tree) (g.O.Sink.view c.args.out.now) (g.O.Sink.view c.apply_all-applied.new.out) o s.output (items_of s) f))
+    c.take_verdicts-verdicts.ensures.left
+    c.apply_all-applied.ensures.cut
