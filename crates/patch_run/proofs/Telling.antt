@@ -14,7 +14,7 @@ use Rattle.hunk_core.proofs.SinkSteps.{HasPut, GoesOn, has-more, puts-more, puts
 use Rattle.reject_text.specs.Starts.{Row, net}
 use Rattle.hunk_apply.specs.Session.{IsTried}
 use Rattle.patch_options.specs.PlainJob.{PlainOptions}
-use Rattle.say_text.specs.Messages.{silenced, placed_text, failed_line}
+use Rattle.say_text.specs.Messages.{silenced, placed_text}
 use Rattle.patch_run.specs.OnePatch.{hunk_said, hunks_said, script_said}
 
 -- ---- one hunk, or a script
@@ -34,6 +34,7 @@ script-by o address (x ∷ vs) v is = let e : x ≡ v = cc in same x v e
   where
     one : (x : Verdict) → script_said o address (x ∷ []) ≡ script_said o address (x ∷ vs)
     one x = grind arith
+
     same : (x v : Verdict) → x ≡ v → script_said o address (v ∷ []) ≡ script_said o address (x ∷ vs)
     same x v e = ap (λ (y : Verdict). script_said o address (y ∷ [])) (sym e) ∙ one x
 
@@ -81,6 +82,7 @@ said-step o rows i row lt here =
   where
     same : (x y : Row) (xs : List Row) → x ∷ xs ≡ y ∷ xs → y ≡ x
     same x y xs e = cc
+
     taken_one : (rows : List Row) (i : ℕ) (row : Row) → i < length rows → drop i rows ≡ row ∷ drop (i + 1) rows → take (i + 1) rows ≡ take i rows ++ row ∷ []
     taken_one rows i row lt here = let e : row ∷ drop (i + 1) rows ≡ get_or rows i row ∷ drop (i + 1) rows = sym here ∙ drop_more rows i row lt in
         take_more rows i row lt ∙ ap (λ (r : Row). take i rows ++ r ∷ []) (same row (get_or rows i row) (drop (i + 1) rows) e)

@@ -1,5 +1,5 @@
 -- A plan of two, one of which stands for the file.
-use Rattle.std.specs.Prelude.{◌≡◌, ℕ, List, length, Bool, true, false, if◌then◌else◌}
+use Rattle.std.specs.Prelude.{◌≡◌, length, Bool, true, false, if◌then◌else◌}
 use Rattle.std.proofs.Common.{arith, ap}
 use Rattle.line_list.specs.Lines.{lines}
 use Rattle.line_store.specs.Store.{Seen, IsCounted}

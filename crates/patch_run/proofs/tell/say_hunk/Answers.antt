@@ -3,7 +3,6 @@ use Rattle.std.specs.Prelude.{ℤ, pos, ◌+ℤ◌}
 use mir.Val.{SFits}
 use Rattle.outside.proofs.Writing.{writes_is}
 use Rattle.hunk_core.specs.declared.Verdict.{Verdict}
-use Rattle.hunk_core.specs.declared.Verdict.TheVariants.{Nowhere, At}
 use Rattle.hunk_core.specs.PlainHunk.{hunk_of}
 use Rattle.hunk_core.specs.Turned.{turned, base}
 use Rattle.hunk_core.proofs.TurnedLemmas.{turned-base}

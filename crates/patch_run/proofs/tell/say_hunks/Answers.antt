@@ -1,4 +1,4 @@
-use Rattle.std.proofs.Common.{◌≡◌, ◌<◌, ◌≤◌, ◌+◌, ◌∷◌, [], ◌++◌, ℕ, List, length, take, drop, get_or, Ok, Err, ap, subst, sym, ◌∙◌, refl, rules, arith}
+use Rattle.std.proofs.Common.{◌≡◌, ◌<◌, ◌≤◌, ◌+◌, ◌∷◌, [], ℕ, List, length, take, drop, get_or, Ok, Err, ap, subst, sym, ◌∙◌, refl, rules, arith}
 use Rattle.std.specs.Prelude.{ℤ, pos, ◌+ℤ◌, ◌-ℤ◌, sum_by}
 use Rattle.std.proofs.lemmas.Int.{ints}
 use Rattle.std.proofs.lemmas.List.Sums.{sum_by_more, sum_by-take-le}
@@ -8,7 +8,6 @@ use Rattle.hunk_core.specs.declared.Hunk.{Hunk}
 use Rattle.hunk_core.specs.declared.Verdict.TheVariants.{Untried}
 use Rattle.hunk_core.specs.PlainHunk.{hunk_of, hunks_of}
 use Rattle.hunk_core.specs.Turned.{turned}
-use Rattle.hunk_core.specs.Writing.{Puts}
 use Rattle.hunk_core.proofs.SinkSteps.{has-none, has-put}
 use Rattle.outside.specs.declared.Failed.{Failed}
 use Rattle.patch_options.specs.PlainJob.{plain_options}
@@ -76,7 +75,7 @@ loop-i-preserved g c =
     let grown : c.placed_growth-net.result ≡ pos (placed_adds row) -ℤ pos (placed_drops row) = c.placed_growth-net.ensures.is text in
     record {
       said = said-more (hunk_said o (i + 1) (net (take i rows)) row.0 row.1) (hunks_said o (take (i + 1) rows) (drop (i + 1) rows)) g.met.O.Sink.rest_both c.loop-i.invariant.said (said-step o rows i row (omega arith) here)
-      (has-put c.in_ok-say_hunk.field-0 (puts-of {view = g.O.Sink.view} {same = g.O.Sink.same_rest} w c.in_ok-say_hunk.ensures.rest));
+          (has-put c.in_ok-say_hunk.field-0 (puts-of {view = g.O.Sink.view} {same = g.O.Sink.same_rest} w c.in_ok-say_hunk.ensures.rest));
       is = omega (arith, ints, sum, most, next, grown, c.loop-i.invariant.is, c.loop-i.invariant.high, c.loop-i.invariant.low, c.placed_growth-net.ensures.high, c.placed_growth-net.ensures.low);
       small = omega (arith, most, c.requires.lawful.few);
       high = omega (arith, ints, sum, most, c.loop-i.invariant.high, c.loop-i.invariant.low, c.placed_growth-net.ensures.high, c.placed_growth-net.ensures.low);
