@@ -14,7 +14,7 @@ use Rattle.hunk_core.proofs.SinkSteps.{HasPut, GoesOn, has-more, puts-more, puts
 use Rattle.reject_text.specs.Starts.{Row, net}
 use Rattle.hunk_apply.specs.Session.{IsTried}
 use Rattle.patch_options.specs.PlainJob.{PlainOptions}
-use Rattle.say_text.specs.Messages.{silenced, placed_text, failed_line}
+use Rattle.say_text.specs.Messages.{silenced, placed_text}
 use Rattle.patch_run.specs.OnePatch.{hunk_said, hunks_said, script_said}
 
 -- ---- one hunk, or a script

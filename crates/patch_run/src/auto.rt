@@ -2,7 +2,7 @@
 
 ghost use Rattle.std.specs.Prelude.{◌≡◌, if◌then◌else◌, false, nat_lt, length};
 ghost use Rattle.line_store.specs.Taking.{IsReset, IsEmpty};
-ghost use Rattle.patch_run.specs.Auto.{auto_seen, auto_counted};
+ghost use Rattle.patch_run.specs.Auto.{auto_seen, auto_counted, small_counted};
 
 use line_store::{Half, LineFault, LineStore, OpenFault, Plan};
 use outside::{Name, Tree};
@@ -49,7 +49,7 @@ impl<P: Plan + Drop> AutoPlan<P> {
 impl<P: Plan> LineStore for AutoPlan<P> {
     ghost seen = { λ p. auto_seen p.is_big (⟦<PlanA as LineStore>⟧.seen p.small) (P.seen p.big) };
 
-    ghost counted = { λ p. auto_counted p.is_big (⟦<PlanA as LineStore>⟧.counted p.small) (P.counted p.big) };
+    ghost counted = { λ p. auto_counted p.is_big (small_counted p.small) (P.counted p.big) };
 
     fn count(&self) -> u64 {
         if self.is_big {

@@ -3,7 +3,6 @@ use Rattle.std.specs.Prelude.{ℤ, pos, ◌+ℤ◌}
 use mir.Val.{SFits}
 use Rattle.outside.proofs.Writing.{writes_is}
 use Rattle.hunk_core.specs.declared.Verdict.{Verdict}
-use Rattle.hunk_core.specs.declared.Verdict.TheVariants.{Nowhere, At}
 use Rattle.hunk_core.specs.PlainHunk.{hunk_of}
 use Rattle.hunk_core.specs.Turned.{turned, base}
 use Rattle.hunk_core.proofs.TurnedLemmas.{turned-base}
@@ -22,7 +21,6 @@ returns-in-At-clause-writes g c text =
     let at = c.in-At in
     let small : at.line ≤ 2 ^ 41 = subst IsTried at.is c.requires.tried in
     let fits : SFits w64 at.offset = search rules in
-    let d = c.say_placed.ensures.writes in
     let moved : to_z w64 (of_z w64 (to_z w64 at.line +ℤ to_z w64 (of_z w64 net))) ≡ pos at.line +ℤ net = moved-line at.line net small c.requires.low c.requires.high in
     writes_is c.say_placed.result (hunk_said o c.args.number net h c.args.verdict) c.say_placed.ensures.writes
     (placed-passed o c.args.number (to_z w64 (of_z w64 (to_z w64 at.line +ℤ to_z w64 (of_z w64 net)))) (pos at.line +ℤ net) at.fuzz at.offset fits moved

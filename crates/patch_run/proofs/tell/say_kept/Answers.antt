@@ -1,4 +1,4 @@
-use Rattle.std.proofs.Common.{sym, ap, ◌∙◌}
+use Rattle.std.proofs.Common.{sym, ap}
 use Rattle.say_text.specs.Messages.{not_deleting_line}
 use Rattle.outside.proofs.Writing.{writes_is}
 use Rattle.patch_run.specs.OnePatch.{is_kept, shown}

@@ -1,4 +1,4 @@
-use Rattle.std.proofs.Common.{◌≡◌, ◌≤◌, ◌^◌, Some, Bor, sym, ap, ◌∙◌, rules, arith, w64, to_z, of_z}
+use Rattle.std.proofs.Common.{◌≡◌, ◌≤◌, ◌^◌, Some, ap, ◌∙◌, rules, arith, w64, to_z, of_z}
 use Rattle.std.specs.Prelude.{ℤ, pos, slice_get}
 use Rattle.std.proofs.lemmas.Int.{ints, to_z-of_z}
 use mir.Val.{SFits}

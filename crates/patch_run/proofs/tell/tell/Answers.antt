@@ -1,7 +1,7 @@
-use Rattle.std.proofs.Common.{◌++◌, List, ℕ, Err, refl}
+use Rattle.std.proofs.Common.{◌++◌, Err, refl}
 use Rattle.std.proofs.lemmas.Result.{err_from_is_err_and}
 use Rattle.outside.proofs.Writing.{writes_stop, writes_then}
-use Rattle.patch_run.specs.OnePatch.{PlainTurn, Tried, kept_said, failures_said, tried_said}
+use Rattle.patch_run.specs.OnePatch.{Tried, kept_said, failures_said, tried_said}
 use Rattle.patch_run.specs.TurnView.{plain_turn}
 use Rattle.patch_run.proofs.tell.tell.Goals as goal
 
