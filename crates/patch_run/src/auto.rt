@@ -92,7 +92,6 @@ impl<P: Plan> Plan for AutoPlan<P> {
         }
     }
 
-    /// The other plan is left as it is.
     fn take_empty(&mut self) {
         self.is_big = false;
         self.small.take_empty();
