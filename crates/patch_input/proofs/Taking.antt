@@ -4,13 +4,8 @@ use Rattle.std.proofs.lemmas.Bool.{false≢true}
 use Rattle.std.proofs.lemmas.Option.{same_Some}
 use Rattle.std.proofs.lemmas.List.{length-take, take-append-drop, take-append-le}
 use Rattle.std.proofs.Math.Seq.{drop-append_seam, drop-nil}
-use Rattle.outside.specs.SourceView.{SourceView, SourcePasses, source_passes_none, source_passes_both}
-use Rattle.patch_input.specs.Input.{longest, Takes, TakesAtMost, IsAtEnd, HasSourceCause}
-use Rattle.patch_input.proofs.Answering.{long-answer}
-use Rattle.patch_input.specs.declared.fault.InputFault.TheVariants.{TooLong}
-
-pub takes-none : (s : SourceView) → Takes s s []
-takes-none s = record { passes = source_passes_none s; told = λ left is. (left, refl, is) }
+use Rattle.outside.specs.SourceView.{SourceView, SourcePasses, source_passes_both}
+use Rattle.patch_input.specs.Input.{Takes, TakesAtMost, IsAtEnd}
 
 -- what a call took of what was left
 pub takes-read : (s r : SourceView) (n : ℕ) (bytes : List ℕ) → SourcePasses s r → ((left : List ℕ) → s.told ≡ Some left → bytes ≡ take n left) → ((left : List ℕ) → s.told ≡ Some left → r.told ≡ Some (drop n left)) → Takes s r bytes
@@ -49,15 +44,3 @@ pub takes-more : (s r q : SourceView) (a b : List ℕ) (n most : ℕ) → Takes 
 takes-more s r q a b n most x y le =
     let short : length (take n b) ≤ n = rw (length-take n b) (omega arith) in
     takes-few s q (a ++ take n b) most (takes-both s r q a (take n b) x y) (rw length-append (omega (arith, le, short)))
-
-pub takes-too_long : (s r : SourceView) (a : List ℕ) → Takes s r a → longest < length a → HasSourceCause TooLong s r
-takes-too_long s r a x lt = λ left is.
-    let taken = x.told left is in
-    long-answer left (let e : length left ≡ length a + length taken.0 = ap length taken.1 ∙ length-append a taken.0 in omega (arith, lt))
-
--- all that was left is taken where nothing is left
-pub takes-all : (s r : SourceView) (a : List ℕ) → Takes s r a → IsAtEnd r → (left : List ℕ) → s.told ≡ Some left → (left ≡ a) × (r.told ≡ Some [])
-takes-all s r a x end left is =
-    let taken = x.told left is in
-    let none : taken.0 ≡ [] = end taken.0 taken.2 in
-    (taken.1 ∙ ap (λ z. a ++ z) none ∙ append-nil a, taken.2 ∙ ap Some none)
