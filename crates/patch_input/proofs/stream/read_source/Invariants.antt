@@ -1,4 +1,4 @@
-use Rattle.std.proofs.Common.{ℕ, ◌-◌, ◌<◌, ◌≤◌, length}
+use Rattle.std.proofs.Common.{◌-◌, ◌<◌, ◌≤◌, length}
 use Rattle.patch_input.specs.Input.{Takes}
 use Rattle.patch_input.proofs.stream.read_source.Given as goal
 
