@@ -1,12 +1,13 @@
 //! Runs over trees in memory, row by row.
 
-ghost use Rattle.std.specs.Prelude.{IfOk};
+ghost use Rattle.std.specs.Prelude.{IfOk, OnOk};
+ghost use Rattle.outside.specs.Quiet.{IsQuiet};
 ghost use Rattle.patch_options.specs.PlainJob.{plain_options, IsLawful};
 
 use crate::{Applied, apply_set};
 use hunk_core::Verdict;
 use mem_world::{MemSink, MemTree};
-use outside::{Name, Tree};
+use outside::{Failed, Name, Tree};
 use patch_options::{Job, Options, read_words};
 use patch_set::read_set;
 use plan_a::PlanA;
@@ -122,6 +123,16 @@ fn options_of(alloc: Global, words: &str) -> Result<Options, Fail>
     }
 }
 
+/// Settles a tree.
+fn settle<T: Tree>(tree: &mut T) -> Result<(), Failed>
+    ensures quiet { OnOk result (IsQuiet (T.view tree.new)) }
+{
+    match tree.settle() {
+        Ok(()) => Ok(()),
+        Err(failed) => Err(failed),
+    }
+}
+
 /// The answer of a run, with its receipt.
 fn answer_of(
     alloc: Global,
@@ -137,7 +148,7 @@ fn answer_of(
         Ok(set) => set,
         Err(fault) => return Err(fault.into()),
     };
-    if tree.settle().is_err() {
+    if settle(tree).is_err() {
         return Err("not settled".into());
     }
     let mut plan = PlanA::new(alloc, options.buffer);
