@@ -148,9 +148,7 @@ fn answer_of(
         Ok(set) => set,
         Err(fault) => return Err(fault.into()),
     };
-    if settle(tree).is_err() {
-        return Err("not settled".into());
-    }
+    settle(tree)?;
     let mut plan = PlanA::new(alloc, options.buffer);
     match apply_set(&mut set, options, &mut plan, tree, out) {
         Ok(done) => receipt(alloc, &done, set.verdicts()),
