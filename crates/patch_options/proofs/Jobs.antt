@@ -1,11 +1,11 @@
 -- What the words of `patch` ask for, by what was matched in them.
-use Rattle.std.proofs.Common.{◌≡◌, ◌⊎◌, ◌∙◌, Bool, true, false, List, Err, ap, refl, sym, subst, inl, inr, if◌then◌else◌}
+use Rattle.std.proofs.Common.{◌≡◌, ◌⊎◌, ◌∙◌, Bool, true, false, List, Ok, Err, ap, refl, sym, subst, inl, inr, if◌then◌else◌}
 use Rattle.clap.specs.Words.{Row, Text}
 use Rattle.patch_options.specs.Flags.{takes_words, matched_rows}
-use Rattle.patch_options.specs.PlainJob.{PlainOptions, PlainJob, IsLawfulJob}
+use Rattle.patch_options.specs.PlainJob.{PlainOptions, IsLawfulJob}
 use Rattle.patch_options.specs.PlainJob.PlainJob.{patch}
 use Rattle.patch_options.specs.Table.{is_command, options_of}
-use Rattle.patch_options.specs.Words.{patch_job, matched_job, as_supported}
+use Rattle.patch_options.specs.Words.{patch_job, matched_job}
 use Rattle.patch_options.specs.declared.options.WordFault.{WordFault}
 use Rattle.patch_options.specs.declared.options.WordFault.TheVariants.{Usage, Memory}
 use Rattle.patch_options.proofs.Lawful.{lawful_options}
@@ -31,12 +31,12 @@ pub table_refused : (words : List Text) (rows : List Row) (fault : WordFault) �
     → (fault ≡ Memory) ⊎ ((fault ≡ Usage) × (is_command rows ≡ false)) → (fault ≡ Memory) ⊎ (patch_job words ≡ Err fault)
 unfolding matched_job
 table_refused words rows fault takes are (inl memory) = inl memory
-table_refused words rows fault takes are (inr usage) = inr (matched_is words rows takes are ∙ (if_false (is_command rows) (as_supported (options_of rows)) (Err Usage) usage.1 ∙ ap (λ (f : WordFault). Err f) (sym usage.0)))
+table_refused words rows fault takes are (inr usage) = inr (matched_is words rows takes are ∙ (if_false (is_command rows) (Ok (patch (options_of rows))) (Err Usage) usage.1 ∙ ap (λ (f : WordFault). Err f) (sym usage.0)))
 
-pub supported_is : (words : List Text) (rows : List Row) (o : PlainOptions) → takes_words words ≡ true → rows ≡ matched_rows words → is_command rows ≡ true → o ≡ options_of rows
-    → patch_job words ≡ as_supported o
+pub job_is : (words : List Text) (rows : List Row) (o : PlainOptions) → takes_words words ≡ true → rows ≡ matched_rows words → is_command rows ≡ true → o ≡ options_of rows
+    → patch_job words ≡ Ok (patch o)
 unfolding matched_job
-supported_is words rows o takes are command is = matched_is words rows takes are ∙ (if_true (is_command rows) (as_supported (options_of rows)) (Err Usage) command ∙ ap as_supported (sym is))
+job_is words rows o takes are command is = matched_is words rows takes are ∙ (if_true (is_command rows) (Ok (patch (options_of rows))) (Err Usage) command ∙ ap (λ (p : PlainOptions). Ok (patch p)) (sym is))
 
-pub lawful_job : (rows : List Row) (o : PlainOptions) (job : PlainJob) → is_command rows ≡ true → o ≡ options_of rows → job ≡ patch o → IsLawfulJob job
-lawful_job rows o job command is same = subst IsLawfulJob (sym (same ∙ ap (λ (p : PlainOptions). patch p) is)) (lawful_options rows command)
+pub lawful_job : (rows : List Row) (o : PlainOptions) → is_command rows ≡ true → o ≡ options_of rows → IsLawfulJob (patch o)
+lawful_job rows o command is = subst (λ (p : PlainOptions). IsLawfulJob (patch p)) (sym is) (lawful_options rows command)

@@ -7,7 +7,7 @@ use Rattle.outside.specs.Names.{broken_rule, normal_form, is_slash, is_control}
 use Rattle.hunk_core.specs.declared.Form.{Form}
 use Rattle.hunk_core.specs.declared.Form.TheVariants.{Unified, Context}
 use Rattle.patch_options.specs.declared.options.PlanKind.{PlanKind}
-use Rattle.patch_options.specs.declared.options.PlanKind.TheVariants.{Whole, Padded, Auto}
+use Rattle.patch_options.specs.declared.options.PlanKind.TheVariants.{Whole, Padded, Packed, Auto}
 
 abbrev pub is_empty : List ℕ → Bool
 is_empty [] = true
@@ -32,6 +32,7 @@ buffer_of text = option_and_then buffer_in (number_of text)
 unfoldable pub plan_of : List ℕ → Option PlanKind
 plan_of text = if bytes_eq text (codes "a") then Some Whole
     else if bytes_eq text (codes "b") then Some Padded
+    else if bytes_eq text (codes "packed") then Some Packed
     else if bytes_eq text (codes "auto") then Some Auto
     else None
 

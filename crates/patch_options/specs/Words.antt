@@ -4,23 +4,13 @@ use Rattle.std.specs.List.{list_any}
 use Rattle.clap.specs.Words.{Row, Text}
 use Rattle.patch_options.specs.Flags.{matched_rows, takes_words}
 use Rattle.patch_options.specs.Table.{is_command, options_of}
-use Rattle.patch_options.specs.PlainJob.{PlainOptions, PlainJob}
+use Rattle.patch_options.specs.PlainJob.{PlainJob}
 use Rattle.patch_options.specs.PlainJob.PlainJob.{patch}
-use Rattle.patch_options.specs.declared.options.PlanKind.{PlanKind}
-use Rattle.patch_options.specs.declared.options.PlanKind.TheVariants.{Padded}
 use Rattle.patch_options.specs.declared.options.WordFault.{WordFault}
 use Rattle.patch_options.specs.declared.options.WordFault.TheVariants.{Usage, Unsupported}
 
-abbrev pub is_padded : PlanKind → Bool
-is_padded Padded = true
-is_padded _ = false
-
--- the padded plan isn't built yet
-unfoldable pub as_supported : PlainOptions → Result PlainJob WordFault
-as_supported o = if is_padded o.plan then Err Unsupported else Ok (patch o)
-
 unfoldable pub matched_job : List Row → Result PlainJob WordFault
-matched_job rows = if is_command rows then as_supported (options_of rows) else Err Usage
+matched_job rows = if is_command rows then Ok (patch (options_of rows)) else Err Usage
 
 -- what the words of `patch` ask for
 unfoldable pub patch_job : List Text → Result PlainJob WordFault

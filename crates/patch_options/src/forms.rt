@@ -37,6 +37,7 @@ pub fn plan_of(text: &str) -> Option<PlanKind>
     match text {
         "a" => Some(PlanKind::Whole),
         "b" => Some(PlanKind::Padded),
+        "packed" => Some(PlanKind::Packed),
         "auto" => Some(PlanKind::Auto),
         _ => None,
     }

@@ -167,6 +167,8 @@ patch|--reject-format=unified => reject_form: Some(Unified)
 patch|--plan|a => plan: Whole
 patch|--plan=a => plan: Whole
 patch|--plan=auto =>
+patch|--plan=b => plan: Padded
+patch|--plan|packed => plan: Packed
 "#;
 
 #[test]
@@ -345,7 +347,7 @@ patch|-B|a/../ => Usage
 patch|--plan => Usage
 patch|--plan= => Usage
 patch|--plan=A => Usage
-patch|--plan=packed => Usage
+patch|--plan=Packed => Usage
 patch|--reject-format => Usage
 patch|--reject-format= => Usage
 patch|--reject-format=normal => Usage
@@ -550,7 +552,7 @@ fn unknown_words_are_refused(rt: HostRuntime) -> Result<(), Fail> {
     assert_rows(&rt, rt.alloc(), UNKNOWN)
 }
 
-/// Tools and a plan that aren't built yet.
+/// Tools that aren't built yet.
 const UNSUPPORTED: &str = r#"
 lsdiff => Unsupported
 filterdiff => Unsupported
@@ -559,11 +561,9 @@ splitdiff => Unsupported
 recountdiff => Unsupported
 patchgen => Unsupported
 lsdiff|--nonsense => Unsupported
-patch|--plan=b => Unsupported
-patch|--plan=b|--buffer=512|f => Unsupported
 "#;
 
 #[test]
-fn unbuilt_parts_are_told(rt: HostRuntime) -> Result<(), Fail> {
+fn unbuilt_tools_are_told(rt: HostRuntime) -> Result<(), Fail> {
     assert_rows(&rt, rt.alloc(), UNSUPPORTED)
 }

@@ -1,12 +1,11 @@
 //! The words of a command.
 ghost use Rattle.std.specs.Prelude.{◌≡◌, ◌⊎◌, map, Ok, Err, IfOk, IfErr, string_bytes};
-ghost use Rattle.patch_options.specs.PlainJob.{plain_job, plain_options, IsLawfulJob};
-ghost use Rattle.patch_options.specs.PlainJob.PlainJob.{patch};
-ghost use Rattle.patch_options.specs.Words.{job_of, patch_job, no_patch_job, as_supported};
+ghost use Rattle.patch_options.specs.PlainJob.{plain_job, IsLawfulJob};
+ghost use Rattle.patch_options.specs.Words.{job_of, patch_job, no_patch_job};
 
 use crate::flags::matched;
 use crate::table::read_options;
-use crate::{Job, Options, PlanKind, WordFault};
+use crate::{Job, WordFault};
 use std::alloc::Global;
 
 /// What the words ask for. The first names the tool.
@@ -42,18 +41,5 @@ fn read_patch(alloc: Global, words: &[String]) -> Result<Job, WordFault>
 {
     let matches = matched(alloc, words)?;
     let options = read_options(alloc, &matches)?;
-    as_supported(options)
-}
-
-/// The job of the options, unless their plan is the padded one, which isn't built yet.
-#[tactic(auto, unfolding(crate::specs::Words::as_supported))]
-fn as_supported(options: Options) -> Result<Job, WordFault>
-    ensures job { IfOk result (λ job. as_supported (plain_options options) ≡ Ok (plain_job job)) }
-    ensures same { IfOk result (λ job. plain_job job ≡ patch (plain_options options)) }
-    ensures refused { IfErr result (λ fault. as_supported (plain_options options) ≡ Err fault) }
-{
-    match options.plan {
-        PlanKind::Padded => Err(WordFault::Unsupported),
-        _ => Ok(Job::Patch(options)),
-    }
+    Ok(Job::Patch(options))
 }

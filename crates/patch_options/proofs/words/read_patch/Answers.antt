@@ -1,10 +1,8 @@
-use Rattle.std.proofs.Common.{map, string_bytes, ◌∙◌}
-use Rattle.std.proofs.lemmas.Result.{IfOk-weaker, IfErr-weaker}
-use Rattle.std.proofs.Common.{inr}
+use Rattle.std.proofs.Common.{map, string_bytes}
 use Rattle.clap.proofs.TakesLemmas.{passed_up}
 use Rattle.patch_options.specs.Flags.{rows_in}
-use Rattle.patch_options.specs.PlainJob.{plain_job, plain_options}
-use Rattle.patch_options.proofs.Jobs.{words_refused, table_refused, supported_is, lawful_job}
+use Rattle.patch_options.specs.PlainJob.{plain_options}
+use Rattle.patch_options.proofs.Jobs.{words_refused, table_refused, job_is, lawful_job}
 use Rattle.patch_options.proofs.words.read_patch.Goals as goal
 
 -- src/words.rt:42:19
@@ -20,16 +18,8 @@ returns-in_err-options-clause-refused c =
 
 -- src/words.rt:37:1
 pub returns-clause-job : goal.returns-clause-job
-returns-clause-job c =
-    let is = supported_is (map string_bytes c.args.words.now) (rows_in c.in_ok-matches.matches) (plain_options c.in_ok-options.options) c.in_ok-matches.ensures.taken c.in_ok-matches.ensures.rows c.in_ok-options.ensures.command c.in_ok-options.ensures.options in
-    IfOk-weaker c.as_supported.result _ _ (λ job h. is ∙ h) c.as_supported.ensures.job
+returns-clause-job c = job_is (map string_bytes c.args.words.now) (rows_in c.in_ok-matches.matches) (plain_options c.in_ok-options.options) c.in_ok-matches.ensures.taken c.in_ok-matches.ensures.rows c.in_ok-options.ensures.command c.in_ok-options.ensures.options
 
 -- src/words.rt:37:1
 pub returns-clause-lawful : goal.returns-clause-lawful
-returns-clause-lawful c = IfOk-weaker c.as_supported.result _ _ (λ job h. lawful_job (rows_in c.in_ok-matches.matches) (plain_options c.in_ok-options.options) (plain_job job) c.in_ok-options.ensures.command c.in_ok-options.ensures.options h) c.as_supported.ensures.same
-
--- src/words.rt:37:1
-pub returns-clause-refused : goal.returns-clause-refused
-returns-clause-refused c =
-    let is = supported_is (map string_bytes c.args.words.now) (rows_in c.in_ok-matches.matches) (plain_options c.in_ok-options.options) c.in_ok-matches.ensures.taken c.in_ok-matches.ensures.rows c.in_ok-options.ensures.command c.in_ok-options.ensures.options in
-    IfErr-weaker c.as_supported.result _ _ (λ fault h. inr (is ∙ h)) c.as_supported.ensures.refused
+returns-clause-lawful c = lawful_job (rows_in c.in_ok-matches.matches) (plain_options c.in_ok-options.options) c.in_ok-options.ensures.command c.in_ok-options.ensures.options
