@@ -1,175 +1,139 @@
--- What a run leaves behind, whatever it answers, beside what the command does.
-use Rattle.std.specs.Prelude.{◌≡◌, ◌≢◌, ◌⊎◌, ℕ, ◌≤◌, List, [], ◌∷◌, length, take, false, true, Some, None, Result, Ok, Err}
-use Rattle.std.specs.FinMap.{get}
-use Rattle.outside.specs.Files.{Files, is_temp, temp_of, SameLasting}
-use Rattle.outside.specs.TreeView.{TreeView, Passes, MayLeave, LeftSince}
-use Rattle.outside.specs.TreeView as tree
-use Rattle.outside.specs.SinkView.{SinkView, SinkPasses, Receives, ReceivesPart}
-use Rattle.outside.specs.SinkView as sink
+-- What a run promises: that it is the command's, and what stands at each moment.
+use Rattle.std.specs.Prelude.{◌≡◌, ◌⊎◌, ℕ, ◌≤◌, List, [], length, take, Bool, true, false, Option, Some, None, Result, Ok, Err, IsSomeAnd, if◌then◌else◌}
+use Rattle.outside.specs.Faults.{HasRisen}
+use Rattle.outside.specs.Files.{Files, SameLasting}
+use Rattle.outside.specs.TreeView.{Passes, MayLeave, LeftSince}
+use Rattle.outside.specs.SinkView.{SinkPasses, Receives, ReceivesPart}
+use Rattle.outside.specs.SourceView.{SourcePasses}
+use Rattle.outside.specs.ScratchView.{ScratchPasses}
 use Rattle.outside.specs.Quiet.{IsQuiet, Effect, TellsPrefix, after_all}
-use Rattle.outside.specs.Quiet.Effect.{Put, Remove}
+use Rattle.patch_options.specs.Words.{job_of}
+use Rattle.patch_run.specs.Applied.{Receipt}
 use Rattle.patch_cli.specs.declared.why.Why.{Why}
-use Rattle.patch_cli.specs.declared.why.Why.TheVariants.{Done, Usage, NoPatchFile, WriteFault, TreeFault, Disagree, Memory, Unsupported}
-use Rattle.line_list.specs.Completed.{completed}
-use Rattle.patch_cli.specs.Command.{Outcome, refused, longest_text, buffer_size, on_text, on_hunks, stand_at_their_lines}
-use Rattle.hunk_core.specs.PlainHunk.{PlainHunk}
-use Rattle.hunk_apply.specs.Applied.{applied}
-use Rattle.line_store.specs.declared.fault.OpenFault.{OpenFault}
-use Rattle.line_store.specs.declared.fault.OpenFault.TheVariants as open_fault
-use Rattle.line_store.specs.Store.{Seen}
-use Rattle.line_store.specs.Taking.{refusal}
-use Rattle.line_list.specs.Lines.{lines}
-
--- a fault comes only where its device's count rose
-abbrev pub WhyCause : Why → TreeView → TreeView → SinkView → SinkView → Type 0
-WhyCause TreeFault u w a b = tree.Rises u w
-WhyCause WriteFault u w a b = sink.Rises a b
-WhyCause Done u w a b = Unit {0}
-WhyCause Usage u w a b = Unit {0}
-WhyCause NoPatchFile u w a b = Unit {0}
-WhyCause (Disagree want got) u w a b = (want ≢ got) × (u.told ≡ None)
-WhyCause Memory u w a b = Unit {0}
-WhyCause Unsupported u w a b = Unit {0}
-
--- no effect is made by way of this name
-abbrev pub IsUnused : List Effect → List ℕ → Type 0
-IsUnused [] n = Unit {0}
-IsUnused (Put name bytes ∷ es) n = (n ≢ temp_of name) × IsUnused es n
-IsUnused (Remove name ∷ es) n = IsUnused es n
-
--- after a fault or want of memory: first parts of the effects and of the text, and no temporary is touched but those of the effects
-pub record FirstPart (u w : TreeView) (a b : SinkView) (o : Outcome) : Type 0 where
-  pub tells : TellsPrefix u w o.effects
-  pub others : (f g : Files) → u.told ≡ Some f → w.told ≡ Some g → (n : List ℕ) → is_temp n ≡ true → IsUnused o.effects n → get g n ≡ get f n
-  pub said : ReceivesPart a b o.text
+use Rattle.patch_cli.specs.declared.why.Why.TheVariants.{Done, Rejected, Memory}
+use Rattle.patch_cli.specs.Answers.{Sort, sort_of}
+use Rattle.patch_cli.specs.Answers.Sort.{ended, halted, refusal, unread, broken, starved}
+use Rattle.patch_cli.specs.Scratches.{scratch_behind_all}
+use Rattle.patch_cli.specs.Command.{Outcome, command}
+use Rattle.patch_cli.specs.Worlds.{World, TellsFiles, TellsLeft, AsksFor, reads_source, pages_all}
+use Rattle.patch_cli.specs.Causes.{HasCause}
 
 -- an answer of the command itself: its text, and the files after its effects
-pub record IsAnswer (why : Why) (f : Files) (w : TreeView) (a b : SinkView) (o : Outcome) : Type 0 where
+pub record IsAnswer (why : Why) (applied : Option Receipt) (f : Files) (u w : World) (o : Outcome) : Type 0 where
   pub is : why ≡ o.why
-  pub text : Receives a b o.text
-  pub files : w.told ≡ Some (after_all o.effects f)
+  pub text : Receives u.out w.out o.text
+  pub files : w.tree.told ≡ Some o.files
+  -- which are the files at entry after the effects, temporary names aside
+  pub made : SameLasting (after_all o.effects f) o.files
+  pub applied : applied ≡ o.applied
 
-abbrev pub Answers : Why → Files → TreeView → TreeView → SinkView → SinkView → Outcome → Type 0
-Answers TreeFault f u w a b o = FirstPart u w a b o
-Answers WriteFault f u w a b o = FirstPart u w a b o
-Answers (Disagree want got) f u w a b o = FirstPart u w a b o
-Answers Memory f u w a b o = FirstPart u w a b o
-Answers Done f u w a b o = IsAnswer Done f w a b o
-Answers Usage f u w a b o = IsAnswer Usage f w a b o
-Answers NoPatchFile f u w a b o = IsAnswer NoPatchFile f w a b o
-Answers Unsupported f u w a b o = IsAnswer Unsupported f w a b o
+-- a first part of the effects and of the text
+pub record FirstPart (u w : World) (o : Outcome) : Type 0 where
+  pub tells : TellsPrefix u.tree w.tree o.effects
+  pub said : ReceivesPart u.out w.out o.text
 
--- before the first change: the tree is told as at entry, nothing was written, and a crash leaves what one could have left at entry
-pub record IsAsAtEntry (u w : TreeView) (a b : SinkView) : Type 0 where
-  pub told : w.told ≡ u.told
-  pub out : b ≡ a
-  pub images : (c : Files) → LeftSince w u.moment c → MayLeave u c
+abbrev pub Answers : Sort → Why → Option Receipt → Files → World → World → Outcome → Type 0
+Answers ended why applied f u w o = IsAnswer why applied f u w o
+Answers halted why applied f u w o = IsAnswer why applied f u w o
+Answers refusal why applied f u w o = IsAnswer why applied f u w o
+Answers unread why applied f u w o = FirstPart u w o
+Answers broken why applied f u w o = FirstPart u w o
+Answers starved why applied f u w o = FirstPart u w o
 
--- a refusal comes before the first change
-abbrev pub Untouched : Why → TreeView → TreeView → SinkView → SinkView → Type 0
-Untouched Usage u w a b = IsAsAtEntry u w a b
-Untouched NoPatchFile u w a b = IsAsAtEntry u w a b
-Untouched Unsupported u w a b = IsAsAtEntry u w a b
-Untouched Done u w a b = Unit {0}
-Untouched WriteFault u w a b = Unit {0}
-Untouched TreeFault u w a b = Unit {0}
-Untouched (Disagree want got) u w a b = Unit {0}
-Untouched Memory u w a b = Unit {0}
+-- the tree is told as at entry, nothing was written, and a crash leaves what one could have left at entry
+pub record IsAsAtEntry (u w : World) : Type 0 where
+  pub told : w.tree.told ≡ u.tree.told
+  pub scratch : w.scratch ≡ u.scratch
+  pub out : w.out ≡ u.out
+  pub images : (c : Files) → LeftSince w.tree u.tree.moment c → MayLeave u.tree c
+
+-- refusals, and faults of standard input, come before the first change
+abbrev pub Untouched : Sort → World → World → Type 0
+Untouched ended u w = Unit {0}
+Untouched halted u w = Unit {0}
+Untouched refusal u w = IsAsAtEntry u w
+Untouched unread u w = IsAsAtEntry u w
+Untouched broken u w = Unit {0}
+Untouched starved u w = Unit {0}
+
+-- after an end each crash from then on leaves all effects
+abbrev pub QuietAfter : Sort → World → Type 0
+QuietAfter ended w = IsQuiet w.tree
+QuietAfter halted w = IsQuiet w.tree
+QuietAfter refusal w = Unit {0}
+QuietAfter unread w = Unit {0}
+QuietAfter broken w = Unit {0}
+QuietAfter starved w = Unit {0}
+
+-- the patch text was read
+abbrev pub IsBehindReading : Sort → Type 0
+IsBehindReading ended = Unit {0}
+IsBehindReading halted = Unit {0}
+IsBehindReading refusal = ⊥
+IsBehindReading unread = ⊥
+IsBehindReading broken = ⊥
+IsBehindReading starved = ⊥
+
+-- every file patch had its turn
+abbrev pub IsEnd : Sort → Type 0
+IsEnd ended = Unit {0}
+IsEnd halted = ⊥
+IsEnd refusal = ⊥
+IsEnd unread = ⊥
+IsEnd broken = ⊥
+IsEnd starved = ⊥
+
+-- the receipt is there exactly where every file patch had its turn, and tells which of the two ends it was
+abbrev pub HasReceipt : Why → Option Receipt → Type 0
+HasReceipt Done applied = IsSomeAnd applied (λ r. r.is_bad ≡ false)
+HasReceipt Rejected applied = IsSomeAnd applied (λ r. r.is_bad ≡ true)
+HasReceipt why applied = applied ≡ None
 
 -- the files after a first part of the effects, temporary names aside
 abbrev pub IsAfterPrefix : List Effect → Files → Files → Type 0
 IsAfterPrefix es f c = (k : ℕ) × (k ≤ length es) × SameLasting (after_all (take k es) f) c
 
 -- each crash since the call began leaves what one could have left at entry, or the files at entry after a first part of the effects
-abbrev pub LeavesAllowed : TreeView → TreeView → Files → List Effect → Type 0
-LeavesAllowed u w f es = (c : Files) → LeftSince w u.moment c → MayLeave u c ⊎ IsAfterPrefix es f c
+abbrev pub LeavesAllowed : World → World → Files → List Effect → Type 0
+LeavesAllowed u w f es = (c : Files) → LeftSince w.tree u.tree.moment c → MayLeave u.tree c ⊎ IsAfterPrefix es f c
 
--- after a whole run each crash from then on leaves all effects
-abbrev pub QuietAfter : Why → TreeView → Type 0
-QuietAfter Done w = IsQuiet w
-QuietAfter Usage w = Unit {0}
-QuietAfter NoPatchFile w = Unit {0}
-QuietAfter WriteFault w = Unit {0}
-QuietAfter TreeFault w = Unit {0}
-QuietAfter (Disagree want got) w = Unit {0}
-QuietAfter Memory w = Unit {0}
-QuietAfter Unsupported w = Unit {0}
+-- all that is promised of a run of these words from one state of its devices to another
+pub record Carries (words : List (List ℕ)) (u w : World) (why : Why) (applied : Option Receipt) : Type 0 where
+  pub tree : Passes u.tree w.tree
+  pub scratch : ScratchPasses u.scratch w.scratch
+  pub source : SourcePasses u.source w.source
+  pub sink : SinkPasses u.out w.out
+  pub cause : HasCause why (job_of words) u w
+  pub untouched : Untouched (sort_of why) u w
+  pub quiet : QuietAfter (sort_of why) w
+  pub receipt : HasReceipt why applied
+  -- a plan that keeps every file in the scratch wants no memory once there can be a change
+  pub starved : why ≡ Memory → pages_all (job_of words) ≡ true → IsAsAtEntry u w
+  -- standard input is read to its end, or not at all
+  pub read : IsBehindReading (sort_of why) → reads_source (job_of words) ≡ true → (left : List ℕ) → u.source.told ≡ Some left → w.source.told ≡ Some []
+  pub unread : reads_source (job_of words) ≡ false → w.source ≡ u.source
+  pub answers : (f : Files) (left : List ℕ) → TellsFiles (job_of words) u f → TellsLeft (job_of words) u left → Answers (sort_of why) why applied f u w (command words f left)
+  pub images : (f : Files) (left : List ℕ) → TellsFiles (job_of words) u f → TellsLeft (job_of words) u left → LeavesAllowed u w f (command words f left).effects
+  -- the scratch holds the pages of the last file that was kept there, or what it held
+  pub pages : IsEnd (sort_of why) → (f : Files) (left before : List ℕ) → TellsFiles (job_of words) u f → TellsLeft (job_of words) u left → u.scratch.told ≡ Some before
+      → AsksFor (job_of words) (λ o. w.scratch.told ≡ Some (scratch_behind_all o (command words f left).taken before))
 
--- all that is promised of a run from one state of tree and standard output to another
-pub record Carries (u w : TreeView) (a b : SinkView) (why : Why) (o : Files → Outcome) : Type 0 where
-  pub passes : Passes u w
-  pub sink : SinkPasses a b
-  pub cause : WhyCause why u w a b
-  pub untouched : Untouched why u w a b
-  pub quiet : QuietAfter why w
-  pub answers : (f : Files) → u.told ≡ Some f → Answers why f u w a b (o f)
-  pub images : (f : Files) → u.told ≡ Some f → LeavesAllowed u w f (o f).effects
+-- no count of faults rose, nor stands at its greatest value
+pub record NoneFailed (u w : World) : Type 0 where
+  pub tree : HasRisen u.tree.faults w.tree.faults → ⊥
+  pub scratch : HasRisen u.scratch.faults w.scratch.faults → ⊥
+  pub source : HasRisen u.source.faults w.source.faults → ⊥
+  pub out : HasRisen u.out.faults w.out.faults → ⊥
 
--- steps before the first change: the tree is told the same, and a crash leaves what one could have left before them
-pub record Opens (u w : TreeView) : Type 0 where
-  pub passes : Passes u w
-  pub told : w.told ≡ u.told
-  pub images : (c : Files) → LeftSince w u.moment c → MayLeave u c
-
--- the command ends so before the first change
-abbrev pub StopsEarly : Why → TreeView → TreeView → (Files → Outcome) → Type 0
-StopsEarly TreeFault u w o = tree.Rises u w
-StopsEarly (Disagree want got) u w o = (want ≢ got) × (u.told ≡ None)
-StopsEarly Memory u w o = Unit {0}
-StopsEarly Usage u w o = (f : Files) → u.told ≡ Some f → o f ≡ refused Usage
-StopsEarly NoPatchFile u w o = (f : Files) → u.told ≡ Some f → o f ≡ refused NoPatchFile
-StopsEarly Unsupported u w o = (f : Files) → u.told ≡ Some f → o f ≡ refused Unsupported
-StopsEarly Done u w o = ⊥
-StopsEarly WriteFault u w o = ⊥
-
--- an answer to words that are no command, or none that is built
-abbrev pub IsRefusalOfWords : Why → Type 0
-IsRefusalOfWords Usage = Unit {0}
-IsRefusalOfWords Unsupported = Unit {0}
-IsRefusalOfWords Done = ⊥
-IsRefusalOfWords NoPatchFile = ⊥
-IsRefusalOfWords WriteFault = ⊥
-IsRefusalOfWords TreeFault = ⊥
-IsRefusalOfWords (Disagree want got) = ⊥
-IsRefusalOfWords Memory = ⊥
-
--- the name's file is there, and this is its text with a line feed at its end
-abbrev pub HasCompleted : Files → List ℕ → List ℕ → Type 0
-HasCompleted f name whole = (text : List ℕ) × ((get f name ≡ Some text) × (length text ≤ longest_text) × (whole ≡ completed text))
-
--- the run ends so at the patch file, whatever file is to be patched
-abbrev pub StopsAtText : Why → TreeView → TreeView → List ℕ → Type 0
-StopsAtText why u w name = (file : List ℕ) → StopsEarly why u w (λ f. on_text (record { file = file; patch = name }) (get f name) f)
-
--- the bytes are those of the file with its hunks applied, each of which stands where it says
-pub record IsPatched (f : Files) (name : List ℕ) (hunks : List PlainHunk) (new : List ℕ) : Type 0 where
-  pub old : List ℕ
-  pub there : get f name ≡ Some old
-  pub admitted : refusal buffer_size old ≡ None
-  pub stand : stand_at_their_lines (lines old) hunks ≡ true
-  pub bytes : new ≡ applied (lines old) 0 false hunks
-
--- the plan took the file of that name
-pub record HasTaken (f : Files) (name : List ℕ) (plan : Seen) : Type 0 where
-  pub bytes : List ℕ
-  pub there : get f name ≡ Some bytes
-  pub admitted : refusal buffer_size bytes ≡ None
-  pub told : plan.told ≡ Some (lines bytes)
-
--- the run ends so at the file to be patched, whatever the patch file is called
-abbrev pub StopsAtFile : Why → TreeView → TreeView → List ℕ → List PlainHunk → Type 0
-StopsAtFile why u w name hunks = (patch : List ℕ) → StopsEarly why u w (λ f. on_hunks (record { file = name; patch = patch }) (Some hunks) f)
+-- the answer is the command's, with its text and its files, or memory ran out
+abbrev pub IsComplete : Why → Option Receipt → Files → World → World → Outcome → Type 0
+IsComplete why applied f u w o = IsAnswer why applied f u w o ⊎ (why ≡ Memory)
 
 -- the answer of a run that came to its end, or stopped
-abbrev pub why_of : Result (Unit {0}) Why → Why
-why_of (Ok done) = Done
+abbrev pub why_of : Result Receipt Why → Why
+why_of (Ok receipt) = if receipt.is_bad then Rejected else Done
 why_of (Err why) = why
 
--- the answer where the plan takes no file
-abbrev pub why_not_taken : OpenFault → Why
-why_not_taken open_fault.Tree = TreeFault
-why_not_taken open_fault.Scratch = TreeFault
-why_not_taken (open_fault.LongLine line length) = Unsupported
-why_not_taken (open_fault.FileTooLong length) = Unsupported
-why_not_taken (open_fault.Disagree want got) = Disagree want got
-why_not_taken open_fault.Memory = Memory
+abbrev pub receipt_of : Result Receipt Why → Option Receipt
+receipt_of (Ok receipt) = Some receipt
+receipt_of (Err why) = None

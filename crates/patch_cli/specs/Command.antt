@@ -1,110 +1,91 @@
--- What a command does, as a function of its words and the files of the tree.
-use Rattle.std.specs.Prelude.{ℕ, List, [], ◌∷◌, ◌++◌, codes, is_none, length, Bool, true, false, not, nat_lt, if◌then◌else◌, bytes_eq, Option, None, Some, Result, Ok, Err}
-use Rattle.std.specs.List.{list_any}
-use Rattle.std.specs.FinMap.{get}
-use Rattle.line_list.specs.Lines.{lines}
+-- What a command does, as a function of its words, the files of the tree and what standard input has left (POSIX `patch`; GNU patch manual).
+use Rattle.std.specs.Prelude.{ℕ, List, [], length, map, Bool, if◌then◌else◌, Option, None, Some, Result, Ok, Err}
+use Rattle.line_list.specs.Completed.{completed}
+use Rattle.hunk_core.specs.Reading.{Fault}
 use Rattle.outside.specs.Files.{Files}
 use Rattle.outside.specs.Quiet.{Effect}
-use Rattle.outside.specs.Quiet.Effect.{Put}
-use Rattle.line_store.specs.Taking.{refusal}
-use Rattle.hunk_core.specs.PlainHunk.{PlainHunk}
-use Rattle.hunk_place.specs.Verdicts.{verdicts, at_start}
-use Rattle.hunk_apply.specs.Applied.{applied}
-use Rattle.hunk_apply.specs.Session.{is_inexact}
-use Rattle.num_text.specs.Numbers.{decimal}
+use Rattle.line_store.specs.declared.fault.OpenFault.{OpenFault}
+use Rattle.file_patch.specs.PlainPatch.{PlainPatch}
+use Rattle.patch_options.specs.PlainJob.{PlainOptions, PlainJob}
+use Rattle.patch_options.specs.PlainJob.PlainJob.{patch}
+use Rattle.patch_options.specs.Words.{job_of}
+use Rattle.patch_options.specs.declared.options.WordFault.{WordFault}
+use Rattle.patch_input.specs.declared.fault.InputFault.{InputFault}
+use Rattle.patch_input.specs.Input.{input_bytes, answer_of}
+use Rattle.patch_text.specs.Patches.{patches_of}
+use Rattle.patch_set.specs.declared.fault.SetFault.{SetFault}
+use Rattle.patch_set.specs.Named.{known_names, targets_of, output_of}
+use Rattle.patch_set.specs.Refusals.{refusal}
+use Rattle.patch_run.specs.Applied.{Receipt}
+use Rattle.patch_run.specs.Faults.{of_open}
+use Rattle.patch_run.specs.OnePatch.{Item}
+use Rattle.patch_run.specs.Run.{Run, run_of}
 use Rattle.patch_cli.specs.declared.why.Why.{Why}
-use Rattle.patch_cli.specs.declared.why.Why.TheVariants.{Done, Usage, NoPatchFile, WriteFault, TreeFault, Disagree, Memory, Unsupported}
-use Rattle.patch_cli.specs.Request.{Request, request_of}
-use Rattle.patch_cli.specs.Plain.{plain_hunks}
+use Rattle.patch_cli.specs.declared.why.Why.TheVariants.{Done, Rejected, Malformed}
+use Rattle.patch_cli.specs.Answers.{of_words, of_input, of_set, of_run}
 
--- the answer, the text on standard output, and the effects on the tree
 pub record Outcome : Type 0 where
   pub why : Why
+  -- what goes to standard output
   pub text : List ℕ
   pub effects : List Effect
+  -- the files afterwards
+  pub files : Files
+  -- the bytes of the files that were taken to be patched, the last of them last
+  pub taken : List (List ℕ)
+  pub applied : Option Receipt
 
--- a refusal prints nothing on standard output and changes nothing
-abbrev pub refused : Why → Outcome
-refused why = record { why = why; text = []; effects = [] }
+-- a refusal says nothing and changes nothing
+abbrev pub refused : Why → Files → Outcome
+refused why files = record { why = why; text = []; effects = []; files = files; taken = []; applied = None }
 
--- the longest patch text
-abbrev pub longest_text : ℕ
-longest_text = 268435456
+-- a file patch with its targets, whose numbers are their places among the known names
+abbrev pub item_for : PlainOptions → List (List ℕ) → PlainPatch → Item
+item_for o known p = record { patch = p; targets = targets_of o known p.header }
 
--- the size of the buffer, which bounds the lines of the file to be patched
-abbrev pub buffer_size : ℕ
-buffer_size = 65536
+abbrev pub items_for : PlainOptions → List PlainPatch → List Item
+items_for o ps = map (item_for o (known_names o ps)) ps
 
--- each hunk, the hunks before it having been placed, stands at its stated line, with no fuzz
-abbrev pub stand_at_their_lines : List (List ℕ) → List PlainHunk → Bool
-stand_at_their_lines ls hunks = not (list_any is_inexact (verdicts ls 0 false at_start hunks))
+-- the file patches one after another
+abbrev pub run_for : PlainOptions → List PlainPatch → Files → Run
+run_for o ps files = run_of o (output_of o (known_names o ps)) (items_for o ps) files
 
--- the line that names the file
-abbrev pub patching_line : List ℕ → List ℕ
-patching_line name = codes "patching file " ++ (name ++ 10 ∷ [])
+abbrev pub end_of : Option OpenFault → Bool → Why
+end_of None is_bad = if is_bad then Rejected else Done
+end_of (Some fault) is_bad = of_run (of_open fault)
 
--- a line is said, and a file put
-abbrev pub puts : List ℕ → List ℕ → List ℕ → Outcome
-puts line name bytes = record { why = Done; text = line; effects = Put name bytes ∷ [] }
+abbrev pub receipt_if : Option OpenFault → Receipt → Option Receipt
+receipt_if None receipt = Some receipt
+receipt_if (Some fault) receipt = None
 
--- the file is put with its hunks applied
-abbrev pub patched : Request → List PlainHunk → List (List ℕ) → Outcome
-patched r hunks ls = puts (patching_line r.file) r.file (applied ls 0 false hunks)
+-- what a run over so many file patches comes to
+abbrev pub carried_out : ℕ → Run → Outcome
+carried_out count r = record {
+  why = end_of r.stop r.is_bad;
+  text = r.said;
+  effects = r.effects;
+  files = r.files;
+  taken = r.taken;
+  applied = receipt_if r.stop (record { is_bad = r.is_bad; done = count; effects = length r.effects });
+}
 
-abbrev pub on_lines : Request → List PlainHunk → List (List ℕ) → Outcome
-on_lines r hunks ls = if stand_at_their_lines ls hunks then patched r hunks ls else refused Unsupported
+-- a text that isn't refused has file patches, or is empty
+abbrev pub on_patches : PlainOptions → Result (List PlainPatch) Fault → Files → Outcome
+on_patches o (Err fault) files = refused (Malformed fault.line fault.kind) files
+on_patches o (Ok ps) files = carried_out (length ps) (run_for o ps files)
 
-abbrev pub on_bytes : Request → List PlainHunk → Option (List ℕ) → Outcome
-on_bytes r hunks None = refused Unsupported
-on_bytes r hunks (Some bytes) = if is_none (refusal buffer_size bytes) then on_lines r hunks (lines bytes) else refused Unsupported
+abbrev pub on_refusal : PlainOptions → Option SetFault → List ℕ → Files → Outcome
+on_refusal o (Some fault) text files = refused (of_set fault) files
+on_refusal o None text files = on_patches o (patches_of o.only (completed text)) files
 
--- with the hunks of the patch text
-abbrev pub on_hunks : Request → Option (List PlainHunk) → Files → Outcome
-on_hunks r None files = refused Unsupported
-on_hunks r (Some hunks) files = on_bytes r hunks (get files r.file)
+abbrev pub on_input : PlainOptions → Result (List ℕ) InputFault → Files → Outcome
+on_input o (Err fault) files = refused (of_input fault) files
+on_input o (Ok text) files = on_refusal o (refusal o text) text files
 
--- with the patch text
-abbrev pub on_text : Request → Option (List ℕ) → Files → Outcome
-on_text r None files = refused NoPatchFile
-on_text r (Some text) files = if nat_lt longest_text (length text) then refused Unsupported else on_hunks r (plain_hunks text) files
+abbrev pub on_job : Result PlainJob WordFault → Files → List ℕ → Outcome
+on_job (Err fault) files left = refused (of_words fault) files
+on_job (Ok (patch o)) files left = on_input o (answer_of (input_bytes o.input o.dir files left)) files
 
-abbrev pub on_request : Result Request Why → Files → Outcome
-on_request (Err why) files = refused why
-on_request (Ok r) files = on_text r (get files r.patch) files
-
-abbrev pub command : List (List ℕ) → Files → Outcome
-command words files = on_request (request_of words) files
-
-abbrev pub is_done : Why → Bool
-is_done Done = true
-is_done _ = false
-
--- the exit status
-abbrev pub exit_status : Why → ℕ
-exit_status Done = 0
-exit_status _ = 2
-
--- the tool's name in a message
-abbrev pub tool_of : List (List ℕ) → List ℕ
-tool_of [] = codes "patchkit"
-tool_of (tool ∷ operands) = if bytes_eq tool (codes "patch") then codes "patch" else codes "patchkit"
-
--- why, in the words of a message, but for numbers
-abbrev pub plain_reason : Why → List ℕ
-plain_reason Done = []
-plain_reason Usage = codes "the words are not a command"
-plain_reason NoPatchFile = codes "Can't find the patch file"
-plain_reason WriteFault = codes "write fault"
-plain_reason TreeFault = codes "tree fault"
-plain_reason (Disagree want got) = []
-plain_reason Memory = codes "out of memory"
-plain_reason Unsupported = codes "not supported yet"
-
-abbrev pub reason_of : Why → List ℕ
-reason_of (Disagree want got) = decimal want ++ (codes " expected, " ++ (decimal got ++ codes " found"))
-reason_of why = plain_reason why
-
--- the line on standard error, if there is one
-abbrev pub refusal_line : List (List ℕ) → Why → List ℕ
-refusal_line words Done = []
-refusal_line words why = tool_of words ++ (codes ": **** " ++ (reason_of why ++ 10 ∷ []))
+-- the words are read first, then the patch text; then the file patches are carried out
+abbrev pub command : List (List ℕ) → Files → List ℕ → Outcome
+command words files left = on_job (job_of words) files left

@@ -1,5 +1,9 @@
-pub mod Request
-pub mod Plain
+pub mod Answers
 pub mod Command
+pub mod Reasons
+pub mod Scratches
+pub mod Worlds
+pub mod Causes
+pub mod Finishes
 pub mod Carries
-pub mod Gathered
+pub mod Opening

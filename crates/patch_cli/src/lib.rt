@@ -2,17 +2,15 @@
 #![tactic(auto)]
 
 mod cli;
-mod gathered;
 mod opening;
-mod patched;
-mod plain;
+mod plans;
 #[cfg(test)]
 mod plans_tests;
 mod report;
 #[cfg(test)]
 mod tests;
 mod why;
-mod words;
 
 pub use cli::{Exit, run};
+pub use patch_run::Applied;
 pub use why::Why;

@@ -1,22 +1,69 @@
-//! What comes before the first change: the tree is settled, and the patch text is read.
-ghost use Rattle.std.specs.Prelude.{◌≡◌, ◌<◌, ◌≤◌, ◌+◌, ℕ, List, length, Ok, OnOk, IfOk, IfErr, true, Some};
-ghost use Rattle.std.specs.FinMap.{get};
-ghost use Rattle.outside.specs.Files.{Files};
+//! What comes before the first change: the words are read, the tree is settled, and the patch text is read.
+ghost use Rattle.std.specs.Prelude.{◌≡◌, ◌⊎◌, [], ℕ, List, map, false, true, Some, Ok, Err, OnOk, IfOk, IfErr, string_bytes};
 ghost use Rattle.outside.specs.TreeView.{Rises};
+ghost use Rattle.outside.specs.Calls.{IsUntouched};
+ghost use Rattle.outside.specs.SourceView.{SourcePasses};
+ghost use Rattle.outside.specs.ScratchView.{ScratchView};
+ghost use Rattle.outside.specs.SinkView.{SinkView};
 ghost use Rattle.outside.specs.Quiet.{IsQuiet};
-ghost use Rattle.line_list.specs.Completed.{completed, IsComplete};
-ghost use Rattle.patch_cli.specs.Carries.{Opens, HasCompleted, StopsAtText};
+ghost use Rattle.patch_options.specs.PlainJob.{plain_options, IsLawful};
+ghost use Rattle.patch_options.specs.PlainJob.PlainJob.{patch};
+ghost use Rattle.patch_options.specs.Words.{job_of};
+ghost use Rattle.patch_options.specs.declared.options.WordFault.{WordFault as TheFault};
+ghost use Rattle.patch_cli.specs.Answers.{of_words};
+ghost use Rattle.patch_cli.specs.Worlds.{world, is_standard, reads_source};
+ghost use Rattle.patch_cli.specs.Opening.{Opens, IsAsked, StopsEarly};
 
 use crate::why::Why;
-use line_list::lacks_last_feed;
-use outside::{Name, Tree};
-use std::alloc::{AllocError, Global};
+use outside::{Source, Tree};
+use patch_input::read_input;
+use patch_options::{Job, Options, read_words};
+use patch_set::{PatchSet, read_set};
+use std::alloc::Global;
 
-/// The longest patch text, in bytes.
-const LONGEST_TEXT: u64 = 268_435_456;
+/// The options, and the file patches that are to be carried out with them.
+#[derive(Drop)]
+pub struct Work {
+    pub options: Options,
+    pub set: PatchSet,
+}
+
+/// What the words ask for, once the tree is settled and the patch text read.
+pub fn open<T: Tree, I: Source>(
+    alloc: Global,
+    words: &[String],
+    tree: &mut T,
+    source: &mut I,
+) -> Result<Work, Why>
+    ensures opens { Opens (T.view tree.old) (T.view tree.new) }
+    ensures quiet { OnOk result (IsQuiet (T.view tree.new)) }
+    ensures source { SourcePasses (I.view source.old) (I.view source.new) }
+    ensures unread { reads_source (job_of (map string_bytes words.now)) ≡ false → source.new ≡ source.old }
+    ensures read { OnOk result (reads_source (job_of (map string_bytes words.now)) ≡ true → (left : List ℕ) → (I.view source.old).told ≡ Some left → (I.view source.new).told ≡ Some []) }
+    ensures job { IfOk result (λ work. job_of (map string_bytes words.now) ≡ Ok (patch (plain_options work.options))) }
+    ensures asked { IfOk result (λ work. (a : ScratchView) (c : SinkView) → IsAsked (plain_options work.options) work.set (world (T.view tree.old) a (I.view source.old) c)) }
+    ensures refused { IfErr result (λ why. (a : ScratchView) (c : SinkView) → StopsEarly why (job_of (map string_bytes words.now)) (world (T.view tree.old) a (I.view source.old) c) (world (T.view tree.new) a (I.view source.new) c)) }
+{
+    let options = read_options(alloc, words)?;
+    settle(tree)?;
+    let set = read_patches(alloc, &options, tree, source)?;
+    Ok(Work { options, set })
+}
+
+/// The options that the words give.
+fn read_options(alloc: Global, words: &[String]) -> Result<Options, Why>
+    ensures job { IfOk result (λ options. job_of (map string_bytes words.now) ≡ Ok (patch (plain_options options))) }
+    ensures lawful { IfOk result (λ options. IsLawful (plain_options options)) }
+    ensures refused { IfErr result (λ why. (why ≡ Why.Memory) ⊎ ((fault : TheFault) × (why ≡ of_words fault) × (job_of (map string_bytes words.now) ≡ Err fault))) }
+{
+    match read_words(alloc, words) {
+        Ok(Job::Patch(options)) => Ok(options),
+        Err(fault) => Err(Why::from(fault)),
+    }
+}
 
 /// Settles the tree.
-pub fn settle<T: Tree>(tree: &mut T) -> Result<(), Why>
+fn settle<T: Tree>(tree: &mut T) -> Result<(), Why>
     ensures opens { Opens (T.view tree.old) (T.view tree.new) }
     ensures quiet { OnOk result (IsQuiet (T.view tree.new)) }
     ensures cause { IfErr result (λ why. (why ≡ Why.TreeFault) × Rises (T.view tree.old) (T.view tree.new)) }
@@ -27,57 +74,22 @@ pub fn settle<T: Tree>(tree: &mut T) -> Result<(), Why>
     }
 }
 
-/// The completed text of the patch file.
-pub fn read_text<T: Tree>(alloc: Global, tree: &mut T, name: &Name) -> Result<Vec<u8>, Why>
-    ensures opens { Opens (T.view tree.old) (T.view tree.new) }
-    ensures quiet { IsQuiet (T.view tree.old) → IsQuiet (T.view tree.new) }
-    ensures short { IfOk result (λ text. length text.items ≤ 268435457) }
-    ensures complete { IfOk result (λ text. IsComplete text.items) }
-    ensures text { IfOk result (λ text. (f : Files) → (T.view tree.old).told ≡ Some f → HasCompleted f name.now text.items) }
-    ensures refused { IfErr result (λ why. StopsAtText why (T.view tree.old) (T.view tree.new) name.now) }
+/// The file patches of the patch text that the options name.
+fn read_patches<T: Tree, I: Source>(
+    alloc: Global,
+    options: &Options,
+    tree: &mut T,
+    source: &mut I,
+) -> Result<PatchSet, Why>
+    requires { IsLawful (plain_options options.now) }
+    ensures untouched { IsUntouched (T.view tree.old) (T.view tree.new) }
+    ensures source { SourcePasses (I.view source.old) (I.view source.new) }
+    ensures unread { is_standard options.now.input ≡ false → source.new ≡ source.old }
+    ensures read { OnOk result (is_standard options.now.input ≡ true → (left : List ℕ) → (I.view source.old).told ≡ Some left → (I.view source.new).told ≡ Some []) }
+    ensures asked { IfOk result (λ set. (a : ScratchView) (c : SinkView) → IsAsked (plain_options options.now) set (world (T.view tree.old) a (I.view source.old) c)) }
+    ensures refused { IfErr result (λ why. (a : ScratchView) (c : SinkView) → StopsEarly why (Ok (patch (plain_options options.now))) (world (T.view tree.old) a (I.view source.old) c) (world (T.view tree.new) a (I.view source.new) c)) }
 {
-    Ok(complete(read_bytes(alloc, tree, name)?)?)
-}
-
-/// The bytes of the patch file.
-fn read_bytes<T: Tree>(alloc: Global, tree: &mut T, name: &Name) -> Result<Vec<u8>, Why>
-    ensures opens { Opens (T.view tree.old) (T.view tree.new) }
-    ensures quiet { IsQuiet (T.view tree.old) → IsQuiet (T.view tree.new) }
-    ensures short { IfOk result (λ text. length text.items ≤ 268435456) }
-    ensures text { IfOk result (λ text. (f : Files) → (T.view tree.old).told ≡ Some f → get f name.now ≡ Some text.items) }
-    ensures refused { IfErr result (λ why. StopsAtText why (T.view tree.old) (T.view tree.new) name.now) }
-{
-    let size = match tree.size(name) {
-        Ok(Some(size)) => size,
-        Ok(None) => return Err(Why::NoPatchFile),
-        Err(_) => return Err(Why::TreeFault),
-    };
-    if size > LONGEST_TEXT {
-        return Err(Why::Unsupported);
-    }
-    // One byte more, so that a line feed behind it costs no copy.
-    let mut text = vec![in alloc; 0u8; size as usize + 1]?;
-    text.truncate(size as usize);
-    match tree.read_at(name, 0, &mut text) {
-        Ok(count) => {
-            if count < text.len() {
-                let got = count as u64;
-                return Err(Why::Disagree { want: size, got });
-            }
-            Ok(text)
-        }
-        Err(_) => Err(Why::TreeFault),
-    }
-}
-
-/// The text with a line feed where its last line lacks one.
-#[tactic(auto, unfolding(line_list::specs::Completed::completed))]
-fn complete(text: Vec<u8>) -> Result<Vec<u8>, AllocError>
-    ensures { IfOk result (λ whole. whole.items ≡ completed text.items) }
-{
-    let mut text = text;
-    if lacks_last_feed(&text) {
-        text.push(b'\n')?;
-    }
-    Ok(text)
+    let text = read_input(alloc, &options.input, options.dir.as_ref(), tree, source)?;
+    let set = read_set(alloc, text, options)?;
+    Ok(set)
 }

@@ -1,46 +1,112 @@
 //! The answers of a run.
 
-use std::alloc::{AllocError, AllocFailed};
+ghost use Rattle.std.specs.Prelude.{◌≡◌};
+ghost use Rattle.patch_cli.specs.Answers.{of_words, of_input, of_set, of_run};
 
-/// Why a run ends.
+use hunk_core::BadKind;
+use patch_input::InputFault;
+use patch_options::WordFault;
+use patch_run::RunFault;
+use patch_set::SetFault;
+
+/// Why a run ends. Lines are numbered from 1, and lengths are in bytes.
 #[derive(Clone, Copy, Debug, PartialEq, Eq)]
 pub enum Why {
-    /// The patch was applied.
+    /// All was carried out, and nothing was refused.
     Done,
+    /// All was carried out, but a hunk failed or was ignored, or a file that was to be deleted wasn't.
+    Rejected,
     /// The words are not a command.
     Usage,
+    /// The first fault of the patch text, line by line.
+    Malformed { line: u64, kind: BadKind },
+    /// The patch text isn't empty and has no file patch.
+    Garbage,
+    /// An ed script can't be reversed; the line is its opening.
+    EdReverse { line: u64 },
+    /// One output for so many file patches.
+    OutMany { count: u32 },
+    /// A file that would be written has a name of a temporary; the line is the opening of its file patch.
+    Reserved { line: u64 },
     /// The patch file isn't in the tree.
     NoPatchFile,
+    /// The patch text has more than 268,435,456 bytes.
+    TooLong,
+    /// A line of a file to be patched doesn't fit the buffer.
+    LongLine { line: u64, length: u64 },
+    /// A file to be patched has 2^40 bytes or more.
+    FileTooLong { length: u64 },
+    /// Standard input failed.
+    ReadFault,
     /// Standard output failed.
     WriteFault,
     /// The tree's device failed.
     TreeFault,
+    /// The scratch's device failed.
+    ScratchFault,
     /// Two numbers that are kept for the same thing differ, as a file's size and the bytes that came.
     Disagree { want: u64, got: u64 },
     /// Memory ran out.
     Memory,
-    /// A command that isn't built yet, or a patch text or a file that it isn't built for.
+    /// A tool that isn't built yet.
     Unsupported,
 }
 
-impl From<AllocError> for Why {
-    ghost use Rattle.std.specs.Prelude.{◌≡◌};
-    ghost use Rattle.patch_cli.specs.declared.why.Why.TheVariants.{Memory};
+impl From<WordFault> for Why {
+    ghost from_gives = { λ fault why. why ≡ of_words fault };
 
-    ghost from_gives = { λ _ e. e ≡ Memory };
-
-    fn from(_: AllocError) -> Self {
-        Why::Memory
+    fn from(fault: WordFault) -> Self {
+        match fault {
+            WordFault::Usage => Why::Usage,
+            WordFault::Unsupported => Why::Unsupported,
+            WordFault::Memory => Why::Memory,
+        }
     }
 }
 
-impl<T: Drop> From<AllocFailed<T>> for Why {
-    ghost use Rattle.std.specs.Prelude.{◌≡◌};
-    ghost use Rattle.patch_cli.specs.declared.why.Why.TheVariants.{Memory};
+impl From<InputFault> for Why {
+    ghost from_gives = { λ fault why. why ≡ of_input fault };
 
-    ghost from_gives = { λ _ e. e ≡ Memory };
+    fn from(fault: InputFault) -> Self {
+        match fault {
+            InputFault::NoPatchFile => Why::NoPatchFile,
+            InputFault::TooLong => Why::TooLong,
+            InputFault::Source => Why::ReadFault,
+            InputFault::Tree => Why::TreeFault,
+            InputFault::Disagree { want, got } => Why::Disagree { want, got },
+            InputFault::Memory => Why::Memory,
+        }
+    }
+}
 
-    fn from(_: AllocFailed<T>) -> Self {
-        Why::Memory
+impl From<SetFault> for Why {
+    ghost from_gives = { λ fault why. why ≡ of_set fault };
+
+    fn from(fault: SetFault) -> Self {
+        match fault {
+            SetFault::Malformed { line, kind } => Why::Malformed { line, kind },
+            SetFault::Garbage => Why::Garbage,
+            SetFault::TooLong => Why::TooLong,
+            SetFault::OutMany { count } => Why::OutMany { count },
+            SetFault::EdReverse { line } => Why::EdReverse { line },
+            SetFault::Reserved { line } => Why::Reserved { line },
+            SetFault::Memory => Why::Memory,
+        }
+    }
+}
+
+impl From<RunFault> for Why {
+    ghost from_gives = { λ fault why. why ≡ of_run fault };
+
+    fn from(fault: RunFault) -> Self {
+        match fault {
+            RunFault::Tree => Why::TreeFault,
+            RunFault::Write => Why::WriteFault,
+            RunFault::Scratch => Why::ScratchFault,
+            RunFault::LongLine { line, length } => Why::LongLine { line, length },
+            RunFault::FileTooLong { length } => Why::FileTooLong { length },
+            RunFault::Disagree { want, got } => Why::Disagree { want, got },
+            RunFault::Memory => Why::Memory,
+        }
     }
 }

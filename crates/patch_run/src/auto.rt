@@ -21,7 +21,7 @@ pub struct AutoPlan<P: Plan> {
     ghost sizes: { (⟦<PlanA as LineStore>⟧.seen small).size ≡ (P.seen big).size },
 }
 
-impl<P: Plan + Drop> AutoPlan<P> {
+impl<P: Plan> AutoPlan<P> {
     /// Both plans have buffers of the same size.
     pub fn new(small: PlanA, big: P) -> AutoPlan<P>
         requires sizes { (⟦<PlanA as LineStore>⟧.seen small).size ≡ (P.seen big).size }

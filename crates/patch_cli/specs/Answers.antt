@@ -1,0 +1,90 @@
+-- The answers of a run: from which faults they come, and of what sort they are.
+use Rattle.std.specs.Prelude.{ℕ, Bool, true, false}
+use Rattle.patch_options.specs.declared.options.WordFault.{WordFault}
+use Rattle.patch_options.specs.declared.options.WordFault.TheVariants as words
+use Rattle.patch_input.specs.declared.fault.InputFault.{InputFault}
+use Rattle.patch_input.specs.declared.fault.InputFault.TheVariants as input
+use Rattle.patch_set.specs.declared.fault.SetFault.{SetFault}
+use Rattle.patch_set.specs.declared.fault.SetFault.TheVariants as set
+use Rattle.patch_run.specs.declared.fault.RunFault.{RunFault}
+use Rattle.patch_run.specs.declared.fault.RunFault.TheVariants as runs
+use Rattle.patch_cli.specs.declared.why.Why.{Why}
+use Rattle.patch_cli.specs.declared.why.Why.TheVariants.{Done, Rejected, Usage, Malformed, Garbage, EdReverse, OutMany, Reserved, NoPatchFile, TooLong, LongLine, FileTooLong, ReadFault, WriteFault, TreeFault, ScratchFault, Disagree, Memory, Unsupported}
+
+abbrev pub of_words : WordFault → Why
+of_words words.Usage = Usage
+of_words words.Unsupported = Unsupported
+of_words words.Memory = Memory
+
+abbrev pub of_input : InputFault → Why
+of_input input.NoPatchFile = NoPatchFile
+of_input input.TooLong = TooLong
+of_input input.Source = ReadFault
+of_input input.Tree = TreeFault
+of_input (input.Disagree want got) = Disagree want got
+of_input input.Memory = Memory
+
+abbrev pub of_set : SetFault → Why
+of_set (set.Malformed line kind) = Malformed line kind
+of_set set.Garbage = Garbage
+of_set set.TooLong = TooLong
+of_set (set.OutMany count) = OutMany count
+of_set (set.EdReverse line) = EdReverse line
+of_set (set.Reserved line) = Reserved line
+of_set set.Memory = Memory
+
+abbrev pub of_run : RunFault → Why
+of_run runs.Tree = TreeFault
+of_run runs.Write = WriteFault
+of_run runs.Scratch = ScratchFault
+of_run (runs.LongLine line length) = LongLine line length
+of_run (runs.FileTooLong length) = FileTooLong length
+of_run (runs.Disagree want got) = Disagree want got
+of_run runs.Memory = Memory
+
+pub data Sort : Type 0 where
+  -- every file patch had its turn
+  ended : Sort
+  -- the run ends at a file that isn't taken
+  halted : Sort
+  -- a refusal before the first change
+  refusal : Sort
+  -- standard input failed, before the first change
+  unread : Sort
+  -- another device failed, or two numbers differ
+  broken : Sort
+  -- memory ran out
+  starved : Sort
+
+abbrev pub sort_of : Why → Sort
+sort_of Done = ended
+sort_of Rejected = ended
+sort_of (LongLine line length) = halted
+sort_of (FileTooLong length) = halted
+sort_of Usage = refusal
+sort_of Unsupported = refusal
+sort_of NoPatchFile = refusal
+sort_of TooLong = refusal
+sort_of (Malformed line kind) = refusal
+sort_of Garbage = refusal
+sort_of (EdReverse line) = refusal
+sort_of (OutMany count) = refusal
+sort_of (Reserved line) = refusal
+sort_of ReadFault = unread
+sort_of WriteFault = broken
+sort_of TreeFault = broken
+sort_of ScratchFault = broken
+sort_of (Disagree want got) = broken
+sort_of Memory = starved
+
+-- every file patch had its turn
+abbrev pub is_ended : Why → Bool
+is_ended Done = true
+is_ended Rejected = true
+is_ended why = false
+
+-- the exit status
+abbrev pub exit_status : Why → ℕ
+exit_status Done = 0
+exit_status Rejected = 1
+exit_status why = 2
