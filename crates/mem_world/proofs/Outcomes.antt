@@ -17,8 +17,8 @@ use Rattle.outside.specs.Quiet.{IsQuiet}
 use Rattle.mem_world.proofs.Disk.{quiet_bound, bound_at, marked_same, marked_other}
 use Rattle.mem_world.specs.Log.{notes}
 use Rattle.mem_world.specs.Store.{Records}
-use Rattle.mem_world.specs.Tree.{tells, device, Begins, Ends}
-use Rattle.mem_world.proofs.Calls.{Happens, on_ok, not_both, becomes_more, quiet_more, sealed_more, seal_stays, image_more}
+use Rattle.mem_world.specs.Tree.{tells, device, Begins, Ends, IsKept, IsKeptOrHalf}
+use Rattle.mem_world.proofs.Calls.{Happens, on_ok, on_err, not_both, becomes_more, quiet_more, sealed_more, seal_stays, image_more}
 use Rattle.mem_world.proofs.Counting.{numbers, past_bound}
 
 abbrev log_of : MemTree → List Note
@@ -118,10 +118,58 @@ module _ (old begun new : MemTree) (store : Store) (event : Event) where
       counts (Ok u) e = omega (arith, begins.starved, (e.ok refl).1)
       counts (Err a) e = omega (arith, begins.starved, (e.err refl).1.counts)
 
+  -- ---- what is kept of it
+  logs_last : {R E A : Type 0} (made : Result R A) (r : Result R E) (r0 : Result R E) → Ends (record begun { store = store }) new made r → store.calls ≡ begun.store.calls → Begins old begun r0
+      → Logs (notes begun.store.log.items) (notes store.log.items) begun.store.calls event → Logs (log_of old) (log_of new) new.store.calls event
+  logs_last made r r0 ends calls begins logs = subst (λ (k : ℕ). Logs (log_of old) (log_of new) k event) (sym (ends.calls ∙ calls)) (logs_on r0 begins logs ends.log)
+
+  pub kept_made : {R E A : Type 0} (w : R) (made : Result R A) (r : Result R E) → Begins {E = E} old begun (Ok w) → Records begun.store store event made → Ends (record begun { store = store }) new made r → IsKept old new event r
+  kept_made w (Ok u) r begins records ends =
+      let done = ends.ok refl in
+      record {
+        log = record { ok = on_ok _ r (λ _. logs_last (Ok u) r (Ok w) ends records.calls begins records.kept.ok); err = on_err _ r (λ err. absurd (not_both r done.0 err)) };
+        faults = on_ok _ r (λ _. done.2 ∙ begins.ok);
+      }
+  kept_made w (Err a) r begins records ends =
+      let done = ends.err refl in
+      record {
+        log = record { ok = on_ok _ r (λ ok. absurd (not_both r ok done.0)); err = on_err _ r (λ _. ends.log ∙ records.kept.err ∙ begins.log) };
+        faults = on_ok _ r (λ ok. absurd (not_both r ok done.0));
+      }
+
+  pub kept_whole : {R E A : Type 0} (half : Event) (w : R) (made : Result R A) (r : Result R E) → Begins {E = E} old begun (Ok w) → Records begun.store store event made → Ends (record begun { store = store }) new made r → IsKeptOrHalf old new event half r
+  kept_whole half w (Ok u) r begins records ends =
+      let done = ends.ok refl in
+      record {
+        ok = on_ok _ r (λ _. logs_last (Ok u) r (Ok w) ends records.calls begins records.kept.ok);
+        err = on_err _ r (λ err. absurd (not_both r done.0 err));
+        faults = on_ok _ r (λ _. done.2 ∙ begins.ok);
+      }
+  kept_whole half w (Err a) r begins records ends =
+      let done = ends.err refl in
+      record {
+        ok = on_ok _ r (λ ok. absurd (not_both r ok done.0));
+        err = on_err _ r (λ _. inr (ends.log ∙ records.kept.err ∙ begins.log, λ most. omega (arith, begins.starved, done.1.rises most)));
+        faults = on_ok _ r (λ ok. absurd (not_both r ok done.0));
+      }
+
+  pub kept_half : {R E A : Type 0} (whole : Event) (f : E) (made : Result R A) (r : Result R E) → Begins {R = R} old begun (Err f) → Records begun.store store event made → Ends (record begun { store = store }) new made r
+      → IsKeptOrHalf {R = R} {E = E} old new whole event (Err f)
+  kept_half whole f (Ok u) r begins records ends = record { ok = tt; err = inl (logs_last (Ok u) r (Err f) ends records.calls begins records.kept.ok); faults = tt }
+  kept_half whole f (Err a) r begins records ends =
+      let ended = ends.err refl in
+      record { ok = tt; err = inr (ends.log ∙ records.kept.err ∙ begins.log, λ most. omega (arith, begins.starved, ended.1.rises most)); faults = tt }
+
 -- ---- a call that reads
 -- a call that is listed, and did nothing
 pub happens_none : {R E Q F : Type 0} (old new : MemTree) (e : F) (done : Type 0) (r : Result R E) → IsErr r → Begins {R = Q} old new (Err e) → Happens (log_of old) (log_of new) old.count.faults new.count.faults done ⊥ r
 happens_none old new e done r err begins = record { counts = omega (arith, begins.err.counts); cause = λ _ most. omega (arith, begins.err.rises most); log = inr (inl (err, begins.log)) }
+
+pub kept_none : {R E Q F : Type 0} (old new : MemTree) (event : Event) (e : F) (r : Result R E) → IsErr r → Begins {R = Q} old new (Err e) → IsKept old new event r
+kept_none old new event e r err begins = record {
+  log = record { ok = on_ok _ r (λ ok. absurd (not_both r ok err)); err = on_err _ r (λ _. begins.log) };
+  faults = on_ok _ r (λ ok. absurd (not_both r ok err));
+}
 
 pub device_read : {R E Q : Type 0} (old new : MemTree) (r0 : Result Q E) (r : Result R E) → Begins old new r0 → (IsErr r → IsErr r0) → (IsErr r0 → IsErr r) → IsReading (device old) (device new) (tells old).moment (tells new).moment r
 unfolding view_of

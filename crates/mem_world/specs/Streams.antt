@@ -27,6 +27,8 @@ pub record FailsWhereListed {R E : Type 0} (old new : Device) (result : Result R
   pub counts : Counts old new
   pub exact : is_err result ≡ is_listed old
   pub starved : new.starved ≡ old.starved
+  -- no fault is counted where there was none
+  pub faults : OnOk result (new.faults ≡ old.faults)
 
 -- any other call: it fails where it is listed, and else only where memory could not grow, which is counted
 pub record FailsWhereListedOrStarved {R E : Type 0} (old new : Device) (result : Result R E) : Type 0 where
@@ -34,3 +36,4 @@ pub record FailsWhereListedOrStarved {R E : Type 0} (old new : Device) (result :
   pub listed : is_listed old ≡ true → IsErr result
   pub other : is_listed old ≡ false → IsErr result → HasRisen old.starved new.starved
   pub fed : OnOk result (new.starved ≡ old.starved)
+  pub faults : OnOk result (new.faults ≡ old.faults)

@@ -1,7 +1,8 @@
 -- What a tree in memory tells, and what its calls do.
-use Rattle.std.specs.Prelude.{◌≡◌, ◌≢◌, ◌↔◌, ◌++◌, ℕ, List, [], Some, true, false, min, ◌+◌, ◌-◌, ◌^◌, Result, IsOk, IsErr, OnOk, OnErr}
+use Rattle.std.specs.Prelude.{◌≡◌, ◌≢◌, ◌↔◌, ◌⊎◌, ◌++◌, ℕ, List, [], Some, true, false, min, ◌+◌, ◌-◌, ◌^◌, Result, IsOk, IsErr, OnOk, OnErr}
 use Rattle.std.specs.FinMap.{insert, remove}
 use Rattle.std.specs.List.{Contains}
+use Rattle.outside.specs.Faults.{HasRisen}
 use Rattle.outside.specs.Files.{Files, is_temp, bytes_at, moved}
 use Rattle.outside.specs.TreeView.{TreeView, MayLeave, IsCall}
 use Rattle.outside.specs.Calls.{Becomes, Spoils, SealsStay, LeavesNoMore, IsUntouched}
@@ -9,8 +10,8 @@ use Rattle.outside.specs.Quiet.{IsQuietAt, QuietStays, LeavesEitherAt, IsFixed}
 use Rattle.mem_world.specs.declared.tree.MemTree.{MemTree}
 use Rattle.mem_world.specs.Count.{Raises}
 use Rattle.mem_world.specs.Device.{Device, began_at, ended_at}
-use Rattle.mem_world.specs.Disk.{Note, view_of}
-use Rattle.mem_world.specs.Log.{notes}
+use Rattle.mem_world.specs.Disk.{Event, Note, Logs, view_of}
+use Rattle.mem_world.specs.Log.{notes, Keeps}
 
 -- what it tells of its files
 abbrev pub tells : MemTree → TreeView
@@ -40,6 +41,24 @@ pub record Ends {R E A : Type 0} (old new : MemTree) (made : Result R A) (result
   pub failing : new.count.failing.items ≡ old.count.failing.items
   pub ok : IsOk made → IsOk result × new.count.starved ≡ old.count.starved × new.count.faults ≡ old.count.faults
   pub err : IsErr made → IsErr result × Raises old.count.starved new.count.starved × Raises old.count.faults new.count.faults
+
+-- ---- what is kept of a call, by which a stop within it is told
+-- this event of a call that was made, and nothing of one that failed; no fault is counted where there was none
+pub record IsKept {R E : Type 0} (old new : MemTree) (event : Event) (result : Result R E) : Type 0 where
+  pub log : Keeps (notes old.store.log.items) (notes new.store.log.items) new.store.calls event result
+  pub faults : OnOk result (new.count.faults ≡ old.count.faults)
+
+-- one that failed may have taken place on the disk, and is kept as such, unless memory couldn't grow
+pub record IsKeptOrHalf {R E : Type 0} (old new : MemTree) (event half : Event) (result : Result R E) : Type 0 where
+  pub ok : OnOk result (Logs (notes old.store.log.items) (notes new.store.log.items) new.store.calls event)
+  pub err : OnErr result (Logs (notes old.store.log.items) (notes new.store.log.items) new.store.calls half
+      ⊎ ((notes new.store.log.items ≡ notes old.store.log.items) × HasRisen old.count.starved new.count.starved))
+  pub faults : OnOk result (new.count.faults ≡ old.count.faults)
+
+-- nothing of a call that reads
+pub record IsUnkept {R E : Type 0} (old new : MemTree) (result : Result R E) : Type 0 where
+  pub log : notes new.store.log.items ≡ notes old.store.log.items
+  pub faults : OnOk result (new.count.faults ≡ old.count.faults)
 
 -- ---- the clauses of the calls of a tree, each as one fact
 pub record Settles {R E : Type 0} (old new : TreeView) (result : Result R E) : Type 0 where

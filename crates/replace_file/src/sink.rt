@@ -48,6 +48,11 @@ impl<'a, 'n, T: Tree> TempSink<'a, 'n, T> {
         ensures rest { (self.new.tree.ghost_name ≡ self.old.tree.ghost_name) × (self.new.temp.name.now ≡ self.old.temp.name.now) × SameAround (T.view self.old.tree.now) (T.view self.new.tree.now) self.old.temp.name.now }
         ensures there { OnOk result (IsThere (T.view self.new.tree.now) self.old.temp.name.now) }
         ensures told { OnOk result ((sink_view (T.view self.new.tree.now) self.old.temp.name.now self.new.silent).told ≡ (sink_view (T.view self.old.tree.now) self.old.temp.name.now self.old.silent).told) }
+
+        // What was written since the last write that failed stays.
+        ensures mended { OnOk result (self.new.broken ≡ false) }
+        ensures anew { OnOk result (self.old.broken ≡ true → Holds (T.view self.new.tree.now) self.old.temp.name.now []) }
+        ensures stays { OnOk result (self.old.broken ≡ false → (T.view self.new.tree.now).told ≡ (T.view self.old.tree.now).told) }
     {
         mend(self.tree, &self.temp, self.broken)?;
         self.broken = false;
