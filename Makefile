@@ -1,7 +1,7 @@
 # make          builds the proved program: build/bin/patchkit, and a wrapper for each tool beside it
 # make demo     builds, then applies a patch to a copy of examples/tree and shows the result
-# make test     runs the gate (rt ci), then the checks on real files
-# make install  installs below PREFIX
+# make test     runs the gate (rt ci), then the checks and the worked rows on real files
+# make install  installs the program, its wrappers and the manual below PREFIX
 RT ?= rt
 PREFIX ?= /usr/local
 DESTDIR ?=
@@ -20,10 +20,13 @@ test:
 	$(RT) ci
 	@$(MAKE) --no-print-directory all
 	@sh tests/real_files $(BIN)
+	@sh tests/rows $(BIN)
 
 install: all
 	mkdir -p $(DESTDIR)$(PREFIX)/bin
 	for tool in patchkit $(TOOLS); do install -m 755 $(BIN)/$$tool $(DESTDIR)$(PREFIX)/bin/$$tool; done
+	mkdir -p $(DESTDIR)$(PREFIX)/share/man/man1
+	for tool in $(TOOLS); do install -m 644 docs/man/$$tool.1 $(DESTDIR)$(PREFIX)/share/man/man1/$$tool.1; done
 
 clean:
 	rm -rf build crates/*/out

@@ -1,11 +1,8 @@
-#include <stdio.h>
+#include <stdio.h> /* printf */
 
+/* Says hello. */
 int main(void)
 {
 	printf("hello\n");
 	return 0;
-}
-
-void unused(void)
-{
 }
