@@ -1,11 +1,10 @@
 -- A set that is carried out with a plan: from what the run says of the plan's store to what it leaves.
-use Rattle.std.proofs.Common.{◌≡◌, inr, ℕ, zero, ◌+◌, ◌-◌, ◌^◌, ◌<◌, ◌≤◌, List, [], ◌∷◌, ◌++◌, length, reverse, find, option_map, Bool, true, false, cond, if◌then◌else◌, nat_lt, Option, None, Some, is_some, Result, Ok, Err, IfOk, IfErr, refl, sym, ◌∙◌, ap, subst, arith}
+use Rattle.std.proofs.Common.{◌≡◌, inr, ℕ, zero, ◌+◌, ◌-◌, ◌^◌, ◌<◌, ◌≤◌, List, [], ◌∷◌, length, reverse, find, option_map, Bool, true, false, cond, if◌then◌else◌, nat_lt, Option, None, Some, is_some, Result, Ok, Err, IfOk, refl, sym, ◌∙◌, ap, subst, arith}
 use Rattle.std.proofs.lemmas.List.{reverse-append, append-nil}
 use Rattle.std.proofs.lemmas.List.Folds.{find-append}
 use Rattle.std.specs.Option.{option_or}
 use Rattle.line_list.specs.Lines.{lines}
 use Rattle.outside.specs.Files.{Files}
-use Rattle.outside.specs.Faults.{HasRisen}
 use Rattle.outside.specs.TreeView.{TreeView, passes_none}
 use Rattle.outside.specs.SinkView.{SinkView, sink_passes_none}
 use Rattle.outside.specs.ScratchView.{ScratchView, scratch_passes_none}
@@ -63,9 +62,9 @@ behind_all o scratch_after keeps (file ∷ more) before =
     ap (λ s. scratch_behind scratch_after o.buffer s more) (keeps.each file before)
     ∙ behind_all o scratch_after keeps more (if goes_there o.plan file then pages_of o.plan o.buffer (lines file) else before)
     ∙ ap (λ (l : List ℕ). Some l) (
-      pages_or-else o before file (goes_there o.plan file) (find (goes_there o.plan) (reverse more))
-      ∙ ap (λ x. pages_or o before x) (sym (find-append (goes_there o.plan) (reverse more) (file ∷ [])))
-      ∙ ap (λ l. pages_or o before (find (goes_there o.plan) l)) (sym (reverse-append (file ∷ []) more)))
+    pages_or-else o before file (goes_there o.plan file) (find (goes_there o.plan) (reverse more))
+    ∙ ap (λ x. pages_or o before x) (sym (find-append (goes_there o.plan) (reverse more) (file ∷ [])))
+    ∙ ap (λ l. pages_or o before (find (goes_there o.plan) l)) (sym (reverse-append (file ∷ []) more)))
 
 none_there : (taken : List (List ℕ)) → find (goes_there Whole) taken ≡ None
 none_there [] = refl

@@ -1,8 +1,8 @@
-use Rattle.std.proofs.Common.{◌≡◌, sym, ap, ◌∙◌}
+use Rattle.std.proofs.Common.{sym, ap, ◌∙◌}
 use Rattle.outside.specs.ScratchView.{ScratchView}
 use Rattle.patch_options.specs.PlainJob.{plain_options}
 use Rattle.patch_cli.specs.Scratches.{has_scratch}
-use Rattle.patch_cli.proofs.Finishing.{finishes_paged, keeps_padded}
+use Rattle.patch_cli.proofs.Finishing.{finishes_paged, finishes_without_pages, keeps_padded}
 use Rattle.patch_cli.proofs.plans.apply_padded.Goals as goal
 
 pub returns-clause-finishes : goal.returns-clause-finishes
@@ -18,3 +18,6 @@ returns-clause-finishes g c =
       memory = λ all. c.new-plan.ensures.memory;
       keeps = keeps_padded (plain_options c.args.options.now) c.requires.plan;
     })
+
+pub returns-in-Err-clause-finishes : goal.returns-in-Err-clause-finishes
+returns-in-Err-clause-finishes g c = finishes_without_pages (plain_options c.args.options.now) c.args.set.now _ _ _ c.requires.quiet
