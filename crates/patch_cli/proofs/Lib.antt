@@ -4,3 +4,4 @@ pub mod Texts
 pub mod Naming
 pub mod Outcomes
 pub mod Patching
+pub mod Finishing
