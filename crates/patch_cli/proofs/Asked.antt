@@ -2,7 +2,6 @@
 use Rattle.std.proofs.Common.{◌≡◌, ◌⊎◌, inl, inr, true, false, List, [], ◌∷◌, ℕ, length, map, Option, Some, None, is_some, Result, Ok, Err, IsErrAnd, IfErr, refl, sym, ◌∙◌, ap, subst}
 use Rattle.std.proofs.lemmas.Bool.{false≢true}
 use Rattle.std.proofs.lemmas.List.{length-map, length-replicate}
-use Rattle.line_list.specs.Completed.{completed}
 use Rattle.outside.specs.Files.{Files}
 use Rattle.outside.specs.TreeView.{TreeView, Rises}
 use Rattle.outside.specs.SourceView.{SourceView}
@@ -26,17 +25,16 @@ use Rattle.patch_input.specs.declared.fault.InputFault.TheVariants as inputs
 use Rattle.patch_text.specs.Patches.{patches_of}
 use Rattle.patch_set.specs.declared.fault.SetFault.{SetFault}
 use Rattle.patch_set.specs.declared.fault.SetFault.TheVariants as sets
-use Rattle.patch_set.specs.Named.{known_names, targets_of, output_of}
+use Rattle.patch_set.specs.Named.{known_names, targets_of}
 use Rattle.patch_set.specs.Refusals.{refusal}
 use Rattle.patch_set.specs.SetView.{SetView, plain_patches, hunks_in, HasTargets, IsRead, IsFresh}
 use Rattle.patch_run.specs.OnePatch.{Item}
-use Rattle.patch_run.specs.Run.{Run, run_of, set_run, item_of, items_of}
+use Rattle.patch_run.specs.Run.{Run, run_of, set_run, item_of}
 use Rattle.patch_cli.specs.declared.why.Why.{Why}
 use Rattle.patch_cli.specs.declared.why.Why.TheVariants.{Done, Rejected, Usage, Malformed, Garbage, EdReverse, OutMany, Reserved, NoPatchFile, TooLong, LongLine, FileTooLong, ReadFault, WriteFault, TreeFault, ScratchFault, Disagree, Memory, Unsupported}
 use Rattle.patch_cli.specs.Answers.{of_words, of_input, of_set}
-use Rattle.patch_cli.specs.Command.{Outcome, item_for, items_for, run_for, carried_out, on_patches, on_refusal, on_input, on_job}
-use Rattle.patch_cli.specs.Worlds.{World, world, TellsFiles, TellsLeft, is_standard}
-use Rattle.patch_cli.specs.Causes.{HasCause}
+use Rattle.patch_cli.specs.Command.{item_for, items_for, run_for, carried_out, on_patches, on_refusal, on_input, on_job}
+use Rattle.patch_cli.specs.Worlds.{World, world, TellsFiles, is_standard}
 use Rattle.patch_cli.specs.Finishes.{CanApply}
 use Rattle.patch_cli.specs.Opening.{Opens, IsAsked, EndsSo, StopsEarly}
 

@@ -1,5 +1,5 @@
 -- Steps that leave the tree as it is told.
-use Rattle.std.proofs.Common.{◌≡◌, ⊎_elim, ℕ, Result, refl, ◌∙◌, subst, arith}
+use Rattle.std.proofs.Common.{◌≡◌, ⊎_elim, Result, refl, ◌∙◌, subst, arith}
 use Rattle.outside.specs.Files.{Files}
 use Rattle.outside.specs.TreeView.{TreeView, IsCall, MayLeave, LeftSince, passes_none, passes_both}
 use Rattle.outside.specs.Calls.{IsUntouched, LeavesNoMore}

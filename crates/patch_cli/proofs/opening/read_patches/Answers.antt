@@ -1,4 +1,4 @@
-use Rattle.std.proofs.Common.{◌≡◌, Option, List, ℕ, Ok, subst}
+use Rattle.std.proofs.Common.{Option, List, ℕ, Ok, subst}
 use Rattle.patch_options.specs.PlainJob.{plain_options}
 use Rattle.patch_options.specs.PlainJob.PlainJob.{patch}
 use Rattle.patch_input.specs.Input.{IsAnswer, HasCause}
