@@ -1,7 +1,5 @@
+pub mod Opens
+pub mod Asked
+pub mod Finishing
 pub mod Carrying
 pub mod Reporting
-pub mod Texts
-pub mod Naming
-pub mod Outcomes
-pub mod Patching
-pub mod Finishing
