@@ -1,6 +1,2 @@
 pub mod Carrying
 pub mod Reporting
-pub mod Texts
-pub mod Naming
-pub mod Outcomes
-pub mod Patching
