@@ -1,5 +1,5 @@
 -- Writes in parts, as the calls of `put_all` give them.
-use Rattle.std.proofs.Common.{◌≡◌, ℕ, List, [], ◌∷◌, ◌++◌, codes, map, string_bytes, Bool, true, false, if◌then◌else◌, Some, ◌∙◌, Result, Ok, Err, IsErr, OnOk, OnErr, refl, subst, sym, ap}
+use Rattle.std.proofs.Common.{◌≡◌, ℕ, List, [], ◌∷◌, ◌++◌, codes, map, string_bytes, Bool, true, false, if◌then◌else◌, Some, ◌∙◌, Result, Ok, Err, IsErr, sym, ap}
 use Rattle.std.specs.List.{slice_get}
 use Rattle.std.specs.declared.string.String.{String}
 use Rattle.std.proofs.lemmas.Option.{same_Some}

@@ -128,7 +128,7 @@ fn reason_of(why: Why) -> Reason
 
 /// A reason without a number.
 fn plain(text: &'static [u8]) -> Reason
-    ensures { result ≡ record { front = text; first = None; middle = record { now = [] }; second = None; end = record { now = [] } } }
+    ensures { text_of result ≡ text.now }
 {
     Reason {
         front: text,

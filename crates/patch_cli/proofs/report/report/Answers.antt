@@ -4,7 +4,7 @@ use Rattle.patch_cli.proofs.Reporting.{stop_all, then_all, behind_tool, no_line}
 use Rattle.patch_cli.proofs.report.report.Goals as goal
 
 pub returns-then-is_ended-clause-writes : goal.returns-then-is_ended-clause-writes
-returns-then-is_ended-clause-writes c = no_line _ _ (map string_bytes c.args.words.now) c.args.why (sym c.is_ended.ensures ∙ c.if-is_ended.true)
+returns-then-is_ended-clause-writes g c = no_line _ _ (map string_bytes c.args.words.now) c.args.why (sym c.is_ended.ensures ∙ c.if-is_ended.true)
 
 pub returns-in_err-put_all-clause-writes : goal.returns-in_err-put_all-clause-writes
 returns-in_err-put_all-clause-writes g c = behind_tool c.from_residual.result (map string_bytes c.args.words.now) c.args.why c.tool_of.result.now c.tool_of.ensures (sym c.is_ended.ensures ∙ c.if-is_ended.false)
