@@ -1,14 +1,13 @@
 -- Writes in parts, as the calls of `put_all` give them.
-use Rattle.std.proofs.Common.{◌≡◌, ℕ, List, [], ◌∷◌, ◌++◌, codes, map, string_bytes, Bool, true, false, if◌then◌else◌, Some, ◌∙◌, Result, Ok, Err, IsErr, refl, subst, sym, ap}
-use Rattle.std.specs.Str.{bytes_eq}
+use Rattle.std.proofs.Common.{◌≡◌, ℕ, List, [], ◌∷◌, ◌++◌, codes, map, string_bytes, Bool, true, false, if◌then◌else◌, Some, ◌∙◌, Result, Ok, Err, IsErr, sym, ap}
 use Rattle.std.specs.List.{slice_get}
 use Rattle.std.specs.declared.string.String.{String}
 use Rattle.std.proofs.lemmas.Option.{same_Some}
 use Rattle.outside.specs.SinkView.{SinkView, IsSinkCall, Receives, ReceivesPart, Writes}
-use Rattle.outside.proofs.Writing.{received_part, writes_stop, writes_then}
+use Rattle.outside.proofs.Writing.{received_part, writes_stop, writes_then, writes_is, writes_none}
 use Rattle.patch_cli.specs.declared.why.Why.{Why}
-use Rattle.patch_cli.specs.declared.why.Why.TheVariants.{Done, Usage, NoPatchFile, WriteFault, TreeFault, Disagree, Memory, Unsupported}
-use Rattle.patch_cli.specs.Command.{refusal_line, tool_of, reason_of, is_done}
+use Rattle.patch_cli.specs.Answers.{is_ended}
+use Rattle.patch_cli.specs.Reasons.{refusal_line, tool_of, reason_of}
 
 -- a first part that failed
 pub stop_all : {R S E D : Type 0} {a b : SinkView} (e : E) (s : Result S D) (p q : List ℕ) → IsErr s → IsSinkCall {R = R} a b (Err e) → ReceivesPart a b p → Writes a b s (p ++ q)
@@ -19,27 +18,24 @@ pub then_all : {R S E D : Type 0} {a b c : SinkView} (x : R) (r : Result S D) (p
 then_all x r p q call received more = writes_then x r (record { call = call; received = received; failed = tt }) more
 
 -- the line of an answer that has one
-pub refusal_line-refused : (words : List (List ℕ)) (why : Why) → is_done why ≡ false → refusal_line words why ≡ tool_of words ++ (codes ": **** " ++ (reason_of why ++ 10 ∷ []))
-refusal_line-refused words Done is = absurd (cc)
-refusal_line-refused words Usage is = refl
-refusal_line-refused words NoPatchFile is = refl
-refusal_line-refused words WriteFault is = refl
-refusal_line-refused words TreeFault is = refl
-refusal_line-refused words (Disagree want got) is = refl
-refusal_line-refused words Memory is = refl
-refusal_line-refused words Unsupported is = refl
+abbrev pub whole_line : List ℕ → Why → List ℕ
+whole_line tool why = tool ++ (codes ": **** " ++ (reason_of why ++ 10 ∷ []))
+
+-- no line where every file patch had its turn
+pub no_line : {R E : Type 0} (a : SinkView) (x : R) (words : List (List ℕ)) (why : Why) → is_ended why ≡ true → Writes {E = E} a a (Ok x) (refusal_line words why)
+no_line a x words why is = writes_is (Ok x) (refusal_line words why) (writes_none a x) (ap (λ (b : Bool). if b then [] else whole_line (tool_of words) why) (sym is))
 
 -- the same after a first part whose bytes are the tool's name
-pub behind_tool : {R E : Type 0} {a b : SinkView} (r : Result R E) (words : List (List ℕ)) (why : Why) (tool : List ℕ) → tool ≡ tool_of words → is_done why ≡ false
-    → Writes a b r (tool ++ (codes ": **** " ++ (reason_of why ++ 10 ∷ []))) → Writes a b r (refusal_line words why)
-behind_tool {a = a} {b = b} r words why tool is not_done w =
-    subst (λ (l : List ℕ). Writes a b r l) (sym (refusal_line-refused words why not_done))
-    (subst (λ (l : List ℕ). Writes a b r (l ++ (codes ": **** " ++ (reason_of why ++ 10 ∷ [])))) is w)
+pub behind_tool : {R E : Type 0} {a b : SinkView} (r : Result R E) (words : List (List ℕ)) (why : Why) (tool : List ℕ) → tool ≡ tool_of words → is_ended why ≡ false
+    → Writes a b r (whole_line tool why) → Writes a b r (refusal_line words why)
+behind_tool {a = a} {b = b} r words why tool is not_ended w =
+    writes_is r (refusal_line words why) w
+    (ap (λ t. whole_line t why) is ∙ ap (λ (b : Bool). if b then [] else whole_line (tool_of words) why) (sym not_ended))
 
--- the first word is the tool
-pub tool_of-patch : {Z : Type 0} (words : List (String Z)) (tool : String Z) → Some tool ≡ slice_get words 0 → bytes_eq (string_bytes tool) (codes "patch") ≡ true → codes "patch" ≡ tool_of (map string_bytes words)
-tool_of-patch [] tool first is = absurd (cc)
-tool_of-patch (word ∷ words) tool first is = ap (λ (b : Bool). if b then codes "patch" else codes "patchkit") (sym is ∙ ap (λ t. bytes_eq (string_bytes t) (codes "patch")) (same_Some _ _ first))
+-- the first word decides on the tool
+pub tool_of-first : {Z : Type 0} (words : List (String Z)) (tool : String Z) (text result : List ℕ) → Some tool ≡ slice_get words 0 → text ≡ string_bytes tool → result ≡ tool_of (text ∷ []) → result ≡ tool_of (map string_bytes words)
+tool_of-first [] tool text result first is given = absurd (cc)
+tool_of-first (word ∷ words) tool text result first is given = given ∙ ap (λ t. tool_of (t ∷ [])) (is ∙ ap string_bytes (same_Some _ _ first))
 
 -- however the writing ended, it left a first part
 pub writes_part : {R E : Type 0} (a b : SinkView) (s : Result R E) (p : List ℕ) → Writes a b s p → ReceivesPart a b p

@@ -25,7 +25,7 @@ pub record IsAnswer (why : Why) (applied : Option Receipt) (f : Files) (u w : Wo
   pub files : w.tree.told ≡ Some o.files
   -- which are the files at entry after the effects, temporary names aside
   pub made : SameLasting (after_all o.effects f) o.files
-  pub applied : applied ≡ o.applied
+  pub receipt : applied ≡ o.applied
 
 -- a first part of the effects and of the text
 pub record FirstPart (u w : World) (o : Outcome) : Type 0 where

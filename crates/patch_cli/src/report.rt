@@ -56,9 +56,8 @@ fn named_tool(word: &str) -> &[u8]
     ensures { result.now ≡ tool_of (word.now ∷ []) }
 {
     match word {
-        "patch" | "lsdiff" | "filterdiff" | "grepdiff" | "splitdiff" | "recountdiff" | "patchgen" => {
-            word.as_bytes()
-        }
+        "patch" | "lsdiff" | "filterdiff" | "grepdiff" | "splitdiff" | "recountdiff" | "patchgen" =>
+            { word.as_bytes() }
         _ => b"patchkit",
     }
 }
@@ -129,7 +128,7 @@ fn reason_of(why: Why) -> Reason
 
 /// A reason without a number.
 fn plain(text: &'static [u8]) -> Reason
-    ensures { result ≡ record { front = text; first = None; middle = record { now = [] }; second = None; end = record { now = [] } } }
+    ensures { text_of result ≡ text.now }
 {
     Reason {
         front: text,
@@ -141,12 +140,7 @@ fn plain(text: &'static [u8]) -> Reason
 }
 
 /// A reason with one number.
-fn numbered(
-    front: &'static [u8],
-    number: u64,
-    middle: &'static [u8],
-    end: &'static [u8],
-) -> Reason
+fn numbered(front: &'static [u8], number: u64, middle: &'static [u8], end: &'static [u8]) -> Reason
     ensures { text_of result ≡ front.now ++ (decimal_if (Some number) ++ (middle.now ++ end.now)) }
 {
     Reason {

@@ -1,5 +1,5 @@
 use Rattle.std.proofs.Common.{[], ◌∷◌, ◌++◌, codes}
-use Rattle.patch_cli.specs.Command.{reason_of}
+use Rattle.patch_cli.specs.Reasons.{reason_of}
 use Rattle.patch_cli.proofs.Reporting.{stop_all, then_all}
 use Rattle.patch_cli.proofs.report.put_behind_tool.Goals as goal
 

@@ -1,7 +1,5 @@
-use Rattle.std.proofs.Common.{◌∙◌, sym, ap}
-use Rattle.std.specs.Str.{bytes_eq}
-use Rattle.patch_cli.proofs.Reporting.{tool_of-patch}
+use Rattle.patch_cli.proofs.Reporting.{tool_of-first}
 use Rattle.patch_cli.proofs.report.tool_of.Goals as goal
 
-pub returns-then-eq : goal.returns-then-eq
-returns-then-eq c = tool_of-patch c.args.words.now c.in-Some.tool.now c.in-Some.ensures.value (ap (λ l. bytes_eq l _) (sym c.as_str.ensures.value) ∙ sym c.eq.ensures ∙ c.if-eq.true)
+pub returns-in-Some : goal.returns-in-Some
+returns-in-Some c = tool_of-first c.args.words.now c.in-Some.word.now c.as_str.result.now c.named_tool.result.now c.in-Some.ensures.value c.as_str.ensures.value c.named_tool.ensures
