@@ -47,7 +47,7 @@ wrote-same : (t : PlainTurn) (f g : Files) (w : Target) (x : Tried) → get g w.
 unfolding wrote
 wrote-same t f g w x same = rw same
 
-effects-dry : (t : PlainTurn) (f : Files) (w : Target) (x : Tried) → t.options.dry_run ≡ true → effects_of t f w x ≡ []
+pub effects-dry : (t : PlainTurn) (f : Files) (w : Target) (x : Tried) → t.options.dry_run ≡ true → effects_of t f w x ≡ []
 unfolding effects_of
 effects-dry t f w x dry = rw dry
 
@@ -123,7 +123,7 @@ pub if_any : {R E : Type 0} (P : E → Type 0) (r : Result R E) → ((e : E) →
 if_any P (Ok x) p = tt
 if_any P (Err e) p = p e
 
-is_dry : (dry : Bool) (name : List ℕ) → IsBegun dry None name → dry ≡ true
+pub is_dry : (dry : Bool) (name : List ℕ) → IsBegun dry None name → dry ≡ true
 is_dry true name is = refl
 is_dry false name is = absurd is
 

@@ -8,7 +8,7 @@ use Rattle.outside.specs.SinkView.{SinkView, Receives}
 use Rattle.outside.specs.Quiet.{IsQuiet, WorksOn, Holds}
 use Rattle.outside.proofs.Names.{lasting-both}
 use Rattle.outside.proofs.Views.{told_back}
-use Rattle.outside.proofs.Quiet.{lasting-only, works_none}
+use Rattle.outside.proofs.Quiet.{lasting-only, works_none, works_both}
 use Rattle.replace_file.specs.TempSink.{sink_view, SameAround}
 
 -- a sink over a temporary of a quiet tree works on that alone
@@ -43,3 +43,8 @@ around_is view s t u w n m first last name around = subst (λ x. SameAround (vie
 
 pub holds_is : {X : Type 0} (view : X → TreeView) (s t : X) (m n b : List ℕ) → s ≡ t → m ≡ n → Holds (view s) m b → Holds (view t) n b
 holds_is view s t m n b tree name holds = subst (λ x. Holds (view t) x b) name (subst (λ x. Holds (view x) m b) tree holds)
+
+-- and then on the same tree by another name
+pub works_then : {X : Type 0} (view : X → TreeView) (s t w v : X) (n m : List ℕ) → is_temp n ≡ true → t ≡ w → m ≡ n → WorksOn (view s) (view t) n → WorksOn (view w) (view v) m → WorksOn (view s) (view v) n
+works_then view s t w v n m is tree name first second =
+    works_both (view s) (view t) (view v) n is first (subst (λ x. WorksOn (view x) (view v) n) (sym tree) (subst (λ x. WorksOn (view w) (view v) x) name second))

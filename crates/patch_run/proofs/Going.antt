@@ -26,7 +26,9 @@ use Rattle.patch_run.specs.Devices.{Told, HasRunCause, scratch_with}
 use Rattle.patch_run.specs.OnePatch.{Item, Mark, PlainTurn, Story, Ending, ending, mark_of}
 use Rattle.patch_run.specs.Run.{Run, run_on, turn_of, with_story, with_ending, run_of, item_of, items_of, set_run}
 use Rattle.patch_run.specs.Ready.{AreNumbered, marks, rows_in, turn_at}
+use Rattle.patch_run.specs.Making.{IsTidy}
 use Rattle.patch_run.specs.Doing.{Stays, IsDone, IsEnded, IsBroken, IsFar, IsCutOff, IsOrdered, IsCutAt, said_of, scratch_behind, StaysSet}
+use Rattle.patch_run.proofs.Tidy.{tidy_none, tidy_both}
 use Rattle.patch_run.proofs.Folding.{run-next, cut_off, cut_here, far_on}
 use Rattle.patch_run.proofs.Marks.{verdicts-next, marks-next}
 
@@ -36,15 +38,16 @@ pub record Goes (u w : TreeView) (a b : Seen) (c d : SinkView) : Type 0 where
   pub plan : KeepsPlan a b
   pub sink : SinkPasses c d
   pub quiet : IsQuiet w
+  pub tidy : IsTidy u w
 
 pub goes_none : (u : TreeView) (a : Seen) (c : SinkView) → IsQuiet u → Goes u u a a c c
-goes_none u a c quiet = record { tree = passes_none u; plan = record { faults = omega arith; telling = refl; size = refl; needs_memory = refl }; sink = sink_passes_none c; quiet = quiet }
+goes_none u a c quiet = record { tree = passes_none u; plan = record { faults = omega arith; telling = refl; size = refl; needs_memory = refl }; sink = sink_passes_none c; quiet = quiet; tidy = tidy_none u }
 
 pub plan_both : {a b c : Seen} → KeepsPlan a b → KeepsPlan b c → KeepsPlan a c
 plan_both x y = record { faults = omega (arith, x.faults, y.faults); telling = y.telling ∙ x.telling; size = y.size ∙ x.size; needs_memory = y.needs_memory ∙ x.needs_memory }
 
-pub goes_on : {R : Type 0} {u v w : TreeView} {a b c : Seen} {d e g : SinkView} (x : R) → Goes u v a b d e → Stays v w b c e g (Ok x) → IsQuiet w → Goes u w a c d g
-goes_on x goes stays quiet = record { tree = passes_both goes.tree stays.tree; plan = plan_both goes.plan stays.plan; sink = sink_passes_both goes.sink stays.sink; quiet = quiet }
+pub goes_on : {R : Type 0} {u v w : TreeView} {a b c : Seen} {d e g : SinkView} (x : R) → Goes u v a b d e → Stays v w b c e g (Ok x) → IsQuiet w → IsTidy v w → Goes u w a c d g
+goes_on {u = u} {v = v} {w = w} x goes stays quiet tidy = record { tree = passes_both goes.tree stays.tree; plan = plan_both goes.plan stays.plan; sink = sink_passes_both goes.sink stays.sink; quiet = quiet; tidy = tidy_both u v w goes.tree goes.tidy tidy }
 
 -- what is told is told on
 told_then : {u v : TreeView} {a b : Seen} {c d : SinkView} (f : Files) → Goes u v a b c d → Told u a f → (g : Files) × Told v b g

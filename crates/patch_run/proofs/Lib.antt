@@ -16,3 +16,4 @@ mod Applying
 mod Turning
 mod Rejecting
 mod Telling
+mod Tidy

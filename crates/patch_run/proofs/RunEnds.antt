@@ -22,7 +22,8 @@ use Rattle.patch_run.specs.Devices.{Told}
 use Rattle.patch_run.specs.OnePatch.{Item, ending}
 use Rattle.patch_run.specs.Run.{Run, items_of, set_run}
 use Rattle.patch_run.specs.Ready.{rows_in, turn_at}
-use Rattle.patch_run.specs.Doing.{QuietAfter, Does, IsCutOff, IsCutAt, Runs, StaysSet, IsPlacedOn}
+use Rattle.patch_run.specs.Doing.{QuietAfter, Does, IsCutOff, IsCutAt, Runs, NoneFailed, EndsSo, StaysSet, IsPlacedOn}
+use Rattle.patch_run.proofs.Tidy.{tidy_both, unless_then}
 use Rattle.patch_run.proofs.Folding.{cut_moments}
 use Rattle.patch_run.proofs.Marks.{rows-last}
 use Rattle.patch_run.proofs.Going.{Goes, IsAt, IsNext, run_to, same-items, same-run, all-run, plan_both, cause_then, at_fault, at_cut}
@@ -52,6 +53,7 @@ module _ (u x w : TreeView) (a b b' : Seen) (c d e : SinkView) {scratch_after : 
       (record {
         stays = record { tree = passes_both goes.tree does.stays.tree; plan = plan_both goes.plan does.stays.plan; sink = sink_passes_both goes.sink does.stays.sink; cause = cause_then u x w a b b' c d e fault goes does.stays.cause };
         quiet = quiet_still Done R w fault does.quiet;
+        tidy = unless_then fault (tidy_both u x w goes.tree goes.tidy) does.tidy;
         whole = tt;
         going = tt;
         scratch = tt;
@@ -82,12 +84,25 @@ module _ {u w : TreeView} {a b : Seen} {c d : SinkView} {scratch_after : ℕ →
   runs_all y goes = record {
     stays = record { tree = goes.tree; plan = goes.plan; sink = goes.sink; cause = tt };
     quiet = goes.quiet;
+    tidy = goes.tidy;
     whole = λ f told. (at_all f told).far;
     going = λ f told. (at_all f told).going;
     scratch = λ f told. (at_all f told).scratch;
     cut = tt;
     moments = λ f told. (at_all f told).far.made.since;
   }
+
+-- where no device has failed, the answer is how the run ends
+pub ends_so : {R : Type 0} {u w : TreeView} {a b : Seen} {c d : SinkView} {scratch_after : ℕ → List ℕ → Option (List ℕ) → Option (List ℕ)} {run : Files → Run} (r : Result R RunFault) → Runs u w a b c d scratch_after r run
+    → (f : Files) → Told u a f → NoneFailed u w a b c d → EndsSo r a (run f).stop
+ends_so (Ok x) runs f told none = runs.going f told
+ends_so (Err Tree) runs f told none = none.tree runs.stays.cause
+ends_so (Err Write) runs f told none = none.sink runs.stays.cause
+ends_so (Err Scratch) runs f told none = none.scratch runs.stays.cause
+ends_so (Err (LongLine line count)) runs f told none = (runs.cut f told).0
+ends_so (Err (FileTooLong count)) runs f told none = (runs.cut f told).0
+ends_so (Err (Disagree want got)) runs f told none = runs.stays.cause.1 f told
+ends_so (Err Memory) runs f told none = runs.stays.cause
 
 -- ---- where hunks are placed
 

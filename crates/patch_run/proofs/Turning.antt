@@ -26,8 +26,10 @@ use Rattle.patch_run.specs.declared.apply.Done.{Done}
 use Rattle.patch_run.specs.OnePatch.{PlainTurn, Start, skips, refuses, tries, total, bytes_of, lines_in, start, skipped, finished_at, ending_of, ending}
 use Rattle.patch_run.specs.Devices.{Told, scratch_with}
 use Rattle.patch_run.specs.Starting.{Starts, IsDecided, IsBrokenOff, said_in, taken_in}
+use Rattle.patch_run.specs.Making.{TidyAfter}
 use Rattle.patch_run.specs.Doing.{Stays, QuietAfter, IsPartOf, IsWholeOf, IsDone, IsEnded, IsStopped, IsBroken, IsDeviceFault, IsOrdered, Does, effects_in, said_of}
 use Rattle.patch_run.proofs.EffectLists.{made_both, leaves_after, tells_after}
+use Rattle.patch_run.proofs.Tidy.{tidy_both, untouched_tidy, unless_held, unless_then}
 use Rattle.patch_run.proofs.Applying.{unmade, ordered_after, ordered_behind}
 use Rattle.patch_run.proofs.Going.{Goes, plan_both, cause_then}
 
@@ -92,6 +94,7 @@ module _ (t : PlainTurn) (u v : TreeView) (a b : Seen) (c d : SinkView) (scratch
       (record {
         stays = record { tree = begins.untouched.passes; plan = begins.plan; sink = begins.sink; cause = begins.cause };
         quiet = still_quiet Done fault (untouched_quiet begins.untouched quiet);
+        tidy = unless_held fault (untouched_tidy begins.untouched);
         whole = tt;
         broken = λ f told. broken_off fault begins f told (begins.broken f told);
         order = λ f told. inl (unmade (untouched_made begins.untouched quiet));
@@ -99,7 +102,7 @@ module _ (t : PlainTurn) (u v : TreeView) (a b : Seen) (c d : SinkView) (scratch
 
   module _ (decision : Decision) (begins : Begins (Ok decision)) where
     goes : Goes u v a b c d
-    goes = record { tree = begins.untouched.passes; plan = begins.plan; sink = begins.sink; quiet = untouched_quiet begins.untouched quiet }
+    goes = record { tree = begins.untouched.passes; plan = begins.plan; sink = begins.sink; quiet = untouched_quiet begins.untouched quiet; tidy = untouched_tidy begins.untouched }
 
     told_before : (f : Files) → Told v b f → Told u a f
     told_before f told = (sym begins.untouched.told ∙ told.0, sym begins.plan.telling ∙ told.1)
@@ -157,6 +160,7 @@ module _ (t : PlainTurn) (u v : TreeView) (a b : Seen) (c d : SinkView) (scratch
       skip_does (Ok done) writes fault was = record {
         stays = record { tree = goes.tree; plan = goes.plan; sink = sink_passes_both goes.sink writes.call.passes; cause = tt };
         quiet = goes.quiet;
+        tidy = untouched_tidy begins.untouched;
         whole = skip_done done was writes.received;
         broken = tt;
         order = tt;
@@ -166,6 +170,7 @@ module _ (t : PlainTurn) (u v : TreeView) (a b : Seen) (c d : SinkView) (scratch
           (record {
             stays = record { tree = goes.tree; plan = goes.plan; sink = sink_passes_both goes.sink writes.call.passes; cause = λ small. omega (arith, writes.call.cause refl small, goes.sink.counts) };
             quiet = tt;
+            tidy = tt;
             whole = tt;
             broken = skip_part writes.failed;
             order = λ f told. inl (unmade (untouched_made begins.untouched quiet));
@@ -222,22 +227,24 @@ module _ (t : PlainTurn) (u v : TreeView) (a b : Seen) (c d : SinkView) (scratch
       device_broken (Disagree want got) device f part = part
       device_broken Memory device f part = absurd device
 
-      pub try_does : (r : Result Done RunFault) → Stays v z b b' d e r → QuietAfter r z → IfErr r IsDeviceFault
+      pub try_does : (r : Result Done RunFault) → Stays v z b b' d e r → QuietAfter r z → TidyAfter r v z → IfErr r IsDeviceFault
           → IfOk r (λ done. (f : Files) → v.told ≡ Some f → b.told ≡ Some (lines_in (bytes_of t f place)) → IsDone v z d e done vs f (finished_at t f [] place side))
           → OnErr r ((f : Files) → v.told ≡ Some f → b.told ≡ Some (lines_in (bytes_of t f place)) → IsPartOf v z d e (finished_at t f [] place side).effects (finished_at t f [] place side).said)
           → IfErr r (λ y. (f : Files) → v.told ≡ Some f → b.told ≡ Some (lines_in (bytes_of t f place)) → IsOrdered y v z d e (finished_at t f [] place side).said)
           → Does u z a b' c e scratch_after r vs (ending t)
       unfolding ending
-      try_does (Ok done) stays calm device whole part order = record {
+      try_does (Ok done) stays calm tidy device whole part order = record {
         stays = record { tree = passes_both goes.tree stays.tree; plan = plan_both goes.plan stays.plan; sink = sink_passes_both goes.sink stays.sink; cause = tt };
         quiet = calm;
+        tidy = tidy_both u v z goes.tree (untouched_tidy begins.untouched) tidy;
         whole = try_done done whole;
         broken = tt;
         order = tt;
       }
-      try_does (Err fault) stays calm device whole part order = record {
+      try_does (Err fault) stays calm tidy device whole part order = record {
         stays = record { tree = passes_both goes.tree stays.tree; plan = plan_both goes.plan stays.plan; sink = sink_passes_both goes.sink stays.sink; cause = cause_then u v z a b b' c d e fault goes stays.cause };
         quiet = calm;
+        tidy = unless_then fault (tidy_both u v z goes.tree (untouched_tidy begins.untouched)) tidy;
         whole = tt;
         broken = λ f told. device_broken fault device f (try_part stays.tree part f told);
         order = try_ordered fault stays.tree order;

@@ -15,6 +15,7 @@ use Rattle.patch_run.specs.declared.fault.RunFault.TheVariants.{Tree, Write, Scr
 use Rattle.std.specs.FinMap.{get}
 use Rattle.outside.specs.TreeView as tree
 use Rattle.outside.specs.SinkView as sink
+use Rattle.line_store.specs.Store as store
 use Rattle.outside.specs.Quiet.{Holds, after_all}
 use Rattle.hunk_core.specs.declared.Side.{Side}
 use Rattle.hunk_apply.specs.declared.Session.{Session}
@@ -22,7 +23,7 @@ use Rattle.target_names.specs.declared.derived.Target.{Target}
 use Rattle.patch_run.specs.declared.apply.Done.{Done}
 use Rattle.patch_run.specs.declared.effects.Made.{Made}
 use Rattle.patch_run.specs.Trying.{IsSession}
-use Rattle.patch_run.specs.Making.{IsGone, IsPart}
+use Rattle.patch_run.specs.Making.{IsGone, IsPart, TidyAfter}
 use Rattle.patch_run.specs.OnePatch.{Item, PlainTurn, Tried, Story, Ending, ended, stopped, effects_of, tried_said, wrote, ending}
 use Rattle.hunk_core.specs.declared.Verdict.TheVariants.{Ignored}
 use Rattle.hunk_apply.specs.Change.{change_verdicts}
@@ -116,6 +117,7 @@ QuietAfter (Err Memory) w = Unit {0}
 pub record Does (u w : TreeView) (a b : Seen) (c d : SinkView) (scratch_after : ℕ → List ℕ → Option (List ℕ) → Option (List ℕ)) (result : Result Done RunFault) (verdicts : List Verdict) (ending : Files → Ending) : Type 0 where
   pub stays : Stays u w a b c d result
   pub quiet : QuietAfter result w
+  pub tidy : TidyAfter result u w
   pub whole : IfOk result (λ done. (f : Files) → Told u a f → IsEnded u w b c d (λ taken. scratch_with scratch_after a.size taken a.scratch) done verdicts f (ending f))
   pub broken : IfErr result (λ e. (f : Files) → Told u a f → IsBroken e u w c d f (ending f))
   -- nothing is done before all is said
@@ -211,12 +213,31 @@ scratch_behind scratch_after size before taken = fold (λ scratch bytes. scratch
 pub record Runs {R : Type 0} (u w : TreeView) (a b : Seen) (c d : SinkView) (scratch_after : ℕ → List ℕ → Option (List ℕ) → Option (List ℕ)) (result : Result R RunFault) (run : Files → Run) : Type 0 where
   pub stays : Stays u w a b c d result
   pub quiet : QuietAfter result w
+  -- after an answer without a failed device no temporary that the run started is left
+  pub tidy : TidyAfter result u w
   pub whole : OnOk result ((f : Files) → Told u a f → IsFar u w c d (run f))
   pub going : OnOk result ((f : Files) → Told u a f → (run f).stop ≡ None)
   pub scratch : OnOk result ((f : Files) → Told u a f → b.scratch ≡ scratch_behind scratch_after a.size a.scratch (run f).taken)
   pub cut : IfErr result (λ e. (f : Files) → Told u a f → IsCutOff e u w c d (run f))
   -- a crash at any moment since the run began leaves a first part of its effects
   pub moments : (f : Files) → Told u a f → LeavesPrefix u w (run f).effects
+
+-- neither the tree, nor the scratch of the plan, nor the sink has failed
+pub record NoneFailed (u w : TreeView) (a b : Seen) (c d : SinkView) : Type 0 where
+  pub tree : tree.Rises u w → ⊥
+  pub scratch : store.Rises a b → ⊥
+  pub sink : sink.Rises c d → ⊥
+
+-- the answer is how the run ends, or a want of memory that the plan can have
+abbrev pub EndsSo : {R : Type 0} → Result R RunFault → Seen → Option OpenFault → Type 0
+EndsSo (Ok x) a stop = stop ≡ None
+EndsSo (Err Tree) a stop = ⊥
+EndsSo (Err Write) a stop = ⊥
+EndsSo (Err Scratch) a stop = ⊥
+EndsSo (Err (LongLine line length)) a stop = stop ≡ Some (open_fault.LongLine line length)
+EndsSo (Err (FileTooLong length)) a stop = stop ≡ Some (open_fault.FileTooLong length)
+EndsSo (Err (Disagree want got)) a stop = ⊥
+EndsSo (Err Memory) a stop = a.needs_memory ≡ true
 
 -- the verdicts and the rows that a run leaves, and its receipt
 pub record IsReceipt (r : Run) (given : Receipt) (count : ℕ) (vs : List Verdict) (rs : List Row) : Type 0 where

@@ -1,11 +1,11 @@
 -- The effects of a file patch, made whole or in part.
-use Rattle.std.specs.Prelude.{◌≡◌, ◌≢◌, ℕ, List, None, Some, Result, IfErr, OnOk, OnErr}
+use Rattle.std.specs.Prelude.{◌≡◌, ◌≢◌, ◌⊎◌, ℕ, List, true, None, Some, Result, Ok, Err, IfErr, OnOk, OnErr}
 use Rattle.std.specs.FinMap.{get}
-use Rattle.outside.specs.Files.{Files}
+use Rattle.outside.specs.Files.{Files, is_temp}
 use Rattle.outside.specs.TreeView.{TreeView, Passes, Rises}
 use Rattle.outside.specs.Quiet.{IsQuiet, Effect, HasMade, TellsPrefix, LeavesPrefix, after_all}
 use Rattle.patch_run.specs.declared.fault.RunFault.{RunFault}
-use Rattle.patch_run.specs.declared.fault.RunFault.TheVariants.{Tree}
+use Rattle.patch_run.specs.declared.fault.RunFault.TheVariants.{Tree, Write, Scratch, LongLine, FileTooLong, Disagree, Memory}
 
 -- the effects are made whole, and reads give what they make of the files, but perhaps at a temporary that is still there
 pub record IsMade (u w : TreeView) (temp : List ℕ) (es : List Effect) : Type 0 where
@@ -35,3 +35,21 @@ KeepsAt u w name = (f g : Files) → u.told ≡ Some f → w.told ≡ Some g →
 -- nothing has the name
 abbrev pub IsGone : TreeView → List ℕ → Type 0
 IsGone w name = (g : Files) → w.told ≡ Some g → get g name ≡ None
+
+-- no temporary is left behind: each temporary name stands for nothing, or for what it stood for
+abbrev pub IsTidy : TreeView → TreeView → Type 0
+IsTidy u w = (f g : Files) → u.told ≡ Some f → w.told ≡ Some g → (q : List ℕ) → is_temp q ≡ true → (get g q ≡ None) ⊎ (get g q ≡ get f q)
+
+-- it holds, unless a device has failed
+abbrev pub UnlessFailed : RunFault → Type 0 → Type 0
+UnlessFailed Tree P = Unit {0}
+UnlessFailed Write P = Unit {0}
+UnlessFailed Scratch P = Unit {0}
+UnlessFailed (LongLine line length) P = P
+UnlessFailed (FileTooLong length) P = P
+UnlessFailed (Disagree want got) P = P
+UnlessFailed Memory P = P
+
+abbrev pub TidyAfter : {R : Type 0} → Result R RunFault → TreeView → TreeView → Type 0
+TidyAfter (Ok x) u w = IsTidy u w
+TidyAfter (Err e) u w = UnlessFailed e (IsTidy u w)

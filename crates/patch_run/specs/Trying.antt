@@ -7,14 +7,11 @@ use Rattle.hunk_core.specs.declared.Verdict.{Verdict}
 use Rattle.line_store.specs.Store.{Seen}
 use Rattle.line_store.specs.Store as store
 use Rattle.hunk_apply.specs.declared.Session.{Session}
-use Rattle.hunk_apply.specs.declared.ApplyFault.{ApplyFault}
-use Rattle.hunk_apply.specs.declared.ApplyFault.TheVariants.{Line, Write}
 use Rattle.hunk_apply.specs.Session.{is_placed, is_failed, is_inexact}
 use Rattle.hunk_apply.specs.Written.{is_nothing}
 use Rattle.replace_file.specs.declared.temp.Temp.{Temp}
 use Rattle.patch_run.specs.declared.fault.RunFault.{RunFault}
 use Rattle.patch_run.specs.declared.fault.RunFault.TheVariants as faults
-use Rattle.patch_run.specs.Faults.{of_line}
 
 -- the counts of verdicts and an output
 pub record IsSession (s : Session) (vs : List Verdict) (output : List ℕ) : Type 0 where
@@ -42,11 +39,6 @@ HasTryCause (faults.LongLine line length) u w a b = ⊥
 HasTryCause (faults.FileTooLong length) u w a b = ⊥
 HasTryCause (faults.Disagree want got) u w a b = (want ≢ got) × (a.told ≡ None)
 HasTryCause faults.Memory u w a b = ⊥
-
--- the fault of a run, where the sink is a temporary of the tree
-abbrev pub filling_fault : ApplyFault → RunFault
-filling_fault (Line fault) = of_line fault
-filling_fault Write = faults.Tree
 
 -- a temporary was begun, but in a dry run
 abbrev pub IsBegun : Bool → Option Temp → List ℕ → Type 0

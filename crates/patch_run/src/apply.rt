@@ -15,6 +15,7 @@ ghost use Rattle.say_text.specs.Messages.{ignored_line};
 ghost use Rattle.patch_run.specs.OnePatch.{Tried, total, bytes_of, lines_in, effects_of, tried_said, some_failed, is_kept, finished_at, ending};
 ghost use Rattle.patch_run.specs.Trying.{IsSession, IsBegun};
 ghost use Rattle.patch_run.specs.Doing.{Does, Stays, QuietAfter, IsDone, IsPartOf, IsDeviceFault, HasEndCause, IsOutcome, IsMadeWhole, IsOrdered};
+ghost use Rattle.patch_run.specs.Making.{IsGone, IsTidy, TidyAfter};
 ghost use Rattle.patch_run.specs.Devices.{Told};
 ghost use Rattle.patch_run.specs.Ready.{IsNamed};
 ghost use Rattle.patch_run.specs.TurnView.{plain_turn, IsTurn};
@@ -115,6 +116,7 @@ fn try_at<P: LineStore, T: Tree, O: Sink>(
     ensures stays { Stays (T.view tree.old) (T.view tree.new) (P.seen plan.old) (P.seen plan.new) (O.view out.old) (O.view out.new) result }
     ensures keeps { Keeps (P.seen plan.old) (P.seen plan.new) }
     ensures quiet { QuietAfter result (T.view tree.new) }
+    ensures tidy { TidyAfter result (T.view tree.old) (T.view tree.new) }
     ensures cause { IfErr result IsDeviceFault }
     ensures whole { IfOk result (λ done. (f : Files) → (T.view tree.old).told ≡ Some f → (P.seen plan.old).told ≡ Some (lines_in (bytes_of (plain_turn turn.now) f place))
         → IsDone (T.view tree.old) (T.view tree.new) (O.view out.old) (O.view out.new) done verdicts.new f (finished_at (plain_turn turn.now) f [] place side)) }
@@ -166,6 +168,8 @@ fn tell_and_make<T: Tree, O: Sink>(
     ensures order { IfErr result (λ e. (x : Tried) → IsOutcome turn.now.options.now.dry_run (T.view tree.old) attempt.entry.session target.now.temp side verdicts.now x
         → IsOrdered e (T.view tree.old) (T.view tree.new) (O.view out.old) (O.view out.new) (tried_said (plain_turn turn.now) target.now x)) }
     ensures few { IfOk result (λ made. made.effects ≤ 3) }
+    ensures tidy { OnOk result (IsTidy (T.view tree.old) (T.view tree.new)) }
+    ensures gone { OnOk result (turn.now.options.now.dry_run ≡ false → IsGone (T.view tree.new) target.now.temp) }
 {
     tell(turn, target, side, &attempt.session, verdicts, out)?;
     match attempt.temp {

@@ -13,7 +13,7 @@ ghost use Rattle.reject_text.specs.Rejects.{AreHunks};
 ghost use Rattle.file_patch.specs.PlainPatch.{row_count};
 ghost use Rattle.patch_run.specs.OnePatch.{Tried, is_backup_due, is_removal, backup_effects, target_effects, written_effects, effects_of, wrote, has_rejects, some_placed};
 ghost use Rattle.patch_run.specs.Trying.{IsSession};
-ghost use Rattle.patch_run.specs.Making.{Makes, GoesQuietly, KeepsAt, IsGone};
+ghost use Rattle.patch_run.specs.Making.{Makes, GoesQuietly, KeepsAt, IsGone, IsTidy};
 ghost use Rattle.patch_run.specs.Ready.{IsNamed};
 ghost use Rattle.patch_run.specs.TurnView.{plain_turn, IsTurn};
 
@@ -64,6 +64,7 @@ pub fn make_effects<T: Tree>(
     ensures count { IfOk result (λ made. (f : Files) (output : List ℕ) → (T.view tree.old).told ≡ Some f → IsSession session.now verdicts.now output
         → made.effects ≡ length (effects_of (plain_turn turn.now) f target.now (record { side = side; verdicts = verdicts.now; output = output }))) }
     ensures few { IfOk result (λ made. made.effects ≤ 3) }
+    ensures tidy { OnOk result (IsTidy (T.view tree.old) (T.view tree.new)) }
 {
     let made = write_target(turn, target, side, session, temp, tree)?;
     let rejected = is_rejected(turn, session);
@@ -114,6 +115,7 @@ fn write_target<T: Tree>(
     ensures count { IfOk result (λ made. (f : Files) (x : Tried) → (T.view tree.old).told ≡ Some f → x.side ≡ side → IsSession session.now x.verdicts x.output
         → made.effects ≡ length (written_effects (plain_turn turn.now) f target.now x)) }
     ensures few { IfOk result (λ made. made.effects ≤ 2) }
+    ensures tidy { OnOk result (IsTidy (T.view tree.old) (T.view tree.new)) }
 {
     if session.applied == 0 {
         forget(temp, target, tree)?;
@@ -148,6 +150,7 @@ fn write_placed<T: Tree>(
     ensures count { IfOk result (λ made. (f : Files) (output : List ℕ) → (T.view tree.old).told ≡ Some f
         → made.effects ≡ length (backup_effects due f target.now ++ target_effects removal f target.now output)) }
     ensures few { IfOk result (λ made. made.effects ≤ 2) }
+    ensures tidy { OnOk result (IsTidy (T.view tree.old) (T.view tree.new)) }
 {
     put_backup(target, due, tree)?;
     let wrote = put_target(temp, target, removal, tree)?;

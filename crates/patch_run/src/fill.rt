@@ -1,8 +1,8 @@
 //! The hunks of a file patch, tried on the lines that were taken.
 
-ghost use Rattle.std.specs.Prelude.{◌≡◌, [], ℕ, List, All, true, false, length, Some, IfOk, OnOk, IfErr, IsSomeAnd};
+ghost use Rattle.std.specs.Prelude.{◌≡◌, ◌⊎◌, [], ℕ, List, All, true, false, length, Some, IfOk, OnOk, IfErr, IsSomeAnd};
 ghost use Rattle.outside.specs.Files.{is_temp};
-ghost use Rattle.outside.specs.TreeView.{IsRun};
+ghost use Rattle.outside.specs.TreeView.{Rises};
 ghost use Rattle.outside.specs.Calls.{IsThere};
 ghost use Rattle.outside.specs.Quiet.{IsQuiet, WorksOn, Holds};
 ghost use Rattle.line_store.specs.Store.{Keeps};
@@ -11,7 +11,8 @@ ghost use Rattle.outside.specs.SinkView.{SinkPasses, Receives};
 ghost use Rattle.hunk_apply.specs.Faults.{HasApplyCause};
 ghost use Rattle.hunk_apply.specs.Session.{IsTried};
 ghost use Rattle.patch_run.specs.OnePatch.{tried};
-ghost use Rattle.patch_run.specs.Trying.{IsSession, IsBegun, HasTryCause, HasLineCause, filling_fault};
+ghost use Rattle.patch_run.specs.Trying.{IsSession, IsBegun, HasTryCause, HasLineCause};
+ghost use Rattle.patch_run.specs.Making.{IsGone, IsTidy, UnlessFailed};
 ghost use Rattle.patch_run.specs.TurnView.{plain_turn, IsTurn};
 
 use crate::discard::Discard;
@@ -19,7 +20,7 @@ use crate::fault::RunFault;
 use crate::turn::Turn;
 use hunk_apply::{ApplyFault, Session, apply_hunks};
 use hunk_core::{Side, Verdict};
-use line_store::LineStore;
+use line_store::{LineFault, LineStore};
 use outside::{Name, Sink, Tree};
 use replace_file::{Temp, TempSink, begin_temp};
 
@@ -54,6 +55,9 @@ pub fn try_hunks<'n, P: LineStore, T: Tree>(
     ensures verdicts { OnOk result ((lines : List (List ℕ)) → (P.seen plan.old).told ≡ Some lines → verdicts.new ≡ (tried (plain_turn turn.now) side lines).verdicts) }
     ensures tried { OnOk result (All IsTried verdicts.new) }
     ensures rows { length verdicts.new ≡ length verdicts.old }
+
+    // After a fault that no device has caused the temporary is gone again.
+    ensures tidy { IfErr result (λ e. UnlessFailed e (IsTidy (T.view tree.old) (T.view tree.new))) }
 {
     if turn.options.dry_run {
         let session = try_dry(turn, side, verdicts, plan)?;
@@ -146,6 +150,7 @@ fn fill_temp<'n, P: LineStore, T: Tree>(
     ensures verdicts { OnOk result ((lines : List (List ℕ)) → (P.seen plan.old).told ≡ Some lines → verdicts.new ≡ (tried (plain_turn turn.now) side lines).verdicts) }
     ensures tried { OnOk result (All IsTried verdicts.new) }
     ensures rows { length verdicts.new ≡ length verdicts.old }
+    ensures gone { IfErr result (λ e. UnlessFailed e (IsGone (T.view tree.new) temp.now)) }
 {
     let begun = match begin_temp(tree, temp) {
         Ok(begun) => begun,
@@ -177,27 +182,36 @@ fn fill_begun<'n, P: LineStore, T: Tree>(
     ensures verdicts { OnOk result ((lines : List (List ℕ)) → (P.seen plan.old).told ≡ Some lines → verdicts.new ≡ (tried (plain_turn turn.now) side lines).verdicts) }
     ensures tried { OnOk result (All IsTried verdicts.new) }
     ensures rows { length verdicts.new ≡ length verdicts.old }
+    ensures gone { IfErr result (λ e. UnlessFailed e (IsGone (T.view tree.new) begun.entry.name.now)) }
 {
     let mut sink = TempSink::new(tree, begun);
-    let session = match try_into(turn, side, verdicts, plan, &mut sink) {
-        Ok(session) => session,
-        Err(fault) => return Err(filling_fault(fault)),
-    };
-    match sink.finish() {
-        Ok(()) => Ok(Attempt {
-            session,
-            temp: Some(sink.into_temp()),
-        }),
-        Err(_) => Err(RunFault::Tree),
+    match try_into(turn, side, verdicts, plan, &mut sink) {
+        Ok(session) => match sink.finish() {
+            Ok(()) => Ok(Attempt {
+                session,
+                temp: Some(sink.into_temp()),
+            }),
+            Err(_) => Err(RunFault::Tree),
+        },
+        Err(ApplyFault::Line(LineFault::Disagree { want, got })) => match sink.finish() {
+            Ok(()) => Err(give_up(want, got, sink.into_temp(), tree)),
+            Err(_) => Err(RunFault::Tree),
+        },
+        Err(ApplyFault::Line(LineFault::Scratch)) => Err(RunFault::Scratch),
+        Err(ApplyFault::Write) => Err(RunFault::Tree),
     }
 }
 
-/// The fault of a run, where the sink is a temporary of the tree.
-fn filling_fault(fault: ApplyFault) -> RunFault
-    ensures { result ≡ filling_fault fault }
+/// Takes the temporary away, since no device has failed, and answers the two numbers, or the fault of the tree.
+fn give_up<T: Tree>(want: u64, got: u64, temp: Temp<'_>, tree: &mut T) -> RunFault
+    requires quiet { IsQuiet (T.view tree.old) }
+    requires there { IsThere (T.view tree.old) temp.name.now }
+    ensures works { WorksOn (T.view tree.old) (T.view tree.new) temp.entry.name.now }
+    ensures fault { (result ≡ RunFault.Disagree want got) ⊎ ((result ≡ RunFault.Tree) × Rises (T.view tree.old) (T.view tree.new)) }
+    ensures gone { UnlessFailed result (IsGone (T.view tree.new) temp.entry.name.now) }
 {
-    match fault {
-        ApplyFault::Line(fault) => RunFault::from(fault),
-        ApplyFault::Write => RunFault::Tree,
+    match temp.forget(tree) {
+        Ok(()) => RunFault::Disagree { want, got },
+        Err(_) => RunFault::Tree,
     }
 }

@@ -12,7 +12,7 @@ ghost use Rattle.replace_file.specs.Puts.{Puts};
 ghost use Rattle.reject_text.specs.Headers.{IsRejectForm};
 ghost use Rattle.reject_text.specs.Rejects.{AreHunks};
 ghost use Rattle.patch_run.specs.OnePatch.{PlainTurn, mark_of, own_reject, own_reject_form, put_if, reject_form, rejected_before, rejects_text, text_if, has_rejects};
-ghost use Rattle.patch_run.specs.Making.{Makes, GoesQuietly, IsGone};
+ghost use Rattle.patch_run.specs.Making.{Makes, GoesQuietly, IsGone, IsTidy};
 ghost use Rattle.patch_run.specs.Ready.{IsFit, IsNamed, alone};
 ghost use Rattle.patch_run.specs.TurnView.{plain_turn, IsTurn};
 
@@ -46,6 +46,7 @@ pub fn put_rejects<T: Tree>(
     ensures goes { GoesQuietly (T.view tree.old) (T.view tree.new) result }
     ensures makes { Makes (T.view tree.old) (T.view tree.new) result target.now.temp (λ f. put_if rejected target.now.reject (rejects_text (plain_turn turn.now) target.now side verdicts.now)) }
     ensures gone { OnOk result (IsGone (T.view tree.new) target.now.temp) }
+    ensures tidy { OnOk result (IsTidy (T.view tree.old) (T.view tree.new)) }
 {
     if !rejected {
         return Ok(());

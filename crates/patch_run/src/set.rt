@@ -11,7 +11,7 @@ ghost use Rattle.patch_set.specs.SetView.{IsRead, hunks_in};
 ghost use Rattle.patch_run.specs.Run.{items_of, set_run};
 ghost use Rattle.patch_run.specs.Ready.{IsReady, AreNumbered, rows_in, turn_at};
 ghost use Rattle.patch_run.specs.OnePatch.{ending};
-ghost use Rattle.patch_run.specs.Doing.{Does, Runs, IsReceipt, IsCutAt, StaysSet, IsPlacedOn, IsPlacedLast};
+ghost use Rattle.patch_run.specs.Doing.{Does, Runs, IsReceipt, IsCutAt, NoneFailed, EndsSo, StaysSet, IsPlacedOn, IsPlacedLast};
 ghost use Rattle.patch_run.specs.Devices.{Told};
 ghost use Rattle.patch_run.specs.TurnView.{IsTurn, plain_turn};
 ghost use Rattle.hunk_core.specs.declared.Verdict.TheVariants.{Ignored};
@@ -46,6 +46,10 @@ pub fn apply_set<P: Plan, T: Tree, O: Sink>(
 
     // A fault cuts the run off at one file patch, of which nothing is done before all of it is said.
     ensures cut { IfErr result (λ e. (f : Files) → Told (T.view tree.old) (P.seen plan.old) f → IsCutAt e (T.view tree.new) (O.view out.old) (O.view out.new) (plain_options options.now) set.old.output (items_of set.old) f) }
+
+    // Where no device fails, the answer is how the run ends, or a want of memory.
+    ensures complete { (f : Files) → Told (T.view tree.old) (P.seen plan.old) f → NoneFailed (T.view tree.old) (T.view tree.new) (P.seen plan.old) (P.seen plan.new) (O.view out.old) (O.view out.new)
+        → EndsSo result (P.seen plan.old) (set_run (plain_options options.now) set.old f).stop }
     ensures receipt { IfOk result (λ applied. (f : Files) → Told (T.view tree.old) (P.seen plan.old) f → IsReceipt (set_run (plain_options options.now) set.old f) applied (length set.old.patches) set.new.verdicts set.new.rows) }
     ensures done { IfOk result (λ applied. applied.done ≡ length set.old.patches) }
     ensures rest { O.same_rest out.old out.new }

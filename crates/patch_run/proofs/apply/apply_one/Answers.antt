@@ -28,7 +28,7 @@ pub returns-in-Try-clause-does : goal.returns-in-Try-clause-does
 returns-in-Try-clause-does g c =
     try_does (plain_turn c.args.turn.now) (g.T.Tree.view c.args.tree.now) (g.T.Tree.view c.start.new.tree) (g.P.LineStore.seen c.args.plan.now) (g.P.LineStore.seen c.start.new.plan) (g.O.Sink.view c.args.out.now) (g.O.Sink.view c.start.new.out) g.P.Plan.scratch_after c.requires.quiet
     c.in_ok-row.field-0 c.in_ok-row.ensures.starts c.in-Try.place c.in-Try.side c.in-Try.is (g.T.Tree.view c.try_at.new.tree) (g.P.LineStore.seen c.try_at.new.plan) (g.O.Sink.view c.try_at.new.out) c.try_at.new.verdicts c.try_at.ensures.keeps
-    c.try_at.result c.try_at.ensures.stays c.try_at.ensures.quiet c.try_at.ensures.cause c.try_at.ensures.whole c.try_at.ensures.broken c.try_at.ensures.order
+    c.try_at.result c.try_at.ensures.stays c.try_at.ensures.quiet c.try_at.ensures.tidy c.try_at.ensures.cause c.try_at.ensures.whole c.try_at.ensures.broken c.try_at.ensures.order
 
 pub returns-in_err-row-clause-dry : goal.returns-in_err-row-clause-dry
 returns-in_err-row-clause-dry g c dry = c.in_err-row.ensures.starts.untouched

@@ -8,7 +8,8 @@ use Rattle.patch_run.specs.OnePatch.{Tried, tried_said}
 use Rattle.patch_run.specs.TurnView.{plain_turn}
 use Rattle.patch_run.specs.Trying.{IsBegun}
 use Rattle.patch_run.specs.Doing.{IsOutcome, IsOrdered}
-use Rattle.patch_run.proofs.Applying.{on_err, if_any, is_wet, unmade, tell_ordered, tell_fails, tell_dry, tell_made, tell_breaks}
+use Rattle.patch_run.proofs.Applying.{on_err, if_any, is_wet, is_dry, unmade, tell_ordered, tell_fails, tell_dry, tell_made, tell_breaks}
+use Rattle.patch_run.proofs.Tidy.{tidy_none}
 use Rattle.patch_run.proofs.apply.tell_and_make.Goals as goal
 
 pub returns-in_err-tell-clause-broken : goal.returns-in_err-tell-clause-broken
@@ -58,3 +59,11 @@ pub returns-in-Some-clause-order : goal.returns-in-Some-clause-order
 returns-in-Some-clause-order g c =
     tell_ordered (plain_turn c.args.turn.now) c.args.target.now c.args.attempt.session c.args.side c.args.verdicts.now (g.T.Tree.view c.args.tree.now) (g.T.Tree.view c.make_effects.new.tree) (g.O.Sink.view c.args.out.now) (g.O.Sink.view c.tell.new.out)
     (λ output counts. (c.in_ok-tell.ensures.writes output counts).received) c.make_effects.result c.make_effects.ensures.goes.cause
+
+pub returns-in-None-clause-tidy : goal.returns-in-None-clause-tidy
+returns-in-None-clause-tidy g c = tidy_none (g.T.Tree.view c.args.tree.now)
+
+pub returns-in-None-clause-gone : goal.returns-in-None-clause-gone
+returns-in-None-clause-gone g c wet =
+    let begun : IsBegun c.args.turn.now.options.now.dry_run None c.args.target.now.temp = subst (λ (o : Option Temp). IsBegun c.args.turn.now.options.now.dry_run o c.args.target.now.temp) c.in-None.is c.requires.begun in
+    absurd (false≢true (sym wet ∙ is_dry c.args.turn.now.options.now.dry_run c.args.target.now.temp begun))

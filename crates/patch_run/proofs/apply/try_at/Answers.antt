@@ -8,6 +8,8 @@ use Rattle.patch_run.specs.OnePatch.{bytes_of, lines_in, effects_of, tried, trie
 use Rattle.patch_run.specs.Doing.{IsDone, IsPartOf, IsOrdered}
 use Rattle.patch_run.specs.TurnView.{plain_turn}
 use Rattle.patch_run.proofs.Applying.{on_err, if_err, if_any, works_made, unmade, part_worked, tried_breaks, tried_ordered, tried_done}
+use Rattle.patch_run.specs.Making.{IsTidy}
+use Rattle.patch_run.proofs.Tidy.{attempt_tidy, end_failed, passed_tidy}
 use Rattle.patch_run.proofs.apply.try_at.Goals as goal
 
 pub returns-in_err-attempt-clause-broken : goal.returns-in_err-attempt-clause-broken
@@ -93,3 +95,23 @@ returns-in_err-made-clause-order g c =
     subst (λ (y : Target). IsOrdered fault u z d e (tried_said t y (tried t c.args.side ls))) c.written-target.ensures.target
     (tried_ordered t f w c.args.side ls c.in_ok-attempt.attempt.session c.try_hunks.new.verdicts c.written-target.ensures.named tries.works told (tries.verdicts ls plan) (tries.session ls plan) (tries.holds ls plan)
     d e fault c.in_err-made.ensures.tree c.in_err-made.ensures.order))
+
+pub returns-in_err-attempt-clause-tidy : goal.returns-in_err-attempt-clause-tidy
+returns-in_err-attempt-clause-tidy g c =
+    passed_tidy (g.T.Tree.view c.args.tree.now) (g.T.Tree.view c.try_hunks.new.tree) c.in_err-attempt.field-0.0 c.from_residual.result c.from_residual.ensures.1 c.in_err-attempt.ensures.tidy
+
+pub returns-in_err-made-clause-tidy : goal.returns-in_err-made-clause-tidy
+returns-in_err-made-clause-tidy g c =
+    let u = g.T.Tree.view c.args.tree.now in
+    let v = g.T.Tree.view c.try_hunks.new.tree in
+    let z = g.T.Tree.view c.tell_and_make.new.tree in
+    let fault = c.in_err-made.field-0.0 in
+    passed_tidy u z fault c.from_residual-in_err-made.result c.from_residual-in_err-made.ensures.1
+    (end_failed (IsTidy u z) v z (g.O.Sink.view c.args.out.now) (g.O.Sink.view c.tell_and_make.new.out) fault c.in_err-made.ensures.cause)
+
+pub returns-clause-tidy : goal.returns-clause-tidy
+returns-clause-tidy g c =
+    let view = g.T.Tree.view in
+    let made = c.in_ok-made.ensures in
+    attempt_tidy (view c.args.tree.now) (view c.try_hunks.new.tree) (view c.tell_and_make.new.tree) c.args.turn.now.options.now.dry_run c.written-target.result.now.temp
+    (λ dry. subst (λ s. IsTidy (view s) (view c.tell_and_make.new.tree)) (c.in_ok-attempt.ensures.dry dry) made.tidy) made.gone c.in_ok-attempt.ensures.works made.tidy

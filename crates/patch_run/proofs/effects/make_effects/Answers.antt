@@ -5,6 +5,7 @@ use Rattle.patch_run.specs.OnePatch.{Tried, effects_of, reject_effects}
 use Rattle.patch_run.specs.TurnView.{plain_turn}
 use Rattle.patch_run.proofs.Making.{makes_both, makes_stops, makes_fault, makes_value}
 use Rattle.patch_run.proofs.Writing.{effects_split, effects_as, effects_count, wrote_as}
+use Rattle.patch_run.proofs.Tidy.{tidy_both}
 use Rattle.patch_run.proofs.effects.make_effects.Goals as goal
 
 abbrev came : Side → List Verdict → List ℕ → Tried
@@ -51,3 +52,6 @@ returns-clause-count g c f output told session =
     c.with_reject.ensures.effects
     ∙ effects_count (plain_turn c.args.turn.now) f c.args.target.now x c.requires.wet c.is_rejected-rejected.result c.in_ok-made.made.effects (c.is_rejected-rejected.ensures.rejected x.verdicts session.failed)
     (c.in_ok-made.ensures.count f x told refl session)
+
+pub returns-clause-tidy : goal.returns-clause-tidy
+returns-clause-tidy g c = tidy_both (g.T.Tree.view c.args.tree.now) (g.T.Tree.view c.write_target.new.tree) (g.T.Tree.view c.put_rejects.new.tree) c.in_ok-made.ensures.goes.passes c.in_ok-made.ensures.tidy c.in_ok-put_rejects.ensures.tidy

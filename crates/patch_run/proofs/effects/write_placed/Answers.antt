@@ -3,6 +3,7 @@ use Rattle.outside.proofs.Views.{told_on}
 use Rattle.patch_run.specs.OnePatch.{backup_effects, target_effects}
 use Rattle.patch_run.proofs.Making.{makes_both, makes_stops, makes_fault, makes_value, holds_kept}
 use Rattle.patch_run.proofs.Writing.{target_same, written_count}
+use Rattle.patch_run.proofs.Tidy.{there_holds, placed_tidy, makes_tidy}
 use Rattle.patch_run.proofs.effects.write_placed.Goals as goal
 
 pub returns-in_err-put_backup-clause-makes : goal.returns-in_err-put_backup-clause-makes
@@ -41,3 +42,10 @@ returns-clause-count g c f output told =
     let mid = told_on f first.goes.passes told in
     c.with_backup.ensures.effects
     ∙ written_count c.args.due c.args.removal c.in_ok-wrote.wrote c.args.target.now output f (c.in_ok-wrote.ensures.wrote mid.0 mid.1 ∙ ap (λ o. not c.args.removal || is_some o) (first.name f mid.0 told mid.1))
+
+pub returns-clause-tidy : goal.returns-clause-tidy
+returns-clause-tidy g c f h told now =
+    let target = c.args.target.now in
+    let held = there_holds (g.T.Tree.view c.args.tree.now) target.temp f told (c.requires.there f told) in
+    makes_tidy c.with_backup.result target.temp (λ k. backup_effects c.args.due k target ++ target_effects c.args.removal k target held.0) (λ k was. returns-clause-makes g c held.0 held.1) c.in_ok-wrote.ensures.gone
+    (λ k. placed_tidy c.args.due c.args.removal k target held.0 c.requires.named.lasting.backup c.requires.named.lasting.own) f h told now

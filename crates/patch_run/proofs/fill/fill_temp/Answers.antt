@@ -1,6 +1,7 @@
-use Rattle.std.proofs.Common.{[], refl, subst, sym}
+use Rattle.std.proofs.Common.{[], IfErr, refl, subst, sym}
 use Rattle.outside.specs.Quiet.{WorksOn, Holds}
 use Rattle.outside.proofs.Quiet.{holds_put, works_both}
+use Rattle.patch_run.specs.Making.{IsGone, UnlessFailed}
 use Rattle.patch_run.proofs.fill.fill_temp.Goals as goal
 
 pub fill_begun-requires-clause-empty : goal.fill_begun-requires-clause-empty
@@ -14,3 +15,8 @@ returns-clause-works g c =
     let view = g.T.Tree.view in
     works_both (view c.args.tree.now) (view c.begin_temp.new.tree) (view c.fill_begun.new.tree) c.args.temp.now c.requires.temp (c.begin_temp.ensures.works c.requires.quiet)
     (subst (λ n. WorksOn (view c.begin_temp.new.tree) (view c.fill_begun.new.tree) n) c.in-Ok.ensures.name c.fill_begun.ensures.works)
+
+pub returns-clause-gone : goal.returns-clause-gone
+returns-clause-gone g c =
+    let w = g.T.Tree.view c.fill_begun.new.tree in
+    subst (λ n. IfErr c.fill_begun.result (λ e. UnlessFailed e (IsGone w n))) c.in-Ok.ensures.name c.fill_begun.ensures.gone

@@ -5,6 +5,7 @@ use Rattle.patch_run.specs.TurnView.{plain_turn}
 use Rattle.patch_run.specs.Making.{Makes, IsGone}
 use Rattle.patch_run.specs.declared.fault.RunFault.TheVariants.{Tree}
 use Rattle.patch_run.proofs.Making.{puts_made, puts_part, put_keeps, put_gone, gone_kept}
+use Rattle.patch_run.proofs.Tidy.{put_if_tidy, makes_tidy, tidy_none}
 use Rattle.patch_run.proofs.rejects.put_rejects.Goals as goal
 
 pub returns-in-Ok-clause-makes : goal.returns-in-Ok-clause-makes
@@ -38,3 +39,13 @@ returns-in-Err-clause-makes g c =
     let text = rejects_text (plain_turn c.args.turn.now) t c.args.side c.args.verdicts.now in
     subst (λ b. Makes {R = Unit {0}} u w (Err Tree) t.temp (λ f. put_if b t.reject text)) (sym c.if-not-rejected.false)
     (puts_part t.reject_temp t.reject (λ f. text) c.requires.named.temps.reject c.requires.quiet _ Tree t.temp c.in-Err.ensures)
+
+pub returns-in-Ok-clause-tidy : goal.returns-in-Ok-clause-tidy
+returns-in-Ok-clause-tidy g c =
+    let t = c.args.target.now in
+    let text = rejects_text (plain_turn c.args.turn.now) t c.args.side c.args.verdicts.now in
+    makes_tidy {R = Unit {0}} tt t.temp (λ f. put_if c.args.rejected t.reject text) (λ f told. returns-in-Ok-clause-makes g c) (returns-in-Ok-clause-gone g c)
+    (λ f. put_if_tidy c.args.rejected t.reject text c.requires.named.lasting.reject)
+
+pub returns-then-not-rejected-clause-tidy : goal.returns-then-not-rejected-clause-tidy
+returns-then-not-rejected-clause-tidy g c = tidy_none (g.T.Tree.view c.args.tree.now)

@@ -7,6 +7,7 @@ use Rattle.patch_run.specs.Devices.{Told}
 use Rattle.patch_run.specs.Run.{items_of, set_run}
 use Rattle.patch_run.specs.Doing.{Runs, IsCutAt}
 use Rattle.patch_run.proofs.Ready.{read_still}
+use Rattle.patch_run.proofs.RunEnds.{ends_so}
 use Rattle.patch_run.proofs.set.apply_set.Goals as goal
 
 pub apply_all-applied-requires-clause-read : goal.apply_all-applied-requires-clause-read
@@ -29,3 +30,6 @@ returns-clause-cut g c =
     → IsCutAt e (g.T.Tree.view c.apply_all-applied.new.tree) (g.O.Sink.view c.args.out.now) (g.O.Sink.view c.apply_all-applied.new.out) o s.output (items_of s) f))
     c.take_verdicts-verdicts.ensures.left
     c.apply_all-applied.ensures.cut
+
+pub returns-clause-complete : goal.returns-clause-complete
+returns-clause-complete g c f told none = ends_so c.apply_all-applied.result (returns-clause-runs g c) f told none
