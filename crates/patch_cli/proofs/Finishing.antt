@@ -2,13 +2,15 @@
 use Rattle.std.proofs.Common.{◌≡◌, inr, ℕ, zero, ◌+◌, ◌-◌, ◌^◌, ◌<◌, ◌≤◌, List, [], ◌∷◌, length, reverse, find, option_map, Bool, true, false, cond, if◌then◌else◌, nat_lt, Option, None, Some, is_some, Result, Ok, Err, IfOk, refl, sym, ◌∙◌, ap, subst, arith}
 use Rattle.std.proofs.lemmas.List.{reverse-append, append-nil}
 use Rattle.std.proofs.lemmas.List.Folds.{find-append}
+use Rattle.std.proofs.lemmas.Option.{same_Some}
 use Rattle.std.specs.Option.{option_or}
+use Rattle.std.specs.FinMap.{get}
 use Rattle.line_list.specs.Lines.{lines}
 use Rattle.outside.specs.Files.{Files}
 use Rattle.outside.specs.TreeView.{TreeView, passes_none}
 use Rattle.outside.specs.SinkView.{SinkView, sink_passes_none}
 use Rattle.outside.specs.ScratchView.{ScratchView, scratch_passes_none}
-use Rattle.outside.specs.Calls.{untouched_none}
+use Rattle.outside.specs.Calls.{IsUntouched, untouched_none}
 use Rattle.outside.specs.Quiet.{IsQuiet, Effect, LeavesPrefix}
 use Rattle.outside.proofs.Effects.{made_none, made_tells_all, since_longer, tells_longer}
 use Rattle.hunk_core.specs.declared.Verdict.{Verdict}
@@ -117,8 +119,8 @@ module _ (u w : TreeView) {before after : Seen} {a b : ScratchView} (c d : SinkV
       ∙ ap (λ s. scratch_behind scratch_after o.buffer s (set_run o v f).taken) (over.told ∙ told)
       ∙ behind_all o scratch_after over.keeps (set_run o v f).taken bytes
 
-  paged : (vs : List Verdict) (rs : List Row) (result : Result Receipt RunFault) → Runs u w before after c d scratch_after result (set_run o v) → IfOk result (GivesReceipt u before (set_run o v) (length v.patches) vs rs) → Finishes o v u w a b c d result
-  paged vs rs (Ok given) runs receipt = record {
+  paged : (vs : List Verdict) (rs : List Row) (result : Result Receipt RunFault) → Runs u w before after c d scratch_after result (set_run o v) → IfOk result (GivesReceipt u before (set_run o v) (length v.patches) vs rs) → (o.dry_run ≡ true → IsUntouched u w) → Finishes o v u w a b c d result
+  paged vs rs (Ok given) runs receipt dry = record {
     tree = runs.stays.tree;
     scratch = record {
       counts = subst (λ n. n ≤ b.faults) over.faults (subst (λ n. before.faults ≤ n) over.faults_after runs.stays.plan.faults);
@@ -134,8 +136,10 @@ module _ (u w : TreeView) {before after : Seen} {a b : ScratchView} (c d : SinkV
     holds = λ f bytes t told. holds_behind f bytes (runs.scratch f (told_to f t)) told;
     cut = tt;
     moments = λ f t. runs.moments f (told_to f t);
+    tidy = runs.tidy;
+    dry = dry;
   }
-  paged vs rs (Err e) runs receipt = record {
+  paged vs rs (Err e) runs receipt dry = record {
     tree = runs.stays.tree;
     scratch = record {
       counts = subst (λ n. n ≤ b.faults) over.faults (subst (λ n. before.faults ≤ n) over.faults_after runs.stays.plan.faults);
@@ -151,10 +155,12 @@ module _ (u w : TreeView) {before after : Seen} {a b : ScratchView} (c d : SinkV
     holds = tt;
     cut = λ f t. runs.cut f (told_to f t);
     moments = λ f t. runs.moments f (told_to f t);
+    tidy = runs.tidy;
+    dry = dry;
   }
 
-pub finishes_paged : {u w : TreeView} {before after : Seen} {a b : ScratchView} {c d : SinkView} {scratch_after : ℕ → List ℕ → Option (List ℕ) → Option (List ℕ)} (o : PlainOptions) (v : SetView) (vs : List Verdict) (rs : List Row) (result : Result Receipt RunFault) → Runs u w before after c d scratch_after result (set_run o v) → IfOk result (GivesReceipt u before (set_run o v) (length v.patches) vs rs) → StandsOver o before after a b scratch_after → Finishes o v u w a b c d result
-finishes_paged {u = u} {w = w} {c = c} {d = d} o v vs rs result runs receipt over = paged u w c d o v over vs rs result runs receipt
+pub finishes_paged : {u w : TreeView} {before after : Seen} {a b : ScratchView} {c d : SinkView} {scratch_after : ℕ → List ℕ → Option (List ℕ) → Option (List ℕ)} (o : PlainOptions) (v : SetView) (vs : List Verdict) (rs : List Row) (result : Result Receipt RunFault) → Runs u w before after c d scratch_after result (set_run o v) → IfOk result (GivesReceipt u before (set_run o v) (length v.patches) vs rs) → (o.dry_run ≡ true → IsUntouched u w) → StandsOver o before after a b scratch_after → Finishes o v u w a b c d result
+finishes_paged {u = u} {w = w} {c = c} {d = d} o v vs rs result runs receipt dry over = paged u w c d o v over vs rs result runs receipt dry
 
 -- ---- the plan in memory, which has none
 
@@ -182,8 +188,8 @@ module _ (u w : TreeView) {before after : Seen} (c d : SinkView) (a : ScratchVie
   alone_cause (Disagree want got) (ne, silent) = (ne, λ f t. silent f (told_alone f t))
   alone_cause Memory h = tt
 
-  in_memory : (scratch_after : ℕ → List ℕ → Option (List ℕ) → Option (List ℕ)) (vs : List Verdict) (rs : List Row) (result : Result Receipt RunFault) → Runs u w before after c d scratch_after result (set_run o v) → IfOk result (GivesReceipt u before (set_run o v) (length v.patches) vs rs) → Finishes o v u w a a c d result
-  in_memory scratch_after vs rs (Ok given) runs receipt = record {
+  in_memory : (scratch_after : ℕ → List ℕ → Option (List ℕ) → Option (List ℕ)) (vs : List Verdict) (rs : List Row) (result : Result Receipt RunFault) → Runs u w before after c d scratch_after result (set_run o v) → IfOk result (GivesReceipt u before (set_run o v) (length v.patches) vs rs) → (o.dry_run ≡ true → IsUntouched u w) → Finishes o v u w a a c d result
+  in_memory scratch_after vs rs (Ok given) runs receipt dry = record {
     tree = runs.stays.tree;
     scratch = scratch_passes_none a;
     sink = runs.stays.sink;
@@ -196,8 +202,10 @@ module _ (u w : TreeView) {before after : Seen} (c d : SinkView) (a : ScratchVie
     holds = λ f bytes t told. told ∙ ap (λ (l : List ℕ). Some l) (sym (behind_none o alone.plan (set_run o v f).taken bytes));
     cut = tt;
     moments = λ f t. runs.moments f (told_alone f t);
+    tidy = runs.tidy;
+    dry = dry;
   }
-  in_memory scratch_after vs rs (Err e) runs receipt = record {
+  in_memory scratch_after vs rs (Err e) runs receipt dry = record {
     tree = runs.stays.tree;
     scratch = scratch_passes_none a;
     sink = runs.stays.sink;
@@ -210,10 +218,12 @@ module _ (u w : TreeView) {before after : Seen} (c d : SinkView) (a : ScratchVie
     holds = tt;
     cut = λ f t. runs.cut f (told_alone f t);
     moments = λ f t. runs.moments f (told_alone f t);
+    tidy = runs.tidy;
+    dry = dry;
   }
 
-pub finishes_whole : {u w : TreeView} {before after : Seen} {c d : SinkView} {scratch_after : ℕ → List ℕ → Option (List ℕ) → Option (List ℕ)} (o : PlainOptions) (v : SetView) (vs : List Verdict) (rs : List Row) (result : Result Receipt RunFault) → Runs u w before after c d scratch_after result (set_run o v) → IfOk result (GivesReceipt u before (set_run o v) (length v.patches) vs rs) → StandsAlone o before after → (a : ScratchView) → Finishes o v u w a a c d result
-finishes_whole {u = u} {w = w} {c = c} {d = d} {scratch_after = scratch_after} o v vs rs result runs receipt alone a = in_memory u w c d a o v alone scratch_after vs rs result runs receipt
+pub finishes_whole : {u w : TreeView} {before after : Seen} {c d : SinkView} {scratch_after : ℕ → List ℕ → Option (List ℕ) → Option (List ℕ)} (o : PlainOptions) (v : SetView) (vs : List Verdict) (rs : List Row) (result : Result Receipt RunFault) → Runs u w before after c d scratch_after result (set_run o v) → IfOk result (GivesReceipt u before (set_run o v) (length v.patches) vs rs) → (o.dry_run ≡ true → IsUntouched u w) → StandsAlone o before after → (a : ScratchView) → Finishes o v u w a a c d result
+finishes_whole {u = u} {w = w} {c = c} {d = d} {scratch_after = scratch_after} o v vs rs result runs receipt dry alone a = in_memory u w c d a o v alone scratch_after vs rs result runs receipt dry
 
 -- ---- no memory for the pages
 
@@ -242,4 +252,6 @@ module _ (o : PlainOptions) (v : SetView) (u : TreeView) (a : ScratchView) (c : 
     holds = tt;
     cut = λ f t. part_none (set_run o v f).effects (set_run o v f).said;
     moments = λ f t. leaves_none (set_run o v f).effects;
+    tidy = λ f g was now q temp. inr (ap (λ (x : Files). get x q) (same_Some _ _ (sym now ∙ was)));
+    dry = λ is. untouched_none u;
   }

@@ -14,6 +14,7 @@ use Rattle.patch_set.specs.SetView.{SetView, IsRead, HasVerdicts}
 use Rattle.patch_run.specs.Applied.{Receipt}
 use Rattle.patch_run.specs.Run.{Run, set_run}
 use Rattle.patch_run.specs.Doing.{QuietAfter, IsFar, IsCutOff}
+use Rattle.patch_run.specs.Making.{TidyAfter}
 use Rattle.patch_run.specs.declared.fault.RunFault.{RunFault}
 use Rattle.patch_run.specs.declared.fault.RunFault.TheVariants.{Tree, Write, Scratch, LongLine, FileTooLong, Disagree, Memory}
 use Rattle.patch_cli.specs.Scratches.{has_scratch, is_paged, scratch_behind_all}
@@ -62,3 +63,7 @@ pub record Finishes (o : PlainOptions) (v : SetView) (u w : TreeView) (a b : Scr
   pub holds : OnOk result ((f : Files) (before : List ℕ) → IsToldTo o u a f → a.told ≡ Some before → b.told ≡ Some (scratch_behind_all o (set_run o v f).taken before))
   pub cut : IfErr result (λ e. (f : Files) → IsToldTo o u a f → IsCutOff e u w c d (set_run o v f))
   pub moments : (f : Files) → IsToldTo o u a f → LeavesPrefix u w (set_run o v f).effects
+  -- after an answer without a failed device no temporary that the run started is left
+  pub tidy : TidyAfter result u w
+  -- a dry run starts none, whatever is told
+  pub dry : o.dry_run ≡ true → IsUntouched u w

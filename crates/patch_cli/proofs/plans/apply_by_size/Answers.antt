@@ -11,7 +11,7 @@ pub returns-clause-finishes : goal.returns-clause-finishes
 returns-clause-finishes g c =
     let given = g.C.Scratch.view c.new-2.result.scratch in
     let same = ap g.C.Scratch.view (◌∙◌ {b = c.into_big.result.scratch} c.into_parts-pair.ensures.scratch (ap (λ (p : PackedB g.row.C.Denot g.C.Scratch). p.scratch) c.into_big.ensures)) in
-    finishes_paged (plain_options c.args.options.now) c.args.set.now _ _ c.apply_set-applied.result c.apply_set-applied.ensures.runs c.apply_set-applied.ensures.receipt (record {
+    finishes_paged (plain_options c.args.options.now) c.args.set.now _ _ c.apply_set-applied.result c.apply_set-applied.ensures.runs c.apply_set-applied.ensures.receipt c.apply_set-applied.ensures.dry (record {
       told = ◌∙◌ {b = given.told} (ap (λ (s : Seen). s.scratch) c.new-plan.ensures.seen) c.new-2.ensures.scratch;
       told_after = sym (ap (λ (s : ScratchView). s.told) same);
       faults = ◌∙◌ {b = given.faults} (ap (λ (s : Seen). s.faults) c.new-plan.ensures.seen) c.new-2.ensures.faults;

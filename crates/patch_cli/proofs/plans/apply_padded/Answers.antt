@@ -8,7 +8,7 @@ use Rattle.patch_cli.proofs.plans.apply_padded.Goals as goal
 pub returns-clause-finishes : goal.returns-clause-finishes
 returns-clause-finishes g c =
     let same = ap g.C.Scratch.view c.into_parts-pair.ensures.scratch in
-    finishes_paged (plain_options c.args.options.now) c.args.set.now _ _ c.apply_set-applied.result c.apply_set-applied.ensures.runs c.apply_set-applied.ensures.receipt (record {
+    finishes_paged (plain_options c.args.options.now) c.args.set.now _ _ c.apply_set-applied.result c.apply_set-applied.ensures.runs c.apply_set-applied.ensures.receipt c.apply_set-applied.ensures.dry (record {
       told = c.new-plan.ensures.scratch;
       told_after = sym (ap (λ (s : ScratchView). s.told) same);
       faults = c.new-plan.ensures.faults;
