@@ -1,6 +1,3 @@
+pub mod Opens
 pub mod Carrying
 pub mod Reporting
-pub mod Texts
-pub mod Naming
-pub mod Outcomes
-pub mod Patching
