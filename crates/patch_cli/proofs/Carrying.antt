@@ -1,228 +1,359 @@
--- How a run is put together from the steps before its change, its line and its change.
-use Rattle.std.proofs.Common.{◌≡◌, ◌≢◌, true, false, inl, inr, ⊎_elim, ℕ, zero, List, [], ◌∷◌, Some, Result, Ok, Err, IsErr, IfErr, OnOk, refl, sym, ◌∙◌, ap, subst, arith}
+-- How a run is put together from the steps before its first change, and its file patches.
+use Rattle.std.proofs.Common.{◌≡◌, ◌⊎◌, inl, inr, ⊎_elim, ℕ, zero, List, [], length, true, false, Bool, if◌then◌else◌, Option, Some, None, Result, Ok, Err, refl, sym, ◌∙◌, ap, subst, arith}
 use Rattle.std.proofs.lemmas.List.{append-nil}
-use Rattle.std.proofs.lemmas.Bool.{false≢true}
 use Rattle.std.proofs.lemmas.Option.{same_Some}
-use Rattle.std.specs.FinMap.{get, insert, remove}
-use Rattle.outside.specs.Files.{Files, SameLasting, SameButTemp, is_temp, temp_of}
-use Rattle.outside.specs.TreeView.{TreeView, Passes, IsCall, MayLeave, LeftSince}
-use Rattle.outside.specs.SinkView.{SinkView, sink_passes_none, Writes}
-use Rattle.outside.specs.Calls.{IsUntouched, LeavesNoMore, Becomes}
-use Rattle.outside.specs.Quiet.{IsQuiet, MakesEffect, after}
-use Rattle.outside.specs.Quiet.Effect.{Put}
-use Rattle.outside.proofs.Names.{lasting-same, get-put_other}
-use Rattle.outside.specs.TreeView.{passes_none, passes_both}
-use Rattle.outside.proofs.Views.{rises_then, since_call, since_split}
-use Rattle.outside.proofs.Writing.{received_part}
-use Rattle.replace_file.specs.Puts.{TellsEitherBut}
+use Rattle.outside.specs.Files.{Files, SameLasting, lasting-same}
+use Rattle.outside.specs.TreeView.{TreeView, Passes, passes_both}
+use Rattle.outside.specs.SinkView.{SinkView, SinkPasses, sink_passes_none, Receives, Rises, Writes}
+use Rattle.outside.specs.SourceView.{SourcePasses}
+use Rattle.outside.specs.ScratchView.{ScratchView, ScratchPasses, scratch_passes_none}
+use Rattle.outside.specs.Quiet.{LeavesPrefix}
+use Rattle.outside.proofs.Views.{rises_then, since_split}
+use Rattle.line_store.specs.declared.fault.OpenFault.{OpenFault}
+use Rattle.line_store.specs.declared.fault.OpenFault.TheVariants as open_fault
+use Rattle.patch_options.specs.PlainJob.{PlainOptions, PlainJob}
+use Rattle.patch_options.specs.PlainJob.PlainJob.{patch}
+use Rattle.patch_options.specs.Words.{job_of}
+use Rattle.patch_options.specs.declared.options.WordFault.{WordFault}
+use Rattle.patch_set.specs.SetView.{SetView}
+use Rattle.patch_run.specs.Applied.{Receipt}
+use Rattle.patch_run.specs.Run.{Run, set_run}
+use Rattle.patch_run.specs.Doing as doing
+use Rattle.patch_run.specs.Faults.{of_open}
+use Rattle.patch_run.specs.declared.fault.RunFault.{RunFault}
+use Rattle.patch_run.specs.declared.fault.RunFault.TheVariants as runs
 use Rattle.patch_cli.specs.declared.why.Why.{Why}
-use Rattle.patch_cli.specs.declared.why.Why.TheVariants.{Done, Usage, NoPatchFile, WriteFault, TreeFault, Disagree, Memory, Unsupported}
-use Rattle.patch_cli.specs.Command.{Outcome, refused, puts}
-use Rattle.patch_cli.specs.Carries.{FirstPart, IsAnswer, IsAsAtEntry, WhyCause, Untouched, Answers, LeavesAllowed, Carries, Opens, StopsEarly, why_of}
+use Rattle.patch_cli.specs.declared.why.Why.TheVariants.{Done, Rejected, Usage, Malformed, Garbage, EdReverse, OutMany, Reserved, NoPatchFile, TooLong, LongLine, FileTooLong, ReadFault, WriteFault, TreeFault, ScratchFault, Disagree, Memory, Unsupported}
+use Rattle.patch_cli.specs.Answers.{Sort, sort_of, of_run}
+use Rattle.patch_cli.specs.Answers.Sort.{ended, halted, refusal, unread, broken, starved}
+use Rattle.patch_cli.specs.Command.{Outcome, command, refused, on_job, carried_out, end_of, receipt_if}
+use Rattle.patch_cli.specs.Worlds.{World, TellsFiles, TellsLeft, AsksFor, reads_source, pages_all}
+use Rattle.patch_cli.specs.Causes.{HasCause}
+use Rattle.patch_cli.specs.Scratches.{is_paged, scratch_behind_all}
+use Rattle.patch_cli.specs.Finishes.{IsToldTo, HasPlanCause, Finishes}
+use Rattle.patch_cli.specs.Finishes as finishes
+use Rattle.patch_cli.specs.Opening.{Opens, IsAsked, StopsBy, StopsEarly}
+use Rattle.patch_cli.specs.Carries.{IsAnswer, FirstPart, Answers, IsAsAtEntry, Untouched, QuietAfter, IsBehindReading, IsEnd, HasReceipt, LeavesAllowed, Carries, NoneFailed, IsComplete, why_of, receipt_of}
+use Rattle.patch_cli.proofs.Opens.{opens_both, opens_untouched}
 
-at_now : (u : TreeView) (c : Files) → LeftSince u u.moment c → MayLeave u c
-at_now u c (k, from, to, left) = let e : k ≡ u.moment = omega (arith, from, to) in subst (λ n. u.left_at n c) e left
+-- ---- an end before the first change
+no_receipt : (why : Why) (job : Result PlainJob WordFault) (u : World) → StopsBy (sort_of why) why job u → HasReceipt why None
+no_receipt Done job u stops = absurd stops
+no_receipt Rejected job u stops = absurd stops
+no_receipt Usage job u stops = refl
+no_receipt (Malformed line kind) job u stops = refl
+no_receipt Garbage job u stops = refl
+no_receipt (EdReverse line) job u stops = refl
+no_receipt (OutMany count) job u stops = refl
+no_receipt (Reserved line) job u stops = refl
+no_receipt NoPatchFile job u stops = refl
+no_receipt TooLong job u stops = refl
+no_receipt (LongLine line length) job u stops = refl
+no_receipt (FileTooLong length) job u stops = refl
+no_receipt ReadFault job u stops = refl
+no_receipt WriteFault job u stops = refl
+no_receipt TreeFault job u stops = refl
+no_receipt ScratchFault job u stops = refl
+no_receipt (Disagree want got) job u stops = refl
+no_receipt Memory job u stops = refl
+no_receipt Unsupported job u stops = refl
 
-pub opens_none : (u : TreeView) → Opens u u
-opens_none u = record { passes = passes_none u; told = refl; images = λ c left. at_now u c left }
+module _ {u w : World} (why : Why) (job : Result PlainJob WordFault) (same : IsAsAtEntry u w) where
+  untouched_early : (s : Sort) → Untouched s u w
+  untouched_early ended = tt
+  untouched_early halted = tt
+  untouched_early refusal = same
+  untouched_early unread = same
+  untouched_early broken = tt
+  untouched_early starved = tt
 
-pub opens_both : {u v w : TreeView} → Opens u v → Opens v w → Opens u w
-opens_both {u = u} {v = v} {w = w} a b = record {
-  passes = passes_both a.passes b.passes;
-  told = b.told ∙ a.told;
-  images = λ c left. ⊎_elim
-      (λ before. a.images c before)
-      (λ later. a.images c (v.moment, a.passes.later, omega arith, b.images c later))
-      (since_split b.passes u.moment c a.passes.later left);
-}
+  quiet_early : (s : Sort) → StopsBy s why job u → QuietAfter s w
+  quiet_early ended stops = absurd stops
+  quiet_early halted stops = absurd stops
+  quiet_early refusal stops = tt
+  quiet_early unread stops = tt
+  quiet_early broken stops = tt
+  quiet_early starved stops = tt
 
-pub opens_settle : {R E : Type 0} {u v : TreeView} (r : Result R E) → IsCall u v r → v.told ≡ u.told → LeavesNoMore u v → Opens u v
-opens_settle {u = u} {v = v} r call same no_more = record {
-  passes = call.passes;
-  told = same;
-  images = λ c left. ⊎_elim (λ before. at_now u c before) (λ now. no_more c now) (since_call call u.moment c left);
-}
+  not_behind : (s : Sort) → StopsBy s why job u → IsBehindReading s → ⊥
+  not_behind ended stops is = stops
+  not_behind halted stops is = stops
+  not_behind refusal stops is = is
+  not_behind unread stops is = is
+  not_behind broken stops is = is
+  not_behind starved stops is = is
 
-pub opens_untouched : {u w : TreeView} → IsUntouched u w → Opens u w
-opens_untouched {u = u} {w = w} same = record {
-  passes = same.passes;
-  told = same.told;
-  images = λ c left. at_now u c ((same.since u.moment c (omega arith)).0 left);
-}
+  no_end : (s : Sort) → StopsBy s why job u → IsEnd s → ⊥
+  no_end ended stops is = stops
+  no_end halted stops is = is
+  no_end refusal stops is = is
+  no_end unread stops is = is
+  no_end broken stops is = is
+  no_end starved stops is = is
 
--- an end before the first change
-module _ {u w : TreeView} (a : SinkView) (opens : Opens u w) (o : Files → Outcome) where
-  as_at_entry : IsAsAtEntry u w a a
-  as_at_entry = record { told = opens.told; out = refl; images = opens.images }
+  nothing_yet : (f : Files) (o : Outcome) → u.tree.told ≡ Some f → FirstPart u w o
+  nothing_yet f o told = record {
+    tells = λ f g was now. (zero, omega arith, subst (λ (x : Files). SameLasting f x) (same_Some _ _ (sym was ∙ sym same.told ∙ now)) (lasting-same f));
+    said = λ b now. inr (zero, ap (λ (a : SinkView). a.told) same.out ∙ now ∙ ap (λ (l : List ℕ). Some l) (sym (append-nil b)));
+  }
 
-  refused_so : (why : Why) (f : Files) → u.told ≡ Some f → o f ≡ refused why → IsAnswer why f w a a (o f)
-  refused_so why f told is = subst (λ (x : Outcome). IsAnswer why f w a a x) (sym is) (record {
+  refused_so : (f : Files) → u.tree.told ≡ Some f → IsAnswer why None f u w (refused why f)
+  refused_so f told = record {
     is = refl;
-    text = λ b now. now ∙ ap (λ (l : List ℕ). Some l) (sym (append-nil b));
-    files = opens.told ∙ told;
-  })
-
-  nothing_yet : (f : Files) → u.told ≡ Some f → FirstPart u w a a (o f)
-  nothing_yet f told = record {
-    tells = λ f g was now. (zero, omega arith, subst (λ (x : Files). SameLasting f x) (same_Some _ _ (sym was ∙ sym opens.told ∙ now)) (lasting-same f));
-    others = λ f g was now n temp unused. sym (ap (λ (x : Files). get x n) (same_Some f g (sym was ∙ sym opens.told ∙ now)));
-    said = λ b now. inr (zero, now ∙ ap (λ (l : List ℕ). Some l) (sym (append-nil b)));
+    text = λ b now. ap (λ (a : SinkView). a.told) same.out ∙ now ∙ ap (λ (l : List ℕ). Some l) (sym (append-nil b));
+    files = same.told ∙ told;
+    made = lasting-same f;
+    applied = refl;
   }
 
-  allowed : (f : Files) → LeavesAllowed u w f (o f).effects
-  allowed f c left = inl (opens.images c left)
+  answers_early : (s : Sort) → StopsBy s why job u → (f : Files) (left : List ℕ) → TellsFiles job u f → TellsLeft job u left → Answers s why None f u w (on_job job f left)
+  answers_early ended stops f left told tells = absurd stops
+  answers_early halted stops f left told tells = absurd stops
+  answers_early refusal stops f left told tells = subst (λ (x : Outcome). IsAnswer why None f u w x) (sym (stops f left told tells)) (refused_so f told.files)
+  answers_early unread stops f left told tells = nothing_yet f (on_job job f left) told.files
+  answers_early broken stops f left told tells = nothing_yet f (on_job job f left) told.files
+  answers_early starved stops f left told tells = nothing_yet f (on_job job f left) told.files
 
-  pub carries_early : (why : Why) → StopsEarly why u w o → Carries u w a a why o
-  carries_early Done stops = absurd stops
-  carries_early WriteFault stops = absurd stops
-  carries_early Usage stops = record { passes = opens.passes; sink = sink_passes_none a; cause = tt; untouched = as_at_entry; quiet = tt; answers = λ f told. refused_so Usage f told (stops f told); images = λ f told. allowed f }
-  carries_early NoPatchFile stops = record { passes = opens.passes; sink = sink_passes_none a; cause = tt; untouched = as_at_entry; quiet = tt; answers = λ f told. refused_so NoPatchFile f told (stops f told); images = λ f told. allowed f }
-  carries_early Unsupported stops = record { passes = opens.passes; sink = sink_passes_none a; cause = tt; untouched = as_at_entry; quiet = tt; answers = λ f told. refused_so Unsupported f told (stops f told); images = λ f told. allowed f }
-  carries_early TreeFault stops = record { passes = opens.passes; sink = sink_passes_none a; cause = stops; untouched = tt; quiet = tt; answers = λ f told. nothing_yet f told; images = λ f told. allowed f }
-  carries_early (Disagree want got) stops = record { passes = opens.passes; sink = sink_passes_none a; cause = stops; untouched = tt; quiet = tt; answers = λ f told. nothing_yet f told; images = λ f told. allowed f }
-  carries_early Memory stops = record { passes = opens.passes; sink = sink_passes_none a; cause = tt; untouched = tt; quiet = tt; answers = λ f told. nothing_yet f told; images = λ f told. allowed f }
-
--- a file that is put, with a line before it
-module _ {v : TreeView} (a b : SinkView) (line name bytes : List ℕ) where
-  -- the line couldn't be said
-  pub carries_unsaid : {R E : Type 0} (e : E) → Writes {R = R} a b (Err e) line → Carries v v a b WriteFault (λ f. puts line name bytes)
-  carries_unsaid e said = record {
-    passes = passes_none v;
-    sink = said.call.passes;
-    cause = said.call.cause refl;
-    untouched = tt;
-    quiet = tt;
-    answers = λ f told. record {
-      tells = λ f g was now. (zero, omega arith, subst (λ (x : Files). SameLasting f x) (same_Some _ _ (sym was ∙ now)) (lasting-same f));
-      others = λ f g was now n temp unused. sym (ap (λ (x : Files). get x n) (same_Some f g (sym was ∙ now)));
-      said = said.failed;
-    };
-    images = λ f told c left. inl (at_now v c left);
-  }
-
-  -- it was, and the file is put by way of its temporary
-  module _ {R E S F : Type 0} (x : R) (said : Writes {E = E} a b (Ok x) line) (w : TreeView) (result : Result S F) (makes : MakesEffect v w result (Put name bytes)) where
-    others_stay : (temp : List ℕ) → temp ≡ temp_of name → is_temp name ≡ false → TellsEitherBut v w temp (λ f. insert f name bytes)
-        → (f g : Files) → v.told ≡ Some f → w.told ≡ Some g → (n : List ℕ) → is_temp n ≡ true → n ≢ temp_of name → get g n ≡ get f n
-    others_stay temp is_temp_of lasting but f g was now n is apart =
-        let other : n ≢ temp = λ e. apart (e ∙ is_temp_of) in
-        let elsewhere : n ≢ name = λ e. false≢true (sym lasting ∙ sym (ap is_temp e) ∙ is) in ⊎_elim
-        (λ (old : SameButTemp temp f g). old.others n other)
-        (λ (new : SameButTemp temp (insert f name bytes) g). new.others n other ∙ get-put_other f name bytes n elsewhere)
-        (but f g was now)
-
-    images : (f : Files) → v.told ≡ Some f → LeavesAllowed v w f (Put name bytes ∷ [])
-    images f told c left = inr (⊎_elim
-        (λ (old : SameLasting f c). (zero, omega arith, old))
-        (λ (new : SameLasting (after (Put name bytes) f) c). (1, omega arith, new))
-        (makes.since f told c left))
-
-    pub carries_fault : (temp : List ℕ) → temp ≡ temp_of name → is_temp name ≡ false → TellsEitherBut v w temp (λ f. insert f name bytes) → IsErr result → Carries v w a b TreeFault (λ f. puts line name bytes)
-    carries_fault temp is_temp_of lasting but err = record {
-      passes = makes.run.passes;
-      sink = said.call.passes;
-      cause = makes.run.cause err;
-      untouched = tt;
-      quiet = tt;
-      answers = λ f told. record {
-        tells = λ f g was now. ⊎_elim
-            (λ (old : SameLasting f g). (zero, omega arith, old))
-            (λ (new : SameLasting (after (Put name bytes) f) g). (1, omega arith, new))
-            (makes.either f g was now);
-        others = λ f g was now n is unused. others_stay temp is_temp_of lasting but f g was now n is unused.0;
-        said = received_part a b line said.received;
-      };
-      images = images;
+pub carries_early : {words : List (List ℕ)} {u w : World} {why : Why} → Opens u.tree w.tree → w.scratch ≡ u.scratch → w.out ≡ u.out → SourcePasses u.source w.source
+    → (reads_source (job_of words) ≡ false → w.source ≡ u.source) → StopsEarly why (job_of words) u w → Carries words u w why None
+carries_early {words = words} {u = u} {w = w} {why = why} opens scratch out source none_read stops =
+    let same : IsAsAtEntry u w = record { told = opens.told; scratch = scratch; out = out; images = opens.images } in
+    let job = job_of words in
+    record {
+      tree = opens.passes;
+      scratch = subst (λ (x : ScratchView). ScratchPasses u.scratch x) (sym scratch) (scratch_passes_none u.scratch);
+      source = source;
+      sink = subst (λ (x : SinkView). SinkPasses u.out x) (sym out) (sink_passes_none u.out);
+      cause = stops.cause;
+      untouched = untouched_early why job same (sort_of why);
+      quiet = quiet_early why job same (sort_of why) stops.stops;
+      receipt = no_receipt why job u stops.stops;
+      starved = λ is pages. same;
+      read = λ behind reads left told. absurd (not_behind why job same (sort_of why) stops.stops behind);
+      unread = none_read;
+      answers = λ f left told tells. answers_early why job same (sort_of why) stops.stops f left told tells;
+      images = λ f left told tells c since. inl (opens.images c since);
+      pages = λ is f left before told tells was. absurd (no_end why job same (sort_of why) stops.stops is);
     }
 
-    pub carries_done : (temp : List ℕ) → temp ≡ temp_of name → Becomes v w (λ f. remove (insert f name bytes) temp) → IsQuiet w → Carries v w a b Done (λ f. puts line name bytes)
-    carries_done temp is_temp becomes quiet = record {
-      passes = makes.run.passes;
-      sink = said.call.passes;
-      cause = tt;
-      untouched = tt;
-      quiet = quiet;
-      answers = λ f told. record {
-        is = refl;
-        text = said.received;
-        files = becomes f told ∙ ap (λ (n : List ℕ). Some (remove (insert f name bytes) n)) is_temp;
-      };
-      images = images;
+-- ---- behind the reading: an answer of the run, or a first part of it
+module _ (u w : World) {v : TreeView} (opens : Opens u.tree v) where
+  part_on : (r : Run) (count : ℕ) → doing.IsPartOf v w.tree u.out w.out r.effects r.said → FirstPart u w (carried_out count r)
+  part_on r count part = record { tells = λ f g was now. part.tells f g (opens.told ∙ was) now; said = part.said }
+
+  far_on : (r : Run) (count : ℕ) (why : Why) (applied : Option Receipt) (f : Files) → u.tree.told ≡ Some f → doing.IsFar v w.tree u.out w.out r
+      → why ≡ (carried_out count r).why → applied ≡ (carried_out count r).applied → IsAnswer why applied f u w (carried_out count r)
+  far_on r count why applied f told far is receipt = record {
+    is = is;
+    text = far.said;
+    files = far.now;
+    made = far.made.live f r.files (opens.told ∙ told) far.now;
+    applied = receipt;
+  }
+
+  stop_on : (r : Run) (count : ℕ) (why : Why) (f : Files) → u.tree.told ≡ Some f → doing.IsFar v w.tree u.out w.out r
+      → (fault : OpenFault) → r.stop ≡ Some fault → why ≡ of_run (of_open fault) → IsAnswer why None f u w (carried_out count r)
+  stop_on r count why f told far fault stop is = far_on r count why None f told far
+      (is ∙ sym (ap (λ s. end_of s r.is_bad) stop))
+      (sym (ap (λ s. receipt_if s (record { is_bad = r.is_bad; done = count; effects = length r.effects })) stop))
+
+  -- a fault's answer
+  answers_fault : (e : RunFault) (r : Run) (count : ℕ) (f : Files) → u.tree.told ≡ Some f → doing.IsCutOff e v w.tree u.out w.out r → Answers (sort_of (of_run e)) (of_run e) None f u w (carried_out count r)
+  answers_fault runs.Tree r count f told cut = part_on r count cut
+  answers_fault runs.Write r count f told cut = part_on r count cut
+  answers_fault runs.Scratch r count f told cut = part_on r count cut
+  answers_fault (runs.LongLine line length) r count f told cut = stop_on r count (LongLine line length) f told cut.1 (open_fault.LongLine line length) cut.0 refl
+  answers_fault (runs.FileTooLong length) r count f told cut = stop_on r count (FileTooLong length) f told cut.1 (open_fault.FileTooLong length) cut.0 refl
+  answers_fault (runs.Disagree want got) r count f told cut = part_on r count cut
+  answers_fault runs.Memory r count f told cut = part_on r count cut
+
+  told_to : (o : PlainOptions) (f : Files) → TellsFiles (Ok (patch o)) u f → IsToldTo o v u.scratch f
+  told_to o f told = record { files = opens.told ∙ told.files; scratch = told.scratch }
+
+  cause_fault : (o : PlainOptions) (e : RunFault) → HasPlanCause e o v w.tree u.scratch w.scratch u.out w.out → HasCause (of_run e) (Ok (patch o)) u w
+  cause_fault o runs.Tree cause = rises_then u.tree v w.tree opens.passes cause
+  cause_fault o runs.Write cause = cause
+  cause_fault o runs.Scratch cause = cause
+  cause_fault o (runs.LongLine line length) cause = cause
+  cause_fault o (runs.FileTooLong length) cause = cause
+  cause_fault o (runs.Disagree want got) cause = (cause.0, λ f told. cause.1 f (told_to o f told))
+  cause_fault o runs.Memory cause = tt
+
+  -- a paged plan that found no memory hasn't begun
+  not_begun : finishes.IsNotBegun v w.tree u.scratch w.scratch u.out w.out → IsAsAtEntry u w
+  not_begun none =
+      let both = opens_both opens (opens_untouched none.tree) in
+      record { told = both.told; scratch = none.scratch; out = none.out; images = both.images }
+
+module _ (u w : World) where
+  untouched_fault : (e : RunFault) → Untouched (sort_of (of_run e)) u w
+  untouched_fault runs.Tree = tt
+  untouched_fault runs.Write = tt
+  untouched_fault runs.Scratch = tt
+  untouched_fault (runs.LongLine line length) = tt
+  untouched_fault (runs.FileTooLong length) = tt
+  untouched_fault (runs.Disagree want got) = tt
+  untouched_fault runs.Memory = tt
+
+  quiet_fault : (e : RunFault) → doing.QuietAfter {R = Receipt} (Err e) w.tree → QuietAfter (sort_of (of_run e)) w
+  quiet_fault runs.Tree quiet = tt
+  quiet_fault runs.Write quiet = tt
+  quiet_fault runs.Scratch quiet = tt
+  quiet_fault (runs.LongLine line length) quiet = quiet
+  quiet_fault (runs.FileTooLong length) quiet = quiet
+  quiet_fault (runs.Disagree want got) quiet = tt
+  quiet_fault runs.Memory quiet = tt
+
+receipt_fault : (e : RunFault) → HasReceipt (of_run e) None
+receipt_fault runs.Tree = refl
+receipt_fault runs.Write = refl
+receipt_fault runs.Scratch = refl
+receipt_fault (runs.LongLine line length) = refl
+receipt_fault (runs.FileTooLong length) = refl
+receipt_fault (runs.Disagree want got) = refl
+receipt_fault runs.Memory = refl
+
+end_fault : (e : RunFault) → IsEnd (sort_of (of_run e)) → ⊥
+end_fault runs.Tree is = is
+end_fault runs.Write is = is
+end_fault runs.Scratch is = is
+end_fault (runs.LongLine line length) is = is
+end_fault (runs.FileTooLong length) is = is
+end_fault (runs.Disagree want got) is = is
+end_fault runs.Memory is = is
+
+memory_fault : (e : RunFault) → of_run e ≡ Memory → e ≡ runs.Memory
+memory_fault runs.Tree is = absurd (cc)
+memory_fault runs.Write is = absurd (cc)
+memory_fault runs.Scratch is = absurd (cc)
+memory_fault (runs.LongLine line length) is = absurd (cc)
+memory_fault (runs.FileTooLong length) is = absurd (cc)
+memory_fault (runs.Disagree want got) is = absurd (cc)
+memory_fault runs.Memory is = refl
+
+-- the two ends
+ended_sort : (bad : Bool) → sort_of (if bad then Rejected else Done) ≡ ended
+ended_sort true = refl
+ended_sort false = refl
+
+ended_cause : (bad : Bool) (job : Result PlainJob WordFault) (u w : World) → HasCause (if bad then Rejected else Done) job u w
+ended_cause true job u w = tt
+ended_cause false job u w = tt
+
+ended_receipt : (bad : Bool) (r : Receipt) → r.is_bad ≡ bad → HasReceipt (if bad then Rejected else Done) (Some r)
+ended_receipt true r is = is
+ended_receipt false r is = is
+
+ended_memory : (bad : Bool) → (if bad then Rejected else Done) ≡ Memory → ⊥
+ended_memory true is = absurd (cc)
+ended_memory false is = absurd (cc)
+
+-- behind the reading
+module _ (words : List (List ℕ)) (u w : World) {v : TreeView} {o : PlainOptions} {set : SetView} (opens : Opens u.tree v) (job : job_of words ≡ Ok (patch o)) (asked : IsAsked o set u) where
+  is_carried : (f : Files) (left : List ℕ) → TellsFiles (job_of words) u f → TellsLeft (job_of words) u left → command words f left ≡ carried_out (length set.patches) (set_run o set f)
+  is_carried f left told tells =
+      ap (λ j. on_job j f left) job ∙ asked.carries f left (subst (λ j. TellsFiles j u f) job told) (subst (λ j. TellsLeft j u left) job tells)
+
+  tells_run : (f : Files) → TellsFiles (job_of words) u f → IsToldTo o v u.scratch f
+  tells_run f told = told_to u w opens o f (subst (λ j. TellsFiles j u f) job told)
+
+  answers_run : (why : Why) (applied : Option Receipt) (s : Sort)
+      → ((f : Files) → u.tree.told ≡ Some f → IsToldTo o v u.scratch f → Answers s why applied f u w (carried_out (length set.patches) (set_run o set f)))
+      → (f : Files) (left : List ℕ) → TellsFiles (job_of words) u f → TellsLeft (job_of words) u left → Answers s why applied f u w (command words f left)
+  answers_run why applied s gives f left told tells =
+      subst (λ (x : Outcome). Answers s why applied f u w x) (sym (is_carried f left told tells)) (gives f told.files (tells_run f told))
+
+  images_run : Passes v w.tree → ((f : Files) → IsToldTo o v u.scratch f → LeavesPrefix v w.tree (set_run o set f).effects)
+      → (f : Files) (left : List ℕ) → TellsFiles (job_of words) u f → TellsLeft (job_of words) u left → LeavesAllowed u w f (command words f left).effects
+  images_run passes moments f left told tells = subst (λ (x : Outcome). LeavesAllowed u w f x.effects) (sym (is_carried f left told tells)) (λ c since. ⊎_elim
+      (λ before. inl (opens.images c before))
+      (λ later. inr (moments f (tells_run f told) f (opens.told ∙ told.files) c later))
+      (since_split passes u.tree.moment c opens.passes.later since))
+
+  module _ (source : SourcePasses u.source w.source) (none_read : reads_source (job_of words) ≡ false → w.source ≡ u.source)
+      (read : reads_source (job_of words) ≡ true → (left : List ℕ) → u.source.told ≡ Some left → w.source.told ≡ Some []) where
+    carries_fault : (e : RunFault) → Finishes o set v w.tree u.scratch w.scratch u.out w.out (Err e) → Carries words u w (of_run e) None
+    carries_fault e does = record {
+      tree = passes_both opens.passes does.tree;
+      scratch = does.scratch;
+      source = source;
+      sink = does.sink;
+      cause = subst (λ j. HasCause (of_run e) j u w) (sym job) (cause_fault u w opens o e does.cause);
+      untouched = untouched_fault u w e;
+      quiet = quiet_fault u w e does.quiet;
+      receipt = receipt_fault e;
+      starved = λ is pages. not_begun u w opens (does.starved (ap (λ (x : RunFault). Err x) (memory_fault e is)) (subst (λ j. pages_all j ≡ true) job pages));
+      read = λ behind. read;
+      unread = none_read;
+      answers = answers_run (of_run e) None (sort_of (of_run e)) (λ f told to. answers_fault u w opens e (set_run o set f) (length set.patches) f told (does.cut f to));
+      images = images_run does.tree does.moments;
+      pages = λ is f left before told tells was. absurd (end_fault e is);
     }
 
-  -- the answer that putting the file gives
-  pub carries_put : {R E : Type 0} (x : R) → Writes {E = E} a b (Ok x) line → (w : TreeView) (result : Result (Unit {0}) Why) → MakesEffect v w result (Put name bytes)
-      → IfErr result (λ why. why ≡ TreeFault) → (temp : List ℕ) → temp ≡ temp_of name → is_temp name ≡ false → TellsEitherBut v w temp (λ f. insert f name bytes)
-      → OnOk result (Becomes v w (λ f. remove (insert f name bytes) temp)) → Carries v w a b (why_of result) (λ f. puts line name bytes)
-  carries_put x said w (Ok y) makes fault temp is_temp_of lasting but becomes = carries_done x said w (Ok y) makes temp is_temp_of becomes makes.quiet
-  carries_put x said w (Err e) makes fault temp is_temp_of lasting but becomes =
-      subst (λ (y : Why). Carries v w a b y (λ f. puts line name bytes)) (sym fault) (carries_fault x said w (Err e) makes temp is_temp_of lasting but refl)
+    -- the run was broken off, or a file isn't taken
+    pub carries_cut : (result : Result Receipt RunFault) (e : RunFault) (why : Why) → result ≡ Err e → why ≡ of_run e → Finishes o set v w.tree u.scratch w.scratch u.out w.out result → Carries words u w why None
+    carries_cut result e why is says does =
+        subst (λ (x : Why). Carries words u w x None) (sym says) (carries_fault e (subst (λ (r : Result Receipt RunFault). Finishes o set v w.tree u.scratch w.scratch u.out w.out r) is does))
 
--- what a run carries behind steps before its first change
-module _ {u v : TreeView} (w : TreeView) (a b : SinkView) (opens : Opens u v) (o p : Files → Outcome) (is : (f : Files) → u.told ≡ Some f → o f ≡ p f) where
-  as_before : IsAsAtEntry v w a b → Passes v w → IsAsAtEntry u w a b
-  as_before same passes = record {
-    told = same.told ∙ opens.told;
-    out = same.out;
-    images = λ c left. ⊎_elim
-        (λ before. opens.images c before)
-        (λ later. opens.images c (v.moment, opens.passes.later, omega arith, same.images c later))
-        (since_split passes u.moment c opens.passes.later left);
-  }
+    end_answer : (receipt : Receipt) → Finishes o set v w.tree u.scratch w.scratch u.out w.out (Ok receipt) → (f : Files) → u.tree.told ≡ Some f → IsToldTo o v u.scratch f
+        → IsAnswer (if receipt.is_bad then Rejected else Done) (Some receipt) f u w (carried_out (length set.patches) (set_run o set f))
+    end_answer receipt does f told to =
+        let r = set_run o set f in
+        far_on u w opens r (length set.patches) (if receipt.is_bad then Rejected else Done) (Some receipt) f told (does.whole f to)
+        (ap (λ (x : Receipt). if x.is_bad then Rejected else Done) (does.receipt f to) ∙ sym (ap (λ s. end_of s r.is_bad) (does.going f to)))
+        (ap (λ (x : Receipt). Some x) (does.receipt f to) ∙ sym (ap (λ s. receipt_if s (finishes.receipt_of set r)) (does.going f to)))
 
-  first_part : (f : Files) → u.told ≡ Some f → FirstPart v w a b (p f) → FirstPart u w a b (o f)
-  first_part f told part = subst (λ (x : Outcome). FirstPart u w a b x) (sym (is f told)) (record {
-    tells = λ f g was now. part.tells f g (opens.told ∙ was) now;
-    others = λ f g was now n temp unused. part.others f g (opens.told ∙ was) now n temp unused;
-    said = part.said;
-  })
+    carries_done : (receipt : Receipt) → Finishes o set v w.tree u.scratch w.scratch u.out w.out (Ok receipt) → Carries words u w (if receipt.is_bad then Rejected else Done) (Some receipt)
+    carries_done receipt does =
+        let why : Why = if receipt.is_bad then Rejected else Done in
+        let is : sort_of why ≡ ended = ended_sort receipt.is_bad in
+        record {
+          tree = passes_both opens.passes does.tree;
+          scratch = does.scratch;
+          source = source;
+          sink = does.sink;
+          cause = ended_cause receipt.is_bad (job_of words) u w;
+          untouched = subst (λ s. Untouched s u w) (sym is) tt;
+          quiet = subst (λ s. QuietAfter s w) (sym is) does.quiet;
+          receipt = ended_receipt receipt.is_bad receipt refl;
+          starved = λ is pages. absurd (ended_memory receipt.is_bad is);
+          read = λ behind. read;
+          unread = none_read;
+          answers = answers_run why (Some receipt) (sort_of why) (λ f told to. subst (λ s. Answers s why (Some receipt) f u w (carried_out (length set.patches) (set_run o set f))) (sym is) (end_answer receipt does f told to));
+          images = images_run does.tree does.moments;
+          pages = λ finished f left before told tells was. subst (λ j. AsksFor j (λ p. w.scratch.told ≡ Some (scratch_behind_all p (command words f left).taken before))) (sym job)
+              (does.holds f before (tells_run f told) was ∙ ap (λ (x : Outcome). Some (scratch_behind_all o x.taken before)) (sym (is_carried f left told tells)));
+        }
 
-  answer : (why : Why) (f : Files) → u.told ≡ Some f → IsAnswer why f w a b (p f) → IsAnswer why f w a b (o f)
-  answer why f told x = subst (λ (y : Outcome). IsAnswer why f w a b y) (sym (is f told)) x
+    -- every file patch had its turn
+    pub carries_end : (result : Result Receipt RunFault) (receipt : Receipt) → result ≡ Ok receipt → Finishes o set v w.tree u.scratch w.scratch u.out w.out result
+        → Carries words u w (if receipt.is_bad then Rejected else Done) (Some receipt)
+    carries_end result receipt is does = carries_done receipt (subst (λ (r : Result Receipt RunFault). Finishes o set v w.tree u.scratch w.scratch u.out w.out r) is does)
 
-  cause_behind : (why : Why) → Passes v w → WhyCause why v w a b → WhyCause why u w a b
-  cause_behind TreeFault passes c = rises_then u v w opens.passes c
-  cause_behind (Disagree want got) passes c = (c.0, sym opens.told ∙ c.1)
-  cause_behind Done passes c = c
-  cause_behind Usage passes c = c
-  cause_behind NoPatchFile passes c = c
-  cause_behind WriteFault passes c = c
-  cause_behind Memory passes c = c
-  cause_behind Unsupported passes c = c
+-- ---- where no device failed
+pub is_complete : {words : List (List ℕ)} {u w : World} (why : Why) (applied : Option Receipt) → Carries words u w why applied → (f : Files) (left : List ℕ)
+    → TellsFiles (job_of words) u f → TellsLeft (job_of words) u left → NoneFailed u w → IsComplete why applied f u w (command words f left)
+is_complete Done applied c f left told tells none = inl (c.answers f left told tells)
+is_complete Rejected applied c f left told tells none = inl (c.answers f left told tells)
+is_complete Usage applied c f left told tells none = inl (c.answers f left told tells)
+is_complete (Malformed line kind) applied c f left told tells none = inl (c.answers f left told tells)
+is_complete Garbage applied c f left told tells none = inl (c.answers f left told tells)
+is_complete (EdReverse line) applied c f left told tells none = inl (c.answers f left told tells)
+is_complete (OutMany count) applied c f left told tells none = inl (c.answers f left told tells)
+is_complete (Reserved line) applied c f left told tells none = inl (c.answers f left told tells)
+is_complete NoPatchFile applied c f left told tells none = inl (c.answers f left told tells)
+is_complete TooLong applied c f left told tells none = inl (c.answers f left told tells)
+is_complete (LongLine line length) applied c f left told tells none = inl (c.answers f left told tells)
+is_complete (FileTooLong length) applied c f left told tells none = inl (c.answers f left told tells)
+is_complete ReadFault applied c f left told tells none = absurd (none.source c.cause.1)
+is_complete WriteFault applied c f left told tells none = absurd (none.out c.cause)
+is_complete TreeFault applied c f left told tells none = absurd (none.tree c.cause)
+is_complete ScratchFault applied c f left told tells none = absurd (none.scratch c.cause)
+is_complete (Disagree want got) applied c f left told tells none = absurd (c.cause.1 f told)
+is_complete Memory applied c f left told tells none = inr refl
+is_complete Unsupported applied c f left told tells none = inl (c.answers f left told tells)
 
-  untouched_behind : (why : Why) → Passes v w → Untouched why v w a b → Untouched why u w a b
-  untouched_behind Usage passes x = as_before x passes
-  untouched_behind NoPatchFile passes x = as_before x passes
-  untouched_behind Unsupported passes x = as_before x passes
-  untouched_behind Done passes x = x
-  untouched_behind TreeFault passes x = x
-  untouched_behind (Disagree want got) passes x = x
-  untouched_behind WriteFault passes x = x
-  untouched_behind Memory passes x = x
-
-  answers_behind : (why : Why) (f : Files) → u.told ≡ Some f → Answers why f v w a b (p f) → Answers why f u w a b (o f)
-  answers_behind TreeFault f told x = first_part f told x
-  answers_behind WriteFault f told x = first_part f told x
-  answers_behind (Disagree want got) f told x = first_part f told x
-  answers_behind Memory f told x = first_part f told x
-  answers_behind Done f told x = answer Done f told x
-  answers_behind Usage f told x = answer Usage f told x
-  answers_behind NoPatchFile f told x = answer NoPatchFile f told x
-  answers_behind Unsupported f told x = answer Unsupported f told x
-
-  pub carries_behind : (why : Why) → Carries v w a b why p → Carries u w a b why o
-  carries_behind why c = record {
-    passes = passes_both opens.passes c.passes;
-    sink = c.sink;
-    cause = cause_behind why c.passes c.cause;
-    untouched = untouched_behind why c.passes c.untouched;
-    quiet = c.quiet;
-    answers = λ f told. answers_behind why f told (c.answers f (opens.told ∙ told));
-    images = λ f told. subst (λ (x : Outcome). LeavesAllowed u w f x.effects) (sym (is f told)) (λ k left. ⊎_elim
-        (λ before. inl (opens.images k before))
-        (λ later. ⊎_elim
-        (λ may. inl (opens.images k (v.moment, opens.passes.later, omega arith, may)))
-        (λ some. inr some)
-        (c.images f (opens.told ∙ told) k later))
-        (since_split c.passes u.moment k opens.passes.later left));
-  }
+-- ---- the line of the answer
+pub writes_whole : {R E : Type 0} (a b : SinkView) (s : Result R E) (p : List ℕ) → Writes a b s p → Receives a b p ⊎ Rises a b
+writes_whole a b (Ok r) p w = inl w.received
+writes_whole a b (Err e) p w = inr (w.call.cause refl)

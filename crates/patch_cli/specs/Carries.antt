@@ -19,13 +19,13 @@ use Rattle.patch_cli.specs.Worlds.{World, TellsFiles, TellsLeft, AsksFor, reads_
 use Rattle.patch_cli.specs.Causes.{HasCause}
 
 -- an answer of the command itself: its text, and the files after its effects
-pub record IsAnswer (why : Why) (applied : Option Receipt) (f : Files) (u w : World) (o : Outcome) : Type 0 where
+pub record IsAnswer (why : Why) (given : Option Receipt) (f : Files) (u w : World) (o : Outcome) : Type 0 where
   pub is : why ≡ o.why
   pub text : Receives u.out w.out o.text
   pub files : w.tree.told ≡ Some o.files
   -- which are the files at entry after the effects, temporary names aside
   pub made : SameLasting (after_all o.effects f) o.files
-  pub receipt : applied ≡ o.applied
+  pub applied : given ≡ o.applied
 
 -- a first part of the effects and of the text
 pub record FirstPart (u w : World) (o : Outcome) : Type 0 where
