@@ -2,11 +2,13 @@
 use Rattle.std.proofs.Common.{◌≡◌, ◌⊎◌, inl, inr, ⊎_elim, ℕ, zero, List, [], length, true, false, Bool, if◌then◌else◌, Option, Some, None, Result, Ok, Err, refl, sym, ◌∙◌, ap, subst, arith}
 use Rattle.std.proofs.lemmas.List.{append-nil}
 use Rattle.std.proofs.lemmas.Option.{same_Some}
+use Rattle.std.specs.FinMap.{get}
 use Rattle.outside.specs.Files.{Files, SameLasting, lasting-same}
 use Rattle.outside.specs.TreeView.{TreeView, Passes, passes_both}
 use Rattle.outside.specs.SinkView.{SinkView, SinkPasses, sink_passes_none, Receives, Rises, Writes}
 use Rattle.outside.specs.SourceView.{SourcePasses}
 use Rattle.outside.specs.ScratchView.{ScratchView, ScratchPasses, scratch_passes_none}
+use Rattle.outside.specs.Calls.{IsUntouched}
 use Rattle.outside.specs.Quiet.{LeavesPrefix}
 use Rattle.outside.proofs.Views.{rises_then, since_split}
 use Rattle.line_store.specs.declared.fault.OpenFault.{OpenFault}
@@ -20,11 +22,12 @@ use Rattle.patch_run.specs.Applied.{Receipt}
 use Rattle.patch_run.specs.Run.{Run, set_run}
 use Rattle.patch_run.specs.Doing as doing
 use Rattle.patch_run.specs.Faults.{of_open}
+use Rattle.patch_run.specs.Making.{IsTidy, UnlessFailed}
 use Rattle.patch_run.specs.declared.fault.RunFault.{RunFault}
 use Rattle.patch_run.specs.declared.fault.RunFault.TheVariants as runs
 use Rattle.patch_cli.specs.declared.why.Why.{Why}
 use Rattle.patch_cli.specs.declared.why.Why.TheVariants.{Done, Rejected, Usage, Malformed, Garbage, EdReverse, OutMany, Reserved, NoPatchFile, TooLong, LongLine, FileTooLong, ReadFault, WriteFault, TreeFault, ScratchFault, Disagree, Memory, Unsupported}
-use Rattle.patch_cli.specs.Answers.{Sort, sort_of, of_run}
+use Rattle.patch_cli.specs.Answers.{Sort, sort_of, is_fault, of_run}
 use Rattle.patch_cli.specs.Answers.Sort.{ended, halted, refusal, unread, broken, starved}
 use Rattle.patch_cli.specs.Command.{Outcome, command, refused, on_job, carried_out, end_of, receipt_if}
 use Rattle.patch_cli.specs.Worlds.{World, TellsFiles, TellsLeft, AsksFor, reads_source, pages_all}
@@ -35,6 +38,13 @@ use Rattle.patch_cli.specs.Finishes as finishes
 use Rattle.patch_cli.specs.Opening.{Opens, IsAsked, StopsBy, StopsEarly}
 use Rattle.patch_cli.specs.Carries.{IsAnswer, FirstPart, Answers, IsAsAtEntry, Untouched, QuietAfter, IsBehindReading, IsEnd, HasReceipt, LeavesAllowed, Carries, NoneFailed, IsComplete, why_of, receipt_of}
 use Rattle.patch_cli.proofs.Opens.{opens_both, opens_untouched}
+
+-- a tree that is told the same has no other temporary
+tidy_same : {u w : TreeView} → w.told ≡ u.told → IsTidy u w
+tidy_same told f g was now q temp = inr (ap (λ (x : Files). get x q) (same_Some _ _ (sym now ∙ told ∙ was)))
+
+tidy_behind : {u v w : TreeView} → v.told ≡ u.told → IsTidy v w → IsTidy u w
+tidy_behind told tidy f g was now q temp = tidy f g (told ∙ was) now q temp
 
 -- ---- an end before the first change
 no_receipt : (why : Why) (job : Result PlainJob WordFault) (u : World) → StopsBy (sort_of why) why job u → HasReceipt why None
@@ -133,6 +143,8 @@ carries_early {words = words} {u = u} {w = w} {why = why} opens scratch out sour
       unread = none_read;
       answers = λ f left told tells. answers_early why job same (sort_of why) stops.stops f left told tells;
       images = λ f left told tells c since. inl (opens.images c since);
+      tidy = λ is. tidy_same opens.told;
+      dry = λ is. opens;
       pages = λ is f left before told tells was. absurd (no_end why job same (sort_of why) stops.stops is);
     }
 
@@ -178,6 +190,15 @@ module _ (u w : World) {v : TreeView} (opens : Opens u.tree v) where
   cause_fault o (runs.FileTooLong length) cause = cause
   cause_fault o (runs.Disagree want got) cause = (cause.0, λ f told. cause.1 f (told_to o f told))
   cause_fault o runs.Memory cause = tt
+
+  tidy_fault : (e : RunFault) → UnlessFailed e (IsTidy v w.tree) → is_fault (of_run e) ≡ false → IsTidy u.tree w.tree
+  tidy_fault runs.Tree tidy is = absurd (cc)
+  tidy_fault runs.Write tidy is = absurd (cc)
+  tidy_fault runs.Scratch tidy is = absurd (cc)
+  tidy_fault (runs.LongLine line length) tidy is = tidy_behind opens.told tidy
+  tidy_fault (runs.FileTooLong length) tidy is = tidy_behind opens.told tidy
+  tidy_fault (runs.Disagree want got) tidy is = tidy_behind opens.told tidy
+  tidy_fault runs.Memory tidy is = tidy_behind opens.told tidy
 
   -- a paged plan that found no memory hasn't begun
   not_begun : finishes.IsNotBegun v w.tree u.scratch w.scratch u.out w.out → IsAsAtEntry u w
@@ -270,6 +291,9 @@ module _ (words : List (List ℕ)) (u w : World) {v : TreeView} {o : PlainOption
       (λ later. inr (moments f (tells_run f told) f (opens.told ∙ told.files) c later))
       (since_split passes u.tree.moment c opens.passes.later since))
 
+  dry_run : (o.dry_run ≡ true → IsUntouched v w.tree) → AsksFor (job_of words) (λ p. p.dry_run ≡ true) → Opens u.tree w.tree
+  dry_run same asks = opens_both opens (opens_untouched (same (subst (λ j. AsksFor j (λ p. p.dry_run ≡ true)) job asks)))
+
   module _ (source : SourcePasses u.source w.source) (none_read : reads_source (job_of words) ≡ false → w.source ≡ u.source)
       (read : reads_source (job_of words) ≡ true → (left : List ℕ) → u.source.told ≡ Some left → w.source.told ≡ Some []) where
     carries_fault : (e : RunFault) → Finishes o set v w.tree u.scratch w.scratch u.out w.out (Err e) → Carries words u w (of_run e) None
@@ -288,6 +312,8 @@ module _ (words : List (List ℕ)) (u w : World) {v : TreeView} {o : PlainOption
       answers = answers_run (of_run e) None (sort_of (of_run e)) (λ f told to. answers_fault u w opens e (set_run o set f) (length set.patches) f told (does.cut f to));
       images = images_run does.tree does.moments;
       pages = λ is f left before told tells was. absurd (end_fault e is);
+      tidy = tidy_fault u w opens e does.tidy;
+      dry = dry_run does.dry;
     }
 
     -- the run was broken off, or a file isn't taken
@@ -321,6 +347,8 @@ module _ (words : List (List ℕ)) (u w : World) {v : TreeView} {o : PlainOption
           unread = none_read;
           answers = answers_run why (Some receipt) (sort_of why) (λ f told to. subst (λ s. Answers s why (Some receipt) f u w (carried_out (length set.patches) (set_run o set f))) (sym is) (end_answer receipt does f told to));
           images = images_run does.tree does.moments;
+          tidy = λ none. tidy_behind opens.told does.tidy;
+          dry = dry_run does.dry;
           pages = λ finished f left before told tells was. subst (λ j. AsksFor j (λ p. w.scratch.told ≡ Some (scratch_behind_all p (command words f left).taken before))) (sym job)
               (does.holds f before (tells_run f told) was ∙ ap (λ (x : Outcome). Some (scratch_behind_all o x.taken before)) (sym (is_carried f left told tells)));
         }

@@ -77,6 +77,14 @@ sort_of ScratchFault = broken
 sort_of (Disagree want got) = broken
 sort_of Memory = starved
 
+-- a device failed
+abbrev pub is_fault : Why → Bool
+is_fault ReadFault = true
+is_fault WriteFault = true
+is_fault TreeFault = true
+is_fault ScratchFault = true
+is_fault why = false
+
 -- every file patch had its turn
 abbrev pub is_ended : Why → Bool
 is_ended Done = true

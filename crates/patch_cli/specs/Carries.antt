@@ -9,14 +9,16 @@ use Rattle.outside.specs.ScratchView.{ScratchPasses}
 use Rattle.outside.specs.Quiet.{IsQuiet, Effect, TellsPrefix, after_all}
 use Rattle.patch_options.specs.Words.{job_of}
 use Rattle.patch_run.specs.Applied.{Receipt}
+use Rattle.patch_run.specs.Making.{IsTidy}
 use Rattle.patch_cli.specs.declared.why.Why.{Why}
 use Rattle.patch_cli.specs.declared.why.Why.TheVariants.{Done, Rejected, Memory}
-use Rattle.patch_cli.specs.Answers.{Sort, sort_of}
+use Rattle.patch_cli.specs.Answers.{Sort, sort_of, is_fault}
 use Rattle.patch_cli.specs.Answers.Sort.{ended, halted, refusal, unread, broken, starved}
 use Rattle.patch_cli.specs.Scratches.{scratch_behind_all}
 use Rattle.patch_cli.specs.Command.{Outcome, command}
 use Rattle.patch_cli.specs.Worlds.{World, TellsFiles, TellsLeft, AsksFor, reads_source, pages_all}
 use Rattle.patch_cli.specs.Causes.{HasCause}
+use Rattle.patch_cli.specs.Opening.{Opens}
 
 -- an answer of the command itself: its text, and the files after its effects
 pub record IsAnswer (why : Why) (given : Option Receipt) (f : Files) (u w : World) (o : Outcome) : Type 0 where
@@ -114,6 +116,10 @@ pub record Carries (words : List (List ℕ)) (u w : World) (why : Why) (applied 
   pub unread : reads_source (job_of words) ≡ false → w.source ≡ u.source
   pub answers : (f : Files) (left : List ℕ) → TellsFiles (job_of words) u f → TellsLeft (job_of words) u left → Answers (sort_of why) why applied f u w (command words f left)
   pub images : (f : Files) (left : List ℕ) → TellsFiles (job_of words) u f → TellsLeft (job_of words) u left → LeavesAllowed u w f (command words f left).effects
+  -- unless a device failed, no temporary is left that the run started
+  pub tidy : is_fault why ≡ false → IsTidy u.tree w.tree
+  -- a dry run leaves the tree as it is told, whatever is told, and starts no temporary
+  pub dry : AsksFor (job_of words) (λ o. o.dry_run ≡ true) → Opens u.tree w.tree
   -- the scratch holds the pages of the last file that was kept there, or what it held
   pub pages : IsEnd (sort_of why) → (f : Files) (left before : List ℕ) → TellsFiles (job_of words) u f → TellsLeft (job_of words) u left → u.scratch.told ≡ Some before
       → AsksFor (job_of words) (λ o. w.scratch.told ≡ Some (scratch_behind_all o (command words f left).taken before))

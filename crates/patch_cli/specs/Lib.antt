@@ -5,5 +5,5 @@ pub mod Scratches
 pub mod Worlds
 pub mod Causes
 pub mod Finishes
-pub mod Carries
 pub mod Opening
+pub mod Carries
