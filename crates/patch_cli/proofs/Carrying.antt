@@ -32,11 +32,11 @@ use Rattle.patch_cli.specs.Answers.Sort.{ended, halted, refusal, unread, broken,
 use Rattle.patch_cli.specs.Command.{Outcome, command, refused, on_job, carried_out, end_of, receipt_if}
 use Rattle.patch_cli.specs.Worlds.{World, TellsFiles, TellsLeft, AsksFor, reads_source, pages_all}
 use Rattle.patch_cli.specs.Causes.{HasCause}
-use Rattle.patch_cli.specs.Scratches.{is_paged, scratch_behind_all}
+use Rattle.patch_cli.specs.Scratches.{scratch_behind_all}
 use Rattle.patch_cli.specs.Finishes.{IsToldTo, HasPlanCause, Finishes}
 use Rattle.patch_cli.specs.Finishes as finishes
 use Rattle.patch_cli.specs.Opening.{Opens, IsAsked, StopsBy, StopsEarly}
-use Rattle.patch_cli.specs.Carries.{IsAnswer, FirstPart, Answers, IsAsAtEntry, Untouched, QuietAfter, IsBehindReading, IsEnd, HasReceipt, LeavesAllowed, Carries, NoneFailed, IsComplete, why_of, receipt_of}
+use Rattle.patch_cli.specs.Carries.{IsAnswer, FirstPart, Answers, IsAsAtEntry, Untouched, QuietAfter, IsBehindReading, IsEnd, HasReceipt, LeavesAllowed, Carries, NoneFailed, IsComplete}
 use Rattle.patch_cli.proofs.Opens.{opens_both, opens_untouched}
 
 -- a tree that is told the same has no other temporary
@@ -357,6 +357,11 @@ module _ (words : List (List ℕ)) (u w : World) {v : TreeView} {o : PlainOption
     pub carries_end : (result : Result Receipt RunFault) (receipt : Receipt) → result ≡ Ok receipt → Finishes o set v w.tree u.scratch w.scratch u.out w.out result
         → Carries words u w (if receipt.is_bad then Rejected else Done) (Some receipt)
     carries_end result receipt is does = carries_done receipt (subst (λ (r : Result Receipt RunFault). Finishes o set v w.tree u.scratch w.scratch u.out w.out r) is does)
+
+-- the same by the names of its answer
+pub carries_as : {words : List (List ℕ)} {u w : World} {why : Why} {applied : Option Receipt} (y : Why) (given : Option Receipt) → y ≡ why → given ≡ applied → Carries words u w why applied → Carries words u w y given
+carries_as {words = words} {u = u} {w = w} {why = why} y given is was c =
+    subst (λ (x : Why). Carries words u w x given) (sym is) (subst (λ (x : Option Receipt). Carries words u w why x) (sym was) c)
 
 -- ---- where no device failed
 pub is_complete : {words : List (List ℕ)} {u w : World} (why : Why) (applied : Option Receipt) → Carries words u w why applied → (f : Files) (left : List ℕ)
