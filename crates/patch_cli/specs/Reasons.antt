@@ -1,5 +1,5 @@
 -- The line of an answer on standard error.
-use Rattle.std.specs.Prelude.{ℕ, List, [], ◌∷◌, ◌++◌, codes, Bool, true, false, if◌then◌else◌, bytes_eq, Option, None, Some}
+use Rattle.std.specs.Prelude.{ℕ, List, [], ◌∷◌, ◌++◌, codes, Bool, if◌then◌else◌, bytes_eq, Option, None, Some}
 use Rattle.std.specs.List.{list_any}
 use Rattle.num_text.specs.Numbers.{decimal}
 use Rattle.hunk_core.specs.declared.BadKind.{BadKind}

@@ -4,10 +4,12 @@
 
 mod devices;
 mod rows;
+mod scratches;
+mod turning;
 
 use crate::{Exit, run};
 use mem_world::{MemScratch, MemSink, MemSource, MemTree};
-use outside::{Name, Source, Tree};
+use outside::{Name, Scratch, Source, Tree};
 use std::alloc::Global;
 use std::process::Abort;
 use std::test::Fail;
@@ -44,6 +46,25 @@ fn words_of(alloc: Global, tool: &str, row: &str) -> Result<Vec<String>, Fail> {
     Ok(words)
 }
 
+/// Runs words over a tree, a scratch and what standard input has left.
+fn said_over<T: Tree, C: Scratch + Drop, I: Source>(
+    alloc: Global,
+    words: &[String],
+    tree: &mut T,
+    scratch: C,
+    input: &mut I,
+) -> Result<(Said, C), Fail> {
+    let mut out = MemSink::new(alloc, Vec::new(alloc));
+    let mut err = MemSink::new(alloc, Vec::new(alloc));
+    let (exit, scratch) = run(alloc, words, tree, scratch, input, &mut out, &mut err);
+    let said = Said {
+        exit,
+        out: Vec::from_slice(alloc, out.bytes())?,
+        err: Vec::from_slice(alloc, err.bytes())?,
+    };
+    Ok((said, scratch))
+}
+
 /// Runs words over a tree and what standard input has left.
 fn said_by<T: Tree, I: Source>(
     alloc: Global,
@@ -52,14 +73,8 @@ fn said_by<T: Tree, I: Source>(
     input: &mut I,
 ) -> Result<Said, Fail> {
     let scratch = MemScratch::new(alloc, Vec::new(alloc));
-    let mut out = MemSink::new(alloc, Vec::new(alloc));
-    let mut err = MemSink::new(alloc, Vec::new(alloc));
-    let (exit, _scratch) = run(alloc, words, tree, scratch, input, &mut out, &mut err);
-    Ok(Said {
-        exit,
-        out: Vec::from_slice(alloc, out.bytes())?,
-        err: Vec::from_slice(alloc, err.bytes())?,
-    })
+    let (said, _scratch) = said_over(alloc, words, tree, scratch, input)?;
+    Ok(said)
 }
 
 /// What stands behind a label, or nothing.
