@@ -40,11 +40,11 @@ use Rattle.patch_cli.specs.Carries.{IsAnswer, FirstPart, Answers, IsAsAtEntry, U
 use Rattle.patch_cli.proofs.Opens.{opens_both, opens_untouched}
 
 -- a tree that is told the same has no other temporary
-tidy_same : {u w : TreeView} → w.told ≡ u.told → IsTidy u w
-tidy_same told f g was now q temp = inr (ap (λ (x : Files). get x q) (same_Some _ _ (sym now ∙ told ∙ was)))
+tidy_same : (u w : TreeView) → w.told ≡ u.told → IsTidy u w
+tidy_same u w told f g was now q temp = inr (ap (λ (x : Files). get x q) (same_Some _ _ (sym now ∙ told ∙ was)))
 
-tidy_behind : {u v w : TreeView} → v.told ≡ u.told → IsTidy v w → IsTidy u w
-tidy_behind told tidy f g was now q temp = tidy f g (told ∙ was) now q temp
+tidy_behind : (u v w : TreeView) → v.told ≡ u.told → IsTidy v w → IsTidy u w
+tidy_behind u v w told tidy f g was now q temp = tidy f g (told ∙ was) now q temp
 
 -- ---- an end before the first change
 no_receipt : (why : Why) (job : Result PlainJob WordFault) (u : World) → StopsBy (sort_of why) why job u → HasReceipt why None
@@ -143,7 +143,7 @@ carries_early {words = words} {u = u} {w = w} {why = why} opens scratch out sour
       unread = none_read;
       answers = λ f left told tells. answers_early why job same (sort_of why) stops.stops f left told tells;
       images = λ f left told tells c since. inl (opens.images c since);
-      tidy = λ is. tidy_same opens.told;
+      tidy = λ is. tidy_same u.tree w.tree opens.told;
       dry = λ is. opens;
       pages = λ is f left before told tells was. absurd (no_end why job same (sort_of why) stops.stops is);
     }
@@ -195,10 +195,10 @@ module _ (u w : World) {v : TreeView} (opens : Opens u.tree v) where
   tidy_fault runs.Tree tidy is = absurd (cc)
   tidy_fault runs.Write tidy is = absurd (cc)
   tidy_fault runs.Scratch tidy is = absurd (cc)
-  tidy_fault (runs.LongLine line length) tidy is = tidy_behind opens.told tidy
-  tidy_fault (runs.FileTooLong length) tidy is = tidy_behind opens.told tidy
-  tidy_fault (runs.Disagree want got) tidy is = tidy_behind opens.told tidy
-  tidy_fault runs.Memory tidy is = tidy_behind opens.told tidy
+  tidy_fault (runs.LongLine line length) tidy is = tidy_behind u.tree v w.tree opens.told tidy
+  tidy_fault (runs.FileTooLong length) tidy is = tidy_behind u.tree v w.tree opens.told tidy
+  tidy_fault (runs.Disagree want got) tidy is = tidy_behind u.tree v w.tree opens.told tidy
+  tidy_fault runs.Memory tidy is = tidy_behind u.tree v w.tree opens.told tidy
 
   -- a paged plan that found no memory hasn't begun
   not_begun : finishes.IsNotBegun v w.tree u.scratch w.scratch u.out w.out → IsAsAtEntry u w
@@ -347,7 +347,7 @@ module _ (words : List (List ℕ)) (u w : World) {v : TreeView} {o : PlainOption
           unread = none_read;
           answers = answers_run why (Some receipt) (sort_of why) (λ f told to. subst (λ s. Answers s why (Some receipt) f u w (carried_out (length set.patches) (set_run o set f))) (sym is) (end_answer receipt does f told to));
           images = images_run does.tree does.moments;
-          tidy = λ none. tidy_behind opens.told does.tidy;
+          tidy = λ none. tidy_behind u.tree v w.tree opens.told does.tidy;
           dry = dry_run does.dry;
           pages = λ finished f left before told tells was. subst (λ j. AsksFor j (λ p. w.scratch.told ≡ Some (scratch_behind_all p (command words f left).taken before))) (sym job)
               (does.holds f before (tells_run f told) was ∙ ap (λ (x : Outcome). Some (scratch_behind_all o x.taken before)) (sym (is_carried f left told tells)));

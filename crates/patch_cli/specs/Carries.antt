@@ -1,5 +1,5 @@
 -- What a run promises: that it is the command's, and what stands at each moment.
-use Rattle.std.specs.Prelude.{◌≡◌, ◌⊎◌, ℕ, ◌≤◌, List, [], length, take, Bool, true, false, Option, Some, None, Result, Ok, Err, IsSomeAnd, if◌then◌else◌}
+use Rattle.std.specs.Prelude.{◌≡◌, ◌⊎◌, ℕ, ◌≤◌, List, [], length, take, true, false, Option, Some, None, Result, Ok, Err, IsSomeAnd, if◌then◌else◌}
 use Rattle.outside.specs.Faults.{HasRisen}
 use Rattle.outside.specs.Files.{Files, SameLasting}
 use Rattle.outside.specs.TreeView.{Passes, MayLeave, LeftSince}

@@ -1,5 +1,5 @@
 -- What comes before the first change.
-use Rattle.std.specs.Prelude.{◌≡◌, ℕ, List, length, true, Option, Some, Result, Ok, Err}
+use Rattle.std.specs.Prelude.{◌≡◌, ℕ, List, length, Result, Ok}
 use Rattle.outside.specs.Files.{Files}
 use Rattle.outside.specs.TreeView.{TreeView, Passes, MayLeave, LeftSince}
 use Rattle.patch_options.specs.PlainJob.{PlainOptions, PlainJob}
