@@ -17,3 +17,4 @@ mod Turning
 mod Rejecting
 mod Telling
 mod Tidy
+mod DoneNone
