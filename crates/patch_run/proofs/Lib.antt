@@ -18,3 +18,4 @@ mod Rejecting
 mod Telling
 mod Tidy
 mod DoneNone
+mod BackedUp
