@@ -146,7 +146,7 @@ module _ (o : PlainOptions) (output : Option Target) (xs : List Item) (i : Item)
       ∙ next_item o output (run_of o output xs f) i going
       ∙ ap (λ (x : PlainTurn). with_ending x (run_of o output xs f) (ending x (run_of o output xs f).files)) same
 
-  whole-next : (ys : List Item) → run_of o output (xs ++ i ∷ ys) f ≡ run_on o output ys (with_ending t (run_of o output xs f) (ending t (run_of o output xs f).files))
+  pub whole-next : (ys : List Item) → run_of o output (xs ++ i ∷ ys) f ≡ run_on o output ys (with_ending t (run_of o output xs f) (ending t (run_of o output xs f).files))
   whole-next ys =
       ap (λ (l : List Item). run_of o output l f) (sym (append_assoc xs (i ∷ []) ys))
       ∙ run-both o output (xs ++ i ∷ []) ys (begun f)

@@ -17,3 +17,5 @@ mod Turning
 mod Rejecting
 mod Telling
 mod Tidy
+mod DoneNone
+mod BackedUp

@@ -10,3 +10,4 @@ pub mod TurnView
 pub mod Applied
 pub mod Doing
 pub mod Auto
+pub mod Laws

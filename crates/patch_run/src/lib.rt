@@ -9,6 +9,7 @@ mod discard;
 mod effects;
 mod fault;
 mod fill;
+mod laws;
 mod names;
 mod past;
 mod rejects;
@@ -22,6 +23,7 @@ mod word;
 pub use applied::Applied;
 pub use auto::AutoPlan;
 pub use fault::RunFault;
+pub use laws::run_laws;
 pub use set::apply_set;
 
 #[cfg(test)]

@@ -4,7 +4,7 @@ ghost use Rattle.std.specs.Prelude.{IfOk, OnOk};
 ghost use Rattle.outside.specs.Quiet.{IsQuiet};
 ghost use Rattle.patch_options.specs.PlainJob.{plain_options, IsLawful};
 
-use crate::{Applied, apply_set};
+use crate::{Applied, apply_set, run_laws};
 use hunk_core::Verdict;
 use mem_world::{MemSink, MemTree};
 use outside::{Failed, Name, Tree};
@@ -103,9 +103,9 @@ fn name_of(alloc: Global, text: &str) -> Result<Name, Fail> {
     }
 }
 
-/// A settled tree with these files.
-fn tree_of(alloc: Global, files: &str) -> Result<MemTree, Fail> {
-    let mut tree = MemTree::new(alloc, Vec::new(alloc));
+/// A tree with these files, whose calls with these numbers fail.
+fn tree_of(alloc: Global, files: &str, failing: &[u32]) -> Result<MemTree, Fail> {
+    let mut tree = MemTree::new(alloc, Vec::from_slice(alloc, failing)?);
     for file in files.split(' ') {
         let (name, lines) = file.split_once('=').ok_or("no file")?;
         tree.add(name_of(alloc, name)?, bytes_of(alloc, lines)?)?;
@@ -180,7 +180,7 @@ fn has_files(alloc: Global, tree: &MemTree, files: &str) -> Result<bool, Fail> {
 
 fn assert_case(rt: &impl Abort, alloc: Global, case: &Case) -> Result<(), Fail> {
     let options = options_of(alloc, case.words)?;
-    let mut tree = tree_of(alloc, case.files)?;
+    let mut tree = tree_of(alloc, case.files, &[])?;
     let mut out = MemSink::new(alloc, Vec::new(alloc));
     let answer = answer_of(alloc, &options, case.patch, &mut tree, &mut out)?;
     assert_eq!(*rt; answer.as_str(), case.answer, "{}", case.words);
@@ -198,6 +198,28 @@ fn assert_case(rt: &impl Abort, alloc: Global, case: &Case) -> Result<(), Fail> 
 fn runs(rt: HostRuntime) -> Result<(), Fail> {
     for case in &CASES {
         assert_case(&rt, rt.alloc(), case)?;
+    }
+    run_laws();
+    Ok(())
+}
+
+/// The tree is settled, asked twice for the size of the file, and read; then the temporary is begun.
+const FIRST_APPEND: u32 = 7;
+
+#[test]
+fn first_append_fails(rt: HostRuntime) -> Result<(), Fail> {
+    let alloc = rt.alloc();
+    let options = options_of(alloc, "patch")?;
+    let mut tree = tree_of(alloc, "f=a,b,c", &[FIRST_APPEND])?;
+    let mut out = MemSink::new(alloc, Vec::new(alloc));
+    let answer = answer_of(alloc, &options, ONE, &mut tree, &mut out)?;
+    assert_eq!(rt; answer.as_str(), "Tree");
+    assert_eq!(rt; str::from_utf8(out.bytes()), Ok("patching file f\n"));
+    assert!(rt; has_files(alloc, &tree, "f=a,b,c f.orig=!")?);
+    assert_eq!(rt; tree.calls(), FIRST_APPEND);
+    match tree.bytes_of(&name_of(alloc, "f.ptmp")?) {
+        Some(bytes) => assert!(rt; bytes.is_empty()),
+        None => assert!(rt; false),
     }
     Ok(())
 }

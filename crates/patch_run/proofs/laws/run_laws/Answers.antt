@@ -1,0 +1,15 @@
+use Rattle.patch_run.proofs.DoneNone.{skipped_ignored, dry_effects, dry_files}
+use Rattle.patch_run.proofs.BackedUp.{backed_once}
+use Rattle.patch_run.proofs.laws.run_laws.Goals as goal
+
+pub returns-clause-skipped : goal.returns-clause-skipped
+returns-clause-skipped c t files is = skipped_ignored t files is
+
+pub returns-clause-dry : goal.returns-clause-dry
+returns-clause-dry c o output items files dry = dry_effects o output items files dry
+
+pub returns-clause-same : goal.returns-clause-same
+returns-clause-same c o output items files dry = dry_files o output items files dry
+
+pub returns-clause-once : goal.returns-clause-once
+returns-clause-once c o output front behind i j files w vs going has = backed_once o output front behind i j files w vs going has
