@@ -219,7 +219,8 @@ fn has_files(alloc: Global, tree: &MemTree, row: &str) -> Result<bool, Fail> {
 fn is_kept(alloc: Global, tool: &str, row: &str) -> Result<bool, Fail> {
     let words = words_of(alloc, tool, row)?;
     let mut tree = tree_of(alloc, row, Vec::new(alloc))?;
-    let mut input = MemSource::new(alloc, Vec::new(alloc), Vec::new(alloc));
+    let left = Vec::from_slice(alloc, text_of(alloc, field(row, "input "))?.as_bytes())?;
+    let mut input = MemSource::new(alloc, left, Vec::new(alloc));
     let said = said_by(alloc, &words, &mut tree, &mut input)?;
     Ok(is_said(alloc, &said, row)? && has_files(alloc, &tree, row)?)
 }

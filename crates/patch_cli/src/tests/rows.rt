@@ -12,6 +12,13 @@ answer Done 0
 out patching file f|
 after f=a|B|c|
 
+words patch f
+file f=a|b|c|
+input --- f|+++ f|@@ -1,3 +1,3 @@| a|-b|+B| c|
+answer Done 0
+out patching file f|
+after f=a|B|c|
+
 words patch f p.diff
 file f=x|y|a|b|c|
 file p.diff=--- f|+++ f|@@ -1,3 +1,3 @@| a|-b|+B| c|
