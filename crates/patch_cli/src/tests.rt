@@ -3,8 +3,10 @@
 //! A row is a text of labelled lines, in which a bar stands for a line's end. What it doesn't name is empty, or as it was.
 
 mod devices;
+mod failing;
 mod rows;
 mod scratches;
+mod texts;
 mod turning;
 
 use crate::{Exit, run};

@@ -79,7 +79,7 @@ after f.orig=a|b|c|
 ";
 
 /// Whether the files are those at one of the moments between the effects.
-fn is_moment(alloc: Global, tree: &MemTree) -> Result<bool, Fail> {
+pub fn is_moment(alloc: Global, tree: &MemTree) -> Result<bool, Fail> {
     if is_missing(alloc, tree, "f.orig")? {
         return has_file(alloc, tree, "f=a|b|c|");
     }
