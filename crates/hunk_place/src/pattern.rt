@@ -57,8 +57,14 @@ impl<'a> Pattern<'a> {
         }
     }
 
-    /// Whether the pattern's lines are those of the store when the first old line stands at `at`.
-    pub fn fits_at<S: LineStore>(&self, store: &mut S, at: u64) -> Result<bool, LineFault>
+    /// Whether the pattern's lines are those of the store when the first old line stands at `at`. They are looked at in
+    /// this half.
+    pub fn fits_at<S: LineStore>(
+        &self,
+        store: &mut S,
+        at: u64,
+        half: Half,
+    ) -> Result<bool, LineFault>
         requires pattern { IsPattern self.now }
         requires within { LieWithin self.now (S.seen store.old).count at }
         ensures value { IfOk result (λ yes. (lines : List (List ℕ)) → (S.seen store.old).told ≡ Some lines → (back : ℕ) → self.now.last ≡ taken_count self.now.side self.now.hunk.now.body.items - back → yes ≡ fits lines (taken_lines self.now.text.now self.now.side self.now.hunk.now) self.now.loose self.now.front back at) }
@@ -73,7 +79,7 @@ impl<'a> Pattern<'a> {
             let line = &self.hunk.body[k];
             if is_taken(line.mark, self.side) {
                 let want = &self.text[line.span.start as usize..line.span.end as usize];
-                if !is_line(store, want, at + i as u64, self.loose)? {
+                if !is_line(store, want, at + i as u64, half, self.loose)? {
                     return Ok(false);
                 }
                 i += 1;
@@ -100,14 +106,20 @@ fn index_behind(text: &[u8], hunk: &Hunk, side: Side, front: u32) -> usize
     hunk.body.len()
 }
 
-/// Whether the store's line `k` is this one.
-fn is_line<S: LineStore>(store: &mut S, want: &[u8], k: u64, loose: bool) -> Result<bool, LineFault>
+/// Whether the store's line `k`, fetched into a half, is this one.
+fn is_line<S: LineStore>(
+    store: &mut S,
+    want: &[u8],
+    k: u64,
+    half: Half,
+    loose: bool,
+) -> Result<bool, LineFault>
     requires low { 1 ≤ k }
     requires high { k ≤ (S.seen store.old).count }
     ensures value { IfOk result (λ yes. (lines : List (List ℕ)) → (S.seen store.old).told ≡ Some lines → yes ≡ same_line loose want.now (line_at lines k)) }
     ensures keeps { Keeps (S.seen store.old) (S.seen store.new) }
     ensures cause { IfErr result (λ e. HasCause e (S.seen store.old) (S.seen store.new)) }
 {
-    store.load(k, Half::First)?;
-    Ok(are_same(want, store.line(Half::First), loose))
+    store.load(k, half)?;
+    Ok(are_same(want, store.line(half), loose))
 }
