@@ -7,7 +7,7 @@ use crate::files::read_whole;
 use outside::{Failed, Scratch};
 use std::fs::{File, OpenOptions};
 use std::io::ErrorKind;
-use std::os::unix::fs::FileExt;
+use std::os::unix::fs::{FileExt, OpenOptionsExt};
 use std::rt::Files;
 use std::{fs, io};
 
@@ -67,7 +67,8 @@ fn empty<R: Files<File = File>>(rt: &R, kept: &mut Option<File>) -> io::Result<(
     }
 }
 
-/// A new file in place of an old one of that name, so that a planted link is never followed.
+/// A new file in place of an old one of that name, so that a planted link is never followed. Only its owner reads it, since
+/// it holds the lines of files that may be private.
 fn make_scratch<R: Files>(rt: &R) -> io::Result<R::File> {
     match fs::remove_file(rt, NAME) {
         Ok(()) => {}
@@ -78,6 +79,7 @@ fn make_scratch<R: Files>(rt: &R) -> io::Result<R::File> {
         .read(true)
         .write(true)
         .create_new(true)
+        .mode(0o600)
         .open(rt, NAME)
 }
 
