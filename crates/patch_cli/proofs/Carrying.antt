@@ -18,6 +18,7 @@ use Rattle.patch_options.specs.PlainJob.PlainJob.{patch}
 use Rattle.patch_options.specs.Words.{job_of}
 use Rattle.patch_options.specs.declared.options.WordFault.{WordFault}
 use Rattle.patch_set.specs.SetView.{SetView}
+use Rattle.patch_input.specs.Input.{TakesAtMost}
 use Rattle.patch_run.specs.Applied.{Receipt}
 use Rattle.patch_run.specs.Run.{Run, set_run}
 use Rattle.patch_run.specs.Doing as doing
@@ -27,7 +28,7 @@ use Rattle.patch_run.specs.declared.fault.RunFault.{RunFault}
 use Rattle.patch_run.specs.declared.fault.RunFault.TheVariants as runs
 use Rattle.patch_cli.specs.declared.why.Why.{Why}
 use Rattle.patch_cli.specs.declared.why.Why.TheVariants.{Done, Rejected, Usage, Malformed, Garbage, EdReverse, OutMany, Reserved, NoPatchFile, TooLong, LongLine, FileTooLong, ReadFault, WriteFault, TreeFault, ScratchFault, Disagree, Memory, Unsupported}
-use Rattle.patch_cli.specs.Answers.{Sort, sort_of, is_fault, of_run}
+use Rattle.patch_cli.specs.Answers.{Sort, sort_of, is_fault, IsEarly, of_run}
 use Rattle.patch_cli.specs.Answers.Sort.{ended, halted, refusal, unread, broken, starved}
 use Rattle.patch_cli.specs.Command.{Outcome, command, refused, on_job, carried_out, end_of, receipt_if}
 use Rattle.patch_cli.specs.Worlds.{World, TellsFiles, TellsLeft, AsksFor, reads_source, pages_all}
@@ -124,9 +125,9 @@ module _ {u w : World} (why : Why) (job : Result PlainJob WordFault) (same : IsA
   answers_early broken stops f left told tells = nothing_yet f (on_job job f left) told.files
   answers_early starved stops f left told tells = nothing_yet f (on_job job f left) told.files
 
-pub carries_early : {words : List (List ℕ)} {u w : World} {why : Why} → Opens u.tree w.tree → w.scratch ≡ u.scratch → w.out ≡ u.out → SourcePasses u.source w.source
+pub carries_early : {words : List (List ℕ)} {u w : World} {why : Why} → Opens u.tree w.tree → w.scratch ≡ u.scratch → w.out ≡ u.out → SourcePasses u.source w.source → TakesAtMost 268435457 u.source w.source
     → (reads_source (job_of words) ≡ false → w.source ≡ u.source) → StopsEarly why (job_of words) u w → Carries words u w why None
-carries_early {words = words} {u = u} {w = w} {why = why} opens scratch out source none_read stops =
+carries_early {words = words} {u = u} {w = w} {why = why} opens scratch out source taken none_read stops =
     let same : IsAsAtEntry u w = record { told = opens.told; scratch = scratch; out = out; images = opens.images } in
     let job = job_of words in
     record {
@@ -141,6 +142,7 @@ carries_early {words = words} {u = u} {w = w} {why = why} opens scratch out sour
       starved = λ is pages. same;
       read = λ behind reads left told. absurd (not_behind why job same (sort_of why) stops.stops behind);
       unread = none_read;
+      taken = taken;
       answers = λ f left told tells. answers_early why job same (sort_of why) stops.stops f left told tells;
       images = λ f left told tells c since. inl (opens.images c since);
       tidy = λ is. tidy_same u.tree w.tree opens.told;
@@ -294,7 +296,7 @@ module _ (words : List (List ℕ)) (u w : World) {v : TreeView} {o : PlainOption
   dry_run : (o.dry_run ≡ true → IsUntouched v w.tree) → AsksFor (job_of words) (λ p. p.dry_run ≡ true) → Opens u.tree w.tree
   dry_run same asks = opens_both opens (opens_untouched (same (subst (λ j. AsksFor j (λ p. p.dry_run ≡ true)) job asks)))
 
-  module _ (source : SourcePasses u.source w.source) (none_read : reads_source (job_of words) ≡ false → w.source ≡ u.source)
+  module _ (source : SourcePasses u.source w.source) (taken : TakesAtMost 268435457 u.source w.source) (none_read : reads_source (job_of words) ≡ false → w.source ≡ u.source)
       (read : reads_source (job_of words) ≡ true → (left : List ℕ) → u.source.told ≡ Some left → w.source.told ≡ Some []) where
     carries_fault : (e : RunFault) → Finishes o set v w.tree u.scratch w.scratch u.out w.out (Err e) → Carries words u w (of_run e) None
     carries_fault e does = record {
@@ -309,6 +311,7 @@ module _ (words : List (List ℕ)) (u w : World) {v : TreeView} {o : PlainOption
       starved = λ is pages. not_begun u w opens (does.starved (ap (λ (x : RunFault). Err x) (memory_fault e is)) (subst (λ j. pages_all j ≡ true) job pages));
       read = λ behind. read;
       unread = none_read;
+      taken = taken;
       answers = answers_run (of_run e) None (sort_of (of_run e)) (λ f told to. answers_fault u w opens e (set_run o set f) (length set.patches) f told (does.cut f to));
       images = images_run does.tree does.moments;
       pages = λ is f left before told tells was. absurd (end_fault e is);
@@ -345,6 +348,7 @@ module _ (words : List (List ℕ)) (u w : World) {v : TreeView} {o : PlainOption
           starved = λ is pages. absurd (ended_memory receipt.is_bad is);
           read = λ behind. read;
           unread = none_read;
+          taken = taken;
           answers = answers_run why (Some receipt) (sort_of why) (λ f told to. subst (λ s. Answers s why (Some receipt) f u w (carried_out (length set.patches) (set_run o set f))) (sym is) (end_answer receipt does f told to));
           images = images_run does.tree does.moments;
           tidy = λ none. tidy_behind u.tree v w.tree opens.told does.tidy;
@@ -362,6 +366,16 @@ module _ (words : List (List ℕ)) (u w : World) {v : TreeView} {o : PlainOption
 pub carries_as : {words : List (List ℕ)} {u w : World} {why : Why} {applied : Option Receipt} (y : Why) (given : Option Receipt) → y ≡ why → given ≡ applied → Carries words u w why applied → Carries words u w y given
 carries_as {words = words} {u = u} {w = w} {why = why} y given is was c =
     subst (λ (x : Why). Carries words u w x given) (sym is) (subst (λ (x : Option Receipt). Carries words u w why x) (sym was) c)
+
+-- the plan was made, so the answer isn't early
+pub not_early : (e : RunFault) (why : Why) → why ≡ of_run e → IsEarly (sort_of why) → ⊥
+not_early runs.Tree why is early = subst (λ (x : Why). IsEarly (sort_of x)) is early
+not_early runs.Write why is early = subst (λ (x : Why). IsEarly (sort_of x)) is early
+not_early runs.Scratch why is early = subst (λ (x : Why). IsEarly (sort_of x)) is early
+not_early (runs.LongLine line length) why is early = subst (λ (x : Why). IsEarly (sort_of x)) is early
+not_early (runs.FileTooLong length) why is early = subst (λ (x : Why). IsEarly (sort_of x)) is early
+not_early (runs.Disagree want got) why is early = subst (λ (x : Why). IsEarly (sort_of x)) is early
+not_early runs.Memory why is early = subst (λ (x : Why). IsEarly (sort_of x)) is early
 
 -- ---- where no device failed
 pub is_complete : {words : List (List ℕ)} {u w : World} (why : Why) (applied : Option Receipt) → Carries words u w why applied → (f : Files) (left : List ℕ)

@@ -91,6 +91,15 @@ is_ended Done = true
 is_ended Rejected = true
 is_ended why = false
 
+-- an answer before the first change
+abbrev pub IsEarly : Sort → Type 0
+IsEarly ended = ⊥
+IsEarly halted = ⊥
+IsEarly refusal = Unit {0}
+IsEarly unread = Unit {0}
+IsEarly broken = ⊥
+IsEarly starved = ⊥
+
 -- the exit status
 abbrev pub exit_status : Why → ℕ
 exit_status Done = 0

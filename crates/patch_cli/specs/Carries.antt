@@ -8,6 +8,7 @@ use Rattle.outside.specs.SourceView.{SourcePasses}
 use Rattle.outside.specs.ScratchView.{ScratchPasses}
 use Rattle.outside.specs.Quiet.{IsQuiet, Effect, TellsPrefix, after_all}
 use Rattle.patch_options.specs.Words.{job_of}
+use Rattle.patch_input.specs.Input.{TakesAtMost}
 use Rattle.patch_run.specs.Applied.{Receipt}
 use Rattle.patch_run.specs.Making.{IsTidy}
 use Rattle.patch_cli.specs.declared.why.Why.{Why}
@@ -114,6 +115,8 @@ pub record Carries (words : List (List ℕ)) (u w : World) (why : Why) (applied 
   -- standard input is read to its end, or not at all
   pub read : IsBehindReading (sort_of why) → reads_source (job_of words) ≡ true → (left : List ℕ) → u.source.told ≡ Some left → w.source.told ≡ Some []
   pub unread : reads_source (job_of words) ≡ false → w.source ≡ u.source
+  -- one that never ends is left behind the longest text and one byte
+  pub taken : TakesAtMost 268435457 u.source w.source
   pub answers : (f : Files) (left : List ℕ) → TellsFiles (job_of words) u f → TellsLeft (job_of words) u left → Answers (sort_of why) why applied f u w (command words f left)
   pub images : (f : Files) (left : List ℕ) → TellsFiles (job_of words) u f → TellsLeft (job_of words) u left → LeavesAllowed u w f (command words f left).effects
   -- unless a device failed, no temporary is left that the run started

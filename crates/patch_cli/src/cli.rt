@@ -1,9 +1,10 @@
 //! The whole run.
-ghost use Rattle.std.specs.Prelude.{◌≡◌, ◌⊎◌, ℕ, List, map, false, string_bytes};
+ghost use Rattle.std.specs.Prelude.{◌≡◌, ◌⊎◌, ℕ, List, map, false, Ok, Err, string_bytes};
 ghost use Rattle.outside.specs.Files.{Files};
 ghost use Rattle.outside.specs.SinkView.{Receives, ReceivesPart, Rises};
 ghost use Rattle.patch_options.specs.Words.{job_of};
-ghost use Rattle.patch_cli.specs.Answers.{exit_status};
+ghost use Rattle.patch_options.specs.declared.options.WordFault.{WordFault};
+ghost use Rattle.patch_cli.specs.Answers.{exit_status, of_words, sort_of, IsEarly};
 ghost use Rattle.patch_cli.specs.Command.{command};
 ghost use Rattle.patch_cli.specs.Reasons.{refusal_line};
 ghost use Rattle.patch_cli.specs.Worlds.{world, TellsFiles, TellsLeft, reads_source, uses_scratch};
@@ -50,6 +51,12 @@ pub fn run<T: Tree, C: Scratch, I: Source, O: Sink, E: Sink>(
         → NoneFailed (world (T.view tree.old) (C.view scratch) (I.view input.old) (O.view out.old)) (world (T.view tree.new) (C.view result.1) (I.view input.new) (O.view out.new))
         → IsComplete result.0.why result.0.applied f (world (T.view tree.old) (C.view scratch) (I.view input.old) (O.view out.old)) (world (T.view tree.new) (C.view result.1) (I.view input.new) (O.view out.new)) (command (map string_bytes words.now) f left) }
     ensures status { result.0.status ≡ exit_status result.0.why }
+
+    // Words that give no job are answered before any device is called, and refusals before the output or the scratch is.
+    ensures words { (fault : WordFault) → job_of (map string_bytes words.now) ≡ Err fault → (result.0.why ≡ of_words fault) ⊎ (result.0.why ≡ Why.Memory) }
+    ensures still { (fault : WordFault) → job_of (map string_bytes words.now) ≡ Err fault → tree.new ≡ tree.old }
+    ensures early_out { IsEarly (sort_of result.0.why) → out.new ≡ out.old }
+    ensures early_scratch { IsEarly (sort_of result.0.why) → result.1 ≡ scratch }
     ensures scratch { uses_scratch (job_of (map string_bytes words.now)) ≡ false → result.1 ≡ scratch }
     ensures input { reads_source (job_of (map string_bytes words.now)) ≡ false → input.new ≡ input.old }
     ensures out_rest { O.same_rest out.old out.new }
@@ -119,6 +126,10 @@ fn carry_out<T: Tree, C: Scratch, I: Source, O: Sink>(
     out: &mut O,
 ) -> (Result<Applied, Why>, C)
     ensures carries { Carries (map string_bytes words.now) (world (T.view tree.old) (C.view scratch) (I.view input.old) (O.view out.old)) (world (T.view tree.new) (C.view result.1) (I.view input.new) (O.view out.new)) (why_of result.0) (receipt_of result.0) }
+    ensures words { (fault : WordFault) → job_of (map string_bytes words.now) ≡ Err fault → (why_of result.0 ≡ of_words fault) ⊎ (why_of result.0 ≡ Why.Memory) }
+    ensures still { (fault : WordFault) → job_of (map string_bytes words.now) ≡ Err fault → tree.new ≡ tree.old }
+    ensures early_out { IsEarly (sort_of (why_of result.0)) → out.new ≡ out.old }
+    ensures early_scratch { IsEarly (sort_of (why_of result.0)) → result.1 ≡ scratch }
     ensures scratch { uses_scratch (job_of (map string_bytes words.now)) ≡ false → result.1 ≡ scratch }
     ensures input { reads_source (job_of (map string_bytes words.now)) ≡ false → input.new ≡ input.old }
     ensures rest { O.same_rest out.old out.new }

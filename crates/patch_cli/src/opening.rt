@@ -1,5 +1,5 @@
 //! What comes before the first change: the words are read, the tree is settled, and the patch text is read.
-ghost use Rattle.std.specs.Prelude.{◌≡◌, ◌⊎◌, [], ℕ, List, map, false, true, Some, Ok, Err, OnOk, IfOk, IfErr, string_bytes};
+ghost use Rattle.std.specs.Prelude.{◌≡◌, ◌⊎◌, [], ℕ, List, map, false, true, Some, Ok, Err, OnOk, IfOk, IfErr, IsErrAnd, string_bytes};
 ghost use Rattle.outside.specs.TreeView.{Rises};
 ghost use Rattle.outside.specs.Calls.{IsUntouched};
 ghost use Rattle.outside.specs.SourceView.{SourcePasses};
@@ -10,6 +10,7 @@ ghost use Rattle.patch_options.specs.PlainJob.{plain_options, IsLawful};
 ghost use Rattle.patch_options.specs.PlainJob.PlainJob.{patch};
 ghost use Rattle.patch_options.specs.Words.{job_of};
 ghost use Rattle.patch_options.specs.declared.options.WordFault.{WordFault as TheFault};
+ghost use Rattle.patch_input.specs.Input.{TakesAtMost};
 ghost use Rattle.patch_cli.specs.Answers.{of_words};
 ghost use Rattle.patch_cli.specs.Worlds.{world, is_standard, reads_source};
 ghost use Rattle.patch_cli.specs.Opening.{Opens, IsAsked, StopsEarly};
@@ -40,6 +41,9 @@ pub fn open<T: Tree, I: Source>(
     ensures source { SourcePasses (I.view source.old) (I.view source.new) }
     ensures unread { reads_source (job_of (map string_bytes words.now)) ≡ false → source.new ≡ source.old }
     ensures read { OnOk result (reads_source (job_of (map string_bytes words.now)) ≡ true → (left : List ℕ) → (I.view source.old).told ≡ Some left → (I.view source.new).told ≡ Some []) }
+    ensures taken { TakesAtMost 268435457 (I.view source.old) (I.view source.new) }
+    ensures words { (fault : TheFault) → job_of (map string_bytes words.now) ≡ Err fault → IsErrAnd result (λ why. (why ≡ of_words fault) ⊎ (why ≡ Why.Memory)) }
+    ensures still { (fault : TheFault) → job_of (map string_bytes words.now) ≡ Err fault → tree.new ≡ tree.old }
     ensures job { IfOk result (λ work. job_of (map string_bytes words.now) ≡ Ok (patch (plain_options work.options))) }
     ensures asked { IfOk result (λ work. (a : ScratchView) (c : SinkView) → IsAsked (plain_options work.options) work.set (world (T.view tree.old) a (I.view source.old) c)) }
     ensures refused { IfErr result (λ why. (a : ScratchView) (c : SinkView) → StopsEarly why (job_of (map string_bytes words.now)) (world (T.view tree.old) a (I.view source.old) c) (world (T.view tree.new) a (I.view source.new) c)) }
@@ -86,6 +90,7 @@ fn read_patches<T: Tree, I: Source>(
     ensures source { SourcePasses (I.view source.old) (I.view source.new) }
     ensures unread { is_standard options.now.input ≡ false → source.new ≡ source.old }
     ensures read { OnOk result (is_standard options.now.input ≡ true → (left : List ℕ) → (I.view source.old).told ≡ Some left → (I.view source.new).told ≡ Some []) }
+    ensures taken { TakesAtMost 268435457 (I.view source.old) (I.view source.new) }
     ensures asked { IfOk result (λ set. (a : ScratchView) (c : SinkView) → IsAsked (plain_options options.now) set (world (T.view tree.old) a (I.view source.old) c)) }
     ensures refused { IfErr result (λ why. (a : ScratchView) (c : SinkView) → StopsEarly why (Ok (patch (plain_options options.now))) (world (T.view tree.old) a (I.view source.old) c) (world (T.view tree.new) a (I.view source.new) c)) }
 {
