@@ -20,15 +20,17 @@ use Rattle.patch_options.specs.declared.options.WordFault.{WordFault}
 use Rattle.patch_input.specs.Input as input
 use Rattle.patch_input.specs.declared.fault.InputFault.{InputFault}
 use Rattle.patch_text.specs.Patches.{patches_of}
-use Rattle.patch_set.specs.Named.{known_names, targets_of}
+use Rattle.patch_set.specs.Named.{known_names, output_of, targets_of}
 use Rattle.patch_set.specs.Refusals.{refusal}
 use Rattle.patch_set.specs.SetView.{SetView, plain_patches, hunks_in, HasTargets, IsRead, IsFresh}
 use Rattle.patch_run.specs.OnePatch.{Item}
-use Rattle.patch_run.specs.Run.{Run, run_of, set_run, item_of}
+use Rattle.patch_run.specs.Run.{Run, run_of, set_run, item_of, items_of}
+use Rattle.patch_run.specs.Doing.{IsCutAt}
+use Rattle.patch_run.specs.declared.fault.RunFault.{RunFault}
 use Rattle.patch_cli.specs.declared.why.Why.{Why}
 use Rattle.patch_cli.specs.declared.why.Why.TheVariants.{Done, Rejected, Usage, Malformed, Garbage, EdReverse, OutMany, Reserved, NoPatchFile, TooLong, LongLine, FileTooLong, ReadFault, WriteFault, TreeFault, ScratchFault, Disagree, Memory, Unsupported}
-use Rattle.patch_cli.specs.Command.{item_for, items_for, run_for, carried_out, on_patches, on_refusal, on_input}
-use Rattle.patch_cli.specs.Worlds.{world, TellsFiles, is_standard}
+use Rattle.patch_cli.specs.Command.{Reads, item_for, items_for, run_for, carried_out, on_patches, on_refusal, on_input, on_job}
+use Rattle.patch_cli.specs.Worlds.{World, world, TellsFiles, TellsLeft, TellsInput, is_standard}
 use Rattle.patch_cli.specs.Finishes.{CanApply}
 use Rattle.patch_cli.specs.Opening.{Opens, IsAsked, EndsSo, StopsEarly}
 
@@ -37,6 +39,10 @@ use Rattle.patch_cli.specs.Opening.{Opens, IsAsked, EndsSo, StopsEarly}
 told_input : (i : Input) (t : TreeView) (s : SourceView) (f : Files) (left : List ℕ) → t.told ≡ Some f → (is_standard i ≡ true → s.told ≡ Some left) → input.IsTold i t s f left
 told_input Standard t s f left files rest = rest refl
 told_input (File name) t s f left files rest = files
+
+pub tells_input : (job : Result PlainJob WordFault) (u : World) (f : Files) (left : List ℕ) → TellsFiles job u f → TellsLeft job u left → TellsInput job u f left
+tells_input (Ok (patch o)) u f left files rest = told_input o.input u.tree u.source f left files.files rest
+tells_input (Err fault) u f left files rest = tt
 
 -- ---- a set that is read
 
@@ -60,13 +66,20 @@ run-match o v f names =
     ∙ ap (λ (items : List Item). run_of o v.output items f) (items-match o (known_names o (plain_patches v)) v.text v.patches names.targets)
 
 -- a text that isn't refused is carried out as the set that is read from it
-carried-match : (o : PlainOptions) (text : List ℕ) (v : SetView) (f : Files) → IsRead o text v → refusal o text ≡ None → on_input o (Ok text) f ≡ carried_out (length v.patches) (set_run o v f)
-carried-match o text v f read free =
-    ap (λ x. on_refusal o x text f) free
-    ∙ ap (λ (l : List ℕ). on_patches o (patches_of o.only l) f) (sym read.text)
-    ∙ ap (λ (ps : Result (List PlainPatch) Fault). on_patches o ps f) read.patches
+pub carried-match : (o : PlainOptions) (v : SetView) (f : Files) (left : List ℕ) → Reads o f left (plain_patches v) → HasTargets o (known_names o (plain_patches v)) v → on_job (Ok (patch o)) f left ≡ carried_out (length v.patches) (set_run o v f)
+carried-match o v f left reads names =
+    ap (λ (x : Result (List ℕ) InputFault). on_input o x f) reads.given
+    ∙ ap (λ x. on_refusal o x reads.text f) reads.free
+    ∙ ap (λ (ps : Result (List PlainPatch) Fault). on_patches o ps f) reads.patches
     ∙ ap (λ (n : ℕ). carried_out n (run_for o (plain_patches v) f)) (length-map v.patches (patch_of v.text))
-    ∙ ap (λ (r : Run). carried_out (length v.patches) r) (run-match o v f read.names)
+    ∙ ap (λ (r : Run). carried_out (length v.patches) r) (run-match o v f names)
+
+-- a run over the set that was cut off, as one over the file patches of its text
+pub cut-match : (o : PlainOptions) (v : SetView) (f : Files) (e : RunFault) (w : TreeView) (c d : SinkView) → HasTargets o (known_names o (plain_patches v)) v
+    → IsCutAt e w c d o v.output (items_of v) f → IsCutAt e w c d o (output_of o (known_names o (plain_patches v))) (items_for o (plain_patches v)) f
+cut-match o v f e w c d names at =
+    subst (λ t. IsCutAt e w c d o t (items_for o (plain_patches v)) f) names.output
+    (subst (λ (items : List Item). IsCutAt e w c d o v.output items f) (sym (items-match o (known_names o (plain_patches v)) v.text v.patches names.targets)) at)
 
 can_apply : (o : PlainOptions) (text : List ℕ) (v : SetView) → IsLawful o → IsRead o text v → IsFresh v → CanApply o v
 can_apply o text v lawful read fresh = record {
@@ -80,9 +93,7 @@ pub asked_so : (o : PlainOptions) (text : List ℕ) (v : SetView) (t : TreeView)
     → IsRead o text v → IsFresh v → refusal o text ≡ None → (a : ScratchView) (c : SinkView) → IsAsked o v (world t a s c)
 asked_so o text v t s lawful answer read fresh free a c = record {
   can = can_apply o text v lawful read fresh;
-  carries = λ f left files rest.
-      ap (λ (x : Result (List ℕ) InputFault). on_input o x f) (answer f left (told_input o.input t s f left files.files rest))
-      ∙ carried-match o text v f read free;
+  reads = λ f left told. record { text = text; given = answer f left told; free = free; patches = ap (λ (l : List ℕ). patches_of o.only l) (sym read.text) ∙ read.patches };
 }
 
 -- ---- early ends
@@ -106,12 +117,20 @@ module _ (t u : TreeView) (s : SourceView) (opens : Opens t u) where
   files_behind : (job : Result PlainJob WordFault) (a : ScratchView) (c : SinkView) (f : Files) → TellsFiles job (world t a s c) f → TellsFiles job (world u a s c) f
   files_behind job a c f files = record { files = opens.told ∙ files.files; scratch = files.scratch }
 
+  told_behind : (i : Input) (f : Files) (left : List ℕ) → input.IsTold i t s f left → input.IsTold i u s f left
+  told_behind Standard f left told = told
+  told_behind (File name) f left told = opens.told ∙ told
+
+  input_behind : (job : Result PlainJob WordFault) (a : ScratchView) (c : SinkView) (f : Files) (left : List ℕ) → TellsInput job (world t a s c) f left → TellsInput job (world u a s c) f left
+  input_behind (Ok (patch o)) a c f left told = told_behind o.input f left told
+  input_behind (Err fault) a c f left told = tt
+
   pub asked_behind : (o : PlainOptions) (v : SetView) (a : ScratchView) (c : SinkView) → IsAsked o v (world u a s c) → IsAsked o v (world t a s c)
-  asked_behind o v a c asked = record { can = asked.can; carries = λ f left files rest. asked.carries f left (files_behind (Ok (patch o)) a c f files) rest }
+  asked_behind o v a c asked = record { can = asked.can; reads = λ f left told. asked.reads f left (input_behind (Ok (patch o)) a c f left told) }
 
   module _ (job : Result PlainJob WordFault) (w : TreeView) (r : SourceView) (a : ScratchView) (c : SinkView) where
     ends_behind : (why : Why) → EndsSo why job (world u a s c) → EndsSo why job (world t a s c)
-    ends_behind why ends f left files rest = ends f left (files_behind job a c f files) rest
+    ends_behind why ends f left told = ends f left (input_behind job a c f left told)
 
     early_behind : (why : Why) → StopsEarly why job (world u a s c) (world w a r c) → StopsEarly why job (world t a s c) (world w a r c)
     early_behind Done early = absurd early.stops

@@ -17,10 +17,10 @@ use Rattle.patch_options.specs.PlainJob.{PlainOptions, PlainJob}
 use Rattle.patch_options.specs.PlainJob.PlainJob.{patch}
 use Rattle.patch_options.specs.Words.{job_of}
 use Rattle.patch_options.specs.declared.options.WordFault.{WordFault}
-use Rattle.patch_set.specs.SetView.{SetView}
+use Rattle.patch_set.specs.SetView.{SetView, plain_patches}
 use Rattle.patch_input.specs.Input.{TakesAtMost}
 use Rattle.patch_run.specs.Applied.{Receipt}
-use Rattle.patch_run.specs.Run.{Run, set_run}
+use Rattle.patch_run.specs.Run.{Run, items_of, set_run}
 use Rattle.patch_run.specs.Doing as doing
 use Rattle.patch_run.specs.Faults.{of_open}
 use Rattle.patch_run.specs.Making.{IsTidy, UnlessFailed}
@@ -30,15 +30,16 @@ use Rattle.patch_cli.specs.declared.why.Why.{Why}
 use Rattle.patch_cli.specs.declared.why.Why.TheVariants.{Done, Rejected, Usage, Malformed, Garbage, EdReverse, OutMany, Reserved, NoPatchFile, TooLong, LongLine, FileTooLong, ReadFault, WriteFault, TreeFault, ScratchFault, Disagree, Memory, Unsupported}
 use Rattle.patch_cli.specs.Answers.{Sort, sort_of, is_fault, IsEarly, of_run}
 use Rattle.patch_cli.specs.Answers.Sort.{ended, halted, refusal, unread, broken, starved}
-use Rattle.patch_cli.specs.Command.{Outcome, command, refused, on_job, carried_out, end_of, receipt_if}
-use Rattle.patch_cli.specs.Worlds.{World, TellsFiles, TellsLeft, AsksFor, reads_source, pages_all}
+use Rattle.patch_cli.specs.Command.{Outcome, Reads, command, refused, on_job, carried_out, end_of, receipt_if}
+use Rattle.patch_cli.specs.Worlds.{World, TellsFiles, TellsLeft, TellsInput, AsksFor, reads_source, pages_all}
 use Rattle.patch_cli.specs.Causes.{HasCause}
 use Rattle.patch_cli.specs.Scratches.{scratch_behind_all}
 use Rattle.patch_cli.specs.Finishes.{IsToldTo, HasPlanCause, Finishes}
 use Rattle.patch_cli.specs.Finishes as finishes
 use Rattle.patch_cli.specs.Opening.{Opens, IsAsked, StopsBy, StopsEarly}
-use Rattle.patch_cli.specs.Carries.{IsAnswer, FirstPart, Answers, IsAsAtEntry, Untouched, QuietAfter, IsBehindReading, IsEnd, HasReceipt, LeavesAllowed, Carries, NoneFailed, IsComplete}
+use Rattle.patch_cli.specs.Carries.{IsAnswer, FirstPart, Answers, IsAsAtEntry, Untouched, QuietAfter, IsBehindReading, IsEnd, HasReceipt, HasRead, Heeds, IsCut, BreaksOff, LeavesAllowed, Carries, NoneFailed, IsComplete}
 use Rattle.patch_cli.proofs.Opens.{opens_both, opens_untouched}
+use Rattle.patch_cli.proofs.Asked.{tells_input, carried-match, cut-match}
 
 -- a tree that is told the same has no other temporary
 tidy_same : (u w : TreeView) → w.told ≡ u.told → IsTidy u w
@@ -120,10 +121,26 @@ module _ {u w : World} (why : Why) (job : Result PlainJob WordFault) (same : IsA
   answers_early : (s : Sort) → StopsBy s why job u → (f : Files) (left : List ℕ) → TellsFiles job u f → TellsLeft job u left → Answers s why None f u w (on_job job f left)
   answers_early ended stops f left told tells = absurd stops
   answers_early halted stops f left told tells = absurd stops
-  answers_early refusal stops f left told tells = subst (λ (x : Outcome). IsAnswer why None f u w x) (sym (stops f left told tells)) (refused_so f told.files)
+  answers_early refusal stops f left told tells = subst (λ (x : Outcome). IsAnswer why None f u w x) (sym (stops f left (tells_input job u f left told tells))) (refused_so f told.files)
   answers_early unread stops f left told tells = nothing_yet f (on_job job f left) told.files
   answers_early broken stops f left told tells = nothing_yet f (on_job job f left) told.files
   answers_early starved stops f left told tells = nothing_yet f (on_job job f left) told.files
+
+  heeds_early : (s : Sort) → StopsBy s why job u → (f : Files) (left : List ℕ) → TellsInput job u f left → Heeds s why job u w f left
+  heeds_early ended stops f left told = absurd stops
+  heeds_early halted stops f left told = absurd stops
+  heeds_early refusal stops f left told = stops f left told
+  heeds_early unread stops f left told = tt
+  heeds_early broken stops f left told = inl same
+  heeds_early starved stops f left told = inl same
+
+  breaks_early : (s : Sort) (f : Files) (left : List ℕ) → BreaksOff s why job u w f left
+  breaks_early ended f left = tt
+  breaks_early halted f left = tt
+  breaks_early refusal f left = tt
+  breaks_early unread f left = tt
+  breaks_early broken f left = inl same
+  breaks_early starved f left = inl same
 
 pub carries_early : {words : List (List ℕ)} {u w : World} {why : Why} → Opens u.tree w.tree → w.scratch ≡ u.scratch → w.out ≡ u.out → SourcePasses u.source w.source → TakesAtMost 268435457 u.source w.source
     → (reads_source (job_of words) ≡ false → w.source ≡ u.source) → StopsEarly why (job_of words) u w → Carries words u w why None
@@ -145,6 +162,8 @@ carries_early {words = words} {u = u} {w = w} {why = why} opens scratch out sour
       taken = taken;
       answers = λ f left told tells. answers_early why job same (sort_of why) stops.stops f left told tells;
       images = λ f left told tells c since. inl (opens.images c since);
+      heeds = λ f left told. heeds_early why job same (sort_of why) stops.stops f left told;
+      cut = λ f left told tells. breaks_early why job same (sort_of why) f left;
       tidy = λ is. tidy_same u.tree w.tree opens.told;
       dry = λ is. opens;
       pages = λ is f left before told tells was. absurd (no_end why job same (sort_of why) stops.stops is);
@@ -273,9 +292,24 @@ ended_memory false is = absurd (cc)
 
 -- behind the reading
 module _ (words : List (List ℕ)) (u w : World) {v : TreeView} {o : PlainOptions} {set : SetView} (opens : Opens u.tree v) (job : job_of words ≡ Ok (patch o)) (asked : IsAsked o set u) where
+  reads : (f : Files) (left : List ℕ) → TellsInput (job_of words) u f left → Reads o f left (plain_patches set)
+  reads f left told = asked.reads f left (subst (λ j. TellsInput j u f left) job told)
+
+  has_read : (f : Files) (left : List ℕ) → TellsInput (job_of words) u f left → HasRead (job_of words) f left
+  has_read f left told = subst (λ j. HasRead j f left) (sym job) (plain_patches set, reads f left told)
+
+  heeds_fault : (e : RunFault) (f : Files) (left : List ℕ) → TellsInput (job_of words) u f left → Heeds (sort_of (of_run e)) (of_run e) (job_of words) u w f left
+  heeds_fault runs.Tree f left told = inr (has_read f left told)
+  heeds_fault runs.Write f left told = inr (has_read f left told)
+  heeds_fault runs.Scratch f left told = inr (has_read f left told)
+  heeds_fault (runs.LongLine line length) f left told = has_read f left told
+  heeds_fault (runs.FileTooLong length) f left told = has_read f left told
+  heeds_fault (runs.Disagree want got) f left told = inr (has_read f left told)
+  heeds_fault runs.Memory f left told = inr (has_read f left told)
+
   is_carried : (f : Files) (left : List ℕ) → TellsFiles (job_of words) u f → TellsLeft (job_of words) u left → command words f left ≡ carried_out (length set.patches) (set_run o set f)
   is_carried f left told tells =
-      ap (λ j. on_job j f left) job ∙ asked.carries f left (subst (λ j. TellsFiles j u f) job told) (subst (λ j. TellsLeft j u left) job tells)
+      ap (λ j. on_job j f left) job ∙ carried-match o set f left (reads f left (tells_input (job_of words) u f left told tells)) asked.can.read.1.names
 
   tells_run : (f : Files) → TellsFiles (job_of words) u f → IsToldTo o v u.scratch f
   tells_run f told = told_to u w opens o f (subst (λ j. TellsFiles j u f) job told)
@@ -292,6 +326,27 @@ module _ (words : List (List ℕ)) (u w : World) {v : TreeView} {o : PlainOption
       (λ before. inl (opens.images c before))
       (λ later. inr (moments f (tells_run f told) f (opens.told ∙ told.files) c later))
       (since_split passes u.tree.moment c opens.passes.later since))
+
+  -- the run was cut off at one of the file patches, or before the first
+  cuts_at : (e : RunFault) (f : Files) (left : List ℕ) → TellsFiles (job_of words) u f → TellsLeft (job_of words) u left
+      → finishes.IsNotBegun v w.tree u.scratch w.scratch u.out w.out ⊎ doing.IsCutAt e w.tree u.out w.out o set.output (items_of set) f
+      → IsAsAtEntry u w ⊎ AsksFor (job_of words) (IsCut (of_run e) u w f left)
+  cuts_at e f left told tells = ⊎_elim (λ none. inl (not_begun u w opens none)) (λ at. inr (subst (λ j. AsksFor j (IsCut (of_run e) u w f left)) (sym job) (record {
+    patches = plain_patches set;
+    read = reads f left (tells_input (job_of words) u f left told tells);
+    fault = e;
+    is = refl;
+    cut = cut-match o set f e w.tree u.out w.out asked.can.read.1.names at;
+  })))
+
+  breaks_fault : (e : RunFault) (f : Files) (left : List ℕ) → IsAsAtEntry u w ⊎ AsksFor (job_of words) (IsCut (of_run e) u w f left) → BreaksOff (sort_of (of_run e)) (of_run e) (job_of words) u w f left
+  breaks_fault runs.Tree f left cut = cut
+  breaks_fault runs.Write f left cut = cut
+  breaks_fault runs.Scratch f left cut = cut
+  breaks_fault (runs.LongLine line length) f left cut = tt
+  breaks_fault (runs.FileTooLong length) f left cut = tt
+  breaks_fault (runs.Disagree want got) f left cut = cut
+  breaks_fault runs.Memory f left cut = cut
 
   dry_run : (o.dry_run ≡ true → IsUntouched v w.tree) → AsksFor (job_of words) (λ p. p.dry_run ≡ true) → Opens u.tree w.tree
   dry_run same asks = opens_both opens (opens_untouched (same (subst (λ j. AsksFor j (λ p. p.dry_run ≡ true)) job asks)))
@@ -314,6 +369,8 @@ module _ (words : List (List ℕ)) (u w : World) {v : TreeView} {o : PlainOption
       taken = taken;
       answers = answers_run (of_run e) None (sort_of (of_run e)) (λ f told to. answers_fault u w opens e (set_run o set f) (length set.patches) f told (does.cut f to));
       images = images_run does.tree does.moments;
+      heeds = heeds_fault e;
+      cut = λ f left told tells. breaks_fault e f left (cuts_at e f left told tells (does.cut_at f (tells_run f told)));
       pages = λ is f left before told tells was. absurd (end_fault e is);
       tidy = tidy_fault u w opens e does.tidy;
       dry = dry_run does.dry;
@@ -351,6 +408,8 @@ module _ (words : List (List ℕ)) (u w : World) {v : TreeView} {o : PlainOption
           taken = taken;
           answers = answers_run why (Some receipt) (sort_of why) (λ f told to. subst (λ s. Answers s why (Some receipt) f u w (carried_out (length set.patches) (set_run o set f))) (sym is) (end_answer receipt does f told to));
           images = images_run does.tree does.moments;
+          heeds = λ f left told. subst (λ s. Heeds s why (job_of words) u w f left) (sym is) (has_read f left told);
+          cut = λ f left told tells. subst (λ s. BreaksOff s why (job_of words) u w f left) (sym is) tt;
           tidy = λ none. tidy_behind u.tree v w.tree opens.told does.tidy;
           dry = dry_run does.dry;
           pages = λ finished f left before told tells was. subst (λ j. AsksFor j (λ p. w.scratch.told ≡ Some (scratch_behind_all p (command words f left).taken before))) (sym job)

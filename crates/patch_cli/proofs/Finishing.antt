@@ -1,5 +1,5 @@
 -- A set that is carried out with a plan: from what the run says of the plan's store to what it leaves.
-use Rattle.std.proofs.Common.{◌≡◌, inr, ℕ, zero, ◌+◌, ◌-◌, ◌^◌, ◌<◌, ◌≤◌, List, [], ◌∷◌, length, reverse, find, option_map, Bool, true, false, cond, if◌then◌else◌, nat_lt, Option, None, Some, is_some, Result, Ok, Err, IfOk, refl, sym, ◌∙◌, ap, subst, arith}
+use Rattle.std.proofs.Common.{◌≡◌, inl, inr, ℕ, zero, ◌+◌, ◌-◌, ◌^◌, ◌<◌, ◌≤◌, List, [], ◌∷◌, length, reverse, find, option_map, Bool, true, false, cond, if◌then◌else◌, nat_lt, Option, None, Some, is_some, Result, Ok, Err, IfOk, IfErr, refl, sym, ◌∙◌, ap, subst, arith}
 use Rattle.std.proofs.lemmas.List.{reverse-append, append-nil}
 use Rattle.std.proofs.lemmas.List.Folds.{find-append}
 use Rattle.std.proofs.lemmas.Option.{same_Some}
@@ -23,8 +23,8 @@ use Rattle.plan_b.specs.Pages.{pages}
 use Rattle.packed_pages.specs.Packs.{packs}
 use Rattle.patch_run.specs.Applied.{Receipt}
 use Rattle.patch_run.specs.Devices.{Told, HasRunCause}
-use Rattle.patch_run.specs.Doing.{Runs, IsReceipt, IsPartOf, scratch_behind}
-use Rattle.patch_run.specs.Run.{Run, set_run}
+use Rattle.patch_run.specs.Doing.{Runs, IsReceipt, IsPartOf, IsCutAt, scratch_behind}
+use Rattle.patch_run.specs.Run.{Run, items_of, set_run}
 use Rattle.patch_run.specs.declared.fault.RunFault.{RunFault}
 use Rattle.patch_run.specs.declared.fault.RunFault.TheVariants.{Tree, Write, Scratch, LongLine, FileTooLong, Disagree, Memory}
 use Rattle.patch_cli.specs.Scratches.{has_scratch, is_paged, goes_there, pages_of, pages_or, scratch_behind_all}
@@ -93,6 +93,10 @@ pub record StandsOver (o : PlainOptions) (before after : Seen) (a b : ScratchVie
 abbrev pub GivesReceipt : TreeView → Seen → (Files → Run) → ℕ → List Verdict → List Row → Receipt → Type 0
 GivesReceipt u before run count vs rs given = (f : Files) → Told u before f → IsReceipt (run f) given count vs rs
 
+-- where the runs over the set that fail were cut off
+abbrev pub CutsOff : {R : Type 0} → TreeView → TreeView → Seen → SinkView → SinkView → PlainOptions → SetView → Result R RunFault → Type 0
+CutsOff u w before c d o v result = IfErr result (λ e. (f : Files) → Told u before f → IsCutAt e w c d o v.output (items_of v) f)
+
 module _ (u w : TreeView) {before after : Seen} {a b : ScratchView} (c d : SinkView) (o : PlainOptions) (v : SetView) {scratch_after : ℕ → List ℕ → Option (List ℕ) → Option (List ℕ)} (over : StandsOver o before after a b scratch_after) where
   told_to : (f : Files) → IsToldTo o u a f → Told u before f
   told_to f t = (t.files, ap is_some over.told ∙ t.scratch over.has)
@@ -119,8 +123,8 @@ module _ (u w : TreeView) {before after : Seen} {a b : ScratchView} (c d : SinkV
       ∙ ap (λ s. scratch_behind scratch_after o.buffer s (set_run o v f).taken) (over.told ∙ told)
       ∙ behind_all o scratch_after over.keeps (set_run o v f).taken bytes
 
-  paged : (vs : List Verdict) (rs : List Row) (result : Result Receipt RunFault) → Runs u w before after c d scratch_after result (set_run o v) → IfOk result (GivesReceipt u before (set_run o v) (length v.patches) vs rs) → (o.dry_run ≡ true → IsUntouched u w) → Finishes o v u w a b c d result
-  paged vs rs (Ok given) runs receipt dry = record {
+  paged : (vs : List Verdict) (rs : List Row) (result : Result Receipt RunFault) → Runs u w before after c d scratch_after result (set_run o v) → IfOk result (GivesReceipt u before (set_run o v) (length v.patches) vs rs) → CutsOff u w before c d o v result → (o.dry_run ≡ true → IsUntouched u w) → Finishes o v u w a b c d result
+  paged vs rs (Ok given) runs receipt cut dry = record {
     tree = runs.stays.tree;
     scratch = record {
       counts = subst (λ n. n ≤ b.faults) over.faults (subst (λ n. before.faults ≤ n) over.faults_after runs.stays.plan.faults);
@@ -135,11 +139,12 @@ module _ (u w : TreeView) {before after : Seen} {a b : ScratchView} (c d : SinkV
     receipt = λ f t. (receipt f (told_to f t)).receipt;
     holds = λ f bytes t told. holds_behind f bytes (runs.scratch f (told_to f t)) told;
     cut = tt;
+    cut_at = tt;
     moments = λ f t. runs.moments f (told_to f t);
     tidy = runs.tidy;
     dry = dry;
   }
-  paged vs rs (Err e) runs receipt dry = record {
+  paged vs rs (Err e) runs receipt cut dry = record {
     tree = runs.stays.tree;
     scratch = record {
       counts = subst (λ n. n ≤ b.faults) over.faults (subst (λ n. before.faults ≤ n) over.faults_after runs.stays.plan.faults);
@@ -154,13 +159,14 @@ module _ (u w : TreeView) {before after : Seen} {a b : ScratchView} (c d : SinkV
     receipt = tt;
     holds = tt;
     cut = λ f t. runs.cut f (told_to f t);
+    cut_at = λ f t. inr (cut f (told_to f t));
     moments = λ f t. runs.moments f (told_to f t);
     tidy = runs.tidy;
     dry = dry;
   }
 
-pub finishes_paged : {u w : TreeView} {before after : Seen} {a b : ScratchView} {c d : SinkView} {scratch_after : ℕ → List ℕ → Option (List ℕ) → Option (List ℕ)} (o : PlainOptions) (v : SetView) (vs : List Verdict) (rs : List Row) (result : Result Receipt RunFault) → Runs u w before after c d scratch_after result (set_run o v) → IfOk result (GivesReceipt u before (set_run o v) (length v.patches) vs rs) → (o.dry_run ≡ true → IsUntouched u w) → StandsOver o before after a b scratch_after → Finishes o v u w a b c d result
-finishes_paged {u = u} {w = w} {c = c} {d = d} o v vs rs result runs receipt dry over = paged u w c d o v over vs rs result runs receipt dry
+pub finishes_paged : {u w : TreeView} {before after : Seen} {a b : ScratchView} {c d : SinkView} {scratch_after : ℕ → List ℕ → Option (List ℕ) → Option (List ℕ)} (o : PlainOptions) (v : SetView) (vs : List Verdict) (rs : List Row) (result : Result Receipt RunFault) → Runs u w before after c d scratch_after result (set_run o v) → IfOk result (GivesReceipt u before (set_run o v) (length v.patches) vs rs) → CutsOff u w before c d o v result → (o.dry_run ≡ true → IsUntouched u w) → StandsOver o before after a b scratch_after → Finishes o v u w a b c d result
+finishes_paged {u = u} {w = w} {c = c} {d = d} o v vs rs result runs receipt cut dry over = paged u w c d o v over vs rs result runs receipt cut dry
 
 -- ---- the plan in memory, which has none
 
@@ -188,8 +194,8 @@ module _ (u w : TreeView) {before after : Seen} (c d : SinkView) (a : ScratchVie
   alone_cause (Disagree want got) (ne, silent) = (ne, λ f t. silent f (told_alone f t))
   alone_cause Memory h = tt
 
-  in_memory : (scratch_after : ℕ → List ℕ → Option (List ℕ) → Option (List ℕ)) (vs : List Verdict) (rs : List Row) (result : Result Receipt RunFault) → Runs u w before after c d scratch_after result (set_run o v) → IfOk result (GivesReceipt u before (set_run o v) (length v.patches) vs rs) → (o.dry_run ≡ true → IsUntouched u w) → Finishes o v u w a a c d result
-  in_memory scratch_after vs rs (Ok given) runs receipt dry = record {
+  in_memory : (scratch_after : ℕ → List ℕ → Option (List ℕ) → Option (List ℕ)) (vs : List Verdict) (rs : List Row) (result : Result Receipt RunFault) → Runs u w before after c d scratch_after result (set_run o v) → IfOk result (GivesReceipt u before (set_run o v) (length v.patches) vs rs) → CutsOff u w before c d o v result → (o.dry_run ≡ true → IsUntouched u w) → Finishes o v u w a a c d result
+  in_memory scratch_after vs rs (Ok given) runs receipt cut dry = record {
     tree = runs.stays.tree;
     scratch = scratch_passes_none a;
     sink = runs.stays.sink;
@@ -201,11 +207,12 @@ module _ (u w : TreeView) {before after : Seen} (c d : SinkView) (a : ScratchVie
     receipt = λ f t. (receipt f (told_alone f t)).receipt;
     holds = λ f bytes t told. told ∙ ap (λ (l : List ℕ). Some l) (sym (behind_none o alone.plan (set_run o v f).taken bytes));
     cut = tt;
+    cut_at = tt;
     moments = λ f t. runs.moments f (told_alone f t);
     tidy = runs.tidy;
     dry = dry;
   }
-  in_memory scratch_after vs rs (Err e) runs receipt dry = record {
+  in_memory scratch_after vs rs (Err e) runs receipt cut dry = record {
     tree = runs.stays.tree;
     scratch = scratch_passes_none a;
     sink = runs.stays.sink;
@@ -217,13 +224,14 @@ module _ (u w : TreeView) {before after : Seen} (c d : SinkView) (a : ScratchVie
     receipt = tt;
     holds = tt;
     cut = λ f t. runs.cut f (told_alone f t);
+    cut_at = λ f t. inr (cut f (told_alone f t));
     moments = λ f t. runs.moments f (told_alone f t);
     tidy = runs.tidy;
     dry = dry;
   }
 
-pub finishes_whole : {u w : TreeView} {before after : Seen} {c d : SinkView} {scratch_after : ℕ → List ℕ → Option (List ℕ) → Option (List ℕ)} (o : PlainOptions) (v : SetView) (vs : List Verdict) (rs : List Row) (result : Result Receipt RunFault) → Runs u w before after c d scratch_after result (set_run o v) → IfOk result (GivesReceipt u before (set_run o v) (length v.patches) vs rs) → (o.dry_run ≡ true → IsUntouched u w) → StandsAlone o before after → (a : ScratchView) → Finishes o v u w a a c d result
-finishes_whole {u = u} {w = w} {c = c} {d = d} {scratch_after = scratch_after} o v vs rs result runs receipt dry alone a = in_memory u w c d a o v alone scratch_after vs rs result runs receipt dry
+pub finishes_whole : {u w : TreeView} {before after : Seen} {c d : SinkView} {scratch_after : ℕ → List ℕ → Option (List ℕ) → Option (List ℕ)} (o : PlainOptions) (v : SetView) (vs : List Verdict) (rs : List Row) (result : Result Receipt RunFault) → Runs u w before after c d scratch_after result (set_run o v) → IfOk result (GivesReceipt u before (set_run o v) (length v.patches) vs rs) → CutsOff u w before c d o v result → (o.dry_run ≡ true → IsUntouched u w) → StandsAlone o before after → (a : ScratchView) → Finishes o v u w a a c d result
+finishes_whole {u = u} {w = w} {c = c} {d = d} {scratch_after = scratch_after} o v vs rs result runs receipt cut dry alone a = in_memory u w c d a o v alone scratch_after vs rs result runs receipt cut dry
 
 -- ---- no memory for the pages
 
@@ -238,6 +246,9 @@ module _ (o : PlainOptions) (v : SetView) (u : TreeView) (a : ScratchView) (c : 
     said = λ bytes told. inr (zero, told ∙ ap (λ (l : List ℕ). Some l) (sym (append-nil bytes)));
   }
 
+  not_begun : IsNotBegun u u a a c c
+  not_begun = record { tree = untouched_none u; scratch = refl; out = refl }
+
   pub finishes_without_pages : Finishes o v u u a a c c (Err Memory)
   finishes_without_pages = record {
     tree = passes_none u;
@@ -245,12 +256,13 @@ module _ (o : PlainOptions) (v : SetView) (u : TreeView) (a : ScratchView) (c : 
     sink = sink_passes_none c;
     cause = tt;
     quiet = tt;
-    starved = λ is all. record { tree = untouched_none u; scratch = refl; out = refl };
+    starved = λ is all. not_begun;
     whole = tt;
     going = tt;
     receipt = tt;
     holds = tt;
     cut = λ f t. part_none (set_run o v f).effects (set_run o v f).said;
+    cut_at = λ f t. inl not_begun;
     moments = λ f t. leaves_none (set_run o v f).effects;
     tidy = λ f g was now q temp. inr (ap (λ (x : Files). get x q) (same_Some _ _ (sym now ∙ was)));
     dry = λ is. untouched_none u;

@@ -1,23 +1,32 @@
 -- What a run promises: that it is the command's, and what stands at each moment.
 use Rattle.std.specs.Prelude.{◌≡◌, ◌⊎◌, ℕ, ◌≤◌, List, [], length, take, true, false, Option, Some, None, Result, Ok, Err, IsSomeAnd, if◌then◌else◌}
+use Rattle.std.specs.List.{Any}
+use Rattle.std.specs.FinMap.{get}
 use Rattle.outside.specs.Faults.{HasRisen}
-use Rattle.outside.specs.Files.{Files, SameLasting}
+use Rattle.outside.specs.Files.{Files, SameLasting, is_temp}
 use Rattle.outside.specs.TreeView.{Passes, MayLeave, LeftSince}
 use Rattle.outside.specs.SinkView.{SinkPasses, Receives, ReceivesPart}
 use Rattle.outside.specs.SourceView.{SourcePasses}
 use Rattle.outside.specs.ScratchView.{ScratchPasses}
 use Rattle.outside.specs.Quiet.{IsQuiet, Effect, TellsPrefix, after_all}
+use Rattle.outside.specs.Quiet.Effect.{Put, Remove}
+use Rattle.file_patch.specs.PlainPatch.{PlainPatch}
+use Rattle.patch_options.specs.PlainJob.{PlainOptions, PlainJob}
 use Rattle.patch_options.specs.Words.{job_of}
+use Rattle.patch_options.specs.declared.options.WordFault.{WordFault}
+use Rattle.patch_set.specs.Named.{known_names, output_of}
 use Rattle.patch_input.specs.Input.{TakesAtMost}
 use Rattle.patch_run.specs.Applied.{Receipt}
+use Rattle.patch_run.specs.Doing.{IsCutAt}
 use Rattle.patch_run.specs.Making.{IsTidy}
+use Rattle.patch_run.specs.declared.fault.RunFault.{RunFault}
 use Rattle.patch_cli.specs.declared.why.Why.{Why}
 use Rattle.patch_cli.specs.declared.why.Why.TheVariants.{Done, Rejected, Memory}
-use Rattle.patch_cli.specs.Answers.{Sort, sort_of, is_fault}
+use Rattle.patch_cli.specs.Answers.{Sort, sort_of, of_run, is_fault}
 use Rattle.patch_cli.specs.Answers.Sort.{ended, halted, refusal, unread, broken, starved}
 use Rattle.patch_cli.specs.Scratches.{scratch_behind_all}
-use Rattle.patch_cli.specs.Command.{Outcome, command}
-use Rattle.patch_cli.specs.Worlds.{World, TellsFiles, TellsLeft, AsksFor, reads_source, pages_all}
+use Rattle.patch_cli.specs.Command.{Outcome, Reads, refused, items_for, on_job, command}
+use Rattle.patch_cli.specs.Worlds.{World, TellsFiles, TellsLeft, TellsInput, AsksFor, reads_source, pages_all}
 use Rattle.patch_cli.specs.Causes.{HasCause}
 use Rattle.patch_cli.specs.Opening.{Opens}
 
@@ -49,6 +58,10 @@ pub record IsAsAtEntry (u w : World) : Type 0 where
   pub scratch : w.scratch ≡ u.scratch
   pub out : w.out ≡ u.out
   pub images : (c : Files) → LeftSince w.tree u.tree.moment c → MayLeave u.tree c
+
+-- the patch text that the words name was read, and isn't refused
+abbrev pub HasRead : Result PlainJob WordFault → Files → List ℕ → Type 0
+HasRead job f left = AsksFor job (λ o. (ps : List PlainPatch) × Reads o f left ps)
 
 -- refusals, and faults of standard input, come before the first change
 abbrev pub Untouched : Sort → World → World → Type 0
@@ -92,6 +105,34 @@ HasReceipt Done applied = IsSomeAnd applied (λ r. r.is_bad ≡ false)
 HasReceipt Rejected applied = IsSomeAnd applied (λ r. r.is_bad ≡ true)
 HasReceipt why applied = applied ≡ None
 
+-- where it is told what the patch text is read from: a refusal is the command's, and nothing changes before a text that isn't refused
+-- is read whole
+abbrev pub Heeds : Sort → Why → Result PlainJob WordFault → World → World → Files → List ℕ → Type 0
+Heeds ended why job u w f left = HasRead job f left
+Heeds halted why job u w f left = HasRead job f left
+Heeds refusal why job u w f left = on_job job f left ≡ refused why f
+Heeds unread why job u w f left = Unit {0}
+Heeds broken why job u w f left = IsAsAtEntry u w ⊎ HasRead job f left
+Heeds starved why job u w f left = IsAsAtEntry u w ⊎ HasRead job f left
+
+-- the run over the file patches of the patch text was cut off at one of them, those in front of it having come to their ends; of that one
+-- nothing is done before all that it says is in the output
+pub record IsCut (why : Why) (u w : World) (f : Files) (left : List ℕ) (o : PlainOptions) : Type 0 where
+  pub patches : List PlainPatch
+  pub read : Reads o f left patches
+  pub fault : RunFault
+  pub is : why ≡ of_run fault
+  pub cut : IsCutAt fault w.tree u.out w.out o (output_of o (known_names o patches)) (items_for o patches) f
+
+-- after a fault, or where memory ran out
+abbrev pub BreaksOff : Sort → Why → Result PlainJob WordFault → World → World → Files → List ℕ → Type 0
+BreaksOff ended why job u w f left = Unit {0}
+BreaksOff halted why job u w f left = Unit {0}
+BreaksOff refusal why job u w f left = Unit {0}
+BreaksOff unread why job u w f left = Unit {0}
+BreaksOff broken why job u w f left = IsAsAtEntry u w ⊎ AsksFor job (IsCut why u w f left)
+BreaksOff starved why job u w f left = IsAsAtEntry u w ⊎ AsksFor job (IsCut why u w f left)
+
 -- the files after a first part of the effects, temporary names aside
 abbrev pub IsAfterPrefix : List Effect → Files → Files → Type 0
 IsAfterPrefix es f c = (k : ℕ) × (k ≤ length es) × SameLasting (after_all (take k es) f) c
@@ -99,6 +140,19 @@ IsAfterPrefix es f c = (k : ℕ) × (k ≤ length es) × SameLasting (after_all 
 -- each crash since the call began leaves what one could have left at entry, or the files at entry after a first part of the effects
 abbrev pub LeavesAllowed : World → World → Files → List Effect → Type 0
 LeavesAllowed u w f es = (c : Files) → LeftSince w.tree u.tree.moment c → MayLeave u.tree c ⊎ IsAfterPrefix es f c
+
+-- what an effect makes of a name: a file of these bytes, or none
+abbrev pub Makes : Effect → List ℕ → Option (List ℕ) → Type 0
+Makes (Put name bytes) q held = (name ≡ q) × (held ≡ Some bytes)
+Makes (Remove name) q held = (name ≡ q) × (held ≡ None)
+
+-- a name holds its old bytes, or what some effect makes of it
+abbrev pub HoldsOldOrNew : List Effect → Files → Files → List ℕ → Type 0
+HoldsOldOrNew es f c q = (get c q ≡ get f q) ⊎ Any (λ e. Makes e q (get c q)) es
+
+-- each crash since the call began leaves what one could have left at entry, or at each name that isn't temporary its old or its new bytes
+abbrev pub LeavesOldOrNew : World → World → Files → List Effect → Type 0
+LeavesOldOrNew u w f es = (c : Files) → LeftSince w.tree u.tree.moment c → MayLeave u.tree c ⊎ ((q : List ℕ) → is_temp q ≡ false → HoldsOldOrNew es f c q)
 
 -- all that is promised of a run of these words from one state of its devices to another
 pub record Carries (words : List (List ℕ)) (u w : World) (why : Why) (applied : Option Receipt) : Type 0 where
@@ -119,6 +173,8 @@ pub record Carries (words : List (List ℕ)) (u w : World) (why : Why) (applied 
   pub taken : TakesAtMost 268435457 u.source w.source
   pub answers : (f : Files) (left : List ℕ) → TellsFiles (job_of words) u f → TellsLeft (job_of words) u left → Answers (sort_of why) why applied f u w (command words f left)
   pub images : (f : Files) (left : List ℕ) → TellsFiles (job_of words) u f → TellsLeft (job_of words) u left → LeavesAllowed u w f (command words f left).effects
+  pub heeds : (f : Files) (left : List ℕ) → TellsInput (job_of words) u f left → Heeds (sort_of why) why (job_of words) u w f left
+  pub cut : (f : Files) (left : List ℕ) → TellsFiles (job_of words) u f → TellsLeft (job_of words) u left → BreaksOff (sort_of why) why (job_of words) u w f left
   -- unless a device failed, no temporary is left that the run started
   pub tidy : is_fault why ≡ false → IsTidy u.tree w.tree
   -- a dry run leaves the tree as it is told, whatever is told, and starts no temporary

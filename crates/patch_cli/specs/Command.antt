@@ -1,5 +1,5 @@
 -- What a command does, as a function of its words, the files of the tree and what standard input has left (POSIX `patch`; GNU patch manual).
-use Rattle.std.specs.Prelude.{ℕ, List, [], length, map, Bool, if◌then◌else◌, Option, None, Some, Result, Ok, Err}
+use Rattle.std.specs.Prelude.{◌≡◌, ℕ, List, [], length, map, Bool, if◌then◌else◌, Option, None, Some, Result, Ok, Err}
 use Rattle.line_list.specs.Completed.{completed}
 use Rattle.hunk_core.specs.Reading.{Fault}
 use Rattle.outside.specs.Files.{Files}
@@ -9,6 +9,7 @@ use Rattle.file_patch.specs.PlainPatch.{PlainPatch}
 use Rattle.patch_options.specs.PlainJob.{PlainOptions, PlainJob}
 use Rattle.patch_options.specs.PlainJob.PlainJob.{patch}
 use Rattle.patch_options.specs.Words.{job_of}
+use Rattle.patch_options.specs.declared.options.PlanKind.{PlanKind}
 use Rattle.patch_options.specs.declared.options.WordFault.{WordFault}
 use Rattle.patch_input.specs.declared.fault.InputFault.{InputFault}
 use Rattle.patch_input.specs.Input.{input_bytes, answer_of}
@@ -85,6 +86,42 @@ on_input o (Ok text) files = on_refusal o (refusal o text) text files
 abbrev pub on_job : Result PlainJob WordFault → Files → List ℕ → Outcome
 on_job (Err fault) files left = refused (of_words fault) files
 on_job (Ok (patch o)) files left = on_input o (answer_of (input_bytes o.input o.dir files left)) files
+
+-- the same options with another plan
+abbrev pub with_plan : PlanKind → PlainOptions → PlainOptions
+with_plan plan o = record {
+  only = o.only;
+  strip = o.strip;
+  fuzz = o.fuzz;
+  reverse = o.reverse;
+  force = o.force;
+  batch = o.batch;
+  forward = o.forward;
+  loose = o.loose;
+  remove_empty = o.remove_empty;
+  backup = o.backup;
+  mismatch_backup = o.mismatch_backup;
+  suffix = o.suffix;
+  prefix = o.prefix;
+  dir = o.dir;
+  file = o.file;
+  input = o.input;
+  output = o.output;
+  reject = o.reject;
+  reject_form = o.reject_form;
+  dry_run = o.dry_run;
+  silent = o.silent;
+  verbose = o.verbose;
+  plan = plan;
+  buffer = o.buffer;
+}
+
+-- the patch text that the options name is read as these file patches, and none of them is refused
+pub record Reads (o : PlainOptions) (files : Files) (left : List ℕ) (ps : List PlainPatch) : Type 0 where
+  pub text : List ℕ
+  pub given : answer_of (input_bytes o.input o.dir files left) ≡ Ok text
+  pub free : refusal o text ≡ None
+  pub patches : patches_of o.only (completed text) ≡ Ok ps
 
 -- the words are read first, then the patch text; then the file patches are carried out
 abbrev pub command : List (List ℕ) → Files → List ℕ → Outcome

@@ -1,5 +1,5 @@
 -- The part of a run behind the reading of the patch text.
-use Rattle.std.specs.Prelude.{◌≡◌, ◌≢◌, ℕ, ◌-◌, ◌^◌, ◌<◌, ◌≤◌, List, length, true, is_some, Some, None, Result, Err, OnOk, IfOk, IfErr}
+use Rattle.std.specs.Prelude.{◌≡◌, ◌≢◌, ◌⊎◌, ℕ, ◌-◌, ◌^◌, ◌<◌, ◌≤◌, List, length, true, is_some, Some, None, Result, Err, OnOk, IfOk, IfErr}
 use Rattle.outside.specs.Faults.{HasRisen}
 use Rattle.outside.specs.Files.{Files}
 use Rattle.outside.specs.TreeView.{TreeView, Passes}
@@ -12,8 +12,8 @@ use Rattle.outside.specs.Quiet.{LeavesPrefix}
 use Rattle.patch_options.specs.PlainJob.{PlainOptions, IsLawful}
 use Rattle.patch_set.specs.SetView.{SetView, IsRead, HasVerdicts}
 use Rattle.patch_run.specs.Applied.{Receipt}
-use Rattle.patch_run.specs.Run.{Run, set_run}
-use Rattle.patch_run.specs.Doing.{QuietAfter, IsFar, IsCutOff}
+use Rattle.patch_run.specs.Run.{Run, items_of, set_run}
+use Rattle.patch_run.specs.Doing.{QuietAfter, IsFar, IsCutOff, IsCutAt}
 use Rattle.patch_run.specs.Making.{TidyAfter}
 use Rattle.patch_run.specs.declared.fault.RunFault.{RunFault}
 use Rattle.patch_run.specs.declared.fault.RunFault.TheVariants.{Tree, Write, Scratch, LongLine, FileTooLong, Disagree, Memory}
@@ -62,6 +62,8 @@ pub record Finishes (o : PlainOptions) (v : SetView) (u w : TreeView) (a b : Scr
   pub receipt : IfOk result (λ given. (f : Files) → IsToldTo o u a f → given ≡ receipt_of v (set_run o v f))
   pub holds : OnOk result ((f : Files) (before : List ℕ) → IsToldTo o u a f → a.told ≡ Some before → b.told ≡ Some (scratch_behind_all o (set_run o v f).taken before))
   pub cut : IfErr result (λ e. (f : Files) → IsToldTo o u a f → IsCutOff e u w c d (set_run o v f))
+  -- a fault cuts the run off at one file patch, of which nothing is done before all of it is said; or it comes before the first
+  pub cut_at : IfErr result (λ e. (f : Files) → IsToldTo o u a f → IsNotBegun u w a b c d ⊎ IsCutAt e w c d o v.output (items_of v) f)
   pub moments : (f : Files) → IsToldTo o u a f → LeavesPrefix u w (set_run o v f).effects
   -- after an answer without a failed device no temporary that the run started is left
   pub tidy : TidyAfter result u w

@@ -1,17 +1,16 @@
 -- What comes before the first change.
-use Rattle.std.specs.Prelude.{◌≡◌, ℕ, List, length, Result, Ok}
+use Rattle.std.specs.Prelude.{◌≡◌, ℕ, List, Result, Ok}
 use Rattle.outside.specs.Files.{Files}
 use Rattle.outside.specs.TreeView.{TreeView, Passes, MayLeave, LeftSince}
 use Rattle.patch_options.specs.PlainJob.{PlainOptions, PlainJob}
 use Rattle.patch_options.specs.PlainJob.PlainJob.{patch}
 use Rattle.patch_options.specs.declared.options.WordFault.{WordFault}
-use Rattle.patch_set.specs.SetView.{SetView}
-use Rattle.patch_run.specs.Run.{set_run}
+use Rattle.patch_set.specs.SetView.{SetView, plain_patches}
 use Rattle.patch_cli.specs.declared.why.Why.{Why}
 use Rattle.patch_cli.specs.Answers.{Sort, sort_of}
 use Rattle.patch_cli.specs.Answers.Sort.{ended, halted, refusal, unread, broken, starved}
-use Rattle.patch_cli.specs.Command.{refused, on_job, carried_out}
-use Rattle.patch_cli.specs.Worlds.{World, TellsFiles, TellsLeft}
+use Rattle.patch_cli.specs.Command.{Reads, refused, on_job}
+use Rattle.patch_cli.specs.Worlds.{World, TellsInput}
 use Rattle.patch_cli.specs.Causes.{HasCause}
 use Rattle.patch_cli.specs.Finishes.{CanApply}
 
@@ -21,14 +20,14 @@ pub record Opens (u w : TreeView) : Type 0 where
   pub told : w.told ≡ u.told
   pub images : (c : Files) → LeftSince w u.moment c → MayLeave u c
 
--- where it is told what they read, these options carry out this set
+-- where it is told what they read, the patch text that these options name is this set
 pub record IsAsked (o : PlainOptions) (v : SetView) (u : World) : Type 0 where
   pub can : CanApply o v
-  pub carries : (f : Files) (left : List ℕ) → TellsFiles (Ok (patch o)) u f → TellsLeft (Ok (patch o)) u left → on_job (Ok (patch o)) f left ≡ carried_out (length v.patches) (set_run o v f)
+  pub reads : (f : Files) (left : List ℕ) → TellsInput (Ok (patch o)) u f left → Reads o f left (plain_patches v)
 
--- the job ends so, whatever else is read
+-- where it is told what is read, the job ends so
 abbrev pub EndsSo : Why → Result PlainJob WordFault → World → Type 0
-EndsSo why job u = (f : Files) (left : List ℕ) → TellsFiles job u f → TellsLeft job u left → on_job job f left ≡ refused why f
+EndsSo why job u = (f : Files) (left : List ℕ) → TellsInput job u f left → on_job job f left ≡ refused why f
 
 abbrev pub StopsBy : Sort → Why → Result PlainJob WordFault → World → Type 0
 StopsBy ended why job u = ⊥

@@ -10,6 +10,7 @@ use Rattle.patch_options.specs.PlainJob.PlainJob.{patch}
 use Rattle.patch_options.specs.declared.options.WordFault.{WordFault}
 use Rattle.patch_options.specs.declared.options.Input.{Input}
 use Rattle.patch_options.specs.declared.options.Input.TheVariants.{Standard, File}
+use Rattle.patch_input.specs.Input.{IsTold}
 use Rattle.patch_cli.specs.Scratches.{has_scratch, is_paged}
 
 -- what the devices of a run are seen as at one moment
@@ -49,6 +50,11 @@ pub record TellsFiles (job : Result PlainJob WordFault) (w : World) (f : Files) 
 -- standard input tells what it has left, where it is read
 abbrev pub TellsLeft : Result PlainJob WordFault → World → List ℕ → Type 0
 TellsLeft job w left = reads_source job ≡ true → w.source.told ≡ Some left
+
+-- what the patch text is read from is told: these files, or what standard input has left
+abbrev pub TellsInput : Result PlainJob WordFault → World → Files → List ℕ → Type 0
+TellsInput (Ok (patch o)) w f left = IsTold o.input w.tree w.source f left
+TellsInput (Err fault) w f left = Unit {0}
 
 -- the words ask for a patch, with options of which P holds
 abbrev pub AsksFor : Result PlainJob WordFault → (PlainOptions → Type 0) → Type 0

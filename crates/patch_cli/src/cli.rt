@@ -1,14 +1,14 @@
 //! The whole run.
-ghost use Rattle.std.specs.Prelude.{◌≡◌, ◌⊎◌, ℕ, List, map, false, Ok, Err, string_bytes};
+ghost use Rattle.std.specs.Prelude.{◌≡◌, ◌⊎◌, ℕ, List, map, false, true, Ok, Err, string_bytes};
 ghost use Rattle.outside.specs.Files.{Files};
 ghost use Rattle.outside.specs.SinkView.{Receives, ReceivesPart, Rises};
 ghost use Rattle.patch_options.specs.Words.{job_of};
 ghost use Rattle.patch_options.specs.declared.options.WordFault.{WordFault};
-ghost use Rattle.patch_cli.specs.Answers.{exit_status, of_words, sort_of, IsEarly};
+ghost use Rattle.patch_cli.specs.Answers.{exit_status, is_ended, of_words, sort_of, IsEarly};
 ghost use Rattle.patch_cli.specs.Command.{command};
 ghost use Rattle.patch_cli.specs.Reasons.{refusal_line};
 ghost use Rattle.patch_cli.specs.Worlds.{world, TellsFiles, TellsLeft, reads_source, uses_scratch};
-ghost use Rattle.patch_cli.specs.Carries.{Carries, NoneFailed, IsComplete, why_of, receipt_of};
+ghost use Rattle.patch_cli.specs.Carries.{Carries, NoneFailed, IsComplete, LeavesOldOrNew, why_of, receipt_of};
 
 use crate::opening::{Work, open};
 use crate::plans::apply;
@@ -31,8 +31,9 @@ pub struct Exit {
 /// Does all that the program does. `words[0]` is the tool.
 ///
 /// `carries` says, of what the command does over the tree and the input at entry: which answer comes, with its text, its files
-/// and its receipt; first parts of the text and of the effects after a fault; that a refusal left tree and standard output as
-/// they were; what each crash since the call began can leave; and what the scratch holds at the end.
+/// and its receipt; first parts of the text and of the effects after a fault, cut off at one file patch of which nothing is done
+/// before all of it is said; that a refusal left tree and standard output as they were; what each crash since the call began
+/// can leave; and what the scratch holds at the end.
 pub fn run<T: Tree, C: Scratch, I: Source, O: Sink, E: Sink>(
     alloc: Global,
     words: &[String],
@@ -50,6 +51,11 @@ pub fn run<T: Tree, C: Scratch, I: Source, O: Sink, E: Sink>(
         → TellsLeft (job_of (map string_bytes words.now)) (world (T.view tree.old) (C.view scratch) (I.view input.old) (O.view out.old)) left
         → NoneFailed (world (T.view tree.old) (C.view scratch) (I.view input.old) (O.view out.old)) (world (T.view tree.new) (C.view result.1) (I.view input.new) (O.view out.new))
         → IsComplete result.0.why result.0.applied f (world (T.view tree.old) (C.view scratch) (I.view input.old) (O.view out.old)) (world (T.view tree.new) (C.view result.1) (I.view input.new) (O.view out.new)) (command (map string_bytes words.now) f left) }
+    // Wherever the run is stopped, each file holds its old bytes or its completed new ones.
+    ensures names { (f : Files) (left : List ℕ)
+        → TellsFiles (job_of (map string_bytes words.now)) (world (T.view tree.old) (C.view scratch) (I.view input.old) (O.view out.old)) f
+        → TellsLeft (job_of (map string_bytes words.now)) (world (T.view tree.old) (C.view scratch) (I.view input.old) (O.view out.old)) left
+        → LeavesOldOrNew (world (T.view tree.old) (C.view scratch) (I.view input.old) (O.view out.old)) (world (T.view tree.new) (C.view result.1) (I.view input.new) (O.view out.new)) f (command (map string_bytes words.now) f left).effects }
     ensures status { result.0.status ≡ exit_status result.0.why }
 
     // Words that give no job are answered before any device is called, and refusals before the output or the scratch is.
@@ -61,9 +67,10 @@ pub fn run<T: Tree, C: Scratch, I: Source, O: Sink, E: Sink>(
     ensures input { reads_source (job_of (map string_bytes words.now)) ≡ false → input.new ≡ input.old }
     ensures out_rest { O.same_rest out.old out.new }
 
-    // The line of the answer goes to `err`, whole where its count didn't rise.
+    // The line of the answer goes to `err`, whole where its count didn't rise; `Done` and `Rejected` have none.
     ensures err_part { ReceivesPart (E.view err.old) (E.view err.new) (refusal_line (map string_bytes words.now) result.0.why) }
     ensures err_whole { Receives (E.view err.old) (E.view err.new) (refusal_line (map string_bytes words.now) result.0.why) ⊎ Rises (E.view err.old) (E.view err.new) }
+    ensures err_still { is_ended result.0.why ≡ true → err.new ≡ err.old }
     ensures err_rest { E.same_rest err.old err.new }
 {
     let (ended, scratch) = carry_out(alloc, words, tree, scratch, input, out);

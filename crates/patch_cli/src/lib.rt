@@ -2,6 +2,7 @@
 #![tactic(auto)]
 
 mod cli;
+mod laws;
 mod opening;
 mod plans;
 #[cfg(test)]
@@ -12,5 +13,6 @@ mod tests;
 mod why;
 
 pub use cli::{Exit, run};
+pub use laws::command_laws;
 pub use patch_run::Applied;
 pub use why::Why;

@@ -54,8 +54,8 @@ fn apply_whole<T: Tree, O: Sink>(
     ensures finishes { (a : ScratchView) → Finishes (plain_options options.now) set.old (T.view tree.old) (T.view tree.new) a a (O.view out.old) (O.view out.new) result }
     ensures rest { O.same_rest out.old out.new }
 {
-    let mut plan = PlanA::new(alloc, options.buffer);
-    apply_set(set, options, &mut plan, tree, out)
+    let mut whole = PlanA::new(alloc, options.buffer);
+    apply_set(set, options, &mut whole, tree, out)
 }
 
 /// Each file is held as padded records in the scratch.
@@ -77,9 +77,9 @@ fn apply_padded<C: Scratch, T: Tree, O: Sink>(
         Ok(pair) => pair,
         Err(_) => return (Err(RunFault::Memory), scratch),
     };
-    let mut plan = PlanB::new(pair, scratch);
-    let applied = apply_set(set, options, &mut plan, tree, out);
-    let (_pair, scratch) = plan.into_parts();
+    let mut padded = PlanB::new(pair, scratch);
+    let applied = apply_set(set, options, &mut padded, tree, out);
+    let (_pair, scratch) = padded.into_parts();
     (applied, scratch)
 }
 
@@ -102,9 +102,9 @@ fn apply_packed<C: Scratch, T: Tree, O: Sink>(
         Ok(pair) => pair,
         Err(_) => return (Err(RunFault::Memory), scratch),
     };
-    let mut plan = PackedB::new(pair, scratch);
-    let applied = apply_set(set, options, &mut plan, tree, out);
-    let (_pair, scratch) = plan.into_parts();
+    let mut packed = PackedB::new(pair, scratch);
+    let applied = apply_set(set, options, &mut packed, tree, out);
+    let (_pair, scratch) = packed.into_parts();
     (applied, scratch)
 }
 
@@ -128,8 +128,8 @@ fn apply_by_size<C: Scratch, T: Tree, O: Sink>(
         Err(_) => return (Err(RunFault::Memory), scratch),
     };
     let small = PlanA::new(alloc, options.buffer);
-    let mut plan = AutoPlan::new(small, PackedB::new(pair, scratch));
-    let applied = apply_set(set, options, &mut plan, tree, out);
-    let (_pair, scratch) = plan.into_big().into_parts();
+    let mut either = AutoPlan::new(small, PackedB::new(pair, scratch));
+    let applied = apply_set(set, options, &mut either, tree, out);
+    let (_pair, scratch) = either.into_big().into_parts();
     (applied, scratch)
 }

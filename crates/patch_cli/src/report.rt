@@ -1,5 +1,5 @@
 //! The line of a refusal or a fault on standard error.
-ghost use Rattle.std.specs.Prelude.{◌≡◌, ◌++◌, ◌∷◌, [], ℕ, List, map, codes, string_bytes};
+ghost use Rattle.std.specs.Prelude.{◌≡◌, ◌++◌, ◌∷◌, [], ℕ, List, true, map, codes, string_bytes};
 ghost use Rattle.std.specs.Option.{option_copied};
 ghost use Rattle.outside.specs.SinkView.{Writes};
 ghost use Rattle.patch_cli.specs.Answers.{is_ended};
@@ -23,6 +23,7 @@ pub struct Reason {
 /// Writes the line of this answer, or nothing where every file patch had its turn.
 pub fn report<E: Sink>(err: &mut E, words: &[String], why: Why) -> Result<(), Failed>
     ensures writes { Writes (E.view err.old) (E.view err.new) result (refusal_line (map string_bytes words.now) why) }
+    ensures still { is_ended why ≡ true → err.new ≡ err.old }
     ensures rest { E.same_rest err.old err.new }
 {
     if is_ended(why) {

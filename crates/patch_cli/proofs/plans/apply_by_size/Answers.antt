@@ -11,12 +11,12 @@ pub returns-clause-finishes : goal.returns-clause-finishes
 returns-clause-finishes g c =
     let given = g.C.Scratch.view c.new-2.result.scratch in
     let same = ap g.C.Scratch.view (◌∙◌ {b = c.into_big.result.scratch} c.into_parts-pair.ensures.scratch (ap (λ (p : PackedB g.row.C.Denot g.C.Scratch). p.scratch) c.into_big.ensures)) in
-    finishes_paged (plain_options c.args.options.now) c.args.set.now _ _ c.apply_set-applied.result c.apply_set-applied.ensures.runs c.apply_set-applied.ensures.receipt c.apply_set-applied.ensures.dry (record {
-      told = ◌∙◌ {b = given.told} (ap (λ (s : Seen). s.scratch) c.new-plan.ensures.seen) c.new-2.ensures.scratch;
+    finishes_paged (plain_options c.args.options.now) c.args.set.now _ _ c.apply_set-applied.result c.apply_set-applied.ensures.runs c.apply_set-applied.ensures.receipt c.apply_set-applied.ensures.cut c.apply_set-applied.ensures.dry (record {
+      told = ◌∙◌ {b = given.told} (ap (λ (s : Seen). s.scratch) c.new-either.ensures.seen) c.new-2.ensures.scratch;
       told_after = sym (ap (λ (s : ScratchView). s.told) same);
-      faults = ◌∙◌ {b = given.faults} (ap (λ (s : Seen). s.faults) c.new-plan.ensures.seen) c.new-2.ensures.faults;
+      faults = ◌∙◌ {b = given.faults} (ap (λ (s : Seen). s.faults) c.new-either.ensures.seen) c.new-2.ensures.faults;
       faults_after = sym (ap (λ (s : ScratchView). s.faults) same);
-      size = ◌∙◌ {b = c.new-2.result.layout.size} (ap (λ (s : Seen). s.size) c.new-plan.ensures.seen) (c.new-2.ensures.size ∙ c.in-Ok.ensures.size);
+      size = ◌∙◌ {b = c.new-2.result.layout.size} (ap (λ (s : Seen). s.size) c.new-either.ensures.seen) (c.new-2.ensures.size ∙ c.in-Ok.ensures.size);
       has = ap has_scratch c.requires.plan;
       memory = λ all. let not : false ≡ true = sym (ap is_paged c.requires.plan) ∙ all in absurd (cc);
       keeps = keeps_auto (plain_options c.args.options.now) c.requires.plan;

@@ -8,14 +8,14 @@ use Rattle.patch_cli.proofs.plans.apply_padded.Goals as goal
 pub returns-clause-finishes : goal.returns-clause-finishes
 returns-clause-finishes g c =
     let same = ap g.C.Scratch.view c.into_parts-pair.ensures.scratch in
-    finishes_paged (plain_options c.args.options.now) c.args.set.now _ _ c.apply_set-applied.result c.apply_set-applied.ensures.runs c.apply_set-applied.ensures.receipt c.apply_set-applied.ensures.dry (record {
-      told = c.new-plan.ensures.scratch;
+    finishes_paged (plain_options c.args.options.now) c.args.set.now _ _ c.apply_set-applied.result c.apply_set-applied.ensures.runs c.apply_set-applied.ensures.receipt c.apply_set-applied.ensures.cut c.apply_set-applied.ensures.dry (record {
+      told = c.new-padded.ensures.scratch;
       told_after = sym (ap (λ (s : ScratchView). s.told) same);
-      faults = c.new-plan.ensures.faults;
+      faults = c.new-padded.ensures.faults;
       faults_after = sym (ap (λ (s : ScratchView). s.faults) same);
-      size = c.new-plan.ensures.size ∙ c.in-Ok.ensures.size;
+      size = c.new-padded.ensures.size ∙ c.in-Ok.ensures.size;
       has = ap has_scratch c.requires.plan;
-      memory = λ all. c.new-plan.ensures.memory;
+      memory = λ all. c.new-padded.ensures.memory;
       keeps = keeps_padded (plain_options c.args.options.now) c.requires.plan;
     })
 

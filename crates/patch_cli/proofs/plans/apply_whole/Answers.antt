@@ -4,10 +4,10 @@ use Rattle.patch_cli.proofs.Finishing.{finishes_whole}
 use Rattle.patch_cli.proofs.plans.apply_whole.Goals as goal
 
 pub returns-clause-finishes : goal.returns-clause-finishes
-returns-clause-finishes g c = finishes_whole (plain_options c.args.options.now) c.args.set.now _ _ c.apply_set.result c.apply_set.ensures.runs c.apply_set.ensures.receipt c.apply_set.ensures.dry (record {
+returns-clause-finishes g c = finishes_whole (plain_options c.args.options.now) c.args.set.now _ _ c.apply_set.result c.apply_set.ensures.runs c.apply_set.ensures.receipt c.apply_set.ensures.cut c.apply_set.ensures.dry (record {
   told = refl;
   faults = refl;
   faults_after = refl;
-  size = c.new-plan.ensures.size;
+  size = c.new-whole.ensures.size;
   plan = c.requires.plan;
 })
