@@ -2,7 +2,7 @@ use Rattle.std.proofs.Common.{◌≡◌, Some, is_some, sym, ap, ◌∙◌}
 use Rattle.std.specs.Option.{option_map}
 use Rattle.outside.specs.Files.{bytes_at}
 use Rattle.file_pieces.specs.Reading.{told_file}
-use Rattle.packed_pages.proofs.HeldLemmas.{empty-seen, no-place}
+use Rattle.packed_pages.proofs.HeldLemmas.{empty-seen, empty-held, no-place}
 use Rattle.packed_pages.proofs.Takings.{written-held, written-takes, written-scratch}
 use Rattle.packed_pages.proofs.PackedBPlan.take_file.Goals as goal
 
@@ -11,6 +11,15 @@ invariant_of-self g c = record {
   held =
       written-held c.take_pages.new.pair c.in-Ok.layout c.take_empty.new.self.places (g.C.Scratch.view c.take_pages.new.scratch) (told_file (g.T.Tree.view c.args.tree.now) c.args.name.now)
       c.in-Ok.ensures.layout (c.in-Ok.ensures.page ∙ sym c.in-Ok.ensures.size) (no-place c.take_empty.new.self.places c.take_empty.ensures.reset.halves) c.in-Ok.ensures.written;
+  marked = c.new-self.ensures c.take_pages.new.pair;
+}
+
+pub invariant_of-self-in-Err-1 : goal.invariant_of-self-in-Err-1
+invariant_of-self-in-Err-1 g c = record {
+  held =
+      empty-held c.take_pages.new.pair c.take_empty.new.self.layout c.take_empty.new.self.places (g.C.Scratch.view c.take_pages.new.scratch)
+      c.take_empty.new.self.held.layout (c.take_empty.new.self.held.size ∙ sym c.take_pages.ensures.size) c.take_empty.ensures.empty.count (no-place c.take_empty.new.self.places c.take_empty.ensures.reset.halves);
+  marked = c.new-self.ensures c.take_pages.new.pair;
 }
 
 pub returns-in-Ok-clause-taken : goal.returns-in-Ok-clause-taken
