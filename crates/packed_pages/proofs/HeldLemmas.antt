@@ -1,5 +1,5 @@
 -- Pages, scratch and places over a call.
-use Rattle.std.proofs.Common.{◌≡◌, ◌≢◌, ℕ, ◌+◌, ◌-◌, ◌*◌, ◌<◌, ◌≤◌, List, [], ◌∷◌, ◌++◌, suc, length, get_or, take, drop, replicate, Option, None, Some, refl, sym, ap, subst, ◌∙◌, arith, inl, inr}
+use Rattle.std.proofs.Common.{◌≡◌, ◌≢◌, ℕ, ◌+◌, ◌-◌, ◌<◌, ◌≤◌, List, [], ◌++◌, length, get_or, take, replicate, Option, None, Some, refl, sym, ap, subst, ◌∙◌, arith, inl, inr}
 use Rattle.std.specs.Option.{option_map}
 use Rattle.std.proofs.lemmas.List.FromFn.{fill_by_all}
 use Rattle.std.proofs.lemmas.List.Concat.{get_or-flat_map}
@@ -21,9 +21,9 @@ use Rattle.packed_pages.specs.declared.places.Place.{Place}
 use Rattle.packed_pages.specs.declared.places.Places.{Places}
 use Rattle.packed_pages.specs.Packs.{records, joined, page_with, bytes_of}
 use Rattle.packed_pages.specs.Layout.{IsLayout, HasPacks, first_line, page_in, place_in, lines_on, pages_in, decoded, lines_told, told-none, told-some}
-use Rattle.packed_pages.specs.Marks.{IsMark, AreMarks, AreMarked, marks_of}
-use Rattle.packed_pages.specs.Held.{seen_of, place_of, line_held, IsPage, HoldsPage, HoldsPacks, HasPageCause, IsOnPage, IsLoaded, IsHeld, Overruns, IsRecordFault, IsStart, IfStart}
-use Rattle.packed_pages.proofs.Pages.{pages-many, first-at, page-at, page-length, joined-up, joined-more, place-at, stated-at, line-in-at, record-within}
+use Rattle.packed_pages.specs.Marks.{AreMarks, AreMarked, marks_of}
+use Rattle.packed_pages.specs.Held.{seen_of, place_of, line_held, IsPage, HoldsPacks, HasPageCause, IsOnPage, IsLoaded, IsHeld, Overruns, IsRecordFault, IfStart}
+use Rattle.packed_pages.proofs.Pages.{pages-many, first-at, page-at, page-length, joined-more, place-at, stated-at, line-in-at, record-within}
 
 -- where the page of a place stands among the pages of the scratch
 pub record Stands (l : Layout) (ps : List (List (List ℕ))) (p : Place) (page : List ℕ) : Type 0 where

@@ -1,3 +1,4 @@
+ghost use Rattle.std.specs.Prelude.{◌≤◌};
 ghost use Rattle.line_store.specs.Taking.{IsSize};
 
 use super::*;
@@ -134,7 +135,9 @@ fn numbered(alloc: Global, count: u64) -> Option<Vec<u8>> {
 }
 
 /// Whether a half lends line `k` and the two behind it in turn.
-fn has_three(plan: &mut PackedB<MemScratch>, k: u64) -> bool {
+fn has_three(plan: &mut PackedB<MemScratch>, k: u64) -> bool
+    requires { k ≤ 1000 }
+{
     (k..k + 3).all(|k| has_line(plan, k, Half::Second, &digits(k)))
 }
 

@@ -1,7 +1,6 @@
-use Rattle.std.proofs.Common.{Some, arith}
+use Rattle.std.proofs.Common.{arith}
 use Rattle.page_pair.specs.Pair.{page_of}
 use Rattle.packed_pages.specs.Marks.{marks_of}
-use Rattle.packed_pages.specs.Held.{place_of, IfStart}
 use Rattle.packed_pages.proofs.HeldLemmas.{start-held, marked-more}
 use Rattle.packed_pages.proofs.loading.reach.Goals as goal
 
