@@ -134,13 +134,12 @@ impl<C: Scratch> Plan for PackedB<C> {
     fn take_file<T: Tree>(&mut self, tree: &mut T, name: &Name) -> Result<(), OpenFault> {
         self.take_empty();
         self.marks = Marks::new();
-        match take_pages(&mut self.pair, &mut self.scratch, tree, name) {
-            Ok(layout) => {
-                self.layout = layout;
-                Ok(())
-            }
-            Err(fault) => Err(fault),
-        }
+        let layout = match take_pages(&mut self.pair, &mut self.scratch, tree, name) {
+            Ok(layout) => layout,
+            Err(fault) => return Err(fault),
+        };
+        self.layout = layout;
+        Ok(())
     }
 
     fn take_empty(&mut self) {
