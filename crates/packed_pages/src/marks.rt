@@ -19,7 +19,7 @@ pub struct Mark {
 }
 
 /// Marks of one page, in the order of their places.
-pub type PageMarks = ArrayVec<Mark, 64>;
+pub type PageMarks = ArrayVec<Mark, MOST>;
 
 /// The marks of the page that each half holds.
 #[derive(Drop)]
@@ -28,31 +28,29 @@ pub struct Marks {
     pub second: PageMarks,
 }
 
-/// So many bytes that a page has no more marks than there is room for, if each stands as far behind the one before it.
-pub fn spacing(page: &[u8]) -> usize {
-    page.len() / MOST + 1
-}
-
-/// The place of the last mark, or of the page's first record.
-pub fn last_place(marks: &PageMarks) -> usize {
+/// The place from which on a record is kept: so far behind the last mark that a page's marks don't run out of room.
+pub fn next_place(page: &[u8], marks: &PageMarks) -> usize {
+    let spacing = page.len() / MOST + 1;
     match marks.as_slice().last() {
-        Some(mark) => mark.at,
-        None => 0,
+        Some(mark) => mark.at.saturating_add(spacing),
+        None => spacing,
     }
 }
 
-/// Keeps a record that stands at a place or behind it. The answer is the place of the next one to be kept.
-pub fn keep(marks: &mut PageMarks, mark: Mark, from: usize, spacing: usize) -> usize
-    ensures { (page : List ℕ) → IsMark page mark → AreMarks page marks.old → AreMarks page marks.new }
+/// Keeps a record, unless it stands before `from`. The answer is the place from which on the next one is kept.
+pub fn keep(page: &[u8], marks: &mut PageMarks, mark: Mark, from: usize) -> usize
+    requires is { IsMark page.now mark }
+    requires marks { AreMarks page.now marks.old }
+    ensures { AreMarks page.now marks.new }
 {
     if mark.at < from || marks.is_full() {
         return from;
     }
     marks.push(mark);
-    mark.at.saturating_add(spacing)
+    next_place(page, marks)
 }
 
-/// Drops the marks that have more than so many records before them. The answer is the last one that is left, or the page's first record.
+/// Drops the marks that have more records before them. The answer is the last one that is left, or the page's first record.
 fn back_to(marks: &mut PageMarks, before: u64) -> Mark
     ensures order { result.before ≤ before }
     ensures is { (page : List ℕ) → AreMarks page marks.old → IsMark page result }
@@ -89,7 +87,8 @@ impl Marks {
         }
     }
 
-    /// The last mark of a half that has at most so many records before it, or the first record of its page. The marks behind it go.
+    /// Drops the marks of a half that have more records before them. The answer is the last one that is left, or the first
+    /// record of the page.
     pub fn back_to(&mut self, half: Half, before: u64) -> Mark
         ensures order { result.before ≤ before }
         ensures is { (page : List ℕ) → AreMarks page (marks_of self.old half) → IsMark page result }

@@ -6,7 +6,7 @@ ghost use Rattle.packed_pages.specs.Layout.{place_in};
 ghost use Rattle.packed_pages.specs.Marks.{IsMark, AreMarks};
 ghost use Rattle.packed_pages.specs.Held.{IsRecordFault, IsPastEnd};
 
-use crate::marks::{Mark, PageMarks, keep, last_place, spacing};
+use crate::marks::{Mark, PageMarks, keep, next_place};
 use file_pieces::record::stated_length;
 use line_store::LineFault;
 
@@ -37,6 +37,7 @@ fn record_end(page: &[u8], at: usize) -> Result<usize, LineFault>
 }
 
 /// The place of the record that has `wanted` before it, found from one before it. Records on the way are marked.
+#[tactic(auto, using(crate::proofs::Pages::mark_behind))]
 pub fn find_record(
     page: &[u8],
     marks: &mut PageMarks,
@@ -52,15 +53,14 @@ pub fn find_record(
     ensures within { IfOk result (λ place. place + 4 + stated page.now place ≤ length page.now) }
     ensures cause { IfErr result (λ e. IsRecordFault e wanted page.now) }
 {
-    let spacing = spacing(page);
-    let mut from = last_place(marks).saturating_add(spacing);
+    let mut from = next_place(page, marks);
     let mut now = start;
     while now.before < wanted {
         now = Mark {
             before: now.before + 1,
             at: record_end(page, now.at)?,
         };
-        from = keep(marks, now, from, spacing);
+        from = keep(page, marks, now, from);
     }
     record_end(page, now.at)?;
     Ok(now.at)
