@@ -4,7 +4,6 @@ use Rattle.std.specs.Option.{option_map}
 use Rattle.std.proofs.lemmas.List.FromFn.{fill_by_all}
 use Rattle.std.proofs.lemmas.List.Concat.{get_or-flat_map}
 use Rattle.std.proofs.lemmas.Option.{none-some}
-use Rattle.arrayvec.specs.ArrayVec.{ArrayVec}
 use Rattle.line_store.specs.Store.{line_at, HasCause}
 use Rattle.line_store.specs.Taking.{IsEmpty}
 use Rattle.line_store.specs.declared.fault.LineFault.{LineFault}
@@ -16,6 +15,7 @@ use Rattle.page_pair.specs.Pair.{Pair, page_of}
 use Rattle.file_pieces.specs.Records.{stated, line_in}
 use Rattle.packed_pages.specs.declared.layout.Layout.{Layout}
 use Rattle.packed_pages.specs.declared.marks.Mark.{Mark}
+use Rattle.packed_pages.specs.declared.marks.PageMarks.{PageMarks}
 use Rattle.packed_pages.specs.declared.marks.Marks.{Marks}
 use Rattle.packed_pages.specs.declared.places.Place.{Place}
 use Rattle.packed_pages.specs.declared.places.Places.{Places}
@@ -171,7 +171,7 @@ load-cause Scratch l hs ht v w some h = h
 load-cause (Disagree want got) l hs ht v w some h = (h.0, told-some l v.told some ∙ ap (option_map (decoded l)) h.1)
 
 -- the place from which a line is found stands on the page that is held
-pub start-held : (pair : Pair) (l : Layout) (places : Places) (ms : ArrayVec Mark) (v : ScratchView) (h : Half) (k : ℕ) (p : Place) → IsHeld pair l places v → AreMarks (page_of pair h) ms → IfStart (place_of places h) ms k (Some p) → IsOnPage pair l v h p
+pub start-held : (pair : Pair) (l : Layout) (places : Places) (ms : PageMarks) (v : ScratchView) (h : Half) (k : ℕ) (p : Place) → IsHeld pair l places v → AreMarks (page_of pair h) ms → IfStart (place_of places h) ms k (Some p) → IsOnPage pair l v h p
 start-held pair l places ms v h k p held are start = from (place_of places h) refl start where
   from : (o : Option Place) → place_of places h ≡ o → IfStart o ms k (Some p) → IsOnPage pair l v h p
   from None is at = absurd at

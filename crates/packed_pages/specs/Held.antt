@@ -10,9 +10,9 @@ use Rattle.line_store.specs.declared.Half.TheVariants.{First, Second}
 use Rattle.line_store.specs.Store.{Seen}
 use Rattle.page_pair.specs.Pair.{Pair, page_of}
 use Rattle.file_pieces.specs.Records.{stated}
-use Rattle.arrayvec.specs.ArrayVec.{ArrayVec}
 use Rattle.packed_pages.specs.declared.layout.Layout.{Layout}
 use Rattle.packed_pages.specs.declared.marks.Mark.{Mark}
+use Rattle.packed_pages.specs.declared.marks.PageMarks.{PageMarks}
 use Rattle.packed_pages.specs.declared.places.Place.{Place}
 use Rattle.packed_pages.specs.declared.places.Places.{Places}
 use Rattle.packed_pages.specs.declared.searching.Span.{Span}
@@ -86,12 +86,12 @@ abbrev pub HasPageOf : Places → Half → ℕ → Type 0
 HasPageOf places h k = (p : Place) × ((place_of places h ≡ Some p) × ((p.first ≤ k) × (k < p.next)))
 
 -- a place is a record of each page that has these marks
-pub record IsMarked (ms : ArrayVec Mark) (p : Place) : Type 0 where
+pub record IsMarked (ms : PageMarks) (p : Place) : Type 0 where
   pub low : p.first ≤ p.line
   pub is : (page : List ℕ) → AreMarks page ms → IsMark page (record { before = p.line - p.first; at = p.at })
 
 -- a place on the page of another, at a line that isn't after line k
-pub record IsStart (held : Place) (ms : ArrayVec Mark) (k : ℕ) (p : Place) : Type 0 where
+pub record IsStart (held : Place) (ms : PageMarks) (k : ℕ) (p : Place) : Type 0 where
   pub first : p.first ≡ held.first
   pub next : p.next ≡ held.next
   pub page : p.page ≡ held.page
@@ -100,7 +100,7 @@ pub record IsStart (held : Place) (ms : ArrayVec Mark) (k : ℕ) (p : Place) : T
   pub place : (p ≡ held) ⊎ IsMarked ms p
 
 -- the place from which line k is found, where a place that is held has it on its page
-abbrev pub IfStart : Option Place → ArrayVec Mark → ℕ → Option Place → Type 0
+abbrev pub IfStart : Option Place → PageMarks → ℕ → Option Place → Type 0
 IfStart None ms k None = ⊤
 IfStart None ms k (Some p) = ⊥
 IfStart (Some held) ms k None = (held.first ≤ k) → (k < held.next) → ⊥

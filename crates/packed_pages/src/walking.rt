@@ -6,7 +6,7 @@ ghost use Rattle.packed_pages.specs.Layout.{place_in};
 ghost use Rattle.packed_pages.specs.Marks.{IsMark, AreMarks};
 ghost use Rattle.packed_pages.specs.Held.{IsRecordFault, IsPastEnd};
 
-use crate::marks::{Mark, PageMarks, keep, next_place};
+use crate::marks::{Mark, PageMarks, keep};
 use file_pieces::record::stated_length;
 use line_store::LineFault;
 
@@ -53,14 +53,13 @@ pub fn find_record(
     ensures within { IfOk result (λ place. place + 4 + stated page.now place ≤ length page.now) }
     ensures cause { IfErr result (λ e. IsRecordFault e wanted page.now) }
 {
-    let mut from = next_place(page, marks);
     let mut now = start;
     while now.before < wanted {
         now = Mark {
             before: now.before + 1,
             at: record_end(page, now.at)?,
         };
-        from = keep(page, marks, now, from);
+        keep(page, marks, now);
     }
     record_end(page, now.at)?;
     Ok(now.at)
