@@ -14,7 +14,6 @@ use Rattle.line_store.specs.declared.Half.TheVariants.{First, Second}
 use Rattle.page_pair.specs.Pair.{Pair, page_of}
 use Rattle.file_pieces.specs.Records.{stated, line_in}
 use Rattle.packed_pages.specs.declared.layout.Layout.{Layout}
-use Rattle.packed_pages.specs.declared.marks.Mark.{Mark}
 use Rattle.packed_pages.specs.declared.marks.PageMarks.{PageMarks}
 use Rattle.packed_pages.specs.declared.marks.Marks.{Marks}
 use Rattle.packed_pages.specs.declared.places.Place.{Place}

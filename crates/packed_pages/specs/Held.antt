@@ -11,7 +11,6 @@ use Rattle.line_store.specs.Store.{Seen}
 use Rattle.page_pair.specs.Pair.{Pair, page_of}
 use Rattle.file_pieces.specs.Records.{stated}
 use Rattle.packed_pages.specs.declared.layout.Layout.{Layout}
-use Rattle.packed_pages.specs.declared.marks.Mark.{Mark}
 use Rattle.packed_pages.specs.declared.marks.PageMarks.{PageMarks}
 use Rattle.packed_pages.specs.declared.places.Place.{Place}
 use Rattle.packed_pages.specs.declared.places.Places.{Places}
