@@ -1,5 +1,5 @@
 -- Pages, scratch and places over a call.
-use Rattle.std.proofs.Common.{◌≡◌, ◌≢◌, ℕ, ◌+◌, ◌-◌, ◌*◌, ◌<◌, ◌≤◌, List, [], ◌∷◌, ◌++◌, suc, length, get_or, take, drop, replicate, Option, None, Some, refl, sym, ap, subst, ◌∙◌, arith, inl, inr}
+use Rattle.std.proofs.Common.{◌≡◌, ◌≢◌, ℕ, ◌+◌, ◌-◌, ◌<◌, ◌≤◌, List, [], ◌++◌, length, get_or, take, replicate, Option, None, Some, refl, sym, ap, subst, ◌∙◌, arith, inl, inr}
 use Rattle.std.specs.Option.{option_map}
 use Rattle.std.proofs.lemmas.List.FromFn.{fill_by_all}
 use Rattle.std.proofs.lemmas.List.Concat.{get_or-flat_map}
@@ -14,12 +14,15 @@ use Rattle.line_store.specs.declared.Half.TheVariants.{First, Second}
 use Rattle.page_pair.specs.Pair.{Pair, page_of}
 use Rattle.file_pieces.specs.Records.{stated, line_in}
 use Rattle.packed_pages.specs.declared.layout.Layout.{Layout}
+use Rattle.packed_pages.specs.declared.marks.PageMarks.{PageMarks}
+use Rattle.packed_pages.specs.declared.marks.Marks.{Marks}
 use Rattle.packed_pages.specs.declared.places.Place.{Place}
 use Rattle.packed_pages.specs.declared.places.Places.{Places}
 use Rattle.packed_pages.specs.Packs.{records, joined, page_with, bytes_of}
 use Rattle.packed_pages.specs.Layout.{IsLayout, HasPacks, first_line, page_in, place_in, lines_on, pages_in, decoded, lines_told, told-none, told-some}
-use Rattle.packed_pages.specs.Held.{seen_of, place_of, line_held, IsPage, HoldsPage, HoldsPacks, HasPageCause, IsOnPage, IsLoaded, IsHeld, Overruns, IsRecordFault, IsStart, IfStart}
-use Rattle.packed_pages.proofs.Pages.{pages-many, first-at, page-at, page-length, joined-up, joined-more, place-at, stated-at, line-in-at, record-within}
+use Rattle.packed_pages.specs.Marks.{AreMarks, AreMarked, marks_of}
+use Rattle.packed_pages.specs.Held.{seen_of, place_of, line_held, IsPage, HoldsPacks, HasPageCause, IsOnPage, IsLoaded, IsHeld, Overruns, IsRecordFault, IfStart}
+use Rattle.packed_pages.proofs.Pages.{pages-many, first-at, page-at, page-length, joined-more, place-at, stated-at, line-in-at, record-within}
 
 -- where the page of a place stands among the pages of the scratch
 pub record Stands (l : Layout) (ps : List (List (List ℕ))) (p : Place) (page : List ℕ) : Type 0 where
@@ -136,12 +139,12 @@ held-more p q l hs ht v w half held size told pages places here = record {
           high = was.on.high;
           page = was.on.page;
           place = was.on.place ∙ ap (place_in (x.line - x.first)) (sym (pages h ne));
-          within = was.on.within;
+          within = subst (λ page. x.at ≤ length page) (sym (pages h ne)) was.on.within;
           told = λ b seen. subst (IsPage l b x) (sym (pages h ne)) (was.on.told b (sym told ∙ seen));
         };
         some = was.some;
         most = was.most;
-        fits = subst (λ page. x.at + 4 + stated page x.at ≤ l.size) (sym (pages h ne)) was.fits;
+        fits = subst (λ page. x.at + 4 + stated page x.at ≤ length page) (sym (pages h ne)) was.fits;
       }
 
   each : (g h : Half) → ((x : Place) → place_of ht g ≡ Some x → IsLoaded q l w g x) → ((h : Half) (x : Place) → h ≢ g → place_of ht h ≡ Some x → IsLoaded q l w h x) → (x : Place) → place_of ht h ≡ Some x → IsLoaded q l w h x
@@ -150,33 +153,41 @@ held-more p q l hs ht v w half held size told pages places here = record {
   each Second First own others x is = others First x (λ (e : First ≡ Second). (cc)) is
   each Second Second own others x is = own x is
 
+-- marks where the page and the marks of one half change
+pub marked-more : (p q : Pair) (ms mt : Marks) (half : Half) → AreMarked p ms → ((h : Half) → h ≢ half → page_of q h ≡ page_of p h) → ((h : Half) → h ≢ half → marks_of mt h ≡ marks_of ms h) → AreMarks (page_of q half) (marks_of mt half) → AreMarked q mt
+marked-more p q ms mt half were pages marks here h = each half h here others where
+  others : (h : Half) → h ≢ half → AreMarks (page_of q h) (marks_of mt h)
+  others h ne = subst (λ page. AreMarks page (marks_of mt h)) (sym (pages h ne)) (subst (AreMarks (page_of p h)) (sym (marks h ne)) (were h))
+
+  each : (g h : Half) → AreMarks (page_of q g) (marks_of mt g) → ((h : Half) → h ≢ g → AreMarks (page_of q h) (marks_of mt h)) → AreMarks (page_of q h) (marks_of mt h)
+  each First First own others = own
+  each First Second own others = others Second (λ (e : Second ≡ First). (cc))
+  each Second First own others = others First (λ (e : First ≡ Second). (cc))
+  each Second Second own others = own
+
 pub load-cause : (e : LineFault) (l : Layout) (hs ht : Places) (v w : ScratchView) → 0 < l.count → HasPageCause e v w → HasCause e (seen_of l hs v) (seen_of l ht w)
 load-cause Scratch l hs ht v w some h = h
 load-cause (Disagree want got) l hs ht v w some h = (h.0, told-some l v.told some ∙ ap (option_map (decoded l)) h.1)
 
 -- the place from which a line is found stands on the page that is held
-pub start-held : (pair : Pair) (l : Layout) (places : Places) (v : ScratchView) (h : Half) (k : ℕ) (p : Place) → IsHeld pair l places v → IfStart (place_of places h) k (Some p) → IsOnPage pair l v h p
-start-held pair l places v h k p held start = from (place_of places h) refl start where
-  from : (o : Option Place) → place_of places h ≡ o → IfStart o k (Some p) → IsOnPage pair l v h p
+pub start-held : (pair : Pair) (l : Layout) (places : Places) (ms : PageMarks) (v : ScratchView) (h : Half) (k : ℕ) (p : Place) → IsHeld pair l places v → AreMarks (page_of pair h) ms → IfStart (place_of places h) ms k (Some p) → IsOnPage pair l v h p
+start-held pair l places ms v h k p held are start = from (place_of places h) refl start where
+  from : (o : Option Place) → place_of places h ≡ o → IfStart o ms k (Some p) → IsOnPage pair l v h p
   from None is at = absurd at
   from (Some was) is at =
       let on = (held.loaded h was is).on in
       elim at.place [
         | inl same ↦ subst (IsOnPage pair l v h) (sym same) on
-        | inr begun ↦
-            let low : was.first ≤ was.line = on.low in
-            let high : was.line < was.next = on.high in
-            let a : p.first ≡ was.first = at.first in
-            let b : p.next ≡ was.next = at.next in
-            let c : p.line ≡ p.first = begun.0 in
-            let zero_ : 0 ≡ p.line - p.first = omega arith in
-            let size : 0 ≤ l.size = omega arith in
+        | inr marked ↦
+            let mark = marked.is (page_of pair h) are in
+            let low : p.line ≤ k = at.low in
+            let high : k < p.next = at.high in
             record {
-              low = omega arith;
+              low = marked.low;
               high = omega arith;
               page = subst (λ n. n < l.pages) (sym at.page) on.page;
-              place = begun.1 ∙ ap (λ n. place_in n (page_of pair h)) zero_;
-              within = subst (λ n. n ≤ l.size) (sym begun.1) size;
+              place = mark.place;
+              within = mark.within;
               told = λ b told.
                   let was = on.told b told in
                   record {

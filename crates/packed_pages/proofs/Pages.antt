@@ -1,7 +1,7 @@
 -- What the bytes of packed pages say.
-use Rattle.std.proofs.Common.{◌≡◌, ℕ, zero, suc, ◌+◌, ◌-◌, ◌*◌, ◌<◌, ◌≤◌, ◌^◌, List, [], ◌∷◌, ◌++◌, length, get_or, take, drop, replicate, true, false, refl, sym, ap, ◌∙◌, arith, append_assoc, length-append}
+use Rattle.std.proofs.Common.{◌≡◌, ℕ, zero, suc, ◌+◌, ◌*◌, ◌<◌, ◌≤◌, ◌^◌, List, [], ◌∷◌, ◌++◌, length, get_or, take, drop, true, false, refl, sym, ap, ◌∙◌, arith, append_assoc, length-append}
 use Rattle.std.specs.Prelude.{nat_lt}
-use Rattle.std.specs.List.{flat_map, range_with_len}
+use Rattle.std.specs.List.{flat_map}
 use Rattle.std.specs.Int.{w32, w64, to_le_bytes, from_le_bytes}
 use Rattle.std.proofs.lemmas.Bool.Decides.{nat_tests}
 use Rattle.std.proofs.lemmas.Bool.{cases_lt}
@@ -16,11 +16,20 @@ use Rattle.file_pieces.specs.Records.{stated, line_in}
 use Rattle.file_pieces.proofs.Records.{padded-length}
 use Rattle.file_pieces.proofs.Windows.{uniform-length, uniform-at}
 use Rattle.packed_pages.specs.declared.layout.Layout.{Layout}
+use Rattle.packed_pages.specs.declared.marks.Mark.{Mark}
 use Rattle.packed_pages.specs.Packs.{packed_record, records, joined, page_with, entries_from, bytes_of}
+use Rattle.packed_pages.specs.Marks.{IsMark}
 use Rattle.packed_pages.specs.Layout.{place_in, first_line, page_in, pages_in, lines_on}
 
 pub place-more : (n : ℕ) (page : List ℕ) → place_in (n + 1) page ≡ place_in n page + 4 + stated page (place_in n page)
 place-more n page = let e : n + 1 ≡ suc n = omega arith in rw e refl
+
+-- the record behind a mark
+pub mark_behind : (page : List ℕ) (m : Mark) (end : ℕ) → IsMark page m → end ≡ m.at + 4 + stated page m.at → end ≤ length page → IsMark page (record { before = m.before + 1; at = end })
+mark_behind page m end is behind within = record {
+  place = behind ∙ ap (λ p. p + 4 + stated page p) is.place ∙ sym (place-more m.before page);
+  within = within;
+}
 
 pub record-length : (line : List ℕ) → length (packed_record line) ≡ 4 + length line
 unfolding packed_record

@@ -11,9 +11,11 @@ use Rattle.line_store.specs.Store.{Seen}
 use Rattle.page_pair.specs.Pair.{Pair, page_of}
 use Rattle.file_pieces.specs.Records.{stated}
 use Rattle.packed_pages.specs.declared.layout.Layout.{Layout}
+use Rattle.packed_pages.specs.declared.marks.PageMarks.{PageMarks}
 use Rattle.packed_pages.specs.declared.places.Place.{Place}
 use Rattle.packed_pages.specs.declared.places.Places.{Places}
 use Rattle.packed_pages.specs.declared.searching.Span.{Span}
+use Rattle.packed_pages.specs.Marks.{IsMark, AreMarks}
 use Rattle.packed_pages.specs.Layout.{IsLayout, HasPacks, IsPageOf, first_line, page_in, place_in, lines_told}
 
 -- where the line that a half holds stands
@@ -53,7 +55,7 @@ pub record IsOnPage (pair : Pair) (l : Layout) (v : ScratchView) (h : Half) (p :
   pub high : p.line < p.next
   pub page : p.page < l.pages
   pub place : p.at ≡ place_in (p.line - p.first) (page_of pair h)
-  pub within : p.at ≤ l.size
+  pub within : p.at ≤ length (page_of pair h)
   pub told : HoldsPage pair l v h p
 
 -- a half holds the line of a place
@@ -61,7 +63,7 @@ pub record IsLoaded (pair : Pair) (l : Layout) (v : ScratchView) (h : Half) (p :
   pub on : IsOnPage pair l v h p
   pub some : 1 ≤ p.line
   pub most : p.line ≤ l.count
-  pub fits : p.at + 4 + stated (page_of pair h) p.at ≤ l.size
+  pub fits : p.at + 4 + stated (page_of pair h) p.at ≤ length (page_of pair h)
 
 -- the scratch holds the packed pages of the layout
 abbrev pub HoldsPacks : Layout → ScratchView → Type 0
@@ -82,21 +84,26 @@ HoldsPageOf l places v h k = (p : Place) → place_of places h ≡ Some p → (b
 abbrev pub HasPageOf : Places → Half → ℕ → Type 0
 HasPageOf places h k = (p : Place) × ((place_of places h ≡ Some p) × ((p.first ≤ k) × (k < p.next)))
 
+-- a place is a record of each page that has these marks
+pub record IsMarked (ms : PageMarks) (p : Place) : Type 0 where
+  pub low : p.first ≤ p.line
+  pub is : (page : List ℕ) → AreMarks page ms → IsMark page (record { before = p.line - p.first; at = p.at })
+
 -- a place on the page of another, at a line that isn't after line k
-pub record IsStart (held : Place) (k : ℕ) (p : Place) : Type 0 where
+pub record IsStart (held : Place) (ms : PageMarks) (k : ℕ) (p : Place) : Type 0 where
   pub first : p.first ≡ held.first
   pub next : p.next ≡ held.next
   pub page : p.page ≡ held.page
   pub low : p.line ≤ k
   pub high : k < p.next
-  pub place : (p ≡ held) ⊎ ((p.line ≡ p.first) × (p.at ≡ 0))
+  pub place : (p ≡ held) ⊎ IsMarked ms p
 
 -- the place from which line k is found, where a place that is held has it on its page
-abbrev pub IfStart : Option Place → ℕ → Option Place → Type 0
-IfStart None k None = ⊤
-IfStart None k (Some p) = ⊥
-IfStart (Some held) k None = (held.first ≤ k) → (k < held.next) → ⊥
-IfStart (Some held) k (Some p) = IsStart held k p
+abbrev pub IfStart : Option Place → PageMarks → ℕ → Option Place → Type 0
+IfStart None ms k None = ⊤
+IfStart None ms k (Some p) = ⊥
+IfStart (Some held) ms k None = (held.first ≤ k) → (k < held.next) → ⊥
+IfStart (Some held) ms k (Some p) = IsStart held ms k p
 
 -- at most so many reads of the scratch
 abbrev pub ReadsAtMost : ℕ → ScratchView → ScratchView → Type 0

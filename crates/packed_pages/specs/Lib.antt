@@ -1,5 +1,6 @@
 pub mod Packs
 pub mod Layout
+pub mod Marks
 pub mod Held
 pub mod Filling
 pub mod Copying

@@ -5,6 +5,7 @@ ghost use Rattle.std.specs.Prelude.{◌≡◌, ◌≢◌, ◌≤◌, ◌-◌, �
 ghost use Rattle.line_store.specs.declared.Half.{Half};
 ghost use Rattle.line_store.specs.Taking.{IsReset, IsEmpty};
 ghost use Rattle.page_pair.specs.Pair.{page_of, IsPair};
+ghost use Rattle.packed_pages.specs.Marks.{AreMarked};
 ghost use Rattle.packed_pages.specs.Held.{IsHeld};
 
 mod copying;
@@ -12,6 +13,7 @@ mod filling;
 mod laws;
 mod layout;
 mod loading;
+mod marks;
 mod places;
 mod searching;
 mod taking;
@@ -19,6 +21,7 @@ mod walking;
 
 use crate::layout::Layout;
 use crate::loading::load_line;
+use crate::marks::Marks;
 use crate::places::Places;
 use crate::taking::take_pages;
 use file_pieces::record::line_of;
@@ -34,7 +37,9 @@ pub struct PackedB<C: Scratch> {
     scratch: C,
     layout: Layout,
     places: Places,
+    marks: Marks,
     ghost held: { IsHeld pair layout places (C.view scratch) },
+    ghost marked: { AreMarked pair marks },
 }
 
 impl<C: Scratch> PackedB<C> {
@@ -53,6 +58,7 @@ impl<C: Scratch> PackedB<C> {
             scratch,
             layout,
             places: Places::new(),
+            marks: Marks::new(),
         }
     }
 
@@ -101,6 +107,7 @@ impl<C: Scratch> LineStore for PackedB<C> {
             &mut self.pair,
             &mut self.scratch,
             &mut self.places,
+            &mut self.marks,
             self.layout,
             k,
             half,
@@ -126,13 +133,13 @@ impl<C: Scratch> Plan for PackedB<C> {
 
     fn take_file<T: Tree>(&mut self, tree: &mut T, name: &Name) -> Result<(), OpenFault> {
         self.take_empty();
-        match take_pages(&mut self.pair, &mut self.scratch, tree, name) {
-            Ok(layout) => {
-                self.layout = layout;
-                Ok(())
-            }
-            Err(fault) => Err(fault),
-        }
+        self.marks = Marks::new();
+        let layout = match take_pages(&mut self.pair, &mut self.scratch, tree, name) {
+            Ok(layout) => layout,
+            Err(fault) => return Err(fault),
+        };
+        self.layout = layout;
+        Ok(())
     }
 
     fn take_empty(&mut self) {

@@ -4,13 +4,15 @@ ghost use Rattle.std.specs.Prelude.{◌≡◌, ◌≢◌, ◌≤◌, ◌<◌, �
 ghost use Rattle.outside.specs.ScratchView.{ScratchPasses};
 ghost use Rattle.line_store.specs.declared.Half.{Half};
 ghost use Rattle.line_store.specs.Store.{Keeps, HasCause};
-ghost use Rattle.page_pair.specs.Pair.{page_of};
+ghost use Rattle.page_pair.specs.Pair.{Pair, page_of};
 ghost use Rattle.file_pieces.specs.Records.{stated};
 ghost use Rattle.packed_pages.specs.declared.places.Place.{Place};
 ghost use Rattle.packed_pages.specs.Layout.{IsLayout, page_in, place_in};
+ghost use Rattle.packed_pages.specs.Marks.{IsMark, AreMarks, AreMarked, marks_of};
 ghost use Rattle.packed_pages.specs.Held.{seen_of, place_of, line_held, IsHeld, IsOnPage, IsLoaded, HoldsPage, HoldsPacks, HoldsPageOf, HasPageOf, HasPageCause, IsRecordFault, IfStart, ReadsAtMost, ReadsByDigits};
 
 use crate::layout::Layout;
+use crate::marks::{Mark, Marks};
 use crate::places::{Place, Places};
 use crate::searching::find_page;
 use crate::walking::find_record;
@@ -85,18 +87,20 @@ fn open_page<C: Scratch>(
 }
 
 /// A place from which line `k` is found on the page that a half holds, if that is its page.
-fn held_start(places: Places, half: Half, k: u64) -> Option<Place>
-    ensures { IfStart (place_of places half) k result }
+fn held_start(places: Places, marks: &mut Marks, half: Half, k: u64) -> Option<Place>
+    ensures start { IfStart (place_of places half) (marks_of marks.old half) k result }
+    ensures marked { (pair : Pair) → AreMarked pair marks.old → AreMarked pair marks.new }
 {
     match places.get(half) {
-        Some(place) => start_on(place, k),
+        Some(place) => start_on(place, marks, half, k),
         None => None,
     }
 }
 
-/// The place itself, or that of its page's first line where line `k` stands before it.
-fn start_on(place: Place, k: u64) -> Option<Place>
-    ensures { IfStart (Some place) k result }
+/// The place itself, or a marked one of its page where line `k` stands before it.
+fn start_on(place: Place, marks: &mut Marks, half: Half, k: u64) -> Option<Place>
+    ensures start { IfStart (Some place) (marks_of marks.old half) k result }
+    ensures marked { (pair : Pair) → AreMarked pair marks.old → AreMarked pair marks.new }
 {
     if k < place.first || k >= place.next {
         return None;
@@ -104,26 +108,62 @@ fn start_on(place: Place, k: u64) -> Option<Place>
     if place.line <= k {
         return Some(place);
     }
+    let mark = marks.back_to(half, k - place.first);
     Some(Place {
-        line: place.first,
-        at: 0,
+        line: place.first + mark.before,
+        at: mark.at,
         ..place
     })
 }
 
+/// The place of a record, found on the page of a half from one before it.
+fn find_in(
+    page: &[u8],
+    marks: &mut Marks,
+    half: Half,
+    start: Mark,
+    wanted: u64,
+) -> Result<usize, LineFault>
+    requires small { length page.now ≤ 2 ^ 20 }
+    requires marks { AreMarks page.now (marks_of marks.old half) }
+    requires start { IsMark page.now start }
+    requires order { start.before ≤ wanted }
+    ensures marks { AreMarks page.now (marks_of marks.new half) }
+    ensures other { (h : Half) → h ≢ half → marks_of marks.new h ≡ marks_of marks.old h }
+    ensures place { IfOk result (λ place. place ≡ place_in wanted page.now) }
+    ensures within { IfOk result (λ place. place + 4 + stated page.now place ≤ length page.now) }
+    ensures cause { IfErr result (λ e. IsRecordFault e wanted page.now) }
+{
+    match half {
+        Half::First => find_record(page, &mut marks.first, start, wanted),
+        Half::Second => find_record(page, &mut marks.second, start, wanted),
+    }
+}
+
 /// The place of line `k`, found from that of a line before it on its page.
-fn walk(pair: &PagePair, half: Half, start: Place, k: u64) -> Result<Place, LineFault>
+fn walk(
+    pair: &PagePair,
+    marks: &mut Marks,
+    half: Half,
+    start: Place,
+    k: u64,
+) -> Result<Place, LineFault>
+    requires marked { AreMarked pair.now marks.old }
     requires low { start.first ≤ start.line }
     requires place { start.at ≡ place_in (start.line - start.first) (page_of pair.now half) }
-    requires within { start.at ≤ pair.now.size }
+    requires within { start.at ≤ length (page_of pair.now half) }
     requires order { start.line ≤ k }
+    ensures marked { AreMarked pair.now marks.new }
     ensures line { IfOk result (λ p. p ≡ record { line = k; at = p.at; first = start.first; next = start.next; page = start.page }) }
     ensures place { IfOk result (λ p. p.at ≡ place_in (k - start.first) (page_of pair.now half)) }
-    ensures within { IfOk result (λ p. p.at + 4 + stated (page_of pair.now half) p.at ≤ pair.now.size) }
+    ensures within { IfOk result (λ p. p.at + 4 + stated (page_of pair.now half) p.at ≤ length (page_of pair.now half)) }
     ensures cause { IfErr result (λ e. IsRecordFault e (k - start.first) (page_of pair.now half)) }
 {
-    let before = start.line - start.first;
-    let at = find_record(pair.page(half), before, start.at, k - start.first)?;
+    let mark = Mark {
+        before: start.line - start.first,
+        at: start.at,
+    };
+    let at = find_in(pair.page(half), marks, half, mark, k - start.first)?;
     Ok(Place {
         line: k,
         at,
@@ -136,15 +176,18 @@ fn reach<C: Scratch>(
     pair: &mut PagePair,
     scratch: &mut C,
     places: Places,
+    marks: &mut Marks,
     layout: Layout,
     k: u64,
     half: Half,
 ) -> Result<Place, LineFault>
     requires held { IsHeld pair.old layout places (C.view scratch.old) }
+    requires marked { AreMarked pair.old marks.old }
     requires low { 1 ≤ k }
     requires high { k ≤ layout.count }
     ensures size { pair.new.size ≡ pair.old.size }
     ensures other { (h : Half) → h ≢ half → page_of pair.new h ≡ page_of pair.old h }
+    ensures marked { AreMarked pair.new marks.new }
     ensures place { IfOk result (λ p. IsOnPage pair.new layout (C.view scratch.new) half p) }
     ensures low { IfOk result (λ p. p.line ≤ k) }
     ensures high { IfOk result (λ p. k < p.next) }
@@ -154,9 +197,12 @@ fn reach<C: Scratch>(
     ensures still { HasPageOf places half k → (C.view scratch.new).reads ≡ (C.view scratch.old).reads }
     ensures cause { IfErr result (λ e. HasPageCause e (C.view scratch.old) (C.view scratch.new)) }
 {
-    match held_start(places, half, k) {
+    match held_start(places, marks, half, k) {
         Some(start) => Ok(start),
-        None => open_page(pair, scratch, layout, k, half),
+        None => {
+            marks.clear(half);
+            open_page(pair, scratch, layout, k, half)
+        }
     }
 }
 
@@ -165,15 +211,18 @@ fn find_line<C: Scratch>(
     pair: &mut PagePair,
     scratch: &mut C,
     places: Places,
+    marks: &mut Marks,
     layout: Layout,
     k: u64,
     half: Half,
 ) -> Result<Place, LineFault>
     requires held { IsHeld pair.old layout places (C.view scratch.old) }
+    requires marked { AreMarked pair.old marks.old }
     requires low { 1 ≤ k }
     requires high { k ≤ layout.count }
     ensures size { pair.new.size ≡ pair.old.size }
     ensures other { (h : Half) → h ≢ half → page_of pair.new h ≡ page_of pair.old h }
+    ensures marked { AreMarked pair.new marks.new }
     ensures loaded { IfOk result (λ p. IsLoaded pair.new layout (C.view scratch.new) half p) }
     ensures line { IfOk result (λ p. p.line ≡ k) }
     ensures passes { ScratchPasses (C.view scratch.old) (C.view scratch.new) }
@@ -182,8 +231,8 @@ fn find_line<C: Scratch>(
     ensures still { HasPageOf places half k → (C.view scratch.new).reads ≡ (C.view scratch.old).reads }
     ensures cause { IfErr result (λ e. HasPageCause e (C.view scratch.old) (C.view scratch.new)) }
 {
-    let start = reach(pair, scratch, places, layout, k, half)?;
-    match walk(pair, half, start, k) {
+    let start = reach(pair, scratch, places, marks, layout, k, half)?;
+    match walk(pair, marks, half, start, k) {
         Ok(place) => Ok(place),
         Err(fault) => Err(fault),
     }
@@ -194,14 +243,17 @@ pub fn load_line<C: Scratch>(
     pair: &mut PagePair,
     scratch: &mut C,
     places: &mut Places,
+    marks: &mut Marks,
     layout: Layout,
     k: u64,
     half: Half,
 ) -> Result<(), LineFault>
     requires held { IsHeld pair.old layout places.old (C.view scratch.old) }
+    requires marked { AreMarked pair.old marks.old }
     requires low { 1 ≤ k }
     requires high { k ≤ layout.count }
     ensures held { IsHeld pair.new layout places.new (C.view scratch.new) }
+    ensures marked { AreMarked pair.new marks.new }
     ensures loaded { OnOk result (line_held places.new half ≡ Some k) }
     ensures page { OnOk result (HoldsPageOf layout places.new (C.view scratch.new) half k) }
     ensures dropped { OnErr result (line_held places.new half ≡ None) }
@@ -212,7 +264,7 @@ pub fn load_line<C: Scratch>(
     ensures reads { ReadsByDigits layout.pages 1 (C.view scratch.old) (C.view scratch.new) }
     ensures still { HasPageOf places.old half k → (C.view scratch.new).reads ≡ (C.view scratch.old).reads }
 {
-    match find_line(pair, scratch, *places, layout, k, half) {
+    match find_line(pair, scratch, *places, marks, layout, k, half) {
         Ok(place) => {
             places.set(half, Some(place));
             Ok(())

@@ -1,3 +1,4 @@
+ghost use Rattle.std.specs.Prelude.{◌≤◌};
 ghost use Rattle.line_store.specs.Taking.{IsSize};
 
 use super::*;
@@ -114,6 +115,47 @@ fn lends_lines_of_many_pages(rt: HostRuntime) {
     assert!(rt; has_line(&mut plan, 2, Half::Second, b"a bc\n"));
     assert!(rt; has_line(&mut plan, 1, Half::Second, b"\0\0\n"));
     assert!(rt; has_line(&mut plan, 801, Half::First, b"\0"));
+}
+
+/// The text of line `k` of `numbered`.
+fn digits(k: u64) -> [u8; 4] {
+    let digit = |n: u64| b'0' + (n % 10) as u8;
+    [digit(k / 100), digit(k / 10), digit(k), b'\n']
+}
+
+/// So many lines that hold their numbers.
+fn numbered(alloc: Global, count: u64) -> Option<Vec<u8>> {
+    let mut bytes = Vec::new(alloc);
+    for k in 0..count {
+        if bytes.extend_from_slice(&digits(k + 1)).is_err() {
+            return None;
+        }
+    }
+    Some(bytes)
+}
+
+/// Whether a half lends line `k` and the two behind it in turn.
+fn has_three(plan: &mut PackedB<MemScratch>, k: u64) -> bool
+    requires { k ≤ 1000 }
+{
+    (k..k + 3).all(|k| has_line(plan, k, Half::Second, &digits(k)))
+}
+
+#[test]
+fn goes_backwards_over_many_lines(rt: HostRuntime) {
+    let alloc = rt.alloc();
+    let Some(bytes) = numbered(alloc, 900) else {
+        assert!(rt; false);
+        return;
+    };
+    let Ok((mut plan, answer)) = taken(alloc, 4096, bytes, Vec::new(alloc)) else {
+        assert!(rt; false);
+        return;
+    };
+    assert_eq!(rt; answer, Ok(()));
+    for k in 0..898 {
+        assert!(rt; has_three(&mut plan, 898 - k));
+    }
 }
 
 #[test]

@@ -3,8 +3,10 @@
 ghost use Rattle.std.specs.Prelude.{◌≡◌, ◌≤◌, ◌<◌, ◌+◌, ◌^◌, length, IfOk, IfErr};
 ghost use Rattle.file_pieces.specs.Records.{stated};
 ghost use Rattle.packed_pages.specs.Layout.{place_in};
+ghost use Rattle.packed_pages.specs.Marks.{IsMark, AreMarks};
 ghost use Rattle.packed_pages.specs.Held.{IsRecordFault, IsPastEnd};
 
+use crate::marks::{Mark, PageMarks, keep};
 use file_pieces::record::stated_length;
 use line_store::LineFault;
 
@@ -34,21 +36,31 @@ fn record_end(page: &[u8], at: usize) -> Result<usize, LineFault>
     Ok(at + 4 + length as usize)
 }
 
-/// The place of the record that has `wanted` before it, found from that of the one that has `before` before it.
-pub fn find_record(page: &[u8], before: u64, at: usize, wanted: u64) -> Result<usize, LineFault>
+/// The place of the record that has `wanted` before it, found from one before it. Records on the way are marked.
+#[tactic(auto, using(crate::proofs::Pages::mark_behind))]
+pub fn find_record(
+    page: &[u8],
+    marks: &mut PageMarks,
+    start: Mark,
+    wanted: u64,
+) -> Result<usize, LineFault>
     requires small { length page.now ≤ 2 ^ 20 }
-    requires place { at ≡ place_in before page.now }
-    requires within { at ≤ length page.now }
-    requires order { before ≤ wanted }
+    requires marks { AreMarks page.now marks.old }
+    requires start { IsMark page.now start }
+    requires order { start.before ≤ wanted }
+    ensures marks { AreMarks page.now marks.new }
     ensures place { IfOk result (λ place. place ≡ place_in wanted page.now) }
     ensures within { IfOk result (λ place. place + 4 + stated page.now place ≤ length page.now) }
     ensures cause { IfErr result (λ e. IsRecordFault e wanted page.now) }
 {
-    let (mut now, mut place) = (before, at);
-    while now < wanted {
-        place = record_end(page, place)?;
-        now += 1;
+    let mut now = start;
+    while now.before < wanted {
+        now = Mark {
+            before: now.before + 1,
+            at: record_end(page, now.at)?,
+        };
+        keep(page, marks, now);
     }
-    record_end(page, place)?;
-    Ok(place)
+    record_end(page, now.at)?;
+    Ok(now.at)
 }

@@ -6,4 +6,4 @@ pub returns-clause-empty : goal.returns-clause-empty
 returns-clause-empty g c = empty-seen c.new-layout.result c.new.result (g.C.Scratch.view c.args.scratch) c.new-layout.ensures.count
 
 pub invariant_of-result : goal.invariant_of-result
-invariant_of-result g c = record { held = empty-held c.args.pair c.new-layout.result c.new.result (g.C.Scratch.view c.args.scratch) c.new-layout.ensures.is (c.new-layout.ensures.size ∙ c.size.ensures.size) c.new-layout.ensures.count c.new.ensures }
+invariant_of-result g c = record { held = empty-held c.args.pair c.new-layout.result c.new.result (g.C.Scratch.view c.args.scratch) c.new-layout.ensures.is (c.new-layout.ensures.size ∙ c.size.ensures.size) c.new-layout.ensures.count c.new.ensures; marked = c.new-2.ensures c.args.pair }

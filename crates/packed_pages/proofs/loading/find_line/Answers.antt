@@ -1,4 +1,4 @@
-use Rattle.std.proofs.Common.{◌≡◌, ◌≤◌, ◌-◌, Some, sym, ◌∙◌, arith}
+use Rattle.std.proofs.Common.{◌≤◌, ◌-◌, ◌∙◌, arith}
 use Rattle.page_pair.specs.Pair.{page_of}
 use Rattle.file_pieces.proofs.Windows.{none-unless}
 use Rattle.packed_pages.proofs.HeldLemmas.{no-overrun, record-cause}

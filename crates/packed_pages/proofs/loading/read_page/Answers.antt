@@ -1,5 +1,4 @@
-use Rattle.std.proofs.Common.{◌≡◌, ◌≤◌, ◌+◌, ◌-◌, ◌*◌, ℕ, length, sym, arith, length-drop, drop, take, ap, ◌∙◌}
-use Rattle.page_pair.specs.Pair.{page_of, with_page}
+use Rattle.std.proofs.Common.{◌≡◌, ◌≤◌, ◌+◌, ◌-◌, ◌*◌, ℕ, length, sym, arith, length-drop, drop, ap, ◌∙◌}
 use Rattle.file_pieces.proofs.Windows.{none-unless, came-whole, page-length}
 use Rattle.packed_pages.proofs.Spans.{page-there}
 use Rattle.packed_pages.proofs.loading.read_page.Goals as goal
