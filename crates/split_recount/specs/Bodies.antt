@@ -1,5 +1,5 @@
 -- The body of a hunk whose counts aren't trusted: where it ends, what it has on each side, and its backslash lines.
-use Rattle.std.specs.Prelude.{ℕ, ◌+◌, Bool, true, false, not, ◌&&◌, ◌||◌, List, [], ◌∷◌, codes, filter_map, bytes_eq, Option, None, Some, is_some, option_map, if◌then◌else◌}
+use Rattle.std.specs.Prelude.{ℕ, ◌+◌, Bool, true, false, not, ◌==◌, ◌&&◌, ◌||◌, List, [], ◌∷◌, codes, filter_map, bytes_eq, Option, None, Some, is_some, option_map, if◌then◌else◌}
 use Rattle.hunk_core.specs.declared.Mark.{Mark}
 use Rattle.hunk_core.specs.PlainHunk.{Marked}
 use Rattle.hunk_core.specs.LineTests.{after, is_backslash}
@@ -19,7 +19,8 @@ begins_header line (next ∷ rest) = begins (codes "--- ") line && begins (codes
 
 -- a space, a plus, a minus, or a backslash and a space
 abbrev pub is_body_line : List ℕ → Bool
-is_body_line line = begins (codes " ") line || begins (codes "+") line || begins (codes "-") line || is_backslash line
+is_body_line [] = false
+is_body_line (b ∷ bytes) = b == 32 || b == 43 || b == 45 || is_backslash (b ∷ bytes)
 
 -- the line `-- ` of a mailed patch
 abbrev pub is_signature : List ℕ → Bool

@@ -88,6 +88,10 @@ recounting number earlier in_body (line ∷ rest) =
 abbrev pub bytes_of : List (List ℕ) → List ℕ
 bytes_of ls = flat_map (λ line. line) ls
 
--- the completed text with the true counts, or its first fault
+-- the bytes of lines with true counts, or their first fault
+abbrev pub recounted_lines : List (List ℕ) → Result (List ℕ) Fault
+recounted_lines ls = recounting 1 none false ls >>= λ new. Ok (bytes_of new)
+
+-- the completed text with true counts, or its first fault
 abbrev pub recounted : List ℕ → Result (List ℕ) Fault
-recounted text = recounting 1 none false (lines (completed text)) >>= λ ls. Ok (bytes_of ls)
+recounted text = recounted_lines (lines (completed text))

@@ -1,11 +1,14 @@
 //! The body of a hunk whose counts aren't trusted.
 
-ghost use Rattle.std.specs.Prelude.{◌≡◌, ◌<◌, ◌≤◌, ◌^◌, length, drop, slice_range, option_map, None};
+ghost use Rattle.std.specs.Prelude.{◌≡◌, ◌+◌, ◌<◌, ◌≤◌, ◌^◌, length, drop, slice_range, None, not, ◌&&◌, ◌||◌};
 ghost use Rattle.line_list.specs.Lines.{lines};
-ghost use Rattle.hunk_core.specs.Reading.{Reads};
-ghost use Rattle.unified_form.specs.Bodies.{is_last_line};
-ghost use Rattle.split_recount.specs.Bodies.{begins_header, is_body_line, ends_body, body_of, mark_in, misplaced};
-ghost use Rattle.split_recount.specs.Measured.{left_of, with_mark, GoesOn, IsMeasured};
+ghost use Rattle.hunk_core.specs.LineTests.{is_backslash};
+ghost use Rattle.hunk_core.specs.Reading.{Gives};
+ghost use Rattle.unified_form.specs.declared.body.Left.{Left};
+ghost use Rattle.unified_form.specs.Grammar.{counts_of};
+ghost use Rattle.split_recount.specs.Bodies.{begins_header, is_body_line, ends_body, marked_lines, mark_in, may_stand, misplaced};
+ghost use Rattle.split_recount.specs.Recounted.{sound_body};
+ghost use Rattle.split_recount.specs.Measured.{left_of, with_mark, body_at, GoesOn, IsMeasured};
 
 use hunk_core::{BadKind, FormFault, Mark, after_prefix, bad, begins_backslash};
 use line_list::next_line;
@@ -32,8 +35,9 @@ fn is_body_byte(line: &[u8]) -> bool
     ensures { result ≡ is_body_line line.now }
 {
     match line {
+        [] => false,
         [b' ' | b'+' | b'-', ..] => true,
-        _ => begins_backslash(line),
+        [_, ..] => begins_backslash(line),
     }
 }
 
@@ -54,16 +58,21 @@ fn at_header(text: &[u8], at: usize, end: usize) -> bool
 
 /// Whether a body ends in front of the line from `at` to `end`. An opening and an empty line begin
 /// otherwise than the lines of a body.
+#[tactic(auto, using(crate::proofs::Ends::ends_so))]
 fn is_end(text: &[u8], at: usize, end: usize) -> bool
     requires low { at ≤ end }
     requires high { end ≤ length text.now }
     ensures { result ≡ ends_body (slice_range text.now at end) (lines (drop end text.now)) }
 {
     let line = &text[at..end];
-    !is_body_byte(line) || line == b"-- \n".as_slice() || at_header(text, at, end)
+    if !is_body_byte(line) || line == b"-- \n".as_slice() {
+        return true;
+    }
+    at_header(text, at, end)
 }
 
 /// The place behind the line at `at`, if the body goes on over it.
+#[tactic(auto, using(crate::proofs::Ends::body_none, crate::proofs::Ends::body_ends, crate::proofs::Ends::body_more))]
 fn body_line(text: &[u8], at: usize) -> Option<usize>
     requires { at ≤ length text.now }
     ensures { GoesOn text.now at result }
@@ -109,6 +118,12 @@ fn one_more(sides: Sides, mark: Option<Mark>) -> Sides
     }
 }
 
+fn or_backslash(seen: bool, line: &[u8]) -> bool
+    ensures { result ≡ (seen || is_backslash line.now) }
+{
+    seen || begins_backslash(line)
+}
+
 /// The body that begins at `at`.
 pub fn measure(text: &[u8], at: usize) -> Body
     requires within { at ≤ length text.now }
@@ -128,7 +143,7 @@ pub fn measure(text: &[u8], at: usize) -> Body
             end,
             lines: body.lines + 1,
             sides: one_more(body.sides, mark),
-            has_backslash: body.has_backslash || begins_backslash(line),
+            has_backslash: or_backslash(body.has_backslash, line),
         };
     }
     body
@@ -167,6 +182,13 @@ fn is_lawful(before: Option<Mark>, behind: Sides) -> bool
     }
 }
 
+/// Whether a line is a backslash line that may not stand there.
+fn is_misplaced(line: &[u8], before: Option<Mark>, behind: Sides) -> bool
+    ensures { result ≡ (is_backslash line.now && not (may_stand before (left_of behind))) }
+{
+    begins_backslash(line) && !is_lawful(before, behind)
+}
+
 /// The number of the first backslash line that is misplaced in the body that begins at `at`.
 fn first_misplaced(text: &[u8], at: usize, number: u64, sides: Sides) -> Option<u64>
     requires within { at ≤ length text.now }
@@ -183,7 +205,7 @@ fn first_misplaced(text: &[u8], at: usize, number: u64, sides: Sides) -> Option<
         let line = &text[at..end];
         let mark = mark_of(line);
         left = one_less(left, mark);
-        if begins_backslash(line) && !is_lawful(before, left) {
+        if is_misplaced(line, before, left) {
             return Some(number);
         }
         at = end;
@@ -193,6 +215,7 @@ fn first_misplaced(text: &[u8], at: usize, number: u64, sides: Sides) -> Option<
     None
 }
 
+#[tactic(auto, using(crate::proofs::Misplaced::none_misplaced, crate::proofs::Misplaced::sound_if))]
 /// Refuses a body without lines, and one with a misplaced backslash line, behind the range line with
 /// this number.
 pub fn check_body(text: &[u8], at: usize, number: u64, body: Body) -> Result<(), FormFault>

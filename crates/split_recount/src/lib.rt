@@ -8,6 +8,7 @@ ghost use Rattle.split_recount.specs.RangeLines.{range_parts};
 mod body;
 mod ranges;
 mod recounting;
+mod starts;
 #[cfg(test)]
 mod tests;
 

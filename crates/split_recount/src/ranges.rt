@@ -1,6 +1,6 @@
 //! The range line of a hunk whose counts aren't trusted.
 
-ghost use Rattle.std.specs.Prelude.{◌≡◌, ◌++◌, List, ℕ, length, OnOk};
+ghost use Rattle.std.specs.Prelude.{◌≡◌, ◌<◌, ◌^◌, ◌++◌, ◌||◌, IfOk, OnOk, if◌then◌else◌};
 ghost use Rattle.num_text.specs.Numbers.{decimal};
 ghost use Rattle.hunk_core.specs.Reading.{Reads};
 ghost use Rattle.unified_form.specs.Ranges.{range_at, is_bad_range, is_too_large};
@@ -9,7 +9,7 @@ ghost use Rattle.split_recount.specs.RangeLines.{range_parts, stated};
 ghost use Rattle.split_recount.specs.Walking.{Says, ranges_of, written};
 
 use hunk_core::{BadKind, after_prefix};
-use num_text::{put_number, read_range};
+use num_text::{NumberRange, put_number, read_range};
 use std::alloc::AllocError;
 
 /// Some lines of a file. A number above the greatest `u32` stands as one more than that.
@@ -19,19 +19,24 @@ pub struct Range {
     pub count: u64,
 }
 
+/// Without a second number the count is 1.
+fn count_of(range: NumberRange) -> u64
+    ensures { result ≡ (if range.is_single then 1 else range.last) }
+{
+    if range.is_single { 1 } else { range.last }
+}
+
 /// A range, and what stands after it.
+#[tactic(auto, using(crate::proofs::Alike::ranges_alike))]
 fn range_of(bytes: &[u8]) -> Option<(Range, &[u8])>
     ensures { Reads (λ x. ((x.0.start, x.0.count), x.1.now)) result (range_at bytes.now) }
 {
     let (range, rest) = read_range(bytes)?;
-    let count = if range.is_single { 1 } else { range.last };
-    Some((
-        Range {
-            start: range.first,
-            count,
-        },
-        rest,
-    ))
+    let range = Range {
+        start: range.first,
+        count: count_of(range),
+    };
+    Some((range, rest))
 }
 
 #[tactic(auto, unfolding(crate::specs::RangeLines::range_parts))]
@@ -55,10 +60,17 @@ fn is_bad(range: Range) -> bool
 const MAX: u64 = 4_294_967_295;
 
 /// Whether a range goes on above the greatest number.
-pub fn is_large(range: Range) -> bool
+fn is_large(range: Range) -> bool
     ensures { result ≡ is_too_large range.start range.count }
 {
     range.start > MAX || range.count > MAX - range.start
+}
+
+/// Whether one of two does.
+pub fn are_large(old: Range, new: Range) -> bool
+    ensures { result ≡ (is_too_large old.start old.count || is_too_large new.start new.count) }
+{
+    is_large(old) || is_large(new)
 }
 
 /// The old start, and what stands behind the ranges of a line.
@@ -72,7 +84,7 @@ pub fn stated_by(line: &[u8]) -> Result<(u64, &[u8]), BadKind>
     if is_bad(old) || is_bad(new) {
         return Err(BadKind::Range);
     }
-    if is_large(old) || is_large(new) {
+    if are_large(old, new) {
         return Err(BadKind::NumberTooLarge);
     }
     Ok((old.start, rest))
