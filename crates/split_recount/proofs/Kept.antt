@@ -69,6 +69,7 @@ range-first start count more = by (eqb count 1)
   where
     numeral : (behind : List ℕ) → (d : ℕ) × (rest : List ℕ) × (decimal start ++ behind ≡ d ∷ rest) × (is_digit d ≡ true)
     numeral behind = let is = decimal-numeral start in digit-first (decimal start) behind is.some is.digits
+
     by : (v : Bool) → (d : ℕ) × (rest : List ℕ) × (cond v (decimal start) (decimal start ++ 44 ∷ decimal count) ++ more ≡ d ∷ rest) × (is_digit d ≡ true)
     by true = numeral more
     by false = let f = numeral (44 ∷ decimal count ++ more) in (f.0, f.1, append_assoc (decimal start) (44 ∷ decimal count) more ∙ f.2, f.3)
@@ -80,10 +81,12 @@ written-opens old new counts rest =
     words.1 (f.0, f.1, ap (λ (bs : List ℕ). 64 ∷ 64 ∷ 32 ∷ 45 ∷ bs) f.2, f.3)
 
 written-counts : (old new : ℕ) (body : List Marked) (rest : List ℕ) → Counts (line_with old new (counts_of body) rest) body
-written-counts old new body rest =
-    (record { old_start = old; old_count = (counts_of body).old; new_start = new; new_count = (counts_of body).new },
-     record { old = range_text old (counts_of body).old; new = range_text new (counts_of body).new; rest = rest; parts = refl; old_range = range-spelled old (counts_of body).old; new_range = range-spelled new (counts_of body).new },
-     counts-old body, counts-new body)
+written-counts old new body rest = (
+  record { old_start = old; old_count = (counts_of body).old; new_start = new; new_count = (counts_of body).new },
+  record { old = range_text old (counts_of body).old; new = range_text new (counts_of body).new; rest = rest; parts = refl; old_range = range-spelled old (counts_of body).old; new_range = range-spelled new (counts_of body).new },
+  counts-old body,
+  counts-new body,
+)
 
 line-true : (number : ℕ) (earlier : Left) (line : List ℕ) (body : List (List ℕ)) (new : List ℕ) → recounted_line number earlier line body ≡ Ok new → IsTrue line new body
 unfolding recounted_line

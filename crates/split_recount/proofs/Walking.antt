@@ -130,14 +130,17 @@ step-line text from end earlier old is place other e =
     let few = no-more (left_of from.earlier) line from.at is.old is.new in
     let to : Reached = record { at = end; number = from.number + 1; earlier = earlier } in
     let ahead : ahead_of text from ≡ in_front line (ahead_of text to) =
-        ap (recounting from.number (left_of from.earlier) false) place.first ∙ other-line from.number (left_of from.earlier) line (lines (drop end text)) other
-        ∙ ap (λ l. in_front line (recounting (from.number + 1) l false (lines (drop end text)))) (sym e) in
-    (record {
-      within = place.high;
-      number = omega (arith, is.number, place.low);
-      old = omega (arith, few.0, place.low, ap (λ (l : Left). l.old) e);
-      new = omega (arith, few.1, place.low, ap (λ (l : Left). l.new) e);
-    }, place.low, ap (behind old) ahead ∙ behind-line old line (ahead_of text to))
+    ap (recounting from.number (left_of from.earlier) false) place.first ∙ other-line from.number (left_of from.earlier) line (lines (drop end text)) other
+    ∙ ap (λ l. in_front line (recounting (from.number + 1) l false (lines (drop end text)))) (sym e) in (
+      record {
+        within = place.high;
+        number = omega (arith, is.number, place.low);
+        old = omega (arith, few.0, place.low, ap (λ (l : Left). l.old) e);
+        new = omega (arith, few.1, place.low, ap (λ (l : Left). l.new) e);
+      },
+      place.low,
+      ap (behind old) ahead ∙ behind-line old line (ahead_of text to),
+    )
 
 pub step-refused : (text : List ℕ) (from : Reached) (end : ℕ) (wrong : FormFault) → IsLineAt text from.at end → is_opening (slice_range text from.at end) ≡ true
     → Fails wrong (recounted_line from.number (left_of from.earlier) (slice_range text from.at end) (body_at text end)) → Fails wrong (ahead_of text from)
@@ -152,18 +155,20 @@ step-hunk text from end b line old is place opens m e =
     let earlier : Left = with_body (left_of from.earlier) (counts_of (marked_lines (body_at text end))) in
     let counted : earlier ≡ left_of to.earlier = ap (with_body (left_of from.earlier)) m.sides in
     let body : recounting (from.number + 1) earlier true (lines (drop end text)) ≡ all_in_front (body_at text end) (ahead_of text to) =
-        all-kept (from.number + 1) earlier (lines (drop end text)) ∙ ap (λ n. all_in_front (body_at text end) (recounting (from.number + 1 + n) earlier false (behind_body (lines (drop end text))))) m.lines
-        ∙ ap (λ ls. all_in_front (body_at text end) (recounting to.number earlier false ls)) m.rest ∙ ap (λ l. all_in_front (body_at text end) (recounting to.number l false (lines (drop b.end text)))) counted in
+    all-kept (from.number + 1) earlier (lines (drop end text)) ∙ ap (λ n. all_in_front (body_at text end) (recounting (from.number + 1 + n) earlier false (behind_body (lines (drop end text))))) m.lines
+    ∙ ap (λ ls. all_in_front (body_at text end) (recounting to.number earlier false ls)) m.rest ∙ ap (λ l. all_in_front (body_at text end) (recounting to.number l false (lines (drop b.end text)))) counted in
     let ahead : ahead_of text from ≡ in_front line (all_in_front (body_at text end) (ahead_of text to)) =
-        ap (recounting from.number (left_of from.earlier) false) place.first ∙ opened from.number (left_of from.earlier) (slice_range text from.at end) (lines (drop end text)) line opens e ∙ ap (in_front line) body in
-    (record {
-      within = m.high;
-      number = omega (arith, is.number, place.low, m.few.lines);
-      old = omega (arith, is.old, place.low, m.few.lines, m.few.old);
-      new = omega (arith, is.new, place.low, m.few.lines, m.few.new);
-    }, omega (arith, place.low, m.few.lines),
+    ap (recounting from.number (left_of from.earlier) false) place.first ∙ opened from.number (left_of from.earlier) (slice_range text from.at end) (lines (drop end text)) line opens e ∙ ap (in_front line) body in (
+      record {
+        within = m.high;
+        number = omega (arith, is.number, place.low, m.few.lines);
+        old = omega (arith, is.old, place.low, m.few.lines, m.few.old);
+        new = omega (arith, is.new, place.low, m.few.lines, m.few.new);
+      },
+      omega (arith, place.low, m.few.lines),
       ap (behind old) ahead ∙ behind-line old line (all_in_front (body_at text end) (ahead_of text to)) ∙ behind-lines (old ++ line) (body_at text end) (ahead_of text to)
-      ∙ ap (λ (bs : List ℕ). behind ((old ++ line) ++ bs) (ahead_of text to)) m.bytes)
+          ∙ ap (λ (bs : List ℕ). behind ((old ++ line) ++ bs) (ahead_of text to)) m.bytes,
+    )
 
 -- ---- the whole text
 
