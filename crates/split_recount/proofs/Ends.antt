@@ -66,3 +66,11 @@ body_ends ls line rest e ends = rw (e, ends) refl
 pub body_more : (ls : List (List ℕ)) (line : List ℕ) (rest : List (List ℕ)) → ls ≡ line ∷ rest → ends_body line rest ≡ false → body_of ls ≡ line ∷ body_of rest
 unfolding body_of
 body_more ls line rest e goes = rw (e, goes) refl
+
+no-end : (a b d : Bool) → (not a || b || d) ≡ false → a ≡ true
+no-end true b d e = refl
+no-end false b d e = absurd cc
+
+-- what a body goes on over begins as the lines of a body do
+pub goes_body : (line : List ℕ) (rest : List (List ℕ)) → ends_body line rest ≡ false → is_body_line line ≡ true
+goes_body line rest e = no-end (is_body_line line) (is_signature line) (begins_header line rest) (sym (ends_so line rest) ∙ e)

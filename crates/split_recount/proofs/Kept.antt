@@ -18,15 +18,15 @@ use Rattle.hunk_core.proofs.ReadSteps.{bind_ok, chosen}
 use Rattle.unified_form.specs.declared.body.Left.{Left}
 use Rattle.unified_form.specs.Ranges.{is_opening, is_too_large}
 use Rattle.unified_form.specs.Canonical.{range_text}
-use Rattle.unified_form.specs.Grammar.{counts_of, SpellsRanges}
+use Rattle.unified_form.specs.Grammar.{counts_of, SpellsRange}
 use Rattle.unified_form.proofs.Canonical.{range-spelled}
-use Rattle.unified_form.proofs.Counts.{counts-old, counts-new}
 use Rattle.unified_form.proofs.Words.{opening-words}
 use Rattle.split_recount.specs.Bodies.{begins, begins_header, ends_body, body_of, marked_lines, misplaced}
 use Rattle.split_recount.specs.RangeLines.{stated, line_with}
 use Rattle.split_recount.specs.Recounted.{unplaced, line_at, new_start, true_line, at_line, unless_misplaced, sound_body, recounted_line, in_front, with_body, behind_line, none, recounting, recounted_lines, recounted, bytes_of}
-use Rattle.split_recount.specs.TrueCounts.{is_other, Counts, AreTrue}
+use Rattle.split_recount.specs.TrueCounts.{is_other, Spells, AreTrue}
 use Rattle.split_recount.proofs.Ends.{body_none, body_ends, body_more}
+use Rattle.split_recount.proofs.Spelled.{IsSpelled, body-spelled}
 use Rattle.split_recount.proofs.WholeLines.{said-line, written-line, all-whole, whole-pieces, whole-ends}
 
 -- ---- a range line
@@ -35,11 +35,11 @@ at-ok : {A : Type 0} (number : ℕ) (r : Result A BadKind) (x : A) → at_line n
 at-ok number (Ok y) x e = cc
 at-ok number (Err kind) x e = absurd cc
 
-unless-ok : (body marked : List Marked) (found : Option ℕ) → unless_misplaced body found ≡ Ok marked → body ≡ marked
-unless-ok body marked None e = cc
+unless-ok : (body marked : List Marked) (found : Option ℕ) → unless_misplaced body found ≡ Ok marked → (body ≡ marked) × (found ≡ None)
+unless-ok body marked None e = (cc, refl)
 unless-ok body marked (Some number) e = absurd cc
 
-sound-ok : (number : ℕ) (body : List (List ℕ)) (marked : List Marked) → sound_body number body ≡ Ok marked → marked_lines body ≡ marked
+sound-ok : (number : ℕ) (body : List (List ℕ)) (marked : List Marked) → sound_body number body ≡ Ok marked → (marked_lines body ≡ marked) × (misplaced None (number + 1) body ≡ None)
 sound-ok number body marked e =
     elim (chosen (eqb (length body) 0) _ _ (Ok marked) e) [
       | inl bad ↦ absurd (let is = bad.1 in cc)
@@ -57,7 +57,7 @@ line-ok h rest (Some start) new e =
 -- a range line was written with the counts of this body
 pub record IsTrue (line new : List ℕ) (body : List (List ℕ)) : Type 0 where
   pub opens : is_opening new ≡ true
-  pub counts : Counts new (marked_lines body)
+  pub counts : Spells new body
   pub whole : IsLine line → IsLine new
 
 digit-first : (ds more : List ℕ) → 0 < length ds → AllDigits ds → (d : ℕ) × (rest : List ℕ) × (ds ++ more ≡ d ∷ rest) × (is_digit d ≡ true)
@@ -80,28 +80,33 @@ written-opens old new counts rest =
     let words = opening-words (line_with old new counts rest) in
     words.1 (f.0, f.1, ap (λ (bs : List ℕ). 64 ∷ 64 ∷ 32 ∷ 45 ∷ bs) f.2, f.3)
 
-written-counts : (old new : ℕ) (body : List Marked) (rest : List ℕ) → Counts (line_with old new (counts_of body) rest) body
-written-counts old new body rest = (
-  record { old_start = old; old_count = (counts_of body).old; new_start = new; new_count = (counts_of body).new },
-  record { old = range_text old (counts_of body).old; new = range_text new (counts_of body).new; rest = rest; parts = refl; old_range = range-spelled old (counts_of body).old; new_range = range-spelled new (counts_of body).new },
-  counts-old body,
-  counts-new body,
-)
+written-counts : (old new : ℕ) (counts : Left) (body : List (List ℕ)) (rest : List ℕ) → counts_of (marked_lines body) ≡ counts → IsSpelled body → Spells (line_with old new counts rest) body
+written-counts old new counts body rest e is =
+    let same : counts ≡ counts_of is.body = sym (is.counts ∙ e) in
+    (record { old_start = old; new_start = new; body = is.body },
+     record {
+       old = range_text old counts.old;
+       new = range_text new counts.new;
+       rest = rest;
+       parts = refl;
+       old_range = subst (SpellsRange (range_text old counts.old) old) (ap (λ (l : Left). l.old) same) (range-spelled old counts.old);
+       new_range = subst (SpellsRange (range_text new counts.new) new) (ap (λ (l : Left). l.new) same) (range-spelled new counts.new);
+     },
+     is.spelled)
 
-line-true : (number : ℕ) (earlier : Left) (line : List ℕ) (body : List (List ℕ)) (new : List ℕ) → recounted_line number earlier line body ≡ Ok new → IsTrue line new body
+line-true : (number : ℕ) (earlier : Left) (line : List ℕ) (rest : List (List ℕ)) (new : List ℕ) → recounted_line number earlier line (body_of rest) ≡ Ok new → IsTrue line new (body_of rest)
 unfolding recounted_line
-line-true number earlier line body new e =
+line-true number earlier line rest new e =
     let a = bind_ok (at_line number (stated line)) _ new e in
-    let b = bind_ok (sound_body number body) _ new a.2 in
-    let marked = marked_lines body in
-    let same : marked ≡ b.0 = sound-ok number body b.0 b.1 in
+    let b = bind_ok (sound_body number (body_of rest)) _ new a.2 in
+    let sound = sound-ok number (body_of rest) b.0 b.1 in
     let said : stated line ≡ Ok a.0 = at-ok number (stated line) a.0 a.1 in
     let told : true_line earlier (unplaced a.0.0 b.0) a.0.1 ≡ Ok new = at-ok number (true_line earlier (unplaced a.0.0 b.0) a.0.1) new b.2 in
     let h : PlainHunk = unplaced a.0.0 b.0 in
     let w = line-ok h a.0.1 (new_start earlier h) new told in
     record {
       opens = subst (λ l. is_opening l ≡ true) w.1 (written-opens h.old_start w.0 (counts_of b.0) a.0.1);
-      counts = subst (Counts new) (sym same) (subst (λ l. Counts l b.0) w.1 (written-counts h.old_start w.0 b.0 a.0.1));
+      counts = subst (λ l. Spells l (body_of rest)) w.1 (written-counts h.old_start w.0 (counts_of b.0) (body_of rest) a.0.1 (ap counts_of sound.0) (body-spelled (number + 1) rest sound.1));
       whole = λ is. subst IsLine w.1 (written-line h.old_start w.0 (counts_of b.0) a.0.1 (said-line line a.0 is said));
     }
 
@@ -130,7 +135,7 @@ all-lines number earlier in_body (line ∷ rest) news e =
       | inl opens ↦ (
           let a = bind_ok (recounted_line number earlier line (body_of rest)) _ news opens.1 in
           let f = front-of line a.0 rest news _ a.2 in
-          subst (AreLinesOf (line ∷ rest)) f.2 (inr (opens.0, line-true number earlier line (body_of rest) a.0 a.1), all-lines (number + 1) (with_body earlier (counts_of (marked_lines (body_of rest)))) true rest f.0 f.1))
+          subst (AreLinesOf (line ∷ rest)) f.2 (inr (opens.0, line-true number earlier line rest a.0 a.1), all-lines (number + 1) (with_body earlier (counts_of (marked_lines (body_of rest)))) true rest f.0 f.1))
       | inr other ↦ (
           let f = front-of line line rest news _ other.1 in
           subst (AreLinesOf (line ∷ rest)) f.2 (inl (other.0, refl), all-lines (number + 1) (behind_line earlier (in_body && not (ends_body line rest)) line) (in_body && not (ends_body line rest)) rest f.0 f.1))
@@ -219,9 +224,9 @@ true-counts [] (new ∷ news) h = absurd h
 true-counts (line ∷ rest) [] h = absurd h
 true-counts (line ∷ rest) (new ∷ news) h = (one h.0, true-counts rest news h.1)
   where
-    one : IsLineOf line new (body_of rest) → is_opening new ≡ true → Counts new (marked_lines (body_of news))
+    one : IsLineOf line new (body_of rest) → is_opening new ≡ true → Spells new (body_of news)
     one (inl same) opens = absurd (let no : is_opening new ≡ false = ap is_opening (sym same.1) ∙ same.0 in cc)
-    one (inr true_one) opens = subst (λ body. Counts new (marked_lines body)) (sym (bodies rest news h.1)) true_one.1.counts
+    one (inr true_one) opens = subst (Spells new) (sym (bodies rest news h.1)) true_one.1.counts
 
 -- ---- texts
 

@@ -5,4 +5,5 @@ pub mod Alike
 pub mod Numbers
 pub mod Walking
 pub mod WholeLines
+pub mod Spelled
 pub mod Kept

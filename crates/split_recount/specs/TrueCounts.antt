@@ -1,20 +1,19 @@
--- What a text with true counts is, in terms of its lines alone.
-use Rattle.std.specs.Prelude.{◌≡◌, ℕ, Bool, true, not, List, [], ◌∷◌, length}
-use Rattle.hunk_core.specs.PlainHunk.{Marked, old_lines, new_lines}
-use Rattle.unified_form.specs.declared.range.Ranges.{Ranges}
+-- What a text with true counts is, in terms of its lines and of the unified grammar alone.
+use Rattle.std.specs.Prelude.{◌≡◌, ℕ, Bool, true, not, List, [], ◌∷◌}
+use Rattle.hunk_core.specs.PlainHunk.{PlainHunk}
 use Rattle.unified_form.specs.Ranges.{is_opening}
-use Rattle.unified_form.specs.Grammar.{SpellsRanges}
-use Rattle.split_recount.specs.Bodies.{body_of, marked_lines}
+use Rattle.unified_form.specs.Grammar.{ranges_of, SpellsRanges, SpellsBody}
+use Rattle.split_recount.specs.Bodies.{body_of}
 
 -- a line that isn't a range line
 abbrev pub is_other : List ℕ → Bool
 is_other line = not (is_opening line)
 
--- a range line that states as many lines on each side as a body has
-abbrev pub Counts : List ℕ → List Marked → Type 0
-Counts line body = (r : Ranges) × SpellsRanges line r × (r.old_count ≡ length (old_lines body)) × (r.new_count ≡ length (new_lines body))
+-- a hunk whose lines these are, and whose starts and numbers of lines the range line states
+abbrev pub Spells : List ℕ → List (List ℕ) → Type 0
+Spells line body = (h : PlainHunk) × SpellsRanges line (ranges_of h) × SpellsBody body h.body
 
--- each range line states the counts of the body behind it
+-- each range line states the numbers of lines of the body behind it
 abbrev pub AreTrue : List (List ℕ) → Type 0
 AreTrue [] = Unit {0}
-AreTrue (line ∷ rest) = (is_opening line ≡ true → Counts line (marked_lines (body_of rest))) × AreTrue rest
+AreTrue (line ∷ rest) = (is_opening line ≡ true → Spells line (body_of rest)) × AreTrue rest
