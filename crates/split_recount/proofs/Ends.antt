@@ -1,8 +1,7 @@
 -- Where a body ends, line by line.
 use Rattle.std.proofs.Common.{◌≡◌, ℕ, Bool, true, false, not, eqb, ◌&&◌, ◌||◌, List, [], ◌∷◌, refl, sym, ap, ◌∙◌}
 use Rattle.std.proofs.lemmas.Bool.{eqb-true}
-use Rattle.std.specs.Prelude.{is_some}
-use Rattle.hunk_core.specs.LineTests.{after, is_backslash}
+use Rattle.hunk_core.specs.LineTests.{after}
 use Rattle.unified_form.specs.Ranges.{is_opening}
 use Rattle.unified_form.proofs.Words.{opening-words}
 use Rattle.split_recount.specs.Bodies.{is_body_line, is_signature, is_empty, begins_header, ends_body, body_of}

@@ -13,7 +13,7 @@ use Rattle.hunk_core.specs.declared.BadKind.{BadKind}
 use Rattle.hunk_core.specs.declared.fault.FormFault.{FormFault}
 use Rattle.hunk_core.specs.PlainHunk.{Marked, PlainHunk}
 use Rattle.hunk_core.specs.LineTests.{after}
-use Rattle.hunk_core.specs.Reading.{Fault, ◌>>=◌, Gives}
+use Rattle.hunk_core.specs.Reading.{Fault, Gives}
 use Rattle.hunk_core.proofs.ReadSteps.{bind_ok, chosen}
 use Rattle.unified_form.specs.declared.body.Left.{Left}
 use Rattle.unified_form.specs.Ranges.{is_opening, is_too_large}
@@ -25,7 +25,7 @@ use Rattle.split_recount.specs.Bodies.{begins, begins_header, ends_body, body_of
 use Rattle.split_recount.specs.RangeLines.{stated, line_with}
 use Rattle.split_recount.specs.Recounted.{unplaced, line_at, new_start, true_line, at_line, unless_misplaced, sound_body, recounted_line, in_front, with_body, behind_line, none, recounting, recounted_lines, recounted, bytes_of}
 use Rattle.split_recount.specs.TrueCounts.{is_other, Spells, AreTrue}
-use Rattle.split_recount.proofs.Ends.{body_none, body_ends, body_more}
+use Rattle.split_recount.proofs.Ends.{body_ends, body_more}
 use Rattle.split_recount.proofs.Spelled.{IsSpelled, body-spelled}
 use Rattle.split_recount.proofs.WholeLines.{said-line, written-line, all-whole, whole-pieces, whole-ends}
 
@@ -82,17 +82,18 @@ written-opens old new counts rest =
 
 written-counts : (old new : ℕ) (counts : Left) (body : List (List ℕ)) (rest : List ℕ) → counts_of (marked_lines body) ≡ counts → IsSpelled body → Spells (line_with old new counts rest) body
 written-counts old new counts body rest e is =
-    let same : counts ≡ counts_of is.body = sym (is.counts ∙ e) in
-    (record { old_start = old; new_start = new; body = is.body },
-     record {
-       old = range_text old counts.old;
-       new = range_text new counts.new;
-       rest = rest;
-       parts = refl;
-       old_range = subst (SpellsRange (range_text old counts.old) old) (ap (λ (l : Left). l.old) same) (range-spelled old counts.old);
-       new_range = subst (SpellsRange (range_text new counts.new) new) (ap (λ (l : Left). l.new) same) (range-spelled new counts.new);
-     },
-     is.spelled)
+    let same : counts ≡ counts_of is.body = sym (is.counts ∙ e) in (
+      record { old_start = old; new_start = new; body = is.body },
+      record {
+        old = range_text old counts.old;
+        new = range_text new counts.new;
+        rest = rest;
+        parts = refl;
+        old_range = subst (SpellsRange (range_text old counts.old) old) (ap (λ (l : Left). l.old) same) (range-spelled old counts.old);
+        new_range = subst (SpellsRange (range_text new counts.new) new) (ap (λ (l : Left). l.new) same) (range-spelled new counts.new);
+      },
+      is.spelled,
+    )
 
 line-true : (number : ℕ) (earlier : Left) (line : List ℕ) (rest : List (List ℕ)) (new : List ℕ) → recounted_line number earlier line (body_of rest) ≡ Ok new → IsTrue line new (body_of rest)
 unfolding recounted_line

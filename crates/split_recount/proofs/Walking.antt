@@ -1,12 +1,12 @@
 -- A text rewritten line by line and hunk by hunk.
-use Rattle.std.proofs.Common.{◌≡◌, ℕ, ◌+◌, ◌≤◌, ◌<◌, Bool, true, false, cond, ◌||◌, List, [], ◌∷◌, ◌++◌, length, drop, slice_range, Result, Ok, Err, refl, sym, ap, subst, ◌∙◌, arith, append_assoc}
+use Rattle.std.proofs.Common.{◌≡◌, ℕ, ◌+◌, ◌≤◌, Bool, true, false, cond, ◌||◌, List, [], ◌∷◌, ◌++◌, length, drop, slice_range, Result, Ok, Err, refl, sym, ap, subst, ◌∙◌, arith, append_assoc}
 use Rattle.std.proofs.lemmas.List.{append-nil}
 use Rattle.line_list.specs.Lines.{lines, IsLineAt}
 use Rattle.hunk_core.specs.declared.BadKind.{BadKind}
 use Rattle.hunk_core.specs.declared.fault.FormFault.{FormFault}
 use Rattle.hunk_core.specs.declared.fault.FormFault.TheVariants as errors
 use Rattle.hunk_core.specs.PlainHunk.{Marked}
-use Rattle.hunk_core.specs.Reading.{Fault, fault, ◌>>=◌, Fails}
+use Rattle.hunk_core.specs.Reading.{Fault, fault, Fails}
 use Rattle.unified_form.specs.declared.body.Left.{Left}
 use Rattle.unified_form.specs.Ranges.{is_opening}
 use Rattle.unified_form.specs.Grammar.{counts_of}
@@ -18,7 +18,7 @@ use Rattle.std.specs.Prelude.{codes}
 use Rattle.split_recount.specs.Bodies.{begins, ends_body, body_of, marked_lines}
 use Rattle.split_recount.specs.RangeLines.{stated}
 use Rattle.split_recount.specs.Recounted.{unplaced, true_line, at_line, sound_body, recounted_line, in_front, with_body, behind_line, none, recounting, recounted_lines, bytes_of}
-use Rattle.split_recount.specs.Measured.{left_of, ahead_at, body_at, behind_body, IsMeasured}
+use Rattle.split_recount.specs.Measured.{left_of, body_at, behind_body, IsMeasured}
 use Rattle.split_recount.specs.Walking.{IsReached, ahead_of, behind, Steps}
 use Rattle.split_recount.proofs.Ends.{body_none, body_ends, body_more}
 

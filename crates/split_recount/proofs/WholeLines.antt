@@ -1,8 +1,7 @@
 -- A range line that is written ends with a line feed where the one that was read does.
-use Rattle.std.proofs.Common.{◌≡◌, ◌≢◌, ℕ, ◌^◌, min, Bool, true, false, cond, eqb, ◌||◌, List, [], ◌∷◌, ◌++◌, length, Option, None, Some, Result, Ok, Err, refl, sym, ap, subst, ◌∙◌, append_assoc, arith, inl, inr}
-use Rattle.std.proofs.lemmas.Bool.{eqb-true}
+use Rattle.std.proofs.Common.{◌≡◌, ◌≢◌, ℕ, ◌^◌, min, Bool, true, false, cond, eqb, ◌||◌, List, [], ◌∷◌, ◌++◌, Option, None, Some, Result, Ok, refl, sym, ap, subst, append_assoc, arith, inl, inr}
 use Rattle.std.specs.List.{AllByRecursion}
-use Rattle.line_list.specs.Lines.{lines, IsLine, ArePieces}
+use Rattle.line_list.specs.Lines.{IsLine, ArePieces}
 use Rattle.line_list.specs.Join.{ends_open, lacks_feed}
 use Rattle.line_list.proofs.JoinLemmas.{line-has, open-lacks}
 use Rattle.num_text.specs.Numbers.{decimal, is_digit, AllDigits, number_at}
@@ -14,7 +13,7 @@ use Rattle.hunk_core.proofs.TextLemmas.{after-takes}
 use Rattle.hunk_core.proofs.ReadSteps.{some_is, chosen}
 use Rattle.unified_form.specs.declared.body.Left.{Left}
 use Rattle.unified_form.specs.declared.range.Ranges.{Ranges}
-use Rattle.unified_form.specs.Ranges.{◌>>=◌, capped, size_at, count_at, range_at, is_bad_range, is_too_large}
+use Rattle.unified_form.specs.Ranges.{capped, size_at, count_at, range_at, is_bad_range, is_too_large}
 use Rattle.unified_form.specs.Canonical.{range_text}
 use Rattle.unified_form.proofs.RangeGrammar.{some_step}
 use Rattle.split_recount.specs.RangeLines.{range_parts, stated_by, stated, line_with}

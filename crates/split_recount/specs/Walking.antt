@@ -1,10 +1,9 @@
 -- How far the code has come, and what is left.
-use Rattle.std.specs.Prelude.{◌≡◌, ℕ, ◌+◌, ◌≤◌, ◌<◌, ◌^◌, false, List, ◌++◌, length, drop, Result, Ok, Err}
+use Rattle.std.specs.Prelude.{◌≡◌, ℕ, ◌+◌, ◌≤◌, ◌<◌, false, List, ◌++◌, length, drop, Result, Ok, Err}
 use Rattle.line_list.specs.Lines.{lines}
 use Rattle.hunk_core.specs.declared.BadKind.{BadKind}
 use Rattle.hunk_core.specs.declared.fault.FormFault.{FormFault}
 use Rattle.hunk_core.specs.Reading.{Fault, ◌>>=◌, Fails}
-use Rattle.unified_form.specs.declared.body.Left.{Left}
 use Rattle.unified_form.specs.declared.range.Ranges.{Ranges}
 use Rattle.split_recount.specs.declared.ranges.Range.{Range}
 use Rattle.split_recount.specs.declared.recounting.Reached.{Reached}

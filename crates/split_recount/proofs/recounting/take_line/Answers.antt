@@ -1,5 +1,3 @@
-use Rattle.std.proofs.Common.{subst, sym}
-use Rattle.split_recount.specs.Walking.{Steps}
 use Rattle.split_recount.proofs.Walking.{step-line}
 use Rattle.split_recount.proofs.recounting.take_line.Goals as goal
 
