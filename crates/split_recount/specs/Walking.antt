@@ -17,8 +17,8 @@ Says view (Ok x) read = read ≡ Ok (view x)
 Says view (Err kind) read = read ≡ Err kind
 
 -- two ranges as those of a range line
-abbrev pub ranges_of : Range → Range → Ranges
-ranges_of old new = record { old_start = old.start; old_count = old.count; new_start = new.start; new_count = new.count }
+abbrev pub both_ranges : Range → Range → Ranges
+both_ranges old new = record { old_start = old.start; old_count = old.count; new_start = new.start; new_count = new.count }
 
 -- a range line with these ranges and this rest
 abbrev pub written : Range → Range → List ℕ → List ℕ

@@ -31,7 +31,7 @@ pub struct Body {
 }
 
 /// Whether a line begins as those of a body do.
-fn is_body_byte(line: &[u8]) -> bool
+fn is_body_line(line: &[u8]) -> bool
     ensures { result ≡ is_body_line line.now }
 {
     match line {
@@ -65,7 +65,7 @@ fn is_end(text: &[u8], at: usize, end: usize) -> bool
     ensures { result ≡ ends_body (slice_range text.now at end) (lines (drop end text.now)) }
 {
     let line = &text[at..end];
-    if !is_body_byte(line) || line == b"-- \n".as_slice() {
+    if !is_body_line(line) || line == b"-- \n".as_slice() {
         return true;
     }
     at_header(text, at, end)
@@ -215,9 +215,9 @@ fn first_misplaced(text: &[u8], at: usize, number: u64, sides: Sides) -> Option<
     None
 }
 
-#[tactic(auto, using(crate::proofs::Misplaced::none_misplaced, crate::proofs::Misplaced::sound_if))]
 /// Refuses a body without lines, and one with a misplaced backslash line, behind the range line with
 /// this number.
+#[tactic(auto, using(crate::proofs::Misplaced::none_misplaced, crate::proofs::Misplaced::sound_if))]
 pub fn check_body(text: &[u8], at: usize, number: u64, body: Body) -> Result<(), FormFault>
     requires within { at ≤ length text.now }
     requires short { length text.now < 2 ^ 32 }

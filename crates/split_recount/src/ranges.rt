@@ -6,7 +6,7 @@ ghost use Rattle.hunk_core.specs.Reading.{Reads};
 ghost use Rattle.unified_form.specs.Ranges.{range_at, is_bad_range, is_too_large};
 ghost use Rattle.unified_form.specs.Canonical.{range_text};
 ghost use Rattle.split_recount.specs.RangeLines.{range_parts, stated};
-ghost use Rattle.split_recount.specs.Walking.{Says, ranges_of, written};
+ghost use Rattle.split_recount.specs.Walking.{Says, both_ranges, written};
 
 use hunk_core::{BadKind, after_prefix};
 use num_text::{NumberRange, put_number, read_range};
@@ -41,7 +41,7 @@ fn range_of(bytes: &[u8]) -> Option<(Range, &[u8])>
 
 #[tactic(auto, unfolding(crate::specs::RangeLines::range_parts))]
 fn parts_of(line: &[u8]) -> Option<(Range, Range, &[u8])>
-    ensures { Reads (λ x. (ranges_of x.0 x.1, x.2.now)) result (range_parts line.now) }
+    ensures { Reads (λ x. (both_ranges x.0 x.1, x.2.now)) result (range_parts line.now) }
 {
     let rest = after_prefix(line, b"@@ -")?;
     let (old, rest) = range_of(rest)?;

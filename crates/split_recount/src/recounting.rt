@@ -190,7 +190,8 @@ pub fn recount(alloc: Global, text: &[u8]) -> Result<Vec<u8>, FormFault>
     // All lines but the range lines are kept, in their order, and a range line stands where one stood.
     ensures kept { IfOk result (λ v. filter is_other (lines v.items) ≡ filter is_other (lines (completed text.now))) }
     ensures places { IfOk result (λ v. map is_opening (lines v.items) ≡ map is_opening (lines (completed text.now))) }
-    // Each range line states as many lines on each side as the body behind it has.
+    // Each range line and the body behind it are a hunk by the unified grammar: the line states how many
+    // lines the body has on each side, and each backslash line is in its place.
     ensures counts { IfOk result (λ v. AreTrue (lines v.items)) }
     // The last line has its line feed.
     ensures complete { IfOk result (λ v. IsComplete v.items) }
