@@ -1,0 +1,9 @@
+pub mod Ends
+pub mod Measuring
+pub mod Misplaced
+pub mod Alike
+pub mod Numbers
+pub mod Walking
+pub mod WholeLines
+pub mod Spelled
+pub mod Kept

@@ -1,0 +1,20 @@
+use Rattle.split_recount.specs.Bodies.{marked_lines}
+use Rattle.split_recount.specs.Measured.{body_at}
+use Rattle.split_recount.proofs.Walking.{line-refused, body-refused, line-is}
+use Rattle.split_recount.proofs.recounting.ranges_at.Goals as goal
+
+pub returns-in-Err : goal.returns-in-Err
+returns-in-Err c = rw c.bad.ensures (line-refused _ _ _ _ c.in-Err.kind c.in-Err.ensures.exact)
+
+pub returns-in-Err-check_body : goal.returns-in-Err-check_body
+returns-in-Err-check_body c = body-refused _ _ _ _ (c.in-Ok.stated.0, c.in-Ok.stated.1.now) c.in-Err-check_body.fault c.in-Ok.ensures.exact c.in-Err-check_body.ensures
+
+pub returns-in-Ok-true_ranges : goal.returns-in-Ok-true_ranges
+returns-in-Ok-true_ranges c =
+    let marked = marked_lines (body_at c.args.text.now c.args.end) in
+    line-is _ _ _ _ (c.in-Ok.stated.0, c.in-Ok.stated.1.now) marked _ c.in-Ok.ensures.exact c.in-Ok-check_body.ensures (c.in-Ok-true_ranges.ensures marked c.in-Ok.stated.1.now c.requires.body.sides)
+
+pub returns-in-Err-true_ranges : goal.returns-in-Err-true_ranges
+returns-in-Err-true_ranges c =
+    let marked = marked_lines (body_at c.args.text.now c.args.end) in
+    rw c.bad-in-Err-true_ranges.ensures (line-is _ _ _ _ (c.in-Ok.stated.0, c.in-Ok.stated.1.now) marked _ c.in-Ok.ensures.exact c.in-Ok-check_body.ensures (c.in-Err-true_ranges.ensures marked c.in-Ok.stated.1.now c.requires.body.sides))

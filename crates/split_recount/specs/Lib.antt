@@ -1,0 +1,6 @@
+pub mod Bodies
+pub mod RangeLines
+pub mod Recounted
+pub mod TrueCounts
+pub mod Measured
+pub mod Walking
