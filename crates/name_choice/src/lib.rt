@@ -16,6 +16,7 @@ use crate::search::{best_existing, best_new};
 use file_patch::FilePatch;
 use hunk_core::Side;
 pub use laws::choice_laws;
+pub use rank::is_better;
 use outside::{Failed, Tree};
 use target_names::Target;
 
