@@ -2,4 +2,4 @@ pub mod PatternLemmas
 pub mod MatchLemmas
 pub mod MemberLemmas
 pub mod WalkLemmas
-mod Deciding
+pub mod Deciding

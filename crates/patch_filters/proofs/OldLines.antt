@@ -1,8 +1,8 @@
 -- The old lines of a hunk and of a script as numbers from a first to a last.
-use Rattle.std.proofs.Common.{◌≡◌, ℕ, zero, suc, ◌+◌, ◌-◌, ◌<◌, ◌≤◌, ◌^◌, Bool, true, false, cond, List, [], ◌∷◌, length, map, get_or, All, Some, refl, sym, ap, subst, ◌∙◌, arith, max, min}
+use Rattle.std.proofs.Common.{◌≡◌, ℕ, zero, suc, ◌+◌, ◌-◌, ◌<◌, ◌≤◌, ◌^◌, false, cond, List, [], ◌∷◌, length, map, Some, refl, sym, ap, ◌∙◌, arith, max, min}
 use Rattle.std.specs.Prelude.{slice_get, option_map, ◌==◌}
 use Rattle.std.specs.List.{range_with_len}
-use Rattle.std.proofs.lemmas.List.{length-map}
+use Rattle.std.proofs.Math.Dec.{eqb-suc-zero}
 use Rattle.std.proofs.lemmas.Option.{slice_get-map, same_Some}
 use Rattle.hunk_core.specs.declared.Side.TheVariants.{Forward}
 use Rattle.hunk_core.specs.declared.Hunk.{Hunk}
@@ -10,12 +10,11 @@ use Rattle.hunk_core.specs.Sides.{taken_count}
 use Rattle.hunk_core.specs.PlainHunk.{hunk_of, old_lines}
 use Rattle.hunk_core.proofs.TurnedLemmas.{turned-count}
 use Rattle.ed_form.specs.declared.script.EdEdit.{EdEdit}
-use Rattle.ed_form.specs.declared.script.EdScript.{EdScript}
-use Rattle.ed_form.specs.PlainEdit.{PlainEdit, lowest, edit_of, edits_of, AreLawful, IsLawfulScript}
+use Rattle.ed_form.specs.PlainEdit.{PlainEdit, lowest, edit_of, edits_of, AreLawful}
 use Rattle.file_patch.specs.declared.Change.{Change}
 use Rattle.file_patch.specs.declared.Change.TheVariants.{Hunks, Script}
-use Rattle.file_patch.specs.PlainPatch.{change_of, IsLawfulChange}
-use Rattle.patch_filters.specs.OldLines.{from_to, old_numbers, least, greatest, addressed, old_of_each, IsCounted}
+use Rattle.file_patch.specs.PlainPatch.{IsLawfulChange}
+use Rattle.patch_filters.specs.OldLines.{from_to, old_numbers, least, greatest, addressed, IsCounted}
 
 -- ---- a hunk
 
@@ -31,13 +30,13 @@ some-lines : (start n : ℕ) → 0 < n → from_to start (start + n - 1) ≡ con
 some-lines start zero some = absurd (omega arith)
 some-lines start (suc n) some =
     let e : suc (start + suc n - 1) - start ≡ suc n = omega arith in
-    let no : (suc n == 0) ≡ false = cc in
+    let no : (suc n == 0) ≡ false = eqb-suc-zero n in
     rw no (ap (range_with_len start) e)
 
-pub old-lines : (text : List ℕ) (h : Hunk) (count last : ℕ) → count ≡ taken_count Forward h.body.items → 0 < count → last ≡ h.old_start + count - 1 → from_to h.old_start last ≡ old_numbers (hunk_of text h)
-old-lines text h count last is some end =
+pub old-lines : (text : List ℕ) (h : Hunk) (count first last : ℕ) → count ≡ taken_count Forward h.body.items → 0 < count → first ≡ h.old_start → last ≡ first + count - 1 → from_to first last ≡ old_numbers (hunk_of text h)
+old-lines text h count first last is some low end =
     let lines : length (old_lines (hunk_of text h).body) ≡ count = turned-count text Forward h ∙ sym is in
-    rw (end, lines) (some-lines h.old_start count some)
+    rw (end, low, lines) (some-lines h.old_start count some)
 
 -- ---- a script
 
@@ -52,7 +51,7 @@ greatest-first below e [] lawful = omega arith
 greatest-first below e (f ∷ es) lawful = omega (arith, below-greatest (lowest e) (f ∷ es) lawful.2 (omega (arith, lawful.2.1)))
 
 -- the last of a list, behind one
-last-of : PlainEdit → List PlainEdit → PlainEdit
+abbrev last-of : PlainEdit → List PlainEdit → PlainEdit
 last-of e [] = e
 last-of e (f ∷ es) = last-of f es
 

@@ -1,7 +1,7 @@
 -- A number of a row is in one of several ranges exactly where a range meets the row.
-use Rattle.std.proofs.Common.{◌≡◌, ℕ, suc, ◌+◌, ◌-◌, ◌<◌, ◌≤◌, Bool, true, false, ◌&&◌, ◌||◌, List, [], ◌∷◌, refl, sym, ap, ◌∙◌, arith}
+use Rattle.std.proofs.Common.{◌≡◌, ℕ, suc, ◌-◌, ◌≤◌, Bool, true, false, ◌&&◌, ◌||◌, List, [], ◌∷◌, refl, sym, ap, ◌∙◌, arith}
 use Rattle.std.specs.Prelude.{nat_le, max, min}
-use Rattle.std.specs.List.{list_any, range_with_len}
+use Rattle.std.specs.List.{list_any}
 use Rattle.std.proofs.lemmas.Bool.{le-leb, leb-true}
 use Rattle.glob_match.proofs.Deciding.{found-in-range, in-range-found}
 use Rattle.patch_filters.specs.PlainJobs.{PlainRanges}
@@ -46,13 +46,13 @@ module _ (first last : ℕ) where
   one-range : (r : ℕ × ℕ) → list_any (is_between r) (from_to first last) ≡ meets r
   one-range r = same _ _
       (λ found.
-          let k = found-in-range (is_between r) first (suc last - first) found in
-          let b = and-both _ _ k.3 in
-          le-leb (max first r.0) (min last r.1) (omega (arith, k.1, k.2, leb-true r.0 k.0 b.0, leb-true k.0 r.1 b.1)))
+      let k = found-in-range (is_between r) first (suc last - first) found in
+      let b : (nat_le r.0 k.0 ≡ true) × (nat_le k.0 r.1 ≡ true) = and-both _ _ k.3 in
+      le-leb (max first r.0) (min last r.1) (omega (arith, k.1, k.2, leb-true r.0 k.0 b.0, leb-true k.0 r.1 b.1)))
       (λ meet.
-          let le : max first r.0 ≤ min last r.1 = leb-true (max first r.0) (min last r.1) meet in
-          in-range-found (is_between r) first (suc last - first) (max first r.0) (omega arith) (omega (arith, le))
-          (and-true _ _ (le-leb r.0 (max first r.0) (omega arith)) (le-leb (max first r.0) r.1 (omega (arith, le)))))
+      let le : max first r.0 ≤ min last r.1 = leb-true (max first r.0) (min last r.1) meet in
+      in-range-found (is_between r) first (suc last - first) (max first r.0) (omega arith) (omega (arith, le))
+      (and-true _ _ (le-leb r.0 (max first r.0) (omega arith)) (le-leb (max first r.0) r.1 (omega (arith, le)))))
 
   pub one-in : (ranges : PlainRanges) → list_any (is_in ranges) (from_to first last) ≡ list_any meets ranges
   one-in [] = any-none (from_to first last)

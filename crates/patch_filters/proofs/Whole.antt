@@ -1,8 +1,8 @@
 -- Where nothing is asked for all is written, and where no hunk is kept nothing is.
-use Rattle.std.proofs.Common.{◌≡◌, ℕ, zero, suc, ◌+◌, ◌-◌, ◌<◌, ◌≤◌, Bool, true, false, ◌&&◌, ◌||◌, cond, List, [], ◌∷◌, ◌++◌, length, map, take, drop, get_or, Some, refl, sym, ap, subst, ◌∙◌, arith, length-append, length-drop}
-use Rattle.std.specs.Prelude.{slice_get, slice_range, option_map, ◌↔◌}
+use Rattle.std.proofs.Common.{◌≡◌, ℕ, zero, suc, ◌+◌, ◌-◌, ◌<◌, ◌≤◌, Bool, true, false, ◌&&◌, ◌||◌, cond, List, [], ◌∷◌, ◌++◌, length, map, take, drop, get_or, Some, refl, sym, ap, ◌∙◌, arith, length-append, length-drop, length-take}
+use Rattle.std.specs.Prelude.{slice_get, slice_range, option_map}
 use Rattle.std.specs.List.{flat_map, list_any, range_with_len, zip}
-use Rattle.std.proofs.Math.Seq.{take-add, length-take}
+use Rattle.std.proofs.Math.Seq.{take-add}
 use Rattle.std.proofs.lemmas.List.{drop-drop, length-map}
 use Rattle.std.proofs.lemmas.List.Concat.{flat_map-cons}
 use Rattle.std.proofs.lemmas.List.Folds.{list_any_at}
@@ -11,18 +11,17 @@ use Rattle.line_list.specs.declared.Span.{Span}
 use Rattle.hunk_core.specs.PlainHunk.{bytes_at}
 use Rattle.hunk_core.specs.Pieces.{AreInTurn}
 use Rattle.file_patch.specs.declared.FilePatch.{FilePatch}
-use Rattle.file_patch.specs.PlainPatch.{PlainChange, PlainHeader, change_of, header_of, hunk_count, patch_of, row_count}
-use Rattle.patch_set.specs.SetView.{SetView, IsWhole, patch_at}
+use Rattle.file_patch.specs.PlainPatch.{change_of, patch_of, row_count}
 use Rattle.patch_set.specs.Spans.{IsPlaced, ArePlaced}
 use Rattle.patch_set.proofs.Named.{rows-counted}
 use Rattle.patch_filters.specs.PlainJobs.{PlainFilterJob}
 use Rattle.patch_filters.specs.Selected.{numbered}
 use Rattle.patch_filters.specs.OldLines.{old_of_each}
-use Rattle.patch_filters.specs.Kept.{is_taken, is_kept, kept, keeps}
-use Rattle.patch_filters.specs.Filtered.{region, pieces, text_if, chosen, written, is_taken_of, filtered, written_if_taken}
+use Rattle.patch_filters.specs.Kept.{is_kept, kept, keeps}
+use Rattle.patch_filters.specs.Filtered.{region, pieces, text_if, chosen, written, is_taken_of, written_if_taken}
 use Rattle.patch_filters.specs.Laws.{AsksNothing, WritesAll, WritesNone}
 use Rattle.patch_filters.proofs.Placed.{placed-at, span-in, turn-end}
-use Rattle.patch_filters.proofs.Rows.{flat-if, kept-count, zip-at}
+use Rattle.patch_filters.proofs.Rows.{filtered-is, kept-count, zip-at}
 
 -- ---- the text of a file patch is its region and its hunks
 
@@ -96,10 +95,6 @@ module _ (j : PlainFilterJob) (asks : AsksNothing j) where
       ∙ ap (λ t. bytes_at text p.span ++ t) (all-of-each text (a + 1) p.span.end (before + row_count p.change) ps at.1)
       ∙ sym (flat_map-cons (λ (x : FilePatch). bytes_at text x.span) p ps)
 
-pub filtered-is : (j : PlainFilterJob) (v : SetView) → filtered j v ≡ flat_map (written_if_taken j v.text) (numbered v.patches)
-unfolding filtered
-filtered-is j v = flat-if (is_taken_of j v.text) (λ n. written j v.text n.1) (numbered v.patches)
-
 pub writes-all : WritesAll
 writes-all j v whole asks = filtered-is j v ∙ all-of-each j asks v.text 1 0 0 v.patches whole.placed
 
@@ -125,7 +120,7 @@ slice-long : (text : List ℕ) (a b : ℕ) → a < b → b ≤ length text → 0
 slice-long text a b lt le = omega (arith, length-take (b - a) (drop a text), length-drop a text)
 
 module _ (j : PlainFilterJob) (text : List ℕ) (i : ℕ) (p : FilePatch) where
-  flags : List Bool
+  abbrev flags : List Bool
   flags = kept j (change_of text p.change)
 
   flags-count : length flags ≡ row_count p.change

@@ -1,5 +1,5 @@
 -- Which file patches and which numbers are meant.
-use Rattle.std.specs.Prelude.{ℕ, Bool, true, not, nat_le, ◌&&◌, ◌||◌, List, [], ◌∷◌, length, Option, None, Some}
+use Rattle.std.specs.Prelude.{ℕ, Bool, true, not, nat_le, ◌&&◌, ◌||◌, List, length, Option, None, Some}
 use Rattle.std.specs.List.{list_any, range_with_len, zip}
 use Rattle.glob_match.specs.Matching.{does_match}
 use Rattle.target_names.specs.Stripped.{shortened}

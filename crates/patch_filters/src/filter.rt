@@ -16,9 +16,10 @@ ghost use Rattle.patch_filters.specs.Filtered.{chosen, filtered, pieces, region,
 
 use crate::hunks::is_kept;
 use crate::numbers::{is_meant, is_selected};
+use crate::pieces::{bytes_at, put_piece};
 use crate::set::patch_at;
 use file_patch::FilePatch;
-use outside::{Failed, Sink, put_all};
+use outside::{Failed, Sink};
 use patch_options::FilterJob;
 use patch_set::PatchSet;
 
@@ -70,13 +71,7 @@ fn put_if_kept<O: Sink>(
         return Ok(());
     }
     let span = patch.hunk_spans[hunk as usize];
-    put_piece(out, &text[span.start as usize..span.end as usize])
-}
-
-fn put_piece<O: Sink>(out: &mut O, piece: &[u8]) -> Result<(), Failed>
-    ensures { Puts O.view O.same_rest out.old out.new result piece.now }
-{
-    put_all(out, piece)
+    put_piece(out, bytes_at(text, span))
 }
 
 fn put_chosen<O: Sink>(
@@ -144,11 +139,7 @@ fn put_if_taken<O: Sink>(
 
 /// Writes each file patch that is selected and whose number is meant: the lines in front of its first hunk, and the hunks
 /// that are kept; nothing where none is. Range lines stay as they are.
-pub fn filter_patches<O: Sink>(
-    set: &PatchSet,
-    job: &FilterJob,
-    out: &mut O,
-) -> Result<(), Failed>
+pub fn filter_patches<O: Sink>(set: &PatchSet, job: &FilterJob, out: &mut O) -> Result<(), Failed>
     ensures writes { Writes (O.view out.old) (O.view out.new) result (filtered (plain_filter_job job.now) set.now) }
     ensures rest { O.same_rest out.old out.new }
 {

@@ -7,12 +7,12 @@ mod hunks;
 mod laws;
 mod list;
 mod numbers;
+mod pieces;
 mod set;
 
 pub use filter::{filter_patches, keeps};
 pub use laws::filter_laws;
 pub use list::list_patches;
-
 
 #[cfg(test)]
 mod tests;

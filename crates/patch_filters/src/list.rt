@@ -13,12 +13,13 @@ ghost use Rattle.patch_filters.specs.PlainJobs.{plain_list_job};
 ghost use Rattle.patch_filters.specs.Listed.{front, line_if_selected, listed, number_text, sign, sign_text};
 
 use crate::numbers::is_selected;
+use crate::pieces::put_piece;
 use crate::set::patch_at;
 use arrayvec::ArrayVec;
 use file_patch::FilePatch;
 use hunk_core::{Side, add_piece};
 use num_text::put_number;
-use outside::{Failed, Sink, put_all};
+use outside::{Failed, Sink};
 use patch_options::ListJob;
 use patch_set::PatchSet;
 use target_names::shortened;
@@ -74,15 +75,15 @@ fn front(job: &ListJob, patch: &FilePatch) -> Front
 fn put_name<O: Sink>(out: &mut O, front: &[u8], name: &[u8]) -> Result<(), Failed>
     ensures { Puts O.view O.same_rest out.old out.new result (front.now ++ (name.now ++ codes "\n")) }
 {
-    put_all(out, front)?;
+    put_piece(out, front)?;
     put_line(out, name)
 }
 
 fn put_line<O: Sink>(out: &mut O, name: &[u8]) -> Result<(), Failed>
     ensures { Puts O.view O.same_rest out.old out.new result (name.now ++ codes "\n") }
 {
-    put_all(out, name)?;
-    put_all(out, b"\n")
+    put_piece(out, name)?;
+    put_piece(out, b"\n")
 }
 
 /// Writes the line of a file patch, counted from 0, if it is selected.

@@ -37,10 +37,7 @@ pub fn is_selected(select: &Select, name: &[u8]) -> bool
 fn is_in(ranges: &Ranges, number: u64) -> bool
     ensures { result ≡ is_in ranges.now.items.items number }
 {
-    ranges
-        .items
-        .iter()
-        .any(|range| u64::from(range.0) <= number && number <= u64::from(range.1))
+    ranges.items.iter().any(|range| u64::from(range.0) <= number && number <= u64::from(range.1))
 }
 
 /// Whether a number is meant.

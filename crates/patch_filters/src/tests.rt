@@ -114,86 +114,59 @@ x
 .
 ";
 
-/// What a list is asked for: signs, numbers, slashes that are stripped.
-#[derive(Clone, Copy)]
-struct Shown {
-    status: bool,
-    numbers: bool,
-    strip: u32,
+/// A text, the switches, the slashes that are stripped, and the list, with `|` for a line feed, `>` for a tab, `_` for a space.
+const LISTS: &str = "none s 0
+git - 0 a/lib/main.c|a/my_notes.txt|b/new.txt|
+git s 0 !_a/lib/main.c|!_a/my_notes.txt|+_b/new.txt|
+git n 0 3>a/lib/main.c|12>a/my_notes.txt|20>b/new.txt|
+git sn 1 3>!_lib/main.c|12>!_my_notes.txt|20>+_new.txt|
+gone sn 1 1>-_e|5>!_h|
+script n 0 2>s|
+front s 0 !_|";
+
+/// A text, an included and an excluded pattern, the ranges of hunks, lines and files, and what is written. The old lines of
+/// `two` are 1 and 2, and 4 and 5, the new ones 1 to 3, and 5 and 6.
+const TEXTS: &str = "none - - - - - none
+git - - - - - git
+git *.c - - - - main
+git *.h - - - - none
+git - a/* - - - new
+git *.txt *my* - - - new
+git - - - - 3-3 new
+git - - - 2-3 - main
+two - - 2-2 - - second
+two - - 1-1 - - first
+two - - 3-9 - - none
+two - - - 3-3 - none
+two - - - 2-3 - first
+two - - - 6-6 - none
+two - - - 2-4 - two
+script s - 1-1 4-5 1-1 script
+script - - - 1-2 - none
+front - - - 1-1 - front
+front - - - 2-9 - none";
+
+fn field(row: &str, place: usize) -> &str {
+    match row.split(' ').nth(place) {
+        Some(field) => field,
+        None => "",
+    }
 }
 
-const NAMES: Shown = Shown {
-    status: false,
-    numbers: false,
-    strip: 0,
-};
-
-const SIGNS: Shown = Shown {
-    status: true,
-    numbers: false,
-    strip: 0,
-};
-
-const NUMBERS: Shown = Shown {
-    status: false,
-    numbers: true,
-    strip: 0,
-};
-
-const BOTH: Shown = Shown {
-    status: true,
-    numbers: true,
-    strip: 1,
-};
-
-/// A patch text, what is asked for, and the list.
-const LISTS: [(&str, Shown, &str); 8] = [
-    ("", SIGNS, ""),
-    (GIT, NAMES, "a/lib/main.c\na/my notes.txt\nb/new.txt\n"),
-    (GIT, SIGNS, "! a/lib/main.c\n! a/my notes.txt\n+ b/new.txt\n"),
-    (
-        GIT,
-        NUMBERS,
-        "3\ta/lib/main.c\n12\ta/my notes.txt\n20\tb/new.txt\n",
-    ),
-    (
-        GIT,
-        BOTH,
-        "3\t! lib/main.c\n12\t! my notes.txt\n20\t+ new.txt\n",
-    ),
-    (GONE, BOTH, "1\t- e\n5\t! h\n"),
-    (SCRIPT, NUMBERS, "2\ts\n"),
-    (FRONT, SIGNS, "! \n"),
-];
-
-/// Which hunks, lines and files are meant, as the first and the last number; 0 stands for no range.
-type Asked = ((u32, u32), (u32, u32), (u32, u32));
-
-const ALL: Asked = ((0, 0), (0, 0), (0, 0));
-
-/// A patch text, an included and an excluded pattern, what is asked for, and what is written.
-const TEXTS: [(&str, &str, &str, Asked, &str); 19] = [
-    ("", "", "", ALL, ""),
-    (GIT, "", "", ALL, GIT),
-    (GIT, "*.c", "", ALL, MAIN),
-    (GIT, "*.h", "", ALL, ""),
-    (GIT, "", "a/*", ALL, NEW),
-    (GIT, "*.txt", "*my*", ALL, NEW),
-    (GIT, "", "", ((0, 0), (0, 0), (3, 3)), NEW),
-    (GIT, "", "", ((0, 0), (2, 3), (0, 0)), MAIN),
-    (TWO, "", "", ((2, 2), (0, 0), (0, 0)), SECOND),
-    (TWO, "", "", ((1, 1), (0, 0), (0, 0)), FIRST),
-    (TWO, "", "", ((3, 9), (0, 0), (0, 0)), ""),
-    // The old lines are 1 and 2, and 4 and 5; the new ones 1 to 3, and 5 and 6.
-    (TWO, "", "", ((0, 0), (3, 3), (0, 0)), ""),
-    (TWO, "", "", ((0, 0), (2, 3), (0, 0)), FIRST),
-    (TWO, "", "", ((0, 0), (6, 6), (0, 0)), ""),
-    (TWO, "", "", ((0, 0), (2, 4), (0, 0)), TWO),
-    (SCRIPT, "s", "", ((1, 1), (4, 5), (1, 1)), SCRIPT),
-    (SCRIPT, "", "", ((0, 0), (1, 2), (0, 0)), ""),
-    (FRONT, "", "", ((0, 0), (1, 1), (0, 0)), FRONT),
-    (FRONT, "", "", ((0, 0), (2, 9), (0, 0)), ""),
-];
+fn text(name: &str) -> &'static str {
+    match name {
+        "git" => GIT,
+        "main" => MAIN,
+        "new" => NEW,
+        "two" => TWO,
+        "first" => FIRST,
+        "second" => SECOND,
+        "gone" => GONE,
+        "script" => SCRIPT,
+        "front" => FRONT,
+        _ => "",
+    }
+}
 
 fn set(alloc: Global, text: &str) -> Result<PatchSet, Fail> {
     let words = vec![in alloc; String::from_str(alloc, "patch")?]?;
@@ -207,10 +180,10 @@ fn set(alloc: Global, text: &str) -> Result<PatchSet, Fail> {
     }
 }
 
-/// One pattern, or none where it is empty.
+/// One pattern, or none.
 fn patterns(alloc: Global, pattern: &str) -> Result<Vec<Vec<u8>>, AllocError> {
     let mut patterns = Vec::new(alloc);
-    if !pattern.is_empty() {
+    if pattern != "-" {
         patterns.push(Vec::from_slice(alloc, pattern.as_bytes())?)?;
     }
     Ok(patterns)
@@ -223,54 +196,89 @@ fn select(alloc: Global, include: &str, exclude: &str) -> Result<Select, AllocEr
         exclude: patterns(alloc, exclude)?,
         include_file: None,
         exclude_file: None,
-        only_included: !include.is_empty(),
+        only_included: include != "-",
     })
 }
 
-fn ranges(alloc: Global, range: (u32, u32)) -> Result<Option<Ranges>, AllocError> {
-    if range.0 == 0 {
-        return Ok(None);
+fn number(digit: u8) -> u32 {
+    u32::from(digit.saturating_sub(b'0'))
+}
+
+/// Two digits with a hyphen between them, or none.
+fn ranges(alloc: Global, range: &str) -> Result<Option<Ranges>, AllocError> {
+    match range.as_bytes() {
+        [first, b'-', last] => {
+            let items = vec![in alloc; (number(*first), number(*last))]?;
+            Ok(Some(Ranges { items }))
+        }
+        _ => Ok(None),
     }
-    Ok(Some(Ranges {
-        items: vec![in alloc; range]?,
-    }))
+}
+
+fn list_job(alloc: Global, row: &str) -> Result<ListJob, AllocError> {
+    let switches = field(row, 1);
+    Ok(ListJob {
+        input: Input::Standard,
+        select: select(alloc, "-", "-")?,
+        status: switches.contains('s'),
+        numbers: switches.contains('n'),
+        shown_strip: if field(row, 2) == "1" { 1 } else { 0 },
+    })
+}
+
+fn meant(byte: u8) -> u8 {
+    match byte {
+        b'|' => b'\n',
+        b'>' => b'\t',
+        b'_' => b' ',
+        _ => byte,
+    }
+}
+
+fn is_same(bytes: &[u8], want: &[u8]) -> bool {
+    bytes.len() == want.len() && bytes.iter().zip(want.iter()).all(|(a, b)| *a == meant(*b))
+}
+
+fn is_listed(alloc: Global, row: &str) -> Result<bool, Fail> {
+    let set = set(alloc, text(field(row, 0)))?;
+    let job = list_job(alloc, row)?;
+    let mut sink = MemSink::new(alloc, Vec::new(alloc));
+    Ok(list_patches(&set, &job, &mut sink).is_ok()
+        && is_same(sink.bytes(), field(row, 3).as_bytes()))
 }
 
 #[test]
 fn file_patches_are_listed(rt: HostRuntime) -> Result<(), Fail> {
-    for (text, shown, want) in LISTS {
-        let job = ListJob {
-            input: Input::Standard,
-            select: select(rt.alloc(), "", "")?,
-            status: shown.status,
-            numbers: shown.numbers,
-            shown_strip: shown.strip,
-        };
-        let mut sink = MemSink::new(rt.alloc(), Vec::new(rt.alloc()));
-        let done = list_patches(&set(rt.alloc(), text)?, &job, &mut sink);
-        assert!(rt; done.is_ok() && sink.bytes() == want.as_bytes());
+    for row in LISTS.split('\n') {
+        let is_listed = is_listed(rt.alloc(), row)?;
+        assert!(rt; is_listed, "{row}");
     }
     Ok(())
 }
 
-fn is_written(alloc: Global, text: &str, job: &FilterJob, want: &str) -> Result<bool, Fail> {
-    let set = set(alloc, text)?;
+fn filter_job(alloc: Global, row: &str) -> Result<FilterJob, AllocError> {
+    Ok(FilterJob {
+        input: Input::Standard,
+        select: select(alloc, field(row, 1), field(row, 2))?,
+        hunks: ranges(alloc, field(row, 3))?,
+        lines: ranges(alloc, field(row, 4))?,
+        files: ranges(alloc, field(row, 5))?,
+    })
+}
+
+fn is_written(alloc: Global, row: &str) -> Result<bool, Fail> {
+    let set = set(alloc, text(field(row, 0)))?;
+    let job = filter_job(alloc, row)?;
     let mut sink = MemSink::new(alloc, Vec::new(alloc));
-    let done = filter_patches(&set, job, &mut sink);
-    Ok(done.is_ok() && sink.bytes() == want.as_bytes())
+    Ok(filter_patches(&set, &job, &mut sink).is_ok()
+        && sink.bytes() == text(field(row, 6)).as_bytes())
 }
 
 #[test]
 fn texts_are_filtered(rt: HostRuntime) -> Result<(), Fail> {
-    for (text, include, exclude, (hunks, lines, files), want) in TEXTS {
-        let job = FilterJob {
-            input: Input::Standard,
-            select: select(rt.alloc(), include, exclude)?,
-            hunks: ranges(rt.alloc(), hunks)?,
-            lines: ranges(rt.alloc(), lines)?,
-            files: ranges(rt.alloc(), files)?,
-        };
-        assert!(rt; is_written(rt.alloc(), text, &job, want)?, "{text} {want}");
+    for row in TEXTS.split('\n') {
+        let is_written = is_written(rt.alloc(), row)?;
+        assert!(rt; is_written, "{row}");
     }
     Ok(())
 }
@@ -287,22 +295,16 @@ fn has_hunk(set: &PatchSet, patch: u32, hunk: u32) -> bool
     }
 }
 
-fn is_kept(set: &PatchSet, job: &FilterJob, patch: u32, hunk: u32) -> bool {
-    has_hunk(set, patch, hunk) && keeps(set, job, patch, hunk)
+fn is_kept(alloc: Global, row: &str, hunk: u32) -> Result<bool, Fail> {
+    let set = set(alloc, text(field(row, 0)))?;
+    let job = filter_job(alloc, row)?;
+    Ok(has_hunk(&set, 0, hunk) && keeps(&set, &job, 0, hunk))
 }
 
 #[test]
 fn hunks_are_kept(rt: HostRuntime) -> Result<(), Fail> {
-    let job = FilterJob {
-        input: Input::Standard,
-        select: select(rt.alloc(), "f", "")?,
-        hunks: None,
-        lines: ranges(rt.alloc(), (3, 4))?,
-        files: None,
-    };
-    let two = set(rt.alloc(), TWO)?;
-    assert!(rt; !is_kept(&two, &job, 0, 0) && is_kept(&two, &job, 0, 1));
-    let script = set(rt.alloc(), SCRIPT)?;
-    assert!(rt; !is_kept(&script, &job, 0, 0));
+    let is_first = is_kept(rt.alloc(), "two f - - 3-4 -", 0)?;
+    let is_second = is_kept(rt.alloc(), "two f - - 3-4 -", 1)?;
+    assert!(rt; !is_first && is_second);
     Ok(())
 }
