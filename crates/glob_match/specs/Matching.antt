@@ -44,5 +44,6 @@ fits (Byte c ∷ es) (b ∷ bs) = takes (Byte c) b && fits es bs
 fits (OneOf o ms ∷ es) [] = false
 fits (OneOf o ms ∷ es) (b ∷ bs) = takes (OneOf o ms) b && fits es bs
 
+-- the test of a whole name
 abbrev pub does_match : List ℕ → List ℕ → Bool
 does_match pattern name = fits (elements pattern) name

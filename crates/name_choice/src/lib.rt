@@ -16,8 +16,8 @@ use crate::search::{best_existing, best_new};
 use file_patch::FilePatch;
 use hunk_core::Side;
 pub use laws::choice_laws;
-pub use rank::is_better;
 use outside::{Failed, Tree};
+pub use rank::is_better;
 use target_names::Target;
 
 /// The name that was chosen, by its place among the targets, counted from 0.

@@ -82,8 +82,8 @@ kept-at j c i olds is =
 pub flag-at : (j : PlainFilterJob) (c : PlainChange) (i : ℕ) (olds : List ℕ) → slice_get (old_of_each c) i ≡ Some olds → get_or (kept j c) i false ≡ is_kept j (suc i) olds
 flag-at j c i olds is = get_or_from_slice_get (kept j c) i (is_kept j (suc i) olds) false (kept-at j c i olds is)
 
-pub olds-there : (j : PlainFilterJob) (text : List ℕ) (c : Change) (i : ℕ) → i < row_count c → slice_get (old_of_each (change_of text c)) i ≡ Some (get_or (old_of_each (change_of text c)) i [])
-olds-there j text c i lt = slice_get-get_or (old_of_each (change_of text c)) i [] (omega (arith, lt, olds-count (change_of text c), rows-counted text c))
+pub olds-there : (text : List ℕ) (c : Change) (i : ℕ) → i < row_count c → slice_get (old_of_each (change_of text c)) i ≡ Some (get_or (old_of_each (change_of text c)) i [])
+olds-there text c i lt = slice_get-get_or (old_of_each (change_of text c)) i [] (omega (arith, lt, olds-count (change_of text c), rows-counted text c))
 
 pub kept-count : (j : PlainFilterJob) (c : PlainChange) → length (kept j c) ≡ hunk_count c
 kept-count j c = length-map (numbered (old_of_each c)) (λ (h : ℕ × List ℕ). is_kept j h.0 h.1) ∙ numbered-count (old_of_each c) ∙ olds-count c

@@ -10,14 +10,15 @@ use Rattle.patch_set.specs.PlainName.{plain_name}
 use Rattle.patch_filters.specs.PlainJobs.{PlainListJob}
 use Rattle.patch_filters.specs.Selected.{is_selected}
 
--- the old side is no file, or else the new one, or both are files
+-- whether the old side is no file, or else the new one, or both are files
 abbrev pub sign : PlainPatch → List ℕ
 sign p = if is_absent Forward p then codes "+ " else if is_absent Reversed p then codes "- " else codes "! "
 
--- a number and a tab, and the sign, where they are asked for
+-- a number and a tab, where it is asked for
 abbrev pub number_text : Bool → ℕ → List ℕ
 number_text is_asked number = if is_asked then decimal number ++ codes "\t" else []
 
+-- the sign, where it is asked for
 abbrev pub sign_text : Bool → PlainPatch → List ℕ
 sign_text is_asked p = if is_asked then sign p else []
 
@@ -25,9 +26,11 @@ sign_text is_asked p = if is_asked then sign p else []
 abbrev pub front : PlainListJob → PlainPatch → List ℕ
 front j p = number_text j.numbers p.header.names_line ++ sign_text j.status p
 
+-- the line of a file patch, with its name once it is stripped for showing
 abbrev pub list_line : PlainListJob → PlainPatch → List ℕ
 list_line j p = front j p ++ (shortened j.shown_strip (plain_name p.header) ++ codes "\n")
 
+-- the file patch is selected
 abbrev pub is_listed : PlainListJob → PlainPatch → Bool
 is_listed j p = is_selected j.select (plain_name p.header)
 

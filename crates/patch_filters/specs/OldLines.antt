@@ -12,15 +12,17 @@ use Rattle.patch_filters.specs.declared.numbers.Lines.{Lines}
 abbrev pub from_to : ℕ → ℕ → List ℕ
 from_to first last = range_with_len first (suc last - first)
 
+-- the numbers of the lines that a hunk keeps or drops
 abbrev pub old_numbers : PlainHunk → List ℕ
 old_numbers h = if length (old_lines h.body) == 0 then max 1 h.old_start ∷ [] else range_with_len h.old_start (length (old_lines h.body))
 
--- the least and the greatest address of the commands
+-- the least address of the commands
 abbrev pub least : List PlainEdit → ℕ
 least [] = 0
 least (e ∷ []) = lowest e
 least (e ∷ f ∷ es) = min (lowest e) (least (f ∷ es))
 
+-- the greatest one
 abbrev pub greatest : List PlainEdit → ℕ
 greatest [] = 0
 greatest (e ∷ es) = max e.last (greatest es)

@@ -12,6 +12,7 @@ pub record PlainSelect : Type 0 where
   pub exclude : List (List ℕ)
   pub only_included : Bool
 
+-- a list; each field is that of `ListJob`
 pub record PlainListJob : Type 0 where
   pub select : PlainSelect
   pub status : Bool
@@ -22,12 +23,14 @@ pub record PlainListJob : Type 0 where
 abbrev pub PlainRanges : Type 0
 PlainRanges = List (ℕ × ℕ)
 
+-- what is left of a text; each field is that of `FilterJob`
 pub record PlainFilterJob : Type 0 where
   pub select : PlainSelect
   pub hunks : Option PlainRanges
   pub lines : Option PlainRanges
   pub files : Option PlainRanges
 
+-- what the structs of the code stand for
 abbrev pub plain_select : Select → PlainSelect
 plain_select s = record {
   strip = s.strip;

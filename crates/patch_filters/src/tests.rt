@@ -243,8 +243,10 @@ fn is_listed(alloc: Global, row: &str) -> Result<bool, Fail> {
     let set = set(alloc, text(field(row, 0)))?;
     let job = list_job(alloc, row)?;
     let mut sink = MemSink::new(alloc, Vec::new(alloc));
-    Ok(list_patches(&set, &job, &mut sink).is_ok()
-        && is_same(sink.bytes(), field(row, 3).as_bytes()))
+    Ok(
+        list_patches(&set, &job, &mut sink).is_ok()
+            && is_same(sink.bytes(), field(row, 3).as_bytes()),
+    )
 }
 
 #[test]
@@ -270,8 +272,10 @@ fn is_written(alloc: Global, row: &str) -> Result<bool, Fail> {
     let set = set(alloc, text(field(row, 0)))?;
     let job = filter_job(alloc, row)?;
     let mut sink = MemSink::new(alloc, Vec::new(alloc));
-    Ok(filter_patches(&set, &job, &mut sink).is_ok()
-        && sink.bytes() == text(field(row, 6)).as_bytes())
+    Ok(
+        filter_patches(&set, &job, &mut sink).is_ok()
+            && sink.bytes() == text(field(row, 6)).as_bytes(),
+    )
 }
 
 #[test]

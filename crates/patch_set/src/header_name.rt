@@ -37,13 +37,7 @@ fn better_of<'t>(first: Option<&'t [u8]>, second: Option<&'t [u8]>) -> Option<&'
     match (first, second) {
         (None, _) => second,
         (_, None) => first,
-        (Some(one), Some(other)) => {
-            if is_better(other, one) {
-                second
-            } else {
-                first
-            }
-        }
+        (Some(one), Some(other)) => { if is_better(other, one) { second } else { first } }
     }
 }
 

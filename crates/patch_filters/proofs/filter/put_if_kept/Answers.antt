@@ -1,5 +1,4 @@
-use Rattle.std.proofs.Common.{◌≡◌, Some, arith}
-use Rattle.std.specs.Prelude.{slice_get}
+use Rattle.std.proofs.Common.{arith}
 use Rattle.patch_filters.proofs.Placed.{span-in}
 use Rattle.patch_filters.proofs.Rows.{found}
 use Rattle.patch_filters.proofs.filter.put_if_kept.Goals as goal
@@ -8,12 +7,19 @@ pub bytes_at-requires-clause-order : goal.bytes_at-requires-clause-order
 bytes_at-requires-clause-order g c =
     let p = c.args.patch.now in
     let s = c.index-span.result.now in
-    let here : slice_get p.hunk_spans.items c.args.hunk ≡ Some s = found p.hunk_spans.items c.args.hunk s (omega (arith, c.requires.within, c.requires.placed.each)) c.index-span.ensures in
-    omega (arith, (span-in p.header.at p.hunk_spans.items p.span.end c.args.hunk s c.requires.placed.turn here).0)
+    let spans = p.hunk_spans.items in
+    omega (
+      arith,
+      (span-in p.header.at spans p.span.end c.args.hunk s c.requires.placed.turn (found spans c.args.hunk s (omega (arith, c.requires.within, c.requires.placed.each)) c.index-span.ensures)).0,
+    )
 
 pub bytes_at-requires-clause-within : goal.bytes_at-requires-clause-within
 bytes_at-requires-clause-within g c =
     let p = c.args.patch.now in
     let s = c.index-span.result.now in
-    let here : slice_get p.hunk_spans.items c.args.hunk ≡ Some s = found p.hunk_spans.items c.args.hunk s (omega (arith, c.requires.within, c.requires.placed.each)) c.index-span.ensures in
-    omega (arith, (span-in p.header.at p.hunk_spans.items p.span.end c.args.hunk s c.requires.placed.turn here).1, c.requires.placed.high)
+    let spans = p.hunk_spans.items in
+    omega (
+      arith,
+      (span-in p.header.at spans p.span.end c.args.hunk s c.requires.placed.turn (found spans c.args.hunk s (omega (arith, c.requires.within, c.requires.placed.each)) c.index-span.ensures)).1,
+      c.requires.placed.high,
+    )

@@ -23,4 +23,4 @@ returns-else-is_meant c = λ text lawful.
     let n : c.from.result + 1 ≡ suc c.args.hunk = omega (arith, c.from.ensures) in
     let meant = sym (c.is_meant.ensures ∙ ap (is_meant j.hunks) n) ∙ c.if-is_meant.false in
     c.if-is_meant.false
-    ∙ sym (flag-at j change c.args.hunk olds (olds-there j text c.args.change.now c.args.hunk c.requires.within) ∙ ap (λ b. b && is_one_meant j.lines olds) meant)
+    ∙ sym (flag-at j change c.args.hunk olds (olds-there text c.args.change.now c.args.hunk c.requires.within) ∙ ap (λ b. b && is_one_meant j.lines olds) meant)
