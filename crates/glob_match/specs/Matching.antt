@@ -1,5 +1,6 @@
 -- The names that a pattern matches.
-use Rattle.std.specs.Prelude.{◌≡◌, ℕ, ◌≤◌, Bool, true, false, not, nat_le, ◌&&◌, ◌||◌, ◌==◌, if◌then◌else◌, List, [], ◌∷◌, length, drop}
+use Rattle.std.specs.Prelude.{◌≡◌, ℕ, ◌+◌, ◌≤◌, Bool, true, false, not, nat_le, ◌&&◌, ◌||◌, ◌==◌, if◌then◌else◌, List, [], ◌∷◌, length, drop}
+use Rattle.std.specs.List.{list_any, range_with_len}
 use Rattle.glob_match.specs.Pattern.{Element, Run, Any, Byte, OneOf, elements}
 
 -- the byte is a member: one of the bytes, or in a range `a-z`
@@ -30,3 +31,19 @@ Match (OneOf o ms ∷ es) (b ∷ bs) = (takes (OneOf o ms) b ≡ true) × Match 
 -- the pattern matches the whole name
 abbrev pub Matches : List ℕ → List ℕ → Type 0
 Matches pattern name = Match (elements pattern) name
+
+-- the same as a test: a run takes one of the numbers of bytes that there are
+unfoldable pub fits : List Element → List ℕ → Bool
+fits [] [] = true
+fits [] (b ∷ bs) = false
+fits (Run ∷ es) name = list_any (λ k. fits es (drop k name)) (range_with_len 0 (length name + 1))
+fits (Any ∷ es) [] = false
+fits (Any ∷ es) (b ∷ bs) = fits es bs
+fits (Byte c ∷ es) [] = false
+fits (Byte c ∷ es) (b ∷ bs) = takes (Byte c) b && fits es bs
+fits (OneOf o ms ∷ es) [] = false
+fits (OneOf o ms ∷ es) (b ∷ bs) = takes (OneOf o ms) b && fits es bs
+
+-- the test of a whole name
+abbrev pub does_match : List ℕ → List ℕ → Bool
+does_match pattern name = fits (elements pattern) name

@@ -1,9 +1,9 @@
 //! Patterns of names: `*`, `?`, sets in brackets and a backslash.
 #![tactic(auto)]
 
-ghost use Rattle.std.specs.Prelude.{◌≡◌, ◌↔◌, ◌+◌, ◌<◌, ◌≤◌, ◌∷◌, IsTrue, length, drop, slice_index, slice_range, MatchOption};
+ghost use Rattle.std.specs.Prelude.{◌≡◌, ◌↔◌, ◌+◌, ◌<◌, ◌≤◌, ◌∷◌, IsTrue, ℕ, List, true, length, drop, slice_index, slice_range, MatchOption};
 ghost use Rattle.glob_match.specs.Pattern.{members_of, is_sign, set_front, after_open, elements, Run as RunElement};
-ghost use Rattle.glob_match.specs.Matching.{is_member as member_test, takes as takes_byte, Match, Matches};
+ghost use Rattle.glob_match.specs.Matching.{is_member as member_test, takes as takes_byte, does_match, Match, Matches};
 ghost use Rattle.glob_match.specs.Walking.{plain, LiesIn, IsFront, IsRead, IsWalk};
 
 use memchr::memchr;
@@ -226,6 +226,13 @@ fn matches_after_run(pattern: &[u8], start: usize, name: &[u8], from: usize) -> 
 /// `[..]` one byte of a set with ranges, `!` or `^` in front for the opposite, a first `]` being a member;
 /// a backslash the next byte itself. A `[` without an end, and a backslash at the end, stand for themselves.
 pub fn matches(pattern: &[u8], name: &[u8]) -> bool
+    ensures relation { IsTrue result ↔ Matches pattern.now name.now }
+    ensures test { result ≡ does_match pattern.now name.now }
+{
+    fits(pattern, name)
+}
+
+fn fits(pattern: &[u8], name: &[u8]) -> bool
     ensures { IsTrue result ↔ Matches pattern.now name.now }
 {
     match walk(pattern, 0, name, 0) {
@@ -234,6 +241,11 @@ pub fn matches(pattern: &[u8], name: &[u8]) -> bool
         Reach::Run { next, place } => matches_after_run(pattern, next, name, place),
     }
 }
+
+/// The test of a match says what the relation says.
+pub fn matches_are_decided()
+    ensures { (pattern name : List ℕ) → (does_match pattern name ≡ true) ↔ Matches pattern name }
+{}
 
 #[cfg(test)]
 mod tests {

@@ -17,6 +17,7 @@ use file_patch::FilePatch;
 use hunk_core::Side;
 pub use laws::choice_laws;
 use outside::{Failed, Tree};
+pub use rank::is_better;
 use target_names::Target;
 
 /// The name that was chosen, by its place among the targets, counted from 0.

@@ -1,9 +1,10 @@
 //! The counts by which names are compared, and the best name so far.
-ghost use Rattle.std.specs.Prelude.{◌≡◌, ℕ, List, length};
-ghost use Rattle.outside.specs.Names.{last_component};
+ghost use Rattle.std.specs.Prelude.{◌≡◌, length};
+ghost use Rattle.name_choice.specs.Better.{component_count, is_better};
 ghost use Rattle.name_choice.specs.Rank.{rank_of, precedes, better_of, best_at, best_with, place_of};
 
 use outside::Name;
+use target_names::last_component;
 
 /// How good a name is: the first count in which two names differ decides, and the smaller one is better.
 #[derive(Clone, Copy, Debug)]
@@ -25,14 +26,14 @@ pub struct Best {
 }
 
 impl Rank {
-    pub fn new(name: &Name, new_directories: u64) -> Rank
-        ensures { result ≡ rank_of new_directories name.now }
+    pub fn new(text: &[u8], new_directories: u64) -> Rank
+        ensures { result ≡ rank_of new_directories text.now }
     {
         Rank {
             new_directories,
-            parts: name.parts(),
-            last: last_length(name.text()),
-            length: name.text().len(),
+            parts: component_count(text),
+            last: last_component(text).len(),
+            length: text.len(),
         }
     }
 
@@ -51,15 +52,19 @@ impl Rank {
     }
 }
 
-/// The length of what stands after the last slash.
-fn last_length(text: &str) -> usize
-    ensures { result ≡ length (last_component text.now) }
+/// How many pieces the slashes part.
+fn component_count(text: &[u8]) -> u64
+    ensures { result ≡ component_count text.now }
 {
-    let mut length = 0;
-    for component in text.split('/') {
-        length = component.len();
-    }
-    length
+    text.split(|byte| *byte == b'/').count() as u64
+}
+
+/// Whether one name, as it is written, is better than another: it has fewer components, or else a shorter last one, or
+/// else it is shorter.
+pub fn is_better(a: &[u8], b: &[u8]) -> bool
+    ensures { result ≡ is_better a.now b.now }
+{
+    Rank::new(a, 0).precedes(&Rank::new(b, 0))
 }
 
 /// The better of the best so far and one that comes behind it.
@@ -91,7 +96,7 @@ pub fn best_with(
     if !counts {
         return best;
     }
-    let rank = Rank::new(name, new_directories);
+    let rank = Rank::new(name.text().as_bytes(), new_directories);
     Some(better_of(best, Best { place, rank }))
 }
 

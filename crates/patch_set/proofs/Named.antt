@@ -80,7 +80,7 @@ module _ (o : PlainOptions) (text : List ℕ) (known : List (List ℕ)) where
     turn = rw (is.header, is.hunk_spans, is.span) at.turn;
     each = rw (is.hunk_spans, is.change) at.each;
     pieces = rw (is.header, is.hunk_spans, is.change) at.pieces;
-    some = rw is.span at.some;
+    some = rw (is.header, is.span) at.some;
     high = rw is.span at.high;
     number = rw is.header at.number;
     first = is.first ∙ at.first;

@@ -13,7 +13,7 @@ pub record IsPlaced (text : List ℕ) (start before : ℕ) (p : FilePatch) : Typ
   pub turn : AreInTurn p.header.at p.hunk_spans.items p.span.end
   pub each : length p.hunk_spans.items ≡ row_count p.change
   pub pieces : SpellChange text p.header.form p.hunk_spans.items (change_of text p.change)
-  pub some : p.span.start < p.span.end
+  pub some : p.header.at < p.span.end
   pub high : p.span.end ≤ length text
   pub number : p.header.opening ≤ p.header.at + 1
   pub first : p.first_verdict ≡ before

@@ -2,6 +2,7 @@
 #![tactic(auto)]
 
 mod fault;
+mod header_name;
 mod laws;
 mod names;
 mod reading;

@@ -1,10 +1,13 @@
 //! A set of file patches.
 ghost use Rattle.std.specs.Prelude.{◌≡◌, ◌<◌, ◌^◌, [], IfOk, All, length, slice_index_or};
-ghost use Rattle.std.specs.Option.{option_copied};
+ghost use Rattle.std.specs.Option.{ForSome, option_copied};
 ghost use Rattle.file_patch.specs.Absent.{IsLawfulPatch};
+ghost use Rattle.file_patch.specs.PlainPatch.{header_of};
+ghost use Rattle.patch_set.specs.PlainName.{plain_name};
 ghost use Rattle.patch_set.specs.Spans.{ArePlaced};
-ghost use Rattle.patch_set.specs.SetView.{IsFresh, IsWhole, hunks_in, with_row, with_verdicts};
+ghost use Rattle.patch_set.specs.SetView.{IsFresh, IsWhole, hunks_in, patch_at, with_row, with_verdicts};
 
+use crate::header_name::plain_name;
 use crate::names::Named;
 use file_patch::FilePatch;
 use hunk_core::{Side, Verdict};
@@ -57,6 +60,15 @@ impl PatchSet {
         ensures whole { IsWhole self.now }
     {
         &self.patches
+    }
+
+    /// The name of a file patch, counted from 0, for the filters: the better one of its old and its new name, `/dev/null`
+    /// being none, or else its `Index:` name, or else the empty text.
+    pub fn plain_name(&self, patch: u32) -> &[u8]
+        requires { patch < length self.now.patches }
+        ensures { ForSome (patch_at self.now patch) (λ p. result.now ≡ plain_name (header_of self.now.text p.header)) }
+    {
+        plain_name(&self.text, &self.patches[patch as usize].header)
     }
 
     /// The file that the result goes to in place of the one that is patched.

@@ -1,5 +1,6 @@
 -- What is left of a name in a patch where its front is stripped (POSIX, `patch`, option -p; adjacent slashes count as one).
 use Rattle.std.specs.Prelude.{◌≡◌, ℕ, zero, suc, ◌<◌, List, [], ◌∷◌, ◌++◌, length, Bool, true, false, not, ◌&&◌, if◌then◌else◌, Option, None, Some, option_and_then}
+use Rattle.std.specs.Option.{option_map_or}
 use Rattle.outside.specs.Names.{is_slash, is_absolute, last_component}
 
 -- the text without the slashes at its front
@@ -21,6 +22,10 @@ behind_slashes (suc n) text = option_and_then (behind_slashes n) (behind_slash t
 abbrev pub stripped : Option ℕ → List ℕ → Option (List ℕ)
 stripped None text = Some (last_component text)
 stripped (Some n) text = behind_slashes n text
+
+-- the same of a name that may have too few slashes, which leaves its last component
+abbrev pub shortened : ℕ → List ℕ → List ℕ
+shortened count text = option_map_or (λ left. left) (behind_slashes count text) (last_component text)
 
 -- ---- what is stripped, in words of its own
 

@@ -14,6 +14,7 @@ pub use laws::{
     targets_tell_names_apart,
 };
 pub use numbering::Numbers;
+pub use strip::{last_component, shortened};
 
 #[cfg(test)]
 mod tests;

@@ -4,7 +4,7 @@ ghost use Rattle.std.specs.List.{position};
 ghost use Rattle.std.specs.Option.{option_copied};
 ghost use Rattle.memchr.specs.Find.{IsLastByte, is_byte};
 ghost use Rattle.outside.specs.Names.{is_slash, last_component};
-ghost use Rattle.target_names.specs.Stripped.{without_slashes, behind_slash, behind_slashes, stripped};
+ghost use Rattle.target_names.specs.Stripped.{without_slashes, behind_slash, behind_slashes, stripped, shortened};
 
 use memchr::{memchr, memrchr};
 
@@ -15,6 +15,17 @@ pub fn stripped(strip: Option<u32>, text: &[u8]) -> Option<&[u8]>
     match strip {
         Some(count) => behind_slashes(text, count),
         None => Some(last_component(text)),
+    }
+}
+
+/// What is left of a name, as it is written, once so many slashes are stripped with what stands before them; of one that
+/// has too few slashes its last component.
+pub fn shortened(count: u32, text: &[u8]) -> &[u8]
+    ensures { result.now ≡ shortened count text.now }
+{
+    match behind_slashes(text, count) {
+        Some(left) => left,
+        None => last_component(text),
     }
 }
 
@@ -45,7 +56,8 @@ fn without_slashes(text: &[u8]) -> &[u8]
     &text[at..]
 }
 
-fn last_component(text: &[u8]) -> &[u8]
+/// What stands behind the last slash.
+pub fn last_component(text: &[u8]) -> &[u8]
     ensures { result.now ≡ last_component text.now }
 {
     match memrchr(b'/', text) {

@@ -1,0 +1,6 @@
+mod Loops
+mod Rows
+mod Ranges
+mod OldLines
+mod Placed
+mod Whole

@@ -1,0 +1,65 @@
+-- One file patch of a set, and the pieces of its hunks.
+use Rattle.std.proofs.Common.{◌≡◌, ℕ, zero, suc, ◌+◌, ◌<◌, ◌≤◌, Bool, false, List, [], ◌∷◌, length, get_or, Some, refl, sym, subst, ◌∙◌, arith}
+use Rattle.std.specs.Prelude.{slice_get}
+use Rattle.std.specs.List.{zip}
+use Rattle.std.proofs.lemmas.List.{length-map}
+use Rattle.std.proofs.lemmas.Option.{same_Some, slice_get-get_or}
+use Rattle.line_list.specs.declared.Span.{Span}
+use Rattle.hunk_core.specs.PlainHunk.{bytes_at}
+use Rattle.hunk_core.specs.Pieces.{AreInTurn}
+use Rattle.file_patch.specs.declared.FilePatch.{FilePatch}
+use Rattle.file_patch.specs.PlainPatch.{change_of, row_count}
+use Rattle.patch_set.specs.Spans.{IsPlaced, ArePlaced}
+use Rattle.patch_set.proofs.Named.{rows-counted}
+use Rattle.patch_filters.specs.PlainJobs.{PlainFilterJob}
+use Rattle.patch_filters.specs.Kept.{kept}
+use Rattle.patch_filters.specs.Filtered.{pieces}
+use Rattle.patch_filters.proofs.Rows.{kept-count, zip-at, zip-count}
+
+by-itself : (text : List ℕ) (start before : ℕ) (p : FilePatch) → IsPlaced text start before p → IsPlaced text p.span.start p.first_verdict p
+by-itself text start before p at = record {
+  begins = refl;
+  region = omega (arith, at.begins, at.region);
+  turn = at.turn;
+  each = at.each;
+  pieces = at.pieces;
+  some = at.some;
+  high = at.high;
+  number = at.number;
+  first = refl;
+}
+
+pub placed-at : (text : List ℕ) (start before : ℕ) (ps : List FilePatch) (i : ℕ) (p : FilePatch) → ArePlaced text start before ps → slice_get ps i ≡ Some p → IsPlaced text p.span.start p.first_verdict p
+placed-at text start before [] i p at is = absurd cc
+placed-at text start before (q ∷ ps) zero p at is = subst (λ x. IsPlaced text x.span.start x.first_verdict x) (same_Some q p is) (by-itself text start before q at.0)
+placed-at text start before (q ∷ ps) (suc i) p at is = placed-at text q.span.end (before + row_count q.change) ps i p at.1 is
+
+pub turn-end : (at : ℕ) (ss : List Span) (end : ℕ) → AreInTurn at ss end → at ≤ end
+turn-end at [] end turn = omega (arith, turn)
+turn-end at (s ∷ ss) end turn = omega (arith, turn.1, turn-end s.end ss end turn.2)
+
+pub span-in : (at : ℕ) (ss : List Span) (end i : ℕ) (s : Span) → AreInTurn at ss end → slice_get ss i ≡ Some s → (s.start < s.end) × (s.end ≤ end)
+span-in at [] end i s turn is = absurd cc
+span-in at (t ∷ ss) end zero s turn is = subst (λ (x : Span). (x.start < x.end) × (x.end ≤ end)) (same_Some t s is) (omega (arith, turn.0, turn.1), turn-end t.end ss end turn.2)
+span-in at (t ∷ ss) end (suc i) s turn is = span-in t.end ss end i s turn.2 is
+
+-- ---- the pieces with their flags
+
+module _ (j : PlainFilterJob) (text : List ℕ) (p : FilePatch) (at : IsPlaced text p.span.start p.first_verdict p) where
+  abbrev pub rows : List (Bool × List ℕ)
+  rows = zip (kept j (change_of text p.change)) (pieces text p)
+
+  flags-long : length (kept j (change_of text p.change)) ≡ row_count p.change
+  flags-long = kept-count j (change_of text p.change) ∙ rows-counted text p.change
+
+  pieces-long : length (pieces text p) ≡ row_count p.change
+  pieces-long = length-map p.hunk_spans.items (bytes_at text) ∙ at.each
+
+  pub rows-long : length rows ≡ row_count p.change
+  rows-long = zip-count (kept j (change_of text p.change)) (pieces text p) (flags-long ∙ sym pieces-long) ∙ pieces-long
+
+  pub row-at : (i : ℕ) → i < row_count p.change → slice_get rows i ≡ Some (get_or (kept j (change_of text p.change)) i false, get_or (pieces text p) i [])
+  row-at i lt =
+      zip-at (kept j (change_of text p.change)) (pieces text p) i _ _
+      (slice_get-get_or (kept j (change_of text p.change)) i false (omega (arith, lt, flags-long)))
+      (slice_get-get_or (pieces text p) i [] (omega (arith, lt, pieces-long)))

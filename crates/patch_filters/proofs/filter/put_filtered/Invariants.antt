@@ -1,0 +1,9 @@
+use Rattle.hunk_core.proofs.SinkSteps.{HasPut}
+use Rattle.patch_filters.specs.PlainJobs.{plain_filter_job}
+use Rattle.patch_filters.specs.Selected.{numbered}
+use Rattle.patch_filters.specs.Filtered.{written_if_taken}
+use Rattle.patch_filters.proofs.Loops.{up_to}
+use Rattle.patch_filters.proofs.filter.put_filtered.Given as goal
+
+abbrev pub invariant-loop-patch : goal.invariant-loop-patch
+invariant-loop-patch g l = HasPut g.O.Sink.view g.O.Sink.same_rest l.fn.out l.out (up_to (written_if_taken (plain_filter_job l.job) l.set.text) (numbered l.set.patches) l.patch)

@@ -1,0 +1,8 @@
+use Rattle.patch_filters.proofs.Whole.{writes-all, writes-none}
+use Rattle.patch_filters.proofs.laws.filter_laws.Goals as goal
+
+pub returns-clause-all : goal.returns-clause-all
+returns-clause-all c = writes-all
+
+pub returns-clause-none : goal.returns-clause-none
+returns-clause-none c = writes-none

@@ -1,0 +1,9 @@
+use Rattle.hunk_core.proofs.SinkSteps.{HasPut}
+use Rattle.patch_set.specs.SetView.{plain_patches}
+use Rattle.patch_filters.specs.PlainJobs.{plain_list_job}
+use Rattle.patch_filters.specs.Listed.{line_if_selected}
+use Rattle.patch_filters.proofs.Loops.{up_to}
+use Rattle.patch_filters.proofs.list.put_list.Given as goal
+
+abbrev pub invariant-loop-patch : goal.invariant-loop-patch
+invariant-loop-patch g l = HasPut g.O.Sink.view g.O.Sink.same_rest l.fn.out l.out (up_to (line_if_selected (plain_list_job l.job)) (plain_patches l.set) l.patch)

@@ -1,0 +1,27 @@
+-- What is written, in words of its own.
+use Rattle.std.specs.Prelude.{◌≡◌, ℕ, suc, ◌<◌, ◌↔◌, false, [], None, Some}
+use Rattle.std.specs.List.{flat_map}
+use Rattle.hunk_core.specs.PlainHunk.{bytes_at}
+use Rattle.file_patch.specs.declared.FilePatch.{FilePatch}
+use Rattle.file_patch.specs.PlainPatch.{patch_of, row_count}
+use Rattle.patch_set.specs.SetView.{SetView, IsWhole, patch_at}
+use Rattle.patch_filters.specs.PlainJobs.{PlainFilterJob}
+use Rattle.patch_filters.specs.Kept.{keeps}
+use Rattle.patch_filters.specs.Filtered.{filtered, written_if_taken}
+
+-- nothing is asked for: no name is excluded, none has to be included, and each number is meant
+pub record AsksNothing (j : PlainFilterJob) : Type 0 where
+  pub exclude : j.select.exclude ≡ []
+  pub include : j.select.only_included ≡ false
+  pub hunks : j.hunks ≡ None
+  pub lines : j.lines ≡ None
+  pub files : j.files ≡ None
+
+-- then all file patches of a set are written as they are, one behind the other
+abbrev pub WritesAll : Type 0
+WritesAll = (j : PlainFilterJob) (v : SetView) → IsWhole v → AsksNothing j → filtered j v ≡ flat_map (λ p. bytes_at v.text p.span) v.patches
+
+-- nothing is written of a file patch exactly where none of its hunks is kept
+abbrev pub WritesNone : Type 0
+WritesNone = (j : PlainFilterJob) (v : SetView) (patch : ℕ) (p : FilePatch) → IsWhole v → patch_at v patch ≡ Some p
+    → (written_if_taken j v.text (suc patch, p) ≡ []) ↔ ((hunk : ℕ) → hunk < row_count p.change → keeps j patch (patch_of v.text p) hunk ≡ false)
