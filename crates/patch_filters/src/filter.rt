@@ -6,7 +6,6 @@ ghost use Rattle.std.specs.Option.{ForSome};
 ghost use Rattle.outside.specs.SinkView.{Writes};
 ghost use Rattle.hunk_core.specs.Writing.{Puts};
 ghost use Rattle.file_patch.specs.PlainPatch.{IsLawfulChange, change_of, header_of, patch_of, row_count};
-ghost use Rattle.file_patch.specs.Absent.{IsLawfulPatch};
 ghost use Rattle.patch_set.specs.SetView.{patch_at};
 ghost use Rattle.patch_set.specs.Spans.{IsPlaced};
 ghost use Rattle.patch_filters.specs.PlainJobs.{plain_filter_job};

@@ -1,6 +1,6 @@
 //! The old lines of a hunk, and whether it is kept.
 
-ghost use Rattle.std.specs.Prelude.{◌≡◌, ◌<◌, ◌^◌, ℕ, List, Some, All, length, max, false, slice_get, slice_index_or};
+ghost use Rattle.std.specs.Prelude.{◌≡◌, ◌<◌, ◌^◌, ℕ, List, Some, length, max, false, slice_get, slice_index_or};
 ghost use Rattle.hunk_core.specs.PlainHunk.{hunk_of};
 ghost use Rattle.ed_form.specs.PlainEdit.{IsLawfulScript, edits_of};
 ghost use Rattle.file_patch.specs.PlainPatch.{IsLawfulChange, change_of, row_count};

@@ -4,10 +4,8 @@ ghost use Rattle.std.specs.Prelude.{◌≡◌, ◌<◌, ◌≤◌, ◌++◌, ℕ
 ghost use Rattle.std.specs.Option.{ForSome};
 ghost use Rattle.outside.specs.SinkView.{Writes};
 ghost use Rattle.hunk_core.specs.Writing.{Puts};
-ghost use Rattle.num_text.specs.Numbers.{decimal};
 ghost use Rattle.file_patch.specs.PlainPatch.{patch_of};
 ghost use Rattle.file_patch.specs.Absent.{IsLawfulPatch};
-ghost use Rattle.patch_set.specs.PlainName.{plain_name};
 ghost use Rattle.patch_set.specs.SetView.{patch_at, plain_patches};
 ghost use Rattle.patch_filters.specs.PlainJobs.{plain_list_job};
 ghost use Rattle.patch_filters.specs.Listed.{front, line_if_selected, listed, number_text, sign, sign_text};
