@@ -7,3 +7,4 @@ pub mod Walking
 pub mod WholeLines
 pub mod Spelled
 pub mod Kept
+pub mod Cutting
