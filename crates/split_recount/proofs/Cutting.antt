@@ -48,15 +48,15 @@ no-names set none = λ q. ap (λ (ks : List (Bor (List ℕ))). list_any (is_at (
 -- ---- a file patch more
 
 module _ (every : Bool) (names : List (List ℕ)) (row : ℕ × List ℕ) (rows : List (ℕ × List ℕ)) where
-  cut-there : (every || is_among names row.1) ≡ true → cuts every names (row ∷ rows) ≡ row.0 ∷ cuts every (row.1 ∷ []) rows
+  pub cut-there : (every || is_among names row.1) ≡ true → cuts every names (row ∷ rows) ≡ row.0 ∷ cuts every (row.1 ∷ []) rows
   unfolding cuts
   cut-there h = rw h refl
 
-  cut-later : (every || is_among names row.1) ≡ false → cuts every names (row ∷ rows) ≡ cuts every (row.1 ∷ names) rows
+  pub cut-later : (every || is_among names row.1) ≡ false → cuts every names (row ∷ rows) ≡ cuts every (row.1 ∷ names) rows
   unfolding cuts
   cut-later h = rw h refl
 
-none-cut : (every : Bool) (names : List (List ℕ)) → cuts every names [] ≡ []
+pub none-cut : (every : Bool) (names : List (List ℕ)) → cuts every names [] ≡ []
 unfolding cuts
 none-cut every names = refl
 

@@ -8,3 +8,4 @@ pub mod WholeLines
 pub mod Spelled
 pub mod Kept
 pub mod Cutting
+pub mod PartsInTurn

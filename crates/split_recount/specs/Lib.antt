@@ -5,4 +5,5 @@ pub mod TrueCounts
 pub mod Measured
 pub mod Walking
 pub mod Parts
+pub mod PartLaws
 pub mod Splitting

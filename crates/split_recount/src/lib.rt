@@ -16,7 +16,7 @@ mod starts;
 #[cfg(test)]
 mod tests;
 
-pub use parts::split_parts;
+pub use parts::{part_laws, split_parts};
 pub use recounting::recount;
 
 /// What is believed of a range line is what the reader of unified hunks reads there.

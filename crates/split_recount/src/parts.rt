@@ -4,6 +4,7 @@ ghost use Rattle.std.specs.Prelude.{◌≡◌, ◌<◌, [], ◌∷◌, IfOk, len
 ghost use Rattle.std.specs.Option.{ForSome};
 ghost use Rattle.patch_set.specs.SetView.{patch_at};
 ghost use Rattle.split_recount.specs.Parts.{between, parts, row_of};
+ghost use Rattle.split_recount.specs.PartLaws.{BeginAtPatches, HaveOwnNames, JoinBack};
 ghost use Rattle.split_recount.specs.Splitting.{AreNames, Goes, begins};
 
 use line_list::Span;
@@ -108,3 +109,11 @@ pub fn split_parts(alloc: Global, set: &PatchSet, every: bool) -> Result<Vec<Spa
     }
     cut(alloc, set, every, end)
 }
+
+/// None of the parts is empty, and one behind the other they are the text; each but the first begins where a file patch does;
+/// two file patches in one part have two names, and with `every` there are no two.
+pub fn part_laws()
+    ensures join { JoinBack }
+    ensures begin { BeginAtPatches }
+    ensures names { HaveOwnNames }
+{}

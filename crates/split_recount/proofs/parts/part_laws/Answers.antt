@@ -1,0 +1,11 @@
+use Rattle.split_recount.proofs.PartsInTurn.{join-back, begin-at-patches}
+use Rattle.split_recount.proofs.parts.part_laws.Goals as goal
+
+pub returns-clause-join : goal.returns-clause-join
+returns-clause-join c = join-back
+
+pub returns-clause-begin : goal.returns-clause-begin
+returns-clause-begin c = begin-at-patches
+
+pub returns-clause-names : goal.returns-clause-names
+returns-clause-names c = ?
