@@ -9,3 +9,4 @@ pub mod Spelled
 pub mod Kept
 pub mod Cutting
 pub mod PartsInTurn
+pub mod OwnNames

@@ -20,11 +20,11 @@ use Rattle.split_recount.specs.PartLaws.{JoinBack, BeginAtPatches, HaveOwnNames}
 use Rattle.split_recount.proofs.Measuring.{range_split}
 use Rattle.split_recount.proofs.Cutting.{cut-there, cut-later, none-cut, row-at, parts-are}
 
-abbrev Rows : Type 0
+abbrev pub Rows : Type 0
 Rows = List (ℕ × List ℕ)
 
 -- file patches begin one behind the other, between a place and an end
-abbrev Ascend : ℕ → Rows → ℕ → Type 0
+abbrev pub Ascend : ℕ → Rows → ℕ → Type 0
 Ascend low [] end = low < end
 Ascend low (row ∷ rows) end = (low < row.0) × Ascend row.0 rows end
 
@@ -35,7 +35,7 @@ lower low at (row ∷ rows) end lt up = (omega (arith, lt, up.0), up.1)
 -- ---- they follow each other
 
 module _ (every : Bool) (end : ℕ) where
-  in-turn : (names : List (List ℕ)) (low : ℕ) (rows : Rows) → Ascend low rows end → AreInTurn low (between low (cuts every names rows) end) end
+  pub in-turn : (names : List (List ℕ)) (low : ℕ) (rows : Rows) → Ascend low rows end → AreInTurn low (between low (cuts every names rows) end) end
   in-turn names low [] up = subst (λ l. AreInTurn low (between low l end) end) (sym (none-cut every names)) (refl, up, refl)
   in-turn names low (row ∷ rows) up = by (every || is_among names row.1) refl (in-turn (row.1 ∷ []) row.0 rows up.1) (in-turn (row.1 ∷ names) low rows (lower low row.0 rows end up.0 up.1))
     where
@@ -47,7 +47,7 @@ module _ (every : Bool) (end : ℕ) where
 -- ---- file patches that lie one behind the other
 
 module _ (text : List ℕ) where
-  ascend : (p : FilePatch) (start before : ℕ) (ps : List FilePatch) → IsPlaced text start before p → ArePlaced text p.span.end (before + row_count p.change) ps
+  pub ascend : (p : FilePatch) (start before : ℕ) (ps : List FilePatch) → IsPlaced text start before p → ArePlaced text p.span.end (before + row_count p.change) ps
       → Ascend p.span.start (map (row_of text) ps) (length text)
   ascend p start before [] at behind = omega (arith, at.begins, at.region, at.some, at.high)
   ascend p start before (q ∷ ps) at behind =
@@ -71,7 +71,7 @@ module _ (text : List ℕ) where
       ∙ ap (λ a. slice_range text a s.end ++ slice_range text s.end end) turn.0
       ∙ sym (range_split text at s.end end (omega (arith, turn.1)) (turn-end s.end ss end turn.2))
 
-empty-or : (text : List ℕ) → (text ≡ []) ⊎ (0 < length text)
+pub empty-or : (text : List ℕ) → (text ≡ []) ⊎ (0 < length text)
 empty-or [] = inl refl
 empty-or (b ∷ bs) = inr (omega arith)
 
@@ -102,7 +102,7 @@ begins-later row rows s b = (suc b.0, b.1, b.2, b.3)
 
 module _ (every : Bool) (end : ℕ) where
   -- the spans from a place on
-  abbrev spans : List (List ℕ) → ℕ → Rows → List Span
+  abbrev pub spans : List (List ℕ) → ℕ → Rows → List Span
   spans names low rows = between low (cuts every names rows) end
 
   begins-at : (names : List (List ℕ)) (low : ℕ) (rows : Rows) (k : ℕ) (s : Span) → slice_get (spans names low rows) (suc k) ≡ Some s → Begins rows s

@@ -10,6 +10,8 @@ ghost use Rattle.split_recount.specs.RangeLines.{range_parts};
 
 mod body;
 mod parts;
+#[cfg(test)]
+mod parts_tests;
 mod ranges;
 mod recounting;
 mod starts;

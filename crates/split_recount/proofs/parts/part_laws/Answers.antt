@@ -1,4 +1,5 @@
 use Rattle.split_recount.proofs.PartsInTurn.{join-back, begin-at-patches}
+use Rattle.split_recount.proofs.OwnNames.{have-own-names}
 use Rattle.split_recount.proofs.parts.part_laws.Goals as goal
 
 pub returns-clause-join : goal.returns-clause-join
@@ -8,4 +9,4 @@ pub returns-clause-begin : goal.returns-clause-begin
 returns-clause-begin c = begin-at-patches
 
 pub returns-clause-names : goal.returns-clause-names
-returns-clause-names c = ?
+returns-clause-names c = have-own-names
