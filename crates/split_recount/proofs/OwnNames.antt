@@ -1,5 +1,5 @@
 -- Two file patches in one part have two names.
-use Rattle.std.proofs.Common.{◌≡◌, ◌≢◌, ℕ, zero, suc, ◌+◌, ◌<◌, ◌≤◌, Bool, true, false, ◌||◌, List, [], ◌∷◌, length, map, None, Some, inl, inr, refl, sym, ap, subst, ◌∙◌, arith, bytes_eq}
+use Rattle.std.proofs.Common.{◌≡◌, ◌≢◌, ℕ, zero, suc, ◌<◌, ◌≤◌, Bool, true, false, ◌||◌, List, [], ◌∷◌, length, map, None, Some, inl, inr, refl, sym, ap, subst, ◌∙◌, arith, bytes_eq}
 use Rattle.std.specs.Prelude.{slice_get}
 use Rattle.std.proofs.lemmas.Option.{same_Some}
 use Rattle.line_list.specs.declared.Span.{Span}
@@ -7,11 +7,10 @@ use Rattle.hunk_core.specs.Pieces.{AreInTurn}
 use Rattle.file_patch.specs.declared.FilePatch.{FilePatch}
 use Rattle.target_names.specs.Numbered.{is_among}
 use Rattle.target_names.proofs.Names.{same-is}
-use Rattle.patch_set.specs.SetView.{SetView, IsWhole}
 use Rattle.patch_set.specs.Spans.{ArePlaced}
-use Rattle.split_recount.specs.Parts.{cuts, cuts_behind, between, parts, row_of, rows_of}
+use Rattle.split_recount.specs.Parts.{cuts, cuts_behind, between, parts, row_of}
 use Rattle.split_recount.specs.PartLaws.{HaveOwnNames}
-use Rattle.split_recount.proofs.Cutting.{cut-there, cut-later, none-cut, row-at, parts-are}
+use Rattle.split_recount.proofs.Cutting.{cut-there, cut-later, row-at, parts-are}
 use Rattle.split_recount.proofs.PartsInTurn.{Rows, Ascend, in-turn, ascend, empty-or, spans}
 
 both-false : (a b : Bool) → (a || b) ≡ false → (a ≡ false) × (b ≡ false)

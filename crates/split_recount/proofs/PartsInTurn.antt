@@ -1,8 +1,7 @@
 -- The parts of a text, one behind the other, and the names in each.
-use Rattle.std.proofs.Common.{◌≡◌, ◌≢◌, ℕ, zero, suc, ◌+◌, ◌-◌, ◌<◌, ◌≤◌, ◌⊎◌, inl, inr, Bool, true, false, ◌||◌, cond, eqb, List, [], ◌∷◌, ◌++◌, length, map, take, drop, slice_range, None, Some, refl, sym, ap, subst, ◌∙◌, arith, bytes_eq}
+use Rattle.std.proofs.Common.{◌≡◌, ℕ, zero, suc, ◌+◌, ◌-◌, ◌<◌, ◌≤◌, ◌⊎◌, inl, inr, Bool, true, false, ◌||◌, List, [], ◌∷◌, ◌++◌, length, map, take, drop, slice_range, None, Some, refl, sym, ap, subst, ◌∙◌, arith}
 use Rattle.std.specs.Prelude.{slice_get}
 use Rattle.std.specs.List.{flat_map}
-use Rattle.std.proofs.lemmas.Bool.{eqb-true}
 use Rattle.std.proofs.lemmas.List.{take_all}
 use Rattle.std.proofs.lemmas.List.Concat.{flat_map-cons}
 use Rattle.std.proofs.lemmas.Option.{same_Some}
@@ -12,13 +11,12 @@ use Rattle.hunk_core.specs.Pieces.{AreInTurn}
 use Rattle.file_patch.specs.declared.FilePatch.{FilePatch}
 use Rattle.file_patch.specs.PlainPatch.{row_count}
 use Rattle.target_names.specs.Numbered.{is_among}
-use Rattle.target_names.proofs.Names.{same-is}
 use Rattle.patch_set.specs.SetView.{SetView, IsWhole, patch_at}
 use Rattle.patch_set.specs.Spans.{IsPlaced, ArePlaced}
 use Rattle.split_recount.specs.Parts.{cuts, cuts_behind, between, parts, row_of, rows_of}
-use Rattle.split_recount.specs.PartLaws.{JoinBack, BeginAtPatches, HaveOwnNames}
+use Rattle.split_recount.specs.PartLaws.{JoinBack, BeginAtPatches}
 use Rattle.split_recount.proofs.Measuring.{range_split}
-use Rattle.split_recount.proofs.Cutting.{cut-there, cut-later, none-cut, row-at, parts-are}
+use Rattle.split_recount.proofs.Cutting.{cut-there, cut-later, none-cut, parts-are}
 
 abbrev pub Rows : Type 0
 Rows = List (ℕ × List ℕ)

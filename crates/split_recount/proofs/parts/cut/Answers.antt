@@ -1,4 +1,4 @@
-use Rattle.std.proofs.Common.{◌≡◌, ◌<◌, ◌≤◌, [], ◌∷◌, length, sym, subst, ap, ◌∙◌, rules, arith}
+use Rattle.std.proofs.Common.{◌<◌, ◌≤◌, [], ◌∷◌, length, sym, subst, ap, ◌∙◌, rules, arith}
 use Rattle.std.proofs.lemmas.List.{length-map}
 use Rattle.split_recount.specs.Parts.{row_of, rows_of}
 use Rattle.split_recount.specs.Splitting.{AreNames}

@@ -1,4 +1,4 @@
-use Rattle.std.proofs.Common.{length, drop}
+use Rattle.std.proofs.Common.{drop}
 use Rattle.split_recount.specs.Parts.{rows_of}
 use Rattle.split_recount.specs.Splitting.{Ahead}
 use Rattle.split_recount.proofs.Cutting.{all_parts}
