@@ -10,3 +10,4 @@ pub mod Kept
 pub mod Cutting
 pub mod PartsInTurn
 pub mod OwnNames
+pub mod NamesAgain

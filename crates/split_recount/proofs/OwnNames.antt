@@ -11,7 +11,7 @@ use Rattle.patch_set.specs.Spans.{ArePlaced}
 use Rattle.split_recount.specs.Parts.{cuts, cuts_behind, between, parts, row_of}
 use Rattle.split_recount.specs.PartLaws.{HaveOwnNames}
 use Rattle.split_recount.proofs.Cutting.{cut-there, cut-later, row-at, parts-are}
-use Rattle.split_recount.proofs.PartsInTurn.{Rows, Ascend, in-turn, ascend, empty-or, spans}
+use Rattle.split_recount.proofs.PartsInTurn.{Rows, Ascend, in-turn, ascend, empty-or, no-part, spans}
 
 both-false : (a b : Bool) → (a || b) ≡ false → (a ≡ false) × (b ≡ false)
 both-false true b e = absurd cc
@@ -130,10 +130,7 @@ module _ (every : Bool) (end : ℕ) where
 
 pub have-own-names : HaveOwnNames
 have-own-names every v k s i j p q whole is lt one other first second = elim (empty-or v.text) [
-    | inl none ↦ absurd (no-part none is)
+    | inl none ↦ absurd (no-part every v k s none is)
     | inr some ↦ all-apart every (length v.text) v.text v.patches k s i j (row_of v.text p) (row_of v.text q) refl whole.placed
         (sym (ap (λ ss. slice_get ss k) (parts-are every v some)) ∙ is) lt (row-at v i p one) (row-at v j q other) first.0 second.1
   ]
-  where
-    no-part : v.text ≡ [] → slice_get (parts every v) k ≡ Some s → ⊥
-    no-part none at = let e : length v.text ≡ 0 = ap length none in let x : slice_get (parts every v) k ≡ None = rw e refl in let y = sym x ∙ at in absurd cc

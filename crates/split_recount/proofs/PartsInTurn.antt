@@ -87,7 +87,7 @@ join-back every v whole =
 
 -- ---- where they begin
 
-begins-low : (low end : ℕ) (cs : List ℕ) (s : Span) → slice_get (between low cs end) 0 ≡ Some s → s.start ≡ low
+pub begins-low : (low end : ℕ) (cs : List ℕ) (s : Span) → slice_get (between low cs end) 0 ≡ Some s → s.start ≡ low
 begins-low low end [] s is = sym (ap (λ x. x.start) (same_Some (record { start = low; end = end }) s is))
 begins-low low end (c ∷ cs) s is = sym (ap (λ x. x.start) (same_Some (record { start = low; end = c }) s is))
 
@@ -116,7 +116,7 @@ module _ (every : Bool) (end : ℕ) where
       by true e there later = here k there (sym (ap (λ l. slice_get (between low l end) (suc k)) (cut-there every names row rows e)) ∙ is)
       by false e there later = begins-later row rows s (later k s (sym (ap (λ l. slice_get (between low l end) (suc k)) (cut-later every names row rows e)) ∙ is))
 
-begins-patch : (text : List ℕ) (ps : List FilePatch) (i : ℕ) (row : ℕ × List ℕ) → slice_get (map (row_of text) ps) i ≡ Some row → (p : FilePatch) × (slice_get ps i ≡ Some p) × (row ≡ row_of text p)
+pub begins-patch : (text : List ℕ) (ps : List FilePatch) (i : ℕ) (row : ℕ × List ℕ) → slice_get (map (row_of text) ps) i ≡ Some row → (p : FilePatch) × (slice_get ps i ≡ Some p) × (row ≡ row_of text p)
 begins-patch text [] i row is = absurd cc
 begins-patch text (p ∷ ps) zero row is = (p, refl, sym (same_Some (row_of text p) row is))
 begins-patch text (p ∷ ps) (suc i) row is = begins-patch text ps i row is
@@ -126,14 +126,14 @@ begins-one every text end [] k s is = absurd cc
 begins-one every text end (p ∷ ps) k s is =
     begins-later (row_of text p) (map (row_of text) ps) s (begins-at every end ((row_of text p).1 ∷ []) 0 (map (row_of text) ps) k s is)
 
+pub no-part : (every : Bool) (v : SetView) (k : ℕ) (s : Span) → v.text ≡ [] → slice_get (parts every v) k ≡ Some s → ⊥
+no-part every v k s none at = let e : length v.text ≡ 0 = ap length none in let x : slice_get (parts every v) k ≡ None = rw e refl in let y = sym x ∙ at in absurd cc
+
 pub begin-at-patches : BeginAtPatches
 begin-at-patches every v k s is = elim (empty-or v.text) [
-    | inl none ↦ absurd (no-part none is)
+    | inl none ↦ absurd (no-part every v (suc k) s none is)
     | inr some ↦ of-row (begins-one every v.text (length v.text) v.patches k s (sym (ap (λ ss. slice_get ss (suc k)) (parts-are every v some)) ∙ is))
   ]
   where
-    no-part : v.text ≡ [] → slice_get (parts every v) (suc k) ≡ Some s → ⊥
-    no-part none at = let e : length v.text ≡ 0 = ap length none in let x : slice_get (parts every v) (suc k) ≡ None = rw e refl in let y = sym x ∙ at in absurd cc
-
     of-row : Begins (rows_of v) s → (patch : ℕ) × (p : FilePatch) × (patch_at v patch ≡ Some p) × (s.start ≡ p.span.start)
     of-row b = let p = begins-patch v.text v.patches b.0 b.1 b.2 in (b.0, p.0, p.1, b.3 ∙ ap (λ r. r.0) p.2)

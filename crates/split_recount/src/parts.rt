@@ -4,7 +4,7 @@ ghost use Rattle.std.specs.Prelude.{◌≡◌, ◌<◌, [], ◌∷◌, IfOk, len
 ghost use Rattle.std.specs.Option.{ForSome};
 ghost use Rattle.patch_set.specs.SetView.{patch_at};
 ghost use Rattle.split_recount.specs.Parts.{between, parts, row_of};
-ghost use Rattle.split_recount.specs.PartLaws.{BeginAtPatches, HaveOwnNames, JoinBack};
+ghost use Rattle.split_recount.specs.PartLaws.{AreAsMany, BeginAtNamesAgain, BeginAtPatches, HaveOwnNames, JoinBack};
 ghost use Rattle.split_recount.specs.Splitting.{AreNames, Goes, begins};
 
 use line_list::Span;
@@ -94,7 +94,8 @@ fn whole(alloc: Global, end: u32) -> Result<Vec<Span>, AllocError>
 
 /// The parts of the text of a set. A part begins at the start of the text, and with each file patch whose name is that of one
 /// in the current part, or with each but the first if `every` says so: there its own lines begin, those in front of its first
-/// hunk included. What stands behind the last file patch is in the last part, and an empty text has no part.
+/// hunk included. What stands behind the last file patch is in the last part, and an empty text has no part. A text of 2^32
+/// bytes, of which no set is read, counts as want of memory.
 pub fn split_parts(alloc: Global, set: &PatchSet, every: bool) -> Result<Vec<Span>, AllocError>
     ensures { IfOk result (λ spans. spans.items ≡ parts every set.now) }
 {
@@ -111,9 +112,12 @@ pub fn split_parts(alloc: Global, set: &PatchSet, every: bool) -> Result<Vec<Spa
 }
 
 /// None of the parts is empty, and one behind the other they are the text; each but the first begins where a file patch does;
-/// two file patches in one part have two names, and with `every` there are no two.
+/// two file patches in one part have two names. With `every` there are as many parts as file patches, and without it a part
+/// begins only at a name that is in the part in front of it.
 pub fn part_laws()
     ensures join { JoinBack }
     ensures begin { BeginAtPatches }
     ensures names { HaveOwnNames }
+    ensures many { AreAsMany }
+    ensures again { BeginAtNamesAgain }
 {}
