@@ -1,7 +1,6 @@
 -- Parts begin only where a name comes again, or at each file patch.
-use Rattle.std.proofs.Common.{◌≡◌, ℕ, zero, suc, ◌+◌, ◌<◌, ◌≤◌, ◌⊎◌, Bool, true, false, ◌||◌, List, [], ◌∷◌, length, map, None, Some, inl, inr, refl, sym, ap, subst, ◌∙◌, arith, bytes_eq}
+use Rattle.std.proofs.Common.{◌≡◌, ℕ, zero, suc, ◌<◌, ◌≤◌, ◌⊎◌, Bool, true, false, ◌||◌, List, [], ◌∷◌, length, map, Some, inl, inr, refl, sym, ap, ◌∙◌, arith, bytes_eq}
 use Rattle.std.specs.Prelude.{slice_get}
-use Rattle.std.specs.List.{list_any}
 use Rattle.std.proofs.lemmas.List.{length-map}
 use Rattle.std.proofs.lemmas.Option.{same_Some}
 use Rattle.line_list.specs.declared.Span.{Span}
@@ -12,7 +11,7 @@ use Rattle.patch_set.specs.PlainName.{plain_name}
 use Rattle.file_patch.specs.PlainPatch.{header_of}
 use Rattle.patch_set.specs.SetView.{SetView, IsWhole, patch_at}
 use Rattle.patch_set.specs.Spans.{ArePlaced}
-use Rattle.split_recount.specs.Parts.{cuts, cuts_behind, between, parts, row_of, rows_of}
+use Rattle.split_recount.specs.Parts.{cuts, cuts_behind, between, row_of}
 use Rattle.split_recount.specs.PartLaws.{BeginsIn, BeginAtNamesAgain, AreAsMany}
 use Rattle.split_recount.proofs.Cutting.{cut-there, cut-later, none-cut, parts-are}
 use Rattle.split_recount.proofs.PartsInTurn.{Rows, Ascend, ascend, empty-or, no-part, spans, begins-low, begins-patch}
@@ -68,15 +67,15 @@ module _ (Seen : ℕ × List ℕ → Type 0) (end : ℕ) where
 
   first-named : (row : ℕ × List ℕ) → Seen row → AreNamed row.0 row.0 (row.1 ∷ [])
   first-named row seen name e = elim (or-either (bytes_eq name row.1) false e) [
-      | inl same ↦ here-named row row.0 name seen (omega arith) same
-      | inr none ↦ absurd cc
-    ]
+    | inl same ↦ here-named row row.0 name seen (omega arith) same
+    | inr none ↦ absurd cc
+  ]
 
   more-named : (names : List (List ℕ)) (low at : ℕ) (row : ℕ × List ℕ) → Seen row → low ≤ at → at < row.0 → AreNamed low at names → AreNamed low row.0 (row.1 ∷ names)
   more-named names low at row seen le lt named name e = elim (or-either (bytes_eq name row.1) (is_among names name) e) [
-      | inl same ↦ here-named row low name seen (omega (arith, le, lt)) same
-      | inr among ↦ let r = named name among in (r.0, r.1, r.2, omega (arith, r.3, lt), r.4)
-    ]
+    | inl same ↦ here-named row low name seen (omega (arith, le, lt)) same
+    | inr among ↦ let r = named name among in (r.0, r.1, r.2, omega (arith, r.3, lt), r.4)
+  ]
 
   abbrev AreSeen : Rows → Type 0
   AreSeen rows = (i : ℕ) (r : ℕ × List ℕ) → slice_get rows i ≡ Some r → Seen r
@@ -129,16 +128,23 @@ all-again text (p ∷ ps) k s t at is next =
 
 pub begin-at-names-again : BeginAtNamesAgain
 begin-at-names-again v k s t whole is next = elim (empty-or v.text) [
-    | inl none ↦ absurd (no-part false v k s none is)
-    | inr some ↦ of-rows (all-again v.text v.patches k s t whole.placed
-        (sym (ap (λ ss. slice_get ss k) (parts-are false v some)) ∙ is) (sym (ap (λ ss. slice_get ss (suc k)) (parts-are false v some)) ∙ next))
-  ]
+  | inl none ↦ absurd (no-part false v k s none is)
+  | inr some ↦ of-rows (all-again v.text v.patches k s t whole.placed
+      (sym (ap (λ ss. slice_get ss k) (parts-are false v some)) ∙ is) (sym (ap (λ ss. slice_get ss (suc k)) (parts-are false v some)) ∙ next))
+]
   where
     of-rows : Again (IsOf v.text v.patches) (length v.text) s t → (first : ℕ) × (second : ℕ) × (p : FilePatch) × (q : FilePatch) × (patch_at v first ≡ Some p) × (patch_at v second ≡ Some q) × BeginsIn s p
         × (t.start ≡ q.span.start) × (plain_name (header_of v.text p.header) ≡ plain_name (header_of v.text q.header))
     of-rows a =
         let p = a.2 in
-        let q = a.3 in
-        (p.0, q.0, p.1, q.1, p.2, q.2,
-        (omega (arith, a.4, ap (λ r. r.0) p.3), omega (arith, a.5, ap (λ r. r.0) p.3)),
-        a.6 ∙ ap (λ r. r.0) q.3, sym (ap (λ r. r.1) p.3) ∙ a.7 ∙ ap (λ r. r.1) q.3)
+        let q = a.3 in (
+          p.0,
+          q.0,
+          p.1,
+          q.1,
+          p.2,
+          q.2,
+          (omega (arith, a.4, ap (λ r. r.0) p.3), omega (arith, a.5, ap (λ r. r.0) p.3)),
+          a.6 ∙ ap (λ r. r.0) q.3,
+          sym (ap (λ r. r.1) p.3) ∙ a.7 ∙ ap (λ r. r.1) q.3,
+        )

@@ -1,5 +1,5 @@
 -- Two file patches in one part have two names.
-use Rattle.std.proofs.Common.{◌≡◌, ◌≢◌, ℕ, zero, suc, ◌<◌, ◌≤◌, Bool, true, false, ◌||◌, List, [], ◌∷◌, length, map, None, Some, inl, inr, refl, sym, ap, subst, ◌∙◌, arith, bytes_eq}
+use Rattle.std.proofs.Common.{◌≡◌, ◌≢◌, ℕ, zero, suc, ◌<◌, ◌≤◌, Bool, true, false, ◌||◌, List, [], ◌∷◌, length, map, Some, inl, inr, refl, sym, ap, subst, ◌∙◌, arith, bytes_eq}
 use Rattle.std.specs.Prelude.{slice_get}
 use Rattle.std.proofs.lemmas.Option.{same_Some}
 use Rattle.line_list.specs.declared.Span.{Span}
@@ -8,7 +8,7 @@ use Rattle.file_patch.specs.declared.FilePatch.{FilePatch}
 use Rattle.target_names.specs.Numbered.{is_among}
 use Rattle.target_names.proofs.Names.{same-is}
 use Rattle.patch_set.specs.Spans.{ArePlaced}
-use Rattle.split_recount.specs.Parts.{cuts, cuts_behind, between, parts, row_of}
+use Rattle.split_recount.specs.Parts.{cuts, cuts_behind, between, row_of}
 use Rattle.split_recount.specs.PartLaws.{HaveOwnNames}
 use Rattle.split_recount.proofs.Cutting.{cut-there, cut-later, row-at, parts-are}
 use Rattle.split_recount.proofs.PartsInTurn.{Rows, Ascend, in-turn, ascend, empty-or, no-part, spans}
@@ -130,7 +130,7 @@ module _ (every : Bool) (end : ℕ) where
 
 pub have-own-names : HaveOwnNames
 have-own-names every v k s i j p q whole is lt one other first second = elim (empty-or v.text) [
-    | inl none ↦ absurd (no-part every v k s none is)
-    | inr some ↦ all-apart every (length v.text) v.text v.patches k s i j (row_of v.text p) (row_of v.text q) refl whole.placed
-        (sym (ap (λ ss. slice_get ss k) (parts-are every v some)) ∙ is) lt (row-at v i p one) (row-at v j q other) first.0 second.1
-  ]
+  | inl none ↦ absurd (no-part every v k s none is)
+  | inr some ↦ all-apart every (length v.text) v.text v.patches k s i j (row_of v.text p) (row_of v.text q) refl whole.placed
+      (sym (ap (λ ss. slice_get ss k) (parts-are every v some)) ∙ is) lt (row-at v i p one) (row-at v j q other) first.0 second.1
+]

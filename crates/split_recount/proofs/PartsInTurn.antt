@@ -75,9 +75,9 @@ empty-or (b ∷ bs) = inr (omega arith)
 
 parts-turn : (every : Bool) (v : SetView) → IsWhole v → AreInTurn 0 (parts every v) (length v.text)
 parts-turn every v whole = elim (empty-or v.text) [
-    | inl none ↦ let e : length v.text ≡ 0 = ap length none in rw e refl
-    | inr some ↦ subst (λ ss. AreInTurn 0 ss (length v.text)) (sym (parts-are every v some)) (in-turn-all v.text every v.patches some whole.placed)
-  ]
+  | inl none ↦ let e : length v.text ≡ 0 = ap length none in rw e refl
+  | inr some ↦ subst (λ ss. AreInTurn 0 ss (length v.text)) (sym (parts-are every v some)) (in-turn-all v.text every v.patches some whole.placed)
+]
 
 pub join-back : JoinBack
 join-back every v whole =
@@ -131,9 +131,9 @@ no-part every v k s none at = let e : length v.text ≡ 0 = ap length none in le
 
 pub begin-at-patches : BeginAtPatches
 begin-at-patches every v k s is = elim (empty-or v.text) [
-    | inl none ↦ absurd (no-part every v (suc k) s none is)
-    | inr some ↦ of-row (begins-one every v.text (length v.text) v.patches k s (sym (ap (λ ss. slice_get ss (suc k)) (parts-are every v some)) ∙ is))
-  ]
+  | inl none ↦ absurd (no-part every v (suc k) s none is)
+  | inr some ↦ of-row (begins-one every v.text (length v.text) v.patches k s (sym (ap (λ ss. slice_get ss (suc k)) (parts-are every v some)) ∙ is))
+]
   where
     of-row : Begins (rows_of v) s → (patch : ℕ) × (p : FilePatch) × (patch_at v patch ≡ Some p) × (s.start ≡ p.span.start)
     of-row b = let p = begins-patch v.text v.patches b.0 b.1 b.2 in (b.0, p.0, p.1, b.3 ∙ ap (λ r. r.0) p.2)

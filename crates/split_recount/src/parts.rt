@@ -62,12 +62,7 @@ fn take<'a>(
     Ok(part)
 }
 
-fn cut(
-    alloc: Global,
-    set: &PatchSet,
-    every: bool,
-    end: u32,
-) -> Result<Vec<Span>, AllocError>
+fn cut(alloc: Global, set: &PatchSet, every: bool, end: u32) -> Result<Vec<Span>, AllocError>
     requires some { 0 < length set.now.patches }
     requires text { 0 < length set.now.text }
     requires end { end ≡ length set.now.text }
