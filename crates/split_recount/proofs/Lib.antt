@@ -7,3 +7,7 @@ pub mod Walking
 pub mod WholeLines
 pub mod Spelled
 pub mod Kept
+pub mod Cutting
+pub mod PartsInTurn
+pub mod OwnNames
+pub mod NamesAgain

@@ -40,7 +40,7 @@ pub record Measures (text : List ℕ) (at : ℕ) (b : Body) : Type 0 where
   pub sides : sides_of (body_at text at) ≡ plus (left_of b.sides) (sides_of (body_at text b.end))
   pub backslash : list_any is_backslash (body_at text at) ≡ (b.has_backslash || list_any is_backslash (body_at text b.end))
 
-range_split : (text : List ℕ) (at middle end : ℕ) → at ≤ middle → middle ≤ end → slice_range text at end ≡ slice_range text at middle ++ slice_range text middle end
+pub range_split : (text : List ℕ) (at middle end : ℕ) → at ≤ middle → middle ≤ end → slice_range text at end ≡ slice_range text at middle ++ slice_range text middle end
 range_split text at middle end p q =
     let width : end - at ≡ (middle - at) + (end - middle) = omega arith in
     let place : at + (middle - at) ≡ middle = omega arith in

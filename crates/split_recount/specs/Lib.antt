@@ -4,3 +4,6 @@ pub mod Recounted
 pub mod TrueCounts
 pub mod Measured
 pub mod Walking
+pub mod Parts
+pub mod PartLaws
+pub mod Splitting

@@ -1,4 +1,4 @@
-//! Unified hunks whose counts aren't trusted, written with the true ones.
+//! Unified hunks whose counts aren't trusted, written with the true ones; and a text cut between its file patches.
 #![tactic(auto)]
 
 ghost use Rattle.std.specs.Prelude.{◌≡◌, ◌↔◌, ℕ, List, None, option_map};
@@ -9,12 +9,16 @@ ghost use Rattle.split_recount.specs.Bodies.{body_of, misplaced};
 ghost use Rattle.split_recount.specs.RangeLines.{range_parts};
 
 mod body;
+mod parts;
+#[cfg(test)]
+mod parts_tests;
 mod ranges;
 mod recounting;
 mod starts;
 #[cfg(test)]
 mod tests;
 
+pub use parts::{part_laws, split_parts};
 pub use recounting::recount;
 
 /// What is believed of a range line is what the reader of unified hunks reads there.

@@ -1,0 +1,20 @@
+use Rattle.std.proofs.Common.{◌≡◌, get_or, refl, sym, ap, ◌∙◌}
+use Rattle.std.proofs.lemmas.Option.{get_or_from_slice_get}
+use Rattle.split_recount.specs.Parts.{row_of}
+use Rattle.split_recount.proofs.Cutting.{goes-cut, goes-in}
+use Rattle.split_recount.proofs.parts.take.Goals as goal
+
+pub returns-then-begins : goal.returns-then-begins
+returns-then-begins c = λ p is.
+    let v = c.args.set.now in
+    let q = c.index-patches-patch.result in
+    let at : (get_or c.patches.result.now c.args.patch q).span.start ≡ p.span.start =
+    ap (λ l. (get_or l c.args.patch q).span.start) c.patches.ensures.patches ∙ ap (λ x. x.span.start) (get_or_from_slice_get v.patches c.args.patch p q is) in
+    goes-cut c.args.every (row_of v.text p) c.args.part c.args.parts.now.items c.in_ok-next.next c.push.new.self.items c.plain_name-name.result.now _
+    (c.plain_name-name.ensures p is) at (sym c.begins.ensures ∙ c.if-begins.true) c.in_ok-push.ensures.items c.in_ok-next.ensures.start c.in_ok-next.ensures.names
+
+pub returns : goal.returns
+returns c = λ p is.
+    let v = c.args.set.now in
+    goes-in c.args.every (row_of v.text p) c.args.part c.args.parts.now.items _ c.plain_name-name.result
+    (c.plain_name-name.ensures p is) (sym c.begins.ensures ∙ c.if-begins.false) refl c.in_ok-insert.ensures.updates
