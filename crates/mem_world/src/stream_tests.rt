@@ -1,5 +1,5 @@
 use super::*;
-use outside::{Scratch, Sink, Source, put_all};
+use outside::{Finder, Scratch, Sink, Source, put_all};
 use std::test::*;
 
 #[test]
@@ -53,4 +53,17 @@ fn endless_source_gives_zeros(rt: HostRuntime) {
     assert_eq!(rt; source.read(&mut buf), Ok(3));
     assert_eq!(rt; buf, [0; 3]);
     assert_eq!(rt; source.read(&mut buf), Ok(3));
+}
+
+#[test]
+fn plain_texts_are_found(rt: HostRuntime) -> Result<(), Fail> {
+    let mut finder = PlainFinder::new();
+    assert_eq!(rt; finder.set(rt.alloc(), "(b"), Ok(()));
+    assert_eq!(rt; finder.hits(rt.alloc(), b"a(bc"), Ok(true));
+    assert_eq!(rt; finder.hits(rt.alloc(), b"(b"), Ok(true));
+    assert_eq!(rt; finder.hits(rt.alloc(), b"abc"), Ok(false));
+    assert_eq!(rt; finder.hits(rt.alloc(), b"("), Ok(false));
+    assert_eq!(rt; finder.set(rt.alloc(), ""), Ok(()));
+    assert_eq!(rt; finder.hits(rt.alloc(), b""), Ok(true));
+    Ok(())
 }
