@@ -4,3 +4,7 @@ mod Ranges
 mod OldLines
 mod Placed
 mod Whole
+mod AsWritten
+mod Searching
+mod Finding
+mod Hits

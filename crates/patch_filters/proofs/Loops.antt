@@ -14,10 +14,10 @@ module _ {A : Type 0} (f : A → List ℕ) (xs : List A) where
   abbrev pub up_to : ℕ → List ℕ
   up_to i = flat_map f (take i xs)
 
-  one-more : (i : ℕ) (x : A) → i < length xs → slice_get xs i ≡ Some x → up_to i ++ f x ≡ up_to (i + 1)
+  pub one-more : (i : ℕ) (x : A) → i < length xs → slice_get xs i ≡ Some x → up_to i ++ f x ≡ up_to (i + 1)
   one-more i x lt is = flat_map_more f [] (take i xs) x ∙ ap (flat_map f) (sym (take_more xs i x lt ∙ ap (λ y. take i xs ++ y ∷ []) (get_or_from_slice_get xs i x x is)))
 
-  both : (i : ℕ) → up_to i ++ flat_map f (drop i xs) ≡ flat_map f xs
+  pub both : (i : ℕ) → up_to i ++ flat_map f (drop i xs) ≡ flat_map f xs
   both i = sym (flat_map-append f (take i xs) (drop i xs)) ∙ ap (flat_map f) (take-append-drop i xs)
 
   module _ {O : Type 0} {view : O → SinkView} {same : O → O → Type 0} (on : GoesOn same) where

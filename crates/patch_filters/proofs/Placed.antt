@@ -8,13 +8,10 @@ use Rattle.line_list.specs.declared.Span.{Span}
 use Rattle.hunk_core.specs.PlainHunk.{bytes_at}
 use Rattle.hunk_core.specs.Pieces.{AreInTurn}
 use Rattle.file_patch.specs.declared.FilePatch.{FilePatch}
-use Rattle.file_patch.specs.PlainPatch.{change_of, row_count}
+use Rattle.file_patch.specs.PlainPatch.{row_count}
 use Rattle.patch_set.specs.Spans.{IsPlaced, ArePlaced}
-use Rattle.patch_set.proofs.Named.{rows-counted}
-use Rattle.patch_filters.specs.PlainJobs.{PlainFilterJob}
-use Rattle.patch_filters.specs.Kept.{kept}
 use Rattle.patch_filters.specs.Filtered.{pieces}
-use Rattle.patch_filters.proofs.Rows.{kept-count, zip-at, zip-count}
+use Rattle.patch_filters.proofs.Rows.{zip-at, zip-count}
 
 by-itself : (text : List ℕ) (start before : ℕ) (p : FilePatch) → IsPlaced text start before p → IsPlaced text p.span.start p.first_verdict p
 by-itself text start before p at = record {
@@ -43,23 +40,20 @@ span-in at [] end i s turn is = absurd cc
 span-in at (t ∷ ss) end zero s turn is = subst (λ (x : Span). (x.start < x.end) × (x.end ≤ end)) (same_Some t s is) (omega (arith, turn.0, turn.1), turn-end t.end ss end turn.2)
 span-in at (t ∷ ss) end (suc i) s turn is = span-in t.end ss end i s turn.2 is
 
--- ---- the pieces with their flags
+-- ---- the pieces with flags, one for each hunk
 
-module _ (j : PlainFilterJob) (text : List ℕ) (p : FilePatch) (at : IsPlaced text p.span.start p.first_verdict p) where
+module _ (flags : List Bool) (text : List ℕ) (p : FilePatch) (at : IsPlaced text p.span.start p.first_verdict p) (long : length flags ≡ row_count p.change) where
   abbrev pub rows : List (Bool × List ℕ)
-  rows = zip (kept j (change_of text p.change)) (pieces text p)
-
-  flags-long : length (kept j (change_of text p.change)) ≡ row_count p.change
-  flags-long = kept-count j (change_of text p.change) ∙ rows-counted text p.change
+  rows = zip flags (pieces text p)
 
   pieces-long : length (pieces text p) ≡ row_count p.change
   pieces-long = length-map p.hunk_spans.items (bytes_at text) ∙ at.each
 
   pub rows-long : length rows ≡ row_count p.change
-  rows-long = zip-count (kept j (change_of text p.change)) (pieces text p) (flags-long ∙ sym pieces-long) ∙ pieces-long
+  rows-long = zip-count flags (pieces text p) (long ∙ sym pieces-long) ∙ pieces-long
 
-  pub row-at : (i : ℕ) → i < row_count p.change → slice_get rows i ≡ Some (get_or (kept j (change_of text p.change)) i false, get_or (pieces text p) i [])
+  pub row-at : (i : ℕ) → i < row_count p.change → slice_get rows i ≡ Some (get_or flags i false, get_or (pieces text p) i [])
   row-at i lt =
-      zip-at (kept j (change_of text p.change)) (pieces text p) i _ _
-      (slice_get-get_or (kept j (change_of text p.change)) i false (omega (arith, lt, flags-long)))
+      zip-at flags (pieces text p) i _ _
+      (slice_get-get_or flags i false (omega (arith, lt, long)))
       (slice_get-get_or (pieces text p) i [] (omega (arith, lt, pieces-long)))

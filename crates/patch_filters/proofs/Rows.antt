@@ -88,6 +88,9 @@ olds-there text c i lt = slice_get-get_or (old_of_each (change_of text c)) i [] 
 pub kept-count : (j : PlainFilterJob) (c : PlainChange) → length (kept j c) ≡ hunk_count c
 kept-count j c = length-map (numbered (old_of_each c)) (λ (h : ℕ × List ℕ). is_kept j h.0 h.1) ∙ numbered-count (old_of_each c) ∙ olds-count c
 
+pub kept-long : (j : PlainFilterJob) (text : List ℕ) (c : Change) → length (kept j (change_of text c)) ≡ row_count c
+kept-long j text c = kept-count j (change_of text c) ∙ rows-counted text c
+
 -- ---- two lists side by side
 
 pub zip-at : {A B : Type 0} (xs : List A) (ys : List B) (i : ℕ) (x : A) (y : B) → slice_get xs i ≡ Some x → slice_get ys i ≡ Some y → slice_get (zip xs ys) i ≡ Some (x, y)

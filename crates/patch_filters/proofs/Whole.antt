@@ -21,7 +21,7 @@ use Rattle.patch_filters.specs.Kept.{is_kept, kept, keeps}
 use Rattle.patch_filters.specs.Filtered.{region, pieces, text_if, chosen, written, is_taken_of, written_if_taken}
 use Rattle.patch_filters.specs.Laws.{AsksNothing, WritesAll, WritesNone}
 use Rattle.patch_filters.proofs.Placed.{placed-at, span-in, turn-end}
-use Rattle.patch_filters.proofs.Rows.{filtered-is, kept-count, zip-at}
+use Rattle.patch_filters.proofs.Rows.{filtered-is, kept-count, kept-long, zip-at}
 
 -- ---- the text of a file patch is its region and its hunks
 
@@ -124,7 +124,7 @@ module _ (j : PlainFilterJob) (text : List ℕ) (i : ℕ) (p : FilePatch) where
   flags = kept j (change_of text p.change)
 
   flags-count : length flags ≡ row_count p.change
-  flags-count = kept-count j (change_of text p.change) ∙ rows-counted text p.change
+  flags-count = kept-long j text p.change
 
   some-written : IsPlaced text p.span.start p.first_verdict p → (hunk : ℕ) → hunk < row_count p.change → get_or flags hunk false ≡ true → 0 < length (written j text p)
   some-written at hunk lt is =

@@ -4,4 +4,7 @@ pub mod Listed
 pub mod OldLines
 pub mod Kept
 pub mod Filtered
+pub mod Grepped
 pub mod Laws
+pub mod RegexFound
+pub mod RegexView

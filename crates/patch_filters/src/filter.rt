@@ -15,7 +15,7 @@ ghost use Rattle.patch_filters.specs.Filtered.{chosen, filtered, pieces, region,
 
 use crate::hunks::is_kept;
 use crate::numbers::{is_meant, is_selected};
-use crate::pieces::{bytes_at, put_piece};
+use crate::pieces::{put_hunk, put_region};
 use crate::set::patch_at;
 use file_patch::FilePatch;
 use outside::{Failed, Sink};
@@ -69,8 +69,7 @@ fn put_if_kept<O: Sink>(
     if !is_kept(job, &patch.change, hunk) {
         return Ok(());
     }
-    let span = patch.hunk_spans[hunk as usize];
-    put_piece(out, bytes_at(text, span))
+    put_hunk(text, patch, hunk, out)
 }
 
 fn put_chosen<O: Sink>(
@@ -100,7 +99,7 @@ fn put_parts<O: Sink>(
     requires placed { IsPlaced text.now patch.now.span.start patch.now.first_verdict patch.now }
     ensures { Puts O.view O.same_rest out.old out.new result (region text.now patch.now ++ chosen (kept (plain_filter_job job.now) (change_of text.now patch.now.change)) (pieces text.now patch.now)) }
 {
-    put_piece(out, &text[patch.span.start as usize..patch.header.at])?;
+    put_region(text, patch, out)?;
     put_chosen(text, job, patch, out)
 }
 

@@ -1,18 +1,27 @@
-//! The file patches of a set as a list, and the text of a set with file patches and hunks left out, to any sink. No call
-//! takes memory. After a failure the sink received a first part.
+//! The file patches of a set as a list, the text of a set with file patches and hunks left out, and the file patches of which
+//! a line is found, to any sink. Only a finder takes memory. After a failure the sink received a first part.
 #![tactic(auto)]
 
+mod fault;
 mod filter;
+mod grep;
 mod hunks;
+mod job;
 mod laws;
 mod list;
 mod numbers;
 mod pieces;
+mod regex_finder;
+mod search;
 mod set;
 
+pub use fault::GrepFault;
 pub use filter::{filter_patches, keeps};
+pub use grep::grep_patches;
+pub use job::{GrepJob, GrepOut};
 pub use laws::filter_laws;
 pub use list::list_patches;
+pub use regex_finder::RegexFinder;
 
 #[cfg(test)]
 mod tests;

@@ -77,7 +77,8 @@ fn put_name<O: Sink>(out: &mut O, front: &[u8], name: &[u8]) -> Result<(), Faile
     put_line(out, name)
 }
 
-fn put_line<O: Sink>(out: &mut O, name: &[u8]) -> Result<(), Failed>
+/// Writes a name, and a line feed.
+pub fn put_line<O: Sink>(out: &mut O, name: &[u8]) -> Result<(), Failed>
     ensures { Puts O.view O.same_rest out.old out.new result (name.now ++ codes "\n") }
 {
     put_piece(out, name)?;

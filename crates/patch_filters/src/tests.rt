@@ -7,7 +7,7 @@ ghost use Rattle.patch_set.specs.SetView.{patch_at};
 
 use super::*;
 use file_patch::Change;
-use mem_world::MemSink;
+use mem_world::{MemSink, PlainFinder};
 use patch_options::{FilterJob, Input, Job, ListJob, Ranges, Select, read_words};
 use patch_set::{PatchSet, read_set};
 use std::alloc::{AllocError, Global};
@@ -145,6 +145,26 @@ script s - 1-1 4-5 1-1 script
 script - - - 1-2 - none
 front - - - 1-1 - front
 front - - - 2-9 - none";
+
+/// A text, a pattern, an included one of names, what is asked for (`n` names, `h` hunks, `f` file patches), and what is
+/// written: names as in a list, or a text.
+const HITS: &str = "git setup - n a/lib/main.c|
+git old - n a/my_notes.txt|
+git new - n a/my_notes.txt|
+git t - n a/lib/main.c|
+git t *.txt n
+git foo b/* n b/new.txt|
+git + - n
+git setup *.c f main
+git foo - h new
+two x - h first
+two q - h second
+two x - f two
+two f - f none
+script x - n s|
+script x - h script
+script 7 - f none
+none x - n";
 
 fn field(row: &str, place: usize) -> &str {
     match row.split(' ').nth(place) {
@@ -310,5 +330,53 @@ fn hunks_are_kept(rt: HostRuntime) -> Result<(), Fail> {
     let is_first = is_kept(rt.alloc(), "two f - - 3-4 -", 0)?;
     let is_second = is_kept(rt.alloc(), "two f - - 3-4 -", 1)?;
     assert!(rt; !is_first && is_second);
+    Ok(())
+}
+
+fn grep_job(alloc: Global, row: &str) -> Result<GrepJob, AllocError> {
+    Ok(GrepJob {
+        input: Input::Standard,
+        select: select(alloc, field(row, 2), "-")?,
+        pattern: String::from_str(alloc, field(row, 1))?,
+        output: match field(row, 3) {
+            "h" => GrepOut::Hunks,
+            "f" => GrepOut::Files,
+            _ => GrepOut::Names,
+        },
+    })
+}
+
+fn is_found(alloc: Global, row: &str) -> Result<bool, Fail> {
+    let set = set(alloc, text(field(row, 0)))?;
+    let job = grep_job(alloc, row)?;
+    let mut sink = MemSink::new(alloc, Vec::new(alloc));
+    let is_ok = grep_patches(alloc, &set, &job, &mut PlainFinder::new(), &mut sink).is_ok();
+    let want = field(row, 4);
+    Ok(
+        is_ok
+            && match job.output {
+                GrepOut::Names => is_same(sink.bytes(), want.as_bytes()),
+                GrepOut::Hunks | GrepOut::Files => sink.bytes() == text(want).as_bytes(),
+            },
+    )
+}
+
+#[test]
+fn lines_are_found(rt: HostRuntime) -> Result<(), Fail> {
+    for row in HITS.split('\n') {
+        let is_found = is_found(rt.alloc(), row)?;
+        assert!(rt; is_found, "{row}");
+    }
+    Ok(())
+}
+
+#[test]
+fn a_full_sink_ends_the_search(rt: HostRuntime) -> Result<(), Fail> {
+    let set = set(rt.alloc(), GIT)?;
+    let job = grep_job(rt.alloc(), "git foo - n")?;
+    let mut sink = MemSink::new(rt.alloc(), [2].to_vec(rt.alloc())?);
+    let result = grep_patches(rt.alloc(), &set, &job, &mut PlainFinder::new(), &mut sink);
+    assert_eq!(rt; result, Err(GrepFault::Write));
+    assert_eq!(rt; sink.bytes(), b"b/new.txt".as_slice());
     Ok(())
 }

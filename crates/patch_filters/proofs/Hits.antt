@@ -1,0 +1,155 @@
+-- Which hunks have a hit, and what is written of them.
+use Rattle.std.proofs.Common.{◌≡◌, ℕ, zero, suc, ◌+◌, ◌<◌, Bool, true, false, ◌&&◌, ◌||◌, cond, List, [], ◌∷◌, ◌++◌, length, get_or, map, take, drop, None, Some, refl, sym, ap, ◌∙◌, arith}
+use Rattle.std.specs.Prelude.{slice_get, option_map, ◌==◌}
+use Rattle.std.specs.List.{flat_map, list_any, zip}
+use Rattle.std.proofs.lemmas.Bool.{eqb-true}
+use Rattle.std.proofs.lemmas.List.{length-map}
+use Rattle.std.proofs.lemmas.List.Concat.{flat_map-cons}
+use Rattle.std.proofs.lemmas.List.Folds.{list_any_at, list_any-append}
+use Rattle.std.proofs.lemmas.Option.{get_or_from_slice_get, slice_get_within, slice_get-map}
+use Rattle.line_list.specs.declared.Span.{Span}
+use Rattle.hunk_core.specs.declared.Hunk.{Hunk}
+use Rattle.hunk_core.specs.declared.HunkLine.{HunkLine}
+use Rattle.hunk_core.specs.PlainHunk.{Marked, bytes_at, marked_of, body_of, hunk_of, hunks_of}
+use Rattle.ed_form.specs.declared.script.EdEdit.{EdEdit}
+use Rattle.ed_form.specs.PlainEdit.{PlainEdit, edit_of, edits_of, lines_of}
+use Rattle.file_patch.specs.declared.Change.{Change}
+use Rattle.file_patch.specs.declared.FilePatch.{FilePatch}
+use Rattle.file_patch.specs.PlainPatch.{PlainChange, hunks, script, change_of, hunk_count, row_count, patch_of}
+use Rattle.patch_set.specs.SetView.{SetView}
+use Rattle.patch_set.specs.Spans.{IsPlaced}
+use Rattle.patch_set.proofs.Named.{rows-counted}
+use Rattle.patch_filters.specs.PlainJobs.{PlainGrepJob}
+use Rattle.patch_filters.specs.Filtered.{pieces, text_if}
+use Rattle.patch_filters.specs.Grepped.{IsFirst, content, contents, found_text, grepped, hits_of, is_found, text_if_found}
+use Rattle.patch_filters.proofs.Rows.{any-map, flat-if}
+use Rattle.patch_filters.proofs.Loops.{up_to, one-more, both}
+use Rattle.patch_filters.proofs.Placed.{rows, rows-long, row-at}
+
+pub grepped-is : (hit : List ℕ → Bool) (j : PlainGrepJob) (v : SetView) → grepped hit j v ≡ flat_map (text_if_found hit j v.text) v.patches
+unfolding grepped
+grepped-is hit j v = flat-if (λ (p : FilePatch). is_found hit j (patch_of v.text p)) (found_text hit j.output v.text) v.patches
+
+pub grepped-none : (hit : List ℕ → Bool) (j : PlainGrepJob) (v : SetView) → v.patches ≡ [] → [] ≡ grepped hit j v
+grepped-none hit j v none = sym (grepped-is hit j v ∙ ap (flat_map (text_if_found hit j v.text)) none)
+
+-- a list is empty, by its length
+pub is-empty : {A : Type 0} (xs : List A) → (length xs == 0) ≡ true → xs ≡ []
+is-empty [] is = refl
+is-empty (x ∷ xs) is = absurd (omega (arith, eqb-true (length (x ∷ xs)) 0 is))
+
+pub has-none-in : {A : Type 0} (xs : List A) → (length xs == 0) ≡ false → xs ≡ [] → ⊥
+has-none-in [] is none = absurd cc
+has-none-in (x ∷ xs) is none = absurd cc
+
+contents-count : (c : PlainChange) → length (contents c) ≡ hunk_count c
+contents-count (hunks hs) = length-map hs _
+contents-count (script es) = refl
+
+pub hits-long : (hit : List ℕ → Bool) (text : List ℕ) (c : Change) → length (hits_of hit (change_of text c)) ≡ row_count c
+hits-long hit text c = length-map (contents (change_of text c)) (list_any hit) ∙ contents-count (change_of text c) ∙ rows-counted text c
+
+-- ---- lines as flags
+
+flags-any : {A : Type 0} (test : A → Bool) (xs : List A) → list_any (λ is. is) (map test xs) ≡ list_any test xs
+flags-any test xs = sym (any-map (λ is. is) test xs)
+
+module _ (text : List ℕ) where
+  abbrev pub line_flags : List HunkLine → (List ℕ → Bool) → List Bool
+  line_flags ls hit = map (λ l. hit (content (bytes_at text l.span))) ls
+
+  pub line-flag : (ls : List HunkLine) (hit : List ℕ → Bool) (i : ℕ) (l : HunkLine) (b : Bool) → slice_get ls i ≡ Some l → b ≡ hit (content (bytes_at text l.span)) → slice_get (line_flags ls hit) i ≡ Some b
+  line-flag ls hit i l b is answer =
+      let flag : HunkLine → Bool = λ l. hit (content (bytes_at text l.span)) in
+      slice_get-map flag ls i ∙ ap (option_map flag) is ∙ ap (λ f. Some f) (sym answer)
+
+  pub line-count : (ls : List HunkLine) (hit : List ℕ → Bool) → length (line_flags ls hit) ≡ length ls
+  line-count ls hit = length-map ls _
+
+  pub lines-any : (ls : List HunkLine) (hit : List ℕ → Bool) → list_any (λ is. is) (line_flags ls hit) ≡ list_any hit (map (λ m. content m.line) (body_of text ls))
+  lines-any ls hit =
+      flags-any (λ (l : HunkLine). hit (content (bytes_at text l.span))) ls
+      ∙ any-map (λ (m : Marked). hit (content m.line)) (marked_of text) ls
+      ∙ any-map hit (λ (m : Marked). content m.line) (body_of text ls)
+
+  abbrev pub span_flags : List Span → (List ℕ → Bool) → List Bool
+  span_flags spans hit = map (λ s. hit (content (bytes_at text s))) spans
+
+  pub span-flag : (spans : List Span) (hit : List ℕ → Bool) (i : ℕ) (span : Span) (b : Bool) → slice_get spans i ≡ Some span → b ≡ hit (content (bytes_at text span)) → slice_get (span_flags spans hit) i ≡ Some b
+  span-flag spans hit i span b is answer =
+      let flag : Span → Bool = λ s. hit (content (bytes_at text s)) in
+      slice_get-map flag spans i ∙ ap (option_map flag) is ∙ ap (λ f. Some f) (sym answer)
+
+  pub span-count : (spans : List Span) (hit : List ℕ → Bool) → length (span_flags spans hit) ≡ length spans
+  span-count spans hit = length-map spans _
+
+  pub spans-any : (spans : List Span) (hit : List ℕ → Bool) → list_any (λ is. is) (span_flags spans hit) ≡ list_any hit (map content (lines_of text spans))
+  spans-any spans hit =
+      flags-any (λ (s : Span). hit (content (bytes_at text s))) spans
+      ∙ any-map (λ (line : List ℕ). hit (content line)) (bytes_at text) spans
+      ∙ any-map hit content (lines_of text spans)
+
+  abbrev pub edit_flags : List EdEdit → (List ℕ → Bool) → List Bool
+  edit_flags es hit = map (λ e. list_any hit (map content (lines_of text e.added.items))) es
+
+  pub edit-flag : (es : List EdEdit) (hit : List ℕ → Bool) (i : ℕ) (e : EdEdit) (b : Bool) → slice_get es i ≡ Some e → b ≡ list_any hit (map content (lines_of text e.added.items)) → slice_get (edit_flags es hit) i ≡ Some b
+  edit-flag es hit i e b is answer =
+      let flag : EdEdit → Bool = λ e. list_any hit (map content (lines_of text e.added.items)) in
+      slice_get-map flag es i ∙ ap (option_map flag) is ∙ ap (λ f. Some f) (sym answer)
+
+  pub edit-count : (es : List EdEdit) (hit : List ℕ → Bool) → length (edit_flags es hit) ≡ length es
+  edit-count es hit = length-map es _
+
+  pub edits-any : (es : List EdEdit) (hit : List ℕ → Bool) → list_any (λ is. is) (edit_flags es hit) ≡ list_any hit (flat_map (λ e. map content e.added) (edits_of text es))
+  edits-any [] hit = refl
+  edits-any (e ∷ es) hit =
+      let here = map content (lines_of text e.added.items) in
+      let rest = flat_map (λ (e : PlainEdit). map content e.added) (edits_of text es) in
+      ap (λ b. list_any hit here || b) (edits-any es hit)
+      ∙ sym (ap (list_any hit) (flat_map-cons (λ (e : PlainEdit). map content e.added) (edit_of text e) (edits_of text es)) ∙ list_any-append hit here rest)
+
+  -- ---- the flag of a hunk
+
+  pub hunk-hits : (hit : List ℕ → Bool) (hs : List Hunk) (i : ℕ) (h : Hunk) → slice_get hs i ≡ Some h → get_or (hits_of hit (hunks (hunks_of text hs))) i false ≡ list_any hit (map (λ m. content m.line) (hunk_of text h).body)
+  hunk-hits hit hs i h is =
+      let lines : Hunk → List (List ℕ) = λ h. map (λ (m : Marked). content m.line) (hunk_of text h).body in
+      get_or_from_slice_get _ i (list_any hit (lines h)) false
+      (slice_get-map (list_any hit) (contents (hunks (hunks_of text hs))) i
+      ∙ ap (option_map (list_any hit)) (slice_get-map _ (hunks_of text hs) i ∙ ap (option_map _) (slice_get-map (hunk_of text) hs i ∙ ap (option_map (hunk_of text)) is)))
+
+pub alone : (flag : Bool) (i : ℕ) → i < 1 → get_or (flag ∷ []) i false ≡ flag
+alone flag zero lt = refl
+alone flag (suc i) lt = absurd (omega (arith, lt))
+
+-- ---- the first hunk with a hit
+
+pub first-within : (flags : List Bool) (i : ℕ) → IsFirst flags (Some i) → i < length flags
+first-within flags i first = slice_get_within flags i true first.1
+
+pub first-some : (flags : List Bool) (i : ℕ) → IsFirst flags (Some i) → list_any (λ is. is) flags ≡ true
+first-some flags i first = list_any_at (λ is. is) flags i false (first-within flags i first) (get_or_from_slice_get flags i true false first.1)
+
+-- nothing is written before it
+pub none-chosen : (flags : List Bool) (texts : List (List ℕ)) (i : ℕ) → list_any (λ is. is) (take i flags) ≡ false → flat_map text_if (take i (zip flags texts)) ≡ []
+none-chosen flags texts zero none = refl
+none-chosen [] texts (suc i) none = refl
+none-chosen (b ∷ flags) [] (suc i) none = refl
+none-chosen (true ∷ flags) (t ∷ texts) (suc i) none = absurd cc
+none-chosen (false ∷ flags) (t ∷ texts) (suc i) none = flat_map-cons text_if (false, t) (take i (zip flags texts)) ∙ none-chosen flags texts i none
+
+-- its piece comes first of what is written
+module _ (flags : List Bool) (text : List ℕ) (p : FilePatch) (at : IsPlaced text p.span.start p.first_verdict p) (long : length flags ≡ row_count p.change) (first : ℕ) (is : IsFirst flags (Some first)) where
+  abbrev piece : List ℕ
+  piece = get_or (pieces text p) first []
+
+  pub first-hunk : first < row_count p.change
+  first-hunk = omega (arith, long, first-within flags first is)
+
+  pub first-piece : piece ≡ up_to text_if (rows flags text p at long) (first + 1)
+  first-piece =
+      let row = row-at flags text p at long first first-hunk ∙ ap (λ b. Some (b, piece)) (get_or_from_slice_get flags first true false is.1) in
+      sym (ap (λ t. t ++ piece) (none-chosen flags (pieces text p) first is.0))
+      ∙ one-more text_if (rows flags text p at long) first (true, piece) (omega (arith, first-hunk, rows-long flags text p at long)) row
+
+  pub first-whole : piece ++ flat_map text_if (drop (first + 1) (rows flags text p at long)) ≡ flat_map text_if (rows flags text p at long)
+  first-whole = ap (λ t. t ++ flat_map text_if (drop (first + 1) (rows flags text p at long))) first-piece ∙ both text_if (rows flags text p at long) (first + 1)

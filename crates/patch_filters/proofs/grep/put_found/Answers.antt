@@ -1,0 +1,61 @@
+use Rattle.std.proofs.Common.{◌≡◌, ◌<◌, ◌++◌, codes, Ok, Err, sym, ap, subst, ◌∙◌, arith, rules}
+use Rattle.std.proofs.lemmas.Option.{same_Some}
+use Rattle.hunk_core.specs.PlainHunk.{bytes_at}
+use Rattle.hunk_core.specs.Writing.{Puts}
+use Rattle.hunk_core.proofs.SinkSteps.{has-put}
+use Rattle.file_patch.specs.declared.FilePatch.{FilePatch}
+use Rattle.file_patch.specs.PlainPatch.{change_of}
+use Rattle.patch_filters.specs.declared.job.GrepOut.TheVariants.{Names, Hunks, Files}
+use Rattle.patch_filters.specs.declared.fault.GrepFault.TheVariants.{Write}
+use Rattle.patch_filters.specs.Grepped.{Finds, IsFirst, found_text, hits_of, test_of}
+use Rattle.patch_filters.proofs.Searching.{asked-none}
+use Rattle.patch_filters.proofs.Finding.{ends-in, finds-put, finds-write}
+use Rattle.patch_filters.proofs.grep.put_found.Goals as goal
+
+pub bytes_at-requires-clause-order : goal.bytes_at-requires-clause-order
+bytes_at-requires-clause-order g c =
+    let at = c.patch_at-found.ensures.placed in
+    omega (arith, at.region, at.some)
+
+pub bytes_at-requires-clause-within : goal.bytes_at-requires-clause-within
+bytes_at-requires-clause-within g c = rw c.text-text.ensures c.patch_at-found.ensures.placed.high
+
+pub put_parts-requires-clause-first : goal.put_parts-requires-clause-first
+put_parts-requires-clause-first g c = rw c.text-text.ensures (c.requires.first c.patch_at-found.result.now c.patch_at-found.ensures.is)
+
+pub returns-in_err-put_line-in-Names : goal.returns-in_err-put_line-in-Names
+returns-in_err-put_line-in-Names g c = λ p is.
+    let w = g.F.Finder.view c.args.finder.now in
+    let is_text = ap (λ name. name ++ codes "\n") (c.plain_name.ensures p is) in
+    rw c.in-Names.is (ends-in c.from_residual.result Write c.from_residual.ensures.1 (finds-write c.in_err-put_line-in-Names.field-0.0 (asked-none w) (subst (Puts g.O.Sink.view g.O.Sink.same_rest c.args.out.now c.put_line.new.out (Err c.in_err-put_line-in-Names.field-0.0)) is_text c.in_err-put_line-in-Names.ensures)))
+
+pub returns-in_ok-put_line-in-Names : goal.returns-in_ok-put_line-in-Names
+returns-in_ok-put_line-in-Names g c = λ p is.
+    let w = g.F.Finder.view c.args.finder.now in
+    let is_text = ap (λ name. name ++ codes "\n") (c.plain_name.ensures p is) in
+    rw c.in-Names.is (finds-put tt (asked-none w) (has-put c.in_ok-put_line-in-Names.field-0 (subst (Puts g.O.Sink.view g.O.Sink.same_rest c.args.out.now c.put_line.new.out (Ok c.in_ok-put_line-in-Names.field-0)) is_text c.in_ok-put_line-in-Names.ensures)))
+
+pub returns-in_err-put_piece-in-Files : goal.returns-in_err-put_piece-in-Files
+returns-in_err-put_piece-in-Files g c = λ p is.
+    let w = g.F.Finder.view c.args.finder.now in
+    let found = c.patch_at-found.result.now in
+    let same : found ≡ p = same_Some found p (sym c.patch_at-found.ensures.is ∙ is) in
+    let is_text = c.bytes_at.ensures ∙ (ap (λ t. bytes_at t found.span) c.text-text.ensures ∙ ap (λ (q : FilePatch). bytes_at c.args.set.now.text q.span) same) in
+    rw c.in-Files.is (ends-in c.from_residual-in_err-put_piece-in-Files.result Write c.from_residual-in_err-put_piece-in-Files.ensures.1 (finds-write c.in_err-put_piece-in-Files.field-0.0 (asked-none w) (subst (Puts g.O.Sink.view g.O.Sink.same_rest c.args.out.now c.put_piece.new.out (Err c.in_err-put_piece-in-Files.field-0.0)) is_text c.in_err-put_piece-in-Files.ensures)))
+
+pub returns-in_ok-put_piece-in-Files : goal.returns-in_ok-put_piece-in-Files
+returns-in_ok-put_piece-in-Files g c = λ p is.
+    let w = g.F.Finder.view c.args.finder.now in
+    let found = c.patch_at-found.result.now in
+    let same : found ≡ p = same_Some found p (sym c.patch_at-found.ensures.is ∙ is) in
+    let is_text = c.bytes_at.ensures ∙ (ap (λ t. bytes_at t found.span) c.text-text.ensures ∙ ap (λ (q : FilePatch). bytes_at c.args.set.now.text q.span) same) in
+    rw c.in-Files.is (finds-put tt (asked-none w) (has-put c.in_ok-put_piece-in-Files.field-0 (subst (Puts g.O.Sink.view g.O.Sink.same_rest c.args.out.now c.put_piece.new.out (Ok c.in_ok-put_piece-in-Files.field-0)) is_text c.in_ok-put_piece-in-Files.ensures)))
+
+pub returns-in-Hunks : goal.returns-in-Hunks
+returns-in-Hunks g c = λ p is.
+    let v = c.args.set.now in
+    let found = c.patch_at-found.result.now in
+    let hit = test_of (g.F.Finder.view c.args.finder.now) in
+    let same : found ≡ p = same_Some found p (sym c.patch_at-found.ensures.is ∙ is) in
+    rw c.in-Hunks.is (subst (Finds g.O.Sink.view g.O.Sink.same_rest (g.F.Finder.view c.args.finder.now) (g.F.Finder.view c.put_parts.new.finder) c.args.out.now c.put_parts.new.out c.put_parts.result)
+    (ap (λ t. found_text hit Hunks t found) c.text-text.ensures ∙ ap (found_text hit Hunks v.text) same) c.put_parts.ensures)

@@ -1,0 +1,101 @@
+use Rattle.std.proofs.Common.{◌≡◌, ◌+◌, ◌<◌, Bool, ℕ, List, false, [], length, get_or, drop, Err, subst, arith}
+use Rattle.std.specs.List.{flat_map}
+use Rattle.hunk_core.proofs.SinkSteps.{HasPut, has-put}
+use Rattle.file_patch.specs.PlainPatch.{change_of, row_count}
+use Rattle.patch_set.proofs.Named.{rows-counted}
+use Rattle.patch_filters.specs.declared.fault.GrepFault.TheVariants.{Write}
+use Rattle.patch_filters.specs.Filtered.{pieces, text_if}
+use Rattle.patch_filters.specs.Grepped.{Finds, hits_of, test_of}
+use Rattle.patch_filters.proofs.Searching.{asked-none, still-kept}
+use Rattle.patch_filters.proofs.Placed.{rows, rows-long, row-at}
+use Rattle.patch_filters.proofs.Finding.{by-first, ends-in, finds-stop, finds-write, found-ends, found-goes-on, found-stops}
+use Rattle.patch_filters.proofs.Hits.{first-hunk, first-piece, first-whole, hits-long}
+use Rattle.patch_filters.proofs.grep.put_hits.Goals as goal
+
+pub put_hunk-requires-clause-within : goal.put_hunk-requires-clause-within
+put_hunk-requires-clause-within g c =
+    let v = g.F.Finder.view c.args.finder.now in
+    let text = c.args.text.now in
+    let p = c.args.patch.now in
+    let flags = hits_of (test_of v) (change_of text p.change) in
+    let long = hits-long (test_of v) text p.change in
+    let at = c.requires.placed in
+    first-hunk flags text p at long c.args.first c.requires.first
+
+pub loop-hunk-init : goal.loop-hunk-init
+loop-hunk-init g c =
+    let v = g.F.Finder.view c.args.finder.now in
+    let text = c.args.text.now in
+    let p = c.args.patch.now in
+    let flags = hits_of (test_of v) (change_of text p.change) in
+    let long = hits-long (test_of v) text p.change in
+    let at = c.requires.placed in
+    record {
+      finder = asked-none v;
+      put = subst (HasPut g.O.Sink.view g.O.Sink.same_rest c.args.out.now c.put_hunk.new.out) (first-piece flags text p at long c.args.first c.requires.first) (has-put c.in_ok-put_hunk.field-0 c.in_ok-put_hunk.ensures);
+    }
+
+pub put_if_hit-requires-clause-kept : goal.put_if_hit-requires-clause-kept
+put_if_hit-requires-clause-kept g c = still-kept c.loop-hunk.invariant.finder c.requires.kept
+
+pub put_if_hit-requires-clause-within : goal.put_if_hit-requires-clause-within
+put_if_hit-requires-clause-within g c = omega (arith, c.loop-hunk-test.true, c.hunks-hunk-end.ensures c.args.text.now, rows-counted c.args.text.now c.args.patch.now.change)
+
+pub loop-hunk-preserved : goal.loop-hunk-preserved
+loop-hunk-preserved g c =
+    let v = g.F.Finder.view c.args.finder.now in
+    let text = c.args.text.now in
+    let p = c.args.patch.now in
+    let flags = hits_of (test_of v) (change_of text p.change) in
+    let long = hits-long (test_of v) text p.change in
+    let at = c.requires.placed in
+    let i = c.loop-hunk.hunk in
+    let piece = get_or (pieces text p) i [] in
+    let lt : i < row_count p.change = omega (arith, c.loop-hunk-test.true, c.hunks-hunk-end.ensures text, rows-counted text p.change) in
+    let xs = rows flags text p at long in
+    let within : i < length xs = omega (arith, lt, rows-long flags text p at long) in
+    let put = by-first (λ hit. text_if (get_or (hits_of hit (change_of text p.change)) i false, piece)) c.loop-hunk.invariant.finder c.in_ok-put_if_hit.ensures in
+    found-goes-on text_if xs g.met.O.Sink.rest_both i (get_or flags i false, piece) c.in_ok-put_if_hit.field-0 within (row-at flags text p at long i lt) c.loop-hunk.invariant put
+
+pub returns-in_err-put_hunk : goal.returns-in_err-put_hunk
+returns-in_err-put_hunk g c =
+    let v = g.F.Finder.view c.args.finder.now in
+    let text = c.args.text.now in
+    let p = c.args.patch.now in
+    let flags = hits_of (test_of v) (change_of text p.change) in
+    let long = hits-long (test_of v) text p.change in
+    let at = c.requires.placed in
+    let rest = flat_map text_if (drop (c.args.first + 1) (rows flags text p at long)) in
+    ends-in c.from_residual.result Write c.from_residual.ensures.1
+    (subst (Finds g.O.Sink.view g.O.Sink.same_rest v v c.args.out.now c.put_hunk.new.out (Err Write)) (first-whole flags text p at long c.args.first c.requires.first)
+    (finds-stop Write rest (finds-write {R = Unit {0}} c.in_err-put_hunk.field-0.0 (asked-none v) c.in_err-put_hunk.ensures)))
+
+pub returns-in_err-put_if_hit : goal.returns-in_err-put_if_hit
+returns-in_err-put_if_hit g c =
+    let v = g.F.Finder.view c.args.finder.now in
+    let text = c.args.text.now in
+    let p = c.args.patch.now in
+    let flags = hits_of (test_of v) (change_of text p.change) in
+    let long = hits-long (test_of v) text p.change in
+    let at = c.requires.placed in
+    let i = c.loop-hunk.hunk in
+    let piece = get_or (pieces text p) i [] in
+    let lt : i < row_count p.change = omega (arith, c.loop-hunk-test.true, c.hunks-hunk-end.ensures text, rows-counted text p.change) in
+    let xs = rows flags text p at long in
+    let within : i < length xs = omega (arith, lt, rows-long flags text p at long) in
+    let put = by-first (λ hit. text_if (get_or (hits_of hit (change_of text p.change)) i false, piece)) c.loop-hunk.invariant.finder c.in_err-put_if_hit.ensures in
+    ends-in c.from_residual-in_err-put_if_hit.result c.in_err-put_if_hit.field-0.0 c.from_residual-in_err-put_if_hit.ensures.1
+    (found-stops text_if xs g.met.O.Sink.rest_both i (get_or flags i false, piece) c.in_err-put_if_hit.field-0.0 within (row-at flags text p at long i lt) c.loop-hunk.invariant put)
+
+pub returns : goal.returns
+returns g c =
+    let v = g.F.Finder.view c.args.finder.now in
+    let text = c.args.text.now in
+    let p = c.args.patch.now in
+    let flags = hits_of (test_of v) (change_of text p.change) in
+    let long = hits-long (test_of v) text p.change in
+    let at = c.requires.placed in
+    let xs = rows flags text p at long in
+    let first = first-hunk flags text p at long c.args.first c.requires.first in
+    let end : c.loop-hunk.hunk ≡ length xs = omega (arith, c.loop-hunk-test.false, c.loop-hunk.auto.hunk-end, c.hunks-hunk-end.ensures text, rows-counted text p.change, rows-long flags text p at long, first) in
+    found-ends text_if xs g.met.O.Sink.rest_both c.loop-hunk.hunk tt end c.loop-hunk.invariant

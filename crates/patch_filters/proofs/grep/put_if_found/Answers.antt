@@ -1,0 +1,82 @@
+use Rattle.std.proofs.Common.{◌≡◌, Bool, true, false, ◌&&◌, None, Some, List, ℕ, sym, ap, subst, ◌∙◌, rules}
+use Rattle.std.specs.List.{list_any}
+use Rattle.std.proofs.lemmas.Option.{same_Some}
+use Rattle.file_patch.specs.declared.FilePatch.{FilePatch}
+use Rattle.file_patch.specs.PlainPatch.{change_of, header_of, patch_of}
+use Rattle.patch_set.specs.PlainName.{plain_name}
+use Rattle.patch_filters.specs.PlainJobs.{plain_grep_job}
+use Rattle.patch_filters.specs.declared.fault.GrepFault.TheVariants.{Memory}
+use Rattle.patch_filters.specs.Selected.{is_selected}
+use Rattle.patch_filters.specs.Grepped.{IsFirst, found_text, hits_of, is_found, test_of, text_if_found}
+use Rattle.patch_filters.proofs.Searching.{same-test, still-kept}
+use Rattle.patch_filters.proofs.Finding.{by-first, ends-in, finds-done, finds-memory, finds-more, found-asked, found-none}
+use Rattle.patch_filters.proofs.Hits.{first-some}
+use Rattle.patch_filters.proofs.grep.put_if_found.Goals as goal
+
+pub put_found-requires-clause-kept : goal.put_found-requires-clause-kept
+put_found-requires-clause-kept g c = still-kept c.in_ok-first.ensures.asked c.requires.kept
+
+pub put_found-requires-clause-first : goal.put_found-requires-clause-first
+put_found-requires-clause-first g c = λ p is.
+    let v = c.args.set.now in
+    let found = c.patch_at.result.now in
+    let old = test_of (g.F.Finder.view c.args.finder.now) in
+    let new = test_of (g.F.Finder.view c.first_hit.new.finder) in
+    let same : found ≡ p = same_Some found p (sym c.patch_at.ensures.is ∙ is) in
+    let flags = hits_of old (change_of c.text.result.now found.change) in
+    let moved : flags ≡ hits_of new (change_of v.text p.change) =
+    ap (λ hit. hits_of hit (change_of c.text.result.now found.change)) (sym (same-test c.in_ok-first.ensures.asked))
+    ∙ ap (λ t. hits_of new (change_of t found.change)) c.text.ensures
+    ∙ ap (λ (q : FilePatch). hits_of new (change_of v.text q.change)) same in
+    subst (λ fs. IsFirst fs (Some c.in-Some.first)) moved (subst (IsFirst flags) c.in-Some.is c.in_ok-first.ensures.first)
+
+pub returns-then-not-is_selected : goal.returns-then-not-is_selected
+returns-then-not-is_selected g c = λ p is.
+    let v = c.args.set.now in
+    let j = plain_grep_job c.args.job.now in
+    let hit = test_of (g.F.Finder.view c.args.finder.now) in
+    let none : c.is_selected.result ≡ false = search rules in
+    let left_out : is_found hit j (patch_of v.text p) ≡ false =
+    ap (λ b. b && list_any (λ is. is) (hits_of hit (change_of v.text p.change))) (sym (c.is_selected.ensures ∙ ap (is_selected j.select) (c.plain_name.ensures p is)) ∙ none) in
+    rw left_out (finds-done tt (found-none g.met.O.Sink.rest_none (g.F.Finder.view c.args.finder.now) c.args.out.now))
+
+pub returns-in_err-first : goal.returns-in_err-first
+returns-in_err-first g c = λ p is.
+    let bytes = text_if_found (test_of (g.F.Finder.view c.args.finder.now)) (plain_grep_job c.args.job.now) c.args.set.now.text p in
+    ends-in c.from_residual.result Memory c.from_residual.ensures.1 (finds-memory bytes (found-asked (found-none g.met.O.Sink.rest_none (g.F.Finder.view c.args.finder.now) c.args.out.now) c.in_err-first.ensures.asked))
+
+pub returns-in_default : goal.returns-in_default
+returns-in_default g c = λ p is.
+    let v = c.args.set.now in
+    let j = plain_grep_job c.args.job.now in
+    let found = c.patch_at.result.now in
+    let hit = test_of (g.F.Finder.view c.args.finder.now) in
+    let same : found ≡ p = same_Some found p (sym c.patch_at.ensures.is ∙ is) in
+    let flags = hits_of hit (change_of c.text.result.now found.change) in
+    let moved : flags ≡ hits_of hit (change_of v.text p.change) =
+    ap (λ t. hits_of hit (change_of t found.change)) c.text.ensures ∙ ap (λ (q : FilePatch). hits_of hit (change_of v.text q.change)) same in
+    let no_hit : list_any (λ is. is) (hits_of hit (change_of v.text p.change)) ≡ false =
+    subst (λ fs. list_any (λ is. is) fs ≡ false) moved (subst (IsFirst flags) (c.in_default.is) c.in_ok-first.ensures.first) in
+    let met : c.is_selected.result ≡ true = search rules in
+    let selected : is_selected j.select (plain_name (header_of v.text p.header)) ≡ true = sym (c.is_selected.ensures ∙ ap (is_selected j.select) (c.plain_name.ensures p is)) ∙ met in
+    let left_out : is_found hit j (patch_of v.text p) ≡ false = ap (λ b. b && list_any (λ is. is) (hits_of hit (change_of v.text p.change))) selected ∙ no_hit in
+    rw left_out (finds-done tt (found-asked (found-none g.met.O.Sink.rest_none (g.F.Finder.view c.args.finder.now) c.args.out.now) c.in_ok-first.ensures.asked))
+
+pub returns : goal.returns
+returns g c = λ p is.
+    let v = c.args.set.now in
+    let j = plain_grep_job c.args.job.now in
+    let found = c.patch_at.result.now in
+    let hit = test_of (g.F.Finder.view c.args.finder.now) in
+    let same : found ≡ p = same_Some found p (sym c.patch_at.ensures.is ∙ is) in
+    let flags = hits_of hit (change_of c.text.result.now found.change) in
+    let moved : flags ≡ hits_of hit (change_of v.text p.change) =
+    ap (λ t. hits_of hit (change_of t found.change)) c.text.ensures ∙ ap (λ (q : FilePatch). hits_of hit (change_of v.text q.change)) same in
+    let some : list_any (λ is. is) (hits_of hit (change_of v.text p.change)) ≡ true =
+    subst (λ fs. list_any (λ is. is) fs ≡ true) moved (first-some flags c.in-Some.first (subst (IsFirst flags) c.in-Some.is c.in_ok-first.ensures.first)) in
+    let met : c.is_selected.result ≡ true = search rules in
+    let selected : is_selected j.select (plain_name (header_of v.text p.header)) ≡ true = sym (c.is_selected.ensures ∙ ap (is_selected j.select) (c.plain_name.ensures p is)) ∙ met in
+    let taken : is_found hit j (patch_of v.text p) ≡ true = ap (λ b. b && list_any (λ is. is) (hits_of hit (change_of v.text p.change))) selected ∙ some in
+    rw taken (finds-more c.put_found.result g.met.O.Sink.rest_both
+    (found-asked (found-none g.met.O.Sink.rest_none (g.F.Finder.view c.args.finder.now) c.args.out.now) c.in_ok-first.ensures.asked)
+    (by-first (λ hit. found_text hit j.output v.text p) c.in_ok-first.ensures.asked (c.put_found.ensures p is)))

@@ -1,0 +1,25 @@
+use Rattle.std.proofs.Common.{arith}
+use Rattle.patch_filters.proofs.Placed.{span-in}
+use Rattle.patch_filters.proofs.Rows.{found}
+use Rattle.patch_filters.proofs.pieces.put_hunk.Goals as goal
+
+pub bytes_at-requires-clause-order : goal.bytes_at-requires-clause-order
+bytes_at-requires-clause-order g c =
+    let p = c.args.patch.now in
+    let s = c.index-span.result.now in
+    let spans = p.hunk_spans.items in
+    omega (
+      arith,
+      (span-in p.header.at spans p.span.end c.args.hunk s c.requires.placed.turn (found spans c.args.hunk s (omega (arith, c.requires.within, c.requires.placed.each)) c.index-span.ensures)).0,
+    )
+
+pub bytes_at-requires-clause-within : goal.bytes_at-requires-clause-within
+bytes_at-requires-clause-within g c =
+    let p = c.args.patch.now in
+    let s = c.index-span.result.now in
+    let spans = p.hunk_spans.items in
+    omega (
+      arith,
+      (span-in p.header.at spans p.span.end c.args.hunk s c.requires.placed.turn (found spans c.args.hunk s (omega (arith, c.requires.within, c.requires.placed.each)) c.index-span.ensures)).1,
+      c.requires.placed.high,
+    )

@@ -1,0 +1,14 @@
+use Rattle.std.proofs.Common.{◌≡◌, ◌<◌, IfOk, sym, subst}
+use Rattle.file_patch.specs.PlainPatch.{row_count}
+use Rattle.patch_filters.specs.Grepped.{test_of}
+use Rattle.patch_filters.proofs.Rows.{found}
+use Rattle.patch_filters.proofs.Hits.{hunk-hits}
+use Rattle.patch_filters.proofs.search.is_hit.Goals as goal
+
+pub returns-in-Hunks-clause-hit : goal.returns-in-Hunks-clause-hit
+returns-in-Hunks-clause-hit g c =
+    let hs = c.in-Hunks.hunks.items in
+    let i = c.args.hunk in
+    let h = c.index.result.now in
+    let within = subst (λ x. i < row_count x) c.in-Hunks.is c.requires.within in
+    rw c.in-Hunks.is (subst (λ flag. IfOk c.hunk_has_hit.result (λ b. b ≡ flag)) (sym (hunk-hits c.args.text.now (test_of (g.F.Finder.view c.args.finder.now)) hs i h (found hs i h within c.index.ensures))) c.hunk_has_hit.ensures.hit)

@@ -1,0 +1,98 @@
+-- What is written of the file patches of which a line is found (manual page of `grepdiff`).
+use Rattle.std.specs.Prelude.{◌≡◌, ℕ, ◌-◌, Bool, true, false, ◌&&◌, filter, List, [], ◌∷◌, ◌++◌, codes, length, map, take, slice_get, Option, None, Some, Result, IfErr, OnOk, OnErr, if◌then◌else◌}
+use Rattle.std.specs.List.{flat_map, list_any}
+use Rattle.outside.specs.FinderView.{FinderView, FinderPasses}
+use Rattle.outside.specs.SinkView.{SinkView, SinkPasses, Receives, ReceivesPart, Rises}
+use Rattle.hunk_core.specs.LineTests.{ends_line}
+use Rattle.hunk_core.specs.PlainHunk.{bytes_at}
+use Rattle.file_patch.specs.declared.FilePatch.{FilePatch}
+use Rattle.file_patch.specs.PlainPatch.{PlainChange, PlainPatch, hunks, script, change_of, header_of, patch_of}
+use Rattle.patch_set.specs.PlainName.{plain_name}
+use Rattle.patch_set.specs.SetView.{SetView}
+use Rattle.patch_filters.specs.PlainJobs.{PlainGrepJob}
+use Rattle.patch_filters.specs.declared.job.GrepOut.{GrepOut}
+use Rattle.patch_filters.specs.declared.job.GrepOut.TheVariants.{Names, Hunks, Files}
+use Rattle.patch_filters.specs.declared.fault.GrepFault.{GrepFault}
+use Rattle.patch_filters.specs.declared.fault.GrepFault.TheVariants.{Pattern, Write, Memory}
+use Rattle.patch_filters.specs.Selected.{is_selected}
+use Rattle.patch_filters.specs.Filtered.{region, pieces, chosen}
+
+-- a line without the line feed at its end
+abbrev pub content : List ℕ → List ℕ
+content line = if ends_line line then take (length line - 1) line else line
+
+-- the contents of all lines of each hunk, without their marks; an ed script is one hunk, with the lines that it inserts
+abbrev pub contents : PlainChange → List (List (List ℕ))
+contents (hunks hs) = map (λ h. map (λ m. content m.line) h.body) hs
+contents (script es) = flat_map (λ e. map content e.added) es ∷ []
+
+-- for each hunk whether one of its contents has a hit
+abbrev pub hits_of : (List ℕ → Bool) → PlainChange → List Bool
+hits_of hit c = map (list_any hit) (contents c)
+
+-- the file patch is selected, and one of its hunks has a hit
+abbrev pub is_found : (List ℕ → Bool) → PlainGrepJob → PlainPatch → Bool
+is_found hit j p = is_selected j.select (plain_name p.header) && list_any (λ is. is) (hits_of hit p.change)
+
+-- of a file patch that is found its whole name, its region and just the hunks with a hit, or all of it
+abbrev pub found_text : (List ℕ → Bool) → GrepOut → List ℕ → FilePatch → List ℕ
+found_text hit Names text p = plain_name (header_of text p.header) ++ codes "\n"
+found_text hit Hunks text p = region text p ++ chosen (hits_of hit (change_of text p.change)) (pieces text p)
+found_text hit Files text p = bytes_at text p.span
+
+-- what is written of the file patches that are found
+unfoldable pub grepped : (List ℕ → Bool) → PlainGrepJob → SetView → List ℕ
+grepped hit j v = flat_map (found_text hit j.output v.text) (filter (λ p. is_found hit j (patch_of v.text p)) v.patches)
+
+-- the same of one file patch
+abbrev pub text_if_found : (List ℕ → Bool) → PlainGrepJob → List ℕ → FilePatch → List ℕ
+text_if_found hit j text p = if is_found hit j (patch_of text p) then found_text hit j.output text p else []
+
+-- ---- one call
+
+-- a refusal has its cause: the pattern isn't one that is always taken, and nothing was written; or the sink has failed
+abbrev pub HasGrepCause : {O : Type 0} → GrepFault → (O → SinkView) → FinderView → List ℕ → O → O → Type 0
+HasGrepCause Pattern view finder pattern old new = (finder.takes pattern ≡ false) × (new ≡ old)
+HasGrepCause Write view finder pattern old new = Rises (view old) (view new)
+HasGrepCause Memory view finder pattern old new = Unit {0}
+
+-- ---- its parts
+
+-- the test of a finder, by the pattern that it keeps
+abbrev pub test_by : Option (List ℕ) → (List ℕ → List ℕ → Bool) → List ℕ → Bool
+test_by None hit line = false
+test_by (Some pattern) hit line = hit pattern line
+
+abbrev pub test_of : FinderView → List ℕ → Bool
+test_of v = test_by v.kept v.hit
+
+-- a finder was asked, or not: it keeps its pattern
+pub record IsAsked (old new : FinderView) : Type 0 where
+  pub passes : FinderPasses old new
+  pub kept : new.kept ≡ old.kept
+
+-- the first of some flags that is set, if there is one
+abbrev pub IsFirst : List Bool → Option ℕ → Type 0
+IsFirst flags None = list_any (λ is. is) flags ≡ false
+IsFirst flags (Some i) = (list_any (λ is. is) (take i flags) ≡ false) × (slice_get flags i ≡ Some true)
+
+-- the pattern is refused, or memory ran out
+abbrev pub IsPatternFault : GrepFault → FinderView → List ℕ → Type 0
+IsPatternFault Pattern finder pattern = finder.takes pattern ≡ false
+IsPatternFault Write finder pattern = ⊥
+IsPatternFault Memory finder pattern = Unit {0}
+
+-- the sink has failed, or memory ran out
+abbrev pub IsFindFault : GrepFault → SinkView → SinkView → Type 0
+IsFindFault Pattern old new = ⊥
+IsFindFault Write old new = Rises old new
+IsFindFault Memory old new = Unit {0}
+
+-- what a call does that asks a finder and writes: on Ok the sink received these bytes, else a first part of them
+pub record Finds {O R : Type 0} (view : O → SinkView) (same_rest : O → O → Type 0) (asked answered : FinderView) (old new : O) (result : Result R GrepFault) (bytes : List ℕ) : Type 0 where
+  pub finder : IsAsked asked answered
+  pub passes : SinkPasses (view old) (view new)
+  pub rest : same_rest old new
+  pub received : OnOk result (Receives (view old) (view new) bytes)
+  pub failed : OnErr result (ReceivesPart (view old) (view new) bytes)
+  pub cause : IfErr result (λ e. IsFindFault e (view old) (view new))

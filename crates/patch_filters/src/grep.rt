@@ -1,0 +1,175 @@
+//! The file patches of a set of which a line is found.
+
+ghost use Rattle.std.specs.Prelude.{◌≡◌, ◌<◌, ◌++◌, IsSome, [], Ok, Some, false, length, slice_index_or, string_bytes, OnOk, OnErr, IfErr};
+ghost use Rattle.std.specs.Option.{ForSome};
+ghost use Rattle.outside.specs.FinderView.{FinderPasses};
+ghost use Rattle.outside.specs.SinkView.{Receives, ReceivesPart, SinkPasses};
+ghost use Rattle.file_patch.specs.PlainPatch.{IsLawfulChange, change_of, row_count};
+ghost use Rattle.patch_set.specs.SetView.{patch_at};
+ghost use Rattle.patch_set.specs.Spans.{IsPlaced};
+ghost use Rattle.patch_filters.specs.PlainJobs.{plain_grep_job};
+ghost use Rattle.patch_filters.specs.Filtered.{chosen, pieces, region, text_if};
+ghost use Rattle.patch_filters.specs.Grepped.{Finds, HasGrepCause, IsFirst, found_text, grepped, hits_of, test_of, text_if_found};
+
+use crate::list::put_line;
+use crate::numbers::is_selected;
+use crate::pieces::{bytes_at, put_hunk, put_piece, put_region};
+use crate::search::{first_hit, is_hit, keep_pattern};
+use crate::set::patch_at;
+use crate::{GrepFault, GrepJob, GrepOut};
+use file_patch::FilePatch;
+use outside::{Finder, Sink};
+use patch_set::PatchSet;
+use std::alloc::Global;
+
+/// Writes a hunk, counted from 0, if it has a hit.
+fn put_if_hit<F: Finder, O: Sink>(
+    alloc: Global,
+    text: &[u8],
+    patch: &FilePatch,
+    hunk: u32,
+    finder: &mut F,
+    out: &mut O,
+) -> Result<(), GrepFault>
+    requires kept { IsSome (F.view finder.old).kept }
+    requires lawful { IsLawfulChange text.now patch.now.change }
+    requires placed { IsPlaced text.now patch.now.span.start patch.now.first_verdict patch.now }
+    requires within { hunk < row_count patch.now.change }
+    ensures { Finds O.view O.same_rest (F.view finder.old) (F.view finder.new) out.old out.new result (text_if (slice_index_or (hits_of (test_of (F.view finder.old)) (change_of text.now patch.now.change)) hunk false, slice_index_or (pieces text.now patch.now) hunk [])) }
+{
+    if !is_hit(alloc, text, &patch.change, hunk, finder)? {
+        return Ok(());
+    }
+    Ok(put_hunk(text, patch, hunk, out)?)
+}
+
+/// Writes the hunks that have a hit, of which this is the first; those behind it are searched one by one.
+fn put_hits<F: Finder, O: Sink>(
+    alloc: Global,
+    text: &[u8],
+    patch: &FilePatch,
+    first: u32,
+    finder: &mut F,
+    out: &mut O,
+) -> Result<(), GrepFault>
+    requires kept { IsSome (F.view finder.old).kept }
+    requires lawful { IsLawfulChange text.now patch.now.change }
+    requires placed { IsPlaced text.now patch.now.span.start patch.now.first_verdict patch.now }
+    requires first { IsFirst (hits_of (test_of (F.view finder.old)) (change_of text.now patch.now.change)) (Some first) }
+    ensures { Finds O.view O.same_rest (F.view finder.old) (F.view finder.new) out.old out.new result (chosen (hits_of (test_of (F.view finder.old)) (change_of text.now patch.now.change)) (pieces text.now patch.now)) }
+{
+    put_hunk(text, patch, first, out)?;
+    for hunk in first + 1..patch.hunks() {
+        put_if_hit(alloc, text, patch, hunk, finder, out)?;
+    }
+    Ok(())
+}
+
+fn put_parts<F: Finder, O: Sink>(
+    alloc: Global,
+    text: &[u8],
+    patch: &FilePatch,
+    first: u32,
+    finder: &mut F,
+    out: &mut O,
+) -> Result<(), GrepFault>
+    requires kept { IsSome (F.view finder.old).kept }
+    requires lawful { IsLawfulChange text.now patch.now.change }
+    requires placed { IsPlaced text.now patch.now.span.start patch.now.first_verdict patch.now }
+    requires first { IsFirst (hits_of (test_of (F.view finder.old)) (change_of text.now patch.now.change)) (Some first) }
+    ensures { Finds O.view O.same_rest (F.view finder.old) (F.view finder.new) out.old out.new result (region text.now patch.now ++ chosen (hits_of (test_of (F.view finder.old)) (change_of text.now patch.now.change)) (pieces text.now patch.now)) }
+{
+    put_region(text, patch, out)?;
+    put_hits(alloc, text, patch, first, finder, out)
+}
+
+/// Writes what is asked for of a file patch, counted from 0, whose first hunk with a hit is this.
+fn put_found<F: Finder, O: Sink>(
+    alloc: Global,
+    set: &PatchSet,
+    job: &GrepJob,
+    patch: u32,
+    first: u32,
+    finder: &mut F,
+    out: &mut O,
+) -> Result<(), GrepFault>
+    requires kept { IsSome (F.view finder.old).kept }
+    requires within { patch < length set.now.patches }
+    requires first { ForSome (patch_at set.now patch) (λ p. IsFirst (hits_of (test_of (F.view finder.old)) (change_of set.now.text p.change)) (Some first)) }
+    ensures { ForSome (patch_at set.now patch) (λ p. Finds O.view O.same_rest (F.view finder.old) (F.view finder.new) out.old out.new result (found_text (test_of (F.view finder.old)) job.now.output set.now.text p)) }
+{
+    let text = set.text();
+    let found = patch_at(set, patch);
+    match job.output {
+        GrepOut::Names => Ok(put_line(out, set.plain_name(patch))?),
+        GrepOut::Files => Ok(put_piece(out, bytes_at(text, found.span))?),
+        GrepOut::Hunks => put_parts(alloc, text, found, first, finder, out),
+    }
+}
+
+/// Writes what is asked for of a file patch, counted from 0, if it is selected and has a hit.
+fn put_if_found<F: Finder, O: Sink>(
+    alloc: Global,
+    set: &PatchSet,
+    job: &GrepJob,
+    patch: u32,
+    finder: &mut F,
+    out: &mut O,
+) -> Result<(), GrepFault>
+    requires kept { IsSome (F.view finder.old).kept }
+    requires within { patch < length set.now.patches }
+    ensures { ForSome (patch_at set.now patch) (λ p. Finds O.view O.same_rest (F.view finder.old) (F.view finder.new) out.old out.new result (text_if_found (test_of (F.view finder.old)) (plain_grep_job job.now) set.now.text p)) }
+{
+    if !is_selected(&job.select, set.plain_name(patch)) {
+        return Ok(());
+    }
+    let Some(first) = first_hit(alloc, set.text(), patch_at(set, patch), finder)? else {
+        return Ok(());
+    };
+    put_found(alloc, set, job, patch, first, finder, out)
+}
+
+fn put_grepped<F: Finder, O: Sink>(
+    alloc: Global,
+    set: &PatchSet,
+    job: &GrepJob,
+    finder: &mut F,
+    out: &mut O,
+) -> Result<(), GrepFault>
+    requires kept { IsSome (F.view finder.old).kept }
+    ensures { Finds O.view O.same_rest (F.view finder.old) (F.view finder.new) out.old out.new result (grepped (test_of (F.view finder.old)) (plain_grep_job job.now) set.now) }
+{
+    for patch in 0..set.patches().len() {
+        put_if_found(alloc, set, job, patch as u32, finder, out)?;
+    }
+    Ok(())
+}
+
+/// Writes what the job asks for of each file patch that is selected and of which a line of a hunk, without its mark and its
+/// line feed, has the pattern: its name, the lines in front of its first hunk and the hunks with such a line, or all of it.
+/// The finder is asked of no other file patch, of none behind the first hit where that settles it, and of no line twice.
+///
+/// # Errors
+///
+/// `Pattern` where the finder refuses the pattern, with nothing written; `Write` where the sink failed; and `Memory`.
+pub fn grep_patches<F: Finder, O: Sink>(
+    alloc: Global,
+    set: &PatchSet,
+    job: &GrepJob,
+    finder: &mut F,
+    out: &mut O,
+) -> Result<(), GrepFault>
+    ensures finder { FinderPasses (F.view finder.old) (F.view finder.new) }
+    ensures passes { SinkPasses (O.view out.old) (O.view out.new) }
+    ensures rest { O.same_rest out.old out.new }
+    ensures received { OnOk result (Receives (O.view out.old) (O.view out.new) (grepped ((F.view finder.old).hit (string_bytes job.now.pattern)) (plain_grep_job job.now) set.now)) }
+    ensures failed { OnErr result (ReceivesPart (O.view out.old) (O.view out.new) (grepped ((F.view finder.old).hit (string_bytes job.now.pattern)) (plain_grep_job job.now) set.now)) }
+    ensures cause { IfErr result (λ e. HasGrepCause e O.view (F.view finder.old) (string_bytes job.now.pattern) out.old out.new) }
+    ensures unasked { set.now.patches ≡ [] → (result ≡ Ok tt) × (finder.new ≡ finder.old) × (out.new ≡ out.old) }
+{
+    if set.patches().is_empty() {
+        return Ok(());
+    }
+    keep_pattern(alloc, &job.pattern, finder)?;
+    put_grepped(alloc, set, job, finder, out)
+}

@@ -1,0 +1,158 @@
+//! Where a finder has hits.
+
+ghost use Rattle.std.specs.Prelude.{◌≡◌, ◌<◌, ◌^◌, IsSome, IfOk, OnOk, IfErr, All, Some, false, length, map, slice_index_or, string_bytes};
+ghost use Rattle.std.specs.List.{flat_map, list_any};
+ghost use Rattle.outside.specs.FinderView.{FinderPasses};
+ghost use Rattle.hunk_core.specs.PlainHunk.{hunk_of};
+ghost use Rattle.hunk_core.specs.Turned.{IsLawful, LiesIn};
+ghost use Rattle.ed_form.specs.PlainEdit.{edits_of, lines_of};
+ghost use Rattle.file_patch.specs.PlainPatch.{IsLawfulChange, change_of, row_count};
+ghost use Rattle.patch_filters.specs.Grepped.{IsAsked, IsFirst, IsPatternFault, content, hits_of, test_of};
+
+use crate::GrepFault;
+use crate::pieces::bytes_at;
+use ed_form::{EdEdit, EdScript};
+use file_patch::{Change, FilePatch};
+use hunk_core::{Hunk, has_feed};
+use line_list::Span;
+use outside::{FindFault, Finder};
+use std::alloc::{AllocError, Global};
+
+/// Hands the finder the pattern.
+pub fn keep_pattern<F: Finder>(
+    alloc: Global,
+    pattern: &str,
+    finder: &mut F,
+) -> Result<(), GrepFault>
+    ensures passes { FinderPasses (F.view finder.old) (F.view finder.new) }
+    ensures kept { OnOk result ((F.view finder.new).kept ≡ Some pattern.now) }
+    ensures cause { IfErr result (λ e. IsPatternFault e (F.view finder.old) pattern.now) }
+{
+    match finder.set(alloc, pattern) {
+        Ok(()) => Ok(()),
+        Err(FindFault::Refused) => Err(GrepFault::Pattern),
+        Err(FindFault::Memory) => Err(GrepFault::Memory),
+    }
+}
+
+/// A line without the line feed at its end.
+fn content(line: &[u8]) -> &[u8]
+    ensures { result.now ≡ content line.now }
+{
+    if has_feed(line) {
+        &line[..line.len() - 1]
+    } else {
+        line
+    }
+}
+
+fn has_hit<F: Finder>(alloc: Global, line: &[u8], finder: &mut F) -> Result<bool, AllocError>
+    requires { IsSome (F.view finder.old).kept }
+    ensures asked { IsAsked (F.view finder.old) (F.view finder.new) }
+    ensures hit { IfOk result (λ b. b ≡ test_of (F.view finder.old) (content line.now)) }
+{
+    finder.hits(alloc, content(line))
+}
+
+/// Whether a line of the hunk has a hit.
+fn hunk_has_hit<F: Finder>(
+    alloc: Global,
+    text: &[u8],
+    hunk: &Hunk,
+    finder: &mut F,
+) -> Result<bool, AllocError>
+    requires kept { IsSome (F.view finder.old).kept }
+    requires lawful { IsLawful text.now hunk.now }
+    ensures asked { IsAsked (F.view finder.old) (F.view finder.new) }
+    ensures hit { IfOk result (λ b. b ≡ list_any (test_of (F.view finder.old)) (map (λ m. content m.line) (hunk_of text.now hunk.now).body)) }
+{
+    for i in 0..hunk.body.len() {
+        let line = hunk.body[i];
+        if has_hit(alloc, bytes_at(text, line.span), finder)? {
+            return Ok(true);
+        }
+    }
+    Ok(false)
+}
+
+/// Whether a line that the edit inserts has a hit.
+fn edit_has_hit<F: Finder>(
+    alloc: Global,
+    text: &[u8],
+    edit: &EdEdit,
+    finder: &mut F,
+) -> Result<bool, AllocError>
+    requires kept { IsSome (F.view finder.old).kept }
+    requires within { All (LiesIn text.now) edit.now.added.items }
+    ensures asked { IsAsked (F.view finder.old) (F.view finder.new) }
+    ensures hit { IfOk result (λ b. b ≡ list_any (test_of (F.view finder.old)) (map content (lines_of text.now edit.now.added.items))) }
+{
+    for i in 0..edit.added.len() {
+        let span = edit.added[i];
+        if has_hit(alloc, bytes_at(text, span), finder)? {
+            return Ok(true);
+        }
+    }
+    Ok(false)
+}
+
+fn script_has_hit<F: Finder>(
+    alloc: Global,
+    text: &[u8],
+    script: &EdScript,
+    finder: &mut F,
+) -> Result<bool, AllocError>
+    requires kept { IsSome (F.view finder.old).kept }
+    requires within { All (λ e. All (LiesIn text.now) e.added.items) script.now.edits.items }
+    ensures asked { IsAsked (F.view finder.old) (F.view finder.new) }
+    ensures hit { IfOk result (λ b. b ≡ list_any (test_of (F.view finder.old)) (flat_map (λ e. map content e.added) (edits_of text.now script.now.edits.items))) }
+{
+    for i in 0..script.edits.len() {
+        let edit = &script.edits[i];
+        if edit_has_hit(alloc, text, edit, finder)? {
+            return Ok(true);
+        }
+    }
+    Ok(false)
+}
+
+/// Whether a hunk, counted from 0, has a hit; an ed script is one hunk.
+pub fn is_hit<F: Finder>(
+    alloc: Global,
+    text: &[u8],
+    change: &Change,
+    hunk: u32,
+    finder: &mut F,
+) -> Result<bool, AllocError>
+    requires kept { IsSome (F.view finder.old).kept }
+    requires lawful { IsLawfulChange text.now change.now }
+    requires within { hunk < row_count change.now }
+    ensures asked { IsAsked (F.view finder.old) (F.view finder.new) }
+    ensures hit { IfOk result (λ b. b ≡ slice_index_or (hits_of (test_of (F.view finder.old)) (change_of text.now change.now)) hunk false) }
+{
+    match change {
+        Change::Hunks(hunks) => hunk_has_hit(alloc, text, &hunks[hunk as usize], finder),
+        Change::Script(script) => script_has_hit(alloc, text, script, finder),
+    }
+}
+
+/// The first hunk, counted from 0, that has a hit. Those behind it aren't searched.
+pub fn first_hit<F: Finder>(
+    alloc: Global,
+    text: &[u8],
+    patch: &FilePatch,
+    finder: &mut F,
+) -> Result<Option<u32>, AllocError>
+    requires kept { IsSome (F.view finder.old).kept }
+    requires lawful { IsLawfulChange text.now patch.now.change }
+    requires few { row_count patch.now.change < 2 ^ 32 }
+    ensures asked { IsAsked (F.view finder.old) (F.view finder.new) }
+    ensures first { IfOk result (IsFirst (hits_of (test_of (F.view finder.old)) (change_of text.now patch.now.change))) }
+{
+    for hunk in 0..patch.hunks() {
+        if is_hit(alloc, text, &patch.change, hunk, finder)? {
+            return Ok(Some(hunk));
+        }
+    }
+    Ok(None)
+}
