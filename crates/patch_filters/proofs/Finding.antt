@@ -1,10 +1,10 @@
 -- Calls that ask a finder and write to a sink, one after the other.
-use Rattle.std.proofs.Common.{◌≡◌, ℕ, ◌+◌, ◌<◌, Bool, false, ◌||◌, List, [], ◌∷◌, ◌++◌, length, take, drop, get_or, Some, Result, Ok, Err, IsErrAnd, IfErr, OnErr, refl, sym, ap, subst, ◌∙◌, arith}
+use Rattle.std.proofs.Common.{◌≡◌, ℕ, ◌+◌, ◌<◌, Bool, List, [], ◌++◌, length, drop, Some, Result, Ok, Err, IsErrAnd, IfErr, OnErr, refl, sym, ap, subst, ◌∙◌, arith}
 use Rattle.std.specs.Prelude.{slice_get}
 use Rattle.std.specs.List.{flat_map}
 use Rattle.std.proofs.lemmas.List.{take_all}
 use Rattle.outside.specs.FinderView.{FinderView, FinderPasses}
-use Rattle.outside.specs.SinkView.{SinkView, SinkPasses, sink_passes_both, Rises, ReceivesPart}
+use Rattle.outside.specs.SinkView.{SinkView, SinkPasses, sink_passes_both, ReceivesPart}
 use Rattle.outside.proofs.Writing.{part_longer, part_after, received_both, received_none, received_part}
 use Rattle.hunk_core.specs.Writing.{Puts}
 use Rattle.hunk_core.proofs.SinkSteps.{HasPut, GoesOn, has-more, has-none}
@@ -31,7 +31,7 @@ module _ {O : Type 0} {view : O → SinkView} {same : O → O → Type 0} where
   pub has-found : {a n : FinderView} {old new : O} {bytes : List ℕ} {R : Type 0} (x : R) → Finds view same a n old new (Ok x) bytes → HasFound view same a n old new bytes
   has-found x p = record { finder = p.finder; put = record { passes = p.passes; rest = p.rest; received = p.received } }
 
-  -- the finder was asked, or pieces were written besides
+  -- the finder was asked, and nothing was written
   pub found-asked : {a m n : FinderView} {old new : O} {bytes : List ℕ} → HasFound view same a m old new bytes → IsAsked m n → HasFound view same a n old new bytes
   found-asked p more = record { finder = asked-both p.finder more; put = p.put }
 

@@ -1,5 +1,5 @@
 -- Which hunks have a hit, and what is written of them.
-use Rattle.std.proofs.Common.{◌≡◌, ℕ, zero, suc, ◌+◌, ◌<◌, Bool, true, false, ◌&&◌, ◌||◌, cond, List, [], ◌∷◌, ◌++◌, length, get_or, map, take, drop, None, Some, refl, sym, ap, ◌∙◌, arith}
+use Rattle.std.proofs.Common.{◌≡◌, ℕ, zero, suc, ◌+◌, ◌<◌, Bool, true, false, ◌||◌, List, [], ◌∷◌, ◌++◌, length, get_or, map, take, drop, Some, refl, sym, ap, ◌∙◌, arith}
 use Rattle.std.specs.Prelude.{slice_get, option_map, ◌==◌}
 use Rattle.std.specs.List.{flat_map, list_any, zip}
 use Rattle.std.proofs.lemmas.Bool.{eqb-true}
@@ -48,6 +48,9 @@ contents-count (script es) = refl
 
 pub hits-long : (hit : List ℕ → Bool) (text : List ℕ) (c : Change) → length (hits_of hit (change_of text c)) ≡ row_count c
 hits-long hit text c = length-map (contents (change_of text c)) (list_any hit) ∙ contents-count (change_of text c) ∙ rows-counted text c
+
+pub hits-same : (hit : List ℕ → Bool) (t text : List ℕ) (q p : FilePatch) → t ≡ text → q ≡ p → hits_of hit (change_of t q.change) ≡ hits_of hit (change_of text p.change)
+hits-same hit t text q p is also = ap (λ x. hits_of hit (change_of x q.change)) is ∙ ap (λ (x : FilePatch). hits_of hit (change_of text x.change)) also
 
 -- ---- lines as flags
 
@@ -116,10 +119,6 @@ module _ (text : List ℕ) where
       get_or_from_slice_get _ i (list_any hit (lines h)) false
       (slice_get-map (list_any hit) (contents (hunks (hunks_of text hs))) i
       ∙ ap (option_map (list_any hit)) (slice_get-map _ (hunks_of text hs) i ∙ ap (option_map _) (slice_get-map (hunk_of text) hs i ∙ ap (option_map (hunk_of text)) is)))
-
-pub alone : (flag : Bool) (i : ℕ) → i < 1 → get_or (flag ∷ []) i false ≡ flag
-alone flag zero lt = refl
-alone flag (suc i) lt = absurd (omega (arith, lt))
 
 -- ---- the first hunk with a hit
 

@@ -1,14 +1,12 @@
 -- A finder that is asked of one line after the other, up to the first hit.
-use Rattle.std.proofs.Common.{◌≡◌, ℕ, zero, suc, ◌+◌, ◌<◌, ◌≤◌, Bool, true, false, ◌||◌, List, [], ◌∷◌, ◌++◌, length, get_or, map, take, Option, None, Some, Result, Ok, Err, IfOk, IsSome, refl, sym, ap, subst, ◌∙◌, arith}
-use Rattle.std.specs.Prelude.{slice_get, is_some, option_map}
-use Rattle.std.specs.List.{flat_map, list_any}
-use Rattle.std.proofs.lemmas.List.{length-map, take_all}
-use Rattle.std.proofs.lemmas.List.Concat.{flat_map-cons}
-use Rattle.std.proofs.lemmas.List.Folds.{list_any_more, list_any_at, list_any-append}
+use Rattle.std.proofs.Common.{◌≡◌, ℕ, ◌+◌, ◌≤◌, Bool, true, false, ◌||◌, List, length, get_or, take, Option, None, Some, Result, Ok, Err, IfOk, IsSome, refl, sym, ap, ◌∙◌}
+use Rattle.std.specs.Prelude.{slice_get, is_some}
+use Rattle.std.specs.List.{list_any}
+use Rattle.std.proofs.lemmas.List.{take_all}
+use Rattle.std.proofs.lemmas.List.Folds.{list_any_more, list_any_at}
 use Rattle.std.proofs.lemmas.Option.{get_or_from_slice_get, slice_get_within}
 use Rattle.outside.specs.FinderView.{FinderView, finder_passes_none, finder_passes_both}
-use Rattle.patch_filters.specs.Grepped.{IsAsked, IsFirst, test_by, test_of}
-use Rattle.patch_filters.proofs.Rows.{any-map, found}
+use Rattle.patch_filters.specs.Grepped.{IsAsked, test_by, test_of}
 
 -- ---- a finder that is asked
 
@@ -42,9 +40,6 @@ module _ (flags : (List ℕ → Bool) → List Bool) where
     pub asked : IsAsked old mid
     pub none : list_any (λ is. is) (take i (flags (test_of old))) ≡ false
 
-  pub none-yet : (v : FinderView) → HasNone v v 0
-  none-yet v = record { asked = asked-none v; none = refl }
-
   pub flag-of : {old mid : FinderView} {f : Bool} (i : ℕ) → HasNone old mid i → slice_get (flags (test_of mid)) i ≡ Some f → slice_get (flags (test_of old)) i ≡ Some f
   flag-of i before is = ap (λ t. slice_get (flags t) i) (sym (same-test before.asked)) ∙ is
 
@@ -57,9 +52,6 @@ module _ (flags : (List ℕ → Bool) → List Bool) where
         ∙ ap (λ b. b || get_or (flags (test_of old)) i false) before.none
         ∙ get_or_from_slice_get (flags (test_of old)) i false false here);
   }
-
-  pub first-here : {old mid : FinderView} (i : ℕ) → HasNone old mid i → slice_get (flags (test_of mid)) i ≡ Some true → IsFirst (flags (test_of old)) (Some i)
-  first-here i before is = (before.none, flag-of i before is)
 
   pub some-here : {old mid : FinderView} (i : ℕ) → HasNone old mid i → slice_get (flags (test_of mid)) i ≡ Some true → true ≡ list_any (λ is. is) (flags (test_of old))
   some-here {old = old} i before is =

@@ -1,4 +1,4 @@
-use Rattle.std.proofs.Common.{◌≡◌, ◌∙◌, ℕ, List, [], ◌++◌, true, false, length, Some, OnOk, OnErr, sym, ap, subst}
+use Rattle.std.proofs.Common.{◌≡◌, ◌∙◌, List, [], length, Some, OnOk, OnErr, sym, ap, subst}
 use Rattle.std.specs.Prelude.{◌==◌, is_some, string_bytes}
 use Rattle.outside.specs.SinkView.{Receives, ReceivesPart}
 use Rattle.outside.proofs.Writing.{received_none}

@@ -1,13 +1,12 @@
-use Rattle.std.proofs.Common.{◌≡◌, ◌<◌, ◌++◌, codes, Ok, Err, sym, ap, subst, ◌∙◌, arith, rules}
+use Rattle.std.proofs.Common.{◌≡◌, ◌++◌, codes, Ok, Err, sym, ap, subst, ◌∙◌, arith}
 use Rattle.std.proofs.lemmas.Option.{same_Some}
 use Rattle.hunk_core.specs.PlainHunk.{bytes_at}
 use Rattle.hunk_core.specs.Writing.{Puts}
 use Rattle.hunk_core.proofs.SinkSteps.{has-put}
 use Rattle.file_patch.specs.declared.FilePatch.{FilePatch}
-use Rattle.file_patch.specs.PlainPatch.{change_of}
-use Rattle.patch_filters.specs.declared.job.GrepOut.TheVariants.{Names, Hunks, Files}
+use Rattle.patch_filters.specs.declared.job.GrepOut.TheVariants.{Hunks}
 use Rattle.patch_filters.specs.declared.fault.GrepFault.TheVariants.{Write}
-use Rattle.patch_filters.specs.Grepped.{Finds, IsFirst, found_text, hits_of, test_of}
+use Rattle.patch_filters.specs.Grepped.{Finds, found_text, test_of}
 use Rattle.patch_filters.proofs.Searching.{asked-none}
 use Rattle.patch_filters.proofs.Finding.{ends-in, finds-put, finds-write}
 use Rattle.patch_filters.proofs.grep.put_found.Goals as goal

@@ -1,4 +1,4 @@
-use Rattle.std.proofs.Common.{◌≡◌, ◌+◌, ◌<◌, Bool, ℕ, List, false, [], length, get_or, drop, Err, subst, arith}
+use Rattle.std.proofs.Common.{◌≡◌, ◌+◌, ◌<◌, false, [], length, get_or, drop, Err, subst, arith}
 use Rattle.std.specs.List.{flat_map}
 use Rattle.hunk_core.proofs.SinkSteps.{HasPut, has-put}
 use Rattle.file_patch.specs.PlainPatch.{change_of, row_count}

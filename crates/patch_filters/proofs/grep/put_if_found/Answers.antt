@@ -1,7 +1,6 @@
-use Rattle.std.proofs.Common.{◌≡◌, Bool, true, false, ◌&&◌, None, Some, List, ℕ, sym, ap, subst, ◌∙◌, rules}
+use Rattle.std.proofs.Common.{◌≡◌, true, false, ◌&&◌, Some, sym, ap, subst, ◌∙◌, rules}
 use Rattle.std.specs.List.{list_any}
 use Rattle.std.proofs.lemmas.Option.{same_Some}
-use Rattle.file_patch.specs.declared.FilePatch.{FilePatch}
 use Rattle.file_patch.specs.PlainPatch.{change_of, header_of, patch_of}
 use Rattle.patch_set.specs.PlainName.{plain_name}
 use Rattle.patch_filters.specs.PlainJobs.{plain_grep_job}
@@ -10,7 +9,7 @@ use Rattle.patch_filters.specs.Selected.{is_selected}
 use Rattle.patch_filters.specs.Grepped.{IsFirst, found_text, hits_of, is_found, test_of, text_if_found}
 use Rattle.patch_filters.proofs.Searching.{same-test, still-kept}
 use Rattle.patch_filters.proofs.Finding.{by-first, ends-in, finds-done, finds-memory, finds-more, found-asked, found-none}
-use Rattle.patch_filters.proofs.Hits.{first-some}
+use Rattle.patch_filters.proofs.Hits.{first-some, hits-same}
 use Rattle.patch_filters.proofs.grep.put_if_found.Goals as goal
 
 pub put_found-requires-clause-kept : goal.put_found-requires-clause-kept
@@ -25,9 +24,7 @@ put_found-requires-clause-first g c = λ p is.
     let same : found ≡ p = same_Some found p (sym c.patch_at.ensures.is ∙ is) in
     let flags = hits_of old (change_of c.text.result.now found.change) in
     let moved : flags ≡ hits_of new (change_of v.text p.change) =
-    ap (λ hit. hits_of hit (change_of c.text.result.now found.change)) (sym (same-test c.in_ok-first.ensures.asked))
-    ∙ ap (λ t. hits_of new (change_of t found.change)) c.text.ensures
-    ∙ ap (λ (q : FilePatch). hits_of new (change_of v.text q.change)) same in
+    hits-same old c.text.result.now v.text found p c.text.ensures same ∙ ap (λ hit. hits_of hit (change_of v.text p.change)) (sym (same-test c.in_ok-first.ensures.asked)) in
     subst (λ fs. IsFirst fs (Some c.in-Some.first)) moved (subst (IsFirst flags) c.in-Some.is c.in_ok-first.ensures.first)
 
 pub returns-then-not-is_selected : goal.returns-then-not-is_selected
@@ -53,8 +50,7 @@ returns-in_default g c = λ p is.
     let hit = test_of (g.F.Finder.view c.args.finder.now) in
     let same : found ≡ p = same_Some found p (sym c.patch_at.ensures.is ∙ is) in
     let flags = hits_of hit (change_of c.text.result.now found.change) in
-    let moved : flags ≡ hits_of hit (change_of v.text p.change) =
-    ap (λ t. hits_of hit (change_of t found.change)) c.text.ensures ∙ ap (λ (q : FilePatch). hits_of hit (change_of v.text q.change)) same in
+    let moved = hits-same hit c.text.result.now v.text found p c.text.ensures same in
     let no_hit : list_any (λ is. is) (hits_of hit (change_of v.text p.change)) ≡ false =
     subst (λ fs. list_any (λ is. is) fs ≡ false) moved (subst (IsFirst flags) (c.in_default.is) c.in_ok-first.ensures.first) in
     let met : c.is_selected.result ≡ true = search rules in
@@ -70,8 +66,7 @@ returns g c = λ p is.
     let hit = test_of (g.F.Finder.view c.args.finder.now) in
     let same : found ≡ p = same_Some found p (sym c.patch_at.ensures.is ∙ is) in
     let flags = hits_of hit (change_of c.text.result.now found.change) in
-    let moved : flags ≡ hits_of hit (change_of v.text p.change) =
-    ap (λ t. hits_of hit (change_of t found.change)) c.text.ensures ∙ ap (λ (q : FilePatch). hits_of hit (change_of v.text q.change)) same in
+    let moved = hits-same hit c.text.result.now v.text found p c.text.ensures same in
     let some : list_any (λ is. is) (hits_of hit (change_of v.text p.change)) ≡ true =
     subst (λ fs. list_any (λ is. is) fs ≡ true) moved (first-some flags c.in-Some.first (subst (IsFirst flags) c.in-Some.is c.in_ok-first.ensures.first)) in
     let met : c.is_selected.result ≡ true = search rules in

@@ -1,4 +1,4 @@
-use Rattle.std.proofs.Common.{◌≡◌, ◌<◌, Bool, true, false, length, sym, ap, ◌∙◌, arith, rules}
+use Rattle.std.proofs.Common.{◌≡◌, ◌<◌, true, false, length, sym, ap, ◌∙◌, arith, rules}
 use Rattle.patch_filters.specs.Grepped.{content, test_of}
 use Rattle.patch_filters.proofs.Rows.{found}
 use Rattle.patch_filters.proofs.Searching.{none-more, none-there, some-here}

@@ -1,5 +1,5 @@
-use Rattle.std.proofs.Common.{◌≡◌, ◌<◌, Bool, true, false, length, sym, ap, ◌∙◌, arith, rules}
-use Rattle.patch_filters.specs.Grepped.{content, test_of}
+use Rattle.std.proofs.Common.{◌≡◌, ◌<◌, true, false, length, sym, ◌∙◌, arith, rules}
+use Rattle.patch_filters.specs.Grepped.{test_of}
 use Rattle.patch_filters.proofs.Rows.{found}
 use Rattle.patch_filters.proofs.Searching.{none-more, none-there, some-here}
 use Rattle.patch_filters.proofs.Hits.{edit-count, edit-flag, edit_flags, edits-any}
