@@ -1,0 +1,154 @@
+"""The processor time of the checks that rt starts, by samples of /proc, since `rt ci` prints none; and the ledger that keeps it, build/times.json."""
+import json
+import os
+import re
+import time
+
+LEDGER = "build/times.json"
+# What a crate may cost, in seconds of one processor (docs/PROOFS.md).
+MOST = {"proof": 180, "tests": 90, "edits": 120}
+TICKS = os.sysconf("SC_CLK_TCK")
+
+
+class Watch:
+    """The processes that rt has started: of which crate each check is, what for, and the processor time that it has taken."""
+
+    def __init__(self, rt):
+        self.rt, self.seconds, self.of, self.ended, self.seeds = rt, {}, {}, set(), set()
+
+    def look(self):
+        """Looks once, and returns the checks that are seen for the first time, as crate and kind."""
+        parents, ticks, begun, new = {}, {}, {}, []
+        for pid in filter(str.isdigit, os.listdir("/proc")):
+            try:
+                with open(f"/proc/{pid}/stat", encoding="utf-8", errors="replace") as file:
+                    said = file.read().rpartition(")")[2].split()
+            except OSError:
+                continue
+            parents[int(pid)] = int(said[1])
+            # (with the children that have ended)
+            ticks[int(pid)], begun[int(pid)] = sum(map(int, said[11:15])), said[19]
+        taken = {}
+        for pid in parents:
+            top = pid
+            while parents.get(top, self.rt) != self.rt:
+                top = parents[top]
+            if parents.get(top) == self.rt:
+                # (a number alone may come again)
+                key = top, begun[top]
+                taken[key] = taken.get(key, 0) + ticks[pid] / TICKS
+        for key, seconds in taken.items():
+            told = None if key in self.of else self.tell(key[0])
+            if told:
+                self.of[key] = told
+                new.append(told)
+            self.seconds[key] = max(seconds, self.seconds.get(key, 0))
+        self.ended |= {key for key in self.of if key not in taken}
+        return new
+
+    def tell(self, pid):
+        """Returns the crate of a check and what it is for, if the process is one."""
+        try:
+            with open(f"/proc/{pid}/cmdline", "rb") as file:
+                words = file.read().decode(errors="replace").split("\0")
+            place = os.path.basename(os.readlink(f"/proc/{pid}/cwd"))
+        except OSError:
+            return None
+        if "--crate-name" not in words:
+            return None
+        name = words[words.index("--crate-name") + 1]
+        if not place.startswith("rt-edit-"):
+            return name, "tests" if "--test" in words else "proof"
+        over = words[words.index("--incremental") + 1] if "--incremental" in words else ""
+        room, number = os.path.split(over)
+        if number != "seed":
+            # (one with no --incremental is tried from nothing)
+            self.seeds.add(room)
+            return name, "edit"
+        return name, "last" if room in self.seeds else "seed"
+
+    def sums(self):
+        """Returns, by crate and kind, the seconds of the checks that have ended, and how many they were."""
+        found = {}
+        for key in self.ended:
+            name, kind = self.of[key]
+            seconds, number = found.setdefault(name, {}).get(kind, (0, 0))
+            found[name][kind] = round(seconds + self.seconds[key], 1), number + 1
+        return found
+
+
+def looked(watch, begins=lambda told: None):
+    """Looks once. A look that fails costs nothing but times."""
+    try:
+        for told in watch.look():
+            begins(told)
+    except (OSError, ValueError, IndexError, KeyError):
+        pass
+
+
+def follow(run, watch):
+    """Looks twice a second until the run has ended, and returns what it took."""
+    while True:
+        looked(watch)
+        pid, status, took = os.wait4(run.pid, os.WNOHANG)
+        if pid:
+            run.returncode = os.WEXITSTATUS(status) if os.WIFEXITED(status) else 128 + os.WTERMSIG(status)
+            watch.ended |= {*watch.of}
+            return took
+        time.sleep(0.5)
+
+
+def note(watch, run, begun):
+    """Writes what this run took into the ledger. What it didn't prove keeps the times of the run that did."""
+    ledger = read_ledger()
+    for name, kinds in watch.sums().items():
+        of = ledger["crates"].setdefault(name, {})
+        if {"seed", "edit", "last"} & {*kinds}:
+            of = {kind: it for kind, it in of.items() if kind in ("proof", "tests")}
+        ledger["crates"][name] = {**of, **kinds}
+    ledger["run"] = {"minutes": (time.time() - begun) / 60, "processor": (run.ru_utime + run.ru_stime) / 60, "at": time.strftime("%Y-%m-%d %H:%M")}
+    ledger["run"]["noted"] = sum(watch.seconds[it] for it in watch.ended) / 60
+    os.makedirs("build", exist_ok=True)
+    with open(f"{LEDGER}.new", "w", encoding="utf-8") as file:
+        json.dump(ledger, file, indent=1)
+    os.replace(f"{LEDGER}.new", LEDGER)
+
+
+def read_ledger():
+    try:
+        with open(LEDGER, encoding="utf-8") as file:
+            return json.load(file)
+    except (OSError, ValueError):
+        return {"crates": {}}
+
+
+def clock(seconds):
+    return f"{int(seconds) // 60}:{int(seconds) % 60:02}" if seconds else "-"
+
+
+def times():
+    """Prints the ledger."""
+    ledger = read_ledger()
+    if not ledger["crates"]:
+        print("no times are noted yet: make test and make note them, of what they prove")
+        return 1
+    with open("crates.txt", encoding="utf-8") as file:
+        listed = re.findall(r"(?m)^\s*(\w+)[^#\n]*:", file.read())
+    table = {}
+    for name, kinds in ledger["crates"].items():
+        if name in listed:
+            of_edits = [kinds.get(it, (0, 0)) for it in ("seed", "edit", "last")]
+            table[name] = [kinds.get(it, (0, 0))[0] for it in ("proof", "tests")] + [seconds for seconds, _ in of_edits] + [of_edits[1][1]]
+    print("Processor time in minutes and seconds, as each was proved last; * is above what docs/PROOFS.md allows.\n")
+    print(f"{'crate':20}{'proof':>8}{'tests':>8}{'edits':>8}{'sum':>9}    of the edits: before them, themselves, after them")
+    total = [0] * 5
+    for name, row in sorted(table.items(), key=lambda it: -sum(it[1][:5])):
+        total = [one + other for one, other in zip(total, row)]
+        costs = zip((row[0], row[1], sum(row[2:5])), MOST.values())
+        line = "".join(f"{clock(cost):>7}{'*' if cost > most else ' '}" for cost, most in costs)
+        tried = f"    {clock(row[2])}  {clock(row[3])} ({row[5]})  {clock(row[4])}" if sum(row[2:5]) else ""
+        print(f"{name:20}{line}{clock(sum(row[:5])):>8}{tried}")
+    print(f"{'all':20}{clock(total[0]):>7} {clock(total[1]):>7} {clock(sum(total[2:])):>7} {clock(sum(total)):>8}")
+    run = ledger["run"]
+    print(f"\nThe last run ({run['at']}): {run['minutes']:.0f} minutes, {run['processor']:.0f} processor minutes, of which {run['noted']:.0f} for checks.")
+    return 0
