@@ -1,11 +1,12 @@
 //! A set of file patches.
-ghost use Rattle.std.specs.Prelude.{◌≡◌, ◌<◌, ◌^◌, [], IfOk, All, length, slice_index_or};
+ghost use Rattle.std.specs.Prelude.{◌≡◌, ◌<◌, ◌^◌, [], IfOk, All, length, replicate, slice_index_or};
 ghost use Rattle.std.specs.Option.{ForSome, option_copied};
+ghost use Rattle.hunk_core.specs.declared.Verdict.TheVariants.{Untried};
 ghost use Rattle.file_patch.specs.Absent.{IsLawfulPatch};
 ghost use Rattle.file_patch.specs.PlainPatch.{header_of};
 ghost use Rattle.patch_set.specs.PlainName.{plain_name};
 ghost use Rattle.patch_set.specs.Spans.{ArePlaced};
-ghost use Rattle.patch_set.specs.SetView.{IsFresh, IsWhole, hunks_in, patch_at, with_row, with_verdicts};
+ghost use Rattle.patch_set.specs.SetView.{IsFresh, IsWhole, first_row, hunks_in, patch_at, with_row, with_verdicts};
 
 use crate::header_name::plain_name;
 use crate::names::Named;
@@ -132,13 +133,8 @@ pub fn untried(alloc: Global, text: Vec<u8>, named: Named) -> Result<PatchSet, A
     ensures fresh { IfOk result IsFresh }
     ensures whole { IfOk result IsWhole }
 {
-    let verdicts = vec![in alloc; Verdict::Untried; hunks_in(&named.patches)]?;
-    let first = Row {
-        side: Side::Forward,
-        target: None,
-        wrote: false,
-    };
-    let rows = vec![in alloc; first; named.patches.len()]?;
+    let verdicts = untried_hunks(alloc, hunks_in(&named.patches))?;
+    let rows = first_rows(alloc, named.patches.len())?;
     Ok(PatchSet {
         text,
         patches: named.patches,
@@ -146,6 +142,25 @@ pub fn untried(alloc: Global, text: Vec<u8>, named: Named) -> Result<PatchSet, A
         verdicts,
         rows,
     })
+}
+
+/// A verdict for each of so many hunks.
+fn untried_hunks(alloc: Global, count: usize) -> Result<Vec<Verdict>, AllocError>
+    ensures { IfOk result (λ verdicts. verdicts.items ≡ replicate count Untried) }
+{
+    vec![in alloc; Verdict::Untried; count]
+}
+
+/// A row for each of so many file patches.
+fn first_rows(alloc: Global, count: usize) -> Result<Vec<Row>, AllocError>
+    ensures { IfOk result (λ rows. rows.items ≡ replicate count first_row) }
+{
+    let first = Row {
+        side: Side::Forward,
+        target: None,
+        wrote: false,
+    };
+    vec![in alloc; first; count]
 }
 
 /// How many hunks the file patches have, an ed script counting as one.
