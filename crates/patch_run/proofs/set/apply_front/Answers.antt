@@ -1,0 +1,58 @@
+use Rattle.std.proofs.Common.{◌≡◌, ◌⊎◌, ◌++◌, ℕ, List, [], length, take, drop, replicate, Some, IfOk, sym, ◌∙◌, ap, subst, arith, length-append, length-drop}
+use Rattle.std.proofs.lemmas.List.{take_at, drop_at, length-take}
+use Rattle.hunk_core.specs.declared.Verdict.{Verdict}
+use Rattle.hunk_core.specs.declared.Verdict.TheVariants.{Ignored}
+use Rattle.hunk_apply.specs.Change.{change_verdicts}
+use Rattle.file_patch.specs.PlainPatch.{row_count}
+use Rattle.patch_run.specs.Doing.{Does}
+use Rattle.patch_run.specs.OnePatch.{ending}
+use Rattle.patch_run.specs.TurnView.{plain_turn}
+use Rattle.patch_run.proofs.Marks.{rows-counted}
+use Rattle.patch_run.proofs.set.apply_front.Goals as goal
+
+pub returns-clause-does : goal.returns-clause-does
+returns-clause-does g c =
+    let n = row_count c.args.turn.now.patch.now.change in
+    let is : c.hunks-count.result ≡ n = c.hunks-count.ensures [] ∙ rows-counted [] c.args.turn.now.patch.now.change in
+    let ws = c.apply_one.new.verdicts in
+    let long : length ws ≡ n = omega (arith, c.apply_one.ensures.rows, length-take c.hunks-count.result c.args.verdicts.now, is, c.requires.rows) in
+    subst (λ (l : List Verdict). Does (g.T.Tree.view c.args.tree.now) (g.T.Tree.view c.apply_one.new.tree) (g.P.LineStore.seen c.args.plan.now) (g.P.LineStore.seen c.apply_one.new.plan) (g.O.Sink.view c.args.out.now) (g.O.Sink.view c.apply_one.new.out) g.P.Plan.scratch_after c.apply_one.result l (ending (plain_turn c.args.turn.now)))
+    (sym (take_at ws (drop c.hunks-count.result c.args.verdicts.now) n long))
+    c.apply_one.ensures.does
+
+pub returns-clause-behind : goal.returns-clause-behind
+returns-clause-behind g c =
+    let n = row_count c.args.turn.now.patch.now.change in
+    let is : c.hunks-count.result ≡ n = c.hunks-count.ensures [] ∙ rows-counted [] c.args.turn.now.patch.now.change in
+    let ws = c.apply_one.new.verdicts in
+    let long : length ws ≡ n = omega (arith, c.apply_one.ensures.rows, length-take c.hunks-count.result c.args.verdicts.now, is, c.requires.rows) in
+    drop_at ws (drop c.hunks-count.result c.args.verdicts.now) n long ∙ ap (λ k. drop k c.args.verdicts.now) is
+
+pub returns-clause-verdicts : goal.returns-clause-verdicts
+returns-clause-verdicts g c =
+    let n = row_count c.args.turn.now.patch.now.change in
+    let is : c.hunks-count.result ≡ n = c.hunks-count.ensures [] ∙ rows-counted [] c.args.turn.now.patch.now.change in
+    let rest = drop c.hunks-count.result c.args.verdicts.now in
+    omega (arith, length-append c.apply_one.new.verdicts rest, length-drop c.hunks-count.result c.args.verdicts.now, c.apply_one.ensures.rows, length-take c.hunks-count.result c.args.verdicts.now, is, c.requires.rows)
+
+pub returns-clause-rest : goal.returns-clause-rest
+returns-clause-rest g c = c.apply_one.ensures.rest
+
+pub returns-clause-dry : goal.returns-clause-dry
+returns-clause-dry g c = c.apply_one.ensures.dry
+
+pub returns-clause-few : goal.returns-clause-few
+returns-clause-few g c = c.apply_one.ensures.few
+
+pub returns-clause-placed : goal.returns-clause-placed
+returns-clause-placed g c =
+    let n = row_count c.args.turn.now.patch.now.change in
+    let count = c.hunks-count.result in
+    let is : count ≡ n = c.hunks-count.ensures [] ∙ rows-counted [] c.args.turn.now.patch.now.change in
+    let ws = c.apply_one.new.verdicts in
+    let own : length (take count c.args.verdicts.now) ≡ n = omega (arith, length-take count c.args.verdicts.now, is, c.requires.rows) in
+    let o = c.args.turn.now.options.now in
+    let placed : List Verdict → ℕ → Type 0 = λ l m. IfOk c.apply_one.result (λ done. (lines : List (List ℕ)) → (g.P.LineStore.seen c.apply_one.new.plan).told ≡ Some lines
+    → (l ≡ replicate m Ignored) ⊎ (l ≡ change_verdicts lines o.fuzz o.loose done.row.side (plain_turn c.args.turn.now).item.patch.change)) in
+    subst (λ (l : List Verdict). placed l n) (sym (take_at ws (drop count c.args.verdicts.now) n (c.apply_one.ensures.rows ∙ own)))
+    (subst (λ (m : ℕ). placed ws m) own c.apply_one.ensures.placed)
