@@ -141,3 +141,21 @@ returns-clause-runs g c =
     let same : length c.loop-k.set.patches ≡ length c.args.set.now.patches = ap (λ (l : List FilePatch). length l) inv.same.patches in
     let all : c.loop-k.k ≡ length c.loop-k.set.patches = omega (arith, c.loop-k-test.false, same, ap (λ (l : List FilePatch). length l) c.patches.ensures.patches) in
     runs_all (plain_options c.args.options.now) c.args.set.now c.loop-k.set c.loop-k.k c.loop-k.verdicts all inv.same inv.at c.new.result inv.goes
+
+pub returns-clause-cut : goal.returns-clause-cut
+returns-clause-cut g c = tt
+
+pub returns-clause-rest : goal.returns-clause-rest
+returns-clause-rest g c = c.loop-k.invariant.rest
+
+pub returns-clause-dry : goal.returns-clause-dry
+returns-clause-dry g c = c.loop-k.invariant.dry
+
+pub returns-clause-set : goal.returns-clause-set
+returns-clause-set g c = c.loop-k.invariant.same
+
+pub returns-in_err-done-clause-rest : goal.returns-in_err-done-clause-rest
+returns-in_err-done-clause-rest g c = g.met.O.Sink.rest_both _ _ _ c.loop-k.invariant.rest c.in_err-done.ensures.rest
+
+pub returns-in_err-done-clause-set : goal.returns-in_err-done-clause-set
+returns-in_err-done-clause-set g c = c.loop-k.invariant.same

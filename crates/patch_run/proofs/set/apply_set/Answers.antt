@@ -1,11 +1,13 @@
-use Rattle.std.proofs.Common.{[], IfErr, sym, subst}
+use Rattle.std.proofs.Common.{◌≡◌, ◌++◌, ℕ, List, [], length, take, drop, Some, IfErr, IfOk, OnOk, sym, ◌∙◌, ap, subst, arith}
+use Rattle.std.proofs.lemmas.Grind.{common_steps}
+use Rattle.hunk_core.specs.declared.Verdict.{Verdict}
 use Rattle.outside.specs.Files.{Files}
 use Rattle.patch_options.specs.PlainJob.{plain_options}
 use Rattle.patch_set.specs.SetView.{SetView, IsRead}
 use Rattle.patch_run.specs.declared.fault.RunFault.{RunFault}
 use Rattle.patch_run.specs.Devices.{Told}
 use Rattle.patch_run.specs.Run.{items_of, set_run}
-use Rattle.patch_run.specs.Doing.{Runs, IsCutAt}
+use Rattle.patch_run.specs.Doing.{Runs, IsCutAt, IsReceipt, IsPlacedLast}
 use Rattle.patch_run.proofs.Ready.{read_still}
 use Rattle.patch_run.proofs.RunEnds.{ends_so}
 use Rattle.patch_run.proofs.set.apply_set.Goals as goal
@@ -33,3 +35,50 @@ returns-clause-cut g c =
 
 pub returns-clause-complete : goal.returns-clause-complete
 returns-clause-complete g c f told none = ends_so c.apply_all-applied.result (returns-clause-runs g c) f told none
+
+pub returns-clause-receipt : goal.returns-clause-receipt
+returns-clause-receipt g c =
+    let o = plain_options c.args.options.now in
+    let v = c.args.set.now in
+    let ended = c.apply_all-applied.result in
+    let new = c.apply_all-applied.new in
+    let vec = c.take_verdicts-verdicts.result in
+    let same : take vec.len (new.verdicts ++ drop (length new.verdicts) vec.items) ≡ new.verdicts = grind (arith, common_steps) in
+    subst (λ (s : SetView). IfOk ended (λ applied. (f : Files) → Told (g.T.Tree.view c.args.tree.now) (g.P.LineStore.seen c.args.plan.now) f → IsReceipt (set_run o v f) applied (length v.patches) s.verdicts s.rows))
+    (sym c.give_verdicts.ensures)
+    (subst (λ (l : List Verdict). IfOk ended (λ applied. (f : Files) → Told (g.T.Tree.view c.args.tree.now) (g.P.LineStore.seen c.args.plan.now) f → IsReceipt (set_run o v f) applied (length v.patches) l new.set.rows))
+    (sym same)
+    (subst (λ (s : SetView). IfOk ended (λ applied. (f : Files) → Told (g.T.Tree.view c.args.tree.now) (g.P.LineStore.seen c.args.plan.now) f → IsReceipt (set_run o s f) applied (length s.patches) new.verdicts new.set.rows))
+    c.take_verdicts-verdicts.ensures.left
+    c.apply_all-applied.ensures.receipt))
+
+pub returns-clause-done : goal.returns-clause-done
+returns-clause-done g c = subst (λ (s : SetView). IfOk c.apply_all-applied.result (λ applied. applied.done ≡ length s.patches)) c.take_verdicts-verdicts.ensures.left c.apply_all-applied.ensures.done
+
+pub returns-clause-rest : goal.returns-clause-rest
+returns-clause-rest g c = c.apply_all-applied.ensures.rest
+
+pub returns-clause-dry : goal.returns-clause-dry
+returns-clause-dry g c = c.apply_all-applied.ensures.dry
+
+pub returns-clause-set : goal.returns-clause-set
+returns-clause-set g c =
+    let stays = c.apply_all-applied.ensures.set in
+    let left = c.take_verdicts-verdicts.ensures.left in
+    record {
+      text = ap (λ (s : SetView). s.text) c.give_verdicts.ensures ∙ stays.text ∙ ap (λ (s : SetView). s.text) left;
+      patches = ap (λ (s : SetView). s.patches) c.give_verdicts.ensures ∙ stays.patches ∙ ap (λ (s : SetView). s.patches) left;
+      output = ap (λ (s : SetView). s.output) c.give_verdicts.ensures ∙ stays.output ∙ ap (λ (s : SetView). s.output) left;
+    }
+
+pub returns-clause-placed : goal.returns-clause-placed
+returns-clause-placed g c =
+    let o = plain_options c.args.options.now in
+    let new = c.apply_all-applied.new in
+    let vec = c.take_verdicts-verdicts.result in
+    let same : take vec.len (new.verdicts ++ drop (length new.verdicts) vec.items) ≡ new.verdicts = grind (arith, common_steps) in
+    subst (λ (s : SetView). OnOk c.apply_all-applied.result ((lines : List (List ℕ)) → (g.P.LineStore.seen new.plan).told ≡ Some lines → IsPlacedLast o s s.verdicts lines))
+    (sym c.give_verdicts.ensures)
+    (subst (λ (l : List Verdict). OnOk c.apply_all-applied.result ((lines : List (List ℕ)) → (g.P.LineStore.seen new.plan).told ≡ Some lines → IsPlacedLast o new.set l lines))
+    (sym same)
+    c.apply_all-applied.ensures.placed)
