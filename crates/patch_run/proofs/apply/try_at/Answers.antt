@@ -1,7 +1,9 @@
-use Rattle.std.proofs.Common.{◌≡◌, inl, [], Some, true, sym, ◌∙◌, ap, subst}
+use Rattle.std.proofs.Common.{◌≡◌, inl, [], Some, true, sym, ◌∙◌, ap, subst, arith}
 use Rattle.std.proofs.lemmas.Option.{same_Some}
 use Rattle.outside.specs.Files.{Files}
 use Rattle.outside.specs.Calls.{IsUntouched, untouched_none}
+use Rattle.hunk_apply.specs.Change.{change_verdicts}
+use Rattle.patch_set.specs.declared.set.Row.{Row}
 use Rattle.target_names.specs.declared.derived.Target.{Target}
 use Rattle.patch_run.specs.declared.fault.RunFault.{RunFault}
 use Rattle.patch_run.specs.OnePatch.{bytes_of, lines_in, effects_of, tried, tried_said, finished, finished_at}
@@ -115,3 +117,50 @@ returns-clause-tidy g c =
     let made = c.in_ok-made.ensures in
     attempt_tidy (view c.args.tree.now) (view c.try_hunks.new.tree) (view c.tell_and_make.new.tree) c.args.turn.now.options.now.dry_run c.written-target.result.now.temp
     (λ dry. subst (λ s. IsTidy (view s) (view c.tell_and_make.new.tree)) (c.in_ok-attempt.ensures.dry dry) made.tidy) made.gone c.in_ok-attempt.ensures.works made.tidy
+
+pub returns-in_err-attempt-clause-keeps : goal.returns-in_err-attempt-clause-keeps
+returns-in_err-attempt-clause-keeps g c = c.in_err-attempt.ensures.keeps
+
+pub returns-in_err-attempt-clause-rows : goal.returns-in_err-attempt-clause-rows
+returns-in_err-attempt-clause-rows g c = c.in_err-attempt.ensures.rows
+
+pub returns-in_err-attempt-clause-rest : goal.returns-in_err-attempt-clause-rest
+returns-in_err-attempt-clause-rest g c = g.met.O.Sink.rest_none _
+
+pub returns-in_err-made-clause-keeps : goal.returns-in_err-made-clause-keeps
+returns-in_err-made-clause-keeps g c = c.in_ok-attempt.ensures.keeps
+
+pub returns-in_err-made-clause-rows : goal.returns-in_err-made-clause-rows
+returns-in_err-made-clause-rows g c = c.in_ok-attempt.ensures.rows
+
+pub returns-in_err-made-clause-rest : goal.returns-in_err-made-clause-rest
+returns-in_err-made-clause-rest g c = c.in_err-made.ensures.rest
+
+pub returns-clause-cause : goal.returns-clause-cause
+returns-clause-cause g c = tt
+
+pub returns-clause-broken : goal.returns-clause-broken
+returns-clause-broken g c = tt
+
+pub returns-clause-order : goal.returns-clause-order
+returns-clause-order g c = tt
+
+pub returns-clause-keeps : goal.returns-clause-keeps
+returns-clause-keeps g c = c.in_ok-attempt.ensures.keeps
+
+pub returns-clause-rows : goal.returns-clause-rows
+returns-clause-rows g c = c.in_ok-attempt.ensures.rows
+
+pub returns-clause-rest : goal.returns-clause-rest
+returns-clause-rest g c = c.in_ok-made.ensures.rest
+
+pub returns-clause-quiet : goal.returns-clause-quiet
+returns-clause-quiet g c = c.in_ok-made.ensures.quiet
+
+pub returns-clause-few : goal.returns-clause-few
+returns-clause-few g c = omega (arith, c.done_of.ensures.effects, c.in_ok-made.ensures.few)
+
+pub returns-clause-placed : goal.returns-clause-placed
+returns-clause-placed g c lines told =
+    c.in_ok-attempt.ensures.verdicts lines (sym c.in_ok-attempt.ensures.keeps.told ∙ told)
+    ∙ ap (λ (r : Row). change_verdicts lines c.args.turn.now.options.now.fuzz c.args.turn.now.options.now.loose r.side (plain_turn c.args.turn.now).item.patch.change) (sym c.done_of.ensures.row)

@@ -4,7 +4,7 @@ use Rattle.patch_options.specs.PlainJob.{plain_options}
 use Rattle.say_text.specs.Messages.{silenced, reversed_line}
 use Rattle.patch_run.specs.OnePatch.{on_direction, lines_in}
 use Rattle.patch_run.specs.TurnView.{plain_turn}
-use Rattle.patch_run.proofs.Deciding.{weighs_stops, direction-said}
+use Rattle.patch_run.proofs.Deciding.{weighs_fails, weighs_stops, direction-said}
 use Rattle.patch_run.proofs.weighing.direct.Goals as goal
 
 pub returns-in_err-say_reversed-clause-weighs : goal.returns-in_err-say_reversed-clause-weighs
@@ -17,3 +17,14 @@ returns-in_err-say_reversed-clause-weighs g c =
     (sym (c.in_ok-is_reversed.ensures.value (lines_in bytes) holds.0) ∙ c.if-not-branch.false)
     ∙ ap (λ turned. silenced (plain_options c.args.turn.now.options.now) (reversed_line turned)) (sym c.turns-is_turned.ensures)
     ∙ sym (append-nil (silenced (plain_options c.args.turn.now.options.now) (reversed_line c.turns-is_turned.result))))
+
+pub returns-in_err-is_reversed-clause-weighs : goal.returns-in_err-is_reversed-clause-weighs
+returns-in_err-is_reversed-clause-weighs g c =
+    weighs_fails c.args.there c.in_err-is_reversed.field-0.0 c.from_residual.result (λ bytes. on_direction (plain_turn c.args.turn.now) c.args.place bytes c.args.was_turned c.args.side)
+    c.from_residual.ensures.1 c.in_err-is_reversed.ensures.keeps c.in_err-is_reversed.ensures.cause
+
+pub returns-in_err-is_reversed-clause-rest : goal.returns-in_err-is_reversed-clause-rest
+returns-in_err-is_reversed-clause-rest g c = g.met.O.Sink.rest_none _
+
+pub returns-in_err-say_reversed-clause-rest : goal.returns-in_err-say_reversed-clause-rest
+returns-in_err-say_reversed-clause-rest g c = c.in_err-say_reversed.ensures.rest

@@ -38,3 +38,21 @@ returns-then-turn-clause-weighs g c =
     c.direct-then-turn.ensures.weighs
     (λ bytes holds. prereq-warns (plain_turn c.args.turn.now) c.args.place bytes c.args.was_turned c.args.side
     (sym (c.in_ok-lacks_word.ensures.value bytes holds) ∙ c.if-not-branch.false) c.if-turn.true)
+
+pub returns-in_err-lacks_word-clause-rest : goal.returns-in_err-lacks_word-clause-rest
+returns-in_err-lacks_word-clause-rest g c = g.met.O.Sink.rest_none _
+
+pub returns-in_err-say_prereq-clause-rest : goal.returns-in_err-say_prereq-clause-rest
+returns-in_err-say_prereq-clause-rest g c = c.in_err-say_prereq.ensures.rest
+
+pub returns-then-not-branch-clause-rest : goal.returns-then-not-branch-clause-rest
+returns-then-not-branch-clause-rest g c = c.direct.ensures.rest
+
+pub returns-then-not-branch-clause-within : goal.returns-then-not-branch-clause-within
+returns-then-not-branch-clause-within g c = c.direct.ensures.within
+
+pub returns-then-turn-clause-rest : goal.returns-then-turn-clause-rest
+returns-then-turn-clause-rest g c = g.met.O.Sink.rest_both _ _ _ c.in_ok-say_prereq.ensures.rest c.direct-then-turn.ensures.rest
+
+pub returns-then-turn-clause-within : goal.returns-then-turn-clause-within
+returns-then-turn-clause-within g c = c.direct-then-turn.ensures.within
