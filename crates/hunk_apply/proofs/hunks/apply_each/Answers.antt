@@ -14,12 +14,13 @@ use Rattle.hunk_apply.specs.Session.{IsTried, body_lines}
 use Rattle.hunk_apply.specs.Splice.{Edit, all_edits, hunk_edits, spliced_from}
 use Rattle.hunk_apply.specs.Written.{Wrote, is_nothing}
 use Rattle.hunk_apply.proofs.CopyLemmas.{copied, copied-part}
-use Rattle.hunk_apply.proofs.FaultLemmas.{on-err}
+use Rattle.hunk_apply.proofs.FaultLemmas.{on-err, if-ok-none, on-ok-none, if-err-still, apply-cause-more}
 use Rattle.hunk_apply.proofs.FoldLemmas.{verdicts-more, edits-more, verdicts-end, edits-end, edits-behind, applied-is}
 use Rattle.hunk_apply.proofs.RowLemmas.{tried-more, others-more}
 use Rattle.hunk_apply.proofs.SpliceLemmas.{nothing-left}
 use Rattle.hunk_apply.proofs.WrittenLemmas.{wrote-none, wrote-both, wrote-same, wrote-whole, wrote-nothing, part-after, part-same, part-whole}
 use Rattle.hunk_apply.proofs.hunks.apply_each.Given as given
+use Rattle.hunk_apply.specs.Faults.{HasApplyCause}
 use Rattle.hunk_apply.proofs.hunks.apply_each.Goals as goal
 
 abbrev first : Tail
@@ -179,3 +180,103 @@ returns-clause-output_empty g c lines told =
     let all : List (List ℕ) = spliced_from lines (all_edits (spots lines c.args.fuzz c.args.loose at_start hunks) hunks) 1 in
     c.session_of.ensures.nothing ∙ wrote-nothing (view c.args.out.now) (view c.copy_lines.new.out) first c.in_ok-end.end all (wholly g c lines told) refl refl
     ∙ ap is_nothing (applied-is lines c.args.fuzz c.args.loose hunks)
+
+pub returns-in_err-step-clause-applied : goal.returns-in_err-step-clause-applied
+returns-in_err-step-clause-applied g c = if-ok-none _ _ c.from_residual.result c.from_residual.ensures.1
+
+pub returns-in_err-step-clause-failed : goal.returns-in_err-step-clause-failed
+returns-in_err-step-clause-failed g c = if-ok-none _ _ c.from_residual.result c.from_residual.ensures.1
+
+pub returns-in_err-step-clause-inexact : goal.returns-in_err-step-clause-inexact
+returns-in_err-step-clause-inexact g c = if-ok-none _ _ c.from_residual.result c.from_residual.ensures.1
+
+pub returns-in_err-step-clause-output_empty : goal.returns-in_err-step-clause-output_empty
+returns-in_err-step-clause-output_empty g c = if-ok-none _ _ c.from_residual.result c.from_residual.ensures.1
+
+pub returns-in_err-step-clause-placed : goal.returns-in_err-step-clause-placed
+returns-in_err-step-clause-placed g c = on-ok-none _ _ c.from_residual.result c.from_residual.ensures.1
+
+pub returns-in_err-step-clause-tried : goal.returns-in_err-step-clause-tried
+returns-in_err-step-clause-tried g c = on-ok-none _ _ c.from_residual.result c.from_residual.ensures.1
+
+pub returns-in_err-step-clause-received : goal.returns-in_err-step-clause-received
+returns-in_err-step-clause-received g c = on-ok-none _ _ c.from_residual.result c.from_residual.ensures.1
+
+pub returns-in_err-step-clause-keeps : goal.returns-in_err-step-clause-keeps
+returns-in_err-step-clause-keeps g c = keeps-more (g.S.LineStore.seen c.args.store.now) (g.S.LineStore.seen c.loop-j.store) (g.S.LineStore.seen c.apply_hunk.new.store) c.loop-j.invariant.keeps c.in_err-step.ensures.keeps
+
+pub returns-in_err-step-clause-sink : goal.returns-in_err-step-clause-sink
+returns-in_err-step-clause-sink g c = sink_passes_both c.loop-j.invariant.sink c.in_err-step.ensures.sink
+
+pub returns-in_err-step-clause-rest : goal.returns-in_err-step-clause-rest
+returns-in_err-step-clause-rest g c = g.met.O.Sink.rest_both _ _ _ c.loop-j.invariant.rest c.in_err-step.ensures.rest
+
+pub returns-in_err-step-clause-cause : goal.returns-in_err-step-clause-cause
+returns-in_err-step-clause-cause g c =
+    let a = g.S.LineStore.seen c.args.store.now in
+    let b = g.S.LineStore.seen c.loop-j.store in
+    let d = g.S.LineStore.seen c.apply_hunk.new.store in
+    let u = g.O.Sink.view c.args.out.now in
+    let v = g.O.Sink.view c.loop-j.out in
+    let w = g.O.Sink.view c.apply_hunk.new.out in
+    let fault = c.in_err-step.field-0.0 in
+    if-err-still (λ e. HasApplyCause e a d u w) fault c.from_residual.result c.from_residual.ensures.1 (apply-cause-more fault a b d u v w c.loop-j.invariant.keeps c.loop-j.invariant.sink c.in_err-step.ensures.cause)
+
+pub returns-in_err-end-clause-applied : goal.returns-in_err-end-clause-applied
+returns-in_err-end-clause-applied g c = if-ok-none _ _ c.from_residual-in_err-end.result c.from_residual-in_err-end.ensures.1
+
+pub returns-in_err-end-clause-failed : goal.returns-in_err-end-clause-failed
+returns-in_err-end-clause-failed g c = if-ok-none _ _ c.from_residual-in_err-end.result c.from_residual-in_err-end.ensures.1
+
+pub returns-in_err-end-clause-inexact : goal.returns-in_err-end-clause-inexact
+returns-in_err-end-clause-inexact g c = if-ok-none _ _ c.from_residual-in_err-end.result c.from_residual-in_err-end.ensures.1
+
+pub returns-in_err-end-clause-output_empty : goal.returns-in_err-end-clause-output_empty
+returns-in_err-end-clause-output_empty g c = if-ok-none _ _ c.from_residual-in_err-end.result c.from_residual-in_err-end.ensures.1
+
+pub returns-in_err-end-clause-placed : goal.returns-in_err-end-clause-placed
+returns-in_err-end-clause-placed g c = on-ok-none _ _ c.from_residual-in_err-end.result c.from_residual-in_err-end.ensures.1
+
+pub returns-in_err-end-clause-tried : goal.returns-in_err-end-clause-tried
+returns-in_err-end-clause-tried g c = on-ok-none _ _ c.from_residual-in_err-end.result c.from_residual-in_err-end.ensures.1
+
+pub returns-in_err-end-clause-received : goal.returns-in_err-end-clause-received
+returns-in_err-end-clause-received g c = on-ok-none _ _ c.from_residual-in_err-end.result c.from_residual-in_err-end.ensures.1
+
+pub returns-in_err-end-clause-keeps : goal.returns-in_err-end-clause-keeps
+returns-in_err-end-clause-keeps g c = keeps-more (g.S.LineStore.seen c.args.store.now) (g.S.LineStore.seen c.loop-j.store) (g.S.LineStore.seen c.copy_lines.new.store) c.loop-j.invariant.keeps c.in_err-end.ensures.keeps
+
+pub returns-in_err-end-clause-sink : goal.returns-in_err-end-clause-sink
+returns-in_err-end-clause-sink g c = sink_passes_both c.loop-j.invariant.sink c.in_err-end.ensures.sink
+
+pub returns-in_err-end-clause-rest : goal.returns-in_err-end-clause-rest
+returns-in_err-end-clause-rest g c = g.met.O.Sink.rest_both _ _ _ c.loop-j.invariant.rest c.in_err-end.ensures.rest
+
+pub returns-in_err-end-clause-cause : goal.returns-in_err-end-clause-cause
+returns-in_err-end-clause-cause g c =
+    let a = g.S.LineStore.seen c.args.store.now in
+    let b = g.S.LineStore.seen c.loop-j.store in
+    let d = g.S.LineStore.seen c.copy_lines.new.store in
+    let u = g.O.Sink.view c.args.out.now in
+    let v = g.O.Sink.view c.loop-j.out in
+    let w = g.O.Sink.view c.copy_lines.new.out in
+    let fault = c.in_err-end.field-0.0 in
+    if-err-still (λ e. HasApplyCause e a d u w) fault c.from_residual-in_err-end.result c.from_residual-in_err-end.ensures.1 (apply-cause-more fault a b d u v w c.loop-j.invariant.keeps c.loop-j.invariant.sink c.in_err-end.ensures.cause)
+
+pub returns-clause-part : goal.returns-clause-part
+returns-clause-part g c = tt
+
+pub returns-clause-filled : goal.returns-clause-filled
+returns-clause-filled g c = tt
+
+pub returns-clause-cause : goal.returns-clause-cause
+returns-clause-cause g c = tt
+
+pub returns-clause-keeps : goal.returns-clause-keeps
+returns-clause-keeps g c = keeps-more (g.S.LineStore.seen c.args.store.now) (g.S.LineStore.seen c.loop-j.store) (g.S.LineStore.seen c.copy_lines.new.store) c.loop-j.invariant.keeps c.in_ok-end.ensures.keeps
+
+pub returns-clause-sink : goal.returns-clause-sink
+returns-clause-sink g c = sink_passes_both c.loop-j.invariant.sink c.in_ok-end.ensures.sink
+
+pub returns-clause-rest : goal.returns-clause-rest
+returns-clause-rest g c = g.met.O.Sink.rest_both _ _ _ c.loop-j.invariant.rest c.in_ok-end.ensures.rest
