@@ -16,6 +16,7 @@ mod Applying
 mod Turning
 mod Rejecting
 mod Telling
+mod Passing
 mod Tidy
 mod DoneNone
 mod BackedUp

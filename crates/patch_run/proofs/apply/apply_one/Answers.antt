@@ -5,6 +5,7 @@ use Rattle.patch_run.specs.OnePatch.{total}
 use Rattle.patch_run.specs.TurnView.{plain_turn}
 use Rattle.patch_run.proofs.Marks.{rows-counted}
 use Rattle.patch_run.proofs.Turning.{start_fails, lines_told, skip_does, try_does}
+use Rattle.patch_run.proofs.Passing.{if_ok_none}
 use Rattle.patch_run.proofs.apply.apply_one.Goals as goal
 
 pub returns-in_err-row-clause-does : goal.returns-in_err-row-clause-does
@@ -38,3 +39,24 @@ returns-in-Skip-clause-dry g c dry = c.in_ok-row.ensures.starts.untouched
 
 pub returns-in-Try-clause-dry : goal.returns-in-Try-clause-dry
 returns-in-Try-clause-dry g c dry = untouched_both c.in_ok-row.ensures.starts.untouched (c.try_at.ensures.dry dry)
+
+pub returns-in_err-row-clause-few : goal.returns-in_err-row-clause-few
+returns-in_err-row-clause-few g c = if_ok_none _ _ c.from_residual.result c.from_residual.ensures.1
+
+pub returns-in_err-row-clause-placed : goal.returns-in_err-row-clause-placed
+returns-in_err-row-clause-placed g c = if_ok_none _ _ c.from_residual.result c.from_residual.ensures.1
+
+pub returns-in_err-row-clause-rest : goal.returns-in_err-row-clause-rest
+returns-in_err-row-clause-rest g c = c.in_err-row.ensures.rest
+
+pub returns-in-Skip-clause-rest : goal.returns-in-Skip-clause-rest
+returns-in-Skip-clause-rest g c = g.met.O.Sink.rest_both _ _ _ c.in_ok-row.ensures.rest c.skip.ensures.rest
+
+pub returns-in-Try-clause-rest : goal.returns-in-Try-clause-rest
+returns-in-Try-clause-rest g c = g.met.O.Sink.rest_both _ _ _ c.in_ok-row.ensures.rest c.try_at.ensures.rest
+
+pub returns-in-Try-clause-rows : goal.returns-in-Try-clause-rows
+returns-in-Try-clause-rows g c = c.try_at.ensures.rows
+
+pub returns-in-Try-clause-few : goal.returns-in-Try-clause-few
+returns-in-Try-clause-few g c = c.try_at.ensures.few

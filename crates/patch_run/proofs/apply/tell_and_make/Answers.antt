@@ -10,6 +10,7 @@ use Rattle.patch_run.specs.Trying.{IsBegun}
 use Rattle.patch_run.specs.Doing.{IsOutcome, IsOrdered}
 use Rattle.patch_run.proofs.Applying.{on_err, if_any, is_wet, is_dry, unmade, tell_ordered, tell_fails, tell_dry, tell_made, tell_breaks}
 use Rattle.patch_run.proofs.Tidy.{tidy_none}
+use Rattle.patch_run.proofs.Passing.{if_ok_none, on_ok_none}
 use Rattle.patch_run.proofs.apply.tell_and_make.Goals as goal
 
 pub returns-in_err-tell-clause-broken : goal.returns-in_err-tell-clause-broken
@@ -67,3 +68,45 @@ pub returns-in-None-clause-gone : goal.returns-in-None-clause-gone
 returns-in-None-clause-gone g c wet =
     let begun : IsBegun c.args.turn.now.options.now.dry_run None c.args.target.now.temp = subst (λ (o : Option Temp). IsBegun c.args.turn.now.options.now.dry_run o c.args.target.now.temp) c.in-None.is c.requires.begun in
     absurd (false≢true (sym wet ∙ is_dry c.args.turn.now.options.now.dry_run c.args.target.now.temp begun))
+
+pub returns-in_err-tell-clause-rest : goal.returns-in_err-tell-clause-rest
+returns-in_err-tell-clause-rest g c = c.in_err-tell.ensures.rest
+
+pub returns-in_err-tell-clause-quiet : goal.returns-in_err-tell-clause-quiet
+returns-in_err-tell-clause-quiet g c = on_ok_none _ _ c.from_residual.result c.from_residual.ensures.1
+
+pub returns-in_err-tell-clause-tidy : goal.returns-in_err-tell-clause-tidy
+returns-in_err-tell-clause-tidy g c = on_ok_none _ _ c.from_residual.result c.from_residual.ensures.1
+
+pub returns-in_err-tell-clause-gone : goal.returns-in_err-tell-clause-gone
+returns-in_err-tell-clause-gone g c = on_ok_none _ _ c.from_residual.result c.from_residual.ensures.1
+
+pub returns-in_err-tell-clause-whole : goal.returns-in_err-tell-clause-whole
+returns-in_err-tell-clause-whole g c = if_ok_none _ _ c.from_residual.result c.from_residual.ensures.1
+
+pub returns-in_err-tell-clause-few : goal.returns-in_err-tell-clause-few
+returns-in_err-tell-clause-few g c = if_ok_none _ _ c.from_residual.result c.from_residual.ensures.1
+
+pub returns-in-Some-clause-rest : goal.returns-in-Some-clause-rest
+returns-in-Some-clause-rest g c = c.in_ok-tell.ensures.rest
+
+pub returns-in-Some-clause-few : goal.returns-in-Some-clause-few
+returns-in-Some-clause-few g c = c.make_effects.ensures.few
+
+pub returns-in-Some-clause-tidy : goal.returns-in-Some-clause-tidy
+returns-in-Some-clause-tidy g c = c.make_effects.ensures.tidy
+
+pub returns-in-None-clause-cause : goal.returns-in-None-clause-cause
+returns-in-None-clause-cause g c = tt
+
+pub returns-in-None-clause-broken : goal.returns-in-None-clause-broken
+returns-in-None-clause-broken g c = tt
+
+pub returns-in-None-clause-order : goal.returns-in-None-clause-order
+returns-in-None-clause-order g c = tt
+
+pub returns-in-None-clause-quiet : goal.returns-in-None-clause-quiet
+returns-in-None-clause-quiet g c = c.requires.quiet
+
+pub returns-in-None-clause-rest : goal.returns-in-None-clause-rest
+returns-in-None-clause-rest g c = c.in_ok-tell.ensures.rest

@@ -6,6 +6,7 @@ use Rattle.patch_run.specs.TurnView.{plain_turn}
 use Rattle.patch_run.proofs.Making.{makes_both, makes_stops, makes_fault, makes_value}
 use Rattle.patch_run.proofs.Writing.{effects_split, effects_as, effects_count, wrote_as}
 use Rattle.patch_run.proofs.Tidy.{tidy_both}
+use Rattle.patch_run.proofs.Passing.{if_ok_none, on_ok_none}
 use Rattle.patch_run.proofs.effects.make_effects.Goals as goal
 
 abbrev came : Side → List Verdict → List ℕ → Tried
@@ -55,3 +56,33 @@ returns-clause-count g c f output told session =
 
 pub returns-clause-tidy : goal.returns-clause-tidy
 returns-clause-tidy g c = tidy_both (g.T.Tree.view c.args.tree.now) (g.T.Tree.view c.write_target.new.tree) (g.T.Tree.view c.put_rejects.new.tree) c.in_ok-made.ensures.goes.passes c.in_ok-made.ensures.tidy c.in_ok-put_rejects.ensures.tidy
+
+pub returns-in_err-made-clause-gone : goal.returns-in_err-made-clause-gone
+returns-in_err-made-clause-gone g c = on_ok_none _ _ c.from_residual.result c.from_residual.ensures.1
+
+pub returns-in_err-made-clause-wrote : goal.returns-in_err-made-clause-wrote
+returns-in_err-made-clause-wrote g c = if_ok_none _ _ c.from_residual.result c.from_residual.ensures.1
+
+pub returns-in_err-made-clause-count : goal.returns-in_err-made-clause-count
+returns-in_err-made-clause-count g c = if_ok_none _ _ c.from_residual.result c.from_residual.ensures.1
+
+pub returns-in_err-made-clause-few : goal.returns-in_err-made-clause-few
+returns-in_err-made-clause-few g c = if_ok_none _ _ c.from_residual.result c.from_residual.ensures.1
+
+pub returns-in_err-made-clause-tidy : goal.returns-in_err-made-clause-tidy
+returns-in_err-made-clause-tidy g c = on_ok_none _ _ c.from_residual.result c.from_residual.ensures.1
+
+pub returns-in_err-put_rejects-clause-gone : goal.returns-in_err-put_rejects-clause-gone
+returns-in_err-put_rejects-clause-gone g c = on_ok_none _ _ c.from_residual-in_err-put_rejects.result c.from_residual-in_err-put_rejects.ensures.1
+
+pub returns-in_err-put_rejects-clause-wrote : goal.returns-in_err-put_rejects-clause-wrote
+returns-in_err-put_rejects-clause-wrote g c = if_ok_none _ _ c.from_residual-in_err-put_rejects.result c.from_residual-in_err-put_rejects.ensures.1
+
+pub returns-in_err-put_rejects-clause-count : goal.returns-in_err-put_rejects-clause-count
+returns-in_err-put_rejects-clause-count g c = if_ok_none _ _ c.from_residual-in_err-put_rejects.result c.from_residual-in_err-put_rejects.ensures.1
+
+pub returns-in_err-put_rejects-clause-few : goal.returns-in_err-put_rejects-clause-few
+returns-in_err-put_rejects-clause-few g c = if_ok_none _ _ c.from_residual-in_err-put_rejects.result c.from_residual-in_err-put_rejects.ensures.1
+
+pub returns-in_err-put_rejects-clause-tidy : goal.returns-in_err-put_rejects-clause-tidy
+returns-in_err-put_rejects-clause-tidy g c = on_ok_none _ _ c.from_residual-in_err-put_rejects.result c.from_residual-in_err-put_rejects.ensures.1

@@ -20,3 +20,18 @@ pub returns-clause-gone : goal.returns-clause-gone
 returns-clause-gone g c =
     let w = g.T.Tree.view c.fill_begun.new.tree in
     subst (λ n. IfErr c.fill_begun.result (λ e. UnlessFailed e (IsGone w n))) c.in-Ok.ensures.name c.fill_begun.ensures.gone
+
+pub returns-clause-keeps : goal.returns-clause-keeps
+returns-clause-keeps g c = c.fill_begun.ensures.keeps
+
+pub returns-clause-session : goal.returns-clause-session
+returns-clause-session g c = c.fill_begun.ensures.session
+
+pub returns-clause-verdicts : goal.returns-clause-verdicts
+returns-clause-verdicts g c = c.fill_begun.ensures.verdicts
+
+pub returns-clause-tried : goal.returns-clause-tried
+returns-clause-tried g c = c.fill_begun.ensures.tried
+
+pub returns-clause-rows : goal.returns-clause-rows
+returns-clause-rows g c = c.fill_begun.ensures.rows
