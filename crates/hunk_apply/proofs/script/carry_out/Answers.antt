@@ -7,9 +7,10 @@ use Rattle.ed_form.specs.declared.script.EdEdit.{EdEdit}
 use Rattle.ed_form.specs.PlainEdit.{edits_of, lines_of}
 use Rattle.hunk_apply.specs.Script.{scripted}
 use Rattle.hunk_apply.specs.Written.{lines_between, join_behind}
-use Rattle.hunk_apply.proofs.FaultLemmas.{on-err, counted-still}
+use Rattle.hunk_apply.proofs.FaultLemmas.{on-err, counted-still, if-ok-none, if-err-still, apply-cause-more}
 use Rattle.hunk_apply.proofs.ScriptLemmas.{EndWithin, ends-within, begin-all, edit-begins, edit-order, edit-within, next-begin, edit-left, scripted-all, lines-left}
 use Rattle.hunk_apply.proofs.WrittenLemmas.{wrote-none, wrote-both, wrote-same, part-after, part-same}
+use Rattle.hunk_apply.specs.Faults.{HasApplyCause}
 use Rattle.hunk_apply.proofs.script.carry_out.Goals as goal
 
 pub loop-k-init : goal.loop-k-init
@@ -170,3 +171,64 @@ returns-clause-written g c lines told =
     (wrote-same (view c.loop-k.out) (view c.copy_lines.new.out) c.loop-k.now c.in_ok-end.end (lines_between lines c.loop-k.next (n + 1) ++ []) left [] []
     (lines-left text lines items c.loop-k.k c.loop-k.next n (omega arith) (omega arith) count) refl
     (c.in_ok-end.ensures.written lines (c.loop-k.invariant.keeps.told ∙ told) []))
+
+pub returns-in_err-now-clause-written : goal.returns-in_err-now-clause-written
+returns-in_err-now-clause-written g c = if-ok-none _ _ c.from_residual.result c.from_residual.ensures.1
+
+pub returns-in_err-now-clause-keeps : goal.returns-in_err-now-clause-keeps
+returns-in_err-now-clause-keeps g c = keeps-more (g.S.LineStore.seen c.args.store.now) (g.S.LineStore.seen c.loop-k.store) (g.S.LineStore.seen c.put_edit.new.store) c.loop-k.invariant.keeps c.in_err-now.ensures.keeps
+
+pub returns-in_err-now-clause-sink : goal.returns-in_err-now-clause-sink
+returns-in_err-now-clause-sink g c = sink_passes_both c.loop-k.invariant.sink c.in_err-now.ensures.sink
+
+pub returns-in_err-now-clause-rest : goal.returns-in_err-now-clause-rest
+returns-in_err-now-clause-rest g c = g.met.O.Sink.rest_both _ _ _ c.loop-k.invariant.rest c.in_err-now.ensures.rest
+
+pub returns-in_err-now-clause-cause : goal.returns-in_err-now-clause-cause
+returns-in_err-now-clause-cause g c =
+    let a = g.S.LineStore.seen c.args.store.now in
+    let b = g.S.LineStore.seen c.loop-k.store in
+    let d = g.S.LineStore.seen c.put_edit.new.store in
+    let u = g.O.Sink.view c.args.out.now in
+    let v = g.O.Sink.view c.loop-k.out in
+    let w = g.O.Sink.view c.put_edit.new.out in
+    let fault = c.in_err-now.field-0.0 in
+    if-err-still (λ e. HasApplyCause e a d u w) fault c.from_residual.result c.from_residual.ensures.1 (apply-cause-more fault a b d u v w c.loop-k.invariant.keeps c.loop-k.invariant.sink c.in_err-now.ensures.cause)
+
+pub returns-in_err-end-clause-written : goal.returns-in_err-end-clause-written
+returns-in_err-end-clause-written g c = if-ok-none _ _ c.from_residual-in_err-end.result c.from_residual-in_err-end.ensures.1
+
+pub returns-in_err-end-clause-keeps : goal.returns-in_err-end-clause-keeps
+returns-in_err-end-clause-keeps g c = keeps-more (g.S.LineStore.seen c.args.store.now) (g.S.LineStore.seen c.loop-k.store) (g.S.LineStore.seen c.copy_lines.new.store) c.loop-k.invariant.keeps c.in_err-end.ensures.keeps
+
+pub returns-in_err-end-clause-sink : goal.returns-in_err-end-clause-sink
+returns-in_err-end-clause-sink g c = sink_passes_both c.loop-k.invariant.sink c.in_err-end.ensures.sink
+
+pub returns-in_err-end-clause-rest : goal.returns-in_err-end-clause-rest
+returns-in_err-end-clause-rest g c = g.met.O.Sink.rest_both _ _ _ c.loop-k.invariant.rest c.in_err-end.ensures.rest
+
+pub returns-in_err-end-clause-cause : goal.returns-in_err-end-clause-cause
+returns-in_err-end-clause-cause g c =
+    let a = g.S.LineStore.seen c.args.store.now in
+    let b = g.S.LineStore.seen c.loop-k.store in
+    let d = g.S.LineStore.seen c.copy_lines.new.store in
+    let u = g.O.Sink.view c.args.out.now in
+    let v = g.O.Sink.view c.loop-k.out in
+    let w = g.O.Sink.view c.copy_lines.new.out in
+    let fault = c.in_err-end.field-0.0 in
+    if-err-still (λ e. HasApplyCause e a d u w) fault c.from_residual-in_err-end.result c.from_residual-in_err-end.ensures.1 (apply-cause-more fault a b d u v w c.loop-k.invariant.keeps c.loop-k.invariant.sink c.in_err-end.ensures.cause)
+
+pub returns-clause-part : goal.returns-clause-part
+returns-clause-part g c = tt
+
+pub returns-clause-cause : goal.returns-clause-cause
+returns-clause-cause g c = tt
+
+pub returns-clause-keeps : goal.returns-clause-keeps
+returns-clause-keeps g c = keeps-more (g.S.LineStore.seen c.args.store.now) (g.S.LineStore.seen c.loop-k.store) (g.S.LineStore.seen c.copy_lines.new.store) c.loop-k.invariant.keeps c.in_ok-end.ensures.keeps
+
+pub returns-clause-sink : goal.returns-clause-sink
+returns-clause-sink g c = sink_passes_both c.loop-k.invariant.sink c.in_ok-end.ensures.sink
+
+pub returns-clause-rest : goal.returns-clause-rest
+returns-clause-rest g c = g.met.O.Sink.rest_both _ _ _ c.loop-k.invariant.rest c.in_ok-end.ensures.rest
