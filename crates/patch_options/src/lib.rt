@@ -12,6 +12,3 @@ mod words;
 pub use filters::{FilterJob, ListJob, Ranges, Select};
 pub use options::{Input, Job, Options, PlanKind, WordFault};
 pub use words::read_words;
-
-#[cfg(test)]
-mod tests;

@@ -1,0 +1,128 @@
+//! The words of `patch`, each alone and together.
+
+/// Switches short and long, words that stand together, and values that are texts, names and numbers, attached and apart.
+/// `clap` takes one `=` off an attached value.
+pub const ROWS: &str = r#"
+patch =>
+patch|-c => only: Some(Context)
+patch|-e => only: Some(Ed)
+patch|-n => only: Some(Normal)
+patch|-u => only: Some(Unified)
+patch|-R => reverse: true
+patch|-f => force: true
+patch|-t => batch: true
+patch|-N => forward: true
+patch|-l => loose: true
+patch|-E => remove_empty: true
+patch|-b => backup: true
+patch|-s => silent: true
+patch|--context => only: Some(Context)
+patch|--ed => only: Some(Ed)
+patch|--normal => only: Some(Normal)
+patch|--unified => only: Some(Unified)
+patch|--reverse => reverse: true
+patch|--force => force: true
+patch|--batch => batch: true
+patch|--forward => forward: true
+patch|--ignore-whitespace => loose: true
+patch|--remove-empty-files => remove_empty: true
+patch|--backup => backup: true
+patch|--backup-if-mismatch =>
+patch|--no-backup-if-mismatch => mismatch_backup: false
+patch|--dry-run => dry_run: true
+patch|--silent => silent: true
+patch|--quiet => silent: true
+patch|--verbose => verbose: true
+patch|-RftNlEbs => reverse: true force: true batch: true forward: true loose: true remove_empty: true backup: true silent: true
+patch|-Rp1 => strip: Some(1) reverse: true
+patch|-bp|1|-F0 => strip: Some(1) fuzz: 0 backup: true
+patch|-ni-|f|--quiet|--backup-if-mismatch => only: Some(Normal) file: Some("f") silent: true
+patch|-zR => suffix: Some("R")
+patch|--quiet|--verbose => silent: true verbose: true
+patch|-f|-N|-t => force: true batch: true forward: true
+patch|f|-R|p => reverse: true file: Some("f") input: File("p")
+patch|-R|--|-f|-p1 => reverse: true file: Some("-f") input: File("-p1")
+patch|-p007|--|f|- => strip: Some(7) file: Some("f")
+patch|--|-- => file: Some("--")
+patch|-- =>
+patch|-u|--no-backup-if-mismatch|-d./d/|--output=o|-r|a//r|--reject-format=context|--dry-run|--verbose|--plan=a|--buffer=512|-p4294967295|-z~|-Bold/|f|p.ptmp => only: Some(Unified) strip: Some(4294967295) mismatch_backup: false suffix: Some("~") prefix: Some("old/") dir: Some("d") file: Some("f") input: File("p.ptmp") output: Some("o") reject: Some("a/r") reject_form: Some(Context) dry_run: true verbose: true plan: Whole buffer: 512
+patch|-z|x => suffix: Some("x")
+patch|-zx => suffix: Some("x")
+patch|-z=~ => suffix: Some("~")
+patch|--suffix|x => suffix: Some("x")
+patch|--suffix=x => suffix: Some("x")
+patch|-z|.orig => suffix: Some(".orig")
+patch|-z|.. => suffix: Some("..")
+patch|-z|.ptmp~ => suffix: Some(".ptmp~")
+patch|-z|- => suffix: Some("-")
+patch|-z-b => suffix: Some("-b")
+patch|-z|é => suffix: Some("é")
+patch|-z|  => suffix: Some(" ")
+patch|-B|b/ => prefix: Some("b/")
+patch|-Bb => prefix: Some("b")
+patch|--prefix|b => prefix: Some("b")
+patch|--prefix=b/ => prefix: Some("b/")
+patch|-B| => prefix: Some("")
+patch|--prefix= => prefix: Some("")
+patch|-B|.. => prefix: Some("..")
+patch|-B|a/. => prefix: Some("a/.")
+patch|-B|.ptmp => prefix: Some(".ptmp")
+patch|--reject-format|context => reject_form: Some(Context)
+patch|--reject-format=context => reject_form: Some(Context)
+patch|--reject-format=unified => reject_form: Some(Unified)
+patch|--plan|a => plan: Whole
+patch|--plan=a => plan: Whole
+patch|--plan=auto =>
+patch|--plan=b => plan: Padded
+patch|--plan|packed => plan: Packed
+patch|f => file: Some("f")
+patch|f|p.diff => file: Some("f") input: File("p.diff")
+patch|./a//f/ => file: Some("a/f")
+patch|-|p => file: Some("-") input: File("p")
+patch|f|- => file: Some("f")
+patch|f|x.ptmp => file: Some("f") input: File("x.ptmp")
+patch|x.ptmp/f => file: Some("x.ptmp/f")
+patch|-i|a => input: File("a")
+patch|-ia => input: File("a")
+patch|--input|a => input: File("a")
+patch|--input=a => input: File("a")
+patch|-i|- =>
+patch|-i- =>
+patch|--input=- =>
+patch|-i-x => input: File("-x")
+patch|-i|a|f => file: Some("f") input: File("a")
+patch|-d|d => dir: Some("d")
+patch|-dd => dir: Some("d")
+patch|--directory|d => dir: Some("d")
+patch|--directory=d => dir: Some("d")
+patch|-d|x.ptmp => dir: Some("x.ptmp")
+patch|-d|- => dir: Some("-")
+patch|-o|o => output: Some("o")
+patch|-oo => output: Some("o")
+patch|--output|o => output: Some("o")
+patch|--output=o => output: Some("o")
+patch|-o|- => output: Some("-")
+patch|-o|x.ptmp/y => output: Some("x.ptmp/y")
+patch|-r|r => reject: Some("r")
+patch|-rr => reject: Some("r")
+patch|--reject-file|r => reject: Some("r")
+patch|--reject-file=r => reject: Some("r")
+patch|-r|- => reject: Some("-")
+patch|-p0 => strip: Some(0)
+patch|-p|0 => strip: Some(0)
+patch|--strip=1 => strip: Some(1)
+patch|--strip|1 => strip: Some(1)
+patch|-p=5 => strip: Some(5)
+patch|-p|007 => strip: Some(7)
+patch|-p4294967295 => strip: Some(4294967295)
+patch|-F0 => fuzz: 0
+patch|-F|2 =>
+patch|--fuzz=3 => fuzz: 3
+patch|--fuzz|3 => fuzz: 3
+patch|-F007 => fuzz: 7
+patch|-F|4294967295 => fuzz: 4294967295
+patch|--buffer|512 => buffer: 512
+patch|--buffer=1048576 => buffer: 1048576
+patch|--buffer=000512 => buffer: 512
+patch|--buffer=65536 =>
+"#;
