@@ -11,6 +11,3 @@ mod writing;
 pub use hunks::{first_faults, grammar_in_words, read_hunks};
 pub use opening::at_opening;
 pub use writing::put_hunk;
-
-#[cfg(test)]
-mod tests;

@@ -7,6 +7,3 @@ mod script;
 
 pub use command::{Command, command_at, is_command_line};
 pub use script::{EdEdit, EdScript, at_command, first_faults, lines_in_words, read_script};
-
-#[cfg(test)]
-mod tests;

@@ -8,6 +8,3 @@ mod writing;
 
 pub use hunks::{at_opening, first_faults, grammar_in_words, read_hunks};
 pub use writing::{is_in_order, put_hunk};
-
-#[cfg(test)]
-mod tests;

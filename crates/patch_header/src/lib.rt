@@ -13,6 +13,3 @@ pub use header::Header;
 pub use openings::{Stop, one_thing_stands};
 pub use search::{HeaderStep, header_from, next_header};
 pub use words::{header_lines_in_words, whole_lines_in_words};
-
-#[cfg(test)]
-mod tests;

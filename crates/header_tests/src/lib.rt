@@ -1,0 +1,7 @@
+//! Tests of the headers before file patches, and of their stamps.
+#![tactic(auto)]
+
+#[cfg(test)]
+mod headers;
+#[cfg(test)]
+mod stamps;
