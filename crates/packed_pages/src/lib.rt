@@ -151,6 +151,3 @@ impl<C: Scratch> Plan for PackedB<C> {
         false
     }
 }
-
-#[cfg(test)]
-mod tests;

@@ -87,6 +87,3 @@ impl Plan for PlanA {
         true
     }
 }
-
-#[cfg(test)]
-mod tests;

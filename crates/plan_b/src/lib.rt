@@ -140,6 +140,3 @@ impl<C: Scratch> Plan for PlanB<C> {
         false
     }
 }
-
-#[cfg(test)]
-mod tests;

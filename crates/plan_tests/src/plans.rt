@@ -1,0 +1,120 @@
+//! Each plan behind a small file, and the pages that two of them write.
+
+use line_store::{Half, LineStore, Plan};
+use mem_world::{MemScratch, MemTree};
+use outside::Name;
+use packed_pages::{PackedB, packing_laws};
+use page_pair::PagePair;
+use plan_a::PlanA;
+use plan_b::PlanB;
+use std::alloc::Global;
+use std::test::Fail;
+
+/// Whether a plan takes the bytes as the only file of a tree.
+fn takes<P: Plan>(alloc: Global, plan: &mut P, bytes: Vec<u8>) -> Result<bool, Fail> {
+    let mut tree = MemTree::new(alloc, Vec::new(alloc));
+    let name = Name::new(alloc, b"f")?;
+    tree.add(Name::new(alloc, b"f")?, bytes)?;
+    if tree.bytes_of(&name).is_none() {
+        return Ok(false);
+    }
+    Ok(plan.take_file(&mut tree, &name).is_ok())
+}
+
+/// Whether line `k` is there and has these bytes.
+fn has_line<P: LineStore>(plan: &mut P, k: u64, half: Half, bytes: &[u8]) -> bool {
+    if k == 0 || k > plan.count() {
+        return false;
+    }
+    match plan.load(k, half) {
+        Ok(()) => plan.line(half) == bytes,
+        Err(_) => false,
+    }
+}
+
+/// Whether a plan lends the lines of a file through both halves, and none of an empty one.
+fn lends<P: Plan>(alloc: Global, plan: &mut P) -> Result<bool, Fail> {
+    let bytes = Vec::from_slice(alloc, b"a\nbcd\n\ne")?;
+    if !takes(alloc, plan, bytes)? || plan.count() != 4 {
+        return Ok(false);
+    }
+    let lends = has_line(plan, 4, Half::First, b"e")
+        && has_line(plan, 2, Half::Second, b"bcd\n")
+        && has_line(plan, 3, Half::First, b"\n");
+    plan.take_empty();
+    Ok(lends && plan.count() == 0)
+}
+
+fn scratch(alloc: Global) -> MemScratch {
+    MemScratch::new(alloc, Vec::new(alloc))
+}
+
+#[test]
+fn lines_are_lent(rt: HostRuntime) -> Result<(), Fail> {
+    let alloc = rt.alloc();
+    let mut whole = PlanA::new(alloc, 512);
+    let mut padded = PlanB::new(PagePair::new(alloc, 512)?, scratch(alloc));
+    let mut packed = PackedB::new(PagePair::new(alloc, 512)?, scratch(alloc));
+    assert!(rt; whole.needs_memory());
+    assert!(rt; !padded.needs_memory());
+    assert!(rt; !packed.needs_memory());
+    assert!(rt; lends(alloc, &mut whole)?);
+    assert!(rt; lends(alloc, &mut padded)?);
+    assert!(rt; lends(alloc, &mut packed)?);
+    Ok(())
+}
+
+/// Whether a page is these records and zero bytes behind them.
+fn is_filled(page: &[u8], records: &[u8]) -> bool {
+    match page.strip_prefix(records) {
+        Some(rest) => rest.iter().all(|byte| *byte == 0),
+        None => false,
+    }
+}
+
+#[test]
+fn pages_are_padded(rt: HostRuntime) -> Result<(), Fail> {
+    let alloc = rt.alloc();
+    let mut plan = PlanB::new(PagePair::new(alloc, 512)?, scratch(alloc));
+    assert!(rt; takes(alloc, &mut plan, Vec::from_slice(alloc, b"a\nbcd\n")?)?);
+    let (pair, scratch) = plan.into_parts();
+    assert_eq!(rt; (pair.size(), scratch.bytes().len()), (512, 512));
+    assert!(rt; is_filled(scratch.bytes(), b"\x02\0\0\0a\n\0\0\x04\0\0\0bcd\n"));
+    Ok(())
+}
+
+#[test]
+fn pages_are_packed(rt: HostRuntime) -> Result<(), Fail> {
+    let alloc = rt.alloc();
+    let mut plan = PackedB::new(PagePair::new(alloc, 512)?, scratch(alloc));
+    assert!(rt; takes(alloc, &mut plan, Vec::from_slice(alloc, b"a\nbcd\n")?)?);
+    let (pair, scratch) = plan.into_parts();
+    assert_eq!(rt; (pair.size(), scratch.bytes().len()), (512, 520));
+    let records = b"\x01\0\0\0\0\0\0\0\x02\0\0\0a\n\x04\0\0\0bcd\n";
+    assert!(rt; is_filled(scratch.bytes(), records));
+    packing_laws();
+    Ok(())
+}
+
+/// 100 lines of 100 bytes.
+fn long_lines(alloc: Global) -> Result<Vec<u8>, Fail> {
+    let mut bytes = Vec::new(alloc);
+    for _ in 0..100 {
+        bytes.extend_from_slice(&[b'x'; 99])?;
+        bytes.push(b'\n')?;
+    }
+    Ok(bytes)
+}
+
+// Four lines stand on a page, and one of 508 bytes fills it.
+#[test]
+fn lines_fill_as_many_pages_as_they_need(rt: HostRuntime) -> Result<(), Fail> {
+    let alloc = rt.alloc();
+    let mut bytes = long_lines(alloc)?;
+    bytes.extend_from_slice(&[b'y'; 507])?;
+    bytes.push(b'\n')?;
+    let mut plan = PackedB::new(PagePair::new(alloc, 512)?, scratch(alloc));
+    assert!(rt; takes(alloc, &mut plan, bytes)?);
+    assert_eq!(rt; plan.into_parts().1.bytes().len(), 13_520);
+    Ok(())
+}
