@@ -15,6 +15,3 @@ pub use laws::{
 };
 pub use numbering::Numbers;
 pub use strip::{last_component, shortened};
-
-#[cfg(test)]
-mod tests;

@@ -1,0 +1,98 @@
+//! The names of headers, row by row.
+
+use outside::Name;
+use std::alloc::{AllocError, Global};
+use std::test::Fail;
+use target_names::candidates;
+
+/// How many slashes are stripped, or `-` for all; the old, the new and the index name, with `-` for none and `*` for a byte
+/// that is none of UTF-8; and the candidates.
+const ROWS: &str = "0 a//b/c - - = a/b/c
+1 a//b/c - - = b/c
+2 a//b/c - - = c
+3 a//b/c - - =
+9 a//b/c - - =
+- a//b/c - - = c
+0 /etc/x - - =
+1 /etc/x - - = etc/x
+2 /etc/x - - = x
+1 ///etc/x - - = etc/x
+0 a/ - - = a
+1 a/ - - =
+- a/ - - =
+0 ../x - - =
+1 ../x - - = x
+0 a/.. - - =
+0 ./a/./b - - = a/b
+1 ./a/./b - - = a/b
+2 ./a/./b - - = b
+0 */x - - =
+1 */x - - = x
+- d/\u{7f} - - =
+1 /dev/null - - =
+1 a/f b/g c/h = f g
+1 /dev/null b/g c/h = g
+1 /dev/null - c/h =
+1 - g c/h =
+1 - - c/h = h
+1 - - - =";
+
+fn field(row: &str, place: usize) -> &str {
+    match row.split(' ').nth(place) {
+        Some(field) => field,
+        None => "",
+    }
+}
+
+fn strip_of(word: &str) -> Option<u32> {
+    match word.as_bytes() {
+        [digit] if digit.is_ascii_digit() => Some(u32::from(*digit - b'0')),
+        _ => None,
+    }
+}
+
+/// The bytes of a field, or none for `-`.
+fn bytes_of(alloc: Global, field: &str) -> Result<Option<Vec<u8>>, AllocError> {
+    if field == "-" {
+        return Ok(None);
+    }
+    let mut bytes = Vec::new(alloc);
+    for byte in field.as_bytes() {
+        bytes.push(if *byte == b'*' { 0xff } else { *byte })?;
+    }
+    Ok(Some(bytes))
+}
+
+/// The names with a blank before each.
+fn joined(alloc: Global, names: &[Name]) -> Result<String, AllocError> {
+    let mut text = String::new(alloc);
+    for name in names {
+        text.push_str(" ")?;
+        text.push_str(name.text())?;
+    }
+    Ok(text)
+}
+
+fn found(alloc: Global, row: &str) -> Result<String, AllocError> {
+    let old = bytes_of(alloc, field(row, 1))?;
+    let new = bytes_of(alloc, field(row, 2))?;
+    let index = bytes_of(alloc, field(row, 3))?;
+    let strip = strip_of(field(row, 0));
+    let names = candidates(
+        alloc,
+        strip,
+        old.as_deref(),
+        new.as_deref(),
+        index.as_deref(),
+    )?;
+    joined(alloc, &names)
+}
+
+#[test]
+fn names_of_headers_are_taken(rt: HostRuntime) -> Result<(), Fail> {
+    for row in ROWS.split('\n') {
+        let (header, want) = row.split_once(" =").ok_or("a row")?;
+        assert_eq!(rt; found(rt.alloc(), header)?.as_str(), want, "{row}");
+    }
+    Ok(())
+}
