@@ -22,6 +22,3 @@ pub use job::{GrepJob, GrepOut};
 pub use laws::filter_laws;
 pub use list::list_patches;
 pub use regex_finder::RegexFinder;
-
-#[cfg(test)]
-mod tests;

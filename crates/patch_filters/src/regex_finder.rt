@@ -121,6 +121,3 @@ fn fault_of(error: Error) -> FindFault
         _ => FindFault::Refused,
     }
 }
-
-#[cfg(test)]
-mod tests;

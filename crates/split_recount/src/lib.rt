@@ -10,13 +10,9 @@ ghost use Rattle.split_recount.specs.RangeLines.{range_parts};
 
 mod body;
 mod parts;
-#[cfg(test)]
-mod parts_tests;
 mod ranges;
 mod recounting;
 mod starts;
-#[cfg(test)]
-mod tests;
 
 pub use parts::{part_laws, split_parts};
 pub use recounting::recount;

@@ -1,8 +1,8 @@
 //! The parts of worked texts.
 
-use super::split_parts;
 use patch_options::{Job, read_words};
 use patch_set::{PatchSet, read_set};
+use split_recount::split_parts;
 use std::alloc::{AllocError, Global};
 use std::test::Fail;
 
