@@ -9,23 +9,18 @@ fn name(alloc: Global, text: &[u8]) -> Result<Name, InputFault> {
     }
 }
 
-/// A tree with the one file `d/p`. The listed calls fail.
-fn tree_with(alloc: Global, failing: &[u32]) -> Result<MemTree, InputFault> {
-    let mut tree = MemTree::new(alloc, Vec::from_slice(alloc, failing)?);
+/// A tree with the one file `d/p`.
+fn tree_with(alloc: Global) -> Result<MemTree, InputFault> {
+    let mut tree = MemTree::new(alloc, Vec::new(alloc));
     tree.add(name(alloc, b"d/p")?, Vec::from_slice(alloc, b"x\n")?)?;
     Ok(tree)
 }
 
-/// The patch text of the file `p`, or of a source that has `left` left. The listed calls fail.
-fn text_of(
-    alloc: Global,
-    is_file: bool,
-    dir: Option<&Name>,
-    failing: &[u32],
-) -> Result<Vec<u8>, InputFault> {
+/// The patch text of the file `p`, or of a source that has `left` left.
+fn text_of(alloc: Global, is_file: bool, dir: Option<&Name>) -> Result<Vec<u8>, InputFault> {
     let left = Vec::from_slice(alloc, b"left")?;
-    let mut source = MemSource::new(alloc, left, Vec::from_slice(alloc, failing)?);
-    let mut tree = tree_with(alloc, failing)?;
+    let mut source = MemSource::new(alloc, left, Vec::new(alloc));
+    let mut tree = tree_with(alloc)?;
     let input = if is_file {
         Input::File(name(alloc, b"p")?)
     } else {
@@ -54,29 +49,15 @@ fn texts_of_a_file_and_of_the_source(rt: HostRuntime) {
     let Ok(dir) = name(alloc, b"d") else {
         return assert!(rt; false);
     };
-    assert!(rt; is_text(text_of(alloc, true, Some(&dir), &[]), b"x\n"));
-    assert!(rt; is_text(text_of(alloc, false, Some(&dir), &[]), b"left"));
-}
-
-#[test]
-fn faults_of_tree_and_source(rt: HostRuntime) {
-    let alloc = rt.alloc();
-    let Ok(dir) = name(alloc, b"d") else {
-        return assert!(rt; false);
-    };
-    let missing = fault_of(text_of(alloc, true, None, &[]));
-    assert_eq!(rt; missing, Some(InputFault::NoPatchFile));
-    let tree = fault_of(text_of(alloc, true, Some(&dir), &[2]));
-    assert_eq!(rt; tree, Some(InputFault::Tree));
-    let source = fault_of(text_of(alloc, false, None, &[2]));
-    assert_eq!(rt; source, Some(InputFault::Source));
+    assert!(rt; is_text(text_of(alloc, true, Some(&dir)), b"x\n"));
+    assert!(rt; is_text(text_of(alloc, false, Some(&dir)), b"left"));
 }
 
 #[test]
 fn a_size_that_is_not_kept(rt: HostRuntime) -> Result<(), InputFault> {
     let alloc = rt.alloc();
     let file = name(alloc, b"d/p")?;
-    let mut tree = SizedTree::new(tree_with(alloc, &[])?, file.copy(alloc)?, 9);
+    let mut tree = SizedTree::new(tree_with(alloc)?, file.copy(alloc)?, 9);
     let answer = read_input(
         alloc,
         &Input::File(file),
@@ -86,15 +67,5 @@ fn a_size_that_is_not_kept(rt: HostRuntime) -> Result<(), InputFault> {
     );
     let disagree = InputFault::Disagree { want: 9, got: 2 };
     assert_eq!(rt; fault_of(answer), Some(disagree));
-    Ok(())
-}
-
-#[test]
-fn a_source_that_never_ends(rt: HostRuntime) -> Result<(), InputFault> {
-    let alloc = rt.alloc();
-    let mut tree = tree_with(alloc, &[])?;
-    let mut source = EndlessSource::new();
-    let answer = read_input(alloc, &Input::Standard, None, &mut tree, &mut source);
-    assert_eq!(rt; fault_of(answer), Some(InputFault::TooLong));
     Ok(())
 }

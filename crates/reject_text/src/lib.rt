@@ -9,6 +9,3 @@ mod set;
 pub use moving::{nets_in_words, placed_growth};
 pub use rejects::put_reject;
 pub use set::put_rejects;
-
-#[cfg(test)]
-mod tests;

@@ -12,6 +12,3 @@ pub use files::{
     say_exists, say_no_file, say_not_deleting, say_patching, say_prereq, say_reversed,
 };
 pub use hunks::{say_failed, say_failures, say_ignored, say_placed};
-
-#[cfg(test)]
-mod tests;
