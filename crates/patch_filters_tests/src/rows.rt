@@ -85,12 +85,22 @@ fn greps<F: Finder>(
     Ok(grep_patches(alloc, set, &job, finder, out).is_ok())
 }
 
+fn lists(alloc: Global, set: &PatchSet, row: &str, out: &mut MemSink) -> Result<bool, Fail> {
+    let job = list_job(alloc, row)?;
+    Ok(list_patches(set, &job, out).is_ok())
+}
+
+fn filters(alloc: Global, set: &PatchSet, row: &str, out: &mut MemSink) -> Result<bool, Fail> {
+    let job = filter_job(alloc, row)?;
+    Ok(filter_patches(set, &job, out).is_ok())
+}
+
 /// Whether what a row asks for is written.
 fn writes(alloc: Global, row: &str, out: &mut MemSink) -> Result<bool, Fail> {
     let set = set(alloc, text(field(row, 1)))?;
     match field(row, 0) {
-        "list" => Ok(list_patches(&set, &list_job(alloc, row)?, out).is_ok()),
-        "filter" => Ok(filter_patches(&set, &filter_job(alloc, row)?, out).is_ok()),
+        "list" => lists(alloc, &set, row, out),
+        "filter" => filters(alloc, &set, row, out),
         "plain" => greps(alloc, &set, row, &mut PlainFinder::new(), out),
         _ => greps(alloc, &set, row, &mut RegexFinder::new(), out),
     }
