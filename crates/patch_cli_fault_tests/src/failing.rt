@@ -1,6 +1,6 @@
 //! Each call of each device failing in turn.
 
-use crate::scene::{Device, Left, TEXT, WORDS, is_moment, is_new, left_by};
+use crate::scene::{Device, Left, TEXT, WORDS, left_by, moment};
 use patch_cli::Why;
 use std::alloc::Global;
 use std::process::Abort;
@@ -22,18 +22,18 @@ fn fault_of(device: Device) -> (Why, &'static [u8]) {
 /// Whether a run ended with the device's fault, with a first part of the text and of the effects.
 fn has_fault(alloc: Global, left: &Left, device: Device) -> Result<bool, Fail> {
     let (why, line) = fault_of(device);
-    if left.exit.why != why || left.exit.status != 2 || left.err.as_slice() != line {
+    if left.exit.why != why || left.exit.status != 2 || left.err.bytes() != line {
         return Ok(false);
     }
-    Ok(TEXT.starts_with(left.out.as_slice()) && is_moment(alloc, &left.tree)?)
+    Ok(TEXT.starts_with(left.out.bytes()) && moment(alloc, &left.tree)? != 0)
 }
 
 /// Whether a run did all, and says so.
 fn has_done(alloc: Global, left: &Left) -> Result<bool, Fail> {
-    if left.exit.status != 0 || !left.err.is_empty() || left.out.as_slice() != TEXT {
+    if left.exit.status != 0 || left.out.bytes() != TEXT {
         return Ok(false);
     }
-    Ok(is_moment(alloc, &left.tree)? && is_new(alloc, &left.tree)?)
+    Ok(left.err.bytes().is_empty() && moment(alloc, &left.tree)? == 4)
 }
 
 /// How many of the calls end the run with the device's fault; `None` where one does what it may not.
@@ -56,14 +56,15 @@ fn has_calls(words: &str, device: Device) -> bool {
 }
 
 fn assert_faults(rt: &impl Abort, alloc: Global, device: Device) -> Result<(), Fail> {
+    let why = fault_of(device).0;
     for words in WORDS {
         match faults(alloc, words, device)? {
             Some(count) => assert_eq!(*rt;
                 (count > 0, count < CALLS),
                 (has_calls(words, device), true),
-                "{words}: {device:?} {count}"
+                "{words}: {why:?}, {count}"
             ),
-            None => assert!(*rt; false, "{words}: {device:?}"),
+            None => assert!(*rt; false, "{words}: {why:?}"),
         }
     }
     Ok(())

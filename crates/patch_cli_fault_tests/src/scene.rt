@@ -39,7 +39,7 @@ const PATCH: &[u8] = b"--- f
 pub const TEXT: &[u8] = b"patching file f\npatching file f\n";
 
 /// The device of which a call fails.
-#[derive(Clone, Copy, Debug, PartialEq, Eq)]
+#[derive(Clone, Copy, PartialEq, Eq)]
 pub enum Device {
     Tree,
     Scratch,
@@ -52,8 +52,17 @@ pub enum Device {
 pub struct Left {
     pub exit: Exit,
     pub tree: MemTree,
-    pub out: Vec<u8>,
-    pub err: Vec<u8>,
+    pub out: MemSink,
+    pub err: MemSink,
+}
+
+/// The devices of a run, but for standard error.
+#[derive(Drop)]
+struct Devices {
+    tree: MemTree,
+    scratch: MemScratch,
+    input: MemSource,
+    out: MemSink,
 }
 
 fn words_of(alloc: Global, words: &str) -> Result<Vec<String>, Fail> {
@@ -64,13 +73,10 @@ fn words_of(alloc: Global, words: &str) -> Result<Vec<String>, Fail> {
     Ok(list)
 }
 
-/// The number of the call that fails, where this device is the chosen one.
+/// The number of the call that fails, counted from 1, where this device is the chosen one.
 fn failing(alloc: Global, device: Device, chosen: Device, call: u32) -> Result<Vec<u32>, Fail> {
-    let mut calls = Vec::new(alloc);
-    if device == chosen {
-        calls.push(call)?;
-    }
-    Ok(calls)
+    let number = if device == chosen { call } else { 0 };
+    Ok(Vec::from_slice(alloc, &[number])?)
 }
 
 fn tree_of(alloc: Global, failing: Vec<u32>) -> Result<MemTree, Fail> {
@@ -79,41 +85,64 @@ fn tree_of(alloc: Global, failing: Vec<u32>) -> Result<MemTree, Fail> {
     Ok(tree)
 }
 
-/// Runs the words; of the chosen device the call with this number fails, counted from 1.
+fn devices_of(alloc: Global, chosen: Device, call: u32) -> Result<Devices, Fail> {
+    let tree = tree_of(alloc, failing(alloc, Device::Tree, chosen, call)?)?;
+    let scratch = failing(alloc, Device::Scratch, chosen, call)?;
+    let source = failing(alloc, Device::Source, chosen, call)?;
+    let out = failing(alloc, Device::Out, chosen, call)?;
+    Ok(Devices {
+        tree,
+        scratch: MemScratch::new(alloc, scratch),
+        input: MemSource::new(alloc, Vec::from_slice(alloc, PATCH)?, source),
+        out: MemSink::new(alloc, out),
+    })
+}
+
+/// Runs the words; of the chosen device the call with this number fails, none where it is 0.
 pub fn left_by(alloc: Global, words: &str, chosen: Device, call: u32) -> Result<Left, Fail> {
     let words = words_of(alloc, words)?;
-    let mut tree = tree_of(alloc, failing(alloc, Device::Tree, chosen, call)?)?;
-    let scratch = MemScratch::new(alloc, failing(alloc, Device::Scratch, chosen, call)?);
-    let given = Vec::from_slice(alloc, PATCH)?;
-    let mut input = MemSource::new(alloc, given, failing(alloc, Device::Source, chosen, call)?);
-    let mut out = MemSink::new(alloc, failing(alloc, Device::Out, chosen, call)?);
+    let devices = devices_of(alloc, chosen, call)?;
+    let (mut tree, mut input, mut out) = (devices.tree, devices.input, devices.out);
     let mut err = MemSink::new(alloc, Vec::new(alloc));
     let (exit, _scratch) = run(
-        alloc, &words, &mut tree, scratch, &mut input, &mut out, &mut err,
+        alloc,
+        &words,
+        &mut tree,
+        devices.scratch,
+        &mut input,
+        &mut out,
+        &mut err,
     );
     Ok(Left {
         exit,
         tree,
-        out: Vec::from_slice(alloc, out.bytes())?,
-        err: Vec::from_slice(alloc, err.bytes())?,
+        out,
+        err,
     })
 }
 
-/// Whether the file and its backup are those at one of the four moments before, between and behind the effects.
-pub fn is_moment(alloc: Global, tree: &MemTree) -> Result<bool, Fail> {
+/// The moment at which the file and its backup are these: before the first effect, behind the backup's, between the two file
+/// patches, or at the end, from 1 to 4; and 0 where they are none of these.
+pub fn moment(alloc: Global, tree: &MemTree) -> Result<u32, Fail> {
     let name = Name::new(alloc, b"f")?;
     let backup = Name::new(alloc, b"f.orig")?;
     match (tree.bytes_of(&name), tree.bytes_of(&backup)) {
-        (Some(file), None) => Ok(file == OLD),
-        (Some(file), Some(kept)) => {
-            Ok(kept == OLD && (file == OLD || file == BETWEEN || file == NEW))
-        }
-        _ => Ok(false),
+        (Some(file), None) => Ok(u32::from(file == OLD)),
+        (Some(file), Some(kept)) => Ok(moment_of(file, kept)),
+        _ => Ok(0),
     }
 }
 
-/// Whether the file is the new one.
-pub fn is_new(alloc: Global, tree: &MemTree) -> Result<bool, Fail> {
-    let name = Name::new(alloc, b"f")?;
-    Ok(tree.bytes_of(&name) == Some(NEW))
+fn moment_of(file: &[u8], kept: &[u8]) -> u32 {
+    if kept != OLD {
+        0
+    } else if file == OLD {
+        2
+    } else if file == BETWEEN {
+        3
+    } else if file == NEW {
+        4
+    } else {
+        0
+    }
 }

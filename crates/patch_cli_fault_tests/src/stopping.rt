@@ -1,6 +1,6 @@
 //! A stop within each call of the tree, and what it may leave.
 
-use crate::scene::{Device, WORDS, is_moment, left_by};
+use crate::scene::{Device, WORDS, left_by, moment};
 use mem_world::MemTree;
 use std::alloc::Global;
 use std::process::Abort;
@@ -10,7 +10,7 @@ use std::test::Fail;
 fn stops_well(alloc: Global, tree: &MemTree, call: u32) -> Result<bool, Fail> {
     for choice in 0..8 {
         let image = tree.stop_at(alloc, call, choice)?;
-        if !is_moment(alloc, &image)? {
+        if moment(alloc, &image)? == 0 {
             return Ok(false);
         }
     }
