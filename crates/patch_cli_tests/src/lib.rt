@@ -9,5 +9,3 @@ mod row;
 mod rows;
 #[cfg(test)]
 mod texts;
-#[cfg(test)]
-mod turning;
