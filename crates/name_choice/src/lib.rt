@@ -106,6 +106,3 @@ fn first_created(targets: &[Target]) -> Choice
         Choice::Create(0)
     }
 }
-
-#[cfg(test)]
-mod tests;

@@ -5,11 +5,7 @@ mod cli;
 mod laws;
 mod opening;
 mod plans;
-#[cfg(test)]
-mod plans_tests;
 mod report;
-#[cfg(test)]
-mod tests;
 mod why;
 
 pub use cli::{Exit, run};

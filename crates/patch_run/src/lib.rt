@@ -25,8 +25,3 @@ pub use auto::AutoPlan;
 pub use fault::RunFault;
 pub use laws::run_laws;
 pub use set::apply_set;
-
-#[cfg(test)]
-mod auto_tests;
-#[cfg(test)]
-mod tests;

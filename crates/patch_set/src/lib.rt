@@ -16,8 +16,3 @@ pub use names::bytes_in;
 pub use reading::read_set;
 pub use set::{PatchSet, Row};
 pub use target_names::Target;
-
-#[cfg(test)]
-mod forms_tests;
-#[cfg(test)]
-mod tests;

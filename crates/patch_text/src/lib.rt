@@ -6,6 +6,3 @@ mod change;
 mod patches;
 
 pub use patches::read_patches;
-
-#[cfg(test)]
-mod tests;
