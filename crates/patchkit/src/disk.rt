@@ -84,7 +84,8 @@ impl<'r, R: Files<File = File>> Tree for Disk<'r, R> {
 
     fn swap(&mut self, temp: &Name, to: &Name) -> Result<(), Failed> {
         let done = self.files.swap(temp.text(), to.text());
-        keep_trouble(&mut self.trouble, self.alloc, to.text(), &done);
+        let blamed = self.files.blamed(to.text());
+        keep_trouble(&mut self.trouble, self.alloc, blamed, &done);
         counted(&mut self.faults, done)
     }
 

@@ -4,7 +4,9 @@
 ghost use Rattle.std.specs.Prelude.{◌≤◌, length, IfOk};
 
 use crate::origins::{Due, Origins, Seen};
-use crate::paths::{first_parts, found_at, no_file, plain_file, plain_metadata, replaced_file};
+use crate::paths::{
+    first_parts, found_at, no_file, plain_file, plain_metadata, replaced_file, target_of,
+};
 use crate::rights::{Rights, give};
 use crate::unsynced::Directories;
 use std::alloc::Global;
@@ -101,7 +103,7 @@ impl<'r, R: Files<File = File>> OpenFiles<'r, R> {
         self.leave(name);
         self.finish_writing()?;
         self.make_directories(name)?;
-        let old = replaced_by(self.rt, name)?;
+        let old = standing(self.rt, name)?;
         self.directories.note(self.rt, name)?;
         let kept = String::from_str(self.alloc, name)?;
         remove_old(self.rt, name)?;
@@ -142,14 +144,23 @@ impl<'r, R: Files<File = File>> OpenFiles<'r, R> {
         Ok(())
     }
 
-    /// Renames the temporary. Nothing but a regular file is ever replaced.
+    /// Renames the temporary. Nothing but a regular file is ever replaced, and no name changes while another temporary is being
+    /// filled that can't take its own.
     pub fn swap(&mut self, temp: &str, to: &str) -> io::Result<()> {
         self.close(temp)?;
         self.close(to)?;
-        replaced_file(self.rt, to)?;
+        replaced_file(self.rt, self.blamed(to))?;
         self.directories.note(self.rt, temp)?;
         self.directories.note(self.rt, to)?;
         fs::rename(self.rt, temp, to)
+    }
+
+    /// The name that stands in the way of a swap: one that a temporary which is being filled can't take, else the one given.
+    pub fn blamed<'a>(&'a self, name: &'a str) -> &'a str {
+        match self.origins.last() {
+            Some(temp) if replaced_file(self.rt, target_of(temp)).is_err() => target_of(temp),
+            _ => name,
+        }
     }
 
     pub fn remove(&mut self, name: &str) -> io::Result<()> {
@@ -286,13 +297,9 @@ fn is_named(reading: &Option<Reading>, name: &str) -> bool {
     }
 }
 
-/// The file that a temporary is to replace, where there is one. Where anything else stands there, that is met before the
-/// temporary is made.
-fn replaced_by<R: Files>(rt: &R, temp: &str) -> io::Result<Option<Seen>> {
-    let Some(target) = temp.strip_suffix(".ptmp") else {
-        return Ok(None);
-    };
-    match replaced_file(rt, target)? {
+/// The file that a temporary is to replace, where there is one.
+fn standing<R: Files>(rt: &R, temp: &str) -> io::Result<Option<Seen>> {
+    match plain_file(rt, target_of(temp))? {
         Some(found) => Ok(Some(Seen::of(&found))),
         None => Ok(None),
     }

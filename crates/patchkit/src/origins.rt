@@ -120,6 +120,14 @@ impl Origins {
         Ok(())
     }
 
+    /// The temporary that was started last of those that are being filled.
+    pub fn last(&self) -> Option<&str> {
+        match self.temporaries.last() {
+            Some(last) => Some(last.name.as_str()),
+            None => None,
+        }
+    }
+
     /// Forgets a temporary, and tells its rights.
     pub fn end(&mut self, name: &str) -> Option<Rights> {
         let place = self

@@ -77,6 +77,11 @@ pub fn replaced_file<R: Files>(rt: &R, path: &str) -> io::Result<Option<Metadata
     }
 }
 
+/// The name that a temporary is for.
+pub fn target_of(temp: &str) -> &str {
+    temp.strip_suffix(".ptmp").unwrap_or(temp)
+}
+
 /// The answer where no regular file stands.
 pub fn no_file() -> io::Error {
     io::Error::new(ErrorKind::NotFound, "No such file or directory")
