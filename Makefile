@@ -1,17 +1,18 @@
-# make          proves and builds the program: build/bin/patchkit, and a wrapper for each tool beside it; says how far it is
+# make          proves and builds the program: build/bin/patchkit, and a link for each tool beside it; says how far it is
 # make demo     the same, then applies a patch to a copy of examples/tree and shows the result
 # make try      runs that patch before any proof
 # make test     runs the gate (rt ci), then the checks and the worked rows on real files
 # make times    prints what each crate's proof, tests and edits took, slowest crate first, as make and make test noted it
 # make deep     tries the wrong bodies that the gate leaves out (wrong-bodies); CRATES='NAME ..' takes those of some crates alone
-# make install  installs the program, its wrappers and the manual below PREFIX
+# make install  installs the program, its links, the manual and completions below PREFIX
+# make dist     packs them into build/patchkit-VERSION-MACHINE.tar.gz, which needs no toolchain
 RT ?= rt
 PREFIX ?= /usr/local
 DESTDIR ?=
 TOOLS = patch
 BIN = build/bin
 
-.PHONY: all demo try test times deep install clean
+.PHONY: all demo try test times deep install dist clean
 
 all:
 	@sh tests/build $(RT) $(BIN) $(TOOLS)
@@ -28,6 +29,8 @@ test:
 	@$(MAKE) --no-print-directory all
 	@sh tests/real_files $(BIN)
 	@sh tests/rows $(BIN)
+	@sh tests/killed $(BIN)
+	@sh tests/commands $(BIN)
 
 times:
 	@python3 tests/proofs times
@@ -36,10 +39,14 @@ deep:
 	@sh tests/deep $(RT) $(CRATES)
 
 install: all
-	mkdir -p $(DESTDIR)$(PREFIX)/bin
-	for tool in patchkit $(TOOLS); do install -m 755 $(BIN)/$$tool $(DESTDIR)$(PREFIX)/bin/$$tool; done
-	mkdir -p $(DESTDIR)$(PREFIX)/share/man/man1
+	mkdir -p $(DESTDIR)$(PREFIX)/bin $(DESTDIR)$(PREFIX)/share/man/man1 $(DESTDIR)$(PREFIX)/share/bash-completion/completions
+	install -m 755 $(BIN)/patchkit $(DESTDIR)$(PREFIX)/bin/patchkit
+	for tool in $(TOOLS); do ln -sf patchkit $(DESTDIR)$(PREFIX)/bin/$$tool; done
 	for tool in $(TOOLS); do install -m 644 docs/man/$$tool.1 $(DESTDIR)$(PREFIX)/share/man/man1/$$tool.1; done
+	for tool in $(TOOLS); do install -m 644 docs/completions/$$tool $(DESTDIR)$(PREFIX)/share/bash-completion/completions/$$tool; done
+
+dist: all
+	@sh tests/dist $(RT) $(BIN) build $(TOOLS)
 
 clean:
 	rm -rf build crates/*/out

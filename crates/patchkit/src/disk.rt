@@ -3,6 +3,7 @@ ghost use Rattle.outside.specs.Silent.{silent_tree};
 
 use crate::faults::counted;
 use crate::files::OpenFiles;
+use crate::trouble::{Trouble, keep_trouble};
 use outside::{Failed, Name, Tree};
 use std::alloc::Global;
 use std::fs::File;
@@ -11,16 +12,25 @@ use std::rt::Files;
 /// The files below the working directory, and the count of their faults. It tells no content.
 #[derive(Drop)]
 pub struct Disk<'r, R: Files<File = File>> {
+    alloc: Global,
     files: OpenFiles<'r, R>,
     faults: u64,
+    trouble: Option<Trouble>,
 }
 
 impl<'r, R: Files<File = File>> Disk<'r, R> {
     pub fn new(alloc: Global, rt: &'r R) -> Disk<'r, R> {
         Disk {
+            alloc,
             files: OpenFiles::new(alloc, rt),
             faults: 0,
+            trouble: None,
         }
+    }
+
+    /// What failed last.
+    pub fn trouble(&self) -> Option<&Trouble> {
+        self.trouble.as_ref()
     }
 }
 
@@ -38,46 +48,56 @@ impl<'r, R: Files<File = File>> Tree for Disk<'r, R> {
 
     fn size(&mut self, name: &Name) -> Result<Option<u64>, Failed> {
         let done = self.files.size(name.text());
+        keep_trouble(&mut self.trouble, self.alloc, name.text(), &done);
         counted(&mut self.faults, done)
     }
 
     fn read_at(&mut self, name: &Name, at: u64, buf: &mut [u8]) -> Result<usize, Failed> {
         let done = self.files.read_at(name.text(), at, buf);
+        keep_trouble(&mut self.trouble, self.alloc, name.text(), &done);
         counted(&mut self.faults, done)
     }
 
     fn has_dir(&mut self, name: &Name, parts: u64) -> Result<bool, Failed> {
         let done = self.files.has_dir(name.text(), parts);
+        keep_trouble(&mut self.trouble, self.alloc, name.text(), &done);
         counted(&mut self.faults, done)
     }
 
     fn start(&mut self, temp: &Name) -> Result<(), Failed> {
         let done = self.files.start(temp.text());
+        keep_trouble(&mut self.trouble, self.alloc, temp.text(), &done);
         counted(&mut self.faults, done)
     }
 
     fn append(&mut self, temp: &Name, piece: &[u8]) -> Result<(), Failed> {
         let done = self.files.append(temp.text(), piece);
+        keep_trouble(&mut self.trouble, self.alloc, temp.text(), &done);
         counted(&mut self.faults, done)
     }
 
     fn seal(&mut self, temp: &Name) -> Result<(), Failed> {
         let done = self.files.seal(temp.text());
+        keep_trouble(&mut self.trouble, self.alloc, temp.text(), &done);
         counted(&mut self.faults, done)
     }
 
     fn swap(&mut self, temp: &Name, to: &Name) -> Result<(), Failed> {
         let done = self.files.swap(temp.text(), to.text());
+        let blamed = self.files.blamed(to.text());
+        keep_trouble(&mut self.trouble, self.alloc, blamed, &done);
         counted(&mut self.faults, done)
     }
 
     fn drop_name(&mut self, name: &Name) -> Result<(), Failed> {
         let done = self.files.remove(name.text());
+        keep_trouble(&mut self.trouble, self.alloc, name.text(), &done);
         counted(&mut self.faults, done)
     }
 
     fn fix_names(&mut self) -> Result<(), Failed> {
         let done = self.files.sync_directories();
+        keep_trouble(&mut self.trouble, self.alloc, self.files.unsynced(), &done);
         counted(&mut self.faults, done)
     }
 }

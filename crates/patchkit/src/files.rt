@@ -1,26 +1,30 @@
-//! The files below the working directory: what is open, what is gathered, and which directories are to be synced.
+//! The files below the working directory: what is open, what is gathered, and whose rights each new file gets.
 //!
 //! No link is ever followed: a name that is one, or that goes through one, is no file here, and nothing is written below it.
 ghost use Rattle.std.specs.Prelude.{◌≤◌, length, IfOk};
 
+use crate::origins::{Due, Origins, Seen};
+use crate::paths::{
+    first_parts, found_at, no_file, plain_file, plain_metadata, replaced_file, target_of,
+};
+use crate::rights::{Rights, give};
+use crate::unsynced::Directories;
 use std::alloc::Global;
-use std::fs::{File, Metadata, OpenFile, OpenOptions, Permissions};
+use std::fs::{File, OpenFile, OpenOptions};
 use std::io::{BufWriter, ErrorKind, Write};
-use std::os::unix::fs::{FileExt, OpenOptionsExt, PermissionsExt};
+use std::os::unix::fs::{FileExt, OpenOptionsExt};
 use std::rt::Files;
 use std::{fs, io};
 
 /// How many bytes are gathered before they are written.
 const PIECE: usize = 65_536;
 
-/// Who may read, write and run a file; the bits for sets of users and groups are never carried, since the owner isn't.
-const PERMISSION_BITS: u32 = 0o777;
-
 /// The file that was read last, kept open for its next piece.
 #[derive(Drop)]
 struct Reading {
     name: String,
     file: File,
+    seen: Seen,
 }
 
 /// The file that is being written.
@@ -30,20 +34,14 @@ struct Writing {
     writer: BufWriter<File>,
 }
 
-/// A directory in which a name was made, moved or taken away since the names were last synced.
-#[derive(Drop)]
-struct Unsynced {
-    name: String,
-    directory: File,
-}
-
 #[derive(Drop)]
 pub struct OpenFiles<'r, R: Files<File = File>> {
     rt: &'r R,
     alloc: Global,
     reading: Option<Reading>,
     writing: Option<Writing>,
-    unsynced: Vec<Unsynced>,
+    origins: Origins,
+    directories: Directories,
 }
 
 impl<'r, R: Files<File = File>> OpenFiles<'r, R> {
@@ -53,15 +51,23 @@ impl<'r, R: Files<File = File>> OpenFiles<'r, R> {
             alloc,
             reading: None,
             writing: None,
-            unsynced: Vec::new(alloc),
+            origins: Origins::new(alloc),
+            directories: Directories::new(alloc),
         }
     }
 
     pub fn size(&mut self, name: &str) -> io::Result<Option<u64>> {
         self.write_out(name)?;
-        match plain_metadata(self.rt, name)? {
-            Some(found) if found.is_file() => Ok(Some(found.len())),
-            _ => Ok(None),
+        let found = plain_file(self.rt, name)?;
+        match found {
+            Some(found) => {
+                self.origins.saw(Some(Seen::of(&found)), false);
+                Ok(Some(found.len()))
+            }
+            None => {
+                self.origins.saw(None, false);
+                Ok(None)
+            }
         }
     }
 
@@ -71,8 +77,11 @@ impl<'r, R: Files<File = File>> OpenFiles<'r, R> {
         self.write_out(name)?;
         self.open_for_reading(name)?;
         match &self.reading {
-            Some(reading) => read_whole(&reading.file, at, buf),
-            None => Err(io::Error::from(ErrorKind::NotFound)),
+            Some(reading) => {
+                self.origins.saw(Some(reading.seen), true);
+                read_whole(&reading.file, at, buf)
+            }
+            None => Err(no_file()),
         }
     }
 
@@ -89,33 +98,20 @@ impl<'r, R: Files<File = File>> OpenFiles<'r, R> {
     }
 
     /// Takes an old file of that name away, makes the directories that are missing, and a new file that is empty. Until it
-    /// is sealed, only its owner reads one that is to replace a file.
+    /// is sealed, only its owner reads it.
     pub fn start(&mut self, name: &str) -> io::Result<()> {
-        if is_named(&self.reading, name) {
-            self.reading = None;
-        }
-        if self.is_writing(name) {
-            self.writing = None;
-        }
+        self.leave(name);
         self.finish_writing()?;
         self.make_directories(name)?;
-        self.note_directory(name)?;
-        let mode = match replaced_bits(self.rt, name)? {
-            Some(_) => 0o600,
-            None => 0o666,
-        };
+        let old = standing(self.rt, name)?;
+        self.directories.note(self.rt, name)?;
         let kept = String::from_str(self.alloc, name)?;
-        match fs::remove_file(self.rt, name) {
-            Ok(()) => {}
-            Err(error) if error.kind() == ErrorKind::NotFound => {}
-            Err(error) => return Err(error),
-        }
-        let file = OpenOptions::new()
-            .write(true)
-            .create_new(true)
-            .mode(mode)
-            .open(self.rt, name)?;
+        remove_old(self.rt, name)?;
+        let rights = self.due_rights(name, old)?;
+        let file = make_new(self.rt, name, 0o600)?;
         let writer = BufWriter::with_capacity(self.alloc, PIECE, file)?;
+        let started = String::from_str(self.alloc, name)?;
+        self.origins.begin(started, rights)?;
         self.writing = Some(Writing { name: kept, writer });
         Ok(())
     }
@@ -125,62 +121,75 @@ impl<'r, R: Files<File = File>> OpenFiles<'r, R> {
         self.resume_writing(name)?;
         match &mut self.writing {
             Some(writing) => writing.writer.write_all(piece),
-            None => Err(io::Error::from(ErrorKind::NotFound)),
+            None => Err(no_file()),
         }
     }
 
-    /// Writes what was gathered, gives the file the permission bits of the one that it is to replace, and syncs it.
+    /// Writes what was gathered, gives the file its rights, and syncs it.
     pub fn seal(&mut self, name: &str) -> io::Result<()> {
         self.resume_writing(name)?;
-        let bits = replaced_bits(self.rt, name)?;
+        let rights = self.origins.end(name);
         match &mut self.writing {
             Some(writing) => {
                 writing.writer.flush()?;
                 let file = writing.writer.get_ref();
-                if let Some(bits) = bits {
-                    set_bits(file, bits)?;
+                if let Some(rights) = rights {
+                    give(file, rights)?;
                 }
                 file.sync_all()?;
             }
-            None => return Err(io::Error::from(ErrorKind::NotFound)),
+            None => return Err(no_file()),
         }
         self.writing = None;
         Ok(())
     }
 
-    /// Renames the temporary. Nothing but a regular file is ever replaced.
+    /// Renames the temporary. Nothing but a regular file is ever replaced, and no name changes while another temporary is being
+    /// filled that can't take its own.
     pub fn swap(&mut self, temp: &str, to: &str) -> io::Result<()> {
         self.close(temp)?;
         self.close(to)?;
-        if !lies_in_directories(self.rt, to)? {
-            return Err(io::Error::from(ErrorKind::NotADirectory));
-        }
-        match found_at(self.rt, to)? {
-            Some(old) if !old.is_file() => return Err(io::Error::from(ErrorKind::AlreadyExists)),
-            _ => {}
-        }
-        self.note_directory(temp)?;
-        self.note_directory(to)?;
+        replaced_file(self.rt, self.blamed(to))?;
+        self.directories.note(self.rt, temp)?;
+        self.directories.note(self.rt, to)?;
         fs::rename(self.rt, temp, to)
+    }
+
+    /// The name that stands in the way of a swap: one that a temporary which is being filled can't take, else the one given.
+    pub fn blamed<'a>(&'a self, name: &'a str) -> &'a str {
+        match self.origins.last() {
+            Some(temp) if replaced_file(self.rt, target_of(temp)).is_err() => target_of(temp),
+            _ => name,
+        }
     }
 
     pub fn remove(&mut self, name: &str) -> io::Result<()> {
         self.close(name)?;
-        match plain_metadata(self.rt, name)? {
-            Some(found) if found.is_file() => {}
-            _ => return Err(io::Error::from(ErrorKind::NotFound)),
+        self.origins.end(name);
+        if plain_file(self.rt, name)?.is_none() {
+            return Err(no_file());
         }
-        self.note_directory(name)?;
+        self.directories.note(self.rt, name)?;
         fs::remove_file(self.rt, name)
     }
 
     /// Syncs each directory in which a name was made, moved or taken away.
     pub fn sync_directories(&mut self) -> io::Result<()> {
-        for unsynced in &self.unsynced {
-            unsynced.directory.sync_all()?;
+        self.directories.sync()
+    }
+
+    /// A directory that isn't synced yet.
+    pub fn unsynced(&self) -> &str {
+        self.directories.first()
+    }
+
+    /// The rights that a temporary is to get once it is sealed. No file stands there now.
+    fn due_rights(&self, name: &str, old: Option<Seen>) -> io::Result<Rights> {
+        match self.origins.due(old) {
+            Due::Exactly(rights) => Ok(rights),
+            Due::AtMost(most) => Ok(rights_of_new(self.rt, name)?.limited(most).owned_as(most)),
+            Due::New => rights_of_new(self.rt, name),
         }
-        self.unsynced.clear();
-        Ok(())
     }
 
     /// Writes what was gathered for the name.
@@ -199,6 +208,16 @@ impl<'r, R: Files<File = File>> OpenFiles<'r, R> {
         }
         self.writing = None;
         Ok(())
+    }
+
+    /// Closes what is open of the name, and lets what was gathered for it go.
+    fn leave(&mut self, name: &str) {
+        if is_named(&self.reading, name) {
+            self.reading = None;
+        }
+        if self.is_writing(name) {
+            self.writing = None;
+        }
     }
 
     /// Closes what is open of the name.
@@ -223,13 +242,13 @@ impl<'r, R: Files<File = File>> OpenFiles<'r, R> {
         if is_named(&self.reading, name) {
             return Ok(());
         }
-        match plain_metadata(self.rt, name)? {
-            Some(found) if found.is_file() => {}
-            _ => return Err(io::Error::from(ErrorKind::NotFound)),
-        }
+        let Some(found) = plain_file(self.rt, name)? else {
+            return Err(no_file());
+        };
         let file = File::open(self.rt, name)?;
-        let kept = String::from_str(self.alloc, name)?;
-        self.reading = Some(Reading { name: kept, file });
+        let name = String::from_str(self.alloc, name)?;
+        let seen = Seen::of(&found);
+        self.reading = Some(Reading { name, file, seen });
         Ok(())
     }
 
@@ -239,14 +258,13 @@ impl<'r, R: Files<File = File>> OpenFiles<'r, R> {
             return Ok(());
         }
         self.finish_writing()?;
-        match plain_metadata(self.rt, name)? {
-            Some(found) if found.is_file() => {}
-            _ => return Err(io::Error::from(ErrorKind::NotFound)),
+        if plain_file(self.rt, name)?.is_none() {
+            return Err(no_file());
         }
         let file = OpenOptions::new().append(true).open(self.rt, name)?;
-        let kept = String::from_str(self.alloc, name)?;
+        let name = String::from_str(self.alloc, name)?;
         let writer = BufWriter::with_capacity(self.alloc, PIECE, file)?;
-        self.writing = Some(Writing { name: kept, writer });
+        self.writing = Some(Writing { name, writer });
         Ok(())
     }
 
@@ -263,33 +281,12 @@ impl<'r, R: Files<File = File>> OpenFiles<'r, R> {
     fn make_directory(&mut self, directory: &str) -> io::Result<()> {
         match found_at(self.rt, directory)? {
             Some(found) if found.is_dir() => Ok(()),
-            Some(_) => Err(io::Error::from(ErrorKind::NotADirectory)),
+            Some(_) => Err(io::Error::new(ErrorKind::NotADirectory, "Not a directory")),
             None => {
-                self.note_directory(directory)?;
+                self.directories.note(self.rt, directory)?;
                 fs::create_dir(self.rt, directory)
             }
         }
-    }
-
-    /// Keeps the directory that a name stands in, to be synced. It is opened before anything in it changes, so that one that
-    /// can't be synced is a fault before the change.
-    fn note_directory(&mut self, name: &str) -> io::Result<()> {
-        let path = match name.rsplit_once('/') {
-            Some((path, _)) => path,
-            None => ".",
-        };
-        if !self.is_noted(path) {
-            let directory = File::open(self.rt, path)?;
-            let name = String::from_str(self.alloc, path)?;
-            self.unsynced.push(Unsynced { name, directory })?;
-        }
-        Ok(())
-    }
-
-    fn is_noted(&self, path: &str) -> bool {
-        self.unsynced
-            .iter()
-            .any(|noted| noted.name.as_str() == path)
     }
 }
 
@@ -300,69 +297,38 @@ fn is_named(reading: &Option<Reading>, name: &str) -> bool {
     }
 }
 
-/// What stands at a path, a link itself and not what it points to.
-fn found_at<R: Files>(rt: &R, path: &str) -> io::Result<Option<Metadata>> {
-    match fs::symlink_metadata(rt, path) {
-        Ok(found) => Ok(Some(found)),
-        Err(error) if is_missing(error.kind()) => Ok(None),
-        Err(error) => Err(error),
+/// The file that a temporary is to replace, where there is one.
+fn standing<R: Files>(rt: &R, temp: &str) -> io::Result<Option<Seen>> {
+    match plain_file(rt, target_of(temp))? {
+        Some(found) => Ok(Some(Seen::of(&found))),
+        None => Ok(None),
     }
 }
 
-fn is_missing(kind: ErrorKind) -> bool {
-    kind == ErrorKind::NotFound || kind == ErrorKind::NotADirectory
-}
-
-/// Whether a path goes through directories alone, and no link.
-fn lies_in_directories<R: Files>(rt: &R, path: &str) -> io::Result<bool> {
-    for (slash, _) in path.match_indices('/') {
-        if let Some(directory) = path.get(..slash) {
-            match found_at(rt, directory)? {
-                Some(found) if found.is_dir() => {}
-                _ => return Ok(false),
-            }
-        }
-    }
-    Ok(true)
-}
-
-/// What stands at a path that goes through directories alone.
-fn plain_metadata<R: Files>(rt: &R, path: &str) -> io::Result<Option<Metadata>> {
-    if !lies_in_directories(rt, path)? {
-        return Ok(None);
-    }
-    found_at(rt, path)
-}
-
-/// The permission bits of the file that a temporary is to replace, where there is one.
-fn replaced_bits<R: Files>(rt: &R, temp: &str) -> io::Result<Option<u32>> {
-    let Some(target) = temp.strip_suffix(".ptmp") else {
-        return Ok(None);
-    };
-    match plain_metadata(rt, target)? {
-        Some(found) if found.is_file() => Ok(Some(found.permissions().mode() & PERMISSION_BITS)),
-        _ => Ok(None),
+/// Takes away what an earlier run left.
+fn remove_old<R: Files>(rt: &R, name: &str) -> io::Result<()> {
+    match fs::remove_file(rt, name) {
+        Err(error) if error.kind() == ErrorKind::NotFound => Ok(()),
+        done => done,
     }
 }
 
-/// Gives a file these permission bits, where it has others.
-fn set_bits(file: &File, bits: u32) -> io::Result<()> {
-    if file.metadata()?.permissions().mode() & PERMISSION_BITS == bits {
-        return Ok(());
-    }
-    file.set_permissions(Permissions::from_mode(bits))
+/// A new file, never through a link.
+fn make_new<R: Files>(rt: &R, name: &str, mode: u32) -> io::Result<R::File> {
+    OpenOptions::new()
+        .write(true)
+        .create_new(true)
+        .mode(mode)
+        .open(rt, name)
 }
 
-/// The first components of a name, or all of them.
-fn first_parts(name: &str, parts: u64) -> &str {
-    let mut count = 0u64;
-    for (slash, _) in name.match_indices('/') {
-        count = count.saturating_add(1);
-        if count == parts {
-            return name.get(..slash).unwrap_or(name);
-        }
-    }
-    name
+/// The rights that the system gives to a new file here, as one that is taken away at once tells. Nothing tells the mask of
+/// permission bits without a change of it.
+fn rights_of_new<R: Files<File = File>>(rt: &R, name: &str) -> io::Result<Rights> {
+    let file = make_new(rt, name, 0o666)?;
+    let found = file.metadata();
+    fs::remove_file(rt, name)?;
+    Ok(Rights::of(&found?))
 }
 
 /// Reads all that is there from a place on, up to the buffer's length.

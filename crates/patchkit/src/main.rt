@@ -1,69 +1,128 @@
-//! The program: real devices for the run, and its exit status.
+//! The program: real devices for the run, its exit status, and what helps whoever called it.
 #![tactic(auto)]
 
+mod behind;
+mod called;
 mod disk;
 mod faults;
 mod files;
+mod help;
+mod origins;
 mod pages;
+mod paths;
+mod rights;
 mod streams;
+mod trouble;
+mod unsynced;
 
+use crate::behind::line_behind;
+use crate::called::{called_tool, tool_of, words_of};
 use crate::disk::Disk;
+use crate::help::told;
 use crate::pages::Pages;
 use crate::streams::{Input, Output};
-use outside::put_all;
-use patch_cli::run;
-use std::env::Env;
+use crate::trouble::Trouble;
+use outside::{Sink, put_all};
+use patch_cli::{Why, run};
+use std::alloc::Global;
+use std::io;
 use std::io::{ErrorKind, Write};
 use std::process::ExitCode;
-use std::{env, io};
 
 /// The status of every answer that is no application: a refusal, a fault or want of memory.
 const REFUSED: u8 = 2;
 
-fn main(rt: HostRuntime) -> io::Result<ExitCode> {
-    let alloc = rt.alloc();
-    let words = match words_of(&rt) {
-        Ok(words) => words,
-        Err(error) => return refused(&rt, &error),
+fn main(rt: HostRuntime) -> ExitCode {
+    let status = match words_of(&rt) {
+        Ok(words) => answer(&rt, &words),
+        Err(error) => refused(&rt, called_tool(&rt), error.kind()),
     };
-    let mut tree = Disk::new(alloc, &rt);
-    let mut input = Input::new(rt.stdin());
+    ExitCode::from(status)
+}
+
+/// Tells what was asked, or carries the words out. Where memory runs out before either begins, nothing is done.
+fn answer(rt: &HostRuntime, words: &[String]) -> u8 {
+    let tool = tool_of(words);
+    let done = match told(words) {
+        Some(text) => tell(rt, tool, text),
+        None => carry_out(rt, tool, words),
+    };
+    match done {
+        Ok(status) => status,
+        Err(error) => refused(rt, tool, error.kind()),
+    }
+}
+
+fn tell(rt: &HostRuntime, tool: &str, text: &str) -> io::Result<u8> {
+    let alloc = rt.alloc();
     let mut out = Output::new(alloc, rt.stdout())?;
     let mut err = Output::new(alloc, rt.stderr())?;
-    let scratch = Pages::new(&rt);
-    let (exit, pages) = run(
-        alloc, &words, &mut tree, scratch, &mut input, &mut out, &mut err,
-    );
-    pages.remove();
-    let written = out.flush();
-    let status = match written {
-        Ok(()) => exit.status,
-        Err(_) => {
-            // What was said last didn't reach its reader, whatever the run answered.
-            let _ = put_all(&mut err, b"patch: **** write fault\n");
-            REFUSED
-        }
-    };
-    let _ = err.flush();
-    Ok(ExitCode::from(status))
-}
-
-/// The answer where the words can't be had: one that isn't UTF-8 is no command.
-fn refused(rt: &HostRuntime, error: &io::Error) -> io::Result<ExitCode> {
-    let line: &[u8] = if error.kind() == ErrorKind::OutOfMemory {
-        b"patchkit: **** out of memory\n"
-    } else {
-        b"patchkit: **** the words are not a command\n"
-    };
-    let _ = rt.stderr().write_all(line);
-    Ok(ExitCode::from(REFUSED))
-}
-
-/// The words behind the program's own.
-fn words_of<R: Env + AllocGlobal>(rt: &R) -> io::Result<Vec<String>> {
-    let mut words = Vec::new(rt.alloc());
-    for word in env::args(rt)?.skip(1) {
-        words.push(word)?;
+    let _ = put_all(&mut out, text.as_bytes());
+    let is_written = out.flush().is_ok();
+    if !is_written {
+        put_write_fault(alloc, &mut err, tool, out.trouble());
     }
-    Ok(words)
+    let _ = err.flush();
+    Ok(if is_written { 0 } else { REFUSED })
+}
+
+/// Carries the words out over the real devices.
+fn carry_out(rt: &HostRuntime, tool: &str, words: &[String]) -> io::Result<u8> {
+    let alloc = rt.alloc();
+    let mut tree = Disk::new(alloc, rt);
+    let mut input = Input::new(alloc, rt.stdin());
+    let mut out = Output::new(alloc, rt.stdout())?;
+    let mut err = Output::new(alloc, rt.stderr())?;
+    let scratch = Pages::new(alloc, rt);
+    let (exit, pages) = run(
+        alloc, words, &mut tree, scratch, &mut input, &mut out, &mut err,
+    );
+    let paged = pages.remove();
+    // What was said last may not reach its reader, whatever the run answered.
+    let is_written = out.flush().is_ok();
+    match exit.why {
+        Why::TreeFault => put_behind(alloc, &mut err, tool, exit.why, tree.trouble()),
+        Why::ScratchFault => put_behind(alloc, &mut err, tool, exit.why, paged.as_ref()),
+        Why::ReadFault => put_behind(alloc, &mut err, tool, exit.why, input.trouble()),
+        why => put_behind(alloc, &mut err, tool, why, out.trouble()),
+    }
+    if !is_written && !matches!(exit.why, Why::WriteFault) {
+        put_write_fault(alloc, &mut err, tool, out.trouble());
+    }
+    let _ = err.flush();
+    Ok(if is_written { exit.status } else { REFUSED })
+}
+
+/// Writes the line behind an answer's, as far as memory and the device allow.
+fn put_behind<E: Sink>(
+    alloc: Global,
+    err: &mut E,
+    tool: &str,
+    why: Why,
+    trouble: Option<&Trouble>,
+) {
+    if let Ok(Some(line)) = line_behind(alloc, tool, why, trouble) {
+        let _ = put_all(err, line.as_str().as_bytes());
+    }
+}
+
+fn put_write_fault<E: Sink>(alloc: Global, err: &mut E, tool: &str, trouble: Option<&Trouble>) {
+    let _ = put_all(err, tool.as_bytes());
+    let _ = put_all(err, b": **** write fault\n");
+    put_behind(alloc, err, tool, Why::WriteFault, trouble);
+}
+
+/// The answer where the words can't be had, or memory runs out before the run: a word that isn't UTF-8 is no command.
+fn refused(rt: &HostRuntime, tool: &str, kind: ErrorKind) -> u8 {
+    let mut err = rt.stderr();
+    let _ = err.write_all(tool.as_bytes());
+    if kind == ErrorKind::OutOfMemory {
+        let _ = err.write_all(b": **** out of memory\n");
+        return REFUSED;
+    }
+    let _ = err.write_all(b": **** the words are not a command\n");
+    if let Ok(Some(line)) = line_behind(rt.alloc(), tool, Why::Usage, None) {
+        let _ = err.write_all(line.as_str().as_bytes());
+    }
+    REFUSED
 }

@@ -4,7 +4,9 @@ ghost use Rattle.outside.specs.Silent.{silent_scratch};
 
 use crate::faults::counted;
 use crate::files::read_whole;
+use crate::trouble::{Trouble, keep_trouble};
 use outside::{Failed, Scratch};
+use std::alloc::Global;
 use std::fs::{File, OpenOptions};
 use std::io::ErrorKind;
 use std::os::unix::fs::{FileExt, OpenOptionsExt};
@@ -17,26 +19,31 @@ const NAME: &str = ".ptmp";
 #[derive(Drop)]
 pub struct Pages<'r, R: Files<File = File>> {
     rt: &'r R,
+    alloc: Global,
+    trouble: Option<Trouble>,
     file: Option<File>,
     faults: u64,
     reads: u64,
 }
 
 impl<'r, R: Files<File = File>> Pages<'r, R> {
-    pub fn new(rt: &'r R) -> Pages<'r, R> {
+    pub fn new(alloc: Global, rt: &'r R) -> Pages<'r, R> {
         Pages {
             rt,
+            alloc,
+            trouble: None,
             file: None,
             faults: 0,
             reads: 0,
         }
     }
 
-    /// Removes the file, if it was made.
-    pub fn remove(self) {
+    /// Removes the file, if it was made, and tells what failed last.
+    pub fn remove(self) -> Option<Trouble> {
         if self.file.is_some() {
             let _ = fs::remove_file(self.rt, NAME);
         }
+        self.trouble
     }
 
     fn write(&self, at: u64, piece: &[u8]) -> io::Result<()> {
@@ -88,17 +95,20 @@ impl<'r, R: Files<File = File>> Scratch for Pages<'r, R> {
 
     fn restart(&mut self) -> Result<(), Failed> {
         let done = empty(self.rt, &mut self.file);
+        keep_trouble(&mut self.trouble, self.alloc, NAME, &done);
         counted(&mut self.faults, done)
     }
 
     fn write_at(&mut self, at: u64, piece: &[u8]) -> Result<(), Failed> {
         let done = self.write(at, piece);
+        keep_trouble(&mut self.trouble, self.alloc, NAME, &done);
         counted(&mut self.faults, done)
     }
 
     fn read_at(&mut self, at: u64, buf: &mut [u8]) -> Result<usize, Failed> {
         self.reads = self.reads.saturating_add(1);
         let done = self.read(at, buf);
+        keep_trouble(&mut self.trouble, self.alloc, NAME, &done);
         counted(&mut self.faults, done)
     }
 }

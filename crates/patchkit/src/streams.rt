@@ -3,6 +3,7 @@ ghost use Rattle.std.specs.Prelude.{◌≤◌, length, IfOk};
 ghost use Rattle.outside.specs.Silent.{silent_source, silent_sink};
 
 use crate::faults::counted;
+use crate::trouble::{Trouble, keep_trouble};
 use outside::{Failed, Sink, Source};
 use std::alloc::Global;
 use std::io;
@@ -14,13 +15,25 @@ const PIECE: usize = 65_536;
 /// Standard input.
 #[derive(Drop)]
 pub struct Input<R: Read + Drop> {
+    alloc: Global,
     reader: R,
+    trouble: Option<Trouble>,
     faults: u64,
 }
 
 impl<R: Read + Drop> Input<R> {
-    pub fn new(reader: R) -> Input<R> {
-        Input { reader, faults: 0 }
+    pub fn new(alloc: Global, reader: R) -> Input<R> {
+        Input {
+            alloc,
+            reader,
+            trouble: None,
+            faults: 0,
+        }
+    }
+
+    /// What failed last.
+    pub fn trouble(&self) -> Option<&Trouble> {
+        self.trouble.as_ref()
     }
 }
 
@@ -29,6 +42,7 @@ impl<R: Read + Drop> Source for Input<R> {
 
     fn read(&mut self, buf: &mut [u8]) -> Result<usize, Failed> {
         let read = read_some(&mut self.reader, buf);
+        keep_trouble(&mut self.trouble, self.alloc, "standard input", &read);
         counted(&mut self.faults, read)
     }
 }
@@ -49,6 +63,8 @@ fn read_some<R: Read>(reader: &mut R, buf: &mut [u8]) -> io::Result<usize>
 /// Standard output or standard error, written in large pieces.
 #[derive(Drop)]
 pub struct Output<W: Write + Drop> {
+    alloc: Global,
+    trouble: Option<Trouble>,
     writer: BufWriter<W>,
     faults: u64,
 }
@@ -56,6 +72,8 @@ pub struct Output<W: Write + Drop> {
 impl<W: Write + Drop> Output<W> {
     pub fn new(alloc: Global, writer: W) -> io::Result<Output<W>> {
         Ok(Output {
+            alloc,
+            trouble: None,
             writer: BufWriter::with_capacity(alloc, PIECE, writer)?,
             faults: 0,
         })
@@ -63,7 +81,14 @@ impl<W: Write + Drop> Output<W> {
 
     /// Writes what was gathered.
     pub fn flush(&mut self) -> io::Result<()> {
-        self.writer.flush()
+        let done = self.writer.flush();
+        keep_trouble(&mut self.trouble, self.alloc, "standard output", &done);
+        done
+    }
+
+    /// What failed last.
+    pub fn trouble(&self) -> Option<&Trouble> {
+        self.trouble.as_ref()
     }
 }
 
@@ -78,6 +103,7 @@ impl<W: Write + Drop> Sink for Output<W> {
 
     fn write(&mut self, piece: &[u8]) -> Result<usize, Failed> {
         let put = self.writer.write_all(piece);
+        keep_trouble(&mut self.trouble, self.alloc, "standard output", &put);
         match counted(&mut self.faults, put) {
             Ok(()) => Ok(piece.len()),
             Err(fault) => Err(fault),

@@ -1,0 +1,52 @@
+//! The line behind the line of an answer: what helps whoever reads it.
+
+use crate::trouble::Trouble;
+use patch_cli::Why;
+use std::alloc::{AllocError, Global};
+
+/// The largest buffer that can be asked for.
+const LARGEST_BUFFER: u64 = 1_048_576;
+
+/// How many bytes of a buffer a line may not use.
+const BESIDE_LINE: u64 = 4;
+
+/// The line behind that of an answer: where a fault was and the system's words, or what to do about a refusal. Most answers
+/// have none.
+pub fn line_behind(
+    alloc: Global,
+    tool: &str,
+    why: Why,
+    trouble: Option<&Trouble>,
+) -> Result<Option<String>, AllocError> {
+    match why {
+        Why::Usage => Ok(Some(format!(in alloc; "Try '{tool} --help' for more information.\n")?)),
+        Why::LongLine { length, .. } => buffer_line(alloc, tool, length),
+        Why::ReadFault | Why::WriteFault | Why::TreeFault | Why::ScratchFault => {
+            trouble_line(alloc, tool, trouble)
+        }
+        _ => Ok(None),
+    }
+}
+
+/// The smallest buffer that holds a line of so many bytes.
+fn buffer_line(alloc: Global, tool: &str, length: u64) -> Result<Option<String>, AllocError> {
+    let least = length.saturating_add(BESIDE_LINE);
+    if least > LARGEST_BUFFER {
+        return Ok(None);
+    }
+    Ok(Some(format!(in alloc; "{tool}: --buffer={least} would hold it\n")?))
+}
+
+fn trouble_line(
+    alloc: Global,
+    tool: &str,
+    trouble: Option<&Trouble>,
+) -> Result<Option<String>, AllocError> {
+    match trouble {
+        Some(trouble) => {
+            let text = trouble.text(alloc)?;
+            Ok(Some(format!(in alloc; "{tool}: {text}\n")?))
+        }
+        None => Ok(None),
+    }
+}

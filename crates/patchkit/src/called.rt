@@ -1,0 +1,74 @@
+//! How the program was called: by a tool's name, as through a link, or by its own with the tool as the first word.
+
+use std::env::Env;
+use std::{env, io};
+
+/// The program's own name, where there is no tool's.
+const KIT: &str = "patchkit";
+
+/// More than the longest path has.
+const LONGEST: usize = 4_096;
+
+/// The tool of this name.
+fn tool_named(word: &str) -> Option<&'static str> {
+    match word {
+        "patch" => Some("patch"),
+        "lsdiff" => Some("lsdiff"),
+        "filterdiff" => Some("filterdiff"),
+        "grepdiff" => Some("grepdiff"),
+        "splitdiff" => Some("splitdiff"),
+        "recountdiff" => Some("recountdiff"),
+        "patchgen" => Some("patchgen"),
+        _ => None,
+    }
+}
+
+/// The words of the run: the tool, if there is one, and the words behind it.
+pub fn words_of<R: Env + AllocGlobal>(rt: &R) -> io::Result<Vec<String>> {
+    let mut words = Vec::new(rt.alloc());
+    let mut called = env::args(rt)?;
+    if let Some(path) = called.next() {
+        if let Some(tool) = tool_named(last_component(path.as_str())) {
+            words.push(String::from_str(rt.alloc(), tool)?)?;
+        }
+    }
+    for word in called {
+        words.push(word)?;
+    }
+    Ok(words)
+}
+
+/// The tool for a message, or the program's own name where the first word is no tool.
+pub fn tool_of(words: &[String]) -> &'static str {
+    match words.first() {
+        Some(word) => tool_named(word.as_str()).unwrap_or(KIT),
+        None => KIT,
+    }
+}
+
+/// The same where the words can't be had.
+pub fn called_tool<R: Env>(rt: &R) -> &'static str {
+    match tool_at(rt, 0) {
+        Some(tool) => tool,
+        None => tool_at(rt, 1).unwrap_or(KIT),
+    }
+}
+
+/// The tool that an argument names, as the last component of a path.
+fn tool_at<R: Env>(rt: &R, place: usize) -> Option<&'static str> {
+    let mut buffer = [0u8; LONGEST];
+    match rt.arg(place, &mut buffer) {
+        Ok(count) => match std::str::from_utf8(&buffer[..count]) {
+            Ok(path) => tool_named(last_component(path)),
+            Err(_) => None,
+        },
+        Err(_) => None,
+    }
+}
+
+fn last_component(path: &str) -> &str {
+    match path.rsplit_once('/') {
+        Some((_, last)) => last,
+        None => path,
+    }
+}

@@ -1,0 +1,82 @@
+//! Who owns a file, and who may read, write and run it.
+
+use std::fs::{File, Metadata, Permissions};
+use std::io;
+use std::os::unix::fs::{MetadataExt, PermissionsExt, fchown};
+
+/// Reading, writing and running for the owner, the group and others. The bits that lend the owner's or the group's rights to
+/// whoever runs the file are never carried.
+const PERMISSION_BITS: u32 = 0o777;
+
+/// The owner, the group and the permission bits of a file.
+#[derive(Clone, Copy)]
+pub struct Rights {
+    owner: u32,
+    group: u32,
+    bits: u32,
+}
+
+impl Rights {
+    pub fn of(found: &Metadata) -> Rights {
+        Rights {
+            owner: found.uid(),
+            group: found.gid(),
+            bits: found.mode() & PERMISSION_BITS,
+        }
+    }
+
+    /// The same owner and group, with no bit that the other file lacks.
+    pub fn limited(self, most: Rights) -> Rights {
+        Rights {
+            owner: self.owner,
+            group: self.group,
+            bits: self.bits & most.bits,
+        }
+    }
+
+    /// The same bits, for the owner and the group of the other file.
+    pub fn owned_as(self, other: Rights) -> Rights {
+        Rights {
+            owner: other.owner,
+            group: other.group,
+            bits: self.bits,
+        }
+    }
+
+    fn has_owner_of(self, other: Rights) -> bool {
+        self.owner == other.owner && self.group == other.group
+    }
+}
+
+/// Gives a file these rights: the owner and the group first, as far as the process may, and then the bits. It is called while
+/// the file is its owner's alone, so that no bit ever speaks of another owner or group than it was meant for.
+pub fn give(file: &File, wanted: Rights) -> io::Result<()> {
+    let old = Rights::of(&file.metadata()?);
+    let now = if old.has_owner_of(wanted) {
+        old
+    } else {
+        give_owner(file, wanted)?
+    };
+    let bits = bits_for(wanted, now);
+    if now.bits == bits {
+        return Ok(());
+    }
+    file.set_permissions(Permissions::from_mode(bits))
+}
+
+/// Gives a file the owner and the group, or the group alone, or neither, whichever the system allows, and tells what it has.
+fn give_owner(file: &File, wanted: Rights) -> io::Result<Rights> {
+    if fchown(file, Some(wanted.owner), Some(wanted.group)).is_err() {
+        let _ = fchown(file, None, Some(wanted.group));
+    }
+    Ok(Rights::of(&file.metadata()?))
+}
+
+/// The bits for a file that may have another group: then its members and all others get what both had.
+fn bits_for(wanted: Rights, now: Rights) -> u32 {
+    if wanted.group == now.group {
+        return wanted.bits;
+    }
+    let both = (wanted.bits / 8) & wanted.bits & 0o7;
+    (wanted.bits & 0o700) | (both * 8) | both
+}

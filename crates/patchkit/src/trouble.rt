@@ -1,0 +1,60 @@
+//! What failed last, for the line that says where a fault was.
+
+use std::alloc::{AllocError, Global};
+use std::io;
+use std::io::ErrorKind;
+
+/// The name of a device or a file, and what the system answered.
+#[derive(Drop)]
+pub struct Trouble {
+    pub name: String,
+    pub error: io::Error,
+}
+
+/// Keeps the trouble that an answer of the system tells of, if any. Without memory there is none.
+pub fn keep_trouble<T>(
+    kept: &mut Option<Trouble>,
+    alloc: Global,
+    name: &str,
+    done: &io::Result<T>,
+) {
+    if let Err(error) = done {
+        *kept = trouble_of(alloc, name, *error);
+    }
+}
+
+fn trouble_of(alloc: Global, name: &str, error: io::Error) -> Option<Trouble> {
+    match String::from_str(alloc, shown(name, error.kind())) {
+        Ok(name) => Some(Trouble { name, error }),
+        Err(_) => None,
+    }
+}
+
+/// A temporary is shown as the file that it is for, unless a directory stands at its own name.
+fn shown(name: &str, kind: ErrorKind) -> &str {
+    if kind == ErrorKind::IsADirectory {
+        return name;
+    }
+    match name.strip_suffix(".ptmp") {
+        Some(target) if !target.is_empty() && !target.ends_with('/') => target,
+        _ => name,
+    }
+}
+
+impl Trouble {
+    /// The name and the system's words, as `d/n: Permission denied`.
+    pub fn text(&self, alloc: Global) -> Result<String, AllocError> {
+        let said = format!(in alloc; "{}", self.error)?;
+        let name = self.name.as_str();
+        let words = words_in(said.as_str());
+        format!(in alloc; "{name}: {words}")
+    }
+}
+
+/// The system's words without their number.
+fn words_in(said: &str) -> &str {
+    match said.split_once(" (os error ") {
+        Some((words, _)) => words,
+        None => said,
+    }
+}
