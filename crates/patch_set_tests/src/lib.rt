@@ -1,9 +1,5 @@
-//! Worked texts: the set that is read of each, the name that is chosen for a file patch, and what becomes of the file.
+//! Worked texts: the set that is read of each.
 #![tactic(auto)]
 
-#[cfg(test)]
-mod applying;
-#[cfg(test)]
-mod choosing;
 #[cfg(test)]
 mod reading;
