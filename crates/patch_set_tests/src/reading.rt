@@ -2,7 +2,6 @@
 
 ghost use Rattle.std.specs.Prelude.{IfOk};
 ghost use Rattle.patch_options.specs.PlainJob.{plain_options, IsLawful};
-ghost use Rattle.patch_set.specs.SetView.{IsFresh};
 
 use file_patch::FilePatch;
 use patch_options::{Job, Options, read_words};
@@ -155,7 +154,7 @@ answer Malformed { line: 5, kind: SidesDiffer }
 ";
 
 /// What stands behind a label, or nothing.
-pub fn field<'r>(row: &'r str, label: &str) -> &'r str {
+fn field<'r>(row: &'r str, label: &str) -> &'r str {
     for line in row.split('\n') {
         if let Some(rest) = line.strip_prefix(label) {
             return rest;
@@ -165,7 +164,7 @@ pub fn field<'r>(row: &'r str, label: &str) -> &'r str {
 }
 
 /// The bytes of a text in which a bar stands for a line's end.
-pub fn bytes_of(alloc: Global, shown: &str) -> Result<Vec<u8>, Fail> {
+fn bytes_of(alloc: Global, shown: &str) -> Result<Vec<u8>, Fail> {
     let text = shown.replace(alloc, "|", "\n")?;
     Ok(Vec::from_slice(alloc, text.as_bytes())?)
 }
@@ -184,22 +183,10 @@ fn options(alloc: Global, words: &str) -> Result<Options, Fail>
 }
 
 /// The set of a row.
-fn read(alloc: Global, row: &str) -> Result<Result<PatchSet, SetFault>, Fail>
-    ensures { IfOk result (λ set. IfOk set IsFresh) }
-{
+fn read(alloc: Global, row: &str) -> Result<Result<PatchSet, SetFault>, Fail> {
     let options = options(alloc, field(row, "words "))?;
     let text = bytes_of(alloc, field(row, "text "))?;
     Ok(read_set(alloc, text, &options))
-}
-
-/// The set of a row that has one.
-pub fn set_of(alloc: Global, row: &str) -> Result<PatchSet, Fail>
-    ensures { IfOk result IsFresh }
-{
-    match read(alloc, row)? {
-        Ok(set) => Ok(set),
-        Err(_) => Err("a set")?,
-    }
 }
 
 /// What is shown of a file patch, but for its targets.
