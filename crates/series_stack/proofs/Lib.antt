@@ -1,0 +1,9 @@
+pub mod Listing
+pub mod Fronts
+pub mod Entries
+pub mod EffectLists
+pub mod Steps
+pub mod Meaning
+pub mod Saving
+pub mod Going
+pub mod Undoing

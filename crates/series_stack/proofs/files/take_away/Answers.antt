@@ -1,0 +1,20 @@
+use Rattle.std.proofs.Common.{sym, ◌∙◌}
+use Rattle.series_stack.proofs.Steps.{untouched_fails, untouched_first, absent_made, size_absent, size_there}
+use Rattle.series_stack.proofs.files.take_away.Goals as goal
+
+pub returns-in-Err-clause-makes : goal.returns-in-Err-clause-makes
+returns-in-Err-clause-makes g c = untouched_fails c.in-Err.ensures.untouched c.requires.quiet _ _
+
+pub returns-in-Ok-None-clause-makes : goal.returns-in-Ok-None-clause-makes
+returns-in-Ok-None-clause-makes g c =
+    let size = c.in-Ok-None in
+    absent_made size.ensures.untouched c.requires.quiet tt c.args.name.now
+    (size_absent (g.T.Tree.view c.args.tree.now) c.args.name.now (λ f told. sym size.field-0-is ∙ size.ensures.size f told))
+
+pub returns-in-Ok-Some-clause-makes : goal.returns-in-Ok-Some-clause-makes
+returns-in-Ok-Some-clause-makes g c = untouched_first c.in-Ok-Some.ensures.untouched c.requires.quiet c.remove_there.result _ c.remove_there.ensures.makes
+
+pub remove_there-requires-clause-there : goal.remove_there-requires-clause-there
+remove_there-requires-clause-there g c =
+    let size = c.in-Ok-Some in
+    size_there (g.T.Tree.view c.args.tree.now) (g.T.Tree.view c.size.new.self) c.args.name.now size.field-0-0 size.ensures.untouched (λ f told. sym size.field-0-is ∙ size.ensures.size f told)
