@@ -42,10 +42,10 @@ file-text n name bytes more is =
     ap (λ (k : ℕ). codes "file " ++ (decimal k ++ 32 ∷ (name ++ 10 ∷ (bytes ++ 10 ∷ more)))) is
     ∙ sym (append_assoc (codes "file ") (decimal (length bytes) ++ 32 ∷ (name ++ 10 ∷ (bytes ++ 10 ∷ []))) more
     ∙ ap (λ (l : List ℕ). codes "file " ++ l)
-        (append_assoc (decimal (length bytes)) (32 ∷ (name ++ 10 ∷ (bytes ++ 10 ∷ []))) more
-        ∙ ap (λ (l : List ℕ). decimal (length bytes) ++ 32 ∷ l)
-            (append_assoc name (10 ∷ (bytes ++ 10 ∷ [])) more
-            ∙ ap (λ (l : List ℕ). name ++ 10 ∷ l) (append_assoc bytes (10 ∷ []) more))))
+    (append_assoc (decimal (length bytes)) (32 ∷ (name ++ 10 ∷ (bytes ++ 10 ∷ []))) more
+    ∙ ap (λ (l : List ℕ). decimal (length bytes) ++ 32 ∷ l)
+    (append_assoc name (10 ∷ (bytes ++ 10 ∷ [])) more
+    ∙ ap (λ (l : List ℕ). name ++ 10 ∷ l) (append_assoc bytes (10 ∷ []) more))))
 
 fed-within : (n : ℕ) (m : List ℕ) → get_or m n 0 ≡ 10 → n < length m
 fed-within n [] e = absurd (let no : zero ≡ 10 = e in let bad : ⊥ = omega (arith, no) in bad)
@@ -127,6 +127,7 @@ lawful name e = by (is_none (broken_rule name)) refl (bytes_eq (normal_form name
     none : {A : Type 0} (o : Option A) → is_none o ≡ true → o ≡ None
     none None e = refl
     none (Some a) e = absurd cc
+
     by : (a : Bool) → is_none (broken_rule name) ≡ a → (b : Bool) → bytes_eq (normal_form name) name ≡ b → (c : Bool) → is_temp name ≡ c → (d : Bool) → is_of_stack name ≡ d → (a && (b && (not c && not d))) ≡ true → Lawful name
     by true p true q false r false s h = record { obeys = none (broken_rule name) p; normal = same_bytes (normal_form name) name q; lasting = r; apart = s }
     by true p true q false r true s h = absurd cc
@@ -215,7 +216,7 @@ enough (suc m) zero (b ∷ bs) lm ln = absurd (let no : ⊥ = omega (arith, ln) 
 enough (suc m) (suc n) (b ∷ bs) lm ln =
     within-cons m b bs
     ∙ more-same (entries_within m) (entries_within n) (if_saved (first_entry (b ∷ bs)))
-        (λ x e. let lt = shorter (b ∷ bs) x e in enough m n x.1 (omega (arith, lt, lm)) (omega (arith, lt, ln)))
+    (λ x e. let lt = shorter (b ∷ bs) x e in enough m n x.1 (omega (arith, lt, lm)) (omega (arith, lt, ln)))
     ∙ sym (within-cons n b bs)
 
 pub entries-nil : entries_of [] ≡ Some []
@@ -228,7 +229,7 @@ unfolding entries_of
 entries-cons b bs =
     within-cons (length bs) b bs
     ∙ more-same (entries_within (length bs)) entries_of (if_saved (first_entry (b ∷ bs)))
-        (λ x e. let lt = shorter (b ∷ bs) x e in enough (length bs) (length x.1) x.1 (omega (arith, lt)) (omega arith))
+    (λ x e. let lt = shorter (b ∷ bs) x e in enough (length bs) (length x.1) x.1 (omega (arith, lt)) (omega arith))
 
 entries-front : (e : Entry) (more : List ℕ) → entries_of (entry_text e ++ more) ≡ and_more entries_of (if_saved (first_entry (entry_text e ++ more)))
 entries-front (Missing name) more = entries-cons 110 _

@@ -25,7 +25,7 @@ counted-sound most n text (Some x) first e = by (bytes_eq x.1 (10 ∷ [])) refl 
     by true p true q h =
         let same : x.0 ≡ n = cc in
         subst (λ (m : ℕ). (text ≡ count_text m) × (m ≤ most)) same
-            ((number-sound text x first).0 ∙ ap (λ (l : List ℕ). decimal x.0 ++ l) (same_bytes x.1 (10 ∷ []) p), leb-true x.0 most q)
+        ((number-sound text x first).0 ∙ ap (λ (l : List ℕ). decimal x.0 ++ l) (same_bytes x.1 (10 ∷ []) p), leb-true x.0 most q)
     by true p false q h = absurd cc
     by false p b q h = absurd cc
 
@@ -40,6 +40,19 @@ count-again most n text small is le =
     ap (λ (l : List ℕ). counted most (first_number l)) is
     ∙ ap (λ o. counted most o) (number-behind n (10 ∷ []) (let lt : n < 2 ^ 32 = omega (arith, small, le) in lt) refl)
     ∙ rw few refl
+
+-- ---- a count that is read
+pub counted-yes : (most : ℕ) (text : List ℕ) (x : ℕ × List ℕ) → Some x ≡ first_number text → (bytes_eq x.1 (10 ∷ []) && leb x.0 most) ≡ true → Some x.0 ≡ count_of most text
+unfolding count_of
+counted-yes most text x is holds = (let h : counted most (Some x) ≡ Some x.0 = rw holds refl in sym h) ∙ ap (λ o. counted most o) is
+
+pub counted-no : (most : ℕ) (text : List ℕ) (x : ℕ × List ℕ) → Some x ≡ first_number text → (bytes_eq x.1 (10 ∷ []) && leb x.0 most) ≡ false → ◌≡◌ {A = Option ℕ} None (count_of most text)
+unfolding count_of
+counted-no most text x is fails = (let h : counted most (Some x) ≡ None = rw fails refl in sym h) ∙ ap (λ o. counted most o) is
+
+pub counted-none : (most : ℕ) (text : List ℕ) → ◌≡◌ {A = Option (ℕ × List ℕ)} None (first_number text) → ◌≡◌ {A = Option ℕ} None (count_of most text)
+unfolding count_of
+counted-none most text is = ap (λ o. counted most o) is
 
 -- ---- what names stand for once a save is restored
 other_bytes : (a b : List ℕ) → b ≢ a → bytes_eq a b ≡ false

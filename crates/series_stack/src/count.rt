@@ -1,6 +1,6 @@
 //! How many patches of a stack are applied.
-ghost use Rattle.std.specs.Prelude.{◌≡◌, ◌≢◌, ◌≤◌, ℕ, None, Some, IfOk, IfErr};
-ghost use Rattle.series_stack.specs.Count.{count_of, count_text};
+ghost use Rattle.std.specs.Prelude.{◌≡◌, ◌∷◌, ◌&&◌, [], nat_le, bytes_eq, None, Some, IfOk, IfErr};
+ghost use Rattle.series_stack.specs.Count.{count_of};
 ghost use Rattle.series_stack.specs.declared.fault.StackFault.TheVariants.{BadState};
 ghost use Rattle.series_stack.specs.declared.fault.StateFile.TheVariants.{Count};
 
@@ -24,10 +24,21 @@ pub fn read_count(text: &[u8], most: u32) -> Result<u32, StackFault>
 fn counted(text: &[u8], most: u32) -> Option<u32>
     ensures { result ≡ count_of most text.now }
 {
-    let (count, rest) = first_number(text)?;
-    if rest == b"\n".as_slice() && count <= most {
-        Some(count)
-    } else {
-        None
+    match first_number(text) {
+        Some((count, rest)) => {
+            if is_whole(rest, count, most) {
+                Some(count)
+            } else {
+                None
+            }
+        }
+        None => None,
     }
+}
+
+// Whether only a line feed stands behind a count that isn't too large.
+fn is_whole(rest: &[u8], count: u32, most: u32) -> bool
+    ensures { result ≡ (bytes_eq rest.now (10 ∷ []) && nat_le count most) }
+{
+    rest == b"\n".as_slice() && count <= most
 }

@@ -30,7 +30,7 @@ pub returns-in_err-rest-clause-cause : goal.returns-in_err-rest-clause-cause
 returns-in_err-rest-clause-cause c =
     let rest = c.loop-rest.rest.now in
     let cause = IsBad-or _ _ _ _
-        (λ none. is_some-none (entries_of c.args.text.now) (c.loop-rest.invariant ∙ ap is_some (front-none rest (some_left rest (sym c.is_empty.ensures ∙ c.loop-rest-test.true)) none)))
-        c.in_err-rest.ensures.cause in
+    (λ none. is_some-none (entries_of c.args.text.now) (c.loop-rest.invariant ∙ ap is_some (front-none rest (some_left rest (sym c.is_empty.ensures ∙ c.loop-rest-test.true)) none)))
+    c.in_err-rest.ensures.cause in
     let p = err_from_is_err_and c.from_residual.result c.from_residual.ensures.1 in
     rw (p.1, p.2) cause

@@ -41,7 +41,7 @@ returns-in_err-add_name-clause-cause c =
     let text = c.args.text.now in
     let t = YieldsList-turn (YieldsList-from_slice_split _ is_feed text (cc) (cc) (cc) (λ x r q k. search (rules, tests))) c.loop-line.yielded _ c.loop-line.yielded_by _ _ c.in-Some.line c.in-Some.is c.next.ensures.steps in
     let cause = IsBad-or _ _ _ _
-        (λ bad. series-none text (length c.loop-line.yielded) (length c.loop-line.yielded + 1) c.in-Some.line.now c.loop-line.names.items refl t.0 t.1 c.loop-line.invariant (sym c.is_skipped.ensures ∙ c.if-not-is_skipped.true) bad)
-        c.in_err-add_name.ensures.cause in
+    (λ bad. series-none text (length c.loop-line.yielded) (length c.loop-line.yielded + 1) c.in-Some.line.now c.loop-line.names.items refl t.0 t.1 c.loop-line.invariant (sym c.is_skipped.ensures ∙ c.if-not-is_skipped.true) bad)
+    c.in_err-add_name.ensures.cause in
     let p = err_from_is_err_and c.from_residual.result c.from_residual.ensures.1 in
     rw (p.1, p.2) cause
