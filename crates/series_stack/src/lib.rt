@@ -23,6 +23,3 @@ pub use laws::{
 };
 pub use save::check_save;
 pub use series::read_series;
-
-#[cfg(test)]
-mod tests;
