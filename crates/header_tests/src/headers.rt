@@ -2,7 +2,7 @@
 
 use hunk_core::Form;
 use line_list::Span;
-use patch_header::{Header, HeaderStep, header_from, next_header};
+use patch_header::{Header, HeaderStep, header_from, next_header, plainly};
 use std::alloc::{AllocError, Global};
 use std::test::Fail;
 
@@ -87,7 +87,7 @@ fn found(alloc: Global, word: &str, text: &str) -> Result<String, AllocError> {
     if bytes.len() > 4096 {
         return String::from_str(alloc, "a long text");
     }
-    let step = next_header(bytes, 0, 1, only(word));
+    let step = next_header(bytes, 0, 1, only(word), false);
     shown(alloc, text.as_str(), step)
 }
 
@@ -104,7 +104,7 @@ fn headers_are_found(rt: HostRuntime) -> Result<(), Fail> {
 // What is known of dots holds from the opening on.
 #[test]
 fn no_dot_follows(rt: HostRuntime) {
-    let (step, dotless) = header_from(b"1a\nx\n@@ -1 +1 @@\n", 0, 1, None, false);
+    let (step, dotless) = header_from(b"1a\nx\n@@ -1 +1 @@\n", 0, 1, plainly(None), false);
     assert!(rt; dotless);
     assert!(rt; step != HeaderStep::End);
 }

@@ -2,6 +2,8 @@
 #![tactic(auto)]
 
 #[cfg(test)]
+mod git_headers;
+#[cfg(test)]
 mod headers;
 #[cfg(test)]
 mod stamps;

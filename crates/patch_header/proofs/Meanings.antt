@@ -44,7 +44,7 @@ ends-words c needle =
     let h = ends_is Decides-eqb c needle (ends_with nat_eq c needle) refl in
     (λ e. (take (length c - length needle) c, h.0 e), λ k. h.1 k.0 k.1)
 
-begins-words : (prefix c : List ℕ) → is_some (after prefix c) ≡ true ↔ ((rest : List ℕ) × (c ≡ prefix ++ rest))
+pub begins-words : (prefix c : List ℕ) → is_some (after prefix c) ≡ true ↔ ((rest : List ℕ) × (c ≡ prefix ++ rest))
 begins-words prefix c = (
   λ e. let s = has_some (after prefix c) e in (s.0, (prefix-words prefix c s.0).0 s.1),
   λ k. rw ((prefix-words prefix c k.0).1 k.1) refl,

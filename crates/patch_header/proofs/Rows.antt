@@ -5,7 +5,7 @@ use Rattle.std.proofs.lemmas.Bool.{ltb-true, ltb-false}
 use Rattle.std.proofs.lemmas.List.{drop_all}
 use Rattle.std.proofs.lemmas.List.Sums.{sum_by-append}
 use Rattle.line_list.specs.Lines.{lines, IsLineAt}
-use Rattle.hunk_core.specs.declared.Form.{Form}
+use Rattle.patch_header.specs.declared.ways.Ways.{Ways}
 use Rattle.hunk_core.specs.LineTests.{after, ends_line}
 use Rattle.patch_header.specs.Content.{content}
 use Rattle.patch_header.specs.Openings.{stop_at}
@@ -53,25 +53,25 @@ rows-push number start (l ∷ ls) line =
     ap (λ rs. row number start l ∷ rs) (rows-push (number + 1) (start + length l) ls line)
     ∙ ap (λ r. rows number start (l ∷ ls) ++ r ∷ []) last
 
-pub quiet-push : (only : Option Form) (ls : List (List ℕ)) (line : List ℕ) (rest : List (List ℕ)) → AreQuiet only ls (line ∷ rest) → stop_at only (line ∷ rest) ≡ None → AreQuiet only (ls ++ line ∷ []) rest
-quiet-push only [] line rest h none = (none, tt)
-quiet-push only (l ∷ ls) line rest h none =
+pub quiet-push : (ways : Ways) (ls : List (List ℕ)) (line : List ℕ) (rest : List (List ℕ)) → AreQuiet ways ls (line ∷ rest) → stop_at ways (line ∷ rest) ≡ None → AreQuiet ways (ls ++ line ∷ []) rest
+quiet-push ways [] line rest h none = (none, tt)
+quiet-push ways (l ∷ ls) line rest h none =
     let same : (ls ++ line ∷ []) ++ rest ≡ ls ++ line ∷ rest = append_assoc ls (line ∷ []) rest in
-    (ap (λ more. stop_at only (l ∷ more)) same ∙ h.0, quiet-push only ls line rest h.1 none)
+    (ap (λ more. stop_at ways (l ∷ more)) same ∙ h.0, quiet-push ways ls line rest h.1 none)
 
-pub region-push : (only : Option Form) (text : List ℕ) (at : ℕ) (region : List (List ℕ)) (place end : ℕ) → IsRegion only text at region place → IsLineAt text place end → stop_at only (lines (drop place text)) ≡ None
-    → IsRegion only text at (region ++ slice_range text place end ∷ []) end
-region-push only text at region place end h line none =
+pub region-push : (ways : Ways) (text : List ℕ) (at : ℕ) (region : List (List ℕ)) (place end : ℕ) → IsRegion ways text at region place → IsLineAt text place end → stop_at ways (lines (drop place text)) ≡ None
+    → IsRegion ways text at (region ++ slice_range text place end ∷ []) end
+region-push ways text at region place end h line none =
     let one = slice_range text place end in
     let rest = lines (drop end text) in
     let far : place + length one ≡ end = line_length text place end line in
     let sum : sum_by length (region ++ one ∷ []) ≡ sum_by length region + sum_by length (one ∷ []) = sum_by-append length region (one ∷ []) in
     let was : place ≡ at + sum_by length region = h.ends in
-    let quiet : AreQuiet only region (one ∷ rest) = rw line.first at h.quiet in
+    let quiet : AreQuiet ways region (one ∷ rest) = rw line.first at h.quiet in
     record {
       parts = h.parts ∙ ap (λ ls. region ++ ls) line.first ∙ sym (append_assoc region (one ∷ []) rest);
       ends = rw sum (omega arith);
-      quiet = quiet-push only region one rest quiet (rw line.first at none);
+      quiet = quiet-push ways region one rest quiet (rw line.first at none);
     }
 
 pub no-lines : lines [] ≡ []
@@ -79,13 +79,13 @@ unfolding lines
 no-lines = refl
 
 -- where something stands, the text goes on
-pub stands-within : (only : Option Form) (text : List ℕ) (place : ℕ) (stop : Stop) → place ≤ length text → stop_at only (lines (drop place text)) ≡ Some stop → place < length text
-stands-within only text place stop le h = by (ltb place (length text)) refl
+pub stands-within : (ways : Ways) (text : List ℕ) (place : ℕ) (stop : Stop) → place ≤ length text → stop_at ways (lines (drop place text)) ≡ Some stop → place < length text
+stands-within ways text place stop le h = by (ltb place (length text)) refl
   where
     by : (v : Bool) → ltb place (length text) ≡ v → place < length text
     by true e = ltb-true place (length text) e
     by false e =
         let all : length text ≤ place = ltb-false place (length text) e in
         let empty : lines (drop place text) ≡ [] = ap lines (drop_all place text all) ∙ no-lines in
-        let none : stop_at only (lines (drop place text)) ≡ None = ap (stop_at only) empty ∙ stop-end only in
+        let none : stop_at ways (lines (drop place text)) ≡ None = ap (stop_at ways) empty ∙ stop-end ways in
         absurd cc

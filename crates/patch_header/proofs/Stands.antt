@@ -1,5 +1,5 @@
--- No line has two openings, and no opening is a binary line: the first byte tells them apart, and for normal diffs and ed scripts what follows the letter.
-use Rattle.std.proofs.Common.{◌≡◌, ◌⊎◌, inl, inr, ◌↔◌, ℕ, suc, ◌-◌, Bool, true, false, cond, ◌&&◌, ◌||◌, eqb, List, [], ◌∷◌, length, take, Option, None, Some, refl, sym, ap, subst, ◌∙◌, arith}
+-- No line has two openings, no opening is a binary line, and none of them begins a git header: the first byte tells them apart, and for normal diffs and ed scripts what follows the letter.
+use Rattle.std.proofs.Common.{◌≡◌, ◌⊎◌, inl, inr, ◌↔◌, ℕ, suc, ◌-◌, Bool, true, false, cond, not, ◌&&◌, ◌||◌, eqb, List, [], ◌∷◌, length, take, Option, None, Some, refl, sym, ap, subst, ◌∙◌, arith}
 use Rattle.std.specs.Prelude.{is_some, codes, nat_eq, bytes_eq}
 use Rattle.std.proofs.lemmas.Bool.{eqb-true}
 use Rattle.hunk_core.specs.declared.Form.{Form}
@@ -17,9 +17,11 @@ use Rattle.unified_form.specs.Ranges as range_line
 use Rattle.context_form.specs.Openings as context
 use Rattle.normal_form.specs.Commands as command
 use Rattle.patch_header.specs.Content.{content, is_binary}
-use Rattle.patch_header.specs.Openings.{admits, begins, begins_binary, opens, stop_at}
+use Rattle.patch_header.specs.Openings.{admits, begins, begins_binary, opens, stops_binary, stops_bare, stop_at}
+use Rattle.patch_header.specs.GitHeaders.{begins_bare}
+use Rattle.patch_header.specs.declared.ways.Ways.{Ways}
 use Rattle.patch_header.specs.declared.openings.Stop.{Stop}
-use Rattle.patch_header.specs.declared.openings.Stop.TheVariants.{Opening, Binary}
+use Rattle.patch_header.specs.declared.openings.Stop.TheVariants.{Opening, Binary, Bare}
 
 -- the first byte of a line; 0 where there is none
 abbrev pub front : List ℕ → ℕ
@@ -133,7 +135,7 @@ or_cases false w h = inr h
 -- ---- what the first byte tells
 
 abbrev kind : ℕ → ℕ
-kind b = cond (is_digit b) 3 (cond (eqb b 64) 1 (cond (eqb b 42) 2 0))
+kind b = cond (is_digit b) 3 (cond (eqb b 64) 1 (cond (eqb b 42) 2 (cond (eqb b 100) 4 0)))
 
 abbrev number : Form → ℕ
 number Unified = 1
@@ -208,11 +210,36 @@ first-binary (line ∷ more) h = binary-kind line h
 pub not_binary : (only : Option Form) (f : Form) (rest : List (List ℕ)) → begins only f rest ≡ true → begins_binary rest ≡ false
 not_binary only f rest h = is_no (begins_binary rest) (λ b. no-binary f (kind (first_byte rest)) (kind-of only f rest h) (first-binary rest b))
 
+-- ---- git headers
+
+first-bare : (rest : List (List ℕ)) → begins_bare rest ≡ true → kind (first_byte rest) ≡ 4
+unfolding begins_bare
+first-bare [] h = absurd cc
+first-bare (line ∷ more) h = ap kind (content-front line 99 (after-front 100 (codes "iff --git ") (content line) (and_left _ _ h)))
+
+no-bare : (f : Form) (n : ℕ) → n ≡ number f → n ≡ 4 → ⊥
+no-bare Unified n e z = omega (arith, e, z)
+no-bare Context n e z = omega (arith, e, z)
+no-bare Normal n e z = omega (arith, e, z)
+no-bare Ed n e z = omega (arith, e, z)
+
+bare-shut : (only : Option Form) (f : Form) (rest : List (List ℕ)) → begins_bare rest ≡ true → begins only f rest ≡ false
+bare-shut only f rest h = is_no (begins only f rest) (λ k. no-bare f (kind (first_byte rest)) (kind-of only f rest k) (first-bare rest h))
+
+no-four : (n : ℕ) → n ≡ 0 → n ≡ 4 → ⊥
+no-four n e z = omega (arith, e, z)
+
+bare-text : (rest : List (List ℕ)) → begins_bare rest ≡ true → begins_binary rest ≡ false
+bare-text rest h = is_no (begins_binary rest) (λ k. no-four (kind (first_byte rest)) (first-binary rest k) (first-bare rest h))
+
+pub bare-alone : (only : Option Form) (f : Form) (rest : List (List ℕ)) → begins_bare rest ≡ true → (begins only f rest ≡ false) × (begins_binary rest ≡ false)
+bare-alone only f rest h = (bare-shut only f rest h, bare-text rest h)
+
 -- ---- the order of the tests tells nothing
 
 -- which test is the first to hold
-abbrev chain : Bool → Bool → Bool → Bool → Bool → Option Stop
-chain u c n e b = cond u (Some (Opening Unified)) (cond c (Some (Opening Context)) (cond n (Some (Opening Normal)) (cond e (Some (Opening Ed)) (cond b (Some Binary) None))))
+abbrev chain : Bool → Bool → Bool → Bool → Bool → Bool → Option Stop
+chain u c n e b g = cond u (Some (Opening Unified)) (cond c (Some (Opening Context)) (cond n (Some (Opening Normal)) (cond e (Some (Opening Ed)) (cond b (Some Binary) (cond g (Some Bare) None)))))
 
 abbrev pick : Bool → Bool → Bool → Bool → Form → Bool
 pick u c n e Unified = u
@@ -220,44 +247,54 @@ pick u c n e Context = c
 pick u c n e Normal = n
 pick u c n e Ed = e
 
-told : (u c n e b : Bool) (f : Form) → chain u c n e b ≡ Some (Opening f) → pick u c n e f ≡ true
-told true c n e b Unified h = refl
-told true c n e b Context h = absurd cc
-told true c n e b Normal h = absurd cc
-told true c n e b Ed h = absurd cc
-told false true n e b Unified h = absurd cc
-told false true n e b Context h = refl
-told false true n e b Normal h = absurd cc
-told false true n e b Ed h = absurd cc
-told false false true e b Unified h = absurd cc
-told false false true e b Context h = absurd cc
-told false false true e b Normal h = refl
-told false false true e b Ed h = absurd cc
-told false false false true b Unified h = absurd cc
-told false false false true b Context h = absurd cc
-told false false false true b Normal h = absurd cc
-told false false false true b Ed h = refl
-told false false false false true f h = absurd cc
-told false false false false false f h = absurd cc
+told : (u c n e b g : Bool) (f : Form) → chain u c n e b g ≡ Some (Opening f) → pick u c n e f ≡ true
+told true c n e b g Unified h = refl
+told true c n e b g Context h = absurd cc
+told true c n e b g Normal h = absurd cc
+told true c n e b g Ed h = absurd cc
+told false true n e b g Unified h = absurd cc
+told false true n e b g Context h = refl
+told false true n e b g Normal h = absurd cc
+told false true n e b g Ed h = absurd cc
+told false false true e b g Unified h = absurd cc
+told false false true e b g Context h = absurd cc
+told false false true e b g Normal h = refl
+told false false true e b g Ed h = absurd cc
+told false false false true b g Unified h = absurd cc
+told false false false true b g Context h = absurd cc
+told false false false true b g Normal h = absurd cc
+told false false false true b g Ed h = refl
+told false false false false true g f h = absurd cc
+told false false false false false true f h = absurd cc
+told false false false false false false f h = absurd cc
 
-told-binary : (u c n e b : Bool) → chain u c n e b ≡ Some Binary → b ≡ true
-told-binary true c n e b h = absurd cc
-told-binary false true n e b h = absurd cc
-told-binary false false true e b h = absurd cc
-told-binary false false false true b h = absurd cc
-told-binary false false false false b h = by b h
-  where
-    by : (b : Bool) → cond b (Some Binary) None ≡ Some Binary → b ≡ true
-    by true h = refl
-    by false h = absurd cc
+-- a line of no form
+told-binary : (u c n e b g : Bool) → chain u c n e b g ≡ Some Binary → b ≡ true
+told-binary true c n e b g h = absurd cc
+told-binary false true n e b g h = absurd cc
+told-binary false false true e b g h = absurd cc
+told-binary false false false true b g h = absurd cc
+told-binary false false false false true g h = refl
+told-binary false false false false false true h = absurd cc
+told-binary false false false false false false h = absurd cc
 
-told-none : (u c n e b : Bool) → chain u c n e b ≡ None → ((f : Form) → pick u c n e f ≡ false) × (b ≡ false)
-told-none true c n e b h = absurd cc
-told-none false true n e b h = absurd cc
-told-none false false true e b h = absurd cc
-told-none false false false true b h = absurd cc
-told-none false false false false true h = absurd cc
-told-none false false false false false h = (none, refl)
+told-bare : (u c n e b g : Bool) → chain u c n e b g ≡ Some Bare → g ≡ true
+told-bare true c n e b g h = absurd cc
+told-bare false true n e b g h = absurd cc
+told-bare false false true e b g h = absurd cc
+told-bare false false false true b g h = absurd cc
+told-bare false false false false true g h = absurd cc
+told-bare false false false false false true h = refl
+told-bare false false false false false false h = absurd cc
+
+told-none : (u c n e b g : Bool) → chain u c n e b g ≡ None → ((f : Form) → pick u c n e f ≡ false) × (b ≡ false) × (g ≡ false)
+told-none true c n e b g h = absurd cc
+told-none false true n e b g h = absurd cc
+told-none false false true e b g h = absurd cc
+told-none false false false true b g h = absurd cc
+told-none false false false false true g h = absurd cc
+told-none false false false false false true h = absurd cc
+told-none false false false false false false h = (none, refl, refl)
   where
     none : (f : Form) → pick false false false false f ≡ false
     none Unified = refl
@@ -271,47 +308,71 @@ picked only rest Context = refl
 picked only rest Normal = refl
 picked only rest Ed = refl
 
-pub stop-opens : (only : Option Form) (f : Form) (rest : List (List ℕ)) → stop_at only rest ≡ Some (Opening f) → opens only f rest ≡ true
+pub stop-opens : (ways : Ways) (f : Form) (rest : List (List ℕ)) → stop_at ways rest ≡ Some (Opening f) → opens ways.only f rest ≡ true
 unfolding stop_at
-stop-opens only f rest h = sym (picked only rest f) ∙ told (opens only Unified rest) (opens only Context rest) (opens only Normal rest) (opens only Ed rest) (begins_binary rest) f h
+stop-opens ways f rest h = sym (picked ways.only rest f) ∙ told (opens ways.only Unified rest) (opens ways.only Context rest) (opens ways.only Normal rest) (opens ways.only Ed rest) (stops_binary ways rest) (stops_bare ways rest) f h
 
 other-shut : (only : Option Form) (f g : Form) (rest : List (List ℕ)) → (f ≡ g → ⊥) → opens only f rest ≡ true → opens only g rest ≡ false
 other-shut only f g rest ne h = is_no (opens only g rest) (λ k. ne (alone only f g rest (and_right (admits only f) _ h) (and_right (admits only g) _ k)))
 
-opens-stop : (only : Option Form) (f : Form) (rest : List (List ℕ)) → opens only f rest ≡ true → stop_at only rest ≡ Some (Opening f)
+opens-stop : (ways : Ways) (f : Form) (rest : List (List ℕ)) → opens ways.only f rest ≡ true → stop_at ways rest ≡ Some (Opening f)
 unfolding stop_at
-opens-stop only Unified rest h = rw h refl
-opens-stop only Context rest h = rw (other-shut only Context Unified rest (λ e. absurd cc) h, h) refl
-opens-stop only Normal rest h = rw (other-shut only Normal Unified rest (λ e. absurd cc) h, other-shut only Normal Context rest (λ e. absurd cc) h, h) refl
-opens-stop only Ed rest h = rw (other-shut only Ed Unified rest (λ e. absurd cc) h, other-shut only Ed Context rest (λ e. absurd cc) h, other-shut only Ed Normal rest (λ e. absurd cc) h, h) refl
+opens-stop ways Unified rest h = rw h refl
+opens-stop ways Context rest h = rw (other-shut ways.only Context Unified rest (λ e. absurd cc) h, h) refl
+opens-stop ways Normal rest h = rw (other-shut ways.only Normal Unified rest (λ e. absurd cc) h, other-shut ways.only Normal Context rest (λ e. absurd cc) h, h) refl
+opens-stop ways Ed rest h = rw (other-shut ways.only Ed Unified rest (λ e. absurd cc) h, other-shut ways.only Ed Context rest (λ e. absurd cc) h, other-shut ways.only Ed Normal rest (λ e. absurd cc) h, h) refl
 
-pub opening-words : (only : Option Form) (f : Form) (rest : List (List ℕ)) → stop_at only rest ≡ Some (Opening f) ↔ opens only f rest ≡ true
-opening-words only f rest = (λ h. stop-opens only f rest h, λ h. opens-stop only f rest h)
+pub opening-words : (ways : Ways) (f : Form) (rest : List (List ℕ)) → stop_at ways rest ≡ Some (Opening f) ↔ opens ways.only f rest ≡ true
+opening-words ways f rest = (λ h. stop-opens ways f rest h, λ h. opens-stop ways f rest h)
+
+-- where no form opens, the last two tests are left
+stop-none : (ways : Ways) (rest : List (List ℕ)) → ((f : Form) → opens ways.only f rest ≡ false) → stop_at ways rest ≡ cond (stops_binary ways rest) (Some Binary) (cond (stops_bare ways rest) (Some Bare) None)
+unfolding stop_at
+stop-none ways rest h = rw (h Unified, h Context, h Normal, h Ed) refl
 
 shut-binary : (only : Option Form) (f : Form) (rest : List (List ℕ)) → begins_binary rest ≡ true → opens only f rest ≡ false
 shut-binary only f rest h = is_no (opens only f rest) (λ k. let b : begins_binary rest ≡ false = not_binary only f rest (and_right (admits only f) _ k) in absurd cc)
 
-stop-none : (only : Option Form) (rest : List (List ℕ)) → ((f : Form) → opens only f rest ≡ false) → stop_at only rest ≡ cond (begins_binary rest) (Some Binary) None
-unfolding stop_at
-stop-none only rest h = rw (h Unified, h Context, h Normal, h Ed) refl
+shut-bare : (only : Option Form) (f : Form) (rest : List (List ℕ)) → begins_bare rest ≡ true → opens only f rest ≡ false
+shut-bare only f rest h = is_no (opens only f rest) (λ k. let b : begins only f rest ≡ false = bare-shut only f rest h in let c : begins only f rest ≡ true = and_right (admits only f) _ k in absurd cc)
 
-pub binary-words : (only : Option Form) (rest : List (List ℕ)) → stop_at only rest ≡ Some Binary ↔ begins_binary rest ≡ true
+pub binary-words : (ways : Ways) (rest : List (List ℕ)) → stop_at ways rest ≡ Some Binary ↔ stops_binary ways rest ≡ true
 unfolding stop_at
-binary-words only rest = (
-  λ h. told-binary (opens only Unified rest) (opens only Context rest) (opens only Normal rest) (opens only Ed rest) (begins_binary rest) h,
-  λ h. stop-none only rest (λ f. shut-binary only f rest h) ∙ ap (λ v. cond v (Some Binary) None) h,
+binary-words ways rest = (
+  λ h. told-binary (opens ways.only Unified rest) (opens ways.only Context rest) (opens ways.only Normal rest) (opens ways.only Ed rest) (stops_binary ways rest) (stops_bare ways rest) h,
+  λ h. stop-none ways rest (λ f. shut-binary ways.only f rest (and_right (not ways.skip_binary) _ h)) ∙ ap (λ v. cond v (Some Binary) (cond (stops_bare ways rest) (Some Bare) None)) h,
 )
 
-pub nothing-words : (only : Option Form) (rest : List (List ℕ)) → (stop_at only rest ≡ None) ↔ (((f : Form) → opens only f rest ≡ false) × (begins_binary rest ≡ false))
+bare-no_text : (ways : Ways) (rest : List (List ℕ)) → stops_bare ways rest ≡ true → stops_binary ways rest ≡ false
+bare-no_text ways rest h = is_no (stops_binary ways rest) (λ k. let b : begins_binary rest ≡ false = bare-text rest (and_right ways.git _ h) in let c : begins_binary rest ≡ true = and_right (not ways.skip_binary) _ k in absurd cc)
+
+pub bare-words : (ways : Ways) (rest : List (List ℕ)) → stop_at ways rest ≡ Some Bare ↔ stops_bare ways rest ≡ true
 unfolding stop_at
-nothing-words only rest = (
-  λ h. let all = told-none (opens only Unified rest) (opens only Context rest) (opens only Normal rest) (opens only Ed rest) (begins_binary rest) h in (λ f. sym (picked only rest f) ∙ all.0 f, all.1),
-  λ h. stop-none only rest h.0 ∙ ap (λ v. cond v (Some Binary) None) h.1,
+bare-words ways rest = (
+  λ h. told-bare (opens ways.only Unified rest) (opens ways.only Context rest) (opens ways.only Normal rest) (opens ways.only Ed rest) (stops_binary ways rest) (stops_bare ways rest) h,
+  λ h. stop-none ways rest (λ f. shut-bare ways.only f rest (and_right ways.git _ h))
+      ∙ ap (λ v. cond v (Some Binary) (cond (stops_bare ways rest) (Some Bare) None)) (bare-no_text ways rest h)
+      ∙ ap (λ v. cond v (Some Bare) None) h,
 )
+
+pub nothing-words : (ways : Ways) (rest : List (List ℕ)) → (stop_at ways rest ≡ None) ↔ (((f : Form) → opens ways.only f rest ≡ false) × (stops_binary ways rest ≡ false) × (stops_bare ways rest ≡ false))
+unfolding stop_at
+nothing-words ways rest = (
+  λ h. let all = told-none (opens ways.only Unified rest) (opens ways.only Context rest) (opens ways.only Normal rest) (opens ways.only Ed rest) (stops_binary ways rest) (stops_bare ways rest) h in (λ f. sym (picked ways.only rest f) ∙ all.0 f, all.1, all.2),
+  λ h. stop-none ways rest h.0 ∙ ap (λ v. cond v (Some Binary) (cond (stops_bare ways rest) (Some Bare) None)) h.1 ∙ ap (λ v. cond v (Some Bare) None) h.2,
+)
+
+and_no : (v w : Bool) → w ≡ false → (v && w) ≡ false
+and_no true w h = h
+and_no false w h = refl
+
+no-git : begins_bare [] ≡ false
+unfolding begins_bare
+no-git = refl
 
 -- nothing stands where no line is left
-pub stop-end : (only : Option Form) → stop_at only [] ≡ None
-stop-end only = (nothing-words only []).1 (λ f. shut f, refl)
+pub stop-end : (ways : Ways) → stop_at ways [] ≡ None
+stop-end ways = (nothing-words ways []).1 (λ f. shut f, and_no (not ways.skip_binary) false refl, and_no ways.git (begins_bare []) no-git)
   where
-    shut : (f : Form) → opens only f [] ≡ false
-    shut f = is_no (opens only f []) (λ k. let z : kind (first_byte []) ≡ number f = kind-of only f [] (and_right (admits only f) _ k) in no-binary f 0 z refl)
+    shut : (f : Form) → opens ways.only f [] ≡ false
+    shut f = is_no (opens ways.only f []) (λ k. let z : kind (first_byte []) ≡ number f = kind-of ways.only f [] (and_right (admits ways.only f) _ k) in no-binary f 0 z refl)

@@ -1,6 +1,12 @@
+pub mod Ways
 pub mod Content
 pub mod Openings
 pub mod Region
 pub mod Values
+pub mod GitHeaders
+pub mod GitRows
+pub mod Said
+pub mod Scanning
 pub mod Steps
+pub mod Kept
 pub mod Searching

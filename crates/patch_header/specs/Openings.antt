@@ -1,4 +1,4 @@
--- What can stand at a line: the opening of a form, or a binary line.
+-- What can stand at a line: the opening of a form, a binary line, or a bare git header.
 use Rattle.std.specs.Prelude.{ℕ, Bool, true, false, not, ◌&&◌, ◌||◌, List, [], ◌∷◌, Option, None, Some, if◌then◌else◌}
 use Rattle.hunk_core.specs.declared.Form.{Form}
 use Rattle.hunk_core.specs.declared.Form.TheVariants.{Unified, Context, Normal, Ed}
@@ -10,8 +10,10 @@ use Rattle.unified_form.specs.Hunks as unified
 use Rattle.context_form.specs.Openings as context
 use Rattle.normal_form.specs.Hunks as normal
 use Rattle.patch_header.specs.Content.{is_binary, has_dot}
+use Rattle.patch_header.specs.GitHeaders.{begins_bare}
+use Rattle.patch_header.specs.declared.ways.Ways.{Ways}
 use Rattle.patch_header.specs.declared.openings.Stop.{Stop}
-use Rattle.patch_header.specs.declared.openings.Stop.TheVariants.{Opening, Binary}
+use Rattle.patch_header.specs.declared.openings.Stop.TheVariants.{Opening, Binary, Bare}
 
 -- a form is admitted where it is the only one that is asked for, or all are
 abbrev pub admits : Option Form → Form → Bool
@@ -59,11 +61,20 @@ abbrev pub begins_binary : List (List ℕ) → Bool
 begins_binary [] = false
 begins_binary (line ∷ rest) = is_binary line
 
+-- a binary line that isn't passed over is the first of these lines
+abbrev pub stops_binary : Ways → List (List ℕ) → Bool
+stops_binary ways rest = not ways.skip_binary && begins_binary rest
+
+-- a bare git header begins these lines, where git headers are read
+abbrev pub stops_bare : Ways → List (List ℕ) → Bool
+stops_bare ways rest = ways.git && begins_bare rest
+
 -- what stands at the first of these lines; no line has two of them, so the order of the tests tells nothing
-unfoldable pub stop_at : Option Form → List (List ℕ) → Option Stop
-stop_at only rest = if opens only Unified rest then Some (Opening Unified)
-    else if opens only Context rest then Some (Opening Context)
-    else if opens only Normal rest then Some (Opening Normal)
-    else if opens only Ed rest then Some (Opening Ed)
-    else if begins_binary rest then Some Binary
+unfoldable pub stop_at : Ways → List (List ℕ) → Option Stop
+stop_at ways rest = if opens ways.only Unified rest then Some (Opening Unified)
+    else if opens ways.only Context rest then Some (Opening Context)
+    else if opens ways.only Normal rest then Some (Opening Normal)
+    else if opens ways.only Ed rest then Some (Opening Ed)
+    else if stops_binary ways rest then Some Binary
+    else if stops_bare ways rest then Some Bare
     else None

@@ -1,16 +1,18 @@
 -- How far a search for an opening has come.
-use Rattle.std.specs.Prelude.{◌≡◌, ℕ, ◌+◌, ◌≤◌, ◌^◌, List, length, Option}
-use Rattle.hunk_core.specs.declared.Form.{Form}
+use Rattle.std.specs.Prelude.{◌≡◌, ℕ, ◌+◌, ◌≤◌, ◌^◌, true, List, length}
 use Rattle.patch_header.specs.Region.{rows, seen_in, AllLieIn}
+use Rattle.patch_header.specs.Said.{trail_in, TrailsWithin}
 use Rattle.patch_header.specs.Steps.{IsRegion}
+use Rattle.patch_header.specs.declared.ways.Ways.{Ways}
 use Rattle.patch_header.specs.declared.search.Search.{Search}
 
 -- nothing stands at the lines up to here, and the last of each kind among them are known
-pub record HasPassed (only : Option Form) (text : List ℕ) (at line : ℕ) (here : Search) : Type 0 where
+pub record HasPassed (ways : Ways) (text : List ℕ) (at line : ℕ) (here : Search) : Type 0 where
   pub region : List (List ℕ)
-  pub is_region : IsRegion only text at region here.at
+  pub is_region : IsRegion ways text at region here.at
   pub number : here.number ≡ line + length region
   pub seen : here.seen ≡ seen_in (rows line at region)
+  pub trail : ways.git ≡ true → here.trail ≡ trail_in (rows line at region)
   pub low : at ≤ here.at
   pub count : here.number + at ≤ line + here.at
 
@@ -19,3 +21,4 @@ pub record IsLawful (text : List ℕ) (here : Search) : Type 0 where
   pub within : here.at ≤ length text
   pub small : here.number ≤ 2 ^ 32 + here.at
   pub lies : AllLieIn text here.seen
+  pub trails : TrailsWithin text here.trail

@@ -3,27 +3,33 @@ use Rattle.std.specs.Prelude.{◌≡◌, ℕ, ◌+◌, ◌<◌, ◌≤◌, true,
 use Rattle.line_list.specs.declared.Span.{Span}
 use Rattle.line_list.specs.Lines.{lines}
 use Rattle.hunk_core.specs.declared.Form.{Form}
+use Rattle.hunk_core.specs.declared.Form.TheVariants.{Unified}
+use Rattle.stamp.specs.declared.Stamp.TheVariants.{Unknown}
 use Rattle.patch_header.specs.Content.{has_dot}
 use Rattle.patch_header.specs.Openings.{admits, begins, stop_at}
 use Rattle.patch_header.specs.Region.{Row, rows, last_tail, old_tail, new_tail}
+use Rattle.patch_header.specs.GitHeaders.{action_of, begins_bare}
+use Rattle.patch_header.specs.GitRows.{lines_of, from_in, to_in, old_half, new_half, git_rest, extended_rows, led_by}
 use Rattle.patch_header.specs.Values.{name_in, word_in, stamp_in, IsPieceOf}
 use Rattle.patch_header.specs.declared.openings.Stop.{Stop}
 use Rattle.patch_header.specs.declared.openings.Stop.TheVariants as stops
 use Rattle.patch_header.specs.declared.region.Tail.{Tail}
 use Rattle.patch_header.specs.declared.header.Header.{Header}
+use Rattle.patch_header.specs.declared.ways.Ways.{Ways}
+use Rattle.patch_header.specs.declared.git_lines.Action.TheVariants.{Plain}
 use Rattle.patch_header.specs.declared.search.HeaderStep.{HeaderStep}
 use Rattle.patch_header.specs.declared.search.HeaderStep.TheVariants.{Found, Binary, End}
 
 -- nothing stands at any of these lines, which others follow
-abbrev pub AreQuiet : Option Form → List (List ℕ) → List (List ℕ) → Type 0
-AreQuiet only [] rest = Unit {0}
-AreQuiet only (line ∷ more) rest = (stop_at only (line ∷ (more ++ rest)) ≡ None) × AreQuiet only more rest
+abbrev pub AreQuiet : Ways → List (List ℕ) → List (List ℕ) → Type 0
+AreQuiet ways [] rest = Unit {0}
+AreQuiet ways (line ∷ more) rest = (stop_at ways (line ∷ (more ++ rest)) ≡ None) × AreQuiet ways more rest
 
 -- from a place up to another go these lines, and nothing stands at any of them
-pub record IsRegion (only : Option Form) (text : List ℕ) (at : ℕ) (region : List (List ℕ)) (place : ℕ) : Type 0 where
+pub record IsRegion (ways : Ways) (text : List ℕ) (at : ℕ) (region : List (List ℕ)) (place : ℕ) : Type 0 where
   pub parts : lines (drop at text) ≡ region ++ lines (drop place text)
   pub ends : place ≡ at + sum_by length region
-  pub quiet : AreQuiet only region (lines (drop place text))
+  pub quiet : AreQuiet ways region (lines (drop place text))
 
 -- the line of the old name, or the opening where there is none
 abbrev pub names_line : Option Tail → Option Span → ℕ → ℕ
@@ -31,9 +37,9 @@ names_line None name opening = opening
 names_line (Some t) None opening = opening
 names_line (Some t) (Some s) opening = t.number
 
--- what the header of an opening says, by the lines in front of it
-abbrev pub header_with : List ℕ → Form → ℕ → ℕ → List Row → Header
-header_with text form at opening rs = record {
+-- what the header of an opening says, by the lines in front of it, and by the extended lines of the git header that leads it
+abbrev pub header_with : List ℕ → Form → ℕ → ℕ → List Row → List Row → Header
+header_with text form at opening rs gs = record {
   form = form;
   at = at;
   opening = opening;
@@ -44,54 +50,87 @@ header_with text form at opening rs = record {
   prereq = word_in text (last_tail (codes "Prereq:") rs);
   old_stamp = stamp_in text (old_tail form rs);
   new_stamp = stamp_in text (new_tail form rs);
+  action = action_of (lines_of gs);
+  bare = false;
+  from = from_in gs;
+  to = to_in gs;
 }
 
--- the first that stands at a line from a place on is an opening with this header
-pub record IsFirstOpening (only : Option Form) (text : List ℕ) (at line : ℕ) (h : Header) : Type 0 where
+-- what a bare git header at a place says, whose git line has this number; `Index:` and `Prereq:` come from the lines in front of it
+abbrev pub bare_with : List ℕ → ℕ → ℕ → List Row → Header
+bare_with text at number rs = record {
+  form = Unified;
+  at = at;
+  opening = number;
+  names_line = number;
+  old_name = old_half text (git_rest number at (lines (drop at text)));
+  new_name = new_half text (git_rest number at (lines (drop at text)));
+  index = name_in text (last_tail (codes "Index:") rs);
+  prereq = word_in text (last_tail (codes "Prereq:") rs);
+  old_stamp = Unknown;
+  new_stamp = Unknown;
+  action = action_of (lines_of (extended_rows number at (lines (drop at text))));
+  bare = true;
+  from = from_in (extended_rows number at (lines (drop at text)));
+  to = to_in (extended_rows number at (lines (drop at text)));
+}
+
+-- the header of what stands at a place behind these lines; a binary line has none
+abbrev pub header_at : Ways → List ℕ → ℕ → ℕ → List Row → Stop → Option Header
+header_at ways text place number rs (stops.Opening form) = Some (header_with text form place number rs (led_by ways form rs))
+header_at ways text place number rs stops.Bare = Some (bare_with text place number rs)
+header_at ways text place number rs stops.Binary = None
+
+-- the first that stands at a line from a place on is an opening or a bare git header, and says this
+pub record IsFirstOpening (ways : Ways) (text : List ℕ) (at line : ℕ) (h : Header) : Type 0 where
   pub region : List (List ℕ)
   pub place : ℕ
-  pub form : Form
-  pub is_region : IsRegion only text at region place
-  pub stands : stop_at only (lines (drop place text)) ≡ Some (stops.Opening form)
-  pub says : h ≡ header_with text form place (line + length region) (rows line at region)
+  pub stop : Stop
+  pub is_region : IsRegion ways text at region place
+  pub stands : stop_at ways (lines (drop place text)) ≡ Some stop
+  pub says : header_at ways text place (line + length region) (rows line at region) stop ≡ Some h
 
 -- the first that stands at a line from a place on is a binary line with this number
-pub record IsFirstBinary (only : Option Form) (text : List ℕ) (at line number : ℕ) : Type 0 where
+pub record IsFirstBinary (ways : Ways) (text : List ℕ) (at line number : ℕ) : Type 0 where
   pub region : List (List ℕ)
   pub place : ℕ
-  pub is_region : IsRegion only text at region place
-  pub stands : stop_at only (lines (drop place text)) ≡ Some stops.Binary
+  pub is_region : IsRegion ways text at region place
+  pub stands : stop_at ways (lines (drop place text)) ≡ Some stops.Binary
   pub counted : number ≡ line + length region
 
 -- nothing stands at any line from a place on
-abbrev pub IsEnd : Option Form → List ℕ → ℕ → Type 0
-IsEnd only text at = AreQuiet only (lines (drop at text)) []
+abbrev pub IsEnd : Ways → List ℕ → ℕ → Type 0
+IsEnd ways text at = AreQuiet ways (lines (drop at text)) []
 
 -- what comes next from a place on, whose line has this number
-abbrev pub Comes : Option Form → List ℕ → ℕ → ℕ → HeaderStep → Type 0
-Comes only text at line (Found h) = IsFirstOpening only text at line h
-Comes only text at line (Binary number) = IsFirstBinary only text at line number
-Comes only text at line End = IsEnd only text at
+abbrev pub Comes : Ways → List ℕ → ℕ → ℕ → HeaderStep → Type 0
+Comes ways text at line (Found h) = IsFirstOpening ways text at line h
+Comes ways text at line (Binary number) = IsFirstBinary ways text at line number
+Comes ways text at line End = IsEnd ways text at
 
 -- the lines in front of the first at which something stands, or all
-unfoldable pub region_of : Option Form → List (List ℕ) → List (List ℕ)
-region_of only [] = []
-region_of only (line ∷ rest) = if is_some (stop_at only (line ∷ rest)) then [] else line ∷ region_of only rest
+unfoldable pub region_of : Ways → List (List ℕ) → List (List ℕ)
+region_of ways [] = []
+region_of ways (line ∷ rest) = if is_some (stop_at ways (line ∷ rest)) then [] else line ∷ region_of ways rest
 
 -- the first that stands at one of these lines
-unfoldable pub first_stop : Option Form → List (List ℕ) → Option Stop
-first_stop only [] = None
-first_stop only (line ∷ rest) = if is_some (stop_at only (line ∷ rest)) then stop_at only (line ∷ rest) else first_stop only rest
+unfoldable pub first_stop : Ways → List (List ℕ) → Option Stop
+first_stop ways [] = None
+first_stop ways (line ∷ rest) = if is_some (stop_at ways (line ∷ rest)) then stop_at ways (line ∷ rest) else first_stop ways rest
+
+-- a header is a file patch, and no header a binary line with this number
+abbrev pub found_or : ℕ → Option Header → HeaderStep
+found_or number None = Binary number
+found_or number (Some h) = Found h
 
 -- what comes next, behind these lines
-abbrev pub step_behind : List ℕ → ℕ → ℕ → List (List ℕ) → Option Stop → HeaderStep
-step_behind text at line region None = End
-step_behind text at line region (Some (stops.Opening form)) = Found (header_with text form (at + sum_by length region) (line + length region) (rows line at region))
-step_behind text at line region (Some stops.Binary) = Binary (line + length region)
+abbrev pub step_behind : Ways → List ℕ → ℕ → ℕ → List (List ℕ) → Option Stop → HeaderStep
+step_behind ways text at line region None = End
+step_behind ways text at line region (Some stop) = found_or (line + length region) (header_at ways text (at + sum_by length region) (line + length region) (rows line at region) stop)
 
 -- the same as a function
-abbrev pub next_step : Option Form → List ℕ → ℕ → ℕ → HeaderStep
-next_step only text at line = step_behind text at line (region_of only (lines (drop at text))) (first_stop only (lines (drop at text)))
+abbrev pub next_step : Ways → List ℕ → ℕ → ℕ → HeaderStep
+next_step ways text at line = step_behind ways text at line (region_of ways (lines (drop at text))) (first_stop ways (lines (drop at text)))
 
 -- each name of a header is a piece of the text
 pub record HasPieces (text : List ℕ) (h : Header) : Type 0 where
@@ -99,21 +138,42 @@ pub record HasPieces (text : List ℕ) (h : Header) : Type 0 where
   pub new_name : IfSome h.new_name (IsPieceOf text)
   pub index : IfSome h.index (IsPieceOf text)
   pub prereq : IfSome h.prereq (IsPieceOf text)
+  pub from : IfSome h.from (IsPieceOf text)
+  pub to : IfSome h.to (IsPieceOf text)
 
--- where a header's opening lies, and that it is one of its form
-pub record LiesBehind (only : Option Form) (text : List ℕ) (at line : ℕ) (h : Header) : Type 0 where
+-- an opening of its form, which is admitted, stands at its place
+pub record IsOpeningAt (ways : Ways) (text : List ℕ) (h : Header) : Type 0 where
+  pub admitted : admits ways.only h.form ≡ true
+  pub begins : begins ways.only h.form (lines (drop h.at text)) ≡ true
+
+-- git headers are read, and a bare one begins at its place
+pub record IsBareAt (ways : Ways) (text : List ℕ) (h : Header) : Type 0 where
+  pub git : ways.git ≡ true
+  pub form : h.form ≡ Unified
+  pub begins : begins_bare (lines (drop h.at text)) ≡ true
+
+-- nothing is said that a git header would say
+pub record IsUnled (h : Header) : Type 0 where
+  pub bare : h.bare ≡ false
+  pub action : h.action ≡ Plain
+  pub from : h.from ≡ None
+  pub to : h.to ≡ None
+
+-- where a header lies, and what stands there
+pub record LiesBehind (ways : Ways) (text : List ℕ) (at line : ℕ) (h : Header) : Type 0 where
   pub low : at ≤ h.at
   pub high : h.at < length text
   pub numbers : h.opening + at ≤ line + h.at
-  pub admitted : admits only h.form ≡ true
-  pub begins : begins only h.form (lines (drop h.at text)) ≡ true
+  pub opening : h.bare ≡ false → IsOpeningAt ways text h
+  pub git : h.bare ≡ true → IsBareAt ways text h
+  pub plain : ways.git ≡ false → IsUnled h
   pub pieces : HasPieces text h
 
 -- what follows for the caller
-abbrev pub Lies : Option Form → List ℕ → ℕ → ℕ → HeaderStep → Type 0
-Lies only text at line (Found h) = LiesBehind only text at line h
-Lies only text at line (Binary number) = Unit {0}
-Lies only text at line End = Unit {0}
+abbrev pub Lies : Ways → List ℕ → ℕ → ℕ → HeaderStep → Type 0
+Lies ways text at line (Found h) = LiesBehind ways text at line h
+Lies ways text at line (Binary number) = Unit {0}
+Lies ways text at line End = Unit {0}
 
 -- no line from the opening on is '.'
 abbrev pub KnowsNoDot : List ℕ → HeaderStep → Type 0

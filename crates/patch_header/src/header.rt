@@ -1,17 +1,21 @@
 //! What the lines in front of an opening say.
 
-ghost use Rattle.std.specs.Prelude.{◌≡◌, ◌<◌, ◌^◌, List, ℕ, length, IfSome};
+ghost use Rattle.std.specs.Prelude.{◌≡◌, ◌<◌, ◌^◌, false, List, [], ℕ, length, IfSome};
 ghost use Rattle.patch_header.specs.Region.{Row, seen_in, old_tail, new_tail, LiesIn, AllLieIn};
 ghost use Rattle.patch_header.specs.Values.{IsPieceOf};
-ghost use Rattle.patch_header.specs.Steps.{names_line, header_with, HasPieces};
+ghost use Rattle.patch_header.specs.GitRows.{git_lines_in};
+ghost use Rattle.patch_header.specs.Said.{SaysWithin};
+ghost use Rattle.patch_header.specs.Steps.{names_line, HasPieces, IsUnled};
+ghost use Rattle.patch_header.specs.Kept.{opening_said};
 
+use crate::git_lines::{Action, GitLines, action_of, from_in, to_in};
 use crate::region::{Seen, Tail};
 use crate::values::{name_in, stamp_in, word_in};
 use hunk_core::Form;
 use line_list::Span;
 use stamp::Stamp;
 
-/// The opening of a file patch, and what the lines in front of it say. Spans are places in the text.
+/// The opening of a file patch or a bare git header, and what the lines in front of it say. Spans are places in the text.
 #[derive(Clone, Copy, Debug, PartialEq, Eq)]
 pub struct Header {
     pub form: Form,
@@ -29,6 +33,14 @@ pub struct Header {
     pub prereq: Option<Span>,
     pub old_stamp: Stamp,
     pub new_stamp: Stamp,
+    /// What the git header says of the file: the bare one that this is, or the one that leads the opening.
+    pub action: Action,
+    /// Whether this is a bare git header, which no hunk follows. Its opening is its git line.
+    pub bare: bool,
+    /// The name that the file is renamed or copied from, up to the end of its line.
+    pub from: Option<Span>,
+    /// The name that the file is renamed or copied to, up to the end of its line.
+    pub to: Option<Span>,
 }
 
 fn names_line(tail: Option<Tail>, name: Option<Span>, opening: u64) -> u64
@@ -66,13 +78,23 @@ fn new_tail(form: Form, seen: Seen) -> Option<Tail>
 }
 
 /// The header of an opening at this place, whose line has this number.
-pub fn header_of(text: &[u8], form: Form, at: usize, opening: u64, seen: Seen) -> Header
+pub fn header_of(
+    text: &[u8],
+    form: Form,
+    at: usize,
+    opening: u64,
+    seen: Seen,
+    led: GitLines,
+) -> Header
     requires short { length text.now < 2 ^ 32 }
     requires lies { AllLieIn text.now seen }
+    requires led { SaysWithin text.now led }
     ensures form { result.form ≡ form }
     ensures at { result.at ≡ at }
     ensures opening { result.opening ≡ opening }
-    ensures says { (rs : List Row) → seen ≡ seen_in rs → result ≡ header_with text.now form at opening rs }
+    ensures bare { result.bare ≡ false }
+    ensures plain { led ≡ git_lines_in [] → IsUnled result }
+    ensures says { (rs : List Row) → seen ≡ seen_in rs → result ≡ opening_said text.now form at opening rs led }
     ensures pieces { HasPieces text.now result }
 {
     let old = old_tail(form, seen);
@@ -89,5 +111,9 @@ pub fn header_of(text: &[u8], form: Form, at: usize, opening: u64, seen: Seen) -
         prereq: word_in(text, seen.prereq),
         old_stamp: stamp_in(text, old),
         new_stamp: stamp_in(text, new),
+        action: action_of(led),
+        bare: false,
+        from: from_in(text, led),
+        to: to_in(text, led),
     }
 }

@@ -1,15 +1,23 @@
 //! Where the next file patch of a patch text opens, and what the lines in front of it say.
 #![tactic(auto)]
 
+mod bare;
 mod content;
+mod git_lines;
+mod git_trail;
 mod header;
 mod openings;
 mod region;
 mod search;
 mod values;
+mod ways;
 mod words;
 
+pub use bare::bare_end;
+pub use content::is_binary;
+pub use git_lines::Action;
 pub use header::Header;
 pub use openings::{Stop, one_thing_stands};
 pub use search::{HeaderStep, header_from, next_header};
-pub use words::{header_lines_in_words, whole_lines_in_words};
+pub use ways::{Ways, plainly};
+pub use words::{git_headers_in_words, header_lines_in_words, whole_lines_in_words};

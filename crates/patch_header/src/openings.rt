@@ -1,13 +1,17 @@
 //! What can stand at a line.
 
-ghost use Rattle.std.specs.Prelude.{◌≡◌, ◌↔◌, ◌≤◌, ℕ, List, Option, Some, None, true, false, not, ◌&&◌, ◌||◌, length, drop, slice_range};
+ghost use Rattle.std.specs.Prelude.{◌≡◌, ◌↔◌, ◌≤◌, ℕ, ◌<◌, ◌^◌, List, Option, Some, None, true, false, not, ◌&&◌, ◌||◌, length, drop, slice_range};
 ghost use Rattle.line_list.specs.Lines.{lines, IsLineAt};
 ghost use Rattle.hunk_core.specs.declared.Form.{Form};
 ghost use Rattle.ed_form.specs.Commands.{is_command};
 ghost use Rattle.patch_header.specs.Content.{has_dot};
-ghost use Rattle.patch_header.specs.Openings.{admits, takes_text, asks_dot, begins, begins_binary, opens, stop_at};
+ghost use Rattle.patch_header.specs.Openings.{admits, takes_text, asks_dot, begins, begins_binary, opens, stops_binary, stops_bare, stop_at};
+ghost use Rattle.patch_header.specs.GitHeaders.{begins_bare};
+ghost use Rattle.patch_header.specs.declared.ways.Ways.{Ways};
 
+use crate::bare::is_bare;
 use crate::content::{has_dot, is_binary};
+use crate::ways::Ways;
 use diff_command::Action;
 use ed_form::{Command, command_at, is_command_line};
 use hunk_core::Form;
@@ -19,6 +23,8 @@ pub enum Stop {
     Opening(Form),
     /// A line that says that a change is binary.
     Binary,
+    /// A git header without a hunk that says more than modes.
+    Bare,
 }
 
 /// Whether a form may open, where `only` is the one form that is asked for.
@@ -77,31 +83,29 @@ fn opens_script(line: &[u8], only: Option<Form>, dotless: bool) -> bool
 
 /// What stands at the line from `at` up to `end`.
 #[tactic(auto, unfolding(crate::specs::Openings::stop_at))]
-pub fn stop_at(
-    text: &[u8],
-    at: usize,
-    end: usize,
-    only: Option<Form>,
-    dotless: bool,
-) -> Option<Stop>
+pub fn stop_at(text: &[u8], at: usize, end: usize, ways: Ways, dotless: bool) -> Option<Stop>
+    requires short { length text.now < 2 ^ 32 }
     requires line { IsLineAt text.now at end }
-    requires told { asks_dot only (slice_range text.now at end) ≡ true → dotless ≡ not (has_dot (lines (drop end text.now))) }
-    ensures { result ≡ stop_at only (lines (drop at text.now)) }
+    requires told { asks_dot ways.only (slice_range text.now at end) ≡ true → dotless ≡ not (has_dot (lines (drop end text.now))) }
+    ensures { result ≡ stop_at ways (lines (drop at text.now)) }
 {
-    if admits(only, Form::Unified) && unified_form::at_opening(text, at) {
+    if admits(ways.only, Form::Unified) && unified_form::at_opening(text, at) {
         return Some(Stop::Opening(Form::Unified));
     }
-    if admits(only, Form::Context) && context_form::at_opening(text, at) {
+    if admits(ways.only, Form::Context) && context_form::at_opening(text, at) {
         return Some(Stop::Opening(Form::Context));
     }
-    if admits(only, Form::Normal) && normal_form::at_opening(text, at) {
+    if admits(ways.only, Form::Normal) && normal_form::at_opening(text, at) {
         return Some(Stop::Opening(Form::Normal));
     }
-    if admits(only, Form::Ed) && opens_script(&text[at..end], only, dotless) {
+    if admits(ways.only, Form::Ed) && opens_script(&text[at..end], ways.only, dotless) {
         return Some(Stop::Opening(Form::Ed));
     }
-    if is_binary(&text[at..end]) {
+    if !ways.skip_binary && is_binary(&text[at..end]) {
         return Some(Stop::Binary);
+    }
+    if ways.git && is_bare(text, at, end) {
+        return Some(Stop::Bare);
     }
     None
 }
@@ -112,9 +116,12 @@ pub fn one_thing_stands()
     ensures alone { (only : Option Form) (f g : Form) (rest : List (List ℕ)) → begins only f rest ≡ true → begins only g rest ≡ true → f ≡ g }
     // No opening is a binary line.
     ensures text { (only : Option Form) (f : Form) (rest : List (List ℕ)) → begins only f rest ≡ true → begins_binary rest ≡ false }
-    // So what stands at a line is told by the test of its form, or by that of binary lines.
-    ensures opening { (only : Option Form) (f : Form) (rest : List (List ℕ)) → stop_at only rest ≡ Some (Stop.Opening f) ↔ opens only f rest ≡ true }
-    ensures binary { (only : Option Form) (rest : List (List ℕ)) → stop_at only rest ≡ Some Stop.Binary ↔ begins_binary rest ≡ true }
+    // No bare git header begins with an opening, nor with a binary line.
+    ensures bare { (only : Option Form) (f : Form) (rest : List (List ℕ)) → begins_bare rest ≡ true → (begins only f rest ≡ false) × (begins_binary rest ≡ false) }
+    // So what stands at a line is told by the test of its form, by that of binary lines, or by that of bare git headers.
+    ensures opening { (ways : Ways) (f : Form) (rest : List (List ℕ)) → stop_at ways rest ≡ Some (Stop.Opening f) ↔ opens ways.only f rest ≡ true }
+    ensures binary { (ways : Ways) (rest : List (List ℕ)) → stop_at ways rest ≡ Some Stop.Binary ↔ stops_binary ways rest ≡ true }
+    ensures git { (ways : Ways) (rest : List (List ℕ)) → stop_at ways rest ≡ Some Stop.Bare ↔ stops_bare ways rest ≡ true }
     // Nothing stands where none of these tests holds.
-    ensures nothing { (only : Option Form) (rest : List (List ℕ)) → (stop_at only rest ≡ None) ↔ (((f : Form) → opens only f rest ≡ false) × (begins_binary rest ≡ false)) }
+    ensures nothing { (ways : Ways) (rest : List (List ℕ)) → (stop_at ways rest ≡ None) ↔ (((f : Form) → opens ways.only f rest ≡ false) × (stops_binary ways rest ≡ false) × (stops_bare ways rest ≡ false)) }
 {}

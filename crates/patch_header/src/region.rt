@@ -39,7 +39,7 @@ pub fn nothing_seen() -> Seen
 }
 
 /// The line's tail, if it begins with the mark.
-fn tail_of(mark: &[u8], number: u64, text: &[u8], at: usize, end: usize) -> Option<Tail>
+pub fn tail_of(mark: &[u8], number: u64, text: &[u8], at: usize, end: usize) -> Option<Tail>
     requires { IsLineAt text.now at end }
     ensures is { result ≡ tail_of mark.now (row number at (slice_range text.now at end)) }
     ensures lies { IfSome result (LiesIn text.now) }
@@ -56,7 +56,7 @@ fn tail_of(mark: &[u8], number: u64, text: &[u8], at: usize, end: usize) -> Opti
 }
 
 /// The tail of this line, or that of an earlier one.
-fn later(last: Option<Tail>, new: Option<Tail>) -> Option<Tail>
+pub fn later(last: Option<Tail>, new: Option<Tail>) -> Option<Tail>
     ensures { result ≡ (if is_some new then new else last) }
 {
     match new {

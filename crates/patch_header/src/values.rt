@@ -2,6 +2,7 @@
 
 ghost use Rattle.std.specs.Prelude.{◌≡◌, ◌<◌, ◌≤◌, ◌+◌, ◌^◌, length, IfSome};
 ghost use Rattle.patch_header.specs.Region.{LiesIn};
+ghost use Rattle.patch_header.specs.GitRows.{whole_in};
 ghost use Rattle.patch_header.specs.Values.{blanks, unblanked, name_length, word_length, behind_name, span_at, name_in, word_in, stamp_in, bytes_of, IsPieceOf};
 
 use crate::region::Tail;
@@ -46,7 +47,7 @@ fn word_length(bytes: &[u8]) -> usize
 }
 
 /// A piece of a text of less than 4 GiB, if it has a byte.
-fn span_at(start: usize, len: usize) -> Option<Span>
+pub fn span_at(start: usize, len: usize) -> Option<Span>
     requires { start + len < 2 ^ 32 }
     ensures { result ≡ span_at start len }
 {
@@ -73,6 +74,19 @@ pub fn name_in(text: &[u8], tail: Option<Tail>) -> Option<Span>
             let skipped = blanks(bytes);
             span_at(tail.start + skipped, name_length(&bytes[skipped..]))
         }
+    }
+}
+
+/// A name that goes up to the end of the line.
+pub fn whole_in(text: &[u8], tail: Option<Tail>) -> Option<Span>
+    requires short { length text.now < 2 ^ 32 }
+    requires lies { IfSome tail (LiesIn text.now) }
+    ensures is { result ≡ whole_in tail }
+    ensures piece { IfSome result (IsPieceOf text.now) }
+{
+    match tail {
+        None => None,
+        Some(tail) => span_at(tail.start, text[tail.start..tail.end].len()),
     }
 }
 

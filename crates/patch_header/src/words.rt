@@ -1,12 +1,16 @@
 //! What the definitions of lines, names and words come to, in the words of the manuals.
 
-ghost use Rattle.std.specs.Prelude.{◌≡◌, ◌↔◌, ◌⊎◌, ℕ, List, [], ◌∷◌, ◌++◌, ◌==◌, ◌+◌, length, true, false, not, Some, None, codes};
-ghost use Rattle.std.specs.List.{list_any};
+ghost use Rattle.std.specs.Prelude.{◌≡◌, ◌↔◌, ◌⊎◌, ℕ, List, [], ◌∷◌, ◌++◌, ◌==◌, ◌||◌, ◌+◌, length, true, false, not, Some, None, codes};
+ghost use Rattle.std.specs.List.{list_any, AllByRecursion};
 ghost use Rattle.hunk_core.specs.LineTests.{ends_line};
 ghost use Rattle.patch_header.specs.Content.{content, is_binary, is_dot};
 ghost use Rattle.patch_header.specs.Region.{Row, tail_of, last_tail};
 ghost use Rattle.patch_header.specs.Values.{is_blank, is_white, unblanked, name_length, word_length};
+ghost use Rattle.patch_header.specs.GitHeaders.{starts, is_git_line, is_extended, extended_run, behind_run, has_line, action_of, begins_bare};
+ghost use Rattle.patch_header.specs.GitRows.{led_rows, are_alike, has_halves};
 ghost use Rattle.patch_header.specs.declared.region.Tail.{Tail};
+
+use crate::git_lines::Action;
 
 /// Lines that are told by all of them.
 pub fn whole_lines_in_words()
@@ -37,4 +41,27 @@ pub fn header_lines_in_words()
     // A word ends at the first white space, or at the end.
     ensures white { (word rest : List ℕ) (b : ℕ) → list_any is_white word ≡ false → is_white b ≡ true → word_length (word ++ b ∷ rest) ≡ length word }
     ensures word { (word : List ℕ) → list_any is_white word ≡ false → word_length word ≡ length word }
+{}
+
+/// What a git header says, and which lines it has.
+pub fn git_headers_in_words()
+    // A line begins so where these bytes stand in front.
+    ensures starts { (mark line : List ℕ) → starts mark line ≡ true ↔ ((rest : List ℕ) × (content line ≡ mark ++ rest)) }
+    // The extended lines go up to the first line that is none.
+    ensures run { (xs : List (List ℕ)) (line : List ℕ) (rest : List (List ℕ)) → AllByRecursion (λ l. is_extended l ≡ true) xs → is_extended line ≡ false
+        → (extended_run (xs ++ line ∷ rest) ≡ xs) × (behind_run (xs ++ line ∷ rest) ≡ line ∷ rest) }
+    ensures all { (xs : List (List ℕ)) → AllByRecursion (λ l. is_extended l ≡ true) xs → (extended_run xs ≡ xs) × (behind_run xs ≡ []) }
+    // A file is new exactly where some line says so, and deleted exactly where some line does and none that it is new.
+    ensures new { (ls : List (List ℕ)) → action_of ls ≡ Action.New ↔ has_line (codes "new file mode ") ls ≡ true }
+    ensures deleted { (ls : List (List ℕ)) → action_of ls ≡ Action.Deleted ↔ ((has_line (codes "new file mode ") ls ≡ false) × (has_line (codes "deleted file mode ") ls ≡ true)) }
+    // A rename has both lines, and so has a copy.
+    ensures rename { (ls : List (List ℕ)) → action_of ls ≡ Action.Rename → (has_line (codes "rename from ") ls ≡ true) × (has_line (codes "rename to ") ls ≡ true) }
+    ensures copy { (ls : List (List ℕ)) → action_of ls ≡ Action.Copy → (has_line (codes "copy from ") ls ≡ true) × (has_line (codes "copy to ") ls ≡ true) }
+    // A git header whose extended lines are all of modes is ordinary text.
+    ensures modes { (git : List ℕ) (rest : List (List ℕ)) → AllByRecursion (λ l. (starts (codes "old mode ") l || starts (codes "new mode ") l) ≡ true) (extended_run rest) → begins_bare (git ∷ rest) ≡ false }
+    // A git header leads an opening where a line of each name, and nothing else, stands between.
+    ensures led { (front gs : List Row) (git old new : Row) → is_git_line git.line ≡ true → AllByRecursion (λ r. (is_git_line r.line ≡ false) × (is_extended r.line ≡ true)) gs
+        → starts (codes "--- ") old.line ≡ true → starts (codes "+++ ") new.line ≡ true → led_rows (front ++ git ∷ (gs ++ old ∷ new ∷ [])) ≡ gs }
+    // The names of a bare header are the halves beside the middle byte of its git line.
+    ensures halves { (old new : List ℕ) → length old ≡ length new → are_alike old new ≡ true → has_halves (old ++ 32 ∷ new) ≡ true }
 {}

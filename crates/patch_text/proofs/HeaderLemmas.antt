@@ -1,6 +1,6 @@
 -- The line of the old name stands in front of the opening.
-use Rattle.std.proofs.Common.{ℕ, ◌+◌, ◌<◌, ◌≤◌, Bool, true, false, cond, List, [], ◌∷◌, ◌++◌, length, reverse, drop, Option, None, Some, sym, subst, arith}
-use Rattle.std.specs.Prelude.{is_some}
+use Rattle.std.proofs.Common.{ℕ, ◌+◌, ◌<◌, ◌≤◌, Bool, true, false, cond, List, [], ◌∷◌, ◌++◌, length, reverse, drop, Option, None, Some, refl, sym, ap, subst, arith}
+use Rattle.std.specs.Prelude.{is_some, unwrap_or}
 use Rattle.std.specs.List.{AllByRecursion}
 use Rattle.std.proofs.lemmas.List.{reverse-append}
 use Rattle.line_list.specs.declared.Span.{Span}
@@ -11,7 +11,11 @@ use Rattle.hunk_core.specs.LineTests.{after}
 use Rattle.patch_header.specs.Content.{content}
 use Rattle.patch_header.specs.Region.{Row, rows, tail_of, first_some, last_tail, old_tail}
 use Rattle.patch_header.specs.Values.{name_in}
-use Rattle.patch_header.specs.Steps.{names_line, IsFirstOpening, LiesBehind}
+use Rattle.patch_header.specs.Ways.{plainly}
+use Rattle.patch_header.specs.Steps.{names_line, header_with, bare_with, header_at, IsFirstOpening, IsOpeningAt, IsUnled, LiesBehind}
+use Rattle.patch_header.specs.GitRows.{led_by}
+use Rattle.patch_header.specs.declared.openings.Stop.{Stop}
+use Rattle.patch_header.specs.declared.openings.Stop.TheVariants.{Opening, Binary, Bare}
 use Rattle.patch_header.specs.declared.region.Tail.{Tail}
 use Rattle.patch_header.specs.declared.header.Header.{Header}
 use Rattle.patch_text.specs.Reading.{IsHeaderFrom}
@@ -65,18 +69,29 @@ line-before n None name h = omega arith
 line-before n (Some t) None h = omega arith
 line-before n (Some t) (Some s) h = omega (arith, h)
 
-pub names-before : (only : Option Form) (text : List ℕ) (at line : ℕ) (h : Header) → IsFirstOpening only text at line h → h.names_line ≤ h.opening
-names-before only text at line h x =
-    let n = line + length x.region in
-    let t = old_tail x.form (rows line at x.region) in
-    rw x.says (line-before n t (name_in text t) (old-before n line at x.form x.region (omega arith)))
+header-before : (only : Option Form) (text : List ℕ) (place line start : ℕ) (region : List (List ℕ)) (h : Header) (stop : Stop) → header_at (plainly only) text place (line + length region) (rows line start region) stop ≡ Some h → h.names_line ≤ h.opening
+header-before only text place line start region h (Opening form) e =
+    let n = line + length region in
+    let t = old_tail form (rows line start region) in
+    let same : h ≡ header_with text form place n (rows line start region) (led_by (plainly only) form (rows line start region)) = sym (ap (λ o. unwrap_or o h) e) in
+    rw same (line-before n t (name_in text t) (old-before n line start form region (omega arith)))
+header-before only text place line start region h Bare e =
+    let same : h ≡ bare_with text place (line + length region) (rows line start region) = sym (ap (λ o. unwrap_or o h) e) in
+    rw same (omega arith)
+header-before only text place line start region h Binary e = absurd cc
 
-pub header-from : (only : Option Form) (text : List ℕ) (at line : ℕ) (h : Header) → IsFirstOpening only text at line h → LiesBehind only text at line h → IsHeaderFrom text at line h
-header-from only text at line h first lies = record {
-  low = lies.low;
-  high = lies.high;
-  numbers = lies.numbers;
-  names_line = names-before only text at line h first;
-  begins = opens-change only h.form (lines (drop h.at text)) lies.begins;
-  pieces = lies.pieces;
-}
+pub names-before : (only : Option Form) (text : List ℕ) (at line : ℕ) (h : Header) → IsFirstOpening (plainly only) text at line h → h.names_line ≤ h.opening
+names-before only text at line h x = header-before only text x.place line at x.region h x.stop x.says
+
+pub header-from : (only : Option Form) (text : List ℕ) (at line : ℕ) (h : Header) → IsFirstOpening (plainly only) text at line h → LiesBehind (plainly only) text at line h → IsHeaderFrom text at line h
+header-from only text at line h first lies =
+    let unled : IsUnled h = lies.plain refl in
+    let opening : IsOpeningAt (plainly only) text h = lies.opening unled.bare in
+    record {
+      low = lies.low;
+      high = lies.high;
+      numbers = lies.numbers;
+      names_line = names-before only text at line h first;
+      begins = opens-change only h.form (lines (drop h.at text)) opening.begins;
+      pieces = lies.pieces;
+    }

@@ -13,6 +13,7 @@ use Rattle.context_form.proofs.Pieces as context
 use Rattle.normal_form.proofs.Pieces as normal
 use Rattle.ed_form.proofs.Pieces as ed
 use Rattle.patch_header.specs.declared.search.HeaderStep.TheVariants.{Found, End}
+use Rattle.patch_header.specs.Ways.{plainly}
 use Rattle.patch_header.specs.Steps.{IsEnd, next_step}
 use Rattle.patch_header.proofs.StepLemmas.{one-step}
 use Rattle.file_patch.specs.PlainPatch.{PlainChange, PlainPatch, hunks, script, patch_of, row_count}
@@ -36,18 +37,18 @@ change-again Ed number all (hunks hs) next rest h = absurd h
 
 patch-again : (only : Option Form) (text : List ℕ) (at number : ℕ) (p : PlainPatch) (end next : ℕ) → StandsFirst only text at number p end next → next_patch only text at number ≡ Ok (Some (p, ahead next (lines (drop end text))))
 patch-again only text at number p end next h =
-    let step : Found h.header ≡ next_step only text at number = one-step only text at number (Found h.header) h.opens in
+    let step : Found h.header ≡ next_step (plainly only) text at number = one-step (plainly only) text at number (Found h.header) h.opens in
     let read = change-again h.header.form h.header.opening (lines (drop h.header.at text)) p.change next (lines (drop end text)) h.spelled in
     ap (patch_by text) (sym step)
     ∙ ap (λ r. (r >>= λ x. Ok (patch_with text h.header x.0, x.1)) >>= λ x. Ok (Some x)) read
     ∙ ap (λ q. Ok (Some (record { header = q; change = p.change }, ahead next (lines (drop end text))))) (sym h.says)
 
-end-again : (only : Option Form) (text : List ℕ) (at number : ℕ) → IsEnd only text at → next_patch only text at number ≡ Ok None
-end-again only text at number h = ap (patch_by text) (sym (one-step only text at number End h))
+end-again : (only : Option Form) (text : List ℕ) (at number : ℕ) → IsEnd (plainly only) text at → next_patch only text at number ≡ Ok None
+end-again only text at number h = ap (patch_by text) (sym (one-step (plainly only) text at number End h))
 
-all-again : (only : Option Form) (text : List ℕ) (front ps : List PlainPatch) (at number end next : ℕ) → Stand only text at number ps end next → IsEnd only text end → PatchesSoFar only text front at number → patches_of only text ≡ Ok (front ++ ps)
+all-again : (only : Option Form) (text : List ℕ) (front ps : List PlainPatch) (at number end next : ℕ) → Stand only text at number ps end next → IsEnd (plainly only) text end → PatchesSoFar only text front at number → patches_of only text ≡ Ok (front ++ ps)
 all-again only text front [] at number end next h ends so_far =
-    let none : next_patch only text at number ≡ Ok None = end-again only text at number (subst (IsEnd only text) (sym h.0) ends) in
+    let none : next_patch only text at number ≡ Ok None = end-again only text at number (subst (IsEnd (plainly only) text) (sym h.0) ends) in
     patches_done only text front at number none so_far ∙ ap Ok (sym (append-nil front))
 all-again only text front (p ∷ ps) at number end next h ends so_far =
     let mid = h.0 in
@@ -60,7 +61,7 @@ pub text-again : (only : Option Form) (text : List ℕ) (ps : List PlainPatch) �
 text-again only text ps h = all-again only text [] ps 0 1 h.end h.next h.stand h.ends (patches_begin only text)
 
 -- nothing stands at the end of the text
-pub quiet-end : (only : Option Form) (text : List ℕ) (at : ℕ) → at ≡ length text → IsEnd only text at
+pub quiet-end : (only : Option Form) (text : List ℕ) (at : ℕ) → at ≡ length text → IsEnd (plainly only) text at
 quiet-end only text at e = rw (lines-end text at e) tt
 
 -- what was read in turn stands so

@@ -9,6 +9,7 @@ use Rattle.hunk_core.specs.declared.Form.{Form}
 use Rattle.hunk_core.specs.declared.fault.FormFault.{FormFault}
 use Rattle.hunk_core.specs.declared.fault.FormFault.TheVariants as errors
 use Rattle.hunk_core.specs.Reading.{◌>>=◌, Fault, Fails, ahead}
+use Rattle.patch_header.specs.Ways.{plainly}
 use Rattle.patch_header.specs.Steps.{IsFirstOpening, first_stop}
 use Rattle.file_patch.specs.declared.FilePatch.{FilePatch}
 use Rattle.file_patch.specs.PlainPatch.{PlainPatch, row_count}
@@ -21,14 +22,14 @@ use Rattle.patch_text.proofs.ChangeLemmas.{lines-sum}
 pub place-back : (text : List ℕ) (at : ℕ) → at ≤ length text → place_before text (lines (drop at text)) ≡ at
 place-back text at high = omega (arith, high, lines-sum (drop at text), length-drop at text)
 
-stop-nowhere : (only : Option Form) → first_stop only [] ≡ None
+stop-nowhere : (only : Option Form) → first_stop (plainly only) [] ≡ None
 unfolding first_stop
 stop-nowhere only = refl
 
 -- nothing comes at the end of the text
 pub next-end : (only : Option Form) (text : List ℕ) (at number : ℕ) → at ≡ length text → next_patch only text at number ≡ Ok None
 next-end only text at number e =
-    let none : first_stop only (lines (drop at text)) ≡ None = ap (first_stop only) (lines-end text at e) ∙ stop-nowhere only in
+    let none : first_stop (plainly only) (lines (drop at text)) ≡ None = ap (first_stop (plainly only)) (lines-end text at e) ∙ stop-nowhere only in
     rw none refl
 
 -- ---- the loop
@@ -98,7 +99,7 @@ abbrev pub rows_of : List FilePatch → ℕ
 rows_of ps = sum_by (λ p. row_count p.change) ps
 
 pub turn-push : (only : Option Form) (text : List ℕ) (start number before : ℕ) (ps : List FilePatch) (p : FilePatch) (mid line count next : ℕ) → LieInTurn only text start number before ps mid line → before + rows_of ps ≡ count
-    → IsFirstOpening only text mid line p.header → IsPatch text mid count p next → LieInTurn only text start number before (ps ++ p ∷ []) p.span.end next
+    → IsFirstOpening (plainly only) text mid line p.header → IsPatch text mid count p next → LieInTurn only text start number before (ps ++ p ∷ []) p.span.end next
 turn-push only text start number before [] p mid line count next h rows opens one =
     let same : before ≡ count = omega (arith, rows) in
     rw (h.0, h.1, same) (next, opens, one, (refl, refl))

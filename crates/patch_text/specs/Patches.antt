@@ -16,6 +16,7 @@ use Rattle.ed_form.specs.Scripts as ed
 use Rattle.patch_header.specs.declared.header.Header.{Header}
 use Rattle.patch_header.specs.declared.search.HeaderStep.{HeaderStep}
 use Rattle.patch_header.specs.declared.search.HeaderStep.TheVariants.{Found, Binary, End}
+use Rattle.patch_header.specs.Ways.{plainly}
 use Rattle.patch_header.specs.Steps.{next_step}
 use Rattle.file_patch.specs.PlainPatch.{PlainChange, PlainPatch, hunks, script, header_of}
 
@@ -60,7 +61,7 @@ patch_by text End = Ok None
 
 -- the first file patch from a place on, whose line has this number
 abbrev pub next_patch : Option Form → List ℕ → ℕ → ℕ → Result (Option (PlainPatch × Ahead)) Fault
-next_patch only text at number = patch_by text (next_step only text at number)
+next_patch only text at number = patch_by text (next_step (plainly only) text at number)
 
 -- a file patch, if there is one, and those that come later
 abbrev pub and_later : (Ahead → Result (List PlainPatch) Fault) → Option (PlainPatch × Ahead) → Result (List PlainPatch) Fault

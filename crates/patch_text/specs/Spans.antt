@@ -3,6 +3,7 @@ use Rattle.std.specs.Prelude.{◌≡◌, ℕ, ◌+◌, ◌<◌, ◌≤◌, List,
 use Rattle.line_list.specs.Lines.{lines}
 use Rattle.hunk_core.specs.declared.Form.{Form}
 use Rattle.hunk_core.specs.Pieces.{AreInTurn}
+use Rattle.patch_header.specs.Ways.{plainly}
 use Rattle.patch_header.specs.Steps.{IsFirstOpening, IsEnd, HasPieces}
 use Rattle.file_patch.specs.declared.FilePatch.{FilePatch}
 use Rattle.file_patch.specs.PlainPatch.{change_of, row_count}
@@ -33,7 +34,7 @@ pub record IsPatch (text : List ℕ) (start before : ℕ) (p : FilePatch) (next 
 -- from a place on, whose line has this number, up to an end: each file patch opens where the first opening behind the one before stands
 abbrev pub LieInTurn : Option Form → List ℕ → ℕ → ℕ → ℕ → List FilePatch → ℕ → ℕ → Type 0
 LieInTurn only text start number before [] end next = (start ≡ end) × (number ≡ next)
-LieInTurn only text start number before (p ∷ ps) end next = (line : ℕ) × IsFirstOpening only text start number p.header × IsPatch text start before p line
+LieInTurn only text start number before (p ∷ ps) end next = (line : ℕ) × IsFirstOpening (plainly only) text start number p.header × IsPatch text start before p line
     × LieInTurn only text p.span.end line (before + row_count p.change) ps end next
 
 -- the file patches of a whole text, with no opening nor binary line behind the last
@@ -41,4 +42,4 @@ pub record ArePatches (only : Option Form) (text : List ℕ) (ps : List FilePatc
   pub end : ℕ
   pub next : ℕ
   pub turn : LieInTurn only text 0 1 0 ps end next
-  pub ends : IsEnd only text end
+  pub ends : IsEnd (plainly only) text end

@@ -11,6 +11,7 @@ use Rattle.context_form.specs.Grammar as context
 use Rattle.normal_form.specs.Grammar as normal
 use Rattle.ed_form.specs.Grammar as ed
 use Rattle.patch_header.specs.declared.header.Header.{Header}
+use Rattle.patch_header.specs.Ways.{plainly}
 use Rattle.patch_header.specs.Steps.{IsFirstOpening, IsFirstBinary, IsEnd}
 use Rattle.file_patch.specs.PlainPatch.{PlainChange, PlainPatch, hunks, script, header_of}
 use Rattle.patch_text.specs.Patches.{change_at}
@@ -29,7 +30,7 @@ IsPiece Ed number lines (hunks hs) next rest = ⊥
 -- at the first line from a place on at which something stands, a file patch opens; it goes up to the end, whose line has the number `next`
 pub record StandsFirst (only : Option Form) (text : List ℕ) (at number : ℕ) (p : PlainPatch) (end next : ℕ) : Type 0 where
   pub header : Header
-  pub opens : IsFirstOpening only text at number header
+  pub opens : IsFirstOpening (plainly only) text at number header
   pub says : p.header ≡ header_of text header
   pub spelled : IsPiece header.form header.opening (lines (drop header.at text)) p.change next (lines (drop end text))
   pub some : at < end
@@ -45,12 +46,12 @@ pub record HasPatches (only : Option Form) (text : List ℕ) (ps : List PlainPat
   pub end : ℕ
   pub next : ℕ
   pub stand : Stand only text 0 1 ps end next
-  pub ends : IsEnd only text end
+  pub ends : IsEnd (plainly only) text end
 
 -- what comes next from a place on is at fault here: a binary line, or a change whose first fault this is
 abbrev pub ComesFault : Option Form → List ℕ → ℕ → ℕ → ℕ → BadKind → Type 0
-ComesFault only text at number line kind = (IsFirstBinary only text at number line × (kind ≡ kinds.Binary))
-    ⊎ ((h : Header) × IsFirstOpening only text at number h × (change_at h.form h.opening (lines (drop h.at text)) ≡ Err (fault line kind)))
+ComesFault only text at number line kind = (IsFirstBinary (plainly only) text at number line × (kind ≡ kinds.Binary))
+    ⊎ ((h : Header) × IsFirstOpening (plainly only) text at number h × (change_at h.form h.opening (lines (drop h.at text)) ≡ Err (fault line kind)))
 
 -- a text has some file patches, and what comes behind them is at fault
 pub record IsFaulty (only : Option Form) (text : List ℕ) (line : ℕ) (kind : BadKind) : Type 0 where

@@ -6,6 +6,7 @@ ghost use Rattle.hunk_core.specs.declared.BadKind.{BadKind};
 ghost use Rattle.hunk_core.specs.declared.fault.FormFault.{FormFault};
 ghost use Rattle.hunk_core.specs.Reading.{Gives, fault};
 ghost use Rattle.patch_header.specs.Content.{has_dot};
+ghost use Rattle.patch_header.specs.Ways.{plainly};
 ghost use Rattle.patch_header.specs.Steps.{IsFirstOpening, IsEnd};
 ghost use Rattle.file_patch.specs.PlainPatch.{PlainPatch, patch_of, row_count};
 ghost use Rattle.file_patch.specs.Absent.{IsLawfulPatch};
@@ -19,7 +20,7 @@ use crate::change::read_change;
 use file_patch::FilePatch;
 use hunk_core::{BadKind, Form, FormFault, Side, bad};
 use line_list::Span;
-use patch_header::{Header, HeaderStep, header_from};
+use patch_header::{Header, HeaderStep, Ways, header_from};
 use std::alloc::Global;
 
 /// How far a text is read.
@@ -86,9 +87,9 @@ fn next_patch(
     requires short { length text.now < 2 ^ 32 }
     requires progress { IsProgress text.now here }
     ensures is { IfOk result (λ o. IfSome o (λ x. IsPatch text.now here.at here.hunks x.0 x.1.number)) }
-    ensures opens { IfOk result (λ o. IfSome o (λ x. IsFirstOpening only text.now here.at here.number x.0.header)) }
+    ensures opens { IfOk result (λ o. IfSome o (λ x. IsFirstOpening (plainly only) text.now here.at here.number x.0.header)) }
     ensures malformed { (number : ℕ) (kind : BadKind) → result ≡ Err (FormFault.Malformed number kind) → ComesFault only text.now here.at here.number number kind }
-    ensures ends { IfOk result (λ o. o ≡ None → IsEnd only text.now here.at) }
+    ensures ends { IfOk result (λ o. o ≡ None → IsEnd (plainly only) text.now here.at) }
     ensures progress { IfOk result (λ o. IfSome o (λ x. IsProgress text.now x.1)) }
     ensures behind { IfOk result (λ o. IfSome o (λ x. (here.at < x.1.at) × (x.1.at ≡ x.0.span.end) × (x.1.hunks ≡ here.hunks + row_count x.0.change))) }
     ensures exact { Gives (option_map (λ x. (patch_of text.now x.0, ahead_of text.now x.1))) result (next_patch only text.now here.at here.number) }
@@ -96,7 +97,12 @@ fn next_patch(
     if here.at == text.len() {
         return Ok(None);
     }
-    let (step, dotless) = header_from(text, here.at, here.number, only, here.dotless);
+    let ways = Ways {
+        only,
+        git: false,
+        skip_binary: false,
+    };
+    let (step, dotless) = header_from(text, here.at, here.number, ways, here.dotless);
     match step {
         HeaderStep::Found(header) => {
             let here = Progress { dotless, ..here };

@@ -1,4 +1,4 @@
-use Rattle.patch_header.proofs.Stands.{alone, not_binary, opening-words, binary-words, nothing-words}
+use Rattle.patch_header.proofs.Stands.{alone, not_binary, bare-alone, opening-words, binary-words, bare-words, nothing-words}
 use Rattle.patch_header.proofs.openings.one_thing_stands.Goals as goal
 
 pub returns-clause-alone : goal.returns-clause-alone
@@ -15,3 +15,9 @@ returns-clause-binary c = binary-words
 
 pub returns-clause-nothing : goal.returns-clause-nothing
 returns-clause-nothing c = nothing-words
+
+pub returns-clause-bare : goal.returns-clause-bare
+returns-clause-bare c = bare-alone
+
+pub returns-clause-git : goal.returns-clause-git
+returns-clause-git c = bare-words

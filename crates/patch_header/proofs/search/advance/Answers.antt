@@ -1,11 +1,13 @@
 use Rattle.std.proofs.Common.{◌≡◌, ◌+◌, ◌<◌, ◌≤◌, [], ◌∷◌, ◌++◌, ◌∙◌, length, slice_range, sym, ap, arith, length-append}
 use Rattle.std.specs.Prelude.{sum_by}
 use Rattle.patch_header.specs.Region.{row, rows, seen_in}
+use Rattle.patch_header.specs.Said.{trail_said, trail_in}
+use Rattle.patch_header.proofs.GitLemmas.{trail-push}
 use Rattle.patch_header.proofs.Rows.{rows-push, region-push}
 use Rattle.patch_header.proofs.search.advance.Goals as goal
 
 pub returns-clause-passed : goal.returns-clause-passed
-returns-clause-passed c = λ only at line h none.
+returns-clause-passed c = λ ways at line git h none.
     let here = c.args.here in
     let one = slice_range c.args.text.now here.at c.args.end in
     let number : here.number ≡ line + length h.region = h.number in
@@ -17,9 +19,13 @@ returns-clause-passed c = λ only at line h none.
     let longer : length (h.region ++ one ∷ []) ≡ length h.region + 1 = length-append h.region (one ∷ []) in
     record {
       region = h.region ++ one ∷ [];
-      is_region = region-push only c.args.text.now at h.region here.at c.args.end h.is_region c.requires.line none;
+      is_region = region-push ways c.args.text.now at h.region here.at c.args.end h.is_region c.requires.line none;
       number = omega (arith, number, longer);
       seen = c.passed.ensures.is (rows line at h.region) h.seen ∙ ap seen_in (ap (λ r. rows line at h.region ++ r ∷ []) this ∙ sym (rows-push line at h.region one));
+      trail = λ e. c.trail_behind.ensures.is (sym git ∙ e)
+          ∙ ap (λ t. trail_said t (row here.number here.at one)) (h.trail e)
+          ∙ sym (trail-push (rows line at h.region) (row here.number here.at one))
+          ∙ ap trail_in (ap (λ r. rows line at h.region ++ r ∷ []) this ∙ sym (rows-push line at h.region one));
       low = omega (arith, low, far);
       count = omega (arith, count, far);
     }

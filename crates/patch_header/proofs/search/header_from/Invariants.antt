@@ -6,7 +6,7 @@ use Rattle.patch_header.proofs.search.header_from.Given as goal
 
 abbrev pub invariant-lines : goal.invariant-lines
 invariant-lines l = record {
-  passed : HasPassed l.only l.text l.at l.line l.here;
+  passed : HasPassed l.ways l.text l.at l.line l.here;
   lawful : IsLawful l.text l.here;
   known : l.known ≡ true → has_dot (lines (drop l.here.at l.text)) ≡ false;
 }

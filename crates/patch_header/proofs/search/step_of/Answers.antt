@@ -1,28 +1,98 @@
-use Rattle.std.proofs.Common.{◌≡◌, ◌+◌, ◌<◌, ◌≤◌, ◌∙◌, Some, true, length, drop, ap, arith}
+use Rattle.std.proofs.Common.{◌≡◌, ◌+◌, ◌<◌, ◌≤◌, ◌∙◌, Some, true, false, length, drop, sym, ap, arith}
 use Rattle.line_list.specs.Lines.{lines}
-use Rattle.patch_header.specs.Openings.{admits, begins, opens, stop_at}
-use Rattle.patch_header.specs.declared.openings.Stop.TheVariants.{Opening}
-use Rattle.patch_header.proofs.Stands.{and_left, and_right, stop-opens}
+use Rattle.patch_header.specs.GitRows.{git_lines_in, led_by}
+use Rattle.patch_header.specs.Kept.{opening_said}
+use Rattle.patch_header.specs.Openings.{admits, begins, opens, stops_bare, stop_at}
+use Rattle.patch_header.specs.Region.{rows}
+use Rattle.patch_header.specs.Steps.{header_with, bare_with}
+use Rattle.patch_header.specs.declared.openings.Stop.TheVariants.{Opening, Bare}
+use Rattle.patch_header.proofs.BareLemmas.{opening-is}
+use Rattle.patch_header.proofs.GitLemmas.{led-is, no-led}
+use Rattle.patch_header.proofs.Stands.{and_left, and_right, stop-opens, bare-words}
+use Rattle.patch_header.proofs.StepLemmas.{bare-begins}
 use Rattle.patch_header.proofs.Rows.{stands-within}
 use Rattle.patch_header.proofs.search.step_of.Goals as goal
 
+pub returns-in-Opening-clause-comes : goal.returns-in-Opening-clause-comes
+returns-in-Opening-clause-comes c = λ at line h s.
+    let text = c.args.text.now in
+    let here = c.args.here in
+    let form = c.in-Opening.form in
+    let rs = rows line at h.region in
+    let led = led_by c.args.ways form rs in
+    let said : c.led_by-led.result ≡ git_lines_in led = c.led_by-led.ensures.is ∙ led-is c.args.ways form here.trail rs h.trail in
+    let says : c.header_of.result ≡ header_with text form here.at here.number rs led
+    = c.header_of.ensures.says rs h.seen ∙ ap (opening_said text form here.at here.number rs) said ∙ opening-is text form here.at here.number rs led in
+    record {
+      region = h.region;
+      place = here.at;
+      stop = Opening form;
+      is_region = h.is_region;
+      stands = s ∙ ap Some c.in-Opening.is;
+      says = ap Some (sym (says ∙ ap (λ n. header_with text form here.at n rs led) h.number));
+    }
+
 pub returns-in-Opening-clause-lies : goal.returns-in-Opening-clause-lies
-returns-in-Opening-clause-lies c = λ only at line h s.
+returns-in-Opening-clause-lies c = λ at line h s.
+    let ways = c.args.ways in
     let text = c.args.text.now in
     let here = c.args.here in
     let place : c.header_of.result.at ≡ here.at = c.header_of.ensures.at in
     let number : c.header_of.result.opening ≡ here.number = c.header_of.ensures.opening in
-    let stands : stop_at only (lines (drop here.at text)) ≡ Some (Opening c.in-Opening.form) = s ∙ ap Some c.in-Opening.is in
+    let stands : stop_at ways (lines (drop here.at text)) ≡ Some (Opening c.in-Opening.form) = s ∙ ap Some c.in-Opening.is in
     let low : at ≤ here.at = h.low in
     let count : here.number + at ≤ line + here.at = h.count in
-    let high : here.at < length text = stands-within only text here.at (Opening c.in-Opening.form) c.requires.lawful.within stands in
-    let shown : opens only c.in-Opening.form (lines (drop here.at text)) ≡ true = stop-opens only c.in-Opening.form (lines (drop here.at text)) stands in
+    let high : here.at < length text = stands-within ways text here.at (Opening c.in-Opening.form) c.requires.lawful.within stands in
+    let shown : opens ways.only c.in-Opening.form (lines (drop here.at text)) ≡ true = stop-opens ways c.in-Opening.form (lines (drop here.at text)) stands in
     let form : c.header_of.result.form ≡ c.in-Opening.form = c.header_of.ensures.form in
+    let bare : c.header_of.result.bare ≡ false = c.header_of.ensures.bare in
     record {
       low = omega (arith, place, low);
       high = omega (arith, place, high);
       numbers = omega (arith, place, number, count);
-      admitted = ap (admits only) form ∙ and_left (admits only c.in-Opening.form) _ shown;
-      begins = ap (λ f. begins only f (lines (drop c.header_of.result.at text))) form ∙ ap (λ p. begins only c.in-Opening.form (lines (drop p text))) place ∙ and_right (admits only c.in-Opening.form) _ shown;
+      opening = λ e. record {
+        admitted = ap (admits ways.only) form ∙ and_left (admits ways.only c.in-Opening.form) _ shown;
+        begins = ap (λ f. begins ways.only f (lines (drop c.header_of.result.at text))) form ∙ ap (λ p. begins ways.only c.in-Opening.form (lines (drop p text))) place ∙ and_right (admits ways.only c.in-Opening.form) _ shown;
+      };
+      git = λ e. absurd cc;
+      plain = λ e. c.header_of.ensures.plain (c.led_by-led.ensures.is ∙ no-led ways c.in-Opening.form here.trail e);
       pieces = c.header_of.ensures.pieces;
+    }
+
+pub returns-in-Bare-clause-comes : goal.returns-in-Bare-clause-comes
+returns-in-Bare-clause-comes c = λ at line h s.
+    let text = c.args.text.now in
+    let here = c.args.here in
+    let rs = rows line at h.region in
+    record {
+      region = h.region;
+      place = here.at;
+      stop = Bare;
+      is_region = h.is_region;
+      stands = s ∙ ap Some c.in-Bare.is;
+      says = ap Some (sym (c.bare_of.ensures.says rs h.seen ∙ ap (λ n. bare_with text here.at n rs) h.number));
+    }
+
+pub returns-in-Bare-clause-lies : goal.returns-in-Bare-clause-lies
+returns-in-Bare-clause-lies c = λ at line h s.
+    let ways = c.args.ways in
+    let text = c.args.text.now in
+    let here = c.args.here in
+    let place : c.bare_of.result.at ≡ here.at = c.bare_of.ensures.at in
+    let number : c.bare_of.result.opening ≡ here.number = c.bare_of.ensures.opening in
+    let stands : stop_at ways (lines (drop here.at text)) ≡ Some Bare = s ∙ ap Some c.in-Bare.is in
+    let low : at ≤ here.at = h.low in
+    let count : here.number + at ≤ line + here.at = h.count in
+    let high : here.at < length text = stands-within ways text here.at Bare c.requires.lawful.within stands in
+    let shown : stops_bare ways (lines (drop here.at text)) ≡ true = (bare-words ways (lines (drop here.at text))).0 stands in
+    let git : ways.git ≡ true = and_left ways.git _ shown in
+    let bare : c.bare_of.result.bare ≡ true = c.bare_of.ensures.bare in
+    record {
+      low = omega (arith, place, low);
+      high = omega (arith, place, high);
+      numbers = omega (arith, place, number, count);
+      opening = λ e. absurd cc;
+      git = λ e. record { git = git; form = c.bare_of.ensures.form; begins = bare-begins text here.at c.bare_of.result.at place (and_right ways.git _ shown) };
+      plain = λ e. absurd cc;
+      pieces = c.bare_of.ensures.pieces;
     }

@@ -1,3 +1,4 @@
+use Rattle.patch_header.specs.Ways.{plainly}
 use Rattle.patch_header.specs.Steps.{IsFirstOpening, LiesBehind}
 use Rattle.patch_text.proofs.HeaderLemmas.{header-from}
 use Rattle.patch_text.proofs.TextLoops.{next-end}
@@ -16,8 +17,8 @@ read_patch-requires-clause-header c =
     let at = c.args.here.at in
     let line = c.args.here.number in
     let h = c.in-Found.header in
-    let first : IsFirstOpening c.args.only text at line h = rw c.in-Found.is at c.header_from-step.ensures.comes in
-    let lies : LiesBehind c.args.only text at line h = rw c.in-Found.is at c.header_from-step.ensures.lies in
+    let first : IsFirstOpening (plainly c.args.only) text at line h = rw c.in-Found.is at c.header_from-step.ensures.comes in
+    let lies : LiesBehind (plainly c.args.only) text at line h = rw c.in-Found.is at c.header_from-step.ensures.lies in
     header-from c.args.only text at line h first lies
 
 pub returns-in_ok-found-in-Found-clause-opens : goal.returns-in_ok-found-in-Found-clause-opens
@@ -25,5 +26,5 @@ returns-in_ok-found-in-Found-clause-opens c =
     let text = c.args.text.now in
     let at = c.args.here.at in
     let line = c.args.here.number in
-    let first : IsFirstOpening c.args.only text at line c.in-Found.header = rw c.in-Found.is at c.header_from-step.ensures.comes in
+    let first : IsFirstOpening (plainly c.args.only) text at line c.in-Found.header = rw c.in-Found.is at c.header_from-step.ensures.comes in
     rw c.in_ok-found-in-Found.ensures.header first

@@ -7,6 +7,7 @@ use Rattle.file_patch.specs.Absent.{IsLawfulPatch}
 use Rattle.patch_text.specs.Patches.{next_patch}
 use Rattle.patch_text.specs.Reading.{IsProgress, ahead_of}
 use Rattle.patch_text.specs.Spans.{IsPatch}
+use Rattle.patch_header.specs.Ways.{plainly}
 use Rattle.patch_header.specs.Steps.{IsFirstOpening}
 use Rattle.patch_text.proofs.TextLoops.{patches_begin, patches_go_on, patches_fail, patches_done, turn-push, count-push, rows_of}
 use Rattle.hunk_core.specs.declared.fault.FormFault.TheVariants.{Malformed}
@@ -43,7 +44,7 @@ patches-preserved c =
     let after : (here.at < behind.at) × (behind.at ≡ p.span.end) × (behind.hunks ≡ here.hunks + row_count p.change) = rw c.in-Some.is at c.in_ok-patch.ensures.behind in
     let next : next_patch c.args.only text here.at here.number ≡ Ok (Some (patch_of text p, ahead_of text behind)) = rw c.in-Some.is at c.in_ok-patch.ensures.exact in
     let rows : 0 + rows_of ps ≡ here.hunks = omega (arith, was.rows) in
-    let opens : IsFirstOpening c.args.only text here.at here.number p.header = rw c.in-Some.is at c.in_ok-patch.ensures.opens in
+    let opens : IsFirstOpening (plainly c.args.only) text here.at here.number p.header = rw c.in-Some.is at c.in_ok-patch.ensures.opens in
     rw c.in_ok-push.ensures.items (record {
       progress = progress;
       lawful = All-push (IsLawfulPatch text) ps p was.lawful is.lawful;

@@ -1,0 +1,170 @@
+-- What a search keeps of git headers is what their lines say.
+use Rattle.std.proofs.Common.{◌≡◌, ℕ, ◌+◌, Bool, true, false, cond, ◌&&◌, ◌||◌, List, [], ◌∷◌, ◌++◌, length, reverse, Option, None, Some, refl, sym, ap, ◌∙◌}
+use Rattle.std.specs.Prelude.{is_some, unwrap_or, codes}
+use Rattle.std.proofs.lemmas.List.{reverse-append}
+use Rattle.line_list.specs.declared.Span.{Span}
+use Rattle.hunk_core.specs.declared.Form.{Form}
+use Rattle.hunk_core.specs.LineTests.{after}
+use Rattle.patch_header.specs.Content.{content}
+use Rattle.patch_header.specs.GitHeaders.{starts, is_git_line, is_extended, has_line, action_of}
+use Rattle.patch_header.specs.GitRows.{lines_of, git_lines_in, whole_in, from_by, to_by, from_in, to_in, with_row, header_back, old_name_back, new_name_back, led_rows, is_unified, led_by}
+use Rattle.patch_header.specs.Region.{Row, rows, tail_of, first_some, last_tail}
+use Rattle.patch_header.specs.Said.{said_with, action_said, from_by_said, to_by_said, from_said, to_said, push_said, header_said, kept_if, trail_said, said_in, trail_back, trail_in, or_nothing, led_said}
+use Rattle.patch_header.specs.declared.region.Tail.{Tail}
+use Rattle.patch_header.specs.declared.ways.Ways.{Ways}
+use Rattle.patch_header.specs.declared.git_lines.Action.{Action}
+use Rattle.patch_header.specs.declared.git_lines.Action.TheVariants.{Plain, New, Deleted, Rename, Copy}
+use Rattle.patch_header.specs.declared.git_lines.GitLines.{GitLines}
+use Rattle.patch_header.specs.declared.git_trail.GitTrail.{GitTrail}
+
+or_false : (v : Bool) → (v || false) ≡ v
+or_false true = refl
+or_false false = refl
+
+or-assoc : (u v w : Bool) → (u || (v || w)) ≡ ((u || v) || w)
+or-assoc true v w = refl
+or-assoc false v w = refl
+
+or-swap : (u v : Bool) → (u || v) ≡ (v || u)
+or-swap true true = refl
+or-swap true false = refl
+or-swap false true = refl
+or-swap false false = refl
+
+-- ---- one more line
+
+pub has-push : (mark : List ℕ) (rs : List Row) (r : Row) → has_line mark (lines_of (rs ++ r ∷ [])) ≡ (has_line mark (lines_of rs) || starts mark r.line)
+has-push mark [] r = or_false (starts mark r.line)
+has-push mark (x ∷ rs) r = ap (λ v. starts mark x.line || v) (has-push mark rs r) ∙ or-assoc (starts mark x.line) (has_line mark (lines_of rs)) (starts mark r.line)
+
+tail-push : (mark : List ℕ) (rs : List Row) (r : Row) → last_tail mark (rs ++ r ∷ []) ≡ cond (is_some (tail_of mark r)) (tail_of mark r) (last_tail mark rs)
+tail-push mark rs r = ap (first_some (tail_of mark)) (reverse-append rs (r ∷ []))
+
+abbrev made : Bool → Bool → Option Tail → Option Tail → Option Tail → Option Tail → GitLines
+made n d a b c e = record { is_new = n; is_deleted = d; rename_from = a; rename_to = b; copy_from = c; copy_to = e }
+
+pub said-push : (rs : List Row) (r : Row) → git_lines_in (rs ++ r ∷ []) ≡ said_with (git_lines_in rs) r
+said-push rs r =
+    let all = rs ++ r ∷ [] in
+    let s = said_with (git_lines_in rs) r in
+    ap (λ v. made v (has_line (codes "deleted file mode ") (lines_of all)) (last_tail (codes "rename from ") all) (last_tail (codes "rename to ") all) (last_tail (codes "copy from ") all) (last_tail (codes "copy to ") all)) (has-push (codes "new file mode ") rs r)
+    ∙ ap (λ v. made s.is_new v (last_tail (codes "rename from ") all) (last_tail (codes "rename to ") all) (last_tail (codes "copy from ") all) (last_tail (codes "copy to ") all)) (has-push (codes "deleted file mode ") rs r)
+    ∙ ap (λ v. made s.is_new s.is_deleted v (last_tail (codes "rename to ") all) (last_tail (codes "copy from ") all) (last_tail (codes "copy to ") all)) (tail-push (codes "rename from ") rs r)
+    ∙ ap (λ v. made s.is_new s.is_deleted s.rename_from v (last_tail (codes "copy from ") all) (last_tail (codes "copy to ") all)) (tail-push (codes "rename to ") rs r)
+    ∙ ap (λ v. made s.is_new s.is_deleted s.rename_from s.rename_to v (last_tail (codes "copy to ") all)) (tail-push (codes "copy from ") rs r)
+    ∙ ap (λ v. made s.is_new s.is_deleted s.rename_from s.rename_to s.copy_from v) (tail-push (codes "copy to ") rs r)
+
+-- ---- what the lines say
+
+some-tail : (v : Bool) (t : Tail) (o : Option Tail) → is_some (cond (is_some (cond v (Some t) None)) (cond v (Some t) None) o) ≡ (v || is_some o)
+some-tail true t o = refl
+some-tail false t o = refl
+
+first-there : (mark : List ℕ) (rs : List Row) → is_some (first_some (tail_of mark) rs) ≡ has_line mark (lines_of rs)
+first-there mark [] = refl
+first-there mark (r ∷ rs) =
+    some-tail (starts mark r.line) (record { number = r.number; start = r.start + length mark; end = r.start + length (content r.line) }) (first_some (tail_of mark) rs)
+    ∙ ap (λ v. starts mark r.line || v) (first-there mark rs)
+
+has-turned : (mark : List ℕ) (rs : List Row) → has_line mark (lines_of (reverse rs)) ≡ has_line mark (lines_of rs)
+has-turned mark [] = refl
+has-turned mark (r ∷ rs) =
+    ap (λ l. has_line mark (lines_of l)) (reverse-append (r ∷ []) rs)
+    ∙ has-push mark (reverse rs) r
+    ∙ ap (λ v. v || starts mark r.line) (has-turned mark rs)
+    ∙ or-swap (has_line mark (lines_of rs)) (starts mark r.line)
+
+last-there : (mark : List ℕ) (rs : List Row) → is_some (last_tail mark rs) ≡ has_line mark (lines_of rs)
+last-there mark rs = first-there mark (reverse rs) ∙ has-turned mark rs
+
+abbrev chosen : Bool → Bool → Bool → Bool → Bool → Bool → Action
+chosen n d a b c e = cond n New (cond d Deleted (cond (a && b) Rename (cond (c && e) Copy Plain)))
+
+pub action-is : (rs : List Row) → action_said (git_lines_in rs) ≡ action_of (lines_of rs)
+unfolding action_of
+action-is rs =
+    let ls = lines_of rs in
+    let n = has_line (codes "new file mode ") ls in
+    let d = has_line (codes "deleted file mode ") ls in
+    ap (λ v. chosen n d v (is_some (last_tail (codes "rename to ") rs)) (is_some (last_tail (codes "copy from ") rs)) (is_some (last_tail (codes "copy to ") rs))) (last-there (codes "rename from ") rs)
+    ∙ ap (λ v. chosen n d (has_line (codes "rename from ") ls) v (is_some (last_tail (codes "copy from ") rs)) (is_some (last_tail (codes "copy to ") rs))) (last-there (codes "rename to ") rs)
+    ∙ ap (λ v. chosen n d (has_line (codes "rename from ") ls) (has_line (codes "rename to ") ls) v (is_some (last_tail (codes "copy to ") rs))) (last-there (codes "copy from ") rs)
+    ∙ ap (λ v. chosen n d (has_line (codes "rename from ") ls) (has_line (codes "rename to ") ls) (has_line (codes "copy from ") ls) v) (last-there (codes "copy to ") rs)
+
+same-from : (a : Action) (rs : List Row) → from_by_said a (git_lines_in rs) ≡ from_by a rs
+same-from Plain rs = refl
+same-from New rs = refl
+same-from Deleted rs = refl
+same-from Rename rs = refl
+same-from Copy rs = refl
+
+same-to : (a : Action) (rs : List Row) → to_by_said a (git_lines_in rs) ≡ to_by a rs
+same-to Plain rs = refl
+same-to New rs = refl
+same-to Deleted rs = refl
+same-to Rename rs = refl
+same-to Copy rs = refl
+
+pub from-is : (rs : List Row) → from_said (git_lines_in rs) ≡ from_in rs
+from-is rs = ap (λ a. from_by_said a (git_lines_in rs)) (action-is rs) ∙ same-from (action_of (lines_of rs)) rs
+
+pub to-is : (rs : List Row) → to_said (git_lines_in rs) ≡ to_in rs
+to-is rs = ap (λ a. to_by_said a (git_lines_in rs)) (action-is rs) ∙ same-to (action_of (lines_of rs)) rs
+
+pub lines-back : (number start : ℕ) (ls : List (List ℕ)) → lines_of (rows number start ls) ≡ ls
+lines-back number start [] = refl
+lines-back number start (l ∷ ls) = ap (λ more. l ∷ more) (lines-back (number + 1) (start + length l) ls)
+
+-- ---- the trail
+
+header-by : (g x : Bool) (o : Option (List Row)) (r : Row) → said_in (cond g (Some []) (cond x (with_row o r) None)) ≡ cond g (Some (git_lines_in [])) (cond x (push_said (said_in o) r) None)
+header-by true x o r = refl
+header-by false true None r = refl
+header-by false true (Some rs) r = ap Some (said-push rs r)
+header-by false false o r = refl
+
+header-push : (back : List Row) (r : Row) → said_in (header_back (r ∷ back)) ≡ header_said (said_in (header_back back)) r
+unfolding header_back
+header-push back r = header-by (is_git_line r.line) (is_extended r.line) (header_back back) r
+
+kept-by : (v : Bool) (o : Option (List Row)) → said_in (cond v o None) ≡ kept_if v (said_in o)
+kept-by true o = refl
+kept-by false o = refl
+
+old-push : (back : List Row) (r : Row) → said_in (old_name_back (r ∷ back)) ≡ kept_if (starts (codes "--- ") r.line) (said_in (header_back back))
+unfolding old_name_back
+old-push back r = kept-by (starts (codes "--- ") r.line) (header_back back)
+
+new-push : (back : List Row) (r : Row) → said_in (new_name_back (r ∷ back)) ≡ kept_if (starts (codes "+++ ") r.line) (said_in (old_name_back back))
+unfolding new_name_back
+new-push back r = kept-by (starts (codes "+++ ") r.line) (old_name_back back)
+
+abbrev trail : Option GitLines → Option GitLines → Option GitLines → GitTrail
+trail h m p = record { header = h; old_name = m; new_name = p }
+
+back-push : (back : List Row) (r : Row) → trail_back (r ∷ back) ≡ trail_said (trail_back back) r
+back-push back r =
+    let t = trail_said (trail_back back) r in
+    ap (λ h. trail h (said_in (old_name_back (r ∷ back))) (said_in (new_name_back (r ∷ back)))) (header-push back r)
+    ∙ ap (λ m. trail t.header m (said_in (new_name_back (r ∷ back)))) (old-push back r)
+    ∙ ap (λ p. trail t.header t.old_name p) (new-push back r)
+
+pub trail-push : (rs : List Row) (r : Row) → trail_in (rs ++ r ∷ []) ≡ trail_said (trail_in rs) r
+trail-push rs r = ap trail_back (reverse-append rs (r ∷ [])) ∙ back-push (reverse rs) r
+
+-- ---- what leads an opening
+
+nothing-is : (o : Option (List Row)) → or_nothing (said_in o) ≡ git_lines_in (unwrap_or o [])
+nothing-is None = refl
+nothing-is (Some rs) = refl
+
+pub led-is : (ways : Ways) (form : Form) (t : GitTrail) (rs : List Row) → (ways.git ≡ true → t ≡ trail_in rs) → led_said ways form t ≡ git_lines_in (led_by ways form rs)
+led-is ways form t rs e = by ways.git (is_unified form) e
+  where
+    by : (g u : Bool) → (g ≡ true → t ≡ trail_in rs) → cond (g && u) (or_nothing t.new_name) (git_lines_in []) ≡ git_lines_in (cond (g && u) (led_rows rs) [])
+    by false u k = refl
+    by true false k = refl
+    by true true k = ap (λ x. or_nothing x.new_name) (k refl) ∙ nothing-is (new_name_back (reverse rs))
+
+pub no-led : (ways : Ways) (form : Form) (t : GitTrail) → ways.git ≡ false → led_said ways form t ≡ git_lines_in []
+no-led ways form t e = rw e refl

@@ -1,0 +1,238 @@
+-- What git headers say, in words.
+use Rattle.std.proofs.Common.{◌≡◌, ◌↔◌, ℕ, suc, ◌+◌, ◌/◌, ◌%◌, Bool, true, false, cond, not, ◌&&◌, ◌||◌, eqb, List, [], ◌∷◌, ◌++◌, length, reverse, take, drop, get_or, Option, None, Some, refl, sym, ap, ◌∙◌, arith, append_assoc, length-append}
+use Rattle.std.specs.Prelude.{is_some, unwrap_or, codes, ◌==◌}
+use Rattle.std.specs.List.{AllByRecursion}
+use Rattle.std.proofs.Math.Seq.{get_or-append_seam}
+use Rattle.std.proofs.lemmas.List.{append-nil, reverse-append, drop-append-le, drop_all, take-append-le, take_all}
+use Rattle.hunk_core.specs.LineTests.{after}
+use Rattle.hunk_core.proofs.TextLemmas.{prefix-words, has_some}
+use Rattle.patch_header.specs.Content.{content}
+use Rattle.patch_header.specs.GitHeaders.{starts, is_git_line, is_extended, extended_run, behind_run, has_line, action_of, is_plain, has_names, begins_bare}
+use Rattle.patch_header.specs.GitRows.{half, are_alike, has_halves, with_row, header_back, old_name_back, new_name_back, led_rows}
+use Rattle.patch_header.specs.Region.{Row}
+use Rattle.patch_header.specs.declared.git_lines.Action.{Action}
+use Rattle.patch_header.specs.declared.git_lines.Action.TheVariants.{Plain, New, Deleted, Rename, Copy}
+use Rattle.patch_header.proofs.Stands.{and_left, and_right}
+use Rattle.patch_header.proofs.Meanings.{begins-words}
+use Rattle.patch_header.proofs.ScanLemmas.{run-more, behind-more, run-stops, behind-stops, run-none, behind-none}
+
+pub starts-words : (mark line : List ℕ) → starts mark line ≡ true ↔ ((rest : List ℕ) × (content line ≡ mark ++ rest))
+starts-words mark line = begins-words mark (content line)
+
+abbrev AreExtended : List (List ℕ) → Type 0
+AreExtended ls = AllByRecursion (λ l. is_extended l ≡ true) ls
+
+pub run-words : (xs : List (List ℕ)) (line : List ℕ) (rest : List (List ℕ)) → AreExtended xs → is_extended line ≡ false → (extended_run (xs ++ line ∷ rest) ≡ xs) × (behind_run (xs ++ line ∷ rest) ≡ line ∷ rest)
+run-words [] line rest h e = (run-stops line rest e, behind-stops line rest e)
+run-words (x ∷ xs) line rest h e =
+    let more = run-words xs line rest h.1 e in
+    (run-more x (xs ++ line ∷ rest) h.0 ∙ ap (λ ls. x ∷ ls) more.0, behind-more x (xs ++ line ∷ rest) h.0 ∙ more.1)
+
+pub all-words : (xs : List (List ℕ)) → AreExtended xs → (extended_run xs ≡ xs) × (behind_run xs ≡ [])
+all-words [] h = (run-none, behind-none)
+all-words (x ∷ xs) h =
+    let more = all-words xs h.1 in
+    (run-more x xs h.0 ∙ ap (λ ls. x ∷ ls) more.0, behind-more x xs h.0 ∙ more.1)
+
+-- ---- the action
+
+abbrev chosen : Bool → Bool → Bool → Bool → Action
+chosen n d r c = cond n New (cond d Deleted (cond r Rename (cond c Copy Plain)))
+
+told-new : (n d r c : Bool) → chosen n d r c ≡ New → n ≡ true
+told-new true d r c h = refl
+told-new false true r c h = absurd cc
+told-new false false true c h = absurd cc
+told-new false false false true h = absurd cc
+told-new false false false false h = absurd cc
+
+told-deleted : (n d r c : Bool) → chosen n d r c ≡ Deleted → (n ≡ false) × (d ≡ true)
+told-deleted true d r c h = absurd cc
+told-deleted false true r c h = (refl, refl)
+told-deleted false false true c h = absurd cc
+told-deleted false false false true h = absurd cc
+told-deleted false false false false h = absurd cc
+
+told-rename : (n d r c : Bool) → chosen n d r c ≡ Rename → r ≡ true
+told-rename true d r c h = absurd cc
+told-rename false true r c h = absurd cc
+told-rename false false true c h = refl
+told-rename false false false true h = absurd cc
+told-rename false false false false h = absurd cc
+
+told-copy : (n d r c : Bool) → chosen n d r c ≡ Copy → c ≡ true
+told-copy true d r c h = absurd cc
+told-copy false true r c h = absurd cc
+told-copy false false true c h = absurd cc
+told-copy false false false true h = refl
+told-copy false false false false h = absurd cc
+
+abbrev has_new : List (List ℕ) → Bool
+has_new ls = has_line (codes "new file mode ") ls
+
+abbrev has_deleted : List (List ℕ) → Bool
+has_deleted ls = has_line (codes "deleted file mode ") ls
+
+abbrev has_rename : List (List ℕ) → Bool
+has_rename ls = has_line (codes "rename from ") ls && has_line (codes "rename to ") ls
+
+abbrev has_copy : List (List ℕ) → Bool
+has_copy ls = has_line (codes "copy from ") ls && has_line (codes "copy to ") ls
+
+action-by : (ls : List (List ℕ)) → action_of ls ≡ chosen (has_new ls) (has_deleted ls) (has_rename ls) (has_copy ls)
+unfolding action_of
+action-by ls = refl
+
+pub new-words : (ls : List (List ℕ)) → action_of ls ≡ New ↔ has_line (codes "new file mode ") ls ≡ true
+new-words ls = (
+  λ h. told-new (has_new ls) (has_deleted ls) (has_rename ls) (has_copy ls) (sym (action-by ls) ∙ h),
+  λ k. action-by ls ∙ ap (λ n. chosen n (has_deleted ls) (has_rename ls) (has_copy ls)) k,
+)
+
+pub deleted-words : (ls : List (List ℕ)) → action_of ls ≡ Deleted ↔ ((has_line (codes "new file mode ") ls ≡ false) × (has_line (codes "deleted file mode ") ls ≡ true))
+deleted-words ls = (
+  λ h. told-deleted (has_new ls) (has_deleted ls) (has_rename ls) (has_copy ls) (sym (action-by ls) ∙ h),
+  λ k. action-by ls ∙ ap (λ n. chosen n (has_deleted ls) (has_rename ls) (has_copy ls)) k.0 ∙ ap (λ d. chosen false d (has_rename ls) (has_copy ls)) k.1,
+)
+
+pub rename-words : (ls : List (List ℕ)) → action_of ls ≡ Rename → (has_line (codes "rename from ") ls ≡ true) × (has_line (codes "rename to ") ls ≡ true)
+rename-words ls h =
+    let both : has_rename ls ≡ true = told-rename (has_new ls) (has_deleted ls) (has_rename ls) (has_copy ls) (sym (action-by ls) ∙ h) in
+    (and_left _ _ both, and_right (has_line (codes "rename from ") ls) _ both)
+
+pub copy-words : (ls : List (List ℕ)) → action_of ls ≡ Copy → (has_line (codes "copy from ") ls ≡ true) × (has_line (codes "copy to ") ls ≡ true)
+copy-words ls h =
+    let both : has_copy ls ≡ true = told-copy (has_new ls) (has_deleted ls) (has_rename ls) (has_copy ls) (sym (action-by ls) ∙ h) in
+    (and_left _ _ both, and_right (has_line (codes "copy from ") ls) _ both)
+
+-- ---- modes alone
+
+-- no line of modes is one that tells an action
+record IsModes (l : List ℕ) : Type 0 where
+  new : starts (codes "new file mode ") l ≡ false
+  deleted : starts (codes "deleted file mode ") l ≡ false
+  rename : starts (codes "rename from ") l ≡ false
+  copy : starts (codes "copy from ") l ≡ false
+
+old-modes : (l rest : List ℕ) → content l ≡ codes "old mode " ++ rest → IsModes l
+unfolding after
+old-modes l rest e = record { new = rw e refl; deleted = rw e refl; rename = rw e refl; copy = rw e refl }
+
+new-modes : (l rest : List ℕ) → content l ≡ codes "new mode " ++ rest → IsModes l
+unfolding after
+new-modes l rest e = record { new = rw e refl; deleted = rw e refl; rename = rw e refl; copy = rw e refl }
+
+abbrev is_modes : List ℕ → Bool
+is_modes l = starts (codes "old mode ") l || starts (codes "new mode ") l
+
+modes-line : (l : List ℕ) → is_modes l ≡ true → IsModes l
+modes-line l h = by (starts (codes "old mode ") l) refl h
+  where
+    by : (v : Bool) → starts (codes "old mode ") l ≡ v → (v || starts (codes "new mode ") l) ≡ true → IsModes l
+    by true e k = let s = (starts-words (codes "old mode ") l).0 e in old-modes l s.0 s.1
+    by false e k = let s = (starts-words (codes "new mode ") l).0 k in new-modes l s.0 s.1
+
+neither : (v w : Bool) → v ≡ false → w ≡ false → (v || w) ≡ false
+neither v w e f = rw (e, f) refl
+
+record HasModes (ls : List (List ℕ)) : Type 0 where
+  new : has_new ls ≡ false
+  deleted : has_deleted ls ≡ false
+  rename : has_line (codes "rename from ") ls ≡ false
+  copy : has_line (codes "copy from ") ls ≡ false
+
+modes-lines : (ls : List (List ℕ)) → AllByRecursion (λ l. is_modes l ≡ true) ls → HasModes ls
+modes-lines [] h = record { new = refl; deleted = refl; rename = refl; copy = refl }
+modes-lines (l ∷ ls) h =
+    let one = modes-line l h.0 in
+    let more = modes-lines ls h.1 in
+    record {
+      new = neither (starts (codes "new file mode ") l) (has_new ls) one.new more.new;
+      deleted = neither (starts (codes "deleted file mode ") l) (has_deleted ls) one.deleted more.deleted;
+      rename = neither (starts (codes "rename from ") l) (has_line (codes "rename from ") ls) one.rename more.rename;
+      copy = neither (starts (codes "copy from ") l) (has_line (codes "copy from ") ls) one.copy more.copy;
+    }
+
+plain-chosen : (n d a b c e : Bool) → n ≡ false → d ≡ false → a ≡ false → c ≡ false → chosen n d (a && b) (c && e) ≡ Plain
+plain-chosen n d a b c e hn hd ha hc = rw (hn, hd, ha, hc) refl
+
+no-more : (v w : Bool) → (v && (w && not true)) ≡ false
+no-more true true = refl
+no-more true false = refl
+no-more false w = refl
+
+pub modes-words : (git : List ℕ) (rest : List (List ℕ)) → AllByRecursion (λ l. (starts (codes "old mode ") l || starts (codes "new mode ") l) ≡ true) (extended_run rest) → begins_bare (git ∷ rest) ≡ false
+unfolding begins_bare
+modes-words git rest h =
+    let run = extended_run rest in
+    let modes = modes-lines run h in
+    let plain : action_of run ≡ Plain = action-by run
+    ∙ plain-chosen (has_new run) (has_deleted run) (has_line (codes "rename from ") run) (has_line (codes "rename to ") run) (has_line (codes "copy from ") run) (has_line (codes "copy to ") run) modes.new modes.deleted modes.rename modes.copy in
+    ap (λ a. is_git_line git && (not (has_names (behind_run rest)) && not (is_plain a))) plain
+    ∙ no-more (is_git_line git) (not (has_names (behind_run rest)))
+
+-- ---- what leads an opening
+
+header-here : (git : Row) (back : List Row) → is_git_line git.line ≡ true → header_back (git ∷ back) ≡ Some []
+unfolding header_back
+header-here git back e = rw e refl
+
+header-more : (r : Row) (back rs : List Row) → is_git_line r.line ≡ false → is_extended r.line ≡ true → header_back back ≡ Some rs → header_back (r ∷ back) ≡ Some (rs ++ r ∷ [])
+unfolding header_back
+header-more r back rs e f h = rw (e, f, h) refl
+
+abbrev GoOn : List Row → Type 0
+GoOn gs = AllByRecursion (λ r. (is_git_line r.line ≡ false) × (is_extended r.line ≡ true)) gs
+
+header-run : (gs back rs : List Row) → GoOn gs → header_back back ≡ Some rs → header_back (reverse gs ++ back) ≡ Some (rs ++ gs)
+header-run [] back rs h e = e ∙ ap Some (sym (append-nil rs))
+header-run (g ∷ gs) back rs h e =
+    ap (λ l. header_back (l ++ back)) (reverse-append (g ∷ []) gs)
+    ∙ ap header_back (append_assoc (reverse gs) (g ∷ []) back)
+    ∙ header-run gs (g ∷ back) (rs ++ g ∷ []) h.1 (header-more g back rs h.0.0 h.0.1 e)
+    ∙ ap Some (append_assoc rs (g ∷ []) gs)
+
+old-here : (old : Row) (back : List Row) → starts (codes "--- ") old.line ≡ true → old_name_back (old ∷ back) ≡ header_back back
+unfolding old_name_back
+old-here old back e = rw e refl
+
+new-here : (new : Row) (back : List Row) → starts (codes "+++ ") new.line ≡ true → new_name_back (new ∷ back) ≡ old_name_back back
+unfolding new_name_back
+new-here new back e = rw e refl
+
+pub led-words : (front gs : List Row) (git old new : Row) → is_git_line git.line ≡ true → AllByRecursion (λ r. (is_git_line r.line ≡ false) × (is_extended r.line ≡ true)) gs
+    → starts (codes "--- ") old.line ≡ true → starts (codes "+++ ") new.line ≡ true → led_rows (front ++ git ∷ (gs ++ old ∷ new ∷ [])) ≡ gs
+led-words front gs git old new hg hgs ho hn =
+    let ends = gs ++ old ∷ new ∷ [] in
+    let back = git ∷ reverse front in
+    let turned : reverse (front ++ git ∷ ends) ≡ new ∷ old ∷ (reverse gs ++ back)
+    = reverse-append front (git ∷ ends)
+    ∙ ap (λ l. l ++ reverse front) (reverse-append (git ∷ []) ends)
+    ∙ append_assoc (reverse ends) (git ∷ []) (reverse front)
+    ∙ ap (λ l. l ++ back) (reverse-append gs (old ∷ new ∷ [])) in
+    ap (λ l. unwrap_or (new_name_back l) []) turned
+    ∙ ap (λ o. unwrap_or o []) (new-here new (old ∷ (reverse gs ++ back)) hn ∙ old-here old (reverse gs ++ back) ho ∙ header-run gs back [] hgs (header-here git (reverse front) hg))
+
+-- ---- the halves
+
+odd-test : (n : ℕ) → n % 2 ≡ 1 → (n % 2 == 1) ≡ true
+odd-test n e = rw e refl
+
+pub halves-words : (old new : List ℕ) → length old ≡ length new → are_alike old new ≡ true → has_halves (old ++ 32 ∷ new) ≡ true
+unfolding has_halves
+halves-words old new same alike =
+    let bytes = old ++ 32 ∷ new in
+    let n = length old in
+    let long : length bytes ≡ length old + length (32 ∷ new) = length-append old (32 ∷ new) in
+    let odd : length bytes % 2 ≡ 1 = omega (arith, long, same) in
+    let middle : half bytes ≡ n = omega (arith, long, same) in
+    let space : get_or bytes n 0 ≡ 32 = get_or-append_seam old 32 new 0 in
+    let front : take n bytes ≡ old = take-append-le n old (32 ∷ new) (omega arith) ∙ take_all n old (omega arith) in
+    let back : drop (n + 1) bytes ≡ new = behind old new in
+    rw (odd, middle, space, front, back, alike) refl
+  where
+    behind : (old new : List ℕ) → drop (length old + 1) (old ++ 32 ∷ new) ≡ new
+    behind [] new = refl
+    behind (b ∷ old) new =
+        let e : length (b ∷ old) + 1 ≡ suc (length old + 1) = omega arith in
+        ap (λ m. drop m (b ∷ (old ++ 32 ∷ new))) e ∙ behind old new

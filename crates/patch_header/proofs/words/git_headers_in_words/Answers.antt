@@ -1,0 +1,32 @@
+use Rattle.patch_header.proofs.GitWords.{starts-words, run-words, all-words, new-words, deleted-words, rename-words, copy-words, modes-words, led-words, halves-words}
+use Rattle.patch_header.proofs.words.git_headers_in_words.Goals as goal
+
+pub returns-clause-starts : goal.returns-clause-starts
+returns-clause-starts c = starts-words
+
+pub returns-clause-run : goal.returns-clause-run
+returns-clause-run c = run-words
+
+pub returns-clause-all : goal.returns-clause-all
+returns-clause-all c = all-words
+
+pub returns-clause-new : goal.returns-clause-new
+returns-clause-new c = new-words
+
+pub returns-clause-deleted : goal.returns-clause-deleted
+returns-clause-deleted c = deleted-words
+
+pub returns-clause-rename : goal.returns-clause-rename
+returns-clause-rename c = rename-words
+
+pub returns-clause-copy : goal.returns-clause-copy
+returns-clause-copy c = copy-words
+
+pub returns-clause-modes : goal.returns-clause-modes
+returns-clause-modes c = modes-words
+
+pub returns-clause-led : goal.returns-clause-led
+returns-clause-led c = led-words
+
+pub returns-clause-halves : goal.returns-clause-halves
+returns-clause-halves c = halves-words

@@ -1,0 +1,81 @@
+-- Git headers: a git line, and the extended lines directly behind it (git-diff(1), "Generating patch text with -p").
+use Rattle.std.specs.Prelude.{ℕ, Bool, true, false, not, ◌&&◌, ◌||◌, List, [], ◌∷◌, is_some, codes, if◌then◌else◌}
+use Rattle.std.specs.List.{list_any}
+use Rattle.hunk_core.specs.LineTests.{after}
+use Rattle.unified_form.specs.Hunks.{begins_hunk}
+use Rattle.patch_header.specs.Content.{content}
+use Rattle.patch_header.specs.declared.git_lines.Action.{Action}
+use Rattle.patch_header.specs.declared.git_lines.Action.TheVariants.{Plain, New, Deleted, Rename, Copy}
+
+-- a line begins with these bytes
+abbrev pub starts : List ℕ → List ℕ → Bool
+starts mark line = is_some (after mark (content line))
+
+-- the line that a git header begins with
+abbrev pub is_git_line : List ℕ → Bool
+is_git_line line = starts (codes "diff --git ") line
+
+-- lines that speak of modes
+abbrev pub is_mode_line : List ℕ → Bool
+is_mode_line line = starts (codes "old mode ") line || (starts (codes "new mode ") line || (starts (codes "new file mode ") line || starts (codes "deleted file mode ") line))
+
+-- lines that give a name
+abbrev pub is_name_line : List ℕ → Bool
+is_name_line line = starts (codes "rename from ") line || (starts (codes "rename to ") line || (starts (codes "copy from ") line || starts (codes "copy to ") line))
+
+-- lines that speak of contents
+abbrev pub is_index_line : List ℕ → Bool
+is_index_line line = starts (codes "similarity index ") line || (starts (codes "dissimilarity index ") line || starts (codes "index ") line)
+
+-- an extended line has one of these eleven beginnings
+unfoldable pub is_extended : List ℕ → Bool
+is_extended line = is_mode_line line || (is_name_line line || is_index_line line)
+
+-- the extended lines of a git header: the longest run of them directly behind its git line
+unfoldable pub extended_run : List (List ℕ) → List (List ℕ)
+extended_run [] = []
+extended_run (line ∷ rest) = if is_extended line then line ∷ extended_run rest else []
+
+-- the lines behind that run
+unfoldable pub behind_run : List (List ℕ) → List (List ℕ)
+behind_run [] = []
+behind_run (line ∷ rest) = if is_extended line then behind_run rest else line ∷ rest
+
+-- the git header that begins these lines with its git line
+abbrev pub git_header : List (List ℕ) → List (List ℕ)
+git_header [] = []
+git_header (line ∷ rest) = line ∷ extended_run rest
+
+-- one of these lines begins so
+abbrev pub has_line : List ℕ → List (List ℕ) → Bool
+has_line mark ls = list_any (starts mark) ls
+
+-- a file that is new comes before one that is deleted, that before a rename with both its lines, that before a copy with both
+unfoldable pub action_of : List (List ℕ) → Action
+action_of ls = if has_line (codes "new file mode ") ls then New
+    else if has_line (codes "deleted file mode ") ls then Deleted
+    else if has_line (codes "rename from ") ls && has_line (codes "rename to ") ls then Rename
+    else if has_line (codes "copy from ") ls && has_line (codes "copy to ") ls then Copy
+    else Plain
+
+abbrev pub is_plain : Action → Bool
+is_plain Plain = true
+is_plain New = false
+is_plain Deleted = false
+is_plain Rename = false
+is_plain Copy = false
+
+-- a line of the new name, and a hunk directly behind it
+abbrev pub has_new_name : List (List ℕ) → Bool
+has_new_name [] = false
+has_new_name (line ∷ rest) = starts (codes "+++ ") line && begins_hunk rest
+
+-- lines of both names, and a hunk directly behind them
+abbrev pub has_names : List (List ℕ) → Bool
+has_names [] = false
+has_names (line ∷ rest) = starts (codes "--- ") line && has_new_name rest
+
+-- a bare git header begins these lines: no names and hunk follow it directly, and it says that a file is new, deleted, renamed or copied
+unfoldable pub begins_bare : List (List ℕ) → Bool
+begins_bare [] = false
+begins_bare (line ∷ rest) = is_git_line line && (not (has_names (behind_run rest)) && not (is_plain (action_of (extended_run rest))))

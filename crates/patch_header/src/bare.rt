@@ -1,0 +1,272 @@
+//! Bare git headers: file patches without a hunk.
+
+ghost use Rattle.std.specs.Prelude.{◌≡◌, ℕ, ◌<◌, ◌≤◌, ◌+◌, ◌^◌, true, not, ◌&&◌, List, ◌++◌, ◌==◌, get_or, length, take, drop, slice_range, sum_by, IfSome};
+ghost use Rattle.line_list.specs.Lines.{lines, IsLineAt};
+ghost use Rattle.patch_header.specs.GitHeaders.{git_header, extended_run, behind_run, action_of, is_plain, is_extended, has_new_name, has_names, begins_bare};
+ghost use Rattle.patch_header.specs.GitRows.{has_halves, half, middle_of, are_alike, old_half, new_half};
+ghost use Rattle.patch_header.specs.Said.{SaysWithin};
+ghost use Rattle.patch_header.specs.Kept.{bare_said};
+ghost use Rattle.patch_header.specs.Region.{LiesIn, Row, seen_in, AllLieIn};
+ghost use Rattle.patch_header.specs.Values.{IsPieceOf};
+ghost use Rattle.patch_header.specs.Scanning.{HasScanned, IsBlock};
+ghost use Rattle.patch_header.specs.Steps.{bare_with, HasPieces};
+
+use crate::git_lines::{
+    GitLines, action_of, from_in, is_extended, is_git_line, is_plain, no_git_lines, starts, to_in,
+    with_line,
+};
+use crate::header::Header;
+use crate::region::{Seen, Tail, tail_of};
+use crate::values::{name_in, span_at, word_in};
+use bstr::ByteSlice;
+use hunk_core::Form;
+use line_list::{Span, next_line};
+use stamp::Stamp;
+
+/// Extended lines up to a place, where the line has this number.
+#[derive(Clone, Copy)]
+pub struct Block {
+    pub end: usize,
+    pub number: u64,
+    pub lines: GitLines,
+}
+
+/// The block, the line up to `end` with it.
+fn block_passed(text: &[u8], here: Block, end: usize) -> Block
+    requires line { IsLineAt text.now here.end end }
+    requires lies { SaysWithin text.now here.lines }
+    requires small { here.number < 2 ^ 63 }
+    requires extended { is_extended (slice_range text.now here.end end) ≡ true }
+    ensures end { result.end ≡ end }
+    ensures scanned { (at number : ℕ) → HasScanned text.now at number here → HasScanned text.now at number result }
+{
+    Block {
+        end,
+        number: here.number + 1,
+        lines: with_line(here.lines, here.number, text, here.end, end),
+    }
+}
+
+/// The extended lines from a place on.
+fn extended_from(text: &[u8], at: usize, number: u64) -> Block
+    requires within { at ≤ length text.now }
+    requires short { length text.now < 2 ^ 32 }
+    requires small { number ≤ 2 ^ 32 + at }
+    ensures { IsBlock text.now at number result }
+{
+    let mut here = Block {
+        end: at,
+        number,
+        lines: no_git_lines(),
+    };
+    'lines: while let Some(end) = next_line(text, here.end) {
+        if !is_extended(&text[here.end..end]) {
+            return here;
+        }
+        here = block_passed(text, here, end);
+    }
+    here
+}
+
+fn has_new_name(text: &[u8], at: usize) -> bool
+    requires { at ≤ length text.now }
+    ensures { result ≡ has_new_name (lines (drop at text.now)) }
+{
+    match next_line(text, at) {
+        None => false,
+        Some(end) => starts(&text[at..end], b"+++ ") && unified_form::at_opening(text, end),
+    }
+}
+
+/// Whether lines of both names stand here, and a hunk directly behind them.
+fn has_names(text: &[u8], at: usize) -> bool
+    requires { at ≤ length text.now }
+    ensures { result ≡ has_names (lines (drop at text.now)) }
+{
+    match next_line(text, at) {
+        None => false,
+        Some(end) => starts(&text[at..end], b"--- ") && has_new_name(text, end),
+    }
+}
+
+/// Whether the extended lines from a place on say more than modes, and no hunk with names follows them.
+fn says_more(text: &[u8], at: usize) -> bool
+    requires short { length text.now < 2 ^ 32 }
+    requires within { at ≤ length text.now }
+    ensures { result ≡ (not (has_names (behind_run (lines (drop at text.now)))) && not (is_plain (action_of (extended_run (lines (drop at text.now)))))) }
+{
+    let block = extended_from(text, at, 0);
+    !has_names(text, block.end) && !is_plain(action_of(block.lines))
+}
+
+/// Whether a bare git header begins with the line from `at` up to `end`. It looks ahead over its
+/// extended lines and the three lines behind them.
+#[tactic(auto, unfolding(crate::specs::GitHeaders::begins_bare))]
+pub fn is_bare(text: &[u8], at: usize, end: usize) -> bool
+    requires short { length text.now < 2 ^ 32 }
+    requires line { IsLineAt text.now at end }
+    ensures { result ≡ begins_bare (lines (drop at text.now)) }
+{
+    is_git_line(&text[at..end]) && says_more(text, end)
+}
+
+/// Whether both are equal behind their first slash.
+fn are_alike(old: &[u8], new: &[u8]) -> bool
+    ensures { result ≡ are_alike old.now new.now }
+{
+    match old.find_byte(b'/') {
+        None => false,
+        Some(k) => match new.find_byte(b'/') {
+            None => false,
+            Some(l) => {
+                let old_rest = &old[k + 1..];
+                let new_rest = &new[l + 1..];
+                old_rest == new_rest
+            }
+        },
+    }
+}
+
+/// Whether two names stand beside a space at this place.
+fn is_split(bytes: &[u8], middle: usize) -> bool
+    requires { middle < length bytes.now }
+    ensures { result ≡ (get_or bytes.now middle 0 == 32 && are_alike (take middle bytes.now) (drop (middle + 1) bytes.now)) }
+{
+    bytes[middle] == b' ' && are_alike(&bytes[..middle], &bytes[middle + 1..])
+}
+
+/// Whether two names stand beside a space in the middle.
+#[tactic(auto, unfolding(crate::specs::GitRows::has_halves))]
+fn has_halves(bytes: &[u8]) -> bool
+    ensures { result ≡ has_halves bytes.now }
+{
+    bytes.len() % 2 == 1 && is_split(bytes, half(bytes))
+}
+
+/// How long each half is, beside the middle byte.
+fn half(bytes: &[u8]) -> usize
+    ensures is { result ≡ half bytes.now }
+    ensures within { result + result ≤ length bytes.now }
+{
+    bytes.len() / 2
+}
+
+/// The place of the space between two names.
+fn middle_of(bytes: &[u8]) -> Option<usize>
+    ensures is { result ≡ middle_of bytes.now }
+    ensures odd { IfSome result (λ m. m + m + 1 ≡ length bytes.now) }
+{
+    let middle = half(bytes);
+    if !has_halves(bytes) {
+        return None;
+    }
+    Some(middle)
+}
+
+fn old_half(text: &[u8], tail: Option<Tail>) -> Option<Span>
+    requires short { length text.now < 2 ^ 32 }
+    requires lies { IfSome tail (LiesIn text.now) }
+    ensures is { result ≡ old_half text.now tail }
+    ensures piece { IfSome result (IsPieceOf text.now) }
+{
+    match tail {
+        None => None,
+        Some(tail) => match middle_of(&text[tail.start..tail.end]) {
+            None => None,
+            Some(middle) => span_at(tail.start, middle),
+        },
+    }
+}
+
+fn new_half(text: &[u8], tail: Option<Tail>) -> Option<Span>
+    requires short { length text.now < 2 ^ 32 }
+    requires lies { IfSome tail (LiesIn text.now) }
+    ensures is { result ≡ new_half text.now tail }
+    ensures piece { IfSome result (IsPieceOf text.now) }
+{
+    match tail {
+        None => None,
+        Some(tail) => match middle_of(&text[tail.start..tail.end]) {
+            None => None,
+            Some(middle) => span_at(tail.start + (middle + 1), middle),
+        },
+    }
+}
+
+/// A bare header with the rest of its git line and what its extended lines say.
+fn bare_header(
+    text: &[u8],
+    at: usize,
+    number: u64,
+    seen: Seen,
+    rest: Option<Tail>,
+    lines: GitLines,
+) -> Header
+    requires short { length text.now < 2 ^ 32 }
+    requires seen { AllLieIn text.now seen }
+    requires rest { IfSome rest (LiesIn text.now) }
+    requires lines { SaysWithin text.now lines }
+    ensures at { result.at ≡ at }
+    ensures opening { result.opening ≡ number }
+    ensures form { result.form ≡ Form.Unified }
+    ensures bare { result.bare ≡ true }
+    ensures says { (rs : List Row) → seen ≡ seen_in rs → result ≡ bare_said text.now at number rs rest lines }
+    ensures pieces { HasPieces text.now result }
+{
+    Header {
+        form: Form::Unified,
+        at,
+        opening: number,
+        names_line: number,
+        old_name: old_half(text, rest),
+        new_name: new_half(text, rest),
+        index: name_in(text, seen.index),
+        prereq: word_in(text, seen.prereq),
+        old_stamp: Stamp::Unknown,
+        new_stamp: Stamp::Unknown,
+        action: action_of(lines),
+        bare: true,
+        from: from_in(text, lines),
+        to: to_in(text, lines),
+    }
+}
+
+/// The header of the bare git header that begins with the line from `at` up to `end`, which has this number.
+pub fn bare_of(text: &[u8], at: usize, end: usize, number: u64, seen: Seen) -> Header
+    requires short { length text.now < 2 ^ 32 }
+    requires small { number ≤ 2 ^ 32 + at }
+    requires line { IsLineAt text.now at end }
+    requires lies { AllLieIn text.now seen }
+    ensures at { result.at ≡ at }
+    ensures opening { result.opening ≡ number }
+    ensures form { result.form ≡ Form.Unified }
+    ensures bare { result.bare ≡ true }
+    ensures says { (rs : List Row) → seen ≡ seen_in rs → result ≡ bare_with text.now at number rs }
+    ensures pieces { HasPieces text.now result }
+{
+    let rest = tail_of(b"diff --git ", number, text, at, end);
+    let block = extended_from(text, end, number + 1);
+    bare_header(text, at, number, seen, rest, block.lines)
+}
+
+/// Where a bare git header ends that begins at `at`, and the number of the line there, where the first
+/// line has this number: behind its git line and the extended lines that follow it.
+pub fn bare_end(text: &[u8], at: usize, line: u64) -> (usize, u64)
+    requires short { length text.now < 2 ^ 32 }
+    requires within { at ≤ length text.now }
+    requires small { line ≤ 2 ^ 32 + at }
+    ensures within { result.0 ≤ length text.now }
+    ensures place { result.0 ≡ at + sum_by length (git_header (lines (drop at text.now))) }
+    ensures number { result.1 ≡ line + length (git_header (lines (drop at text.now))) }
+    // The lines of the text from there on are those behind the header.
+    ensures rest { lines (drop at text.now) ≡ git_header (lines (drop at text.now)) ++ lines (drop result.0 text.now) }
+    ensures count { result.1 + at ≤ line + result.0 }
+{
+    match next_line(text, at) {
+        None => (at, line),
+        Some(end) => {
+            let block = extended_from(text, end, line + 1);
+            (block.end, block.number)
+        }
+    }
+}

@@ -1,0 +1,35 @@
+//! How a patch text is looked through for file patches.
+
+ghost use Rattle.std.specs.Prelude.{◌≡◌};
+ghost use Rattle.patch_header.specs.Ways.{with_git, plainly};
+
+use hunk_core::Form;
+
+/// How a patch text is looked through for file patches.
+#[derive(Clone, Copy, Debug, PartialEq, Eq)]
+pub struct Ways {
+    /// The one form whose openings count, or `None` where those of all forms do.
+    pub only: Option<Form>,
+    /// Whether git headers are read. Where they aren't, each of their lines is as any other line.
+    pub git: bool,
+    /// Whether binary lines are passed over as any other line. Where they aren't, they stop the search.
+    pub skip_binary: bool,
+}
+
+/// With git headers or without them, where binary lines stop the search.
+pub fn with_git(only: Option<Form>, git: bool) -> Ways
+    ensures { result ≡ with_git only git }
+{
+    Ways {
+        only,
+        git,
+        skip_binary: false,
+    }
+}
+
+/// Without git headers, where binary lines stop the search.
+pub fn plainly(only: Option<Form>) -> Ways
+    ensures { result ≡ plainly only }
+{
+    with_git(only, false)
+}
