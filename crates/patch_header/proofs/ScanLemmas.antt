@@ -1,9 +1,10 @@
 -- A scan of extended lines, one more with each step.
-use Rattle.std.proofs.Common.{◌≡◌, ℕ, ◌+◌, ◌<◌, ◌≤◌, Bool, true, false, cond, List, [], ◌∷◌, ◌++◌, length, drop, slice_range, refl, sym, ap, ◌∙◌, arith, append_assoc}
+use Rattle.std.proofs.Common.{◌≡◌, ℕ, ◌+◌, ◌<◌, ◌≤◌, Bool, true, false, cond, ◌||◌, List, [], ◌∷◌, ◌++◌, length, drop, slice_range, refl, sym, ap, ◌∙◌, arith, append_assoc}
 use Rattle.std.specs.Prelude.{sum_by}
 use Rattle.std.proofs.lemmas.List.{append-nil}
 use Rattle.std.proofs.lemmas.List.Sums.{sum_by-append}
 use Rattle.line_list.specs.Lines.{lines, IsLineAt}
+use Rattle.patch_header.specs.Content.{is_dot, has_dot}
 use Rattle.patch_header.specs.GitHeaders.{is_extended, extended_run, behind_run, git_header, action_of}
 use Rattle.patch_header.specs.GitRows.{git_lines_in, lines_of}
 use Rattle.patch_header.specs.Region.{Row, row, rows}
@@ -151,3 +152,16 @@ header-split text at end number b line block =
 
 pub header-none : (text : List ℕ) (at : ℕ) → lines (drop at text) ≡ [] → (sum_by length (git_header (lines (drop at text))) ≡ 0) × (length (git_header (lines (drop at text))) ≡ 0) × (lines (drop at text) ≡ git_header (lines (drop at text)) ++ lines (drop at text))
 header-none text at e = (ap (λ ls. sum_by length (git_header ls)) e, ap (λ ls. length (git_header ls)) e, e ∙ sym (ap (λ ls. git_header ls ++ ls) e))
+
+-- behind lines that hold no '.', if the whole holds none
+none-behind : (xs ys : List (List ℕ)) → has_dot (xs ++ ys) ≡ false → has_dot ys ≡ false
+none-behind [] ys h = h
+none-behind (x ∷ xs) ys h = none-behind xs ys (or_right (is_dot x) (has_dot (xs ++ ys)) h)
+  where
+    or_right : (v w : Bool) → (v || w) ≡ false → w ≡ false
+    or_right true w e = absurd cc
+    or_right false w e = e
+
+pub header-dots : (text : List ℕ) (at end number : ℕ) (b : Block) → IsLineAt text at end → IsBlock text end number b → has_dot (lines (drop at text)) ≡ false → has_dot (lines (drop b.end text)) ≡ false
+header-dots text at end number b line block h =
+    none-behind (git_header (lines (drop at text))) (lines (drop b.end text)) (sym (ap has_dot (header-split text at end number b line block)) ∙ h)

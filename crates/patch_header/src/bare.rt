@@ -1,7 +1,8 @@
 //! Bare git headers: file patches without a hunk.
 
-ghost use Rattle.std.specs.Prelude.{◌≡◌, ℕ, ◌<◌, ◌≤◌, ◌+◌, ◌^◌, true, not, ◌&&◌, List, ◌++◌, ◌==◌, get_or, length, take, drop, slice_range, sum_by, IfSome};
+ghost use Rattle.std.specs.Prelude.{◌≡◌, ℕ, ◌<◌, ◌≤◌, ◌+◌, ◌^◌, true, false, not, ◌&&◌, List, ◌++◌, ◌==◌, get_or, length, take, drop, slice_range, sum_by, IfSome};
 ghost use Rattle.line_list.specs.Lines.{lines, IsLineAt};
+ghost use Rattle.patch_header.specs.Content.{has_dot};
 ghost use Rattle.patch_header.specs.GitHeaders.{git_header, extended_run, behind_run, action_of, is_plain, is_extended, has_new_name, has_names, begins_bare};
 ghost use Rattle.patch_header.specs.GitRows.{has_halves, half, middle_of, are_alike, old_half, new_half};
 ghost use Rattle.patch_header.specs.Said.{SaysWithin};
@@ -261,6 +262,9 @@ pub fn bare_end(text: &[u8], at: usize, line: u64) -> (usize, u64)
     // The lines of the text from there on are those behind the header.
     ensures rest { lines (drop at text.now) ≡ git_header (lines (drop at text.now)) ++ lines (drop result.0 text.now) }
     ensures count { result.1 + at ≤ line + result.0 }
+    ensures on { at < length text.now → at < result.0 }
+    // Where no line from the header on is `.`, none behind it is.
+    ensures dots { has_dot (lines (drop at text.now)) ≡ false → has_dot (lines (drop result.0 text.now)) ≡ false }
 {
     match next_line(text, at) {
         None => (at, line),

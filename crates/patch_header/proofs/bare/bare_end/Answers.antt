@@ -2,7 +2,7 @@ use Rattle.std.proofs.Common.{◌≡◌, ◌+◌, ◌≤◌, ◌<◌, length, dr
 use Rattle.std.specs.Prelude.{sum_by}
 use Rattle.line_list.specs.Lines.{lines}
 use Rattle.patch_header.specs.GitHeaders.{git_header, extended_run}
-use Rattle.patch_header.proofs.ScanLemmas.{header-sum, header-count, header-split, header-none}
+use Rattle.patch_header.proofs.ScanLemmas.{header-sum, header-count, header-split, header-none, header-dots}
 use Rattle.patch_header.proofs.bare.bare_end.Goals as goal
 
 pub returns-in-None-clause-place : goal.returns-in-None-clause-place
@@ -38,3 +38,6 @@ returns-in-Some-clause-number c =
 
 pub returns-in-Some-clause-rest : goal.returns-in-Some-clause-rest
 returns-in-Some-clause-rest c = header-split c.args.text.now c.args.at c.in-Some.end (c.args.line + 1) c.extended_from-block.result c.in-Some.ensures c.extended_from-block.ensures
+
+pub returns-in-Some-clause-dots : goal.returns-in-Some-clause-dots
+returns-in-Some-clause-dots c = header-dots c.args.text.now c.args.at c.in-Some.end (c.args.line + 1) c.extended_from-block.result c.in-Some.ensures c.extended_from-block.ensures
