@@ -1,5 +1,5 @@
 -- The header of a bare git header, by its lines.
-use Rattle.std.proofs.Common.{◌≡◌, ℕ, ◌+◌, ◌-◌, ◌*◌, ◌/◌, ◌%◌, Bool, true, false, ◌&&◌, List, [], ◌∷◌, length, drop, slice_range, Option, None, Some, refl, sym, ap, ◌∙◌, arith, length-drop}
+use Rattle.std.proofs.Common.{◌≡◌, ℕ, ◌+◌, ◌-◌, ◌*◌, ◌/◌, ◌%◌, true, false, List, length, drop, slice_range, Option, None, Some, refl, sym, ap, ◌∙◌, arith, length-drop}
 use Rattle.std.specs.Prelude.{codes, bytes_eq, ◌==◌}
 use Rattle.std.specs.List.{position}
 use Rattle.std.proofs.Math.Nat.{div-add-mod}
@@ -9,7 +9,7 @@ use Rattle.line_list.specs.declared.Span.{Span}
 use Rattle.line_list.specs.Lines.{lines, IsLineAt}
 use Rattle.hunk_core.specs.declared.Form.{Form}
 use Rattle.patch_header.specs.GitHeaders.{extended_run, action_of}
-use Rattle.patch_header.specs.GitRows.{git_lines_in, lines_of, from_in, to_in, half, has_halves, same_behind, are_alike, git_rest, extended_rows}
+use Rattle.patch_header.specs.GitRows.{git_lines_in, lines_of, from_in, to_in, half, has_halves, are_alike, git_rest, extended_rows}
 use Rattle.patch_header.specs.Kept.{opening_said, bare_said}
 use Rattle.patch_header.specs.Region.{Row, row, rows, tail_of}
 use Rattle.patch_header.specs.Steps.{header_with, bare_with}

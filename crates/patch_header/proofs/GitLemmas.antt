@@ -1,13 +1,11 @@
 -- What a search keeps of git headers is what their lines say.
-use Rattle.std.proofs.Common.{◌≡◌, ℕ, ◌+◌, Bool, true, false, cond, ◌&&◌, ◌||◌, List, [], ◌∷◌, ◌++◌, length, reverse, Option, None, Some, refl, sym, ap, ◌∙◌}
+use Rattle.std.proofs.Common.{◌≡◌, ℕ, ◌+◌, Bool, true, false, cond, ◌&&◌, ◌||◌, List, [], ◌∷◌, ◌++◌, length, reverse, Option, None, Some, refl, ap, ◌∙◌}
 use Rattle.std.specs.Prelude.{is_some, unwrap_or, codes}
 use Rattle.std.proofs.lemmas.List.{reverse-append}
-use Rattle.line_list.specs.declared.Span.{Span}
 use Rattle.hunk_core.specs.declared.Form.{Form}
-use Rattle.hunk_core.specs.LineTests.{after}
 use Rattle.patch_header.specs.Content.{content}
 use Rattle.patch_header.specs.GitHeaders.{starts, is_git_line, is_extended, has_line, action_of}
-use Rattle.patch_header.specs.GitRows.{lines_of, git_lines_in, whole_in, from_by, to_by, from_in, to_in, with_row, header_back, old_name_back, new_name_back, led_rows, is_unified, led_by}
+use Rattle.patch_header.specs.GitRows.{lines_of, git_lines_in, from_by, to_by, from_in, to_in, with_row, header_back, old_name_back, new_name_back, led_rows, is_unified, led_by}
 use Rattle.patch_header.specs.Region.{Row, rows, tail_of, first_some, last_tail}
 use Rattle.patch_header.specs.Said.{said_with, action_said, from_by_said, to_by_said, from_said, to_said, push_said, header_said, kept_if, trail_said, said_in, trail_back, trail_in, or_nothing, led_said}
 use Rattle.patch_header.specs.declared.region.Tail.{Tail}

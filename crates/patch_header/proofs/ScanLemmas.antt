@@ -6,8 +6,8 @@ use Rattle.std.proofs.lemmas.List.Sums.{sum_by-append}
 use Rattle.line_list.specs.Lines.{lines, IsLineAt}
 use Rattle.patch_header.specs.Content.{is_dot, has_dot}
 use Rattle.patch_header.specs.GitHeaders.{is_extended, extended_run, behind_run, git_header, action_of}
-use Rattle.patch_header.specs.GitRows.{git_lines_in, lines_of}
-use Rattle.patch_header.specs.Region.{Row, row, rows}
+use Rattle.patch_header.specs.GitRows.{git_lines_in}
+use Rattle.patch_header.specs.Region.{row, rows}
 use Rattle.patch_header.specs.Said.{said_with, action_said, SaysWithin}
 use Rattle.patch_header.specs.Scanning.{HasScanned, IsBlock}
 use Rattle.patch_header.specs.declared.bare.Block.{Block}

@@ -1,5 +1,5 @@
 -- What a search keeps of git headers while it passes their lines.
-use Rattle.std.specs.Prelude.{◌≡◌, ℕ, Bool, true, false, ◌&&◌, ◌||◌, List, [], length, reverse, Option, None, Some, is_some, IfSome, codes, if◌then◌else◌}
+use Rattle.std.specs.Prelude.{ℕ, Bool, ◌&&◌, ◌||◌, List, [], reverse, Option, None, Some, is_some, IfSome, codes, if◌then◌else◌}
 use Rattle.line_list.specs.declared.Span.{Span}
 use Rattle.hunk_core.specs.declared.Form.{Form}
 use Rattle.patch_header.specs.GitHeaders.{starts, is_git_line, is_extended}

@@ -1,4 +1,4 @@
-use Rattle.std.proofs.Common.{◌≡◌, ◌+◌, ◌≤◌, ◌<◌, length, drop, arith, sym, ap, ◌∙◌}
+use Rattle.std.proofs.Common.{◌≡◌, ◌+◌, length, drop, arith}
 use Rattle.std.specs.Prelude.{sum_by}
 use Rattle.line_list.specs.Lines.{lines}
 use Rattle.patch_header.specs.GitHeaders.{git_header, extended_run}

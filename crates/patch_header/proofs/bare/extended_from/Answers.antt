@@ -1,4 +1,4 @@
-use Rattle.std.proofs.Common.{◌≡◌, ◌+◌, ◌<◌, ◌≤◌, ◌^◌, length, arith, rules}
+use Rattle.std.proofs.Common.{◌+◌, ◌<◌, ◌≤◌, ◌^◌, length, arith, rules}
 use Rattle.patch_header.proofs.ScanLemmas.{scan-begins, scan-stops, scan-ends}
 use Rattle.patch_header.proofs.bare.extended_from.Goals as goal
 
