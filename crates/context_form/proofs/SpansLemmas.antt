@@ -1,5 +1,5 @@
 -- A hunk that was read is spelled by the lines of its piece.
-use Rattle.std.proofs.Common.{◌≡◌, ℕ, ◌≤◌, ◌<◌, true, length, arith, List, [], drop, slice_range, None, Result, Ok, Err, subst, sym}
+use Rattle.std.proofs.Common.{◌≡◌, ℕ, ◌≤◌, ◌<◌, true, length, arith, List, [], ◌++◌, drop, slice_range, None, Result, Ok, Err, subst, sym}
 use Rattle.std.specs.Prelude.{IfOk}
 use Rattle.line_list.specs.Lines.{lines}
 use Rattle.line_list.proofs.Pieces.{lines-pieces}
@@ -9,7 +9,7 @@ use Rattle.hunk_core.specs.declared.fault.Place.{Place}
 use Rattle.hunk_core.specs.PlainHunk.{PlainHunk, hunk_of}
 use Rattle.hunk_core.specs.Reading.{ahead, ahead_of, IsPlace, Gives}
 use Rattle.hunk_core.specs.Rules.{first_broken}
-use Rattle.hunk_core.proofs.PieceLemmas.{piece-lines}
+use Rattle.hunk_core.proofs.PieceLemmas.{piece-lines, piece-whole}
 use Rattle.context_form.specs.Hunks.{hunk_at}
 use Rattle.context_form.specs.Openings.{begins_hunk}
 use Rattle.context_form.specs.Grammar.{SpellsPiece}
@@ -28,6 +28,13 @@ pub result-piece : (text : List ℕ) (least : ℕ) (place : Place) (r : Result (
     → IfOk r (λ x. SpellsPiece least (lines (slice_range text place.at x.1.at)) (hunk_of text x.0))
 result-piece text least place (Ok x) opens goes given = hunk-piece text place.at x.1.at place.number x.1.number least (hunk_of text x.0) (omega (arith, goes.1)) goes.0.within opens given
 result-piece text least place (Err e) opens goes given = tt
+
+pub result-whole : (text : List ℕ) (least : ℕ) (place : Place) (r : Result (Hunk × Place) FormFault) → begins_hunk (lines (drop place.at text)) ≡ true → IfOk r (λ x. IsPlace text x.1 × (place.at < x.1.at)) → Gives (λ x. (hunk_of text x.0, ahead_of text x.1)) r (hunk_at least (ahead_of text place))
+    → IfOk r (λ x. lines (drop place.at text) ≡ lines (slice_range text place.at x.1.at) ++ lines (drop x.1.at text))
+result-whole text least place (Ok x) opens goes given =
+    let t = hunk_takes least place.number (lines (drop place.at text)) (hunk_of text x.0, ahead_of text x.1) opens given in
+    piece-whole text place.at x.1.at t.own (omega (arith, goes.1)) goes.0.within t.parts
+result-whole text least place (Err e) opens goes given = tt
 
 pub result-unbroken : (text : List ℕ) (least : ℕ) (place : Place) (r : Result (Hunk × Place) FormFault) → IfOk r (λ x. SpellsPiece least (lines (slice_range text place.at x.1.at)) (hunk_of text x.0)) → IfOk r (λ x. first_broken (hunk_of text x.0) ≡ None)
 result-unbroken text least place (Ok x) s = piece-unbroken text place.at x.1.at least (hunk_of text x.0) s

@@ -6,7 +6,7 @@ ghost use Rattle.hunk_core.specs.PlainHunk.{Marked, PlainHunk, hunk_of, hunks_of
 ghost use Rattle.hunk_core.specs.Reading.{Fault, Gives, Reads, IsPlace, ahead_of};
 ghost use Rattle.hunk_core.specs.Turned.{IsLawful, LiesIn};
 ghost use Rattle.hunk_core.specs.Rules.{first_broken};
-ghost use Rattle.hunk_core.specs.Pieces.{read_of, these, AreInTurn, SpellInTurn, AreSound};
+ghost use Rattle.hunk_core.specs.Pieces.{read_of, these, AreInTurn, AreWhole, SpellInTurn, AreSound};
 ghost use Rattle.context_form.specs.Openings.{begins_hunk};
 ghost use Rattle.context_form.specs.Ranges.{most, Fits};
 ghost use Rattle.context_form.specs.Parts.{plain_of};
@@ -313,6 +313,7 @@ fn read_hunk(
     requires place { IsPlace text.now place }
     requires opens { begins_hunk (lines (drop place.at text.now)) ≡ true }
     ensures place { IfOk result (λ x. IsPlace text.now x.1 × (place.at < x.1.at)) }
+    ensures whole { IfOk result (λ x. lines (drop place.at text.now) ≡ lines (slice_range text.now place.at x.1.at) ++ lines (drop x.1.at text.now)) }
     ensures piece { IfOk result (λ x. SpellsPiece least (lines (slice_range text.now place.at x.1.at)) (hunk_of text.now x.0)) }
     ensures few { IfOk result (λ x. place.at + vec_len x.0.body ≤ x.1.at) }
     ensures lawful { IfOk result (λ x. IsLawful text.now x.0) }
@@ -329,6 +330,7 @@ fn read_all(alloc: Global, text: &[u8], at: usize, line: u64) -> Result<Hunks, F
     requires small { line < 2 ^ 32 }
     ensures within { IfOk result (λ h. h.end ≤ length text.now) }
     ensures turn { IfOk result (λ h. AreInTurn at h.spans.items h.end) }
+    ensures whole { IfOk result (λ h. AreWhole text.now h.spans.items) }
     ensures pieces { IfOk result (λ h. SpellInTurn SpellsPiece text.now 0 h.spans.items (hunks_of text.now h.items.items)) }
     ensures sound { IfOk result (λ h. AreSound text.now h) }
     ensures exact { Gives (read_of text.now) result
@@ -365,6 +367,7 @@ pub fn read_hunks(alloc: Global, text: &[u8], at: usize, line: u64) -> Result<Hu
     ensures within { IfOk result (λ h. h.end ≤ length text.now) }
     // The spans are the pieces of the hunks, one behind the other from `at` up to the end.
     ensures turn { IfOk result (λ h. AreInTurn at h.spans.items h.end) }
+    ensures whole { IfOk result (λ h. AreWhole text.now h.spans.items) }
     ensures pieces { IfOk result (λ h. SpellInTurn SpellsPiece text.now 0 h.spans.items (hunks_of text.now h.items.items)) }
     // Each hunk is lawful over the text, and breaks none of the rules of `Hunk::check`.
     ensures sound { IfOk result (λ h. AreSound text.now h) }

@@ -6,7 +6,9 @@ use Rattle.hunk_core.specs.PlainHunk.{PlainHunk, lines_on}
 use Rattle.hunk_core.specs.Turned.{other_side}
 use Rattle.stamp.specs.declared.Stamp.{Stamp}
 use Rattle.stamp.specs.declared.Stamp.TheVariants.{Instant, Unknown}
+use Rattle.patch_header.specs.declared.git_lines.Action.{Action}
 use Rattle.file_patch.specs.declared.FilePatch.{FilePatch}
+use Rattle.file_patch.specs.Actions.{is_new, is_deleted}
 use Rattle.file_patch.specs.PlainPatch.{PlainHeader, PlainChange, PlainPatch, hunks, script, patch_of, IsLawfulChange}
 
 -- the name and the stamp of the side that is taken as old
@@ -42,9 +44,18 @@ abbrev pub is_empty_on : Side → PlainChange → Bool
 is_empty_on side (hunks hs) = is_one_empty side hs
 is_empty_on side (script es) = false
 
--- the side is no file: it is named `/dev/null`, or the one hunk has no line of it and its stamp is the epoch
+-- a git header says that the side is no file: the old one of a new file, the new one of a deleted file (git-diff(1), "Generating patch text with -p")
+abbrev pub is_said_absent : Side → Action → Bool
+is_said_absent Forward action = is_new action
+is_said_absent Reversed action = is_deleted action
+
+-- the one hunk has no line of the side, and the side's stamp is the epoch
+abbrev pub is_empty_file : Side → PlainPatch → Bool
+is_empty_file side p = is_empty_on side p.change && is_epoch (stamp_on side p.header)
+
+-- the side is no file: it is named `/dev/null`, or a git header says so, or it is an empty file from the epoch
 abbrev pub is_absent : Side → PlainPatch → Bool
-is_absent side p = is_null (name_on side p.header) || (is_empty_on side p.change && is_epoch (stamp_on side p.header))
+is_absent side p = is_null (name_on side p.header) || (is_said_absent side p.header.action || is_empty_file side p)
 
 -- what the file patch says of the side that is taken as old
 abbrev pub told_absent : Side → FilePatch → Bool

@@ -1,2 +1,3 @@
 pub mod PlainPatch
+pub mod Actions
 pub mod Absent

@@ -1,5 +1,5 @@
 -- A file patch apart from where its lines lie: what its header says, and its hunks or its script.
-use Rattle.std.specs.Prelude.{◌≡◌, ℕ, ◌<◌, ◌^◌, List, length, sum_by, All, Option, option_map}
+use Rattle.std.specs.Prelude.{◌≡◌, ℕ, ◌<◌, ◌^◌, Bool, List, length, sum_by, All, Option, option_map}
 use Rattle.line_list.specs.declared.Span.{Span}
 use Rattle.hunk_core.specs.declared.Form.{Form}
 use Rattle.hunk_core.specs.declared.Hunk.{Hunk}
@@ -7,6 +7,7 @@ use Rattle.hunk_core.specs.PlainHunk.{PlainHunk, bytes_at, hunks_of}
 use Rattle.hunk_core.specs.Turned.{IsLawful}
 use Rattle.stamp.specs.declared.Stamp.{Stamp}
 use Rattle.ed_form.specs.PlainEdit.{PlainEdit, edits_of, IsLawfulScript}
+use Rattle.patch_header.specs.declared.git_lines.Action.{Action}
 use Rattle.patch_header.specs.declared.header.Header.{Header}
 use Rattle.file_patch.specs.declared.Change.{Change}
 use Rattle.file_patch.specs.declared.Change.TheVariants.{Hunks, Script}
@@ -24,8 +25,14 @@ pub record PlainHeader : Type 0 where
   pub prereq : Option (List ℕ)
   pub old_stamp : Stamp
   pub new_stamp : Stamp
+  -- what a git header says of the file, and whether it is a bare one, which no hunk follows
+  pub action : Action
+  pub bare : Bool
+  -- the names that a file is renamed or copied from and to
+  pub from : Option (List ℕ)
+  pub to : Option (List ℕ)
 
--- hunks, or the edits of an ed script
+-- hunks, or the edits of an ed script; a bare git header has no hunk
 pub data PlainChange : Type 0 where
   hunks : List PlainHunk → PlainChange
   script : List PlainEdit → PlainChange
@@ -50,6 +57,10 @@ header_of text h = record {
   prereq = bytes_in text h.prereq;
   old_stamp = h.old_stamp;
   new_stamp = h.new_stamp;
+  action = h.action;
+  bare = h.bare;
+  from = bytes_in text h.from;
+  to = bytes_in text h.to;
 }
 
 -- what a change stands for
@@ -77,7 +88,7 @@ pub record AreLawfulHunks (text : List ℕ) (hs : List Hunk) : Type 0 where
   pub few : sum_by (λ x. length x.body.items) hs < 2 ^ 32
   pub lawful : All (IsLawful text) hs
 
--- lawful hunks, or a script of one edit or more
+-- lawful hunks, of which a bare git header has none, or a script of one edit or more
 abbrev pub IsLawfulChange : List ℕ → Change → Type 0
 IsLawfulChange text (Hunks hs) = AreLawfulHunks text hs.items
 IsLawfulChange text (Script s) = IsLawfulScript text s

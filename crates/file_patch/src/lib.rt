@@ -3,18 +3,20 @@
 
 ghost use Rattle.std.specs.Prelude.{◌≡◌, ◌<◌, ◌^◌, ℕ, List};
 ghost use Rattle.hunk_core.specs.Turned.{other_side};
+ghost use Rattle.file_patch.specs.Actions.{is_moved};
 ghost use Rattle.file_patch.specs.Absent.{IsLawfulPatch, creates, deletes, told_absent};
 ghost use Rattle.file_patch.specs.PlainPatch.{change_of, hunk_count, patch_of, row_count};
 
 use ed_form::EdScript;
 use hunk_core::{Hunk, Side};
 use line_list::Span;
-use patch_header::Header;
+use patch_header::{Action, Header};
 use target_names::Target;
 
 /// What a file patch does to its file.
 #[derive(Drop, Debug)]
 pub enum Change {
+    /// Its hunks; none where its header is a bare git header.
     Hunks(Vec<Hunk>),
     Script(EdScript),
 }
@@ -23,17 +25,17 @@ pub enum Change {
 #[derive(Drop, Debug)]
 pub struct FilePatch {
     pub header: Header,
-    /// The lines in front of the opening that belong to it, and its hunks.
+    /// The lines in front of the opening that belong to it, and its hunks or its bare git header.
     pub span: Span,
     /// The pieces of the hunks; an ed script is one piece.
     pub hunk_spans: Vec<Span>,
     pub change: Change,
-    /// Whether its old side is no file: it is named `/dev/null`, or is empty with the stamp of the
-    /// epoch.
+    /// Whether its old side is no file: it is named `/dev/null`, or a git header says that the file is
+    /// new, or it is empty with the stamp of the epoch.
     pub old_absent: bool,
-    /// The same of its new side.
+    /// The same of its new side; there the git header says that the file is deleted.
     pub new_absent: bool,
-    /// The files that it can be meant for.
+    /// The files that it can be meant for. Of a rename or a copy these are two, or none.
     pub targets: Vec<Target>,
     /// How many hunks the file patches before it have, an ed script counting as one.
     pub first_verdict: u32,
@@ -59,7 +61,17 @@ impl FilePatch {
         self.creates(side.other())
     }
 
-    /// How many hunks it has; an ed script counts as one.
+    /// Whether its file is renamed or copied, so that its targets are the name that the file has and the name that it gets.
+    pub fn is_moved(&self) -> bool
+        ensures { result ≡ is_moved self.now.header.action }
+    {
+        match self.header.action {
+            Action::Plain | Action::New | Action::Deleted => false,
+            Action::Rename | Action::Copy => true,
+        }
+    }
+
+    /// How many hunks it has; an ed script counts as one, and a bare git header has none.
     pub fn hunks(&self) -> u32
         requires { row_count self.now.change < 2 ^ 32 }
         ensures { (text : List ℕ) → result ≡ hunk_count (change_of text self.now.change) }

@@ -6,7 +6,7 @@ use Rattle.std.proofs.lemmas.List.Concat.{flat_map-append}
 use Rattle.line_list.specs.Lines.{lines, ArePieces}
 use Rattle.line_list.specs.declared.Span.{Span}
 use Rattle.hunk_core.specs.PlainHunk.{PlainHunk, bytes_at}
-use Rattle.hunk_core.specs.Pieces.{AreInTurn, SpellInTurn}
+use Rattle.hunk_core.specs.Pieces.{AreInTurn, AreWhole, SpellInTurn}
 use Rattle.line_list.proofs.Pieces.{joined, lines-joined, lines-pieces, pieces-only}
 
 -- the first of some pieces are pieces
@@ -35,6 +35,10 @@ piece-lines text at next own le high e =
     ap lines (same-width text at next (joined own) le high whole)
     ∙ pieces-only own (pieces-first own (lines (drop next text)) (subst ArePieces e (lines-pieces (drop at text))))
 
+-- what was read ends where a line does
+pub piece-whole : (text : List ℕ) (at next : ℕ) (own : List (List ℕ)) → at ≤ next → next ≤ length text → lines (drop at text) ≡ own ++ lines (drop next text) → lines (drop at text) ≡ lines (slice_range text at next) ++ lines (drop next text)
+piece-whole text at next own le high e = e ∙ ap (λ ls. ls ++ lines (drop next text)) (sym (piece-lines text at next own le high e))
+
 -- ---- one span behind the other
 
 -- the start of the last hunk, or what stood before the first
@@ -45,6 +49,10 @@ last_start least (h ∷ hs) = last_start h.old_start hs
 turn-push : (at : ℕ) (ss : List Span) (mid : ℕ) (s : Span) → AreInTurn at ss mid → s.start ≡ mid → mid < s.end → AreInTurn at (ss ++ s ∷ []) s.end
 turn-push at [] mid s h start some = (start ∙ sym h, omega (arith, h, some), refl)
 turn-push at (x ∷ ss) mid s h start some = (h.0, h.1, turn-push x.end ss mid s h.2 start some)
+
+whole-push : (text : List ℕ) (ss : List Span) (s : Span) → AreWhole text ss → lines (drop s.start text) ≡ lines (bytes_at text s) ++ lines (drop s.end text) → AreWhole text (ss ++ s ∷ [])
+whole-push text [] s so_far one = (one, tt)
+whole-push text (x ∷ ss) s so_far one = (so_far.0, whole-push text ss s so_far.1 one)
 
 spell-push : (Spells : ℕ → List (List ℕ) → PlainHunk → Type 0) (text : List ℕ) (least : ℕ) (ss : List Span) (hs : List PlainHunk) (s : Span) (h : PlainHunk)
     → SpellInTurn Spells text least ss hs → Spells (last_start least hs) (lines (bytes_at text s)) h → SpellInTurn Spells text least (ss ++ s ∷ []) (hs ++ h ∷ [])
@@ -60,17 +68,19 @@ last-push least (x ∷ hs) h = last-push x.old_start hs h
 -- the spans of the hunks that were read so far, with the start of the last
 pub record SpansSoFar (Spells : ℕ → List (List ℕ) → PlainHunk → Type 0) (text : List ℕ) (at : ℕ) (ss : List Span) (hs : List PlainHunk) (end least : ℕ) : Type 0 where
   pub turn : AreInTurn at ss end
+  pub whole : AreWhole text ss
   pub pieces : SpellInTurn Spells text 0 ss hs
   pub last : last_start 0 hs ≡ least
 
 pub spans_begin : (Spells : ℕ → List (List ℕ) → PlainHunk → Type 0) (text : List ℕ) (at : ℕ) → SpansSoFar Spells text at [] [] at 0
-spans_begin Spells text at = record { turn = refl; pieces = tt; last = refl }
+spans_begin Spells text at = record { turn = refl; whole = tt; pieces = tt; last = refl }
 
 pub spans_go_on : (Spells : ℕ → List (List ℕ) → PlainHunk → Type 0) (text : List ℕ) (at : ℕ) (ss : List Span) (hs : List PlainHunk) (start end least : ℕ) (h : PlainHunk)
-    → SpansSoFar Spells text at ss hs start least → start < end → Spells least (lines (slice_range text start end)) h
+    → SpansSoFar Spells text at ss hs start least → start < end → lines (drop start text) ≡ lines (slice_range text start end) ++ lines (drop end text) → Spells least (lines (slice_range text start end)) h
     → SpansSoFar Spells text at (ss ++ (record { start = start; end = end }) ∷ []) (hs ++ h ∷ []) end h.old_start
-spans_go_on Spells text at ss hs start end least h so_far some one = record {
+spans_go_on Spells text at ss hs start end least h so_far some whole one = record {
   turn = turn-push at ss start (record { start = start; end = end }) so_far.turn refl some;
+  whole = whole-push text ss (record { start = start; end = end }) so_far.whole whole;
   pieces = spell-push Spells text 0 ss hs (record { start = start; end = end }) h so_far.pieces (subst (λ l. Spells l (lines (slice_range text start end)) h) (sym so_far.last) one);
   last = last-push 0 hs h;
 }

@@ -1,5 +1,5 @@
 -- Hunks that were read, and the pieces of the text that they stand in.
-use Rattle.std.specs.Prelude.{◌≡◌, ℕ, ◌<◌, ◌^◌, List, [], ◌∷◌, length, drop, sum_by, Result, Ok, None, All}
+use Rattle.std.specs.Prelude.{◌≡◌, ℕ, ◌<◌, ◌^◌, List, [], ◌∷◌, ◌++◌, length, drop, sum_by, Result, Ok, None, All}
 use Rattle.line_list.specs.Lines.{lines}
 use Rattle.line_list.specs.declared.Span.{Span}
 use Rattle.hunk_core.specs.declared.hunks.Hunks.{Hunks}
@@ -20,6 +20,11 @@ these hs next rest = Ok (hs, ahead next rest)
 abbrev pub AreInTurn : ℕ → List Span → ℕ → Type 0
 AreInTurn at [] end = at ≡ end
 AreInTurn at (s ∷ ss) end = (s.start ≡ at) × (at < s.end) × AreInTurn s.end ss end
+
+-- each span begins and ends where lines do: its lines are the next of those ahead
+abbrev pub AreWhole : List ℕ → List Span → Type 0
+AreWhole text [] = Unit {0}
+AreWhole text (s ∷ ss) = (lines (drop s.start text) ≡ lines (bytes_at text s) ++ lines (drop s.end text)) × AreWhole text ss
 
 -- the lines of each span spell its hunk, behind one that starts at least
 abbrev pub SpellInTurn : (ℕ → List (List ℕ) → PlainHunk → Type 0) → List ℕ → ℕ → List Span → List PlainHunk → Type 0

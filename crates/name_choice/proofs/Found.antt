@@ -1,6 +1,12 @@
 -- Whether a chosen target is in the tree.
-use Rattle.std.proofs.Common.{◌≡◌, ℕ, ◌<◌, List, [], ◌∷◌, length, get_or, Bool, true, false, cond, Option, None, Some, Result, Ok, Err, refl, sym, ap, subst, ◌∙◌, arith}
+use Rattle.std.proofs.Common.{◌≡◌, ℕ, zero, suc, ◌<◌, List, [], ◌∷◌, length, get_or, slice_get, option_map, Bool, true, false, cond, ltb, Option, None, Some, Result, Ok, Err, refl, sym, ap, subst, ◌∙◌, arith}
 use Rattle.std.specs.Prelude.{IfSome, IfOk}
+use Rattle.std.specs.List.{position, position_or_len}
+use Rattle.std.specs.Option.{option_map_or}
+use Rattle.std.proofs.lemmas.Bool.{ltb-false}
+use Rattle.std.proofs.lemmas.Option.{slice_get-map}
+use Rattle.std.proofs.lemmas.List.Quantifiers.{position-Some}
+use Rattle.std.proofs.lemmas.List.Sums.{fails_before_first}
 use Rattle.outside.specs.Files.{Files}
 use Rattle.outside.specs.TreeView.{TreeView}
 use Rattle.outside.specs.declared.Failed.{Failed}
@@ -8,9 +14,23 @@ use Rattle.target_names.specs.declared.derived.Target.{Target}
 use Rattle.name_choice.specs.declared.Choice.{Choice}
 use Rattle.name_choice.specs.declared.Choice.TheVariants.{Existing, Nothing}
 use Rattle.name_choice.specs.Better.{best_among, name_at, IsBest, IsNone}
-use Rattle.name_choice.specs.Choice.{is_there, needs_fewest, names_of, first_place, created, existing_or, choice, IsFound}
+use Rattle.name_choice.specs.Choice.{is_there, needs_fewest, names_of, first_place, created, existing_or, existing, to_create, choice_among, is_there_at, existing_if, IsFound}
 use Rattle.name_choice.proofs.Best.{best-law, none-law}
 use Rattle.name_choice.proofs.Walked.{named-at, names-count}
+
+-- the name at a place that there is
+get-there : (names : List (List ℕ)) (k : ℕ) → k < length names → slice_get names k ≡ Some (name_at names k)
+get-there [] k lt = absurd (omega (arith, lt))
+get-there (n ∷ names) zero lt = refl
+get-there (n ∷ names) (suc k) lt = get-there names k (omega (arith, lt))
+
+-- where no name passes a test, each fails it
+none-passes : (test : List ℕ → Bool) (names : List (List ℕ)) → position test names ≡ None → (j : ℕ) → j < length names → test (name_at names j) ≡ false
+none-passes test names is j lt = by (ltb (position_or_len test names) (length names)) refl is
+  where
+    by : (v : Bool) → ltb (position_or_len test names) (length names) ≡ v → cond v (Some (position_or_len test names)) None ≡ None → test (name_at names j) ≡ false
+    by true e is = absurd cc
+    by false e is = fails_before_first test names j [] (let far = ltb-false (position_or_len test names) (length names) e in omega (arith, lt, far))
 
 module _ (targets : List Target) (files : Files) where
   at_place : (k : ℕ) (b : Bool) (t : Target) → k < length (names_of targets) → is_there files (name_at (names_of targets) k) ≡ b → t ≡ get_or targets k t → is_there files t.name ≡ b
@@ -31,28 +51,70 @@ module _ (targets : List Target) (files : Files) where
   best-within admits names None is = tt
   best-within admits names (Some k) is = ((best-law admits names k).0 is).within
 
-  other-found : (operand creates : Bool) → IsNone (is_there files) (names_of targets)
-      → IsFound targets files (cond operand (created (first_place (names_of targets))) (cond creates (created (best_among (needs_fewest files (names_of targets)) (names_of targets))) Nothing))
-  other-found true creates none = created-missing (first_place (names_of targets)) none (first-within (names_of targets))
-  other-found false true none = created-missing (best_among (needs_fewest files (names_of targets)) (names_of targets)) none (best-within (needs_fewest files (names_of targets)) (names_of targets) _ refl)
-  other-found false false none = tt
+  other-found : (operand creates posix : Bool) → IsNone (is_there files) (names_of targets) → IsFound targets files (to_create (names_of targets) operand creates posix files)
+  other-found true creates posix none = created-missing (first_place (names_of targets)) none (first-within (names_of targets))
+  other-found false true false none = created-missing (best_among (needs_fewest files (names_of targets)) (names_of targets)) none (best-within (needs_fewest files (names_of targets)) (names_of targets) _ refl)
+  other-found false true true none = tt
+  other-found false false posix none = tt
 
-  pub choice-found : (operand creates : Bool) → IsFound targets files (choice (names_of targets) operand creates files)
-  unfolding choice
-  choice-found operand creates = by (best_among (is_there files) (names_of targets)) refl
+  -- the first that is there
+  first-there : (k : ℕ) → position (is_there files) (names_of targets) ≡ Some k → IsFound targets files (Existing k)
+  first-there k is =
+      let at = position-Some (is_there files) (names_of targets) k [] is in
+      λ t e. at_place k true t at.0 at.1 e
+
+  first-none : position (is_there files) (names_of targets) ≡ None → IsNone (is_there files) (names_of targets)
+  first-none is = λ j lt. none-passes (is_there files) (names_of targets) is j lt
+
+  existing-there : (posix : Bool) (k : ℕ) → existing posix files (names_of targets) ≡ Some k → IsFound targets files (Existing k)
+  existing-there true k is = first-there k is
+  existing-there false k is = existing-found k ((best-law (is_there files) (names_of targets) k).0 is)
+
+  existing-none : (posix : Bool) → existing posix files (names_of targets) ≡ None → IsNone (is_there files) (names_of targets)
+  existing-none true is = first-none is
+  existing-none false is = (none-law (is_there files) (names_of targets)).0 is
+
+  pub choice-found : (operand creates posix : Bool) → IsFound targets files (choice_among (names_of targets) operand creates posix files)
+  unfolding choice_among
+  choice-found operand creates posix = by (existing posix files (names_of targets)) refl
     where
-      by : (o : Option ℕ) → best_among (is_there files) (names_of targets) ≡ o
-          → IsFound targets files (existing_or (cond operand (created (first_place (names_of targets))) (cond creates (created (best_among (needs_fewest files (names_of targets)) (names_of targets))) Nothing)) o)
-      by None is = other-found operand creates ((none-law (is_there files) (names_of targets)).0 is)
-      by (Some k) is = existing-found k ((best-law (is_there files) (names_of targets) k).0 is)
+      by : (o : Option ℕ) → existing posix files (names_of targets) ≡ o → IsFound targets files (existing_or (to_create (names_of targets) operand creates posix files) o)
+      by None is = other-found operand creates posix (existing-none posix is)
+      by (Some k) is = existing-there posix k is
 
 -- what is known of a choice that is the one of the definition
-pub found-from : (targets : List Target) (files : Files) (operand creates : Bool) (c : Choice) → c ≡ choice (names_of targets) operand creates files → IsFound targets files c
-found-from targets files operand creates c is = subst (IsFound targets files) (sym is) (choice-found targets files operand creates)
+pub found-from : (targets : List Target) (files : Files) (operand creates posix : Bool) (c : Choice) → c ≡ choice_among (names_of targets) operand creates posix files → IsFound targets files c
+found-from targets files operand creates posix c is = subst (IsFound targets files) (sym is) (choice-found targets files operand creates posix)
 
 -- the same of an answer over a tree that tells what it told
-pub found-after : (u v : TreeView) (targets : List Target) (operand creates : Bool) (r : Result Choice Failed) → v.told ≡ u.told
-    → IfOk r (λ c. (files : Files) → u.told ≡ Some files → c ≡ choice (names_of targets) operand creates files)
+pub found-after : (u v : TreeView) (targets : List Target) (operand creates posix : Bool) (r : Result Choice Failed) → v.told ≡ u.told
+    → IfOk r (λ c. (files : Files) → u.told ≡ Some files → c ≡ choice_among (names_of targets) operand creates posix files)
     → IfOk r (λ c. (files : Files) → v.told ≡ Some files → IsFound targets files c)
-found-after u v targets operand creates (Ok c) same is = λ files told. found-from targets files operand creates c (is files (sym same ∙ told))
-found-after u v targets operand creates (Err e) same is = tt
+found-after u v targets operand creates posix (Ok c) same is = λ files told. found-from targets files operand creates posix c (is files (sym same ∙ told))
+found-after u v targets operand creates posix (Err e) same is = tt
+
+-- ---- renames and copies
+
+-- the name at a place is there
+pub moved-found : (targets : List Target) (files : Files) (k : ℕ) (b : Bool) → b ≡ is_there_at files (names_of targets) k → k < length targets → IsFound targets files (existing_if b k)
+moved-found targets files k false is lt = tt
+moved-found targets files k true is lt = λ t at. there t at
+  where
+    there : (t : Target) → t ≡ get_or targets k t → is_there files t.name ≡ true
+    there t at =
+        let same : t.name ≡ name_at (names_of targets) k = named-at targets k t lt at in
+        let here : slice_get (names_of targets) k ≡ Some (name_at (names_of targets) k) = get-there (names_of targets) k (let e = names-count targets in omega (arith, lt, e)) in
+        ap (is_there files) same ∙ sym (ap (λ o. option_map_or (is_there files) o false) here) ∙ sym is
+
+-- the same after a test of the name at a place, over a tree that tells what it told
+pub moved-after : (u v : TreeView) (targets : List Target) (k : ℕ) (b : Bool) → v.told ≡ u.told → ((files : Files) → u.told ≡ Some files → b ≡ is_there_at files (names_of targets) k) → (b ≡ true → k < length targets)
+    → (files : Files) → v.told ≡ Some files → IsFound targets files (existing_if b k)
+moved-after u v targets k false same is lt files told = tt
+moved-after u v targets k true same is lt files told = moved-found targets files k true (is files (sym same ∙ told)) (lt refl)
+
+-- the name at a place, by the target there
+pub there-at : (files : Files) (targets : List Target) (k : ℕ) (t : Target) (b : Bool) → slice_get targets k ≡ Some t → b ≡ is_there files t.name → b ≡ is_there_at files (names_of targets) k
+there-at files targets k t b at is = is ∙ sym (ap (λ o. option_map_or (is_there files) o false) (slice_get-map (λ x. x.name) targets k ∙ ap (option_map (λ x. x.name)) at))
+
+pub nowhere-at : (files : Files) (targets : List Target) (k : ℕ) → slice_get targets k ≡ None → false ≡ is_there_at files (names_of targets) k
+nowhere-at files targets k at = sym (ap (λ o. option_map_or (is_there files) o false) (slice_get-map (λ x. x.name) targets k ∙ ap (option_map (λ x. x.name)) at))

@@ -5,3 +5,4 @@ pub mod Counted
 pub mod Found
 pub mod Front
 pub mod Directories
+pub mod First

@@ -1,12 +1,16 @@
--- Which of its names a file patch is meant for (GNU diffutils manual, "Multiple Patches in a File"; POSIX `patch`, "Filename Determination").
-use Rattle.std.specs.Prelude.{◌≡◌, ℕ, ◌-◌, ◌<◌, List, [], ◌∷◌, ◌++◌, length, map, slice_index_or, count_by, nat_eq, nat_lt, Bool, true, false, not, if◌then◌else◌, Option, None, Some, is_some}
-use Rattle.std.specs.List.{list_any, starts_with, range_with_len}
+-- Which of its names a file patch is meant for (GNU diffutils manual, "Multiple Patches in a File"; POSIX `patch`, "Filename Determination"; git-diff(1), "Generating patch text with -p").
+use Rattle.std.specs.Prelude.{◌≡◌, ℕ, ◌-◌, ◌<◌, List, [], ◌∷◌, ◌++◌, length, map, slice_index_or, count_by, nat_eq, nat_lt, Bool, true, false, not, ◌&&◌, slice_get, if◌then◌else◌, Option, None, Some, is_some}
+use Rattle.std.specs.List.{list_any, position, starts_with, range_with_len}
+use Rattle.std.specs.Option.{option_map_or}
 use Rattle.std.specs.FinMap.{get, keys}
 use Rattle.outside.specs.Files.{Files}
 use Rattle.outside.specs.Names.{components, directory_text}
 use Rattle.hunk_core.specs.declared.Side.{Side}
 use Rattle.hunk_core.specs.declared.Side.TheVariants.{Forward, Reversed}
+use Rattle.patch_header.specs.declared.git_lines.Action.{Action}
+use Rattle.patch_header.specs.declared.git_lines.Action.TheVariants.{Plain, New, Deleted, Rename, Copy}
 use Rattle.target_names.specs.declared.derived.Target.{Target}
+use Rattle.file_patch.specs.Actions.{is_moved}
 use Rattle.name_choice.specs.declared.Choice.{Choice}
 use Rattle.name_choice.specs.declared.Choice.TheVariants.{Existing, Create, Nothing}
 use Rattle.name_choice.specs.Better.{best_among}
@@ -53,22 +57,61 @@ abbrev pub created : Option ℕ → Choice
 created None = Nothing
 created (Some k) = Create k
 
--- the best of the names that are in the tree; else the operand, which is the one name; else, where a file is made, the best of those that need the fewest new directories
-unfoldable pub choice : List (List ℕ) → Bool → Bool → Files → Choice
-choice names operand creates files = existing_or
-    (if operand then created (first_place names)
-    else if creates then created (best_among (needs_fewest files names) names)
-    else Nothing)
-    (best_among (is_there files) names)
+-- of the names that are in the tree the best, with option --posix the first
+abbrev pub existing : Bool → Files → List (List ℕ) → Option ℕ
+existing posix files names = if posix then position (is_there files) names else best_among (is_there files) names
 
--- the names of targets
-abbrev pub names_of : List Target → List (List ℕ)
-names_of targets = map (λ t. t.name) targets
+-- a name that is to be made: the operand, which is the one name; else, without --posix and where a file is made, the best of those that need the fewest new directories
+abbrev pub to_create : List (List ℕ) → Bool → Bool → Bool → Files → Choice
+to_create names operand creates posix files = if operand then created (first_place names)
+    else if creates && not posix then created (best_among (needs_fewest files names) names)
+    else Nothing
+
+-- a name that is in the tree, or else one that is to be made
+unfoldable pub choice_among : List (List ℕ) → Bool → Bool → Bool → Files → Choice
+choice_among names operand creates posix files = existing_or (to_create names operand creates posix files) (existing posix files names)
+
+-- ---- renames and copies, whose names are the one that the file has and the one that it gets
+
+-- the name at a place is in the tree
+abbrev pub is_there_at : Files → List (List ℕ) → ℕ → Bool
+is_there_at files names k = option_map_or (is_there files) (slice_get names k) false
+
+abbrev pub existing_if : Bool → ℕ → Choice
+existing_if true k = Existing k
+existing_if false k = Nothing
+
+-- the place of the name that the file has before it is renamed or copied, or where a rename is taken back; a copy can't be taken back
+abbrev pub source_place : Action → Side → Option ℕ
+source_place Rename Forward = Some 0
+source_place Rename Reversed = Some 1
+source_place Copy Forward = Some 0
+source_place Copy Reversed = None
+source_place Plain side = None
+source_place New side = None
+source_place Deleted side = None
+
+-- the name at a place, if that is in the tree
+abbrev pub existing_at : Files → List (List ℕ) → Option ℕ → Choice
+existing_at files names None = Nothing
+existing_at files names (Some k) = existing_if (is_there_at files names k) k
+
+-- ---- the choice
 
 -- the side from which a file patch is taken
 abbrev pub side_of : Bool → Side
 side_of true = Reversed
 side_of false = Forward
+
+-- for a file patch of this action that makes a file or doesn't, with these names: where there is an operand, where the file patch is taken reversed, and with option --posix
+unfoldable pub choice : Action → Bool → List (List ℕ) → Bool → Bool → Bool → Files → Choice
+choice action creates names operand reverse posix files = if is_moved action
+    then existing_at files names (source_place action (side_of reverse))
+    else choice_among names operand creates posix files
+
+-- the names of targets
+abbrev pub names_of : List Target → List (List ℕ)
+names_of targets = map (λ t. t.name) targets
 
 -- the number of a choice is that of one of so many names
 abbrev pub IsWithin : ℕ → Choice → Type 0

@@ -1,24 +1,26 @@
 //! Which of its names a file patch is meant for.
 #![tactic(auto)]
 
-ghost use Rattle.std.specs.Prelude.{◌≡◌, ◌<◌, ◌^◌, ℕ, List, length, Bool, None, Some, ◌↔◌, IfOk, OnErr};
+ghost use Rattle.std.specs.Prelude.{◌≡◌, ◌<◌, ◌^◌, length, Some, IfOk, OnErr};
 ghost use Rattle.outside.specs.Files.{Files};
 ghost use Rattle.outside.specs.TreeView.{Rises};
 ghost use Rattle.outside.specs.Calls.{IsUntouched};
 ghost use Rattle.file_patch.specs.Absent.{told_absent};
-ghost use Rattle.name_choice.specs.Choice.{choice, created, first_place, names_of, side_of, IsWithin, IsFound};
+ghost use Rattle.name_choice.specs.Choice.{choice, names_of, side_of, IsWithin, IsFound};
 
+mod among;
 mod laws;
+mod moved;
 mod rank;
 mod search;
 
-use crate::search::{best_existing, best_new};
+use crate::among::choose_among;
+use crate::moved::choose_moved;
 use file_patch::FilePatch;
 use hunk_core::Side;
 pub use laws::choice_laws;
 use outside::{Failed, Tree};
 pub use rank::is_better;
-use target_names::Target;
 
 /// The name that was chosen, by its place among the targets, counted from 0.
 #[derive(Clone, Copy, Debug, PartialEq, Eq)]
@@ -31,12 +33,16 @@ pub enum Choice {
     Nothing,
 }
 
-/// Chooses the target of a file patch; `operand` says that the one target is the file operand, and
-/// `reverse` that the file patch is taken reversed (GNU diffutils manual, "Multiple Patches in a File").
+/// Chooses the target of a file patch; `operand` says that the one target is the file operand, `reverse` that the file
+/// patch is taken reversed, and `posix` that the first target that is in the tree counts, and without an operand none is
+/// to be made (GNU diffutils manual, "Multiple Patches in a File"; POSIX `patch`, "Filename Determination"). Of a rename or
+/// a copy the one target counts that the file then has.
+#[tactic(auto, unfolding(crate::specs::Choice::choice))]
 pub fn choose<T: Tree>(
     patch: &FilePatch,
     operand: bool,
     reverse: bool,
+    posix: bool,
     tree: &mut T,
 ) -> Result<Choice, Failed>
     requires { length patch.now.targets.items < 2 ^ 32 }
@@ -44,37 +50,15 @@ pub fn choose<T: Tree>(
     ensures cause { OnErr result (Rises (T.view tree.old) (T.view tree.new)) }
     ensures within { IfOk result (IsWithin (length patch.now.targets.items)) }
     ensures chosen { IfOk result (λ chosen. (files : Files) → (T.view tree.old).told ≡ Some files
-        → chosen ≡ choice (names_of patch.now.targets.items) operand (told_absent (side_of reverse) patch.now) files) }
+        → chosen ≡ choice patch.now.header.action (told_absent (side_of reverse) patch.now) (names_of patch.now.targets.items) operand reverse posix files) }
     ensures there { IfOk result (λ chosen. (files : Files) → (T.view tree.new).told ≡ Some files → IsFound patch.now.targets.items files chosen) }
 {
-    choose_from(patch, operand, side_of(reverse), tree)
-}
-
-/// Chooses where the file patch is taken from this side.
-#[tactic(auto, unfolding(crate::specs::Choice::choice))]
-fn choose_from<T: Tree>(
-    patch: &FilePatch,
-    operand: bool,
-    side: Side,
-    tree: &mut T,
-) -> Result<Choice, Failed>
-    requires { length patch.now.targets.items < 2 ^ 32 }
-    ensures untouched { IsUntouched (T.view tree.old) (T.view tree.new) }
-    ensures cause { OnErr result (Rises (T.view tree.old) (T.view tree.new)) }
-    ensures within { IfOk result (IsWithin (length patch.now.targets.items)) }
-    ensures chosen { IfOk result (λ chosen. (files : Files) → (T.view tree.old).told ≡ Some files
-        → chosen ≡ choice (names_of patch.now.targets.items) operand (told_absent side patch.now) files) }
-{
-    if let Some(place) = best_existing(&patch.targets, tree)? {
-        return Ok(Choice::Existing(place));
+    let side = side_of(reverse);
+    if patch.is_moved() {
+        choose_moved(&patch.targets, patch.header.action, side, tree)
+    } else {
+        choose_among(patch, operand, side, posix, tree)
     }
-    if operand {
-        return Ok(first_created(&patch.targets));
-    }
-    if !patch.creates(side) {
-        return Ok(Choice::Nothing);
-    }
-    Ok(created(best_new(&patch.targets, tree)?))
 }
 
 fn side_of(reverse: bool) -> Side
@@ -84,25 +68,5 @@ fn side_of(reverse: bool) -> Side
         Side::Reversed
     } else {
         Side::Forward
-    }
-}
-
-fn created(place: Option<u32>) -> Choice
-    ensures { result ≡ created place }
-{
-    match place {
-        Some(place) => Choice::Create(place),
-        None => Choice::Nothing,
-    }
-}
-
-fn first_created(targets: &[Target]) -> Choice
-    ensures chosen { result ≡ created (first_place (names_of targets.now)) }
-    ensures within { IsWithin (length targets.now) result }
-{
-    if targets.is_empty() {
-        Choice::Nothing
-    } else {
-        Choice::Create(0)
     }
 }

@@ -1,5 +1,6 @@
 //! The best of the names, with what the tree tells of them.
 ghost use Rattle.std.specs.Prelude.{◌≡◌, ◌<◌, ◌^◌, ℕ, List, length, true, Some, IfOk, IfSome, OnErr};
+ghost use Rattle.std.specs.List.{position};
 ghost use Rattle.outside.specs.Files.{Files};
 ghost use Rattle.outside.specs.TreeView.{Rises};
 ghost use Rattle.outside.specs.Calls.{IsUntouched};
@@ -27,6 +28,24 @@ pub fn best_existing<T: Tree>(targets: &[Target], tree: &mut T) -> Result<Option
     Ok(place_of(best))
 }
 
+/// The place of the first of the names that are in the tree.
+pub fn first_existing<T: Tree>(targets: &[Target], tree: &mut T) -> Result<Option<u32>, Failed>
+    requires { length targets.now < 2 ^ 32 }
+    ensures untouched { IsUntouched (T.view tree.old) (T.view tree.new) }
+    ensures cause { OnErr result (Rises (T.view tree.old) (T.view tree.new)) }
+    ensures within { IfOk result (λ first. IfSome first (λ k. k < length targets.now)) }
+    ensures first { IfOk result (λ first. (files : Files) → (T.view tree.old).told ≡ Some files
+        → first ≡ position (is_there files) (names_of targets.now)) }
+{
+    for (place, target) in targets.iter().enumerate() {
+        let there = is_there(&target.name, tree)?;
+        if there {
+            return Ok(Some(place as u32));
+        }
+    }
+    Ok(None)
+}
+
 /// The place of the best of the names that need the fewest new directories.
 pub fn best_new<T: Tree>(targets: &[Target], tree: &mut T) -> Result<Option<u32>, Failed>
     requires { length targets.now < 2 ^ 32 }
@@ -44,7 +63,7 @@ pub fn best_new<T: Tree>(targets: &[Target], tree: &mut T) -> Result<Option<u32>
     Ok(place_of(best))
 }
 
-fn is_there<T: Tree>(name: &Name, tree: &mut T) -> Result<bool, Failed>
+pub fn is_there<T: Tree>(name: &Name, tree: &mut T) -> Result<bool, Failed>
     ensures untouched { IsUntouched (T.view tree.old) (T.view tree.new) }
     ensures cause { OnErr result (Rises (T.view tree.old) (T.view tree.new)) }
     ensures there { IfOk result (λ yes. (files : Files) → (T.view tree.old).told ≡ Some files → yes ≡ is_there files name.now) }

@@ -20,6 +20,7 @@ use Rattle.patch_options.specs.declared.options.WordFault.{WordFault}
 use Rattle.patch_input.specs.Input as input
 use Rattle.patch_input.specs.declared.fault.InputFault.{InputFault}
 use Rattle.patch_text.specs.Patches.{patches_of}
+use Rattle.patch_set.specs.Asked.{ways_of}
 use Rattle.patch_set.specs.Named.{known_names, output_of, targets_of}
 use Rattle.patch_set.specs.Refusals.{refusal}
 use Rattle.patch_set.specs.SetView.{SetView, plain_patches, hunks_in, HasTargets, IsRead, IsFresh}
@@ -93,7 +94,7 @@ pub asked_so : (o : PlainOptions) (text : List ℕ) (v : SetView) (t : TreeView)
     → IsRead o text v → IsFresh v → refusal o text ≡ None → (a : ScratchView) (c : SinkView) → IsAsked o v (world t a s c)
 asked_so o text v t s lawful answer read fresh free a c = record {
   can = can_apply o text v lawful read fresh;
-  reads = λ f left told. record { text = text; given = answer f left told; free = free; patches = ap (λ (l : List ℕ). patches_of o.only l) (sym read.text) ∙ read.patches };
+  reads = λ f left told. record { text = text; given = answer f left told; free = free; patches = ap (λ (l : List ℕ). patches_of (ways_of o) l) (sym read.text) ∙ read.patches };
 }
 
 -- ---- early ends

@@ -14,6 +14,7 @@ use Rattle.patch_options.specs.declared.options.WordFault.{WordFault}
 use Rattle.patch_input.specs.declared.fault.InputFault.{InputFault}
 use Rattle.patch_input.specs.Input.{input_bytes, answer_of}
 use Rattle.patch_text.specs.Patches.{patches_of}
+use Rattle.patch_set.specs.Asked.{ways_of}
 use Rattle.patch_set.specs.declared.fault.SetFault.{SetFault}
 use Rattle.patch_set.specs.Named.{known_names, targets_of, output_of}
 use Rattle.patch_set.specs.Refusals.{refusal}
@@ -77,7 +78,7 @@ on_patches o (Ok ps) files = carried_out (length ps) (run_for o ps files)
 
 abbrev pub on_refusal : PlainOptions → Option SetFault → List ℕ → Files → Outcome
 on_refusal o (Some fault) text files = refused (of_set fault) files
-on_refusal o None text files = on_patches o (patches_of o.only (completed text)) files
+on_refusal o None text files = on_patches o (patches_of (ways_of o) (completed text)) files
 
 abbrev pub on_input : PlainOptions → Result (List ℕ) InputFault → Files → Outcome
 on_input o (Err fault) files = refused (of_input fault) files
@@ -121,7 +122,7 @@ pub record Reads (o : PlainOptions) (files : Files) (left : List ℕ) (ps : List
   pub text : List ℕ
   pub given : answer_of (input_bytes o.input o.dir files left) ≡ Ok text
   pub free : refusal o text ≡ None
-  pub patches : patches_of o.only (completed text) ≡ Ok ps
+  pub patches : patches_of (ways_of o) (completed text) ≡ Ok ps
 
 -- the words are read first, then the patch text; then the file patches are carried out
 abbrev pub command : List (List ℕ) → Files → List ℕ → Outcome

@@ -5,14 +5,15 @@ use Rattle.num_text.specs.Numbers.{decimal}
 use Rattle.hunk_core.specs.declared.Side.TheVariants.{Forward, Reversed}
 use Rattle.target_names.specs.Stripped.{shortened}
 use Rattle.file_patch.specs.PlainPatch.{PlainPatch}
+use Rattle.file_patch.specs.Actions.{is_moved}
 use Rattle.file_patch.specs.Absent.{is_absent}
 use Rattle.patch_set.specs.PlainName.{plain_name}
 use Rattle.patch_filters.specs.PlainJobs.{PlainListJob}
 use Rattle.patch_filters.specs.Selected.{is_selected}
 
--- whether the old side is no file, or else the new one, or both are files
+-- whether the old side is no file, or else the new one, or both are files; a file that is renamed or copied has both sides
 abbrev pub sign : PlainPatch → List ℕ
-sign p = if is_absent Forward p then codes "+ " else if is_absent Reversed p then codes "- " else codes "! "
+sign p = if is_moved p.header.action then codes "! " else if is_absent Forward p then codes "+ " else if is_absent Reversed p then codes "- " else codes "! "
 
 -- a number and a tab, where it is asked for
 abbrev pub number_text : Bool → ℕ → List ℕ

@@ -29,7 +29,9 @@ fn sign(patch: &FilePatch) -> &'static [u8]
     ensures sign { (text : List ℕ) → IsLawfulPatch text patch.now → result.now ≡ sign (patch_of text patch.now) }
     ensures few { length result.now ≡ 2 }
 {
-    if patch.creates(Side::Forward) {
+    if patch.is_moved() {
+        b"! "
+    } else if patch.creates(Side::Forward) {
         b"+ "
     } else if patch.deletes(Side::Forward) {
         b"- "

@@ -23,6 +23,7 @@ use Rattle.target_names.specs.declared.derived.Target.{Target}
 use Rattle.patch_set.specs.declared.set.Row.{Row}
 use Rattle.file_patch.specs.PlainPatch.{PlainChange, PlainPatch, hunks, script, hunk_count}
 use Rattle.file_patch.specs.Absent.{creates, deletes}
+use Rattle.patch_set.specs.Asked.{is_posix}
 use Rattle.name_choice.specs.declared.Choice.{Choice}
 use Rattle.name_choice.specs.declared.Choice.TheVariants.{Existing, Create, Nothing}
 use Rattle.name_choice.specs.Choice.{choice, names_of, side_of}
@@ -209,7 +210,7 @@ on_choice t files (Create k) = on_target t k (bytes_of t files k)
 on_choice t files Nothing = skips (no_file_lines t.item.patch.header.opening) (record { side = side_of t.options.reverse; target = None; wrote = false }) None
 
 abbrev pub choice_of : PlainTurn → Files → Choice
-choice_of t files = choice (names_of t.item.targets) (is_some t.options.file) (creates (side_of t.options.reverse) t.item.patch) files
+choice_of t files = choice t.item.patch.header.action (creates (side_of t.options.reverse) t.item.patch) (names_of t.item.targets) (is_some t.options.file) t.options.reverse (is_posix t.options) files
 
 unfoldable pub start : PlainTurn → Files → Start
 start t files = on_choice t files (choice_of t files)

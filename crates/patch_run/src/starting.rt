@@ -23,7 +23,7 @@ use hunk_core::Side;
 use line_store::{OpenFault, Plan};
 use name_choice::{Choice, choose};
 use outside::{Failed, Name, Sink, Tree};
-use patch_set::Row;
+use patch_set::{Row, is_posix};
 use say_text::{say_exists, say_no_file, say_patching};
 
 /// What becomes of a file patch.
@@ -69,7 +69,13 @@ fn choose_target<T: Tree>(turn: &Turn<'_>, tree: &mut T) -> Result<Choice, Faile
     ensures there { IfOk result (λ chosen. (f : Files) → (T.view tree.new).told ≡ Some f → IsPresent (bytes_of (plain_turn turn.now) f) chosen) }
 {
     let options = turn.options;
-    choose(turn.patch, options.file.is_some(), options.reverse, tree)
+    choose(
+        turn.patch,
+        options.file.is_some(),
+        options.reverse,
+        is_posix(options),
+        tree,
+    )
 }
 
 /// The file patch is skipped, since no file is found for it.

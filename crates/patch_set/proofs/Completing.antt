@@ -8,6 +8,7 @@ use Rattle.line_list.specs.Completed.{completed}
 use Rattle.file_patch.specs.PlainPatch.{PlainPatch}
 use Rattle.patch_options.specs.PlainJob.{PlainOptions}
 use Rattle.patch_text.specs.Patches.{patches_of}
+use Rattle.patch_set.specs.Asked.{ways_of}
 use Rattle.patch_set.specs.declared.fault.SetFault.TheVariants as faults
 use Rattle.patch_set.specs.Refusals.{first_of, out_many, ed_reverse, reserved, is_too_long, refusal, refusal_of}
 
@@ -31,8 +32,8 @@ same-refusal o text ps =
 
 -- the refusal of the file patches that were read is that of the text
 pub read-refusal : (o : PlainOptions) (text whole : List ℕ) (ps : List PlainPatch) → is_too_long text ≡ false → whole ≡ completed text
-    → patches_of o.only whole ≡ Ok ps → refusal_of o whole (Ok ps) ≡ refusal o text
+    → patches_of (ways_of o) whole ≡ Ok ps → refusal_of o whole (Ok ps) ≡ refusal o text
 read-refusal o text whole ps short is read =
     ap (λ t. refusal_of o t (Ok ps)) is ∙ same-refusal o text ps
-    ∙ ap (λ r. refusal_of o text r) (sym read) ∙ ap (λ t. refusal_of o text (patches_of o.only t)) is
-    ∙ ap (λ v. if v then Some faults.TooLong else refusal_of o text (patches_of o.only (completed text))) (sym short)
+    ∙ ap (λ r. refusal_of o text r) (sym read) ∙ ap (λ t. refusal_of o text (patches_of (ways_of o) t)) is
+    ∙ ap (λ v. if v then Some faults.TooLong else refusal_of o text (patches_of (ways_of o) (completed text))) (sym short)

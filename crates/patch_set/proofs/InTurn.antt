@@ -1,6 +1,6 @@
 -- Where the file patches lie that were read.
-use Rattle.std.proofs.Common.{◌≡◌, ℕ, ◌+◌, ◌<◌, ◌≤◌, List, [], ◌∷◌, Option, arith, sym, ◌∙◌}
-use Rattle.hunk_core.specs.declared.Form.{Form}
+use Rattle.std.proofs.Common.{◌≡◌, ℕ, ◌+◌, ◌<◌, ◌≤◌, List, [], ◌∷◌, arith, sym, ◌∙◌}
+use Rattle.patch_header.specs.declared.ways.Ways.{Ways}
 use Rattle.file_patch.specs.declared.FilePatch.{FilePatch}
 use Rattle.file_patch.specs.PlainPatch.{row_count}
 use Rattle.patch_text.specs.Spans.{IsPatch, LieInTurn, ArePatches}
@@ -10,7 +10,7 @@ placed : (text : List ℕ) (start before next : ℕ) (p : FilePatch) → IsPatch
 placed text start before next p at = record {
   begins = at.begins;
   region = at.region;
-  turn = at.turn;
+  cut = at.cut;
   each = at.each;
   pieces = at.pieces;
   some = at.some;
@@ -19,10 +19,10 @@ placed text start before next p at = record {
   first = at.first;
 }
 
-in-turn : (only : Option Form) (text : List ℕ) (start number before end next : ℕ) (ps : List FilePatch) → LieInTurn only text start number before ps end next → ArePlaced text start before ps
-in-turn only text start number before end next [] lie = tt
-in-turn only text start number before end next (p ∷ ps) lie = (placed text start before lie.0 p lie.2, in-turn only text p.span.end lie.0 (before + row_count p.change) end next ps lie.3)
+in-turn : (ways : Ways) (text : List ℕ) (start number before end next : ℕ) (ps : List FilePatch) → LieInTurn ways text start number before ps end next → ArePlaced text start before ps
+in-turn ways text start number before end next [] lie = tt
+in-turn ways text start number before end next (p ∷ ps) lie = (placed text start before lie.0 p lie.2, in-turn ways text p.span.end lie.0 (before + row_count p.change) end next ps lie.3)
 
 -- the file patches of a text lie one behind the other
-pub are-placed : (only : Option Form) (text : List ℕ) (ps : List FilePatch) → ArePatches only text ps → ArePlaced text 0 0 ps
-are-placed only text ps are = in-turn only text 0 1 0 are.end are.next ps are.turn
+pub are-placed : (ways : Ways) (text : List ℕ) (ps : List FilePatch) → ArePatches ways text ps → ArePlaced text 0 0 ps
+are-placed ways text ps are = in-turn ways text 0 1 0 are.end are.next ps are.turn

@@ -1,5 +1,5 @@
 -- Names that are numbered one after another.
-use Rattle.std.proofs.Common.{◌≡◌, ℕ, ◌+◌, ◌<◌, ◌≤◌, ◌^◌, Bool, true, false, ◌&&◌, Option, None, Some, List, [], ◌∷◌, ◌++◌, map, take, length, is_none, refl, sym, ap, ◌∙◌, arith, length-append}
+use Rattle.std.proofs.Common.{◌≡◌, ℕ, ◌+◌, ◌<◌, ◌≤◌, ◌^◌, Bool, true, false, bytes_eq, if◌then◌else◌, Option, None, Some, List, [], ◌∷◌, ◌++◌, map, take, length, refl, sym, ap, ◌∙◌, arith, length-append}
 use Rattle.std.specs.Prelude.{option_and_then}
 use Rattle.std.specs.Option.{option_to_list}
 use Rattle.std.proofs.lemmas.List.{map-append}
@@ -9,8 +9,11 @@ use Rattle.target_names.specs.Targets.{target_of}
 use Rattle.target_names.specs.Numbered.{with_name, joined_by, distinct}
 use Rattle.target_names.proofs.Names.{numbers-stay, with-among}
 use Rattle.file_patch.specs.PlainPatch.{PlainHeader}
-use Rattle.target_names.specs.Candidates.{candidate, candidates, header_candidate, header_names}
-use Rattle.patch_set.specs.Named.{names_of, operand_or, output_of, target_in}
+use Rattle.file_patch.specs.Actions.{is_moved}
+use Rattle.target_names.specs.Candidates.{candidate, candidates, header_candidate, header_names, index_beside, index_names}
+use Rattle.target_names.specs.Moved.{moved_name, moved_names, two_names}
+use Rattle.patch_set.specs.Asked.{is_posix}
+use Rattle.patch_set.specs.Named.{names_of, operand_or, output_of, own_names, target_in}
 
 pub joined-nil : (known : List (List ℕ)) → joined_by known [] ≡ known
 unfolding joined_by
@@ -68,17 +71,32 @@ one-most : {A : Type 0} (x : Option A) → length (option_to_list x) ≤ 1
 one-most None = omega arith
 one-most (Some x) = omega arith
 
-two-most : (strip : Option ℕ) (old new index : Option (List ℕ)) (v : Bool) → (is_none old && is_none new) ≡ v → length (candidates strip old new index) ≤ 2
-two-most strip old new index true e = rw e (let a = one-most (option_and_then (candidate strip) index) in omega arith)
-two-most strip old new index false e = rw e (omega (
+three-most : (strip : Option ℕ) (old new index : Option (List ℕ)) (posix : Bool) → length (candidates strip old new index posix) ≤ 3
+three-most strip old new index posix = omega (
   arith,
+  length-append (header_names strip old ++ header_names strip new) (index_names strip (index_beside posix old new index)),
   length-append (header_names strip old) (header_names strip new),
   one-most (option_and_then (header_candidate strip) old),
   one-most (option_and_then (header_candidate strip) new),
-))
+  one-most (option_and_then (candidate strip) (index_beside posix old new index)),
+)
 
-names-few-by : (o : PlainOptions) (h : PlainHeader) (file : Option (List ℕ)) → length (operand_or file (candidates o.strip h.old_name h.new_name h.index)) < 2 ^ 32
-names-few-by o h None = let a = two-most o.strip h.old_name h.new_name h.index (is_none h.old_name && is_none h.new_name) refl in omega arith
+differing-most : (source destination : List ℕ) (v : Bool) → length (if v then [] else source ∷ destination ∷ []) ≤ 2
+differing-most source destination true = omega arith
+differing-most source destination false = omega arith
+
+two-most : (source destination : Option (List ℕ)) → length (two_names source destination) ≤ 2
+two-most None destination = omega arith
+two-most (Some source) None = omega arith
+two-most (Some source) (Some destination) = differing-most source destination (bytes_eq source destination)
+
+own-most : (o : PlainOptions) (h : PlainHeader) (v : Bool)
+    → length (if v then moved_names o.strip h.from h.to else candidates o.strip h.old_name h.new_name h.index (is_posix o)) ≤ 3
+own-most o h true = let a = two-most (moved_name o.strip h.from) (moved_name o.strip h.to) in omega (arith, a)
+own-most o h false = three-most o.strip h.old_name h.new_name h.index (is_posix o)
+
+names-few-by : (o : PlainOptions) (h : PlainHeader) (file : Option (List ℕ)) → length (operand_or file (own_names o h)) < 2 ^ 32
+names-few-by o h None = let a = own-most o h (is_moved h.action) in omega (arith, a)
 names-few-by o h (Some file) = omega arith
 
 pub names-few : (o : PlainOptions) (h : PlainHeader) → length (names_of o h) < 2 ^ 32

@@ -6,3 +6,5 @@ pub mod Made
 pub mod Completing
 pub mod InTurn
 pub mod Verdicts
+pub mod OneView
+pub mod InBytes

@@ -7,6 +7,8 @@ use Rattle.file_patch.specs.PlainPatch.{patch_of}
 use Rattle.patch_options.specs.PlainJob.{PlainOptions}
 use Rattle.target_names.specs.declared.derived.Target.{Target}
 use Rattle.target_names.specs.Targets.{HasTemps}
+use Rattle.patch_text.specs.Regions.{region_of, regions_of}
+use Rattle.patch_set.specs.Asked.{ways_of}
 use Rattle.patch_set.specs.Spans.{ArePlaced}
 use Rattle.patch_set.specs.Looks.{is_reserving}
 use Rattle.patch_set.specs.Named.{known_names, output_of}
@@ -15,7 +17,7 @@ use Rattle.patch_set.specs.SetView.{SetView, HasTargets, IsSetOf, hunks_in, plai
 use Rattle.patch_set.specs.Refusals.{reserved}
 use Rattle.patch_set.specs.declared.fault.SetFault.TheVariants as faults
 use Rattle.file_patch.specs.Absent.{IsLawfulPatch}
-use Rattle.patch_set.proofs.Named.{named-few, named-count, named-hunks, named-lawful, named-placed, named-plain, named-targets}
+use Rattle.patch_set.proofs.Named.{named-few, named-count, named-hunks, named-lawful, named-placed, named-plain, named-regions, named-targets}
 use Rattle.patch_set.proofs.Found.{named-fit, output-fit, reserved-named}
 
 none-found : (found : Option FilePatch) → None ≡ option_map (λ q. q.header.opening) found → found ≡ None
@@ -34,15 +36,17 @@ has-targets o text known ps v same are out temps none = record {
 }
 
 set-of : (o : PlainOptions) (text : List ℕ) (ps : List FilePatch) (v : SetView)
-    → v.text ≡ text → AreNamed o text (known_names o (map (patch_of text) ps)) ps v.patches
+    → v.text ≡ text → v.ways ≡ ways_of o → AreNamed o text (known_names o (map (patch_of text) ps)) ps v.patches
     → v.output ≡ output_of o (known_names o (map (patch_of text) ps)) → ForSome v.output HasTemps
-    → find (is_reserving v.output) v.patches ≡ None → ArePlaced text 0 0 ps → IsSetOf o text (map (patch_of text) ps) v
-set-of o text ps v same are out temps none at =
+    → find (is_reserving v.output) v.patches ≡ None → map region_of ps ≡ regions_of (ways_of o) text → ArePlaced text 0 0 ps → IsSetOf o text (map (patch_of text) ps) v
+set-of o text ps v same ways are out temps none regions at =
     let known = known_names o (map (patch_of text) ps) in
     let plain : plain_patches v ≡ map (patch_of text) ps = ap (λ t. map (patch_of t) v.patches) same ∙ named-plain o text known ps v.patches are in
     record {
       text = same;
+      ways = ways;
       plain = plain;
+      regions = rw same (named-regions o text known ps v.patches are ∙ regions);
       spans = rw same (named-placed o text known 0 0 ps v.patches are at);
       names = subst (λ rs. HasTargets o (known_names o rs) v) (sym plain) (has-targets o text known ps v same are out temps none);
     }
@@ -60,27 +64,29 @@ have-targets o text lent ps qs output same are out temps = subst (λ t. HaveTarg
 
 -- the set holds these file patches, and this output
 pub made-set : (o : PlainOptions) (text : List ℕ) (ps qs : List FilePatch) (output : Option Target) (v : SetView)
-    → v.text ≡ text → v.patches ≡ qs → v.output ≡ output → HaveTargets o text ps qs output
+    → v.text ≡ text → v.ways ≡ ways_of o → v.patches ≡ qs → v.output ≡ output → HaveTargets o text ps qs output
     → None ≡ option_map (λ q. q.header.opening) (find (is_reserving output) qs)
-    → ArePlaced text 0 0 ps → IsSetOf o text (map (patch_of text) ps) v
-made-set o text ps qs output v same patches out have none at =
-    set-of o text ps v same (subst (λ rs. AreNamed o text (known_names o (map (patch_of text) ps)) ps rs) (sym patches) have.are) (out ∙ have.out)
+    → map region_of ps ≡ regions_of (ways_of o) text → ArePlaced text 0 0 ps → IsSetOf o text (map (patch_of text) ps) v
+made-set o text ps qs output v same ways patches out have none regions at =
+    set-of o text ps v same ways (subst (λ rs. AreNamed o text (known_names o (map (patch_of text) ps)) ps rs) (sym patches) have.are) (out ∙ have.out)
     (subst (λ x. ForSome x HasTemps) (sym out) have.temps)
-    (ap (λ x. find (is_reserving x) v.patches) out ∙ ap (λ rs. find (is_reserving output) rs) patches ∙ none-found (find (is_reserving output) qs) none) at
+    (ap (λ x. find (is_reserving x) v.patches) out ∙ ap (λ rs. find (is_reserving output) rs) patches ∙ none-found (find (is_reserving output) qs) none) regions at
 
 -- what the file patches keep
-pub record AreKept (text : List ℕ) (qs : List FilePatch) : Type 0 where
+pub record AreKept (o : PlainOptions) (text : List ℕ) (qs : List FilePatch) : Type 0 where
   pub lawful : All (IsLawfulPatch text) qs
+  pub regions : map region_of qs ≡ regions_of (ways_of o) text
   pub placed : ArePlaced text 0 0 qs
   pub count : length qs < 2 ^ 32
   pub hunks : hunks_in qs < 2 ^ 32
 
 pub kept : (o : PlainOptions) (text : List ℕ) (ps qs : List FilePatch) (output : Option Target) → HaveTargets o text ps qs output
-    → All (IsLawfulPatch text) ps → ArePlaced text 0 0 ps → length ps < 2 ^ 32 → hunks_in ps < 2 ^ 32 → AreKept text qs
-kept o text ps qs output have lawful at count hunks =
+    → All (IsLawfulPatch text) ps → map region_of ps ≡ regions_of (ways_of o) text → ArePlaced text 0 0 ps → length ps < 2 ^ 32 → hunks_in ps < 2 ^ 32 → AreKept o text qs
+kept o text ps qs output have lawful regions at count hunks =
     let known = known_names o (map (patch_of text) ps) in
     record {
       lawful = named-lawful o text known ps qs have.are lawful;
+      regions = named-regions o text known ps qs have.are ∙ regions;
       placed = named-placed o text known 0 0 ps qs have.are at;
       count = omega (arith, named-count o text known ps qs have.are);
       hunks = omega (arith, named-hunks o text known ps qs have.are);

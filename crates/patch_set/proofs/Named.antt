@@ -17,6 +17,7 @@ use Rattle.target_names.specs.Numbered.{joined_by}
 use Rattle.patch_set.specs.Named.{names_of, targets_of}
 use Rattle.patch_set.specs.Naming.{IsNamed, AreNamed}
 use Rattle.patch_set.specs.SetView.{hunks_in}
+use Rattle.patch_text.specs.Regions.{region_of}
 use Rattle.patch_set.specs.Spans.{IsPlaced, ArePlaced}
 use Rattle.patch_set.proofs.Joined.{joined-append}
 
@@ -77,7 +78,7 @@ module _ (o : PlainOptions) (text : List ℕ) (known : List (List ℕ)) where
   same-place start before p q is at = record {
     begins = rw is.span at.begins;
     region = rw is.header at.region;
-    turn = rw (is.header, is.hunk_spans, is.span) at.turn;
+    cut = rw (is.header, is.hunk_spans, is.span) at.cut;
     each = rw (is.hunk_spans, is.change) at.each;
     pieces = rw (is.header, is.hunk_spans, is.change) at.pieces;
     some = rw (is.header, is.span) at.some;
@@ -94,6 +95,16 @@ module _ (o : PlainOptions) (text : List ℕ) (known : List (List ℕ)) where
     same-place start before x y are.0 at.0,
     rw (are.0.span, are.0.change) (named-placed x.span.end (before + row_count x.change) ps qs are.1 at.1),
   )
+
+  same-region : (p q : FilePatch) → IsNamed o text known p q → region_of q ≡ region_of p
+  same-region p q is = rw (is.header, is.hunk_spans, is.span) refl
+
+  -- they lie where they lay
+  pub named-regions : (ps qs : List FilePatch) → AreNamed o text known ps qs → map region_of qs ≡ map region_of ps
+  named-regions [] [] are = refl
+  named-regions [] (y ∷ qs) are = absurd are
+  named-regions (x ∷ ps) [] are = absurd are
+  named-regions (x ∷ ps) (y ∷ qs) are = ap (λ r. r ∷ map region_of qs) (same-region x y are.0) ∙ ap (λ rs. region_of x ∷ rs) (named-regions ps qs are.1)
 
   pub named-targets : (ps qs : List FilePatch) → AreNamed o text known ps qs
       → map (λ q. q.targets.items) qs ≡ map (λ q. targets_of o known (header_of text q.header)) qs

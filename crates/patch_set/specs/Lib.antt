@@ -1,3 +1,4 @@
+pub mod Asked
 pub mod Looks
 pub mod Named
 pub mod Naming
@@ -5,3 +6,4 @@ pub mod PlainName
 pub mod Refusals
 pub mod SetView
 pub mod Spans
+pub mod OneView

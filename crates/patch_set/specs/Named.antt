@@ -1,11 +1,14 @@
 -- The names that file patches can be meant for, and their targets (GNU patch manual, "Multiple Patches in a File").
-use Rattle.std.specs.Prelude.{ℕ, List, [], ◌∷◌, ◌++◌, map, Option, None, Some, option_map}
+use Rattle.std.specs.Prelude.{ℕ, List, [], ◌∷◌, ◌++◌, map, if◌then◌else◌, Option, None, Some, option_map}
 use Rattle.std.specs.List.{flat_map}
 use Rattle.std.specs.Option.{option_to_list}
 use Rattle.file_patch.specs.PlainPatch.{PlainHeader, PlainPatch}
 use Rattle.patch_options.specs.PlainJob.{PlainOptions}
 use Rattle.target_names.specs.declared.derived.Target.{Target}
 use Rattle.target_names.specs.Candidates.{candidates}
+use Rattle.target_names.specs.Moved.{moved_names}
+use Rattle.file_patch.specs.Actions.{is_moved}
+use Rattle.patch_set.specs.Asked.{is_posix}
 use Rattle.target_names.specs.Numbered.{number_in, distinct}
 use Rattle.target_names.specs.Targets.{target_of}
 
@@ -14,9 +17,13 @@ abbrev pub operand_or : Option (List ℕ) → List (List ℕ) → List (List ℕ
 operand_or None names = names
 operand_or (Some file) names = file ∷ []
 
+-- the names that a header gives: of a rename or a copy the two of its lines, else those of the header lines and the index line
+abbrev pub own_names : PlainOptions → PlainHeader → List (List ℕ)
+own_names o h = if is_moved h.action then moved_names o.strip h.from h.to else candidates o.strip h.old_name h.new_name h.index (is_posix o)
+
 -- the names that a file patch can be meant for
 abbrev pub names_of : PlainOptions → PlainHeader → List (List ℕ)
-names_of o h = operand_or o.file (candidates o.strip h.old_name h.new_name h.index)
+names_of o h = operand_or o.file (own_names o h)
 
 -- the names of the file patches in their order
 abbrev pub patch_names : PlainOptions → List PlainPatch → List (List ℕ)

@@ -15,6 +15,6 @@ better_of None second = second
 better_of (Some first) None = Some first
 better_of (Some first) (Some second) = if is_better second first then Some second else Some first
 
--- the better one of the old and the new name, or else the name of the `Index:` line, or else the empty text
+-- the better one of the old and the new name, or else the name that the file is renamed or copied to, or else the name of the `Index:` line, or else the empty text
 abbrev pub plain_name : PlainHeader → List ℕ
-plain_name h = option_map_or (λ name. name) (option_or (better_of (file_name h.old_name) (file_name h.new_name)) h.index) []
+plain_name h = option_map_or (λ name. name) (option_or (better_of (file_name h.old_name) (file_name h.new_name)) (option_or h.to h.index)) []

@@ -12,6 +12,7 @@ use Rattle.target_names.specs.Targets.{is_reserved}
 use Rattle.patch_text.specs.Patches.{patches_of}
 use Rattle.patch_set.specs.declared.fault.SetFault.{SetFault}
 use Rattle.patch_set.specs.declared.fault.SetFault.TheVariants as faults
+use Rattle.patch_set.specs.Asked.{ways_of}
 use Rattle.patch_set.specs.Named.{known_names, targets_of, output_of}
 
 -- the first refusal of a list, if there is one
@@ -62,7 +63,7 @@ refusal_of o text (Ok ps) = first_of (garbage text ps ∷ out_many o ps ∷ ed_r
 
 -- the refusal of a text, which is read as completed
 abbrev pub refusal : PlainOptions → List ℕ → Option SetFault
-refusal o text = if is_too_long text then Some faults.TooLong else refusal_of o text (patches_of o.only (completed text))
+refusal o text = if is_too_long text then Some faults.TooLong else refusal_of o text (patches_of (ways_of o) (completed text))
 
 -- the same fault of a text that was read
 abbrev pub of_form : FormFault → SetFault

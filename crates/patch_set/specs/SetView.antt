@@ -11,16 +11,20 @@ use Rattle.file_patch.specs.Absent.{IsLawfulPatch}
 use Rattle.patch_options.specs.PlainJob.{PlainOptions}
 use Rattle.target_names.specs.declared.derived.Target.{Target}
 use Rattle.target_names.specs.Targets.{HasTemps, IsLasting}
+use Rattle.patch_header.specs.declared.ways.Ways.{Ways}
 use Rattle.patch_text.specs.Patches.{patches_of}
+use Rattle.patch_text.specs.Regions.{region_of, regions_of}
 use Rattle.patch_set.specs.declared.fault.SetFault.{SetFault}
 use Rattle.patch_set.specs.declared.fault.SetFault.TheVariants.{Memory}
 use Rattle.patch_set.specs.declared.set.Row.{Row}
+use Rattle.patch_set.specs.Asked.{ways_of}
 use Rattle.patch_set.specs.Named.{known_names, targets_of, output_of}
 use Rattle.patch_set.specs.Spans.{ArePlaced}
 
 pub record SetView : Type 0 where
-  -- the text that was read, with a line feed at its end
+  -- the text that was read, with a line feed at its end, and the ways in which it was read
   pub text : List ℕ
+  pub ways : Ways
   pub patches : List FilePatch
   pub output : Option Target
   -- one for each hunk, an ed script counting as one, or none
@@ -48,9 +52,10 @@ HasVerdicts v = length v.verdicts ≡ hunks_in v.patches
 abbrev pub verdicts_in : SetView → FilePatch → List Verdict
 verdicts_in v p = take (row_count p.change) (drop p.first_verdict v.verdicts)
 
--- what never changes: lawful file patches that lie one behind the other and can be counted with their hunks, and a row for each
+-- what never changes: lawful file patches that lie where the text says, one behind the other, and can be counted with their hunks, and a row for each
 pub record IsWhole (v : SetView) : Type 0 where
   pub lawful : All (IsLawfulPatch v.text) v.patches
+  pub regions : map region_of v.patches ≡ regions_of v.ways v.text
   pub placed : ArePlaced v.text 0 0 v.patches
   pub count : length v.patches < 2 ^ 32
   pub hunks : hunks_in v.patches < 2 ^ 32
@@ -72,14 +77,19 @@ pub record HasTargets (o : PlainOptions) (known : List (List ℕ)) (v : SetView)
 -- the set is read from this text
 pub record IsRead (o : PlainOptions) (given : List ℕ) (v : SetView) : Type 0 where
   pub text : v.text ≡ completed given
-  pub patches : patches_of o.only v.text ≡ Ok (plain_patches v)
+  pub ways : v.ways ≡ ways_of o
+  pub patches : patches_of (ways_of o) v.text ≡ Ok (plain_patches v)
+  -- each lies where the text says
+  pub regions : map region_of v.patches ≡ regions_of (ways_of o) v.text
   pub spans : ArePlaced v.text 0 0 v.patches
   pub names : HasTargets o (known_names o (plain_patches v)) v
 
 -- the set of these file patches of a text
 pub record IsSetOf (o : PlainOptions) (given : List ℕ) (ps : List PlainPatch) (v : SetView) : Type 0 where
   pub text : v.text ≡ given
+  pub ways : v.ways ≡ ways_of o
   pub plain : plain_patches v ≡ ps
+  pub regions : map region_of v.patches ≡ regions_of (ways_of o) v.text
   pub spans : ArePlaced v.text 0 0 v.patches
   pub names : HasTargets o (known_names o (plain_patches v)) v
 
@@ -98,7 +108,7 @@ Meets refused (Err e) = (e ≡ Memory) ⊎ (refused ≡ Option.Some e)
 
 -- the same set with another row for a file patch, or with these verdicts
 abbrev pub with_row : SetView → ℕ → Row → SetView
-with_row v patch row = record { text = v.text; patches = v.patches; output = v.output; verdicts = v.verdicts; rows = set v.rows patch row }
+with_row v patch row = record { text = v.text; ways = v.ways; patches = v.patches; output = v.output; verdicts = v.verdicts; rows = set v.rows patch row }
 
 abbrev pub with_verdicts : SetView → List Verdict → SetView
-with_verdicts v verdicts = record { text = v.text; patches = v.patches; output = v.output; verdicts = verdicts; rows = v.rows }
+with_verdicts v verdicts = record { text = v.text; ways = v.ways; patches = v.patches; output = v.output; verdicts = verdicts; rows = v.rows }

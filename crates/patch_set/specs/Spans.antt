@@ -1,16 +1,15 @@
 -- Where the file patches of a set lie in its text.
 use Rattle.std.specs.Prelude.{◌≡◌, ℕ, ◌+◌, ◌<◌, ◌≤◌, List, [], ◌∷◌, length}
-use Rattle.hunk_core.specs.Pieces.{AreInTurn}
 use Rattle.file_patch.specs.declared.FilePatch.{FilePatch}
 use Rattle.file_patch.specs.PlainPatch.{change_of, row_count}
-use Rattle.patch_text.specs.Changes.{SpellChange}
+use Rattle.patch_text.specs.Changes.{AreCut, SpellChange}
 
 -- a file patch whose span starts at this place, behind so many hunks
 pub record IsPlaced (text : List ℕ) (start before : ℕ) (p : FilePatch) : Type 0 where
   pub begins : p.span.start ≡ start
-  -- the lines in front of the opening are in the span, and the pieces of the hunks make up the rest
+  -- the lines in front of the opening are in the span, and the pieces of the hunks, or a bare git header, make up the rest
   pub region : start ≤ p.header.at
-  pub turn : AreInTurn p.header.at p.hunk_spans.items p.span.end
+  pub cut : AreCut p.header p.hunk_spans.items p.span.end
   pub each : length p.hunk_spans.items ≡ row_count p.change
   pub pieces : SpellChange text p.header.form p.hunk_spans.items (change_of text p.change)
   pub some : p.header.at < p.span.end

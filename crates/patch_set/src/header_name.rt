@@ -8,13 +8,15 @@ use crate::names::bytes_in;
 use name_choice::is_better;
 use patch_header::Header;
 
-/// The better one of the old and the new name of a header, or else the name of its `Index:` line, or else the empty text.
+/// The better one of the old and the new name of a header, or else the name that its file is renamed or copied to, or else
+/// the name of its `Index:` line, or else the empty text.
 pub fn plain_name<'t>(text: &'t [u8], header: &Header) -> &'t [u8]
     ensures { result.now ≡ plain_name (header_of text.now header.now) }
 {
     let old = file_name(bytes_in(text, header.old_name));
     let new = file_name(bytes_in(text, header.new_name));
-    match first_of(better_of(old, new), bytes_in(text, header.index)) {
+    let other = first_of(bytes_in(text, header.to), bytes_in(text, header.index));
+    match first_of(better_of(old, new), other) {
         Some(name) => name,
         None => b"",
     }

@@ -1,5 +1,5 @@
 //! Laws of the numbers of targets, and of a set while its rows and verdicts change.
-ghost use Rattle.std.specs.Prelude.{◌≡◌, ◌↔◌, ◌++◌, ℕ, List, true};
+ghost use Rattle.std.specs.Prelude.{◌≡◌, ◌↔◌, ◌++◌, ℕ, List, map, true};
 ghost use Rattle.std.specs.Option.{option_to_list};
 ghost use Rattle.hunk_core.specs.declared.Verdict.{Verdict};
 ghost use Rattle.file_patch.specs.PlainPatch.{PlainPatch};
@@ -7,7 +7,9 @@ ghost use Rattle.patch_options.specs.PlainJob.{PlainOptions};
 ghost use Rattle.target_names.specs.Numbered.{is_among};
 ghost use Rattle.patch_set.specs.declared.set.Row.{Row};
 ghost use Rattle.patch_set.specs.Named.{known_names, patch_names, target_in};
-ghost use Rattle.patch_set.specs.SetView.{SetView, IsRead, with_row, with_verdicts};
+ghost use Rattle.patch_set.specs.OneView.{AreOne};
+ghost use Rattle.patch_set.specs.SetView.{SetView, IsRead, IsWhole, with_row, with_verdicts};
+ghost use Rattle.patch_text.specs.Spelled.{spelled_in, spelled_of};
 
 /// Two targets of a run, the output's among them, have the same number exactly where their names are equal.
 pub fn numbers_tell_targets_apart()
@@ -21,4 +23,15 @@ pub fn numbers_tell_targets_apart()
 pub fn what_was_read_stays()
     ensures rows { (o : PlainOptions) (given : List ℕ) (v : SetView) (patch : ℕ) (row : Row) → IsRead o given v → IsRead o given (with_row v patch row) }
     ensures verdicts { (o : PlainOptions) (given : List ℕ) (v : SetView) (verdicts : List Verdict) → IsRead o given v → IsRead o given (with_verdicts v verdicts) }
+{}
+
+/// A text that is read twice for the same options gives the same file patches, at the same places and with the same targets.
+pub fn one_view()
+    ensures { (o : PlainOptions) (given : List ℕ) (v w : SetView) → IsRead o given v → IsRead o given w → AreOne v w }
+{}
+
+/// The bytes of a set's file patches, those in front of their openings and those of their hunks, are told by its text and
+/// by how that was read.
+pub fn a_set_in_bytes()
+    ensures { (v : SetView) → IsWhole v → map (spelled_of v.text) v.patches ≡ spelled_in v.ways v.text }
 {}

@@ -1,6 +1,7 @@
 //! The file patches of a patch text as one set, with their targets, their verdicts and what was done with them.
 #![tactic(auto)]
 
+mod asked;
 mod fault;
 mod header_name;
 mod laws;
@@ -9,9 +10,10 @@ mod reading;
 mod refusals;
 mod set;
 
+pub use asked::{is_posix, ways_of};
 pub use fault::SetFault;
 pub use file_patch::{Change, FilePatch};
-pub use laws::{numbers_tell_targets_apart, what_was_read_stays};
+pub use laws::{a_set_in_bytes, numbers_tell_targets_apart, one_view, what_was_read_stays};
 pub use names::bytes_in;
 pub use reading::read_set;
 pub use set::{PatchSet, Row};

@@ -4,18 +4,21 @@ ghost use Rattle.std.specs.Option.{ForSome, option_copied, option_to_list};
 ghost use Rattle.file_patch.specs.PlainPatch.{bytes_in, header_of, patch_of};
 ghost use Rattle.patch_options.specs.PlainJob.{plain_options, IsLawful};
 ghost use Rattle.target_names.specs.Candidates.{candidates};
+ghost use Rattle.target_names.specs.Moved.{moved_names};
+ghost use Rattle.file_patch.specs.Actions.{is_moved};
 ghost use Rattle.target_names.specs.Numbered.{number_in, with_name, joined_by};
 ghost use Rattle.target_names.specs.Targets.{target_of, HasTemps};
-ghost use Rattle.patch_set.specs.Named.{known_names, names_of, output_of, patch_names, target_in};
+ghost use Rattle.patch_set.specs.Named.{known_names, names_of, output_of, own_names, patch_names, target_in};
 ghost use Rattle.patch_set.specs.Naming.{IsNamed, AreNamed};
 
+use crate::asked::is_posix;
 use file_patch::FilePatch;
 use line_list::Span;
 use outside::Name;
-use patch_header::Header;
+use patch_header::{Action, Header};
 use patch_options::Options;
 use std::alloc::{AllocError, Global};
-use target_names::{Numbers, Target, candidates};
+use target_names::{Numbers, Target, candidates, moved_names};
 
 /// File patches with their targets, and the output's target.
 #[derive(Drop)]
@@ -129,7 +132,7 @@ fn target(
     Target::new(alloc, options, name, number)
 }
 
-/// The names that a file patch with this header can be meant for: the file operand, or the candidates.
+/// The names that a file patch with this header can be meant for: the file operand, or its own.
 fn names_of(
     alloc: Global,
     text: &[u8],
@@ -140,12 +143,34 @@ fn names_of(
 {
     match &options.file {
         Some(file) => Ok(vec![in alloc; file.copy(alloc)?]?),
-        None => candidates(
+        None => own_names(alloc, text, options, header),
+    }
+}
+
+/// The names that a header gives: of a rename or a copy the one that the file has and the one that it gets, else the
+/// candidates.
+fn own_names(
+    alloc: Global,
+    text: &[u8],
+    options: &Options,
+    header: &Header,
+) -> Result<Vec<Name>, AllocError>
+    ensures names { IfOk result (λ names. names.items ≡ own_names (plain_options options.now) (header_of text.now header.now)) }
+{
+    match header.action {
+        Action::Rename | Action::Copy => moved_names(
+            alloc,
+            options.strip,
+            bytes_in(text, header.from),
+            bytes_in(text, header.to),
+        ),
+        Action::Plain | Action::New | Action::Deleted => candidates(
             alloc,
             options.strip,
             bytes_in(text, header.old_name),
             bytes_in(text, header.new_name),
             bytes_in(text, header.index),
+            is_posix(options),
         ),
     }
 }

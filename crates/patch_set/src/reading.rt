@@ -4,11 +4,14 @@ ghost use Rattle.line_list.specs.Completed.{completed};
 ghost use Rattle.file_patch.specs.PlainPatch.{patch_of};
 ghost use Rattle.file_patch.specs.Absent.{IsLawfulPatch};
 ghost use Rattle.patch_options.specs.PlainJob.{plain_options, IsLawful};
+ghost use Rattle.patch_text.specs.Regions.{region_of, regions_of};
+ghost use Rattle.patch_set.specs.Asked.{ways_of};
 ghost use Rattle.patch_set.specs.Spans.{ArePlaced};
 ghost use Rattle.patch_set.specs.Refusals.{refusal, refusal_of, reserved};
 ghost use Rattle.patch_set.specs.SetView.{IsRead, IsSetOf, IsFresh, IsWhole, Meets, hunks_in};
 
 use crate::SetFault;
+use crate::asked::ways_of;
 use crate::names::name_all;
 use crate::refusals::{refused, reserved};
 use crate::set::{PatchSet, untried};
@@ -21,7 +24,8 @@ use std::alloc::{AllocError, Global};
 /// The longest text that is read, in bytes.
 const LONGEST: usize = 268_435_456;
 
-/// Reads a patch text, as if its last line had its line feed, for these options.
+/// Reads a patch text, as if its last line had its line feed, for these options. Git headers are read where all forms or
+/// the unified one are asked for, and neither a file operand nor an output is given.
 pub fn read_set(alloc: Global, text: Vec<u8>, options: &Options) -> Result<PatchSet, SetFault>
     requires { IsLawful (plain_options options.now) }
     ensures read { IfOk result (IsRead (plain_options options.now) text.items) }
@@ -34,7 +38,7 @@ pub fn read_set(alloc: Global, text: Vec<u8>, options: &Options) -> Result<Patch
         return Err(SetFault::TooLong);
     }
     let text = completed(text)?;
-    let patches = read_patches(alloc, &text, options.only)?;
+    let patches = read_patches(alloc, &text, ways_of(options))?;
     set_of(alloc, text, options, patches)
 }
 
@@ -60,6 +64,7 @@ fn set_of(
 ) -> Result<PatchSet, SetFault>
     requires options { IsLawful (plain_options options.now) }
     requires lawful { All (IsLawfulPatch text.items) patches.items }
+    requires regions { map region_of patches.items ≡ regions_of (ways_of (plain_options options.now)) text.items }
     requires spans { ArePlaced text.items 0 0 patches.items }
     requires count { length patches.items < 2 ^ 32 }
     requires hunks { hunks_in patches.items < 2 ^ 32 }
@@ -83,6 +88,7 @@ fn named_set(
 ) -> Result<PatchSet, SetFault>
     requires options { IsLawful (plain_options options.now) }
     requires lawful { All (IsLawfulPatch text.items) patches.items }
+    requires regions { map region_of patches.items ≡ regions_of (ways_of (plain_options options.now)) text.items }
     requires spans { ArePlaced text.items 0 0 patches.items }
     requires count { length patches.items < 2 ^ 32 }
     requires hunks { hunks_in patches.items < 2 ^ 32 }
@@ -94,6 +100,6 @@ fn named_set(
     let named = name_all(alloc, &text, options, patches)?;
     match reserved(&named) {
         Some(line) => Err(SetFault::Reserved { line }),
-        None => Ok(untried(alloc, text, named)?),
+        None => Ok(untried(alloc, text, ways_of(options), named)?),
     }
 }

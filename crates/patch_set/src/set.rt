@@ -1,9 +1,10 @@
 //! A set of file patches.
-ghost use Rattle.std.specs.Prelude.{◌≡◌, ◌<◌, ◌^◌, [], IfOk, All, length, replicate, slice_index_or};
+ghost use Rattle.std.specs.Prelude.{◌≡◌, ◌<◌, ◌^◌, [], IfOk, All, length, map, replicate, slice_index_or};
 ghost use Rattle.std.specs.Option.{ForSome, option_copied};
 ghost use Rattle.hunk_core.specs.declared.Verdict.TheVariants.{Untried};
 ghost use Rattle.file_patch.specs.Absent.{IsLawfulPatch};
 ghost use Rattle.file_patch.specs.PlainPatch.{header_of};
+ghost use Rattle.patch_text.specs.Regions.{region_of, regions_of};
 ghost use Rattle.patch_set.specs.PlainName.{plain_name};
 ghost use Rattle.patch_set.specs.Spans.{ArePlaced};
 ghost use Rattle.patch_set.specs.SetView.{IsFresh, IsWhole, first_row, hunks_in, patch_at, with_row, with_verdicts};
@@ -12,6 +13,7 @@ use crate::header_name::plain_name;
 use crate::names::Named;
 use file_patch::FilePatch;
 use hunk_core::{Side, Verdict};
+use patch_header::Ways;
 use std::alloc::{AllocError, Global};
 use std::marker::Model;
 use target_names::Target;
@@ -31,6 +33,7 @@ pub struct Row {
 #[derive(Drop)]
 pub struct PatchSet {
     text: Vec<u8>,
+    ways: Ways,
     patches: Vec<FilePatch>,
     output: Option<Target>,
     verdicts: Vec<Verdict>,
@@ -42,9 +45,9 @@ impl Model for PatchSet {
 
     ghost Value = { SetView };
 
-    ghost view = { λ s. record { text = s.text.items; patches = s.patches.items; output = s.output; verdicts = s.verdicts.items; rows = s.rows.items } };
+    ghost view = { λ s. record { text = s.text.items; ways = s.ways; patches = s.patches.items; output = s.output; verdicts = s.verdicts.items; rows = s.rows.items } };
 
-    ghost invariant = { λ s. IsWhole (record { text = s.text.items; patches = s.patches.items; output = s.output; verdicts = s.verdicts.items; rows = s.rows.items }) };
+    ghost invariant = { λ s. IsWhole (record { text = s.text.items; ways = s.ways; patches = s.patches.items; output = s.output; verdicts = s.verdicts.items; rows = s.rows.items }) };
 }
 
 impl PatchSet {
@@ -53,6 +56,13 @@ impl PatchSet {
         ensures { result.now ≡ self.now.text }
     {
         &self.text
+    }
+
+    /// The ways in which the text was read.
+    pub fn ways(&self) -> Ways
+        ensures { result ≡ self.now.ways }
+    {
+        self.ways
     }
 
     /// The file patches in the order of the text.
@@ -64,7 +74,7 @@ impl PatchSet {
     }
 
     /// The name of a file patch, counted from 0, for the filters: the better one of its old and its new name, `/dev/null`
-    /// being none, or else its `Index:` name, or else the empty text.
+    /// being none, or else the name that its file is renamed or copied to, or else its `Index:` name, or else the empty text.
     pub fn plain_name(&self, patch: u32) -> &[u8]
         requires { patch < length self.now.patches }
         ensures { ForSome (patch_at self.now patch) (λ p. result.now ≡ plain_name (header_of self.now.text p.header)) }
@@ -122,12 +132,19 @@ impl PatchSet {
 }
 
 /// The set of these file patches, of which nothing was tried yet.
-pub fn untried(alloc: Global, text: Vec<u8>, named: Named) -> Result<PatchSet, AllocError>
+pub fn untried(
+    alloc: Global,
+    text: Vec<u8>,
+    ways: Ways,
+    named: Named,
+) -> Result<PatchSet, AllocError>
     requires lawful { All (IsLawfulPatch text.items) named.patches.items }
+    requires regions { map region_of named.patches.items ≡ regions_of ways text.items }
     requires placed { ArePlaced text.items 0 0 named.patches.items }
     requires count { length named.patches.items < 2 ^ 32 }
     requires hunks { hunks_in named.patches.items < 2 ^ 32 }
     ensures text { IfOk result (λ set. set.text ≡ text.items) }
+    ensures ways { IfOk result (λ set. set.ways ≡ ways) }
     ensures patches { IfOk result (λ set. set.patches ≡ named.patches.items) }
     ensures output { IfOk result (λ set. set.output ≡ named.output) }
     ensures fresh { IfOk result IsFresh }
@@ -137,6 +154,7 @@ pub fn untried(alloc: Global, text: Vec<u8>, named: Named) -> Result<PatchSet, A
     let rows = first_rows(alloc, named.patches.len())?;
     Ok(PatchSet {
         text,
+        ways,
         patches: named.patches,
         output: named.output,
         verdicts,

@@ -82,6 +82,49 @@ text --- f|+++ /dev/null|@@ -1 +0,0 @@|-x|
 answer Unified 3 1 0 37 1 0 false true 0|None 1
 ";
 
+/// Texts with git headers, bare ones and one that leads an opening, and those for which git headers are as other lines.
+const GIT: &str = "
+words patch -p1
+text diff --git a/e b/e|new file mode 100644|index 0000000..e69de29|
+answer Unified 1 1 0 63 0 0 true false 0 0|None 0
+
+words patch -p1
+text diff --git a/x b/y|similarity index 100%|rename from x|rename to y|
+answer Unified 1 1 0 67 0 0 false false 0 1|None 0
+
+words patch
+text diff --git a/d/x b/d/x|rename from d/x|rename to e/x|
+answer Unified 1 1 0 53 0 0 false false|None 0
+
+words patch -p1
+text diff --git a/e b/e|deleted file mode 100644|diff --git a/f b/f|new file mode 100644|--- a/f|+++ b/f|@@ -0,0 +1 @@|+x|
+answer Unified 1 1 0 44 0 0 false true 0 0|Unified 7 5 44 117 1 0 true false 1 1|None 1
+
+words patch -p1 -u
+text diff --git a/e b/e|new file mode 100644|
+answer Unified 1 1 0 40 0 0 true false 0 0|None 0
+
+words patch -p1
+text diff --git a/f b/f|old mode 100644|new mode 100755|
+answer Garbage
+
+words patch -p1 -c
+text diff --git a/e b/e|new file mode 100644|
+answer Garbage
+
+words patch -p1 e
+text diff --git a/e b/e|new file mode 100644|
+answer Garbage
+
+words patch -p1 -o e
+text diff --git a/e b/e|new file mode 100644|
+answer Garbage
+
+words patch -p1
+text diff --git a/x b/y|copy from x|copy to y.ptmp|
+answer Reserved { line: 1 }
+";
+
 /// Texts that are refused, where more than one cause stands by the first.
 const REFUSED: &str = "
 words patch
@@ -154,7 +197,7 @@ answer Malformed { line: 5, kind: SidesDiffer }
 ";
 
 /// What stands behind a label, or nothing.
-fn field<'r>(row: &'r str, label: &str) -> &'r str {
+pub fn field<'r>(row: &'r str, label: &str) -> &'r str {
     for line in row.split('\n') {
         if let Some(rest) = line.strip_prefix(label) {
             return rest;
@@ -183,7 +226,7 @@ fn options(alloc: Global, words: &str) -> Result<Options, Fail>
 }
 
 /// The set of a row.
-fn read(alloc: Global, row: &str) -> Result<Result<PatchSet, SetFault>, Fail> {
+pub fn read(alloc: Global, row: &str) -> Result<Result<PatchSet, SetFault>, Fail> {
     let options = options(alloc, field(row, "words "))?;
     let text = bytes_of(alloc, field(row, "text "))?;
     Ok(read_set(alloc, text, &options))
@@ -235,7 +278,7 @@ fn is_read(alloc: Global, row: &str) -> Result<bool, Fail> {
 
 #[test]
 fn texts_are_read(rt: HostRuntime) -> Result<(), Fail> {
-    for rows in [SETS, SIDES, REFUSED] {
+    for rows in [SETS, SIDES, GIT, REFUSED] {
         for row in rows.trim().split("\n\n") {
             assert!(rt; is_read(rt.alloc(), row)?, "{row}");
         }

@@ -1,5 +1,5 @@
 -- What a reader of a form gives, as a change.
-use Rattle.std.proofs.Common.{◌≡◌, ◌≢◌, ℕ, ◌^◌, ◌+◌, ◌<◌, ◌≤◌, Bool, true, false, ◌&&◌, ◌||◌, List, [], ◌∷◌, ◌++◌, length, drop, Option, refl, sym, ap, subst, ◌∙◌, arith, inl, inr, length-drop, eqb, get_or}
+use Rattle.std.proofs.Common.{◌≡◌, ◌≢◌, ℕ, ◌^◌, ◌+◌, ◌<◌, ◌≤◌, Bool, true, false, ◌&&◌, ◌||◌, List, [], ◌∷◌, ◌++◌, length, map, drop, slice_range, Option, refl, sym, ap, subst, ◌∙◌, arith, inl, inr, length-drop, eqb, get_or}
 use Rattle.std.specs.Prelude.{sum_by}
 use Rattle.std.proofs.lemmas.List.{length-map}
 use Rattle.std.proofs.lemmas.List.Concat.{length-flat_map}
@@ -28,8 +28,10 @@ use Rattle.file_patch.specs.declared.Change.{Change}
 use Rattle.file_patch.specs.declared.Change.TheVariants.{Hunks, Script}
 use Rattle.file_patch.specs.PlainPatch.{hunks, change_of, hunk_count, row_count}
 use Rattle.patch_text.specs.Patches.{begins_change}
+use Rattle.patch_text.specs.Regions.{piece_ends}
 use Rattle.patch_text.specs.Texts.{IsPiece}
-use Rattle.patch_text.specs.Changes.{Spells, IsChange, hunks_read}
+use Rattle.patch_header.specs.declared.header.Header.{Header}
+use Rattle.patch_text.specs.Changes.{Spells, IsChange, IsBareChange, IsBehind, hunks_read}
 use Rattle.patch_text.specs.declared.change.ReadChange.{ReadChange}
 
 -- ---- lines and their places
@@ -80,8 +82,8 @@ spell-count S text least (s ∷ ss) (x ∷ hs) h = omega (arith, spell-count S t
 -- ---- a change
 
 pub hunks-change : (text : List ℕ) (form : Form) (at line : ℕ) (h : read.Hunks) (own : List (List ℕ)) → AreSound text h → AreInTurn at h.spans.items h.end → SpellInTurn (Spells form) text 0 h.spans.items (hunks_of text h.items.items)
-    → h.end ≤ length text → lines (drop at text) ≡ own ++ lines (drop h.end text) → h.next ≡ line + length own → IsPiece form line (lines (drop at text)) (hunks (hunks_of text h.items.items)) h.next (lines (drop h.end text)) → at ≢ h.end → IsChange text form at line (hunks_read h)
-hunks-change text form at line h own sound turn pieces high parts counted is_piece some =
+    → map (λ s. s.end) h.spans.items ≡ piece_ends form at (lines (slice_range text at h.end)) → h.end ≤ length text → lines (drop at text) ≡ own ++ lines (drop h.end text) → h.next ≡ line + length own → IsPiece form line (lines (drop at text)) (hunks (hunks_of text h.items.items)) h.next (lines (drop h.end text)) → at ≢ h.end → IsChange text form at line (hunks_read h)
+hunks-change text form at line h own sound turn pieces ends high parts counted is_piece some =
     let within : at + length h.spans.items ≤ h.end = turn-count at h.spans.items h.end turn in
     let low : at ≤ h.end = omega (arith, within) in
     let far : at < h.end = omega (arith, low, some) in
@@ -92,6 +94,7 @@ hunks-change text form at line h own sound turn pieces high parts counted is_pie
       each = each;
       pieces = pieces;
       spelled = is_piece;
+      ends = ends;
       some = far;
       rows = turn-some at h.spans.items h.end (length h.items.items) turn far each;
       high = high;
@@ -101,8 +104,9 @@ hunks-change text form at line h own sound turn pieces high parts counted is_pie
 
 pub script-change : (text : List ℕ) (at line : ℕ) (s : EdScript) (r : ReadChange) (own : List (List ℕ)) → r.change ≡ Script s → r.spans.items ≡ s.span ∷ [] → r.end ≡ s.span.end → r.next ≡ s.next → IsLawfulScript text s → s.span.start ≡ at → at < s.span.end → s.span.end ≤ length text
     → ed.SpellsEdits (2 ^ 32) (lines (bytes_at text s.span)) (edits_of text s.edits.items) (lines (drop s.span.end text))
+    → s.span.end ∷ [] ≡ piece_ends Ed at (lines (slice_range text at s.span.end))
     → lines (drop at text) ≡ own ++ lines (drop s.span.end text) → s.next ≡ line + length own → ed.IsPiece line (lines (drop at text)) (edits_of text s.edits.items) s.next (lines (drop s.span.end text)) → IsChange text Ed at line r
-script-change text at line s r own change one end next lawful start some high spelled parts counted is_piece =
+script-change text at line s r own change one end next lawful start some high spelled ends parts counted is_piece =
     let low : at ≤ s.span.end = omega (arith, some) in
     record {
       lawful = rw change lawful;
@@ -110,6 +114,7 @@ script-change text at line s r own change one end next lawful start some high sp
       each = rw (change, one) refl;
       pieces = rw (change, one) spelled;
       spelled = rw (change, end, next) is_piece;
+      ends = rw (one, end) ends;
       some = rw end some;
       rows = rw change (omega arith);
       high = rw end high;
@@ -151,3 +156,45 @@ rows-counted text (Script s) = refl
 -- behind a change there are no more hunks than bytes
 pub rows-within : (text : List ℕ) (form : Form) (at line : ℕ) (r : ReadChange) → IsChange text form at line r → at + row_count r.change ≤ r.end
 rows-within text form at line r h = omega (arith, h.each, turn-count at r.spans.items r.end h.turn)
+
+-- ---- what a header opens
+
+pub rows-behind : (text : List ℕ) (h : Header) (r : ReadChange) → IsBehind text h r → h.at + row_count r.change ≤ r.end
+rows-behind text h r is = by h.bare refl
+  where
+    by : (b : Bool) → h.bare ≡ b → h.at + row_count r.change ≤ r.end
+    by true e = let none : length r.spans.items ≡ 0 = ap length (is.cut.none e) in omega (arith, is.each, none, is.some)
+    by false e = omega (arith, is.each, turn-count h.at r.spans.items r.end (is.cut.turn e))
+
+differ : (b : Bool) → b ≡ true → b ≡ false → ⊥
+differ b yes none = cc
+
+pub behind-hunks : (text : List ℕ) (h : Header) (r : ReadChange) → h.bare ≡ false → IsChange text h.form h.at h.opening r → IsBehind text h r
+behind-hunks text h r none is = record {
+  lawful = is.lawful;
+  cut = record { turn = λ e. is.turn; none = λ e. absurd (differ h.bare e none) };
+  each = is.each;
+  pieces = is.pieces;
+  goes = record { spelled = λ e. is.spelled; bare = λ e. absurd (differ h.bare e none) };
+  ends = rw none is.ends;
+  some = is.some;
+  rows = λ e. is.rows;
+  high = is.high;
+  numbers = is.numbers;
+  dots = is.dots;
+}
+
+pub behind-bare : (text : List ℕ) (h : Header) (r : ReadChange) → h.bare ≡ true → IsBareChange text h.at h.opening r → IsBehind text h r
+behind-bare text h r bare is = record {
+  lawful = is.lawful;
+  cut = record { turn = λ e. absurd (differ h.bare bare e); none = λ e. is.spans };
+  each = rw (is.spans, is.count) refl;
+  pieces = rw (is.spans, is.goes.none) tt;
+  goes = record { spelled = λ e. absurd (differ h.bare bare e); bare = λ e. is.goes };
+  ends = rw (is.spans, bare) refl;
+  some = is.some;
+  rows = λ e. absurd (differ h.bare bare e);
+  high = is.high;
+  numbers = is.numbers;
+  dots = is.dots;
+}

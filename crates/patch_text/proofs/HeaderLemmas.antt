@@ -11,8 +11,8 @@ use Rattle.hunk_core.specs.LineTests.{after}
 use Rattle.patch_header.specs.Content.{content}
 use Rattle.patch_header.specs.Region.{Row, rows, tail_of, first_some, last_tail, old_tail}
 use Rattle.patch_header.specs.Values.{name_in}
-use Rattle.patch_header.specs.Ways.{plainly}
-use Rattle.patch_header.specs.Steps.{names_line, header_with, bare_with, header_at, IsFirstOpening, IsOpeningAt, IsUnled, LiesBehind}
+use Rattle.patch_header.specs.declared.ways.Ways.{Ways}
+use Rattle.patch_header.specs.Steps.{names_line, header_with, bare_with, header_at, IsFirstOpening, LiesBehind}
 use Rattle.patch_header.specs.GitRows.{led_by}
 use Rattle.patch_header.specs.declared.openings.Stop.{Stop}
 use Rattle.patch_header.specs.declared.openings.Stop.TheVariants.{Opening, Binary, Bare}
@@ -69,29 +69,27 @@ line-before n None name h = omega arith
 line-before n (Some t) None h = omega arith
 line-before n (Some t) (Some s) h = omega (arith, h)
 
-header-before : (only : Option Form) (text : List ℕ) (place line start : ℕ) (region : List (List ℕ)) (h : Header) (stop : Stop) → header_at (plainly only) text place (line + length region) (rows line start region) stop ≡ Some h → h.names_line ≤ h.opening
-header-before only text place line start region h (Opening form) e =
+header-before : (ways : Ways) (text : List ℕ) (place line start : ℕ) (region : List (List ℕ)) (h : Header) (stop : Stop) → header_at ways text place (line + length region) (rows line start region) stop ≡ Some h → h.names_line ≤ h.opening
+header-before ways text place line start region h (Opening form) e =
     let n = line + length region in
     let t = old_tail form (rows line start region) in
-    let same : h ≡ header_with text form place n (rows line start region) (led_by (plainly only) form (rows line start region)) = sym (ap (λ o. unwrap_or o h) e) in
+    let same : h ≡ header_with text form place n (rows line start region) (led_by ways form (rows line start region)) = sym (ap (λ o. unwrap_or o h) e) in
     rw same (line-before n t (name_in text t) (old-before n line start form region (omega arith)))
-header-before only text place line start region h Bare e =
+header-before ways text place line start region h Bare e =
     let same : h ≡ bare_with text place (line + length region) (rows line start region) = sym (ap (λ o. unwrap_or o h) e) in
     rw same (omega arith)
-header-before only text place line start region h Binary e = absurd cc
+header-before ways text place line start region h Binary e = absurd cc
 
-pub names-before : (only : Option Form) (text : List ℕ) (at line : ℕ) (h : Header) → IsFirstOpening (plainly only) text at line h → h.names_line ≤ h.opening
-names-before only text at line h x = header-before only text x.place line at x.region h x.stop x.says
+pub names-before : (ways : Ways) (text : List ℕ) (at line : ℕ) (h : Header) → IsFirstOpening ways text at line h → h.names_line ≤ h.opening
+names-before ways text at line h x = header-before ways text x.place line at x.region h x.stop x.says
 
-pub header-from : (only : Option Form) (text : List ℕ) (at line : ℕ) (h : Header) → IsFirstOpening (plainly only) text at line h → LiesBehind (plainly only) text at line h → IsHeaderFrom text at line h
-header-from only text at line h first lies =
-    let unled : IsUnled h = lies.plain refl in
-    let opening : IsOpeningAt (plainly only) text h = lies.opening unled.bare in
+pub header-from : (ways : Ways) (text : List ℕ) (at line : ℕ) (h : Header) → IsFirstOpening ways text at line h → LiesBehind ways text at line h → IsHeaderFrom text at line h
+header-from ways text at line h first lies =
     record {
       low = lies.low;
       high = lies.high;
       numbers = lies.numbers;
-      names_line = names-before only text at line h first;
-      begins = opens-change only h.form (lines (drop h.at text)) opening.begins;
+      names_line = names-before ways text at line h first;
+      begins = λ e. opens-change ways.only h.form (lines (drop h.at text)) (lies.opening e).begins;
       pieces = lies.pieces;
     }

@@ -1,5 +1,7 @@
 pub mod Patches
 pub mod Texts
 pub mod Changes
+pub mod Regions
+pub mod Spelled
 pub mod Spans
 pub mod Reading

@@ -19,11 +19,11 @@ pub record IsProgress (text : List ℕ) (here : Progress) : Type 0 where
   pub few : here.hunks ≤ here.at
   pub known : here.dotless ≡ true → has_dot (lines (drop here.at text)) ≡ false
 
--- an opening from a place on, whose line has this number, and the names in front of it
+-- an opening or a bare git header from a place on, whose line has this number, and the names in front of it
 pub record IsHeaderFrom (text : List ℕ) (at line : ℕ) (h : Header) : Type 0 where
   pub low : at ≤ h.at
   pub high : h.at < length text
   pub numbers : h.opening + at ≤ line + h.at
   pub names_line : h.names_line ≤ h.opening
-  pub begins : begins_change h.form (lines (drop h.at text)) ≡ true
+  pub begins : h.bare ≡ false → begins_change h.form (lines (drop h.at text)) ≡ true
   pub pieces : HasPieces text h

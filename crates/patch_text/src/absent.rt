@@ -5,13 +5,14 @@ ghost use Rattle.hunk_core.specs.PlainHunk.{hunks_of};
 ghost use Rattle.patch_header.specs.Steps.{HasPieces};
 ghost use Rattle.patch_header.specs.Values.{IsPieceOf};
 ghost use Rattle.file_patch.specs.PlainPatch.{bytes_in, header_of, change_of, IsLawfulChange};
-ghost use Rattle.file_patch.specs.Absent.{name_on, stamp_on, is_null, is_epoch, is_one_empty, is_empty_on, is_absent};
+ghost use Rattle.file_patch.specs.Absent.{name_on, stamp_on, is_null, is_epoch, is_one_empty, is_empty_on, is_empty_file, is_said_absent, is_absent};
+ghost use Rattle.file_patch.specs.Actions.{is_new, is_deleted};
 ghost use Rattle.patch_text.specs.Patches.{patch_with};
 
 use file_patch::Change;
 use hunk_core::{Hunk, Side};
 use line_list::Span;
-use patch_header::Header;
+use patch_header::{Action, Header};
 use stamp::Stamp;
 
 /// Whether a name is `/dev/null`.
@@ -73,6 +74,42 @@ fn stamp_on(side: Side, header: &Header) -> Stamp
     }
 }
 
+/// Whether a git header says that this side is no file.
+fn is_said_absent(side: Side, action: Action) -> bool
+    ensures { result ≡ is_said_absent side action }
+{
+    match side {
+        Side::Forward => is_new(action),
+        Side::Reversed => is_deleted(action),
+    }
+}
+
+fn is_new(action: Action) -> bool
+    ensures { result ≡ is_new action }
+{
+    match action {
+        Action::New => true,
+        Action::Plain | Action::Deleted | Action::Rename | Action::Copy => false,
+    }
+}
+
+fn is_deleted(action: Action) -> bool
+    ensures { result ≡ is_deleted action }
+{
+    match action {
+        Action::Deleted => true,
+        Action::Plain | Action::New | Action::Rename | Action::Copy => false,
+    }
+}
+
+/// Whether a change has one hunk alone, which has no line on this side, and the side's stamp is the epoch.
+fn is_empty_file(text: &[u8], side: Side, header: &Header, change: &Change) -> bool
+    requires { IsLawfulChange text.now change.now }
+    ensures { result ≡ is_empty_file side (patch_with text.now header.now (change_of text.now change.now)) }
+{
+    is_empty_on(side, text, change) && is_epoch(stamp_on(side, header))
+}
+
 /// Whether this side of a file patch is no file.
 pub fn is_absent(text: &[u8], side: Side, header: &Header, change: &Change) -> bool
     requires pieces { HasPieces text.now header.now }
@@ -80,5 +117,6 @@ pub fn is_absent(text: &[u8], side: Side, header: &Header, change: &Change) -> b
     ensures { result ≡ is_absent side (patch_with text.now header.now (change_of text.now change.now)) }
 {
     is_null(text, name_on(side, header))
-        || (is_empty_on(side, text, change) && is_epoch(stamp_on(side, header)))
+        || is_said_absent(side, header.action)
+        || is_empty_file(text, side, header, change)
 }

@@ -1,15 +1,16 @@
-//! The hunks or the script of one file patch.
+//! What a header opens: the hunks or the script of one file patch, or nothing behind a bare git header.
 
-ghost use Rattle.std.specs.Prelude.{◌≡◌, ◌<◌, ◌≤◌, ◌^◌, ℕ, Option, true, length, drop, IfOk};
+ghost use Rattle.std.specs.Prelude.{◌≡◌, ◌<◌, ◌≤◌, ◌^◌, true, false, length, drop, IfOk};
 ghost use Rattle.line_list.specs.Lines.{lines};
 ghost use Rattle.hunk_core.specs.declared.Form.{Form};
 ghost use Rattle.hunk_core.specs.Reading.{Gives};
-ghost use Rattle.patch_text.specs.Patches.{begins_change, change_at};
-ghost use Rattle.patch_text.specs.Changes.{IsChange, hunks_read, read_of};
+ghost use Rattle.patch_text.specs.Patches.{bare_change, begins_change, change_at, change_behind};
+ghost use Rattle.patch_text.specs.Changes.{IsBareChange, IsBehind, IsChange, hunks_read, read_of};
 
 use file_patch::Change;
 use hunk_core::{Form, FormFault, Hunks};
 use line_list::Span;
+use patch_header::{Header, bare_end};
 use std::alloc::Global;
 
 /// A change that was read, with the piece of the text that each hunk stands in.
@@ -93,7 +94,7 @@ fn script_at(alloc: Global, text: &[u8], at: usize, line: u64) -> Result<ReadCha
 }
 
 /// The hunks of this form, or the script, that open at `at`, where the line has this number.
-pub fn read_change(
+fn read_change(
     alloc: Global,
     text: &[u8],
     form: Form,
@@ -113,4 +114,38 @@ pub fn read_change(
         Form::Normal => normal_at(alloc, text, at, line),
         Form::Ed => script_at(alloc, text, at, line),
     }
+}
+
+/// No hunk, up to the end of the bare git header that begins at `at`, where the line has this number.
+fn bare_at(alloc: Global, text: &[u8], at: usize, line: u64) -> ReadChange
+    requires short { length text.now < 2 ^ 32 }
+    requires within { at < length text.now }
+    requires small { line < 2 ^ 32 }
+    ensures is { IsBareChange text.now at line result }
+    ensures exact { read_of text.now result ≡ bare_change text.now at line }
+{
+    let (end, next) = bare_end(text, at, line);
+    let items = Vec::new(alloc);
+    let spans = Vec::new(alloc);
+    ReadChange {
+        change: Change::Hunks(items),
+        spans,
+        end,
+        next,
+    }
+}
+
+/// What a header opens: its hunks, its script, or nothing behind a bare git header.
+pub fn read_behind(alloc: Global, text: &[u8], header: Header) -> Result<ReadChange, FormFault>
+    requires short { length text.now < 2 ^ 32 }
+    requires within { header.at < length text.now }
+    requires small { header.opening < 2 ^ 32 }
+    requires opens { header.bare ≡ false → begins_change header.form (lines (drop header.at text.now)) ≡ true }
+    ensures is { IfOk result (IsBehind text.now header) }
+    ensures exact { Gives (read_of text.now) result (change_behind text.now header) }
+{
+    if header.bare {
+        return Ok(bare_at(alloc, text, header.at, header.opening));
+    }
+    read_change(alloc, text, header.form, header.at, header.opening)
 }

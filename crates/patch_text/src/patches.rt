@@ -1,24 +1,24 @@
 //! File patches that follow each other.
 
-ghost use Rattle.std.specs.Prelude.{◌≡◌, ◌<◌, ◌≤◌, ◌^◌, ◌+◌, ℕ, List, Option, None, Ok, Err, true, false, length, drop, map, sum_by, IfOk, IfSome, All, option_map};
+ghost use Rattle.std.specs.Prelude.{◌≡◌, ◌<◌, ◌≤◌, ◌^◌, ◌+◌, ℕ, List, None, Ok, Err, true, false, length, drop, map, sum_by, IfOk, IfSome, All, option_map};
 ghost use Rattle.line_list.specs.Lines.{lines};
 ghost use Rattle.hunk_core.specs.declared.BadKind.{BadKind};
 ghost use Rattle.hunk_core.specs.declared.fault.FormFault.{FormFault};
 ghost use Rattle.hunk_core.specs.Reading.{Gives, fault};
 ghost use Rattle.patch_header.specs.Content.{has_dot};
-ghost use Rattle.patch_header.specs.Ways.{plainly};
 ghost use Rattle.patch_header.specs.Steps.{IsFirstOpening, IsEnd};
 ghost use Rattle.file_patch.specs.PlainPatch.{PlainPatch, patch_of, row_count};
 ghost use Rattle.file_patch.specs.Absent.{IsLawfulPatch};
-ghost use Rattle.patch_text.specs.Patches.{change_at, patch_at, next_patch, patches_of};
+ghost use Rattle.patch_text.specs.Patches.{change_behind, patch_at, next_patch, patches_of};
+ghost use Rattle.patch_text.specs.Regions.{region_of, regions_of};
 ghost use Rattle.patch_text.specs.Reading.{IsProgress, IsHeaderFrom, ahead_of};
 ghost use Rattle.patch_text.specs.Spans.{IsPatch, ArePatches};
 ghost use Rattle.patch_text.specs.Texts.{ComesFault, IsFaulty, HasPatches};
 
 use crate::absent::is_absent;
-use crate::change::read_change;
+use crate::change::read_behind;
 use file_patch::FilePatch;
-use hunk_core::{BadKind, Form, FormFault, Side, bad};
+use hunk_core::{BadKind, FormFault, Side, bad};
 use line_list::Span;
 use patch_header::{Header, HeaderStep, Ways, header_from};
 use std::alloc::Global;
@@ -52,9 +52,9 @@ fn read_patch(
     ensures progress { IfOk result (λ x. IsProgress text.now x.1) }
     ensures behind { IfOk result (λ x. (here.at < x.1.at) × (x.1.at ≡ x.0.span.end) × (x.1.hunks ≡ here.hunks + row_count x.0.change)) }
     ensures exact { Gives (λ x. (patch_of text.now x.0, ahead_of text.now x.1)) result (patch_at text.now header) }
-    ensures malformed { (number : ℕ) (kind : BadKind) → result ≡ Err (FormFault.Malformed number kind) → change_at header.form header.opening (lines (drop header.at text.now)) ≡ Err (fault number kind) }
+    ensures malformed { (number : ℕ) (kind : BadKind) → result ≡ Err (FormFault.Malformed number kind) → change_behind text.now header ≡ Err (fault number kind) }
 {
-    let read = read_change(alloc, text, header.form, header.at, header.opening)?;
+    let read = read_behind(alloc, text, header)?;
     let patch = FilePatch {
         old_absent: is_absent(text, Side::Forward, &header, &read.change),
         new_absent: is_absent(text, Side::Reversed, &header, &read.change),
@@ -81,27 +81,22 @@ fn read_patch(
 fn next_patch(
     alloc: Global,
     text: &[u8],
-    only: Option<Form>,
+    ways: Ways,
     here: Progress,
 ) -> Result<Option<(FilePatch, Progress)>, FormFault>
     requires short { length text.now < 2 ^ 32 }
     requires progress { IsProgress text.now here }
     ensures is { IfOk result (λ o. IfSome o (λ x. IsPatch text.now here.at here.hunks x.0 x.1.number)) }
-    ensures opens { IfOk result (λ o. IfSome o (λ x. IsFirstOpening (plainly only) text.now here.at here.number x.0.header)) }
-    ensures malformed { (number : ℕ) (kind : BadKind) → result ≡ Err (FormFault.Malformed number kind) → ComesFault only text.now here.at here.number number kind }
-    ensures ends { IfOk result (λ o. o ≡ None → IsEnd (plainly only) text.now here.at) }
+    ensures opens { IfOk result (λ o. IfSome o (λ x. IsFirstOpening ways text.now here.at here.number x.0.header)) }
+    ensures malformed { (number : ℕ) (kind : BadKind) → result ≡ Err (FormFault.Malformed number kind) → ComesFault ways text.now here.at here.number number kind }
+    ensures ends { IfOk result (λ o. o ≡ None → IsEnd ways text.now here.at) }
     ensures progress { IfOk result (λ o. IfSome o (λ x. IsProgress text.now x.1)) }
     ensures behind { IfOk result (λ o. IfSome o (λ x. (here.at < x.1.at) × (x.1.at ≡ x.0.span.end) × (x.1.hunks ≡ here.hunks + row_count x.0.change))) }
-    ensures exact { Gives (option_map (λ x. (patch_of text.now x.0, ahead_of text.now x.1))) result (next_patch only text.now here.at here.number) }
+    ensures exact { Gives (option_map (λ x. (patch_of text.now x.0, ahead_of text.now x.1))) result (next_patch ways text.now here.at here.number) }
 {
     if here.at == text.len() {
         return Ok(None);
     }
-    let ways = Ways {
-        only,
-        git: false,
-        skip_binary: false,
-    };
     let (step, dotless) = header_from(text, here.at, here.number, ways, here.dotless);
     match step {
         HeaderStep::Found(header) => {
@@ -115,14 +110,14 @@ fn next_patch(
 }
 
 /// All file patches, by reading on.
-fn read_all(alloc: Global, text: &[u8], only: Option<Form>) -> Result<Vec<FilePatch>, FormFault>
+fn read_all(alloc: Global, text: &[u8], ways: Ways) -> Result<Vec<FilePatch>, FormFault>
     requires { length text.now < 2 ^ 32 }
-    ensures are { IfOk result (λ ps. ArePatches only text.now ps.items) }
+    ensures are { IfOk result (λ ps. ArePatches ways text.now ps.items) }
     ensures lawful { IfOk result (λ ps. All (IsLawfulPatch text.now) ps.items) }
     ensures count { IfOk result (λ ps. length ps.items < 2 ^ 32) }
     ensures hunks { IfOk result (λ ps. sum_by (λ p. row_count p.change) ps.items < 2 ^ 32) }
-    ensures malformed { (line : ℕ) (kind : BadKind) → result ≡ Err (FormFault.Malformed line kind) → IsFaulty only text.now line kind }
-    ensures exact { Gives (λ ps. map (patch_of text.now) ps.items) result (patches_of only text.now) }
+    ensures malformed { (line : ℕ) (kind : BadKind) → result ≡ Err (FormFault.Malformed line kind) → IsFaulty ways text.now line kind }
+    ensures exact { Gives (λ ps. map (patch_of text.now) ps.items) result (patches_of ways text.now) }
 {
     let mut patches = Vec::new(alloc);
     let mut here = Progress {
@@ -131,36 +126,36 @@ fn read_all(alloc: Global, text: &[u8], only: Option<Form>) -> Result<Vec<FilePa
         dotless: false,
         hunks: 0,
     };
-    'patches: while let Some((patch, behind)) = next_patch(alloc, text, only, here)? {
+    'patches: while let Some((patch, behind)) = next_patch(alloc, text, ways, here)? {
         patches.push(patch)?;
         here = behind;
     }
     Ok(patches)
 }
 
-/// The file patches of a text, or the first fault. The text is meant to be completed: each of its lines
-/// has its line feed. Garbage in front of a file patch is in its span, and garbage behind the last is in
-/// none. With `only` a file patch of another form is garbage too. The time is linear in the text.
-pub fn read_patches(
-    alloc: Global,
-    text: &[u8],
-    only: Option<Form>,
-) -> Result<Vec<FilePatch>, FormFault>
+/// The file patches of a text that is read in these ways, or the first fault. The text is meant to be
+/// completed: each of its lines has its line feed. Garbage in front of a file patch is in its span, and
+/// garbage behind the last is in none; a file patch of a form that isn't asked for is garbage too, and so
+/// is a git header where git headers aren't read. A bare git header is a file patch without hunks. The
+/// time is linear in the text.
+pub fn read_patches(alloc: Global, text: &[u8], ways: Ways) -> Result<Vec<FilePatch>, FormFault>
     requires { length text.now < 2 ^ 32 }
     // What is read is what the text has by the grammars of the forms.
-    ensures found { IfOk result (λ ps. HasPatches only text.now (map (patch_of text.now) ps.items)) }
+    ensures found { IfOk result (λ ps. HasPatches ways text.now (map (patch_of text.now) ps.items)) }
     // What a text has so is read, unless memory runs out.
-    ensures only { (ps : List PlainPatch) → HasPatches only text.now ps → Gives (λ xs. map (patch_of text.now) xs.items) result (Ok ps) }
+    ensures only { (ps : List PlainPatch) → HasPatches ways text.now ps → Gives (λ xs. map (patch_of text.now) xs.items) result (Ok ps) }
     // What is malformed comes behind file patches that the text has.
-    ensures malformed { (line : ℕ) (kind : BadKind) → result ≡ Err (FormFault.Malformed line kind) → IsFaulty only text.now line kind }
+    ensures malformed { (line : ℕ) (kind : BadKind) → result ≡ Err (FormFault.Malformed line kind) → IsFaulty ways text.now line kind }
     // The same as a function: the file patches, or the first fault.
-    ensures exact { Gives (λ ps. map (patch_of text.now) ps.items) result (patches_of only text.now) }
-    // Where each lies: it begins where the one before ends, and its verdicts come behind those before.
-    ensures are { IfOk result (λ ps. ArePatches only text.now ps.items) }
+    ensures exact { Gives (λ ps. map (patch_of text.now) ps.items) result (patches_of ways text.now) }
+    // Where each lies is told by the text and the ways alone.
+    ensures regions { IfOk result (λ ps. map region_of ps.items ≡ regions_of ways text.now) }
+    // It begins where the one before ends, and its verdicts come behind those before.
+    ensures are { IfOk result (λ ps. ArePatches ways text.now ps.items) }
     // Each has lawful hunks or edits, and says rightly which of its sides is no file.
     ensures lawful { IfOk result (λ ps. All (IsLawfulPatch text.now) ps.items) }
     ensures count { IfOk result (λ ps. length ps.items < 2 ^ 32) }
     ensures hunks { IfOk result (λ ps. sum_by (λ p. row_count p.change) ps.items < 2 ^ 32) }
 {
-    read_all(alloc, text, only)
+    read_all(alloc, text, ways)
 }

@@ -1,5 +1,5 @@
 -- The names that a file patch can be meant for, by its header lines (POSIX, `patch`, "File Name Determination").
-use Rattle.std.specs.Prelude.{ℕ, List, ◌++◌, codes, ◌&&◌, if◌then◌else◌, bytes_eq, Option, None, Some, is_none, option_and_then}
+use Rattle.std.specs.Prelude.{ℕ, Bool, List, ◌++◌, codes, ◌&&◌, ◌||◌, if◌then◌else◌, bytes_eq, Option, None, Some, is_none, option_and_then}
 use Rattle.std.specs.Option.{option_to_list}
 use Rattle.outside.specs.Names.{broken_rule, normal_form}
 use Rattle.target_names.specs.Stripped.{stripped}
@@ -23,7 +23,10 @@ header_candidate strip text = if bytes_eq text (codes "/dev/null") then None els
 abbrev pub header_names : Option ℕ → Option (List ℕ) → List (List ℕ)
 header_names strip text = option_to_list (option_and_then (header_candidate strip) text)
 
--- those of the old and the new header line, in this order; that of the index line only where neither header line gave a name
-abbrev pub candidates : Option ℕ → Option (List ℕ) → Option (List ℕ) → Option (List ℕ) → List (List ℕ)
-candidates strip old new index = if is_none old && is_none new then index_names strip index
-    else header_names strip old ++ header_names strip new
+-- the name of the index line, which counts with option --posix, and without it where neither header line gave a name
+abbrev pub index_beside : Bool → Option (List ℕ) → Option (List ℕ) → Option (List ℕ) → Option (List ℕ)
+index_beside posix old new index = if posix || (is_none old && is_none new) then index else None
+
+-- those of the old and the new header line and of the index line, in this order
+abbrev pub candidates : Option ℕ → Option (List ℕ) → Option (List ℕ) → Option (List ℕ) → Bool → List (List ℕ)
+candidates strip old new index posix = (header_names strip old ++ header_names strip new) ++ index_names strip (index_beside posix old new index)

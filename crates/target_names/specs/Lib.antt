@@ -1,4 +1,5 @@
 pub mod Candidates
+pub mod Moved
 pub mod Numbered
 pub mod Stripped
 pub mod Targets

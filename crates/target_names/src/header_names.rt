@@ -1,7 +1,7 @@
 //! The names that a file patch can be meant for.
 ghost use Rattle.std.specs.Prelude.{◌≡◌, ◌++◌, IfOk, OnOk, codes, bytes_eq, option_and_then};
 ghost use Rattle.std.specs.Option.{option_copied, option_to_list};
-ghost use Rattle.target_names.specs.Candidates.{lawful_name, candidate, header_candidate, index_names, header_names, candidates};
+ghost use Rattle.target_names.specs.Candidates.{lawful_name, candidate, header_candidate, index_beside, index_names, header_names, candidates};
 
 use crate::strip::stripped;
 use outside::{Name, NameFault};
@@ -9,24 +9,40 @@ use std::alloc::{AllocError, Global};
 
 /// The names by the old and the new header line and the index line, as these are written.
 ///
-/// `strip` is the number of slashes that are stripped with what stands before them.
+/// `strip` is the number of slashes that are stripped with what stands before them; without it the last component is
+/// left. The index line counts with `posix`, and without it where neither header line gave a name.
 pub fn candidates(
     alloc: Global,
     strip: Option<u32>,
     old: Option<&[u8]>,
     new: Option<&[u8]>,
     index: Option<&[u8]>,
+    posix: bool,
 ) -> Result<Vec<Name>, AllocError>
-    ensures { IfOk result (λ names. names.items ≡ candidates strip (option_copied old.entry) (option_copied new.entry) (option_copied index.entry)) }
+    ensures { IfOk result (λ names. names.items ≡ candidates strip (option_copied old.entry) (option_copied new.entry) (option_copied index.entry) posix) }
 {
     let mut names = Vec::new(alloc);
-    if old.is_none() && new.is_none() {
-        add_index(alloc, &mut names, strip, index)?;
-    } else {
-        add_header(alloc, &mut names, strip, old)?;
-        add_header(alloc, &mut names, strip, new)?;
-    }
+    let beside = index_beside(posix, old, new, index);
+    add_header(alloc, &mut names, strip, old)?;
+    add_header(alloc, &mut names, strip, new)?;
+    add_index(alloc, &mut names, strip, beside)?;
     Ok(names)
+}
+
+/// The name of the index line, where it counts.
+fn index_beside<'t>(
+    posix: bool,
+    old: Option<&[u8]>,
+    new: Option<&[u8]>,
+    index: Option<&'t [u8]>,
+) -> Option<&'t [u8]>
+    ensures { option_copied result ≡ index_beside posix (option_copied old.entry) (option_copied new.entry) (option_copied index.entry) }
+{
+    if posix || (old.is_none() && new.is_none()) {
+        index
+    } else {
+        None
+    }
 }
 
 fn add_index(
@@ -79,7 +95,8 @@ fn header_candidate(
     candidate(alloc, strip, text)
 }
 
-fn candidate(alloc: Global, strip: Option<u32>, text: &[u8]) -> Result<Option<Name>, AllocError>
+/// The name that is left of a text once it is stripped, where that is one.
+pub fn candidate(alloc: Global, strip: Option<u32>, text: &[u8]) -> Result<Option<Name>, AllocError>
     ensures { IfOk result (λ found. found ≡ candidate strip text.now) }
 {
     match stripped(strip, text) {

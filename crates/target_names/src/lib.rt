@@ -4,6 +4,7 @@
 mod derived;
 mod header_names;
 mod laws;
+mod moved;
 mod numbering;
 mod strip;
 
@@ -13,5 +14,6 @@ pub use laws::{
     numbers_come_in_order, numbers_tell_names_apart, stripped_fronts_hold_the_slashes,
     targets_tell_names_apart,
 };
+pub use moved::moved_names;
 pub use numbering::Numbers;
 pub use strip::{last_component, shortened};

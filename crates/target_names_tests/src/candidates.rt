@@ -3,10 +3,10 @@
 use outside::Name;
 use std::alloc::{AllocError, Global};
 use std::test::Fail;
-use target_names::candidates;
+use target_names::{candidates, moved_names};
 
 /// How many slashes are stripped, or `-` for all; the old, the new and the index name, with `-` for none and `*` for a byte
-/// that is none of UTF-8; and the candidates.
+/// that is none of UTF-8; `posix`, where that is asked for; and the candidates.
 const ROWS: &str = "0 a//b/c - - = a/b/c
 1 a//b/c - - = b/c
 2 a//b/c - - = c
@@ -34,7 +34,29 @@ const ROWS: &str = "0 a//b/c - - = a/b/c
 1 /dev/null - c/h =
 1 - g c/h =
 1 - - c/h = h
-1 - - - =";
+1 - - - =
+1 a/f b/g c/h posix = f g h
+1 a/f - c/h posix = f h
+1 /dev/null - c/h posix = h
+1 a/f b/g h posix = f g
+1 - - c/h posix = h";
+
+/// How many slashes are stripped from header lines, or `-` for all; the names that a file is renamed from and to, with
+/// `-` for none; and the names that these are.
+const MOVED: &str = "1 x y = x y
+1 a/x b/y = a/x b/y
+0 a/x b/y = a/x b/y
+2 a/x b/y = x y
+3 a/x b/y =
+- a/x b/y = x y
+2 x b/y =
+1 a/x b/x = a/x b/x
+- a/x b/x =
+1 a/x ./a//x =
+1 ../x y =
+1 x /y =
+1 - y =
+1 x - =";
 
 fn field(row: &str, place: usize) -> &str {
     match row.split(' ').nth(place) {
@@ -87,7 +109,26 @@ fn found(alloc: Global, row: &str) -> Result<String, AllocError> {
     let new = bytes_of(alloc, field(row, 2))?;
     let index = bytes_of(alloc, field(row, 3))?;
     let strip = strip_of(field(row, 0));
-    let names = candidates(alloc, strip, lent(&old), lent(&new), lent(&index))?;
+    let names = candidates(
+        alloc,
+        strip,
+        lent(&old),
+        lent(&new),
+        lent(&index),
+        field(row, 4) == "posix",
+    )?;
+    joined(alloc, &names)
+}
+
+fn moved(alloc: Global, row: &str) -> Result<String, AllocError> {
+    let source = bytes_of(alloc, field(row, 1))?;
+    let destination = bytes_of(alloc, field(row, 2))?;
+    let names = moved_names(
+        alloc,
+        strip_of(field(row, 0)),
+        lent(&source),
+        lent(&destination),
+    )?;
     joined(alloc, &names)
 }
 
@@ -96,6 +137,15 @@ fn names_of_headers_are_taken(rt: HostRuntime) -> Result<(), Fail> {
     for row in ROWS.split('\n') {
         let (header, want) = row.split_once(" =").ok_or("a row")?;
         assert_eq!(rt; found(rt.alloc(), header)?.as_str(), want, "{row}");
+    }
+    Ok(())
+}
+
+#[test]
+fn names_of_renames_are_taken(rt: HostRuntime) -> Result<(), Fail> {
+    for row in MOVED.split('\n') {
+        let (names, want) = row.split_once(" =").ok_or("a row")?;
+        assert_eq!(rt; moved(rt.alloc(), names)?.as_str(), want, "{row}");
     }
     Ok(())
 }

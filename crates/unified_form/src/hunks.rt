@@ -14,7 +14,7 @@ ghost use Rattle.unified_form.specs.FirstFault.{AgreeTo, CanGoOn};
 ghost use Rattle.hunk_core.specs.Turned.{IsLawful};
 ghost use Rattle.hunk_core.specs.Rules.{first_broken};
 ghost use Rattle.unified_form.specs.Grammar.{counts_of, IsPiece, SpellsHunk};
-ghost use Rattle.hunk_core.specs.Pieces.{read_of, these, AreInTurn, SpellInTurn, AreSound};
+ghost use Rattle.hunk_core.specs.Pieces.{read_of, these, AreInTurn, AreWhole, SpellInTurn, AreSound};
 ghost use Rattle.unified_form.specs.Hunks.{hunk_at, begins_hunk, reading};
 
 use crate::body::{Left, read_body};
@@ -89,6 +89,7 @@ fn read_hunk(
 ) -> Result<(Hunk, Place), FormFault>
     requires { IsPlace text.now place }
     ensures place { IfOk result (λ x. IsPlace text.now x.1 × (place.at < x.1.at)) }
+    ensures whole { IfOk result (λ x. lines (drop place.at text.now) ≡ lines (slice_range text.now place.at x.1.at) ++ lines (drop x.1.at text.now)) }
     ensures piece { IfOk result (λ x. SpellsHunk least (lines (slice_range text.now place.at x.1.at)) (hunk_of text.now x.0)) }
     ensures few { IfOk result (λ x. place.at + vec_len x.0.body ≤ x.1.at) }
     ensures lawful { IfOk result (λ x. IsLawful text.now x.0) }
@@ -105,6 +106,7 @@ fn read_all(alloc: Global, text: &[u8], at: usize, line: u64) -> Result<Hunks, F
     requires small { line < 2 ^ 32 }
     ensures within { IfOk result (λ h. h.end ≤ length text.now) }
     ensures turn { IfOk result (λ h. AreInTurn at h.spans.items h.end) }
+    ensures whole { IfOk result (λ h. AreWhole text.now h.spans.items) }
     ensures pieces { IfOk result (λ h. SpellInTurn SpellsHunk text.now 0 h.spans.items (hunks_of text.now h.items.items)) }
     ensures sound { IfOk result (λ h. AreSound text.now h) }
     ensures exact { Gives (read_of text.now) result
@@ -141,6 +143,7 @@ pub fn read_hunks(alloc: Global, text: &[u8], at: usize, line: u64) -> Result<Hu
     ensures within { IfOk result (λ h. h.end ≤ length text.now) }
     // The spans are the pieces of the hunks, one behind the other from `at` up to the end.
     ensures turn { IfOk result (λ h. AreInTurn at h.spans.items h.end) }
+    ensures whole { IfOk result (λ h. AreWhole text.now h.spans.items) }
     ensures pieces { IfOk result (λ h. SpellInTurn SpellsHunk text.now 0 h.spans.items (hunks_of text.now h.items.items)) }
     // Each hunk is lawful over the text, and breaks none of the rules of `Hunk::check`.
     ensures sound { IfOk result (λ h. AreSound text.now h) }

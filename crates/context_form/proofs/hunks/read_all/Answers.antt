@@ -29,7 +29,7 @@ hunks-preserved c =
     let e : hunks_of c.args.text.now c.push-in-hunks.new.self.items ≡ hunks_of c.args.text.now c.hunks.items.items ++ hunk_of c.args.text.now c.in_ok-hunk.hunk ∷ [] = rw c.in_ok-push-2.ensures.items (map_push _ c.hunks.items.items c.in_ok-hunk.hunk) in
     record {
       place = c.in_ok-hunk.ensures.place.0;
-      spans = rw (e, c.in_ok-push.ensures.items, c.from-least.ensures) (spans_go_on SpellsPiece c.args.text.now c.args.at c.hunks.spans.items (hunks_of c.args.text.now c.hunks.items.items) c.hunks.place.at c.in_ok-hunk.next.at c.hunks.least (hunk_of c.args.text.now c.in_ok-hunk.hunk) c.hunks.invariant.spans c.in_ok-hunk.ensures.place.1 c.in_ok-hunk.ensures.piece);
+      spans = rw (e, c.in_ok-push.ensures.items, c.from-least.ensures) (spans_go_on SpellsPiece c.args.text.now c.args.at c.hunks.spans.items (hunks_of c.args.text.now c.hunks.items.items) c.hunks.place.at c.in_ok-hunk.next.at c.hunks.least (hunk_of c.args.text.now c.in_ok-hunk.hunk) c.hunks.invariant.spans c.in_ok-hunk.ensures.place.1 c.in_ok-hunk.ensures.whole c.in_ok-hunk.ensures.piece);
       count = rw c.in_ok-push-2.ensures.items (simp length-append (omega (arith, c.in_ok-hunk.ensures.place.1, c.hunks.invariant.count)));
       few = rw (c.in_ok-push-2.ensures.items, sum_by-append (λ (x : Hunk). length x.body.items)) (omega (arith, c.in_ok-hunk.ensures.few, c.hunks.invariant.few));
       lawful = rw c.in_ok-push-2.ensures.items (All-push (IsLawful c.args.text.now) c.hunks.items.items c.in_ok-hunk.hunk c.hunks.invariant.lawful c.in_ok-hunk.ensures.lawful);

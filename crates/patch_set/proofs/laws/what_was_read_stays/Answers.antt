@@ -3,7 +3,9 @@ use Rattle.patch_set.proofs.laws.what_was_read_stays.Goals as goal
 pub returns-clause-rows : goal.returns-clause-rows
 returns-clause-rows c = λ o given v patch row is. record {
   text = is.text;
+  ways = is.ways;
   patches = is.patches;
+  regions = is.regions;
   spans = is.spans;
   names = record {
     targets = is.names.targets;
@@ -17,7 +19,9 @@ returns-clause-rows c = λ o given v patch row is. record {
 pub returns-clause-verdicts : goal.returns-clause-verdicts
 returns-clause-verdicts c = λ o given v verdicts is. record {
   text = is.text;
+  ways = is.ways;
   patches = is.patches;
+  regions = is.regions;
   spans = is.spans;
   names = record {
     targets = is.names.targets;

@@ -3,6 +3,8 @@ use Rattle.std.proofs.lemmas.Bool.{le-ltb}
 use Rattle.file_patch.specs.PlainPatch.{patch_of}
 use Rattle.patch_options.specs.PlainJob.{plain_options}
 use Rattle.patch_text.specs.Patches.{patches_of}
+use Rattle.patch_text.specs.Regions.{region_of, regions_of}
+use Rattle.patch_set.specs.Asked.{ways_of}
 use Rattle.patch_set.specs.SetView.{Meets}
 use Rattle.patch_set.specs.Spans.{ArePlaced}
 use Rattle.patch_set.proofs.InTurn.{are-placed}
@@ -17,11 +19,18 @@ returns-clause-refused c =
     let text = c.in_ok-text.text.items in
     let o = plain_options c.args.options.now in
     let ps = map (patch_of text) c.in_ok-patches.patches.items in
-    let read : patches_of o.only text ≡ Ok ps =
-    subst (λ t. patches_of o.only t ≡ Ok (map (patch_of t) c.in_ok-patches.patches.items)) c.deref.ensures.value c.in_ok-patches.ensures.exact in
+    let read : patches_of (ways_of o) text ≡ Ok ps =
+    subst (λ w. patches_of w text ≡ Ok ps) c.ways_of.ensures
+    (subst (λ t. patches_of c.ways_of.result t ≡ Ok (map (patch_of t) c.in_ok-patches.patches.items)) c.deref.ensures.value c.in_ok-patches.ensures.exact) in
     subst (λ r. Meets r c.set_of.result)
     (read-refusal o c.args.text.items text ps (le-ltb 268435456 (length c.args.text.items) (omega arith)) c.in_ok-text.ensures read) c.set_of.ensures.refused
 
 pub set_of-requires-clause-spans : goal.set_of-requires-clause-spans
 set_of-requires-clause-spans c =
     subst (λ t. ArePlaced t 0 0 c.in_ok-patches.patches.items) c.deref.ensures.value (are-placed _ _ _ c.in_ok-patches.ensures.are)
+
+pub set_of-requires-clause-regions : goal.set_of-requires-clause-regions
+set_of-requires-clause-regions c =
+    let ps = c.in_ok-patches.patches.items in
+    subst (λ w. map region_of ps ≡ regions_of w c.in_ok-text.text.items) c.ways_of.ensures
+    (subst (λ t. map region_of ps ≡ regions_of c.ways_of.result t) c.deref.ensures.value c.in_ok-patches.ensures.regions)

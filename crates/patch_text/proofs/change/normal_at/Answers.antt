@@ -1,6 +1,7 @@
 use Rattle.hunk_core.specs.declared.Form.TheVariants.{Normal}
 use Rattle.normal_form.specs.Hunks.{begins_hunk}
-use Rattle.patch_text.proofs.ChangeLemmas.{hunks-change, not-end}
+use Rattle.patch_text.proofs.ChangeLemmas.{not-end}
+use Rattle.patch_text.proofs.EndsLemmas.{hunks-are}
 use Rattle.patch_text.proofs.change.normal_at.Goals as goal
 
 pub returns-clause-is : goal.returns-clause-is
@@ -9,4 +10,4 @@ returns-clause-is c =
     let h = c.in_ok-hunks.hunks in
     let given = c.in_ok-hunks.ensures in
     let found = given.found in
-    rw c.of_hunks.ensures (hunks-change text Normal c.args.at c.args.line h found.own given.sound given.turn given.pieces given.within found.parts found.counted found (not-end text begins_hunk c.args.at h.end c.requires.opens found.ends.0))
+    rw c.of_hunks.ensures (hunks-are text Normal c.args.at c.args.line h found.own given.sound given.turn given.whole given.pieces given.within found.parts found.counted found (not-end text begins_hunk c.args.at h.end c.requires.opens found.ends.0))

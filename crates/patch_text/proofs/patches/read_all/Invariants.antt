@@ -11,10 +11,10 @@ abbrev pub invariant-patches : goal.invariant-patches
 invariant-patches l = record {
   progress : IsProgress l.text l.here;
   lawful : All (IsLawfulPatch l.text) l.patches.items;
-  turn : LieInTurn l.only l.text 0 1 0 l.patches.items l.here.at l.here.number;
+  turn : LieInTurn l.ways l.text 0 1 0 l.patches.items l.here.at l.here.number;
   rows : rows_of l.patches.items ≡ l.here.hunks;
   count : length l.patches.items ≤ l.here.at;
-  so_far : PatchesSoFar l.only l.text (map (patch_of l.text) l.patches.items) l.here.at l.here.number;
+  so_far : PatchesSoFar l.ways l.text (map (patch_of l.text) l.patches.items) l.here.at l.here.number;
 }
 
 abbrev pub decreases-patches : goal.decreases-patches

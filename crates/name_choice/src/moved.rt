@@ -1,0 +1,88 @@
+//! The choice of a file that is renamed or copied.
+ghost use Rattle.std.specs.Prelude.{◌≡◌, ◌<◌, ◌^◌, true, length, Some, IfOk, OnErr};
+ghost use Rattle.outside.specs.Files.{Files};
+ghost use Rattle.outside.specs.TreeView.{Rises};
+ghost use Rattle.outside.specs.Calls.{IsUntouched};
+ghost use Rattle.name_choice.specs.Choice.{existing_at, existing_if, is_there_at, names_of, source_place, IsWithin, IsFound};
+
+use crate::Choice;
+use crate::search::is_there;
+use hunk_core::Side;
+use outside::{Failed, Tree};
+use patch_header::Action;
+use target_names::Target;
+
+/// Chooses the name that the file has, where the rename or the copy is taken from this side.
+pub fn choose_moved<T: Tree>(
+    targets: &[Target],
+    action: Action,
+    side: Side,
+    tree: &mut T,
+) -> Result<Choice, Failed>
+    requires { length targets.now < 2 ^ 32 }
+    ensures untouched { IsUntouched (T.view tree.old) (T.view tree.new) }
+    ensures cause { OnErr result (Rises (T.view tree.old) (T.view tree.new)) }
+    ensures within { IfOk result (IsWithin (length targets.now)) }
+    ensures chosen { IfOk result (λ chosen. (files : Files) → (T.view tree.old).told ≡ Some files
+        → chosen ≡ existing_at files (names_of targets.now) (source_place action side)) }
+    ensures there { IfOk result (λ chosen. (files : Files) → (T.view tree.new).told ≡ Some files → IsFound targets.now files chosen) }
+{
+    match source_place(action, side) {
+        Some(place) => existing_at(targets, place, tree),
+        None => Ok(Choice::Nothing),
+    }
+}
+
+/// The place of the name that the file has.
+fn source_place(action: Action, side: Side) -> Option<u32>
+    ensures { result ≡ source_place action side }
+{
+    match action {
+        Action::Plain | Action::New | Action::Deleted => None,
+        Action::Rename => match side {
+            Side::Forward => Some(0),
+            Side::Reversed => Some(1),
+        },
+        Action::Copy => match side {
+            Side::Forward => Some(0),
+            Side::Reversed => None,
+        },
+    }
+}
+
+/// The name at a place, if that is in the tree.
+fn existing_at<T: Tree>(targets: &[Target], place: u32, tree: &mut T) -> Result<Choice, Failed>
+    requires { length targets.now < 2 ^ 32 }
+    ensures untouched { IsUntouched (T.view tree.old) (T.view tree.new) }
+    ensures cause { OnErr result (Rises (T.view tree.old) (T.view tree.new)) }
+    ensures within { IfOk result (IsWithin (length targets.now)) }
+    ensures chosen { IfOk result (λ chosen. (files : Files) → (T.view tree.old).told ≡ Some files
+        → chosen ≡ existing_at files (names_of targets.now) (Some place)) }
+    ensures there { IfOk result (λ chosen. (files : Files) → (T.view tree.new).told ≡ Some files → IsFound targets.now files chosen) }
+{
+    let there = is_there_at(targets, place, tree)?;
+    Ok(existing_if(there, place))
+}
+
+/// Whether the name at a place is in the tree.
+fn is_there_at<T: Tree>(targets: &[Target], place: u32, tree: &mut T) -> Result<bool, Failed>
+    ensures untouched { IsUntouched (T.view tree.old) (T.view tree.new) }
+    ensures cause { OnErr result (Rises (T.view tree.old) (T.view tree.new)) }
+    ensures within { IfOk result (λ yes. yes ≡ true → place < length targets.now) }
+    ensures there { IfOk result (λ yes. (files : Files) → (T.view tree.old).told ≡ Some files → yes ≡ is_there_at files (names_of targets.now) place) }
+{
+    match targets.get(place as usize) {
+        Some(target) => is_there(&target.name, tree),
+        None => Ok(false),
+    }
+}
+
+fn existing_if(there: bool, place: u32) -> Choice
+    ensures { result ≡ existing_if there place }
+{
+    if there {
+        Choice::Existing(place)
+    } else {
+        Choice::Nothing
+    }
+}

@@ -1,0 +1,163 @@
+//! Choices, row by row. A row is a text of labelled lines, in which a bar stands for a line's end.
+
+use crate::reading::{field, read};
+use mem_world::MemTree;
+use name_choice::{Choice, choose};
+use outside::Name;
+use patch_set::FilePatch;
+use std::alloc::Global;
+use std::test::Fail;
+
+/// The words, the text of one file patch, the files of the tree, how it is taken, and what is chosen.
+const CHOICES: &str = "
+words patch -p1
+text diff --git a/x b/y|rename from x|rename to y|
+files x y
+how forward
+answer Existing(0)
+
+words patch -p1
+text diff --git a/x b/y|rename from x|rename to y|
+files y
+how forward
+answer Nothing
+
+words patch -p1
+text diff --git a/x b/y|rename from x|rename to y|
+files x y
+how reversed
+answer Existing(1)
+
+words patch -p1
+text diff --git a/x b/y|rename from x|rename to y|
+files x
+how reversed
+answer Nothing
+
+words patch -p1
+text diff --git a/x b/y|copy from x|copy to y|
+files x y
+how forward
+answer Existing(0)
+
+words patch -p1
+text diff --git a/x b/y|copy from x|copy to y|
+files x y
+how reversed
+answer Nothing
+
+words patch -p1
+text diff --git a/x b/x|rename from x|rename to x|
+files x
+how forward
+answer Nothing
+
+words patch -p1
+text diff --git a/e b/e|new file mode 100644|
+files x
+how forward
+answer Create(0)
+
+words patch -p1
+text diff --git a/e b/e|new file mode 100644|
+files x
+how reversed
+answer Nothing
+
+words patch -p1
+text diff --git a/e b/e|deleted file mode 100644|
+files x
+how reversed
+answer Create(0)
+
+words patch -p0
+text --- long/f|+++ f|@@ -1 +1 @@|-a|+b|
+files long/f f
+how forward
+answer Existing(1)
+
+words patch -p0
+text --- long/f|+++ f|@@ -1 +1 @@|-a|+b|
+files long/f f
+how forward posix
+answer Existing(0)
+
+words patch -p0
+text --- long/f|+++ f|@@ -1 +1 @@|-a|+b|
+files f
+how forward posix
+answer Existing(1)
+
+words patch -p0
+text --- /dev/null|+++ n|@@ -0,0 +1 @@|+x|
+files x
+how forward
+answer Create(0)
+
+words patch -p0
+text --- /dev/null|+++ n|@@ -0,0 +1 @@|+x|
+files x
+how forward posix
+answer Nothing
+
+words patch n
+text --- f|+++ f|@@ -1 +1 @@|-a|+b|
+files f
+how forward posix operand
+answer Create(0)
+";
+
+fn tree_of(alloc: Global, files: &str) -> Result<MemTree, Fail> {
+    let mut tree = MemTree::new(alloc, Vec::new(alloc));
+    for file in files.split(' ') {
+        let Ok(name) = Name::new(alloc, file.as_bytes()) else {
+            return Err("a name".into());
+        };
+        tree.add(name, Vec::new(alloc))?;
+    }
+    Ok(tree)
+}
+
+fn has_word(words: &str, wanted: &str) -> bool {
+    words.split(' ').any(|word| word == wanted)
+}
+
+/// What is chosen of a file patch.
+fn chosen(alloc: Global, row: &str, patch: &FilePatch) -> Result<Choice, Fail> {
+    let mut tree = tree_of(alloc, field(row, "files "))?;
+    let how = field(row, "how ");
+    let (operand, reverse, posix) = (
+        has_word(how, "operand"),
+        has_word(how, "reversed"),
+        has_word(how, "posix"),
+    );
+    if patch.targets.len() > 3 {
+        return Err("many targets".into());
+    }
+    match choose(patch, operand, reverse, posix, &mut tree) {
+        Ok(choice) => Ok(choice),
+        Err(_) => Err("a choice".into()),
+    }
+}
+
+/// Whether the choice of a row is as it says.
+fn is_chosen(alloc: Global, row: &str) -> Result<bool, Fail> {
+    let Ok(set) = read(alloc, row)? else {
+        return Ok(false);
+    };
+    match set.patches() {
+        [patch] => {
+            let choice = chosen(alloc, row, patch)?;
+            Ok(format!(in alloc; "{choice:?}")?.as_str() == field(row, "answer "))
+        }
+        _ => Ok(false),
+    }
+}
+
+#[test]
+fn names_are_chosen(rt: HostRuntime) -> Result<(), Fail> {
+    for row in CHOICES.trim().split("\n\n") {
+        assert!(rt; is_chosen(rt.alloc(), row)?, "{row}");
+    }
+    Ok(())
+}
