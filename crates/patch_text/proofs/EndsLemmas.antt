@@ -1,5 +1,5 @@
 -- The pieces of hunks end in front of the lines that begin a piece.
-use Rattle.std.proofs.Common.{◌≡◌, ◌≢◌, ℕ, ◌+◌, ◌<◌, ◌≤◌, Bool, true, false, cond, eqb, ◌&&◌, List, [], ◌∷◌, ◌++◌, length, drop, map, slice_range, Option, None, Some, refl, sym, ap, subst, ◌∙◌, append_assoc, arith, inl, inr, length-drop}
+use Rattle.std.proofs.Common.{◌≡◌, ◌≢◌, ℕ, ◌+◌, ◌<◌, ◌≤◌, Bool, true, false, cond, eqb, ◌&&◌, List, [], ◌∷◌, ◌++◌, length, drop, map, slice_range, Option, None, Some, refl, sym, ap, ◌∙◌, append_assoc, arith, inl, inr, length-drop}
 use Rattle.std.specs.Prelude.{is_some, sum_by}
 use Rattle.std.specs.List.{AllByRecursion}
 use Rattle.std.proofs.lemmas.Bool.{eqb-true}
@@ -26,7 +26,6 @@ use Rattle.context_form.specs.Openings.{is_stars}
 use Rattle.context_form.specs.Grammar as context
 use Rattle.context_form.specs.Merging.{part_of}
 use Rattle.context_form.specs.Ranges.{before_range, behind_range}
-use Rattle.context_form.proofs.Pieces as context_pieces
 use Rattle.num_text.specs.NumberRanges.{range_at}
 use Rattle.normal_form.specs.Commands.{is_command, parts_at}
 use Rattle.normal_form.specs.Stretches.{marks, ends_divider, is_divider}
