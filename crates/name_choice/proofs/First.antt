@@ -22,10 +22,10 @@ sought-start v names = record { untouched = untouched_none v; none = λ files to
 
 pub sought-more : (u v w : TreeView) (names : List (List ℕ)) (i : ℕ) (there : Bool) (name : List ℕ) → IsSought u v names i → IsUntouched v w
     → ((files : Files) → v.told ≡ Some files → there ≡ is_there files name) → there ≡ false → name ≡ name_at names i → IsSought u w names (i + 1)
-sought-more u v w names i there name s call is no at = record {
+sought-more u v w names i there name s call is absent at = record {
   untouched = untouched_both s.untouched call;
   none = λ files told j lt. ⊎_elim
-      (λ same. ap (λ k. is_there files (name_at names k)) same ∙ ap (is_there files) (sym at) ∙ sym (is files (s.untouched.told ∙ told)) ∙ no)
+      (λ same. ap (λ k. is_there files (name_at names k)) same ∙ ap (is_there files) (sym at) ∙ sym (is files (s.untouched.told ∙ told)) ∙ absent)
       (λ less. s.none files told j less)
       (last-or-before j i lt);
 }
@@ -34,8 +34,8 @@ sought-more u v w names i there name s call is no at = record {
 pub first-here : (u v : TreeView) (names : List (List ℕ)) (i : ℕ) (there : Bool) (name : List ℕ) → IsSought u v names i
     → ((files : Files) → v.told ≡ Some files → there ≡ is_there files name) → there ≡ true → name ≡ name_at names i → i < length names
     → (files : Files) → u.told ≡ Some files → Some i ≡ position (is_there files) names
-first-here u v names i there name s is yes at lt files told =
-    let here : is_there files (name_at names i) ≡ true = ap (is_there files) (sym at) ∙ sym (is files (s.untouched.told ∙ told)) ∙ yes in
+first-here u v names i there name s is present at lt files told =
+    let here : is_there files (name_at names i) ≡ true = ap (is_there files) (sym at) ∙ sym (is files (s.untouched.told ∙ told)) ∙ present in
     let place : position_or_len (is_there files) names ≡ i = position_or_len_is (is_there files) names i [] (omega (arith, lt)) (λ j less. s.none files told j less) (λ within. here) in
     sym (rw place (rw (lt-ltb i (length names) lt) refl))
 

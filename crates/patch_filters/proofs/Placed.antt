@@ -1,5 +1,5 @@
 -- One file patch of a set, and the pieces of its hunks.
-use Rattle.std.proofs.Common.{◌≡◌, ℕ, zero, suc, ◌+◌, ◌<◌, ◌≤◌, Bool, false, List, [], ◌∷◌, length, get_or, Some, refl, sym, subst, ◌∙◌, arith}
+use Rattle.std.proofs.Common.{◌≡◌, ℕ, zero, suc, ◌+◌, ◌<◌, ◌≤◌, Bool, true, false, List, [], ◌∷◌, length, get_or, Some, refl, sym, ap, subst, ◌∙◌, arith}
 use Rattle.std.specs.Prelude.{slice_get}
 use Rattle.std.specs.List.{zip}
 use Rattle.std.proofs.lemmas.List.{length-map}
@@ -17,7 +17,7 @@ by-itself : (text : List ℕ) (start before : ℕ) (p : FilePatch) → IsPlaced 
 by-itself text start before p at = record {
   begins = refl;
   region = omega (arith, at.begins, at.region);
-  turn = at.turn;
+  cut = at.cut;
   each = at.each;
   pieces = at.pieces;
   some = at.some;
@@ -30,6 +30,14 @@ pub placed-at : (text : List ℕ) (start before : ℕ) (ps : List FilePatch) (i 
 placed-at text start before [] i p at is = absurd cc
 placed-at text start before (q ∷ ps) zero p at is = subst (λ x. IsPlaced text x.span.start x.first_verdict x) (same_Some q p is) (by-itself text start before q at.0)
 placed-at text start before (q ∷ ps) (suc i) p at is = placed-at text q.span.end (before + row_count q.change) ps i p at.1 is
+
+-- one that has a hunk is no bare git header, so its pieces make up what it opens
+pub turn-with : (text : List ℕ) (start before : ℕ) (p : FilePatch) (hunk : ℕ) → IsPlaced text start before p → hunk < row_count p.change → AreInTurn p.header.at p.hunk_spans.items p.span.end
+turn-with text start before p hunk at lt = by p.header.bare refl
+  where
+    by : (b : Bool) → p.header.bare ≡ b → AreInTurn p.header.at p.hunk_spans.items p.span.end
+    by false is = at.cut.turn is
+    by true is = absurd (omega (arith, lt, at.each, ap length (at.cut.none is)))
 
 pub turn-end : (at : ℕ) (ss : List Span) (end : ℕ) → AreInTurn at ss end → at ≤ end
 turn-end at [] end turn = omega (arith, turn)

@@ -1,6 +1,6 @@
 -- Where nothing is asked for all is written, and where no hunk is kept nothing is.
 use Rattle.std.proofs.Common.{◌≡◌, ℕ, zero, suc, ◌+◌, ◌-◌, ◌<◌, ◌≤◌, Bool, true, false, ◌&&◌, ◌||◌, cond, List, [], ◌∷◌, ◌++◌, length, map, take, drop, get_or, Some, refl, sym, ap, ◌∙◌, arith, length-append, length-drop, length-take}
-use Rattle.std.specs.Prelude.{slice_get, slice_range, option_map}
+use Rattle.std.specs.Prelude.{slice_get, slice_range, option_map, ◌↔◌}
 use Rattle.std.specs.List.{flat_map, list_any, range_with_len, zip}
 use Rattle.std.proofs.Math.Seq.{take-add}
 use Rattle.std.proofs.lemmas.List.{drop-drop, length-map}
@@ -18,9 +18,9 @@ use Rattle.patch_filters.specs.PlainJobs.{PlainFilterJob}
 use Rattle.patch_filters.specs.Selected.{numbered}
 use Rattle.patch_filters.specs.OldLines.{old_of_each}
 use Rattle.patch_filters.specs.Kept.{is_kept, kept, keeps}
-use Rattle.patch_filters.specs.Filtered.{region, pieces, text_if, chosen, written, is_taken_of, written_if_taken}
-use Rattle.patch_filters.specs.Laws.{AsksNothing, WritesAll, WritesNone}
-use Rattle.patch_filters.proofs.Placed.{placed-at, span-in, turn-end}
+use Rattle.patch_filters.specs.Filtered.{region, pieces, text_if, chosen, asks_no_hunk, written, written_bare, written_hunks, is_taken_of, written_if_taken}
+use Rattle.patch_filters.specs.Laws.{AsksNothing, WritesAll, WritesNone, WritesNoBare}
+use Rattle.patch_filters.proofs.Placed.{placed-at, span-in, turn-end, turn-with}
 use Rattle.patch_filters.proofs.Rows.{filtered-is, kept-count, kept-long, zip-at}
 
 -- ---- the text of a file patch is its region and its hunks
@@ -40,9 +40,9 @@ joined-pieces text at (s ∷ ss) end turn =
     ∙ ap (λ a. slice_range text a s.end ++ slice_range text s.end end) turn.0
     ∙ slice-join text at s.end end (omega (arith, turn.1)) (turn-end s.end ss end turn.2)
 
-whole-span : (text : List ℕ) (p : FilePatch) → IsPlaced text p.span.start p.first_verdict p → region text p ++ flat_map (λ t. t) (pieces text p) ≡ bytes_at text p.span
-whole-span text p at =
-    ap (λ t. region text p ++ t) (joined-pieces text p.header.at p.hunk_spans.items p.span.end at.turn)
+whole-span : (text : List ℕ) (p : FilePatch) → IsPlaced text p.span.start p.first_verdict p → p.header.bare ≡ false → region text p ++ flat_map (λ t. t) (pieces text p) ≡ bytes_at text p.span
+whole-span text p at hunks =
+    ap (λ t. region text p ++ t) (joined-pieces text p.header.at p.hunk_spans.items p.span.end (at.cut.turn hunks))
     ∙ slice-join text p.span.start p.header.at p.span.end at.region (omega (arith, at.some))
 
 -- ---- nothing is asked for
@@ -71,18 +71,30 @@ module _ (j : PlainFilterJob) (asks : AsksNothing j) where
   some-spans at [] end turn some = absurd (omega (arith, turn, some))
   some-spans at (s ∷ ss) end turn some = omega arith
 
-  all-written : (text : List ℕ) (p : FilePatch) → IsPlaced text p.span.start p.first_verdict p → written j text p ≡ bytes_at text p.span
-  all-written text p at =
+  hunks-written : (text : List ℕ) (p : FilePatch) → IsPlaced text p.span.start p.first_verdict p → p.header.bare ≡ false → written_hunks j text p ≡ bytes_at text p.span
+  hunks-written text p at is =
       let c = change_of text p.change in
       let rows = numbered (old_of_each c) in
       let flags : kept j c ≡ map (λ (h : ℕ × List ℕ). true) rows = each-kept rows in
       let long : length rows ≡ length (pieces text p) =
       sym (length-map rows (λ (h : ℕ × List ℕ). is_kept j h.0 h.1)) ∙ kept-count j c ∙ rows-counted text p.change ∙ sym at.each ∙ sym (length-map p.hunk_spans.items (bytes_at text)) in
-      let some : 0 < length rows = omega (arith, long, length-map p.hunk_spans.items (bytes_at text), some-spans p.header.at p.hunk_spans.items p.span.end at.turn at.some) in
+      let some : 0 < length rows = omega (arith, long, length-map p.hunk_spans.items (bytes_at text), some-spans p.header.at p.hunk_spans.items p.span.end (at.cut.turn is) at.some) in
       ap (λ (l : List Bool). cond (list_any (λ is. is) l) (region text p ++ chosen l (pieces text p)) []) flags
       ∙ ap (λ b. cond b (region text p ++ chosen (map (λ (h : ℕ × List ℕ). true) rows) (pieces text p)) []) (some-true rows some)
       ∙ ap (λ t. region text p ++ t) (all-chosen rows (pieces text p) long)
-      ∙ whole-span text p at
+      ∙ whole-span text p at is
+
+  bare-written : (text : List ℕ) (p : FilePatch) → written_bare j text p ≡ bytes_at text p.span
+  bare-written text p =
+      let none : asks_no_hunk j ≡ true = rw (asks.hunks, asks.lines) refl in
+      ap (λ b. cond b (bytes_at text p.span) []) none
+
+  all-written : (text : List ℕ) (p : FilePatch) → IsPlaced text p.span.start p.first_verdict p → written j text p ≡ bytes_at text p.span
+  all-written text p at = by p.header.bare refl
+    where
+      by : (b : Bool) → p.header.bare ≡ b → cond b (written_bare j text p) (written_hunks j text p) ≡ bytes_at text p.span
+      by true is = bare-written text p
+      by false is = hunks-written text p at is
 
   all-of-each : (text : List ℕ) (a start before : ℕ) (ps : List FilePatch) → ArePlaced text start before ps
       → flat_map (written_if_taken j text) (zip (range_with_len a (length ps)) ps) ≡ flat_map (λ p. bytes_at text p.span) ps
@@ -126,17 +138,17 @@ module _ (j : PlainFilterJob) (text : List ℕ) (i : ℕ) (p : FilePatch) where
   flags-count : length flags ≡ row_count p.change
   flags-count = kept-long j text p.change
 
-  some-written : IsPlaced text p.span.start p.first_verdict p → (hunk : ℕ) → hunk < row_count p.change → get_or flags hunk false ≡ true → 0 < length (written j text p)
+  some-written : IsPlaced text p.span.start p.first_verdict p → (hunk : ℕ) → hunk < row_count p.change → get_or flags hunk false ≡ true → 0 < length (written_hunks j text p)
   some-written at hunk lt is =
       let spans = p.hunk_spans.items in
       let s = get_or spans hunk p.span in
       let here : slice_get spans hunk ≡ Some s = slice_get-get_or spans hunk p.span (omega (arith, lt, at.each)) in
-      let within = span-in p.header.at spans p.span.end hunk s at.turn here in
+      let within = span-in p.header.at spans p.span.end hunk s (turn-with text p.span.start p.first_verdict p hunk at lt) here in
       let piece : slice_get (pieces text p) hunk ≡ Some (bytes_at text s) = slice_get-map (bytes_at text) spans hunk ∙ ap (option_map (bytes_at text)) here in
       let flag : slice_get flags hunk ≡ Some true = slice_get-get_or flags hunk false (omega (arith, lt, flags-count)) ∙ ap (λ b. Some b) is in
       let row = zip-at flags (pieces text p) hunk true (bytes_at text s) flag piece in
       let any : list_any (λ is. is) flags ≡ true = list_any_at (λ is. is) flags hunk false (omega (arith, lt, flags-count)) is in
-      let whole : length (written j text p) ≡ length (region text p ++ chosen flags (pieces text p)) = ap (λ b. length (cond b (region text p ++ chosen flags (pieces text p)) [])) any in
+      let whole : length (written_hunks j text p) ≡ length (region text p ++ chosen flags (pieces text p)) = ap (λ b. length (cond b (region text p ++ chosen flags (pieces text p)) [])) any in
       omega (
         arith,
         whole,
@@ -145,26 +157,47 @@ module _ (j : PlainFilterJob) (text : List ℕ) (i : ℕ) (p : FilePatch) where
         slice-long text s.start s.end within.0 (omega (arith, within.1, at.high)),
       )
 
-  not-kept : IsPlaced text p.span.start p.first_verdict p → written_if_taken j text (suc i, p) ≡ [] → (hunk : ℕ) → hunk < row_count p.change → keeps j i (patch_of text p) hunk ≡ false
-  not-kept at nothing hunk lt = by (is_taken_of j text (suc i, p)) (get_or flags hunk false) refl refl
+  not-kept : IsPlaced text p.span.start p.first_verdict p → p.header.bare ≡ false → written_if_taken j text (suc i, p) ≡ [] → (hunk : ℕ) → hunk < row_count p.change → keeps j i (patch_of text p) hunk ≡ false
+  not-kept at hunks nothing hunk lt = by (is_taken_of j text (suc i, p)) (get_or flags hunk false) refl refl
     where
       by : (b k : Bool) → is_taken_of j text (suc i, p) ≡ b → get_or flags hunk false ≡ k → (b && k) ≡ false
       by true true taken is =
-          let whole : written j text p ≡ [] = ap (λ b. cond b (written j text p) []) (sym taken) ∙ nothing in
+          let whole : written_hunks j text p ≡ [] = ap (λ b. cond b (written_bare j text p) (written_hunks j text p)) (sym hunks) ∙ ap (λ b. cond b (written j text p) []) (sym taken) ∙ nothing in
           absurd (omega (arith, some-written at hunk lt is, ap length whole))
       by true false taken is = refl
       by false k taken is = refl
 
-  none-written : ((hunk : ℕ) → hunk < row_count p.change → keeps j i (patch_of text p) hunk ≡ false) → written_if_taken j text (suc i, p) ≡ []
-  none-written none = by (is_taken_of j text (suc i, p)) refl
+  none-written : p.header.bare ≡ false → ((hunk : ℕ) → hunk < row_count p.change → keeps j i (patch_of text p) hunk ≡ false) → written_if_taken j text (suc i, p) ≡ []
+  none-written hunks none = by (is_taken_of j text (suc i, p)) refl
     where
       by : (b : Bool) → is_taken_of j text (suc i, p) ≡ b → cond b (written j text p) [] ≡ []
       by false taken = refl
       by true taken =
           let each : (hunk : ℕ) → hunk < length flags → get_or flags hunk false ≡ false = λ hunk lt. ap (λ b. b && get_or flags hunk false) (sym taken) ∙ none hunk (omega (arith, lt, flags-count)) in
-          ap (λ b. cond b (region text p ++ chosen flags (pieces text p)) []) (none-true flags each)
+          ap (λ b. cond b (written_bare j text p) (written_hunks j text p)) hunks ∙ ap (λ b. cond b (region text p ++ chosen flags (pieces text p)) []) (none-true flags each)
+
+  -- ---- a bare git header
+
+  by-tests : IsPlaced text p.span.start p.first_verdict p → p.header.bare ≡ true
+      → (written_if_taken j text (suc i, p) ≡ []) ↔ ((is_taken_of j text (suc i, p) && asks_no_hunk j) ≡ false)
+  by-tests at bare = by (is_taken_of j text (suc i, p)) (asks_no_hunk j) refl
+    where
+      some : 0 < length (bytes_at text p.span)
+      some = slice-long text p.span.start p.span.end (omega (arith, at.region, at.some)) at.high
+      by : (b n : Bool) → asks_no_hunk j ≡ n → (cond b (written j text p) [] ≡ []) ↔ ((b && n) ≡ false)
+      by false n is = (λ nothing. refl, λ no. refl)
+      by true true is = (
+        λ nothing.
+          let whole : bytes_at text p.span ≡ [] = ap (λ b. cond b (bytes_at text p.span) []) (sym is) ∙ ap (λ b. cond b (written_bare j text p) (written_hunks j text p)) (sym bare) ∙ nothing in
+          absurd (omega (arith, some, ap length whole)),
+        λ no. absurd cc,
+      )
+      by true false is = (λ nothing. refl, λ no. ap (λ b. cond b (written_bare j text p) (written_hunks j text p)) bare ∙ ap (λ b. cond b (bytes_at text p.span) []) is)
 
 pub writes-none : WritesNone
-writes-none j v patch p whole is =
+writes-none j v patch p whole is hunks =
     let at = placed-at v.text 0 0 v.patches patch p whole.placed is in
-    (not-kept j v.text patch p at, none-written j v.text patch p)
+    (not-kept j v.text patch p at hunks, none-written j v.text patch p hunks)
+
+pub writes-no-bare : WritesNoBare
+writes-no-bare j v patch p whole is bare = by-tests j v.text patch p (placed-at v.text 0 0 v.patches patch p whole.placed is) bare

@@ -1,5 +1,5 @@
 -- What is written of a text where file patches and hunks are left out.
-use Rattle.std.specs.Prelude.{ℕ, Bool, filter, List, [], ◌++◌, map, slice_range, if◌then◌else◌}
+use Rattle.std.specs.Prelude.{ℕ, Bool, ◌&&◌, filter, List, [], ◌++◌, map, slice_range, is_none, if◌then◌else◌}
 use Rattle.std.specs.List.{flat_map, list_any, zip}
 use Rattle.hunk_core.specs.PlainHunk.{bytes_at}
 use Rattle.file_patch.specs.declared.FilePatch.{FilePatch}
@@ -26,8 +26,19 @@ abbrev pub chosen : List Bool → List (List ℕ) → List ℕ
 chosen flags texts = flat_map text_if (zip flags texts)
 
 -- the region and the kept hunks, or nothing where none is kept
+abbrev pub written_hunks : PlainFilterJob → List ℕ → FilePatch → List ℕ
+written_hunks j text p = if list_any (λ is. is) (kept j (change_of text p.change)) then region text p ++ chosen (kept j (change_of text p.change)) (pieces text p) else []
+
+-- no hunks are asked for, neither by their numbers nor by their lines
+abbrev pub asks_no_hunk : PlainFilterJob → Bool
+asks_no_hunk j = is_none j.hunks && is_none j.lines
+
+-- of a bare git header its span, which is its region and its lines, where no hunks are asked for
+abbrev pub written_bare : PlainFilterJob → List ℕ → FilePatch → List ℕ
+written_bare j text p = if asks_no_hunk j then bytes_at text p.span else []
+
 abbrev pub written : PlainFilterJob → List ℕ → FilePatch → List ℕ
-written j text p = if list_any (λ is. is) (kept j (change_of text p.change)) then region text p ++ chosen (kept j (change_of text p.change)) (pieces text p) else []
+written j text p = if p.header.bare then written_bare j text p else written_hunks j text p
 
 -- the file patch is meant
 abbrev pub is_taken_of : PlainFilterJob → List ℕ → ℕ × FilePatch → Bool

@@ -1,5 +1,5 @@
 -- What is written, in words of its own.
-use Rattle.std.specs.Prelude.{◌≡◌, ℕ, suc, ◌<◌, ◌↔◌, false, [], None, Some}
+use Rattle.std.specs.Prelude.{◌≡◌, ℕ, suc, ◌<◌, ◌&&◌, ◌↔◌, true, false, [], None, Some}
 use Rattle.std.specs.List.{flat_map}
 use Rattle.hunk_core.specs.PlainHunk.{bytes_at}
 use Rattle.file_patch.specs.declared.FilePatch.{FilePatch}
@@ -7,7 +7,7 @@ use Rattle.file_patch.specs.PlainPatch.{patch_of, row_count}
 use Rattle.patch_set.specs.SetView.{SetView, IsWhole, patch_at}
 use Rattle.patch_filters.specs.PlainJobs.{PlainFilterJob}
 use Rattle.patch_filters.specs.Kept.{keeps}
-use Rattle.patch_filters.specs.Filtered.{filtered, written_if_taken}
+use Rattle.patch_filters.specs.Filtered.{filtered, asks_no_hunk, is_taken_of, written_if_taken}
 
 -- nothing is asked for: no name is excluded, none has to be included, and each number is meant
 pub record AsksNothing (j : PlainFilterJob) : Type 0 where
@@ -21,7 +21,12 @@ pub record AsksNothing (j : PlainFilterJob) : Type 0 where
 abbrev pub WritesAll : Type 0
 WritesAll = (j : PlainFilterJob) (v : SetView) → IsWhole v → AsksNothing j → filtered j v ≡ flat_map (λ p. bytes_at v.text p.span) v.patches
 
--- nothing is written of a file patch exactly where none of its hunks is kept
+-- nothing is written of a file patch with hunks exactly where none of them is kept
 abbrev pub WritesNone : Type 0
-WritesNone = (j : PlainFilterJob) (v : SetView) (patch : ℕ) (p : FilePatch) → IsWhole v → patch_at v patch ≡ Some p
+WritesNone = (j : PlainFilterJob) (v : SetView) (patch : ℕ) (p : FilePatch) → IsWhole v → patch_at v patch ≡ Some p → p.header.bare ≡ false
     → (written_if_taken j v.text (suc patch, p) ≡ []) ↔ ((hunk : ℕ) → hunk < row_count p.change → keeps j patch (patch_of v.text p) hunk ≡ false)
+
+-- nothing is written of a bare git header exactly where it isn't meant, or hunks are asked for
+abbrev pub WritesNoBare : Type 0
+WritesNoBare = (j : PlainFilterJob) (v : SetView) (patch : ℕ) (p : FilePatch) → IsWhole v → patch_at v patch ≡ Some p → p.header.bare ≡ true
+    → (written_if_taken j v.text (suc patch, p) ≡ []) ↔ ((is_taken_of j v.text (suc patch, p) && asks_no_hunk j) ≡ false)

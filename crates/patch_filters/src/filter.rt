@@ -11,11 +11,11 @@ ghost use Rattle.patch_set.specs.Spans.{IsPlaced};
 ghost use Rattle.patch_filters.specs.PlainJobs.{plain_filter_job};
 ghost use Rattle.patch_filters.specs.OldLines.{IsCounted};
 ghost use Rattle.patch_filters.specs.Kept.{is_taken, kept, keeps};
-ghost use Rattle.patch_filters.specs.Filtered.{chosen, filtered, pieces, region, text_if, written, written_if_taken};
+ghost use Rattle.patch_filters.specs.Filtered.{asks_no_hunk, chosen, filtered, pieces, region, text_if, written, written_bare, written_hunks, written_if_taken};
 
 use crate::hunks::is_kept;
 use crate::numbers::{is_meant, is_selected};
-use crate::pieces::{put_hunk, put_region};
+use crate::pieces::{bytes_at, put_hunk, put_piece, put_region};
 use crate::set::patch_at;
 use file_patch::FilePatch;
 use outside::{Failed, Sink};
@@ -103,6 +103,43 @@ fn put_parts<O: Sink>(
     put_chosen(text, job, patch, out)
 }
 
+fn put_hunks<O: Sink>(
+    text: &[u8],
+    job: &FilterJob,
+    patch: &FilePatch,
+    out: &mut O,
+) -> Result<(), Failed>
+    requires lawful { IsLawfulChange text.now patch.now.change }
+    requires placed { IsPlaced text.now patch.now.span.start patch.now.first_verdict patch.now }
+    ensures { Puts O.view O.same_rest out.old out.new result (written_hunks (plain_filter_job job.now) text.now patch.now) }
+{
+    if !has_kept(job, patch) {
+        return Ok(());
+    }
+    put_parts(text, job, patch, out)
+}
+
+fn asks_no_hunk(job: &FilterJob) -> bool
+    ensures { result ≡ asks_no_hunk (plain_filter_job job.now) }
+{
+    job.hunks.is_none() && job.lines.is_none()
+}
+
+fn put_bare<O: Sink>(
+    text: &[u8],
+    job: &FilterJob,
+    patch: &FilePatch,
+    out: &mut O,
+) -> Result<(), Failed>
+    requires { IsPlaced text.now patch.now.span.start patch.now.first_verdict patch.now }
+    ensures { Puts O.view O.same_rest out.old out.new result (written_bare (plain_filter_job job.now) text.now patch.now) }
+{
+    if !asks_no_hunk(job) {
+        return Ok(());
+    }
+    put_piece(out, bytes_at(text, patch.span))
+}
+
 fn put_written<O: Sink>(
     text: &[u8],
     job: &FilterJob,
@@ -113,10 +150,11 @@ fn put_written<O: Sink>(
     requires placed { IsPlaced text.now patch.now.span.start patch.now.first_verdict patch.now }
     ensures { Puts O.view O.same_rest out.old out.new result (written (plain_filter_job job.now) text.now patch.now) }
 {
-    if !has_kept(job, patch) {
-        return Ok(());
+    if patch.header.bare {
+        put_bare(text, job, patch, out)
+    } else {
+        put_hunks(text, job, patch, out)
     }
-    put_parts(text, job, patch, out)
 }
 
 /// Writes what is written of a file patch, counted from 0, if it is meant.
@@ -136,7 +174,8 @@ fn put_if_taken<O: Sink>(
 }
 
 /// Writes each file patch that is selected and whose number is meant: the lines in front of its first hunk, and the hunks
-/// that are kept; nothing where none is. Range lines stay as they are.
+/// that are kept; nothing where none is. Range lines stay as they are. A bare git header is written where neither numbers
+/// nor lines of hunks are asked for.
 pub fn filter_patches<O: Sink>(set: &PatchSet, job: &FilterJob, out: &mut O) -> Result<(), Failed>
     ensures writes { Writes (O.view out.old) (O.view out.new) result (filtered (plain_filter_job job.now) set.now) }
     ensures rest { O.same_rest out.old out.new }

@@ -99,7 +99,9 @@ ready_still o old new stays rows was = record {
 pub read_still : (o : PlainOptions) (given : List ℕ) (v : SetView) (vs : List Verdict) → IsRead o given v → IsRead o given (with_verdicts v vs)
 read_still o given v vs read = record {
   text = read.text;
+  ways = read.ways;
   patches = read.patches;
+  regions = read.regions;
   spans = read.spans;
   names = record { targets = read.names.targets; output = read.names.output; few = read.names.few; fit = read.names.fit; output_fit = read.names.output_fit };
 }

@@ -1,4 +1,4 @@
-use Rattle.patch_filters.proofs.Whole.{writes-all, writes-none}
+use Rattle.patch_filters.proofs.Whole.{writes-all, writes-none, writes-no-bare}
 use Rattle.patch_filters.proofs.laws.filter_laws.Goals as goal
 
 pub returns-clause-all : goal.returns-clause-all
@@ -6,3 +6,6 @@ returns-clause-all c = writes-all
 
 pub returns-clause-none : goal.returns-clause-none
 returns-clause-none c = writes-none
+
+pub returns-clause-bare : goal.returns-clause-bare
+returns-clause-bare c = writes-no-bare

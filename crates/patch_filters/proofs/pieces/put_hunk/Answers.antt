@@ -1,5 +1,5 @@
 use Rattle.std.proofs.Common.{arith}
-use Rattle.patch_filters.proofs.Placed.{span-in}
+use Rattle.patch_filters.proofs.Placed.{span-in, turn-with}
 use Rattle.patch_filters.proofs.Rows.{found}
 use Rattle.patch_filters.proofs.pieces.put_hunk.Goals as goal
 
@@ -10,7 +10,7 @@ bytes_at-requires-clause-order g c =
     let spans = p.hunk_spans.items in
     omega (
       arith,
-      (span-in p.header.at spans p.span.end c.args.hunk s c.requires.placed.turn (found spans c.args.hunk s (omega (arith, c.requires.within, c.requires.placed.each)) c.index-span.ensures)).0,
+      (span-in p.header.at spans p.span.end c.args.hunk s (turn-with c.args.text.now p.span.start p.first_verdict p c.args.hunk c.requires.placed c.requires.within) (found spans c.args.hunk s (omega (arith, c.requires.within, c.requires.placed.each)) c.index-span.ensures)).0,
     )
 
 pub bytes_at-requires-clause-within : goal.bytes_at-requires-clause-within
@@ -20,6 +20,6 @@ bytes_at-requires-clause-within g c =
     let spans = p.hunk_spans.items in
     omega (
       arith,
-      (span-in p.header.at spans p.span.end c.args.hunk s c.requires.placed.turn (found spans c.args.hunk s (omega (arith, c.requires.within, c.requires.placed.each)) c.index-span.ensures)).1,
+      (span-in p.header.at spans p.span.end c.args.hunk s (turn-with c.args.text.now p.span.start p.first_verdict p c.args.hunk c.requires.placed c.requires.within) (found spans c.args.hunk s (omega (arith, c.requires.within, c.requires.placed.each)) c.index-span.ensures)).1,
       c.requires.placed.high,
     )
