@@ -1,12 +1,18 @@
-//! Choices, row by row. A row is a text of labelled lines, in which a bar stands for a line's end.
+//! Choices, row by row. A row is a text of labelled lines, in which a bar stands for a line's end. Git headers are read.
 
-use crate::reading::{field, read};
+ghost use Rattle.patch_options.specs.PlainJob.{plain_options, IsLawful};
+
+use crate::git_headers::read;
+use crate::reading::{bytes_of, field, options};
+use file_patch::FilePatch;
 use mem_world::MemTree;
 use name_choice::{Choice, choose};
 use outside::Name;
-use patch_set::FilePatch;
-use std::alloc::Global;
+use patch_options::Options;
+use patch_set::bytes_in;
+use std::alloc::{AllocError, Global};
 use std::test::Fail;
+use target_names::{Target, candidates, moved_names};
 
 /// The words, the text of one file patch, the files of the tree, how it is taken, and what is chosen.
 const CHOICES: &str = "
@@ -100,9 +106,9 @@ files x
 how forward posix
 answer Nothing
 
-words patch n
+words patch -p0
 text --- f|+++ f|@@ -1 +1 @@|-a|+b|
-files f
+files x
 how forward posix operand
 answer Create(0)
 ";
@@ -140,18 +146,53 @@ fn chosen(alloc: Global, row: &str, patch: &FilePatch) -> Result<Choice, Fail> {
     }
 }
 
+/// The names that a file patch can be meant for.
+fn names(
+    alloc: Global,
+    text: &[u8],
+    strip: Option<u32>,
+    patch: &FilePatch,
+) -> Result<Vec<Name>, AllocError> {
+    let header = &patch.header;
+    if patch.is_moved() {
+        let from = bytes_in(text, header.from);
+        return moved_names(alloc, strip, from, bytes_in(text, header.to));
+    }
+    let old = bytes_in(text, header.old_name);
+    let new = bytes_in(text, header.new_name);
+    candidates(alloc, strip, old, new, None, false)
+}
+
+/// Gives a file patch its targets.
+fn name(
+    alloc: Global,
+    text: &[u8],
+    options: &Options,
+    patch: &mut FilePatch,
+) -> Result<(), AllocError>
+    requires { IsLawful (plain_options options.now) }
+{
+    for name in &names(alloc, text, options.strip, patch)? {
+        let target = Target::new(alloc, options, name, 0)?;
+        patch.targets.push(target)?;
+    }
+    Ok(())
+}
+
 /// Whether the choice of a row is as it says.
 fn is_chosen(alloc: Global, row: &str) -> Result<bool, Fail> {
-    let Ok(set) = read(alloc, row)? else {
+    let options = options(alloc, field(row, "words "))?;
+    let text = bytes_of(alloc, field(row, "text "))?;
+    let Ok(patches) = read(alloc, &text, false)? else {
         return Ok(false);
     };
-    match set.patches() {
-        [patch] => {
-            let choice = chosen(alloc, row, patch)?;
-            Ok(format!(in alloc; "{choice:?}")?.as_str() == field(row, "answer "))
-        }
-        _ => Ok(false),
-    }
+    let mut patches = patches;
+    let Some(mut patch) = patches.pop() else {
+        return Ok(false);
+    };
+    name(alloc, &text, &options, &mut patch)?;
+    let choice = chosen(alloc, row, &patch)?;
+    Ok(format!(in alloc; "{choice:?}")?.as_str() == field(row, "answer "))
 }
 
 #[test]

@@ -53,6 +53,10 @@ answer Unified 4 2 0 43 1 0 true false 0|Unified 9 7 43 124 2 1 false false 1 1|
 words patch -c
 text hello|--- /dev/null|+++ n|@@ -0,0 +1 @@|+x|junk|--- f\t1970-01-01 00:00:00 +0000|+++ f|@@ -1,2 +1 @@| a|-b|@@ -5 +4 @@|-c|+C|*** g|--- g|***************|*** 1 ****|! a|--- 1 ----|! b|1c1|< a|---|> b|2d|1a|x|.|garbage|
 answer Context 17 15 0 182 1 0 false false 0 0|None 1
+
+words patch
+text diff --git a/f b/f|new file mode 100644|--- a/f|+++ b/f|@@ -0,0 +1 @@|+x|
+answer Unified 5 3 0 73 1 0 false false 0 0|None 1
 ";
 
 /// Texts of one hunk, of which a side is no file by its name or its stamp, or isn't.
@@ -82,49 +86,6 @@ text --- f|+++ /dev/null|@@ -1 +0,0 @@|-x|
 answer Unified 3 1 0 37 1 0 false true 0|None 1
 ";
 
-/// Texts with git headers, bare ones and one that leads an opening, and those for which git headers are as other lines.
-const GIT: &str = "
-words patch -p1
-text diff --git a/e b/e|new file mode 100644|index 0000000..e69de29|
-answer Unified 1 1 0 63 0 0 true false 0 0|None 0
-
-words patch -p1
-text diff --git a/x b/y|similarity index 100%|rename from x|rename to y|
-answer Unified 1 1 0 67 0 0 false false 0 1|None 0
-
-words patch
-text diff --git a/d/x b/d/x|rename from d/x|rename to e/x|
-answer Unified 1 1 0 53 0 0 false false|None 0
-
-words patch -p1
-text diff --git a/e b/e|deleted file mode 100644|diff --git a/f b/f|new file mode 100644|--- a/f|+++ b/f|@@ -0,0 +1 @@|+x|
-answer Unified 1 1 0 44 0 0 false true 0 0|Unified 7 5 44 117 1 0 true false 1 1|None 1
-
-words patch -p1 -u
-text diff --git a/e b/e|new file mode 100644|
-answer Unified 1 1 0 40 0 0 true false 0 0|None 0
-
-words patch -p1
-text diff --git a/f b/f|old mode 100644|new mode 100755|
-answer Garbage
-
-words patch -p1 -c
-text diff --git a/e b/e|new file mode 100644|
-answer Garbage
-
-words patch -p1 e
-text diff --git a/e b/e|new file mode 100644|
-answer Garbage
-
-words patch -p1 -o e
-text diff --git a/e b/e|new file mode 100644|
-answer Garbage
-
-words patch -p1
-text diff --git a/x b/y|copy from x|copy to y.ptmp|
-answer Reserved { line: 1 }
-";
-
 /// Texts that are refused, where more than one cause stands by the first.
 const REFUSED: &str = "
 words patch
@@ -133,6 +94,10 @@ answer Garbage
 
 words patch -o g -R
 text hello
+answer Garbage
+
+words patch -p1
+text diff --git a/e b/e|new file mode 100644|
 answer Garbage
 
 words patch -R
@@ -207,12 +172,12 @@ pub fn field<'r>(row: &'r str, label: &str) -> &'r str {
 }
 
 /// The bytes of a text in which a bar stands for a line's end.
-fn bytes_of(alloc: Global, shown: &str) -> Result<Vec<u8>, Fail> {
+pub fn bytes_of(alloc: Global, shown: &str) -> Result<Vec<u8>, Fail> {
     let text = shown.replace(alloc, "|", "\n")?;
     Ok(Vec::from_slice(alloc, text.as_bytes())?)
 }
 
-fn options(alloc: Global, words: &str) -> Result<Options, Fail>
+pub fn options(alloc: Global, words: &str) -> Result<Options, Fail>
     ensures { IfOk result (λ options. IsLawful (plain_options options)) }
 {
     let mut given = Vec::new(alloc);
@@ -226,7 +191,7 @@ fn options(alloc: Global, words: &str) -> Result<Options, Fail>
 }
 
 /// The set of a row.
-pub fn read(alloc: Global, row: &str) -> Result<Result<PatchSet, SetFault>, Fail> {
+fn read(alloc: Global, row: &str) -> Result<Result<PatchSet, SetFault>, Fail> {
     let options = options(alloc, field(row, "words "))?;
     let text = bytes_of(alloc, field(row, "text "))?;
     Ok(read_set(alloc, text, &options))
@@ -278,7 +243,7 @@ fn is_read(alloc: Global, row: &str) -> Result<bool, Fail> {
 
 #[test]
 fn texts_are_read(rt: HostRuntime) -> Result<(), Fail> {
-    for rows in [SETS, SIDES, GIT, REFUSED] {
+    for rows in [SETS, SIDES, REFUSED] {
         for row in rows.trim().split("\n\n") {
             assert!(rt; is_read(rt.alloc(), row)?, "{row}");
         }

@@ -167,7 +167,7 @@ rows-behind text h r is = by h.bare refl
     by false e = omega (arith, is.each, turn-count h.at r.spans.items r.end (is.cut.turn e))
 
 differ : (b : Bool) → b ≡ true → b ≡ false → ⊥
-differ b yes none = cc
+differ b is isnt = cc
 
 pub behind-hunks : (text : List ℕ) (h : Header) (r : ReadChange) → h.bare ≡ false → IsChange text h.form h.at h.opening r → IsBehind text h r
 behind-hunks text h r none is = record {

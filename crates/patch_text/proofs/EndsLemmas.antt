@@ -1,5 +1,5 @@
 -- The pieces of hunks end in front of the lines that begin a piece.
-use Rattle.std.proofs.Common.{◌≡◌, ◌≢◌, ℕ, ◌+◌, ◌<◌, ◌≤◌, Bool, true, false, cond, eqb, ◌&&◌, List, [], ◌∷◌, ◌++◌, length, drop, map, slice_range, Option, None, Some, refl, sym, ap, subst, ◌∙◌, append_assoc, arith, inl, inr, length-drop}
+use Rattle.std.proofs.Common.{◌≡◌, ◌≢◌, ℕ, ◌+◌, ◌<◌, ◌≤◌, Bool, true, false, cond, eqb, ◌&&◌, List, [], ◌∷◌, ◌++◌, length, drop, map, slice_range, Option, None, Some, refl, sym, ap, ◌∙◌, append_assoc, arith, inl, inr, length-drop}
 use Rattle.std.specs.Prelude.{is_some, sum_by}
 use Rattle.std.specs.List.{AllByRecursion}
 use Rattle.std.proofs.lemmas.Bool.{eqb-true}
@@ -26,7 +26,6 @@ use Rattle.context_form.specs.Openings.{is_stars}
 use Rattle.context_form.specs.Grammar as context
 use Rattle.context_form.specs.Merging.{part_of}
 use Rattle.context_form.specs.Ranges.{before_range, behind_range}
-use Rattle.context_form.proofs.Pieces as context_pieces
 use Rattle.num_text.specs.NumberRanges.{range_at}
 use Rattle.normal_form.specs.Commands.{is_command, parts_at}
 use Rattle.normal_form.specs.Stretches.{marks, ends_divider, is_divider}
@@ -93,7 +92,7 @@ unified-shown line m (inr h) = unified-empty line h.0
 unified-line : (own : List (List ℕ)) (m : Marked) (body : List Marked) → unified.SpellsLine own m body → AreQuiet Unified own
 unified-line [] m body h = absurd h
 unified-line (line ∷ []) m body h = (unified-shown line m h, tt)
-unified-line (line ∷ mark ∷ []) m body h = (unified-shown line h.2 h.3, unified-slash mark h.0, tt)
+unified-line (line ∷ mark ∷ []) m body h = (unified-shown line h.2 h.3, (unified-slash mark h.0, tt))
 unified-line (line ∷ mark ∷ other ∷ more) m body h = absurd h
 
 unified-body : (piece : List (List ℕ)) (body : List Marked) → unified.SpellsBody piece body → AreQuiet Unified piece
@@ -133,7 +132,7 @@ context-shown line m h = rw h.1 (context-mark h.0 m.mark (32 ∷ m.line))
 context-line : (own : List (List ℕ)) (m : Marked) (others : List Marked) → context.SpellsLine own m others → AreQuiet Context own
 context-line [] m others h = absurd h
 context-line (line ∷ []) m others h = (context-shown line m h, tt)
-context-line (line ∷ mark ∷ []) m others h = (context-shown line h.2 h.3, context-slash mark h.0, tt)
+context-line (line ∷ mark ∷ []) m others h = (context-shown line h.2 h.3, (context-slash mark h.0, tt))
 context-line (line ∷ mark ∷ other ∷ more) m others h = absurd h
 
 context-part : (piece : List (List ℕ)) (part : List Marked) → context.SpellsPart piece part → AreQuiet Context piece
@@ -152,7 +151,7 @@ context-piece : (least : ℕ) (own : List (List ℕ)) (h : PlainHunk) → contex
 context-piece least own h s =
     let new-part : AreQuiet Context (s.new_line ∷ s.new) = (context-range Reversed s.new_line s.new_single h.new_start (length (part_of Reversed h.body)) s.new_range, context-side Reversed s.new s.old h.body s.new_part) in
     let behind : AreQuiet Context (s.old ++ s.new_line ∷ s.new) = both-quiet Context s.old (s.new_line ∷ s.new) (context-side Forward s.old s.new h.body s.old_part) new-part in
-    rw s.parts (s.asterisks, context-range Forward s.old_line s.old_single h.old_start (length (part_of Forward h.body)) s.old_range, behind)
+    rw s.parts (s.asterisks, (context-range Forward s.old_line s.old_single h.old_start (length (part_of Forward h.body)) s.old_range, behind))
 
 -- ---- the normal form
 
@@ -182,7 +181,7 @@ normal-shown side line bytes e = rw e (normal-mark side bytes)
 normal-line : (side : Side) (own : List (List ℕ)) (l : List ℕ) (others : List (List ℕ)) → normal.SpellsLine side own l others → AreQuiet Normal own
 normal-line side [] l others h = absurd h
 normal-line side (line ∷ []) l others h = (normal-shown side line l h, tt)
-normal-line side (line ∷ mark ∷ []) l others h = (normal-shown side line h.2 h.3, normal-slash mark h.0, tt)
+normal-line side (line ∷ mark ∷ []) l others h = (normal-shown side line h.2 h.3, (normal-slash mark h.0, tt))
 normal-line side (line ∷ mark ∷ other ∷ more) l others h = absurd h
 
 normal-stretch : (side : Side) (piece ls : List (List ℕ)) → normal.SpellsStretch side piece ls → AreQuiet Normal piece

@@ -1,5 +1,5 @@
 -- Where file patches lie is what the text says.
-use Rattle.std.proofs.Common.{◌≡◌, ℕ, zero, suc, ◌+◌, ◌<◌, ◌≤◌, List, [], ◌∷◌, length, drop, map, Option, None, Some, refl, sym, ap, subst, ◌∙◌, arith}
+use Rattle.std.proofs.Common.{◌≡◌, ℕ, zero, suc, ◌+◌, ◌≤◌, List, [], ◌∷◌, length, drop, map, None, Some, refl, sym, ap, subst, ◌∙◌, arith}
 use Rattle.line_list.specs.Lines.{lines}
 use Rattle.hunk_core.specs.Reading.{Ahead, ahead}
 use Rattle.patch_header.specs.declared.search.HeaderStep.TheVariants.{Found, End}
@@ -9,7 +9,7 @@ use Rattle.patch_header.proofs.StepLemmas.{one-step}
 use Rattle.file_patch.specs.PlainPatch.{change_of, row_count}
 use Rattle.file_patch.specs.declared.FilePatch.{FilePatch}
 use Rattle.patch_text.specs.Patches.{place_before}
-use Rattle.patch_text.specs.Regions.{Region, region_of, region_up_to, region_with, region_by, next_region, with_later, regions_at, regions_of}
+use Rattle.patch_text.specs.Regions.{region_of, region_up_to, region_with, region_by, next_region, with_later, regions_at, regions_of}
 use Rattle.patch_text.specs.Spans.{IsPatch, LieInTurn, ArePatches}
 use Rattle.patch_text.proofs.TextLoops.{place-back}
 use Rattle.patch_text.proofs.TextLaws.{behind-again}

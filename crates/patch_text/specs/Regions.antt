@@ -1,5 +1,5 @@
 -- Where each file patch of a text lies, by the text alone: its region, its opening, the pieces of its hunks and its end.
-use Rattle.std.specs.Prelude.{ℕ, zero, suc, ◌+◌, Bool, false, List, [], ◌∷◌, map, length, drop, slice_range, Option, None, Some, Result, Ok, Err, if◌then◌else◌}
+use Rattle.std.specs.Prelude.{ℕ, zero, suc, ◌+◌, Bool, false, List, [], ◌∷◌, map, length, slice_range, Option, None, Some, Result, Ok, Err, if◌then◌else◌}
 use Rattle.line_list.specs.Lines.{lines}
 use Rattle.hunk_core.specs.declared.Form.{Form}
 use Rattle.hunk_core.specs.declared.Form.TheVariants.{Unified, Context, Normal, Ed}

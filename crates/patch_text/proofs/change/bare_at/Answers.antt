@@ -1,4 +1,4 @@
-use Rattle.std.proofs.Common.{◌<◌, refl, arith}
+use Rattle.std.proofs.Common.{refl, arith}
 use Rattle.patch_text.proofs.change.bare_at.Goals as goal
 
 pub returns-clause-is : goal.returns-clause-is

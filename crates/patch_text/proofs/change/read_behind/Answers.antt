@@ -1,4 +1,4 @@
-use Rattle.patch_text.proofs.ChangeLemmas.{behind-hunks, behind-bare}
+use Rattle.patch_text.proofs.ChangeLemmas.{behind-bare}
 use Rattle.patch_text.proofs.change.read_behind.Goals as goal
 
 pub returns-then-header-clause-is : goal.returns-then-header-clause-is
