@@ -8,7 +8,7 @@ use Rattle.file_patch.specs.declared.FilePatch.{FilePatch}
 use Rattle.file_patch.specs.PlainPatch.{row_count}
 use Rattle.patch_text.specs.Changes.{AreCut}
 use Rattle.patch_text.specs.Regions.{region_of}
-use Rattle.patch_text.specs.Spelled.{Spelled, cut_at, spelled_at, spelled_in, spelled_of}
+use Rattle.patch_text.specs.Spelled.{cut_at, spelled_at, spelled_in, spelled_of}
 use Rattle.patch_set.specs.Spans.{IsPlaced, ArePlaced}
 use Rattle.patch_set.specs.SetView.{SetView, IsWhole}
 

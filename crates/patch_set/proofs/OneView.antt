@@ -9,7 +9,7 @@ use Rattle.patch_header.specs.declared.header.Header.{Header}
 use Rattle.patch_options.specs.PlainJob.{PlainOptions}
 use Rattle.target_names.specs.declared.derived.Target.{Target}
 use Rattle.patch_text.specs.Patches.{patches_of}
-use Rattle.patch_text.specs.Regions.{Region, region_of, regions_of}
+use Rattle.patch_text.specs.Regions.{region_of, regions_of}
 use Rattle.patch_text.specs.Changes.{AreCut}
 use Rattle.patch_set.specs.Asked.{ways_of}
 use Rattle.patch_set.specs.Named.{known_names, targets_of, output_of}
