@@ -12,7 +12,7 @@ use Rattle.outside.specs.TreeView.{TreeView}
 use Rattle.outside.specs.declared.Failed.{Failed}
 use Rattle.target_names.specs.declared.derived.Target.{Target}
 use Rattle.name_choice.specs.declared.Choice.{Choice}
-use Rattle.name_choice.specs.declared.Choice.TheVariants.{Existing, Nothing}
+use Rattle.name_choice.specs.declared.Choice.TheVariants.{Existing}
 use Rattle.name_choice.specs.Better.{best_among, name_at, IsBest, IsNone}
 use Rattle.name_choice.specs.Choice.{is_there, needs_fewest, names_of, first_place, created, existing_or, existing, to_create, choice_among, is_there_at, existing_if, IsFound}
 use Rattle.name_choice.proofs.Best.{best-law, none-law}
