@@ -175,7 +175,7 @@ fn last(read: Result<Vec<FilePatch>, FormFault>) -> Result<FilePatch, Fail> {
     match read {
         Ok(patches) => {
             let mut patches = patches;
-            patches.pop().ok_or("a file patch".into())
+            Ok(patches.pop().ok_or("a file patch")?)
         }
         Err(_) => Err("a patch text".into()),
     }
