@@ -1,5 +1,7 @@
 //! Choices, row by row. A row is a text of labelled lines, in which a bar stands for a line's end. Git headers are read.
 
+ghost use Rattle.patch_options.specs.PlainJob.{plain_options, IsLawful};
+
 use crate::git_headers::read;
 use crate::reading::{bytes_of, field, options};
 use file_patch::FilePatch;
@@ -7,6 +9,7 @@ use hunk_core::FormFault;
 use mem_world::MemTree;
 use name_choice::{Choice, choose};
 use outside::Name;
+use patch_options::Options;
 use patch_set::bytes_in;
 use std::alloc::{AllocError, Global};
 use std::test::Fail;
@@ -161,12 +164,25 @@ fn names(
     candidates(alloc, strip, old, new, None, false)
 }
 
-/// Gives a file patch the targets that the words ask for.
-fn name(alloc: Global, text: &[u8], words: &str, patch: &mut FilePatch) -> Result<(), Fail> {
-    let options = options(alloc, words)?;
+/// Gives a file patch its targets.
+fn name(
+    alloc: Global,
+    text: &[u8],
+    options: &Options,
+    patch: &mut FilePatch,
+) -> Result<(), AllocError>
+    requires { IsLawful (plain_options options.now) }
+{
     for name in &names(alloc, text, options.strip, patch)? {
-        patch.targets.push(Target::new(alloc, &options, name, 0)?)?;
+        patch.targets.push(Target::new(alloc, options, name, 0)?)?;
     }
+    Ok(())
+}
+
+/// Gives a file patch the targets that the words ask for.
+fn name_by(alloc: Global, text: &[u8], words: &str, patch: &mut FilePatch) -> Result<(), Fail> {
+    let options = options(alloc, words)?;
+    name(alloc, text, &options, patch)?;
     Ok(())
 }
 
@@ -185,7 +201,7 @@ fn last(read: Result<Vec<FilePatch>, FormFault>) -> Result<FilePatch, Fail> {
 fn patch_of(alloc: Global, row: &str) -> Result<FilePatch, Fail> {
     let text = bytes_of(alloc, field(row, "text "))?;
     let mut patch = last(read(alloc, &text, false)?)?;
-    name(alloc, &text, field(row, "words "), &mut patch)?;
+    name_by(alloc, &text, field(row, "words "), &mut patch)?;
     Ok(patch)
 }
 
