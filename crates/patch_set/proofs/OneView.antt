@@ -1,5 +1,5 @@
 -- A text that is read twice gives one view.
-use Rattle.std.proofs.Common.{◌≡◌, ℕ, ◌+◌, Bool, true, false, List, [], ◌∷◌, map, Result, Ok, refl, sym, ap, subst, ◌∙◌}
+use Rattle.std.proofs.Common.{◌≡◌, ℕ, ◌+◌, Bool, true, false, List, [], ◌∷◌, length, map, Result, Ok, refl, sym, ap, subst, ◌∙◌}
 use Rattle.line_list.specs.declared.Span.{Span}
 use Rattle.hunk_core.specs.Pieces.{AreInTurn}
 use Rattle.hunk_core.specs.Reading.{Fault}
@@ -76,6 +76,19 @@ same-pieces text other start before first last (p ∷ ps) (q ∷ qs) at on e =
     ap (λ s. s ∷ map (λ x. x.hunk_spans.items) ps) (same-cut q.header p.hunk_spans.items q.hunk_spans.items p.span.end q.span.end cut on.0.cut (ap (λ r. r.ends) one))
     ∙ ap (λ ss. q.hunk_spans.items ∷ ss) (same-pieces text other p.span.end (before + row_count p.change) q.span.end (last + row_count q.change) ps qs at.1 on.1 others)
 
+same-firsts : (text other : List ℕ) (start begin before : ℕ) (ps qs : List FilePatch) → ArePlaced text start before ps → ArePlaced other begin before qs → map (λ p. p.hunk_spans.items) ps ≡ map (λ p. p.hunk_spans.items) qs
+    → map (λ p. p.first_verdict) ps ≡ map (λ p. p.first_verdict) qs
+same-firsts text other start begin before [] [] at on e = refl
+same-firsts text other start begin before [] (q ∷ qs) at on e = absurd cc
+same-firsts text other start begin before (p ∷ ps) [] at on e = absurd cc
+same-firsts text other start begin before (p ∷ ps) (q ∷ qs) at on e =
+    let spans : p.hunk_spans.items ≡ q.hunk_spans.items = same-first p.hunk_spans.items q.hunk_spans.items (map (λ x. x.hunk_spans.items) ps) (map (λ x. x.hunk_spans.items) qs) e in
+    let others = same-others p.hunk_spans.items q.hunk_spans.items (map (λ x. x.hunk_spans.items) ps) (map (λ x. x.hunk_spans.items) qs) e in
+    let rows : row_count q.change ≡ row_count p.change = sym on.0.each ∙ ap length (sym spans) ∙ at.0.each in
+    let more : ArePlaced other q.span.end (before + row_count p.change) qs = subst (λ n. ArePlaced other q.span.end (before + n) qs) rows on.1 in
+    ap (λ n. n ∷ map (λ x. x.first_verdict) ps) (at.0.first ∙ sym on.0.first)
+    ∙ ap (λ ns. q.first_verdict ∷ ns) (same-firsts text other p.span.end q.span.end (before + row_count p.change) ps qs at.1 more others)
+
 same-by-header : (f : Header → List Target) (ps qs : List FilePatch) → map (λ p. p.header) ps ≡ map (λ p. p.header) qs → map (λ p. f p.header) ps ≡ map (λ p. f p.header) qs
 same-by-header f [] [] e = refl
 same-by-header f [] (q ∷ qs) e = absurd cc
@@ -95,12 +108,14 @@ one-view o given v w one two =
     let plain : plain_patches v ≡ plain_patches w = same-ok (plain_patches v) (plain_patches w) (patches_of (ways_of o) w.text) (ap (patches_of (ways_of o)) (sym text) ∙ one.patches) two.patches in
     let headers : map (λ p. p.header) v.patches ≡ map (λ p. p.header) w.patches = same-headers v.patches w.patches regions in
     let known : known_names o (plain_patches v) ≡ known_names o (plain_patches w) = ap (known_names o) plain in
+    let pieces = same-pieces v.text w.text 0 0 0 0 v.patches w.patches one.spans two.spans regions in
     record {
       text = text;
       patches = plain;
       headers = headers;
       spans = same-spans v.patches w.patches regions;
-      hunk_spans = same-pieces v.text w.text 0 0 0 0 v.patches w.patches one.spans two.spans regions;
+      hunk_spans = pieces;
+      firsts = same-firsts v.text w.text 0 0 0 v.patches w.patches one.spans two.spans pieces;
       targets = one.names.targets
           ∙ ap (λ t. map (λ p. targets_of o (known_names o (plain_patches v)) (header_of t p.header)) v.patches) text
           ∙ ap (λ k. map (λ p. targets_of o k (header_of w.text p.header)) v.patches) known

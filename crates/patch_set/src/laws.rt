@@ -25,7 +25,7 @@ pub fn what_was_read_stays()
     ensures verdicts { (o : PlainOptions) (given : List ℕ) (v : SetView) (verdicts : List Verdict) → IsRead o given v → IsRead o given (with_verdicts v verdicts) }
 {}
 
-/// A text that is read twice for the same options gives the same file patches, at the same places and with the same targets.
+/// A text that is read twice for the same options gives the same file patches, at the same places, with the same verdict rows and targets.
 pub fn one_view()
     ensures { (o : PlainOptions) (given : List ℕ) (v w : SetView) → IsRead o given v → IsRead o given w → AreOne v w }
 {}

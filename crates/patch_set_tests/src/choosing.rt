@@ -5,6 +5,7 @@ ghost use Rattle.patch_options.specs.PlainJob.{plain_options, IsLawful};
 use crate::git_headers::read;
 use crate::reading::{bytes_of, field, options};
 use file_patch::FilePatch;
+use hunk_core::FormFault;
 use mem_world::MemTree;
 use name_choice::{Choice, choose};
 use outside::Name;
@@ -173,24 +174,40 @@ fn name(
     requires { IsLawful (plain_options options.now) }
 {
     for name in &names(alloc, text, options.strip, patch)? {
-        let target = Target::new(alloc, options, name, 0)?;
-        patch.targets.push(target)?;
+        patch.targets.push(Target::new(alloc, options, name, 0)?)?;
     }
     Ok(())
 }
 
+/// Gives a file patch the targets that the words ask for.
+fn name_by(alloc: Global, text: &[u8], words: &str, patch: &mut FilePatch) -> Result<(), Fail> {
+    let options = options(alloc, words)?;
+    name(alloc, text, &options, patch)?;
+    Ok(())
+}
+
+/// The last file patch that was read.
+fn last(read: Result<Vec<FilePatch>, FormFault>) -> Result<FilePatch, Fail> {
+    match read {
+        Ok(patches) => {
+            let mut patches = patches;
+            Ok(patches.pop().ok_or("a file patch")?)
+        }
+        Err(_) => Err("a patch text".into()),
+    }
+}
+
+/// The file patch of a row with its targets.
+fn patch_of(alloc: Global, row: &str) -> Result<FilePatch, Fail> {
+    let text = bytes_of(alloc, field(row, "text "))?;
+    let mut patch = last(read(alloc, &text, false)?)?;
+    name_by(alloc, &text, field(row, "words "), &mut patch)?;
+    Ok(patch)
+}
+
 /// Whether the choice of a row is as it says.
 fn is_chosen(alloc: Global, row: &str) -> Result<bool, Fail> {
-    let options = options(alloc, field(row, "words "))?;
-    let text = bytes_of(alloc, field(row, "text "))?;
-    let Ok(patches) = read(alloc, &text, false)? else {
-        return Ok(false);
-    };
-    let mut patches = patches;
-    let Some(mut patch) = patches.pop() else {
-        return Ok(false);
-    };
-    name(alloc, &text, &options, &mut patch)?;
+    let patch = patch_of(alloc, row)?;
     let choice = chosen(alloc, row, &patch)?;
     Ok(format!(in alloc; "{choice:?}")?.as_str() == field(row, "answer "))
 }
