@@ -19,7 +19,7 @@ use Rattle.file_patch.specs.PlainPatch.{PlainChange, hunks, script, change_of, h
 use Rattle.patch_set.specs.SetView.{SetView}
 use Rattle.patch_set.specs.Spans.{IsPlaced}
 use Rattle.patch_set.proofs.Named.{rows-counted}
-use Rattle.patch_filters.specs.PlainJobs.{PlainGrepJob}
+use Rattle.tool_words.specs.PlainJobs.{PlainGrepJob}
 use Rattle.patch_filters.specs.Filtered.{pieces, text_if}
 use Rattle.patch_filters.specs.Grepped.{IsFirst, content, contents, found_text, grepped, hits_of, is_found, text_if_found}
 use Rattle.patch_filters.proofs.Rows.{any-map, flat-if}

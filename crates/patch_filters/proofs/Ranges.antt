@@ -4,7 +4,7 @@ use Rattle.std.specs.Prelude.{nat_le, max, min}
 use Rattle.std.specs.List.{list_any}
 use Rattle.std.proofs.lemmas.Bool.{le-leb, leb-true}
 use Rattle.glob_match.proofs.Deciding.{found-in-range, in-range-found}
-use Rattle.patch_filters.specs.PlainJobs.{PlainRanges}
+use Rattle.tool_words.specs.PlainJobs.{PlainRanges}
 use Rattle.patch_filters.specs.Selected.{is_in}
 use Rattle.patch_filters.specs.OldLines.{from_to}
 

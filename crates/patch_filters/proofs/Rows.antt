@@ -10,7 +10,7 @@ use Rattle.file_patch.specs.declared.Change.{Change}
 use Rattle.file_patch.specs.PlainPatch.{PlainChange, PlainPatch, hunks, script, hunk_count, row_count, change_of}
 use Rattle.patch_set.proofs.Named.{rows-counted}
 use Rattle.patch_set.specs.SetView.{SetView}
-use Rattle.patch_filters.specs.PlainJobs.{PlainFilterJob, PlainListJob}
+use Rattle.tool_words.specs.PlainJobs.{PlainFilterJob, PlainListJob}
 use Rattle.patch_filters.specs.Listed.{is_listed, line_if_selected, list_line, listed}
 use Rattle.patch_filters.specs.Filtered.{filtered, is_taken_of, written, written_if_taken}
 use Rattle.patch_filters.specs.Selected.{numbered}

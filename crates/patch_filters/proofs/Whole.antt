@@ -14,7 +14,7 @@ use Rattle.file_patch.specs.declared.FilePatch.{FilePatch}
 use Rattle.file_patch.specs.PlainPatch.{change_of, patch_of, row_count}
 use Rattle.patch_set.specs.Spans.{IsPlaced, ArePlaced}
 use Rattle.patch_set.proofs.Named.{rows-counted}
-use Rattle.patch_filters.specs.PlainJobs.{PlainFilterJob}
+use Rattle.tool_words.specs.PlainJobs.{PlainFilterJob}
 use Rattle.patch_filters.specs.Selected.{numbered}
 use Rattle.patch_filters.specs.OldLines.{old_of_each}
 use Rattle.patch_filters.specs.Kept.{is_kept, kept, keeps}

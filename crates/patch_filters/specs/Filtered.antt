@@ -5,7 +5,7 @@ use Rattle.hunk_core.specs.PlainHunk.{bytes_at}
 use Rattle.file_patch.specs.declared.FilePatch.{FilePatch}
 use Rattle.file_patch.specs.PlainPatch.{change_of, header_of}
 use Rattle.patch_set.specs.SetView.{SetView}
-use Rattle.patch_filters.specs.PlainJobs.{PlainFilterJob}
+use Rattle.tool_words.specs.PlainJobs.{PlainFilterJob}
 use Rattle.patch_filters.specs.Selected.{numbered}
 use Rattle.patch_filters.specs.Kept.{is_taken, kept}
 

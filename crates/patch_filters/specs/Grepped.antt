@@ -9,9 +9,9 @@ use Rattle.file_patch.specs.declared.FilePatch.{FilePatch}
 use Rattle.file_patch.specs.PlainPatch.{PlainChange, PlainPatch, hunks, script, change_of, header_of, patch_of}
 use Rattle.patch_set.specs.PlainName.{plain_name}
 use Rattle.patch_set.specs.SetView.{SetView}
-use Rattle.patch_filters.specs.PlainJobs.{PlainGrepJob}
-use Rattle.patch_filters.specs.declared.job.GrepOut.{GrepOut}
-use Rattle.patch_filters.specs.declared.job.GrepOut.TheVariants.{Names, Hunks, Files}
+use Rattle.tool_words.specs.PlainJobs.{PlainGrepJob}
+use Rattle.tool_words.specs.declared.jobs.GrepOut.{GrepOut}
+use Rattle.tool_words.specs.declared.jobs.GrepOut.TheVariants.{Names, Hunks, Files}
 use Rattle.patch_filters.specs.declared.fault.GrepFault.{GrepFault}
 use Rattle.patch_filters.specs.declared.fault.GrepFault.TheVariants.{Pattern, Write, Memory}
 use Rattle.patch_filters.specs.Selected.{is_selected}

@@ -2,7 +2,7 @@
 use Rattle.std.specs.Prelude.{ℕ, suc, Bool, false, ◌&&◌, List, map, slice_index_or}
 use Rattle.file_patch.specs.PlainPatch.{PlainChange, PlainHeader, PlainPatch}
 use Rattle.patch_set.specs.PlainName.{plain_name}
-use Rattle.patch_filters.specs.PlainJobs.{PlainFilterJob}
+use Rattle.tool_words.specs.PlainJobs.{PlainFilterJob}
 use Rattle.patch_filters.specs.Selected.{is_selected, is_meant, is_one_meant, numbered}
 use Rattle.patch_filters.specs.OldLines.{old_of_each}
 

@@ -5,7 +5,7 @@ use Rattle.hunk_core.specs.PlainHunk.{bytes_at}
 use Rattle.file_patch.specs.declared.FilePatch.{FilePatch}
 use Rattle.file_patch.specs.PlainPatch.{patch_of, row_count}
 use Rattle.patch_set.specs.SetView.{SetView, IsWhole, patch_at}
-use Rattle.patch_filters.specs.PlainJobs.{PlainFilterJob}
+use Rattle.tool_words.specs.PlainJobs.{PlainFilterJob}
 use Rattle.patch_filters.specs.Kept.{keeps}
 use Rattle.patch_filters.specs.Filtered.{filtered, asks_no_hunk, is_taken_of, written_if_taken}
 

@@ -1,4 +1,3 @@
-pub mod PlainJobs
 pub mod Selected
 pub mod Listed
 pub mod OldLines

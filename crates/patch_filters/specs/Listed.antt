@@ -8,7 +8,7 @@ use Rattle.file_patch.specs.PlainPatch.{PlainPatch}
 use Rattle.file_patch.specs.Actions.{is_moved}
 use Rattle.file_patch.specs.Absent.{is_absent}
 use Rattle.patch_set.specs.PlainName.{plain_name}
-use Rattle.patch_filters.specs.PlainJobs.{PlainListJob}
+use Rattle.tool_words.specs.PlainJobs.{PlainListJob}
 use Rattle.patch_filters.specs.Selected.{is_selected}
 
 -- whether the old side is no file, or else the new one, or both are files; a file that is renamed or copied has both sides

@@ -3,7 +3,7 @@ use Rattle.std.specs.Prelude.{ℕ, Bool, true, not, nat_le, ◌&&◌, ◌||◌, 
 use Rattle.std.specs.List.{list_any, range_with_len, zip}
 use Rattle.glob_match.specs.Matching.{does_match}
 use Rattle.target_names.specs.Stripped.{shortened}
-use Rattle.patch_filters.specs.PlainJobs.{PlainSelect, PlainRanges}
+use Rattle.tool_words.specs.PlainJobs.{PlainSelect, PlainRanges}
 
 -- some of the patterns matches the whole name
 abbrev pub matches_any : List (List ℕ) → List ℕ → Bool

@@ -8,7 +8,7 @@ ghost use Rattle.hunk_core.specs.Writing.{Puts};
 ghost use Rattle.file_patch.specs.PlainPatch.{IsLawfulChange, change_of, header_of, patch_of, row_count};
 ghost use Rattle.patch_set.specs.SetView.{patch_at};
 ghost use Rattle.patch_set.specs.Spans.{IsPlaced};
-ghost use Rattle.patch_filters.specs.PlainJobs.{plain_filter_job};
+ghost use Rattle.tool_words.specs.PlainJobs.{plain_filter_job};
 ghost use Rattle.patch_filters.specs.OldLines.{IsCounted};
 ghost use Rattle.patch_filters.specs.Kept.{is_taken, kept, keeps};
 ghost use Rattle.patch_filters.specs.Filtered.{asks_no_hunk, chosen, filtered, pieces, region, text_if, written, written_bare, written_hunks, written_if_taken};
@@ -19,8 +19,8 @@ use crate::pieces::{bytes_at, put_hunk, put_piece, put_region};
 use crate::set::patch_at;
 use file_patch::FilePatch;
 use outside::{Failed, Sink};
-use patch_options::FilterJob;
 use patch_set::PatchSet;
+use tool_words::FilterJob;
 
 /// Whether a file patch, counted from 0, is meant.
 fn is_taken(set: &PatchSet, job: &FilterJob, patch: u32) -> bool

@@ -7,20 +7,21 @@ ghost use Rattle.outside.specs.SinkView.{Receives, ReceivesPart, SinkPasses};
 ghost use Rattle.file_patch.specs.PlainPatch.{IsLawfulChange, change_of, row_count};
 ghost use Rattle.patch_set.specs.SetView.{patch_at};
 ghost use Rattle.patch_set.specs.Spans.{IsPlaced};
-ghost use Rattle.patch_filters.specs.PlainJobs.{plain_grep_job};
+ghost use Rattle.tool_words.specs.PlainJobs.{plain_grep_job};
 ghost use Rattle.patch_filters.specs.Filtered.{chosen, pieces, region, text_if};
 ghost use Rattle.patch_filters.specs.Grepped.{Finds, HasGrepCause, IsFirst, found_text, grepped, hits_of, test_of, text_if_found};
 
+use crate::GrepFault;
 use crate::list::put_line;
 use crate::numbers::is_selected;
 use crate::pieces::{bytes_at, put_hunk, put_piece, put_region};
 use crate::search::{first_hit, is_hit, keep_pattern};
 use crate::set::patch_at;
-use crate::{GrepFault, GrepJob, GrepOut};
 use file_patch::FilePatch;
 use outside::{Finder, Sink};
 use patch_set::PatchSet;
 use std::alloc::Global;
+use tool_words::{GrepJob, GrepOut};
 
 /// Writes a hunk, counted from 0, if it has a hit.
 fn put_if_hit<F: Finder, O: Sink>(

@@ -4,7 +4,7 @@ ghost use Rattle.std.specs.Prelude.{◌≡◌, ◌<◌, ◌^◌, ℕ, List, Some
 ghost use Rattle.hunk_core.specs.PlainHunk.{hunk_of};
 ghost use Rattle.ed_form.specs.PlainEdit.{IsLawfulScript, edits_of};
 ghost use Rattle.file_patch.specs.PlainPatch.{IsLawfulChange, change_of, row_count};
-ghost use Rattle.patch_filters.specs.PlainJobs.{plain_filter_job};
+ghost use Rattle.tool_words.specs.PlainJobs.{plain_filter_job};
 ghost use Rattle.patch_filters.specs.OldLines.{IsCounted, addressed, numbers_of, old_numbers, old_of_each};
 ghost use Rattle.patch_filters.specs.Kept.{kept};
 
@@ -12,7 +12,7 @@ use crate::numbers::{Lines, is_meant, is_one_meant};
 use ed_form::EdScript;
 use file_patch::Change;
 use hunk_core::{Hunk, Side};
-use patch_options::FilterJob;
+use tool_words::FilterJob;
 
 /// A line's number, counted from 1.
 fn at_least_one(number: u32) -> u64

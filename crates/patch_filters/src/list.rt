@@ -7,7 +7,7 @@ ghost use Rattle.hunk_core.specs.Writing.{Puts};
 ghost use Rattle.file_patch.specs.PlainPatch.{patch_of};
 ghost use Rattle.file_patch.specs.Absent.{IsLawfulPatch};
 ghost use Rattle.patch_set.specs.SetView.{patch_at, plain_patches};
-ghost use Rattle.patch_filters.specs.PlainJobs.{plain_list_job};
+ghost use Rattle.tool_words.specs.PlainJobs.{plain_list_job};
 ghost use Rattle.patch_filters.specs.Listed.{front, line_if_selected, listed, number_text, sign, sign_text};
 
 use crate::numbers::is_selected;
@@ -18,9 +18,9 @@ use file_patch::FilePatch;
 use hunk_core::{Side, add_piece};
 use num_text::put_number;
 use outside::{Failed, Sink};
-use patch_options::ListJob;
 use patch_set::PatchSet;
 use target_names::shortened;
+use tool_words::ListJob;
 
 /// A number of 20 digits at most, a tab, and a sign with its space.
 type Front = ArrayVec<u8, 32>;

@@ -2,13 +2,13 @@
 
 ghost use Rattle.std.specs.Prelude.{◌≡◌, map, max, min, nat_le};
 ghost use Rattle.std.specs.List.{list_any};
-ghost use Rattle.patch_filters.specs.PlainJobs.{plain_ranges, plain_select};
+ghost use Rattle.tool_words.specs.PlainJobs.{plain_ranges, plain_select};
 ghost use Rattle.patch_filters.specs.Selected.{is_in, is_meant, is_one_meant, is_selected, matches_any};
 ghost use Rattle.patch_filters.specs.OldLines.{numbers_of};
 
 use glob_match::matches;
-use patch_options::{Ranges, Select};
 use target_names::shortened;
+use tool_words::{Ranges, Select};
 
 /// The numbers from a first to a last.
 #[derive(Clone, Copy, Debug)]

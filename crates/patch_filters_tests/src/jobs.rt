@@ -1,8 +1,8 @@
 //! What a row asks for. Its fields stand between blanks.
 
-use patch_filters::{GrepJob, GrepOut};
-use patch_options::{FilterJob, Input, ListJob, Ranges, Select};
+use patch_options::Input;
 use std::alloc::{AllocError, Global};
+use tool_words::{FilterJob, GrepJob, GrepOut, ListJob, Ranges, Select};
 
 pub fn field(row: &str, place: usize) -> &str {
     match row.split(' ').nth(place) {
@@ -66,6 +66,7 @@ pub fn filter_job(alloc: Global, row: &str) -> Result<FilterJob, AllocError> {
         hunks: ranges(alloc, field(row, 4))?,
         lines: ranges(alloc, field(row, 5))?,
         files: ranges(alloc, field(row, 6))?,
+        format: None,
     })
 }
 

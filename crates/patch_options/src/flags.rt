@@ -1,11 +1,11 @@
 //! The command line of `patch`, read by `clap`.
-ghost use Rattle.std.specs.Prelude.{◌≡◌, ◌≢◌, ◌⊎◌, ◌∷◌, [], map, string_bytes, true, false, IfOk, IfErr};
-ghost use Rattle.clap.specs.Words.{app_of, kind_of, new_rule};
+ghost use Rattle.std.specs.Prelude.{◌≡◌, ◌⊎◌, ◌∷◌, [], map, string_bytes, true, false, IfOk, IfErr};
+ghost use Rattle.clap.specs.Words.{app_of, new_rule};
 ghost use Rattle.patch_options.specs.Flags.{switch, long_switch, option, long_option, switches, form_switches, way_switches, file_switches, report_switches, options, text_options, name_options, long_options, Extends, patch_command, takes_words, matched_rows, rows_in};
 
 use crate::WordFault;
-use clap::error::ErrorKind;
-use clap::{Arg, ArgAction, ArgMatches, Command, Error};
+use crate::simple::why_refused;
+use clap::{Arg, ArgAction, ArgMatches, Command};
 use std::alloc::{AllocError, Global};
 
 /// What `clap` matches in the words, the first of which is the tool's name.
@@ -18,15 +18,6 @@ pub fn matched(alloc: Global, words: &[String]) -> Result<ArgMatches<'_>, WordFa
     match command.try_get_matches_from(words) {
         Ok(matches) => Ok(matches),
         Err(error) => Err(why_refused(&error)),
-    }
-}
-
-fn why_refused(error: &Error) -> WordFault
-    ensures { (result ≡ WordFault.Memory) ⊎ ((result ≡ WordFault.Usage) × (kind_of error.now ≢ ErrorKind.OutOfMemory)) }
-{
-    match error.kind() {
-        ErrorKind::OutOfMemory => WordFault::Memory,
-        _ => WordFault::Usage,
     }
 }
 

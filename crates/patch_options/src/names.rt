@@ -74,8 +74,9 @@ fn read_input(alloc: Global, input: Option<&str>, operand: Option<&str>) -> Resu
     }
 }
 
+/// A patch file by its name, `-` being standard input.
 #[tactic(auto, unfolding(crate::specs::Forms::is_patch_file))]
-fn input_of(alloc: Global, text: &str) -> Result<Input, WordFault>
+pub fn input_of(alloc: Global, text: &str) -> Result<Input, WordFault>
     ensures input { IfOk result (λ input. input ≡ input_of (Some text.now)) }
     ensures lawful { IfOk result (λ input. is_patch_file text.now ≡ true) }
     ensures refused { IfErr result (λ fault. (fault ≡ WordFault.Memory) ⊎ ((fault ≡ WordFault.Usage) × (is_patch_file text.now ≡ false))) }
@@ -100,7 +101,8 @@ fn name_of(alloc: Global, text: &str) -> Result<Name, WordFault>
     }
 }
 
-fn read_name(alloc: Global, text: Option<&str>) -> Result<Option<Name>, WordFault>
+/// The name that was given, if it is lawful.
+pub fn read_name(alloc: Global, text: Option<&str>) -> Result<Option<Name>, WordFault>
     ensures name { IfOk result (λ given. given ≡ option_map normal_form (text_of text.entry)) }
     ensures lawful { IfOk result (λ given. has_form is_name (text_of text.entry) ≡ true) }
     ensures refused { IfErr result (λ fault. (fault ≡ WordFault.Memory) ⊎ ((fault ≡ WordFault.Usage) × (has_form is_name (text_of text.entry) ≡ false))) }
@@ -113,7 +115,7 @@ fn read_name(alloc: Global, text: Option<&str>) -> Result<Option<Name>, WordFaul
 
 /// A name that is no temporary's.
 #[tactic(auto, unfolding(crate::specs::Forms::is_lasting_name))]
-fn lasting_name_of(alloc: Global, text: &str) -> Result<Name, WordFault>
+pub fn lasting_name_of(alloc: Global, text: &str) -> Result<Name, WordFault>
     ensures name { IfOk result (λ name. name ≡ normal_form text.now) }
     ensures lawful { IfOk result (λ name. is_lasting_name text.now ≡ true) }
     ensures refused { IfErr result (λ fault. (fault ≡ WordFault.Memory) ⊎ ((fault ≡ WordFault.Usage) × (is_lasting_name text.now ≡ false))) }

@@ -85,7 +85,7 @@ pub fn read_options(alloc: Global, matches: &ArgMatches<'_>) -> Result<Options, 
 
 /// How often the switch was given.
 #[tactic(auto, unfolding(crate::specs::Table::uses))]
-fn uses(matches: &ArgMatches<'_>, name: &str) -> u32
+pub fn uses(matches: &ArgMatches<'_>, name: &str) -> u32
     ensures uses { result ≡ uses (rows_in matches.now) name.now }
     ensures few { result < 256 }
 {
@@ -100,7 +100,8 @@ pub fn value_of<'a>(matches: &ArgMatches<'a>, name: &str) -> Option<&'a str>
     matches.get_str(name)
 }
 
-fn is_used(matches: &ArgMatches<'_>, name: &str) -> bool
+/// Whether the switch was given.
+pub fn is_used(matches: &ArgMatches<'_>, name: &str) -> bool
     ensures { result ≡ is_used (rows_in matches.now) name.now }
 {
     uses(matches, name) > 0
@@ -179,7 +180,8 @@ fn words_agree(matches: &ArgMatches<'_>) -> bool
         && has_suffix_form(value_of(matches, "suffix"))
 }
 
-fn is_number(text: Option<&str>) -> bool
+/// Whether the text, if it was given, writes a number.
+pub fn is_number(text: Option<&str>) -> bool
     ensures { result ≡ has_form (λ t. is_some (number_of t)) (text_of text.entry) }
 {
     match text {
@@ -188,7 +190,8 @@ fn is_number(text: Option<&str>) -> bool
     }
 }
 
-fn is_buffer(text: Option<&str>) -> bool
+/// Whether the text, if it was given, writes the size of a buffer.
+pub fn is_buffer(text: Option<&str>) -> bool
     ensures { result ≡ has_form (λ t. is_some (buffer_of t)) (text_of text.entry) }
 {
     match text {
@@ -197,7 +200,8 @@ fn is_buffer(text: Option<&str>) -> bool
     }
 }
 
-fn is_plan(text: Option<&str>) -> bool
+/// Whether the text, if it was given, names a plan.
+pub fn is_plan(text: Option<&str>) -> bool
     ensures { result ≡ has_form (λ t. is_some (plan_of t)) (text_of text.entry) }
 {
     match text {
@@ -240,7 +244,8 @@ fn only_form(matches: &ArgMatches<'_>) -> Option<Form>
     }
 }
 
-fn number_in(matches: &ArgMatches<'_>, name: &str) -> Option<u32>
+/// The number that an option gives.
+pub fn number_in(matches: &ArgMatches<'_>, name: &str) -> Option<u32>
     ensures { result ≡ option_and_then number_of (value_of (rows_in matches.now) name.now) }
 {
     number_of(value_of(matches, name)?)
@@ -252,7 +257,8 @@ fn reject_form_in(matches: &ArgMatches<'_>) -> Option<Form>
     reject_form_of(value_of(matches, "reject-format")?)
 }
 
-fn plan_in(matches: &ArgMatches<'_>) -> PlanKind
+/// The plan that `--plan` names.
+pub fn plan_in(matches: &ArgMatches<'_>) -> PlanKind
     ensures { result ≡ unwrap_or (option_and_then plan_of (value_of (rows_in matches.now) (codes "plan"))) PlanKind.Auto }
 {
     match value_of(matches, "plan") {
@@ -261,7 +267,8 @@ fn plan_in(matches: &ArgMatches<'_>) -> PlanKind
     }
 }
 
-fn buffer_in(matches: &ArgMatches<'_>) -> u32
+/// The size that `--buffer` gives.
+pub fn buffer_in(matches: &ArgMatches<'_>) -> u32
     ensures { result ≡ unwrap_or (option_and_then buffer_of (value_of (rows_in matches.now) (codes "buffer"))) 65536 }
 {
     match value_of(matches, "buffer") {

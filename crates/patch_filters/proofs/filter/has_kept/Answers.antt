@@ -3,7 +3,7 @@ use Rattle.std.specs.List.{list_any}
 use Rattle.std.proofs.lemmas.List.{take_all}
 use Rattle.file_patch.specs.PlainPatch.{change_of}
 use Rattle.patch_set.proofs.Named.{rows-counted}
-use Rattle.patch_filters.specs.PlainJobs.{plain_filter_job}
+use Rattle.tool_words.specs.PlainJobs.{plain_filter_job}
 use Rattle.patch_filters.specs.Kept.{kept}
 use Rattle.patch_filters.proofs.Rows.{kept-count}
 use Rattle.patch_filters.proofs.filter.has_kept.Goals as goal

@@ -1,7 +1,7 @@
 use Rattle.std.proofs.Common.{◌≡◌, ℕ, List, take, false}
 use Rattle.std.specs.List.{list_any}
 use Rattle.file_patch.specs.PlainPatch.{IsLawfulChange, change_of}
-use Rattle.patch_filters.specs.PlainJobs.{plain_filter_job}
+use Rattle.tool_words.specs.PlainJobs.{plain_filter_job}
 use Rattle.patch_filters.specs.Kept.{kept}
 use Rattle.patch_filters.proofs.filter.has_kept.Given as goal
 

@@ -1,7 +1,7 @@
 use Rattle.std.proofs.Common.{◌≡◌, ◌+◌, ◌&&◌, suc, true, false, sym, ap, ◌∙◌, arith}
 use Rattle.file_patch.specs.PlainPatch.{header_of}
 use Rattle.patch_set.specs.PlainName.{plain_name}
-use Rattle.patch_filters.specs.PlainJobs.{plain_filter_job}
+use Rattle.tool_words.specs.PlainJobs.{plain_filter_job}
 use Rattle.patch_filters.specs.Selected.{is_meant, is_selected}
 use Rattle.patch_filters.proofs.filter.is_taken.Goals as goal
 

@@ -2,7 +2,7 @@ use Rattle.std.proofs.Common.{◌≡◌, ◌<◌, length, arith}
 use Rattle.std.proofs.lemmas.Result.{err_from_is_err_and}
 use Rattle.file_patch.specs.PlainPatch.{change_of, row_count}
 use Rattle.patch_set.proofs.Named.{rows-counted}
-use Rattle.patch_filters.specs.PlainJobs.{plain_filter_job}
+use Rattle.tool_words.specs.PlainJobs.{plain_filter_job}
 use Rattle.patch_filters.specs.Kept.{kept}
 use Rattle.patch_filters.specs.Filtered.{text_if}
 use Rattle.patch_filters.proofs.Loops.{goes-on, stops, ends}

@@ -1,6 +1,6 @@
 use Rattle.hunk_core.proofs.SinkSteps.{HasPut}
 use Rattle.file_patch.specs.PlainPatch.{change_of}
-use Rattle.patch_filters.specs.PlainJobs.{plain_filter_job}
+use Rattle.tool_words.specs.PlainJobs.{plain_filter_job}
 use Rattle.patch_filters.specs.Kept.{kept}
 use Rattle.patch_filters.specs.Filtered.{pieces, text_if}
 use Rattle.patch_filters.proofs.Loops.{up_to}

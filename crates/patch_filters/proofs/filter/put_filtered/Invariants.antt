@@ -1,5 +1,5 @@
 use Rattle.hunk_core.proofs.SinkSteps.{HasPut}
-use Rattle.patch_filters.specs.PlainJobs.{plain_filter_job}
+use Rattle.tool_words.specs.PlainJobs.{plain_filter_job}
 use Rattle.patch_filters.specs.Selected.{numbered}
 use Rattle.patch_filters.specs.Filtered.{written_if_taken}
 use Rattle.patch_filters.proofs.Loops.{up_to}

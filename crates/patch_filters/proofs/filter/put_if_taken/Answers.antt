@@ -1,7 +1,7 @@
 use Rattle.std.proofs.Common.{◌≡◌, suc, true, sym, ap, subst, ◌∙◌, rules}
 use Rattle.std.proofs.lemmas.Option.{same_Some}
 use Rattle.hunk_core.specs.Writing.{Puts}
-use Rattle.patch_filters.specs.PlainJobs.{plain_filter_job}
+use Rattle.tool_words.specs.PlainJobs.{plain_filter_job}
 use Rattle.patch_filters.specs.Filtered.{is_taken_of, written}
 use Rattle.patch_filters.proofs.filter.put_if_taken.Goals as goal
 

@@ -1,7 +1,7 @@
 use Rattle.std.proofs.lemmas.Result.{err_from_is_err_and}
 use Rattle.hunk_core.proofs.SinkSteps.{has-put, puts-more, puts-stop}
 use Rattle.file_patch.specs.PlainPatch.{change_of}
-use Rattle.patch_filters.specs.PlainJobs.{plain_filter_job}
+use Rattle.tool_words.specs.PlainJobs.{plain_filter_job}
 use Rattle.patch_filters.specs.Kept.{kept}
 use Rattle.patch_filters.specs.Filtered.{chosen, pieces}
 use Rattle.patch_filters.proofs.filter.put_parts.Goals as goal

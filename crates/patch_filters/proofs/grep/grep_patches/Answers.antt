@@ -3,7 +3,7 @@ use Rattle.std.specs.Prelude.{◌==◌, is_some, string_bytes}
 use Rattle.outside.specs.SinkView.{Receives, ReceivesPart}
 use Rattle.outside.proofs.Writing.{received_none}
 use Rattle.file_patch.specs.declared.FilePatch.{FilePatch}
-use Rattle.patch_filters.specs.PlainJobs.{plain_grep_job}
+use Rattle.tool_words.specs.PlainJobs.{plain_grep_job}
 use Rattle.patch_filters.specs.Grepped.{grepped, test_of}
 use Rattle.patch_filters.proofs.Finding.{find-cause, none-part, pattern-cause, test-is}
 use Rattle.patch_filters.proofs.Hits.{grepped-none, has-none-in, is-empty}

@@ -4,7 +4,7 @@ use Rattle.hunk_core.specs.PlainHunk.{bytes_at}
 use Rattle.hunk_core.specs.Writing.{Puts}
 use Rattle.hunk_core.proofs.SinkSteps.{has-put}
 use Rattle.file_patch.specs.declared.FilePatch.{FilePatch}
-use Rattle.patch_filters.specs.declared.job.GrepOut.TheVariants.{Hunks}
+use Rattle.tool_words.specs.declared.jobs.GrepOut.TheVariants.{Hunks}
 use Rattle.patch_filters.specs.declared.fault.GrepFault.TheVariants.{Write}
 use Rattle.patch_filters.specs.Grepped.{Finds, found_text, test_of}
 use Rattle.patch_filters.proofs.Searching.{asked-none}

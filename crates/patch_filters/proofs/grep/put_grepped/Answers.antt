@@ -1,5 +1,5 @@
 use Rattle.std.proofs.Common.{◌≡◌, ◌<◌, length, rules}
-use Rattle.patch_filters.specs.PlainJobs.{plain_grep_job}
+use Rattle.tool_words.specs.PlainJobs.{plain_grep_job}
 use Rattle.patch_filters.specs.Grepped.{test_of, text_if_found}
 use Rattle.patch_filters.proofs.Rows.{there-is}
 use Rattle.patch_filters.proofs.Searching.{still-kept}

@@ -1,6 +1,6 @@
 use Rattle.std.proofs.Common.{◌≡◌, ◌+◌, ◌&&◌, [], suc, get_or, sym, ap, ◌∙◌, arith}
 use Rattle.file_patch.specs.PlainPatch.{change_of}
-use Rattle.patch_filters.specs.PlainJobs.{plain_filter_job}
+use Rattle.tool_words.specs.PlainJobs.{plain_filter_job}
 use Rattle.patch_filters.specs.Selected.{is_meant, is_one_meant}
 use Rattle.patch_filters.specs.OldLines.{numbers_of, old_of_each}
 use Rattle.patch_filters.proofs.Rows.{flag-at, olds-there}

@@ -5,7 +5,7 @@ use Rattle.std.proofs.lemmas.List.{length-map}
 use Rattle.std.proofs.lemmas.Option.{slice_get-map}
 use Rattle.file_patch.specs.PlainPatch.{patch_of}
 use Rattle.patch_set.specs.SetView.{plain_patches}
-use Rattle.patch_filters.specs.PlainJobs.{plain_list_job}
+use Rattle.tool_words.specs.PlainJobs.{plain_list_job}
 use Rattle.patch_filters.specs.Listed.{line_if_selected}
 use Rattle.patch_filters.proofs.Loops.{goes-on, stops, ends}
 use Rattle.patch_filters.proofs.Rows.{listed-is, there-is}

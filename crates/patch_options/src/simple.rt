@@ -1,0 +1,114 @@
+//! Simple commands: the table of a tool's words, and what `clap` matches by it.
+ghost use Rattle.std.specs.Prelude.{◌≡◌, ◌≢◌, ◌⊎◌, map, string_bytes, true, false, option_map, IfOk, IfErr};
+ghost use Rattle.clap.specs.Words.{app_of, is_simple_and_free, kind_of, rule_of};
+ghost use Rattle.patch_options.specs.Flags.{rows_in};
+ghost use Rattle.patch_options.specs.Simple.{plain_word, with_form, word_rule, simple_command, takes, rows_by, values_of};
+
+use crate::WordFault;
+use clap::error::ErrorKind;
+use clap::{Arg, ArgAction, ArgMatches, Command, Error};
+use std::alloc::{AllocError, Global};
+
+/// How a word is given.
+#[derive(Clone, Copy)]
+pub enum WordForm {
+    /// A switch, whose uses are counted.
+    Switch,
+    /// A switch that has a letter alone.
+    Letter,
+    /// An option with a value, which is given once at most.
+    Value,
+    /// An option with a value, which is given any number of times.
+    Values,
+    /// An operand. Operands stand in the order of their rows.
+    Operand,
+}
+
+/// A row of the table of a tool's words.
+#[derive(Clone, Copy)]
+pub struct Word {
+    pub form: WordForm,
+    pub letter: Option<char>,
+    /// By it uses and values are found. It is the long name of what isn't a letter or an operand.
+    pub name: &'static str,
+    /// How it is given, in the text that tells the words.
+    pub shown: &'static str,
+    /// What it gives, in that text.
+    pub help: &'static str,
+}
+
+/// What the simple command with this table matches in the words, the first of which names the tool.
+pub fn matched_by<'a>(
+    alloc: Global,
+    name: &'a str,
+    table: &'a [Word],
+    words: &'a [String],
+) -> Result<ArgMatches<'a>, WordFault>
+    requires { is_simple_and_free (simple_command name.now (map plain_word table.now)) ≡ true }
+    ensures taken { IfOk result (λ m. takes (simple_command name.entry.now (map plain_word table.entry.now)) (map string_bytes words.entry.now) ≡ true) }
+    ensures rows { IfOk result (λ m. rows_in m ≡ rows_by (simple_command name.entry.now (map plain_word table.entry.now)) (map string_bytes words.entry.now)) }
+    ensures refused { IfErr result (λ fault. (fault ≡ WordFault.Memory) ⊎ ((fault ≡ WordFault.Usage) × (takes (simple_command name.entry.now (map plain_word table.entry.now)) (map string_bytes words.entry.now) ≡ false))) }
+{
+    let command = command_of(alloc, name, table)?;
+    match command.try_get_matches_from(words) {
+        Ok(matches) => Ok(matches),
+        Err(error) => Err(why_refused(&error)),
+    }
+}
+
+/// Why `clap` refuses words.
+pub fn why_refused(error: &Error) -> WordFault
+    ensures { (result ≡ WordFault.Memory) ⊎ ((result ≡ WordFault.Usage) × (kind_of error.now ≢ ErrorKind.OutOfMemory)) }
+{
+    match error.kind() {
+        ErrorKind::OutOfMemory => WordFault::Memory,
+        _ => WordFault::Usage,
+    }
+}
+
+/// The simple command, without help and version flags and with no rules between its arguments.
+fn command_of<'a>(
+    alloc: Global,
+    name: &'a str,
+    table: &'a [Word],
+) -> Result<Command<'a>, AllocError>
+    ensures { IfOk result (λ c. app_of c ≡ simple_command name.entry.now (map plain_word table.entry.now)) }
+{
+    let mut command = Command::new(alloc, name).disable_help_flag(true);
+    for word in table {
+        command = command.arg(argument_of(alloc, word))?;
+    }
+    Ok(command)
+}
+
+/// The argument that a row describes.
+fn argument_of<'a>(alloc: Global, word: &'a Word) -> Arg<'a>
+    ensures rule { rule_of result ≡ word_rule (plain_word word.entry.now) }
+    ensures local { result.global ≡ false }
+{
+    let arg = Arg::new(alloc, word.name);
+    match word.letter {
+        Some(letter) => with_form(arg.short(letter), word),
+        None => with_form(arg, word),
+    }
+}
+
+fn with_form<'a>(arg: Arg<'a>, word: &'a Word) -> Arg<'a>
+    ensures rule { rule_of result ≡ with_form word.entry.now.form word.entry.now.name.now (rule_of arg.entry) }
+    ensures local { result.global ≡ arg.entry.global }
+{
+    match word.form {
+        WordForm::Switch => arg.long(word.name).action(ArgAction::Count),
+        WordForm::Letter => arg.action(ArgAction::Count),
+        WordForm::Value => arg.long(word.name),
+        WordForm::Values => arg.long(word.name).action(ArgAction::Append),
+        WordForm::Operand => arg,
+    }
+}
+
+/// All values of an option in their order, if it was given.
+pub fn values_of<'m, 'a>(matches: &'m ArgMatches<'a>, name: &str) -> Option<&'m [&'a str]>
+    ensures { option_map (λ s. map (λ v. v.now) s.now) result ≡ values_of (rows_in matches.entry.now) name.now }
+{
+    matches.get_strs(name)
+}

@@ -1,0 +1,182 @@
+-- What a tool is asked for is lawful.
+use Rattle.std.proofs.Common.{◌≡◌, ◌&&◌, ◌*◌, ◌≤◌, ◌-◌, ◌^◌, ◌==◌, ℕ, Bool, true, false, not, List, [], ◌∷◌, Option, Some, None, All, codes, refl, ap, subst, arith, if◌then◌else◌, bytes_eq, length, nat_le, nat_lt, option_map, option_and_then, unwrap_or}
+use Rattle.std.specs.List.{slice_split, position_or_len, before_first, after_first}
+use Rattle.std.specs.Option.{ForSome, option_map_or}
+use Rattle.std.proofs.lemmas.List.Elements.{All-nil, All-cons}
+use Rattle.clap.specs.Words.{Row, Text}
+use Rattle.outside.specs.Files.{is_temp}
+use Rattle.patch_options.specs.Forms.{buffer_in, buffer_of, is_empty, is_lasting_name, is_name, number_of}
+use Rattle.patch_options.specs.Table.{is_single, value_of}
+use Rattle.tool_words.specs.Asked.{asked, gen_of, is_gen, is_lawful, is_made, is_size, is_split_file, is_within, number_in}
+use Rattle.tool_words.specs.PlainJobs.{AreRanges, IsLawfulToolJob, IsRange, IsSize}
+use Rattle.tool_words.specs.Ranges.{between, end_or, item_of, items_by, ordered, positive, positive_of, ranges_of, single}
+use Rattle.tool_words.specs.Selecting.{name_in}
+use Rattle.tool_words.specs.declared.tools.Tool.{Tool}
+use Rattle.tool_words.specs.declared.tools.Tool.TheVariants.{Lsdiff, Filterdiff, Grepdiff, Splitdiff, Recountdiff, Patchgen, Reversediff, Patchstack}
+
+-- ---- values that may be none
+
+none_has : {X : Type 0} (P : X → Type 0) → ForSome None P
+none_has P = λ x e. cc
+
+some_has : {X : Type 0} (P : X → Type 0) (x : X) → P x → ForSome (Some x) P
+some_has P x h = λ y e. subst P (ap (λ o. unwrap_or o x) e) h
+
+then_has : {X Y : Type 0} (P : X → Type 0) (Q : Y → Type 0) (f : X → Option Y) (o : Option X) → ForSome o P → ((x : X) → P x → ForSome (f x) Q) → ForSome (option_and_then f o) Q
+then_has P Q f None h law = none_has Q
+then_has P Q f (Some x) h law = law x (h x refl)
+
+map_has : {X Y : Type 0} (P : X → Type 0) (Q : Y → Type 0) (f : X → Y) (o : Option X) → ForSome o P → ((x : X) → P x → Q (f x)) → ForSome (option_map f o) Q
+map_has P Q f None h law = none_has Q
+map_has P Q f (Some x) h law = some_has Q (f x) (law x (h x refl))
+
+-- ---- ranges
+
+abbrev IsPositive : ℕ → Type 0
+IsPositive n = 1 ≤ n
+
+positive_has : (n : ℕ) → ForSome (positive n) IsPositive
+positive_has n = go (n == 0) refl
+  where
+    go : (b : Bool) → (n == 0) ≡ b → ForSome (if b then None else Some n) IsPositive
+    go true e = none_has IsPositive
+    go false e = some_has IsPositive n (grind arith)
+
+positive_of_has : (text : List ℕ) → ForSome (positive_of text) IsPositive
+unfolding positive_of
+positive_of_has text = go (number_of text)
+  where
+    go : (o : Option ℕ) → ForSome (option_and_then positive o) IsPositive
+    go None = none_has IsPositive
+    go (Some n) = positive_has n
+
+end_has : (value : ℕ) (text : List ℕ) → 1 ≤ value → ForSome (end_or value text) IsPositive
+end_has value text h = go (is_empty text)
+  where
+    go : (b : Bool) → ForSome (if b then Some value else positive_of text) IsPositive
+    go true = some_has IsPositive value h
+    go false = positive_of_has text
+
+ordered_has : (first last : ℕ) → 1 ≤ first → ForSome (ordered first last) IsRange
+ordered_has first last h = go (nat_le first last) refl
+  where
+    go : (b : Bool) → nat_le first last ≡ b → ForSome (if b then Some (first, last) else None) IsRange
+    go true e = some_has IsRange (first, last) (record { from_1 = h; ordered = grind arith })
+    go false e = none_has IsRange
+
+between_has : (front back : List ℕ) → ForSome (between front back) IsRange
+unfolding between
+between_has front back = go (is_empty front && is_empty back)
+  where
+    both_ends : ForSome (option_and_then (λ first. option_and_then (ordered first) (end_or (2 ^ 32 - 1) back)) (end_or 1 front)) IsRange
+    both_ends = then_has IsPositive IsRange (λ first. option_and_then (ordered first) (end_or (2 ^ 32 - 1) back)) (end_or 1 front) (end_has 1 front (omega arith))
+        (λ first h. then_has IsPositive IsRange (ordered first) (end_or (2 ^ 32 - 1) back) (end_has (2 ^ 32 - 1) back (omega arith)) (λ last k. ordered_has first last h))
+
+    go : (b : Bool) → ForSome (if b then None else option_and_then (λ first. option_and_then (ordered first) (end_or (2 ^ 32 - 1) back)) (end_or 1 front)) IsRange
+    go true = none_has IsRange
+    go false = both_ends
+
+single_has : (text : List ℕ) → ForSome (single text) IsRange
+single_has text = map_has IsPositive IsRange (λ n. (n, n)) (positive_of text) (positive_of_has text) (λ n h. record { from_1 = h; ordered = omega arith })
+
+item_has : (text : List ℕ) → ForSome (item_of text) IsRange
+unfolding item_of
+item_has text = go (nat_lt (position_or_len (λ b. b == 45) text) (length text))
+  where
+    go : (b : Bool) → ForSome (if b then between (before_first (λ b. b == 45) text) (after_first (λ b. b == 45) text) else single text) IsRange
+    go true = between_has (before_first (λ b. b == 45) text) (after_first (λ b. b == 45) text)
+    go false = single_has text
+
+items_have : (texts : List (List ℕ)) → ForSome (items_by texts) (All IsRange)
+items_have [] = some_has (All IsRange) [] (All-nil IsRange)
+items_have (text ∷ texts) = then_has IsRange (All IsRange) (λ item. option_map (λ items. item ∷ items) (items_by texts)) (item_of text) (item_has text)
+    (λ item h. map_has (All IsRange) (All IsRange) (λ items. item ∷ items) (items_by texts) (items_have texts) (λ items k. All-cons IsRange item items h k))
+
+ranges_have : (value : Option Text) → AreRanges (option_and_then ranges_of value)
+unfolding ranges_of
+ranges_have None = none_has (All IsRange)
+ranges_have (Some text) = items_have (slice_split (λ b. b == 44) text)
+
+-- ---- names
+
+both : (a b : Bool) → (a && b) ≡ true → (a ≡ true) × (b ≡ true)
+both true b h = (refl, h)
+both false b h = cc
+
+is_false : (b : Bool) → not b ≡ true → b ≡ false
+is_false true h = cc
+is_false false h = refl
+
+split_has : (value : Option Text) → option_map_or is_split_file value false ≡ true → is_temp (option_map_or name_in value []) ≡ false
+unfolding is_split_file is_lasting_name
+split_has None h = cc
+split_has (Some text) h = is_false _ (both (is_name text) _ (both (not (bytes_eq text (codes "-"))) _ h).1).1
+
+-- ---- sizes
+
+abbrev AreSizes : ℕ → ℕ → Type 0
+AreSizes files lines = ((1 ≤ files) × (files ≤ 1000)) × (((20 ≤ lines) × (lines ≤ 9999999)) × (files * lines ≤ 10000000))
+
+at_most : (a b : ℕ) → nat_le a b ≡ true → a ≤ b
+at_most a b e = grind arith
+
+within_is : (least most n : ℕ) → is_within least most n ≡ true → (least ≤ n) × (n ≤ most)
+within_is least most n h = let p = both (nat_le least n) (nat_le n most) h in (at_most least n p.0, at_most n most p.1)
+
+sizes_are : (files lines : ℕ) → is_size files lines ≡ true → AreSizes files lines
+sizes_are files lines h =
+    let p = both (is_within 1 1000 files) (is_within 20 9999999 lines && nat_le (files * lines) 10000000) h in
+    let q = both (is_within 20 9999999 lines) (nat_le (files * lines) 10000000) p.1 in
+    (within_is 1 1000 files p.0, (within_is 20 9999999 lines q.0, at_most (files * lines) 10000000 q.1))
+
+made_are : (seed files lines : Option ℕ) → is_made seed files lines ≡ true → AreSizes (unwrap_or files 0) (unwrap_or lines 0)
+made_are (Some seed) (Some files) (Some lines) h = sizes_are files lines h
+made_are (Some seed) (Some files) None h = cc
+made_are (Some seed) None lines h = cc
+made_are None files lines h = cc
+
+abbrev IsPage : ℕ → Type 0
+IsPage n = (512 ≤ n) × (n ≤ 1048576)
+
+page_in : (n : ℕ) → ForSome (buffer_in n) IsPage
+page_in n = go (nat_le 512 n) (nat_le n 1048576) refl refl
+  where
+    go : (a b : Bool) → nat_le 512 n ≡ a → nat_le n 1048576 ≡ b → ForSome (if a && b then Some n else None) IsPage
+    go true true least most = some_has IsPage n (at_most 512 n least, at_most n 1048576 most)
+    go true false least most = none_has IsPage
+    go false b least most = none_has IsPage
+
+page_of : (text : Text) → ForSome (buffer_of text) IsPage
+unfolding buffer_of
+page_of text = go (number_of text)
+  where
+    go : (o : Option ℕ) → ForSome (option_and_then buffer_in o) IsPage
+    go None = none_has IsPage
+    go (Some n) = page_in n
+
+page_is : (value : Option Text) → IsPage (unwrap_or (option_and_then buffer_of value) 65536)
+page_is None = (omega arith, omega arith)
+page_is (Some text) = go (buffer_of text) (page_of text)
+  where
+    go : (o : Option ℕ) → ForSome o IsPage → IsPage (unwrap_or o 65536)
+    go None h = (omega arith, omega arith)
+    go (Some n) h = h n refl
+
+gen_has : (rows : List Row) → is_gen rows ≡ true → IsSize (gen_of rows)
+gen_has rows h =
+    let p = both (is_made (number_in rows (codes "seed")) (number_in rows (codes "files")) (number_in rows (codes "lines"))) _ h in
+    let sizes = made_are (number_in rows (codes "seed")) (number_in rows (codes "files")) (number_in rows (codes "lines")) p.0 in
+    let page = page_is (value_of rows (codes "buffer")) in
+    record { some_files = sizes.0.0; few_files = sizes.0.1; some_lines = sizes.1.0.0; few_lines = sizes.1.0.1; few = sizes.1.1; least = page.0; most = page.1 }
+
+-- ---- all tools
+
+pub lawful_job : (tool : Tool) (rows : List Row) → is_lawful tool rows ≡ true → IsLawfulToolJob (asked tool rows)
+lawful_job Lsdiff rows h = tt
+lawful_job Filterdiff rows h = record { hunks = ranges_have (value_of rows (codes "hunks")); lines = ranges_have (value_of rows (codes "lines")); files = ranges_have (value_of rows (codes "files")) }
+lawful_job Grepdiff rows h = tt
+lawful_job Splitdiff rows h = split_has (value_of rows (codes "file")) (both (is_single rows (codes "every")) _ h).1
+lawful_job Recountdiff rows h = tt
+lawful_job Patchgen rows h = gen_has rows h
+lawful_job Reversediff rows h = tt
+lawful_job Patchstack rows h = tt

@@ -1,0 +1,7 @@
+pub mod Free
+pub mod Items
+pub mod Selection
+pub mod Listing
+pub mod Telling
+pub mod Lawful
+pub mod Reading

@@ -1,0 +1,71 @@
+-- What words ask of a tool, by what was matched in them.
+use Rattle.std.proofs.Common.{◌≡◌, ◌⊎◌, ◌∙◌, ◌&&◌, Bool, true, false, List, Result, Ok, Err, IsErrAnd, IfErr, ap, refl, sym, inl, inr, if◌then◌else◌}
+use Rattle.clap.specs.Words.{App, Row, Text, is_simple_and_free}
+use Rattle.clap.proofs.TakesLemmas.{passed_up}
+use Rattle.patch_options.specs.Simple.{PlainWord, simple_command, takes, rows_by}
+use Rattle.patch_options.specs.declared.options.WordFault.{WordFault}
+use Rattle.patch_options.specs.declared.options.WordFault.TheVariants.{Usage, Memory}
+use Rattle.tool_words.specs.Asked.{is_lawful, asked}
+use Rattle.tool_words.specs.PlainJobs.{PlainToolJob}
+use Rattle.tool_words.specs.Tools.{command_of, name_of, table_of}
+use Rattle.tool_words.specs.Words.{job_by}
+use Rattle.tool_words.specs.declared.tools.Tool.{Tool}
+use Rattle.tool_words.proofs.Free.{command_is_free}
+
+if_both : {X : Type 0} (a b : Bool) (x y : X) → a ≡ true → b ≡ true → (if a && b then x else y) ≡ x
+if_both true true x y h k = refl
+if_both true false x y h k = cc
+if_both false b x y h k = cc
+
+if_not_first : {X : Type 0} (a b : Bool) (x y : X) → a ≡ false → (if a && b then x else y) ≡ y
+if_not_first true b x y h = cc
+if_not_first false b x y h = refl
+
+if_not_second : {X : Type 0} (a b : Bool) (x y : X) → b ≡ false → (if a && b then x else y) ≡ y
+if_not_second true true x y h = cc
+if_not_second true false x y h = refl
+if_not_second false b x y h = refl
+
+module _ (tool : Tool) (name : Text) (table : List PlainWord) (words : List Text) (name-is : name ≡ name_of tool) (table-is : table ≡ table_of tool) where
+  command-is : simple_command name table ≡ command_of tool
+  unfolding command_of
+  command-is = ap (λ (n : Text). simple_command n table) name-is ∙ ap (simple_command (name_of tool)) table-is
+
+  pub is_free : is_simple_and_free (simple_command name table) ≡ true
+  is_free = ap is_simple_and_free command-is ∙ command_is_free tool
+
+  -- a refusal of the words by the command
+  words_refused : (fault : WordFault) → (fault ≡ Memory) ⊎ ((fault ≡ Usage) × (takes (simple_command name table) words ≡ false)) → (fault ≡ Memory) ⊎ (job_by tool words ≡ Err fault)
+  unfolding job_by
+  words_refused fault (inl memory) = inl memory
+  words_refused fault (inr usage) =
+      let untaken : takes (command_of tool) words ≡ false = ap (λ (a : App). takes a words) (sym command-is) ∙ usage.1 in
+      inr (if_not_first (takes (command_of tool) words) (is_lawful tool (rows_by (command_of tool) words)) (Ok (asked tool (rows_by (command_of tool) words))) (Err Usage) untaken ∙ ap (λ (f : WordFault). Err f) (sym usage.0))
+
+  pub words_passed : {T : Type 0} (fault : WordFault) (answer : Result T WordFault) → (fault ≡ Memory) ⊎ ((fault ≡ Usage) × (takes (simple_command name table) words ≡ false))
+      → IsErrAnd answer (λ f. f ≡ fault) → IfErr answer (λ f. (f ≡ Memory) ⊎ (job_by tool words ≡ Err f))
+  words_passed fault answer refused passes = passed_up answer fault _ passes (words_refused fault refused)
+
+  module _ (rows : List Row) (rows-are : rows ≡ rows_by (simple_command name table) words) where
+    all : rows ≡ rows_by (command_of tool) words
+    all = rows-are ∙ ap (λ (a : App). rows_by a words) command-is
+
+    -- a refusal of what was matched
+    table_refused : (fault : WordFault) → (fault ≡ Memory) ⊎ ((fault ≡ Usage) × (is_lawful tool rows ≡ false)) → (fault ≡ Memory) ⊎ (job_by tool words ≡ Err fault)
+    unfolding job_by
+    table_refused fault (inl memory) = inl memory
+    table_refused fault (inr usage) =
+        let unlawful : is_lawful tool (rows_by (command_of tool) words) ≡ false = ap (is_lawful tool) (sym all) ∙ usage.1 in
+        inr (if_not_second (takes (command_of tool) words) (is_lawful tool (rows_by (command_of tool) words)) (Ok (asked tool (rows_by (command_of tool) words))) (Err Usage) unlawful ∙ ap (λ (f : WordFault). Err f) (sym usage.0))
+
+    pub table_passed : {T : Type 0} (fault : WordFault) (answer : Result T WordFault) → (fault ≡ Memory) ⊎ ((fault ≡ Usage) × (is_lawful tool rows ≡ false))
+        → IsErrAnd answer (λ f. f ≡ fault) → IfErr answer (λ f. (f ≡ Memory) ⊎ (job_by tool words ≡ Err f))
+    table_passed fault answer refused passes = passed_up answer fault _ passes (table_refused fault refused)
+
+    pub job_is : (value : PlainToolJob) → takes (simple_command name table) words ≡ true → is_lawful tool rows ≡ true → value ≡ asked tool rows → job_by tool words ≡ Ok value
+    unfolding job_by
+    job_is value takes_them lawful value-is =
+        let taken : takes (command_of tool) words ≡ true = ap (λ (a : App). takes a words) (sym command-is) ∙ takes_them in
+        let is_one : is_lawful tool (rows_by (command_of tool) words) ≡ true = ap (is_lawful tool) (sym all) ∙ lawful in
+        let same : asked tool (rows_by (command_of tool) words) ≡ value = ap (asked tool) (sym all) ∙ sym value-is in
+        if_both (takes (command_of tool) words) (is_lawful tool (rows_by (command_of tool) words)) (Ok (asked tool (rows_by (command_of tool) words))) (Err Usage) taken is_one ∙ ap (λ v. Ok v) same

@@ -1,0 +1,33 @@
+use Rattle.std.proofs.Common.{◌==◌, ◌∙◌, ◌∷◌, ◌++◌, [], inr, refl, sym, length, lit<}
+use Rattle.std.specs.List.{slice_split}
+use Rattle.std.proofs.lemmas.Iterator.Consumers.{YieldsList-turn, YieldsList-end}
+use Rattle.std.proofs.lemmas.Iterator.Splits.{YieldsList-from_str_split}
+use Rattle.std.proofs.lemmas.List.{length_push}
+use Rattle.tool_words.specs.Ranges.{ranges_of}
+use Rattle.tool_words.proofs.Items.{nothing_read, item_read, item_refused, all_read}
+use Rattle.tool_words.proofs.ranges.ranges_of.Goals as goal
+
+pub loop-part-init : goal.loop-part-init
+loop-part-init c = nothing_read (slice_split (λ b. b == 44) c.args.text.now) c.new-items.result.items c.new-items.ensures.items
+
+pub loop-part-preserved : goal.loop-part-preserved
+loop-part-preserved c =
+    let text = c.args.text.now in
+    let t = YieldsList-turn (YieldsList-from_str_split 44 text (lit< tt) (cc) (cc) (cc)) c.loop-part.yielded _ c.loop-part.yielded_by _ _ c.in-Some.part c.in-Some.is c.next.ensures.steps in
+    item_read (slice_split (λ b. b == 44) text) (length c.loop-part.yielded) c.in-Some.part.now c.loop-part.items.items t.0 t.1 c.loop-part.invariant
+    c.in-Some-item_of.item c.push.new.self.items (length (c.loop-part.yielded ++ c.in-Some.part ∷ [])) (sym c.in-Some-item_of.is ∙ c.item_of.ensures)
+    c.in_ok-push-in-Some-item_of.ensures.items (length_push c.loop-part.yielded c.in-Some.part)
+
+pub returns-in-None-item_of-clause-refused : goal.returns-in-None-item_of-clause-refused
+unfolding ranges_of
+returns-in-None-item_of-clause-refused c =
+    let text = c.args.text.now in
+    let t = YieldsList-turn (YieldsList-from_str_split 44 text (lit< tt) (cc) (cc) (cc)) c.loop-part.yielded _ c.loop-part.yielded_by _ _ c.in-Some.part c.in-Some.is c.next.ensures.steps in
+    inr (refl, item_refused (slice_split (λ b. b == 44) text) (length c.loop-part.yielded) c.in-Some.part.now c.loop-part.items.items t.0 t.1 c.loop-part.invariant (sym c.in-None-item_of.is ∙ c.item_of.ensures))
+
+pub returns-clause-ranges : goal.returns-clause-ranges
+unfolding ranges_of
+returns-clause-ranges c =
+    let text = c.args.text.now in
+    let t = YieldsList-end (YieldsList-from_str_split 44 text (lit< tt) (cc) (cc) (cc)) c.loop-part.yielded _ c.loop-part.yielded_by _ _ c.in-None.is c.next.ensures.steps in
+    all_read (slice_split (λ b. b == 44) text) (length c.loop-part.yielded) c.loop-part.items.items t.1 c.loop-part.invariant

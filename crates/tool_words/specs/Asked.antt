@@ -1,0 +1,179 @@
+-- What the words of each tool ask for, over what `clap` matched.
+use Rattle.std.specs.Prelude.{ℕ, ◌*◌, List, [], codes, nat_le, Bool, false, not, ◌&&◌, if◌then◌else◌, bytes_eq, Option, None, Some, is_some, option_and_then, unwrap_or}
+use Rattle.std.specs.Option.{option_map_or}
+use Rattle.clap.specs.Words.{Row, Text}
+use Rattle.hunk_core.specs.declared.Form.{Form}
+use Rattle.hunk_core.specs.declared.Form.TheVariants.{Unified, Context, Normal, Ed}
+use Rattle.patch_options.specs.Forms.{number_of, buffer_of, plan_of, is_lasting_name}
+use Rattle.patch_options.specs.Table.{is_used, is_single, value_of, has_form}
+use Rattle.patch_options.specs.declared.options.PlanKind.TheVariants.{Auto}
+use Rattle.tool_words.specs.PlainJobs.{PlainListJob, PlainFilterJob, PlainGrepJob, PlainSplitJob, PlainGenJob, PlainToolJob}
+use Rattle.tool_words.specs.PlainJobs.PlainToolJob.{list_job, filter_job, grep_job, split_job, recount_job, gen_job, flip_job, stack_job}
+use Rattle.tool_words.specs.Ranges.{ranges_of}
+use Rattle.tool_words.specs.Selecting.{is_number, number_or_0, name_in, is_select, select_of, is_input, input_in}
+use Rattle.tool_words.specs.declared.jobs.GrepOut.{GrepOut}
+use Rattle.tool_words.specs.declared.jobs.GrepOut.TheVariants.{Names, Hunks, Files}
+use Rattle.tool_words.specs.declared.jobs.StackOp.{StackOp}
+use Rattle.tool_words.specs.declared.jobs.StackOp.TheVariants.{Push, Pop, Applied}
+use Rattle.tool_words.specs.declared.tools.Tool.{Tool}
+use Rattle.tool_words.specs.declared.tools.Tool.TheVariants.{Lsdiff, Filterdiff, Grepdiff, Splitdiff, Recountdiff, Patchgen, Reversediff, Patchstack}
+
+-- the text that is read, and the file patches that are meant, are lawful
+abbrev pub is_subject : List Row → Bool
+is_subject rows = is_select rows && is_input rows
+
+-- ---- `lsdiff`
+
+unfoldable pub are_list_words : List Row → Bool
+are_list_words rows = is_single rows (codes "status") && (is_single rows (codes "line-number") && has_form is_number (value_of rows (codes "strip")))
+
+abbrev pub is_list : List Row → Bool
+is_list rows = are_list_words rows && is_subject rows
+
+abbrev pub list_of : List Row → PlainListJob
+list_of rows = record {
+  input = input_in rows;
+  select = select_of rows;
+  status = is_used rows (codes "status");
+  numbers = is_used rows (codes "line-number");
+  shown_strip = number_or_0 rows (codes "strip");
+}
+
+-- ---- `filterdiff`
+
+abbrev pub is_ranges : List ℕ → Bool
+is_ranges text = is_some (ranges_of text)
+
+abbrev pub are_ranges : List Row → Bool
+are_ranges rows = has_form is_ranges (value_of rows (codes "hunks"))
+    && (has_form is_ranges (value_of rows (codes "lines")) && has_form is_ranges (value_of rows (codes "files")))
+
+-- the form that a text names
+unfoldable pub form_of : List ℕ → Option Form
+form_of text = if bytes_eq text (codes "unified") then Some Unified
+    else if bytes_eq text (codes "context") then Some Context
+    else if bytes_eq text (codes "normal") then Some Normal
+    else if bytes_eq text (codes "ed") then Some Ed
+    else None
+
+abbrev pub is_form : List ℕ → Bool
+is_form text = is_some (form_of text)
+
+abbrev pub is_filter : List Row → Bool
+is_filter rows = has_form is_form (value_of rows (codes "format")) && (are_ranges rows && is_subject rows)
+
+abbrev pub filter_of : List Row → PlainFilterJob
+filter_of rows = record {
+  input = input_in rows;
+  select = select_of rows;
+  hunks = option_and_then ranges_of (value_of rows (codes "hunks"));
+  lines = option_and_then ranges_of (value_of rows (codes "lines"));
+  files = option_and_then ranges_of (value_of rows (codes "files"));
+  format = option_and_then form_of (value_of rows (codes "format"));
+}
+
+-- ---- `grepdiff`
+
+-- what is written, by the word for it
+unfoldable pub grep_out_of : List ℕ → Option GrepOut
+grep_out_of text = if bytes_eq text (codes "hunk") then Some Hunks
+    else if bytes_eq text (codes "file") then Some Files
+    else None
+
+abbrev pub is_grep_out : List ℕ → Bool
+is_grep_out text = is_some (grep_out_of text)
+
+-- a pattern is there; that it is an extended one is so in any case
+abbrev pub is_grep : List Row → Bool
+is_grep rows = (is_single rows (codes "extended-regexp") && is_some (value_of rows (codes "regex")))
+    && (has_form is_grep_out (value_of rows (codes "output-matching")) && is_subject rows)
+
+abbrev pub grep_of : List Row → PlainGrepJob
+grep_of rows = record {
+  input = input_in rows;
+  select = select_of rows;
+  pattern = unwrap_or (value_of rows (codes "regex")) [];
+  output = unwrap_or (option_and_then grep_out_of (value_of rows (codes "output-matching"))) Names;
+}
+
+-- ---- `splitdiff`
+
+-- the parts are named by a file's name
+unfoldable pub is_split_file : List ℕ → Bool
+is_split_file text = not (bytes_eq text (codes "-")) && is_lasting_name text
+
+abbrev pub is_split : List Row → Bool
+is_split rows = is_single rows (codes "every") && option_map_or is_split_file (value_of rows (codes "file")) false
+
+abbrev pub split_of : List Row → PlainSplitJob
+split_of rows = record {
+  input = option_map_or name_in (value_of rows (codes "file")) [];
+  every = is_used rows (codes "every");
+}
+
+-- ---- `patchgen`
+
+-- a number between two others, both included
+abbrev pub is_within : ℕ → ℕ → ℕ → Bool
+is_within least most n = nat_le least n && nat_le n most
+
+-- so many files of so many lines are made
+abbrev pub is_size : ℕ → ℕ → Bool
+is_size files lines = is_within 1 1000 files && (is_within 20 9999999 lines && nat_le (files * lines) 10000000)
+
+-- the three numbers, where each is one and they are in their bounds
+abbrev pub is_made : Option ℕ → Option ℕ → Option ℕ → Bool
+is_made (Some seed) (Some files) (Some lines) = is_size files lines
+is_made seed files lines = false
+
+abbrev pub number_in : List Row → Text → Option ℕ
+number_in rows name = option_and_then number_of (value_of rows name)
+
+abbrev pub is_gen : List Row → Bool
+is_gen rows = is_made (number_in rows (codes "seed")) (number_in rows (codes "files")) (number_in rows (codes "lines"))
+    && (has_form (λ t. is_some (plan_of t)) (value_of rows (codes "plan")) && has_form (λ t. is_some (buffer_of t)) (value_of rows (codes "buffer")))
+
+abbrev pub gen_of : List Row → PlainGenJob
+gen_of rows = record {
+  seed = number_or_0 rows (codes "seed");
+  files = number_or_0 rows (codes "files");
+  lines = number_or_0 rows (codes "lines");
+  plan = unwrap_or (option_and_then plan_of (value_of rows (codes "plan"))) Auto;
+  buffer = unwrap_or (option_and_then buffer_of (value_of rows (codes "buffer"))) 65536;
+}
+
+-- ---- `patchstack`
+
+-- what is done, by the word for it
+unfoldable pub stack_op_of : List ℕ → Option StackOp
+stack_op_of text = if bytes_eq text (codes "push") then Some Push
+    else if bytes_eq text (codes "pop") then Some Pop
+    else if bytes_eq text (codes "applied") then Some Applied
+    else None
+
+abbrev pub stack_op_in : List Row → Option StackOp
+stack_op_in rows = option_and_then stack_op_of (value_of rows (codes "operation"))
+
+-- ---- all of them
+
+-- what was matched in the words of a tool is lawful
+abbrev pub is_lawful : Tool → List Row → Bool
+is_lawful Lsdiff rows = is_list rows
+is_lawful Filterdiff rows = is_filter rows
+is_lawful Grepdiff rows = is_grep rows
+is_lawful Splitdiff rows = is_split rows
+is_lawful Recountdiff rows = is_input rows
+is_lawful Patchgen rows = is_gen rows
+is_lawful Reversediff rows = is_input rows
+is_lawful Patchstack rows = is_some (stack_op_in rows)
+
+-- what it asks for
+abbrev pub asked : Tool → List Row → PlainToolJob
+asked Lsdiff rows = list_job (list_of rows)
+asked Filterdiff rows = filter_job (filter_of rows)
+asked Grepdiff rows = grep_job (grep_of rows)
+asked Splitdiff rows = split_job (split_of rows)
+asked Recountdiff rows = recount_job (input_in rows)
+asked Patchgen rows = gen_job (gen_of rows)
+asked Reversediff rows = flip_job (input_in rows)
+asked Patchstack rows = stack_job (unwrap_or (stack_op_in rows) Applied)

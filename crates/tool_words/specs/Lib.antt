@@ -1,0 +1,8 @@
+pub mod PlainJobs
+pub mod Tables
+pub mod Tools
+pub mod Ranges
+pub mod Selecting
+pub mod Asked
+pub mod Usage
+pub mod Words

@@ -1,0 +1,155 @@
+-- What the tools beside `patch` are asked for, with texts, patterns and ranges as lists, and which jobs are lawful.
+use Rattle.std.specs.Prelude.{◌≡◌, ℕ, ◌*◌, ◌≤◌, List, All, map, Bool, false, Option, option_map, string_bytes}
+use Rattle.std.specs.Option.{ForSome}
+use Rattle.hunk_core.specs.declared.Form.{Form}
+use Rattle.outside.specs.Files.{is_temp}
+use Rattle.patch_options.specs.declared.options.Input.{Input}
+use Rattle.patch_options.specs.declared.options.PlanKind.{PlanKind}
+use Rattle.tool_words.specs.declared.jobs.Select.{Select}
+use Rattle.tool_words.specs.declared.jobs.Ranges.{Ranges}
+use Rattle.tool_words.specs.declared.jobs.ListJob.{ListJob}
+use Rattle.tool_words.specs.declared.jobs.FilterJob.{FilterJob}
+use Rattle.tool_words.specs.declared.jobs.GrepOut.{GrepOut}
+use Rattle.tool_words.specs.declared.jobs.GrepJob.{GrepJob}
+use Rattle.tool_words.specs.declared.jobs.SplitJob.{SplitJob}
+use Rattle.tool_words.specs.declared.jobs.GenJob.{GenJob}
+use Rattle.tool_words.specs.declared.jobs.StackOp.{StackOp}
+use Rattle.tool_words.specs.declared.jobs.ToolJob.{ToolJob}
+use Rattle.tool_words.specs.declared.jobs.ToolJob.TheVariants.{List as ListOf, Filter, Grep, Split, Recount, Gen, Flip, Stack}
+
+-- which file patches are meant by their names; each field is that of `Select`
+pub record PlainSelect : Type 0 where
+  pub strip : ℕ
+  pub include : List (List ℕ)
+  pub exclude : List (List ℕ)
+  pub include_file : Option (List ℕ)
+  pub exclude_file : Option (List ℕ)
+  pub only_included : Bool
+
+-- numbers from a first up to and with a last
+abbrev pub PlainRanges : Type 0
+PlainRanges = List (ℕ × ℕ)
+
+-- a list; each field is that of `ListJob`
+pub record PlainListJob : Type 0 where
+  pub input : Input
+  pub select : PlainSelect
+  pub status : Bool
+  pub numbers : Bool
+  pub shown_strip : ℕ
+
+-- what is left of a text; each field is that of `FilterJob`
+pub record PlainFilterJob : Type 0 where
+  pub input : Input
+  pub select : PlainSelect
+  pub hunks : Option PlainRanges
+  pub lines : Option PlainRanges
+  pub files : Option PlainRanges
+  pub format : Option Form
+
+-- what is looked for; each field is that of `GrepJob`
+pub record PlainGrepJob : Type 0 where
+  pub input : Input
+  pub select : PlainSelect
+  pub pattern : List ℕ
+  pub output : GrepOut
+
+-- what is cut; each field is that of `SplitJob`
+pub record PlainSplitJob : Type 0 where
+  pub input : List ℕ
+  pub every : Bool
+
+-- what is made; each field is that of `GenJob`
+pub record PlainGenJob : Type 0 where
+  pub seed : ℕ
+  pub files : ℕ
+  pub lines : ℕ
+  pub plan : PlanKind
+  pub buffer : ℕ
+
+pub data PlainToolJob : Type 0 where
+  list_job : PlainListJob → PlainToolJob
+  filter_job : PlainFilterJob → PlainToolJob
+  grep_job : PlainGrepJob → PlainToolJob
+  split_job : PlainSplitJob → PlainToolJob
+  recount_job : Input → PlainToolJob
+  gen_job : PlainGenJob → PlainToolJob
+  flip_job : Input → PlainToolJob
+  stack_job : StackOp → PlainToolJob
+
+-- ---- what the structs of the code stand for
+
+abbrev pub plain_select : Select → PlainSelect
+plain_select s = record {
+  strip = s.strip;
+  include = map (λ p. p.items) s.include.items;
+  exclude = map (λ p. p.items) s.exclude.items;
+  include_file = s.include_file;
+  exclude_file = s.exclude_file;
+  only_included = s.only_included;
+}
+
+abbrev pub plain_ranges : Option Ranges → Option PlainRanges
+plain_ranges ranges = option_map (λ r. r.items.items) ranges
+
+abbrev pub plain_list_job : ListJob → PlainListJob
+plain_list_job j = record { input = j.input; select = plain_select j.select; status = j.status; numbers = j.numbers; shown_strip = j.shown_strip }
+
+abbrev pub plain_filter_job : FilterJob → PlainFilterJob
+plain_filter_job j = record { input = j.input; select = plain_select j.select; hunks = plain_ranges j.hunks; lines = plain_ranges j.lines; files = plain_ranges j.files; format = j.format }
+
+abbrev pub plain_grep_job : GrepJob → PlainGrepJob
+plain_grep_job j = record { input = j.input; select = plain_select j.select; pattern = string_bytes j.pattern; output = j.output }
+
+abbrev pub plain_split_job : SplitJob → PlainSplitJob
+plain_split_job j = record { input = j.input; every = j.every }
+
+abbrev pub plain_gen_job : GenJob → PlainGenJob
+plain_gen_job j = record { seed = j.seed; files = j.files; lines = j.lines; plan = j.plan; buffer = j.buffer }
+
+abbrev pub plain_tool_job : ToolJob → PlainToolJob
+plain_tool_job (ListOf j) = list_job (plain_list_job j)
+plain_tool_job (Filter j) = filter_job (plain_filter_job j)
+plain_tool_job (Grep j) = grep_job (plain_grep_job j)
+plain_tool_job (Split j) = split_job (plain_split_job j)
+plain_tool_job (Recount i) = recount_job i
+plain_tool_job (Gen j) = gen_job (plain_gen_job j)
+plain_tool_job (Flip i) = flip_job i
+plain_tool_job (Stack op) = stack_job op
+
+-- ---- the jobs that a tool may get
+
+-- from a first number, which isn't 0, up to and with a last
+pub record IsRange (range : ℕ × ℕ) : Type 0 where
+  pub from_1 : 1 ≤ range.0
+  pub ordered : range.0 ≤ range.1
+
+abbrev pub AreRanges : Option PlainRanges → Type 0
+AreRanges ranges = ForSome ranges (All IsRange)
+
+-- the ranges of a filter
+pub record HasRanges (j : PlainFilterJob) : Type 0 where
+  pub hunks : AreRanges j.hunks
+  pub lines : AreRanges j.lines
+  pub files : AreRanges j.files
+
+-- so many files of so many lines, by pages of such a size
+pub record IsSize (j : PlainGenJob) : Type 0 where
+  pub some_files : 1 ≤ j.files
+  pub few_files : j.files ≤ 1000
+  pub some_lines : 20 ≤ j.lines
+  pub few_lines : j.lines ≤ 9999999
+  pub few : j.files * j.lines ≤ 10000000
+  pub least : 512 ≤ j.buffer
+  pub most : j.buffer ≤ 1048576
+
+-- the parts of a text are no temporaries; the other tools' jobs may be any
+abbrev pub IsLawfulToolJob : PlainToolJob → Type 0
+IsLawfulToolJob (filter_job j) = HasRanges j
+IsLawfulToolJob (split_job j) = is_temp j.input ≡ false
+IsLawfulToolJob (gen_job j) = IsSize j
+IsLawfulToolJob (list_job j) = Unit {0}
+IsLawfulToolJob (grep_job j) = Unit {0}
+IsLawfulToolJob (recount_job i) = Unit {0}
+IsLawfulToolJob (flip_job i) = Unit {0}
+IsLawfulToolJob (stack_job op) = Unit {0}

@@ -1,0 +1,21 @@
+-- When words are a command of a tool beside `patch`, and what it asks for.
+use Rattle.std.specs.Prelude.{List, [], ◌∷◌, ◌&&◌, if◌then◌else◌, Result, Ok, Err}
+use Rattle.std.specs.Option.{option_map_or}
+use Rattle.clap.specs.Words.{Text}
+use Rattle.patch_options.specs.Simple.{takes, rows_by}
+use Rattle.patch_options.specs.declared.options.WordFault.{WordFault}
+use Rattle.patch_options.specs.declared.options.WordFault.TheVariants.{Usage}
+use Rattle.tool_words.specs.Asked.{is_lawful, asked}
+use Rattle.tool_words.specs.PlainJobs.{PlainToolJob}
+use Rattle.tool_words.specs.Tools.{command_of, tool_named}
+use Rattle.tool_words.specs.declared.tools.Tool.{Tool}
+
+-- what the words ask of a tool: its simple command takes them, and what it matches is lawful
+unfoldable pub job_by : Tool → List Text → Result PlainToolJob WordFault
+job_by tool words = if takes (command_of tool) words && is_lawful tool (rows_by (command_of tool) words)
+    then Ok (asked tool (rows_by (command_of tool) words)) else Err Usage
+
+-- what the words ask for; the first names the tool
+abbrev pub tool_job : List Text → Result PlainToolJob WordFault
+tool_job [] = Err Usage
+tool_job (first ∷ rest) = option_map_or (λ tool. job_by tool (first ∷ rest)) (tool_named first) (Err Usage)

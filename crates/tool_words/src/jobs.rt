@@ -1,0 +1,125 @@
+//! What the tools beside `patch` are asked for.
+
+use hunk_core::Form;
+use outside::Name;
+use patch_options::{Input, PlanKind};
+
+/// Which file patches are meant, by their names. A pattern matches a whole name.
+#[derive(Drop, Debug)]
+pub struct Select {
+    /// How many slashes are stripped from a name, with what stands before them, before it is matched.
+    pub strip: u32,
+    /// Patterns of which one must match, where `only_included` says so.
+    pub include: Vec<Vec<u8>>,
+    /// Patterns of which none may match.
+    pub exclude: Vec<Vec<u8>>,
+    /// The file whose lines are patterns to be included.
+    pub include_file: Option<Name>,
+    /// The file whose lines are patterns to be excluded.
+    pub exclude_file: Option<Name>,
+    /// There are patterns to be included, or a file of them.
+    pub only_included: bool,
+}
+
+/// Numbers, as ranges from the first up to and with the last.
+#[derive(Drop, Debug)]
+pub struct Ranges {
+    pub items: Vec<(u32, u32)>,
+}
+
+/// One command of `lsdiff`.
+#[derive(Drop, Debug)]
+pub struct ListJob {
+    pub input: Input,
+    pub select: Select,
+    /// Whether a sign says which side is absent.
+    pub status: bool,
+    /// Whether the number of the line of the names is printed.
+    pub numbers: bool,
+    /// How many slashes are stripped from a name that is printed.
+    pub shown_strip: u32,
+}
+
+/// One command of `filterdiff`.
+#[derive(Drop, Debug)]
+pub struct FilterJob {
+    pub input: Input,
+    pub select: Select,
+    /// The hunks that are kept, by their numbers in the file patch, from 1; none: all.
+    pub hunks: Option<Ranges>,
+    /// The old lines of which a kept hunk has one; none: all.
+    pub lines: Option<Ranges>,
+    /// The file patches that are written, by their numbers in the text, from 1; none: all.
+    pub files: Option<Ranges>,
+    /// The form that is written; none: that of the text.
+    pub format: Option<Form>,
+}
+
+/// What is written of the file patches that have a hit.
+#[derive(Clone, Copy, Debug, PartialEq, Eq)]
+pub enum GrepOut {
+    /// Their names.
+    Names,
+    /// Their first lines, and the hunks that have a hit.
+    Hunks,
+    /// All of them.
+    Files,
+}
+
+/// One command of `grepdiff`.
+#[derive(Drop, Debug)]
+pub struct GrepJob {
+    pub input: Input,
+    pub select: Select,
+    /// What a line of a hunk is to have.
+    pub pattern: String,
+    pub output: GrepOut,
+}
+
+/// One command of `splitdiff`.
+#[derive(Drop, Debug)]
+pub struct SplitJob {
+    /// The file by whose name the parts are named. It is no temporary's.
+    pub input: Name,
+    /// Each file patch begins a part.
+    pub every: bool,
+}
+
+/// One command of `patchgen`.
+#[derive(Clone, Copy, Debug, PartialEq, Eq)]
+pub struct GenJob {
+    pub seed: u32,
+    /// From 1 to 1,000.
+    pub files: u32,
+    /// The lines of each file, from 20 to 9,999,999; those of all files are at most 10,000,000.
+    pub lines: u32,
+    pub plan: PlanKind,
+    /// The size of a page in bytes, from 512 to 1,048,576.
+    pub buffer: u32,
+}
+
+/// What is done with the patches of a stack.
+#[derive(Clone, Copy, Debug, PartialEq, Eq)]
+pub enum StackOp {
+    /// The next patch is applied.
+    Push,
+    /// The last one that was applied is taken back.
+    Pop,
+    /// Those that are applied are listed.
+    Applied,
+}
+
+/// What a tool beside `patch` is asked for.
+#[derive(Drop, Debug)]
+pub enum ToolJob {
+    List(ListJob),
+    Filter(FilterJob),
+    Grep(GrepJob),
+    Split(SplitJob),
+    /// The text whose counts are made true.
+    Recount(Input),
+    Gen(GenJob),
+    /// The text that is turned round.
+    Flip(Input),
+    Stack(StackOp),
+}

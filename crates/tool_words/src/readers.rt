@@ -1,0 +1,307 @@
+//! What the words of each tool ask for, by what was matched in them.
+ghost use Rattle.std.specs.Prelude.{◌≡◌, ◌⊎◌, true, false, codes, is_some, option_map, option_and_then, unwrap_or, IfOk, IfErr, IfSome};
+ghost use Rattle.patch_options.specs.Flags.{rows_in};
+ghost use Rattle.patch_options.specs.Table.{has_form, is_single, text_of, value_of};
+ghost use Rattle.tool_words.specs.PlainJobs.{plain_ranges, plain_tool_job};
+ghost use Rattle.tool_words.specs.PlainJobs.PlainToolJob.{list_job, filter_job, grep_job, split_job, recount_job, gen_job, flip_job, stack_job};
+ghost use Rattle.tool_words.specs.Ranges.{ranges_of};
+ghost use Rattle.tool_words.specs.Selecting.{is_input, input_in, name_in};
+ghost use Rattle.tool_words.specs.Asked.{are_list_words, is_list, list_of, are_ranges, is_form, form_of, is_filter, filter_of, is_grep_out, grep_out_of, is_grep, grep_of, is_split_file, is_split, split_of, is_size, is_gen, gen_of, stack_op_of, stack_op_in, is_lawful, asked};
+
+use crate::ranges::read_ranges;
+use crate::selecting::{number_or_0, read_operand, read_subject};
+use crate::{
+    FilterJob, GenJob, GrepJob, GrepOut, ListJob, Ranges, SplitJob, StackOp, Tool, ToolJob,
+};
+use clap::ArgMatches;
+use hunk_core::Form;
+use outside::Name;
+use patch_options::{
+    WordFault, buffer_in, is_buffer, is_number, is_plan, is_used, lasting_name_of, number_in,
+    plan_in, uses, value_of,
+};
+use std::alloc::Global;
+
+/// What a tool is asked for.
+pub fn job_of(alloc: Global, tool: Tool, matches: &ArgMatches<'_>) -> Result<ToolJob, WordFault>
+    ensures job { IfOk result (λ job. plain_tool_job job ≡ asked tool (rows_in matches.now)) }
+    ensures lawful { IfOk result (λ job. is_lawful tool (rows_in matches.now) ≡ true) }
+    ensures refused { IfErr result (λ fault. (fault ≡ WordFault.Memory) ⊎ ((fault ≡ WordFault.Usage) × (is_lawful tool (rows_in matches.now) ≡ false))) }
+{
+    match tool {
+        Tool::Lsdiff => list_of(alloc, matches),
+        Tool::Filterdiff => filter_of(alloc, matches),
+        Tool::Grepdiff => grep_of(alloc, matches),
+        Tool::Splitdiff => split_of(alloc, matches),
+        Tool::Recountdiff => recount_of(alloc, matches),
+        Tool::Patchgen => gen_of(matches),
+        Tool::Reversediff => flip_of(alloc, matches),
+        Tool::Patchstack => stack_of(matches),
+    }
+}
+
+fn list_of(alloc: Global, matches: &ArgMatches<'_>) -> Result<ToolJob, WordFault>
+    ensures job { IfOk result (λ job. plain_tool_job job ≡ list_job (list_of (rows_in matches.now))) }
+    ensures lawful { IfOk result (λ job. is_list (rows_in matches.now) ≡ true) }
+    ensures refused { IfErr result (λ fault. (fault ≡ WordFault.Memory) ⊎ ((fault ≡ WordFault.Usage) × (is_list (rows_in matches.now) ≡ false))) }
+{
+    if !are_list_words(matches) {
+        return Err(WordFault::Usage);
+    }
+    let (input, select) = read_subject(alloc, matches)?;
+    Ok(ToolJob::List(ListJob {
+        input,
+        select,
+        status: is_used(matches, "status"),
+        numbers: is_used(matches, "line-number"),
+        shown_strip: number_or_0(matches, "strip"),
+    }))
+}
+
+#[tactic(auto, unfolding(crate::specs::Asked::are_list_words))]
+fn are_list_words(matches: &ArgMatches<'_>) -> bool
+    ensures { result ≡ are_list_words (rows_in matches.now) }
+{
+    is_single(matches, "status")
+        && is_single(matches, "line-number")
+        && is_number(value_of(matches, "strip"))
+}
+
+/// Whether the switch was given once at most.
+fn is_single(matches: &ArgMatches<'_>, name: &str) -> bool
+    ensures { result ≡ is_single (rows_in matches.now) name.now }
+{
+    uses(matches, name) <= 1
+}
+
+/// The ranges of the hunks, of the lines and of the file patches that are meant.
+struct AllRanges {
+    hunks: Option<Ranges>,
+    lines: Option<Ranges>,
+    files: Option<Ranges>,
+}
+
+fn filter_of(alloc: Global, matches: &ArgMatches<'_>) -> Result<ToolJob, WordFault>
+    ensures job { IfOk result (λ job. plain_tool_job job ≡ filter_job (filter_of (rows_in matches.now))) }
+    ensures lawful { IfOk result (λ job. is_filter (rows_in matches.now) ≡ true) }
+    ensures refused { IfErr result (λ fault. (fault ≡ WordFault.Memory) ⊎ ((fault ≡ WordFault.Usage) × (is_filter (rows_in matches.now) ≡ false))) }
+{
+    if !is_form(value_of(matches, "format")) {
+        return Err(WordFault::Usage);
+    }
+    let AllRanges {
+        hunks,
+        lines,
+        files,
+    } = ranges_in(alloc, matches)?;
+    let (input, select) = read_subject(alloc, matches)?;
+    Ok(ToolJob::Filter(FilterJob {
+        input,
+        select,
+        hunks,
+        lines,
+        files,
+        format: form_in(matches),
+    }))
+}
+
+fn ranges_in(alloc: Global, matches: &ArgMatches<'_>) -> Result<AllRanges, WordFault>
+    ensures hunks { IfOk result (λ all. plain_ranges all.hunks ≡ option_and_then ranges_of (value_of (rows_in matches.now) (codes "hunks"))) }
+    ensures lines { IfOk result (λ all. plain_ranges all.lines ≡ option_and_then ranges_of (value_of (rows_in matches.now) (codes "lines"))) }
+    ensures files { IfOk result (λ all. plain_ranges all.files ≡ option_and_then ranges_of (value_of (rows_in matches.now) (codes "files"))) }
+    ensures lawful { IfOk result (λ all. are_ranges (rows_in matches.now) ≡ true) }
+    ensures refused { IfErr result (λ fault. (fault ≡ WordFault.Memory) ⊎ ((fault ≡ WordFault.Usage) × (are_ranges (rows_in matches.now) ≡ false))) }
+{
+    Ok(AllRanges {
+        hunks: read_ranges(alloc, value_of(matches, "hunks"))?,
+        lines: read_ranges(alloc, value_of(matches, "lines"))?,
+        files: read_ranges(alloc, value_of(matches, "files"))?,
+    })
+}
+
+fn is_form(text: Option<&str>) -> bool
+    ensures { result ≡ has_form is_form (text_of text.entry) }
+{
+    match text {
+        Some(text) => form_of(text).is_some(),
+        None => true,
+    }
+}
+
+fn form_in(matches: &ArgMatches<'_>) -> Option<Form>
+    ensures { result ≡ option_and_then form_of (value_of (rows_in matches.now) (codes "format")) }
+{
+    form_of(value_of(matches, "format")?)
+}
+
+/// The form that the text names.
+#[tactic(auto, unfolding(crate::specs::Asked::form_of))]
+fn form_of(text: &str) -> Option<Form>
+    ensures { result ≡ form_of text.now }
+{
+    match text {
+        "unified" => Some(Form::Unified),
+        "context" => Some(Form::Context),
+        "normal" => Some(Form::Normal),
+        "ed" => Some(Form::Ed),
+        _ => None,
+    }
+}
+
+fn grep_of(alloc: Global, matches: &ArgMatches<'_>) -> Result<ToolJob, WordFault>
+    ensures job { IfOk result (λ job. plain_tool_job job ≡ grep_job (grep_of (rows_in matches.now))) }
+    ensures lawful { IfOk result (λ job. is_grep (rows_in matches.now) ≡ true) }
+    ensures refused { IfErr result (λ fault. (fault ≡ WordFault.Memory) ⊎ ((fault ≡ WordFault.Usage) × (is_grep (rows_in matches.now) ≡ false))) }
+{
+    if !is_single(matches, "extended-regexp") {
+        return Err(WordFault::Usage);
+    }
+    let Some(pattern) = value_of(matches, "regex") else {
+        return Err(WordFault::Usage);
+    };
+    let Some(output) = output_in(matches) else {
+        return Err(WordFault::Usage);
+    };
+    let (input, select) = read_subject(alloc, matches)?;
+    Ok(ToolJob::Grep(GrepJob {
+        input,
+        select,
+        pattern: String::from_str(alloc, pattern)?,
+        output,
+    }))
+}
+
+/// What is written, if the word for it is lawful; names where there is no word.
+fn output_in(matches: &ArgMatches<'_>) -> Option<GrepOut>
+    ensures output { IfSome result (λ output. output ≡ unwrap_or (option_and_then grep_out_of (value_of (rows_in matches.now) (codes "output-matching"))) GrepOut.Names) }
+    ensures lawful { is_some result ≡ has_form is_grep_out (value_of (rows_in matches.now) (codes "output-matching")) }
+{
+    match value_of(matches, "output-matching") {
+        Some(text) => grep_out_of(text),
+        None => Some(GrepOut::Names),
+    }
+}
+
+#[tactic(auto, unfolding(crate::specs::Asked::grep_out_of))]
+fn grep_out_of(text: &str) -> Option<GrepOut>
+    ensures { result ≡ grep_out_of text.now }
+{
+    match text {
+        "hunk" => Some(GrepOut::Hunks),
+        "file" => Some(GrepOut::Files),
+        _ => None,
+    }
+}
+
+fn split_of(alloc: Global, matches: &ArgMatches<'_>) -> Result<ToolJob, WordFault>
+    ensures job { IfOk result (λ job. plain_tool_job job ≡ split_job (split_of (rows_in matches.now))) }
+    ensures lawful { IfOk result (λ job. is_split (rows_in matches.now) ≡ true) }
+    ensures refused { IfErr result (λ fault. (fault ≡ WordFault.Memory) ⊎ ((fault ≡ WordFault.Usage) × (is_split (rows_in matches.now) ≡ false))) }
+{
+    if !is_single(matches, "every") {
+        return Err(WordFault::Usage);
+    }
+    let Some(text) = value_of(matches, "file") else {
+        return Err(WordFault::Usage);
+    };
+    Ok(ToolJob::Split(SplitJob {
+        input: split_file(alloc, text)?,
+        every: is_used(matches, "every"),
+    }))
+}
+
+/// The file by whose name the parts are named.
+#[tactic(auto, unfolding(crate::specs::Asked::is_split_file))]
+fn split_file(alloc: Global, text: &str) -> Result<Name, WordFault>
+    ensures name { IfOk result (λ name. name ≡ name_in text.now) }
+    ensures lawful { IfOk result (λ name. is_split_file text.now ≡ true) }
+    ensures refused { IfErr result (λ fault. (fault ≡ WordFault.Memory) ⊎ ((fault ≡ WordFault.Usage) × (is_split_file text.now ≡ false))) }
+{
+    if text == "-" {
+        return Err(WordFault::Usage);
+    }
+    lasting_name_of(alloc, text)
+}
+
+fn recount_of(alloc: Global, matches: &ArgMatches<'_>) -> Result<ToolJob, WordFault>
+    ensures job { IfOk result (λ job. plain_tool_job job ≡ recount_job (input_in (rows_in matches.now))) }
+    ensures lawful { IfOk result (λ job. is_input (rows_in matches.now) ≡ true) }
+    ensures refused { IfErr result (λ fault. (fault ≡ WordFault.Memory) ⊎ ((fault ≡ WordFault.Usage) × (is_input (rows_in matches.now) ≡ false))) }
+{
+    Ok(ToolJob::Recount(read_operand(alloc, matches)?))
+}
+
+fn gen_of(matches: &ArgMatches<'_>) -> Result<ToolJob, WordFault>
+    ensures job { IfOk result (λ job. plain_tool_job job ≡ gen_job (gen_of (rows_in matches.now))) }
+    ensures lawful { IfOk result (λ job. is_gen (rows_in matches.now) ≡ true) }
+    ensures refused { IfErr result (λ fault. (fault ≡ WordFault.Memory) ⊎ ((fault ≡ WordFault.Usage) × (is_gen (rows_in matches.now) ≡ false))) }
+{
+    if !is_plan(value_of(matches, "plan")) || !is_buffer(value_of(matches, "buffer")) {
+        return Err(WordFault::Usage);
+    }
+    let numbers = (
+        number_in(matches, "seed"),
+        number_in(matches, "files"),
+        number_in(matches, "lines"),
+    );
+    let (Some(seed), Some(files), Some(lines)) = numbers else {
+        return Err(WordFault::Usage);
+    };
+    if !is_size(files, lines) {
+        return Err(WordFault::Usage);
+    }
+    Ok(ToolJob::Gen(GenJob {
+        seed,
+        files,
+        lines,
+        plan: plan_in(matches),
+        buffer: buffer_in(matches),
+    }))
+}
+
+/// Whether so many files of so many lines are made.
+fn is_size(files: u32, lines: u32) -> bool
+    ensures { result ≡ is_size files lines }
+{
+    if files < 1 || files > 1_000 || lines < 20 || lines > 9_999_999 {
+        return false;
+    }
+    u64::from(files) * u64::from(lines) <= 10_000_000
+}
+
+fn flip_of(alloc: Global, matches: &ArgMatches<'_>) -> Result<ToolJob, WordFault>
+    ensures job { IfOk result (λ job. plain_tool_job job ≡ flip_job (input_in (rows_in matches.now))) }
+    ensures lawful { IfOk result (λ job. is_input (rows_in matches.now) ≡ true) }
+    ensures refused { IfErr result (λ fault. (fault ≡ WordFault.Memory) ⊎ ((fault ≡ WordFault.Usage) × (is_input (rows_in matches.now) ≡ false))) }
+{
+    Ok(ToolJob::Flip(read_operand(alloc, matches)?))
+}
+
+fn stack_of(matches: &ArgMatches<'_>) -> Result<ToolJob, WordFault>
+    ensures job { IfOk result (λ job. plain_tool_job job ≡ stack_job (unwrap_or (stack_op_in (rows_in matches.now)) StackOp.Applied)) }
+    ensures lawful { IfOk result (λ job. is_some (stack_op_in (rows_in matches.now)) ≡ true) }
+    ensures refused { IfErr result (λ fault. (fault ≡ WordFault.Memory) ⊎ ((fault ≡ WordFault.Usage) × (is_some (stack_op_in (rows_in matches.now)) ≡ false))) }
+{
+    match stack_op_in(matches) {
+        Some(operation) => Ok(ToolJob::Stack(operation)),
+        None => Err(WordFault::Usage),
+    }
+}
+
+fn stack_op_in(matches: &ArgMatches<'_>) -> Option<StackOp>
+    ensures { result ≡ stack_op_in (rows_in matches.now) }
+{
+    stack_op_of(value_of(matches, "operation")?)
+}
+
+#[tactic(auto, unfolding(crate::specs::Asked::stack_op_of))]
+fn stack_op_of(text: &str) -> Option<StackOp>
+    ensures { result ≡ stack_op_of text.now }
+{
+    match text {
+        "push" => Some(StackOp::Push),
+        "pop" => Some(StackOp::Pop),
+        "applied" => Some(StackOp::Applied),
+        _ => None,
+    }
+}

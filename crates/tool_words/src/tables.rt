@@ -1,0 +1,290 @@
+//! The tables of the tools' words. The definitions have the same rows, and the texts that tell the words are made of these.
+ghost use Rattle.std.specs.Prelude.{◌≡◌, map};
+ghost use Rattle.patch_options.specs.Simple.{plain_word};
+ghost use Rattle.tool_words.specs.Tables.{list_table, filter_table, grep_table, split_table, input_table, gen_table, stack_table};
+
+use patch_options::{Word, WordForm};
+
+const STRIP_MATCH: Word = Word {
+    form: WordForm::Value,
+    letter: Some('p'),
+    name: "strip-match",
+    shown: "-p, --strip-match=N",
+    help: "match names without the smallest front with N slashes (0)",
+};
+
+const INCLUDE: Word = Word {
+    form: WordForm::Values,
+    letter: Some('i'),
+    name: "include",
+    shown: "-i, --include=PAT",
+    help: "take only file patches whose name a PAT matches",
+};
+
+const EXCLUDE: Word = Word {
+    form: WordForm::Values,
+    letter: Some('x'),
+    name: "exclude",
+    shown: "-x, --exclude=PAT",
+    help: "leave out file patches whose name a PAT matches",
+};
+
+const INCLUDE_FILE: Word = Word {
+    form: WordForm::Value,
+    letter: Some('I'),
+    name: "include-from-file",
+    shown: "-I, --include-from-file=FILE",
+    help: "include by the lines of FILE too",
+};
+
+const EXCLUDE_FILE: Word = Word {
+    form: WordForm::Value,
+    letter: Some('X'),
+    name: "exclude-from-file",
+    shown: "-X, --exclude-from-file=FILE",
+    help: "exclude by the lines of FILE too",
+};
+
+const STATUS: Word = Word {
+    form: WordForm::Switch,
+    letter: Some('s'),
+    name: "status",
+    shown: "-s, --status",
+    help: "show + for a file that is made, - for one that goes, else !",
+};
+
+const LINE_NUMBER: Word = Word {
+    form: WordForm::Switch,
+    letter: Some('n'),
+    name: "line-number",
+    shown: "-n, --line-number",
+    help: "show the number of the line of the names",
+};
+
+const SHOWN_STRIP: Word = Word {
+    form: WordForm::Value,
+    letter: None,
+    name: "strip",
+    shown: "--strip=N",
+    help: "show names without the smallest front with N slashes (0)",
+};
+
+const HUNKS: Word = Word {
+    form: WordForm::Value,
+    letter: None,
+    name: "hunks",
+    shown: "--hunks=RANGE",
+    help: "keep only hunks with these numbers in their file patch",
+};
+
+const LINES: Word = Word {
+    form: WordForm::Value,
+    letter: None,
+    name: "lines",
+    shown: "--lines=RANGE",
+    help: "keep only hunks that have one of these old lines",
+};
+
+const FILES: Word = Word {
+    form: WordForm::Value,
+    letter: None,
+    name: "files",
+    shown: "--files=RANGE",
+    help: "take only file patches with these numbers",
+};
+
+const FORMAT: Word = Word {
+    form: WordForm::Value,
+    letter: None,
+    name: "format",
+    shown: "--format=FORM",
+    help: "write unified, context, normal or ed",
+};
+
+const EXTENDED: Word = Word {
+    form: WordForm::Switch,
+    letter: Some('E'),
+    name: "extended-regexp",
+    shown: "-E, --extended-regexp",
+    help: "no change: REGEX is an extended one",
+};
+
+const MATCHING: Word = Word {
+    form: WordForm::Value,
+    letter: None,
+    name: "output-matching",
+    shown: "--output-matching=WHAT",
+    help: "write the hunk or the file that has a match, not the name",
+};
+
+const EVERY: Word = Word {
+    form: WordForm::Letter,
+    letter: Some('a'),
+    name: "every",
+    shown: "-a",
+    help: "begin a part at each file patch",
+};
+
+const PLAN: Word = Word {
+    form: WordForm::Value,
+    letter: None,
+    name: "plan",
+    shown: "--plan=a|b|packed|auto",
+    help: "in memory, or paged through two buffers (auto)",
+};
+
+const BUFFER: Word = Word {
+    form: WordForm::Value,
+    letter: None,
+    name: "buffer",
+    shown: "--buffer=N",
+    help: "bytes of a buffer, 512 to 1048576 (65536)",
+};
+
+const FILE: Word = Word {
+    form: WordForm::Operand,
+    letter: None,
+    name: "file",
+    shown: "[FILE]",
+    help: "the patch text; standard input without it, or where it is -",
+};
+
+const SPLIT_FILE: Word = Word {
+    form: WordForm::Operand,
+    letter: None,
+    name: "file",
+    shown: "FILE",
+    help: "the patch text",
+};
+
+const REGEX: Word = Word {
+    form: WordForm::Operand,
+    letter: None,
+    name: "regex",
+    shown: "REGEX",
+    help: "what is looked for in each line, without its mark",
+};
+
+const SEED: Word = Word {
+    form: WordForm::Operand,
+    letter: None,
+    name: "seed",
+    shown: "SEED",
+    help: "what is drawn depends on it, from 0 to 4294967295",
+};
+
+const FILE_COUNT: Word = Word {
+    form: WordForm::Operand,
+    letter: None,
+    name: "files",
+    shown: "FILES",
+    help: "how many files, 1 to 1000",
+};
+
+const LINE_COUNT: Word = Word {
+    form: WordForm::Operand,
+    letter: None,
+    name: "lines",
+    shown: "LINES",
+    help: "how many lines each, 20 to 9999999, in all at most 10000000",
+};
+
+const OPERATION: Word = Word {
+    form: WordForm::Operand,
+    letter: None,
+    name: "operation",
+    shown: "push|pop|applied",
+    help: "apply the next patch, take the last one back, or list those applied",
+};
+
+static LIST: [Word; 9] = [
+    STATUS,
+    LINE_NUMBER,
+    SHOWN_STRIP,
+    STRIP_MATCH,
+    INCLUDE,
+    EXCLUDE,
+    INCLUDE_FILE,
+    EXCLUDE_FILE,
+    FILE,
+];
+
+static FILTER: [Word; 10] = [
+    STRIP_MATCH,
+    INCLUDE,
+    EXCLUDE,
+    INCLUDE_FILE,
+    EXCLUDE_FILE,
+    HUNKS,
+    LINES,
+    FILES,
+    FORMAT,
+    FILE,
+];
+
+static GREP: [Word; 7] = [
+    STRIP_MATCH,
+    INCLUDE,
+    EXCLUDE,
+    EXTENDED,
+    MATCHING,
+    REGEX,
+    FILE,
+];
+
+static SPLIT: [Word; 2] = [EVERY, SPLIT_FILE];
+
+static INPUT: [Word; 1] = [FILE];
+
+static GEN: [Word; 5] = [PLAN, BUFFER, SEED, FILE_COUNT, LINE_COUNT];
+
+static STACK: [Word; 1] = [OPERATION];
+
+/// The words of `lsdiff`.
+pub fn list_table() -> &'static [Word]
+    ensures { map plain_word result.now ≡ list_table }
+{
+    &LIST
+}
+
+/// The words of `filterdiff`.
+pub fn filter_table() -> &'static [Word]
+    ensures { map plain_word result.now ≡ filter_table }
+{
+    &FILTER
+}
+
+/// The words of `grepdiff`.
+pub fn grep_table() -> &'static [Word]
+    ensures { map plain_word result.now ≡ grep_table }
+{
+    &GREP
+}
+
+/// The words of `splitdiff`.
+pub fn split_table() -> &'static [Word]
+    ensures { map plain_word result.now ≡ split_table }
+{
+    &SPLIT
+}
+
+/// The words of a tool that reads one text and has no options.
+pub fn input_table() -> &'static [Word]
+    ensures { map plain_word result.now ≡ input_table }
+{
+    &INPUT
+}
+
+/// The words of `patchgen`.
+pub fn gen_table() -> &'static [Word]
+    ensures { map plain_word result.now ≡ gen_table }
+{
+    &GEN
+}
+
+/// The words of `patchstack`.
+pub fn stack_table() -> &'static [Word]
+    ensures { map plain_word result.now ≡ stack_table }
+{
+    &STACK
+}
