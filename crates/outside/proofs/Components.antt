@@ -91,7 +91,7 @@ join_free p (c ∷ []) is each = each.0
 join_free p (c ∷ d ∷ cs) is each = append_free p c (47 ∷ join_with_byte 47 (d ∷ cs)) each.0 (either_free (p 47) (list_any p (join_with_byte 47 (d ∷ cs))) is (join_free p (d ∷ cs) is each.1))
 
 -- ---- the last component
-pub onto_last : List (List ℕ) → List ℕ → List (List ℕ)
+unfoldable pub onto_last : List (List ℕ) → List ℕ → List (List ℕ)
 onto_last [] s = s ∷ []
 onto_last (c ∷ []) s = (c ++ s) ∷ []
 onto_last (c ∷ d ∷ cs) s = c ∷ onto_last (d ∷ cs) s
@@ -139,7 +139,7 @@ each_last P (c ∷ []) s more some each = (more c each.0, tt)
 each_last P (c ∷ d ∷ cs) s more some each = (each.0, each_last P (d ∷ cs) s more refl each.1)
 
 -- ---- two texts in a row
-pub glue : List (List ℕ) → List (List ℕ) → List (List ℕ)
+unfoldable pub glue : List (List ℕ) → List (List ℕ) → List (List ℕ)
 glue [] ds = ds
 glue (c ∷ []) [] = c ∷ []
 glue (c ∷ []) (d ∷ ds) = (c ++ d) ∷ ds

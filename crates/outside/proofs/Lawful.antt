@@ -1,4 +1,4 @@
--- Lawful texts, their normal forms, and what may stand behind a name.
+-- Lawful texts of patches, their normal forms, and what may stand before and behind a name that a patch gives.
 use Rattle.std.proofs.Common.{◌≡◌, ℕ, ◌+◌, ◌<◌, List, [], ◌∷◌, ◌++◌, length, take, get_or, codes, Bool, true, false, cond, not, ◌&&◌, ◌||◌, ◌==◌, nat_eq, bytes_eq, filter, Option, Some, None, refl, sym, ◌∙◌, ap, subst, arith, append_assoc, eq-eqb}
 use Rattle.std.proofs.lemmas.List.{append-nil}
 use Rattle.std.proofs.lemmas.Bool.Decides.{nat_tests}
@@ -9,7 +9,7 @@ use Rattle.std.specs.Str.{IsUtf8}
 use Rattle.std.specs.Str.Lossy.{utf8_valid_len}
 use Rattle.outside.specs.declared.name.NameRule.{NameRule}
 use Rattle.outside.specs.declared.name.NameRule.TheVariants.{NotUtf8, Control, Absolute, Parent, Empty}
-use Rattle.outside.specs.Names.{is_slash, is_control, is_absolute, is_empty, is_kept, components, kept, normal_form, broken_rule, with_component, IsName, IsEnding, IsFront}
+use Rattle.outside.specs.Names.{is_slash, is_control, is_absolute, is_empty, is_kept, components, kept, normal_form, broken_rule, with_component, IsPatchName, IsEnding}
 use Rattle.outside.proofs.Components.{Each, Free, neither, either_free, append_free, components_free, slash_free, components_some, components_joined, joined, join_free, components_behind, each_last, components_ahead, components_slash, each_append, each_ahead, front_free}
 
 abbrev pub is_parent : List ℕ → Bool
@@ -81,7 +81,7 @@ each_any p [] each = refl
 each_any p (x ∷ xs) each = either_free (p x) (list_any p xs) each.0 (each_any p xs each.1)
 
 -- ---- the normal form of a lawful text
-begins : (cs : List (List ℕ)) → Each (Free is_slash) cs → Each (λ c. is_kept c ≡ true) cs → is_absolute (join_with_byte 47 cs) ≡ false
+pub begins : (cs : List (List ℕ)) → Each (Free is_slash) cs → Each (λ c. is_kept c ≡ true) cs → is_absolute (join_with_byte 47 cs) ≡ false
 begins [] free keeps = refl
 begins ([] ∷ cs) free keeps = cc (keeps.0)
 begins ((b ∷ bs) ∷ []) free keeps = (neither (is_slash b) (list_any is_slash bs) free.0).0
@@ -97,8 +97,8 @@ module _ (text : List ℕ) (is : Obeys text) where
   pub normal_kept : kept (normal_form text) ≡ kept text
   normal_kept = ap (λ (l : List (List ℕ)). filter is_kept l) normal_components ∙ filter_whole is_kept (kept text) (filter_kept is_kept (components text))
 
-  pub normal_name : IsUtf8 (normal_form text) → IsName (normal_form text)
-  normal_name utf8 = record {
+  pub patch_normal : IsUtf8 (normal_form text) → IsPatchName (normal_form text)
+  patch_normal utf8 = record {
     lawful = obeyed (normal_form text) (record {
       utf8 = utf8_whole (normal_form text) utf8;
       control = join_free is_control (kept text) refl (each_filter is_kept (Free is_control) (components text) (components_free is_control text is.control));
@@ -113,7 +113,7 @@ module _ (text : List ℕ) (is : Obeys text) where
 not_kept : (c : List ℕ) → is_kept (c ++ []) ≡ true → is_kept c ≡ true
 not_kept c is = subst (λ (l : List ℕ). is_kept l ≡ true) (append-nil c) is
 
-kept_behind : (c s : List ℕ) → is_kept c ≡ true → is_kept (c ++ s) ≡ true
+pub kept_behind : (c s : List ℕ) → is_kept c ≡ true → is_kept (c ++ s) ≡ true
 kept_behind [] s is = cc (is)
 kept_behind (b ∷ []) [] is = is
 kept_behind (b ∷ []) (x ∷ s) is = elim (nat_eq b 46) as (λ t. not (false || (t && false)) ≡ true) [ true ↦ refl | false ↦ refl ]
@@ -158,16 +158,16 @@ part_parent [] each = tt
 part_parent (c ∷ cs) each = (each.0.1, part_parent cs each.1)
 
 -- all components of a name are kept
-pub name_components : (n : List ℕ) → IsName n → components n ≡ kept n
-name_components n is = ap (λ (l : List ℕ). components l) (sym is.normal) ∙ normal_components n (obeys n is.lawful)
+pub patch_components : (n : List ℕ) → IsPatchName n → components n ≡ kept n
+patch_components n is = ap (λ (l : List ℕ). components l) (sym is.normal) ∙ normal_components n (obeys n is.lawful)
 
 -- a text whose components are those of names is a name
 module _ (text : List ℕ) (utf8 : IsUtf8 text) (control : Free is_control text) (absolute : is_absolute text ≡ false) (each : Each IsPart (components text)) where
   all_kept : kept text ≡ components text
   all_kept = filter_whole is_kept (components text) (part_kept (components text) each)
 
-  pub name_made : IsName text
-  name_made = record {
+  pub patch_made : IsPatchName text
+  patch_made = record {
     lawful = obeyed text (record {
       utf8 = utf8_whole text utf8;
       control = control;
@@ -178,29 +178,29 @@ module _ (text : List ℕ) (utf8 : IsUtf8 text) (control : Free is_control text)
     normal = ap (λ (l : List (List ℕ)). join_with_byte 47 l) all_kept ∙ joined text;
   }
 
-name_parts : (n : List ℕ) → IsName n → Each IsPart (components n)
-name_parts n name = each_part (components n)
-    (subst (λ (l : List (List ℕ)). Each (λ c. is_kept c ≡ true) l) (sym (name_components n name)) (filter_kept is_kept (components n)))
+patch_parts : (n : List ℕ) → IsPatchName n → Each IsPart (components n)
+patch_parts n name = each_part (components n)
+    (subst (λ (l : List (List ℕ)). Each (λ c. is_kept c ≡ true) l) (sym (patch_components n name)) (filter_kept is_kept (components n)))
     (any_each is_parent (components n) (obeys n name.lawful).parent)
 
 -- with an ending it is a name
-pub name_behind : (n e : List ℕ) → IsName n → IsEnding e → IsUtf8 (n ++ e) → IsName (n ++ e)
-name_behind n e name ending utf8 =
+pub patch_behind : (n e : List ℕ) → IsPatchName n → IsEnding e → IsUtf8 (n ++ e) → IsPatchName (n ++ e)
+patch_behind n e name ending utf8 =
     let rules : Obeys n = obeys n name.lawful in
-    name_made (n ++ e) utf8 (append_free is_control n e rules.control ending.no_control) (absolute_behind n e rules)
+    patch_made (n ++ e) utf8 (append_free is_control n e rules.control ending.no_control) (absolute_behind n e rules)
     (subst (λ (l : List (List ℕ)). Each IsPart l) (sym (components_behind n e ending.no_slash))
-    (each_last IsPart (components n) e (λ c part. (kept_behind c e part.0, parent_behind c e part.0 part.1)) (components_some n) (name_parts n name)))
+    (each_last IsPart (components n) e (λ c part. (kept_behind c e part.0, parent_behind c e part.0 part.1)) (components_some n) (patch_parts n name)))
 
 -- below a directory it is a name
-pub name_below : (d n : List ℕ) → IsName d → IsName n → IsUtf8 (d ++ 47 ∷ n) → IsName (d ++ 47 ∷ n)
-name_below d n directory name utf8 =
+pub patch_below : (d n : List ℕ) → IsPatchName d → IsPatchName n → IsUtf8 (d ++ 47 ∷ n) → IsPatchName (d ++ 47 ∷ n)
+patch_below d n directory name utf8 =
     let rules : Obeys d = obeys d directory.lawful in
-    name_made (d ++ 47 ∷ n) utf8 (append_free is_control d (47 ∷ n) rules.control (obeys n name.lawful).control) (absolute_behind d (47 ∷ n) rules)
+    patch_made (d ++ 47 ∷ n) utf8 (append_free is_control d (47 ∷ n) rules.control (obeys n name.lawful).control) (absolute_behind d (47 ∷ n) rules)
     (subst (λ (l : List (List ℕ)). Each IsPart l) (sym (components_slash d n))
-    (each_append IsPart (components d) (components n) (name_parts d directory) (name_parts n name)))
+    (each_append IsPart (components d) (components n) (patch_parts d directory) (patch_parts n name)))
 
 -- ---- what stands before a name
-kept_ahead : (c d : List ℕ) → is_kept d ≡ true → is_kept (c ++ d) ≡ true
+pub kept_ahead : (c d : List ℕ) → is_kept d ≡ true → is_kept (c ++ d) ≡ true
 kept_ahead [] d is = is
 kept_ahead (b ∷ []) [] is = cc (is)
 kept_ahead (b ∷ []) (x ∷ d) is = elim (nat_eq b 46) as (λ t. not (false || (t && false)) ≡ true) [ true ↦ refl | false ↦ refl ]
@@ -229,14 +229,14 @@ absolute_ahead [] x n is name = name.absolute
 absolute_ahead (b ∷ f) x n is name = is
 
 -- with a fitting front it is a name
-pub name_ahead : (f n : List ℕ) → IsFront f → IsName n → IsUtf8 (f ++ n) → IsName (f ++ n)
-name_ahead f n front name utf8 =
+pub patch_ahead : (f n : List ℕ) → IsPatchName (f ++ codes "x") → IsPatchName n → IsUtf8 (f ++ n) → IsPatchName (f ++ n)
+patch_ahead f n front name utf8 =
     let rules : Obeys (f ++ codes "x") = obeys (f ++ codes "x") front.lawful in
-    name_made (f ++ n) utf8 (append_free is_control f n (front_free is_control f (codes "x") rules.control) (obeys n name.lawful).control)
+    patch_made (f ++ n) utf8 (append_free is_control f n (front_free is_control f (codes "x") rules.control) (obeys n name.lawful).control)
     (absolute_ahead f (codes "x") n rules.absolute (obeys n name.lawful))
     (subst (λ (l : List (List ℕ)). Each IsPart l) (sym (components_ahead f n))
     (each_ahead IsPart (components f) (components n) (codes "x") (λ c d part. (kept_ahead c d part.0, parent_ahead c d part.0 part.1)) (components_some n)
-    (subst (λ (l : List (List ℕ)). Each IsPart l) (components_ahead f (codes "x")) (name_parts (f ++ codes "x") front)) (name_parts n name)))
+    (subst (λ (l : List (List ℕ)). Each IsPart l) (components_ahead f (codes "x")) (patch_parts (f ++ codes "x") front)) (patch_parts n name)))
 
 -- ---- each rule, where those before it are kept
 pub kept_any : (cs : List (List ℕ)) → is_empty (filter is_kept cs) ≡ not (list_any is_kept cs)
@@ -245,9 +245,6 @@ kept_any (c ∷ cs) = elim (is_kept c) as (λ b. is_empty (cond b (c ∷ filter 
   | true ↦ refl
   | false ↦ kept_any cs
 ]
-
-pub rule_utf8 : (text : List ℕ) → (utf8_valid_len text == length text) ≡ false → Some NotUtf8 ≡ broken_rule text
-rule_utf8 text a = rw a refl
 
 pub rule_control : (text : List ℕ) → IsUtf8 text → list_any is_control text ≡ true → Some Control ≡ broken_rule text
 rule_control text utf8 b = let a = utf8_whole text utf8 in rw (a, b) refl

@@ -90,32 +90,7 @@ on_job (Ok (patch o)) files left = on_input o (answer_of (input_bytes o.input o.
 
 -- the same options with another plan
 abbrev pub with_plan : PlanKind → PlainOptions → PlainOptions
-with_plan plan o = record {
-  only = o.only;
-  strip = o.strip;
-  fuzz = o.fuzz;
-  reverse = o.reverse;
-  force = o.force;
-  batch = o.batch;
-  forward = o.forward;
-  loose = o.loose;
-  remove_empty = o.remove_empty;
-  backup = o.backup;
-  mismatch_backup = o.mismatch_backup;
-  suffix = o.suffix;
-  prefix = o.prefix;
-  dir = o.dir;
-  file = o.file;
-  input = o.input;
-  output = o.output;
-  reject = o.reject;
-  reject_form = o.reject_form;
-  dry_run = o.dry_run;
-  silent = o.silent;
-  verbose = o.verbose;
-  plan = plan;
-  buffer = o.buffer;
-}
+with_plan plan o = record o { plan = plan }
 
 -- the patch text that the options name is read as these file patches, and none of them is refused
 pub record Reads (o : PlainOptions) (files : Files) (left : List ℕ) (ps : List PlainPatch) : Type 0 where

@@ -83,7 +83,7 @@ pub fn said<T: Tree, C: Scratch + Drop, I: Source>(
 }
 
 pub fn name_of(alloc: Global, text: &str) -> Result<Name, Fail> {
-    match Name::new(alloc, text.as_bytes()) {
+    match Name::given(alloc, text.as_bytes()) {
         Ok(name) => Ok(name),
         Err(_) => Err("no name".into()),
     }

@@ -163,6 +163,19 @@ answer Rejected 1
 out patching file f|Hunk #1 FAILED at 1.|1 out of 1 hunk FAILED -- saving rejects to file f.rej|
 after f.rej=--- f|+++ f|@@ -1,2 +0,0 @@|-a|-b|
 
+words patch -d d -r /r -i ../p.diff /a//./f
+file /a/f=x|
+file d/../p.diff=--- f|+++ f|@@ -1 +1 @@|-a|+b|
+answer Rejected 1
+out patching file /a/f|Hunk #1 FAILED at 1.|1 out of 1 hunk FAILED -- saving rejects to file /r|
+after /r=--- /a/f|+++ /a/f|@@ -1 +1 @@|-a|+b|
+
+words patch -r - f p.diff
+file f=x|
+file p.diff=--- f|+++ f|@@ -1 +1 @@|-a|+b|
+answer Rejected 1
+out patching file f|Hunk #1 FAILED at 1.|1 out of 1 hunk FAILED|
+
 words patch -p0 -i p.diff
 file x=a|
 file p.diff=--- ../x|+++ /etc/x|@@ -1 +1 @@|-a|+b|

@@ -3,10 +3,10 @@ use Rattle.std.proofs.Common.{◌≡◌, ◌&&◌, ◌<◌, ◌≤◌, ◌++◌,
 use Rattle.std.specs.List.{list_any}
 use Rattle.std.specs.Option.{ForSome}
 use Rattle.std.proofs.lemmas.Slice.Eq.{bytes_eq-Decides}
-use Rattle.outside.specs.Names.{is_slash, is_control, broken_rule, IsFront}
+use Rattle.outside.specs.Names.{is_slash, is_control, broken_given, IsFront}
 use Rattle.clap.specs.Words.{Row, Text}
 use Rattle.hunk_core.specs.declared.Form.TheVariants.{Unified, Context}
-use Rattle.patch_options.specs.Forms.{is_suffix, is_prefix, is_name, is_lasting_name, is_empty, buffer_of, buffer_in, number_of, reject_form_of}
+use Rattle.patch_options.specs.Forms.{is_suffix, is_backup_kind, is_prefix, is_name, is_lasting_name, is_reject_file, is_directory, is_empty, buffer_of, buffer_in, number_of, reject_form_of}
 use Rattle.patch_options.specs.PlainJob.{IsSuffix, HasContext, IsLawful}
 use Rattle.patch_options.specs.Table.{is_command, options_of, value_of, has_form, outputs_agree, switches_agree, values_agree, names_agree, numbers_agree, words_agree}
 
@@ -41,7 +41,7 @@ none_of (Some x) h = cc
 prefix_is : (text : List ℕ) → is_prefix text ≡ true → IsFront text
 unfolding is_prefix is_name
 prefix_is text h =
-    let parts = both (is_none (broken_rule (text ++ codes "x"))) _ h in
+    let parts = both (is_none (broken_given (text ++ codes "x"))) _ h in
     record { lawful = none_of _ parts.0; normal = (bytes_eq-Decides _ _).0 parts.1 }
 
 none_has : {X : Type 0} (P : X → Type 0) → ForSome None P
@@ -95,16 +95,17 @@ lawful_options rows h =
     let rest = both (switches_agree rows) (values_agree rows && names_agree rows) h in
     let parts = both (values_agree rows) (names_agree rows) rest.1 in
     let words = both (numbers_agree rows) (words_agree rows) parts.0 in
-    let behind_plan = both _ (has_form (λ t. is_some (reject_form_of t)) (value_of rows (codes "reject-format")) && has_form is_suffix (value_of rows (codes "suffix"))) words.1 in
-    let suffix = both _ (has_form is_suffix (value_of rows (codes "suffix"))) behind_plan.1 in
-    let behind_input = both _ (has_form is_name (value_of rows (codes "directory")) && (has_form is_lasting_name (value_of rows (codes "file")) && outputs_agree rows)) parts.1 in
+    let behind_plan = both _ (has_form (λ t. is_some (reject_form_of t)) (value_of rows (codes "reject-format")) && (has_form is_suffix (value_of rows (codes "suffix")) && has_form is_backup_kind (value_of rows (codes "version-control")))) words.1 in
+    let behind_form = both _ (has_form is_suffix (value_of rows (codes "suffix")) && has_form is_backup_kind (value_of rows (codes "version-control"))) behind_plan.1 in
+    let suffix = both (has_form is_suffix (value_of rows (codes "suffix"))) (has_form is_backup_kind (value_of rows (codes "version-control"))) behind_form.1 in
+    let behind_input = both _ (has_form is_directory (value_of rows (codes "directory")) && (has_form is_lasting_name (value_of rows (codes "file")) && outputs_agree rows)) parts.1 in
     let behind_dir = both _ (has_form is_lasting_name (value_of rows (codes "file")) && outputs_agree rows) behind_input.1 in
     let outputs = both _ (outputs_agree rows) behind_dir.1 in
-    let behind_output = both _ (has_form is_lasting_name (value_of rows (codes "reject-file")) && has_form is_prefix (value_of rows (codes "prefix"))) outputs.1 in
+    let behind_output = both _ (has_form is_reject_file (value_of rows (codes "reject-file")) && has_form is_prefix (value_of rows (codes "prefix"))) outputs.1 in
     let prefix = both _ (has_form is_prefix (value_of rows (codes "prefix"))) behind_output.1 in
     let size = size_of (value_of rows (codes "buffer")) in
     record {
-      suffix = of_form is_suffix IsSuffix (value_of rows (codes "suffix")) suffix_is suffix.1;
+      suffix = of_form is_suffix IsSuffix (value_of rows (codes "suffix")) suffix_is suffix.0;
       prefix = of_form is_prefix IsFront (value_of rows (codes "prefix")) prefix_is prefix.1;
       reject_form = context_is (value_of rows (codes "reject-format"));
       least = size.0;

@@ -1,9 +1,9 @@
 -- The forms that values have.
-use Rattle.std.specs.Prelude.{ℕ, ◌^◌, List, [], ◌∷◌, ◌++◌, codes, nat_le, nat_lt, Bool, true, false, not, ◌&&◌, ◌||◌, if◌then◌else◌, bytes_eq, Option, None, Some, is_none, option_and_then}
+use Rattle.std.specs.Prelude.{ℕ, ◌^◌, List, [], ◌∷◌, ◌++◌, codes, nat_le, nat_lt, Bool, true, false, not, ◌&&◌, ◌||◌, ◌==◌, if◌then◌else◌, bytes_eq, Option, None, Some, is_none, option_and_then}
 use Rattle.std.specs.List.{list_any}
 use Rattle.num_text.specs.Numbers.{number_at}
 use Rattle.outside.specs.Files.{is_temp}
-use Rattle.outside.specs.Names.{broken_rule, normal_form, is_slash, is_control}
+use Rattle.outside.specs.Names.{broken_given, given_form, is_here, is_slash, is_control}
 use Rattle.hunk_core.specs.declared.Form.{Form}
 use Rattle.hunk_core.specs.declared.Form.TheVariants.{Unified, Context}
 use Rattle.patch_options.specs.declared.options.PlanKind.{PlanKind}
@@ -46,13 +46,37 @@ reject_form_of text = if bytes_eq text (codes "context") then Some Context
 unfoldable pub is_suffix : List ℕ → Bool
 is_suffix text = not (is_empty text) && (not (list_any is_slash text) && (not (list_any is_control text) && not (is_temp text)))
 
--- the text of a name that breaks no rule
+-- the kind of backups that a text names, where it is one of those that there are: none is asked for by it, and each has its one name
+unfoldable pub is_backup_kind : List ℕ → Bool
+is_backup_kind text = bytes_eq text (codes "simple") || bytes_eq text (codes "never")
+
+abbrev pub is_none_asked : Option ℕ → Bool
+is_none_asked None = false
+is_none_asked (Some n) = n == 0
+
+-- files are got from no other system: the number is 0
+unfoldable pub is_get : List ℕ → Bool
+is_get text = is_none_asked (number_of text)
+
+-- the text of a name that an operator may give
 unfoldable pub is_name : List ℕ → Bool
-is_name text = is_none (broken_rule text)
+is_name text = is_none (broken_given text)
 
 -- a name whose last component isn't that of a temporary
 unfoldable pub is_lasting_name : List ℕ → Bool
-is_lasting_name text = is_name text && not (is_temp (normal_form text))
+is_lasting_name text = is_name text && not (is_temp (given_form text))
+
+-- such a name, but not `-`, which isn't standard output
+unfoldable pub is_output : List ℕ → Bool
+is_output text = not (bytes_eq text (codes "-")) && is_lasting_name text
+
+-- such a name, or `-` for no reject file
+unfoldable pub is_reject_file : List ℕ → Bool
+is_reject_file text = bytes_eq text (codes "-") || is_lasting_name text
+
+-- a name, or the working directory
+unfoldable pub is_directory : List ℕ → Bool
+is_directory text = is_here text || is_name text
 
 -- a name, or `-` for standard input
 unfoldable pub is_patch_file : List ℕ → Bool
@@ -60,4 +84,4 @@ is_patch_file text = bytes_eq text (codes "-") || is_name text
 
 -- what may stand before a name: with `x` behind it, it is the text of a name in normal form
 unfoldable pub is_prefix : List ℕ → Bool
-is_prefix text = is_name (text ++ codes "x") && bytes_eq (normal_form (text ++ codes "x")) (text ++ codes "x")
+is_prefix text = is_name (text ++ codes "x") && bytes_eq (given_form (text ++ codes "x")) (text ++ codes "x")

@@ -31,6 +31,7 @@ pub record PlainOptions : Type 0 where
   pub input : Input
   pub output : Option (List ℕ)
   pub reject : Option (List ℕ)
+  pub no_rejects : Bool
   pub reject_form : Option Form
   pub dry_run : Bool
   pub silent : Bool
@@ -58,6 +59,7 @@ plain_options o = record {
   input = o.input;
   output = o.output;
   reject = o.reject;
+  no_rejects = o.no_rejects;
   reject_form = o.reject_form;
   dry_run = o.dry_run;
   silent = o.silent;

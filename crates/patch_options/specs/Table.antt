@@ -1,13 +1,13 @@
 -- The table of the words of `patch`: what each switch and each value gives, over what `clap` matched.
-use Rattle.std.specs.Prelude.{ℕ, ◌+◌, List, [], ◌∷◌, codes, nat_le, nat_lt, Bool, true, not, ◌&&◌, ◌||◌, if◌then◌else◌, bytes_eq, Option, None, Some, is_some, option_map, option_and_then, unwrap_or}
+use Rattle.std.specs.Prelude.{ℕ, ◌+◌, List, [], ◌∷◌, codes, nat_le, nat_lt, Bool, true, false, not, ◌&&◌, ◌||◌, if◌then◌else◌, bytes_eq, Option, None, Some, is_some, option_map, option_and_then, unwrap_or}
 use Rattle.std.specs.List.{list_all}
 use Rattle.std.specs.Option.{option_map_or}
 use Rattle.std.specs.Borrow.{Bor}
 use Rattle.clap.specs.Words.{Row, Text, count_of, first_of}
-use Rattle.outside.specs.Names.{normal_form}
+use Rattle.outside.specs.Names.{given_form, is_here}
 use Rattle.hunk_core.specs.declared.Form.{Form}
 use Rattle.hunk_core.specs.declared.Form.TheVariants.{Unified, Context, Normal, Ed}
-use Rattle.patch_options.specs.Forms.{number_of, buffer_of, plan_of, reject_form_of, is_suffix, is_prefix, is_name, is_lasting_name, is_patch_file}
+use Rattle.patch_options.specs.Forms.{number_of, buffer_of, plan_of, reject_form_of, is_suffix, is_backup_kind, is_get, is_prefix, is_lasting_name, is_output, is_reject_file, is_directory, is_patch_file}
 use Rattle.patch_options.specs.PlainJob.{PlainOptions}
 use Rattle.patch_options.specs.declared.options.PlanKind.TheVariants.{Auto}
 use Rattle.patch_options.specs.declared.options.Input.{Input}
@@ -29,7 +29,7 @@ are_both_used rows one other = is_used rows one && is_used rows other
 abbrev pub switch_names : List Text
 switch_names = codes "context" ∷ codes "ed" ∷ codes "normal" ∷ codes "unified" ∷ codes "reverse" ∷ codes "force" ∷ codes "batch"
     ∷ codes "forward" ∷ codes "ignore-whitespace" ∷ codes "remove-empty-files" ∷ codes "backup" ∷ codes "backup-if-mismatch"
-    ∷ codes "no-backup-if-mismatch" ∷ codes "dry-run" ∷ codes "silent" ∷ codes "quiet" ∷ codes "verbose" ∷ []
+    ∷ codes "no-backup-if-mismatch" ∷ codes "dry-run" ∷ codes "silent" ∷ codes "quiet" ∷ codes "verbose" ∷ codes "binary" ∷ []
 
 abbrev pub form_uses : List Row → ℕ
 form_uses rows = uses rows (codes "context") + uses rows (codes "ed") + uses rows (codes "normal") + uses rows (codes "unified")
@@ -57,14 +57,14 @@ has_form form value = option_map_or form value true
 abbrev pub numbers_agree : List Row → Bool
 numbers_agree rows = has_form (λ t. is_some (number_of t)) (value_of rows (codes "strip"))
     && (has_form (λ t. is_some (number_of t)) (value_of rows (codes "fuzz"))
-    && has_form (λ t. is_some (buffer_of t)) (value_of rows (codes "buffer")))
+    && (has_form (λ t. is_some (buffer_of t)) (value_of rows (codes "buffer")) && has_form is_get (value_of rows (codes "get"))))
 
 abbrev pub words_agree : List Row → Bool
 words_agree rows = has_form (λ t. is_some (plan_of t)) (value_of rows (codes "plan"))
     && (has_form (λ t. is_some (reject_form_of t)) (value_of rows (codes "reject-format"))
-    && has_form is_suffix (value_of rows (codes "suffix")))
+    && (has_form is_suffix (value_of rows (codes "suffix")) && has_form is_backup_kind (value_of rows (codes "version-control"))))
 
--- numbers, words and the suffix have their forms
+-- numbers, words and the suffix have their forms; what `get` and `version-control` ask for is so in any case
 abbrev pub values_agree : List Row → Bool
 values_agree rows = numbers_agree rows && words_agree rows
 
@@ -78,13 +78,13 @@ inputs_agree input operand = not (is_some input && is_some operand) && (has_form
 
 -- the names that are written, and what stands before that of a backup, are lawful
 unfoldable pub outputs_agree : List Row → Bool
-outputs_agree rows = has_form is_lasting_name (value_of rows (codes "output"))
-    && (has_form is_lasting_name (value_of rows (codes "reject-file")) && has_form is_prefix (value_of rows (codes "prefix")))
+outputs_agree rows = has_form is_output (value_of rows (codes "output"))
+    && (has_form is_reject_file (value_of rows (codes "reject-file")) && has_form is_prefix (value_of rows (codes "prefix")))
 
 -- names are lawful
 abbrev pub names_agree : List Row → Bool
 names_agree rows = inputs_agree (value_of rows (codes "input")) (value_of rows (codes "patchfile"))
-    && (has_form is_name (value_of rows (codes "directory"))
+    && (has_form is_directory (value_of rows (codes "directory"))
     && (has_form is_lasting_name (value_of rows (codes "file")) && outputs_agree rows))
 
 -- what was matched is a command
@@ -107,7 +107,18 @@ first_given (Some text) other = Some text
 -- the patch file, `-` or none being standard input
 abbrev pub input_of : Option Text → Input
 input_of None = Standard
-input_of (Some text) = if bytes_eq text (codes "-") then Standard else File (normal_form text)
+input_of (Some text) = if bytes_eq text (codes "-") then Standard else File (given_form text)
+
+-- the directory, none where it is the working directory
+abbrev pub directory_of : Text → Option Text
+directory_of text = if is_here text then None else Some (given_form text)
+
+-- `-` stands for no reject file
+abbrev pub is_no_file : Option Text → Bool
+is_no_file value = option_map_or (λ t. bytes_eq t (codes "-")) value false
+
+abbrev pub reject_of : Text → Option Text
+reject_of text = if bytes_eq text (codes "-") then None else Some (given_form text)
 
 abbrev pub options_of : List Row → PlainOptions
 options_of rows = record {
@@ -124,11 +135,12 @@ options_of rows = record {
   mismatch_backup = not (is_used rows (codes "no-backup-if-mismatch"));
   suffix = value_of rows (codes "suffix");
   prefix = value_of rows (codes "prefix");
-  dir = option_map normal_form (value_of rows (codes "directory"));
-  file = option_map normal_form (value_of rows (codes "file"));
+  dir = option_and_then directory_of (value_of rows (codes "directory"));
+  file = option_map given_form (value_of rows (codes "file"));
   input = input_of (first_given (value_of rows (codes "input")) (value_of rows (codes "patchfile")));
-  output = option_map normal_form (value_of rows (codes "output"));
-  reject = option_map normal_form (value_of rows (codes "reject-file"));
+  output = option_map given_form (value_of rows (codes "output"));
+  reject = option_and_then reject_of (value_of rows (codes "reject-file"));
+  no_rejects = is_no_file (value_of rows (codes "reject-file"));
   reject_form = option_and_then reject_form_of (value_of rows (codes "reject-format"));
   dry_run = is_used rows (codes "dry-run");
   silent = is_used rows (codes "silent") || is_used rows (codes "quiet");

@@ -1,5 +1,5 @@
 -- When words are a command, and what it asks for.
-use Rattle.std.specs.Prelude.{List, [], ◌∷◌, codes, Bool, true, false, if◌then◌else◌, bytes_eq, Result, Ok, Err}
+use Rattle.std.specs.Prelude.{List, [], ◌∷◌, codes, if◌then◌else◌, bytes_eq, Result, Ok, Err}
 use Rattle.std.specs.List.{list_any}
 use Rattle.clap.specs.Words.{Row, Text}
 use Rattle.patch_options.specs.Flags.{matched_rows, takes_words}

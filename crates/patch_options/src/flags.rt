@@ -1,7 +1,7 @@
 //! The command line of `patch`, read by `clap`.
 ghost use Rattle.std.specs.Prelude.{◌≡◌, ◌⊎◌, ◌∷◌, [], map, string_bytes, true, false, IfOk, IfErr};
 ghost use Rattle.clap.specs.Words.{app_of, new_rule};
-ghost use Rattle.patch_options.specs.Flags.{switch, long_switch, option, long_option, switches, form_switches, way_switches, file_switches, report_switches, options, text_options, name_options, long_options, Extends, patch_command, takes_words, matched_rows, rows_in};
+ghost use Rattle.patch_options.specs.Flags.{switch, long_switch, option, long_option, rule_of, Extends, patch_command, takes_words, matched_rows, rows_in};
 
 use crate::WordFault;
 use crate::simple::why_refused;
@@ -21,114 +21,89 @@ pub fn matched(alloc: Global, words: &[String]) -> Result<ArgMatches<'_>, WordFa
     }
 }
 
-/// The command without help and version flags, and with no rules between its arguments.
+/// A word that begins with a dash: a switch, which is counted, or an option, whose value is a text. It has a name, and may have
+/// a letter.
+enum Word {
+    Switch(char, &'static str),
+    LongSwitch(&'static str),
+    Option(char, &'static str),
+    LongOption(&'static str),
+}
+
+/// The words of `patch`.
+static WORDS: [Word; 31] = [
+    Word::Switch('c', "context"),
+    Word::Switch('e', "ed"),
+    Word::Switch('n', "normal"),
+    Word::Switch('u', "unified"),
+    Word::Switch('R', "reverse"),
+    Word::Switch('f', "force"),
+    Word::Switch('t', "batch"),
+    Word::Switch('N', "forward"),
+    Word::Switch('l', "ignore-whitespace"),
+    Word::Switch('E', "remove-empty-files"),
+    Word::Switch('b', "backup"),
+    Word::LongSwitch("backup-if-mismatch"),
+    Word::LongSwitch("no-backup-if-mismatch"),
+    Word::LongSwitch("dry-run"),
+    Word::Switch('s', "silent"),
+    Word::LongSwitch("quiet"),
+    Word::LongSwitch("verbose"),
+    Word::LongSwitch("binary"),
+    Word::Option('p', "strip"),
+    Word::Option('F', "fuzz"),
+    Word::Option('z', "suffix"),
+    Word::Option('B', "prefix"),
+    Word::Option('V', "version-control"),
+    Word::Option('g', "get"),
+    Word::Option('d', "directory"),
+    Word::Option('i', "input"),
+    Word::Option('o', "output"),
+    Word::Option('r', "reject-file"),
+    Word::LongOption("reject-format"),
+    Word::LongOption("plan"),
+    Word::LongOption("buffer"),
+];
+
+/// The command without help and version flags, and with no rules between its arguments. Operands stand in the order in which
+/// they are added.
 fn patch_command<'a>(alloc: Global) -> Result<Command<'a>, AllocError>
     ensures { IfOk result (λ c. app_of c ≡ patch_command) }
 {
     let command = Command::new(alloc, "patch").disable_help_flag(true);
-    let command = with_switches(alloc, command)?;
-    let command = with_options(alloc, command)?;
-    with_operands(alloc, command, "file", "patchfile")
+    let command = with_words(alloc, command, WORDS.as_slice())?;
+    let command = add_operand(alloc, command, "file")?;
+    add_operand(alloc, command, "patchfile")
 }
 
-fn with_switches<'a>(alloc: Global, command: Command<'a>) -> Result<Command<'a>, AllocError>
-    ensures { IfOk result (λ c. Extends command.entry switches c) }
-{
-    let command = with_form_switches(alloc, command)?;
-    let command = with_way_switches(alloc, command)?;
-    let command = with_file_switches(alloc, command)?;
-    with_report_switches(alloc, command)
-}
-
-/// The one form that the patch text may have.
-fn with_form_switches<'a>(alloc: Global, command: Command<'a>) -> Result<Command<'a>, AllocError>
-    ensures { IfOk result (λ c. Extends command.entry form_switches c) }
-{
-    let command = add_switch(alloc, command, 'c', "context")?;
-    let command = add_switch(alloc, command, 'e', "ed")?;
-    let command = add_switch(alloc, command, 'n', "normal")?;
-    add_switch(alloc, command, 'u', "unified")
-}
-
-/// Which way a patch goes, and what is done where that is in doubt.
-fn with_way_switches<'a>(alloc: Global, command: Command<'a>) -> Result<Command<'a>, AllocError>
-    ensures { IfOk result (λ c. Extends command.entry way_switches c) }
-{
-    let command = add_switch(alloc, command, 'R', "reverse")?;
-    let command = add_switch(alloc, command, 'f', "force")?;
-    let command = add_switch(alloc, command, 't', "batch")?;
-    add_switch(alloc, command, 'N', "forward")
-}
-
-/// How lines are compared, and what becomes of files.
-fn with_file_switches<'a>(alloc: Global, command: Command<'a>) -> Result<Command<'a>, AllocError>
-    ensures { IfOk result (λ c. Extends command.entry file_switches c) }
-{
-    let command = add_switch(alloc, command, 'l', "ignore-whitespace")?;
-    let command = add_switch(alloc, command, 'E', "remove-empty-files")?;
-    let command = add_switch(alloc, command, 'b', "backup")?;
-    let command = add_long_switch(alloc, command, "backup-if-mismatch")?;
-    add_long_switch(alloc, command, "no-backup-if-mismatch")
-}
-
-/// What is only tried, and what is said.
-fn with_report_switches<'a>(alloc: Global, command: Command<'a>) -> Result<Command<'a>, AllocError>
-    ensures { IfOk result (λ c. Extends command.entry report_switches c) }
-{
-    let command = add_long_switch(alloc, command, "dry-run")?;
-    let command = add_switch(alloc, command, 's', "silent")?;
-    let command = add_long_switch(alloc, command, "quiet")?;
-    add_long_switch(alloc, command, "verbose")
-}
-
-fn with_options<'a>(alloc: Global, command: Command<'a>) -> Result<Command<'a>, AllocError>
-    ensures { IfOk result (λ c. Extends command.entry options c) }
-{
-    let command = with_text_options(alloc, command)?;
-    let command = with_name_options(alloc, command)?;
-    with_long_options(alloc, command)
-}
-
-/// Numbers, and what stands beside the name of a backup.
-fn with_text_options<'a>(alloc: Global, command: Command<'a>) -> Result<Command<'a>, AllocError>
-    ensures { IfOk result (λ c. Extends command.entry text_options c) }
-{
-    let command = add_option(alloc, command, 'p', "strip")?;
-    let command = add_option(alloc, command, 'F', "fuzz")?;
-    let command = add_option(alloc, command, 'z', "suffix")?;
-    add_option(alloc, command, 'B', "prefix")
-}
-
-/// Options whose value is a name.
-fn with_name_options<'a>(alloc: Global, command: Command<'a>) -> Result<Command<'a>, AllocError>
-    ensures { IfOk result (λ c. Extends command.entry name_options c) }
-{
-    let command = add_option(alloc, command, 'd', "directory")?;
-    let command = add_option(alloc, command, 'i', "input")?;
-    let command = add_option(alloc, command, 'o', "output")?;
-    add_option(alloc, command, 'r', "reject-file")
-}
-
-/// Options that have no letter.
-fn with_long_options<'a>(alloc: Global, command: Command<'a>) -> Result<Command<'a>, AllocError>
-    ensures { IfOk result (λ c. Extends command.entry long_options c) }
-{
-    let command = add_long_option(alloc, command, "reject-format")?;
-    let command = add_long_option(alloc, command, "plan")?;
-    add_long_option(alloc, command, "buffer")
-}
-
-/// Operands stand in the order in which they are added.
-fn with_operands<'a>(
+/// The command with these words behind its own.
+fn with_words<'a>(
     alloc: Global,
     command: Command<'a>,
-    first: &'a str,
-    second: &'a str,
+    words: &[Word],
 ) -> Result<Command<'a>, AllocError>
-    ensures { IfOk result (λ c. Extends command.entry (new_rule first.entry.now ∷ new_rule second.entry.now ∷ []) c) }
+    ensures { IfOk result (λ c. Extends command.entry (map rule_of words.now) c) }
 {
-    let command = add_operand(alloc, command, first)?;
-    add_operand(alloc, command, second)
+    let mut command = command;
+    for word in words {
+        command = add_word(alloc, command, word)?;
+    }
+    Ok(command)
+}
+
+fn add_word<'a>(
+    alloc: Global,
+    command: Command<'a>,
+    word: &Word,
+) -> Result<Command<'a>, AllocError>
+    ensures { IfOk result (λ c. Extends command.entry (rule_of word.now ∷ []) c) }
+{
+    match word {
+        Word::Switch(letter, name) => add_switch(alloc, command, *letter, *name),
+        Word::LongSwitch(name) => add_long_switch(alloc, command, *name),
+        Word::Option(letter, name) => add_option(alloc, command, *letter, *name),
+        Word::LongOption(name) => add_long_option(alloc, command, *name),
+    }
 }
 
 /// A switch with a letter and a name. Its uses are counted.

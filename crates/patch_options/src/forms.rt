@@ -1,7 +1,7 @@
 //! The forms that values have.
 ghost use Rattle.std.specs.Prelude.{◌≡◌};
 ghost use Rattle.outside.specs.Files.{is_temp};
-ghost use Rattle.patch_options.specs.Forms.{number_of, buffer_of, plan_of, reject_form_of, is_suffix};
+ghost use Rattle.patch_options.specs.Forms.{number_of, buffer_of, plan_of, reject_form_of, is_suffix, is_backup_kind, is_get};
 
 use crate::PlanKind;
 use hunk_core::Form;
@@ -63,6 +63,22 @@ pub fn is_suffix(text: &str) -> bool
         return false;
     }
     !ends_as_temporary(text)
+}
+
+/// Whether the text names a kind of backups that there is: each backup has its one name, and none is asked for by this word.
+#[tactic(auto, unfolding(crate::specs::Forms::is_backup_kind))]
+pub fn is_backup_kind(text: &str) -> bool
+    ensures { result ≡ is_backup_kind text.now }
+{
+    text == "simple" || text == "never"
+}
+
+/// Whether the text is the number 0: files are got from no other system.
+#[tactic(auto, unfolding(crate::specs::Forms::is_get))]
+pub fn is_get(text: &str) -> bool
+    ensures { result ≡ is_get text.now }
+{
+    number_of(text) == Some(0)
 }
 
 /// Whether the text ends as the name of a temporary does.

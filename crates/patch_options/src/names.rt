@@ -1,15 +1,15 @@
 //! The names that a command gives.
-ghost use Rattle.std.specs.Prelude.{◌≡◌, ◌⊎◌, ◌++◌, codes, true, false, IfOk, IfErr, string_bytes, option_map};
+ghost use Rattle.std.specs.Prelude.{◌≡◌, ◌⊎◌, ◌++◌, codes, true, false, IfOk, IfErr, string_bytes, option_map, option_and_then};
 ghost use Rattle.patch_options.specs.Flags.{rows_in};
 ghost use Rattle.patch_options.specs.HasNames.{HasNames, HasOutputs};
-ghost use Rattle.outside.specs.Names.{normal_form};
-ghost use Rattle.patch_options.specs.Forms.{is_name, is_lasting_name, is_patch_file, is_prefix};
-ghost use Rattle.patch_options.specs.Table.{text_of, has_form, names_agree, outputs_agree, inputs_agree, input_of, first_given};
+ghost use Rattle.outside.specs.Names.{given_form};
+ghost use Rattle.patch_options.specs.Forms.{is_name, is_lasting_name, is_output, is_reject_file, is_directory, is_patch_file, is_prefix};
+ghost use Rattle.patch_options.specs.Table.{text_of, has_form, names_agree, outputs_agree, inputs_agree, input_of, first_given, directory_of, reject_of, is_no_file};
 
 use crate::table::value_of;
 use crate::{Input, WordFault};
 use clap::ArgMatches;
-use outside::{Name, NameFault};
+use outside::{Name, NameFault, is_here};
 use std::alloc::Global;
 
 /// The names that are written, and what stands before that of a backup.
@@ -17,6 +17,7 @@ use std::alloc::Global;
 pub struct Outputs {
     pub output: Option<Name>,
     pub reject: Option<Name>,
+    pub no_rejects: bool,
     pub prefix: Option<String>,
 }
 
@@ -41,7 +42,7 @@ pub fn read_names(alloc: Global, matches: &ArgMatches<'_>) -> Result<Names, Word
             value_of(matches, "input"),
             value_of(matches, "patchfile"),
         )?,
-        dir: read_name(alloc, value_of(matches, "directory"))?,
+        dir: read_directory(alloc, value_of(matches, "directory"))?,
         file: read_lasting_name(alloc, value_of(matches, "file"))?,
         outputs: read_outputs(alloc, matches)?,
     })
@@ -54,8 +55,9 @@ fn read_outputs(alloc: Global, matches: &ArgMatches<'_>) -> Result<Outputs, Word
     ensures refused { IfErr result (λ fault. (fault ≡ WordFault.Memory) ⊎ ((fault ≡ WordFault.Usage) × (outputs_agree (rows_in matches.now) ≡ false))) }
 {
     Ok(Outputs {
-        output: read_lasting_name(alloc, value_of(matches, "output"))?,
-        reject: read_lasting_name(alloc, value_of(matches, "reject-file"))?,
+        output: read_output(alloc, value_of(matches, "output"))?,
+        reject: read_reject(alloc, value_of(matches, "reject-file"))?,
+        no_rejects: is_no_file(value_of(matches, "reject-file")),
         prefix: read_prefix(alloc, value_of(matches, "prefix"))?,
     })
 }
@@ -90,11 +92,11 @@ pub fn input_of(alloc: Global, text: &str) -> Result<Input, WordFault>
 
 #[tactic(auto, unfolding(crate::specs::Forms::is_name))]
 fn name_of(alloc: Global, text: &str) -> Result<Name, WordFault>
-    ensures name { IfOk result (λ name. name ≡ normal_form text.now) }
+    ensures name { IfOk result (λ name. name ≡ given_form text.now) }
     ensures lawful { IfOk result (λ name. is_name text.now ≡ true) }
     ensures refused { IfErr result (λ fault. (fault ≡ WordFault.Memory) ⊎ ((fault ≡ WordFault.Usage) × (is_name text.now ≡ false))) }
 {
-    match Name::new(alloc, text.as_bytes()) {
+    match Name::given(alloc, text.as_bytes()) {
         Ok(name) => Ok(name),
         Err(NameFault::Refused { rule: _ }) => Err(WordFault::Usage),
         Err(NameFault::Memory) => Err(WordFault::Memory),
@@ -103,7 +105,7 @@ fn name_of(alloc: Global, text: &str) -> Result<Name, WordFault>
 
 /// The name that was given, if it is lawful.
 pub fn read_name(alloc: Global, text: Option<&str>) -> Result<Option<Name>, WordFault>
-    ensures name { IfOk result (λ given. given ≡ option_map normal_form (text_of text.entry)) }
+    ensures name { IfOk result (λ given. given ≡ option_map given_form (text_of text.entry)) }
     ensures lawful { IfOk result (λ given. has_form is_name (text_of text.entry) ≡ true) }
     ensures refused { IfErr result (λ fault. (fault ≡ WordFault.Memory) ⊎ ((fault ≡ WordFault.Usage) × (has_form is_name (text_of text.entry) ≡ false))) }
 {
@@ -113,10 +115,34 @@ pub fn read_name(alloc: Global, text: Option<&str>) -> Result<Option<Name>, Word
     }
 }
 
+/// The directory, none where it is the working directory.
+#[tactic(auto, unfolding(crate::specs::Forms::is_directory))]
+fn directory_of(alloc: Global, text: &str) -> Result<Option<Name>, WordFault>
+    ensures name { IfOk result (λ dir. dir ≡ directory_of text.now) }
+    ensures lawful { IfOk result (λ dir. is_directory text.now ≡ true) }
+    ensures refused { IfErr result (λ fault. (fault ≡ WordFault.Memory) ⊎ ((fault ≡ WordFault.Usage) × (is_directory text.now ≡ false))) }
+{
+    if is_here(text) {
+        return Ok(None);
+    }
+    Ok(Some(name_of(alloc, text)?))
+}
+
+fn read_directory(alloc: Global, text: Option<&str>) -> Result<Option<Name>, WordFault>
+    ensures name { IfOk result (λ given. given ≡ option_and_then directory_of (text_of text.entry)) }
+    ensures lawful { IfOk result (λ given. has_form is_directory (text_of text.entry) ≡ true) }
+    ensures refused { IfErr result (λ fault. (fault ≡ WordFault.Memory) ⊎ ((fault ≡ WordFault.Usage) × (has_form is_directory (text_of text.entry) ≡ false))) }
+{
+    match text {
+        Some(text) => directory_of(alloc, text),
+        None => Ok(None),
+    }
+}
+
 /// A name that is no temporary's.
 #[tactic(auto, unfolding(crate::specs::Forms::is_lasting_name))]
 pub fn lasting_name_of(alloc: Global, text: &str) -> Result<Name, WordFault>
-    ensures name { IfOk result (λ name. name ≡ normal_form text.now) }
+    ensures name { IfOk result (λ name. name ≡ given_form text.now) }
     ensures lawful { IfOk result (λ name. is_lasting_name text.now ≡ true) }
     ensures refused { IfErr result (λ fault. (fault ≡ WordFault.Memory) ⊎ ((fault ≡ WordFault.Usage) × (is_lasting_name text.now ≡ false))) }
 {
@@ -124,17 +150,75 @@ pub fn lasting_name_of(alloc: Global, text: &str) -> Result<Name, WordFault>
     if name.is_temp() {
         return Err(WordFault::Usage);
     }
-    Ok(name)
+    Ok(name.written())
 }
 
 fn read_lasting_name(alloc: Global, text: Option<&str>) -> Result<Option<Name>, WordFault>
-    ensures name { IfOk result (λ given. given ≡ option_map normal_form (text_of text.entry)) }
+    ensures name { IfOk result (λ given. given ≡ option_map given_form (text_of text.entry)) }
     ensures lawful { IfOk result (λ given. has_form is_lasting_name (text_of text.entry) ≡ true) }
     ensures refused { IfErr result (λ fault. (fault ≡ WordFault.Memory) ⊎ ((fault ≡ WordFault.Usage) × (has_form is_lasting_name (text_of text.entry) ≡ false))) }
 {
     match text {
         Some(text) => Ok(Some(lasting_name_of(alloc, text)?)),
         None => Ok(None),
+    }
+}
+
+/// The file that the result is written to. `-` isn't standard output.
+#[tactic(auto, unfolding(crate::specs::Forms::is_output))]
+fn output_of(alloc: Global, text: &str) -> Result<Name, WordFault>
+    ensures name { IfOk result (λ name. name ≡ given_form text.now) }
+    ensures lawful { IfOk result (λ name. is_output text.now ≡ true) }
+    ensures refused { IfErr result (λ fault. (fault ≡ WordFault.Memory) ⊎ ((fault ≡ WordFault.Usage) × (is_output text.now ≡ false))) }
+{
+    if text == "-" {
+        return Err(WordFault::Usage);
+    }
+    lasting_name_of(alloc, text)
+}
+
+fn read_output(alloc: Global, text: Option<&str>) -> Result<Option<Name>, WordFault>
+    ensures name { IfOk result (λ given. given ≡ option_map given_form (text_of text.entry)) }
+    ensures lawful { IfOk result (λ given. has_form is_output (text_of text.entry) ≡ true) }
+    ensures refused { IfErr result (λ fault. (fault ≡ WordFault.Memory) ⊎ ((fault ≡ WordFault.Usage) × (has_form is_output (text_of text.entry) ≡ false))) }
+{
+    match text {
+        Some(text) => Ok(Some(output_of(alloc, text)?)),
+        None => Ok(None),
+    }
+}
+
+/// The reject file, none for `-`.
+#[tactic(auto, unfolding(crate::specs::Forms::is_reject_file))]
+fn reject_of(alloc: Global, text: &str) -> Result<Option<Name>, WordFault>
+    ensures name { IfOk result (λ given. given ≡ reject_of text.now) }
+    ensures lawful { IfOk result (λ given. is_reject_file text.now ≡ true) }
+    ensures refused { IfErr result (λ fault. (fault ≡ WordFault.Memory) ⊎ ((fault ≡ WordFault.Usage) × (is_reject_file text.now ≡ false))) }
+{
+    if text == "-" {
+        return Ok(None);
+    }
+    Ok(Some(lasting_name_of(alloc, text)?))
+}
+
+fn read_reject(alloc: Global, text: Option<&str>) -> Result<Option<Name>, WordFault>
+    ensures name { IfOk result (λ given. given ≡ option_and_then reject_of (text_of text.entry)) }
+    ensures lawful { IfOk result (λ given. has_form is_reject_file (text_of text.entry) ≡ true) }
+    ensures refused { IfErr result (λ fault. (fault ≡ WordFault.Memory) ⊎ ((fault ≡ WordFault.Usage) × (has_form is_reject_file (text_of text.entry) ≡ false))) }
+{
+    match text {
+        Some(text) => reject_of(alloc, text),
+        None => Ok(None),
+    }
+}
+
+/// Whether the value says that no file is written.
+fn is_no_file(text: Option<&str>) -> bool
+    ensures { result ≡ is_no_file (text_of text.entry) }
+{
+    match text {
+        Some(text) => text == "-",
+        None => false,
     }
 }
 

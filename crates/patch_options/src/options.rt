@@ -57,6 +57,8 @@ pub struct Options {
     pub output: Option<Name>,
     /// The reject file.
     pub reject: Option<Name>,
+    /// No reject file is written.
+    pub no_rejects: bool,
     pub reject_form: Option<Form>,
     pub dry_run: bool,
     pub silent: bool,

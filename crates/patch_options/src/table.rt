@@ -2,11 +2,13 @@
 ghost use Rattle.std.specs.Prelude.{◌≡◌, ◌⊎◌, ◌<◌, codes, true, false, is_some, IfOk, IfErr, string_bytes, option_map, option_and_then, unwrap_or};
 ghost use Rattle.std.specs.List.{list_all};
 ghost use Rattle.patch_options.specs.Flags.{rows_in};
-ghost use Rattle.patch_options.specs.Forms.{number_of, buffer_of, plan_of, reject_form_of, is_suffix};
+ghost use Rattle.patch_options.specs.Forms.{number_of, buffer_of, plan_of, reject_form_of, is_suffix, is_backup_kind, is_get};
 ghost use Rattle.patch_options.specs.PlainJob.{plain_options};
 ghost use Rattle.patch_options.specs.Table.{uses, value_of, text_of, has_form, is_used, is_single, are_both_used, form_uses, are_single, exclusions_hold, switches_agree, numbers_agree, words_agree, values_agree, is_command, options_of, only_form};
 
-use crate::forms::{buffer_of, is_suffix, number_of, plan_of, reject_form_of};
+use crate::forms::{
+    buffer_of, is_backup_kind, is_get, is_suffix, number_of, plan_of, reject_form_of,
+};
 use crate::names::{Names, Outputs, read_names};
 use crate::{Options, PlanKind, WordFault};
 use clap::ArgMatches;
@@ -14,7 +16,7 @@ use hunk_core::Form;
 use std::alloc::{AllocError, Global};
 
 /// The names of the switches, which are counted.
-static SWITCHES: [&str; 17] = [
+static SWITCHES: [&str; 18] = [
     "context",
     "ed",
     "normal",
@@ -32,6 +34,7 @@ static SWITCHES: [&str; 17] = [
     "silent",
     "quiet",
     "verbose",
+    "binary",
 ];
 
 /// The options that were matched, if they are a command.
@@ -52,6 +55,7 @@ pub fn read_options(alloc: Global, matches: &ArgMatches<'_>) -> Result<Options, 
     let Outputs {
         output,
         reject,
+        no_rejects,
         prefix,
     } = outputs;
     let suffix = copied(alloc, value_of(matches, "suffix"))?;
@@ -74,6 +78,7 @@ pub fn read_options(alloc: Global, matches: &ArgMatches<'_>) -> Result<Options, 
         input,
         output,
         reject,
+        no_rejects,
         reject_form: reject_form_in(matches),
         dry_run: is_used(matches, "dry-run"),
         silent: is_used(matches, "silent") || is_used(matches, "quiet"),
@@ -170,6 +175,7 @@ fn numbers_agree(matches: &ArgMatches<'_>) -> bool
     is_number(value_of(matches, "strip"))
         && is_number(value_of(matches, "fuzz"))
         && is_buffer(value_of(matches, "buffer"))
+        && gets_nothing(value_of(matches, "get"))
 }
 
 fn words_agree(matches: &ArgMatches<'_>) -> bool
@@ -178,6 +184,7 @@ fn words_agree(matches: &ArgMatches<'_>) -> bool
     is_plan(value_of(matches, "plan"))
         && is_reject_form(value_of(matches, "reject-format"))
         && has_suffix_form(value_of(matches, "suffix"))
+        && has_backup_kind(value_of(matches, "version-control"))
 }
 
 /// Whether the text, if it was given, writes a number.
@@ -224,6 +231,24 @@ fn has_suffix_form(text: Option<&str>) -> bool
 {
     match text {
         Some(text) => is_suffix(text),
+        None => true,
+    }
+}
+
+fn has_backup_kind(text: Option<&str>) -> bool
+    ensures { result ≡ has_form is_backup_kind (text_of text.entry) }
+{
+    match text {
+        Some(text) => is_backup_kind(text),
+        None => true,
+    }
+}
+
+fn gets_nothing(text: Option<&str>) -> bool
+    ensures { result ≡ has_form is_get (text_of text.entry) }
+{
+    match text {
+        Some(text) => is_get(text),
         None => true,
     }
 }

@@ -101,13 +101,37 @@ patch|-o|o => output: Some("o")
 patch|-oo => output: Some("o")
 patch|--output|o => output: Some("o")
 patch|--output=o => output: Some("o")
-patch|-o|- => output: Some("-")
 patch|-o|x.ptmp/y => output: Some("x.ptmp/y")
 patch|-r|r => reject: Some("r")
 patch|-rr => reject: Some("r")
 patch|--reject-file|r => reject: Some("r")
 patch|--reject-file=r => reject: Some("r")
-patch|-r|- => reject: Some("-")
+patch|-r|- => no_rejects: true
+patch|-r- => no_rejects: true
+patch|--reject-file=- => no_rejects: true
+patch|/etc//x/./y => file: Some("/etc/x/y")
+patch|../a/../f => file: Some("../a/../f")
+patch|..|/p => file: Some("..") input: File("/p")
+patch|-i|../x.patch => input: File("../x.patch")
+patch|-d|/usr/src/ => dir: Some("/usr/src")
+patch|-d|.. => dir: Some("..")
+patch|-d|. =>
+patch|-d|.// =>
+patch|-o|/x/../o => output: Some("/x/../o")
+patch|-r|/x/r => reject: Some("/x/r")
+patch|-r|../- => reject: Some("../-")
+patch|-B|/tmp/ => prefix: Some("/tmp/")
+patch|-B|/ => prefix: Some("/")
+patch|-B|../ => prefix: Some("../")
+patch|-V|simple =>
+patch|-Vnever =>
+patch|--version-control=simple =>
+patch|--version-control|never =>
+patch|-g0 =>
+patch|-g|00 =>
+patch|--get=0 =>
+patch|--binary =>
+patch|-t|-F|0|-N|-p1|-u|-V|never|-E|-b|-B|.pc/x/|--reject-file=- => only: Some(Unified) strip: Some(1) fuzz: 0 batch: true forward: true remove_empty: true backup: true prefix: Some(".pc/x/") no_rejects: true
 patch|-p0 => strip: Some(0)
 patch|-p|0 => strip: Some(0)
 patch|--strip=1 => strip: Some(1)

@@ -9,7 +9,7 @@ use std::test::Fail;
 const PLAIN: &str = "only: None, strip: None, fuzz: 2, reverse: false, force: false, \
     batch: false, forward: false, loose: false, remove_empty: false, backup: false, \
     mismatch_backup: true, suffix: None, prefix: None, dir: None, file: None, \
-    input: Standard, output: None, reject: None, reject_form: None, dry_run: false, \
+    input: Standard, output: None, reject: None, no_rejects: false, reject_form: None, dry_run: false, \
     silent: false, verbose: false, plan: Auto, buffer: 65536";
 
 /// The words of a row.
@@ -21,11 +21,10 @@ fn words_of(alloc: Global, row: &str) -> Result<Vec<String>, Fail> {
     Ok(words)
 }
 
-/// The options as `Debug` shows them, with a name as its text alone.
+/// The options as `Debug` shows them.
 fn shown(alloc: Global, options: &Options) -> Result<String, Fail> {
     let text = format!(in alloc; "{options:?}")?;
     let text = text.as_str().replace(alloc, "Options { ", "")?;
-    let text = text.as_str().replace(alloc, "Name { text: ", "")?;
     Ok(text.as_str().replace(alloc, " }", "")?)
 }
 

@@ -1,10 +1,11 @@
 -- A set that was read can be carried out.
-use Rattle.std.proofs.Common.{◌≡◌, inl, inr, ℕ, ◌+◌, ◌<◌, ◌^◌, List, [], ◌∷◌, length, map, All, Option, None, Some, refl, sym, ap, subst, arith, length-append}
+use Rattle.std.proofs.Common.{◌≡◌, inl, inr, ℕ, suc, ◌+◌, ◌<◌, ◌^◌, true, false, cond, List, [], ◌∷◌, ◌++◌, length, map, All, Option, None, Some, refl, sym, ap, subst, arith, length-append}
 use Rattle.std.proofs.lemmas.List.{get_or_at}
 use Rattle.std.proofs.lemmas.List.Elements.{All-nil, All-cons, All-head, All-tail}
 use Rattle.std.proofs.lemmas.List.Sums.{sum_by-cons}
 use Rattle.std.proofs.lemmas.Option.{none-some, same_Some}
 use Rattle.std.specs.Option.{ForSome, option_map}
+use Rattle.outside.specs.Names.{is_absolute}
 use Rattle.hunk_core.specs.declared.Verdict.{Verdict}
 use Rattle.file_patch.specs.declared.FilePatch.{FilePatch}
 use Rattle.file_patch.specs.PlainPatch.{header_of, row_count}
@@ -19,9 +20,12 @@ use Rattle.patch_set.specs.Spans.{ArePlaced}
 use Rattle.patch_run.specs.Doing.{StaysSet}
 use Rattle.patch_run.specs.Ready.{BeginsComponent, IsNamed, IsFit, IsReady, AreNumbered}
 
-begins : (dir : Option (List ℕ)) (name : List ℕ) → BeginsComponent (below dir name) (shown_from dir)
+begins : (dir : Option (List ℕ)) (name : List ℕ) → BeginsComponent (below dir name) (shown_from dir name)
 begins None name = inl refl
-begins (Some directory) name = inr (length directory, refl, omega (arith, length-append directory (47 ∷ name)), get_or_at directory 47 name 0 (length directory) refl)
+begins (Some directory) name = elim (is_absolute name) as (λ b. BeginsComponent (cond b name (directory ++ 47 ∷ name)) (cond b 0 (suc (length directory)))) [
+  | true ↦ inl refl
+  | false ↦ inr (length directory, refl, omega (arith, length-append directory (47 ∷ name)), get_or_at directory 47 name 0 (length directory) refl)
+]
 
 named : (o : PlainOptions) (known : List (List ℕ)) (name : List ℕ) → of_set.IsFit (target_in o known name) → IsNamed (target_in o known name)
 named o known name fit = record {

@@ -12,9 +12,10 @@ use Rattle.file_patch.specs.declared.Change.{Change}
 use Rattle.file_patch.specs.PlainPatch.{change_of}
 use Rattle.patch_set.specs.declared.set.Row.{Row}
 use Rattle.reject_text.specs.Rejects.{AreHunks}
+use Rattle.patch_options.specs.PlainJob.{PlainOptions}
 use Rattle.target_names.specs.declared.derived.Target.{Target}
-use Rattle.patch_run.specs.OnePatch.{Mark, PlainTurn, mark_of, has_rejects, is_script, own_reject, written_by, text_if, rejected_before}
-use Rattle.patch_run.proofs.Writing.{are_hunks}
+use Rattle.patch_run.specs.OnePatch.{Mark, PlainTurn, mark_of, has_rejects, is_unrejected, own_reject, written_by, text_if, rejected_before}
+use Rattle.patch_run.proofs.Writing.{rejected_are_hunks}
 
 -- a file patch of which nothing is rejected, or none in a dry run
 pub no_text : (t : PlainTurn) (r : Row) (vs : List Verdict) (name : List ℕ) → (has_rejects t vs && not t.options.dry_run) ≡ false → [] ≡ text_if name (mark_of t r vs).rejected
@@ -37,10 +38,10 @@ not_both false b is = refl
 pub both : (a b : Bool) → a ≡ true → b ≡ false → (a && not b) ≡ true
 both a b is isnt = ap (λ x. x && not b) is ∙ ap not isnt
 
--- what isn't a script is hunks
-pub rejected_hunks : (text : List ℕ) (x : Change) (some : Bool) → (some && not (is_script (change_of text x))) ≡ true → AreHunks x
-rejected_hunks text x true is = are_hunks text x is
-rejected_hunks text x false is = absurd (false≢true is)
+-- what goes to a reject file is hunks
+pub rejected_hunks : (o : PlainOptions) (text : List ℕ) (x : Change) (some : Bool) → (some && not (is_unrejected o (change_of text x))) ≡ true → AreHunks x
+rejected_hunks o text x true is = rejected_are_hunks o text x is
+rejected_hunks o text x false is = absurd (false≢true is)
 
 pub rejected-none : (name : List ℕ) → [] ≡ rejected_before [] name
 unfolding rejected_before

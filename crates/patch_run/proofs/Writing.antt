@@ -11,12 +11,13 @@ use Rattle.outside.specs.Quiet.Effect.{Remove}
 use Rattle.outside.proofs.Names.{apart}
 use Rattle.hunk_core.specs.declared.Verdict.{Verdict}
 use Rattle.hunk_apply.specs.Session.{is_placed}
+use Rattle.patch_options.specs.PlainJob.{PlainOptions}
 use Rattle.target_names.specs.declared.derived.Target.{Target}
 use Rattle.file_patch.specs.declared.Change.{Change}
 use Rattle.file_patch.specs.declared.Change.TheVariants.{Hunks, Script}
 use Rattle.file_patch.specs.PlainPatch.{change_of}
 use Rattle.reject_text.specs.Rejects.{AreHunks}
-use Rattle.patch_run.specs.OnePatch.{PlainTurn, Tried, some_placed, has_rejects, put_if, is_backup_due, backup_effects, is_removal, target_effects, written_effects, rejects_text, reject_effects, effects_of, wrote, is_script}
+use Rattle.patch_run.specs.OnePatch.{PlainTurn, Tried, some_placed, has_rejects, put_if, is_backup_due, backup_effects, is_removal, target_effects, written_effects, rejects_text, reject_effects, effects_of, wrote, is_script, is_unrejected}
 use Rattle.patch_run.specs.Ready.{IsNamed}
 
 -- a file that has a size is there
@@ -104,6 +105,13 @@ backup_temp_other {w = w} named other eq = temps_apart w.name w.backup (λ same.
 
 -- ---- rejects
 
-pub are_hunks : (text : List ℕ) (change : Change) → not (is_script (change_of text change)) ≡ true → AreHunks change
+are_hunks : (text : List ℕ) (change : Change) → not (is_script (change_of text change)) ≡ true → AreHunks change
 are_hunks text (Hunks hs) e = tt
 are_hunks text (Script s) e = absurd (false≢true e)
+
+pub rejected_are_hunks : (o : PlainOptions) (text : List ℕ) (change : Change) → not (is_unrejected o (change_of text change)) ≡ true → AreHunks change
+rejected_are_hunks o text change = by o.no_rejects
+  where
+    by : (b : Bool) → not (b || is_script (change_of text change)) ≡ true → AreHunks change
+    by true e = absurd (false≢true e)
+    by false e = are_hunks text change e

@@ -79,7 +79,7 @@ pub data Ending : Type 0 where
 -- ---- names
 
 abbrev pub no_target : Target
-no_target = record { number = 0; shown_from = 0; name = []; temp = []; backup = []; backup_temp = []; reject = []; reject_temp = [] }
+no_target = record { number = 0; shown_from = 0; reject_shown_from = 0; name = []; temp = []; backup = []; backup_temp = []; reject = []; reject_temp = [] }
 
 abbrev pub target_at : List Target → ℕ → Target
 target_at targets k = slice_index_or targets k no_target
@@ -101,7 +101,7 @@ abbrev pub shown : Target → List ℕ
 shown t = drop t.shown_from t.name
 
 abbrev pub shown_reject : Target → List ℕ
-shown_reject t = drop t.shown_from t.reject
+shown_reject t = drop t.reject_shown_from t.reject
 
 abbrev pub total : PlainTurn → ℕ
 total t = hunk_count t.item.patch.change
@@ -265,6 +265,10 @@ abbrev pub is_script : PlainChange → Bool
 is_script (hunks hs) = false
 is_script (script es) = true
 
+-- no reject file is written: of a script, or as the options ask
+abbrev pub is_unrejected : PlainOptions → PlainChange → Bool
+is_unrejected o change = o.no_rejects || is_script change
+
 -- a file that was to be deleted has bytes left
 abbrev pub is_kept : PlainTurn → Tried → Bool
 is_kept t x = deletes x.side t.item.patch && some_placed x.verdicts && not (is_nothing x.output)
@@ -274,7 +278,7 @@ kept_said t w x = if is_kept t x then not_deleting_line (shown w) else []
 
 -- the file of the rejects is named where it is written
 abbrev pub named_reject : PlainTurn → Target → Option (List ℕ)
-named_reject t w = if t.options.dry_run || is_script t.item.patch.change then None else Some (shown_reject w)
+named_reject t w = if t.options.dry_run || is_unrejected t.options t.item.patch.change then None else Some (shown_reject w)
 
 abbrev pub failures_said : PlainTurn → Target → Tried → List ℕ
 failures_said t w x = if some_failed x.verdicts then failures_line (failed x.verdicts) (total t) (named_reject t w) else []
@@ -296,7 +300,7 @@ abbrev pub reject_form : PlainTurn → Form
 reject_form t = unwrap_or t.options.reject_form (own_reject_form t.item.patch.header.form)
 
 abbrev pub has_rejects : PlainTurn → List Verdict → Bool
-has_rejects t vs = some_failed vs && not (is_script t.item.patch.change)
+has_rejects t vs = some_failed vs && not (is_unrejected t.options t.item.patch.change)
 
 abbrev pub own_reject : PlainTurn → Target → Side → List Verdict → List ℕ
 own_reject t w side vs = reject_text (hunks_in t.item.patch.change) vs side (shown w) (reject_form t)

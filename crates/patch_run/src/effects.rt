@@ -20,7 +20,7 @@ ghost use Rattle.patch_run.specs.TurnView.{plain_turn, IsTurn};
 use crate::fault::RunFault;
 use crate::past::{is_same, was_written};
 use crate::rejects::put_rejects;
-use crate::tell::is_script;
+use crate::tell::is_unrejected;
 use crate::turn::Turn;
 use hunk_apply::Session;
 use hunk_core::{Side, Verdict};
@@ -77,7 +77,7 @@ fn is_rejected(turn: &Turn<'_>, session: &Session) -> bool
     ensures rejected { (vs : List Verdict) → session.now.failed ≡ count_by is_failed vs → result ≡ has_rejects (plain_turn turn.now) vs }
     ensures hunks { result ≡ true → AreHunks turn.now.patch.now.change }
 {
-    session.failed > 0 && !is_script(&turn.patch.change)
+    session.failed > 0 && !is_unrejected(turn.options, &turn.patch.change)
 }
 
 /// What was done, with a reject file, if there is one.

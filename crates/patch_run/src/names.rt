@@ -19,10 +19,10 @@ pub fn shown(target: &Target) -> &str
 
 /// The reject file's name as messages show it.
 pub fn shown_reject(target: &Target) -> &str
-    requires { BeginsComponent target.now.reject target.now.shown_from }
+    requires { BeginsComponent target.now.reject target.now.reject_shown_from }
     ensures { result.now ≡ shown_reject target.now }
 {
-    shown_from(&target.reject, target.shown_from)
+    shown_from(&target.reject, target.reject_shown_from)
 }
 
 /// A name from one of its components on.

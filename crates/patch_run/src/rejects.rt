@@ -11,6 +11,7 @@ ghost use Rattle.hunk_apply.specs.Session.{is_failed};
 ghost use Rattle.replace_file.specs.Puts.{Puts};
 ghost use Rattle.reject_text.specs.Headers.{IsRejectForm};
 ghost use Rattle.reject_text.specs.Rejects.{AreHunks};
+ghost use Rattle.patch_options.specs.PlainJob.{plain_options};
 ghost use Rattle.patch_run.specs.OnePatch.{PlainTurn, mark_of, own_reject, own_reject_form, put_if, reject_form, rejected_before, rejects_text, text_if, has_rejects};
 ghost use Rattle.patch_run.specs.Making.{Makes, GoesQuietly, IsGone, IsTidy};
 ghost use Rattle.patch_run.specs.Ready.{IsFit, IsNamed, alone};
@@ -19,11 +20,12 @@ ghost use Rattle.patch_run.specs.TurnView.{plain_turn, IsTurn};
 use crate::fault::RunFault;
 use crate::names::shown;
 use crate::past::{Earlier, earlier_patch, is_same, written_by};
-use crate::tell::is_script;
+use crate::tell::is_unrejected;
 use crate::turn::Turn;
 use file_patch::FilePatch;
 use hunk_core::{Form, Side, Verdict};
 use outside::{Failed, Name, Sink, Tree};
+use patch_options::Options;
 use reject_text::put_reject;
 use replace_file::{Temp, TempSink, begin_temp, put_begun};
 use target_names::Target;
@@ -148,7 +150,7 @@ fn put_if_to<O: Sink>(
     ensures writes { Writes (O.view out.old) (O.view out.new) result (text_if name.now (mark_of (alone (plain_turn turn.now).options turn.now.set.now earlier.now.patch.now) earlier.now.row earlier.now.verdicts.now).rejected) }
     ensures rest { O.same_rest out.old out.new }
 {
-    if turn.options.dry_run || !has_rejects(earlier) {
+    if turn.options.dry_run || !has_rejects(turn.options, earlier) {
         return Ok(());
     }
     match written_by(turn, earlier) {
@@ -170,11 +172,11 @@ fn put_if_to<O: Sink>(
     }
 }
 
-/// Whether some hunk of a patch has no place, and isn't a script.
-fn has_rejects(earlier: &Earlier<'_>) -> bool
-    ensures { (t : PlainTurn) → (text : List ℕ) → t.item.patch.change ≡ change_of text earlier.now.patch.now.change → result ≡ has_rejects t earlier.now.verdicts.now }
+/// Whether some hunk of a patch has no place, and goes to a reject file.
+fn has_rejects(options: &Options, earlier: &Earlier<'_>) -> bool
+    ensures { (t : PlainTurn) → (text : List ℕ) → t.options ≡ plain_options options.now → t.item.patch.change ≡ change_of text earlier.now.patch.now.change → result ≡ has_rejects t earlier.now.verdicts.now }
 {
-    some_failed(earlier.verdicts) && !is_script(&earlier.patch.change)
+    some_failed(earlier.verdicts) && !is_unrejected(options, &earlier.patch.change)
 }
 
 fn some_failed(verdicts: &[Verdict]) -> bool

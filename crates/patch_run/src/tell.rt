@@ -11,7 +11,7 @@ ghost use Rattle.reject_text.specs.Rejects.{rows_of};
 ghost use Rattle.hunk_apply.specs.Script.{first_address};
 ghost use Rattle.hunk_apply.specs.Session.{IsTried};
 ghost use Rattle.patch_options.specs.PlainJob.{plain_options};
-ghost use Rattle.patch_run.specs.OnePatch.{Tried, change_said, hunks_said, hunk_said, script_said, kept_said, failures_said, tried_said, is_kept, is_script, named_reject};
+ghost use Rattle.patch_run.specs.OnePatch.{Tried, change_said, hunks_said, hunk_said, script_said, kept_said, failures_said, tried_said, is_kept, is_script, is_unrejected, named_reject};
 ghost use Rattle.patch_run.specs.Trying.{IsSession};
 ghost use Rattle.patch_run.specs.Ready.{IsNamed};
 ghost use Rattle.patch_run.specs.TurnView.{plain_turn, IsTurn};
@@ -211,15 +211,25 @@ fn named_reject<'a>(turn: &Turn<'_>, target: &'a Target) -> Option<&'a str>
     requires named { IsNamed target.now }
     ensures { option_copied result ≡ named_reject (plain_turn turn.now) target.now }
 {
-    if turn.options.dry_run || is_script(&turn.patch.change) {
+    if turn.options.dry_run || is_unrejected(turn.options, &turn.patch.change) {
         None
     } else {
         Some(shown_reject(target))
     }
 }
 
+/// Whether no reject file is written: of an ed script, or as the options ask.
+pub fn is_unrejected(options: &Options, change: &Change) -> bool
+    ensures { (text : List ℕ) → result ≡ is_unrejected (plain_options options.now) (change_of text change.now) }
+{
+    if options.no_rejects {
+        return true;
+    }
+    is_script(change)
+}
+
 /// Whether it is an ed script.
-pub fn is_script(change: &Change) -> bool
+fn is_script(change: &Change) -> bool
     ensures { (text : List ℕ) → result ≡ is_script (change_of text change.now) }
 {
     matches!(change, Change::Script(_))

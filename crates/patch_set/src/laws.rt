@@ -1,8 +1,9 @@
 //! Laws of the numbers of targets, and of a set while its rows and verdicts change.
-ghost use Rattle.std.specs.Prelude.{◌≡◌, ◌↔◌, ◌++◌, ℕ, List, map, true};
+ghost use Rattle.std.specs.Prelude.{◌≡◌, ◌++◌, ℕ, List, map, true};
 ghost use Rattle.std.specs.Option.{option_to_list};
 ghost use Rattle.hunk_core.specs.declared.Verdict.{Verdict};
 ghost use Rattle.file_patch.specs.PlainPatch.{PlainPatch};
+ghost use Rattle.outside.specs.Names.{is_absolute};
 ghost use Rattle.patch_options.specs.PlainJob.{PlainOptions};
 ghost use Rattle.target_names.specs.Numbered.{is_among};
 ghost use Rattle.patch_set.specs.declared.set.Row.{Row};
@@ -11,12 +12,17 @@ ghost use Rattle.patch_set.specs.OneView.{AreOne};
 ghost use Rattle.patch_set.specs.SetView.{SetView, IsRead, IsWhole, with_row, with_verdicts};
 ghost use Rattle.patch_text.specs.Spelled.{spelled_in, spelled_of};
 
-/// Two targets of a run, the output's among them, have the same number exactly where their names are equal.
+/// Two targets of a run, the output's among them, have the same number exactly where they have the same name; of one that is
+/// given by an absolute name and one that isn't, only that the same number is the same name.
 pub fn numbers_tell_targets_apart()
-    ensures { (o : PlainOptions) (ps : List PlainPatch) (one other : List ℕ)
+    ensures names { (o : PlainOptions) (ps : List PlainPatch) (one other : List ℕ)
         → is_among (patch_names o ps ++ option_to_list o.output) one ≡ true
-        → ((target_in o (known_names o ps) one).number ≡ (target_in o (known_names o ps) other).number)
-        ↔ ((target_in o (known_names o ps) one).name ≡ (target_in o (known_names o ps) other).name) }
+        → (target_in o (known_names o ps) one).number ≡ (target_in o (known_names o ps) other).number
+        → (target_in o (known_names o ps) one).name ≡ (target_in o (known_names o ps) other).name }
+    ensures numbers { (o : PlainOptions) (ps : List PlainPatch) (one other : List ℕ)
+        → is_absolute one ≡ is_absolute other
+        → (target_in o (known_names o ps) one).name ≡ (target_in o (known_names o ps) other).name
+        → (target_in o (known_names o ps) one).number ≡ (target_in o (known_names o ps) other).number }
 {}
 
 /// What was read stays whatever is noted of the file patches and their hunks.

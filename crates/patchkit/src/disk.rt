@@ -1,15 +1,16 @@
-//! The tree below the working directory.
+//! The tree of files.
 ghost use Rattle.outside.specs.Silent.{silent_tree};
 
 use crate::faults::counted;
 use crate::files::OpenFiles;
+use crate::paths::Path;
 use crate::trouble::{Trouble, keep_trouble};
 use outside::{Failed, Name, Tree};
 use std::alloc::Global;
 use std::fs::File;
 use std::rt::Files;
 
-/// The files below the working directory, and the count of their faults. It tells no content.
+/// The files, and the count of their faults. It tells no content.
 #[derive(Drop)]
 pub struct Disk<'r, R: Files<File = File>> {
     alloc: Global,
@@ -47,50 +48,50 @@ impl<'r, R: Files<File = File>> Tree for Disk<'r, R> {
     }
 
     fn size(&mut self, name: &Name) -> Result<Option<u64>, Failed> {
-        let done = self.files.size(name.text());
+        let done = self.files.size(Path::of(name));
         keep_trouble(&mut self.trouble, self.alloc, name.text(), &done);
         counted(&mut self.faults, done)
     }
 
     fn read_at(&mut self, name: &Name, at: u64, buf: &mut [u8]) -> Result<usize, Failed> {
-        let done = self.files.read_at(name.text(), at, buf);
+        let done = self.files.read_at(Path::of(name), at, buf);
         keep_trouble(&mut self.trouble, self.alloc, name.text(), &done);
         counted(&mut self.faults, done)
     }
 
     fn has_dir(&mut self, name: &Name, parts: u64) -> Result<bool, Failed> {
-        let done = self.files.has_dir(name.text(), parts);
+        let done = self.files.has_dir(Path::of(name), parts);
         keep_trouble(&mut self.trouble, self.alloc, name.text(), &done);
         counted(&mut self.faults, done)
     }
 
     fn start(&mut self, temp: &Name) -> Result<(), Failed> {
-        let done = self.files.start(temp.text());
+        let done = self.files.start(Path::of(temp));
         keep_trouble(&mut self.trouble, self.alloc, temp.text(), &done);
         counted(&mut self.faults, done)
     }
 
     fn append(&mut self, temp: &Name, piece: &[u8]) -> Result<(), Failed> {
-        let done = self.files.append(temp.text(), piece);
+        let done = self.files.append(Path::of(temp), piece);
         keep_trouble(&mut self.trouble, self.alloc, temp.text(), &done);
         counted(&mut self.faults, done)
     }
 
     fn seal(&mut self, temp: &Name) -> Result<(), Failed> {
-        let done = self.files.seal(temp.text());
+        let done = self.files.seal(Path::of(temp));
         keep_trouble(&mut self.trouble, self.alloc, temp.text(), &done);
         counted(&mut self.faults, done)
     }
 
     fn swap(&mut self, temp: &Name, to: &Name) -> Result<(), Failed> {
-        let done = self.files.swap(temp.text(), to.text());
-        let blamed = self.files.blamed(to.text());
+        let done = self.files.swap(Path::of(temp), Path::of(to));
+        let blamed = self.files.blamed(Path::of(to)).text;
         keep_trouble(&mut self.trouble, self.alloc, blamed, &done);
         counted(&mut self.faults, done)
     }
 
     fn drop_name(&mut self, name: &Name) -> Result<(), Failed> {
-        let done = self.files.remove(name.text());
+        let done = self.files.remove(Path::of(name));
         keep_trouble(&mut self.trouble, self.alloc, name.text(), &done);
         counted(&mut self.faults, done)
     }

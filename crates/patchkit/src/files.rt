@@ -1,11 +1,12 @@
-//! The files below the working directory: what is open, what is gathered, and whose rights each new file gets.
+//! The files: what is open, what is gathered, and whose rights each new file gets.
 //!
-//! No link is ever followed: a name that is one, or that goes through one, is no file here, and nothing is written below it.
+//! Links are followed in the part of a name that the operator gave, and nowhere else: else a name that is one, or that goes
+//! through one, is no file here, and nothing is written below it. What is written is never a link itself.
 ghost use Rattle.std.specs.Prelude.{◌≤◌, length, IfOk};
 
 use crate::origins::{Due, Origins, Seen};
 use crate::paths::{
-    first_parts, found_at, no_file, plain_file, plain_metadata, replaced_file, target_of,
+    Path, first_parts, found_at, no_file, plain_file, plain_metadata, replaced_file, target_of,
 };
 use crate::rights::{Rights, give};
 use crate::unsynced::Directories;
@@ -56,8 +57,8 @@ impl<'r, R: Files<File = File>> OpenFiles<'r, R> {
         }
     }
 
-    pub fn size(&mut self, name: &str) -> io::Result<Option<u64>> {
-        self.write_out(name)?;
+    pub fn size(&mut self, name: Path<'_>) -> io::Result<Option<u64>> {
+        self.write_out(name.text)?;
         let found = plain_file(self.rt, name)?;
         match found {
             Some(found) => {
@@ -71,10 +72,10 @@ impl<'r, R: Files<File = File>> OpenFiles<'r, R> {
         }
     }
 
-    pub fn read_at(&mut self, name: &str, at: u64, buf: &mut [u8]) -> io::Result<usize>
+    pub fn read_at(&mut self, name: Path<'_>, at: u64, buf: &mut [u8]) -> io::Result<usize>
         ensures { IfOk result (λ n. n ≤ length buf.old) }
     {
-        self.write_out(name)?;
+        self.write_out(name.text)?;
         self.open_for_reading(name)?;
         match &self.reading {
             Some(reading) => {
@@ -86,7 +87,7 @@ impl<'r, R: Files<File = File>> OpenFiles<'r, R> {
     }
 
     /// Whether the first components of the name are a directory.
-    pub fn has_dir(&mut self, name: &str, parts: u64) -> io::Result<bool> {
+    pub fn has_dir(&mut self, name: Path<'_>, parts: u64) -> io::Result<bool> {
         if parts == 0 {
             return Ok(true);
         }
@@ -99,11 +100,12 @@ impl<'r, R: Files<File = File>> OpenFiles<'r, R> {
 
     /// Takes an old file of that name away, makes the directories that are missing, and a new file that is empty. Until it
     /// is sealed, only its owner reads it.
-    pub fn start(&mut self, name: &str) -> io::Result<()> {
+    pub fn start(&mut self, temp: Path<'_>) -> io::Result<()> {
+        let name = temp.text;
         self.leave(name);
         self.finish_writing()?;
-        self.make_directories(name)?;
-        let old = standing(self.rt, name)?;
+        self.make_directories(temp)?;
+        let old = standing(self.rt, temp)?;
         self.directories.note(self.rt, name)?;
         let kept = String::from_str(self.alloc, name)?;
         remove_old(self.rt, name)?;
@@ -111,13 +113,13 @@ impl<'r, R: Files<File = File>> OpenFiles<'r, R> {
         let file = make_new(self.rt, name, 0o600)?;
         let writer = BufWriter::with_capacity(self.alloc, PIECE, file)?;
         let started = String::from_str(self.alloc, name)?;
-        self.origins.begin(started, rights)?;
+        self.origins.begin(started, temp.given, rights)?;
         self.writing = Some(Writing { name: kept, writer });
         Ok(())
     }
 
     /// Gathers a piece, and writes what was gathered where there is no room for it.
-    pub fn append(&mut self, name: &str, piece: &[u8]) -> io::Result<()> {
+    pub fn append(&mut self, name: Path<'_>, piece: &[u8]) -> io::Result<()> {
         self.resume_writing(name)?;
         match &mut self.writing {
             Some(writing) => writing.writer.write_all(piece),
@@ -126,9 +128,9 @@ impl<'r, R: Files<File = File>> OpenFiles<'r, R> {
     }
 
     /// Writes what was gathered, gives the file its rights, and syncs it.
-    pub fn seal(&mut self, name: &str) -> io::Result<()> {
+    pub fn seal(&mut self, name: Path<'_>) -> io::Result<()> {
         self.resume_writing(name)?;
-        let rights = self.origins.end(name);
+        let rights = self.origins.end(name.text);
         match &mut self.writing {
             Some(writing) => {
                 writing.writer.flush()?;
@@ -146,31 +148,31 @@ impl<'r, R: Files<File = File>> OpenFiles<'r, R> {
 
     /// Renames the temporary. Nothing but a regular file is ever replaced, and no name changes while another temporary is being
     /// filled that can't take its own.
-    pub fn swap(&mut self, temp: &str, to: &str) -> io::Result<()> {
-        self.close(temp)?;
-        self.close(to)?;
+    pub fn swap(&mut self, temp: Path<'_>, to: Path<'_>) -> io::Result<()> {
+        self.close(temp.text)?;
+        self.close(to.text)?;
         replaced_file(self.rt, self.blamed(to))?;
-        self.directories.note(self.rt, temp)?;
-        self.directories.note(self.rt, to)?;
-        fs::rename(self.rt, temp, to)
+        self.directories.note(self.rt, temp.text)?;
+        self.directories.note(self.rt, to.text)?;
+        fs::rename(self.rt, temp.text, to.text)
     }
 
     /// The name that stands in the way of a swap: one that a temporary which is being filled can't take, else the one given.
-    pub fn blamed<'a>(&'a self, name: &'a str) -> &'a str {
+    pub fn blamed<'a>(&'a self, name: Path<'a>) -> Path<'a> {
         match self.origins.last() {
             Some(temp) if replaced_file(self.rt, target_of(temp)).is_err() => target_of(temp),
             _ => name,
         }
     }
 
-    pub fn remove(&mut self, name: &str) -> io::Result<()> {
-        self.close(name)?;
-        self.origins.end(name);
+    pub fn remove(&mut self, name: Path<'_>) -> io::Result<()> {
+        self.close(name.text)?;
+        self.origins.end(name.text);
         if plain_file(self.rt, name)?.is_none() {
             return Err(no_file());
         }
-        self.directories.note(self.rt, name)?;
-        fs::remove_file(self.rt, name)
+        self.directories.note(self.rt, name.text)?;
+        fs::remove_file(self.rt, name.text)
     }
 
     /// Syncs each directory in which a name was made, moved or taken away.
@@ -238,53 +240,53 @@ impl<'r, R: Files<File = File>> OpenFiles<'r, R> {
         }
     }
 
-    fn open_for_reading(&mut self, name: &str) -> io::Result<()> {
-        if is_named(&self.reading, name) {
+    fn open_for_reading(&mut self, name: Path<'_>) -> io::Result<()> {
+        if is_named(&self.reading, name.text) {
             return Ok(());
         }
         let Some(found) = plain_file(self.rt, name)? else {
             return Err(no_file());
         };
-        let file = File::open(self.rt, name)?;
-        let name = String::from_str(self.alloc, name)?;
+        let file = File::open(self.rt, name.text)?;
+        let name = String::from_str(self.alloc, name.text)?;
         let seen = Seen::of(&found);
         self.reading = Some(Reading { name, file, seen });
         Ok(())
     }
 
     /// Opens a temporary that was started, for what is to stand behind its bytes.
-    fn resume_writing(&mut self, name: &str) -> io::Result<()> {
-        if self.is_writing(name) {
+    fn resume_writing(&mut self, name: Path<'_>) -> io::Result<()> {
+        if self.is_writing(name.text) {
             return Ok(());
         }
         self.finish_writing()?;
         if plain_file(self.rt, name)?.is_none() {
             return Err(no_file());
         }
-        let file = OpenOptions::new().append(true).open(self.rt, name)?;
-        let name = String::from_str(self.alloc, name)?;
+        let file = OpenOptions::new().append(true).open(self.rt, name.text)?;
+        let name = String::from_str(self.alloc, name.text)?;
         let writer = BufWriter::with_capacity(self.alloc, PIECE, file)?;
         self.writing = Some(Writing { name, writer });
         Ok(())
     }
 
     /// Makes the directories of a name that are missing.
-    fn make_directories(&mut self, name: &str) -> io::Result<()> {
-        for (slash, _) in name.match_indices('/') {
-            if let Some(directory) = name.get(..slash) {
+    fn make_directories(&mut self, name: Path<'_>) -> io::Result<()> {
+        for (slash, _) in name.text.match_indices('/') {
+            if let Some(directory) = name.directory(slash) {
                 self.make_directory(directory)?;
             }
         }
         Ok(())
     }
 
-    fn make_directory(&mut self, directory: &str) -> io::Result<()> {
+    fn make_directory(&mut self, directory: Path<'_>) -> io::Result<()> {
         match found_at(self.rt, directory)? {
             Some(found) if found.is_dir() => Ok(()),
             Some(_) => Err(io::Error::new(ErrorKind::NotADirectory, "Not a directory")),
             None => {
-                self.directories.note(self.rt, directory)?;
-                fs::create_dir(self.rt, directory)
+                self.directories.note(self.rt, directory.text)?;
+                fs::create_dir(self.rt, directory.text)
             }
         }
     }
@@ -298,7 +300,7 @@ fn is_named(reading: &Option<Reading>, name: &str) -> bool {
 }
 
 /// The file that a temporary is to replace, where there is one.
-fn standing<R: Files>(rt: &R, temp: &str) -> io::Result<Option<Seen>> {
+fn standing<R: Files>(rt: &R, temp: Path<'_>) -> io::Result<Option<Seen>> {
     match plain_file(rt, target_of(temp))? {
         Some(found) => Ok(Some(Seen::of(&found))),
         None => Ok(None),

@@ -18,11 +18,11 @@ The tools:
 
 const PATCH: &str = "\
 Usage: patch [OPTION]... [FILE [PATCHFILE]]
-Applies the file patches of a patch text to the files below the working directory.
+Applies the file patches of a patch text to files.
 
 Input:
   -p N, --strip=N             strip the smallest front with N slashes off names
-  -d DIR, --directory=DIR     all names stand below DIR
+  -d DIR, --directory=DIR     names stand below DIR, but absolute ones that are given
   -i FILE, --input=FILE       read the patch text from FILE, not standard input
   -c, --context               take context patches alone
   -e, --ed                    take ed scripts alone
@@ -37,7 +37,7 @@ Input:
 
 Output:
   -o FILE, --output=FILE      write the result to FILE
-  -r FILE, --reject-file=FILE write rejects to FILE
+  -r FILE, --reject-file=FILE write rejects to FILE, or nowhere where it is -
   --reject-format=FORM        context or unified
   -E, --remove-empty-files    remove a file that is left empty
   --dry-run                   say what would be done, and change nothing
@@ -50,10 +50,16 @@ Backups:
   --no-backup-if-mismatch     don't
   -z S, --suffix=S            the suffix of their names (.orig)
   -B S, --prefix=S            the prefix of their names
+  -V KIND, --version-control=KIND
+                              simple or never, which change nothing
 
 Lines of a file:
   --plan=a|b|packed|auto      in memory, or paged through two buffers (auto)
   --buffer=N                  bytes of a buffer, 512 to 1048576 (65536)
+
+What other programs pass, and what changes nothing:
+  -g 0, --get=0               get no file from a version control system
+  --binary                    lines end with a line feed in any case
 
   --help                      this text
   --version                   the version

@@ -4,6 +4,7 @@
 //! the file just before its temporary is started, and a backup's bytes are read while its temporary is filled. So that file's
 //! rights are those that the new one gets, or the most that it gets.
 
+use crate::paths::Path;
 use crate::rights::Rights;
 use std::alloc::{AllocError, Global};
 use std::fs::Metadata;
@@ -43,6 +44,7 @@ struct Origin {
 #[derive(Drop)]
 struct Temporary {
     name: String,
+    given: usize,
     rights: Rights,
 }
 
@@ -91,8 +93,12 @@ impl Origins {
             Some(seen) => seen.rights,
             None => last.rights,
         };
-        let Temporary { name, .. } = last;
-        let _ = self.temporaries.push(Temporary { name, rights });
+        let Temporary { name, given, .. } = last;
+        let _ = self.temporaries.push(Temporary {
+            name,
+            given,
+            rights,
+        });
     }
 
     /// The rights of a temporary that is started now, to stand where `old` stands.
@@ -106,8 +112,8 @@ impl Origins {
         }
     }
 
-    /// Keeps a temporary that was started, and its rights.
-    pub fn begin(&mut self, name: String, rights: Rights) -> Result<(), AllocError> {
+    /// Keeps a temporary that was started, how many of its first bytes the operator gave, and its rights.
+    pub fn begin(&mut self, name: String, given: usize, rights: Rights) -> Result<(), AllocError> {
         self.end(name.as_str());
         self.origin = match self.origin {
             Some(origin) => Some(Origin {
@@ -116,14 +122,21 @@ impl Origins {
             }),
             None => None,
         };
-        self.temporaries.push(Temporary { name, rights })?;
+        self.temporaries.push(Temporary {
+            name,
+            given,
+            rights,
+        })?;
         Ok(())
     }
 
     /// The temporary that was started last of those that are being filled.
-    pub fn last(&self) -> Option<&str> {
+    pub fn last(&self) -> Option<Path<'_>> {
         match self.temporaries.last() {
-            Some(last) => Some(last.name.as_str()),
+            Some(last) => Some(Path {
+                text: last.name.as_str(),
+                given: last.given,
+            }),
             None => None,
         }
     }

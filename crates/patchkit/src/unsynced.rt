@@ -29,6 +29,7 @@ impl Directories {
     /// can't be synced is a fault before the change.
     pub fn note<R: Files<File = File>>(&mut self, rt: &R, name: &str) -> io::Result<()> {
         let path = match name.rsplit_once('/') {
+            Some(("", _)) => "/",
             Some((path, _)) => path,
             None => ".",
         };

@@ -1,13 +1,19 @@
 -- The names that are formed from a name: below the directory, of backups, of rejects, and of temporaries (GNU patch manual, "Backups", "Reject Names").
-use Rattle.std.specs.Prelude.{◌≡◌, ℕ, suc, List, [], ◌∷◌, ◌++◌, codes, length, Bool, true, false, ◌||◌, Option, None, Some, unwrap_or}
+use Rattle.std.specs.Prelude.{◌≡◌, ℕ, suc, List, [], ◌++◌, codes, length, Bool, true, false, ◌||◌, if◌then◌else◌, Option, None, Some, unwrap_or}
 use Rattle.outside.specs.Files.{is_temp, temp_of}
+use Rattle.outside.specs.Names.{is_absolute, given_form, placed}
 use Rattle.patch_options.specs.PlainJob.{PlainOptions}
 use Rattle.target_names.specs.declared.derived.Target.{Target}
 
--- the name below a directory
+-- the name below the directory, where there is one and the name isn't absolute
 abbrev pub below : Option (List ℕ) → List ℕ → List ℕ
 below None name = name
-below (Some directory) name = directory ++ 47 ∷ name
+below (Some directory) name = placed directory name
+
+-- the name with the prefix of backups before it, in normal form
+abbrev pub fronted : Option (List ℕ) → List ℕ → List ℕ
+fronted None name = name
+fronted (Some prefix) name = given_form (prefix ++ name)
 
 -- what stands behind the name of a backup: by default `.orig`, and nothing where only what stands before it is given
 abbrev pub backup_end : Option (List ℕ) → Option (List ℕ) → List ℕ
@@ -16,22 +22,23 @@ backup_end None None = codes ".orig"
 backup_end (Some prefix) None = []
 
 abbrev pub backup_name : PlainOptions → List ℕ → List ℕ
-backup_name o name = (unwrap_or o.prefix [] ++ name) ++ backup_end o.prefix o.suffix
+backup_name o name = fronted o.prefix name ++ backup_end o.prefix o.suffix
 
 -- the reject file of the options, or the name followed by `.rej`
 abbrev pub reject_name : PlainOptions → List ℕ → List ℕ
 reject_name o name = unwrap_or o.reject (name ++ codes ".rej")
 
--- how many bytes messages leave off: the directory and the slash behind it
-abbrev pub shown_from : Option (List ℕ) → ℕ
-shown_from None = 0
-shown_from (Some directory) = suc (length directory)
+-- how many bytes of a name below the directory messages leave off: the directory and the slash behind it
+abbrev pub shown_from : Option (List ℕ) → List ℕ → ℕ
+shown_from None name = 0
+shown_from (Some directory) name = if is_absolute name then 0 else suc (length directory)
 
 -- each name is formed without the directory, and then put below it
 abbrev pub target_of : PlainOptions → List ℕ → ℕ → Target
 target_of o name number = record {
   number = number;
-  shown_from = shown_from o.dir;
+  shown_from = shown_from o.dir name;
+  reject_shown_from = shown_from o.dir (reject_name o name);
   name = below o.dir name;
   temp = temp_of (below o.dir name);
   backup = below o.dir (backup_name o name);

@@ -1,10 +1,10 @@
 //! The names that are formed from a name.
-ghost use Rattle.std.specs.Prelude.{◌≡◌, ◌++◌, [], true, false, IfOk, unwrap_or, string_bytes, option_map};
+ghost use Rattle.std.specs.Prelude.{◌≡◌, true, false, Some, IfOk, string_bytes, option_map};
 ghost use Rattle.std.specs.Option.{ForSome, option_copied};
 ghost use Rattle.outside.specs.Files.{is_temp, temp_of};
 ghost use Rattle.outside.specs.Names.{IsEnding, IsFront};
 ghost use Rattle.patch_options.specs.PlainJob.{plain_options, IsLawful, IsSuffix};
-ghost use Rattle.target_names.specs.Targets.{below, backup_end, backup_name, reject_name, shown_from, target_of, HasTemps, is_reserved, IsLasting};
+ghost use Rattle.target_names.specs.Targets.{below, fronted, backup_end, backup_name, reject_name, shown_from, target_of, HasTemps, is_reserved, IsLasting};
 
 use outside::Name;
 use patch_options::Options;
@@ -17,6 +17,8 @@ pub struct Target {
     pub number: u32,
     /// How many bytes of the name messages leave off.
     pub shown_from: usize,
+    /// How many of the reject file's.
+    pub reject_shown_from: usize,
     pub name: Name,
     pub temp: Name,
     pub backup: Name,
@@ -42,7 +44,8 @@ impl Target {
         let reject = reject_of(alloc, options, name)?;
         Ok(Target {
             number,
-            shown_from: shown_from(options.dir.as_ref()),
+            shown_from: own.shown_from,
+            reject_shown_from: reject.shown_from,
             name: own.name,
             temp: own.temp,
             backup: backup.name,
@@ -61,20 +64,31 @@ impl Target {
     }
 }
 
-/// A name and that of its temporary.
+/// A name and that of its temporary, and how many of its bytes messages leave off.
 #[derive(Drop)]
 struct WithTemp {
     name: Name,
     temp: Name,
+    shown_from: usize,
 }
 
-/// How many bytes messages leave off.
-fn shown_from(dir: Option<&Name>) -> usize
-    ensures { result ≡ shown_from (option_copied dir.entry) }
+/// How many bytes of a name below the directory messages leave off.
+fn shown_from(dir: Option<&Name>, name: &Name) -> usize
+    ensures { result ≡ shown_from (option_copied dir.entry) name.now }
 {
     match dir {
-        Some(dir) => dir.text().len() + 1,
+        Some(dir) => shown_below(dir, name),
         None => 0,
+    }
+}
+
+fn shown_below(dir: &Name, name: &Name) -> usize
+    ensures { result ≡ shown_from (Some dir.now) name.now }
+{
+    if name.is_absolute() {
+        0
+    } else {
+        dir.text().len() + 1
     }
 }
 
@@ -83,11 +97,14 @@ fn put_below(alloc: Global, dir: Option<&Name>, name: &Name) -> Result<WithTemp,
     ensures name { IfOk result (λ p. p.name ≡ below (option_copied dir.entry) name.now) }
     ensures temp { IfOk result (λ p. p.temp ≡ temp_of (below (option_copied dir.entry) name.now)) }
     ensures temporary { IfOk result (λ p. is_temp p.temp ≡ true) }
+    ensures shown { IfOk result (λ p. p.shown_from ≡ shown_from (option_copied dir.entry) name.now) }
 {
+    let shown_from = shown_from(dir, name);
     let name = below(alloc, dir, name)?;
     Ok(WithTemp {
         temp: name.temporary(alloc)?,
         name,
+        shown_from,
     })
 }
 
@@ -118,7 +135,7 @@ fn backup_of(alloc: Global, options: &Options, name: &Name) -> Result<WithTemp, 
 /// The name with the prefix before it, if there is one.
 fn fronted(alloc: Global, prefix: &Option<String>, name: &Name) -> Result<Name, AllocError>
     requires { ForSome (option_map string_bytes prefix.now) IsFront }
-    ensures { IfOk result (λ fronted. fronted ≡ unwrap_or (option_map string_bytes prefix.now) [] ++ name.now) }
+    ensures { IfOk result (λ made. made ≡ fronted (option_map string_bytes prefix.now) name.now) }
 {
     match prefix {
         Some(prefix) => name.preceded_by(alloc, prefix.as_str()),
@@ -143,6 +160,7 @@ fn reject_of(alloc: Global, options: &Options, name: &Name) -> Result<WithTemp, 
     ensures name { IfOk result (λ p. p.name ≡ below options.now.dir (reject_name (plain_options options.now) name.now)) }
     ensures temp { IfOk result (λ p. p.temp ≡ temp_of (below options.now.dir (reject_name (plain_options options.now) name.now))) }
     ensures temporary { IfOk result (λ p. is_temp p.temp ≡ true) }
+    ensures shown { IfOk result (λ p. p.shown_from ≡ shown_from options.now.dir (reject_name (plain_options options.now) name.now)) }
 {
     match &options.reject {
         Some(reject) => put_below(alloc, options.dir.as_ref(), reject),

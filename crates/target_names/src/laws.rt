@@ -2,6 +2,7 @@
 ghost use Rattle.std.specs.Prelude.{◌≡◌, ◌↔◌, ◌<◌, ◌++◌, ◌∷◌, [], ℕ, List, Some, length, true, false};
 ghost use Rattle.target_names.specs.Stripped.{behind_slashes, IsStripped};
 ghost use Rattle.patch_options.specs.PlainJob.{PlainOptions};
+ghost use Rattle.outside.specs.Names.{is_absolute};
 ghost use Rattle.target_names.specs.Targets.{below};
 ghost use Rattle.target_names.specs.Numbered.{number_in, is_among, with_name, joined_by, distinct, numbered};
 
@@ -26,7 +27,7 @@ pub fn numbers_come_in_order()
     ensures numbers { (names : List (List ℕ)) (name : List ℕ) → numbered (names ++ name ∷ []) ≡ numbered names ++ number_in (distinct (names ++ name ∷ [])) name ∷ [] }
 {}
 
-/// Names that are the same below a directory are the same.
+/// Names that are the same below a directory are the same, where both are absolute or neither is.
 pub fn targets_tell_names_apart()
-    ensures { (o : PlainOptions) (one other : List ℕ) → below o.dir one ≡ below o.dir other → one ≡ other }
+    ensures { (o : PlainOptions) (one other : List ℕ) → is_absolute one ≡ is_absolute other → below o.dir one ≡ below o.dir other → one ≡ other }
 {}

@@ -20,7 +20,11 @@ patch -d d/s:e/f=d/s/e/f d/s/e/f.orig d/s/e/f.rej
 patch -dd/s -Bo/ -r r:f=d/s/f d/s/o/f d/s/r
 patch -zp:x.ptm=x.ptm x.ptmp x.ptm.rej r
 patch -p1:x.ptmp=x.ptmp x.ptmp.orig x.ptmp.rej r
-patch -p1:x.ptmp/f=x.ptmp/f x.ptmp/f.orig x.ptmp/f.rej";
+patch -p1:x.ptmp/f=x.ptmp/f x.ptmp/f.orig x.ptmp/f.rej
+patch -d d -r /r:/a/f=/a/f /a/f.orig /r
+patch -dd -Bb/:/a/f=/a/f d/b/a/f /a/f.rej
+patch -d .. -B /b/:f=../f /b/f ../f.rej
+patch -d .:../f=../f ../f.orig ../f.rej";
 
 fn options(alloc: Global, words: &str) -> Result<Options, Fail>
     ensures { IfOk result (λ options. IsLawful (plain_options options)) }
@@ -37,7 +41,7 @@ fn options(alloc: Global, words: &str) -> Result<Options, Fail>
 
 fn target(alloc: Global, words: &str, text: &str) -> Result<Target, Fail> {
     let options = options(alloc, words)?;
-    let name = Name::new(alloc, text.as_bytes())?;
+    let name = Name::given(alloc, text.as_bytes())?;
     Ok(Target::new(alloc, &options, &name, 7)?)
 }
 

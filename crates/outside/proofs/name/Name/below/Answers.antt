@@ -1,18 +1,35 @@
-use Rattle.std.proofs.Common.{◌≡◌, List, ℕ, [], ◌∷◌, ◌++◌, string_bytes, sym, ◌∙◌, ap, subst, append_assoc, lit<}
+use Rattle.std.proofs.Common.{◌≡◌, List, ℕ, [], ◌∷◌, ◌++◌, false, cond, string_bytes, sym, ◌∙◌, ap, subst, append_assoc, lit<}
 use Rattle.std.proofs.lemmas.Str.{IsUtf8-string_bytes, encode_ascii}
 use Rattle.std.specs.Str.{IsUtf8}
-use Rattle.outside.specs.Names.{IsName}
-use Rattle.outside.proofs.Lawful.{name_below}
+use Rattle.outside.specs.Names.{is_absolute, IsName, IsPatchName}
+use Rattle.outside.proofs.Given.{name_below}
+use Rattle.outside.proofs.Lawful.{patch_below}
 use Rattle.outside.proofs.name.Name.below.Goals as goal
 
-pub invariant_of-result : goal.invariant_of-result
-invariant_of-result c =
+has : (c : goal.After-given_below) → string_bytes c.push_str.new.self ≡ string_bytes c.directory.inside.text ++ 47 ∷ string_bytes c.self.inside.text
+has c =
     let directory = string_bytes c.directory.inside.text in
-    let own = string_bytes c.self.inside.text in
     let slash : string_bytes c.push.new.self ≡ directory ++ 47 ∷ [] =
     c.in_ok-push.ensures.bytes ∙ ap (λ (l : List ℕ). string_bytes c.in_ok-text.text ++ l) (encode_ascii 47 (lit< tt))
     ∙ ap (λ (l : List ℕ). l ++ 47 ∷ []) (c.in_ok-text.ensures.ok ∙ c.as_str.ensures.value) in
-    let has : string_bytes c.push_str.new.self ≡ directory ++ 47 ∷ own =
     c.in_ok-push_str.ensures.bytes ∙ ap (λ (l : List ℕ). l ++ c.as_str-2.result.now) slash ∙ append_assoc directory (47 ∷ []) c.as_str-2.result.now
-    ∙ ap (λ (l : List ℕ). directory ++ 47 ∷ l) c.as_str-2.ensures.value in
-    subst (λ (l : List ℕ). IsName l) (sym has) (name_below directory own c.directory.invariant c.self.invariant (subst (λ (l : List ℕ). IsUtf8 l) has (IsUtf8-string_bytes c.push_str.new.self)))
+    ∙ ap (λ (l : List ℕ). directory ++ 47 ∷ l) c.as_str-2.ensures.value
+
+utf8 : (c : goal.After-given_below) → IsUtf8 (string_bytes c.directory.inside.text ++ 47 ∷ string_bytes c.self.inside.text)
+utf8 c = subst (λ (l : List ℕ). IsUtf8 l) (has c) (IsUtf8-string_bytes c.push_str.new.self)
+
+relative : (c : goal.After-given_below) → is_absolute c.args.self.now ≡ false
+relative c = sym c.is_absolute.ensures ∙ c.if-is_absolute.false
+
+pub invariant_of-result : goal.invariant_of-result
+invariant_of-result c = subst (λ (l : List ℕ). IsName l) (sym (has c))
+    (name_below (string_bytes c.directory.inside.text) (string_bytes c.self.inside.text) c.directory.invariant c.self.invariant (ap (λ (l : List ℕ). is_absolute l) c.self.view_is ∙ relative c) (utf8 c))
+
+pub returns-clause-text : goal.returns-clause-text
+returns-clause-text c =
+    has c ∙ ap (λ (l : List ℕ). l ++ 47 ∷ string_bytes c.self.inside.text) c.directory.view_is ∙ ap (λ (l : List ℕ). c.args.directory.now ++ 47 ∷ l) c.self.view_is
+    ∙ ap (λ b. cond b c.args.self.now (c.args.directory.now ++ 47 ∷ c.args.self.now)) (sym (relative c))
+
+pub returns-clause-patch : goal.returns-clause-patch
+returns-clause-patch c = λ above own. subst (λ (l : List ℕ). IsPatchName l) (sym (has c))
+    (patch_below (string_bytes c.directory.inside.text) (string_bytes c.self.inside.text) (subst (λ (l : List ℕ). IsPatchName l) (sym c.directory.view_is) above) (subst (λ (l : List ℕ). IsPatchName l) (sym c.self.view_is) own) (utf8 c))

@@ -1,12 +1,20 @@
 use Rattle.std.proofs.Common.{◌≡◌, List, ℕ, ◌++◌, string_bytes, sym, ◌∙◌, ap, subst}
 use Rattle.std.proofs.lemmas.Str.{IsUtf8-string_bytes}
 use Rattle.std.specs.Str.{IsUtf8}
-use Rattle.outside.specs.Names.{IsName}
-use Rattle.outside.proofs.Lawful.{name_behind}
+use Rattle.outside.specs.Names.{IsName, IsPatchName}
+use Rattle.outside.proofs.Given.{name_behind}
+use Rattle.outside.proofs.Lawful.{patch_behind}
 use Rattle.outside.proofs.name.Name.followed_by.Goals as goal
 
+has : (c : goal.In_ok-push_str) → string_bytes c.push_str.new.self ≡ string_bytes c.self.inside.text ++ c.args.end.now
+has c = c.in_ok-push_str.ensures.bytes ∙ ap (λ (l : List ℕ). l ++ c.args.end.now) (c.in_ok-text.ensures.ok ∙ c.as_str.ensures.value)
+
+utf8 : (c : goal.In_ok-push_str) → IsUtf8 (string_bytes c.self.inside.text ++ c.args.end.now)
+utf8 c = subst (λ (l : List ℕ). IsUtf8 l) (has c) (IsUtf8-string_bytes c.push_str.new.self)
+
 pub invariant_of-result : goal.invariant_of-result
-invariant_of-result c =
-    let has : string_bytes c.push_str.new.self ≡ string_bytes c.self.inside.text ++ c.args.end.now =
-    c.in_ok-push_str.ensures.bytes ∙ ap (λ (l : List ℕ). l ++ c.args.end.now) (c.in_ok-text.ensures.ok ∙ c.as_str.ensures.value) in
-    subst (λ (l : List ℕ). IsName l) (sym has) (name_behind (string_bytes c.self.inside.text) c.args.end.now c.self.invariant c.requires (subst (λ (l : List ℕ). IsUtf8 l) has (IsUtf8-string_bytes c.push_str.new.self)))
+invariant_of-result c = subst (λ (l : List ℕ). IsName l) (sym (has c)) (name_behind (string_bytes c.self.inside.text) c.args.end.now c.self.invariant c.requires (utf8 c))
+
+pub returns-clause-patch : goal.returns-clause-patch
+returns-clause-patch c = λ own. subst (λ (l : List ℕ). IsPatchName l) (sym (has c))
+    (patch_behind (string_bytes c.self.inside.text) c.args.end.now (subst (λ (l : List ℕ). IsPatchName l) (sym c.self.view_is) own) c.requires (utf8 c))

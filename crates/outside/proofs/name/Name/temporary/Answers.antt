@@ -5,4 +5,4 @@ use Rattle.outside.proofs.Below.{temp_behind}
 use Rattle.outside.proofs.name.Name.temporary.Goals as goal
 
 pub returns-clause-temp : goal.returns-clause-temp
-returns-clause-temp c = IfOk-weaker c.followed_by.result (λ name. name ≡ c.args.self.now ++ codes ".ptmp") (λ name. is_temp name ≡ true) (λ name is. ap (λ (l : List ℕ). is_temp l) is ∙ temp_behind c.args.self.now) c.followed_by.ensures
+returns-clause-temp c = IfOk-weaker c.followed_by.result (λ name. name ≡ c.args.self.now ++ codes ".ptmp") (λ name. is_temp name ≡ true) (λ name is. ap (λ (l : List ℕ). is_temp l) is ∙ temp_behind c.args.self.now) c.followed_by.ensures.text

@@ -1,8 +1,0 @@
-use Rattle.std.proofs.lemmas.Result.{IfOk-weaker}
-use Rattle.patch_options.proofs.Extending.{then_more}
-use Rattle.patch_options.proofs.flags.with_options.Goals as goal
-
-pub returns : goal.returns
-returns c =
-    let e2 = then_more c.in_ok-command.ensures c.in_ok-command-2.ensures in
-    IfOk-weaker c.with_long_options.result _ _ (λ m h. then_more e2 h) c.with_long_options.ensures
