@@ -1,3 +1,4 @@
 pub mod Reading
 pub mod FirstLong
 pub mod Faults
+pub mod Ranges

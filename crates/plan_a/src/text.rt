@@ -1,14 +1,15 @@
 //! A text in memory with its lines, and how it is taken from a tree.
 
-ghost use Rattle.std.specs.Prelude.{◌≡◌, ◌≤◌, ◌<◌, ◌^◌, ℕ, [], length, vec_len, slice_index_or, None, Some, IfOk, IfErr};
+ghost use Rattle.std.specs.Prelude.{◌≡◌, ◌≤◌, ◌<◌, ◌+◌, ◌-◌, ◌^◌, ℕ, [], take, drop, length, vec_len, slice_index_or, None, Some, IfOk, IfErr, IfSome};
 ghost use Rattle.line_list.specs.Lines.{lines};
+ghost use Rattle.line_list.specs.Join.{join};
 ghost use Rattle.outside.specs.Files.{Files, bytes_at};
 ghost use Rattle.outside.specs.TreeView.{Passes};
 ghost use Rattle.outside.specs.Calls.{IsThere, IsUntouched};
-ghost use Rattle.line_store.specs.Store.{line_at};
+ghost use Rattle.line_store.specs.Store.{IsFirstAlike, IsLastAlike, line_at};
 ghost use Rattle.line_store.specs.Taking.{refusal};
 ghost use Rattle.plan_a.specs.Taken.{HasLength, IsFile, HasTextCause, IsCutFault};
-ghost use Rattle.plan_a.specs.Cut.{IsCut};
+ghost use Rattle.plan_a.specs.Cut.{IsCut, IsRange, from_of};
 
 use crate::cut::{count_lines, ends_of};
 use line_store::OpenFault;
@@ -53,12 +54,70 @@ impl Text {
         if before >= self.ends.len() {
             return &[];
         }
-        let from = if before == 0 {
+        &self.bytes[self.start_of(before)..self.ends[before] as usize]
+    }
+
+    /// So many lines from line `k` on.
+    pub fn lines_from(&self, k: u64, count: u64) -> &[u8]
+        requires low { 1 ≤ k }
+        requires some { 1 ≤ count }
+        requires high { k + count ≤ length (lines self.now.bytes.items) + 1 }
+        ensures { result.now ≡ join (take count (drop (k - 1) (lines self.now.bytes.items))) }
+    {
+        let before = (k - 1) as usize;
+        let to = self.end_of(before, count as usize);
+        &self.bytes[self.start_of(before)..to]
+    }
+
+    /// Where the line begins that has so many lines before it.
+    fn start_of(&self, before: usize) -> usize
+        requires { before < vec_len self.now.ends }
+        ensures { result ≡ from_of self.now.ends.items before }
+    {
+        if before == 0 {
             0
         } else {
-            self.ends[before - 1]
-        };
-        &self.bytes[from as usize..self.ends[before] as usize]
+            self.ends[before - 1] as usize
+        }
+    }
+
+    /// Where so many lines end that have `before` lines before them.
+    fn end_of(&self, before: usize, count: usize) -> usize
+        requires some { 1 ≤ count }
+        requires high { before + count ≤ vec_len self.now.ends }
+        ensures { IsRange self.now.bytes.items before count (from_of self.now.ends.items before) result }
+    {
+        self.ends[before + count - 1] as usize
+    }
+
+    /// The first line from line `from` up to, not including, line `to` that has these bytes.
+    pub fn first_alike(&self, from: u64, to: u64, line: &[u8]) -> Option<u64>
+        requires low { 1 ≤ from }
+        requires high { to ≤ length (lines self.now.bytes.items) + 1 }
+        ensures within { IfSome result (λ k. (from ≤ k) × (k < to)) }
+        ensures value { IsFirstAlike (lines self.now.bytes.items) line.now from to result }
+    {
+        for k in from..to {
+            if self.line(k) == line {
+                return Some(k);
+            }
+        }
+        None
+    }
+
+    /// The last such line.
+    pub fn last_alike(&self, from: u64, to: u64, line: &[u8]) -> Option<u64>
+        requires low { 1 ≤ from }
+        requires high { to ≤ length (lines self.now.bytes.items) + 1 }
+        ensures within { IfSome result (λ k. (from ≤ k) × (k < to)) }
+        ensures value { IsLastAlike (lines self.now.bytes.items) line.now from to result }
+    {
+        for k in (from..to).rev() {
+            if self.line(k) == line {
+                return Some(k);
+            }
+        }
+        None
     }
 }
 
