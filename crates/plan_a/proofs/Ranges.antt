@@ -1,15 +1,15 @@
 -- Lines that lie side by side in a text.
 use Rattle.std.proofs.Common.{◌≡◌, ℕ, zero, suc, ◌+◌, ◌-◌, ◌<◌, ◌≤◌, List, [], ◌∷◌, ◌++◌, length, get_or, take, drop, slice_range, sym, ap, subst, ◌∙◌, arith, inl}
 use Rattle.std.proofs.lemmas.Grind.{flat_map-append}
-use Rattle.std.proofs.lemmas.List.{append-nil, take-take}
+use Rattle.std.proofs.lemmas.List.{append-nil, take-take, length-take-le, length-drop}
 use Rattle.std.proofs.lemmas.List.Concat.{flat_map-cons}
 use Rattle.std.proofs.lemmas.List.Edits.{between_more}
 use Rattle.std.proofs.lemmas.List.Folds.{drop_split}
 use Rattle.std.proofs.lemmas.Slice.{between_is}
 use Rattle.line_list.specs.Lines.{lines, ArePieces}
-use Rattle.line_list.specs.Join.{join}
-use Rattle.line_list.proofs.Pieces.{joined, lines-pieces}
-use Rattle.line_list.proofs.JoinLemmas.{join-pieces}
+use Rattle.line_list.specs.Join.{join, lacks_feed, ends_open}
+use Rattle.line_list.proofs.Pieces.{joined, lines-pieces, pieces-only}
+use Rattle.line_list.proofs.JoinLemmas.{join-pieces, open-last}
 use Rattle.plan_a.specs.Cut.{IsPiece, IsCut, IsRange, from_of, to_of}
 
 pieces-drop : (i : ℕ) (ls : List (List ℕ)) → ArePieces ls → ArePieces (drop i ls)
@@ -29,6 +29,12 @@ pieces-take (suc (suc n)) (line ∷ next ∷ more) h = (h.0, pieces-take (suc n)
 -- what n lines behind the first i join to
 range-joined : (text : List ℕ) (i n : ℕ) → join (take n (drop i (lines text))) ≡ joined (take n (drop i (lines text)))
 range-joined text i n = join-pieces (take n (drop i (lines text))) (pieces-take n (drop i (lines text)) (pieces-drop i (lines text) (lines-pieces text)))
+
+-- whether lines end open, by the last byte of what they join to
+end-joined : (ls : List (List ℕ)) (text : List ℕ) → joined ls ≡ text → ArePieces ls → 0 < length ls → lacks_feed text ≡ ends_open ls
+unfolding lines
+end-joined ls [] e h lt = let none : ls ≡ [] = sym (pieces-only ls h) ∙ ap lines e in absurd (omega (arith, ap length none))
+end-joined ls (b ∷ bs) e h lt = sym (open-last (b ∷ bs) (omega arith)) ∙ ap ends_open (ap lines (sym e) ∙ pieces-only ls h)
 
 joined-more : (ls : List (List ℕ)) (i n : ℕ) → i + n < length ls → joined (take (n + 1) (drop i ls)) ≡ joined (take n (drop i ls)) ++ get_or ls (i + n) []
 joined-more ls i n lt =
@@ -83,4 +89,10 @@ cut-range text ends i n cut some le =
     let b : i + (n - 1) ≡ i + n - 1 = omega arith in
     let h : IsJoined text i (n - 1 + 1) (from_of ends i) (to_of ends (i + (n - 1))) = joined-range text ends i (n - 1) cut (omega arith) in
     let k : IsJoined text i n (from_of ends i) (to_of ends (i + n - 1)) = subst (λ m. IsJoined text i m (from_of ends i) (to_of ends (i + n - 1))) a (subst (λ e. IsJoined text i (n - 1 + 1) (from_of ends i) (to_of ends e)) b h) in
-    record { low = k.low; high = k.high; is = sym k.is ∙ sym (range-joined text i n) }
+    let few : length (take n (drop i (lines text))) ≡ n = length-take-le n (drop i (lines text)) (let left : length (drop i (lines text)) ≡ length (lines text) - i = length-drop i (lines text) in omega (arith, cut.count)) in
+    record {
+      low = k.low;
+      high = k.high;
+      is = sym k.is ∙ sym (range-joined text i n);
+      end = end-joined (take n (drop i (lines text))) (slice_range text (from_of ends i) (to_of ends (i + n - 1))) k.is (pieces-take n (drop i (lines text)) (pieces-drop i (lines text) (lines-pieces text))) (omega arith);
+    }

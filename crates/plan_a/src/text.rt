@@ -2,7 +2,7 @@
 
 ghost use Rattle.std.specs.Prelude.{◌≡◌, ◌≤◌, ◌<◌, ◌+◌, ◌-◌, ◌^◌, ℕ, [], take, drop, length, vec_len, slice_index_or, None, Some, IfOk, IfErr, IfSome};
 ghost use Rattle.line_list.specs.Lines.{lines};
-ghost use Rattle.line_list.specs.Join.{join};
+ghost use Rattle.line_list.specs.Join.{join, lacks_feed, ends_open};
 ghost use Rattle.outside.specs.Files.{Files, bytes_at};
 ghost use Rattle.outside.specs.TreeView.{Passes};
 ghost use Rattle.outside.specs.Calls.{IsThere, IsUntouched};
@@ -62,7 +62,8 @@ impl Text {
         requires low { 1 ≤ k }
         requires some { 1 ≤ count }
         requires high { k + count ≤ length (lines self.now.bytes.items) + 1 }
-        ensures { result.now ≡ join (take count (drop (k - 1) (lines self.now.bytes.items))) }
+        ensures is { result.now ≡ join (take count (drop (k - 1) (lines self.now.bytes.items))) }
+        ensures end { lacks_feed result.now ≡ ends_open (take count (drop (k - 1) (lines self.now.bytes.items))) }
     {
         let before = (k - 1) as usize;
         let to = self.end_of(before, count as usize);
