@@ -22,17 +22,19 @@ other_bytes a b ne = by (bytes_eq a b) refl
     by true is = let same : a ≡ b = grind (arith, bytes_eq-Decides) in absurd (ne (sym same))
     by false is = refl
 
+pub line-differs : (p : Pattern) (line : List ℕ) (lines : List (List ℕ)) (w : ℕ) → IsFirstLine p line → line_at lines (w + p.front) ≢ line → same_line p.loose (line_at (side_lines p.text.now p.side p.hunk.now.body.items) (p.front + 1)) (line_at lines (w + (p.front + 1) - 1)) ≡ false
+line-differs p line lines w first ne =
+    let place : w + (p.front + 1) - 1 ≡ w + p.front = omega arith in
+    ap (λ b. same_line b (line_at (side_lines p.text.now p.side p.hunk.now.body.items) (p.front + 1)) (line_at lines (w + (p.front + 1) - 1))) first.exact
+    ∙ ap (λ a. same_line false a (line_at lines (w + (p.front + 1) - 1))) first.is
+    ∙ ap (λ k. same_line false line (line_at lines k)) place
+    ∙ other_bytes line (line_at lines (w + p.front)) ne
+
 -- where the first line differs the pattern doesn't fit
 pub first-differs : (p : Pattern) (line : List ℕ) (lines : List (List ℕ)) (back w : ℕ) → IsFirstLine p line → p.last ≡ taken_count p.side p.hunk.now.body.items - back → line_at lines (w + p.front) ≢ line → fits lines (taken_lines p.text.now p.side p.hunk.now) p.loose p.front back w ≡ false
 first-differs p line lines back w first last ne =
     let count : length (side_lines p.text.now p.side p.hunk.now.body.items) ≡ taken_count p.side p.hunk.now.body.items = side-length p.text.now p.side p.hunk.now.body.items in
-    let place : w + (p.front + 1) - 1 ≡ w + p.front = omega arith in
-    let other : same_line false line (line_at lines (w + p.front)) ≡ false = other_bytes line (line_at lines (w + p.front)) ne in
-    let differs : same_line p.loose (line_at (side_lines p.text.now p.side p.hunk.now.body.items) (p.front + 1)) (line_at lines (w + (p.front + 1) - 1)) ≡ false =
-    ap (λ b. same_line b (line_at (side_lines p.text.now p.side p.hunk.now.body.items) (p.front + 1)) (line_at lines (w + (p.front + 1) - 1))) first.exact
-    ∙ ap (λ a. same_line false a (line_at lines (w + (p.front + 1) - 1))) first.is
-    ∙ ap (λ k. same_line false line (line_at lines k)) place ∙ other in
-    sym (fits-not p.text.now p.side p.hunk.now lines p.loose p.front back w (p.front + 1) (omega arith) (omega (arith, first.some)) differs)
+    sym (fits-not p.text.now p.side p.hunk.now lines p.loose p.front back w (p.front + 1) (omega arith) (omega (arith, first.some)) (line-differs p line lines w first ne))
 
 -- places whose lines are not alike don't fit
 none-fits : (p : Pattern) (line : List ℕ) (lines : List (List ℕ)) (back from to a b : ℕ) → IsFirstLine p line → p.last ≡ taken_count p.side p.hunk.now.body.items - back → NoneAlike lines line a b → a ≤ from + p.front → to + p.front ≤ b → NonePasses (fits lines (taken_lines p.text.now p.side p.hunk.now) p.loose p.front back) from to

@@ -138,7 +138,7 @@ fn moved_back(found: Option<u64>, front: u64) -> Option<u64>
 }
 
 /// The first line that is compared, if it is compared byte by byte.
-fn first_line<'a>(pattern: &Pattern<'a>) -> Option<&'a [u8]>
+pub fn first_line<'a>(pattern: &Pattern<'a>) -> Option<&'a [u8]>
     requires { IsPattern pattern.now }
     ensures { IfSome result (λ line. IsFirstLine pattern.now line.now) }
 {
