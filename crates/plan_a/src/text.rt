@@ -1,6 +1,6 @@
 //! A text in memory with its lines, and how it is taken from a tree.
 
-ghost use Rattle.std.specs.Prelude.{◌≡◌, ◌≤◌, ◌<◌, ◌+◌, ◌-◌, ◌^◌, ℕ, [], take, drop, length, vec_len, slice_index_or, None, Some, IfOk, IfErr, IfSome};
+ghost use Rattle.std.specs.Prelude.{◌≡◌, ◌≤◌, ◌<◌, ◌+◌, ◌-◌, ◌^◌, ℕ, [], take, drop, length, vec_len, slice_index_or, bytes_eq, None, Some, IfOk, IfErr, IfSome};
 ghost use Rattle.line_list.specs.Lines.{lines};
 ghost use Rattle.line_list.specs.Join.{join, lacks_feed, ends_open};
 ghost use Rattle.outside.specs.Files.{Files, bytes_at};
@@ -11,7 +11,7 @@ ghost use Rattle.line_store.specs.Taking.{refusal};
 ghost use Rattle.plan_a.specs.Taken.{HasLength, IsFile, HasTextCause, IsCutFault};
 ghost use Rattle.plan_a.specs.Cut.{IsCut, IsRange, from_of};
 
-use crate::cut::{count_lines, ends_of};
+use crate::cut::ends_of;
 use line_store::OpenFault;
 use outside::{Name, Tree};
 use std::alloc::Global;
@@ -99,7 +99,7 @@ impl Text {
         ensures value { IsFirstAlike (lines self.now.bytes.items) line.now from to result }
     {
         for k in from..to {
-            if self.line(k) == line {
+            if is_same(self.line(k), line) {
                 return Some(k);
             }
         }
@@ -114,12 +114,26 @@ impl Text {
         ensures value { IsLastAlike (lines self.now.bytes.items) line.now from to result }
     {
         for k in (from..to).rev() {
-            if self.line(k) == line {
+            if is_same(self.line(k), line) {
                 return Some(k);
             }
         }
         None
     }
+}
+
+/// Whether two lines are equal. Most others differ in their lengths, or in their last byte before the line feed.
+fn is_same(a: &[u8], b: &[u8]) -> bool
+    ensures { result ≡ bytes_eq a.now b.now }
+{
+    if a.len() != b.len() {
+        return false;
+    }
+    let near_end = a.len().saturating_sub(2);
+    if near_end < a.len() && a[near_end] != b[near_end] {
+        return false;
+    }
+    a == b
 }
 
 /// Takes a file whole.
@@ -186,7 +200,6 @@ fn cut_text(alloc: Global, bytes: Vec<u8>, size: u32) -> Result<Text, OpenFault>
     ensures admitted { IfOk result (λ text. refusal size bytes.items ≡ None) }
     ensures cause { IfErr result (IsCutFault size bytes.items) }
 {
-    let count = count_lines(&bytes, size)?;
-    let ends = ends_of(alloc, &bytes, count)?;
+    let ends = ends_of(alloc, &bytes, size)?;
     Ok(Text { bytes, ends })
 }
