@@ -2,3 +2,4 @@ pub mod Reading
 pub mod FirstLong
 pub mod Faults
 pub mod Ranges
+pub mod PlaceLemmas

@@ -5,6 +5,7 @@ ghost use Rattle.std.specs.Prelude.{◌≡◌, ◌≤◌, true};
 ghost use Rattle.line_store.specs.Taking.{IsSize, IsReset, IsEmpty};
 
 mod cut;
+mod places;
 mod text;
 
 use crate::text::{Text, take_text};
@@ -12,7 +13,7 @@ use line_store::{Half, Halves, LineFault, LineStore, OpenFault, Plan, Stretch};
 use outside::{Name, Tree};
 use std::alloc::Global;
 
-/// The file's bytes in one block, and eight bytes for each of its lines.
+/// The file's bytes in one block, and four bytes for each of its lines, or eight where the file has 2^32 bytes or more.
 #[derive(Drop)]
 pub struct PlanA {
     alloc: Global,

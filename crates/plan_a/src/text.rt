@@ -9,9 +9,11 @@ ghost use Rattle.outside.specs.Calls.{IsThere, IsUntouched};
 ghost use Rattle.line_store.specs.Store.{IsFirstAlike, IsLastAlike, line_at};
 ghost use Rattle.line_store.specs.Taking.{refusal};
 ghost use Rattle.plan_a.specs.Taken.{HasLength, IsFile, HasTextCause, IsCutFault};
+ghost use Rattle.plan_a.specs.Places.{places_of};
 ghost use Rattle.plan_a.specs.Cut.{IsCut, IsRange, from_of};
 
 use crate::cut::ends_of;
+use crate::places::Places;
 use line_store::OpenFault;
 use outside::{Name, Tree};
 use std::alloc::Global;
@@ -23,8 +25,8 @@ const TOO_LONG: u64 = 1 << 40;
 #[derive(Drop)]
 pub struct Text {
     pub bytes: Vec<u8>,
-    pub ends: Vec<u64>,
-    ghost cut: { IsCut bytes.items ends.items },
+    pub ends: Places,
+    ghost cut: { IsCut bytes.items (places_of ends) },
     ghost short: { length bytes.items ≤ 2 ^ 40 },
 }
 
@@ -34,7 +36,7 @@ impl Text {
     {
         Text {
             bytes: Vec::new(alloc),
-            ends: Vec::new(alloc),
+            ends: Places::none(alloc),
         }
     }
 
@@ -54,7 +56,7 @@ impl Text {
         if before >= self.ends.len() {
             return &[];
         }
-        &self.bytes[self.start_of(before)..self.ends[before] as usize]
+        &self.bytes[self.start_of(before)..self.ends.at(before)]
     }
 
     /// So many lines from line `k` on.
@@ -72,23 +74,23 @@ impl Text {
 
     /// Where the line begins that has so many lines before it.
     fn start_of(&self, before: usize) -> usize
-        requires { before < vec_len self.now.ends }
-        ensures { result ≡ from_of self.now.ends.items before }
+        requires { before < length (places_of self.now.ends) }
+        ensures { result ≡ from_of (places_of self.now.ends) before }
     {
         if before == 0 {
             0
         } else {
-            self.ends[before - 1] as usize
+            self.ends.at(before - 1)
         }
     }
 
     /// Where so many lines end that have `before` lines before them.
     fn end_of(&self, before: usize, count: usize) -> usize
         requires some { 1 ≤ count }
-        requires high { before + count ≤ vec_len self.now.ends }
-        ensures { IsRange self.now.bytes.items before count (from_of self.now.ends.items before) result }
+        requires high { before + count ≤ length (places_of self.now.ends) }
+        ensures { IsRange self.now.bytes.items before count (from_of (places_of self.now.ends) before) result }
     {
-        self.ends[before + count - 1] as usize
+        self.ends.at(before + count - 1)
     }
 
     /// The first line from line `from` up to, not including, line `to` that has these bytes.
