@@ -1,5 +1,5 @@
 -- Lines that are copied as they are.
-use Rattle.std.proofs.Common.{◌≡◌, ℕ, zero, suc, ◌+◌, ◌-◌, ◌<◌, ◌≤◌, List, [], ◌∷◌, ◌++◌, Bool, length, take, drop, refl, sym, ap, subst, ◌∙◌, arith, append_assoc}
+use Rattle.std.proofs.Common.{◌≡◌, ℕ, zero, suc, ◌+◌, ◌-◌, ◌≤◌, List, [], ◌∷◌, ◌++◌, Bool, length, take, drop, refl, sym, ap, subst, ◌∙◌, arith, append_assoc}
 use Rattle.std.specs.List.{slice_range}
 use Rattle.std.proofs.lemmas.List.{take-take}
 use Rattle.std.proofs.lemmas.List.Edits.{between_none, between_more}
@@ -32,13 +32,16 @@ join-between lines from mid to order later =
     ∙ sym (drop_split (take (to - 1) lines) (from - 1) (mid - 1) (omega arith))
     ∙ sym (between_is lines (from - 1) (to - 1))
 
--- a range at one of its lines
-pub split-at : (lines : List (List ℕ)) (from q to : ℕ) (more : List (List ℕ)) → 1 ≤ from → from ≤ q → q < to → to ≤ length lines + 1
-    → lines_between lines from q ++ (line_at lines q ∷ (lines_between lines (q + 1) to ++ more)) ≡ lines_between lines from to ++ more
-split-at lines from q to more low order lt high =
-    more-between lines from q (lines_between lines (q + 1) to ++ more) low order (omega arith)
-    ∙ sym (append_assoc (lines_between lines from (q + 1)) (lines_between lines (q + 1) to) more)
-    ∙ ap (λ r. r ++ more) (join-between lines from (q + 1) to (omega arith) (omega arith))
+-- so many lines from one on
+pub between-take : (lines : List (List ℕ)) (q n : ℕ) → 1 ≤ q → lines_between lines q (q + n) ≡ take n (drop (q - 1) lines)
+between-take lines q n low = let w : q + n - 1 - (q - 1) ≡ n = omega arith in ap (λ m. take m (drop (q - 1) lines)) w
+
+-- a range, and one behind it
+pub meet-between : (lines : List (List ℕ)) (from mid to : ℕ) (more : List (List ℕ)) → from ≤ mid → mid ≤ to
+    → lines_between lines from mid ++ (lines_between lines mid to ++ more) ≡ lines_between lines from to ++ more
+meet-between lines from mid to more order later =
+    sym (append_assoc (lines_between lines from mid) (lines_between lines mid to) more)
+    ∙ ap (λ r. r ++ more) (join-between lines from mid to order later)
 
 -- lines before all edits are kept
 kept-between : (lines : List (List ℕ)) (later : List Edit) (from n : ℕ) → 1 ≤ from → from + n ≤ length lines + 1 → AreFrom (from + n) later

@@ -21,11 +21,26 @@ fn second_line<S: LineStore>(store: &mut S) -> Result<bool, LineFault> {
     Ok(store.line(Half::Second) == b"bcd".as_slice())
 }
 
+/// Whether the second line is found from both ends, and lent alone.
+fn finds_second<S: LineStore>(store: &mut S) -> Result<bool, LineFault> {
+    if store.count() < 2 {
+        return Ok(false);
+    }
+    let first = store.first_alike(1, 3, b"bcd", Half::First)?;
+    let last = store.last_alike(1, 3, b"bcd", Half::First)?;
+    store.load(2, Half::First)?;
+    let lent = store.stretch(Half::First, 1);
+    Ok(first == Some(2) && last == first && lent.bytes == b"bcd".as_slice())
+}
+
 #[test]
 fn lines_in_memory(rt: HostRuntime) {
     let alloc = rt.alloc();
     match two_lines(alloc) {
-        Ok(mut lines) => assert_eq!(rt; second_line(&mut lines), Ok(true)),
+        Ok(mut lines) => {
+            assert_eq!(rt; second_line(&mut lines), Ok(true));
+            assert_eq!(rt; finds_second(&mut lines), Ok(true));
+        }
         Err(_) => assert!(rt; false),
     }
 }

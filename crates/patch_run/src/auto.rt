@@ -4,7 +4,7 @@ ghost use Rattle.std.specs.Prelude.{◌≡◌, if◌then◌else◌, false, nat_l
 ghost use Rattle.line_store.specs.Taking.{IsReset, IsEmpty};
 ghost use Rattle.patch_run.specs.Auto.{auto_seen, auto_counted, small_counted};
 
-use line_store::{Half, LineFault, LineStore, OpenFault, Plan};
+use line_store::{Half, LineFault, LineStore, OpenFault, Plan, Stretch};
 use outside::{Name, Tree};
 use plan_a::PlanA;
 
@@ -72,6 +72,42 @@ impl<P: Plan> LineStore for AutoPlan<P> {
             self.big.line(half)
         } else {
             self.small.line(half)
+        }
+    }
+
+    fn stretch(&self, half: Half, most: u64) -> Stretch<'_> {
+        if self.is_big {
+            self.big.stretch(half, most)
+        } else {
+            self.small.stretch(half, most)
+        }
+    }
+
+    fn first_alike(
+        &mut self,
+        from: u64,
+        to: u64,
+        line: &[u8],
+        half: Half,
+    ) -> Result<Option<u64>, LineFault> {
+        if self.is_big {
+            self.big.first_alike(from, to, line, half)
+        } else {
+            self.small.first_alike(from, to, line, half)
+        }
+    }
+
+    fn last_alike(
+        &mut self,
+        from: u64,
+        to: u64,
+        line: &[u8],
+        half: Half,
+    ) -> Result<Option<u64>, LineFault> {
+        if self.is_big {
+            self.big.last_alike(from, to, line, half)
+        } else {
+            self.small.last_alike(from, to, line, half)
         }
     }
 }

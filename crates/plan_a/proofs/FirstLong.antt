@@ -1,11 +1,14 @@
 -- The first line that is too long.
-use Rattle.std.proofs.Common.{◌≡◌, ℕ, zero, suc, ◌+◌, ◌-◌, ◌<◌, ◌≤◌, Bool, true, false, List, [], length, get_or, refl, ap, ◌∙◌, arith, Some, None}
-use Rattle.std.specs.Prelude.{nat_lt, find}
+use Rattle.std.proofs.Common.{◌≡◌, ℕ, zero, suc, ◌+◌, ◌-◌, ◌<◌, ◌≤◌, ◌^◌, Bool, true, false, List, [], length, get_or, refl, ap, ◌∙◌, arith, Some, None}
+use Rattle.std.specs.Prelude.{nat_lt, nat_le, find}
 use Rattle.std.specs.List.{range_with_len}
 use Rattle.std.proofs.lemmas.Bool.Decides.{nat_tests}
 use Rattle.line_store.specs.Store.{line_at}
 use Rattle.line_store.specs.Taking.{first_long}
+use Rattle.line_store.specs.declared.fault.OpenFault.TheVariants.{LongLine}
+use Rattle.line_list.specs.Lines.{lines}
 use Rattle.plan_a.specs.Cut.{IsFirstLong}
+use Rattle.plan_a.specs.Taken.{IsCutFault}
 
 find-more : (p : ℕ → Bool) (a n : ℕ) → 0 < n → p a ≡ false → find p (range_with_len a n) ≡ find p (range_with_len (a + 1) (n - 1))
 find-more p a zero lt e = absurd (omega arith)
@@ -48,3 +51,7 @@ none-here size ls k n h lt e long =
 
 pub none-end : (size : ℕ) (ls : List (List ℕ)) (k : ℕ) → NoneLong size ls k → k ≡ length ls → first_long size ls ≡ None
 none-end size ls k h e = h.left ∙ find-none (is_long size ls) (k + 1) (length ls - k) (omega arith)
+
+-- then the text is refused
+pub refused : (size line n : ℕ) (text : List ℕ) → length text < 2 ^ 40 → IsFirstLong size (lines text) line n → IsCutFault size text (LongLine line n)
+refused size line n text lt h = (h.long, let t : nat_le (2 ^ 40) (length text) ≡ false = grind (arith, nat_tests) in rw (t, h.is, h.bytes) refl)

@@ -1,3 +1,5 @@
 pub mod Reading
 pub mod FirstLong
 pub mod Faults
+pub mod Ranges
+pub mod PlaceLemmas

@@ -1,3 +1,4 @@
 pub mod Cut
 pub mod PlanSeen
 pub mod Taken
+pub mod Places

@@ -1,65 +1,45 @@
 //! Where the lines of a text end.
 
-ghost use Rattle.std.specs.Prelude.{◌≡◌, ◌≤◌, ◌<◌, ◌-◌, ◌^◌, ℕ, length, None, Some, IfOk, IfErr};
+ghost use Rattle.std.specs.Prelude.{◌≡◌, ◌<◌, ◌^◌, [], length, None, IfOk, IfErr};
 ghost use Rattle.line_list.specs.Lines.{lines};
 ghost use Rattle.line_store.specs.Taking.{first_long};
-ghost use Rattle.plan_a.specs.Cut.{IsCut, IsFirstLong};
-ghost use Rattle.line_store.specs.declared.fault.OpenFault.TheVariants.{LongLine};
+ghost use Rattle.plan_a.specs.Cut.{IsCut};
+ghost use Rattle.plan_a.specs.Places.{places_of, Takes};
+ghost use Rattle.plan_a.specs.Taken.{IsCutFault};
 
+use crate::places::Places;
 use line_list::next_line;
 use line_store::OpenFault;
+use memchr::memchr_iter;
 use std::alloc::{AllocError, Global};
 
-/// A line that is too long, by its number, from 1, and its length.
-#[derive(Clone, Copy)]
-pub struct Long {
-    pub line: u64,
-    pub length: u64,
-}
-
-impl From<Long> for OpenFault {
-    ghost from_gives = { λ long e. e ≡ LongLine long.line long.length };
-
-    fn from(long: Long) -> OpenFault {
-        OpenFault::LongLine {
-            line: long.line,
-            length: long.length,
-        }
-    }
-}
-
-/// The number of lines, unless a buffer of this size can't hold one of them.
-pub fn count_lines(text: &[u8], size: u32) -> Result<u64, Long>
-    ensures count { IfOk result (λ count. count ≡ length (lines text.now)) }
-    ensures short { IfOk result (λ count. first_long size (lines text.now) ≡ None) }
-    ensures long { IfErr result (λ long. IsFirstLong size (lines text.now) long.line long.length) }
+/// The place after each line, unless a buffer of this size can't hold one of them.
+pub fn ends_of(alloc: Global, text: &[u8], size: u32) -> Result<Places, OpenFault>
+    requires { length text.now < 2 ^ 40 }
+    ensures cut { IfOk result (λ ends. IsCut text.now (places_of ends)) }
+    ensures short { IfOk result (λ ends. first_long size (lines text.now) ≡ None) }
+    ensures cause { IfErr result (IsCutFault size text.now) }
 {
     let most = size.saturating_sub(4) as u64;
-    let mut count: u64 = 0;
+    let mut ends = room_for_ends(alloc, text)?;
     let mut at = 0;
     while let Some(end) = next_line(text, at) {
-        count += 1;
         let length = (end - at) as u64;
         if length > most {
-            return Err(Long {
-                line: count,
-                length,
-            });
+            let line = ends.len() as u64 + 1;
+            return Err(OpenFault::LongLine { line, length });
         }
-        at = end;
-    }
-    Ok(count)
-}
-
-/// The place after each line.
-pub fn ends_of(alloc: Global, text: &[u8], count: u64) -> Result<Vec<u64>, AllocError>
-    ensures { IfOk result (λ ends. IsCut text.now ends.items) }
-{
-    let mut ends = Vec::with_capacity(alloc, count as usize)?;
-    let mut at = 0;
-    while let Some(end) = next_line(text, at) {
-        ends.push(end as u64)?;
+        ends.push(end)?;
         at = end;
     }
     Ok(ends)
+}
+
+/// Room for as many places as the text has lines: one for each line feed, and one for a last line without.
+fn room_for_ends(alloc: Global, text: &[u8]) -> Result<Places, AllocError>
+    ensures none { IfOk result (λ ends. places_of ends ≡ []) }
+    ensures takes { IfOk result (λ ends. Takes ends (length text.now)) }
+{
+    let feeds = memchr_iter(b'\n', text).count();
+    Places::with_room(alloc, feeds + 1, text.len() as u64)
 }

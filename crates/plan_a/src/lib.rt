@@ -5,14 +5,15 @@ ghost use Rattle.std.specs.Prelude.{◌≡◌, ◌≤◌, true};
 ghost use Rattle.line_store.specs.Taking.{IsSize, IsReset, IsEmpty};
 
 mod cut;
+mod places;
 mod text;
 
 use crate::text::{Text, take_text};
-use line_store::{Half, Halves, LineFault, LineStore, OpenFault, Plan};
+use line_store::{Half, Halves, LineFault, LineStore, OpenFault, Plan, Stretch};
 use outside::{Name, Tree};
 use std::alloc::Global;
 
-/// The file's bytes in one block, and eight bytes for each of its lines.
+/// The file's bytes in one block, and four bytes for each of its lines, or eight where the file has 2^32 bytes or more.
 #[derive(Drop)]
 pub struct PlanA {
     alloc: Global,
@@ -64,6 +65,38 @@ impl LineStore for PlanA {
             Some(k) => self.text.line(k),
             None => &[],
         }
+    }
+
+    /// As many lines as are asked for.
+    fn stretch(&self, half: Half, most: u64) -> Stretch<'_> {
+        if let Some(k) = self.halves.get(half) {
+            let bytes = self.text.lines_from(k, most);
+            return Stretch { bytes, count: most };
+        }
+        Stretch {
+            bytes: &[],
+            count: 1,
+        }
+    }
+
+    fn first_alike(
+        &mut self,
+        from: u64,
+        to: u64,
+        line: &[u8],
+        _half: Half,
+    ) -> Result<Option<u64>, LineFault> {
+        Ok(self.text.first_alike(from, to, line))
+    }
+
+    fn last_alike(
+        &mut self,
+        from: u64,
+        to: u64,
+        line: &[u8],
+        _half: Half,
+    ) -> Result<Option<u64>, LineFault> {
+        Ok(self.text.last_alike(from, to, line))
     }
 }
 

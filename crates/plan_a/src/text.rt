@@ -1,16 +1,19 @@
 //! A text in memory with its lines, and how it is taken from a tree.
 
-ghost use Rattle.std.specs.Prelude.{◌≡◌, ◌≤◌, ◌<◌, ◌^◌, ℕ, [], length, vec_len, slice_index_or, None, Some, IfOk, IfErr};
+ghost use Rattle.std.specs.Prelude.{◌≡◌, ◌≤◌, ◌<◌, ◌+◌, ◌-◌, ◌^◌, ℕ, [], take, drop, length, vec_len, slice_index_or, bytes_eq, None, Some, IfOk, IfErr, IfSome};
 ghost use Rattle.line_list.specs.Lines.{lines};
+ghost use Rattle.line_list.specs.Join.{join, lacks_feed, ends_open};
 ghost use Rattle.outside.specs.Files.{Files, bytes_at};
 ghost use Rattle.outside.specs.TreeView.{Passes};
 ghost use Rattle.outside.specs.Calls.{IsThere, IsUntouched};
-ghost use Rattle.line_store.specs.Store.{line_at};
+ghost use Rattle.line_store.specs.Store.{IsFirstAlike, IsLastAlike, line_at};
 ghost use Rattle.line_store.specs.Taking.{refusal};
 ghost use Rattle.plan_a.specs.Taken.{HasLength, IsFile, HasTextCause, IsCutFault};
-ghost use Rattle.plan_a.specs.Cut.{IsCut};
+ghost use Rattle.plan_a.specs.Places.{places_of};
+ghost use Rattle.plan_a.specs.Cut.{IsCut, IsRange, from_of};
 
-use crate::cut::{count_lines, ends_of};
+use crate::cut::ends_of;
+use crate::places::Places;
 use line_store::OpenFault;
 use outside::{Name, Tree};
 use std::alloc::Global;
@@ -22,8 +25,8 @@ const TOO_LONG: u64 = 1 << 40;
 #[derive(Drop)]
 pub struct Text {
     pub bytes: Vec<u8>,
-    pub ends: Vec<u64>,
-    ghost cut: { IsCut bytes.items ends.items },
+    pub ends: Places,
+    ghost cut: { IsCut bytes.items (places_of ends) },
     ghost short: { length bytes.items ≤ 2 ^ 40 },
 }
 
@@ -33,7 +36,7 @@ impl Text {
     {
         Text {
             bytes: Vec::new(alloc),
-            ends: Vec::new(alloc),
+            ends: Places::none(alloc),
         }
     }
 
@@ -53,13 +56,86 @@ impl Text {
         if before >= self.ends.len() {
             return &[];
         }
-        let from = if before == 0 {
+        &self.bytes[self.start_of(before)..self.ends.at(before)]
+    }
+
+    /// So many lines from line `k` on.
+    pub fn lines_from(&self, k: u64, count: u64) -> &[u8]
+        requires low { 1 ≤ k }
+        requires some { 1 ≤ count }
+        requires high { k + count ≤ length (lines self.now.bytes.items) + 1 }
+        ensures is { result.now ≡ join (take count (drop (k - 1) (lines self.now.bytes.items))) }
+        ensures end { lacks_feed result.now ≡ ends_open (take count (drop (k - 1) (lines self.now.bytes.items))) }
+    {
+        let before = (k - 1) as usize;
+        let to = self.end_of(before, count as usize);
+        &self.bytes[self.start_of(before)..to]
+    }
+
+    /// Where the line begins that has so many lines before it.
+    fn start_of(&self, before: usize) -> usize
+        requires { before < length (places_of self.now.ends) }
+        ensures { result ≡ from_of (places_of self.now.ends) before }
+    {
+        if before == 0 {
             0
         } else {
-            self.ends[before - 1]
-        };
-        &self.bytes[from as usize..self.ends[before] as usize]
+            self.ends.at(before - 1)
+        }
     }
+
+    /// Where so many lines end that have `before` lines before them.
+    fn end_of(&self, before: usize, count: usize) -> usize
+        requires some { 1 ≤ count }
+        requires high { before + count ≤ length (places_of self.now.ends) }
+        ensures { IsRange self.now.bytes.items before count (from_of (places_of self.now.ends) before) result }
+    {
+        self.ends.at(before + count - 1)
+    }
+
+    /// The first line from line `from` up to, not including, line `to` that has these bytes.
+    pub fn first_alike(&self, from: u64, to: u64, line: &[u8]) -> Option<u64>
+        requires low { 1 ≤ from }
+        requires high { to ≤ length (lines self.now.bytes.items) + 1 }
+        ensures within { IfSome result (λ k. (from ≤ k) × (k < to)) }
+        ensures value { IsFirstAlike (lines self.now.bytes.items) line.now from to result }
+    {
+        for k in from..to {
+            if is_same(self.line(k), line) {
+                return Some(k);
+            }
+        }
+        None
+    }
+
+    /// The last such line.
+    pub fn last_alike(&self, from: u64, to: u64, line: &[u8]) -> Option<u64>
+        requires low { 1 ≤ from }
+        requires high { to ≤ length (lines self.now.bytes.items) + 1 }
+        ensures within { IfSome result (λ k. (from ≤ k) × (k < to)) }
+        ensures value { IsLastAlike (lines self.now.bytes.items) line.now from to result }
+    {
+        for k in (from..to).rev() {
+            if is_same(self.line(k), line) {
+                return Some(k);
+            }
+        }
+        None
+    }
+}
+
+/// Whether two lines are equal. Most others differ in their lengths, or in their last byte before the line feed.
+fn is_same(a: &[u8], b: &[u8]) -> bool
+    ensures { result ≡ bytes_eq a.now b.now }
+{
+    if a.len() != b.len() {
+        return false;
+    }
+    let near_end = a.len().saturating_sub(2);
+    if near_end < a.len() && a[near_end] != b[near_end] {
+        return false;
+    }
+    a == b
 }
 
 /// Takes a file whole.
@@ -126,7 +202,6 @@ fn cut_text(alloc: Global, bytes: Vec<u8>, size: u32) -> Result<Text, OpenFault>
     ensures admitted { IfOk result (λ text. refusal size bytes.items ≡ None) }
     ensures cause { IfErr result (IsCutFault size bytes.items) }
 {
-    let count = count_lines(&bytes, size)?;
-    let ends = ends_of(alloc, &bytes, count)?;
+    let ends = ends_of(alloc, &bytes, size)?;
     Ok(Text { bytes, ends })
 }

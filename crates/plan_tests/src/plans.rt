@@ -32,6 +32,27 @@ fn has_line<P: LineStore>(plan: &mut P, k: u64, half: Half, bytes: &[u8]) -> boo
     }
 }
 
+/// Whether a plan of four lines finds an empty one from both ends.
+fn finds_the_empty_line<P: LineStore>(plan: &mut P) -> bool {
+    if plan.count() < 4 {
+        return false;
+    }
+    let first = plan.first_alike(1, 5, b"\n", Half::First);
+    let last = plan.last_alike(1, 5, b"\n", Half::Second);
+    first == Ok(Some(3)) && last == first
+}
+
+/// Whether what a plan lends at once of its first three lines is a front of these bytes.
+fn lends_a_front<P: LineStore>(plan: &mut P, bytes: &[u8]) -> bool {
+    if plan.count() < 4 {
+        return false;
+    }
+    match plan.load(1, Half::First) {
+        Ok(()) => bytes.starts_with(plan.stretch(Half::First, 3).bytes),
+        Err(_) => false,
+    }
+}
+
 /// Whether a plan lends the lines of a file through both halves, and none of an empty one.
 fn lends<P: Plan>(alloc: Global, plan: &mut P) -> Result<bool, Fail> {
     let bytes = Vec::from_slice(alloc, b"a\nbcd\n\ne")?;
@@ -40,7 +61,9 @@ fn lends<P: Plan>(alloc: Global, plan: &mut P) -> Result<bool, Fail> {
     }
     let lends = has_line(plan, 4, Half::First, b"e")
         && has_line(plan, 2, Half::Second, b"bcd\n")
-        && has_line(plan, 3, Half::First, b"\n");
+        && has_line(plan, 3, Half::First, b"\n")
+        && finds_the_empty_line(plan)
+        && lends_a_front(plan, b"a\nbcd\n\n");
     plan.take_empty();
     Ok(lends && plan.count() == 0)
 }

@@ -1,0 +1,11 @@
+use Rattle.std.proofs.Common.{sym, subst}
+use Rattle.hunk_place.specs.Passing.{SkipsBack}
+use Rattle.hunk_place.specs.Placing.{fits}
+use Rattle.hunk_place.specs.Taken.{taken_lines}
+use Rattle.hunk_place.proofs.PassLemmas.{skips-back}
+use Rattle.hunk_place.proofs.passing.place_before.Goals as goal
+
+pub returns-in_ok-found-in-Some-clause-value : goal.returns-in_ok-found-in-Some-clause-value
+returns-in_ok-found-in-Some-clause-value g c lines told back last =
+    subst (SkipsBack (fits lines (taken_lines c.args.pattern.now.text.now c.args.pattern.now.side c.args.pattern.now.hunk.now) c.args.pattern.now.loose c.args.pattern.now.front back) c.args.from c.args.to) (sym c.moved_back.ensures)
+    (skips-back c.args.pattern.now c.in-Some.line.now lines back c.args.from c.args.to c.in_ok-found-in-Some.found c.in-Some.ensures last (c.in_ok-found-in-Some.ensures.value lines told))
