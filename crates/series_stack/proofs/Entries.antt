@@ -1,11 +1,11 @@
 -- The entries of a save, one behind the other.
-use Rattle.std.proofs.Common.{◌≡◌, ◌≢◌, ℕ, zero, suc, ◌+◌, ◌<◌, ◌≤◌, ◌^◌, List, [], ◌∷◌, ◌++◌, codes, length, take, drop, get_or, Bool, true, false, not, ◌&&◌, ◌||◌, cond, ◌==◌, bytes_eq, Option, Some, None, refl, sym, ◌∙◌, ap, subst, arith, append_assoc, length-append, drop-cons}
+use Rattle.std.proofs.Common.{◌≡◌, ℕ, zero, suc, ◌<◌, ◌≤◌, ◌^◌, List, [], ◌∷◌, ◌++◌, codes, length, take, drop, get_or, Bool, true, false, not, ◌&&◌, ◌||◌, cond, ◌==◌, bytes_eq, Option, Some, None, refl, sym, ◌∙◌, ap, subst, arith, append_assoc, length-append, drop-cons}
 use Rattle.std.specs.Prelude.{option_map, is_none}
-use Rattle.std.specs.List.{AllByRecursion, flat_map, list_any}
+use Rattle.std.specs.List.{AllByRecursion, list_any}
 use Rattle.std.proofs.lemmas.List.{take-append-drop, length-take-le}
 use Rattle.std.proofs.lemmas.Bool.{eqb-true}
 use Rattle.std.proofs.lemmas.Bool.Decides.{nat_tests}
-use Rattle.std.proofs.Math.Seq.{take-append_seam, drop-append_seam}
+use Rattle.std.proofs.Math.Seq.{take-append_seam}
 use Rattle.outside.specs.Names.{is_control, broken_rule, normal_form}
 use Rattle.outside.specs.Files.{is_temp}
 use Rattle.outside.proofs.Lawful.{obeys}

@@ -1,18 +1,18 @@
 -- A save that is restored from its front on.
-use Rattle.std.proofs.Common.{◌≡◌, ◌≢◌, ◌⊎◌, ⊎_elim, inl, inr, ℕ, ◌<◌, List, [], ◌∷◌, ◌++◌, length, Bool, true, false, is_some, IsSome, cond, Option, Some, None, Result, Ok, Err, OnOk, refl, sym, ◌∙◌, ap, subst, append_assoc}
+use Rattle.std.proofs.Common.{◌≡◌, ◌≢◌, ⊎_elim, inl, inr, ℕ, ◌<◌, List, [], ◌∷◌, ◌++◌, length, Bool, true, false, is_some, IsSome, cond, Option, Some, None, Result, Ok, Err, OnOk, refl, sym, ◌∙◌, ap, subst, append_assoc}
 use Rattle.std.specs.Prelude.{IfSome}
 use Rattle.std.proofs.lemmas.List.{append-nil}
 use Rattle.outside.specs.TreeView.{TreeView, Passes, Rises}
 use Rattle.outside.specs.Quiet.{IsQuiet}
 use Rattle.outside.proofs.Views.{rises_then}
 use Rattle.series_stack.specs.declared.fault.StackFault.{StackFault}
-use Rattle.series_stack.specs.declared.fault.StackFault.TheVariants.{Tree, Memory}
+use Rattle.series_stack.specs.declared.fault.StackFault.TheVariants.{Tree}
 use Rattle.series_stack.specs.Causes.{HasFailed}
 use Rattle.series_stack.specs.Saves.{Entry, name_of, is_saved, entries_of, first_entry, if_saved}
 use Rattle.outside.specs.Calls.{Becomes}
 use Rattle.series_stack.specs.Restoring.{Restores, restored}
-use Rattle.series_stack.proofs.Entries.{shorter, entries-nil}
-use Rattle.series_stack.proofs.Saving.{Ahead, ahead, none_left, saved-some}
+use Rattle.series_stack.proofs.Entries.{shorter}
+use Rattle.series_stack.proofs.Saving.{Ahead, ahead, none_left}
 use Rattle.series_stack.proofs.Steps.{Halfway, begun, goes_on, stops, whole_save, restores_files}
 
 -- so many entries are restored, and the others are what is left of the text

@@ -7,3 +7,4 @@ pub mod Meaning
 pub mod Saving
 pub mod Going
 pub mod Undoing
+pub mod Taking

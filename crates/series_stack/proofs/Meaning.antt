@@ -1,7 +1,6 @@
 -- What the definitions come to, in words of their own.
 use Rattle.std.proofs.Common.{◌≡◌, ◌≢◌, ⊎_elim, ℕ, ◌<◌, ◌≤◌, ◌^◌, List, [], ◌∷◌, ◌++◌, Bool, true, false, ◌&&◌, cond, leb, bytes_eq, is_some, Option, Some, None, refl, sym, ◌∙◌, ap, subst, arith}
 use Rattle.std.proofs.lemmas.Bool.{leb-true, le-leb}
-use Rattle.std.proofs.lemmas.Slice.Eq.{bytes_eq-Decides}
 use Rattle.std.specs.FinMap.{get, insert, remove}
 use Rattle.num_text.specs.Numbers.{decimal}
 use Rattle.outside.specs.Files.{Files, is_temp, temp_of}
@@ -12,7 +11,7 @@ use Rattle.series_stack.specs.Texts.{first_number}
 use Rattle.series_stack.specs.Count.{count_of, count_text, counted}
 use Rattle.series_stack.specs.Saves.{Entry}
 use Rattle.series_stack.specs.Saves.Entry.{Missing, Held}
-use Rattle.series_stack.specs.Restoring.{effects_of, restoring, restored, saved_at}
+use Rattle.series_stack.specs.Restoring.{effects_of, restored, saved_at}
 use Rattle.series_stack.proofs.Fronts.{number-sound, number-behind, same_bytes, bytes_same}
 use Rattle.series_stack.proofs.Steps.{restored-cons, restoring-nil}
 

@@ -1,19 +1,19 @@
 -- Entries of a save that are restored one after another.
-use Rattle.std.proofs.Common.{◌≡◌, ◌≢◌, ℕ, zero, ◌≤◌, List, [], ◌∷◌, ◌++◌, length, take, Bool, true, false, is_some, cond, Some, None, Option, IsSome, Result, Ok, Err, OnOk, OnErr, refl, sym, ◌∙◌, ap, subst, arith, append_assoc}
+use Rattle.std.proofs.Common.{◌≡◌, ℕ, zero, List, [], ◌∷◌, ◌++◌, length, is_some, cond, Some, None, Option, IsSome, Result, Ok, Err, OnOk, refl, sym, ◌∙◌, ap, subst, arith, append_assoc}
 use Rattle.std.specs.Prelude.{option_map}
 use Rattle.std.proofs.lemmas.List.{append-nil}
 use Rattle.std.proofs.lemmas.Option.{same_Some}
-use Rattle.std.specs.FinMap.{get, insert, remove}
-use Rattle.outside.specs.Files.{Files, is_temp, temp_of, SameLasting, lasting-same}
-use Rattle.outside.specs.TreeView.{TreeView, Passes, told_on, passes_both, passes_none}
+use Rattle.std.specs.FinMap.{get}
+use Rattle.outside.specs.Files.{Files, SameLasting, lasting-same}
+use Rattle.outside.specs.TreeView.{TreeView, Passes, passes_both, passes_none}
 use Rattle.outside.specs.Calls.{Becomes, IsThere, IsUntouched, LastingSealsStay}
 use Rattle.outside.specs.Quiet.{IsQuiet, Effect, after, after_all, HasMade, TellsPrefix, LeavesPrefix, MakesEffect}
-use Rattle.outside.specs.Quiet.Effect.{Put, Remove}
+use Rattle.outside.specs.Quiet.Effect.{Remove}
 use Rattle.outside.proofs.Views.{untouched_quiet}
 use Rattle.outside.proofs.Effects.{made_none, made_more, made_since, made_tells, made_tells_all, since_longer, tells_longer}
 use Rattle.outside.proofs.Quiet.{works_none, seals_both}
 use Rattle.series_stack.specs.Saves.{Entry}
-use Rattle.series_stack.specs.Saves.Entry.{Missing, Held}
+use Rattle.series_stack.specs.Saves.Entry.{Missing}
 use Rattle.series_stack.specs.Restoring.{effects_of, restoring, restored, IsRestored, IsPartly, Restores}
 use Rattle.series_stack.proofs.EffectLists.{after_all-append, leaves_after, tells_after, made_both}
 

@@ -1,12 +1,11 @@
 -- A save of some names undoes what was done at these, also where it was restored in part.
-use Rattle.std.proofs.Common.{◌≡◌, ℕ, zero, suc, List, [], ◌∷◌, ◌++◌, take, map, Bool, true, false, ◌||◌, cond, bytes_eq, is_some, Option, Some, None, refl, sym, ◌∙◌, ap, subst}
-use Rattle.std.specs.List.{AllByRecursion, list_any}
-use Rattle.std.specs.FinMap.{get, insert, remove}
-use Rattle.outside.specs.Files.{Files, is_temp, temp_of, SameLasting}
+use Rattle.std.proofs.Common.{◌≡◌, ℕ, zero, suc, List, [], ◌∷◌, ◌++◌, take, Bool, true, false, ◌||◌, cond, bytes_eq, is_some, Option, Some, None, refl, sym, ◌∙◌, ap, subst}
+use Rattle.std.specs.List.{AllByRecursion}
+use Rattle.std.specs.FinMap.{get, remove}
+use Rattle.outside.specs.Files.{Files, is_temp, SameLasting}
 use Rattle.outside.specs.Quiet.{Effect, after, after_all}
 use Rattle.outside.specs.Quiet.Effect.{Put, Remove}
-use Rattle.series_stack.specs.Saves.{Entry, name_of}
-use Rattle.series_stack.specs.Saves.Entry.{Missing, Held}
+use Rattle.series_stack.specs.Saves.{Entry}
 use Rattle.series_stack.specs.Found.{entry_with}
 use Rattle.series_stack.specs.Restoring.{effects_of, restoring, restored, saved_at}
 use Rattle.series_stack.specs.Undoing.{entries_at, is_one_of, SameBeside}
@@ -26,7 +25,7 @@ here f name q before true is false = ap (λ (n : List ℕ). get f n) (same_bytes
 here f name q before false is true = refl
 here f name q before false is false = refl
 
-saved-names : (f : Files) (names : List (List ℕ)) (q : List ℕ) (before : Option (List ℕ)) → saved_at (entries_at f names) q before ≡ cond (is_one_of names q) (get f q) before
+pub saved-names : (f : Files) (names : List (List ℕ)) (q : List ℕ) (before : Option (List ℕ)) → saved_at (entries_at f names) q before ≡ cond (is_one_of names q) (get f q) before
 unfolding saved_at
 saved-names f [] q before = refl
 saved-names f (name ∷ names) q before =

@@ -6,3 +6,4 @@ pub mod Found
 pub mod Restoring
 pub mod Causes
 pub mod Undoing
+pub mod Taking

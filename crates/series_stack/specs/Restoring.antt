@@ -1,12 +1,12 @@
 -- What a save makes of the files.
-use Rattle.std.specs.Prelude.{◌≡◌, ℕ, List, [], ◌∷◌, ◌++◌, Bool, true, false, is_some, if◌then◌else◌, bytes_eq, Option, None, Some, Result, OnOk, OnErr}
+use Rattle.std.specs.Prelude.{◌≡◌, ℕ, List, [], ◌∷◌, ◌++◌, is_some, if◌then◌else◌, bytes_eq, Option, None, Some, Result, OnOk, OnErr}
 use Rattle.std.specs.FinMap.{get}
 use Rattle.outside.specs.Files.{Files}
 use Rattle.outside.specs.TreeView.{TreeView, Passes}
 use Rattle.outside.specs.Calls.{LastingSealsStay}
 use Rattle.outside.specs.Quiet.{IsQuiet, Effect, after_all, HasMade, TellsPrefix, LeavesPrefix}
 use Rattle.outside.specs.Quiet.Effect.{Put, Remove}
-use Rattle.series_stack.specs.Saves.{Entry, name_of}
+use Rattle.series_stack.specs.Saves.{Entry}
 use Rattle.series_stack.specs.Saves.Entry.{Missing, Held}
 
 -- the file is put, or the name taken away where it is there

@@ -1,5 +1,5 @@
 -- What files held before a patch was applied, and the text that keeps it.
-use Rattle.std.specs.Prelude.{◌≡◌, ℕ, zero, suc, ◌^◌, ◌<◌, List, [], ◌∷◌, ◌++◌, codes, length, take, drop, slice_index_or, nat_eq, Bool, true, false, not, ◌&&◌, ◌||◌, ◌==◌, if◌then◌else◌, bytes_eq, is_none, Option, None, Some, option_map, option_and_then}
+use Rattle.std.specs.Prelude.{◌≡◌, ℕ, zero, suc, ◌^◌, ◌<◌, List, [], ◌∷◌, ◌++◌, codes, length, take, drop, slice_index_or, nat_eq, Bool, true, not, ◌&&◌, ◌||◌, ◌==◌, if◌then◌else◌, bytes_eq, is_none, Option, None, Some, option_map}
 use Rattle.std.specs.List.{flat_map, starts_with}
 use Rattle.num_text.specs.Numbers.{decimal}
 use Rattle.outside.specs.Files.{is_temp}

@@ -1,5 +1,5 @@
 -- The patches of a stack, one name per line.
-use Rattle.std.specs.Prelude.{ℕ, List, [], ◌∷◌, map, filter, length, Bool, true, false, not, nat_le, ◌&&◌, ◌==◌, if◌then◌else◌, is_none, Option, None, Some}
+use Rattle.std.specs.Prelude.{ℕ, List, [], ◌∷◌, map, filter, length, Bool, true, not, nat_le, ◌&&◌, ◌==◌, if◌then◌else◌, is_none, Option, None, Some}
 use Rattle.std.specs.List.{slice_split, list_all}
 use Rattle.outside.specs.Names.{broken_rule, normal_form}
 

@@ -1,5 +1,5 @@
 -- What stands at the front of a text.
-use Rattle.std.specs.Prelude.{◌≡◌, ℕ, ◌^◌, List, [], ◌∷◌, length, take, drop, nat_lt, ◌==◌, if◌then◌else◌, bytes_eq, Option, None, Some, option_map, option_and_then}
+use Rattle.std.specs.Prelude.{ℕ, ◌^◌, List, [], ◌∷◌, length, take, drop, nat_lt, ◌==◌, if◌then◌else◌, bytes_eq, Option, None, Some, option_map}
 use Rattle.num_text.specs.Numbers.{number_at, decimal}
 
 -- what stands behind this front, where the text begins so

@@ -1,5 +1,5 @@
 -- What a save of some names undoes.
-use Rattle.std.specs.Prelude.{◌≡◌, ℕ, List, map, Bool, true, false, bytes_eq}
+use Rattle.std.specs.Prelude.{◌≡◌, ℕ, List, map, Bool, false, bytes_eq}
 use Rattle.std.specs.List.{list_any}
 use Rattle.std.specs.FinMap.{get}
 use Rattle.outside.specs.Files.{Files, is_temp}

@@ -12,6 +12,7 @@ mod files;
 mod laws;
 mod save;
 mod series;
+mod take;
 mod text;
 
 pub use count::read_count;
@@ -19,7 +20,8 @@ pub use fault::{StackFault, StateFile};
 pub use files::restore;
 pub use laws::{
     counts_are_their_texts, restored_names_stand_as_saved, saves_are_their_texts,
-    saves_undo_what_was_done,
+    saves_undo_what_was_done, taken_saves_are_read,
 };
 pub use save::check_save;
 pub use series::read_series;
+pub use take::take_names;

@@ -1,4 +1,4 @@
-use Rattle.std.proofs.Common.{◌≡◌, Err, refl, sym, ◌∙◌, ap}
+use Rattle.std.proofs.Common.{Err, sym, ◌∙◌, ap}
 use Rattle.std.proofs.lemmas.Result.{err_from_is_err_and}
 use Rattle.series_stack.specs.declared.fault.StackFault.{StackFault}
 use Rattle.series_stack.proofs.Saving.{some_left, nothing_left}

@@ -1,4 +1,4 @@
-use Rattle.std.proofs.Common.{sym, ap, ◌∙◌}
+use Rattle.std.proofs.Common.{ap, ◌∙◌}
 use Rattle.series_stack.specs.Saves.{entries_of}
 use Rattle.series_stack.proofs.Entries.{entries-sound, entries-again}
 use Rattle.series_stack.proofs.laws.saves_are_their_texts.Goals as goal

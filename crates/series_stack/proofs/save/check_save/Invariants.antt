@@ -1,4 +1,4 @@
-use Rattle.std.proofs.Common.{◌≡◌, ℕ, length, is_some}
+use Rattle.std.proofs.Common.{◌≡◌, length, is_some}
 use Rattle.series_stack.specs.Saves.{entries_of}
 use Rattle.series_stack.proofs.save.check_save.Given as goal
 

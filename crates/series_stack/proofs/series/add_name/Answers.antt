@@ -1,4 +1,4 @@
-use Rattle.std.proofs.Common.{◌≡◌, inr, refl, ap, ◌∙◌}
+use Rattle.std.proofs.Common.{inr, refl, ap}
 use Rattle.std.specs.Prelude.{is_none}
 use Rattle.series_stack.proofs.series.add_name.Goals as goal
 

@@ -1,0 +1,15 @@
+pub mod Names
+pub mod Every
+pub mod Touching
+pub mod States
+pub mod Recovering
+pub mod Recovery
+pub mod Works
+pub mod Pushing
+pub mod Stopping
+pub mod Popping
+pub mod Running
+pub mod Answering
+pub mod Standing
+pub mod TakingBack
+pub mod Counting
