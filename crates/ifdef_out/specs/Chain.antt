@@ -1,5 +1,5 @@
 -- The block that edits begin with: they change what stands in gap q and at line q, and so on without a kept line between.
-use Rattle.std.specs.Prelude.{ℕ, ◌+◌, List, [], ◌∷◌, ◌++◌, Bool, true, false, ◌==◌, if◌then◌else◌, Option, None, Some}
+use Rattle.std.specs.Prelude.{ℕ, ◌+◌, ◌≤◌, List, [], ◌∷◌, ◌++◌, Bool, true, false, ◌==◌, if◌then◌else◌, Option, None, Some}
 use Rattle.hunk_apply.specs.Splice.{Edit, added_line}
 
 -- the gap behind an edit in gap q or of line q
@@ -25,3 +25,13 @@ behind_block q (e ∷ es) = if e.at == q then behind_block (next_gap q e.added) 
 abbrev pub is_some_line : List (List ℕ) → Bool
 is_some_line [] = false
 is_some_line (line ∷ more) = true
+
+-- the last gap, or line, that an edit of n lines may name
+abbrev pub last_at : ℕ → Option (List ℕ) → ℕ
+last_at n None = n
+last_at n (Some line) = n + 1
+
+-- the edits stand in the order of n lines, from line q on
+abbrev pub AreInOrder : ℕ → ℕ → List Edit → Type 0
+AreInOrder n q [] = Unit {0}
+AreInOrder n q (e ∷ es) = (q ≤ e.at) × ((e.at ≤ last_at n e.added) × AreInOrder n (next_gap e.at e.added) es)

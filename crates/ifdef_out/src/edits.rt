@@ -1,6 +1,11 @@
 //! The edits of a change that was placed, in their order.
 
-ghost use Rattle.std.specs.Prelude.{◌≡◌};
+ghost use Rattle.std.specs.Prelude.{◌≡◌, ◌<◌, List, [], ◌∷◌, length, MatchOption, if◌then◌else◌};
+ghost use Rattle.hunk_core.specs.declared.Verdict.{Verdict};
+ghost use Rattle.hunk_apply.specs.Session.{is_placed};
+ghost use Rattle.file_patch.specs.PlainPatch.{change_of};
+ghost use Rattle.ifdef_out.specs.Placed.{change_edits};
+ghost use Rattle.ifdef_out.specs.Places.{AreEdits, IsStep, edits_left, left_of, row_total};
 
 use crate::hunks::{hunk_start, hunk_step};
 use crate::place::{Place, Step};
@@ -18,25 +23,36 @@ pub struct Edits<'a> {
 }
 
 /// The place in front of all edits.
-pub fn start(edits: Edits) -> Place {
+pub fn start(edits: Edits) -> Place
+    requires { AreEdits edits }
+    ensures { edits_left edits.entry result ≡ change_edits edits.entry.verdicts.now edits.entry.side (change_of edits.entry.text.now edits.entry.change.now) }
+{
     match edits.change {
         Change::Hunks(hunks) => hunk_start(hunks, edits.verdicts, 0),
-        Change::Script(script) => script_start(script, first_row(edits.verdicts, script.edits.len())),
+        Change::Script(script) => {
+            script_start(script, first_row(edits.verdicts, script.edits.len()))
+        }
     }
 }
 
 /// The first command of a script that was carried out, or the number of them all where it wasn't.
-fn first_row(verdicts: &[Verdict], count: usize) -> usize {
-    match verdicts[0] {
-        Verdict::At { .. } => 0,
-        Verdict::Untried | Verdict::Ignored | Verdict::Nowhere => count,
+fn first_row(verdicts: &[Verdict], count: usize) -> usize
+    requires { 0 < length verdicts.now }
+    ensures { (v : Verdict) → (more : List Verdict) → verdicts.now ≡ v ∷ more → result ≡ (if is_placed v then 0 else count) }
+{
+    if let Verdict::At { .. } = verdicts[0] {
+        return 0;
     }
+    count
 }
 
 /// The next step, unless none is left.
-pub fn step(edits: Edits, place: Place) -> Option<Step> {
+pub fn step(edits: Edits, place: Place) -> Option<Step>
+    requires { AreEdits edits }
+    ensures { MatchOption result (edits_left edits.entry place ≡ []) (IsStep edits.entry.text.now (left_of edits.entry.text.now edits.entry.side edits.entry.verdicts.now edits.entry.change.now) (row_total edits.entry.change.now) place) }
+{
     match edits.change {
-        Change::Hunks(hunks) => hunk_step(hunks, edits.side, edits.verdicts, place),
-        Change::Script(script) => script_step(script, place),
+        Change::Hunks(hunks) => hunk_step(edits.text, hunks, edits.side, edits.verdicts, place),
+        Change::Script(script) => script_step(edits.text, script, place),
     }
 }

@@ -1,6 +1,7 @@
 //! The next edit of a change.
 
-ghost use Rattle.std.specs.Prelude.{◌≡◌};
+ghost use Rattle.std.specs.Prelude.{◌≡◌, [], MatchOption};
+ghost use Rattle.ifdef_out.specs.Places.{AreEdits, IsFound, edits_left};
 
 use crate::edits::{Edits, step};
 use crate::place::{LineEdit, Place};
@@ -13,7 +14,10 @@ pub struct Found {
 }
 
 /// The next edit, unless none is left.
-pub fn next_edit(edits: Edits, place: Place) -> Option<Found> {
+pub fn next_edit(edits: Edits, place: Place) -> Option<Found>
+    requires { AreEdits edits }
+    ensures { MatchOption result (edits_left edits.entry place ≡ []) (IsFound edits.entry place) }
+{
     let mut at = place;
     while let Some(next) = step(edits, at) {
         if let Some(edit) = next.edit {

@@ -11,7 +11,7 @@ ghost use Rattle.hunk_apply.specs.Body.{turned_mark};
 ghost use Rattle.hunk_apply.specs.Session.{IsTried};
 ghost use Rattle.hunk_apply.specs.Splice.{Edit, marked_edits};
 ghost use Rattle.ifdef_out.specs.Placed.{placed_edits};
-ghost use Rattle.ifdef_out.specs.Places.{hunks_left, step_edit, EditLies};
+ghost use Rattle.ifdef_out.specs.Places.{hunks_at, step_edit, IsStep, Lies};
 
 use crate::place::{LineEdit, Place, Step};
 use hunk_apply::turned;
@@ -21,7 +21,7 @@ use hunk_core::{Hunk, HunkLine, Mark, Side, Verdict};
 pub fn hunk_start(hunks: &[Hunk], verdicts: &[Verdict], row: usize) -> Place
     requires rows { length verdicts.now ≡ length hunks.now }
     requires tried { All IsTried verdicts.now }
-    ensures left { (text : List ℕ) (side : Side) → hunks_left text side result (drop row hunks.now) (drop (row + 1) verdicts.now) ≡ placed_edits (drop row verdicts.now) (taken_all text side (drop row hunks.now)) }
+    ensures left { (text : List ℕ) → (side : Side) → hunks_at text side verdicts.now hunks.now result.row result.line result.next ≡ placed_edits (drop row verdicts.now) (taken_all text side (drop row hunks.now)) }
     ensures row { result.row ≡ row }
 {
     if row >= hunks.len() {
@@ -31,26 +31,34 @@ pub fn hunk_start(hunks: &[Hunk], verdicts: &[Verdict], row: usize) -> Place
             next: 1,
         };
     }
-    match verdicts[row] {
-        Verdict::At { line, .. } => Place {
+    if let Verdict::At { line, .. } = verdicts[row] {
+        return Place {
             row,
             line: 0,
             next: line,
-        },
-        Verdict::Untried | Verdict::Ignored | Verdict::Nowhere => Place {
-            row,
-            line: hunks[row].body.len(),
-            next: 1,
-        },
+        };
+    }
+    Place {
+        row,
+        line: hunks[row].body.len(),
+        next: 1,
     }
 }
 
 /// The next step over hunks, unless none is left.
-pub fn hunk_step(hunks: &[Hunk], side: Side, verdicts: &[Verdict], place: Place) -> Option<Step>
-    requires few { All (λ h. length h.body.items < 2 ^ 32) hunks.now }
+pub fn hunk_step(
+    text: &[u8],
+    hunks: &[Hunk],
+    side: Side,
+    verdicts: &[Verdict],
+    place: Place,
+) -> Option<Step>
+    requires lawful { All (IsLawful text.now) hunks.now }
     requires rows { length verdicts.now ≡ length hunks.now }
     requires tried { All IsTried verdicts.now }
+    ensures { MatchOption result (hunks_at text.now side verdicts.now hunks.now place.row place.line place.next ≡ []) (IsStep text.now (hunks_at text.now side verdicts.now hunks.now) (length hunks.now) place) }
 {
+    let _length = text.len();
     if place.row >= hunks.len() {
         return None;
     }
@@ -67,6 +75,11 @@ pub fn hunk_step(hunks: &[Hunk], side: Side, verdicts: &[Verdict], place: Place)
 /// The step over a line of a body.
 fn line_step(line: HunkLine, side: Side, place: Place) -> Step
     requires { place.line < 2 ^ 32 }
+    ensures edit { (text : List ℕ) → (rest : List Edit) → marked_edits (turned_mark side line.mark) place.next (bytes_at text line.span) (λ _. rest) ≡ step_edit text result.edit ++ rest }
+    ensures row { result.behind.row ≡ place.row }
+    ensures line { result.behind.line ≡ place.line + 1 }
+    ensures next { result.behind.next ≡ place.next + (if is_on_side side line.mark then 1 else 0) }
+    ensures lies { (text : List ℕ) → LiesIn text line.span → IfSome result.edit (Lies text) }
 {
     match turned(line.mark, side) {
         Mark::Keep => Step {

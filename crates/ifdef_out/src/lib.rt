@@ -11,6 +11,7 @@ mod marking;
 mod place;
 mod put;
 mod script;
+mod writing;
 
 pub use put::put_ifdef;
 use line_store::LineFault;
@@ -24,5 +25,3 @@ pub enum IfdefFault {
     Write,
 }
 
-#[cfg(test)]
-mod tests;

@@ -1,6 +1,14 @@
 //! The output for a file patch.
 
-ghost use Rattle.std.specs.Prelude.{◌≡◌};
+ghost use Rattle.std.specs.Prelude.{◌≡◌, ℕ, List, length, IsTrue, Some, OnOk, OnErr, IfErr};
+ghost use Rattle.std.specs.List.{All};
+ghost use Rattle.line_store.specs.Store.{Keeps};
+ghost use Rattle.outside.specs.SinkView.{SinkPasses, Receives, ReceivesPart};
+ghost use Rattle.file_patch.specs.PlainPatch.{IsLawfulChange, change_of, row_count};
+ghost use Rattle.hunk_apply.specs.Session.{IsTried};
+ghost use Rattle.ifdef_out.specs.Faults.{HasIfdefCause};
+ghost use Rattle.ifdef_out.specs.Placed.{ArePlaced, change_edits};
+ghost use Rattle.ifdef_out.specs.Tagged.{ifdef_text, is_macro_name};
 
 use crate::IfdefFault;
 use crate::blocks::put_blocks;
@@ -11,8 +19,9 @@ use hunk_core::{Side, Verdict};
 use line_store::LineStore;
 use outside::Sink;
 
-/// Writes the store's lines and those that a file patch adds, where its hunks were placed. `define` is the name that
-/// the conditions test. The store's lines are lent to the sink one by one.
+/// Writes the store's lines and those that a file patch adds where its hunks were placed, parted by conditions on the
+/// name `define`. The verdicts are those of applying the file patch to this store. The store's lines are lent to the
+/// sink one by one.
 pub fn put_ifdef<S: LineStore, O: Sink>(
     store: &mut S,
     text: &[u8],
@@ -21,7 +30,19 @@ pub fn put_ifdef<S: LineStore, O: Sink>(
     verdicts: &[Verdict],
     define: &str,
     out: &mut O,
-) -> Result<(), IfdefFault> {
+) -> Result<(), IfdefFault>
+    requires lawful { IsLawfulChange text.now patch.now.change }
+    requires rows { length verdicts.now ≡ row_count patch.now.change }
+    requires tried { All IsTried verdicts.now }
+    requires placed { (lines : List (List ℕ)) → (S.seen store.old).told ≡ Some lines → ArePlaced lines verdicts.now side (change_of text.now patch.now.change) }
+    requires name { IsTrue (is_macro_name define.now) }
+    ensures received { OnOk result ((lines : List (List ℕ)) → (S.seen store.old).told ≡ Some lines → Receives (O.view out.old) (O.view out.new) (ifdef_text define.now lines (change_edits verdicts.now side (change_of text.now patch.now.change)))) }
+    ensures part { OnErr result ((lines : List (List ℕ)) → (S.seen store.old).told ≡ Some lines → ReceivesPart (O.view out.old) (O.view out.new) (ifdef_text define.now lines (change_edits verdicts.now side (change_of text.now patch.now.change)))) }
+    ensures keeps { Keeps (S.seen store.old) (S.seen store.new) }
+    ensures sink { SinkPasses (O.view out.old) (O.view out.new) }
+    ensures rest { O.same_rest out.old out.new }
+    ensures cause { IfErr result (λ e. HasIfdefCause e (S.seen store.old) (S.seen store.new) (O.view out.old) (O.view out.new)) }
+{
     let edits = Edits {
         text,
         change: &patch.change,

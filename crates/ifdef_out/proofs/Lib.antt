@@ -1,0 +1,3 @@
+pub mod WholeLemmas
+pub mod HunkSteps
+pub mod ScriptSteps
