@@ -83,6 +83,8 @@ line-added lines es q line le = by (eqb q (length lines + 1)) refl
     by false e = added-within lines es q line (let ne : q ≢ length lines + 1 = grind (arith, nat_tests) in omega arith)
 
 -- behind the last line nothing is left
+pub none-left : (lines : List (List ℕ)) (es : List Edit) (q : ℕ) → length lines < q → AreFrom (q + 1) es → whole_from lines es q ≡ []
+none-left lines es q lt from = rows-none lines es q lt ∙ ap (map added) (no-gap es (length lines + 1) (q + 1) from (omega arith))
+
 pub nothing-left : (lines : List (List ℕ)) → whole_from lines [] (length lines + 1) ≡ []
-unfolding gap
-nothing-left lines = rows-none lines [] (length lines + 1) (omega arith)
+nothing-left lines = none-left lines [] (length lines + 1) (omega arith) tt

@@ -1,0 +1,87 @@
+-- A body, tagged line by line.
+use Rattle.std.proofs.Common.{◌≡◌, ◌⊎◌, inl, inr, ℕ, zero, suc, ◌+◌, ◌-◌, ◌<◌, ◌≤◌, ◌||◌, List, [], ◌∷◌, ◌++◌, length, map, Bool, true, false, refl, sym, ap, subst, ◌∙◌, arith, append_assoc}
+use Rattle.std.proofs.lemmas.List.{append-nil, map-append}
+use Rattle.std.proofs.lemmas.Bool.{cases_lt}
+use Rattle.line_store.specs.Store.{line_at}
+use Rattle.hunk_core.specs.PlainHunk.{Marked}
+use Rattle.hunk_apply.specs.Splice.{Edit, AreFrom}
+use Rattle.hunk_apply.specs.Written.{lines_between}
+use Rattle.hunk_apply.proofs.CopyLemmas.{none-between, split-at}
+use Rattle.hunk_apply.proofs.SpliceLemmas.{sooner}
+use Rattle.ifdef_out.specs.Whole.{added, whole_from}
+use Rattle.ifdef_out.specs.Tagged.{Tag, Both, Tagged, as_tag, block, closed, tagged_behind, texts}
+use Rattle.ifdef_out.specs.Chain.{is_some_line}
+use Rattle.ifdef_out.proofs.WholeLemmas.{kept, dropped, line-kept, none-left}
+
+pub tagged-none : (name : List ℕ) (ds as : List (List ℕ)) → tagged_behind name ds as [] ≡ block name ds as
+unfolding tagged_behind
+tagged-none name ds as = refl
+
+pub tagged-kept : (name : List ℕ) (ds as : List (List ℕ)) (line : List ℕ) (ms : List Marked) → tagged_behind name ds as (kept line ∷ ms) ≡ block name ds as ++ (as_tag Both line ∷ tagged_behind name [] [] ms)
+unfolding tagged_behind
+tagged-kept name ds as line ms = refl
+
+pub tagged-dropped : (name : List ℕ) (ds as : List (List ℕ)) (line : List ℕ) (ms : List Marked) → tagged_behind name ds as (dropped line ∷ ms) ≡ tagged_behind name (ds ++ line ∷ []) as ms
+unfolding tagged_behind
+tagged-dropped name ds as line ms = refl
+
+pub tagged-added : (name : List ℕ) (ds as : List (List ℕ)) (line : List ℕ) (ms : List Marked) → tagged_behind name ds as (added line ∷ ms) ≡ tagged_behind name ds (as ++ line ∷ []) ms
+unfolding tagged_behind
+tagged-added name ds as line ms = refl
+
+-- a block ends in front of a kept line, and at the end
+pub closes : (name : List ℕ) (ds as : List (List ℕ)) (lines : List (List ℕ)) (es : List Edit) (q : ℕ) → AreFrom (q + 1) es → q ≤ length lines + 1
+    → tagged_behind name ds as (whole_from lines es q) ≡ block name ds as ++ tagged_behind name [] [] (whole_from lines es q)
+closes name ds as lines es q from le = by (cases_lt (length lines) q)
+  where
+    by : (length lines < q) ⊎ (q ≤ length lines) → tagged_behind name ds as (whole_from lines es q) ≡ block name ds as ++ tagged_behind name [] [] (whole_from lines es q)
+    by (inl lt) =
+        let none : whole_from lines es q ≡ [] = none-left lines es q lt from in
+        ap (tagged_behind name ds as) none ∙ tagged-none name ds as ∙ sym (append-nil (block name ds as))
+        ∙ ap (λ r. block name ds as ++ r) (sym (tagged-none name [] []))
+        ∙ ap (λ ms. block name ds as ++ tagged_behind name [] [] ms) (sym none)
+    by (inr within) =
+        let here : whole_from lines es q ≡ kept (line_at lines q) ∷ whole_from lines es (q + 1) = line-kept lines es q within from in
+        ap (tagged_behind name ds as) here ∙ tagged-kept name ds as (line_at lines q) (whole_from lines es (q + 1))
+        ∙ ap (λ r. block name ds as ++ r) (sym (tagged-kept name [] [] (line_at lines q) (whole_from lines es (q + 1))))
+        ∙ ap (λ ms. block name ds as ++ tagged_behind name [] [] ms) (sym here)
+
+pub texts-append : (ts us : List Tagged) → texts (ts ++ us) ≡ texts ts ++ texts us
+texts-append ts us = map-append (λ t. t.line) ts us
+
+pub texts-as : (tag : Tag) (ls : List (List ℕ)) → texts (map (as_tag tag) ls) ≡ ls
+texts-as tag [] = refl
+texts-as tag (l ∷ ls) = ap (λ r. l ∷ r) (texts-as tag ls)
+
+-- a block with a line
+pub is-closed : (name : List ℕ) (ds as : List (List ℕ)) → (is_some_line ds || is_some_line as) ≡ true → block name ds as ≡ closed name ds as
+is-closed name [] [] some = cc
+is-closed name [] (a ∷ as) some = refl
+is-closed name (d ∷ ds) as some = refl
+
+-- lines in front of all edits
+abbrev rest_of : List ℕ → List (List ℕ) → List Edit → ℕ → List (List ℕ)
+rest_of name lines es q = texts (tagged_behind name [] [] (whole_from lines es q))
+
+kept-on : (name : List ℕ) (lines : List (List ℕ)) (es : List Edit) (from n : ℕ) → 1 ≤ from → from + n ≤ length lines + 1 → AreFrom (from + n) es
+    → rest_of name lines es from ≡ lines_between lines from (from + n) ++ rest_of name lines es (from + n)
+kept-on name lines es from zero low high h =
+    let z : from + 0 ≡ from = omega arith in
+    sym (none-between lines from (rest_of name lines es from)) ∙ ap (λ k. lines_between lines from k ++ rest_of name lines es k) (sym z)
+kept-on name lines es from (suc n) low high h =
+    let next : (from + 1) + n ≡ from + suc n = omega arith in
+    let later : AreFrom ((from + 1) + n) es = subst (λ k. AreFrom k es) (sym next) h in
+    let behind : AreFrom (from + 1) es = sooner (from + 1) ((from + 1) + n) es (omega arith) later in
+    ap (λ ms. texts (tagged_behind name [] [] ms)) (line-kept lines es from (omega arith) behind)
+    ∙ ap texts (tagged-kept name [] [] (line_at lines from) (whole_from lines es (from + 1)))
+    ∙ ap (λ r. line_at lines from ∷ r) (kept-on name lines es (from + 1) n (omega arith) (omega arith) later)
+    ∙ sym (none-between lines from (line_at lines from ∷ (lines_between lines (from + 1) ((from + 1) + n) ++ rest_of name lines es ((from + 1) + n))))
+    ∙ split-at lines from from ((from + 1) + n) (rest_of name lines es ((from + 1) + n)) low (omega arith) (omega arith) (omega arith)
+    ∙ ap (λ k. lines_between lines from k ++ rest_of name lines es k) next
+
+pub kept-to : (name : List ℕ) (lines : List (List ℕ)) (es : List Edit) (from to : ℕ) → 1 ≤ from → from ≤ to → to ≤ length lines + 1 → AreFrom to es
+    → texts (tagged_behind name [] [] (whole_from lines es from)) ≡ lines_between lines from to ++ texts (tagged_behind name [] [] (whole_from lines es to))
+kept-to name lines es from to low order high h =
+    let e : from + (to - from) ≡ to = omega arith in
+    kept-on name lines es from (to - from) low (omega arith) (subst (λ k. AreFrom k es) (sym e) h)
+    ∙ ap (λ k. lines_between lines from k ++ rest_of name lines es k) e
