@@ -82,7 +82,7 @@ cut n q (e ∷ es) le h = by (is_here e q) (λ here. cut n (next_gap q e.added) 
 
 -- the lines of the block are gathered behind those of one that isn't closed
 abbrev Gathers : List ℕ → List (List ℕ) → List (List ℕ) → List (List ℕ) → List Edit → ℕ → Type 0
-Gathers name lines ds as es q = tagged_behind name ds as (whole_from lines es q) ≡ tagged_behind name (ds ++ lines_between lines q (block_end q es)) (as ++ block_added q es) (whole_from lines (behind_block q es) (block_end q es))
+Gathers name lines ds ns es q = tagged_behind name ds ns (whole_from lines es q) ≡ tagged_behind name (ds ++ lines_between lines q (block_end q es)) (ns ++ block_added q es) (whole_from lines (behind_block q es) (block_end q es))
 
 no-lines : (lines : List (List ℕ)) (q : ℕ) → lines_between lines q q ≡ []
 no-lines lines q = sym (append-nil (lines_between lines q q)) ∙ none-between lines q []
@@ -95,62 +95,62 @@ next-between lines q to low lt high =
     ∙ append-nil (lines_between lines q to)
 
 -- without an edit of the block
-gathers-none : (name : List ℕ) (lines ds as : List (List ℕ)) (es : List Edit) (q : ℕ) → block_end q es ≡ q → block_added q es ≡ [] → behind_block q es ≡ es → Gathers name lines ds as es q
-gathers-none name lines ds as es q end none behind =
-    sym (ap (λ k. tagged_behind name (ds ++ lines_between lines q k) (as ++ block_added q es) (whole_from lines (behind_block q es) k)) end
-    ∙ ap (λ ls. tagged_behind name (ds ++ ls) (as ++ block_added q es) (whole_from lines (behind_block q es) q)) (no-lines lines q)
-    ∙ ap (λ ls. tagged_behind name ls (as ++ block_added q es) (whole_from lines (behind_block q es) q)) (append-nil ds)
-    ∙ ap (λ ls. tagged_behind name ds (as ++ ls) (whole_from lines (behind_block q es) q)) none
-    ∙ ap (λ ls. tagged_behind name ds ls (whole_from lines (behind_block q es) q)) (append-nil as)
-    ∙ ap (λ xs. tagged_behind name ds as (whole_from lines xs q)) behind)
+gathers-none : (name : List ℕ) (lines ds ns : List (List ℕ)) (es : List Edit) (q : ℕ) → block_end q es ≡ q → block_added q es ≡ [] → behind_block q es ≡ es → Gathers name lines ds ns es q
+gathers-none name lines ds ns es q end none behind =
+    sym (ap (λ k. tagged_behind name (ds ++ lines_between lines q k) (ns ++ block_added q es) (whole_from lines (behind_block q es) k)) end
+    ∙ ap (λ ls. tagged_behind name (ds ++ ls) (ns ++ block_added q es) (whole_from lines (behind_block q es) q)) (no-lines lines q)
+    ∙ ap (λ ls. tagged_behind name ls (ns ++ block_added q es) (whole_from lines (behind_block q es) q)) (append-nil ds)
+    ∙ ap (λ ls. tagged_behind name ds (ns ++ ls) (whole_from lines (behind_block q es) q)) none
+    ∙ ap (λ ls. tagged_behind name ds ls (whole_from lines (behind_block q es) q)) (append-nil ns)
+    ∙ ap (λ xs. tagged_behind name ds ns (whole_from lines xs q)) behind)
 
-gathers-drop : (name : List ℕ) (lines ds as : List (List ℕ)) (es : List Edit) (q : ℕ) → 1 ≤ q → q ≤ length lines → AreInOrder (length lines) (q + 1) es → Gathers name lines (ds ++ line_at lines q ∷ []) as es (q + 1) → Gathers name lines ds as (drop_line q ∷ es) q
-gathers-drop name lines ds as es q low le h more =
+gathers-drop : (name : List ℕ) (lines ds ns : List (List ℕ)) (es : List Edit) (q : ℕ) → 1 ≤ q → q ≤ length lines → AreInOrder (length lines) (q + 1) es → Gathers name lines (ds ++ line_at lines q ∷ []) ns es (q + 1) → Gathers name lines ds ns (drop_line q ∷ es) q
+gathers-drop name lines ds ns es q low le h more =
     let to : ℕ = block_end (q + 1) es in
     let c : Cut (length lines) (q + 1) es = cut (length lines) (q + 1) es (omega arith) h in
     let on : q + 1 ≤ block_end (q + 1) es = c.on in
-    ap (tagged_behind name ds as) (line-dropped lines es q le (order-from (length lines) (q + 1) es h))
-    ∙ tagged-dropped name ds as (line_at lines q) (whole_from lines es (q + 1))
+    ap (tagged_behind name ds ns) (line-dropped lines es q le (order-from (length lines) (q + 1) es h))
+    ∙ tagged-dropped name ds ns (line_at lines q) (whole_from lines es (q + 1))
     ∙ more
-    ∙ ap (λ ls. tagged_behind name ls (as ++ block_added (q + 1) es) (whole_from lines (behind_block (q + 1) es) to))
+    ∙ ap (λ ls. tagged_behind name ls (ns ++ block_added (q + 1) es) (whole_from lines (behind_block (q + 1) es) to))
     (append_assoc ds (line_at lines q ∷ []) (lines_between lines (q + 1) to) ∙ ap (λ r. ds ++ r) (next-between lines q to low (omega arith) c.within))
-    ∙ sym (ap (λ k. tagged_behind name (ds ++ lines_between lines q k) (as ++ block_added q (drop_line q ∷ es)) (whole_from lines (behind_block q (drop_line q ∷ es)) k)) (end-more q (drop_line q) es refl)
-    ∙ ap (λ ls. tagged_behind name (ds ++ lines_between lines q to) (as ++ ls) (whole_from lines (behind_block q (drop_line q ∷ es)) to)) (added-more q (drop_line q) es refl)
-    ∙ ap (λ xs. tagged_behind name (ds ++ lines_between lines q to) (as ++ block_added (q + 1) es) (whole_from lines xs to)) (behind-more q (drop_line q) es refl))
+    ∙ sym (ap (λ k. tagged_behind name (ds ++ lines_between lines q k) (ns ++ block_added q (drop_line q ∷ es)) (whole_from lines (behind_block q (drop_line q ∷ es)) k)) (end-more q (drop_line q) es refl)
+    ∙ ap (λ ls. tagged_behind name (ds ++ lines_between lines q to) (ns ++ ls) (whole_from lines (behind_block q (drop_line q ∷ es)) to)) (added-more q (drop_line q) es refl)
+    ∙ ap (λ xs. tagged_behind name (ds ++ lines_between lines q to) (ns ++ block_added (q + 1) es) (whole_from lines xs to)) (behind-more q (drop_line q) es refl))
 
-gathers-add : (name : List ℕ) (lines ds as : List (List ℕ)) (es : List Edit) (q : ℕ) (line : List ℕ) → q ≤ length lines + 1 → Gathers name lines ds (as ++ line ∷ []) es q → Gathers name lines ds as (add q line ∷ es) q
-gathers-add name lines ds as es q line le more =
+gathers-add : (name : List ℕ) (lines ds ns : List (List ℕ)) (es : List Edit) (q : ℕ) (line : List ℕ) → q ≤ length lines + 1 → Gathers name lines ds (ns ++ line ∷ []) es q → Gathers name lines ds ns (add q line ∷ es) q
+gathers-add name lines ds ns es q line le more =
     let to : ℕ = block_end q es in
-    ap (tagged_behind name ds as) (line-added lines es q line le)
-    ∙ tagged-added name ds as line (whole_from lines es q)
+    ap (tagged_behind name ds ns) (line-added lines es q line le)
+    ∙ tagged-added name ds ns line (whole_from lines es q)
     ∙ more
-    ∙ ap (λ ls. tagged_behind name (ds ++ lines_between lines q to) ls (whole_from lines (behind_block q es) to)) (append_assoc as (line ∷ []) (block_added q es))
-    ∙ sym (ap (λ k. tagged_behind name (ds ++ lines_between lines q k) (as ++ block_added q (add q line ∷ es)) (whole_from lines (behind_block q (add q line ∷ es)) k)) (end-more q (add q line) es refl)
-    ∙ ap (λ ls. tagged_behind name (ds ++ lines_between lines q to) (as ++ ls) (whole_from lines (behind_block q (add q line ∷ es)) to)) (added-more q (add q line) es refl)
-    ∙ ap (λ xs. tagged_behind name (ds ++ lines_between lines q to) (as ++ (line ∷ block_added q es)) (whole_from lines xs to)) (behind-more q (add q line) es refl))
+    ∙ ap (λ ls. tagged_behind name (ds ++ lines_between lines q to) ls (whole_from lines (behind_block q es) to)) (append_assoc ns (line ∷ []) (block_added q es))
+    ∙ sym (ap (λ k. tagged_behind name (ds ++ lines_between lines q k) (ns ++ block_added q (add q line ∷ es)) (whole_from lines (behind_block q (add q line ∷ es)) k)) (end-more q (add q line) es refl)
+    ∙ ap (λ ls. tagged_behind name (ds ++ lines_between lines q to) (ns ++ ls) (whole_from lines (behind_block q (add q line ∷ es)) to)) (added-more q (add q line) es refl)
+    ∙ ap (λ xs. tagged_behind name (ds ++ lines_between lines q to) (ns ++ (line ∷ block_added q es)) (whole_from lines xs to)) (behind-more q (add q line) es refl))
 
 abbrev edit_of : ℕ → Option (List ℕ) → Edit
 edit_of at o = record { at = at; added = o }
 
-gathers : (name : List ℕ) (lines ds as : List (List ℕ)) (es : List Edit) (q : ℕ) → 1 ≤ q → q ≤ length lines + 1 → AreInOrder (length lines) q es → Gathers name lines ds as es q
-gathers name lines ds as [] q low le h = gathers-none name lines ds as [] q (end-none q) (added-none q) (behind-none q)
-gathers name lines ds as (e ∷ es) q low le h =
+gathers : (name : List ℕ) (lines ds ns : List (List ℕ)) (es : List Edit) (q : ℕ) → 1 ≤ q → q ≤ length lines + 1 → AreInOrder (length lines) q es → Gathers name lines ds ns es q
+gathers name lines ds ns [] q low le h = gathers-none name lines ds ns [] q (end-none q) (added-none q) (behind-none q)
+gathers name lines ds ns (e ∷ es) q low le h =
     by (is_here e q) e.added h.1 h.2
-    (λ k ls. gathers name lines (ds ++ ls) as es (q + 1) (omega arith) k)
-    (λ line. gathers name lines ds (as ++ line ∷ []) es q low le)
+    (λ k ls. gathers name lines (ds ++ ls) ns es (q + 1) (omega arith) k)
+    (λ line. gathers name lines ds (ns ++ line ∷ []) es q low le)
   where
     by : (e.at ≡ q) ⊎ (e.at ≢ q) → (o : Option (List ℕ)) → e.at ≤ last_at (length lines) o → AreInOrder (length lines) (next_gap e.at o) es
-        → (q + 1 ≤ length lines + 1 → (ls : List (List ℕ)) → AreInOrder (length lines) (q + 1) es → Gathers name lines (ds ++ ls) as es (q + 1))
-        → ((line : List ℕ) → AreInOrder (length lines) q es → Gathers name lines ds (as ++ line ∷ []) es q)
-        → Gathers name lines ds as (edit_of e.at o ∷ es) q
-    by (inr away) o within later dropped added = gathers-none name lines ds as (edit_of e.at o ∷ es) q (end-stop q (edit_of e.at o) es away) (added-stop q (edit_of e.at o) es away) (behind-stop q (edit_of e.at o) es away)
+        → (q + 1 ≤ length lines + 1 → (ls : List (List ℕ)) → AreInOrder (length lines) (q + 1) es → Gathers name lines (ds ++ ls) ns es (q + 1))
+        → ((line : List ℕ) → AreInOrder (length lines) q es → Gathers name lines ds (ns ++ line ∷ []) es q)
+        → Gathers name lines ds ns (edit_of e.at o ∷ es) q
+    by (inr away) o within later dropped added = gathers-none name lines ds ns (edit_of e.at o ∷ es) q (end-stop q (edit_of e.at o) es away) (added-stop q (edit_of e.at o) es away) (behind-stop q (edit_of e.at o) es away)
     by (inl here) None within later dropped added =
         let le : q ≤ length lines = omega arith in
         let next : AreInOrder (length lines) (q + 1) es = subst (λ k. AreInOrder (length lines) (k + 1) es) here later in
-        subst (λ k. Gathers name lines ds as (edit_of k None ∷ es) q) (sym here) (gathers-drop name lines ds as es q low le next (dropped (omega arith) (line_at lines q ∷ []) next))
+        subst (λ k. Gathers name lines ds ns (edit_of k None ∷ es) q) (sym here) (gathers-drop name lines ds ns es q low le next (dropped (omega arith) (line_at lines q ∷ []) next))
     by (inl here) (Some line) within later dropped added =
         let next : AreInOrder (length lines) q es = subst (λ k. AreInOrder (length lines) k es) here later in
-        subst (λ k. Gathers name lines ds as (edit_of k (Some line) ∷ es) q) (sym here) (gathers-add name lines ds as es q line le (added line next))
+        subst (λ k. Gathers name lines ds ns (edit_of k (Some line) ∷ es) q) (sym here) (gathers-add name lines ds ns es q line le (added line next))
 
 -- a block that begins with an edit has a line
 some-between : (lines : List (List ℕ)) (q to : ℕ) → 1 ≤ q → q < to → to ≤ length lines + 1 → is_some_line (lines_between lines q to) ≡ true
@@ -184,13 +184,13 @@ next-block name lines e es q low h =
     let c : Cut (length lines) e.at (e ∷ es) = cut (length lines) e.at (e ∷ es) high here in
     let end : ℕ = block_end e.at (e ∷ es) in
     let ds : List (List ℕ) = lines_between lines e.at end in
-    let as : List (List ℕ) = block_added e.at (e ∷ es) in
+    let ns : List (List ℕ) = block_added e.at (e ∷ es) in
     let rest : List Edit = behind_block e.at (e ∷ es) in
     kept-to name lines (e ∷ es) q e.at low le high (order-from (length lines) e.at (e ∷ es) here)
     ∙ ap (λ r. lines_between lines q e.at ++ texts r) (gathers name lines [] [] (e ∷ es) e.at (omega arith) high here)
-    ∙ ap (λ r. lines_between lines q e.at ++ texts r) (closes name ds as lines rest end c.apart c.within)
-    ∙ ap (λ b. lines_between lines q e.at ++ texts (b ++ tagged_behind name [] [] (whole_from lines rest end))) (is-closed name ds as (has-line lines e es (omega arith) here))
-    ∙ ap (λ r. lines_between lines q e.at ++ r) (texts-append (closed name ds as) (tagged_behind name [] [] (whole_from lines rest end)))
+    ∙ ap (λ r. lines_between lines q e.at ++ texts r) (closes name ds ns lines rest end c.apart c.within)
+    ∙ ap (λ b. lines_between lines q e.at ++ texts (b ++ tagged_behind name [] [] (whole_from lines rest end))) (is-closed name ds ns (has-line lines e es (omega arith) here))
+    ∙ ap (λ r. lines_between lines q e.at ++ r) (texts-append (closed name ds ns) (tagged_behind name [] [] (whole_from lines rest end)))
   where
     at-most : (o : Option (List ℕ)) → e.at ≤ last_at (length lines) o → e.at ≤ length lines + 1
     at-most None w = omega arith

@@ -9,55 +9,55 @@ use Rattle.hunk_apply.specs.Written.{lines_between}
 use Rattle.hunk_apply.proofs.CopyLemmas.{none-between, split-at}
 use Rattle.hunk_apply.proofs.SpliceLemmas.{sooner}
 use Rattle.ifdef_out.specs.Whole.{added, whole_from}
-use Rattle.ifdef_out.specs.Tagged.{Tag, Both, Tagged, as_tag, block, closed, tagged_behind, texts}
+use Rattle.ifdef_out.specs.Tagged.{Tag, Both, Tagged, as_tag, block, closed, else_line, else_mark, tagged_behind, texts}
 use Rattle.ifdef_out.specs.Chain.{is_some_line}
 use Rattle.ifdef_out.proofs.WholeLemmas.{kept, dropped, line-kept, none-left}
 
-pub tagged-none : (name : List ℕ) (ds as : List (List ℕ)) → tagged_behind name ds as [] ≡ block name ds as
+pub tagged-none : (name : List ℕ) (ds ns : List (List ℕ)) → tagged_behind name ds ns [] ≡ block name ds ns
 unfolding tagged_behind
-tagged-none name ds as = refl
+tagged-none name ds ns = refl
 
-pub tagged-kept : (name : List ℕ) (ds as : List (List ℕ)) (line : List ℕ) (ms : List Marked) → tagged_behind name ds as (kept line ∷ ms) ≡ block name ds as ++ (as_tag Both line ∷ tagged_behind name [] [] ms)
+pub tagged-kept : (name : List ℕ) (ds ns : List (List ℕ)) (line : List ℕ) (ms : List Marked) → tagged_behind name ds ns (kept line ∷ ms) ≡ block name ds ns ++ (as_tag Both line ∷ tagged_behind name [] [] ms)
 unfolding tagged_behind
-tagged-kept name ds as line ms = refl
+tagged-kept name ds ns line ms = refl
 
-pub tagged-dropped : (name : List ℕ) (ds as : List (List ℕ)) (line : List ℕ) (ms : List Marked) → tagged_behind name ds as (dropped line ∷ ms) ≡ tagged_behind name (ds ++ line ∷ []) as ms
+pub tagged-dropped : (name : List ℕ) (ds ns : List (List ℕ)) (line : List ℕ) (ms : List Marked) → tagged_behind name ds ns (dropped line ∷ ms) ≡ tagged_behind name (ds ++ line ∷ []) ns ms
 unfolding tagged_behind
-tagged-dropped name ds as line ms = refl
+tagged-dropped name ds ns line ms = refl
 
-pub tagged-added : (name : List ℕ) (ds as : List (List ℕ)) (line : List ℕ) (ms : List Marked) → tagged_behind name ds as (added line ∷ ms) ≡ tagged_behind name ds (as ++ line ∷ []) ms
+pub tagged-added : (name : List ℕ) (ds ns : List (List ℕ)) (line : List ℕ) (ms : List Marked) → tagged_behind name ds ns (added line ∷ ms) ≡ tagged_behind name ds (ns ++ line ∷ []) ms
 unfolding tagged_behind
-tagged-added name ds as line ms = refl
+tagged-added name ds ns line ms = refl
 
 -- a block ends in front of a kept line, and at the end
-pub closes : (name : List ℕ) (ds as : List (List ℕ)) (lines : List (List ℕ)) (es : List Edit) (q : ℕ) → AreFrom (q + 1) es → q ≤ length lines + 1
-    → tagged_behind name ds as (whole_from lines es q) ≡ block name ds as ++ tagged_behind name [] [] (whole_from lines es q)
-closes name ds as lines es q from le = by (cases_lt (length lines) q)
+pub closes : (name : List ℕ) (ds ns : List (List ℕ)) (lines : List (List ℕ)) (es : List Edit) (q : ℕ) → AreFrom (q + 1) es → q ≤ length lines + 1
+    → tagged_behind name ds ns (whole_from lines es q) ≡ block name ds ns ++ tagged_behind name [] [] (whole_from lines es q)
+closes name ds ns lines es q from le = by (cases_lt (length lines) q)
   where
-    by : (length lines < q) ⊎ (q ≤ length lines) → tagged_behind name ds as (whole_from lines es q) ≡ block name ds as ++ tagged_behind name [] [] (whole_from lines es q)
+    by : (length lines < q) ⊎ (q ≤ length lines) → tagged_behind name ds ns (whole_from lines es q) ≡ block name ds ns ++ tagged_behind name [] [] (whole_from lines es q)
     by (inl lt) =
         let none : whole_from lines es q ≡ [] = none-left lines es q lt from in
-        ap (tagged_behind name ds as) none ∙ tagged-none name ds as ∙ sym (append-nil (block name ds as))
-        ∙ ap (λ r. block name ds as ++ r) (sym (tagged-none name [] []))
-        ∙ ap (λ ms. block name ds as ++ tagged_behind name [] [] ms) (sym none)
+        ap (tagged_behind name ds ns) none ∙ tagged-none name ds ns ∙ sym (append-nil (block name ds ns))
+        ∙ ap (λ r. block name ds ns ++ r) (sym (tagged-none name [] []))
+        ∙ ap (λ ms. block name ds ns ++ tagged_behind name [] [] ms) (sym none)
     by (inr within) =
         let here : whole_from lines es q ≡ kept (line_at lines q) ∷ whole_from lines es (q + 1) = line-kept lines es q within from in
-        ap (tagged_behind name ds as) here ∙ tagged-kept name ds as (line_at lines q) (whole_from lines es (q + 1))
-        ∙ ap (λ r. block name ds as ++ r) (sym (tagged-kept name [] [] (line_at lines q) (whole_from lines es (q + 1))))
-        ∙ ap (λ ms. block name ds as ++ tagged_behind name [] [] ms) (sym here)
+        ap (tagged_behind name ds ns) here ∙ tagged-kept name ds ns (line_at lines q) (whole_from lines es (q + 1))
+        ∙ ap (λ r. block name ds ns ++ r) (sym (tagged-kept name [] [] (line_at lines q) (whole_from lines es (q + 1))))
+        ∙ ap (λ ms. block name ds ns ++ tagged_behind name [] [] ms) (sym here)
 
 pub texts-append : (ts us : List Tagged) → texts (ts ++ us) ≡ texts ts ++ texts us
 texts-append ts us = map-append (λ t. t.line) ts us
 
-pub texts-as : (tag : Tag) (ls : List (List ℕ)) → texts (map (as_tag tag) ls) ≡ ls
-texts-as tag [] = refl
-texts-as tag (l ∷ ls) = ap (λ r. l ∷ r) (texts-as tag ls)
+pub texts-ns : (tag : Tag) (ls : List (List ℕ)) → texts (map (as_tag tag) ls) ≡ ls
+texts-ns tag [] = refl
+texts-ns tag (l ∷ ls) = ap (λ r. l ∷ r) (texts-ns tag ls)
 
 -- a block with a line
-pub is-closed : (name : List ℕ) (ds as : List (List ℕ)) → (is_some_line ds || is_some_line as) ≡ true → block name ds as ≡ closed name ds as
+pub is-closed : (name : List ℕ) (ds ns : List (List ℕ)) → (is_some_line ds || is_some_line ns) ≡ true → block name ds ns ≡ closed name ds ns
 is-closed name [] [] some = cc
-is-closed name [] (a ∷ as) some = refl
-is-closed name (d ∷ ds) as some = refl
+is-closed name [] (a ∷ ns) some = refl
+is-closed name (d ∷ ds) ns some = refl
 
 -- lines in front of all edits
 abbrev rest_of : List ℕ → List (List ℕ) → List Edit → ℕ → List (List ℕ)
@@ -85,3 +85,8 @@ kept-to name lines es from to low order high h =
     let e : from + (to - from) ≡ to = omega arith in
     kept-on name lines es from (to - from) low (omega arith) (subst (λ k. AreFrom k es) (sym e) h)
     ∙ ap (λ k. lines_between lines from k ++ rest_of name lines es k) e
+
+-- in front of added lines
+pub else-one : (ns : List (List ℕ)) → is_some_line ns ≡ true → texts (else_mark ns) ≡ else_line ∷ []
+else-one [] some = cc
+else-one (a ∷ ns) some = refl
