@@ -84,7 +84,7 @@ cut n q (e ∷ es) le h = by (is_here e q) (λ here. cut n (next_gap q e.added) 
 abbrev Gathers : List ℕ → List (List ℕ) → List (List ℕ) → List (List ℕ) → List Edit → ℕ → Type 0
 Gathers name lines ds ns es q = tagged_behind name ds ns (whole_from lines es q) ≡ tagged_behind name (ds ++ lines_between lines q (block_end q es)) (ns ++ block_added q es) (whole_from lines (behind_block q es) (block_end q es))
 
-no-lines : (lines : List (List ℕ)) (q : ℕ) → lines_between lines q q ≡ []
+pub no-lines : (lines : List (List ℕ)) (q : ℕ) → lines_between lines q q ≡ []
 no-lines lines q = sym (append-nil (lines_between lines q q)) ∙ none-between lines q []
 
 next-between : (lines : List (List ℕ)) (q to : ℕ) → 1 ≤ q → q < to → to ≤ length lines + 1 → line_at lines q ∷ lines_between lines (q + 1) to ≡ lines_between lines q to
@@ -153,11 +153,15 @@ gathers name lines ds ns (e ∷ es) q low le h =
         subst (λ k. Gathers name lines ds ns (edit_of k (Some line) ∷ es) q) (sym here) (gathers-add name lines ds ns es q line le (added line next))
 
 -- a block that begins with an edit has a line
-some-between : (lines : List (List ℕ)) (q to : ℕ) → 1 ≤ q → q < to → to ≤ length lines + 1 → is_some_line (lines_between lines q to) ≡ true
+pub some-between : (lines : List (List ℕ)) (q to : ℕ) → 1 ≤ q → q < to → to ≤ length lines + 1 → is_some_line (lines_between lines q to) ≡ true
 some-between lines q to low lt high = ap is_some_line (sym (next-between lines q to low lt high))
 
+or-true : (b : Bool) → (b || true) ≡ true
+or-true true = refl
+or-true false = refl
+
 has-line : (lines : List (List ℕ)) (e : Edit) (es : List Edit) → 1 ≤ e.at → AreInOrder (length lines) e.at (e ∷ es) → (is_some_line (lines_between lines e.at (block_end e.at (e ∷ es))) || is_some_line (block_added e.at (e ∷ es))) ≡ true
-has-line lines e es low h = by e.added h.1.0 h.1.1
+has-line lines e es low h = by e.added h.1 h.2
   where
     by : (o : Option (List ℕ)) → e.at ≤ last_at (length lines) o → AreInOrder (length lines) (next_gap e.at o) es → (is_some_line (lines_between lines e.at (block_end e.at (edit_of e.at o ∷ es))) || is_some_line (block_added e.at (edit_of e.at o ∷ es))) ≡ true
     by None within later =
@@ -169,9 +173,6 @@ has-line lines e es low h = by e.added h.1.0 h.1.1
     by (Some line) within later =
         ap (λ ls. is_some_line (lines_between lines e.at (block_end e.at (add e.at line ∷ es))) || is_some_line ls) (added-more e.at (add e.at line) es refl)
         ∙ or-true (is_some_line (lines_between lines e.at (block_end e.at (add e.at line ∷ es))))
-    or-true : (b : Bool) → (b || true) ≡ true
-    or-true true = refl
-    or-true false = refl
 
 -- from line q on: the lines in front of the next block, the block, and what follows it
 pub next-block : (name : List ℕ) (lines : List (List ℕ)) (e : Edit) (es : List Edit) (q : ℕ) → 1 ≤ q → AreInOrder (length lines) q (e ∷ es)
@@ -179,8 +180,8 @@ pub next-block : (name : List ℕ) (lines : List (List ℕ)) (e : Edit) (es : Li
     ≡ lines_between lines q e.at ++ (texts (closed name (lines_between lines e.at (block_end e.at (e ∷ es))) (block_added e.at (e ∷ es))) ++ texts (tagged_behind name [] [] (whole_from lines (behind_block e.at (e ∷ es)) (block_end e.at (e ∷ es)))))
 next-block name lines e es q low h =
     let le : q ≤ e.at = h.0 in
-    let here : AreInOrder (length lines) e.at (e ∷ es) = (omega arith, h.1) in
-    let high : e.at ≤ length lines + 1 = at-most e.added h.1.0 in
+    let here : AreInOrder (length lines) e.at (e ∷ es) = (omega arith, h.1, h.2) in
+    let high : e.at ≤ length lines + 1 = at-most e.added h.1 in
     let c : Cut (length lines) e.at (e ∷ es) = cut (length lines) e.at (e ∷ es) high here in
     let end : ℕ = block_end e.at (e ∷ es) in
     let ds : List (List ℕ) = lines_between lines e.at end in
@@ -195,3 +196,38 @@ next-block name lines e es q low h =
     at-most : (o : Option (List ℕ)) → e.at ≤ last_at (length lines) o → e.at ≤ length lines + 1
     at-most None w = omega arith
     at-most (Some line) w = w
+
+-- the next edit with its block, as the walk meets them
+pub record Ahead (name : List ℕ) (lines : List (List ℕ)) (left : List Edit) (q : ℕ) (e : Edit) : Type 0 where
+  pub behind : q ≤ e.at
+  pub low : 1 ≤ e.at
+  pub high : e.at ≤ length lines + 1
+  pub cut : Cut (length lines) e.at left
+  pub is : texts (tagged_behind name [] [] (whole_from lines left q))
+      ≡ lines_between lines q e.at ++ (texts (closed name (lines_between lines e.at (block_end e.at left)) (block_added e.at left)) ++ texts (tagged_behind name [] [] (whole_from lines (behind_block e.at left) (block_end e.at left))))
+
+pub ahead : (name : List ℕ) (lines : List (List ℕ)) (left : List Edit) (q : ℕ) (e : Edit) (es : List Edit) → left ≡ e ∷ es → 1 ≤ q → AreInOrder (length lines) q left → Ahead name lines left q e
+ahead name lines left q e es is low h = subst (λ xs. Ahead name lines xs q e) (sym is) (here (subst (AreInOrder (length lines) q) is h))
+  where
+    at-most : (o : Option (List ℕ)) → e.at ≤ last_at (length lines) o → e.at ≤ length lines + 1
+    at-most None w = omega arith
+    at-most (Some line) w = w
+    here : AreInOrder (length lines) q (e ∷ es) → Ahead name lines (e ∷ es) q e
+    here k =
+        let le : q ≤ e.at = k.0 in
+        record {
+          behind = le;
+          low = omega arith;
+          high = at-most e.added k.1;
+          cut = cut (length lines) e.at (e ∷ es) (at-most e.added k.1) (omega arith, k.1, k.2);
+          is = next-block name lines e es q low k;
+        }
+
+-- a block doesn't end in front of its first line
+pub grows : (q : ℕ) (es : List Edit) → q ≤ block_end q es
+grows q [] = omega (arith, end-none q)
+grows q (e ∷ es) = by (is_here e q) (grows (next_gap q e.added) es)
+  where
+    by : (e.at ≡ q) ⊎ (e.at ≢ q) → next_gap q e.added ≤ block_end (next_gap q e.added) es → q ≤ block_end q (e ∷ es)
+    by (inl here) more = omega (arith, end-more q e es here, more, step-on q e.added)
+    by (inr away) more = omega (arith, end-stop q e es away)

@@ -70,3 +70,17 @@ or-none false = refl
 -- the lines of a block that begins with an edit
 pub added-next : (q : ℕ) (left : List Edit) (e : Edit) (es : List Edit) (to : ℕ) → left ≡ e ∷ es → e.at ≡ q → to ≡ next_gap q e.added → block_added q left ≡ added_line e.added ++ block_added to es
 added-next q left e es to is here next = ap (block_added q) is ∙ added-more q e es here ∙ ap (λ n. added_line e.added ++ block_added n es) (sym next)
+
+shorter : (q : ℕ) (es : List Edit) → length (behind_block q es) ≤ length es
+shorter q [] = omega (arith, ap length (behind-none q))
+shorter q (e ∷ es) = by (eqb e.at q) refl (shorter (next_gap q e.added) es)
+  where
+    by : (b : Bool) → eqb e.at q ≡ b → length (behind_block (next_gap q e.added) es) ≤ length es → length (behind_block q (e ∷ es)) ≤ length (e ∷ es)
+    by true t more = let here : e.at ≡ q = grind (arith, nat_tests) in omega (arith, ap length (behind-more q e es here), more)
+    by false t more = let away : e.at ≢ q = grind (arith, nat_tests) in omega (arith, ap length (behind-stop q e es away))
+
+-- the block of an edit has that edit
+pub fewer : (e : Edit) (es left : List Edit) → left ≡ e ∷ es → length (behind_block e.at left) < length left
+fewer e es left is =
+    let all : length (behind_block e.at left) ≡ length (behind_block (next_gap e.at e.added) es) = ap length (ap (behind_block e.at) is ∙ behind-more e.at e es refl) in
+    omega (arith, shorter (next_gap e.at e.added) es, ap length is)

@@ -6,3 +6,4 @@ pub mod StartLemmas
 pub mod TaggedLemmas
 pub mod BlockLemmas
 pub mod MarkLemmas
+pub mod Going

@@ -9,7 +9,7 @@ use Rattle.hunk_apply.specs.Written.{lines_between}
 use Rattle.hunk_apply.proofs.CopyLemmas.{none-between, split-at}
 use Rattle.hunk_apply.proofs.SpliceLemmas.{sooner}
 use Rattle.ifdef_out.specs.Whole.{added, whole_from}
-use Rattle.ifdef_out.specs.Tagged.{Tag, Both, Tagged, as_tag, block, closed, else_line, else_mark, tagged_behind, texts}
+use Rattle.ifdef_out.specs.Tagged.{Tag, Both, Old, New, Marking, Tagged, as_tag, block, closed, else_line, else_mark, endif_line, ifdef_line, ifndef_line, opening, tagged_behind, texts}
 use Rattle.ifdef_out.specs.Chain.{is_some_line}
 use Rattle.ifdef_out.proofs.WholeLemmas.{kept, dropped, line-kept, none-left}
 
@@ -90,3 +90,21 @@ kept-to name lines es from to low order high h =
 pub else-one : (ns : List (List ℕ)) → is_some_line ns ≡ true → texts (else_mark ns) ≡ else_line ∷ []
 else-one [] some = cc
 else-one (a ∷ ns) some = refl
+
+-- what stands in front of the added lines of a block
+pub opening-none : (name : List ℕ) (ns more : List (List ℕ)) → ifdef_line name ∷ more ≡ texts (opening name [] ns) ++ more
+opening-none name ns more = refl
+
+pub opening-some : (name : List ℕ) (ds ns more : List (List ℕ)) → is_some_line ds ≡ true → texts (opening name ds ns) ++ more ≡ ifndef_line name ∷ (ds ++ (texts (else_mark ns) ++ more))
+opening-some name [] ns more some = cc
+opening-some name (d ∷ ds) ns more some =
+    ap (λ ls. (ifndef_line name ∷ ls) ++ more) (texts-append (map (as_tag Old) (d ∷ ds)) (else_mark ns) ∙ ap (λ ls. ls ++ texts (else_mark ns)) (texts-ns Old (d ∷ ds)))
+    ∙ ap (λ ls. ifndef_line name ∷ ls) (append_assoc (d ∷ ds) (texts (else_mark ns)) more)
+
+-- a block in front of other lines
+pub closed-split : (name : List ℕ) (ds ns more : List (List ℕ)) → texts (closed name ds ns) ++ more ≡ texts (opening name ds ns) ++ (ns ++ (endif_line ∷ more))
+closed-split name ds ns more =
+    ap (λ ls. ls ++ more) (texts-append (opening name ds ns) (map (as_tag New) ns ++ as_tag Marking endif_line ∷ []))
+    ∙ append_assoc (texts (opening name ds ns)) (texts (map (as_tag New) ns ++ as_tag Marking endif_line ∷ [])) more
+    ∙ ap (λ ls. texts (opening name ds ns) ++ (ls ++ more)) (texts-append (map (as_tag New) ns) (as_tag Marking endif_line ∷ []) ∙ ap (λ ls. ls ++ endif_line ∷ []) (texts-ns New ns))
+    ∙ ap (λ ls. texts (opening name ds ns) ++ ls) (append_assoc ns (endif_line ∷ []) more)

@@ -34,4 +34,4 @@ last_at n (Some line) = n + 1
 -- the edits stand in the order of n lines, from line q on
 abbrev pub AreInOrder : ℕ → ℕ → List Edit → Type 0
 AreInOrder n q [] = Unit {0}
-AreInOrder n q (e ∷ es) = (q ≤ e.at) × ((e.at ≤ last_at n e.added) × AreInOrder n (next_gap e.at e.added) es)
+AreInOrder n q (e ∷ es) = (q ≤ e.at) × (e.at ≤ last_at n e.added) × AreInOrder n (next_gap e.at e.added) es
