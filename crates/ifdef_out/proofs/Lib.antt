@@ -7,3 +7,4 @@ pub mod TaggedLemmas
 pub mod BlockLemmas
 pub mod MarkLemmas
 pub mod Going
+pub mod SpotLemmas
