@@ -19,12 +19,12 @@ use Rattle.hunk_apply.proofs.BodyLemmas.{body-is, edits-none, edits-next}
 use Rattle.ifdef_out.specs.Placed.{verdict_edits, placed_edits}
 use Rattle.ifdef_out.specs.Places.{hunks_left, hunks_at}
 
-placed-nil : (vs : List Verdict) → placed_edits vs [] ≡ []
+pub placed-nil : (vs : List Verdict) → placed_edits vs [] ≡ []
 unfolding placed_edits
 placed-nil [] = refl
 placed-nil (v ∷ vs) = refl
 
-placed-cons : (v : Verdict) (vs : List Verdict) (h : PlainHunk) (hs : List PlainHunk) → placed_edits (v ∷ vs) (h ∷ hs) ≡ verdict_edits v h ++ placed_edits vs hs
+pub placed-cons : (v : Verdict) (vs : List Verdict) (h : PlainHunk) (hs : List PlainHunk) → placed_edits (v ∷ vs) (h ∷ hs) ≡ verdict_edits v h ++ placed_edits vs hs
 unfolding placed_edits
 placed-cons v vs h hs = refl
 

@@ -8,3 +8,5 @@ pub mod BlockLemmas
 pub mod MarkLemmas
 pub mod Going
 pub mod SpotLemmas
+pub mod InOrder
+pub mod PlacedLemmas
