@@ -10,3 +10,4 @@ pub mod Going
 pub mod SpotLemmas
 pub mod InOrder
 pub mod PlacedLemmas
+pub mod KeptLemmas

@@ -7,12 +7,14 @@ mod blocks;
 mod edits;
 mod found;
 mod hunks;
+mod laws;
 mod marking;
 mod place;
 mod put;
 mod script;
 mod writing;
 
+pub use laws::both_files_are_kept;
 pub use put::put_ifdef;
 use line_store::LineFault;
 
