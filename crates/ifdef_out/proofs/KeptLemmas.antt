@@ -1,5 +1,6 @@
 -- The written lines by whose they are.
-use Rattle.std.proofs.Common.{◌≡◌, ℕ, zero, suc, ◌+◌, ◌-◌, ◌≤◌, List, [], ◌∷◌, ◌++◌, length, get_or, map, filter, flat_map, Bool, true, false, cond, refl, sym, ap, ◌∙◌, arith, append_assoc}
+use Rattle.std.proofs.Common.{◌≡◌, ℕ, zero, suc, ◌+◌, ◌-◌, ◌≤◌, ◌^◌, List, [], ◌∷◌, ◌++◌, length, get_or, map, filter, flat_map, Bool, true, false, cond, refl, sym, ap, ◌∙◌, arith, append_assoc}
+use Rattle.std.specs.Prelude.{pos}
 use Rattle.std.specs.List.{range_with_len}
 use Rattle.std.proofs.lemmas.List.{append-nil, map-append, get_or_at, length-append}
 use Rattle.std.proofs.lemmas.List.Elements.{filter-append}
@@ -15,13 +16,18 @@ use Rattle.hunk_core.specs.Sides.{is_on_side}
 use Rattle.hunk_core.specs.Turned.{turned}
 use Rattle.hunk_place.specs.Order.{from_to}
 use Rattle.hunk_place.specs.Verdicts.{spots, at_start}
-use Rattle.file_patch.specs.PlainPatch.{hunks}
+use Rattle.file_patch.specs.PlainPatch.{hunks, script}
+use Rattle.ed_form.specs.PlainEdit.{PlainEdit, AreLawful}
+use Rattle.hunk_core.specs.declared.Verdict.TheVariants.{Nowhere, At}
 use Rattle.hunk_apply.specs.Applied.{applied}
+use Rattle.hunk_apply.specs.Script.{scripted, reaches_behind, first_address, script_lines, script_verdict}
+use Rattle.hunk_apply.proofs.ScriptLemmas.{ends-within}
+use Rattle.ifdef_out.proofs.ScriptMade.{script-made, unchanged}
 use Rattle.hunk_apply.specs.Change.{change_output, change_verdicts}
 use Rattle.hunk_apply.specs.Splice.{Edit, gap, is_dropped, row, spliced, all_edits}
 use Rattle.ifdef_out.specs.Whole.{added, file_line, file_mark, whole_row, whole_from, whole}
 use Rattle.ifdef_out.specs.Tagged.{Tag, Both, Old, New, Marking, Tagged, as_tag, block, closed, else_mark, endif_line, opening, tagged, tagged_behind, texts, is_old, is_new, old_of, new_of}
-use Rattle.ifdef_out.specs.Placed.{change_edits}
+use Rattle.ifdef_out.specs.Placed.{carried_edits, change_edits, script_edits}
 use Rattle.ifdef_out.proofs.PlacedLemmas.{placed-are}
 use Rattle.ifdef_out.proofs.TaggedLemmas.{tagged-none, tagged-kept, tagged-dropped, tagged-added, texts-append}
 
@@ -185,3 +191,14 @@ unfolding applied
 hunks-applied name lines fuzz loose side hs =
     ap join (new-made name lines (change_edits (change_verdicts lines fuzz loose side (hunks hs)) side (hunks hs)))
     ∙ ap (λ es. join (spliced lines es)) (placed-are lines fuzz loose at_start (map (turned side) hs))
+
+carried : (name : List ℕ) (lines : List (List ℕ)) (es : List PlainEdit) → AreLawful (2 ^ 32) es → new_of (tagged name lines (carried_edits (script_verdict (length lines) es) es)) ≡ script_lines lines es
+carried name lines es lawful = by (reaches_behind (length lines) es) refl
+  where
+    by : (b : Bool) → reaches_behind (length lines) es ≡ b → new_of (tagged name lines (carried_edits (cond b Nowhere (At (first_address es) 0 (pos 0))) es)) ≡ cond b lines (scripted lines es)
+    by true is = new-made name lines [] ∙ unchanged lines
+    by false is = new-made name lines (script_edits es) ∙ script-made lines (2 ^ 32) es lawful (ends-within (length lines) es is)
+
+pub script-carried : (name : List ℕ) (lines : List (List ℕ)) (fuzz : ℕ) (loose : Bool) (side : Side) (es : List PlainEdit) → AreLawful (2 ^ 32) es
+    → join (new_of (tagged name lines (change_edits (change_verdicts lines fuzz loose side (script es)) side (script es)))) ≡ change_output lines fuzz loose side (script es)
+script-carried name lines fuzz loose side es lawful = ap join (carried name lines es lawful)

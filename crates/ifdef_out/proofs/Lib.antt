@@ -11,3 +11,4 @@ pub mod SpotLemmas
 pub mod InOrder
 pub mod PlacedLemmas
 pub mod KeptLemmas
+pub mod ScriptMade

@@ -1,4 +1,4 @@
-use Rattle.ifdef_out.proofs.KeptLemmas.{old-kept, new-made, hunks-applied}
+use Rattle.ifdef_out.proofs.KeptLemmas.{old-kept, new-made, hunks-applied, script-carried}
 use Rattle.ifdef_out.proofs.laws.both_files_are_kept.Goals as goal
 
 pub returns-clause-old : goal.returns-clause-old
@@ -9,3 +9,6 @@ returns-clause-new c = new-made
 
 pub returns-clause-applied : goal.returns-clause-applied
 returns-clause-applied c = hunks-applied
+
+pub returns-clause-carried_out : goal.returns-clause-carried_out
+returns-clause-carried_out c = script-carried
