@@ -212,6 +212,7 @@ ahead name lines left q e es is low h = subst (λ xs. Ahead name lines xs q e) (
     at-most : (o : Option (List ℕ)) → e.at ≤ last_at (length lines) o → e.at ≤ length lines + 1
     at-most None w = omega arith
     at-most (Some line) w = w
+
     here : AreInOrder (length lines) q (e ∷ es) → Ahead name lines (e ∷ es) q e
     here k =
         let le : q ≤ e.at = k.0 in

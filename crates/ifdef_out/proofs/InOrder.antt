@@ -79,7 +79,7 @@ module _ (text : List ℕ) (side : Side) (items : List HunkLine) (n at m : ℕ) 
       let below : q + width side p.0.mark ≤ at + taken_count side items - prefix_len is_kept (reverse items) = place-within side items k q at p.0 place (omega arith) p.1 in
       let rest : List Edit = body_edits (q + width side p.0.mark) (side_body text side (drop (k + 1) items)) ++ [] in
       let next : body_edits q (side_body text side (drop k items)) ≡ marked_edits (turned_mark side p.0.mark) q (bytes_at text p.0.span) (λ _. body_edits (q + width side p.0.mark) (side_body text side (drop (k + 1) items)) ++ []) =
-          sym (append-nil (body_edits q (side_body text side (drop k items)))) ∙ edits-next text side items k q p.0 [] (omega arith) p.1 in
+      sym (append-nil (body_edits q (side_body text side (drop k items)))) ∙ edits-next text side items k q p.0 [] (omega arith) p.1 in
       subst (OrderTo n r m) (sym next)
       (marked-order n r q m (width side p.0.mark) (turned_mark side p.0.mark) (bytes_at text p.0.span) rest (marked-width side p.0.mark (turned_mark side p.0.mark) refl) le (omega arith) high
       (λ s lt. subst (OrderTo n s m) (sym (append-nil (body_edits (q + width side p.0.mark) (side_body text side (drop (k + 1) items))))) (lines-order j (k + 1) (q + width side p.0.mark) s (omega arith) more lt (omega arith))))

@@ -15,8 +15,8 @@ mod script;
 mod writing;
 
 pub use laws::both_files_are_kept;
-pub use put::put_ifdef;
 use line_store::LineFault;
+pub use put::put_ifdef;
 
 /// Why the output isn't whole.
 #[derive(Clone, Copy, Debug, PartialEq, Eq)]
@@ -26,4 +26,3 @@ pub enum IfdefFault {
     /// The sink has failed.
     Write,
 }
-
