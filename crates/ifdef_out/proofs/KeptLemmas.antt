@@ -160,7 +160,7 @@ each-line front (l ∷ ls) k is =
     ∙ ap (λ xs. l ∷ flat_map (λ q. line_at xs q ∷ []) (range_with_len (k + 1) (length ls))) (sym same)
     ∙ ap (λ r. l ∷ r) (each-line (front ++ l ∷ []) ls (k + 1) (omega (arith, length-append front (l ∷ []))))
 
-whole-old : (lines : List (List ℕ)) (es : List Edit) → old_lines (whole lines es) ≡ lines
+pub whole-old : (lines : List (List ℕ)) (es : List Edit) → old_lines (whole lines es) ≡ lines
 unfolding whole_from
 whole-old lines es =
     let last : List Marked = map added (gap es (length lines + 1)) in
@@ -171,7 +171,7 @@ whole-old lines es =
     ∙ ap (λ n. flat_map (λ q. line_at lines q ∷ []) (range_with_len 1 n)) (let e : suc (length lines) - 1 ≡ length lines = omega arith in e)
     ∙ each-line [] lines 1 refl
 
-whole-new : (lines : List (List ℕ)) (es : List Edit) → new_lines (whole lines es) ≡ spliced lines es
+pub whole-new : (lines : List (List ℕ)) (es : List Edit) → new_lines (whole lines es) ≡ spliced lines es
 unfolding whole_from spliced
 whole-new lines es =
     let last : List Marked = map added (gap es (length lines + 1)) in

@@ -12,3 +12,5 @@ pub mod InOrder
 pub mod PlacedLemmas
 pub mod KeptLemmas
 pub mod ScriptMade
+pub mod FedLemmas
+pub mod ReadLemmas

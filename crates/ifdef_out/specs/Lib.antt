@@ -4,3 +4,4 @@ pub mod Placed
 pub mod Chain
 pub mod Places
 pub mod Faults
+pub mod Reading

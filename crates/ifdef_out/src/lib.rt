@@ -14,7 +14,7 @@ mod put;
 mod script;
 mod writing;
 
-pub use laws::both_files_are_kept;
+pub use laws::{both_files_are_kept, readers_get_both_files};
 use line_store::LineFault;
 pub use put::put_ifdef;
 

@@ -1,6 +1,6 @@
 //! The output for a file patch.
 
-ghost use Rattle.std.specs.Prelude.{◌≡◌, ℕ, List, length, IsTrue, Some, OnOk, OnErr, IfErr};
+ghost use Rattle.std.specs.Prelude.{◌≡◌, ℕ, List, length, true, Some, OnOk, OnErr, IfErr};
 ghost use Rattle.std.specs.List.{All};
 ghost use Rattle.line_store.specs.Store.{Keeps};
 ghost use Rattle.outside.specs.SinkView.{SinkPasses, Receives, ReceivesPart};
@@ -35,7 +35,7 @@ pub fn put_ifdef<S: LineStore, O: Sink>(
     requires rows { length verdicts.now ≡ row_count patch.now.change }
     requires tried { All IsTried verdicts.now }
     requires placed { (lines : List (List ℕ)) → (S.seen store.old).told ≡ Some lines → ArePlaced lines verdicts.now side (change_of text.now patch.now.change) }
-    requires name { IsTrue (is_macro_name define.now) }
+    requires name { is_macro_name define.now ≡ true }
     ensures received { OnOk result ((lines : List (List ℕ)) → (S.seen store.old).told ≡ Some lines → Receives (O.view out.old) (O.view out.new) (ifdef_text define.now lines (change_edits verdicts.now side (change_of text.now patch.now.change)))) }
     ensures part { OnErr result ((lines : List (List ℕ)) → (S.seen store.old).told ≡ Some lines → ReceivesPart (O.view out.old) (O.view out.new) (ifdef_text define.now lines (change_edits verdicts.now side (change_of text.now patch.now.change)))) }
     ensures keeps { Keeps (S.seen store.old) (S.seen store.new) }
