@@ -1,14 +1,14 @@
 -- One block of edits in their order, and what follows it.
-use Rattle.std.proofs.Common.{◌≡◌, ◌≢◌, ◌⊎◌, inl, inr, ℕ, ◌+◌, ◌-◌, ◌<◌, ◌≤◌, ◌||◌, List, [], ◌∷◌, ◌++◌, length, Bool, true, false, eqb, refl, sym, ap, subst, ◌∙◌, arith, append_assoc, Option, Some, None}
+use Rattle.std.proofs.Common.{◌≡◌, ◌≢◌, ◌⊎◌, inl, inr, ℕ, ◌+◌, ◌<◌, ◌≤◌, ◌||◌, List, [], ◌∷◌, ◌++◌, length, Bool, true, false, eqb, refl, sym, ap, subst, ◌∙◌, arith, append_assoc, Option, Some, None}
 use Rattle.std.proofs.lemmas.List.{append-nil}
 use Rattle.std.proofs.lemmas.Bool.Decides.{nat_tests}
 use Rattle.line_store.specs.Store.{line_at}
-use Rattle.hunk_apply.specs.Splice.{Edit, add, drop_line, added_line, AreFrom}
+use Rattle.hunk_apply.specs.Splice.{Edit, add, drop_line, AreFrom}
 use Rattle.hunk_apply.specs.Written.{lines_between}
 use Rattle.hunk_apply.proofs.CopyLemmas.{none-between, split-at}
 use Rattle.hunk_apply.proofs.SpliceLemmas.{sooner}
 use Rattle.ifdef_out.specs.Whole.{whole_from}
-use Rattle.ifdef_out.specs.Tagged.{block, closed, tagged_behind, texts}
+use Rattle.ifdef_out.specs.Tagged.{closed, tagged_behind, texts}
 use Rattle.ifdef_out.specs.Chain.{next_gap, last_at, block_end, block_added, behind_block, is_some_line, AreInOrder}
 use Rattle.ifdef_out.proofs.WholeLemmas.{line-dropped, line-added}
 use Rattle.ifdef_out.proofs.ChainLemmas.{end-none, added-none, behind-none, end-more, added-more, behind-more, end-stop, added-stop, behind-stop}

@@ -1,10 +1,10 @@
 -- The lines of a completed text that was joined.
-use Rattle.std.proofs.Common.{◌≡◌, ◌≢◌, ◌⊎◌, inl, inr, ⊎_elim, ℕ, ◌+◌, ◌<◌, ◌≤◌, List, [], ◌∷◌, ◌++◌, length, map, Bool, true, false, refl, sym, ap, subst, ◌∙◌, arith, append_assoc}
+use Rattle.std.proofs.Common.{◌≡◌, ◌⊎◌, inl, inr, ℕ, ◌<◌, List, [], ◌∷◌, ◌++◌, length, map, refl, sym, ap, subst, ◌∙◌, arith, append_assoc}
 use Rattle.std.specs.List.{AllByRecursion}
 use Rattle.std.proofs.lemmas.List.{append-nil, length-append}
 use Rattle.std.proofs.lemmas.List.Concat.{flat_map-cons}
 use Rattle.line_list.specs.Lines.{lines, IsLine, IsOpenLine, ArePieces}
-use Rattle.line_list.specs.Join.{join, lacks_feed, feed_if, ends_open}
+use Rattle.line_list.specs.Join.{join, lacks_feed, feed_if}
 use Rattle.line_list.specs.Completed.{completed}
 use Rattle.line_list.proofs.JoinLemmas.{lacks-append, line-has, open-lacks, open-last, open-nothing}
 use Rattle.line_list.proofs.Pieces.{joined, pieces-only}

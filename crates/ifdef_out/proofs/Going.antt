@@ -1,12 +1,12 @@
 -- A walk over blocks: what was written, and what is left.
-use Rattle.std.proofs.Common.{◌≡◌, ℕ, ◌+◌, ◌-◌, ◌≤◌, List, [], ◌∷◌, ◌++◌, length, false, true, refl, sym, ap, subst, ◌∙◌, arith}
+use Rattle.std.proofs.Common.{◌≡◌, ℕ, ◌+◌, ◌≤◌, List, [], ◌++◌, length, false, true, refl, sym, ap, subst, ◌∙◌, arith}
 use Rattle.outside.specs.SinkView.{SinkView, Receives, ReceivesPart}
 use Rattle.hunk_apply.specs.declared.put.Tail.{Tail}
 use Rattle.hunk_apply.specs.Splice.{Edit}
 use Rattle.hunk_apply.specs.Written.{Wrote, lines_between, join_behind}
 use Rattle.hunk_apply.proofs.WrittenLemmas.{wrote-none, wrote-both, wrote-same, wrote-whole, part-after, part-same, part-whole}
 use Rattle.ifdef_out.specs.Whole.{whole_from}
-use Rattle.ifdef_out.specs.Tagged.{closed, tagged, tagged_behind, texts, ifdef_text}
+use Rattle.ifdef_out.specs.Tagged.{closed, tagged_behind, texts, ifdef_text}
 use Rattle.ifdef_out.specs.Chain.{block_end, block_added, behind_block, AreInOrder}
 use Rattle.ifdef_out.proofs.WholeLemmas.{nothing-left}
 use Rattle.ifdef_out.proofs.TaggedLemmas.{kept-to, tagged-none}

@@ -1,18 +1,18 @@
 -- The edits of a change that was placed stand in the order of the lines.
 use Rattle.std.proofs.Common.{◌≡◌, ℕ, zero, suc, ◌+◌, ◌-◌, ◌<◌, ◌≤◌, ◌&&◌, List, [], ◌∷◌, ◌++◌, length, reverse, map, flat_map, take, drop, get_or, Bool, true, false, cond, refl, sym, ap, subst, ◌∙◌, arith, Option, Some, None}
-use Rattle.std.specs.Prelude.{◌==◌, pos, ◌-ℤ◌}
+use Rattle.std.specs.Prelude.{◌==◌}
 use Rattle.std.specs.List.{prefix_len, range_with_len}
 use Rattle.std.proofs.lemmas.List.{append-nil, reverse-append}
 use Rattle.std.proofs.lemmas.List.Concat.{flat_map-append}
 use Rattle.std.proofs.lemmas.Bool.Decides.{nat_tests}
 use Rattle.hunk_core.specs.declared.Side.{Side}
-use Rattle.hunk_core.specs.declared.Side.TheVariants.{Forward, Reversed}
+use Rattle.hunk_core.specs.declared.Side.TheVariants.{Forward}
 use Rattle.hunk_core.specs.declared.Mark.{Mark}
 use Rattle.hunk_core.specs.declared.Mark.TheVariants.{Keep, Drop, Add}
 use Rattle.hunk_core.specs.declared.Hunk.{Hunk}
 use Rattle.hunk_core.specs.declared.HunkLine.{HunkLine}
 use Rattle.hunk_core.specs.PlainHunk.{PlainHunk, bytes_at, old_lines}
-use Rattle.hunk_core.specs.Sides.{taken_count, is_on_side}
+use Rattle.hunk_core.specs.Sides.{taken_count}
 use Rattle.hunk_core.specs.Turned.{trailing}
 use Rattle.hunk_place.specs.Order.{from_to}
 use Rattle.hunk_place.specs.Taken.{taken}
@@ -20,11 +20,11 @@ use Rattle.hunk_place.specs.Verdicts.{spots, spot, after_hunk, adds, drops}
 use Rattle.hunk_place.specs.declared.PlaceState.{PlaceState}
 use Rattle.hunk_place.specs.declared.Spot.{Spot}
 use Rattle.hunk_place.proofs.TakenLemmas.{taken-trailing}
-use Rattle.ed_form.specs.PlainEdit.{PlainEdit, IsLawfulEdit, AreLawful, lowest}
+use Rattle.ed_form.specs.PlainEdit.{PlainEdit, AreLawful, lowest}
 use Rattle.hunk_apply.specs.Applied.{taken_all}
 use Rattle.hunk_apply.specs.Body.{turned_mark, side_body}
 use Rattle.hunk_apply.specs.Splice.{Edit, add, drop_line, body_edits, marked_edits, hunk_edits, all_edits}
-use Rattle.hunk_apply.proofs.BodyLemmas.{is_kept, width, marked-width, body-is, edits-none, edits-next, rest-edits, place-more, place-within, post-old, post-fits, at-place}
+use Rattle.hunk_apply.proofs.BodyLemmas.{is_kept, width, marked-width, body-is, edits-next, rest-edits, place-more, place-within, post-old, post-fits, at-place}
 use Rattle.hunk_apply.proofs.FoldLemmas.{edits-cons, edits-nil, spots-cons}
 use Rattle.hunk_apply.proofs.HunkLemmas.{no-edits, old-length, trailing-old}
 use Rattle.hunk_apply.proofs.PlaceLemmas.{spot-behind}

@@ -1,5 +1,5 @@
 -- The written lines by whose they are.
-use Rattle.std.proofs.Common.{◌≡◌, ℕ, zero, suc, ◌+◌, ◌-◌, ◌≤◌, ◌^◌, List, [], ◌∷◌, ◌++◌, length, get_or, map, filter, flat_map, Bool, true, false, cond, refl, sym, ap, ◌∙◌, arith, append_assoc}
+use Rattle.std.proofs.Common.{◌≡◌, ℕ, suc, ◌+◌, ◌-◌, ◌^◌, List, [], ◌∷◌, ◌++◌, length, map, filter, flat_map, Bool, true, false, cond, refl, sym, ap, ◌∙◌, arith, append_assoc}
 use Rattle.std.specs.Prelude.{pos}
 use Rattle.std.specs.List.{range_with_len}
 use Rattle.std.proofs.lemmas.List.{append-nil, map-append, get_or_at, length-append}
@@ -15,7 +15,7 @@ use Rattle.hunk_core.specs.PlainHunk.{Marked, PlainHunk, lines_on, old_lines, ne
 use Rattle.hunk_core.specs.Sides.{is_on_side}
 use Rattle.hunk_core.specs.Turned.{turned}
 use Rattle.hunk_place.specs.Order.{from_to}
-use Rattle.hunk_place.specs.Verdicts.{spots, at_start}
+use Rattle.hunk_place.specs.Verdicts.{at_start}
 use Rattle.file_patch.specs.PlainPatch.{hunks, script}
 use Rattle.ed_form.specs.PlainEdit.{PlainEdit, AreLawful}
 use Rattle.hunk_core.specs.declared.Verdict.TheVariants.{Nowhere, At}
@@ -24,9 +24,9 @@ use Rattle.hunk_apply.specs.Script.{scripted, reaches_behind, first_address, scr
 use Rattle.hunk_apply.proofs.ScriptLemmas.{ends-within}
 use Rattle.ifdef_out.proofs.ScriptMade.{script-made, unchanged}
 use Rattle.hunk_apply.specs.Change.{change_output, change_verdicts}
-use Rattle.hunk_apply.specs.Splice.{Edit, gap, is_dropped, row, spliced, all_edits}
+use Rattle.hunk_apply.specs.Splice.{Edit, gap, is_dropped, row, spliced}
 use Rattle.ifdef_out.specs.Whole.{added, file_line, file_mark, whole_row, whole_from, whole}
-use Rattle.ifdef_out.specs.Tagged.{Tag, Both, Old, New, Marking, Tagged, as_tag, block, closed, else_mark, endif_line, opening, tagged, tagged_behind, texts, is_old, is_new, old_of, new_of}
+use Rattle.ifdef_out.specs.Tagged.{Both, Old, New, Marking, Tagged, as_tag, block, closed, else_mark, endif_line, opening, tagged, tagged_behind, texts, is_old, is_new, old_of, new_of}
 use Rattle.ifdef_out.specs.Placed.{carried_edits, change_edits, script_edits}
 use Rattle.ifdef_out.proofs.PlacedLemmas.{placed-are}
 use Rattle.ifdef_out.proofs.TaggedLemmas.{tagged-none, tagged-kept, tagged-dropped, tagged-added, texts-append}

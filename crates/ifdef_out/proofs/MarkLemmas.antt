@@ -1,6 +1,5 @@
 -- A line that is written in three pieces.
-use Rattle.std.proofs.Common.{◌≡◌, ℕ, ◌+◌, List, [], ◌∷◌, ◌++◌, ◌&&◌, length, Bool, true, false, refl, sym, ap, subst, ◌∙◌, arith, append_assoc}
-use Rattle.std.proofs.lemmas.List.{length-append}
+use Rattle.std.proofs.Common.{◌≡◌, ℕ, List, [], ◌∷◌, ◌++◌, ◌&&◌, Bool, true, false, refl, sym, ap, subst, ◌∙◌, arith, append_assoc}
 use Rattle.line_list.specs.Join.{lacks_feed, feed_if}
 use Rattle.line_list.proofs.JoinLemmas.{lacks-append}
 use Rattle.outside.specs.SinkView.{SinkView, Receives, ReceivesPart}

@@ -1,8 +1,7 @@
 -- A change that was placed: its edits by its verdicts, and by its places.
-use Rattle.std.proofs.Common.{◌≡◌, ℕ, ◌+◌, ◌^◌, List, [], ◌∷◌, ◌++◌, length, map, Bool, true, false, cond, refl, sym, ap, subst, ◌∙◌, arith, Option, Some, None}
+use Rattle.std.proofs.Common.{◌≡◌, ℕ, ◌^◌, List, [], ◌∷◌, ◌++◌, length, map, Bool, true, false, cond, refl, sym, ap, subst, ◌∙◌, arith, Option, Some, None}
 use Rattle.std.specs.Prelude.{pos}
 use Rattle.hunk_core.specs.declared.Side.{Side}
-use Rattle.hunk_core.specs.declared.Hunk.{Hunk}
 use Rattle.hunk_core.specs.declared.Verdict.{Verdict}
 use Rattle.hunk_core.specs.declared.Verdict.TheVariants.{Nowhere, At}
 use Rattle.hunk_core.specs.PlainHunk.{PlainHunk, hunks_of}
@@ -11,17 +10,16 @@ use Rattle.hunk_place.specs.Verdicts.{verdicts, verdict_of, spots, spot, after_h
 use Rattle.hunk_place.specs.declared.PlaceState.{PlaceState}
 use Rattle.hunk_place.specs.declared.Spot.{Spot}
 use Rattle.ed_form.specs.PlainEdit.{PlainEdit, AreLawful, edits_of}
-use Rattle.file_patch.specs.PlainPatch.{PlainChange, hunks, script, IsLawfulChange, change_of}
+use Rattle.file_patch.specs.PlainPatch.{script, IsLawfulChange, change_of}
 use Rattle.file_patch.specs.declared.Change.{Change}
 use Rattle.file_patch.specs.declared.Change.TheVariants.{Hunks, Script}
-use Rattle.hunk_apply.specs.Change.{change_verdicts}
 use Rattle.hunk_apply.specs.Script.{reaches_behind, first_address, script_verdict}
-use Rattle.hunk_apply.specs.Splice.{Edit, hunk_edits, all_edits}
+use Rattle.hunk_apply.specs.Splice.{hunk_edits, all_edits}
 use Rattle.hunk_apply.proofs.ChangeLemmas.{taken-is}
 use Rattle.hunk_apply.proofs.FoldLemmas.{edits-cons, edits-nil, spots-cons}
 use Rattle.hunk_apply.proofs.ScriptLemmas.{ends-within}
 use Rattle.ifdef_out.specs.Chain.{AreInOrder}
-use Rattle.ifdef_out.specs.Placed.{ArePlaced, verdict_edits, placed_edits, carried_edits, script_edits, change_edits}
+use Rattle.ifdef_out.specs.Placed.{ArePlaced, verdict_edits, placed_edits, carried_edits, change_edits}
 use Rattle.ifdef_out.proofs.HunkSteps.{placed-nil, placed-cons}
 use Rattle.ifdef_out.proofs.InOrder.{hunks-order, script-order}
 

@@ -1,9 +1,8 @@
 -- What a reader of the written lines gets.
-use Rattle.std.proofs.Common.{◌≡◌, ◌≢◌, ◌⊎◌, inl, inr, ℕ, ◌+◌, ◌<◌, ◌≤◌, ◌||◌, ◌&&◌, List, [], ◌∷◌, ◌++◌, length, map, filter, Bool, true, false, cond, not, eqb, refl, sym, ap, subst, ◌∙◌, arith, append_assoc}
+use Rattle.std.proofs.Common.{◌≡◌, ◌≢◌, inl, ℕ, ◌||◌, ◌&&◌, List, [], ◌∷◌, ◌++◌, map, Bool, true, false, cond, not, eqb, refl, sym, ap, subst, ◌∙◌, append_assoc}
 use Rattle.std.specs.Prelude.{bytes_eq, codes, nat_le}
 use Rattle.std.specs.List.{AllByRecursion, list_all}
 use Rattle.std.proofs.lemmas.List.{append-nil, map-append}
-use Rattle.std.proofs.lemmas.Bool.Decides.{nat_tests}
 use Rattle.std.proofs.lemmas.Slice.Eq.{bytes_eq-Decides}
 use Rattle.line_list.specs.Lines.{IsLine}
 use Rattle.line_list.specs.Lines.{lines as text_lines}
@@ -13,11 +12,11 @@ use Rattle.hunk_core.specs.declared.Mark.TheVariants.{Keep, Drop, Add}
 use Rattle.hunk_core.specs.PlainHunk.{Marked, old_lines, new_lines}
 use Rattle.hunk_apply.specs.Splice.{Edit, spliced}
 use Rattle.ifdef_out.specs.Whole.{added, whole}
-use Rattle.ifdef_out.specs.Tagged.{Tag, Both, Old, New, Marking, Tagged, as_tag, begins_name, goes_on_name, is_macro_name, block, closed, else_line, else_mark, endif_line, ifdef_line, ifndef_line, ifdef_text, opening, tagged, tagged_behind, texts}
+use Rattle.ifdef_out.specs.Tagged.{Both, as_tag, begins_name, goes_on_name, is_macro_name, block, else_line, else_mark, endif_line, ifdef_line, ifndef_line, ifdef_text, tagged, tagged_behind, texts}
 use Rattle.ifdef_out.specs.Reading.{fed, branch_lines, is_marking, IsPlain}
 use Rattle.ifdef_out.proofs.FedLemmas.{IsPiece, fed-whole, lines-joined}
 use Rattle.ifdef_out.proofs.KeptLemmas.{whole-old, whole-new}
-use Rattle.ifdef_out.proofs.TaggedLemmas.{tagged-none, tagged-kept, tagged-dropped, tagged-added, texts-append, texts-ns, closed-split, opening-some}
+use Rattle.ifdef_out.proofs.TaggedLemmas.{tagged-none, tagged-kept, tagged-dropped, tagged-added, texts-append, closed-split, opening-some}
 
 -- names have no line feed, so the marking lines are lines
 macro-byte : (b : ℕ) → goes_on_name b ≡ true → b ≢ 10

@@ -1,10 +1,10 @@
 -- The splice of a script's edits is what its commands make one after another.
-use Rattle.std.proofs.Common.{◌≡◌, ℕ, zero, suc, ◌+◌, ◌-◌, ◌<◌, ◌≤◌, List, [], ◌∷◌, ◌++◌, length, reverse, map, flat_map, drop, Bool, false, refl, sym, ap, subst, ◌∙◌, arith, append_assoc}
+use Rattle.std.proofs.Common.{◌≡◌, ℕ, zero, suc, ◌+◌, ◌-◌, ◌≤◌, List, [], ◌∷◌, ◌++◌, length, reverse, map, flat_map, drop, refl, sym, ap, subst, ◌∙◌, arith, append_assoc}
 use Rattle.std.specs.List.{range_with_len}
-use Rattle.std.proofs.lemmas.List.{append-nil, reverse-append, reverse-reverse}
+use Rattle.std.proofs.lemmas.List.{reverse-append, reverse-reverse}
 use Rattle.std.proofs.lemmas.List.Concat.{flat_map-cons}
 use Rattle.hunk_place.specs.Order.{from_to}
-use Rattle.ed_form.specs.PlainEdit.{PlainEdit, IsLawfulEdit, AreLawful, lowest}
+use Rattle.ed_form.specs.PlainEdit.{PlainEdit, AreLawful}
 use Rattle.hunk_apply.specs.Script.{scripted}
 use Rattle.hunk_apply.specs.Splice.{Edit, add, drop_line, spliced, spliced_from, AreFrom}
 use Rattle.hunk_apply.specs.Written.{lines_between}

@@ -1,17 +1,16 @@
 -- The edits of a change in front of which a walk stands.
-use Rattle.std.proofs.Common.{◌≡◌, ℕ, ◌≤◌, List, [], ◌∷◌, ◌++◌, length, reverse, drop, map, flat_map, cond, refl, sym, ap, ◌∙◌, arith}
+use Rattle.std.proofs.Common.{◌≡◌, ℕ, List, [], ◌∷◌, ◌++◌, length, reverse, drop, map, flat_map, cond, refl, sym, ap, ◌∙◌, arith}
 use Rattle.std.proofs.lemmas.List.{drop_all, length-reverse, reverse-append, map-append}
 use Rattle.hunk_core.specs.declared.Side.{Side}
 use Rattle.hunk_core.specs.declared.Hunk.{Hunk}
 use Rattle.hunk_core.specs.declared.Verdict.{Verdict}
 use Rattle.hunk_core.specs.declared.Verdict.TheVariants.{Untried, Ignored, Nowhere, At}
-use Rattle.hunk_core.specs.PlainHunk.{PlainHunk, hunks_of}
+use Rattle.hunk_core.specs.PlainHunk.{hunks_of}
 use Rattle.hunk_core.specs.Turned.{turned}
 use Rattle.ed_form.specs.declared.script.EdEdit.{EdEdit}
 use Rattle.ed_form.specs.PlainEdit.{edit_of, edits_of}
 use Rattle.hunk_apply.specs.Applied.{taken_all}
 use Rattle.hunk_apply.specs.Session.{is_placed}
-use Rattle.hunk_apply.specs.Splice.{Edit}
 use Rattle.hunk_apply.proofs.ChangeLemmas.{taken-is}
 use Rattle.ifdef_out.specs.Placed.{placed_edits, command_edits, carried_edits, script_edits}
 

@@ -1,15 +1,14 @@
 -- A file with edits as one body, from a line on.
-use Rattle.std.proofs.Common.{◌≡◌, ◌≢◌, ℕ, zero, suc, ◌+◌, ◌-◌, ◌<◌, ◌≤◌, List, [], ◌∷◌, ◌++◌, length, map, Bool, true, false, cond, eqb, refl, sym, ap, ◌∙◌, arith, append_assoc, flat_map}
+use Rattle.std.proofs.Common.{◌≡◌, ◌≢◌, ℕ, suc, ◌+◌, ◌-◌, ◌<◌, ◌≤◌, List, [], ◌∷◌, ◌++◌, length, map, Bool, true, false, eqb, refl, sym, ap, ◌∙◌, arith, append_assoc, flat_map}
 use Rattle.std.proofs.lemmas.List.Concat.{flat_map-cons}
 use Rattle.std.proofs.lemmas.Bool.Decides.{nat_tests}
 use Rattle.line_store.specs.Store.{line_at}
-use Rattle.hunk_core.specs.declared.Mark.{Mark}
-use Rattle.hunk_core.specs.declared.Mark.TheVariants.{Keep, Drop, Add}
+use Rattle.hunk_core.specs.declared.Mark.TheVariants.{Keep, Drop}
 use Rattle.hunk_core.specs.PlainHunk.{Marked}
 use Rattle.hunk_place.specs.Order.{from_to}
 use Rattle.hunk_apply.specs.Splice.{Edit, add, drop_line, gap, is_dropped, AreFrom}
 use Rattle.hunk_apply.proofs.SpliceLemmas.{no-gap, none-dropped, from-next, from-none, flat-same, gap-other, dropped-other, gap-dropped, drop-dropped, gap-added, added-stays}
-use Rattle.ifdef_out.specs.Whole.{added, file_mark, file_line, whole_row, whole_from}
+use Rattle.ifdef_out.specs.Whole.{added, file_mark, whole_row, whole_from}
 
 abbrev pub kept : List ℕ → Marked
 kept line = record { mark = Keep; line = line }

@@ -1,4 +1,4 @@
-use Rattle.std.proofs.Common.{◌≡◌, ℕ, List, ◌∷◌, [], cond, length, reverse, drop, flat_map, subst, refl, sym, ap, ◌∙◌, arith, rules}
+use Rattle.std.proofs.Common.{◌≡◌, ℕ, List, ◌∷◌, [], cond, length, reverse, drop, flat_map, sym, ap, ◌∙◌, rules}
 use Rattle.hunk_core.specs.declared.Hunk.{Hunk}
 use Rattle.hunk_core.specs.declared.Verdict.{Verdict}
 use Rattle.hunk_core.specs.PlainHunk.{hunks_of}
@@ -6,8 +6,8 @@ use Rattle.file_patch.specs.declared.Change.{Change}
 use Rattle.file_patch.specs.PlainPatch.{change_of, hunks, row_count, script}
 use Rattle.ed_form.specs.PlainEdit.{edits_of}
 use Rattle.hunk_apply.specs.Session.{is_placed}
-use Rattle.ifdef_out.specs.Placed.{change_edits, carried_edits, command_edits}
-use Rattle.ifdef_out.specs.Places.{left_of, hunks_at, script_at}
+use Rattle.ifdef_out.specs.Placed.{change_edits, command_edits}
+use Rattle.ifdef_out.specs.Places.{left_of, hunks_at}
 use Rattle.ifdef_out.proofs.StartLemmas.{hunks-start, script-start, lone}
 use Rattle.ifdef_out.proofs.edits.start.Goals as goal
 

@@ -1,5 +1,4 @@
-use Rattle.std.proofs.Common.{◌≡◌, get_or, length, refl, sym, ◌∙◌, arith, rules}
-use Rattle.hunk_core.specs.declared.Hunk.{Hunk}
+use Rattle.std.proofs.Common.{sym, ◌∙◌, arith, rules}
 use Rattle.ifdef_out.proofs.HunkSteps.{none-ahead, none-placed, starts-at, starts-over, here}
 use Rattle.ifdef_out.proofs.hunks.hunk_start.Goals as goal
 

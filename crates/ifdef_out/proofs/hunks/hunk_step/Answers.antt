@@ -1,6 +1,6 @@
-use Rattle.std.proofs.Common.{◌≡◌, ◌≤◌, ◌<◌, ◌^◌, ◌+◌, cond, length, refl, sym, ap, ◌∙◌, arith, rules}
+use Rattle.std.proofs.Common.{◌≡◌, ◌≤◌, ◌<◌, ◌^◌, ◌+◌, cond, length, sym, ◌∙◌, arith, rules}
 use Rattle.hunk_core.specs.Sides.{is_on_side}
-use Rattle.ifdef_out.specs.Places.{hunks_at, step_edit}
+use Rattle.ifdef_out.specs.Places.{hunks_at}
 use Rattle.ifdef_out.proofs.HunkSteps.{none-ahead, hunk-over, line-ahead, line-lies, body-short}
 use Rattle.ifdef_out.proofs.hunks.hunk_step.Goals as goal
 

@@ -1,4 +1,4 @@
-use Rattle.std.proofs.Common.{◌≡◌, ◌++◌, ℕ, List, ◌∷◌, [], refl, sym, subst}
+use Rattle.std.proofs.Common.{ℕ, List, ◌∷◌, refl, subst}
 use Rattle.outside.specs.SinkView.{Receives, ReceivesPart}
 use Rattle.hunk_apply.specs.Written.{join_behind}
 use Rattle.hunk_apply.proofs.FaultLemmas.{on-err}

@@ -1,5 +1,3 @@
-use Rattle.std.proofs.Common.{◌≡◌, ℕ, List, Some, length}
-use Rattle.file_patch.specs.PlainPatch.{change_of}
 use Rattle.ifdef_out.proofs.PlacedLemmas.{change-order}
 use Rattle.ifdef_out.proofs.put.put_ifdef.Goals as goal
 

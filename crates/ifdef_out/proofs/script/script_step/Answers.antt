@@ -1,5 +1,4 @@
-use Rattle.std.proofs.Common.{◌≡◌, ◌≤◌, ◌<◌, ◌-◌, ◌+◌, ◌++◌, length, get_or, sym, ap, ◌∙◌, arith, rules}
-use Rattle.ifdef_out.specs.Places.{script_at, step_edit}
+use Rattle.std.proofs.Common.{◌≡◌, ◌≤◌, ◌<◌, ◌-◌, ◌+◌, length, get_or, sym, ap, ◌∙◌, arith, rules}
 use Rattle.ifdef_out.proofs.ScriptSteps.{none-ahead, drop-ahead, add-ahead, command-over, span-lies, moved}
 use Rattle.ifdef_out.proofs.script.script_step.Goals as goal
 

@@ -1,4 +1,4 @@
-use Rattle.std.proofs.Common.{◌≡◌, ◌++◌, ℕ, List, length}
+use Rattle.std.proofs.Common.{◌++◌, ℕ, List, length}
 use Rattle.outside.specs.SinkView.{SinkPasses}
 use Rattle.hunk_apply.specs.Written.{Wrote}
 use Rattle.ifdef_out.specs.Chain.{block_added}

@@ -1,4 +1,4 @@
-use Rattle.std.proofs.Common.{◌≡◌, ◌++◌, ℕ, List, ◌∷◌, ap, Option}
+use Rattle.std.proofs.Common.{◌++◌, ℕ, List, ap, Option}
 use Rattle.std.specs.Prelude.{option_map}
 use Rattle.line_list.specs.declared.Span.{Span}
 use Rattle.outside.specs.SinkView.{ReceivesPart}

@@ -1,4 +1,4 @@
-use Rattle.std.proofs.Common.{◌≡◌, ◌++◌, ℕ, List, ◌∷◌, sym, ap, ◌∙◌}
+use Rattle.std.proofs.Common.{◌≡◌, ◌++◌, ℕ, List, sym, ap, ◌∙◌}
 use Rattle.outside.specs.SinkView.{ReceivesPart}
 use Rattle.hunk_apply.specs.Written.{join_behind}
 use Rattle.hunk_apply.proofs.FaultLemmas.{on-err}

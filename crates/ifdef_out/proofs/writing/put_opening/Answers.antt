@@ -1,4 +1,4 @@
-use Rattle.std.proofs.Common.{◌≡◌, ◌≤◌, ◌<◌, ◌+◌, ◌++◌, ℕ, List, [], ◌∷◌, Some, length, refl, sym, ap, ◌∙◌, arith}
+use Rattle.std.proofs.Common.{◌≡◌, ◌≤◌, ◌<◌, ◌+◌, ◌++◌, ℕ, List, ◌∷◌, Some, length, refl, sym, ap, ◌∙◌, arith}
 use Rattle.outside.specs.SinkView.{ReceivesPart}
 use Rattle.hunk_apply.specs.Written.{lines_between, join_behind}
 use Rattle.hunk_apply.proofs.FaultLemmas.{on-err}
