@@ -104,7 +104,7 @@ kept-on side Keep e = refl
 kept-on side Drop e = cc
 kept-on side Add e = cc
 
-at-place : (items : List HunkLine) (k : ℕ) → k < length items → (l : HunkLine) × (l ≡ get_or items k l)
+pub at-place : (items : List HunkLine) (k : ℕ) → k < length items → (l : HunkLine) × (l ≡ get_or items k l)
 at-place [] k lt = absurd (omega arith)
 at-place (x ∷ xs) zero lt = (x, refl)
 at-place (x ∷ xs) (suc k) lt = at-place xs k (omega arith)

@@ -13,7 +13,7 @@ use Rattle.hunk_apply.specs.Applied.{taken_all, applied}
 use Rattle.hunk_apply.specs.Script.{script_lines}
 use Rattle.hunk_apply.specs.Change.{change_output, change_verdicts}
 
-taken-is : (text : List ℕ) (side : Side) (hs : List Hunk) → taken_all text side hs ≡ map (turned side) (hunks_of text hs)
+pub taken-is : (text : List ℕ) (side : Side) (hs : List Hunk) → taken_all text side hs ≡ map (turned side) (hunks_of text hs)
 taken-is text side [] = refl
 taken-is text side (h ∷ hs) = ap (λ (r : List PlainHunk). taken text side h ∷ r) (taken-is text side hs)
 

@@ -58,7 +58,7 @@ kept-between lines later from (suc n) low high h =
     ∙ ap (λ r. lines_between lines from (from + n) ++ r) (sym (line-kept lines later (from + n) (omega arith) behind))
     ∙ kept-between lines later from n low (omega arith) (sooner (from + n) ((from + n) + 1) later (omega arith) behind)
 
-kept : (lines : List (List ℕ)) (later : List Edit) (from to : ℕ) → 1 ≤ from → from ≤ to → to ≤ length lines + 1 → AreFrom to later
+pub kept : (lines : List (List ℕ)) (later : List Edit) (from to : ℕ) → 1 ≤ from → from ≤ to → to ≤ length lines + 1 → AreFrom to later
     → lines_between lines from to ++ spliced_from lines later to ≡ spliced_from lines later from
 kept lines later from to low order high h =
     let e : from + (to - from) ≡ to = omega arith in

@@ -19,7 +19,7 @@ use Rattle.hunk_apply.proofs.BodyLemmas.{edits-from}
 use Rattle.hunk_apply.proofs.HunkLemmas.{trailing-old}
 use Rattle.hunk_apply.proofs.PlaceLemmas.{spot-behind}
 
-edits-cons : (place : Option Spot) (ss : List (Option Spot)) (c : PlainHunk) (cs : List PlainHunk) → all_edits (place ∷ ss) (c ∷ cs) ≡ hunk_edits place c ++ all_edits ss cs
+pub edits-cons : (place : Option Spot) (ss : List (Option Spot)) (c : PlainHunk) (cs : List PlainHunk) → all_edits (place ∷ ss) (c ∷ cs) ≡ hunk_edits place c ++ all_edits ss cs
 unfolding all_edits
 edits-cons place ss c cs = refl
 
@@ -62,7 +62,7 @@ unfolding applied
 applied-is lines fuzz loose hs = ap join (sym (spliced-whole lines (all_edits (spots lines fuzz loose at_start hs) hs)))
 
 -- what a hunk consumes lies behind what was consumed
-consumes : (text : List ℕ) (side : Side) (h : Hunk) (state : PlaceState) (place : Option Spot) → ((s : Spot) → place ≡ Some s → state.consumed < s.line) → state.consumed ≤ (after_hunk (taken text side h) state place).consumed
+pub consumes : (text : List ℕ) (side : Side) (h : Hunk) (state : PlaceState) (place : Option Spot) → ((s : Spot) → place ≡ Some s → state.consumed < s.line) → state.consumed ≤ (after_hunk (taken text side h) state place).consumed
 consumes text side h state None behind = omega arith
 consumes text side h state (Some s) behind =
     let lt : state.consumed < s.line = behind s refl in
@@ -77,11 +77,11 @@ hunk-from : (q : ℕ) (place : Option Spot) (h : PlainHunk) → ((s : Spot) → 
 hunk-from q None h low = tt
 hunk-from q (Some s) h low = sooner q s.line (body_edits s.line h.body) (low s refl) (edits-from s.line h.body)
 
-spots-cons : (lines : List (List ℕ)) (fuzz : ℕ) (loose : Bool) (state : PlaceState) (h : PlainHunk) (hs : List PlainHunk) → spots lines fuzz loose state (h ∷ hs) ≡ spot lines fuzz loose h state ∷ spots lines fuzz loose (after_hunk h state (spot lines fuzz loose h state)) hs
+pub spots-cons : (lines : List (List ℕ)) (fuzz : ℕ) (loose : Bool) (state : PlaceState) (h : PlainHunk) (hs : List PlainHunk) → spots lines fuzz loose state (h ∷ hs) ≡ spot lines fuzz loose h state ∷ spots lines fuzz loose (after_hunk h state (spot lines fuzz loose h state)) hs
 unfolding spots
 spots-cons lines fuzz loose state h hs = refl
 
-edits-nil : (places : List (Option Spot)) → all_edits places [] ≡ []
+pub edits-nil : (places : List (Option Spot)) → all_edits places [] ≡ []
 unfolding all_edits
 edits-nil [] = refl
 edits-nil (p ∷ ps) = refl

@@ -10,7 +10,7 @@ use Rattle.hunk_place.specs.declared.PlaceState.{PlaceState}
 use Rattle.hunk_place.specs.declared.Spot.{Spot}
 use Rattle.hunk_place.proofs.OrderLemmas.{Each, each-range, each-ordered}
 
-found-each : (P : ℕ → Type 0) (f : ℕ → Bool) (w : ℕ) (ys : List ℕ) → Each P ys → find f ys ≡ Some w → P w
+pub found-each : (P : ℕ → Type 0) (f : ℕ → Bool) (w : ℕ) (ys : List ℕ) → Each P ys → find f ys ≡ Some w → P w
 found-each P f w [] h e = cc
 found-each P f w (y ∷ ys) h e = by (found-each P f w ys h.1) (f y) refl
   where
@@ -25,7 +25,7 @@ each-one low high w = by (nat_le low w && nat_le w high) refl
     by true e = (grind (arith, nat_tests), tt)
     by false e = tt
 
-each-cond : (P : ℕ → Type 0) (b : Bool) (xs ys : List ℕ) → Each P xs → Each P ys → Each P (cond b xs ys)
+pub each-cond : (P : ℕ → Type 0) (b : Bool) (xs ys : List ℕ) → Each P xs → Each P ys → Each P (cond b xs ys)
 each-cond P true xs ys h k = h
 each-cond P false xs ys h k = k
 
@@ -42,11 +42,11 @@ fit-low : (s : Search) (k w : ℕ) → first_fit s k ≡ Some w → lowest s ≤
 unfolding first_fit
 fit-low s k w e = found-each (λ v. lowest s ≤ v) (fits s.lines s.old s.loose (front_fuzz s k) (back_fuzz s k)) w (tries s k) (each-tried s k) e
 
-least-cons : (s : Search) (k : ℕ) (ks : List ℕ) → least_fuzz s (k ∷ ks) ≡ spot_or k (first_fit s k) (least_fuzz s ks)
+pub least-cons : (s : Search) (k : ℕ) (ks : List ℕ) → least_fuzz s (k ∷ ks) ≡ spot_or k (first_fit s k) (least_fuzz s ks)
 unfolding least_fuzz
 least-cons s k ks = refl
 
-least-none : (s : Search) → least_fuzz s [] ≡ None
+pub least-none : (s : Search) → least_fuzz s [] ≡ None
 unfolding least_fuzz
 least-none s = refl
 

@@ -72,7 +72,7 @@ unfolding scripted
 scripted-none lines = refl
 
 -- the last edit of a list that is lawful
-last-lawful : (b : ℕ) (es : List PlainEdit) (e : PlainEdit) → AreLawful b (es ++ e ∷ []) → IsLawfulEdit e
+pub last-lawful : (b : ℕ) (es : List PlainEdit) (e : PlainEdit) → AreLawful b (es ++ e ∷ []) → IsLawfulEdit e
 last-lawful b [] e h = h.0
 last-lawful b (d ∷ es) e h = last-lawful (lowest d) es e h.2
 
@@ -83,31 +83,31 @@ last-below b (d ∷ es) e h =
     let there : e.last < lowest d = last-below (lowest d) es e h.2 in
     omega arith
 
-last-within : (n : ℕ) (es : List PlainEdit) (e : PlainEdit) → EndWithin n (es ++ e ∷ []) → e.last ≤ n
+pub last-within : (n : ℕ) (es : List PlainEdit) (e : PlainEdit) → EndWithin n (es ++ e ∷ []) → e.last ≤ n
 last-within n [] e h = h.0
 last-within n (d ∷ es) e h = last-within n es e h.1
 
-last-begins : (q : ℕ) (es : List PlainEdit) (e : PlainEdit) → BeginFrom q (es ++ e ∷ []) → q ≤ e.first
+pub last-begins : (q : ℕ) (es : List PlainEdit) (e : PlainEdit) → BeginFrom q (es ++ e ∷ []) → q ≤ e.first
 last-begins q [] e h = h.0
 last-begins q (d ∷ es) e h = last-begins q es e h.1
 
 -- the edits before it in the script stand behind it in the file
-others-begin : (b : ℕ) (es : List PlainEdit) (e : PlainEdit) → AreLawful b (es ++ e ∷ []) → BeginFrom (e.last + 1) es
+pub others-begin : (b : ℕ) (es : List PlainEdit) (e : PlainEdit) → AreLawful b (es ++ e ∷ []) → BeginFrom (e.last + 1) es
 others-begin b [] e h = tt
 others-begin b (d ∷ es) e h =
     let there : e.last < lowest d = last-below (lowest d) es e h.2 in
     (omega arith, others-begin (lowest d) es e h.2)
 
-others-lawful : (b : ℕ) (es : List PlainEdit) (e : PlainEdit) → AreLawful b (es ++ e ∷ []) → AreLawful b es
+pub others-lawful : (b : ℕ) (es : List PlainEdit) (e : PlainEdit) → AreLawful b (es ++ e ∷ []) → AreLawful b es
 others-lawful b [] e h = tt
 others-lawful b (d ∷ es) e h = (h.0, h.1, others-lawful (lowest d) es e h.2)
 
-others-within : (n : ℕ) (es : List PlainEdit) (e : PlainEdit) → EndWithin n (es ++ e ∷ []) → EndWithin n es
+pub others-within : (n : ℕ) (es : List PlainEdit) (e : PlainEdit) → EndWithin n (es ++ e ∷ []) → EndWithin n es
 others-within n [] e h = tt
 others-within n (d ∷ es) e h = (h.0, others-within n es e h.1)
 
 -- from line q on: the lines up to the last edit of the list, what it adds, and what the others leave behind it
-edit-ahead : (b q : ℕ) (lines : List (List ℕ)) (es : List PlainEdit) (e : PlainEdit) → AreLawful b (es ++ e ∷ []) → EndWithin (length lines) (es ++ e ∷ []) → 1 ≤ q → q ≤ e.first
+pub edit-ahead : (b q : ℕ) (lines : List (List ℕ)) (es : List PlainEdit) (e : PlainEdit) → AreLawful b (es ++ e ∷ []) → EndWithin (length lines) (es ++ e ∷ []) → 1 ≤ q → q ≤ e.first
     → drop (q - 1) (scripted lines (es ++ e ∷ [])) ≡ lines_between lines q e.first ++ (e.added ++ drop e.last (scripted lines es))
 edit-ahead b q lines es e h w low le =
     let order : e.first ≤ e.last + 1 = (last-lawful b es e h).order in
@@ -125,7 +125,7 @@ edit-ahead b q lines es e h w low le =
     sooner-begin p q [] le h = tt
     sooner-begin p q (e ∷ es) le h = let here : q ≤ e.first = h.0 in (omega arith, sooner-begin p q es le h.1)
 
-begin-first : (b : ℕ) (es : List PlainEdit) → AreLawful b es → BeginFrom 1 es
+pub begin-first : (b : ℕ) (es : List PlainEdit) → AreLawful b es → BeginFrom 1 es
 begin-first b [] h = tt
 begin-first b (e ∷ es) h = (h.0.start, begin-first (lowest e) es h.2)
 

@@ -1,0 +1,16 @@
+pub mod WholeLemmas
+pub mod HunkSteps
+pub mod ScriptSteps
+pub mod ChainLemmas
+pub mod StartLemmas
+pub mod TaggedLemmas
+pub mod BlockLemmas
+pub mod MarkLemmas
+pub mod Going
+pub mod SpotLemmas
+pub mod InOrder
+pub mod PlacedLemmas
+pub mod KeptLemmas
+pub mod ScriptMade
+pub mod FedLemmas
+pub mod ReadLemmas

@@ -1,0 +1,190 @@
+//! A block written with its conditions.
+
+ghost use Rattle.std.specs.Prelude.{◌≡◌, ◌+◌, ◌≤◌, ◌++◌, ℕ, List, ◌∷◌, length, option_map, Some, IfOk, OnErr, IfErr};
+ghost use Rattle.line_store.specs.Store.{Keeps};
+ghost use Rattle.outside.specs.SinkView.{IsSinkCall, SinkPasses, ReceivesPart};
+ghost use Rattle.hunk_core.specs.PlainHunk.{bytes_at};
+ghost use Rattle.hunk_apply.specs.Faults.{HasApplyCause};
+ghost use Rattle.hunk_apply.specs.Splice.{added_line};
+ghost use Rattle.hunk_apply.specs.Written.{Wrote, lines_between, join_behind};
+ghost use Rattle.ifdef_out.specs.Chain.{block_added, is_some_line};
+ghost use Rattle.ifdef_out.specs.Places.{AreEdits, IsBlock, Lies, edits_left};
+ghost use Rattle.ifdef_out.specs.Tagged.{closed, else_mark, endif_line, ifndef_line, opening, texts};
+
+use crate::block::{Block, gap_behind};
+use crate::edits::Edits;
+use crate::found::next_edit;
+use crate::marking::put_condition;
+use crate::place::{LineEdit, Place};
+use hunk_apply::{ApplyFault, Tail, copy_lines, put_line};
+use line_store::LineStore;
+use outside::{Failed, Sink};
+
+/// Writes the block that begins at line `first`.
+pub fn put_block<S: LineStore, O: Sink>(
+    store: &mut S,
+    out: &mut O,
+    tail: Tail,
+    edits: Edits,
+    place: Place,
+    first: u64,
+    block: Block,
+    define: &str,
+) -> Result<Tail, ApplyFault>
+    requires edits { AreEdits edits }
+    requires block { IsBlock edits place first block }
+    ensures written { IfOk result (λ now. (lines : List (List ℕ)) → (S.seen store.old).told ≡ Some lines → 1 ≤ first → block.end ≤ length lines + 1 → (more : List (List ℕ)) → Wrote (O.view out.old) (O.view out.new) tail now (texts (closed define.now (lines_between lines first block.end) (block_added first (edits_left edits.entry place))) ++ more) more) }
+    ensures part { OnErr result ((lines : List (List ℕ)) → (S.seen store.old).told ≡ Some lines → 1 ≤ first → block.end ≤ length lines + 1 → (more : List (List ℕ)) → ReceivesPart (O.view out.old) (O.view out.new) (join_behind tail.is_open (texts (closed define.now (lines_between lines first block.end) (block_added first (edits_left edits.entry place))) ++ more))) }
+    ensures keeps { Keeps (S.seen store.old) (S.seen store.new) }
+    ensures sink { SinkPasses (O.view out.old) (O.view out.new) }
+    ensures rest { O.same_rest out.old out.new }
+    ensures cause { IfErr result (λ e. HasApplyCause e (S.seen store.old) (S.seen store.new) (O.view out.old) (O.view out.new)) }
+{
+    let opened = put_opening(store, out, tail, first, block, define)?;
+    let end = put_rest(out, opened, edits, place, first)?;
+    Ok(end)
+}
+
+/// Writes what stands in front of a block's added lines.
+fn put_opening<S: LineStore, O: Sink>(
+    store: &mut S,
+    out: &mut O,
+    tail: Tail,
+    first: u64,
+    block: Block,
+    define: &str,
+) -> Result<Tail, ApplyFault>
+    ensures written { IfOk result (λ now. (lines : List (List ℕ)) → (S.seen store.old).told ≡ Some lines → 1 ≤ first → first ≤ block.end → block.end ≤ length lines + 1 → (added : List (List ℕ)) → block.is_adding ≡ is_some_line added → (more : List (List ℕ)) → Wrote (O.view out.old) (O.view out.new) tail now (texts (opening define.now (lines_between lines first block.end) added) ++ more) more) }
+    ensures part { OnErr result ((lines : List (List ℕ)) → (S.seen store.old).told ≡ Some lines → 1 ≤ first → first ≤ block.end → block.end ≤ length lines + 1 → (added : List (List ℕ)) → block.is_adding ≡ is_some_line added → (more : List (List ℕ)) → ReceivesPart (O.view out.old) (O.view out.new) (join_behind tail.is_open (texts (opening define.now (lines_between lines first block.end) added) ++ more))) }
+    ensures keeps { Keeps (S.seen store.old) (S.seen store.new) }
+    ensures sink { SinkPasses (O.view out.old) (O.view out.new) }
+    ensures rest { O.same_rest out.old out.new }
+    ensures cause { IfErr result (λ e. HasApplyCause e (S.seen store.old) (S.seen store.new) (O.view out.old) (O.view out.new)) }
+{
+    if block.end <= first {
+        let end = put_condition(out, tail, b"#ifdef ", define)?;
+        return Ok(end);
+    }
+    let end = put_dropped(store, out, tail, first, block, define)?;
+    Ok(end)
+}
+
+/// Writes the lines that a block drops, of which there are some, behind their condition.
+fn put_dropped<S: LineStore, O: Sink>(
+    store: &mut S,
+    out: &mut O,
+    tail: Tail,
+    first: u64,
+    block: Block,
+    define: &str,
+) -> Result<Tail, ApplyFault>
+    ensures written { IfOk result (λ now. (lines : List (List ℕ)) → (S.seen store.old).told ≡ Some lines → 1 ≤ first → first ≤ block.end → block.end ≤ length lines + 1 → (added : List (List ℕ)) → block.is_adding ≡ is_some_line added → (more : List (List ℕ)) → Wrote (O.view out.old) (O.view out.new) tail now (ifndef_line define.now ∷ (lines_between lines first block.end ++ (texts (else_mark added) ++ more))) more) }
+    ensures part { OnErr result ((lines : List (List ℕ)) → (S.seen store.old).told ≡ Some lines → 1 ≤ first → first ≤ block.end → block.end ≤ length lines + 1 → (added : List (List ℕ)) → block.is_adding ≡ is_some_line added → (more : List (List ℕ)) → ReceivesPart (O.view out.old) (O.view out.new) (join_behind tail.is_open (ifndef_line define.now ∷ (lines_between lines first block.end ++ (texts (else_mark added) ++ more))))) }
+    ensures keeps { Keeps (S.seen store.old) (S.seen store.new) }
+    ensures sink { SinkPasses (O.view out.old) (O.view out.new) }
+    ensures rest { O.same_rest out.old out.new }
+    ensures cause { IfErr result (λ e. HasApplyCause e (S.seen store.old) (S.seen store.new) (O.view out.old) (O.view out.new)) }
+{
+    let opened = put_condition(out, tail, b"#ifndef ", define)?;
+    let dropped = copy_within(store, out, opened, first, block.end)?;
+    let end = put_else(out, dropped, block.is_adding)?;
+    Ok(end)
+}
+
+fn put_else<O: Sink>(out: &mut O, tail: Tail, is_adding: bool) -> Result<Tail, Failed>
+    ensures call { IsSinkCall (O.view out.old) (O.view out.new) result }
+    ensures rest { O.same_rest out.old out.new }
+    ensures written { IfOk result (λ now. (added : List (List ℕ)) → is_adding ≡ is_some_line added → (more : List (List ℕ)) → Wrote (O.view out.old) (O.view out.new) tail now (texts (else_mark added) ++ more) more) }
+    ensures part { OnErr result ((added : List (List ℕ)) → is_adding ≡ is_some_line added → (more : List (List ℕ)) → ReceivesPart (O.view out.old) (O.view out.new) (join_behind tail.is_open (texts (else_mark added) ++ more))) }
+{
+    if is_adding {
+        let end = put_line(out, tail, b"#else\n")?;
+        return Ok(end);
+    }
+    Ok(tail)
+}
+
+/// Writes the lines that a block adds, and its end.
+fn put_rest<O: Sink>(
+    out: &mut O,
+    tail: Tail,
+    edits: Edits,
+    place: Place,
+    first: u64,
+) -> Result<Tail, Failed>
+    requires { AreEdits edits }
+    ensures call { IsSinkCall (O.view out.old) (O.view out.new) result }
+    ensures rest { O.same_rest out.old out.new }
+    ensures written { IfOk result (λ now. (more : List (List ℕ)) → Wrote (O.view out.old) (O.view out.new) tail now (block_added first (edits_left edits.entry place) ++ (endif_line ∷ more)) more) }
+    ensures part { OnErr result ((more : List (List ℕ)) → ReceivesPart (O.view out.old) (O.view out.new) (join_behind tail.is_open (block_added first (edits_left edits.entry place) ++ (endif_line ∷ more)))) }
+{
+    let added = put_added(out, tail, edits, place, first)?;
+    let end = put_line(out, added, b"#endif\n")?;
+    Ok(end)
+}
+
+/// Writes the lines that a block adds.
+fn put_added<O: Sink>(
+    out: &mut O,
+    tail: Tail,
+    edits: Edits,
+    place: Place,
+    first: u64,
+) -> Result<Tail, Failed>
+    requires { AreEdits edits }
+    ensures call { IsSinkCall (O.view out.old) (O.view out.new) result }
+    ensures rest { O.same_rest out.old out.new }
+    ensures written { IfOk result (λ now. (more : List (List ℕ)) → Wrote (O.view out.old) (O.view out.new) tail now (block_added first (edits_left edits.entry place) ++ more) more) }
+    ensures part { OnErr result ((more : List (List ℕ)) → ReceivesPart (O.view out.old) (O.view out.new) (join_behind tail.is_open (block_added first (edits_left edits.entry place) ++ more))) }
+{
+    let mut now = tail;
+    let mut at = place;
+    let mut next = first;
+    while let Some(found) = next_edit(edits, at) {
+        if found.edit.at != next {
+            return Ok(now);
+        }
+        now = put_edit(out, now, edits.text, found.edit)?;
+        next = gap_behind(found.edit, next);
+        at = found.behind;
+    }
+    Ok(now)
+}
+
+/// Writes the line that an edit adds, if it adds one.
+fn put_edit<O: Sink>(out: &mut O, tail: Tail, text: &[u8], edit: LineEdit) -> Result<Tail, Failed>
+    requires { Lies text.now edit }
+    ensures call { IsSinkCall (O.view out.old) (O.view out.new) result }
+    ensures rest { O.same_rest out.old out.new }
+    ensures written { IfOk result (λ now. (more : List (List ℕ)) → Wrote (O.view out.old) (O.view out.new) tail now (added_line (option_map (bytes_at text.now) edit.added) ++ more) more) }
+    ensures part { OnErr result ((more : List (List ℕ)) → ReceivesPart (O.view out.old) (O.view out.new) (join_behind tail.is_open (added_line (option_map (bytes_at text.now) edit.added) ++ more))) }
+{
+    if let Some(span) = edit.added {
+        let now = put_line(out, tail, &text[span.start as usize..span.end as usize])?;
+        return Ok(now);
+    }
+    Ok(tail)
+}
+
+/// Writes the store's lines from `from` up to, not including, `to`, where the store has them.
+pub fn copy_within<S: LineStore, O: Sink>(
+    store: &mut S,
+    out: &mut O,
+    tail: Tail,
+    from: u64,
+    to: u64,
+) -> Result<Tail, ApplyFault>
+    ensures written { IfOk result (λ now. (lines : List (List ℕ)) → (S.seen store.old).told ≡ Some lines → 1 ≤ from → from ≤ to → to ≤ length lines + 1 → (more : List (List ℕ)) → Wrote (O.view out.old) (O.view out.new) tail now (lines_between lines from to ++ more) more) }
+    ensures part { OnErr result ((lines : List (List ℕ)) → (S.seen store.old).told ≡ Some lines → 1 ≤ from → from ≤ to → to ≤ length lines + 1 → (more : List (List ℕ)) → ReceivesPart (O.view out.old) (O.view out.new) (join_behind tail.is_open (lines_between lines from to ++ more))) }
+    ensures keeps { Keeps (S.seen store.old) (S.seen store.new) }
+    ensures sink { SinkPasses (O.view out.old) (O.view out.new) }
+    ensures rest { O.same_rest out.old out.new }
+    ensures cause { IfErr result (λ e. HasApplyCause e (S.seen store.old) (S.seen store.new) (O.view out.old) (O.view out.new)) }
+{
+    let count = store.count();
+    if from < 1 || from > to || to > count + 1 {
+        return Ok(tail);
+    }
+    let end = copy_lines(store, out, tail, from, to)?;
+    Ok(end)
+}
