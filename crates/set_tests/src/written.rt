@@ -1,19 +1,20 @@
 //! What is asked for, and what is written.
 
-use crate::jobs::{field, filter_job, grep_job, list_job};
+use crate::candidates::bytes_of;
+use crate::jobs::{filter_job, grep_job, list_job};
+use crate::sets::{field, set};
 use crate::texts::text;
 use mem_world::{MemSink, PlainFinder};
 use outside::Finder;
 use patch_filters::{RegexFinder, filter_patches, grep_patches, list_patches};
-use patch_options::{Job, read_words};
-use patch_set::{PatchSet, read_set};
+use patch_set::PatchSet;
 use std::alloc::Global;
 use std::test::Fail;
 
 /// A text, what is asked for, and behind ` = ` what is written: a text by its name behind `=`, or bytes with `|` for a line
 /// feed, `>` for a tab and `_` for a space; `!` is a refusal. Lines are found by regular expressions, in rows of `plain` by
 /// plain texts. The old lines of `two` are 1 and 2, and 4 and 5, the new ones 1 to 3, and 5 and 6.
-const ROWS: &str = "list none s 0 =
+pub const ROWS: &str = "list none s 0 =
 list git - 0 = a/lib/main.c|a/my_notes.txt|b/new.txt|
 list git s 0 = !_a/lib/main.c|!_a/my_notes.txt|+_b/new.txt|
 list git n 0 = 3>a/lib/main.c|12>a/my_notes.txt|20>b/new.txt|
@@ -61,18 +62,6 @@ grep script x - h = =script
 grep script 7 - f =
 grep none x - n =";
 
-fn set(alloc: Global, text: &str) -> Result<PatchSet, Fail> {
-    let words = vec![in alloc; String::from_str(alloc, "patch")?]?;
-    let options = match read_words(alloc, &words) {
-        Ok(Job::Patch(options)) => options,
-        Err(_) => Err("a command")?,
-    };
-    match read_set(alloc, Vec::from_slice(alloc, text.as_bytes())?, &options) {
-        Ok(set) => Ok(set),
-        Err(_) => Err("a set")?,
-    }
-}
-
 /// Whether the file patches of which a line is found are written.
 fn greps<F: Finder>(
     alloc: Global,
@@ -95,15 +84,21 @@ fn filters(alloc: Global, set: &PatchSet, row: &str, out: &mut MemSink) -> Resul
     Ok(filter_patches(set, &job, out).is_ok())
 }
 
-/// Whether what a row asks for is written.
-fn writes(alloc: Global, row: &str, out: &mut MemSink) -> Result<bool, Fail> {
-    let set = set(alloc, text(field(row, 1)))?;
+/// Whether what a row asks of a set is written.
+fn writes(alloc: Global, set: &PatchSet, row: &str, out: &mut MemSink) -> Result<bool, Fail> {
     match field(row, 0) {
-        "list" => lists(alloc, &set, row, out),
-        "filter" => filters(alloc, &set, row, out),
-        "plain" => greps(alloc, &set, row, &mut PlainFinder::new(), out),
-        _ => greps(alloc, &set, row, &mut RegexFinder::new(), out),
+        "list" => lists(alloc, set, row, out),
+        "filter" => filters(alloc, set, row, out),
+        "plain" => greps(alloc, set, row, &mut PlainFinder::new(), out),
+        _ => greps(alloc, set, row, &mut RegexFinder::new(), out),
     }
+}
+
+/// Whether what a row asks for is written, over the set of its text.
+fn reads_and_writes(alloc: Global, row: &str, out: &mut MemSink) -> Result<bool, Fail> {
+    let bytes = Vec::from_slice(alloc, text(field(row, 1)).as_bytes())?;
+    let set = set(alloc, bytes)?;
+    writes(alloc, &set, row, out)
 }
 
 fn meant(byte: u8) -> u8 {
@@ -129,25 +124,20 @@ fn is_same(bytes: &[u8], want: &str) -> bool {
 }
 
 /// Whether a row is so.
-fn is_so(alloc: Global, row: &str) -> Result<bool, Fail> {
+pub fn is_so(alloc: Global, row: &str) -> Result<bool, Fail> {
     let (asked, want) = row.split_once(" =").ok_or("a row")?;
     let want = want.trim();
     let mut out = MemSink::new(alloc, Vec::new(alloc));
-    let is_ok = writes(alloc, asked, &mut out)?;
+    let is_ok = reads_and_writes(alloc, asked, &mut out)?;
     if want == "!" {
         return Ok(!is_ok && out.bytes().is_empty());
     }
     Ok(is_ok && is_same(out.bytes(), want))
 }
 
-#[test]
-fn texts_are_written(rt: HostRuntime) -> Result<(), Fail> {
-    for row in ROWS.split('\n') {
-        let is_so = is_so(rt.alloc(), row)?;
-        assert!(rt; is_so, "{row}");
-    }
-    Ok(())
-}
+/// A pattern, a line that is no text, in which `*` is a byte that is none of UTF-8, and whether it is hit.
+pub const BYTES: &str = "b$ *ab hit
+^a.c$ a*c none";
 
 /// Whether a line that is no text has a hit.
 fn is_hit(alloc: Global, pattern: &str, line: &[u8]) -> Result<bool, Fail> {
@@ -158,9 +148,8 @@ fn is_hit(alloc: Global, pattern: &str, line: &[u8]) -> Result<bool, Fail> {
     }
 }
 
-#[test]
-fn bytes_are_searched(rt: HostRuntime) -> Result<(), Fail> {
-    assert!(rt; is_hit(rt.alloc(), "b$", b"\xffab")?);
-    assert!(rt; !is_hit(rt.alloc(), "^a.c$", b"a\xffc")?);
-    Ok(())
+/// Whether a row's line is hit as it says.
+pub fn is_searched(alloc: Global, row: &str) -> Result<bool, Fail> {
+    let line = bytes_of(alloc, field(row, 1))?.ok_or("a line")?;
+    Ok(is_hit(alloc, field(row, 0), &line)? == (field(row, 2) == "hit"))
 }

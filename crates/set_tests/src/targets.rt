@@ -1,17 +1,17 @@
 //! The names that a run can need for a name, row by row, and the numbers of names.
 
-ghost use Rattle.std.specs.Prelude.{IfOk};
 ghost use Rattle.patch_options.specs.PlainJob.{plain_options, IsLawful};
 
+use crate::sets::options;
 use outside::Name;
-use patch_options::{Job, Options, read_words};
+use patch_options::Options;
 use std::alloc::{AllocError, Global};
 use std::test::Fail;
 use target_names::{Numbers, Target};
 
 /// Words of `patch`, behind `:` a name, and behind `=` the target's name, its backup and its reject, and an `r` where one
 /// of them is reserved.
-const ROWS: &str = "patch:f=f f.orig f.rej
+pub const ROWS: &str = "patch:f=f f.orig f.rej
 patch -z ~:e/f=e/f e/f~ e/f.rej
 patch -B o/:e/f=e/f o/e/f e/f.rej
 patch -Bo/ -z~:f=f o/f~ f.rej
@@ -22,23 +22,16 @@ patch -zp:x.ptm=x.ptm x.ptmp x.ptm.rej r
 patch -p1:x.ptmp=x.ptmp x.ptmp.orig x.ptmp.rej r
 patch -p1:x.ptmp/f=x.ptmp/f x.ptmp/f.orig x.ptmp/f.rej";
 
-fn options(alloc: Global, words: &str) -> Result<Options, Fail>
-    ensures { IfOk result (λ options. IsLawful (plain_options options)) }
-{
-    let mut given = Vec::new(alloc);
-    for word in words.split(' ') {
-        given.push(String::from_str(alloc, word)?)?;
-    }
-    match read_words(alloc, &given) {
-        Ok(Job::Patch(options)) => Ok(options),
-        Err(_) => Err("a command")?,
-    }
+fn target(alloc: Global, words: &str, text: &str) -> Result<Target, Fail> {
+    let name = Name::new(alloc, text.as_bytes())?;
+    let options = options(alloc, words)?;
+    target_of(alloc, &options, &name)
 }
 
-fn target(alloc: Global, words: &str, text: &str) -> Result<Target, Fail> {
-    let options = options(alloc, words)?;
-    let name = Name::new(alloc, text.as_bytes())?;
-    Ok(Target::new(alloc, &options, &name, 7)?)
+fn target_of(alloc: Global, options: &Options, name: &Name) -> Result<Target, Fail>
+    requires { IsLawful (plain_options options.now) }
+{
+    Ok(Target::new(alloc, options, name, 7)?)
 }
 
 fn shown(alloc: Global, target: &Target) -> Result<String, AllocError> {
@@ -62,24 +55,34 @@ fn is_complete(target: &Target, own: usize) -> bool {
         && target.number == 7
 }
 
-#[test]
-fn targets_have_their_names(rt: HostRuntime) -> Result<(), Fail> {
-    for row in ROWS.split('\n') {
-        let (given, want) = row.split_once('=').ok_or("a row")?;
-        let (words, text) = given.split_once(':').ok_or("words")?;
-        let target = target(rt.alloc(), words, text)?;
-        assert_eq!(rt; shown(rt.alloc(), &target)?.as_str(), want);
-        assert!(rt; is_complete(&target, text.len()), "{row}");
-    }
-    Ok(())
+fn is_so(alloc: Global, target: &Target, own: usize, want: &str) -> Result<bool, Fail> {
+    Ok(is_complete(target, own) && shown(alloc, target)?.as_str() == want)
 }
 
-#[test]
-fn equal_names_have_equal_numbers(rt: HostRuntime) -> Result<(), Fail> {
-    let mut numbers = Numbers::new(rt.alloc());
-    for (text, want) in [("f", 0), ("a", 1), ("./f", 0), ("g", 2)] {
-        let name = Name::new(rt.alloc(), text.as_bytes())?;
-        assert_eq!(rt; numbers.number(rt.alloc(), &name)?, want);
+/// Whether a row's target has these names.
+pub fn is_named(alloc: Global, row: &str) -> Result<bool, Fail> {
+    let (given, want) = row.split_once('=').ok_or("a row")?;
+    let (words, text) = given.split_once(':').ok_or("words")?;
+    let target = target(alloc, words, text)?;
+    is_so(alloc, &target, text.len(), want)
+}
+
+/// Names, and behind ` =` their numbers. Equal names have one number.
+pub const NUMBERS: &str = "f a ./f g = 0 1 0 2";
+
+fn number_of(alloc: Global, numbers: &mut Numbers, text: &str) -> Result<String, Fail> {
+    let name = Name::new(alloc, text.as_bytes())?;
+    let number = numbers.number(alloc, &name)?;
+    Ok(format!(in alloc; " {number}")?)
+}
+
+/// Whether a row's names have these numbers.
+pub fn are_numbered(alloc: Global, row: &str) -> Result<bool, Fail> {
+    let (names, want) = row.split_once(" =").ok_or("a row")?;
+    let mut numbers = Numbers::new(alloc);
+    let mut shown = String::new(alloc);
+    for name in names.split(' ') {
+        shown.push_str(number_of(alloc, &mut numbers, name)?.as_str())?;
     }
-    Ok(())
+    Ok(shown.as_str() == want)
 }

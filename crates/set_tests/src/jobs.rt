@@ -1,15 +1,9 @@
 //! What a row asks for. Its fields stand between blanks.
 
+use crate::sets::field;
 use patch_filters::{GrepJob, GrepOut};
 use patch_options::{FilterJob, Input, ListJob, Ranges, Select};
 use std::alloc::{AllocError, Global};
-
-pub fn field(row: &str, place: usize) -> &str {
-    match row.split(' ').nth(place) {
-        Some(field) => field,
-        None => "",
-    }
-}
 
 /// One pattern, or none for `-`.
 fn patterns(alloc: Global, pattern: &str) -> Result<Vec<Vec<u8>>, AllocError> {

@@ -1,10 +1,7 @@
 //! Sets, row by row. A row is a text of labelled lines, in which a bar stands for a line's end.
 
-ghost use Rattle.std.specs.Prelude.{IfOk};
-ghost use Rattle.patch_options.specs.PlainJob.{plain_options, IsLawful};
-
+use crate::sets::options;
 use file_patch::FilePatch;
-use patch_options::{Job, Options, read_words};
 use patch_set::{PatchSet, SetFault, read_set};
 use std::alloc::Global;
 use std::test::Fail;
@@ -13,7 +10,7 @@ use std::test::Fail;
 /// output and how many hunks there are. Of a file patch: its form, the lines of its opening and of its names, where it begins
 /// and ends, how many hunks it has and how many come before, whether its old and its new side are no file, and the numbers of
 /// its targets.
-const SETS: &str = "
+pub const SETS: &str = "
 words patch
 text
 answer None 0
@@ -56,7 +53,7 @@ answer Context 17 15 0 182 1 0 false false 0 0|None 1
 ";
 
 /// Texts of one hunk, of which a side is no file by its name or its stamp, or isn't.
-const SIDES: &str = "
+pub const SIDES: &str = "
 words patch
 text --- f\t1970-01-01 00:00:00 +0000|+++ f|@@ -0,0 +1 @@|+x|
 answer Unified 3 1 0 55 1 0 true false 0 0|None 1
@@ -83,7 +80,7 @@ answer Unified 3 1 0 37 1 0 false true 0|None 1
 ";
 
 /// Texts that are refused, where more than one cause stands by the first.
-const REFUSED: &str = "
+pub const REFUSED: &str = "
 words patch
 text hello|
 answer Garbage
@@ -169,19 +166,6 @@ fn bytes_of(alloc: Global, shown: &str) -> Result<Vec<u8>, Fail> {
     Ok(Vec::from_slice(alloc, text.as_bytes())?)
 }
 
-fn options(alloc: Global, words: &str) -> Result<Options, Fail>
-    ensures { IfOk result (λ options. IsLawful (plain_options options)) }
-{
-    let mut given = Vec::new(alloc);
-    for word in words.split(' ') {
-        given.push(String::from_str(alloc, word)?)?;
-    }
-    match read_words(alloc, &given) {
-        Ok(Job::Patch(options)) => Ok(options),
-        Err(_) => Err("a command")?,
-    }
-}
-
 /// The set of a row.
 fn read(alloc: Global, row: &str) -> Result<Result<PatchSet, SetFault>, Fail> {
     let options = options(alloc, field(row, "words "))?;
@@ -224,21 +208,14 @@ fn answer_of(alloc: Global, set: &PatchSet) -> Result<String, Fail> {
     Ok(all)
 }
 
-/// Whether a row's text is read, or refused, as it says.
-fn is_read(alloc: Global, row: &str) -> Result<bool, Fail> {
-    let answer = match read(alloc, row)? {
-        Ok(set) => answer_of(alloc, &set)?,
-        Err(fault) => format!(in alloc; "{fault:?}")?,
-    };
-    Ok(answer.as_str() == field(row, "answer "))
+fn answer(alloc: Global, row: &str) -> Result<String, Fail> {
+    match read(alloc, row)? {
+        Ok(set) => answer_of(alloc, &set),
+        Err(fault) => Ok(format!(in alloc; "{fault:?}")?),
+    }
 }
 
-#[test]
-fn texts_are_read(rt: HostRuntime) -> Result<(), Fail> {
-    for rows in [SETS, SIDES, REFUSED] {
-        for row in rows.trim().split("\n\n") {
-            assert!(rt; is_read(rt.alloc(), row)?, "{row}");
-        }
-    }
-    Ok(())
+/// Whether a row's text is read, or refused, as it says.
+pub fn is_read(alloc: Global, row: &str) -> Result<bool, Fail> {
+    Ok(answer(alloc, row)?.as_str() == field(row, "answer "))
 }

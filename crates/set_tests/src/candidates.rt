@@ -1,5 +1,6 @@
 //! The names of headers, row by row.
 
+use crate::sets::field;
 use outside::Name;
 use std::alloc::{AllocError, Global};
 use std::test::Fail;
@@ -7,7 +8,7 @@ use target_names::candidates;
 
 /// How many slashes are stripped, or `-` for all; the old, the new and the index name, with `-` for none and `*` for a byte
 /// that is none of UTF-8; and the candidates.
-const ROWS: &str = "0 a//b/c - - = a/b/c
+pub const ROWS: &str = "0 a//b/c - - = a/b/c
 1 a//b/c - - = b/c
 2 a//b/c - - = c
 3 a//b/c - - =
@@ -36,13 +37,6 @@ const ROWS: &str = "0 a//b/c - - = a/b/c
 1 - - c/h = h
 1 - - - =";
 
-fn field(row: &str, place: usize) -> &str {
-    match row.split(' ').nth(place) {
-        Some(field) => field,
-        None => "",
-    }
-}
-
 fn strip_of(word: &str) -> Option<u32> {
     match word {
         "0" => Some(0),
@@ -54,7 +48,7 @@ fn strip_of(word: &str) -> Option<u32> {
 }
 
 /// The bytes of a field, or none for `-`.
-fn bytes_of(alloc: Global, field: &str) -> Result<Option<Vec<u8>>, AllocError> {
+pub fn bytes_of(alloc: Global, field: &str) -> Result<Option<Vec<u8>>, AllocError> {
     if field == "-" {
         return Ok(None);
     }
@@ -91,11 +85,8 @@ fn found(alloc: Global, row: &str) -> Result<String, AllocError> {
     joined(alloc, &names)
 }
 
-#[test]
-fn names_of_headers_are_taken(rt: HostRuntime) -> Result<(), Fail> {
-    for row in ROWS.split('\n') {
-        let (header, want) = row.split_once(" =").ok_or("a row")?;
-        assert_eq!(rt; found(rt.alloc(), header)?.as_str(), want, "{row}");
-    }
-    Ok(())
+/// Whether these names are taken from a row's header.
+pub fn are_taken(alloc: Global, row: &str) -> Result<bool, Fail> {
+    let (header, want) = row.split_once(" =").ok_or("a row")?;
+    Ok(found(alloc, header)?.as_str() == want)
 }
