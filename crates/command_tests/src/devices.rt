@@ -1,7 +1,7 @@
 //! Rows that choose their devices: a source without end, and a file of a great size.
 
-use crate::row::{PLANS, has_files, name_of, nothing, said, tree_of};
-use mem_world::{EndlessSource, MemScratch, SizedTree};
+use crate::row::{PLANS, has_files, is_run, name_of, nothing, tree_of};
+use mem_world::{EndlessSource, MemTree, SizedTree};
 use std::alloc::Global;
 use std::test::Fail;
 
@@ -23,22 +23,23 @@ out patching file f|
 err patch: **** a file of 1099511627776 bytes is too long|
 ";
 
-/// Whether a source without end is refused, with nothing changed.
+/// Whether a source without end is refused over this tree, with nothing changed.
+fn is_refused(alloc: Global, tree: &mut MemTree) -> Result<bool, Fail> {
+    let mut input = EndlessSource::new();
+    Ok(is_run(alloc, "patch", ENDLESS, tree, &mut input)? && has_files(alloc, tree, ENDLESS)?)
+}
+
 fn is_endless(alloc: Global) -> Result<bool, Fail> {
     let mut tree = tree_of(alloc, ENDLESS)?;
-    let scratch = MemScratch::new(alloc, Vec::new(alloc));
-    let mut input = EndlessSource::new();
-    let kept = said(alloc, "patch", ENDLESS, &mut tree, scratch, &mut input)?;
-    Ok(kept.is_some() && has_files(alloc, &tree, ENDLESS)?)
+    is_refused(alloc, &mut tree)
 }
 
 /// Whether a run over a tree that claims a size says what its row does.
 fn is_sized(alloc: Global, tool: &str) -> Result<bool, Fail> {
+    let name = name_of(alloc, "f")?;
     let inner = tree_of(alloc, SIZED)?;
-    let mut tree = SizedTree::new(inner, name_of(alloc, "f")?, 1_099_511_627_776);
-    let scratch = MemScratch::new(alloc, Vec::new(alloc));
-    let kept = said(alloc, tool, SIZED, &mut tree, scratch, &mut nothing(alloc))?;
-    Ok(kept.is_some())
+    let mut tree = SizedTree::new(inner, name, 1_099_511_627_776);
+    is_run(alloc, tool, SIZED, &mut tree, &mut nothing(alloc))
 }
 
 #[test]

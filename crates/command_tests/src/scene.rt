@@ -65,7 +65,8 @@ struct Devices {
     out: MemSink,
 }
 
-fn words_of(alloc: Global, words: &str) -> Result<Vec<String>, Fail> {
+/// Words with blanks between them.
+pub fn words_of(alloc: Global, words: &str) -> Result<Vec<String>, Fail> {
     let mut list = Vec::new(alloc);
     for word in words.split(' ') {
         list.push(String::from_str(alloc, word)?)?;
@@ -80,20 +81,23 @@ fn failing(alloc: Global, device: Device, chosen: Device, call: u32) -> Result<V
 }
 
 fn tree_of(alloc: Global, failing: Vec<u32>) -> Result<MemTree, Fail> {
+    let name = Name::new(alloc, b"f")?;
+    let bytes = Vec::from_slice(alloc, OLD)?;
     let mut tree = MemTree::new(alloc, failing);
-    tree.add(Name::new(alloc, b"f")?, Vec::from_slice(alloc, OLD)?)?;
+    tree.add(name, bytes)?;
     Ok(tree)
 }
 
 fn devices_of(alloc: Global, chosen: Device, call: u32) -> Result<Devices, Fail> {
-    let tree = tree_of(alloc, failing(alloc, Device::Tree, chosen, call)?)?;
+    let text = Vec::from_slice(alloc, PATCH)?;
     let scratch = failing(alloc, Device::Scratch, chosen, call)?;
     let source = failing(alloc, Device::Source, chosen, call)?;
     let out = failing(alloc, Device::Out, chosen, call)?;
+    let tree = tree_of(alloc, failing(alloc, Device::Tree, chosen, call)?)?;
     Ok(Devices {
         tree,
         scratch: MemScratch::new(alloc, scratch),
-        input: MemSource::new(alloc, Vec::from_slice(alloc, PATCH)?, source),
+        input: MemSource::new(alloc, text, source),
         out: MemSink::new(alloc, out),
     })
 }

@@ -1,10 +1,7 @@
 //! Malicious texts: each is refused with its line and cause, before anything is changed.
 
-use crate::row::assert_rows;
-use std::test::Fail;
-
 /// Unified hunks that break the grammar.
-const UNIFIED: &str = "
+pub const UNIFIED: &str = "
 words patch f p.diff
 file f=a|b|c|
 file p.diff=--- f|+++ f|@@ -1,2 +1 @@| a|*x|
@@ -49,7 +46,7 @@ err patch: **** malformed patch at line 4: a misplaced backslash line|
 ";
 
 /// Other forms, and a fault behind a file patch that is lawful.
-const OTHERS: &str = "
+pub const OTHERS: &str = "
 words patch f p.diff
 file f=a|b|c|
 file p.diff=*** f|--- f|***************|*** 1,2 ****|  a|  b|--- 1,2 ----|  a|+ c|
@@ -93,9 +90,3 @@ file p.diff=--- f|+++ f|@@ -1,3 +1,3 @@| a|-b|+B| c|--- g|+++ g|@@ -1,2 +1 @@|-x
 answer Malformed { line: 12, kind: ShortEnd } 2
 err patch: **** malformed patch at line 12: the text ends inside a hunk|
 ";
-
-#[test]
-fn malicious_texts(rt: HostRuntime) -> Result<(), Fail> {
-    assert_rows(&rt, rt.alloc(), UNIFIED)?;
-    assert_rows(&rt, rt.alloc(), OTHERS)
-}

@@ -1,10 +1,9 @@
 //! A row is a text of labelled lines, in which a bar stands for a line's end. What it doesn't name is empty, or as it was.
 
 use mem_world::{MemScratch, MemSink, MemSource, MemTree};
-use outside::{Name, Scratch, Source, Tree};
+use outside::{Name, Source, Tree};
 use patch_cli::{Exit, run};
 use std::alloc::Global;
-use std::process::Abort;
 use std::test::Fail;
 
 /// The tool with the words of a plan.
@@ -54,32 +53,27 @@ fn is_said(
     err: &MemSink,
     row: &str,
 ) -> Result<bool, Fail> {
-    let (why, status) = (exit.why, exit.status);
-    let answer = format!(in alloc; "{why:?} {status}")?;
+    let answer = format!(in alloc; "{:?} {}", exit.why, exit.status)?;
     if answer.as_str() != field(row, "answer ") {
         return Ok(false);
     }
     Ok(is_text(alloc, out.bytes(), row, "out ")? && is_text(alloc, err.bytes(), row, "err ")?)
 }
 
-/// Runs the words of a row over these devices. The scratch comes back where the run says what the row does.
-pub fn said<T: Tree, C: Scratch + Drop, I: Source>(
+/// Whether a run of a row's words over these devices says what the row does.
+pub fn is_run<T: Tree, I: Source>(
     alloc: Global,
     tool: &str,
     row: &str,
     tree: &mut T,
-    scratch: C,
     input: &mut I,
-) -> Result<Option<C>, Fail> {
+) -> Result<bool, Fail> {
     let words = words_of(alloc, tool, row)?;
+    let scratch = MemScratch::new(alloc, Vec::new(alloc));
     let mut out = MemSink::new(alloc, Vec::new(alloc));
     let mut err = MemSink::new(alloc, Vec::new(alloc));
-    let (exit, scratch) = run(alloc, &words, tree, scratch, input, &mut out, &mut err);
-    if is_said(alloc, &exit, &out, &err, row)? {
-        Ok(Some(scratch))
-    } else {
-        Ok(None)
-    }
+    let (exit, _scratch) = run(alloc, &words, tree, scratch, input, &mut out, &mut err);
+    is_said(alloc, &exit, &out, &err, row)
 }
 
 pub fn name_of(alloc: Global, text: &str) -> Result<Name, Fail> {
@@ -166,22 +160,27 @@ pub fn has_files(alloc: Global, tree: &MemTree, row: &str) -> Result<bool, Fail>
     Ok(true)
 }
 
-/// Whether a run does what a row says.
-fn is_kept(alloc: Global, tool: &str, row: &str) -> Result<bool, Fail> {
-    let mut tree = tree_of(alloc, row)?;
-    let left = Vec::from_slice(alloc, text_of(alloc, field(row, "input "))?.as_bytes())?;
-    let mut input = MemSource::new(alloc, left, Vec::new(alloc));
-    let scratch = MemScratch::new(alloc, Vec::new(alloc));
-    let kept = said(alloc, tool, row, &mut tree, scratch, &mut input)?;
-    Ok(kept.is_some() && has_files(alloc, &tree, row)?)
+/// The text that a row's run reads from standard input.
+fn input_of(alloc: Global, row: &str) -> Result<MemSource, Fail> {
+    let text = text_of(alloc, field(row, "input "))?;
+    let left = Vec::from_slice(alloc, text.as_bytes())?;
+    Ok(MemSource::new(alloc, left, Vec::new(alloc)))
 }
 
-/// Asserts each row with every plan. An empty line stands between each two.
-pub fn assert_rows(rt: &impl Abort, alloc: Global, rows: &str) -> Result<(), Fail> {
-    for row in rows.trim().split("\n\n") {
-        for tool in PLANS {
-            assert!(*rt; is_kept(alloc, tool, row)?, "{tool}\n{row}");
-        }
-    }
-    Ok(())
+/// Whether a run over these devices does what a row says.
+fn keeps(
+    alloc: Global,
+    tool: &str,
+    row: &str,
+    tree: &mut MemTree,
+    input: &mut MemSource,
+) -> Result<bool, Fail> {
+    Ok(is_run(alloc, tool, row, tree, input)? && has_files(alloc, tree, row)?)
+}
+
+/// Whether a run does what a row says.
+pub fn is_kept(alloc: Global, tool: &str, row: &str) -> Result<bool, Fail> {
+    let mut input = input_of(alloc, row)?;
+    let mut tree = tree_of(alloc, row)?;
+    keeps(alloc, tool, row, &mut tree, &mut input)
 }

@@ -3,7 +3,6 @@
 use crate::scene::{Device, Left, TEXT, WORDS, left_by, moment};
 use patch_cli::Why;
 use std::alloc::Global;
-use std::process::Abort;
 use std::test::Fail;
 
 /// As many calls as are tried. No device is called as often.
@@ -36,15 +35,31 @@ fn has_done(alloc: Global, left: &Left) -> Result<bool, Fail> {
     Ok(left.err.bytes().is_empty() && moment(alloc, &left.tree)? == 4)
 }
 
+/// Whether a run ended with the device's fault, or else did all; `None` where it did what it may not.
+fn judged(alloc: Global, left: &Left, device: Device) -> Result<Option<bool>, Fail> {
+    if has_fault(alloc, left, device)? {
+        return Ok(Some(true));
+    }
+    Ok(if has_done(alloc, left)? {
+        Some(false)
+    } else {
+        None
+    })
+}
+
+/// The same of a run of which one call of the device fails.
+fn is_fault(alloc: Global, words: &str, device: Device, call: u32) -> Result<Option<bool>, Fail> {
+    let left = left_by(alloc, words, device, call)?;
+    judged(alloc, &left, device)
+}
+
 /// How many of the calls end the run with the device's fault; `None` where one does what it may not.
 fn faults(alloc: Global, words: &str, device: Device) -> Result<Option<u32>, Fail> {
     let mut count = 0u32;
     for call in 0..CALLS {
-        let left = left_by(alloc, words, device, call + 1)?;
-        if has_fault(alloc, &left, device)? {
-            count = count.saturating_add(1);
-        } else if !has_done(alloc, &left)? {
-            return Ok(None);
+        match is_fault(alloc, words, device, call + 1)? {
+            Some(fault) => count = count.saturating_add(u32::from(fault)),
+            None => return Ok(None),
         }
     }
     Ok(Some(count))
@@ -55,25 +70,21 @@ fn has_calls(words: &str, device: Device) -> bool {
     device != Device::Scratch || words.ends_with("=b") || words.ends_with("=packed")
 }
 
-fn assert_faults(rt: &impl Abort, alloc: Global, device: Device) -> Result<(), Fail> {
-    let why = fault_of(device).0;
-    for words in WORDS {
-        match faults(alloc, words, device)? {
-            Some(count) => assert_eq!(*rt;
-                (count > 0, count < CALLS),
-                (has_calls(words, device), true),
-                "{words}: {why:?}, {count}"
-            ),
-            None => assert!(*rt; false, "{words}: {why:?}"),
-        }
+/// Whether each call that a run makes of a device, and no other, ends it with the device's fault.
+fn has_faults(alloc: Global, words: &str, device: Device) -> Result<bool, Fail> {
+    match faults(alloc, words, device)? {
+        Some(count) => Ok((count > 0) == has_calls(words, device) && count < CALLS),
+        None => Ok(false),
     }
-    Ok(())
 }
 
 #[test]
 fn each_call_fails(rt: HostRuntime) -> Result<(), Fail> {
     for device in [Device::Tree, Device::Scratch, Device::Source, Device::Out] {
-        assert_faults(&rt, rt.alloc(), device)?;
+        for words in WORDS {
+            let why = fault_of(device).0;
+            assert!(rt; has_faults(rt.alloc(), words, device)?, "{words}: {why:?}");
+        }
     }
     Ok(())
 }

@@ -1,6 +1,7 @@
-//! The rows, group by group.
+//! The rows, group by group, each with every plan.
 
-use crate::row::assert_rows;
+use crate::row::{PLANS, is_kept};
+use crate::texts::{OTHERS, UNIFIED};
 use std::test::Fail;
 
 /// Where hunks stand, and what is kept beside the file.
@@ -277,10 +278,17 @@ err patch: **** a reserved name at line 3|
 gone x.ptmp
 ";
 
+// An empty line stands between each two rows.
 #[test]
 fn worked_rows(rt: HostRuntime) -> Result<(), Fail> {
-    for rows in [PLACES, FUZZ, REVERSED, NAMES, FORMS, TEXTS, REFUSED] {
-        assert_rows(&rt, rt.alloc(), rows)?;
+    for rows in [
+        PLACES, FUZZ, REVERSED, NAMES, FORMS, TEXTS, REFUSED, UNIFIED, OTHERS,
+    ] {
+        for row in rows.trim().split("\n\n") {
+            for tool in PLANS {
+                assert!(rt; is_kept(rt.alloc(), tool, row)?, "{tool}\n{row}");
+            }
+        }
     }
     Ok(())
 }
