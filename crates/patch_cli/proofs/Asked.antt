@@ -27,7 +27,7 @@ use Rattle.patch_set.specs.SetView.{SetView, plain_patches, hunks_in, HasTargets
 use Rattle.patch_run.specs.OnePatch.{Item}
 use Rattle.patch_run.specs.Run.{Run, run_of, set_run, item_of, items_of}
 use Rattle.patch_run.specs.Doing.{IsCutAt}
-use Rattle.patch_run.specs.declared.fault.RunFault.{RunFault}
+use Rattle.patch_effects.specs.declared.fault.RunFault.{RunFault}
 use Rattle.patch_cli.specs.declared.why.Why.{Why}
 use Rattle.patch_cli.specs.declared.why.Why.TheVariants.{Done, Rejected, Usage, Malformed, Garbage, EdReverse, OutMany, Reserved, NoPatchFile, TooLong, LongLine, FileTooLong, ReadFault, WriteFault, TreeFault, ScratchFault, Disagree, Memory, Unsupported}
 use Rattle.patch_cli.specs.Command.{Reads, item_for, items_for, run_for, carried_out, on_patches, on_refusal, on_input, on_job}

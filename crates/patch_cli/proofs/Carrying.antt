@@ -22,10 +22,10 @@ use Rattle.patch_input.specs.Input.{TakesAtMost}
 use Rattle.patch_run.specs.Applied.{Receipt}
 use Rattle.patch_run.specs.Run.{Run, items_of, set_run}
 use Rattle.patch_run.specs.Doing as doing
-use Rattle.patch_run.specs.Faults.{of_open}
-use Rattle.patch_run.specs.Making.{IsTidy, UnlessFailed}
-use Rattle.patch_run.specs.declared.fault.RunFault.{RunFault}
-use Rattle.patch_run.specs.declared.fault.RunFault.TheVariants as runs
+use Rattle.patch_effects.specs.Faults.{of_open}
+use Rattle.patch_effects.specs.Making.{IsTidy, UnlessFailed}
+use Rattle.patch_effects.specs.declared.fault.RunFault.{RunFault}
+use Rattle.patch_effects.specs.declared.fault.RunFault.TheVariants as runs
 use Rattle.patch_cli.specs.declared.why.Why.{Why}
 use Rattle.patch_cli.specs.declared.why.Why.TheVariants.{Done, Rejected, Usage, Malformed, Garbage, EdReverse, OutMany, Reserved, NoPatchFile, TooLong, LongLine, FileTooLong, ReadFault, WriteFault, TreeFault, ScratchFault, Disagree, Memory, Unsupported}
 use Rattle.patch_cli.specs.Answers.{Sort, sort_of, is_fault, IsEarly, of_run}

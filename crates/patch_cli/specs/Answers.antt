@@ -6,8 +6,8 @@ use Rattle.patch_input.specs.declared.fault.InputFault.{InputFault}
 use Rattle.patch_input.specs.declared.fault.InputFault.TheVariants as input
 use Rattle.patch_set.specs.declared.fault.SetFault.{SetFault}
 use Rattle.patch_set.specs.declared.fault.SetFault.TheVariants as set
-use Rattle.patch_run.specs.declared.fault.RunFault.{RunFault}
-use Rattle.patch_run.specs.declared.fault.RunFault.TheVariants as runs
+use Rattle.patch_effects.specs.declared.fault.RunFault.{RunFault}
+use Rattle.patch_effects.specs.declared.fault.RunFault.TheVariants as runs
 use Rattle.patch_cli.specs.declared.why.Why.{Why}
 use Rattle.patch_cli.specs.declared.why.Why.TheVariants.{Done, Rejected, Usage, Malformed, Garbage, EdReverse, OutMany, Reserved, NoPatchFile, TooLong, LongLine, FileTooLong, ReadFault, WriteFault, TreeFault, ScratchFault, Disagree, Memory, Unsupported}
 

@@ -18,8 +18,8 @@ use Rattle.patch_set.specs.Named.{known_names, output_of}
 use Rattle.patch_input.specs.Input.{TakesAtMost}
 use Rattle.patch_run.specs.Applied.{Receipt}
 use Rattle.patch_run.specs.Doing.{IsCutAt}
-use Rattle.patch_run.specs.Making.{IsTidy}
-use Rattle.patch_run.specs.declared.fault.RunFault.{RunFault}
+use Rattle.patch_effects.specs.Making.{IsTidy}
+use Rattle.patch_effects.specs.declared.fault.RunFault.{RunFault}
 use Rattle.patch_cli.specs.declared.why.Why.{Why}
 use Rattle.patch_cli.specs.declared.why.Why.TheVariants.{Done, Rejected, Memory}
 use Rattle.patch_cli.specs.Answers.{Sort, sort_of, of_run, is_fault}

@@ -19,7 +19,7 @@ use Rattle.patch_set.specs.declared.fault.SetFault.{SetFault}
 use Rattle.patch_set.specs.Named.{known_names, targets_of, output_of}
 use Rattle.patch_set.specs.Refusals.{refusal}
 use Rattle.patch_run.specs.Applied.{Receipt}
-use Rattle.patch_run.specs.Faults.{of_open}
+use Rattle.patch_effects.specs.Faults.{of_open}
 use Rattle.patch_run.specs.OnePatch.{Item}
 use Rattle.patch_run.specs.Run.{Run, run_of}
 use Rattle.patch_cli.specs.declared.why.Why.{Why}

@@ -19,8 +19,9 @@ use crate::plans::apply;
 use crate::report::report;
 use crate::why::Why;
 use outside::{Scratch, Sink, Source, Tree};
+use patch_effects::RunFault;
 use patch_options::Options;
-use patch_run::{Applied, RunFault};
+use patch_run::Applied;
 use patch_set::PatchSet;
 use std::alloc::Global;
 

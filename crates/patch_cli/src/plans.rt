@@ -7,11 +7,13 @@ ghost use Rattle.patch_options.specs.declared.options.PlanKind.TheVariants.{Whol
 ghost use Rattle.patch_cli.specs.Scratches.{has_scratch};
 ghost use Rattle.patch_cli.specs.Finishes.{CanApply, Finishes};
 
+use auto_plan::AutoPlan;
 use outside::{Scratch, Sink, Tree};
 use packed_pages::PackedB;
 use page_pair::PagePair;
+use patch_effects::RunFault;
 use patch_options::{Options, PlanKind};
-use patch_run::{Applied, AutoPlan, RunFault, apply_set};
+use patch_run::{Applied, apply_set};
 use patch_set::PatchSet;
 use plan_a::PlanA;
 use plan_b::PlanB;

@@ -4,9 +4,9 @@ ghost use Rattle.std.specs.Prelude.{◌≡◌};
 ghost use Rattle.patch_cli.specs.Answers.{of_words, of_input, of_set, of_run};
 
 use hunk_core::BadKind;
+use patch_effects::RunFault;
 use patch_input::InputFault;
 use patch_options::WordFault;
-use patch_run::RunFault;
 use patch_set::SetFault;
 
 /// Why a run ends. Lines are numbered from 1, and lengths are in bytes.

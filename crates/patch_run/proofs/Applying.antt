@@ -16,19 +16,19 @@ use Rattle.hunk_core.specs.declared.Side.{Side}
 use Rattle.hunk_core.specs.declared.Verdict.{Verdict}
 use Rattle.hunk_apply.specs.declared.Session.{Session}
 use Rattle.replace_file.specs.declared.temp.Temp.{Temp}
-use Rattle.patch_run.specs.declared.fault.RunFault.{RunFault}
-use Rattle.patch_run.specs.declared.fault.RunFault.TheVariants.{Tree}
+use Rattle.patch_effects.specs.declared.fault.RunFault.{RunFault}
+use Rattle.patch_effects.specs.declared.fault.RunFault.TheVariants.{Tree}
 use Rattle.patch_run.specs.Trying.{IsSession, IsBegun}
 use Rattle.target_names.specs.declared.derived.Target.{Target}
 use Rattle.patch_set.specs.declared.set.Row.{Row}
 use Rattle.patch_run.specs.declared.apply.Done.{Done}
-use Rattle.patch_run.specs.declared.effects.Made.{Made}
+use Rattle.patch_effects.specs.declared.placed.Made.{Made}
 use Rattle.patch_run.specs.OnePatch.{PlainTurn, Tried, bytes_of, tried, some_failed, is_kept, finished, effects_of, tried_said, wrote}
 use Rattle.patch_run.specs.Run.{cleared}
-use Rattle.patch_run.specs.Making.{IsGone, IsPart, Makes}
-use Rattle.patch_run.specs.Ready.{IsNamed}
+use Rattle.patch_effects.specs.Making.{IsGone, IsPart, Makes}
+use Rattle.patch_effects.specs.Named.{IsNamed}
 use Rattle.patch_run.specs.Doing.{IsPartOf, IsWholeOf, IsDone, IsOutcome, IsMadeWhole, IsOrdered}
-use Rattle.patch_run.proofs.EffectLists.{after_all-at, made_both, leaves_after, tells_after}
+use Rattle.patch_effects.proofs.EffectLists.{after_all-at, made_both, leaves_after, tells_after}
 
 -- work on a temporary alone has no effect
 pub works_made : {u v : TreeView} (temp : List ℕ) → is_temp temp ≡ true → WorksOn u v temp → HasMade u v []

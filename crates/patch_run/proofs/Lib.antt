@@ -1,5 +1,3 @@
-mod EffectLists
-mod Making
 mod Writing
 mod Runs
 mod Deciding
@@ -16,7 +14,6 @@ mod Applying
 mod Turning
 mod Rejecting
 mod Telling
-mod Passing
-mod Tidy
+mod EndCause
 mod DoneNone
 mod BackedUp

@@ -13,10 +13,10 @@ use Rattle.line_store.specs.declared.fault.OpenFault.{OpenFault}
 use Rattle.line_store.specs.declared.fault.OpenFault.TheVariants as open_fault
 use Rattle.say_text.specs.Messages.{silenced, reversed_line}
 use Rattle.target_names.specs.declared.derived.Target.{Target}
-use Rattle.patch_run.specs.declared.fault.RunFault.{RunFault}
-use Rattle.patch_run.specs.declared.fault.RunFault.TheVariants.{Tree, Write, Scratch, LongLine, FileTooLong, Disagree, Memory}
+use Rattle.patch_effects.specs.declared.fault.RunFault.{RunFault}
+use Rattle.patch_effects.specs.declared.fault.RunFault.TheVariants.{Tree, Write, Scratch, LongLine, FileTooLong, Disagree, Memory}
 use Rattle.patch_run.specs.declared.starting.Decision.{Decision}
-use Rattle.patch_run.specs.Faults.{of_open}
+use Rattle.patch_effects.specs.Faults.{of_open}
 use Rattle.patch_run.specs.OnePatch.{PlainTurn, Start, skips, refuses, tries, said_first, lines_in, refusal_of, refused_or, lacks_word, is_reversed, first_hunk, prereq_said, on_direction, on_prereq, turns, skips_at}
 use Rattle.patch_run.specs.Devices.{Told, HasRunCause, scratch_with}
 use Rattle.patch_run.specs.Starting.{Starts, Takes, Weighs, said_in, taken_in, IsDecided, IsBrokenOff, IsRefusal, HasPlanCause}

@@ -10,8 +10,8 @@ use Rattle.line_store.specs.Store.{Seen}
 use Rattle.line_store.specs.Taking.{KeepsPlan}
 use Rattle.line_store.specs.declared.fault.OpenFault.{OpenFault}
 use Rattle.line_store.specs.declared.fault.OpenFault.TheVariants as open_fault
-use Rattle.patch_run.specs.declared.fault.RunFault.{RunFault}
-use Rattle.patch_run.specs.declared.fault.RunFault.TheVariants.{Tree, Write, Scratch, LongLine, FileTooLong, Disagree, Memory}
+use Rattle.patch_effects.specs.declared.fault.RunFault.{RunFault}
+use Rattle.patch_effects.specs.declared.fault.RunFault.TheVariants.{Tree, Write, Scratch, LongLine, FileTooLong, Disagree, Memory}
 use Rattle.std.specs.FinMap.{get}
 use Rattle.outside.specs.TreeView as tree
 use Rattle.outside.specs.SinkView as sink
@@ -21,9 +21,9 @@ use Rattle.hunk_core.specs.declared.Side.{Side}
 use Rattle.hunk_apply.specs.declared.Session.{Session}
 use Rattle.target_names.specs.declared.derived.Target.{Target}
 use Rattle.patch_run.specs.declared.apply.Done.{Done}
-use Rattle.patch_run.specs.declared.effects.Made.{Made}
+use Rattle.patch_effects.specs.declared.placed.Made.{Made}
 use Rattle.patch_run.specs.Trying.{IsSession}
-use Rattle.patch_run.specs.Making.{IsGone, IsPart, TidyAfter}
+use Rattle.patch_effects.specs.Making.{IsGone, IsPart, TidyAfter}
 use Rattle.patch_run.specs.OnePatch.{Item, PlainTurn, Tried, Story, Ending, ended, stopped, effects_of, tried_said, wrote, ending}
 use Rattle.hunk_core.specs.declared.Verdict.TheVariants.{Ignored}
 use Rattle.hunk_apply.specs.Change.{change_verdicts}

@@ -1,13 +1,10 @@
 pub mod OnePatch
 pub mod Run
-pub mod Faults
 pub mod Devices
 pub mod Starting
 pub mod Trying
-pub mod Making
 pub mod Ready
 pub mod TurnView
 pub mod Applied
 pub mod Doing
-pub mod Auto
 pub mod Laws

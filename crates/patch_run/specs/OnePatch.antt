@@ -4,9 +4,8 @@ use Rattle.std.specs.List.{list_any, flat_map, slice_split}
 use Rattle.std.specs.Option.{option_or, option_and_then}
 use Rattle.std.specs.FinMap.{get}
 use Rattle.line_list.specs.Lines.{lines}
-use Rattle.outside.specs.Files.{Files, bytes_at}
+use Rattle.outside.specs.Files.{Files}
 use Rattle.outside.specs.Quiet.{Effect}
-use Rattle.outside.specs.Quiet.Effect.{Put, Remove}
 use Rattle.hunk_core.specs.declared.Form.{Form}
 use Rattle.hunk_core.specs.declared.Form.TheVariants.{Unified, Context, Normal, Ed}
 use Rattle.hunk_core.specs.declared.Side.{Side}
@@ -34,6 +33,7 @@ use Rattle.hunk_apply.specs.Written.{is_nothing}
 use Rattle.reject_text.specs.Rejects.{reject_text, hunks_in, rows_of}
 use Rattle.reject_text.specs.Starts.{net}
 use Rattle.say_text.specs.Messages.{silenced, patching_line, no_file_lines, prereq_line, reversed_line, exists_line, placed_text, failed_line, not_deleting_line, failures_line, ignored_line}
+use Rattle.patch_effects.specs.TargetEffects.{put_if, backup_effects, target_effects}
 
 -- a file patch, and the files that it can be meant for
 pub record Item : Type 0 where
@@ -335,20 +335,9 @@ abbrev pub is_backup_due : PlainTurn → Target → List Verdict → Bool
 is_backup_due t w vs = not (was_written t.past w.name) && not (bytes_eq w.backup w.name)
     && (t.options.backup || (t.options.mismatch_backup && is_none t.options.output && list_any is_inexact vs))
 
--- a file is put where that is due
-abbrev pub put_if : Bool → List ℕ → List ℕ → List Effect
-put_if due name bytes = if due then Put name bytes ∷ [] else []
-
-abbrev pub backup_effects : Bool → Files → Target → List Effect
-backup_effects due files w = put_if due w.backup (bytes_at files w.name)
-
 -- an output without a byte is no file, where the file patch deletes its file or `-E` was given (GNU patch manual, "Creating and Removing Files")
 abbrev pub is_removal : PlainTurn → Tried → Bool
 is_removal t x = is_nothing x.output && is_none t.options.output && (deletes x.side t.item.patch || t.options.remove_empty)
-
--- taking away a name that isn't there is no effect
-abbrev pub target_effects : Bool → Files → Target → List ℕ → List Effect
-target_effects removal files w output = if removal then (if is_some (get files w.name) then Remove w.name ∷ [] else []) else Put w.name output ∷ []
 
 -- nothing is written where no hunk was placed
 abbrev pub written_effects : PlainTurn → Files → Target → Tried → List Effect

@@ -1,33 +1,17 @@
 -- What a file patch needs before its turn comes.
-use Rattle.std.specs.Prelude.{◌≡◌, ◌⊎◌, ℕ, suc, ◌+◌, ◌<◌, ◌≤◌, ◌^◌, List, [], ◌∷◌, length, map, take, drop, get_or, All}
+use Rattle.std.specs.Prelude.{◌≡◌, ℕ, ◌+◌, ◌<◌, ◌≤◌, ◌^◌, List, [], ◌∷◌, length, map, take, drop, All}
 use Rattle.std.specs.List.{zip}
 use Rattle.std.specs.Option.{ForSome}
-use Rattle.outside.specs.Files.{temp_of}
 use Rattle.hunk_core.specs.declared.Verdict.{Verdict}
 use Rattle.patch_options.specs.PlainJob.{PlainOptions, HasContext}
-use Rattle.target_names.specs.declared.derived.Target.{Target}
-use Rattle.target_names.specs.Targets.{HasTemps, IsLasting}
 use Rattle.file_patch.specs.declared.FilePatch.{FilePatch}
 use Rattle.file_patch.specs.PlainPatch.{row_count}
 use Rattle.file_patch.specs.Absent.{IsLawfulPatch}
 use Rattle.patch_set.specs.declared.set.Row.{Row}
 use Rattle.patch_set.specs.SetView.{SetView}
+use Rattle.patch_effects.specs.Named.{IsNamed}
 use Rattle.patch_run.specs.OnePatch.{Mark, PlainTurn, mark_of}
 use Rattle.patch_run.specs.Run.{item_of}
-
--- a component of the name begins there
-abbrev pub BeginsComponent : List ℕ → ℕ → Type 0
-BeginsComponent name from = (from ≡ 0) ⊎ ((k : ℕ) × (from ≡ suc k) × (k < length name) × (get_or name k 0 ≡ 47))
-
--- its names are apart from those of temporaries, which are formed from them, and what messages leave off is a directory
-pub record IsNamed (t : Target) : Type 0 where
-  pub temps : HasTemps t
-  pub lasting : IsLasting t
-  pub temp : t.temp ≡ temp_of t.name
-  pub backup_temp : t.backup_temp ≡ temp_of t.backup
-  pub reject_temp : t.reject_temp ≡ temp_of t.reject
-  pub shown : BeginsComponent t.name t.shown_from
-  pub shown_reject : BeginsComponent t.reject t.reject_shown_from
 
 -- the verdicts on the hunks of a file patch
 abbrev pub rows_in : List Verdict → FilePatch → List Verdict

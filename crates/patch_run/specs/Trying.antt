@@ -10,8 +10,8 @@ use Rattle.hunk_apply.specs.declared.Session.{Session}
 use Rattle.hunk_apply.specs.Session.{is_placed, is_failed, is_inexact}
 use Rattle.hunk_apply.specs.Written.{is_nothing}
 use Rattle.replace_file.specs.declared.temp.Temp.{Temp}
-use Rattle.patch_run.specs.declared.fault.RunFault.{RunFault}
-use Rattle.patch_run.specs.declared.fault.RunFault.TheVariants as faults
+use Rattle.patch_effects.specs.declared.fault.RunFault.{RunFault}
+use Rattle.patch_effects.specs.declared.fault.RunFault.TheVariants as faults
 
 -- the counts of verdicts and an output
 pub record IsSession (s : Session) (vs : List Verdict) (output : List ℕ) : Type 0 where

@@ -12,16 +12,16 @@ ghost use Rattle.hunk_apply.specs.Faults.{HasApplyCause};
 ghost use Rattle.hunk_apply.specs.Session.{IsTried};
 ghost use Rattle.patch_run.specs.OnePatch.{tried};
 ghost use Rattle.patch_run.specs.Trying.{IsSession, IsBegun, HasTryCause, HasLineCause};
-ghost use Rattle.patch_run.specs.Making.{IsGone, IsTidy, UnlessFailed};
+ghost use Rattle.patch_effects.specs.Making.{IsGone, IsTidy, UnlessFailed};
 ghost use Rattle.patch_run.specs.TurnView.{plain_turn, IsTurn};
 
 use crate::discard::Discard;
-use crate::fault::RunFault;
 use crate::turn::Turn;
 use hunk_apply::{ApplyFault, Session, apply_hunks};
 use hunk_core::{Side, Verdict};
 use line_store::{LineFault, LineStore};
 use outside::{Name, Sink, Tree};
+use patch_effects::RunFault;
 use replace_file::{Temp, TempSink, begin_temp};
 
 /// What came of the hunks, and the temporary with the output, which a dry run has not.

@@ -3,11 +3,9 @@
 
 mod applied;
 mod apply;
-mod auto;
 mod choices;
 mod discard;
 mod effects;
-mod fault;
 mod fill;
 mod laws;
 mod names;
@@ -21,7 +19,5 @@ mod weighing;
 mod word;
 
 pub use applied::Applied;
-pub use auto::AutoPlan;
-pub use fault::RunFault;
 pub use laws::run_laws;
 pub use set::apply_set;

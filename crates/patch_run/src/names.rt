@@ -2,7 +2,7 @@
 
 ghost use Rattle.std.specs.Prelude.{◌≡◌, ◌<◌, length, drop};
 ghost use Rattle.patch_run.specs.OnePatch.{shown, shown_reject, written, target_at};
-ghost use Rattle.patch_run.specs.Ready.{BeginsComponent, IsNamed};
+ghost use Rattle.patch_effects.specs.Named.{BeginsComponent, IsNamed};
 ghost use Rattle.patch_run.specs.TurnView.{plain_turn, IsTurn};
 
 use crate::turn::Turn;

@@ -4,7 +4,8 @@ ghost use Rattle.std.specs.Prelude.{◌≡◌, ◌<◌, ◌≤◌, ◌+◌, ◌^
 ghost use Rattle.std.specs.Option.{ForSome, option_copied};
 ghost use Rattle.file_patch.specs.PlainPatch.{row_count};
 ghost use Rattle.patch_run.specs.OnePatch.{Mark, mark_of, is_name, was_written, written_by};
-ghost use Rattle.patch_run.specs.Ready.{IsFit, IsNamed, alone, rows_in};
+ghost use Rattle.patch_effects.specs.Named.{IsNamed};
+ghost use Rattle.patch_run.specs.Ready.{IsFit, alone, rows_in};
 ghost use Rattle.patch_run.specs.TurnView.{plain_turn, IsTurn};
 
 use crate::turn::Turn;

@@ -19,11 +19,11 @@ ghost use Rattle.hunk_apply.specs.Change.{change_verdicts};
 
 use crate::applied::Applied;
 use crate::apply::{Done, apply_one};
-use crate::fault::RunFault;
 use crate::turn::Turn;
 use hunk_core::Verdict;
 use line_store::Plan;
 use outside::{Sink, Tree};
+use patch_effects::RunFault;
 use patch_options::Options;
 use patch_set::PatchSet;
 

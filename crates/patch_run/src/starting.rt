@@ -9,13 +9,12 @@ ghost use Rattle.outside.specs.SinkView.{Writes};
 ghost use Rattle.file_patch.specs.Absent.{creates};
 ghost use Rattle.name_choice.specs.Choice.{IsWithin as IsAmong, side_of};
 ghost use Rattle.say_text.specs.Messages.{no_file_lines};
-ghost use Rattle.patch_run.specs.declared.fault.RunFault.TheVariants.{Write};
+ghost use Rattle.patch_effects.specs.declared.fault.RunFault.TheVariants.{Write};
 ghost use Rattle.patch_run.specs.OnePatch.{bytes_of, has_bytes, start, choice_of, on_target, on_creation, on_existing, on_taking};
 ghost use Rattle.patch_run.specs.Starting.{Starts, Takes, IsPresent, IsWithin};
 ghost use Rattle.patch_run.specs.TurnView.{plain_turn, IsTurn};
 
 use crate::choices::turns;
-use crate::fault::RunFault;
 use crate::names::{chosen, shown, written};
 use crate::turn::Turn;
 use crate::weighing::weigh;
@@ -23,6 +22,7 @@ use hunk_core::Side;
 use line_store::{OpenFault, Plan};
 use name_choice::{Choice, choose};
 use outside::{Failed, Name, Sink, Tree};
+use patch_effects::RunFault;
 use patch_set::{Row, is_posix};
 use say_text::{say_exists, say_no_file, say_patching};
 

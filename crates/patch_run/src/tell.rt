@@ -13,7 +13,7 @@ ghost use Rattle.hunk_apply.specs.Session.{IsTried};
 ghost use Rattle.patch_options.specs.PlainJob.{plain_options};
 ghost use Rattle.patch_run.specs.OnePatch.{Tried, change_said, hunks_said, hunk_said, script_said, kept_said, failures_said, tried_said, is_kept, is_script, is_unrejected, named_reject};
 ghost use Rattle.patch_run.specs.Trying.{IsSession};
-ghost use Rattle.patch_run.specs.Ready.{IsNamed};
+ghost use Rattle.patch_effects.specs.Named.{IsNamed};
 ghost use Rattle.patch_run.specs.TurnView.{plain_turn, IsTurn};
 
 use crate::names::{shown, shown_reject};

@@ -10,7 +10,6 @@ ghost use Rattle.patch_run.specs.Starting.{Holds, Weighs, IsWithin};
 ghost use Rattle.patch_run.specs.TurnView.{plain_turn, IsTurn};
 
 use crate::choices::turns;
-use crate::fault::RunFault;
 use crate::starting::{Decision, skip_at};
 use crate::turn::Turn;
 use crate::word::has_word;
@@ -19,6 +18,7 @@ use hunk_core::{Hunk, Side};
 use hunk_place::looks_reversed;
 use line_store::{LineFault, LineStore};
 use outside::Sink;
+use patch_effects::RunFault;
 use patch_set::bytes_in;
 use say_text::{say_prereq, say_reversed};
 

@@ -5,13 +5,14 @@ use Rattle.outside.specs.Calls.{IsUntouched, untouched_none}
 use Rattle.hunk_apply.specs.Change.{change_verdicts}
 use Rattle.patch_set.specs.declared.set.Row.{Row}
 use Rattle.target_names.specs.declared.derived.Target.{Target}
-use Rattle.patch_run.specs.declared.fault.RunFault.{RunFault}
+use Rattle.patch_effects.specs.declared.fault.RunFault.{RunFault}
 use Rattle.patch_run.specs.OnePatch.{bytes_of, lines_in, effects_of, tried, tried_said, finished, finished_at}
 use Rattle.patch_run.specs.Doing.{IsDone, IsPartOf, IsOrdered}
 use Rattle.patch_run.specs.TurnView.{plain_turn}
 use Rattle.patch_run.proofs.Applying.{on_err, if_err, if_any, works_made, unmade, part_worked, tried_breaks, tried_ordered, tried_done}
-use Rattle.patch_run.specs.Making.{IsTidy}
-use Rattle.patch_run.proofs.Tidy.{attempt_tidy, end_failed, passed_tidy}
+use Rattle.patch_effects.specs.Making.{IsTidy}
+use Rattle.patch_effects.proofs.Tidy.{attempt_tidy, passed_tidy}
+use Rattle.patch_run.proofs.EndCause.{end_failed}
 use Rattle.patch_run.proofs.apply.try_at.Goals as goal
 
 pub returns-in_err-attempt-clause-broken : goal.returns-in_err-attempt-clause-broken

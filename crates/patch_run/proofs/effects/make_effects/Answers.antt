@@ -3,10 +3,10 @@ use Rattle.hunk_core.specs.declared.Side.{Side}
 use Rattle.hunk_core.specs.declared.Verdict.{Verdict}
 use Rattle.patch_run.specs.OnePatch.{Tried, effects_of, reject_effects}
 use Rattle.patch_run.specs.TurnView.{plain_turn}
-use Rattle.patch_run.proofs.Making.{makes_both, makes_stops, makes_fault, makes_value}
+use Rattle.patch_effects.proofs.Making.{makes_both, makes_stops, makes_fault, makes_value}
 use Rattle.patch_run.proofs.Writing.{effects_split, effects_as, effects_count, wrote_as}
-use Rattle.patch_run.proofs.Tidy.{tidy_both}
-use Rattle.patch_run.proofs.Passing.{if_ok_none, on_ok_none}
+use Rattle.patch_effects.proofs.Tidy.{tidy_both}
+use Rattle.patch_effects.proofs.Passing.{if_ok_none, on_ok_none}
 use Rattle.patch_run.proofs.effects.make_effects.Goals as goal
 
 abbrev came : Side → List Verdict → List ℕ → Tried

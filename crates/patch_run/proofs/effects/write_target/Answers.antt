@@ -1,7 +1,7 @@
 use Rattle.std.proofs.Common.{sym, length, ◌∙◌, ap}
 use Rattle.std.proofs.lemmas.Result.{IfOk-weaker}
 use Rattle.patch_run.specs.TurnView.{plain_turn}
-use Rattle.patch_run.proofs.Making.{makes_is}
+use Rattle.patch_effects.proofs.Making.{makes_is}
 use Rattle.patch_run.proofs.Writing.{some_are_placed, written_as}
 use Rattle.patch_run.proofs.effects.write_target.Goals as goal
 

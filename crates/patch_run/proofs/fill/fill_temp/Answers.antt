@@ -1,7 +1,7 @@
 use Rattle.std.proofs.Common.{[], IfErr, refl, subst, sym}
 use Rattle.outside.specs.Quiet.{WorksOn, Holds}
 use Rattle.outside.proofs.Quiet.{holds_put, works_both}
-use Rattle.patch_run.specs.Making.{IsGone, UnlessFailed}
+use Rattle.patch_effects.specs.Making.{IsGone, UnlessFailed}
 use Rattle.patch_run.proofs.fill.fill_temp.Goals as goal
 
 pub fill_begun-requires-clause-empty : goal.fill_begun-requires-clause-empty

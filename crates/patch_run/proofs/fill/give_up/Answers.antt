@@ -1,4 +1,4 @@
-use Rattle.patch_run.proofs.Making.{remove_gone}
+use Rattle.patch_effects.proofs.Making.{remove_gone}
 use Rattle.patch_run.proofs.fill.give_up.Goals as goal
 
 pub returns-in-Ok-clause-gone : goal.returns-in-Ok-clause-gone

@@ -1,11 +1,12 @@
 use Rattle.std.proofs.Common.{◌≡◌, ◌≢◌, ⊎_elim, ℕ, List, Ok, Err, sym, subst}
 use Rattle.outside.proofs.Names.{apart, equal_or_not}
-use Rattle.patch_run.specs.OnePatch.{put_if, rejects_text}
+use Rattle.patch_effects.specs.TargetEffects.{put_if}
+use Rattle.patch_run.specs.OnePatch.{rejects_text}
 use Rattle.patch_run.specs.TurnView.{plain_turn}
-use Rattle.patch_run.specs.Making.{Makes, IsGone}
-use Rattle.patch_run.specs.declared.fault.RunFault.TheVariants.{Tree}
-use Rattle.patch_run.proofs.Making.{puts_made, puts_part, put_keeps, put_gone, gone_kept}
-use Rattle.patch_run.proofs.Tidy.{put_if_tidy, makes_tidy, tidy_none}
+use Rattle.patch_effects.specs.Making.{Makes, IsGone}
+use Rattle.patch_effects.specs.declared.fault.RunFault.TheVariants.{Tree}
+use Rattle.patch_effects.proofs.Making.{puts_made, puts_part, put_keeps, put_gone, gone_kept}
+use Rattle.patch_effects.proofs.Tidy.{put_if_tidy, makes_tidy, tidy_none}
 use Rattle.patch_run.proofs.rejects.put_rejects.Goals as goal
 
 pub returns-in-Ok-clause-makes : goal.returns-in-Ok-clause-makes

@@ -4,7 +4,7 @@ use Rattle.hunk_core.specs.declared.Verdict.{Verdict}
 use Rattle.outside.specs.Files.{Files}
 use Rattle.patch_options.specs.PlainJob.{plain_options}
 use Rattle.patch_set.specs.SetView.{SetView, IsRead}
-use Rattle.patch_run.specs.declared.fault.RunFault.{RunFault}
+use Rattle.patch_effects.specs.declared.fault.RunFault.{RunFault}
 use Rattle.patch_run.specs.Devices.{Told}
 use Rattle.patch_run.specs.Run.{items_of, set_run}
 use Rattle.patch_run.specs.Doing.{Runs, IsCutAt, IsReceipt, IsPlacedLast}

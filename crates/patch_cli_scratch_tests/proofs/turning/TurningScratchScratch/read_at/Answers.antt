@@ -1,4 +1,0 @@
-use Rattle.patch_cli_scratch_tests.proofs.turning.TurningScratchScratch.read_at.Goals as goal
-
-pub returns-clause-call : goal.returns-clause-call
-returns-clause-call c = c.counted.ensures.call _ _

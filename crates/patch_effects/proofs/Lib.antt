@@ -1,0 +1,5 @@
+pub mod EffectLists
+pub mod Making
+pub mod Passing
+pub mod Placing
+pub mod Tidy

@@ -1,0 +1,63 @@
+-- The effects on a target, and where its temporaries stand.
+use Rattle.std.proofs.Common.{◌≡◌, ◌≢◌, ◌∷◌, ◌++◌, ◌+◌, ◌||◌, ◌∙◌, [], ℕ, arith, length-append, codes, List, Bool, true, false, not, if◌then◌else◌, length, Option, None, Some, is_some, refl, sym, ap}
+use Rattle.std.proofs.lemmas.List.{append_cancel_right}
+use Rattle.std.proofs.lemmas.Option.{none-some}
+use Rattle.std.specs.Option.{option_map}
+use Rattle.std.specs.FinMap.{get}
+use Rattle.outside.specs.Files.{Files, temp_of, bytes_at}
+use Rattle.outside.specs.Quiet.Effect.{Remove}
+use Rattle.outside.proofs.Names.{apart}
+use Rattle.target_names.specs.declared.derived.Target.{Target}
+use Rattle.patch_effects.specs.Named.{IsNamed}
+use Rattle.patch_effects.specs.TargetEffects.{put_if, backup_effects, target_effects}
+
+-- a file that has a size is there
+pub sized_there : (o : Option (List ℕ)) (n : ℕ) → Some n ≡ option_map length o → is_some o ≡ true
+sized_there None n e = absurd (none-some n (sym e))
+sized_there (Some b) n e = refl
+
+-- what is done to the target depends on nothing but the target
+pub target_same : (removal : Bool) (w : Target) (output : List ℕ) (f g : Files) → get g w.name ≡ get f w.name → target_effects removal f w output ≡ target_effects removal g w output
+target_same true w output f g same = ap (λ (o : Option (List ℕ)). if is_some o then Remove w.name ∷ [] else []) (sym same)
+target_same false w output f g same = refl
+
+pub removes : (w : Target) (output : List ℕ) (f : Files) → is_some (get f w.name) ≡ true → target_effects true f w output ≡ Remove w.name ∷ []
+removes w output f there = ap (λ (b : Bool). if b then Remove w.name ∷ [] else []) there
+
+-- ---- how many effects there are
+abbrev pub one_if : Bool → ℕ
+one_if b = if b then 1 else 0
+
+pub put_count : (due : Bool) (name bytes : List ℕ) → length (put_if due name bytes) ≡ one_if due
+put_count true name bytes = refl
+put_count false name bytes = refl
+
+target_count : (removal : Bool) (w : Target) (output : List ℕ) (f : Files) → length (target_effects removal f w output) ≡ one_if (not removal || is_some (get f w.name))
+target_count false w output f = refl
+target_count true w output f = elim (is_some (get f w.name)) as (λ b. length (if b then Remove w.name ∷ [] else []) ≡ one_if b) [
+  | true ↦ refl
+  | false ↦ refl
+]
+
+pub written_count : (due removal wrote : Bool) (w : Target) (output : List ℕ) (f : Files) → wrote ≡ not removal || is_some (get f w.name)
+    → (if due then 1 else 0) + (if wrote then 1 else 0) ≡ length (backup_effects due f w ++ target_effects removal f w output)
+written_count due removal wrote w output f is = omega (
+  arith,
+  length-append (backup_effects due f w) (target_effects removal f w output),
+  put_count due w.backup (bytes_at f w.name),
+  target_count removal w output f,
+  ap (λ b. one_if b) is,
+)
+
+-- ---- where temporaries stand
+
+-- names with one temporary are one
+temps_apart : (one other : List ℕ) → one ≢ other → temp_of one ≢ temp_of other
+temps_apart one other ne eq = ne (append_cancel_right one other (codes ".ptmp") eq)
+
+-- the backup's names are others than the target's temporary
+pub backup_other : {w : Target} → IsNamed w → w.temp ≢ w.backup
+backup_other {w = w} named eq = apart w.backup w.temp named.lasting.backup named.temps.own (sym eq)
+
+pub backup_temp_other : {w : Target} → IsNamed w → w.backup ≢ w.name → w.temp ≢ w.backup_temp
+backup_temp_other {w = w} named other eq = temps_apart w.name w.backup (λ same. other (sym same)) (sym named.temp ∙ eq ∙ named.backup_temp)

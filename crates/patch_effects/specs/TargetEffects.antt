@@ -1,0 +1,18 @@
+-- The effects on the target of a file patch.
+use Rattle.std.specs.Prelude.{ℕ, List, [], ◌∷◌, Bool, is_some, if◌then◌else◌}
+use Rattle.std.specs.FinMap.{get}
+use Rattle.outside.specs.Files.{Files, bytes_at}
+use Rattle.outside.specs.Quiet.{Effect}
+use Rattle.outside.specs.Quiet.Effect.{Put, Remove}
+use Rattle.target_names.specs.declared.derived.Target.{Target}
+
+-- a file is put where that is due
+abbrev pub put_if : Bool → List ℕ → List ℕ → List Effect
+put_if due name bytes = if due then Put name bytes ∷ [] else []
+
+abbrev pub backup_effects : Bool → Files → Target → List Effect
+backup_effects due files w = put_if due w.backup (bytes_at files w.name)
+
+-- taking away a name that isn't there is no effect
+abbrev pub target_effects : Bool → Files → Target → List ℕ → List Effect
+target_effects removal files w output = if removal then (if is_some (get files w.name) then Remove w.name ∷ [] else []) else Put w.name output ∷ []
