@@ -16,4 +16,4 @@ pub record IsNamed (t : Target) : Type 0 where
   pub backup_temp : t.backup_temp ≡ temp_of t.backup
   pub reject_temp : t.reject_temp ≡ temp_of t.reject
   pub shown : BeginsComponent t.name t.shown_from
-  pub shown_reject : BeginsComponent t.reject t.shown_from
+  pub shown_reject : BeginsComponent t.reject t.reject_shown_from

@@ -3,7 +3,8 @@
 ghost use Rattle.patch_options.specs.PlainJob.{plain_options, IsLawful};
 
 use crate::git_headers::read;
-use crate::reading::{bytes_of, field, options};
+use crate::reading::{bytes_of, field};
+use crate::sets::options;
 use file_patch::FilePatch;
 use hunk_core::FormFault;
 use mem_world::MemTree;
@@ -16,7 +17,7 @@ use std::test::Fail;
 use target_names::{Target, candidates, moved_names};
 
 /// The words, the text of one file patch, the files of the tree, how it is taken, and what is chosen.
-const CHOICES: &str = "
+pub const CHOICES: &str = "
 words patch -p1
 text diff --git a/x b/y|rename from x|rename to y|
 files x y
@@ -206,16 +207,8 @@ fn patch_of(alloc: Global, row: &str) -> Result<FilePatch, Fail> {
 }
 
 /// Whether the choice of a row is as it says.
-fn is_chosen(alloc: Global, row: &str) -> Result<bool, Fail> {
+pub fn is_chosen(alloc: Global, row: &str) -> Result<bool, Fail> {
     let patch = patch_of(alloc, row)?;
     let choice = chosen(alloc, row, &patch)?;
     Ok(format!(in alloc; "{choice:?}")?.as_str() == field(row, "answer "))
-}
-
-#[test]
-fn names_are_chosen(rt: HostRuntime) -> Result<(), Fail> {
-    for row in CHOICES.trim().split("\n\n") {
-        assert!(rt; is_chosen(rt.alloc(), row)?, "{row}");
-    }
-    Ok(())
 }

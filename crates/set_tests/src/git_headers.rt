@@ -14,7 +14,7 @@ use std::test::Fail;
 /// action, whether its header is bare, the lines of its opening and of its names, where it begins and ends, how many hunks
 /// it has and how many come before, whether its old and its new side are no file, its old and its new name, and the names
 /// that the file goes from and to.
-const TEXTS: &str = "
+pub const TEXTS: &str = "
 ways
 text diff --git a/e b/e|new file mode 100644|index 0000000..e69de29|
 answer New true 1 1 0 63 0 0 true false [a/e] [b/e] [] []|
@@ -105,19 +105,11 @@ fn answer_of(alloc: Global, text: &[u8], patches: &[FilePatch]) -> Result<String
 }
 
 /// Whether a row's text is read as it says.
-fn is_read(alloc: Global, row: &str) -> Result<bool, Fail> {
+pub fn is_read(alloc: Global, row: &str) -> Result<bool, Fail> {
     let text = bytes_of(alloc, field(row, "text "))?;
     let answer = match read(alloc, &text, field(row, "ways ") == "skip_binary")? {
         Ok(patches) => answer_of(alloc, &text, &patches)?,
         Err(fault) => format!(in alloc; "{fault:?}")?,
     };
     Ok(answer.as_str() == field(row, "answer "))
-}
-
-#[test]
-fn git_headers_are_read(rt: HostRuntime) -> Result<(), Fail> {
-    for row in TEXTS.trim().split("\n\n") {
-        assert!(rt; is_read(rt.alloc(), row)?, "{row}");
-    }
-    Ok(())
 }

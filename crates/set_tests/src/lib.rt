@@ -1,10 +1,14 @@
-//! Worked rows of names, of sets, of their parts and counts, and of lists, filtered texts and lines that are found.
+//! Worked rows of names and choices, of sets, of their git headers, of their parts and counts, and of lists, filtered texts and lines that are found.
 #![tactic(auto)]
 
 #[cfg(test)]
 mod candidates;
 #[cfg(test)]
+mod choosing;
+#[cfg(test)]
 mod counts;
+#[cfg(test)]
+mod git_headers;
 #[cfg(test)]
 mod jobs;
 #[cfg(test)]

@@ -1,12 +1,15 @@
 //! Each table, row by row.
 
-use crate::{candidates, counts, parts, reading, targets, written};
+use crate::{candidates, choosing, counts, git_headers, parts, reading, targets, written};
 use std::alloc::Global;
 use std::test::Fail;
 
 /// What each table is about, and its rows.
-const TABLES: [(&str, &str); 11] = [
+const TABLES: [(&str, &str); 14] = [
     ("names", candidates::ROWS),
+    ("renames", candidates::MOVED),
+    ("choices", choosing::CHOICES),
+    ("git headers", git_headers::TEXTS),
     ("targets", targets::ROWS),
     ("numbers", targets::NUMBERS),
     ("sets", reading::SETS),
@@ -23,6 +26,9 @@ const TABLES: [(&str, &str); 11] = [
 fn is_so(alloc: Global, about: &str, row: &str) -> Result<bool, Fail> {
     match about {
         "names" => candidates::are_taken(alloc, row),
+        "renames" => candidates::are_moved(alloc, row),
+        "choices" => choosing::is_chosen(alloc, row),
+        "git headers" => git_headers::is_read(alloc, row),
         "targets" => targets::is_named(alloc, row),
         "numbers" => targets::are_numbered(alloc, row),
         "sets" => reading::is_read(alloc, row),
@@ -35,7 +41,10 @@ fn is_so(alloc: Global, about: &str, row: &str) -> Result<bool, Fail> {
 
 /// What stands between two rows: an empty line where a row has several lines.
 fn between(about: &str) -> &'static str {
-    if about == "sets" { "\n\n" } else { "\n" }
+    match about {
+        "sets" | "choices" | "git headers" => "\n\n",
+        _ => "\n",
+    }
 }
 
 #[test]

@@ -1,7 +1,7 @@
 -- Which file patches are meant, and the text that is read, over what `clap` matched.
 use Rattle.std.specs.Prelude.{ℕ, List, [], codes, Bool, ◌&&◌, ◌||◌, is_some, option_map, option_and_then, unwrap_or}
 use Rattle.clap.specs.Words.{Row, Text}
-use Rattle.outside.specs.Names.{normal_form}
+use Rattle.outside.specs.Names.{given_form}
 use Rattle.patch_options.specs.Forms.{number_of, is_name, is_patch_file}
 use Rattle.patch_options.specs.Simple.{values_of}
 use Rattle.patch_options.specs.Table.{value_of, has_form, input_of}
@@ -17,7 +17,7 @@ number_or_0 rows name = unwrap_or (option_and_then number_of (value_of rows name
 
 -- the name that a text gives
 abbrev pub name_in : Text → Text
-name_in text = normal_form text
+name_in text = given_form text
 
 -- the patterns of an option, in their order
 abbrev pub patterns : List Row → Text → List (List ℕ)
