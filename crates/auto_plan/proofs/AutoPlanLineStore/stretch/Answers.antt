@@ -1,4 +1,4 @@
-use Rattle.patch_run.proofs.auto.AutoPlanLineStore.stretch.Goals as goal
+use Rattle.auto_plan.proofs.AutoPlanLineStore.stretch.Goals as goal
 
 pub stretch-requires-else-self-clause-held : goal.stretch-requires-else-self-clause-held
 stretch-requires-else-self-clause-held g c = rw c.if-self.false at c.requires.held

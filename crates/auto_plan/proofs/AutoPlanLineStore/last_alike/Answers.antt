@@ -1,4 +1,4 @@
-use Rattle.patch_run.proofs.auto.AutoPlanLineStore.last_alike.Goals as goal
+use Rattle.auto_plan.proofs.AutoPlanLineStore.last_alike.Goals as goal
 
 pub returns-then-self-clause-other : goal.returns-then-self-clause-other
 returns-then-self-clause-other g c = rw c.if-self.true c.last_alike.ensures.other
