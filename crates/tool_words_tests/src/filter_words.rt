@@ -63,13 +63,13 @@ lsdiff|-i => Usage
 lsdiff|-x => Usage
 lsdiff|-I => Usage
 lsdiff|-I| => Usage
-lsdiff|-I|/f => Usage
+lsdiff|-I|/f => include_file: Some("/f") only_included: true
 lsdiff|-X => Usage
 lsdiff|-X|. => Usage
-lsdiff|-X|../f => Usage
+lsdiff|-X|../f => exclude_file: Some("../f")
 lsdiff| => Usage
-lsdiff|/f => Usage
-lsdiff|a/../f => Usage
+lsdiff|/f => input: File("/f")
+lsdiff|a/../f => input: File("a/../f")
 lsdiff|--hunks=1 => Usage
 lsdiff|--numbers => Usage
 lsdiff|--file=f => Usage
@@ -150,8 +150,8 @@ filterdiff|-p1|-p1 => Usage
 filterdiff|-Ia|-Ia => Usage
 filterdiff|-Xa|-Xa => Usage
 filterdiff|-p|x => Usage
-filterdiff|-I|.. => Usage
-filterdiff|-X|/f => Usage
+filterdiff|-I|.. => include_file: Some("..") only_included: true
+filterdiff|-X|/f => exclude_file: Some("/f")
 filterdiff| => Usage
 filterdiff|f|g => Usage
 filterdiff|-s => Usage
@@ -185,7 +185,7 @@ grepdiff|-xx => Usage
 grepdiff|-- => Usage
 grepdiff|x|f|g => Usage
 grepdiff|x| => Usage
-grepdiff|x|/f => Usage
+grepdiff|x|/f => input: File("/f")
 grepdiff|-p|x|x => Usage
 grepdiff|--output-matching=|x => Usage
 grepdiff|--output-matching=names|x => Usage
