@@ -60,8 +60,14 @@ fn put(
 /// Whether a row is so.
 fn is_so(alloc: Global, row: &str) -> Result<bool, Fail> {
     let (asked, want) = row.rsplit_once('=').ok_or("a row")?;
-    let side = if asked.contains('<') { Side::Reversed } else { Side::Forward };
-    let (file, patch) = asked.split_once(if side == Side::Forward { '=' } else { '<' }).ok_or("a row")?;
+    let side = if asked.contains('<') {
+        Side::Reversed
+    } else {
+        Side::Forward
+    };
+    let (file, patch) = asked
+        .split_once(if side == Side::Forward { '=' } else { '<' })
+        .ok_or("a row")?;
     let text = bytes(alloc, patch)?;
     let mut lines = store(alloc, &bytes(alloc, file)?)?;
     let mut out = MemSink::new(alloc, Vec::new(alloc));

@@ -184,12 +184,13 @@ module _ (j : PlainFilterJob) (text : List ℕ) (i : ℕ) (p : FilePatch) where
     where
       some : 0 < length (bytes_at text p.span)
       some = slice-long text p.span.start p.span.end (omega (arith, at.region, at.some)) at.high
+
       by : (b n : Bool) → asks_no_hunk j ≡ n → (cond b (written j text p) [] ≡ []) ↔ ((b && n) ≡ false)
       by false n is = (λ nothing. refl, λ no. refl)
       by true true is = (
         λ nothing.
-          let whole : bytes_at text p.span ≡ [] = ap (λ b. cond b (bytes_at text p.span) []) (sym is) ∙ ap (λ b. cond b (written_bare j text p) (written_hunks j text p)) (sym bare) ∙ nothing in
-          absurd (omega (arith, some, ap length whole)),
+            let whole : bytes_at text p.span ≡ [] = ap (λ b. cond b (bytes_at text p.span) []) (sym is) ∙ ap (λ b. cond b (written_bare j text p) (written_hunks j text p)) (sym bare) ∙ nothing in
+            absurd (omega (arith, some, ap length whole)),
         λ no. absurd cc,
       )
       by true false is = (λ nothing. refl, λ no. ap (λ b. cond b (written_bare j text p) (written_hunks j text p)) bare ∙ ap (λ b. cond b (bytes_at text p.span) []) is)

@@ -91,11 +91,7 @@ fn with_words<'a>(
     Ok(command)
 }
 
-fn add_word<'a>(
-    alloc: Global,
-    command: Command<'a>,
-    word: &Word,
-) -> Result<Command<'a>, AllocError>
+fn add_word<'a>(alloc: Global, command: Command<'a>, word: &Word) -> Result<Command<'a>, AllocError>
     ensures { IfOk result (λ c. Extends command.entry (rule_of word.now ∷ []) c) }
 {
     match word {
