@@ -5,14 +5,14 @@ use Rattle.std.proofs.lemmas.Bool.Decides.{nat_tests}
 use Rattle.line_store.specs.Store.{line_at}
 use Rattle.hunk_apply.specs.Splice.{Edit, add, drop_line, AreFrom}
 use Rattle.hunk_apply.specs.Written.{lines_between}
-use Rattle.hunk_apply.proofs.CopyLemmas.{none-between, split-at}
+use Rattle.hunk_apply.proofs.CopyLemmas.{none-between}
 use Rattle.hunk_apply.proofs.SpliceLemmas.{sooner}
 use Rattle.ifdef_out.specs.Whole.{whole_from}
 use Rattle.ifdef_out.specs.Tagged.{closed, tagged_behind, texts}
 use Rattle.ifdef_out.specs.Chain.{next_gap, last_at, block_end, block_added, behind_block, is_some_line, AreInOrder}
 use Rattle.ifdef_out.proofs.WholeLemmas.{line-dropped, line-added}
 use Rattle.ifdef_out.proofs.ChainLemmas.{end-none, added-none, behind-none, end-more, added-more, behind-more, end-stop, added-stop, behind-stop}
-use Rattle.ifdef_out.proofs.TaggedLemmas.{tagged-dropped, tagged-added, closes, texts-append, is-closed, kept-to}
+use Rattle.ifdef_out.proofs.TaggedLemmas.{tagged-dropped, tagged-added, closes, texts-append, is-closed, kept-to, split-at}
 
 step-on : (q : ℕ) (added : Option (List ℕ)) → q ≤ next_gap q added
 step-on q None = omega arith

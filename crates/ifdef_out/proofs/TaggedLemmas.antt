@@ -6,12 +6,19 @@ use Rattle.line_store.specs.Store.{line_at}
 use Rattle.hunk_core.specs.PlainHunk.{Marked}
 use Rattle.hunk_apply.specs.Splice.{Edit, AreFrom}
 use Rattle.hunk_apply.specs.Written.{lines_between}
-use Rattle.hunk_apply.proofs.CopyLemmas.{none-between, split-at}
+use Rattle.hunk_apply.proofs.CopyLemmas.{none-between, more-between, meet-between}
 use Rattle.hunk_apply.proofs.SpliceLemmas.{sooner}
 use Rattle.ifdef_out.specs.Whole.{added, whole_from}
 use Rattle.ifdef_out.specs.Tagged.{Tag, Both, Old, New, Marking, Tagged, as_tag, block, closed, else_line, else_mark, endif_line, ifdef_line, ifndef_line, opening, tagged_behind, texts}
 use Rattle.ifdef_out.specs.Chain.{is_some_line}
 use Rattle.ifdef_out.proofs.WholeLemmas.{kept, dropped, line-kept, none-left}
+
+-- a range at one of its lines
+pub split-at : (lines : List (List ℕ)) (from q to : ℕ) (more : List (List ℕ)) → 1 ≤ from → from ≤ q → q < to → to ≤ length lines + 1
+    → lines_between lines from q ++ (line_at lines q ∷ (lines_between lines (q + 1) to ++ more)) ≡ lines_between lines from to ++ more
+split-at lines from q to more low order lt high =
+    more-between lines from q (lines_between lines (q + 1) to ++ more) low order (omega arith)
+    ∙ meet-between lines from (q + 1) to more (omega arith) (omega arith)
 
 pub tagged-none : (name : List ℕ) (ds ns : List (List ℕ)) → tagged_behind name ds ns [] ≡ block name ds ns
 unfolding tagged_behind

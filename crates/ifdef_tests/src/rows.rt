@@ -1,6 +1,9 @@
 //! A file, a patch, and the text that is written of them.
 
-use file_patch::FilePatch;
+ghost use Rattle.std.specs.Prelude.{◌≡◌, ◌<◌, ◌^◌, length};
+ghost use Rattle.file_patch.specs.PlainPatch.{IsLawfulChange, row_count};
+
+use file_patch::{Change, FilePatch};
 use hunk_apply::apply_hunks;
 use hunk_core::{Side, Verdict};
 use ifdef_out::put_ifdef;
@@ -8,6 +11,7 @@ use line_list::lines_of;
 use line_store::Halves;
 use line_store::vec_lines::VecLines;
 use mem_world::MemSink;
+use patch_header::plainly;
 use patch_text::read_patches;
 use std::alloc::Global;
 use std::test::Fail;
@@ -38,8 +42,21 @@ fn store(alloc: Global, file: &[u8]) -> Result<VecLines, Fail> {
             lines.push(Vec::from_slice(alloc, line)?)?;
         }
     }
+    if lines.len() > 4096 {
+        Err("few lines")?;
+    }
     let halves = Halves::new();
     Ok(VecLines { lines, halves })
+}
+
+/// How many rows a patch needs.
+fn row_count(patch: &FilePatch) -> usize
+    ensures { result ≡ row_count patch.now.change }
+{
+    match &patch.change {
+        Change::Hunks(hunks) => hunks.len(),
+        Change::Script(_) => 1,
+    }
 }
 
 /// Writes the text for a patch with at most three hunks.
@@ -50,36 +67,62 @@ fn put(
     side: Side,
     out: &mut MemSink,
     applied: &mut MemSink,
-) -> bool {
+) -> bool
+    requires { IsLawfulChange text.now patch.now.change }
+{
+    let count = row_count(patch);
+    if count > 3 {
+        return false;
+    }
     let mut rows = [Verdict::Untried; 3];
-    let verdicts = &mut rows[..patch.hunks() as usize];
-    apply_hunks(lines, text, patch, side, 2, false, verdicts, applied).is_ok()
-        && put_ifdef(lines, text, patch, side, verdicts, "X", out).is_ok()
+    let verdicts = &mut rows[..count];
+    match apply_hunks(lines, text, patch, side, 2, false, verdicts, applied) {
+        Ok(_) => put_ifdef(lines, text, patch, side, verdicts, "X", out).is_ok(),
+        Err(_) => false,
+    }
+}
+
+/// Whether the text of one patch is read, and what it asks for written.
+fn writes(alloc: Global, text: &[u8], lines: &mut VecLines, side: Side, out: &mut MemSink) -> bool
+    requires { length text.now < 2 ^ 32 }
+{
+    let mut applied = MemSink::new(alloc, Vec::new(alloc));
+    match read_patches(alloc, text, plainly(None)) {
+        Ok(patches) => match patches.as_slice() {
+            [patch] => put(lines, text, patch, side, out, &mut applied),
+            _ => false,
+        },
+        Err(_) => false,
+    }
 }
 
 /// Whether a row is so.
 fn is_so(alloc: Global, row: &str) -> Result<bool, Fail> {
     let (asked, want) = row.rsplit_once('=').ok_or("a row")?;
-    let side = if asked.contains('<') {
-        Side::Reversed
-    } else {
-        Side::Forward
-    };
-    let (file, patch) = asked
-        .split_once(if side == Side::Forward { '=' } else { '<' })
-        .ok_or("a row")?;
+    let side = side_of(asked);
+    let (file, patch) = asked.split_once(mark_of(side)).ok_or("a row")?;
     let text = bytes(alloc, patch)?;
     let mut lines = store(alloc, &bytes(alloc, file)?)?;
     let mut out = MemSink::new(alloc, Vec::new(alloc));
-    let mut applied = MemSink::new(alloc, Vec::new(alloc));
-    let is_put = match read_patches(alloc, &text, None) {
-        Ok(patches) => match patches.as_slice() {
-            [patch] => put(&mut lines, &text, patch, side, &mut out, &mut applied),
-            _ => false,
-        },
-        Err(_) => false,
-    };
+    if text.len() > 4096 {
+        return Ok(false);
+    }
+    let is_put = writes(alloc, &text, &mut lines, side, &mut out);
     Ok(is_put && out.bytes() == bytes(alloc, want)?.as_slice())
+}
+
+fn side_of(asked: &str) -> Side {
+    if asked.contains('<') {
+        return Side::Reversed;
+    }
+    Side::Forward
+}
+
+fn mark_of(side: Side) -> char {
+    match side {
+        Side::Forward => '=',
+        Side::Reversed => '<',
+    }
 }
 
 #[test]
