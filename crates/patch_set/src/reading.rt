@@ -24,8 +24,8 @@ use std::alloc::{AllocError, Global};
 /// The longest text that is read, in bytes.
 const LONGEST: usize = 268_435_456;
 
-/// Reads a patch text, as if its last line had its line feed, for these options. Git headers are read where all forms or
-/// the unified one are asked for, and neither a file operand nor an output is given.
+/// Reads a patch text, as if its last line had its line feed, for these options. Git headers are not read yet,
+/// whatever the options.
 pub fn read_set(alloc: Global, text: Vec<u8>, options: &Options) -> Result<PatchSet, SetFault>
     requires { IsLawful (plain_options options.now) }
     ensures read { IfOk result (IsRead (plain_options options.now) text.items) }

@@ -30,7 +30,7 @@ pub fn take_names<T: Tree>(
     ensures save { IfOk result (λ text. (f : Files) → (T.view tree.old).told ≡ Some f → text.items ≡ save_text (entries_at f names.now)) }
     ensures short { OnOk result ((f : Files) → (T.view tree.old).told ≡ Some f → too_long (entries_at f names.now) ≡ None) }
 
-    // Whatever the tree tells, the text is the save of some entries with these names.
+    // Whatever the tree tells, the text is a save.
     ensures form { IfOk result (λ text. AreSaved names.now → IsSome (entries_of text.items)) }
     ensures cause { IfErr result (λ e. HasTakeCause e (T.view tree.old) (T.view tree.new) names.now) }
 {

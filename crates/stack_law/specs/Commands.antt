@@ -3,7 +3,7 @@ use Rattle.std.specs.Prelude.{◌≡◌, ℕ, zero, suc, List, [], ◌∷◌, dr
 use Rattle.std.specs.List.{AllByRecursion, flat_map}
 use Rattle.std.specs.FinMap.{get}
 use Rattle.outside.specs.Files.{Files, is_temp}
-use Rattle.outside.specs.Names.{IsName}
+use Rattle.outside.specs.Names.{IsPatchName}
 use Rattle.outside.specs.Quiet.{Effect}
 use Rattle.outside.specs.Quiet.Effect.{Put, Remove}
 use Rattle.series_stack.specs.declared.fault.StateFile.TheVariants.{Save}
@@ -48,9 +48,9 @@ abbrev pub changed_by : Effect → List ℕ
 changed_by (Put name bytes) = name
 changed_by (Remove name) = name
 
--- the text of a name that no temporary has
+-- the text of a name that a patch may give and no temporary has
 pub record IsLasting (name : List ℕ) : Type 0 where
-  pub lawful : IsName name
+  pub lawful : IsPatchName name
   pub lasting : is_temp name ≡ false
 
 -- the patch has lawful names, and changes only these

@@ -105,7 +105,7 @@ pub enum StackOp {
     Push,
     /// The last one that was applied is taken back.
     Pop,
-    /// Those that are applied are listed.
+    /// Those that are applied are counted.
     Applied,
 }
 

@@ -194,7 +194,7 @@ const OPERATION: Word = Word {
     letter: None,
     name: "operation",
     shown: "push|pop|applied",
-    help: "apply the next patch, take the last one back, or list those applied",
+    help: "apply the next patch, take the last one back, or tell how many are applied",
 };
 
 static LIST: [Word; 9] = [
