@@ -126,10 +126,11 @@ fn is_backup_due(turn: &Turn<'_>, target: &Target, session: &Session) -> bool
     ensures due { (vs : List Verdict) → session.now.inexact ≡ list_any is_inexact vs → result ≡ is_backup_due (plain_turn turn.now) target.now vs }
     ensures apart { result ≡ true → target.now.backup ≢ target.now.name }
 {
-    if was_written(turn, &target.name) || is_same(&target.backup, &target.name) {
+    // (the file patches before this one are many, and asked last)
+    if !is_backup_asked(turn.options, session) || is_same(&target.backup, &target.name) {
         return false;
     }
-    is_backup_asked(turn.options, session)
+    !was_written(turn, &target.name)
 }
 
 /// Whether the options ask for a backup of the target.
