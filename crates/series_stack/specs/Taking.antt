@@ -1,12 +1,12 @@
 -- What names stand for, as a save that is taken, or why none is.
-use Rattle.std.specs.Prelude.{◌≡◌, ◌≢◌, ℕ, ◌^◌, ◌≤◌, List, [], ◌∷◌, ◌++◌, length, true, nat_lt, if◌then◌else◌, Option, None, Some, option_map}
+use Rattle.std.specs.Prelude.{◌≡◌, ◌≢◌, ℕ, ◌^◌, ◌≤◌, List, [], ◌∷◌, ◌++◌, length, map, true, nat_lt, if◌then◌else◌, Option, None, Some, option_map}
 use Rattle.std.specs.List.{AllByRecursion}
 use Rattle.std.specs.FinMap.{get}
 use Rattle.outside.specs.Files.{Files}
 use Rattle.outside.specs.TreeView.{TreeView, Rises}
 use Rattle.series_stack.specs.declared.fault.StackFault.{StackFault}
 use Rattle.series_stack.specs.declared.fault.StackFault.TheVariants.{BadState, FileTooLong, Tree, Disagree, Memory}
-use Rattle.series_stack.specs.Saves.{Entry, name_of, entry_text, is_saved, IsShort}
+use Rattle.series_stack.specs.Saves.{Entry, name_of, entry_text, save_text, is_saved, IsShort}
 use Rattle.series_stack.specs.Saves.Entry.{Missing, Held}
 use Rattle.series_stack.specs.Undoing.{entries_at}
 
@@ -19,6 +19,13 @@ too_long (Held name bytes ∷ es) = if nat_lt (length bytes) (2 ^ 32) then too_l
 -- each may be saved
 abbrev pub AreSaved : List (List ℕ) → Type 0
 AreSaved names = AllByRecursion (λ n. is_saved n ≡ true) names
+
+-- the save of one entry for each of these names
+pub record IsSaveOf (names : List (List ℕ)) (bytes : List ℕ) : Type 0 where
+  pub entries : List Entry
+  pub named : map name_of entries ≡ names
+  pub short : AllByRecursion IsShort entries
+  pub text : bytes ≡ save_text entries
 
 -- a text with one entry more, of this name
 pub record HasEntryMore (old new name : List ℕ) : Type 0 where

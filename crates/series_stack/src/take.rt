@@ -8,7 +8,7 @@ ghost use Rattle.series_stack.specs.Found.{entry_with};
 ghost use Rattle.series_stack.specs.Saves.{entries_of, entry_text, save_text};
 ghost use Rattle.series_stack.specs.Saves.Entry.{Missing, Held};
 ghost use Rattle.series_stack.specs.Undoing.{entries_at};
-ghost use Rattle.series_stack.specs.Taking.{too_long, AreSaved, HasEntryMore, HasEntryCause, HasTakeCause};
+ghost use Rattle.series_stack.specs.Taking.{too_long, AreSaved, IsSaveOf, HasEntryMore, HasEntryCause, HasTakeCause};
 
 use crate::fault::StackFault;
 use num_text::put_number;
@@ -30,7 +30,8 @@ pub fn take_names<T: Tree>(
     ensures save { IfOk result (λ text. (f : Files) → (T.view tree.old).told ≡ Some f → text.items ≡ save_text (entries_at f names.now)) }
     ensures short { OnOk result ((f : Files) → (T.view tree.old).told ≡ Some f → too_long (entries_at f names.now) ≡ None) }
 
-    // Whatever the tree tells, the text is a save.
+    // Whatever the tree tells, the text is the save of one entry for each name, and is read again where these may be saved.
+    ensures entries { IfOk result (λ text. IsSaveOf names.now text.items) }
     ensures form { IfOk result (λ text. AreSaved names.now → IsSome (entries_of text.items)) }
     ensures cause { IfErr result (λ e. HasTakeCause e (T.view tree.old) (T.view tree.new) names.now) }
 {

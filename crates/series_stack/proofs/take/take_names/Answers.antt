@@ -23,7 +23,7 @@ pub returns : goal.returns
 returns g c =
     let taken : HasTaken (g.T.Tree.view c.args.tree.now) (g.T.Tree.view c.loop-name.tree) c.args.names.now c.loop-name.text.items =
     subst (λ (l : List (List ℕ)). HasTaken (g.T.Tree.view c.args.tree.now) (g.T.Tree.view c.loop-name.tree) l c.loop-name.text.items) (take_all c.loop-name.name-index c.args.names.now (omega arith)) c.loop-name.invariant in
-    record { untouched = taken.untouched; save = taken.save; short = taken.short; form = λ saved. taken_is_save taken saved; cause = tt }
+    record { untouched = taken.untouched; save = taken.save; short = taken.short; entries = record { entries = taken.entries; named = taken.named; short = taken.small; text = taken.text }; form = λ saved. taken_is_save taken saved; cause = tt }
 
 pub returns-in_err-add_entry-clause-untouched : goal.returns-in_err-add_entry-clause-untouched
 returns-in_err-add_entry-clause-untouched g c = untouched_both c.loop-name.invariant.untouched c.in_err-add_entry.ensures.untouched
