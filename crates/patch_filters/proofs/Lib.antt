@@ -1,5 +1,5 @@
 mod Loops
-mod Rows
+pub mod Rows
 mod Ranges
 mod OldLines
 mod Placed

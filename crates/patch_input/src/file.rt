@@ -38,8 +38,8 @@ fn below(alloc: Global, dir: Option<&Name>, name: &Name) -> Result<Name, AllocEr
     }
 }
 
-/// The bytes of the file.
-fn read_file<T: Tree>(alloc: Global, name: &Name, tree: &mut T) -> Result<Vec<u8>, InputFault>
+/// The bytes of a file of the tree, at most 268,435,456.
+pub fn read_file<T: Tree>(alloc: Global, name: &Name, tree: &mut T) -> Result<Vec<u8>, InputFault>
     ensures untouched { IsUntouched (T.view tree.old) (T.view tree.new) }
     ensures short { IfOk result (λ text. length text.items ≤ 268435456) }
     ensures text { IfOk result (λ text. (f : Files) → (T.view tree.old).told ≡ Some f → get f name.now ≡ Some text.items) }

@@ -14,6 +14,7 @@ mod stream;
 use crate::file::read_below;
 use crate::stream::read_source;
 pub use fault::InputFault;
+pub use file::read_file;
 use outside::{Name, Source, Tree};
 use patch_options::Input;
 use std::alloc::Global;

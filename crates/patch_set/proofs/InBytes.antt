@@ -18,7 +18,7 @@ turn-bytes text at (s ∷ ss) end turn =
     ap (λ k. slice_range text k s.end ∷ map (bytes_at text) ss) turn.0
     ∙ ap (λ ts. slice_range text at s.end ∷ ts) (turn-bytes text s.end ss end turn.2)
 
-cut-bytes : (text : List ℕ) (h : Header) (ss : List Span) (end : ℕ) → AreCut h ss end → map (bytes_at text) ss ≡ cut_at text h.at (map (λ s. s.end) ss)
+pub cut-bytes : (text : List ℕ) (h : Header) (ss : List Span) (end : ℕ) → AreCut h ss end → map (bytes_at text) ss ≡ cut_at text h.at (map (λ s. s.end) ss)
 cut-bytes text h ss end cut = by h.bare refl
   where
     by : (b : Bool) → h.bare ≡ b → map (bytes_at text) ss ≡ cut_at text h.at (map (λ s. s.end) ss)

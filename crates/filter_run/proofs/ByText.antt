@@ -1,0 +1,106 @@
+-- What is written of a set is told by its text.
+use Rattle.std.proofs.Common.{◌≡◌, ℕ, ◌+◌, Bool, cond, List, [], ◌∷◌, ◌++◌, length, map, refl, sym, ap, ◌∙◌}
+use Rattle.std.specs.Prelude.{◌==◌, filter, if◌then◌else◌}
+use Rattle.std.specs.List.{flat_map, list_any, range_with_len, zip}
+use Rattle.std.proofs.lemmas.List.Concat.{flat_map-cons}
+use Rattle.file_patch.specs.declared.FilePatch.{FilePatch}
+use Rattle.file_patch.specs.PlainPatch.{PlainPatch, change_of, patch_of, row_count}
+use Rattle.patch_text.specs.Patches.{patches_of}
+use Rattle.patch_text.specs.Regions.{Region, region_of, regions_of}
+use Rattle.patch_set.specs.Asked.{ways_of}
+use Rattle.patch_set.specs.SetView.{SetView, IsRead, plain_patches}
+use Rattle.patch_set.specs.Spans.{IsPlaced, ArePlaced}
+use Rattle.patch_set.proofs.InBytes.{cut-bytes}
+use Rattle.patch_filters.specs.Filtered.{chosen, filtered, region, written, written_bare, written_if_taken, is_taken_of}
+use Rattle.patch_filters.specs.Grepped.{found_text, grepped, hits_of, is_found}
+use Rattle.patch_filters.specs.Kept.{kept}
+use Rattle.patch_filters.specs.Selected.{numbered}
+use Rattle.patch_filters.proofs.Rows.{flat-if, filtered-is}
+use Rattle.split_recount.specs.Parts.{between, cuts_behind, parts, row_of}
+use Rattle.tool_words.specs.PlainJobs.{PlainFilterJob, PlainGrepJob}
+use Rattle.tool_words.specs.declared.jobs.GrepOut.{GrepOut}
+use Rattle.tool_words.specs.declared.jobs.GrepOut.TheVariants.{Names, Hunks, Files}
+use Rattle.filter_run.specs.Texts.{defaults, read_patches, patches_in, regions_in, Spot, spots_in, spot_written, is_spot_taken, filtered_in, spot_found, grepped_in, row_at, parts_in}
+
+-- a file patch of a set, as it is in the text
+abbrev spot : List ℕ → FilePatch → Spot
+spot text p = (region_of p, patch_of text p)
+
+-- ---- lists side by side
+
+zip-both : (text : List ℕ) (ps : List FilePatch) → zip (map region_of ps) (map (patch_of text) ps) ≡ map (spot text) ps
+zip-both text [] = refl
+zip-both text (p ∷ ps) = ap (λ (ss : List Spot). spot text p ∷ ss) (zip-both text ps)
+
+module _ (text : List ℕ) (f : ℕ × FilePatch → List ℕ) (g : ℕ × Spot → List ℕ) (same : (n start before : ℕ) (p : FilePatch) → IsPlaced text start before p → f (n, p) ≡ g (n, spot text p)) where
+  numbered-same : (k start before : ℕ) (ps : List FilePatch) → ArePlaced text start before ps
+      → flat_map f (zip (range_with_len k (length ps)) ps) ≡ flat_map g (zip (range_with_len k (length (map (spot text) ps))) (map (spot text) ps))
+  numbered-same k start before [] at = refl
+  numbered-same k start before (p ∷ ps) at =
+      flat_map-cons f (k, p) (zip (range_with_len (k + 1) (length ps)) ps)
+      ∙ ap (λ (t : List ℕ). t ++ flat_map f (zip (range_with_len (k + 1) (length ps)) ps)) (same k start before p at.0)
+      ∙ ap (λ (t : List ℕ). g (k, spot text p) ++ t) (numbered-same (k + 1) p.span.end (before + row_count p.change) ps at.1)
+      ∙ sym (flat_map-cons g (k, spot text p) (zip (range_with_len (k + 1) (length (map (spot text) ps))) (map (spot text) ps)))
+
+module _ (text : List ℕ) (f : FilePatch → List ℕ) (g : Spot → List ℕ) (same : (start before : ℕ) (p : FilePatch) → IsPlaced text start before p → f p ≡ g (spot text p)) where
+  all-same : (start before : ℕ) (ps : List FilePatch) → ArePlaced text start before ps → flat_map f ps ≡ flat_map g (map (spot text) ps)
+  all-same start before [] at = refl
+  all-same start before (p ∷ ps) at =
+      flat_map-cons f p ps
+      ∙ ap (λ (t : List ℕ). t ++ flat_map f ps) (same start before p at.0)
+      ∙ ap (λ (t : List ℕ). g (spot text p) ++ t) (all-same p.span.end (before + row_count p.change) ps at.1)
+      ∙ sym (flat_map-cons g (spot text p) (map (spot text) ps))
+
+-- ---- one file patch
+
+module _ (text : List ℕ) (start before : ℕ) (p : FilePatch) (at : IsPlaced text start before p) where
+  written-same : (j : PlainFilterJob) → written j text p ≡ spot_written j text (spot text p)
+  written-same j = ap (λ (ts : List (List ℕ)). if p.header.bare then written_bare j text p else (if list_any (λ is. is) (kept j (change_of text p.change)) then region text p ++ chosen (kept j (change_of text p.change)) ts else []))
+      (cut-bytes text p.header p.hunk_spans.items p.span.end at.cut)
+
+  found-same : (hit : List ℕ → Bool) (out : GrepOut) → found_text hit out text p ≡ spot_found hit out text (spot text p)
+  found-same hit Names = refl
+  found-same hit Hunks = ap (λ (ts : List (List ℕ)). region text p ++ chosen (hits_of hit (change_of text p.change)) ts) (cut-bytes text p.header p.hunk_spans.items p.span.end at.cut)
+  found-same hit Files = refl
+
+rows-same : (text : List ℕ) (ps : List FilePatch) → map (row_of text) ps ≡ map (row_at text) (map region_of ps)
+rows-same text [] = refl
+rows-same text (p ∷ ps) = ap (λ (rs : List (ℕ × List ℕ)). row_of text p ∷ rs) (rows-same text ps)
+
+-- ---- a set that was read
+
+module _ (text : List ℕ) (v : SetView) (read : IsRead defaults text v) where
+  pub patches-by : patches_in text ≡ plain_patches v
+  patches-by = ap read_patches (ap (patches_of (ways_of defaults)) (sym read.text) ∙ read.patches)
+
+  regions-by : regions_in text ≡ map region_of v.patches
+  regions-by = ap (regions_of (ways_of defaults)) (sym read.text) ∙ sym read.regions
+
+  spots-by : spots_in text ≡ map (spot v.text) v.patches
+  spots-by = ap (λ (rs : List Region). zip rs (patches_in text)) regions-by ∙ ap (λ (ps : List PlainPatch). zip (map region_of v.patches) ps) patches-by ∙ zip-both v.text v.patches
+
+  pub filtered-by : (j : PlainFilterJob) → filtered j v ≡ filtered_in j text
+  unfolding filtered_in
+  filtered-by j =
+      filtered-is j v
+      ∙ numbered-same v.text (written_if_taken j v.text) (λ n. cond (is_spot_taken j n) (spot_written j v.text n.1) [])
+      (λ n start before p at. ap (λ (t : List ℕ). cond (is_taken_of j v.text (n, p)) t []) (written-same v.text start before p at j)) 1 0 0 v.patches read.spans
+      ∙ sym (flat-if (is_spot_taken j) (λ n. spot_written j v.text n.1) (numbered (map (spot v.text) v.patches)))
+      ∙ ap (λ (ss : List Spot). flat_map (λ n. spot_written j v.text n.1) (filter (is_spot_taken j) (numbered ss))) (sym spots-by)
+      ∙ ap (λ (t : List ℕ). flat_map (λ n. spot_written j t n.1) (filter (is_spot_taken j) (numbered (spots_in text)))) read.text
+
+  pub grepped-by : (hit : List ℕ → Bool) (j : PlainGrepJob) → grepped hit j v ≡ grepped_in hit j text
+  unfolding grepped grepped_in
+  grepped-by hit j =
+      flat-if (λ p. is_found hit j (patch_of v.text p)) (found_text hit j.output v.text) v.patches
+      ∙ all-same v.text (λ p. cond (is_found hit j (patch_of v.text p)) (found_text hit j.output v.text p) []) (λ s. cond (is_found hit j s.1) (spot_found hit j.output v.text s) [])
+      (λ start before p at. ap (λ (t : List ℕ). cond (is_found hit j (patch_of v.text p)) t []) (found-same v.text start before p at hit j.output)) 0 0 v.patches read.spans
+      ∙ sym (flat-if (λ (s : Spot). is_found hit j s.1) (spot_found hit j.output v.text) (map (spot v.text) v.patches))
+      ∙ ap (λ (ss : List Spot). flat_map (spot_found hit j.output v.text) (filter (λ s. is_found hit j s.1) ss)) (sym spots-by)
+      ∙ ap (λ (t : List ℕ). flat_map (spot_found hit j.output t) (filter (λ s. is_found hit j s.1) (spots_in text))) read.text
+
+  pub parts-by : (every : Bool) → parts every v ≡ parts_in every text
+  unfolding parts_in
+  parts-by every =
+      ap (λ (rows : List (ℕ × List ℕ)). if length v.text == 0 then [] else between 0 (cuts_behind every rows) (length v.text)) (rows-same v.text v.patches ∙ ap (map (row_at v.text)) (sym regions-by))
+      ∙ ap (λ (t : List ℕ). if length t == 0 then [] else between 0 (cuts_behind every (map (row_at t) (regions_in text))) (length t)) read.text

@@ -1,0 +1,109 @@
+-- What was read before a filter writes.
+use Rattle.std.proofs.Common.{◌≡◌, ◌≢◌, ◌⊎◌, inl, inr, ⊎_elim, ℕ, true, List, [], Option, None, Some, Result, Ok, Err, refl, sym, ap, ◌∙◌}
+use Rattle.std.specs.Prelude.{IsErrAnd, IfSome}
+use Rattle.std.proofs.lemmas.Result.{err_from_is_err_and}
+use Rattle.outside.specs.Files.{Files}
+use Rattle.outside.specs.TreeView.{TreeView}
+use Rattle.outside.specs.Calls.{IsUntouched}
+use Rattle.outside.specs.SourceView.{SourceView, SourcePasses}
+use Rattle.patch_options.specs.declared.options.Input.{Input}
+use Rattle.tool_words.specs.PlainJobs.{PlainSelect}
+use Rattle.patch_input.specs.declared.fault.InputFault.{InputFault}
+use Rattle.patch_input.specs.Input.{IsStandard, TakesAtMost}
+use Rattle.patch_set.specs.declared.fault.SetFault.{SetFault}
+use Rattle.patch_set.specs.declared.fault.SetFault.TheVariants.{Malformed, Garbage, TooLong, OutMany, EdReverse, Reserved, Memory}
+use Rattle.patch_set.specs.Refusals.{refusal}
+use Rattle.patch_set.specs.SetView.{SetView, IsRead, IsWhole}
+use Rattle.filter_run.specs.Texts.{defaults}
+use Rattle.filter_run.specs.Outcomes.{given}
+use Rattle.filter_run.specs.Sifting.{IsTold, is_refusal, HasInputCause, HasTextCause}
+use Rattle.filter_run.specs.Opened.{IsGarbage, IsReadOf, IsRefusedText, Opens}
+use Rattle.filter_run.specs.declared.fault.FilterFault.{FilterFault}
+use Rattle.filter_run.specs.declared.fault.FilterFault.TheVariants as faults
+
+-- a text that isn't read is refused, or memory ran out
+abbrev pub IsUnread : List ℕ → SetFault → Type 0
+IsUnread text e = (e ≡ Memory) ⊎ ((e ≢ Garbage) × (refusal defaults text ≡ Some e))
+
+-- the text and the selection that are given, wherever they are told
+abbrev pub AreGiven : Input → PlainSelect → PlainSelect → TreeView → SourceView → List ℕ → Type 0
+AreGiven i old new t a text = (f : Files) (left : List ℕ) → IsTold i t a f left → given i old f left ≡ Ok (text, new)
+
+module _ (i : Input) (old new : PlainSelect) (t : TreeView) (a : SourceView) (text : List ℕ) (are : AreGiven i old new t a text) where
+  pub garbage-opened : refusal defaults text ≡ Some Garbage → (f : Files) (left : List ℕ) → IsTold i t a f left → IsGarbage new (given i old f left)
+  garbage-opened is f left told = record { text = text; is = are f left told; garbage = is }
+
+  pub set-opened : (v : SetView) → IsRead defaults text v → refusal defaults text ≡ None → (f : Files) (left : List ℕ) → IsTold i t a f left → IsReadOf v new (given i old f left)
+  set-opened v read free f left told = record { text = text; is = are f left told; free = free; read = read }
+
+  pub text-refused-so : (e : SetFault) → IsUnread text e → is_refusal (faults.Set e) ≡ true → (f : Files) (left : List ℕ) → IsTold i t a f left → IsRefusedText e (given i old f left)
+  text-refused-so e is refuses f left told = ⊎_elim
+      (λ (memory : e ≡ Memory). absurd (let h : is_refusal (faults.Set Memory) ≡ true = sym (ap (λ x. is_refusal (faults.Set x)) memory) ∙ refuses in cc))
+      (λ (here : (e ≢ Garbage) × (refusal defaults text ≡ Some e)). record { text = text; select = new; is = are f left told; refused = here.1; some = here.0 })
+      is
+
+pub unread-cause : (text : List ℕ) (e : SetFault) → IsUnread text e → HasTextCause e
+unread-cause text (Malformed line kind) (inl never) = absurd (cc)
+unread-cause text (Malformed line kind) (inr is) = (text, is.1)
+unread-cause text Garbage (inl never) = absurd (cc)
+unread-cause text Garbage (inr is) = is.0 refl
+unread-cause text TooLong (inl never) = absurd (cc)
+unread-cause text TooLong (inr is) = (text, is.1)
+unread-cause text (OutMany count) (inl never) = absurd (cc)
+unread-cause text (OutMany count) (inr is) = (text, is.1)
+unread-cause text (EdReverse line) (inl never) = absurd (cc)
+unread-cause text (EdReverse line) (inr is) = (text, is.1)
+unread-cause text (Reserved line) (inl never) = absurd (cc)
+unread-cause text (Reserved line) (inr is) = (text, is.1)
+unread-cause text Memory is = tt
+
+-- a fault that is passed on
+pub fault-is : {X E : Type 0} (r : Result X E) (e : E) → IsErrAnd r (λ f. f ≡ e) → r ≡ Err e
+fault-is r e is = let q = err_from_is_err_and r is in q.1 ∙ ap (λ f. Err f) q.2
+
+-- ---- the whole opening
+module _ (i : Input) (old new : PlainSelect) (t u : TreeView) (a b : SourceView) (same : IsUntouched t u) (source : SourcePasses a b) (taken : TakesAtMost 268435457 a b) where
+  pub opens-ungiven : (r : Result (Option SetView) FilterFault) (e : InputFault) → IsErrAnd r (λ f. f ≡ faults.Input e)
+      → (is_refusal (faults.Input e) ≡ true → (f : Files) (left : List ℕ) → IsTold i t a f left → given i old f left ≡ Err e) → HasInputCause e i old t u a b → Opens i old new t u a b r
+  opens-ungiven r e is refused cause = rw (fault-is r (faults.Input e) is) record {
+    untouched = same;
+    source = source;
+    read = tt;
+    taken = taken;
+    opened = tt;
+    refused = refused;
+    cause = cause;
+  }
+
+  module _ (text : List ℕ) (are : AreGiven i old new t a text) where
+    pub opens-unread : (r : Result (Option SetView) FilterFault) (e : SetFault) → IsErrAnd r (λ f. f ≡ faults.Set e) → IsUnread text e → Opens i old new t u a b r
+    opens-unread r e is unread = rw (fault-is r (faults.Set e) is) record {
+      untouched = same;
+      source = source;
+      read = tt;
+      taken = taken;
+      opened = tt;
+      refused = text-refused-so i old new t a text are e unread;
+      cause = unread-cause text e unread;
+    }
+
+    pub opens-read : (set : Option SetView) → (IsStandard i → (left : List ℕ) → a.told ≡ Some left → b.told ≡ Some []) → IfSome set (λ v. IsRead defaults text v × IsWhole v × (refusal defaults text ≡ None)) → (set ≡ None → refusal defaults text ≡ Some Garbage)
+        → Opens i old new t u a b (Ok set)
+    opens-read None end some none = record {
+      untouched = same;
+      source = source;
+      read = end;
+      taken = taken;
+      opened = garbage-opened i old new t a text are (none refl);
+      refused = tt;
+      cause = tt;
+    }
+    opens-read (Some v) end some none = record {
+      untouched = same;
+      source = source;
+      read = end;
+      taken = taken;
+      opened = set-opened i old new t a text are v some.0 some.2;
+      refused = tt;
+      cause = tt;
+    }

@@ -1,0 +1,10 @@
+pub mod ByText
+pub mod Coming
+pub mod Choosing
+pub mod Taking
+pub mod Gathering
+pub mod Written
+pub mod Recounting
+pub mod PartNames
+pub mod Parting
+pub mod SplitRun

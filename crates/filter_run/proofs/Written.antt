@@ -1,0 +1,168 @@
+-- From what was read, and what was written of it, to what a filter promises.
+use Rattle.std.proofs.Common.{◌≡◌, ◌≢◌, inl, inr, ℕ, Bool, true, false, List, [], ◌∷◌, None, Some, Result, Ok, Err, refl, sym, ◌∙◌}
+use Rattle.outside.specs.Files.{Files}
+use Rattle.outside.specs.TreeView.{TreeView}
+use Rattle.outside.specs.FinderView.{FinderView}
+use Rattle.outside.specs.SourceView.{SourceView}
+use Rattle.outside.specs.SinkView.{SinkView, SinkPasses, sink_passes_none, Receives, ReceivesPart, Writes}
+use Rattle.outside.proofs.Writing.{received_none}
+use Rattle.patch_options.specs.declared.options.Input.{Input}
+use Rattle.tool_words.specs.PlainJobs.{PlainSelect, PlainGrepJob}
+use Rattle.patch_input.specs.declared.fault.InputFault.{InputFault}
+use Rattle.patch_set.specs.declared.fault.SetFault.{SetFault}
+use Rattle.patch_set.specs.declared.fault.SetFault.TheVariants.{Malformed, Garbage, TooLong, OutMany, EdReverse, Reserved, Memory}
+use Rattle.patch_set.specs.SetView.{SetView}
+use Rattle.patch_filters.specs.declared.fault.GrepFault.{GrepFault}
+use Rattle.patch_filters.specs.declared.fault.GrepFault.TheVariants as grep
+use Rattle.patch_filters.specs.Grepped.{HasGrepCause, grepped}
+use Rattle.filter_run.specs.Faults.{of_grep}
+use Rattle.filter_run.specs.Outcomes.{Outcome, HasPatches, IsGrepped, given, grep_with}
+use Rattle.filter_run.specs.Sifting.{AnswersFault, HasCause, HasTextCause, IsTold, Sifts, is_refusal}
+use Rattle.filter_run.specs.Opened.{IsGarbage, IsReadOf, IsRefused, HasOpeningCause, Opens}
+use Rattle.filter_run.proofs.Coming.{Comes, ComesBy, grepped-is, some-there}
+use Rattle.filter_run.specs.declared.fault.FilterFault.{FilterFault}
+use Rattle.filter_run.specs.declared.fault.FilterFault.TheVariants as faults
+
+-- ---- what was read decides what comes
+module _ (written : PlainSelect → SetView → List ℕ) (x : Result (List ℕ × PlainSelect) InputFault) where
+  comes-read : (s : PlainSelect) (v : SetView) → IsReadOf v s x → Comes written x (Ok (written s v))
+  comes-read s v h = rw (h.is, h.free) (v, h.read, refl)
+
+  comes-none : (s : PlainSelect) → IsGarbage s x → Comes written x (Ok [])
+  comes-none s h = rw (h.is, h.garbage) refl
+
+comes-by : (e : SetFault) (bytes : SetView → List ℕ) (text : List ℕ) → e ≢ Garbage → ComesBy (Some e) bytes text (Err (faults.Set e))
+comes-by (Malformed line kind) bytes text ne = refl
+comes-by Garbage bytes text ne = absurd (ne refl)
+comes-by TooLong bytes text ne = refl
+comes-by (OutMany count) bytes text ne = refl
+comes-by (EdReverse line) bytes text ne = refl
+comes-by (Reserved line) bytes text ne = refl
+comes-by Memory bytes text ne = refl
+
+comes-refused : (written : PlainSelect → SetView → List ℕ) (e : FilterFault) (x : Result (List ℕ × PlainSelect) InputFault) → IsRefused e x → Comes written x (Err e)
+comes-refused written (faults.Input e) x is = rw is refl
+comes-refused written (faults.Set e) x is = rw (is.is, is.refused) (comes-by e (written is.select) is.text is.some)
+comes-refused written faults.Pattern x is = absurd is
+comes-refused written faults.Tree x is = absurd is
+comes-refused written faults.Write x is = absurd is
+comes-refused written faults.Memory x is = absurd is
+
+pub patches-there : (x : Result (List ℕ × PlainSelect) InputFault) (s : PlainSelect) (v : SetView) → v.patches ≢ [] → IsReadOf v s x → HasPatches x
+patches-there x s v some h = rw (h.is) (h.free, some-there h.text v h.read some)
+
+-- ---- answers that write nothing
+pub answers-none : (b : Bool) (e : FilterFault) (P : Outcome → Type 0) (c : SinkView) → (b ≡ true → P (Err e)) → AnswersFault b e P c c
+answers-none true e P c is = (is refl, refl)
+answers-none false e P c is = inl refl
+
+opening-cause : (e : FilterFault) (i : Input) (s : PlainSelect) (Q : Type 0) (t u : TreeView) (a b : SourceView) (c : SinkView) → HasOpeningCause e i s t u a b → HasCause e i s HasTextCause Q t u a b c c
+opening-cause (faults.Input e) i s Q t u a b c h = h
+opening-cause (faults.Set e) i s Q t u a b c h = h
+opening-cause faults.Pattern i s Q t u a b c h = absurd h
+opening-cause faults.Tree i s Q t u a b c h = h
+opening-cause faults.Write i s Q t u a b c h = absurd h
+opening-cause faults.Memory i s Q t u a b c h = tt
+
+-- ---- a filter over a set, of which these are the bytes, where the definition allows what comes so
+module _ (i : Input) (old new : PlainSelect) (Q : Type 0) (written : PlainSelect → SetView → List ℕ) (P : Files → List ℕ → Outcome → Type 0)
+    (allows : (f : Files) (left : List ℕ) (o : Outcome) → Comes written (given i old f left) o → P f left o) (t u : TreeView) (a b : SourceView) where
+  pub sifts-unopened : (e : FilterFault) (c : SinkView) → Opens i old new t u a b (Err e) → Sifts i old HasTextCause Q P t u a b c c (Err e)
+  sifts-unopened e c h = record {
+    untouched = h.untouched;
+    source = h.source;
+    read = tt;
+    taken = h.taken;
+    sink = sink_passes_none c;
+    answers = λ f left told. answers-none (is_refusal e) e (P f left) c (λ refuses. allows f left (Err e) (comes-refused written e (given i old f left) (h.refused refuses f left told)));
+    cause = opening-cause e i old Q t u a b c h.cause;
+  }
+
+  pub sifts-nothing : (c : SinkView) → Opens i old new t u a b (Ok None) → Sifts i old HasTextCause Q P t u a b c c (Ok tt)
+  sifts-nothing c h = record {
+    untouched = h.untouched;
+    source = h.source;
+    read = h.read;
+    taken = h.taken;
+    sink = sink_passes_none c;
+    answers = λ f left told. ([], allows f left (Ok []) (comes-none written (given i old f left) new (h.opened f left told)), received_none c);
+    cause = tt;
+  }
+
+  module _ (v : SetView) (h : Opens i old new t u a b (Ok (Some v))) (c d : SinkView) where
+    pub sifts-done : SinkPasses c d → Receives c d (written new v) → Sifts i old HasTextCause Q P t u a b c d (Ok tt)
+    sifts-done passes received = record {
+      untouched = h.untouched;
+      source = h.source;
+      read = h.read;
+      taken = h.taken;
+      sink = passes;
+      answers = λ f left told. (written new v, allows f left (Ok (written new v)) (comes-read written (given i old f left) new v (h.opened f left told)), received);
+      cause = tt;
+    }
+
+    pub sifts-written : {E : Type 0} → Writes {R = Unit {0}} {E = E} c d (Ok tt) (written new v) → Sifts i old HasTextCause Q P t u a b c d (Ok tt)
+    sifts-written w = sifts-done w.call.passes w.received
+
+    -- a fault of a device, or want of memory
+    pub sifts-broken : (e : FilterFault) → is_refusal e ≡ false → SinkPasses c d → ReceivesPart c d (written new v) → HasCause e i old HasTextCause Q t u a b c d → Sifts i old HasTextCause Q P t u a b c d (Err e)
+    sifts-broken e is passes part cause = record {
+      untouched = h.untouched;
+      source = h.source;
+      read = tt;
+      taken = h.taken;
+      sink = passes;
+      answers = λ f left told. rw is (inr (written new v, allows f left (Ok (written new v)) (comes-read written (given i old f left) new v (h.opened f left told)), part));
+      cause = cause;
+    }
+
+    pub sifts-cut : {R E : Type 0} (e : E) → Writes {R = R} c d (Err e) (written new v) → Sifts i old HasTextCause Q P t u a b c d (Err faults.Write)
+    sifts-cut e w = sifts-broken faults.Write refl w.call.passes w.failed (w.call.cause refl)
+
+-- ---- a search, whose pattern may be refused
+abbrev ended : GrepFault → Result (Unit {0}) GrepFault
+ended e = Err e
+
+module _ (new : PlainSelect) (finder : FinderView) (j : PlainGrepJob) (t u : TreeView) (a b : SourceView) where
+  abbrev bytes : PlainSelect → SetView → List ℕ
+  bytes s v = grepped (finder.hit j.pattern) (grep_with j s) v
+
+  abbrev Searches : SinkView → SinkView → Result (Unit {0}) FilterFault → Type 0
+  Searches c d result = Sifts j.input j.select HasTextCause (finder.takes j.pattern ≡ false) (IsGrepped finder.takes finder.hit j) t u a b c d result
+
+  pub searched-unopened : (e : FilterFault) (c : SinkView) → Opens j.input j.select new t u a b (Err e) → Searches c c (Err e)
+  searched-unopened = sifts-unopened j.input j.select new (finder.takes j.pattern ≡ false) bytes (IsGrepped finder.takes finder.hit j) (λ f left o is. inl (grepped-is finder.hit j f left o is)) t u a b
+
+  pub searched-nothing : (c : SinkView) → Opens j.input j.select new t u a b (Ok None) → Searches c c (Ok tt)
+  searched-nothing = sifts-nothing j.input j.select new (finder.takes j.pattern ≡ false) bytes (IsGrepped finder.takes finder.hit j) (λ f left o is. inl (grepped-is finder.hit j f left o is)) t u a b
+
+  module _ (v : SetView) (h : Opens j.input j.select new t u a b (Ok (Some v))) where
+    pub searched-done : (c d : SinkView) → SinkPasses c d → Receives c d (bytes new v) → Searches c d (Ok tt)
+    searched-done = sifts-done j.input j.select new (finder.takes j.pattern ≡ false) bytes (IsGrepped finder.takes finder.hit j) (λ f left o is. inl (grepped-is finder.hit j f left o is)) t u a b v h
+
+    searched-broken : (c d : SinkView) (e : FilterFault) → is_refusal e ≡ false → SinkPasses c d → ReceivesPart c d (bytes new v) → HasCause e j.input j.select HasTextCause (finder.takes j.pattern ≡ false) t u a b c d → Searches c d (Err e)
+    searched-broken = sifts-broken j.input j.select new (finder.takes j.pattern ≡ false) bytes (IsGrepped finder.takes finder.hit j) (λ f left o is. inl (grepped-is finder.hit j f left o is)) t u a b v h
+
+    searched-untaken : v.patches ≢ [] → finder.takes j.pattern ≡ false → (c : SinkView) → Searches c c (Err faults.Pattern)
+    searched-untaken some untaken c = record {
+      untouched = h.untouched;
+      source = h.source;
+      read = tt;
+      taken = h.taken;
+      sink = sink_passes_none c;
+      answers = λ f left told. (inr (untaken, refl, patches-there (given j.input j.select f left) new v some (h.opened f left told)), refl);
+      cause = untaken;
+    }
+
+    pub searched-faulted : {O F : Type 0} (view : O → SinkView) (x y : O) (f g : F) (e : GrepFault) → SinkPasses (view x) (view y) → ReceivesPart (view x) (view y) (bytes new v) → HasGrepCause e view finder j.pattern x y
+        → (v.patches ≡ [] → (ended e ≡ Ok tt) × (g ≡ f) × (y ≡ x)) → Searches (view x) (view y) (Err (of_grep e))
+    searched-faulted view x y f g grep.Pattern passes part cause unasked = rw cause.1 (searched-untaken (λ none. let never = (unasked none).0 in absurd (cc)) cause.0 (view x))
+    searched-faulted view x y f g grep.Write passes part cause unasked = searched-broken (view x) (view y) faults.Write refl passes part cause
+    searched-faulted view x y f g grep.Memory passes part cause unasked = searched-broken (view x) (view y) faults.Memory refl passes part tt
+
+    -- a set with file patches is one of a text that has them
+    pub searched-unasked : {F : Type 0} (f g : F) → (v.patches ≡ [] → g ≡ f) → (files : Files) (left : List ℕ) → IsTold j.input t a files left → (HasPatches (given j.input j.select files left) → ⊥) → g ≡ f
+    searched-unasked f g same files left told none = elim v.patches as (λ ps. v.patches ≡ ps → g ≡ f) [
+      | [] ↦ λ empty. same empty
+      | p ∷ ps ↦ λ some. absurd (none (patches-there (given j.input j.select files left) new v (λ empty. let never = sym some ∙ empty in absurd (cc)) (h.opened files left told)))
+    ] refl

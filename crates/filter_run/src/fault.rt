@@ -1,0 +1,61 @@
+//! Why a filter ends early.
+ghost use Rattle.std.specs.Prelude.{◌≡◌};
+ghost use Rattle.filter_run.specs.Faults.{of_grep};
+ghost use Rattle.filter_run.specs.declared.fault.FilterFault.TheVariants as faults;
+
+use patch_filters::GrepFault;
+use patch_input::InputFault;
+use patch_set::SetFault;
+use std::alloc::AllocError;
+
+/// Why a filter ends early.
+#[derive(Clone, Copy, Debug, PartialEq, Eq)]
+pub enum FilterFault {
+    /// There is no text, or no list of patterns.
+    Input(InputFault),
+    /// The text isn't read.
+    Set(SetFault),
+    /// The finder doesn't take the pattern.
+    Pattern,
+    /// A call of the tree failed while parts were put.
+    Tree,
+    /// A call of the sink failed.
+    Write,
+    Memory,
+}
+
+impl From<InputFault> for FilterFault {
+    ghost from_gives = { λ e fault. fault ≡ faults.Input e };
+
+    fn from(fault: InputFault) -> FilterFault {
+        FilterFault::Input(fault)
+    }
+}
+
+impl From<SetFault> for FilterFault {
+    ghost from_gives = { λ e fault. fault ≡ faults.Set e };
+
+    fn from(fault: SetFault) -> FilterFault {
+        FilterFault::Set(fault)
+    }
+}
+
+impl From<GrepFault> for FilterFault {
+    ghost from_gives = { λ e fault. fault ≡ of_grep e };
+
+    fn from(fault: GrepFault) -> FilterFault {
+        match fault {
+            GrepFault::Pattern => FilterFault::Pattern,
+            GrepFault::Write => FilterFault::Write,
+            GrepFault::Memory => FilterFault::Memory,
+        }
+    }
+}
+
+impl From<AllocError> for FilterFault {
+    ghost from_gives = { λ _ fault. fault ≡ faults.Memory };
+
+    fn from(_: AllocError) -> FilterFault {
+        FilterFault::Memory
+    }
+}
