@@ -13,8 +13,10 @@ pub mod HunkLoops
 pub mod Unbroken
 pub mod SpansLemmas
 pub mod MixedLemmas
+pub mod Canonical
 pub mod Again
 pub mod Steady
 pub mod SteadyParts
+pub mod HunkFaults
 pub mod FirstFault
 pub mod Words

@@ -1,22 +1,19 @@
 //! Hunks that follow each other.
 
-ghost use Rattle.std.specs.Prelude.{◌≡◌, ◌≢◌, ◌↔◌, ◌⊎◌, false, replicate, ℕ, List, [], ◌∷◌, ◌++◌, Err, true, None, ◌+◌, ◌<◌, ◌≤◌, ◌^◌, length, vec_len, if◌then◌else◌, drop, slice_range, IfOk, IfSome, All};
+ghost use Rattle.std.specs.Prelude.{◌≡◌, ℕ, List, ◌++◌, true, None, ◌+◌, ◌<◌, ◌≤◌, ◌^◌, length, vec_len, if◌then◌else◌, drop, slice_range, IfOk, All};
 ghost use Rattle.line_list.specs.Lines.{lines};
-ghost use Rattle.hunk_core.specs.PlainHunk.{Marked, PlainHunk, hunk_of, hunks_of, body_of};
-ghost use Rattle.hunk_core.specs.Reading.{Fault, Gives, Reads, IsPlace, ahead_of};
+ghost use Rattle.hunk_core.specs.PlainHunk.{PlainHunk, hunk_of, hunks_of, body_of};
+ghost use Rattle.hunk_core.specs.Reading.{Gives, IsPlace, ahead_of};
 ghost use Rattle.hunk_core.specs.Turned.{IsLawful, LiesIn};
 ghost use Rattle.hunk_core.specs.Rules.{first_broken};
 ghost use Rattle.hunk_core.specs.Pieces.{read_of, these, AreInTurn, AreWhole, SpellInTurn, AreSound};
 ghost use Rattle.context_form.specs.Openings.{begins_hunk};
 ghost use Rattle.context_form.specs.Ranges.{most, Fits};
 ghost use Rattle.context_form.specs.Parts.{plain_of};
-ghost use Rattle.context_form.specs.Merging.{joined, size_beside, kept_count, part_of};
-ghost use Rattle.num_text.specs.Numbers.{is_digit};
-ghost use Rattle.hunk_core.specs.declared.Side.{Side};
-ghost use Rattle.context_form.specs.Grammar.{IsPiece, SpellsPiece, SpellsHunk, stated_as, written};
-ghost use Rattle.context_form.specs.FirstFault.{AgreeTo, decided_by};
+ghost use Rattle.context_form.specs.Merging.{joined, size_beside};
+ghost use Rattle.context_form.specs.Grammar.{IsPiece, SpellsPiece};
 ghost use Rattle.context_form.specs.Hunks.{fitting, part_over, range_here, old_part, enough, new_part, sized, whole, parts_at, hunk_at, reading};
-ghost use Rattle.context_form.specs.Presence.{Begins, BeginsChange, begins_part, drops_alone, is_there, begins_old_part};
+ghost use Rattle.context_form.specs.Presence.{begins_part, drops_alone, is_there, begins_old_part};
 
 use crate::merging::{joined, kept_lines};
 use crate::opening::at_opening;
@@ -382,41 +379,3 @@ pub fn read_hunks(alloc: Global, text: &[u8], at: usize, line: u64) -> Result<Hu
 {
     read_all(alloc, text, at, line)
 }
-
-/// What makes a fault the first one. A fault in the lines of the parts is decided by its own line, or
-/// by the one behind it, and one of two whole parts by the line behind them.
-pub fn first_faults()
-    // It stays whatever lines come after the one that decides it, unless the text ends too early.
-    ensures stays { (number : ℕ) (lines others : List (List ℕ)) (e : Fault) → reading number lines ≡ Err e → e.kind ≢ BadKind.ShortEnd
-        → AgreeTo (decided_by number lines) number lines others → reading number others ≡ Err e }
-    // No lines that are the same up to there are spelled.
-    ensures unspelled { (number : ℕ) (lines others : List (List ℕ)) (e : Fault) (hs : List PlainHunk) (next : ℕ) (rest : List (List ℕ))
-        → reading number lines ≡ Err e → e.kind ≢ BadKind.ShortEnd → AgreeTo (decided_by number lines) number lines others → IsPiece number others hs next rest → ⊥ }
-    // Only three kinds can be decided later than by their own line.
-    ensures own { (number : ℕ) (lines : List (List ℕ)) (e : Fault) → reading number lines ≡ Err e
-        → e.kind ≢ BadKind.Count → e.kind ≢ BadKind.NumberTooLarge → e.kind ≢ BadKind.SidesDiffer → decided_by number lines ≡ e.line }
-    // A text that ends too early is at fault one line after its last.
-    ensures short { (number : ℕ) (lines : List (List ℕ)) (e : Fault) → reading number lines ≡ Err e → e.kind ≡ BadKind.ShortEnd → e.line ≡ number + length lines }
-    // No fault is decided before the end of lines that hunks begin with.
-    ensures late { (number : ℕ) (front behind others : List (List ℕ)) (e : Fault) (hs : List PlainHunk) (next : ℕ) (rest : List (List ℕ))
-        → IsPiece number (front ++ others) hs next rest → reading number (front ++ behind) ≡ Err e → number + length front ≤ decided_by number (front ++ behind) }
-{}
-
-/// The tests of the grammar, in the words of the diffutils manual.
-pub fn grammar_in_words()
-    // 15 asterisks, and behind their line '*** ' and a digit.
-    ensures opening { (lines : List (List ℕ)) → begins_hunk lines ≡ true
-        ↔ ((bytes : List ℕ) × (d : ℕ) × (more : List ℕ) × (rest : List (List ℕ)) × (lines ≡ (replicate 15 42 ++ bytes) ∷ (42 ∷ 42 ∷ 42 ∷ 32 ∷ d ∷ more) ∷ rest) × (is_digit d ≡ true)) }
-    // A new part is left out for 0.
-    ensures zero { (olds : List Marked) (rest : List (List ℕ)) → is_there (stated_as true 0 0) olds rest ≡ false }
-    // Behind one number, and an old part that is there and keeps no line, it is there where '+ ' or '! ' follows.
-    ensures alone { (start n : ℕ) (olds : List Marked) (rest : List (List ℕ)) → 0 < start → 0 < length olds → kept_count olds ≡ 0
-        → is_there (stated_as true start n) olds rest ≡ true ↔ BeginsChange rest }
-    // Behind another old part, or two numbers, it is there where two spaces follow too.
-    ensures other { (start n : ℕ) (olds : List Marked) (rest : List (List ℕ)) → 0 < start → (length olds ≡ 0) ⊎ (0 < kept_count olds)
-        → is_there (stated_as true start n) olds rest ≡ true ↔ (Begins 32 rest ⊎ BeginsChange rest) }
-    ensures two { (start n : ℕ) (olds : List Marked) (rest : List (List ℕ)) → is_there (stated_as false start n) olds rest ≡ true ↔ (Begins 32 rest ⊎ BeginsChange rest) }
-    // A new part that is written is there.
-    ensures written { (least : ℕ) (own behind : List (List ℕ)) (h : PlainHunk) (s : SpellsHunk least own behind h) → 0 < length s.new
-        → is_there (stated_as s.new_single h.new_start (length (part_of Side.Reversed h.body))) (written Side.Forward s.old h.body) (s.new ++ behind) ≡ true }
-{}

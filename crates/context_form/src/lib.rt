@@ -2,12 +2,14 @@
 #![tactic(auto)]
 
 mod hunks;
+mod laws;
 mod merging;
 mod opening;
 mod part;
 mod range;
 mod writing;
 
-pub use hunks::{first_faults, grammar_in_words, read_hunks};
+pub use hunks::read_hunks;
+pub use laws::{first_faults, grammar_in_words};
 pub use opening::at_opening;
 pub use writing::put_hunk;

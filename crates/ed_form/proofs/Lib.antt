@@ -6,5 +6,6 @@ pub mod CommandGrammar
 pub mod TextGrammar
 pub mod Pieces
 pub mod Lawful
+pub mod OneEdit
 pub mod FirstFault
 pub mod Words

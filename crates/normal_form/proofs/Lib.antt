@@ -10,5 +10,6 @@ pub mod Steady
 pub mod FirstFault
 pub mod GoesOn
 pub mod WritingLemmas
+pub mod Canonical
 pub mod Again
 pub mod Words

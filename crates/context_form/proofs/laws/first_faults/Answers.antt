@@ -1,5 +1,5 @@
 use Rattle.context_form.proofs.FirstFault.{fault-stays, fault-unspelled, fault-own, fault-short, fault-late}
-use Rattle.context_form.proofs.hunks.first_faults.Goals as goal
+use Rattle.context_form.proofs.laws.first_faults.Goals as goal
 
 pub returns-clause-stays : goal.returns-clause-stays
 returns-clause-stays c = fault-stays
