@@ -32,6 +32,7 @@ use Rattle.hunk_apply.specs.Session.{is_placed, is_failed, is_inexact}
 use Rattle.hunk_apply.specs.Written.{is_nothing}
 use Rattle.reject_text.specs.Rejects.{reject_text, hunks_in, rows_of}
 use Rattle.reject_text.specs.Starts.{net}
+use Rattle.say_text.specs.Origins.PlainOrigin.{Itself}
 use Rattle.say_text.specs.Messages.{silenced, patching_line, no_file_lines, prereq_line, reversed_line, exists_line, placed_text, failed_line, not_deleting_line, failures_line, ignored_line}
 use Rattle.patch_effects.specs.TargetEffects.{put_if, backup_effects, target_effects}
 
@@ -199,7 +200,7 @@ on_creation t place bytes side =
 
 -- the line that names the file
 abbrev pub patching_said : PlainTurn → ℕ → List ℕ
-patching_said t place = silenced t.options (patching_line t.options.dry_run t.options.output (shown (target_at t.item.targets place)))
+patching_said t place = silenced t.options (patching_line t.options.dry_run t.options.output (shown (target_at t.item.targets place)) Itself)
 
 abbrev pub on_target : PlainTurn → ℕ → Option (List ℕ) → Start
 on_target t place bytes = said_first (patching_said t place) (on_creation t place bytes (side_of t.options.reverse))

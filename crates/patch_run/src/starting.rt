@@ -24,7 +24,7 @@ use name_choice::{Choice, choose};
 use outside::{Failed, Name, Sink, Tree};
 use patch_effects::RunFault;
 use patch_set::{Row, is_posix};
-use say_text::{say_exists, say_no_file, say_patching};
+use say_text::{Origin, say_exists, say_no_file, say_patching};
 
 /// What becomes of a file patch.
 #[derive(Clone, Copy, Debug, PartialEq, Eq)]
@@ -121,7 +121,7 @@ fn on_target<P: Plan, T: Tree, O: Sink>(
     ensures rest { O.same_rest out.old out.new }
     ensures within { IfOk result (IsWithin (length turn.now.patch.now.targets.items)) }
 {
-    say_patching(turn.options, shown(chosen(turn, place)), out)?;
+    say_patching(turn.options, shown(chosen(turn, place)), Origin::Same, out)?;
     on_creation(turn, place, there, own_side(turn), plan, tree, out)
 }
 
