@@ -1,7 +1,7 @@
 //! A finder of regular expressions.
-ghost use Rattle.std.specs.Prelude.{◌≡◌, ◌↔◌, None, IfOk};
+ghost use Rattle.std.specs.Prelude.{◌≡◌, ◌↔◌, None, Err, IfOk};
 ghost use Rattle.regex.specs.Bytes.{matcher_pattern, regex_pattern, regex_source};
-ghost use Rattle.patch_filters.specs.RegexFound.{IsAsWritten, regex_hit};
+ghost use Rattle.patch_filters.specs.RegexFound.{IsAsWritten, IsNoPattern, regex_hit};
 
 use outside::{FindFault, Finder};
 use regex::Error;
@@ -49,10 +49,18 @@ impl Finder for RegexFinder {
     fn set(&mut self, alloc: Global, pattern: &str) -> Result<(), FindFault>
         ensures passes { FinderPasses (regex_view self.old) (regex_view self.new) }
         ensures set { IsSet (regex_view self.old) (regex_view self.new) pattern.now result }
+        // `regex` refused the text.
+        ensures refused { result ≡ Err FindFault.Refused → IsNoPattern pattern.now }
     {
         self.kept = None;
-        self.kept = Some(Kept::new(alloc, pattern)?);
-        Ok(())
+        let regex = read(alloc, pattern)?;
+        match Kept::new(alloc, regex) {
+            Ok(kept) => {
+                self.kept = Some(kept);
+                Ok(())
+            }
+            Err(_) => Err(FindFault::Memory),
+        }
     }
 
     fn hits(&mut self, _alloc: Global, line: &[u8]) -> Result<bool, AllocError>
@@ -69,17 +77,16 @@ impl Finder for RegexFinder {
 }
 
 impl Kept {
-    fn new(alloc: Global, pattern: &str) -> Result<Kept, FindFault>
-        ensures source { IfOk result (λ kept. kept.source.now ≡ pattern.now) }
+    fn new(alloc: Global, regex: Regex) -> Result<Kept, AllocError>
+        requires as_written { IsAsWritten (regex_source regex) (regex_pattern regex) }
+        ensures source { IfOk result (λ kept. kept.source.now ≡ regex_source regex) }
     {
-        let regex = keep(alloc, read(alloc, pattern)?)?;
-        match regex.matcher(alloc) {
-            Ok(matcher) => Ok(Kept {
-                source: regex.as_str(),
-                matcher,
-            }),
-            Err(_) => Err(FindFault::Memory),
-        }
+        let regex = keep(alloc, regex)?;
+        let matcher = regex.matcher(alloc)?;
+        Ok(Kept {
+            source: regex.as_str(),
+            matcher,
+        })
     }
 
     /// Whether the pattern matches somewhere in the line.
@@ -95,6 +102,7 @@ impl Kept {
 fn read(alloc: Global, pattern: &str) -> Result<Regex, FindFault>
     ensures source { IfOk result (λ r. regex_source r ≡ pattern.now) }
     ensures as_written { IfOk result (λ r. IsAsWritten (regex_source r) (regex_pattern r)) }
+    ensures refused { result ≡ Err FindFault.Refused → IsNoPattern pattern.now }
 {
     match Regex::new(alloc, pattern) {
         Ok(regex) => Ok(regex),
@@ -103,12 +111,12 @@ fn read(alloc: Global, pattern: &str) -> Result<Regex, FindFault>
 }
 
 /// Puts it where it stays until the program ends, so that a matcher may stand beside it.
-fn keep(alloc: Global, regex: Regex) -> Result<&'static Regex, FindFault>
+fn keep(alloc: Global, regex: Regex) -> Result<&'static Regex, AllocError>
     ensures { IfOk result (λ r. r.now ≡ regex) }
 {
     match Box::new(alloc, regex) {
         Ok(place) => Ok(Box::leak(place)),
-        Err(_) => Err(FindFault::Memory),
+        Err(_) => Err(AllocError),
     }
 }
 
