@@ -4,7 +4,7 @@
 # make test     runs the gate (rt ci), then the checks and the worked rows on real files
 # make times    prints what each crate's proof, tests and edits took, slowest crate first, as make and make test noted it
 # make deep     tries the wrong bodies that the gate leaves out (wrong-bodies); CRATES='NAME ..' takes those of some crates alone
-# make install  installs the program, its links, the manual and completions below PREFIX
+# make install  installs the program, its links, the manual and completions for bash, zsh and fish below PREFIX
 # make dist     packs them into build/patchkit-VERSION-MACHINE.tar.gz, which needs no toolchain
 RT ?= rt
 PREFIX ?= /usr/local
@@ -31,6 +31,8 @@ test:
 	@sh tests/rows $(BIN)
 	@sh tests/killed $(BIN)
 	@sh tests/commands $(BIN)
+	@sh tests/beside_patchutils $(BIN)
+	@sh tests/pages $(BIN) $(TOOLS)
 
 times:
 	@python3 tests/proofs times
@@ -39,11 +41,11 @@ deep:
 	@sh tests/deep $(RT) $(CRATES)
 
 install: all
-	mkdir -p $(DESTDIR)$(PREFIX)/bin $(DESTDIR)$(PREFIX)/share/man/man1 $(DESTDIR)$(PREFIX)/share/bash-completion/completions
+	mkdir -p $(DESTDIR)$(PREFIX)/bin $(DESTDIR)$(PREFIX)/share/man/man1
 	install -m 755 $(BIN)/patchkit $(DESTDIR)$(PREFIX)/bin/patchkit
-	for tool in $(TOOLS); do ln -sf patchkit $(DESTDIR)$(PREFIX)/bin/$$tool; done
-	for tool in $(TOOLS); do install -m 644 docs/man/$$tool.1 $(DESTDIR)$(PREFIX)/share/man/man1/$$tool.1; done
-	for tool in $(TOOLS); do install -m 644 docs/completions/$$tool $(DESTDIR)$(PREFIX)/share/bash-completion/completions/$$tool; done
+	for tool in $(TOOLS); do ln -sf patchkit $(DESTDIR)$(PREFIX)/bin/$$tool || exit; done
+	for tool in $(TOOLS); do install -m 644 docs/man/$$tool.1 $(DESTDIR)$(PREFIX)/share/man/man1/$$tool.1 || exit; done
+	python3 docs/completions/make $(BIN)/patchkit $(DESTDIR)$(PREFIX)/share $(TOOLS)
 
 dist: all
 	@sh tests/dist $(RT) $(BIN) build $(TOOLS)

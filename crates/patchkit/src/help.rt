@@ -40,7 +40,8 @@ Input:
 Output:
   -o FILE, --output=FILE      write the result to FILE
   -r FILE, --reject-file=FILE write rejects to FILE, or nowhere where it is -
-  --reject-format=FORM        context or unified
+  --reject-format=context|unified
+                              the form of rejects
   -D NAME, --ifdef=NAME       keep old and new lines, behind conditions on NAME
   -E, --remove-empty-files    remove a file that is left empty
   --dry-run                   say what would be done, and change nothing
@@ -54,8 +55,8 @@ Backups:
   --no-backup-if-mismatch     don't
   -z S, --suffix=S            the suffix of their names (.orig)
   -B S, --prefix=S            the prefix of their names
-  -V KIND, --version-control=KIND
-                              simple or never, which change nothing
+  -V KIND, --version-control=simple|never
+                              changes nothing
 
 Lines of a file:
   --plan=a|b|packed|auto      in memory, or paged through two buffers (auto)

@@ -97,8 +97,8 @@ const FORMAT: Word = Word {
     form: WordForm::Value,
     letter: None,
     name: "format",
-    shown: "--format=FORM",
-    help: "write unified, context, normal or ed",
+    shown: "--format=unified|context|normal|ed",
+    help: "write file patches in this form",
 };
 
 const EXTENDED: Word = Word {
@@ -113,8 +113,8 @@ const MATCHING: Word = Word {
     form: WordForm::Value,
     letter: None,
     name: "output-matching",
-    shown: "--output-matching=WHAT",
-    help: "write the hunk or the file that has a match, not the name",
+    shown: "--output-matching=hunk|file",
+    help: "write the hunks or the file patch with a match, not the name",
 };
 
 const EVERY: Word = Word {
