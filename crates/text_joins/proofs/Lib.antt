@@ -1,0 +1,4 @@
+pub mod Quiet
+pub mod Solid
+pub mod Spelling
+pub mod Joining
