@@ -172,12 +172,12 @@ bare-by line rest others run names h =
     ∙ ap (λ ls. not (is_plain (action_of ls))) run
     ∙ action
 
+no-bare : begins_bare [] ≡ true → ⊥
+unfolding begins_bare
+no-bare k = absurd cc
+
 bare-joined : (body others : List (List ℕ)) → body ≡ git_header (body ++ []) → begin_with_git others ≡ true → begins_bare (body ++ []) ≡ true → (begins_bare (body ++ others) ≡ true) × (body ≡ git_header (body ++ others))
 bare-joined [] others e git h = absurd (no-bare h)
-  where
-    no-bare : begins_bare [] ≡ true → ⊥
-    unfolding begins_bare
-    no-bare k = absurd cc
 bare-joined (line ∷ rest) others e git h =
     let s = git-shows others git in
     let alone : rest ≡ extended_run (rest ++ []) = run-tail line rest (extended_run (rest ++ [])) e in

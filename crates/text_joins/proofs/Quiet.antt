@@ -12,7 +12,7 @@ use Rattle.normal_form.specs.Hunks.{begins_marked}
 use Rattle.ed_form.specs.Commands.{is_command}
 use Rattle.patch_header.specs.Content.{is_dot, has_dot}
 use Rattle.patch_header.specs.GitHeaders.{starts, is_git_line, is_extended, extended_run, behind_run, action_of, is_plain, has_new_name, has_names, begins_bare}
-use Rattle.patch_header.specs.Openings.{admits, asks_dot, opens, stop_at}
+use Rattle.patch_header.specs.Openings.{admits, asks_dot, opens, stops_binary, stops_bare, stop_at}
 use Rattle.patch_header.specs.Steps.{AreQuiet}
 use Rattle.patch_header.specs.declared.ways.Ways.{Ways}
 use Rattle.patch_header.proofs.Stands.{nothing-words}
@@ -56,11 +56,11 @@ module _ (rest other : List (List ℕ)) (same : LookAlike rest other) where
   more-behind : (more : List (List ℕ)) → has_names (behind_run (more ++ rest)) ≡ has_names (behind_run (more ++ other))
   unfolding behind_run
   more-behind [] = same.behind
-  more-behind (m ∷ more) = by (is_extended m)
+  more-behind (m ∷ more) = by (is_extended m) (more-behind more)
     where
-      by : (v : Bool) → has_names (cond v (behind_run (more ++ rest)) (m ∷ (more ++ rest))) ≡ has_names (cond v (behind_run (more ++ other)) (m ∷ (more ++ other)))
-      by true = more-behind more
-      by false = more-names (m ∷ more)
+      by : (v : Bool) → has_names (behind_run (more ++ rest)) ≡ has_names (behind_run (more ++ other)) → has_names (cond v (behind_run (more ++ rest)) (m ∷ (more ++ rest))) ≡ has_names (cond v (behind_run (more ++ other)) (m ∷ (more ++ other)))
+      by true e = e
+      by false e = more-names (m ∷ more)
 
   more-bare : (line : List ℕ) (more : List (List ℕ)) → begins_bare (line ∷ (more ++ rest)) ≡ begins_bare (line ∷ (more ++ other))
   unfolding begins_bare
@@ -106,7 +106,7 @@ quiet-line : (ways : Ways) (line : List ℕ) (more rest other : List (List ℕ))
     → stop_at ways (line ∷ (more ++ rest)) ≡ None → stop_at ways (line ∷ (more ++ other)) ≡ None
 quiet-line ways line more rest other same dots h = (nothing-words ways (line ∷ (more ++ other))).1 (form, none.1, sym (ap (λ v. ways.git && v) (more-bare rest other same line more)) ∙ none.2)
   where
-    none : ((f : Form) → opens ways.only f (line ∷ (more ++ rest)) ≡ false) × (_ ≡ false) × (_ ≡ false)
+    none : ((f : Form) → opens ways.only f (line ∷ (more ++ rest)) ≡ false) × (stops_binary ways (line ∷ (more ++ rest)) ≡ false) × (stops_bare ways (line ∷ (more ++ rest)) ≡ false)
     none = (nothing-words ways (line ∷ (more ++ rest))).0 h
 
     form : (f : Form) → opens ways.only f (line ∷ (more ++ other)) ≡ false
