@@ -97,9 +97,9 @@ not-binary Binary body others change s e = s
 
 -- its first line is no line of names, nor an extended one
 stop-solid : (ways : Ways) (line : List ℕ) (more : List (List ℕ)) (stop : Stop) → stop_at ways (line ∷ more) ≡ Some stop → (stop ≡ Binary → ⊥) → IsSolid line
-stop-solid ways line more (Opening form) h no = front-solid line (form-front ways.only form line more (and_right (admits ways.only form) _ ((opening-words ways form (line ∷ more)).0 h)))
-stop-solid ways line more Bare h no = git-solid line (bare-git line more (and_right ways.git _ ((bare-words ways (line ∷ more)).0 h)))
-stop-solid ways line more Binary h no = absurd (no refl)
+stop-solid ways line more (Opening form) h other = front-solid line (form-front ways.only form line more (and_right (admits ways.only form) _ ((opening-words ways form (line ∷ more)).0 h)))
+stop-solid ways line more Bare h other = git-solid line (bare-git line more (and_right ways.git _ ((bare-words ways (line ∷ more)).0 h)))
+stop-solid ways line more Binary h other = absurd (other refl)
 
 pub spell-shows : (ways : Ways) (body others : List (List ℕ)) (stop : Stop) (change : PlainChange) → stop_at ways (body ++ others) ≡ Some stop → Spell stop body others change → ShowsSolid (body ++ others)
 spell-shows ways [] others stop change h s = let some = body-some ways [] others stop change h s in absurd (let e : [] ≡ some.0 ∷ some.1 = some.2 in cc)
@@ -145,13 +145,13 @@ run-tail x a b e = cc
 
 run-joined : (rest others : List (List ℕ)) → rest ≡ extended_run (rest ++ []) → extended_run others ≡ [] → behind_run others ≡ others → (extended_run (rest ++ others) ≡ rest) × (behind_run (rest ++ others) ≡ others)
 run-joined [] others e run behind = (run, behind)
-run-joined (x ∷ rest) others e run behind = by (is_extended x) refl
+run-joined (x ∷ rest) others e run behind = by (is_extended x) refl (λ k. run-joined rest others k run behind)
   where
-    by : (v : Bool) → is_extended x ≡ v → (extended_run (x ∷ (rest ++ others)) ≡ x ∷ rest) × (behind_run (x ∷ (rest ++ others)) ≡ others)
-    by true k =
-        let more = run-joined rest others (run-tail x rest (extended_run (rest ++ [])) (e ∙ run-more x (rest ++ []) k)) run behind in
+    by : (v : Bool) → is_extended x ≡ v → (rest ≡ extended_run (rest ++ []) → (extended_run (rest ++ others) ≡ rest) × (behind_run (rest ++ others) ≡ others)) → (extended_run (x ∷ (rest ++ others)) ≡ x ∷ rest) × (behind_run (x ∷ (rest ++ others)) ≡ others)
+    by true k again =
+        let more = again (run-tail x rest (extended_run (rest ++ [])) (e ∙ run-more x (rest ++ []) k)) in
         (run-more x (rest ++ others) k ∙ ap (λ ls. x ∷ ls) more.0, behind-more x (rest ++ others) k ∙ more.1)
-    by false k = absurd (let none : x ∷ rest ≡ [] = e ∙ run-stops x (rest ++ []) k in cc)
+    by false k again = absurd (let none : x ∷ rest ≡ [] = e ∙ run-stops x (rest ++ []) k in cc)
 
 record ShowsGit (others : List (List ℕ)) : Type 0 where
   run : extended_run others ≡ []

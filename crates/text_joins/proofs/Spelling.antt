@@ -2,13 +2,16 @@
 use Rattle.std.proofs.Common.{◌≡◌, ◌⊎◌, inl, inr, ◌+◌, ◌<◌, ℕ, zero, suc, Bool, true, false, cond, not, ◌&&◌, ◌||◌, eqb, List, [], ◌∷◌, ◌++◌, length, Option, None, Some, refl, sym, ap, subst, ◌∙◌, arith, append_assoc}
 use Rattle.std.specs.Prelude.{is_some, codes}
 use Rattle.std.proofs.lemmas.List.{append-nil}
-use Rattle.hunk_core.specs.declared.Side.TheVariants.{Reversed}
+use Rattle.hunk_core.specs.declared.Mark.{Mark}
+use Rattle.hunk_core.specs.declared.Mark.TheVariants.{Keep, Add}
+use Rattle.hunk_core.specs.declared.Side.TheVariants.{Forward, Reversed}
 use Rattle.hunk_core.specs.PlainHunk.{Marked, PlainHunk}
 use Rattle.hunk_core.specs.LineTests.{after, is_backslash, after_backslash}
 use Rattle.diff_command.specs.declared.Action.{Action}
-use Rattle.diff_command.specs.declared.Action.TheVariants.{Add, Change, Delete}
+use Rattle.diff_command.specs.declared.Action.TheVariants as actions
 use Rattle.unified_form.specs.Grammar as unified
 use Rattle.context_form.specs.declared.range.Stated.{Stated}
+use Rattle.context_form.specs.Merging.{part_of}
 use Rattle.context_form.specs.Parts.{mark_by, mark_at}
 use Rattle.context_form.specs.Presence.{may_begin, begins_part, drops_alone, is_there_by, is_there}
 use Rattle.context_form.specs.Grammar as context
@@ -32,20 +35,23 @@ after-two b c x y bytes e d =
     let t : eqb c y ≡ true = grind arith in
     rw (s, t) refl
 
+abbrev shown : Mark → Bool → Option (Mark × Bool)
+shown m changed = Some (m, changed)
+
 no-mark : (line : List ℕ) → is_some (after (codes "  ") line) ≡ false → is_some (after (codes "+ ") line) ≡ false → is_some (after (codes "! ") line) ≡ false → mark_at Reversed line ≡ None
 no-mark [] h k l = refl
 no-mark (b ∷ []) h k l = refl
 no-mark (b ∷ c ∷ bytes) h k l = by (eqb c 32) refl
   where
-    third : (x : Bool) → eqb c 32 ≡ true → eqb b 43 ≡ x → cond x (Some (_, false)) None ≡ None
+    third : (x : Bool) → eqb c 32 ≡ true → eqb b 43 ≡ x → cond x (shown Add false) None ≡ None
     third true e f = absurd (let t : is_some (after (43 ∷ 32 ∷ []) (b ∷ c ∷ bytes)) ≡ true = after-two b c 43 32 bytes (grind arith) (grind arith) in cc)
     third false e f = refl
 
-    second : (x : Bool) → eqb c 32 ≡ true → eqb b 33 ≡ x → cond x (Some (_, true)) (cond (eqb b 43) (Some (_, false)) None) ≡ None
+    second : (x : Bool) → eqb c 32 ≡ true → eqb b 33 ≡ x → cond x (shown Add true) (cond (eqb b 43) (shown Add false) None) ≡ None
     second true e f = absurd (let t : is_some (after (33 ∷ 32 ∷ []) (b ∷ c ∷ bytes)) ≡ true = after-two b c 33 32 bytes (grind arith) (grind arith) in cc)
     second false e f = third (eqb b 43) e refl
 
-    first : (x : Bool) → eqb c 32 ≡ true → eqb b 32 ≡ x → cond x (Some (_, false)) (cond (eqb b 33) (Some (_, true)) (cond (eqb b 43) (Some (_, false)) None)) ≡ None
+    first : (x : Bool) → eqb c 32 ≡ true → eqb b 32 ≡ x → cond x (shown Keep false) (cond (eqb b 33) (shown Add true) (cond (eqb b 43) (shown Add false) None)) ≡ None
     first true e f = absurd (let t : is_some (after (32 ∷ 32 ∷ []) (b ∷ c ∷ bytes)) ≡ true = after-two b c 32 32 bytes (grind arith) (grind arith) in cc)
     first false e f = second (eqb b 33) e refl
 
@@ -97,7 +103,7 @@ hunk-told least own behind other h keeps s = record {
   old_fits = s.old_fits;
   new_fits = s.new_fits;
   order = s.order;
-  told = λ none. keeps _ _ (s.told none);
+  told = λ none. keeps (context.stated_as s.new_single h.new_start (length (part_of Reversed h.body))) (context.written Forward s.old h.body) (s.told none);
 }
 
 -- ---- hunks in front of other lines
@@ -107,7 +113,7 @@ module _ (others : List (List ℕ)) (clean : BeginCleanly others) where
   there-joined [] s olds h = not-there s olds others (λ k. no-part k others clean.kept clean.added clean.changed)
   there-joined (line ∷ more) s olds h = sym (same-there s olds line (more ++ []) (more ++ others)) ∙ h
 
-  context-hunks : (least : ℕ) (piece : List (List ℕ)) (hs : List PlainHunk) → context.SpellsHunks least piece [] hs → context.SpellsHunks least piece others hs
+  pub context-hunks : (least : ℕ) (piece : List (List ℕ)) (hs : List PlainHunk) → context.SpellsHunks least piece [] hs → context.SpellsHunks least piece others hs
   context-hunks least piece [] h = h
   context-hunks least piece (x ∷ hs) h = (h.0, h.1, h.2, hunk-told least h.0 (h.1 ++ []) (h.1 ++ others) x (there-joined h.1) h.3, context-hunks x.old_start h.1 hs h.4)
 
@@ -121,14 +127,14 @@ module _ (others : List (List ℕ)) (clean : BeginCleanly others) where
   text-joined (suc turns) own text more h = (h.0, h.1, h.2, h.3, h.4, h.5, h.6, h.7, h.8, text-joined turns h.2 h.6 more h.9)
 
   added-joined : (action : Action) (own added more : List (List ℕ)) → ed.SpellsAdded action own added (more ++ []) → ed.SpellsAdded action own added (more ++ others)
-  added-joined Add own added more h = (h.0, text-joined h.0 own added more h.1)
-  added-joined Change own added more h = (h.0, text-joined h.0 own added more h.1)
-  added-joined Delete own added more h = h
+  added-joined actions.Add own added more h = (h.0, text-joined h.0 own added more h.1)
+  added-joined actions.Change own added more h = (h.0, text-joined h.0 own added more h.1)
+  added-joined actions.Delete own added more h = h
 
   edit-joined : (below : ℕ) (own more : List (List ℕ)) (e : PlainEdit) → ed.SpellsEdit below own e (more ++ []) → ed.SpellsEdit below own e (more ++ others)
   edit-joined below [] more e h = absurd h
   edit-joined below (line ∷ rest) more e h = (h.0, h.1, h.2, added-joined h.0 rest e.added more h.3)
 
-  edits-joined : (below : ℕ) (own : List (List ℕ)) (es : List PlainEdit) → ed.SpellsEdits below own es [] → ed.SpellsEdits below own es others
+  pub edits-joined : (below : ℕ) (own : List (List ℕ)) (es : List PlainEdit) → ed.SpellsEdits below own es [] → ed.SpellsEdits below own es others
   edits-joined below own [] h = h
   edits-joined below own (e ∷ es) h = (h.0, h.1, h.2, edit-joined below h.0 h.1 e h.3, edits-joined (lowest e) h.1 es h.4)

@@ -24,9 +24,9 @@ use Rattle.patch_text.proofs.TextLaws.{text-again}
 use Rattle.text_joins.specs.Unnumbered.{unnumbered_header, unnumbered}
 use Rattle.text_joins.specs.Said.{header_said}
 use Rattle.text_joins.specs.Following.{Spell, IsFilePatch, AreFilePatches}
-use Rattle.text_joins.specs.Joins.{read_unnumbered}
+use Rattle.text_joins.specs.Joins.{Part, all_lines, FitTogether, read_unnumbered}
 use Rattle.text_joins.proofs.Headers.{said-alone}
-use Rattle.text_joins.proofs.Joining.{body-some}
+use Rattle.text_joins.proofs.Joining.{body-some, parts-fit}
 use Rattle.text_joins.proofs.Places.{skip-lines, lines-within}
 
 took : {A : Type 0} (x y : A) → Some x ≡ Some y → x ≡ y
@@ -169,6 +169,9 @@ record Stood (ways : Ways) (text : List ℕ) (at number : ℕ) (others : List (L
   left : lines (drop end text) ≡ others
   within : end ≤ length text
 
+abbrev with_header : PlainHeader → PlainChange → PlainPatch
+with_header h c = record { header = h; change = c }
+
 patch-stands : (ways : Ways) (text : List ℕ) (at number : ℕ) (own others : List (List ℕ)) (q : PlainPatch) → at ≤ length text → lines (drop at text) ≡ own ++ others → IsFilePatch ways own others q → Stood ways text at number others q
 patch-stands ways text at number own others q le e x =
     let place = at + sum_by length x.region in
@@ -203,9 +206,6 @@ patch-stands ways text at number own others q le e x =
       left = left;
       within = high;
     }
-  where
-    abbrev with_header : PlainHeader → PlainChange → PlainPatch
-    with_header h c = record { header = h; change = c }
 
 pub record AllStood (ways : Ways) (text : List ℕ) (at number : ℕ) (qs : List PlainPatch) : Type 0 where
   pub patches : List PlainPatch
@@ -243,3 +243,9 @@ pub text-reads : (ways : Ways) (text : List ℕ) (qs : List PlainPatch) → AreF
 text-reads ways text qs h =
     let all = text-stands ways text qs h in
     ap (λ r. r >>= λ ps. Ok (map unnumbered ps)) (text-again ways text all.0 all.1) ∙ ap Ok all.2
+
+-- parts that fit together are read as their file patches
+pub parts-read : (ways : Ways) (text : List ℕ) (parts : List Part) → lines text ≡ all_lines parts → FitTogether ways parts → read_unnumbered ways text ≡ Ok (map (λ (p : Part). p.patch) parts)
+parts-read ways text parts e h =
+    let patches : List PlainPatch = map (λ (p : Part). p.patch) parts in
+    text-reads ways text patches (subst (λ (ls : List (List ℕ)). AreFilePatches ways ls patches) (sym e) (parts-fit ways parts h))

@@ -1,7 +1,5 @@
-use Rattle.std.proofs.Common.{◌≡◌, sym, ap, subst, ◌∙◌}
-use Rattle.text_joins.specs.Following.{AreFilePatches}
-use Rattle.text_joins.proofs.Joining.{patch-joined, parts-fit}
-use Rattle.text_joins.proofs.Standing.{text-alone, text-stands, text-reads}
+use Rattle.text_joins.proofs.Joining.{patch-joined}
+use Rattle.text_joins.proofs.Standing.{text-alone, text-stands, text-reads, parts-read}
 use Rattle.text_joins.proofs.laws.join_laws.Goals as goal
 
 pub returns-clause-alike : goal.returns-clause-alike
@@ -14,4 +12,4 @@ pub returns-clause-joined : goal.returns-clause-joined
 returns-clause-joined c = patch-joined
 
 pub returns-clause-parts : goal.returns-clause-parts
-returns-clause-parts c = λ ways text parts e h. text-reads ways text _ (subst (λ ls. AreFilePatches ways ls _) (sym e) (parts-fit ways parts h))
+returns-clause-parts c = parts-read
