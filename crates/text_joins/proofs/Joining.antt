@@ -51,9 +51,9 @@ no-substitution (line ∷ rest) h = h
 module _ (body others : List (List ℕ)) (clean : BeginCleanly others) where
   change-joined : (form : Form) (change : PlainChange) → IsPiece form 0 (body ++ []) change (length body) [] → IsPiece form 0 (body ++ others) change (length body) others
   change-joined Unified (hunks hs) p = record { own = body; parts = refl; spelled = subst (λ ls. unified.SpellsHunks 0 ls hs) (back body p.own p.parts) p.spelled; ends = (clean.unified, backslash-none others clean.backslash); counted = counted (length body) }
-  change-joined Context (hunks hs) p = record { own = body; parts = refl; spelled = context-hunks others clean 0 body hs (subst (λ ls. context.SpellsHunks 0 ls [] hs) (back body p.own p.parts) p.spelled); ends = (clean.context, backslash-none others clean.backslash); counted = counted (length body) }
+  change-joined Context (hunks hs) p = record { own = body; parts = refl; spelled = context-hunks [] others clean 0 body hs (subst (λ ls. context.SpellsHunks 0 ls [] hs) (back body p.own p.parts) p.spelled); ends = (clean.context, backslash-none others clean.backslash); counted = counted (length body) }
   change-joined Normal (hunks hs) p = record { own = body; parts = refl; spelled = subst (λ ls. normal.SpellsHunks 0 ls hs) (back body p.own p.parts) p.spelled; ends = (clean.normal, backslash-none others clean.backslash); counted = counted (length body) }
-  change-joined Ed (script es) p = record { own = body; parts = refl; spelled = edits-joined others clean _ body es (subst (λ ls. ed.SpellsEdits _ ls es []) (back body p.own p.parts) p.spelled); ends = (clean.command, no-substitution others clean.substitution); counted = counted (length body) }
+  change-joined Ed (script es) p = record { own = body; parts = refl; spelled = edits-joined [] others clean _ body es (subst (λ ls. ed.SpellsEdits _ ls es []) (back body p.own p.parts) p.spelled); ends = (clean.command, no-substitution others clean.substitution); counted = counted (length body) }
   change-joined Unified (script es) p = absurd p
   change-joined Context (script es) p = absurd p
   change-joined Normal (script es) p = absurd p

@@ -108,33 +108,33 @@ hunk-told least own behind other h keeps s = record {
 
 -- ---- hunks in front of other lines
 
-module _ (others : List (List ℕ)) (clean : BeginCleanly others) where
-  there-joined : (more : List (List ℕ)) (s : Stated) (olds : List Marked) → is_there s olds (more ++ []) ≡ false → is_there s olds (more ++ others) ≡ false
+module _ (rest others : List (List ℕ)) (clean : BeginCleanly others) where
+  there-joined : (more : List (List ℕ)) (s : Stated) (olds : List Marked) → is_there s olds (more ++ rest) ≡ false → is_there s olds (more ++ others) ≡ false
   there-joined [] s olds h = not-there s olds others (λ k. no-part k others clean.kept clean.added clean.changed)
-  there-joined (line ∷ more) s olds h = sym (same-there s olds line (more ++ []) (more ++ others)) ∙ h
+  there-joined (line ∷ more) s olds h = sym (same-there s olds line (more ++ rest) (more ++ others)) ∙ h
 
-  pub context-hunks : (least : ℕ) (piece : List (List ℕ)) (hs : List PlainHunk) → context.SpellsHunks least piece [] hs → context.SpellsHunks least piece others hs
+  pub context-hunks : (least : ℕ) (piece : List (List ℕ)) (hs : List PlainHunk) → context.SpellsHunks least piece rest hs → context.SpellsHunks least piece others hs
   context-hunks least piece [] h = h
-  context-hunks least piece (x ∷ hs) h = (h.0, h.1, h.2, hunk-told least h.0 (h.1 ++ []) (h.1 ++ others) x (there-joined h.1) h.3, context-hunks x.old_start h.1 hs h.4)
+  context-hunks least piece (x ∷ hs) h = (h.0, h.1, h.2, hunk-told least h.0 (h.1 ++ rest) (h.1 ++ others) x (there-joined h.1) h.3, context-hunks x.old_start h.1 hs h.4)
 
-  append-joined : (more : List (List ℕ)) → ed.begins_append (more ++ []) ≡ false → ed.begins_append (more ++ others) ≡ false
+  append-joined : (more : List (List ℕ)) → ed.begins_append (more ++ rest) ≡ false → ed.begins_append (more ++ others) ≡ false
   append-joined [] h = clean.append
   append-joined (line ∷ more) h = h
 
-  text-joined : (turns : ℕ) (own text more : List (List ℕ)) → ed.SpellsText turns own text (more ++ []) → ed.SpellsText turns own text (more ++ others)
+  text-joined : (turns : ℕ) (own text more : List (List ℕ)) → ed.SpellsText turns own text (more ++ rest) → ed.SpellsText turns own text (more ++ others)
   text-joined zero own text more (inl h) = inl h
   text-joined zero own text more (inr h) = inr (h.0, append-joined more h.1)
   text-joined (suc turns) own text more h = (h.0, h.1, h.2, h.3, h.4, h.5, h.6, h.7, h.8, text-joined turns h.2 h.6 more h.9)
 
-  added-joined : (action : Action) (own added more : List (List ℕ)) → ed.SpellsAdded action own added (more ++ []) → ed.SpellsAdded action own added (more ++ others)
+  added-joined : (action : Action) (own added more : List (List ℕ)) → ed.SpellsAdded action own added (more ++ rest) → ed.SpellsAdded action own added (more ++ others)
   added-joined actions.Add own added more h = (h.0, text-joined h.0 own added more h.1)
   added-joined actions.Change own added more h = (h.0, text-joined h.0 own added more h.1)
   added-joined actions.Delete own added more h = h
 
-  edit-joined : (below : ℕ) (own more : List (List ℕ)) (e : PlainEdit) → ed.SpellsEdit below own e (more ++ []) → ed.SpellsEdit below own e (more ++ others)
+  edit-joined : (below : ℕ) (own more : List (List ℕ)) (e : PlainEdit) → ed.SpellsEdit below own e (more ++ rest) → ed.SpellsEdit below own e (more ++ others)
   edit-joined below [] more e h = absurd h
-  edit-joined below (line ∷ rest) more e h = (h.0, h.1, h.2, added-joined h.0 rest e.added more h.3)
+  edit-joined below (line ∷ lines) more e h = (h.0, h.1, h.2, added-joined h.0 lines e.added more h.3)
 
-  pub edits-joined : (below : ℕ) (own : List (List ℕ)) (es : List PlainEdit) → ed.SpellsEdits below own es [] → ed.SpellsEdits below own es others
+  pub edits-joined : (below : ℕ) (own : List (List ℕ)) (es : List PlainEdit) → ed.SpellsEdits below own es rest → ed.SpellsEdits below own es others
   edits-joined below own [] h = h
   edits-joined below own (e ∷ es) h = (h.0, h.1, h.2, edit-joined below h.0 h.1 e h.3, edits-joined (lowest e) h.1 es h.4)

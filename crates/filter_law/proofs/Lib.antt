@@ -1,0 +1,4 @@
+pub mod Finding
+pub mod Cutting
+pub mod Keeping
+pub mod Scripts

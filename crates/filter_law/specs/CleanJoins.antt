@@ -1,0 +1,41 @@
+-- Where the joins of what a filter writes are clean, what was written reads as the file patches that are left.
+use Rattle.std.specs.Prelude.{◌≡◌, ℕ, Bool, true, List, [], ◌∷◌, map, Ok}
+use Rattle.std.specs.List.{flat_map}
+use Rattle.line_list.specs.Lines.{lines}
+use Rattle.patch_options.specs.PlainJob.{PlainOptions}
+use Rattle.file_patch.specs.declared.FilePatch.{FilePatch}
+use Rattle.patch_set.specs.SetView.{SetView, IsRead}
+use Rattle.tool_words.specs.PlainJobs.{PlainFilterJob}
+use Rattle.patch_filters.specs.Filtered.{written, filtered}
+use Rattle.text_joins.specs.Unnumbered.{unnumbered}
+use Rattle.text_joins.specs.Joins.{BeginCleanly, begin_with_git, read_unnumbered}
+use Rattle.filter_law.specs.LeftPatches.{left_of, left_patches}
+
+-- what is written of a file patch, and whether that is a bare git header
+pub record Text : Type 0 where
+  pub bare : Bool
+  pub bytes : List ℕ
+
+-- these texts, one behind the other
+abbrev pub all_bytes : List Text → List ℕ
+all_bytes ts = flat_map (λ t. t.bytes) ts
+
+-- what is written behind each begins cleanly, and with a git line behind a bare git header; behind the last there is nothing
+abbrev pub JoinCleanly : List Text → Type 0
+JoinCleanly [] = Unit {0}
+JoinCleanly (t ∷ ts) = BeginCleanly (lines (all_bytes ts)) × (t.bare ≡ true → begin_with_git (lines (all_bytes ts)) ≡ true) × JoinCleanly ts
+
+-- what is written of each file patch that is left
+abbrev pub text_of : PlainFilterJob → List ℕ → ℕ × FilePatch → Text
+text_of j text n = record { bare = n.1.header.bare; bytes = written j text n.1 }
+
+abbrev pub texts_of : PlainFilterJob → SetView → List Text
+texts_of j v = map (text_of j v.text) (left_of j v)
+
+-- the joins of what is written are clean
+abbrev pub AreCleanJoins : PlainFilterJob → SetView → Type 0
+AreCleanJoins j v = JoinCleanly (texts_of j v)
+
+-- then what was written, read in the ways in which the set was read, is the file patches that are left, line numbers aside
+abbrev pub ReadsAsLeft : Type 0
+ReadsAsLeft = (o : PlainOptions) (given : List ℕ) (v : SetView) (j : PlainFilterJob) → IsRead o given v → AreCleanJoins j v → read_unnumbered v.ways (filtered j v) ≡ Ok (map unnumbered (left_patches j v))
