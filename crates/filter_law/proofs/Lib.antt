@@ -1,4 +1,7 @@
-pub mod Finding
+pub mod Stepping
 pub mod Cutting
 pub mod Keeping
 pub mod Scripts
+pub mod Alike
+pub mod Pieces
+pub mod Parts

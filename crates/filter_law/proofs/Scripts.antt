@@ -3,6 +3,7 @@ use Rattle.std.proofs.Common.{◌≡◌, ◌⊎◌, inl, inr, ◌+◌, ◌<◌, 
 use Rattle.std.specs.Prelude.{nat_lt}
 use Rattle.std.proofs.lemmas.List.Folds.{list_any-append}
 use Rattle.hunk_core.specs.declared.BadKind.{BadKind}
+use Rattle.hunk_core.specs.declared.BadKind.TheVariants as kinds
 use Rattle.hunk_core.specs.declared.Form.{Form}
 use Rattle.hunk_core.specs.declared.Form.TheVariants.{Ed}
 use Rattle.diff_command.specs.declared.Action.{Action}
@@ -62,7 +63,7 @@ spelled h = Ok h
 placed-is : (below : ℕ) (a b : Heading) → placed below a ≡ Ok b → a ≡ b
 placed-is below a b h = by (is_too_large a) (nat_lt a.last below) h
   where
-    by : (u v : Bool) → cond u (Err _) (cond v (spelled a) (Err _)) ≡ Ok b → a ≡ b
+    by : (u v : Bool) → cond u (Err kinds.NumberTooLarge) (cond v (spelled a) (Err kinds.EdOrder)) ≡ Ok b → a ≡ b
     by true v k = absurd cc
     by false true k = cc
     by false false k = absurd cc
@@ -71,7 +72,7 @@ parts-action : (below : ℕ) (o : Option Command) (h : Heading) → from_parts b
 parts-action below None h e = absurd cc
 parts-action below (Some c) h e = by (is_bad_range c.action c.range) e
   where
-    by : (v : Bool) → cond v (Err _) (placed below (heading c)) ≡ Ok h → has_text c.action ≡ has_text h.action
+    by : (v : Bool) → cond v (Err kinds.Range) (placed below (heading c)) ≡ Ok h → has_text c.action ≡ has_text h.action
     by true k = absurd cc
     by false k = ap (λ (x : Heading). has_text x.action) (placed-is below (heading c) h k)
 

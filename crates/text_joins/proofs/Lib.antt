@@ -7,3 +7,4 @@ pub mod HeaderLines
 pub mod LedLines
 pub mod Headers
 pub mod Standing
+pub mod Finding

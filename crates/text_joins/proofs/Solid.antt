@@ -31,7 +31,7 @@ is_no false h = refl
 
 -- ---- how a line begins
 
-after-front : (p : ℕ) (prefix line : List ℕ) → is_some (after (p ∷ prefix) line) ≡ true → front line ≡ p
+pub after-front : (p : ℕ) (prefix line : List ℕ) → is_some (after (p ∷ prefix) line) ≡ true → front line ≡ p
 unfolding after
 after-front p prefix [] h = absurd cc
 after-front p prefix (b ∷ bytes) h = by (eqb b p) refl h
@@ -119,14 +119,14 @@ some-front : (o : Option (List ℕ)) → is_some (range_line.◌>>=◌ o range_l
 some-front None h = absurd cc
 some-front (Some x) h = refl
 
-unified-front : (line : List ℕ) → range_line.is_opening line ≡ true → front line ≡ 64
+pub unified-front : (line : List ℕ) → range_line.is_opening line ≡ true → front line ≡ 64
 unfolding range_line.is_opening
 unified-front line h = after-front 64 (64 ∷ 32 ∷ 45 ∷ []) line (some-front (after (64 ∷ 64 ∷ 32 ∷ 45 ∷ []) line) h)
 
 pub context-front : (line : List ℕ) → context.is_stars line ≡ true → front line ≡ 42
 context-front line h = after-front 42 (42 ∷ 42 ∷ 42 ∷ 42 ∷ 42 ∷ 42 ∷ 42 ∷ 42 ∷ 42 ∷ 42 ∷ 42 ∷ 42 ∷ 42 ∷ 42 ∷ []) line h
 
-range-front : (line : List ℕ) → is_some (range_at line) ≡ true → is_digit (front line) ≡ true
+pub range-front : (line : List ℕ) → is_some (range_at line) ≡ true → is_digit (front line) ≡ true
 unfolding range_at
 range-front [] h = absurd cc
 range-front (b ∷ bytes) h = by (is_digit b) h
@@ -139,11 +139,11 @@ bind-some : {A B : Type 0} (o : Option A) (f : A → Option B) → is_some (o >>
 bind-some None f h = absurd cc
 bind-some (Some x) f h = refl
 
-normal-range : (line : List ℕ) → command.is_command line ≡ true → is_some (range_at line) ≡ true
+pub normal-range : (line : List ℕ) → command.is_command line ≡ true → is_some (range_at line) ≡ true
 unfolding command.parts_at
 normal-range line h = bind-some (range_at line) (λ old. action_at old.1 >>= λ action. range_at action.1 >>= λ new. command.whole old.0 action.0 new.0 new.1) h
 
-ed-range : (line : List ℕ) → ed.is_command line ≡ true → is_some (range_at line) ≡ true
+pub ed-range : (line : List ℕ) → ed.is_command line ≡ true → is_some (range_at line) ≡ true
 unfolding ed.parts_at
 ed-range line h = bind-some (range_at line) (λ range. action_at range.1 >>= λ action. ed.whole range.0 action.0 action.1) h
 
@@ -153,7 +153,7 @@ at-64 b e = record { low = omega arith; no_plus = λ k. omega (arith, e, k); no_
 at-42 : (b : ℕ) → b ≡ 42 → OpensForm b
 at-42 b e = record { low = omega arith; no_plus = λ k. omega (arith, e, k); no_minus = λ k. omega (arith, e, k); no_old = λ k. omega (arith, e, k); no_new = λ k. omega (arith, e, k) }
 
-digit-low : (b : ℕ) → is_digit b ≡ true → (48 ≤ b) × (b ≤ 57)
+pub digit-low : (b : ℕ) → is_digit b ≡ true → (48 ≤ b) × (b ≤ 57)
 digit-low b h = (leb-true 48 b (and_left (leb 48 b) (leb b 57) h), leb-true b 57 (and_right (leb 48 b) (leb b 57) h))
 
 at-digit : (b : ℕ) → is_digit b ≡ true → OpensForm b

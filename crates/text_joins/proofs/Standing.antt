@@ -34,13 +34,13 @@ took x y e = cc
 
 -- ---- a change, whatever its number
 
-record Placed (form : Form) (n : ℕ) (all : List (List ℕ)) (change : PlainChange) (next : ℕ) (rest : List (List ℕ)) : Type 0 where
-  own : List (List ℕ)
-  parts : all ≡ own ++ rest
-  counted : next ≡ n + length own
-  anywhere : (k m : ℕ) → m ≡ k + length own → IsPiece form k (own ++ rest) change m rest
+pub record Placed (form : Form) (n : ℕ) (all : List (List ℕ)) (change : PlainChange) (next : ℕ) (rest : List (List ℕ)) : Type 0 where
+  pub own : List (List ℕ)
+  pub parts : all ≡ own ++ rest
+  pub counted : next ≡ n + length own
+  pub anywhere : (k m : ℕ) → m ≡ k + length own → IsPiece form k (own ++ rest) change m rest
 
-placed : (form : Form) (n : ℕ) (all : List (List ℕ)) (change : PlainChange) (next : ℕ) (rest : List (List ℕ)) → IsPiece form n all change next rest → Placed form n all change next rest
+pub placed : (form : Form) (n : ℕ) (all : List (List ℕ)) (change : PlainChange) (next : ℕ) (rest : List (List ℕ)) → IsPiece form n all change next rest → Placed form n all change next rest
 placed Unified n all (hunks hs) next rest p = record { own = p.own; parts = p.parts; counted = p.counted; anywhere = λ k m e. record { own = p.own; parts = refl; spelled = p.spelled; ends = p.ends; counted = e } }
 placed Context n all (hunks hs) next rest p = record { own = p.own; parts = p.parts; counted = p.counted; anywhere = λ k m e. record { own = p.own; parts = refl; spelled = p.spelled; ends = p.ends; counted = e } }
 placed Normal n all (hunks hs) next rest p = record { own = p.own; parts = p.parts; counted = p.counted; anywhere = λ k m e. record { own = p.own; parts = refl; spelled = p.spelled; ends = p.ends; counted = e } }
@@ -52,11 +52,11 @@ placed Ed n all (hunks hs) next rest p = absurd p
 
 -- ---- from a text to its lines
 
-behind_header : List (List ℕ) → List (List ℕ)
+unfoldable pub behind_header : List (List ℕ) → List (List ℕ)
 behind_header [] = []
 behind_header (line ∷ rest) = behind_run rest
 
-header-split : (ls : List (List ℕ)) → ls ≡ git_header ls ++ behind_header ls
+pub header-split : (ls : List (List ℕ)) → ls ≡ git_header ls ++ behind_header ls
 unfolding behind_header
 header-split [] = refl
 header-split (line ∷ rest) = ap (λ more. line ∷ more) (run-split rest)
