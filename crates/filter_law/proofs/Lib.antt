@@ -5,3 +5,4 @@ pub mod Scripts
 pub mod Alike
 pub mod Pieces
 pub mod Parts
+pub mod Walking

@@ -1,5 +1,5 @@
-use Rattle.filter_law.proofs.Stepping.{stepped}
+use Rattle.filter_law.proofs.Walking.{reads-as-left}
 use Rattle.filter_law.proofs.laws.filter_reads.Goals as goal
 
 pub returns : goal.returns
-returns c = ?
+returns c = reads-as-left
