@@ -1,19 +1,17 @@
 -- Two openings of one form look alike to the lines in front of them.
-use Rattle.std.proofs.Common.{◌≡◌, ◌⊎◌, inl, inr, ◌≤◌, ℕ, Bool, true, false, ◌&&◌, ◌||◌, eqb, List, [], ◌∷◌, ◌++◌, Option, None, Some, refl, sym, ap, subst, ◌∙◌, arith}
+use Rattle.std.proofs.Common.{◌≡◌, inl, inr, ◌≤◌, ℕ, Bool, true, false, List, [], ◌∷◌, ◌++◌, Option, None, Some, refl, sym, ◌∙◌, arith}
 use Rattle.std.specs.Prelude.{is_some, replicate}
 use Rattle.hunk_core.specs.declared.Form.{Form}
 use Rattle.hunk_core.specs.declared.Form.TheVariants.{Unified, Context, Normal, Ed}
 use Rattle.hunk_core.specs.LineTests.{after}
 use Rattle.hunk_core.proofs.TextLemmas.{has_some, after-takes}
-use Rattle.num_text.specs.Numbers.{is_digit}
-use Rattle.unified_form.specs.Hunks as unified
 use Rattle.unified_form.specs.Ranges.{is_opening}
-use Rattle.context_form.specs.Openings.{is_stars, has_number, opens_old, begins_old}
-use Rattle.normal_form.specs.Hunks.{is_marked, begins_marked}
+use Rattle.context_form.specs.Openings.{is_stars, has_number, opens_old}
+use Rattle.normal_form.specs.Hunks.{is_marked}
 use Rattle.patch_header.specs.Openings.{begins}
 use Rattle.patch_header.proofs.Stands.{front, and_left, or_cases}
 use Rattle.text_joins.proofs.Quiet.{LookAlike}
-use Rattle.text_joins.proofs.Solid.{is_no, after-front, unified-front, context-front, range-front, normal-range, ed-range, digit-low, form-front, front-solid, ShowsSolid, solid-shows, solid-alike}
+use Rattle.text_joins.proofs.Solid.{is_no, after-front, unified-front, context-front, range-front, normal-range, ed-range, digit-low, form-front, front-solid, solid-shows, solid-alike}
 
 no-number : (o : Option (List ℕ)) → (is_some o ≡ true → ⊥) → has_number o ≡ false
 no-number None h = refl

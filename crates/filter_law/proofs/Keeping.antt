@@ -1,6 +1,6 @@
 -- Hunks of which some are left out still spell those that are kept.
-use Rattle.std.proofs.Common.{◌≡◌, ◌+◌, ◌<◌, ◌≤◌, ℕ, Bool, true, false, cond, ◌||◌, eqb, List, [], ◌∷◌, ◌++◌, map, length, Option, None, Some, refl, sym, ap, subst, ◌∙◌, arith, append_assoc}
-use Rattle.std.specs.Prelude.{is_some, replicate}
+use Rattle.std.proofs.Common.{◌≡◌, ◌≤◌, ℕ, Bool, true, false, cond, ◌||◌, List, [], ◌∷◌, ◌++◌, length, None, refl, sym, ap, ◌∙◌, arith, append_assoc}
+use Rattle.std.specs.Prelude.{replicate}
 use Rattle.std.specs.List.{list_any}
 use Rattle.std.proofs.lemmas.List.{length-map}
 use Rattle.std.proofs.lemmas.List.Concat.{flat_map-cons}
@@ -8,16 +8,15 @@ use Rattle.line_list.specs.Lines.{lines}
 use Rattle.line_list.specs.declared.Span.{Span}
 use Rattle.hunk_core.specs.declared.Side.TheVariants.{Reversed}
 use Rattle.hunk_core.specs.LineTests.{after}
-use Rattle.hunk_core.specs.PlainHunk.{Marked, PlainHunk, bytes_at}
+use Rattle.hunk_core.specs.PlainHunk.{PlainHunk, bytes_at}
 use Rattle.hunk_core.specs.Pieces.{SpellInTurn}
 use Rattle.hunk_core.proofs.TextLemmas.{has_some, after-takes}
 use Rattle.unified_form.specs.Grammar as unified
 use Rattle.unified_form.specs.Hunks as unified_hunks
 use Rattle.unified_form.proofs.Pieces as unified_pieces
-use Rattle.context_form.specs.declared.range.Stated.{Stated}
 use Rattle.context_form.specs.Openings as context_hunks
 use Rattle.context_form.specs.Parts.{mark_at}
-use Rattle.context_form.specs.Presence.{may_begin, begins_part, is_there}
+use Rattle.context_form.specs.Presence.{may_begin, begins_part}
 use Rattle.context_form.specs.Grammar as context
 use Rattle.context_form.proofs.Pieces as context_pieces
 use Rattle.normal_form.specs.Grammar as normal

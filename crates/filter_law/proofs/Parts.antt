@@ -1,15 +1,14 @@
 -- A file patch of a set that is left is one alone.
-use Rattle.std.proofs.Common.{◌≡◌, ◌⊎◌, inl, inr, ◌+◌, ◌-◌, ◌<◌, ◌≤◌, ℕ, Bool, true, false, cond, not, ◌&&◌, ◌||◌, List, [], ◌∷◌, ◌++◌, map, length, drop, slice_range, Option, None, Some, Result, Ok, Err, refl, sym, ap, subst, ◌∙◌, arith, append_assoc}
+use Rattle.std.proofs.Common.{◌≡◌, ◌⊎◌, inl, inr, ◌+◌, ◌<◌, ◌≤◌, ℕ, Bool, true, false, cond, not, ◌&&◌, ◌||◌, List, [], ◌∷◌, ◌++◌, map, length, drop, slice_range, Option, None, Some, Result, Ok, refl, sym, ap, subst, ◌∙◌, arith, append_assoc}
 use Rattle.std.specs.Prelude.{is_some, sum_by}
-use Rattle.std.specs.List.{AllByRecursion, flat_map, list_any}
+use Rattle.std.specs.List.{AllByRecursion, list_any}
 use Rattle.std.proofs.lemmas.List.{append-nil}
 use Rattle.std.proofs.lemmas.List.Concat.{flat_map-append}
 use Rattle.line_list.specs.Lines.{lines, IsLine}
-use Rattle.line_list.specs.declared.Span.{Span}
 use Rattle.line_list.proofs.Pieces.{joined, lines-joined}
 use Rattle.hunk_core.specs.declared.Form.{Form}
-use Rattle.hunk_core.specs.declared.Form.TheVariants.{Unified, Ed}
-use Rattle.hunk_core.specs.Reading.{Fault, Ahead, ahead}
+use Rattle.hunk_core.specs.declared.Form.TheVariants.{Ed}
+use Rattle.hunk_core.specs.Reading.{Fault, Ahead}
 use Rattle.hunk_core.specs.PlainHunk.{bytes_at}
 use Rattle.hunk_core.specs.Pieces.{AreInTurn, AreWhole}
 use Rattle.hunk_core.proofs.PieceLemmas.{piece-lines}
@@ -20,7 +19,7 @@ use Rattle.patch_header.specs.GitHeaders.{is_git_line, is_extended, extended_run
 use Rattle.patch_header.specs.GitRows.{led_by}
 use Rattle.patch_header.specs.Openings.{admits, takes_text, asks_dot, begins, opens, stop_at}
 use Rattle.patch_header.specs.Region.{Row, rows}
-use Rattle.patch_header.specs.Steps.{AreQuiet, IsFirstOpening, header_with, bare_with, header_at, region_of}
+use Rattle.patch_header.specs.Steps.{AreQuiet, header_with, bare_with, header_at, region_of}
 use Rattle.patch_header.specs.declared.header.Header.{Header}
 use Rattle.patch_header.specs.declared.openings.Stop.{Stop}
 use Rattle.patch_header.specs.declared.openings.Stop.TheVariants.{Opening, Binary, Bare}
@@ -29,9 +28,9 @@ use Rattle.patch_header.proofs.Stands.{and_left, and_right, opening-words, bare-
 use Rattle.patch_header.proofs.GitWords.{all-words}
 use Rattle.patch_header.proofs.ScanLemmas.{run-more, run-stops, run-none}
 use Rattle.file_patch.specs.declared.FilePatch.{FilePatch}
-use Rattle.file_patch.specs.PlainPatch.{PlainHeader, PlainChange, PlainPatch, hunks, script, header_of, change_of, patch_of}
-use Rattle.patch_text.specs.Patches.{change_at, begins_change, bare_change, change_behind, place_before, git_end}
-use Rattle.patch_text.specs.Regions.{Region, hunk_ends, piece_ends}
+use Rattle.file_patch.specs.PlainPatch.{PlainChange, PlainPatch, hunks, header_of, change_of, patch_of}
+use Rattle.patch_text.specs.Patches.{change_at, bare_change, place_before}
+use Rattle.patch_text.specs.Regions.{Region, piece_ends}
 use Rattle.patch_text.specs.Texts.{IsPiece}
 use Rattle.patch_text.proofs.ChangeLemmas.{opens-change}
 use Rattle.patch_set.specs.Spans.{IsPlaced}
@@ -43,7 +42,7 @@ use Rattle.text_joins.specs.Said.{header_said}
 use Rattle.text_joins.specs.Following.{IsFilePatch}
 use Rattle.text_joins.proofs.Finding.{change-found, place-is}
 use Rattle.text_joins.proofs.Headers.{said-alone}
-use Rattle.text_joins.proofs.Places.{skip-lines, lines-within}
+use Rattle.text_joins.proofs.Places.{skip-lines}
 use Rattle.text_joins.proofs.Quiet.{LookAlike, quiet-alike}
 use Rattle.text_joins.proofs.Solid.{git-solid, solid-shows, solid-alike}
 use Rattle.text_joins.proofs.Joining.{region-is}
@@ -51,7 +50,7 @@ use Rattle.text_joins.proofs.Standing.{Placed, placed, behind_header, header-spl
 use Rattle.filter_law.specs.LeftPatches.{those, kept_change, kept_patch, has_kept}
 use Rattle.filter_law.proofs.Alike.{form-alike}
 use Rattle.filter_law.proofs.Cutting.{owns_of, flat, pieces-whole, pieces-have, chosen-lines, dots-both, dots-join, all-both, all-join}
-use Rattle.filter_law.proofs.Pieces.{KeptPiece, kept-piece}
+use Rattle.filter_law.proofs.Pieces.{kept-piece}
 use Rattle.filter_law.proofs.Stepping.{Stepped}
 
 took : {A : Type 0} (x y : A) → Some x ≡ Some y → x ≡ y

@@ -1,6 +1,6 @@
 -- The hunks of a file patch that are kept, and a script, alone.
-use Rattle.std.proofs.Common.{◌≡◌, ◌⊎◌, ◌+◌, ◌<◌, ◌≤◌, ◌^◌, ℕ, zero, suc, Bool, true, false, cond, ◌||◌, List, [], ◌∷◌, ◌++◌, map, length, drop, Option, None, Some, refl, sym, ap, subst, ◌∙◌, arith, append_assoc}
-use Rattle.std.specs.List.{flat_map, list_any, range_with_len, zip}
+use Rattle.std.proofs.Common.{◌≡◌, ◌+◌, ◌^◌, ℕ, suc, Bool, true, false, cond, ◌||◌, List, [], ◌∷◌, ◌++◌, length, drop, Option, refl, sym, ap, subst, ◌∙◌, arith}
+use Rattle.std.specs.List.{list_any, range_with_len, zip}
 use Rattle.std.proofs.lemmas.List.{append-nil, length-map}
 use Rattle.std.proofs.lemmas.List.Concat.{flat_map-cons}
 use Rattle.line_list.specs.Lines.{lines}
@@ -25,7 +25,7 @@ use Rattle.text_joins.specs.Joins.{BeginCleanly}
 use Rattle.text_joins.proofs.Spelling.{edits-joined}
 use Rattle.filter_law.specs.LeftPatches.{those, kept_change}
 use Rattle.filter_law.proofs.Cutting.{owns_of, flat}
-use Rattle.filter_law.proofs.Keeping.{Kept, unified-kept, normal-kept, context-kept}
+use Rattle.filter_law.proofs.Keeping.{unified-kept, normal-kept, context-kept}
 use Rattle.filter_law.proofs.Scripts.{script-begins}
 
 -- ---- as many flags as hunks

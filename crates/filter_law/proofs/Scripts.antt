@@ -1,5 +1,5 @@
 -- An ed script that is put in front of other lines.
-use Rattle.std.proofs.Common.{◌≡◌, ◌⊎◌, inl, inr, ◌+◌, ◌<◌, ◌≤◌, ◌^◌, ℕ, zero, suc, Bool, true, false, cond, not, ◌&&◌, ◌||◌, List, [], ◌∷◌, ◌++◌, length, Option, None, Some, Result, Ok, Err, refl, sym, ap, subst, ◌∙◌, arith, append_assoc}
+use Rattle.std.proofs.Common.{◌≡◌, inl, inr, ◌<◌, ℕ, zero, suc, Bool, true, false, cond, not, ◌&&◌, ◌||◌, List, [], ◌∷◌, ◌++◌, Option, None, Some, Result, Ok, Err, refl, sym, ap, ◌∙◌, append_assoc}
 use Rattle.std.specs.Prelude.{nat_lt}
 use Rattle.std.proofs.lemmas.List.Folds.{list_any-append}
 use Rattle.hunk_core.specs.declared.BadKind.{BadKind}
@@ -10,7 +10,7 @@ use Rattle.diff_command.specs.declared.Action.{Action}
 use Rattle.diff_command.specs.declared.Action.TheVariants.{Add, Change, Delete}
 use Rattle.ed_form.specs.declared.command.Command.{Command}
 use Rattle.ed_form.specs.declared.command.Heading.{Heading}
-use Rattle.ed_form.specs.Commands.{parts_at, is_command, is_bad_range, is_too_large, placed, heading, checked, from_parts}
+use Rattle.ed_form.specs.Commands.{parts_at, is_command, is_bad_range, is_too_large, placed, heading, from_parts}
 use Rattle.ed_form.specs.Grammar.{IsCorrected, SpellsText, SpellsAdded, SpellsCommand, SpellsEdit, SpellsEdits}
 use Rattle.ed_form.specs.PlainEdit.{PlainEdit}
 use Rattle.ed_form.specs.Texts as texts
@@ -19,8 +19,6 @@ use Rattle.ed_form.proofs.Pieces.{edit_opens}
 use Rattle.ed_form.proofs.Words.{word-words}
 use Rattle.patch_header.specs.Content.{is_dot, has_dot}
 use Rattle.patch_header.specs.Openings.{has_text, takes_text, asks_dot, begins}
-use Rattle.patch_header.proofs.Meanings.{dot-words}
-use Rattle.patch_header.proofs.Stands.{and_left}
 
 -- ---- the line '.'
 

@@ -1,21 +1,15 @@
 -- What is read of a text step by step: where each file patch opens, and what it is.
-use Rattle.std.proofs.Common.{◌≡◌, ◌+◌, ◌-◌, ◌≤◌, ℕ, zero, suc, Bool, true, false, cond, List, [], ◌∷◌, ◌++◌, map, length, drop, Option, None, Some, Result, Ok, Err, refl, sym, ap, subst, ◌∙◌, arith}
-use Rattle.std.specs.Prelude.{is_some, sum_by}
-use Rattle.line_list.specs.Lines.{lines}
-use Rattle.hunk_core.specs.Reading.{Fault, ◌>>=◌, Ahead, ahead}
+use Rattle.std.proofs.Common.{◌≡◌, ℕ, zero, suc, List, [], ◌∷◌, map, Some, Result, Ok, Err, refl, sym, ap, ◌∙◌}
+use Rattle.hunk_core.specs.Reading.{Fault, ◌>>=◌, Ahead}
 use Rattle.hunk_core.proofs.ReadSteps.{bind_ok}
-use Rattle.patch_header.specs.Openings.{stop_at}
-use Rattle.patch_header.specs.Region.{rows}
-use Rattle.patch_header.specs.Steps.{AreQuiet, IsFirstOpening, header_at, region_of, first_stop, found_or, step_behind, next_step}
+use Rattle.patch_header.specs.Steps.{IsFirstOpening, next_step}
 use Rattle.patch_header.specs.declared.header.Header.{Header}
-use Rattle.patch_header.specs.declared.openings.Stop.{Stop}
 use Rattle.patch_header.specs.declared.search.HeaderStep.{HeaderStep}
 use Rattle.patch_header.specs.declared.search.HeaderStep.TheVariants.{Found, Binary, End}
 use Rattle.patch_header.specs.declared.ways.Ways.{Ways}
-use Rattle.patch_header.proofs.Stands.{stop-end}
 use Rattle.file_patch.specs.declared.FilePatch.{FilePatch}
 use Rattle.file_patch.specs.PlainPatch.{PlainChange, PlainPatch, change_of, patch_of}
-use Rattle.patch_text.specs.Patches.{change_behind, patch_with, patch_at, patch_by, next_patch, and_later, place_before, patches_at}
+use Rattle.patch_text.specs.Patches.{change_behind, patch_with, patch_by, next_patch, and_later, place_before, patches_at}
 use Rattle.patch_text.specs.Regions as regions
 use Rattle.patch_text.specs.Regions.{Region, region_up_to, region_with, region_by, next_region, with_later, regions_at, hunk_ends}
 use Rattle.text_joins.proofs.Finding.{opening-found}

@@ -1,15 +1,13 @@
 -- All file patches of a set that are left, one behind the other.
-use Rattle.std.proofs.Common.{◌≡◌, ◌+◌, ◌<◌, ◌≤◌, ℕ, zero, suc, Bool, true, false, cond, ◌&&◌, List, [], ◌∷◌, ◌++◌, map, length, get_or, drop, Option, None, Some, Result, Ok, Err, refl, sym, ap, subst, ◌∙◌, arith}
+use Rattle.std.proofs.Common.{◌≡◌, ◌+◌, ◌<◌, ◌≤◌, ℕ, zero, suc, Bool, true, false, cond, ◌&&◌, List, [], ◌∷◌, ◌++◌, map, length, get_or, drop, Ok, refl, sym, ap, subst, ◌∙◌, arith}
 use Rattle.std.specs.Prelude.{filter}
 use Rattle.std.specs.List.{AllByRecursion, flat_map, list_any, range_with_len, zip}
 use Rattle.std.proofs.lemmas.List.Concat.{flat_map-cons, flat_map-append}
 use Rattle.line_list.specs.Lines.{lines, IsLine}
-use Rattle.line_list.specs.Completed.{completed, IsComplete}
+use Rattle.line_list.specs.Completed.{IsComplete}
 use Rattle.line_list.proofs.JoinLemmas.{completed-complete, complete-whole}
 use Rattle.line_list.proofs.Pieces.{joined, pieces-only}
 use Rattle.patch_header.specs.Content.{has_dot}
-use Rattle.patch_header.specs.Openings.{asks_dot}
-use Rattle.patch_header.specs.Steps.{region_of}
 use Rattle.patch_header.specs.declared.ways.Ways.{Ways}
 use Rattle.file_patch.specs.declared.FilePatch.{FilePatch}
 use Rattle.file_patch.specs.PlainPatch.{PlainPatch, change_of, patch_of, row_count}
@@ -33,9 +31,9 @@ use Rattle.text_joins.specs.Joins as joins
 use Rattle.text_joins.specs.Joins.{AddNoDot, BeginCleanly, begin_with_git, Part, all_lines, FitTogether, read_unnumbered}
 use Rattle.text_joins.proofs.Standing.{parts-read}
 use Rattle.filter_law.specs.LeftPatches.{kept_patch, has_kept, is_left, left_of, left_patches}
-use Rattle.filter_law.specs.CleanJoins.{Text, all_bytes, JoinCleanly, text_of, texts_of, AreCleanJoins}
+use Rattle.filter_law.specs.CleanJoins.{Text, all_bytes, JoinCleanly, text_of, AreCleanJoins}
 use Rattle.filter_law.proofs.Cutting.{all-both, all-join, all-pieces, dots-join}
-use Rattle.filter_law.proofs.Parts.{LeftPart, Known, known}
+use Rattle.filter_law.proofs.Parts.{Known, known}
 use Rattle.filter_law.proofs.Stepping.{stepped, none-left}
 
 -- ---- parts and the file patches that are left

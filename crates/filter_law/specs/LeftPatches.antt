@@ -1,7 +1,6 @@
 -- The file patches that a filter leaves, with the hunks that it keeps (manual page of `filterdiff`).
 use Rattle.std.specs.Prelude.{ℕ, Bool, ◌&&◌, List, [], ◌∷◌, map, filter, if◌then◌else◌}
 use Rattle.std.specs.List.{list_any}
-use Rattle.hunk_core.specs.PlainHunk.{PlainHunk}
 use Rattle.file_patch.specs.declared.FilePatch.{FilePatch}
 use Rattle.file_patch.specs.PlainPatch.{PlainChange, PlainPatch, hunks, script, change_of, patch_of}
 use Rattle.patch_set.specs.SetView.{SetView}

@@ -1,13 +1,12 @@
 -- What is found in a text by reading it stands there by the grammars.
-use Rattle.std.proofs.Common.{◌≡◌, ◌+◌, ◌-◌, ◌<◌, ◌≤◌, ℕ, zero, suc, Bool, true, false, cond, ◌&&◌, List, [], ◌∷◌, ◌++◌, map, length, drop, Option, None, Some, Result, Ok, Err, refl, sym, ap, subst, ◌∙◌, arith}
+use Rattle.std.proofs.Common.{◌≡◌, ◌+◌, ◌≤◌, ℕ, true, List, [], ◌∷◌, ◌++◌, length, drop, Option, None, Some, Result, Ok, refl, sym, ap, subst, ◌∙◌, arith}
 use Rattle.std.specs.Prelude.{sum_by}
 use Rattle.std.proofs.lemmas.List.{length-drop}
 use Rattle.std.proofs.lemmas.List.Sums.{sum_by-append}
 use Rattle.line_list.specs.Lines.{lines}
 use Rattle.hunk_core.specs.declared.Form.{Form}
 use Rattle.hunk_core.specs.declared.Form.TheVariants.{Unified, Context, Normal, Ed}
-use Rattle.hunk_core.specs.PlainHunk.{PlainHunk}
-use Rattle.hunk_core.specs.Reading.{Fault, ◌>>=◌, Ahead, ahead}
+use Rattle.hunk_core.specs.Reading.{Fault, Ahead}
 use Rattle.hunk_core.proofs.ReadSteps.{bind_ok}
 use Rattle.unified_form.specs.Hunks as unified
 use Rattle.unified_form.proofs.Pieces as unified_pieces
@@ -15,10 +14,9 @@ use Rattle.context_form.specs.Hunks as context
 use Rattle.context_form.proofs.Pieces as context_pieces
 use Rattle.normal_form.specs.Hunks as normal
 use Rattle.normal_form.proofs.Pieces as normal_pieces
-use Rattle.ed_form.specs.PlainEdit.{PlainEdit}
 use Rattle.ed_form.specs.Scripts as ed
 use Rattle.ed_form.proofs.Pieces as ed_pieces
-use Rattle.patch_header.specs.Openings.{admits, stop_at}
+use Rattle.patch_header.specs.Openings.{stop_at}
 use Rattle.patch_header.specs.Region.{rows}
 use Rattle.patch_header.specs.Steps.{AreQuiet, IsFirstOpening, header_at, region_of, first_stop, found_or, step_behind, next_step}
 use Rattle.patch_header.specs.declared.header.Header.{Header}

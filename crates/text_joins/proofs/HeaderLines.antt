@@ -1,6 +1,6 @@
 -- What a header says is what its lines say.
 use Rattle.std.proofs.Common.{◌≡◌, ◌+◌, ◌-◌, ◌<◌, ◌≤◌, ℕ, Bool, true, false, cond, not, eqb, List, [], ◌∷◌, ◌++◌, length, reverse, take, drop, slice_range, Option, None, Some, refl, sym, ap, subst, ◌∙◌, arith}
-use Rattle.std.specs.Prelude.{is_some, codes, option_map, unwrap_or, sum_by}
+use Rattle.std.specs.Prelude.{codes, option_map, unwrap_or}
 use Rattle.std.specs.List.{AllByRecursion, position}
 use Rattle.std.proofs.Math.Seq.{drop-append_seam, take-length}
 use Rattle.std.proofs.lemmas.List.{length-append, length-drop, length-take, take_min, take-take, reverse-append}
@@ -8,21 +8,18 @@ use Rattle.std.proofs.lemmas.List.Quantifiers.{position-Some}
 use Rattle.hunk_core.specs.declared.Form.{Form}
 use Rattle.hunk_core.specs.declared.Form.TheVariants.{Unified, Context, Normal, Ed}
 use Rattle.hunk_core.specs.LineTests.{after, ends_line}
-use Rattle.hunk_core.specs.PlainHunk.{bytes_at}
 use Rattle.hunk_core.proofs.TextLemmas.{after-takes}
 use Rattle.patch_header.specs.Content.{content}
-use Rattle.patch_header.specs.GitHeaders.{starts, is_git_line, is_extended, action_of}
+use Rattle.patch_header.specs.GitHeaders.{action_of}
 use Rattle.patch_header.specs.GitRows as git
-use Rattle.patch_header.specs.Region.{Row, row, rows, tail_of, first_some, last_tail, old_tail, new_tail}
+use Rattle.patch_header.specs.Region.{Row, tail_of, first_some, last_tail, old_tail, new_tail}
 use Rattle.patch_header.specs.Values.{is_blank, is_white, first, blanks, unblanked, name_length, word_length, span_at, bytes_of, name_in, word_in, stamp_in}
 use Rattle.patch_header.specs.declared.git_lines.Action.{Action}
 use Rattle.patch_header.specs.declared.git_lines.Action.TheVariants.{Plain, New, Deleted, Rename, Copy}
 use Rattle.patch_header.specs.declared.region.Tail.{Tail}
-use Rattle.patch_header.specs.declared.ways.Ways.{Ways}
-use Rattle.patch_header.proofs.Rows.{prefix_fits, content_short}
-use Rattle.patch_header.proofs.GitLemmas.{lines-back}
+use Rattle.patch_header.proofs.Rows.{content_short}
 use Rattle.file_patch.specs.PlainPatch.{bytes_in}
-use Rattle.text_joins.specs.Said.{behind, last_behind, bytes_before, name_said, word_said, stamp_said, whole_said, old_line, new_line, from_by, to_by, led_lines}
+use Rattle.text_joins.specs.Said.{behind, last_behind, bytes_before, name_said, word_said, stamp_said, whole_said, old_line, new_line, from_by, to_by}
 use Rattle.text_joins.proofs.Places.{StandsAt, take-inside}
 
 -- ---- the bytes behind a beginning

@@ -1,18 +1,16 @@
 -- The header that a text has is the one that its lines say.
-use Rattle.std.proofs.Common.{◌≡◌, ◌+◌, ◌-◌, ◌<◌, ◌≤◌, ◌/◌, ℕ, Bool, true, false, cond, not, ◌&&◌, eqb, List, [], ◌∷◌, ◌++◌, length, take, drop, Option, None, Some, refl, sym, ap, subst, ◌∙◌, arith}
-use Rattle.std.specs.Prelude.{codes, option_map, sum_by}
+use Rattle.std.proofs.Common.{◌≡◌, ◌+◌, ◌-◌, ◌≤◌, ℕ, Bool, true, false, cond, List, [], ◌∷◌, ◌++◌, length, drop, Option, None, Some, refl, sym, ap, ◌∙◌, arith}
+use Rattle.std.specs.Prelude.{codes, option_map}
 use Rattle.std.specs.List.{AllByRecursion}
 use Rattle.std.proofs.lemmas.List.{length-take}
 use Rattle.line_list.specs.Lines.{lines}
 use Rattle.hunk_core.specs.declared.Form.{Form}
 use Rattle.hunk_core.specs.declared.Form.TheVariants.{Unified}
-use Rattle.hunk_core.specs.LineTests.{after}
 use Rattle.stamp.specs.declared.Stamp.{Stamp}
-use Rattle.patch_header.specs.Content.{content}
 use Rattle.patch_header.specs.GitHeaders.{extended_run, behind_run, git_header, action_of}
 use Rattle.patch_header.specs.GitRows as git
 use Rattle.patch_header.specs.Openings.{stop_at}
-use Rattle.patch_header.specs.Region.{Row, row, rows, tail_of, last_tail, old_tail, new_tail}
+use Rattle.patch_header.specs.Region.{row, rows, last_tail, old_tail, new_tail}
 use Rattle.patch_header.specs.Values.{span_at, bytes_of, name_in, word_in, stamp_in}
 use Rattle.patch_header.specs.Steps.{header_with, bare_with, header_at}
 use Rattle.patch_header.specs.declared.git_lines.Action.{Action}

@@ -1,6 +1,6 @@
 -- Lines that are a file patch alone are the same one in front of others that join it cleanly.
-use Rattle.std.proofs.Common.{◌≡◌, ◌⊎◌, inl, inr, ◌+◌, ℕ, zero, suc, Bool, true, false, cond, not, ◌&&◌, ◌||◌, List, [], ◌∷◌, ◌++◌, map, length, Option, None, Some, refl, sym, ap, subst, ◌∙◌, arith, append_assoc}
-use Rattle.std.specs.Prelude.{is_some, codes}
+use Rattle.std.proofs.Common.{◌≡◌, ◌+◌, ℕ, Bool, true, false, not, ◌&&◌, ◌||◌, List, [], ◌∷◌, ◌++◌, map, length, Option, None, Some, refl, sym, ap, subst, ◌∙◌, arith, append_assoc}
+use Rattle.std.specs.Prelude.{codes}
 use Rattle.std.specs.List.{list_any}
 use Rattle.std.proofs.lemmas.List.{append-nil}
 use Rattle.std.proofs.lemmas.List.Concat.{flat_map-cons}
@@ -8,7 +8,6 @@ use Rattle.std.proofs.lemmas.List.Folds.{list_any-append}
 use Rattle.hunk_core.specs.declared.Form.{Form}
 use Rattle.hunk_core.specs.declared.Form.TheVariants.{Unified, Context, Normal, Ed}
 use Rattle.unified_form.specs.Hunks as unified_hunks
-use Rattle.unified_form.specs.Ranges.{is_opening}
 use Rattle.unified_form.specs.Grammar as unified
 use Rattle.context_form.specs.Openings as context_hunks
 use Rattle.context_form.specs.Grammar as context
@@ -19,8 +18,8 @@ use Rattle.ed_form.specs.Commands as ed_commands
 use Rattle.ed_form.specs.Grammar as ed
 use Rattle.ed_form.specs.Scripts.{begins_substitution}
 use Rattle.patch_header.specs.Content.{is_dot, has_dot}
-use Rattle.patch_header.specs.GitHeaders.{is_git_line, is_extended, extended_run, behind_run, git_header, action_of, is_plain, has_new_name, has_names, begins_bare}
-use Rattle.patch_header.specs.Openings.{admits, begins, asks_dot, opens, stops_bare, stop_at}
+use Rattle.patch_header.specs.GitHeaders.{is_git_line, is_extended, extended_run, behind_run, git_header, action_of, is_plain, has_names, begins_bare}
+use Rattle.patch_header.specs.Openings.{admits, begins, asks_dot, stop_at}
 use Rattle.patch_header.specs.Steps.{AreQuiet, region_of}
 use Rattle.patch_header.specs.declared.openings.Stop.{Stop}
 use Rattle.patch_header.specs.declared.openings.Stop.TheVariants.{Opening, Binary, Bare}
@@ -29,7 +28,7 @@ use Rattle.patch_header.proofs.Stands.{and_left, and_right, opening-words, bare-
 use Rattle.patch_header.proofs.ScanLemmas.{run-more, behind-more, run-stops, run-none, behind-none}
 use Rattle.file_patch.specs.PlainPatch.{PlainHeader, PlainChange, PlainPatch, hunks, script}
 use Rattle.patch_text.specs.Texts.{IsPiece}
-use Rattle.text_joins.specs.Said.{header_said, bare_said, bare_header}
+use Rattle.text_joins.specs.Said.{header_said, bare_header}
 use Rattle.text_joins.specs.Following.{Spell, IsFilePatch, AreFilePatches}
 use Rattle.text_joins.specs.Joins.{begin_with, begin_with_git, BeginCleanly, JoinCleanly, Part, all_lines, FitTogether}
 use Rattle.text_joins.proofs.Quiet.{LookAlike, quiet-alike}

@@ -1,11 +1,11 @@
 -- The rows of a git header that leads an opening are those of its lines, and stand at their places.
-use Rattle.std.proofs.Common.{◌≡◌, ◌+◌, ◌-◌, ◌<◌, ◌≤◌, ◌/◌, ℕ, Bool, true, false, cond, not, ◌&&◌, eqb, List, [], ◌∷◌, ◌++◌, length, reverse, take, drop, Option, None, Some, refl, sym, ap, subst, ◌∙◌, arith}
+use Rattle.std.proofs.Common.{◌≡◌, ℕ, Bool, true, false, cond, ◌&&◌, List, [], ◌∷◌, ◌++◌, reverse, Option, None, Some, refl, sym, ap, ◌∙◌}
 use Rattle.std.specs.Prelude.{codes, option_map, unwrap_or}
 use Rattle.std.specs.List.{AllByRecursion}
 use Rattle.hunk_core.specs.declared.Form.{Form}
 use Rattle.patch_header.specs.GitHeaders.{starts, is_git_line, is_extended}
 use Rattle.patch_header.specs.GitRows.{lines_of, with_row, header_back, old_name_back, new_name_back, led_rows, is_unified, led_by}
-use Rattle.patch_header.specs.Region.{Row, row, rows}
+use Rattle.patch_header.specs.Region.{Row, rows}
 use Rattle.patch_header.specs.declared.ways.Ways.{Ways}
 use Rattle.patch_header.proofs.GitLemmas.{lines-back}
 use Rattle.text_joins.specs.Said.{led_lines}

@@ -1,15 +1,15 @@
 -- Lines of a text and the places where they stand.
-use Rattle.std.proofs.Common.{◌≡◌, ◌+◌, ◌-◌, ◌<◌, ◌≤◌, ℕ, List, [], ◌∷◌, ◌++◌, length, take, drop, slice_range, refl, sym, ap, subst, ◌∙◌, arith}
+use Rattle.std.proofs.Common.{◌≡◌, ◌+◌, ◌-◌, ◌≤◌, ℕ, List, [], ◌∷◌, ◌++◌, length, take, drop, sym, ap, subst, ◌∙◌, arith}
 use Rattle.std.specs.Prelude.{sum_by}
 use Rattle.std.specs.List.{AllByRecursion}
 use Rattle.std.proofs.Math.Seq.{take-append_seam, drop-append_seam}
-use Rattle.std.proofs.lemmas.List.{length-append, length-drop, length-take, drop-take, drop-drop, take-take}
+use Rattle.std.proofs.lemmas.List.{length-append, length-drop, drop-take, drop-drop, take-take}
 use Rattle.std.proofs.lemmas.List.Concat.{flat_map-append, flat_map-cons, length-flat_map}
 use Rattle.std.proofs.lemmas.List.Sums.{sum_by-cons}
 use Rattle.line_list.specs.Lines.{lines, ArePieces}
 use Rattle.line_list.proofs.Pieces.{joined, lines-joined, lines-pieces, pieces-only}
 use Rattle.hunk_core.proofs.PieceLemmas.{pieces-last}
-use Rattle.patch_header.specs.Region.{Row, row, rows}
+use Rattle.patch_header.specs.Region.{Row, rows}
 
 -- the bytes from a place on are those of the lines there
 bytes-are : (text : List ℕ) (at : ℕ) (own rest : List (List ℕ)) → lines (drop at text) ≡ own ++ rest → drop at text ≡ joined own ++ joined rest

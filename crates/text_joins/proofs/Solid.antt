@@ -1,5 +1,5 @@
 -- What an opening and a git line aren't: a line of both names, or an extended line.
-use Rattle.std.proofs.Common.{◌≡◌, ◌⊎◌, ◌<◌, ◌≤◌, inl, inr, ℕ, suc, ◌-◌, Bool, true, false, cond, ◌&&◌, ◌||◌, eqb, leb, List, [], ◌∷◌, ◌++◌, length, take, Option, None, Some, refl, sym, ap, subst, ◌∙◌, arith}
+use Rattle.std.proofs.Common.{◌≡◌, ◌<◌, ◌≤◌, ℕ, suc, ◌-◌, Bool, true, false, cond, ◌&&◌, ◌||◌, eqb, leb, List, [], ◌∷◌, ◌++◌, length, take, Option, None, Some, refl, sym, ap, ◌∙◌, arith}
 use Rattle.std.specs.Prelude.{is_some, codes}
 use Rattle.std.proofs.lemmas.Bool.{eqb-true, leb-true}
 use Rattle.hunk_core.specs.declared.Form.{Form}
@@ -7,20 +7,17 @@ use Rattle.hunk_core.specs.declared.Form.TheVariants.{Unified, Context, Normal, 
 use Rattle.hunk_core.specs.LineTests.{after, ends_line}
 use Rattle.num_text.specs.Numbers.{is_digit, value_after, after_digits}
 use Rattle.num_text.specs.NumberRanges.{range_at, from_first}
-use Rattle.num_text.specs.declared.range.NumberRange.{NumberRange}
 use Rattle.diff_command.specs.Letters.{◌>>=◌, action_at}
 use Rattle.ed_form.specs.Commands as ed
 use Rattle.unified_form.specs.Ranges as range_line
 use Rattle.unified_form.specs.Hunks as unified
 use Rattle.context_form.specs.Openings as context
 use Rattle.normal_form.specs.Commands as command
-use Rattle.normal_form.specs.Hunks.{is_marked, begins_marked}
+use Rattle.normal_form.specs.Hunks.{begins_marked}
 use Rattle.patch_header.specs.Content.{content}
-use Rattle.patch_header.specs.GitHeaders.{starts, is_git_line, is_mode_line, is_name_line, is_index_line, is_extended, extended_run, behind_run, has_new_name, has_names, begins_bare}
-use Rattle.patch_header.specs.Openings.{admits, begins, opens, stop_at}
-use Rattle.patch_header.specs.declared.openings.Stop.TheVariants.{Opening, Bare}
-use Rattle.patch_header.specs.declared.ways.Ways.{Ways}
-use Rattle.patch_header.proofs.Stands.{front, and_left, and_right, or_cases, stop-opens, bare-words}
+use Rattle.patch_header.specs.GitHeaders.{starts, is_git_line, is_mode_line, is_name_line, is_index_line, is_extended, extended_run, behind_run, has_new_name, has_names}
+use Rattle.patch_header.specs.Openings.{begins}
+use Rattle.patch_header.proofs.Stands.{front, and_left, and_right}
 use Rattle.patch_header.proofs.GitWords.{starts-words}
 use Rattle.patch_header.proofs.ScanLemmas.{run-stops, behind-stops}
 use Rattle.text_joins.proofs.Quiet.{LookAlike}

@@ -1,21 +1,18 @@
 -- What spells a change where no line follows spells it in front of lines that begin cleanly.
-use Rattle.std.proofs.Common.{◌≡◌, ◌⊎◌, inl, inr, ◌+◌, ◌<◌, ℕ, zero, suc, Bool, true, false, cond, not, ◌&&◌, ◌||◌, eqb, List, [], ◌∷◌, ◌++◌, length, Option, None, Some, refl, sym, ap, subst, ◌∙◌, arith, append_assoc}
+use Rattle.std.proofs.Common.{◌≡◌, inl, inr, ℕ, zero, suc, Bool, true, false, cond, not, eqb, List, [], ◌∷◌, ◌++◌, length, Option, None, Some, refl, sym, ap, ◌∙◌, arith}
 use Rattle.std.specs.Prelude.{is_some, codes}
-use Rattle.std.proofs.lemmas.List.{append-nil}
 use Rattle.hunk_core.specs.declared.Mark.{Mark}
 use Rattle.hunk_core.specs.declared.Mark.TheVariants.{Keep, Add}
 use Rattle.hunk_core.specs.declared.Side.TheVariants.{Forward, Reversed}
 use Rattle.hunk_core.specs.PlainHunk.{Marked, PlainHunk}
-use Rattle.hunk_core.specs.LineTests.{after, is_backslash, after_backslash}
+use Rattle.hunk_core.specs.LineTests.{after, after_backslash}
 use Rattle.diff_command.specs.declared.Action.{Action}
 use Rattle.diff_command.specs.declared.Action.TheVariants as actions
-use Rattle.unified_form.specs.Grammar as unified
 use Rattle.context_form.specs.declared.range.Stated.{Stated}
 use Rattle.context_form.specs.Merging.{part_of}
 use Rattle.context_form.specs.Parts.{mark_by, mark_at}
 use Rattle.context_form.specs.Presence.{may_begin, begins_part, drops_alone, is_there_by, is_there}
 use Rattle.context_form.specs.Grammar as context
-use Rattle.normal_form.specs.Grammar as normal
 use Rattle.ed_form.specs.PlainEdit.{PlainEdit, lowest}
 use Rattle.ed_form.specs.Grammar as ed
 use Rattle.text_joins.specs.Joins.{begin_with, BeginCleanly}

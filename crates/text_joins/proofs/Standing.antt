@@ -1,28 +1,26 @@
 -- A text has the file patches that stand in its lines.
-use Rattle.std.proofs.Common.{◌≡◌, ◌⊎◌, inl, inr, ◌+◌, ◌<◌, ◌≤◌, ℕ, suc, true, false, List, [], ◌∷◌, ◌++◌, map, length, drop, Option, None, Some, Result, Ok, Err, refl, sym, ap, subst, ◌∙◌, arith, append_assoc}
+use Rattle.std.proofs.Common.{◌≡◌, inl, inr, ◌+◌, ◌<◌, ◌≤◌, ℕ, List, [], ◌∷◌, ◌++◌, map, length, drop, Some, Ok, refl, sym, ap, subst, ◌∙◌, arith, append_assoc}
 use Rattle.std.specs.Prelude.{sum_by}
-use Rattle.std.proofs.lemmas.List.Sums.{sum_by-cons, sum_by-append}
-use Rattle.line_list.specs.Lines.{lines, IsLine, ArePieces}
+use Rattle.std.proofs.lemmas.List.Sums.{sum_by-cons}
+use Rattle.line_list.specs.Lines.{lines, ArePieces}
 use Rattle.line_list.proofs.Pieces.{lines-pieces}
 use Rattle.hunk_core.specs.declared.Form.{Form}
 use Rattle.hunk_core.specs.declared.Form.TheVariants.{Unified, Context, Normal, Ed}
-use Rattle.hunk_core.specs.Reading.{Fault, ◌>>=◌}
+use Rattle.hunk_core.specs.Reading.{◌>>=◌}
 use Rattle.patch_header.specs.GitHeaders.{behind_run, git_header}
 use Rattle.patch_header.specs.GitRows.{led_by}
 use Rattle.patch_header.specs.Openings.{stop_at}
 use Rattle.patch_header.specs.Region.{Row, rows}
-use Rattle.patch_header.specs.Steps.{AreQuiet, IsRegion, IsEnd, IsFirstOpening, header_with, bare_with, header_at}
+use Rattle.patch_header.specs.Steps.{AreQuiet, IsRegion, IsEnd, header_with, bare_with, header_at}
 use Rattle.patch_header.specs.declared.header.Header.{Header}
 use Rattle.patch_header.specs.declared.openings.Stop.{Stop}
 use Rattle.patch_header.specs.declared.openings.Stop.TheVariants.{Opening, Binary, Bare}
 use Rattle.patch_header.specs.declared.ways.Ways.{Ways}
 use Rattle.patch_header.proofs.ScanLemmas.{run-split}
 use Rattle.file_patch.specs.PlainPatch.{PlainHeader, PlainChange, PlainPatch, hunks, script, header_of}
-use Rattle.patch_text.specs.Patches.{git_end, patches_of}
 use Rattle.patch_text.specs.Texts.{IsPiece, IsBare, GoesUpTo, StandsFirst, Stand, HasPatches}
 use Rattle.patch_text.proofs.TextLaws.{text-again}
 use Rattle.text_joins.specs.Unnumbered.{unnumbered_header, unnumbered}
-use Rattle.text_joins.specs.Said.{header_said}
 use Rattle.text_joins.specs.Following.{Spell, IsFilePatch, AreFilePatches}
 use Rattle.text_joins.specs.Joins.{Part, all_lines, FitTogether, read_unnumbered}
 use Rattle.text_joins.proofs.Headers.{said-alone}

@@ -1,10 +1,8 @@
 -- Where file patches can be put one behind the other.
-use Rattle.std.specs.Prelude.{◌≡◌, ℕ, Bool, true, false, List, [], ◌∷◌, ◌++◌, map, length, is_some, codes, Result, Ok}
+use Rattle.std.specs.Prelude.{◌≡◌, ℕ, Bool, true, false, List, [], ◌∷◌, map, is_some, codes, Result, Ok}
 use Rattle.std.specs.List.{flat_map, list_any}
 use Rattle.hunk_core.specs.LineTests.{after}
 use Rattle.hunk_core.specs.Reading.{Fault, ◌>>=◌}
-use Rattle.line_list.specs.Lines.{lines}
-use Rattle.line_list.specs.Completed.{IsComplete}
 use Rattle.unified_form.specs.Hunks as unified
 use Rattle.context_form.specs.Openings as context
 use Rattle.normal_form.specs.Hunks as normal
