@@ -1,7 +1,7 @@
 -- What is found in a text by reading it stands there by the grammars.
 use Rattle.std.proofs.Common.{◌≡◌, ◌+◌, ◌≤◌, ℕ, true, List, [], ◌∷◌, ◌++◌, length, drop, Option, None, Some, Result, Ok, refl, sym, ap, subst, ◌∙◌, arith}
 use Rattle.std.specs.Prelude.{sum_by}
-use Rattle.std.proofs.lemmas.List.{length-drop}
+use Rattle.std.proofs.lemmas.List.{append-nil, length-drop}
 use Rattle.std.proofs.lemmas.List.Sums.{sum_by-append}
 use Rattle.line_list.specs.Lines.{lines}
 use Rattle.hunk_core.specs.declared.Form.{Form}
@@ -18,10 +18,10 @@ use Rattle.ed_form.specs.Scripts as ed
 use Rattle.ed_form.proofs.Pieces as ed_pieces
 use Rattle.patch_header.specs.Openings.{stop_at}
 use Rattle.patch_header.specs.Region.{rows}
-use Rattle.patch_header.specs.Steps.{AreQuiet, IsFirstOpening, header_at, region_of, first_stop, found_or, step_behind, next_step}
+use Rattle.patch_header.specs.Steps.{AreQuiet, IsEnd, IsFirstOpening, header_at, region_of, first_stop, found_or, step_behind, next_step}
 use Rattle.patch_header.specs.declared.header.Header.{Header}
 use Rattle.patch_header.specs.declared.openings.Stop.{Stop}
-use Rattle.patch_header.specs.declared.search.HeaderStep.TheVariants.{Found}
+use Rattle.patch_header.specs.declared.search.HeaderStep.TheVariants.{Found, End}
 use Rattle.patch_header.specs.declared.ways.Ways.{Ways}
 use Rattle.patch_header.proofs.Stands.{stop-end}
 use Rattle.file_patch.specs.PlainPatch.{PlainChange, hunks, script}
@@ -38,6 +38,7 @@ record First (ways : Ways) (ls : List (List ℕ)) : Type 0 where
   parts : ls ≡ region_of ways ls ++ rest
   quiet : AreQuiet ways (region_of ways ls) rest
   stands : first_stop ways ls ≡ stop_at ways rest
+  none : first_stop ways ls ≡ None → rest ≡ []
 
 region-here : (ways : Ways) (line : List ℕ) (more : List (List ℕ)) (stop : Stop) → stop_at ways (line ∷ more) ≡ Some stop → region_of ways (line ∷ more) ≡ []
 unfolding region_of
@@ -69,6 +70,7 @@ first ways [] = record {
   parts = ap (λ ls. ls ++ []) (sym (region-none ways));
   quiet = subst (λ ls. AreQuiet ways ls []) (sym (region-none ways)) tt;
   stands = stop-none ways ∙ sym (stop-end ways);
+  none = λ e. refl;
 }
 first ways (line ∷ more) = by (stop_at ways (line ∷ more)) refl (first ways more)
   where
@@ -80,6 +82,7 @@ first ways (line ∷ more) = by (stop_at ways (line ∷ more)) refl (first ways 
           parts = ap (λ ls. line ∷ ls) f.parts ∙ ap (λ ls. ls ++ f.rest) (sym goes);
           quiet = subst (λ ls. AreQuiet ways ls f.rest) (sym goes) (ap (λ ls. stop_at ways (line ∷ ls)) (sym f.parts) ∙ e, f.quiet);
           stands = stop-more ways line more e ∙ f.stands;
+          none = λ k. f.none (sym (stop-more ways line more e) ∙ k);
         }
     by (Some stop) e f =
         let here : region_of ways (line ∷ more) ≡ [] = region-here ways line more stop e in
@@ -88,6 +91,7 @@ first ways (line ∷ more) = by (stop_at ways (line ∷ more)) refl (first ways 
           parts = ap (λ ls. ls ++ line ∷ more) (sym here);
           quiet = subst (λ ls. AreQuiet ways ls (line ∷ more)) (sym here) tt;
           stands = stop-here ways line more stop e ∙ sym e;
+          none = λ k. absurd (let here : first_stop ways (line ∷ more) ≡ Some stop = stop-here ways line more stop e in cc);
         }
 
 found-is : (n : ℕ) (o : Option Header) (h : Header) → found_or n o ≡ Found h → o ≡ Some h
@@ -114,6 +118,21 @@ opening-found ways text at line h e =
           stands = ap (stop_at ways) left ∙ sym f.stands ∙ k;
           says = found-is (line + length region) (header_at ways text place (line + length region) (rows line at region) stop) h s;
         }
+
+no-end : (n : ℕ) (o : Option Header) → found_or n o ≡ End → ⊥
+no-end n None h = absurd cc
+no-end n (Some x) h = absurd cc
+
+-- where nothing comes, nothing stands
+pub end-found : (ways : Ways) (text : List ℕ) (at line : ℕ) → next_step ways text at line ≡ End → IsEnd ways text at
+end-found ways text at line e = by (first ways (lines (drop at text))) (first_stop ways (lines (drop at text))) refl e
+  where
+    by : First ways (lines (drop at text)) → (o : Option Stop) → first_stop ways (lines (drop at text)) ≡ o → step_behind ways text at line (region_of ways (lines (drop at text))) o ≡ End → IsEnd ways text at
+    by f (Some stop) k s = absurd (no-end _ _ s)
+    by f None k s =
+        let region = region_of ways (lines (drop at text)) in
+        let whole : region ≡ lines (drop at text) = sym (append-nil region) ∙ ap (λ ls. region ++ ls) (sym (f.none k)) ∙ sym f.parts in
+        subst (λ ls. AreQuiet ways ls []) whole (subst (AreQuiet ways region) (f.none k) f.quiet)
 
 -- ---- a change that is read
 

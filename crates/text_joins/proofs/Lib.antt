@@ -8,3 +8,4 @@ pub mod LedLines
 pub mod Headers
 pub mod Standing
 pub mod Finding
+pub mod Reading

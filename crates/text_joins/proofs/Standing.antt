@@ -126,7 +126,7 @@ line-some line [] (inr h) = h.0
 line-some [] (next ∷ rest) h = absurd h.0
 line-some (b ∷ line) (next ∷ rest) h = omega arith
 
-some-bytes : (body others all : List (List ℕ)) → ArePieces all → all ≡ body ++ others → (line : List ℕ) × (more : List (List ℕ)) × (body ≡ line ∷ more) → 0 < sum_by length body
+pub some-bytes : (body others all : List (List ℕ)) → ArePieces all → all ≡ body ++ others → (line : List ℕ) × (more : List (List ℕ)) × (body ≡ line ∷ more) → 0 < sum_by length body
 some-bytes [] others all h e s = absurd (let k : [] ≡ s.0 ∷ s.1 = s.2 in cc)
 some-bytes (line ∷ more) others all h e s = let low : 0 < length line = line-some line (more ++ others) (subst ArePieces e h) in omega (arith, low, sum_by-cons length line more)
 
