@@ -1,4 +1,3 @@
-pub mod Stepping
 pub mod Cutting
 pub mod Keeping
 pub mod Scripts
@@ -6,3 +5,4 @@ pub mod Alike
 pub mod Pieces
 pub mod Parts
 pub mod Walking
+pub mod Laying

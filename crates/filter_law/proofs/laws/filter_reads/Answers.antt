@@ -1,5 +1,8 @@
-use Rattle.filter_law.proofs.Walking.{reads-as-left}
+use Rattle.filter_law.proofs.Walking.{chain-reads}
 use Rattle.filter_law.proofs.laws.filter_reads.Goals as goal
 
-pub returns : goal.returns
-returns c = reads-as-left
+pub returns-clause-set : goal.returns-clause-set
+returns-clause-set c = ?
+
+pub returns-clause-told : goal.returns-clause-told
+returns-clause-told c = ?
