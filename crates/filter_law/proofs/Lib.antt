@@ -6,3 +6,4 @@ pub mod Pieces
 pub mod Parts
 pub mod Walking
 pub mod Laying
+pub mod Chains

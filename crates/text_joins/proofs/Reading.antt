@@ -116,20 +116,23 @@ module _ (ways : Ways) (text : List ℕ) (h : Header) (x : PlainChange × Ahead)
         };
       }
 
-pub goes-so : (ways : Ways) (text : List ℕ) (at number : ℕ) (h : Header) (x : PlainChange × Ahead) → at ≤ length text → IsFirstOpening ways text at number h → change_behind text h ≡ Ok x → StandsFirst ways text at number (patch_with text h x.0) (place_before text x.1.rest) x.1.number
-goes-so ways text at number h x le opens read =
-    elim (stands-so ways text opens.place (number + length opens.region) (rows number at opens.region) opens.stop h opens.says) [
-      | inl s ↦ made s.1 (open-goes ways text h x (inside s.1) read s.2 (ap (λ k. stop_at ways (lines (drop k text))) (sym s.1) ∙ opens.stands ∙ ap (λ t. Some t) s.0))
-      | inr s ↦ made s.1 (bare-goes ways text h x (inside s.1) read s.2 (ap (λ k. stop_at ways (lines (drop k text))) (sym s.1) ∙ opens.stands ∙ ap (λ t. Some t) s.0))
-    ]
-  where
-    inside : opens.place ≡ h.at → h.at ≤ length text
-    inside e =
-        let within : at + sum_by length opens.region ≤ length text = lines-within text at opens.region (lines (drop opens.place text)) le opens.is_region.parts in
-        omega (arith, within, opens.is_region.ends, e)
+inside : (ways : Ways) (text : List ℕ) (at number : ℕ) (h : Header) (le : at ≤ length text) (opens : IsFirstOpening ways text at number h) → opens.place ≡ h.at → h.at ≤ length text
+inside ways text at number h le opens e =
+    let within : at + sum_by length opens.region ≤ length text = lines-within text at opens.region (lines (drop opens.place text)) le opens.is_region.parts in
+    omega (arith, within, opens.is_region.ends, e)
 
-    made : opens.place ≡ h.at → Goes text h x → StandsFirst ways text at number (patch_with text h x.0) (place_before text x.1.rest) x.1.number
-    made e g = record { header = h; opens = opens; says = refl; goes = g.goes; some = omega (arith, g.some, g.end, opens.is_region.ends, e); high = g.high }
+pub goes-of : (ways : Ways) (text : List ℕ) (at number : ℕ) (h : Header) (x : PlainChange × Ahead) → at ≤ length text → IsFirstOpening ways text at number h → change_behind text h ≡ Ok x → (at ≤ h.at) × Goes text h x
+goes-of ways text at number h x le opens read =
+    elim (stands-so ways text opens.place (number + length opens.region) (rows number at opens.region) opens.stop h opens.says) [
+      | inl s ↦ (omega (arith, opens.is_region.ends, s.1), open-goes ways text h x (inside ways text at number h le opens s.1) read s.2 (ap (λ k. stop_at ways (lines (drop k text))) (sym s.1) ∙ opens.stands ∙ ap (λ t. Some t) s.0))
+      | inr s ↦ (omega (arith, opens.is_region.ends, s.1), bare-goes ways text h x (inside ways text at number h le opens s.1) read s.2 (ap (λ k. stop_at ways (lines (drop k text))) (sym s.1) ∙ opens.stands ∙ ap (λ t. Some t) s.0))
+    ]
+
+goes-so : (ways : Ways) (text : List ℕ) (at number : ℕ) (h : Header) (x : PlainChange × Ahead) → at ≤ length text → IsFirstOpening ways text at number h → change_behind text h ≡ Ok x → StandsFirst ways text at number (patch_with text h x.0) (place_before text x.1.rest) x.1.number
+goes-so ways text at number h x le opens read =
+    let two = goes-of ways text at number h x le opens read in
+    let g = two.1 in
+    record { header = h; opens = opens; says = refl; goes = g.goes; some = omega (arith, two.0, g.some, g.end); high = g.high }
 
 -- ---- all of them
 
