@@ -17,7 +17,6 @@ no-number : (o : Option (List ℕ)) → (is_some o ≡ true → ⊥) → has_num
 no-number None h = refl
 no-number (Some x) h = absurd (h refl)
 
-
 abbrev is_unified : Form → Bool
 is_unified Unified = true
 is_unified Context = false

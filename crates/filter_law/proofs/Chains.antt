@@ -1,14 +1,12 @@
 -- The file patches of a text, or of a set, stand one behind the other.
-use Rattle.std.proofs.Common.{◌≡◌, ◌+◌, ◌-◌, ◌<◌, ◌≤◌, ℕ, zero, suc, Bool, true, false, cond, List, [], ◌∷◌, ◌++◌, map, length, get_or, drop, Option, None, Some, Result, Ok, Err, refl, sym, ap, subst, ◌∙◌, arith}
-use Rattle.std.specs.Prelude.{filter}
-use Rattle.std.specs.List.{AllByRecursion, flat_map, list_any, range_with_len, zip}
+use Rattle.std.proofs.Common.{◌≡◌, ◌+◌, ◌<◌, ◌≤◌, ℕ, zero, suc, Bool, true, false, cond, List, [], ◌∷◌, ◌++◌, map, length, get_or, drop, None, Some, Result, Ok, Err, refl, sym, ap, subst, ◌∙◌, arith}
+use Rattle.std.specs.List.{AllByRecursion, list_any, zip}
 use Rattle.line_list.specs.Lines.{lines, IsLine}
 use Rattle.line_list.specs.Completed.{completed, IsComplete}
 use Rattle.line_list.proofs.JoinLemmas.{completed-complete, complete-whole}
 use Rattle.hunk_core.specs.PlainHunk.{bytes_at}
 use Rattle.hunk_core.specs.Reading.{Fault, Ahead, ahead}
-use Rattle.patch_header.specs.Steps.{IsFirstOpening, IsEnd, next_step}
-use Rattle.patch_header.specs.declared.header.Header.{Header}
+use Rattle.patch_header.specs.Steps.{IsEnd}
 use Rattle.patch_header.specs.declared.search.HeaderStep.TheVariants.{Found, End}
 use Rattle.patch_header.specs.declared.ways.Ways.{Ways}
 use Rattle.patch_header.proofs.StepLemmas.{one-step}
@@ -18,7 +16,7 @@ use Rattle.patch_options.specs.PlainJob.{PlainOptions}
 use Rattle.patch_text.specs.Patches.{place_before, patches_of}
 use Rattle.patch_text.specs.Regions as regions
 use Rattle.patch_text.specs.Regions.{Region, region_up_to, region_with, region_by, next_region, with_later, regions_at, regions_of}
-use Rattle.patch_text.specs.Texts.{StandsFirst, Stand, HasPatches}
+use Rattle.patch_text.specs.Texts.{StandsFirst, Stand}
 use Rattle.patch_text.proofs.TextLaws.{behind-again}
 use Rattle.patch_text.proofs.TextLoops.{place-back}
 use Rattle.patch_set.specs.Asked.{ways_of}
@@ -28,11 +26,11 @@ use Rattle.patch_set.proofs.InBytes.{cut-bytes}
 use Rattle.tool_words.specs.PlainJobs.{PlainFilterJob}
 use Rattle.patch_filters.specs.Filtered.{filtered, written, written_bare, written_hunks, region, pieces, chosen, is_taken_of, asks_no_hunk}
 use Rattle.patch_filters.specs.Kept.{kept}
-use Rattle.filter_run.specs.Texts.{defaults, Spot, read_patches, patches_in, regions_in, spots_in, spot_written, spot_hunks, spot_bare, is_spot_taken, filtered_in, front_of, pieces_of, all_of}
+use Rattle.filter_run.specs.Texts.{defaults, Spot, read_patches, regions_in, spots_in, spot_written, spot_hunks, spot_bare, is_spot_taken, filtered_in, front_of, pieces_of, all_of}
 use Rattle.text_joins.specs.Unnumbered.{unnumbered}
 use Rattle.text_joins.specs.Joins.{read_unnumbered}
 use Rattle.text_joins.proofs.Reading.{goes-of, text-found}
-use Rattle.filter_law.specs.LeftPatches.{is_some_kept, kept_change, kept_patch, left_patches, spot_left, left_in}
+use Rattle.filter_law.specs.LeftPatches.{is_some_kept, kept_patch, left_patches, spot_left, left_in}
 use Rattle.filter_law.specs.CleanJoins.{AreCleanJoins, AreCleanJoinsIn}
 use Rattle.filter_law.proofs.Parts.{Known, known}
 use Rattle.filter_law.proofs.Walking.{Chain, chain-reads}
@@ -59,8 +57,8 @@ regions-next most ways text at number p end next s =
     let behind : Ahead = ahead next (lines (drop end text)) in
     let place : place_before text (lines (drop end text)) ≡ end = place-back text end s.high in
     let one : next_region ways text at number ≡ Some (region_up_to text at s.header (place_before text (lines (drop end text))), behind) =
-        ap (region_by text at) (sym (one-step ways text at number (Found s.header) s.opens))
-        ∙ ap (region_with text at s.header) (behind-again text s.header p.change end next s.goes) in
+    ap (region_by text at) (sym (one-step ways text at number (Found s.header) s.opens))
+    ∙ ap (region_with text at s.header) (behind-again text s.header p.change end next s.goes) in
     regions-step most ways text at number
     ∙ ap (with_later (λ q. regions_at most ways text (place_before text q.rest) q.number)) one
     ∙ ap (λ k. region_up_to text at s.header k ∷ regions_at most ways text k next) place
@@ -86,7 +84,7 @@ module _ (j : PlainFilterJob) (ways : Ways) (text : List ℕ) where
   spot-known start number p end next s all =
       let same : made (header_of text s.header) p.change ≡ p = ap (λ h. made h p.change) (sym s.says) in
       subst (λ q. SpotKnown start end (region_up_to text start s.header end, q)) same
-          (known j ways text start number s.header p.change end next s.opens s.goes (opens-before ways text start number p end next s) s.high all)
+      (known j ways text start number s.header p.change end next s.opens s.goes (opens-before ways text start number p end next s) s.high all)
 
   -- ---- of a text
 
@@ -103,7 +101,7 @@ module _ (j : PlainFilterJob) (ways : Ways) (text : List ℕ) where
       let k = spot-known at number p h.0 h.1 s all in
       let more = spots-chain most ps h.0 h.1 end next (let far : at < h.0 = s.some in omega arith) k.are_lines h.3 ends in
       subst (λ (rs : List Region). SpotChain at (zip rs (p ∷ ps))) (sym (regions-next most ways text at number p h.0 h.1 s))
-          (h.0, k, ap (λ (x : PlainHeader). x.bare) (sym s.says), more)
+      (h.0, k, ap (λ (x : PlainHeader). x.bare) (sym s.says), more)
 
   -- ---- of a set
 

@@ -1,83 +1,17 @@
 -- Hunks that are cut out of a text and put one behind the other.
-use Rattle.std.proofs.Common.{◌≡◌, ◌+◌, ◌≤◌, ℕ, Bool, true, false, cond, ◌||◌, List, [], ◌∷◌, ◌++◌, map, length, drop, refl, sym, ap, subst, ◌∙◌, arith, append_assoc, inl}
+use Rattle.std.proofs.Common.{◌≡◌, ℕ, Bool, true, false, cond, ◌||◌, List, [], ◌∷◌, ◌++◌, map, drop, refl, sym, ap, subst, ◌∙◌, inl}
 use Rattle.std.specs.List.{AllByRecursion, flat_map, zip}
 use Rattle.std.proofs.lemmas.List.Concat.{flat_map-cons, flat_map-append}
 use Rattle.std.proofs.lemmas.List.Folds.{list_any-append}
 use Rattle.line_list.specs.Lines.{lines, IsLine, ArePieces}
 use Rattle.line_list.specs.declared.Span.{Span}
 use Rattle.line_list.proofs.Pieces.{joined, lines-joined}
-use Rattle.hunk_core.specs.declared.Form.{Form}
 use Rattle.hunk_core.specs.PlainHunk.{bytes_at}
 use Rattle.hunk_core.specs.Pieces.{AreInTurn, AreWhole}
-use Rattle.hunk_core.proofs.PieceLemmas.{piece-whole}
 use Rattle.patch_header.specs.Content.{is_dot, has_dot}
-use Rattle.patch_text.specs.Regions.{begins_piece, ends_from, piece_ends}
 use Rattle.patch_filters.specs.Filtered.{text_if, chosen}
-use Rattle.text_joins.proofs.Places.{skip-line, lines-within}
 use Rattle.text_joins.proofs.Quiet.{or-left_no, or-right_no}
 use Rattle.filter_law.specs.LeftPatches.{those}
-
--- ---- spans end where lines do
-
-ends-nil : (form : Form) (at : ℕ) → ends_from form at [] ≡ at ∷ []
-unfolding ends_from
-ends-nil form at = refl
-
-ends-cut : (form : Form) (at : ℕ) (line : List ℕ) (rest : List (List ℕ)) → begins_piece form line ≡ true → ends_from form at (line ∷ rest) ≡ at ∷ ends_from form (at + length line) rest
-unfolding ends_from
-ends-cut form at line rest e = rw e refl
-
-ends-pass : (form : Form) (at : ℕ) (line : List ℕ) (rest : List (List ℕ)) → begins_piece form line ≡ false → ends_from form at (line ∷ rest) ≡ ends_from form (at + length line) rest
-unfolding ends_from
-ends-pass form at line rest e = rw e refl
-
-same-head : (x y : ℕ) (xs ys : List ℕ) → x ∷ xs ≡ y ∷ ys → (x ≡ y) × (xs ≡ ys)
-same-head x y xs ys e = (cc, cc)
-
--- what lies between two places, where whole lines lie between them
-one-whole : (text : List ℕ) (s : Span) (acc : List (List ℕ)) → s.start ≤ s.end → s.end ≤ length text → lines (drop s.start text) ≡ acc ++ lines (drop s.end text) → lines (drop s.start text) ≡ lines (bytes_at text s) ++ lines (drop s.end text)
-one-whole text s acc le high e = piece-whole text s.start s.end acc le high e
-
-module _ (form : Form) (text : List ℕ) (end : ℕ) where
-  spans-whole : (ls rest acc : List (List ℕ)) (at here : ℕ) (ss : List Span) → here ≤ length text → at ≤ here → lines (drop at text) ≡ acc ++ lines (drop here text) → lines (drop here text) ≡ ls ++ rest
-      → AreInTurn at ss end → map (λ s. s.end) ss ≡ ends_from form here ls → AreWhole text ss
-  spans-whole ls rest acc at here [] high le before ahead turn ends = tt
-  spans-whole [] rest acc at here (s ∷ []) high le before ahead turn ends =
-      let is : s.end ≡ here = (same-head s.end here [] [] (ends ∙ ends-nil form here)).0 in
-      let whole = one-whole text s acc (omega (arith, is, le, turn.0)) (omega (arith, is, high)) (ap (λ k. lines (drop k text)) turn.0 ∙ before ∙ ap (λ k. acc ++ lines (drop k text)) (sym is)) in
-      (whole, tt)
-  spans-whole [] rest acc at here (s ∷ t ∷ ss) high le before ahead turn ends = absurd (let e : map (λ (x : Span). x.end) (t ∷ ss) ≡ [] = (same-head s.end here (map (λ x. x.end) (t ∷ ss)) [] (ends ∙ ends-nil form here)).1 in cc)
-  spans-whole (line ∷ ls) rest acc at here (s ∷ ss) high le before ahead turn ends =
-      by (begins_piece form line) refl (spans-whole ls rest (line ∷ []) here (here + length line) ss) (spans-whole ls rest (acc ++ line ∷ []) at (here + length line) (s ∷ ss))
-    where
-      after : lines (drop (here + length line) text) ≡ ls ++ rest
-      after = skip-line text here line (ls ++ rest) ahead
-
-      within : here + length line ≤ length text
-      within = omega (arith, lines-within text here (line ∷ []) (ls ++ rest) high ahead)
-
-      by : (b : Bool) → begins_piece form line ≡ b
-          → (here + length line ≤ length text → here ≤ here + length line → lines (drop here text) ≡ (line ∷ []) ++ lines (drop (here + length line) text) → lines (drop (here + length line) text) ≡ ls ++ rest → AreInTurn here ss end → map (λ s. s.end) ss ≡ ends_from form (here + length line) ls → AreWhole text ss)
-          → (here + length line ≤ length text → at ≤ here + length line → lines (drop at text) ≡ (acc ++ line ∷ []) ++ lines (drop (here + length line) text) → lines (drop (here + length line) text) ≡ ls ++ rest → AreInTurn at (s ∷ ss) end → map (λ s. s.end) (s ∷ ss) ≡ ends_from form (here + length line) ls → AreWhole text (s ∷ ss))
-          → AreWhole text (s ∷ ss)
-      by true b cut pass =
-          let both = same-head s.end here (map (λ x. x.end) ss) (ends_from form (here + length line) ls) (ends ∙ ends-cut form here line ls b) in
-          let is : s.end ≡ here = both.0 in
-          let whole = one-whole text s acc (omega (arith, is, le, turn.0)) (omega (arith, is, high)) (ap (λ k. lines (drop k text)) turn.0 ∙ before ∙ ap (λ k. acc ++ lines (drop k text)) (sym is)) in
-          (whole, cut within (omega arith) (ahead ∙ ap (λ l. line ∷ l) (sym after)) after (subst (λ k. AreInTurn k ss end) is turn.2) both.1)
-      by false b cut pass =
-          pass within (omega (arith, le)) (before ∙ ap (λ l. acc ++ l) (ahead ∙ ap (λ l. line ∷ l) (sym after)) ∙ sym (append_assoc acc (line ∷ []) (lines (drop (here + length line) text)))) after turn (ends ∙ ends-pass form here line ls b)
-
-  pub pieces-whole : (at : ℕ) (ss : List Span) (ls rest : List (List ℕ)) → at ≤ length text → lines (drop at text) ≡ ls ++ rest → AreInTurn at ss end → map (λ s. s.end) ss ≡ piece_ends form at ls → AreWhole text ss
-  pieces-whole at ss [] rest high ahead turn ends = none ss ends
-    where
-      none : (ss : List Span) → map (λ s. s.end) ss ≡ [] → AreWhole text ss
-      none [] e = tt
-      none (s ∷ ss) e = absurd cc
-  pieces-whole at ss (line ∷ ls) rest high ahead turn ends =
-      let after : lines (drop (at + length line) text) ≡ ls ++ rest = skip-line text at line (ls ++ rest) ahead in
-      let within : at + length line ≤ length text = omega (arith, lines-within text at (line ∷ []) (ls ++ rest) high ahead) in
-      spans-whole ls rest (line ∷ []) at (at + length line) ss within (omega arith) (ahead ∙ ap (λ l. line ∷ l) (sym after)) after turn ends
 
 -- ---- the lines of each piece
 

@@ -1,19 +1,18 @@
 -- The spans of the hunks of a file patch that stands in a text.
-use Rattle.std.proofs.Common.{◌≡◌, ◌+◌, ◌-◌, ◌<◌, ◌≤◌, ◌^◌, ℕ, Bool, true, false, cond, List, [], ◌∷◌, ◌++◌, map, length, drop, slice_range, Option, None, Some, refl, sym, ap, subst, ◌∙◌, arith, append_assoc}
+use Rattle.std.proofs.Common.{◌≡◌, ◌+◌, ◌<◌, ◌≤◌, ◌^◌, ℕ, List, [], ◌∷◌, ◌++◌, map, length, drop, slice_range, refl, sym, ap, subst, ◌∙◌, arith, append_assoc}
 use Rattle.std.specs.Prelude.{sum_by}
-use Rattle.std.proofs.lemmas.List.{append-nil, length-drop}
+use Rattle.std.proofs.lemmas.List.{length-drop}
 use Rattle.std.proofs.lemmas.List.Sums.{sum_by-append}
 use Rattle.line_list.specs.Lines.{lines}
 use Rattle.line_list.specs.declared.Span.{Span}
 use Rattle.line_list.proofs.Pieces.{lines-pieces}
 use Rattle.hunk_core.specs.declared.Form.{Form}
 use Rattle.hunk_core.specs.declared.Form.TheVariants.{Unified, Context, Normal, Ed}
-use Rattle.hunk_core.specs.PlainHunk.{Marked, PlainHunk, bytes_at}
+use Rattle.hunk_core.specs.PlainHunk.{Marked, PlainHunk}
 use Rattle.hunk_core.specs.Pieces.{AreInTurn, AreWhole, SpellInTurn}
 use Rattle.hunk_core.proofs.PieceLemmas.{piece-lines}
 use Rattle.unified_form.specs.Grammar as unified
 use Rattle.context_form.specs.declared.range.Stated.{Stated}
-use Rattle.context_form.specs.Presence.{is_there}
 use Rattle.context_form.specs.Grammar as context
 use Rattle.normal_form.specs.Grammar as normal
 use Rattle.ed_form.specs.Grammar as ed

@@ -1,5 +1,5 @@
 -- A file patch of a set that is left is one alone.
-use Rattle.std.proofs.Common.{◌≡◌, ◌⊎◌, inl, inr, ◌+◌, ◌<◌, ◌≤◌, ℕ, Bool, true, false, cond, not, ◌&&◌, ◌||◌, List, [], ◌∷◌, ◌++◌, map, length, drop, slice_range, Option, None, Some, Result, Ok, refl, sym, ap, subst, ◌∙◌, arith, append_assoc}
+use Rattle.std.proofs.Common.{◌≡◌, inl, inr, ◌+◌, ◌<◌, ◌≤◌, ℕ, Bool, true, false, cond, not, ◌&&◌, ◌||◌, List, [], ◌∷◌, ◌++◌, map, length, drop, slice_range, Option, None, Some, refl, sym, ap, subst, ◌∙◌, arith, append_assoc}
 use Rattle.std.specs.Prelude.{is_some, sum_by}
 use Rattle.std.specs.List.{AllByRecursion, list_any}
 use Rattle.std.proofs.lemmas.List.{append-nil}
@@ -14,13 +14,11 @@ use Rattle.ed_form.specs.declared.command.Command.{Command}
 use Rattle.ed_form.specs.Commands.{parts_at, is_command}
 use Rattle.patch_header.specs.Content.{has_dot}
 use Rattle.patch_header.specs.GitHeaders.{is_git_line, is_extended, extended_run, behind_run, git_header, action_of, is_plain, has_names, begins_bare}
-use Rattle.patch_header.specs.GitRows.{led_by}
 use Rattle.patch_header.specs.Openings.{admits, takes_text, asks_dot, begins, opens, stop_at}
-use Rattle.patch_header.specs.Region.{Row, rows}
+use Rattle.patch_header.specs.Region.{rows}
 use Rattle.patch_header.specs.Steps.{AreQuiet, IsFirstOpening, region_of}
 use Rattle.patch_header.specs.declared.header.Header.{Header}
-use Rattle.patch_header.specs.declared.openings.Stop.{Stop}
-use Rattle.patch_header.specs.declared.openings.Stop.TheVariants.{Opening, Binary, Bare}
+use Rattle.patch_header.specs.declared.openings.Stop.TheVariants.{Opening, Bare}
 use Rattle.patch_header.specs.declared.ways.Ways.{Ways}
 use Rattle.patch_header.proofs.Stands.{and_left, and_right, opening-words, bare-words, nothing-words, stop-end}
 use Rattle.patch_header.proofs.GitWords.{all-words}
@@ -89,21 +87,24 @@ unfolding begins_bare
 bare-alone line more h =
     let git : is_git_line line ≡ true = and_left _ _ h in
     let action : not (is_plain (action_of (extended_run more))) ≡ true = and_right (not (has_names (behind_run more))) _ (and_right (is_git_line line) _ h) in
-    let run = run-again more in
-    (git, ap (λ v. v && (not (has_names (behind_run (extended_run more ++ []))) && not (is_plain (action_of (extended_run (extended_run more ++ [])))))) git
-        ∙ ap (λ ls. not (has_names ls) && not (is_plain (action_of (extended_run (extended_run more ++ []))))) run.1
-        ∙ ap (λ ls. not (is_plain (action_of ls))) run.0
-        ∙ action)
+    let run = run-again more in (
+      git,
+      ap (λ v. v && (not (has_names (behind_run (extended_run more ++ []))) && not (is_plain (action_of (extended_run (extended_run more ++ [])))))) git
+          ∙ ap (λ ls. not (has_names ls) && not (is_plain (action_of (extended_run (extended_run more ++ []))))) run.1
+          ∙ ap (λ ls. not (is_plain (action_of ls))) run.0
+          ∙ action,
+    )
 
 bare-again : (ways : Ways) (rest : List (List ℕ)) → stop_at ways rest ≡ Some Bare → LookAlike rest (git_header rest ++ []) × (stop_at ways (git_header rest ++ []) ≡ Some Bare) × (git_header rest ≡ git_header (git_header rest ++ []))
 bare-again ways [] h = absurd (let none : stop_at ways [] ≡ None = stop-end ways in cc)
 bare-again ways (line ∷ more) h =
     let git = (bare-words ways (line ∷ more)).0 h in
     let two = bare-alone line more (and_right ways.git _ git) in
-    let solid = git-solid line two.0 in
-    (solid-alike (line ∷ more) (line ∷ (extended_run more ++ [])) refl refl refl (solid-shows line more solid) (solid-shows line (extended_run more ++ []) solid),
-     (bare-words ways (line ∷ (extended_run more ++ []))).1 (ap (λ v. v && begins_bare (line ∷ (extended_run more ++ []))) (and_left ways.git _ git) ∙ two.1),
-     ap (λ ls. line ∷ ls) (sym (run-again more).0))
+    let solid = git-solid line two.0 in (
+      solid-alike (line ∷ more) (line ∷ (extended_run more ++ [])) refl refl refl (solid-shows line more solid) (solid-shows line (extended_run more ++ []) solid),
+      (bare-words ways (line ∷ (extended_run more ++ []))).1 (ap (λ v. v && begins_bare (line ∷ (extended_run more ++ []))) (and_left ways.git _ git) ∙ two.1),
+      ap (λ ls. line ∷ ls) (sym (run-again more).0),
+    )
 
 -- ---- dots
 
@@ -224,7 +225,7 @@ module _ (j : PlainFilterJob) (ways : Ways) (text : List ℕ) (start number : �
         let k = kept-piece j ways.only text lay.ss h.opening rest next (lines (drop end text)) h.form change (opens-change ways.only h.form rest begins_there) piece lay.pieces any in
         let opened : opens ways.only h.form (body ++ []) ≡ true = ap (λ v. v && begins ways.only h.form (body ++ [])) (and_left (admits ways.only h.form) _ opening) ∙ k.begins_there in
         let quiet_there : AreQuiet ways region (body ++ []) =
-            quiet-alike ways region rest (body ++ []) (form-alike ways.only h.form rest (body ++ []) begins_there k.begins_there) (λ q d. ap has_dot (append-nil body) ∙ (dots-have d).0) (quiet place) in
+        quiet-alike ways region rest (body ++ []) (form-alike ways.only h.form rest (body ++ []) begins_there k.begins_there) (λ q d. ap has_dot (append-nil body) ∙ (dots-have d).0) (quiet place) in
         let alone : IsFilePatch ways (region ++ body) [] (unnumbered patch) = record {
           region = region;
           body = body;
@@ -305,7 +306,7 @@ module _ (j : PlainFilterJob) (ways : Ways) (text : List ℕ) (start number : �
         } in
         let far : start + sum_by length region ≡ h.at = sym opens_there.is_region.ends ∙ place in
         let inside : lines (slice_range text start end) ≡ region ++ git =
-            piece-lines text start end (region ++ git) (omega (arith, far, some)) top (before_it place ∙ ap (λ ls. region ++ ls) (bare-split ∙ ap (λ ls. git ++ ls) (sym bare-behind)) ∙ sym (append_assoc region git (lines (drop end text)))) in
+        piece-lines text start end (region ++ git) (omega (arith, far, some)) top (before_it place ∙ ap (λ ls. region ++ ls) (bare-split ∙ ap (λ ls. git ++ ls) (sym bare-behind)) ∙ sym (append_assoc region git (lines (drop end text)))) in
         record {
           own = region ++ git;
           are_lines = all-join region git (both place).0 bare-lines.0;

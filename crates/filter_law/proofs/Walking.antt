@@ -1,13 +1,11 @@
 -- All file patches that are left, one behind the other.
-use Rattle.std.proofs.Common.{◌≡◌, ◌+◌, ◌<◌, ◌≤◌, ℕ, zero, suc, Bool, true, false, cond, ◌&&◌, List, [], ◌∷◌, ◌++◌, map, length, drop, Option, None, Some, Result, Ok, Err, refl, sym, ap, subst, ◌∙◌, arith}
+use Rattle.std.proofs.Common.{◌≡◌, ◌+◌, ℕ, Bool, true, false, cond, ◌&&◌, List, [], ◌∷◌, ◌++◌, map, length, drop, Ok, refl, sym, ap, subst, ◌∙◌}
 use Rattle.std.specs.Prelude.{filter}
-use Rattle.std.specs.List.{AllByRecursion, flat_map, list_any, range_with_len, zip}
+use Rattle.std.specs.List.{AllByRecursion, flat_map, range_with_len, zip}
 use Rattle.std.proofs.lemmas.List.Concat.{flat_map-cons, flat_map-append}
 use Rattle.line_list.specs.Lines.{lines, IsLine}
 use Rattle.line_list.proofs.Pieces.{joined, pieces-only}
 use Rattle.patch_header.specs.Content.{has_dot}
-use Rattle.patch_header.specs.Openings.{asks_dot}
-use Rattle.patch_header.specs.Steps.{region_of}
 use Rattle.patch_header.specs.declared.ways.Ways.{Ways}
 use Rattle.patch_header.proofs.Stands.{and_right}
 use Rattle.file_patch.specs.PlainPatch.{PlainPatch}
@@ -17,9 +15,9 @@ use Rattle.text_joins.specs.Following.{IsFilePatch}
 use Rattle.text_joins.specs.Joins as joins
 use Rattle.text_joins.specs.Joins.{AddNoDot, BeginCleanly, begin_with_git, Part, all_lines, FitTogether, read_unnumbered}
 use Rattle.text_joins.proofs.Standing.{parts-read}
-use Rattle.filter_law.specs.CleanJoins.{Text, all_bytes, JoinCleanly}
+use Rattle.filter_law.specs.CleanJoins.{Text, all_bytes, FollowCleanly}
 use Rattle.filter_law.proofs.Cutting.{all-both, all-join, all-pieces, dots-join}
-use Rattle.filter_law.proofs.Parts.{LeftPart, Known}
+use Rattle.filter_law.proofs.Parts.{Known}
 
 part-lines : (q : Part) (qs : List Part) → all_lines (q ∷ qs) ≡ q.own ++ all_lines qs
 part-lines q qs = flat_map-cons (λ (x : Part). x.own) q qs
@@ -107,7 +105,7 @@ module _ (A : Type 0) (ways : Ways) (text : List ℕ) (left bare : A → Bool) (
   all-behind : (q : Part) (qs : List Part) → AllByRecursion IsLine (all_lines (q ∷ qs)) → AllByRecursion IsLine (all_lines qs)
   all-behind q qs h = (all-both q.own (all_lines qs) (subst (AllByRecursion IsLine) (part-lines q qs) h)).1
 
-  fit : (qs : List Part) (ns : List (ℕ × A)) → Match qs ns → AllByRecursion (λ (q : Part). IsFilePatch ways q.own [] q.patch) qs → AllByRecursion IsLine (all_lines qs) → AddNoDots ways qs → JoinCleanly (map row ns) → FitTogether ways qs
+  fit : (qs : List Part) (ns : List (ℕ × A)) → Match qs ns → AllByRecursion (λ (q : Part). IsFilePatch ways q.own [] q.patch) qs → AllByRecursion IsLine (all_lines qs) → AddNoDots ways qs → FollowCleanly (map row ns) → FitTogether ways qs
   fit [] ns m alone all apart clean = tt
   fit (q ∷ qs) [] m alone all apart clean = absurd m
   fit (q ∷ qs) (n ∷ ns) m alone all apart clean =
@@ -132,7 +130,7 @@ module _ (A : Type 0) (ways : Ways) (text : List ℕ) (left bare : A → Bool) (
       by true false e more = flat_map-cons (λ (x : ℕ × A). written x.1) n (filter taken ns) ∙ ap (λ bs. bs ++ flat_map (λ (x : ℕ × A). written x.1) (filter taken ns)) (none n.1 e) ∙ more
       by false l e more = more
 
-  pub chain-reads : (all : List A) → Chain 0 all → ((a : A) → left a ≡ false → written a ≡ []) → JoinCleanly (map row (filter test (numbered all)))
+  pub chain-reads : (all : List A) → Chain 0 all → ((a : A) → left a ≡ false → written a ≡ []) → FollowCleanly (map row (filter test (numbered all)))
       → read_unnumbered ways (flat_map (λ (n : ℕ × A). written n.1) (filter taken (numbered all))) ≡ Ok (map unnumbered (map (λ (n : ℕ × A). patch n.1) (filter test (numbered all))))
   chain-reads all c none clean =
       let w = walk 1 0 all c in

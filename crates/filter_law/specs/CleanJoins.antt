@@ -24,9 +24,9 @@ abbrev pub all_bytes : List Text → List ℕ
 all_bytes ts = flat_map (λ t. t.bytes) ts
 
 -- what is written behind each begins cleanly, and with a git line behind a bare git header; behind the last there is nothing
-abbrev pub JoinCleanly : List Text → Type 0
-JoinCleanly [] = Unit {0}
-JoinCleanly (t ∷ ts) = BeginCleanly (lines (all_bytes ts)) × (t.bare ≡ true → begin_with_git (lines (all_bytes ts)) ≡ true) × JoinCleanly ts
+abbrev pub FollowCleanly : List Text → Type 0
+FollowCleanly [] = Unit {0}
+FollowCleanly (t ∷ ts) = BeginCleanly (lines (all_bytes ts)) × (t.bare ≡ true → begin_with_git (lines (all_bytes ts)) ≡ true) × FollowCleanly ts
 
 -- what is written of each file patch that is left
 abbrev pub text_of : PlainFilterJob → List ℕ → ℕ × FilePatch → Text
@@ -37,14 +37,14 @@ texts_of j v = map (text_of j v.text) (left_of j v)
 
 -- the joins of what is written are clean
 abbrev pub AreCleanJoins : PlainFilterJob → SetView → Type 0
-AreCleanJoins j v = JoinCleanly (texts_of j v)
+AreCleanJoins j v = FollowCleanly (texts_of j v)
 
 -- the same, told by the text alone
 abbrev pub spot_text : PlainFilterJob → List ℕ → ℕ × Spot → Text
 spot_text j text n = record { bare = n.1.0.header.bare; bytes = spot_written j text n.1 }
 
 abbrev pub AreCleanJoinsIn : PlainFilterJob → List ℕ → Type 0
-AreCleanJoinsIn j text = JoinCleanly (map (spot_text j (completed text)) (left_spots j text))
+AreCleanJoinsIn j text = FollowCleanly (map (spot_text j (completed text)) (left_spots j text))
 
 -- then what was written of a set, read in the ways in which the set was read, is the file patches that are left, line numbers aside
 abbrev pub ReadsAsLeft : Type 0

@@ -42,7 +42,7 @@ tail-bytes text mark r s = by (after mark (content r.line)) refl
         let size : length (content r.line) ≡ length mark + length rest = ap length is ∙ length-append mark rest in
         let width : (r.start + length (content r.line)) - (r.start + length mark) ≡ length rest = omega (arith, size) in
         let front : take (length (content r.line)) (drop r.start text) ≡ content r.line =
-            sym (take-take (length (content r.line)) (length r.line) (drop r.start text) short) ∙ ap (take (length (content r.line))) s.bytes ∙ content-front r.line in
+        sym (take-take (length (content r.line)) (length r.line) (drop r.start text) short) ∙ ap (take (length (content r.line))) s.bytes ∙ content-front r.line in
         ap (λ n. take n (drop (r.start + length mark) text)) width
         ∙ take-inside text (content r.line) r.start (length (content r.line)) (length mark) (length rest) front (omega (arith, size))
         ∙ ap (λ bs. take (length rest) (drop (length mark) bs)) is
@@ -127,7 +127,7 @@ behind-blanks text t size short =
     let low : k ≤ length bytes = first-short (λ b. not (is_blank b)) bytes in
     let n : size (unblanked bytes) ≤ length (unblanked bytes) = short (unblanked bytes) in
     span-bytes text bytes t.start (t.end - t.start) k (size (unblanked bytes)) refl
-        (omega (arith, low, n, length-drop k bytes, length-take (t.end - t.start) (drop t.start text)))
+    (omega (arith, low, n, length-drop k bytes, length-take (t.end - t.start) (drop t.start text)))
 
 name-bytes : (text : List ℕ) (o : Option Tail) → bytes_in text (name_in text o) ≡ name_said (option_map (bytes_of text) o)
 name-bytes text None = refl

@@ -33,8 +33,19 @@ use Rattle.text_joins.proofs.LedLines.{led-is, led-all}
 
 abbrev plain : Form → Bool → Option (List ℕ) → Option (List ℕ) → Option (List ℕ) → Option (List ℕ) → Stamp → Stamp → Action → Option (List ℕ) → Option (List ℕ) → PlainHeader
 plain form bare old new index prereq old_stamp new_stamp action from to = record {
-  form = form; opening = 0; names_line = 0; old_name = old; new_name = new; index = index; prereq = prereq;
-  old_stamp = old_stamp; new_stamp = new_stamp; action = action; bare = bare; from = from; to = to;
+  form = form;
+  opening = 0;
+  names_line = 0;
+  old_name = old;
+  new_name = new;
+  index = index;
+  prereq = prereq;
+  old_stamp = old_stamp;
+  new_stamp = new_stamp;
+  action = action;
+  bare = bare;
+  from = from;
+  to = to;
 }
 
 same-parts : (form : Form) (bare : Bool) (a a' b b' c c' d d' : Option (List ℕ)) (s s' t t' : Stamp) (x x' : Action) (f f' g g' : Option (List ℕ)) → a ≡ a' → b ≡ b' → c ≡ c' → d ≡ d' → s ≡ s' → t ≡ t' → x ≡ x' → f ≡ f' → g ≡ g'
@@ -108,16 +119,16 @@ bare-said text place number line at region git_line more all e =
     let rest : git.git_rest number place (lines (drop place text)) ≡ git.git_rest number place (git_line ∷ more) = ap (git.git_rest number place) e in
     let extended : git.extended_rows number place (lines (drop place text)) ≡ es = ap (git.extended_rows number place) e in
     let old : bytes_in text (git.old_half text (git.git_rest number place (lines (drop place text)))) ≡ said.old_half (behind (codes "diff --git ") git_line) =
-        ap (λ o. bytes_in text (git.old_half text o)) rest ∙ old-half text (git.git_rest number place (git_line ∷ more)) ∙ ap said.old_half (git-bytes text number place git_line more e) in
+    ap (λ o. bytes_in text (git.old_half text o)) rest ∙ old-half text (git.git_rest number place (git_line ∷ more)) ∙ ap said.old_half (git-bytes text number place git_line more e) in
     let new : bytes_in text (git.new_half text (git.git_rest number place (lines (drop place text)))) ≡ said.new_half (behind (codes "diff --git ") git_line) =
-        ap (λ o. bytes_in text (git.new_half text o)) rest ∙ new-half text (git.git_rest number place (git_line ∷ more)) ∙ ap said.new_half (git-bytes text number place git_line more e) in
+    ap (λ o. bytes_in text (git.new_half text o)) rest ∙ new-half text (git.git_rest number place (git_line ∷ more)) ∙ ap said.new_half (git-bytes text number place git_line more e) in
     let index : bytes_in text (name_in text (last_tail (codes "Index:") rs)) ≡ name_said (last_behind (codes "Index:") region) = name-said text rs all (codes "Index:") ∙ ap (λ l. name_said (last_behind (codes "Index:") l)) ls in
     let prereq : bytes_in text (word_in text (last_tail (codes "Prereq:") rs)) ≡ word_said (last_behind (codes "Prereq:") region) = word-said text rs all (codes "Prereq:") ∙ ap (λ l. word_said (last_behind (codes "Prereq:") l)) ls in
     let action : action_of (git.lines_of (git.extended_rows number place (lines (drop place text)))) ≡ action_of (extended_run more) = ap (λ r. action_of (git.lines_of r)) extended ∙ ap action_of lines_are in
     let from : bytes_in text (git.from_in (git.extended_rows number place (lines (drop place text)))) ≡ from_by (action_of (extended_run more)) (extended_run more) =
-        ap (λ r. bytes_in text (git.from_in r)) extended ∙ from-said text es those ∙ ap (λ l. from_by (action_of l) l) lines_are in
+    ap (λ r. bytes_in text (git.from_in r)) extended ∙ from-said text es those ∙ ap (λ l. from_by (action_of l) l) lines_are in
     let to : bytes_in text (git.to_in (git.extended_rows number place (lines (drop place text)))) ≡ to_by (action_of (extended_run more)) (extended_run more) =
-        ap (λ r. bytes_in text (git.to_in r)) extended ∙ to-said text es those ∙ ap (λ l. to_by (action_of l) l) lines_are in
+    ap (λ r. bytes_in text (git.to_in r)) extended ∙ to-said text es those ∙ ap (λ l. to_by (action_of l) l) lines_are in
     same-parts Unified true _ _ _ _ _ _ _ _ _ _ _ _ _ _ _ _ _ _ old new index prereq refl refl action from to
 
 -- ---- both

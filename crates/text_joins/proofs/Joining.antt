@@ -32,7 +32,7 @@ use Rattle.text_joins.specs.Said.{header_said, bare_header}
 use Rattle.text_joins.specs.Following.{Spell, IsFilePatch, AreFilePatches}
 use Rattle.text_joins.specs.Joins.{begin_with, begin_with_git, BeginCleanly, JoinCleanly, Part, all_lines, FitTogether}
 use Rattle.text_joins.proofs.Quiet.{LookAlike, quiet-alike}
-use Rattle.text_joins.proofs.Solid.{IsSolid, form-front, front-solid, git-solid, ShowsSolid, solid-shows, solid-alike}
+use Rattle.text_joins.proofs.Solid.{IsSolid, form-front, front-solid, git-solid, solid-shows, solid-alike}
 use Rattle.text_joins.proofs.Spelling.{backslash-none, context-hunks, edits-joined}
 
 -- ---- the change
@@ -99,10 +99,6 @@ stop-solid : (ways : Ways) (line : List ℕ) (more : List (List ℕ)) (stop : St
 stop-solid ways line more (Opening form) h other = front-solid line (form-front ways.only form line more (and_right (admits ways.only form) _ ((opening-words ways form (line ∷ more)).0 h)))
 stop-solid ways line more Bare h other = git-solid line (bare-git line more (and_right ways.git _ ((bare-words ways (line ∷ more)).0 h)))
 stop-solid ways line more Binary h other = absurd (other refl)
-
-pub spell-shows : (ways : Ways) (body others : List (List ℕ)) (stop : Stop) (change : PlainChange) → stop_at ways (body ++ others) ≡ Some stop → Spell stop body others change → ShowsSolid (body ++ others)
-spell-shows ways [] others stop change h s = let some = body-some ways [] others stop change h s in absurd (let e : [] ≡ some.0 ∷ some.1 = some.2 in cc)
-spell-shows ways (line ∷ more) others stop change h s = solid-shows line (more ++ others) (stop-solid ways line (more ++ others) stop h (not-binary stop (line ∷ more) others change s))
 
 -- ---- an opening in front of others
 

@@ -9,3 +9,4 @@ pub mod Headers
 pub mod Standing
 pub mod Finding
 pub mod Reading
+pub mod Worked

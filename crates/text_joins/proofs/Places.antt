@@ -20,10 +20,10 @@ pub skip-lines : (text : List ℕ) (at : ℕ) (own rest : List (List ℕ)) → l
 skip-lines text at own rest e =
     let width : sum_by length own ≡ length (joined own) = sym (length-flat_map (λ (line : List ℕ). line) own) in
     let left : drop (at + sum_by length own) text ≡ joined rest =
-        sym (drop-drop (sum_by length own) at text)
-        ∙ ap (drop (sum_by length own)) (bytes-are text at own rest e)
-        ∙ ap (λ n. drop n (joined own ++ joined rest)) width
-        ∙ drop-append_seam (joined own) (joined rest) in
+    sym (drop-drop (sum_by length own) at text)
+    ∙ ap (drop (sum_by length own)) (bytes-are text at own rest e)
+    ∙ ap (λ n. drop n (joined own ++ joined rest)) width
+    ∙ drop-append_seam (joined own) (joined rest) in
     ap lines left ∙ pieces-only rest (pieces-last own rest (subst ArePieces e (lines-pieces (drop at text))))
 
 pub skip-line : (text : List ℕ) (at : ℕ) (line : List ℕ) (rest : List (List ℕ)) → lines (drop at text) ≡ line ∷ rest → lines (drop (at + length line) text) ≡ rest
@@ -59,9 +59,9 @@ take-inside text bytes at most k n e le =
     let width : most ≡ k + (n + (most - (k + n))) = omega (arith, le) in
     let rest = most - (k + n) in
     let all : drop k bytes ≡ take (n + rest) (drop (at + k) text) =
-        ap (drop k) (sym e)
-        ∙ ap (λ m. drop k (take m (drop at text))) width
-        ∙ drop-take k (n + rest) (drop at text)
-        ∙ ap (take (n + rest)) (drop-drop k at text) in
+    ap (drop k) (sym e)
+    ∙ ap (λ m. drop k (take m (drop at text))) width
+    ∙ drop-take k (n + rest) (drop at text)
+    ∙ ap (take (n + rest)) (drop-drop k at text) in
     let short : n ≤ n + rest = omega arith in
     sym (ap (take n) all ∙ take-take n (n + rest) (drop (at + k) text) short)

@@ -61,9 +61,6 @@ starts-front b n mark line e h = content-front line n (after-front b mark (conte
 abbrev Letter : ℕ → Type 0
 Letter b = 99 ≤ b
 
-abbrev IsLow : ℕ → Type 0
-IsLow b = b < 99
-
 or-three : {A : Type 0} (u v w : Bool) → (u || (v || w)) ≡ true → (u ≡ true → A) → (v ≡ true → A) → (w ≡ true → A) → A
 or-three true v w h a b c = a refl
 or-three false true w h a b c = b refl

@@ -143,7 +143,7 @@ opened ways text place number end next rs (Opening form) body others change ahea
     let size : length body ≡ length p.own = omega (arith, p.counted) in
     let here : IsPiece form number (p.own ++ others) change next others = p.anywhere number next (counted ∙ ap (λ n. number + n) size) in
     let there : IsPiece form number (lines (drop place text)) change next (lines (drop end text)) =
-        subst (λ (ls : List (List ℕ)). IsPiece form number ls change next (lines (drop end text))) (sym (ahead ∙ p.parts)) (subst (λ (ls : List (List ℕ)). IsPiece form number (p.own ++ others) change next ls) (sym left) here) in
+    subst (λ (ls : List (List ℕ)). IsPiece form number ls change next (lines (drop end text))) (sym (ahead ∙ p.parts)) (subst (λ (ls : List (List ℕ)). IsPiece form number (p.own ++ others) change next ls) (sym left) here) in
     record {
       header = header_with text form place number rs (led_by ways form rs);
       says = refl;
