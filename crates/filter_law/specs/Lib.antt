@@ -1,0 +1,2 @@
+pub mod LeftPatches
+pub mod CleanJoins

@@ -1,0 +1,12 @@
+pub mod Quiet
+pub mod Solid
+pub mod Spelling
+pub mod Joining
+pub mod Places
+pub mod HeaderLines
+pub mod LedLines
+pub mod Headers
+pub mod Standing
+pub mod Finding
+pub mod Reading
+pub mod Worked
