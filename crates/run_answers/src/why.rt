@@ -1,13 +1,14 @@
 //! The answers of a run.
 
 ghost use Rattle.std.specs.Prelude.{◌≡◌};
-ghost use Rattle.patch_cli.specs.Answers.{of_words, of_input, of_set, of_run};
+ghost use Rattle.run_answers.specs.Answers.{exit_status, is_ended, of_words, of_input, of_set, of_run};
 
 use hunk_core::BadKind;
 use patch_effects::RunFault;
 use patch_input::InputFault;
 use patch_options::WordFault;
 use patch_set::SetFault;
+use series_stack::StateFile;
 
 /// Why a run ends. Lines are numbered from 1, and lengths are in bytes.
 #[derive(Clone, Copy, Debug, PartialEq, Eq)]
@@ -36,6 +37,18 @@ pub enum Why {
     LongLine { line: u64, length: u64 },
     /// A file to be patched has 2^40 bytes or more.
     FileTooLong { length: u64 },
+    /// The pattern can't be read.
+    BadPattern,
+    /// The patch hasn't the lines that a form shows.
+    NoContext { line: u64 },
+    /// The patch can't be written in a form.
+    Unfit { line: u64 },
+    /// A file of the stack isn't of its form.
+    BadState { file: StateFile },
+    /// All patches of the stack are applied, or none is to be taken back.
+    StackEnd { applied: u32 },
+    /// A file that would be written is one of the stack's own; the line is the opening of its file patch.
+    StackName { line: u64 },
     /// Standard input failed.
     ReadFault,
     /// Standard output failed.
@@ -48,8 +61,31 @@ pub enum Why {
     Disagree { want: u64, got: u64 },
     /// Memory ran out.
     Memory,
-    /// A tool that isn't built yet.
+    /// What isn't built yet.
     Unsupported,
+}
+
+impl Why {
+    /// The exit status: 0 for `Done`, 1 for `Rejected`, else 2.
+    pub fn status(self) -> u8
+        ensures { result ≡ exit_status self }
+    {
+        match self {
+            Why::Done => 0,
+            Why::Rejected => 1,
+            _ => 2,
+        }
+    }
+
+    /// Whether every file patch had its turn.
+    pub fn is_ended(self) -> bool
+        ensures { result ≡ is_ended self }
+    {
+        match self {
+            Why::Done | Why::Rejected => true,
+            _ => false,
+        }
+    }
 }
 
 impl From<WordFault> for Why {

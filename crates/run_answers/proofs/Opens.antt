@@ -4,7 +4,7 @@ use Rattle.outside.specs.Files.{Files}
 use Rattle.outside.specs.TreeView.{TreeView, IsCall, MayLeave, LeftSince, passes_none, passes_both}
 use Rattle.outside.specs.Calls.{IsUntouched, LeavesNoMore}
 use Rattle.outside.proofs.Views.{since_call, since_split}
-use Rattle.patch_cli.specs.Opening.{Opens}
+use Rattle.run_answers.specs.Moments.{Opens}
 
 at_now : (u : TreeView) (c : Files) → LeftSince u u.moment c → MayLeave u c
 at_now u c (k, from, to, left) = let e : k ≡ u.moment = omega (arith, from, to) in subst (λ n. u.left_at n c) e left

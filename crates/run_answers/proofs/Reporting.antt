@@ -5,9 +5,9 @@ use Rattle.std.specs.declared.string.String.{String}
 use Rattle.std.proofs.lemmas.Option.{same_Some}
 use Rattle.outside.specs.SinkView.{SinkView, IsSinkCall, Receives, ReceivesPart, Writes}
 use Rattle.outside.proofs.Writing.{received_part, writes_stop, writes_then, writes_is, writes_none}
-use Rattle.patch_cli.specs.declared.why.Why.{Why}
-use Rattle.patch_cli.specs.Answers.{is_ended}
-use Rattle.patch_cli.specs.Reasons.{refusal_line, tool_of, reason_of}
+use Rattle.run_answers.specs.declared.why.Why.{Why}
+use Rattle.run_answers.specs.Answers.{is_ended}
+use Rattle.run_answers.specs.Reasons.{refusal_line, tool_of, reason_of}
 
 -- a first part that failed
 pub stop_all : {R S E D : Type 0} {a b : SinkView} (e : E) (s : Result S D) (p q : List ℕ) → IsErr s → IsSinkCall {R = R} a b (Err e) → ReceivesPart a b p → Writes a b s (p ++ q)

@@ -7,7 +7,7 @@ use Rattle.outside.specs.Quiet.{Effect, after, after_all}
 use Rattle.outside.specs.Quiet.Effect.{Put, Remove}
 use Rattle.outside.proofs.Names.{equal_or_not, get-put, get-put_other, get-gone, get-gone_other}
 use Rattle.outside.proofs.Effects.{insert-after_put}
-use Rattle.patch_cli.specs.Carries.{Makes, IsAfterPrefix, HoldsOldOrNew}
+use Rattle.run_answers.specs.Moments.{Makes, IsAfterPrefix, HoldsOldOrNew}
 
 -- one effect makes something of its own name alone
 after-one : (e : Effect) (f : Files) (q : List ℕ) → is_temp q ≡ false → (get (after e f) q ≡ get f q) ⊎ Makes e q (get (after e f) q)

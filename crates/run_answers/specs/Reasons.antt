@@ -1,14 +1,13 @@
 -- The line of an answer on standard error.
-use Rattle.std.specs.Prelude.{ℕ, List, [], ◌∷◌, ◌++◌, codes, Bool, if◌then◌else◌, bytes_eq, Option, None, Some}
-use Rattle.std.specs.List.{list_any}
+use Rattle.std.specs.Prelude.{ℕ, List, [], ◌∷◌, ◌++◌, codes, Bool, true, if◌then◌else◌, bytes_eq, Option, None, Some, is_some}
 use Rattle.num_text.specs.Numbers.{decimal}
 use Rattle.hunk_core.specs.declared.BadKind.{BadKind}
 use Rattle.hunk_core.specs.declared.BadKind.TheVariants.{Range, Mark, Count, ShortEnd, NumberTooLarge, SidesDiffer, MisplacedBackslash, EdCommand, EdOrder, EdNoDot, Binary, HunkOrder}
-use Rattle.patch_options.specs.Words.{other_tools}
-use Rattle.patch_cli.specs.declared.report.Reason.{Reason}
-use Rattle.patch_cli.specs.Answers.{is_ended}
-use Rattle.patch_cli.specs.declared.why.Why.{Why}
-use Rattle.patch_cli.specs.declared.why.Why.TheVariants.{Done, Rejected, Usage, Malformed, Garbage, EdReverse, OutMany, Reserved, NoPatchFile, TooLong, LongLine, FileTooLong, ReadFault, WriteFault, TreeFault, ScratchFault, Disagree, Memory, Unsupported}
+use Rattle.tool_words.specs.Tools.{tool_named}
+use Rattle.run_answers.specs.declared.report.Reason.{Reason}
+use Rattle.run_answers.specs.Answers.{is_ended}
+use Rattle.run_answers.specs.declared.why.Why.{Why}
+use Rattle.run_answers.specs.declared.why.Why.TheVariants.{Done, Rejected, Usage, Malformed, Garbage, EdReverse, OutMany, Reserved, NoPatchFile, TooLong, LongLine, FileTooLong, BadPattern, NoContext, Unfit, BadState, StackEnd, StackName, ReadFault, WriteFault, TreeFault, ScratchFault, Disagree, Memory, Unsupported}
 
 abbrev pub kind_text : BadKind → List ℕ
 kind_text Range = codes "a bad range"
@@ -38,6 +37,12 @@ reason_of NoPatchFile = codes "Can't find the patch file"
 reason_of TooLong = codes "the patch is too long"
 reason_of (LongLine line length) = codes "line " ++ (decimal line ++ (codes " has " ++ (decimal length ++ codes " bytes, more than the buffer holds")))
 reason_of (FileTooLong length) = codes "a file of " ++ (decimal length ++ codes " bytes is too long")
+reason_of BadPattern = codes "the pattern can't be read"
+reason_of (NoContext line) = codes "the patch at line " ++ (decimal line ++ codes " lacks what the form shows")
+reason_of (Unfit line) = codes "the patch at line " ++ (decimal line ++ codes " doesn't fit the form")
+reason_of (BadState file) = codes "the stack's state can't be read"
+reason_of (StackEnd applied) = decimal applied ++ codes " patches are applied, nothing to do"
+reason_of (StackName line) = codes "a name of the stack at line " ++ decimal line
 reason_of ReadFault = codes "read fault"
 reason_of WriteFault = codes "write fault"
 reason_of TreeFault = codes "tree fault"
@@ -46,9 +51,9 @@ reason_of (Disagree want got) = decimal want ++ (codes " expected, " ++ (decimal
 reason_of Memory = codes "out of memory"
 reason_of Unsupported = codes "not supported yet"
 
--- a word that is a tool
+-- a word that is a tool: `patch`, or one of the others
 abbrev pub is_tool : List ℕ → Bool
-is_tool word = list_any (bytes_eq word) (codes "patch" ∷ other_tools)
+is_tool word = if bytes_eq word (codes "patch") then true else is_some (tool_named word)
 
 -- the tool's name in a message
 abbrev pub tool_of : List (List ℕ) → List ℕ

@@ -2,13 +2,14 @@
 ghost use Rattle.std.specs.Prelude.{◌≡◌, ◌++◌, ◌∷◌, [], ℕ, List, true, map, codes, string_bytes};
 ghost use Rattle.std.specs.Option.{option_copied};
 ghost use Rattle.outside.specs.SinkView.{Writes};
-ghost use Rattle.patch_cli.specs.Answers.{is_ended};
-ghost use Rattle.patch_cli.specs.Reasons.{refusal_line, tool_of, reason_of, kind_text, decimal_if, text_of, behind_front, behind_first, behind_middle};
+ghost use Rattle.run_answers.specs.Answers.{is_ended};
+ghost use Rattle.run_answers.specs.Reasons.{refusal_line, is_tool, tool_of, reason_of, kind_text, decimal_if, text_of, behind_front, behind_first, behind_middle};
 
 use crate::why::Why;
 use hunk_core::BadKind;
 use num_text::put_number;
 use outside::{Failed, Sink, put_all};
+use tool_words::tool_named;
 
 /// The words of a message: texts, and the numbers between them.
 #[derive(Clone, Copy)]
@@ -26,20 +27,11 @@ pub fn report<E: Sink>(err: &mut E, words: &[String], why: Why) -> Result<(), Fa
     ensures still { is_ended why ≡ true → err.new ≡ err.old }
     ensures rest { E.same_rest err.old err.new }
 {
-    if is_ended(why) {
+    if why.is_ended() {
         return Ok(());
     }
     put_all(err, tool_of(words))?;
     put_behind_tool(err, why)
-}
-
-fn is_ended(why: Why) -> bool
-    ensures { result ≡ is_ended why }
-{
-    match why {
-        Why::Done | Why::Rejected => true,
-        _ => false,
-    }
 }
 
 /// The tool's name in a message.
@@ -56,11 +48,20 @@ fn tool_of(words: &[String]) -> &[u8]
 fn named_tool(word: &str) -> &[u8]
     ensures { result.now ≡ tool_of (word.now ∷ []) }
 {
-    match word {
-        "patch" | "lsdiff" | "filterdiff" | "grepdiff" | "splitdiff" | "recountdiff" | "patchgen" =>
-            { word.as_bytes() }
-        _ => b"patchkit",
+    if is_tool(word) {
+        word.as_bytes()
+    } else {
+        b"patchkit"
     }
+}
+
+fn is_tool(word: &str) -> bool
+    ensures { result ≡ is_tool word.now }
+{
+    if word == "patch" {
+        return true;
+    }
+    tool_named(word).is_some()
 }
 
 fn put_behind_tool<E: Sink>(err: &mut E, why: Why) -> Result<(), Failed>
@@ -111,6 +112,24 @@ fn reason_of(why: Why) -> Reason
         Why::FileTooLong { length } => {
             numbered(b"a file of ", length, b"", b" bytes is too long")
         }
+        Why::BadPattern => plain(b"the pattern can't be read"),
+        Why::NoContext { line } => numbered(
+            b"the patch at line ",
+            line,
+            b"",
+            b" lacks what the form shows",
+        ),
+        Why::Unfit { line } => {
+            numbered(b"the patch at line ", line, b"", b" doesn't fit the form")
+        }
+        Why::BadState { file: _ } => plain(b"the stack's state can't be read"),
+        Why::StackEnd { applied } => numbered(
+            b"",
+            u64::from(applied),
+            b"",
+            b" patches are applied, nothing to do",
+        ),
+        Why::StackName { line } => numbered(b"a name of the stack at line ", line, b"", b""),
         Why::ReadFault => plain(b"read fault"),
         Why::WriteFault => plain(b"write fault"),
         Why::TreeFault => plain(b"tree fault"),
