@@ -40,15 +40,8 @@ use Rattle.patch_cli.specs.Finishes as finishes
 use Rattle.run_answers.specs.Moments.{Opens}
 use Rattle.patch_cli.specs.Opening.{IsAsked, StopsBy, StopsEarly}
 use Rattle.patch_cli.specs.Carries.{IsAnswer, FirstPart, Answers, IsAsAtEntry, Untouched, QuietAfter, IsBehindReading, IsEnd, HasReceipt, HasRead, Heeds, IsCut, BreaksOff, LeavesAllowed, Carries, NoneFailed, IsComplete}
-use Rattle.run_answers.proofs.Opens.{opens_both, opens_untouched}
+use Rattle.run_answers.proofs.Opens.{opens_both, opens_untouched, tidy_same, tidy_behind}
 use Rattle.patch_cli.proofs.Asked.{tells_input, carried-match, cut-match}
-
--- a tree that is told the same has no other temporary
-tidy_same : (u w : TreeView) → w.told ≡ u.told → IsTidy u w
-tidy_same u w told f g was now q temp = inr (ap (λ (x : Files). get x q) (same_Some _ _ (sym now ∙ told ∙ was)))
-
-tidy_behind : (u v w : TreeView) → v.told ≡ u.told → IsTidy v w → IsTidy u w
-tidy_behind u v w told tidy f g was now q temp = tidy f g (told ∙ was) now q temp
 
 -- ---- an end before the first change
 no_receipt : (why : Why) (job : Result PlainJob WordFault) (u : World) → StopsBy (sort_of why) why job u → HasReceipt why None

@@ -1,3 +1,3 @@
 pub mod Opens
 pub mod Names
-pub mod Reporting
+pub mod Writes

@@ -1,9 +1,12 @@
 -- Steps that leave the tree as it is told.
-use Rattle.std.proofs.Common.{◌≡◌, ⊎_elim, Result, refl, ◌∙◌, subst, arith}
+use Rattle.std.proofs.Common.{◌≡◌, inr, ⊎_elim, Result, refl, sym, ◌∙◌, ap, subst, arith}
+use Rattle.std.proofs.lemmas.Option.{same_Some}
+use Rattle.std.specs.FinMap.{get}
 use Rattle.outside.specs.Files.{Files}
 use Rattle.outside.specs.TreeView.{TreeView, IsCall, MayLeave, LeftSince, passes_none, passes_both}
 use Rattle.outside.specs.Calls.{IsUntouched, LeavesNoMore}
 use Rattle.outside.proofs.Views.{since_call, since_split}
+use Rattle.patch_effects.specs.Making.{IsTidy}
 use Rattle.run_answers.specs.Moments.{Opens}
 
 at_now : (u : TreeView) (c : Files) → LeftSince u u.moment c → MayLeave u c
@@ -35,3 +38,10 @@ opens_untouched {u = u} {w = w} same = record {
   told = same.told;
   images = λ c left. at_now u c ((same.since u.moment c (omega arith)).0 left);
 }
+
+-- a tree that is told the same has no other temporary
+pub tidy_same : (u w : TreeView) → w.told ≡ u.told → IsTidy u w
+tidy_same u w told f g was now q temp = inr (ap (λ (x : Files). get x q) (same_Some _ _ (sym now ∙ told ∙ was)))
+
+pub tidy_behind : (u v w : TreeView) → v.told ≡ u.told → IsTidy v w → IsTidy u w
+tidy_behind u v w told tidy f g was now q temp = tidy f g (told ∙ was) now q temp

@@ -50,6 +50,16 @@ is_fault TreeFault = true
 is_fault ScratchFault = true
 is_fault why = false
 
+-- the command's own answer: no device failed, no two numbers differ, and memory didn't run out
+abbrev pub is_own : Why → Bool
+is_own ReadFault = false
+is_own WriteFault = false
+is_own TreeFault = false
+is_own ScratchFault = false
+is_own (Disagree want got) = false
+is_own Memory = false
+is_own why = true
+
 -- every file patch had its turn
 abbrev pub is_ended : Why → Bool
 is_ended Done = true

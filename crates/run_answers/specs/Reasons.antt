@@ -4,7 +4,7 @@ use Rattle.num_text.specs.Numbers.{decimal}
 use Rattle.hunk_core.specs.declared.BadKind.{BadKind}
 use Rattle.hunk_core.specs.declared.BadKind.TheVariants.{Range, Mark, Count, ShortEnd, NumberTooLarge, SidesDiffer, MisplacedBackslash, EdCommand, EdOrder, EdNoDot, Binary, HunkOrder}
 use Rattle.tool_words.specs.Tools.{tool_named}
-use Rattle.run_answers.specs.declared.report.Reason.{Reason}
+use Rattle.run_answers.specs.declared.reporting.Reason.{Reason}
 use Rattle.run_answers.specs.Answers.{is_ended}
 use Rattle.run_answers.specs.declared.why.Why.{Why}
 use Rattle.run_answers.specs.declared.why.Why.TheVariants.{Done, Rejected, Usage, Malformed, Garbage, EdReverse, OutMany, Reserved, NoPatchFile, TooLong, LongLine, FileTooLong, BadPattern, NoContext, Unfit, BadState, StackEnd, StackName, ReadFault, WriteFault, TreeFault, ScratchFault, Disagree, Memory, Unsupported}

@@ -1,7 +1,7 @@
 use Rattle.std.proofs.Common.{[], ◌∷◌}
 use Rattle.outside.proofs.Writing.{writes_stop, writes_then, writes_is}
 use Rattle.run_answers.specs.Reasons.{reason_of}
-use Rattle.run_answers.proofs.report.put_to_end.Goals as goal
+use Rattle.run_answers.proofs.reporting.put_to_end.Goals as goal
 
 pub returns-in_err-put_reason-clause-writes : goal.returns-in_err-put_reason-clause-writes
 returns-in_err-put_reason-clause-writes g c = writes_stop c.in_err-put_reason.field-0.0 c.from_residual.result (10 ∷ []) c.from_residual.ensures.0

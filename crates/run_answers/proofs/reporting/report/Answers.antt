@@ -1,7 +1,7 @@
 use Rattle.std.proofs.Common.{[], ◌∷◌, ◌++◌, codes, map, string_bytes, sym, ◌∙◌}
 use Rattle.run_answers.specs.Reasons.{reason_of}
-use Rattle.run_answers.proofs.Reporting.{stop_all, then_all, behind_tool, no_line}
-use Rattle.run_answers.proofs.report.report.Goals as goal
+use Rattle.run_answers.proofs.Writes.{stop_all, then_all, behind_tool, no_line}
+use Rattle.run_answers.proofs.reporting.report.Goals as goal
 
 pub returns-then-is_ended-clause-writes : goal.returns-then-is_ended-clause-writes
 returns-then-is_ended-clause-writes g c = no_line _ _ (map string_bytes c.args.words.now) c.args.why (sym c.is_ended.ensures ∙ c.if-is_ended.true)

@@ -1,5 +1,5 @@
 use Rattle.outside.proofs.Writing.{writes_stop, writes_then}
-use Rattle.run_answers.proofs.report.put_behind_middle.Goals as goal
+use Rattle.run_answers.proofs.reporting.put_behind_middle.Goals as goal
 
 pub returns-in_err-put_decimal-clause-writes : goal.returns-in_err-put_decimal-clause-writes
 returns-in_err-put_decimal-clause-writes g c = writes_stop c.in_err-put_decimal.field-0.0 c.from_residual.result c.args.reason.now.end.now c.from_residual.ensures.0 c.in_err-put_decimal.ensures.writes

@@ -1,0 +1,5 @@
+pub mod Whole
+pub mod Behind
+pub mod Sifters
+pub mod Sifted
+pub mod Split
