@@ -9,7 +9,7 @@
 RT ?= rt
 PREFIX ?= /usr/local
 DESTDIR ?=
-TOOLS = patch
+TOOLS = patch lsdiff filterdiff grepdiff splitdiff recountdiff
 BIN = build/bin
 
 .PHONY: all demo try test times deep install dist clean
@@ -29,6 +29,7 @@ test:
 	@$(MAKE) --no-print-directory all
 	@sh tests/real_files $(BIN)
 	@sh tests/rows $(BIN)
+	@sh tests/filters $(BIN)
 	@sh tests/killed $(BIN)
 	@sh tests/commands $(BIN)
 
@@ -42,8 +43,8 @@ install: all
 	mkdir -p $(DESTDIR)$(PREFIX)/bin $(DESTDIR)$(PREFIX)/share/man/man1 $(DESTDIR)$(PREFIX)/share/bash-completion/completions
 	install -m 755 $(BIN)/patchkit $(DESTDIR)$(PREFIX)/bin/patchkit
 	for tool in $(TOOLS); do ln -sf patchkit $(DESTDIR)$(PREFIX)/bin/$$tool; done
-	for tool in $(TOOLS); do install -m 644 docs/man/$$tool.1 $(DESTDIR)$(PREFIX)/share/man/man1/$$tool.1; done
-	for tool in $(TOOLS); do install -m 644 docs/completions/$$tool $(DESTDIR)$(PREFIX)/share/bash-completion/completions/$$tool; done
+	install -m 644 docs/man/*.1 $(DESTDIR)$(PREFIX)/share/man/man1
+	install -m 644 docs/completions/* $(DESTDIR)$(PREFIX)/share/bash-completion/completions
 
 dist: all
 	@sh tests/dist $(RT) $(BIN) build $(TOOLS)

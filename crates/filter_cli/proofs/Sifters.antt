@@ -4,6 +4,8 @@ use Rattle.outside.specs.Files.{Files}
 use Rattle.outside.specs.FinderView.{FinderView}
 use Rattle.outside.specs.Quiet.{Effect}
 use Rattle.patch_options.specs.declared.options.Input.{Input}
+use Rattle.patch_options.specs.declared.options.Input.TheVariants.{Standard, File}
+use Rattle.patch_input.specs.Input.{IsFile, IsStandard}
 use Rattle.tool_words.specs.PlainJobs.{PlainListJob, PlainFilterJob, PlainGrepJob}
 use Rattle.tool_words.specs.PlainJobs.PlainToolJob.{list_job, filter_job, grep_job, recount_job}
 use Rattle.filter_run.specs.declared.fault.FilterFault.{FilterFault}
@@ -11,6 +13,11 @@ use Rattle.filter_run.specs.Outcomes.{IsOutcomeOf, IsGrepped, list_outcome, filt
 use Rattle.filter_run.specs.Sifting.{HasTextCause, HasCountCause}
 use Rattle.filter_cli.specs.Command.{written}
 use Rattle.filter_cli.proofs.Sifted.{Agrees}
+
+-- an input is standard input or a file
+pub file-unless : (i : Input) → (IsStandard i → ⊥) → IsFile i
+file-unless Standard never = never tt
+file-unless (File name) never = tt
 
 pub lists : (j : PlainListJob) (v : FinderView) → Agrees (list_job j) j.input j.select HasTextCause ⊥ (IsOutcomeOf (list_outcome j)) v
 lists j v = record {

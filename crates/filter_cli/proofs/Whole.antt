@@ -146,3 +146,7 @@ carries_early job t v h a c why opens cause ends going =
       cut = λ own f left told. breaks_entry job why f u w same;
       tidy = λ none. tidy_same t v opens.told;
     })
+
+-- the same by another name of its answer
+pub carries_is : {job : Result PlainToolJob WordFault} {u w : World} (y why : Why) → y ≡ why → Carries job u w why → Carries job u w y
+carries_is {job = job} {u = u} {w = w} y why is c = subst (λ (x : Why). Carries job u w x) (sym is) c
