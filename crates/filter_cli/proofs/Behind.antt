@@ -22,7 +22,7 @@ use Rattle.filter_cli.proofs.Whole.{carries_does}
 
 module _ (job : Result PlainToolJob WordFault) (t v : TreeView) (h : FinderView) (a : SourceView) (c : SinkView) (opens : Opens t v) where
   tells_behind : (f : Files) (left : List ℕ) → Tells job (world t h a c) f left → Tells job (world v h a c) f left
-  tells_behind f left told = record { files = opens.told ∙ told.files; left = told.left }
+  tells_behind f left told = record { files = opens.told ∙ told.files; source = told.source }
 
   module _ (w : World) where
     cause_behind : (why : Why) → HasCause why job (world v h a c) w → HasCause why job (world t h a c) w

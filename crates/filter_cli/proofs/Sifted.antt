@@ -121,7 +121,7 @@ module _ (job : PlainToolJob) (i : Input) (s : PlainSelect) (R : SetFault → Ty
 
   module _ (finder : FinderPasses u.finder w.finder) (quiet : IsQuiet u.tree) (unread : (IsStandard i → ⊥) → w.source ≡ u.source) where
     is-told : (f : Files) (left : List ℕ) → Tells (Ok job) u f left → IsTold i u.tree u.source f left
-    is-told f left told = record { files = told.files; left = λ is. told.left (agrees.to is) }
+    is-told f left told = record { files = told.files; left = λ is. told.source (agrees.to is) }
 
     module _ (same : IsUntouched u.tree w.tree) where
       entry : w.out ≡ u.out → IsAsAtEntry u w

@@ -50,7 +50,7 @@ greps j v = record {
   pattern = λ is. is;
   outcome = λ f left o is. ⊎_elim
       (λ same. inl (ap (λ (x : Result (List ℕ) FilterFault). written x) same))
-      (λ (takes, refuses, has). inr (ap (λ (x : Result (List ℕ) FilterFault). written x) refuses, takes, has))
+      (λ (takes, refuses, has). inr (ap (λ (x : Result (List ℕ) FilterFault). written x) refuses, (takes, has)))
       is;
   uncut = λ why f u w. tt;
 }

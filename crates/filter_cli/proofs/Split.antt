@@ -129,7 +129,7 @@ module _ (j : PlainSplitJob) (h : FinderView) (a : SourceView) (t w : TreeView) 
     )
     split-answers false e none fault = ⊎_elim
         (λ not. (come, inl refl, nothing_yet (Ok (split_job j)) before behind (not-begun not) f come told))
-        (λ (x, is, k, cut). (parted j.input (Ok x), inl (comes x is), cut-first x is e k cut))
+        (λ (x, is, (k, cut)). (parted j.input (Ok x), inl (comes x is), cut-first x is e k cut))
         fault
 
     leaves-none : IsNotBegun t w c d → LeavesAllowed before behind f come.effects
@@ -139,14 +139,14 @@ module _ (j : PlainSplitJob) (h : FinderView) (a : SourceView) (t w : TreeView) 
     split-leaves true e none is = leaves-none (none refl)
     split-leaves false e none fault = ⊎_elim
         (λ not. leaves-none not)
-        (λ (x, is, k, cut). subst (λ (o : Outcome). LeavesAllowed before behind f o.effects) (comes x is) (λ g since. inr (cut.leaves f told g since)))
+        (λ (x, is, (k, cut)). subst (λ (o : Outcome). LeavesAllowed before behind f o.effects) (comes x is) (λ g since. inr (cut.leaves f told g since)))
         fault
 
     split-breaks : (b : Bool) (e : FilterFault) → b ≡ false → SplitFault b e j f t w c d → BreaksOff (Ok (split_job j)) (of_filter e) f before behind
     split-breaks true e own is = absurd (cc)
     split-breaks false e own fault = ⊎_elim
         (λ not. inl (not-begun not))
-        (λ (x, is, k, cut). inr (x, is, k, record {
+        (λ (x, is, (k, cut)). inr (x, is, (k, record {
           few = cut.few;
           files = cut.files;
           exact = λ whole. cut.exact (λ failed. whole (ap of_filter failed));
@@ -154,7 +154,7 @@ module _ (j : PlainSplitJob) (h : FinderView) (a : SourceView) (t w : TreeView) 
           said = cut.said;
           near = cut.near;
           names = cut.names;
-        }))
+        })))
         fault
 
   pub split_carry : (r : Result (Unit {0}) FilterFault) → Splits j t w c d r → Carries (Ok (split_job j)) before behind (why_by r)

@@ -15,7 +15,7 @@ use Rattle.filter_run.specs.Splits.{Cut, split_outcome}
 use Rattle.run_answers.specs.declared.why.Why.{Why}
 use Rattle.run_answers.specs.declared.why.Why.TheVariants.{Done, BadPattern, WriteFault, TreeFault, Memory, Unsupported}
 use Rattle.run_answers.specs.Answers.{of_words, of_input, of_set}
-use Rattle.filter_cli.specs.Jobs.{AsksFor}
+use Rattle.filter_cli.specs.Jobs.{AsksFor, MayBeRefused}
 
 pub record Outcome : Type 0 where
   pub why : Why
@@ -70,11 +70,6 @@ abbrev pub Searches : PlainToolJob → Files → List ℕ → Type 0
 Searches (grep_job j) files left = HasPatches (given j.input j.select files left)
 Searches job files left = ⊥
 
--- a pattern that isn't always taken
-abbrev pub MayRefuse : FinderView → PlainToolJob → Files → List ℕ → Type 0
-MayRefuse v (grep_job j) files left = (v.takes j.pattern ≡ false) × HasPatches (given j.input j.select files left)
-MayRefuse v job files left = ⊥
-
 -- the outcome is the command's; or a pattern that isn't always taken is refused, where there are file patches to search
 abbrev pub IsOutcome : FinderView → Result PlainToolJob WordFault → Files → List ℕ → Outcome → Type 0
-IsOutcome v job files left o = (o ≡ command v.hit job files left) ⊎ ((o ≡ refused BadPattern) × AsksFor job (λ j. MayRefuse v j files left))
+IsOutcome v job files left o = (o ≡ command v.hit job files left) ⊎ ((o ≡ refused BadPattern) × AsksFor job (λ j. MayBeRefused v j × Searches j files left))

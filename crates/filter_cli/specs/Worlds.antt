@@ -22,4 +22,4 @@ world tree finder source out = record { tree = tree; finder = finder; source = s
 -- the tree tells these files, and standard input what it has left, where it is read
 pub record Tells (job : Result PlainToolJob WordFault) (w : World) (f : Files) (left : List ℕ) : Type 0 where
   pub files : w.tree.told ≡ Some f
-  pub left : ReadsSource job → w.source.told ≡ Some left
+  pub source : ReadsSource job → w.source.told ≡ Some left

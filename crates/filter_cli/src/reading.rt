@@ -1,5 +1,5 @@
 //! The words of a filter.
-ghost use Rattle.std.specs.Prelude.{◌≡◌, ◌⊎◌, map, true, Ok, Err, IfOk, IfErr, string_bytes};
+ghost use Rattle.std.specs.Prelude.{◌≡◌, ◌⊎◌, map, false, true, Ok, Err, IfOk, IfErr, string_bytes};
 ghost use Rattle.patch_options.specs.declared.options.WordFault.{WordFault};
 ghost use Rattle.tool_words.specs.PlainJobs.{plain_tool_job};
 ghost use Rattle.run_answers.specs.Answers.{of_words};
