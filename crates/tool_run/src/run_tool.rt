@@ -67,15 +67,15 @@ fn run_sifting<T: Tree, C: Scratch, F: Finder, I: Source, O: Sink, E: Sink>(
     ensures err_still { is_ended result.0.why ≡ true → err.new ≡ err.old }
     ensures err_rest { E.same_rest err.old err.new }
 {
-    let why = run_filter(alloc, words, tree, finder, input, out);
-    let _reported = report(err, words, why);
-    (exit_of(why), scratch)
+    let exit = exit_of(run_filter(alloc, words, tree, finder, input, out));
+    let _reported = report(err, words, exit.why);
+    (exit, scratch)
 }
 
 /// How a run ends that has no receipt.
 fn exit_of(why: Why) -> Exit
     ensures why { result.why ≡ why }
-    ensures status { result.status ≡ exit_status why }
+    ensures status { result.status ≡ exit_status result.why }
     ensures applied { result.applied ≡ None }
 {
     Exit {
