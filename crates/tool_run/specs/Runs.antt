@@ -57,4 +57,4 @@ pub record RunsFilter {T C F I O : Type 0} (words : List (List ℕ)) (u w : filt
   pub unasked : (f : Files) (left : List ℕ) → Tells (filter_jobs.job_of words) u f left → (AsksFor (filter_jobs.job_of words) (λ j. Searches j f left) → ⊥) → e.finder ≡ d.finder
   pub no_pattern : (AsksFor (filter_jobs.job_of words) HasPattern → ⊥) → e.finder ≡ d.finder
   pub scratch : e.scratch ≡ d.scratch
-  pub applied : applied ≡ None
+  pub no_receipt : applied ≡ None

@@ -5,7 +5,7 @@ ghost use Rattle.tool_run.specs.Kinds.{kind_of, kind_by};
 use tool_words::tool_named;
 
 /// A tool's kind. The tools of one kind are carried out by one crate.
-#[derive(Clone, Copy, PartialEq, Eq)]
+#[derive(Clone, Copy)]
 pub enum Kind {
     /// `patch`, and words that name no tool.
     Patch,

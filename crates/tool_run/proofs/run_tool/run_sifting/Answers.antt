@@ -14,7 +14,7 @@ returns-clause-runs g c = runs_as c.exit_of-exit.result.why c.exit_of-exit.resul
   unasked = c.run_filter.ensures.unasked;
   no_pattern = c.run_filter.ensures.no_pattern;
   scratch = refl;
-  applied = refl;
+  no_receipt = refl;
 })
 
 pub returns-clause-err_part : goal.returns-clause-err_part
