@@ -9,7 +9,7 @@
 RT ?= rt
 PREFIX ?= /usr/local
 DESTDIR ?=
-TOOLS = patch
+TOOLS = patch lsdiff filterdiff grepdiff splitdiff recountdiff
 BIN = build/bin
 
 .PHONY: all demo try test times deep install dist clean
@@ -29,6 +29,7 @@ test:
 	@$(MAKE) --no-print-directory all
 	@sh tests/real_files $(BIN)
 	@sh tests/rows $(BIN)
+	@sh tests/filters $(BIN)
 	@sh tests/killed $(BIN)
 	@sh tests/commands $(BIN)
 	@sh tests/beside_patchutils $(BIN)

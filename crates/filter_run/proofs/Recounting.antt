@@ -1,5 +1,6 @@
 -- From a text that was recounted to what `recountdiff` promises.
 use Rattle.std.proofs.Common.{◌≡◌, inl, inr, ℕ, List, [], None, Some, Ok, Err, refl, sym, ap, ◌∙◌}
+use Rattle.std.proofs.lemmas.Bool.{false≢true}
 use Rattle.outside.specs.Files.{Files}
 use Rattle.outside.specs.TreeView.{TreeView}
 use Rattle.outside.specs.Calls.{IsUntouched}
@@ -27,6 +28,7 @@ module _ (i : Input) (t u : TreeView) (a b : SourceView) (same : IsUntouched t u
     read = tt;
     taken = taken;
     sink = sink_passes_none c;
+    early = λ is. refl;
     answers = λ f left told. answers-none (is_refusal (faults.Input e)) (faults.Input e) (IsOutcomeOf (recount_outcome i) f left) c (λ refuses. sym (ap recounted_from (text-refused e i t u a b h refuses f left told)));
     cause = text-cause e i no_selection t u a b h;
   }
@@ -39,6 +41,7 @@ module _ (i : Input) (t u : TreeView) (a b : SourceView) (same : IsUntouched t u
       read = tt;
       taken = taken;
       sink = sink_passes_none c;
+      early = λ is. refl;
       answers = λ f left told. (sym (ap recounted_from (text-is i t a (Ok text) is f left told) ∙ ap recounted_as fails), refl);
       cause = (text, fails);
     }
@@ -48,6 +51,7 @@ module _ (i : Input) (t u : TreeView) (a b : SourceView) (same : IsUntouched t u
       read = tt;
       taken = taken;
       sink = sink_passes_none c;
+      early = λ is. refl;
       answers = λ f left told. inl refl;
       cause = tt;
     }
@@ -63,6 +67,7 @@ module _ (i : Input) (t u : TreeView) (a b : SourceView) (same : IsUntouched t u
         read = end;
         taken = taken;
         sink = call.passes;
+        early = tt;
         answers = λ f left told. (bytes, comes f left told, received);
         cause = tt;
       }
@@ -74,6 +79,7 @@ module _ (i : Input) (t u : TreeView) (a b : SourceView) (same : IsUntouched t u
         read = tt;
         taken = taken;
         sink = call.passes;
+        early = λ is. absurd (false≢true is);
         answers = λ f left told. inr (bytes, comes f left told, part);
         cause = call.cause refl;
       }

@@ -1,5 +1,6 @@
 -- From what was read, and what was written of it, to what a filter promises.
 use Rattle.std.proofs.Common.{◌≡◌, ◌≢◌, inl, inr, ℕ, Bool, true, false, List, [], ◌∷◌, None, Some, Result, Ok, Err, refl, sym, ◌∙◌}
+use Rattle.std.proofs.lemmas.Bool.{false≢true}
 use Rattle.outside.specs.Files.{Files}
 use Rattle.outside.specs.TreeView.{TreeView}
 use Rattle.outside.specs.FinderView.{FinderView}
@@ -17,7 +18,7 @@ use Rattle.patch_filters.specs.declared.fault.GrepFault.TheVariants as grep
 use Rattle.patch_filters.specs.Grepped.{HasGrepCause, grepped}
 use Rattle.filter_run.specs.Faults.{of_grep}
 use Rattle.filter_run.specs.Outcomes.{Outcome, HasPatches, IsGrepped, given, grep_with}
-use Rattle.filter_run.specs.Sifting.{AnswersFault, HasCause, HasTextCause, IsTold, Sifts, is_refusal}
+use Rattle.filter_run.specs.Sifting.{AnswersFault, HasCause, HasTextCause, IsTold, Sifts, is_early, is_refusal}
 use Rattle.filter_run.specs.Opened.{IsGarbage, IsReadOf, IsRefused, HasOpeningCause, Opens}
 use Rattle.filter_run.proofs.Coming.{Comes, ComesBy, grepped-is, some-there}
 use Rattle.filter_run.specs.declared.fault.FilterFault.{FilterFault}
@@ -74,6 +75,7 @@ module _ (i : Input) (old new : PlainSelect) (Q : Type 0) (written : PlainSelect
     read = tt;
     taken = h.taken;
     sink = sink_passes_none c;
+    early = λ is. refl;
     answers = λ f left told. answers-none (is_refusal e) e (P f left) c (λ refuses. allows f left (Err e) (comes-refused written e (given i old f left) (h.refused refuses f left told)));
     cause = opening-cause e i old Q t u a b c h.cause;
   }
@@ -85,6 +87,7 @@ module _ (i : Input) (old new : PlainSelect) (Q : Type 0) (written : PlainSelect
     read = h.read;
     taken = h.taken;
     sink = sink_passes_none c;
+    early = tt;
     answers = λ f left told. ([], allows f left (Ok []) (comes-none written (given i old f left) new (h.opened f left told)), received_none c);
     cause = tt;
   }
@@ -97,6 +100,7 @@ module _ (i : Input) (old new : PlainSelect) (Q : Type 0) (written : PlainSelect
       read = h.read;
       taken = h.taken;
       sink = passes;
+      early = tt;
       answers = λ f left told. (written new v, allows f left (Ok (written new v)) (comes-read written (given i old f left) new v (h.opened f left told)), received);
       cause = tt;
     }
@@ -105,19 +109,20 @@ module _ (i : Input) (old new : PlainSelect) (Q : Type 0) (written : PlainSelect
     sifts-written w = sifts-done w.call.passes w.received
 
     -- a fault of a device, or want of memory
-    pub sifts-broken : (e : FilterFault) → is_refusal e ≡ false → SinkPasses c d → ReceivesPart c d (written new v) → HasCause e i old HasTextCause Q t u a b c d → Sifts i old HasTextCause Q P t u a b c d (Err e)
-    sifts-broken e is passes part cause = record {
+    pub sifts-broken : (e : FilterFault) → is_refusal e ≡ false → is_early e ≡ false → SinkPasses c d → ReceivesPart c d (written new v) → HasCause e i old HasTextCause Q t u a b c d → Sifts i old HasTextCause Q P t u a b c d (Err e)
+    sifts-broken e is late passes part cause = record {
       untouched = h.untouched;
       source = h.source;
       read = tt;
       taken = h.taken;
       sink = passes;
+      early = λ writes. absurd (false≢true (sym late ∙ writes));
       answers = λ f left told. rw is (inr (written new v, allows f left (Ok (written new v)) (comes-read written (given i old f left) new v (h.opened f left told)), part));
       cause = cause;
     }
 
     pub sifts-cut : {R E : Type 0} (e : E) → Writes {R = R} c d (Err e) (written new v) → Sifts i old HasTextCause Q P t u a b c d (Err faults.Write)
-    sifts-cut e w = sifts-broken faults.Write refl w.call.passes w.failed (w.call.cause refl)
+    sifts-cut e w = sifts-broken faults.Write refl refl w.call.passes w.failed (w.call.cause refl)
 
 -- ---- a search, whose pattern may be refused
 abbrev ended : GrepFault → Result (Unit {0}) GrepFault
@@ -140,7 +145,7 @@ module _ (new : PlainSelect) (finder : FinderView) (j : PlainGrepJob) (t u : Tre
     pub searched-done : (c d : SinkView) → SinkPasses c d → Receives c d (bytes new v) → Searches c d (Ok tt)
     searched-done = sifts-done j.input j.select new (finder.takes j.pattern ≡ false) bytes (IsGrepped finder.takes finder.hit j) (λ f left o is. inl (grepped-is finder.hit j f left o is)) t u a b v h
 
-    searched-broken : (c d : SinkView) (e : FilterFault) → is_refusal e ≡ false → SinkPasses c d → ReceivesPart c d (bytes new v) → HasCause e j.input j.select HasTextCause (finder.takes j.pattern ≡ false) t u a b c d → Searches c d (Err e)
+    searched-broken : (c d : SinkView) (e : FilterFault) → is_refusal e ≡ false → is_early e ≡ false → SinkPasses c d → ReceivesPart c d (bytes new v) → HasCause e j.input j.select HasTextCause (finder.takes j.pattern ≡ false) t u a b c d → Searches c d (Err e)
     searched-broken = sifts-broken j.input j.select new (finder.takes j.pattern ≡ false) bytes (IsGrepped finder.takes finder.hit j) (λ f left o is. inl (grepped-is finder.hit j f left o is)) t u a b v h
 
     searched-untaken : v.patches ≢ [] → finder.takes j.pattern ≡ false → (c : SinkView) → Searches c c (Err faults.Pattern)
@@ -150,6 +155,7 @@ module _ (new : PlainSelect) (finder : FinderView) (j : PlainGrepJob) (t u : Tre
       read = tt;
       taken = h.taken;
       sink = sink_passes_none c;
+      early = λ is. refl;
       answers = λ f left told. (inr (untaken, refl, patches-there (given j.input j.select f left) new v some (h.opened f left told)), refl);
       cause = untaken;
     }
@@ -157,8 +163,8 @@ module _ (new : PlainSelect) (finder : FinderView) (j : PlainGrepJob) (t u : Tre
     pub searched-faulted : {O F : Type 0} (view : O → SinkView) (x y : O) (f g : F) (e : GrepFault) → SinkPasses (view x) (view y) → ReceivesPart (view x) (view y) (bytes new v) → HasGrepCause e view finder j.pattern x y
         → (v.patches ≡ [] → (ended e ≡ Ok tt) × (g ≡ f) × (y ≡ x)) → Searches (view x) (view y) (Err (of_grep e))
     searched-faulted view x y f g grep.Pattern passes part cause unasked = rw cause.1 (searched-untaken (λ none. let never = (unasked none).0 in absurd (cc)) cause.0 (view x))
-    searched-faulted view x y f g grep.Write passes part cause unasked = searched-broken (view x) (view y) faults.Write refl passes part cause
-    searched-faulted view x y f g grep.Memory passes part cause unasked = searched-broken (view x) (view y) faults.Memory refl passes part tt
+    searched-faulted view x y f g grep.Write passes part cause unasked = searched-broken (view x) (view y) faults.Write refl refl passes part cause
+    searched-faulted view x y f g grep.Memory passes part cause unasked = searched-broken (view x) (view y) faults.Memory refl refl passes part tt
 
     -- a set with file patches is one of a text that has them
     pub searched-unasked : {F : Type 0} (f g : F) → (v.patches ≡ [] → g ≡ f) → (files : Files) (left : List ℕ) → IsTold j.input t a files left → (HasPatches (given j.input j.select files left) → ⊥) → g ≡ f

@@ -46,6 +46,13 @@ is_refusal faults.Tree = false
 is_refusal faults.Write = false
 is_refusal faults.Memory = false
 
+-- it comes before anything is written
+abbrev pub is_early : FilterFault → Bool
+is_early faults.Tree = false
+is_early faults.Write = false
+is_early faults.Memory = false
+is_early e = true
+
 -- a refusal is the definition's; after a fault nothing was written, or a first part of what is
 abbrev pub AnswersFault : Bool → FilterFault → (Outcome → Type 0) → SinkView → SinkView → Type 0
 AnswersFault true e P c d = P (Err e) × (d ≡ c)
@@ -106,5 +113,6 @@ pub record Sifts (i : Input) (s : PlainSelect) (R : SetFault → Type 0) (Q : Ty
   pub read : OnOk result (IsStandard i → (left : List ℕ) → a.told ≡ Some left → b.told ≡ Some [])
   pub taken : TakesAtMost 268435457 a b
   pub sink : SinkPasses c d
+  pub early : IfErr result (λ e. is_early e ≡ true → d ≡ c)
   pub answers : (f : Files) (left : List ℕ) → IsTold i t a f left → Answers result (IsOutcome f left) c d
   pub cause : IfErr result (λ e. HasCause e i s R Q t u a b c d)

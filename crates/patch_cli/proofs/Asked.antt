@@ -28,12 +28,13 @@ use Rattle.patch_run.specs.OnePatch.{Item}
 use Rattle.patch_run.specs.Run.{Run, run_of, set_run, item_of, items_of}
 use Rattle.patch_run.specs.Doing.{IsCutAt}
 use Rattle.patch_effects.specs.declared.fault.RunFault.{RunFault}
-use Rattle.patch_cli.specs.declared.why.Why.{Why}
-use Rattle.patch_cli.specs.declared.why.Why.TheVariants.{Done, Rejected, Usage, Malformed, Garbage, EdReverse, OutMany, Reserved, NoPatchFile, TooLong, LongLine, FileTooLong, ReadFault, WriteFault, TreeFault, ScratchFault, Disagree, Memory, Unsupported}
+use Rattle.run_answers.specs.declared.why.Why.{Why}
+use Rattle.run_answers.specs.declared.why.Why.TheVariants.{Done, Rejected, Usage, Malformed, Garbage, EdReverse, OutMany, Reserved, NoPatchFile, TooLong, LongLine, FileTooLong, BadPattern, NoContext, Unfit, BadState, StackEnd, StackName, ReadFault, WriteFault, TreeFault, ScratchFault, Disagree, Memory, Unsupported}
 use Rattle.patch_cli.specs.Command.{Reads, item_for, items_for, run_for, carried_out, on_patches, on_refusal, on_input, on_job}
 use Rattle.patch_cli.specs.Worlds.{World, world, TellsFiles, TellsLeft, TellsInput, is_standard}
 use Rattle.patch_cli.specs.Finishes.{CanApply}
-use Rattle.patch_cli.specs.Opening.{Opens, IsAsked, EndsSo, StopsEarly}
+use Rattle.run_answers.specs.Moments.{Opens}
+use Rattle.patch_cli.specs.Opening.{IsAsked, EndsSo, StopsEarly}
 
 -- ---- the input
 
@@ -147,6 +148,12 @@ module _ (t u : TreeView) (s : SourceView) (opens : Opens t u) where
     early_behind (EdReverse line) early = record { cause = early.cause; stops = ends_behind (EdReverse line) early.stops }
     early_behind (OutMany count) early = record { cause = early.cause; stops = ends_behind (OutMany count) early.stops }
     early_behind (Reserved line) early = record { cause = early.cause; stops = ends_behind (Reserved line) early.stops }
+    early_behind BadPattern early = absurd early.cause
+    early_behind (NoContext line) early = absurd early.cause
+    early_behind (Unfit line) early = absurd early.cause
+    early_behind (BadState file) early = absurd early.cause
+    early_behind (StackEnd applied) early = absurd early.cause
+    early_behind (StackName line) early = absurd early.cause
     early_behind ReadFault early = record { cause = early.cause; stops = tt }
     early_behind WriteFault early = record { cause = early.cause; stops = tt }
     early_behind TreeFault early = record { cause = rises_then t u w opens.passes early.cause; stops = tt }

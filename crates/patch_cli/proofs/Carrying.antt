@@ -26,9 +26,10 @@ use Rattle.patch_effects.specs.Faults.{of_open}
 use Rattle.patch_effects.specs.Making.{IsTidy, UnlessFailed}
 use Rattle.patch_effects.specs.declared.fault.RunFault.{RunFault}
 use Rattle.patch_effects.specs.declared.fault.RunFault.TheVariants as runs
-use Rattle.patch_cli.specs.declared.why.Why.{Why}
-use Rattle.patch_cli.specs.declared.why.Why.TheVariants.{Done, Rejected, Usage, Malformed, Garbage, EdReverse, OutMany, Reserved, NoPatchFile, TooLong, LongLine, FileTooLong, ReadFault, WriteFault, TreeFault, ScratchFault, Disagree, Memory, Unsupported}
-use Rattle.patch_cli.specs.Answers.{Sort, sort_of, is_fault, IsEarly, of_run}
+use Rattle.run_answers.specs.declared.why.Why.{Why}
+use Rattle.run_answers.specs.declared.why.Why.TheVariants.{Done, Rejected, Usage, Malformed, Garbage, EdReverse, OutMany, Reserved, NoPatchFile, TooLong, LongLine, FileTooLong, BadPattern, NoContext, Unfit, BadState, StackEnd, StackName, ReadFault, WriteFault, TreeFault, ScratchFault, Disagree, Memory, Unsupported}
+use Rattle.run_answers.specs.Answers.{is_fault, of_run}
+use Rattle.patch_cli.specs.Answers.{Sort, sort_of, IsEarly}
 use Rattle.patch_cli.specs.Answers.Sort.{ended, halted, refusal, unread, broken, starved}
 use Rattle.patch_cli.specs.Command.{Outcome, Reads, command, refused, on_job, carried_out, end_of, receipt_if}
 use Rattle.patch_cli.specs.Worlds.{World, TellsFiles, TellsLeft, TellsInput, AsksFor, reads_source, pages_all}
@@ -36,17 +37,11 @@ use Rattle.patch_cli.specs.Causes.{HasCause}
 use Rattle.patch_cli.specs.Scratches.{scratch_behind_all}
 use Rattle.patch_cli.specs.Finishes.{IsToldTo, HasPlanCause, Finishes}
 use Rattle.patch_cli.specs.Finishes as finishes
-use Rattle.patch_cli.specs.Opening.{Opens, IsAsked, StopsBy, StopsEarly}
+use Rattle.run_answers.specs.Moments.{Opens}
+use Rattle.patch_cli.specs.Opening.{IsAsked, StopsBy, StopsEarly}
 use Rattle.patch_cli.specs.Carries.{IsAnswer, FirstPart, Answers, IsAsAtEntry, Untouched, QuietAfter, IsBehindReading, IsEnd, HasReceipt, HasRead, Heeds, IsCut, BreaksOff, LeavesAllowed, Carries, NoneFailed, IsComplete}
-use Rattle.patch_cli.proofs.Opens.{opens_both, opens_untouched}
+use Rattle.run_answers.proofs.Opens.{opens_both, opens_untouched, tidy_same, tidy_behind}
 use Rattle.patch_cli.proofs.Asked.{tells_input, carried-match, cut-match}
-
--- a tree that is told the same has no other temporary
-tidy_same : (u w : TreeView) → w.told ≡ u.told → IsTidy u w
-tidy_same u w told f g was now q temp = inr (ap (λ (x : Files). get x q) (same_Some _ _ (sym now ∙ told ∙ was)))
-
-tidy_behind : (u v w : TreeView) → v.told ≡ u.told → IsTidy v w → IsTidy u w
-tidy_behind u v w told tidy f g was now q temp = tidy f g (told ∙ was) now q temp
 
 -- ---- an end before the first change
 no_receipt : (why : Why) (job : Result PlainJob WordFault) (u : World) → StopsBy (sort_of why) why job u → HasReceipt why None
@@ -62,6 +57,12 @@ no_receipt NoPatchFile job u stops = refl
 no_receipt TooLong job u stops = refl
 no_receipt (LongLine line length) job u stops = refl
 no_receipt (FileTooLong length) job u stops = refl
+no_receipt BadPattern job u stops = refl
+no_receipt (NoContext line) job u stops = refl
+no_receipt (Unfit line) job u stops = refl
+no_receipt (BadState file) job u stops = refl
+no_receipt (StackEnd applied) job u stops = refl
+no_receipt (StackName line) job u stops = refl
 no_receipt ReadFault job u stops = refl
 no_receipt WriteFault job u stops = refl
 no_receipt TreeFault job u stops = refl
@@ -451,6 +452,12 @@ is_complete NoPatchFile applied c f left told tells none = inl (c.answers f left
 is_complete TooLong applied c f left told tells none = inl (c.answers f left told tells)
 is_complete (LongLine line length) applied c f left told tells none = inl (c.answers f left told tells)
 is_complete (FileTooLong length) applied c f left told tells none = inl (c.answers f left told tells)
+is_complete BadPattern applied c f left told tells none = absurd c.cause
+is_complete (NoContext line) applied c f left told tells none = absurd c.cause
+is_complete (Unfit line) applied c f left told tells none = absurd c.cause
+is_complete (BadState file) applied c f left told tells none = absurd c.cause
+is_complete (StackEnd count) applied c f left told tells none = absurd c.cause
+is_complete (StackName line) applied c f left told tells none = absurd c.cause
 is_complete ReadFault applied c f left told tells none = absurd (none.source c.cause.1)
 is_complete WriteFault applied c f left told tells none = absurd (none.out c.cause)
 is_complete TreeFault applied c f left told tells none = absurd (none.tree c.cause)

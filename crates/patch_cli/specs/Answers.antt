@@ -1,46 +1,6 @@
--- The answers of a run: from which faults they come, and of what sort they are.
-use Rattle.std.specs.Prelude.{ℕ, Bool, true, false}
-use Rattle.patch_options.specs.declared.options.WordFault.{WordFault}
-use Rattle.patch_options.specs.declared.options.WordFault.TheVariants as words
-use Rattle.patch_input.specs.declared.fault.InputFault.{InputFault}
-use Rattle.patch_input.specs.declared.fault.InputFault.TheVariants as input
-use Rattle.patch_set.specs.declared.fault.SetFault.{SetFault}
-use Rattle.patch_set.specs.declared.fault.SetFault.TheVariants as set
-use Rattle.patch_effects.specs.declared.fault.RunFault.{RunFault}
-use Rattle.patch_effects.specs.declared.fault.RunFault.TheVariants as runs
-use Rattle.patch_cli.specs.declared.why.Why.{Why}
-use Rattle.patch_cli.specs.declared.why.Why.TheVariants.{Done, Rejected, Usage, Malformed, Garbage, EdReverse, OutMany, Reserved, NoPatchFile, TooLong, LongLine, FileTooLong, ReadFault, WriteFault, TreeFault, ScratchFault, Disagree, Memory, Unsupported}
-
-abbrev pub of_words : WordFault → Why
-of_words words.Usage = Usage
-of_words words.Unsupported = Unsupported
-of_words words.Memory = Memory
-
-abbrev pub of_input : InputFault → Why
-of_input input.NoPatchFile = NoPatchFile
-of_input input.TooLong = TooLong
-of_input input.Source = ReadFault
-of_input input.Tree = TreeFault
-of_input (input.Disagree want got) = Disagree want got
-of_input input.Memory = Memory
-
-abbrev pub of_set : SetFault → Why
-of_set (set.Malformed line kind) = Malformed line kind
-of_set set.Garbage = Garbage
-of_set set.TooLong = TooLong
-of_set (set.OutMany count) = OutMany count
-of_set (set.EdReverse line) = EdReverse line
-of_set (set.Reserved line) = Reserved line
-of_set set.Memory = Memory
-
-abbrev pub of_run : RunFault → Why
-of_run runs.Tree = TreeFault
-of_run runs.Write = WriteFault
-of_run runs.Scratch = ScratchFault
-of_run (runs.LongLine line length) = LongLine line length
-of_run (runs.FileTooLong length) = FileTooLong length
-of_run (runs.Disagree want got) = Disagree want got
-of_run runs.Memory = Memory
+-- Of what sort the answers of a run are.
+use Rattle.run_answers.specs.declared.why.Why.{Why}
+use Rattle.run_answers.specs.declared.why.Why.TheVariants.{Done, Rejected, Usage, Malformed, Garbage, EdReverse, OutMany, Reserved, NoPatchFile, TooLong, LongLine, FileTooLong, BadPattern, NoContext, Unfit, BadState, StackEnd, StackName, ReadFault, WriteFault, TreeFault, ScratchFault, Disagree, Memory, Unsupported}
 
 pub data Sort : Type 0 where
   -- every file patch had its turn
@@ -70,26 +30,18 @@ sort_of Garbage = refusal
 sort_of (EdReverse line) = refusal
 sort_of (OutMany count) = refusal
 sort_of (Reserved line) = refusal
+sort_of BadPattern = refusal
+sort_of (NoContext line) = refusal
+sort_of (Unfit line) = refusal
+sort_of (BadState file) = refusal
+sort_of (StackEnd applied) = refusal
+sort_of (StackName line) = refusal
 sort_of ReadFault = unread
 sort_of WriteFault = broken
 sort_of TreeFault = broken
 sort_of ScratchFault = broken
 sort_of (Disagree want got) = broken
 sort_of Memory = starved
-
--- a device failed
-abbrev pub is_fault : Why → Bool
-is_fault ReadFault = true
-is_fault WriteFault = true
-is_fault TreeFault = true
-is_fault ScratchFault = true
-is_fault why = false
-
--- every file patch had its turn
-abbrev pub is_ended : Why → Bool
-is_ended Done = true
-is_ended Rejected = true
-is_ended why = false
 
 -- an answer before the first change
 abbrev pub IsEarly : Sort → Type 0
@@ -99,9 +51,3 @@ IsEarly refusal = Unit {0}
 IsEarly unread = Unit {0}
 IsEarly broken = ⊥
 IsEarly starved = ⊥
-
--- the exit status
-abbrev pub exit_status : Why → ℕ
-exit_status Done = 0
-exit_status Rejected = 1
-exit_status why = 2

@@ -20,15 +20,16 @@ use Rattle.patch_run.specs.Applied.{Receipt}
 use Rattle.patch_run.specs.Doing.{IsCutAt}
 use Rattle.patch_effects.specs.Making.{IsTidy}
 use Rattle.patch_effects.specs.declared.fault.RunFault.{RunFault}
-use Rattle.patch_cli.specs.declared.why.Why.{Why}
-use Rattle.patch_cli.specs.declared.why.Why.TheVariants.{Done, Rejected, Memory}
-use Rattle.patch_cli.specs.Answers.{Sort, sort_of, of_run, is_fault}
+use Rattle.run_answers.specs.declared.why.Why.{Why}
+use Rattle.run_answers.specs.declared.why.Why.TheVariants.{Done, Rejected, Memory}
+use Rattle.run_answers.specs.Answers.{of_run, is_fault}
+use Rattle.patch_cli.specs.Answers.{Sort, sort_of}
 use Rattle.patch_cli.specs.Answers.Sort.{ended, halted, refusal, unread, broken, starved}
 use Rattle.patch_cli.specs.Scratches.{scratch_behind_all}
 use Rattle.patch_cli.specs.Command.{Outcome, Reads, refused, items_for, on_job, command}
 use Rattle.patch_cli.specs.Worlds.{World, TellsFiles, TellsLeft, TellsInput, AsksFor, reads_source, pages_all}
 use Rattle.patch_cli.specs.Causes.{HasCause}
-use Rattle.patch_cli.specs.Opening.{Opens}
+use Rattle.run_answers.specs.Moments.{Opens, IsAfterPrefix, HoldsOldOrNew}
 
 -- an answer of the command itself: its text, and the files after its effects
 pub record IsAnswer (why : Why) (given : Option Receipt) (f : Files) (u w : World) (o : Outcome) : Type 0 where
@@ -133,22 +134,9 @@ BreaksOff unread why job u w f left = Unit {0}
 BreaksOff broken why job u w f left = IsAsAtEntry u w ⊎ AsksFor job (IsCut why u w f left)
 BreaksOff starved why job u w f left = IsAsAtEntry u w ⊎ AsksFor job (IsCut why u w f left)
 
--- the files after a first part of the effects, temporary names aside
-abbrev pub IsAfterPrefix : List Effect → Files → Files → Type 0
-IsAfterPrefix es f c = (k : ℕ) × (k ≤ length es) × SameLasting (after_all (take k es) f) c
-
 -- each crash since the call began leaves what one could have left at entry, or the files at entry after a first part of the effects
 abbrev pub LeavesAllowed : World → World → Files → List Effect → Type 0
 LeavesAllowed u w f es = (c : Files) → LeftSince w.tree u.tree.moment c → MayLeave u.tree c ⊎ IsAfterPrefix es f c
-
--- what an effect makes of a name: a file of these bytes, or none
-abbrev pub Makes : Effect → List ℕ → Option (List ℕ) → Type 0
-Makes (Put name bytes) q held = (name ≡ q) × (held ≡ Some bytes)
-Makes (Remove name) q held = (name ≡ q) × (held ≡ None)
-
--- a name holds its old bytes, or what some effect makes of it
-abbrev pub HoldsOldOrNew : List Effect → Files → Files → List ℕ → Type 0
-HoldsOldOrNew es f c q = (get c q ≡ get f q) ⊎ Any (λ e. Makes e q (get c q)) es
 
 -- each crash since the call began leaves what one could have left at entry, or at each name that isn't temporary its old or its new bytes
 abbrev pub LeavesOldOrNew : World → World → Files → List Effect → Type 0

@@ -10,8 +10,8 @@ use Rattle.patch_options.specs.declared.options.WordFault.TheVariants as words
 use Rattle.patch_set.specs.declared.fault.SetFault.{SetFault}
 use Rattle.patch_set.specs.declared.fault.SetFault.TheVariants as set
 use Rattle.patch_set.specs.Refusals.{refusal}
-use Rattle.patch_cli.specs.declared.why.Why.{Why}
-use Rattle.patch_cli.specs.declared.why.Why.TheVariants.{Done, Rejected, Usage, Malformed, Garbage, EdReverse, OutMany, Reserved, NoPatchFile, TooLong, LongLine, FileTooLong, ReadFault, WriteFault, TreeFault, ScratchFault, Disagree, Memory, Unsupported}
+use Rattle.run_answers.specs.declared.why.Why.{Why}
+use Rattle.run_answers.specs.declared.why.Why.TheVariants.{Done, Rejected, Usage, Malformed, Garbage, EdReverse, OutMany, Reserved, NoPatchFile, TooLong, LongLine, FileTooLong, BadPattern, NoContext, Unfit, BadState, StackEnd, StackName, ReadFault, WriteFault, TreeFault, ScratchFault, Disagree, Memory, Unsupported}
 use Rattle.patch_cli.specs.Worlds.{World, TellsFiles, AsksFor, is_standard, reads_source}
 
 -- some text is refused so
@@ -32,6 +32,13 @@ HasCause (OutMany count) job u w = AsksFor job (IsRefusal (set.OutMany count))
 HasCause (Reserved line) job u w = AsksFor job (IsRefusal (set.Reserved line))
 HasCause (LongLine line length) job u w = AsksFor job (λ o. o.buffer - 4 < length)
 HasCause (FileTooLong length) job u w = AsksFor job (λ o. 2 ^ 40 ≤ length)
+-- what is an answer of other tools alone
+HasCause BadPattern job u w = ⊥
+HasCause (NoContext line) job u w = ⊥
+HasCause (Unfit line) job u w = ⊥
+HasCause (BadState file) job u w = ⊥
+HasCause (StackEnd applied) job u w = ⊥
+HasCause (StackName line) job u w = ⊥
 HasCause ReadFault job u w = (reads_source job ≡ true) × HasRisen u.source.faults w.source.faults
 HasCause WriteFault job u w = sink.Rises u.out w.out
 HasCause TreeFault job u w = tree.Rises u.tree w.tree

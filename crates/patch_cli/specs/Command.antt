@@ -22,9 +22,9 @@ use Rattle.patch_run.specs.Applied.{Receipt}
 use Rattle.patch_effects.specs.Faults.{of_open}
 use Rattle.patch_run.specs.OnePatch.{Item}
 use Rattle.patch_run.specs.Run.{Run, run_of}
-use Rattle.patch_cli.specs.declared.why.Why.{Why}
-use Rattle.patch_cli.specs.declared.why.Why.TheVariants.{Done, Rejected, Malformed}
-use Rattle.patch_cli.specs.Answers.{of_words, of_input, of_set, of_run}
+use Rattle.run_answers.specs.declared.why.Why.{Why}
+use Rattle.run_answers.specs.declared.why.Why.TheVariants.{Done, Rejected, Malformed}
+use Rattle.run_answers.specs.Answers.{of_words, of_input, of_set, of_run}
 
 pub record Outcome : Type 0 where
   pub why : Why

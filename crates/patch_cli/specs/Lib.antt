@@ -1,6 +1,5 @@
 pub mod Answers
 pub mod Command
-pub mod Reasons
 pub mod Scratches
 pub mod Worlds
 pub mod Causes

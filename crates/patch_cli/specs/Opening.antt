@@ -6,19 +6,13 @@ use Rattle.patch_options.specs.PlainJob.{PlainOptions, PlainJob}
 use Rattle.patch_options.specs.PlainJob.PlainJob.{patch}
 use Rattle.patch_options.specs.declared.options.WordFault.{WordFault}
 use Rattle.patch_set.specs.SetView.{SetView, plain_patches}
-use Rattle.patch_cli.specs.declared.why.Why.{Why}
+use Rattle.run_answers.specs.declared.why.Why.{Why}
 use Rattle.patch_cli.specs.Answers.{Sort, sort_of}
 use Rattle.patch_cli.specs.Answers.Sort.{ended, halted, refusal, unread, broken, starved}
 use Rattle.patch_cli.specs.Command.{Reads, refused, on_job}
 use Rattle.patch_cli.specs.Worlds.{World, TellsInput}
 use Rattle.patch_cli.specs.Causes.{HasCause}
 use Rattle.patch_cli.specs.Finishes.{CanApply}
-
--- the tree is told the same, and a crash leaves what one could have left before
-pub record Opens (u w : TreeView) : Type 0 where
-  pub passes : Passes u w
-  pub told : w.told ≡ u.told
-  pub images : (c : Files) → LeftSince w u.moment c → MayLeave u c
 
 -- where it is told what they read, the patch text that these options name is this set
 pub record IsAsked (o : PlainOptions) (v : SetView) (u : World) : Type 0 where

@@ -6,9 +6,10 @@ ghost use Rattle.outside.specs.SinkView.{Receives, ReceivesPart, Rises};
 ghost use Rattle.patch_options.specs.PlainJob.{plain_options};
 ghost use Rattle.patch_options.specs.Words.{job_of};
 ghost use Rattle.patch_options.specs.declared.options.WordFault.{WordFault};
-ghost use Rattle.patch_cli.specs.Answers.{exit_status, is_ended, of_words, sort_of, IsEarly};
+ghost use Rattle.run_answers.specs.Answers.{exit_status, is_ended, of_words};
+ghost use Rattle.patch_cli.specs.Answers.{sort_of, IsEarly};
 ghost use Rattle.patch_cli.specs.Command.{command};
-ghost use Rattle.patch_cli.specs.Reasons.{refusal_line};
+ghost use Rattle.run_answers.specs.Reasons.{refusal_line};
 ghost use Rattle.patch_cli.specs.Worlds.{world, TellsFiles, TellsLeft, reads_source, uses_scratch};
 ghost use Rattle.patch_cli.specs.Scratches.{has_scratch};
 ghost use Rattle.patch_cli.specs.Finishes.{CanApply, Finishes};
@@ -16,13 +17,12 @@ ghost use Rattle.patch_cli.specs.Carries.{Carries, NoneFailed, IsComplete, Leave
 
 use crate::opening::open;
 use crate::plans::apply;
-use crate::report::report;
-use crate::why::Why;
 use outside::{Scratch, Sink, Source, Tree};
 use patch_effects::RunFault;
 use patch_options::Options;
 use patch_run::Applied;
 use patch_set::PatchSet;
+use run_answers::{Why, report};
 use std::alloc::Global;
 
 /// How a run ends.
@@ -96,13 +96,13 @@ fn exit_of(ended: Result<Applied, Why>) -> Exit
         Ok(applied) => {
             let why = end_of(&applied);
             Exit {
-                status: exit_status(why),
+                status: why.status(),
                 why,
                 applied: Some(applied),
             }
         }
         Err(why) => Exit {
-            status: exit_status(why),
+            status: why.status(),
             why,
             applied: None,
         },
@@ -117,16 +117,6 @@ fn end_of(applied: &Applied) -> Why
         Why::Done
     } else {
         Why::Rejected
-    }
-}
-
-fn exit_status(why: Why) -> u8
-    ensures { result ≡ exit_status why }
-{
-    match why {
-        Why::Done => 0,
-        Why::Rejected => 1,
-        _ => 2,
     }
 }
 

@@ -5,10 +5,8 @@ mod cli;
 mod laws;
 mod opening;
 mod plans;
-mod report;
-mod why;
 
 pub use cli::{Exit, run};
 pub use laws::command_laws;
 pub use patch_run::Applied;
-pub use why::Why;
+pub use run_answers::Why;

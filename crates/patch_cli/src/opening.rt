@@ -11,15 +11,16 @@ ghost use Rattle.patch_options.specs.PlainJob.PlainJob.{patch};
 ghost use Rattle.patch_options.specs.Words.{job_of};
 ghost use Rattle.patch_options.specs.declared.options.WordFault.{WordFault as TheFault};
 ghost use Rattle.patch_input.specs.Input.{TakesAtMost};
-ghost use Rattle.patch_cli.specs.Answers.{of_words};
+ghost use Rattle.run_answers.specs.Answers.{of_words};
 ghost use Rattle.patch_cli.specs.Worlds.{world, is_standard, reads_source};
-ghost use Rattle.patch_cli.specs.Opening.{Opens, IsAsked, StopsEarly};
+ghost use Rattle.run_answers.specs.Moments.{Opens};
+ghost use Rattle.patch_cli.specs.Opening.{IsAsked, StopsEarly};
 
-use crate::why::Why;
 use outside::{Source, Tree};
 use patch_input::read_input;
 use patch_options::{Job, Options, read_words};
 use patch_set::{PatchSet, read_set};
+use run_answers::{Why, settle};
 use std::alloc::Global;
 
 /// The options, and the file patches that are to be carried out with them.
@@ -63,18 +64,6 @@ fn read_options(alloc: Global, words: &[String]) -> Result<Options, Why>
     match read_words(alloc, words) {
         Ok(Job::Patch(options)) => Ok(options),
         Err(fault) => Err(Why::from(fault)),
-    }
-}
-
-/// Settles the tree.
-fn settle<T: Tree>(tree: &mut T) -> Result<(), Why>
-    ensures opens { Opens (T.view tree.old) (T.view tree.new) }
-    ensures quiet { OnOk result (IsQuiet (T.view tree.new)) }
-    ensures cause { IfErr result (λ why. (why ≡ Why.TreeFault) × Rises (T.view tree.old) (T.view tree.new)) }
-{
-    match tree.settle() {
-        Ok(()) => Ok(()),
-        Err(_) => Err(Why::TreeFault),
     }
 }
 

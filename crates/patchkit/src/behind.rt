@@ -1,8 +1,8 @@
 //! The line behind the line of an answer: what helps whoever reads it.
 
 use crate::trouble::Trouble;
-use patch_cli::Why;
 use std::alloc::{AllocError, Global};
+use tool_run::Why;
 
 /// The largest buffer that can be asked for.
 const LARGEST_BUFFER: u64 = 1_048_576;

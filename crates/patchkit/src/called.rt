@@ -11,15 +11,12 @@ const LONGEST: usize = 4_096;
 
 /// The tool of this name.
 fn tool_named(word: &str) -> Option<&'static str> {
-    match word {
-        "patch" => Some("patch"),
-        "lsdiff" => Some("lsdiff"),
-        "filterdiff" => Some("filterdiff"),
-        "grepdiff" => Some("grepdiff"),
-        "splitdiff" => Some("splitdiff"),
-        "recountdiff" => Some("recountdiff"),
-        "patchgen" => Some("patchgen"),
-        _ => None,
+    if word == "patch" {
+        return Some("patch");
+    }
+    match tool_words::tool_named(word) {
+        Some(tool) => Some(tool.name()),
+        None => None,
     }
 }
 

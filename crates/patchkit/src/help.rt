@@ -1,6 +1,7 @@
 //! What the program tells of itself: its tools, the words of each, and its version.
 
 use crate::called::tool_of;
+use tool_words::{Tool, tool_named};
 
 /// The version, and what the program is proved with. `make dist` reads it here.
 const VERSION: &str = "patchkit 0.1.0, proved with rattle-kit-13b logic dac8208d650f15bf\n";
@@ -11,7 +12,12 @@ Usage: patchkit TOOL [WORD]...
   or:  TOOL [WORD]..., where a link of the tool's name points to patchkit
 
 The tools:
-  patch      apply changes to files
+  patch        apply changes to files
+  lsdiff       list the file patches of a patch text
+  filterdiff   write the file patches and hunks of a patch text that are meant
+  grepdiff     find the file patches that have a line with a match
+  splitdiff    cut a patch text into files
+  recountdiff  make the counts of the hunks of a unified patch text true
 
 'TOOL --help' tells the words of each, and '--version' the version.
 ";
@@ -72,13 +78,20 @@ What other programs pass, and what changes nothing:
 The status is 0 where every hunk was placed, 1 where one wasn't, else 2.
 ";
 
+/// What is told.
+pub enum Told {
+    Text(&'static str),
+    /// The words of a tool.
+    Words(Tool),
+}
+
 /// What `--help`, `--version` or no word at all asks for. No command has these words in front of a `--`.
-pub fn told(words: &[String]) -> Option<&'static str> {
+pub fn told(words: &[String]) -> Option<Told> {
     if words.is_empty() {
-        return Some(TOOLS);
+        return Some(Told::Text(TOOLS));
     }
     match asked(words) {
-        Some("--version") => Some(VERSION),
+        Some("--version") => Some(Told::Text(VERSION)),
         Some(_) => help_of(tool_of(words)),
         None => None,
     }
@@ -98,10 +111,17 @@ fn asked(words: &[String]) -> Option<&str> {
 }
 
 /// The words of a tool. Those of one that isn't built aren't told.
-fn help_of(tool: &str) -> Option<&'static str> {
+fn help_of(tool: &str) -> Option<Told> {
     match tool {
-        "patch" => Some(PATCH),
-        "patchkit" => Some(TOOLS),
-        _ => None,
+        "patch" => Some(Told::Text(PATCH)),
+        "patchkit" => Some(Told::Text(TOOLS)),
+        _ => words_of(tool_named(tool)),
+    }
+}
+
+fn words_of(tool: Option<Tool>) -> Option<Told> {
+    match tool {
+        Some(Tool::Patchgen | Tool::Reversediff | Tool::Patchstack) | None => None,
+        Some(tool) => Some(Told::Words(tool)),
     }
 }

@@ -18,16 +18,18 @@ mod unsynced;
 use crate::behind::line_behind;
 use crate::called::{called_tool, tool_of, words_of};
 use crate::disk::Disk;
-use crate::help::told;
+use crate::help::{Told, told};
 use crate::pages::Pages;
 use crate::streams::{Input, Output};
 use crate::trouble::Trouble;
-use outside::{Sink, put_all};
-use patch_cli::{Why, run};
+use outside::{Scratch, Sink, Source, Tree, put_all};
+use patch_filters::RegexFinder;
 use std::alloc::Global;
 use std::io;
 use std::io::{ErrorKind, Write};
 use std::process::ExitCode;
+use tool_run::{Exit, Why, run};
+use tool_words::{Tool, usage};
 
 /// The status of every answer that is no application: a refusal, a fault or want of memory.
 const REFUSED: u8 = 2;
@@ -44,7 +46,8 @@ fn main(rt: HostRuntime) -> ExitCode {
 fn answer(rt: &HostRuntime, words: &[String]) -> u8 {
     let tool = tool_of(words);
     let done = match told(words) {
-        Some(text) => tell(rt, tool, text),
+        Some(Told::Text(text)) => tell(rt, tool, text),
+        Some(Told::Words(of)) => tell_words(rt, tool, of),
         None => carry_out(rt, tool, words),
     };
     match done {
@@ -66,6 +69,12 @@ fn tell(rt: &HostRuntime, tool: &str, text: &str) -> io::Result<u8> {
     Ok(if is_written { 0 } else { REFUSED })
 }
 
+/// Tells the words of a tool, made of its table.
+fn tell_words(rt: &HostRuntime, tool: &str, of: Tool) -> io::Result<u8> {
+    let text = usage(rt.alloc(), of)?;
+    tell(rt, tool, text.as_str())
+}
+
 /// Carries the words out over the real devices.
 fn carry_out(rt: &HostRuntime, tool: &str, words: &[String]) -> io::Result<u8> {
     let alloc = rt.alloc();
@@ -74,7 +83,7 @@ fn carry_out(rt: &HostRuntime, tool: &str, words: &[String]) -> io::Result<u8> {
     let mut out = Output::new(alloc, rt.stdout())?;
     let mut err = Output::new(alloc, rt.stderr())?;
     let scratch = Pages::new(alloc, rt);
-    let (exit, pages) = run(
+    let (exit, pages) = run_words(
         alloc, words, &mut tree, scratch, &mut input, &mut out, &mut err,
     );
     let paged = pages.remove();
@@ -91,6 +100,29 @@ fn carry_out(rt: &HostRuntime, tool: &str, words: &[String]) -> io::Result<u8> {
     }
     let _ = err.flush();
     Ok(if is_written { exit.status } else { REFUSED })
+}
+
+/// The run, with a finder of regular expressions.
+fn run_words<T: Tree, C: Scratch, I: Source, O: Sink, E: Sink>(
+    alloc: Global,
+    words: &[String],
+    tree: &mut T,
+    scratch: C,
+    input: &mut I,
+    out: &mut O,
+    err: &mut E,
+) -> (Exit, C) {
+    let mut finder = RegexFinder::new();
+    run(
+        alloc,
+        words,
+        tree,
+        scratch,
+        &mut finder,
+        input,
+        out,
+        err,
+    )
 }
 
 /// Writes the line behind an answer's, as far as memory and the device allow.

@@ -1,0 +1,6 @@
+pub mod Whole
+pub mod Behind
+pub mod Early
+pub mod Sifted
+pub mod Sifters
+pub mod Split

@@ -1,0 +1,67 @@
+-- The filters that write one text, each as its words in two crates agree.
+use Rattle.std.proofs.Common.{◌≡◌, ◌⊎◌, inl, inr, ⊎_elim, ℕ, List, [], Bool, false, Result, Ok, Err, refl, ap, sym, ◌∙◌}
+use Rattle.outside.specs.Files.{Files}
+use Rattle.outside.specs.FinderView.{FinderView}
+use Rattle.outside.specs.Quiet.{Effect}
+use Rattle.patch_options.specs.declared.options.Input.{Input}
+use Rattle.patch_options.specs.declared.options.Input.TheVariants.{Standard, File}
+use Rattle.patch_input.specs.Input.{IsFile, IsStandard}
+use Rattle.tool_words.specs.PlainJobs.{PlainListJob, PlainFilterJob, PlainGrepJob}
+use Rattle.tool_words.specs.PlainJobs.PlainToolJob.{list_job, filter_job, grep_job, recount_job}
+use Rattle.filter_run.specs.declared.fault.FilterFault.{FilterFault}
+use Rattle.filter_run.specs.Outcomes.{IsOutcomeOf, IsGrepped, list_outcome, filter_outcome, grep_outcome, recount_outcome, no_selection}
+use Rattle.filter_run.specs.Sifting.{HasTextCause, HasCountCause}
+use Rattle.filter_cli.specs.Command.{written}
+use Rattle.filter_cli.proofs.Sifted.{Agrees}
+
+-- an input is standard input or a file
+pub file-unless : (i : Input) → (IsStandard i → ⊥) → IsFile i
+file-unless Standard never = never tt
+file-unless (File name) never = tt
+
+pub lists : (j : PlainListJob) (v : FinderView) → Agrees (list_job j) j.input j.select HasTextCause ⊥ (IsOutcomeOf (list_outcome j)) v
+lists j v = record {
+  from = λ is. is;
+  to = λ is. is;
+  named = λ is. is;
+  texts = λ e is. is;
+  pattern = λ is. absurd is;
+  outcome = λ f left o is. inl (ap (λ (x : Result (List ℕ) FilterFault). written x) is);
+  uncut = λ why f u w. tt;
+}
+
+pub filters : (j : PlainFilterJob) (v : FinderView) → Agrees (filter_job j) j.input j.select HasTextCause ⊥ (IsOutcomeOf (filter_outcome j)) v
+filters j v = record {
+  from = λ is. is;
+  to = λ is. is;
+  named = λ is. is;
+  texts = λ e is. is;
+  pattern = λ is. absurd is;
+  outcome = λ f left o is. inl (ap (λ (x : Result (List ℕ) FilterFault). written x) is);
+  uncut = λ why f u w. tt;
+}
+
+pub greps : (j : PlainGrepJob) (v : FinderView) → Agrees (grep_job j) j.input j.select HasTextCause (v.takes j.pattern ≡ false) (IsGrepped v.takes v.hit j) v
+greps j v = record {
+  from = λ is. is;
+  to = λ is. is;
+  named = λ is. is;
+  texts = λ e is. is;
+  pattern = λ is. is;
+  outcome = λ f left o is. ⊎_elim
+      (λ same. inl (ap (λ (x : Result (List ℕ) FilterFault). written x) same))
+      (λ (takes, refuses, has). inr (ap (λ (x : Result (List ℕ) FilterFault). written x) refuses, (takes, has)))
+      is;
+  uncut = λ why f u w. tt;
+}
+
+pub recounts : (i : Input) (v : FinderView) → Agrees (recount_job i) i no_selection HasCountCause ⊥ (IsOutcomeOf (recount_outcome i)) v
+recounts i v = record {
+  from = λ is. is;
+  to = λ is. is;
+  named = λ is. is;
+  texts = λ e is. is;
+  pattern = λ is. absurd is;
+  outcome = λ f left o is. inl (ap (λ (x : Result (List ℕ) FilterFault). written x) is);
+  uncut = λ why f u w. tt;
+}

@@ -1,0 +1,196 @@
+-- A run of `splitdiff`.
+use Rattle.std.proofs.Common.{◌≡◌, ◌≢◌, ◌⊎◌, inl, inr, ⊎_elim, ℕ, zero, ◌+◌, ◌≤◌, List, [], ◌++◌, length, map, take, drop, Bool, true, false, Some, Result, Ok, Err, refl, sym, ◌∙◌, ap, subst, arith}
+use Rattle.std.specs.List.{flat_map}
+use Rattle.std.proofs.lemmas.Bool.{false≢true}
+use Rattle.std.proofs.lemmas.List.Concat.{flat_map-append}
+use Rattle.std.proofs.lemmas.List.{length-map, take-append-drop, take-map}
+use Rattle.std.proofs.lemmas.Option.{same_Some}
+use Rattle.line_list.specs.declared.Span.{Span}
+use Rattle.outside.specs.Files.{Files, SameLasting}
+use Rattle.outside.specs.TreeView.{TreeView}
+use Rattle.outside.specs.FinderView.{FinderView, finder_passes_none}
+use Rattle.outside.specs.SourceView.{SourceView, source_passes_none}
+use Rattle.outside.specs.SinkView.{SinkView, ReceivesPart}
+use Rattle.outside.specs.Quiet.{IsQuiet, TellsPrefix, after_all}
+use Rattle.outside.proofs.Writing.{part_longer}
+use Rattle.tool_words.specs.PlainJobs.{PlainSplitJob}
+use Rattle.tool_words.specs.PlainJobs.PlainToolJob.{split_job}
+use Rattle.patch_input.specs.declared.fault.InputFault.TheVariants as input
+use Rattle.patch_set.specs.declared.fault.SetFault.TheVariants as set
+use Rattle.patch_effects.specs.Making.{IsTidy}
+use Rattle.patch_filters.specs.Selected.{numbered}
+use Rattle.filter_run.specs.declared.fault.FilterFault.{FilterFault}
+use Rattle.filter_run.specs.declared.fault.FilterFault.TheVariants as faults
+use Rattle.filter_run.specs.Sifting.{is_refusal}
+use Rattle.filter_run.specs.Parting.{AreCutAt, ArePut, IsNotBegun, TidyAfter, part_line, part_lines, part_put, part_puts}
+use Rattle.filter_run.specs.Splits.{Cut, HasSplitCause, SplitFault, Splits, split_outcome}
+use Rattle.run_answers.specs.declared.why.Why.{Why}
+use Rattle.run_answers.specs.declared.why.Why.TheVariants.{Done, TreeFault}
+use Rattle.run_answers.specs.Answers.{is_fault, is_own}
+use Rattle.run_answers.proofs.Opens.{opens_untouched}
+use Rattle.filter_cli.specs.Command.{Outcome, command, of_filter, parted, why_by}
+use Rattle.filter_cli.specs.Worlds.{World, world}
+use Rattle.filter_cli.specs.Causes.{HasCause}
+use Rattle.filter_cli.specs.Carries.{IsAnswer, FirstPart, Answers, IsAsAtEntry, is_early, IsCutAt, BreaksOff, LeavesAllowed, ByOutcome, Carries}
+use Rattle.filter_cli.proofs.Whole.{carries_does, refused_so, nothing_yet}
+use Rattle.filter_cli.proofs.Sifted.{own-is, never-done, set-cause}
+
+-- ---- a first part of the names that are written
+lines-front : (file : List ℕ) (rows : List (ℕ × Span)) (k : ℕ) → part_lines file (take k rows) ++ part_lines file (drop k rows) ≡ part_lines file rows
+lines-front file rows k =
+    sym (flat_map-append (part_line file) (take k rows) (drop k rows))
+    ∙ ap (λ (l : List (ℕ × Span)). part_lines file l) (take-append-drop k rows)
+
+said-part : (c d : SinkView) (file : List ℕ) (rows : List (ℕ × Span)) (k : ℕ) → ReceivesPart c d (part_lines file (take k rows)) → ReceivesPart c d (part_lines file rows)
+said-part c d file rows k part = subst (λ (l : List ℕ). ReceivesPart c d l) (lines-front file rows k) (part_longer c d (part_lines file (take k rows)) (part_lines file (drop k rows)) part)
+
+module _ (j : PlainSplitJob) (h : FinderView) (a : SourceView) (t w : TreeView) (c d : SinkView) where
+  abbrev before : World
+  before = world t h a c
+
+  abbrev behind : World
+  behind = world w h a d
+
+  split-cause : (e : FilterFault) → HasSplitCause e t w c d → HasCause (of_filter e) (Ok (split_job j)) before behind
+  split-cause (faults.Input input.NoPatchFile) x = tt
+  split-cause (faults.Input input.TooLong) x = tt
+  split-cause (faults.Input input.Source) x = absurd x
+  split-cause (faults.Input input.Tree) x = x
+  split-cause (faults.Input (input.Disagree want got)) x = x
+  split-cause (faults.Input input.Memory) x = tt
+  split-cause (faults.Set e) x = set-cause e (split_job j) before behind x
+  split-cause faults.Pattern x = absurd x
+  split-cause faults.Tree x = x
+  split-cause faults.Write x = x
+  split-cause faults.Memory x = tt
+
+  -- what comes before anything is written is a refusal
+  split-early : (e : FilterFault) → HasSplitCause e t w c d → is_early (of_filter e) ≡ true → is_refusal e ≡ true
+  split-early (faults.Input input.NoPatchFile) x early = refl
+  split-early (faults.Input input.TooLong) x early = refl
+  split-early (faults.Input input.Source) x early = absurd x
+  split-early (faults.Input input.Tree) x early = early
+  split-early (faults.Input (input.Disagree want got)) x early = early
+  split-early (faults.Input input.Memory) x early = early
+  split-early (faults.Set (set.Malformed line kind)) x early = refl
+  split-early (faults.Set set.Garbage) x early = refl
+  split-early (faults.Set set.TooLong) x early = refl
+  split-early (faults.Set (set.OutMany count)) x early = refl
+  split-early (faults.Set (set.EdReverse line)) x early = refl
+  split-early (faults.Set (set.Reserved line)) x early = refl
+  split-early (faults.Set set.Memory) x early = early
+  split-early faults.Pattern x early = refl
+  split-early faults.Tree x early = early
+  split-early faults.Write x early = early
+  split-early faults.Memory x early = early
+
+  split-tidy : (e : FilterFault) → TidyAfter (Err e) t w → is_fault (of_filter e) ≡ false → IsTidy t w
+  split-tidy (faults.Input e) tidy none = tidy
+  split-tidy (faults.Set e) tidy none = tidy
+  split-tidy faults.Pattern tidy none = tidy
+  split-tidy faults.Tree tidy none = absurd (cc)
+  split-tidy faults.Write tidy none = tidy
+  split-tidy faults.Memory tidy none = tidy
+
+  not-begun : IsNotBegun t w c d → IsAsAtEntry before behind
+  not-begun none = let opens = opens_untouched none.tree in record { told = opens.told; out = none.out; images = opens.images }
+
+  module _ (f : Files) (left : List ℕ) (told : t.told ≡ Some f) where
+    abbrev come : Outcome
+    come = command h.hit (Ok (split_job j)) f left
+
+    -- some of the parts are put
+    module _ (x : Cut) (is : split_outcome j f ≡ Ok x) where
+      comes : parted j.input (Ok x) ≡ come
+      comes = ap (λ (o : Result Cut FilterFault). parted j.input o) (sym is)
+
+      puts-first : (k : ℕ) → ((g : Files) → w.told ≡ Some g → SameLasting (after_all (part_puts j.input x.0 (take k (numbered x.1))) f) g) → k ≤ length (numbered x.1)
+          → TellsPrefix t w (part_puts j.input x.0 (numbered x.1))
+      puts-first k files few g0 g was now =
+          let rows = numbered x.1 in
+          let same : SameLasting (after_all (part_puts j.input x.0 (take k rows)) g0) g = subst (λ (y : Files). SameLasting (after_all (part_puts j.input x.0 (take k rows)) y) g) (same_Some _ _ (sym told ∙ was)) (files g now) in
+          (
+            k,
+            subst (λ (n : ℕ). k ≤ n) (sym (length-map rows (part_put j.input x.0))) few,
+            subst (λ es. SameLasting (after_all es g0) g) (sym (take-map (part_put j.input x.0) k rows)) same,
+          )
+
+      cut-first : (e : FilterFault) (k : ℕ) → AreCutAt j.input x.0 (numbered x.1) e f t w c d k → FirstPart before behind (parted j.input (Ok x))
+      cut-first e k cut = record { tells = puts-first k cut.files cut.few; said = said-part c d j.input (numbered x.1) k cut.out }
+
+      put-all : ArePut j.input x.0 (numbered x.1) f t w c d → IsAnswer Done f before behind (parted j.input (Ok x))
+      put-all put = record { is = refl; text = put.out; files = put.files }
+
+    split-answers : (b : Bool) (e : FilterFault) → (b ≡ true → IsNotBegun t w c d) → SplitFault b e j f t w c d → ByOutcome (Ok (split_job j)) before f left (Answers b (of_filter e) f before behind)
+    split-answers true e none is = (
+      parted j.input (Err e),
+      inl (ap (λ (o : Result Cut FilterFault). parted j.input o) (sym is)),
+      refused_so (Ok (split_job j)) before behind (not-begun (none refl)) (of_filter e) f told,
+    )
+    split-answers false e none fault = ⊎_elim
+        (λ not. (come, inl refl, nothing_yet (Ok (split_job j)) before behind (not-begun not) f come told))
+        (λ (x, is, (k, cut)). (parted j.input (Ok x), inl (comes x is), cut-first x is e k cut))
+        fault
+
+    leaves-none : IsNotBegun t w c d → LeavesAllowed before behind f come.effects
+    leaves-none none g since = inl ((not-begun none).images g since)
+
+    split-leaves : (b : Bool) (e : FilterFault) → (b ≡ true → IsNotBegun t w c d) → SplitFault b e j f t w c d → LeavesAllowed before behind f come.effects
+    split-leaves true e none is = leaves-none (none refl)
+    split-leaves false e none fault = ⊎_elim
+        (λ not. leaves-none not)
+        (λ (x, is, (k, cut)). subst (λ (o : Outcome). LeavesAllowed before behind f o.effects) (comes x is) (λ g since. inr (cut.leaves f told g since)))
+        fault
+
+    split-breaks : (b : Bool) (e : FilterFault) → b ≡ false → SplitFault b e j f t w c d → BreaksOff (Ok (split_job j)) (of_filter e) f before behind
+    split-breaks true e own is = absurd (cc)
+    split-breaks false e own fault = ⊎_elim
+        (λ not. inl (not-begun not))
+        (λ (x, is, (k, cut)). inr (x, is, (k, record {
+          few = cut.few;
+          files = cut.files;
+          exact = λ whole. cut.exact (λ failed. whole (ap of_filter failed));
+          out = cut.out;
+          said = cut.said;
+          near = cut.near;
+          names = cut.names;
+        })))
+        fault
+
+  pub split_carry : (r : Result (Unit {0}) FilterFault) → Splits j t w c d r → Carries (Ok (split_job j)) before behind (why_by r)
+  split_carry (Ok done) x = carries_does Done (record {
+    tree = x.tree;
+    finder = finder_passes_none h;
+    source = source_passes_none a;
+    sink = x.sink;
+    cause = tt;
+    untouched = λ early. absurd (false≢true early);
+    quiet = λ is. x.quiet;
+    read = λ is reads. absurd reads;
+    unread = λ never. refl;
+    taken = λ left told. (zero, omega arith, told);
+    answers = λ f left told.
+        let (cut, is, put) = x.answers f told.files in
+        (parted j.input (Ok cut), inl (comes f left told.files cut is), put-all f left told.files cut is put);
+    images = λ f left told.
+        let (cut, is, put) = x.answers f told.files in
+        subst (λ (o : Outcome). LeavesAllowed before behind f o.effects) (comes f left told.files cut is) (λ g since. inr (put.leaves f told.files g since));
+    cut = λ own. absurd (false≢true (sym own));
+    tidy = λ none. x.tidy;
+  })
+  split_carry (Err e) x = carries_does (of_filter e) (record {
+    tree = x.tree;
+    finder = finder_passes_none h;
+    source = source_passes_none a;
+    sink = x.sink;
+    cause = split-cause e x.cause;
+    untouched = λ early. not-begun (x.refused (split-early e x.cause early));
+    quiet = λ is. absurd (never-done e is);
+    read = λ is. absurd (never-done e is);
+    unread = λ never. refl;
+    taken = λ left told. (zero, omega arith, told);
+    answers = λ f left told. subst (λ b. ByOutcome (Ok (split_job j)) before f left (Answers b (of_filter e) f before behind)) (sym (own-is e)) (split-answers f left told.files (is_refusal e) e x.refused (x.answers f told.files));
+    images = λ f left told. split-leaves f left told.files (is_refusal e) e x.refused (x.answers f told.files);
+    cut = λ own f left told. split-breaks f left told.files (is_refusal e) e (sym (own-is e) ∙ own) (x.answers f told.files);
+    tidy = λ none. split-tidy e x.tidy none;
+  })

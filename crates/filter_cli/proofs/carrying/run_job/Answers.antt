@@ -1,0 +1,14 @@
+use Rattle.std.proofs.Common.{Ok, ◌∙◌}
+use Rattle.tool_words.specs.PlainJobs.{plain_tool_job}
+use Rattle.filter_cli.proofs.Behind.{carries_behind}
+use Rattle.filter_cli.proofs.Early.{settle_carry}
+use Rattle.filter_cli.proofs.carrying.run_job.Goals as goal
+
+pub returns-in-Ok-clause-carries : goal.returns-in-Ok-clause-carries
+returns-in-Ok-clause-carries g c = carries_behind (Ok (plain_tool_job c.args.job)) _ _ _ _ _ c.settle.ensures.opens _ _ c.run_settled.ensures.carries
+
+pub returns-in-Ok-clause-unasked : goal.returns-in-Ok-clause-unasked
+returns-in-Ok-clause-unasked g c f left told none = c.run_settled.ensures.unasked f left (record { files = c.settle.ensures.opens.told ∙ told.files; source = told.source }) none
+
+pub returns-in-Err-clause-carries : goal.returns-in-Err-clause-carries
+returns-in-Err-clause-carries g c = settle_carry (Ok (plain_tool_job c.args.job)) _ _ _ _ _ c.in-Err.why c.settle.ensures.opens c.in-Err.ensures.cause.0 c.in-Err.ensures.cause.1

@@ -1,0 +1,24 @@
+use Rattle.std.proofs.Common.{Ok, ap, false, ◌≡◌}
+use Rattle.tool_words.specs.PlainJobs.{plain_grep_job}
+use Rattle.tool_words.specs.PlainJobs.PlainToolJob.{grep_job}
+use Rattle.filter_run.specs.Outcomes.{IsGrepped}
+use Rattle.filter_run.specs.Sifting.{HasTextCause}
+use Rattle.filter_cli.specs.Command.{why_by}
+use Rattle.filter_cli.specs.Worlds.{world}
+use Rattle.filter_cli.proofs.Whole.{carries_is}
+use Rattle.filter_cli.proofs.Sifted.{sifts_carry}
+use Rattle.filter_cli.proofs.Sifters.{greps, file-unless}
+use Rattle.filter_cli.proofs.tools.grepdiff.Goals as goal
+
+pub returns-clause-carries : goal.returns-clause-carries
+returns-clause-carries g c =
+    let j = plain_grep_job c.args.job in
+    let v = g.F.Finder.view c.args.finder.now in
+    let u = world (g.T.Tree.view c.args.tree.now) v (g.I.Source.view c.args.source.now) (g.O.Sink.view c.args.out.now) in
+    let w = world (g.T.Tree.view c.run_grep.new.tree) (g.F.Finder.view c.run_grep.new.finder) (g.I.Source.view c.run_grep.new.source) (g.O.Sink.view c.run_grep.new.out) in
+    carries_is c.answer.result (why_by c.run_grep.result) c.answer.ensures
+    (sifts_carry (grep_job j) j.input j.select HasTextCause (v.takes j.pattern ≡ false) (IsGrepped v.takes v.hit j) u w (greps j v) c.run_grep.ensures.finder c.requires.quiet
+    (λ never. ap (λ x. g.I.Source.view x) (c.run_grep.ensures.unread (file-unless j.input never))) c.run_grep.result c.run_grep.ensures.sifts)
+
+pub returns-clause-unasked : goal.returns-clause-unasked
+returns-clause-unasked g c v f left told none = c.run_grep.ensures.unasked f left (record { files = told.files; left = told.source }) none

@@ -1,0 +1,75 @@
+-- What a filter comes to, by its words, the files of the tree and what standard input has left (manual pages of patchutils).
+use Rattle.std.specs.Prelude.{◌≡◌, ◌⊎◌, ℕ, List, [], Bool, Result, Ok, Err}
+use Rattle.outside.specs.Files.{Files}
+use Rattle.outside.specs.FinderView.{FinderView}
+use Rattle.outside.specs.Quiet.{Effect}
+use Rattle.patch_options.specs.declared.options.WordFault.{WordFault}
+use Rattle.tool_words.specs.PlainJobs.{PlainToolJob}
+use Rattle.tool_words.specs.PlainJobs.PlainToolJob.{list_job, filter_job, grep_job, split_job, recount_job}
+use Rattle.patch_filters.specs.Selected.{numbered}
+use Rattle.filter_run.specs.declared.fault.FilterFault.{FilterFault}
+use Rattle.filter_run.specs.declared.fault.FilterFault.TheVariants as faults
+use Rattle.filter_run.specs.Outcomes.{HasPatches, given, list_outcome, filter_outcome, grep_outcome, recount_outcome}
+use Rattle.filter_run.specs.Parting.{part_lines, part_puts}
+use Rattle.filter_run.specs.Splits.{Cut, split_outcome}
+use Rattle.run_answers.specs.declared.why.Why.{Why}
+use Rattle.run_answers.specs.declared.why.Why.TheVariants.{Done, BadPattern, WriteFault, TreeFault, Memory, Unsupported}
+use Rattle.run_answers.specs.Answers.{of_words, of_input, of_set}
+use Rattle.filter_cli.specs.Jobs.{AsksFor, MayBeRefused}
+
+pub record Outcome : Type 0 where
+  pub why : Why
+  -- what goes to standard output
+  pub text : List ℕ
+  pub effects : List Effect
+
+-- a refusal says nothing and changes nothing
+abbrev pub refused : Why → Outcome
+refused why = record { why = why; text = []; effects = [] }
+
+-- the answer that a filter's fault is
+abbrev pub of_filter : FilterFault → Why
+of_filter (faults.Input fault) = of_input fault
+of_filter (faults.Set fault) = of_set fault
+of_filter faults.Pattern = BadPattern
+of_filter faults.Tree = TreeFault
+of_filter faults.Write = WriteFault
+of_filter faults.Memory = Memory
+
+-- the answer of a filter that came to its end, or didn't
+abbrev pub why_by : Result (Unit {0}) FilterFault → Why
+why_by (Ok done) = Done
+why_by (Err fault) = of_filter fault
+
+-- a text is written, and the tree stays
+abbrev pub written : Result (List ℕ) FilterFault → Outcome
+written (Ok text) = record { why = Done; text = text; effects = [] }
+written (Err fault) = refused (of_filter fault)
+
+-- the parts of a text are put, and their names are written
+abbrev pub parted : List ℕ → Result Cut FilterFault → Outcome
+parted file (Ok x) = record { why = Done; text = part_lines file (numbered x.1); effects = part_puts file x.0 (numbered x.1) }
+parted file (Err fault) = refused (of_filter fault)
+
+-- what a job comes to, for what the finder hits
+abbrev pub on_job : (List ℕ → List ℕ → Bool) → PlainToolJob → Files → List ℕ → Outcome
+on_job hit (list_job j) files left = written (list_outcome j files left)
+on_job hit (filter_job j) files left = written (filter_outcome j files left)
+on_job hit (grep_job j) files left = written (grep_outcome hit j files left)
+on_job hit (split_job j) files left = parted j.input (split_outcome j files)
+on_job hit (recount_job input) files left = written (recount_outcome input files left)
+on_job hit job files left = refused Unsupported
+
+-- what the words come to that ask for this
+abbrev pub command : (List ℕ → List ℕ → Bool) → Result PlainToolJob WordFault → Files → List ℕ → Outcome
+command hit (Ok job) files left = on_job hit job files left
+command hit (Err fault) files left = refused (of_words fault)
+
+-- there are file patches to search for a pattern
+abbrev pub Searches : PlainToolJob → Files → List ℕ → Type 0
+Searches (grep_job j) files left = HasPatches (given j.input j.select files left)
+Searches job files left = ⊥
+
+-- the outcome is the command's; or a pattern that isn't always taken is refused, where there are file patches to search
+abbrev pub IsOutcome : FinderView → Result PlainToolJob WordFault → Files → List ℕ → Outcome → Type 0
+IsOutcome v job files left o = (o ≡ command v.hit job files left) ⊎ ((o ≡ refused BadPattern) × AsksFor job (λ j. MayBeRefused v j × Searches j files left))

@@ -1,0 +1,77 @@
+-- What the words of a filter ask for, as far as it is built, and what a job reads.
+use Rattle.std.specs.Prelude.{◌≡◌, ℕ, List, Bool, true, false, is_none, if◌then◌else◌, Result, Ok, Err}
+use Rattle.outside.specs.FinderView.{FinderView}
+use Rattle.patch_options.specs.declared.options.WordFault.{WordFault}
+use Rattle.patch_options.specs.declared.options.WordFault.TheVariants.{Unsupported}
+use Rattle.tool_words.specs.PlainJobs.{PlainToolJob}
+use Rattle.tool_words.specs.PlainJobs.PlainToolJob.{list_job, filter_job, grep_job, split_job, recount_job, gen_job, flip_job, stack_job}
+use Rattle.tool_words.specs.Words.{tool_job}
+use Rattle.patch_input.specs.Input.{IsStandard}
+use Rattle.patch_set.specs.declared.fault.SetFault.{SetFault}
+use Rattle.filter_run.specs.Outcomes.{no_selection}
+use Rattle.filter_run.specs.Sifting.{HasTextCause, HasSetCause, HasCountCause}
+use Rattle.filter_run.specs.Sifting as sifting
+
+-- the job is built
+abbrev pub is_built : PlainToolJob → Bool
+is_built (list_job j) = true
+is_built (filter_job j) = is_none j.format
+is_built (grep_job j) = true
+is_built (split_job j) = true
+is_built (recount_job input) = true
+is_built (gen_job j) = false
+is_built (flip_job input) = false
+is_built (stack_job op) = false
+
+-- what isn't built isn't supported
+abbrev pub as_built : Result PlainToolJob WordFault → Result PlainToolJob WordFault
+as_built (Ok job) = if is_built job then Ok job else Err Unsupported
+as_built (Err fault) = Err fault
+
+-- what the words ask for; the first names the tool
+abbrev pub job_of : List (List ℕ) → Result PlainToolJob WordFault
+job_of words = as_built (tool_job words)
+
+-- the words ask for a job of which P holds
+abbrev pub AsksFor : Result PlainToolJob WordFault → (PlainToolJob → Type 0) → Type 0
+AsksFor (Ok job) P = P job
+AsksFor (Err fault) P = ⊥
+
+-- it reads standard input
+abbrev pub IsFromSource : PlainToolJob → Type 0
+IsFromSource (list_job j) = IsStandard j.input
+IsFromSource (filter_job j) = IsStandard j.input
+IsFromSource (grep_job j) = IsStandard j.input
+IsFromSource (recount_job input) = IsStandard input
+IsFromSource job = ⊥
+
+abbrev pub ReadsSource : Result PlainToolJob WordFault → Type 0
+ReadsSource job = AsksFor job IsFromSource
+
+-- it names a file that is read
+abbrev pub NamesFile : PlainToolJob → Type 0
+NamesFile (list_job j) = sifting.NamesFile j.input j.select
+NamesFile (filter_job j) = sifting.NamesFile j.input j.select
+NamesFile (grep_job j) = sifting.NamesFile j.input j.select
+NamesFile (recount_job input) = sifting.NamesFile input no_selection
+NamesFile (split_job j) = Unit {0}
+NamesFile job = ⊥
+
+-- some text is refused so: `lsdiff`, `filterdiff` and `grepdiff` take one without file patches, and `recountdiff` refuses bad hunks alone
+abbrev pub MayFault : PlainToolJob → SetFault → Type 0
+MayFault (list_job j) fault = HasTextCause fault
+MayFault (filter_job j) fault = HasTextCause fault
+MayFault (grep_job j) fault = HasTextCause fault
+MayFault (recount_job input) fault = HasCountCause fault
+MayFault (split_job j) fault = HasSetCause fault
+MayFault job fault = ⊥
+
+-- it looks for a pattern
+abbrev pub HasPattern : PlainToolJob → Type 0
+HasPattern (grep_job j) = Unit {0}
+HasPattern job = ⊥
+
+-- which the finder doesn't always take
+abbrev pub MayBeRefused : FinderView → PlainToolJob → Type 0
+MayBeRefused v (grep_job j) = v.takes j.pattern ≡ false
+MayBeRefused v job = ⊥

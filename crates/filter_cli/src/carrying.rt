@@ -1,0 +1,96 @@
+//! A run of a filter, from its words to its answer.
+ghost use Rattle.std.specs.Prelude.{◌≡◌, ◌⊎◌, ℕ, List, map, true, Ok, Err, string_bytes};
+ghost use Rattle.outside.specs.Files.{Files};
+ghost use Rattle.outside.specs.Quiet.{IsQuiet};
+ghost use Rattle.patch_options.specs.declared.options.WordFault.{WordFault};
+ghost use Rattle.tool_words.specs.PlainJobs.{plain_tool_job};
+ghost use Rattle.run_answers.specs.Answers.{of_words};
+ghost use Rattle.filter_cli.specs.Jobs.{AsksFor, HasPattern, ReadsSource, is_built, job_of};
+ghost use Rattle.filter_cli.specs.Command.{Searches};
+ghost use Rattle.filter_cli.specs.Worlds.{world, Tells};
+ghost use Rattle.filter_cli.specs.Carries.{Carries};
+
+use crate::reading::read_job;
+use crate::tools::{filterdiff, grepdiff, lsdiff, recountdiff, splitdiff};
+use outside::{Finder, Sink, Source, Tree};
+use run_answers::{Why, settle};
+use std::alloc::Global;
+use tool_words::ToolJob;
+
+/// Carries out the words of a filter. `words[0]` is a tool beside `patch`; those that are no filters aren't supported yet.
+///
+/// `carries` says, of what the command does over the tree and the input at entry: which answer comes, with its text and its
+/// files; first parts of the text and of the effects after a fault; that a refusal left tree and standard output as they were;
+/// and what each crash since the call began can leave.
+pub fn run_filter<T: Tree, F: Finder, I: Source, O: Sink>(
+    alloc: Global,
+    words: &[String],
+    tree: &mut T,
+    finder: &mut F,
+    source: &mut I,
+    out: &mut O,
+) -> Why
+    ensures carries { Carries (job_of (map string_bytes words.now)) (world (T.view tree.old) (F.view finder.old) (I.view source.old) (O.view out.old)) (world (T.view tree.new) (F.view finder.new) (I.view source.new) (O.view out.new)) result }
+    // Words that give no job are answered before any device is called.
+    ensures words { (fault : WordFault) → job_of (map string_bytes words.now) ≡ Err fault → (result ≡ of_words fault) ⊎ (result ≡ Why.Memory) }
+    ensures still { (fault : WordFault) → job_of (map string_bytes words.now) ≡ Err fault → tree.new ≡ tree.old }
+    ensures silent { (fault : WordFault) → job_of (map string_bytes words.now) ≡ Err fault → out.new ≡ out.old }
+    ensures unread { (ReadsSource (job_of (map string_bytes words.now)) → ⊥) → source.new ≡ source.old }
+    ensures unasked { (f : Files) (left : List ℕ) → Tells (job_of (map string_bytes words.now)) (world (T.view tree.old) (F.view finder.old) (I.view source.old) (O.view out.old)) f left → (AsksFor (job_of (map string_bytes words.now)) (λ j. Searches j f left) → ⊥) → finder.new ≡ finder.old }
+    ensures no_pattern { (AsksFor (job_of (map string_bytes words.now)) HasPattern → ⊥) → finder.new ≡ finder.old }
+    ensures rest { O.same_rest out.old out.new }
+{
+    match read_job(alloc, words) {
+        Ok(job) => run_job(alloc, job, tree, finder, source, out),
+        Err(why) => why,
+    }
+}
+
+/// Settles the tree, and carries the job out.
+fn run_job<T: Tree, F: Finder, I: Source, O: Sink>(
+    alloc: Global,
+    job: ToolJob,
+    tree: &mut T,
+    finder: &mut F,
+    source: &mut I,
+    out: &mut O,
+) -> Why
+    requires built { is_built (plain_tool_job job) ≡ true }
+    ensures carries { Carries (Ok (plain_tool_job job)) (world (T.view tree.old) (F.view finder.old) (I.view source.old) (O.view out.old)) (world (T.view tree.new) (F.view finder.new) (I.view source.new) (O.view out.new)) result }
+    ensures unread { (ReadsSource (Ok (plain_tool_job job)) → ⊥) → source.new ≡ source.old }
+    ensures unasked { (f : Files) (left : List ℕ) → Tells (Ok (plain_tool_job job)) (world (T.view tree.old) (F.view finder.old) (I.view source.old) (O.view out.old)) f left → (AsksFor (Ok (plain_tool_job job)) (λ j. Searches j f left) → ⊥) → finder.new ≡ finder.old }
+    ensures no_pattern { (AsksFor (Ok (plain_tool_job job)) HasPattern → ⊥) → finder.new ≡ finder.old }
+    ensures rest { O.same_rest out.old out.new }
+{
+    match settle(tree) {
+        Ok(()) => run_settled(alloc, job, tree, finder, source, out),
+        Err(why) => why,
+    }
+}
+
+/// Carries the job out on a settled tree.
+fn run_settled<T: Tree, F: Finder, I: Source, O: Sink>(
+    alloc: Global,
+    job: ToolJob,
+    tree: &mut T,
+    finder: &mut F,
+    source: &mut I,
+    out: &mut O,
+) -> Why
+    requires built { is_built (plain_tool_job job) ≡ true }
+    requires quiet { IsQuiet (T.view tree.old) }
+    ensures carries { Carries (Ok (plain_tool_job job)) (world (T.view tree.old) (F.view finder.old) (I.view source.old) (O.view out.old)) (world (T.view tree.new) (F.view finder.new) (I.view source.new) (O.view out.new)) result }
+    ensures unread { (ReadsSource (Ok (plain_tool_job job)) → ⊥) → source.new ≡ source.old }
+    ensures unasked { (f : Files) (left : List ℕ) → Tells (Ok (plain_tool_job job)) (world (T.view tree.old) (F.view finder.old) (I.view source.old) (O.view out.old)) f left → (AsksFor (Ok (plain_tool_job job)) (λ j. Searches j f left) → ⊥) → finder.new ≡ finder.old }
+    ensures no_pattern { (AsksFor (Ok (plain_tool_job job)) HasPattern → ⊥) → finder.new ≡ finder.old }
+    ensures rest { O.same_rest out.old out.new }
+{
+    match job {
+        ToolJob::List(job) => lsdiff(alloc, job, tree, source, out),
+        ToolJob::Filter(job) => filterdiff(alloc, job, tree, source, out),
+        ToolJob::Grep(job) => grepdiff(alloc, job, tree, finder, source, out),
+        ToolJob::Split(job) => splitdiff(alloc, &job, tree, out),
+        ToolJob::Recount(input) => recountdiff(alloc, &input, tree, source, out),
+        _ => Why::Unsupported,
+    }
+}

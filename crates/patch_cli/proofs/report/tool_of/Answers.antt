@@ -1,5 +1,0 @@
-use Rattle.patch_cli.proofs.Reporting.{tool_of-first}
-use Rattle.patch_cli.proofs.report.tool_of.Goals as goal
-
-pub returns-in-Some : goal.returns-in-Some
-returns-in-Some c = tool_of-first c.args.words.now c.in-Some.word.now c.as_str.result.now c.named_tool.result.now c.in-Some.ensures.value c.as_str.ensures.value c.named_tool.ensures

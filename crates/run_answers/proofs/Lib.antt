@@ -1,0 +1,3 @@
+pub mod Opens
+pub mod Names
+pub mod Writes

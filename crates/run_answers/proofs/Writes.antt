@@ -1,0 +1,43 @@
+-- Writes in parts, as the calls of `put_all` give them.
+use Rattle.std.proofs.Common.{◌≡◌, ℕ, List, [], ◌∷◌, ◌++◌, codes, map, string_bytes, Bool, true, false, if◌then◌else◌, Some, ◌∙◌, Result, Ok, Err, IsErr, sym, ap}
+use Rattle.std.specs.List.{slice_get}
+use Rattle.std.specs.declared.string.String.{String}
+use Rattle.std.proofs.lemmas.Option.{same_Some}
+use Rattle.outside.specs.SinkView.{SinkView, IsSinkCall, Receives, ReceivesPart, Writes}
+use Rattle.outside.proofs.Writing.{received_part, writes_stop, writes_then, writes_is, writes_none}
+use Rattle.run_answers.specs.declared.why.Why.{Why}
+use Rattle.run_answers.specs.Answers.{is_ended}
+use Rattle.run_answers.specs.Reasons.{refusal_line, tool_of, reason_of}
+
+-- a first part that failed
+pub stop_all : {R S E D : Type 0} {a b : SinkView} (e : E) (s : Result S D) (p q : List ℕ) → IsErr s → IsSinkCall {R = R} a b (Err e) → ReceivesPart a b p → Writes a b s (p ++ q)
+stop_all e s p q is call failed = writes_stop e s q is (record { call = call; received = tt; failed = failed })
+
+-- a first part, and what follows it
+pub then_all : {R S E D : Type 0} {a b c : SinkView} (x : R) (r : Result S D) (p q : List ℕ) → IsSinkCall {E = E} a b (Ok x) → Receives a b p → Writes b c r q → Writes a c r (p ++ q)
+then_all x r p q call received more = writes_then x r (record { call = call; received = received; failed = tt }) more
+
+-- the line of an answer that has one
+abbrev pub whole_line : List ℕ → Why → List ℕ
+whole_line tool why = tool ++ (codes ": **** " ++ (reason_of why ++ 10 ∷ []))
+
+-- no line where every file patch had its turn
+pub no_line : {R E : Type 0} (a : SinkView) (x : R) (words : List (List ℕ)) (why : Why) → is_ended why ≡ true → Writes {E = E} a a (Ok x) (refusal_line words why)
+no_line a x words why is = writes_is (Ok x) (refusal_line words why) (writes_none a x) (ap (λ (b : Bool). if b then [] else whole_line (tool_of words) why) (sym is))
+
+-- the same after a first part whose bytes are the tool's name
+pub behind_tool : {R E : Type 0} {a b : SinkView} (r : Result R E) (words : List (List ℕ)) (why : Why) (tool : List ℕ) → tool ≡ tool_of words → is_ended why ≡ false
+    → Writes a b r (whole_line tool why) → Writes a b r (refusal_line words why)
+behind_tool {a = a} {b = b} r words why tool is not_ended w =
+    writes_is r (refusal_line words why) w
+    (ap (λ t. whole_line t why) is ∙ ap (λ (b : Bool). if b then [] else whole_line (tool_of words) why) (sym not_ended))
+
+-- the first word decides on the tool
+pub tool_of-first : {Z : Type 0} (words : List (String Z)) (tool : String Z) (text result : List ℕ) → Some tool ≡ slice_get words 0 → text ≡ string_bytes tool → result ≡ tool_of (text ∷ []) → result ≡ tool_of (map string_bytes words)
+tool_of-first [] tool text result first is given = absurd (cc)
+tool_of-first (word ∷ words) tool text result first is given = given ∙ ap (λ t. tool_of (t ∷ [])) (is ∙ ap string_bytes (same_Some _ _ first))
+
+-- however the writing ended, it left a first part
+pub writes_part : {R E : Type 0} (a b : SinkView) (s : Result R E) (p : List ℕ) → Writes a b s p → ReceivesPart a b p
+writes_part a b (Ok r) p w = received_part a b p w.received
+writes_part a b (Err e) p w = w.failed

@@ -1,0 +1,33 @@
+//! Which way the words go.
+ghost use Rattle.std.specs.Prelude.{◌≡◌, map, string_bytes};
+ghost use Rattle.tool_run.specs.Kinds.{kind_of, kind_by};
+
+use tool_words::tool_named;
+
+/// A tool's kind. The tools of one kind are carried out by one crate.
+#[derive(Clone, Copy)]
+pub enum Kind {
+    /// `patch`, and words that name no tool.
+    Patch,
+    /// A filter, and the tools that aren't built yet.
+    Filter,
+}
+
+/// The kind of the tool that the first word names.
+pub fn kind_of(words: &[String]) -> Kind
+    ensures { result ≡ kind_of (map string_bytes words.now) }
+{
+    match words {
+        [first, ..] => kind_by(first.as_str()),
+        [] => Kind::Patch,
+    }
+}
+
+fn kind_by(word: &str) -> Kind
+    ensures { result ≡ kind_by word.now }
+{
+    match tool_named(word) {
+        Some(_) => Kind::Filter,
+        None => Kind::Patch,
+    }
+}

@@ -1,0 +1,86 @@
+//! The whole run.
+ghost use Rattle.std.specs.Prelude.{◌≡◌, ◌⊎◌, map, true, None, string_bytes};
+ghost use Rattle.outside.specs.SinkView.{Receives, ReceivesPart, Rises};
+ghost use Rattle.run_answers.specs.Answers.{exit_status, is_ended};
+ghost use Rattle.run_answers.specs.Reasons.{refusal_line};
+ghost use Rattle.patch_cli.specs.Worlds as patch_worlds;
+ghost use Rattle.filter_cli.specs.Worlds as filter_worlds;
+ghost use Rattle.tool_run.specs.Kinds.{kind_of};
+ghost use Rattle.tool_run.specs.Runs.{devices, RunsFilter, RunsPatch};
+ghost use Rattle.tool_run.specs.declared.kind.Kind.TheVariants.{Filter, Patch};
+
+use crate::kind::{Kind, kind_of};
+use filter_cli::run_filter;
+use outside::{Finder, Scratch, Sink, Source, Tree};
+use patch_cli::Exit;
+use run_answers::{Why, report};
+use std::alloc::Global;
+
+/// Does all that the program does. `words[0]` is the tool.
+///
+/// For each kind of tools one record says, of what the command does over the tree and the input at entry, which answer comes,
+/// with its text and its files, what stands after a fault and at each moment, and which devices aren't touched. The status and
+/// the line on `err` are the answer's for every tool, and `err` changes nothing else.
+pub fn run<T: Tree, C: Scratch, F: Finder, I: Source, O: Sink, E: Sink>(
+    alloc: Global,
+    words: &[String],
+    tree: &mut T,
+    scratch: C,
+    finder: &mut F,
+    input: &mut I,
+    out: &mut O,
+    err: &mut E,
+) -> (Exit, C)
+    ensures patch { kind_of (map string_bytes words.now) ≡ Patch → RunsPatch (map string_bytes words.now) (patch_worlds.world (T.view tree.old) (C.view scratch) (I.view input.old) (O.view out.old)) (patch_worlds.world (T.view tree.new) (C.view result.1) (I.view input.new) (O.view out.new)) (devices tree.old scratch finder.old input.old out.old) (devices tree.new result.1 finder.new input.new out.new) result.0.why result.0.applied }
+    ensures filter { kind_of (map string_bytes words.now) ≡ Filter → RunsFilter (map string_bytes words.now) (filter_worlds.world (T.view tree.old) (F.view finder.old) (I.view input.old) (O.view out.old)) (filter_worlds.world (T.view tree.new) (F.view finder.new) (I.view input.new) (O.view out.new)) (devices tree.old scratch finder.old input.old out.old) (devices tree.new result.1 finder.new input.new out.new) result.0.why result.0.applied }
+    ensures status { result.0.status ≡ exit_status result.0.why }
+    ensures out_rest { O.same_rest out.old out.new }
+
+    // The line of the answer goes to `err`, whole where its count didn't rise; `Done` and `Rejected` have none.
+    ensures err_part { ReceivesPart (E.view err.old) (E.view err.new) (refusal_line (map string_bytes words.now) result.0.why) }
+    ensures err_whole { Receives (E.view err.old) (E.view err.new) (refusal_line (map string_bytes words.now) result.0.why) ⊎ Rises (E.view err.old) (E.view err.new) }
+    ensures err_still { is_ended result.0.why ≡ true → err.new ≡ err.old }
+    ensures err_rest { E.same_rest err.old err.new }
+{
+    match kind_of(words) {
+        Kind::Patch => patch_cli::run(alloc, words, tree, scratch, input, out, err),
+        Kind::Filter => run_sifting(alloc, words, tree, scratch, finder, input, out, err),
+    }
+}
+
+/// Carries out the words of a filter, and writes the line of its answer.
+fn run_sifting<T: Tree, C: Scratch, F: Finder, I: Source, O: Sink, E: Sink>(
+    alloc: Global,
+    words: &[String],
+    tree: &mut T,
+    scratch: C,
+    finder: &mut F,
+    input: &mut I,
+    out: &mut O,
+    err: &mut E,
+) -> (Exit, C)
+    ensures runs { RunsFilter (map string_bytes words.now) (filter_worlds.world (T.view tree.old) (F.view finder.old) (I.view input.old) (O.view out.old)) (filter_worlds.world (T.view tree.new) (F.view finder.new) (I.view input.new) (O.view out.new)) (devices tree.old scratch finder.old input.old out.old) (devices tree.new result.1 finder.new input.new out.new) result.0.why result.0.applied }
+    ensures status { result.0.status ≡ exit_status result.0.why }
+    ensures out_rest { O.same_rest out.old out.new }
+    ensures err_part { ReceivesPart (E.view err.old) (E.view err.new) (refusal_line (map string_bytes words.now) result.0.why) }
+    ensures err_whole { Receives (E.view err.old) (E.view err.new) (refusal_line (map string_bytes words.now) result.0.why) ⊎ Rises (E.view err.old) (E.view err.new) }
+    ensures err_still { is_ended result.0.why ≡ true → err.new ≡ err.old }
+    ensures err_rest { E.same_rest err.old err.new }
+{
+    let exit = exit_of(run_filter(alloc, words, tree, finder, input, out));
+    let _reported = report(err, words, exit.why);
+    (exit, scratch)
+}
+
+/// How a run ends that has no receipt.
+fn exit_of(why: Why) -> Exit
+    ensures why { result.why ≡ why }
+    ensures status { result.status ≡ exit_status result.why }
+    ensures applied { result.applied ≡ None }
+{
+    Exit {
+        status: why.status(),
+        why,
+        applied: None,
+    }
+}
