@@ -1,3 +1,6 @@
+pub mod Asking
+pub mod Turns
+pub mod HunksSaid
 pub mod OnePatch
 pub mod Run
 pub mod Devices
