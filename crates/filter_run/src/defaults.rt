@@ -31,6 +31,8 @@ pub fn default_options() -> Options
         reject: None,
         no_rejects: false,
         reject_form: None,
+        define: None,
+        posix: false,
         dry_run: false,
         silent: false,
         verbose: false,

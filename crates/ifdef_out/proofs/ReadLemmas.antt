@@ -12,7 +12,8 @@ use Rattle.hunk_core.specs.declared.Mark.TheVariants.{Keep, Drop, Add}
 use Rattle.hunk_core.specs.PlainHunk.{Marked, old_lines, new_lines}
 use Rattle.hunk_apply.specs.Splice.{Edit, spliced}
 use Rattle.ifdef_out.specs.Whole.{added, whole}
-use Rattle.ifdef_out.specs.Tagged.{Both, as_tag, begins_name, goes_on_name, is_macro_name, block, else_line, else_mark, endif_line, ifdef_line, ifndef_line, ifdef_text, tagged, tagged_behind, texts}
+use Rattle.patch_options.specs.Forms.{begins_name, goes_on_name, is_macro_name}
+use Rattle.ifdef_out.specs.Tagged.{Both, as_tag, block, else_line, else_mark, endif_line, ifdef_line, ifndef_line, ifdef_text, tagged, tagged_behind, texts}
 use Rattle.ifdef_out.specs.Reading.{fed, branch_lines, is_marking, IsPlain}
 use Rattle.ifdef_out.proofs.FedLemmas.{IsPiece, fed-whole, lines-joined}
 use Rattle.ifdef_out.proofs.KeptLemmas.{whole-old, whole-new}

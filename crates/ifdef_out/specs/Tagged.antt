@@ -1,6 +1,5 @@
 -- The lines of a file and of a change to it, parted by the conditions of the C preprocessor (GNU diffutils manual, "Merging Files with If-then-else").
-use Rattle.std.specs.Prelude.{ℕ, List, [], ◌∷◌, ◌++◌, map, filter, codes, Bool, true, false, nat_le, ◌==◌, ◌&&◌, ◌||◌}
-use Rattle.std.specs.List.{list_all}
+use Rattle.std.specs.Prelude.{ℕ, List, [], ◌∷◌, ◌++◌, map, filter, codes, Bool, true, false}
 use Rattle.line_list.specs.Join.{join}
 use Rattle.hunk_core.specs.declared.Mark.{Mark}
 use Rattle.hunk_core.specs.declared.Mark.TheVariants.{Keep, Drop, Add}
@@ -34,19 +33,6 @@ else_line = codes "#else" ++ 10 ∷ []
 
 abbrev pub endif_line : List ℕ
 endif_line = codes "#endif" ++ 10 ∷ []
-
--- a letter or an underscore
-abbrev pub begins_name : ℕ → Bool
-begins_name b = (b == 95) || ((nat_le 65 b && nat_le b 90) || (nat_le 97 b && nat_le b 122))
-
--- one of these or a digit
-abbrev pub goes_on_name : ℕ → Bool
-goes_on_name b = begins_name b || (nat_le 48 b && nat_le b 57)
-
--- a name that a condition can test
-abbrev pub is_macro_name : List ℕ → Bool
-is_macro_name [] = false
-is_macro_name (b ∷ bs) = begins_name b && list_all goes_on_name bs
 
 -- what stands in front of the added lines
 abbrev pub else_mark : List (List ℕ) → List Tagged

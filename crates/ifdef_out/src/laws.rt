@@ -14,7 +14,8 @@ ghost use Rattle.hunk_apply.specs.Change.{change_output, change_verdicts};
 ghost use Rattle.hunk_apply.specs.Splice.{Edit, spliced};
 ghost use Rattle.ifdef_out.specs.Placed.{change_edits};
 ghost use Rattle.ifdef_out.specs.Reading.{branch_lines, fed, IsPlain};
-ghost use Rattle.ifdef_out.specs.Tagged.{ifdef_text, is_macro_name, new_of, old_of, tagged};
+ghost use Rattle.ifdef_out.specs.Tagged.{ifdef_text, new_of, old_of, tagged};
+ghost use Rattle.patch_options.specs.Forms.{is_macro_name};
 
 /// The old lines are the file's, and the new ones those of the file with the edits made; these join to what applying
 /// the hunks, or carrying out the script, gives.

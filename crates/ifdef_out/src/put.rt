@@ -8,7 +8,8 @@ ghost use Rattle.file_patch.specs.PlainPatch.{IsLawfulChange, change_of, row_cou
 ghost use Rattle.hunk_apply.specs.Session.{IsTried};
 ghost use Rattle.ifdef_out.specs.Faults.{HasIfdefCause};
 ghost use Rattle.ifdef_out.specs.Placed.{ArePlaced, change_edits};
-ghost use Rattle.ifdef_out.specs.Tagged.{ifdef_text, is_macro_name};
+ghost use Rattle.ifdef_out.specs.Tagged.{ifdef_text};
+ghost use Rattle.patch_options.specs.Forms.{is_macro_name};
 
 use crate::IfdefFault;
 use crate::blocks::put_blocks;

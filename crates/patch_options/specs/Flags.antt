@@ -35,7 +35,8 @@ form_switches = switch 99 (codes "context") ∷ switch 101 (codes "ed") ∷ swit
 
 -- R 82, f 102, t 116, N 78
 abbrev pub way_switches : List Rule
-way_switches = switch 82 (codes "reverse") ∷ switch 102 (codes "force") ∷ switch 116 (codes "batch") ∷ switch 78 (codes "forward") ∷ []
+way_switches = switch 82 (codes "reverse") ∷ switch 102 (codes "force") ∷ switch 116 (codes "batch") ∷ switch 78 (codes "forward")
+    ∷ long_switch (codes "posix") ∷ []
 
 -- l 108, E 69, b 98
 abbrev pub file_switches : List Rule
@@ -50,10 +51,11 @@ report_switches = long_switch (codes "dry-run") ∷ switch 115 (codes "silent") 
 abbrev pub switches : List Rule
 switches = form_switches ++ (way_switches ++ (file_switches ++ report_switches))
 
--- p 112, F 70, z 122, B 66, V 86, g 103
+-- p 112, F 70, z 122, B 66, V 86, g 103, D 68
 abbrev pub text_options : List Rule
 text_options = option 112 (codes "strip") ∷ option 70 (codes "fuzz") ∷ option 122 (codes "suffix") ∷ option 66 (codes "prefix")
-    ∷ option 86 (codes "version-control") ∷ option 103 (codes "get") ∷ []
+    ∷ option 86 (codes "version-control") ∷ option 103 (codes "get")
+    ∷ option 68 (codes "ifdef") ∷ []
 
 -- d 100, i 105, o 111, r 114
 abbrev pub name_options : List Rule

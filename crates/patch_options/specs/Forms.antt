@@ -1,6 +1,6 @@
 -- The forms that values have.
 use Rattle.std.specs.Prelude.{ℕ, ◌^◌, List, [], ◌∷◌, ◌++◌, codes, nat_le, nat_lt, Bool, true, false, not, ◌&&◌, ◌||◌, ◌==◌, if◌then◌else◌, bytes_eq, Option, None, Some, is_none, option_and_then}
-use Rattle.std.specs.List.{list_any}
+use Rattle.std.specs.List.{list_all, list_any}
 use Rattle.num_text.specs.Numbers.{number_at}
 use Rattle.outside.specs.Files.{is_temp}
 use Rattle.outside.specs.Names.{broken_given, given_form, is_here, is_slash, is_control}
@@ -57,6 +57,19 @@ is_none_asked (Some n) = n == 0
 -- files are got from no other system: the number is 0
 unfoldable pub is_get : List ℕ → Bool
 is_get text = is_none_asked (number_of text)
+
+-- a letter or an underscore
+abbrev pub begins_name : ℕ → Bool
+begins_name b = (b == 95) || ((nat_le 65 b && nat_le b 90) || (nat_le 97 b && nat_le b 122))
+
+-- one of these or a digit
+abbrev pub goes_on_name : ℕ → Bool
+goes_on_name b = begins_name b || (nat_le 48 b && nat_le b 57)
+
+-- a name that a condition of the C preprocessor can test (POSIX `patch`, `-D`)
+abbrev pub is_macro_name : List ℕ → Bool
+is_macro_name [] = false
+is_macro_name (b ∷ bs) = begins_name b && list_all goes_on_name bs
 
 -- the text of a name that an operator may give
 unfoldable pub is_name : List ℕ → Bool

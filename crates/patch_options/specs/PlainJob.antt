@@ -1,10 +1,11 @@
 -- What a command asks for, with texts as lists, and which options are lawful.
-use Rattle.std.specs.Prelude.{◌≡◌, ◌≢◌, ℕ, ◌<◌, ◌≤◌, List, length, Bool, false, string_bytes, Option, option_map}
+use Rattle.std.specs.Prelude.{◌≡◌, ◌≢◌, ℕ, ◌<◌, ◌≤◌, List, length, Bool, true, false, string_bytes, Option, option_map}
 use Rattle.std.specs.Option.{ForSome}
 use Rattle.outside.specs.Files.{is_temp}
 use Rattle.outside.specs.Names.{IsEnding, IsFront}
 use Rattle.hunk_core.specs.declared.Form.{Form}
 use Rattle.hunk_core.specs.declared.Form.TheVariants.{Normal, Ed}
+use Rattle.patch_options.specs.Forms.{is_macro_name}
 use Rattle.patch_options.specs.declared.options.PlanKind.{PlanKind}
 use Rattle.patch_options.specs.declared.options.Input.{Input}
 use Rattle.patch_options.specs.declared.options.Options.{Options}
@@ -33,6 +34,8 @@ pub record PlainOptions : Type 0 where
   pub reject : Option (List ℕ)
   pub no_rejects : Bool
   pub reject_form : Option Form
+  pub define : Option (List ℕ)
+  pub posix : Bool
   pub dry_run : Bool
   pub silent : Bool
   pub verbose : Bool
@@ -61,6 +64,8 @@ plain_options o = record {
   reject = o.reject;
   no_rejects = o.no_rejects;
   reject_form = o.reject_form;
+  define = option_map string_bytes o.define;
+  posix = o.posix;
   dry_run = o.dry_run;
   silent = o.silent;
   verbose = o.verbose;
@@ -85,11 +90,16 @@ pub record HasContext (form : Form) : Type 0 where
   pub not_normal : form ≢ Normal
   pub not_ed : form ≢ Ed
 
+-- the name that conditions test
+abbrev pub IsMacroName : List ℕ → Type 0
+IsMacroName text = is_macro_name text ≡ true
+
 -- the options that a command may have
 pub record IsLawful (o : PlainOptions) : Type 0 where
   pub suffix : ForSome o.suffix IsSuffix
   pub prefix : ForSome o.prefix IsFront
   pub reject_form : ForSome o.reject_form HasContext
+  pub define : ForSome o.define IsMacroName
   pub least : 512 ≤ o.buffer
   pub most : o.buffer ≤ 1048576
 

@@ -7,7 +7,7 @@ use Rattle.clap.specs.Words.{Row, Text, count_of, first_of}
 use Rattle.outside.specs.Names.{given_form, is_here}
 use Rattle.hunk_core.specs.declared.Form.{Form}
 use Rattle.hunk_core.specs.declared.Form.TheVariants.{Unified, Context, Normal, Ed}
-use Rattle.patch_options.specs.Forms.{number_of, buffer_of, plan_of, reject_form_of, is_suffix, is_backup_kind, is_get, is_prefix, is_lasting_name, is_output, is_reject_file, is_directory, is_patch_file}
+use Rattle.patch_options.specs.Forms.{number_of, buffer_of, plan_of, reject_form_of, is_suffix, is_backup_kind, is_get, is_macro_name, is_prefix, is_lasting_name, is_output, is_reject_file, is_directory, is_patch_file}
 use Rattle.patch_options.specs.PlainJob.{PlainOptions}
 use Rattle.patch_options.specs.declared.options.PlanKind.TheVariants.{Auto}
 use Rattle.patch_options.specs.declared.options.Input.{Input}
@@ -28,7 +28,7 @@ are_both_used rows one other = is_used rows one && is_used rows other
 
 abbrev pub switch_names : List Text
 switch_names = codes "context" ∷ codes "ed" ∷ codes "normal" ∷ codes "unified" ∷ codes "reverse" ∷ codes "force" ∷ codes "batch"
-    ∷ codes "forward" ∷ codes "ignore-whitespace" ∷ codes "remove-empty-files" ∷ codes "backup" ∷ codes "backup-if-mismatch"
+    ∷ codes "forward" ∷ codes "posix" ∷ codes "ignore-whitespace" ∷ codes "remove-empty-files" ∷ codes "backup" ∷ codes "backup-if-mismatch"
     ∷ codes "no-backup-if-mismatch" ∷ codes "dry-run" ∷ codes "silent" ∷ codes "quiet" ∷ codes "verbose" ∷ codes "binary" ∷ []
 
 abbrev pub form_uses : List Row → ℕ
@@ -64,9 +64,9 @@ words_agree rows = has_form (λ t. is_some (plan_of t)) (value_of rows (codes "p
     && (has_form (λ t. is_some (reject_form_of t)) (value_of rows (codes "reject-format"))
     && (has_form is_suffix (value_of rows (codes "suffix")) && has_form is_backup_kind (value_of rows (codes "version-control"))))
 
--- numbers, words and the suffix have their forms; what `get` and `version-control` ask for is so in any case
+-- numbers, words, the suffix and the name that conditions test have their forms; what `get` and `version-control` ask for is so in any case
 abbrev pub values_agree : List Row → Bool
-values_agree rows = numbers_agree rows && words_agree rows
+values_agree rows = numbers_agree rows && (words_agree rows && has_form is_macro_name (value_of rows (codes "ifdef")))
 
 -- the text behind a reference
 abbrev pub text_of : Option (Bor Text) → Option Text
@@ -100,6 +100,10 @@ only_form rows = if is_used rows (codes "context") then Some Context
     else if is_used rows (codes "unified") then Some Unified
     else None
 
+-- a backup is made where a hunk failed or stands elsewhere than it says; with `--posix` only where that is asked for
+abbrev pub mismatch_backup : List Row → Bool
+mismatch_backup rows = if is_used rows (codes "posix") then is_used rows (codes "backup-if-mismatch") else not (is_used rows (codes "no-backup-if-mismatch"))
+
 abbrev pub first_given : Option Text → Option Text → Option Text
 first_given None other = other
 first_given (Some text) other = Some text
@@ -132,7 +136,7 @@ options_of rows = record {
   loose = is_used rows (codes "ignore-whitespace");
   remove_empty = is_used rows (codes "remove-empty-files");
   backup = is_used rows (codes "backup");
-  mismatch_backup = not (is_used rows (codes "no-backup-if-mismatch"));
+  mismatch_backup = mismatch_backup rows;
   suffix = value_of rows (codes "suffix");
   prefix = value_of rows (codes "prefix");
   dir = option_and_then directory_of (value_of rows (codes "directory"));
@@ -142,6 +146,8 @@ options_of rows = record {
   reject = option_and_then reject_of (value_of rows (codes "reject-file"));
   no_rejects = is_no_file (value_of rows (codes "reject-file"));
   reject_form = option_and_then reject_form_of (value_of rows (codes "reject-format"));
+  define = value_of rows (codes "ifdef");
+  posix = is_used rows (codes "posix");
   dry_run = is_used rows (codes "dry-run");
   silent = is_used rows (codes "silent") || is_used rows (codes "quiet");
   verbose = is_used rows (codes "verbose");

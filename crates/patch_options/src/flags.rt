@@ -31,7 +31,7 @@ enum Word {
 }
 
 /// The words of `patch`.
-static WORDS: [Word; 31] = [
+static WORDS: [Word; 33] = [
     Word::Switch('c', "context"),
     Word::Switch('e', "ed"),
     Word::Switch('n', "normal"),
@@ -40,6 +40,7 @@ static WORDS: [Word; 31] = [
     Word::Switch('f', "force"),
     Word::Switch('t', "batch"),
     Word::Switch('N', "forward"),
+    Word::LongSwitch("posix"),
     Word::Switch('l', "ignore-whitespace"),
     Word::Switch('E', "remove-empty-files"),
     Word::Switch('b', "backup"),
@@ -56,6 +57,7 @@ static WORDS: [Word; 31] = [
     Word::Option('B', "prefix"),
     Word::Option('V', "version-control"),
     Word::Option('g', "get"),
+    Word::Option('D', "ifdef"),
     Word::Option('d', "directory"),
     Word::Option('i', "input"),
     Word::Option('o', "output"),

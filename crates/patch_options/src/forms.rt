@@ -1,7 +1,8 @@
 //! The forms that values have.
-ghost use Rattle.std.specs.Prelude.{◌≡◌};
+ghost use Rattle.std.specs.Prelude.{◌≡◌, ◌&&◌, ◌||◌, nat_le};
+ghost use Rattle.std.specs.List.{list_all};
 ghost use Rattle.outside.specs.Files.{is_temp};
-ghost use Rattle.patch_options.specs.Forms.{number_of, buffer_of, plan_of, reject_form_of, is_suffix, is_backup_kind, is_get};
+ghost use Rattle.patch_options.specs.Forms.{number_of, buffer_of, plan_of, reject_form_of, is_suffix, is_backup_kind, is_get, begins_name, goes_on_name, is_macro_name};
 
 use crate::PlanKind;
 use hunk_core::Form;
@@ -79,6 +80,41 @@ pub fn is_get(text: &str) -> bool
     ensures { result ≡ is_get text.now }
 {
     number_of(text) == Some(0)
+}
+
+/// Whether a condition of the C preprocessor can test the name.
+pub fn is_macro_name(text: &str) -> bool
+    ensures { result ≡ is_macro_name text.now }
+{
+    match text.as_bytes() {
+        [first, rest @ ..] => begins_name(*first) && all_go_on(rest),
+        [] => false,
+    }
+}
+
+/// Whether each byte may stand behind the first one of such a name.
+fn all_go_on(bytes: &[u8]) -> bool
+    ensures { result ≡ list_all goes_on_name bytes.now }
+{
+    bytes.iter().all(|byte| goes_on_name(*byte))
+}
+
+fn goes_on_name(byte: u8) -> bool
+    ensures { result ≡ goes_on_name byte }
+{
+    begins_name(byte) || (b'0' <= byte && byte <= b'9')
+}
+
+fn begins_name(byte: u8) -> bool
+    ensures { result ≡ begins_name byte }
+{
+    byte == b'_' || is_letter(byte)
+}
+
+fn is_letter(byte: u8) -> bool
+    ensures { result ≡ ((nat_le 65 byte && nat_le byte 90) || (nat_le 97 byte && nat_le byte 122)) }
+{
+    (b'A' <= byte && byte <= b'Z') || (b'a' <= byte && byte <= b'z')
 }
 
 /// Whether the text ends as the name of a temporary does.

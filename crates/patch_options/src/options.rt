@@ -60,6 +60,10 @@ pub struct Options {
     /// No reject file is written.
     pub no_rejects: bool,
     pub reject_form: Option<Form>,
+    /// The name that conditions in the output test, which then has both the old and the new lines.
+    pub define: Option<String>,
+    /// As POSIX says it, where GNU patch does otherwise.
+    pub posix: bool,
     pub dry_run: bool,
     pub silent: bool,
     pub verbose: bool,

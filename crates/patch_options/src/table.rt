@@ -2,12 +2,12 @@
 ghost use Rattle.std.specs.Prelude.{◌≡◌, ◌⊎◌, ◌<◌, codes, true, false, is_some, IfOk, IfErr, string_bytes, option_map, option_and_then, unwrap_or};
 ghost use Rattle.std.specs.List.{list_all};
 ghost use Rattle.patch_options.specs.Flags.{rows_in};
-ghost use Rattle.patch_options.specs.Forms.{number_of, buffer_of, plan_of, reject_form_of, is_suffix, is_backup_kind, is_get};
+ghost use Rattle.patch_options.specs.Forms.{number_of, buffer_of, plan_of, reject_form_of, is_suffix, is_backup_kind, is_get, is_macro_name};
 ghost use Rattle.patch_options.specs.PlainJob.{plain_options};
-ghost use Rattle.patch_options.specs.Table.{uses, value_of, text_of, has_form, is_used, is_single, are_both_used, form_uses, are_single, exclusions_hold, switches_agree, numbers_agree, words_agree, values_agree, is_command, options_of, only_form};
+ghost use Rattle.patch_options.specs.Table.{uses, value_of, text_of, has_form, is_used, is_single, are_both_used, form_uses, are_single, exclusions_hold, switches_agree, numbers_agree, words_agree, values_agree, is_command, options_of, only_form, mismatch_backup};
 
 use crate::forms::{
-    buffer_of, is_backup_kind, is_get, is_suffix, number_of, plan_of, reject_form_of,
+    buffer_of, is_backup_kind, is_get, is_macro_name, is_suffix, number_of, plan_of, reject_form_of,
 };
 use crate::names::{Names, Outputs, read_names};
 use crate::{Options, PlanKind, WordFault};
@@ -16,7 +16,7 @@ use hunk_core::Form;
 use std::alloc::{AllocError, Global};
 
 /// The names of the switches, which are counted.
-static SWITCHES: [&str; 18] = [
+static SWITCHES: [&str; 19] = [
     "context",
     "ed",
     "normal",
@@ -25,6 +25,7 @@ static SWITCHES: [&str; 18] = [
     "force",
     "batch",
     "forward",
+    "posix",
     "ignore-whitespace",
     "remove-empty-files",
     "backup",
@@ -58,7 +59,7 @@ pub fn read_options(alloc: Global, matches: &ArgMatches<'_>) -> Result<Options, 
         no_rejects,
         prefix,
     } = outputs;
-    let suffix = copied(alloc, value_of(matches, "suffix"))?;
+    let Texts { suffix, define } = read_texts(alloc, matches)?;
     Ok(Options {
         only: only_form(matches),
         strip: number_in(matches, "strip"),
@@ -70,7 +71,7 @@ pub fn read_options(alloc: Global, matches: &ArgMatches<'_>) -> Result<Options, 
         loose: is_used(matches, "ignore-whitespace"),
         remove_empty: is_used(matches, "remove-empty-files"),
         backup: is_used(matches, "backup"),
-        mismatch_backup: !is_used(matches, "no-backup-if-mismatch"),
+        mismatch_backup: mismatch_backup(matches),
         suffix,
         prefix,
         dir,
@@ -80,6 +81,8 @@ pub fn read_options(alloc: Global, matches: &ArgMatches<'_>) -> Result<Options, 
         reject,
         no_rejects,
         reject_form: reject_form_in(matches),
+        define,
+        posix: is_used(matches, "posix"),
         dry_run: is_used(matches, "dry-run"),
         silent: is_used(matches, "silent") || is_used(matches, "quiet"),
         verbose: is_used(matches, "verbose"),
@@ -162,11 +165,11 @@ fn form_uses(matches: &ArgMatches<'_>) -> u32
         + uses(matches, "unified")
 }
 
-/// Whether numbers, words and the suffix have their forms.
+/// Whether numbers, words, the suffix and the name that conditions test have their forms.
 fn values_agree(matches: &ArgMatches<'_>) -> bool
     ensures { result ≡ values_agree (rows_in matches.now) }
 {
-    numbers_agree(matches) && words_agree(matches)
+    numbers_agree(matches) && words_agree(matches) && has_macro_name(value_of(matches, "ifdef"))
 }
 
 fn numbers_agree(matches: &ArgMatches<'_>) -> bool
@@ -244,6 +247,15 @@ fn has_backup_kind(text: Option<&str>) -> bool
     }
 }
 
+fn has_macro_name(text: Option<&str>) -> bool
+    ensures { result ≡ has_form is_macro_name (text_of text.entry) }
+{
+    match text {
+        Some(text) => is_macro_name(text),
+        None => true,
+    }
+}
+
 fn gets_nothing(text: Option<&str>) -> bool
     ensures { result ≡ has_form is_get (text_of text.entry) }
 {
@@ -266,6 +278,17 @@ fn only_form(matches: &ArgMatches<'_>) -> Option<Form>
         Some(Form::Unified)
     } else {
         None
+    }
+}
+
+/// Whether a backup is made where a hunk failed or stands elsewhere than it says.
+fn mismatch_backup(matches: &ArgMatches<'_>) -> bool
+    ensures { result ≡ mismatch_backup (rows_in matches.now) }
+{
+    if is_used(matches, "posix") {
+        is_used(matches, "backup-if-mismatch")
+    } else {
+        !is_used(matches, "no-backup-if-mismatch")
     }
 }
 
@@ -300,6 +323,23 @@ pub fn buffer_in(matches: &ArgMatches<'_>) -> u32
         Some(text) => buffer_of(text).unwrap_or(65_536),
         None => 65_536,
     }
+}
+
+/// The values that are kept as they were given.
+#[derive(Drop)]
+struct Texts {
+    suffix: Option<String>,
+    define: Option<String>,
+}
+
+fn read_texts(alloc: Global, matches: &ArgMatches<'_>) -> Result<Texts, AllocError>
+    ensures suffix { IfOk result (λ texts. option_map string_bytes texts.suffix ≡ value_of (rows_in matches.now) (codes "suffix")) }
+    ensures define { IfOk result (λ texts. option_map string_bytes texts.define ≡ value_of (rows_in matches.now) (codes "ifdef")) }
+{
+    Ok(Texts {
+        suffix: copied(alloc, value_of(matches, "suffix"))?,
+        define: copied(alloc, value_of(matches, "ifdef"))?,
+    })
 }
 
 fn copied(alloc: Global, text: Option<&str>) -> Result<Option<String>, AllocError>

@@ -132,6 +132,15 @@ patch|-g|00 =>
 patch|--get=0 =>
 patch|--binary =>
 patch|-t|-F|0|-N|-p1|-u|-V|never|-E|-b|-B|.pc/x/|--reject-file=- => only: Some(Unified) strip: Some(1) fuzz: 0 batch: true forward: true remove_empty: true backup: true prefix: Some(".pc/x/") no_rejects: true
+patch|--posix => mismatch_backup: false posix: true
+patch|--posix|--backup-if-mismatch => posix: true
+patch|--posix|--no-backup-if-mismatch => mismatch_backup: false posix: true
+patch|-D|X => define: Some("X")
+patch|-DX => define: Some("X")
+patch|-D=X => define: Some("X")
+patch|--ifdef=_a9 => define: Some("_a9")
+patch|--ifdef|zZ_0 => define: Some("zZ_0")
+patch|-RD|_ => reverse: true define: Some("_")
 patch|-p0 => strip: Some(0)
 patch|-p|0 => strip: Some(0)
 patch|--strip=1 => strip: Some(1)

@@ -9,8 +9,8 @@ use std::test::Fail;
 const PLAIN: &str = "only: None, strip: None, fuzz: 2, reverse: false, force: false, \
     batch: false, forward: false, loose: false, remove_empty: false, backup: false, \
     mismatch_backup: true, suffix: None, prefix: None, dir: None, file: None, \
-    input: Standard, output: None, reject: None, no_rejects: false, reject_form: None, dry_run: false, \
-    silent: false, verbose: false, plan: Auto, buffer: 65536";
+    input: Standard, output: None, reject: None, no_rejects: false, reject_form: None, \
+    define: None, posix: false, dry_run: false, silent: false, verbose: false, plan: Auto, buffer: 65536";
 
 /// The words of a row.
 fn words_of(alloc: Global, row: &str) -> Result<Vec<String>, Fail> {

@@ -1,15 +1,29 @@
 -- In which ways a patch text is read for a command (GNU patch manual, "Multiple Patches in a File"; git-diff(1), "Generating patch text with -p").
-use Rattle.std.specs.Prelude.{Bool, false}
+use Rattle.std.specs.Prelude.{Bool, true, false, not, ◌&&◌, Option, None, Some, is_none}
+use Rattle.hunk_core.specs.declared.Form.{Form}
+use Rattle.hunk_core.specs.declared.Form.TheVariants.{Unified, Context, Normal, Ed}
 use Rattle.patch_header.specs.declared.ways.Ways.{Ways}
 use Rattle.patch_options.specs.PlainJob.{PlainOptions}
 
--- no command has option --posix yet
+-- the command has option --posix
 abbrev pub is_posix : PlainOptions → Bool
-is_posix o = false
+is_posix o = o.posix
 
--- no command reads git headers yet: they wait for a run that carries out renames and copies, and are turned on by this line alone
+-- the unified form may be read
+abbrev pub admits_unified : Option Form → Bool
+admits_unified None = true
+admits_unified (Some Unified) = true
+admits_unified (Some Context) = false
+admits_unified (Some Normal) = false
+admits_unified (Some Ed) = false
+
+-- a file patch of the unified form is meant for its own names
+abbrev pub is_for_own_names : PlainOptions → Bool
+is_for_own_names o = admits_unified o.only && (is_none o.file && (is_none o.output && not o.posix))
+
+-- git headers are to be read where a file patch is meant for its own names; no command reads them yet, since they wait for a run that carries out renames and copies
 abbrev pub reads_git : PlainOptions → Bool
-reads_git o = false
+reads_git o = false && is_for_own_names o
 
 -- no command passes over binary lines yet
 abbrev pub skips_binary : PlainOptions → Bool

@@ -28,6 +28,8 @@ Input:
   -e, --ed                    take ed scripts alone
   -n, --normal                take normal patches alone
   -u, --unified               take unified patches alone
+  --posix                     as POSIX says it: take the first name that is there,
+                              make files by an operand alone, and delete none
   -R, --reverse               take each file patch reversed
   -F N, --fuzz=N              leave out up to N lines of context (2)
   -l, --ignore-whitespace     runs of spaces and tabs match each other
@@ -39,6 +41,7 @@ Output:
   -o FILE, --output=FILE      write the result to FILE
   -r FILE, --reject-file=FILE write rejects to FILE, or nowhere where it is -
   --reject-format=FORM        context or unified
+  -D NAME, --ifdef=NAME       keep old and new lines, behind conditions on NAME
   -E, --remove-empty-files    remove a file that is left empty
   --dry-run                   say what would be done, and change nothing
   -s, --silent, --quiet       say only what went wrong
@@ -46,7 +49,8 @@ Output:
 
 Backups:
   -b, --backup                keep the old bytes of each file
-  --backup-if-mismatch        keep them where a hunk doesn't fit exactly (so)
+  --backup-if-mismatch        keep them where a hunk doesn't fit exactly (so,
+                              but not with --posix)
   --no-backup-if-mismatch     don't
   -z S, --suffix=S            the suffix of their names (.orig)
   -B S, --prefix=S            the prefix of their names

@@ -3,6 +3,8 @@
 use Rattle.std.specs.Prelude.{ℕ, ◌==◌, ℤ, pos, negsuc, suc, List, [], ◌∷◌, ◌++◌, codes, Bool, true, false, ◌&&◌, ◌||◌, not, if◌then◌else◌, Option, None, Some}
 use Rattle.num_text.specs.Numbers.{decimal}
 use Rattle.patch_options.specs.PlainJob.{PlainOptions}
+use Rattle.say_text.specs.Origins.{PlainOrigin}
+use Rattle.say_text.specs.Origins.PlainOrigin.{Itself, RenamedFrom, CopiedFrom}
 
 -- with `-s` nothing is said (GNU diffutils manual, "Messages and Questions from patch")
 abbrev pub silenced : PlainOptions → List ℕ → List ℕ
@@ -26,10 +28,16 @@ is_int_one (negsuc n) = false
 abbrev pub doing : Bool → List ℕ
 doing is_dry = if is_dry then codes "checking file " else codes "patching file "
 
--- the chosen file, behind the output where `-o` names one
-abbrev pub patching_line : Bool → Option (List ℕ) → List ℕ → List ℕ
-patching_line is_dry None name = doing is_dry ++ (name ++ codes "\n")
-patching_line is_dry (Some output) name = doing is_dry ++ (output ++ (codes " (read from " ++ (name ++ codes ")\n")))
+-- what stands behind the name of a patched file: the source where it is renamed or copied
+abbrev pub behind_name : PlainOrigin → List ℕ
+behind_name Itself = codes "\n"
+behind_name (RenamedFrom source) = codes " (renamed from " ++ (source ++ codes ")\n")
+behind_name (CopiedFrom source) = codes " (copied from " ++ (source ++ codes ")\n")
+
+-- the file, and where it comes from; with `-o` the output, and the file that it is read from
+abbrev pub patching_line : Bool → Option (List ℕ) → List ℕ → PlainOrigin → List ℕ
+patching_line is_dry None name origin = doing is_dry ++ (name ++ behind_name origin)
+patching_line is_dry (Some output) name origin = doing is_dry ++ (output ++ (codes " (read from " ++ (name ++ codes ")\n")))
 
 -- no file was found for the patch that opens at this line: two lines
 abbrev pub no_file_lines : ℕ → List ℕ

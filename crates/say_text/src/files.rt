@@ -3,22 +3,30 @@
 ghost use Rattle.std.specs.Prelude.{◌≡◌, ◌++◌, codes};
 ghost use Rattle.outside.specs.SinkView.{Writes};
 ghost use Rattle.patch_options.specs.PlainJob.{plain_options};
-ghost use Rattle.say_text.specs.Messages.{silenced, doing, patching_line, no_file_lines, prereq_line, reaction, reversed_line, exists_line, not_deleting_line};
+ghost use Rattle.say_text.specs.Origins.{plain_origin};
+ghost use Rattle.say_text.specs.Messages.{silenced, doing, behind_name, patching_line, no_file_lines, prereq_line, reaction, reversed_line, exists_line, not_deleting_line};
 
 use crate::lines::no_file_lines;
+use crate::origin::Origin;
 use crate::pieces::{put_around, put_both};
 use outside::{Failed, Sink, put_all};
 use patch_options::Options;
 
-/// Says which file is patched, or would be. `name` is the chosen one. Nothing is written with `-s`.
-pub fn say_patching<O: Sink>(options: &Options, name: &str, out: &mut O) -> Result<(), Failed>
-    ensures writes { Writes (O.view out.old) (O.view out.new) result (silenced (plain_options options.now) (patching_line options.now.dry_run options.now.output name.now)) }
+/// Says which file is patched, or would be. `name` is the chosen one, but the new one of a rename or a copy. With `-o` its
+/// origin isn't told. Nothing is written with `-s`.
+pub fn say_patching<O: Sink>(
+    options: &Options,
+    name: &str,
+    origin: Origin<'_>,
+    out: &mut O,
+) -> Result<(), Failed>
+    ensures writes { Writes (O.view out.old) (O.view out.new) result (silenced (plain_options options.now) (patching_line options.now.dry_run options.now.output name.now (plain_origin origin.entry))) }
     ensures rest { O.same_rest out.old out.new }
 {
     if options.silent {
         return Ok(());
     }
-    put_patching(options, name.as_bytes(), out)
+    put_patching(options, name.as_bytes(), origin, out)
 }
 
 fn doing(is_dry: bool) -> &'static [u8]
@@ -31,28 +39,57 @@ fn doing(is_dry: bool) -> &'static [u8]
     }
 }
 
-fn put_patching<O: Sink>(options: &Options, name: &[u8], out: &mut O) -> Result<(), Failed>
-    ensures writes { Writes (O.view out.old) (O.view out.new) result (patching_line options.now.dry_run options.now.output name.now) }
+fn put_patching<O: Sink>(
+    options: &Options,
+    name: &[u8],
+    origin: Origin<'_>,
+    out: &mut O,
+) -> Result<(), Failed>
+    ensures writes { Writes (O.view out.old) (O.view out.new) result (patching_line options.now.dry_run options.now.output name.now (plain_origin origin.entry)) }
     ensures rest { O.same_rest out.old out.new }
 {
     let doing = doing(options.dry_run);
     match &options.output {
-        None => put_around(out, doing, name, b"\n"),
-        Some(output) => put_read_from(out, doing, output.text().as_bytes(), name),
+        None => put_patched(out, doing, name, origin),
+        Some(output) => put_from(out, doing, output.text().as_bytes(), b" (read from ", name),
     }
 }
 
-fn put_read_from<O: Sink>(
+fn put_patched<O: Sink>(
     out: &mut O,
     doing: &[u8],
-    output: &[u8],
     name: &[u8],
+    origin: Origin<'_>,
 ) -> Result<(), Failed>
-    ensures writes { Writes (O.view out.old) (O.view out.new) result (doing.now ++ (output.now ++ (codes " (read from " ++ (name.now ++ codes ")\n")))) }
+    ensures writes { Writes (O.view out.old) (O.view out.new) result (doing.now ++ (name.now ++ behind_name (plain_origin origin.entry))) }
     ensures rest { O.same_rest out.old out.new }
 {
-    put_both(out, doing, output)?;
-    put_around(out, b" (read from ", name, b")\n")
+    match origin {
+        Origin::Same => put_around(out, doing, name, b"\n"),
+        Origin::Renamed(source) => put_from(
+            out,
+            doing,
+            name,
+            b" (renamed from ",
+            source.as_bytes(),
+        ),
+        Origin::Copied(source) => put_from(out, doing, name, b" (copied from ", source.as_bytes()),
+    }
+}
+
+/// Writes a name, and behind it in brackets another one with how it comes from that.
+fn put_from<O: Sink>(
+    out: &mut O,
+    doing: &[u8],
+    name: &[u8],
+    how: &[u8],
+    source: &[u8],
+) -> Result<(), Failed>
+    ensures writes { Writes (O.view out.old) (O.view out.new) result (doing.now ++ (name.now ++ (how.now ++ (source.now ++ codes ")\n")))) }
+    ensures rest { O.same_rest out.old out.new }
+{
+    put_both(out, doing, name)?;
+    put_around(out, how, source, b")\n")
 }
 
 /// Says that no file was found, and at which line of the patch text the file patch opens. With `-s` too.

@@ -6,9 +6,11 @@
 mod files;
 mod hunks;
 mod lines;
+mod origin;
 mod pieces;
 
 pub use files::{
     say_exists, say_no_file, say_not_deleting, say_patching, say_prereq, say_reversed,
 };
 pub use hunks::{say_failed, say_failures, say_ignored, say_placed};
+pub use origin::Origin;

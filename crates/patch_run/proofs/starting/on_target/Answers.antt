@@ -1,6 +1,7 @@
 use Rattle.std.proofs.Common.{◌≡◌, List, ℕ, ◌∙◌, ap}
 use Rattle.outside.proofs.Writing.{writes_is}
 use Rattle.say_text.specs.Messages.{silenced, patching_line}
+use Rattle.say_text.specs.Origins.PlainOrigin.{Itself}
 use Rattle.target_names.specs.declared.derived.Target.{Target}
 use Rattle.patch_run.specs.OnePatch.{PlainTurn, bytes_of, patching_said, on_target, on_creation, shown, target_at}
 use Rattle.name_choice.specs.Choice.{side_of}
@@ -8,8 +9,8 @@ use Rattle.patch_run.specs.TurnView.{plain_turn}
 use Rattle.patch_run.proofs.StartSteps.{starts_said, starts_unsaid, begins_first}
 use Rattle.patch_run.proofs.starting.on_target.Goals as goal
 
-line : (t : PlainTurn) (place : ℕ) (name : List ℕ) (target : Target) → name ≡ shown target → target ≡ target_at t.item.targets place → silenced t.options (patching_line t.options.dry_run t.options.output name) ≡ patching_said t place
-line t place name target named is = ap (λ (n : List ℕ). silenced t.options (patching_line t.options.dry_run t.options.output n)) (named ∙ ap shown is)
+line : (t : PlainTurn) (place : ℕ) (name : List ℕ) (target : Target) → name ≡ shown target → target ≡ target_at t.item.targets place → silenced t.options (patching_line t.options.dry_run t.options.output name Itself) ≡ patching_said t place
+line t place name target named is = ap (λ (n : List ℕ). silenced t.options (patching_line t.options.dry_run t.options.output n Itself)) (named ∙ ap shown is)
 
 pub returns-in_err-say_patching-clause-starts : goal.returns-in_err-say_patching-clause-starts
 returns-in_err-say_patching-clause-starts g c =

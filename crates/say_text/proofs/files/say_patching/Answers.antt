@@ -2,12 +2,14 @@ use Rattle.std.proofs.Common.{ap, List, ℕ}
 use Rattle.patch_options.specs.PlainJob.{plain_options}
 use Rattle.outside.proofs.Writing.{writes_is}
 use Rattle.say_text.specs.Messages.{patching_line}
+use Rattle.say_text.specs.Origins.{plain_origin}
 use Rattle.say_text.proofs.Saying.{heard}
 use Rattle.say_text.proofs.files.say_patching.Goals as goal
 
 pub returns-clause-writes : goal.returns-clause-writes
 returns-clause-writes g c =
     let o = plain_options c.args.options.now in
-    heard o c.put_patching.result (patching_line o.dry_run o.output c.args.name.now) c.if-options.false
-    (writes_is c.put_patching.result (patching_line o.dry_run o.output c.args.name.now) c.put_patching.ensures.writes
-    (ap (λ (l : List ℕ). patching_line o.dry_run o.output l) c.as_bytes.ensures.value))
+    let origin = plain_origin c.args.origin in
+    heard o c.put_patching.result (patching_line o.dry_run o.output c.args.name.now origin) c.if-options.false
+    (writes_is c.put_patching.result (patching_line o.dry_run o.output c.args.name.now origin) c.put_patching.ensures.writes
+    (ap (λ (l : List ℕ). patching_line o.dry_run o.output l origin) c.as_bytes.ensures.value))
