@@ -17,34 +17,56 @@ use Rattle.patch_effects.proofs.Placing.{put_count}
 use Rattle.patch_run.specs.OnePatch.{PlainTurn, Tried, some_placed, has_rejects, is_backup_due, is_removal, written_effects, rejects_text, reject_effects, effects_of, wrote, is_script, is_unrejected}
 
 -- ---- the effects of a file patch
-pub some_are_placed : (applied : ℕ) (vs : List Verdict) → applied ≢ 0 → applied ≡ count_by is_placed vs → some_placed vs ≡ true
-some_are_placed applied vs some is = grind (arith, nat_tests, some, is)
 
-pub written_as : (t : PlainTurn) (f : Files) (w : Target) (x : Tried) (due removal : Bool) → some_placed x.verdicts ≡ true → due ≡ is_backup_due t w x.verdicts → removal ≡ is_removal t x
-    → written_effects t f w x ≡ backup_effects due f w ++ target_effects removal f w x.output
-written_as t f w x due removal some is_due is_gone =
-    ap (λ (b : Bool). if b then backup_effects (is_backup_due t w x.verdicts) f w ++ target_effects (is_removal t x) f w x.output else []) some
-    ∙ ap (λ (b : Bool). backup_effects b f w ++ target_effects (is_removal t x) f w x.output) (sym is_due)
-    ∙ ap (λ (b : Bool). backup_effects due f w ++ target_effects b f w x.output) (sym is_gone)
+-- of one that is no rename, and of a rename
+module _ (t : PlainTurn) (f : Files) (s w : Target) (x : Tried) (due other : Bool) (is_due : due ≡ is_backup_due t w s x.verdicts) where
+  pub put_as : (removal : Bool) → renames t.item.patch ≡ false → removal ≡ is_removal t x → made_effects t f s w x ≡ backup_effects due f w ++ target_effects removal f w x.output
+  put_as removal stays is_gone =
+      ap (λ (b : Bool). if b then moved_effects (is_backup_due t s w x.verdicts) (is_backup_due t w s x.verdicts) f s w x.output else backup_effects (is_backup_due t w s x.verdicts) f w ++ target_effects (is_removal t x) f w x.output) stays
+      ∙ ap (λ (b : Bool). backup_effects b f w ++ target_effects (is_removal t x) f w x.output) (sym is_due)
+      ∙ ap (λ (b : Bool). backup_effects due f w ++ target_effects b f w x.output) (sym is_gone)
 
-module _ (t : PlainTurn) (f : Files) (w : Target) (x : Tried) (wet : t.options.dry_run ≡ false) where
-  pub effects_split : effects_of t f w x ≡ written_effects t f w x ++ reject_effects t w x
+  pub moved_as : renames t.item.patch ≡ true → other ≡ is_backup_due t s w x.verdicts → made_effects t f s w x ≡ moved_effects other due f s w x.output
+  moved_as moves is_other =
+      ap (λ (b : Bool). if b then moved_effects (is_backup_due t s w x.verdicts) (is_backup_due t w s x.verdicts) f s w x.output else backup_effects (is_backup_due t w s x.verdicts) f w ++ target_effects (is_removal t x) f w x.output) moves
+      ∙ ap (λ (b : Bool). moved_effects (is_backup_due t s w x.verdicts) b f s w x.output) (sym is_due)
+      ∙ ap (λ (b : Bool). moved_effects b due f s w x.output) (sym is_other)
+
+pub written_as : (t : PlainTurn) (f : Files) (s w : Target) (x : Tried) → is_written t x ≡ true → written_effects t f s w x ≡ made_effects t f s w x
+written_as t f s w x is = ap (λ (b : Bool). if b then made_effects t f s w x else []) is
+
+-- a rename has no removal
+pub moved_stays : (t : PlainTurn) (x : Tried) → renames t.item.patch ≡ true → is_removal t x ≡ false
+moved_stays t x is = none (is_nothing x.text) (is_none t.options.output) (is_none t.options.define) (is_unwanted t x.side) (rename_moves t.item.patch.header.action is)
+  where
+    rename_moves : (a : Action) → is_rename a ≡ true → is_moved a ≡ true
+    rename_moves Plain is = absurd (false≢true is)
+    rename_moves New is = absurd (false≢true is)
+    rename_moves Deleted is = absurd (false≢true is)
+    rename_moves Rename is = refl
+    rename_moves Copy is = absurd (false≢true is)
+
+    none : (a b c e : Bool) {d : Bool} → d ≡ true → (a && b && c && not d && e) ≡ false
+    none a b c e is = grind (arith, is)
+
+module _ (t : PlainTurn) (f : Files) (s w : Target) (x : Tried) (wet : t.options.dry_run ≡ false) where
+  pub effects_split : effects_of t f s w x ≡ written_effects t f s w x ++ reject_effects t w x
   unfolding effects_of
-  effects_split = ap (λ (b : Bool). if b then [] else written_effects t f w x ++ reject_effects t w x) wet
+  effects_split = ap (λ (b : Bool). if b then [] else written_effects t f s w x ++ reject_effects t w x) wet
 
-  pub effects_as : (rejected : Bool) → rejected ≡ has_rejects t x.verdicts → effects_of t f w x ≡ written_effects t f w x ++ put_if rejected w.reject (rejects_text t w x.side x.verdicts)
-  effects_as rejected is = effects_split ∙ ap (λ (b : Bool). written_effects t f w x ++ put_if b w.reject (rejects_text t w x.side x.verdicts)) (sym is)
+  pub effects_as : (rejected : Bool) → rejected ≡ has_rejects t x.verdicts → effects_of t f s w x ≡ written_effects t f s w x ++ put_if rejected w.reject (rejects_text t w x.side x.verdicts)
+  effects_as rejected is = effects_split ∙ ap (λ (b : Bool). written_effects t f s w x ++ put_if b w.reject (rejects_text t w x.side x.verdicts)) (sym is)
 
-  pub wrote_as : wrote t f w x ≡ some_placed x.verdicts && (not (is_removal t x) || is_some (get f w.name))
+  pub wrote_as : wrote t f w x ≡ is_written t x && (not (is_removal t x) || is_some (get f w.name))
   unfolding wrote
-  wrote_as = ap (λ (b : Bool). not b && some_placed x.verdicts && (not (is_removal t x) || is_some (get f w.name))) wet
+  wrote_as = ap (λ (b : Bool). not b && is_written t x && (not (is_removal t x) || is_some (get f w.name))) wet
 
-  pub effects_count : (rejected : Bool) (effects : ℕ) → rejected ≡ has_rejects t x.verdicts → effects ≡ length (written_effects t f w x) → effects + (if rejected then 1 else 0) ≡ length (effects_of t f w x)
+  pub effects_count : (rejected : Bool) (effects : ℕ) → rejected ≡ has_rejects t x.verdicts → effects ≡ length (written_effects t f s w x) → effects + (if rejected then 1 else 0) ≡ length (effects_of t f s w x)
   effects_count rejected effects is count = omega (
     arith,
     count,
     ap length (effects_as rejected is),
-    length-append (written_effects t f w x) (put_if rejected w.reject (rejects_text t w x.side x.verdicts)),
+    length-append (written_effects t f s w x) (put_if rejected w.reject (rejects_text t w x.side x.verdicts)),
     put_count rejected w.reject (rejects_text t w x.side x.verdicts),
   )
 

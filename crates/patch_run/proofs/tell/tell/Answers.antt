@@ -7,24 +7,21 @@ use Rattle.patch_run.proofs.tell.tell.Goals as goal
 
 pub returns-in_err-say_change-clause-writes : goal.returns-in_err-say_change-clause-writes
 unfolding tried_said
-returns-in_err-say_change-clause-writes g c output is =
-    let x : Tried = record { side = c.args.side; verdicts = c.args.verdicts.now; output = output } in
+returns-in_err-say_change-clause-writes g c x side vs is =
     let t = plain_turn c.args.turn.now in
     let p = err_from_is_err_and c.from_residual.result c.from_residual.ensures.1 in
-    rw p.1 (writes_stop c.in_err-say_change.field-0.0 (Err p.0) (kept_said t c.args.target.now x ++ failures_said t c.args.target.now x) refl c.in_err-say_change.ensures.writes)
+    rw p.1 (writes_stop c.in_err-say_change.field-0.0 (Err p.0) (kept_said t c.args.target.now x ++ failures_said t c.args.target.now x) refl (changed x _ _ _ c.in_err-say_change.result side vs c.in_err-say_change.ensures.writes))
 
 pub returns-in_err-say_kept-clause-writes : goal.returns-in_err-say_kept-clause-writes
 unfolding tried_said
-returns-in_err-say_kept-clause-writes g c output is =
-    let x : Tried = record { side = c.args.side; verdicts = c.args.verdicts.now; output = output } in
+returns-in_err-say_kept-clause-writes g c x side vs is =
     let t = plain_turn c.args.turn.now in
     let p = err_from_is_err_and c.from_residual-in_err-say_kept.result c.from_residual-in_err-say_kept.ensures.1 in
     rw p.1 (writes_then c.in_ok-say_change.field-0 (Err p.0) c.in_ok-say_change.ensures.writes
-    (writes_stop c.in_err-say_kept.field-0.0 (Err p.0) (failures_said t c.args.target.now x) refl (c.in_err-say_kept.ensures.writes x refl is)))
+    (writes_stop c.in_err-say_kept.field-0.0 (Err p.0) (failures_said t c.args.target.now x) refl (c.in_err-say_kept.ensures.writes x side is)))
 
 pub returns-clause-writes : goal.returns-clause-writes
 unfolding tried_said
-returns-clause-writes g c output is =
-    let x : Tried = record { side = c.args.side; verdicts = c.args.verdicts.now; output = output } in
+returns-clause-writes g c x side vs is =
     writes_then c.in_ok-say_change.field-0 c.say_rejected.result c.in_ok-say_change.ensures.writes
-    (writes_then c.in_ok-say_kept.field-0 c.say_rejected.result (c.in_ok-say_kept.ensures.writes x refl is) (c.say_rejected.ensures.writes x is))
+    (writes_then c.in_ok-say_kept.field-0 c.say_rejected.result (c.in_ok-say_kept.ensures.writes x side is) (c.say_rejected.ensures.writes x is))
