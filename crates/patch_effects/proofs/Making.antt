@@ -1,11 +1,11 @@
 -- How parts of a run that make effects go on from one another.
-use Rattle.std.proofs.Common.{◌≡◌, ◌≢◌, ℕ, zero, List, [], ◌∷◌, ◌++◌, true, Some, Result, Ok, Err, sym, ◌∙◌, ap, subst, arith}
+use Rattle.std.proofs.Common.{◌≡◌, ◌≢◌, ℕ, zero, List, [], ◌∷◌, ◌++◌, true, Option, Some, IsSome, Result, Ok, Err, OnOk, sym, ◌∙◌, ap, subst, arith}
 use Rattle.std.specs.Result.{IsErrAnd}
 use Rattle.std.proofs.lemmas.Option.{same_Some}
 use Rattle.std.specs.FinMap.{get, insert, remove}
 use Rattle.outside.specs.Files.{Files, is_temp, temp_of, bytes_at}
 use Rattle.outside.specs.TreeView.{TreeView, Passes, told_on}
-use Rattle.outside.specs.Calls.{Becomes, IsUntouched}
+use Rattle.outside.specs.Calls.{Becomes, IsThere, IsUntouched}
 use Rattle.outside.specs.Quiet.{IsQuiet, Effect, Holds, WorksOn, MakesEffect, HasMade, after, after_all}
 use Rattle.outside.specs.Quiet.Effect.{Put}
 use Rattle.outside.proofs.Names.{get-gone, get-gone_other, get-put_other}
@@ -167,3 +167,11 @@ module _ {u w : TreeView} (q : List ℕ) (passes : Passes u w) (keeps : KeepsAt 
 
   pub holds_kept : (b : List ℕ) → Holds u q b → Holds w q b
   holds_kept b holds g now = let was = told_back g passes now in keeps was.0 g was.1 now ∙ holds was.0 was.1
+
+  pub there_kept : IsThere u q → IsThere w q
+  there_kept there g now = let was = told_back g passes now in subst (λ (o : Option (List ℕ)). IsSome o) (sym (keeps was.0 g was.1 now)) (there was.0 was.1)
+
+-- a name that a call leaves alone stays gone
+pub gone_behind : {R : Type 0} {u w : TreeView} (r : Result R RunFault) (n q : List ℕ) → OnOk r ((p : List ℕ) → p ≢ n → KeepsAt u w p) → Passes u w → q ≢ n → IsGone u q → OnOk r (IsGone w q)
+gone_behind (Ok x) n q keeps passes ne gone = gone_kept q passes (keeps q ne) gone
+gone_behind (Err e) n q keeps passes ne gone = tt

@@ -1,15 +1,15 @@
 -- The effects on a target, and where its temporaries stand.
-use Rattle.std.proofs.Common.{◌≡◌, ◌≢◌, ◌∷◌, ◌++◌, ◌+◌, ◌||◌, ◌∙◌, [], ℕ, arith, length-append, codes, List, Bool, true, false, not, if◌then◌else◌, length, Option, None, Some, is_some, refl, sym, ap}
+use Rattle.std.proofs.Common.{◌≡◌, ◌≢◌, ◌∷◌, ◌++◌, ◌+◌, ◌||◌, ◌∙◌, [], ℕ, arith, length-append, codes, List, Bool, true, false, not, if◌then◌else◌, length, Option, None, Some, is_some, unwrap_or, refl, sym, ap}
 use Rattle.std.proofs.lemmas.List.{append_cancel_right}
 use Rattle.std.proofs.lemmas.Option.{none-some}
 use Rattle.std.specs.Option.{option_map}
 use Rattle.std.specs.FinMap.{get}
-use Rattle.outside.specs.Files.{Files, temp_of, bytes_at}
+use Rattle.outside.specs.Files.{Files, is_temp, temp_of, bytes_at}
 use Rattle.outside.specs.Quiet.Effect.{Remove}
 use Rattle.outside.proofs.Names.{apart}
 use Rattle.target_names.specs.declared.derived.Target.{Target}
-use Rattle.patch_effects.specs.Named.{IsNamed}
-use Rattle.patch_effects.specs.TargetEffects.{put_if, backup_effects, target_effects}
+use Rattle.patch_effects.specs.Named.{IsBeside, IsNamed}
+use Rattle.patch_effects.specs.TargetEffects.{put_if, backup_effects, target_effects, moving_effects, moved_effects}
 
 -- a file that has a size is there
 pub sized_there : (o : Option (List ℕ)) (n : ℕ) → Some n ≡ option_map length o → is_some o ≡ true
@@ -55,9 +55,29 @@ written_count due removal wrote w output f is = omega (
 temps_apart : (one other : List ℕ) → one ≢ other → temp_of one ≢ temp_of other
 temps_apart one other ne eq = ne (append_cancel_right one other (codes ".ptmp") eq)
 
--- the backup's names are others than the target's temporary
-pub backup_other : {w : Target} → IsNamed w → w.temp ≢ w.backup
-backup_other {w = w} named eq = apart w.backup w.temp named.lasting.backup named.temps.own (sym eq)
+-- a name that isn't a temporary's is beside a backup under another name
+pub name_beside : (due : Bool) (w : Target) (n : List ℕ) → IsNamed w → is_temp n ≡ false → (due ≡ true → w.backup ≢ n) → IsBeside due w n
+name_beside due w n named lasting other is = (λ eq. other is (sym eq), apart n w.backup_temp lasting named.temps.backup)
 
-pub backup_temp_other : {w : Target} → IsNamed w → w.backup ≢ w.name → w.temp ≢ w.backup_temp
-backup_temp_other {w = w} named other eq = temps_apart w.name w.backup (λ same. other (sym same)) (sym named.temp ∙ eq ∙ named.backup_temp)
+-- and so is the temporary of such a name
+pub temp_beside : (due : Bool) (w v : Target) → IsNamed w → IsNamed v → (due ≡ true → w.backup ≢ v.name) → IsBeside due w v.temp
+temp_beside due w v named other_named other is = (
+  λ eq. apart w.backup v.temp named.lasting.backup other_named.temps.own (sym eq),
+  λ eq. temps_apart v.name w.backup (λ same. other is (sym same)) (sym other_named.temp ∙ eq ∙ named.backup_temp),
+)
+
+-- ---- a rename
+
+-- what is done to the two names depends on nothing but the source
+pub moving_same : (due : Bool) (source w : Target) (output : List ℕ) (f g : Files) → get g source.name ≡ get f source.name → moving_effects due f source w output ≡ moving_effects due g source w output
+moving_same due source w output f g same =
+    ap (λ (o : Option (List ℕ)). put_if due source.backup (unwrap_or o []) ++ (target_effects false f w output ++ Remove source.name ∷ [])) (sym same)
+
+pub moved_count : (due source_due : Bool) (f : Files) (source w : Target) (output : List ℕ) → (if due then 1 else 0) + (if source_due then 1 else 0) + 2 ≡ length (moved_effects due source_due f source w output)
+moved_count due source_due f source w output = omega (
+  arith,
+  length-append (backup_effects due f w) (moving_effects source_due f source w output),
+  length-append (backup_effects source_due f source) (target_effects false f w output ++ Remove source.name ∷ []),
+  put_count due w.backup (bytes_at f w.name),
+  put_count source_due source.backup (bytes_at f source.name),
+)

@@ -11,9 +11,10 @@ use Rattle.outside.specs.Quiet.{Effect, Holds, WorksOn, after, after_all}
 use Rattle.outside.specs.Quiet.Effect.{Put, Remove}
 use Rattle.outside.proofs.Names.{equal_or_not, get-gone, get-gone_other, get-put_other, apart}
 use Rattle.target_names.specs.declared.derived.Target.{Target}
+use Rattle.target_names.specs.Targets.{IsLasting}
 use Rattle.patch_effects.specs.declared.fault.RunFault.{RunFault}
 use Rattle.patch_effects.specs.declared.fault.RunFault.TheVariants.{Tree, Write, Scratch, LongLine, FileTooLong, Disagree, Memory}
-use Rattle.patch_effects.specs.TargetEffects.{put_if, backup_effects, target_effects}
+use Rattle.patch_effects.specs.TargetEffects.{put_if, backup_effects, target_effects, moving_effects, moved_effects}
 use Rattle.patch_effects.specs.Making.{IsMade, Makes, IsGone, IsTidy, UnlessFailed, TidyAfter}
 use Rattle.patch_effects.proofs.EffectLists.{after_all-append}
 
@@ -79,6 +80,15 @@ tidy_append es ds a b f q is =
 pub placed_tidy : (due removal : Bool) (f : Files) (w : Target) (output : List ℕ) → is_temp w.backup ≡ false → is_temp w.name ≡ false → AreTidy (backup_effects due f w ++ target_effects removal f w output)
 placed_tidy due removal f w output backup name =
     tidy_append (backup_effects due f w) (target_effects removal f w output) (put_if_tidy due w.backup (bytes_at f w.name) backup) (target_tidy removal f w output name)
+
+remove_tidy : (name : List ℕ) → is_temp name ≡ false → AreTidy (Remove name ∷ [])
+remove_tidy name lasting f q is = inr (get-gone_other f name q (λ eq. apart name q lasting is (sym eq)))
+
+pub moved_tidy : (due source_due : Bool) (f : Files) (source w : Target) (output : List ℕ) → IsLasting source → IsLasting w → AreTidy (moved_effects due source_due f source w output)
+moved_tidy due source_due f source w output of_source of_target =
+    let last = tidy_append (target_effects false f w output) (Remove source.name ∷ []) (target_tidy false f w output of_target.own) (remove_tidy source.name of_source.own) in
+    let moving = tidy_append (backup_effects source_due f source) (target_effects false f w output ++ Remove source.name ∷ []) (put_if_tidy source_due source.backup (bytes_at f source.name) of_source.backup) last in
+    tidy_append (backup_effects due f w) (moving_effects source_due f source w output) (put_if_tidy due w.backup (bytes_at f w.name) of_target.backup) moving
 
 made_tidy : {u w : TreeView} (temp : List ℕ) (f : Files) (es : List Effect) → IsMade u w temp es → IsGone w temp → AreTidy es → u.told ≡ Some f → (g : Files) → w.told ≡ Some g → (q : List ℕ) → is_temp q ≡ true → (get g q ≡ None) ⊎ (get g q ≡ get f q)
 made_tidy temp f es made gone tidy told g now q is = ⊎_elim

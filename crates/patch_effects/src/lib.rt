@@ -2,7 +2,9 @@
 #![tactic(auto)]
 
 mod fault;
+mod moved;
 mod placed;
 
 pub use fault::RunFault;
+pub use moved::write_moved;
 pub use placed::{Made, forget, write_placed};

@@ -6,7 +6,7 @@ ghost use Rattle.outside.specs.Files.{Files};
 ghost use Rattle.outside.specs.Calls.{IsThere};
 ghost use Rattle.outside.specs.Quiet.{IsQuiet, Effect, Holds};
 ghost use Rattle.patch_effects.specs.Making.{Makes, GoesQuietly, KeepsAt, IsGone, IsTidy};
-ghost use Rattle.patch_effects.specs.Named.{IsNamed};
+ghost use Rattle.patch_effects.specs.Named.{IsBeside, IsNamed};
 ghost use Rattle.patch_effects.specs.TargetEffects.{backup_effects, target_effects};
 
 use crate::fault::RunFault;
@@ -63,14 +63,12 @@ fn with_backup(due: bool, wrote: bool) -> Made
 }
 
 /// Puts the present bytes at the backup's name, where that is due.
-fn put_backup<T: Tree>(target: &Target, due: bool, tree: &mut T) -> Result<(), RunFault>
+pub fn put_backup<T: Tree>(target: &Target, due: bool, tree: &mut T) -> Result<(), RunFault>
     requires named { IsNamed target.now }
-    requires apart { due ≡ true → target.now.backup ≢ target.now.name }
     requires quiet { IsQuiet (T.view tree.old) }
     ensures goes { GoesQuietly (T.view tree.old) (T.view tree.new) result }
-    ensures makes { Makes (T.view tree.old) (T.view tree.new) result target.now.temp (λ f. backup_effects due f target.now) }
-    ensures temp { OnOk result (KeepsAt (T.view tree.old) (T.view tree.new) target.now.temp) }
-    ensures name { OnOk result (KeepsAt (T.view tree.old) (T.view tree.new) target.now.name) }
+    ensures makes { (temp : List ℕ) → Makes (T.view tree.old) (T.view tree.new) result temp (λ f. backup_effects due f target.now) }
+    ensures keeps { OnOk result ((q : List ℕ) → IsBeside due target.now q → KeepsAt (T.view tree.old) (T.view tree.new) q) }
 {
     if !due {
         return Ok(());
@@ -153,7 +151,7 @@ fn remove_if_there<T: Tree>(target: &Target, tree: &mut T) -> Result<bool, RunFa
     }
 }
 
-/// Takes the target away, which is there.
+/// Takes the target away, which is there, and says that there was an effect.
 fn remove<T: Tree>(target: &Target, tree: &mut T) -> Result<bool, RunFault>
     requires named { IsNamed target.now }
     requires quiet { IsQuiet (T.view tree.old) }
@@ -164,14 +162,27 @@ fn remove<T: Tree>(target: &Target, tree: &mut T) -> Result<bool, RunFault>
     ensures gone { OnOk result (IsGone (T.view tree.new) target.now.temp) }
     ensures wrote { IfOk result (λ wrote. wrote ≡ true) }
 {
+    take_away(target, tree)?;
+    Ok(true)
+}
+
+/// Takes the target away, which is there.
+pub fn take_away<T: Tree>(target: &Target, tree: &mut T) -> Result<(), RunFault>
+    requires named { IsNamed target.now }
+    requires quiet { IsQuiet (T.view tree.old) }
+    requires there { IsThere (T.view tree.old) target.now.name }
+    ensures goes { GoesQuietly (T.view tree.old) (T.view tree.new) result }
+    ensures makes { (temp : List ℕ) → Makes (T.view tree.old) (T.view tree.new) result temp (λ f. Effect.Remove target.now.name ∷ []) }
+    ensures keeps { OnOk result ((q : List ℕ) → q ≢ target.now.name → KeepsAt (T.view tree.old) (T.view tree.new) q) }
+{
     match remove_name(tree, &target.name) {
-        Ok(()) => Ok(true),
+        Ok(()) => Ok(()),
         Err(_) => Err(RunFault::Tree),
     }
 }
 
 /// Puts the temporary at the target.
-fn swap_in<T: Tree>(temp: Temp<'_>, target: &Target, tree: &mut T) -> Result<bool, RunFault>
+pub fn swap_in<T: Tree>(temp: Temp<'_>, target: &Target, tree: &mut T) -> Result<bool, RunFault>
     requires named { IsNamed target.now }
     requires temp { temp.name.now ≡ target.now.temp }
     requires quiet { IsQuiet (T.view tree.old) }
@@ -179,6 +190,7 @@ fn swap_in<T: Tree>(temp: Temp<'_>, target: &Target, tree: &mut T) -> Result<boo
     ensures goes { GoesQuietly (T.view tree.old) (T.view tree.new) result }
     ensures makes { (output : List ℕ) → Holds (T.view tree.old) target.now.temp output → Makes (T.view tree.old) (T.view tree.new) result target.now.temp (λ f. target_effects false f target.now output) }
     ensures gone { OnOk result (IsGone (T.view tree.new) target.now.temp) }
+    ensures keeps { OnOk result ((q : List ℕ) → q ≢ target.now.name → q ≢ target.now.temp → KeepsAt (T.view tree.old) (T.view tree.new) q) }
     ensures wrote { IfOk result (λ wrote. wrote ≡ true) }
 {
     match put_begun(tree, temp, &target.name) {

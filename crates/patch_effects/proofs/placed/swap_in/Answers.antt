@@ -1,7 +1,7 @@
 use Rattle.std.proofs.Common.{◌∷◌, ℕ, [], List, Option, Ok, Err, true, unwrap_or, sym, ap}
 use Rattle.outside.specs.Files.{Files, bytes_at}
 use Rattle.outside.specs.Quiet.Effect.{Put}
-use Rattle.patch_effects.proofs.Making.{makes_is, puts_made, puts_part, puts_named, put_gone}
+use Rattle.patch_effects.proofs.Making.{makes_is, puts_made, puts_part, puts_named, put_gone, put_keeps}
 use Rattle.patch_effects.proofs.placed.swap_in.Goals as goal
 
 pub returns-in-Ok-clause-makes : goal.returns-in-Ok-clause-makes
@@ -21,6 +21,14 @@ returns-in-Ok-clause-gone g c =
     let target = c.args.target.now in
     let puts = puts_named target.name c.requires.temp c.in-Ok.ensures in
     put_gone u w target.temp target.name (λ f. bytes_at f target.temp) puts.ok puts.run.passes
+
+pub returns-in-Ok-clause-keeps : goal.returns-in-Ok-clause-keeps
+returns-in-Ok-clause-keeps g c =
+    let u = g.T.Tree.view c.args.tree.now in
+    let w = g.T.Tree.view c.put_begun.new.tree in
+    let target = c.args.target.now in
+    let puts = puts_named target.name c.requires.temp c.in-Ok.ensures in
+    put_keeps u w target.temp target.name (λ f. bytes_at f target.temp) puts.ok
 
 pub returns-in-Err-clause-makes : goal.returns-in-Err-clause-makes
 returns-in-Err-clause-makes g c output holds =

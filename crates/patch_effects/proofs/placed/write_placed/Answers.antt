@@ -2,46 +2,52 @@ use Rattle.std.proofs.Common.{◌++◌, ◌||◌, Ok, Err, not, is_some, refl, �
 use Rattle.outside.proofs.Views.{told_on}
 use Rattle.patch_effects.specs.TargetEffects.{backup_effects, target_effects}
 use Rattle.patch_effects.proofs.Making.{makes_both, makes_stops, makes_fault, makes_value, holds_kept}
-use Rattle.patch_effects.proofs.Placing.{target_same, written_count}
+use Rattle.patch_effects.proofs.Placing.{name_beside, temp_beside, target_same, written_count}
 use Rattle.patch_effects.proofs.Tidy.{there_holds, placed_tidy, makes_tidy}
 use Rattle.patch_effects.proofs.placed.write_placed.Goals as goal
 
 pub returns-in_err-put_backup-clause-makes : goal.returns-in_err-put_backup-clause-makes
 returns-in_err-put_backup-clause-makes g c output holds =
-    makes_stops c.in_err-put_backup.field-0.0 c.from_residual.result (λ f. target_effects c.args.removal f c.args.target.now output) _ c.from_residual.ensures.1 c.in_err-put_backup.ensures.makes (λ f told. refl)
+    makes_stops c.in_err-put_backup.field-0.0 c.from_residual.result (λ f. target_effects c.args.removal f c.args.target.now output) _ c.from_residual.ensures.1 (c.in_err-put_backup.ensures.makes c.args.target.now.temp) (λ f told. refl)
 
 pub returns-in_err-wrote-clause-makes : goal.returns-in_err-wrote-clause-makes
 returns-in_err-wrote-clause-makes g c output holds =
     let target = c.args.target.now in
+    let named = c.requires.named in
     let first = c.in_ok-put_backup.ensures in
     let second = c.in_err-wrote.ensures in
     makes_fault c.in_err-wrote.field-0.0 c.from_residual-in_err-wrote.result c.from_residual-in_err-wrote.ensures.1
-    (makes_both tt (Err c.in_err-wrote.field-0.0) (λ f. backup_effects c.args.due f target ++ target_effects c.args.removal f target output) first.goes.passes second.goes.passes first.makes
-    (second.makes output (holds_kept target.temp first.goes.passes first.temp output holds))
-    (λ f h told now made. ap (λ l. backup_effects c.args.due f target ++ l) (target_same c.args.removal target output f h (first.name f h told now))))
+    (makes_both tt (Err c.in_err-wrote.field-0.0) (λ f. backup_effects c.args.due f target ++ target_effects c.args.removal f target output) first.goes.passes second.goes.passes (first.makes target.temp)
+    (second.makes output (holds_kept target.temp first.goes.passes (first.keeps target.temp (temp_beside c.args.due target target named named c.requires.apart)) output holds))
+    (λ f h told now made. ap (λ l. backup_effects c.args.due f target ++ l) (target_same c.args.removal target output f h (first.keeps target.name (name_beside c.args.due target target.name named named.lasting.own c.requires.apart) f h told now))))
 
 pub returns-clause-makes : goal.returns-clause-makes
 returns-clause-makes g c output holds =
     let target = c.args.target.now in
+    let named = c.requires.named in
     let first = c.in_ok-put_backup.ensures in
     let second = c.in_ok-wrote.ensures in
     makes_value c.in_ok-wrote.wrote c.with_backup.result
-    (makes_both tt (Ok c.in_ok-wrote.wrote) (λ f. backup_effects c.args.due f target ++ target_effects c.args.removal f target output) first.goes.passes second.goes.passes first.makes
-    (second.makes output (holds_kept target.temp first.goes.passes first.temp output holds))
-    (λ f h told now made. ap (λ l. backup_effects c.args.due f target ++ l) (target_same c.args.removal target output f h (first.name f h told now))))
+    (makes_both tt (Ok c.in_ok-wrote.wrote) (λ f. backup_effects c.args.due f target ++ target_effects c.args.removal f target output) first.goes.passes second.goes.passes (first.makes target.temp)
+    (second.makes output (holds_kept target.temp first.goes.passes (first.keeps target.temp (temp_beside c.args.due target target named named c.requires.apart)) output holds))
+    (λ f h told now made. ap (λ l. backup_effects c.args.due f target ++ l) (target_same c.args.removal target output f h (first.keeps target.name (name_beside c.args.due target target.name named named.lasting.own c.requires.apart) f h told now))))
 
 pub returns-clause-wrote : goal.returns-clause-wrote
 returns-clause-wrote g c f told =
+    let target = c.args.target.now in
+    let named = c.requires.named in
     let first = c.in_ok-put_backup.ensures in
     let mid = told_on f first.goes.passes told in
-    c.with_backup.ensures.wrote ∙ c.in_ok-wrote.ensures.wrote mid.0 mid.1 ∙ ap (λ o. not c.args.removal || is_some o) (first.name f mid.0 told mid.1)
+    c.with_backup.ensures.wrote ∙ c.in_ok-wrote.ensures.wrote mid.0 mid.1 ∙ ap (λ o. not c.args.removal || is_some o) (first.keeps target.name (name_beside c.args.due target target.name named named.lasting.own c.requires.apart) f mid.0 told mid.1)
 
 pub returns-clause-count : goal.returns-clause-count
 returns-clause-count g c f output told =
+    let target = c.args.target.now in
+    let named = c.requires.named in
     let first = c.in_ok-put_backup.ensures in
     let mid = told_on f first.goes.passes told in
     c.with_backup.ensures.effects
-    ∙ written_count c.args.due c.args.removal c.in_ok-wrote.wrote c.args.target.now output f (c.in_ok-wrote.ensures.wrote mid.0 mid.1 ∙ ap (λ o. not c.args.removal || is_some o) (first.name f mid.0 told mid.1))
+    ∙ written_count c.args.due c.args.removal c.in_ok-wrote.wrote c.args.target.now output f (c.in_ok-wrote.ensures.wrote mid.0 mid.1 ∙ ap (λ o. not c.args.removal || is_some o) (first.keeps target.name (name_beside c.args.due target target.name named named.lasting.own c.requires.apart) f mid.0 told mid.1))
 
 pub returns-clause-tidy : goal.returns-clause-tidy
 returns-clause-tidy g c f h told now =

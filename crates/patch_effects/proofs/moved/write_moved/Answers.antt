@@ -1,0 +1,49 @@
+use Rattle.std.proofs.Common.{◌++◌, Ok, Err, refl, ◌∙◌, ap}
+use Rattle.patch_effects.specs.TargetEffects.{backup_effects, moving_effects, moved_effects}
+use Rattle.patch_effects.proofs.Making.{makes_both, makes_stops, makes_fault, makes_value, holds_kept}
+use Rattle.patch_effects.proofs.Placing.{name_beside, temp_beside, moving_same, moved_count}
+use Rattle.patch_effects.proofs.Tidy.{there_holds, moved_tidy, makes_tidy}
+use Rattle.patch_effects.proofs.moved.write_moved.Goals as goal
+
+pub returns-in_err-put_backup-clause-makes : goal.returns-in_err-put_backup-clause-makes
+returns-in_err-put_backup-clause-makes g c output holds =
+    let target = c.args.target.now in
+    makes_stops c.in_err-put_backup.field-0.0 c.from_residual.result (λ f. moving_effects c.args.source_due f c.args.source.now target output) _ c.from_residual.ensures.1
+    (c.in_err-put_backup.ensures.makes target.temp) (λ f told. refl)
+
+pub returns-in_err-move_in-clause-makes : goal.returns-in_err-move_in-clause-makes
+returns-in_err-move_in-clause-makes g c output holds =
+    let target = c.args.target.now in
+    let source = c.args.source.now in
+    let named = c.requires.named in
+    let first = c.in_ok-put_backup.ensures in
+    let second = c.in_err-move_in.ensures in
+    makes_fault c.in_err-move_in.field-0.0 c.from_residual-in_err-move_in.result c.from_residual-in_err-move_in.ensures.1
+    (makes_both tt (Err c.in_err-move_in.field-0.0) (λ f. moved_effects c.args.due c.args.source_due f source target output) first.goes.passes second.goes.passes (first.makes target.temp)
+    (second.makes output (holds_kept target.temp first.goes.passes (first.keeps target.temp (temp_beside c.args.due target target named named (λ due. (c.requires.apart due).0))) output holds))
+    (λ f h told now made. ap (λ l. backup_effects c.args.due f target ++ l)
+    (moving_same c.args.source_due source target output f h (first.keeps source.name (name_beside c.args.due target source.name named c.requires.source.lasting.own (λ due. (c.requires.apart due).1)) f h told now))))
+
+pub returns-clause-makes : goal.returns-clause-makes
+returns-clause-makes g c output holds =
+    let target = c.args.target.now in
+    let source = c.args.source.now in
+    let named = c.requires.named in
+    let first = c.in_ok-put_backup.ensures in
+    let second = c.in_ok-move_in.ensures in
+    makes_value tt c.with_backups.result
+    (makes_both tt (Ok tt) (λ f. moved_effects c.args.due c.args.source_due f source target output) first.goes.passes second.goes.passes (first.makes target.temp)
+    (second.makes output (holds_kept target.temp first.goes.passes (first.keeps target.temp (temp_beside c.args.due target target named named (λ due. (c.requires.apart due).0))) output holds))
+    (λ f h told now made. ap (λ l. backup_effects c.args.due f target ++ l)
+    (moving_same c.args.source_due source target output f h (first.keeps source.name (name_beside c.args.due target source.name named c.requires.source.lasting.own (λ due. (c.requires.apart due).1)) f h told now))))
+
+pub returns-clause-count : goal.returns-clause-count
+returns-clause-count g c f output told = c.with_backups.ensures.effects ∙ moved_count c.args.due c.args.source_due f c.args.source.now c.args.target.now output
+
+pub returns-clause-tidy : goal.returns-clause-tidy
+returns-clause-tidy g c f h told now =
+    let target = c.args.target.now in
+    let source = c.args.source.now in
+    let held = there_holds (g.T.Tree.view c.args.tree.now) target.temp f told (c.requires.there f told) in
+    makes_tidy c.with_backups.result target.temp (λ k. moved_effects c.args.due c.args.source_due k source target held.0) (λ k was. returns-clause-makes g c held.0 held.1) c.in_ok-move_in.ensures.gone
+    (λ k. moved_tidy c.args.due c.args.source_due k source target held.0 c.requires.source.lasting c.requires.named.lasting) f h told now
