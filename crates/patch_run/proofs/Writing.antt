@@ -1,36 +1,42 @@
 -- The effects of one file patch, in parts.
-use Rattle.std.proofs.Common.{◌≡◌, ◌≢◌, ◌++◌, ◌+◌, ◌||◌, ◌&&◌, ◌∙◌, [], ℕ, arith, length-append, count_by, List, Bool, true, false, not, if◌then◌else◌, length, is_some, sym, ap}
+use Rattle.std.proofs.Common.{◌≡◌, ◌++◌, ◌+◌, ◌||◌, ◌&&◌, ◌∙◌, [], ℕ, arith, length-append, List, Bool, true, false, not, if◌then◌else◌, length, is_some, is_none, refl, sym, ap}
 use Rattle.std.proofs.lemmas.Bool.{false≢true}
-use Rattle.std.proofs.lemmas.Bool.Decides.{nat_tests}
 use Rattle.std.specs.FinMap.{get}
 use Rattle.outside.specs.Files.{Files}
-use Rattle.hunk_core.specs.declared.Verdict.{Verdict}
-use Rattle.hunk_apply.specs.Session.{is_placed}
 use Rattle.patch_options.specs.PlainJob.{PlainOptions}
 use Rattle.target_names.specs.declared.derived.Target.{Target}
 use Rattle.file_patch.specs.declared.Change.{Change}
 use Rattle.file_patch.specs.declared.Change.TheVariants.{Hunks, Script}
 use Rattle.file_patch.specs.PlainPatch.{change_of}
 use Rattle.reject_text.specs.Rejects.{AreHunks}
-use Rattle.patch_effects.specs.TargetEffects.{put_if, backup_effects, target_effects}
+use Rattle.patch_header.specs.declared.git_lines.Action.{Action}
+use Rattle.patch_header.specs.declared.git_lines.Action.TheVariants.{Plain, New, Deleted, Rename, Copy}
+use Rattle.file_patch.specs.Actions.{is_moved}
+use Rattle.patch_effects.specs.TargetEffects.{put_if, backup_effects, target_effects, moved_effects}
+use Rattle.outside.specs.Quiet.{Effect}
+use Rattle.hunk_apply.specs.Written.{is_nothing}
+use Rattle.patch_run.specs.Asking.{is_rename, renames}
 use Rattle.patch_effects.proofs.Placing.{put_count}
-use Rattle.patch_run.specs.OnePatch.{PlainTurn, Tried, some_placed, has_rejects, is_backup_due, is_removal, written_effects, rejects_text, reject_effects, effects_of, wrote, is_script, is_unrejected}
+use Rattle.patch_run.specs.OnePatch.{PlainTurn, Tried, has_rejects, is_backup_due, is_moving, is_unwanted, is_removal, is_written, made_effects, written_effects, rejects_text, reject_effects, effects_of, wrote, is_script, is_unrejected}
 
 -- ---- the effects of a file patch
 
--- of one that is no rename, and of a rename
+-- of a file patch whose source stays, and of one whose source goes
 module _ (t : PlainTurn) (f : Files) (s w : Target) (x : Tried) (due other : Bool) (is_due : due ≡ is_backup_due t w s x.verdicts) where
-  pub put_as : (removal : Bool) → renames t.item.patch ≡ false → removal ≡ is_removal t x → made_effects t f s w x ≡ backup_effects due f w ++ target_effects removal f w x.output
+  abbrev either : Bool → List Effect
+  either moving = if moving then moved_effects (is_backup_due t w s x.verdicts) (is_backup_due t s w x.verdicts) f s w x.output else backup_effects (is_backup_due t w s x.verdicts) f w ++ target_effects (is_removal t x) f w x.output
+
+  pub put_as : (removal : Bool) → is_moving t f s w ≡ false → removal ≡ is_removal t x → made_effects t f s w x ≡ backup_effects due f w ++ target_effects removal f w x.output
   put_as removal stays is_gone =
-      ap (λ (b : Bool). if b then moved_effects (is_backup_due t s w x.verdicts) (is_backup_due t w s x.verdicts) f s w x.output else backup_effects (is_backup_due t w s x.verdicts) f w ++ target_effects (is_removal t x) f w x.output) stays
+      ap either stays
       ∙ ap (λ (b : Bool). backup_effects b f w ++ target_effects (is_removal t x) f w x.output) (sym is_due)
       ∙ ap (λ (b : Bool). backup_effects due f w ++ target_effects b f w x.output) (sym is_gone)
 
-  pub moved_as : renames t.item.patch ≡ true → other ≡ is_backup_due t s w x.verdicts → made_effects t f s w x ≡ moved_effects other due f s w x.output
+  pub moved_as : is_moving t f s w ≡ true → other ≡ is_backup_due t s w x.verdicts → made_effects t f s w x ≡ moved_effects due other f s w x.output
   moved_as moves is_other =
-      ap (λ (b : Bool). if b then moved_effects (is_backup_due t s w x.verdicts) (is_backup_due t w s x.verdicts) f s w x.output else backup_effects (is_backup_due t w s x.verdicts) f w ++ target_effects (is_removal t x) f w x.output) moves
-      ∙ ap (λ (b : Bool). moved_effects (is_backup_due t s w x.verdicts) b f s w x.output) (sym is_due)
-      ∙ ap (λ (b : Bool). moved_effects b due f s w x.output) (sym is_other)
+      ap either moves
+      ∙ ap (λ (b : Bool). moved_effects b (is_backup_due t s w x.verdicts) f s w x.output) (sym is_due)
+      ∙ ap (λ (b : Bool). moved_effects due b f s w x.output) (sym is_other)
 
 pub written_as : (t : PlainTurn) (f : Files) (s w : Target) (x : Tried) → is_written t x ≡ true → written_effects t f s w x ≡ made_effects t f s w x
 written_as t f s w x is = ap (λ (b : Bool). if b then made_effects t f s w x else []) is

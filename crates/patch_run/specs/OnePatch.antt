@@ -337,9 +337,13 @@ is_unwanted t side = t.options.remove_empty || (takes_files t.options && deletes
 abbrev pub is_removal : PlainTurn → Tried → Bool
 is_removal t x = is_nothing x.text && is_none t.options.output && is_none t.options.define && not (moves t.item.patch) && is_unwanted t x.side
 
+-- the source of a rename goes, which is there and isn't the target itself
+abbrev pub is_moving : PlainTurn → Files → Target → Target → Bool
+is_moving t files s w = renames t.item.patch && not (bytes_eq s.name w.name) && is_some (get files s.name)
+
 -- of a source and a target: a rename takes the source away once the target is put, both being backed up before
 abbrev pub made_effects : PlainTurn → Files → Target → Target → Tried → List Effect
-made_effects t files s w x = if renames t.item.patch
+made_effects t files s w x = if is_moving t files s w
     then moved_effects (is_backup_due t w s x.verdicts) (is_backup_due t s w x.verdicts) files s w x.output
     else backup_effects (is_backup_due t w s x.verdicts) files w ++ target_effects (is_removal t x) files w x.output
 

@@ -1,10 +1,11 @@
 //! The effects of a file patch whose hunks were tried.
 
-ghost use Rattle.std.specs.Prelude.{◌≡◌, ◌≢◌, ◌≤◌, ◌||◌, ◌+◌, ◌&&◌, if◌then◌else◌, ℕ, List, true, false, not, length, count_by, is_some, is_none, Some, IfOk, OnOk};
+ghost use Rattle.std.specs.Prelude.{◌≡◌, ◌≢◌, ◌≤◌, ◌||◌, ◌+◌, ◌&&◌, if◌then◌else◌, ℕ, List, true, false, not, length, count_by, bytes_eq, is_some, is_none, Some, IfOk, OnOk, OnErr};
 ghost use Rattle.std.specs.List.{list_any};
 ghost use Rattle.std.specs.FinMap.{get};
 ghost use Rattle.outside.specs.Files.{Files};
-ghost use Rattle.outside.specs.Calls.{IsThere};
+ghost use Rattle.outside.specs.TreeView.{Rises};
+ghost use Rattle.outside.specs.Calls.{IsThere, IsUntouched};
 ghost use Rattle.outside.specs.Quiet.{IsQuiet, Holds};
 ghost use Rattle.hunk_core.specs.declared.Verdict.{Verdict};
 ghost use Rattle.hunk_apply.specs.Session.{is_failed, is_inexact};
@@ -12,7 +13,7 @@ ghost use Rattle.hunk_apply.specs.Written.{is_nothing};
 ghost use Rattle.reject_text.specs.Rejects.{AreHunks};
 ghost use Rattle.file_patch.specs.PlainPatch.{row_count};
 ghost use Rattle.patch_run.specs.Asking.{renames};
-ghost use Rattle.patch_run.specs.OnePatch.{Tried, is_backup_due, is_backup_apart, is_made_bare, is_written, is_unwanted, is_removal, made_effects, written_effects, effects_of, wrote, has_rejects};
+ghost use Rattle.patch_run.specs.OnePatch.{Tried, is_backup_due, is_backup_apart, is_made_bare, is_written, is_unwanted, is_removal, is_moving, made_effects, written_effects, effects_of, wrote, has_rejects};
 ghost use Rattle.patch_run.specs.Trying.{IsSession};
 ghost use Rattle.patch_effects.specs.Making.{Makes, GoesQuietly, IsGone, IsTidy};
 ghost use Rattle.patch_effects.specs.Named.{IsNamed};
@@ -25,7 +26,7 @@ use crate::tell::{is_taken_away, is_unrejected};
 use crate::turn::Turn;
 use hunk_apply::Session;
 use hunk_core::{Side, Verdict};
-use outside::Tree;
+use outside::{Failed, Name, Tree};
 use patch_effects::{Made, RunFault, forget, write_moved, write_placed};
 use patch_options::Options;
 use replace_file::Temp;
@@ -121,10 +122,88 @@ fn write_target<T: Tree>(
             effects: 0,
         });
     }
-    if renames(turn.patch) {
+    write_made(turn, source, target, side, session, temp, tree)
+}
+
+/// Backs the target up and writes it; the source of a rename goes.
+fn write_made<T: Tree>(
+    turn: &Turn<'_>,
+    source: &Target,
+    target: &Target,
+    side: Side,
+    session: &Session,
+    temp: Temp<'_>,
+    tree: &mut T,
+) -> Result<Made, RunFault>
+    requires turn { IsTurn turn.now }
+    requires source { IsNamed source.now }
+    requires named { IsNamed target.now }
+    requires temp { temp.name.now ≡ target.now.temp }
+    requires quiet { IsQuiet (T.view tree.old) }
+    requires there { IsThere (T.view tree.old) target.now.temp }
+    ensures goes { GoesQuietly (T.view tree.old) (T.view tree.new) result }
+    ensures makes { (x : Tried) → x.side ≡ side → IsSession session.now x.verdicts x.text → Holds (T.view tree.old) target.now.temp x.output
+        → Makes (T.view tree.old) (T.view tree.new) result target.now.temp (λ f. made_effects (plain_turn turn.now) f source.now target.now x) }
+    ensures gone { OnOk result (IsGone (T.view tree.new) target.now.temp) }
+    ensures wrote { IfOk result (λ made. (f : Files) (x : Tried) → (T.view tree.old).told ≡ Some f → x.side ≡ side → IsSession session.now x.verdicts x.text
+        → made.wrote ≡ (not (is_removal (plain_turn turn.now) x) || is_some (get f target.now.name))) }
+    ensures count { IfOk result (λ made. (f : Files) (x : Tried) → (T.view tree.old).told ≡ Some f → x.side ≡ side → IsSession session.now x.verdicts x.text
+        → made.effects ≡ length (made_effects (plain_turn turn.now) f source.now target.now x)) }
+    ensures few { IfOk result (λ made. made.effects ≤ 4) }
+    ensures tidy { OnOk result (IsTidy (T.view tree.old) (T.view tree.new)) }
+{
+    let moving = match is_moving(turn, source, target, tree) {
+        Ok(moving) => moving,
+        Err(_) => return Err(RunFault::Tree),
+    };
+    if moving {
         move_source(turn, source, target, session, temp, tree)
     } else {
         put_placed(turn, source, target, side, session, temp, tree)
+    }
+}
+
+/// Whether the source of a rename goes, which is there and isn't the target itself.
+fn is_moving<T: Tree>(
+    turn: &Turn<'_>,
+    source: &Target,
+    target: &Target,
+    tree: &mut T,
+) -> Result<bool, Failed>
+    ensures untouched { IsUntouched (T.view tree.old) (T.view tree.new) }
+    ensures cause { OnErr result (Rises (T.view tree.old) (T.view tree.new)) }
+    ensures moving { IfOk result (λ moving. (f : Files) → (T.view tree.old).told ≡ Some f → moving ≡ is_moving (plain_turn turn.now) f source.now target.now) }
+    ensures there { IfOk result (λ moving. moving ≡ true → IsThere (T.view tree.new) source.now.name) }
+    ensures apart { IfOk result (λ moving. moving ≡ true → target.now.name ≢ source.now.name) }
+    ensures renames { IfOk result (λ moving. moving ≡ true → renames (plain_turn turn.now).item.patch ≡ true) }
+{
+    if !is_renamed(turn, source, target) {
+        return Ok(false);
+    }
+    is_there(&source.name, tree)
+}
+
+/// Whether the file patch renames a file, and the names differ.
+fn is_renamed(turn: &Turn<'_>, source: &Target, target: &Target) -> bool
+    ensures renamed { result ≡ (renames (plain_turn turn.now).item.patch && not (bytes_eq source.now.name target.now.name)) }
+    ensures apart { result ≡ true → target.now.name ≢ source.now.name }
+    ensures renames { result ≡ true → renames (plain_turn turn.now).item.patch ≡ true }
+{
+    if !renames(turn.patch) {
+        return false;
+    }
+    !is_same(&source.name, &target.name)
+}
+
+/// Whether a file is there.
+fn is_there<T: Tree>(name: &Name, tree: &mut T) -> Result<bool, Failed>
+    ensures untouched { IsUntouched (T.view tree.old) (T.view tree.new) }
+    ensures cause { OnErr result (Rises (T.view tree.old) (T.view tree.new)) }
+    ensures there { IfOk result (λ there. (f : Files) → (T.view tree.old).told ≡ Some f → there ≡ is_some (get f name.now)) }
+{
+    match tree.size(name)? {
+        Some(_) => Ok(true),
+        None => Ok(false),
     }
 }
 
@@ -141,7 +220,7 @@ fn put_placed<T: Tree>(
     requires turn { IsTurn turn.now }
     requires source { IsNamed source.now }
     requires named { IsNamed target.now }
-    requires stays { renames (plain_turn turn.now).item.patch ≡ false }
+    requires stays { (f : Files) → (T.view tree.old).told ≡ Some f → is_moving (plain_turn turn.now) f source.now target.now ≡ false }
     requires temp { temp.name.now ≡ target.now.temp }
     requires quiet { IsQuiet (T.view tree.old) }
     requires there { IsThere (T.view tree.old) target.now.temp }
@@ -173,7 +252,10 @@ fn move_source<T: Tree>(
     requires turn { IsTurn turn.now }
     requires source { IsNamed source.now }
     requires named { IsNamed target.now }
-    requires moves { renames (plain_turn turn.now).item.patch ≡ true }
+    requires moves { (f : Files) → (T.view tree.old).told ≡ Some f → is_moving (plain_turn turn.now) f source.now target.now ≡ true }
+    requires renames { renames (plain_turn turn.now).item.patch ≡ true }
+    requires apart { target.now.name ≢ source.now.name }
+    requires source_there { IsThere (T.view tree.old) source.now.name }
     requires temp { temp.name.now ≡ target.now.temp }
     requires quiet { IsQuiet (T.view tree.old) }
     requires there { IsThere (T.view tree.old) target.now.temp }
@@ -190,7 +272,7 @@ fn move_source<T: Tree>(
 {
     let due = is_backup_due(turn, target, source, session);
     let source_due = is_backup_due(turn, source, target, session);
-    write_moved(source, target, source_due, due, temp, tree)
+    write_moved(source, target, due, source_due, temp, tree)
 }
 
 /// Whether the target is written.

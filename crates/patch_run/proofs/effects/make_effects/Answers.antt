@@ -1,7 +1,5 @@
-use Rattle.std.proofs.Common.{ℕ, List, Ok, Err, refl, sym, ◌∙◌}
-use Rattle.hunk_core.specs.declared.Side.{Side}
-use Rattle.hunk_core.specs.declared.Verdict.{Verdict}
-use Rattle.patch_run.specs.OnePatch.{Tried, effects_of, reject_effects}
+use Rattle.std.proofs.Common.{Ok, Err, sym, ◌∙◌}
+use Rattle.patch_run.specs.OnePatch.{effects_of, reject_effects}
 use Rattle.patch_run.specs.TurnView.{plain_turn}
 use Rattle.patch_effects.proofs.Making.{makes_both, makes_stops, makes_fault, makes_value}
 use Rattle.patch_run.proofs.Writing.{effects_split, effects_as, effects_count, wrote_as}
@@ -41,7 +39,7 @@ returns-clause-makes g c x side vs session holds =
 
 pub returns-clause-wrote : goal.returns-clause-wrote
 returns-clause-wrote g c f x told side vs session =
-    c.with_reject.ensures.wrote ∙ c.in_ok-made.ensures.wrote f x told side session ∙ sym (wrote_as (plain_turn c.args.turn.now) f c.args.target.now x c.requires.wet)
+    c.with_reject.ensures.wrote ∙ c.in_ok-made.ensures.wrote f x told side session ∙ sym (wrote_as (plain_turn c.args.turn.now) f c.args.source.now c.args.target.now x c.requires.wet)
 
 pub returns-clause-count : goal.returns-clause-count
 returns-clause-count g c f x told side vs session =
