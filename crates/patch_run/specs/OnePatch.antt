@@ -27,18 +27,16 @@ use Rattle.patch_set.specs.Asked.{is_posix}
 use Rattle.name_choice.specs.declared.Choice.{Choice}
 use Rattle.name_choice.specs.declared.Choice.TheVariants.{Existing, Create, Nothing}
 use Rattle.name_choice.specs.Choice.{choice, names_of, side_of}
-use Rattle.hunk_apply.specs.Change.{change_output, change_verdicts}
-use Rattle.hunk_apply.specs.Session.{is_placed, is_failed, is_inexact}
+use Rattle.hunk_apply.specs.Session.{is_inexact}
 use Rattle.hunk_apply.specs.Written.{is_nothing}
 use Rattle.reject_text.specs.Rejects.{reject_text, hunks_in}
 use Rattle.say_text.specs.Messages.{silenced, patching_line, no_file_lines, prereq_line, reversed_line, exists_line, not_deleting_line, failures_line, ignored_line}
 use Rattle.say_text.specs.Origins.{PlainOrigin}
 use Rattle.say_text.specs.Origins.PlainOrigin.{Itself, RenamedFrom, CopiedFrom}
 use Rattle.patch_effects.specs.TargetEffects.{put_if, backup_effects, target_effects, moved_effects}
-use Rattle.ifdef_out.specs.Placed.{change_edits}
-use Rattle.ifdef_out.specs.Tagged.{ifdef_text}
 use Rattle.patch_run.specs.Asking.{moves, renames, is_bare, acts_new, acts_deleted, takes_files}
 pub use Rattle.patch_run.specs.Turns.{Item, Mark, PlainTurn, no_target, target_at, written_at, written, written_by, renamed_by, bytes_of, shown, shown_reject, total}
+pub use Rattle.patch_run.specs.Outputs.{Tried, verdicts_on, text_of, parted_output, output_on, tried, failed, some_placed, some_failed}
 pub use Rattle.patch_run.specs.HunksSaid.{hunk_said, hunks_said, script_said, change_said}
 
 -- how a file patch is taken, once this was said: it is skipped, and what its row holds; or its file isn't taken; or its hunks are tried from a side
@@ -198,40 +196,6 @@ unfoldable pub start : PlainTurn → Files → Start
 start t files = on_choice t files (choice_of t files)
 
 -- ---- what came of the hunks
-
--- the new text of the file, and what is written of it
-pub record Tried : Type 0 where
-  pub side : Side
-  pub verdicts : List Verdict
-  pub text : List ℕ
-  pub output : List ℕ
-
-abbrev pub verdicts_on : PlainTurn → Side → List (List ℕ) → List Verdict
-verdicts_on t side ls = change_verdicts ls t.options.fuzz t.options.loose side t.item.patch.change
-
-abbrev pub text_of : PlainTurn → Side → List (List ℕ) → List ℕ
-text_of t side ls = change_output ls t.options.fuzz t.options.loose side t.item.patch.change
-
--- the old and the new lines, parted by conditions
-abbrev pub parted_output : PlainTurn → Side → List (List ℕ) → List ℕ → List ℕ
-parted_output t side ls define = ifdef_text define ls (change_edits (verdicts_on t side ls) side t.item.patch.change)
-
--- which are written with `-D`, and else the new text
-abbrev pub output_on : Option (List ℕ) → PlainTurn → Side → List (List ℕ) → List ℕ
-output_on None t side ls = text_of t side ls
-output_on (Some define) t side ls = parted_output t side ls define
-
-abbrev pub tried : PlainTurn → Side → List (List ℕ) → Tried
-tried t side ls = record { side = side; verdicts = verdicts_on t side ls; text = text_of t side ls; output = output_on t.options.define t side ls }
-
-abbrev pub failed : List Verdict → ℕ
-failed vs = count_by is_failed vs
-
-abbrev pub some_placed : List Verdict → Bool
-some_placed vs = nat_lt 0 (count_by is_placed vs)
-
-abbrev pub some_failed : List Verdict → Bool
-some_failed vs = nat_lt 0 (failed vs)
 
 abbrev pub is_script : PlainChange → Bool
 is_script (hunks hs) = false
