@@ -17,3 +17,5 @@ mod Telling
 mod EndCause
 mod DoneNone
 mod BackedUp
+mod Getting
+mod Moving

@@ -1,5 +1,5 @@
 -- The effects of one file patch, in parts.
-use Rattle.std.proofs.Common.{◌≡◌, ◌++◌, ◌+◌, ◌||◌, ◌&&◌, ◌∙◌, [], ℕ, arith, length-append, List, Bool, true, false, not, if◌then◌else◌, length, is_some, is_none, refl, sym, ap}
+use Rattle.std.proofs.Common.{◌≡◌, ◌++◌, ◌+◌, ◌||◌, ◌&&◌, ◌∙◌, [], ℕ, arith, length-append, List, Bool, true, false, not, if◌then◌else◌, length, is_some, refl, sym, ap}
 use Rattle.std.proofs.lemmas.Bool.{false≢true}
 use Rattle.std.specs.FinMap.{get}
 use Rattle.outside.specs.Files.{Files}
@@ -43,7 +43,7 @@ written_as t f s w x is = ap (λ (b : Bool). if b then made_effects t f s w x el
 
 -- a rename has no removal
 pub moved_stays : (t : PlainTurn) (x : Tried) → renames t.item.patch ≡ true → is_removal t x ≡ false
-moved_stays t x is = none (is_nothing x.text) (is_none t.options.output) (is_none t.options.define) (is_unwanted t x.side) (rename_moves t.item.patch.header.action is)
+moved_stays t x is = none (is_nothing x.text) (is_some t.options.output) (is_some t.options.define) (is_unwanted t x.side) (rename_moves t.item.patch.header.action is)
   where
     rename_moves : (a : Action) → is_rename a ≡ true → is_moved a ≡ true
     rename_moves Plain is = absurd (false≢true is)
@@ -52,8 +52,11 @@ moved_stays t x is = none (is_nothing x.text) (is_none t.options.output) (is_non
     rename_moves Rename is = refl
     rename_moves Copy is = absurd (false≢true is)
 
-    none : (a b c e : Bool) {d : Bool} → d ≡ true → (a && b && c && not d && e) ≡ false
-    none a b c e is = grind (arith, is)
+    none : (a b c e : Bool) {d : Bool} → d ≡ true → (a && not (b || c || d) && e) ≡ false
+    none true true c e is = refl
+    none true false true e is = refl
+    none true false false e is = ap (λ x. not x && e) is
+    none false b c e is = refl
 
 module _ (t : PlainTurn) (f : Files) (s w : Target) (x : Tried) (wet : t.options.dry_run ≡ false) where
   pub effects_split : effects_of t f s w x ≡ written_effects t f s w x ++ reject_effects t w x

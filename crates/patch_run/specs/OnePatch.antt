@@ -297,9 +297,13 @@ is_written t x = some_placed x.verdicts || (is_bare t.item.patch && is_made_bare
 abbrev pub is_unwanted : PlainTurn → Side → Bool
 is_unwanted t side = t.options.remove_empty || (takes_files t.options && deletes side t.item.patch)
 
--- an output without a byte is no file, where the file patch deletes its file or `-E` was given (GNU patch manual, "Creating and Removing Files"); a file that is renamed or copied is one, and so is one with conditions
+-- an output of the options is put, and so is one with conditions, and a file that is renamed or copied
+abbrev pub is_always_put : PlainTurn → Bool
+is_always_put t = is_some t.options.output || is_some t.options.define || moves t.item.patch
+
+-- any other output without a byte is no file, where the file patch deletes its file or `-E` was given (GNU patch manual, "Creating and Removing Files")
 abbrev pub is_removal : PlainTurn → Tried → Bool
-is_removal t x = is_nothing x.text && is_none t.options.output && is_none t.options.define && not (moves t.item.patch) && is_unwanted t x.side
+is_removal t x = is_nothing x.text && not (is_always_put t) && is_unwanted t x.side
 
 -- the source of a rename goes, which is there and isn't the target itself
 abbrev pub is_moving : PlainTurn → Files → Target → Target → Bool

@@ -13,7 +13,7 @@ ghost use Rattle.hunk_apply.specs.Written.{is_nothing};
 ghost use Rattle.reject_text.specs.Rejects.{AreHunks};
 ghost use Rattle.file_patch.specs.PlainPatch.{row_count};
 ghost use Rattle.patch_run.specs.Asking.{renames};
-ghost use Rattle.patch_run.specs.OnePatch.{Tried, is_backup_due, is_backup_apart, is_made_bare, is_written, is_unwanted, is_removal, is_moving, made_effects, written_effects, effects_of, wrote, has_rejects};
+ghost use Rattle.patch_run.specs.OnePatch.{Tried, is_backup_due, is_backup_apart, is_made_bare, is_written, is_unwanted, is_always_put, is_removal, is_moving, made_effects, written_effects, effects_of, wrote, has_rejects};
 ghost use Rattle.patch_run.specs.Trying.{IsSession};
 ghost use Rattle.patch_effects.specs.Making.{Makes, GoesQuietly, IsGone, IsTidy};
 ghost use Rattle.patch_effects.specs.Named.{IsNamed};
@@ -339,12 +339,18 @@ fn is_removal(turn: &Turn<'_>, side: Side, session: &Session) -> bool
     requires turn { IsTurn turn.now }
     ensures { (x : Tried) → x.side ≡ side → session.now.output_empty ≡ is_nothing x.text → result ≡ is_removal (plain_turn turn.now) x }
 {
+    session.output_empty && !is_always_put(turn) && is_unwanted(turn, side)
+}
+
+/// Whether an output without a byte is put too.
+fn is_always_put(turn: &Turn<'_>) -> bool
+    ensures { result ≡ is_always_put (plain_turn turn.now) }
+{
     let options = turn.options;
-    session.output_empty
-        && options.output.is_none()
-        && options.define.is_none()
-        && !turn.patch.is_moved()
-        && is_unwanted(turn, side)
+    if options.output.is_some() || options.define.is_some() {
+        return true;
+    }
+    turn.patch.is_moved()
 }
 
 /// Whether a file without a byte is to be taken away.

@@ -15,9 +15,9 @@ ghost use Rattle.patch_run.specs.Laws.{IsSkip, IsIgnored, HasWritten};
 pub fn run_laws()
     ensures skipped { (t : PlainTurn) (files : Files) → IsSkip (start t files) → IsIgnored (ending t files) }
     ensures dry { (o : PlainOptions) (output : Option Target) (items : List Item) (files : Files) → o.dry_run ≡ true → (run_of o output items files).effects ≡ [] }
-    ensures once { (o : PlainOptions) (output : Option Target) (front behind : List Item) (i j : Item) (files : Files) (w : Target) (vs : List Verdict)
+    ensures once { (o : PlainOptions) (output : Option Target) (front behind : List Item) (i j : Item) (files : Files) (w other : Target) (vs : List Verdict)
         → (run_of o output front files).stop ≡ None
         → HasWritten (turn_of o output (run_of o output front files) i) (ending (turn_of o output (run_of o output front files) i) (run_of o output front files).files) w.name
-        → is_backup_due (turn_of o output (run_of o output (front ++ i ∷ behind) files) j) w vs ≡ false }
+        → is_backup_due (turn_of o output (run_of o output (front ++ i ∷ behind) files) j) w other vs ≡ false }
     ensures same { (o : PlainOptions) (output : Option Target) (items : List Item) (files : Files) → o.dry_run ≡ true → (run_of o output items files).files ≡ files }
 {}

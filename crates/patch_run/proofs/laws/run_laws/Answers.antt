@@ -12,4 +12,4 @@ pub returns-clause-same : goal.returns-clause-same
 returns-clause-same c o output items files dry = dry_files o output items files dry
 
 pub returns-clause-once : goal.returns-clause-once
-returns-clause-once c o output front behind i j files w vs going has = backed_once o output front behind i j files w vs going has
+returns-clause-once c o output front behind i j files w other vs going has = backed_once o output front behind i j files w other vs going has
