@@ -19,3 +19,4 @@ mod DoneNone
 mod BackedUp
 mod Getting
 mod Moving
+mod Renaming

@@ -1,10 +1,9 @@
 //! The names of a target as messages show them.
 
-ghost use Rattle.std.specs.Prelude.{◌≡◌, ◌<◌, ℕ, List, length, drop, unwrap_or};
+ghost use Rattle.std.specs.Prelude.{◌≡◌, ◌<◌, ℕ, List, length, drop, All, slice_get, unwrap_or};
 ghost use Rattle.std.specs.Option.{ForSome, option_copied};
 ghost use Rattle.patch_run.specs.OnePatch.{shown, shown_reject, written, written_at, named, origin_of, target_at};
 ghost use Rattle.patch_run.specs.Run.{item_of};
-ghost use Rattle.patch_run.specs.Ready.{IsFit};
 ghost use Rattle.say_text.specs.Origins.{plain_origin};
 ghost use Rattle.patch_effects.specs.Named.{BeginsComponent, IsNamed};
 ghost use Rattle.patch_run.specs.TurnView.{plain_turn, IsTurn};
@@ -51,14 +50,22 @@ pub fn chosen<'a>(turn: &Turn<'a>, place: u32) -> &'a Target
     &turn.patch.targets[place as usize]
 }
 
+/// The target at a place, if there is one.
+pub fn target_in<'a>(patch: &'a FilePatch, place: u32) -> Option<&'a Target>
+    ensures target { option_copied result ≡ slice_get patch.now.targets.items place }
+    ensures named { All IsNamed patch.now.targets.items → ForSome (option_copied result) IsNamed }
+{
+    patch.targets.get(place as usize)
+}
+
 /// The target that a file patch writes without an output of the options, where this one was chosen.
 pub fn written_at<'a>(patch: &'a FilePatch, place: u32) -> Option<&'a Target>
     ensures target { (text : List ℕ) → option_copied result ≡ written_at (item_of text patch.now) place }
-    ensures named { (text : List ℕ) → IsFit text patch.now → ForSome (option_copied result) IsNamed }
+    ensures named { All IsNamed patch.now.targets.items → ForSome (option_copied result) IsNamed }
 {
-    match patch.targets.get(written_place(patch, place) as usize) {
+    match target_in(patch, written_place(patch, place)) {
         Some(target) => Some(target),
-        None => patch.targets.get(place as usize),
+        None => target_in(patch, place),
     }
 }
 

@@ -9,7 +9,7 @@ ghost use Rattle.patch_run.specs.Ready.{IsFit, alone, rows_in};
 ghost use Rattle.patch_run.specs.TurnView.{plain_turn, IsTurn};
 
 use crate::asking::renames;
-use crate::names::written_at;
+use crate::names::{target_in, written_at};
 use crate::turn::Turn;
 use file_patch::FilePatch;
 use hunk_core::Verdict;
@@ -83,7 +83,7 @@ fn renamed_by<'a>(turn: &Turn<'_>, earlier: &Earlier<'a>) -> Option<&'a Target>
         return None;
     }
     let place = earlier.row.target?;
-    earlier.patch.targets.get(place as usize)
+    target_in(earlier.patch, place)
 }
 
 /// Whether one of those before it made or took away this name, as its target or from a file that it renamed.

@@ -1,5 +1,6 @@
 use Rattle.patch_run.proofs.DoneNone.{skipped_ignored, dry_effects, dry_files}
 use Rattle.patch_run.proofs.BackedUp.{backed_once}
+use Rattle.patch_run.proofs.Renaming.{renamed}
 use Rattle.patch_run.proofs.laws.run_laws.Goals as goal
 
 pub returns-clause-skipped : goal.returns-clause-skipped
@@ -13,3 +14,6 @@ returns-clause-same c o output items files dry = dry_files o output items files 
 
 pub returns-clause-once : goal.returns-clause-once
 returns-clause-once c o output front behind i j files w other vs going has = backed_once o output front behind i j files w other vs going has
+
+pub returns-clause-renamed : goal.returns-clause-renamed
+returns-clause-renamed c t files s w x named moving is = renamed t files s w x named moving is

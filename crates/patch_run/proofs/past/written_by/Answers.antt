@@ -16,4 +16,4 @@ returns-clause-target c =
     ∙ sym (ap (λ (o : Option Target). option_or o (option_and_then (written_at item) c.args.earlier.now.row.target)) none ∙ ap (option_and_then (written_at item)) c.in_ok-place.was)
 
 pub returns-clause-named : goal.returns-clause-named
-returns-clause-named c = c.written_at.ensures.named c.args.turn.now.set.now.text c.requires.fit
+returns-clause-named c = c.written_at.ensures.named c.requires.fit.named
