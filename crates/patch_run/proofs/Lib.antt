@@ -20,3 +20,4 @@ mod BackedUp
 mod Getting
 mod Moving
 mod Renaming
+mod Parting
