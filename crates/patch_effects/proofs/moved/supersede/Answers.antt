@@ -1,7 +1,7 @@
 use Rattle.std.proofs.Common.{[], ◌∷◌, refl, sym}
 use Rattle.outside.specs.Quiet.Effect.{Remove}
 use Rattle.outside.proofs.Names.{apart}
-use Rattle.patch_effects.proofs.Making.{makes_both, makes_stops, gone_behind}
+use Rattle.patch_effects.proofs.Making.{makes_both, makes_stops, gone_behind, there_kept}
 use Rattle.patch_effects.proofs.moved.supersede.Goals as goal
 
 pub returns-in_err-swap_in-clause-makes : goal.returns-in_err-swap_in-clause-makes
@@ -19,3 +19,10 @@ returns-clause-gone g c =
     let source = c.args.source.now in
     gone_behind c.take_away.result source.name target.temp c.take_away.ensures.keeps c.take_away.ensures.goes.passes
     (λ eq. apart source.name target.temp c.requires.source.lasting.own c.requires.named.temps.own (sym eq)) c.in_ok-swap_in.ensures.gone
+
+pub take_away-requires-clause-there : goal.take_away-requires-clause-there
+take_away-requires-clause-there g c =
+    let target = c.args.target.now in
+    let source = c.args.source.now in
+    let first = c.in_ok-swap_in.ensures in
+    there_kept source.name first.goes.passes (first.keeps source.name (λ eq. c.requires.moved (sym eq)) (apart source.name target.temp c.requires.source.lasting.own c.requires.named.temps.own)) c.requires.source_there

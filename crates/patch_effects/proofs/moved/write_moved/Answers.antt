@@ -1,6 +1,6 @@
 use Rattle.std.proofs.Common.{◌++◌, Ok, Err, refl, ◌∙◌, ap}
 use Rattle.patch_effects.specs.TargetEffects.{backup_effects, moving_effects, moved_effects}
-use Rattle.patch_effects.proofs.Making.{makes_both, makes_stops, makes_fault, makes_value, holds_kept}
+use Rattle.patch_effects.proofs.Making.{makes_both, makes_stops, makes_fault, makes_value, holds_kept, there_kept}
 use Rattle.patch_effects.proofs.Placing.{name_beside, temp_beside, moving_same, moved_count}
 use Rattle.patch_effects.proofs.Tidy.{there_holds, moved_tidy, makes_tidy}
 use Rattle.patch_effects.proofs.moved.write_moved.Goals as goal
@@ -47,3 +47,15 @@ returns-clause-tidy g c f h told now =
     let held = there_holds (g.T.Tree.view c.args.tree.now) target.temp f told (c.requires.there f told) in
     makes_tidy c.with_backups.result target.temp (λ k. moved_effects c.args.due c.args.source_due k source target held.0) (λ k was. returns-clause-makes g c held.0 held.1) c.in_ok-move_in.ensures.gone
     (λ k. moved_tidy c.args.due c.args.source_due k source target held.0 c.requires.source.lasting c.requires.named.lasting) f h told now
+
+pub move_in-requires-clause-there : goal.move_in-requires-clause-there
+move_in-requires-clause-there g c =
+    let target = c.args.target.now in
+    let first = c.in_ok-put_backup.ensures in
+    there_kept target.temp first.goes.passes (first.keeps target.temp (temp_beside c.args.due target target c.requires.named c.requires.named (λ due. (c.requires.apart due).0))) c.requires.there
+
+pub move_in-requires-clause-source_there : goal.move_in-requires-clause-source_there
+move_in-requires-clause-source_there g c =
+    let source = c.args.source.now in
+    let first = c.in_ok-put_backup.ensures in
+    there_kept source.name first.goes.passes (first.keeps source.name (name_beside c.args.due c.args.target.now source.name c.requires.named c.requires.source.lasting.own (λ due. (c.requires.apart due).1))) c.requires.source_there

@@ -1,7 +1,7 @@
 use Rattle.std.proofs.Common.{◌++◌, ◌||◌, Ok, Err, not, is_some, refl, ◌∙◌, ap}
 use Rattle.outside.proofs.Views.{told_on}
 use Rattle.patch_effects.specs.TargetEffects.{backup_effects, target_effects}
-use Rattle.patch_effects.proofs.Making.{makes_both, makes_stops, makes_fault, makes_value, holds_kept}
+use Rattle.patch_effects.proofs.Making.{makes_both, makes_stops, makes_fault, makes_value, holds_kept, there_kept}
 use Rattle.patch_effects.proofs.Placing.{name_beside, temp_beside, target_same, written_count}
 use Rattle.patch_effects.proofs.Tidy.{there_holds, placed_tidy, makes_tidy}
 use Rattle.patch_effects.proofs.placed.write_placed.Goals as goal
@@ -55,3 +55,10 @@ returns-clause-tidy g c f h told now =
     let held = there_holds (g.T.Tree.view c.args.tree.now) target.temp f told (c.requires.there f told) in
     makes_tidy c.with_backup.result target.temp (λ k. backup_effects c.args.due k target ++ target_effects c.args.removal k target held.0) (λ k was. returns-clause-makes g c held.0 held.1) c.in_ok-wrote.ensures.gone
     (λ k. placed_tidy c.args.due c.args.removal k target held.0 c.requires.named.lasting.backup c.requires.named.lasting.own) f h told now
+
+pub put_target-requires-clause-there : goal.put_target-requires-clause-there
+put_target-requires-clause-there g c =
+    let target = c.args.target.now in
+    let named = c.requires.named in
+    let first = c.in_ok-put_backup.ensures in
+    there_kept target.temp first.goes.passes (first.keeps target.temp (temp_beside c.args.due target target named named c.requires.apart)) c.requires.there
