@@ -21,3 +21,4 @@ mod Getting
 mod Moving
 mod Renaming
 mod Parting
+mod Forcing

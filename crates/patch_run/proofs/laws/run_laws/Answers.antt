@@ -1,6 +1,7 @@
 use Rattle.patch_run.proofs.DoneNone.{skipped_ignored, dry_effects, dry_files}
 use Rattle.patch_run.proofs.BackedUp.{backed_once}
 use Rattle.patch_run.proofs.Renaming.{renamed}
+use Rattle.patch_run.proofs.Forcing.{forced_nameless}
 use Rattle.patch_run.proofs.laws.run_laws.Goals as goal
 
 pub returns-clause-skipped : goal.returns-clause-skipped
@@ -17,3 +18,6 @@ returns-clause-once c o output front behind i j files w other vs going has = bac
 
 pub returns-clause-renamed : goal.returns-clause-renamed
 returns-clause-renamed c t files s w x named moving is = renamed t files s w x named moving is
+
+pub returns-clause-forced : goal.returns-clause-forced
+returns-clause-forced c t files forced is = forced_nameless t files forced is
