@@ -17,8 +17,8 @@ use Rattle.patch_run.proofs.Folding.{whole-next}
 
 -- its mark has the name
 holds_name : (wrote : Bool) (o : Option Target) (w : Target) (name : List ℕ) → wrote ≡ true → o ≡ Some w → w.name ≡ name → is_name name (if wrote then option_map (λ (x : Target). x.name) o else None) ≡ true
-holds_name wrote o w name yes is named =
-    ap (λ b. is_name name (if b then option_map (λ (x : Target). x.name) o else None)) yes
+holds_name wrote o w name by is named =
+    ap (λ b. is_name name (if b then option_map (λ (x : Target). x.name) o else None)) by
     ∙ ap (λ (x : Option Target). is_name name (option_map (λ (y : Target). y.name) x)) is
     ∙ ap (λ n. bytes_eq name n) named
     ∙ (bytes_eq-Decides name name).1 refl

@@ -1,5 +1,5 @@
 -- What one file patch says and does, step by step (POSIX `patch`; GNU patch manual, "Invoking patch").
-use Rattle.std.specs.Prelude.{ℕ, List, [], ◌++◌, map, replicate, count_by, Bool, true, false, not, ◌&&◌, ◌||◌, nat_lt, if◌then◌else◌, bytes_eq, Option, None, Some, is_some, is_none, unwrap_or, option_map}
+use Rattle.std.specs.Prelude.{ℕ, List, [], ◌∷◌, ◌++◌, map, replicate, count_by, Bool, true, false, not, ◌&&◌, ◌||◌, nat_lt, if◌then◌else◌, bytes_eq, Option, None, Some, is_some, is_none, unwrap_or, option_map}
 use Rattle.std.specs.List.{list_any, flat_map, slice_split}
 use Rattle.std.specs.FinMap.{get}
 use Rattle.line_list.specs.Lines.{lines}
@@ -37,7 +37,8 @@ use Rattle.patch_effects.specs.TargetEffects.{put_if, backup_effects, target_eff
 use Rattle.patch_run.specs.Asking.{moves, renames, is_bare, acts_new, acts_deleted, takes_files}
 pub use Rattle.patch_run.specs.Turns.{Item, Mark, PlainTurn, no_target, target_at, written_at, written, written_by, renamed_by, bytes_of, shown, shown_reject, total}
 pub use Rattle.patch_run.specs.Outputs.{Tried, verdicts_on, text_of, parted_output, output_on, tried, failed, some_placed, some_failed}
-pub use Rattle.patch_run.specs.HunksSaid.{hunk_said, hunks_said, script_said, change_said}
+pub use Rattle.patch_run.specs.HunksSaid.{hunk_said, script_said, change_said}
+unfoldable pub use Rattle.patch_run.specs.HunksSaid.{hunks_said}
 
 -- how a file patch is taken, once this was said: it is skipped, and what its row holds; or its file isn't taken; or its hunks are tried from a side
 pub data Start : Type 0 where

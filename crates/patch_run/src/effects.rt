@@ -291,7 +291,10 @@ fn is_made_bare(turn: &Turn<'_>, side: Side, session: &Session) -> bool
     requires turn { IsTurn turn.now }
     ensures { (x : Tried) → x.side ≡ side → IsSession session.now x.verdicts x.text → result ≡ is_made_bare (plain_turn turn.now) x }
 {
-    if acts_new(turn.patch, side) || turn.patch.is_moved() {
+    if acts_new(turn.patch, side) {
+        return true;
+    }
+    if turn.patch.is_moved() {
         return true;
     }
     is_taken_away(turn, side, session) && session.output_empty

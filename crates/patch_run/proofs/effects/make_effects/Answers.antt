@@ -1,4 +1,4 @@
-use Rattle.std.proofs.Common.{Ok, Err, sym, ◌∙◌}
+use Rattle.std.proofs.Common.{Ok, Err, refl, sym, ◌∙◌}
 use Rattle.patch_run.specs.OnePatch.{effects_of, reject_effects}
 use Rattle.patch_run.specs.TurnView.{plain_turn}
 use Rattle.patch_effects.proofs.Making.{makes_both, makes_stops, makes_fault, makes_value}
@@ -23,7 +23,7 @@ returns-in_err-put_rejects-clause-makes g c x side vs session holds =
     let first = c.in_ok-made.ensures in
     let second = c.in_err-put_rejects.ensures in
     makes_fault c.in_err-put_rejects.field-0.0 c.from_residual-in_err-put_rejects.result c.from_residual-in_err-put_rejects.ensures.1
-    (makes_both c.in_ok-made.made (Err c.in_err-put_rejects.field-0.0) (λ f. effects_of t f s w x) first.goes.passes second.goes.passes (first.makes x refl session holds) second.makes
+    (makes_both c.in_ok-made.made (Err c.in_err-put_rejects.field-0.0) (λ f. effects_of t f s w x) first.goes.passes second.goes.passes (first.makes x side session holds) second.makes
     (λ f h told now made. effects_as t f s w x c.requires.wet c.is_rejected-rejected.result (c.is_rejected-rejected.ensures.rejected x.verdicts session.failed)))
 
 pub returns-clause-makes : goal.returns-clause-makes
@@ -34,7 +34,7 @@ returns-clause-makes g c x side vs session holds =
     let first = c.in_ok-made.ensures in
     let second = c.in_ok-put_rejects.ensures in
     makes_value c.in_ok-put_rejects.field-0 c.with_reject.result
-    (makes_both c.in_ok-made.made (Ok c.in_ok-put_rejects.field-0) (λ f. effects_of t f s w x) first.goes.passes second.goes.passes (first.makes x refl session holds) second.makes
+    (makes_both c.in_ok-made.made (Ok c.in_ok-put_rejects.field-0) (λ f. effects_of t f s w x) first.goes.passes second.goes.passes (first.makes x side session holds) second.makes
     (λ f h told now made. effects_as t f s w x c.requires.wet c.is_rejected-rejected.result (c.is_rejected-rejected.ensures.rejected x.verdicts session.failed)))
 
 pub returns-clause-wrote : goal.returns-clause-wrote

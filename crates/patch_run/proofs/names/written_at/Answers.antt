@@ -20,4 +20,4 @@ returns-in-None-clause-target c text =
     ∙ sym (either xs c.written_place.result _ c.args.place None (c.written_place.ensures text) (sym c.target_in.ensures.target ∙ ap option_copied c.in-None.is))
 
 pub returns-in-Some-clause-named : goal.returns-in-Some-clause-named
-returns-in-Some-clause-named c all = ?
+returns-in-Some-clause-named c all x is = c.target_in.ensures.named all x (ap option_copied c.in-Some.is ∙ is)

@@ -19,10 +19,10 @@ pub returns-in_err-say_patching-clause-starts : goal.returns-in_err-say_patching
 returns-in_err-say_patching-clause-starts g c =
     let t = plain_turn c.args.turn.now in
     starts_unsaid _ _ c.in_err-say_patching.field-0.0 c.from_residual.result (λ f. on_target t f c.args.place) c.from_residual.ensures.1
-    (writes_is _ _ (c.in_err-say_patching.ensures.writes) (line t c.args.place _ _ _ c.shown.ensures c.named.ensures.target c.origin.ensures))
+    (writes_is _ _ (c.in_err-say_patching.ensures.writes) (line t c.args.place _ _ _ c.shown.ensures c.named.ensures.target c.origin.ensures.origin))
     (λ f. begins_first (patching_said t c.args.place) (on_creation t f c.args.place (side_of t.options.reverse)))
 
 pub returns-clause-starts : goal.returns-clause-starts
 returns-clause-starts g c =
     let t = plain_turn c.args.turn.now in
-    starts_said c.in_ok-say_patching.field-0 c.on_creation.result (writes_is _ _ (c.in_ok-say_patching.ensures.writes) (line t c.args.place _ _ _ c.shown.ensures c.named.ensures.target c.origin.ensures)) (rw c.own_side.ensures at c.on_creation.ensures.starts)
+    starts_said c.in_ok-say_patching.field-0 c.on_creation.result (writes_is _ _ (c.in_ok-say_patching.ensures.writes) (line t c.args.place _ _ _ c.shown.ensures c.named.ensures.target c.origin.ensures.origin)) (rw c.own_side.ensures at c.on_creation.ensures.starts)
