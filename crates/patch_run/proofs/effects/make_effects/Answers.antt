@@ -1,4 +1,4 @@
-use Rattle.std.proofs.Common.{Ok, Err, refl, sym, ◌∙◌}
+use Rattle.std.proofs.Common.{Ok, Err, sym, ◌∙◌}
 use Rattle.patch_run.specs.OnePatch.{effects_of, reject_effects}
 use Rattle.patch_run.specs.TurnView.{plain_turn}
 use Rattle.patch_effects.proofs.Making.{makes_both, makes_stops, makes_fault, makes_value}

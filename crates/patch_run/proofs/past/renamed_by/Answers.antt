@@ -1,4 +1,4 @@
-use Rattle.std.proofs.Common.{Option, None, if◌then◌else◌, sym, ◌∙◌, ap}
+use Rattle.std.proofs.Common.{None, if◌then◌else◌, sym, ◌∙◌, ap}
 use Rattle.std.specs.Prelude.{slice_get}
 use Rattle.std.specs.Option.{option_and_then}
 use Rattle.patch_run.proofs.past.renamed_by.Goals as goal
@@ -13,6 +13,6 @@ returns c =
     let targets = c.args.earlier.now.patch.now.targets.items in
     record {
       target = c.target_in.ensures.target
-    ∙ sym (ap (λ b. if b then option_and_then (slice_get targets) c.args.earlier.now.row.target else None) (sym (c.renames.ensures c.args.turn.now.set.now.text) ∙ c.if-not-renames.false)
-    ∙ ap (option_and_then (slice_get targets)) c.in_ok-place.was);
+          ∙ sym (ap (λ b. if b then option_and_then (slice_get targets) c.args.earlier.now.row.target else None) (sym (c.renames.ensures c.args.turn.now.set.now.text) ∙ c.if-not-renames.false)
+          ∙ ap (option_and_then (slice_get targets)) c.in_ok-place.was);
     }
