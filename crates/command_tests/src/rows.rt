@@ -262,6 +262,98 @@ answer EdReverse { line: 1 } 2
 err patch: **** the ed script at line 1 can't be reversed|
 ";
 
+/// What POSIX says, and both the old and the new lines.
+const OPTIONS: &str = "
+words patch --posix -p0 -i p.diff
+file f=0|a|b|c|
+file p.diff=--- f|+++ f|@@ -1,3 +1,3 @@| a|-b|+B| c|
+answer Done 0
+out patching file f|Hunk #1 succeeded at 2 (offset 1 line).|
+after f=0|a|B|c|
+gone f.orig
+
+words patch --posix -p0 -i p.diff
+file f=a|b|
+file p.diff=--- f|+++ /dev/null|@@ -1,2 +0,0 @@|-a|-b|
+answer Done 0
+out patching file f|
+after f=
+
+words patch --posix -p0 -i p.diff
+file p.diff=--- /dev/null|+++ n|@@ -0,0 +1 @@|+a|
+answer Rejected 1
+out can't find file to patch at input line 3|Skipping patch.|1 out of 1 hunk ignored|
+gone n
+
+words patch -D X -p0 -i p.diff
+file f=a|b|c|
+file p.diff=--- f|+++ f|@@ -1,3 +1,3 @@| a|-b|+B| c|
+answer Done 0
+out patching file f|
+after f=a|#ifndef X|b|#else|B|#endif|c|
+
+words patch -D X -E -p0 -i p.diff
+file f=a|b|
+file p.diff=--- f|+++ /dev/null|@@ -1,2 +0,0 @@|-a|-b|
+answer Done 0
+out patching file f|
+after f=#ifndef X|a|b|#endif|
+";
+
+/// Files that are made, taken away, renamed and copied by git headers.
+const HEADERS: &str = "
+words patch -p1 -i p.diff
+file p.diff=diff --git a/e b/e|new file mode 100644|index 0000000..e69de29|
+answer Done 0
+out patching file e|
+after e=
+
+words patch -p1 -i p.diff
+file e=a|
+file p.diff=diff --git a/e b/e|deleted file mode 100644|index e69de29..0000000|
+answer Rejected 1
+out patching file e|Not deleting file e as content differs from patch|
+
+words patch -p1 -i p.diff
+file x=a|b|
+file p.diff=diff --git a/x b/y|similarity index 100%|rename from x|rename to y|
+answer Done 0
+out patching file y (renamed from x)|
+after y=a|b|
+gone x
+
+words patch -p1 -R -i p.diff
+file y=a|b|
+file p.diff=diff --git a/x b/y|similarity index 100%|rename from x|rename to y|
+answer Done 0
+out patching file x (renamed from y)|
+after x=a|b|
+gone y
+
+words patch -p1 -i p.diff
+file x=q|b|c|
+file p.diff=diff --git a/x b/y|rename from x|rename to y|--- a/x|+++ b/y|@@ -1,3 +1,3 @@| a|-b|+B| c|
+answer Done 0
+out patching file y (renamed from x)|Hunk #1 succeeded at 1 with fuzz 1.|
+after x.orig=q|b|c|
+after y=q|B|c|
+after y.orig=
+gone x
+
+words patch -p1 -i p.diff
+file x=a|b|
+file p.diff=diff --git a/x b/y|copy from x|copy to y|
+answer Done 0
+out patching file y (copied from x)|
+after y=a|b|
+
+words patch -p1 -i p.diff
+file p.diff=diff --git a/x b/y|rename from x|rename to y|
+answer Rejected 1
+out can't find file to patch at input line 1|Skipping patch.|
+gone y
+";
+
 /// Words and names that are refused.
 const REFUSED: &str = "
 words patch -c -u f p.diff
@@ -295,7 +387,7 @@ gone x.ptmp
 #[test]
 fn worked_rows(rt: HostRuntime) -> Result<(), Fail> {
     for rows in [
-        PLACES, FUZZ, REVERSED, NAMES, FORMS, TEXTS, REFUSED, UNIFIED, OTHERS,
+        PLACES, FUZZ, REVERSED, NAMES, FORMS, TEXTS, OPTIONS, HEADERS, REFUSED, UNIFIED, OTHERS,
     ] {
         for row in rows.trim().split("\n\n") {
             for tool in PLANS {

@@ -39,52 +39,55 @@ works_made temp is works = record {
   since = λ f told c left. (zero, omega arith, works.since f told c left);
 }
 
-effects-same : (t : PlainTurn) (f g : Files) (w : Target) (x : Tried) → get g w.name ≡ get f w.name → effects_of t g w x ≡ effects_of t f w x
+effects-same : (t : PlainTurn) (f g : Files) (s w : Target) (x : Tried) → get g s.name ≡ get f s.name → get g w.name ≡ get f w.name → effects_of t g s w x ≡ effects_of t f s w x
 unfolding effects_of
-effects-same t f g w x same = rw same
+effects-same t f g s w x source same = rw (source, same) refl
 
 wrote-same : (t : PlainTurn) (f g : Files) (w : Target) (x : Tried) → get g w.name ≡ get f w.name → wrote t g w x ≡ wrote t f w x
 unfolding wrote
 wrote-same t f g w x same = rw same
 
-pub effects-dry : (t : PlainTurn) (f : Files) (w : Target) (x : Tried) → t.options.dry_run ≡ true → effects_of t f w x ≡ []
+pub effects-dry : (t : PlainTurn) (f : Files) (s w : Target) (x : Tried) → t.options.dry_run ≡ true → effects_of t f s w x ≡ []
 unfolding effects_of
-effects-dry t f w x dry = rw dry
+effects-dry t f s w x dry = rw dry
 
 abbrev cleared_in : Bool → Target → Option (List ℕ)
 cleared_in dry w = if dry then None else Some w.name
 
-module _ (t : PlainTurn) (f g : Files) (w : Target) (x : Tried) (named : IsNamed w) {u v : TreeView} (works : WorksOn u v w.temp) (told : u.told ≡ Some f) (now : v.told ≡ Some g) where
+module _ (t : PlainTurn) (f g : Files) (s w : Target) (x : Tried) (source : IsNamed s) (named : IsNamed w) {u v : TreeView} (works : WorksOn u v w.temp) (told : u.told ≡ Some f) (now : v.told ≡ Some g) where
   name_same : get g w.name ≡ get f w.name
   name_same = works.others f g told now w.name (apart w.name w.temp named.lasting.own named.temps.own)
 
-  part_tried : {z : TreeView} {c d : SinkView} (text : List ℕ) → Passes v z → IsPartOf v z c d (effects_of t g w x) text → IsPartOf u z c d (effects_of t f w x) text
+  source_same : get g s.name ≡ get f s.name
+  source_same = works.others f g told now s.name (apart s.name w.temp source.lasting.own named.temps.own)
+
+  part_tried : {z : TreeView} {c d : SinkView} (text : List ℕ) → Passes v z → IsPartOf v z c d (effects_of t g s w x) text → IsPartOf u z c d (effects_of t f s w x) text
   part_tried {z = z} {c = c} {d = d} text passes part =
       let made = works_made w.temp named.temps.own works in
-      subst (λ (l : List Effect). IsPartOf u z c d l text) (effects-same t f g w x name_same)
+      subst (λ (l : List Effect). IsPartOf u z c d l text) (effects-same t f g s w x source_same name_same)
       (record {
-        tells = tells_after made passes (effects_of t g w x) part.tells;
-        leaves = leaves_after made passes (effects_of t g w x) part.leaves;
+        tells = tells_after made passes (effects_of t g s w x) part.tells;
+        leaves = leaves_after made passes (effects_of t g s w x) part.leaves;
         said = part.said;
       })
 
-  files_dry : (z : TreeView) → t.options.dry_run ≡ true → g ≡ f → z.told ≡ Some g → z.told ≡ Some (cleared (cleared_in t.options.dry_run w) (after_all (effects_of t f w x) f))
+  files_dry : (z : TreeView) → t.options.dry_run ≡ true → g ≡ f → z.told ≡ Some g → z.told ≡ Some (cleared (cleared_in t.options.dry_run w) (after_all (effects_of t f s w x) f))
   files_dry z dry same told =
       told
       ∙ ap (λ (h : Files). Some h) same
-      ∙ ap (λ (l : List Effect). Some (after_all l f)) (sym (effects-dry t f w x dry))
-      ∙ ap (λ b. Some (cleared (cleared_in b w) (after_all (effects_of t f w x) f))) (sym dry)
+      ∙ ap (λ (l : List Effect). Some (after_all l f)) (sym (effects-dry t f s w x dry))
+      ∙ ap (λ b. Some (cleared (cleared_in b w) (after_all (effects_of t f s w x) f))) (sym dry)
 
-  files_wet : {z : TreeView} {c d : SinkView} (done : Made) → t.options.dry_run ≡ false → IsMadeWhole t g w x done v z c d → z.told ≡ Some (cleared (cleared_in t.options.dry_run w) (after_all (effects_of t f w x) f))
+  files_wet : {z : TreeView} {c d : SinkView} (done : Made) → t.options.dry_run ≡ false → IsMadeWhole t g s w x done v z c d → z.told ≡ Some (cleared (cleared_in t.options.dry_run w) (after_all (effects_of t f s w x) f))
   files_wet done wet whole =
       let last = told_on g whole.made.passes now in
-      let es = effects_of t f w x in
+      let es = effects_of t f s w x in
       let each : (q : List ℕ) → get last.0 q ≡ get (remove (after_all es f) w.temp) q = λ q.
       ⊎_elim
       (λ (eq : q ≡ w.temp). subst (λ (n : List ℕ). get last.0 n ≡ get (remove (after_all es f) w.temp) n) (sym eq) (whole.gone wet last.0 last.1 ∙ sym (get-gone (after_all es f) w.temp)))
       (λ (ne : q ≢ w.temp).
       whole.exact last.0 last.1 q ne
-      ∙ ap (λ (l : List Effect). get (after_all l g) q) (effects-same t f g w x name_same)
+      ∙ ap (λ (l : List Effect). get (after_all l g) q) (effects-same t f g s w x source_same name_same)
       ∙ after_all-at es g f q (works.others f g told now q ne)
       ∙ sym (get-gone_other (after_all es f) w.temp q ne))
       (equal_or_not q w.temp) in
@@ -93,13 +96,13 @@ module _ (t : PlainTurn) (f g : Files) (w : Target) (x : Tried) (named : IsNamed
       ∙ ap (λ (n : List ℕ). Some (remove (after_all es f) n)) named.temp
       ∙ ap (λ b. Some (cleared (cleared_in b w) (after_all es f))) (sym wet)
 
-  files_tried : {z : TreeView} {c d : SinkView} (done : Made) (dry : Bool) → t.options.dry_run ≡ dry → (t.options.dry_run ≡ true → g ≡ f) → IsMadeWhole t g w x done v z c d → z.told ≡ Some (cleared (cleared_in t.options.dry_run w) (after_all (effects_of t f w x) f))
+  files_tried : {z : TreeView} {c d : SinkView} (done : Made) (dry : Bool) → t.options.dry_run ≡ dry → (t.options.dry_run ≡ true → g ≡ f) → IsMadeWhole t g s w x done v z c d → z.told ≡ Some (cleared (cleared_in t.options.dry_run w) (after_all (effects_of t f s w x) f))
   files_tried {z = z} done true is same whole = files_dry z is (same is) (whole.same is)
   files_tried done false is same whole = files_wet done is whole
 
-  whole_tried : {z : TreeView} {c d : SinkView} (done : Made) → (t.options.dry_run ≡ true → g ≡ f) → IsMadeWhole t g w x done v z c d → IsWholeOf u z c d (effects_of t f w x) (tried_said t w x) (cleared (cleared_in t.options.dry_run w) (after_all (effects_of t f w x) f))
+  whole_tried : {z : TreeView} {c d : SinkView} (done : Made) → (t.options.dry_run ≡ true → g ≡ f) → IsMadeWhole t g s w x done v z c d → IsWholeOf u z c d (effects_of t f s w x) (tried_said t w x) (cleared (cleared_in t.options.dry_run w) (after_all (effects_of t f s w x) f))
   whole_tried {z = z} done same whole = record {
-    made = subst (λ (l : List Effect). HasMade u z l) (effects-same t f g w x name_same) (made_both (works_made w.temp named.temps.own works) whole.made);
+    made = subst (λ (l : List Effect). HasMade u z l) (effects-same t f g s w x source_same name_same) (made_both (works_made w.temp named.temps.own works) whole.made);
     said = whole.said;
     now = files_tried done t.options.dry_run refl same whole;
   }
@@ -131,17 +134,6 @@ wrote-dry : (t : PlainTurn) (f : Files) (w : Target) (x : Tried) → t.options.d
 unfolding wrote
 wrote-dry t f w x dry = rw dry
 
--- the same outcome with its parts in place
-abbrev pub outcome : Side → List Verdict → List ℕ → Tried
-outcome side vs output = record { side = side; verdicts = vs; output = output }
-
-module _ {dry : Bool} {u : TreeView} {session : Session} {temp : List ℕ} {side : Side} {vs : List Verdict} (x : Tried) (is : IsOutcome dry u session temp side vs x) where
-  outcome_is : outcome side vs x.output ≡ x
-  outcome_is = ap (λ (s : Side). outcome s vs x.output) (sym is.side) ∙ ap (λ (l : List Verdict). outcome x.side l x.output) (sym is.verdicts)
-
-  outcome_counts : IsSession session vs x.output
-  outcome_counts = subst (λ (l : List Verdict). IsSession session l x.output) is.verdicts is.counts
-
 -- nothing was made
 part_unmade : {u : TreeView} {c d : SinkView} (es : List Effect) (text : List ℕ) → IsQuiet u → ReceivesPart c d text → IsPartOf u u c d es text
 part_unmade {u = u} es text quiet said = record {
@@ -150,23 +142,21 @@ part_unmade {u = u} es text quiet said = record {
   said = said;
 }
 
-module _ (t : PlainTurn) (w : Target) (session : Session) (side : Side) (vs : List Verdict) (u z : TreeView) (c d : SinkView) where
+module _ (t : PlainTurn) (s w : Target) (session : Session) (side : Side) (vs : List Verdict) (u z : TreeView) (c d : SinkView) where
   -- what was said of an outcome
-  abbrev pub Says : (List ℕ → List ℕ → Type 0) → Type 0
-  Says P = (output : List ℕ) → IsSession session vs output → P output (tried_said t w (outcome side vs output))
+  abbrev pub Says : (List ℕ → Type 0) → Type 0
+  Says P = (x : Tried) → x.side ≡ side → x.verdicts ≡ vs → IsSession session x.verdicts x.text → P (tried_said t w x)
 
-  pub tell_fails : (f : Files) (x : Tried) → IsQuiet u → Says (λ output text. ReceivesPart c d text) → IsOutcome t.options.dry_run u session w.temp side vs x → IsPartOf u u c d (effects_of t f w x) (tried_said t w x)
-  tell_fails f x quiet says is =
-      subst (λ (y : Tried). IsPartOf u u c d (effects_of t f w y) (tried_said t w y)) (outcome_is x is)
-      (part_unmade (effects_of t f w (outcome side vs x.output)) (tried_said t w (outcome side vs x.output)) quiet (says x.output (outcome_counts x is)))
+  pub tell_fails : (f : Files) (x : Tried) → IsQuiet u → Says (λ text. ReceivesPart c d text) → IsOutcome t.options.dry_run u session w.temp side vs x → IsPartOf u u c d (effects_of t f s w x) (tried_said t w x)
+  tell_fails f x quiet says is = part_unmade (effects_of t f s w x) (tried_said t w x) quiet (says x is.side is.verdicts is.counts)
 
-  pub tell_dry : (f : Files) (x : Tried) → IsBegun t.options.dry_run None w.temp → IsQuiet u → u.told ≡ Some f → Says (λ output text. Receives c d text) → IsOutcome t.options.dry_run u session w.temp side vs x → IsMadeWhole t f w x (record { wrote = false; effects = 0 }) u u c d
+  pub tell_dry : (f : Files) (x : Tried) → IsBegun t.options.dry_run None w.temp → IsQuiet u → u.told ≡ Some f → Says (λ text. Receives c d text) → IsOutcome t.options.dry_run u session w.temp side vs x → IsMadeWhole t f s w x (record { wrote = false; effects = 0 }) u u c d
   tell_dry f x begun quiet told says is =
       let dry = is_dry t.options.dry_run w.temp begun in
-      let none = effects-dry t f w x dry in
+      let none = effects-dry t f s w x dry in
       record {
         made = subst (λ (l : List Effect). HasMade u u l) (sym none) (made_none u quiet);
-        said = subst (λ (y : Tried). Receives c d (tried_said t w y)) (outcome_is x is) (says x.output (outcome_counts x is));
+        said = says x is.side is.verdicts is.counts;
         exact = λ g now q ne. ap (λ (h : Files). get h q) (same_Some _ _ (sym now ∙ told)) ∙ ap (λ (l : List Effect). get (after_all l f) q) (sym none);
         gone = λ wet. absurd (false≢true (sym wet ∙ dry));
         same = λ yes. told;
@@ -174,43 +164,43 @@ module _ (t : PlainTurn) (w : Target) (session : Session) (side : Side) (vs : Li
         effects = ap (λ (l : List Effect). length l) (sym none);
       }
 
-  pub tell_ordered : Says (λ output text. Receives c d text) → (r : Result Made RunFault) → IfErr r (λ e. (e ≡ Tree) × Rises u z)
+  pub tell_ordered : Says (λ text. Receives c d text) → (r : Result Made RunFault) → IfErr r (λ e. (e ≡ Tree) × Rises u z)
       → IfErr r (λ e. (x : Tried) → IsOutcome t.options.dry_run u session w.temp side vs x → IsOrdered e u z c d (tried_said t w x))
   tell_ordered says (Ok made) cause = tt
-  tell_ordered says (Err e) cause = λ x is. inr (cause.0, subst (λ (y : Tried). Receives c d (tried_said t w y)) (outcome_is x is) (says x.output (outcome_counts x is)))
+  tell_ordered says (Err e) cause = λ x is. inr (cause.0, says x is.side is.verdicts is.counts)
 
-  module _ (temp : Temp) (begun : IsBegun t.options.dry_run (Some temp) w.temp) (says : Says (λ output text. Receives c d text)) where
+  module _ (temp : Temp) (begun : IsBegun t.options.dry_run (Some temp) w.temp) (says : Says (λ text. Receives c d text)) where
+    -- what holds of each outcome that the session tells of
+    abbrev pub Of_each : (Tried → Type 0) → Type 0
+    Of_each P = (x : Tried) → x.side ≡ side → x.verdicts ≡ vs → IsSession session x.verdicts x.text → P x
+
     abbrev pub Made_by : Result Made RunFault → Type 0
-    Made_by r = (output : List ℕ) → IsSession session vs output → Holds u w.temp output → Makes u z r w.temp (λ f. effects_of t f w (outcome side vs output))
+    Made_by r = Of_each (λ x. Holds u w.temp x.output → Makes u z r w.temp (λ f. effects_of t f s w x))
 
     pub tell_made : (r : Result Made RunFault) → Made_by r → OnOk r (IsGone z w.temp)
-        → IfOk r (λ made. (f : Files) (output : List ℕ) → u.told ≡ Some f → IsSession session vs output → made.wrote ≡ wrote t f w (outcome side vs output))
-        → IfOk r (λ made. (f : Files) (output : List ℕ) → u.told ≡ Some f → IsSession session vs output → made.effects ≡ length (effects_of t f w (outcome side vs output)))
-        → IfOk r (λ made. (f : Files) (x : Tried) → u.told ≡ Some f → IsOutcome t.options.dry_run u session w.temp side vs x → IsMadeWhole t f w x made u z c d)
+        → IfOk r (λ made. (f : Files) (x : Tried) → u.told ≡ Some f → x.side ≡ side → x.verdicts ≡ vs → IsSession session x.verdicts x.text → made.wrote ≡ wrote t f w x)
+        → IfOk r (λ made. (f : Files) (x : Tried) → u.told ≡ Some f → x.side ≡ side → x.verdicts ≡ vs → IsSession session x.verdicts x.text → made.effects ≡ length (effects_of t f s w x))
+        → IfOk r (λ made. (f : Files) (x : Tried) → u.told ≡ Some f → IsOutcome t.options.dry_run u session w.temp side vs x → IsMadeWhole t f s w x made u z c d)
     tell_made (Err e) makes gone wrote count = tt
     tell_made (Ok made) makes gone wrote count = λ f x told is.
         let wet = is_wet t.options.dry_run w.temp temp begun in
-        let counts = outcome_counts x is in
-        let did = (makes x.output counts (is.holds wet)).ok f told in
-        subst (λ (y : Tried). IsMadeWhole t f w y made u z c d) (outcome_is x is)
-        (record {
+        let did = (makes x is.side is.verdicts is.counts (is.holds wet)).ok f told in
+        record {
           made = did.made;
-          said = says x.output counts;
+          said = says x is.side is.verdicts is.counts;
           exact = λ g now q ne. did.exact f g told now q ne;
           gone = λ yes. gone;
           same = λ dry. absurd (false≢true (sym wet ∙ dry));
-          wrote = wrote f x.output told counts;
-          effects = count f x.output told counts;
-        })
+          wrote = wrote f x told is.side is.verdicts is.counts;
+          effects = count f x told is.side is.verdicts is.counts;
+        }
 
-    pub tell_breaks : (r : Result Made RunFault) → Made_by r → OnErr r ((f : Files) (x : Tried) → u.told ≡ Some f → IsOutcome t.options.dry_run u session w.temp side vs x → IsPartOf u z c d (effects_of t f w x) (tried_said t w x))
+    pub tell_breaks : (r : Result Made RunFault) → Made_by r → OnErr r ((f : Files) (x : Tried) → u.told ≡ Some f → IsOutcome t.options.dry_run u session w.temp side vs x → IsPartOf u z c d (effects_of t f s w x) (tried_said t w x))
     tell_breaks (Ok made) makes = tt
     tell_breaks (Err e) makes = λ f x told is.
         let wet = is_wet t.options.dry_run w.temp temp begun in
-        let counts = outcome_counts x is in
-        let part = (makes x.output counts (is.holds wet)).err f told in
-        subst (λ (y : Tried). IsPartOf u z c d (effects_of t f w y) (tried_said t w y)) (outcome_is x is)
-        (record { tells = part.tells; leaves = part.leaves; said = received_part c d (tried_said t w (outcome side vs x.output)) (says x.output counts) })
+        let part = (makes x is.side is.verdicts is.counts (is.holds wet)).err f told in
+        record { tells = part.tells; leaves = part.leaves; said = received_part c d (tried_said t w x) (says x is.side is.verdicts is.counts) }
 
 -- ---- nothing is done before all is said
 
@@ -235,18 +225,18 @@ part_worked {u = u} {v = v} temp c es text is works =
       said = part_longer c c [] text (received_part c c [] (received_none c));
     }
 
-module _ (t : PlainTurn) (f : Files) (w : Target) (side : Side) (ls : List (List ℕ)) (session : Session) (vs : List Verdict) (named : IsNamed w) {u v : TreeView} (works : WorksOn u v w.temp) (told : u.told ≡ Some f)
-    (verdicts : vs ≡ (tried t side ls).verdicts) (counts : IsSession session vs (tried t side ls).output) (holds : t.options.dry_run ≡ false → Holds v w.temp (tried t side ls).output) where
+module _ (t : PlainTurn) (f : Files) (s w : Target) (side : Side) (ls : List (List ℕ)) (session : Session) (vs : List Verdict) (source : IsNamed s) (named : IsNamed w) {u v : TreeView} (works : WorksOn u v w.temp) (told : u.told ≡ Some f)
+    (verdicts : vs ≡ (tried t side ls).verdicts) (counts : IsSession session vs (tried t side ls).text) (holds : t.options.dry_run ≡ false → Holds v w.temp (tried t side ls).output) where
   tried_outcome : IsOutcome t.options.dry_run v session w.temp side vs (tried t side ls)
-  tried_outcome = record { side = refl; verdicts = sym verdicts; counts = subst (λ (l : List Verdict). IsSession session l (tried t side ls).output) verdicts counts; holds = holds }
+  tried_outcome = record { side = refl; verdicts = sym verdicts; counts = subst (λ (l : List Verdict). IsSession session l (tried t side ls).text) verdicts counts; holds = holds }
 
   pub tried_breaks : {z : TreeView} {c d : SinkView} → Passes v z
-      → ((g : Files) (x : Tried) → v.told ≡ Some g → IsOutcome t.options.dry_run v session w.temp side vs x → IsPartOf v z c d (effects_of t g w x) (tried_said t w x))
-      → IsPartOf u z c d (effects_of t f w (tried t side ls)) (tried_said t w (tried t side ls))
+      → ((g : Files) (x : Tried) → v.told ≡ Some g → IsOutcome t.options.dry_run v session w.temp side vs x → IsPartOf v z c d (effects_of t g s w x) (tried_said t w x))
+      → IsPartOf u z c d (effects_of t f s w (tried t side ls)) (tried_said t w (tried t side ls))
   tried_breaks passes broken =
       let x = tried t side ls in
       let mid = told_on f works.passes told in
-      part_tried t f mid.0 w x named works told mid.1 (tried_said t w x) passes (broken mid.0 x mid.1 tried_outcome)
+      part_tried t f mid.0 s w x source named works told mid.1 (tried_said t w x) passes (broken mid.0 x mid.1 tried_outcome)
 
   pub tried_ordered : {z : TreeView} (c d : SinkView) (e : RunFault) → Passes v z
       → ((x : Tried) → IsOutcome t.options.dry_run v session w.temp side vs x → IsOrdered e v z c d (tried_said t w x))
@@ -254,23 +244,24 @@ module _ (t : PlainTurn) (f : Files) (w : Target) (side : Side) (ls : List (List
   tried_ordered c d e passes ordered = ordered_after c d e (tried_said t w (tried t side ls)) (works_made w.temp named.temps.own works) passes (ordered (tried t side ls) tried_outcome)
 
   pub tried_done : {z : TreeView} {c d : SinkView} (place : ℕ) (made : Made) (done : Done) → ((g : Files) → v.told ≡ Some g → t.options.dry_run ≡ true → g ≡ f)
-      → ((g : Files) (x : Tried) → v.told ≡ Some g → IsOutcome t.options.dry_run v session w.temp side vs x → IsMadeWhole t g w x made v z c d)
+      → ((g : Files) (x : Tried) → v.told ≡ Some g → IsOutcome t.options.dry_run v session w.temp side vs x → IsMadeWhole t g s w x made v z c d)
       → done.row ≡ record { side = side; target = Some place; wrote = made.wrote }
-      → ((x : Tried) → x.side ≡ side → IsSession session x.verdicts x.output → done.is_bad ≡ (some_failed x.verdicts || is_kept t x))
+      → ((x : Tried) → x.side ≡ side → IsSession session x.verdicts x.text → done.is_bad ≡ (some_failed x.verdicts || is_kept t x))
       → done.effects ≡ made.effects
-      → IsDone u z c d done vs f (finished t f [] place (bytes_of t f place) w (tried t side ls))
+      → IsDone u z c d done vs f (finished t f [] place (bytes_of t f place) s w (tried t side ls))
   tried_done place made done same whole row bad effects =
       let x = tried t side ls in
       let mid = told_on f works.passes told in
       let did = whole mid.0 x mid.1 tried_outcome in
       let name : get mid.0 w.name ≡ get f w.name = works.others f mid.0 told mid.1 w.name (apart w.name w.temp named.lasting.own named.temps.own) in
+      let source_kept : get mid.0 s.name ≡ get f s.name = works.others f mid.0 told mid.1 s.name (apart s.name w.temp source.lasting.own named.temps.own) in
       let in_row : Bool → Row = λ b. record { side = side; target = Some place; wrote = b } in
       record {
         told = record {
           row = row ∙ ap in_row (did.wrote ∙ wrote-same t f mid.0 w x name);
           bad = bad x refl tried_outcome.counts;
-          effects = effects ∙ did.effects ∙ ap (λ (l : List Effect). length l) (effects-same t f mid.0 w x name);
+          effects = effects ∙ did.effects ∙ ap (λ (l : List Effect). length l) (effects-same t f mid.0 s w x source_kept name);
           verdicts = verdicts;
         };
-        whole = whole_tried t f mid.0 w x named works told mid.1 made (same mid.0 mid.1) did;
+        whole = whole_tried t f mid.0 s w x source named works told mid.1 made (same mid.0 mid.1) did;
       }

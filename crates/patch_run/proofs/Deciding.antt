@@ -15,7 +15,7 @@ use Rattle.patch_effects.specs.declared.fault.RunFault.{RunFault}
 use Rattle.patch_effects.specs.declared.fault.RunFault.TheVariants.{Tree, Write, Scratch, LongLine, FileTooLong, Disagree, Memory}
 use Rattle.patch_run.specs.declared.starting.Decision.{Decision}
 use Rattle.patch_effects.specs.Faults.{of_line}
-use Rattle.patch_run.specs.OnePatch.{PlainTurn, Start, skips, refuses, tries, said_first, skips_at, on_direction, on_prereq, prereq_said, lacks_word, lines_in, first_hunk, is_reversed, turns}
+use Rattle.patch_run.specs.OnePatch.{PlainTurn, Start, skips, refuses, tries, said_first, skips_at, on_direction, on_prereq, prereq_said, lacks_word, lines_in, first_hunk, is_reversed, turns_round}
 use Rattle.patch_run.specs.Starting.{said_in, IsDecided, Holds, HasPlanCause, Weighs}
 use Rattle.patch_run.proofs.StartSteps.{said-first, decided-first, none_part}
 
@@ -42,9 +42,9 @@ turned-over true was rev turn kept p b c calm first is one other = absurd (cc)
 
 -- what is said where the first hunk looks reversed
 pub direction-said : (t : PlainTurn) (place : ℕ) (bytes : Option (List ℕ)) (was_turned : Bool) (side : Side) → t.options.force ≡ false → was_turned ≡ false → is_reversed t.options (lines_in bytes) side (first_hunk t.item.patch.change) ≡ true
-    → said_in (on_direction t place bytes was_turned side) ≡ silenced t.options (reversed_line (turns t.options))
+    → said_in (on_direction t place bytes was_turned side) ≡ silenced t.options (reversed_line (turns_round t))
 direction-said t place bytes was_turned side calm first is =
-    turned-over t.options.force was_turned (is_reversed t.options (lines_in bytes) side (first_hunk t.item.patch.change)) (turns t.options) (tries [] place side) (λ turned. silenced t.options (reversed_line turned))
+    turned-over t.options.force was_turned (is_reversed t.options (lines_in bytes) side (first_hunk t.item.patch.change)) (turns_round t) (tries [] place side) (λ turned. silenced t.options (reversed_line turned))
     (tries (silenced t.options (reversed_line true)) place (other_side side)) (skips_at (silenced t.options (reversed_line false)) place side bytes) calm first is refl refl
 
 -- what the plan's fault says of the plan and the sink

@@ -8,7 +8,7 @@ use Rattle.hunk_core.specs.declared.Verdict.{Verdict}
 use Rattle.hunk_core.specs.declared.Verdict.TheVariants.{Ignored}
 use Rattle.patch_options.specs.PlainJob.{PlainOptions}
 use Rattle.target_names.specs.declared.derived.Target.{Target}
-use Rattle.patch_run.specs.OnePatch.{Item, PlainTurn, Start, skips, refuses, tries, Ending, ended, stopped, total, bytes_of, lines_in, written, tried, start, ending_of, ending}
+use Rattle.patch_run.specs.OnePatch.{Item, PlainTurn, Start, skips, refuses, tries, Ending, ended, stopped, total, bytes_of, lines_in, target_at, written, tried, start, ending_of, ending}
 use Rattle.patch_run.specs.Run.{Run, begun, turn_of, with_ending, if_going, with_item, run_on, run_of, cleared}
 use Rattle.patch_run.specs.Laws.{IsSkip, IsIgnored}
 use Rattle.patch_run.proofs.Applying.{effects-dry}
@@ -33,7 +33,7 @@ start_idle t f (skips said row taken) dry = (refl, refl)
 start_idle t f (refuses said fault) dry = tt
 start_idle t f (tries said place side) dry =
     let w = written t place in
-    (effects-dry t f w (tried t side (lines_in (bytes_of t f place))) dry, ap (λ b. if b then None else Some w.name) dry)
+    (effects-dry t f (target_at t.item.targets place) w (tried t side (lines_in (bytes_of t f place))) dry, ap (λ b. if b then None else Some w.name) dry)
 
 patch_idle : (t : PlainTurn) (f : Files) → t.options.dry_run ≡ true → IsIdle (ending t f)
 unfolding ending

@@ -17,3 +17,9 @@ mod Telling
 mod EndCause
 mod DoneNone
 mod BackedUp
+mod Getting
+mod Moving
+mod Renaming
+mod Parting
+mod Forcing
+mod TestByTest

@@ -43,7 +43,7 @@ module _ (o : PlainOptions) (v : SetView) (count : ℕ) (verdicts : List Verdict
 
 -- a mark that says nothing
 abbrev pub no_mark : Mark
-no_mark = record { written = None; rejected = None }
+no_mark = record { written = None; renamed = None; rejected = None }
 
 -- an element that passes is enough
 pub any_at : (p : Mark → Bool) (xs : List Mark) (i : ℕ) (d : Mark) → i < length xs → p (get_or xs i d) ≡ true → list_any p xs ≡ true

@@ -80,6 +80,7 @@ ready o given v lawful read whole some =
       output = subst (λ (x : Option Target). ForSome x IsNamed) (sym read.names.output)
           (output-named o known o.output (subst (λ (x : Option Target). ForSome x of_set.IsFit) read.names.output (read.names.output_fit some)));
       reject_form = lawful.reject_form;
+      define = lawful.define;
       rows = whole.rows;
       count = whole.count;
     }
@@ -96,6 +97,7 @@ ready_still o old new stays rows was = record {
       (subst (λ (text : List ℕ). All (IsFit text) old.patches) (sym stays.text) was.patches);
   output = subst (λ (x : Option Target). ForSome x IsNamed) (sym stays.output) was.output;
   reject_form = was.reject_form;
+  define = was.define;
   rows = rows;
   count = omega (arith, was.count, ap (λ (l : List FilePatch). length l) stays.patches);
 }

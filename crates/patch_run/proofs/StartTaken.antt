@@ -17,7 +17,7 @@ use Rattle.patch_effects.specs.declared.fault.RunFault.{RunFault}
 use Rattle.patch_effects.specs.declared.fault.RunFault.TheVariants.{Tree, Write, Scratch, LongLine, FileTooLong, Disagree, Memory}
 use Rattle.patch_run.specs.declared.starting.Decision.{Decision}
 use Rattle.patch_effects.specs.Faults.{of_open}
-use Rattle.patch_run.specs.OnePatch.{PlainTurn, Start, skips, refuses, tries, said_first, lines_in, refusal_of, refused_or, lacks_word, is_reversed, first_hunk, prereq_said, on_direction, on_prereq, turns, skips_at}
+use Rattle.patch_run.specs.OnePatch.{PlainTurn, Start, skips, refuses, tries, said_first, lines_in, refusal_of, refused_or, lacks_word, is_reversed, first_hunk, prereq_said, on_direction, on_prereq, turns_round, skips_at}
 use Rattle.patch_run.specs.Devices.{Told, HasRunCause, scratch_with}
 use Rattle.patch_run.specs.Starting.{Starts, Takes, Weighs, said_in, taken_in, IsDecided, IsBrokenOff, IsRefusal, HasPlanCause}
 use Rattle.patch_run.proofs.StartSteps.{starts_is, none_part}
@@ -154,8 +154,8 @@ direction_about t place bytes was_turned side =
     let said = λ (is_turned : Bool). silenced t.options (reversed_line is_turned) in
     let on = tries (said true) place (other_side side) in
     let off = skips_at (said false) place side bytes in
-    about_if place bytes (t.options.force || was_turned || not (is_reversed t.options (lines_in bytes) side (first_hunk t.item.patch.change))) (tries [] place side) (if turns t.options then on else off) refl
-    (about_if place bytes (turns t.options) on off refl refl)
+    about_if place bytes (t.options.force || was_turned || not (is_reversed t.options (lines_in bytes) side (first_hunk t.item.patch.change))) (tries [] place side) (if turns_round t then on else off) refl
+    (about_if place bytes (turns_round t) on off refl refl)
 
 pub prereq_about : (t : PlainTurn) (place : ℕ) (bytes : Option (List ℕ)) (was_turned : Bool) (side : Side) → IsAbout place bytes (on_prereq t place bytes was_turned side)
 prereq_about t place bytes was_turned side =

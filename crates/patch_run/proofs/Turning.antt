@@ -16,14 +16,13 @@ use Rattle.hunk_core.specs.declared.Verdict.TheVariants.{Ignored}
 use Rattle.line_store.specs.Store.{Seen, Keeps}
 use Rattle.line_store.specs.declared.fault.OpenFault.{OpenFault}
 use Rattle.line_store.specs.declared.fault.OpenFault.TheVariants as open_fault
-use Rattle.say_text.specs.Messages.{ignored_line}
 use Rattle.patch_set.specs.declared.set.Row.{Row}
 use Rattle.patch_effects.specs.declared.fault.RunFault.{RunFault}
 use Rattle.patch_effects.specs.declared.fault.RunFault.TheVariants.{Tree, Write, Scratch, LongLine, FileTooLong, Disagree, Memory}
 use Rattle.patch_run.specs.declared.starting.Decision.{Decision}
 use Rattle.patch_run.specs.declared.starting.Decision.TheVariants.{Skip, Try}
 use Rattle.patch_run.specs.declared.apply.Done.{Done}
-use Rattle.patch_run.specs.OnePatch.{PlainTurn, Start, skips, refuses, tries, total, bytes_of, lines_in, start, skipped, finished_at, ending_of, ending}
+use Rattle.patch_run.specs.OnePatch.{PlainTurn, Start, skips, refuses, tries, total, ignored_said, bytes_of, lines_in, start, skipped, finished_at, ending_of, ending}
 use Rattle.patch_run.specs.Devices.{Told, scratch_with}
 use Rattle.patch_run.specs.Starting.{Starts, IsDecided, IsBrokenOff, said_in, taken_in}
 use Rattle.patch_effects.specs.Making.{TidyAfter}
@@ -50,7 +49,7 @@ part_begun {u = u} {v = v} {c = c} {d = d} t f s same quiet said =
       tells = tells_longer u v [] es es refl (made_tells_all u v [] made);
       leaves = since_longer u v [] es es refl made.since;
       said = elim s as (λ x. ReceivesPart c d (said_in x) → ReceivesPart c d (said_of (ending_of t f x))) [
-        | skips first row taken ↦ λ part. part_longer c d first (ignored_line (total t)) part
+        | skips first row taken ↦ λ part. part_longer c d first (ignored_said t) part
         | refuses first fault ↦ λ part. part
         | tries first place side ↦ λ part. part_longer c d first (finished_at t f [] place side).said part
       ] said;
@@ -130,7 +129,7 @@ module _ (t : PlainTurn) (u v : TreeView) (a b : Seen) (c d : SinkView) (scratch
 
     -- the file patch is skipped
     module _ (row : Row) (is : decision ≡ Skip row) (e : SinkView) (vs : List Verdict) (ignored : vs ≡ replicate (total t) Ignored) where
-      skip_done : (done : Done) → done ≡ record { row = row; is_bad = true; effects = 0 } → Receives d e (ignored_line (total t)) → (f : Files) → Told u a f → IsEnded u v b c e (λ taken. scratch_with scratch_after a.size taken a.scratch) done vs f (ending_of t f (start t f))
+      skip_done : (done : Done) → done ≡ record { row = row; is_bad = true; effects = 0 } → Receives d e (ignored_said t) → (f : Files) → Told u a f → IsEnded u v b c e (λ taken. scratch_with scratch_after a.size taken a.scratch) done vs f (ending_of t f (start t f))
       skip_done done was line f told =
           let sk = skips_is f (start t f) row is (begins.decided f told) in
           let said = sk.0 in
@@ -141,21 +140,21 @@ module _ (t : PlainTurn) (u v : TreeView) (a b : Seen) (c d : SinkView) (scratch
             is = ap (λ (s : Start). ending_of t f s) sk.1.1;
             does = record {
               told = record { row = ap (λ (x : Done). x.row) was; bad = ap (λ (x : Done). x.is_bad) was; effects = ap (λ (x : Done). x.effects) was; verdicts = ignored };
-              whole = record { made = untouched_made begins.untouched quiet; said = received_both c d e said (ignored_line (total t)) first line; now = begins.untouched.told ∙ told.0 };
+              whole = record { made = untouched_made begins.untouched quiet; said = received_both c d e said (ignored_said t) first line; now = begins.untouched.told ∙ told.0 };
             };
             scratch = begins.scratch f told ∙ ap (λ (s : Start). scratch_with scratch_after a.size (taken_in (bytes_of t f) s) a.scratch) sk.1.1;
           }
 
-      skip_part : ReceivesPart d e (ignored_line (total t)) → (f : Files) → Told u a f → IsPartOf u v c e (effects_in (ending_of t f (start t f))) (said_of (ending_of t f (start t f)))
+      skip_part : ReceivesPart d e (ignored_said t) → (f : Files) → Told u a f → IsPartOf u v c e (effects_in (ending_of t f (start t f))) (said_of (ending_of t f (start t f)))
       skip_part line f told =
           let sk = skips_is f (start t f) row is (begins.decided f told) in
           let said = sk.0 in
           let made = untouched_made begins.untouched quiet in
           let first : Receives c d said = subst (λ (s : Start). Receives c d (said_in s)) sk.1.1 (begins.said f told) in
           subst (λ (s : Start). IsPartOf u v c e (effects_in (ending_of t f s)) (said_of (ending_of t f s))) (sym sk.1.1)
-          (record { tells = made_tells_all u v [] made; leaves = made.since; said = part_after c d e said (ignored_line (total t)) first line })
+          (record { tells = made_tells_all u v [] made; leaves = made.since; said = part_after c d e said (ignored_said t) first line })
 
-      pub skip_does : (r : Result Done RunFault) → Writes d e r (ignored_line (total t)) → IfErr r (λ y. y ≡ Write) → IfOk r (λ done. done ≡ record { row = row; is_bad = true; effects = 0 }) → Does u v a b c e scratch_after r vs (ending t)
+      pub skip_does : (r : Result Done RunFault) → Writes d e r (ignored_said t) → IfErr r (λ y. y ≡ Write) → IfOk r (λ done. done ≡ record { row = row; is_bad = true; effects = 0 }) → Does u v a b c e scratch_after r vs (ending t)
       unfolding ending
       skip_does (Ok done) writes fault was = record {
         stays = record { tree = goes.tree; plan = goes.plan; sink = sink_passes_both goes.sink writes.call.passes; cause = tt };

@@ -149,18 +149,18 @@ HasEndCause Memory u w c d = ⊥
 pub record IsOutcome (dry : Bool) (u : TreeView) (session : Session) (temp : List ℕ) (from : Side) (vs : List Verdict) (x : Tried) : Type 0 where
   pub side : x.side ≡ from
   pub verdicts : x.verdicts ≡ vs
-  pub counts : IsSession session x.verdicts x.output
+  pub counts : IsSession session x.verdicts x.text
   pub holds : dry ≡ false → Holds u temp x.output
 
 -- all is said, the effects are made whole, and what was done is what they are; the temporary is gone, but in a dry run
-pub record IsMadeWhole (t : PlainTurn) (f : Files) (target : Target) (x : Tried) (done : Made) (u w : TreeView) (c d : SinkView) : Type 0 where
-  pub made : HasMade u w (effects_of t f target x)
+pub record IsMadeWhole (t : PlainTurn) (f : Files) (source target : Target) (x : Tried) (done : Made) (u w : TreeView) (c d : SinkView) : Type 0 where
+  pub made : HasMade u w (effects_of t f source target x)
   pub said : Receives c d (tried_said t target x)
-  pub exact : (g : Files) → w.told ≡ Some g → (q : List ℕ) → q ≢ target.temp → get g q ≡ get (after_all (effects_of t f target x) f) q
+  pub exact : (g : Files) → w.told ≡ Some g → (q : List ℕ) → q ≢ target.temp → get g q ≡ get (after_all (effects_of t f source target x) f) q
   pub gone : t.options.dry_run ≡ false → IsGone w target.temp
   pub same : t.options.dry_run ≡ true → w.told ≡ Some f
   pub wrote : done.wrote ≡ wrote t f target x
-  pub effects : done.effects ≡ length (effects_of t f target x)
+  pub effects : done.effects ≡ length (effects_of t f source target x)
 
 -- ---- a run
 

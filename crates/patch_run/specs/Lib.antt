@@ -1,3 +1,7 @@
+pub mod Asking
+pub mod Turns
+pub mod HunksSaid
+pub mod Outputs
 pub mod OnePatch
 pub mod Run
 pub mod Devices

@@ -1,7 +1,6 @@
 -- What one file patch says and does, step by step (POSIX `patch`; GNU patch manual, "Invoking patch").
-use Rattle.std.specs.Prelude.{ℕ, ◌+◌, List, [], ◌∷◌, ◌++◌, length, drop, map, replicate, count_by, slice_index_or, Bool, true, false, not, ◌&&◌, ◌||◌, nat_lt, if◌then◌else◌, bytes_eq, Option, None, Some, is_some, is_none, unwrap_or, option_map, slice_get, ℤ, pos, ◌+ℤ◌}
+use Rattle.std.specs.Prelude.{ℕ, List, [], ◌∷◌, ◌++◌, replicate, Bool, true, false, not, ◌&&◌, ◌||◌, if◌then◌else◌, bytes_eq, Option, None, Some, is_some, is_none, unwrap_or, option_map}
 use Rattle.std.specs.List.{list_any, flat_map, slice_split}
-use Rattle.std.specs.Option.{option_or, option_and_then}
 use Rattle.std.specs.FinMap.{get}
 use Rattle.line_list.specs.Lines.{lines}
 use Rattle.outside.specs.Files.{Files}
@@ -10,48 +9,36 @@ use Rattle.hunk_core.specs.declared.Form.{Form}
 use Rattle.hunk_core.specs.declared.Form.TheVariants.{Unified, Context, Normal, Ed}
 use Rattle.hunk_core.specs.declared.Side.{Side}
 use Rattle.hunk_core.specs.declared.Verdict.{Verdict}
-use Rattle.hunk_core.specs.declared.Verdict.TheVariants.{Untried, Ignored, Nowhere, At}
+use Rattle.hunk_core.specs.declared.Verdict.TheVariants.{Ignored}
 use Rattle.hunk_core.specs.PlainHunk.{PlainHunk}
-use Rattle.hunk_core.specs.Turned.{turned, other_side, base}
+use Rattle.hunk_core.specs.Turned.{turned, other_side}
 use Rattle.hunk_place.specs.Verdicts.{looks_reversed}
 use Rattle.line_store.specs.declared.fault.OpenFault.{OpenFault}
 use Rattle.line_store.specs.Taking.{refusal}
 use Rattle.patch_header.specs.Values.{is_white}
+use Rattle.patch_header.specs.declared.git_lines.Action.{Action}
+use Rattle.patch_header.specs.declared.git_lines.Action.TheVariants.{Plain, New, Deleted, Rename, Copy}
 use Rattle.patch_options.specs.PlainJob.{PlainOptions}
 use Rattle.target_names.specs.declared.derived.Target.{Target}
 use Rattle.patch_set.specs.declared.set.Row.{Row}
-use Rattle.file_patch.specs.PlainPatch.{PlainChange, PlainPatch, hunks, script, hunk_count}
+use Rattle.file_patch.specs.PlainPatch.{PlainChange, hunks, script}
 use Rattle.file_patch.specs.Absent.{creates, deletes}
 use Rattle.patch_set.specs.Asked.{is_posix}
 use Rattle.name_choice.specs.declared.Choice.{Choice}
 use Rattle.name_choice.specs.declared.Choice.TheVariants.{Existing, Create, Nothing}
 use Rattle.name_choice.specs.Choice.{choice, names_of, side_of}
-use Rattle.hunk_apply.specs.Change.{change_output, change_verdicts}
-use Rattle.hunk_apply.specs.Script.{first_address}
-use Rattle.hunk_apply.specs.Session.{is_placed, is_failed, is_inexact}
+use Rattle.hunk_apply.specs.Session.{is_inexact}
 use Rattle.hunk_apply.specs.Written.{is_nothing}
-use Rattle.reject_text.specs.Rejects.{reject_text, hunks_in, rows_of}
-use Rattle.reject_text.specs.Starts.{net}
-use Rattle.say_text.specs.Origins.PlainOrigin.{Itself}
-use Rattle.say_text.specs.Messages.{silenced, patching_line, no_file_lines, prereq_line, reversed_line, exists_line, placed_text, failed_line, not_deleting_line, failures_line, ignored_line}
-use Rattle.patch_effects.specs.TargetEffects.{put_if, backup_effects, target_effects}
-
--- a file patch, and the files that it can be meant for
-pub record Item : Type 0 where
-  pub patch : PlainPatch
-  pub targets : List Target
-
--- what later file patches ask of one: the name that it made or took away as its target, and its reject text with the name of that file
-pub record Mark : Type 0 where
-  pub written : Option (List ℕ)
-  pub rejected : Option (List ℕ × List ℕ)
-
--- a file patch whose turn it is: the output of the options, if they name one, and the marks of the file patches in front of it
-pub record PlainTurn : Type 0 where
-  pub options : PlainOptions
-  pub output : Option Target
-  pub item : Item
-  pub past : List Mark
+use Rattle.reject_text.specs.Rejects.{reject_text, hunks_in}
+use Rattle.say_text.specs.Messages.{silenced, patching_line, no_file_lines, prereq_line, reversed_line, exists_line, not_deleting_line, failures_line, ignored_line}
+use Rattle.say_text.specs.Origins.{PlainOrigin}
+use Rattle.say_text.specs.Origins.PlainOrigin.{Itself, RenamedFrom, CopiedFrom}
+use Rattle.patch_effects.specs.TargetEffects.{put_if, backup_effects, target_effects, moved_effects}
+use Rattle.patch_run.specs.Asking.{moves, renames, is_bare, acts_new, acts_deleted, takes_files}
+pub use Rattle.patch_run.specs.Turns.{Item, Mark, PlainTurn, no_target, target_at, written_at, written, written_by, renamed_by, bytes_of, shown, shown_reject, total}
+pub use Rattle.patch_run.specs.Outputs.{Tried, verdicts_on, text_of, parted_output, output_on, tried, failed, some_placed, some_failed}
+pub use Rattle.patch_run.specs.HunksSaid.{hunk_said, script_said, change_said}
+unfoldable pub use Rattle.patch_run.specs.HunksSaid.{hunks_said}
 
 -- how a file patch is taken, once this was said: it is skipped, and what its row holds; or its file isn't taken; or its hunks are tried from a side
 pub data Start : Type 0 where
@@ -76,36 +63,6 @@ pub record Story : Type 0 where
 pub data Ending : Type 0 where
   ended : Story → Ending
   stopped : List ℕ → OpenFault → Ending
-
--- ---- names
-
-abbrev pub no_target : Target
-no_target = record { number = 0; shown_from = 0; reject_shown_from = 0; name = []; temp = []; backup = []; backup_temp = []; reject = []; reject_temp = [] }
-
-abbrev pub target_at : List Target → ℕ → Target
-target_at targets k = slice_index_or targets k no_target
-
--- the target that is written: the output, or the chosen one
-abbrev pub written : PlainTurn → ℕ → Target
-written t place = unwrap_or t.output (target_at t.item.targets place)
-
--- the same of a file patch whose turn was before, which may have chosen none
-abbrev pub written_by : PlainTurn → Row → Option Target
-written_by t r = option_or t.output (option_and_then (slice_get t.item.targets) r.target)
-
--- the bytes of the chosen file, where it is there
-abbrev pub bytes_of : PlainTurn → Files → ℕ → Option (List ℕ)
-bytes_of t files place = get files (target_at t.item.targets place).name
-
--- a name as messages show it
-abbrev pub shown : Target → List ℕ
-shown t = drop t.shown_from t.name
-
-abbrev pub shown_reject : Target → List ℕ
-shown_reject t = drop t.reject_shown_from t.reject
-
-abbrev pub total : PlainTurn → ℕ
-total t = hunk_count t.item.patch.change
 
 -- ---- how a file patch is taken
 
@@ -137,11 +94,15 @@ is_reversed o ls side (Some h) = looks_reversed ls o.fuzz o.loose (turned side h
 abbrev pub turns : PlainOptions → Bool
 turns o = o.batch && not o.forward
 
+-- a rename or a copy is never turned round
+abbrev pub turns_round : PlainTurn → Bool
+turns_round t = turns t.options && not (moves t.item.patch)
+
 -- its hunks are tried; where the first looks reversed it is turned round, or skipped; with `-f`, or once turned round, that isn't asked
 abbrev pub on_direction : PlainTurn → ℕ → Option (List ℕ) → Bool → Side → Start
 on_direction t place bytes was_turned side =
     if t.options.force || was_turned || not (is_reversed t.options (lines_in bytes) side (first_hunk t.item.patch.change)) then tries [] place side
-    else if turns t.options then tries (silenced t.options (reversed_line true)) place (other_side side)
+    else if turns_round t then tries (silenced t.options (reversed_line true)) place (other_side side)
     else skips_at (silenced t.options (reversed_line false)) place side bytes
 
 -- some run of bytes between white space is the word; a line feed is white space, so a run lies in one line
@@ -189,25 +150,44 @@ exists_said t place is_turned = silenced t.options (exists_line (shown (written 
 -- it would be made by the file patch, which is turned round, or skipped
 abbrev pub on_existing : PlainTurn → ℕ → Option (List ℕ) → Side → Start
 on_existing t place bytes side =
-    if turns t.options then said_first (exists_said t place true) (on_taking t place bytes true (other_side side))
+    if turns_round t then said_first (exists_said t place true) (on_taking t place bytes true (other_side side))
     else skips_at (exists_said t place false) place side None
 
+-- a file with bytes stands where one is made: at the chosen name, or at the name that a file is to get
+abbrev pub is_in_the_way : PlainTurn → Files → ℕ → Side → Bool
+is_in_the_way t files place side = if moves t.item.patch then has_bytes (get files (written t place).name)
+    else creates side t.item.patch && has_bytes (bytes_of t files place)
+
 -- with `-f` that isn't asked
-abbrev pub on_creation : PlainTurn → ℕ → Option (List ℕ) → Side → Start
-on_creation t place bytes side =
-    if not (creates side t.item.patch && has_bytes bytes) || t.options.force then on_taking t place bytes false side
-    else on_existing t place bytes side
+abbrev pub on_creation : PlainTurn → Files → ℕ → Side → Start
+on_creation t files place side =
+    if not (is_in_the_way t files place side) || t.options.force then on_taking t place (bytes_of t files place) false side
+    else on_existing t place (bytes_of t files place) side
 
--- the line that names the file
+-- the name that a file had, which messages show behind the one that it gets
+abbrev pub origin_from : Action → List ℕ → PlainOrigin
+origin_from Plain name = Itself
+origin_from New name = Itself
+origin_from Deleted name = Itself
+origin_from Rename name = RenamedFrom name
+origin_from Copy name = CopiedFrom name
+
+abbrev pub origin_of : PlainTurn → ℕ → PlainOrigin
+origin_of t place = origin_from t.item.patch.header.action (shown (target_at t.item.targets place))
+
+-- the line that names the file: the chosen one, or the name that a file gets
+abbrev pub named : PlainTurn → ℕ → Target
+named t place = if moves t.item.patch then written t place else target_at t.item.targets place
+
 abbrev pub patching_said : PlainTurn → ℕ → List ℕ
-patching_said t place = silenced t.options (patching_line t.options.dry_run t.options.output (shown (target_at t.item.targets place)) Itself)
+patching_said t place = silenced t.options (patching_line t.options.dry_run t.options.output (shown (named t place)) (origin_of t place))
 
-abbrev pub on_target : PlainTurn → ℕ → Option (List ℕ) → Start
-on_target t place bytes = said_first (patching_said t place) (on_creation t place bytes (side_of t.options.reverse))
+abbrev pub on_target : PlainTurn → Files → ℕ → Start
+on_target t files place = said_first (patching_said t place) (on_creation t files place (side_of t.options.reverse))
 
 abbrev pub on_choice : PlainTurn → Files → Choice → Start
-on_choice t files (Existing k) = on_target t k (bytes_of t files k)
-on_choice t files (Create k) = on_target t k (bytes_of t files k)
+on_choice t files (Existing k) = on_target t files k
+on_choice t files (Create k) = on_target t files k
 on_choice t files Nothing = skips (no_file_lines t.item.patch.header.opening) (record { side = side_of t.options.reverse; target = None; wrote = false }) None
 
 abbrev pub choice_of : PlainTurn → Files → Choice
@@ -218,50 +198,6 @@ start t files = on_choice t files (choice_of t files)
 
 -- ---- what came of the hunks
 
-pub record Tried : Type 0 where
-  pub side : Side
-  pub verdicts : List Verdict
-  pub output : List ℕ
-
-abbrev pub tried : PlainTurn → Side → List (List ℕ) → Tried
-tried t side ls = record {
-  side = side;
-  verdicts = change_verdicts ls t.options.fuzz t.options.loose side t.item.patch.change;
-  output = change_output ls t.options.fuzz t.options.loose side t.item.patch.change;
-}
-
-abbrev pub failed : List Verdict → ℕ
-failed vs = count_by is_failed vs
-
-abbrev pub some_placed : List Verdict → Bool
-some_placed vs = nat_lt 0 (count_by is_placed vs)
-
-abbrev pub some_failed : List Verdict → Bool
-some_failed vs = nat_lt 0 (failed vs)
-
--- how a placed hunk and a failed one are told of; its number counts from 1
-abbrev pub hunk_said : PlainOptions → ℕ → ℤ → PlainHunk → Verdict → List ℕ
-hunk_said o number moved h Untried = []
-hunk_said o number moved h Ignored = []
-hunk_said o number moved h Nowhere = silenced o (failed_line number (pos (base h) +ℤ moved))
-hunk_said o number moved h (At line fuzz offset) = silenced o (placed_text o.verbose number (pos line +ℤ moved) fuzz offset)
-
--- the net lines that the hunks in front of each one added move what is said of it
-unfoldable pub hunks_said : PlainOptions → List (PlainHunk × Verdict) → List (PlainHunk × Verdict) → List ℕ
-hunks_said o before [] = []
-hunks_said o before (row ∷ rows) = hunk_said o (length before + 1) (net before) row.0 row.1 ++ hunks_said o (before ++ row ∷ []) rows
-
-abbrev pub script_said : PlainOptions → ℕ → List Verdict → List ℕ
-script_said o address [] = []
-script_said o address (Untried ∷ vs) = []
-script_said o address (Ignored ∷ vs) = []
-script_said o address (Nowhere ∷ vs) = silenced o (failed_line 1 (pos address))
-script_said o address (At line fuzz offset ∷ vs) = silenced o (placed_text o.verbose 1 (pos line) fuzz offset)
-
-abbrev pub change_said : PlainOptions → Side → PlainChange → List Verdict → List ℕ
-change_said o side (hunks hs) vs = hunks_said o [] (rows_of side hs vs)
-change_said o side (script es) vs = script_said o (first_address es) vs
-
 abbrev pub is_script : PlainChange → Bool
 is_script (hunks hs) = false
 is_script (script es) = true
@@ -270,9 +206,13 @@ is_script (script es) = true
 abbrev pub is_unrejected : PlainOptions → PlainChange → Bool
 is_unrejected o change = o.no_rejects || is_script change
 
+-- its file is to be taken away: without a hunk as its git header says, else where a hunk was placed
+abbrev pub is_taken_away : PlainTurn → Tried → Bool
+is_taken_away t x = takes_files t.options && (if is_bare t.item.patch then acts_deleted x.side t.item.patch else deletes x.side t.item.patch && some_placed x.verdicts)
+
 -- a file that was to be deleted has bytes left
 abbrev pub is_kept : PlainTurn → Tried → Bool
-is_kept t x = deletes x.side t.item.patch && some_placed x.verdicts && not (is_nothing x.output)
+is_kept t x = is_taken_away t x && not (is_nothing x.text)
 
 abbrev pub kept_said : PlainTurn → Target → Tried → List ℕ
 kept_said t w x = if is_kept t x then not_deleting_line (shown w) else []
@@ -310,6 +250,7 @@ own_reject t w side vs = reject_text (hunks_in t.item.patch.change) vs side (sho
 unfoldable pub mark_of : PlainTurn → Row → List Verdict → Mark
 mark_of t r vs = record {
   written = if r.wrote then option_map (λ w. w.name) (written_by t r) else None;
+  renamed = if r.wrote then option_map (λ w. w.name) (renamed_by t r) else None;
   rejected = if has_rejects t vs && not t.options.dry_run then option_map (λ w. (w.reject, own_reject t w r.side vs)) (written_by t r) else None;
 }
 
@@ -317,9 +258,13 @@ abbrev pub is_name : List ℕ → Option (List ℕ) → Bool
 is_name name None = false
 is_name name (Some other) = bytes_eq name other
 
--- an earlier file patch made or took away this name as its target
+-- it made or took away this name, as its target or from a file that it renamed
+abbrev pub has_name : List ℕ → Mark → Bool
+has_name name m = is_name name m.written || is_name name m.renamed
+
+-- so did an earlier file patch
 abbrev pub was_written : List Mark → List ℕ → Bool
-was_written past name = list_any (λ m. is_name name m.written) past
+was_written past name = list_any (has_name name) past
 
 abbrev pub text_if : List ℕ → Option (List ℕ × List ℕ) → List ℕ
 text_if name None = []
@@ -331,20 +276,48 @@ rejected_before past name = flat_map (λ m. text_if name m.rejected) past
 
 -- ---- the effects
 
--- with `-b` always, else where a hunk failed or stands elsewhere than it says; once for each name (GNU patch manual, "Backups")
-abbrev pub is_backup_due : PlainTurn → Target → List Verdict → Bool
-is_backup_due t w vs = not (was_written t.past w.name) && not (bytes_eq w.backup w.name)
-    && (t.options.backup || (t.options.mismatch_backup && is_none t.options.output && list_any is_inexact vs))
+-- with `-b` always, else where a hunk failed or stands elsewhere than it says (GNU patch manual, "Backups")
+abbrev pub is_backup_asked : PlainTurn → List Verdict → Bool
+is_backup_asked t vs = t.options.backup || (t.options.mismatch_backup && is_none t.options.output && list_any is_inexact vs)
 
--- an output without a byte is no file, where the file patch deletes its file or `-E` was given (GNU patch manual, "Creating and Removing Files")
+-- the backup's name is none of those that the file patch writes or takes away; beside the target's own name that is the other one of a rename
+abbrev pub is_backup_apart : PlainTurn → Target → Target → Bool
+is_backup_apart t w other = not (bytes_eq w.backup w.name) && not (renames t.item.patch && bytes_eq w.backup other.name)
+
+-- once for each name
+abbrev pub is_backup_due : PlainTurn → Target → Target → List Verdict → Bool
+is_backup_due t w other vs = not (was_written t.past w.name) && is_backup_apart t w other && is_backup_asked t vs
+
+-- the target is written where a hunk was placed; without a hunk where a file is made, renamed or copied, or an empty one is taken away
+abbrev pub is_made_bare : PlainTurn → Tried → Bool
+is_made_bare t x = acts_new x.side t.item.patch || moves t.item.patch || (is_taken_away t x && is_nothing x.text)
+
+abbrev pub is_written : PlainTurn → Tried → Bool
+is_written t x = some_placed x.verdicts || (is_bare t.item.patch && is_made_bare t x)
+
+abbrev pub is_unwanted : PlainTurn → Side → Bool
+is_unwanted t side = t.options.remove_empty || (takes_files t.options && deletes side t.item.patch)
+
+-- an output of the options is put, and so is one with conditions, and a file that is renamed or copied
+abbrev pub is_always_put : PlainTurn → Bool
+is_always_put t = is_some t.options.output || is_some t.options.define || moves t.item.patch
+
+-- any other output without a byte is no file, where the file patch deletes its file or `-E` was given (GNU patch manual, "Creating and Removing Files")
 abbrev pub is_removal : PlainTurn → Tried → Bool
-is_removal t x = is_nothing x.output && is_none t.options.output && (deletes x.side t.item.patch || t.options.remove_empty)
+is_removal t x = is_nothing x.text && not (is_always_put t) && is_unwanted t x.side
 
--- nothing is written where no hunk was placed
-abbrev pub written_effects : PlainTurn → Files → Target → Tried → List Effect
-written_effects t files w x = if some_placed x.verdicts
-    then backup_effects (is_backup_due t w x.verdicts) files w ++ target_effects (is_removal t x) files w x.output
-    else []
+-- the source of a rename goes, which is there and isn't the target itself
+abbrev pub is_moving : PlainTurn → Files → Target → Target → Bool
+is_moving t files s w = renames t.item.patch && not (bytes_eq s.name w.name) && is_some (get files s.name)
+
+-- of a source and a target: a rename takes the source away once the target is put, both being backed up before
+abbrev pub made_effects : PlainTurn → Files → Target → Target → Tried → List Effect
+made_effects t files s w x = if is_moving t files s w
+    then moved_effects (is_backup_due t w s x.verdicts) (is_backup_due t s w x.verdicts) files s w x.output
+    else backup_effects (is_backup_due t w s x.verdicts) files w ++ target_effects (is_removal t x) files w x.output
+
+abbrev pub written_effects : PlainTurn → Files → Target → Target → Tried → List Effect
+written_effects t files s w x = if is_written t x then made_effects t files s w x else []
 
 abbrev pub rejects_text : PlainTurn → Target → Side → List Verdict → List ℕ
 rejects_text t w side vs = rejected_before t.past w.reject ++ own_reject t w side vs
@@ -353,19 +326,23 @@ abbrev pub reject_effects : PlainTurn → Target → Tried → List Effect
 reject_effects t w x = put_if (has_rejects t x.verdicts) w.reject (rejects_text t w x.side x.verdicts)
 
 -- in a dry run there is none
-unfoldable pub effects_of : PlainTurn → Files → Target → Tried → List Effect
-effects_of t files w x = if t.options.dry_run then [] else written_effects t files w x ++ reject_effects t w x
+unfoldable pub effects_of : PlainTurn → Files → Target → Target → Tried → List Effect
+effects_of t files s w x = if t.options.dry_run then [] else written_effects t files s w x ++ reject_effects t w x
 
 -- the target was made or taken away
 unfoldable pub wrote : PlainTurn → Files → Target → Tried → Bool
-wrote t files w x = not t.options.dry_run && some_placed x.verdicts && (not (is_removal t x) || is_some (get files w.name))
+wrote t files w x = not t.options.dry_run && is_written t x && (not (is_removal t x) || is_some (get files w.name))
 
 -- ---- the whole story
+
+-- nothing is said of hunks where there is none
+abbrev pub ignored_said : PlainTurn → List ℕ
+ignored_said t = if is_bare t.item.patch then [] else ignored_line (total t)
 
 -- all hunks are ignored
 abbrev pub skipped : PlainTurn → List ℕ → Row → Option (List ℕ) → Story
 skipped t said row taken = record {
-  said = said ++ ignored_line (total t);
+  said = said ++ ignored_said t;
   effects = [];
   cleared = None;
   verdicts = replicate (total t) Ignored;
@@ -374,10 +351,10 @@ skipped t said row taken = record {
   taken = taken;
 }
 
-abbrev pub finished : PlainTurn → Files → List ℕ → ℕ → Option (List ℕ) → Target → Tried → Story
-finished t files said place bytes w x = record {
+abbrev pub finished : PlainTurn → Files → List ℕ → ℕ → Option (List ℕ) → Target → Target → Tried → Story
+finished t files said place bytes s w x = record {
   said = said ++ tried_said t w x;
-  effects = effects_of t files w x;
+  effects = effects_of t files s w x;
   cleared = if t.options.dry_run then None else Some w.name;
   verdicts = x.verdicts;
   row = record { side = x.side; target = Some place; wrote = wrote t files w x };
@@ -386,7 +363,7 @@ finished t files said place bytes w x = record {
 }
 
 abbrev pub finished_at : PlainTurn → Files → List ℕ → ℕ → Side → Story
-finished_at t files said place side = finished t files said place (bytes_of t files place) (written t place) (tried t side (lines_in (bytes_of t files place)))
+finished_at t files said place side = finished t files said place (bytes_of t files place) (target_at t.item.targets place) (written t place) (tried t side (lines_in (bytes_of t files place)))
 
 abbrev pub ending_of : PlainTurn → Files → Start → Ending
 ending_of t files (skips said row taken) = ended (skipped t said row taken)

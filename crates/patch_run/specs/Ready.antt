@@ -3,7 +3,7 @@ use Rattle.std.specs.Prelude.{◌≡◌, ℕ, ◌+◌, ◌<◌, ◌≤◌, ◌^�
 use Rattle.std.specs.List.{zip}
 use Rattle.std.specs.Option.{ForSome}
 use Rattle.hunk_core.specs.declared.Verdict.{Verdict}
-use Rattle.patch_options.specs.PlainJob.{PlainOptions, HasContext}
+use Rattle.patch_options.specs.PlainJob.{PlainOptions, HasContext, IsMacroName}
 use Rattle.file_patch.specs.declared.FilePatch.{FilePatch}
 use Rattle.file_patch.specs.PlainPatch.{row_count}
 use Rattle.file_patch.specs.Absent.{IsLawfulPatch}
@@ -45,6 +45,7 @@ pub record IsReady (o : PlainOptions) (v : SetView) : Type 0 where
   pub patches : All (IsFit v.text) v.patches
   pub output : ForSome v.output IsNamed
   pub reject_form : ForSome o.reject_form HasContext
+  pub define : ForSome o.define IsMacroName
   pub rows : length v.rows ≡ length v.patches
   pub count : length v.patches < 2 ^ 32
 

@@ -13,12 +13,12 @@ use Rattle.replace_file.specs.declared.temp.Temp.{Temp}
 use Rattle.patch_effects.specs.declared.fault.RunFault.{RunFault}
 use Rattle.patch_effects.specs.declared.fault.RunFault.TheVariants as faults
 
--- the counts of verdicts and an output
-pub record IsSession (s : Session) (vs : List Verdict) (output : List ℕ) : Type 0 where
+-- the counts of verdicts and a new text
+pub record IsSession (s : Session) (vs : List Verdict) (text : List ℕ) : Type 0 where
   pub applied : s.applied ≡ count_by is_placed vs
   pub failed : s.failed ≡ count_by is_failed vs
   pub inexact : s.inexact ≡ list_any is_inexact vs
-  pub empty : s.output_empty ≡ is_nothing output
+  pub empty : s.output_empty ≡ is_nothing text
 
 -- what a fault says of the plan alone before and after
 abbrev pub HasLineCause : RunFault → Seen → Seen → Type 0

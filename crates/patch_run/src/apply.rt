@@ -11,8 +11,7 @@ ghost use Rattle.line_store.specs.Store.{Keeps};
 ghost use Rattle.hunk_apply.specs.Change.{change_verdicts};
 ghost use Rattle.hunk_apply.specs.Session.{IsTried};
 ghost use Rattle.file_patch.specs.PlainPatch.{row_count};
-ghost use Rattle.say_text.specs.Messages.{ignored_line};
-ghost use Rattle.patch_run.specs.OnePatch.{Tried, total, bytes_of, lines_in, effects_of, tried_said, some_failed, is_kept, finished_at, ending};
+ghost use Rattle.patch_run.specs.OnePatch.{Tried, ignored_said, bytes_of, lines_in, effects_of, tried_said, some_failed, is_kept, finished_at, ending};
 ghost use Rattle.patch_run.specs.Trying.{IsSession, IsBegun};
 ghost use Rattle.patch_run.specs.Doing.{Does, Stays, QuietAfter, IsDone, IsPartOf, IsDeviceFault, HasEndCause, IsOutcome, IsMadeWhole, IsOrdered};
 ghost use Rattle.patch_effects.specs.Making.{IsGone, IsTidy, TidyAfter};
@@ -20,16 +19,17 @@ ghost use Rattle.patch_run.specs.Devices.{Told};
 ghost use Rattle.patch_effects.specs.Named.{IsNamed};
 ghost use Rattle.patch_run.specs.TurnView.{plain_turn, IsTurn};
 
+use crate::asking::is_bare;
 use crate::effects::make_effects;
 use crate::fill::{Attempt, try_hunks};
-use crate::names::written;
+use crate::names::{chosen, written};
 use crate::starting::{Decision, start};
 use crate::tell::{is_kept, tell};
 use crate::turn::Turn;
 use hunk_apply::Session;
 use hunk_core::{Side, Verdict};
 use line_store::{LineStore, Plan};
-use outside::{Sink, Tree};
+use outside::{Failed, Sink, Tree};
 use patch_effects::{Made, RunFault};
 use patch_set::Row;
 use say_text::say_ignored;
@@ -61,7 +61,7 @@ pub fn apply_one<P: Plan, T: Tree, O: Sink>(
     ensures rest { O.same_rest out.old out.new }
     ensures dry { turn.now.options.now.dry_run ≡ true → IsUntouched (T.view tree.old) (T.view tree.new) }
     ensures rows { length verdicts.new ≡ length verdicts.old }
-    ensures few { IfOk result (λ done. done.effects ≤ 3) }
+    ensures few { IfOk result (λ done. done.effects ≤ 5) }
 
     // Whatever the tree tells, hunks are placed only on lines that the plan lends.
     ensures placed { IfOk result (λ done. (lines : List (List ℕ)) → (P.seen plan.new).told ≡ Some lines
@@ -83,19 +83,31 @@ fn skip<O: Sink>(
 ) -> Result<Done, RunFault>
     requires turn { IsTurn turn.now }
     requires rows { length verdicts.old ≡ row_count turn.now.patch.now.change }
-    ensures writes { Writes (O.view out.old) (O.view out.new) result (ignored_line (total (plain_turn turn.now))) }
+    ensures writes { Writes (O.view out.old) (O.view out.new) result (ignored_said (plain_turn turn.now)) }
     ensures fault { IfErr result (λ e. e ≡ RunFault.Write) }
     ensures rest { O.same_rest out.old out.new }
     ensures ignored { verdicts.new ≡ replicate (length verdicts.old) Ignored }
     ensures done { IfOk result (λ done. done ≡ record { row = row; is_bad = true; effects = 0 }) }
 {
     verdicts.fill(Verdict::Ignored);
-    say_ignored(turn.options, turn.patch.hunks(), out)?;
+    tell_ignored(turn, out)?;
     Ok(Done {
         row,
         is_bad: true,
         effects: 0,
     })
+}
+
+/// Says that all hunks are ignored, where there is one.
+fn tell_ignored<O: Sink>(turn: &Turn<'_>, out: &mut O) -> Result<(), Failed>
+    requires turn { IsTurn turn.now }
+    ensures writes { Writes (O.view out.old) (O.view out.new) result (ignored_said (plain_turn turn.now)) }
+    ensures rest { O.same_rest out.old out.new }
+{
+    if is_bare(turn.patch) {
+        return Ok(());
+    }
+    say_ignored(turn.options, turn.patch.hunks(), out)
 }
 
 /// Tries the hunks on the lines that were taken, says what came of them, and makes the effects.
@@ -127,20 +139,22 @@ fn try_at<P: LineStore, T: Tree, O: Sink>(
     ensures rest { O.same_rest out.old out.new }
     ensures dry { turn.now.options.now.dry_run ≡ true → IsUntouched (T.view tree.old) (T.view tree.new) }
     ensures rows { length verdicts.new ≡ length verdicts.old }
-    ensures few { IfOk result (λ done. done.effects ≤ 3) }
+    ensures few { IfOk result (λ done. done.effects ≤ 5) }
     ensures placed { IfOk result (λ done. (lines : List (List ℕ)) → (P.seen plan.new).told ≡ Some lines
         → verdicts.new ≡ change_verdicts lines turn.now.options.now.fuzz turn.now.options.now.loose done.row.side (plain_turn turn.now).item.patch.change) }
 {
+    let source = chosen(turn, place);
     let target = written(turn, place);
     let attempt = try_hunks(turn, &target.temp, side, verdicts, plan, tree)?;
     let session = attempt.session;
-    let made = tell_and_make(turn, target, side, attempt, verdicts, tree, out)?;
+    let made = tell_and_make(turn, source, target, side, attempt, verdicts, tree, out)?;
     Ok(done_of(turn, place, side, &session, made))
 }
 
 /// Says what came of the hunks, and makes the effects, if it isn't a dry run.
 fn tell_and_make<T: Tree, O: Sink>(
     turn: &Turn<'_>,
+    source: &Target,
     target: &Target,
     side: Side,
     attempt: Attempt<'_>,
@@ -149,6 +163,7 @@ fn tell_and_make<T: Tree, O: Sink>(
     out: &mut O,
 ) -> Result<Made, RunFault>
     requires turn { IsTurn turn.now }
+    requires source { IsNamed source.now }
     requires named { IsNamed target.now }
     requires rows { length verdicts.now ≡ row_count turn.now.patch.now.change }
     requires tried { All IsTried verdicts.now }
@@ -162,18 +177,27 @@ fn tell_and_make<T: Tree, O: Sink>(
     ensures rest { O.same_rest out.old out.new }
     ensures dry { turn.now.options.now.dry_run ≡ true → IsUntouched (T.view tree.old) (T.view tree.new) }
     ensures whole { IfOk result (λ made. (f : Files) (x : Tried) → (T.view tree.old).told ≡ Some f → IsOutcome turn.now.options.now.dry_run (T.view tree.old) attempt.entry.session target.now.temp side verdicts.now x
-        → IsMadeWhole (plain_turn turn.now) f target.now x made (T.view tree.old) (T.view tree.new) (O.view out.old) (O.view out.new)) }
+        → IsMadeWhole (plain_turn turn.now) f source.now target.now x made (T.view tree.old) (T.view tree.new) (O.view out.old) (O.view out.new)) }
     ensures broken { OnErr result ((f : Files) (x : Tried) → (T.view tree.old).told ≡ Some f → IsOutcome turn.now.options.now.dry_run (T.view tree.old) attempt.entry.session target.now.temp side verdicts.now x
-        → IsPartOf (T.view tree.old) (T.view tree.new) (O.view out.old) (O.view out.new) (effects_of (plain_turn turn.now) f target.now x) (tried_said (plain_turn turn.now) target.now x)) }
+        → IsPartOf (T.view tree.old) (T.view tree.new) (O.view out.old) (O.view out.new) (effects_of (plain_turn turn.now) f source.now target.now x) (tried_said (plain_turn turn.now) target.now x)) }
     ensures order { IfErr result (λ e. (x : Tried) → IsOutcome turn.now.options.now.dry_run (T.view tree.old) attempt.entry.session target.now.temp side verdicts.now x
         → IsOrdered e (T.view tree.old) (T.view tree.new) (O.view out.old) (O.view out.new) (tried_said (plain_turn turn.now) target.now x)) }
-    ensures few { IfOk result (λ made. made.effects ≤ 3) }
+    ensures few { IfOk result (λ made. made.effects ≤ 5) }
     ensures tidy { OnOk result (IsTidy (T.view tree.old) (T.view tree.new)) }
     ensures gone { OnOk result (turn.now.options.now.dry_run ≡ false → IsGone (T.view tree.new) target.now.temp) }
 {
     tell(turn, target, side, &attempt.session, verdicts, out)?;
     match attempt.temp {
-        Some(temp) => make_effects(turn, target, side, &attempt.session, verdicts, temp, tree),
+        Some(temp) => make_effects(
+            turn,
+            source,
+            target,
+            side,
+            &attempt.session,
+            verdicts,
+            temp,
+            tree,
+        ),
         None => Ok(Made {
             wrote: false,
             effects: 0,
@@ -184,7 +208,7 @@ fn tell_and_make<T: Tree, O: Sink>(
 fn done_of(turn: &Turn<'_>, place: u32, side: Side, session: &Session, made: Made) -> Done
     requires turn { IsTurn turn.now }
     ensures row { result.row ≡ record { side = side; target = Some place; wrote = made.wrote } }
-    ensures bad { (x : Tried) → x.side ≡ side → IsSession session.now x.verdicts x.output → result.is_bad ≡ (some_failed x.verdicts || is_kept (plain_turn turn.now) x) }
+    ensures bad { (x : Tried) → x.side ≡ side → IsSession session.now x.verdicts x.text → result.is_bad ≡ (some_failed x.verdicts || is_kept (plain_turn turn.now) x) }
     ensures effects { result.effects ≡ made.effects }
 {
     let row = Row {

@@ -5,12 +5,13 @@ ghost use Rattle.outside.specs.Files.{is_temp};
 ghost use Rattle.outside.specs.TreeView.{Rises};
 ghost use Rattle.outside.specs.Calls.{IsThere};
 ghost use Rattle.outside.specs.Quiet.{IsQuiet, WorksOn, Holds};
-ghost use Rattle.line_store.specs.Store.{Keeps};
+ghost use Rattle.line_store.specs.Store.{Keeps, HasCause};
 ghost use Rattle.file_patch.specs.PlainPatch.{row_count};
 ghost use Rattle.outside.specs.SinkView.{SinkPasses, Receives};
 ghost use Rattle.hunk_apply.specs.Faults.{HasApplyCause};
 ghost use Rattle.hunk_apply.specs.Session.{IsTried};
-ghost use Rattle.patch_run.specs.OnePatch.{tried};
+ghost use Rattle.patch_options.specs.PlainJob.{IsMacroName};
+ghost use Rattle.patch_run.specs.OnePatch.{tried, parted_output};
 ghost use Rattle.patch_run.specs.Trying.{IsSession, IsBegun, HasTryCause, HasLineCause};
 ghost use Rattle.patch_effects.specs.Making.{IsGone, IsTidy, UnlessFailed};
 ghost use Rattle.patch_run.specs.TurnView.{plain_turn, IsTurn};
@@ -19,6 +20,7 @@ use crate::discard::Discard;
 use crate::turn::Turn;
 use hunk_apply::{ApplyFault, Session, apply_hunks};
 use hunk_core::{Side, Verdict};
+use ifdef_out::{IfdefFault, put_ifdef};
 use line_store::{LineFault, LineStore};
 use outside::{Name, Sink, Tree};
 use patch_effects::RunFault;
@@ -51,7 +53,7 @@ pub fn try_hunks<'n, P: LineStore, T: Tree>(
     ensures begun { IfOk result (λ attempt. IsBegun turn.now.options.now.dry_run attempt.temp temp.now) }
     ensures there { OnOk result (turn.now.options.now.dry_run ≡ false → IsThere (T.view tree.new) temp.now) }
     ensures holds { OnOk result ((lines : List (List ℕ)) → (P.seen plan.old).told ≡ Some lines → turn.now.options.now.dry_run ≡ false → Holds (T.view tree.new) temp.now (tried (plain_turn turn.now) side lines).output) }
-    ensures session { IfOk result (λ attempt. (lines : List (List ℕ)) → (P.seen plan.old).told ≡ Some lines → IsSession attempt.session verdicts.new (tried (plain_turn turn.now) side lines).output) }
+    ensures session { IfOk result (λ attempt. (lines : List (List ℕ)) → (P.seen plan.old).told ≡ Some lines → IsSession attempt.session verdicts.new (tried (plain_turn turn.now) side lines).text) }
     ensures verdicts { OnOk result ((lines : List (List ℕ)) → (P.seen plan.old).told ≡ Some lines → verdicts.new ≡ (tried (plain_turn turn.now) side lines).verdicts) }
     ensures tried { OnOk result (All IsTried verdicts.new) }
     ensures rows { length verdicts.new ≡ length verdicts.old }
@@ -81,20 +83,41 @@ fn try_dry<P: LineStore>(
     requires rows { length verdicts.old ≡ row_count turn.now.patch.now.change }
     ensures keeps { Keeps (P.seen plan.old) (P.seen plan.new) }
     ensures cause { IfErr result (λ e. HasLineCause e (P.seen plan.old) (P.seen plan.new)) }
-    ensures session { IfOk result (λ session. (lines : List (List ℕ)) → (P.seen plan.old).told ≡ Some lines → IsSession session verdicts.new (tried (plain_turn turn.now) side lines).output) }
+    ensures session { IfOk result (λ session. (lines : List (List ℕ)) → (P.seen plan.old).told ≡ Some lines → IsSession session verdicts.new (tried (plain_turn turn.now) side lines).text) }
+    ensures verdicts { OnOk result ((lines : List (List ℕ)) → (P.seen plan.old).told ≡ Some lines → verdicts.new ≡ (tried (plain_turn turn.now) side lines).verdicts) }
+    ensures tried { OnOk result (All IsTried verdicts.new) }
+    ensures rows { length verdicts.new ≡ length verdicts.old }
+{
+    let session = try_nowhere(turn, side, verdicts, plan)?;
+    Ok(session)
+}
+
+/// Tries the hunks, and keeps nothing of the new text.
+fn try_nowhere<P: LineStore>(
+    turn: &Turn<'_>,
+    side: Side,
+    verdicts: &mut [Verdict],
+    plan: &mut P,
+) -> Result<Session, LineFault>
+    requires turn { IsTurn turn.now }
+    requires rows { length verdicts.old ≡ row_count turn.now.patch.now.change }
+    ensures keeps { Keeps (P.seen plan.old) (P.seen plan.new) }
+    ensures cause { IfErr result (λ e. HasCause e (P.seen plan.old) (P.seen plan.new)) }
+    ensures session { IfOk result (λ session. (lines : List (List ℕ)) → (P.seen plan.old).told ≡ Some lines → IsSession session verdicts.new (tried (plain_turn turn.now) side lines).text) }
     ensures verdicts { OnOk result ((lines : List (List ℕ)) → (P.seen plan.old).told ≡ Some lines → verdicts.new ≡ (tried (plain_turn turn.now) side lines).verdicts) }
     ensures tried { OnOk result (All IsTried verdicts.new) }
     ensures rows { length verdicts.new ≡ length verdicts.old }
 {
     let mut nowhere = Discard {};
-    match try_into(turn, side, verdicts, plan, &mut nowhere) {
+    match try_plain(turn, side, verdicts, plan, &mut nowhere) {
         Ok(session) => Ok(session),
-        Err(ApplyFault::Line(fault)) => Err(RunFault::from(fault)),
+        Err(ApplyFault::Line(fault)) => Err(fault),
         Err(ApplyFault::Write) => unreachable!(),
     }
 }
 
-/// Tries the hunks, and writes the output to a sink.
+/// Tries the hunks, and writes the output to a sink: with `-D` the old and the new lines with their conditions, for which
+/// the hunks are tried first.
 fn try_into<P: LineStore, O: Sink>(
     turn: &Turn<'_>,
     side: Side,
@@ -109,7 +132,95 @@ fn try_into<P: LineStore, O: Sink>(
     ensures rest { O.same_rest out.old out.new }
     ensures cause { IfErr result (λ e. HasApplyCause e (P.seen plan.old) (P.seen plan.new) (O.view out.old) (O.view out.new)) }
     ensures received { OnOk result ((lines : List (List ℕ)) → (P.seen plan.old).told ≡ Some lines → Receives (O.view out.old) (O.view out.new) (tried (plain_turn turn.now) side lines).output) }
-    ensures session { IfOk result (λ session. (lines : List (List ℕ)) → (P.seen plan.old).told ≡ Some lines → IsSession session verdicts.new (tried (plain_turn turn.now) side lines).output) }
+    ensures session { IfOk result (λ session. (lines : List (List ℕ)) → (P.seen plan.old).told ≡ Some lines → IsSession session verdicts.new (tried (plain_turn turn.now) side lines).text) }
+    ensures verdicts { OnOk result ((lines : List (List ℕ)) → (P.seen plan.old).told ≡ Some lines → verdicts.new ≡ (tried (plain_turn turn.now) side lines).verdicts) }
+    ensures tried { OnOk result (All IsTried verdicts.new) }
+    ensures rows { length verdicts.new ≡ length verdicts.old }
+{
+    match &turn.options.define {
+        Some(define) => try_parted(turn, define, side, verdicts, plan, out),
+        None => try_plain(turn, side, verdicts, plan, out),
+    }
+}
+
+/// Tries the hunks, and writes the old and the new lines with their conditions to a sink.
+fn try_parted<P: LineStore, O: Sink>(
+    turn: &Turn<'_>,
+    define: &str,
+    side: Side,
+    verdicts: &mut [Verdict],
+    plan: &mut P,
+    out: &mut O,
+) -> Result<Session, ApplyFault>
+    requires turn { IsTurn turn.now }
+    requires define { IsMacroName define.now }
+    requires rows { length verdicts.old ≡ row_count turn.now.patch.now.change }
+    ensures keeps { Keeps (P.seen plan.old) (P.seen plan.new) }
+    ensures sink { SinkPasses (O.view out.old) (O.view out.new) }
+    ensures rest { O.same_rest out.old out.new }
+    ensures cause { IfErr result (λ e. HasApplyCause e (P.seen plan.old) (P.seen plan.new) (O.view out.old) (O.view out.new)) }
+    ensures received { OnOk result ((lines : List (List ℕ)) → (P.seen plan.old).told ≡ Some lines → Receives (O.view out.old) (O.view out.new) (parted_output (plain_turn turn.now) side lines define.now)) }
+    ensures session { IfOk result (λ session. (lines : List (List ℕ)) → (P.seen plan.old).told ≡ Some lines → IsSession session verdicts.new (tried (plain_turn turn.now) side lines).text) }
+    ensures verdicts { OnOk result ((lines : List (List ℕ)) → (P.seen plan.old).told ≡ Some lines → verdicts.new ≡ (tried (plain_turn turn.now) side lines).verdicts) }
+    ensures tried { OnOk result (All IsTried verdicts.new) }
+    ensures rows { length verdicts.new ≡ length verdicts.old }
+{
+    let session = try_nowhere(turn, side, verdicts, plan)?;
+    put_parted(turn, define, side, verdicts, plan, out)?;
+    Ok(session)
+}
+
+/// Writes the old and the new lines with their conditions to a sink.
+fn put_parted<P: LineStore, O: Sink>(
+    turn: &Turn<'_>,
+    define: &str,
+    side: Side,
+    verdicts: &[Verdict],
+    plan: &mut P,
+    out: &mut O,
+) -> Result<(), ApplyFault>
+    requires turn { IsTurn turn.now }
+    requires define { IsMacroName define.now }
+    requires rows { length verdicts.now ≡ row_count turn.now.patch.now.change }
+    requires tried { All IsTried verdicts.now }
+    requires placed { (lines : List (List ℕ)) → (P.seen plan.old).told ≡ Some lines → verdicts.now ≡ (tried (plain_turn turn.now) side lines).verdicts }
+    ensures keeps { Keeps (P.seen plan.old) (P.seen plan.new) }
+    ensures sink { SinkPasses (O.view out.old) (O.view out.new) }
+    ensures rest { O.same_rest out.old out.new }
+    ensures cause { IfErr result (λ e. HasApplyCause e (P.seen plan.old) (P.seen plan.new) (O.view out.old) (O.view out.new)) }
+    ensures received { OnOk result ((lines : List (List ℕ)) → (P.seen plan.old).told ≡ Some lines → Receives (O.view out.old) (O.view out.new) (parted_output (plain_turn turn.now) side lines define.now)) }
+{
+    match put_ifdef(
+        plan,
+        turn.set.text(),
+        turn.patch,
+        side,
+        verdicts,
+        define,
+        out,
+    ) {
+        Ok(()) => Ok(()),
+        Err(IfdefFault::Line(fault)) => Err(ApplyFault::Line(fault)),
+        Err(IfdefFault::Write) => Err(ApplyFault::Write),
+    }
+}
+
+/// Tries the hunks, and writes the new text to a sink.
+fn try_plain<P: LineStore, O: Sink>(
+    turn: &Turn<'_>,
+    side: Side,
+    verdicts: &mut [Verdict],
+    plan: &mut P,
+    out: &mut O,
+) -> Result<Session, ApplyFault>
+    requires turn { IsTurn turn.now }
+    requires rows { length verdicts.old ≡ row_count turn.now.patch.now.change }
+    ensures keeps { Keeps (P.seen plan.old) (P.seen plan.new) }
+    ensures sink { SinkPasses (O.view out.old) (O.view out.new) }
+    ensures rest { O.same_rest out.old out.new }
+    ensures cause { IfErr result (λ e. HasApplyCause e (P.seen plan.old) (P.seen plan.new) (O.view out.old) (O.view out.new)) }
+    ensures received { OnOk result ((lines : List (List ℕ)) → (P.seen plan.old).told ≡ Some lines → Receives (O.view out.old) (O.view out.new) ((tried (plain_turn turn.now) side lines).text)) }
+    ensures session { IfOk result (λ session. (lines : List (List ℕ)) → (P.seen plan.old).told ≡ Some lines → IsSession session verdicts.new (tried (plain_turn turn.now) side lines).text) }
     ensures verdicts { OnOk result ((lines : List (List ℕ)) → (P.seen plan.old).told ≡ Some lines → verdicts.new ≡ (tried (plain_turn turn.now) side lines).verdicts) }
     ensures tried { OnOk result (All IsTried verdicts.new) }
     ensures rows { length verdicts.new ≡ length verdicts.old }
@@ -146,7 +257,7 @@ fn fill_temp<'n, P: LineStore, T: Tree>(
     ensures begun { IfOk result (λ attempt. IsSomeAnd attempt.temp (λ begun. begun.name.now ≡ temp.now)) }
     ensures there { OnOk result (IsThere (T.view tree.new) temp.now) }
     ensures holds { OnOk result ((lines : List (List ℕ)) → (P.seen plan.old).told ≡ Some lines → Holds (T.view tree.new) temp.now (tried (plain_turn turn.now) side lines).output) }
-    ensures session { IfOk result (λ attempt. (lines : List (List ℕ)) → (P.seen plan.old).told ≡ Some lines → IsSession attempt.session verdicts.new (tried (plain_turn turn.now) side lines).output) }
+    ensures session { IfOk result (λ attempt. (lines : List (List ℕ)) → (P.seen plan.old).told ≡ Some lines → IsSession attempt.session verdicts.new (tried (plain_turn turn.now) side lines).text) }
     ensures verdicts { OnOk result ((lines : List (List ℕ)) → (P.seen plan.old).told ≡ Some lines → verdicts.new ≡ (tried (plain_turn turn.now) side lines).verdicts) }
     ensures tried { OnOk result (All IsTried verdicts.new) }
     ensures rows { length verdicts.new ≡ length verdicts.old }
@@ -178,7 +289,7 @@ fn fill_begun<'n, P: LineStore, T: Tree>(
     ensures begun { IfOk result (λ attempt. IsSomeAnd attempt.temp (λ filled. filled.name.now ≡ begun.entry.name.now)) }
     ensures there { OnOk result (IsThere (T.view tree.new) begun.entry.name.now) }
     ensures holds { OnOk result ((lines : List (List ℕ)) → (P.seen plan.old).told ≡ Some lines → Holds (T.view tree.new) begun.entry.name.now (tried (plain_turn turn.now) side lines).output) }
-    ensures session { IfOk result (λ attempt. (lines : List (List ℕ)) → (P.seen plan.old).told ≡ Some lines → IsSession attempt.session verdicts.new (tried (plain_turn turn.now) side lines).output) }
+    ensures session { IfOk result (λ attempt. (lines : List (List ℕ)) → (P.seen plan.old).told ≡ Some lines → IsSession attempt.session verdicts.new (tried (plain_turn turn.now) side lines).text) }
     ensures verdicts { OnOk result ((lines : List (List ℕ)) → (P.seen plan.old).told ≡ Some lines → verdicts.new ≡ (tried (plain_turn turn.now) side lines).verdicts) }
     ensures tried { OnOk result (All IsTried verdicts.new) }
     ensures rows { length verdicts.new ≡ length verdicts.old }

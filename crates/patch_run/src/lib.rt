@@ -3,6 +3,7 @@
 
 mod applied;
 mod apply;
+mod asking;
 mod choices;
 mod discard;
 mod effects;

@@ -1,12 +1,19 @@
 //! The names of a target as messages show them.
 
-ghost use Rattle.std.specs.Prelude.{◌≡◌, ◌<◌, length, drop};
-ghost use Rattle.patch_run.specs.OnePatch.{shown, shown_reject, written, target_at};
+ghost use Rattle.std.specs.Prelude.{◌≡◌, ◌<◌, ℕ, List, length, drop, All, slice_get, unwrap_or};
+ghost use Rattle.std.specs.Option.{ForSome, option_copied};
+ghost use Rattle.patch_run.specs.OnePatch.{shown, shown_reject, written, written_at, named, origin_of, target_at};
+ghost use Rattle.patch_run.specs.Run.{item_of};
+ghost use Rattle.say_text.specs.Origins.{plain_origin};
 ghost use Rattle.patch_effects.specs.Named.{BeginsComponent, IsNamed};
 ghost use Rattle.patch_run.specs.TurnView.{plain_turn, IsTurn};
 
+use crate::asking::written_place;
 use crate::turn::Turn;
+use file_patch::FilePatch;
 use outside::Name;
+use patch_header::Action;
+use say_text::Origin;
 use target_names::Target;
 
 /// The name as messages show it.
@@ -43,7 +50,27 @@ pub fn chosen<'a>(turn: &Turn<'a>, place: u32) -> &'a Target
     &turn.patch.targets[place as usize]
 }
 
-/// The target that is written: the output of the options, or the one that is read.
+/// The target at a place, if there is one.
+pub fn target_in<'a>(patch: &'a FilePatch, place: u32) -> Option<&'a Target>
+    ensures target { option_copied result ≡ slice_get patch.now.targets.items place }
+    ensures named { All IsNamed patch.now.targets.items → ForSome (option_copied result) IsNamed }
+{
+    patch.targets.get(place as usize)
+}
+
+/// The target that a file patch writes without an output of the options, where this one was chosen.
+pub fn written_at<'a>(patch: &'a FilePatch, place: u32) -> Option<&'a Target>
+    ensures target { (text : List ℕ) → option_copied result ≡ written_at (item_of text patch.now) place }
+    ensures named { All IsNamed patch.now.targets.items → ForSome (option_copied result) IsNamed }
+{
+    match target_in(patch, written_place(patch, place)) {
+        Some(target) => Some(target),
+        None => target_in(patch, place),
+    }
+}
+
+/// The target that is written: the output of the options, or the one that is read, or the other one where its file is
+/// renamed or copied.
 pub fn written<'a>(turn: &Turn<'a>, place: u32) -> &'a Target
     requires turn { IsTurn turn.now }
     requires within { place < length turn.now.patch.now.targets.items }
@@ -52,6 +79,46 @@ pub fn written<'a>(turn: &Turn<'a>, place: u32) -> &'a Target
 {
     match turn.set.output() {
         Some(output) => output,
+        None => own_written(turn, place),
+    }
+}
+
+/// The same without an output of the options.
+fn own_written<'a>(turn: &Turn<'a>, place: u32) -> &'a Target
+    requires turn { IsTurn turn.now }
+    requires within { place < length turn.now.patch.now.targets.items }
+    ensures target { result.now ≡ unwrap_or (written_at (plain_turn turn.now).item place) (target_at (plain_turn turn.now).item.targets place) }
+    ensures named { IsNamed result.now }
+{
+    match written_at(turn.patch, place) {
+        Some(target) => target,
         None => chosen(turn, place),
+    }
+}
+
+/// The target that is named first.
+pub fn named<'a>(turn: &Turn<'a>, place: u32) -> &'a Target
+    requires turn { IsTurn turn.now }
+    requires within { place < length turn.now.patch.now.targets.items }
+    ensures target { result.now ≡ named (plain_turn turn.now) place }
+    ensures named { IsNamed result.now }
+{
+    if turn.patch.is_moved() {
+        written(turn, place)
+    } else {
+        chosen(turn, place)
+    }
+}
+
+/// Where its file comes from.
+pub fn origin<'a>(turn: &Turn<'a>, place: u32) -> Origin<'a>
+    requires turn { IsTurn turn.now }
+    requires within { place < length turn.now.patch.now.targets.items }
+    ensures origin { plain_origin result ≡ origin_of (plain_turn turn.now) place }
+{
+    match turn.patch.header.action {
+        Action::Plain | Action::New | Action::Deleted => Origin::Same,
+        Action::Rename => Origin::Renamed(shown(chosen(turn, place))),
+        Action::Copy => Origin::Copied(shown(chosen(turn, place))),
     }
 }

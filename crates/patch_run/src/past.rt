@@ -1,13 +1,15 @@
 //! What the file patches before one did.
 
-ghost use Rattle.std.specs.Prelude.{◌≡◌, ◌<◌, ◌≤◌, ◌+◌, ◌^◌, length, slice_index_or, bytes_eq};
+ghost use Rattle.std.specs.Prelude.{◌≡◌, ◌<◌, ◌≤◌, ◌+◌, ◌^◌, length, slice_index_or, bytes_eq, option_map};
 ghost use Rattle.std.specs.Option.{ForSome, option_copied};
 ghost use Rattle.file_patch.specs.PlainPatch.{row_count};
-ghost use Rattle.patch_run.specs.OnePatch.{Mark, mark_of, is_name, was_written, written_by};
+ghost use Rattle.patch_run.specs.OnePatch.{Mark, mark_of, has_name, is_name, was_written, written_by, renamed_by};
 ghost use Rattle.patch_effects.specs.Named.{IsNamed};
 ghost use Rattle.patch_run.specs.Ready.{IsFit, alone, rows_in};
 ghost use Rattle.patch_run.specs.TurnView.{plain_turn, IsTurn};
 
+use crate::asking::renames;
+use crate::names::{target_in, written_at};
 use crate::turn::Turn;
 use file_patch::FilePatch;
 use hunk_core::Verdict;
@@ -70,10 +72,21 @@ pub fn written_by<'a>(turn: &Turn<'a>, earlier: &Earlier<'a>) -> Option<&'a Targ
         return Some(output);
     }
     let place = earlier.row.target?;
-    earlier.patch.targets.get(place as usize)
+    written_at(earlier.patch, place)
 }
 
-/// Whether one of those before it made or took away this name as its target.
+/// The target whose file it renamed, if it chose one.
+fn renamed_by<'a>(turn: &Turn<'_>, earlier: &Earlier<'a>) -> Option<&'a Target>
+    ensures target { option_copied result ≡ renamed_by (alone (plain_turn turn.now).options turn.now.set.now earlier.now.patch.now) earlier.now.row }
+{
+    if !renames(earlier.patch) {
+        return None;
+    }
+    let place = earlier.row.target?;
+    target_in(earlier.patch, place)
+}
+
+/// Whether one of those before it made or took away this name, as its target or from a file that it renamed.
 pub fn was_written(turn: &Turn<'_>, name: &Name) -> bool
     requires turn { IsTurn turn.now }
     ensures { result ≡ was_written (plain_turn turn.now).past name.now }
@@ -90,12 +103,22 @@ pub fn was_written(turn: &Turn<'_>, name: &Name) -> bool
 fn has_written(turn: &Turn<'_>, earlier: &Earlier<'_>, name: &Name) -> bool
     requires turn { IsTurn turn.now }
     requires fit { IsFit turn.now.set.now.text earlier.now.patch.now }
-    ensures { result ≡ is_name name.now (mark_of (alone (plain_turn turn.now).options turn.now.set.now earlier.now.patch.now) earlier.now.row earlier.now.verdicts.now).written }
+    ensures { result ≡ has_name name.now (mark_of (alone (plain_turn turn.now).options turn.now.set.now earlier.now.patch.now) earlier.now.row earlier.now.verdicts.now) }
 {
     if !earlier.row.wrote {
         return false;
     }
-    match written_by(turn, earlier) {
+    if is_name(name, written_by(turn, earlier)) {
+        return true;
+    }
+    is_name(name, renamed_by(turn, earlier))
+}
+
+/// Whether it is the name of this target.
+fn is_name(name: &Name, target: Option<&Target>) -> bool
+    ensures { result ≡ is_name name.now (option_map (λ w. w.name) (option_copied target.entry)) }
+{
+    match target {
         Some(target) => is_same(name, &target.name),
         None => false,
     }

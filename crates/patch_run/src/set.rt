@@ -133,7 +133,7 @@ fn apply_at<P: Plan, T: Tree, O: Sink>(
     ensures verdicts { length verdicts.new ≡ length verdicts.old }
     ensures rest { O.same_rest out.old out.new }
     ensures dry { options.now.dry_run ≡ true → IsUntouched (T.view tree.old) (T.view tree.new) }
-    ensures few { IfOk result (λ done. done.effects ≤ 3) }
+    ensures few { IfOk result (λ done. done.effects ≤ 5) }
     ensures placed { IfOk result (λ done. (p : ThePatch) (lines : List (List ℕ)) → p ≡ slice_index_or set.now.patches k p → (P.seen plan.new).told ≡ Some lines → IsPlacedOn (plain_options options.now) set.now.text p verdicts.new done.row lines) }
 {
     let patch = &set.patches()[k as usize];
@@ -165,7 +165,7 @@ fn apply_front<P: Plan, T: Tree, O: Sink>(
     ensures verdicts { length verdicts.new ≡ length verdicts.old }
     ensures rest { O.same_rest out.old out.new }
     ensures dry { turn.now.options.now.dry_run ≡ true → IsUntouched (T.view tree.old) (T.view tree.new) }
-    ensures few { IfOk result (λ done. done.effects ≤ 3) }
+    ensures few { IfOk result (λ done. done.effects ≤ 5) }
     ensures placed { IfOk result (λ done. (lines : List (List ℕ)) → (P.seen plan.new).told ≡ Some lines
         → (take (row_count turn.now.patch.now.change) verdicts.new ≡ replicate (row_count turn.now.patch.now.change) Ignored)
         ⊎ (take (row_count turn.now.patch.now.change) verdicts.new ≡ change_verdicts lines turn.now.options.now.fuzz turn.now.options.now.loose done.row.side (plain_turn turn.now).item.patch.change)) }

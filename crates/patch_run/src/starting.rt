@@ -1,21 +1,20 @@
 //! How a file patch is taken: whether its hunks are tried, and from which side.
 
-ghost use Rattle.std.specs.Prelude.{◌≡◌, ◌<◌, ◌&&◌, ℕ, length, is_some, false, Some, None, IfOk, IfErr, OnErr};
+ghost use Rattle.std.specs.Prelude.{◌≡◌, ◌<◌, ℕ, length, is_some, false, Some, None, IfOk, IfErr, OnErr};
 ghost use Rattle.std.specs.FinMap.{get};
 ghost use Rattle.outside.specs.Files.{Files};
 ghost use Rattle.outside.specs.TreeView.{Rises};
 ghost use Rattle.outside.specs.Calls.{IsUntouched};
 ghost use Rattle.outside.specs.SinkView.{Writes};
-ghost use Rattle.file_patch.specs.Absent.{creates};
 ghost use Rattle.name_choice.specs.Choice.{IsWithin as IsAmong, side_of};
 ghost use Rattle.say_text.specs.Messages.{no_file_lines};
 ghost use Rattle.patch_effects.specs.declared.fault.RunFault.TheVariants.{Write};
-ghost use Rattle.patch_run.specs.OnePatch.{bytes_of, has_bytes, start, choice_of, on_target, on_creation, on_existing, on_taking};
+ghost use Rattle.patch_run.specs.OnePatch.{bytes_of, has_bytes, is_in_the_way, start, choice_of, on_target, on_creation, on_existing, on_taking};
 ghost use Rattle.patch_run.specs.Starting.{Starts, Takes, IsPresent, IsWithin};
 ghost use Rattle.patch_run.specs.TurnView.{plain_turn, IsTurn};
 
-use crate::choices::turns;
-use crate::names::{chosen, shown, written};
+use crate::choices::turns_round;
+use crate::names::{chosen, named, origin, shown, written};
 use crate::turn::Turn;
 use crate::weighing::weigh;
 use hunk_core::Side;
@@ -24,7 +23,7 @@ use name_choice::{Choice, choose};
 use outside::{Failed, Name, Sink, Tree};
 use patch_effects::RunFault;
 use patch_set::{Row, is_posix};
-use say_text::{Origin, say_exists, say_no_file, say_patching};
+use say_text::{say_exists, say_no_file, say_patching};
 
 /// What becomes of a file patch.
 #[derive(Clone, Copy, Debug, PartialEq, Eq)]
@@ -117,15 +116,20 @@ fn on_target<P: Plan, T: Tree, O: Sink>(
     requires size { (P.seen plan.old).size ≡ turn.now.options.now.buffer }
     requires within { place < length turn.now.patch.now.targets.items }
     requires there { (f : Files) → (T.view tree.old).told ≡ Some f → there ≡ is_some (bytes_of (plain_turn turn.now) f place) }
-    ensures starts { Starts (T.view tree.old) (T.view tree.new) (P.seen plan.old) (P.seen plan.new) (O.view out.old) (O.view out.new) P.scratch_after result (bytes_of (plain_turn turn.now)) (λ f. on_target (plain_turn turn.now) place (bytes_of (plain_turn turn.now) f place)) }
+    ensures starts { Starts (T.view tree.old) (T.view tree.new) (P.seen plan.old) (P.seen plan.new) (O.view out.old) (O.view out.new) P.scratch_after result (bytes_of (plain_turn turn.now)) (λ f. on_target (plain_turn turn.now) f place) }
     ensures rest { O.same_rest out.old out.new }
     ensures within { IfOk result (IsWithin (length turn.now.patch.now.targets.items)) }
 {
-    say_patching(turn.options, shown(chosen(turn, place)), Origin::Same, out)?;
+    say_patching(
+        turn.options,
+        shown(named(turn, place)),
+        origin(turn, place),
+        out,
+    )?;
     on_creation(turn, place, there, own_side(turn), plan, tree, out)
 }
 
-/// Whether the file patch would make a file that is there and has bytes.
+/// Whether a file that is there and has bytes stands where one is made.
 fn is_in_the_way<T: Tree>(
     turn: &Turn<'_>,
     place: u32,
@@ -136,12 +140,24 @@ fn is_in_the_way<T: Tree>(
     requires within { place < length turn.now.patch.now.targets.items }
     ensures untouched { IsUntouched (T.view tree.old) (T.view tree.new) }
     ensures cause { OnErr result (Rises (T.view tree.old) (T.view tree.new)) }
-    ensures way { IfOk result (λ yes. (f : Files) → (T.view tree.old).told ≡ Some f → yes ≡ (creates side (plain_turn turn.now).item.patch && has_bytes (bytes_of (plain_turn turn.now) f place))) }
+    ensures way { IfOk result (λ yes. (f : Files) → (T.view tree.old).told ≡ Some f → yes ≡ is_in_the_way (plain_turn turn.now) f place side) }
 {
+    if turn.patch.is_moved() {
+        return has_bytes(&written(turn, place).name, tree);
+    }
     if !turn.patch.creates(side) {
         return Ok(false);
     }
-    match tree.size(&chosen(turn, place).name)? {
+    has_bytes(&chosen(turn, place).name, tree)
+}
+
+/// Whether a file is there and has bytes.
+fn has_bytes<T: Tree>(name: &Name, tree: &mut T) -> Result<bool, Failed>
+    ensures untouched { IsUntouched (T.view tree.old) (T.view tree.new) }
+    ensures cause { OnErr result (Rises (T.view tree.old) (T.view tree.new)) }
+    ensures bytes { IfOk result (λ yes. (f : Files) → (T.view tree.old).told ≡ Some f → yes ≡ has_bytes (get f name.now)) }
+{
+    match tree.size(name)? {
         Some(size) => Ok(size > 0),
         None => Ok(false),
     }
@@ -160,7 +176,7 @@ fn on_creation<P: Plan, T: Tree, O: Sink>(
     requires size { (P.seen plan.old).size ≡ turn.now.options.now.buffer }
     requires within { place < length turn.now.patch.now.targets.items }
     requires there { (f : Files) → (T.view tree.old).told ≡ Some f → there ≡ is_some (bytes_of (plain_turn turn.now) f place) }
-    ensures starts { Starts (T.view tree.old) (T.view tree.new) (P.seen plan.old) (P.seen plan.new) (O.view out.old) (O.view out.new) P.scratch_after result (bytes_of (plain_turn turn.now)) (λ f. on_creation (plain_turn turn.now) place (bytes_of (plain_turn turn.now) f place) side) }
+    ensures starts { Starts (T.view tree.old) (T.view tree.new) (P.seen plan.old) (P.seen plan.new) (O.view out.old) (O.view out.new) P.scratch_after result (bytes_of (plain_turn turn.now)) (λ f. on_creation (plain_turn turn.now) f place side) }
     ensures rest { O.same_rest out.old out.new }
     ensures within { IfOk result (IsWithin (length turn.now.patch.now.targets.items)) }
 {
@@ -193,7 +209,7 @@ fn on_existing<P: Plan, T: Tree, O: Sink>(
     ensures rest { O.same_rest out.old out.new }
     ensures within { IfOk result (IsWithin (length turn.now.patch.now.targets.items)) }
 {
-    let is_turned = turns(turn.options);
+    let is_turned = turns_round(turn);
     say_exists(turn.options, shown(written(turn, place)), is_turned, out)?;
     if is_turned {
         on_taking(turn, place, there, true, side.other(), plan, tree, out)

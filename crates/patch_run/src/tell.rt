@@ -11,11 +11,12 @@ ghost use Rattle.reject_text.specs.Rejects.{rows_of};
 ghost use Rattle.hunk_apply.specs.Script.{first_address};
 ghost use Rattle.hunk_apply.specs.Session.{IsTried};
 ghost use Rattle.patch_options.specs.PlainJob.{plain_options};
-ghost use Rattle.patch_run.specs.OnePatch.{Tried, change_said, hunks_said, hunk_said, script_said, kept_said, failures_said, tried_said, is_kept, is_script, is_unrejected, named_reject};
+ghost use Rattle.patch_run.specs.OnePatch.{Tried, change_said, hunks_said, hunk_said, script_said, kept_said, failures_said, tried_said, is_kept, is_taken_away, is_script, is_unrejected, named_reject};
 ghost use Rattle.patch_run.specs.Trying.{IsSession};
 ghost use Rattle.patch_effects.specs.Named.{IsNamed};
 ghost use Rattle.patch_run.specs.TurnView.{plain_turn, IsTurn};
 
+use crate::asking::{acts_deleted, is_bare, takes_files};
 use crate::names::{shown, shown_reject};
 use crate::turn::Turn;
 use ed_form::EdScript;
@@ -41,7 +42,7 @@ pub fn tell<O: Sink>(
     requires named { IsNamed target.now }
     requires rows { length verdicts.now ≡ row_count turn.now.patch.now.change }
     requires tried { All IsTried verdicts.now }
-    ensures writes { (output : List ℕ) → IsSession session.now verdicts.now output → Writes (O.view out.old) (O.view out.new) result (tried_said (plain_turn turn.now) target.now (record { side = side; verdicts = verdicts.now; output = output })) }
+    ensures writes { (x : Tried) → x.side ≡ side → x.verdicts ≡ verdicts.now → IsSession session.now x.verdicts x.text → Writes (O.view out.old) (O.view out.new) result (tried_said (plain_turn turn.now) target.now x) }
     ensures call { IsSinkCall (O.view out.old) (O.view out.new) result }
     ensures rest { O.same_rest out.old out.new }
 {
@@ -160,7 +161,7 @@ fn say_kept<O: Sink>(
 ) -> Result<(), Failed>
     requires turn { IsTurn turn.now }
     requires named { IsNamed target.now }
-    ensures writes { (x : Tried) → x.side ≡ side → IsSession session.now x.verdicts x.output → Writes (O.view out.old) (O.view out.new) result (kept_said (plain_turn turn.now) target.now x) }
+    ensures writes { (x : Tried) → x.side ≡ side → IsSession session.now x.verdicts x.text → Writes (O.view out.old) (O.view out.new) result (kept_said (plain_turn turn.now) target.now x) }
     ensures call { IsSinkCall (O.view out.old) (O.view out.new) result }
     ensures rest { O.same_rest out.old out.new }
 {
@@ -174,9 +175,24 @@ fn say_kept<O: Sink>(
 /// Whether a file that was to be deleted has bytes left.
 pub fn is_kept(turn: &Turn<'_>, side: Side, session: &Session) -> bool
     requires turn { IsTurn turn.now }
-    ensures { (x : Tried) → x.side ≡ side → IsSession session.now x.verdicts x.output → result ≡ is_kept (plain_turn turn.now) x }
+    ensures { (x : Tried) → x.side ≡ side → IsSession session.now x.verdicts x.text → result ≡ is_kept (plain_turn turn.now) x }
 {
-    turn.patch.deletes(side) && session.applied > 0 && !session.output_empty
+    is_taken_away(turn, side, session) && !session.output_empty
+}
+
+/// Whether its file is to be taken away.
+pub fn is_taken_away(turn: &Turn<'_>, side: Side, session: &Session) -> bool
+    requires turn { IsTurn turn.now }
+    ensures { (x : Tried) → x.side ≡ side → IsSession session.now x.verdicts x.text → result ≡ is_taken_away (plain_turn turn.now) x }
+{
+    if !takes_files(turn.options) {
+        return false;
+    }
+    if is_bare(turn.patch) {
+        acts_deleted(turn.patch, side)
+    } else {
+        turn.patch.deletes(side) && session.applied > 0
+    }
 }
 
 /// Says how many hunks failed, if some did.
@@ -188,7 +204,7 @@ fn say_rejected<O: Sink>(
 ) -> Result<(), Failed>
     requires turn { IsTurn turn.now }
     requires named { IsNamed target.now }
-    ensures writes { (x : Tried) → IsSession session.now x.verdicts x.output → Writes (O.view out.old) (O.view out.new) result (failures_said (plain_turn turn.now) target.now x) }
+    ensures writes { (x : Tried) → IsSession session.now x.verdicts x.text → Writes (O.view out.old) (O.view out.new) result (failures_said (plain_turn turn.now) target.now x) }
     ensures call { IsSinkCall (O.view out.old) (O.view out.new) result }
     ensures rest { O.same_rest out.old out.new }
 {

@@ -9,7 +9,7 @@ ghost use Rattle.patch_run.specs.OnePatch.{first_hunk, is_reversed, lacks_word, 
 ghost use Rattle.patch_run.specs.Starting.{Holds, Weighs, IsWithin};
 ghost use Rattle.patch_run.specs.TurnView.{plain_turn, IsTurn};
 
-use crate::choices::turns;
+use crate::choices::turns_round;
 use crate::starting::{Decision, skip_at};
 use crate::turn::Turn;
 use crate::word::has_word;
@@ -71,7 +71,7 @@ fn direct<P: LineStore, O: Sink>(
     if !is_reversed(turn, side, plan)? {
         return Ok(Decision::Try { place, side });
     }
-    let is_turned = turns(turn.options);
+    let is_turned = turns_round(turn);
     say_reversed(turn.options, is_turned, out)?;
     if is_turned {
         let side = side.other();

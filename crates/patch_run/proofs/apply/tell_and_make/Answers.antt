@@ -17,25 +17,25 @@ pub returns-in_err-tell-clause-broken : goal.returns-in_err-tell-clause-broken
 returns-in_err-tell-clause-broken g c =
     let u = g.T.Tree.view c.args.tree.now in
     on_err c.from_residual.result (λ f x told is.
-    tell_fails (plain_turn c.args.turn.now) c.args.target.now c.args.attempt.session c.args.side c.args.verdicts.now u u (g.O.Sink.view c.args.out.now) (g.O.Sink.view c.tell.new.out) f x c.requires.quiet
-    (λ output counts. (c.in_err-tell.ensures.writes output counts).failed) is)
+    tell_fails (plain_turn c.args.turn.now) c.args.source.now c.args.target.now c.args.attempt.session c.args.side c.args.verdicts.now u u (g.O.Sink.view c.args.out.now) (g.O.Sink.view c.tell.new.out) f x c.requires.quiet
+    (λ y side vs counts. (c.in_err-tell.ensures.writes y side vs counts).failed) is)
 
 pub returns-in-Some-clause-whole : goal.returns-in-Some-clause-whole
 returns-in-Some-clause-whole g c =
-    tell_made (plain_turn c.args.turn.now) c.args.target.now c.args.attempt.session c.args.side c.args.verdicts.now (g.T.Tree.view c.args.tree.now) (g.T.Tree.view c.make_effects.new.tree) (g.O.Sink.view c.args.out.now) (g.O.Sink.view c.tell.new.out)
-    c.in-Some.temp (subst (λ (o : Option Temp). IsBegun c.args.turn.now.options.now.dry_run o c.args.target.now.temp) c.in-Some.is c.requires.begun) (λ output counts. (c.in_ok-tell.ensures.writes output counts).received) c.make_effects.result c.make_effects.ensures.makes c.make_effects.ensures.gone c.make_effects.ensures.wrote c.make_effects.ensures.count
+    tell_made (plain_turn c.args.turn.now) c.args.source.now c.args.target.now c.args.attempt.session c.args.side c.args.verdicts.now (g.T.Tree.view c.args.tree.now) (g.T.Tree.view c.make_effects.new.tree) (g.O.Sink.view c.args.out.now) (g.O.Sink.view c.tell.new.out)
+    c.in-Some.temp (subst (λ (o : Option Temp). IsBegun c.args.turn.now.options.now.dry_run o c.args.target.now.temp) c.in-Some.is c.requires.begun) (λ y side vs counts. (c.in_ok-tell.ensures.writes y side vs counts).received) c.make_effects.result c.make_effects.ensures.makes c.make_effects.ensures.gone c.make_effects.ensures.wrote c.make_effects.ensures.count
 
 pub returns-in-Some-clause-broken : goal.returns-in-Some-clause-broken
 returns-in-Some-clause-broken g c =
-    tell_breaks (plain_turn c.args.turn.now) c.args.target.now c.args.attempt.session c.args.side c.args.verdicts.now (g.T.Tree.view c.args.tree.now) (g.T.Tree.view c.make_effects.new.tree) (g.O.Sink.view c.args.out.now) (g.O.Sink.view c.tell.new.out)
-    c.in-Some.temp (subst (λ (o : Option Temp). IsBegun c.args.turn.now.options.now.dry_run o c.args.target.now.temp) c.in-Some.is c.requires.begun) (λ output counts. (c.in_ok-tell.ensures.writes output counts).received) c.make_effects.result c.make_effects.ensures.makes
+    tell_breaks (plain_turn c.args.turn.now) c.args.source.now c.args.target.now c.args.attempt.session c.args.side c.args.verdicts.now (g.T.Tree.view c.args.tree.now) (g.T.Tree.view c.make_effects.new.tree) (g.O.Sink.view c.args.out.now) (g.O.Sink.view c.tell.new.out)
+    c.in-Some.temp (subst (λ (o : Option Temp). IsBegun c.args.turn.now.options.now.dry_run o c.args.target.now.temp) c.in-Some.is c.requires.begun) (λ y side vs counts. (c.in_ok-tell.ensures.writes y side vs counts).received) c.make_effects.result c.make_effects.ensures.makes
 
 pub returns-in-None-clause-whole : goal.returns-in-None-clause-whole
 returns-in-None-clause-whole g c f x told is =
     let u = g.T.Tree.view c.args.tree.now in
     let begun : IsBegun c.args.turn.now.options.now.dry_run None c.args.target.now.temp = subst (λ (o : Option Temp). IsBegun c.args.turn.now.options.now.dry_run o c.args.target.now.temp) c.in-None.is c.requires.begun in
-    tell_dry (plain_turn c.args.turn.now) c.args.target.now c.args.attempt.session c.args.side c.args.verdicts.now u u (g.O.Sink.view c.args.out.now) (g.O.Sink.view c.tell.new.out) f x begun c.requires.quiet told
-    (λ output counts. (c.in_ok-tell.ensures.writes output counts).received) is
+    tell_dry (plain_turn c.args.turn.now) c.args.source.now c.args.target.now c.args.attempt.session c.args.side c.args.verdicts.now u u (g.O.Sink.view c.args.out.now) (g.O.Sink.view c.tell.new.out) f x begun c.requires.quiet told
+    (λ y side vs counts. (c.in_ok-tell.ensures.writes y side vs counts).received) is
 
 pub returns-in_err-tell-clause-dry : goal.returns-in_err-tell-clause-dry
 returns-in_err-tell-clause-dry g c dry = untouched_none (g.T.Tree.view c.args.tree.now)
@@ -58,8 +58,8 @@ returns-in_err-tell-clause-order g c =
 
 pub returns-in-Some-clause-order : goal.returns-in-Some-clause-order
 returns-in-Some-clause-order g c =
-    tell_ordered (plain_turn c.args.turn.now) c.args.target.now c.args.attempt.session c.args.side c.args.verdicts.now (g.T.Tree.view c.args.tree.now) (g.T.Tree.view c.make_effects.new.tree) (g.O.Sink.view c.args.out.now) (g.O.Sink.view c.tell.new.out)
-    (λ output counts. (c.in_ok-tell.ensures.writes output counts).received) c.make_effects.result c.make_effects.ensures.goes.cause
+    tell_ordered (plain_turn c.args.turn.now) c.args.source.now c.args.target.now c.args.attempt.session c.args.side c.args.verdicts.now (g.T.Tree.view c.args.tree.now) (g.T.Tree.view c.make_effects.new.tree) (g.O.Sink.view c.args.out.now) (g.O.Sink.view c.tell.new.out)
+    (λ y side vs counts. (c.in_ok-tell.ensures.writes y side vs counts).received) c.make_effects.result c.make_effects.ensures.goes.cause
 
 pub returns-in-None-clause-tidy : goal.returns-in-None-clause-tidy
 returns-in-None-clause-tidy g c = tidy_none (g.T.Tree.view c.args.tree.now)

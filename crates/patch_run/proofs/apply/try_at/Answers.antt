@@ -6,7 +6,7 @@ use Rattle.hunk_apply.specs.Change.{change_verdicts}
 use Rattle.patch_set.specs.declared.set.Row.{Row}
 use Rattle.target_names.specs.declared.derived.Target.{Target}
 use Rattle.patch_effects.specs.declared.fault.RunFault.{RunFault}
-use Rattle.patch_run.specs.OnePatch.{bytes_of, lines_in, effects_of, tried, tried_said, finished, finished_at}
+use Rattle.patch_run.specs.OnePatch.{bytes_of, lines_in, written, effects_of, tried, tried_said, finished, finished_at}
 use Rattle.patch_run.specs.Doing.{IsDone, IsPartOf, IsOrdered}
 use Rattle.patch_run.specs.TurnView.{plain_turn}
 use Rattle.patch_run.proofs.Applying.{on_err, if_err, if_any, works_made, unmade, part_worked, tried_breaks, tried_ordered, tried_done}
@@ -21,11 +21,13 @@ returns-in_err-attempt-clause-broken g c =
     let u = g.T.Tree.view c.args.tree.now in
     let v = g.T.Tree.view c.try_hunks.new.tree in
     let d = g.O.Sink.view c.args.out.now in
+    let s = c.chosen-source.result.now in
     let w = c.written-target.result.now in
     on_err c.from_residual.result (λ f told lines.
     let x = tried t c.args.side (lines_in (bytes_of t f c.args.place)) in
-    subst (λ (y : Target). IsPartOf u v d d (effects_of t f y x) (tried_said t y x)) c.written-target.ensures.target
-    (part_worked w.temp d (effects_of t f w x) (tried_said t w x) c.written-target.ensures.named.temps.own c.in_err-attempt.ensures.works))
+    subst (λ (z : Target). IsPartOf u v d d (effects_of t f z (written t c.args.place) x) (tried_said t (written t c.args.place) x)) c.chosen-source.ensures.target
+    (subst (λ (y : Target). IsPartOf u v d d (effects_of t f s y x) (tried_said t y x)) c.written-target.ensures.target
+    (part_worked w.temp d (effects_of t f s w x) (tried_said t w x) c.written-target.ensures.named.temps.own c.in_err-attempt.ensures.works)))
 
 pub returns-in_err-made-clause-broken : goal.returns-in_err-made-clause-broken
 returns-in_err-made-clause-broken g c =
@@ -34,14 +36,16 @@ returns-in_err-made-clause-broken g c =
     let z = g.T.Tree.view c.tell_and_make.new.tree in
     let d = g.O.Sink.view c.args.out.now in
     let e = g.O.Sink.view c.tell_and_make.new.out in
+    let s = c.chosen-source.result.now in
     let w = c.written-target.result.now in
     let tries = c.in_ok-attempt.ensures in
     on_err c.from_residual-in_err-made.result (λ f told plan.
     let ls = lines_in (bytes_of t f c.args.place) in
     let x = tried t c.args.side ls in
-    subst (λ (y : Target). IsPartOf u z d e (effects_of t f y x) (tried_said t y x)) c.written-target.ensures.target
-    (tried_breaks t f w c.args.side ls c.in_ok-attempt.attempt.session c.try_hunks.new.verdicts c.written-target.ensures.named tries.works told (tries.verdicts ls plan) (tries.session ls plan) (tries.holds ls plan)
-    c.in_err-made.ensures.tree c.in_err-made.ensures.broken))
+    subst (λ (y : Target). IsPartOf u z d e (effects_of t f y (written t c.args.place) x) (tried_said t (written t c.args.place) x)) c.chosen-source.ensures.target
+    (subst (λ (y : Target). IsPartOf u z d e (effects_of t f s y x) (tried_said t y x)) c.written-target.ensures.target
+    (tried_breaks t f s w c.args.side ls c.in_ok-attempt.attempt.session c.try_hunks.new.verdicts c.chosen-source.ensures.named c.written-target.ensures.named tries.works told (tries.verdicts ls plan) (tries.session ls plan) (tries.holds ls plan)
+    c.in_err-made.ensures.tree c.in_err-made.ensures.broken)))
 
 pub returns-clause-whole : goal.returns-clause-whole
 returns-clause-whole g c f told plan =
@@ -50,14 +54,16 @@ returns-clause-whole g c f told plan =
     let z = g.T.Tree.view c.tell_and_make.new.tree in
     let d = g.O.Sink.view c.args.out.now in
     let e = g.O.Sink.view c.tell_and_make.new.out in
+    let s = c.chosen-source.result.now in
     let w = c.written-target.result.now in
     let tries = c.in_ok-attempt.ensures in
     let ls = lines_in (bytes_of t f c.args.place) in
     let x = tried t c.args.side ls in
     let same : (h : Files) → (g.T.Tree.view c.try_hunks.new.tree).told ≡ Some h → t.options.dry_run ≡ true → h ≡ f = λ h now dry. same_Some h f (sym now ∙ ap (λ s. (g.T.Tree.view s).told) (tries.dry dry) ∙ told) in
-    subst (λ (y : Target). IsDone u z d e c.done_of.result c.try_hunks.new.verdicts f (finished t f [] c.args.place (bytes_of t f c.args.place) y x)) c.written-target.ensures.target
-    (tried_done t f w c.args.side ls c.in_ok-attempt.attempt.session c.try_hunks.new.verdicts c.written-target.ensures.named tries.works told (tries.verdicts ls plan) (tries.session ls plan) (tries.holds ls plan)
-    c.args.place c.in_ok-made.made c.done_of.result same c.in_ok-made.ensures.whole c.done_of.ensures.row c.done_of.ensures.bad c.done_of.ensures.effects)
+    subst (λ (y : Target). IsDone u z d e c.done_of.result c.try_hunks.new.verdicts f (finished t f [] c.args.place (bytes_of t f c.args.place) y (written t c.args.place) x)) c.chosen-source.ensures.target
+    (subst (λ (y : Target). IsDone u z d e c.done_of.result c.try_hunks.new.verdicts f (finished t f [] c.args.place (bytes_of t f c.args.place) s y x)) c.written-target.ensures.target
+    (tried_done t f s w c.args.side ls c.in_ok-attempt.attempt.session c.try_hunks.new.verdicts c.chosen-source.ensures.named c.written-target.ensures.named tries.works told (tries.verdicts ls plan) (tries.session ls plan) (tries.holds ls plan)
+    c.args.place c.in_ok-made.made c.done_of.result same c.in_ok-made.ensures.whole c.done_of.ensures.row c.done_of.ensures.bad c.done_of.ensures.effects))
 
 pub returns-in_err-attempt-clause-dry : goal.returns-in_err-attempt-clause-dry
 returns-in_err-attempt-clause-dry g c dry =
@@ -88,6 +94,7 @@ returns-in_err-made-clause-order g c =
     let z = g.T.Tree.view c.tell_and_make.new.tree in
     let d = g.O.Sink.view c.args.out.now in
     let e = g.O.Sink.view c.tell_and_make.new.out in
+    let s = c.chosen-source.result.now in
     let w = c.written-target.result.now in
     let tries = c.in_ok-attempt.ensures in
     let fault = c.in_err-made.field-0.0 in
@@ -96,7 +103,7 @@ returns-in_err-made-clause-order g c =
     fault c.from_residual-in_err-made.result c.from_residual-in_err-made.ensures.1 (λ f told plan.
     let ls = lines_in (bytes_of t f c.args.place) in
     subst (λ (y : Target). IsOrdered fault u z d e (tried_said t y (tried t c.args.side ls))) c.written-target.ensures.target
-    (tried_ordered t f w c.args.side ls c.in_ok-attempt.attempt.session c.try_hunks.new.verdicts c.written-target.ensures.named tries.works told (tries.verdicts ls plan) (tries.session ls plan) (tries.holds ls plan)
+    (tried_ordered t f s w c.args.side ls c.in_ok-attempt.attempt.session c.try_hunks.new.verdicts c.chosen-source.ensures.named c.written-target.ensures.named tries.works told (tries.verdicts ls plan) (tries.session ls plan) (tries.holds ls plan)
     d e fault c.in_err-made.ensures.tree c.in_err-made.ensures.order))
 
 pub returns-in_err-attempt-clause-tidy : goal.returns-in_err-attempt-clause-tidy

@@ -1,58 +1,51 @@
-use Rattle.std.proofs.Common.{ℕ, List, Ok, Err, refl, sym, ◌∙◌}
-use Rattle.hunk_core.specs.declared.Side.{Side}
-use Rattle.hunk_core.specs.declared.Verdict.{Verdict}
-use Rattle.patch_run.specs.OnePatch.{Tried, effects_of, reject_effects}
+use Rattle.std.proofs.Common.{Ok, Err, sym, ◌∙◌}
+use Rattle.patch_run.specs.OnePatch.{effects_of, reject_effects}
 use Rattle.patch_run.specs.TurnView.{plain_turn}
 use Rattle.patch_effects.proofs.Making.{makes_both, makes_stops, makes_fault, makes_value}
-use Rattle.patch_run.proofs.Writing.{effects_split, effects_as, effects_count, wrote_as}
+use Rattle.patch_run.proofs.Writing.{effects_split, effects_on, effects_count, wrote_as}
 use Rattle.patch_effects.proofs.Tidy.{tidy_both}
 use Rattle.patch_effects.proofs.Passing.{if_ok_none, on_ok_none}
 use Rattle.patch_run.proofs.effects.make_effects.Goals as goal
 
-abbrev came : Side → List Verdict → List ℕ → Tried
-came side verdicts output = record { side = side; verdicts = verdicts; output = output }
-
 pub returns-in_err-made-clause-makes : goal.returns-in_err-made-clause-makes
-returns-in_err-made-clause-makes g c output session holds =
+returns-in_err-made-clause-makes g c x side vs session holds =
     let t = plain_turn c.args.turn.now in
+    let s = c.args.source.now in
     let w = c.args.target.now in
-    let x = came c.args.side c.args.verdicts.now output in
-    makes_stops c.in_err-made.field-0.0 c.from_residual.result (λ f. reject_effects t w x) _ c.from_residual.ensures.1 (c.in_err-made.ensures.makes x refl session holds)
-    (λ f told. effects_split t f w x c.requires.wet)
+    makes_stops c.in_err-made.field-0.0 c.from_residual.result (λ f. reject_effects t w x) _ c.from_residual.ensures.1 (c.in_err-made.ensures.makes x side session holds)
+    (λ f told. effects_split t f s w x c.requires.wet)
 
 pub returns-in_err-put_rejects-clause-makes : goal.returns-in_err-put_rejects-clause-makes
-returns-in_err-put_rejects-clause-makes g c output session holds =
+returns-in_err-put_rejects-clause-makes g c x side vs session holds =
     let t = plain_turn c.args.turn.now in
+    let s = c.args.source.now in
     let w = c.args.target.now in
-    let x = came c.args.side c.args.verdicts.now output in
     let first = c.in_ok-made.ensures in
     let second = c.in_err-put_rejects.ensures in
     makes_fault c.in_err-put_rejects.field-0.0 c.from_residual-in_err-put_rejects.result c.from_residual-in_err-put_rejects.ensures.1
-    (makes_both c.in_ok-made.made (Err c.in_err-put_rejects.field-0.0) (λ f. effects_of t f w x) first.goes.passes second.goes.passes (first.makes x refl session holds) second.makes
-    (λ f h told now made. effects_as t f w x c.requires.wet c.is_rejected-rejected.result (c.is_rejected-rejected.ensures.rejected x.verdicts session.failed)))
+    (makes_both c.in_ok-made.made (Err c.in_err-put_rejects.field-0.0) (λ f. effects_of t f s w x) first.goes.passes second.goes.passes (first.makes x side session holds) second.makes
+    (λ f h told now made. effects_on t f s w x c.requires.wet c.is_rejected-rejected.result c.args.side c.args.verdicts.now side vs (c.is_rejected-rejected.ensures.rejected x.verdicts session.failed)))
 
 pub returns-clause-makes : goal.returns-clause-makes
-returns-clause-makes g c output session holds =
+returns-clause-makes g c x side vs session holds =
     let t = plain_turn c.args.turn.now in
+    let s = c.args.source.now in
     let w = c.args.target.now in
-    let x = came c.args.side c.args.verdicts.now output in
     let first = c.in_ok-made.ensures in
     let second = c.in_ok-put_rejects.ensures in
     makes_value c.in_ok-put_rejects.field-0 c.with_reject.result
-    (makes_both c.in_ok-made.made (Ok c.in_ok-put_rejects.field-0) (λ f. effects_of t f w x) first.goes.passes second.goes.passes (first.makes x refl session holds) second.makes
-    (λ f h told now made. effects_as t f w x c.requires.wet c.is_rejected-rejected.result (c.is_rejected-rejected.ensures.rejected x.verdicts session.failed)))
+    (makes_both c.in_ok-made.made (Ok c.in_ok-put_rejects.field-0) (λ f. effects_of t f s w x) first.goes.passes second.goes.passes (first.makes x side session holds) second.makes
+    (λ f h told now made. effects_on t f s w x c.requires.wet c.is_rejected-rejected.result c.args.side c.args.verdicts.now side vs (c.is_rejected-rejected.ensures.rejected x.verdicts session.failed)))
 
 pub returns-clause-wrote : goal.returns-clause-wrote
-returns-clause-wrote g c f output told session =
-    let x = came c.args.side c.args.verdicts.now output in
-    c.with_reject.ensures.wrote ∙ c.in_ok-made.ensures.wrote f x told refl session ∙ sym (wrote_as (plain_turn c.args.turn.now) f c.args.target.now x c.requires.wet)
+returns-clause-wrote g c f x told side vs session =
+    c.with_reject.ensures.wrote ∙ c.in_ok-made.ensures.wrote f x told side session ∙ sym (wrote_as (plain_turn c.args.turn.now) f c.args.source.now c.args.target.now x c.requires.wet)
 
 pub returns-clause-count : goal.returns-clause-count
-returns-clause-count g c f output told session =
-    let x = came c.args.side c.args.verdicts.now output in
+returns-clause-count g c f x told side vs session =
     c.with_reject.ensures.effects
-    ∙ effects_count (plain_turn c.args.turn.now) f c.args.target.now x c.requires.wet c.is_rejected-rejected.result c.in_ok-made.made.effects (c.is_rejected-rejected.ensures.rejected x.verdicts session.failed)
-    (c.in_ok-made.ensures.count f x told refl session)
+    ∙ effects_count (plain_turn c.args.turn.now) f c.args.source.now c.args.target.now x c.requires.wet c.is_rejected-rejected.result c.in_ok-made.made.effects (c.is_rejected-rejected.ensures.rejected x.verdicts session.failed)
+    (c.in_ok-made.ensures.count f x told side session)
 
 pub returns-clause-tidy : goal.returns-clause-tidy
 returns-clause-tidy g c = tidy_both (g.T.Tree.view c.args.tree.now) (g.T.Tree.view c.write_target.new.tree) (g.T.Tree.view c.put_rejects.new.tree) c.in_ok-made.ensures.goes.passes c.in_ok-made.ensures.tidy c.in_ok-put_rejects.ensures.tidy

@@ -1,5 +1,7 @@
 use Rattle.patch_run.proofs.DoneNone.{skipped_ignored, dry_effects, dry_files}
 use Rattle.patch_run.proofs.BackedUp.{backed_once}
+use Rattle.patch_run.proofs.Renaming.{renamed}
+use Rattle.patch_run.proofs.Forcing.{forced_nameless}
 use Rattle.patch_run.proofs.laws.run_laws.Goals as goal
 
 pub returns-clause-skipped : goal.returns-clause-skipped
@@ -12,4 +14,10 @@ pub returns-clause-same : goal.returns-clause-same
 returns-clause-same c o output items files dry = dry_files o output items files dry
 
 pub returns-clause-once : goal.returns-clause-once
-returns-clause-once c o output front behind i j files w vs going has = backed_once o output front behind i j files w vs going has
+returns-clause-once c o output front behind i j files w other vs going has = backed_once o output front behind i j files w other vs going has
+
+pub returns-clause-renamed : goal.returns-clause-renamed
+returns-clause-renamed c t files s w x named moving is = renamed t files s w x named moving is
+
+pub returns-clause-forced : goal.returns-clause-forced
+returns-clause-forced c t files forced is = forced_nameless t files forced is

@@ -22,7 +22,7 @@ invariant-loop-k g l =
       same : StaysSet l.fn.set l.set;
       rows : length l.set.rows ≡ length l.set.patches;
       long : length l.verdicts ≡ hunks_in l.set.patches;
-      few : l.effects ≤ 3 * l.k;
+      few : l.effects ≤ 5 * l.k;
       goes : Goes u v a b c d;
       rest : g.O.Sink.same_rest l.fn.out l.out;
       dry : o.dry_run ≡ true → IsUntouched u v;

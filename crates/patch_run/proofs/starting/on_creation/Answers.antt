@@ -1,7 +1,7 @@
-use Rattle.std.proofs.Common.{◌≡◌, ℕ, List, Option, Bool, true, false, not, ◌&&◌, ◌||◌, if◌then◌else◌, sym, ◌∙◌, ap}
+use Rattle.std.proofs.Common.{◌≡◌, ℕ, Bool, true, false, not, ◌||◌, if◌then◌else◌, sym, ◌∙◌, ap}
 use Rattle.hunk_core.specs.declared.Side.{Side}
-use Rattle.file_patch.specs.Absent.{creates}
-use Rattle.patch_run.specs.OnePatch.{PlainTurn, bytes_of, has_bytes, on_taking, on_existing, on_creation}
+use Rattle.outside.specs.Files.{Files}
+use Rattle.patch_run.specs.OnePatch.{PlainTurn, bytes_of, is_in_the_way, on_taking, on_existing, on_creation}
 use Rattle.patch_run.specs.TurnView.{plain_turn}
 use Rattle.patch_run.proofs.StartSteps.{starts_failed, starts_after, starts_is}
 use Rattle.patch_run.proofs.starting.on_creation.Goals as goal
@@ -14,9 +14,9 @@ way_free way force value free is = is ∙ ap not free ∙ ap (λ (x : Bool). not
 way_taken : (way force value : Bool) → way ≡ true → value ≡ force → value ≡ (not way || force)
 way_taken way force value taken is = is ∙ ap (λ (x : Bool). not x || force) (sym taken)
 
-module _ (t : PlainTurn) (place : ℕ) (bytes : Option (List ℕ)) (side : Side) (way : Bool) (is : way ≡ (creates side t.item.patch && has_bytes bytes)) where
-  chosen : (b : Bool) → (not way || t.options.force) ≡ b → (if b then on_taking t place bytes false side else on_existing t place bytes side) ≡ on_creation t place bytes side
-  chosen b test = sym (ap (λ (x : Bool). if x then on_taking t place bytes false side else on_existing t place bytes side) (ap (λ (x : Bool). not x || t.options.force) (sym is) ∙ test))
+module _ (t : PlainTurn) (f : Files) (place : ℕ) (side : Side) (way : Bool) (is : way ≡ is_in_the_way t f place side) where
+  chosen : (b : Bool) → (not way || t.options.force) ≡ b → (if b then on_taking t place (bytes_of t f place) false side else on_existing t place (bytes_of t f place) side) ≡ on_creation t f place side
+  chosen b test = sym (ap (λ (x : Bool). if x then on_taking t place (bytes_of t f place) false side else on_existing t place (bytes_of t f place) side) (ap (λ (x : Bool). not x || t.options.force) (sym is) ∙ test))
 
 pub returns-in-Err-clause-starts : goal.returns-in-Err-clause-starts
 returns-in-Err-clause-starts g c = starts_failed _ _ _ c.is_in_the_way.ensures.untouched c.in-Err.ensures.cause
@@ -31,8 +31,8 @@ returns-then-turn-clause-starts g c =
       | then-not-is_in_the_way w ↦ way_free way t.options.force value w.if-not-is_in_the_way.true w.value-is
       | else-not-is_in_the_way w ↦ way_taken way t.options.force value w.if-not-is_in_the_way.false w.value-is
     ] in
-    starts_is c.on_taking.result (λ f. on_creation t place (bytes_of t f place) c.args.side) (starts_after c.on_taking.result c.is_in_the_way.ensures.untouched c.on_taking.ensures.starts)
-    (λ f told. chosen t place (bytes_of t f place) c.args.side way (c.in-Ok.ensures.way f told.0) true (sym test ∙ c.if-turn.true))
+    starts_is c.on_taking.result (λ f. on_creation t f place c.args.side) (starts_after c.on_taking.result c.is_in_the_way.ensures.untouched c.on_taking.ensures.starts)
+    (λ f told. chosen t f place c.args.side way (c.in-Ok.ensures.way f told.0) true (sym test ∙ c.if-turn.true))
 
 pub returns-else-turn-clause-starts : goal.returns-else-turn-clause-starts
 returns-else-turn-clause-starts g c =
@@ -44,5 +44,5 @@ returns-else-turn-clause-starts g c =
       | then-not-is_in_the_way w ↦ way_free way t.options.force value w.if-not-is_in_the_way.true w.value-is
       | else-not-is_in_the_way w ↦ way_taken way t.options.force value w.if-not-is_in_the_way.false w.value-is
     ] in
-    starts_is c.on_existing.result (λ f. on_creation t place (bytes_of t f place) c.args.side) (starts_after c.on_existing.result c.is_in_the_way.ensures.untouched c.on_existing.ensures.starts)
-    (λ f told. chosen t place (bytes_of t f place) c.args.side way (c.in-Ok.ensures.way f told.0) false (sym test ∙ c.if-turn.false))
+    starts_is c.on_existing.result (λ f. on_creation t f place c.args.side) (starts_after c.on_existing.result c.is_in_the_way.ensures.untouched c.on_existing.ensures.starts)
+    (λ f told. chosen t f place c.args.side way (c.in-Ok.ensures.way f told.0) false (sym test ∙ c.if-turn.false))

@@ -5,7 +5,7 @@ use Rattle.hunk_core.specs.declared.Side.{Side}
 use Rattle.hunk_core.specs.Turned.{other_side}
 use Rattle.say_text.specs.Messages.{silenced, exists_line}
 use Rattle.target_names.specs.declared.derived.Target.{Target}
-use Rattle.patch_run.specs.OnePatch.{PlainTurn, Start, bytes_of, exists_said, said_first, skips_at, on_taking, on_existing, shown, written, turns}
+use Rattle.patch_run.specs.OnePatch.{PlainTurn, Start, bytes_of, exists_said, said_first, skips_at, on_taking, on_existing, shown, written, turns_round}
 use Rattle.patch_run.specs.TurnView.{plain_turn}
 use Rattle.patch_run.proofs.StartSteps.{Begins, begins_first, begins_skips, starts_said, starts_unsaid, starts_is}
 use Rattle.patch_run.proofs.starting.on_existing.Goals as goal
@@ -22,10 +22,10 @@ begins_if false text x y first second = second
 
 module _ (t : PlainTurn) (place : ℕ) (bytes : Option (List ℕ)) (side : Side) where
   -- whether it is turned round or skipped
-  begins : Begins (exists_said t place (turns t.options)) (on_existing t place bytes side)
-  begins = begins_if (turns t.options) (exists_said t place) _ _ (begins_first (exists_said t place true) (on_taking t place bytes true (other_side side))) (begins_skips (exists_said t place false) _ None)
+  begins : Begins (exists_said t place (turns_round t)) (on_existing t place bytes side)
+  begins = begins_if (turns_round t) (exists_said t place) _ _ (begins_first (exists_said t place true) (on_taking t place bytes true (other_side side))) (begins_skips (exists_said t place false) _ None)
 
-  chosen : (b : Bool) → turns t.options ≡ b → (if b then said_first (exists_said t place true) (on_taking t place bytes true (other_side side)) else skips_at (exists_said t place false) place side None) ≡ on_existing t place bytes side
+  chosen : (b : Bool) → turns_round t ≡ b → (if b then said_first (exists_said t place true) (on_taking t place bytes true (other_side side)) else skips_at (exists_said t place false) place side None) ≡ on_existing t place bytes side
   chosen b is = sym (ap (λ (x : Bool). if x then said_first (exists_said t place true) (on_taking t place bytes true (other_side side)) else skips_at (exists_said t place false) place side None) is)
 
 pub returns-in_err-say_exists-clause-starts : goal.returns-in_err-say_exists-clause-starts
@@ -33,7 +33,7 @@ returns-in_err-say_exists-clause-starts g c =
     let t = plain_turn c.args.turn.now in
     let place = c.args.place in
     starts_unsaid _ _ c.in_err-say_exists.field-0.0 c.from_residual.result (λ f. on_existing t place (bytes_of t f place) c.args.side) c.from_residual.ensures.1
-    (said (Err c.in_err-say_exists.field-0.0) t place c.shown.result.now c.written.result.now c.turns-is_turned.result (turns t.options) c.in_err-say_exists.ensures.writes c.shown.ensures c.written.ensures.target c.turns-is_turned.ensures)
+    (said (Err c.in_err-say_exists.field-0.0) t place c.shown.result.now c.written.result.now c.turns_round-is_turned.result (turns_round t) c.in_err-say_exists.ensures.writes c.shown.ensures c.written.ensures.target c.turns_round-is_turned.ensures)
     (λ f. begins t place (bytes_of t f place) c.args.side)
 
 pub returns-then-is_turned-clause-starts : goal.returns-then-is_turned-clause-starts
@@ -42,6 +42,6 @@ returns-then-is_turned-clause-starts g c =
     let place = c.args.place in
     starts_is c.on_taking.result (λ f. on_existing t place (bytes_of t f place) c.args.side)
     (starts_said _ c.on_taking.result
-    (said (Ok c.in_ok-say_exists.field-0) t place c.shown.result.now c.written.result.now c.turns-is_turned.result true c.in_ok-say_exists.ensures.writes c.shown.ensures c.written.ensures.target c.if-is_turned.true)
+    (said (Ok c.in_ok-say_exists.field-0) t place c.shown.result.now c.written.result.now c.turns_round-is_turned.result true c.in_ok-say_exists.ensures.writes c.shown.ensures c.written.ensures.target c.if-is_turned.true)
     (rw c.other.ensures at c.on_taking.ensures.starts))
     (λ f told. chosen t place (bytes_of t f place) c.args.side true (sym c.if-is_turned.ensures))

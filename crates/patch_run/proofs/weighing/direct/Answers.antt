@@ -15,8 +15,8 @@ returns-in_err-say_reversed-clause-weighs g c =
     (λ bytes holds.
     direction-said (plain_turn c.args.turn.now) c.args.place bytes c.args.was_turned c.args.side c.if-turn.false c.if-was_turned.false
     (sym (c.in_ok-is_reversed.ensures.value (lines_in bytes) holds.0) ∙ c.if-not-branch.false)
-    ∙ ap (λ turned. silenced (plain_options c.args.turn.now.options.now) (reversed_line turned)) (sym c.turns-is_turned.ensures)
-    ∙ sym (append-nil (silenced (plain_options c.args.turn.now.options.now) (reversed_line c.turns-is_turned.result))))
+    ∙ ap (λ turned. silenced (plain_options c.args.turn.now.options.now) (reversed_line turned)) (sym c.turns_round-is_turned.ensures)
+    ∙ sym (append-nil (silenced (plain_options c.args.turn.now.options.now) (reversed_line c.turns_round-is_turned.result))))
 
 pub returns-in_err-is_reversed-clause-weighs : goal.returns-in_err-is_reversed-clause-weighs
 returns-in_err-is_reversed-clause-weighs g c =
