@@ -36,8 +36,8 @@ module _ (t : PlainTurn) (place : ℕ) (forced : t.options.force ≡ true) where
   goes_direction : (bytes : Option (List ℕ)) (was : Bool) (side : Side) → Goes (on_direction t place bytes was side)
   goes_direction bytes was side =
       subst Goes (sym (ap (λ (b : Bool). if b || was || not (is_reversed t.options (lines_in bytes) side (first_hunk t.item.patch.change)) then tries [] place side
-          else if turns_round t then tries (silenced t.options (reversed_line true)) place (other_side side)
-          else skips_at (silenced t.options (reversed_line false)) place side bytes) forced)) (λ is. is)
+      else if turns_round t then tries (silenced t.options (reversed_line true)) place (other_side side)
+      else skips_at (silenced t.options (reversed_line false)) place side bytes) forced)) (λ is. is)
 
   goes_taking : (bytes : Option (List ℕ)) (was : Bool) (side : Side) → Goes (on_taking t place bytes was side)
   goes_taking bytes was side =

@@ -22,4 +22,4 @@ mod Moving
 mod Renaming
 mod Parting
 mod Forcing
-mod Asking
+mod TestByTest

@@ -1,5 +1,5 @@
 -- Effects behind a look at the tree.
-use Rattle.std.proofs.Common.{◌≡◌, List, false, Some, Result, Err, refl, sym, ◌∙◌, ap}
+use Rattle.std.proofs.Common.{List, [], false, Result, Err, refl, sym, ◌∙◌, ap}
 use Rattle.std.proofs.lemmas.Option.{same_Some}
 use Rattle.outside.specs.Files.{Files}
 use Rattle.outside.specs.TreeView.{TreeView, Passes}

@@ -3,6 +3,8 @@ use Rattle.std.proofs.Common.{◌≡◌, ◌++◌, ◌+◌, ◌||◌, ◌&&◌, 
 use Rattle.std.proofs.lemmas.Bool.{false≢true}
 use Rattle.std.specs.FinMap.{get}
 use Rattle.outside.specs.Files.{Files}
+use Rattle.hunk_core.specs.declared.Side.{Side}
+use Rattle.hunk_core.specs.declared.Verdict.{Verdict}
 use Rattle.patch_options.specs.PlainJob.{PlainOptions}
 use Rattle.target_names.specs.declared.derived.Target.{Target}
 use Rattle.file_patch.specs.declared.Change.{Change}
@@ -65,6 +67,12 @@ module _ (t : PlainTurn) (f : Files) (s w : Target) (x : Tried) (wet : t.options
 
   pub effects_as : (rejected : Bool) → rejected ≡ has_rejects t x.verdicts → effects_of t f s w x ≡ written_effects t f s w x ++ put_if rejected w.reject (rejects_text t w x.side x.verdicts)
   effects_as rejected is = effects_split ∙ ap (λ (b : Bool). written_effects t f s w x ++ put_if b w.reject (rejects_text t w x.side x.verdicts)) (sym is)
+
+  pub effects_on : (rejected : Bool) (side : Side) (vs : List Verdict) → x.side ≡ side → x.verdicts ≡ vs → rejected ≡ has_rejects t x.verdicts → effects_of t f s w x ≡ written_effects t f s w x ++ put_if rejected w.reject (rejects_text t w side vs)
+  effects_on rejected side vs from same is =
+      effects_as rejected is
+      ∙ ap (λ (y : Side). written_effects t f s w x ++ put_if rejected w.reject (rejects_text t w y x.verdicts)) from
+      ∙ ap (λ (l : List Verdict). written_effects t f s w x ++ put_if rejected w.reject (rejects_text t w side l)) same
 
   pub wrote_as : wrote t f w x ≡ is_written t x && (not (is_removal t x) || is_some (get f w.name))
   unfolding wrote

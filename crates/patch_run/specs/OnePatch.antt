@@ -1,5 +1,5 @@
 -- What one file patch says and does, step by step (POSIX `patch`; GNU patch manual, "Invoking patch").
-use Rattle.std.specs.Prelude.{ℕ, List, [], ◌∷◌, ◌++◌, map, replicate, count_by, Bool, true, false, not, ◌&&◌, ◌||◌, nat_lt, if◌then◌else◌, bytes_eq, Option, None, Some, is_some, is_none, unwrap_or, option_map}
+use Rattle.std.specs.Prelude.{ℕ, List, [], ◌∷◌, ◌++◌, replicate, Bool, true, false, not, ◌&&◌, ◌||◌, if◌then◌else◌, bytes_eq, Option, None, Some, is_some, is_none, unwrap_or, option_map}
 use Rattle.std.specs.List.{list_any, flat_map, slice_split}
 use Rattle.std.specs.FinMap.{get}
 use Rattle.line_list.specs.Lines.{lines}

@@ -5,7 +5,6 @@ use Rattle.outside.specs.TreeView.{TreeView}
 use Rattle.outside.specs.SinkView.{SinkView, SinkPasses, Receives, ReceivesPart}
 use Rattle.outside.specs.SinkView as sink
 use Rattle.outside.specs.Calls.{IsUntouched}
-use Rattle.hunk_core.specs.declared.Side.{Side}
 use Rattle.name_choice.specs.declared.Choice.{Choice}
 use Rattle.name_choice.specs.declared.Choice.TheVariants.{Existing, Create, Nothing}
 use Rattle.line_store.specs.Store.{Seen, Keeps}

@@ -19,9 +19,9 @@ ghost use Rattle.patch_run.specs.Devices.{Told};
 ghost use Rattle.patch_effects.specs.Named.{IsNamed};
 ghost use Rattle.patch_run.specs.TurnView.{plain_turn, IsTurn};
 
+use crate::asking::is_bare;
 use crate::effects::make_effects;
 use crate::fill::{Attempt, try_hunks};
-use crate::asking::is_bare;
 use crate::names::{chosen, written};
 use crate::starting::{Decision, start};
 use crate::tell::{is_kept, tell};

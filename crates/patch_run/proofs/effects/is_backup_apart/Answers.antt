@@ -1,7 +1,7 @@
 use Rattle.std.proofs.Common.{not, sym, ◌∙◌, ap}
 use Rattle.std.proofs.lemmas.Bool.{false≢true}
 use Rattle.patch_run.specs.TurnView.{plain_turn}
-use Rattle.patch_run.proofs.Asking.{apart_moved, apart_put}
+use Rattle.patch_run.proofs.TestByTest.{apart_moved, apart_put}
 use Rattle.patch_run.proofs.effects.is_backup_apart.Goals as goal
 
 pub returns-then-renames-clause-apart : goal.returns-then-renames-clause-apart

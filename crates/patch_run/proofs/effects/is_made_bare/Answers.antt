@@ -1,6 +1,6 @@
 use Rattle.std.proofs.Common.{true, false, sym, ◌∙◌}
 use Rattle.patch_run.specs.TurnView.{plain_turn}
-use Rattle.patch_run.proofs.Asking.{made_new, made_moved, made_gone}
+use Rattle.patch_run.proofs.TestByTest.{made_new, made_moved, made_gone}
 use Rattle.patch_run.proofs.effects.is_made_bare.Goals as goal
 
 pub returns-then-acts_new : goal.returns-then-acts_new

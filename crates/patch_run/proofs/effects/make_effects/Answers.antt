@@ -1,8 +1,8 @@
-use Rattle.std.proofs.Common.{Ok, Err, refl, sym, ◌∙◌}
+use Rattle.std.proofs.Common.{Ok, Err, sym, ◌∙◌}
 use Rattle.patch_run.specs.OnePatch.{effects_of, reject_effects}
 use Rattle.patch_run.specs.TurnView.{plain_turn}
 use Rattle.patch_effects.proofs.Making.{makes_both, makes_stops, makes_fault, makes_value}
-use Rattle.patch_run.proofs.Writing.{effects_split, effects_as, effects_count, wrote_as}
+use Rattle.patch_run.proofs.Writing.{effects_split, effects_on, effects_count, wrote_as}
 use Rattle.patch_effects.proofs.Tidy.{tidy_both}
 use Rattle.patch_effects.proofs.Passing.{if_ok_none, on_ok_none}
 use Rattle.patch_run.proofs.effects.make_effects.Goals as goal
@@ -24,7 +24,7 @@ returns-in_err-put_rejects-clause-makes g c x side vs session holds =
     let second = c.in_err-put_rejects.ensures in
     makes_fault c.in_err-put_rejects.field-0.0 c.from_residual-in_err-put_rejects.result c.from_residual-in_err-put_rejects.ensures.1
     (makes_both c.in_ok-made.made (Err c.in_err-put_rejects.field-0.0) (λ f. effects_of t f s w x) first.goes.passes second.goes.passes (first.makes x side session holds) second.makes
-    (λ f h told now made. effects_as t f s w x c.requires.wet c.is_rejected-rejected.result (c.is_rejected-rejected.ensures.rejected x.verdicts session.failed)))
+    (λ f h told now made. effects_on t f s w x c.requires.wet c.is_rejected-rejected.result c.args.side c.args.verdicts.now side vs (c.is_rejected-rejected.ensures.rejected x.verdicts session.failed)))
 
 pub returns-clause-makes : goal.returns-clause-makes
 returns-clause-makes g c x side vs session holds =
@@ -35,7 +35,7 @@ returns-clause-makes g c x side vs session holds =
     let second = c.in_ok-put_rejects.ensures in
     makes_value c.in_ok-put_rejects.field-0 c.with_reject.result
     (makes_both c.in_ok-made.made (Ok c.in_ok-put_rejects.field-0) (λ f. effects_of t f s w x) first.goes.passes second.goes.passes (first.makes x side session holds) second.makes
-    (λ f h told now made. effects_as t f s w x c.requires.wet c.is_rejected-rejected.result (c.is_rejected-rejected.ensures.rejected x.verdicts session.failed)))
+    (λ f h told now made. effects_on t f s w x c.requires.wet c.is_rejected-rejected.result c.args.side c.args.verdicts.now side vs (c.is_rejected-rejected.ensures.rejected x.verdicts session.failed)))
 
 pub returns-clause-wrote : goal.returns-clause-wrote
 returns-clause-wrote g c f x told side vs session =

@@ -1,15 +1,18 @@
-use Rattle.std.proofs.Common.{Option, None, if◌then◌else◌, sym, ◌∙◌, ap}
+use Rattle.std.proofs.Common.{None, if◌then◌else◌, sym, ◌∙◌, ap}
 use Rattle.std.specs.Prelude.{slice_get}
 use Rattle.std.specs.Option.{option_and_then}
 use Rattle.patch_run.proofs.past.renamed_by.Goals as goal
 
 pub returns-then-not-renames : goal.returns-then-not-renames
-returns-then-not-renames c =
-    sym (ap (λ b. if b then option_and_then (slice_get c.args.earlier.now.patch.now.targets.items) c.args.earlier.now.row.target else None) (sym (c.renames.ensures c.args.turn.now.set.now.text) ∙ c.if-not-renames.true))
+returns-then-not-renames c = record {
+  target = sym (ap (λ b. if b then option_and_then (slice_get c.args.earlier.now.patch.now.targets.items) c.args.earlier.now.row.target else None) (sym (c.renames.ensures c.args.turn.now.set.now.text) ∙ c.if-not-renames.true));
+}
 
 pub returns : goal.returns
 returns c =
     let targets = c.args.earlier.now.patch.now.targets.items in
-    c.target_in.ensures.target
-    ∙ sym (ap (λ b. if b then option_and_then (slice_get targets) c.args.earlier.now.row.target else None) (sym (c.renames.ensures c.args.turn.now.set.now.text) ∙ c.if-not-renames.false)
-    ∙ ap (option_and_then (slice_get targets)) c.in_ok-place.was)
+    record {
+      target = c.target_in.ensures.target
+          ∙ sym (ap (λ b. if b then option_and_then (slice_get targets) c.args.earlier.now.row.target else None) (sym (c.renames.ensures c.args.turn.now.set.now.text) ∙ c.if-not-renames.false)
+          ∙ ap (option_and_then (slice_get targets)) c.in_ok-place.was);
+    }

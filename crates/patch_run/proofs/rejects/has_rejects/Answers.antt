@@ -1,4 +1,4 @@
-use Rattle.std.proofs.Common.{◌≡◌, ◌&&◌, not, sym, ◌∙◌, ap}
+use Rattle.std.proofs.Common.{◌&&◌, not, sym, ◌∙◌, ap}
 use Rattle.file_patch.specs.PlainPatch.{PlainChange}
 use Rattle.hunk_apply.specs.Session.{is_failed}
 use Rattle.patch_options.specs.PlainJob.{PlainOptions, plain_options}

@@ -1,6 +1,6 @@
 use Rattle.std.proofs.Common.{sym, ◌∙◌}
 use Rattle.patch_run.specs.TurnView.{plain_turn}
-use Rattle.patch_run.proofs.Asking.{taken_bare}
+use Rattle.patch_run.proofs.TestByTest.{taken_bare}
 use Rattle.patch_run.proofs.tell.is_taken_away.Goals as goal
 
 pub returns-then-is_bare : goal.returns-then-is_bare

@@ -1,6 +1,6 @@
 use Rattle.std.proofs.Common.{◌∙◌, ◌++◌, List, ℕ, [], sym, ap, subst}
-use Rattle.outside.specs.SinkView.{sink_passes_none, Receives, Writes}
-use Rattle.outside.proofs.Writing.{received_none, writes_is}
+use Rattle.outside.specs.SinkView.{sink_passes_none, Receives}
+use Rattle.outside.proofs.Writing.{received_none}
 use Rattle.patch_options.specs.PlainJob.{plain_options}
 use Rattle.say_text.specs.Messages.{silenced, prereq_line}
 use Rattle.patch_run.specs.OnePatch.{on_direction, on_prereq, prereq_said}

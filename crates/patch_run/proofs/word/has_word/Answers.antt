@@ -1,4 +1,4 @@
-use Rattle.std.proofs.Common.{◌≡◌, ◌∙◌, sym, arith, rules, length, List, ℕ}
+use Rattle.std.proofs.Common.{◌≡◌, ◌∙◌, sym, arith, length}
 use Rattle.line_store.proofs.StoreLemmas.{keeps-more}
 use Rattle.patch_run.proofs.Runs.{found-here, none-more, none-whole}
 use Rattle.patch_run.proofs.word.has_word.Goals as goal

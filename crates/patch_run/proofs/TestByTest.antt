@@ -1,5 +1,5 @@
 -- What a file patch asks for, test by test.
-use Rattle.std.proofs.Common.{◌≡◌, List, ℕ, Bool, true, false, not, ◌&&◌, ◌||◌, if◌then◌else◌, bytes_eq, refl, sym, ◌∙◌, ap}
+use Rattle.std.proofs.Common.{◌≡◌, Bool, true, false, not, ◌&&◌, ◌||◌, if◌then◌else◌, bytes_eq, ◌∙◌, ap}
 use Rattle.hunk_apply.specs.Written.{is_nothing}
 use Rattle.hunk_core.specs.declared.Side.{Side}
 use Rattle.file_patch.specs.Absent.{deletes}
