@@ -57,11 +57,11 @@ answer Unified 5 3 0 73 1 0 true false 0 0|None 1
 
 words patch -p1
 text diff --git a/e b/e|new file mode 100644|
-answer Unified 1 1 0 40 0 0 true false 0 0|None 1
+answer Unified 1 1 0 40 0 0 true false 0 0|None 0
 
 words patch -u -p1
 text diff --git a/x b/y|rename from x|rename to y|
-answer Unified 1 1 0 45 0 0 false false 0 1|None 2
+answer Unified 1 1 0 45 0 0 false false 0 1|None 0
 ";
 
 /// Texts of one hunk, of which a side is no file by its name or its stamp, or isn't.
