@@ -51,6 +51,10 @@ words patch -c
 text hello|--- /dev/null|+++ n|@@ -0,0 +1 @@|+x|junk|--- f\t1970-01-01 00:00:00 +0000|+++ f|@@ -1,2 +1 @@| a|-b|@@ -5 +4 @@|-c|+C|*** g|--- g|***************|*** 1 ****|! a|--- 1 ----|! b|1c1|< a|---|> b|2d|1a|x|.|garbage|
 answer Context 17 15 0 182 1 0 false false 0 0|None 1
 
+words patch --posix
+text diff --git a/f b/f|new file mode 100644|--- a/f|+++ b/f|@@ -0,0 +1 @@|+x|
+answer Unified 5 3 0 73 1 0 false false 0 0|None 1
+
 words patch
 text diff --git a/f b/f|new file mode 100644|--- a/f|+++ b/f|@@ -0,0 +1 @@|+x|
 answer Unified 5 3 0 73 1 0 true false 0 0|None 1
