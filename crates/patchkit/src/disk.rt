@@ -85,8 +85,10 @@ impl<'r, R: Files<File = File>> Tree for Disk<'r, R> {
 
     fn swap(&mut self, temp: &Name, to: &Name) -> Result<(), Failed> {
         let done = self.files.swap(Path::of(temp), Path::of(to));
-        let blamed = self.files.blamed(Path::of(to)).text;
-        keep_trouble(&mut self.trouble, self.alloc, blamed, &done);
+        if done.is_err() {
+            let blamed = self.files.blamed(Path::of(to)).text;
+            keep_trouble(&mut self.trouble, self.alloc, blamed, &done);
+        }
         counted(&mut self.faults, done)
     }
 
