@@ -4,7 +4,7 @@
 //! through one, is no file here, and nothing is written below it. What is written is never a link itself.
 ghost use Rattle.std.specs.Prelude.{◌≤◌, length, IfOk};
 
-use crate::fresh::{make_anew, make_directory, rights_of_new};
+use crate::fresh::{make_anew, make_directory, rights_of_new, take_away};
 use crate::looks::{Looks, open_same};
 use crate::origins::{Due, Origins, Seen, standing};
 use crate::paths::{
@@ -166,11 +166,24 @@ impl<'r, R: Files<File = File>> OpenFiles<'r, R> {
         fs::rename(self.rt, temp.text, to.text)
     }
 
-    /// The name that stands in the way of a swap: one that a temporary which is being filled can't take, else the one given.
-    pub fn blamed<'a>(&'a self, name: Path<'a>) -> Path<'a> {
+    /// The name that stands in the way of a swap that failed: one that a temporary which is being filled can't take, else the one
+    /// given.
+    pub fn blamed<'a>(&'a self, name: Path<'a>, failed: bool) -> Path<'a> {
+        if !failed {
+            return name;
+        }
         match self.origins.last() {
             Some(temp) if replaceable(self.rt, target_of(temp)).is_err() => target_of(temp),
             _ => name,
+        }
+    }
+
+    /// Takes a temporary away whose call failed, as far as the system lets it.
+    pub fn give_up(&mut self, temp: Path<'_>, failed: bool) {
+        if failed {
+            self.leave(temp.text);
+            self.origins.end(temp.text);
+            take_away(self.rt, temp);
         }
     }
 

@@ -1,6 +1,6 @@
 //! New files and directories, never through a link.
 
-use crate::paths::{Identity, Path, directory_found, found_at, no_file};
+use crate::paths::{Identity, Path, directory_found, found_at, no_file, plain_file_in};
 use crate::rights::Rights;
 use std::fs::{File, OpenFile, OpenOptions};
 use std::io::ErrorKind;
@@ -35,6 +35,13 @@ pub fn rights_of_new<R: Files<File = File>>(rt: &R, name: &str) -> io::Result<Ri
     let found = file.metadata();
     fs::remove_file(rt, name)?;
     Ok(Rights::of(&found?))
+}
+
+/// Takes a file away, if it is a regular one that is reached through directories alone, as far as the system lets it.
+pub fn take_away<R: Files>(rt: &R, path: Path<'_>) {
+    if let Ok(Some(_)) = plain_file_in(rt, path) {
+        let _ = fs::remove_file(rt, path.text);
+    }
 }
 
 /// Makes a directory.
