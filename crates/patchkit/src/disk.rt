@@ -68,25 +68,29 @@ impl<'r, R: Files<File = File>> Tree for Disk<'r, R> {
     fn start(&mut self, temp: &Name) -> Result<(), Failed> {
         let done = self.files.start(Path::of(temp));
         keep_trouble(&mut self.trouble, self.alloc, temp.text(), &done);
+        self.files.give_up(Path::of(temp), done.is_err());
         counted(&mut self.faults, done)
     }
 
     fn append(&mut self, temp: &Name, piece: &[u8]) -> Result<(), Failed> {
         let done = self.files.append(Path::of(temp), piece);
         keep_trouble(&mut self.trouble, self.alloc, temp.text(), &done);
+        self.files.give_up(Path::of(temp), done.is_err());
         counted(&mut self.faults, done)
     }
 
     fn seal(&mut self, temp: &Name) -> Result<(), Failed> {
         let done = self.files.seal(Path::of(temp));
         keep_trouble(&mut self.trouble, self.alloc, temp.text(), &done);
+        self.files.give_up(Path::of(temp), done.is_err());
         counted(&mut self.faults, done)
     }
 
     fn swap(&mut self, temp: &Name, to: &Name) -> Result<(), Failed> {
         let done = self.files.swap(Path::of(temp), Path::of(to));
-        let blamed = self.files.blamed(Path::of(to)).text;
+        let blamed = self.files.blamed(Path::of(to), done.is_err()).text;
         keep_trouble(&mut self.trouble, self.alloc, blamed, &done);
+        self.files.give_up(Path::of(temp), done.is_err());
         counted(&mut self.faults, done)
     }
 

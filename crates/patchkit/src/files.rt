@@ -4,16 +4,20 @@
 //! through one, is no file here, and nothing is written below it. What is written is never a link itself.
 ghost use Rattle.std.specs.Prelude.{◌≤◌, length, IfOk};
 
-use crate::origins::{Due, Origins, Seen};
+use crate::fresh::{make_anew, make_directory, rights_of_new, take_away};
+use crate::looks::{Looks, open_same};
+use crate::origins::{Due, Origins, Seen, standing};
 use crate::paths::{
-    Path, first_parts, found_at, no_file, plain_file, plain_metadata, replaced_file, target_of,
+    Identity, Path, directory_found, file_here, first_parts, found_at, is_plain_directory,
+    leads_to, no_file, not_a_directory, plain_file_in, replaceable, replaceable_here, target_of,
+    way,
 };
 use crate::rights::{Rights, give};
 use crate::unsynced::Directories;
 use std::alloc::Global;
 use std::fs::{File, OpenFile, OpenOptions};
 use std::io::{BufWriter, ErrorKind, Write};
-use std::os::unix::fs::{FileExt, OpenOptionsExt};
+use std::os::unix::fs::FileExt;
 use std::rt::Files;
 use std::{fs, io};
 
@@ -42,6 +46,7 @@ pub struct OpenFiles<'r, R: Files<File = File>> {
     reading: Option<Reading>,
     writing: Option<Writing>,
     origins: Origins,
+    looks: Looks,
     directories: Directories,
 }
 
@@ -53,13 +58,17 @@ impl<'r, R: Files<File = File>> OpenFiles<'r, R> {
             reading: None,
             writing: None,
             origins: Origins::new(alloc),
+            looks: Looks::new(alloc),
             directories: Directories::new(alloc),
         }
     }
 
     pub fn size(&mut self, name: Path<'_>) -> io::Result<Option<u64>> {
         self.write_out(name.text)?;
-        let found = plain_file(self.rt, name)?;
+        if self.origins.last().is_none() {
+            self.looks.forget_read();
+        }
+        let found = self.looks.file(self.rt, name)?;
         match found {
             Some(found) => {
                 self.origins.saw(Some(Seen::of(&found)), false);
@@ -80,6 +89,7 @@ impl<'r, R: Files<File = File>> OpenFiles<'r, R> {
         match &self.reading {
             Some(reading) => {
                 self.origins.saw(Some(reading.seen), true);
+                self.looks.read();
                 read_whole(&reading.file, at, buf)
             }
             None => Err(no_file()),
@@ -91,26 +101,20 @@ impl<'r, R: Files<File = File>> OpenFiles<'r, R> {
         if parts == 0 {
             return Ok(true);
         }
-        let directory = first_parts(name, parts);
-        match plain_metadata(self.rt, directory)? {
-            Some(found) => Ok(found.is_dir()),
-            None => Ok(false),
-        }
+        is_plain_directory(self.rt, first_parts(name, parts))
     }
 
-    /// Takes an old file of that name away, makes the directories that are missing, and a new file that is empty. Until it
-    /// is sealed, only its owner reads it.
+    /// Makes the directories that are missing, and a new file that is empty; an old one of that name is taken away. Until it is
+    /// sealed, only its owner reads it.
     pub fn start(&mut self, temp: Path<'_>) -> io::Result<()> {
         let name = temp.text;
         self.leave(name);
         self.finish_writing()?;
-        self.make_directories(temp)?;
+        self.enter_new(temp)?;
         let old = standing(self.rt, temp)?;
-        self.directories.note(self.rt, name)?;
         let kept = String::from_str(self.alloc, name)?;
-        remove_old(self.rt, name)?;
         let rights = self.due_rights(name, old)?;
-        let file = make_new(self.rt, name, 0o600)?;
+        let file = make_anew(self.rt, name, 0o600)?;
         let writer = BufWriter::with_capacity(self.alloc, PIECE, file)?;
         let started = String::from_str(self.alloc, name)?;
         self.origins.begin(started, temp.given, rights)?;
@@ -151,32 +155,51 @@ impl<'r, R: Files<File = File>> OpenFiles<'r, R> {
     pub fn swap(&mut self, temp: Path<'_>, to: Path<'_>) -> io::Result<()> {
         self.close(temp.text)?;
         self.close(to.text)?;
-        replaced_file(self.rt, self.blamed(to))?;
-        self.directories.note(self.rt, temp.text)?;
-        self.directories.note(self.rt, to.text)?;
+        if let Some(filled) = self.origins.last() {
+            replaceable(self.rt, target_of(filled))?;
+        }
+        self.enter(to)?;
+        if temp.parent() != to.parent() {
+            self.enter(temp)?;
+        }
+        replaceable_here(self.rt, to)?;
         fs::rename(self.rt, temp.text, to.text)
     }
 
-    /// The name that stands in the way of a swap: one that a temporary which is being filled can't take, else the one given.
-    pub fn blamed<'a>(&'a self, name: Path<'a>) -> Path<'a> {
+    /// The name that stands in the way of a swap that failed: one that a temporary which is being filled can't take, else the one
+    /// given.
+    pub fn blamed<'a>(&'a self, name: Path<'a>, failed: bool) -> Path<'a> {
+        if !failed {
+            return name;
+        }
         match self.origins.last() {
-            Some(temp) if replaced_file(self.rt, target_of(temp)).is_err() => target_of(temp),
+            Some(temp) if replaceable(self.rt, target_of(temp)).is_err() => target_of(temp),
             _ => name,
+        }
+    }
+
+    /// Takes a temporary away whose call failed, as far as the system lets it.
+    pub fn give_up(&mut self, temp: Path<'_>, failed: bool) {
+        if failed {
+            self.leave(temp.text);
+            self.origins.end(temp.text);
+            take_away(self.rt, temp);
         }
     }
 
     pub fn remove(&mut self, name: Path<'_>) -> io::Result<()> {
         self.close(name.text)?;
         self.origins.end(name.text);
-        if plain_file(self.rt, name)?.is_none() {
+        self.enter(name)?;
+        if file_here(self.rt, name)?.is_none() {
             return Err(no_file());
         }
-        self.directories.note(self.rt, name.text)?;
         fs::remove_file(self.rt, name.text)
     }
 
     /// Syncs each directory in which a name was made, moved or taken away.
     pub fn sync_directories(&mut self) -> io::Result<()> {
+        self.looks.forget();
         self.directories.sync()
     }
 
@@ -244,14 +267,30 @@ impl<'r, R: Files<File = File>> OpenFiles<'r, R> {
         if is_named(&self.reading, name.text) {
             return Ok(());
         }
-        let Some(found) = plain_file(self.rt, name)? else {
+        let (file, seen) = self.opened(name)?;
+        let name = String::from_str(self.alloc, name.text)?;
+        self.reading = Some(Reading { name, file, seen });
+        Ok(())
+    }
+
+    /// A regular file, opened, and what it is: the one that was looked at last where it is still that, else the name is looked at
+    /// anew.
+    fn opened(&mut self, name: Path<'_>) -> io::Result<(File, Seen)> {
+        match self.looks.kept(name) {
+            Some(file) => match open_same(self.rt, name.text, file)? {
+                Some(opened) => Ok(opened),
+                None => self.opened_anew(name),
+            },
+            None => self.opened_anew(name),
+        }
+    }
+
+    fn opened_anew(&mut self, name: Path<'_>) -> io::Result<(File, Seen)> {
+        let Some(found) = self.looks.file_anew(self.rt, name)? else {
             return Err(no_file());
         };
         let file = File::open(self.rt, name.text)?;
-        let name = String::from_str(self.alloc, name.text)?;
-        let seen = Seen::of(&found);
-        self.reading = Some(Reading { name, file, seen });
-        Ok(())
+        Ok((file, Seen::of(&found)))
     }
 
     /// Opens a temporary that was started, for what is to stand behind its bytes.
@@ -260,7 +299,7 @@ impl<'r, R: Files<File = File>> OpenFiles<'r, R> {
             return Ok(());
         }
         self.finish_writing()?;
-        if plain_file(self.rt, name)?.is_none() {
+        if plain_file_in(self.rt, name)?.is_none() {
             return Err(no_file());
         }
         let file = OpenOptions::new().append(true).open(self.rt, name.text)?;
@@ -270,23 +309,56 @@ impl<'r, R: Files<File = File>> OpenFiles<'r, R> {
         Ok(())
     }
 
-    /// Makes the directories of a name that are missing.
-    fn make_directories(&mut self, name: Path<'_>) -> io::Result<()> {
-        for (slash, _) in name.text.match_indices('/') {
-            if let Some(directory) = name.directory(slash) {
-                self.make_directory(directory)?;
-            }
+    /// Has the directory that a name stands in open, to be synced, where the last look led into it and the name still does.
+    fn enter_again(&mut self, name: Path<'_>) -> io::Result<bool> {
+        let Some(directory) = self.looks.directory(name) else {
+            return Ok(false);
+        };
+        if !leads_to(self.rt, name, directory) {
+            return Ok(false);
         }
-        Ok(())
+        self.directories.note(self.rt, name.parent(), directory)?;
+        Ok(true)
     }
 
-    fn make_directory(&mut self, directory: Path<'_>) -> io::Result<()> {
+    /// Has the directory that a name stands in open, to be synced. The name goes through directories alone.
+    fn enter(&mut self, name: Path<'_>) -> io::Result<()> {
+        if self.enter_again(name)? {
+            return Ok(());
+        }
+        match way(self.rt, name)? {
+            Some(directory) => self.directories.note(self.rt, name.parent(), directory),
+            None => Err(not_a_directory()),
+        }
+    }
+
+    /// The same, and makes the directories of the name that are missing.
+    fn enter_new(&mut self, name: Path<'_>) -> io::Result<()> {
+        if self.enter_again(name)? {
+            return Ok(());
+        }
+        let directory = self.make_directories(name)?;
+        self.directories.note(self.rt, name.parent(), directory)
+    }
+
+    /// Makes the directories of a name that are missing, and tells the last one.
+    fn make_directories(&mut self, name: Path<'_>) -> io::Result<Identity> {
+        let mut last = Identity::here();
+        for (slash, _) in name.text.match_indices('/') {
+            if let Some(directory) = name.directory(slash) {
+                last = self.reach_directory(directory, last)?;
+            }
+        }
+        Ok(last)
+    }
+
+    /// The directory, which is made in the one that it stands in, if it is missing.
+    fn reach_directory(&mut self, directory: Path<'_>, within: Identity) -> io::Result<Identity> {
         match found_at(self.rt, directory)? {
-            Some(found) if found.is_dir() => Ok(()),
-            Some(_) => Err(io::Error::new(ErrorKind::NotADirectory, "Not a directory")),
+            Some(found) => directory_found(&found),
             None => {
-                self.directories.note(self.rt, directory.text)?;
-                fs::create_dir(self.rt, directory.text)
+                self.directories.note(self.rt, directory.parent(), within)?;
+                make_directory(self.rt, directory)
             }
         }
     }
@@ -297,40 +369,6 @@ fn is_named(reading: &Option<Reading>, name: &str) -> bool {
         Some(reading) => reading.name.as_str() == name,
         None => false,
     }
-}
-
-/// The file that a temporary is to replace, where there is one.
-fn standing<R: Files>(rt: &R, temp: Path<'_>) -> io::Result<Option<Seen>> {
-    match plain_file(rt, target_of(temp))? {
-        Some(found) => Ok(Some(Seen::of(&found))),
-        None => Ok(None),
-    }
-}
-
-/// Takes away what an earlier run left.
-fn remove_old<R: Files>(rt: &R, name: &str) -> io::Result<()> {
-    match fs::remove_file(rt, name) {
-        Err(error) if error.kind() == ErrorKind::NotFound => Ok(()),
-        done => done,
-    }
-}
-
-/// A new file, never through a link.
-fn make_new<R: Files>(rt: &R, name: &str, mode: u32) -> io::Result<R::File> {
-    OpenOptions::new()
-        .write(true)
-        .create_new(true)
-        .mode(mode)
-        .open(rt, name)
-}
-
-/// The rights that the system gives to a new file here, as one that is taken away at once tells. Nothing tells the mask of
-/// permission bits without a change of it.
-fn rights_of_new<R: Files<File = File>>(rt: &R, name: &str) -> io::Result<Rights> {
-    let file = make_new(rt, name, 0o666)?;
-    let found = file.metadata();
-    fs::remove_file(rt, name)?;
-    Ok(Rights::of(&found?))
 }
 
 /// Reads all that is there from a place on, up to the buffer's length.

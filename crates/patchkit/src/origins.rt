@@ -4,31 +4,30 @@
 //! the file just before its temporary is started, and a backup's bytes are read while its temporary is filled. So that file's
 //! rights are those that the new one gets, or the most that it gets.
 
-use crate::paths::Path;
+use crate::paths::{Identity, Path, file_here, target_of};
 use crate::rights::Rights;
 use std::alloc::{AllocError, Global};
 use std::fs::Metadata;
-use std::os::unix::fs::MetadataExt;
+use std::io;
+use std::rt::Files;
 
 /// A file that was looked at: which it is, and its rights.
 #[derive(Clone, Copy)]
 pub struct Seen {
-    device: u64,
-    number: u64,
+    identity: Identity,
     pub rights: Rights,
 }
 
 impl Seen {
     pub fn of(found: &Metadata) -> Seen {
         Seen {
-            device: found.dev(),
-            number: found.ino(),
+            identity: Identity::of(found),
             rights: Rights::of(found),
         }
     }
 
     fn is_same(self, other: Seen) -> bool {
-        self.device == other.device && self.number == other.number
+        self.identity.is_same(other.identity)
     }
 }
 
@@ -170,5 +169,13 @@ fn due_from(origin: Origin, old: Option<Seen>) -> Due {
                 Due::AtMost(rights)
             }
         }
+    }
+}
+
+/// The file that a temporary is to replace, where there is one. Its directory was seen to be one.
+pub fn standing<R: Files>(rt: &R, temp: Path<'_>) -> io::Result<Option<Seen>> {
+    match file_here(rt, target_of(temp))? {
+        Some(found) => Ok(Some(Seen::of(&found))),
+        None => Ok(None),
     }
 }

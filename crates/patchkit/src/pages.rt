@@ -4,12 +4,13 @@ ghost use Rattle.outside.specs.Silent.{silent_scratch};
 
 use crate::faults::counted;
 use crate::files::read_whole;
+use crate::fresh::make_anew;
 use crate::trouble::{Trouble, keep_trouble};
 use outside::{Failed, Scratch};
 use std::alloc::Global;
-use std::fs::{File, OpenOptions};
+use std::fs::File;
 use std::io::ErrorKind;
-use std::os::unix::fs::{FileExt, OpenOptionsExt};
+use std::os::unix::fs::FileExt;
 use std::rt::Files;
 use std::{fs, io};
 
@@ -77,17 +78,7 @@ fn empty<R: Files<File = File>>(rt: &R, kept: &mut Option<File>) -> io::Result<(
 /// A new file in place of an old one of that name, so that a planted link is never followed. Only its owner reads it, since
 /// it holds the lines of files that may be private.
 fn make_scratch<R: Files>(rt: &R) -> io::Result<R::File> {
-    match fs::remove_file(rt, NAME) {
-        Ok(()) => {}
-        Err(error) if error.kind() == ErrorKind::NotFound => {}
-        Err(error) => return Err(error),
-    }
-    OpenOptions::new()
-        .read(true)
-        .write(true)
-        .create_new(true)
-        .mode(0o600)
-        .open(rt, NAME)
+    make_anew(rt, NAME, 0o600)
 }
 
 impl<'r, R: Files<File = File>> Scratch for Pages<'r, R> {

@@ -6,8 +6,37 @@
 use outside::Name;
 use std::fs::Metadata;
 use std::io::ErrorKind;
+use std::os::unix::fs::MetadataExt;
 use std::rt::Files;
 use std::{fs, io};
+
+/// Which file or directory it is.
+#[derive(Clone, Copy)]
+pub struct Identity {
+    device: u64,
+    number: u64,
+}
+
+impl Identity {
+    pub fn of(found: &Metadata) -> Identity {
+        Identity {
+            device: found.dev(),
+            number: found.ino(),
+        }
+    }
+
+    /// The working directory, to which no name leads: it is never another one.
+    pub fn here() -> Identity {
+        Identity {
+            device: 0,
+            number: 0,
+        }
+    }
+
+    pub fn is_same(self, other: Identity) -> bool {
+        self.device == other.device && self.number == other.number
+    }
+}
 
 /// A name, or a directory that it goes through.
 #[derive(Clone, Copy)]
@@ -38,6 +67,20 @@ impl<'a> Path<'a> {
             given: self.given,
         })
     }
+
+    /// The directory that its last component stands in.
+    pub fn parent(self) -> &'a str {
+        match self.text.rsplit_once('/') {
+            Some(("", _)) => "/",
+            Some((path, _)) => path,
+            None => ".",
+        }
+    }
+
+    /// Whether the other one stands in the same directory, with as much of it given.
+    pub fn is_beside(self, other: Path<'_>) -> bool {
+        self.given == other.given && self.parent() == other.parent()
+    }
 }
 
 /// What stands at a path: what a link points to where the operator gave it, else the link itself.
@@ -65,33 +108,57 @@ fn is_missing(kind: ErrorKind) -> bool {
     kind == ErrorKind::NotFound || kind == ErrorKind::NotADirectory
 }
 
-/// Whether a path goes through directories alone.
-pub fn lies_in_directories<R: Files>(rt: &R, path: Path<'_>) -> io::Result<bool> {
+/// The directory that a path's last component stands in, where the path goes through directories alone.
+pub fn way<R: Files>(rt: &R, path: Path<'_>) -> io::Result<Option<Identity>> {
+    let mut last = Identity::here();
     for (slash, _) in path.text.match_indices('/') {
         if let Some(directory) = path.directory(slash) {
             match found_at(rt, directory)? {
-                Some(found) if found.is_dir() => {}
-                _ => return Ok(false),
+                Some(found) if found.is_dir() => last = Identity::of(&found),
+                _ => return Ok(None),
             }
         }
     }
-    Ok(true)
+    Ok(Some(last))
 }
 
-/// What stands at a path that goes through directories alone. One that can't be reached has nothing: a name longer than the
-/// system takes, or one behind a directory that can't be searched.
-pub fn plain_metadata<R: Files>(rt: &R, path: Path<'_>) -> io::Result<Option<Metadata>> {
+/// Whether the directory that a path's last component stands in is still this one.
+pub fn leads_to<R: Files>(rt: &R, path: Path<'_>, directory: Identity) -> bool {
+    let parent = path.parent();
+    if parent == "." {
+        return true;
+    }
+    match fs::metadata(rt, parent) {
+        Ok(found) => Identity::of(&found).is_same(directory),
+        Err(_) => false,
+    }
+}
+
+/// What stands at a path that goes through directories alone, and in which directory. One that can't be reached has nothing: a
+/// name longer than the system takes, or one behind a directory that can't be searched.
+fn plain_metadata_in<R: Files>(rt: &R, path: Path<'_>) -> io::Result<Option<(Identity, Metadata)>> {
     match reached(rt, path) {
         Err(error) if is_out_of_reach(error.kind()) => Ok(None),
         done => done,
     }
 }
 
-fn reached<R: Files>(rt: &R, path: Path<'_>) -> io::Result<Option<Metadata>> {
-    if !lies_in_directories(rt, path)? {
+fn reached<R: Files>(rt: &R, path: Path<'_>) -> io::Result<Option<(Identity, Metadata)>> {
+    let Some(directory) = way(rt, path)? else {
         return Ok(None);
+    };
+    match found_at(rt, path)? {
+        Some(found) => Ok(Some((directory, found))),
+        None => Ok(None),
     }
-    found_at(rt, path)
+}
+
+/// Whether a directory stands at a path that goes through directories alone.
+pub fn is_plain_directory<R: Files>(rt: &R, path: Path<'_>) -> io::Result<bool> {
+    match plain_metadata_in(rt, path)? {
+        Some((_, found)) => Ok(found.is_dir()),
+        None => Ok(false),
+    }
 }
 
 fn is_out_of_reach(kind: ErrorKind) -> bool {
@@ -100,25 +167,48 @@ fn is_out_of_reach(kind: ErrorKind) -> bool {
         || kind == ErrorKind::FilesystemLoop
 }
 
-/// The regular file at a path that goes through directories alone.
-pub fn plain_file<R: Files>(rt: &R, path: Path<'_>) -> io::Result<Option<Metadata>> {
-    match plain_metadata(rt, path)? {
-        Some(found) if found.is_file() => Ok(Some(found)),
+/// The regular file at a path that goes through directories alone, and the directory that it stands in.
+pub fn plain_file_in<R: Files>(rt: &R, path: Path<'_>) -> io::Result<Option<(Identity, Metadata)>> {
+    match plain_metadata_in(rt, path)? {
+        Some((directory, found)) if found.is_file() => Ok(Some((directory, found))),
         _ => Ok(None),
     }
 }
 
-/// The regular file that is to be replaced. Where anything else stands there, a link too, or on the way, that is an error.
-pub fn replaced_file<R: Files>(rt: &R, path: Path<'_>) -> io::Result<Option<Metadata>> {
-    if !lies_in_directories(rt, path)? {
-        return Err(io::Error::new(ErrorKind::NotADirectory, "Not a directory"));
+/// Whether the file at a path may be replaced: where anything but a regular file stands there, a link too, or on the way, that is
+/// an error.
+pub fn replaceable<R: Files>(rt: &R, path: Path<'_>) -> io::Result<()> {
+    match way(rt, path)? {
+        Some(_) => replaceable_here(rt, path),
+        None => Err(not_a_directory()),
     }
+}
+
+/// The same in a directory that was seen to be one.
+pub fn replaceable_here<R: Files>(rt: &R, path: Path<'_>) -> io::Result<()> {
     match found_itself(rt, path)? {
         Some(found) if !found.is_file() => Err(io::Error::new(
             ErrorKind::AlreadyExists,
             "Not a regular file",
         )),
-        found => Ok(found),
+        _ => Ok(()),
+    }
+}
+
+/// The regular file of that name in a directory that was seen to be one.
+pub fn file_here<R: Files>(rt: &R, path: Path<'_>) -> io::Result<Option<Metadata>> {
+    match found_itself(rt, path)? {
+        Some(found) if found.is_file() => Ok(Some(found)),
+        _ => Ok(None),
+    }
+}
+
+/// The directory that was found, or the error where something else was.
+pub fn directory_found(found: &Metadata) -> io::Result<Identity> {
+    if found.is_dir() {
+        Ok(Identity::of(found))
+    } else {
+        Err(not_a_directory())
     }
 }
 
@@ -133,6 +223,11 @@ pub fn target_of(temp: Path<'_>) -> Path<'_> {
 /// The answer where no regular file stands.
 pub fn no_file() -> io::Error {
     io::Error::new(ErrorKind::NotFound, "No such file or directory")
+}
+
+/// The answer where something on the way is no directory.
+pub fn not_a_directory() -> io::Error {
+    io::Error::new(ErrorKind::NotADirectory, "Not a directory")
 }
 
 /// The directory that the first components of a path are, or the path itself where it has no more than these.
