@@ -8,6 +8,8 @@ mod choosing;
 #[cfg(test)]
 mod counts;
 #[cfg(test)]
+mod flips;
+#[cfg(test)]
 mod git_headers;
 #[cfg(test)]
 mod jobs;
