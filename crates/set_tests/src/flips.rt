@@ -1,6 +1,6 @@
 //! Sets turned round, row by row.
 
-use crate::sets::options;
+use crate::sets::set;
 use flip_patch::{FlipFault, flip_patches};
 use mem_world::MemSink;
 use patch_set::PatchSet;
@@ -147,24 +147,7 @@ EdReverse { line: 9 }
 -c
 +d
 =
-Unfit { line: 8 }
-
-diff --git a/x b/y
-rename from x
-rename to y
-=
-Unfit { line: 1 }
-
-diff --git a/x b/y
-copy from x
-copy to y
---- a/x
-+++ b/y
-@@ -1 +1 @@
--a
-+b
-=
-Unfit { line: 6 }";
+Unfit { line: 8 }";
 
 fn is_refused(alloc: Global, fault: FlipFault, want: &str) -> Result<bool, Fail> {
     let said = format!(in alloc; "{fault:?}")?;
@@ -185,9 +168,6 @@ pub fn is_flipped(alloc: Global, row: &str) -> Result<bool, Fail> {
     let (text, want) = row.split_once("\n=\n").ok_or("a row")?;
     let mut bytes = Vec::from_slice(alloc, text.as_bytes())?;
     bytes.push(b'\n')?;
-    let options = options(alloc, "patch")?;
-    match patch_set::read_set(alloc, bytes, &options) {
-        Ok(set) => gives(alloc, &set, want),
-        Err(_) => Ok(false),
-    }
+    let set = set(alloc, bytes)?;
+    gives(alloc, &set, want)
 }
