@@ -1,10 +1,12 @@
 -- Which file patches can't be turned round, and what is said of the first one.
-use Rattle.std.specs.Prelude.{◌≡◌, ℕ, Bool, true, false, nat_lt, ◌||◌, List, [], ◌∷◌, Option, None, Some, option_map, find, Result, Ok, Err, IfErr, ◌×◌}
+use Rattle.std.specs.Prelude.{◌≡◌, ℕ, Bool, true, false, nat_lt, ◌||◌, List, [], ◌∷◌, Option, None, Some, map, option_map, find, Result, Err, IfErr}
 use Rattle.std.specs.Option.{option_or}
 use Rattle.outside.specs.SinkView.{SinkView}
-use Rattle.hunk_core.specs.PlainHunk.{PlainHunk}
 use Rattle.hunk_core.specs.Writing.{Puts}
 use Rattle.file_patch.specs.Actions.{is_moved}
+use Rattle.file_patch.specs.declared.Change.{Change}
+use Rattle.file_patch.specs.declared.Change.TheVariants.{Hunks, Script}
+use Rattle.file_patch.specs.declared.FilePatch.{FilePatch}
 use Rattle.file_patch.specs.PlainPatch.{PlainChange, PlainPatch, hunks, script}
 use Rattle.flip_patch.specs.declared.fault.FlipFault.{FlipFault}
 use Rattle.flip_patch.specs.declared.fault.FlipFault.TheVariants.{EdReverse, Unfit, Write}
@@ -14,19 +16,32 @@ abbrev pub is_script : PlainChange → Bool
 is_script (hunks hs) = false
 is_script (script es) = true
 
--- a hunk starts on the new side in front of the one before it
-abbrev pub starts_fall : List PlainHunk → Bool
+-- a start stands in front of the one before it
+abbrev pub starts_fall : List ℕ → Bool
 starts_fall [] = false
-starts_fall (h ∷ []) = false
-starts_fall (h ∷ i ∷ hs) = nat_lt i.new_start h.new_start || starts_fall (i ∷ hs)
+starts_fall (s ∷ []) = false
+starts_fall (s ∷ t ∷ ss) = nat_lt t s || starts_fall (t ∷ ss)
 
-abbrev pub new_starts_fall : PlainChange → Bool
-new_starts_fall (hunks hs) = starts_fall hs
-new_starts_fall (script es) = false
+-- the starts of the hunks on the new side
+abbrev pub new_starts : PlainChange → List ℕ
+new_starts (hunks hs) = map (λ h. h.new_start) hs
+new_starts (script es) = []
 
 -- turned round, the starts of its hunks would fall, or it has no hunk, or its file is renamed or copied
 abbrev pub is_unfit : PlainPatch → Bool
-is_unfit p = p.header.bare || (is_moved p.header.action || new_starts_fall p.change)
+is_unfit p = p.header.bare || (is_moved p.header.action || starts_fall (new_starts p.change))
+
+-- the same, told by the file patch itself
+abbrev pub told_script : Change → Bool
+told_script (Hunks hs) = false
+told_script (Script s) = true
+
+abbrev pub told_starts : Change → List ℕ
+told_starts (Hunks hs) = map (λ h. h.new_start) hs.items
+told_starts (Script s) = []
+
+abbrev pub told_unfit : FilePatch → Bool
+told_unfit p = p.header.bare || (is_moved p.header.action || starts_fall (told_starts p.change))
 
 -- the line of the opening of the first one that passes
 abbrev pub first_opening : (PlainPatch → Bool) → List PlainPatch → Option ℕ

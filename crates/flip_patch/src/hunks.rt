@@ -32,8 +32,8 @@ pub fn put_hunks<O: Sink>(text: &[u8], form: Form, hunks: &[Hunk], out: &mut O) 
     requires order { All (IsOrdered form) hunks.now }
     ensures { Puts O.view O.same_rest out.old out.new result (flat_map (hunk_text form) (map swapped (hunks_of text.now hunks.now))) }
 {
-    for hunk in hunks {
-        put_hunk(text, form, hunk, out)?;
+    for i in 0..hunks.len() {
+        put_hunk(text, form, &hunks[i], out)?;
     }
     Ok(())
 }

@@ -1,16 +1,15 @@
 //! The file patches that can't be turned round.
 
-ghost use Rattle.std.specs.Prelude.{◌≡◌, ℕ, List, All, find, map, option_map, true, false};
-ghost use Rattle.file_patch.specs.PlainPatch.{change_of, patch_of};
-ghost use Rattle.hunk_core.specs.PlainHunk.{hunks_of};
-ghost use Rattle.flip_patch.specs.Refusals.{first_opening, is_script, is_unfit, new_starts_fall, refused, starts_fall};
+ghost use Rattle.std.specs.Prelude.{◌≡◌, ℕ, List, find, map, option_map};
+ghost use Rattle.file_patch.specs.PlainPatch.{patch_of};
+ghost use Rattle.flip_patch.specs.Refusals.{refused, starts_fall, told_script, told_starts, told_unfit};
 
 use crate::fault::FlipFault;
 use file_patch::{Change, FilePatch};
 use hunk_core::Hunk;
 
 fn is_script(patch: &FilePatch) -> bool
-    ensures { (text : List ℕ) → result ≡ is_script (change_of text patch.now.change) }
+    ensures { result ≡ told_script patch.now.change }
 {
     match &patch.change {
         Change::Hunks(_) => false,
@@ -20,20 +19,21 @@ fn is_script(patch: &FilePatch) -> bool
 
 /// Whether a hunk starts on the new side in front of the one before it.
 fn starts_fall(hunks: &[Hunk]) -> bool
-    ensures { (text : List ℕ) → result ≡ starts_fall (hunks_of text hunks.now) }
+    ensures { result ≡ starts_fall (map (λ h. h.new_start) hunks.now) }
 {
     let mut last = 0;
-    for hunk in hunks {
-        if hunk.new_start < last {
+    for i in 0..hunks.len() {
+        let start = hunks[i].new_start;
+        if start < last {
             return true;
         }
-        last = hunk.new_start;
+        last = start;
     }
     false
 }
 
 fn new_starts_fall(change: &Change) -> bool
-    ensures { (text : List ℕ) → result ≡ new_starts_fall (change_of text change.now) }
+    ensures { result ≡ starts_fall (told_starts change.now) }
 {
     match change {
         Change::Hunks(hunks) => starts_fall(hunks),
@@ -42,7 +42,7 @@ fn new_starts_fall(change: &Change) -> bool
 }
 
 fn is_unfit(patch: &FilePatch) -> bool
-    ensures { (text : List ℕ) → result ≡ is_unfit (patch_of text patch.now) }
+    ensures { result ≡ told_unfit patch.now }
 {
     if patch.header.bare || patch.is_moved() {
         return true;
@@ -52,7 +52,7 @@ fn is_unfit(patch: &FilePatch) -> bool
 
 /// The opening of the first ed script.
 fn first_script(patches: &[FilePatch]) -> Option<u64>
-    ensures { (text : List ℕ) → result ≡ first_opening (λ p. is_script p.change) (map (patch_of text) patches.now) }
+    ensures { result ≡ option_map (λ p. p.header.opening) (find (λ p. told_script p.change) patches.now) }
 {
     let patch = patches.iter().find(|patch| is_script(patch))?;
     Some(patch.header.opening)
@@ -60,7 +60,7 @@ fn first_script(patches: &[FilePatch]) -> Option<u64>
 
 /// The opening of the first file patch that doesn't fit.
 fn first_unfit(patches: &[FilePatch]) -> Option<u64>
-    ensures { (text : List ℕ) → result ≡ first_opening is_unfit (map (patch_of text) patches.now) }
+    ensures { result ≡ option_map (λ p. p.header.opening) (find told_unfit patches.now) }
 {
     let patch = patches.iter().find(|patch| is_unfit(patch))?;
     Some(patch.header.opening)
@@ -73,6 +73,8 @@ pub fn refusal(patches: &[FilePatch]) -> Option<FlipFault>
     if let Some(line) = first_script(patches) {
         return Some(FlipFault::EdReverse { line });
     }
-    let line = first_unfit(patches)?;
-    Some(FlipFault::Unfit { line })
+    match first_unfit(patches) {
+        Some(line) => Some(FlipFault::Unfit { line }),
+        None => None,
+    }
 }

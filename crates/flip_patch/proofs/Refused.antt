@@ -1,0 +1,78 @@
+-- What file patches tell of themselves is what they stand for.
+use Rattle.std.proofs.Common.{◌≡◌, ℕ, zero, suc, ◌+◌, ◌<◌, ◌≤◌, Bool, true, false, cond, ◌||◌, List, [], ◌∷◌, length, get_or, map, drop, refl, sym, ap, ◌∙◌, arith, Option, None, Some}
+use Rattle.std.specs.Prelude.{find, nat_lt, option_map}
+use Rattle.std.specs.Option.{option_or}
+use Rattle.std.proofs.lemmas.List.{drop_more, drop_all, length-map}
+use Rattle.hunk_core.specs.declared.Hunk.{Hunk}
+use Rattle.hunk_core.specs.PlainHunk.{PlainHunk, hunk_of, hunks_of}
+use Rattle.file_patch.specs.declared.Change.{Change}
+use Rattle.file_patch.specs.declared.Change.TheVariants.{Hunks, Script}
+use Rattle.file_patch.specs.declared.FilePatch.{FilePatch}
+use Rattle.file_patch.specs.Actions.{is_moved}
+use Rattle.file_patch.specs.PlainPatch.{PlainPatch, change_of, patch_of}
+use Rattle.flip_patch.specs.declared.fault.FlipFault.{FlipFault}
+use Rattle.flip_patch.specs.declared.fault.FlipFault.TheVariants.{EdReverse, Unfit}
+use Rattle.flip_patch.specs.Refusals.{first_opening, is_script, is_unfit, new_starts, refused, starts_fall, told_script, told_starts, told_unfit}
+
+script-told : (text : List ℕ) (c : Change) → is_script (change_of text c) ≡ told_script c
+script-told text (Hunks hs) = refl
+script-told text (Script s) = refl
+
+starts-of : (text : List ℕ) (hs : List Hunk) → map (λ h. h.new_start) (hunks_of text hs) ≡ map (λ h. h.new_start) hs
+starts-of text [] = refl
+starts-of text (h ∷ hs) = ap (λ ss. h.new_start ∷ ss) (starts-of text hs)
+
+starts-told : (text : List ℕ) (c : Change) → new_starts (change_of text c) ≡ told_starts c
+starts-told text (Hunks hs) = starts-of text hs.items
+starts-told text (Script s) = refl
+
+unfit-told : (text : List ℕ) (p : FilePatch) → is_unfit (patch_of text p) ≡ told_unfit p
+unfit-told text p = ap (λ ss. p.header.bare || (is_moved p.header.action || starts_fall ss)) (starts-told text p.change)
+
+first-told : (test : PlainPatch → Bool) (told : FilePatch → Bool) (text : List ℕ) → ((p : FilePatch) → test (patch_of text p) ≡ told p) → (ps : List FilePatch) → first_opening test (map (patch_of text) ps) ≡ option_map (λ p. p.header.opening) (find told ps)
+first-told test told text same [] = refl
+first-told test told text same (p ∷ ps) =
+    ap (λ b. option_map (λ q. q.header.opening) (cond b (Some (patch_of text p)) (find test (map (patch_of text) ps)))) (same p)
+    ∙ by (told p) (first-told test told text same ps)
+  where
+    by : (b : Bool) → option_map (λ q. q.header.opening) (find test (map (patch_of text) ps)) ≡ option_map (λ q. q.header.opening) (find told ps)
+        → option_map (λ q. q.header.opening) (cond b (Some (patch_of text p)) (find test (map (patch_of text) ps))) ≡ option_map (λ q. q.header.opening) (cond b (Some p) (find told ps))
+    by true again = refl
+    by false again = again
+
+-- the refusal, by the first ed script and the first file patch that doesn't fit
+pub refused-is : (text : List ℕ) (ps : List FilePatch) → refused (map (patch_of text) ps) ≡ option_or (option_map EdReverse (option_map (λ p. p.header.opening) (find (λ p. told_script p.change) ps))) (option_map Unfit (option_map (λ p. p.header.opening) (find told_unfit ps)))
+refused-is text ps =
+    ap (λ o. option_or (option_map EdReverse o) (option_map Unfit (first_opening is_unfit (map (patch_of text) ps)))) (first-told (λ p. is_script p.change) (λ p. told_script p.change) text (λ p. script-told text p.change) ps)
+    ∙ ap (λ o. option_or (option_map EdReverse (option_map (λ p. p.header.opening) (find (λ p. told_script p.change) ps))) (option_map Unfit o)) (first-told is_unfit told_unfit text (unfit-told text) ps)
+
+-- ---- starts that fall
+
+-- one of these starts stands in front of the one before it, the first one behind this start
+abbrev pub falls_behind : ℕ → List ℕ → Bool
+falls_behind last [] = false
+falls_behind last (s ∷ ss) = nat_lt s last || falls_behind s ss
+
+falls-first : (s : ℕ) (ss : List ℕ) → starts_fall (s ∷ ss) ≡ falls_behind s ss
+falls-first s [] = refl
+falls-first s (t ∷ ss) = ap (λ b. nat_lt t s || b) (falls-first t ss)
+
+pub falls-all : (ss : List ℕ) → starts_fall ss ≡ falls_behind 0 ss
+falls-all [] = refl
+falls-all (s ∷ ss) = falls-first s ss
+
+abbrev pub starts_in : List Hunk → List ℕ
+starts_in hs = map (λ h. h.new_start) hs
+
+map-drop : (i : ℕ) (hs : List Hunk) → drop i (starts_in hs) ≡ starts_in (drop i hs)
+map-drop zero hs = refl
+map-drop (suc i) [] = refl
+map-drop (suc i) (h ∷ hs) = map-drop i hs
+
+pub falls-step : (hs : List Hunk) (i last : ℕ) (h : Hunk) → i < length hs → h ≡ get_or hs i h → falls_behind last (drop i (starts_in hs)) ≡ (nat_lt h.new_start last || falls_behind h.new_start (drop (i + 1) (starts_in hs)))
+falls-step hs i last h lt is =
+    ap (falls_behind last) (map-drop i hs ∙ ap starts_in (drop_more hs i h lt ∙ ap (λ x. x ∷ drop (i + 1) hs) (sym is)))
+    ∙ ap (λ ss. nat_lt h.new_start last || falls_behind h.new_start ss) (sym (map-drop (i + 1) hs))
+
+pub falls-end : (hs : List Hunk) (i last : ℕ) → length hs ≤ i → falls_behind last (drop i (starts_in hs)) ≡ false
+falls-end hs i last all = ap (falls_behind last) (map-drop i hs ∙ ap starts_in (drop_all i hs all))
