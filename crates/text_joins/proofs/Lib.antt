@@ -1,0 +1,9 @@
+pub mod Quiet
+pub mod Solid
+pub mod Spelling
+pub mod Joining
+pub mod Places
+pub mod HeaderLines
+pub mod LedLines
+pub mod Headers
+pub mod Standing

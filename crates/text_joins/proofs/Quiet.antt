@@ -1,0 +1,125 @@
+-- At a line at which nothing stands, nothing stands before other lines that look alike: those in front see no more of them than how the first begins, and whether one is '.'.
+use Rattle.std.proofs.Common.{◌≡◌, ◌⊎◌, inl, inr, Bool, true, false, cond, not, ◌&&◌, ◌||◌, ℕ, List, [], ◌∷◌, ◌++◌, Option, None, refl, sym, ap, ◌∙◌}
+use Rattle.std.specs.Prelude.{codes}
+use Rattle.std.specs.List.{list_any}
+use Rattle.std.proofs.lemmas.List.Folds.{list_any-append}
+use Rattle.hunk_core.specs.declared.Form.{Form}
+use Rattle.hunk_core.specs.declared.Form.TheVariants.{Unified, Context, Normal, Ed}
+use Rattle.unified_form.specs.Hunks as unified
+use Rattle.context_form.specs.Openings.{is_stars, begins_old}
+use Rattle.normal_form.specs.Commands as normal
+use Rattle.normal_form.specs.Hunks.{begins_marked}
+use Rattle.ed_form.specs.Commands.{is_command}
+use Rattle.patch_header.specs.Content.{is_dot, has_dot}
+use Rattle.patch_header.specs.GitHeaders.{starts, is_git_line, is_extended, extended_run, behind_run, action_of, is_plain, has_new_name, has_names, begins_bare}
+use Rattle.patch_header.specs.Openings.{admits, asks_dot, opens, stops_binary, stops_bare, stop_at}
+use Rattle.patch_header.specs.Steps.{AreQuiet}
+use Rattle.patch_header.specs.declared.ways.Ways.{Ways}
+use Rattle.patch_header.proofs.Stands.{nothing-words}
+
+-- lines that look alike to those in front of them
+pub record LookAlike (rest other : List (List ℕ)) : Type 0 where
+  pub marked : begins_marked rest ≡ begins_marked other
+  pub ranged : begins_old rest ≡ begins_old other
+  pub hunk : unified.begins_hunk rest ≡ unified.begins_hunk other
+  pub new_name : has_new_name rest ≡ has_new_name other
+  pub names : has_names rest ≡ has_names other
+  pub run : extended_run rest ≡ extended_run other
+  pub behind : has_names (behind_run rest) ≡ has_names (behind_run other)
+
+module _ (rest other : List (List ℕ)) (same : LookAlike rest other) where
+  more-marked : (more : List (List ℕ)) → begins_marked (more ++ rest) ≡ begins_marked (more ++ other)
+  more-marked [] = same.marked
+  more-marked (m ∷ more) = refl
+
+  more-ranged : (more : List (List ℕ)) → begins_old (more ++ rest) ≡ begins_old (more ++ other)
+  more-ranged [] = same.ranged
+  more-ranged (m ∷ more) = refl
+
+  more-hunk : (more : List (List ℕ)) → unified.begins_hunk (more ++ rest) ≡ unified.begins_hunk (more ++ other)
+  more-hunk [] = same.hunk
+  more-hunk (m ∷ more) = refl
+
+  more-new : (more : List (List ℕ)) → has_new_name (more ++ rest) ≡ has_new_name (more ++ other)
+  more-new [] = same.new_name
+  more-new (m ∷ more) = ap (λ v. starts (codes "+++ ") m && v) (more-hunk more)
+
+  more-names : (more : List (List ℕ)) → has_names (more ++ rest) ≡ has_names (more ++ other)
+  more-names [] = same.names
+  more-names (m ∷ more) = ap (λ v. starts (codes "--- ") m && v) (more-new more)
+
+  more-run : (more : List (List ℕ)) → extended_run (more ++ rest) ≡ extended_run (more ++ other)
+  unfolding extended_run
+  more-run [] = same.run
+  more-run (m ∷ more) = ap (λ ls. cond (is_extended m) (m ∷ ls) []) (more-run more)
+
+  more-behind : (more : List (List ℕ)) → has_names (behind_run (more ++ rest)) ≡ has_names (behind_run (more ++ other))
+  unfolding behind_run
+  more-behind [] = same.behind
+  more-behind (m ∷ more) = by (is_extended m) (more-behind more)
+    where
+      by : (v : Bool) → has_names (behind_run (more ++ rest)) ≡ has_names (behind_run (more ++ other)) → has_names (cond v (behind_run (more ++ rest)) (m ∷ (more ++ rest))) ≡ has_names (cond v (behind_run (more ++ other)) (m ∷ (more ++ other)))
+      by true e = e
+      by false e = more-names (m ∷ more)
+
+  more-bare : (line : List ℕ) (more : List (List ℕ)) → begins_bare (line ∷ (more ++ rest)) ≡ begins_bare (line ∷ (more ++ other))
+  unfolding begins_bare
+  more-bare line more =
+      ap (λ v. is_git_line line && (not v && not (is_plain (action_of (extended_run (more ++ rest)))))) (more-behind more)
+      ∙ ap (λ ls. is_git_line line && (not (has_names (behind_run (more ++ other))) && not (is_plain (action_of ls)))) (more-run more)
+
+-- ---- a line '.'
+
+ed-shut : (a c q d e : Bool) → (q ≡ true → d ≡ false → e ≡ false) → (a && (c && (not q || d))) ≡ false → (a && (c && (not q || e))) ≡ false
+ed-shut false c q d e k h = refl
+ed-shut true false q d e k h = refl
+ed-shut true true false d e k h = h
+ed-shut true true true d e k h = k refl h
+
+pub or-left_no : (a b : Bool) → (a || b) ≡ false → a ≡ false
+or-left_no true b e = absurd cc
+or-left_no false b e = refl
+
+pub or-right_no : (a b : Bool) → (a || b) ≡ false → b ≡ false
+or-right_no true b e = absurd cc
+or-right_no false b e = e
+
+or-right_yes : (a b : Bool) → b ≡ true → (a || b) ≡ true
+or-right_yes true b e = refl
+or-right_yes false b e = e
+
+or-left_yes : (a b : Bool) → a ≡ true → (a || b) ≡ true
+or-left_yes true b e = refl
+or-left_yes false b e = absurd cc
+
+-- no line '.' comes in behind these
+dots-behind : (more rest other : List (List ℕ)) → (has_dot rest ≡ false → has_dot other ≡ false) → has_dot (more ++ rest) ≡ false → has_dot (more ++ other) ≡ false
+dots-behind more rest other k h =
+    let was : (has_dot more || has_dot rest) ≡ false = sym (list_any-append is_dot more rest) ∙ h in
+    list_any-append is_dot more other
+    ∙ ap (λ v. v || has_dot other) (or-left_no (has_dot more) (has_dot rest) was)
+    ∙ k (or-right_no (has_dot more) (has_dot rest) was)
+
+-- ---- a line, and a region
+
+quiet-line : (ways : Ways) (line : List ℕ) (more rest other : List (List ℕ)) → LookAlike rest other → (asks_dot ways.only line ≡ true → has_dot rest ≡ false → has_dot other ≡ false)
+    → stop_at ways (line ∷ (more ++ rest)) ≡ None → stop_at ways (line ∷ (more ++ other)) ≡ None
+quiet-line ways line more rest other same dots h = (nothing-words ways (line ∷ (more ++ other))).1 (form, none.1, sym (ap (λ v. ways.git && v) (more-bare rest other same line more)) ∙ none.2)
+  where
+    none : ((f : Form) → opens ways.only f (line ∷ (more ++ rest)) ≡ false) × (stops_binary ways (line ∷ (more ++ rest)) ≡ false) × (stops_bare ways (line ∷ (more ++ rest)) ≡ false)
+    none = (nothing-words ways (line ∷ (more ++ rest))).0 h
+
+    form : (f : Form) → opens ways.only f (line ∷ (more ++ other)) ≡ false
+    form Unified = none.0 Unified
+    form Context = ap (λ v. admits ways.only Context && (is_stars line && v)) (sym (more-ranged rest other same more)) ∙ none.0 Context
+    form Normal = ap (λ v. admits ways.only Normal && (normal.is_command line && v)) (sym (more-marked rest other same more)) ∙ none.0 Normal
+    form Ed = ed-shut (admits ways.only Ed) (is_command line) (asks_dot ways.only line) (has_dot (more ++ rest)) (has_dot (more ++ other)) (λ q. dots-behind more rest other (dots q)) (none.0 Ed)
+
+-- lines at which nothing stands stay so
+pub quiet-alike : (ways : Ways) (region rest other : List (List ℕ)) → LookAlike rest other → (list_any (asks_dot ways.only) region ≡ true → has_dot rest ≡ false → has_dot other ≡ false)
+    → AreQuiet ways region rest → AreQuiet ways region other
+quiet-alike ways [] rest other same dots h = tt
+quiet-alike ways (line ∷ more) rest other same dots h = (
+  quiet-line ways line more rest other same (λ q. dots (or-left_yes (asks_dot ways.only line) (list_any (asks_dot ways.only) more) q)) h.0,
+  quiet-alike ways more rest other same (λ q. dots (or-right_yes (asks_dot ways.only line) (list_any (asks_dot ways.only) more) q)) h.1,
+)

@@ -1,0 +1,4 @@
+pub mod Unnumbered
+pub mod Said
+pub mod Following
+pub mod Joins
