@@ -87,9 +87,9 @@ made lines fuzz state q r net (h ∷ hs) low room moved e bases apart last =
       old_base = omega (arith, long, apart.0);
       new_base = omega (arith, ints, long, apart.0, bases.0, moved);
       last = λ less.
-        let none : hs ≡ [] = last.0 less in
-        let all : rest ≡ [] = drop_all (base h + length (old_lines h.body) - 1) lines (omega (arith, at.last less)) in
-        (all, (sym (subst (λ ks. Turns (base h + length (old_lines h.body)) (base (swapped h) + length (new_lines h.body)) rest later.0 ks) none later.1) ∙ all, none));
+          let none : hs ≡ [] = last.0 less in
+          let all : rest ≡ [] = drop_all (base h + length (old_lines h.body) - 1) lines (omega (arith, at.last less)) in
+          (all, (sym (subst (λ ks. Turns (base h + length (old_lines h.body)) (base (swapped h) + length (new_lines h.body)) rest later.0 ks) none later.1) ∙ all, none));
     } in
     (front ++ (new_lines h.body ++ later.0), (front, (rest, (later.0, (t, later.1)))))
 

@@ -210,7 +210,7 @@ stands-spot lines fuzz h state at behind still =
     spot-place lines fuzz h state ∙ elim (cases_eq (length (old_lines h.body)) 0) [
       | inl none ↦ place-empty s fuzz none ∙ ap (at_guess (lowest s) (length lines + 1)) guess ∙ at-guess (lowest s) (length lines + 1) (base h) (omega (arith, behind)) (omega (arith, at.high))
       | inr some ↦ place-full s fuzz (min fuzz (context s)) some refl
-      ∙ fuzz-found s 0 (min fuzz (context s)) (base h) (omega arith)
-      (first-exact s (base h) guess (omega (arith, behind)) (omega (arith, at.high)) (on-fits lines (old_lines h.body) (drop (base h - 1 + length (old_lines h.body)) lines) (base h) at.low at.on)
-      (λ one. base-some h some ∙ one) (λ less. omega (arith, at.last less)))
+          ∙ fuzz-found s 0 (min fuzz (context s)) (base h) (omega arith)
+          (first-exact s (base h) guess (omega (arith, behind)) (omega (arith, at.high)) (on-fits lines (old_lines h.body) (drop (base h - 1 + length (old_lines h.body)) lines) (base h) at.low at.on)
+          (λ one. base-some h some ∙ one) (λ less. omega (arith, at.last less)))
     ]

@@ -35,8 +35,7 @@ turns-back q r old new (h ∷ hs) (front, (rest, (more, (t, ts)))) =
     let a : base (swapped h) + length (new_lines h.body) ≡ base (swapped h) + length (old_lines (swapped h).body) = ap (λ (ls : List (List ℕ)). base (swapped h) + length ls) (sym (swapped-old h)) in
     let b : base h + length (old_lines h.body) ≡ base (swapped (swapped h)) + length (new_lines (swapped h).body) =
     ap (λ (x : PlainHunk). base x + length (old_lines h.body)) (sym (swapped-twice h)) ∙ ap (λ (ls : List (List ℕ)). base (swapped (swapped h)) + length ls) (sym (swapped-new h)) in
-    let again = turns-back (base h + length (old_lines h.body)) (base (swapped h) + length (new_lines h.body)) rest more hs ts in
-    (
+    let again = turns-back (base h + length (old_lines h.body)) (base (swapped h) + length (new_lines h.body)) rest more hs ts in (
       front,
       (
         more,

@@ -27,7 +27,12 @@ fn put_hunk<O: Sink>(text: &[u8], form: Form, hunk: &Hunk, out: &mut O) -> Resul
 }
 
 /// Writes the hunks in their order.
-pub fn put_hunks<O: Sink>(text: &[u8], form: Form, hunks: &[Hunk], out: &mut O) -> Result<(), Failed>
+pub fn put_hunks<O: Sink>(
+    text: &[u8],
+    form: Form,
+    hunks: &[Hunk],
+    out: &mut O,
+) -> Result<(), Failed>
     requires lawful { All (IsLawful text.now) hunks.now }
     requires order { All (IsOrdered form) hunks.now }
     ensures { Puts O.view O.same_rest out.old out.new result (flat_map (hunk_text form) (map swapped (hunks_of text.now hunks.now))) }
