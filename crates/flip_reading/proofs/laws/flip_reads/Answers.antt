@@ -1,0 +1,7 @@
+use Rattle.flip_reading.proofs.Lines.{quiet-line, clean-line}
+use Rattle.flip_reading.proofs.Shown.{name-shows}
+use Rattle.flip_reading.proofs.Region.{regions-shown}
+use Rattle.flip_reading.proofs.laws.flip_reads.Goals as goal
+
+pub returns : goal.returns
+returns c = ?
