@@ -1,3 +1,6 @@
 mod Lines
 mod Shown
 mod Region
+mod Feeds
+mod Hunks
+mod Names

@@ -33,7 +33,7 @@ use Rattle.flip_reading.proofs.Lines.{closed, content-closed}
 abbrev pub Clean : List ℕ → Type 0
 Clean bs = AllByRecursion (λ b. b ≢ 10) bs
 
-clean-drop : (k : ℕ) (bs : List ℕ) → Clean bs → Clean (drop k bs)
+pub clean-drop : (k : ℕ) (bs : List ℕ) → Clean bs → Clean (drop k bs)
 clean-drop zero bs all = all
 clean-drop (suc k) [] all = tt
 clean-drop (suc k) (b ∷ bs) all = clean-drop k bs all.1
@@ -46,13 +46,13 @@ pub clean-both : (fs bs : List ℕ) → Clean fs → Clean bs → Clean (fs ++ b
 clean-both [] bs all also = also
 clean-both (f ∷ fs) bs all also = (all.0, clean-both fs bs all.1 also)
 
-line-clean : (bs : List ℕ) → IsLine (closed bs) → Clean bs
+pub line-clean : (bs : List ℕ) → IsLine (closed bs) → Clean bs
 line-clean [] l = tt
 line-clean (b ∷ []) l = (l.0, tt)
 line-clean (b ∷ c ∷ bs) l = (l.0, line-clean (c ∷ bs) l.1)
 
 -- a whole line is its content and a line feed
-line-parts : (line : List ℕ) → IsLine line → (bs : List ℕ) × (line ≡ closed bs)
+pub line-parts : (line : List ℕ) → IsLine line → (bs : List ℕ) × (line ≡ closed bs)
 line-parts [] l = absurd l
 line-parts (b ∷ []) l = ([], ap (λ x. x ∷ []) l)
 line-parts (b ∷ c ∷ bs) l = let more = line-parts (c ∷ bs) l.1 in (b ∷ more.0, ap (λ xs. b ∷ xs) more.1)
@@ -66,7 +66,7 @@ pub record IsRow (text : List ℕ) (r : Row) : Type 0 where
 abbrev pub AreRows : List ℕ → List Row → Type 0
 AreRows text rs = AllByRecursion (IsRow text) rs
 
-front-whole : (own : List (List ℕ)) (line : List ℕ) (more : List (List ℕ)) → ArePieces (own ++ line ∷ more) → AllByRecursion IsLine own
+pub front-whole : (own : List (List ℕ)) (line : List ℕ) (more : List (List ℕ)) → ArePieces (own ++ line ∷ more) → AllByRecursion IsLine own
 front-whole [] line more p = tt
 front-whole (l ∷ []) line more p = (p.0, tt)
 front-whole (l ∷ k ∷ own) line more p = (p.0, front-whole (k ∷ own) line more p.1)
@@ -194,7 +194,7 @@ pos-is test bs k e = by (nat_lt (position_or_len test bs) (length bs)) e
 pol-some : (test : ℕ → Bool) (c : ℕ) (cs : List ℕ) → test c ≡ false → 1 ≤ position_or_len test (c ∷ cs)
 pol-some test c cs e = rw e (omega arith)
 
-not-blank : (c : ℕ) (cs : List ℕ) → blanks (c ∷ cs) ≡ 0 → is_blank c ≡ false
+pub not-blank : (c : ℕ) (cs : List ℕ) → blanks (c ∷ cs) ≡ 0 → is_blank c ≡ false
 not-blank c cs e = by (is_blank c) refl
   where
     by : (v : Bool) → is_blank c ≡ v → is_blank c ≡ false
@@ -216,7 +216,7 @@ name-none (c ∷ cs) e n = absurd (by (position (λ b. eqb b 9) (c ∷ cs)) refl
     by None is z = let some : 1 ≤ position_or_len (λ b. eqb b 32) (c ∷ cs) = pol-some (λ b. eqb b 32) c cs no.0 in omega (arith, some, z, first-is (λ b. eqb b 32) (c ∷ cs))
     by (Some k) is z = let some : 1 ≤ position_or_len (λ b. eqb b 9) (c ∷ cs) = pol-some (λ b. eqb b 9) c cs no.1 in omega (arith, some, z, pos-is (λ b. eqb b 9) (c ∷ cs) k is)
 
-name-short : (bs : List ℕ) → name_length bs ≤ length bs
+pub name-short : (bs : List ℕ) → name_length bs ≤ length bs
 name-short bs = by (position (λ b. eqb b 9) bs) refl
   where
     by : (o : Option ℕ) → position (λ b. eqb b 9) bs ≡ o → unwrap_or o (first (λ b. eqb b 32) bs) ≤ length bs
