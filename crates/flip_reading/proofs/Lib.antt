@@ -4,3 +4,4 @@ mod Region
 mod Feeds
 mod Hunks
 mod Names
+mod Headers

@@ -10,11 +10,11 @@ use Rattle.patch_header.specs.Values.{blanks, first, is_blank, name_length, unbl
 use Rattle.header_lines.specs.Marks.{holds_space}
 use Rattle.text_joins.specs.Said.{bytes_before, name_said}
 use Rattle.text_joins.proofs.HeaderLines.{first-short}
-use Rattle.flip_reading.proofs.Shown.{Clean, CleanIn, blanks-none, clean-both, clean-drop, first-is, name-short, not-blank}
+use Rattle.flip_reading.proofs.Shown.{Clean, CleanIn, blanks-none, clean-both, clean-drop, either-no, first-is, name-short, not-blank}
 
 -- a tab behind a name with a space
 abbrev pub tab_if : List ℕ → List ℕ
-tab_if name = if holds_space name then 9 ∷ [] else []
+tab_if name = cond (holds_space name) (9 ∷ []) []
 
 abbrev pub text_or_none : Option (List ℕ) → List ℕ
 text_or_none o = option_map_or (λ name. name) o []
@@ -38,16 +38,12 @@ passing-whole p [] all = refl
 passing-whole p (b ∷ bs) all = let again : prefix_len p bs ≡ length bs = passing-whole p bs all.1 in rw (all.0) (omega (arith, again))
 
 passing-ends : (p : ℕ → Bool) (bs : List ℕ) (c : ℕ) → Passing p bs → p c ≡ false → prefix_len p (bs ++ c ∷ []) ≡ length bs
-passing-ends p [] c all no = rw no refl
-passing-ends p (b ∷ bs) c all no = let again : prefix_len p (bs ++ c ∷ []) ≡ length bs = passing-ends p bs c all.1 no in rw (all.0) (omega (arith, again))
+passing-ends p [] c all stop = rw stop refl
+passing-ends p (b ∷ bs) c all stop = let again : prefix_len p (bs ++ c ∷ []) ≡ length bs = passing-ends p bs c all.1 stop in rw (all.0) (omega (arith, again))
 
 no-spaces : (bs : List ℕ) → list_any (λ b. eqb b 32) bs ≡ false → Passing (λ b. not (eqb b 32)) bs
 no-spaces [] e = tt
-no-spaces (b ∷ bs) e = by (eqb b 32) refl e (no-spaces bs)
-  where
-    by : (v : Bool) → eqb b 32 ≡ v → cond v true (list_any (λ c. eqb c 32) bs) ≡ false → (list_any (λ c. eqb c 32) bs ≡ false → Passing (λ c. not (eqb c 32)) bs) → (not (eqb b 32) ≡ true) × Passing (λ c. not (eqb c 32)) bs
-    by true is e again = absurd (cc)
-    by false is e again = (ap not is, again e)
+no-spaces (b ∷ bs) e = let both = either-no (eqb b 32) (list_any (λ c. eqb c 32) bs) e in (ap not both.0, no-spaces bs both.1)
 
 abbrev NoTab : List ℕ → Type 0
 NoTab bs = Passing (λ b. not (eqb b 9)) bs

@@ -201,7 +201,7 @@ not-blank c cs e = by (is_blank c) refl
     by true t = let none : position_or_len (λ b. not (is_blank b)) (c ∷ cs) ≡ 0 = sym (first-is (λ b. not (is_blank b)) (c ∷ cs)) ∙ e in let some : position_or_len (λ b. not (is_blank b)) (c ∷ cs) ≡ suc (prefix_len (λ x. not (not (is_blank x))) cs) = rw t (omega arith) in absurd (omega (arith, none, some))
     by false t = t
 
-either-no : (a b : Bool) → (a || b) ≡ false → (a ≡ false) × (b ≡ false)
+pub either-no : (a b : Bool) → (a || b) ≡ false → (a ≡ false) × (b ≡ false)
 either-no true b e = absurd (cc)
 either-no false b e = (refl, e)
 
