@@ -55,7 +55,7 @@ three k l i a b = heads_if Index i ++ (heads_if k a ++ heads_if l b)
 -- ---- the last line of a kind
 
 -- what a line of this kind shows to a reader of lines that begin so
-abbrev shown : List ℕ → Kind → Option (List ℕ) → Option (List ℕ)
+abbrev pub shown : List ℕ → Kind → Option (List ℕ) → Option (List ℕ)
 shown m k None = None
 shown m k (Some bs) = after m (mark k ++ bs)
 
@@ -81,17 +81,17 @@ last-both m xs ys =
     ∙ ap (first_some (behind m)) (reverse-append (head_lines xs) (head_lines ys))
     ∙ first-both (behind m) (reverse (head_lines ys)) (reverse (head_lines xs))
 
-last-three : (m : List ℕ) (k l : Kind) (i a b : Option (List ℕ)) → last_behind m (head_lines (three k l i a b)) ≡ option_or (option_or (shown m l b) (shown m k a)) (shown m Index i)
+pub last-three : (m : List ℕ) (k l : Kind) (i a b : Option (List ℕ)) → last_behind m (head_lines (three k l i a b)) ≡ option_or (option_or (shown m l b) (shown m k a)) (shown m Index i)
 last-three m k l i a b =
     last-both m (heads_if Index i) (heads_if k a ++ heads_if l b)
     ∙ ap (λ o. option_or o (last_behind m (head_lines (heads_if Index i)))) (last-both m (heads_if k a) (heads_if l b) ∙ ap (λ o. option_or o (last_behind m (head_lines (heads_if k a)))) (last-if m l b) ∙ ap (option_or (shown m l b)) (last-if m k a))
     ∙ ap (option_or (option_or (shown m l b) (shown m k a))) (last-if m Index i)
 
-shown-no : (m : List ℕ) (k : Kind) → ((bs : List ℕ) → after m (mark k ++ bs) ≡ None) → (o : Option (List ℕ)) → shown m k o ≡ None
+pub shown-no : (m : List ℕ) (k : Kind) → ((bs : List ℕ) → after m (mark k ++ bs) ≡ None) → (o : Option (List ℕ)) → shown m k o ≡ None
 shown-no m k h None = refl
 shown-no m k h (Some bs) = h bs
 
-shown-yes : (m : List ℕ) (k : Kind) → ((bs : List ℕ) → after m (mark k ++ bs) ≡ Some bs) → (o : Option (List ℕ)) → shown m k o ≡ o
+pub shown-yes : (m : List ℕ) (k : Kind) → ((bs : List ℕ) → after m (mark k ++ bs) ≡ Some bs) → (o : Option (List ℕ)) → shown m k o ≡ o
 shown-yes m k h None = refl
 shown-yes m k h (Some bs) = h bs
 
@@ -99,58 +99,58 @@ or-none : (o : Option (List ℕ)) → option_or o None ≡ o
 or-none None = refl
 or-none (Some x) = refl
 
-or-second : (a b c o : Option (List ℕ)) → a ≡ None → b ≡ o → c ≡ None → option_or (option_or a b) c ≡ o
+pub or-second : (a b c o : Option (List ℕ)) → a ≡ None → b ≡ o → c ≡ None → option_or (option_or a b) c ≡ o
 or-second a b c o p q r = rw (p, q, r) (or-none o)
 
-or-first : (a b c o : Option (List ℕ)) → a ≡ o → b ≡ None → c ≡ None → option_or (option_or a b) c ≡ o
+pub or-first : (a b c o : Option (List ℕ)) → a ≡ o → b ≡ None → c ≡ None → option_or (option_or a b) c ≡ o
 or-first a b c o p q r = rw (p, q, r) (or-none (option_or o None) ∙ or-none o)
 
-or-third : (a b c : Option (List ℕ)) → a ≡ None → b ≡ None → option_or (option_or a b) c ≡ c
+pub or-third : (a b c : Option (List ℕ)) → a ≡ None → b ≡ None → option_or (option_or a b) c ≡ c
 or-third a b c p q = rw (p, q) refl
 
 -- ---- the marks
 
-minus-minus : (bs : List ℕ) → after (codes "--- ") (mark Minus ++ bs) ≡ Some bs
+pub minus-minus : (bs : List ℕ) → after (codes "--- ") (mark Minus ++ bs) ≡ Some bs
 unfolding after
 minus-minus bs = refl
 
-minus-plus : (bs : List ℕ) → after (codes "--- ") (mark Plus ++ bs) ≡ None
+pub minus-plus : (bs : List ℕ) → after (codes "--- ") (mark Plus ++ bs) ≡ None
 unfolding after
 minus-plus bs = refl
 
-minus-stars : (bs : List ℕ) → after (codes "--- ") (mark Stars ++ bs) ≡ None
+pub minus-stars : (bs : List ℕ) → after (codes "--- ") (mark Stars ++ bs) ≡ None
 unfolding after
 minus-stars bs = refl
 
-minus-index : (bs : List ℕ) → after (codes "--- ") (mark Index ++ bs) ≡ None
+pub minus-index : (bs : List ℕ) → after (codes "--- ") (mark Index ++ bs) ≡ None
 unfolding after
 minus-index bs = refl
 
-plus-minus : (bs : List ℕ) → after (codes "+++ ") (mark Minus ++ bs) ≡ None
+pub plus-minus : (bs : List ℕ) → after (codes "+++ ") (mark Minus ++ bs) ≡ None
 unfolding after
 plus-minus bs = refl
 
-plus-plus : (bs : List ℕ) → after (codes "+++ ") (mark Plus ++ bs) ≡ Some bs
+pub plus-plus : (bs : List ℕ) → after (codes "+++ ") (mark Plus ++ bs) ≡ Some bs
 unfolding after
 plus-plus bs = refl
 
-plus-index : (bs : List ℕ) → after (codes "+++ ") (mark Index ++ bs) ≡ None
+pub plus-index : (bs : List ℕ) → after (codes "+++ ") (mark Index ++ bs) ≡ None
 unfolding after
 plus-index bs = refl
 
-stars-stars : (bs : List ℕ) → after (codes "*** ") (mark Stars ++ bs) ≡ Some bs
+pub stars-stars : (bs : List ℕ) → after (codes "*** ") (mark Stars ++ bs) ≡ Some bs
 unfolding after
 stars-stars bs = refl
 
-stars-minus : (bs : List ℕ) → after (codes "*** ") (mark Minus ++ bs) ≡ None
+pub stars-minus : (bs : List ℕ) → after (codes "*** ") (mark Minus ++ bs) ≡ None
 unfolding after
 stars-minus bs = refl
 
-stars-index : (bs : List ℕ) → after (codes "*** ") (mark Index ++ bs) ≡ None
+pub stars-index : (bs : List ℕ) → after (codes "*** ") (mark Index ++ bs) ≡ None
 unfolding after
 stars-index bs = refl
 
-index-other : (k : Kind) → k ≢ Index → (bs : List ℕ) → after (codes "Index:") (mark k ++ bs) ≡ None
+pub index-other : (k : Kind) → k ≢ Index → (bs : List ℕ) → after (codes "Index:") (mark k ++ bs) ≡ None
 unfolding after
 index-other Minus other bs = refl
 index-other Plus other bs = refl
@@ -161,7 +161,7 @@ index-index : (bs : List ℕ) → after (codes "Index:") (mark Index ++ bs) ≡ 
 unfolding after
 index-index bs = refl
 
-prereq-none : (k : Kind) (bs : List ℕ) → after (codes "Prereq:") (mark k ++ bs) ≡ None
+pub prereq-none : (k : Kind) (bs : List ℕ) → after (codes "Prereq:") (mark k ++ bs) ≡ None
 unfolding after
 prereq-none Minus bs = refl
 prereq-none Plus bs = refl
@@ -212,7 +212,7 @@ none-leads ways form hs =
 
 -- ---- what is read
 
-abbrev read_header : Form → Option (List ℕ) → Option (List ℕ) → Option (List ℕ) → Stamp → Stamp → PlainHeader
+abbrev pub read_header : Form → Option (List ℕ) → Option (List ℕ) → Option (List ℕ) → Stamp → Stamp → PlainHeader
 read_header form old new index a b = record {
   form = form;
   opening = 0;
@@ -250,7 +250,7 @@ plain-none : action_of [] ≡ actions.Plain
 unfolding action_of
 plain-none = refl
 
-behind-is : (ways : Ways) (form : Form) (hs : List Head) (old new index : Option (List ℕ)) → old_line form (head_lines hs) ≡ old → new_line form (head_lines hs) ≡ new → last_behind (codes "Index:") (head_lines hs) ≡ index → last_behind (codes "Prereq:") (head_lines hs) ≡ None
+pub behind-is : (ways : Ways) (form : Form) (hs : List Head) (old new index : Option (List ℕ)) → old_line form (head_lines hs) ≡ old → new_line form (head_lines hs) ≡ new → last_behind (codes "Index:") (head_lines hs) ≡ index → last_behind (codes "Prereq:") (head_lines hs) ≡ None
     → header_behind form (head_lines hs) (led_lines ways form (head_lines hs)) ≡ read_header form (name_said old) (name_said new) (name_said index) (stamp_said old) (stamp_said new)
 behind-is ways form hs old new index a b c d =
     ap (header_behind form (head_lines hs)) (none-leads ways form hs)
@@ -260,28 +260,28 @@ behind-is ways form hs old new index a b c d =
     ∙ ap (λ o. with_action form old new o (last_behind (codes "Prereq:") (head_lines hs)) actions.Plain) c
     ∙ ap (λ o. with_action form old new index o actions.Plain) d
 
-same-header : (form : Form) (a b c d e f : Option (List ℕ)) (s t u v : Stamp) → a ≡ d → b ≡ e → c ≡ f → s ≡ u → t ≡ v → read_header form a b c s t ≡ read_header form d e f u v
+pub same-header : (form : Form) (a b c d e f : Option (List ℕ)) (s t u v : Stamp) → a ≡ d → b ≡ e → c ≡ f → s ≡ u → t ≡ v → read_header form a b c s t ≡ read_header form d e f u v
 same-header form a b c d e f s t u v p q r x y =
     ap (λ o. read_header form o b c s t) p ∙ ap (λ o. read_header form d o c s t) q ∙ ap (λ o. read_header form d e o s t) r ∙ ap (λ o. read_header form d e f o t) x ∙ ap (λ o. read_header form d e f u o) y
 
 -- ---- the index line
 
-index-of : Bool → List ℕ → Option (List ℕ)
+abbrev pub index-of : Bool → List ℕ → Option (List ℕ)
 index-of true name = Some (name ++ tab_if name)
 index-of false name = None
 
 end-parts : (name : List ℕ) → name_end name ≡ tab_if name ++ 10 ∷ []
 end-parts name = by (holds_space name)
   where
-    by : (v : Bool) → cond v (9 ∷ 10 ∷ []) (10 ∷ []) ≡ cond v (9 ∷ []) [] ++ 10 ∷ []
+    by : (v : Bool) → let x : List ℕ = cond v (9 ∷ 10 ∷ []) (10 ∷ []) in let y : List ℕ = cond v (9 ∷ []) [] in x ≡ y ++ 10 ∷ []
     by true = refl
     by false = refl
 
-joined-if : (k : Kind) (o : Option (List ℕ)) → joined (head_lines (heads_if k o)) ≡ opt_line (mark k) o
+pub joined-if : (k : Kind) (o : Option (List ℕ)) → joined (head_lines (heads_if k o)) ≡ opt_line (mark k) o
 joined-if k None = refl
 joined-if k (Some bs) = append-nil (line_of k bs)
 
-index-joined : (v : Bool) (name : List ℕ) → cond v (index_line name) [] ≡ joined (head_lines (heads_if Index (index-of v name)))
+pub index-joined : (v : Bool) (name : List ℕ) → cond v (index_line name) [] ≡ joined (head_lines (heads_if Index (index-of v name)))
 index-joined false name = refl
 index-joined true name =
     ap (λ x. codes "Index: " ++ (name ++ x)) (end-parts name)
@@ -294,27 +294,27 @@ neither None (Some y) e = absurd (cc)
 neither (Some x) b e = absurd (cc)
 
 -- where no line of a name says which file is meant, the index name does
-name-is : (hd : PlainHeader) → names_file hd ≡ false → hd.to ≡ None → plain_name hd ≡ text_or_none hd.index
+pub name-is : (hd : PlainHeader) → names_file hd ≡ false → hd.to ≡ None → plain_name hd ≡ text_or_none hd.index
 name-is hd none to =
     let both = neither (file_name hd.old_name) (file_name hd.new_name) none in
     ap (λ o. option_map_or (λ name. name) (option_or (better_of o (file_name hd.new_name)) (option_or hd.to hd.index)) []) both.0
     ∙ ap (λ o. option_map_or (λ name. name) (option_or (better_of None o) (option_or hd.to hd.index)) []) both.1
     ∙ ap (λ o. option_map_or (λ name. name) (option_or o hd.index) []) to
 
-to-none : (a : Action) (rs : List Row) → is_moved a ≡ false → git_to_by a rs ≡ None
+pub to-none : (a : Action) (rs : List Row) → is_moved a ≡ false → git_to_by a rs ≡ None
 to-none actions.Plain rs e = refl
 to-none actions.New rs e = refl
 to-none actions.Deleted rs e = refl
 to-none actions.Rename rs e = absurd (cc)
 to-none actions.Copy rs e = absurd (cc)
 
-index-read : (v : Bool) (name : List ℕ) (o index : Option (List ℕ)) → index ≡ name_said o → (v ≡ true → name ≡ text_or_none index) → name_said (shown (codes "Index:") Index (index-of v name)) ≡ cond v index None
+pub index-read : (v : Bool) (name : List ℕ) (o index : Option (List ℕ)) → index ≡ name_said o → (v ≡ true → name ≡ text_or_none index) → name_said (shown (codes "Index:") Index (index-of v name)) ≡ cond v index None
 index-read false name o index e h = refl
 index-read true name o index e h =
     ap name_said (index-index (name ++ tab_if name))
     ∙ ap (λ n. name_said (Some (32 ∷ (n ++ tab_if n)))) (h refl ∙ ap text_or_none e)
     ∙ said-again o ∙ sym e
 
-index-of-clean : (v : Bool) (name : List ℕ) (o index : Option (List ℕ)) → index ≡ name_said o → CleanIn o → (v ≡ true → name ≡ text_or_none index) → CleanIn (index-of v name)
+pub index-of-clean : (v : Bool) (name : List ℕ) (o index : Option (List ℕ)) → index ≡ name_said o → CleanIn o → (v ≡ true → name ≡ text_or_none index) → CleanIn (index-of v name)
 index-of-clean false name o index e clean h = tt
 index-of-clean true name o index e clean h = subst (λ n. Clean (n ++ tab_if n)) (sym (h refl ∙ ap text_or_none e)) (index-clean o clean)

@@ -211,7 +211,7 @@ pub rising : (ss : List ℕ) → starts_fall ss ≡ false → Rising 0 ss
 rising [] e = tt
 rising (s ∷ ss) e = (omega arith, rising-behind s ss e)
 
-whole-both : (xs ys : List (List ℕ)) → AllByRecursion IsLine xs → AllByRecursion IsLine ys → AllByRecursion IsLine (xs ++ ys)
+pub whole-both : (xs ys : List (List ℕ)) → AllByRecursion IsLine xs → AllByRecursion IsLine ys → AllByRecursion IsLine (xs ++ ys)
 whole-both [] ys a b = b
 whole-both (x ∷ xs) ys a b = (a.0, whole-both xs ys a.1 b)
 

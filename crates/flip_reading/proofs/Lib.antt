@@ -5,3 +5,5 @@ mod Feeds
 mod Hunks
 mod Names
 mod Headers
+mod Headed
+mod Reading
