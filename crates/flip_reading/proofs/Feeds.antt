@@ -1,15 +1,14 @@
 -- The lines of a hunk that was read have a line feed at most at their ends.
-use Rattle.std.proofs.Common.{◌≡◌, ◌≢◌, ◌⊎◌, inl, inr, ℕ, zero, suc, ◌+◌, ◌-◌, ◌<◌, ◌≤◌, Bool, true, false, cond, List, [], ◌∷◌, ◌++◌, length, take, map, refl, sym, ap, subst, ◌∙◌, arith}
-use Rattle.std.specs.Prelude.{filter}
+use Rattle.std.proofs.Common.{◌≡◌, ◌⊎◌, inl, inr, ℕ, zero, suc, ◌-◌, ◌<◌, Bool, true, false, cond, List, [], ◌∷◌, ◌++◌, length, take, map, refl, sym, ap, subst, ◌∙◌, arith}
 use Rattle.std.specs.List.{AllByRecursion}
 use Rattle.std.proofs.Math.Seq.{take-append_seam}
 use Rattle.std.proofs.lemmas.List.{length-append}
 use Rattle.line_list.specs.Lines.{ArePieces, IsLine, IsOpenLine}
 use Rattle.hunk_core.specs.Rules.{HasNoInnerFeed}
-use Rattle.hunk_core.specs.LineTests.{marked, unended}
+use Rattle.hunk_core.specs.LineTests.{unended}
 use Rattle.hunk_core.specs.PlainHunk.{Marked, PlainHunk}
 use Rattle.hunk_core.specs.Sides.{is_on_side}
-use Rattle.hunk_core.specs.Turned.{swapped, swapped_line}
+use Rattle.hunk_core.specs.Turned.{swapped_line}
 use Rattle.hunk_core.specs.declared.Mark.{Mark}
 use Rattle.hunk_core.specs.declared.Mark.TheVariants.{Keep, Drop, Add}
 use Rattle.hunk_core.specs.declared.Side.{Side}

@@ -1,5 +1,5 @@
 -- What is written in front of the hunks of a file patch, and how it is read.
-use Rattle.std.proofs.Common.{◌≡◌, ◌≢◌, ◌⊎◌, inl, inr, ℕ, Bool, true, false, cond, not, ◌&&◌, ◌||◌, List, [], ◌∷◌, ◌++◌, map, append_assoc, Option, None, Some, refl, sym, ap, subst, ◌∙◌}
+use Rattle.std.proofs.Common.{◌≡◌, ◌≢◌, ℕ, Bool, true, false, cond, not, ◌||◌, List, [], ◌∷◌, ◌++◌, Option, None, Some, refl, sym, ap, subst, ◌∙◌}
 use Rattle.std.specs.Prelude.{is_some, codes}
 use Rattle.std.specs.List.{AllByRecursion}
 use Rattle.std.proofs.lemmas.Grind.{flat_map-append}
@@ -8,13 +8,12 @@ use Rattle.line_list.specs.Lines.{IsLine}
 use Rattle.line_list.proofs.Pieces.{joined}
 use Rattle.hunk_core.specs.declared.Form.{Form}
 use Rattle.hunk_core.specs.declared.Form.TheVariants.{Unified, Context, Normal, Ed}
-use Rattle.hunk_core.specs.declared.Side.TheVariants.{Forward, Reversed}
+use Rattle.hunk_core.specs.declared.Side.TheVariants.{Reversed}
 use Rattle.unified_form.proofs.Canonical.{closes}
-use Rattle.stamp.specs.declared.Stamp.{Stamp}
 use Rattle.stamp.specs.declared.Stamp.TheVariants.{Unknown}
 use Rattle.patch_header.specs.GitHeaders.{action_of}
 use Rattle.patch_header.specs.GitRows.{led_by, lines_of}
-use Rattle.patch_header.specs.Region.{Row, last_tail, rows}
+use Rattle.patch_header.specs.Region.{Row, rows}
 use Rattle.patch_header.specs.Steps.{AreQuiet, header_with}
 use Rattle.patch_header.specs.declared.header.Header.{Header}
 use Rattle.patch_header.specs.declared.openings.Stop.TheVariants.{Opening}
@@ -22,13 +21,13 @@ use Rattle.patch_header.specs.declared.ways.Ways.{Ways}
 use Rattle.file_patch.specs.Actions.{is_moved}
 use Rattle.file_patch.specs.PlainPatch.{bytes_in, header_of}
 use Rattle.patch_set.specs.PlainName.{file_name, plain_name}
-use Rattle.header_lines.specs.HeaderText.{header_text, index_if, name_lines, named_line, names_file, needs_index}
-use Rattle.text_joins.specs.Said.{header_said, last_behind, name_said, new_line, old_line}
+use Rattle.header_lines.specs.HeaderText.{header_text, name_lines, named_line, names_file, needs_index}
+use Rattle.text_joins.specs.Said.{header_said, name_said, new_line, old_line}
 use Rattle.flip_reading.specs.TurnedPatches.{turned_header}
 use Rattle.flip_reading.proofs.Headers.{Head, behind-is, head_lines, heads_if, index-joined, index-of, index-of-clean, index-other, index-read, joined-if, last-three, minus-index, minus-minus, minus-plus, minus-stars, name-is, or-first, or-second, or-third, plus-index, plus-minus, plus-plus, prereq-none, read_header, same-header, shown, shown-no, shown-yes, stars-index, stars-minus, stars-stars, three, to-none}
 use Rattle.flip_reading.proofs.Hunks.{IsHunkForm}
 use Rattle.flip_reading.proofs.Names.{text_or_none}
-use Rattle.flip_reading.proofs.Lines.{Kind, Minus, Plus, Stars, Index, closed, line_of, mark, quiet-line}
+use Rattle.flip_reading.proofs.Lines.{Kind, Minus, Plus, Stars, Index, line_of, mark, quiet-line}
 use Rattle.flip_reading.proofs.Region.{IsShown}
 use Rattle.flip_reading.proofs.Shown.{AreRows, Clean, CleanIn, Shows, clean-both, name-shows, opt_line, region-rows}
 

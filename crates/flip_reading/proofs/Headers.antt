@@ -1,42 +1,29 @@
 -- The header lines that are written of a file patch, read again.
-use Rattle.std.proofs.Common.{◌≡◌, ◌≢◌, ◌⊎◌, inl, inr, ℕ, suc, ◌+◌, Bool, true, false, cond, not, ◌&&◌, ◌||◌, List, [], ◌∷◌, ◌++◌, length, map, reverse, append_assoc, Option, None, Some, refl, sym, ap, subst, ◌∙◌}
+use Rattle.std.proofs.Common.{◌≡◌, ◌≢◌, ℕ, ◌+◌, Bool, true, false, cond, ◌&&◌, ◌||◌, List, [], ◌∷◌, ◌++◌, length, map, reverse, append_assoc, Option, None, Some, refl, sym, ap, subst, ◌∙◌}
 use Rattle.std.specs.Prelude.{is_some, codes, unwrap_or}
 use Rattle.std.specs.List.{AllByRecursion}
 use Rattle.std.specs.Option.{option_map_or, option_or}
-use Rattle.std.proofs.lemmas.Grind.{flat_map-append}
 use Rattle.std.proofs.lemmas.List.{append-nil, map-append, reverse-append}
-use Rattle.line_list.specs.Lines.{IsLine}
-use Rattle.line_list.specs.declared.Span.{Span}
 use Rattle.line_list.proofs.Pieces.{joined}
 use Rattle.hunk_core.specs.declared.Form.{Form}
-use Rattle.hunk_core.specs.declared.Form.TheVariants.{Unified, Context, Normal, Ed}
-use Rattle.hunk_core.specs.declared.Side.TheVariants.{Forward, Reversed}
 use Rattle.hunk_core.specs.LineTests.{after}
-use Rattle.unified_form.proofs.Canonical.{closes}
 use Rattle.stamp.specs.declared.Stamp.{Stamp}
-use Rattle.stamp.specs.declared.Stamp.TheVariants.{Unknown}
 use Rattle.patch_header.specs.GitHeaders.{action_of, is_git_line, is_extended, starts}
-use Rattle.patch_header.specs.GitRows.{header_back, led_by, led_rows, lines_of, new_name_back, old_name_back, is_unified, from_in, to_in, to_by as git_to_by, with_row}
-use Rattle.patch_header.specs.Region.{Row, first_some, last_tail, new_tail, old_tail, rows}
-use Rattle.patch_header.specs.Steps.{header_with}
+use Rattle.patch_header.specs.GitRows.{header_back, led_rows, lines_of, new_name_back, old_name_back, is_unified, to_by as git_to_by, with_row}
+use Rattle.patch_header.specs.Region.{Row, first_some, rows}
 use Rattle.patch_header.specs.declared.git_lines.Action.{Action}
 use Rattle.patch_header.specs.declared.git_lines.Action.TheVariants as actions
-use Rattle.patch_header.specs.declared.header.Header.{Header}
-use Rattle.patch_header.specs.declared.openings.Stop.TheVariants.{Opening}
 use Rattle.patch_header.specs.declared.ways.Ways.{Ways}
-use Rattle.file_patch.specs.Absent.{is_null}
 use Rattle.file_patch.specs.Actions.{is_moved}
-use Rattle.file_patch.specs.PlainPatch.{PlainHeader, bytes_in, header_of}
+use Rattle.file_patch.specs.PlainPatch.{PlainHeader}
 use Rattle.patch_set.specs.PlainName.{better_of, file_name, plain_name}
-use Rattle.header_lines.specs.HeaderText.{header_text, index_if, index_line, name_lines, named_line, names_file, needs_index}
-use Rattle.header_lines.specs.Marks.{holds_space, name_end, shows_names}
-use Rattle.text_joins.specs.Said.{behind, header_behind, header_said, from_by, last_behind, led_lines, name_said, new_line, old_line, stamp_said, to_by, word_said}
+use Rattle.header_lines.specs.HeaderText.{index_line, names_file}
+use Rattle.header_lines.specs.Marks.{holds_space, name_end}
+use Rattle.text_joins.specs.Said.{behind, header_behind, from_by, last_behind, led_lines, name_said, new_line, old_line, stamp_said, to_by, word_said}
 use Rattle.text_joins.proofs.HeaderLines.{all-reverse}
-use Rattle.flip_reading.specs.TurnedPatches.{turned_header}
-use Rattle.flip_reading.proofs.Hunks.{IsHunkForm}
-use Rattle.flip_reading.proofs.Lines.{Kind, Minus, Plus, Stars, Index, closed, content-closed, git-none, line_of, mark}
+use Rattle.flip_reading.proofs.Lines.{Kind, Minus, Plus, Stars, Index, content-closed, git-none, line_of, mark}
 use Rattle.flip_reading.proofs.Names.{index-clean, said-again, tab_if, text_or_none}
-use Rattle.flip_reading.proofs.Shown.{AreRows, Clean, CleanIn, Shows, clean-both, name-shows, opt_line}
+use Rattle.flip_reading.proofs.Shown.{Clean, CleanIn, opt_line}
 
 abbrev pub Head : Type 0
 Head = Kind × List ℕ

@@ -1,5 +1,5 @@
 -- Hunks that are turned round and written are read again.
-use Rattle.std.proofs.Common.{◌≡◌, ◌≢◌, ℕ, suc, ◌+◌, ◌≤◌, ◌<◌, Bool, true, false, cond, ◌||◌, eqb, List, [], ◌∷◌, ◌++◌, length, map, append_assoc, Option, None, Some, refl, sym, ap, subst, ◌∙◌, arith}
+use Rattle.std.proofs.Common.{◌≡◌, ℕ, ◌≤◌, Bool, true, false, cond, ◌||◌, eqb, List, [], ◌∷◌, ◌++◌, length, map, Option, None, Some, refl, sym, ap, subst, ◌∙◌, arith}
 use Rattle.std.specs.Prelude.{nat_lt}
 use Rattle.std.specs.List.{AllByRecursion, flat_map}
 use Rattle.std.proofs.lemmas.Bool.Decides.{nat_tests}
@@ -14,16 +14,14 @@ use Rattle.hunk_core.specs.declared.Side.TheVariants.{Forward, Reversed}
 use Rattle.hunk_core.specs.declared.check.BadHunk.{BadHunk}
 use Rattle.hunk_core.specs.declared.check.BadHunk.TheVariants.{NoLines, Start, Sum, InnerEnd}
 use Rattle.hunk_core.specs.LineTests.{after, after_backslash}
-use Rattle.hunk_core.specs.PlainHunk.{Marked, PlainHunk, old_lines, new_lines}
-use Rattle.hunk_core.specs.Rules.{HasNoInnerFeed, breaks, first_broken, lacks_inner_end, runs_over, starts_at_zero}
+use Rattle.hunk_core.specs.PlainHunk.{PlainHunk, old_lines, new_lines}
+use Rattle.hunk_core.specs.Rules.{HasNoInnerFeed, first_broken, lacks_inner_end, runs_over, starts_at_zero}
 use Rattle.hunk_core.specs.Turned.{swapped, swapped_line}
 use Rattle.hunk_core.proofs.SideLemmas.{swapped-lines}
 use Rattle.unified_form.specs.Grammar as unified
 use Rattle.unified_form.proofs.Again as unified_again
-use Rattle.unified_form.proofs.Pieces as unified_pieces
 use Rattle.normal_form.specs.Grammar as normal
 use Rattle.normal_form.proofs.Again as normal_again
-use Rattle.normal_form.proofs.Pieces as normal_pieces
 use Rattle.context_form.specs.Grammar as context
 use Rattle.context_form.specs.Openings as openings
 use Rattle.context_form.specs.Parts.{mark_at, mark_by}
@@ -161,8 +159,7 @@ written Unified h is g =
     let s = unified_again.spells-first h open_text g.unbroken g.clean open-silent in
     (s.own, record { are = own-of (hunk_text Unified h) s.own s.parts; spell = λ least behind le quiet. unified-least least s.own h le s.spelled })
 written Context h is g =
-    let s = context_again.spells-first h open_text g.unbroken g.clean open-stops open-silent in
-    (
+    let s = context_again.spells-first h open_text g.unbroken g.clean open-stops open-silent in (
       s.own,
       record {
         are = own-of (hunk_text Context h) s.own s.parts;
@@ -247,8 +244,7 @@ body-of form least (g ∷ gs) is good rises =
     let later = body-of form g.new_start gs is good.1 rises.1 in
     let w = written form (swapped g) is (swapped-good g good.0) in
     let behind_quiet : IsQuietAs form (later.0 ++ []) = subst (IsQuietAs form) (sym (append-nil later.0)) later.1.quiet in
-    let spelled = w.1.spell least (later.0 ++ []) rises.0 behind_quiet in
-    (
+    let spelled = w.1.spell least (later.0 ++ []) rises.0 behind_quiet in (
       w.0 ++ later.0,
       record {
         whole = whole-both w.0 later.0 w.1.are.whole later.1.whole;

@@ -1,6 +1,6 @@
 -- The lines of a written header: nothing opens at them, and nothing goes on with them.
-use Rattle.std.proofs.Common.{◌≡◌, ℕ, ◌+◌, ◌-◌, ◌≤◌, Bool, true, false, cond, ◌&&◌, ◌||◌, List, [], ◌∷◌, ◌++◌, length, take, Option, None, Some, refl, sym, ap, subst, ◌∙◌, arith}
-use Rattle.std.specs.Prelude.{is_some, codes}
+use Rattle.std.proofs.Common.{◌≡◌, ℕ, ◌-◌, Bool, true, false, cond, ◌&&◌, List, [], ◌∷◌, ◌++◌, length, take, Option, None, refl, ap, ◌∙◌, arith}
+use Rattle.std.specs.Prelude.{codes}
 use Rattle.std.proofs.Math.Seq.{take-append_seam}
 use Rattle.std.proofs.lemmas.List.{length-append}
 use Rattle.hunk_core.specs.declared.Form.{Form}
@@ -11,8 +11,8 @@ use Rattle.ed_form.specs.Commands as ed
 use Rattle.unified_form.specs.Ranges as range_line
 use Rattle.normal_form.specs.Commands as command
 use Rattle.patch_header.specs.Content.{content, is_binary}
-use Rattle.patch_header.specs.GitHeaders.{begins_bare, is_git_line, starts}
-use Rattle.patch_header.specs.Openings.{begins, opens, stop_at}
+use Rattle.patch_header.specs.GitHeaders.{begins_bare, is_git_line}
+use Rattle.patch_header.specs.Openings.{begins, stop_at}
 use Rattle.patch_header.specs.declared.ways.Ways.{Ways}
 use Rattle.patch_header.proofs.Stands.{nothing-words}
 use Rattle.text_joins.specs.Joins.{BeginCleanly}

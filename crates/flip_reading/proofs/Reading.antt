@@ -1,5 +1,5 @@
 -- A set turned round, read again.
-use Rattle.std.proofs.Common.{◌≡◌, ◌≢◌, ◌⊎◌, inl, inr, ℕ, ◌+◌, ◌<◌, Bool, true, false, cond, ◌&&◌, ◌||◌, List, [], ◌∷◌, ◌++◌, length, map, reverse, append_assoc, Option, None, Some, Ok, refl, sym, ap, subst, ◌∙◌, arith}
+use Rattle.std.proofs.Common.{◌≡◌, inl, ℕ, ◌+◌, ◌<◌, Bool, true, false, cond, ◌&&◌, ◌||◌, List, [], ◌∷◌, ◌++◌, length, map, reverse, append_assoc, Option, None, Some, Ok, refl, sym, ap, subst, ◌∙◌, arith}
 use Rattle.std.specs.Prelude.{find, option_map}
 use Rattle.std.specs.List.{AllByRecursion, flat_map, list_any}
 use Rattle.std.specs.Option.{option_or}
@@ -11,7 +11,6 @@ use Rattle.line_list.specs.declared.Span.{Span}
 use Rattle.line_list.proofs.Pieces.{joined, lines-pieces, pieces-only}
 use Rattle.hunk_core.specs.declared.Form.{Form}
 use Rattle.hunk_core.specs.declared.Form.TheVariants.{Unified, Context, Normal, Ed}
-use Rattle.hunk_core.specs.declared.Hunk.{Hunk}
 use Rattle.hunk_core.specs.declared.Side.TheVariants.{Reversed}
 use Rattle.hunk_core.specs.Pieces.{AreInTurn, SpellInTurn}
 use Rattle.hunk_core.specs.PlainHunk.{PlainHunk, bytes_at, hunks_of}
@@ -24,14 +23,13 @@ use Rattle.context_form.proofs.Unbroken as context_unbroken
 use Rattle.context_form.proofs.Pieces as context_pieces
 use Rattle.num_text.specs.NumberRanges.{range_at}
 use Rattle.ed_form.specs.Commands as ed
-use Rattle.patch_header.specs.Openings.{admits, asks_dot, begins, opens, stop_at}
+use Rattle.patch_header.specs.Openings.{admits, asks_dot, begins}
 use Rattle.patch_header.specs.Steps.{region_of as region_before}
-use Rattle.patch_header.specs.declared.header.Header.{Header}
 use Rattle.patch_header.specs.declared.openings.Stop.TheVariants.{Opening}
 use Rattle.patch_header.specs.declared.ways.Ways.{Ways}
 use Rattle.patch_header.proofs.Stands.{and_left, opening-words, stop-opens}
 use Rattle.file_patch.specs.Actions.{is_moved}
-use Rattle.file_patch.specs.PlainPatch.{PlainChange, PlainPatch, hunks, change_of, patch_of, row_count}
+use Rattle.file_patch.specs.PlainPatch.{PlainPatch, hunks, change_of, patch_of, row_count}
 use Rattle.file_patch.specs.declared.Change.{Change}
 use Rattle.file_patch.specs.declared.Change.TheVariants.{Hunks, Script}
 use Rattle.file_patch.specs.declared.FilePatch.{FilePatch}
@@ -56,7 +54,7 @@ use Rattle.flip_reading.proofs.Headed.{HasHead, heads-quiet, heads-whole, shown-
 use Rattle.flip_reading.proofs.Headers.{Head, head_lines}
 use Rattle.flip_reading.proofs.Hunks.{ChainAs, IsGood, IsHunkForm, SpellsAs, body-of, chain-piece, rising, whole-both}
 use Rattle.flip_reading.proofs.Lines.{Kind, Minus, Plus, Stars, Index, clean-line, line_of}
-use Rattle.flip_reading.proofs.Region.{IsShown, IsShownIf, regions-shown}
+use Rattle.flip_reading.proofs.Region.{IsShownIf, regions-shown}
 use Rattle.flip_reading.proofs.Shown.{either-no}
 
 -- ---- what is known of a file patch that isn't refused

@@ -1,13 +1,13 @@
 -- Where the headers of a set's file patches come from.
-use Rattle.std.proofs.Common.{◌≡◌, ℕ, zero, suc, ◌+◌, Bool, true, false, cond, List, [], ◌∷◌, ◌++◌, length, map, drop, Option, None, Some, refl, sym, ap, subst, ◌∙◌}
+use Rattle.std.proofs.Common.{◌≡◌, ℕ, zero, suc, ◌+◌, true, false, cond, List, [], ◌∷◌, ◌++◌, length, drop, Option, None, Some, refl, sym, ap, subst, ◌∙◌}
 use Rattle.std.specs.Prelude.{is_some, sum_by, Result, Ok, Err}
 use Rattle.std.specs.List.{AllByRecursion}
 use Rattle.line_list.specs.Lines.{lines}
 use Rattle.hunk_core.specs.declared.Form.{Form}
 use Rattle.hunk_core.specs.Reading.{Ahead, Fault}
 use Rattle.patch_header.specs.Openings.{stop_at}
-use Rattle.patch_header.specs.Region.{Row, rows}
-use Rattle.patch_header.specs.Steps.{first_stop, found_or, header_at, header_with, bare_with, next_step, region_of as region_before, step_behind}
+use Rattle.patch_header.specs.Region.{rows}
+use Rattle.patch_header.specs.Steps.{first_stop, found_or, header_at, header_with, next_step, region_of as region_before, step_behind}
 use Rattle.patch_header.specs.GitRows.{led_by}
 use Rattle.patch_header.specs.declared.openings.Stop.{Stop}
 use Rattle.patch_header.specs.declared.openings.Stop.TheVariants.{Opening, Binary, Bare}
@@ -17,7 +17,7 @@ use Rattle.patch_header.specs.declared.search.HeaderStep.TheVariants as steps
 use Rattle.patch_header.specs.declared.ways.Ways.{Ways}
 use Rattle.file_patch.specs.PlainPatch.{PlainChange}
 use Rattle.patch_text.specs.Patches.{change_behind, place_before}
-use Rattle.patch_text.specs.Regions.{Region, next_region, region_by, region_with, regions_at, regions_of, with_later}
+use Rattle.patch_text.specs.Regions.{Region, next_region, region_by, region_with, regions_at, with_later}
 
 -- a header that isn't bare is that of an opening behind these lines
 pub record IsShown (ways : Ways) (text : List ℕ) (h : Header) : Type 0 where

@@ -1,5 +1,5 @@
 -- The lines in which the names of a header stand, as they are copied.
-use Rattle.std.proofs.Common.{◌≡◌, ◌≢◌, ◌⊎◌, inl, inr, ℕ, zero, suc, ◌+◌, ◌-◌, ◌<◌, ◌≤◌, Bool, true, false, cond, not, eqb, ◌||◌, List, [], ◌∷◌, ◌++◌, length, take, drop, reverse, append_assoc, Option, None, Some, refl, sym, ap, subst, ◌∙◌, arith}
+use Rattle.std.proofs.Common.{◌≡◌, ◌≢◌, ℕ, zero, suc, ◌+◌, ◌<◌, ◌≤◌, Bool, true, false, cond, not, eqb, ◌||◌, List, [], ◌∷◌, ◌++◌, length, take, drop, reverse, append_assoc, Option, None, Some, refl, sym, ap, subst, ◌∙◌, arith}
 use Rattle.std.specs.Prelude.{is_some, option_map, nat_lt, unwrap_or}
 use Rattle.std.specs.List.{AllByRecursion, position, position_or_len, prefix_len}
 use Rattle.std.proofs.Math.Seq.{drop-append_seam, take-append_seam}
@@ -13,7 +13,6 @@ use Rattle.line_list.proofs.Pieces.{line-first, lines-pieces}
 use Rattle.hunk_core.specs.LineTests.{after}
 use Rattle.hunk_core.proofs.TextLemmas.{after-takes}
 use Rattle.unified_form.proofs.Canonical.{closes}
-use Rattle.unified_form.proofs.Unbroken.{line-ends}
 use Rattle.stamp.specs.declared.Stamp.{Stamp}
 use Rattle.stamp.specs.declared.Stamp.TheVariants.{Unknown}
 use Rattle.stamp.specs.Reading.{stamp_of}
@@ -24,7 +23,7 @@ use Rattle.patch_header.specs.Values.{behind_name, blanks, bytes_of, first, is_b
 use Rattle.patch_header.specs.declared.region.Tail.{Tail}
 use Rattle.file_patch.specs.PlainPatch.{bytes_in}
 use Rattle.header_lines.specs.HeaderText.{first_line, named_line, rest_of_line}
-use Rattle.text_joins.specs.Said.{behind, bytes_before, name_said, stamp_said}
+use Rattle.text_joins.specs.Said.{bytes_before, name_said, stamp_said}
 use Rattle.text_joins.proofs.HeaderLines.{all-reverse, first-short, span-bytes, tail-bytes}
 use Rattle.text_joins.proofs.Places.{StandsAt, rows-stand}
 use Rattle.flip_reading.proofs.Lines.{closed, content-closed}
@@ -121,8 +120,7 @@ row-tail text m r t row is =
     let rest : List ℕ = drop (length r.line) (drop r.start text) in
     let whole : drop r.start text ≡ closed (m ++ w.0) ++ rest = sym (take-append-drop (length r.line) (drop r.start text)) ∙ ap (λ x. x ++ rest) (row.stands.bytes ∙ line) in
     let start = tail-start m r t w.0 w.1 is in
-    let bytes : Some (bytes_of text t) ≡ Some w.0 = sym (ap (option_map (bytes_of text)) is) ∙ tail-bytes text m r row.stands ∙ w.1 in
-    (
+    let bytes : Some (bytes_of text t) ≡ Some w.0 = sym (ap (option_map (bytes_of text)) is) ∙ tail-bytes text m r row.stands ∙ w.1 in (
       w.0,
       record {
         bytes = some-is (bytes_of text t) w.0 bytes;
@@ -246,8 +244,7 @@ tail-shows text t b at = by (eqb (name_length (unblanked b)) 0) refl
         (None, record { line = λ m. ap (named_line text m) span; name = ap (bytes_in text) span; stamp = stamps ∙ ap (λ x. stamp_of (behind_name x)) nothing ∙ no-stamp; clean = tt })
     by false e =
         let span : name_in text (Some t) ≡ Some (record { start = t.start + blanks b; end = t.start + blanks b + name_length (unblanked b) }) = spans ∙ rw e refl in
-        let room : blanks b + name_length (unblanked b) ≤ length b = omega (arith, name-short (unblanked b), length-drop (blanks b) b, low) in
-        (
+        let room : blanks b + name_length (unblanked b) ≤ length b = omega (arith, name-short (unblanked b), length-drop (blanks b) b, low) in (
           Some (unblanked b),
           record {
             line = λ m. ap (named_line text m) span ∙ ap (λ x. m ++ x) (rest-is text t b (blanks b) (name_length (unblanked b)) at low) ∙ sym (append_assoc m (unblanked b) (10 ∷ []));
