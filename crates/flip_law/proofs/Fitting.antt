@@ -1,13 +1,11 @@
 -- Old lines that stand at a place of a list.
 use Rattle.std.proofs.Common.{◌≡◌, ℕ, zero, suc, ◌+◌, ◌-◌, ◌<◌, ◌≤◌, Bool, true, false, ◌&&◌, List, [], ◌∷◌, ◌++◌, length, get_or, drop, refl, sym, ap, ◌∙◌, arith, inl, inr}
-use Rattle.std.specs.Prelude.{bytes_eq}
 use Rattle.std.specs.List.{list_all, range_with_len}
 use Rattle.std.proofs.lemmas.Bool.{cases_eq}
 use Rattle.std.proofs.lemmas.List.{get_or-drop, get_or_append_left, drop-drop, length-drop}
 use Rattle.std.proofs.lemmas.Slice.Eq.{bytes_eq-Decides}
 use Rattle.line_store.specs.Store.{line_at}
 use Rattle.hunk_place.specs.Loose.{same_line}
-use Rattle.hunk_place.specs.Order.{from_to}
 use Rattle.hunk_place.specs.Placing.{fits}
 use Rattle.hunk_place.proofs.FitLemmas.{fits-true}
 

@@ -1,5 +1,5 @@
 -- A hunk and the same turned round.
-use Rattle.std.proofs.Common.{◌≡◌, ℕ, ◌+◌, ◌≤◌, ◌<◌, Bool, cond, List, [], ◌∷◌, ◌++◌, length, map, reverse, count_by, refl, sym, ap, ◌∙◌, arith}
+use Rattle.std.proofs.Common.{◌≡◌, ◌+◌, ◌≤◌, Bool, cond, List, [], ◌∷◌, ◌++◌, length, map, reverse, count_by, refl, sym, ap, ◌∙◌, arith}
 use Rattle.std.specs.List.{prefix_len}
 use Rattle.std.proofs.lemmas.List.{reverse-append, map-append}
 use Rattle.std.proofs.lemmas.List.Sums.{sum_by-cons}
@@ -7,7 +7,7 @@ use Rattle.hunk_core.specs.declared.Mark.{Mark}
 use Rattle.hunk_core.specs.declared.Mark.TheVariants.{Keep, Drop, Add}
 use Rattle.hunk_core.specs.declared.Side.TheVariants.{Forward, Reversed}
 use Rattle.hunk_core.specs.PlainHunk.{Marked, PlainHunk, old_lines, new_lines}
-use Rattle.hunk_core.specs.Turned.{swapped_mark, swapped_line, swapped, is_keep, is_add, is_drop, leading, trailing, base}
+use Rattle.hunk_core.specs.Turned.{swapped_mark, swapped_line, swapped, is_keep, is_add, is_drop, leading, trailing}
 use Rattle.hunk_place.specs.Verdicts.{adds, drops}
 use Rattle.hunk_core.proofs.SideLemmas.{swapped-lines}
 

@@ -1,5 +1,5 @@
 -- What the edits of hunks at their bases make of a list.
-use Rattle.std.proofs.Common.{◌≡◌, ℕ, suc, ◌+◌, ◌-◌, ◌<◌, ◌≤◌, List, [], ◌∷◌, ◌++◌, length, take, drop, get_or, refl, sym, ap, subst, ◌∙◌, arith, append_assoc, Option, Some}
+use Rattle.std.proofs.Common.{◌≡◌, ℕ, ◌+◌, ◌-◌, ◌≤◌, List, [], ◌∷◌, ◌++◌, length, take, drop, refl, sym, ap, subst, ◌∙◌, arith}
 use Rattle.std.proofs.lemmas.List.{append-nil, take_all, length-drop}
 use Rattle.std.proofs.Math.Seq.{take-append_seam}
 use Rattle.hunk_core.specs.declared.Mark.{Mark}
@@ -8,14 +8,14 @@ use Rattle.hunk_core.specs.PlainHunk.{Marked, PlainHunk, old_lines, new_lines}
 use Rattle.hunk_core.specs.Turned.{base, swapped}
 use Rattle.line_store.specs.Store.{line_at}
 use Rattle.hunk_place.proofs.FitLemmas.{front-is, front-rest}
-use Rattle.hunk_apply.specs.Splice.{AreFrom, Edit, add, all_edits, body_edits, drop_line, spliced, spliced_from}
+use Rattle.hunk_apply.specs.Splice.{AreFrom, Edit, all_edits, body_edits, spliced_from}
 use Rattle.hunk_apply.specs.Written.{lines_between}
 use Rattle.hunk_apply.proofs.BodyLemmas.{body-from, edits-from, edits-mark, edits-none}
 use Rattle.hunk_apply.proofs.CopyLemmas.{between-take, kept}
 use Rattle.hunk_apply.proofs.FoldLemmas.{edits-cons, edits-nil}
 use Rattle.hunk_apply.proofs.SpliceLemmas.{from-append, line-added, line-dropped, line-kept, nothing-left, sooner}
 use Rattle.flip_law.proofs.Placed.{as_stated, stands-at}
-use Rattle.flip_law.proofs.Turns.{Turn, Turns}
+use Rattle.flip_law.proofs.Turns.{Turns}
 
 -- a body whose old lines stand here gives its new lines in place of them
 pub body-splice : (lines : List (List ℕ)) (b end : ℕ) (ms : List Marked) (later : List Edit) (rest : List (List ℕ)) → 1 ≤ b → end ≡ b + length (old_lines ms) → end ≤ length lines + 1

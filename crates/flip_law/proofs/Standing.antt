@@ -1,6 +1,6 @@
 -- A hunk with a place that has neither fuzz nor an offset, and a hunk that gets one.
-use Rattle.std.proofs.Common.{◌≡◌, ◌≢◌, ℕ, zero, suc, ◌+◌, ◌-◌, ◌<◌, ◌≤◌, Bool, true, false, ◌&&◌, cond, List, [], ◌∷◌, ◌++◌, length, drop, max, min, refl, sym, ap, subst, ◌∙◌, arith, inl, inr, Option, Some, None}
-use Rattle.std.specs.Prelude.{ℤ, pos, negsuc, ◌-ℤ◌, ◌+ℤ◌, nat_lt, nat_le, ◌==◌, find}
+use Rattle.std.proofs.Common.{◌≡◌, ◌≢◌, ℕ, suc, ◌+◌, ◌-◌, ◌<◌, ◌≤◌, Bool, true, false, ◌&&◌, cond, List, [], ◌∷◌, ◌++◌, length, drop, min, refl, sym, ap, subst, ◌∙◌, arith, inl, inr, Option, Some, None}
+use Rattle.std.specs.Prelude.{ℤ, pos, negsuc, nat_lt, nat_le, ◌==◌, find}
 use Rattle.std.proofs.lemmas.Bool.{cases_eq}
 use Rattle.std.proofs.lemmas.Bool.Decides.{nat_tests}
 use Rattle.std.proofs.lemmas.Option.{same_Some}
@@ -16,7 +16,7 @@ use Rattle.hunk_place.proofs.FirstLemmas.{first-end, first-room, first-start}
 use Rattle.hunk_place.proofs.OrderLemmas.{Each, each-ordered, each-range}
 use Rattle.hunk_place.proofs.ScanLemmas.{found-above, scan-none}
 use Rattle.hunk_place.proofs.SearchLemmas.{fuzz-found, place-empty, place-full}
-use Rattle.hunk_apply.proofs.PlaceLemmas.{each-cond, found-each, least-cons, least-none, spot-behind}
+use Rattle.hunk_apply.proofs.PlaceLemmas.{found-each, least-cons, least-none, spot-behind}
 use Rattle.hunk_apply.proofs.SpliceLemmas.{from-next}
 use Rattle.flip_law.specs.Turnable.{IsExact}
 use Rattle.flip_law.proofs.Fitting.{fits-on, on-fits}

@@ -1,8 +1,8 @@
 -- Hunks that are placed exactly, and the same turned round.
-use Rattle.std.proofs.Common.{◌≡◌, ℕ, ◌+◌, ◌≤◌, List, [], ◌∷◌, length, map, refl, sym, ap, subst, ◌∙◌, arith}
+use Rattle.std.proofs.Common.{◌≡◌, ℕ, List, [], ◌∷◌, map, refl, sym, ap, subst, ◌∙◌, arith}
 use Rattle.std.specs.Prelude.{pos}
 use Rattle.std.proofs.lemmas.Int.{ints}
-use Rattle.hunk_core.specs.PlainHunk.{PlainHunk, old_lines}
+use Rattle.hunk_core.specs.PlainHunk.{PlainHunk}
 use Rattle.hunk_core.specs.Turned.{base, swapped}
 use Rattle.hunk_place.specs.Verdicts.{at_start}
 use Rattle.hunk_apply.specs.Splice.{all_edits, spliced}

@@ -1,6 +1,6 @@
 -- Lists of lines whose joined text is read as the same lines.
 use Rattle.std.proofs.Common.{◌≡◌, ◌⊎◌, inl, inr, ℕ, ◌+◌, ◌≤◌, Bool, true, false, List, [], ◌∷◌, ◌++◌, length, map, refl, sym, ap, subst, ◌∙◌, arith}
-use Rattle.std.specs.List.{AllByRecursion, flat_map}
+use Rattle.std.specs.List.{AllByRecursion}
 use Rattle.std.proofs.lemmas.List.{length-append}
 use Rattle.std.proofs.lemmas.List.Concat.{flat_map-cons}
 use Rattle.line_list.specs.Join.{feed_if, join, lacks_feed}
@@ -15,7 +15,7 @@ use Rattle.hunk_apply.specs.Applied.{applied}
 use Rattle.hunk_apply.specs.Splice.{spliced}
 use Rattle.flip_law.specs.Turnable.{ArePlacedExactly, AreTurnable, HaveLines, edits_in}
 use Rattle.flip_law.proofs.Turned.{both, new-is, undone-law}
-use Rattle.flip_law.proofs.Turns.{Turn, Turns}
+use Rattle.flip_law.proofs.Turns.{Turns}
 
 abbrev pub HasBytes : List ℕ → Type 0
 HasBytes line = IsLine line ⊎ IsOpenLine line

@@ -1,5 +1,5 @@
 -- Hunks that can be taken back by turning each of them round (GNU diffutils manual, "Applying Reversed Patches").
-use Rattle.std.specs.Prelude.{◌≡◌, ◌⊎◌, ℕ, ◌+◌, ◌<◌, ◌≤◌, ℤ, pos, ◌+ℤ◌, ◌-ℤ◌, List, [], ◌∷◌, length, map, false}
+use Rattle.std.specs.Prelude.{◌≡◌, ◌⊎◌, ℕ, ◌+◌, ◌<◌, ◌≤◌, ℤ, pos, ◌+ℤ◌, ◌-ℤ◌, List, [], ◌∷◌, length, false}
 use Rattle.std.specs.List.{AllByRecursion}
 use Rattle.line_list.specs.Lines.{IsLine, IsOpenLine}
 use Rattle.hunk_core.specs.declared.Verdict.{Verdict}

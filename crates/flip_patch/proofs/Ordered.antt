@@ -1,5 +1,5 @@
 -- Hunks that were read in the normal form have their dropped lines in front.
-use Rattle.std.proofs.Common.{◌≡◌, ℕ, true, List, [], ◌∷◌, ◌++◌, map, refl, ap, cond, ◌∙◌}
+use Rattle.std.proofs.Common.{◌≡◌, ℕ, true, List, [], ◌∷◌, ◌++◌, refl, ap, cond, ◌∙◌}
 use Rattle.std.specs.Prelude.{All}
 use Rattle.std.specs.List.{AllByRecursion}
 use Rattle.std.proofs.lemmas.List.Elements.{All-from_recursion}
@@ -8,10 +8,9 @@ use Rattle.hunk_core.specs.declared.Form.{Form}
 use Rattle.hunk_core.specs.declared.Form.TheVariants.{Unified, Context, Normal, Ed}
 use Rattle.hunk_core.specs.declared.Hunk.{Hunk}
 use Rattle.hunk_core.specs.declared.HunkLine.{HunkLine}
-use Rattle.hunk_core.specs.declared.Mark.{Mark}
 use Rattle.hunk_core.specs.declared.Mark.TheVariants.{Drop, Add}
 use Rattle.hunk_core.specs.declared.Side.TheVariants.{Forward, Reversed}
-use Rattle.hunk_core.specs.PlainHunk.{Marked, PlainHunk, body_of, hunk_of, hunks_of, marked_of, bytes_at}
+use Rattle.hunk_core.specs.PlainHunk.{Marked, body_of, hunk_of, hunks_of, marked_of, bytes_at}
 use Rattle.hunk_core.specs.Turned.{is_drop}
 use Rattle.hunk_core.specs.Pieces.{SpellInTurn}
 use Rattle.line_list.specs.Lines.{lines}

@@ -2,16 +2,15 @@
 use Rattle.std.proofs.Common.{◌≡◌, ℕ, zero, suc, ◌+◌, ◌<◌, ◌≤◌, Bool, true, false, cond, ◌||◌, List, [], ◌∷◌, length, get_or, map, drop, refl, sym, ap, ◌∙◌, arith, Option, None, Some}
 use Rattle.std.specs.Prelude.{find, nat_lt, option_map}
 use Rattle.std.specs.Option.{option_or}
-use Rattle.std.proofs.lemmas.List.{drop_more, drop_all, length-map}
+use Rattle.std.proofs.lemmas.List.{drop_more, drop_all}
 use Rattle.std.proofs.lemmas.Bool.Decides.{nat_tests}
 use Rattle.hunk_core.specs.declared.Hunk.{Hunk}
-use Rattle.hunk_core.specs.PlainHunk.{PlainHunk, hunk_of, hunks_of}
+use Rattle.hunk_core.specs.PlainHunk.{hunks_of}
 use Rattle.file_patch.specs.declared.Change.{Change}
 use Rattle.file_patch.specs.declared.Change.TheVariants.{Hunks, Script}
 use Rattle.file_patch.specs.declared.FilePatch.{FilePatch}
 use Rattle.file_patch.specs.Actions.{is_moved}
 use Rattle.file_patch.specs.PlainPatch.{PlainPatch, change_of, patch_of}
-use Rattle.flip_patch.specs.declared.fault.FlipFault.{FlipFault}
 use Rattle.flip_patch.specs.declared.fault.FlipFault.TheVariants.{EdReverse, Unfit}
 use Rattle.flip_patch.specs.Refusals.{first_opening, is_script, is_unfit, new_starts, refused, starts_fall, told_script, told_starts, told_unfit}
 
