@@ -1,4 +1,4 @@
-//! Worked rows of names and choices, of sets, of their git headers, of their parts and counts, and of lists, filtered texts and lines that are found.
+//! Worked rows of names and choices, of sets, of their git headers, of their parts and counts, and of lists, filtered texts, lines that are found and sets turned round.
 #![tactic(auto)]
 
 #[cfg(test)]
@@ -7,6 +7,8 @@ mod candidates;
 mod choosing;
 #[cfg(test)]
 mod counts;
+#[cfg(test)]
+mod flips;
 #[cfg(test)]
 mod git_headers;
 #[cfg(test)]

@@ -1,0 +1,4 @@
+mod Loops
+mod Refused
+mod Ordered
+mod Placed

@@ -1,0 +1,4 @@
+use Rattle.flip_patch.proofs.hunks.put_hunk.Goals as goal
+
+pub returns-in-Context : goal.returns-in-Context
+returns-in-Context g c = rw c.in-Context.is c.put_hunk-in-Context.ensures.put

@@ -1,0 +1,28 @@
+use Rattle.std.proofs.Common.{◌≡◌, length, arith}
+use Rattle.std.proofs.lemmas.Result.{err_from_is_err_and}
+use Rattle.hunk_core.specs.PlainHunk.{hunk_of}
+use Rattle.hunk_core.specs.Turned.{swapped}
+use Rattle.flip_patch.specs.Flipped.{hunk_text}
+use Rattle.flip_patch.proofs.Loops.{goes-on, stops, ends}
+use Rattle.flip_patch.proofs.Placed.{flat-swapped, found}
+use Rattle.flip_patch.proofs.hunks.put_hunks.Goals as goal
+
+pub returns-in_err-put_hunk : goal.returns-in_err-put_hunk
+returns-in_err-put_hunk g c =
+    let xs = c.args.hunks.now in
+    let q = err_from_is_err_and c.from_residual.result c.from_residual.ensures.1 in
+    rw (q.1, flat-swapped c.args.text.now c.args.form xs)
+    (stops (λ h. hunk_text c.args.form (swapped (hunk_of c.args.text.now h))) xs g.met.O.Sink.rest_both c.loop-i.i c.index-hunks-i.result c.in_err-put_hunk.field-0.0 q.0
+    c.loop-i-test.true (found xs c.loop-i.i c.index-hunks-i.result c.loop-i-test.true c.index-hunks-i.is) c.loop-i.invariant c.in_err-put_hunk.ensures)
+
+pub loop-i-preserved : goal.loop-i-preserved
+loop-i-preserved g c =
+    let xs = c.args.hunks.now in
+    goes-on (λ h. hunk_text c.args.form (swapped (hunk_of c.args.text.now h))) xs g.met.O.Sink.rest_both c.loop-i.i c.index-hunks-i.result c.in_ok-put_hunk.field-0
+    c.loop-i-test.true (found xs c.loop-i.i c.index-hunks-i.result c.loop-i-test.true c.index-hunks-i.is) c.loop-i.invariant c.in_ok-put_hunk.ensures
+
+pub returns : goal.returns
+returns g c =
+    let xs = c.args.hunks.now in
+    let end : c.loop-i.i ≡ length xs = omega (arith, c.loop-i-test.false, c.loop-i.auto.i-end) in
+    rw (flat-swapped c.args.text.now c.args.form xs) (ends (λ h. hunk_text c.args.form (swapped (hunk_of c.args.text.now h))) xs g.met.O.Sink.rest_both c.loop-i.i _ end c.loop-i.invariant)

@@ -1,0 +1,10 @@
+use Rattle.std.proofs.Common.{◌≡◌, get_or, subst}
+use Rattle.flip_patch.proofs.Placed.{found, placed-at}
+use Rattle.flip_patch.proofs.patches.patch_at.Goals as goal
+
+pub returns-clause-placed : goal.returns-clause-placed
+returns-clause-placed c =
+    let v = c.args.set.now in
+    let p = c.index-patches-patch.result in
+    placed-at v.text 0 0 v.patches c.args.patch p c.patches.ensures.whole.placed
+    (found v.patches c.args.patch p c.requires (subst (λ l. p ≡ get_or l c.args.patch p) c.patches.ensures.patches c.index-patches-patch.is))

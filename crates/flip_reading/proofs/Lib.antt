@@ -1,0 +1,9 @@
+mod Lines
+mod Shown
+mod Region
+mod Feeds
+mod Hunks
+mod Names
+mod Headers
+mod Headed
+mod Reading
