@@ -18,7 +18,7 @@ mod unsynced;
 use crate::behind::line_behind;
 use crate::called::{called_tool, tool_of, words_of};
 use crate::disk::Disk;
-use crate::help::{Told, told};
+use crate::help::{Telling, told};
 use crate::pages::Pages;
 use crate::streams::{Input, Output};
 use crate::trouble::Trouble;
@@ -46,8 +46,8 @@ fn main(rt: HostRuntime) -> ExitCode {
 fn answer(rt: &HostRuntime, words: &[String]) -> u8 {
     let tool = tool_of(words);
     let done = match told(words) {
-        Some(Told::Text(text)) => tell(rt, tool, text),
-        Some(Told::Words(of)) => tell_words(rt, tool, of),
+        Some(Telling::Text(text)) => tell(rt, tool, text),
+        Some(Telling::Words(of)) => tell_words(rt, tool, of),
         None => carry_out(rt, tool, words),
     };
     match done {
