@@ -113,16 +113,7 @@ fn run_words<T: Tree, C: Scratch, I: Source, O: Sink, E: Sink>(
     err: &mut E,
 ) -> (Exit, C) {
     let mut finder = RegexFinder::new();
-    run(
-        alloc,
-        words,
-        tree,
-        scratch,
-        &mut finder,
-        input,
-        out,
-        err,
-    )
+    run(alloc, words, tree, scratch, &mut finder, input, out, err)
 }
 
 /// Writes the line behind an answer's, as far as memory and the device allow.
