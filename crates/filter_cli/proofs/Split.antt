@@ -108,8 +108,7 @@ module _ (j : PlainSplitJob) (h : FinderView) (a : SourceView) (t w : TreeView) 
           → TellsPrefix t w (part_puts j.input x.0 (numbered x.1))
       puts-first k files few g0 g was now =
           let rows = numbered x.1 in
-          let same : SameLasting (after_all (part_puts j.input x.0 (take k rows)) g0) g = subst (λ (y : Files). SameLasting (after_all (part_puts j.input x.0 (take k rows)) y) g) (same_Some _ _ (sym told ∙ was)) (files g now) in
-          (
+          let same : SameLasting (after_all (part_puts j.input x.0 (take k rows)) g0) g = subst (λ (y : Files). SameLasting (after_all (part_puts j.input x.0 (take k rows)) y) g) (same_Some _ _ (sym told ∙ was)) (files g now) in (
             k,
             subst (λ (n : ℕ). k ≤ n) (sym (length-map rows (part_put j.input x.0))) few,
             subst (λ es. SameLasting (after_all es g0) g) (sym (take-map (part_put j.input x.0) k rows)) same,
@@ -146,15 +145,22 @@ module _ (j : PlainSplitJob) (h : FinderView) (a : SourceView) (t w : TreeView) 
     split-breaks true e own is = absurd (cc)
     split-breaks false e own fault = ⊎_elim
         (λ not. inl (not-begun not))
-        (λ (x, is, (k, cut)). inr (x, is, (k, record {
-          few = cut.few;
-          files = cut.files;
-          exact = λ whole. cut.exact (λ failed. whole (ap of_filter failed));
-          out = cut.out;
-          said = cut.said;
-          near = cut.near;
-          names = cut.names;
-        })))
+        (λ (x, is, (k, cut)). inr (
+          x,
+          is,
+          (
+            k,
+            record {
+              few = cut.few;
+              files = cut.files;
+              exact = λ whole. cut.exact (λ failed. whole (ap of_filter failed));
+              out = cut.out;
+              said = cut.said;
+              near = cut.near;
+              names = cut.names;
+            },
+          ),
+        ))
         fault
 
   pub split_carry : (r : Result (Unit {0}) FilterFault) → Splits j t w c d r → Carries (Ok (split_job j)) before behind (why_by r)

@@ -67,12 +67,7 @@ pub fn grepdiff<T: Tree, F: Finder, I: Source, O: Sink>(
     answer(run_grep(alloc, job, tree, finder, source, out))
 }
 
-pub fn splitdiff<T: Tree, O: Sink>(
-    alloc: Global,
-    job: &SplitJob,
-    tree: &mut T,
-    out: &mut O,
-) -> Why
+pub fn splitdiff<T: Tree, O: Sink>(alloc: Global, job: &SplitJob, tree: &mut T, out: &mut O) -> Why
     requires quiet { IsQuiet (T.view tree.old) }
     ensures carries { (v : FinderView) (s : SourceView) → Carries (Ok (split_job (plain_split_job job.now))) (world (T.view tree.old) v s (O.view out.old)) (world (T.view tree.new) v s (O.view out.new)) result }
     ensures rest { O.same_rest out.old out.new }

@@ -79,19 +79,19 @@ The status is 0 where every hunk was placed, 1 where one wasn't, else 2.
 ";
 
 /// What is told.
-pub enum Told {
+pub enum Telling {
     Text(&'static str),
     /// The words of a tool.
     Words(Tool),
 }
 
 /// What `--help`, `--version` or no word at all asks for. No command has these words in front of a `--`.
-pub fn told(words: &[String]) -> Option<Told> {
+pub fn told(words: &[String]) -> Option<Telling> {
     if words.is_empty() {
-        return Some(Told::Text(TOOLS));
+        return Some(Telling::Text(TOOLS));
     }
     match asked(words) {
-        Some("--version") => Some(Told::Text(VERSION)),
+        Some("--version") => Some(Telling::Text(VERSION)),
         Some(_) => help_of(tool_of(words)),
         None => None,
     }
@@ -111,17 +111,17 @@ fn asked(words: &[String]) -> Option<&str> {
 }
 
 /// The words of a tool. Those of one that isn't built aren't told.
-fn help_of(tool: &str) -> Option<Told> {
+fn help_of(tool: &str) -> Option<Telling> {
     match tool {
-        "patch" => Some(Told::Text(PATCH)),
-        "patchkit" => Some(Told::Text(TOOLS)),
+        "patch" => Some(Telling::Text(PATCH)),
+        "patchkit" => Some(Telling::Text(TOOLS)),
         _ => words_of(tool_named(tool)),
     }
 }
 
-fn words_of(tool: Option<Tool>) -> Option<Told> {
+fn words_of(tool: Option<Tool>) -> Option<Telling> {
     match tool {
         Some(Tool::Patchgen | Tool::Reversediff | Tool::Patchstack) | None => None,
-        Some(tool) => Some(Told::Words(tool)),
+        Some(tool) => Some(Telling::Words(tool)),
     }
 }

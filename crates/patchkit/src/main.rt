@@ -20,7 +20,7 @@ mod unsynced;
 use crate::behind::line_behind;
 use crate::called::{called_tool, tool_of, words_of};
 use crate::disk::Disk;
-use crate::help::{Told, told};
+use crate::help::{Telling, told};
 use crate::pages::Pages;
 use crate::streams::{Input, Output};
 use crate::trouble::Trouble;
@@ -48,8 +48,8 @@ fn main(rt: HostRuntime) -> ExitCode {
 fn answer(rt: &HostRuntime, words: &[String]) -> u8 {
     let tool = tool_of(words);
     let done = match told(words) {
-        Some(Told::Text(text)) => tell(rt, tool, text),
-        Some(Told::Words(of)) => tell_words(rt, tool, of),
+        Some(Telling::Text(text)) => tell(rt, tool, text),
+        Some(Telling::Words(of)) => tell_words(rt, tool, of),
         None => carry_out(rt, tool, words),
     };
     match done {
@@ -115,16 +115,7 @@ fn run_words<T: Tree, C: Scratch, I: Source, O: Sink, E: Sink>(
     err: &mut E,
 ) -> (Exit, C) {
     let mut finder = RegexFinder::new();
-    run(
-        alloc,
-        words,
-        tree,
-        scratch,
-        &mut finder,
-        input,
-        out,
-        err,
-    )
+    run(alloc, words, tree, scratch, &mut finder, input, out, err)
 }
 
 /// Writes the line behind an answer's, as far as memory and the device allow.

@@ -28,7 +28,10 @@ struct Left {
 
 /// Runs `splitdiff` with these calls of the tree and of the sink failing; standard error fails at once.
 fn left_by(alloc: Global, tree_fails: u32, out_fails: u32) -> Result<Left, Fail> {
-    let words = vec![in alloc; String::from_str(alloc, "splitdiff")?, String::from_str(alloc, "p.diff")?]?;
+    let words = vec![in alloc;
+        String::from_str(alloc, "splitdiff")?,
+        String::from_str(alloc, "p.diff")?,
+    ]?;
     let mut tree = tree_of(alloc, ROW, Vec::from_slice(alloc, &[tree_fails])?)?;
     let mut out = MemSink::new(alloc, Vec::from_slice(alloc, &[out_fails])?);
     let mut err = MemSink::new(alloc, Vec::from_slice(alloc, &[1])?);
@@ -36,7 +39,14 @@ fn left_by(alloc: Global, tree_fails: u32, out_fails: u32) -> Result<Left, Fail>
     let scratch = MemScratch::new(alloc, Vec::new(alloc));
     let mut finder = PlainFinder::new();
     let (exit, _scratch) = run(
-        alloc, &words, &mut tree, scratch, &mut finder, &mut input, &mut out, &mut err,
+        alloc,
+        &words,
+        &mut tree,
+        scratch,
+        &mut finder,
+        &mut input,
+        &mut out,
+        &mut err,
     );
     Ok(Left { exit, tree, out })
 }
@@ -73,9 +83,17 @@ fn is_done(alloc: Global, left: &Left) -> Result<bool, Fail> {
 
 /// How many calls of the tree end the run, or of the sink; none where one does what it may not.
 fn faults(alloc: Global, is_tree: bool) -> Result<Option<u32>, Fail> {
-    let why = if is_tree { Why::TreeFault } else { Why::WriteFault };
+    let why = if is_tree {
+        Why::TreeFault
+    } else {
+        Why::WriteFault
+    };
     for call in 0..CALLS {
-        let (tree_fails, out_fails) = if is_tree { (call + 1, 0) } else { (0, call + 1) };
+        let (tree_fails, out_fails) = if is_tree {
+            (call + 1, 0)
+        } else {
+            (0, call + 1)
+        };
         let left = left_by(alloc, tree_fails, out_fails)?;
         if is_done(alloc, &left)? {
             return Ok(Some(call));
@@ -105,7 +123,10 @@ fn parts_are_put_one_by_one(rt: HostRuntime) -> Result<(), Fail> {
     let alloc = rt.alloc();
     for is_tree in [true, false] {
         let count = faults(alloc, is_tree)?;
-        assert!(rt; matches!(count, Some(calls) if calls > 0), "{is_tree} {count:?}");
+        assert!(rt;
+            matches!(count, Some(calls) if calls > 0),
+            "{is_tree} {count:?}"
+        );
     }
     assert!(rt; all_stop_well(alloc, &left_by(alloc, 0, 0)?)?);
     Ok(())
