@@ -1,9 +1,10 @@
 -- Places reached from another one of the same page.
 use Rattle.std.proofs.Common.{◌≡◌, ◌≢◌, ℕ, ◌+◌, ◌-◌, ◌<◌, ◌≤◌, List, length, Bool, true, false, Option, Some, None, inl, inr, refl, sym, ap, subst, ◌∙◌, arith}
+use Rattle.std.specs.Option.{option_map}
 use Rattle.std.proofs.lemmas.Bool.{cases_lt}
 use Rattle.outside.specs.ScratchView.{ScratchView}
 use Rattle.line_store.specs.declared.Half.{Half}
-use Rattle.line_store.specs.Store.{line_at, NoneAlike}
+use Rattle.line_store.specs.Store.{line_at, NoneAlike, IsLastAlike}
 use Rattle.page_pair.specs.Pair.{Pair, page_of}
 use Rattle.file_pieces.specs.Records.{stated, line_in}
 use Rattle.packed_pages.specs.declared.layout.Layout.{Layout}
@@ -11,7 +12,7 @@ use Rattle.packed_pages.specs.declared.places.Place.{Place}
 use Rattle.packed_pages.specs.declared.places.Places.{Places}
 use Rattle.packed_pages.specs.Layout.{place_in, first_line, page_in, lines_told}
 use Rattle.packed_pages.specs.Held.{IsPage, IsLoaded, IsHeld, place_of}
-use Rattle.packed_pages.specs.Steps.{IsWhole, Follows, IfNear, Misses, TellsAlike}
+use Rattle.packed_pages.specs.Steps.{IsWhole, Follows, IfNear, Misses, TellsAlike, IfLast}
 use Rattle.packed_pages.specs.Alike.{FindsFirst}
 use Rattle.packed_pages.proofs.Pages.{place-more}
 use Rattle.packed_pages.proofs.HeldLemmas.{line-there}
@@ -114,3 +115,18 @@ finds-first pair l places v h p q page lines line k is held place same at f most
     (ap (line_in page) f.whole.place ∙ ap (λ n. line_in page (place_in (q.line - n) page)) f.first ∙ there pair l places v h p page lines q.line held place same f.order f.within most told)
     (λ i low high alike. misses i (omega arith) high (there pair l places v h p page lines i held place same (omega arith) (omega arith) (omega arith) told ∙ alike))
     t
+
+-- what a pass over a page says of its last line that is alike
+pub finds-last : (pair : Pair) (l : Layout) (places : Places) (v : ScratchView) (h : Half) (p q : Place) (page : List ℕ) (lines : List (List ℕ)) (line : List ℕ) (k : ℕ) (o : Option Place) → IsHeld pair l places v → place_of places h ≡ Some p → page ≡ page_of pair h → p.line ≡ k → Follows page p q → q.line ≤ l.count → lines_told l v.told ≡ Some lines → IfLast page p line (q.line + 1) o → IsLastAlike lines line k (q.line + 1) (option_map (λ x. x.line) o)
+finds-last pair l places v h p q page lines line k None held place same at f most told last =
+    let within : q.line < p.next = f.within in
+    let order : p.line ≤ q.line = f.order in
+    λ i low high alike. last i (omega arith) (omega arith) (there pair l places v h p page lines i held place same (omega arith) (omega arith) (omega arith) told ∙ alike)
+finds-last pair l places v h p q page lines line k (Some r) held place same at f most told last =
+    let within : q.line < p.next = f.within in
+    let order : p.line ≤ q.line = f.order in
+    let there_ : p.line ≤ r.line = last.follows.order in
+    let before : r.line < q.line + 1 = last.before in (
+      sym (ap (line_in page) last.follows.whole.place ∙ ap (λ n. line_in page (place_in (r.line - n) page)) last.follows.first ∙ there pair l places v h p page lines r.line held place same last.follows.order last.follows.within (omega arith) told) ∙ last.is,
+      λ i low high alike. last.misses i low high (there pair l places v h p page lines i held place same (omega arith) (omega arith) (omega arith) told ∙ alike),
+    )

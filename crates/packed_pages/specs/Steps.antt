@@ -33,3 +33,15 @@ Misses page first line from to = (i : ℕ) → from ≤ i → i < to → line_in
 abbrev pub TellsAlike : List ℕ → List ℕ → ℕ → Bool → Type 0
 TellsAlike page line at true = line_in page at ≡ line
 TellsAlike page line at false = line_in page at ≢ line
+
+-- a place that follows another one holds this line, and none behind it does, up to before a line
+pub record IsLastAt (page : List ℕ) (start : Place) (line : List ℕ) (to : ℕ) (q : Place) : Type 0 where
+  pub follows : Follows page start q
+  pub before : q.line < to
+  pub is : line_in page q.at ≡ line
+  pub misses : Misses page start.first line (q.line + 1) to
+
+-- the last such place, if there is one
+abbrev pub IfLast : List ℕ → Place → List ℕ → ℕ → Option Place → Type 0
+IfLast page start line to None = Misses page start.first line start.line to
+IfLast page start line to (Some q) = IsLastAt page start line to q

@@ -21,7 +21,7 @@ mod stepping;
 mod taking;
 mod walking;
 
-use crate::alike::find_first;
+use crate::alike::{find_first, find_last};
 use crate::layout::Layout;
 use crate::loading::load_line;
 use crate::marks::Marks;
@@ -136,6 +136,27 @@ impl<C: Scratch> LineStore for PackedB<C> {
         half: Half,
     ) -> Result<Option<u64>, LineFault> {
         find_first(
+            &mut self.pair,
+            &mut self.scratch,
+            &mut self.places,
+            &mut self.marks,
+            self.layout,
+            from,
+            to,
+            line,
+            half,
+        )
+    }
+
+    /// The same, in groups of lines of a page.
+    fn last_alike(
+        &mut self,
+        from: u64,
+        to: u64,
+        line: &[u8],
+        half: Half,
+    ) -> Result<Option<u64>, LineFault> {
+        find_last(
             &mut self.pair,
             &mut self.scratch,
             &mut self.places,

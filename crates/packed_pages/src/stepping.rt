@@ -3,7 +3,7 @@
 ghost use Rattle.std.specs.Prelude.{◌≡◌, ◌≤◌, ◌<◌, ◌+◌, ◌^◌, IsTrue, ◌↔◌, ℕ, List, length, None, Some, IfSome};
 ghost use Rattle.file_pieces.specs.Records.{stated, line_in};
 ghost use Rattle.packed_pages.specs.declared.places.Place.{Place};
-ghost use Rattle.packed_pages.specs.Steps.{IsWhole, Follows, IfNear, Misses, TellsAlike};
+ghost use Rattle.packed_pages.specs.Steps.{IsWhole, Follows, IfNear, Misses, TellsAlike, IfLast};
 
 use crate::places::Place;
 use file_pieces::record::{line_of, stated_length};
@@ -133,4 +133,45 @@ pub fn first_pass(page: &[u8], start: Place, to: u64, line: &[u8]) -> Pass
         place: now,
         is_alike: true,
     }
+}
+
+/// The records of a page up to one, and the last of them that is alike.
+#[derive(Clone, Copy)]
+pub struct LastPass {
+    pub place: Place,
+    pub alike: Option<Place>,
+}
+
+/// This place, if its record holds the line, and else the one that was alike before.
+fn later(page: &[u8], place: Place, alike: Option<Place>, line: &[u8]) -> Option<Place>
+    requires whole { IsWhole page.now place }
+    ensures { (start : Place) → Follows page.now start place → IfLast page.now start line.now place.line alike → IfLast page.now start line.now (place.line + 1) result }
+{
+    if is_alike(page, place.at, line) {
+        return Some(place);
+    }
+    alike
+}
+
+/// Goes on from a place up to before line `to`. It stops before a record that isn't whole.
+pub fn last_pass(page: &[u8], start: Place, to: u64, line: &[u8]) -> LastPass
+    requires small { length page.now ≤ 2 ^ 20 }
+    requires whole { IsWhole page.now start }
+    requires within { start.line < start.next }
+    requires before { start.line < to }
+    ensures follows { Follows page.now start result.place }
+    ensures before { result.place.line < to }
+    ensures last { IfLast page.now start line.now (result.place.line + 1) result.alike }
+{
+    let end = u64::min(to, start.next);
+    let mut now = start;
+    let mut alike = later(page, start, None, line);
+    while now.line + 1 < end {
+        now = match next_on(page, now) {
+            Some(next) => next,
+            None => return LastPass { place: now, alike },
+        };
+        alike = later(page, now, alike, line);
+    }
+    LastPass { place: now, alike }
 }

@@ -1,5 +1,4 @@
-use Rattle.std.proofs.Common.{◌≡◌, Some, sym, subst, ◌∙◌, refl, arith, ◌≤◌, ◌<◌}
-use Rattle.packed_pages.specs.declared.places.Place.{Place}
+use Rattle.std.proofs.Common.{◌≡◌, Some, sym, subst, ◌∙◌, refl, arith, ◌<◌}
 use Rattle.packed_pages.specs.Held.{IsLoaded}
 use Rattle.packed_pages.specs.Steps.{IsWhole, Follows}
 use Rattle.packed_pages.proofs.HeldLemmas.{held-more}
@@ -8,7 +7,6 @@ use Rattle.packed_pages.proofs.alike.first_on_page.Goals as goal
 
 pub first_pass-pass-requires-clause-whole : goal.first_pass-pass-requires-clause-whole
 first_pass-pass-requires-clause-whole g c =
-    let p = c.in-Ok.place in
     subst (λ page. IsWhole page c.in-Ok.place) (sym c.page.ensures.is)
     (loaded-whole c.load_line.new.pair c.args.layout (g.C.Scratch.view c.load_line.new.scratch) c.args.half c.in-Ok.place (c.in-Ok.ensures.held.loaded c.args.half c.in-Ok.place c.in-Ok.ensures.place))
 
@@ -18,10 +16,6 @@ first_pass-pass-requires-clause-within g c = (c.in-Ok.ensures.held.loaded c.args
 pub returns-clause-held : goal.returns-clause-held
 returns-clause-held g c =
     let view = g.C.Scratch.view in
-    let l = c.args.layout in
-    let pair = c.load_line.new.pair in
-    let v = view c.load_line.new.scratch in
-    let q = c.first_pass-pass.result.place in
     let before : c.first_pass-pass.result.place.line < c.args.to = c.first_pass-pass.ensures.before in
     held-more c.load_line.new.pair c.load_line.new.pair c.args.layout c.load_line.new.places c.set.new.self (view c.load_line.new.scratch) (view c.load_line.new.scratch) c.args.half
     c.in-Ok.ensures.held refl refl (λ h ne. refl) c.set.ensures.other
