@@ -1,5 +1,4 @@
-use Rattle.std.proofs.Common.{◌≡◌, ◌<◌, ◌≤◌, ◌-◌, length, Some, refl, sym, ap, subst, ◌∙◌, arith}
-use Rattle.file_pieces.proofs.Windows.{page-length}
+use Rattle.std.proofs.Common.{◌≡◌, ◌<◌, Some, refl, sym, subst, ◌∙◌, arith}
 use Rattle.plan_b.specs.Held.{IsLoaded}
 use Rattle.plan_b.specs.Spots.{IsSpot, IsRecord, Follows}
 use Rattle.plan_b.proofs.HeldLemmas.{held-more}
