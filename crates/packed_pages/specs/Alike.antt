@@ -1,5 +1,5 @@
 -- What a part of a search says of the lines that it came past.
-use Rattle.std.specs.Prelude.{◌≡◌, ◌≢◌, ℕ, ◌+◌, List, Bool, true, false}
+use Rattle.std.specs.Prelude.{◌≡◌, ℕ, ◌+◌, List, Bool, true, false}
 use Rattle.line_store.specs.Store.{NoneAlike, line_at}
 
 -- from a line on, the first one that is alike is another one, or none up to that one

@@ -1,4 +1,4 @@
-use Rattle.std.proofs.Common.{◌≡◌, ◌≢◌, ◌≤◌, ◌-◌, ◌^◌, ℕ, List, Some}
+use Rattle.std.proofs.Common.{◌≡◌, ◌≢◌, ◌≤◌, ◌-◌, ℕ, List, Some}
 use Rattle.line_store.specs.declared.Half.{Half}
 use Rattle.line_store.specs.Store.{Keeps, NoneAlike}
 use Rattle.packed_pages.specs.Marks.{AreMarked}

@@ -1,5 +1,4 @@
 use Rattle.std.proofs.Common.{◌∙◌, sym, Some, subst}
-use Rattle.page_pair.specs.Pair.{page_of}
 use Rattle.packed_pages.specs.Steps.{IsWhole, IfNear}
 use Rattle.packed_pages.proofs.Steps.{loaded-whole, near-loaded, near-line}
 use Rattle.packed_pages.proofs.loading.fetch_line.Goals as goal

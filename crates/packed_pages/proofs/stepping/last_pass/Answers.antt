@@ -1,4 +1,4 @@
-use Rattle.std.proofs.Common.{◌≡◌, ◌<◌, ◌+◌, subst, sym, arith}
+use Rattle.std.proofs.Common.{◌≡◌, ◌+◌, subst, sym, arith}
 use Rattle.packed_pages.specs.Steps.{IfLast}
 use Rattle.packed_pages.proofs.Steps.{follows-more}
 use Rattle.packed_pages.proofs.stepping.last_pass.Goals as goal

@@ -1,4 +1,3 @@
-use Rattle.std.proofs.Common.{◌≡◌, Some, sym, refl, ◌∙◌}
 use Rattle.packed_pages.proofs.stepping.near.Goals as goal
 
 pub near_place-requires-clause-whole : goal.near_place-requires-clause-whole
