@@ -1,5 +1,5 @@
 -- Places reached from another one of the same page.
-use Rattle.std.proofs.Common.{◌≡◌, ℕ, ◌+◌, ◌-◌, ◌<◌, ◌≤◌, List, length, Bool, true, false, Option, Some, None, inl, inr, refl, sym, ap, subst, ◌∙◌, arith}
+use Rattle.std.proofs.Common.{◌≡◌, ℕ, ◌+◌, ◌-◌, ◌<◌, ◌≤◌, List, length, Bool, true, false, Option, Some, None, IfSome, inl, inr, refl, sym, ap, subst, ◌∙◌, arith}
 use Rattle.std.specs.Option.{option_map}
 use Rattle.std.proofs.lemmas.Bool.{cases_lt}
 use Rattle.outside.specs.ScratchView.{ScratchView}
@@ -10,12 +10,13 @@ use Rattle.file_pieces.specs.Records.{stated, line_in}
 use Rattle.packed_pages.specs.declared.layout.Layout.{Layout}
 use Rattle.packed_pages.specs.declared.places.Place.{Place}
 use Rattle.packed_pages.specs.declared.places.Places.{Places}
-use Rattle.packed_pages.specs.Layout.{place_in, first_line, page_in, lines_told}
+use Rattle.packed_pages.specs.Layout.{place_in, first_line, page_in, lines_told, IsPageOf}
 use Rattle.packed_pages.specs.Held.{IsPage, IsLoaded, IsHeld, place_of}
-use Rattle.packed_pages.specs.Steps.{IsWhole, Follows, IfNear, Misses, TellsAlike, IfLast}
+use Rattle.packed_pages.specs.Steps.{IsWhole, Follows, IfNear, Misses, TellsAlike, IfLast, IfReaches, moved}
 use Rattle.packed_pages.specs.Alike.{FindsFirst}
 use Rattle.packed_pages.proofs.Pages.{place-more}
 use Rattle.packed_pages.proofs.HeldLemmas.{line-there}
+use Rattle.packed_pages.proofs.Spans.{page-plain}
 
 -- the place of a line that a half holds is that of a whole record
 pub loaded-whole : (pair : Pair) (l : Layout) (v : ScratchView) (h : Half) (p : Place) → IsLoaded pair l v h p → IsWhole (page_of pair h) p
@@ -130,3 +131,31 @@ finds-last pair l places v h p q page lines line k (Some r) held place same at f
       sym (ap (line_in page) last.follows.whole.place ∙ ap (λ n. line_in page (place_in (r.line - n) page)) last.follows.first ∙ there pair l places v h p page lines r.line held place same last.follows.order last.follows.within (omega arith) told) ∙ last.is,
       λ i low high alike. last.misses i low high (there pair l places v h p page lines i held place same (omega arith) (omega arith) (omega arith) told ∙ alike),
     )
+
+-- a place that is reached from the one that is held
+pub moved-loaded : (pair : Pair) (l : Layout) (places : Places) (v : ScratchView) (h : Half) (o : Option Place) (k at : ℕ) (x : Place) → IsHeld pair l places v → place_of places h ≡ o → IfReaches (page_of pair h) o k (Some at) → k ≤ l.count → option_map (moved k at) o ≡ Some x → IsLoaded pair l v h x
+moved-loaded pair l places v h None k at x held is reaches most e = absurd reaches
+moved-loaded pair l places v h (Some p) k at x held is reaches most e =
+    let same : moved k at p ≡ x = cc in
+    subst (IsLoaded pair l v h) same (follows-loaded pair l v h p (moved k at p) (held.loaded h p is) reaches most)
+
+pub moved-line : (page : List ℕ) (o : Option Place) (k at : ℕ) → IfReaches page o k (Some at) → option_map (λ p. p.line) (option_map (moved k at) o) ≡ Some k
+moved-line page None k at reaches = absurd reaches
+moved-line page (Some p) k at reaches = refl
+
+moved-number : (o : Option Place) (k at : ℕ) (x : Place) → option_map (moved k at) o ≡ Some x → x.line ≡ k
+moved-number None k at x e = absurd cc
+moved-number (Some p) k at x e = let same : moved k at p ≡ x = cc in sym (ap (λ q. q.line) same)
+
+pub moved-page : (pair : Pair) (l : Layout) (places : Places) (v : ScratchView) (h : Half) (o : Option Place) (k at : ℕ) (x : Place) (b : List ℕ) → IsHeld pair l places v → place_of places h ≡ o → IfReaches (page_of pair h) o k (Some at) → 1 ≤ k → k ≤ l.count → option_map (moved k at) o ≡ Some x → v.told ≡ Some b → IsPageOf l b k x.page
+moved-page pair l places v h o k at x b held is reaches low most e told =
+    let on = (moved-loaded pair l places v h o k at x held is reaches most e).on in
+    let page = on.told b told in
+    subst (λ n. IsPageOf l b n x.page) (moved-number o k at x e)
+    (page-plain l b x.line x.page x.first x.next held.layout (held.packs (omega arith) b told) on.page page.first page.next on.low on.high)
+
+-- the line behind the one that is held, where its record is whole
+pub reaches-next : (page : List ℕ) (p : Place) (k at : ℕ) (o : Option ℕ) → IsWhole page p → k ≡ p.line + 1 → k < p.next → at ≡ p.at + 4 + stated page p.at → IfSome o (λ n. (n ≡ at) × (at + 4 + stated page at ≤ length page)) → IfReaches page (Some p) k o
+reaches-next page p k at None whole line lt place fits = tt
+reaches-next page p k at (Some n) whole line lt place fits =
+    follows-next page p (moved k n p) whole (omega arith) line refl refl refl (fits.0 ∙ place) (subst (λ m. m + 4 + stated page m ≤ length page) (sym fits.0) fits.1)

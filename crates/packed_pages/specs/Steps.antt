@@ -45,3 +45,13 @@ pub record IsLastAt (page : List ℕ) (start : Place) (line : List ℕ) (to : �
 abbrev pub IfLast : List ℕ → Place → List ℕ → ℕ → Option Place → Type 0
 IfLast page start line to None = Misses page start.first line start.line to
 IfLast page start line to (Some q) = IsLastAt page start line to q
+
+-- the place of line k on the page of another one
+abbrev pub moved : ℕ → ℕ → Place → Place
+moved k at p = record { line = k; at = at; first = p.first; next = p.next; page = p.page }
+
+-- line k is reached at a place, if one is given, from the line that is held
+abbrev pub IfReaches : List ℕ → Option Place → ℕ → Option ℕ → Type 0
+IfReaches page held k None = ⊤
+IfReaches page None k (Some at) = ⊥
+IfReaches page (Some p) k (Some at) = Follows page p (moved k at p)

@@ -23,7 +23,7 @@ mod walking;
 
 use crate::alike::{find_first, find_last};
 use crate::layout::Layout;
-use crate::loading::load_line;
+use crate::loading::load_half;
 use crate::marks::Marks;
 use crate::places::Places;
 use crate::taking::take_pages;
@@ -106,7 +106,7 @@ impl<C: Scratch> LineStore for PackedB<C> {
         ensures other_place { (h : Half) → h ≢ half → place_of self.new.places h ≡ place_of self.old.places h }
         ensures other_bytes { (h : Half) → h ≢ half → page_of self.new.pair h ≡ page_of self.old.pair h }
     {
-        match load_line(
+        load_half(
             &mut self.pair,
             &mut self.scratch,
             &mut self.places,
@@ -114,10 +114,7 @@ impl<C: Scratch> LineStore for PackedB<C> {
             self.layout,
             k,
             half,
-        ) {
-            Ok(_) => Ok(()),
-            Err(fault) => Err(fault),
-        }
+        )
     }
 
     fn line(&self, half: Half) -> &[u8] {

@@ -15,7 +15,7 @@ use crate::layout::Layout;
 use crate::marks::{Mark, Marks};
 use crate::places::{Place, Places};
 use crate::searching::find_page;
-use crate::stepping::near;
+use crate::stepping::{near, reach_near};
 use crate::walking::find_record;
 use line_store::{Half, LineFault};
 use outside::Scratch;
@@ -307,5 +307,43 @@ pub fn load_line<C: Scratch>(
             places.set(half, None);
             Err(fault)
         }
+    }
+}
+
+/// Has a half hold line `k`.
+pub fn load_half<C: Scratch>(
+    pair: &mut PagePair,
+    scratch: &mut C,
+    places: &mut Places,
+    marks: &mut Marks,
+    layout: Layout,
+    k: u64,
+    half: Half,
+) -> Result<(), LineFault>
+    requires held { IsHeld pair.old layout places.old (C.view scratch.old) }
+    requires marked { AreMarked pair.old marks.old }
+    requires low { 1 ≤ k }
+    requires high { k ≤ layout.count }
+    ensures held { IsHeld pair.new layout places.new (C.view scratch.new) }
+    ensures marked { AreMarked pair.new marks.new }
+    ensures loaded { OnOk result (line_held places.new half ≡ Some k) }
+    ensures page { OnOk result (HoldsPageOf layout places.new (C.view scratch.new) half k) }
+    ensures dropped { OnErr result (line_held places.new half ≡ None) }
+    ensures other { (h : Half) → h ≢ half → place_of places.new h ≡ place_of places.old h }
+    ensures other_page { (h : Half) → h ≢ half → page_of pair.new h ≡ page_of pair.old h }
+    ensures keeps { Keeps (seen_of layout places.old (C.view scratch.old)) (seen_of layout places.new (C.view scratch.new)) }
+    ensures cause { IfErr result (λ e. HasCause e (seen_of layout places.old (C.view scratch.old)) (seen_of layout places.new (C.view scratch.new))) }
+    ensures reads { ReadsByDigits layout.pages 1 (C.view scratch.old) (C.view scratch.new) }
+    ensures still { HasPageOf places.old half k → (C.view scratch.new).reads ≡ (C.view scratch.old).reads }
+{
+    match reach_near(pair.page(half), places, half, k) {
+        Some(at) => {
+            places.go_to(half, k, at);
+            Ok(())
+        }
+        None => match load_line(pair, scratch, places, marks, layout, k, half) {
+            Ok(_) => Ok(()),
+            Err(fault) => Err(fault),
+        },
     }
 }

@@ -3,10 +3,12 @@
 ghost use Rattle.std.specs.Prelude.{◌≡◌, ◌≤◌, ◌<◌, ◌+◌, ◌^◌, IsTrue, ◌↔◌, ℕ, List, length, None, Some, IfSome};
 ghost use Rattle.file_pieces.specs.Records.{stated, line_in};
 ghost use Rattle.packed_pages.specs.declared.places.Place.{Place};
-ghost use Rattle.packed_pages.specs.Steps.{IsWhole, Follows, IfNear, Misses, TellsAlike, IfLast};
+ghost use Rattle.packed_pages.specs.Steps.{IsWhole, Follows, IfNear, Misses, TellsAlike, IfLast, IfReaches};
+ghost use Rattle.packed_pages.specs.Held.{place_of};
 
-use crate::places::Place;
+use crate::places::{Place, Places};
 use file_pieces::record::{line_of, stated_length};
+use line_store::Half;
 
 /// The records of a page up to one that is alike, or to the last that was looked at.
 #[derive(Clone, Copy)]
@@ -73,6 +75,60 @@ pub fn near(page: &[u8], held: Option<Place>, k: u64) -> Option<Place>
     match held {
         Some(place) => near_place(page, place, k),
         None => None,
+    }
+}
+
+/// The place of a record, if it is whole.
+fn if_whole(page: &[u8], at: usize) -> Option<usize>
+    requires small { length page.now ≤ 2 ^ 20 }
+    requires within { at ≤ length page.now }
+    ensures { IfSome result (λ n. (n ≡ at) × (at + 4 + stated page.now at ≤ length page.now)) }
+{
+    if is_whole(page, at) {
+        return Some(at);
+    }
+    None
+}
+
+/// Where line `k` stands, if it is the line of a place or the one behind it on the same page.
+fn reach_from(page: &[u8], place: &Place, k: u64) -> Option<usize>
+    requires small { length page.now ≤ 2 ^ 20 }
+    requires whole { IsWhole page.now place.now }
+    requires within { place.now.line < place.now.next }
+    ensures { IfReaches page.now (Some place.now) k result }
+{
+    if k == place.line {
+        return Some(place.at);
+    }
+    if k != place.line + 1 || k >= place.next {
+        return None;
+    }
+    if_whole(page, place.at + 4 + stated_length(page, place.at) as usize)
+}
+
+/// The same for a place that may be none.
+fn reach_in(page: &[u8], held: &Option<Place>, k: u64) -> Option<usize>
+    requires small { length page.now ≤ 2 ^ 20 }
+    requires whole { (p : Place) → held.now ≡ Some p → IsWhole page.now p }
+    requires within { (p : Place) → held.now ≡ Some p → p.line < p.next }
+    ensures { IfReaches page.now held.now k result }
+{
+    match held {
+        Some(place) => reach_from(page, place, k),
+        None => None,
+    }
+}
+
+/// Where line `k` stands, if a half holds it or the line before it on the same page.
+pub fn reach_near(page: &[u8], places: &Places, half: Half, k: u64) -> Option<usize>
+    requires small { length page.now ≤ 2 ^ 20 }
+    requires whole { (p : Place) → place_of places.now half ≡ Some p → IsWhole page.now p }
+    requires within { (p : Place) → place_of places.now half ≡ Some p → p.line < p.next }
+    ensures { IfReaches page.now (place_of places.now half) k result }
+{
+    match half {
+        Half::First => reach_in(page, &places.first, k),
+        Half::Second => reach_in(page, &places.second, k),
     }
 }
 
