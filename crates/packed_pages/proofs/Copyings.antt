@@ -1,5 +1,5 @@
 -- Lines copied, one behind another.
-use Rattle.std.proofs.Common.{◌≡◌, ℕ, zero, suc, ◌+◌, ◌-◌, ◌*◌, ◌<◌, ◌≤◌, ◌^◌, ◌≢◌, Bool, List, [], ◌∷◌, ◌++◌, length, take, drop, replicate, max, min, Option, None, Some, is_some, refl, sym, ap, subst, ◌∙◌, arith, append_assoc, length-append, inl, inr}
+use Rattle.std.proofs.Common.{◌≡◌, ℕ, ◌+◌, ◌-◌, ◌*◌, ◌<◌, ◌≤◌, ◌≢◌, Bool, List, [], ◌∷◌, ◌++◌, length, take, drop, replicate, max, Option, None, Some, is_some, refl, sym, ap, subst, ◌∙◌, arith, append_assoc, length-append, inl, inr}
 use Rattle.std.specs.Prelude.{◌⊎◌}
 use Rattle.std.proofs.lemmas.List.{append-nil, replicate-append-replicate, length-replicate}
 use Rattle.std.proofs.Math.Nat.{zero-mul}
@@ -22,8 +22,7 @@ use Rattle.file_pieces.proofs.Rooms.{room-append, rooms-up}
 use Rattle.file_pieces.proofs.Windows.{told-before}
 use Rattle.packed_pages.specs.declared.layout.Layout.{Layout}
 use Rattle.packed_pages.specs.declared.filling.Filling.{Filling}
-use Rattle.packed_pages.specs.Packs.{packed_record, records, joined, begun, page_with, entries_from, bytes_of, pages_of, pages_from}
-use Rattle.packed_pages.specs.Layout.{IsLayout}
+use Rattle.packed_pages.specs.Packs.{packed_record, records, joined, begun, page_with, entries_from, bytes_of, pages_of}
 use Rattle.packed_pages.specs.Filling.{IsReady, IsFilled, IsPacked, IsMeasuredAs}
 use Rattle.packed_pages.specs.Copying.{Copies, IsLineFault, IsMisfit, IsCopyFault, IsCopied, IsEndFault, IsWritten}
 use Rattle.packed_pages.proofs.Pages.{record-length}

@@ -1,5 +1,5 @@
 -- Lines filled in, one behind another.
-use Rattle.std.proofs.Common.{◌≡◌, ℕ, zero, suc, ◌+◌, ◌-◌, ◌*◌, ◌^◌, ◌<◌, ◌≤◌, List, [], ◌∷◌, ◌++◌, length, get_or, take, drop, replicate, true, false, Option, None, Some, is_some, refl, sym, ap, subst, ◌∙◌, arith, append_assoc, length-append, length-drop, inl, inr}
+use Rattle.std.proofs.Common.{◌≡◌, ℕ, ◌+◌, ◌-◌, ◌*◌, ◌^◌, ◌<◌, ◌≤◌, List, [], ◌∷◌, ◌++◌, length, get_or, take, drop, replicate, true, false, Option, Some, is_some, refl, sym, ap, subst, ◌∙◌, arith, append_assoc, length-append, length-drop, inl, inr}
 use Rattle.std.specs.Prelude.{nat_le}
 use Rattle.std.proofs.lemmas.Bool.{cases_lt}
 use Rattle.std.proofs.lemmas.Bool.Decides.{nat_tests}
@@ -11,7 +11,7 @@ use Rattle.std.specs.List.{flat_map}
 use Rattle.std.specs.Int.{w32, w64, to_le_bytes}
 use Rattle.outside.specs.ScratchView.{overwritten}
 use Rattle.file_pieces.specs.declared.room.Room.{Room}
-use Rattle.file_pieces.specs.Room.{no_room, room_with, room_from}
+use Rattle.file_pieces.specs.Room.{no_room, room_with}
 use Rattle.file_pieces.specs.Records.{padded, record_of, Extends}
 use Rattle.file_pieces.proofs.Records.{over-length, padded-length}
 use Rattle.file_pieces.proofs.Rooms.{room-fits, room-next, room-append}

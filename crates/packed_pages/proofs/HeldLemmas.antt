@@ -103,24 +103,27 @@ mapped-lines : (f : List ℕ → List (List ℕ)) (o : Option (List ℕ)) (ls : 
 mapped-lines f None ls e = absurd cc
 mapped-lines f (Some b) ls e = (b, (refl, cc))
 
+-- a line of the page that a half holds
+pub line-there : (l : Layout) (v : ScratchView) (p : Place) (page : List ℕ) (k : ℕ) (ls : List (List ℕ)) → IsLayout l → HoldsPacks l v → p.page < l.pages → ((b : List ℕ) → v.told ≡ Some b → IsPage l b p page) → 1 ≤ k → k ≤ l.count → p.first ≤ k → k < p.next → lines_told l v.told ≡ Some ls → line_in page (place_in (k - p.first) page) ≡ line_at ls k
+line-there l v p page k ls is packs lt at some most low high told =
+    let b = mapped-lines (decoded l) v.told ls (sym (told-some l v.told (omega arith)) ∙ told) in
+    let hp : HasPacks l b.0 = packs b.0 b.1.0 in
+    let s = stands l b.0 p page is hp lt (at b.0 b.1.0) in
+    let next : p.next ≡ p.first + length (get_or (pages_in l b.0) p.page []) = s.next in
+    let first : p.first ≡ 1 + length (joined (take p.page (pages_in l b.0))) = s.first in
+    let place : length (joined (take p.page (pages_in l b.0))) + (k - p.first) ≡ k - 1 = omega arith in
+    ap (λ q. line_in q (place_in (k - p.first) q)) s.is
+    ∙ (on-page l.size (get_or (pages_in l b.0) p.page []) (k - p.first) (omega arith) (hp.fits p.page s.there) is.sized.1).0
+    ∙ sym (get_or-flat_map (λ q. q) (pages_in l b.0) p.page (k - p.first) [] [] s.there (omega arith))
+    ∙ ap (λ n. get_or (joined (pages_in l b.0)) n []) place
+    ∙ ap (λ x. line_at x k) (sym (packs-decoded l b.0 hp) ∙ b.1.1)
+
 -- the line that a half holds, on its page
 pub line-held : (pair : Pair) (l : Layout) (v : ScratchView) (h : Half) (p : Place) (k : ℕ) (ls : List (List ℕ)) → IsLayout l → HoldsPacks l v → IsLoaded pair l v h p → p.line ≡ k → lines_told l v.told ≡ Some ls → line_in (page_of pair h) p.at ≡ line_at ls k
 line-held pair l v h p k ls is packs loaded same told =
-    let some : 1 ≤ p.line = loaded.some in let most : p.line ≤ l.count = loaded.most in
-    let b = mapped-lines (decoded l) v.told ls (sym (told-some l v.told (omega arith)) ∙ told) in
-    let hp : HasPacks l b.0 = packs b.0 b.1.0 in
-    let s = stands l b.0 p (page_of pair h) is hp loaded.on.page (loaded.on.told b.0 b.1.0) in
-    let low : p.first ≤ p.line = loaded.on.low in
-    let high : p.line < p.next = loaded.on.high in
-    let next : p.next ≡ p.first + length (get_or (pages_in l b.0) p.page []) = s.next in
-    let first : p.first ≡ 1 + length (joined (take p.page (pages_in l b.0))) = s.first in
-    let place : length (joined (take p.page (pages_in l b.0))) + (p.line - p.first) ≡ k - 1 = omega arith in
     ap (line_in (page_of pair h)) loaded.on.place
-    ∙ ap (λ q. line_in q (place_in (p.line - p.first) q)) s.is
-    ∙ (on-page l.size (get_or (pages_in l b.0) p.page []) (p.line - p.first) (omega arith) (hp.fits p.page s.there) is.sized.1).0
-    ∙ sym (get_or-flat_map (λ q. q) (pages_in l b.0) p.page (p.line - p.first) [] [] s.there (omega arith))
-    ∙ ap (λ n. get_or (joined (pages_in l b.0)) n []) place
-    ∙ ap (λ x. line_at x k) (sym (packs-decoded l b.0 hp) ∙ b.1.1)
+    ∙ line-there l v p (page_of pair h) p.line ls is packs loaded.on.page loaded.on.told loaded.some loaded.most loaded.on.low loaded.on.high told
+    ∙ ap (line_at ls) same
 
 -- pages, scratch and places where one half changes
 pub held-more : (p q : Pair) (l : Layout) (hs ht : Places) (v w : ScratchView) (half : Half) → IsHeld p l hs v → q.size ≡ p.size → w.told ≡ v.told → ((h : Half) → h ≢ half → page_of q h ≡ page_of p h) → ((h : Half) → h ≢ half → place_of ht h ≡ place_of hs h) → ((x : Place) → place_of ht half ≡ Some x → IsLoaded q l w half x) → IsHeld q l ht w

@@ -1,6 +1,7 @@
 pub mod Pages
 pub mod Spans
 pub mod HeldLemmas
+pub mod Steps
 pub mod Fillings
 pub mod Copyings
 pub mod Takings

@@ -1,5 +1,5 @@
 -- Spans of pages, halved.
-use Rattle.std.proofs.Common.{◌≡◌, ℕ, zero, suc, ◌+◌, ◌-◌, ◌*◌, ◌<◌, ◌≤◌, ◌^◌, List, [], length, get_or, take, drop, true, refl, sym, ap, subst, ◌∙◌, arith, length-drop}
+use Rattle.std.proofs.Common.{◌≡◌, ℕ, zero, suc, ◌+◌, ◌-◌, ◌*◌, ◌<◌, ◌≤◌, ◌^◌, List, length, take, drop, true, sym, ap, subst, ◌∙◌, arith, length-drop}
 use Rattle.std.proofs.Math.Nat.{two-pow-succ}
 use Rattle.std.proofs.lemmas.List.{take_all}
 use Rattle.std.proofs.lemmas.Nat.{mul-le}
@@ -8,10 +8,9 @@ use Rattle.std.specs.Prelude.{nat_lt}
 use Rattle.std.proofs.lemmas.Bool.Decides.{nat_tests}
 use Rattle.outside.specs.ScratchView.{ScratchView}
 use Rattle.packed_pages.specs.declared.layout.Layout.{Layout}
-use Rattle.packed_pages.specs.declared.searching.Span.{Span}
 use Rattle.packed_pages.specs.Packs.{joined}
 use Rattle.packed_pages.specs.Layout.{IsLayout, HasPacks, IsPageOf, first_line, pages_in}
-use Rattle.packed_pages.specs.Held.{IsSpan, IsSpanTold, HasReadsLeft}
+use Rattle.packed_pages.specs.Held.{IsSpanTold, HasReadsLeft}
 use Rattle.packed_pages.proofs.Pages.{pages-many, first-at, joined-up, bytes-length}
 
 -- the bytes of an entry state the first line

@@ -1,5 +1,5 @@
 -- A file that was taken.
-use Rattle.std.proofs.Common.{◌≡◌, ℕ, ◌+◌, ◌-◌, ◌^◌, ◌<◌, ◌≤◌, true, false, List, length, Option, None, Some, is_some, refl, sym, ap, subst, ◌∙◌, arith, inl, inr}
+use Rattle.std.proofs.Common.{◌≡◌, ℕ, ◌^◌, ◌<◌, true, false, List, length, Option, None, Some, is_some, refl, sym, ap, ◌∙◌, arith, inl, inr}
 use Rattle.std.specs.Prelude.{nat_le}
 use Rattle.std.specs.Option.{option_map}
 use Rattle.std.proofs.lemmas.Bool.{false≢true, cases_eq}
@@ -17,7 +17,7 @@ use Rattle.file_pieces.proofs.LongLines.{none-long}
 use Rattle.packed_pages.specs.declared.layout.Layout.{Layout}
 use Rattle.packed_pages.specs.declared.places.Places.{Places}
 use Rattle.packed_pages.specs.Packs.{joined, bytes_of, packs}
-use Rattle.packed_pages.specs.Layout.{IsLayout, HasPacks, pages_in, decoded, lines_told, told-none, told-some}
+use Rattle.packed_pages.specs.Layout.{IsLayout, HasPacks, decoded, lines_told, told-none, told-some}
 use Rattle.packed_pages.specs.Held.{seen_of, place_of, IsHeld}
 use Rattle.packed_pages.specs.Filling.{IsMeasuredAs}
 use Rattle.packed_pages.specs.Copying.{IsWritten}

@@ -1,5 +1,5 @@
 -- The format at the lines `a` and `bcd`, each with its line feed.
-use Rattle.std.proofs.Common.{◌≡◌, List, ℕ, [], ◌∷◌, ◌++◌, length, take, refl}
+use Rattle.std.proofs.Common.{◌≡◌, List, ℕ, [], ◌∷◌, length, take, refl}
 use Rattle.packed_pages.specs.Packs.{pages_of, bytes_of, packs, page_with, packed_record}
 
 abbrev pub two_lines : List (List ℕ)

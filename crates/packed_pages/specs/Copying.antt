@@ -1,5 +1,5 @@
 -- The lines of a file copied piece by piece.
-use Rattle.std.specs.Prelude.{◌≡◌, ◌≢◌, ◌⊎◌, ℕ, ◌+◌, ◌<◌, ◌≤◌, List, ◌++◌, length, drop, Bool, Option, Some, None}
+use Rattle.std.specs.Prelude.{◌≡◌, ◌≢◌, ◌⊎◌, ℕ, ◌+◌, ◌<◌, List, ◌++◌, length, drop, Bool, Option, Some}
 use Rattle.outside.specs.Faults.{HasRisen}
 use Rattle.outside.specs.ScratchView.{ScratchView}
 use Rattle.line_list.specs.Lines.{lines}

@@ -8,6 +8,7 @@ ghost use Rattle.page_pair.specs.Pair.{page_of, IsPair};
 ghost use Rattle.packed_pages.specs.Marks.{AreMarked};
 ghost use Rattle.packed_pages.specs.Held.{IsHeld};
 
+mod alike;
 mod copying;
 mod filling;
 mod laws;
@@ -16,11 +17,13 @@ mod loading;
 mod marks;
 mod places;
 mod searching;
+mod stepping;
 mod taking;
 mod walking;
 
+use crate::alike::{find_first, find_last};
 use crate::layout::Layout;
-use crate::loading::load_line;
+use crate::loading::load_half;
 use crate::marks::Marks;
 use crate::places::Places;
 use crate::taking::take_pages;
@@ -103,7 +106,7 @@ impl<C: Scratch> LineStore for PackedB<C> {
         ensures other_place { (h : Half) → h ≢ half → place_of self.new.places h ≡ place_of self.old.places h }
         ensures other_bytes { (h : Half) → h ≢ half → page_of self.new.pair h ≡ page_of self.old.pair h }
     {
-        load_line(
+        load_half(
             &mut self.pair,
             &mut self.scratch,
             &mut self.places,
@@ -119,6 +122,48 @@ impl<C: Scratch> LineStore for PackedB<C> {
             Some(place) => line_of(self.pair.page(half), place.at),
             None => &[],
         }
+    }
+
+    /// Page by page: of the lines that come after line `from` on its page, none is fetched by itself.
+    fn first_alike(
+        &mut self,
+        from: u64,
+        to: u64,
+        line: &[u8],
+        half: Half,
+    ) -> Result<Option<u64>, LineFault> {
+        find_first(
+            &mut self.pair,
+            &mut self.scratch,
+            &mut self.places,
+            &mut self.marks,
+            self.layout,
+            from,
+            to,
+            line,
+            half,
+        )
+    }
+
+    /// The same, in groups of lines of a page.
+    fn last_alike(
+        &mut self,
+        from: u64,
+        to: u64,
+        line: &[u8],
+        half: Half,
+    ) -> Result<Option<u64>, LineFault> {
+        find_last(
+            &mut self.pair,
+            &mut self.scratch,
+            &mut self.places,
+            &mut self.marks,
+            self.layout,
+            from,
+            to,
+            line,
+            half,
+        )
     }
 }
 

@@ -15,6 +15,7 @@ use crate::layout::Layout;
 use crate::marks::{Mark, Marks};
 use crate::places::{Place, Places};
 use crate::searching::find_page;
+use crate::stepping::{near, reach_near};
 use crate::walking::find_record;
 use line_store::{Half, LineFault};
 use outside::Scratch;
@@ -238,8 +239,79 @@ fn find_line<C: Scratch>(
     }
 }
 
-/// Has a half hold line `k`.
+/// The place of line `k`, which a half holds, or the line before it, or else is found.
+fn fetch_line<C: Scratch>(
+    pair: &mut PagePair,
+    scratch: &mut C,
+    places: Places,
+    marks: &mut Marks,
+    layout: Layout,
+    k: u64,
+    half: Half,
+) -> Result<Place, LineFault>
+    requires held { IsHeld pair.old layout places (C.view scratch.old) }
+    requires marked { AreMarked pair.old marks.old }
+    requires low { 1 ≤ k }
+    requires high { k ≤ layout.count }
+    ensures size { pair.new.size ≡ pair.old.size }
+    ensures other { (h : Half) → h ≢ half → page_of pair.new h ≡ page_of pair.old h }
+    ensures marked { AreMarked pair.new marks.new }
+    ensures loaded { IfOk result (λ p. IsLoaded pair.new layout (C.view scratch.new) half p) }
+    ensures line { IfOk result (λ p. p.line ≡ k) }
+    ensures passes { ScratchPasses (C.view scratch.old) (C.view scratch.new) }
+    ensures told { (C.view scratch.new).told ≡ (C.view scratch.old).told }
+    ensures reads { ReadsByDigits layout.pages 1 (C.view scratch.old) (C.view scratch.new) }
+    ensures still { HasPageOf places half k → (C.view scratch.new).reads ≡ (C.view scratch.old).reads }
+    ensures cause { IfErr result (λ e. HasPageCause e (C.view scratch.old) (C.view scratch.new)) }
+{
+    match near(pair.page(half), places.get(half), k) {
+        Some(place) => Ok(place),
+        None => find_line(pair, scratch, places, marks, layout, k, half),
+    }
+}
+
+/// Has a half hold line `k`. The answer is its place.
 pub fn load_line<C: Scratch>(
+    pair: &mut PagePair,
+    scratch: &mut C,
+    places: &mut Places,
+    marks: &mut Marks,
+    layout: Layout,
+    k: u64,
+    half: Half,
+) -> Result<Place, LineFault>
+    requires held { IsHeld pair.old layout places.old (C.view scratch.old) }
+    requires marked { AreMarked pair.old marks.old }
+    requires low { 1 ≤ k }
+    requires high { k ≤ layout.count }
+    ensures held { IsHeld pair.new layout places.new (C.view scratch.new) }
+    ensures marked { AreMarked pair.new marks.new }
+    ensures loaded { OnOk result (line_held places.new half ≡ Some k) }
+    ensures place { IfOk result (λ p. place_of places.new half ≡ Some p) }
+    ensures line { IfOk result (λ p. p.line ≡ k) }
+    ensures page { OnOk result (HoldsPageOf layout places.new (C.view scratch.new) half k) }
+    ensures dropped { OnErr result (line_held places.new half ≡ None) }
+    ensures other { (h : Half) → h ≢ half → place_of places.new h ≡ place_of places.old h }
+    ensures other_page { (h : Half) → h ≢ half → page_of pair.new h ≡ page_of pair.old h }
+    ensures keeps { Keeps (seen_of layout places.old (C.view scratch.old)) (seen_of layout places.new (C.view scratch.new)) }
+    ensures cause { IfErr result (λ e. HasCause e (seen_of layout places.old (C.view scratch.old)) (seen_of layout places.new (C.view scratch.new))) }
+    ensures reads { ReadsByDigits layout.pages 1 (C.view scratch.old) (C.view scratch.new) }
+    ensures still { HasPageOf places.old half k → (C.view scratch.new).reads ≡ (C.view scratch.old).reads }
+{
+    match fetch_line(pair, scratch, *places, marks, layout, k, half) {
+        Ok(place) => {
+            places.set(half, Some(place));
+            Ok(place)
+        }
+        Err(fault) => {
+            places.set(half, None);
+            Err(fault)
+        }
+    }
+}
+
+/// Has a half hold line `k`.
+pub fn load_half<C: Scratch>(
     pair: &mut PagePair,
     scratch: &mut C,
     places: &mut Places,
@@ -264,14 +336,14 @@ pub fn load_line<C: Scratch>(
     ensures reads { ReadsByDigits layout.pages 1 (C.view scratch.old) (C.view scratch.new) }
     ensures still { HasPageOf places.old half k → (C.view scratch.new).reads ≡ (C.view scratch.old).reads }
 {
-    match find_line(pair, scratch, *places, marks, layout, k, half) {
-        Ok(place) => {
-            places.set(half, Some(place));
+    match reach_near(pair.page(half), places, half, k) {
+        Some(at) => {
+            places.go_to(half, k, at);
             Ok(())
         }
-        Err(fault) => {
-            places.set(half, None);
-            Err(fault)
-        }
+        None => match load_line(pair, scratch, places, marks, layout, k, half) {
+            Ok(_) => Ok(()),
+            Err(fault) => Err(fault),
+        },
     }
 }

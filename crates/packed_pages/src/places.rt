@@ -3,6 +3,8 @@
 ghost use Rattle.std.specs.Prelude.{◌≡◌, ◌≢◌, None};
 ghost use Rattle.line_store.specs.declared.Half.{Half};
 ghost use Rattle.packed_pages.specs.Held.{place_of};
+ghost use Rattle.packed_pages.specs.Steps.{moved};
+ghost use Rattle.std.specs.Option.{option_map};
 
 use line_store::Half;
 
@@ -50,5 +52,29 @@ impl Places {
             Half::First => self.first = held,
             Half::Second => self.second = held,
         }
+    }
+
+    /// The place of line `k` on the same page.
+    pub fn go_to(&mut self, half: Half, k: u64, at: usize)
+        ensures held { place_of self.new half ≡ option_map (moved k at) (place_of self.old half) }
+        ensures other { (h : Half) → h ≢ half → place_of self.new h ≡ place_of self.old h }
+    {
+        match half {
+            Half::First => self.first = moved(self.first, k, at),
+            Half::Second => self.second = moved(self.second, k, at),
+        }
+    }
+}
+
+fn moved(held: Option<Place>, k: u64, at: usize) -> Option<Place>
+    ensures { result ≡ option_map (moved k at) held }
+{
+    match held {
+        Some(place) => Some(Place {
+            line: k,
+            at,
+            ..place
+        }),
+        None => None,
     }
 }

@@ -12,10 +12,11 @@ use Rattle.line_store.specs.declared.halves.Halves.{Halves}
 use Rattle.line_store.specs.Halves.{half_of}
 use Rattle.page_pair.specs.Pair.{Pair, page_of}
 use Rattle.plan_b.specs.declared.layout.Layout.{Layout}
-use Rattle.plan_b.specs.Layout.{page_number, place_on_page, place_of, decoded, lines_told, told-some}
+use Rattle.plan_b.specs.Layout.{IsLayout, page_number, place_on_page, place_of, decoded, lines_told, told-some}
 use Rattle.file_pieces.specs.Records.{stated, line_in}
-use Rattle.plan_b.specs.Held.{seen_of, HoldsPage, HasPageCause, IsLoaded, IsHeld, page_held}
+use Rattle.plan_b.specs.Held.{seen_of, HoldsPage, HoldsRecords, HasPageCause, IsLoaded, IsHeld, page_held}
 use Rattle.file_pieces.proofs.Windows.{window}
+use Rattle.plan_b.proofs.Layouts.{place-fits}
 
 mapped-some : (f : ℕ → ℕ) (o : Option ℕ) (j : ℕ) → option_map f o ≡ Some j → (k : ℕ) × ((o ≡ Some k) × (f k ≡ j))
 mapped-some f None j e = absurd cc
@@ -71,16 +72,18 @@ decoded-at : (l : Layout) (b : List ℕ) (k : ℕ) → 1 ≤ k → k ≤ l.count
 unfolding decoded
 decoded-at l b k low high = get_or-map-range_with_len (λ k. line_in b (place_of l k)) 0 l.count (k - 1) (k - 1) [] (omega arith) (omega arith)
 
--- the line that a half holds, on its page
-pub line-held : (pair : Pair) (l : Layout) (v : ScratchView) (h : Half) (k : ℕ) (ls : List (List ℕ)) → IsLoaded pair l v h k → lines_told l v.told ≡ Some ls → place_on_page l (k - 1) + l.width ≤ l.size → line_in (page_of pair h) (place_on_page l (k - 1)) ≡ line_at ls k
-line-held pair l v h k ls loaded is within =
-    let low : 1 ≤ k = loaded.low in let high : k ≤ l.count = loaded.high in
-    let b = mapped-lines (decoded l) v.told ls (sym (told-some l v.told (omega arith)) ∙ is) in
-    let page : page_of pair h ≡ take l.size (drop (page_number l (k - 1) * l.size) b.0) = loaded.page b.0 b.1.0 in
-    let fits : stated (take l.size (drop (page_number l (k - 1) * l.size) b.0)) (place_on_page l (k - 1)) + 4 ≤ l.width = subst (λ p. stated p (place_on_page l (k - 1)) + 4 ≤ l.width) page loaded.fits in
+-- a line of the page that a half holds
+pub line-there : (pair : Pair) (l : Layout) (v : ScratchView) (h : Half) (k : ℕ) (ls : List (List ℕ)) → IsLayout l → HoldsRecords l v → HoldsPage pair l v h (page_number l (k - 1)) → 1 ≤ k → k ≤ l.count → lines_told l v.told ≡ Some ls → line_in (page_of pair h) (place_on_page l (k - 1)) ≡ line_at ls k
+line-there pair l v h k ls is records holds low high told =
+    let b = mapped-lines (decoded l) v.told ls (sym (told-some l v.told (omega arith)) ∙ told) in
+    let page : page_of pair h ≡ take l.size (drop (page_number l (k - 1) * l.size) b.0) = holds b.0 b.1.0 in
+    let within : place_on_page l (k - 1) + l.width ≤ l.size = place-fits l (k - 1) is in
+    let wide : 4 ≤ l.width = is.low in
+    let same : stated (take l.size (drop (page_number l (k - 1) * l.size) b.0)) (place_on_page l (k - 1)) ≡ stated b.0 (place_of l (k - 1)) = stated-on-page l.size (page_number l (k - 1) * l.size) (place_on_page l (k - 1)) b.0 (omega arith) in
+    let fits : stated b.0 (place_of l (k - 1)) + 4 ≤ l.width = (records b.0 b.1.0).fits (k - 1) (omega arith) in
     ap (λ p. line_in p (place_on_page l (k - 1))) page
     ∙ line-on-page l.size (page_number l (k - 1) * l.size) (place_on_page l (k - 1)) b.0 (omega arith)
-    ∙ sym (decoded-at l b.0 k loaded.low loaded.high)
+    ∙ sym (decoded-at l b.0 k low high)
     ∙ ap (λ ls. line_at ls k) b.1.1
 
 pub load-cause : (e : LineFault) (l : Layout) (hs ht : Halves) (v w : ScratchView) → 0 < l.count → HasPageCause e v w → HasCause e (seen_of l hs v) (seen_of l ht w)

@@ -1,4 +1,5 @@
 pub mod HeldLemmas
+pub mod Reached
 pub mod Fillings
 pub mod Layouts
 pub mod Decoding

@@ -2,7 +2,10 @@
 
 ghost use Rattle.std.specs.Prelude.{◌≡◌, ◌≤◌, ◌+◌, ◌^◌, ◌<◌};
 ghost use Rattle.plan_b.specs.Layout.{IsLayout, page_number, place_on_page};
+ghost use Rattle.plan_b.specs.Spots.{IsSpot};
 ghost use Rattle.line_store.specs.Taking.{IsSize};
+
+use crate::spots::Spot;
 
 /// The records of so many lines, each of one width in bytes, on pages of one size.
 #[derive(Clone, Copy, Debug, PartialEq, Eq)]
@@ -50,5 +53,16 @@ impl Layout {
         ensures within { result + self.now.width ≤ self.now.size }
     {
         (k % self.per_page * self.width) as usize
+    }
+
+    /// That record on its page.
+    pub fn spot(&self, k: u64) -> Spot
+        requires is { IsLayout self.now }
+        ensures { IsSpot self.now (k + 1) result }
+    {
+        Spot {
+            index: k % self.per_page,
+            at: self.place_on_page(k),
+        }
     }
 }

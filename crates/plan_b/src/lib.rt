@@ -6,16 +6,22 @@ ghost use Rattle.line_store.specs.declared.Half.{Half};
 ghost use Rattle.line_store.specs.Taking.{IsReset, IsEmpty};
 ghost use Rattle.page_pair.specs.Pair.{page_of, IsPair};
 ghost use Rattle.plan_b.specs.Held.{IsHeld};
+ghost use Rattle.plan_b.specs.Spots.{AreSpots};
 
+mod alike;
 mod copying;
 mod filling;
 mod layout;
 mod loading;
 mod measuring;
+mod spots;
+mod stepping;
 mod taking;
 
+use crate::alike::{find_first, find_last};
 use crate::layout::Layout;
 use crate::loading::load_line;
+use crate::spots::Spots;
 use crate::taking::take_pages;
 use file_pieces::record::line_of;
 use line_store::{Half, Halves, LineFault, LineStore, OpenFault, Plan};
@@ -29,7 +35,9 @@ pub struct PlanB<C: Scratch> {
     scratch: C,
     layout: Layout,
     halves: Halves,
+    spots: Spots,
     ghost held: { IsHeld pair layout halves (C.view scratch) },
+    ghost spotted: { AreSpots layout halves spots },
 }
 
 impl<C: Scratch> PlanB<C> {
@@ -48,6 +56,7 @@ impl<C: Scratch> PlanB<C> {
             scratch,
             layout,
             halves: Halves::new(),
+            spots: Spots::new(),
         }
     }
 
@@ -93,21 +102,67 @@ impl<C: Scratch> LineStore for PlanB<C> {
         ensures other_page { (h : Half) → h ≢ half → page_held self.new.layout self.new.halves h ≡ page_held self.old.layout self.old.halves h }
         ensures other_bytes { (h : Half) → h ≢ half → page_of self.new.pair h ≡ page_of self.old.pair h }
     {
-        load_line(
+        match load_line(
             &mut self.pair,
             &mut self.scratch,
             &mut self.halves,
+            &mut self.spots,
             self.layout,
             k,
             half,
-        )
+        ) {
+            Ok(_) => Ok(()),
+            Err(fault) => Err(fault),
+        }
     }
 
     fn line(&self, half: Half) -> &[u8] {
         match self.halves.get(half) {
-            Some(k) => line_of(self.pair.page(half), self.layout.place_on_page(k - 1)),
+            Some(_) => line_of(self.pair.page(half), self.spots.get(half).at),
             None => &[],
         }
+    }
+
+    /// Page by page: of the lines that come after line `from` on its page, none is fetched by itself.
+    fn first_alike(
+        &mut self,
+        from: u64,
+        to: u64,
+        line: &[u8],
+        half: Half,
+    ) -> Result<Option<u64>, LineFault> {
+        find_first(
+            &mut self.pair,
+            &mut self.scratch,
+            &mut self.halves,
+            &mut self.spots,
+            self.layout,
+            from,
+            to,
+            line,
+            half,
+        )
+    }
+
+    /// The same from the end.
+    fn last_alike(
+        &mut self,
+        from: u64,
+        to: u64,
+        line: &[u8],
+        half: Half,
+    ) -> Result<Option<u64>, LineFault> {
+        find_last(
+            &mut self.pair,
+            &mut self.scratch,
+            &mut self.halves,
+            &mut self.spots,
+            self.layout,
+            from,
+            to,
+            line,
+            half,
+        )
     }
 }
 

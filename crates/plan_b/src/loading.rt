@@ -1,6 +1,6 @@
 //! A line fetched into a half.
 
-ghost use Rattle.std.specs.Prelude.{◌≡◌, ◌≢◌, ◌↔◌, ◌≤◌, ◌<◌, ◌+◌, ◌-◌, ◌*◌, ◌^◌, IsTrue, ℕ, List, length, true, None, Some, IfErr, OnOk, OnErr};
+ghost use Rattle.std.specs.Prelude.{◌≡◌, ◌≢◌, ◌↔◌, ◌≤◌, ◌<◌, ◌+◌, ◌-◌, ◌*◌, ◌^◌, IsTrue, ℕ, List, length, true, None, Some, IfErr, IfOk, OnOk, OnErr};
 ghost use Rattle.outside.specs.ScratchView.{ScratchPasses, counted};
 ghost use Rattle.line_store.specs.declared.Half.{Half};
 ghost use Rattle.line_store.specs.Halves.{half_of};
@@ -8,9 +8,12 @@ ghost use Rattle.line_store.specs.Store.{Keeps, HasCause};
 ghost use Rattle.page_pair.specs.Pair.{page_of};
 ghost use Rattle.plan_b.specs.Layout.{IsLayout, HasRecords, page_number, place_on_page};
 ghost use Rattle.file_pieces.specs.Records.{stated};
+ghost use Rattle.plan_b.specs.Spots.{IsSpot, AreSpots};
 ghost use Rattle.plan_b.specs.Held.{seen_of, IsHeld, IsLoaded, HoldsPage, HoldsRecords, HasPageCause, page_held, ReadsOnceAtMost};
 
 use crate::layout::Layout;
+use crate::spots::{Spot, Spots};
+use crate::stepping::near;
 use file_pieces::record::stated_length;
 use line_store::{Half, Halves, LineFault};
 use outside::Scratch;
@@ -119,19 +122,62 @@ fn find_line<C: Scratch>(
     Ok(())
 }
 
-/// Has a half hold line `k`.
+/// Finds line `k`, which a half holds, or the line behind or before it, or else on its page. The answer is its record.
+fn fetch_line<C: Scratch>(
+    pair: &mut PagePair,
+    scratch: &mut C,
+    halves: Halves,
+    spots: Spots,
+    layout: Layout,
+    k: u64,
+    half: Half,
+) -> Result<Spot, LineFault>
+    requires held { IsHeld pair.old layout halves (C.view scratch.old) }
+    requires spots { AreSpots layout halves spots }
+    requires low { 1 ≤ k }
+    requires high { k ≤ layout.count }
+    ensures size { pair.new.size ≡ pair.old.size }
+    ensures other { (h : Half) → h ≢ half → page_of pair.new h ≡ page_of pair.old h }
+    ensures loaded { OnOk result (IsLoaded pair.new layout (C.view scratch.new) half k) }
+    ensures spot { IfOk result (λ s. IsSpot layout k s) }
+    ensures passes { ScratchPasses (C.view scratch.old) (C.view scratch.new) }
+    ensures told { (C.view scratch.new).told ≡ (C.view scratch.old).told }
+    ensures reads { ReadsOnceAtMost (C.view scratch.old) (C.view scratch.new) }
+    ensures still { page_held layout halves half ≡ Some (page_number layout (k - 1)) → (C.view scratch.new).reads ≡ (C.view scratch.old).reads }
+    ensures cause { IfErr result (λ e. HasPageCause e (C.view scratch.old) (C.view scratch.new)) }
+{
+    match near(
+        pair.page(half),
+        layout,
+        halves.get(half),
+        spots.get(half),
+        k,
+    ) {
+        Some(spot) => Ok(spot),
+        None => match find_line(pair, scratch, halves, layout, k, half) {
+            Ok(()) => Ok(layout.spot(k - 1)),
+            Err(fault) => Err(fault),
+        },
+    }
+}
+
+/// Has a half hold line `k`. The answer is its record.
 pub fn load_line<C: Scratch>(
     pair: &mut PagePair,
     scratch: &mut C,
     halves: &mut Halves,
+    spots: &mut Spots,
     layout: Layout,
     k: u64,
     half: Half,
-) -> Result<(), LineFault>
+) -> Result<Spot, LineFault>
     requires held { IsHeld pair.old layout halves.old (C.view scratch.old) }
+    requires spots { AreSpots layout halves.old spots.old }
     requires low { 1 ≤ k }
     requires high { k ≤ layout.count }
     ensures held { IsHeld pair.new layout halves.new (C.view scratch.new) }
+    ensures spots { AreSpots layout halves.new spots.new }
+    ensures spot { IfOk result (λ s. IsSpot layout k s) }
     ensures loaded { OnOk result (half_of halves.new half ≡ Some k) }
     ensures page { OnOk result (HoldsPage pair.new layout (C.view scratch.new) half (page_number layout (k - 1))) }
     ensures dropped { OnErr result (half_of halves.new half ≡ None) }
@@ -142,10 +188,11 @@ pub fn load_line<C: Scratch>(
     ensures reads { ReadsOnceAtMost (C.view scratch.old) (C.view scratch.new) }
     ensures still { page_held layout halves.old half ≡ Some (page_number layout (k - 1)) → (C.view scratch.new).reads ≡ (C.view scratch.old).reads }
 {
-    match find_line(pair, scratch, *halves, layout, k, half) {
-        Ok(()) => {
+    match fetch_line(pair, scratch, *halves, *spots, layout, k, half) {
+        Ok(spot) => {
             halves.set(half, Some(k));
-            Ok(())
+            spots.set(half, spot);
+            Ok(spot)
         }
         Err(fault) => {
             halves.set(half, None);

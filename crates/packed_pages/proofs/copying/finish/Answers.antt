@@ -1,4 +1,4 @@
-use Rattle.std.proofs.Common.{◌≡◌, ◌+◌, ◌<◌, ◌≤◌, min, sym, ◌∙◌, arith}
+use Rattle.std.proofs.Common.{◌≡◌, ◌+◌, min, arith}
 use Rattle.line_store.specs.declared.Half.TheVariants.{Second}
 use Rattle.page_pair.specs.Pair.{page_of}
 use Rattle.packed_pages.proofs.Copyings.{packed-all, packed-more}

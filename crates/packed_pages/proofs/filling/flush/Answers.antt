@@ -1,4 +1,4 @@
-use Rattle.std.proofs.Common.{◌≡◌, ◌<◌, ◌*◌, ◌+◌, arith}
+use Rattle.std.proofs.Common.{◌<◌, ◌*◌, ◌+◌, arith}
 use Rattle.packed_pages.proofs.Fillings.{behind-kept}
 use Rattle.packed_pages.proofs.filling.flush.Goals as goal
 

@@ -1,5 +1,4 @@
 use Rattle.packed_pages.proofs.Packings.{joined-pages, packed-pages}
-use Rattle.packed_pages.proofs.Worked.{size_worked}
 use Rattle.packed_pages.proofs.laws.packing_laws.Goals as goal
 
 pub returns-clause-order : goal.returns-clause-order

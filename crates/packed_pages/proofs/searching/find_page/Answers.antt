@@ -1,4 +1,4 @@
-use Rattle.std.proofs.Common.{◌≡◌, ◌+◌, ◌-◌, ◌*◌, ◌<◌, ◌≤◌, refl, sym, ◌∙◌, arith}
+use Rattle.std.proofs.Common.{◌-◌, refl, ◌∙◌, arith}
 use Rattle.outside.specs.ScratchView.{scratch_passes_none, scratch_passes_both}
 use Rattle.packed_pages.proofs.Spans.{span-all, reads-half}
 use Rattle.packed_pages.proofs.searching.find_page.Goals as goal

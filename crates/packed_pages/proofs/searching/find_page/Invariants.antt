@@ -1,4 +1,4 @@
-use Rattle.std.proofs.Common.{◌-◌, ◌+◌, ◌≡◌, ◌<◌, ◌≤◌, ◌^◌, ℕ, List, Some}
+use Rattle.std.proofs.Common.{◌-◌, ◌≡◌, ◌<◌, ◌^◌, ℕ, List, Some}
 use Rattle.outside.specs.ScratchView.{ScratchPasses}
 use Rattle.packed_pages.specs.Held.{IsSpan, IsSpanTold, HasReadsLeft}
 use Rattle.packed_pages.proofs.searching.find_page.Given as goal

@@ -1,5 +1,6 @@
 use Rattle.std.proofs.Common.{◌≡◌, Some, is_some, sym, ap, ◌∙◌}
 use Rattle.std.specs.Option.{option_map}
+use Rattle.std.proofs.lemmas.Option.{none-some}
 use Rattle.outside.specs.Files.{bytes_at}
 use Rattle.file_pieces.specs.Reading.{told_file}
 use Rattle.plan_b.proofs.Takings.{empty-seen, written-held, written-takes, written-scratch}
@@ -10,6 +11,7 @@ invariant_of-self g c = record {
   held =
       written-held c.take_pages.new.pair c.in-Ok.layout c.take_empty.new.self.halves (g.C.Scratch.view c.take_pages.new.scratch) (told_file (g.T.Tree.view c.args.tree.now) c.args.name.now)
       c.in-Ok.ensures.layout (c.in-Ok.ensures.page ∙ sym c.in-Ok.ensures.size) c.take_empty.ensures.reset.halves c.in-Ok.ensures.written;
+  spotted = λ h k is. absurd (none-some k (sym (c.take_empty.ensures.reset.halves h) ∙ is));
 }
 
 pub returns-in-Ok-clause-taken : goal.returns-in-Ok-clause-taken

@@ -1,0 +1,22 @@
+use Rattle.std.proofs.Common.{◌≡◌, ◌≢◌, ◌≤◌, ◌-◌, ℕ, List, Some}
+use Rattle.line_store.specs.declared.Half.{Half}
+use Rattle.line_store.specs.Store.{Keeps, NoneAlike}
+use Rattle.packed_pages.specs.Marks.{AreMarked}
+use Rattle.packed_pages.specs.Layout.{lines_told}
+use Rattle.packed_pages.specs.Held.{seen_of, place_of, IsHeld}
+use Rattle.packed_pages.proofs.alike.find_last.Given as goal
+
+abbrev pub invariant-loop-end : goal.invariant-loop-end
+invariant-loop-end g l = record {
+  held : IsHeld l.pair l.layout l.places (g.C.Scratch.view l.scratch);
+  marked : AreMarked l.pair l.marks;
+  to : l.end ≤ l.to;
+  some : 1 ≤ l.most;
+  few : l.most ≤ 512;
+  none : (lines : List (List ℕ)) → lines_told l.layout (g.C.Scratch.view l.fn.scratch).told ≡ Some lines → NoneAlike lines l.line l.end l.to;
+  other : (h : Half) → h ≢ l.half → place_of l.places h ≡ place_of l.fn.places h;
+  keeps : Keeps (seen_of l.layout l.fn.places (g.C.Scratch.view l.fn.scratch)) (seen_of l.layout l.places (g.C.Scratch.view l.scratch));
+}
+
+abbrev pub decreases-loop-end : goal.decreases-loop-end
+decreases-loop-end g l = l.end - l.from

@@ -1,0 +1,33 @@
+use Rattle.std.proofs.Common.{◌≡◌, Some, sym, subst, ◌∙◌, refl, arith, ◌<◌}
+use Rattle.packed_pages.specs.Held.{IsLoaded}
+use Rattle.packed_pages.specs.Steps.{IsWhole, Follows}
+use Rattle.packed_pages.proofs.HeldLemmas.{held-more}
+use Rattle.packed_pages.proofs.Steps.{loaded-whole, follows-loaded, finds-first}
+use Rattle.packed_pages.proofs.alike.first_on_page.Goals as goal
+
+pub first_pass-pass-requires-clause-whole : goal.first_pass-pass-requires-clause-whole
+first_pass-pass-requires-clause-whole g c =
+    subst (λ page. IsWhole page c.in-Ok.place) (sym c.page.ensures.is)
+    (loaded-whole c.load_line.new.pair c.args.layout (g.C.Scratch.view c.load_line.new.scratch) c.args.half c.in-Ok.place (c.in-Ok.ensures.held.loaded c.args.half c.in-Ok.place c.in-Ok.ensures.place))
+
+pub first_pass-pass-requires-clause-within : goal.first_pass-pass-requires-clause-within
+first_pass-pass-requires-clause-within g c = (c.in-Ok.ensures.held.loaded c.args.half c.in-Ok.place c.in-Ok.ensures.place).on.high
+
+pub returns-clause-held : goal.returns-clause-held
+returns-clause-held g c =
+    let view = g.C.Scratch.view in
+    let before : c.first_pass-pass.result.place.line < c.args.to = c.first_pass-pass.ensures.before in
+    held-more c.load_line.new.pair c.load_line.new.pair c.args.layout c.load_line.new.places c.set.new.self (view c.load_line.new.scratch) (view c.load_line.new.scratch) c.args.half
+    c.in-Ok.ensures.held refl refl (λ h ne. refl) c.set.ensures.other
+    (λ x is. let e : c.first_pass-pass.result.place ≡ x = (let f : Some c.first_pass-pass.result.place ≡ Some x = sym c.set.ensures.held ∙ is in cc) in
+    subst (IsLoaded c.load_line.new.pair c.args.layout (view c.load_line.new.scratch) c.args.half) e
+    (follows-loaded c.load_line.new.pair c.args.layout (view c.load_line.new.scratch) c.args.half c.in-Ok.place c.first_pass-pass.result.place (c.in-Ok.ensures.held.loaded c.args.half c.in-Ok.place c.in-Ok.ensures.place)
+    (subst (λ page. Follows page c.in-Ok.place c.first_pass-pass.result.place) c.page.ensures.is c.first_pass-pass.ensures.follows) (omega arith)))
+
+pub returns-clause-value : goal.returns-clause-value
+returns-clause-value g c lines told =
+    finds-first c.load_line.new.pair c.args.layout c.load_line.new.places (g.C.Scratch.view c.load_line.new.scratch) c.args.half c.in-Ok.place c.first_pass-pass.result.place (c.page.result.now) lines c.args.line.now c.args.k c.first_pass-pass.result.is_alike
+    c.in-Ok.ensures.held c.in-Ok.ensures.place c.page.ensures.is c.in-Ok.ensures.line
+    c.first_pass-pass.ensures.follows (omega arith)
+    (c.in-Ok.ensures.keeps.told ∙ told)
+    c.first_pass-pass.ensures.misses c.first_pass-pass.ensures.tells

@@ -1,0 +1,38 @@
+use Rattle.std.proofs.Common.{◌≡◌, Some, sym, subst, ◌∙◌, refl, arith, ◌+◌, ◌≤◌, ◌<◌}
+use Rattle.line_store.specs.Store.{IsLastAlike}
+use Rattle.packed_pages.specs.Held.{IsLoaded}
+use Rattle.packed_pages.specs.Steps.{IsWhole, Follows}
+use Rattle.packed_pages.proofs.HeldLemmas.{held-more}
+use Rattle.packed_pages.proofs.Steps.{loaded-whole, follows-loaded, finds-last}
+use Rattle.packed_pages.proofs.alike.last_on_page.Goals as goal
+
+pub last_pass-pass-requires-clause-whole : goal.last_pass-pass-requires-clause-whole
+last_pass-pass-requires-clause-whole g c =
+    subst (λ page. IsWhole page c.in-Ok.place) (sym c.page.ensures.is)
+    (loaded-whole c.load_line.new.pair c.args.layout (g.C.Scratch.view c.load_line.new.scratch) c.args.half c.in-Ok.place (c.in-Ok.ensures.held.loaded c.args.half c.in-Ok.place c.in-Ok.ensures.place))
+
+pub last_pass-pass-requires-clause-within : goal.last_pass-pass-requires-clause-within
+last_pass-pass-requires-clause-within g c = (c.in-Ok.ensures.held.loaded c.args.half c.in-Ok.place c.in-Ok.ensures.place).on.high
+
+pub returns-clause-held : goal.returns-clause-held
+returns-clause-held g c =
+    let view = g.C.Scratch.view in
+    let before : c.last_pass-pass.result.place.line < c.args.to = c.last_pass-pass.ensures.before in
+    let after = c.place_after.ensures c.page.result.now c.in-Ok.place c.args.line.now c.last_pass-pass.ensures.follows c.last_pass-pass.ensures.last in
+    let most : c.place_after.result.line ≤ c.last_pass-pass.result.place.line = after.1 in
+    held-more c.load_line.new.pair c.load_line.new.pair c.args.layout c.load_line.new.places c.set.new.self (view c.load_line.new.scratch) (view c.load_line.new.scratch) c.args.half
+    c.in-Ok.ensures.held refl refl (λ h ne. refl) c.set.ensures.other
+    (λ x is. let e : c.place_after.result ≡ x = (let f : Some c.place_after.result ≡ Some x = sym c.set.ensures.held ∙ is in cc) in
+    subst (IsLoaded c.load_line.new.pair c.args.layout (view c.load_line.new.scratch) c.args.half) e
+    (follows-loaded c.load_line.new.pair c.args.layout (view c.load_line.new.scratch) c.args.half c.in-Ok.place c.place_after.result (c.in-Ok.ensures.held.loaded c.args.half c.in-Ok.place c.in-Ok.ensures.place)
+    (subst (λ page. Follows page c.in-Ok.place c.place_after.result) c.page.ensures.is after.0) (omega arith)))
+
+pub returns-clause-value : goal.returns-clause-value
+returns-clause-value g c lines told =
+    let before : c.last_pass-pass.result.place.line < c.args.to = c.last_pass-pass.ensures.before in
+    subst (IsLastAlike lines c.args.line.now c.args.k (c.last_pass-pass.result.place.line + 1)) (sym c.number_of.ensures)
+    (finds-last c.load_line.new.pair c.args.layout c.load_line.new.places (g.C.Scratch.view c.load_line.new.scratch) c.args.half c.in-Ok.place c.last_pass-pass.result.place c.page.result.now lines c.args.line.now c.args.k c.last_pass-pass.result.alike
+    c.in-Ok.ensures.held c.in-Ok.ensures.place c.page.ensures.is c.in-Ok.ensures.line
+    c.last_pass-pass.ensures.follows (omega arith)
+    (c.in-Ok.ensures.keeps.told ∙ told)
+    c.last_pass-pass.ensures.last)

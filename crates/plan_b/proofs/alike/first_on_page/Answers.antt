@@ -1,0 +1,35 @@
+use Rattle.std.proofs.Common.{◌≡◌, ◌<◌, Some, refl, sym, subst, ◌∙◌, arith}
+use Rattle.plan_b.specs.Held.{IsLoaded}
+use Rattle.plan_b.specs.Spots.{IsSpot, IsRecord, Follows}
+use Rattle.plan_b.proofs.HeldLemmas.{held-more}
+use Rattle.plan_b.proofs.Reached.{held-record, follows-loaded, spots-more, finds-first}
+use Rattle.plan_b.proofs.alike.first_on_page.Goals as goal
+
+pub first_pass-pass-requires-clause-is : goal.first_pass-pass-requires-clause-is
+first_pass-pass-requires-clause-is g c =
+    subst (λ page. IsRecord page c.args.layout c.args.k c.in-Ok.spot) (sym c.page.ensures.is)
+    (held-record c.load_line.new.pair c.args.layout (g.C.Scratch.view c.load_line.new.scratch) c.args.half c.args.k c.in-Ok.spot (c.in-Ok.ensures.held.loaded c.args.half c.args.k c.in-Ok.ensures.loaded) c.in-Ok.ensures.spot)
+
+pub returns-clause-held : goal.returns-clause-held
+returns-clause-held g c =
+    let view = g.C.Scratch.view in
+    let before : c.first_pass-pass.result.line < c.args.to = c.first_pass-pass.ensures.before in
+    held-more c.load_line.new.pair c.load_line.new.pair c.args.layout c.load_line.new.halves c.set.new.self (view c.load_line.new.scratch) (view c.load_line.new.scratch) c.args.half
+    c.in-Ok.ensures.held refl refl (λ h ne. refl) c.set.ensures.other
+    (λ k is. let e : c.first_pass-pass.result.line ≡ k = (let f : Some c.first_pass-pass.result.line ≡ Some k = sym c.set.ensures.held ∙ is in cc) in
+    subst (IsLoaded c.load_line.new.pair c.args.layout (view c.load_line.new.scratch) c.args.half) e
+    (follows-loaded c.load_line.new.pair c.args.layout (view c.load_line.new.scratch) c.args.half c.args.k c.first_pass-pass.result.line c.first_pass-pass.result.spot (c.in-Ok.ensures.held.loaded c.args.half c.args.k c.in-Ok.ensures.loaded)
+    (subst (λ page. Follows page c.args.layout c.args.k c.first_pass-pass.result.line c.first_pass-pass.result.spot) c.page.ensures.is c.first_pass-pass.ensures.follows) (omega arith)))
+
+pub returns-clause-spots : goal.returns-clause-spots
+returns-clause-spots g c =
+    spots-more c.args.layout c.load_line.new.halves c.set.new.self c.load_line.new.spots c.set-2.new.self c.args.half c.in-Ok.ensures.spots c.set.ensures.other c.set-2.ensures.other
+    (λ k is. let e : c.first_pass-pass.result.line ≡ k = (let f : Some c.first_pass-pass.result.line ≡ Some k = sym c.set.ensures.held ∙ is in cc) in
+    subst (IsSpot c.args.layout k) (sym c.set-2.ensures.set) (subst (λ n. IsSpot c.args.layout n c.first_pass-pass.result.spot) e c.first_pass-pass.ensures.follows.is.spot))
+
+pub returns-clause-value : goal.returns-clause-value
+returns-clause-value g c lines told =
+    let view = g.C.Scratch.view in
+    let before : c.first_pass-pass.result.line < c.args.to = c.first_pass-pass.ensures.before in
+    finds-first c.load_line.new.pair c.args.layout (view c.load_line.new.scratch) c.args.half c.args.k c.first_pass-pass.result.line c.first_pass-pass.result.spot c.page.result.now lines c.args.line.now c.first_pass-pass.result.is_alike
+    c.in-Ok.ensures.held.layout c.in-Ok.ensures.held.records (c.in-Ok.ensures.held.loaded c.args.half c.args.k c.in-Ok.ensures.loaded) c.page.ensures.is c.first_pass-pass.ensures.follows c.first_pass-pass.ensures.order (omega arith) (c.in-Ok.ensures.keeps.told ∙ told) c.first_pass-pass.ensures.misses c.first_pass-pass.ensures.tells
