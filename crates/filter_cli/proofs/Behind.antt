@@ -91,6 +91,7 @@ module _ (job : Result PlainToolJob WordFault) (t v : TreeView) (h : FinderView)
         sink = done.sink;
         cause = cause_behind why done.cause;
         untouched = λ early. same_behind (done.untouched early);
+        still = λ none. opens_both opens (done.still none);
         quiet = done.quiet;
         read = done.read;
         unread = done.unread;

@@ -155,6 +155,7 @@ module _ (job : PlainToolJob) (i : Input) (s : PlainSelect) (R : SetFault → Ty
       sink = x.sink;
       cause = tt;
       untouched = λ early. absurd (false≢true early);
+      still = λ none. opens_untouched x.untouched;
       quiet = λ is. quiet_same x.untouched quiet;
       read = λ is reads. x.read (agrees.from reads);
       unread = λ never. unread (λ is. never (agrees.to is));
@@ -173,6 +174,7 @@ module _ (job : PlainToolJob) (i : Input) (s : PlainSelect) (R : SetFault → Ty
       sink = x.sink;
       cause = sift-cause e x.cause;
       untouched = λ early. entry x.untouched (x.early (early-is e early));
+      still = λ none. opens_untouched x.untouched;
       quiet = λ is. absurd (never-done e is);
       read = λ is. absurd (never-done e is);
       unread = λ never. unread (λ is. never (agrees.to is));

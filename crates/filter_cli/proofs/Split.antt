@@ -171,6 +171,7 @@ module _ (j : PlainSplitJob) (h : FinderView) (a : SourceView) (t w : TreeView) 
     sink = x.sink;
     cause = tt;
     untouched = λ early. absurd (false≢true early);
+    still = λ none. absurd (none tt);
     quiet = λ is. x.quiet;
     read = λ is reads. absurd reads;
     unread = λ never. refl;
@@ -191,6 +192,7 @@ module _ (j : PlainSplitJob) (h : FinderView) (a : SourceView) (t w : TreeView) 
     sink = x.sink;
     cause = split-cause e x.cause;
     untouched = λ early. not-begun (x.refused (split-early e x.cause early));
+    still = λ none. absurd (none tt);
     quiet = λ is. absurd (never-done e is);
     read = λ is. absurd (never-done e is);
     unread = λ never. refl;

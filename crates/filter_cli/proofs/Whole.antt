@@ -20,7 +20,7 @@ use Rattle.run_answers.specs.Answers.{is_fault, is_own}
 use Rattle.run_answers.specs.Moments.{Opens}
 use Rattle.run_answers.proofs.Names.{old_or_new}
 use Rattle.run_answers.proofs.Opens.{tidy_same}
-use Rattle.filter_cli.specs.Jobs.{ReadsSource}
+use Rattle.filter_cli.specs.Jobs.{AsksFor, Puts, ReadsSource}
 use Rattle.filter_cli.specs.Command.{Outcome, refused, command}
 use Rattle.filter_cli.specs.Worlds.{World, world, Tells}
 use Rattle.filter_cli.specs.Causes.{HasCause}
@@ -34,6 +34,7 @@ pub record Does (job : Result PlainToolJob WordFault) (u w : World) (why : Why) 
   pub sink : SinkPasses u.out w.out
   pub cause : HasCause why job u w
   pub untouched : is_early why ≡ true → IsAsAtEntry u w
+  pub still : (AsksFor job Puts → ⊥) → Opens u.tree w.tree
   pub quiet : why ≡ Done → IsQuiet w.tree
   pub read : why ≡ Done → ReadsSource job → (left : List ℕ) → u.source.told ≡ Some left → w.source.told ≡ Some []
   pub unread : (ReadsSource job → ⊥) → w.source ≡ u.source
@@ -80,6 +81,7 @@ carries_does {job = job} {u = u} {w = w} why d = record {
   sink = d.sink;
   cause = d.cause;
   untouched = d.untouched;
+  still = d.still;
   quiet = d.quiet;
   read = d.read;
   unread = d.unread;
@@ -137,6 +139,7 @@ carries_early job t v h a c why opens cause ends going =
       sink = sink_passes_none c;
       cause = cause;
       untouched = λ early. same;
+      still = λ none. opens;
       quiet = λ is. absurd (going is);
       read = λ is. absurd (going is);
       unread = λ never. refl;

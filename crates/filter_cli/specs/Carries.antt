@@ -10,7 +10,7 @@ use Rattle.outside.specs.SourceView.{SourcePasses}
 use Rattle.outside.specs.Quiet.{IsQuiet, Effect, TellsPrefix, after_all}
 use Rattle.patch_options.specs.declared.options.WordFault.{WordFault}
 use Rattle.tool_words.specs.PlainJobs.{PlainToolJob}
-use Rattle.tool_words.specs.PlainJobs.PlainToolJob.{split_job}
+use Rattle.tool_words.specs.PlainJobs.PlainToolJob.{list_job, filter_job, grep_job, split_job, recount_job, gen_job, flip_job, stack_job}
 use Rattle.patch_input.specs.Input.{TakesAtMost}
 use Rattle.patch_effects.specs.Making.{IsTidy}
 use Rattle.patch_filters.specs.Selected.{numbered}
@@ -19,8 +19,8 @@ use Rattle.filter_run.specs.Splits.{Cut, split_outcome}
 use Rattle.run_answers.specs.declared.why.Why.{Why}
 use Rattle.run_answers.specs.declared.why.Why.TheVariants.{Done, WriteFault, TreeFault, Disagree, Memory}
 use Rattle.run_answers.specs.Answers.{is_fault, is_own}
-use Rattle.run_answers.specs.Moments.{IsAfterPrefix, HoldsOldOrNew}
-use Rattle.filter_cli.specs.Jobs.{ReadsSource}
+use Rattle.run_answers.specs.Moments.{Opens, IsAfterPrefix, HoldsOldOrNew}
+use Rattle.filter_cli.specs.Jobs.{AsksFor, Puts, ReadsSource}
 use Rattle.filter_cli.specs.Command.{Outcome, IsOutcome, command}
 use Rattle.filter_cli.specs.Worlds.{World, Tells}
 use Rattle.filter_cli.specs.Causes.{HasCause}
@@ -68,8 +68,15 @@ pub record IsCutAt (why : Why) (file text : List ℕ) (rows : List (ℕ × Span)
 
 -- where parts are put, a fault comes before the first of them or behind some
 abbrev pub BreaksOff : Result PlainToolJob WordFault → Why → Files → World → World → Type 0
+BreaksOff (Ok (list_job j)) why f u w = Unit {0}
+BreaksOff (Ok (filter_job j)) why f u w = Unit {0}
+BreaksOff (Ok (grep_job j)) why f u w = Unit {0}
 BreaksOff (Ok (split_job j)) why f u w = IsAsAtEntry u w ⊎ ((x : Cut) × (split_outcome j f ≡ Ok x) × ((k : ℕ) × IsCutAt why j.input x.0 (numbered x.1) f w.tree u.out w.out k))
-BreaksOff job why f u w = Unit {0}
+BreaksOff (Ok (recount_job input)) why f u w = Unit {0}
+BreaksOff (Ok (gen_job j)) why f u w = Unit {0}
+BreaksOff (Ok (flip_job input)) why f u w = Unit {0}
+BreaksOff (Ok (stack_job op)) why f u w = Unit {0}
+BreaksOff (Err fault) why f u w = Unit {0}
 
 -- each crash since the call began leaves what one could have left at entry, or the files at entry after a first part of the effects
 abbrev pub LeavesAllowed : World → World → Files → List Effect → Type 0
@@ -97,6 +104,8 @@ pub record Carries (job : Result PlainToolJob WordFault) (u w : World) (why : Wh
   pub sink : SinkPasses u.out w.out
   pub cause : HasCause why job u w
   pub untouched : is_early why ≡ true → IsAsAtEntry u w
+  -- a job that puts no parts leaves the tree as it is told, whatever else is told
+  pub still : (AsksFor job Puts → ⊥) → Opens u.tree w.tree
   -- after an end each crash from then on leaves all effects
   pub quiet : why ≡ Done → IsQuiet w.tree
   -- standard input is read to its end, or not at all

@@ -8,7 +8,7 @@ use Rattle.patch_options.specs.declared.options.WordFault.TheVariants as words
 use Rattle.patch_set.specs.declared.fault.SetFault.TheVariants as set
 use Rattle.tool_words.specs.PlainJobs.{PlainToolJob}
 use Rattle.run_answers.specs.declared.why.Why.{Why}
-use Rattle.run_answers.specs.declared.why.Why.TheVariants.{Done, Usage, Malformed, Garbage, EdReverse, OutMany, Reserved, NoPatchFile, TooLong, BadPattern, ReadFault, WriteFault, TreeFault, Disagree, Memory, Unsupported}
+use Rattle.run_answers.specs.declared.why.Why.TheVariants.{Done, Rejected, Usage, Malformed, Garbage, EdReverse, OutMany, Reserved, NoPatchFile, TooLong, LongLine, FileTooLong, BadPattern, NoContext, Unfit, BadState, StackEnd, StackName, ReadFault, WriteFault, TreeFault, ScratchFault, Disagree, Memory, Unsupported}
 use Rattle.filter_cli.specs.Jobs.{AsksFor, ReadsSource, NamesFile, MayFault, MayBeRefused}
 use Rattle.filter_cli.specs.Worlds.{World}
 
@@ -30,4 +30,12 @@ HasCause TreeFault job u w = tree.Rises u.tree w.tree
 HasCause (Disagree want got) job u w = (want ≢ got) × (u.tree.told ≡ None)
 HasCause Memory job u w = Unit {0}
 -- the others are answers of other tools alone
-HasCause why job u w = ⊥
+HasCause Rejected job u w = ⊥
+HasCause (LongLine line length) job u w = ⊥
+HasCause (FileTooLong length) job u w = ⊥
+HasCause (NoContext line) job u w = ⊥
+HasCause (Unfit line) job u w = ⊥
+HasCause (BadState file) job u w = ⊥
+HasCause (StackEnd applied) job u w = ⊥
+HasCause (StackName line) job u w = ⊥
+HasCause ScratchFault job u w = ⊥

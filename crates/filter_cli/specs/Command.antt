@@ -5,7 +5,7 @@ use Rattle.outside.specs.FinderView.{FinderView}
 use Rattle.outside.specs.Quiet.{Effect}
 use Rattle.patch_options.specs.declared.options.WordFault.{WordFault}
 use Rattle.tool_words.specs.PlainJobs.{PlainToolJob}
-use Rattle.tool_words.specs.PlainJobs.PlainToolJob.{list_job, filter_job, grep_job, split_job, recount_job}
+use Rattle.tool_words.specs.PlainJobs.PlainToolJob.{list_job, filter_job, grep_job, split_job, recount_job, gen_job, flip_job, stack_job}
 use Rattle.patch_filters.specs.Selected.{numbered}
 use Rattle.filter_run.specs.declared.fault.FilterFault.{FilterFault}
 use Rattle.filter_run.specs.declared.fault.FilterFault.TheVariants as faults
@@ -58,7 +58,9 @@ on_job hit (filter_job j) files left = written (filter_outcome j files left)
 on_job hit (grep_job j) files left = written (grep_outcome hit j files left)
 on_job hit (split_job j) files left = parted j.input (split_outcome j files)
 on_job hit (recount_job input) files left = written (recount_outcome input files left)
-on_job hit job files left = refused Unsupported
+on_job hit (gen_job j) files left = refused Unsupported
+on_job hit (flip_job input) files left = refused Unsupported
+on_job hit (stack_job op) files left = refused Unsupported
 
 -- what the words come to that ask for this
 abbrev pub command : (List ℕ → List ℕ → Bool) → Result PlainToolJob WordFault → Files → List ℕ → Outcome
@@ -67,8 +69,14 @@ command hit (Err fault) files left = refused (of_words fault)
 
 -- there are file patches to search for a pattern
 abbrev pub Searches : PlainToolJob → Files → List ℕ → Type 0
+Searches (list_job j) files left = ⊥
+Searches (filter_job j) files left = ⊥
 Searches (grep_job j) files left = HasPatches (given j.input j.select files left)
-Searches job files left = ⊥
+Searches (split_job j) files left = ⊥
+Searches (recount_job input) files left = ⊥
+Searches (gen_job j) files left = ⊥
+Searches (flip_job input) files left = ⊥
+Searches (stack_job op) files left = ⊥
 
 -- the outcome is the command's; or a pattern that isn't always taken is refused, where there are file patches to search
 abbrev pub IsOutcome : FinderView → Result PlainToolJob WordFault → Files → List ℕ → Outcome → Type 0

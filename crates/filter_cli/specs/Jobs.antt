@@ -42,8 +42,11 @@ abbrev pub IsFromSource : PlainToolJob → Type 0
 IsFromSource (list_job j) = IsStandard j.input
 IsFromSource (filter_job j) = IsStandard j.input
 IsFromSource (grep_job j) = IsStandard j.input
+IsFromSource (split_job j) = ⊥
 IsFromSource (recount_job input) = IsStandard input
-IsFromSource job = ⊥
+IsFromSource (gen_job j) = ⊥
+IsFromSource (flip_job input) = ⊥
+IsFromSource (stack_job op) = ⊥
 
 abbrev pub ReadsSource : Result PlainToolJob WordFault → Type 0
 ReadsSource job = AsksFor job IsFromSource
@@ -53,25 +56,52 @@ abbrev pub NamesFile : PlainToolJob → Type 0
 NamesFile (list_job j) = sifting.NamesFile j.input j.select
 NamesFile (filter_job j) = sifting.NamesFile j.input j.select
 NamesFile (grep_job j) = sifting.NamesFile j.input j.select
-NamesFile (recount_job input) = sifting.NamesFile input no_selection
 NamesFile (split_job j) = Unit {0}
-NamesFile job = ⊥
+NamesFile (recount_job input) = sifting.NamesFile input no_selection
+NamesFile (gen_job j) = ⊥
+NamesFile (flip_job input) = ⊥
+NamesFile (stack_job op) = ⊥
 
 -- some text is refused so: `lsdiff`, `filterdiff` and `grepdiff` take one without file patches, and `recountdiff` refuses bad hunks alone
 abbrev pub MayFault : PlainToolJob → SetFault → Type 0
 MayFault (list_job j) fault = HasTextCause fault
 MayFault (filter_job j) fault = HasTextCause fault
 MayFault (grep_job j) fault = HasTextCause fault
-MayFault (recount_job input) fault = HasCountCause fault
 MayFault (split_job j) fault = HasSetCause fault
-MayFault job fault = ⊥
+MayFault (recount_job input) fault = HasCountCause fault
+MayFault (gen_job j) fault = ⊥
+MayFault (flip_job input) fault = ⊥
+MayFault (stack_job op) fault = ⊥
 
 -- it looks for a pattern
 abbrev pub HasPattern : PlainToolJob → Type 0
+HasPattern (list_job j) = ⊥
+HasPattern (filter_job j) = ⊥
 HasPattern (grep_job j) = Unit {0}
-HasPattern job = ⊥
+HasPattern (split_job j) = ⊥
+HasPattern (recount_job input) = ⊥
+HasPattern (gen_job j) = ⊥
+HasPattern (flip_job input) = ⊥
+HasPattern (stack_job op) = ⊥
 
 -- which the finder doesn't always take
 abbrev pub MayBeRefused : FinderView → PlainToolJob → Type 0
+MayBeRefused v (list_job j) = ⊥
+MayBeRefused v (filter_job j) = ⊥
 MayBeRefused v (grep_job j) = v.takes j.pattern ≡ false
-MayBeRefused v job = ⊥
+MayBeRefused v (split_job j) = ⊥
+MayBeRefused v (recount_job input) = ⊥
+MayBeRefused v (gen_job j) = ⊥
+MayBeRefused v (flip_job input) = ⊥
+MayBeRefused v (stack_job op) = ⊥
+
+-- it puts parts
+abbrev pub Puts : PlainToolJob → Type 0
+Puts (list_job j) = ⊥
+Puts (filter_job j) = ⊥
+Puts (grep_job j) = ⊥
+Puts (split_job j) = Unit {0}
+Puts (recount_job input) = ⊥
+Puts (gen_job j) = ⊥
+Puts (flip_job input) = ⊥
+Puts (stack_job op) = ⊥
