@@ -1,0 +1,5 @@
+pub mod Taken
+pub mod Blocks
+pub mod Commands
+pub mod Refusals
+pub mod Converted
