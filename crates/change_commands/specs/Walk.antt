@@ -108,11 +108,11 @@ pub record IsFoundIn (k : Kept) (p : Place) (gap : ℕ) (f : Found) : Type 0 whe
   pub here : f.edit.at ≡ gap
 
 -- how large the block is that begins in this gap
-pub record IsBlock (k : Kept) (p : Place) (first : ℕ) (b : Size) : Type 0 where
-  pub first : b.first ≡ first
-  pub drops : b.drops ≡ length (front Forward first (edits_left k p))
-  pub adds : b.adds ≡ length (front Reversed first (edits_left k p))
-  pub behind : edits_left k b.behind ≡ front_rest first (edits_left k p)
+pub record IsBlock (k : Kept) (p : Place) (gap : ℕ) (b : Size) : Type 0 where
+  pub first : b.first ≡ gap
+  pub drops : b.drops ≡ length (front Forward gap (edits_left k p))
+  pub adds : b.adds ≡ length (front Reversed gap (edits_left k p))
+  pub behind : edits_left k b.behind ≡ front_rest gap (edits_left k p)
   pub counted : b.drops + b.adds + length (edits_left k b.behind) ≡ length (edits_left k p)
   pub near : b.first ≤ 2 ^ 43
 

@@ -1,0 +1,6 @@
+pub mod Rows
+pub mod Steps
+pub mod FrontLemmas
+pub mod Parts
+pub mod NormalLemmas
+pub mod EdLemmas
