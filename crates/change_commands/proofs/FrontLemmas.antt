@@ -169,3 +169,26 @@ blocks-next left e es rest q is at behind-is =
     ∙ ap (λ xs. front_block e.at xs ∷ blocks_of (front_rest e.at xs)) (sym is)
     ∙ ap (λ n. front_block n left ∷ blocks_of (front_rest n left)) (sym at)
     ∙ ap (λ xs. front_block q left ∷ blocks_of xs) (sym behind-is)
+
+-- the first edit that is left, and the gap behind it
+pub front-cut : (side : Side) (q : ℕ) (left : List Edit) (e : Edit) (es : List Edit) (next : ℕ) → left ≡ e ∷ es → e.at ≡ q → next ≡ behind e → front side q left ≡ line_on side e ++ front side next es
+front-cut side q left e es next is here at = front-next side q left e es is here ∙ ap (λ n. line_on side e ++ front side n es) (sym at)
+
+pub behind-near : (e : Edit) → behind e ≤ e.at + 1
+behind-near e = by e.adds
+  where
+    by : (b : Bool) → cond b e.at (e.at + 1) ≤ e.at + 1
+    by true = omega arith
+    by false = omega arith
+
+rest-to : (q : ℕ) (e : Edit) (es : List Edit) (b : Bool) → eqb e.at q ≡ b → length (front_rest (behind e) es) ≤ length es → length (front_rest q (e ∷ es)) ≤ length (e ∷ es)
+rest-to q e es true is more = let here : e.at ≡ q = grind (arith, nat_tests) in omega (arith, ap length (rest-more q e es here), more)
+rest-to q e es false is more = omega (arith, ap length (rest-stop q (e ∷ es) is))
+
+rest-short : (q : ℕ) (es : List Edit) → length (front_rest q es) ≤ length es
+rest-short q [] = omega (arith, ap length (rest-none q))
+rest-short q (e ∷ es) = rest-to q e es (eqb e.at q) refl (rest-short (behind e) es)
+
+-- a block has an edit
+pub fewer : (left : List Edit) (e : Edit) (es rest : List Edit) (q : ℕ) → left ≡ e ∷ es → q ≡ e.at → rest ≡ front_rest q left → length rest < length left
+fewer left e es rest q is at behind-is = omega (arith, ap length behind-is, ap length (rest-next q left e es is (sym at)), rest-short (behind e) es, ap length is)

@@ -120,6 +120,7 @@ pub record IsBlock (k : Kept) (p : Place) (gap : ℕ) (b : Size) : Type 0 where
 pub record IsNextBlock (k : Kept) (p : Place) (b : Size) : Type 0 where
   pub size : IsBlock k p b.first b
   pub left : blocks_of (edits_left k p) ≡ front_block b.first (edits_left k p) ∷ blocks_of (edits_left k b.behind)
+  pub shorter : length (edits_left k b.behind) < length (edits_left k p)
 
 -- the numbers of a command can be counted on
 pub record IsSmall (n : Net) (b : Size) : Type 0 where

@@ -15,7 +15,7 @@ ghost use Rattle.change_commands.specs.Walk.{IsBlock, IsKept, edits_if, edits_le
 use crate::block::{Block, edit_in, gap_behind, next_block};
 use crate::edits::hunk_start;
 use crate::kept::{Kept, is_kept};
-use crate::lines::{line_at, put_piece};
+use crate::lines::{line_at, put_both};
 use crate::numbers::{action_for, add_letter, add_span, range_start};
 use crate::place::{LineEdit, Place};
 use arrayvec::ArrayVec;
@@ -38,11 +38,9 @@ pub fn put_text_line<O: Sink>(line: &[u8], goes_on: bool, out: &mut O) -> Result
     ensures { Puts O.view O.same_rest out.old out.new result (ed_line line.now goes_on) }
 {
     if is_dot(line) {
-        put_piece(out, b"..\n.\ns/.//\n")?;
-        put_piece(out, append_if(goes_on))
+        put_both(out, b"..\n.\ns/.//\n", append_if(goes_on))
     } else {
-        put_piece(out, line)?;
-        put_piece(out, dot_unless(goes_on))
+        put_both(out, line, dot_unless(goes_on))
     }
 }
 
@@ -67,8 +65,7 @@ pub fn put_head<O: Sink>(first: u64, drops: u64, adds: u64, out: &mut O) -> Resu
     let mut command = ArrayVec::new();
     add_span(&mut command, range_start(first, drops), drops);
     add_letter(&mut command, action_for(drops, adds));
-    put_piece(out, command.as_slice())?;
-    put_piece(out, b"\n")
+    put_both(out, command.as_slice(), b"\n")
 }
 
 /// The line of an edit that adds one, with `left` of them behind it.

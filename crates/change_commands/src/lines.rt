@@ -1,11 +1,12 @@
 //! Lines of hunks, written behind the marks of the normal form.
 
-ghost use Rattle.std.specs.Prelude.{◌≡◌, ◌≤◌, ◌^◌, ℕ, List};
+ghost use Rattle.std.specs.Prelude.{◌≡◌, ◌≤◌, ◌^◌, ◌++◌, ◌∷◌, [], if◌then◌else◌};
 ghost use Rattle.std.specs.List.{flat_map};
+ghost use Rattle.hunk_core.specs.LineTests.{ends_line};
 ghost use Rattle.hunk_core.specs.PlainHunk.{bytes_at};
 ghost use Rattle.hunk_core.specs.Turned.{LiesIn};
 ghost use Rattle.hunk_core.specs.Writing.{Puts};
-ghost use Rattle.normal_form.specs.Canonical.{line_text};
+ghost use Rattle.normal_form.specs.Canonical.{line_text, no_newline};
 ghost use Rattle.normal_form.specs.Stretches.{marks};
 ghost use Rattle.change_commands.specs.Fronts.{front, is_on, line_on};
 ghost use Rattle.change_commands.specs.Walk.{IsKept, edit_at, edits_left};
@@ -41,16 +42,27 @@ fn marks_of(side: Side) -> &'static [u8]
     }
 }
 
+/// Writes two pieces, one behind the other.
+pub fn put_both<O: Sink>(out: &mut O, first: &[u8], second: &[u8]) -> Result<(), Failed>
+    ensures { Puts O.view O.same_rest out.old out.new result (first.now ++ second.now) }
+{
+    put_piece(out, first)?;
+    put_piece(out, second)
+}
+
+/// What stands behind a line that has no line feed.
+fn ending(line: &[u8]) -> &'static [u8]
+    ensures { result.now ≡ (if ends_line line.now then [] else 10 ∷ no_newline) }
+{
+    if has_feed(line) { b"" } else { NO_NEWLINE }
+}
+
 /// A line behind the mark of this side.
 fn put_marked<O: Sink>(out: &mut O, line: &[u8], side: Side) -> Result<(), Failed>
     ensures { Puts O.view O.same_rest out.old out.new result (line_text side line.now) }
 {
     put_piece(out, marks_of(side))?;
-    put_piece(out, line)?;
-    if has_feed(line) {
-        return Ok(());
-    }
-    put_piece(out, NO_NEWLINE)
+    put_both(out, line, ending(line))
 }
 
 /// The line of an edit if it is of this side.

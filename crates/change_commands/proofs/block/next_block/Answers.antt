@@ -2,7 +2,7 @@ use Rattle.std.proofs.Common.{◌≡◌, ◌∷◌, ◌≤◌, ◌^◌, ℕ, sym
 use Rattle.change_commands.specs.Blocks.{blocks_of}
 use Rattle.change_commands.specs.Fronts.{front_block, front_rest}
 use Rattle.change_commands.specs.Walk.{IsBlock, IsFound, edit_at, edits_left}
-use Rattle.change_commands.proofs.FrontLemmas.{blocks-next}
+use Rattle.change_commands.proofs.FrontLemmas.{blocks-next, fewer}
 use Rattle.change_commands.proofs.block.next_block.Goals as goal
 
 pub block_in-requires-clause-near : goal.block_in-requires-clause-near
@@ -17,6 +17,8 @@ returns c =
     let first : c.block_in.result.first ≡ c.in_ok-found.found.edit.at = own.first in
     record {
       size = subst (λ (q : ℕ). IsBlock k c.args.place q b) (sym first) own;
+      shorter = fewer (edits_left k c.args.place) (edit_at k.set.now.text c.in_ok-found.found.edit) (edits_left k c.in_ok-found.found.behind) (edits_left k b.behind) b.first f.left first
+      (own.behind ∙ ap (λ (q : ℕ). front_rest q (edits_left k c.args.place)) (sym first));
       left = blocks-next (edits_left k c.args.place) (edit_at k.set.now.text c.in_ok-found.found.edit) (edits_left k c.in_ok-found.found.behind) (edits_left k b.behind) b.first f.left first
       (own.behind ∙ ap (λ (q : ℕ). front_rest q (edits_left k c.args.place)) (sym first));
     }
