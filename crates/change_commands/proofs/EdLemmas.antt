@@ -1,2 +1,149 @@
--- Parts of a text that are written one after the other.
-use Rattle.std.proofs.Common.{◌≡◌, List, ℕ}
+-- Commands of an ed script, written while edits come in front of others.
+use Rattle.std.proofs.Common.{◌≡◌, ℕ, zero, suc, ◌+◌, ◌-◌, ◌<◌, ◌≤◌, Bool, true, false, cond, eqb, not, List, [], ◌∷◌, ◌++◌, length, get_or, take, drop, map, refl, sym, ap, ◌∙◌, append_assoc, arith}
+use Rattle.std.specs.Prelude.{nat_lt, reverse}
+use Rattle.std.specs.List.{flat_map}
+use Rattle.std.proofs.lemmas.Bool.Decides.{nat_tests}
+use Rattle.std.proofs.lemmas.List.{append-nil, reverse-append}
+use Rattle.std.proofs.lemmas.Grind.{flat_map-append}
+use Rattle.std.proofs.lemmas.List.Concat.{flat_map-cons}
+use Rattle.hunk_core.specs.declared.Mark.{Mark}
+use Rattle.hunk_core.specs.declared.Mark.TheVariants.{Keep, Drop, Add}
+use Rattle.hunk_core.specs.declared.Side.TheVariants.{Forward, Reversed}
+use Rattle.hunk_core.specs.declared.HunkLine.{HunkLine}
+use Rattle.hunk_core.specs.PlainHunk.{Marked, body_of, bytes_at}
+use Rattle.hunk_core.specs.Sides.{is_on_side, taken_count}
+use Rattle.change_commands.specs.Backward.{closing, closing_if, first_text, grown, text_behind}
+use Rattle.change_commands.specs.Blocks.{Block, Edit, add_at, behind, block_of, blocks_of, body_edits, drop_at, in_front, marked_edits}
+use Rattle.change_commands.specs.Commands.{ed_command, ed_head, ed_line, ed_lines, ed_text, goes_on}
+use Rattle.change_commands.specs.Fronts.{begins_at, front, front_block, front_rest, is_on}
+use Rattle.change_commands.proofs.FrontLemmas.{blocks-cons, blocks-front, blocks-none}
+use Rattle.change_commands.proofs.Steps.{edits-mark, edits-next, edits-none}
+
+-- ---- the lines of a text
+
+pub lines-cons : (line : List ℕ) (more : List (List ℕ)) → ed_lines (line ∷ more) ≡ ed_line line (goes_on more) ++ ed_lines more
+unfolding ed_lines
+lines-cons line more = refl
+
+pub lines-none : ed_lines [] ≡ []
+unfolding ed_lines
+lines-none = refl
+
+more-is : (more : List (List ℕ)) (left : ℕ) → left ≡ length more → nat_lt 0 left ≡ goes_on more
+more-is [] left e = grind (arith, nat_tests)
+more-is (line ∷ more) left e = grind (arith, nat_tests)
+
+-- the line of an edit, if it adds one, with what is left behind it
+pub record Cut (adds : Bool) (line : List ℕ) (all more : List (List ℕ)) (left2 : ℕ) : Type 0 where
+  pub text : ed_lines all ≡ cond adds (ed_line line (nat_lt 0 left2)) [] ++ ed_lines more
+  pub left : left2 ≡ length more
+
+pub cut-at : (adds : Bool) (line : List ℕ) (all more : List (List ℕ)) (left left2 : ℕ) → all ≡ cond (is_on Reversed adds) (line ∷ []) [] ++ more → left ≡ length all → left2 ≡ left - cond adds 1 0 → Cut adds line all more left2
+cut-at true line all more left left2 is count next =
+    let rest : left2 ≡ length more = omega (arith, count, next, ap length is) in
+    record { text = ap ed_lines is ∙ lines-cons line more ∙ ap (λ b. ed_line line b ++ ed_lines more) (sym (more-is more left2 rest)); left = rest }
+cut-at false line all more left left2 is count next = record { text = ap ed_lines is; left = omega (arith, count, next, ap length is) }
+
+-- a line that is added is one of those that are left
+pub one-left : (adds : Bool) (line : List ℕ) (all more : List (List ℕ)) (left : ℕ) → all ≡ cond (is_on Reversed adds) (line ∷ []) [] ++ more → left ≡ length all → adds ≡ true → 1 ≤ left
+one-left true line all more left is count yes-is = omega (arith, count, ap length is)
+one-left false line all more left is count yes-is = absurd cc
+
+-- ---- a block
+
+abbrev pub counted : ℕ → List Edit → ℕ → ℕ → List ℕ
+counted q left old new = ed_head q old new ++ ed_lines (front Reversed q left)
+
+pub counted-is : (q : ℕ) (left : List Edit) (old new : ℕ) → old ≡ length (front Forward q left) → new ≡ length (front Reversed q left) → counted q left old new ≡ ed_command (front_block q left)
+counted-is q left old new e f = ap (λ (n : ℕ). counted q left n new) e ∙ ap (λ (n : ℕ). counted q left (length (front Forward q left)) n) f
+
+-- ---- blocks from the last one
+
+pub text-cons : (b : Block) (bs : List Block) → ed_text (b ∷ bs) ≡ ed_text bs ++ ed_command b
+text-cons b bs =
+    ap (flat_map ed_command) (reverse-append (b ∷ []) bs)
+    ∙ flat_map-append ed_command (reverse bs) (b ∷ [])
+    ∙ ap (λ t. ed_text bs ++ t) (flat_map-cons ed_command b [] ∙ append-nil (ed_command b))
+
+pub text-ends : (bs : List Block) → text_behind bs ++ first_text bs ≡ ed_text bs
+text-ends [] = refl
+text-ends (b ∷ bs) = sym (text-cons b bs)
+
+-- an edit in front of others
+front-to : (e f : Edit) (es : List Edit) (b : Bool) → eqb (behind e) f.at ≡ b → blocks_of (f ∷ es) ≡ front_block f.at (f ∷ es) ∷ blocks_of (front_rest f.at (f ∷ es)) → text_behind (in_front e (blocks_of (f ∷ es))) ≡ text_behind (blocks_of (f ∷ es)) ++ closing (behind e) (f ∷ es)
+front-to e f es true is first =
+    let here : begins_at (behind e) (f ∷ es) ≡ true = grind (arith, nat_tests) in
+    let rest = blocks_of (front_rest f.at (f ∷ es)) in
+    ap (λ bs. text_behind (in_front e bs)) first
+    ∙ ap (λ b. text_behind (cond b (block_of e (front Forward f.at (f ∷ es)) (front Reversed f.at (f ∷ es)) ∷ rest) (block_of e [] [] ∷ front_block f.at (f ∷ es) ∷ rest))) is
+    ∙ sym (append-nil (ed_text rest))
+    ∙ ap (λ b. ed_text rest ++ cond b [] (first_text (blocks_of (f ∷ es)))) (sym here)
+    ∙ ap (λ bs. text_behind bs ++ closing (behind e) (f ∷ es)) (sym first)
+front-to e f es false is first =
+    let away : begins_at (behind e) (f ∷ es) ≡ false = grind (arith, nat_tests) in
+    let rest = blocks_of (front_rest f.at (f ∷ es)) in
+    ap (λ bs. text_behind (in_front e bs)) first
+    ∙ ap (λ b. text_behind (cond b (block_of e (front Forward f.at (f ∷ es)) (front Reversed f.at (f ∷ es)) ∷ rest) (block_of e [] [] ∷ front_block f.at (f ∷ es) ∷ rest))) is
+    ∙ text-cons (front_block f.at (f ∷ es)) rest
+    ∙ ap (λ bs. ed_text rest ++ first_text bs) (sym first)
+    ∙ ap (λ b. ed_text rest ++ cond b [] (first_text (blocks_of (f ∷ es)))) (sym away)
+    ∙ ap (λ bs. text_behind bs ++ closing (behind e) (f ∷ es)) (sym first)
+
+behind-front : (e : Edit) (es : List Edit) → text_behind (blocks_of (e ∷ es)) ≡ text_behind (blocks_of es) ++ closing (behind e) es
+behind-front e [] =
+    ap text_behind (blocks-cons e [] ∙ ap (in_front e) blocks-none)
+    ∙ ap (λ bs. text_behind bs ++ first_text bs) (sym blocks-none)
+behind-front e (f ∷ es) = ap text_behind (blocks-cons e (f ∷ es)) ∙ front-to e f es (eqb (behind e) f.at) refl (blocks-front f es)
+
+pub grown-none : (left : List Edit) → grown [] left ≡ []
+unfolding grown
+grown-none left = refl
+
+pub grown-cons : (e : Edit) (es left : List Edit) → grown (e ∷ es) left ≡ grown es left ++ closing (behind e) (es ++ left)
+unfolding grown
+grown-cons e es left = refl
+
+-- what is written once edits came in front of others
+pub grown-is : (es left : List Edit) → text_behind (blocks_of (es ++ left)) ≡ text_behind (blocks_of left) ++ grown es left
+grown-is [] left = sym (ap (λ t. text_behind (blocks_of left) ++ t) (grown-none left) ∙ append-nil (text_behind (blocks_of left)))
+grown-is (e ∷ es) left =
+    behind-front e (es ++ left)
+    ∙ ap (λ t. t ++ closing (behind e) (es ++ left)) (grown-is es left)
+    ∙ append_assoc (text_behind (blocks_of left)) (grown es left) (closing (behind e) (es ++ left))
+    ∙ ap (λ t. text_behind (blocks_of left) ++ t) (sym (grown-cons e es left))
+
+pub grown-append : (es fs left : List Edit) → grown (es ++ fs) left ≡ grown fs left ++ grown es (fs ++ left)
+grown-append [] fs left = sym (ap (λ t. grown fs left ++ t) (grown-none (fs ++ left)) ∙ append-nil (grown fs left))
+grown-append (e ∷ es) fs left =
+    grown-cons e (es ++ fs) left
+    ∙ ap (λ t. t ++ closing (behind e) ((es ++ fs) ++ left)) (grown-append es fs left)
+    ∙ append_assoc (grown fs left) (grown es (fs ++ left)) (closing (behind e) ((es ++ fs) ++ left))
+    ∙ ap (λ xs. grown fs left ++ (grown es (fs ++ left) ++ closing (behind e) xs)) (append_assoc es fs left)
+    ∙ ap (λ t. grown fs left ++ t) (sym (grown-cons e es (fs ++ left)))
+
+-- ---- a body from its last line
+
+pub back-line : (k : Mark) (q next : ℕ) (line : List ℕ) (es left : List Edit) → next ≡ q + cond (is_on_side Forward k) 1 0 → grown (marked_edits k q line (λ _. es)) left ≡ grown es left ++ closing_if k next (es ++ left)
+back-line Keep q next line es left at = sym (append-nil (grown es left))
+back-line Drop q next line es left at = grown-cons (drop_at q line) es left ∙ ap (λ n. grown es left ++ closing n (es ++ left)) (sym at)
+back-line Add q next line es left at = grown-cons (add_at q line) es left ∙ ap (λ n. grown es left ++ closing n (es ++ left)) (let same : q ≡ next = omega (arith, at) in same)
+
+pub edits-at : (text : List ℕ) (items : List HunkLine) (i q next : ℕ) (l : HunkLine) → i < length items → l ≡ get_or items i l → next ≡ q + cond (is_on_side Forward l.mark) 1 0
+    → body_edits q (body_of text (drop i items)) ≡ marked_edits l.mark q (bytes_at text l.span) (λ _. body_edits next (body_of text (drop (i + 1) items)))
+edits-at text items i q next l lt is at =
+    sym (append-nil (body_edits q (body_of text (drop i items))))
+    ∙ edits-next text items i q l [] lt is
+    ∙ ap (λ n. marked_edits l.mark q (bytes_at text l.span) (λ _. body_edits n (body_of text (drop (i + 1) items)) ++ [])) (sym at)
+    ∙ ap (λ es. marked_edits l.mark q (bytes_at text l.span) (λ _. es)) (append-nil (body_edits next (body_of text (drop (i + 1) items))))
+
+-- the edits of a body up to a line, and from it on
+split-mark : (k : Mark) (q : ℕ) (line : List ℕ) (ms : List Marked) (es : ℕ → List Edit) (rest : ℕ → List Edit) → ((p : ℕ) → body_edits p ms ≡ es p ++ rest p) → marked_edits k q line (λ next. body_edits next ms) ≡ marked_edits k q line es ++ rest (q + cond (is_on_side Forward k) 1 0)
+split-mark Keep q line ms es rest each = each (q + 1)
+split-mark Drop q line ms es rest each = ap (λ xs. drop_at q line ∷ xs) (each (q + 1))
+split-mark Add q line ms es rest each = let same : q ≡ q + 0 = omega arith in ap (λ xs. add_at q line ∷ xs) (each q) ∙ ap (λ n. add_at q line ∷ (es q ++ rest n)) same
+
+taken-cons : (l : HunkLine) (items : List HunkLine) (q : ℕ) → q + cond (is_on_side Forward l.mark) 1 0 + taken_count Forward items ≡ q + taken_count Forward (l ∷ items)
+taken-cons l items q = ?
+
+pub split-body : (text : List ℕ) (items : List HunkLine) (i q : ℕ) → body_edits q (body_of text items) ≡ body_edits q (body_of text (take i items)) ++ body_edits (q + taken_count Forward (take i items)) (body_of text (drop i items))
+split-body text items i q = ?

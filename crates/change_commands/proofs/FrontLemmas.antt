@@ -47,7 +47,7 @@ rest-next q left e es is here = ap (front_rest q) is ∙ rest-more q e es here
 
 -- ---- the blocks of edits begin with the one that the edits begin with
 
-blocks-cons : (e : Edit) (es : List Edit) → blocks_of (e ∷ es) ≡ in_front e (blocks_of es)
+pub blocks-cons : (e : Edit) (es : List Edit) → blocks_of (e ∷ es) ≡ in_front e (blocks_of es)
 unfolding blocks_of
 blocks-cons e es = refl
 

@@ -57,19 +57,12 @@ left_at text rows hunk line next = left_from text line next (drop hunk rows)
 abbrev pub edits_left : Kept → Place → List Edit
 edits_left k p = left_at k.set.now.text (pairs k) p.hunk p.line p.next
 
--- the edits of the first of some hunks, whether it is kept or not, and where it is kept
-abbrev pub first_edits : List ℕ → List (Bool × Hunk) → List Edit
-first_edits text [] = []
-first_edits text (row ∷ rows) = body_edits (base (hunk_of text row.1)) (body_of text row.1.body.items)
-
+-- the edits of the first of some hunks, where it is kept
 abbrev pub first_if : List ℕ → List (Bool × Hunk) → List Edit
 first_if text [] = []
 first_if text (row ∷ rows) = edits_if text row
 
 -- the same of a hunk, counted from 0
-abbrev pub hunk_left : Kept → ℕ → List Edit
-hunk_left k hunk = first_edits k.set.now.text (drop hunk (pairs k))
-
 abbrev pub pair_left : Kept → ℕ → List Edit
 pair_left k hunk = first_if k.set.now.text (drop hunk (pairs k))
 

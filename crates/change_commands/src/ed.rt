@@ -1,6 +1,6 @@
 //! Blocks as commands of an ed script, from the last one, so that none moves the lines of those behind it.
 
-ghost use Rattle.std.specs.Prelude.{◌≡◌, ◌+◌, ◌-◌, ◌≤◌, ◌<◌, ◌^◌, ◌++◌, ℕ, List, [], true, codes, drop, length, IfOk, if◌then◌else◌};
+ghost use Rattle.std.specs.Prelude.{◌≡◌, ◌+◌, ◌-◌, ◌≤◌, ◌<◌, ◌^◌, ◌++◌, ℕ, List, [], true, codes, drop, get_or, length, IfOk, if◌then◌else◌};
 ghost use Rattle.hunk_core.specs.PlainHunk.{bytes_at, body_of, hunk_of};
 ghost use Rattle.hunk_core.specs.Sides.{is_on_side};
 ghost use Rattle.hunk_core.specs.Turned.{LiesIn, base, is_keep};
@@ -10,7 +10,7 @@ ghost use Rattle.change_commands.specs.Backward.{StandsBehind, closing, closing_
 ghost use Rattle.change_commands.specs.Blocks.{blocks_of, body_edits, hunk_edits};
 ghost use Rattle.change_commands.specs.Commands.{ed_command, ed_head, ed_line, ed_lines, ed_text};
 ghost use Rattle.change_commands.specs.Fronts.{begins_at, front, front_block};
-ghost use Rattle.change_commands.specs.Walk.{IsBlock, IsKept, edits_if, edits_left, edits_of, hunk_left, left_hunks, pair_left, pairs};
+ghost use Rattle.change_commands.specs.Walk.{IsBlock, IsKept, edits_if, edits_left, edits_of, left_hunks, pair_left, pairs};
 
 use crate::block::{Block, edit_in, gap_behind, next_block};
 use crate::edits::hunk_start;
@@ -20,7 +20,7 @@ use crate::numbers::{action_for, add_letter, add_span, range_start};
 use crate::place::{LineEdit, Place};
 use arrayvec::ArrayVec;
 use diff_command::ends_here;
-use hunk_core::{Mark, Side, after_prefix, is_taken};
+use hunk_core::{Hunk, Mark, Side, after_prefix, is_taken};
 use outside::{Failed, Sink};
 
 fn is_dot(line: &[u8]) -> bool
@@ -180,20 +180,21 @@ fn next_before(mark: Mark, next: u64) -> u64
     if is_taken(mark, Side::Forward) { next - 1 } else { next }
 }
 
-/// Goes back over a kept hunk: the blocks are written that nothing in front can belong to.
-fn put_hunk<O: Sink>(
+/// Goes back over the body of a kept hunk: the blocks are written that nothing in front can belong to.
+fn put_body<O: Sink>(
     kept: Kept,
     front: Place,
     hunk: usize,
+    own: &Hunk,
     out: &mut O,
 ) -> Result<Place, Failed>
     requires kept { IsKept kept }
     requires within { hunk < length kept.hunks.now }
+    requires own { own.now ≡ get_or kept.hunks.now hunk own.now }
     requires front { StandsBehind kept (hunk + 1) front }
-    ensures put { Puts O.view O.same_rest out.old out.new result (grown (hunk_left kept.entry hunk) (edits_of kept.entry.set.now.text (drop (hunk + 1) (pairs kept.entry)))) }
-    ensures place { IfOk result (λ p. edits_left kept.entry p ≡ hunk_left kept.entry hunk ++ edits_of kept.entry.set.now.text (drop (hunk + 1) (pairs kept.entry))) }
+    ensures put { Puts O.view O.same_rest out.old out.new result (grown (body_edits (base (hunk_of kept.entry.set.now.text own.now)) (body_of kept.entry.set.now.text own.now.body.items)) (edits_of kept.entry.set.now.text (drop (hunk + 1) (pairs kept.entry)))) }
+    ensures place { IfOk result (λ p. edits_left kept.entry p ≡ body_edits (base (hunk_of kept.entry.set.now.text own.now)) (body_of kept.entry.set.now.text own.now.body.items) ++ edits_of kept.entry.set.now.text (drop (hunk + 1) (pairs kept.entry))) }
 {
-    let own = &kept.hunks[hunk];
     let mut front = front;
     let mut next = own.base(Side::Forward) + u64::from(own.count(Side::Forward));
     for line in (0..own.body.len()).rev() {
@@ -205,6 +206,7 @@ fn put_hunk<O: Sink>(
     Ok(front)
 }
 
+/// Goes back over a hunk, if it is kept.
 fn put_if_kept<O: Sink>(
     kept: Kept,
     front: Place,
@@ -220,7 +222,7 @@ fn put_if_kept<O: Sink>(
     if !is_kept(kept, hunk) {
         return Ok(front);
     }
-    put_hunk(kept, front, hunk, out)
+    put_body(kept, front, hunk, &kept.hunks[hunk], out)
 }
 
 /// A command for each block of the kept hunks, the last one first.

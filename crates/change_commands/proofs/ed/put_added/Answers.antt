@@ -1,25 +1,49 @@
+use Rattle.std.proofs.Common.{◌≡◌, ◌++◌, ◌∷◌, ℕ, List, [], cond, length, sym, ap, subst, ◌∙◌, refl, arith}
+use Rattle.std.specs.Prelude.{nat_lt}
+use Rattle.std.proofs.lemmas.Result.{err_from_is_err_and}
+use Rattle.hunk_core.specs.declared.Side.TheVariants.{Reversed}
+use Rattle.hunk_core.specs.PlainHunk.{bytes_at}
+use Rattle.hunk_core.specs.Turned.{LiesIn}
+use Rattle.change_commands.specs.Blocks.{behind}
+use Rattle.change_commands.specs.Commands.{ed_line, ed_lines}
+use Rattle.change_commands.specs.Fronts.{front}
+use Rattle.change_commands.specs.Walk.{IsFoundIn, edit_at, edits_left}
+use Rattle.change_commands.proofs.EdLemmas.{Cut, cut-at, lines-none, one-left}
+use Rattle.change_commands.proofs.FrontLemmas.{behind-near, front-cut, front-stop}
+use Rattle.change_commands.proofs.Parts.{written-all, written-more, written-none, written-stop}
 use Rattle.change_commands.proofs.ed.put_added.Goals as goal
 
 pub loop-found-init : goal.loop-found-init
-loop-found-init g c = ?
+loop-found-init g c = record { written = written-none g.met.O.Sink.rest_none c.args.out.now _; left = c.requires.block.adds; near = omega (arith, c.requires.block.near) }
+
+pub left_behind-left-requires : goal.left_behind-left-requires
+left_behind-left-requires g c = λ adds.
+    let f : IsFoundIn c.args.kept c.loop-found.at c.loop-found.gap c.in-Some.found = c.in-Some.ensures in
+    let e = edit_at c.args.kept.set.now.text c.in-Some.found.edit in
+    one-left e.adds e.line _ (front Reversed (behind e) (edits_left c.args.kept c.in-Some.found.behind)) c.loop-found.left
+    (front-cut Reversed c.loop-found.gap (edits_left c.args.kept c.loop-found.at) e (edits_left c.args.kept c.in-Some.found.behind) (behind e) f.found.left f.here refl) c.loop-found.invariant.left adds
+
+pub put_if_added-requires : goal.put_if_added-requires
+put_if_added-requires g c =
+    let f : IsFoundIn c.args.kept c.loop-found.at c.loop-found.gap c.in-Some.found = c.in-Some.ensures in
+    subst (λ (t : List ℕ). LiesIn t c.in-Some.found.edit.span) (sym c.text-text.ensures) f.found.lies.lies
+
+pub gap_behind-gap-requires : goal.gap_behind-gap-requires
+gap_behind-gap-requires g c =
+    let f : IsFoundIn c.args.kept c.loop-found.at c.loop-found.gap c.in-Some.found = c.in-Some.ensures in
+    f.found.lies.near
+
+pub loop-found-smaller : goal.loop-found-smaller
+loop-found-smaller g c =
+    let f : IsFoundIn c.args.kept c.loop-found.at c.loop-found.gap c.in-Some.found = c.in-Some.ensures in
+    omega (arith, ap length f.found.left)
 
 pub loop-found-preserved : goal.loop-found-preserved
 loop-found-preserved g c = ?
-
-pub loop-found-smaller : goal.loop-found-smaller
-loop-found-smaller g c = ?
-
-pub left_behind-left-requires : goal.left_behind-left-requires
-left_behind-left-requires g c = ?
-
-pub put_if_added-requires : goal.put_if_added-requires
-put_if_added-requires g c = ?
-
-pub gap_behind-gap-requires : goal.gap_behind-gap-requires
-gap_behind-gap-requires g c = ?
 
 pub returns-in_err-put_if_added : goal.returns-in_err-put_if_added
 returns-in_err-put_if_added g c = ?
 
 pub returns : goal.returns
-returns g c = ?
+returns g c =
+    written-all _ c.loop-found.invariant.written (ap ed_lines (front-stop Reversed c.loop-found.gap (edits_left c.args.kept c.loop-found.at) c.in_default.ensures) ∙ lines-none)

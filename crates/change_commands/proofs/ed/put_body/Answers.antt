@@ -1,4 +1,4 @@
-use Rattle.change_commands.proofs.ed.put_hunk.Goals as goal
+use Rattle.change_commands.proofs.ed.put_body.Goals as goal
 
 pub loop-line-init : goal.loop-line-init
 loop-line-init g c = ?
@@ -9,5 +9,8 @@ loop-line-preserved g c = ?
 pub returns-in_err-front : goal.returns-in_err-front
 returns-in_err-front g c = ?
 
-pub returns : goal.returns
-returns g c = ?
+pub returns-clause-put : goal.returns-clause-put
+returns-clause-put g c = ?
+
+pub returns-clause-place : goal.returns-clause-place
+returns-clause-place g c = ?
