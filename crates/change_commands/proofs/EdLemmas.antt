@@ -4,17 +4,23 @@ use Rattle.std.specs.Prelude.{nat_lt, reverse}
 use Rattle.std.specs.List.{flat_map}
 use Rattle.std.proofs.lemmas.Bool.Decides.{nat_tests}
 use Rattle.std.proofs.lemmas.List.{append-nil, reverse-append}
+use Rattle.std.proofs.lemmas.List.Sums.{count_by_more_no, count_by_more_yes}
+use Rattle.hunk_core.proofs.SideLemmas.{lines-counted}
 use Rattle.std.proofs.lemmas.Grind.{flat_map-append}
 use Rattle.std.proofs.lemmas.List.Concat.{flat_map-cons}
 use Rattle.hunk_core.specs.declared.Mark.{Mark}
 use Rattle.hunk_core.specs.declared.Mark.TheVariants.{Keep, Drop, Add}
 use Rattle.hunk_core.specs.declared.Side.TheVariants.{Forward, Reversed}
 use Rattle.hunk_core.specs.declared.HunkLine.{HunkLine}
-use Rattle.hunk_core.specs.PlainHunk.{Marked, body_of, bytes_at}
+use Rattle.hunk_core.specs.PlainHunk.{Marked, body_of, bytes_at, lines_on}
 use Rattle.hunk_core.specs.Sides.{is_on_side, taken_count}
 use Rattle.change_commands.specs.Backward.{closing, closing_if, first_text, grown, text_behind}
 use Rattle.change_commands.specs.Blocks.{Block, Edit, add_at, behind, block_of, blocks_of, body_edits, drop_at, in_front, marked_edits}
 use Rattle.change_commands.specs.Commands.{ed_command, ed_head, ed_line, ed_lines, ed_text, goes_on}
+use Rattle.change_commands.specs.declared.kept.Kept.{Kept}
+use Rattle.change_commands.specs.declared.place.Place.{Place}
+use Rattle.change_commands.specs.Walk.{edits_left}
+use Rattle.hunk_core.specs.Turned.{is_keep}
 use Rattle.change_commands.specs.Fronts.{begins_at, front, front_block, front_rest, is_on}
 use Rattle.change_commands.proofs.FrontLemmas.{blocks-cons, blocks-front, blocks-none}
 use Rattle.change_commands.proofs.Steps.{edits-mark, edits-next, edits-none}
@@ -142,8 +148,85 @@ split-mark Keep q line ms es rest each = each (q + 1)
 split-mark Drop q line ms es rest each = ap (λ xs. drop_at q line ∷ xs) (each (q + 1))
 split-mark Add q line ms es rest each = let same : q ≡ q + 0 = omega arith in ap (λ xs. add_at q line ∷ xs) (each q) ∙ ap (λ n. add_at q line ∷ (es q ++ rest n)) same
 
-taken-cons : (l : HunkLine) (items : List HunkLine) (q : ℕ) → q + cond (is_on_side Forward l.mark) 1 0 + taken_count Forward items ≡ q + taken_count Forward (l ∷ items)
-taken-cons l items q = ?
+count-mark : (k : Mark) (line : List ℕ) (ms : List Marked) → length (lines_on Forward (record { mark = k; line = line } ∷ ms)) ≡ cond (is_on_side Forward k) 1 0 + length (lines_on Forward ms)
+count-mark Keep line ms = omega arith
+count-mark Drop line ms = omega arith
+count-mark Add line ms = omega arith
+
+count-cons : (l : HunkLine) (items : List HunkLine) → taken_count Forward (l ∷ items) ≡ cond (is_on_side Forward l.mark) 1 0 + taken_count Forward items
+count-cons l items =
+    sym (lines-counted [] Forward (l ∷ items))
+    ∙ count-mark l.mark (bytes_at [] l.span) (body_of [] items)
+    ∙ ap (λ n. cond (is_on_side Forward l.mark) 1 0 + n) (lines-counted [] Forward items)
 
 pub split-body : (text : List ℕ) (items : List HunkLine) (i q : ℕ) → body_edits q (body_of text items) ≡ body_edits q (body_of text (take i items)) ++ body_edits (q + taken_count Forward (take i items)) (body_of text (drop i items))
-split-body text items i q = ?
+split-body text [] zero q = edits-none q ∙ sym (edits-none (q + taken_count Forward [])) ∙ ap (λ es. es ++ body_edits (q + taken_count Forward []) []) (sym (edits-none q))
+split-body text [] (suc i) q = edits-none q ∙ sym (edits-none (q + taken_count Forward [])) ∙ ap (λ es. es ++ body_edits (q + taken_count Forward []) []) (sym (edits-none q))
+split-body text (l ∷ items) zero q =
+    let same : q ≡ q + 0 = omega arith in
+    ap (λ n. body_edits n (body_of text (l ∷ items))) same
+    ∙ ap (λ es. es ++ body_edits (q + 0) (body_of text (l ∷ items))) (sym (edits-none q))
+split-body text (l ∷ items) (suc i) q =
+    let m : Marked = record { mark = l.mark; line = bytes_at text l.span } in
+    let count = taken_count Forward (take i items) in
+    let same : q + cond (is_on_side Forward l.mark) 1 0 + count ≡ q + taken_count Forward (l ∷ take i items) = omega (arith, count-cons l (take i items)) in
+    edits-mark q m (body_of text items)
+    ∙ split-mark l.mark q (bytes_at text l.span) (body_of text items) (λ p. body_edits p (body_of text (take i items))) (λ p. body_edits (p + count) (body_of text (drop i items))) (λ p. split-body text items i p)
+    ∙ ap (λ es. es ++ body_edits (q + cond (is_on_side Forward l.mark) 1 0 + count) (body_of text (drop i items))) (sym (edits-mark q m (body_of text (take i items))))
+    ∙ ap (λ n. body_edits q (m ∷ body_of text (take i items)) ++ body_edits n (body_of text (drop i items))) same
+
+count-to : (items : List HunkLine) (i : ℕ) (l : HunkLine) (b : Bool) → i < length items → is_on_side Forward (get_or items i l).mark ≡ b → taken_count Forward (take (i + 1) items) ≡ taken_count Forward (take i items) + cond b 1 0
+count-to items i l true lt is = count_by_more_yes (λ (x : HunkLine). is_on_side Forward x.mark) items i l lt is
+count-to items i l false lt is = omega (arith, count_by_more_no (λ (x : HunkLine). is_on_side Forward x.mark) items i l lt is)
+
+-- the old lines of a body up to a line, and behind it
+pub count-next : (items : List HunkLine) (n i : ℕ) (l : HunkLine) → n ≡ i + 1 → i < length items → l ≡ get_or items i l → taken_count Forward (take n items) ≡ taken_count Forward (take i items) + cond (is_on_side Forward l.mark) 1 0
+count-next items n i l at lt is =
+    ap (λ k. taken_count Forward (take k items)) at
+    ∙ count-to items i l (is_on_side Forward l.mark) lt (ap (λ (x : HunkLine). is_on_side Forward x.mark) (sym is))
+
+pub one-on : (b : Bool) (n q : ℕ) → n ≡ q + cond b 1 0 → b ≡ true → 1 ≤ n
+one-on true n q e yes-is = omega (arith, e)
+one-on false n q e yes-is = absurd cc
+
+-- a line that a walk from the end goes back over
+module _ (text : List ℕ) (items : List HunkLine) (n i q next : ℕ) (l : HunkLine) (left : List Edit) (at : n ≡ i + 1) (lt : i < length items) (is : l ≡ get_or items i l) (wide : next ≡ q + cond (is_on_side Forward l.mark) 1 0) where
+  abbrev pub ahead : List Edit
+  ahead = body_edits next (body_of text (drop n items))
+
+  pub one-more : body_edits q (body_of text (drop i items)) ≡ marked_edits l.mark q (bytes_at text l.span) (λ _. ahead)
+  one-more = edits-at text items i q next l lt is wide ∙ ap (λ k. marked_edits l.mark q (bytes_at text l.span) (λ _. body_edits next (body_of text (drop k items)))) (sym at)
+
+  pub grown-more : grown (body_edits q (body_of text (drop i items))) left ≡ grown ahead left ++ closing_if l.mark next (ahead ++ left)
+  grown-more = ap (λ es. grown es left) one-more ∙ back-line l.mark q next (bytes_at text l.span) ahead left wide
+
+-- the whole of a body begins with what is behind a line
+pub grown-rest : (text : List ℕ) (items : List HunkLine) (i base q : ℕ) (left : List Edit) → q ≡ base + taken_count Forward (take i items)
+    → grown (body_edits base (body_of text items)) left ≡ grown (body_edits q (body_of text (drop i items))) left ++ grown (body_edits base (body_of text (take i items))) (body_edits q (body_of text (drop i items)) ++ left)
+grown-rest text items i base q left at =
+    ap (λ es. grown es left) (split-body text items i base)
+    ∙ ap (λ n. grown (body_edits base (body_of text (take i items)) ++ body_edits n (body_of text (drop i items))) left) (sym at)
+    ∙ grown-append (body_edits base (body_of text (take i items))) (body_edits q (body_of text (drop i items))) left
+
+keep-edits : (k : Mark) (q : ℕ) (line : List ℕ) (es : List Edit) → is_keep k ≡ true → marked_edits k q line (λ _. es) ≡ es
+keep-edits Keep q line es is = refl
+keep-edits Drop q line es is = absurd cc
+keep-edits Add q line es is = absurd cc
+
+either : (k : Kept) (b : Bool) (front place p : Place) (whole : List Edit) → p ≡ cond b front place → (b ≡ true → edits_left k front ≡ whole) → edits_left k place ≡ whole → edits_left k p ≡ whole
+either k true front place p whole e f g = ap (edits_left k) e ∙ f refl
+either k false front place p whole e f g = ap (edits_left k) e ∙ g
+
+-- the front behind a line: it is the place there, unless the line is kept
+pub front-is : (k : Kept) (mark : Mark) (q : ℕ) (line : List ℕ) (es own left : List Edit) (front place p : Place) → p ≡ cond (is_keep mark) front place → own ≡ marked_edits mark q line (λ _. es) → edits_left k front ≡ es ++ left → edits_left k place ≡ own ++ left → edits_left k p ≡ own ++ left
+front-is k mark q line es own left front place p e more was at =
+    either k (is_keep mark) front place p (own ++ left) e (λ kept. was ∙ ap (λ xs. xs ++ left) (sym (more ∙ keep-edits mark q line es kept))) at
+
+-- ---- all hunks, from the last one
+
+-- the blocks of what is in front of others come behind these
+pub text-rest : (es left : List Edit) → ed_text (blocks_of (es ++ left)) ≡ text_behind (blocks_of left) ++ (grown es left ++ first_text (blocks_of (es ++ left)))
+text-rest es left =
+    sym (text-ends (blocks_of (es ++ left)))
+    ∙ ap (λ t. t ++ first_text (blocks_of (es ++ left))) (grown-is es left)
+    ∙ append_assoc (text_behind (blocks_of left)) (grown es left) (first_text (blocks_of (es ++ left)))

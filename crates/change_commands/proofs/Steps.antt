@@ -16,7 +16,7 @@ use Rattle.hunk_core.specs.Sides.{is_on_side}
 use Rattle.hunk_core.specs.Turned.{IsLawful, LiesIn, base}
 use Rattle.change_commands.specs.Taken.{hunk_if, kept_hunks}
 use Rattle.change_commands.specs.Blocks.{Edit, add_at, body_edits, drop_at, hunk_edits, marked_edits}
-use Rattle.change_commands.specs.Walk.{IsKept, edits_if, edits_left, edits_of, kept_flags, left_at, left_from, left_hunks, pairs}
+use Rattle.change_commands.specs.Walk.{IsKept, edits_if, edits_left, edits_of, first_if, kept_flags, left_at, left_from, left_hunks, pair_left, pairs}
 use Rattle.change_commands.specs.declared.kept.Kept.{Kept}
 use Rattle.change_commands.specs.declared.place.Place.{Place}
 use Rattle.change_commands.proofs.Rows.{pair-at, none-behind}
@@ -57,10 +57,10 @@ body-few q (m ∷ ms) = omega (arith, ap length (edits-mark q m ms), marked-few 
 
 -- ---- hunks
 
-if-kept : (text : List ℕ) (b : Bool) (h : Hunk) → b ≡ true → edits_if text (b, h) ≡ body_edits (base (hunk_of text h)) (body_of text h.body.items)
+pub if-kept : (text : List ℕ) (b : Bool) (h : Hunk) → b ≡ true → edits_if text (b, h) ≡ body_edits (base (hunk_of text h)) (body_of text h.body.items)
 if-kept text b h e = rw e refl
 
-if-not : (text : List ℕ) (b : Bool) (h : Hunk) → b ≡ false → edits_if text (b, h) ≡ []
+pub if-not : (text : List ℕ) (b : Bool) (h : Hunk) → b ≡ false → edits_if text (b, h) ≡ []
 if-not text b h e = rw e refl
 
 module _ (k : Kept) (is : IsKept k) (i : ℕ) where
@@ -174,3 +174,16 @@ few-left k is p = omega (arith, left-few k.set.now.text p.line p.next p.hunk (ke
 
 pub same-left : (text : List ℕ) (rows : List (Bool × Hunk)) (h h2 l l2 n n2 : ℕ) → h ≡ h2 → l ≡ l2 → n ≡ n2 → left_at text rows h l n ≡ left_at text rows h2 l2 n2
 same-left text rows h h2 l l2 n n2 e f g = ap (λ x. left_at text rows x l n) e ∙ ap (λ x. left_at text rows h2 x n) f ∙ ap (λ x. left_at text rows h2 l2 x) g
+
+-- ---- one hunk of a walk from the end
+
+pub pair-is : (k : Kept) (is : IsKept k) (i : ℕ) (h : Hunk) → i < length k.hunks.now → h ≡ get_or k.hunks.now i h → pair_left k i ≡ edits_if k.set.now.text (get_or (kept_flags k) i false, h)
+pair-is k is i h lt at = ap (first_if k.set.now.text) (pair-at k is i h lt at)
+
+pub whole-is : (k : Kept) (is : IsKept k) (i : ℕ) (h : Hunk) → i < length k.hunks.now → h ≡ get_or k.hunks.now i h → edits_of k.set.now.text (drop i (pairs k)) ≡ pair_left k i ++ later k is i
+whole-is k is i h lt at = hunk-whole k is i h lt at ∙ ap (λ es. es ++ later k is i) (sym (pair-is k is i h lt at))
+
+pub is-there : (hs : List Hunk) (i : ℕ) → i < length hs → (h : Hunk) × (h ≡ get_or hs i h)
+is-there [] i lt = absurd (omega (arith, lt))
+is-there (h ∷ hs) zero lt = (h, refl)
+is-there (h ∷ hs) (suc i) lt = is-there hs i (omega (arith, lt))

@@ -174,7 +174,7 @@ fn put_behind<O: Sink>(
 
 /// The line of the file that a line of a body is, if it has one, by the line behind it.
 fn next_before(mark: Mark, next: u64) -> u64
-    requires { 1 ≤ next }
+    requires { is_on_side Side.Forward mark ≡ true → 1 ≤ next }
     ensures { result ≡ next - (if is_on_side Side.Forward mark then 1 else 0) }
 {
     if is_taken(mark, Side::Forward) { next - 1 } else { next }
