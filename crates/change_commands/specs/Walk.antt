@@ -3,14 +3,14 @@ use Rattle.std.specs.Prelude.{◌≡◌, ℕ, ◌+◌, ◌-◌, ◌*◌, ◌^◌
 use Rattle.std.specs.List.{flat_map, zip}
 use Rattle.hunk_core.specs.declared.Hunk.{Hunk}
 use Rattle.hunk_core.specs.declared.Side.TheVariants.{Forward, Reversed}
-use Rattle.hunk_core.specs.PlainHunk.{PlainHunk, bytes_at, body_of, hunk_of, hunks_of}
+use Rattle.hunk_core.specs.PlainHunk.{PlainHunk, bytes_at, body_of, hunk_of, hunks_of, old_lines}
 use Rattle.hunk_core.specs.Turned.{LiesIn, base}
 use Rattle.file_patch.specs.declared.Change.{Change}
 use Rattle.file_patch.specs.declared.Change.TheVariants.{Hunks, Script}
 use Rattle.file_patch.specs.PlainPatch.{AreLawfulHunks, hunks, change_of, patch_of, row_count}
 use Rattle.patch_set.specs.SetView.{patch_at}
 use Rattle.tool_words.specs.PlainJobs.{plain_filter_job}
-use Rattle.change_commands.specs.Taken.{flags, kept_hunks}
+use Rattle.change_commands.specs.Taken.{flags, hunk_if, kept_hunks}
 use Rattle.change_commands.specs.Blocks.{Edit, Block, blocks_of, body_edits}
 use Rattle.change_commands.specs.Fronts.{front, front_block, front_rest}
 use Rattle.change_commands.specs.declared.kept.Kept.{Kept}
@@ -65,6 +65,29 @@ first_if text (row ∷ rows) = edits_if text row
 -- the same of a hunk, counted from 0
 abbrev pub pair_left : Kept → ℕ → List Edit
 pair_left k hunk = first_if k.set.now.text (drop hunk (pairs k))
+
+-- of the first of some hunks where it stands, the line behind its old lines, and the hunk if it is kept
+abbrev pub first_base : List ℕ → List (Bool × Hunk) → ℕ
+first_base text [] = 0
+first_base text (row ∷ rows) = base (hunk_of text row.1)
+
+abbrev pub first_end : List ℕ → List (Bool × Hunk) → ℕ
+first_end text [] = 0
+first_end text (row ∷ rows) = base (hunk_of text row.1) + length (old_lines (body_of text row.1.body.items))
+
+abbrev pub first_hunk : List ℕ → List (Bool × Hunk) → List PlainHunk
+first_hunk text [] = []
+first_hunk text (row ∷ rows) = hunk_if (row.0, hunk_of text row.1)
+
+-- the same of a hunk, counted from 0
+abbrev pub own_base : Kept → ℕ → ℕ
+own_base k hunk = first_base k.set.now.text (drop hunk (pairs k))
+
+abbrev pub own_end : Kept → ℕ → ℕ
+own_end k hunk = first_end k.set.now.text (drop hunk (pairs k))
+
+abbrev pub hunk_at : Kept → ℕ → List PlainHunk
+hunk_at k hunk = first_hunk k.set.now.text (drop hunk (pairs k))
 
 -- what an edit stands for over a text
 abbrev pub edit_at : List ℕ → LineEdit → Edit

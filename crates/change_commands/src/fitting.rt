@@ -1,15 +1,16 @@
 //! Whether kept hunks can be written as commands.
 
-ghost use Rattle.std.specs.Prelude.{◌≡◌, ◌+◌, ◌≤◌, ◌^◌, ◌||◌, ◌++◌, ◌∷◌, ℕ, List, [], false, length, nat_lt};
+ghost use Rattle.std.specs.Prelude.{◌≡◌, ◌+◌, ◌≤◌, ◌^◌, ◌||◌, ◌++◌, ◌∷◌, ℕ, List, [], false, length, nat_lt, slice_index_or, ◌<◌, ◌&&◌, if◌then◌else◌};
 ghost use Rattle.hunk_core.specs.PlainHunk.{body_of, bytes_at, marked_of};
+ghost use Rattle.hunk_core.specs.Rules.{lacks_inner_end};
 ghost use Rattle.hunk_core.specs.Turned.{IsLawful, LiesIn};
 ghost use Rattle.file_patch.specs.PlainPatch.{hunks};
 ghost use Rattle.normal_form.specs.Commands.{is_too_large};
 ghost use Rattle.change_commands.specs.Blocks.{blocks_of, hunk_edits};
 ghost use Rattle.change_commands.specs.Commands.{range_start};
-ghost use Rattle.change_commands.specs.Fitting.{changed_lines, falls_back, has_large_command, has_open_line, is_ed, is_own, is_unfit, own_lines};
+ghost use Rattle.change_commands.specs.Fitting.{changed_lines, falls_back, has_open, has_large_command, has_open_line, is_ed, is_own, is_unfit, own_lines};
 ghost use Rattle.change_commands.specs.Seeing.{Sees, is_large, is_over_ed};
-ghost use Rattle.change_commands.specs.Walk.{IsKept, IsSmall, left_hunks, new_start};
+ghost use Rattle.change_commands.specs.Walk.{IsKept, IsSmall, hunk_at, kept_flags, left_hunks, new_start, own_base, own_end};
 
 use crate::block::{Block, next_block};
 use crate::edits::hunk_start;
@@ -19,6 +20,28 @@ use crate::normal::{Net, net_behind, new_first, no_net};
 use crate::numbers::range_start;
 use hunk_core::{Form, Hunk, HunkLine, Mark, Side, has_feed};
 
+/// Whether a hunk is kept and stands before line `end`.
+fn stands_before(kept: Kept, hunk: usize, end: u64) -> bool
+    requires kept { IsKept kept }
+    requires within { hunk < length kept.hunks.now }
+    ensures { result ≡ (slice_index_or (kept_flags kept.entry) hunk false && nat_lt (own_base kept.entry hunk) end) }
+{
+    is_kept(kept, hunk) && kept.hunks[hunk].base(Side::Forward) < end
+}
+
+/// The line behind a hunk where it is kept, else the one that was there before.
+fn end_behind(kept: Kept, hunk: usize, end: u64) -> u64
+    requires kept { IsKept kept }
+    requires within { hunk < length kept.hunks.now }
+    ensures { result ≡ (if slice_index_or (kept_flags kept.entry) hunk false then own_end kept.entry hunk else end) }
+{
+    if !is_kept(kept, hunk) {
+        return end;
+    }
+    let own = &kept.hunks[hunk];
+    own.base(Side::Forward) + u64::from(own.count(Side::Forward))
+}
+
 /// Whether a kept hunk stands before the end of the old lines of the kept hunk in front of it.
 fn falls_back(kept: Kept) -> bool
     requires { IsKept kept }
@@ -26,14 +49,10 @@ fn falls_back(kept: Kept) -> bool
 {
     let mut end = 0;
     for hunk in 0..kept.hunks.len() {
-        if is_kept(kept, hunk) {
-            let own = &kept.hunks[hunk];
-            let base = own.base(Side::Forward);
-            if base < end {
-                return true;
-            }
-            end = base + u64::from(own.count(Side::Forward));
+        if stands_before(kept, hunk, end) {
+            return true;
         }
+        end = end_behind(kept, hunk, end);
     }
     false
 }
@@ -81,6 +100,17 @@ fn seen_hunk(seen: Seen, text: &[u8], hunk: &Hunk, side: Side) -> Seen
     seen
 }
 
+fn seen_if_kept(seen: Seen, kept: Kept, hunk: usize, side: Side) -> Seen
+    requires kept { IsKept kept }
+    requires within { hunk < length kept.hunks.now }
+    ensures { (before : List (List ℕ)) → Sees seen before → Sees result (before ++ changed_lines side (hunk_at kept.entry hunk)) }
+{
+    if !is_kept(kept, hunk) {
+        return seen;
+    }
+    seen_hunk(seen, kept.set.text(), &kept.hunks[hunk], side)
+}
+
 /// The lines of this side that the kept hunks change.
 fn seen_in(kept: Kept, side: Side) -> Seen
     requires { IsKept kept }
@@ -88,9 +118,7 @@ fn seen_in(kept: Kept, side: Side) -> Seen
 {
     let mut seen = Seen { open_end: false, open_inside: false };
     for hunk in 0..kept.hunks.len() {
-        if is_kept(kept, hunk) {
-            seen = seen_hunk(seen, kept.set.text(), &kept.hunks[hunk], side);
-        }
+        seen = seen_if_kept(seen, kept, hunk, side);
     }
     seen
 }
@@ -100,10 +128,18 @@ fn has_open_line(kept: Kept, form: Form) -> bool
     ensures { result ≡ has_open_line form (left_hunks kept.entry) }
 {
     let adds = seen_in(kept, Side::Reversed);
-    if adds.open_inside || (is_ed(form) && adds.open_end) {
+    let drops = seen_in(kept, Side::Forward);
+    either_open(adds, drops, is_ed(form))
+}
+
+/// Whether a line lacks its line feed where it can't: one that isn't the last, or an added one that would go to an ed script.
+fn either_open(adds: Seen, drops: Seen, to_script: bool) -> bool
+    ensures { (ads dps : List (List ℕ)) → Sees adds ads → Sees drops dps → result ≡ ((to_script && has_open ads) || (lacks_inner_end dps || lacks_inner_end ads)) }
+{
+    if to_script && adds.open_end {
         return true;
     }
-    seen_in(kept, Side::Forward).open_inside
+    drops.open_inside || adds.open_inside
 }
 
 fn is_ed(form: Form) -> bool

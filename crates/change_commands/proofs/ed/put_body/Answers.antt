@@ -4,7 +4,7 @@ use Rattle.std.proofs.lemmas.Result.{err_from_is_err_and}
 use Rattle.hunk_core.specs.declared.Hunk.{Hunk}
 use Rattle.hunk_core.specs.declared.Mark.{Mark}
 use Rattle.hunk_core.specs.declared.Side.TheVariants.{Forward}
-use Rattle.hunk_core.specs.PlainHunk.{body_of, hunk_of}
+use Rattle.hunk_core.specs.PlainHunk.{body_of, bytes_at, hunk_of}
 use Rattle.hunk_core.specs.Sides.{is_on_side, taken_count}
 use Rattle.hunk_core.specs.Turned.{base, is_keep}
 use Rattle.hunk_core.specs.Writing.{Puts}
@@ -14,7 +14,7 @@ use Rattle.change_commands.specs.Backward.{closing_if, grown}
 use Rattle.change_commands.specs.Blocks.{Edit, body_edits}
 use Rattle.change_commands.specs.Walk.{edits_left, edits_of, pairs}
 use Rattle.change_commands.specs.declared.place.Place.{Place}
-use Rattle.change_commands.proofs.EdLemmas.{ahead, count-next, grown-more, grown-none, grown-rest, one-more, one-on}
+use Rattle.change_commands.proofs.EdLemmas.{ahead, count-next, front-is, grown-more, grown-none, grown-rest, one-more, one-on}
 use Rattle.change_commands.proofs.Steps.{edits-none, hunk-ahead}
 use Rattle.change_commands.proofs.ed.put_body.Goals as goal
 
@@ -66,10 +66,9 @@ loop-line-preserved g c =
     omega (arith, c.loop-line.invariant.next, count-next items n i l at lt c.index.ensures, c.next_before.ensures) in
     let behind = ahead text items n i q next l left at lt c.index.ensures wide in
     let put = subst (λ (es : List Edit). HasPut g.O.Sink.view g.O.Sink.same_rest c.loop-line.out c.put_behind.new.out (closing_if l.mark next es)) c.loop-line.invariant.front (has-put c.in_ok-front.front c.in_ok-front.ensures.put) in
-    let place : Place = record { hunk = c.args.hunk; line = i; next = q; near = omega (arith, c.loop-line.invariant.within) } in
     record {
       next = omega (arith, c.loop-line.invariant.next, count-next items n i l at lt c.index.ensures, wide);
-      front = ?;
+      front = front-is k l.mark q (bytes_at text l.span) behind (body_edits q (body_of text (drop i items))) left c.loop-line.front _ c.in_ok-front.front c.in_ok-front.ensures.place (one-more text items n i q next l left at lt c.index.ensures wide) c.loop-line.invariant.front (hunk-ahead k c.requires.kept c.args.hunk own c.requires.within c.requires.own i q);
       put = subst (λ (bs : List ℕ). HasPut g.O.Sink.view g.O.Sink.same_rest c.args.out.now c.put_behind.new.out bs) (sym (grown-more text items n i q next l left at lt c.index.ensures wide))
       (has-more g.met.O.Sink.rest_both c.loop-line.invariant.put put);
       within = omega (arith, c.loop-line.invariant.within);
