@@ -4,3 +4,4 @@ pub mod FrontLemmas
 pub mod Parts
 pub mod NormalLemmas
 pub mod EdLemmas
+pub mod FitLemmas

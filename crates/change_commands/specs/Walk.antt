@@ -66,14 +66,14 @@ first_if text (row ∷ rows) = edits_if text row
 abbrev pub pair_left : Kept → ℕ → List Edit
 pair_left k hunk = first_if k.set.now.text (drop hunk (pairs k))
 
--- of the first of some hunks where it stands, the line behind its old lines, and the hunk if it is kept
+-- of the first of some hunks where it stands, how many old lines it has, and the hunk if it is kept
 abbrev pub first_base : List ℕ → List (Bool × Hunk) → ℕ
 first_base text [] = 0
 first_base text (row ∷ rows) = base (hunk_of text row.1)
 
-abbrev pub first_end : List ℕ → List (Bool × Hunk) → ℕ
-first_end text [] = 0
-first_end text (row ∷ rows) = base (hunk_of text row.1) + length (old_lines (body_of text row.1.body.items))
+abbrev pub first_count : List ℕ → List (Bool × Hunk) → ℕ
+first_count text [] = 0
+first_count text (row ∷ rows) = length (old_lines (body_of text row.1.body.items))
 
 abbrev pub first_hunk : List ℕ → List (Bool × Hunk) → List PlainHunk
 first_hunk text [] = []
@@ -83,8 +83,8 @@ first_hunk text (row ∷ rows) = hunk_if (row.0, hunk_of text row.1)
 abbrev pub own_base : Kept → ℕ → ℕ
 own_base k hunk = first_base k.set.now.text (drop hunk (pairs k))
 
-abbrev pub own_end : Kept → ℕ → ℕ
-own_end k hunk = first_end k.set.now.text (drop hunk (pairs k))
+abbrev pub own_count : Kept → ℕ → ℕ
+own_count k hunk = first_count k.set.now.text (drop hunk (pairs k))
 
 abbrev pub hunk_at : Kept → ℕ → List PlainHunk
 hunk_at k hunk = first_hunk k.set.now.text (drop hunk (pairs k))

@@ -10,7 +10,7 @@ ghost use Rattle.change_commands.specs.Blocks.{blocks_of, hunk_edits};
 ghost use Rattle.change_commands.specs.Commands.{range_start};
 ghost use Rattle.change_commands.specs.Fitting.{changed_lines, falls_back, has_open, has_large_command, has_open_line, is_ed, is_own, is_unfit, own_lines};
 ghost use Rattle.change_commands.specs.Seeing.{Sees, is_large, is_over_ed};
-ghost use Rattle.change_commands.specs.Walk.{IsKept, IsSmall, hunk_at, kept_flags, left_hunks, new_start, own_base, own_end};
+ghost use Rattle.change_commands.specs.Walk.{IsKept, IsSmall, hunk_at, kept_flags, left_hunks, new_start, own_base, own_count};
 
 use crate::block::{Block, next_block};
 use crate::edits::hunk_start;
@@ -20,26 +20,46 @@ use crate::normal::{Net, net_behind, new_first, no_net};
 use crate::numbers::range_start;
 use hunk_core::{Form, Hunk, HunkLine, Mark, Side, has_feed};
 
+fn base_of(kept: Kept, hunk: usize) -> u64
+    requires kept { IsKept kept }
+    requires within { hunk < length kept.hunks.now }
+    ensures is { result ≡ own_base kept.entry hunk }
+    ensures small { result ≤ 2 ^ 32 }
+{
+    kept.hunks[hunk].base(Side::Forward)
+}
+
+fn old_count(kept: Kept, hunk: usize) -> u64
+    requires kept { IsKept kept }
+    requires within { hunk < length kept.hunks.now }
+    ensures is { result ≡ own_count kept.entry hunk }
+    ensures small { result < 2 ^ 32 }
+{
+    u64::from(kept.hunks[hunk].count(Side::Forward))
+}
+
 /// Whether a hunk is kept and stands before line `end`.
 fn stands_before(kept: Kept, hunk: usize, end: u64) -> bool
     requires kept { IsKept kept }
     requires within { hunk < length kept.hunks.now }
     ensures { result ≡ (slice_index_or (kept_flags kept.entry) hunk false && nat_lt (own_base kept.entry hunk) end) }
 {
-    is_kept(kept, hunk) && kept.hunks[hunk].base(Side::Forward) < end
+    if !is_kept(kept, hunk) {
+        return false;
+    }
+    base_of(kept, hunk) < end
 }
 
 /// The line behind a hunk where it is kept, else the one that was there before.
 fn end_behind(kept: Kept, hunk: usize, end: u64) -> u64
     requires kept { IsKept kept }
     requires within { hunk < length kept.hunks.now }
-    ensures { result ≡ (if slice_index_or (kept_flags kept.entry) hunk false then own_end kept.entry hunk else end) }
+    ensures { result ≡ (if slice_index_or (kept_flags kept.entry) hunk false then own_base kept.entry hunk + own_count kept.entry hunk else end) }
 {
     if !is_kept(kept, hunk) {
         return end;
     }
-    let own = &kept.hunks[hunk];
-    own.base(Side::Forward) + u64::from(own.count(Side::Forward))
+    base_of(kept, hunk) + old_count(kept, hunk)
 }
 
 /// Whether a kept hunk stands before the end of the old lines of the kept hunk in front of it.
@@ -76,6 +96,14 @@ fn is_own(mark: Mark, side: Side) -> bool
     }
 }
 
+/// One line more.
+fn seen_one(seen: Seen, is_open: bool) -> Seen
+    ensures end { result.open_end ≡ is_open }
+    ensures inside { result.open_inside ≡ (seen.open_inside || seen.open_end) }
+{
+    Seen { open_end: is_open, open_inside: seen.open_inside || seen.open_end }
+}
+
 fn seen_line(seen: Seen, text: &[u8], line: HunkLine, side: Side) -> Seen
     requires { LiesIn text.now line.span }
     ensures { (before : List (List ℕ)) → Sees seen before → Sees result (before ++ own_lines side (marked_of text.now line ∷ [])) }
@@ -83,10 +111,7 @@ fn seen_line(seen: Seen, text: &[u8], line: HunkLine, side: Side) -> Seen
     if !is_own(line.mark, side) {
         return seen;
     }
-    Seen {
-        open_end: !has_feed(line_at(text, line.span)),
-        open_inside: seen.open_inside || seen.open_end,
-    }
+    seen_one(seen, !has_feed(line_at(text, line.span)))
 }
 
 fn seen_hunk(seen: Seen, text: &[u8], hunk: &Hunk, side: Side) -> Seen
@@ -94,8 +119,8 @@ fn seen_hunk(seen: Seen, text: &[u8], hunk: &Hunk, side: Side) -> Seen
     ensures { (before : List (List ℕ)) → Sees seen before → Sees result (before ++ own_lines side (body_of text.now hunk.now.body.items)) }
 {
     let mut seen = seen;
-    for line in &hunk.body {
-        seen = seen_line(seen, text, *line, side);
+    for i in 0..hunk.body.len() {
+        seen = seen_line(seen, text, hunk.body[i], side);
     }
     seen
 }
@@ -134,12 +159,9 @@ fn has_open_line(kept: Kept, form: Form) -> bool
 
 /// Whether a line lacks its line feed where it can't: one that isn't the last, or an added one that would go to an ed script.
 fn either_open(adds: Seen, drops: Seen, to_script: bool) -> bool
-    ensures { (ads dps : List (List ℕ)) → Sees adds ads → Sees drops dps → result ≡ ((to_script && has_open ads) || (lacks_inner_end dps || lacks_inner_end ads)) }
+    ensures { result ≡ ((to_script && adds.open_end) || (drops.open_inside || adds.open_inside)) }
 {
-    if to_script && adds.open_end {
-        return true;
-    }
-    drops.open_inside || adds.open_inside
+    (to_script && adds.open_end) || (drops.open_inside || adds.open_inside)
 }
 
 fn is_ed(form: Form) -> bool
