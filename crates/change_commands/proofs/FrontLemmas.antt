@@ -1,5 +1,6 @@
 -- The block that edits begin with, edit by edit.
-use Rattle.std.proofs.Common.{◌≡◌, ◌≢◌, ℕ, ◌+◌, ◌<◌, ◌≤◌, List, [], ◌∷◌, ◌++◌, length, Bool, true, false, cond, eqb, refl, sym, ap, ◌∙◌, arith}
+use Rattle.std.proofs.Common.{◌≡◌, ◌≢◌, ℕ, ◌+◌, ◌<◌, ◌≤◌, List, [], ◌∷◌, ◌++◌, length, Bool, true, false, not, suc, Option, Some, None, cond, eqb, refl, sym, ap, ◌∙◌, arith}
+use Rattle.std.specs.Prelude.{MatchOption, is_some}
 use Rattle.std.proofs.lemmas.Bool.Decides.{nat_tests}
 use Rattle.hunk_core.specs.declared.Side.{Side}
 use Rattle.hunk_core.specs.declared.Side.TheVariants.{Forward, Reversed}
@@ -192,3 +193,14 @@ rest-short q (e ∷ es) = rest-to q e es (eqb e.at q) refl (rest-short (behind e
 -- a block has an edit
 pub fewer : (left : List Edit) (e : Edit) (es rest : List Edit) (q : ℕ) → left ≡ e ∷ es → q ≡ e.at → rest ≡ front_rest q left → length rest < length left
 fewer left e es rest q is at behind-is = omega (arith, ap length behind-is, ap length (rest-next q left e es is (sym at)), rest-short (behind e) es, ap length is)
+
+-- there is a block where there is an edit
+block-some : (left es : List Edit) (e : Edit) → left ≡ e ∷ es → true ≡ not (eqb (length (blocks_of left)) 0)
+block-some left es e is = sym (ap (λ xs. not (eqb (length (blocks_of xs)) 0)) is ∙ ap (λ bs. not (eqb (length bs) 0)) (blocks-front e es) ∙ some-long (blocks_of (front_rest e.at (e ∷ es))))
+  where
+    some-long : (bs : List Block) → not (eqb (suc (length bs)) 0) ≡ true
+    some-long bs = grind (arith, nat_tests)
+
+pub has-block : {A : Type 0} (o : Option A) (left : List Edit) (P : A → Type 0) → ((x : A) → P x → (e : Edit) × (es : List Edit) × (left ≡ e ∷ es)) → MatchOption o (left ≡ []) P → is_some o ≡ not (eqb (length (blocks_of left)) 0)
+has-block None left P some none = sym (ap (λ xs. not (eqb (length (blocks_of xs)) 0)) none ∙ ap (λ bs. not (eqb (length bs) 0)) blocks-none)
+has-block (Some x) left P some found = let s = some x found in block-some left s.1 s.0 s.2

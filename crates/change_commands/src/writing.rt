@@ -73,7 +73,8 @@ fn put_hunks<O: Sink>(kept: Kept, form: Form, out: &mut O) -> Result<(), Failed>
     ensures { Puts O.view O.same_rest out.old out.new result (command_text form (hunks (left_hunks kept.entry))) }
 {
     match form {
-        Form::Unified | Form::Context => Ok(()),
+        Form::Unified => Ok(()),
+        Form::Context => Ok(()),
         Form::Normal => put_normal(kept, out),
         Form::Ed => put_ed(kept, out),
     }
@@ -89,7 +90,9 @@ fn put_again<O: Sink>(
     ensures { Puts O.view O.same_rest out.old out.new result (command_text form (script (edits_of text.now script.now.edits.items))) }
 {
     match form {
-        Form::Unified | Form::Context | Form::Normal => Ok(()),
+        Form::Unified => Ok(()),
+        Form::Context => Ok(()),
+        Form::Normal => Ok(()),
         Form::Ed => put_script(text, script, out),
     }
 }
