@@ -5,3 +5,4 @@ pub mod Parts
 pub mod NormalLemmas
 pub mod EdLemmas
 pub mod FitLemmas
+pub mod ScriptLemmas

@@ -1,11 +1,10 @@
 -- What a change does to the lines of its file: the blocks of lines that it drops and adds without a kept line between (GNU diffutils manual, "Hunks").
-use Rattle.std.specs.Prelude.{ℕ, ◌+◌, ◌-◌, Bool, true, false, ◌==◌, List, [], ◌∷◌, ◌++◌, length, map, reverse, if◌then◌else◌}
+use Rattle.std.specs.Prelude.{ℕ, ◌+◌, ◌-◌, Bool, true, false, not, ◌==◌, ◌||◌, List, [], ◌∷◌, ◌++◌, length, map, replicate, reverse, if◌then◌else◌}
 use Rattle.std.specs.List.{flat_map}
 use Rattle.hunk_core.specs.declared.Mark.{Mark}
 use Rattle.hunk_core.specs.declared.Mark.TheVariants.{Keep, Drop, Add}
 use Rattle.hunk_core.specs.PlainHunk.{Marked, PlainHunk}
 use Rattle.hunk_core.specs.Turned.{base}
-use Rattle.hunk_place.specs.Order.{from_to}
 use Rattle.ed_form.specs.PlainEdit.{PlainEdit}
 use Rattle.file_patch.specs.PlainPatch.{PlainChange, hunks, script}
 
@@ -39,18 +38,6 @@ body_edits at (m ∷ ms) = marked_edits m.mark at m.line (λ next. body_edits ne
 abbrev pub hunk_edits : List PlainHunk → List Edit
 hunk_edits hs = flat_map (λ h. body_edits (base h) h.body) hs
 
--- those of a command of a script, which doesn't say what the lines are that it drops
-abbrev pub command_edits : PlainEdit → List Edit
-command_edits e = map (λ n. drop_at n []) (from_to e.first e.last) ++ map (add_at (e.last + 1)) e.added
-
--- those of a script, from its last command, which stands first in the file
-abbrev pub script_edits : List PlainEdit → List Edit
-script_edits es = flat_map command_edits (reverse es)
-
-abbrev pub edits_in : PlainChange → List Edit
-edits_in (hunks hs) = hunk_edits hs
-edits_in (script es) = script_edits es
-
 -- lines from `first` on that are dropped, and lines that are added in their place; without dropped lines these stand in the gap before line `first`
 pub record Block : Type 0 where
   pub first : ℕ
@@ -78,8 +65,27 @@ unfoldable pub blocks_of : List Edit → List Block
 blocks_of [] = []
 blocks_of (e ∷ es) = in_front e (blocks_of es)
 
+-- how many lines a command of a script drops, and whether it changes anything
+abbrev pub drop_count : PlainEdit → ℕ
+drop_count e = e.last + 1 - e.first
+
+abbrev pub is_change : PlainEdit → Bool
+is_change e = not (drop_count e == 0) || not (length e.added == 0)
+
+-- a command of a script as a block; the script doesn't say what the lines are that it drops
+abbrev pub edit_block : PlainEdit → Block
+edit_block e = record { first = e.first; dropped = replicate (drop_count e) []; added = e.added }
+
+abbrev pub block_if : PlainEdit → List Block
+block_if e = if is_change e then edit_block e ∷ [] else []
+
+-- the blocks of a script are its commands that change something, from the last one, which stands first in the file
+abbrev pub script_blocks : List PlainEdit → List Block
+script_blocks es = flat_map block_if (reverse es)
+
 abbrev pub blocks_in : PlainChange → List Block
-blocks_in c = blocks_of (edits_in c)
+blocks_in (hunks hs) = blocks_of (hunk_edits hs)
+blocks_in (script es) = script_blocks es
 
 -- a block as an edit of an ed script: its last line is the one in front of its first line where it drops none
 abbrev pub change_of_block : Block → PlainEdit

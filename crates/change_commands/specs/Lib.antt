@@ -6,4 +6,4 @@ pub mod Walk
 pub mod Fronts
 pub mod Backward
 pub mod Seeing
-pub mod Runs
+pub mod Again

@@ -82,18 +82,18 @@ fn put_hunks<O: Sink>(kept: Kept, form: Form, out: &mut O) -> Result<(), Failed>
 
 fn put_again<O: Sink>(
     text: &[u8],
-    script: &EdScript,
+    again: &EdScript,
     form: Form,
     out: &mut O,
 ) -> Result<(), Failed>
-    requires { IsLawfulScript text.now script.now }
-    ensures { Puts O.view O.same_rest out.old out.new result (command_text form (script (edits_of text.now script.now.edits.items))) }
+    requires { IsLawfulScript text.now again.now }
+    ensures { Puts O.view O.same_rest out.old out.new result (command_text form (script (edits_of text.now again.now.edits.items))) }
 {
     match form {
         Form::Unified => Ok(()),
         Form::Context => Ok(()),
         Form::Normal => Ok(()),
-        Form::Ed => put_script(text, script, out),
+        Form::Ed => put_script(text, again, out),
     }
 }
 

@@ -15,9 +15,9 @@ use Rattle.header_lines.specs.HeaderText.{header_text}
 use Rattle.tool_words.specs.PlainJobs.{PlainFilterJob}
 use Rattle.format_convert.specs.declared.fault.ConvertFault.{ConvertFault}
 use Rattle.format_convert.specs.declared.fault.ConvertFault.TheVariants.{NoContext, Unfit, Write}
-use Rattle.format_convert.specs.Taken.{has_kept, left_patch, rows}
-use Rattle.format_convert.specs.Blocks.{blocks_in}
-use Rattle.format_convert.specs.Commands.{ed_text, normal_text}
+use Rattle.change_commands.specs.Taken.{has_kept, left_patch, rows}
+use Rattle.change_commands.specs.Blocks.{blocks_in}
+use Rattle.change_commands.specs.Commands.{command_text}
 use Rattle.format_convert.specs.Refusals.{shows_context}
 
 -- the hunks of a change in their canonical texts; a script has none
@@ -25,12 +25,19 @@ abbrev pub hunk_texts : (PlainHunk → List ℕ) → PlainChange → List ℕ
 hunk_texts canonical (hunks hs) = flat_map canonical hs
 hunk_texts canonical (script es) = []
 
+-- a hunk in its canonical text; the forms of commands have none
+abbrev pub hunk_text : Form → PlainHunk → List ℕ
+hunk_text Unified h = unified.canonical h
+hunk_text Context h = context.canonical h
+hunk_text Normal h = []
+hunk_text Ed h = []
+
 -- a change in a form: its hunks, or a command for each of its blocks
 abbrev pub change_text : Form → PlainChange → List ℕ
-change_text Unified c = hunk_texts unified.canonical c
-change_text Context c = hunk_texts context.canonical c
-change_text Normal c = normal_text (blocks_in c)
-change_text Ed c = ed_text (blocks_in c)
+change_text Unified c = hunk_texts (hunk_text Unified) c
+change_text Context c = hunk_texts (hunk_text Context) c
+change_text Normal c = command_text Normal c
+change_text Ed c = command_text Ed c
 
 -- a form of commands has nothing to say where nothing is changed
 abbrev pub is_written : Form → PlainChange → Bool

@@ -1,5 +1,10 @@
 //! A set written in another form.
 
+ghost use Rattle.tool_words.specs.PlainJobs.{plain_filter_job};
+ghost use Rattle.change_commands.specs.Taken.{left_patches};
+ghost use Rattle.format_convert.specs.Refusals.{refusal};
+ghost use Rattle.format_convert.specs.Converted.{Converts, converted};
+
 use crate::fault::ConvertFault;
 use crate::refusing::refusal;
 use crate::writing::put_converted;
@@ -17,6 +22,7 @@ pub fn convert_patches<O: Sink>(
     form: Form,
     out: &mut O,
 ) -> Result<(), ConvertFault>
+    ensures { Converts O.view O.same_rest out.old out.new result (refusal form (left_patches (plain_filter_job job.now) set.now)) (converted form (plain_filter_job job.now) set.now) }
 {
     if let Some(fault) = refusal(set, job, form) {
         return Err(fault);

@@ -62,7 +62,7 @@ fn put_named_line<O: Sink>(
     name: Option<Span>,
     out: &mut O,
 ) -> Result<(), Failed>
-    ensures { Puts O.view O.same_rest out.old out.new result (named_line text.now mark.now name.entry) }
+    ensures { Puts O.view O.same_rest out.old out.new result (named_line text.now mark.now name) }
 {
     match name {
         Some(name) => put_both(out, mark, rest_of_line(text, name)),

@@ -20,5 +20,4 @@ returns-in-Script c = λ x at.
     let are = flags (plain_filter_job c.args.job.now) c.args.patch (patch_of text x) in
     let same = same_Some c.patch_at.result.now x (sym c.patch_at.ensures.is ∙ at) in
     c.changes.ensures text
-    ∙ ?
     ∙ ap (λ (ch : Change). not (eqb (length (blocks_in (left_change are (change_of text ch)))) 0)) (sym (ap (λ (y : FilePatch). y.change) (sym same) ∙ c.in-Script.is))
