@@ -12,8 +12,10 @@ use Rattle.file_patch.specs.PlainPatch.{PlainChange, PlainPatch, hunks, script, 
 use Rattle.patch_set.specs.SetView.{SetView, patch_at}
 use Rattle.tool_words.specs.PlainJobs.{PlainFilterJob}
 use Rattle.change_commands.specs.Taken.{has_kept, left_change, left_patch, left_patches, patch_if, rows}
-use Rattle.format_convert.specs.Converted.{converted, written_if}
-use Rattle.format_convert.specs.Refusals.{change_lacks, first_line, is_unfit, lacks_context, no_context, refusal, unfit}
+use Rattle.format_convert.specs.Converted.{change_text, converted, hunk_text, hunk_texts, written_if}
+use Rattle.change_commands.specs.Commands.{command_text}
+use Rattle.hunk_core.specs.declared.Form.TheVariants.{Unified, Context, Normal, Ed}
+use Rattle.format_convert.specs.Refusals.{change_lacks, first_line, is_unfit, lacks_context, no_context, refusal, shows_context, unfit}
 use Rattle.format_convert.specs.declared.fault.ConvertFault.{ConvertFault}
 
 abbrev behind : {A : Type 0} → ℕ → A → Option (ℕ × A)
@@ -84,3 +86,21 @@ lacks-change wanted form are (script es) = refl
 
 pub lacks-left : (wanted : Form) (j : PlainFilterJob) (n : ℕ) (p : PlainPatch) → lacks_context wanted (left_patch j n p) ≡ lacks_context wanted p
 lacks-left wanted j n p = lacks-change wanted p.header.form _ p.change
+
+-- ---- one file patch
+
+pub by-context : (form : Form) (c : PlainChange) → shows_context form ≡ true → hunk_texts (hunk_text form) c ≡ change_text form c
+by-context Unified c is = refl
+by-context Context c is = refl
+by-context Normal c is = absurd cc
+by-context Ed c is = absurd cc
+
+pub by-commands : (form : Form) (c : PlainChange) → shows_context form ≡ false → command_text form c ≡ change_text form c
+by-commands Unified c is = absurd cc
+by-commands Context c is = absurd cc
+by-commands Normal c is = refl
+by-commands Ed c is = refl
+
+pub and-false : (b : Bool) → (b && false) ≡ false
+and-false true = refl
+and-false false = refl

@@ -1,5 +1,5 @@
 -- What is written of a set in another form, and what a call that writes it promises.
-use Rattle.std.specs.Prelude.{◌≡◌, ℕ, Bool, true, false, ◌&&◌, ◌==◌, not, List, [], ◌++◌, length, Option, None, Some, Result, OnOk, IfErr, if◌then◌else◌}
+use Rattle.std.specs.Prelude.{◌≡◌, ℕ, Bool, true, false, ◌||◌, ◌==◌, not, List, [], ◌++◌, length, Option, None, Some, Result, OnOk, IfErr, if◌then◌else◌}
 use Rattle.std.specs.List.{flat_map}
 use Rattle.outside.specs.SinkView.{SinkView, SinkPasses, Receives, ReceivesPart, Rises}
 use Rattle.hunk_core.specs.declared.Form.{Form}

@@ -1,7 +1,8 @@
 //! What forms show.
 
 ghost use Rattle.std.specs.Prelude.{◌≡◌};
-ghost use Rattle.format_convert.specs.Refusals.{is_ed, is_normal, shows_context};
+ghost use Rattle.change_commands.specs.Fitting.{is_ed};
+ghost use Rattle.format_convert.specs.Refusals.{is_normal, shows_context};
 
 use hunk_core::Form;
 

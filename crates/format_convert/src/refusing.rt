@@ -42,7 +42,10 @@ fn is_misfit(set: &PatchSet, job: &FilterJob, patch: u32, form: Form) -> bool
     requires { patch < length set.now.patches }
     ensures { ForSome (patch_at set.now patch) (λ p. result ≡ (has_kept (plain_filter_job job.now) patch (patch_of set.now.text p) && is_unfit form (left_patch (plain_filter_job job.now) patch (patch_of set.now.text p)))) }
 {
-    if shows_context(form) || !has_kept(set, job, patch) {
+    if shows_context(form) {
+        return false;
+    }
+    if !has_kept(set, job, patch) {
         return false;
     }
     is_unfit(set, job, patch, form)
