@@ -33,7 +33,11 @@ pub fn edit_in(kept: Kept, place: Place, gap: u64) -> Option<Found>
     ensures { MatchOption result (begins_at gap (edits_left kept.entry place) ≡ false) (IsFoundIn kept.entry place gap) }
 {
     let found = next_edit(kept, place)?;
-    if found.edit.at == gap { Some(found) } else { None }
+    if found.edit.at == gap {
+        Some(found)
+    } else {
+        None
+    }
 }
 
 fn with_edit(block: Block, found: Found) -> Block
@@ -45,9 +49,19 @@ fn with_edit(block: Block, found: Found) -> Block
     ensures behind { result.behind ≡ found.behind }
 {
     if found.edit.adds {
-        Block { first: block.first, drops: block.drops, adds: block.adds + 1, behind: found.behind }
+        Block {
+            first: block.first,
+            drops: block.drops,
+            adds: block.adds + 1,
+            behind: found.behind,
+        }
     } else {
-        Block { first: block.first, drops: block.drops + 1, adds: block.adds, behind: found.behind }
+        Block {
+            first: block.first,
+            drops: block.drops + 1,
+            adds: block.adds,
+            behind: found.behind,
+        }
     }
 }
 
@@ -57,7 +71,12 @@ fn block_in(kept: Kept, place: Place, first: u64) -> Block
     requires near { first ≤ 2 ^ 43 }
     ensures { IsBlock kept.entry place first result }
 {
-    let mut block = Block { first, drops: 0, adds: 0, behind: place };
+    let mut block = Block {
+        first,
+        drops: 0,
+        adds: 0,
+        behind: place,
+    };
     while let Some(found) = edit_in(kept, block.behind, block.first + block.drops) {
         block = with_edit(block, found);
     }

@@ -177,7 +177,11 @@ fn next_before(mark: Mark, next: u64) -> u64
     requires { is_on_side Side.Forward mark ≡ true → 1 ≤ next }
     ensures { result ≡ next - (if is_on_side Side.Forward mark then 1 else 0) }
 {
-    if is_taken(mark, Side::Forward) { next - 1 } else { next }
+    if is_taken(mark, Side::Forward) {
+        next - 1
+    } else {
+        next
+    }
 }
 
 /// Goes back over the body of a kept hunk: the blocks are written that nothing in front can belong to.
@@ -199,7 +203,11 @@ fn put_body<O: Sink>(
     let mut next = own.base(Side::Forward) + u64::from(own.count(Side::Forward));
     for line in (0..own.body.len()).rev() {
         let mark = own.body[line].mark;
-        let place = Place { hunk, line, next: next_before(mark, next) };
+        let place = Place {
+            hunk,
+            line,
+            next: next_before(mark, next),
+        };
         front = put_behind(kept, front, place, mark, next, out)?;
         next = place.next;
     }
@@ -207,12 +215,7 @@ fn put_body<O: Sink>(
 }
 
 /// Goes back over a hunk, if it is kept.
-fn put_if_kept<O: Sink>(
-    kept: Kept,
-    front: Place,
-    hunk: usize,
-    out: &mut O,
-) -> Result<Place, Failed>
+fn put_if_kept<O: Sink>(kept: Kept, front: Place, hunk: usize, out: &mut O) -> Result<Place, Failed>
     requires kept { IsKept kept }
     requires within { hunk < length kept.hunks.now }
     requires front { StandsBehind kept (hunk + 1) front }

@@ -19,12 +19,24 @@ pub fn hunk_start(kept: Kept, hunk: usize) -> Place
     ensures hunk { result.hunk ≡ hunk }
 {
     if hunk >= kept.hunks.len() {
-        return Place { hunk, line: 0, next: 1 };
+        return Place {
+            hunk,
+            line: 0,
+            next: 1,
+        };
     }
     if is_kept(kept, hunk) {
-        return Place { hunk, line: 0, next: kept.hunks[hunk].base(Side::Forward) };
+        return Place {
+            hunk,
+            line: 0,
+            next: kept.hunks[hunk].base(Side::Forward),
+        };
     }
-    Place { hunk, line: kept.hunks[hunk].body.len(), next: 1 }
+    Place {
+        hunk,
+        line: kept.hunks[hunk].body.len(),
+        next: 1,
+    }
 }
 
 /// The next step, unless none is left.
@@ -37,7 +49,10 @@ fn step(kept: Kept, place: Place) -> Option<Step>
     }
     let hunk = &kept.hunks[place.hunk];
     if place.line >= hunk.body.len() {
-        return Some(Step { edit: None, behind: hunk_start(kept, place.hunk + 1) });
+        return Some(Step {
+            edit: None,
+            behind: hunk_start(kept, place.hunk + 1),
+        });
     }
     Some(line_step(hunk.body[place.line], place))
 }
@@ -54,15 +69,35 @@ fn line_step(line: HunkLine, place: Place) -> Step
     match line.mark {
         Mark::Keep => Step {
             edit: None,
-            behind: Place { hunk: place.hunk, line: place.line + 1, next: place.next + 1 },
+            behind: Place {
+                hunk: place.hunk,
+                line: place.line + 1,
+                next: place.next + 1,
+            },
         },
         Mark::Drop => Step {
-            edit: Some(LineEdit { at: place.next, adds: false, span: line.span }),
-            behind: Place { hunk: place.hunk, line: place.line + 1, next: place.next + 1 },
+            edit: Some(LineEdit {
+                at: place.next,
+                adds: false,
+                span: line.span,
+            }),
+            behind: Place {
+                hunk: place.hunk,
+                line: place.line + 1,
+                next: place.next + 1,
+            },
         },
         Mark::Add => Step {
-            edit: Some(LineEdit { at: place.next, adds: true, span: line.span }),
-            behind: Place { hunk: place.hunk, line: place.line + 1, next: place.next },
+            edit: Some(LineEdit {
+                at: place.next,
+                adds: true,
+                span: line.span,
+            }),
+            behind: Place {
+                hunk: place.hunk,
+                line: place.line + 1,
+                next: place.next,
+            },
         },
     }
 }
@@ -75,7 +110,10 @@ pub fn next_edit(kept: Kept, place: Place) -> Option<Found>
     let mut at = place;
     while let Some(next) = step(kept, at) {
         if let Some(edit) = next.edit {
-            return Some(Found { edit, behind: next.behind });
+            return Some(Found {
+                edit,
+                behind: next.behind,
+            });
         }
         at = next.behind;
     }

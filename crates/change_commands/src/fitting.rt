@@ -101,7 +101,10 @@ fn seen_one(seen: Seen, is_open: bool) -> Seen
     ensures end { result.open_end ≡ is_open }
     ensures inside { result.open_inside ≡ (seen.open_inside || seen.open_end) }
 {
-    Seen { open_end: is_open, open_inside: seen.open_inside || seen.open_end }
+    Seen {
+        open_end: is_open,
+        open_inside: seen.open_inside || seen.open_end,
+    }
 }
 
 fn seen_line(seen: Seen, text: &[u8], line: HunkLine, side: Side) -> Seen
@@ -141,7 +144,10 @@ fn seen_in(kept: Kept, side: Side) -> Seen
     requires { IsKept kept }
     ensures { Sees result (changed_lines side (left_hunks kept.entry)) }
 {
-    let mut seen = Seen { open_end: false, open_inside: false };
+    let mut seen = Seen {
+        open_end: false,
+        open_inside: false,
+    };
     for hunk in 0..kept.hunks.len() {
         seen = seen_if_kept(seen, kept, hunk, side);
     }

@@ -43,7 +43,10 @@ pub fn net_behind(net: Net, block: Block) -> Net
     ensures adds { result.adds ≡ net.adds + block.adds }
     ensures drops { result.drops ≡ net.drops + block.drops }
 {
-    Net { adds: net.adds + block.adds, drops: net.drops + block.drops }
+    Net {
+        adds: net.adds + block.adds,
+        drops: net.drops + block.drops,
+    }
 }
 
 /// Where the new lines of a block begin.
@@ -60,9 +63,17 @@ fn command_of(net: Net, block: Block) -> Command
     ensures { result.items ≡ (span_text (range_start block.first block.drops) block.drops ++ letter (action_for block.drops block.adds) ∷ []) ++ span_text (range_start (new_start net block) block.adds) block.adds }
 {
     let mut command = ArrayVec::new();
-    add_span(&mut command, range_start(block.first, block.drops), block.drops);
+    add_span(
+        &mut command,
+        range_start(block.first, block.drops),
+        block.drops,
+    );
     add_letter(&mut command, action_for(block.drops, block.adds));
-    add_span(&mut command, range_start(new_first(net, block), block.adds), block.adds);
+    add_span(
+        &mut command,
+        range_start(new_first(net, block), block.adds),
+        block.adds,
+    );
     command
 }
 
@@ -84,12 +95,7 @@ fn put_head<O: Sink>(net: Net, block: Block, out: &mut O) -> Result<(), Failed>
 }
 
 /// What stands behind the old lines of a block's command.
-fn put_news<O: Sink>(
-    kept: Kept,
-    place: Place,
-    block: Block,
-    out: &mut O,
-) -> Result<(), Failed>
+fn put_news<O: Sink>(kept: Kept, place: Place, block: Block, out: &mut O) -> Result<(), Failed>
     requires kept { IsKept kept }
     requires near { block.first ≤ 2 ^ 43 }
     ensures { Puts O.view O.same_rest out.old out.new result (divider_text (action_for block.drops block.adds) ++ flat_map (line_text Side.Reversed) (front Side.Reversed block.first (edits_left kept.entry place))) }
@@ -99,12 +105,7 @@ fn put_news<O: Sink>(
 }
 
 /// What stands behind the numbers of a block's command.
-fn put_lines<O: Sink>(
-    kept: Kept,
-    place: Place,
-    block: Block,
-    out: &mut O,
-) -> Result<(), Failed>
+fn put_lines<O: Sink>(kept: Kept, place: Place, block: Block, out: &mut O) -> Result<(), Failed>
     requires kept { IsKept kept }
     requires near { block.first ≤ 2 ^ 43 }
     ensures { Puts O.view O.same_rest out.old out.new result (flat_map (line_text Side.Forward) (front Side.Forward block.first (edits_left kept.entry place)) ++ (divider_text (action_for block.drops block.adds) ++ flat_map (line_text Side.Reversed) (front Side.Reversed block.first (edits_left kept.entry place)))) }

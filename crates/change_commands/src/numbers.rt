@@ -28,7 +28,11 @@ fn add_number(command: &mut Command, value: u64)
 pub fn range_start(first: u64, count: u64) -> u64
     ensures { result ≡ range_start first count }
 {
-    if count == 0 { first.saturating_sub(1) } else { first }
+    if count == 0 {
+        first.saturating_sub(1)
+    } else {
+        first
+    }
 }
 
 /// One number for at most one line, and two for more.

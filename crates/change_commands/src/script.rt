@@ -51,7 +51,12 @@ fn put_edit<O: Sink>(text: &[u8], edit: &EdEdit, out: &mut O) -> Result<(), Fail
     requires { All (LiesIn text.now) edit.now.added.items }
     ensures { Puts O.view O.same_rest out.old out.new result (ed_command (edit_block (edit_of text.now edit.now))) }
 {
-    put_head(u64::from(edit.first), drop_count(edit), edit.added.len() as u64, out)?;
+    put_head(
+        u64::from(edit.first),
+        drop_count(edit),
+        edit.added.len() as u64,
+        out,
+    )?;
     put_lines(text, edit, out)
 }
 

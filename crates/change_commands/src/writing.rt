@@ -36,7 +36,13 @@ fn kept_of<'a>(set: &'a PatchSet, job: &'a FilterJob, patch: u32, hunks: &'a [Hu
     ensures set { result.set.now ≡ set.now }
     ensures job { result.job.now ≡ job.now }
 {
-    Kept { set, job, patch, row: patch_at(set, patch), hunks }
+    Kept {
+        set,
+        job,
+        patch,
+        row: patch_at(set, patch),
+        hunks,
+    }
 }
 
 /// Whether the kept hunks of a file patch, counted from 0, can't be written as commands of this form.
@@ -80,12 +86,7 @@ fn put_hunks<O: Sink>(kept: Kept, form: Form, out: &mut O) -> Result<(), Failed>
     }
 }
 
-fn put_again<O: Sink>(
-    text: &[u8],
-    again: &EdScript,
-    form: Form,
-    out: &mut O,
-) -> Result<(), Failed>
+fn put_again<O: Sink>(text: &[u8], again: &EdScript, form: Form, out: &mut O) -> Result<(), Failed>
     requires { IsLawfulScript text.now again.now }
     ensures { Puts O.view O.same_rest out.old out.new result (command_text form (script (edits_of text.now again.now.edits.items))) }
 {

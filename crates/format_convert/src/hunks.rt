@@ -23,12 +23,7 @@ use patch_set::PatchSet;
 use tool_words::FilterJob;
 
 /// A hunk in its canonical text; the forms of commands have none.
-fn put_in_form<O: Sink>(
-    text: &[u8],
-    hunk: &Hunk,
-    form: Form,
-    out: &mut O,
-) -> Result<(), Failed>
+fn put_in_form<O: Sink>(text: &[u8], hunk: &Hunk, form: Form, out: &mut O) -> Result<(), Failed>
     requires { IsLawful text.now hunk.now }
     ensures { Puts O.view O.same_rest out.old out.new result (hunk_text form (hunk_of text.now hunk.now)) }
 {

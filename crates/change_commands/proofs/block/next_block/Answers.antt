@@ -18,7 +18,7 @@ returns c =
     record {
       size = subst (λ (q : ℕ). IsBlock k c.args.place q b) (sym first) own;
       shorter = fewer (edits_left k c.args.place) (edit_at k.set.now.text c.in_ok-found.found.edit) (edits_left k c.in_ok-found.found.behind) (edits_left k b.behind) b.first f.left first
-      (own.behind ∙ ap (λ (q : ℕ). front_rest q (edits_left k c.args.place)) (sym first));
+          (own.behind ∙ ap (λ (q : ℕ). front_rest q (edits_left k c.args.place)) (sym first));
       left = blocks-next (edits_left k c.args.place) (edit_at k.set.now.text c.in_ok-found.found.edit) (edits_left k c.in_ok-found.found.behind) (edits_left k b.behind) b.first f.left first
-      (own.behind ∙ ap (λ (q : ℕ). front_rest q (edits_left k c.args.place)) (sym first));
+          (own.behind ∙ ap (λ (q : ℕ). front_rest q (edits_left k c.args.place)) (sym first));
     }

@@ -54,8 +54,8 @@ loop-found-preserved g c =
     let own = cond edit.adds (ed_line (bytes_at c.text-text.result.now edit.span) (nat_lt 0 c.left_behind-left.result)) [] in
     record {
       written = written-more g.met.O.Sink.rest_both c.loop-found.invariant.written own (ed_lines more)
-      (e.text ∙ ap (λ (t : List ℕ). cond edit.adds (ed_line (bytes_at t edit.span) (nat_lt 0 c.left_behind-left.result)) [] ++ ed_lines more) (sym c.text-text.ensures))
-      c.in_ok-put_if_added.field-0 c.in_ok-put_if_added.ensures;
+          (e.text ∙ ap (λ (t : List ℕ). cond edit.adds (ed_line (bytes_at t edit.span) (nat_lt 0 c.left_behind-left.result)) [] ++ ed_lines more) (sym c.text-text.ensures))
+          c.in_ok-put_if_added.field-0 c.in_ok-put_if_added.ensures;
       left = e.left;
       near = omega (arith, f.found.lies.near, c.gap_behind-gap.ensures text, behind-near (edit_at text edit));
     }

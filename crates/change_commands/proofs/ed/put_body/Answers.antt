@@ -70,7 +70,7 @@ loop-line-preserved g c =
       next = omega (arith, c.loop-line.invariant.next, count-next items n i l at lt c.index.ensures, wide);
       front = front-is k l.mark q (bytes_at text l.span) behind (body_edits q (body_of text (drop i items))) left c.loop-line.front _ c.in_ok-front.front c.in_ok-front.ensures.place (one-more text items n i q next l left at lt c.index.ensures wide) c.loop-line.invariant.front (hunk-ahead k c.requires.kept c.args.hunk own c.requires.within c.requires.own i q);
       put = subst (λ (bs : List ℕ). HasPut g.O.Sink.view g.O.Sink.same_rest c.args.out.now c.put_behind.new.out bs) (sym (grown-more text items n i q next l left at lt c.index.ensures wide))
-      (has-more g.met.O.Sink.rest_both c.loop-line.invariant.put put);
+          (has-more g.met.O.Sink.rest_both c.loop-line.invariant.put put);
       within = omega (arith, c.loop-line.invariant.within);
     }
 

@@ -8,4 +8,4 @@ returns-in_err-put_side g c =
     rw (p.1) (puts-stop c.in_err-put_side.field-0.0 p.0 _ c.in_err-put_side.ensures)
 
 pub returns : goal.returns
-returns g c =  (puts-more g.met.O.Sink.rest_both (has-put c.in_ok-put_side.field-0 c.in_ok-put_side.ensures) c.put_news.ensures)
+returns g c = (puts-more g.met.O.Sink.rest_both (has-put c.in_ok-put_side.field-0 c.in_ok-put_side.ensures) c.put_news.ensures)

@@ -16,7 +16,7 @@ loop-block-init g c =
     let first : edits_left c.args.kept c.hunk_start-place.result ≡ hunk_edits (left_hunks c.args.kept) = c.hunk_start-place.ensures.left ∙ sym (edits-are k) in
     record {
       written = subst (λ (es : List Edit). Written g.O.Sink.view g.O.Sink.same_rest c.args.out.now c.args.out.now (normal_text (blocks_of es)) (normal_behind c.no_net-net.result.adds c.no_net-net.result.drops (blocks_of (edits_left k c.hunk_start-place.result)))) first
-      (rw (c.no_net-net.ensures.adds, c.no_net-net.ensures.drops) (written-none g.met.O.Sink.rest_none c.args.out.now (normal_text (blocks_of (edits_left k c.hunk_start-place.result)))));
+          (rw (c.no_net-net.ensures.adds, c.no_net-net.ensures.drops) (written-none g.met.O.Sink.rest_none c.args.out.now (normal_text (blocks_of (edits_left k c.hunk_start-place.result)))));
       small = omega (arith, c.no_net-net.ensures.adds, c.no_net-net.ensures.drops, few-left k c.requires c.hunk_start-place.result);
     }
 

@@ -15,6 +15,6 @@ pub returns-then-shows_context : goal.returns-then-shows_context
 returns-then-shows_context g c = λ x at.
     subst (λ (bs : List ℕ). Puts g.O.Sink.view g.O.Sink.same_rest c.args.out.now c.put_hunks.new.out c.put_hunks.result bs) (by-context c.args.form (left_patch (plain_filter_job c.args.job.now) c.args.patch (patch_of c.args.set.now.text x)).change (sym c.shows_context.ensures ∙ c.if-shows_context.true)) (c.put_hunks.ensures x at)
 
-pub returns : goal.returns
-returns g c = λ x at.
+pub returns-else-shows_context : goal.returns-else-shows_context
+returns-else-shows_context g c = λ x at.
     subst (λ (bs : List ℕ). Puts g.O.Sink.view g.O.Sink.same_rest c.args.out.now c.put_commands.new.out c.put_commands.result bs) (by-commands c.args.form (left_patch (plain_filter_job c.args.job.now) c.args.patch (patch_of c.args.set.now.text x)).change (sym c.shows_context.ensures ∙ c.if-shows_context.false)) (c.put_commands.ensures x at)
