@@ -23,3 +23,4 @@ mod Renaming
 mod Parting
 mod Forcing
 mod TestByTest
+mod Keeping

@@ -175,7 +175,7 @@ origin_from Copy name = CopiedFrom name
 abbrev pub origin_of : PlainTurn → ℕ → PlainOrigin
 origin_of t place = origin_from t.item.patch.header.action (shown (target_at t.item.targets place))
 
--- the line that names the file: the chosen one, or the name that a file gets
+-- the file that is named first: the chosen one, or what it is renamed or copied to
 abbrev pub named : PlainTurn → ℕ → Target
 named t place = if moves t.item.patch then written t place else target_at t.item.targets place
 
@@ -288,13 +288,15 @@ is_backup_apart t w other = not (bytes_eq w.backup w.name) && not (renames t.ite
 abbrev pub is_backup_due : PlainTurn → Target → Target → List Verdict → Bool
 is_backup_due t w other vs = not (was_written t.past w.name) && is_backup_apart t w other && is_backup_asked t vs
 
--- the target is written where a hunk was placed; without a hunk where a file is made, renamed or copied, or an empty one is taken away
+-- without a hunk the target is written where a file is made, renamed or copied, or an empty one is taken away
 abbrev pub is_made_bare : PlainTurn → Tried → Bool
 is_made_bare t x = acts_new x.side t.item.patch || moves t.item.patch || (is_taken_away t x && is_nothing x.text)
 
+-- and with hunks where one was placed
 abbrev pub is_written : PlainTurn → Tried → Bool
 is_written t x = some_placed x.verdicts || (is_bare t.item.patch && is_made_bare t x)
 
+-- a file without a byte is to go: the file patch deletes its file, or `-E` was given (GNU patch manual, "Creating and Removing Files")
 abbrev pub is_unwanted : PlainTurn → Side → Bool
 is_unwanted t side = t.options.remove_empty || (takes_files t.options && deletes side t.item.patch)
 
@@ -302,7 +304,7 @@ is_unwanted t side = t.options.remove_empty || (takes_files t.options && deletes
 abbrev pub is_always_put : PlainTurn → Bool
 is_always_put t = is_some t.options.output || is_some t.options.define || moves t.item.patch
 
--- any other output without a byte is no file, where the file patch deletes its file or `-E` was given (GNU patch manual, "Creating and Removing Files")
+-- any other output without a byte takes the target away, where that is to go
 abbrev pub is_removal : PlainTurn → Tried → Bool
 is_removal t x = is_nothing x.text && not (is_always_put t) && is_unwanted t x.side
 

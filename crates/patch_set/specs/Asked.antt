@@ -21,9 +21,9 @@ admits_unified (Some Ed) = false
 abbrev pub is_for_own_names : PlainOptions → Bool
 is_for_own_names o = admits_unified o.only && (is_none o.file && (is_none o.output && not o.posix))
 
--- git headers are to be read where a file patch is meant for its own names; no command reads them yet, since they wait for a run that carries out renames and copies
+-- git headers are read where a file patch is meant for its own names
 abbrev pub reads_git : PlainOptions → Bool
-reads_git o = false && is_for_own_names o
+reads_git o = is_for_own_names o
 
 -- no command passes over binary lines yet
 abbrev pub skips_binary : PlainOptions → Bool

@@ -14,11 +14,11 @@ pub fn is_posix(options: &Options) -> bool
     options.posix
 }
 
-/// Whether git headers are read: for no command yet. They wait for a run that carries out renames and copies.
+/// Whether git headers are read.
 fn reads_git(options: &Options) -> bool
     ensures { result ≡ reads_git (plain_options options.now) }
 {
-    false && is_for_own_names(options)
+    is_for_own_names(options)
 }
 
 /// Whether a file patch of the unified form is meant for its own names.

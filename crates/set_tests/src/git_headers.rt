@@ -1,5 +1,5 @@
 //! File patches of texts whose git headers are read, row by row. A row is a text of labelled lines, in which a bar stands for a
-//! line's end. No command reads git headers yet.
+//! line's end.
 
 use crate::reading::{bytes_of, field};
 use file_patch::FilePatch;

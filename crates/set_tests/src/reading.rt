@@ -51,9 +51,21 @@ words patch -c
 text hello|--- /dev/null|+++ n|@@ -0,0 +1 @@|+x|junk|--- f\t1970-01-01 00:00:00 +0000|+++ f|@@ -1,2 +1 @@| a|-b|@@ -5 +4 @@|-c|+C|*** g|--- g|***************|*** 1 ****|! a|--- 1 ----|! b|1c1|< a|---|> b|2d|1a|x|.|garbage|
 answer Context 17 15 0 182 1 0 false false 0 0|None 1
 
-words patch
+words patch --posix
 text diff --git a/f b/f|new file mode 100644|--- a/f|+++ b/f|@@ -0,0 +1 @@|+x|
 answer Unified 5 3 0 73 1 0 false false 0 0|None 1
+
+words patch
+text diff --git a/f b/f|new file mode 100644|--- a/f|+++ b/f|@@ -0,0 +1 @@|+x|
+answer Unified 5 3 0 73 1 0 true false 0 0|None 1
+
+words patch -p1
+text diff --git a/e b/e|new file mode 100644|
+answer Unified 1 1 0 40 0 0 true false 0 0|None 0
+
+words patch -u -p1
+text diff --git a/x b/y|rename from x|rename to y|
+answer Unified 1 1 0 45 0 0 false false 0 1|None 0
 ";
 
 /// Texts of one hunk, of which a side is no file by its name or its stamp, or isn't.
@@ -93,7 +105,19 @@ words patch -o g -R
 text hello
 answer Garbage
 
-words patch -p1
+words patch -p1 --posix
+text diff --git a/e b/e|new file mode 100644|
+answer Garbage
+
+words patch -p1 -c
+text diff --git a/e b/e|new file mode 100644|
+answer Garbage
+
+words patch e
+text diff --git a/e b/e|new file mode 100644|
+answer Garbage
+
+words patch -p1 -o g
 text diff --git a/e b/e|new file mode 100644|
 answer Garbage
 

@@ -1,6 +1,7 @@
 use Rattle.patch_run.proofs.DoneNone.{skipped_ignored, dry_effects, dry_files}
 use Rattle.patch_run.proofs.BackedUp.{backed_once}
 use Rattle.patch_run.proofs.Renaming.{renamed}
+use Rattle.patch_run.proofs.Keeping.{bare_keeps}
 use Rattle.patch_run.proofs.Forcing.{forced_nameless}
 use Rattle.patch_run.proofs.laws.run_laws.Goals as goal
 
@@ -21,3 +22,6 @@ returns-clause-renamed c t files s w x named moving is = renamed t files s w x n
 
 pub returns-clause-forced : goal.returns-clause-forced
 returns-clause-forced c t files forced is = forced_nameless t files forced is
+
+pub returns-clause-bare : goal.returns-clause-bare
+returns-clause-bare c t side bytes is = bare_keeps t side bytes is
