@@ -4,5 +4,5 @@ mod Changing
 mod Written
 mod Names
 mod Reader
-mod Sets
-mod Lawful
+pub mod Sets
+pub mod Lawful
