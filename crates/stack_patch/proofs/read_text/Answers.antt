@@ -1,0 +1,12 @@
+use Rattle.patch_options.specs.PlainJob.{plain_options}
+use Rattle.stack_patch.proofs.Refusing.{lawful_as, patch_as, text_none}
+use Rattle.stack_patch.proofs.read_text.Goals as goal
+
+pub read_set-requires : goal.read_set-requires
+read_set-requires c = lawful_as (plain_options c.args.options.now) c.requires
+
+pub returns-in-Ok-clause-patch : goal.returns-in-Ok-clause-patch
+returns-in-Ok-clause-patch c = patch_as (plain_options c.args.options.now) c.args.text.items c.in-Ok.set c.requires c.in-Ok.ensures.read c.in-Ok.ensures.refused
+
+pub returns-in-Err-clause-none : goal.returns-in-Err-clause-none
+returns-in-Err-clause-none c = text_none (plain_options c.args.options.now) c.args.text.items c.in-Err.fault c.requires c.in-Err.ensures.refused

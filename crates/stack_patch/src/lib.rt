@@ -1,0 +1,100 @@
+//! The patch that a push applies, read from its file.
+#![tactic(auto)]
+
+ghost use Rattle.std.specs.Prelude.{◌≡◌, ℕ, List, None, Some, IfOk, IfErr};
+ghost use Rattle.std.specs.FinMap.{get};
+ghost use Rattle.outside.specs.Files.{Files};
+ghost use Rattle.outside.specs.Calls.{IsUntouched};
+ghost use Rattle.patch_options.specs.PlainJob.{plain_options};
+ghost use Rattle.patch_set.specs.SetView.{IsRead, IsFresh, IsWhole};
+ghost use Rattle.stack_reader.specs.Reading.{push_options, patch_of_set, read_patch};
+ghost use Rattle.stack_patch.specs.Causes.{HasCause, IsRefusedSo, IsRefusal};
+
+use outside::{Name, Tree};
+use patch_input::{InputFault, read_file};
+use patch_options::{Input, Options, PlanKind};
+use patch_set::{PatchSet, SetFault, read_set};
+use std::alloc::Global;
+
+/// Why the patch isn't read.
+#[derive(Clone, Copy, Debug, PartialEq, Eq)]
+pub enum PushFault {
+    /// Its file isn't.
+    Input(InputFault),
+    /// Its text isn't taken.
+    Set(SetFault),
+}
+
+/// The options of `patch -p1 --no-backup-if-mismatch`.
+#[tactic(auto, unfolding(stack_reader::specs::Reading::push_options))]
+pub fn push_options() -> Options
+    ensures { plain_options result ≡ push_options }
+{
+    Options {
+        only: None,
+        strip: Some(1),
+        fuzz: 2,
+        reverse: false,
+        force: false,
+        batch: false,
+        forward: false,
+        loose: false,
+        remove_empty: false,
+        backup: false,
+        mismatch_backup: false,
+        suffix: None,
+        prefix: None,
+        dir: None,
+        file: None,
+        input: Input::Standard,
+        output: None,
+        reject: None,
+        no_rejects: false,
+        reject_form: None,
+        define: None,
+        posix: false,
+        dry_run: false,
+        silent: false,
+        verbose: false,
+        plan: PlanKind::Auto,
+        buffer: 65_536,
+    }
+}
+
+/// The set of file patches that the file of a patch holds, for these options, which are a push's. The tree is left untouched.
+/// What the set does is what the patch of the file does; where the file is missing or its text is refused there is none.
+pub fn read_push<T: Tree>(
+    alloc: Global,
+    name: &Name,
+    options: &Options,
+    tree: &mut T,
+) -> Result<PatchSet, PushFault>
+    requires { plain_options options.now ≡ push_options }
+    ensures untouched { IsUntouched (T.view tree.old) (T.view tree.new) }
+    ensures patch { IfOk result (λ set. (f : Files) → (T.view tree.old).told ≡ Some f → read_patch (get f name.now) ≡ Some (patch_of_set set)) }
+    ensures read { IfOk result (λ set. (given : List ℕ) × IsRead push_options given set) }
+    ensures fresh { IfOk result IsFresh }
+    ensures whole { IfOk result IsWhole }
+    ensures cause { IfErr result (λ e. HasCause e (T.view tree.old) (T.view tree.new) name.now) }
+    ensures none { IfErr result (λ e. IsRefusal e → (f : Files) → (T.view tree.old).told ≡ Some f → read_patch (get f name.now) ≡ None) }
+{
+    match read_file(alloc, name, tree) {
+        Ok(text) => read_text(alloc, text, options),
+        Err(fault) => Err(PushFault::Input(fault)),
+    }
+}
+
+fn read_text(alloc: Global, text: Vec<u8>, options: &Options) -> Result<PatchSet, PushFault>
+    requires { plain_options options.now ≡ push_options }
+    ensures patch { IfOk result (λ set. read_patch (Some text.items) ≡ Some (patch_of_set set)) }
+    ensures read { IfOk result (λ set. (given : List ℕ) × IsRead push_options given set) }
+    ensures fresh { IfOk result IsFresh }
+    ensures whole { IfOk result IsWhole }
+    ensures cause { IfErr result (λ e. IsRefusedSo e text.items) }
+    ensures none { IfErr result (λ e. IsRefusal e → read_patch (Some text.items) ≡ None) }
+{
+    match read_set(alloc, text, options) {
+        Ok(set) => Ok(set),
+        Err(fault) => Err(PushFault::Set(fault)),
+    }
+}

@@ -1,0 +1,3 @@
+pub mod Changed
+pub mod Reading
+pub mod Keeping
