@@ -9,7 +9,7 @@
 RT ?= rt
 PREFIX ?= /usr/local
 DESTDIR ?=
-TOOLS = patch lsdiff filterdiff grepdiff splitdiff recountdiff
+TOOLS = patch lsdiff filterdiff grepdiff splitdiff recountdiff reversediff patchgen patchstack
 BIN = build/bin
 
 .PHONY: all demo try test times deep install dist clean

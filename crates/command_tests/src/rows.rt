@@ -352,6 +352,16 @@ file p.diff=diff --git a/x b/y|rename from x|rename to y|
 answer Rejected 1
 out can't find file to patch at input line 1|Skipping patch.|
 gone y
+
+words patch -s -p1 --skip-binary -i p.diff
+file f=a|
+file g=b|
+file p.diff=diff --git a/x b/x|new file mode 100644|index 0000000..1234567|Binary files /dev/null and b/x differ|--- a/f|+++ b/f|@@ -1 +1 @@|-a|+c|diff --git a/y b/y|index 1..2|GIT binary patch|literal 1|Ic$|--- a/g|+++ b/g|@@ -1 +1 @@|-b|+Binary files g and g differ|Binary files a/z and b/z differ|
+answer Done 0
+out Skipping a binary change at input line 4.|Skipping a binary change at input line 12.|Skipping a binary change at input line 20.|
+after f=c|
+after g=Binary files g and g differ|
+gone x
 ";
 
 /// Words and names that are refused.

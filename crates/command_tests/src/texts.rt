@@ -83,6 +83,11 @@ file p.diff=GIT binary patch|
 answer Malformed { line: 1, kind: Binary } 2
 err patch: **** malformed patch at line 1: a binary change|
 
+words patch --skip-binary -i p.diff
+file p.diff=Binary files a/x and b/x differ|
+answer Garbage 2
+err patch: **** Only garbage was found in the patch input.|
+
 words patch -i p.diff
 file f=a|b|c|
 file g=x|y|

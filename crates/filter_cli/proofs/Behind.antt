@@ -22,7 +22,7 @@ use Rattle.filter_cli.proofs.Whole.{carries_does}
 
 module _ (job : Result PlainToolJob WordFault) (t v : TreeView) (h : FinderView) (a : SourceView) (c : SinkView) (opens : Opens t v) where
   tells_behind : (f : Files) (left : List ℕ) → Tells job (world t h a c) f left → Tells job (world v h a c) f left
-  tells_behind f left told = record { files = opens.told ∙ told.files; source = told.source }
+  tells_behind f left told = record { files = λ named. opens.told ∙ told.files named; source = told.source }
 
   module _ (w : World) where
     cause_behind : (why : Why) → HasCause why job (world v h a c) w → HasCause why job (world t h a c) w
@@ -39,8 +39,8 @@ module _ (job : Result PlainToolJob WordFault) (t v : TreeView) (h : FinderView)
     cause_behind (LongLine line length) cause = absurd cause
     cause_behind (FileTooLong length) cause = absurd cause
     cause_behind BadPattern cause = cause
-    cause_behind (NoContext line) cause = absurd cause
-    cause_behind (Unfit line) cause = absurd cause
+    cause_behind (NoContext line) cause = cause
+    cause_behind (Unfit line) cause = cause
     cause_behind (BadState file) cause = absurd cause
     cause_behind (StackEnd applied) cause = absurd cause
     cause_behind (StackName line) cause = absurd cause
@@ -48,7 +48,7 @@ module _ (job : Result PlainToolJob WordFault) (t v : TreeView) (h : FinderView)
     cause_behind WriteFault cause = cause
     cause_behind TreeFault cause = rises_then t v w.tree opens.passes cause
     cause_behind ScratchFault cause = absurd cause
-    cause_behind (Disagree want got) cause = (cause.0, sym opens.told ∙ cause.1)
+    cause_behind (Disagree want got) cause = (cause.0, cause.1, sym opens.told ∙ cause.2)
     cause_behind Memory cause = cause
     cause_behind Unsupported cause = cause
 
@@ -56,7 +56,7 @@ module _ (job : Result PlainToolJob WordFault) (t v : TreeView) (h : FinderView)
     first_behind o part = record { tells = λ f g was now. part.tells f g (opens.told ∙ was) now; said = part.said }
 
     answer_behind : (why : Why) (f : Files) (o : Outcome) → IsAnswer why f (world v h a c) w o → IsAnswer why f (world t h a c) w o
-    answer_behind why f o answer = record { is = answer.is; text = answer.text; files = answer.files }
+    answer_behind why f o answer = record { is = answer.is; text = answer.text; files = λ told. answer.files (opens.told ∙ told) }
 
     answers_behind : (b : Bool) (why : Why) (f : Files) (o : Outcome) → Answers b why f (world v h a c) w o → Answers b why f (world t h a c) w o
     answers_behind true why f o answer = answer_behind why f o answer

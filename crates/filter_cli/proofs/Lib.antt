@@ -4,3 +4,4 @@ pub mod Early
 pub mod Sifted
 pub mod Sifters
 pub mod Split
+pub mod Formed

@@ -34,11 +34,11 @@ use Rattle.filter_cli.specs.Carries.{IsAnswer, FirstPart, Answers, IsAsAtEntry, 
 use Rattle.filter_cli.proofs.Whole.{carries_does, refused_so}
 
 -- how a job's words in two crates agree
-pub record Agrees (job : PlainToolJob) (i : Input) (s : PlainSelect) (R : SetFault → Type 0) (Q : Type 0) (P : Files → List ℕ → outcomes.Outcome → Type 0) (v : FinderView) : Type 1 where
+pub record Agrees (job : PlainToolJob) (i : Input) (s : PlainSelect) (R : FilterFault → Type 0) (Q : Type 0) (P : Files → List ℕ → outcomes.Outcome → Type 0) (v : FinderView) : Type 1 where
   pub from : IsFromSource job → IsStandard i
   pub to : IsStandard i → IsFromSource job
   pub named : sifting.NamesFile i s → NamesFile job
-  pub texts : (e : SetFault) → R e → MayFault job e
+  pub texts : (e : FilterFault) → R e → MayFault job e
   pub pattern : Q → MayBeRefused v job
   pub outcome : (f : Files) (left : List ℕ) (o : outcomes.Outcome) → P f left o → IsOutcome v (Ok job) f left (written o)
   -- it is never cut off between parts
@@ -59,6 +59,7 @@ own-is (faults.Set (set.OutMany count)) = refl
 own-is (faults.Set (set.EdReverse line)) = refl
 own-is (faults.Set (set.Reserved line)) = refl
 own-is (faults.Set set.Memory) = refl
+own-is (faults.Unfit line) = refl
 own-is faults.Pattern = refl
 own-is faults.Tree = refl
 own-is faults.Write = refl
@@ -68,6 +69,7 @@ own-is faults.Memory = refl
 pub early-is : (e : FilterFault) → is_early (of_filter e) ≡ true → sifting.is_early e ≡ true
 early-is (faults.Input e) early = refl
 early-is (faults.Set e) early = refl
+early-is (faults.Unfit line) early = refl
 early-is faults.Pattern early = refl
 early-is faults.Tree early = early
 early-is faults.Write early = early
@@ -87,13 +89,14 @@ never-done (faults.Set (set.OutMany count)) is = absurd (cc)
 never-done (faults.Set (set.EdReverse line)) is = absurd (cc)
 never-done (faults.Set (set.Reserved line)) is = absurd (cc)
 never-done (faults.Set set.Memory) is = absurd (cc)
+never-done (faults.Unfit line) is = absurd (cc)
 never-done faults.Pattern is = absurd (cc)
 never-done faults.Tree is = absurd (cc)
 never-done faults.Write is = absurd (cc)
 never-done faults.Memory is = absurd (cc)
 
 -- the cause of a text that is refused
-pub set-cause : (e : SetFault) (job : PlainToolJob) (u w : World) → MayFault job e → HasCause (of_filter (faults.Set e)) (Ok job) u w
+pub set-cause : (e : SetFault) (job : PlainToolJob) (u w : World) → MayFault job (faults.Set e) → HasCause (of_filter (faults.Set e)) (Ok job) u w
 set-cause (set.Malformed line kind) job u w c = c
 set-cause set.Garbage job u w c = c
 set-cause set.TooLong job u w c = tt
@@ -102,15 +105,16 @@ set-cause (set.EdReverse line) job u w c = c
 set-cause (set.Reserved line) job u w c = c
 set-cause set.Memory job u w c = tt
 
-module _ (job : PlainToolJob) (i : Input) (s : PlainSelect) (R : SetFault → Type 0) (Q : Type 0) (P : Files → List ℕ → outcomes.Outcome → Type 0) (u w : World) (agrees : Agrees job i s R Q P u.finder) where
+module _ (job : PlainToolJob) (i : Input) (s : PlainSelect) (R : FilterFault → Type 0) (Q : Type 0) (P : Files → List ℕ → outcomes.Outcome → Type 0) (u w : World) (agrees : Agrees job i s R Q P u.finder) where
   sift-cause : (e : FilterFault) → sifting.HasCause e i s R Q u.tree w.tree u.source w.source u.out w.out → HasCause (of_filter e) (Ok job) u w
   sift-cause (faults.Input input.NoPatchFile) c = agrees.named c
   sift-cause (faults.Input input.TooLong) c = tt
   sift-cause (faults.Input input.Source) c = (agrees.to c.0, c.1)
   sift-cause (faults.Input input.Tree) c = c
-  sift-cause (faults.Input (input.Disagree want got)) c = c
+  sift-cause (faults.Input (input.Disagree want got)) c = (agrees.named c.0, c.1, c.2)
   sift-cause (faults.Input input.Memory) c = tt
-  sift-cause (faults.Set e) c = set-cause e job u w (agrees.texts e c)
+  sift-cause (faults.Set e) c = set-cause e job u w (agrees.texts (faults.Set e) c)
+  sift-cause (faults.Unfit line) c = inl (agrees.texts (faults.Unfit line) c)
   sift-cause faults.Pattern c = agrees.pattern c
   sift-cause faults.Tree c = absurd c
   sift-cause faults.Write c = c
@@ -120,16 +124,16 @@ module _ (job : PlainToolJob) (i : Input) (s : PlainSelect) (R : SetFault → Ty
   quiet_same same quiet = record { each = λ f c told may. quiet.each f c (sym same.told ∙ told) ((same.now c).0 may) }
 
   module _ (finder : FinderPasses u.finder w.finder) (quiet : IsQuiet u.tree) (unread : (IsStandard i → ⊥) → w.source ≡ u.source) where
-    is-told : (f : Files) (left : List ℕ) → Tells (Ok job) u f left → IsTold i u.tree u.source f left
-    is-told f left told = record { files = told.files; left = λ is. told.source (agrees.to is) }
+    is-told : (f : Files) (left : List ℕ) → Tells (Ok job) u f left → IsTold i s u.tree u.source f left
+    is-told f left told = record { files = λ named. told.files (agrees.named named); left = λ is. told.source (agrees.to is) }
 
     module _ (same : IsUntouched u.tree w.tree) where
       entry : w.out ≡ u.out → IsAsAtEntry u w
       entry out = let opens = opens_untouched same in record { told = opens.told; out = out; images = opens.images }
 
       -- the text is written whole
-      wrote : (bytes : List ℕ) (f : Files) → u.tree.told ≡ Some f → Receives u.out w.out bytes → IsAnswer Done f u w (written (Ok bytes))
-      wrote bytes f told received = record { is = refl; text = received; files = same.told ∙ told }
+      wrote : (bytes : List ℕ) (f : Files) → Receives u.out w.out bytes → IsAnswer Done f u w (written (Ok bytes))
+      wrote bytes f received = record { is = refl; text = received; files = λ told. same.told ∙ told }
 
       first : (o : Outcome) → ReceivesPart u.out w.out o.text → FirstPart u w o
       first o part = record {
@@ -140,9 +144,9 @@ module _ (job : PlainToolJob) (i : Input) (s : PlainSelect) (R : SetFault → Ty
       nothing : w.out ≡ u.out → (p : List ℕ) → ReceivesPart u.out w.out p
       nothing out p b now = inr (zero, ap (λ (a : SinkView). a.told) out ∙ now ∙ ap (λ (l : List ℕ). Some l) (sym (append-nil b)))
 
-      faulted : (b : Bool) (e : FilterFault) (f : Files) (left : List ℕ) → u.tree.told ≡ Some f → AnswersFault b e (P f left) u.out w.out → ByOutcome (Ok job) u f left (Answers b (of_filter e) f u w)
-      faulted true e f left told (is, out) = (written (Err e), agrees.outcome f left (Err e) is, refused_so (Ok job) u w (entry out) (of_filter e) f told)
-      faulted false e f left told fault = ⊎_elim
+      faulted : (b : Bool) (e : FilterFault) (f : Files) (left : List ℕ) → AnswersFault b e (P f left) u.out w.out → ByOutcome (Ok job) u f left (Answers b (of_filter e) f u w)
+      faulted true e f left (is, out) = (written (Err e), agrees.outcome f left (Err e) is, refused_so (Ok job) u w (entry out) (of_filter e) f)
+      faulted false e f left fault = ⊎_elim
           (λ out. (command u.finder.hit (Ok job) f left, inl refl, first _ (nothing out _)))
           (λ (bytes, is, part). (written (Ok bytes), agrees.outcome f left (Ok bytes) is, first _ part))
           fault
@@ -162,7 +166,7 @@ module _ (job : PlainToolJob) (i : Input) (s : PlainSelect) (R : SetFault → Ty
       taken = x.taken;
       answers = λ f left told.
           let (bytes, is, received) = x.answers f left (is-told f left told) in
-          (written (Ok bytes), agrees.outcome f left (Ok bytes) is, wrote x.untouched bytes f told.files received);
+          (written (Ok bytes), agrees.outcome f left (Ok bytes) is, wrote x.untouched bytes f received);
       images = λ f left told c since. inl ((opens_untouched x.untouched).images c since);
       cut = λ own f left told. agrees.uncut Done f u w;
       tidy = λ none. tidy_same u.tree w.tree x.untouched.told;
@@ -179,7 +183,7 @@ module _ (job : PlainToolJob) (i : Input) (s : PlainSelect) (R : SetFault → Ty
       read = λ is. absurd (never-done e is);
       unread = λ never. unread (λ is. never (agrees.to is));
       taken = x.taken;
-      answers = λ f left told. subst (λ b. ByOutcome (Ok job) u f left (Answers b (of_filter e) f u w)) (sym (own-is e)) (faulted x.untouched (is_refusal e) e f left told.files (x.answers f left (is-told f left told)));
+      answers = λ f left told. subst (λ b. ByOutcome (Ok job) u f left (Answers b (of_filter e) f u w)) (sym (own-is e)) (faulted x.untouched (is_refusal e) e f left (x.answers f left (is-told f left told)));
       images = λ f left told c since. inl ((opens_untouched x.untouched).images c since);
       cut = λ own f left told. agrees.uncut (of_filter e) f u w;
       tidy = λ none. tidy_same u.tree w.tree x.untouched.told;

@@ -1,5 +1,6 @@
 -- The filters that write one text, each as its words in two crates agree.
-use Rattle.std.proofs.Common.{◌≡◌, ◌⊎◌, inl, inr, ⊎_elim, ℕ, List, [], Bool, false, Result, Ok, Err, refl, ap, sym, ◌∙◌}
+use Rattle.std.proofs.Common.{◌≡◌, ◌⊎◌, inl, inr, ⊎_elim, ℕ, List, [], Bool, false, Option, None, Result, Ok, Err, refl, ap, sym, ◌∙◌}
+use Rattle.hunk_core.specs.declared.Form.{Form}
 use Rattle.outside.specs.Files.{Files}
 use Rattle.outside.specs.FinderView.{FinderView}
 use Rattle.outside.specs.Quiet.{Effect}
@@ -7,11 +8,12 @@ use Rattle.patch_options.specs.declared.options.Input.{Input}
 use Rattle.patch_options.specs.declared.options.Input.TheVariants.{Standard, File}
 use Rattle.patch_input.specs.Input.{IsFile, IsStandard}
 use Rattle.tool_words.specs.PlainJobs.{PlainListJob, PlainFilterJob, PlainGrepJob}
-use Rattle.tool_words.specs.PlainJobs.PlainToolJob.{list_job, filter_job, grep_job, recount_job}
+use Rattle.tool_words.specs.PlainJobs.PlainToolJob.{list_job, filter_job, grep_job, recount_job, flip_job}
 use Rattle.filter_run.specs.declared.fault.FilterFault.{FilterFault}
 use Rattle.filter_run.specs.Outcomes.{IsOutcomeOf, IsGrepped, list_outcome, filter_outcome, grep_outcome, recount_outcome, no_selection}
+use Rattle.filter_run.specs.Flips.{HasFlipCause, flip_outcome}
 use Rattle.filter_run.specs.Sifting.{HasTextCause, HasCountCause}
-use Rattle.filter_cli.specs.Command.{written}
+use Rattle.filter_cli.specs.Command.{in_form, written}
 use Rattle.filter_cli.proofs.Sifted.{Agrees}
 
 -- an input is standard input or a file
@@ -30,14 +32,14 @@ lists j v = record {
   uncut = λ why f u w. tt;
 }
 
-pub filters : (j : PlainFilterJob) (v : FinderView) → Agrees (filter_job j) j.input j.select HasTextCause ⊥ (IsOutcomeOf (filter_outcome j)) v
-filters j v = record {
+pub filters : (j : PlainFilterJob) (v : FinderView) → j.format ≡ None → Agrees (filter_job j) j.input j.select HasTextCause ⊥ (IsOutcomeOf (filter_outcome j)) v
+filters j v plain = record {
   from = λ is. is;
   to = λ is. is;
   named = λ is. is;
   texts = λ e is. is;
   pattern = λ is. absurd is;
-  outcome = λ f left o is. inl (ap (λ (x : Result (List ℕ) FilterFault). written x) is);
+  outcome = λ f left o is. inl (ap (λ (x : Result (List ℕ) FilterFault). written x) is ∙ sym (ap (λ (form : Option Form). in_form form j f left) plain));
   uncut = λ why f u w. tt;
 }
 
@@ -57,6 +59,17 @@ greps j v = record {
 
 pub recounts : (i : Input) (v : FinderView) → Agrees (recount_job i) i no_selection HasCountCause ⊥ (IsOutcomeOf (recount_outcome i)) v
 recounts i v = record {
+  from = λ is. is;
+  to = λ is. is;
+  named = λ is. is;
+  texts = λ e is. is;
+  pattern = λ is. absurd is;
+  outcome = λ f left o is. inl (ap (λ (x : Result (List ℕ) FilterFault). written x) is);
+  uncut = λ why f u w. tt;
+}
+
+pub flips : (i : Input) (v : FinderView) → Agrees (flip_job i) i no_selection HasFlipCause ⊥ (IsOutcomeOf (flip_outcome i)) v
+flips i v = record {
   from = λ is. is;
   to = λ is. is;
   named = λ is. is;

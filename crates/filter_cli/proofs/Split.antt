@@ -56,9 +56,10 @@ module _ (j : PlainSplitJob) (h : FinderView) (a : SourceView) (t w : TreeView) 
   split-cause (faults.Input input.TooLong) x = tt
   split-cause (faults.Input input.Source) x = absurd x
   split-cause (faults.Input input.Tree) x = x
-  split-cause (faults.Input (input.Disagree want got)) x = x
+  split-cause (faults.Input (input.Disagree want got)) x = (tt, x.0, x.1)
   split-cause (faults.Input input.Memory) x = tt
   split-cause (faults.Set e) x = set-cause e (split_job j) before behind x
+  split-cause (faults.Unfit line) x = absurd x
   split-cause faults.Pattern x = absurd x
   split-cause faults.Tree x = x
   split-cause faults.Write x = x
@@ -79,6 +80,7 @@ module _ (j : PlainSplitJob) (h : FinderView) (a : SourceView) (t w : TreeView) 
   split-early (faults.Set (set.EdReverse line)) x early = refl
   split-early (faults.Set (set.Reserved line)) x early = refl
   split-early (faults.Set set.Memory) x early = early
+  split-early (faults.Unfit line) x early = refl
   split-early faults.Pattern x early = refl
   split-early faults.Tree x early = early
   split-early faults.Write x early = early
@@ -87,6 +89,7 @@ module _ (j : PlainSplitJob) (h : FinderView) (a : SourceView) (t w : TreeView) 
   split-tidy : (e : FilterFault) → TidyAfter (Err e) t w → is_fault (of_filter e) ≡ false → IsTidy t w
   split-tidy (faults.Input e) tidy none = tidy
   split-tidy (faults.Set e) tidy none = tidy
+  split-tidy (faults.Unfit line) tidy none = tidy
   split-tidy faults.Pattern tidy none = tidy
   split-tidy faults.Tree tidy none = absurd (cc)
   split-tidy faults.Write tidy none = tidy
@@ -118,16 +121,16 @@ module _ (j : PlainSplitJob) (h : FinderView) (a : SourceView) (t w : TreeView) 
       cut-first e k cut = record { tells = puts-first k cut.files cut.few; said = said-part c d j.input (numbered x.1) k cut.out }
 
       put-all : ArePut j.input x.0 (numbered x.1) f t w c d → IsAnswer Done f before behind (parted j.input (Ok x))
-      put-all put = record { is = refl; text = put.out; files = put.files }
+      put-all put = record { is = refl; text = put.out; files = λ same. put.files }
 
     split-answers : (b : Bool) (e : FilterFault) → (b ≡ true → IsNotBegun t w c d) → SplitFault b e j f t w c d → ByOutcome (Ok (split_job j)) before f left (Answers b (of_filter e) f before behind)
     split-answers true e none is = (
       parted j.input (Err e),
       inl (ap (λ (o : Result Cut FilterFault). parted j.input o) (sym is)),
-      refused_so (Ok (split_job j)) before behind (not-begun (none refl)) (of_filter e) f told,
+      refused_so (Ok (split_job j)) before behind (not-begun (none refl)) (of_filter e) f,
     )
     split-answers false e none fault = ⊎_elim
-        (λ not. (come, inl refl, nothing_yet (Ok (split_job j)) before behind (not-begun not) f come told))
+        (λ not. (come, inl refl, nothing_yet (Ok (split_job j)) before behind (not-begun not) come))
         (λ (x, is, (k, cut)). (parted j.input (Ok x), inl (comes x is), cut-first x is e k cut))
         fault
 
@@ -177,11 +180,11 @@ module _ (j : PlainSplitJob) (h : FinderView) (a : SourceView) (t w : TreeView) 
     unread = λ never. refl;
     taken = λ left told. (zero, omega arith, told);
     answers = λ f left told.
-        let (cut, is, put) = x.answers f told.files in
-        (parted j.input (Ok cut), inl (comes f left told.files cut is), put-all f left told.files cut is put);
+        let (cut, is, put) = x.answers f (told.files tt) in
+        (parted j.input (Ok cut), inl (comes f left (told.files tt) cut is), put-all f left (told.files tt) cut is put);
     images = λ f left told.
-        let (cut, is, put) = x.answers f told.files in
-        subst (λ (o : Outcome). LeavesAllowed before behind f o.effects) (comes f left told.files cut is) (λ g since. inr (put.leaves f told.files g since));
+        let (cut, is, put) = x.answers f (told.files tt) in
+        subst (λ (o : Outcome). LeavesAllowed before behind f o.effects) (comes f left (told.files tt) cut is) (λ g since. inr (put.leaves f (told.files tt) g since));
     cut = λ own. absurd (false≢true (sym own));
     tidy = λ none. x.tidy;
   })
@@ -197,8 +200,8 @@ module _ (j : PlainSplitJob) (h : FinderView) (a : SourceView) (t w : TreeView) 
     read = λ is. absurd (never-done e is);
     unread = λ never. refl;
     taken = λ left told. (zero, omega arith, told);
-    answers = λ f left told. subst (λ b. ByOutcome (Ok (split_job j)) before f left (Answers b (of_filter e) f before behind)) (sym (own-is e)) (split-answers f left told.files (is_refusal e) e x.refused (x.answers f told.files));
-    images = λ f left told. split-leaves f left told.files (is_refusal e) e x.refused (x.answers f told.files);
-    cut = λ own f left told. split-breaks f left told.files (is_refusal e) e (sym (own-is e) ∙ own) (x.answers f told.files);
+    answers = λ f left told. subst (λ b. ByOutcome (Ok (split_job j)) before f left (Answers b (of_filter e) f before behind)) (sym (own-is e)) (split-answers f left (told.files tt) (is_refusal e) e x.refused (x.answers f (told.files tt)));
+    images = λ f left told. split-leaves f left (told.files tt) (is_refusal e) e x.refused (x.answers f (told.files tt));
+    cut = λ own f left told. split-breaks f left (told.files tt) (is_refusal e) e (sym (own-is e) ∙ own) (x.answers f (told.files tt));
     tidy = λ none. split-tidy e x.tidy none;
   })

@@ -69,7 +69,7 @@ is_complete ReadFault cause f left told none answer = absurd (none.source cause.
 is_complete WriteFault cause f left told none answer = absurd (none.out cause)
 is_complete TreeFault cause f left told none answer = absurd (none.tree cause)
 is_complete ScratchFault cause f left told none answer = absurd cause
-is_complete (Disagree want got) cause f left told none answer = let never = sym told.files ∙ cause.1 in absurd (cc)
+is_complete (Disagree want got) cause f left told none answer = let never = sym (told.files cause.0) ∙ cause.2 in absurd (cc)
 is_complete Memory cause f left told none answer = inr refl
 is_complete Unsupported cause f left told none answer = inl answer
 
@@ -107,24 +107,24 @@ breaks_entry (Ok (stack_job op)) why f u w same = tt
 breaks_entry (Err fault) why f u w same = tt
 
 module _ (job : Result PlainToolJob WordFault) (u w : World) (same : IsAsAtEntry u w) where
-  pub nothing_yet : (f : Files) (o : Outcome) → u.tree.told ≡ Some f → FirstPart u w o
-  nothing_yet f o told = record {
+  pub nothing_yet : (o : Outcome) → FirstPart u w o
+  nothing_yet o = record {
     tells = λ f g was now. (zero, omega arith, subst (λ (x : Files). SameLasting f x) (same_Some _ _ (sym was ∙ sym same.told ∙ now)) (lasting-same f));
     said = λ b now. inr (zero, ap (λ (a : SinkView). a.told) same.out ∙ now ∙ ap (λ (l : List ℕ). Some l) (sym (append-nil b)));
   }
 
   -- a refusal leaves the files, and says nothing
-  pub refused_so : (why : Why) (f : Files) → u.tree.told ≡ Some f → IsAnswer why f u w (refused why)
-  refused_so why f told = record {
+  pub refused_so : (why : Why) (f : Files) → IsAnswer why f u w (refused why)
+  refused_so why f = record {
     is = refl;
     text = λ b now. ap (λ (a : SinkView). a.told) same.out ∙ now ∙ ap (λ (l : List ℕ). Some l) (sym (append-nil b));
-    files = same.told ∙ told;
+    files = λ told. same.told ∙ told;
   }
 
-  answers_early : (b : Bool) (why : Why) (f : Files) (left : List ℕ) → u.tree.told ≡ Some f → (b ≡ true → command u.finder.hit job f left ≡ refused why)
+  answers_early : (b : Bool) (why : Why) (f : Files) (left : List ℕ) → (b ≡ true → command u.finder.hit job f left ≡ refused why)
       → ByOutcome job u f left (Answers b why f u w)
-  answers_early true why f left told ends = (refused why, inl (sym (ends refl)), refused_so why f told)
-  answers_early false why f left told ends = (command u.finder.hit job f left, inl refl, nothing_yet f (command u.finder.hit job f left) told)
+  answers_early true why f left ends = (refused why, inl (sym (ends refl)), refused_so why f)
+  answers_early false why f left ends = (command u.finder.hit job f left, inl refl, nothing_yet (command u.finder.hit job f left))
 
 pub carries_early : (job : Result PlainToolJob WordFault) (t v : TreeView) (h : FinderView) (a : SourceView) (c : SinkView) (why : Why) → Opens t v → HasCause why job (world t h a c) (world v h a c)
     → (is_own why ≡ true → (f : Files) (left : List ℕ) → command h.hit job f left ≡ refused why) → (why ≡ Done → ⊥) → Carries job (world t h a c) (world v h a c) why
@@ -144,7 +144,7 @@ carries_early job t v h a c why opens cause ends going =
       read = λ is. absurd (going is);
       unread = λ never. refl;
       taken = λ left told. (zero, omega arith, told);
-      answers = λ f left told. answers_early job u w same (is_own why) why f left told.files (λ own. ends own f left);
+      answers = λ f left told. answers_early job u w same (is_own why) why f left (λ own. ends own f left);
       images = λ f left told d since. inl (opens.images d since);
       cut = λ own f left told. breaks_entry job why f u w same;
       tidy = λ none. tidy_same t v opens.told;

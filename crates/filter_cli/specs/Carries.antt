@@ -25,11 +25,11 @@ use Rattle.filter_cli.specs.Command.{Outcome, IsOutcome, command}
 use Rattle.filter_cli.specs.Worlds.{World, Tells}
 use Rattle.filter_cli.specs.Causes.{HasCause}
 
--- the answer of an outcome: its text, and the files after its effects
+-- the answer of an outcome: its text, and the files after its effects where they are told
 pub record IsAnswer (why : Why) (f : Files) (u w : World) (o : Outcome) : Type 0 where
   pub is : why ≡ o.why
   pub text : Receives u.out w.out o.text
-  pub files : w.tree.told ≡ Some (after_all o.effects f)
+  pub files : u.tree.told ≡ Some f → w.tree.told ≡ Some (after_all o.effects f)
 
 -- a first part of the effects and of the text
 pub record FirstPart (u w : World) (o : Outcome) : Type 0 where

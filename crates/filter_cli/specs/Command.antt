@@ -1,19 +1,24 @@
 -- What a filter comes to, by its words, the files of the tree and what standard input has left (manual pages of patchutils).
-use Rattle.std.specs.Prelude.{◌≡◌, ◌⊎◌, ℕ, List, [], Bool, Result, Ok, Err}
+use Rattle.std.specs.Prelude.{◌≡◌, ◌⊎◌, ℕ, List, [], Bool, Option, None, Some, Result, Ok, Err}
+use Rattle.hunk_core.specs.declared.Form.{Form}
 use Rattle.outside.specs.Files.{Files}
 use Rattle.outside.specs.FinderView.{FinderView}
 use Rattle.outside.specs.Quiet.{Effect}
 use Rattle.patch_options.specs.declared.options.WordFault.{WordFault}
-use Rattle.tool_words.specs.PlainJobs.{PlainToolJob}
+use Rattle.tool_words.specs.PlainJobs.{PlainFilterJob, PlainToolJob}
 use Rattle.tool_words.specs.PlainJobs.PlainToolJob.{list_job, filter_job, grep_job, split_job, recount_job, gen_job, flip_job, stack_job}
 use Rattle.patch_filters.specs.Selected.{numbered}
 use Rattle.filter_run.specs.declared.fault.FilterFault.{FilterFault}
 use Rattle.filter_run.specs.declared.fault.FilterFault.TheVariants as faults
+use Rattle.filter_run.specs.declared.form_fault.FormFault.{FormFault}
+use Rattle.filter_run.specs.declared.form_fault.FormFault.TheVariants as forms
+use Rattle.filter_run.specs.Converting.{convert_outcome}
 use Rattle.filter_run.specs.Outcomes.{HasPatches, given, list_outcome, filter_outcome, grep_outcome, recount_outcome}
+use Rattle.filter_run.specs.Flips.{flip_outcome}
 use Rattle.filter_run.specs.Parting.{part_lines, part_puts}
 use Rattle.filter_run.specs.Splits.{Cut, split_outcome}
 use Rattle.run_answers.specs.declared.why.Why.{Why}
-use Rattle.run_answers.specs.declared.why.Why.TheVariants.{Done, BadPattern, WriteFault, TreeFault, Memory, Unsupported}
+use Rattle.run_answers.specs.declared.why.Why.TheVariants.{Done, BadPattern, NoContext, Unfit, WriteFault, TreeFault, Memory, Unsupported}
 use Rattle.run_answers.specs.Answers.{of_words, of_input, of_set}
 use Rattle.filter_cli.specs.Jobs.{AsksFor, MayBeRefused}
 
@@ -31,6 +36,7 @@ refused why = record { why = why; text = []; effects = [] }
 abbrev pub of_filter : FilterFault → Why
 of_filter (faults.Input fault) = of_input fault
 of_filter (faults.Set fault) = of_set fault
+of_filter (faults.Unfit line) = Unfit line
 of_filter faults.Pattern = BadPattern
 of_filter faults.Tree = TreeFault
 of_filter faults.Write = WriteFault
@@ -46,6 +52,25 @@ abbrev pub written : Result (List ℕ) FilterFault → Outcome
 written (Ok text) = record { why = Done; text = text; effects = [] }
 written (Err fault) = refused (of_filter fault)
 
+-- the same of `filterdiff` with a form
+abbrev pub of_form : FormFault → Why
+of_form (forms.Filter fault) = of_filter fault
+of_form (forms.NoContext line) = NoContext line
+of_form (forms.Unfit line) = Unfit line
+
+abbrev pub why_formed : Result (Unit {0}) FormFault → Why
+why_formed (Ok done) = Done
+why_formed (Err fault) = of_form fault
+
+abbrev pub formed : Result (List ℕ) FormFault → Outcome
+formed (Ok text) = record { why = Done; text = text; effects = [] }
+formed (Err fault) = refused (of_form fault)
+
+-- `filterdiff`, with the form that it is asked for or without one
+abbrev pub in_form : Option Form → PlainFilterJob → Files → List ℕ → Outcome
+in_form None j files left = written (filter_outcome j files left)
+in_form (Some form) j files left = formed (convert_outcome form j files left)
+
 -- the parts of a text are put, and their names are written
 abbrev pub parted : List ℕ → Result Cut FilterFault → Outcome
 parted file (Ok x) = record { why = Done; text = part_lines file (numbered x.1); effects = part_puts file x.0 (numbered x.1) }
@@ -54,12 +79,12 @@ parted file (Err fault) = refused (of_filter fault)
 -- what a job comes to, for what the finder hits
 abbrev pub on_job : (List ℕ → List ℕ → Bool) → PlainToolJob → Files → List ℕ → Outcome
 on_job hit (list_job j) files left = written (list_outcome j files left)
-on_job hit (filter_job j) files left = written (filter_outcome j files left)
+on_job hit (filter_job j) files left = in_form j.format j files left
 on_job hit (grep_job j) files left = written (grep_outcome hit j files left)
 on_job hit (split_job j) files left = parted j.input (split_outcome j files)
 on_job hit (recount_job input) files left = written (recount_outcome input files left)
 on_job hit (gen_job j) files left = refused Unsupported
-on_job hit (flip_job input) files left = refused Unsupported
+on_job hit (flip_job input) files left = written (flip_outcome input files left)
 on_job hit (stack_job op) files left = refused Unsupported
 
 -- what the words come to that ask for this

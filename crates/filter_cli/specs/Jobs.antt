@@ -1,5 +1,6 @@
 -- What the words of a filter ask for, as far as it is built, and what a job reads.
-use Rattle.std.specs.Prelude.{◌≡◌, ℕ, List, Bool, true, false, is_none, if◌then◌else◌, Result, Ok, Err}
+use Rattle.std.specs.Prelude.{◌≡◌, ℕ, List, Bool, true, false, if◌then◌else◌, Some, Result, Ok, Err}
+use Rattle.hunk_core.specs.declared.Form.{Form}
 use Rattle.outside.specs.FinderView.{FinderView}
 use Rattle.patch_options.specs.declared.options.WordFault.{WordFault}
 use Rattle.patch_options.specs.declared.options.WordFault.TheVariants.{Unsupported}
@@ -7,20 +8,23 @@ use Rattle.tool_words.specs.PlainJobs.{PlainToolJob}
 use Rattle.tool_words.specs.PlainJobs.PlainToolJob.{list_job, filter_job, grep_job, split_job, recount_job, gen_job, flip_job, stack_job}
 use Rattle.tool_words.specs.Words.{tool_job}
 use Rattle.patch_input.specs.Input.{IsStandard}
-use Rattle.patch_set.specs.declared.fault.SetFault.{SetFault}
+use Rattle.filter_run.specs.declared.fault.FilterFault.{FilterFault}
+use Rattle.format_convert.specs.declared.fault.ConvertFault.{ConvertFault}
+use Rattle.filter_run.specs.Converting.{HasFormCause}
 use Rattle.filter_run.specs.Outcomes.{no_selection}
-use Rattle.filter_run.specs.Sifting.{HasTextCause, HasSetCause, HasCountCause}
+use Rattle.filter_run.specs.Sifting.{HasRefusal, HasTextCause, HasCountCause}
 use Rattle.filter_run.specs.Sifting as sifting
+use Rattle.filter_run.specs.Flips.{HasFlipCause}
 
 -- the job is built
 abbrev pub is_built : PlainToolJob → Bool
 is_built (list_job j) = true
-is_built (filter_job j) = is_none j.format
+is_built (filter_job j) = true
 is_built (grep_job j) = true
 is_built (split_job j) = true
 is_built (recount_job input) = true
 is_built (gen_job j) = false
-is_built (flip_job input) = false
+is_built (flip_job input) = true
 is_built (stack_job op) = false
 
 -- what isn't built isn't supported
@@ -45,7 +49,7 @@ IsFromSource (grep_job j) = IsStandard j.input
 IsFromSource (split_job j) = ⊥
 IsFromSource (recount_job input) = IsStandard input
 IsFromSource (gen_job j) = ⊥
-IsFromSource (flip_job input) = ⊥
+IsFromSource (flip_job input) = IsStandard input
 IsFromSource (stack_job op) = ⊥
 
 abbrev pub ReadsSource : Result PlainToolJob WordFault → Type 0
@@ -59,19 +63,31 @@ NamesFile (grep_job j) = sifting.NamesFile j.input j.select
 NamesFile (split_job j) = Unit {0}
 NamesFile (recount_job input) = sifting.NamesFile input no_selection
 NamesFile (gen_job j) = ⊥
-NamesFile (flip_job input) = ⊥
+NamesFile (flip_job input) = sifting.NamesFile input no_selection
 NamesFile (stack_job op) = ⊥
 
--- some text is refused so: `lsdiff`, `filterdiff` and `grepdiff` take one without file patches, and `recountdiff` refuses bad hunks alone
-abbrev pub MayFault : PlainToolJob → SetFault → Type 0
+-- some text is refused so: `lsdiff`, `filterdiff` and `grepdiff` take one without file patches, `recountdiff` refuses bad hunks alone, and
+-- `reversediff` refuses also what can't be turned round
+abbrev pub MayFault : PlainToolJob → FilterFault → Type 0
 MayFault (list_job j) fault = HasTextCause fault
 MayFault (filter_job j) fault = HasTextCause fault
 MayFault (grep_job j) fault = HasTextCause fault
-MayFault (split_job j) fault = HasSetCause fault
+MayFault (split_job j) fault = HasRefusal fault
 MayFault (recount_job input) fault = HasCountCause fault
 MayFault (gen_job j) fault = ⊥
-MayFault (flip_job input) fault = ⊥
+MayFault (flip_job input) fault = HasFlipCause fault
 MayFault (stack_job op) fault = ⊥
+
+-- some text can't be written so in the form that is asked for
+abbrev pub MayMisfit : PlainToolJob → ConvertFault → Type 0
+MayMisfit (list_job j) fault = ⊥
+MayMisfit (filter_job j) fault = (form : Form) × (j.format ≡ Some form) × HasFormCause form j fault
+MayMisfit (grep_job j) fault = ⊥
+MayMisfit (split_job j) fault = ⊥
+MayMisfit (recount_job input) fault = ⊥
+MayMisfit (gen_job j) fault = ⊥
+MayMisfit (flip_job input) fault = ⊥
+MayMisfit (stack_job op) fault = ⊥
 
 -- it looks for a pattern
 abbrev pub HasPattern : PlainToolJob → Type 0

@@ -7,7 +7,7 @@ use Rattle.outside.specs.SourceView.{SourceView}
 use Rattle.outside.specs.SinkView.{SinkView}
 use Rattle.patch_options.specs.declared.options.WordFault.{WordFault}
 use Rattle.tool_words.specs.PlainJobs.{PlainToolJob}
-use Rattle.filter_cli.specs.Jobs.{ReadsSource}
+use Rattle.filter_cli.specs.Jobs.{AsksFor, NamesFile, ReadsSource}
 
 -- what the devices of a filter are seen as at one moment
 pub record World : Type 1 where
@@ -19,7 +19,7 @@ pub record World : Type 1 where
 abbrev pub world : TreeView → FinderView → SourceView → SinkView → World
 world tree finder source out = record { tree = tree; finder = finder; source = source; out = out }
 
--- the tree tells these files, and standard input what it has left, where it is read
+-- the tree tells these files where one of them is read, and standard input what it has left where that is read
 pub record Tells (job : Result PlainToolJob WordFault) (w : World) (f : Files) (left : List ℕ) : Type 0 where
-  pub files : w.tree.told ≡ Some f
+  pub files : AsksFor job NamesFile → w.tree.told ≡ Some f
   pub source : ReadsSource job → w.source.told ≡ Some left

@@ -11,7 +11,7 @@ ghost use Rattle.filter_cli.specs.Worlds.{world, Tells};
 ghost use Rattle.filter_cli.specs.Carries.{Carries};
 
 use crate::reading::read_job;
-use crate::tools::{filterdiff, grepdiff, lsdiff, recountdiff, splitdiff};
+use crate::tools::{filterdiff, grepdiff, lsdiff, recountdiff, reversediff, splitdiff};
 use outside::{Finder, Sink, Source, Tree};
 use run_answers::{Why, settle};
 use std::alloc::Global;
@@ -91,6 +91,7 @@ fn run_settled<T: Tree, F: Finder, I: Source, O: Sink>(
         ToolJob::Grep(job) => grepdiff(alloc, job, tree, finder, source, out),
         ToolJob::Split(job) => splitdiff(alloc, &job, tree, out),
         ToolJob::Recount(input) => recountdiff(alloc, &input, tree, source, out),
+        ToolJob::Flip(input) => reversediff(alloc, &input, tree, source, out),
         _ => Why::Unsupported,
     }
 }

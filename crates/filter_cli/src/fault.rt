@@ -1,8 +1,8 @@
 //! The answers that the faults of a filter are.
 ghost use Rattle.std.specs.Prelude.{◌≡◌};
-ghost use Rattle.filter_cli.specs.Command.{of_filter, why_by};
+ghost use Rattle.filter_cli.specs.Command.{of_filter, why_by, why_formed};
 
-use filter_run::FilterFault;
+use filter_run::{FilterFault, FormFault};
 use run_answers::Why;
 
 pub fn why_of(fault: FilterFault) -> Why
@@ -11,6 +11,7 @@ pub fn why_of(fault: FilterFault) -> Why
     match fault {
         FilterFault::Input(fault) => Why::from(fault),
         FilterFault::Set(fault) => Why::from(fault),
+        FilterFault::Unfit { line } => Why::Unfit { line },
         FilterFault::Pattern => Why::BadPattern,
         FilterFault::Tree => Why::TreeFault,
         FilterFault::Write => Why::WriteFault,
@@ -25,5 +26,17 @@ pub fn answer(ended: Result<(), FilterFault>) -> Why
     match ended {
         Ok(()) => Why::Done,
         Err(fault) => why_of(fault),
+    }
+}
+
+/// The same of `filterdiff` with a form.
+pub fn form_answer(ended: Result<(), FormFault>) -> Why
+    ensures { result ≡ why_formed ended }
+{
+    match ended {
+        Ok(()) => Why::Done,
+        Err(FormFault::Filter(fault)) => why_of(fault),
+        Err(FormFault::NoContext { line }) => Why::NoContext { line },
+        Err(FormFault::Unfit { line }) => Why::Unfit { line },
     }
 }

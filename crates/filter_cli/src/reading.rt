@@ -36,8 +36,7 @@ fn is_built(job: &ToolJob) -> bool
     ensures { result ≡ is_built (plain_tool_job job.now) }
 {
     match job {
-        ToolJob::Filter(job) => job.format.is_none(),
-        ToolJob::Gen(_) | ToolJob::Flip(_) | ToolJob::Stack(_) => false,
+        ToolJob::Gen(_) | ToolJob::Stack(_) => false,
         _ => true,
     }
 }

@@ -1,18 +1,19 @@
 //! Each filter, from its job to its answer, on a settled tree.
-ghost use Rattle.std.specs.Prelude.{◌≡◌, ℕ, List, None, Ok};
+ghost use Rattle.std.specs.Prelude.{◌≡◌, ℕ, List, None, Some, Ok};
 ghost use Rattle.outside.specs.Files.{Files};
 ghost use Rattle.outside.specs.FinderView.{FinderView};
 ghost use Rattle.outside.specs.Quiet.{IsQuiet};
 ghost use Rattle.outside.specs.SourceView.{SourceView};
 ghost use Rattle.patch_input.specs.Input.{IsFile};
 ghost use Rattle.tool_words.specs.PlainJobs.{plain_filter_job, plain_grep_job, plain_list_job, plain_split_job};
-ghost use Rattle.tool_words.specs.PlainJobs.PlainToolJob.{list_job, filter_job, grep_job, split_job, recount_job};
+ghost use Rattle.tool_words.specs.PlainJobs.PlainToolJob.{list_job, filter_job, grep_job, split_job, recount_job, flip_job};
 ghost use Rattle.filter_cli.specs.Carries.{Carries};
 ghost use Rattle.filter_cli.specs.Command.{Searches};
 ghost use Rattle.filter_cli.specs.Worlds.{world, Tells};
 
-use crate::fault::answer;
-use filter_run::{run_filter, run_grep, run_list, run_recount, run_split};
+use crate::fault::{answer, form_answer};
+use filter_run::{run_convert, run_filter, run_flip, run_grep, run_list, run_recount, run_split};
+use hunk_core::Form;
 use outside::{Finder, Sink, Source, Tree};
 use patch_options::Input;
 use run_answers::Why;
@@ -41,6 +42,25 @@ pub fn filterdiff<T: Tree, I: Source, O: Sink>(
     source: &mut I,
     out: &mut O,
 ) -> Why
+    requires quiet { IsQuiet (T.view tree.old) }
+    ensures carries { (v : FinderView) → Carries (Ok (filter_job (plain_filter_job job))) (world (T.view tree.old) v (I.view source.old) (O.view out.old)) (world (T.view tree.new) v (I.view source.new) (O.view out.new)) result }
+    ensures unread { IsFile job.input → source.new ≡ source.old }
+    ensures rest { O.same_rest out.old out.new }
+{
+    match job.format {
+        None => as_it_is(alloc, job, tree, source, out),
+        Some(form) => in_form(alloc, job, form, tree, source, out),
+    }
+}
+
+/// `filterdiff` without a form.
+fn as_it_is<T: Tree, I: Source, O: Sink>(
+    alloc: Global,
+    job: FilterJob,
+    tree: &mut T,
+    source: &mut I,
+    out: &mut O,
+) -> Why
     requires format { job.format ≡ None }
     requires quiet { IsQuiet (T.view tree.old) }
     ensures carries { (v : FinderView) → Carries (Ok (filter_job (plain_filter_job job))) (world (T.view tree.old) v (I.view source.old) (O.view out.old)) (world (T.view tree.new) v (I.view source.new) (O.view out.new)) result }
@@ -48,6 +68,24 @@ pub fn filterdiff<T: Tree, I: Source, O: Sink>(
     ensures rest { O.same_rest out.old out.new }
 {
     answer(run_filter(alloc, job, tree, source, out))
+}
+
+/// `filterdiff` with this form.
+fn in_form<T: Tree, I: Source, O: Sink>(
+    alloc: Global,
+    job: FilterJob,
+    form: Form,
+    tree: &mut T,
+    source: &mut I,
+    out: &mut O,
+) -> Why
+    requires format { job.format ≡ Some form }
+    requires quiet { IsQuiet (T.view tree.old) }
+    ensures carries { (v : FinderView) → Carries (Ok (filter_job (plain_filter_job job))) (world (T.view tree.old) v (I.view source.old) (O.view out.old)) (world (T.view tree.new) v (I.view source.new) (O.view out.new)) result }
+    ensures unread { IsFile job.input → source.new ≡ source.old }
+    ensures rest { O.same_rest out.old out.new }
+{
+    form_answer(run_convert(alloc, job, form, tree, source, out))
 }
 
 pub fn grepdiff<T: Tree, F: Finder, I: Source, O: Sink>(
@@ -88,4 +126,19 @@ pub fn recountdiff<T: Tree, I: Source, O: Sink>(
     ensures rest { O.same_rest out.old out.new }
 {
     answer(run_recount(alloc, input, tree, source, out))
+}
+
+pub fn reversediff<T: Tree, I: Source, O: Sink>(
+    alloc: Global,
+    input: &Input,
+    tree: &mut T,
+    source: &mut I,
+    out: &mut O,
+) -> Why
+    requires quiet { IsQuiet (T.view tree.old) }
+    ensures carries { (v : FinderView) → Carries (Ok (flip_job input.now)) (world (T.view tree.old) v (I.view source.old) (O.view out.old)) (world (T.view tree.new) v (I.view source.new) (O.view out.new)) result }
+    ensures unread { IsFile input.now → source.new ≡ source.old }
+    ensures rest { O.same_rest out.old out.new }
+{
+    answer(run_flip(alloc, input, tree, source, out))
 }

@@ -9,9 +9,9 @@ use Rattle.unified_form.specs.Ranges.{is_opening}
 use Rattle.context_form.specs.Openings.{is_stars, has_number, opens_old}
 use Rattle.normal_form.specs.Hunks.{is_marked}
 use Rattle.patch_header.specs.Openings.{begins}
-use Rattle.patch_header.proofs.Stands.{front, and_left, or_cases}
+use Rattle.patch_header.proofs.Fronts.{front, and_left, or_cases, after-front, unified-front, context-front, range-front, normal-range, ed-range}
 use Rattle.text_joins.proofs.Quiet.{LookAlike}
-use Rattle.text_joins.proofs.Solid.{is_no, after-front, unified-front, context-front, range-front, normal-range, ed-range, digit-low, form-front, front-solid, solid-shows, solid-alike}
+use Rattle.text_joins.proofs.Solid.{is_no, digit-low, form-front, front-solid, solid-shows, solid-alike}
 
 no-number : (o : Option (List ℕ)) → (is_some o ≡ true → ⊥) → has_number o ≡ false
 no-number None h = refl

@@ -14,13 +14,13 @@ use Rattle.ed_form.specs.declared.command.Command.{Command}
 use Rattle.ed_form.specs.Commands.{parts_at, is_command}
 use Rattle.patch_header.specs.Content.{has_dot}
 use Rattle.patch_header.specs.GitHeaders.{is_git_line, is_extended, extended_run, behind_run, git_header, action_of, is_plain, has_names, begins_bare}
-use Rattle.patch_header.specs.Openings.{admits, takes_text, asks_dot, begins, opens, stop_at}
+use Rattle.patch_header.specs.Openings.{admits, takes_text, asks_dot, begins, begins_binary, opens, stop_at}
 use Rattle.patch_header.specs.Region.{rows}
 use Rattle.patch_header.specs.Steps.{AreQuiet, IsFirstOpening, region_of}
 use Rattle.patch_header.specs.declared.header.Header.{Header}
 use Rattle.patch_header.specs.declared.openings.Stop.TheVariants.{Opening, Bare}
 use Rattle.patch_header.specs.declared.ways.Ways.{Ways}
-use Rattle.patch_header.proofs.Stands.{and_left, and_right, opening-words, bare-words, nothing-words, stop-end}
+use Rattle.patch_header.proofs.Stands.{and_left, and_right, opening-words, bare-words, nothing-words, stop-end, stops-begins, stops-by}
 use Rattle.patch_header.proofs.GitWords.{all-words}
 use Rattle.patch_header.proofs.ScanLemmas.{run-more, run-stops, run-none}
 use Rattle.file_patch.specs.PlainPatch.{PlainChange, PlainPatch, hunks, header_of}
@@ -99,10 +99,10 @@ bare-again : (ways : Ways) (rest : List (List ℕ)) → stop_at ways rest ≡ So
 bare-again ways [] h = absurd (let none : stop_at ways [] ≡ None = stop-end ways in cc)
 bare-again ways (line ∷ more) h =
     let git = (bare-words ways (line ∷ more)).0 h in
-    let two = bare-alone line more (and_right ways.git _ git) in
+    let two = bare-alone line more (stops-begins ways (line ∷ more) git) in
     let solid = git-solid line two.0 in (
       solid-alike (line ∷ more) (line ∷ (extended_run more ++ [])) refl refl refl (solid-shows line more solid) (solid-shows line (extended_run more ++ []) solid),
-      (bare-words ways (line ∷ (extended_run more ++ []))).1 (ap (λ v. v && begins_bare (line ∷ (extended_run more ++ []))) (and_left ways.git _ git) ∙ two.1),
+      (bare-words ways (line ∷ (extended_run more ++ []))).1 (stops-by ways (line ∷ (extended_run more ++ [])) (and_left ways.git _ git) two.1 (ap begins_binary (run-again more).1)),
       ap (λ ls. line ∷ ls) (sym (run-again more).0),
     )
 

@@ -1,8 +1,11 @@
 -- What is written of a set is told by its text.
 use Rattle.std.proofs.Common.{◌≡◌, ℕ, ◌+◌, Bool, cond, List, [], ◌∷◌, ◌++◌, length, map, refl, sym, ap, ◌∙◌}
-use Rattle.std.specs.Prelude.{◌==◌, filter, if◌then◌else◌}
+use Rattle.std.specs.Prelude.{◌==◌, filter, if◌then◌else◌, reverse}
 use Rattle.std.specs.List.{flat_map, list_any, range_with_len, zip}
+use Rattle.std.proofs.lemmas.List.{map-append, reverse-append}
 use Rattle.std.proofs.lemmas.List.Concat.{flat_map-cons}
+use Rattle.std.proofs.lemmas.List.Folds.{flat_map-map}
+use Rattle.hunk_core.specs.declared.Form.{Form}
 use Rattle.file_patch.specs.declared.FilePatch.{FilePatch}
 use Rattle.file_patch.specs.PlainPatch.{PlainPatch, change_of, patch_of, row_count}
 use Rattle.patch_text.specs.Patches.{patches_of}
@@ -16,10 +19,17 @@ use Rattle.patch_filters.specs.Grepped.{found_text, grepped, hits_of, is_found}
 use Rattle.patch_filters.specs.Kept.{kept}
 use Rattle.patch_filters.specs.Selected.{numbered}
 use Rattle.patch_filters.proofs.Rows.{flat-if, filtered-is}
+use Rattle.flip_patch.specs.Flipped.{flipped}
+use Rattle.change_commands.specs.Taken.{left_patches}
+use Rattle.format_convert.specs.Converted.{converted, written_if}
+use Rattle.format_convert.specs.Refusals.{refusal as form_refusal}
+use Rattle.format_convert.proofs.RowLemmas.{converted-is}
 use Rattle.split_recount.specs.Parts.{between, cuts_behind, parts, row_of}
 use Rattle.tool_words.specs.PlainJobs.{PlainFilterJob, PlainGrepJob}
 use Rattle.tool_words.specs.declared.jobs.GrepOut.{GrepOut}
 use Rattle.tool_words.specs.declared.jobs.GrepOut.TheVariants.{Names, Hunks, Files}
+use Rattle.filter_run.specs.Flips.{flipped_in, spot_flipped}
+use Rattle.filter_run.specs.Converting.{converted_in, form_refused, spot_converted}
 use Rattle.filter_run.specs.Texts.{defaults, read_patches, patches_in, regions_in, Spot, spots_in, spot_written, is_spot_taken, filtered_in, spot_found, grepped_in, row_at, parts_in}
 
 -- a file patch of a set, as it is in the text
@@ -67,6 +77,13 @@ rows-same : (text : List ℕ) (ps : List FilePatch) → map (row_of text) ps ≡
 rows-same text [] = refl
 rows-same text (p ∷ ps) = ap (λ (rs : List (ℕ × List ℕ)). row_of text p ∷ rs) (rows-same text ps)
 
+reverse-map : {A B : Type 0} (f : A → B) (xs : List A) → reverse (map f xs) ≡ map f (reverse xs)
+reverse-map f [] = refl
+reverse-map f (x ∷ xs) =
+    reverse-append (f x ∷ []) (map f xs)
+    ∙ ap (λ ys. ys ++ (f x ∷ [])) (reverse-map f xs)
+    ∙ sym (ap (map f) (reverse-append (x ∷ []) xs) ∙ map-append f (reverse xs) (x ∷ []))
+
 -- ---- a set that was read
 
 module _ (text : List ℕ) (v : SetView) (read : IsRead defaults text v) where
@@ -99,8 +116,27 @@ module _ (text : List ℕ) (v : SetView) (read : IsRead defaults text v) where
       ∙ ap (λ (ss : List Spot). flat_map (spot_found hit j.output v.text) (filter (λ s. is_found hit j s.1) ss)) (sym spots-by)
       ∙ ap (λ (t : List ℕ). flat_map (spot_found hit j.output t) (filter (λ s. is_found hit j s.1) (spots_in text))) read.text
 
+  pub form-by : (form : Form) (j : PlainFilterJob) → form_refusal form (left_patches j (plain_patches v)) ≡ form_refused form j text
+  form-by form j = ap (λ (ps : List PlainPatch). form_refusal form (left_patches j ps)) (sym patches-by)
+
+  pub converted-by : (form : Form) (j : PlainFilterJob) → converted form j v ≡ converted_in form j text
+  unfolding converted_in
+  converted-by form j =
+      converted-is form j v
+      ∙ numbered-same v.text (written_if form j v.text) (spot_converted form j v.text) (λ n start before p at. refl) 0 0 0 v.patches read.spans
+      ∙ ap (λ (ss : List Spot). flat_map (spot_converted form j v.text) (zip (range_with_len 0 (length ss)) ss)) (sym spots-by)
+      ∙ ap (λ (t : List ℕ). flat_map (spot_converted form j t) (zip (range_with_len 0 (length (spots_in text))) (spots_in text))) read.text
+
   pub parts-by : (every : Bool) → parts every v ≡ parts_in every text
   unfolding parts_in
   parts-by every =
       ap (λ (rows : List (ℕ × List ℕ)). if length v.text == 0 then [] else between 0 (cuts_behind every rows) (length v.text)) (rows-same v.text v.patches ∙ ap (map (row_at v.text)) (sym regions-by))
       ∙ ap (λ (t : List ℕ). if length t == 0 then [] else between 0 (cuts_behind every (map (row_at t) (regions_in text))) (length t)) read.text
+
+  pub flipped-by : flipped v ≡ flipped_in text
+  unfolding flipped flipped_in
+  flipped-by =
+      sym (flat_map-map (spot_flipped v.text) (spot v.text) (reverse v.patches))
+      ∙ ap (flat_map (spot_flipped v.text)) (sym (reverse-map (spot v.text) v.patches))
+      ∙ ap (λ (ss : List Spot). flat_map (spot_flipped v.text) (reverse ss)) (sym spots-by)
+      ∙ ap (λ (t : List ℕ). flat_map (spot_flipped t) (reverse (spots_in text))) read.text

@@ -23,6 +23,7 @@ use Rattle.patch_input.specs.declared.fault.InputFault.TheVariants.{NoPatchFile,
 use Rattle.patch_input.specs.Input.{answer_of, HasFileCause}
 use Rattle.patch_filters.specs.Grepped.{content}
 use Rattle.filter_run.specs.Outcomes.{pattern_of, patterns_by, patterns_of, patterns_in, selection, with_patterns}
+use Rattle.filter_run.specs.Sifting.{NamesPatterns}
 use Rattle.filter_run.specs.Patterns.{Adds, HasPatternCause, HasSelectionCause}
 
 -- ---- a line and its line feed
@@ -91,10 +92,10 @@ patterns-read f name text is le = ap patterns_by (ap answer_of is ∙ answer-sho
 
 pub file-cause : (e : InputFault) (t u : TreeView) (name : List ℕ) → HasFileCause e t u name → HasPatternCause e (Some name) t u
 file-cause NoPatchFile t u name h = (λ e. none-some name (sym e), λ f told. ap patterns_by (h f told))
-file-cause TooLong t u name h = λ f told. ap patterns_by (h f told)
+file-cause TooLong t u name h = (λ e. none-some name (sym e), λ f told. ap patterns_by (h f told))
 file-cause Source t u name h = h
 file-cause Tree t u name h = h
-file-cause (Disagree want got) t u name h = h
+file-cause (Disagree want got) t u name h = (λ e. none-some name (sym e), h.0, h.1)
 file-cause Memory t u name h = tt
 
 -- ---- both files
@@ -113,25 +114,25 @@ module _ (s : PlainSelect) (f : Files) where
 
 pub include-cause : (e : InputFault) (s : PlainSelect) (t u : TreeView) → HasPatternCause e s.include_file t u → HasSelectionCause e s t u
 include-cause NoPatchFile s t u h = (inl h.0, λ f told. include-fails s f NoPatchFile (h.1 f told))
-include-cause TooLong s t u h = λ f told. include-fails s f TooLong (h f told)
+include-cause TooLong s t u h = (inl h.0, λ f told. include-fails s f TooLong (h.1 f told))
 include-cause Source s t u h = h
 include-cause Tree s t u h = h
-include-cause (Disagree want got) s t u h = h
+include-cause (Disagree want got) s t u h = (inl h.0, h.1, h.2)
 include-cause Memory s t u h = tt
 
 -- the patterns to be included are there
 abbrev pub AreIncluded : PlainSelect → TreeView → Type 0
-AreIncluded s t = (f : Files) → t.told ≡ Some f → (include : List (List ℕ)) × (patterns_of s.include_file f ≡ Ok include)
+AreIncluded s t = (f : Files) → (s.include_file ≢ None → t.told ≡ Some f) → (include : List (List ℕ)) × (patterns_of s.include_file f ≡ Ok include)
 
 pub included : (s : PlainSelect) (t : TreeView) (name : Option (List ℕ)) (old new : List (List ℕ)) → name ≡ s.include_file → Adds name t old new → AreIncluded s t
-included s t name old new is adds f told = let h = adds f told in (h.0, sym (ap (λ n. patterns_of n f) is) ∙ h.1)
+included s t name old new is adds f told = let h = adds f (λ named. told (λ none. named (is ∙ none))) in (h.0, sym (ap (λ n. patterns_of n f) is) ∙ h.1)
 
 pub exclude-cause : (e : InputFault) (s : PlainSelect) (t u v : TreeView) → IsUntouched t u → AreIncluded s t → HasPatternCause e s.exclude_file u v → HasSelectionCause e s t v
-exclude-cause NoPatchFile s t u v same there h = (inr h.0, λ f told. let included = there f told in exclude-fails s f NoPatchFile included.0 included.1 (h.1 f (same.told ∙ told)))
-exclude-cause TooLong s t u v same there h = λ f told. let included = there f told in exclude-fails s f TooLong included.0 included.1 (h f (same.told ∙ told))
+exclude-cause NoPatchFile s t u v same there h = (inr h.0, λ f told. let included = there f (λ named. told) in exclude-fails s f NoPatchFile included.0 included.1 (h.1 f (same.told ∙ told)))
+exclude-cause TooLong s t u v same there h = (inr h.0, λ f told. let included = there f (λ named. told) in exclude-fails s f TooLong included.0 included.1 (h.1 f (same.told ∙ told)))
 exclude-cause Source s t u v same there h = h
 exclude-cause Tree s t u v same there h = rises_then t u v same.passes h
-exclude-cause (Disagree want got) s t u v same there h = (h.0, sym same.told ∙ h.1)
+exclude-cause (Disagree want got) s t u v same there h = (inr h.0, h.1, sym same.told ∙ h.2)
 exclude-cause Memory s t u v same there h = tt
 
 -- the same selection with these patterns
@@ -146,9 +147,9 @@ select_with s include exclude = record {
 }
 
 pub chosen : (s : PlainSelect) (t u : TreeView) → IsUntouched t u → (name other : Option (List ℕ)) → name ≡ s.include_file → other ≡ s.exclude_file → (include exclude : List (List ℕ)) → Adds name t s.include include → Adds other u s.exclude exclude
-    → (f : Files) → t.told ≡ Some f → selection s f ≡ Ok (select_with s include exclude)
+    → (f : Files) → (NamesPatterns s → t.told ≡ Some f) → selection s f ≡ Ok (select_with s include exclude)
 chosen s t u same name other is is2 include exclude adds adds2 f told =
-    let a = adds f told in
-    let b = adds2 f (same.told ∙ told) in
+    let a = adds f (λ named. told (inl (λ none. named (is ∙ none)))) in
+    let b = adds2 f (λ named. same.told ∙ told (inr (λ none. named (is2 ∙ none)))) in
     selection-is s f a.0 b.0 (sym (ap (λ n. patterns_of n f) is) ∙ a.1) (sym (ap (λ n. patterns_of n f) is2) ∙ b.1)
     ∙ ap (λ x. Ok (select_with s x (s.exclude ++ b.0))) (sym a.2) ∙ ap (λ x. Ok (select_with s include x)) (sym b.2)

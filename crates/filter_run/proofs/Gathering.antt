@@ -27,22 +27,22 @@ IsUnread text e = (e ≡ Memory) ⊎ ((e ≢ Garbage) × (refusal defaults text 
 
 -- the text and the selection that are given, wherever they are told
 abbrev pub AreGiven : Input → PlainSelect → PlainSelect → TreeView → SourceView → List ℕ → Type 0
-AreGiven i old new t a text = (f : Files) (left : List ℕ) → IsTold i t a f left → given i old f left ≡ Ok (text, new)
+AreGiven i old new t a text = (f : Files) (left : List ℕ) → IsTold i old t a f left → given i old f left ≡ Ok (text, new)
 
 module _ (i : Input) (old new : PlainSelect) (t : TreeView) (a : SourceView) (text : List ℕ) (are : AreGiven i old new t a text) where
-  pub garbage-opened : refusal defaults text ≡ Some Garbage → (f : Files) (left : List ℕ) → IsTold i t a f left → IsGarbage new (given i old f left)
+  pub garbage-opened : refusal defaults text ≡ Some Garbage → (f : Files) (left : List ℕ) → IsTold i old t a f left → IsGarbage new (given i old f left)
   garbage-opened is f left told = record { text = text; is = are f left told; garbage = is }
 
-  pub set-opened : (v : SetView) → IsRead defaults text v → refusal defaults text ≡ None → (f : Files) (left : List ℕ) → IsTold i t a f left → IsReadOf v new (given i old f left)
+  pub set-opened : (v : SetView) → IsRead defaults text v → refusal defaults text ≡ None → (f : Files) (left : List ℕ) → IsTold i old t a f left → IsReadOf v new (given i old f left)
   set-opened v read free f left told = record { text = text; is = are f left told; free = free; read = read }
 
-  pub text-refused-so : (e : SetFault) → IsUnread text e → is_refusal (faults.Set e) ≡ true → (f : Files) (left : List ℕ) → IsTold i t a f left → IsRefusedText e (given i old f left)
+  pub text-refused-so : (e : SetFault) → IsUnread text e → is_refusal (faults.Set e) ≡ true → (f : Files) (left : List ℕ) → IsTold i old t a f left → IsRefusedText e (given i old f left)
   text-refused-so e is refuses f left told = ⊎_elim
       (λ (memory : e ≡ Memory). absurd (let h : is_refusal (faults.Set Memory) ≡ true = sym (ap (λ x. is_refusal (faults.Set x)) memory) ∙ refuses in cc))
       (λ (here : (e ≢ Garbage) × (refusal defaults text ≡ Some e)). record { text = text; select = new; is = are f left told; refused = here.1; some = here.0 })
       is
 
-pub unread-cause : (text : List ℕ) (e : SetFault) → IsUnread text e → HasTextCause e
+pub unread-cause : (text : List ℕ) (e : SetFault) → IsUnread text e → HasTextCause (faults.Set e)
 unread-cause text (Malformed line kind) (inl never) = absurd (cc)
 unread-cause text (Malformed line kind) (inr is) = (text, is.1)
 unread-cause text Garbage (inl never) = absurd (cc)
@@ -64,7 +64,7 @@ fault-is r e is = let q = err_from_is_err_and r is in q.1 ∙ ap (λ f. Err f) q
 -- ---- the whole opening
 module _ (i : Input) (old new : PlainSelect) (t u : TreeView) (a b : SourceView) (same : IsUntouched t u) (source : SourcePasses a b) (taken : TakesAtMost 268435457 a b) where
   pub opens-ungiven : (r : Result (Option SetView) FilterFault) (e : InputFault) → IsErrAnd r (λ f. f ≡ faults.Input e)
-      → (is_refusal (faults.Input e) ≡ true → (f : Files) (left : List ℕ) → IsTold i t a f left → given i old f left ≡ Err e) → HasInputCause e i old t u a b → Opens i old new t u a b r
+      → (is_refusal (faults.Input e) ≡ true → (f : Files) (left : List ℕ) → IsTold i old t a f left → given i old f left ≡ Err e) → HasInputCause e i old t u a b → Opens i old new t u a b r
   opens-ungiven r e is refused cause = rw (fault-is r (faults.Input e) is) record {
     untouched = same;
     source = source;

@@ -191,6 +191,7 @@ module _ (file text : List ℕ) where
         cut : (e : FilterFault) → PutsPart (part_put file text row) (part_line file row) u w d b (Err e) → PutsParts file text all t w c b (Err e)
         cut (faults.Input fault) part = absurd part.err
         cut (faults.Set fault) part = absurd part.err
+        cut (faults.Unfit line) part = absurd part.err
         cut faults.Pattern part = absurd part.err
         cut faults.Tree part = record {
           tree = passes_both before.tree part.tree;

@@ -29,7 +29,7 @@ module _ (i : Input) (t u : TreeView) (a b : SourceView) (same : IsUntouched t u
     taken = taken;
     sink = sink_passes_none c;
     early = λ is. refl;
-    answers = λ f left told. answers-none (is_refusal (faults.Input e)) (faults.Input e) (IsOutcomeOf (recount_outcome i) f left) c (λ refuses. sym (ap recounted_from (text-refused e i t u a b h refuses f left told)));
+    answers = λ f left told. answers-none (is_refusal (faults.Input e)) (faults.Input e) (IsOutcomeOf (recount_outcome i) f left) c (λ refuses. sym (ap recounted_from (text-refused e i no_selection t u a b h refuses f left told)));
     cause = text-cause e i no_selection t u a b h;
   }
 
@@ -42,7 +42,7 @@ module _ (i : Input) (t u : TreeView) (a b : SourceView) (same : IsUntouched t u
       taken = taken;
       sink = sink_passes_none c;
       early = λ is. refl;
-      answers = λ f left told. (sym (ap recounted_from (text-is i t a (Ok text) is f left told) ∙ ap recounted_as fails), refl);
+      answers = λ f left told. (sym (ap recounted_from (text-is i no_selection t a (Ok text) is f left told) ∙ ap recounted_as fails), refl);
       cause = (text, fails);
     }
     counts-refused forms.Memory fails = record {
@@ -57,8 +57,8 @@ module _ (i : Input) (t u : TreeView) (a b : SourceView) (same : IsUntouched t u
     }
 
     module _ (bytes : List ℕ) (counted : recounted text ≡ Ok bytes) (d : SinkView) where
-      comes : (f : Files) (left : List ℕ) → IsTold i t a f left → IsOutcomeOf (recount_outcome i) f left (Ok bytes)
-      comes f left told = sym (ap recounted_from (text-is i t a (Ok text) is f left told) ∙ ap recounted_as counted)
+      comes : (f : Files) (left : List ℕ) → IsTold i no_selection t a f left → IsOutcomeOf (recount_outcome i) f left (Ok bytes)
+      comes f left told = sym (ap recounted_from (text-is i no_selection t a (Ok text) is f left told) ∙ ap recounted_as counted)
 
       pub counts-written : {E : Type 0} → (IsStandard i → (left : List ℕ) → a.told ≡ Some left → b.told ≡ Some []) → IsSinkCall {R = Unit {0}} {E = E} c d (Ok tt) → Receives c d bytes → Sifts i no_selection HasCountCause ⊥ (IsOutcomeOf (recount_outcome i)) t u a b c d (Ok tt)
       counts-written end call received = record {

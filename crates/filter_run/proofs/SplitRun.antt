@@ -137,6 +137,7 @@ module _ (j : PlainSplitJob) {t u : TreeView} (c : SinkView) (same : IsUntouched
     tidy = untouched_tidy same;
     cause = cause;
   }
+  early-cut (faults.Unfit line) cause refused = absurd cause
   early-cut faults.Pattern cause refused = absurd cause
   early-cut faults.Tree cause refused = absurd cause
   early-cut faults.Write cause refused = absurd cause
@@ -199,6 +200,7 @@ module _ (j : PlainSplitJob) {t u : TreeView} (c : SinkView) (same : IsUntouched
     }
     splits (Err (faults.Input x)) puts = absurd puts.cause
     splits (Err (faults.Set x)) puts = absurd puts.cause
+    splits (Err (faults.Unfit line)) puts = absurd puts.cause
     splits (Err faults.Pattern) puts = absurd puts.cause
     splits (Err faults.Tree) puts = record {
       tree = passes_both same.passes puts.tree;

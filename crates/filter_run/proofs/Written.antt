@@ -44,6 +44,7 @@ comes-by Memory bytes text ne = refl
 comes-refused : (written : PlainSelect → SetView → List ℕ) (e : FilterFault) (x : Result (List ℕ × PlainSelect) InputFault) → IsRefused e x → Comes written x (Err e)
 comes-refused written (faults.Input e) x is = rw is refl
 comes-refused written (faults.Set e) x is = rw (is.is, is.refused) (comes-by e (written is.select) is.text is.some)
+comes-refused written (faults.Unfit line) x is = absurd is
 comes-refused written faults.Pattern x is = absurd is
 comes-refused written faults.Tree x is = absurd is
 comes-refused written faults.Write x is = absurd is
@@ -57,9 +58,10 @@ pub answers-none : (b : Bool) (e : FilterFault) (P : Outcome → Type 0) (c : Si
 answers-none true e P c is = (is refl, refl)
 answers-none false e P c is = inl refl
 
-opening-cause : (e : FilterFault) (i : Input) (s : PlainSelect) (Q : Type 0) (t u : TreeView) (a b : SourceView) (c : SinkView) → HasOpeningCause e i s t u a b → HasCause e i s HasTextCause Q t u a b c c
+pub opening-cause : (e : FilterFault) (i : Input) (s : PlainSelect) (Q : Type 0) (t u : TreeView) (a b : SourceView) (c : SinkView) → HasOpeningCause e i s t u a b → HasCause e i s HasTextCause Q t u a b c c
 opening-cause (faults.Input e) i s Q t u a b c h = h
 opening-cause (faults.Set e) i s Q t u a b c h = h
+opening-cause (faults.Unfit line) i s Q t u a b c h = absurd h
 opening-cause faults.Pattern i s Q t u a b c h = absurd h
 opening-cause faults.Tree i s Q t u a b c h = h
 opening-cause faults.Write i s Q t u a b c h = absurd h
@@ -167,7 +169,7 @@ module _ (new : PlainSelect) (finder : FinderView) (j : PlainGrepJob) (t u : Tre
     searched-faulted view x y f g grep.Memory passes part cause unasked = searched-broken (view x) (view y) faults.Memory refl refl passes part tt
 
     -- a set with file patches is one of a text that has them
-    pub searched-unasked : {F : Type 0} (f g : F) → (v.patches ≡ [] → g ≡ f) → (files : Files) (left : List ℕ) → IsTold j.input t a files left → (HasPatches (given j.input j.select files left) → ⊥) → g ≡ f
+    pub searched-unasked : {F : Type 0} (f g : F) → (v.patches ≡ [] → g ≡ f) → (files : Files) (left : List ℕ) → IsTold j.input j.select t a files left → (HasPatches (given j.input j.select files left) → ⊥) → g ≡ f
     searched-unasked f g same files left told none = elim v.patches as (λ ps. v.patches ≡ ps → g ≡ f) [
       | [] ↦ λ empty. same empty
       | p ∷ ps ↦ λ some. absurd (none (patches-there (given j.input j.select files left) new v (λ empty. let never = sym some ∙ empty in absurd (cc)) (h.opened files left told)))

@@ -25,6 +25,10 @@ pub record IsReadOf (v : SetView) (s : PlainSelect) (x : Result (List ℕ × Pla
   pub free : refusal defaults text ≡ None
   pub read : IsRead defaults text v
 
+-- the set is read from some text
+abbrev pub IsReadOfSome : SetView → Type 0
+IsReadOfSome v = (text : List ℕ) × IsRead defaults text v
+
 -- a text without file patches
 pub record IsGarbage (s : PlainSelect) (x : Result (List ℕ × PlainSelect) InputFault) : Type 0 where
   pub text : List ℕ
@@ -46,6 +50,7 @@ IsOpened (Some v) s x = IsReadOf v s x
 abbrev pub IsRefused : FilterFault → Result (List ℕ × PlainSelect) InputFault → Type 0
 IsRefused (faults.Input e) x = x ≡ Err e
 IsRefused (faults.Set e) x = IsRefusedText e x
+IsRefused (faults.Unfit line) x = ⊥
 IsRefused faults.Pattern x = ⊥
 IsRefused faults.Tree x = ⊥
 IsRefused faults.Write x = ⊥
@@ -54,7 +59,8 @@ IsRefused faults.Memory x = ⊥
 -- what a fault says, whatever is told
 abbrev pub HasOpeningCause : FilterFault → Input → PlainSelect → TreeView → TreeView → SourceView → SourceView → Type 0
 HasOpeningCause (faults.Input e) i s t u a b = HasInputCause e i s t u a b
-HasOpeningCause (faults.Set e) i s t u a b = HasTextCause e
+HasOpeningCause (faults.Set e) i s t u a b = HasTextCause (faults.Set e)
+HasOpeningCause (faults.Unfit line) i s t u a b = ⊥
 HasOpeningCause faults.Pattern i s t u a b = ⊥
 HasOpeningCause faults.Tree i s t u a b = ⊥
 HasOpeningCause faults.Write i s t u a b = ⊥
@@ -66,6 +72,6 @@ pub record Opens (i : Input) (old new : PlainSelect) (t u : TreeView) (a b : Sou
   pub source : SourcePasses a b
   pub read : OnOk result (IsStandard i → (left : List ℕ) → a.told ≡ Some left → b.told ≡ Some [])
   pub taken : TakesAtMost 268435457 a b
-  pub opened : IfOk result (λ given_set. (f : Files) (left : List ℕ) → IsTold i t a f left → IsOpened given_set new (given i old f left))
-  pub refused : IfErr result (λ e. is_refusal e ≡ true → (f : Files) (left : List ℕ) → IsTold i t a f left → IsRefused e (given i old f left))
+  pub opened : IfOk result (λ given_set. (f : Files) (left : List ℕ) → IsTold i old t a f left → IsOpened given_set new (given i old f left))
+  pub refused : IfErr result (λ e. is_refusal e ≡ true → (f : Files) (left : List ℕ) → IsTold i old t a f left → IsRefused e (given i old f left))
   pub cause : IfErr result (λ e. HasOpeningCause e i old t u a b)

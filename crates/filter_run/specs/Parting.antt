@@ -99,6 +99,7 @@ pub record IsUnsaid (t u : TreeView) (c d : SinkView) (e : Effect) (line : List 
 abbrev pub PartFails : FilterFault → TreeView → TreeView → SinkView → SinkView → Effect → List ℕ → Type 0
 PartFails (faults.Input fault) t u c d e line = ⊥
 PartFails (faults.Set fault) t u c d e line = ⊥
+PartFails (faults.Unfit at) t u c d e line = ⊥
 PartFails faults.Pattern t u c d e line = ⊥
 PartFails faults.Tree t u c d e line = HasFailed t u c d e
 PartFails faults.Write t u c d e line = IsUnsaid t u c d e line
@@ -122,6 +123,7 @@ PartsAnswer (Err e) file text rows f t u c d = (k : ℕ) × AreCutAt file text r
 abbrev pub HasPutCause : FilterFault → TreeView → TreeView → SinkView → SinkView → Type 0
 HasPutCause (faults.Input fault) t u c d = ⊥
 HasPutCause (faults.Set fault) t u c d = ⊥
+HasPutCause (faults.Unfit line) t u c d = ⊥
 HasPutCause faults.Pattern t u c d = ⊥
 HasPutCause faults.Tree t u c d = Rises t u
 HasPutCause faults.Write t u c d = sink.Rises c d

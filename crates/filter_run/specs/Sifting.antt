@@ -21,10 +21,18 @@ use Rattle.filter_run.specs.Outcomes.{Outcome}
 use Rattle.filter_run.specs.declared.fault.FilterFault.{FilterFault}
 use Rattle.filter_run.specs.declared.fault.FilterFault.TheVariants as faults
 
--- all that is read is told: the files, and what standard input has left where the text comes from there
-pub record IsTold (i : Input) (t : TreeView) (s : SourceView) (f : Files) (rest : List ℕ) : Type 0 where
-  pub files : t.told ≡ Some f
-  pub left : IsStandard i → s.told ≡ Some rest
+-- a file of patterns is named
+abbrev pub NamesPatterns : PlainSelect → Type 0
+NamesPatterns s = (s.include_file ≢ None) ⊎ (s.exclude_file ≢ None)
+
+-- a file is named for the text or for patterns
+abbrev pub NamesFile : Input → PlainSelect → Type 0
+NamesFile i s = (IsStandard i → ⊥) ⊎ NamesPatterns s
+
+-- all that is read is told: the files where one is named, and what standard input has left where the text comes from there
+pub record IsTold (i : Input) (s : PlainSelect) (t : TreeView) (a : SourceView) (f : Files) (rest : List ℕ) : Type 0 where
+  pub files : NamesFile i s → t.told ≡ Some f
+  pub left : IsStandard i → a.told ≡ Some rest
 
 -- the answer is one of the definition, and comes before anything is written; the others are faults of devices and want of memory
 abbrev pub is_refusal : FilterFault → Bool
@@ -41,6 +49,7 @@ is_refusal (faults.Set (set.OutMany count)) = true
 is_refusal (faults.Set (set.EdReverse line)) = true
 is_refusal (faults.Set (set.Reserved line)) = true
 is_refusal (faults.Set set.Memory) = false
+is_refusal (faults.Unfit line) = true
 is_refusal faults.Pattern = true
 is_refusal faults.Tree = false
 is_refusal faults.Write = false
@@ -63,10 +72,6 @@ abbrev pub Answers : Result (Unit {0}) FilterFault → (Outcome → Type 0) → 
 Answers (Ok done) P c d = (bytes : List ℕ) × P (Ok bytes) × Receives c d bytes
 Answers (Err e) P c d = AnswersFault (is_refusal e) e P c d
 
--- a file is named for the text or for patterns
-abbrev pub NamesFile : Input → PlainSelect → Type 0
-NamesFile i s = (IsStandard i → ⊥) ⊎ ((s.include_file ≢ None) ⊎ (s.exclude_file ≢ None))
-
 -- some text is refused so
 abbrev pub IsRefusal : SetFault → Type 0
 IsRefusal fault = (text : List ℕ) × (refusal defaults text ≡ Some fault)
@@ -77,36 +82,42 @@ HasInputCause input.NoPatchFile i s t u a b = NamesFile i s
 HasInputCause input.TooLong i s t u a b = Unit {0}
 HasInputCause input.Source i s t u a b = IsStandard i × HasRisen a.faults b.faults
 HasInputCause input.Tree i s t u a b = Rises t u
-HasInputCause (input.Disagree want got) i s t u a b = (want ≢ got) × (t.told ≡ None)
+HasInputCause (input.Disagree want got) i s t u a b = NamesFile i s × (want ≢ got) × (t.told ≡ None)
 HasInputCause input.Memory i s t u a b = Unit {0}
 
 abbrev pub HasSetCause : SetFault → Type 0
 HasSetCause set.Memory = Unit {0}
 HasSetCause fault = IsRefusal fault
 
+-- what a text that is refused says
+abbrev pub HasRefusal : FilterFault → Type 0
+HasRefusal (faults.Set fault) = HasSetCause fault
+HasRefusal e = ⊥
+
 -- the same where a text without file patches isn't refused
-abbrev pub HasTextCause : SetFault → Type 0
-HasTextCause set.Garbage = ⊥
-HasTextCause fault = HasSetCause fault
+abbrev pub HasTextCause : FilterFault → Type 0
+HasTextCause (faults.Set set.Garbage) = ⊥
+HasTextCause e = HasRefusal e
 
 -- some text can't be recounted for this
-abbrev pub HasCountCause : SetFault → Type 0
-HasCountCause (set.Malformed line kind) = (text : List ℕ) × (recounted text ≡ Err (record { line = line; kind = kind }))
-HasCountCause set.Memory = Unit {0}
-HasCountCause fault = ⊥
+abbrev pub HasCountCause : FilterFault → Type 0
+HasCountCause (faults.Set (set.Malformed line kind)) = (text : List ℕ) × (recounted text ≡ Err (record { line = line; kind = kind }))
+HasCountCause (faults.Set set.Memory) = Unit {0}
+HasCountCause e = ⊥
 
 -- what a fault says of the devices before and after, whatever is told; no parts are put. R says why a text is refused, and Q holds where
 -- the pattern isn't taken
-abbrev pub HasCause : FilterFault → Input → PlainSelect → (SetFault → Type 0) → Type 0 → TreeView → TreeView → SourceView → SourceView → SinkView → SinkView → Type 0
+abbrev pub HasCause : FilterFault → Input → PlainSelect → (FilterFault → Type 0) → Type 0 → TreeView → TreeView → SourceView → SourceView → SinkView → SinkView → Type 0
 HasCause (faults.Input e) i s R Q t u a b c d = HasInputCause e i s t u a b
-HasCause (faults.Set e) i s R Q t u a b c d = R e
+HasCause (faults.Set e) i s R Q t u a b c d = R (faults.Set e)
+HasCause (faults.Unfit line) i s R Q t u a b c d = R (faults.Unfit line)
 HasCause faults.Pattern i s R Q t u a b c d = Q
 HasCause faults.Tree i s R Q t u a b c d = ⊥
 HasCause faults.Write i s R Q t u a b c d = sink.Rises c d
 HasCause faults.Memory i s R Q t u a b c d = Unit {0}
 
 -- a filter reads and writes, and leaves the tree as it is
-pub record Sifts (i : Input) (s : PlainSelect) (R : SetFault → Type 0) (Q : Type 0) (IsOutcome : Files → List ℕ → Outcome → Type 0) (t u : TreeView) (a b : SourceView) (c d : SinkView) (result : Result (Unit {0}) FilterFault) : Type 0 where
+pub record Sifts (i : Input) (s : PlainSelect) (R : FilterFault → Type 0) (Q : Type 0) (IsOutcome : Files → List ℕ → Outcome → Type 0) (t u : TreeView) (a b : SourceView) (c d : SinkView) (result : Result (Unit {0}) FilterFault) : Type 0 where
   pub untouched : IsUntouched t u
   pub source : SourcePasses a b
   -- standard input is read to its end where it is read
@@ -114,5 +125,5 @@ pub record Sifts (i : Input) (s : PlainSelect) (R : SetFault → Type 0) (Q : Ty
   pub taken : TakesAtMost 268435457 a b
   pub sink : SinkPasses c d
   pub early : IfErr result (λ e. is_early e ≡ true → d ≡ c)
-  pub answers : (f : Files) (left : List ℕ) → IsTold i t a f left → Answers result (IsOutcome f left) c d
+  pub answers : (f : Files) (left : List ℕ) → IsTold i s t a f left → Answers result (IsOutcome f left) c d
   pub cause : IfErr result (λ e. HasCause e i s R Q t u a b c d)

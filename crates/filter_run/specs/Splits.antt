@@ -79,6 +79,7 @@ HasReadCause input.Memory t u = Unit {0}
 abbrev pub HasEarlyCause : FilterFault → TreeView → TreeView → Type 0
 HasEarlyCause (faults.Input e) t u = HasReadCause e t u
 HasEarlyCause (faults.Set e) t u = HasSetCause e
+HasEarlyCause (faults.Unfit line) t u = ⊥
 HasEarlyCause faults.Pattern t u = ⊥
 HasEarlyCause faults.Tree t u = ⊥
 HasEarlyCause faults.Write t u = ⊥
@@ -87,6 +88,7 @@ HasEarlyCause faults.Memory t u = ⊥
 abbrev pub HasSplitCause : FilterFault → TreeView → TreeView → SinkView → SinkView → Type 0
 HasSplitCause (faults.Input e) t u c d = HasReadCause e t u
 HasSplitCause (faults.Set e) t u c d = HasSetCause e
+HasSplitCause (faults.Unfit line) t u c d = ⊥
 HasSplitCause faults.Pattern t u c d = ⊥
 HasSplitCause faults.Tree t u c d = Rises t u
 HasSplitCause faults.Write t u c d = sink.Rises c d

@@ -33,6 +33,7 @@ pub fn default_options() -> Options
         reject_form: None,
         define: None,
         posix: false,
+        skip_binary: false,
         dry_run: false,
         silent: false,
         verbose: false,

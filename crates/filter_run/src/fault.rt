@@ -1,8 +1,9 @@
 //! Why a filter ends early.
 ghost use Rattle.std.specs.Prelude.{◌≡◌};
-ghost use Rattle.filter_run.specs.Faults.{of_grep};
+ghost use Rattle.filter_run.specs.Faults.{of_flip, of_grep};
 ghost use Rattle.filter_run.specs.declared.fault.FilterFault.TheVariants as faults;
 
+use flip_patch::FlipFault;
 use patch_filters::GrepFault;
 use patch_input::InputFault;
 use patch_set::SetFault;
@@ -13,8 +14,10 @@ use std::alloc::AllocError;
 pub enum FilterFault {
     /// There is no text, or no list of patterns.
     Input(InputFault),
-    /// The text isn't read.
+    /// The text isn't read, or has an ed script where it is to be turned round.
     Set(SetFault),
+    /// A file patch can't be written as it is asked for; the line is its opening, numbered from 1.
+    Unfit { line: u64 },
     /// The finder doesn't take the pattern.
     Pattern,
     /// A call of the tree failed while parts were put.
@@ -48,6 +51,18 @@ impl From<GrepFault> for FilterFault {
             GrepFault::Pattern => FilterFault::Pattern,
             GrepFault::Write => FilterFault::Write,
             GrepFault::Memory => FilterFault::Memory,
+        }
+    }
+}
+
+impl From<FlipFault> for FilterFault {
+    ghost from_gives = { λ e fault. fault ≡ of_flip e };
+
+    fn from(fault: FlipFault) -> FilterFault {
+        match fault {
+            FlipFault::EdReverse { line } => FilterFault::Set(SetFault::EdReverse { line }),
+            FlipFault::Unfit { line } => FilterFault::Unfit { line },
+            FlipFault::Write => FilterFault::Write,
         }
     }
 }

@@ -11,7 +11,7 @@ ghost use Rattle.patch_set.specs.declared.fault.SetFault.{SetFault as TheFault};
 ghost use Rattle.filter_run.specs.Texts.{defaults};
 ghost use Rattle.filter_run.specs.Outcomes.{given};
 ghost use Rattle.filter_run.specs.Sifting.{HasInputCause, IsTold, is_refusal};
-ghost use Rattle.filter_run.specs.Opened.{Opens};
+ghost use Rattle.filter_run.specs.Opened.{IsReadOfSome, Opens};
 ghost use Rattle.filter_run.specs.declared.fault.FilterFault.TheVariants as faults;
 
 use crate::defaults::default_options;
@@ -37,8 +37,8 @@ fn read_given<T: Tree, I: Source>(
     ensures unread { IsFile input.now → source.new ≡ source.old }
     ensures read { OnOk result (IsStandard input.now → (left : List ℕ) → (I.view source.old).told ≡ Some left → (I.view source.new).told ≡ Some []) }
     ensures taken { TakesAtMost 268435457 (I.view source.old) (I.view source.new) }
-    ensures given { IfOk result (λ text. (f : Files) (left : List ℕ) → IsTold input.now (T.view tree.old) (I.view source.old) f left → given input.now (plain_select select.old) f left ≡ Ok (text.items, plain_select select.new)) }
-    ensures refused { IfErr result (λ e. is_refusal (faults.Input e) ≡ true → (f : Files) (left : List ℕ) → IsTold input.now (T.view tree.old) (I.view source.old) f left → given input.now (plain_select select.old) f left ≡ Err e) }
+    ensures given { IfOk result (λ text. (f : Files) (left : List ℕ) → IsTold input.now (plain_select select.old) (T.view tree.old) (I.view source.old) f left → given input.now (plain_select select.old) f left ≡ Ok (text.items, plain_select select.new)) }
+    ensures refused { IfErr result (λ e. is_refusal (faults.Input e) ≡ true → (f : Files) (left : List ℕ) → IsTold input.now (plain_select select.old) (T.view tree.old) (I.view source.old) f left → given input.now (plain_select select.old) f left ≡ Err e) }
     ensures cause { IfErr result (λ e. HasInputCause e input.now (plain_select select.old) (T.view tree.old) (T.view tree.new) (I.view source.old) (I.view source.new)) }
 {
     let text = read_input(alloc, input, None, tree, source)?;
@@ -73,6 +73,7 @@ pub fn open_text<T: Tree, I: Source>(
     ensures opens { Opens input.now (plain_select select.old) (plain_select select.new) (T.view tree.old) (T.view tree.new) (I.view source.old) (I.view source.new) result }
     ensures unread { IsFile input.now → source.new ≡ source.old }
     ensures whole { IfOk result (λ given_set. IfSome given_set IsWhole) }
+    ensures read { IfOk result (λ given_set. IfSome given_set IsReadOfSome) }
 {
     let text = read_given(alloc, input, select, tree, source)?;
     let set = read_patches(alloc, text)?;

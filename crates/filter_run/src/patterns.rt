@@ -6,6 +6,7 @@ ghost use Rattle.outside.specs.Calls.{IsUntouched};
 ghost use Rattle.tool_words.specs.PlainJobs.{plain_select};
 ghost use Rattle.patch_filters.specs.Grepped.{content};
 ghost use Rattle.filter_run.specs.Outcomes.{pattern_of, patterns_in, selection};
+ghost use Rattle.filter_run.specs.Sifting.{NamesPatterns};
 ghost use Rattle.filter_run.specs.Patterns.{Adds, HasPatternCause, HasSelectionCause};
 
 use line_list::lines_of;
@@ -21,7 +22,7 @@ pub fn add_patterns<T: Tree>(
     tree: &mut T,
 ) -> Result<(), InputFault>
     ensures untouched { IsUntouched (T.view tree.old) (T.view tree.new) }
-    ensures selection { OnOk result ((f : Files) → (T.view tree.old).told ≡ Some f → selection (plain_select select.old) f ≡ Ok (plain_select select.new)) }
+    ensures selection { OnOk result ((f : Files) → (NamesPatterns (plain_select select.old) → (T.view tree.old).told ≡ Some f) → selection (plain_select select.old) f ≡ Ok (plain_select select.new)) }
     ensures cause { IfErr result (λ e. HasSelectionCause e (plain_select select.old) (T.view tree.old) (T.view tree.new)) }
 {
     add_from(

@@ -77,7 +77,7 @@ pub fn run_grep<T: Tree, F: Finder, I: Source, O: Sink>(
     ensures rest { O.same_rest out.old out.new }
     ensures finder { FinderPasses (F.view finder.old) (F.view finder.new) }
     // It isn't asked where the text is refused or has no file patches.
-    ensures unasked { (f : Files) (left : List ℕ) → IsTold job.input (T.view tree.old) (I.view source.old) f left → (HasPatches (given job.input (plain_select job.select) f left) → ⊥) → finder.new ≡ finder.old }
+    ensures unasked { (f : Files) (left : List ℕ) → IsTold job.input (plain_select job.select) (T.view tree.old) (I.view source.old) f left → (HasPatches (given job.input (plain_select job.select) f left) → ⊥) → finder.new ≡ finder.old }
 {
     let mut job = job;
     match open_text(alloc, &job.input, &mut job.select, tree, source)? {

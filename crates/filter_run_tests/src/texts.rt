@@ -1,6 +1,6 @@
 //! The rows of the filters, over devices in memory.
 
-use filter_run::{FilterFault, run_filter, run_grep, run_list, run_recount};
+use filter_run::{FilterFault, run_filter, run_flip, run_grep, run_list, run_recount};
 use mem_world::{MemSink, MemSource, MemTree, PlainFinder};
 use outside::Name;
 use patch_options::Input;
@@ -148,6 +148,16 @@ fn is_recounted(alloc: Global) -> Result<bool, Fail> {
     Ok(wrote(answer, &out, counted))
 }
 
+fn is_flipped(alloc: Global) -> Result<bool, Fail> {
+    let mut tree = tree_with(alloc, "--- f\n+++ g\n@@ -1,2 +1 @@\n a\n-b\n", "")?;
+    let mut source = source_of(alloc, "")?;
+    let mut out = MemSink::new(alloc, Vec::new(alloc));
+    let input = Input::File(name(alloc, "p.diff")?);
+    let answer = run_flip(alloc, &input, &mut tree, &mut source, &mut out);
+    let flipped = "--- g\n+++ f\n@@ -1 +1,2 @@\n a\n+b\n";
+    Ok(wrote(answer, &out, flipped))
+}
+
 #[test]
 fn texts_are_sifted(rt: HostRuntime) -> Result<(), Fail> {
     let alloc = rt.alloc();
@@ -155,9 +165,11 @@ fn texts_are_sifted(rt: HostRuntime) -> Result<(), Fail> {
     let filtered = is_filtered(alloc)?;
     let found = is_found(alloc)?;
     let recounted = is_recounted(alloc)?;
+    let flipped = is_flipped(alloc)?;
     assert!(rt; listed, "a list");
     assert!(rt; filtered, "a filtered text");
     assert!(rt; found, "what is found");
     assert!(rt; recounted, "true counts");
+    assert!(rt; flipped, "a text turned round");
     Ok(())
 }

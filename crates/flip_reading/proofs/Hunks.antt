@@ -28,12 +28,11 @@ use Rattle.context_form.specs.Parts.{mark_at, mark_by}
 use Rattle.context_form.specs.Presence.{begins_part, may_begin}
 use Rattle.context_form.proofs.Again as context_again
 use Rattle.context_form.proofs.Pieces as context_pieces
-use Rattle.patch_header.proofs.Stands.{and_left, front}
+use Rattle.patch_header.proofs.Fronts.{front, and_left, context-front}
 use Rattle.patch_text.specs.Texts.{IsPiece}
 use Rattle.file_patch.specs.PlainPatch.{hunks}
 use Rattle.flip_patch.specs.Flipped.{hunk_text}
 use Rattle.flip_patch.specs.Refusals.{starts_fall}
-use Rattle.text_joins.proofs.Solid.{context-front}
 use Rattle.text_joins.proofs.Spelling.{hunk-told, not-there}
 use Rattle.flip_reading.specs.TurnedPatches.{as_shown}
 use Rattle.flip_reading.proofs.Feeds.{swapped-feeds}

@@ -7,3 +7,4 @@ mod Names
 mod Headers
 mod Headed
 mod Reading
+mod Stretches

@@ -14,7 +14,7 @@ use Rattle.patch_header.specs.Content.{content, is_binary}
 use Rattle.patch_header.specs.GitHeaders.{begins_bare, is_git_line}
 use Rattle.patch_header.specs.Openings.{begins, stop_at}
 use Rattle.patch_header.specs.declared.ways.Ways.{Ways}
-use Rattle.patch_header.proofs.Stands.{nothing-words}
+use Rattle.patch_header.proofs.Stands.{nothing-words, stops-not}
 use Rattle.text_joins.specs.Joins.{BeginCleanly}
 
 -- what a line of a written header begins with
@@ -94,7 +94,7 @@ quiet-line ways k bs more =
     (nothing-words ways (line_of k bs ∷ more)).1 (
       λ f. and-none _ (begins ways.only f (line_of k bs ∷ more)) (begins-none ways.only k f bs more),
       and-none _ (is_binary (line_of k bs)) (binary-none k bs),
-      and-none ways.git (begins_bare (line_of k bs ∷ more)) (bare-none k bs more),
+      stops-not ways (line_of k bs ∷ more) (bare-none k bs more),
     )
 
 -- no file patch goes on with such a line

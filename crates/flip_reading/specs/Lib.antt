@@ -1,1 +1,2 @@
 pub mod TurnedPatches
+pub mod AsShown

@@ -23,7 +23,7 @@ use Rattle.patch_text.specs.Patches.{patches_of}
 use Rattle.patch_set.specs.Asked.{ways_of}
 use Rattle.patch_set.specs.Named.{known_names, output_of, targets_of}
 use Rattle.patch_set.specs.Refusals.{refusal}
-use Rattle.patch_set.specs.SetView.{SetView, plain_patches, hunks_in, HasTargets, IsRead, IsFresh}
+use Rattle.patch_set.specs.SetView.{SetView, plain_patches, hunks_in, IsRead, IsFresh}
 use Rattle.patch_run.specs.OnePatch.{Item}
 use Rattle.patch_run.specs.Run.{Run, run_of, set_run, item_of, items_of}
 use Rattle.patch_run.specs.Doing.{IsCutAt}
@@ -48,40 +48,49 @@ tells_input (Err fault) u f left files rest = tt
 
 -- ---- a set that is read
 
-abbrev item_with : PlainPatch → List Target → Item
-item_with p targets = record { patch = p; targets = targets }
+abbrev item_with : List ℕ → PlainPatch → List Target → Item
+item_with skipped p targets = record { patch = p; targets = targets; skipped = skipped }
 
 -- file patches with the targets that their headers give
-items-match : (o : PlainOptions) (known : List (List ℕ)) (text : List ℕ) (ps : List FilePatch)
+items-match : (o : PlainOptions) (known : List (List ℕ)) (text skipped : List ℕ) (ps : List FilePatch)
     → map (λ p. p.targets.items) ps ≡ map (λ p. targets_of o known (header_of text p.header)) ps
-    → map (item_for o known) (map (patch_of text) ps) ≡ map (item_of text) ps
-items-match o known text [] same = refl
-items-match o known text (p ∷ ps) same =
+    → map (item_for o known skipped) (map (patch_of text) ps) ≡ map (item_of text skipped) ps
+items-match o known text skipped [] same = refl
+items-match o known text skipped (p ∷ ps) same =
     let first : p.targets.items ≡ targets_of o known (header_of text p.header) = cc in
     let rest : map (λ p. p.targets.items) ps ≡ map (λ p. targets_of o known (header_of text p.header)) ps = cc in
-    ap (λ (ts : List Target). item_with (patch_of text p) ts ∷ map (item_for o known) (map (patch_of text) ps)) (sym first)
-    ∙ ap (λ (others : List Item). item_of text p ∷ others) (items-match o known text ps rest)
+    ap (λ (ts : List Target). item_with skipped (patch_of text p) ts ∷ map (item_for o known skipped) (map (patch_of text) ps)) (sym first)
+    ∙ ap (λ (others : List Item). item_of text skipped p ∷ others) (items-match o known text skipped ps rest)
 
-run-match : (o : PlainOptions) (v : SetView) (f : Files) → HasTargets o (known_names o (plain_patches v)) v → run_for o (plain_patches v) f ≡ set_run o v f
-run-match o v f names =
-    ap (λ t. run_of o t (items_for o (plain_patches v)) f) (sym names.output)
-    ∙ ap (λ (items : List Item). run_of o v.output items f) (items-match o (known_names o (plain_patches v)) v.text v.patches names.targets)
+module _ (o : PlainOptions) (given : List ℕ) (v : SetView) (read : IsRead o given v) where
+  items-read : items_for o v.text (plain_patches v) ≡ items_of v
+  items-read =
+      let known = known_names o (plain_patches v) in
+      ap (λ (l : List ℕ). map (item_for o known l) (plain_patches v)) (sym read.skipped)
+      ∙ items-match o known v.text v.skipped v.patches read.names.targets
 
--- a text that isn't refused is carried out as the set that is read from it
-pub carried-match : (o : PlainOptions) (v : SetView) (f : Files) (left : List ℕ) → Reads o f left (plain_patches v) → HasTargets o (known_names o (plain_patches v)) v → on_job (Ok (patch o)) f left ≡ carried_out (length v.patches) (set_run o v f)
-carried-match o v f left reads names =
-    ap (λ (x : Result (List ℕ) InputFault). on_input o x f) reads.given
-    ∙ ap (λ x. on_refusal o x reads.text f) reads.free
-    ∙ ap (λ (ps : Result (List PlainPatch) Fault). on_patches o ps f) reads.patches
-    ∙ ap (λ (n : ℕ). carried_out n (run_for o (plain_patches v) f)) (length-map v.patches (patch_of v.text))
-    ∙ ap (λ (r : Run). carried_out (length v.patches) r) (run-match o v f names)
+  -- the run over the file patches of a text is that over the set that is read from it
+  pub run-match : (f : Files) → run_for o v.text (plain_patches v) f ≡ set_run o v f
+  run-match f =
+      ap (λ t. run_of o t (items_for o v.text (plain_patches v)) f) (sym read.names.output)
+      ∙ ap (λ (items : List Item). run_of o v.output items f) items-read
 
--- a run over the set that was cut off, as one over the file patches of its text
-pub cut-match : (o : PlainOptions) (v : SetView) (f : Files) (e : RunFault) (w : TreeView) (c d : SinkView) → HasTargets o (known_names o (plain_patches v)) v
-    → IsCutAt e w c d o v.output (items_of v) f → IsCutAt e w c d o (output_of o (known_names o (plain_patches v))) (items_for o (plain_patches v)) f
-cut-match o v f e w c d names at =
-    subst (λ t. IsCutAt e w c d o t (items_for o (plain_patches v)) f) names.output
-    (subst (λ (items : List Item). IsCutAt e w c d o v.output items f) (sym (items-match o (known_names o (plain_patches v)) v.text v.patches names.targets)) at)
+  -- a text that isn't refused is carried out as the set that is read from it
+  pub carried-match : (f : Files) (left : List ℕ) → Reads o f left v.text (plain_patches v) → on_job (Ok (patch o)) f left ≡ carried_out (length v.patches) (set_run o v f)
+  carried-match f left reads =
+      ap (λ (x : Result (List ℕ) InputFault). on_input o x f) reads.given
+      ∙ ap (λ x. on_refusal o x reads.bytes f) reads.free
+      ∙ ap (λ (t : List ℕ). on_patches o t (patches_of (ways_of o) t) f) (sym reads.whole)
+      ∙ ap (λ (ps : Result (List PlainPatch) Fault). on_patches o v.text ps f) reads.patches
+      ∙ ap (λ (n : ℕ). carried_out n (run_for o v.text (plain_patches v) f)) (length-map v.patches (patch_of v.text))
+      ∙ ap (λ (r : Run). carried_out (length v.patches) r) (run-match f)
+
+  -- a run over the set that was cut off, as one over the file patches of its text
+  pub cut-match : (f : Files) (e : RunFault) (w : TreeView) (c d : SinkView)
+      → IsCutAt e w c d o v.output (items_of v) f → IsCutAt e w c d o (output_of o (known_names o (plain_patches v))) (items_for o v.text (plain_patches v)) f
+  cut-match f e w c d at =
+      subst (λ t. IsCutAt e w c d o t (items_for o v.text (plain_patches v)) f) read.names.output
+      (subst (λ (items : List Item). IsCutAt e w c d o v.output items f) (sym items-read) at)
 
 can_apply : (o : PlainOptions) (text : List ℕ) (v : SetView) → IsLawful o → IsRead o text v → IsFresh v → CanApply o v
 can_apply o text v lawful read fresh = record {
@@ -95,7 +104,7 @@ pub asked_so : (o : PlainOptions) (text : List ℕ) (v : SetView) (t : TreeView)
     → IsRead o text v → IsFresh v → refusal o text ≡ None → (a : ScratchView) (c : SinkView) → IsAsked o v (world t a s c)
 asked_so o text v t s lawful answer read fresh free a c = record {
   can = can_apply o text v lawful read fresh;
-  reads = λ f left told. record { text = text; given = answer f left told; free = free; patches = ap (λ (l : List ℕ). patches_of (ways_of o) l) (sym read.text) ∙ read.patches };
+  reads = λ f left told. record { bytes = text; given = answer f left told; free = free; whole = read.text; patches = read.patches };
 }
 
 -- ---- early ends

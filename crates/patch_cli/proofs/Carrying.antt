@@ -2,7 +2,6 @@
 use Rattle.std.proofs.Common.{◌≡◌, ◌⊎◌, inl, inr, ⊎_elim, ℕ, zero, List, [], length, true, false, Bool, if◌then◌else◌, Option, Some, None, Result, Ok, Err, refl, sym, ◌∙◌, ap, subst, arith}
 use Rattle.std.proofs.lemmas.List.{append-nil}
 use Rattle.std.proofs.lemmas.Option.{same_Some}
-use Rattle.std.specs.FinMap.{get}
 use Rattle.outside.specs.Files.{Files, SameLasting, lasting-same}
 use Rattle.outside.specs.TreeView.{TreeView, Passes, passes_both}
 use Rattle.outside.specs.SinkView.{SinkView, SinkPasses, sink_passes_none, Receives, Rises, Writes}
@@ -293,11 +292,11 @@ ended_memory false is = absurd (cc)
 
 -- behind the reading
 module _ (words : List (List ℕ)) (u w : World) {v : TreeView} {o : PlainOptions} {set : SetView} (opens : Opens u.tree v) (job : job_of words ≡ Ok (patch o)) (asked : IsAsked o set u) where
-  reads : (f : Files) (left : List ℕ) → TellsInput (job_of words) u f left → Reads o f left (plain_patches set)
+  reads : (f : Files) (left : List ℕ) → TellsInput (job_of words) u f left → Reads o f left set.text (plain_patches set)
   reads f left told = asked.reads f left (subst (λ j. TellsInput j u f left) job told)
 
   has_read : (f : Files) (left : List ℕ) → TellsInput (job_of words) u f left → HasRead (job_of words) f left
-  has_read f left told = subst (λ j. HasRead j f left) (sym job) (plain_patches set, reads f left told)
+  has_read f left told = subst (λ j. HasRead j f left) (sym job) (set.text, plain_patches set, reads f left told)
 
   heeds_fault : (e : RunFault) (f : Files) (left : List ℕ) → TellsInput (job_of words) u f left → Heeds (sort_of (of_run e)) (of_run e) (job_of words) u w f left
   heeds_fault runs.Tree f left told = inr (has_read f left told)
@@ -310,7 +309,7 @@ module _ (words : List (List ℕ)) (u w : World) {v : TreeView} {o : PlainOption
 
   is_carried : (f : Files) (left : List ℕ) → TellsFiles (job_of words) u f → TellsLeft (job_of words) u left → command words f left ≡ carried_out (length set.patches) (set_run o set f)
   is_carried f left told tells =
-      ap (λ j. on_job j f left) job ∙ carried-match o set f left (reads f left (tells_input (job_of words) u f left told tells)) asked.can.read.1.names
+      ap (λ j. on_job j f left) job ∙ carried-match o asked.can.read.0 set asked.can.read.1 f left (reads f left (tells_input (job_of words) u f left told tells))
 
   tells_run : (f : Files) → TellsFiles (job_of words) u f → IsToldTo o v u.scratch f
   tells_run f told = told_to u w opens o f (subst (λ j. TellsFiles j u f) job told)
@@ -333,11 +332,12 @@ module _ (words : List (List ℕ)) (u w : World) {v : TreeView} {o : PlainOption
       → finishes.IsNotBegun v w.tree u.scratch w.scratch u.out w.out ⊎ doing.IsCutAt e w.tree u.out w.out o set.output (items_of set) f
       → IsAsAtEntry u w ⊎ AsksFor (job_of words) (IsCut (of_run e) u w f left)
   cuts_at e f left told tells = ⊎_elim (λ none. inl (not_begun u w opens none)) (λ at. inr (subst (λ j. AsksFor j (IsCut (of_run e) u w f left)) (sym job) (record {
+    text = set.text;
     patches = plain_patches set;
     read = reads f left (tells_input (job_of words) u f left told tells);
     fault = e;
     is = refl;
-    cut = cut-match o set f e w.tree u.out w.out asked.can.read.1.names at;
+    cut = cut-match o asked.can.read.0 set asked.can.read.1 f e w.tree u.out w.out at;
   })))
 
   breaks_fault : (e : RunFault) (f : Files) (left : List ℕ) → IsAsAtEntry u w ⊎ AsksFor (job_of words) (IsCut (of_run e) u w f left) → BreaksOff (sort_of (of_run e)) (of_run e) (job_of words) u w f left

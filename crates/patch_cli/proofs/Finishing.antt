@@ -28,7 +28,7 @@ use Rattle.patch_run.specs.Run.{Run, items_of, set_run}
 use Rattle.patch_effects.specs.declared.fault.RunFault.{RunFault}
 use Rattle.patch_effects.specs.declared.fault.RunFault.TheVariants.{Tree, Write, Scratch, LongLine, FileTooLong, Disagree, Memory}
 use Rattle.patch_cli.specs.Scratches.{has_scratch, is_paged, goes_there, pages_of, pages_or, scratch_behind_all}
-use Rattle.patch_cli.specs.Finishes.{IsToldTo, HasPlanCause, IsNotBegun, Finishes}
+use Rattle.patch_cli.specs.Finishes.{IsToldTo, HasPlanCause, IsNotBegun, LeavesVerdicts, Finishes}
 
 -- ---- the scratch
 
@@ -168,6 +168,10 @@ module _ (u w : TreeView) {before after : Seen} {a b : ScratchView} (c d : SinkV
 pub finishes_paged : {u w : TreeView} {before after : Seen} {a b : ScratchView} {c d : SinkView} {scratch_after : ℕ → List ℕ → Option (List ℕ) → Option (List ℕ)} (o : PlainOptions) (v : SetView) (vs : List Verdict) (rs : List Row) (result : Result Receipt RunFault) → Runs u w before after c d scratch_after result (set_run o v) → IfOk result (GivesReceipt u before (set_run o v) (length v.patches) vs rs) → CutsOff u w before c d o v result → (o.dry_run ≡ true → IsUntouched u w) → StandsOver o before after a b scratch_after → Finishes o v u w a b c d result
 finishes_paged {u = u} {w = w} {c = c} {d = d} o v vs rs result runs receipt cut dry over = paged u w c d o v over vs rs result runs receipt cut dry
 
+pub verdicts_paged : {u w : TreeView} {before after : Seen} {c d : SinkView} {scratch_after : ℕ → List ℕ → Option (List ℕ) → Option (List ℕ)} (a : ScratchView) (o : PlainOptions) (v : SetView) (vs : List Verdict) (rs : List Row) (result : Result Receipt RunFault) → Runs u w before after c d scratch_after result (set_run o v) → IfOk result (GivesReceipt u before (set_run o v) (length v.patches) vs rs) → before.scratch ≡ a.told → has_scratch o.plan ≡ true → IfOk result (LeavesVerdicts o v u a vs)
+verdicts_paged a o v vs rs (Ok given) runs receipt told has = λ f t. (receipt f (t.files, ap is_some told ∙ t.scratch has)).verdicts
+verdicts_paged a o v vs rs (Err e) runs receipt told has = tt
+
 -- ---- the plan in memory, which has none
 
 pub record StandsAlone (o : PlainOptions) (before after : Seen) : Type 0 where
@@ -232,6 +236,10 @@ module _ (u w : TreeView) {before after : Seen} (c d : SinkView) (a : ScratchVie
 
 pub finishes_whole : {u w : TreeView} {before after : Seen} {c d : SinkView} {scratch_after : ℕ → List ℕ → Option (List ℕ) → Option (List ℕ)} (o : PlainOptions) (v : SetView) (vs : List Verdict) (rs : List Row) (result : Result Receipt RunFault) → Runs u w before after c d scratch_after result (set_run o v) → IfOk result (GivesReceipt u before (set_run o v) (length v.patches) vs rs) → CutsOff u w before c d o v result → (o.dry_run ≡ true → IsUntouched u w) → StandsAlone o before after → (a : ScratchView) → Finishes o v u w a a c d result
 finishes_whole {u = u} {w = w} {c = c} {d = d} {scratch_after = scratch_after} o v vs rs result runs receipt cut dry alone a = in_memory u w c d a o v alone scratch_after vs rs result runs receipt cut dry
+
+pub verdicts_whole : {u w : TreeView} {before after : Seen} {c d : SinkView} {scratch_after : ℕ → List ℕ → Option (List ℕ) → Option (List ℕ)} (a : ScratchView) (o : PlainOptions) (v : SetView) (vs : List Verdict) (rs : List Row) (result : Result Receipt RunFault) → Runs u w before after c d scratch_after result (set_run o v) → IfOk result (GivesReceipt u before (set_run o v) (length v.patches) vs rs) → before.scratch ≡ Some [] → IfOk result (LeavesVerdicts o v u a vs)
+verdicts_whole a o v vs rs (Ok given) runs receipt told = λ f t. (receipt f (t.files, ap is_some told)).verdicts
+verdicts_whole a o v vs rs (Err e) runs receipt told = tt
 
 -- ---- no memory for the pages
 

@@ -1,7 +1,5 @@
 -- What a run promises: that it is the command's, and what stands at each moment.
-use Rattle.std.specs.Prelude.{◌≡◌, ◌⊎◌, ℕ, ◌≤◌, List, [], length, take, true, false, Option, Some, None, Result, Ok, Err, IsSomeAnd, if◌then◌else◌}
-use Rattle.std.specs.List.{Any}
-use Rattle.std.specs.FinMap.{get}
+use Rattle.std.specs.Prelude.{◌≡◌, ◌⊎◌, ℕ, List, [], true, false, Option, Some, None, Result, Ok, Err, IsSomeAnd, if◌then◌else◌}
 use Rattle.outside.specs.Faults.{HasRisen}
 use Rattle.outside.specs.Files.{Files, SameLasting, is_temp}
 use Rattle.outside.specs.TreeView.{Passes, MayLeave, LeftSince}
@@ -9,7 +7,6 @@ use Rattle.outside.specs.SinkView.{SinkPasses, Receives, ReceivesPart}
 use Rattle.outside.specs.SourceView.{SourcePasses}
 use Rattle.outside.specs.ScratchView.{ScratchPasses}
 use Rattle.outside.specs.Quiet.{IsQuiet, Effect, TellsPrefix, after_all}
-use Rattle.outside.specs.Quiet.Effect.{Put, Remove}
 use Rattle.file_patch.specs.PlainPatch.{PlainPatch}
 use Rattle.patch_options.specs.PlainJob.{PlainOptions, PlainJob}
 use Rattle.patch_options.specs.Words.{job_of}
@@ -62,7 +59,7 @@ pub record IsAsAtEntry (u w : World) : Type 0 where
 
 -- the patch text that the words name was read, and isn't refused
 abbrev pub HasRead : Result PlainJob WordFault → Files → List ℕ → Type 0
-HasRead job f left = AsksFor job (λ o. (ps : List PlainPatch) × Reads o f left ps)
+HasRead job f left = AsksFor job (λ o. (text : List ℕ) × (ps : List PlainPatch) × Reads o f left text ps)
 
 -- refusals, and faults of standard input, come before the first change
 abbrev pub Untouched : Sort → World → World → Type 0
@@ -119,11 +116,12 @@ Heeds starved why job u w f left = IsAsAtEntry u w ⊎ HasRead job f left
 -- the run over the file patches of the patch text was cut off at one of them, those in front of it having come to their ends; of that one
 -- nothing is done before all that it says is in the output
 pub record IsCut (why : Why) (u w : World) (f : Files) (left : List ℕ) (o : PlainOptions) : Type 0 where
+  pub text : List ℕ
   pub patches : List PlainPatch
-  pub read : Reads o f left patches
+  pub read : Reads o f left text patches
   pub fault : RunFault
   pub is : why ≡ of_run fault
-  pub cut : IsCutAt fault w.tree u.out w.out o (output_of o (known_names o patches)) (items_for o patches) f
+  pub cut : IsCutAt fault w.tree u.out w.out o (output_of o (known_names o patches)) (items_for o text patches) f
 
 -- after a fault, or where memory ran out
 abbrev pub BreaksOff : Sort → Why → Result PlainJob WordFault → World → World → Files → List ℕ → Type 0
@@ -163,7 +161,7 @@ pub record Carries (words : List (List ℕ)) (u w : World) (why : Why) (applied 
   pub images : (f : Files) (left : List ℕ) → TellsFiles (job_of words) u f → TellsLeft (job_of words) u left → LeavesAllowed u w f (command words f left).effects
   pub heeds : (f : Files) (left : List ℕ) → TellsInput (job_of words) u f left → Heeds (sort_of why) why (job_of words) u w f left
   pub cut : (f : Files) (left : List ℕ) → TellsFiles (job_of words) u f → TellsLeft (job_of words) u left → BreaksOff (sort_of why) why (job_of words) u w f left
-  -- unless a device failed, no temporary is left that the run started
+  -- unless a device failed, no temporary is left that the run started, whatever is told; where it is told, `answers` and `cut` say what each temporary name stands for
   pub tidy : is_fault why ≡ false → IsTidy u.tree w.tree
   -- a dry run leaves the tree as it is told, whatever is told, and starts no temporary
   pub dry : AsksFor (job_of words) (λ o. o.dry_run ≡ true) → Opens u.tree w.tree

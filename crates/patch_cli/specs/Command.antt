@@ -18,6 +18,7 @@ use Rattle.patch_set.specs.Asked.{ways_of}
 use Rattle.patch_set.specs.declared.fault.SetFault.{SetFault}
 use Rattle.patch_set.specs.Named.{known_names, targets_of, output_of}
 use Rattle.patch_set.specs.Refusals.{refusal}
+use Rattle.patch_set.specs.Skipped.{skipped_lines}
 use Rattle.patch_run.specs.Applied.{Receipt}
 use Rattle.patch_effects.specs.Faults.{of_open}
 use Rattle.patch_run.specs.OnePatch.{Item}
@@ -41,16 +42,17 @@ pub record Outcome : Type 0 where
 abbrev pub refused : Why → Files → Outcome
 refused why files = record { why = why; text = []; effects = []; files = files; taken = []; applied = None }
 
--- a file patch with its targets, whose numbers are their places among the known names
-abbrev pub item_for : PlainOptions → List (List ℕ) → PlainPatch → Item
-item_for o known p = record { patch = p; targets = targets_of o known p.header }
+-- a file patch with its targets, whose numbers are their places among the known names, and the binary changes that are passed over
+abbrev pub item_for : PlainOptions → List (List ℕ) → List ℕ → PlainPatch → Item
+item_for o known skipped p = record { patch = p; targets = targets_of o known p.header; skipped = skipped }
 
-abbrev pub items_for : PlainOptions → List PlainPatch → List Item
-items_for o ps = map (item_for o (known_names o ps)) ps
+-- those of a text
+abbrev pub items_for : PlainOptions → List ℕ → List PlainPatch → List Item
+items_for o text ps = map (item_for o (known_names o ps) (skipped_lines (ways_of o) text)) ps
 
--- the file patches one after another
-abbrev pub run_for : PlainOptions → List PlainPatch → Files → Run
-run_for o ps files = run_of o (output_of o (known_names o ps)) (items_for o ps) files
+-- the file patches of a text one after another
+abbrev pub run_for : PlainOptions → List ℕ → List PlainPatch → Files → Run
+run_for o text ps files = run_of o (output_of o (known_names o ps)) (items_for o text ps) files
 
 abbrev pub end_of : Option OpenFault → Bool → Why
 end_of None is_bad = if is_bad then Rejected else Done
@@ -72,13 +74,13 @@ carried_out count r = record {
 }
 
 -- a text that isn't refused has file patches, or is empty
-abbrev pub on_patches : PlainOptions → Result (List PlainPatch) Fault → Files → Outcome
-on_patches o (Err fault) files = refused (Malformed fault.line fault.kind) files
-on_patches o (Ok ps) files = carried_out (length ps) (run_for o ps files)
+abbrev pub on_patches : PlainOptions → List ℕ → Result (List PlainPatch) Fault → Files → Outcome
+on_patches o text (Err fault) files = refused (Malformed fault.line fault.kind) files
+on_patches o text (Ok ps) files = carried_out (length ps) (run_for o text ps files)
 
 abbrev pub on_refusal : PlainOptions → Option SetFault → List ℕ → Files → Outcome
 on_refusal o (Some fault) text files = refused (of_set fault) files
-on_refusal o None text files = on_patches o (patches_of (ways_of o) (completed text)) files
+on_refusal o None text files = on_patches o (completed text) (patches_of (ways_of o) (completed text)) files
 
 abbrev pub on_input : PlainOptions → Result (List ℕ) InputFault → Files → Outcome
 on_input o (Err fault) files = refused (of_input fault) files
@@ -92,12 +94,13 @@ on_job (Ok (patch o)) files left = on_input o (answer_of (input_bytes o.input o.
 abbrev pub with_plan : PlanKind → PlainOptions → PlainOptions
 with_plan plan o = record o { plan = plan }
 
--- the patch text that the options name is read as these file patches, and none of them is refused
-pub record Reads (o : PlainOptions) (files : Files) (left : List ℕ) (ps : List PlainPatch) : Type 0 where
-  pub text : List ℕ
-  pub given : answer_of (input_bytes o.input o.dir files left) ≡ Ok text
-  pub free : refusal o text ≡ None
-  pub patches : patches_of (ways_of o) (completed text) ≡ Ok ps
+-- the patch text that the options name, completed, is read as these file patches, and none of them is refused
+pub record Reads (o : PlainOptions) (files : Files) (left text : List ℕ) (ps : List PlainPatch) : Type 0 where
+  pub bytes : List ℕ
+  pub given : answer_of (input_bytes o.input o.dir files left) ≡ Ok bytes
+  pub free : refusal o bytes ≡ None
+  pub whole : text ≡ completed bytes
+  pub patches : patches_of (ways_of o) text ≡ Ok ps
 
 -- the words are read first, then the patch text; then the file patches are carried out
 abbrev pub command : List (List ℕ) → Files → List ℕ → Outcome

@@ -1,5 +1,6 @@
 -- The part of a run behind the reading of the patch text.
 use Rattle.std.specs.Prelude.{◌≡◌, ◌≢◌, ◌⊎◌, ℕ, ◌-◌, ◌^◌, ◌<◌, ◌≤◌, List, length, true, is_some, Some, None, Result, Err, OnOk, IfOk, IfErr}
+use Rattle.std.specs.List.{flat_map}
 use Rattle.outside.specs.Faults.{HasRisen}
 use Rattle.outside.specs.Files.{Files}
 use Rattle.outside.specs.TreeView.{TreeView, Passes}
@@ -9,6 +10,7 @@ use Rattle.outside.specs.SinkView.{SinkView, SinkPasses}
 use Rattle.outside.specs.SinkView as sink
 use Rattle.outside.specs.ScratchView.{ScratchView, ScratchPasses}
 use Rattle.outside.specs.Quiet.{LeavesPrefix}
+use Rattle.hunk_core.specs.declared.Verdict.{Verdict}
 use Rattle.patch_options.specs.PlainJob.{PlainOptions, IsLawful}
 use Rattle.patch_set.specs.SetView.{SetView, IsRead, HasVerdicts}
 use Rattle.patch_run.specs.Applied.{Receipt}
@@ -48,6 +50,14 @@ pub record IsNotBegun (u w : TreeView) (a b : ScratchView) (c d : SinkView) : Ty
 
 abbrev pub receipt_of : SetView → Run → Receipt
 receipt_of v r = record { is_bad = r.is_bad; done = length v.patches; effects = length r.effects }
+
+-- the verdicts of all hunks, file patch by file patch
+abbrev pub verdicts_of : Run → List Verdict
+verdicts_of r = flat_map (λ s. s.verdicts) r.stories
+
+-- where all is told, a run that came to its end leaves these verdicts
+abbrev pub LeavesVerdicts : PlainOptions → SetView → TreeView → ScratchView → List Verdict → Receipt → Type 0
+LeavesVerdicts o v u a verdicts given = (f : Files) → IsToldTo o u a f → verdicts ≡ verdicts_of (set_run o v f)
 
 -- a set is carried out with the plan that the options name, on a quiet tree
 pub record Finishes (o : PlainOptions) (v : SetView) (u w : TreeView) (a b : ScratchView) (c d : SinkView) (result : Result Receipt RunFault) : Type 0 where

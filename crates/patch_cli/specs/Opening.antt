@@ -1,7 +1,6 @@
 -- What comes before the first change.
 use Rattle.std.specs.Prelude.{◌≡◌, ℕ, List, Result, Ok}
 use Rattle.outside.specs.Files.{Files}
-use Rattle.outside.specs.TreeView.{TreeView, Passes, MayLeave, LeftSince}
 use Rattle.patch_options.specs.PlainJob.{PlainOptions, PlainJob}
 use Rattle.patch_options.specs.PlainJob.PlainJob.{patch}
 use Rattle.patch_options.specs.declared.options.WordFault.{WordFault}
@@ -17,7 +16,7 @@ use Rattle.patch_cli.specs.Finishes.{CanApply}
 -- where it is told what they read, the patch text that these options name is this set
 pub record IsAsked (o : PlainOptions) (v : SetView) (u : World) : Type 0 where
   pub can : CanApply o v
-  pub reads : (f : Files) (left : List ℕ) → TellsInput (Ok (patch o)) u f left → Reads o f left (plain_patches v)
+  pub reads : (f : Files) (left : List ℕ) → TellsInput (Ok (patch o)) u f left → Reads o f left v.text (plain_patches v)
 
 -- where it is told what is read, the job ends so
 abbrev pub EndsSo : Why → Result PlainJob WordFault → World → Type 0

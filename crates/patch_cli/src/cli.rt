@@ -87,7 +87,7 @@ pub fn run<T: Tree, C: Scratch, I: Source, O: Sink, E: Sink>(
 }
 
 /// How a run ends that came to its end, or stopped.
-fn exit_of(ended: Result<Applied, Why>) -> Exit
+pub fn exit_of(ended: Result<Applied, Why>) -> Exit
     ensures why { result.why ≡ why_of ended }
     ensures applied { result.applied ≡ receipt_of ended }
     ensures status { result.status ≡ exit_status result.why }

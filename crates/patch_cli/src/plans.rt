@@ -1,11 +1,11 @@
 //! The run over the file patches, with the plan that the options name.
-ghost use Rattle.std.specs.Prelude.{◌≡◌, false};
+ghost use Rattle.std.specs.Prelude.{◌≡◌, false, IfOk};
 ghost use Rattle.outside.specs.ScratchView.{ScratchView};
 ghost use Rattle.outside.specs.Quiet.{IsQuiet};
 ghost use Rattle.patch_options.specs.PlainJob.{plain_options};
 ghost use Rattle.patch_options.specs.declared.options.PlanKind.TheVariants.{Whole, Padded, Packed, Auto};
 ghost use Rattle.patch_cli.specs.Scratches.{has_scratch};
-ghost use Rattle.patch_cli.specs.Finishes.{CanApply, Finishes};
+ghost use Rattle.patch_cli.specs.Finishes.{CanApply, Finishes, LeavesVerdicts};
 
 use auto_plan::AutoPlan;
 use outside::{Scratch, Sink, Tree};
@@ -19,7 +19,8 @@ use plan_a::PlanA;
 use plan_b::PlanB;
 use std::alloc::Global;
 
-/// Carries out the file patches. The scratch comes back.
+/// Carries out the file patches of a set that was read with these options. The scratch comes back, and the set has a verdict
+/// for each hunk.
 pub fn apply<C: Scratch, T: Tree, O: Sink>(
     alloc: Global,
     options: &Options,
@@ -31,6 +32,7 @@ pub fn apply<C: Scratch, T: Tree, O: Sink>(
     requires can { CanApply (plain_options options.now) set.old }
     requires quiet { IsQuiet (T.view tree.old) }
     ensures finishes { Finishes (plain_options options.now) set.old (T.view tree.old) (T.view tree.new) (C.view scratch) (C.view result.1) (O.view out.old) (O.view out.new) result.0 }
+    ensures verdicts { IfOk result.0 (LeavesVerdicts (plain_options options.now) set.old (T.view tree.old) (C.view scratch) set.new.verdicts) }
     ensures scratch { has_scratch options.now.plan ≡ false → result.1 ≡ scratch }
     ensures rest { O.same_rest out.old out.new }
 {
@@ -54,6 +56,7 @@ fn apply_whole<T: Tree, O: Sink>(
     requires plan { options.now.plan ≡ Whole }
     requires quiet { IsQuiet (T.view tree.old) }
     ensures finishes { (a : ScratchView) → Finishes (plain_options options.now) set.old (T.view tree.old) (T.view tree.new) a a (O.view out.old) (O.view out.new) result }
+    ensures verdicts { (a : ScratchView) → IfOk result (LeavesVerdicts (plain_options options.now) set.old (T.view tree.old) a set.new.verdicts) }
     ensures rest { O.same_rest out.old out.new }
 {
     let mut whole = PlanA::new(alloc, options.buffer);
@@ -73,6 +76,7 @@ fn apply_padded<C: Scratch, T: Tree, O: Sink>(
     requires plan { options.now.plan ≡ Padded }
     requires quiet { IsQuiet (T.view tree.old) }
     ensures finishes { Finishes (plain_options options.now) set.old (T.view tree.old) (T.view tree.new) (C.view scratch) (C.view result.1) (O.view out.old) (O.view out.new) result.0 }
+    ensures verdicts { IfOk result.0 (LeavesVerdicts (plain_options options.now) set.old (T.view tree.old) (C.view scratch) set.new.verdicts) }
     ensures rest { O.same_rest out.old out.new }
 {
     let pair = match PagePair::new(alloc, options.buffer as usize) {
@@ -98,6 +102,7 @@ fn apply_packed<C: Scratch, T: Tree, O: Sink>(
     requires plan { options.now.plan ≡ Packed }
     requires quiet { IsQuiet (T.view tree.old) }
     ensures finishes { Finishes (plain_options options.now) set.old (T.view tree.old) (T.view tree.new) (C.view scratch) (C.view result.1) (O.view out.old) (O.view out.new) result.0 }
+    ensures verdicts { IfOk result.0 (LeavesVerdicts (plain_options options.now) set.old (T.view tree.old) (C.view scratch) set.new.verdicts) }
     ensures rest { O.same_rest out.old out.new }
 {
     let pair = match PagePair::new(alloc, options.buffer as usize) {
@@ -123,6 +128,7 @@ fn apply_by_size<C: Scratch, T: Tree, O: Sink>(
     requires plan { options.now.plan ≡ Auto }
     requires quiet { IsQuiet (T.view tree.old) }
     ensures finishes { Finishes (plain_options options.now) set.old (T.view tree.old) (T.view tree.new) (C.view scratch) (C.view result.1) (O.view out.old) (O.view out.new) result.0 }
+    ensures verdicts { IfOk result.0 (LeavesVerdicts (plain_options options.now) set.old (T.view tree.old) (C.view scratch) set.new.verdicts) }
     ensures rest { O.same_rest out.old out.new }
 {
     let pair = match PagePair::new(alloc, options.buffer as usize) {

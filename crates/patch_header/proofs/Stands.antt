@@ -1,136 +1,17 @@
 -- No line has two openings, no opening is a binary line, and none of them begins a git header: the first byte tells them apart, and for normal diffs and ed scripts what follows the letter.
-use Rattle.std.proofs.Common.{◌≡◌, ◌⊎◌, inl, inr, ◌↔◌, ℕ, suc, ◌-◌, Bool, true, false, cond, not, ◌&&◌, ◌||◌, eqb, List, [], ◌∷◌, length, take, Option, None, Some, refl, sym, ap, subst, ◌∙◌, arith}
-use Rattle.std.specs.Prelude.{is_some, codes, nat_eq, bytes_eq}
-use Rattle.std.proofs.lemmas.Bool.{eqb-true}
+use Rattle.std.proofs.Common.{◌≡◌, inl, inr, ◌↔◌, ℕ, ◌-◌, Bool, true, false, cond, not, ◌&&◌, eqb, List, [], ◌∷◌, Option, None, Some, refl, sym, ap, ◌∙◌, arith}
+use Rattle.std.specs.Prelude.{codes}
 use Rattle.hunk_core.specs.declared.Form.{Form}
 use Rattle.hunk_core.specs.declared.Form.TheVariants.{Unified, Context, Normal, Ed}
-use Rattle.hunk_core.specs.LineTests.{after, ends_line}
-use Rattle.std.specs.List.{ends_with}
-use Rattle.num_text.specs.Numbers.{is_digit, value_after, after_digits}
-use Rattle.num_text.specs.NumberRanges.{range_at, from_first}
-use Rattle.num_text.specs.declared.range.NumberRange.{NumberRange}
-use Rattle.diff_command.specs.Letters.{◌>>=◌, action_at, is_line_end}
-use Rattle.diff_command.specs.declared.Action.{Action}
-use Rattle.ed_form.specs.Commands as ed
-use Rattle.ed_form.specs.declared.command.Command.{Command}
-use Rattle.unified_form.specs.Ranges as range_line
-use Rattle.context_form.specs.Openings as context
-use Rattle.normal_form.specs.Commands as command
+use Rattle.num_text.specs.Numbers.{is_digit}
 use Rattle.patch_header.specs.Content.{content, is_binary}
-use Rattle.patch_header.specs.Openings.{admits, begins, begins_binary, opens, stops_binary, stops_bare, stop_at}
+use Rattle.patch_header.specs.Openings.{admits, begins, begins_binary, opens, stops_binary, tells_binary, is_passed_over, stops_bare, stop_at}
 use Rattle.patch_header.specs.GitHeaders.{begins_bare}
 use Rattle.patch_header.specs.declared.ways.Ways.{Ways}
 use Rattle.patch_header.specs.declared.openings.Stop.{Stop}
 use Rattle.patch_header.specs.declared.openings.Stop.TheVariants.{Opening, Binary, Bare}
-
--- the first byte of a line; 0 where there is none
-abbrev pub front : List ℕ → ℕ
-front [] = 0
-front (b ∷ bytes) = b
-
-pub and_left : (v w : Bool) → (v && w) ≡ true → v ≡ true
-and_left true w h = refl
-and_left false w h = absurd cc
-
-pub and_right : (v w : Bool) → (v && w) ≡ true → w ≡ true
-and_right true w h = h
-and_right false w h = absurd cc
-
--- what begins with a prefix begins with its first byte
-after-front : (p : ℕ) (prefix line : List ℕ) → is_some (after (p ∷ prefix) line) ≡ true → front line ≡ p
-unfolding after
-after-front p prefix [] h = absurd cc
-after-front p prefix (b ∷ bytes) h = by (eqb b p) refl h
-  where
-    by : (v : Bool) → eqb b p ≡ v → is_some (cond v (after prefix bytes) None) ≡ true → b ≡ p
-    by true e k = eqb-true b p e
-    by false e k = absurd cc
-
-unified-some : (o : Option (List ℕ)) → is_some (range_line.◌>>=◌ o range_line.size_at) ≡ true → is_some o ≡ true
-unified-some None h = absurd cc
-unified-some (Some x) h = refl
-
-unified-front : (line : List ℕ) → range_line.is_opening line ≡ true → front line ≡ 64
-unfolding range_line.is_opening
-unified-front line h = after-front 64 (64 ∷ 32 ∷ 45 ∷ []) line (unified-some (after (64 ∷ 64 ∷ 32 ∷ 45 ∷ []) line) h)
-
-context-front : (line : List ℕ) → context.is_stars line ≡ true → front line ≡ 42
-context-front line h = after-front 42 (42 ∷ 42 ∷ 42 ∷ 42 ∷ 42 ∷ 42 ∷ 42 ∷ 42 ∷ 42 ∷ 42 ∷ 42 ∷ 42 ∷ 42 ∷ 42 ∷ []) line h
-
-range-front : (line : List ℕ) → is_some (range_at line) ≡ true → is_digit (front line) ≡ true
-unfolding range_at
-range-front [] h = absurd cc
-range-front (b ∷ bytes) h = by (is_digit b) h
-  where
-    by : (v : Bool) → is_some (from_first (cond v (Some (value_after 0 (b ∷ bytes), after_digits bytes)) None)) ≡ true → v ≡ true
-    by true k = refl
-    by false k = absurd cc
-
-bind-some : {A B : Type 0} (o : Option A) (f : A → Option B) → is_some (o >>= f) ≡ true → is_some o ≡ true
-bind-some None f h = absurd cc
-bind-some (Some x) f h = refl
-
--- ---- commands
-
-normal-range : (line : List ℕ) → command.is_command line ≡ true → is_some (range_at line) ≡ true
-unfolding command.parts_at
-normal-range line h = bind-some (range_at line) (λ old. action_at old.1 >>= λ action. range_at action.1 >>= λ new. command.whole old.0 action.0 new.0 new.1) h
-
-ed-range : (line : List ℕ) → ed.is_command line ≡ true → is_some (range_at line) ≡ true
-unfolding ed.parts_at
-ed-range line h = bind-some (range_at line) (λ range. action_at range.1 >>= λ action. ed.whole range.0 action.0 action.1) h
-
-ended : (range : NumberRange) (action : Action) (rest : List ℕ) → is_some (ed.whole range action rest) ≡ true → is_line_end rest ≡ true
-ended range action rest h = by (is_line_end rest) h
-  where
-    by : (v : Bool) → is_some {T = Command} (cond v (Some (record { range = range; action = action })) None) ≡ true → v ≡ true
-    by true k = refl
-    by false k = absurd cc
-
--- a range doesn't stand where the line ends
-no-range : (rest : List ℕ) → is_line_end rest ≡ true → is_some (range_at rest) ≡ true → ⊥
-no-range [] h k = let d : is_digit 0 ≡ true = range-front [] k in absurd cc
-no-range (b ∷ []) h k = let d : is_digit 10 ≡ true = subst (λ x. is_digit x ≡ true) (eqb-true b 10 h) (range-front (b ∷ []) k) in absurd cc
-no-range (b ∷ c ∷ bytes) h k = absurd cc
-
-clash-action : (old : NumberRange) (o : Option (Action × List ℕ)) → is_some (o >>= λ action. range_at action.1 >>= λ new. command.whole old action.0 new.0 new.1) ≡ true → is_some (o >>= λ action. ed.whole old action.0 action.1) ≡ true → ⊥
-clash-action old None h k = absurd cc
-clash-action old (Some a) h k = no-range a.1 (ended old a.0 a.1 k) (bind-some (range_at a.1) (λ new. command.whole old a.0 new.0 new.1) h)
-
-clash-range : (o : Option (NumberRange × List ℕ)) → is_some (o >>= λ old. action_at old.1 >>= λ action. range_at action.1 >>= λ new. command.whole old.0 action.0 new.0 new.1) ≡ true → is_some (o >>= λ range. action_at range.1 >>= λ action. ed.whole range.0 action.0 action.1) ≡ true → ⊥
-clash-range None h k = absurd cc
-clash-range (Some r) h k = clash-action r.0 (action_at r.1) h k
-
--- no command of a normal diff is one of an ed script
-clash : (line : List ℕ) → command.is_command line ≡ true → ed.is_command line ≡ true → ⊥
-unfolding command.parts_at ed.parts_at
-clash line h k = clash-range (range_at line) h k
-
--- ---- binary lines
-
-eq-front : (bytes : List ℕ) (b : ℕ) (rest : List ℕ) → bytes_eq bytes (b ∷ rest) ≡ true → front bytes ≡ b
-eq-front [] b rest h = absurd cc
-eq-front (x ∷ bytes) b rest h = eqb-true x b (and_left _ _ h)
-
-content-front : (line : List ℕ) (n : ℕ) → front (content line) ≡ suc n → front line ≡ suc n
-content-front [] n h = h
-content-front (b ∷ []) n h = by (eqb b 10) h
-  where
-    by : (v : Bool) → front (cond v (take (length (b ∷ []) - 1) (b ∷ [])) (b ∷ [])) ≡ suc n → b ≡ suc n
-    by true k = absurd (omega (arith, k))
-    by false k = k
-content-front (b ∷ c ∷ bytes) n h = by (ends_line (c ∷ bytes)) h
-  where
-    most : length (b ∷ c ∷ bytes) - 1 ≡ suc (length bytes)
-    most = omega arith
-
-    by : (v : Bool) → front (cond v (take (length (b ∷ c ∷ bytes) - 1) (b ∷ c ∷ bytes)) (b ∷ c ∷ bytes)) ≡ suc n → b ≡ suc n
-    by true k = rw most at k
-    by false k = k
-
-pub or_cases : (v w : Bool) → (v || w) ≡ true → (v ≡ true) ⊎ (w ≡ true)
-or_cases true w h = inl refl
-or_cases false w h = inr h
+pub use Rattle.patch_header.proofs.Fronts.{front, and_left, and_right, or_cases}
+use Rattle.patch_header.proofs.Fronts.{after-front, unified-front, context-front, range-front, normal-range, ed-range, clash, content-front, binary-front}
 
 -- ---- what the first byte tells
 
@@ -148,9 +29,9 @@ digit-kind b h = rw h refl
 
 binary-kind : (line : List ℕ) → is_binary line ≡ true → kind (front line) ≡ 0
 binary-kind line h =
-    elim (or_cases (bytes_eq (content line) (codes "GIT binary patch")) (is_some (after (codes "Binary files ") (content line)) && ends_with nat_eq (content line) (codes " differ")) h) [
-      | inl e ↦ ap kind (content-front line 70 (eq-front (content line) 71 (codes "IT binary patch") e))
-      | inr e ↦ ap kind (content-front line 65 (after-front 66 (codes "inary files ") (content line) (and_left _ _ e)))
+    elim (binary-front line h) [
+      | inl e ↦ ap kind e
+      | inr e ↦ ap kind e
     ]
 
 -- the first byte of the first line
@@ -343,14 +224,51 @@ binary-words ways rest = (
   λ h. stop-none ways rest (λ f. shut-binary ways.only f rest (and_right (not ways.skip_binary) _ h)) ∙ ap (λ v. cond v (Some Binary) (cond (stops_bare ways rest) (Some Bare) None)) h,
 )
 
+and_no : (v w : Bool) → w ≡ false → (v && w) ≡ false
+and_no true w h = h
+and_no false w h = refl
+
+-- what stands is a bare git header
+pub stops-begins : (ways : Ways) (rest : List (List ℕ)) → stops_bare ways rest ≡ true → begins_bare rest ≡ true
+stops-begins ways rest h = and_left (begins_bare rest) _ (and_right ways.git _ h)
+
+none-passed : (s t : Bool) → t ≡ false → not (s && t) ≡ true
+none-passed true t h = ap not h
+none-passed false t h = refl
+
+-- one that no binary line follows directly stands
+pub stops-by : (ways : Ways) (rest : List (List ℕ)) → ways.git ≡ true → begins_bare rest ≡ true → tells_binary rest ≡ false → stops_bare ways rest ≡ true
+stops-by ways rest git bare other =
+    ap (λ v. v && (begins_bare rest && not (is_passed_over ways rest))) git
+    ∙ ap (λ v. v && not (is_passed_over ways rest)) bare
+    ∙ none-passed ways.skip_binary (tells_binary rest) other
+
+-- where none begins, none stands
+pub stops-not : (ways : Ways) (rest : List (List ℕ)) → begins_bare rest ≡ false → stops_bare ways rest ≡ false
+stops-not ways rest h = ap (λ v. ways.git && (v && not (is_passed_over ways rest))) h ∙ and_no ways.git false refl
+
+and-yes : (v : Bool) → (v && true) ≡ v
+and-yes true = refl
+and-yes false = refl
+
+pub stops-plain : (ways : Ways) (rest : List (List ℕ)) → ways.skip_binary ≡ false → stops_bare ways rest ≡ (ways.git && begins_bare rest)
+stops-plain ways rest h = ap (λ s. ways.git && (begins_bare rest && not (s && tells_binary rest))) h ∙ ap (λ v. ways.git && v) (and-yes (begins_bare rest))
+
+pub stops-skipped : (ways : Ways) (rest : List (List ℕ)) → ways.skip_binary ≡ true → tells_binary rest ≡ true → stops_bare ways rest ≡ false
+stops-skipped ways rest s t =
+    ap (λ v. ways.git && (begins_bare rest && not (v && tells_binary rest))) s
+    ∙ ap (λ v. ways.git && (begins_bare rest && not v)) t
+    ∙ ap (λ v. ways.git && v) (and_no (begins_bare rest) false refl)
+    ∙ and_no ways.git false refl
+
 bare-no_text : (ways : Ways) (rest : List (List ℕ)) → stops_bare ways rest ≡ true → stops_binary ways rest ≡ false
-bare-no_text ways rest h = is_no (stops_binary ways rest) (λ k. let b : begins_binary rest ≡ false = bare-text rest (and_right ways.git _ h) in let c : begins_binary rest ≡ true = and_right (not ways.skip_binary) _ k in absurd cc)
+bare-no_text ways rest h = is_no (stops_binary ways rest) (λ k. let b : begins_binary rest ≡ false = bare-text rest (stops-begins ways rest h) in let c : begins_binary rest ≡ true = and_right (not ways.skip_binary) _ k in absurd cc)
 
 pub bare-words : (ways : Ways) (rest : List (List ℕ)) → stop_at ways rest ≡ Some Bare ↔ stops_bare ways rest ≡ true
 unfolding stop_at
 bare-words ways rest = (
   λ h. told-bare (opens ways.only Unified rest) (opens ways.only Context rest) (opens ways.only Normal rest) (opens ways.only Ed rest) (stops_binary ways rest) (stops_bare ways rest) h,
-  λ h. stop-none ways rest (λ f. shut-bare ways.only f rest (and_right ways.git _ h))
+  λ h. stop-none ways rest (λ f. shut-bare ways.only f rest (stops-begins ways rest h))
       ∙ ap (λ v. cond v (Some Binary) (cond (stops_bare ways rest) (Some Bare) None)) (bare-no_text ways rest h)
       ∙ ap (λ v. cond v (Some Bare) None) h,
 )
@@ -362,17 +280,13 @@ nothing-words ways rest = (
   λ h. stop-none ways rest h.0 ∙ ap (λ v. cond v (Some Binary) (cond (stops_bare ways rest) (Some Bare) None)) h.1 ∙ ap (λ v. cond v (Some Bare) None) h.2,
 )
 
-and_no : (v w : Bool) → w ≡ false → (v && w) ≡ false
-and_no true w h = h
-and_no false w h = refl
-
 no-git : begins_bare [] ≡ false
 unfolding begins_bare
 no-git = refl
 
 -- nothing stands where no line is left
 pub stop-end : (ways : Ways) → stop_at ways [] ≡ None
-stop-end ways = (nothing-words ways []).1 (λ f. shut f, and_no (not ways.skip_binary) false refl, and_no ways.git (begins_bare []) no-git)
+stop-end ways = (nothing-words ways []).1 (λ f. shut f, and_no (not ways.skip_binary) false refl, stops-not ways [] no-git)
   where
     shut : (f : Form) → opens ways.only f [] ≡ false
     shut f = is_no (opens ways.only f []) (λ k. let z : kind (first_byte []) ≡ number f = kind-of ways.only f [] (and_right (admits ways.only f) _ k) in no-binary f 0 z refl)

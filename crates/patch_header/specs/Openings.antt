@@ -1,4 +1,4 @@
--- What can stand at a line: the opening of a form, a binary line, or a bare git header.
+-- What can stand at a line: the opening of a form, a binary line, or a bare git header (git-diff(1), "Generating patch text with -p").
 use Rattle.std.specs.Prelude.{ℕ, Bool, true, false, not, ◌&&◌, ◌||◌, List, [], ◌∷◌, Option, None, Some, if◌then◌else◌}
 use Rattle.hunk_core.specs.declared.Form.{Form}
 use Rattle.hunk_core.specs.declared.Form.TheVariants.{Unified, Context, Normal, Ed}
@@ -10,7 +10,7 @@ use Rattle.unified_form.specs.Hunks as unified
 use Rattle.context_form.specs.Openings as context
 use Rattle.normal_form.specs.Hunks as normal
 use Rattle.patch_header.specs.Content.{is_binary, has_dot}
-use Rattle.patch_header.specs.GitHeaders.{begins_bare}
+use Rattle.patch_header.specs.GitHeaders.{behind_run, begins_bare}
 use Rattle.patch_header.specs.declared.ways.Ways.{Ways}
 use Rattle.patch_header.specs.declared.openings.Stop.{Stop}
 use Rattle.patch_header.specs.declared.openings.Stop.TheVariants.{Opening, Binary, Bare}
@@ -65,9 +65,18 @@ begins_binary (line ∷ rest) = is_binary line
 abbrev pub stops_binary : Ways → List (List ℕ) → Bool
 stops_binary ways rest = not ways.skip_binary && begins_binary rest
 
--- a bare git header begins these lines, where git headers are read
+-- the line directly behind the git header that begins these lines is a binary line
+abbrev pub tells_binary : List (List ℕ) → Bool
+tells_binary [] = false
+tells_binary (line ∷ rest) = begins_binary (behind_run rest)
+
+-- such a header is a part of the binary change; where binary lines are passed over, so is it
+abbrev pub is_passed_over : Ways → List (List ℕ) → Bool
+is_passed_over ways rest = ways.skip_binary && tells_binary rest
+
+-- a bare git header begins these lines, where git headers are read, and isn't passed over with a binary change
 abbrev pub stops_bare : Ways → List (List ℕ) → Bool
-stops_bare ways rest = ways.git && begins_bare rest
+stops_bare ways rest = ways.git && (begins_bare rest && not (is_passed_over ways rest))
 
 -- what stands at the first of these lines; no line has two of them, so the order of the tests tells nothing
 unfoldable pub stop_at : Ways → List (List ℕ) → Option Stop

@@ -5,6 +5,7 @@ ghost use Rattle.line_list.specs.Lines.{lines, IsLineAt};
 ghost use Rattle.patch_header.specs.Content.{has_dot};
 ghost use Rattle.patch_header.specs.GitHeaders.{git_header, extended_run, behind_run, action_of, is_plain, is_extended, has_new_name, has_names, begins_bare};
 ghost use Rattle.patch_header.specs.GitRows.{has_halves, half, middle_of, are_alike, old_half, new_half};
+ghost use Rattle.patch_header.specs.Openings.{begins_binary, tells_binary};
 ghost use Rattle.patch_header.specs.Said.{SaysWithin};
 ghost use Rattle.patch_header.specs.Kept.{bare_said};
 ghost use Rattle.patch_header.specs.Region.{LiesIn, Row, seen_in, AllLieIn};
@@ -12,6 +13,7 @@ ghost use Rattle.patch_header.specs.Values.{IsPieceOf};
 ghost use Rattle.patch_header.specs.Scanning.{HasScanned, IsBlock};
 ghost use Rattle.patch_header.specs.Steps.{bare_with, HasPieces};
 
+use crate::content::is_binary;
 use crate::git_lines::{
     GitLines, action_of, from_in, is_extended, is_git_line, is_plain, no_git_lines, starts, to_in,
     with_line,
@@ -109,6 +111,36 @@ pub fn is_bare(text: &[u8], at: usize, end: usize) -> bool
     ensures { result ≡ begins_bare (lines (drop at text.now)) }
 {
     is_git_line(&text[at..end]) && says_more(text, end)
+}
+
+/// Whether the line directly behind the git header that begins with the line from `at` up to `end` is a binary line.
+pub fn tells_binary(text: &[u8], at: usize, end: usize) -> bool
+    requires short { length text.now < 2 ^ 32 }
+    requires line { IsLineAt text.now at end }
+    ensures { result ≡ tells_binary (lines (drop at text.now)) }
+{
+    is_binary_behind(text, end)
+}
+
+/// Whether the line directly behind the extended lines from a place on is a binary line.
+fn is_binary_behind(text: &[u8], at: usize) -> bool
+    requires short { length text.now < 2 ^ 32 }
+    requires within { at ≤ length text.now }
+    ensures { result ≡ begins_binary (behind_run (lines (drop at text.now))) }
+{
+    let block = extended_from(text, at, 0);
+    stands_binary(text, block.end)
+}
+
+/// Whether a binary line stands here.
+fn stands_binary(text: &[u8], at: usize) -> bool
+    requires { at ≤ length text.now }
+    ensures { result ≡ begins_binary (lines (drop at text.now)) }
+{
+    match next_line(text, at) {
+        None => false,
+        Some(end) => is_binary(&text[at..end]),
+    }
 }
 
 /// Whether both are equal behind their first slash.

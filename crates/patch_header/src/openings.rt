@@ -5,11 +5,11 @@ ghost use Rattle.line_list.specs.Lines.{lines, IsLineAt};
 ghost use Rattle.hunk_core.specs.declared.Form.{Form};
 ghost use Rattle.ed_form.specs.Commands.{is_command};
 ghost use Rattle.patch_header.specs.Content.{has_dot};
-ghost use Rattle.patch_header.specs.Openings.{admits, takes_text, asks_dot, begins, begins_binary, opens, stops_binary, stops_bare, stop_at};
+ghost use Rattle.patch_header.specs.Openings.{admits, takes_text, asks_dot, begins, begins_binary, opens, stops_binary, tells_binary, is_passed_over, stops_bare, stop_at};
 ghost use Rattle.patch_header.specs.GitHeaders.{begins_bare};
 ghost use Rattle.patch_header.specs.declared.ways.Ways.{Ways};
 
-use crate::bare::is_bare;
+use crate::bare::{is_bare, tells_binary};
 use crate::content::{has_dot, is_binary};
 use crate::ways::Ways;
 use diff_command::Action;
@@ -81,6 +81,25 @@ fn opens_script(line: &[u8], only: Option<Form>, dotless: bool) -> bool
     is_command_line(line) && (!asks_dot(only, line) || !dotless)
 }
 
+/// Whether a bare git header begins with the line from `at` up to `end` that isn't passed over with a
+/// binary change. Where binary lines are passed over it looks ahead over the extended lines once more.
+fn stops_bare(text: &[u8], at: usize, end: usize, ways: Ways) -> bool
+    requires short { length text.now < 2 ^ 32 }
+    requires line { IsLineAt text.now at end }
+    ensures { result ≡ stops_bare ways (lines (drop at text.now)) }
+{
+    ways.git && (is_bare(text, at, end) && !is_passed_over(text, at, end, ways))
+}
+
+/// Whether such a header is a part of a binary change that is passed over.
+fn is_passed_over(text: &[u8], at: usize, end: usize, ways: Ways) -> bool
+    requires short { length text.now < 2 ^ 32 }
+    requires line { IsLineAt text.now at end }
+    ensures { result ≡ is_passed_over ways (lines (drop at text.now)) }
+{
+    ways.skip_binary && tells_binary(text, at, end)
+}
+
 /// What stands at the line from `at` up to `end`.
 #[tactic(auto, unfolding(crate::specs::Openings::stop_at))]
 pub fn stop_at(text: &[u8], at: usize, end: usize, ways: Ways, dotless: bool) -> Option<Stop>
@@ -104,7 +123,7 @@ pub fn stop_at(text: &[u8], at: usize, end: usize, ways: Ways, dotless: bool) ->
     if !ways.skip_binary && is_binary(&text[at..end]) {
         return Some(Stop::Binary);
     }
-    if ways.git && is_bare(text, at, end) {
+    if stops_bare(text, at, end, ways) {
         return Some(Stop::Bare);
     }
     None
@@ -122,6 +141,10 @@ pub fn one_thing_stands()
     ensures opening { (ways : Ways) (f : Form) (rest : List (List ℕ)) → stop_at ways rest ≡ Some (Stop.Opening f) ↔ opens ways.only f rest ≡ true }
     ensures binary { (ways : Ways) (rest : List (List ℕ)) → stop_at ways rest ≡ Some Stop.Binary ↔ stops_binary ways rest ≡ true }
     ensures git { (ways : Ways) (rest : List (List ℕ)) → stop_at ways rest ≡ Some Stop.Bare ↔ stops_bare ways rest ≡ true }
+    // Where binary lines stop the search, each bare git header stands, whatever follows it.
+    ensures plain { (ways : Ways) (rest : List (List ℕ)) → ways.skip_binary ≡ false → stops_bare ways rest ≡ (ways.git && begins_bare rest) }
+    // Where they are passed over, none does that a binary line follows directly.
+    ensures skipped { (ways : Ways) (rest : List (List ℕ)) → ways.skip_binary ≡ true → tells_binary rest ≡ true → stops_bare ways rest ≡ false }
     // Nothing stands where none of these tests holds.
     ensures nothing { (ways : Ways) (rest : List (List ℕ)) → (stop_at ways rest ≡ None) ↔ (((f : Form) → opens ways.only f rest ≡ false) × (stops_binary ways rest ≡ false) × (stops_bare ways rest ≡ false)) }
 {}

@@ -12,7 +12,8 @@ pub struct Ways {
     pub only: Option<Form>,
     /// Whether git headers are read. Where they aren't, each of their lines is as any other line.
     pub git: bool,
-    /// Whether binary lines are passed over as any other line. Where they aren't, they stop the search.
+    /// Whether binary lines are passed over as any other line, and with them each bare git header that one
+    /// follows directly. Where they aren't, they stop the search.
     pub skip_binary: bool,
 }
 

@@ -1,7 +1,7 @@
-pub mod Extending
 pub mod Matching
 pub mod Numbers
 pub mod ByTable
 pub mod Singles
 pub mod Lawful
 pub mod Jobs
+pub mod Growing

@@ -36,6 +36,7 @@ pub record PlainOptions : Type 0 where
   pub reject_form : Option Form
   pub define : Option (List ℕ)
   pub posix : Bool
+  pub skip_binary : Bool
   pub dry_run : Bool
   pub silent : Bool
   pub verbose : Bool
@@ -66,6 +67,7 @@ plain_options o = record {
   reject_form = o.reject_form;
   define = option_map string_bytes o.define;
   posix = o.posix;
+  skip_binary = o.skip_binary;
   dry_run = o.dry_run;
   silent = o.silent;
   verbose = o.verbose;

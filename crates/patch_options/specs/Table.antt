@@ -1,4 +1,4 @@
--- The table of the words of `patch`: what each switch and each value gives, over what `clap` matched.
+-- What each switch and each value of `patch` gives, over what `clap` matched.
 use Rattle.std.specs.Prelude.{ℕ, ◌+◌, List, [], ◌∷◌, codes, nat_le, nat_lt, Bool, true, false, not, ◌&&◌, ◌||◌, if◌then◌else◌, bytes_eq, Option, None, Some, is_some, option_map, option_and_then, unwrap_or}
 use Rattle.std.specs.List.{list_all}
 use Rattle.std.specs.Option.{option_map_or}
@@ -8,10 +8,14 @@ use Rattle.outside.specs.Names.{given_form, is_here}
 use Rattle.hunk_core.specs.declared.Form.{Form}
 use Rattle.hunk_core.specs.declared.Form.TheVariants.{Unified, Context, Normal, Ed}
 use Rattle.patch_options.specs.Forms.{number_of, buffer_of, plan_of, reject_form_of, is_suffix, is_backup_kind, is_get, is_macro_name, is_prefix, is_lasting_name, is_output, is_reject_file, is_directory, is_patch_file}
+use Rattle.patch_options.specs.Groups.{patch_table}
 use Rattle.patch_options.specs.PlainJob.{PlainOptions}
+use Rattle.patch_options.specs.Simple.{PlainWord}
 use Rattle.patch_options.specs.declared.options.PlanKind.TheVariants.{Auto}
 use Rattle.patch_options.specs.declared.options.Input.{Input}
 use Rattle.patch_options.specs.declared.options.Input.TheVariants.{Standard, File}
+use Rattle.patch_options.specs.declared.simple.WordForm.{WordForm}
+use Rattle.patch_options.specs.declared.simple.WordForm.TheVariants.{Switch, Letter, Value, Values, Operand}
 
 -- how often the switch was given
 unfoldable pub uses : List Row → Text → ℕ
@@ -23,20 +27,27 @@ is_used rows name = nat_lt 0 (uses rows name)
 abbrev pub is_single : List Row → Text → Bool
 is_single rows name = nat_le (uses rows name) 1
 
+-- what is asked of a switch alone
+abbrev pub when_switch : WordForm → Bool → Bool
+when_switch Switch b = b
+when_switch Letter b = b
+when_switch Value b = true
+when_switch Values b = true
+when_switch Operand b = true
+
 abbrev pub are_both_used : List Row → Text → Text → Bool
 are_both_used rows one other = is_used rows one && is_used rows other
-
-abbrev pub switch_names : List Text
-switch_names = codes "context" ∷ codes "ed" ∷ codes "normal" ∷ codes "unified" ∷ codes "reverse" ∷ codes "force" ∷ codes "batch"
-    ∷ codes "forward" ∷ codes "posix" ∷ codes "ignore-whitespace" ∷ codes "remove-empty-files" ∷ codes "backup" ∷ codes "backup-if-mismatch"
-    ∷ codes "no-backup-if-mismatch" ∷ codes "dry-run" ∷ codes "silent" ∷ codes "quiet" ∷ codes "verbose" ∷ codes "binary" ∷ []
 
 abbrev pub form_uses : List Row → ℕ
 form_uses rows = uses rows (codes "context") + uses rows (codes "ed") + uses rows (codes "normal") + uses rows (codes "unified")
 
+-- a word is no switch, or is given once at most
+abbrev pub is_given_once : List Row → PlainWord → Bool
+is_given_once rows w = when_switch w.form (is_single rows w.name)
+
 -- no switch is given twice
 unfoldable pub are_single : List Row → Bool
-are_single rows = list_all (is_single rows) switch_names
+are_single rows = list_all (is_given_once rows) patch_table
 
 abbrev pub exclusions_hold : List Row → Bool
 exclusions_hold rows = not (are_both_used rows (codes "backup-if-mismatch") (codes "no-backup-if-mismatch"))
@@ -148,6 +159,7 @@ options_of rows = record {
   reject_form = option_and_then reject_form_of (value_of rows (codes "reject-format"));
   define = value_of rows (codes "ifdef");
   posix = is_used rows (codes "posix");
+  skip_binary = is_used rows (codes "skip-binary");
   dry_run = is_used rows (codes "dry-run");
   silent = is_used rows (codes "silent") || is_used rows (codes "quiet");
   verbose = is_used rows (codes "verbose");

@@ -1,9 +1,9 @@
 //! The names that a command gives.
 ghost use Rattle.std.specs.Prelude.{◌≡◌, ◌⊎◌, ◌++◌, codes, true, false, IfOk, IfErr, string_bytes, option_map, option_and_then};
-ghost use Rattle.patch_options.specs.Flags.{rows_in};
 ghost use Rattle.patch_options.specs.HasNames.{HasNames, HasOutputs};
 ghost use Rattle.outside.specs.Names.{given_form};
 ghost use Rattle.patch_options.specs.Forms.{is_name, is_lasting_name, is_output, is_reject_file, is_directory, is_patch_file, is_prefix};
+ghost use Rattle.patch_options.specs.Simple.{rows_in};
 ghost use Rattle.patch_options.specs.Table.{text_of, has_form, names_agree, outputs_agree, inputs_agree, input_of, first_given, directory_of, reject_of, is_no_file};
 
 use crate::table::value_of;

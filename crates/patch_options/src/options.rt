@@ -64,6 +64,8 @@ pub struct Options {
     pub define: Option<String>,
     /// As POSIX says it, where GNU patch does otherwise.
     pub posix: bool,
+    /// Binary changes are passed over, where a patch text that has one is refused without this.
+    pub skip_binary: bool,
     pub dry_run: bool,
     pub silent: bool,
     pub verbose: bool,

@@ -1,8 +1,7 @@
 //! Simple commands: the table of a tool's words, and what `clap` matches by it.
 ghost use Rattle.std.specs.Prelude.{◌≡◌, ◌≢◌, ◌⊎◌, map, string_bytes, true, false, option_map, IfOk, IfErr};
 ghost use Rattle.clap.specs.Words.{app_of, is_simple_and_free, kind_of, rule_of};
-ghost use Rattle.patch_options.specs.Flags.{rows_in};
-ghost use Rattle.patch_options.specs.Simple.{plain_word, with_form, word_rule, simple_command, takes, rows_by, values_of};
+ghost use Rattle.patch_options.specs.Simple.{plain_word, plain_table, with_form, with_rules, word_rule, simple_command, takes, rows_by, rows_in, values_of};
 
 use crate::WordFault;
 use clap::error::ErrorKind;
@@ -33,21 +32,29 @@ pub struct Word {
     pub name: &'static str,
     /// How it is given, in the text that tells the words.
     pub shown: &'static str,
-    /// What it gives, in that text.
+    /// What it gives, in that text: a line of up to 50 bytes, or more of them, each but the first behind 30 spaces.
     pub help: &'static str,
+}
+
+/// Rows that stand together in that text. A table is its groups one behind the other.
+#[derive(Clone, Copy)]
+pub struct Group {
+    /// The line above them, with its line feed; empty where there is none.
+    pub heading: &'static str,
+    pub words: &'static [Word],
 }
 
 /// What the simple command with this table matches in the words, the first of which names the tool.
 pub fn matched_by<'a>(
     alloc: Global,
     name: &'a str,
-    table: &'a [Word],
+    table: &'a [Group],
     words: &'a [String],
 ) -> Result<ArgMatches<'a>, WordFault>
-    requires { is_simple_and_free (simple_command name.now (map plain_word table.now)) ≡ true }
-    ensures taken { IfOk result (λ m. takes (simple_command name.entry.now (map plain_word table.entry.now)) (map string_bytes words.entry.now) ≡ true) }
-    ensures rows { IfOk result (λ m. rows_in m ≡ rows_by (simple_command name.entry.now (map plain_word table.entry.now)) (map string_bytes words.entry.now)) }
-    ensures refused { IfErr result (λ fault. (fault ≡ WordFault.Memory) ⊎ ((fault ≡ WordFault.Usage) × (takes (simple_command name.entry.now (map plain_word table.entry.now)) (map string_bytes words.entry.now) ≡ false))) }
+    requires { is_simple_and_free (simple_command name.now (plain_table table.now)) ≡ true }
+    ensures taken { IfOk result (λ m. takes (simple_command name.entry.now (plain_table table.entry.now)) (map string_bytes words.entry.now) ≡ true) }
+    ensures rows { IfOk result (λ m. rows_in m ≡ rows_by (simple_command name.entry.now (plain_table table.entry.now)) (map string_bytes words.entry.now)) }
+    ensures refused { IfErr result (λ fault. (fault ≡ WordFault.Memory) ⊎ ((fault ≡ WordFault.Usage) × (takes (simple_command name.entry.now (plain_table table.entry.now)) (map string_bytes words.entry.now) ≡ false))) }
 {
     let command = command_of(alloc, name, table)?;
     match command.try_get_matches_from(words) {
@@ -70,12 +77,27 @@ pub fn why_refused(error: &Error) -> WordFault
 fn command_of<'a>(
     alloc: Global,
     name: &'a str,
-    table: &'a [Word],
+    table: &'a [Group],
 ) -> Result<Command<'a>, AllocError>
-    ensures { IfOk result (λ c. app_of c ≡ simple_command name.entry.now (map plain_word table.entry.now)) }
+    ensures { IfOk result (λ c. app_of c ≡ simple_command name.entry.now (plain_table table.entry.now)) }
 {
     let mut command = Command::new(alloc, name).disable_help_flag(true);
-    for word in table {
+    for group in table {
+        command = with_words(alloc, command, group.words)?;
+    }
+    Ok(command)
+}
+
+/// The command with these words behind its own.
+fn with_words<'a>(
+    alloc: Global,
+    command: Command<'a>,
+    words: &'a [Word],
+) -> Result<Command<'a>, AllocError>
+    ensures { IfOk result (λ c. app_of c ≡ with_rules (app_of command.entry) (map word_rule (map plain_word words.entry.now))) }
+{
+    let mut command = command;
+    for word in words {
         command = command.arg(argument_of(alloc, word))?;
     }
     Ok(command)

@@ -1,42 +1,20 @@
-//! The table of the words of `patch`: what each switch and each value gives.
-ghost use Rattle.std.specs.Prelude.{◌≡◌, ◌⊎◌, ◌<◌, codes, true, false, is_some, IfOk, IfErr, string_bytes, option_map, option_and_then, unwrap_or};
+//! What each switch and each value of `patch` gives.
+ghost use Rattle.std.specs.Prelude.{◌≡◌, ◌⊎◌, ◌||◌, ◌<◌, codes, true, false, is_some, IfOk, IfErr, string_bytes, option_map, option_and_then, unwrap_or};
 ghost use Rattle.std.specs.List.{list_all};
-ghost use Rattle.patch_options.specs.Flags.{rows_in};
 ghost use Rattle.patch_options.specs.Forms.{number_of, buffer_of, plan_of, reject_form_of, is_suffix, is_backup_kind, is_get, is_macro_name};
 ghost use Rattle.patch_options.specs.PlainJob.{plain_options};
-ghost use Rattle.patch_options.specs.Table.{uses, value_of, text_of, has_form, is_used, is_single, are_both_used, form_uses, are_single, exclusions_hold, switches_agree, numbers_agree, words_agree, values_agree, is_command, options_of, only_form, mismatch_backup};
+ghost use Rattle.patch_options.specs.Simple.{plain_word, rows_in};
+ghost use Rattle.patch_options.specs.Table.{uses, value_of, text_of, has_form, is_used, is_given_once, are_both_used, form_uses, are_single, exclusions_hold, switches_agree, numbers_agree, words_agree, values_agree, is_command, options_of, only_form, mismatch_backup};
 
 use crate::forms::{
     buffer_of, is_backup_kind, is_get, is_macro_name, is_suffix, number_of, plan_of, reject_form_of,
 };
+use crate::groups::patch_table;
 use crate::names::{Names, Outputs, read_names};
-use crate::{Options, PlanKind, WordFault};
+use crate::{Group, Options, PlanKind, Word, WordFault, WordForm};
 use clap::ArgMatches;
 use hunk_core::Form;
 use std::alloc::{AllocError, Global};
-
-/// The names of the switches, which are counted.
-static SWITCHES: [&str; 19] = [
-    "context",
-    "ed",
-    "normal",
-    "unified",
-    "reverse",
-    "force",
-    "batch",
-    "forward",
-    "posix",
-    "ignore-whitespace",
-    "remove-empty-files",
-    "backup",
-    "backup-if-mismatch",
-    "no-backup-if-mismatch",
-    "dry-run",
-    "silent",
-    "quiet",
-    "verbose",
-    "binary",
-];
 
 /// The options that were matched, if they are a command.
 pub fn read_options(alloc: Global, matches: &ArgMatches<'_>) -> Result<Options, WordFault>
@@ -83,8 +61,9 @@ pub fn read_options(alloc: Global, matches: &ArgMatches<'_>) -> Result<Options, 
         reject_form: reject_form_in(matches),
         define,
         posix: is_used(matches, "posix"),
+        skip_binary: is_used(matches, "skip-binary"),
         dry_run: is_used(matches, "dry-run"),
-        silent: is_used(matches, "silent") || is_used(matches, "quiet"),
+        silent: is_silent(matches),
         verbose: is_used(matches, "verbose"),
         plan: plan_in(matches),
         buffer: buffer_in(matches),
@@ -115,6 +94,12 @@ pub fn is_used(matches: &ArgMatches<'_>, name: &str) -> bool
     uses(matches, name) > 0
 }
 
+fn is_silent(matches: &ArgMatches<'_>) -> bool
+    ensures { result ≡ (is_used (rows_in matches.now) (codes "silent") || is_used (rows_in matches.now) (codes "quiet")) }
+{
+    is_used(matches, "silent") || is_used(matches, "quiet")
+}
+
 fn are_both_used(matches: &ArgMatches<'_>, one: &str, other: &str) -> bool
     ensures { result ≡ are_both_used (rows_in matches.now) one.now other.now }
 {
@@ -132,14 +117,29 @@ fn switches_agree(matches: &ArgMatches<'_>) -> bool
 fn are_single(matches: &ArgMatches<'_>) -> bool
     ensures { result ≡ are_single (rows_in matches.now) }
 {
-    each_single(matches, SWITCHES.as_slice())
+    each_group_single(matches, patch_table())
 }
 
-/// Whether none of these switches was given twice.
-fn each_single(matches: &ArgMatches<'_>, names: &[&str]) -> bool
-    ensures { result ≡ list_all (λ name. is_single (rows_in matches.now) name.now) names.now }
+fn each_group_single(matches: &ArgMatches<'_>, groups: &[Group]) -> bool
+    ensures { result ≡ list_all (λ g. list_all (λ w. is_given_once (rows_in matches.now) (plain_word w)) g.words.now) groups.now }
 {
-    names.iter().all(|name| uses(matches, name) <= 1)
+    groups.iter().all(|group| each_single(matches, group.words))
+}
+
+fn each_single(matches: &ArgMatches<'_>, words: &[Word]) -> bool
+    ensures { result ≡ list_all (λ w. is_given_once (rows_in matches.now) (plain_word w)) words.now }
+{
+    words.iter().all(|word| is_given_once(matches, word))
+}
+
+/// Whether the word is no switch, or was given once at most.
+fn is_given_once(matches: &ArgMatches<'_>, word: &Word) -> bool
+    ensures { result ≡ is_given_once (rows_in matches.now) (plain_word word.now) }
+{
+    match word.form {
+        WordForm::Switch | WordForm::Letter => uses(matches, word.name) <= 1,
+        _ => true,
+    }
 }
 
 /// Whether no two switches were given together that exclude each other.

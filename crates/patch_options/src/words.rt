@@ -1,14 +1,15 @@
 //! The words of a command.
 ghost use Rattle.std.specs.Prelude.{◌≡◌, ◌⊎◌, map, Ok, Err, IfOk, IfErr, string_bytes};
 ghost use Rattle.patch_options.specs.PlainJob.{plain_job, IsLawfulJob};
-ghost use Rattle.patch_options.specs.Words.{job_of, patch_job, no_patch_job};
+ghost use Rattle.patch_options.specs.Words.{job_of, patch_job};
 
-use crate::flags::matched;
+use crate::groups::patch_table;
+use crate::simple::matched_by;
 use crate::table::read_options;
 use crate::{Job, WordFault};
 use std::alloc::Global;
 
-/// What the words ask for. The first names the tool.
+/// What the words ask for. The first is `patch`.
 pub fn read_words(alloc: Global, words: &[String]) -> Result<Job, WordFault>
     ensures job { IfOk result (λ job. job_of (map string_bytes words.now) ≡ Ok (plain_job job)) }
     ensures lawful { IfOk result (λ job. IsLawfulJob (plain_job job)) }
@@ -16,20 +17,8 @@ pub fn read_words(alloc: Global, words: &[String]) -> Result<Job, WordFault>
 {
     match words {
         [tool, ..] if tool.as_str() == "patch" => read_patch(alloc, words),
-        [tool, ..] => Err(why_no_patch(tool.as_str())),
+        [_, ..] => Err(WordFault::Usage),
         [] => Err(WordFault::Usage),
-    }
-}
-
-/// Why a word that isn't `patch` names no tool.
-fn why_no_patch(tool: &str) -> WordFault
-    ensures { Err result ≡ no_patch_job tool.now }
-{
-    match tool {
-        "lsdiff" | "filterdiff" | "grepdiff" | "splitdiff" | "recountdiff" | "patchgen" => {
-            WordFault::Unsupported
-        }
-        _ => WordFault::Usage,
     }
 }
 
@@ -39,7 +28,7 @@ fn read_patch(alloc: Global, words: &[String]) -> Result<Job, WordFault>
     ensures lawful { IfOk result (λ job. IsLawfulJob (plain_job job)) }
     ensures refused { IfErr result (λ fault. (fault ≡ WordFault.Memory) ⊎ (patch_job (map string_bytes words.now) ≡ Err fault)) }
 {
-    let matches = matched(alloc, words)?;
+    let matches = matched_by(alloc, "patch", patch_table(), words)?;
     let options = read_options(alloc, &matches)?;
     Ok(Job::Patch(options))
 }

@@ -131,6 +131,8 @@ patch|-g0 =>
 patch|-g|00 =>
 patch|--get=0 =>
 patch|--binary =>
+patch|--skip-binary => skip_binary: true
+patch|--skip-binary|-s|-p1 => strip: Some(1) skip_binary: true silent: true
 patch|-t|-F|0|-N|-p1|-u|-V|never|-E|-b|-B|.pc/x/|--reject-file=- => only: Some(Unified) strip: Some(1) fuzz: 0 batch: true forward: true remove_empty: true backup: true prefix: Some(".pc/x/") no_rejects: true
 patch|--posix => mismatch_backup: false posix: true
 patch|--posix|--backup-if-mismatch => posix: true

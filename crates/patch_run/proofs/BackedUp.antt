@@ -25,7 +25,7 @@ or_true : (b : Bool) → (b || true) ≡ true
 or_true true = refl
 or_true false = refl
 
-mark_named : (t : PlainTurn) (r : Row) (vs : List Verdict) (w : Target) (name : List ℕ) → r.wrote ≡ true → (written_by t r ≡ Some w) ⊎ (renamed_by t r ≡ Some w) → w.name ≡ name → has_name name (mark_of t r vs) ≡ true
+pub mark_named : (t : PlainTurn) (r : Row) (vs : List Verdict) (w : Target) (name : List ℕ) → r.wrote ≡ true → (written_by t r ≡ Some w) ⊎ (renamed_by t r ≡ Some w) → w.name ≡ name → has_name name (mark_of t r vs) ≡ true
 unfolding mark_of
 mark_named t r vs w name wrote (inl is) named = ap (λ b. b || is_name name (mark_of t r vs).renamed) (holds_name r.wrote (written_by t r) w name wrote is named)
 mark_named t r vs w name wrote (inr is) named = ap (λ b. is_name name (mark_of t r vs).written || b) (holds_name r.wrote (renamed_by t r) w name wrote is named) ∙ or_true (is_name name (mark_of t r vs).written)
@@ -41,7 +41,7 @@ now_written t r (ended s) name has =
 now_written t r (stopped said fault) name has = absurd has
 
 -- a run keeps its marks
-abbrev Keeps : Run → Run → List ℕ → Type 0
+abbrev pub Keeps : Run → Run → List ℕ → Type 0
 Keeps r s name = was_written r.past name ≡ true → was_written s.past name ≡ true
 
 ending_keeps : (t : PlainTurn) (r : Run) (e : Ending) (name : List ℕ) → Keeps r (with_ending t r e) name
@@ -56,7 +56,7 @@ item_keeps o output r i name =
       | Some fault ↦ λ is. is
     ]
 
-run_keeps : (o : PlainOptions) (output : Option Target) (items : List Item) (r : Run) (name : List ℕ) → Keeps r (run_on o output items r) name
+pub run_keeps : (o : PlainOptions) (output : Option Target) (items : List Item) (r : Run) (name : List ℕ) → Keeps r (run_on o output items r) name
 unfolding run_on
 run_keeps o output [] r name = λ is. is
 run_keeps o output (i ∷ items) r name = λ is. run_keeps o output items (with_item o output r i) name (item_keeps o output r i name is)

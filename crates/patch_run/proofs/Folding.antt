@@ -17,7 +17,7 @@ use Rattle.patch_effects.specs.declared.fault.RunFault.TheVariants.{Tree, Write,
 use Rattle.patch_run.specs.declared.apply.Done.{Done}
 use Rattle.patch_run.specs.OnePatch.{Item, PlainTurn, Story, Ending, ended, stopped, ending}
 use Rattle.patch_run.specs.Run.{Run, begun, turn_of, with_story, with_stop, with_ending, if_going, with_item, run_on, run_of}
-use Rattle.patch_effects.specs.Making.{IsPart}
+use Rattle.patch_effects.specs.Making.{IsPart, UnlessFailed}
 use Rattle.patch_run.specs.Doing.{IsPartOf, IsWholeOf, IsDone, IsStopped, IsBroken, IsFar, IsHalted, IsCutOff, IsOrdered, IsAmid, IsCutIn, IsCutAt, effects_in, said_of}
 use Rattle.patch_effects.proofs.EffectLists.{made_both, leaves_after, tells_after}
 
@@ -56,7 +56,7 @@ more_going : (stop : Option OpenFault) (r next : Run) → More r next → More r
 more_going None r next m = m
 more_going (Some fault) r next m = more_none r
 
-more_on : (o : PlainOptions) (output : Option Target) (xs : List Item) (r : Run) → More r (run_on o output xs r)
+pub more_on : (o : PlainOptions) (output : Option Target) (xs : List Item) (r : Run) → More r (run_on o output xs r)
 unfolding run_on
 more_on o output [] r = more_none r
 more_on o output (i ∷ xs) r =
@@ -126,13 +126,14 @@ broken_part Memory files e broken = broken
 amid : {v w : TreeView} (files : Files) (es : List Effect) → v.told ≡ Some files → Passes v w → IsPart v w es → IsAmid w files es
 amid {w = w} files es told passes part = record { now = λ g now. part.tells files g told now; left = λ c left. part.leaves files told c (w.moment, passes.later, omega arith, left) }
 
-cut_in : {u v w : TreeView} {a b c : SinkView} (fault : RunFault) (r : Run) (e : Ending) → IsFar u v a b r → Passes v w → IsBroken fault v w b c r.files e → IsOrdered fault v w b c (said_of e) → IsCutIn fault w a c r e
-cut_in {a = a} {b = b} {c = c} fault r e far passes broken order =
+cut_in : {u v w : TreeView} {a b c : SinkView} (fault : RunFault) (r : Run) (e : Ending) → IsFar u v a b r → Passes v w → IsBroken fault v w b c r.files e → IsOrdered fault v w b c (said_of e) → UnlessFailed fault (w.told ≡ Some r.files) → IsCutIn fault w a c r e
+cut_in {a = a} {b = b} {c = c} fault r e far passes broken order kept =
     let part = broken_part fault r.files e broken in
     record {
       done = amid r.files (effects_in e) far.now passes (record { tells = part.tells; leaves = part.leaves });
       said = λ bytes told. part.said (bytes ++ r.said) (far.said bytes told);
       order = ⊎_elim (λ none. inl (amid r.files [] far.now passes none)) (λ all. inr (all.0, received_both a b c r.said (said_of e) far.said all.1)) order;
+      exact = kept;
     }
 
 -- one file patch more, as a run that goes on takes it
@@ -169,8 +170,9 @@ module _ (o : PlainOptions) (output : Option Target) (xs : List Item) (i : Item)
         whole-next ys ∙ ap (λ (e : Ending). run_on o output ys (with_ending t r e)) stops.0 ∙ stays_stopped o output ys s fault refl in
         subst (λ (x : Run). IsHalted u w a c x fault) (sym is) (refl, far_stops r said fault far stops.1)
 
-    pub cut_here : (e : RunFault) → IsBroken e v w b c (run_of o output xs f).files (ending t (run_of o output xs f).files) → IsOrdered e v w b c (said_of (ending t (run_of o output xs f).files)) → IsCutAt e w a c o output (xs ++ i ∷ ys) f
-    cut_here e broken order =
+    pub cut_here : (e : RunFault) → IsBroken e v w b c (run_of o output xs f).files (ending t (run_of o output xs f).files) → IsOrdered e v w b c (said_of (ending t (run_of o output xs f).files)) → UnlessFailed e (w.told ≡ Some (run_of o output xs f).files)
+        → IsCutAt e w a c o output (xs ++ i ∷ ys) f
+    cut_here e broken order kept =
         let r = run_of o output xs f in
         record {
           front = xs;
@@ -178,7 +180,7 @@ module _ (o : PlainOptions) (output : Option Target) (xs : List Item) (i : Item)
           behind = ys;
           all = refl;
           going = going;
-          cut = subst (λ (x : PlainTurn). IsCutIn e w a c r (ending x r.files)) (sym same) (cut_in e r (ending t r.files) far passes broken order);
+          cut = subst (λ (x : PlainTurn). IsCutIn e w a c r (ending x r.files)) (sym same) (cut_in e r (ending t r.files) far passes broken order kept);
         }
 
     -- a fault within a file patch

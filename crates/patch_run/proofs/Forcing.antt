@@ -8,7 +8,7 @@ use Rattle.name_choice.specs.Choice.{side_of}
 use Rattle.name_choice.specs.declared.Choice.{Choice}
 use Rattle.name_choice.specs.declared.Choice.TheVariants.{Existing, Create, Nothing}
 use Rattle.say_text.specs.Messages.{silenced, reversed_line}
-use Rattle.patch_run.specs.OnePatch.{PlainTurn, Start, skips, refuses, tries, said_first, skips_at, lines_in, first_hunk, is_reversed, turns_round, on_direction, lacks_word, prereq_said, on_prereq, refusal_of, refused_or, on_taking, on_existing, is_in_the_way, on_creation, patching_said, on_target, on_choice, choice_of, start, bytes_of}
+use Rattle.patch_run.specs.OnePatch.{PlainTurn, Start, skips, refuses, tries, said_first, skips_at, lines_in, first_hunk, is_reversed, turns_round, on_direction, lacks_word, prereq_said, on_prereq, refusal_of, refused_or, on_taking, on_existing, is_in_the_way, on_creation, patching_said, on_target, on_choice, choice_of, skipped_said, own_start, start, bytes_of}
 use Rattle.patch_run.specs.Laws.{IsSkip}
 
 -- it isn't skipped
@@ -60,6 +60,12 @@ nameless t f (Existing k) forced is = absurd (goes_target t k forced f is)
 nameless t f (Create k) forced is = absurd (goes_target t k forced f is)
 nameless t f Nothing forced is = refl
 
+-- what is said first decides nothing
+skip_behind : (text : List ℕ) (s : Start) → IsSkip (said_first text s) → IsSkip s
+skip_behind text (skips said row taken) is = is
+skip_behind text (refuses said fault) is = is
+skip_behind text (tries said place side) is = is
+
 pub forced_nameless : (t : PlainTurn) (f : Files) → t.options.force ≡ true → IsSkip (start t f) → choice_of t f ≡ Nothing
 unfolding start
-forced_nameless t f forced is = nameless t f (choice_of t f) forced is
+forced_nameless t f forced is = nameless t f (choice_of t f) forced (skip_behind (skipped_said t) (own_start t f) is)

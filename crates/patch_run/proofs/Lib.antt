@@ -2,6 +2,7 @@ mod Writing
 mod Runs
 mod Deciding
 mod StartSteps
+mod First
 mod StartTaken
 mod Filling
 mod PastMarks
@@ -22,5 +23,14 @@ mod Moving
 mod Renaming
 mod Parting
 mod Forcing
+mod SaidFirst
 mod TestByTest
 mod Keeping
+pub mod Places
+mod Skipping
+mod Standing
+mod Naming
+mod Unwritten
+mod Removing
+mod TriedFiles
+mod Rejected

@@ -110,5 +110,6 @@ read_still o given v vs read = record {
   patches = read.patches;
   regions = read.regions;
   spans = read.spans;
+  skipped = read.skipped;
   names = record { targets = read.names.targets; output = read.names.output; few = read.names.few; fit = read.names.fit; output_fit = read.names.output_fit };
 }

@@ -67,7 +67,7 @@ module _ (u x w : TreeView) (a b b' : Seen) (c d e : SinkView) {scratch_after : 
       let mid : Told x b (run_to o v k f).files = (was.far.now, goes.plan.telling ∙ told.1) in
       subst (λ (y : Option Target). IsCutAt fault w c e o y (items_of old) f) stays.output
       (subst (λ (l : List Item). IsCutAt fault w c e o v.output l f) (same-items old v stays)
-      (at_cut o v k p vs ws next f u x w a b b' c d e was fault does.stays.tree (does.broken (run_to o v k f).files mid) (does.order (run_to o v k f).files mid)))
+      (at_cut o v k p vs ws next f u x w a b b' c d e was fault does.stays.tree (does.broken (run_to o v k f).files mid) (does.order (run_to o v k f).files mid) (does.kept (run_to o v k f).files mid)))
 
   pub cut_ends : {R : Type 0} (fault : RunFault) (s : Result R RunFault) → IsErrAnd s (λ y. y ≡ fault) → Does x w b b' d e scratch_after (Err fault) (rows_in ws p) (ending (turn_at o v k vs p))
       → IfErr s (λ y. (f : Files) → Told u a f → IsCutAt y w c e o old.output (items_of old) f)

@@ -98,6 +98,20 @@ plan_none a = record { faults = omega arith; telling = refl; size = refl; needs_
 pub none_part : (c : SinkView) (q : List ℕ) → ReceivesPart c c q
 none_part c q = part_longer c c [] q (received_part c c [] (received_none c))
 
+-- the tree failed before anything was said
+pub starts_lost : {u w : TreeView} {a : Seen} {c : SinkView} {sa : ℕ → List ℕ → Option (List ℕ) → Option (List ℕ)} {bytes : Files → ℕ → Option (List ℕ)} (start : Files → Start)
+    → IsUntouched u w → tree.Rises u w → Starts u w a a c c sa (Err Tree) bytes start
+starts_lost {a = a} {c = c} start same rises = record {
+  untouched = same;
+  plan = plan_none a;
+  sink = sink_passes_none c;
+  cause = rises;
+  said = tt;
+  decided = tt;
+  scratch = tt;
+  broken = λ f told. none_part c (said_in (start f));
+}
+
 -- ---- steps
 
 -- a text, and then the rest

@@ -23,14 +23,14 @@ use Rattle.patch_run.specs.declared.starting.Decision.{Decision}
 use Rattle.patch_run.specs.declared.starting.Decision.TheVariants.{Skip, Try}
 use Rattle.patch_run.specs.declared.apply.Done.{Done}
 use Rattle.patch_run.specs.OnePatch.{PlainTurn, Start, skips, refuses, tries, total, ignored_said, bytes_of, lines_in, start, skipped, finished_at, ending_of, ending}
-use Rattle.patch_run.specs.Devices.{Told, scratch_with}
+use Rattle.patch_run.specs.Devices.{Told, HasRunCause, scratch_with}
 use Rattle.patch_run.specs.Starting.{Starts, IsDecided, IsBrokenOff, said_in, taken_in}
-use Rattle.patch_effects.specs.Making.{TidyAfter}
+use Rattle.patch_effects.specs.Making.{TidyAfter, UnlessFailed}
 use Rattle.patch_run.specs.Doing.{Stays, QuietAfter, IsPartOf, IsWholeOf, IsDone, IsEnded, IsStopped, IsBroken, IsDeviceFault, IsOrdered, Does, effects_in, said_of}
 use Rattle.patch_effects.proofs.EffectLists.{made_both, leaves_after, tells_after}
 use Rattle.patch_effects.proofs.Tidy.{tidy_both, untouched_tidy, unless_held, unless_then}
 use Rattle.patch_run.proofs.Applying.{unmade, ordered_after, ordered_behind}
-use Rattle.patch_run.proofs.Going.{Goes, plan_both, cause_then}
+use Rattle.patch_run.proofs.Going.{Goes, plan_both, cause_then, told_then}
 
 untouched_made : {u v : TreeView} → IsUntouched u v → IsQuiet u → HasMade u v []
 untouched_made {u = u} same quiet = record {
@@ -97,6 +97,7 @@ module _ (t : PlainTurn) (u v : TreeView) (a b : Seen) (c d : SinkView) (scratch
         whole = tt;
         broken = λ f told. broken_off fault begins f told (begins.broken f told);
         order = λ f told. inl (unmade (untouched_made begins.untouched quiet));
+        kept = λ f told. unless_held fault (begins.untouched.told ∙ told.0);
       })
 
   module _ (decision : Decision) (begins : Begins (Ok decision)) where
@@ -163,6 +164,7 @@ module _ (t : PlainTurn) (u v : TreeView) (a b : Seen) (c d : SinkView) (scratch
         whole = skip_done done was writes.received;
         broken = tt;
         order = tt;
+        kept = tt;
       }
       skip_does (Err y) writes fault was =
           subst (λ (z : RunFault). Does u v a b c e scratch_after (Err z) vs (λ f. ending_of t f (start t f))) (sym fault)
@@ -173,6 +175,7 @@ module _ (t : PlainTurn) (u v : TreeView) (a b : Seen) (c d : SinkView) (scratch
             whole = tt;
             broken = skip_part writes.failed;
             order = λ f told. inl (unmade (untouched_made begins.untouched quiet));
+            kept = λ f told. tt;
           })
 
     -- its hunks are tried
@@ -226,6 +229,15 @@ module _ (t : PlainTurn) (u v : TreeView) (a b : Seen) (c d : SinkView) (scratch
       device_broken (Disagree want got) device f part = part
       device_broken Memory device f part = absurd device
 
+      device_kept : (fault : RunFault) → IsDeviceFault fault → HasRunCause fault v z b b' d e → (f : Files) → Told u a f → UnlessFailed fault (z.told ≡ Some f)
+      device_kept Tree device cause f told = tt
+      device_kept Write device cause f told = tt
+      device_kept Scratch device cause f told = tt
+      device_kept (LongLine line count) device cause f told = absurd device
+      device_kept (FileTooLong count) device cause f told = absurd device
+      device_kept (Disagree want got) device cause f told = (let mid = told_then f goes told in absurd (cause.1 mid.0 mid.1))
+      device_kept Memory device cause f told = absurd device
+
       pub try_does : (r : Result Done RunFault) → Stays v z b b' d e r → QuietAfter r z → TidyAfter r v z → IfErr r IsDeviceFault
           → IfOk r (λ done. (f : Files) → v.told ≡ Some f → b.told ≡ Some (lines_in (bytes_of t f place)) → IsDone v z d e done vs f (finished_at t f [] place side))
           → OnErr r ((f : Files) → v.told ≡ Some f → b.told ≡ Some (lines_in (bytes_of t f place)) → IsPartOf v z d e (finished_at t f [] place side).effects (finished_at t f [] place side).said)
@@ -239,6 +251,7 @@ module _ (t : PlainTurn) (u v : TreeView) (a b : Seen) (c d : SinkView) (scratch
         whole = try_done done whole;
         broken = tt;
         order = tt;
+        kept = tt;
       }
       try_does (Err fault) stays calm tidy device whole part order = record {
         stays = record { tree = passes_both goes.tree stays.tree; plan = plan_both goes.plan stays.plan; sink = sink_passes_both goes.sink stays.sink; cause = cause_then u v z a b b' c d e fault goes stays.cause };
@@ -247,4 +260,5 @@ module _ (t : PlainTurn) (u v : TreeView) (a b : Seen) (c d : SinkView) (scratch
         whole = tt;
         broken = λ f told. device_broken fault device f (try_part stays.tree part f told);
         order = try_ordered fault stays.tree order;
+        kept = device_kept fault device stays.cause;
       }

@@ -23,7 +23,7 @@ use Rattle.target_names.specs.declared.derived.Target.{Target}
 use Rattle.patch_run.specs.declared.apply.Done.{Done}
 use Rattle.patch_effects.specs.declared.placed.Made.{Made}
 use Rattle.patch_run.specs.Trying.{IsSession}
-use Rattle.patch_effects.specs.Making.{IsGone, IsPart, TidyAfter}
+use Rattle.patch_effects.specs.Making.{IsGone, IsPart, TidyAfter, UnlessFailed}
 use Rattle.patch_run.specs.OnePatch.{Item, PlainTurn, Tried, Story, Ending, ended, stopped, effects_of, tried_said, wrote, ending}
 use Rattle.hunk_core.specs.declared.Verdict.TheVariants.{Ignored}
 use Rattle.hunk_apply.specs.Change.{change_verdicts}
@@ -122,6 +122,8 @@ pub record Does (u w : TreeView) (a b : Seen) (c d : SinkView) (scratch_after : 
   pub broken : IfErr result (λ e. (f : Files) → Told u a f → IsBroken e u w c d f (ending f))
   -- nothing is done before all is said
   pub order : IfErr result (λ e. (f : Files) → Told u a f → IsOrdered e u w c d (said_of (ending f)))
+  -- where it ends early though no device has failed, reads give what they gave, temporary names too
+  pub kept : IfErr result (λ e. (f : Files) → Told u a f → UnlessFailed e (w.told ≡ Some f))
 
 -- ---- the end of a file patch whose hunks were tried
 
@@ -195,6 +197,8 @@ pub record IsCutIn (e : RunFault) (w : TreeView) (c d : SinkView) (r : Run) (end
   pub done : IsAmid w r.files (effects_in ending)
   pub said : ReceivesBehind c d r.said (said_of ending)
   pub order : IsAmid w r.files [] ⊎ ((e ≡ Tree) × Receives c d (r.said ++ said_of ending))
+  -- unless a device has failed, reads give the files of that run, temporary names too
+  pub exact : UnlessFailed e (w.told ≡ Some r.files)
 
 -- a run over these was cut off at one of them, those in front of it having come to their ends
 pub record IsCutAt (e : RunFault) (w : TreeView) (c d : SinkView) (o : PlainOptions) (output : Option Target) (items : List Item) (f : Files) : Type 0 where
@@ -213,7 +217,7 @@ scratch_behind scratch_after size before taken = fold (λ scratch bytes. scratch
 pub record Runs {R : Type 0} (u w : TreeView) (a b : Seen) (c d : SinkView) (scratch_after : ℕ → List ℕ → Option (List ℕ) → Option (List ℕ)) (result : Result R RunFault) (run : Files → Run) : Type 0 where
   pub stays : Stays u w a b c d result
   pub quiet : QuietAfter result w
-  -- after an answer without a failed device no temporary that the run started is left
+  -- after an answer without a failed device no temporary that the run started is left, whatever else is told
   pub tidy : TidyAfter result u w
   pub whole : OnOk result ((f : Files) → Told u a f → IsFar u w c d (run f))
   pub going : OnOk result ((f : Files) → Told u a f → (run f).stop ≡ None)
@@ -250,6 +254,7 @@ pub record StaysSet (old new : SetView) : Type 0 where
   pub text : new.text ≡ old.text
   pub patches : new.patches ≡ old.patches
   pub output : new.output ≡ old.output
+  pub skipped : new.skipped ≡ old.skipped
 
 -- the verdicts of a file patch are those of these lines, or all its hunks are ignored
 abbrev pub IsPlacedOn : PlainOptions → List ℕ → FilePatch → List Verdict → Row → List (List ℕ) → Type 0

@@ -30,7 +30,7 @@ use Rattle.name_choice.specs.Choice.{choice, names_of, side_of}
 use Rattle.hunk_apply.specs.Session.{is_inexact}
 use Rattle.hunk_apply.specs.Written.{is_nothing}
 use Rattle.reject_text.specs.Rejects.{reject_text, hunks_in}
-use Rattle.say_text.specs.Messages.{silenced, patching_line, no_file_lines, prereq_line, reversed_line, exists_line, not_deleting_line, failures_line, ignored_line}
+use Rattle.say_text.specs.Messages.{silenced, skipping_lines, patching_line, no_file_lines, prereq_line, reversed_line, exists_line, not_deleting_line, failures_line, ignored_line}
 use Rattle.say_text.specs.Origins.{PlainOrigin}
 use Rattle.say_text.specs.Origins.PlainOrigin.{Itself, RenamedFrom, CopiedFrom}
 use Rattle.patch_effects.specs.TargetEffects.{put_if, backup_effects, target_effects, moved_effects}
@@ -54,7 +54,7 @@ pub record Story : Type 0 where
   pub cleared : Option (List ℕ)
   pub verdicts : List Verdict
   pub row : Row
-  -- a hunk failed or was ignored, or a file that was to be deleted wasn't
+  -- a hunk failed, it was skipped, or a file that was to be deleted wasn't
   pub is_bad : Bool
   -- the bytes of the file that the plan took
   pub taken : Option (List ℕ)
@@ -193,8 +193,20 @@ on_choice t files Nothing = skips (no_file_lines t.item.patch.header.opening) (r
 abbrev pub choice_of : PlainTurn → Files → Choice
 choice_of t files = choice t.item.patch.header.action (creates (side_of t.options.reverse) t.item.patch) (names_of t.item.targets) (is_some t.options.file) t.options.reverse (is_posix t.options) files
 
+-- the first of a run
+abbrev pub is_first : List Mark → Bool
+is_first [] = true
+is_first (m ∷ past) = false
+
+-- before anything else a run says which binary changes are passed over
+abbrev pub skipped_said : PlainTurn → List ℕ
+skipped_said t = if is_first t.past then skipping_lines t.item.skipped else []
+
+abbrev pub own_start : PlainTurn → Files → Start
+own_start t files = on_choice t files (choice_of t files)
+
 unfoldable pub start : PlainTurn → Files → Start
-start t files = on_choice t files (choice_of t files)
+start t files = said_first (skipped_said t) (own_start t files)
 
 -- ---- what came of the hunks
 

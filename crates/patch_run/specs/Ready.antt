@@ -26,7 +26,7 @@ pub record IsFit (text : List ℕ) (p : FilePatch) : Type 0 where
 
 -- the turn of a file patch without what was before it
 abbrev pub alone : PlainOptions → SetView → FilePatch → PlainTurn
-alone o v p = record { options = o; output = v.output; item = item_of v.text p; past = [] }
+alone o v p = record { options = o; output = v.output; item = item_of v.text v.skipped p; past = [] }
 
 -- the mark that a file patch has by its row and its verdicts
 abbrev pub mark_in : PlainOptions → SetView → List Verdict → FilePatch × Row → Mark
@@ -56,4 +56,4 @@ AreNumbered before (p ∷ ps) = (p.first_verdict ≡ before) × AreNumbered (bef
 
 -- a file patch whose turn it is in a set, so many having had theirs
 abbrev pub turn_at : PlainOptions → SetView → ℕ → List Verdict → FilePatch → PlainTurn
-turn_at o v count verdicts p = record { options = o; output = v.output; item = item_of v.text p; past = marks o v count verdicts }
+turn_at o v count verdicts p = record { options = o; output = v.output; item = item_of v.text v.skipped p; past = marks o v count verdicts }

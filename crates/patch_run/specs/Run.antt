@@ -78,12 +78,12 @@ run_on o output (i ∷ items) r = run_on o output items (with_item o output r i)
 abbrev pub run_of : PlainOptions → Option Target → List Item → Files → Run
 run_of o output items files = run_on o output items (begun files)
 
--- a file patch of a set
-abbrev pub item_of : List ℕ → FilePatch → Item
-item_of text p = record { patch = patch_of text p; targets = p.targets.items }
+-- a file patch of a set, of whose text these lines are passed over
+abbrev pub item_of : List ℕ → List ℕ → FilePatch → Item
+item_of text skipped p = record { patch = patch_of text p; targets = p.targets.items; skipped = skipped }
 
 abbrev pub items_of : SetView → List Item
-items_of v = map (item_of v.text) v.patches
+items_of v = map (item_of v.text v.skipped) v.patches
 
 -- what the set's file patches do to these files, with its options
 abbrev pub set_run : PlainOptions → SetView → Files → Run

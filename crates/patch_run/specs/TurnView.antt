@@ -10,7 +10,7 @@ abbrev pub plain_turn : Turn → PlainTurn
 plain_turn t = record {
   options = plain_options t.options.now;
   output = t.set.now.output;
-  item = item_of t.set.now.text t.patch.now;
+  item = item_of t.set.now.text t.set.now.skipped t.patch.now;
   past = marks (plain_options t.options.now) t.set.now t.count t.verdicts.now;
 }
 

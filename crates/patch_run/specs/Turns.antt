@@ -9,10 +9,11 @@ use Rattle.file_patch.specs.PlainPatch.{PlainPatch, hunk_count}
 use Rattle.patch_set.specs.declared.set.Row.{Row}
 use Rattle.patch_run.specs.Asking.{renames, written_place}
 
--- a file patch, and the files that it can be meant for
+-- a file patch, the files that it can be meant for, and the lines of the binary changes of its text that are passed over
 pub record Item : Type 0 where
   pub patch : PlainPatch
   pub targets : List Target
+  pub skipped : List ℕ
 
 -- what later file patches ask of one: the name that it made or took away as its target, the one that it took away from a file that it renamed, and its reject text with the name of that file
 pub record Mark : Type 0 where

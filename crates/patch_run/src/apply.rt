@@ -39,7 +39,7 @@ use target_names::Target;
 #[derive(Clone, Copy, Debug, PartialEq, Eq)]
 pub struct Done {
     pub row: Row,
-    /// A hunk failed or was ignored, or a file that was to be deleted wasn't.
+    /// A hunk failed, the file patch was skipped, also one without hunks, or a file that was to be deleted wasn't.
     pub is_bad: bool,
     /// How many effects there were.
     pub effects: u64,

@@ -20,5 +20,5 @@ mod weighing;
 mod word;
 
 pub use applied::Applied;
-pub use laws::run_laws;
+pub use laws::{effect_laws, name_laws, run_laws};
 pub use set::apply_set;

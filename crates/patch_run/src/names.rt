@@ -60,7 +60,7 @@ pub fn target_in<'a>(patch: &'a FilePatch, place: u32) -> Option<&'a Target>
 
 /// The target that a file patch writes without an output of the options, where this one was chosen.
 pub fn written_at<'a>(patch: &'a FilePatch, place: u32) -> Option<&'a Target>
-    ensures target { (text : List ℕ) → option_copied result ≡ written_at (item_of text patch.now) place }
+    ensures target { (text skipped : List ℕ) → option_copied result ≡ written_at (item_of text skipped patch.now) place }
     ensures named { All IsNamed patch.now.targets.items → ForSome (option_copied result) IsNamed }
 {
     match target_in(patch, written_place(patch, place)) {

@@ -9,7 +9,7 @@ ghost use Rattle.outside.specs.SinkView.{Writes};
 ghost use Rattle.name_choice.specs.Choice.{IsWithin as IsAmong, side_of};
 ghost use Rattle.say_text.specs.Messages.{no_file_lines};
 ghost use Rattle.patch_effects.specs.declared.fault.RunFault.TheVariants.{Write};
-ghost use Rattle.patch_run.specs.OnePatch.{bytes_of, has_bytes, is_in_the_way, start, choice_of, on_target, on_creation, on_existing, on_taking};
+ghost use Rattle.patch_run.specs.OnePatch.{bytes_of, has_bytes, is_in_the_way, start, own_start, skipped_said, is_first, choice_of, on_target, on_creation, on_existing, on_taking};
 ghost use Rattle.patch_run.specs.Starting.{Starts, Takes, IsPresent, IsWithin};
 ghost use Rattle.patch_run.specs.TurnView.{plain_turn, IsTurn};
 
@@ -23,7 +23,7 @@ use name_choice::{Choice, choose};
 use outside::{Failed, Name, Sink, Tree};
 use patch_effects::RunFault;
 use patch_set::{Row, is_posix};
-use say_text::{say_exists, say_no_file, say_patching};
+use say_text::{say_exists, say_no_file, say_patching, say_skipped};
 
 /// What becomes of a file patch.
 #[derive(Clone, Copy, Debug, PartialEq, Eq)]
@@ -34,7 +34,8 @@ pub enum Decision {
     Try { place: u32, side: Side },
 }
 
-/// Chooses the file, says so, takes its lines, and decides. The tree is left as it is.
+/// Says which binary changes are passed over, if none was before it. Then it chooses the file, says so, takes its lines, and
+/// decides. The tree is left as it is.
 pub fn start<P: Plan, T: Tree, O: Sink>(
     turn: &Turn<'_>,
     plan: &mut P,
@@ -44,6 +45,43 @@ pub fn start<P: Plan, T: Tree, O: Sink>(
     requires turn { IsTurn turn.now }
     requires size { (P.seen plan.old).size ≡ turn.now.options.now.buffer }
     ensures starts { Starts (T.view tree.old) (T.view tree.new) (P.seen plan.old) (P.seen plan.new) (O.view out.old) (O.view out.new) P.scratch_after result (bytes_of (plain_turn turn.now)) (start (plain_turn turn.now)) }
+    ensures rest { O.same_rest out.old out.new }
+    ensures within { IfOk result (IsWithin (length turn.now.patch.now.targets.items)) }
+{
+    tell_skipped(turn, out)?;
+    start_own(turn, plan, tree, out)
+}
+
+/// Says which binary changes are passed over, before the first file patch of a run.
+fn tell_skipped<O: Sink>(turn: &Turn<'_>, out: &mut O) -> Result<(), Failed>
+    requires turn { IsTurn turn.now }
+    ensures writes { Writes (O.view out.old) (O.view out.new) result (skipped_said (plain_turn turn.now)) }
+    ensures rest { O.same_rest out.old out.new }
+{
+    if !is_first(turn) {
+        return Ok(());
+    }
+    say_skipped(turn.set.skipped(), out)
+}
+
+/// Whether no file patch of the run was before it.
+fn is_first(turn: &Turn<'_>) -> bool
+    requires turn { IsTurn turn.now }
+    ensures { result ≡ is_first (plain_turn turn.now).past }
+{
+    turn.count == 0
+}
+
+/// Chooses the file, says so, takes its lines, and decides.
+fn start_own<P: Plan, T: Tree, O: Sink>(
+    turn: &Turn<'_>,
+    plan: &mut P,
+    tree: &mut T,
+    out: &mut O,
+) -> Result<Decision, RunFault>
+    requires turn { IsTurn turn.now }
+    requires size { (P.seen plan.old).size ≡ turn.now.options.now.buffer }
+    ensures starts { Starts (T.view tree.old) (T.view tree.new) (P.seen plan.old) (P.seen plan.new) (O.view out.old) (O.view out.new) P.scratch_after result (bytes_of (plain_turn turn.now)) (own_start (plain_turn turn.now)) }
     ensures rest { O.same_rest out.old out.new }
     ensures within { IfOk result (IsWithin (length turn.now.patch.now.targets.items)) }
 {

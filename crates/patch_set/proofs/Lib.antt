@@ -8,3 +8,5 @@ pub mod InTurn
 pub mod Verdicts
 pub mod OneView
 pub mod InBytes
+mod Skipping
+mod BareHeaders

@@ -25,9 +25,9 @@ is_for_own_names o = admits_unified o.only && (is_none o.file && (is_none o.outp
 abbrev pub reads_git : PlainOptions → Bool
 reads_git o = is_for_own_names o
 
--- no command passes over binary lines yet
+-- binary changes are passed over where that is asked for
 abbrev pub skips_binary : PlainOptions → Bool
-skips_binary o = false
+skips_binary o = o.skip_binary
 
 -- the ways for a command
 abbrev pub ways_of : PlainOptions → Ways

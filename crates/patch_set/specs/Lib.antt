@@ -6,4 +6,5 @@ pub mod PlainName
 pub mod Refusals
 pub mod SetView
 pub mod Spans
+pub mod Skipped
 pub mod OneView

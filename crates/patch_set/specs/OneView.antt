@@ -2,7 +2,7 @@
 use Rattle.std.specs.Prelude.{◌≡◌, map}
 use Rattle.patch_set.specs.SetView.{SetView, plain_patches}
 
--- their text, what their file patches stand for, where these and their hunks lie, which verdicts are theirs, and their targets
+-- their text, what their file patches stand for, where these and their hunks lie, which verdicts are theirs, their targets, and the lines of the binary changes that were passed over
 pub record AreOne (v w : SetView) : Type 0 where
   pub text : v.text ≡ w.text
   pub patches : plain_patches v ≡ plain_patches w
@@ -12,3 +12,4 @@ pub record AreOne (v w : SetView) : Type 0 where
   pub firsts : map (λ p. p.first_verdict) v.patches ≡ map (λ p. p.first_verdict) w.patches
   pub targets : map (λ p. p.targets.items) v.patches ≡ map (λ p. p.targets.items) w.patches
   pub output : v.output ≡ w.output
+  pub skipped : v.skipped ≡ w.skipped

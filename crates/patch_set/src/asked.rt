@@ -41,11 +41,11 @@ fn admits_unified(only: Option<Form>) -> bool
     }
 }
 
-/// Whether binary lines are passed over: for no command yet.
+/// Whether binary changes are passed over.
 fn skips_binary(options: &Options) -> bool
     ensures { result ≡ skips_binary (plain_options options.now) }
 {
-    false
+    options.skip_binary
 }
 
 /// The ways in which a patch text is read for a command.

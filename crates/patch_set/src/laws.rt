@@ -1,8 +1,9 @@
 //! Laws of the numbers of targets, and of a set while its rows and verdicts change.
-ghost use Rattle.std.specs.Prelude.{◌≡◌, ◌++◌, ℕ, List, map, true};
+ghost use Rattle.std.specs.Prelude.{◌≡◌, ◌↔◌, ◌++◌, ℕ, List, map, true};
+ghost use Rattle.std.specs.List.{AllByRecursion};
 ghost use Rattle.std.specs.Option.{option_to_list};
 ghost use Rattle.hunk_core.specs.declared.Verdict.{Verdict};
-ghost use Rattle.file_patch.specs.PlainPatch.{PlainPatch};
+ghost use Rattle.file_patch.specs.PlainPatch.{PlainPatch, row_count};
 ghost use Rattle.outside.specs.Names.{is_absolute};
 ghost use Rattle.patch_options.specs.PlainJob.{PlainOptions};
 ghost use Rattle.target_names.specs.Numbered.{is_among};
@@ -40,4 +41,9 @@ pub fn one_view()
 /// by how that was read.
 pub fn a_set_in_bytes()
     ensures { (v : SetView) → IsWhole v → map (spelled_of v.text) v.patches ≡ spelled_in v.ways v.text }
+{}
+
+/// A file patch of a set has no hunk exactly where its header is a bare one of git.
+pub fn bare_headers_have_no_hunk()
+    ensures { (v : SetView) → IsWhole v → AllByRecursion (λ p. (p.header.bare ≡ true) ↔ (row_count p.change ≡ 0)) v.patches }
 {}

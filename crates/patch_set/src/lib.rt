@@ -9,11 +9,15 @@ mod names;
 mod reading;
 mod refusals;
 mod set;
+mod skipped;
 
 pub use asked::{is_posix, ways_of};
 pub use fault::SetFault;
 pub use file_patch::{Change, FilePatch};
-pub use laws::{a_set_in_bytes, numbers_tell_targets_apart, one_view, what_was_read_stays};
+pub use laws::{
+    a_set_in_bytes, bare_headers_have_no_hunk, numbers_tell_targets_apart, one_view,
+    what_was_read_stays,
+};
 pub use names::bytes_in;
 pub use reading::read_set;
 pub use set::{PatchSet, Row};

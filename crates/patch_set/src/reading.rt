@@ -24,8 +24,8 @@ use std::alloc::{AllocError, Global};
 /// The longest text that is read, in bytes.
 const LONGEST: usize = 268_435_456;
 
-/// Reads a patch text, as if its last line had its line feed, for these options. Git headers are not read yet,
-/// whatever the options.
+/// Reads a patch text, as if its last line had its line feed, for these options. They tell whether git headers are read,
+/// and whether binary changes are passed over.
 pub fn read_set(alloc: Global, text: Vec<u8>, options: &Options) -> Result<PatchSet, SetFault>
     requires { IsLawful (plain_options options.now) }
     ensures read { IfOk result (IsRead (plain_options options.now) text.items) }

@@ -6,11 +6,13 @@ ghost use Rattle.file_patch.specs.Absent.{IsLawfulPatch};
 ghost use Rattle.file_patch.specs.PlainPatch.{header_of};
 ghost use Rattle.patch_text.specs.Regions.{region_of, regions_of};
 ghost use Rattle.patch_set.specs.PlainName.{plain_name};
+ghost use Rattle.patch_set.specs.Skipped.{skipped_lines};
 ghost use Rattle.patch_set.specs.Spans.{ArePlaced};
 ghost use Rattle.patch_set.specs.SetView.{IsFresh, IsWhole, first_row, hunks_in, patch_at, with_row, with_verdicts};
 
 use crate::header_name::plain_name;
 use crate::names::Named;
+use crate::skipped::skipped_lines;
 use file_patch::FilePatch;
 use hunk_core::{Side, Verdict};
 use patch_header::Ways;
@@ -36,6 +38,7 @@ pub struct PatchSet {
     ways: Ways,
     patches: Vec<FilePatch>,
     output: Option<Target>,
+    skipped: Vec<u64>,
     verdicts: Vec<Verdict>,
     rows: Vec<Row>,
 }
@@ -45,9 +48,9 @@ impl Model for PatchSet {
 
     ghost Value = { SetView };
 
-    ghost view = { λ s. record { text = s.text.items; ways = s.ways; patches = s.patches.items; output = s.output; verdicts = s.verdicts.items; rows = s.rows.items } };
+    ghost view = { λ s. record { text = s.text.items; ways = s.ways; patches = s.patches.items; output = s.output; skipped = s.skipped.items; verdicts = s.verdicts.items; rows = s.rows.items } };
 
-    ghost invariant = { λ s. IsWhole (record { text = s.text.items; ways = s.ways; patches = s.patches.items; output = s.output; verdicts = s.verdicts.items; rows = s.rows.items }) };
+    ghost invariant = { λ s. IsWhole (record { text = s.text.items; ways = s.ways; patches = s.patches.items; output = s.output; skipped = s.skipped.items; verdicts = s.verdicts.items; rows = s.rows.items }) };
 }
 
 impl PatchSet {
@@ -87,6 +90,16 @@ impl PatchSet {
         ensures { option_copied result ≡ self.now.output }
     {
         self.output.as_ref()
+    }
+
+    /// The lines of the binary changes that were passed over, in order: of each line `GIT binary patch` or `Binary files ..
+    /// differ` that stands outside of hunks. A change that has two such lines has two here. There is none where binary
+    /// changes aren't passed over.
+    pub fn skipped(&self) -> &[u64]
+        ensures skipped { result.now ≡ self.now.skipped }
+        ensures lines { result.now ≡ skipped_lines self.now.ways self.now.text }
+    {
+        &self.skipped
     }
 
     /// One for each hunk, an ed script counting as one, or none while they are taken.
@@ -147,9 +160,11 @@ pub fn untried(
     ensures ways { IfOk result (λ set. set.ways ≡ ways) }
     ensures patches { IfOk result (λ set. set.patches ≡ named.patches.items) }
     ensures output { IfOk result (λ set. set.output ≡ named.output) }
+    ensures skipped { IfOk result (λ set. set.skipped ≡ skipped_lines ways text.items) }
     ensures fresh { IfOk result IsFresh }
     ensures whole { IfOk result IsWhole }
 {
+    let skipped = skipped_lines(alloc, &text, ways, &named.patches)?;
     let verdicts = untried_hunks(alloc, hunks_in(&named.patches))?;
     let rows = first_rows(alloc, named.patches.len())?;
     Ok(PatchSet {
@@ -157,6 +172,7 @@ pub fn untried(
         ways,
         patches: named.patches,
         output: named.output,
+        skipped,
         verdicts,
         rows,
     })

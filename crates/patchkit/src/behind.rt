@@ -1,6 +1,7 @@
 //! The line behind the line of an answer: what helps whoever reads it.
 
-use crate::trouble::Trouble;
+use crate::unfit::unfit_word;
+use real_devices::Trouble;
 use std::alloc::{AllocError, Global};
 use tool_run::Why;
 
@@ -19,12 +20,22 @@ pub fn line_behind(
     trouble: Option<&Trouble>,
 ) -> Result<Option<String>, AllocError> {
     match why {
-        Why::Usage => Ok(Some(format!(in alloc; "Try '{tool} --help' for more information.\n")?)),
         Why::LongLine { length, .. } => buffer_line(alloc, tool, length),
         Why::ReadFault | Why::WriteFault | Why::TreeFault | Why::ScratchFault => {
             trouble_line(alloc, tool, trouble)
         }
         _ => Ok(None),
+    }
+}
+
+/// The lines behind words that are not a command: the first that can't be taken, where one of them can't, and where the words
+/// are told.
+pub fn usage_lines(alloc: Global, tool: &str, words: &[String]) -> Result<String, AllocError> {
+    match unfit_word(alloc, words)? {
+        Some(word) => format!(in alloc;
+            "{tool}: can't take {word:?} here\nTry '{tool} --help' for more information.\n"
+        ),
+        None => format!(in alloc; "Try '{tool} --help' for more information.\n"),
     }
 }
 

@@ -1,31 +1,18 @@
-//! The program: real devices for the run, its exit status, and what helps whoever called it.
+//! The program: its words, real devices for the run, its exit status, and what helps whoever called it.
 #![tactic(auto)]
 
 mod behind;
 mod called;
-mod disk;
-mod faults;
-mod files;
-mod fresh;
 mod help;
-mod looks;
-mod origins;
-mod pages;
-mod paths;
-mod rights;
-mod streams;
-mod trouble;
-mod unsynced;
+mod unfit;
 
-use crate::behind::line_behind;
+use crate::behind::{line_behind, usage_lines};
 use crate::called::{called_tool, tool_of, words_of};
-use crate::disk::Disk;
 use crate::help::{Telling, told};
-use crate::pages::Pages;
-use crate::streams::{Input, Output};
-use crate::trouble::Trouble;
 use outside::{Scratch, Sink, Source, Tree, put_all};
 use patch_filters::RegexFinder;
+use patch_options::patch_usage;
+use real_devices::{Disk, Input, Output, Pages, Trouble};
 use std::alloc::Global;
 use std::io;
 use std::io::{ErrorKind, Write};
@@ -49,6 +36,7 @@ fn answer(rt: &HostRuntime, words: &[String]) -> u8 {
     let tool = tool_of(words);
     let done = match told(words) {
         Some(Telling::Text(text)) => tell(rt, tool, text),
+        Some(Telling::Patch) => tell_patch(rt, tool),
         Some(Telling::Words(of)) => tell_words(rt, tool, of),
         None => carry_out(rt, tool, words),
     };
@@ -71,7 +59,13 @@ fn tell(rt: &HostRuntime, tool: &str, text: &str) -> io::Result<u8> {
     Ok(if is_written { 0 } else { REFUSED })
 }
 
-/// Tells the words of a tool, made of its table.
+/// Tells the words of `patch`, made of their table.
+fn tell_patch(rt: &HostRuntime, tool: &str) -> io::Result<u8> {
+    let text = patch_usage(rt.alloc())?;
+    tell(rt, tool, text.as_str())
+}
+
+/// Tells the words of another tool, made of its table.
 fn tell_words(rt: &HostRuntime, tool: &str, of: Tool) -> io::Result<u8> {
     let text = usage(rt.alloc(), of)?;
     tell(rt, tool, text.as_str())
@@ -80,28 +74,40 @@ fn tell_words(rt: &HostRuntime, tool: &str, of: Tool) -> io::Result<u8> {
 /// Carries the words out over the real devices.
 fn carry_out(rt: &HostRuntime, tool: &str, words: &[String]) -> io::Result<u8> {
     let alloc = rt.alloc();
-    let mut tree = Disk::new(alloc, rt);
-    let mut input = Input::new(alloc, rt.stdin());
     let mut out = Output::new(alloc, rt.stdout())?;
     let mut err = Output::new(alloc, rt.stderr())?;
-    let scratch = Pages::new(alloc, rt);
-    let (exit, pages) = run_words(
-        alloc, words, &mut tree, scratch, &mut input, &mut out, &mut err,
-    );
-    let paged = pages.remove();
+    let exit = run_over(rt, tool, words, &mut out, &mut err);
     // What was said last may not reach its reader, whatever the run answered.
     let is_written = out.flush().is_ok();
-    match exit.why {
-        Why::TreeFault => put_behind(alloc, &mut err, tool, exit.why, tree.trouble()),
-        Why::ScratchFault => put_behind(alloc, &mut err, tool, exit.why, paged.as_ref()),
-        Why::ReadFault => put_behind(alloc, &mut err, tool, exit.why, input.trouble()),
-        why => put_behind(alloc, &mut err, tool, why, out.trouble()),
-    }
     if !is_written && !matches!(exit.why, Why::WriteFault) {
         put_write_fault(alloc, &mut err, tool, out.trouble());
     }
     let _ = err.flush();
     Ok(if is_written { exit.status } else { REFUSED })
+}
+
+/// The run over the real files and standard input, and the lines behind its answer's.
+fn run_over<O: Write + Drop, E: Write + Drop>(
+    rt: &HostRuntime,
+    tool: &str,
+    words: &[String],
+    out: &mut Output<O>,
+    err: &mut Output<E>,
+) -> Exit {
+    let alloc = rt.alloc();
+    let mut tree = Disk::new(alloc, rt);
+    let mut input = Input::new(alloc, rt.stdin());
+    let scratch = Pages::new(alloc, rt);
+    let (exit, pages) = run_words(alloc, words, &mut tree, scratch, &mut input, out, err);
+    let paged = pages.remove();
+    match exit.why {
+        Why::Usage => put_usage(alloc, err, tool, words),
+        Why::TreeFault => put_behind(alloc, err, tool, exit.why, tree.trouble()),
+        Why::ScratchFault => put_behind(alloc, err, tool, exit.why, paged.as_ref()),
+        Why::ReadFault => put_behind(alloc, err, tool, exit.why, input.trouble()),
+        why => put_behind(alloc, err, tool, why, out.trouble()),
+    }
+    exit
 }
 
 /// The run, with a finder of regular expressions.
@@ -131,6 +137,13 @@ fn put_behind<E: Sink>(
     }
 }
 
+/// Writes which word can't be taken, and where the words are told.
+fn put_usage<E: Sink>(alloc: Global, err: &mut E, tool: &str, words: &[String]) {
+    if let Ok(lines) = usage_lines(alloc, tool, words) {
+        let _ = put_all(err, lines.as_str().as_bytes());
+    }
+}
+
 fn put_write_fault<E: Sink>(alloc: Global, err: &mut E, tool: &str, trouble: Option<&Trouble>) {
     let _ = put_all(err, tool.as_bytes());
     let _ = put_all(err, b": **** write fault\n");
@@ -146,8 +159,8 @@ fn refused(rt: &HostRuntime, tool: &str, kind: ErrorKind) -> u8 {
         return REFUSED;
     }
     let _ = err.write_all(b": **** the words are not a command\n");
-    if let Ok(Some(line)) = line_behind(rt.alloc(), tool, Why::Usage, None) {
-        let _ = err.write_all(line.as_str().as_bytes());
+    if let Ok(lines) = usage_lines(rt.alloc(), tool, &[]) {
+        let _ = err.write_all(lines.as_str().as_bytes());
     }
     REFUSED
 }

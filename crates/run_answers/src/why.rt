@@ -15,7 +15,7 @@ use series_stack::StateFile;
 pub enum Why {
     /// All was carried out, and nothing was refused.
     Done,
-    /// All was carried out, but a hunk failed or was ignored, or a file that was to be deleted wasn't.
+    /// All was carried out, but a hunk failed, a file patch was skipped, or a file that was to be deleted wasn't.
     Rejected,
     /// The words are not a command.
     Usage,

@@ -8,9 +8,11 @@ mod hunks;
 mod lines;
 mod origin;
 mod pieces;
+mod skipping;
 
 pub use files::{
     say_exists, say_no_file, say_not_deleting, say_patching, say_prereq, say_reversed,
 };
 pub use hunks::{say_failed, say_failures, say_ignored, say_placed};
 pub use origin::Origin;
+pub use skipping::say_skipped;

@@ -2,7 +2,7 @@
 
 ghost use Rattle.std.specs.Prelude.{◌≡◌, ◌+◌, ◌≤◌, ◌++◌, length, codes};
 ghost use Rattle.num_text.specs.Numbers.{decimal};
-ghost use Rattle.say_text.specs.Messages.{signed, fuzz_part, offset_part, line_word, hunk_text, placed_line, failed_line, no_file_lines, hunk_word, share};
+ghost use Rattle.say_text.specs.Messages.{signed, fuzz_part, offset_part, line_word, hunk_text, placed_line, failed_line, no_file_lines, skipping_line, hunk_word, share};
 
 use arrayvec::ArrayVec;
 use hunk_core::add_piece;
@@ -103,6 +103,16 @@ pub fn no_file_lines(number: u64) -> Line
     add_piece(&mut line, b"can't find file to patch at input line ");
     add_number(&mut line, number);
     add_piece(&mut line, b"\nSkipping patch.\n");
+    line
+}
+
+pub fn skipping_line(number: u64) -> Line
+    ensures { result.items ≡ skipping_line number }
+{
+    let mut line = ArrayVec::new();
+    add_piece(&mut line, b"Skipping a binary change at input line ");
+    add_number(&mut line, number);
+    add_piece(&mut line, b".\n");
     line
 }
 

@@ -46,6 +46,18 @@ answer Malformed { line: 3, kind: Binary }
 ways skip_binary
 text diff --git a/p b/p|index 1..2|GIT binary patch|delta 3|zc$|diff --git a/e b/e|new file mode 100644|
 answer New true 6 6 0 99 0 0 true false [a/e] [b/e] [] []|
+
+ways skip_binary
+text diff --git a/x b/x|new file mode 100644|index 0000000..1234567|Binary files /dev/null and b/x differ|diff --git a/e b/e|new file mode 100644|
+answer New true 5 5 0 141 0 0 true false [a/e] [b/e] [] []|
+
+ways skip_binary
+text diff --git a/x b/x|deleted file mode 100644|GIT binary patch|literal 0|HcmV?d00001|
+answer
+
+ways
+text diff --git a/x b/x|new file mode 100644|index 0000000..1234567|Binary files /dev/null and b/x differ|
+answer Malformed { line: 4, kind: Binary }
 ";
 
 /// The file patches of a text, with git headers.

@@ -1,4 +1,4 @@
-//! Worked rows of names and choices, of sets, of their git headers, of their parts and counts, and of lists, filtered texts, lines that are found and sets turned round.
+//! Worked rows of names and choices, of sets, of their git headers, of their parts and counts, and of lists, filtered texts and lines that are found.
 #![tactic(auto)]
 
 #[cfg(test)]
@@ -7,8 +7,6 @@ mod candidates;
 mod choosing;
 #[cfg(test)]
 mod counts;
-#[cfg(test)]
-mod flips;
 #[cfg(test)]
 mod git_headers;
 #[cfg(test)]

@@ -1,11 +1,11 @@
 //! Each table, row by row.
 
-use crate::{candidates, choosing, counts, flips, git_headers, parts, reading, targets, written};
+use crate::{candidates, choosing, counts, git_headers, parts, reading, targets, written};
 use std::alloc::Global;
 use std::test::Fail;
 
 /// What each table is about, and its rows.
-const TABLES: [(&str, &str); 15] = [
+const TABLES: [(&str, &str); 14] = [
     ("names", candidates::ROWS),
     ("renames", candidates::MOVED),
     ("choices", choosing::CHOICES),
@@ -20,7 +20,6 @@ const TABLES: [(&str, &str); 15] = [
     ("parts", parts::PARTS),
     ("filters", written::ROWS),
     ("bytes", written::BYTES),
-    ("flips", flips::FLIPS),
 ];
 
 /// Whether a row is so.
@@ -36,7 +35,6 @@ fn is_so(alloc: Global, about: &str, row: &str) -> Result<bool, Fail> {
         "counts" => counts::is_counted(alloc, row),
         "parts" => parts::is_cut(alloc, row),
         "filters" => written::is_so(alloc, row),
-        "flips" => flips::is_flipped(alloc, row),
         _ => written::is_searched(alloc, row),
     }
 }
@@ -44,7 +42,7 @@ fn is_so(alloc: Global, about: &str, row: &str) -> Result<bool, Fail> {
 /// What stands between two rows: an empty line where a row has several lines.
 fn between(about: &str) -> &'static str {
     match about {
-        "sets" | "choices" | "git headers" | "flips" => "\n\n",
+        "sets" | "choices" | "git headers" => "\n\n",
         _ => "\n",
     }
 }

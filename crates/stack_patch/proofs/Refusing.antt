@@ -1,6 +1,6 @@
 -- A text that is refused, and a file that is missing, give no patch.
 use Rattle.std.proofs.Common.{◌≡◌, ◌⊎◌, inl, inr, ℕ, List, length, Bool, true, false, Option, None, Some, refl, sym, ◌∙◌, ap, subst, arith, if◌then◌else◌}
-use Rattle.std.specs.Prelude.{Result, Ok, Err, nat_le, nat_lt}
+use Rattle.std.specs.Prelude.{Result, Ok, Err, IfOk, nat_le, nat_lt}
 use Rattle.std.specs.FinMap.{get}
 use Rattle.std.proofs.lemmas.Bool.Decides.{nat_tests}
 use Rattle.outside.specs.Files.{Files}
@@ -21,7 +21,8 @@ use Rattle.stack_reader.proofs.Sets.{set_read}
 use Rattle.stack_reader.proofs.Lawful.{options_lawful}
 use Rattle.stack_patch.specs.declared.PushFault.{PushFault}
 use Rattle.stack_patch.specs.declared.PushFault.TheVariants.{Input, Set}
-use Rattle.stack_patch.specs.Causes.{IsRefusedSo, IsRefusal}
+use Rattle.stack_patch.specs.Causes.{IsRefusedSo, IsRefusal, RefusesSome}
+use Rattle.stack_patch.specs.Pushes.{IsPush}
 
 pub lawful_as : (o : PlainOptions) → o ≡ push_options → IsLawful o
 lawful_as o same = subst (λ (x : PlainOptions). IsLawful x) (sym same) options_lawful
@@ -72,3 +73,13 @@ file_none inputs.Source u w name cause is = absurd is
 file_none inputs.Tree u w name cause is = absurd is
 file_none (inputs.Disagree want got) u w name cause is = absurd is
 file_none inputs.Memory u w name cause is = absurd is
+
+-- ---- a set that is read from the file
+pub pushed : {E : Type 0} (u : TreeView) (name text : List ℕ) (r : Result SetView E) → ((f : Files) → u.told ≡ Some f → get f name ≡ Some text) → IfOk r (IsRead push_options text)
+    → IfOk r (λ v. read_patch (Some text) ≡ Some (patch_of_set v)) → IfOk r (IsPush u name)
+pushed u name text (Ok v) held read patch = record { given = text; is = record { read = read; patch = patch }; held = held }
+pushed u name text (Err e) held read patch = tt
+
+pub some_refused : (o : PlainOptions) (text : List ℕ) (fault : SetFault) → o ≡ push_options → (fault ≡ faults.Memory) ⊎ (refusal o text ≡ Some fault) → RefusesSome (Set fault)
+some_refused o text fault same (inl memory) = (text, inl memory)
+some_refused o text fault same (inr refused) = (text, inr (ap (λ (x : PlainOptions). refusal x text) (sym same) ∙ refused))

@@ -37,3 +37,8 @@ IsRefusal (Set (faults.OutMany count)) = Unit {0}
 IsRefusal (Set (faults.EdReverse line)) = Unit {0}
 IsRefusal (Set (faults.Reserved line)) = Unit {0}
 IsRefusal (Set faults.Memory) = ⊥
+
+-- whatever is told: some text is refused so, or memory ran out
+abbrev pub RefusesSome : PushFault → Type 0
+RefusesSome (Input fault) = Unit {0}
+RefusesSome (Set fault) = (text : List ℕ) × ((fault ≡ faults.Memory) ⊎ (refusal push_options text ≡ Some fault))

@@ -1,15 +1,19 @@
 //! The patch that a push applies, read from its file.
 #![tactic(auto)]
 
-ghost use Rattle.std.specs.Prelude.{◌≡◌, ℕ, List, None, Some, IfOk, IfErr};
+ghost use Rattle.std.specs.Prelude.{◌≡◌, None, Some, IfOk, IfErr};
 ghost use Rattle.std.specs.FinMap.{get};
 ghost use Rattle.outside.specs.Files.{Files};
 ghost use Rattle.outside.specs.Calls.{IsUntouched};
 ghost use Rattle.patch_options.specs.PlainJob.{plain_options};
 ghost use Rattle.patch_set.specs.SetView.{IsRead, IsFresh, IsWhole};
 ghost use Rattle.stack_reader.specs.Reading.{push_options, patch_of_set, read_patch};
-ghost use Rattle.stack_patch.specs.Causes.{HasCause, IsRefusedSo, IsRefusal};
+ghost use Rattle.stack_patch.specs.Causes.{HasCause, IsRefusedSo, IsRefusal, RefusesSome};
+ghost use Rattle.stack_patch.specs.Pushes.{IsPush};
 
+mod names;
+
+pub use names::{Saved, saved_names};
 use outside::{Name, Tree};
 use patch_input::{InputFault, read_file};
 use patch_options::{Input, Options, PlanKind};
@@ -53,6 +57,7 @@ pub fn push_options() -> Options
         reject_form: None,
         define: None,
         posix: false,
+        skip_binary: false,
         dry_run: false,
         silent: false,
         verbose: false,
@@ -71,11 +76,11 @@ pub fn read_push<T: Tree>(
 ) -> Result<PatchSet, PushFault>
     requires { plain_options options.now ≡ push_options }
     ensures untouched { IsUntouched (T.view tree.old) (T.view tree.new) }
-    ensures patch { IfOk result (λ set. (f : Files) → (T.view tree.old).told ≡ Some f → read_patch (get f name.now) ≡ Some (patch_of_set set)) }
-    ensures read { IfOk result (λ set. (given : List ℕ) × IsRead push_options given set) }
+    ensures push { IfOk result (IsPush (T.view tree.old) name.now) }
     ensures fresh { IfOk result IsFresh }
     ensures whole { IfOk result IsWhole }
     ensures cause { IfErr result (λ e. HasCause e (T.view tree.old) (T.view tree.new) name.now) }
+    ensures some { IfErr result RefusesSome }
     ensures none { IfErr result (λ e. IsRefusal e → (f : Files) → (T.view tree.old).told ≡ Some f → read_patch (get f name.now) ≡ None) }
 {
     match read_file(alloc, name, tree) {
@@ -87,10 +92,11 @@ pub fn read_push<T: Tree>(
 fn read_text(alloc: Global, text: Vec<u8>, options: &Options) -> Result<PatchSet, PushFault>
     requires { plain_options options.now ≡ push_options }
     ensures patch { IfOk result (λ set. read_patch (Some text.items) ≡ Some (patch_of_set set)) }
-    ensures read { IfOk result (λ set. (given : List ℕ) × IsRead push_options given set) }
+    ensures read { IfOk result (IsRead push_options text.items) }
     ensures fresh { IfOk result IsFresh }
     ensures whole { IfOk result IsWhole }
     ensures cause { IfErr result (λ e. IsRefusedSo e text.items) }
+    ensures some { IfErr result RefusesSome }
     ensures none { IfErr result (λ e. IsRefusal e → read_patch (Some text.items) ≡ None) }
 {
     match read_set(alloc, text, options) {

@@ -19,7 +19,7 @@ use Rattle.patch_run.specs.Run.{Run, begun, turn_of, with_ending, if_going, with
 use Rattle.stack_law.specs.Commands.{changed_by}
 use Rattle.stack_law.proofs.Touching.{within-both}
 use Rattle.stack_reader.specs.Changed.{may_back_up}
-use Rattle.stack_reader.proofs.Places.{IsTriedWithin, start_within}
+use Rattle.patch_run.proofs.Places.{IsTriedWithin, start_within}
 
 -- ---- backups
 

@@ -1,8 +1,7 @@
 mod Utf8
-mod Places
 mod Changing
 mod Written
 mod Names
-mod Reader
+pub mod Reader
 pub mod Sets
 pub mod Lawful

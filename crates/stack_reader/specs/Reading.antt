@@ -46,6 +46,7 @@ push_options = record {
   reject_form = None;
   define = None;
   posix = false;
+  skip_binary = false;
   dry_run = false;
   silent = false;
   verbose = false;
@@ -55,9 +56,9 @@ push_options = record {
 
 -- ---- the file patches and their targets
 
--- a file patch with its targets, where the names of the run are known
+-- a file patch with its targets, where the names of the run are known; a push passes over no binary change
 abbrev pub item_for : PlainOptions → List (List ℕ) → PlainPatch → Item
-item_for o known p = record { patch = p; targets = targets_of o known p.header }
+item_for o known p = record { patch = p; targets = targets_of o known p.header; skipped = [] }
 
 abbrev pub items_for : PlainOptions → List PlainPatch → List Item
 items_for o ps = map (item_for o (known_names o ps)) ps

@@ -10,7 +10,7 @@ mod state;
 mod whole;
 
 pub use fault::StateFault;
-pub use names::save_name;
+pub use names::{count_name, save_name};
 pub use saves::{read_last_save, read_next_save};
 pub use state::{Standing, read_stack};
 pub use whole::read_whole;

@@ -28,6 +28,7 @@ pub fn read_next_save<T: Tree>(
     requires { applied ≤ 9999 }
     ensures untouched { IsUntouched (T.view tree.old) (T.view tree.new) }
     ensures save { IfOk result (λ held. (f : Files) → (T.view tree.old).told ≡ Some f → next_save applied f ≡ Ok (option_map vec_items held)) }
+    ensures good { IfOk result (λ held. is_bad (option_map vec_items held) ≡ false) }
     ensures cause { IfErr result (λ e. HasCause e (T.view tree.old) (T.view tree.new) (next_save applied)) }
 {
     let held = read_save(alloc, applied + 1, tree)?;
@@ -44,6 +45,7 @@ pub fn read_last_save<T: Tree>(
 ) -> Result<Vec<u8>, StateFault>
     ensures untouched { IsUntouched (T.view tree.old) (T.view tree.new) }
     ensures save { IfOk result (λ text. (f : Files) → (T.view tree.old).told ≡ Some f → last_save number f ≡ Ok text.items) }
+    ensures form { IfOk result (λ text. is_none (entries_of text.items) ≡ false) }
     ensures cause { IfErr result (λ e. HasCause e (T.view tree.old) (T.view tree.new) (last_save number)) }
 {
     let held = read_save(alloc, number, tree)?;
@@ -81,6 +83,7 @@ fn is_saved<T: Tree>(alloc: Global, number: u32, tree: &mut T) -> Result<bool, S
 fn judged(alloc: Global, held: Option<Vec<u8>>, behind: bool) -> Result<Option<Vec<u8>>, StateFault>
     ensures same { IfOk result (λ same. same ≡ held) }
     ensures good { OnOk result ((is_bad (option_map vec_items held) || behind) ≡ false) }
+    ensures fine { IfOk result (λ same. is_bad (option_map vec_items same) ≡ false) }
     ensures cause { IfErr result (λ e. (e ≡ StateFault.Memory) ⊎ ((e ≡ StateFault.Bad StateFile.Save) × ((is_bad (option_map vec_items held) || behind) ≡ true))) }
 {
     check_held(alloc, &held)?;
@@ -114,6 +117,7 @@ fn check(alloc: Global, text: &[u8]) -> Result<(), StateFault>
 
 fn whole(alloc: Global, held: Option<Vec<u8>>) -> Result<Vec<u8>, StateFault>
     ensures save { IfOk result (λ text. whole_save (option_map vec_items held) (saved_in (option_map vec_items held)) ≡ Ok text.items) }
+    ensures form { IfOk result (λ text. is_none (entries_of text.items) ≡ false) }
     ensures cause { IfErr result (λ e. (e ≡ StateFault.Memory) ⊎ ((e ≡ StateFault.Bad StateFile.Save) × (whole_save (option_map vec_items held) (saved_in (option_map vec_items held)) ≡ Err (Bad StateFile.Save)))) }
 {
     match held {
@@ -127,6 +131,7 @@ fn whole(alloc: Global, held: Option<Vec<u8>>) -> Result<Vec<u8>, StateFault>
 fn checked(alloc: Global, text: Vec<u8>) -> Result<Vec<u8>, StateFault>
     ensures same { IfOk result (λ same. same.items ≡ text.items) }
     ensures good { OnOk result (is_none (entries_of text.items) ≡ false) }
+    ensures form { IfOk result (λ same. is_none (entries_of same.items) ≡ false) }
     ensures cause { IfErr result (λ e. (e ≡ StateFault.Memory) ⊎ ((e ≡ StateFault.Bad StateFile.Save) × (entries_of text.items ≡ None))) }
 {
     check(alloc, &text)?;

@@ -19,12 +19,12 @@ use Rattle.ed_form.specs.Grammar as ed
 use Rattle.ed_form.specs.Scripts.{begins_substitution}
 use Rattle.patch_header.specs.Content.{is_dot, has_dot}
 use Rattle.patch_header.specs.GitHeaders.{is_git_line, is_extended, extended_run, behind_run, git_header, action_of, is_plain, has_names, begins_bare}
-use Rattle.patch_header.specs.Openings.{admits, begins, asks_dot, stop_at}
+use Rattle.patch_header.specs.Openings.{admits, begins, begins_binary, asks_dot, tells_binary, stops_bare, stop_at}
 use Rattle.patch_header.specs.Steps.{AreQuiet, region_of}
 use Rattle.patch_header.specs.declared.openings.Stop.{Stop}
 use Rattle.patch_header.specs.declared.openings.Stop.TheVariants.{Opening, Binary, Bare}
 use Rattle.patch_header.specs.declared.ways.Ways.{Ways}
-use Rattle.patch_header.proofs.Stands.{and_left, and_right, opening-words, bare-words, stop-end}
+use Rattle.patch_header.proofs.Stands.{and_left, and_right, opening-words, bare-words, stop-end, stops-begins, stops-by}
 use Rattle.patch_header.proofs.ScanLemmas.{run-more, behind-more, run-stops, run-none, behind-none}
 use Rattle.file_patch.specs.PlainPatch.{PlainHeader, PlainChange, PlainPatch, hunks, script}
 use Rattle.patch_text.specs.Texts.{IsPiece}
@@ -97,7 +97,7 @@ not-binary Binary body others change s e = s
 -- its first line is no line of names, nor an extended one
 stop-solid : (ways : Ways) (line : List ℕ) (more : List (List ℕ)) (stop : Stop) → stop_at ways (line ∷ more) ≡ Some stop → (stop ≡ Binary → ⊥) → IsSolid line
 stop-solid ways line more (Opening form) h other = front-solid line (form-front ways.only form line more (and_right (admits ways.only form) _ ((opening-words ways form (line ∷ more)).0 h)))
-stop-solid ways line more Bare h other = git-solid line (bare-git line more (and_right ways.git _ ((bare-words ways (line ∷ more)).0 h)))
+stop-solid ways line more Bare h other = git-solid line (bare-git line more (stops-begins ways (line ∷ more) ((bare-words ways (line ∷ more)).0 h)))
 stop-solid ways line more Binary h other = absurd (other refl)
 
 -- ---- an opening in front of others
@@ -152,10 +152,11 @@ record ShowsGit (others : List (List ℕ)) : Type 0 where
   run : extended_run others ≡ []
   behind : behind_run others ≡ others
   names : has_names others ≡ false
+  text : begins_binary others ≡ false
 
 git-shows : (others : List (List ℕ)) → begin_with_git others ≡ true → ShowsGit others
-git-shows [] h = record { run = run-none; behind = behind-none; names = refl }
-git-shows (line ∷ more) h = let s = solid-shows line more (git-solid line h) in record { run = s.run; behind = s.behind; names = s.names }
+git-shows [] h = record { run = run-none; behind = behind-none; names = refl; text = refl }
+git-shows (line ∷ more) h = let s = solid-shows line more (git-solid line h) in record { run = s.run; behind = s.behind; names = s.names; text = s.text }
 
 bare-by : (line : List ℕ) (rest others : List (List ℕ)) → (extended_run (rest ++ others) ≡ extended_run (rest ++ [])) → has_names (behind_run (rest ++ others)) ≡ false → begins_bare (line ∷ (rest ++ [])) ≡ true → begins_bare (line ∷ (rest ++ others)) ≡ true
 unfolding begins_bare
@@ -171,25 +172,28 @@ no-bare : begins_bare [] ≡ true → ⊥
 unfolding begins_bare
 no-bare k = absurd cc
 
-bare-joined : (body others : List (List ℕ)) → body ≡ git_header (body ++ []) → begin_with_git others ≡ true → begins_bare (body ++ []) ≡ true → (begins_bare (body ++ others) ≡ true) × (body ≡ git_header (body ++ others))
+bare-joined : (body others : List (List ℕ)) → body ≡ git_header (body ++ []) → begin_with_git others ≡ true → begins_bare (body ++ []) ≡ true → (begins_bare (body ++ others) ≡ true) × (body ≡ git_header (body ++ others)) × (tells_binary (body ++ others) ≡ false)
 bare-joined [] others e git h = absurd (no-bare h)
 bare-joined (line ∷ rest) others e git h =
     let s = git-shows others git in
     let alone : rest ≡ extended_run (rest ++ []) = run-tail line rest (extended_run (rest ++ [])) e in
     let more = run-joined rest others alone s.run s.behind in
-    (bare-by line rest others (more.0 ∙ alone) (ap has_names more.1 ∙ s.names) h, ap (λ ls. line ∷ ls) (sym more.0))
+    (bare-by line rest others (more.0 ∙ alone) (ap has_names more.1 ∙ s.names) h, ap (λ ls. line ∷ ls) (sym more.0), ap begins_binary more.1 ∙ s.text)
 
 -- ---- both
 
 module _ (ways : Ways) (body others : List (List ℕ)) (change : PlainChange) (clean : BeginCleanly others) where
   stop-joined : (stop : Stop) → Spell stop body [] change → (stop ≡ Bare → begin_with_git others ≡ true) → stop_at ways (body ++ []) ≡ Some stop → stop_at ways (body ++ others) ≡ Some stop
   stop-joined (Opening form) s git h = (opening-words ways form (body ++ others)).1 (and-then (admits ways.only form) _ _ (opens-joined ways.only form body others) ((opening-words ways form (body ++ [])).0 h))
-  stop-joined Bare s git h = (bare-words ways (body ++ others)).1 (and-then ways.git _ _ (λ b. (bare-joined body others s.0 (git refl) b).0) ((bare-words ways (body ++ [])).0 h))
+  stop-joined Bare s git h =
+      let stops : stops_bare ways (body ++ []) ≡ true = (bare-words ways (body ++ [])).0 h in
+      let joined = bare-joined body others s.0 (git refl) (stops-begins ways (body ++ []) stops) in
+      (bare-words ways (body ++ others)).1 (stops-by ways (body ++ others) (and_left ways.git _ stops) joined.0 joined.2)
   stop-joined Binary s git h = absurd s
 
   spell-joined : (stop : Stop) → Spell stop body [] change → (stop ≡ Bare → begin_with_git others ≡ true) → stop_at ways (body ++ []) ≡ Some stop → Spell stop body others change
   spell-joined (Opening form) s git h = change-joined body others clean form change s
-  spell-joined Bare s git h = ((bare-joined body others s.0 (git refl) (and_right ways.git _ ((bare-words ways (body ++ [])).0 h))).1, s.1)
+  spell-joined Bare s git h = ((bare-joined body others s.0 (git refl) (stops-begins ways (body ++ []) ((bare-words ways (body ++ [])).0 h))).1, s.1)
   spell-joined Binary s git h = absurd s
 
 -- ---- a file patch

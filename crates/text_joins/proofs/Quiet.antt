@@ -1,4 +1,4 @@
--- At a line at which nothing stands, nothing stands before other lines that look alike: those in front see no more of them than how the first begins, and whether one is '.'.
+-- At a line at which nothing stands, nothing stands before other lines that look alike: those in front see no more of them than how the first begins, what follows their extended lines, and whether one is '.'.
 use Rattle.std.proofs.Common.{◌≡◌, Bool, true, false, cond, not, ◌&&◌, ◌||◌, ℕ, List, [], ◌∷◌, ◌++◌, None, refl, sym, ap, ◌∙◌}
 use Rattle.std.specs.Prelude.{codes}
 use Rattle.std.specs.List.{list_any}
@@ -12,7 +12,7 @@ use Rattle.normal_form.specs.Hunks.{begins_marked}
 use Rattle.ed_form.specs.Commands.{is_command}
 use Rattle.patch_header.specs.Content.{is_dot, has_dot}
 use Rattle.patch_header.specs.GitHeaders.{starts, is_git_line, is_extended, extended_run, behind_run, action_of, is_plain, has_new_name, has_names, begins_bare}
-use Rattle.patch_header.specs.Openings.{admits, asks_dot, opens, stops_binary, stops_bare, stop_at}
+use Rattle.patch_header.specs.Openings.{admits, asks_dot, opens, begins_binary, is_passed_over, stops_binary, stops_bare, stop_at}
 use Rattle.patch_header.specs.Steps.{AreQuiet}
 use Rattle.patch_header.specs.declared.ways.Ways.{Ways}
 use Rattle.patch_header.proofs.Stands.{nothing-words}
@@ -26,6 +26,8 @@ pub record LookAlike (rest other : List (List ℕ)) : Type 0 where
   pub names : has_names rest ≡ has_names other
   pub run : extended_run rest ≡ extended_run other
   pub behind : has_names (behind_run rest) ≡ has_names (behind_run other)
+  pub text : begins_binary rest ≡ begins_binary other
+  pub told : begins_binary (behind_run rest) ≡ begins_binary (behind_run other)
 
 module _ (rest other : List (List ℕ)) (same : LookAlike rest other) where
   more-marked : (more : List (List ℕ)) → begins_marked (more ++ rest) ≡ begins_marked (more ++ other)
@@ -68,6 +70,24 @@ module _ (rest other : List (List ℕ)) (same : LookAlike rest other) where
       ap (λ v. is_git_line line && (not v && not (is_plain (action_of (extended_run (more ++ rest)))))) (more-behind more)
       ∙ ap (λ ls. is_git_line line && (not (has_names (behind_run (more ++ other))) && not (is_plain (action_of ls)))) (more-run more)
 
+  more-text : (more : List (List ℕ)) → begins_binary (more ++ rest) ≡ begins_binary (more ++ other)
+  more-text [] = same.text
+  more-text (m ∷ more) = refl
+
+  more-told : (more : List (List ℕ)) → begins_binary (behind_run (more ++ rest)) ≡ begins_binary (behind_run (more ++ other))
+  unfolding behind_run
+  more-told [] = same.told
+  more-told (m ∷ more) = by (is_extended m) (more-told more)
+    where
+      by : (v : Bool) → begins_binary (behind_run (more ++ rest)) ≡ begins_binary (behind_run (more ++ other)) → begins_binary (cond v (behind_run (more ++ rest)) (m ∷ (more ++ rest))) ≡ begins_binary (cond v (behind_run (more ++ other)) (m ∷ (more ++ other)))
+      by true e = e
+      by false e = more-text (m ∷ more)
+
+  more-stops : (ways : Ways) (line : List ℕ) (more : List (List ℕ)) → stops_bare ways (line ∷ (more ++ rest)) ≡ stops_bare ways (line ∷ (more ++ other))
+  more-stops ways line more =
+      ap (λ v. ways.git && (v && not (is_passed_over ways (line ∷ (more ++ rest))))) (more-bare line more)
+      ∙ ap (λ v. ways.git && (begins_bare (line ∷ (more ++ other)) && not (ways.skip_binary && v))) (more-told more)
+
 -- ---- a line '.'
 
 ed-shut : (a c q d e : Bool) → (q ≡ true → d ≡ false → e ≡ false) → (a && (c && (not q || d))) ≡ false → (a && (c && (not q || e))) ≡ false
@@ -104,7 +124,7 @@ dots-behind more rest other k h =
 
 quiet-line : (ways : Ways) (line : List ℕ) (more rest other : List (List ℕ)) → LookAlike rest other → (asks_dot ways.only line ≡ true → has_dot rest ≡ false → has_dot other ≡ false)
     → stop_at ways (line ∷ (more ++ rest)) ≡ None → stop_at ways (line ∷ (more ++ other)) ≡ None
-quiet-line ways line more rest other same dots h = (nothing-words ways (line ∷ (more ++ other))).1 (form, none.1, sym (ap (λ v. ways.git && v) (more-bare rest other same line more)) ∙ none.2)
+quiet-line ways line more rest other same dots h = (nothing-words ways (line ∷ (more ++ other))).1 (form, none.1, sym (more-stops rest other same ways line more) ∙ none.2)
   where
     none : ((f : Form) → opens ways.only f (line ∷ (more ++ rest)) ≡ false) × (stops_binary ways (line ∷ (more ++ rest)) ≡ false) × (stops_bare ways (line ∷ (more ++ rest)) ≡ false)
     none = (nothing-words ways (line ∷ (more ++ rest))).0 h

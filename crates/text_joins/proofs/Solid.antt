@@ -1,23 +1,18 @@
--- What an opening and a git line aren't: a line of both names, or an extended line.
-use Rattle.std.proofs.Common.{◌≡◌, ◌<◌, ◌≤◌, ℕ, suc, ◌-◌, Bool, true, false, cond, ◌&&◌, ◌||◌, eqb, leb, List, [], ◌∷◌, ◌++◌, length, take, Option, None, Some, refl, sym, ap, ◌∙◌, arith}
-use Rattle.std.specs.Prelude.{is_some, codes}
-use Rattle.std.proofs.lemmas.Bool.{eqb-true, leb-true}
+-- What an opening and a git line aren't: a line of both names, an extended line, or a binary line.
+use Rattle.std.proofs.Common.{◌≡◌, inl, inr, ◌<◌, ◌≤◌, ℕ, suc, Bool, true, false, ◌&&◌, ◌||◌, leb, List, [], ◌∷◌, ◌++◌, Option, refl, sym, ap, ◌∙◌, arith}
+use Rattle.std.specs.Prelude.{codes}
+use Rattle.std.proofs.lemmas.Bool.{leb-true}
 use Rattle.hunk_core.specs.declared.Form.{Form}
 use Rattle.hunk_core.specs.declared.Form.TheVariants.{Unified, Context, Normal, Ed}
-use Rattle.hunk_core.specs.LineTests.{after, ends_line}
-use Rattle.num_text.specs.Numbers.{is_digit, value_after, after_digits}
-use Rattle.num_text.specs.NumberRanges.{range_at, from_first}
-use Rattle.diff_command.specs.Letters.{◌>>=◌, action_at}
-use Rattle.ed_form.specs.Commands as ed
-use Rattle.unified_form.specs.Ranges as range_line
+use Rattle.hunk_core.specs.LineTests.{after}
+use Rattle.num_text.specs.Numbers.{is_digit}
 use Rattle.unified_form.specs.Hunks as unified
 use Rattle.context_form.specs.Openings as context
-use Rattle.normal_form.specs.Commands as command
 use Rattle.normal_form.specs.Hunks.{begins_marked}
-use Rattle.patch_header.specs.Content.{content}
+use Rattle.patch_header.specs.Content.{content, is_binary}
 use Rattle.patch_header.specs.GitHeaders.{starts, is_git_line, is_mode_line, is_name_line, is_index_line, is_extended, extended_run, behind_run, has_new_name, has_names}
-use Rattle.patch_header.specs.Openings.{begins}
-use Rattle.patch_header.proofs.Stands.{front, and_left, and_right}
+use Rattle.patch_header.specs.Openings.{begins, begins_binary}
+use Rattle.patch_header.proofs.Fronts.{front, and_left, and_right, after-front, unified-front, context-front, range-front, normal-range, ed-range, content-front, binary-front}
 use Rattle.patch_header.proofs.GitWords.{starts-words}
 use Rattle.patch_header.proofs.ScanLemmas.{run-stops, behind-stops}
 use Rattle.text_joins.proofs.Quiet.{LookAlike}
@@ -27,31 +22,6 @@ is_no true h = absurd (h refl)
 is_no false h = refl
 
 -- ---- how a line begins
-
-pub after-front : (p : ℕ) (prefix line : List ℕ) → is_some (after (p ∷ prefix) line) ≡ true → front line ≡ p
-unfolding after
-after-front p prefix [] h = absurd cc
-after-front p prefix (b ∷ bytes) h = by (eqb b p) refl h
-  where
-    by : (v : Bool) → eqb b p ≡ v → is_some (cond v (after prefix bytes) None) ≡ true → b ≡ p
-    by true e k = eqb-true b p e
-    by false e k = absurd cc
-
-content-front : (line : List ℕ) (n : ℕ) → front (content line) ≡ suc n → front line ≡ suc n
-content-front [] n h = h
-content-front (b ∷ []) n h = by (eqb b 10) h
-  where
-    by : (v : Bool) → front (cond v (take (length (b ∷ []) - 1) (b ∷ [])) (b ∷ [])) ≡ suc n → b ≡ suc n
-    by true k = absurd (omega (arith, k))
-    by false k = k
-content-front (b ∷ c ∷ bytes) n h = by (ends_line (c ∷ bytes)) h
-  where
-    most : length (b ∷ c ∷ bytes) - 1 ≡ suc (length bytes)
-    most = omega arith
-
-    by : (v : Bool) → front (cond v (take (length (b ∷ c ∷ bytes) - 1) (b ∷ c ∷ bytes)) (b ∷ c ∷ bytes)) ≡ suc n → b ≡ suc n
-    by true k = rw most at k
-    by false k = k
 
 -- the first byte of a line that begins so
 starts-front : (b n : ℕ) (mark line : List ℕ) → b ≡ suc n → starts (b ∷ mark) line ≡ true → front line ≡ b
@@ -108,44 +78,15 @@ pub record OpensForm (b : ℕ) : Type 0 where
   pub no_minus : b ≡ 45 → ⊥
   pub no_old : b ≡ 60 → ⊥
   pub no_new : b ≡ 62 → ⊥
-
-some-front : (o : Option (List ℕ)) → is_some (range_line.◌>>=◌ o range_line.size_at) ≡ true → is_some o ≡ true
-some-front None h = absurd cc
-some-front (Some x) h = refl
-
-pub unified-front : (line : List ℕ) → range_line.is_opening line ≡ true → front line ≡ 64
-unfolding range_line.is_opening
-unified-front line h = after-front 64 (64 ∷ 32 ∷ 45 ∷ []) line (some-front (after (64 ∷ 64 ∷ 32 ∷ 45 ∷ []) line) h)
-
-pub context-front : (line : List ℕ) → context.is_stars line ≡ true → front line ≡ 42
-context-front line h = after-front 42 (42 ∷ 42 ∷ 42 ∷ 42 ∷ 42 ∷ 42 ∷ 42 ∷ 42 ∷ 42 ∷ 42 ∷ 42 ∷ 42 ∷ 42 ∷ 42 ∷ []) line h
-
-pub range-front : (line : List ℕ) → is_some (range_at line) ≡ true → is_digit (front line) ≡ true
-unfolding range_at
-range-front [] h = absurd cc
-range-front (b ∷ bytes) h = by (is_digit b) h
-  where
-    by : (v : Bool) → is_some (from_first (cond v (Some (value_after 0 (b ∷ bytes), after_digits bytes)) None)) ≡ true → v ≡ true
-    by true k = refl
-    by false k = absurd cc
-
-bind-some : {A B : Type 0} (o : Option A) (f : A → Option B) → is_some (o >>= f) ≡ true → is_some o ≡ true
-bind-some None f h = absurd cc
-bind-some (Some x) f h = refl
-
-pub normal-range : (line : List ℕ) → command.is_command line ≡ true → is_some (range_at line) ≡ true
-unfolding command.parts_at
-normal-range line h = bind-some (range_at line) (λ old. action_at old.1 >>= λ action. range_at action.1 >>= λ new. command.whole old.0 action.0 new.0 new.1) h
-
-pub ed-range : (line : List ℕ) → ed.is_command line ≡ true → is_some (range_at line) ≡ true
-unfolding ed.parts_at
-ed-range line h = bind-some (range_at line) (λ range. action_at range.1 >>= λ action. ed.whole range.0 action.0 action.1) h
+  -- 'G' and 'B'
+  pub no_binary : b ≡ 71 → ⊥
+  pub no_files : b ≡ 66 → ⊥
 
 at-64 : (b : ℕ) → b ≡ 64 → OpensForm b
-at-64 b e = record { low = omega arith; no_plus = λ k. omega (arith, e, k); no_minus = λ k. omega (arith, e, k); no_old = λ k. omega (arith, e, k); no_new = λ k. omega (arith, e, k) }
+at-64 b e = record { low = omega arith; no_plus = λ k. omega (arith, e, k); no_minus = λ k. omega (arith, e, k); no_old = λ k. omega (arith, e, k); no_new = λ k. omega (arith, e, k); no_binary = λ k. omega (arith, e, k); no_files = λ k. omega (arith, e, k) }
 
 at-42 : (b : ℕ) → b ≡ 42 → OpensForm b
-at-42 b e = record { low = omega arith; no_plus = λ k. omega (arith, e, k); no_minus = λ k. omega (arith, e, k); no_old = λ k. omega (arith, e, k); no_new = λ k. omega (arith, e, k) }
+at-42 b e = record { low = omega arith; no_plus = λ k. omega (arith, e, k); no_minus = λ k. omega (arith, e, k); no_old = λ k. omega (arith, e, k); no_new = λ k. omega (arith, e, k); no_binary = λ k. omega (arith, e, k); no_files = λ k. omega (arith, e, k) }
 
 pub digit-low : (b : ℕ) → is_digit b ≡ true → (48 ≤ b) × (b ≤ 57)
 digit-low b h = (leb-true 48 b (and_left (leb 48 b) (leb b 57) h), leb-true b 57 (and_right (leb 48 b) (leb b 57) h))
@@ -154,7 +95,7 @@ at-digit : (b : ℕ) → is_digit b ≡ true → OpensForm b
 at-digit b h =
     let low : 48 ≤ b = (digit-low b h).0 in
     let high : b ≤ 57 = (digit-low b h).1 in
-    record { low = omega (arith, high); no_plus = λ k. omega (arith, low, k); no_minus = λ k. omega (arith, low, k); no_old = λ k. omega (arith, high, k); no_new = λ k. omega (arith, high, k) }
+    record { low = omega (arith, high); no_plus = λ k. omega (arith, low, k); no_minus = λ k. omega (arith, low, k); no_old = λ k. omega (arith, high, k); no_new = λ k. omega (arith, high, k); no_binary = λ k. omega (arith, high, k); no_files = λ k. omega (arith, high, k) }
 
 pub form-front : (only : Option Form) (f : Form) (line : List ℕ) (more : List (List ℕ)) → begins only f (line ∷ more) ≡ true → OpensForm (front line)
 form-front only Unified line more h = at-64 (front line) (unified-front line h)
@@ -162,23 +103,31 @@ form-front only Context line more h = at-42 (front line) (context-front line (an
 form-front only Normal line more h = at-digit (front line) (range-front line (normal-range line (and_left _ _ h)))
 form-front only Ed line more h = at-digit (front line) (range-front line (ed-range line (and_left _ _ h)))
 
--- ---- lines that a git header doesn't go on with, nor lines of names
+-- ---- lines that a git header doesn't go on with, nor lines of names, nor binary lines
+
+not-binary : (line : List ℕ) → OpensForm (front line) → is_binary line ≡ false
+not-binary line o = is_no (is_binary line) (λ h. elim (binary-front line h) [
+  | inl e ↦ o.no_binary e
+  | inr e ↦ o.no_files e
+])
 
 pub record IsSolid (line : List ℕ) : Type 0 where
   pub extended : is_extended line ≡ false
   pub minus : starts (codes "--- ") line ≡ false
   pub plus : starts (codes "+++ ") line ≡ false
+  pub text : is_binary line ≡ false
 
 pub front-solid : (line : List ℕ) → OpensForm (front line) → IsSolid line
 front-solid line o = record {
   extended = is_no (is_extended line) (λ h. let l : 99 ≤ front line = extended-letter line h in let b : front line < 99 = o.low in omega arith);
   minus = is_no (starts (codes "--- ") line) (λ h. o.no_minus (starts-front 45 44 (codes "-- ") line refl h));
   plus = is_no (starts (codes "+++ ") line) (λ h. o.no_plus (starts-front 43 42 (codes "++ ") line refl h));
+  text = not-binary line o;
 }
 
 git-is : (line rest : List ℕ) → content line ≡ codes "diff --git " ++ rest → IsSolid line
 unfolding after is_extended
-git-is line rest e = record { extended = rw e refl; minus = rw e refl; plus = rw e refl }
+git-is line rest e = record { extended = rw e refl; minus = rw e refl; plus = rw e refl; text = rw e refl }
 
 pub git-solid : (line : List ℕ) → is_git_line line ≡ true → IsSolid line
 git-solid line h = let w = (starts-words (codes "diff --git ") line).0 h in git-is line w.0 w.1
@@ -189,6 +138,7 @@ pub record ShowsSolid (ls : List (List ℕ)) : Type 0 where
   pub behind : behind_run ls ≡ ls
   pub new_name : has_new_name ls ≡ false
   pub names : has_names ls ≡ false
+  pub text : begins_binary ls ≡ false
 
 pub solid-shows : (line : List ℕ) (more : List (List ℕ)) → IsSolid line → ShowsSolid (line ∷ more)
 solid-shows line more s = record {
@@ -196,6 +146,7 @@ solid-shows line more s = record {
   behind = behind-stops line more s.extended;
   new_name = ap (λ v. v && unified.begins_hunk more) s.plus;
   names = ap (λ v. v && has_new_name more) s.minus;
+  text = s.text;
 }
 
 -- lines that begin with the same line, or with another one that is as solid, look alike
@@ -208,4 +159,6 @@ solid-alike rest other marked ranged hunk s t = record {
   names = s.names ∙ sym t.names;
   run = s.run ∙ sym t.run;
   behind = ap has_names s.behind ∙ s.names ∙ sym t.names ∙ sym (ap has_names t.behind);
+  text = s.text ∙ sym t.text;
+  told = ap begins_binary s.behind ∙ s.text ∙ sym t.text ∙ sym (ap begins_binary t.behind);
 }

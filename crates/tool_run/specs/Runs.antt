@@ -17,6 +17,12 @@ use Rattle.filter_cli.specs.Command.{Searches}
 use Rattle.filter_cli.specs.Worlds.{Tells}
 use Rattle.filter_cli.specs.Worlds as filter_worlds
 use Rattle.filter_cli.specs.Carries as filter
+use Rattle.gen_cli.specs.Jobs as gen_jobs
+use Rattle.gen_cli.specs.Worlds as gen_worlds
+use Rattle.gen_cli.specs.Carries as gen
+use Rattle.stack_cli.specs.Jobs as stack_jobs
+use Rattle.stack_cli.specs.Worlds as stack_worlds
+use Rattle.stack_cli.specs.Carries as stack
 
 -- the devices themselves at one moment, but for standard error
 pub record Devices (T C F I O : Type 0) : Type 0 where
@@ -57,4 +63,28 @@ pub record RunsFilter {T C F I O : Type 0} (words : List (List ℕ)) (u w : filt
   pub unasked : (f : Files) (left : List ℕ) → Tells (filter_jobs.job_of words) u f left → (AsksFor (filter_jobs.job_of words) (λ j. Searches j f left) → ⊥) → e.finder ≡ d.finder
   pub no_pattern : (AsksFor (filter_jobs.job_of words) HasPattern → ⊥) → e.finder ≡ d.finder
   pub scratch : e.scratch ≡ d.scratch
+  pub no_receipt : applied ≡ None
+
+-- what `gen_cli` promises of `patchgen`; standard input isn't read, and the finder isn't asked
+pub record RunsGen {T C F I O : Type 0} (words : List (List ℕ)) (u w : gen_worlds.World) (d e : Devices T C F I O) (why : Why) (applied : Option Receipt) : Type 0 where
+  pub carries : gen.Carries (gen_jobs.job_of words) u w why applied
+  -- words that give no job are answered before any device is called
+  pub words_first : (fault : WordFault) → gen_jobs.job_of words ≡ Err fault → (why ≡ of_words fault) ⊎ (why ≡ Memory)
+  pub still : (fault : WordFault) → gen_jobs.job_of words ≡ Err fault → e.tree ≡ d.tree
+  pub silent : (fault : WordFault) → gen_jobs.job_of words ≡ Err fault → e.out ≡ d.out
+  pub scratch : gen_jobs.uses_scratch (gen_jobs.job_of words) ≡ false → e.scratch ≡ d.scratch
+  pub input : e.input ≡ d.input
+  pub finder : e.finder ≡ d.finder
+
+-- what `stack_cli` promises of `patchstack`; standard input isn't read, the finder isn't asked, and there is no receipt
+pub record RunsStack {T C F I O : Type 0} (words : List (List ℕ)) (u w : stack_worlds.World) (d e : Devices T C F I O) (why : Why) (applied : Option Receipt) : Type 0 where
+  pub carries : stack.Carries (stack_jobs.job_of words) u w why
+  -- words that give no operation are answered before any device is called
+  pub words_first : (fault : WordFault) → stack_jobs.job_of words ≡ Err fault → (why ≡ of_words fault) ⊎ (why ≡ Memory)
+  pub still : (fault : WordFault) → stack_jobs.job_of words ≡ Err fault → e.tree ≡ d.tree
+  pub silent : (fault : WordFault) → stack_jobs.job_of words ≡ Err fault → e.out ≡ d.out
+  -- only a push pages lines
+  pub scratch : (stack_jobs.AsksFor (stack_jobs.job_of words) stack_jobs.IsPushing → ⊥) → e.scratch ≡ d.scratch
+  pub input : e.input ≡ d.input
+  pub finder : e.finder ≡ d.finder
   pub no_receipt : applied ≡ None

@@ -2,15 +2,19 @@
 ghost use Rattle.std.specs.Prelude.{◌≡◌, map, string_bytes};
 ghost use Rattle.tool_run.specs.Kinds.{kind_of, kind_by};
 
-use tool_words::tool_named;
+use tool_words::{Tool, tool_named};
 
 /// A tool's kind. The tools of one kind are carried out by one crate.
 #[derive(Clone, Copy)]
 pub enum Kind {
     /// `patch`, and words that name no tool.
     Patch,
-    /// A filter, and the tools that aren't built yet.
+    /// A filter, or `reversediff`.
     Filter,
+    /// `patchgen`.
+    Gen,
+    /// `patchstack`.
+    Stack,
 }
 
 /// The kind of the tool that the first word names.
@@ -27,6 +31,8 @@ fn kind_by(word: &str) -> Kind
     ensures { result ≡ kind_by word.now }
 {
     match tool_named(word) {
+        Some(Tool::Patchgen) => Kind::Gen,
+        Some(Tool::Patchstack) => Kind::Stack,
         Some(_) => Kind::Filter,
         None => Kind::Patch,
     }

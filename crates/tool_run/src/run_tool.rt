@@ -1,19 +1,28 @@
 //! The whole run.
-ghost use Rattle.std.specs.Prelude.{◌≡◌, ◌⊎◌, map, true, None, string_bytes};
+ghost use Rattle.std.specs.Prelude.{◌≡◌, ◌⊎◌, map, false, true, None, Err, string_bytes};
 ghost use Rattle.outside.specs.SinkView.{Receives, ReceivesPart, Rises};
-ghost use Rattle.run_answers.specs.Answers.{exit_status, is_ended};
+ghost use Rattle.run_answers.specs.Answers.{exit_status, is_ended, of_words};
 ghost use Rattle.run_answers.specs.Reasons.{refusal_line};
 ghost use Rattle.patch_cli.specs.Worlds as patch_worlds;
 ghost use Rattle.filter_cli.specs.Worlds as filter_worlds;
+ghost use Rattle.gen_cli.specs.Worlds as gen_worlds;
+ghost use Rattle.stack_cli.specs.Worlds as stack_worlds;
+ghost use Rattle.stack_cli.specs.Jobs as stack_jobs;
+ghost use Rattle.stack_cli.specs.Carries as stack_carries;
+ghost use Rattle.gen_cli.specs.Jobs.{job_of, uses_scratch};
+ghost use Rattle.gen_cli.specs.Carries.{Carries};
+ghost use Rattle.patch_options.specs.declared.options.WordFault.{WordFault};
 ghost use Rattle.tool_run.specs.Kinds.{kind_of};
-ghost use Rattle.tool_run.specs.Runs.{devices, RunsFilter, RunsPatch};
-ghost use Rattle.tool_run.specs.declared.kind.Kind.TheVariants.{Filter, Patch};
+ghost use Rattle.tool_run.specs.Runs.{devices, RunsFilter, RunsGen, RunsPatch, RunsStack};
+ghost use Rattle.tool_run.specs.declared.kind.Kind.TheVariants.{Filter, Gen, Patch, Stack};
 
 use crate::kind::{Kind, kind_of};
 use filter_cli::run_filter;
+use gen_cli::run_words;
 use outside::{Finder, Scratch, Sink, Source, Tree};
 use patch_cli::Exit;
 use run_answers::{Why, report};
+use stack_cli::run_stack;
 use std::alloc::Global;
 
 /// Does all that the program does. `words[0]` is the tool.
@@ -33,6 +42,8 @@ pub fn run<T: Tree, C: Scratch, F: Finder, I: Source, O: Sink, E: Sink>(
 ) -> (Exit, C)
     ensures patch { kind_of (map string_bytes words.now) ≡ Patch → RunsPatch (map string_bytes words.now) (patch_worlds.world (T.view tree.old) (C.view scratch) (I.view input.old) (O.view out.old)) (patch_worlds.world (T.view tree.new) (C.view result.1) (I.view input.new) (O.view out.new)) (devices tree.old scratch finder.old input.old out.old) (devices tree.new result.1 finder.new input.new out.new) result.0.why result.0.applied }
     ensures filter { kind_of (map string_bytes words.now) ≡ Filter → RunsFilter (map string_bytes words.now) (filter_worlds.world (T.view tree.old) (F.view finder.old) (I.view input.old) (O.view out.old)) (filter_worlds.world (T.view tree.new) (F.view finder.new) (I.view input.new) (O.view out.new)) (devices tree.old scratch finder.old input.old out.old) (devices tree.new result.1 finder.new input.new out.new) result.0.why result.0.applied }
+    ensures making { kind_of (map string_bytes words.now) ≡ Gen → RunsGen (map string_bytes words.now) (gen_worlds.world (T.view tree.old) (C.view scratch) (O.view out.old)) (gen_worlds.world (T.view tree.new) (C.view result.1) (O.view out.new)) (devices tree.old scratch finder.old input.old out.old) (devices tree.new result.1 finder.new input.new out.new) result.0.why result.0.applied }
+    ensures stack { kind_of (map string_bytes words.now) ≡ Stack → RunsStack (map string_bytes words.now) (stack_worlds.world (T.view tree.old) (C.view scratch) (O.view out.old)) (stack_worlds.world (T.view tree.new) (C.view result.1) (O.view out.new)) (devices tree.old scratch finder.old input.old out.old) (devices tree.new result.1 finder.new input.new out.new) result.0.why result.0.applied }
     ensures status { result.0.status ≡ exit_status result.0.why }
     ensures out_rest { O.same_rest out.old out.new }
 
@@ -45,6 +56,8 @@ pub fn run<T: Tree, C: Scratch, F: Finder, I: Source, O: Sink, E: Sink>(
     match kind_of(words) {
         Kind::Patch => patch_cli::run(alloc, words, tree, scratch, input, out, err),
         Kind::Filter => run_sifting(alloc, words, tree, scratch, finder, input, out, err),
+        Kind::Gen => run_making(alloc, words, tree, scratch, out, err),
+        Kind::Stack => run_stacking(alloc, words, tree, scratch, out, err),
     }
 }
 
@@ -68,6 +81,60 @@ fn run_sifting<T: Tree, C: Scratch, F: Finder, I: Source, O: Sink, E: Sink>(
     ensures err_rest { E.same_rest err.old err.new }
 {
     let exit = exit_of(run_filter(alloc, words, tree, finder, input, out));
+    let _reported = report(err, words, exit.why);
+    (exit, scratch)
+}
+
+/// Carries out the words of `patchgen`, and writes the line of its answer.
+fn run_making<T: Tree, C: Scratch, O: Sink, E: Sink>(
+    alloc: Global,
+    words: &[String],
+    tree: &mut T,
+    scratch: C,
+    out: &mut O,
+    err: &mut E,
+) -> (Exit, C)
+    ensures carries { Carries (job_of (map string_bytes words.now)) (gen_worlds.world (T.view tree.old) (C.view scratch) (O.view out.old)) (gen_worlds.world (T.view tree.new) (C.view result.1) (O.view out.new)) result.0.why result.0.applied }
+    ensures words { (fault : WordFault) → job_of (map string_bytes words.now) ≡ Err fault → (result.0.why ≡ of_words fault) ⊎ (result.0.why ≡ Why.Memory) }
+    ensures still { (fault : WordFault) → job_of (map string_bytes words.now) ≡ Err fault → tree.new ≡ tree.old }
+    ensures silent { (fault : WordFault) → job_of (map string_bytes words.now) ≡ Err fault → out.new ≡ out.old }
+    ensures scratch { uses_scratch (job_of (map string_bytes words.now)) ≡ false → result.1 ≡ scratch }
+    ensures status { result.0.status ≡ exit_status result.0.why }
+    ensures out_rest { O.same_rest out.old out.new }
+    ensures err_part { ReceivesPart (E.view err.old) (E.view err.new) (refusal_line (map string_bytes words.now) result.0.why) }
+    ensures err_whole { Receives (E.view err.old) (E.view err.new) (refusal_line (map string_bytes words.now) result.0.why) ⊎ Rises (E.view err.old) (E.view err.new) }
+    ensures err_still { is_ended result.0.why ≡ true → err.new ≡ err.old }
+    ensures err_rest { E.same_rest err.old err.new }
+{
+    let (exit, scratch) = run_words(alloc, words, tree, scratch, out);
+    let _reported = report(err, words, exit.why);
+    (exit, scratch)
+}
+
+/// Carries out the words of `patchstack`, and writes the line of its answer.
+fn run_stacking<T: Tree, C: Scratch, O: Sink, E: Sink>(
+    alloc: Global,
+    words: &[String],
+    tree: &mut T,
+    scratch: C,
+    out: &mut O,
+    err: &mut E,
+) -> (Exit, C)
+    ensures carries { stack_carries.Carries (stack_jobs.job_of (map string_bytes words.now)) (stack_worlds.world (T.view tree.old) (C.view scratch) (O.view out.old)) (stack_worlds.world (T.view tree.new) (C.view result.1) (O.view out.new)) result.0.why }
+    ensures words { (fault : WordFault) → stack_jobs.job_of (map string_bytes words.now) ≡ Err fault → (result.0.why ≡ of_words fault) ⊎ (result.0.why ≡ Why.Memory) }
+    ensures still { (fault : WordFault) → stack_jobs.job_of (map string_bytes words.now) ≡ Err fault → tree.new ≡ tree.old }
+    ensures silent { (fault : WordFault) → stack_jobs.job_of (map string_bytes words.now) ≡ Err fault → out.new ≡ out.old }
+    ensures scratch { (stack_jobs.AsksFor (stack_jobs.job_of (map string_bytes words.now)) stack_jobs.IsPushing → ⊥) → result.1 ≡ scratch }
+    ensures no_receipt { result.0.applied ≡ None }
+    ensures status { result.0.status ≡ exit_status result.0.why }
+    ensures out_rest { O.same_rest out.old out.new }
+    ensures err_part { ReceivesPart (E.view err.old) (E.view err.new) (refusal_line (map string_bytes words.now) result.0.why) }
+    ensures err_whole { Receives (E.view err.old) (E.view err.new) (refusal_line (map string_bytes words.now) result.0.why) ⊎ Rises (E.view err.old) (E.view err.new) }
+    ensures err_still { is_ended result.0.why ≡ true → err.new ≡ err.old }
+    ensures err_rest { E.same_rest err.old err.new }
+{
+    let (why, scratch) = run_stack(alloc, words, tree, scratch, out);
+    let exit = exit_of(why);
     let _reported = report(err, words, exit.why);
     (exit, scratch)
 }

@@ -45,8 +45,18 @@ out diff --git a/lib/main.c b/lib/main.c|index 83db48f..bf269f4 100644|--- a/lib
 
 words filterdiff --format=context p.diff
 p.diff diff --git a/lib/main.c b/lib/main.c|index 83db48f..bf269f4 100644|--- a/lib/main.c|+++ b/lib/main.c|@@ -1,3 +1,4 @@| int main(void)| {|+  setup();| }|diff --git a/my notes.txt b/my notes.txt|index 83db48f..bf269f4 100644|--- a/my notes.txt\t|+++ b/my notes.txt\t|@@ -1 +1 @@|-old|+new|diff --git a/new.txt b/new.txt|new file mode 100644|index 0000000..257cc56|--- /dev/null|+++ b/new.txt|@@ -0,0 +1 @@|+foo|
-answer Unsupported 2
-err filterdiff: **** not supported yet|
+answer Done 0
+out *** a/lib/main.c|--- b/lib/main.c|***************|*** 1,3 ****|  int main(void)|  {|  }|--- 1,4 ----|  int main(void)|  {|+   setup();|  }|*** a/my notes.txt\t|--- b/my notes.txt\t|***************|*** 1 ****|! old|--- 1 ----|! new|*** /dev/null|--- b/new.txt|***************|*** 0 ****|--- 1 ----|+ foo|
+
+words filterdiff --format=unified
+input 2c2|< b|---|> B|
+answer NoContext { line: 1 } 2
+err filterdiff: **** the patch at line 1 lacks what the form shows|
+
+words filterdiff --format=ed
+input --- f|+++ f|@@ -1 +1 @@|-a|+b|\\ No newline at end of file|
+answer Unfit { line: 3 } 2
+err filterdiff: **** the patch at line 3 doesn't fit the form|
 
 words grepdiff setup p.diff
 p.diff diff --git a/lib/main.c b/lib/main.c|index 83db48f..bf269f4 100644|--- a/lib/main.c|+++ b/lib/main.c|@@ -1,3 +1,4 @@| int main(void)| {|+  setup();| }|diff --git a/my notes.txt b/my notes.txt|index 83db48f..bf269f4 100644|--- a/my notes.txt\t|+++ b/my notes.txt\t|@@ -1 +1 @@|-old|+new|diff --git a/new.txt b/new.txt|new file mode 100644|index 0000000..257cc56|--- /dev/null|+++ b/new.txt|@@ -0,0 +1 @@|+foo|
@@ -63,6 +73,29 @@ input @@ -1 +1 @@|
 answer Malformed { line: 1, kind: Count } 2
 err recountdiff: **** malformed patch at line 1: counts and lines differ|
 
+words reversediff p.diff
+p.diff --- f|+++ f|@@ -1,3 +1,3 @@| a|-b|+B| c|
+answer Done 0
+out --- f|+++ f|@@ -1,3 +1,3 @@| a|+b|-B| c|
+
+words reversediff
+answer Done 0
+
+words reversediff
+input 2c|B|.|
+answer EdReverse { line: 1 } 2
+err reversediff: **** the ed script at line 1 can't be reversed|
+
+words reversediff -
+input diff --git a/e b/f|similarity index 100%|rename from e|rename to f|
+answer Unfit { line: 1 } 2
+err reversediff: **** the patch at line 1 doesn't fit the form|
+
+words reversediff p.diff
+p.diff hello|
+answer Garbage 2
+err reversediff: **** Only garbage was found in the patch input.|
+
 words splitdiff p.diff
 p.diff hello|
 answer Garbage 2
@@ -71,9 +104,9 @@ err splitdiff: **** Only garbage was found in the patch input.|
 words splitdiff p.diff
 answer Done 0
 
-words patchgen 7 1 20
-answer Unsupported 2
-err patchgen: **** not supported yet|
+words patchgen 7 1
+answer Usage 2
+err patchgen: **** the words are not a command|
 
 words patchstack pop push
 answer Usage 2

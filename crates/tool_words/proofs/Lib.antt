@@ -2,6 +2,5 @@ pub mod Free
 pub mod Items
 pub mod Selection
 pub mod Listing
-pub mod Telling
 pub mod Lawful
 pub mod Reading

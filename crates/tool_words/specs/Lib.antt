@@ -4,5 +4,4 @@ pub mod Tools
 pub mod Ranges
 pub mod Selecting
 pub mod Asked
-pub mod Usage
 pub mod Words

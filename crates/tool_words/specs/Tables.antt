@@ -1,27 +1,15 @@
 -- The tables of the words of the tools beside `patch` (manual pages of patchutils).
-use Rattle.std.specs.Prelude.{ℕ, List, [], ◌∷◌, ◌++◌, codes, Option, None, Some}
-use Rattle.clap.specs.Words.{Text}
-use Rattle.patch_options.specs.Simple.{PlainWord}
-use Rattle.patch_options.specs.declared.simple.WordForm.{WordForm}
-use Rattle.patch_options.specs.declared.simple.WordForm.TheVariants.{Switch, Letter, Value, Values, Operand}
-
-abbrev pub a_word : WordForm → Option ℕ → Text → PlainWord
-a_word form letter name = record { form = form; letter = letter; name = name }
-
--- an option that has a name alone
-abbrev pub named : Text → PlainWord
-named name = a_word Value None name
-
-abbrev pub operand : Text → PlainWord
-operand name = a_word Operand None name
+use Rattle.std.specs.Prelude.{List, [], ◌∷◌, ◌++◌, codes, Some}
+use Rattle.patch_options.specs.Simple.{PlainWord, a_word, named, operand, option, switch}
+use Rattle.patch_options.specs.declared.simple.WordForm.TheVariants.{Letter, Values}
 
 -- which file patches are meant by their names; the letters in ASCII: p 112, i 105, x 120
 abbrev pub name_words : List PlainWord
-name_words = a_word Value (Some 112) (codes "strip-match") ∷ a_word Values (Some 105) (codes "include") ∷ a_word Values (Some 120) (codes "exclude") ∷ []
+name_words = option 112 (codes "strip-match") ∷ a_word Values (Some 105) (codes "include") ∷ a_word Values (Some 120) (codes "exclude") ∷ []
 
 -- files of patterns: I 73, X 88
 abbrev pub file_words : List PlainWord
-file_words = a_word Value (Some 73) (codes "include-from-file") ∷ a_word Value (Some 88) (codes "exclude-from-file") ∷ []
+file_words = option 73 (codes "include-from-file") ∷ option 88 (codes "exclude-from-file") ∷ []
 
 -- the text that is read
 abbrev pub input_table : List PlainWord
@@ -29,21 +17,21 @@ input_table = operand (codes "file") ∷ []
 
 -- s 115, n 110
 abbrev pub list_table : List PlainWord
-list_table = a_word Switch (Some 115) (codes "status") ∷ a_word Switch (Some 110) (codes "line-number") ∷ named (codes "strip") ∷ (name_words ++ file_words) ++ input_table
+list_table = switch 115 (codes "status") ∷ switch 110 (codes "line-number") ∷ named (codes "strip") ∷ (name_words ++ file_words) ++ input_table
 
 abbrev pub filter_table : List PlainWord
-filter_table = name_words ++ file_words ++ (named (codes "hunks") ∷ named (codes "lines") ∷ named (codes "files") ∷ named (codes "format") ∷ input_table)
+filter_table = name_words ++ file_words ++ (named (codes "files") ∷ named (codes "hunks") ∷ named (codes "lines") ∷ named (codes "format") ∷ input_table)
 
 -- E 69
 abbrev pub grep_table : List PlainWord
-grep_table = name_words ++ (a_word Switch (Some 69) (codes "extended-regexp") ∷ named (codes "output-matching") ∷ operand (codes "regex") ∷ input_table)
+grep_table = name_words ++ (named (codes "output-matching") ∷ switch 69 (codes "extended-regexp") ∷ operand (codes "regex") ∷ input_table)
 
 -- a 97
 abbrev pub split_table : List PlainWord
 split_table = a_word Letter (Some 97) (codes "every") ∷ input_table
 
 abbrev pub gen_table : List PlainWord
-gen_table = named (codes "plan") ∷ named (codes "buffer") ∷ operand (codes "seed") ∷ operand (codes "files") ∷ operand (codes "lines") ∷ []
+gen_table = operand (codes "seed") ∷ operand (codes "files") ∷ operand (codes "lines") ∷ named (codes "plan") ∷ named (codes "buffer") ∷ []
 
 abbrev pub stack_table : List PlainWord
 stack_table = operand (codes "operation") ∷ []

@@ -1,16 +1,23 @@
 //! The text that tells the words of a tool, made of its table.
-ghost use Rattle.std.specs.Prelude.{◌≡◌, ◌++◌, flat_map, string_bytes, IfOk, OnOk};
-ghost use Rattle.tool_words.specs.Usage.{Tells, row_text, usage_text};
+ghost use Rattle.std.specs.Prelude.{string_bytes, IfOk};
+ghost use Rattle.patch_options.specs.Usage.{Tells};
+ghost use Rattle.tool_words.specs.Tools.{table_of};
 
 use crate::Tool;
-use patch_options::Word;
+use patch_options::usage_of;
 use std::alloc::{AllocError, Global};
+
+/// The words that each tool has.
+const BEHIND: &str = "
+  --help                      this text
+  --version                   the version
+";
 
 /// What tells the words of a tool, in lines: how it is called, what it does, and each word with what it gives.
 pub fn usage(alloc: Global, tool: Tool) -> Result<String, AllocError>
-    ensures { IfOk result (λ text. Tells tool (string_bytes text)) }
+    ensures { IfOk result (λ text. Tells (table_of tool) (string_bytes text)) }
 {
-    usage_of(alloc, front(tool), tool.table())
+    usage_of(alloc, front(tool), tool.table(), BEHIND)
 }
 
 fn front(tool: Tool) -> &'static str {
@@ -49,34 +56,4 @@ fn front(tool: Tool) -> &'static str {
             Applies and takes back the patches that patches/series lists.\n"
         }
     }
-}
-
-/// How a tool is called and what it does, and then each row of its table.
-fn usage_of(alloc: Global, front: &str, table: &[Word]) -> Result<String, AllocError>
-    ensures { IfOk result (λ text. string_bytes text ≡ usage_text front.now table.now) }
-{
-    let mut text = String::from_str(alloc, front)?;
-    put_rows(&mut text, table)?;
-    text.push_str("\n")?;
-    Ok(text)
-}
-
-fn put_rows(text: &mut String, table: &[Word]) -> Result<(), AllocError>
-    ensures { OnOk result (string_bytes text.new ≡ string_bytes text.old ++ flat_map row_text table.now) }
-{
-    for word in table {
-        put_row(text, word)?;
-    }
-    Ok(())
-}
-
-/// A word in a line of its own, and below it what it gives.
-fn put_row(text: &mut String, word: &Word) -> Result<(), AllocError>
-    ensures { OnOk result (string_bytes text.new ≡ string_bytes text.old ++ row_text word.now) }
-{
-    text.push_str("\n  ")?;
-    text.push_str(word.shown)?;
-    text.push_str("\n        ")?;
-    text.push_str(word.help)?;
-    Ok(())
 }

@@ -1,6 +1,6 @@
 //! What the words of each tool ask for, by what was matched in them.
 ghost use Rattle.std.specs.Prelude.{◌≡◌, ◌⊎◌, true, false, codes, is_some, option_map, option_and_then, unwrap_or, IfOk, IfErr, IfSome};
-ghost use Rattle.patch_options.specs.Flags.{rows_in};
+ghost use Rattle.patch_options.specs.Simple.{rows_in};
 ghost use Rattle.patch_options.specs.Table.{has_form, is_single, text_of, value_of};
 ghost use Rattle.tool_words.specs.PlainJobs.{plain_ranges, plain_tool_job};
 ghost use Rattle.tool_words.specs.PlainJobs.PlainToolJob.{list_job, filter_job, grep_job, split_job, recount_job, gen_job, flip_job, stack_job};

@@ -1,6 +1,6 @@
 //! Which file patches a filter means by their names, and the text that it reads.
 ghost use Rattle.std.specs.Prelude.{◌≡◌, ◌⊎◌, ◌&&◌, ◌||◌, [], true, false, map, is_some, option_map, unwrap_or, IfOk, IfErr};
-ghost use Rattle.patch_options.specs.Flags.{rows_in};
+ghost use Rattle.patch_options.specs.Simple.{rows_in};
 ghost use Rattle.patch_options.specs.Table.{value_of};
 ghost use Rattle.tool_words.specs.PlainJobs.{plain_select};
 ghost use Rattle.tool_words.specs.Asked.{is_subject};

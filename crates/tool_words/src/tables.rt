@@ -1,23 +1,23 @@
-//! The tables of the tools' words. The definitions have the same rows, and the texts that tell the words are made of these.
-ghost use Rattle.std.specs.Prelude.{◌≡◌, map};
-ghost use Rattle.patch_options.specs.Simple.{plain_word};
+//! The tables of the tools' words, in groups. The definitions have the same rows, and the texts that tell the words are made of these.
+ghost use Rattle.std.specs.Prelude.{◌≡◌};
+ghost use Rattle.patch_options.specs.Simple.{plain_table};
 ghost use Rattle.tool_words.specs.Tables.{list_table, filter_table, grep_table, split_table, input_table, gen_table, stack_table};
 
-use patch_options::{Word, WordForm};
+use patch_options::{Group, Word, WordForm};
 
 const STRIP_MATCH: Word = Word {
     form: WordForm::Value,
     letter: Some('p'),
     name: "strip-match",
-    shown: "-p, --strip-match=N",
-    help: "match names without the smallest front with N slashes (0)",
+    shown: "-p N, --strip-match=N",
+    help: "match names without the front with N slashes (0)",
 };
 
 const INCLUDE: Word = Word {
     form: WordForm::Values,
     letter: Some('i'),
     name: "include",
-    shown: "-i, --include=PAT",
+    shown: "-i PAT, --include=PAT",
     help: "take only file patches whose name a PAT matches",
 };
 
@@ -25,7 +25,7 @@ const EXCLUDE: Word = Word {
     form: WordForm::Values,
     letter: Some('x'),
     name: "exclude",
-    shown: "-x, --exclude=PAT",
+    shown: "-x PAT, --exclude=PAT",
     help: "leave out file patches whose name a PAT matches",
 };
 
@@ -33,7 +33,7 @@ const INCLUDE_FILE: Word = Word {
     form: WordForm::Value,
     letter: Some('I'),
     name: "include-from-file",
-    shown: "-I, --include-from-file=FILE",
+    shown: "-I FILE, --include-from-file=FILE",
     help: "include by the lines of FILE too",
 };
 
@@ -41,7 +41,7 @@ const EXCLUDE_FILE: Word = Word {
     form: WordForm::Value,
     letter: Some('X'),
     name: "exclude-from-file",
-    shown: "-X, --exclude-from-file=FILE",
+    shown: "-X FILE, --exclude-from-file=FILE",
     help: "exclude by the lines of FILE too",
 };
 
@@ -50,7 +50,11 @@ const STATUS: Word = Word {
     letter: Some('s'),
     name: "status",
     shown: "-s, --status",
-    help: "show + for a file that is made, - for one that goes, else !",
+    help: concat!(
+        "show + for a file that is made, - for one that\n",
+        "                              ",
+        "goes, else !"
+    ),
 };
 
 const LINE_NUMBER: Word = Word {
@@ -66,7 +70,7 @@ const SHOWN_STRIP: Word = Word {
     letter: None,
     name: "strip",
     shown: "--strip=N",
-    help: "show names without the smallest front with N slashes (0)",
+    help: "show names without the front with N slashes (0)",
 };
 
 const HUNKS: Word = Word {
@@ -74,7 +78,7 @@ const HUNKS: Word = Word {
     letter: None,
     name: "hunks",
     shown: "--hunks=RANGE",
-    help: "keep only hunks with these numbers in their file patch",
+    help: "keep only these hunks of each file patch",
 };
 
 const LINES: Word = Word {
@@ -114,7 +118,11 @@ const MATCHING: Word = Word {
     letter: None,
     name: "output-matching",
     shown: "--output-matching=hunk|file",
-    help: "write the hunks or the file patch with a match, not the name",
+    help: concat!(
+        "write the hunks or the file patch with a match,\n",
+        "                              ",
+        "not the name"
+    ),
 };
 
 const EVERY: Word = Word {
@@ -146,7 +154,11 @@ const FILE: Word = Word {
     letter: None,
     name: "file",
     shown: "[FILE]",
-    help: "the patch text; standard input without it, or where it is -",
+    help: concat!(
+        "the patch text; standard input without it, or\n",
+        "                              ",
+        "where it is -"
+    ),
 };
 
 const SPLIT_FILE: Word = Word {
@@ -186,7 +198,11 @@ const LINE_COUNT: Word = Word {
     letter: None,
     name: "lines",
     shown: "LINES",
-    help: "how many lines each, 20 to 9999999, in all at most 10000000",
+    help: concat!(
+        "how many lines each, 20 to 9999999, in all at\n",
+        "                              ",
+        "most 10000000"
+    ),
 };
 
 const OPERATION: Word = Word {
@@ -194,97 +210,140 @@ const OPERATION: Word = Word {
     letter: None,
     name: "operation",
     shown: "push|pop|applied",
-    help: "apply the next patch, take the last one back, or tell how many are applied",
+    help: concat!(
+        "apply the next patch, take the last one back, or\n",
+        "                              ",
+        "tell how many are applied"
+    ),
 };
 
-static LIST: [Word; 9] = [
-    STATUS,
-    LINE_NUMBER,
-    SHOWN_STRIP,
-    STRIP_MATCH,
-    INCLUDE,
-    EXCLUDE,
-    INCLUDE_FILE,
-    EXCLUDE_FILE,
-    FILE,
+static LIST: [Group; 3] = [
+    Group {
+        heading: "What is shown:\n",
+        words: &[STATUS, LINE_NUMBER, SHOWN_STRIP],
+    },
+    Group {
+        heading: "Which file patches:\n",
+        words: &[STRIP_MATCH, INCLUDE, EXCLUDE, INCLUDE_FILE, EXCLUDE_FILE],
+    },
+    Group {
+        heading: "Input:\n",
+        words: &[FILE],
+    },
 ];
 
-static FILTER: [Word; 10] = [
-    STRIP_MATCH,
-    INCLUDE,
-    EXCLUDE,
-    INCLUDE_FILE,
-    EXCLUDE_FILE,
-    HUNKS,
-    LINES,
-    FILES,
-    FORMAT,
-    FILE,
+static FILTER: [Group; 4] = [
+    Group {
+        heading: "Which file patches:\n",
+        words: &[
+            STRIP_MATCH,
+            INCLUDE,
+            EXCLUDE,
+            INCLUDE_FILE,
+            EXCLUDE_FILE,
+            FILES,
+        ],
+    },
+    Group {
+        heading: "Which of their hunks:\n",
+        words: &[HUNKS, LINES],
+    },
+    Group {
+        heading: "Output:\n",
+        words: &[FORMAT],
+    },
+    Group {
+        heading: "Input:\n",
+        words: &[FILE],
+    },
 ];
 
-static GREP: [Word; 7] = [
-    STRIP_MATCH,
-    INCLUDE,
-    EXCLUDE,
-    EXTENDED,
-    MATCHING,
-    REGEX,
-    FILE,
+static GREP: [Group; 3] = [
+    Group {
+        heading: "Which file patches:\n",
+        words: &[STRIP_MATCH, INCLUDE, EXCLUDE],
+    },
+    Group {
+        heading: "Output:\n",
+        words: &[MATCHING],
+    },
+    Group {
+        heading: "Input:\n",
+        words: &[EXTENDED, REGEX, FILE],
+    },
 ];
 
-static SPLIT: [Word; 2] = [EVERY, SPLIT_FILE];
+static SPLIT: [Group; 1] = [Group {
+    heading: "",
+    words: &[EVERY, SPLIT_FILE],
+}];
 
-static INPUT: [Word; 1] = [FILE];
+static INPUT: [Group; 1] = [Group {
+    heading: "",
+    words: &[FILE],
+}];
 
-static GEN: [Word; 5] = [PLAN, BUFFER, SEED, FILE_COUNT, LINE_COUNT];
+static GEN: [Group; 2] = [
+    Group {
+        heading: "What is made:\n",
+        words: &[SEED, FILE_COUNT, LINE_COUNT],
+    },
+    Group {
+        heading: "Lines of a file:\n",
+        words: &[PLAN, BUFFER],
+    },
+];
 
-static STACK: [Word; 1] = [OPERATION];
+static STACK: [Group; 1] = [Group {
+    heading: "",
+    words: &[OPERATION],
+}];
 
 /// The words of `lsdiff`.
-pub fn list_table() -> &'static [Word]
-    ensures { map plain_word result.now ≡ list_table }
+pub fn list_table() -> &'static [Group]
+    ensures { plain_table result.now ≡ list_table }
 {
     &LIST
 }
 
 /// The words of `filterdiff`.
-pub fn filter_table() -> &'static [Word]
-    ensures { map plain_word result.now ≡ filter_table }
+pub fn filter_table() -> &'static [Group]
+    ensures { plain_table result.now ≡ filter_table }
 {
     &FILTER
 }
 
 /// The words of `grepdiff`.
-pub fn grep_table() -> &'static [Word]
-    ensures { map plain_word result.now ≡ grep_table }
+pub fn grep_table() -> &'static [Group]
+    ensures { plain_table result.now ≡ grep_table }
 {
     &GREP
 }
 
 /// The words of `splitdiff`.
-pub fn split_table() -> &'static [Word]
-    ensures { map plain_word result.now ≡ split_table }
+pub fn split_table() -> &'static [Group]
+    ensures { plain_table result.now ≡ split_table }
 {
     &SPLIT
 }
 
 /// The words of a tool that reads one text and has no options.
-pub fn input_table() -> &'static [Word]
-    ensures { map plain_word result.now ≡ input_table }
+pub fn input_table() -> &'static [Group]
+    ensures { plain_table result.now ≡ input_table }
 {
     &INPUT
 }
 
 /// The words of `patchgen`.
-pub fn gen_table() -> &'static [Word]
-    ensures { map plain_word result.now ≡ gen_table }
+pub fn gen_table() -> &'static [Group]
+    ensures { plain_table result.now ≡ gen_table }
 {
     &GEN
 }
 
 /// The words of `patchstack`.
-pub fn stack_table() -> &'static [Word]
-    ensures { map plain_word result.now ≡ stack_table }
+pub fn stack_table() -> &'static [Group]
+    ensures { plain_table result.now ≡ stack_table }
 {
     &STACK
 }

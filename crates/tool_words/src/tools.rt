@@ -1,10 +1,10 @@
 //! The tools beside `patch`, by their names.
-ghost use Rattle.std.specs.Prelude.{◌≡◌, map};
-ghost use Rattle.patch_options.specs.Simple.{plain_word};
+ghost use Rattle.std.specs.Prelude.{◌≡◌};
+ghost use Rattle.patch_options.specs.Simple.{plain_table};
 ghost use Rattle.tool_words.specs.Tools.{name_of, table_of, tool_named};
 
 use crate::tables;
-use patch_options::Word;
+use patch_options::Group;
 
 /// A tool beside `patch`.
 #[derive(Clone, Copy)]
@@ -54,9 +54,9 @@ impl Tool {
         }
     }
 
-    /// The table of its words.
-    pub fn table(self) -> &'static [Word]
-        ensures { map plain_word result.now ≡ table_of self }
+    /// The table of its words, in groups.
+    pub fn table(self) -> &'static [Group]
+        ensures { plain_table result.now ≡ table_of self }
     {
         match self {
             Tool::Lsdiff => tables::list_table(),

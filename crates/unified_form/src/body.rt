@@ -146,47 +146,20 @@ fn line_of(text: &[u8], left: Left, place: Place) -> Result<(HunkLine, Left, Pla
     }
 }
 
-/// How many lines a body with these counts has at `at`, so that no more is reserved than the text holds.
-fn lines_ahead(text: &[u8], at: usize, left: Left) -> usize
-    requires { at ≤ length text.now }
-    ensures { result ≤ length text.now - at }
-{
-    let mut count = 0;
-    let mut at = at;
-    let mut left = left;
-    while left.old > 0 || left.new > 0 {
-        let Some(end) = next_line(text, at) else {
-            break;
-        };
-        match text[at] {
-            b'-' => left.old = left.old.saturating_sub(1),
-            b'+' => left.new = left.new.saturating_sub(1),
-            b'\\' => {}
-            _ => {
-                left.old = left.old.saturating_sub(1);
-                left.new = left.new.saturating_sub(1);
-            }
-        }
-        count += 1;
-        at = end;
-    }
-    count
-}
-
-/// The lines of a body with these counts, and the place after it.
-pub fn read_body(
-    alloc: Global,
+/// Fills `lines` with those of a body with these counts, and tells the place after it.
+fn fill_body(
     text: &[u8],
     left: Left,
     place: Place,
-) -> Result<(Vec<HunkLine>, Place), FormFault>
+    lines: &mut Vec<HunkLine>,
+) -> Result<Place, FormFault>
     requires { IsPlace text.now place }
-    ensures place { IfOk result (λ x. IsPlace text.now x.1 × (place.at ≤ x.1.at)) }
-    ensures few { IfOk result (λ x. place.at + vec_len x.0 ≤ x.1.at) }
-    ensures lies { IfOk result (λ x. All (λ l. LiesIn text.now l.span) x.0.items) }
-    ensures exact { Gives (λ x. (body_of text.now x.0.items, ahead_of text.now x.1)) result (body_at (left.old + left.new) left (ahead_of text.now place)) }
+    ensures place { IfOk result (λ x. IsPlace text.now x × (place.at ≤ x.at)) }
+    ensures few { IfOk result (λ x. place.at + vec_len lines.new ≤ x.at) }
+    ensures lies { IfOk result (λ x. All (λ l. LiesIn text.now l.span) lines.new.items) }
+    ensures exact { Gives (λ x. (body_of text.now lines.new.items, ahead_of text.now x)) result (body_at (left.old + left.new) left (ahead_of text.now place)) }
 {
-    let mut lines = Vec::with_capacity(alloc, lines_ahead(text, place.at, left))?;
+    lines.clear();
     let mut left = left;
     let mut place = place;
     while left.old > 0 || left.new > 0 {
@@ -195,5 +168,25 @@ pub fn read_body(
         left = behind;
         place = next;
     }
-    Ok((lines, place))
+    Ok(place)
+}
+
+/// The lines of a body with these counts, and the place after it. They are gathered in `spare`, so that no more memory is kept
+/// than they take, and each line is looked for once.
+pub fn read_body(
+    alloc: Global,
+    text: &[u8],
+    left: Left,
+    place: Place,
+    spare: &mut Vec<HunkLine>,
+) -> Result<(Vec<HunkLine>, Place), FormFault>
+    requires { IsPlace text.now place }
+    ensures place { IfOk result (λ x. IsPlace text.now x.1 × (place.at ≤ x.1.at)) }
+    ensures few { IfOk result (λ x. place.at + vec_len x.0 ≤ x.1.at) }
+    ensures lies { IfOk result (λ x. All (λ l. LiesIn text.now l.span) x.0.items) }
+    ensures exact { Gives (λ x. (body_of text.now x.0.items, ahead_of text.now x.1)) result (body_at (left.old + left.new) left (ahead_of text.now place)) }
+{
+    let end = fill_body(text, left, place, spare)?;
+    let lines = Vec::from_slice(alloc, spare)?;
+    Ok((lines, end))
 }

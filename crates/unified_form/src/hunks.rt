@@ -19,7 +19,7 @@ ghost use Rattle.unified_form.specs.Hunks.{hunk_at, begins_hunk, reading};
 
 use crate::body::{Left, read_body};
 use crate::range::{opening_of, opens_hunk};
-use hunk_core::{BadKind, FormFault, Hunk, Hunks, Place, backslash_end, bad};
+use hunk_core::{BadKind, FormFault, Hunk, HunkLine, Hunks, Place, backslash_end, bad};
 use line_list::{Span, next_line};
 use std::alloc::Global;
 
@@ -41,6 +41,7 @@ fn take_hunk(
     text: &[u8],
     least: u64,
     place: Place,
+    spare: &mut Vec<HunkLine>,
 ) -> Result<(Hunk, Place), FormFault>
     requires { IsPlace text.now place }
     ensures place { IfOk result (λ x. IsPlace text.now x.1 × (place.at < x.1.at)) }
@@ -68,6 +69,7 @@ fn take_hunk(
             at: end,
             number: number + 1,
         },
+        spare,
     )?;
     if backslash_end(text, next.at).is_some() {
         return Err(bad(next.number, BadKind::MisplacedBackslash));
@@ -86,6 +88,7 @@ fn read_hunk(
     text: &[u8],
     least: u64,
     place: Place,
+    spare: &mut Vec<HunkLine>,
 ) -> Result<(Hunk, Place), FormFault>
     requires { IsPlace text.now place }
     ensures place { IfOk result (λ x. IsPlace text.now x.1 × (place.at < x.1.at)) }
@@ -96,7 +99,7 @@ fn read_hunk(
     ensures unbroken { IfOk result (λ x. first_broken (hunk_of text.now x.0) ≡ None) }
     ensures exact { Gives (λ x. (hunk_of text.now x.0, ahead_of text.now x.1)) result (hunk_at least (ahead_of text.now place)) }
 {
-    take_hunk(alloc, text, least, place)
+    take_hunk(alloc, text, least, place, spare)
 }
 
 /// The hunks that follow each other, by reading on.
@@ -114,10 +117,11 @@ fn read_all(alloc: Global, text: &[u8], at: usize, line: u64) -> Result<Hunks, F
 {
     let mut items = Vec::new(alloc);
     let mut spans = Vec::new(alloc);
+    let mut spare = Vec::new(alloc);
     let mut place = Place { at, number: line };
     let mut least: u64 = 0;
     'hunks: while at_opening(text, place.at) {
-        let (hunk, next) = read_hunk(alloc, text, least, place)?;
+        let (hunk, next) = read_hunk(alloc, text, least, place, &mut spare)?;
         spans.push(Span {
             start: place.at as u32,
             end: next.at as u32,

@@ -1,5 +1,8 @@
-use Rattle.stack_patch.proofs.Refusing.{file_none}
+use Rattle.stack_patch.proofs.Refusing.{file_none, pushed}
 use Rattle.stack_patch.proofs.read_push.Goals as goal
 
 pub returns-in-Err-clause-none : goal.returns-in-Err-clause-none
 returns-in-Err-clause-none g c = file_none c.in-Err.fault (g.T.Tree.view c.args.tree.now) (g.T.Tree.view c.read_file.new.tree) c.args.name.now c.in-Err.ensures.cause
+
+pub returns-in-Ok-clause-push : goal.returns-in-Ok-clause-push
+returns-in-Ok-clause-push g c = pushed (g.T.Tree.view c.args.tree.now) c.args.name.now c.in-Ok.text.items c.read_text.result c.in-Ok.ensures.text c.read_text.ensures.read c.read_text.ensures.patch

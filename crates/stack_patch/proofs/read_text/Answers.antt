@@ -1,5 +1,5 @@
 use Rattle.patch_options.specs.PlainJob.{plain_options}
-use Rattle.stack_patch.proofs.Refusing.{lawful_as, patch_as, text_none}
+use Rattle.stack_patch.proofs.Refusing.{lawful_as, patch_as, some_refused, text_none}
 use Rattle.stack_patch.proofs.read_text.Goals as goal
 
 pub read_set-requires : goal.read_set-requires
@@ -10,3 +10,6 @@ returns-in-Ok-clause-patch c = patch_as (plain_options c.args.options.now) c.arg
 
 pub returns-in-Err-clause-none : goal.returns-in-Err-clause-none
 returns-in-Err-clause-none c = text_none (plain_options c.args.options.now) c.args.text.items c.in-Err.fault c.requires c.in-Err.ensures.refused
+
+pub returns-in-Err-clause-some : goal.returns-in-Err-clause-some
+returns-in-Err-clause-some c = some_refused (plain_options c.args.options.now) c.args.text.items c.in-Err.fault c.requires c.in-Err.ensures.refused

@@ -8,7 +8,7 @@ pub returns-in-Ok-clause-carries : goal.returns-in-Ok-clause-carries
 returns-in-Ok-clause-carries g c = carries_behind (Ok (plain_tool_job c.args.job)) _ _ _ _ _ c.settle.ensures.opens _ _ c.run_settled.ensures.carries
 
 pub returns-in-Ok-clause-unasked : goal.returns-in-Ok-clause-unasked
-returns-in-Ok-clause-unasked g c f left told none = c.run_settled.ensures.unasked f left (record { files = c.settle.ensures.opens.told ∙ told.files; source = told.source }) none
+returns-in-Ok-clause-unasked g c f left told none = c.run_settled.ensures.unasked f left (record { files = λ named. c.settle.ensures.opens.told ∙ told.files named; source = told.source }) none
 
 pub returns-in-Err-clause-carries : goal.returns-in-Err-clause-carries
 returns-in-Err-clause-carries g c = settle_carry (Ok (plain_tool_job c.args.job)) _ _ _ _ _ c.in-Err.why c.settle.ensures.opens c.in-Err.ensures.cause.0 c.in-Err.ensures.cause.1

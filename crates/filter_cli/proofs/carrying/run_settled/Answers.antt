@@ -17,3 +17,6 @@ returns-in-Split-clause-carries g c = rw c.in-Split.is (c.splitdiff.ensures.carr
 
 pub returns-in-Recount-clause-carries : goal.returns-in-Recount-clause-carries
 returns-in-Recount-clause-carries g c = rw c.in-Recount.is (c.recountdiff.ensures.carries (g.F.Finder.view c.args.finder.now))
+
+pub returns-in-Flip-clause-carries : goal.returns-in-Flip-clause-carries
+returns-in-Flip-clause-carries g c = rw c.in-Flip.is (c.reversediff.ensures.carries (g.F.Finder.view c.args.finder.now))

@@ -9,7 +9,7 @@ returns-in_err-text-clause-refused g c =
     let i = c.args.input.now in
     let e = c.in_err-text.field-0.0 in
     rw (fault-is c.from_residual.result e c.from_residual.ensures.1)
-    (λ refuses f left told. none-given i (plain_select c.args.select.now) f left e (text-refused e i _ _ _ _ c.in_err-text.ensures.cause refuses f left told))
+    (λ refuses f left told. none-given i (plain_select c.args.select.now) f left e (text-refused e i (plain_select c.args.select.now) _ _ _ _ c.in_err-text.ensures.cause refuses f left told))
 
 pub returns-in_err-text-clause-cause : goal.returns-in_err-text-clause-cause
 returns-in_err-text-clause-cause g c =

@@ -1,4 +1,5 @@
-use Rattle.std.proofs.Common.{ℕ, ◌++◌, map, Vec, Global, ap, ◌∙◌}
+use Rattle.std.proofs.Common.{ℕ, ◌++◌, map, Vec, Global, sym, ap, ◌∙◌}
+use Rattle.std.proofs.lemmas.Option.{none-some}
 use Rattle.filter_run.specs.Outcomes.{patterns_in}
 use Rattle.filter_run.proofs.Choosing.{file-cause, patterns-read}
 use Rattle.filter_run.proofs.Gathering.{fault-is}
@@ -12,4 +13,4 @@ returns-in_err-text-clause-cause g c =
 pub returns-clause-added : goal.returns-clause-added
 returns-clause-added g c = λ f told.
     let text = c.in_ok-text.text.items in
-    (patterns_in text, patterns-read f c.args.name.now text (c.in_ok-text.ensures.text f told) c.in_ok-text.ensures.short, c.in_ok-add_lines.ensures ∙ ap (λ bytes. map (λ (p : Vec ℕ Global). p.items) c.args.patterns.now.items ++ patterns_in bytes) c.deref.ensures.value)
+    (patterns_in text, patterns-read f c.args.name.now text (c.in_ok-text.ensures.text f (told (λ none. none-some c.args.name.now (sym none)))) c.in_ok-text.ensures.short, c.in_ok-add_lines.ensures ∙ ap (λ bytes. map (λ (p : Vec ℕ Global). p.items) c.args.patterns.now.items ++ patterns_in bytes) c.deref.ensures.value)

@@ -2,3 +2,6 @@ use Rattle.patch_cli.proofs.plans.apply.Goals as goal
 
 pub returns-in-Whole-clause-finishes : goal.returns-in-Whole-clause-finishes
 returns-in-Whole-clause-finishes g c = c.apply_whole.ensures.finishes (g.C.Scratch.view c.args.scratch)
+
+pub returns-in-Whole-clause-verdicts : goal.returns-in-Whole-clause-verdicts
+returns-in-Whole-clause-verdicts g c = c.apply_whole.ensures.verdicts (g.C.Scratch.view c.args.scratch)

@@ -4,7 +4,7 @@ use Rattle.line_store.specs.Store.{Seen}
 use Rattle.packed_pages.specs.declared.PackedB.{PackedB}
 use Rattle.patch_options.specs.PlainJob.{plain_options}
 use Rattle.patch_cli.specs.Scratches.{has_scratch, is_paged}
-use Rattle.patch_cli.proofs.Finishing.{finishes_paged, finishes_without_pages, keeps_auto}
+use Rattle.patch_cli.proofs.Finishing.{finishes_paged, finishes_without_pages, verdicts_paged, keeps_auto}
 use Rattle.patch_cli.proofs.plans.apply_by_size.Goals as goal
 
 pub returns-clause-finishes : goal.returns-clause-finishes
@@ -21,6 +21,12 @@ returns-clause-finishes g c =
       memory = λ all. let not : false ≡ true = sym (ap is_paged c.requires.plan) ∙ all in absurd (cc);
       keeps = keeps_auto (plain_options c.args.options.now) c.requires.plan;
     })
+
+pub returns-clause-verdicts : goal.returns-clause-verdicts
+returns-clause-verdicts g c =
+    let given = g.C.Scratch.view c.new-2.result.scratch in
+    verdicts_paged (g.C.Scratch.view c.args.scratch) (plain_options c.args.options.now) c.args.set.now _ _ c.apply_set-applied.result c.apply_set-applied.ensures.runs c.apply_set-applied.ensures.receipt
+    (◌∙◌ {b = given.told} (ap (λ (s : Seen). s.scratch) c.new-either.ensures.seen) c.new-2.ensures.scratch) (ap has_scratch c.requires.plan)
 
 pub returns-in-Err-clause-finishes : goal.returns-in-Err-clause-finishes
 returns-in-Err-clause-finishes g c = finishes_without_pages (plain_options c.args.options.now) c.args.set.now _ _ _ c.requires.quiet

@@ -2,7 +2,7 @@ use Rattle.std.proofs.Common.{sym, ap, ◌∙◌}
 use Rattle.outside.specs.ScratchView.{ScratchView}
 use Rattle.patch_options.specs.PlainJob.{plain_options}
 use Rattle.patch_cli.specs.Scratches.{has_scratch}
-use Rattle.patch_cli.proofs.Finishing.{finishes_paged, finishes_without_pages, keeps_padded}
+use Rattle.patch_cli.proofs.Finishing.{finishes_paged, finishes_without_pages, verdicts_paged, keeps_padded}
 use Rattle.patch_cli.proofs.plans.apply_padded.Goals as goal
 
 pub returns-clause-finishes : goal.returns-clause-finishes
@@ -18,6 +18,9 @@ returns-clause-finishes g c =
       memory = λ all. c.new-padded.ensures.memory;
       keeps = keeps_padded (plain_options c.args.options.now) c.requires.plan;
     })
+
+pub returns-clause-verdicts : goal.returns-clause-verdicts
+returns-clause-verdicts g c = verdicts_paged (g.C.Scratch.view c.args.scratch) (plain_options c.args.options.now) c.args.set.now _ _ c.apply_set-applied.result c.apply_set-applied.ensures.runs c.apply_set-applied.ensures.receipt c.new-padded.ensures.scratch (ap has_scratch c.requires.plan)
 
 pub returns-in-Err-clause-finishes : goal.returns-in-Err-clause-finishes
 returns-in-Err-clause-finishes g c = finishes_without_pages (plain_options c.args.options.now) c.args.set.now _ _ _ c.requires.quiet

@@ -1,4 +1,4 @@
-use Rattle.patch_header.proofs.Stands.{alone, not_binary, bare-alone, opening-words, binary-words, bare-words, nothing-words}
+use Rattle.patch_header.proofs.Stands.{alone, not_binary, bare-alone, opening-words, binary-words, bare-words, nothing-words, stops-plain, stops-skipped}
 use Rattle.patch_header.proofs.openings.one_thing_stands.Goals as goal
 
 pub returns-clause-alone : goal.returns-clause-alone
@@ -21,3 +21,9 @@ returns-clause-bare c = bare-alone
 
 pub returns-clause-git : goal.returns-clause-git
 returns-clause-git c = bare-words
+
+pub returns-clause-plain : goal.returns-clause-plain
+returns-clause-plain c = stops-plain
+
+pub returns-clause-skipped : goal.returns-clause-skipped
+returns-clause-skipped c = stops-skipped

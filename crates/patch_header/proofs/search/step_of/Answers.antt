@@ -8,7 +8,7 @@ use Rattle.patch_header.specs.Steps.{header_with, bare_with}
 use Rattle.patch_header.specs.declared.openings.Stop.TheVariants.{Opening, Bare}
 use Rattle.patch_header.proofs.BareLemmas.{opening-is}
 use Rattle.patch_header.proofs.GitLemmas.{led-is, no-led}
-use Rattle.patch_header.proofs.Stands.{and_left, and_right, stop-opens, bare-words}
+use Rattle.patch_header.proofs.Stands.{and_left, and_right, stop-opens, bare-words, stops-begins}
 use Rattle.patch_header.proofs.StepLemmas.{bare-begins}
 use Rattle.patch_header.proofs.Rows.{stands-within}
 use Rattle.patch_header.proofs.search.step_of.Goals as goal
@@ -92,7 +92,7 @@ returns-in-Bare-clause-lies c = λ at line h s.
       high = omega (arith, place, high);
       numbers = omega (arith, place, number, count);
       opening = λ e. absurd cc;
-      git = λ e. record { git = git; form = c.bare_of.ensures.form; begins = bare-begins text here.at c.bare_of.result.at place (and_right ways.git _ shown) };
+      git = λ e. record { git = git; form = c.bare_of.ensures.form; begins = bare-begins text here.at c.bare_of.result.at place (stops-begins ways (lines (drop here.at text)) shown) };
       plain = λ e. absurd cc;
       pieces = c.bare_of.ensures.pieces;
     }

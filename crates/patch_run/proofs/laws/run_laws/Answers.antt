@@ -3,6 +3,8 @@ use Rattle.patch_run.proofs.BackedUp.{backed_once}
 use Rattle.patch_run.proofs.Renaming.{renamed}
 use Rattle.patch_run.proofs.Keeping.{bare_keeps}
 use Rattle.patch_run.proofs.Forcing.{forced_nameless}
+use Rattle.patch_run.proofs.Skipping.{skipped_as}
+use Rattle.patch_run.proofs.SaidFirst.{run-first}
 use Rattle.patch_run.proofs.laws.run_laws.Goals as goal
 
 pub returns-clause-skipped : goal.returns-clause-skipped
@@ -25,3 +27,9 @@ returns-clause-forced c t files forced is = forced_nameless t files forced is
 
 pub returns-clause-bare : goal.returns-clause-bare
 returns-clause-bare c t side bytes is = bare_keeps t side bytes is
+
+pub returns-clause-unsuited : goal.returns-clause-unsuited
+returns-clause-unsuited c t files = skipped_as t files
+
+pub returns-clause-told : goal.returns-clause-told
+returns-clause-told c o output i items files = run-first o output i items files

@@ -8,7 +8,7 @@ use Rattle.patch_run.proofs.names.own_written.Goals as goal
 pub returns-in-Some-clause-target : goal.returns-in-Some-clause-target
 returns-in-Some-clause-target c =
     let other = target_at c.args.turn.now.patch.now.targets.items c.args.place in
-    sym (ap (λ (o : Option Target). unwrap_or o other) (sym (c.written_at.ensures.target c.args.turn.now.set.now.text) ∙ ap option_copied c.in-Some.is))
+    sym (ap (λ (o : Option Target). unwrap_or o other) (sym (c.written_at.ensures.target c.args.turn.now.set.now.text c.args.turn.now.set.now.skipped) ∙ ap option_copied c.in-Some.is))
 
 pub returns-in-Some-clause-named : goal.returns-in-Some-clause-named
 returns-in-Some-clause-named c = c.written_at.ensures.named c.requires.turn.fit.named c.in-Some.target.now (ap option_copied c.in-Some.is)
@@ -17,4 +17,4 @@ pub returns-in-None-clause-target : goal.returns-in-None-clause-target
 returns-in-None-clause-target c =
     let other = target_at c.args.turn.now.patch.now.targets.items c.args.place in
     c.chosen.ensures.target
-    ∙ sym (ap (λ (o : Option Target). unwrap_or o other) (sym (c.written_at.ensures.target c.args.turn.now.set.now.text) ∙ ap option_copied c.in-None.is))
+    ∙ sym (ap (λ (o : Option Target). unwrap_or o other) (sym (c.written_at.ensures.target c.args.turn.now.set.now.text c.args.turn.now.set.now.skipped) ∙ ap option_copied c.in-None.is))

@@ -10,9 +10,9 @@ returns-in-Some-clause-named c x is = c.requires.turn.ready.output x (sym c.outp
 
 pub returns-clause-target : goal.returns-clause-target
 returns-clause-target c =
-    let item = item_of c.args.turn.now.set.now.text c.args.earlier.now.patch.now in
+    let item = item_of c.args.turn.now.set.now.text c.args.turn.now.set.now.skipped c.args.earlier.now.patch.now in
     let none : c.args.turn.now.set.now.output ≡ None = sym c.output.ensures ∙ ap option_copied c.in_default.is in
-    c.written_at.ensures.target c.args.turn.now.set.now.text
+    c.written_at.ensures.target c.args.turn.now.set.now.text c.args.turn.now.set.now.skipped
     ∙ sym (ap (λ (o : Option Target). option_or o (option_and_then (written_at item) c.args.earlier.now.row.target)) none ∙ ap (option_and_then (written_at item)) c.in_ok-place.was)
 
 pub returns-clause-named : goal.returns-clause-named

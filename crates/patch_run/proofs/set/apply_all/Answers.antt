@@ -19,7 +19,7 @@ loop-k-init g c =
     let d = g.O.Sink.view c.args.out.now in
     let o = plain_options c.args.options.now in
     record {
-      same = record { text = refl; patches = refl; output = refl };
+      same = record { text = refl; patches = refl; output = refl; skipped = refl };
       rows = c.patches.ensures.whole.rows;
       long = c.requires.verdicts;
       few = omega arith;
@@ -116,7 +116,7 @@ loop-k-preserved g c =
     let is_bad : (c.loop-k.is_bad || done.is_bad) ≡ c.either-is_bad.result = sym c.either-is_bad.ensures in
     let count = c.loop-k.effects + done.effects in
     record {
-      same = subst (λ (s : SetView). StaysSet c.args.set.now s) noted (record { text = inv.same.text; patches = inv.same.patches; output = inv.same.output });
+      same = subst (λ (s : SetView). StaysSet c.args.set.now s) noted (record { text = inv.same.text; patches = inv.same.patches; output = inv.same.output; skipped = inv.same.skipped });
       rows = subst (λ (s : SetView). length s.rows ≡ length s.patches) noted (length-set v.rows k done.row ∙ inv.rows);
       long = subst (λ (s : SetView). length ws ≡ hunks_in s.patches) noted (c.in_ok-done.ensures.verdicts ∙ inv.long);
       few = omega (arith, inv.few, c.in_ok-done.ensures.few);

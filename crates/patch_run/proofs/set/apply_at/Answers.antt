@@ -51,7 +51,7 @@ returns-clause-does g c p here =
     let s = c.split_at_mut-before.ensures in
     let front = c.split_at_mut-before.result.0.now in
     let at : q ≡ get_or v.patches k q = c.index-patches-k.is ∙ ap (λ (l : List FilePatch). get_or l k q) c.patches.ensures.patches in
-    let turn : List Mark → PlainTurn = λ past. record { options = o; output = v.output; item = item_of v.text q; past = past } in
+    let turn : List Mark → PlainTurn = λ past. record { options = o; output = v.output; item = item_of v.text v.skipped q; past = past } in
     let first = numbered-first 0 k v.patches q c.requires.numbered c.requires.within at in
     let past : marks o v k front ≡ marks o v k c.args.verdicts.now =
     marks-front o v k q.first_verdict c.args.verdicts.now front c.requires.numbered (omega (arith, first)) (ap (λ (l : List Verdict). take q.first_verdict l) s.front ∙ take-take q.first_verdict q.first_verdict c.args.verdicts.now (omega arith)) in

@@ -69,6 +69,7 @@ returns-clause-set g c =
       text = ap (λ (s : SetView). s.text) c.give_verdicts.ensures ∙ stays.text ∙ ap (λ (s : SetView). s.text) left;
       patches = ap (λ (s : SetView). s.patches) c.give_verdicts.ensures ∙ stays.patches ∙ ap (λ (s : SetView). s.patches) left;
       output = ap (λ (s : SetView). s.output) c.give_verdicts.ensures ∙ stays.output ∙ ap (λ (s : SetView). s.output) left;
+      skipped = ap (λ (s : SetView). s.skipped) c.give_verdicts.ensures ∙ stays.skipped ∙ ap (λ (s : SetView). s.skipped) left;
     }
 
 pub returns-clause-placed : goal.returns-clause-placed

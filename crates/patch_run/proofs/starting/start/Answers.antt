@@ -1,32 +1,15 @@
-use Rattle.std.proofs.Common.{◌≡◌, sym, ◌∙◌, ap}
-use Rattle.outside.specs.Files.{Files}
-use Rattle.name_choice.specs.declared.Choice.{Choice}
-use Rattle.name_choice.specs.declared.Choice.TheVariants.{Existing, Create, Nothing}
-use Rattle.patch_run.specs.OnePatch.{PlainTurn, on_choice, choice_of, start}
+use Rattle.patch_run.specs.OnePatch.{skipped_said, own_start, start}
 use Rattle.patch_run.specs.TurnView.{plain_turn}
-use Rattle.patch_run.proofs.StartSteps.{starts_after, starts_is, starts_skips}
+use Rattle.patch_run.proofs.StartSteps.{starts_said, starts_unsaid, begins_first}
 use Rattle.patch_run.proofs.starting.start.Goals as goal
 
--- once the choice is made
-chosen : (t : PlainTurn) (f : Files) (x y : Choice) → y ≡ choice_of t f → y ≡ x → on_choice t f x ≡ start t f
+pub returns-in_err-tell_skipped-clause-starts : goal.returns-in_err-tell_skipped-clause-starts
 unfolding start
-chosen t f x y is same = ap (λ (z : Choice). on_choice t f z) (sym same ∙ is)
-
-pub returns-in-Existing-clause-starts : goal.returns-in-Existing-clause-starts
-returns-in-Existing-clause-starts g c =
+returns-in_err-tell_skipped-clause-starts g c =
     let t = plain_turn c.args.turn.now in
-    starts_is c.on_target.result (start t) (starts_after c.on_target.result c.choose_target.ensures.untouched c.on_target.ensures.starts)
-    (λ f told. chosen t f (Existing c.in-Existing.place) c.in-Ok.choice (c.in-Ok.ensures.chosen f told.0) c.in-Existing.is)
+    starts_unsaid _ _ c.in_err-tell_skipped.field-0.0 c.from_residual.result (λ f. start t f) c.from_residual.ensures.1 c.in_err-tell_skipped.ensures.writes
+    (λ f. begins_first (skipped_said t) (own_start t f))
 
-pub returns-in-Create-clause-starts : goal.returns-in-Create-clause-starts
-returns-in-Create-clause-starts g c =
-    let t = plain_turn c.args.turn.now in
-    starts_is c.on_target-in-Create.result (start t) (starts_after c.on_target-in-Create.result c.choose_target.ensures.untouched c.on_target-in-Create.ensures.starts)
-    (λ f told. chosen t f (Create c.in-Create.place) c.in-Ok.choice (c.in-Ok.ensures.chosen f told.0) c.in-Create.is)
-
-pub returns-in-Nothing-clause-starts : goal.returns-in-Nothing-clause-starts
-returns-in-Nothing-clause-starts g c =
-    let t = plain_turn c.args.turn.now in
-    let e = c.without_target.ensures in
-    starts_is c.without_target.result (start t) (starts_after c.without_target.result c.choose_target.ensures.untouched (starts_skips _ _ c.without_target.result _ e.writes e.fault e.row))
-    (λ f told. chosen t f Nothing c.in-Ok.choice (c.in-Ok.ensures.chosen f told.0) c.in-Nothing.is)
+pub returns-clause-starts : goal.returns-clause-starts
+unfolding start
+returns-clause-starts g c = starts_said c.in_ok-tell_skipped.field-0 c.start_own.result c.in_ok-tell_skipped.ensures.writes c.start_own.ensures.starts

@@ -1,6 +1,7 @@
-use Rattle.std.proofs.Common.{◌≡◌, map, None, Some, inr, subst, sym, ◌∙◌}
+use Rattle.std.proofs.Common.{◌≡◌, map, None, Some, inr, subst, sym, ap, ◌∙◌}
 use Rattle.patch_options.specs.PlainJob.{plain_options}
 use Rattle.patch_text.specs.Regions.{region_of, regions_of}
+use Rattle.patch_set.specs.Skipped.{skipped_lines}
 use Rattle.patch_set.proofs.Made.{have-targets, kept, made-set, told-reserved}
 use Rattle.patch_set.proofs.reading.named_set.Goals as goal
 
@@ -45,3 +46,4 @@ returns-in_ok-untried-in-None-clause-set c =
     c.in_ok-untried-in-None.field-0 c.in_ok-untried-in-None.ensures.text (c.in_ok-untried-in-None.ensures.ways ∙ c.ways_of.ensures) c.in_ok-untried-in-None.ensures.patches c.in_ok-untried-in-None.ensures.output
     (have-targets (plain_options c.args.options.now) c.args.text.items c.deref.result.now c.args.patches.items c.in_ok-named.named.patches.items c.in_ok-named.named.output
     c.deref.ensures.value c.in_ok-named.ensures.patches c.in_ok-named.ensures.output c.in_ok-named.ensures.temps) c.in-None.ensures c.requires.regions c.requires.spans
+    (c.in_ok-untried-in-None.ensures.skipped ∙ ap (λ w. skipped_lines w c.args.text.items) c.ways_of.ensures)

@@ -23,3 +23,56 @@ returns-in-Filter-clause-patch g c = λ is. let never = sym c.in-Filter.is ∙ (
 
 pub returns-in-Filter-clause-filter : goal.returns-in-Filter-clause-filter
 returns-in-Filter-clause-filter g c = λ is. c.run_sifting.ensures.runs
+
+pub returns-in-Patch-clause-making : goal.returns-in-Patch-clause-making
+returns-in-Patch-clause-making g c = λ is. let never = sym c.in-Patch.is ∙ (c.kind_of.ensures ∙ is) in absurd (cc)
+
+pub returns-in-Filter-clause-making : goal.returns-in-Filter-clause-making
+returns-in-Filter-clause-making g c = λ is. let never = sym c.in-Filter.is ∙ (c.kind_of.ensures ∙ is) in absurd (cc)
+
+pub returns-in-Gen-clause-patch : goal.returns-in-Gen-clause-patch
+returns-in-Gen-clause-patch g c = λ is. let never = sym c.in-Gen.is ∙ (c.kind_of.ensures ∙ is) in absurd (cc)
+
+pub returns-in-Gen-clause-filter : goal.returns-in-Gen-clause-filter
+returns-in-Gen-clause-filter g c = λ is. let never = sym c.in-Gen.is ∙ (c.kind_of.ensures ∙ is) in absurd (cc)
+
+pub returns-in-Gen-clause-making : goal.returns-in-Gen-clause-making
+returns-in-Gen-clause-making g c = λ is. record {
+  carries = c.run_making.ensures.carries;
+  words_first = c.run_making.ensures.words;
+  still = c.run_making.ensures.still;
+  silent = c.run_making.ensures.silent;
+  scratch = c.run_making.ensures.scratch;
+  input = refl;
+  finder = refl;
+}
+
+pub returns-in-Patch-clause-stack : goal.returns-in-Patch-clause-stack
+returns-in-Patch-clause-stack g c = λ is. let never = sym c.in-Patch.is ∙ (c.kind_of.ensures ∙ is) in absurd (cc)
+
+pub returns-in-Filter-clause-stack : goal.returns-in-Filter-clause-stack
+returns-in-Filter-clause-stack g c = λ is. let never = sym c.in-Filter.is ∙ (c.kind_of.ensures ∙ is) in absurd (cc)
+
+pub returns-in-Gen-clause-stack : goal.returns-in-Gen-clause-stack
+returns-in-Gen-clause-stack g c = λ is. let never = sym c.in-Gen.is ∙ (c.kind_of.ensures ∙ is) in absurd (cc)
+
+pub returns-in-Stack-clause-patch : goal.returns-in-Stack-clause-patch
+returns-in-Stack-clause-patch g c = λ is. let never = sym c.in-Stack.is ∙ (c.kind_of.ensures ∙ is) in absurd (cc)
+
+pub returns-in-Stack-clause-filter : goal.returns-in-Stack-clause-filter
+returns-in-Stack-clause-filter g c = λ is. let never = sym c.in-Stack.is ∙ (c.kind_of.ensures ∙ is) in absurd (cc)
+
+pub returns-in-Stack-clause-making : goal.returns-in-Stack-clause-making
+returns-in-Stack-clause-making g c = λ is. let never = sym c.in-Stack.is ∙ (c.kind_of.ensures ∙ is) in absurd (cc)
+
+pub returns-in-Stack-clause-stack : goal.returns-in-Stack-clause-stack
+returns-in-Stack-clause-stack g c = λ is. record {
+  carries = c.run_stacking.ensures.carries;
+  words_first = c.run_stacking.ensures.words;
+  still = c.run_stacking.ensures.still;
+  silent = c.run_stacking.ensures.silent;
+  scratch = c.run_stacking.ensures.scratch;
+  input = refl;
+  finder = refl;
+  no_receipt = c.run_stacking.ensures.no_receipt;
+}

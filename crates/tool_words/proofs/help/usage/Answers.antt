@@ -3,4 +3,4 @@ use Rattle.tool_words.proofs.help.usage.Goals as goal
 
 pub returns : goal.returns
 returns c =
-    IfOk-weaker c.usage_of.result _ _ (λ text h. record { front = c.front.result.now; rows = c.table.result.now; all = c.table.ensures; is = h }) c.usage_of.ensures
+    IfOk-weaker c.usage_of.result _ _ (λ text h. record { front = c.front.result.now; groups = c.table.result.now; behind = _; all = c.table.ensures; is = h }) c.usage_of.ensures

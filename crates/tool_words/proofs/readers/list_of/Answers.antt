@@ -1,5 +1,5 @@
 use Rattle.std.proofs.Common.{rules}
-use Rattle.patch_options.specs.Flags.{rows_in}
+use Rattle.patch_options.specs.Simple.{rows_in}
 use Rattle.tool_words.proofs.Listing.{list_is, list_is_lawful}
 use Rattle.tool_words.proofs.readers.list_of.Goals as goal
 

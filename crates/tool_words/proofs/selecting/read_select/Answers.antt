@@ -1,6 +1,6 @@
 use Rattle.std.proofs.Common.{rules, ◌≡◌, ◌∙◌, true, codes, option_map, ap, sym}
 use Rattle.clap.proofs.TakesLemmas.{passed_up}
-use Rattle.patch_options.specs.Flags.{rows_in}
+use Rattle.patch_options.specs.Simple.{rows_in}
 use Rattle.patch_options.specs.Forms.{is_name}
 use Rattle.patch_options.specs.Table.{value_of, has_form}
 use Rattle.tool_words.specs.Selecting.{is_number, name_in}

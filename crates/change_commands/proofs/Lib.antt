@@ -1,0 +1,10 @@
+pub mod Rows
+pub mod Steps
+pub mod FrontLemmas
+pub mod Parts
+pub mod NormalLemmas
+pub mod EdLemmas
+pub mod FitLemmas
+pub mod ScriptLemmas
+pub mod RunLemmas
+pub mod SmallLemmas

@@ -1,0 +1,22 @@
+use Rattle.std.proofs.Common.{◌≡◌, ◌≤◌, cond, eqb, ◌+◌, get_or, false, length, sym, ap, ◌∙◌, arith, rules}
+use Rattle.hunk_core.specs.declared.Hunk.{Hunk}
+use Rattle.hunk_core.specs.declared.Side.TheVariants.{Forward}
+use Rattle.hunk_core.specs.PlainHunk.{hunk_of}
+use Rattle.hunk_core.specs.Turned.{base}
+use Rattle.hunk_core.proofs.TurnedLemmas.{turned-base}
+use Rattle.change_commands.proofs.Steps.{none-ahead, none-whole, starts-at, starts-over}
+use Rattle.change_commands.proofs.edits.hunk_start.Goals as goal
+
+pub returns-then-hunk-kept-clause-left : goal.returns-then-hunk-kept-clause-left
+returns-then-hunk-kept-clause-left c = none-ahead c.args.kept c.requires c.args.hunk 0 1 c.if-hunk-kept.true ∙ sym (none-whole c.args.kept c.requires c.args.hunk c.if-hunk-kept.true)
+
+pub returns-then-is_kept-clause-left : goal.returns-then-is_kept-clause-left
+returns-then-is_kept-clause-left c =
+    starts-at c.args.kept c.requires c.args.hunk c.index-kept-hunk.result c.if-hunk-kept.false c.index-kept-hunk.is c.base.result
+    (c.base.ensures.is ∙ sym (turned-base c.args.kept.set.now.text Forward (get_or c.args.kept.hunks.now c.args.hunk c.index-kept-hunk.result)) ∙ ap (λ (x : Hunk). base (hunk_of c.args.kept.set.now.text x)) (sym c.index-kept-hunk.is))
+    (sym c.is_kept.ensures ∙ c.if-is_kept.true)
+
+pub returns-clause-left : goal.returns-clause-left
+returns-clause-left c =
+    let over : length c.index-kept-hunk-2.result.body.items ≤ c.len.result = search rules in
+    starts-over c.args.kept c.requires c.args.hunk c.index-kept-hunk-2.result c.if-hunk-kept.false c.index-kept-hunk-2.is c.len.result 1 (sym c.is_kept.ensures ∙ c.if-is_kept.false) over

@@ -1,0 +1,11 @@
+use Rattle.std.proofs.lemmas.Result.{err_from_is_err_and}
+use Rattle.hunk_core.proofs.SinkSteps.{has-put, puts-more, puts-stop}
+use Rattle.change_commands.proofs.normal.put_lines.Goals as goal
+
+pub returns-in_err-put_side : goal.returns-in_err-put_side
+returns-in_err-put_side g c =
+    let p = err_from_is_err_and c.from_residual.result c.from_residual.ensures.1 in
+    rw (p.1) (puts-stop c.in_err-put_side.field-0.0 p.0 _ c.in_err-put_side.ensures)
+
+pub returns : goal.returns
+returns g c = (puts-more g.met.O.Sink.rest_both (has-put c.in_ok-put_side.field-0 c.in_ok-put_side.ensures) c.put_news.ensures)

@@ -1,0 +1,8 @@
+use Rattle.change_commands.proofs.Rows.{AreMade, are-made}
+use Rattle.change_commands.proofs.writing.kept_of.Goals as goal
+
+pub returns-clause-kept : goal.returns-clause-kept
+returns-clause-kept c =
+    let row = c.patch_at.result.now in
+    let m : AreMade c.args.set.now.text c.patch_at.result.now.change c.args.hunks.now = are-made c.args.set.now.text row.change c.args.hunks.now (c.requires.hunks row c.patch_at.ensures.is) c.patch_at.ensures.lawful.change in
+    record { at = c.patch_at.ensures.is; lawful = m.lawful; change = m.change; count = m.count }

@@ -1,0 +1,27 @@
+use Rattle.std.proofs.Common.{◌≡◌, ℕ, List, sym, ap, subst, ◌∙◌}
+use Rattle.std.proofs.lemmas.Option.{same_Some}
+use Rattle.hunk_core.specs.Writing.{Puts}
+use Rattle.ed_form.specs.PlainEdit.{edits_of}
+use Rattle.file_patch.specs.declared.Change.{Change}
+use Rattle.file_patch.specs.declared.FilePatch.{FilePatch}
+use Rattle.file_patch.specs.PlainPatch.{PlainChange, change_of, patch_of, script}
+use Rattle.tool_words.specs.PlainJobs.{plain_filter_job}
+use Rattle.change_commands.specs.Commands.{command_text}
+use Rattle.change_commands.specs.Taken.{flags, left_change}
+use Rattle.change_commands.proofs.Rows.{left-of}
+use Rattle.change_commands.proofs.writing.put_commands.Goals as goal
+
+pub returns-in-Hunks : goal.returns-in-Hunks
+returns-in-Hunks g c = λ x at.
+    subst (λ (ch : PlainChange). Puts g.O.Sink.view g.O.Sink.same_rest c.args.out.now c.put_hunks.new.out c.put_hunks.result (command_text c.args.form ch))
+    (left-of c.kept_of.result c.kept_of.ensures.kept c.args.set.now c.args.job.now c.args.patch x c.kept_of.ensures.set c.kept_of.ensures.job c.kept_of.ensures.patch at)
+    c.put_hunks.ensures
+
+pub returns-in-Script : goal.returns-in-Script
+returns-in-Script g c = λ x at.
+    let text = c.args.set.now.text in
+    let are = flags (plain_filter_job c.args.job.now) c.args.patch (patch_of text x) in
+    let same = same_Some c.patch_at.result.now x (sym c.patch_at.ensures.is ∙ at) in
+    let there = ap (λ (ch : Change). left_change are (change_of text ch)) (sym (ap (λ (y : FilePatch). y.change) (sym same) ∙ c.in-Script.is)) in
+    subst (λ (ch : PlainChange). Puts g.O.Sink.view g.O.Sink.same_rest c.args.out.now c.put_again.new.out c.put_again.result (command_text c.args.form ch)) there
+    (subst (λ (t : List ℕ). Puts g.O.Sink.view g.O.Sink.same_rest c.args.out.now c.put_again.new.out c.put_again.result (command_text c.args.form (script (edits_of t c.in-Script.script.edits.items)))) c.text.ensures c.put_again.ensures)

@@ -1,0 +1,77 @@
+-- A run of `filterdiff` with a form.
+use Rattle.std.proofs.Common.{◌≡◌, inl, inr, ℕ, true, List, Option, None, Some, Result, Ok, Err, refl, sym, ◌∙◌, ap, subst}
+use Rattle.hunk_core.specs.declared.Form.{Form}
+use Rattle.outside.specs.Files.{Files}
+use Rattle.outside.specs.FinderView.{FinderView, FinderPasses}
+use Rattle.outside.specs.SinkView.{SinkView, SinkPasses, sink_passes_none}
+use Rattle.outside.specs.Quiet.{IsQuiet}
+use Rattle.patch_options.specs.declared.options.WordFault.{WordFault}
+use Rattle.patch_input.specs.Input.{IsStandard}
+use Rattle.tool_words.specs.PlainJobs.{PlainFilterJob, PlainToolJob}
+use Rattle.tool_words.specs.PlainJobs.PlainToolJob.{filter_job}
+use Rattle.format_convert.specs.declared.fault.ConvertFault.{ConvertFault}
+use Rattle.format_convert.specs.declared.fault.ConvertFault.TheVariants as convert
+use Rattle.filter_run.specs.declared.form_fault.FormFault.{FormFault}
+use Rattle.filter_run.specs.declared.form_fault.FormFault.TheVariants.{Filter, NoContext, Unfit}
+use Rattle.filter_run.specs.Converting.{FormOutcome, Forms, IsConverted, Refuses, as_form, convert_outcome, of_convert}
+use Rattle.filter_run.specs.Outcomes as outcomes
+use Rattle.filter_run.specs.Sifting.{HasTextCause}
+use Rattle.run_answers.specs.declared.why.Why.{Why}
+use Rattle.run_answers.specs.declared.why.Why.TheVariants as whys
+use Rattle.run_answers.specs.Answers.{is_own}
+use Rattle.run_answers.proofs.Opens.{opens_untouched, tidy_same}
+use Rattle.filter_cli.specs.Causes.{HasCause}
+use Rattle.filter_cli.specs.Command.{Outcome, formed, in_form, of_form, refused, why_formed, written}
+use Rattle.filter_cli.specs.Worlds.{World}
+use Rattle.filter_cli.specs.Carries.{Answers, ByOutcome, Carries, IsAsAtEntry}
+use Rattle.filter_cli.proofs.Sifted.{Agrees, sifts_carry}
+use Rattle.filter_cli.proofs.Whole.{carries_does, refused_so}
+
+same-form : (o : outcomes.Outcome) → written o ≡ formed (as_form o)
+same-form (Ok bytes) = refl
+same-form (Err fault) = refl
+
+module _ (form : Form) (j : PlainFilterJob) where
+  comes : j.format ≡ Some form → (f : Files) (left : List ℕ) (o : FormOutcome) → convert_outcome form j f left ≡ o → formed o ≡ in_form j.format j f left
+  comes asked f left o is = sym (ap (λ (x : Option Form). in_form x j f left) asked ∙ ap formed is)
+
+  forms : (v : FinderView) → j.format ≡ Some form → Agrees (filter_job j) j.input j.select HasTextCause ⊥ (IsConverted form j) v
+  forms v asked = record {
+    from = λ is. is;
+    to = λ is. is;
+    named = λ is. is;
+    texts = λ e is. is;
+    pattern = λ is. absurd is;
+    outcome = λ f left o is. inl (same-form o ∙ comes asked f left (as_form o) is);
+    uncut = λ why f u w. tt;
+  }
+
+  module _ (u w : World) (asked : j.format ≡ Some form) (finder : FinderPasses u.finder w.finder) (quiet : IsQuiet u.tree) (unread : (IsStandard j.input → ⊥) → w.source ≡ u.source) where
+    -- a refusal for the form
+    refuses_carry : (e : ConvertFault) → (of_form (of_convert e) ≡ whys.Done → ⊥) → is_own (of_form (of_convert e)) ≡ true → HasCause (of_form (of_convert e)) (Ok (filter_job j)) u w → Refuses form j u.tree w.tree u.source w.source u.out w.out e → Carries (Ok (filter_job j)) u w (of_form (of_convert e))
+    refuses_carry e never own cause x =
+        let opens = opens_untouched x.untouched in
+        let entry : IsAsAtEntry u w = record { told = opens.told; out = x.out; images = opens.images } in
+        carries_does (of_form (of_convert e)) (record {
+          tree = x.untouched.passes;
+          finder = finder;
+          source = x.source;
+          sink = subst (λ (s : SinkView). SinkPasses u.out s) (sym x.out) (sink_passes_none u.out);
+          cause = cause;
+          untouched = λ early. entry;
+          still = λ none. opens;
+          quiet = λ is. absurd (never is);
+          read = λ is. absurd (never is);
+          unread = unread;
+          taken = x.taken;
+          answers = λ f left told. subst (λ b. ByOutcome (Ok (filter_job j)) u f left (Answers b (of_form (of_convert e)) f u w)) (sym own) (refused (of_form (of_convert e)), inl (comes asked f left (Err (of_convert e)) (x.answers f left (record { files = told.files; left = told.source }))), refused_so (Ok (filter_job j)) u w entry (of_form (of_convert e)) f);
+          images = λ f left told c since. inl (opens.images c since);
+          cut = λ broken f left told. tt;
+          tidy = λ none. tidy_same u.tree w.tree x.untouched.told;
+        })
+
+    pub forms_carry : (r : Result (Unit {0}) FormFault) → Forms form j u.tree w.tree u.source w.source u.out w.out r → Carries (Ok (filter_job j)) u w (why_formed r)
+    forms_carry (Ok done) x = sifts_carry (filter_job j) j.input j.select HasTextCause ⊥ (IsConverted form j) u w (forms u.finder asked) finder quiet unread (Ok done) x
+    forms_carry (Err (Filter fault)) x = sifts_carry (filter_job j) j.input j.select HasTextCause ⊥ (IsConverted form j) u w (forms u.finder asked) finder quiet unread (Err fault) x
+    forms_carry (Err (NoContext line)) x = refuses_carry (convert.NoContext line) (λ is. absurd (cc)) refl (form, asked, x.cause) x
+    forms_carry (Err (Unfit line)) x = refuses_carry (convert.Unfit line) (λ is. absurd (cc)) refl (inr (form, asked, x.cause)) x

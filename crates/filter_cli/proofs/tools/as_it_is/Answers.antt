@@ -1,0 +1,21 @@
+use Rattle.std.proofs.Common.{Ok, ap}
+use Rattle.outside.specs.FinderView.{finder_passes_none}
+use Rattle.tool_words.specs.PlainJobs.{plain_filter_job}
+use Rattle.tool_words.specs.PlainJobs.PlainToolJob.{filter_job}
+use Rattle.filter_run.specs.Outcomes.{IsOutcomeOf, filter_outcome}
+use Rattle.filter_run.specs.Sifting.{HasTextCause}
+use Rattle.filter_cli.specs.Command.{why_by}
+use Rattle.filter_cli.specs.Worlds.{world}
+use Rattle.filter_cli.proofs.Whole.{carries_is}
+use Rattle.filter_cli.proofs.Sifted.{sifts_carry}
+use Rattle.filter_cli.proofs.Sifters.{filters, file-unless}
+use Rattle.filter_cli.proofs.tools.as_it_is.Goals as goal
+
+pub returns-clause-carries : goal.returns-clause-carries
+returns-clause-carries g c v =
+    let j = plain_filter_job c.args.job in
+    let u = world (g.T.Tree.view c.args.tree.now) v (g.I.Source.view c.args.source.now) (g.O.Sink.view c.args.out.now) in
+    let w = world (g.T.Tree.view c.run_filter.new.tree) v (g.I.Source.view c.run_filter.new.source) (g.O.Sink.view c.run_filter.new.out) in
+    carries_is c.answer.result (why_by c.run_filter.result) c.answer.ensures
+    (sifts_carry (filter_job j) j.input j.select HasTextCause ⊥ (IsOutcomeOf (filter_outcome j)) u w (filters j v c.requires.format) (finder_passes_none v) c.requires.quiet
+    (λ never. ap (λ x. g.I.Source.view x) (c.run_filter.ensures.unread (file-unless j.input never))) c.run_filter.result c.run_filter.ensures.sifts)

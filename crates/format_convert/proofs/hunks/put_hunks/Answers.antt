@@ -1,0 +1,24 @@
+use Rattle.std.proofs.Common.{◌≡◌, ℕ, List, sym, ap, subst, ◌∙◌}
+use Rattle.std.specs.List.{flat_map}
+use Rattle.std.proofs.lemmas.Option.{same_Some}
+use Rattle.hunk_core.specs.declared.Hunk.{Hunk}
+use Rattle.hunk_core.specs.PlainHunk.{hunks_of}
+use Rattle.hunk_core.specs.Writing.{Puts}
+use Rattle.file_patch.specs.declared.Change.{Change}
+use Rattle.file_patch.specs.declared.FilePatch.{FilePatch}
+use Rattle.file_patch.specs.PlainPatch.{change_of, patch_of}
+use Rattle.tool_words.specs.PlainJobs.{plain_filter_job}
+use Rattle.change_commands.specs.Taken.{flags, kept_hunks, left_change}
+use Rattle.format_convert.specs.Converted.{hunk_text, hunk_texts}
+use Rattle.format_convert.proofs.hunks.put_hunks.Goals as goal
+
+pub returns-in-Hunks : goal.returns-in-Hunks
+returns-in-Hunks g c = λ x at.
+    let text = c.args.set.now.text in
+    let are = flags (plain_filter_job c.args.job.now) c.args.patch (patch_of text x) in
+    let same = same_Some c.patch_at.result.now x (sym c.patch_at.ensures.is ∙ at) in
+    let row = ap (λ (y : FilePatch). y.change) (sym same) ∙ c.in-Hunks.is in
+    subst (λ (bs : List ℕ). Puts g.O.Sink.view g.O.Sink.same_rest c.args.out.now c.put_each.new.out c.put_each.result bs)
+    (ap (λ (hs : List Hunk). flat_map (hunk_text c.args.form) (kept_hunks are (hunks_of text hs))) c.deref.ensures.value
+    ∙ sym (ap (λ (ch : Change). hunk_texts (hunk_text c.args.form) (left_change are (change_of text ch))) row))
+    (c.put_each.ensures x at)

@@ -1,0 +1,80 @@
+-- What is written of a set in another form, and what a call that writes it promises.
+use Rattle.std.specs.Prelude.{◌≡◌, ℕ, Bool, true, false, ◌||◌, ◌==◌, not, List, [], ◌++◌, length, Option, None, Some, Result, OnOk, IfErr, if◌then◌else◌}
+use Rattle.std.specs.List.{flat_map, range_with_len, zip}
+use Rattle.outside.specs.SinkView.{SinkView, SinkPasses, Receives, ReceivesPart, Rises}
+use Rattle.hunk_core.specs.declared.Form.{Form}
+use Rattle.hunk_core.specs.declared.Form.TheVariants.{Unified, Context, Normal, Ed}
+use Rattle.hunk_core.specs.declared.Side.TheVariants.{Forward}
+use Rattle.hunk_core.specs.PlainHunk.{PlainHunk}
+use Rattle.unified_form.specs.Canonical as unified
+use Rattle.context_form.specs.Canonical as context
+use Rattle.patch_header.specs.declared.header.Header.{Header}
+use Rattle.file_patch.specs.declared.FilePatch.{FilePatch}
+use Rattle.file_patch.specs.PlainPatch.{PlainChange, PlainPatch, hunks, script, patch_of}
+use Rattle.patch_set.specs.SetView.{SetView}
+use Rattle.header_lines.specs.HeaderText.{header_text}
+use Rattle.tool_words.specs.PlainJobs.{PlainFilterJob}
+use Rattle.format_convert.specs.declared.fault.ConvertFault.{ConvertFault}
+use Rattle.format_convert.specs.declared.fault.ConvertFault.TheVariants.{NoContext, Unfit, Write}
+use Rattle.change_commands.specs.Taken.{has_kept, left_patch}
+use Rattle.change_commands.specs.Blocks.{blocks_in}
+use Rattle.change_commands.specs.Commands.{command_text}
+use Rattle.format_convert.specs.Refusals.{shows_context}
+
+-- the hunks of a change in their canonical texts; a script has none
+abbrev pub hunk_texts : (PlainHunk → List ℕ) → PlainChange → List ℕ
+hunk_texts canonical (hunks hs) = flat_map canonical hs
+hunk_texts canonical (script es) = []
+
+-- a hunk in its canonical text; the forms of commands have none
+abbrev pub hunk_text : Form → PlainHunk → List ℕ
+hunk_text Unified h = unified.canonical h
+hunk_text Context h = context.canonical h
+hunk_text Normal h = []
+hunk_text Ed h = []
+
+-- a change in a form: its hunks, or a command for each of its blocks
+abbrev pub change_text : Form → PlainChange → List ℕ
+change_text Unified c = hunk_texts (hunk_text Unified) c
+change_text Context c = hunk_texts (hunk_text Context) c
+change_text Normal c = command_text Normal c
+change_text Ed c = command_text Ed c
+
+-- a form of commands has nothing to say where nothing is changed
+abbrev pub is_written : Form → PlainChange → Bool
+is_written wanted c = shows_context wanted || not (length (blocks_in c) == 0)
+
+-- the header lines, and the change
+abbrev pub written : Form → List ℕ → Header → PlainChange → List ℕ
+written wanted text h c = if is_written wanted c then header_text text wanted Forward h ++ change_text wanted c else []
+
+-- what is written of a file patch, counted from 0, with what is left of its change; nothing where no hunk is kept
+abbrev pub written_of : Form → PlainFilterJob → List ℕ → ℕ → Header → PlainPatch → List ℕ
+written_of wanted j text patch h p = if has_kept j patch p then written wanted text h (left_patch j patch p).change else []
+
+-- the file patches of a set, each behind its number
+abbrev pub rows : SetView → List (ℕ × FilePatch)
+rows v = zip (range_with_len 0 (length v.patches)) v.patches
+
+abbrev pub written_if : Form → PlainFilterJob → List ℕ → ℕ × FilePatch → List ℕ
+written_if wanted j text row = written_of wanted j text row.0 row.1.header (patch_of text row.1)
+
+-- what is written of a set
+unfoldable pub converted : Form → PlainFilterJob → SetView → List ℕ
+converted wanted j v = flat_map (written_if wanted j v.text) (rows v)
+
+-- ---- one call
+
+-- a refusal comes before anything is written; else the sink has failed, and received a first part
+abbrev pub HasConvertCause : {O : Type 0} → ConvertFault → (O → SinkView) → O → O → Option ConvertFault → List ℕ → Type 0
+HasConvertCause (NoContext line) view old new refused bytes = (refused ≡ Some (NoContext line)) × (new ≡ old)
+HasConvertCause (Unfit line) view old new refused bytes = (refused ≡ Some (Unfit line)) × (new ≡ old)
+HasConvertCause Write view old new refused bytes = (refused ≡ None) × Rises (view old) (view new) × ReceivesPart (view old) (view new) bytes
+
+-- on Ok nothing is refused, and the sink received these bytes
+pub record Converts {O : Type 0} (view : O → SinkView) (same_rest : O → O → Type 0) (old new : O) (result : Result (Unit {0}) ConvertFault) (refused : Option ConvertFault) (bytes : List ℕ) : Type 0 where
+  pub passes : SinkPasses (view old) (view new)
+  pub rest : same_rest old new
+  pub accepted : OnOk result (refused ≡ None)
+  pub received : OnOk result (Receives (view old) (view new) bytes)
+  pub cause : IfErr result (λ e. HasConvertCause e view old new refused bytes)

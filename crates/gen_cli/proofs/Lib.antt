@@ -1,0 +1,12 @@
+pub mod FileNames
+pub mod PutSteps
+pub mod Sizes
+pub mod Lines
+pub mod Whole
+pub mod Behind
+pub mod Early
+pub mod Made
+pub mod Finished
+pub mod Joined
+pub mod Silent
+pub mod OneLine

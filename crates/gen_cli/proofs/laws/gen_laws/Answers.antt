@@ -1,0 +1,5 @@
+use Rattle.gen_cli.proofs.OneLine.{one_line}
+use Rattle.gen_cli.proofs.laws.gen_laws.Goals as goal
+
+pub returns : goal.returns
+returns c = record { done = λ j f is. one_line j f is }

@@ -1,0 +1,9 @@
+use Rattle.num_text.specs.Numbers.{decimal}
+use Rattle.run_answers.proofs.Writes.{stop_all, then_all}
+use Rattle.gen_cli.proofs.telling.put_field.Goals as goal
+
+pub returns-in_err-put_all-clause-writes : goal.returns-in_err-put_all-clause-writes
+returns-in_err-put_all-clause-writes g c = stop_all c.in_err-put_all.field-0.0 c.from_residual.result c.args.label.now (decimal c.args.number) c.from_residual.ensures.0 c.in_err-put_all.ensures.call c.in_err-put_all.ensures.failed
+
+pub returns-clause-writes : goal.returns-clause-writes
+returns-clause-writes g c = then_all c.in_ok-put_all.field-0 c.put_decimal.result c.args.label.now (decimal c.args.number) c.in_ok-put_all.ensures.call c.in_ok-put_all.ensures.received c.put_decimal.ensures.writes

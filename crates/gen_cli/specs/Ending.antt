@@ -1,0 +1,90 @@
+-- The run over the made patch with its summary, on the files that were put.
+use Rattle.std.specs.Prelude.{◌≡◌, ◌≢◌, ℕ, ◌-◌, ◌^◌, ◌<◌, ◌≤◌, List, length, Bool, true, false, Some, Result, OnOk}
+use Rattle.outside.specs.Faults.{HasRisen}
+use Rattle.outside.specs.Files.{Files}
+use Rattle.outside.specs.TreeView.{TreeView, Passes}
+use Rattle.outside.specs.TreeView as tree
+use Rattle.outside.specs.SinkView.{SinkView, SinkPasses, ReceivesPart}
+use Rattle.outside.specs.SinkView as sink
+use Rattle.outside.specs.ScratchView.{ScratchView, ScratchPasses}
+use Rattle.outside.specs.Quiet.{IsQuiet, TellsPrefix, LeavesPrefix}
+use Rattle.tool_words.specs.PlainJobs.{PlainGenJob}
+use Rattle.patch_set.specs.SetView.{SetView}
+use Rattle.patch_effects.specs.Making.{IsTidy}
+use Rattle.patch_run.specs.Applied.{Receipt}
+use Rattle.patch_run.specs.Run.{Run, set_run}
+use Rattle.patch_run.specs.Doing.{IsWholeOf}
+use Rattle.run_answers.specs.declared.why.Why.{Why}
+use Rattle.run_answers.specs.declared.why.Why.TheVariants.{Done, Rejected, Usage, Malformed, Garbage, EdReverse, OutMany, Reserved, NoPatchFile, TooLong, LongLine, FileTooLong, BadPattern, NoContext, Unfit, BadState, StackEnd, StackName, ReadFault, WriteFault, TreeFault, ScratchFault, Disagree, Memory, Unsupported}
+use Rattle.run_answers.specs.Answers.{is_fault, is_own}
+use Rattle.patch_cli.specs.Scratches.{scratch_behind_all}
+use Rattle.patch_cli.specs.Command.{Outcome}
+use Rattle.patch_cli.specs.Carries.{HasReceipt, why_of, receipt_of}
+use Rattle.patch_cli.specs.Finishes.{IsToldTo}
+use Rattle.gen_cli.specs.Jobs.{options_for}
+use Rattle.gen_cli.specs.Command.{told_of}
+use Rattle.gen_cli.specs.Carries.{is_through}
+
+-- the run over the set
+abbrev pub run_in : PlainGenJob → SetView → Files → Run
+run_in j v f = set_run (options_for j) v f
+
+-- and what it comes to with its summary
+abbrev pub ending_in : PlainGenJob → SetView → Files → Outcome
+ending_in j v f = told_of j (length v.patches) (run_in j v f)
+
+-- what an answer says of the devices before and after
+abbrev pub HasEndCause : Why → PlainGenJob → TreeView → TreeView → ScratchView → ScratchView → SinkView → SinkView → Type 0
+HasEndCause Done j t w a b c d = Unit {0}
+HasEndCause Rejected j t w a b c d = Unit {0}
+HasEndCause (LongLine line length) j t w a b c d = j.buffer - 4 < length
+HasEndCause (FileTooLong length) j t w a b c d = 2 ^ 40 ≤ length
+HasEndCause WriteFault j t w a b c d = sink.Rises c d
+HasEndCause TreeFault j t w a b c d = tree.Rises t w
+HasEndCause ScratchFault j t w a b c d = HasRisen a.faults b.faults
+HasEndCause (Disagree want got) j t w a b c d = (want ≢ got) × ((f : Files) → IsToldTo (options_for j) t a f → ⊥)
+HasEndCause Memory j t w a b c d = Unit {0}
+HasEndCause Usage j t w a b c d = ⊥
+HasEndCause (Malformed line kind) j t w a b c d = ⊥
+HasEndCause Garbage j t w a b c d = ⊥
+HasEndCause (EdReverse line) j t w a b c d = ⊥
+HasEndCause (OutMany count) j t w a b c d = ⊥
+HasEndCause (Reserved line) j t w a b c d = ⊥
+HasEndCause NoPatchFile j t w a b c d = ⊥
+HasEndCause TooLong j t w a b c d = ⊥
+HasEndCause BadPattern j t w a b c d = ⊥
+HasEndCause (NoContext line) j t w a b c d = ⊥
+HasEndCause (Unfit line) j t w a b c d = ⊥
+HasEndCause (BadState file) j t w a b c d = ⊥
+HasEndCause (StackEnd applied) j t w a b c d = ⊥
+HasEndCause (StackName line) j t w a b c d = ⊥
+HasEndCause ReadFault j t w a b c d = ⊥
+HasEndCause Unsupported j t w a b c d = ⊥
+
+-- the run's own answer: its effects are made whole, and its text and its summary are written
+pub record IsRunAnswer (result : Result Receipt Why) (t w : TreeView) (c d : SinkView) (r : Run) (o : Outcome) : Type 0 where
+  pub is : why_of result ≡ o.why
+  pub applied : receipt_of result ≡ o.applied
+  pub whole : IsWholeOf t w c d r.effects o.text r.files
+
+-- first parts of them
+pub record IsRunPart (t w : TreeView) (c d : SinkView) (r : Run) (o : Outcome) : Type 0 where
+  pub tells : TellsPrefix t w r.effects
+  pub said : ReceivesPart c d o.text
+
+abbrev pub RunAnswers : Bool → Result Receipt Why → TreeView → TreeView → SinkView → SinkView → Run → Outcome → Type 0
+RunAnswers true result t w c d r o = IsRunAnswer result t w c d r o
+RunAnswers false result t w c d r o = IsRunPart t w c d r o
+
+-- from a quiet tree on
+pub record Ends (j : PlainGenJob) (v : SetView) (t w : TreeView) (a b : ScratchView) (c d : SinkView) (result : Result Receipt Why) : Type 0 where
+  pub tree : Passes t w
+  pub scratch : ScratchPasses a b
+  pub sink : SinkPasses c d
+  pub cause : HasEndCause (why_of result) j t w a b c d
+  pub quiet : is_through (why_of result) ≡ true → IsQuiet w
+  pub receipt : HasReceipt (why_of result) (receipt_of result)
+  pub answers : (f : Files) → IsToldTo (options_for j) t a f → RunAnswers (is_own (why_of result)) result t w c d (run_in j v f) (ending_in j v f)
+  pub moments : (f : Files) → IsToldTo (options_for j) t a f → LeavesPrefix t w (run_in j v f).effects
+  pub tidy : is_fault (why_of result) ≡ false → IsTidy t w
+  pub pages : OnOk result ((f : Files) (before : List ℕ) → IsToldTo (options_for j) t a f → a.told ≡ Some before → b.told ≡ Some (scratch_behind_all (options_for j) (run_in j v f).taken before))

@@ -1,0 +1,10 @@
+pub mod Jobs
+pub mod Summary
+pub mod Command
+pub mod Worlds
+pub mod Causes
+pub mod Putting
+pub mod Preparing
+pub mod Carries
+pub mod Telling
+pub mod Ending

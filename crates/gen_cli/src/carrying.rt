@@ -1,0 +1,122 @@
+//! The files are put, the patch is applied to them, and it is told what came of it.
+ghost use Rattle.std.specs.Prelude.{◌≡◌, map, false, Ok};
+ghost use Rattle.outside.specs.Quiet.{IsQuiet};
+ghost use Rattle.patch_gen.specs.Tree.{made};
+ghost use Rattle.patch_options.specs.PlainJob.{plain_options};
+ghost use Rattle.tool_words.specs.PlainJobs.{plain_gen_job};
+ghost use Rattle.patch_cli.specs.Carries.{why_of, receipt_of};
+ghost use Rattle.patch_cli.specs.Scratches.{has_scratch};
+ghost use Rattle.gen_cli.specs.Jobs.{options_for};
+ghost use Rattle.gen_cli.specs.Summary.{summary_of};
+ghost use Rattle.gen_cli.specs.Preparing.{ArePlaces, AreMade, IsMadeSet};
+ghost use Rattle.gen_cli.specs.Telling.{TellsOf};
+ghost use Rattle.gen_cli.specs.Ending.{Ends};
+ghost use Rattle.gen_cli.specs.Worlds.{world};
+ghost use Rattle.gen_cli.specs.Carries.{Carries};
+
+use crate::places::Place;
+use crate::putting::put_files;
+use crate::ready::Work;
+use crate::tally::{count_moved, count_placed, total_size};
+use crate::telling::{Summary, put_summary};
+use hunk_core::Verdict;
+use outside::{Scratch, Sink, Tree};
+use patch_cli::{Applied, apply};
+use patch_options::Options;
+use patch_set::PatchSet;
+use run_answers::Why;
+use std::alloc::Global;
+use tool_words::GenJob;
+
+/// Carries out what was made ready, on a settled tree. The scratch comes back.
+pub fn carry_out<T: Tree, C: Scratch, O: Sink>(
+    alloc: Global,
+    job: GenJob,
+    work: Work,
+    tree: &mut T,
+    scratch: C,
+    out: &mut O,
+) -> (Result<Applied, Why>, C)
+    requires options { plain_options work.options ≡ options_for (plain_gen_job job) }
+    requires made { AreMade (plain_gen_job job) work.places.items (map (λ v. v.items) work.files.items) }
+    requires set { IsMadeSet (plain_gen_job job) work.set }
+    requires hunks { work.hunks ≡ (made job.seed job.files job.lines).hunks }
+    requires quiet { IsQuiet (T.view tree.old) }
+    ensures carries { Carries (Ok (plain_gen_job job)) (world (T.view tree.old) (C.view scratch) (O.view out.old)) (world (T.view tree.new) (C.view result.1) (O.view out.new)) (why_of result.0) (receipt_of result.0) }
+    ensures scratch { has_scratch job.plan ≡ false → result.1 ≡ scratch }
+    ensures rest { O.same_rest out.old out.new }
+{
+    let Work {
+        options,
+        set,
+        places,
+        files,
+        hunks,
+    } = work;
+    match put_files(job, &places, files, tree) {
+        Ok(()) => apply_made(alloc, job, options, set, &places, hunks, scratch, tree, out),
+        Err(_) => (Err(Why::TreeFault), scratch),
+    }
+}
+
+/// Applies the patch to the files that were put, and tells what came of it.
+fn apply_made<T: Tree, C: Scratch, O: Sink>(
+    alloc: Global,
+    job: GenJob,
+    options: Options,
+    mut set: PatchSet,
+    places: &[Place],
+    hunks: u32,
+    scratch: C,
+    tree: &mut T,
+    out: &mut O,
+) -> (Result<Applied, Why>, C)
+    requires options { plain_options options ≡ options_for (plain_gen_job job) }
+    requires set { IsMadeSet (plain_gen_job job) set }
+    requires places { ArePlaces places.now job.files }
+    requires hunks { hunks ≡ (made job.seed job.files job.lines).hunks }
+    requires quiet { IsQuiet (T.view tree.old) }
+    ensures ends { Ends (plain_gen_job job) set (T.view tree.old) (T.view tree.new) (C.view scratch) (C.view result.1) (O.view out.old) (O.view out.new) result.0 }
+    ensures scratch { has_scratch job.plan ≡ false → result.1 ≡ scratch }
+    ensures rest { O.same_rest out.old out.new }
+{
+    let (applied, scratch) = apply(alloc, &options, &mut set, scratch, tree, out);
+    match applied {
+        Ok(applied) => (
+            tell(job, applied, set.verdicts(), places, hunks, tree, out),
+            scratch,
+        ),
+        Err(fault) => (Err(Why::from(fault)), scratch),
+    }
+}
+
+/// Measures the files behind a run that came to its end, and writes its summary.
+fn tell<T: Tree, O: Sink>(
+    job: GenJob,
+    applied: Applied,
+    verdicts: &[Verdict],
+    places: &[Place],
+    hunks: u32,
+    tree: &mut T,
+    out: &mut O,
+) -> Result<Applied, Why>
+    requires places { ArePlaces places.now job.files }
+    ensures tells { TellsOf applied (λ f. summary_of job.files hunks verdicts.now f applied.is_bad) (T.view tree.old) (T.view tree.new) (O.view out.old) (O.view out.new) result }
+    ensures rest { O.same_rest out.old out.new }
+{
+    let Ok(bytes) = total_size(places, tree) else {
+        return Err(Why::TreeFault);
+    };
+    let summary = Summary {
+        files: u64::from(job.files),
+        hunks: u64::from(hunks),
+        applied: count_placed(verdicts),
+        moved: count_moved(verdicts),
+        bytes,
+        status: u64::from(applied.status()),
+    };
+    match put_summary(out, summary) {
+        Ok(()) => Ok(applied),
+        Err(_) => Err(Why::WriteFault),
+    }
+}

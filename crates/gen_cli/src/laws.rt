@@ -1,0 +1,13 @@
+//! What the definition of a command says, in words of its own.
+
+ghost use Rattle.std.specs.Prelude.{◌≡◌, List};
+ghost use Rattle.outside.specs.Files.{Files};
+ghost use Rattle.file_patch.specs.PlainPatch.{PlainPatch};
+ghost use Rattle.tool_words.specs.PlainJobs.{PlainGenJob};
+ghost use Rattle.run_answers.specs.declared.why.Why.TheVariants.{Done};
+ghost use Rattle.gen_cli.specs.Command.{on_job, run_over, summary};
+
+/// A command that ends with `Done` says one line, its summary: the run over the file patches says nothing.
+pub fn gen_laws()
+    ensures done { (j : PlainGenJob) (f : Files) → (on_job j f).why ≡ Done → (ps : List PlainPatch) × ((on_job j f).text ≡ summary j (run_over j ps f)) }
+{}

@@ -1,0 +1,45 @@
+//! How the patch is applied: as `patch -s -p0` does.
+ghost use Rattle.std.specs.Prelude.{◌≡◌};
+ghost use Rattle.patch_options.specs.PlainJob.{plain_options, IsLawful};
+ghost use Rattle.tool_words.specs.PlainJobs.{plain_gen_job, IsSize};
+ghost use Rattle.gen_cli.specs.Jobs.{options_for};
+
+use patch_options::{Input, Options};
+use tool_words::GenJob;
+
+pub fn options_for(job: GenJob) -> Options
+    requires { IsSize (plain_gen_job job) }
+    ensures options { plain_options result ≡ options_for (plain_gen_job job) }
+    ensures lawful { IsLawful (plain_options result) }
+{
+    Options {
+        only: None,
+        strip: Some(0),
+        fuzz: 2,
+        reverse: false,
+        force: false,
+        batch: false,
+        forward: false,
+        loose: false,
+        remove_empty: false,
+        backup: false,
+        mismatch_backup: true,
+        suffix: None,
+        prefix: None,
+        dir: None,
+        file: None,
+        input: Input::Standard,
+        output: None,
+        reject: None,
+        no_rejects: false,
+        reject_form: None,
+        define: None,
+        posix: false,
+        skip_binary: false,
+        dry_run: false,
+        silent: true,
+        verbose: false,
+        plan: job.plan,
+        buffer: job.buffer,
+    }
+}

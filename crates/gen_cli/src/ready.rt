@@ -1,0 +1,69 @@
+//! What is made ready before the first file is put.
+ghost use Rattle.std.specs.Prelude.{◌≡◌, ◌⊎◌, map, Some, IfOk, IfErr};
+ghost use Rattle.patch_options.specs.PlainJob.{plain_options, IsLawful};
+ghost use Rattle.patch_gen.specs.Tree.{made};
+ghost use Rattle.patch_set.specs.Refusals.{refusal};
+ghost use Rattle.patch_set.specs.declared.fault.SetFault.{SetFault as TheFault};
+ghost use Rattle.run_answers.specs.Answers.{of_set};
+ghost use Rattle.tool_words.specs.PlainJobs.{plain_gen_job, IsSize};
+ghost use Rattle.gen_cli.specs.Command.{patch_text};
+ghost use Rattle.gen_cli.specs.Jobs.{options_for};
+ghost use Rattle.gen_cli.specs.Preparing.{AreMade, IsMadeSet};
+
+use crate::options::options_for;
+use crate::places::{Place, places_of};
+use patch_gen::generate;
+use patch_options::Options;
+use patch_set::{PatchSet, read_set};
+use run_answers::Why;
+use std::alloc::Global;
+use tool_words::GenJob;
+
+/// The made files with their places, and the set of the patch over them.
+#[derive(Drop)]
+pub struct Work {
+    pub options: Options,
+    pub set: PatchSet,
+    pub places: Vec<Place>,
+    pub files: Vec<Vec<u8>>,
+    /// How many hunks the patch has.
+    pub hunks: u32,
+}
+
+/// Makes all of it, before a device is called.
+pub fn make_ready(alloc: Global, job: GenJob) -> Result<Work, Why>
+    requires { IsSize (plain_gen_job job) }
+    ensures options { IfOk result (λ work. plain_options work.options ≡ options_for (plain_gen_job job)) }
+    ensures made { IfOk result (λ work. AreMade (plain_gen_job job) work.places.items (map (λ v. v.items) work.files.items)) }
+    ensures set { IfOk result (λ work. IsMadeSet (plain_gen_job job) work.set) }
+    ensures hunks { IfOk result (λ work. work.hunks ≡ (made job.seed job.files job.lines).hunks) }
+    ensures refused { IfErr result (λ why. (why ≡ Why.Memory) ⊎ ((fault : TheFault) × (why ≡ of_set fault) × (refusal (options_for (plain_gen_job job)) (patch_text (plain_gen_job job)) ≡ Some fault))) }
+{
+    let Ok(made) = generate(alloc, job.seed, job.files, job.lines) else {
+        return Err(Why::Memory);
+    };
+    let Ok(places) = places_of(alloc, job.files) else {
+        return Err(Why::Memory);
+    };
+    let options = options_for(job);
+    let set = read_made(alloc, made.patch, job, &options)?;
+    Ok(Work {
+        options,
+        set,
+        places,
+        files: made.files,
+        hunks: made.hunks,
+    })
+}
+
+/// The set of the made patch.
+fn read_made(alloc: Global, patch: Vec<u8>, job: GenJob, options: &Options) -> Result<PatchSet, Why>
+    requires lawful { IsLawful (plain_options options.now) }
+    requires options { plain_options options.now ≡ options_for (plain_gen_job job) }
+    requires patch { patch.items ≡ patch_text (plain_gen_job job) }
+    ensures set { IfOk result (IsMadeSet (plain_gen_job job)) }
+    ensures refused { IfErr result (λ why. (why ≡ Why.Memory) ⊎ ((fault : TheFault) × (why ≡ of_set fault) × (refusal (options_for (plain_gen_job job)) (patch_text (plain_gen_job job)) ≡ Some fault))) }
+{
+    let set = read_set(alloc, patch, options)?;
+    Ok(set)
+}

@@ -1,0 +1,7 @@
+mod Coming
+mod Promising
+mod Standing
+mod Popped
+mod Running
+mod Pushed
+mod Fetching

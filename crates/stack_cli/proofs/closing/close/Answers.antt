@@ -1,0 +1,22 @@
+use Rattle.std.proofs.Common.{Result, refl, subst}
+use Rattle.patch_effects.specs.declared.fault.RunFault.{RunFault}
+use Rattle.patch_run.specs.Applied.{Receipt}
+use Rattle.patch_run.specs.Doing.{QuietAfter}
+use Rattle.stack_cli.specs.Stages.{HasCut}
+use Rattle.stack_cli.specs.States.{stage_of}
+use Rattle.stack_cli.proofs.closing.close.Goals as goal
+
+pub close_ended-requires-clause-quiet : goal.close_ended-requires-clause-quiet
+close_ended-requires-clause-quiet g c = subst (λ (r : Result Receipt RunFault). QuietAfter r (g.T.Tree.view c.args.tree.now)) c.in-Ok.is c.requires.quiet
+
+pub close_cut-requires-clause-quiet : goal.close_cut-requires-clause-quiet
+close_cut-requires-clause-quiet g c = subst (λ (r : Result Receipt RunFault). QuietAfter r (g.T.Tree.view c.args.tree.now)) c.in-Err.is c.requires.quiet
+
+pub close_cut-requires-clause-cut : goal.close_cut-requires-clause-cut
+close_cut-requires-clause-cut g c = subst (λ (r : Result Receipt RunFault). HasCut r) c.in-Err.is c.requires.cut
+
+pub returns-in-Ok-clause-closes : goal.returns-in-Ok-clause-closes
+returns-in-Ok-clause-closes g c a = rw c.in-Ok.is (c.close_ended.ensures.comes a)
+
+pub returns-in-Err-clause-closes : goal.returns-in-Err-clause-closes
+returns-in-Err-clause-closes g c a = rw c.in-Err.is (c.close_cut.ensures a (g.O.Sink.view c.args.out.now) (stage_of c.args.state.now c.args.name.now) refl)

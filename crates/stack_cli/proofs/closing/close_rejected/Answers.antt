@@ -1,0 +1,21 @@
+use Rattle.std.proofs.Common.{ℕ, List, length, suc, refl, sym, ap}
+use Rattle.run_answers.specs.declared.why.Why.TheVariants.{Rejected}
+use Rattle.series_stack.specs.Saves.{entries_of}
+use Rattle.stack_law.specs.Commands.{Ending as endings}
+use Rattle.stack_law.specs.Stack.{save_name}
+use Rattle.stack_law.specs.Outcomes.{ending_text}
+use Rattle.stack_steps.specs.Undoing.{undone_by}
+use Rattle.outside.specs.Files.{Files}
+use Rattle.outside.specs.Quiet.{Effect}
+use Rattle.stack_cli.specs.Stages.{ended, why_by}
+use Rattle.stack_cli.proofs.Coming.{comes_by, comes_is, comes_why}
+use Rattle.stack_cli.proofs.closing.close_rejected.Goals as goal
+
+pub returns-clause-comes : goal.returns-clause-comes
+returns-clause-comes g c a =
+    let s = c.args.state.now.stack in
+    let undone : Files → List Effect = λ f. undone_by (save_name (suc s.applied)) (entries_of c.args.save.now) f in
+    comes_is (λ f. ended Rejected (undone f) (ending_text endings.Rejected c.args.name.now s.applied (length s.patches.items)))
+    (λ f told. ap (λ (m : ℕ). ended Rejected (undone f) (ending_text endings.Rejected c.args.name.now s.applied m)) (sym c.count.ensures))
+    (comes_why c.rejected.result (why_by Rejected c.reject.result) c.rejected.ensures
+    (comes_by c.reject.result Rejected refl refl tt c.reject.ensures.steps refl))

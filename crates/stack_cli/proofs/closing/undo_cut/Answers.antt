@@ -1,0 +1,14 @@
+use Rattle.std.proofs.Common.{[], ◌∷◌, suc, refl}
+use Rattle.outside.specs.SinkView.{SinkView}
+use Rattle.run_answers.specs.Answers.{of_run}
+use Rattle.series_stack.specs.Saves.{entries_of}
+use Rattle.stack_law.specs.Stack.{save_name}
+use Rattle.stack_steps.specs.Undoing.{undone_by}
+use Rattle.stack_cli.proofs.Running.{cut-comes, cut-fails}
+use Rattle.stack_cli.proofs.closing.undo_cut.Goals as goal
+
+pub returns-in-Ok : goal.returns-in-Ok
+returns-in-Ok g c a b s is = cut-comes c.args.cut c.from.result s c.args.applied (entries_of c.args.save.now) c.requires.cut is c.from.ensures c.in-Ok.field-0 (c.in-Ok.ensures b)
+
+pub returns-in-Err : goal.returns-in-Err
+returns-in-Err g c a b s is = cut-fails c.in-Err.fault c.args.cut c.from-in-Err.result s c.args.applied (entries_of c.args.save.now) is c.from-in-Err.ensures (c.in-Err.ensures b)

@@ -1,0 +1,32 @@
+use Rattle.std.proofs.Common.{suc, refl, arith}
+use Rattle.outside.specs.Quiet.{after_all}
+use Rattle.run_answers.specs.Answers.{of_run}
+use Rattle.stack_law.specs.Stack.{undoing}
+use Rattle.tool_words.specs.declared.jobs.StackOp.TheVariants.{Push}
+use Rattle.stack_cli.specs.Command.{on_op}
+use Rattle.stack_cli.specs.Stages.{on_recovered}
+use Rattle.stack_cli.specs.States.{stage_of}
+use Rattle.stack_cli.proofs.Coming.{comes_is, comes_stop, comes_then, comes_why}
+use Rattle.stack_cli.proofs.Standing.{stands}
+use Rattle.stack_cli.proofs.Pushed.{pushed_is}
+use Rattle.stack_cli.proofs.pushing.push_next.Goals as goal
+
+pub recover-requires-clause-few : goal.recover-requires-clause-few
+recover-requires-clause-few g c = omega (arith, c.requires.state.is.applied, c.requires.state.is.few)
+
+pub recover-requires-clause-held : goal.recover-requires-clause-held
+recover-requires-clause-held g c f told = (stands c.requires.state f told).held
+
+pub push_recovered-requires-clause-applied : goal.push_recovered-requires-clause-applied
+push_recovered-requires-clause-applied g c = omega (arith, c.requires.state.is.applied, c.requires.state.is.few)
+
+pub returns-in-Ok-clause-comes : goal.returns-in-Ok-clause-comes
+returns-in-Ok-clause-comes g c = comes_is (on_op Push)
+    (λ f told. pushed_is c.args.state.now c.args.name.now c.args.next.set c.args.next.names.items c.requires.next c.requires.name c.requires.state f told)
+    (comes_then c.in-Ok.field-0 c.push_recovered.result.0 (on_recovered c.args.next.set (stage_of c.args.state.now c.args.name.now)) c.in-Ok.ensures.steps refl c.push_recovered.ensures.comes)
+
+pub returns-in-Err-clause-comes : goal.returns-in-Err-clause-comes
+returns-in-Err-clause-comes g c = comes_is (on_op Push)
+    (λ f told. pushed_is c.args.state.now c.args.name.now c.args.next.set c.args.next.names.items c.requires.next c.requires.name c.requires.state f told)
+    (comes_why c.from.result (of_run c.in-Err.fault) c.from.ensures
+    (comes_stop c.in-Err.fault (λ f. on_recovered c.args.next.set (stage_of c.args.state.now c.args.name.now) (after_all (undoing (suc c.args.state.now.stack.applied) f) f)) c.in-Err.ensures.steps refl))

@@ -1,0 +1,40 @@
+use Rattle.std.proofs.Common.{ℕ, [], length, suc, refl, sym, ◌∙◌, ap, arith}
+use Rattle.tool_words.specs.declared.jobs.StackOp.TheVariants.{Applied}
+use Rattle.run_answers.specs.declared.why.Why.TheVariants.{Done}
+use Rattle.run_answers.specs.Answers.{of_run}
+use Rattle.stack_law.specs.Stack.{undoing}
+use Rattle.stack_law.specs.Outcomes.{recovered_text, tally}
+use Rattle.stack_steps.specs.Steps.{said_by}
+use Rattle.stack_steps.proofs.Stepping.{says_by}
+use Rattle.stack_cli.specs.Command.{behind, on_op}
+use Rattle.stack_cli.specs.Worlds.{world}
+use Rattle.stack_cli.specs.Stages.{ended, why_by}
+use Rattle.stack_cli.proofs.Coming.{comes_by, comes_is, comes_stop, comes_then, comes_why}
+use Rattle.stack_cli.proofs.Standing.{stands}
+use Rattle.stack_cli.proofs.Popped.{applied_is}
+use Rattle.stack_cli.proofs.taking.count_applied.Goals as goal
+
+pub recover-requires-clause-few : goal.recover-requires-clause-few
+recover-requires-clause-few g c = omega (arith, c.requires.state.is.applied, c.requires.state.is.few)
+
+pub recover-requires-clause-held : goal.recover-requires-clause-held
+recover-requires-clause-held g c f told = (stands c.requires.state f told).held
+
+pub returns-in-Ok-clause-comes : goal.returns-in-Ok-clause-comes
+returns-in-Ok-clause-comes g c a =
+    let s = c.args.state.now in
+    let n = s.stack.applied in
+    comes_is (on_op Applied)
+    (λ f told. applied_is f s (stands c.requires.state f told) ∙ ap (λ (m : ℕ). behind (undoing (suc n) f) (recovered_text n (undoing (suc n) f)) (ended Done [] (tally n m))) (sym c.count.ensures))
+    (comes_then {v = world (g.T.Tree.view c.recover.new.tree) a (g.O.Sink.view c.recover.new.out)} c.in-Ok.field-0 c.told.result (λ f. ended Done [] (tally n c.count.result)) c.in-Ok.ensures.steps refl
+    (comes_why c.told.result (why_by Done (said_by c.say_tally.result)) c.told.ensures
+    (comes_by (said_by c.say_tally.result) Done refl refl tt (says_by (g.T.Tree.view c.recover.new.tree) c.say_tally.result (tally n c.count.result) c.in-Ok.ensures.steps.quiet c.say_tally.ensures.writes) refl)))
+
+pub returns-in-Err-clause-comes : goal.returns-in-Err-clause-comes
+returns-in-Err-clause-comes g c a =
+    let s = c.args.state.now in
+    let n = s.stack.applied in
+    comes_is (on_op Applied)
+    (λ f told. applied_is f s (stands c.requires.state f told))
+    (comes_why c.from.result (of_run c.in-Err.fault) c.from.ensures
+    (comes_stop c.in-Err.fault (λ f. ended Done [] (tally n (length s.stack.patches.items))) c.in-Err.ensures.steps refl))

@@ -1,0 +1,15 @@
+use Rattle.std.proofs.Common.{sym, ◌∙◌}
+use Rattle.std.proofs.lemmas.Bool.{ltb-true}
+use Rattle.tool_words.specs.declared.jobs.StackOp.TheVariants.{Pop}
+use Rattle.run_answers.specs.declared.why.Why.TheVariants.{StackEnd}
+use Rattle.run_answers.proofs.Opens.{opens_none}
+use Rattle.stack_cli.proofs.Promising.{carries_early}
+use Rattle.stack_cli.proofs.Popped.{end_stops, none_below}
+use Rattle.stack_cli.proofs.taking.take_last.Goals as goal
+
+pub take_saved-requires-clause-some : goal.take_saved-requires-clause-some
+take_saved-requires-clause-some g c = ltb-true 0 c.args.state.now.stack.applied (sym c.has_applied.ensures ∙ c.if-has_applied.true)
+
+pub returns-else-has_applied-clause-carries : goal.returns-else-has_applied-clause-carries
+returns-else-has_applied-clause-carries g c a = carries_early Pop _ _ a _ (StackEnd 0) (opens_none (g.T.Tree.view c.args.tree.now))
+    (end_stops (g.T.Tree.view c.args.tree.now) a (g.O.Sink.view c.args.out.now) c.args.state.now c.requires.state (none_below c.args.state.now.stack.applied (sym c.has_applied.ensures ∙ c.if-has_applied.false)))

@@ -1,0 +1,9 @@
+pub mod Faults
+pub mod Jobs
+pub mod Command
+pub mod Worlds
+pub mod Causes
+pub mod Carries
+pub mod Comes
+pub mod Stages
+pub mod States

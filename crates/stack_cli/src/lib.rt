@@ -1,0 +1,11 @@
+//! All that `patchstack` does with its words, over any tree, scratch and sink.
+#![tactic(auto)]
+
+mod carrying;
+mod closing;
+mod fault;
+mod pushing;
+mod reading;
+mod taking;
+
+pub use carrying::run_stack;

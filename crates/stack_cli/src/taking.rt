@@ -1,0 +1,123 @@
+//! The commands that apply no patch: the last one is taken back, or they are counted.
+ghost use Rattle.std.specs.Prelude.{◌≡◌, ◌<◌, ◌≤◌, ◌-◌, ◌∷◌, drop, length, nat_lt, Some, Ok, IsSome};
+ghost use Rattle.outside.specs.Files.{Files};
+ghost use Rattle.outside.specs.Quiet.{IsQuiet};
+ghost use Rattle.outside.specs.ScratchView.{ScratchView};
+ghost use Rattle.outside.specs.SinkView.{SinkView};
+ghost use Rattle.series_stack.specs.Saves.{entries_of};
+ghost use Rattle.stack_state.specs.Reading.{last_save};
+ghost use Rattle.tool_words.specs.declared.jobs.StackOp.TheVariants.{Pop, Applied};
+ghost use Rattle.stack_cli.specs.Command.{on_op};
+ghost use Rattle.stack_cli.specs.Worlds.{world};
+ghost use Rattle.stack_cli.specs.Carries.{Carries};
+ghost use Rattle.stack_cli.specs.Comes.{Comes};
+ghost use Rattle.stack_cli.specs.States.{IsState};
+
+use crate::fault::{done, of_state, told};
+use crate::reading::State;
+use outside::{Name, Sink, Tree};
+use run_answers::Why;
+use stack_state::{Standing, read_last_save};
+use stack_steps::{recover, say_tally, take_back};
+use std::alloc::Global;
+
+/// Tells how many patches of how many are applied.
+pub fn count_applied<T: Tree, O: Sink>(
+    alloc: Global,
+    state: &State,
+    tree: &mut T,
+    out: &mut O,
+) -> Why
+    requires state { IsState (T.view tree.old) state.now }
+    requires quiet { IsQuiet (T.view tree.old) }
+    ensures comes { (a : ScratchView) → Comes Applied (world (T.view tree.old) a (O.view out.old)) (world (T.view tree.new) a (O.view out.new)) result (on_op Applied) }
+    ensures rest { O.same_rest out.old out.new }
+{
+    let stack = &state.stack;
+    match recover(alloc, stack.applied, &state.next, tree, out) {
+        Ok(()) => told(say_tally(out, stack.applied, count(stack))),
+        Err(fault) => Why::from(fault),
+    }
+}
+
+/// Takes the last patch back that is applied.
+pub fn take_last<T: Tree, O: Sink>(alloc: Global, state: &State, tree: &mut T, out: &mut O) -> Why
+    requires state { IsState (T.view tree.old) state.now }
+    requires quiet { IsQuiet (T.view tree.old) }
+    ensures carries { (a : ScratchView) → Carries (Ok Pop) (world (T.view tree.old) a (O.view out.old)) (world (T.view tree.new) a (O.view out.new)) result }
+    ensures rest { O.same_rest out.old out.new }
+{
+    if has_applied(&state.stack) {
+        take_saved(alloc, state, tree, out)
+    } else {
+        Why::StackEnd { applied: 0 }
+    }
+}
+
+fn has_applied(stack: &Standing) -> bool
+    ensures { result ≡ nat_lt 0 stack.now.applied }
+{
+    0 < stack.applied
+}
+
+/// Takes it back by its save.
+fn take_saved<T: Tree, O: Sink>(alloc: Global, state: &State, tree: &mut T, out: &mut O) -> Why
+    requires state { IsState (T.view tree.old) state.now }
+    requires some { 0 < state.now.stack.applied }
+    requires quiet { IsQuiet (T.view tree.old) }
+    ensures carries { (a : ScratchView) → Carries (Ok Pop) (world (T.view tree.old) a (O.view out.old)) (world (T.view tree.new) a (O.view out.new)) result }
+    ensures rest { O.same_rest out.old out.new }
+{
+    match read_last_save(alloc, state.stack.applied, tree) {
+        Ok(save) => take_by(alloc, state, &save, tree, out),
+        Err(fault) => of_state(fault),
+    }
+}
+
+/// Undoes what an interrupted command did, and then the last patch.
+fn take_by<T: Tree, O: Sink>(
+    alloc: Global,
+    state: &State,
+    save: &[u8],
+    tree: &mut T,
+    out: &mut O,
+) -> Why
+    requires state { IsState (T.view tree.old) state.now }
+    requires some { 0 < state.now.stack.applied }
+    requires saved { IsSome (entries_of save.now) }
+    requires last { (f : Files) → (T.view tree.old).told ≡ Some f → last_save state.now.stack.applied f ≡ Ok save.now }
+    requires quiet { IsQuiet (T.view tree.old) }
+    ensures comes { (a : ScratchView) → Comes Pop (world (T.view tree.old) a (O.view out.old)) (world (T.view tree.new) a (O.view out.new)) result (on_op Pop) }
+    ensures rest { O.same_rest out.old out.new }
+{
+    let stack = &state.stack;
+    match recover(alloc, stack.applied, &state.next, tree, out) {
+        Ok(()) => done(take_back(
+            alloc,
+            last_name(stack),
+            stack.applied - 1,
+            save,
+            count(stack),
+            tree,
+            out,
+        )),
+        Err(fault) => Why::from(fault),
+    }
+}
+
+/// The name of the last patch that is applied.
+fn last_name(stack: &Standing) -> &Name
+    requires some { 0 < stack.now.applied }
+    requires applied { stack.now.applied ≤ length stack.now.patches.items }
+    ensures { drop (stack.now.applied - 1) stack.now.patches.items ≡ result.now ∷ drop stack.now.applied stack.now.patches.items }
+{
+    &stack.patches[stack.applied as usize - 1]
+}
+
+/// How many patches there are.
+pub fn count(stack: &Standing) -> u32
+    requires { length stack.now.patches.items ≤ 9999 }
+    ensures { result ≡ length stack.now.patches.items }
+{
+    stack.patches.len() as u32
+}

@@ -1,0 +1,16 @@
+use Rattle.std.proofs.Common.{[], ◌∷◌, ◌+◌, Err}
+use Rattle.outside.specs.Quiet.Effect.{Put}
+use Rattle.series_stack.specs.Count.{count_text}
+use Rattle.stack_law.specs.Stack.{count_name}
+use Rattle.stack_law.specs.Outcomes.{tally}
+use Rattle.stack_steps.specs.Steps.{Steps}
+use Rattle.stack_steps.proofs.Stepping.{one_more, then_said, unsaid}
+use Rattle.stack_steps.proofs.closing.keep.Goals as goal
+
+pub returns-in-Ok-clause-steps : goal.returns-in-Ok-clause-steps
+returns-in-Ok-clause-steps g c = one_more (λ k. Steps {R = Unit {0}} (g.T.Tree.view c.args.tree.now) (g.T.Tree.view c.put_count.new.tree) (g.O.Sink.view c.args.out.now) (g.O.Sink.view c.say_tally.new.out) c.said.result (λ f. Put count_name (count_text k) ∷ []) (λ f. tally k c.args.all)) c.args.applied (
+    then_said c.in-Ok.field-0 (tally (c.args.applied + 1) c.args.all) c.say_tally.result c.said.result c.said.ensures (c.in-Ok.ensures (g.O.Sink.view c.args.out.now)) c.say_tally.ensures.writes)
+
+pub returns-in-Err-clause-steps : goal.returns-in-Err-clause-steps
+returns-in-Err-clause-steps g c = one_more (λ k. Steps {R = Unit {0}} (g.T.Tree.view c.args.tree.now) (g.T.Tree.view c.put_count.new.tree) (g.O.Sink.view c.args.out.now) (g.O.Sink.view c.args.out.now) (Err c.in-Err.fault) (λ f. Put count_name (count_text k) ∷ []) (λ f. tally k c.args.all)) c.args.applied (
+    unsaid {S = Unit {0}} c.in-Err.fault (tally (c.args.applied + 1) c.args.all) (c.in-Err.ensures (g.O.Sink.view c.args.out.now)))

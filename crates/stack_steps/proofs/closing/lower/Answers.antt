@@ -1,0 +1,20 @@
+use Rattle.std.proofs.Common.{[], ◌∷◌, suc, refl}
+use Rattle.outside.specs.Quiet.{after}
+use Rattle.series_stack.specs.Saves.{entries_of}
+use Rattle.stack_law.specs.Stack.{save_name, undoing_by}
+use Rattle.stack_law.specs.Outcomes.{lowering, tally}
+use Rattle.stack_steps.proofs.Stepping.{steps_is, steps_stop, steps_then}
+use Rattle.stack_steps.proofs.Restoring.{there_put}
+use Rattle.stack_steps.proofs.closing.lower.Goals as goal
+
+pub undo_last-requires-clause-quiet : goal.undo_last-requires-clause-quiet
+undo_last-requires-clause-quiet g c = (c.in-Ok.ensures (g.O.Sink.view c.args.out.now)).quiet
+
+pub undo_last-requires-clause-there : goal.undo_last-requires-clause-there
+undo_last-requires-clause-there g c = there_put c.in-Ok.field-0 c.args.before (suc c.args.before) c.requires.there (c.in-Ok.ensures (g.O.Sink.view c.args.out.now))
+
+pub returns-in-Ok-clause-steps : goal.returns-in-Ok-clause-steps
+returns-in-Ok-clause-steps g c = steps_then c.in-Ok.field-0 c.undo_last.result (c.in-Ok.ensures (g.O.Sink.view c.args.out.now)) c.undo_last.ensures.steps
+
+pub returns-in-Err-clause-steps : goal.returns-in-Err-clause-steps
+returns-in-Err-clause-steps g c = steps_stop c.in-Err.fault (λ f. undoing_by (save_name (suc c.args.before)) (entries_of c.args.save.now) (after (lowering c.args.before) f)) (λ f. tally c.args.before c.args.all) (c.in-Err.ensures (g.O.Sink.view c.args.out.now))

@@ -1,0 +1,16 @@
+use Rattle.std.proofs.Common.{List, [], suc, ap, ◌∙◌}
+use Rattle.std.specs.Prelude.{option_map, vec_items}
+use Rattle.outside.specs.Quiet.{Effect}
+use Rattle.stack_law.specs.Stack.{undoing}
+use Rattle.stack_law.specs.Outcomes.{recovered_text}
+use Rattle.stack_steps.proofs.Stepping.{steps_is, steps_none}
+use Rattle.stack_steps.proofs.Restoring.{none-undone}
+use Rattle.stack_steps.proofs.closing.recover.Goals as goal
+
+pub returns-in-None-clause-steps : goal.returns-in-None-clause-steps
+returns-in-None-clause-steps g c =
+    let n = c.args.applied in
+    steps_is _ (undoing (suc n)) (λ f. recovered_text n (undoing (suc n) f))
+    (λ f told. none-undone (suc n) f (c.requires.held f told ∙ ap (λ o. option_map vec_items o) c.in-None.is))
+    (λ f told. ap (λ (es : List Effect). recovered_text n es) (none-undone (suc n) f (c.requires.held f told ∙ ap (λ o. option_map vec_items o) c.in-None.is)))
+    (steps_none (g.T.Tree.view c.args.tree.now) (g.O.Sink.view c.args.out.now) tt c.requires.quiet)

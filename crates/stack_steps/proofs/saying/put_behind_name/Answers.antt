@@ -1,0 +1,10 @@
+use Rattle.std.proofs.Common.{[], ◌∷◌, ◌++◌, codes}
+use Rattle.stack_law.specs.Outcomes.{tally}
+use Rattle.stack_steps.proofs.Writes.{stop_all, then_all}
+use Rattle.stack_steps.proofs.saying.put_behind_name.Goals as goal
+
+pub returns-in_err-put_all-clause-writes : goal.returns-in_err-put_all-clause-writes
+returns-in_err-put_all-clause-writes g c = stop_all c.in_err-put_all.field-0.0 c.from_residual.result (codes " does not apply" ++ 10 ∷ []) (tally c.args.applied c.args.all) c.from_residual.ensures.0 c.in_err-put_all.ensures.call c.in_err-put_all.ensures.failed
+
+pub returns-clause-writes : goal.returns-clause-writes
+returns-clause-writes g c = then_all c.in_ok-put_all.field-0 c.say_tally.result (codes " does not apply" ++ 10 ∷ []) (tally c.args.applied c.args.all) c.in_ok-put_all.ensures.call c.in_ok-put_all.ensures.received c.say_tally.ensures.writes

@@ -1,0 +1,14 @@
+use Rattle.std.proofs.Common.{◌≡◌, ℕ, List, [], false, sym, subst}
+use Rattle.outside.specs.Files.{is_temp}
+use Rattle.series_stack.specs.Saves.{entries_of}
+use Rattle.stack_law.specs.Stack.{save_name}
+use Rattle.stack_law.proofs.Names.{save-lasting}
+use Rattle.stack_steps.specs.Steps.{Steps}
+use Rattle.stack_steps.specs.Undoing.{undone_by}
+use Rattle.stack_steps.proofs.undoing.undo.Goals as goal
+
+pub undo_by-requires-clause-lasting : goal.undo_by-requires-clause-lasting
+undo_by-requires-clause-lasting g c = subst (λ (l : List ℕ). is_temp l ≡ false) (sym c.in-Ok.ensures) (save-lasting c.args.number)
+
+pub returns-in-Ok : goal.returns-in-Ok
+returns-in-Ok g c s = subst (λ (l : List ℕ). Steps (g.T.Tree.view c.args.tree.now) (g.T.Tree.view c.undo_by.new.tree) s s c.undo_by.result (undone_by l (entries_of c.args.save.now)) (λ f. [])) c.in-Ok.ensures (c.undo_by.ensures s)
