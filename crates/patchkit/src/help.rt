@@ -6,7 +6,7 @@ use tool_words::{Tool, tool_named};
 /// The version, and what the program is proved with. `make dist` reads it here.
 const VERSION: &str = "patchkit 0.1.0, proved with rattle-kit-13f logic dac8208d650f15bf\n";
 
-/// The tools that are built.
+/// The tools, one a line.
 const TOOLS: &str = "\
 Usage: patchkit TOOL [WORD]...
   or:  TOOL [WORD]..., where a link of the tool's name points to patchkit
@@ -46,7 +46,7 @@ pub fn told(words: &[String]) -> Option<Telling> {
     }
 }
 
-/// The first word that asks for help or the version: of all words of a tool, else the first alone.
+/// The first word that asks for help or the version, in front of a `--`.
 fn asked(words: &[String]) -> Option<&str> {
     for word in words {
         match word.as_str() {
