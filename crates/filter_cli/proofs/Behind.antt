@@ -10,14 +10,15 @@ use Rattle.patch_options.specs.declared.options.WordFault.{WordFault}
 use Rattle.tool_words.specs.PlainJobs.{PlainToolJob}
 use Rattle.tool_words.specs.PlainJobs.PlainToolJob.{list_job, filter_job, grep_job, split_job, recount_job, gen_job, flip_job, stack_job}
 use Rattle.run_answers.specs.declared.why.Why.{Why}
-use Rattle.run_answers.specs.declared.why.Why.TheVariants.{Done, Rejected, Usage, Malformed, Garbage, EdReverse, OutMany, Reserved, NoPatchFile, TooLong, LongLine, FileTooLong, BadPattern, NoContext, Unfit, BadState, StackEnd, StackName, ReadFault, WriteFault, TreeFault, ScratchFault, Disagree, Memory, Unsupported}
+use Rattle.run_answers.specs.declared.why.Why.TheVariants.{Done, Rejected, Usage, Malformed, Garbage, EdReverse, OutMany, Reserved, NoPatchFile, TooLong, LongLine, FileTooLong, BadPattern, NoContext, Unfit, BadState, StackEnd, StackName, ReadFault, WriteFault, TreeFault, ScratchFault, Disagree, Memory}
 use Rattle.run_answers.specs.Answers.{is_own}
-use Rattle.run_answers.specs.Moments.{Opens}
+use Rattle.run_answers.specs.Moments.{Opens, FirstPart}
+use Rattle.run_answers.specs.Outcomes.{Outcome}
 use Rattle.run_answers.proofs.Opens.{opens_both, tidy_behind}
-use Rattle.filter_cli.specs.Command.{Outcome, command}
+use Rattle.filter_cli.specs.Command.{command}
 use Rattle.filter_cli.specs.Worlds.{World, world, Tells}
 use Rattle.filter_cli.specs.Causes.{HasCause}
-use Rattle.filter_cli.specs.Carries.{IsAnswer, FirstPart, Answers, IsAsAtEntry, BreaksOff, ByOutcome, Carries}
+use Rattle.filter_cli.specs.Carries.{IsAnswer, Answers, IsAsAtEntry, BreaksOff, ByOutcome, Carries}
 use Rattle.filter_cli.proofs.Whole.{carries_does}
 
 module _ (job : Result PlainToolJob WordFault) (t v : TreeView) (h : FinderView) (a : SourceView) (c : SinkView) (opens : Opens t v) where
@@ -50,9 +51,8 @@ module _ (job : Result PlainToolJob WordFault) (t v : TreeView) (h : FinderView)
     cause_behind ScratchFault cause = absurd cause
     cause_behind (Disagree want got) cause = (cause.0, cause.1, sym opens.told ∙ cause.2)
     cause_behind Memory cause = cause
-    cause_behind Unsupported cause = cause
 
-    first_behind : (o : Outcome) → FirstPart (world v h a c) w o → FirstPart (world t h a c) w o
+    first_behind : (o : Outcome) → FirstPart v w.tree c w.out o.effects o.text → FirstPart t w.tree c w.out o.effects o.text
     first_behind o part = record { tells = λ f g was now. part.tells f g (opens.told ∙ was) now; said = part.said }
 
     answer_behind : (why : Why) (f : Files) (o : Outcome) → IsAnswer why f (world v h a c) w o → IsAnswer why f (world t h a c) w o

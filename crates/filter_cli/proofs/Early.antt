@@ -7,14 +7,15 @@ use Rattle.outside.specs.FinderView.{FinderView}
 use Rattle.outside.specs.SourceView.{SourceView}
 use Rattle.outside.specs.SinkView.{SinkView}
 use Rattle.patch_options.specs.declared.options.WordFault.{WordFault}
-use Rattle.patch_options.specs.declared.options.WordFault.TheVariants.{Usage, Unsupported, Memory}
+use Rattle.patch_options.specs.declared.options.WordFault.TheVariants.{Usage, Memory}
 use Rattle.tool_words.specs.PlainJobs.{PlainToolJob}
 use Rattle.run_answers.specs.declared.why.Why.{Why}
 use Rattle.run_answers.specs.declared.why.Why.TheVariants as whys
 use Rattle.run_answers.specs.Answers.{is_own, of_words}
 use Rattle.run_answers.specs.Moments.{Opens}
+use Rattle.run_answers.specs.Outcomes.{Outcome, refused}
 use Rattle.run_answers.proofs.Opens.{opens_none}
-use Rattle.filter_cli.specs.Command.{Outcome, command, refused}
+use Rattle.filter_cli.specs.Command.{command}
 use Rattle.filter_cli.specs.Worlds.{World, world}
 use Rattle.filter_cli.specs.Causes.{HasCause}
 use Rattle.filter_cli.specs.Carries.{Carries}
@@ -27,12 +28,10 @@ GivesNone job why = (why ≡ whys.Memory) ⊎ ((fault : WordFault) × (why ≡ o
 module _ (job : Result PlainToolJob WordFault) (t : TreeView) (h : FinderView) (a : SourceView) (c : SinkView) where
   words-cause : (fault : WordFault) → job ≡ Err fault → HasCause (of_words fault) job (world t h a c) (world t h a c)
   words-cause Usage is = is
-  words-cause Unsupported is = is
   words-cause Memory is = tt
 
   words-going : (fault : WordFault) → of_words fault ≡ whys.Done → ⊥
   words-going Usage is = absurd (cc)
-  words-going Unsupported is = absurd (cc)
   words-going Memory is = absurd (cc)
 
   pub words_carry : (why : Why) → GivesNone job why → Carries job (world t h a c) (world t h a c) why

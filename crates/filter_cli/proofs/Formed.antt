@@ -19,9 +19,10 @@ use Rattle.filter_run.specs.Sifting.{HasTextCause}
 use Rattle.run_answers.specs.declared.why.Why.{Why}
 use Rattle.run_answers.specs.declared.why.Why.TheVariants as whys
 use Rattle.run_answers.specs.Answers.{is_own}
+use Rattle.run_answers.specs.Outcomes.{Outcome, refused}
 use Rattle.run_answers.proofs.Opens.{opens_untouched, tidy_same}
 use Rattle.filter_cli.specs.Causes.{HasCause}
-use Rattle.filter_cli.specs.Command.{Outcome, formed, in_form, of_form, refused, why_formed, written}
+use Rattle.filter_cli.specs.Command.{formed, in_form, of_form, why_formed, written}
 use Rattle.filter_cli.specs.Worlds.{World}
 use Rattle.filter_cli.specs.Carries.{Answers, ByOutcome, Carries, IsAsAtEntry}
 use Rattle.filter_cli.proofs.Sifted.{Agrees, sifts_carry}

@@ -24,13 +24,15 @@ use Rattle.filter_run.specs.Sifting.{IsTold, Sifts, is_refusal, AnswersFault}
 use Rattle.filter_run.specs.Sifting as sifting
 use Rattle.run_answers.specs.declared.why.Why.{Why}
 use Rattle.run_answers.specs.declared.why.Why.TheVariants.{Done, TreeFault}
-use Rattle.run_answers.specs.Answers.{is_own}
+use Rattle.run_answers.specs.Answers.{is_own, is_early}
+use Rattle.run_answers.specs.Moments.{FirstPart}
+use Rattle.run_answers.specs.Outcomes.{Outcome, refused}
 use Rattle.run_answers.proofs.Opens.{opens_untouched, tidy_same}
 use Rattle.filter_cli.specs.Jobs.{IsFromSource, NamesFile, MayFault, MayBeRefused, ReadsSource}
-use Rattle.filter_cli.specs.Command.{Outcome, IsOutcome, command, of_filter, refused, why_by, written}
+use Rattle.filter_cli.specs.Command.{IsOutcome, command, of_filter, why_by, written}
 use Rattle.filter_cli.specs.Worlds.{World, world, Tells}
 use Rattle.filter_cli.specs.Causes.{HasCause}
-use Rattle.filter_cli.specs.Carries.{IsAnswer, FirstPart, Answers, IsAsAtEntry, is_early, BreaksOff, ByOutcome, Carries}
+use Rattle.filter_cli.specs.Carries.{IsAnswer, Answers, IsAsAtEntry, BreaksOff, ByOutcome, Carries}
 use Rattle.filter_cli.proofs.Whole.{carries_does, refused_so}
 
 -- how a job's words in two crates agree
@@ -135,7 +137,7 @@ module _ (job : PlainToolJob) (i : Input) (s : PlainSelect) (R : FilterFault →
       wrote : (bytes : List ℕ) (f : Files) → Receives u.out w.out bytes → IsAnswer Done f u w (written (Ok bytes))
       wrote bytes f received = record { is = refl; text = received; files = λ told. same.told ∙ told }
 
-      first : (o : Outcome) → ReceivesPart u.out w.out o.text → FirstPart u w o
+      first : (o : Outcome) → ReceivesPart u.out w.out o.text → FirstPart u.tree w.tree u.out w.out o.effects o.text
       first o part = record {
         tells = λ g h was now. (zero, omega arith, subst (λ (x : Files). SameLasting g x) (same_Some _ _ (sym was ∙ sym same.told ∙ now)) (lasting-same g));
         said = part;

@@ -26,12 +26,14 @@ use Rattle.filter_run.specs.Parting.{AreCutAt, ArePut, IsNotBegun, TidyAfter, pa
 use Rattle.filter_run.specs.Splits.{Cut, HasSplitCause, SplitFault, Splits, split_outcome}
 use Rattle.run_answers.specs.declared.why.Why.{Why}
 use Rattle.run_answers.specs.declared.why.Why.TheVariants.{Done, TreeFault}
-use Rattle.run_answers.specs.Answers.{is_fault, is_own}
+use Rattle.run_answers.specs.Answers.{is_fault, is_own, is_early}
+use Rattle.run_answers.specs.Moments.{FirstPart, LeavesAllowed}
+use Rattle.run_answers.specs.Outcomes.{Outcome}
 use Rattle.run_answers.proofs.Opens.{opens_untouched}
-use Rattle.filter_cli.specs.Command.{Outcome, command, of_filter, parted, why_by}
+use Rattle.filter_cli.specs.Command.{command, of_filter, parted, why_by}
 use Rattle.filter_cli.specs.Worlds.{World, world}
 use Rattle.filter_cli.specs.Causes.{HasCause}
-use Rattle.filter_cli.specs.Carries.{IsAnswer, FirstPart, Answers, IsAsAtEntry, is_early, IsCutAt, BreaksOff, LeavesAllowed, ByOutcome, Carries}
+use Rattle.filter_cli.specs.Carries.{IsAnswer, Answers, IsAsAtEntry, IsCutAt, BreaksOff, ByOutcome, Carries}
 use Rattle.filter_cli.proofs.Whole.{carries_does, refused_so, nothing_yet}
 use Rattle.filter_cli.proofs.Sifted.{own-is, never-done, set-cause}
 
@@ -117,7 +119,7 @@ module _ (j : PlainSplitJob) (h : FinderView) (a : SourceView) (t w : TreeView) 
             subst (λ es. SameLasting (after_all es g0) g) (sym (take-map (part_put j.input x.0) k rows)) same,
           )
 
-      cut-first : (e : FilterFault) (k : ℕ) → AreCutAt j.input x.0 (numbered x.1) e f t w c d k → FirstPart before behind (parted j.input (Ok x))
+      cut-first : (e : FilterFault) (k : ℕ) → AreCutAt j.input x.0 (numbered x.1) e f t w c d k → FirstPart t w c d (parted j.input (Ok x)).effects (parted j.input (Ok x)).text
       cut-first e k cut = record { tells = puts-first k cut.files cut.few; said = said-part c d j.input (numbered x.1) k cut.out }
 
       put-all : ArePut j.input x.0 (numbered x.1) f t w c d → IsAnswer Done f before behind (parted j.input (Ok x))
@@ -134,14 +136,14 @@ module _ (j : PlainSplitJob) (h : FinderView) (a : SourceView) (t w : TreeView) 
         (λ (x, is, (k, cut)). (parted j.input (Ok x), inl (comes x is), cut-first x is e k cut))
         fault
 
-    leaves-none : IsNotBegun t w c d → LeavesAllowed before behind f come.effects
+    leaves-none : IsNotBegun t w c d → LeavesAllowed t w f come.effects
     leaves-none none g since = inl ((not-begun none).images g since)
 
-    split-leaves : (b : Bool) (e : FilterFault) → (b ≡ true → IsNotBegun t w c d) → SplitFault b e j f t w c d → LeavesAllowed before behind f come.effects
+    split-leaves : (b : Bool) (e : FilterFault) → (b ≡ true → IsNotBegun t w c d) → SplitFault b e j f t w c d → LeavesAllowed t w f come.effects
     split-leaves true e none is = leaves-none (none refl)
     split-leaves false e none fault = ⊎_elim
         (λ not. leaves-none not)
-        (λ (x, is, (k, cut)). subst (λ (o : Outcome). LeavesAllowed before behind f o.effects) (comes x is) (λ g since. inr (cut.leaves f told g since)))
+        (λ (x, is, (k, cut)). subst (λ (o : Outcome). LeavesAllowed t w f o.effects) (comes x is) (λ g since. inr (cut.leaves f told g since)))
         fault
 
     split-breaks : (b : Bool) (e : FilterFault) → b ≡ false → SplitFault b e j f t w c d → BreaksOff (Ok (split_job j)) (of_filter e) f before behind
@@ -184,7 +186,7 @@ module _ (j : PlainSplitJob) (h : FinderView) (a : SourceView) (t w : TreeView) 
         (parted j.input (Ok cut), inl (comes f left (told.files tt) cut is), put-all f left (told.files tt) cut is put);
     images = λ f left told.
         let (cut, is, put) = x.answers f (told.files tt) in
-        subst (λ (o : Outcome). LeavesAllowed before behind f o.effects) (comes f left (told.files tt) cut is) (λ g since. inr (put.leaves f (told.files tt) g since));
+        subst (λ (o : Outcome). LeavesAllowed t w f o.effects) (comes f left (told.files tt) cut is) (λ g since. inr (put.leaves f (told.files tt) g since));
     cut = λ own. absurd (false≢true (sym own));
     tidy = λ none. x.tidy;
   })

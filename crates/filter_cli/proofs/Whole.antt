@@ -15,16 +15,17 @@ use Rattle.tool_words.specs.PlainJobs.PlainToolJob.{list_job, filter_job, grep_j
 use Rattle.patch_input.specs.Input.{TakesAtMost}
 use Rattle.patch_effects.specs.Making.{IsTidy}
 use Rattle.run_answers.specs.declared.why.Why.{Why}
-use Rattle.run_answers.specs.declared.why.Why.TheVariants.{Done, Rejected, Usage, Malformed, Garbage, EdReverse, OutMany, Reserved, NoPatchFile, TooLong, LongLine, FileTooLong, BadPattern, NoContext, Unfit, BadState, StackEnd, StackName, ReadFault, WriteFault, TreeFault, ScratchFault, Disagree, Memory, Unsupported}
-use Rattle.run_answers.specs.Answers.{is_fault, is_own}
-use Rattle.run_answers.specs.Moments.{Opens}
+use Rattle.run_answers.specs.declared.why.Why.TheVariants.{Done, Rejected, Usage, Malformed, Garbage, EdReverse, OutMany, Reserved, NoPatchFile, TooLong, LongLine, FileTooLong, BadPattern, NoContext, Unfit, BadState, StackEnd, StackName, ReadFault, WriteFault, TreeFault, ScratchFault, Disagree, Memory}
+use Rattle.run_answers.specs.Answers.{is_fault, is_own, is_early}
+use Rattle.run_answers.specs.Moments.{Opens, FirstPart, LeavesAllowed}
+use Rattle.run_answers.specs.Outcomes.{Outcome, refused}
 use Rattle.run_answers.proofs.Names.{old_or_new}
 use Rattle.run_answers.proofs.Opens.{tidy_same}
 use Rattle.filter_cli.specs.Jobs.{AsksFor, Puts, ReadsSource}
-use Rattle.filter_cli.specs.Command.{Outcome, refused, command}
+use Rattle.filter_cli.specs.Command.{command}
 use Rattle.filter_cli.specs.Worlds.{World, world, Tells}
 use Rattle.filter_cli.specs.Causes.{HasCause}
-use Rattle.filter_cli.specs.Carries.{IsAnswer, FirstPart, Answers, IsAsAtEntry, is_early, BreaksOff, LeavesAllowed, NoneFailed, ByOutcome, Carries}
+use Rattle.filter_cli.specs.Carries.{IsAnswer, Answers, IsAsAtEntry, BreaksOff, NoneFailed, ByOutcome, Carries}
 
 -- what is shown of each run; the rest follows
 pub record Does (job : Result PlainToolJob WordFault) (u w : World) (why : Why) : Type 0 where
@@ -40,7 +41,7 @@ pub record Does (job : Result PlainToolJob WordFault) (u w : World) (why : Why) 
   pub unread : (ReadsSource job → ⊥) → w.source ≡ u.source
   pub taken : TakesAtMost 268435457 u.source w.source
   pub answers : (f : Files) (left : List ℕ) → Tells job u f left → ByOutcome job u f left (Answers (is_own why) why f u w)
-  pub images : (f : Files) (left : List ℕ) → Tells job u f left → LeavesAllowed u w f (command u.finder.hit job f left).effects
+  pub images : (f : Files) (left : List ℕ) → Tells job u f left → LeavesAllowed u.tree w.tree f (command u.finder.hit job f left).effects
   pub cut : is_own why ≡ false → (f : Files) (left : List ℕ) → Tells job u f left → BreaksOff job why f u w
   pub tidy : is_fault why ≡ false → IsTidy u.tree w.tree
 
@@ -71,7 +72,6 @@ is_complete TreeFault cause f left told none answer = absurd (none.tree cause)
 is_complete ScratchFault cause f left told none answer = absurd cause
 is_complete (Disagree want got) cause f left told none answer = let never = sym (told.files cause.0) ∙ cause.2 in absurd (cc)
 is_complete Memory cause f left told none answer = inr refl
-is_complete Unsupported cause f left told none answer = inl answer
 
 pub carries_does : {job : Result PlainToolJob WordFault} {u w : World} (why : Why) → Does job u w why → Carries job u w why
 carries_does {job = job} {u = u} {w = w} why d = record {
@@ -107,7 +107,7 @@ breaks_entry (Ok (stack_job op)) why f u w same = tt
 breaks_entry (Err fault) why f u w same = tt
 
 module _ (job : Result PlainToolJob WordFault) (u w : World) (same : IsAsAtEntry u w) where
-  pub nothing_yet : (o : Outcome) → FirstPart u w o
+  pub nothing_yet : (o : Outcome) → FirstPart u.tree w.tree u.out w.out o.effects o.text
   nothing_yet o = record {
     tells = λ f g was now. (zero, omega arith, subst (λ (x : Files). SameLasting f x) (same_Some _ _ (sym was ∙ sym same.told ∙ now)) (lasting-same f));
     said = λ b now. inr (zero, ap (λ (a : SinkView). a.told) same.out ∙ now ∙ ap (λ (l : List ℕ). Some l) (sym (append-nil b)));

@@ -2,12 +2,12 @@
 use Rattle.std.specs.Prelude.{◌≡◌, ◌≢◌, ◌⊎◌, ℕ, ◌+◌, ◌≤◌, List, [], length, take, Bool, true, false, Some, Result, Ok, Err}
 use Rattle.line_list.specs.declared.Span.{Span}
 use Rattle.outside.specs.Faults.{HasRisen}
-use Rattle.outside.specs.Files.{Files, SameLasting, is_temp}
+use Rattle.outside.specs.Files.{Files, SameLasting}
 use Rattle.outside.specs.TreeView.{TreeView, Passes, MayLeave, LeftSince}
 use Rattle.outside.specs.FinderView.{FinderPasses}
 use Rattle.outside.specs.SinkView.{SinkView, SinkPasses, Receives, ReceivesPart}
 use Rattle.outside.specs.SourceView.{SourcePasses}
-use Rattle.outside.specs.Quiet.{IsQuiet, Effect, TellsPrefix, after_all}
+use Rattle.outside.specs.Quiet.{IsQuiet, after_all}
 use Rattle.patch_options.specs.declared.options.WordFault.{WordFault}
 use Rattle.tool_words.specs.PlainJobs.{PlainToolJob}
 use Rattle.tool_words.specs.PlainJobs.PlainToolJob.{list_job, filter_job, grep_job, split_job, recount_job, gen_job, flip_job, stack_job}
@@ -17,11 +17,12 @@ use Rattle.patch_filters.specs.Selected.{numbered}
 use Rattle.filter_run.specs.Parting.{ReceivesFirst, part_lines, part_puts}
 use Rattle.filter_run.specs.Splits.{Cut, split_outcome}
 use Rattle.run_answers.specs.declared.why.Why.{Why}
-use Rattle.run_answers.specs.declared.why.Why.TheVariants.{Done, WriteFault, TreeFault, Disagree, Memory}
-use Rattle.run_answers.specs.Answers.{is_fault, is_own}
-use Rattle.run_answers.specs.Moments.{Opens, IsAfterPrefix, HoldsOldOrNew}
+use Rattle.run_answers.specs.declared.why.Why.TheVariants.{Done, TreeFault, Memory}
+use Rattle.run_answers.specs.Answers.{is_fault, is_own, is_early}
+use Rattle.run_answers.specs.Moments.{Opens, FirstPart, LeavesAllowed, LeavesOldOrNew}
+use Rattle.run_answers.specs.Outcomes.{Outcome}
 use Rattle.filter_cli.specs.Jobs.{AsksFor, Puts, ReadsSource}
-use Rattle.filter_cli.specs.Command.{Outcome, IsOutcome, command}
+use Rattle.filter_cli.specs.Command.{IsOutcome, command}
 use Rattle.filter_cli.specs.Worlds.{World, Tells}
 use Rattle.filter_cli.specs.Causes.{HasCause}
 
@@ -31,30 +32,16 @@ pub record IsAnswer (why : Why) (f : Files) (u w : World) (o : Outcome) : Type 0
   pub text : Receives u.out w.out o.text
   pub files : u.tree.told ≡ Some f → w.tree.told ≡ Some (after_all o.effects f)
 
--- a first part of the effects and of the text
-pub record FirstPart (u w : World) (o : Outcome) : Type 0 where
-  pub tells : TellsPrefix u.tree w.tree o.effects
-  pub said : ReceivesPart u.out w.out o.text
-
 -- a first part after a fault or where memory ran out, else all
 abbrev pub Answers : Bool → Why → Files → World → World → Outcome → Type 0
 Answers true why f u w o = IsAnswer why f u w o
-Answers false why f u w o = FirstPart u w o
+Answers false why f u w o = FirstPart u.tree w.tree u.out w.out o.effects o.text
 
 -- the tree is told as at entry, nothing was written, and a crash leaves what one could have left at entry
 pub record IsAsAtEntry (u w : World) : Type 0 where
   pub told : w.tree.told ≡ u.tree.told
   pub out : w.out ≡ u.out
   pub images : (c : Files) → LeftSince w.tree u.tree.moment c → MayLeave u.tree c
-
--- a refusal, or a fault of standard input: it comes before anything is written
-abbrev pub is_early : Why → Bool
-is_early Done = false
-is_early WriteFault = false
-is_early TreeFault = false
-is_early (Disagree want got) = false
-is_early Memory = false
-is_early why = true
 
 -- the first k of these parts are put, and no name is written but theirs; of these the last alone may be left out or cut off
 pub record IsCutAt (why : Why) (file text : List ℕ) (rows : List (ℕ × Span)) (f : Files) (w : TreeView) (c d : SinkView) (k : ℕ) : Type 0 where
@@ -77,14 +64,6 @@ BreaksOff (Ok (gen_job j)) why f u w = Unit {0}
 BreaksOff (Ok (flip_job input)) why f u w = Unit {0}
 BreaksOff (Ok (stack_job op)) why f u w = Unit {0}
 BreaksOff (Err fault) why f u w = Unit {0}
-
--- each crash since the call began leaves what one could have left at entry, or the files at entry after a first part of the effects
-abbrev pub LeavesAllowed : World → World → Files → List Effect → Type 0
-LeavesAllowed u w f es = (c : Files) → LeftSince w.tree u.tree.moment c → MayLeave u.tree c ⊎ IsAfterPrefix es f c
-
--- each crash since the call began leaves what one could have left at entry, or at each name that isn't temporary its old or its new bytes
-abbrev pub LeavesOldOrNew : World → World → Files → List Effect → Type 0
-LeavesOldOrNew u w f es = (c : Files) → LeftSince w.tree u.tree.moment c → MayLeave u.tree c ⊎ ((q : List ℕ) → is_temp q ≡ false → HoldsOldOrNew es f c q)
 
 -- no count of faults rose, nor stands at its greatest value
 pub record NoneFailed (u w : World) : Type 0 where
@@ -114,9 +93,9 @@ pub record Carries (job : Result PlainToolJob WordFault) (u w : World) (why : Wh
   -- one that never ends is left behind the longest text and one byte
   pub taken : TakesAtMost 268435457 u.source w.source
   pub answers : (f : Files) (left : List ℕ) → Tells job u f left → ByOutcome job u f left (Answers (is_own why) why f u w)
-  pub images : (f : Files) (left : List ℕ) → Tells job u f left → LeavesAllowed u w f (command u.finder.hit job f left).effects
+  pub images : (f : Files) (left : List ℕ) → Tells job u f left → LeavesAllowed u.tree w.tree f (command u.finder.hit job f left).effects
   -- wherever the run is stopped, each file holds its old bytes or its completed new ones
-  pub names : (f : Files) (left : List ℕ) → Tells job u f left → LeavesOldOrNew u w f (command u.finder.hit job f left).effects
+  pub names : (f : Files) (left : List ℕ) → Tells job u f left → LeavesOldOrNew u.tree w.tree f (command u.finder.hit job f left).effects
   pub cut : is_own why ≡ false → (f : Files) (left : List ℕ) → Tells job u f left → BreaksOff job why f u w
   -- unless a device failed, no temporary is left that the run started
   pub tidy : is_fault why ≡ false → IsTidy u.tree w.tree

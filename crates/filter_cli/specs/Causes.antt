@@ -9,7 +9,7 @@ use Rattle.patch_set.specs.declared.fault.SetFault.TheVariants as set
 use Rattle.filter_run.specs.declared.fault.FilterFault.TheVariants as faults
 use Rattle.tool_words.specs.PlainJobs.{PlainToolJob}
 use Rattle.run_answers.specs.declared.why.Why.{Why}
-use Rattle.run_answers.specs.declared.why.Why.TheVariants.{Done, Rejected, Usage, Malformed, Garbage, EdReverse, OutMany, Reserved, NoPatchFile, TooLong, LongLine, FileTooLong, BadPattern, NoContext, Unfit, BadState, StackEnd, StackName, ReadFault, WriteFault, TreeFault, ScratchFault, Disagree, Memory, Unsupported}
+use Rattle.run_answers.specs.declared.why.Why.TheVariants.{Done, Rejected, Usage, Malformed, Garbage, EdReverse, OutMany, Reserved, NoPatchFile, TooLong, LongLine, FileTooLong, BadPattern, NoContext, Unfit, BadState, StackEnd, StackName, ReadFault, WriteFault, TreeFault, ScratchFault, Disagree, Memory}
 use Rattle.format_convert.specs.declared.fault.ConvertFault.TheVariants as convert
 use Rattle.filter_cli.specs.Jobs.{AsksFor, ReadsSource, NamesFile, MayFault, MayBeRefused, MayMisfit}
 use Rattle.filter_cli.specs.Worlds.{World}
@@ -17,7 +17,6 @@ use Rattle.filter_cli.specs.Worlds.{World}
 abbrev pub HasCause : Why → Result PlainToolJob WordFault → World → World → Type 0
 HasCause Done job u w = AsksFor job (λ j. Unit {0})
 HasCause Usage job u w = job ≡ Err words.Usage
-HasCause Unsupported job u w = job ≡ Err words.Unsupported
 HasCause NoPatchFile job u w = AsksFor job NamesFile
 HasCause TooLong job u w = AsksFor job (λ j. Unit {0})
 HasCause (Malformed line kind) job u w = AsksFor job (λ j. MayFault j (faults.Set (set.Malformed line kind)))

@@ -3,7 +3,6 @@ use Rattle.std.specs.Prelude.{◌≡◌, ◌⊎◌, ℕ, List, [], Bool, Option,
 use Rattle.hunk_core.specs.declared.Form.{Form}
 use Rattle.outside.specs.Files.{Files}
 use Rattle.outside.specs.FinderView.{FinderView}
-use Rattle.outside.specs.Quiet.{Effect}
 use Rattle.patch_options.specs.declared.options.WordFault.{WordFault}
 use Rattle.tool_words.specs.PlainJobs.{PlainFilterJob, PlainToolJob}
 use Rattle.tool_words.specs.PlainJobs.PlainToolJob.{list_job, filter_job, grep_job, split_job, recount_job, gen_job, flip_job, stack_job}
@@ -18,19 +17,10 @@ use Rattle.filter_run.specs.Flips.{flip_outcome}
 use Rattle.filter_run.specs.Parting.{part_lines, part_puts}
 use Rattle.filter_run.specs.Splits.{Cut, split_outcome}
 use Rattle.run_answers.specs.declared.why.Why.{Why}
-use Rattle.run_answers.specs.declared.why.Why.TheVariants.{Done, BadPattern, NoContext, Unfit, WriteFault, TreeFault, Memory, Unsupported}
+use Rattle.run_answers.specs.declared.why.Why.TheVariants.{Done, Usage, BadPattern, NoContext, Unfit, WriteFault, TreeFault, Memory}
 use Rattle.run_answers.specs.Answers.{of_words, of_input, of_set}
+use Rattle.run_answers.specs.Outcomes.{Outcome, refused}
 use Rattle.filter_cli.specs.Jobs.{AsksFor, MayBeRefused}
-
-pub record Outcome : Type 0 where
-  pub why : Why
-  -- what goes to standard output
-  pub text : List ℕ
-  pub effects : List Effect
-
--- a refusal says nothing and changes nothing
-abbrev pub refused : Why → Outcome
-refused why = record { why = why; text = []; effects = [] }
 
 -- the answer that a filter's fault is
 abbrev pub of_filter : FilterFault → Why
@@ -83,9 +73,9 @@ on_job hit (filter_job j) files left = in_form j.format j files left
 on_job hit (grep_job j) files left = written (grep_outcome hit j files left)
 on_job hit (split_job j) files left = parted j.input (split_outcome j files)
 on_job hit (recount_job input) files left = written (recount_outcome input files left)
-on_job hit (gen_job j) files left = refused Unsupported
+on_job hit (gen_job j) files left = refused Usage
 on_job hit (flip_job input) files left = written (flip_outcome input files left)
-on_job hit (stack_job op) files left = refused Unsupported
+on_job hit (stack_job op) files left = refused Usage
 
 -- what the words come to that ask for this
 abbrev pub command : (List ℕ → List ℕ → Bool) → Result PlainToolJob WordFault → Files → List ℕ → Outcome

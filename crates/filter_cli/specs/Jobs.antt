@@ -1,9 +1,9 @@
--- What the words of a filter ask for, as far as it is built, and what a job reads.
+-- What the words of a filter ask for, and what a job reads.
 use Rattle.std.specs.Prelude.{◌≡◌, ℕ, List, Bool, true, false, if◌then◌else◌, Some, Result, Ok, Err}
 use Rattle.hunk_core.specs.declared.Form.{Form}
 use Rattle.outside.specs.FinderView.{FinderView}
 use Rattle.patch_options.specs.declared.options.WordFault.{WordFault}
-use Rattle.patch_options.specs.declared.options.WordFault.TheVariants.{Unsupported}
+use Rattle.patch_options.specs.declared.options.WordFault.TheVariants.{Usage}
 use Rattle.tool_words.specs.PlainJobs.{PlainToolJob}
 use Rattle.tool_words.specs.PlainJobs.PlainToolJob.{list_job, filter_job, grep_job, split_job, recount_job, gen_job, flip_job, stack_job}
 use Rattle.tool_words.specs.Words.{tool_job}
@@ -16,25 +16,25 @@ use Rattle.filter_run.specs.Sifting.{HasRefusal, HasTextCause, HasCountCause}
 use Rattle.filter_run.specs.Sifting as sifting
 use Rattle.filter_run.specs.Flips.{HasFlipCause}
 
--- the job is built
-abbrev pub is_built : PlainToolJob → Bool
-is_built (list_job j) = true
-is_built (filter_job j) = true
-is_built (grep_job j) = true
-is_built (split_job j) = true
-is_built (recount_job input) = true
-is_built (gen_job j) = false
-is_built (flip_job input) = true
-is_built (stack_job op) = false
+-- the job is a filter's
+abbrev pub is_filter : PlainToolJob → Bool
+is_filter (list_job j) = true
+is_filter (filter_job j) = true
+is_filter (grep_job j) = true
+is_filter (split_job j) = true
+is_filter (recount_job input) = true
+is_filter (gen_job j) = false
+is_filter (flip_job input) = true
+is_filter (stack_job op) = false
 
--- what isn't built isn't supported
-abbrev pub as_built : Result PlainToolJob WordFault → Result PlainToolJob WordFault
-as_built (Ok job) = if is_built job then Ok job else Err Unsupported
-as_built (Err fault) = Err fault
+-- words of other tools are no command here
+abbrev pub filter_of : Result PlainToolJob WordFault → Result PlainToolJob WordFault
+filter_of (Ok job) = if is_filter job then Ok job else Err Usage
+filter_of (Err fault) = Err fault
 
 -- what the words ask for; the first names the tool
 abbrev pub job_of : List (List ℕ) → Result PlainToolJob WordFault
-job_of words = as_built (tool_job words)
+job_of words = filter_of (tool_job words)
 
 -- the words ask for a job of which P holds
 abbrev pub AsksFor : Result PlainToolJob WordFault → (PlainToolJob → Type 0) → Type 0

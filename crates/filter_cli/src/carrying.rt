@@ -5,7 +5,7 @@ ghost use Rattle.outside.specs.Quiet.{IsQuiet};
 ghost use Rattle.patch_options.specs.declared.options.WordFault.{WordFault};
 ghost use Rattle.tool_words.specs.PlainJobs.{plain_tool_job};
 ghost use Rattle.run_answers.specs.Answers.{of_words};
-ghost use Rattle.filter_cli.specs.Jobs.{AsksFor, HasPattern, ReadsSource, is_built, job_of};
+ghost use Rattle.filter_cli.specs.Jobs.{AsksFor, HasPattern, ReadsSource, is_filter, job_of};
 ghost use Rattle.filter_cli.specs.Command.{Searches};
 ghost use Rattle.filter_cli.specs.Worlds.{world, Tells};
 ghost use Rattle.filter_cli.specs.Carries.{Carries};
@@ -17,7 +17,7 @@ use run_answers::{Why, settle};
 use std::alloc::Global;
 use tool_words::ToolJob;
 
-/// Carries out the words of a filter. `words[0]` is a tool beside `patch`; those that are no filters aren't supported yet.
+/// Carries out the words of a filter. `words[0]` is a tool beside `patch`; words of one that is no filter are no command here.
 ///
 /// `carries` says, of what the command does over the tree and the input at entry: which answer comes, with its text and its
 /// files; first parts of the text and of the effects after a fault; that a refusal left tree and standard output as they were;
@@ -55,7 +55,7 @@ fn run_job<T: Tree, F: Finder, I: Source, O: Sink>(
     source: &mut I,
     out: &mut O,
 ) -> Why
-    requires built { is_built (plain_tool_job job) ≡ true }
+    requires filter { is_filter (plain_tool_job job) ≡ true }
     ensures carries { Carries (Ok (plain_tool_job job)) (world (T.view tree.old) (F.view finder.old) (I.view source.old) (O.view out.old)) (world (T.view tree.new) (F.view finder.new) (I.view source.new) (O.view out.new)) result }
     ensures unread { (ReadsSource (Ok (plain_tool_job job)) → ⊥) → source.new ≡ source.old }
     ensures unasked { (f : Files) (left : List ℕ) → Tells (Ok (plain_tool_job job)) (world (T.view tree.old) (F.view finder.old) (I.view source.old) (O.view out.old)) f left → (AsksFor (Ok (plain_tool_job job)) (λ j. Searches j f left) → ⊥) → finder.new ≡ finder.old }
@@ -77,7 +77,7 @@ fn run_settled<T: Tree, F: Finder, I: Source, O: Sink>(
     source: &mut I,
     out: &mut O,
 ) -> Why
-    requires built { is_built (plain_tool_job job) ≡ true }
+    requires filter { is_filter (plain_tool_job job) ≡ true }
     requires quiet { IsQuiet (T.view tree.old) }
     ensures carries { Carries (Ok (plain_tool_job job)) (world (T.view tree.old) (F.view finder.old) (I.view source.old) (O.view out.old)) (world (T.view tree.new) (F.view finder.new) (I.view source.new) (O.view out.new)) result }
     ensures unread { (ReadsSource (Ok (plain_tool_job job)) → ⊥) → source.new ≡ source.old }
@@ -92,6 +92,6 @@ fn run_settled<T: Tree, F: Finder, I: Source, O: Sink>(
         ToolJob::Split(job) => splitdiff(alloc, &job, tree, out),
         ToolJob::Recount(input) => recountdiff(alloc, &input, tree, source, out),
         ToolJob::Flip(input) => reversediff(alloc, &input, tree, source, out),
-        _ => Why::Unsupported,
+        _ => Why::Usage,
     }
 }

@@ -1,5 +1,5 @@
 -- A run that goes on from a settled tree, as one from before it was settled.
-use Rattle.std.proofs.Common.{inl, inr, ⊎_elim, Bool, true, false, Option, Result, ◌∙◌, arith}
+use Rattle.std.proofs.Common.{inl, inr, ⊎_elim, Bool, true, false, Option, Result, Ok, Err, ◌∙◌, arith}
 use Rattle.outside.specs.Files.{Files}
 use Rattle.outside.specs.TreeView.{TreeView, passes_both}
 use Rattle.outside.specs.SinkView.{SinkView}
@@ -9,15 +9,16 @@ use Rattle.patch_options.specs.declared.options.WordFault.{WordFault}
 use Rattle.tool_words.specs.PlainJobs.{PlainGenJob}
 use Rattle.patch_run.specs.Applied.{Receipt}
 use Rattle.run_answers.specs.declared.why.Why.{Why}
-use Rattle.run_answers.specs.declared.why.Why.TheVariants.{Done, Rejected, Usage, Malformed, Garbage, EdReverse, OutMany, Reserved, NoPatchFile, TooLong, LongLine, FileTooLong, BadPattern, NoContext, Unfit, BadState, StackEnd, StackName, ReadFault, WriteFault, TreeFault, ScratchFault, Disagree, Memory, Unsupported}
+use Rattle.run_answers.specs.declared.why.Why.TheVariants.{Done, Rejected, Usage, Malformed, Garbage, EdReverse, OutMany, Reserved, NoPatchFile, TooLong, LongLine, FileTooLong, BadPattern, NoContext, Unfit, BadState, StackEnd, StackName, ReadFault, WriteFault, TreeFault, ScratchFault, Disagree, Memory}
 use Rattle.run_answers.specs.Answers.{is_own}
-use Rattle.run_answers.specs.Moments.{Opens}
+use Rattle.run_answers.specs.Moments.{Opens, IsAsAtEntry}
+use Rattle.run_answers.specs.Worlds.{World, world}
 use Rattle.run_answers.proofs.Opens.{opens_both, tidy_behind}
 use Rattle.patch_cli.specs.Command.{Outcome}
 use Rattle.gen_cli.specs.Command.{command}
-use Rattle.gen_cli.specs.Worlds.{World, world, Tells}
+use Rattle.gen_cli.specs.Worlds.{Tells}
 use Rattle.gen_cli.specs.Causes.{HasCause}
-use Rattle.gen_cli.specs.Carries.{Answers, IsAsAtEntry, Carries}
+use Rattle.gen_cli.specs.Carries.{Answers, BreaksOff, Carries, IsCutPutting}
 use Rattle.gen_cli.proofs.Whole.{carries_does}
 
 module _ (job : Result PlainGenJob WordFault) (t v : TreeView) (a : ScratchView) (c : SinkView) (opens : Opens t v) where
@@ -50,18 +51,32 @@ module _ (job : Result PlainGenJob WordFault) (t v : TreeView) (a : ScratchView)
     cause_behind ScratchFault cause = cause
     cause_behind (Disagree want got) cause = (cause.0, λ f told. cause.1 f (tells_behind f told))
     cause_behind Memory cause = cause
-    cause_behind Unsupported cause = cause
 
     answers_behind : (b : Bool) (why : Why) (given : Option Receipt) (f : Files) (o : Outcome) → Answers b why given f (world v a c) w o → Answers b why given f (world t a c) w o
     answers_behind true why given f o answer = record { is = answer.is; text = answer.text; files = answer.files; made = answer.made; applied = answer.applied }
     answers_behind false why given f o part = record { tells = λ f g was now. part.tells f g (opens.told ∙ was) now; said = part.said }
 
     module _ (why : Why) (given : Option Receipt) (done : Carries job (world v a c) w why given) where
-      opens_more : IsAsAtEntry (world v a c) w → Opens v w.tree
+      opens_more : IsAsAtEntry v w.tree a w.scratch c w.out → Opens v w.tree
       opens_more same = record { passes = done.tree; told = same.told; images = same.images }
 
-      same_behind : IsAsAtEntry (world v a c) w → IsAsAtEntry (world t a c) w
+      same_behind : IsAsAtEntry v w.tree a w.scratch c w.out → IsAsAtEntry t w.tree a w.scratch c w.out
       same_behind same = let both = opens_both opens (opens_more same) in record { told = both.told; scratch = same.scratch; out = same.out; images = both.images }
+
+      breaks_behind : (x : Result PlainGenJob WordFault) (f : Files) → BreaksOff why x (world v a c) w f → BreaksOff why x (world t a c) w f
+      breaks_behind (Ok j) f cut = ⊎_elim
+          (λ same. inl (same_behind same))
+          (λ later. inr (⊎_elim
+          (λ (putting : IsCutPutting why j v w.tree a w.scratch c w.out). inl (record {
+            is = putting.is;
+            tells = λ x g was now. putting.tells x g (opens.told ∙ was) now;
+            scratch = putting.scratch;
+            out = putting.out;
+          }))
+          (λ more. inr more)
+          later))
+          cut
+      breaks_behind (Err fault) f cut = ⊎_elim (λ same. inl (same_behind same)) (λ never. absurd never) cut
 
       pub carries_behind : Carries job (world t a c) w why given
       carries_behind = carries_does why given (record {
@@ -80,6 +95,7 @@ module _ (job : Result PlainGenJob WordFault) (t v : TreeView) (a : ScratchView)
             (λ part. inr part)
             (done.images f (tells_behind f told) d later))
             (since_split done.tree t.moment d opens.passes.later since);
+        cut = λ own f told. breaks_behind job f (done.cut own f (tells_behind f told));
         tidy = λ none. tidy_behind t v w.tree opens.told (done.tidy none);
         pages = λ is f before told was. done.pages is f before (tells_behind f told) was;
       })

@@ -13,15 +13,15 @@ use Rattle.patch_run.specs.Applied.{Receipt}
 use Rattle.tool_words.specs.PlainJobs.{PlainGenJob}
 use Rattle.run_answers.specs.declared.why.Why.{Why}
 use Rattle.run_answers.specs.declared.why.Why.TheVariants as whys
-use Rattle.run_answers.specs.Answers.{of_set, of_words}
+use Rattle.run_answers.specs.Answers.{of_set, of_words, is_through}
 use Rattle.run_answers.specs.Moments.{Opens}
+use Rattle.run_answers.specs.Worlds.{World, world}
 use Rattle.run_answers.proofs.Opens.{opens_none}
 use Rattle.patch_cli.specs.Carries.{HasReceipt}
 use Rattle.gen_cli.specs.Jobs.{options_for}
 use Rattle.gen_cli.specs.Command.{command, patch_text, on_refusal}
-use Rattle.gen_cli.specs.Worlds.{World, world}
 use Rattle.gen_cli.specs.Causes.{HasCause}
-use Rattle.gen_cli.specs.Carries.{is_through, Carries}
+use Rattle.gen_cli.specs.Carries.{Carries}
 use Rattle.gen_cli.proofs.Whole.{carries_early, carries_is}
 
 -- the words give no job, or memory ran out
@@ -35,17 +35,14 @@ IsUnmade j why = (why ≡ whys.Memory) ⊎ ((fault : SetFault) × (why ≡ of_se
 module _ (job : Result PlainGenJob WordFault) (t : TreeView) (a : ScratchView) (c : SinkView) where
   words-cause : (fault : WordFault) → job ≡ Err fault → HasCause (of_words fault) job (world t a c) (world t a c)
   words-cause words.Usage is = is
-  words-cause words.Unsupported is = is
   words-cause words.Memory is = tt
 
   words-receipt : (fault : WordFault) → HasReceipt (of_words fault) None
   words-receipt words.Usage = refl
-  words-receipt words.Unsupported = refl
   words-receipt words.Memory = refl
 
   words-going : (fault : WordFault) → is_through (of_words fault) ≡ false
   words-going words.Usage = refl
-  words-going words.Unsupported = refl
   words-going words.Memory = refl
 
   starved : Carries job (world t a c) (world t a c) whys.Memory None

@@ -1,5 +1,5 @@
 -- A run over the made patch, with its summary.
-use Rattle.std.proofs.Common.{◌≡◌, ◌⊎◌, ⊎_elim, ℕ, List, [], ◌++◌, Bool, true, false, if◌then◌else◌, None, Some, Result, Ok, Err, IfOk, refl, sym, ◌∙◌, ap, subst, arith}
+use Rattle.std.proofs.Common.{◌≡◌, ◌⊎◌, inl, inr, ⊎_elim, ℕ, zero, List, take, [], ◌++◌, Bool, true, false, if◌then◌else◌, None, Some, Result, Ok, Err, IfOk, refl, sym, ◌∙◌, ap, subst, arith}
 use Rattle.std.proofs.lemmas.Bool.{false≢true}
 use Rattle.std.proofs.lemmas.List.{append-nil}
 use Rattle.std.proofs.lemmas.Option.{same_Some}
@@ -25,11 +25,11 @@ use Rattle.patch_effects.proofs.Tidy.{tidy_both, untouched_tidy}
 use Rattle.patch_set.specs.SetView.{SetView}
 use Rattle.patch_run.specs.Applied.{Receipt}
 use Rattle.patch_run.specs.Run.{Run}
-use Rattle.patch_run.specs.Doing.{IsPartOf, IsHalted, IsCutOff, QuietAfter}
+use Rattle.patch_run.specs.Doing.{IsPartOf, IsHalted, IsCutOff, QuietAfter, ReceivesBehind}
 use Rattle.tool_words.specs.PlainJobs.{PlainGenJob}
 use Rattle.run_answers.specs.declared.why.Why.{Why}
-use Rattle.run_answers.specs.declared.why.Why.TheVariants.{Done, Rejected, LongLine, FileTooLong}
-use Rattle.run_answers.specs.Answers.{is_fault, is_own, of_run}
+use Rattle.run_answers.specs.declared.why.Why.TheVariants.{Done, Rejected, LongLine, FileTooLong, WriteFault, TreeFault}
+use Rattle.run_answers.specs.Answers.{is_fault, is_own, of_run, is_through}
 use Rattle.patch_cli.specs.Command.{end_of, receipt_if}
 use Rattle.patch_cli.specs.Carries.{HasReceipt}
 use Rattle.patch_cli.specs.Finishes.{IsToldTo, HasPlanCause, LeavesVerdicts, Finishes, verdicts_of}
@@ -37,7 +37,7 @@ use Rattle.patch_cli.specs.Finishes as finishes
 use Rattle.gen_cli.specs.Jobs.{options_for}
 use Rattle.gen_cli.specs.Summary.{summary_of}
 use Rattle.gen_cli.specs.Command.{summary, summary_if}
-use Rattle.gen_cli.specs.Carries.{is_through}
+use Rattle.gen_cli.specs.Carries.{IsCutTelling}
 use Rattle.gen_cli.specs.Telling.{IsUnmeasured, IsUnwritten, TellsOf}
 use Rattle.gen_cli.specs.Ending.{run_in, ending_in, HasEndCause, IsRunAnswer, IsRunPart, RunAnswers, Ends}
 
@@ -118,6 +118,7 @@ module _ (j : PlainGenJob) (v : SetView) (t w : TreeView) (a b : ScratchView) (c
     receipt = cut_receipt e;
     answers = λ f told. cut_answers f e (does.cut f told);
     moments = does.moments;
+    cut = λ own f told. ⊎_elim (λ none. inl none) (λ at. inr (inl (e, refl, at))) (does.cut_at f told);
     tidy = cut_tidy e does.tidy;
     pages = tt;
   }
@@ -178,6 +179,18 @@ module _ (j : PlainGenJob) (v : SetView) (t u w : TreeView) (a b : ScratchView) 
     unwritten part = part_after c m d done.said (summary_if done.stop (summary j done)) (does.whole f told).said
         (subst (λ (l : List ℕ). ReceivesPart m d l) line_is (part done.files (does.whole f told).now))
 
+    -- what is in the output of it, in front of a first part of the summary
+    said_still : d ≡ m → ReceivesBehind c d done.said (summary j done)
+    said_still still = λ b now. inr (zero, ap (λ (x : SinkView). x.told) still ∙ (does.whole f told).said b now ∙ ap (λ (l : List ℕ). Some l) (sym (append-nil (b ++ done.said))))
+
+    said_part : ((g : Files) → u.told ≡ Some g → ReceivesPart m d (line g)) → ReceivesBehind c d done.said (summary j done)
+    said_part part = λ b now.
+        subst (λ (l : List ℕ). (d.told ≡ None) ⊎ ((n : ℕ) × (d.told ≡ Some ((b ++ done.said) ++ take n l)))) (line_is ∙ ap (λ s. summary_if s (summary j done)) (does.going f told))
+        (part done.files (does.whole f told).now (b ++ done.said) ((does.whole f told).said b now))
+
+    telling : (why : Why) → (why ≡ TreeFault) ⊎ (why ≡ WriteFault) → IsUntouched u w → ReceivesBehind c d done.said (summary j done) → IsCutTelling why j done w c d
+    telling why is same said = record { is = is; going = does.going f told; files = same.told ∙ (does.whole f told).now; said = said }
+
     whole : (r : Receipt) → r ≡ receipt → IsUntouched u w → ((g : Files) → u.told ≡ Some g → Receives m d (line g)) → IsRunAnswer (Ok r) t w c d done (ending_in j v f)
     whole r same stays written = record {
       is = ap (λ (x : Receipt). if x.is_bad then Rejected else Done) (same ∙ does.receipt f told) ∙ sym (ap (λ s. end_of s done.is_bad) (does.going f told));
@@ -201,6 +214,7 @@ module _ (j : PlainGenJob) (v : SetView) (t u w : TreeView) (a b : ScratchView) 
         receipt = refl;
         answers = λ f told. first_part f told tells.tree (unmeasured f told un.out);
         moments = λ f told. (made_all f told tells.tree).since;
+        cut = λ own f told. inr (inr (telling f told TreeFault (inl refl) tells.tree (said_still f told un.out)));
         tidy = λ is. absurd (false≢true (sym is));
         pages = tt;
       }))
@@ -213,6 +227,7 @@ module _ (j : PlainGenJob) (v : SetView) (t u w : TreeView) (a b : ScratchView) 
         receipt = refl;
         answers = λ f told. first_part f told tells.tree (unwritten f told un.part);
         moments = λ f told. (made_all f told tells.tree).since;
+        cut = λ own f told. inr (inr (telling f told WriteFault (inr refl) tells.tree (said_part f told un.part)));
         tidy = λ is. absurd (false≢true (sym is));
         pages = tt;
       }))
@@ -228,6 +243,7 @@ module _ (j : PlainGenJob) (v : SetView) (t u w : TreeView) (a b : ScratchView) 
     receipt = end_receipt r.is_bad r refl;
     answers = λ f told. subst (λ own. RunAnswers own (Ok r) t w c d (run_in j v f) (ending_in j v f)) (sym (end_own r.is_bad)) (whole f told r tells.same tells.tree tells.written);
     moments = λ f told. (made_all f told tells.tree).since;
+    cut = λ own. absurd (false≢true (sym own ∙ end_own r.is_bad));
     tidy = λ is. tidy_both t u w does.tree does.tidy (untouched_tidy tells.tree);
     pages = λ f before told was. does.holds f before told was;
   }

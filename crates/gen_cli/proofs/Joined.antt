@@ -1,5 +1,5 @@
 -- The files that are put, and the run over them, as one run.
-use Rattle.std.proofs.Common.{◌≡◌, inr, ℕ, zero, List, ◌++◌, length, Bool, true, false, Option, None, Some, Result, Ok, Err, refl, sym, ◌∙◌, ap, subst}
+use Rattle.std.proofs.Common.{◌≡◌, ◌⊎◌, inl, inr, ⊎_elim, ℕ, zero, List, ◌++◌, length, Bool, true, false, Option, None, Some, Result, Ok, Err, refl, sym, ◌∙◌, ap, subst}
 use Rattle.std.proofs.lemmas.Bool.{false≢true}
 use Rattle.std.proofs.lemmas.List.{append-nil, length-map}
 use Rattle.hunk_core.specs.Reading.{Fault}
@@ -15,27 +15,32 @@ use Rattle.patch_effects.proofs.EffectLists.{leaves_after, made_both, tells_afte
 use Rattle.patch_effects.proofs.Tidy.{tidy_both}
 use Rattle.patch_text.specs.Patches.{patches_of}
 use Rattle.patch_set.specs.Asked.{ways_of}
+use Rattle.patch_set.specs.Named.{known_names, output_of}
 use Rattle.patch_set.specs.SetView.{SetView, plain_patches}
 use Rattle.patch_set.specs.declared.fault.SetFault.{SetFault}
+use Rattle.patch_effects.specs.declared.fault.RunFault.{RunFault}
 use Rattle.patch_run.specs.Applied.{Receipt}
-use Rattle.patch_run.specs.Run.{Run}
+use Rattle.patch_run.specs.Run.{Run, items_of}
+use Rattle.patch_run.specs.Doing.{IsCutAt}
 use Rattle.tool_words.specs.PlainJobs.{PlainGenJob}
 use Rattle.run_answers.specs.declared.why.Why.{Why}
-use Rattle.run_answers.specs.declared.why.Why.TheVariants.{Done, Rejected, Usage, Malformed, Garbage, EdReverse, OutMany, Reserved, NoPatchFile, TooLong, LongLine, FileTooLong, BadPattern, NoContext, Unfit, BadState, StackEnd, StackName, ReadFault, WriteFault, TreeFault, ScratchFault, Disagree, Memory, Unsupported}
-use Rattle.run_answers.specs.Answers.{is_ended, is_own}
+use Rattle.run_answers.specs.declared.why.Why.TheVariants.{Done, Rejected, Usage, Malformed, Garbage, EdReverse, OutMany, Reserved, NoPatchFile, TooLong, LongLine, FileTooLong, BadPattern, NoContext, Unfit, BadState, StackEnd, StackName, ReadFault, WriteFault, TreeFault, ScratchFault, Disagree, Memory}
+use Rattle.run_answers.specs.Answers.{is_ended, is_own, is_early, of_run}
+use Rattle.run_answers.specs.Moments.{FirstPart, LeavesAllowed}
+use Rattle.run_answers.specs.Worlds.{world}
 use Rattle.patch_cli.specs.Scratches.{scratch_behind_all}
-use Rattle.patch_cli.specs.Command.{Outcome, run_for}
+use Rattle.patch_cli.specs.Command.{Outcome, items_for, run_for}
 use Rattle.patch_cli.specs.Carries.{HasReceipt, why_of, receipt_of}
-use Rattle.patch_cli.specs.Finishes.{IsToldTo}
-use Rattle.patch_cli.proofs.Asked.{run-match}
+use Rattle.patch_cli.specs.Finishes.{IsNotBegun, IsToldTo}
+use Rattle.patch_cli.proofs.Asked.{cut-match, run-match}
 use Rattle.gen_cli.specs.Jobs.{options_for}
-use Rattle.gen_cli.specs.Command.{command, file_puts, patch_text, on_patches, on_refusal, told_of}
-use Rattle.gen_cli.specs.Worlds.{world, Tells}
+use Rattle.gen_cli.specs.Command.{command, file_puts, patch_text, on_patches, on_refusal, run_over, told_of}
+use Rattle.gen_cli.specs.Worlds.{Tells}
 use Rattle.gen_cli.specs.Causes.{HasCause}
 use Rattle.gen_cli.specs.Putting.{PutsAll}
 use Rattle.gen_cli.specs.Preparing.{IsMadeSet}
-use Rattle.gen_cli.specs.Carries.{FirstPart, Answers, is_early, LeavesAllowed, Carries}
-use Rattle.gen_cli.specs.Ending.{run_in, ending_in, HasEndCause, RunAnswers, Ends}
+use Rattle.gen_cli.specs.Carries.{Answers, Carries, IsCutBefore, IsCutBehind, IsCutRun, IsCutTelling, Reads}
+use Rattle.gen_cli.specs.Ending.{run_in, ending_in, EndsCut, HasEndCause, RunAnswers, Ends}
 use Rattle.gen_cli.proofs.PutSteps.{put_made}
 use Rattle.gen_cli.proofs.Whole.{KeepsPages, carries_does}
 
@@ -64,7 +69,6 @@ ended_receipt TreeFault given is = false≢true is
 ended_receipt ScratchFault given is = false≢true is
 ended_receipt (Disagree want got) given is = false≢true is
 ended_receipt Memory given is = false≢true is
-ended_receipt Unsupported given is = false≢true is
 
 -- the run ends with no refusal
 not_early : (why : Why) (j : PlainGenJob) (t w : TreeView) (a b : ScratchView) (c d : SinkView) → HasEndCause why j t w a b c d → is_early why ≡ true → ⊥
@@ -92,7 +96,6 @@ not_early TreeFault j t w a b c d cause is = false≢true is
 not_early ScratchFault j t w a b c d cause is = false≢true is
 not_early (Disagree want got) j t w a b c d cause is = false≢true is
 not_early Memory j t w a b c d cause is = false≢true is
-not_early Unsupported j t w a b c d cause is = cause
 
 module _ (j : PlainGenJob) (v : SetView) (t : TreeView) (a : ScratchView) (c : SinkView) (set : IsMadeSet j v) where
   abbrev puts : List Effect
@@ -112,6 +115,15 @@ module _ (j : PlainGenJob) (v : SetView) (t : TreeView) (a : ScratchView) (c : S
       ∙ ap (λ (r : Run). told_of j (length (plain_patches v)) r) (run-match (options_for j) (patch_text j) v set.read (behind f))
       ∙ ap (λ (n : ℕ). told_of j n (run_in j v (behind f))) (length-map v.patches (patch_of v.text))
 
+  -- the file patches that are read are those of the set
+  reads_set : Reads j (plain_patches v)
+  reads_set = subst (λ (l : List ℕ). patches_of (ways_of (options_for j)) l ≡ Ok (plain_patches v)) set.read.text set.read.patches
+
+  run_is : (f : Files) → run_over j (plain_patches v) f ≡ run_in j v (behind f)
+  run_is f =
+      ap (λ (l : List ℕ). run_for (options_for j) l (plain_patches v) (behind f)) (sym set.read.text)
+      ∙ run-match (options_for j) (patch_text j) v set.read (behind f)
+
   -- ---- a file couldn't be put
   pub carries_unput : {R E : Type 0} (x : E) (w : TreeView) → PutsAll {R = R} puts t w (Err x) → Carries (Ok j) (world t a c) (world w a c) TreeFault None
   carries_unput x w cut = carries_does TreeFault None (record {
@@ -122,12 +134,13 @@ module _ (j : PlainGenJob) (v : SetView) (t : TreeView) (a : ScratchView) (c : S
     untouched = λ early. absurd (false≢true early);
     quiet = λ is. absurd (false≢true is);
     receipt = refl;
-    answers = λ f told. subst (λ (o : Outcome). FirstPart (world t a c) (world w a c) o) (sym (is_carried f)) (record {
+    answers = λ f told. subst (λ (o : Outcome). FirstPart t w c c o.effects o.text) (sym (is_carried f)) (record {
       tells = tells_longer t w puts (run_in j v (behind f)).effects (puts ++ (run_in j v (behind f)).effects) refl cut.tells;
       said = λ b now. inr (zero, now ∙ ap (λ (l : List ℕ). Some l) (sym (append-nil b)));
     });
-    images = λ f told. subst (λ (o : Outcome). LeavesAllowed (world t a c) (world w a c) f o.effects) (sym (is_carried f))
+    images = λ f told. subst (λ (o : Outcome). LeavesAllowed t w f o.effects) (sym (is_carried f))
         (λ d since. inr (since_longer t w puts (run_in j v (behind f)).effects (puts ++ (run_in j v (behind f)).effects) refl cut.leaves f told.files d since));
+    cut = λ own f told. inr (inl (record { is = refl; tells = cut.tells; scratch = refl; out = refl }));
     tidy = λ is. absurd (false≢true (sym is));
     pages = λ is. absurd (false≢true is);
   })
@@ -165,7 +178,26 @@ module _ (j : PlainGenJob) (v : SetView) (t : TreeView) (a : ScratchView) (c : S
     cause_then ScratchFault cause = cause
     cause_then (Disagree want got) cause = (cause.0, λ f told. cause.1 (behind f) (told_on_to f told))
     cause_then Memory cause = tt
-    cause_then Unsupported cause = absurd cause
+
+    cut_run : (why : Why) (f : Files) (e : RunFault) → why ≡ of_run e → IsCutAt e w c d (options_for j) v.output (items_of v) (behind f) → IsCutRun why j f w c d
+    cut_run why f e is at = record {
+      patches = plain_patches v;
+      read = reads_set;
+      fault = e;
+      is = is;
+      cut = subst (λ (l : List ℕ). IsCutAt e w c d (options_for j) (output_of (options_for j) (known_names (options_for j) (plain_patches v))) (items_for (options_for j) l (plain_patches v)) (behind f)) set.read.text
+          (cut-match (options_for j) (patch_text j) v set.read (behind f) e w c d at);
+    }
+
+    cut_then : (why : Why) (f : Files) → Tells (Ok j) (world t a c) f → EndsCut why j v u w a b c d (behind f)
+        → IsCutBefore j f w a b c d ⊎ (IsCutRun why j f w c d ⊎ IsCutBehind why j f w c d)
+    cut_then why f told cut = ⊎_elim
+        (λ (none : IsNotBegun u w a b c d). inl (record { files = none.tree.told ∙ all.done f told.files; scratch = none.scratch; out = none.out }))
+        (λ later. inr (⊎_elim
+        (λ (e, is, at). inl (cut_run why f e is at))
+        (λ telling. inr (plain_patches v, reads_set, subst (λ (r : Run). IsCutTelling why j r w c d) (sym (run_is f)) telling))
+        later))
+        cut
 
     module _ (result : Result Receipt Why) (ends : Ends j v u w a b c d result) where
       answers_then : (own : Bool) (f : Files) → Tells (Ok j) (world t a c) f → RunAnswers own result u w c d (run_in j v (behind f)) (ending_in j v (behind f))
@@ -194,8 +226,9 @@ module _ (j : PlainGenJob) (v : SetView) (t : TreeView) (a : ScratchView) (c : S
       receipt = ends.receipt;
       answers = λ f told. subst (λ (o : Outcome). Answers (is_own (why_of result)) (why_of result) (receipt_of result) f (world t a c) (world w b d) o) (sym (is_carried f))
           (answers_then result ends (is_own (why_of result)) f told (ends.answers (behind f) (told_on_to f told)));
-      images = λ f told. subst (λ (o : Outcome). LeavesAllowed (world t a c) (world w b d) f o.effects) (sym (is_carried f))
+      images = λ f told. subst (λ (o : Outcome). LeavesAllowed t w f o.effects) (sym (is_carried f))
           (λ x since. inr (leaves_after are_made ends.tree (run_in j v (behind f)).effects (ends.moments (behind f) (told_on_to f told)) f told.files x since));
+      cut = λ own f told. inr (inr (cut_then (why_of result) f told (ends.cut own (behind f) (told_on_to f told))));
       tidy = λ none. tidy_both t u w all.tree all.tidy (ends.tidy none);
       pages = pages_then result ends;
     })

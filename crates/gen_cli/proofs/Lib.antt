@@ -10,3 +10,4 @@ pub mod Finished
 pub mod Joined
 pub mod Silent
 pub mod OneLine
+pub mod SamePlan

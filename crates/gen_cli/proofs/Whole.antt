@@ -13,19 +13,20 @@ use Rattle.tool_words.specs.PlainJobs.{PlainGenJob}
 use Rattle.patch_effects.specs.Making.{IsTidy}
 use Rattle.patch_run.specs.Applied.{Receipt}
 use Rattle.run_answers.specs.declared.why.Why.{Why}
-use Rattle.run_answers.specs.declared.why.Why.TheVariants.{Done, Rejected, Usage, Malformed, Garbage, EdReverse, OutMany, Reserved, NoPatchFile, TooLong, LongLine, FileTooLong, BadPattern, NoContext, Unfit, BadState, StackEnd, StackName, ReadFault, WriteFault, TreeFault, ScratchFault, Disagree, Memory, Unsupported}
-use Rattle.run_answers.specs.Answers.{is_ended, is_fault, is_own}
-use Rattle.run_answers.specs.Moments.{Opens}
+use Rattle.run_answers.specs.declared.why.Why.TheVariants.{Done, Rejected, Usage, Malformed, Garbage, EdReverse, OutMany, Reserved, NoPatchFile, TooLong, LongLine, FileTooLong, BadPattern, NoContext, Unfit, BadState, StackEnd, StackName, ReadFault, WriteFault, TreeFault, ScratchFault, Disagree, Memory}
+use Rattle.run_answers.specs.Answers.{is_ended, is_fault, is_own, is_early, is_through}
+use Rattle.run_answers.specs.Moments.{Opens, FirstPart, IsAsAtEntry, LeavesAllowed}
+use Rattle.run_answers.specs.Worlds.{World, world, NoneFailed}
 use Rattle.run_answers.proofs.Names.{old_or_new}
 use Rattle.run_answers.proofs.Opens.{tidy_same}
 use Rattle.patch_cli.specs.Scratches.{scratch_behind_all}
 use Rattle.patch_cli.specs.Command.{Outcome, refused}
-use Rattle.patch_cli.specs.Carries.{HasReceipt}
+use Rattle.patch_cli.specs.Carries.{HasReceipt, IsAnswer}
 use Rattle.gen_cli.specs.Jobs.{AsksFor, options_for}
 use Rattle.gen_cli.specs.Command.{command}
-use Rattle.gen_cli.specs.Worlds.{World, world, Tells}
+use Rattle.gen_cli.specs.Worlds.{Tells}
 use Rattle.gen_cli.specs.Causes.{HasCause}
-use Rattle.gen_cli.specs.Carries.{IsAnswer, FirstPart, Answers, IsAsAtEntry, is_early, is_through, LeavesAllowed, NoneFailed, Carries}
+use Rattle.gen_cli.specs.Carries.{Answers, BreaksOff, Carries}
 
 -- the scratch behind a run that came to its end
 abbrev pub KeepsPages : Result PlainGenJob WordFault → World → World → Type 0
@@ -37,17 +38,18 @@ pub record Does (job : Result PlainGenJob WordFault) (u w : World) (why : Why) (
   pub scratch : ScratchPasses u.scratch w.scratch
   pub sink : SinkPasses u.out w.out
   pub cause : HasCause why job u w
-  pub untouched : is_early why ≡ true → IsAsAtEntry u w
+  pub untouched : is_early why ≡ true → IsAsAtEntry u.tree w.tree u.scratch w.scratch u.out w.out
   pub quiet : is_through why ≡ true → IsQuiet w.tree
   pub receipt : HasReceipt why given
   pub answers : (f : Files) → Tells job u f → Answers (is_own why) why given f u w (command job f)
-  pub images : (f : Files) → Tells job u f → LeavesAllowed u w f (command job f).effects
+  pub images : (f : Files) → Tells job u f → LeavesAllowed u.tree w.tree f (command job f).effects
+  pub cut : is_own why ≡ false → (f : Files) → Tells job u f → BreaksOff why job u w f
   pub tidy : is_fault why ≡ false → IsTidy u.tree w.tree
   pub pages : is_ended why ≡ true → KeepsPages job u w
 
 -- an answer that isn't the command's own has a device's fault, or is want of memory
 is_complete : {job : Result PlainGenJob WordFault} {u w : World} (why : Why) (given : Option Receipt) → HasCause why job u w → (f : Files) → Tells job u f → NoneFailed u w
-    → Answers (is_own why) why given f u w (command job f) → IsAnswer why given f u w (command job f) ⊎ (why ≡ Memory)
+    → Answers (is_own why) why given f u w (command job f) → IsAnswer why given f w.tree u.out w.out (command job f) ⊎ (why ≡ Memory)
 is_complete Done given cause f told none answer = inl answer
 is_complete Rejected given cause f told none answer = inl answer
 is_complete Usage given cause f told none answer = inl answer
@@ -72,7 +74,6 @@ is_complete TreeFault given cause f told none answer = absurd (none.tree cause)
 is_complete ScratchFault given cause f told none answer = absurd (none.scratch cause)
 is_complete (Disagree want got) given cause f told none answer = absurd (cause.1 f told)
 is_complete Memory given cause f told none answer = inr refl
-is_complete Unsupported given cause f told none answer = inl answer
 
 pub carries_does : {job : Result PlainGenJob WordFault} {u w : World} (why : Why) (given : Option Receipt) → Does job u w why given → Carries job u w why given
 carries_does {job = job} why given d = record {
@@ -86,6 +87,7 @@ carries_does {job = job} why given d = record {
   answers = d.answers;
   images = d.images;
   names = λ f told c since. ⊎_elim (λ entry. inl entry) (λ part. inr (old_or_new (command job f).effects f c part)) (d.images f told c since);
+  cut = d.cut;
   tidy = d.tidy;
   pages = d.pages;
   complete = λ f told none. is_complete why given d.cause f told none (d.answers f told);
@@ -123,20 +125,19 @@ through_ended TreeFault not is = false≢true is
 through_ended ScratchFault not is = false≢true is
 through_ended (Disagree want got) not is = false≢true is
 through_ended Memory not is = false≢true is
-through_ended Unsupported not is = false≢true is
 
 not_through : (why : Why) → is_through why ≡ false → is_through why ≡ true → ⊥
 not_through why not is = false≢true (sym not ∙ is)
 
-module _ (u w : World) (same : IsAsAtEntry u w) where
-  pub nothing_yet : (f : Files) (o : Outcome) → u.tree.told ≡ Some f → FirstPart u w o
+module _ (u w : World) (same : IsAsAtEntry u.tree w.tree u.scratch w.scratch u.out w.out) where
+  pub nothing_yet : (f : Files) (o : Outcome) → u.tree.told ≡ Some f → FirstPart u.tree w.tree u.out w.out o.effects o.text
   nothing_yet f o told = record {
     tells = λ f g was now. (zero, omega arith, subst (λ (x : Files). SameLasting f x) (same_Some _ _ (sym was ∙ sym same.told ∙ now)) (lasting-same f));
     said = λ b now. inr (zero, ap (λ (a : SinkView). a.told) same.out ∙ now ∙ ap (λ (l : List ℕ). Some l) (sym (append-nil b)));
   }
 
   -- a refusal leaves the files, and says nothing
-  refused_so : (why : Why) (f : Files) → u.tree.told ≡ Some f → IsAnswer why None f u w (refused why f)
+  refused_so : (why : Why) (f : Files) → u.tree.told ≡ Some f → IsAnswer why None f w.tree u.out w.out (refused why f)
   refused_so why f told = record {
     is = refl;
     text = λ b now. ap (λ (a : SinkView). a.told) same.out ∙ now ∙ ap (λ (l : List ℕ). Some l) (sym (append-nil b));
@@ -146,7 +147,7 @@ module _ (u w : World) (same : IsAsAtEntry u w) where
   }
 
   answers_early : (b : Bool) (why : Why) (f : Files) (o : Outcome) → u.tree.told ≡ Some f → (b ≡ true → o ≡ refused why f) → Answers b why None f u w o
-  answers_early true why f o told ends = subst (λ (x : Outcome). IsAnswer why None f u w x) (sym (ends refl)) (refused_so why f told)
+  answers_early true why f o told ends = subst (λ (x : Outcome). IsAnswer why None f w.tree u.out w.out x) (sym (ends refl)) (refused_so why f told)
   answers_early false why f o told ends = nothing_yet f o told
 
 pub carries_early : (job : Result PlainGenJob WordFault) (t v : TreeView) (a : ScratchView) (c : SinkView) (why : Why) → Opens t v → HasCause why job (world t a c) (world v a c)
@@ -154,7 +155,7 @@ pub carries_early : (job : Result PlainGenJob WordFault) (t v : TreeView) (a : S
 carries_early job t v a c why opens cause receipt going ends =
     let u = world t a c in
     let w = world v a c in
-    let same : IsAsAtEntry u w = record { told = opens.told; scratch = refl; out = refl; images = opens.images } in
+    let same : IsAsAtEntry t v a a c c = record { told = opens.told; scratch = refl; out = refl; images = opens.images } in
     carries_does why None (record {
       tree = opens.passes;
       scratch = scratch_passes_none a;
@@ -165,6 +166,7 @@ carries_early job t v a c why opens cause receipt going ends =
       receipt = receipt;
       answers = λ f told. answers_early u w same (is_own why) why f (command job f) told.files (λ own. ends own f);
       images = λ f told d since. inl (opens.images d since);
+      cut = λ own f told. inl same;
       tidy = λ none. tidy_same t v opens.told;
       pages = λ is. absurd (through_ended why going is);
     })

@@ -1,86 +1,81 @@
 -- What a run of `patchgen` promises: that it is the command's, and what stands at each moment.
-use Rattle.std.specs.Prelude.{◌≡◌, ◌⊎◌, ℕ, List, Bool, true, false, Option, Some, Result}
-use Rattle.outside.specs.Faults.{HasRisen}
-use Rattle.outside.specs.Files.{Files, SameLasting, is_temp}
-use Rattle.outside.specs.TreeView.{Passes, MayLeave, LeftSince}
-use Rattle.outside.specs.SinkView.{SinkPasses, Receives, ReceivesPart}
-use Rattle.outside.specs.ScratchView.{ScratchPasses}
-use Rattle.outside.specs.Quiet.{IsQuiet, Effect, TellsPrefix, after_all}
+use Rattle.std.specs.Prelude.{◌≡◌, ◌⊎◌, ℕ, List, Bool, true, false, Option, Some, None, Result, Ok}
+use Rattle.line_list.specs.Completed.{completed}
+use Rattle.outside.specs.Files.{Files}
+use Rattle.outside.specs.TreeView.{TreeView, Passes}
+use Rattle.outside.specs.SinkView.{SinkView, SinkPasses}
+use Rattle.outside.specs.ScratchView.{ScratchView, ScratchPasses}
+use Rattle.outside.specs.Quiet.{IsQuiet, TellsPrefix, after_all}
+use Rattle.file_patch.specs.PlainPatch.{PlainPatch}
 use Rattle.patch_options.specs.declared.options.WordFault.{WordFault}
 use Rattle.tool_words.specs.PlainJobs.{PlainGenJob}
+use Rattle.patch_text.specs.Patches.{patches_of}
+use Rattle.patch_set.specs.Asked.{ways_of}
+use Rattle.patch_set.specs.Named.{known_names, output_of}
 use Rattle.patch_effects.specs.Making.{IsTidy}
+use Rattle.patch_effects.specs.declared.fault.RunFault.{RunFault}
 use Rattle.patch_run.specs.Applied.{Receipt}
+use Rattle.patch_run.specs.Run.{Run}
+use Rattle.patch_run.specs.Doing.{IsCutAt, ReceivesBehind}
 use Rattle.run_answers.specs.declared.why.Why.{Why}
-use Rattle.run_answers.specs.declared.why.Why.TheVariants.{Done, Rejected, LongLine, FileTooLong, WriteFault, TreeFault, ScratchFault, Disagree, Memory}
-use Rattle.run_answers.specs.Answers.{is_ended, is_fault, is_own}
-use Rattle.run_answers.specs.Moments.{IsAfterPrefix, HoldsOldOrNew}
+use Rattle.run_answers.specs.declared.why.Why.TheVariants.{WriteFault, TreeFault, Memory}
+use Rattle.run_answers.specs.Answers.{of_run, is_early, is_ended, is_fault, is_own, is_through}
+use Rattle.run_answers.specs.Moments.{FirstPart, IsAsAtEntry, LeavesAllowed, LeavesOldOrNew}
+use Rattle.run_answers.specs.Worlds.{World, NoneFailed}
 use Rattle.patch_cli.specs.Scratches.{scratch_behind_all}
-use Rattle.patch_cli.specs.Command.{Outcome}
-use Rattle.patch_cli.specs.Carries.{HasReceipt}
+use Rattle.patch_cli.specs.Command.{Outcome, items_for}
+use Rattle.patch_cli.specs.Carries.{HasReceipt, IsAnswer}
 use Rattle.gen_cli.specs.Jobs.{AsksFor, options_for}
-use Rattle.gen_cli.specs.Command.{command}
-use Rattle.gen_cli.specs.Worlds.{World, Tells}
+use Rattle.gen_cli.specs.Command.{command, file_puts, patch_text, run_over, summary}
+use Rattle.gen_cli.specs.Worlds.{Tells}
 use Rattle.gen_cli.specs.Causes.{HasCause}
 
--- the answer of an outcome: its text, its files and its receipt
-pub record IsAnswer (why : Why) (given : Option Receipt) (f : Files) (u w : World) (o : Outcome) : Type 0 where
-  pub is : why ≡ o.why
-  pub text : Receives u.out w.out o.text
-  pub files : w.tree.told ≡ Some o.files
-  -- which are the files at entry after the effects, temporary names aside
-  pub made : SameLasting (after_all o.effects f) o.files
-  pub applied : given ≡ o.applied
-
--- a first part of the effects and of the text
-pub record FirstPart (u w : World) (o : Outcome) : Type 0 where
-  pub tells : TellsPrefix u.tree w.tree o.effects
-  pub said : ReceivesPart u.out w.out o.text
-
+-- a first part after a fault or where memory ran out, else all
 abbrev pub Answers : Bool → Why → Option Receipt → Files → World → World → Outcome → Type 0
-Answers true why given f u w o = IsAnswer why given f u w o
-Answers false why given f u w o = FirstPart u w o
+Answers true why given f u w o = IsAnswer why given f w.tree u.out w.out o
+Answers false why given f u w o = FirstPart u.tree w.tree u.out w.out o.effects o.text
 
--- the tree is told as at entry, nothing was written, and a crash leaves what one could have left at entry
-pub record IsAsAtEntry (u w : World) : Type 0 where
-  pub told : w.tree.told ≡ u.tree.told
-  pub scratch : w.scratch ≡ u.scratch
-  pub out : w.out ≡ u.out
-  pub images : (c : Files) → LeftSince w.tree u.tree.moment c → MayLeave u.tree c
+-- a file couldn't be put: a first part of the files was, and nothing was written
+pub record IsCutPutting (why : Why) (j : PlainGenJob) (u w : TreeView) (a b : ScratchView) (c d : SinkView) : Type 0 where
+  pub is : why ≡ TreeFault
+  pub tells : TellsPrefix u w (file_puts j)
+  pub scratch : b ≡ a
+  pub out : d ≡ c
 
--- a refusal: of the words, or of the made patch; it comes before a file is put
-abbrev pub is_early : Why → Bool
-is_early Done = false
-is_early Rejected = false
-is_early (LongLine line length) = false
-is_early (FileTooLong length) = false
-is_early WriteFault = false
-is_early TreeFault = false
-is_early ScratchFault = false
-is_early (Disagree want got) = false
-is_early Memory = false
-is_early why = true
+-- the files were put, and no more was done
+pub record IsCutBefore (j : PlainGenJob) (f : Files) (w : TreeView) (a b : ScratchView) (c d : SinkView) : Type 0 where
+  pub files : w.told ≡ Some (after_all (file_puts j) f)
+  pub scratch : b ≡ a
+  pub out : d ≡ c
 
--- the run over the file patches came to its end, or to a file that isn't taken
-abbrev pub is_through : Why → Bool
-is_through Done = true
-is_through Rejected = true
-is_through (LongLine line length) = true
-is_through (FileTooLong length) = true
-is_through why = false
+-- the patch that is made is read so
+abbrev pub Reads : PlainGenJob → List PlainPatch → Type 0
+Reads j ps = patches_of (ways_of (options_for j)) (completed (patch_text j)) ≡ Ok ps
 
--- each crash since the call began leaves what one could have left at entry, or the files at entry after a first part of the effects
-abbrev pub LeavesAllowed : World → World → Files → List Effect → Type 0
-LeavesAllowed u w f es = (c : Files) → LeftSince w.tree u.tree.moment c → MayLeave u.tree c ⊎ IsAfterPrefix es f c
+-- the files were put, and the run over the file patches was cut off at one of them, those in front of it having come to their ends; of
+-- that one nothing is done before all that it says is in the output
+pub record IsCutRun (why : Why) (j : PlainGenJob) (f : Files) (w : TreeView) (c d : SinkView) : Type 0 where
+  pub patches : List PlainPatch
+  pub read : Reads j patches
+  pub fault : RunFault
+  pub is : why ≡ of_run fault
+  pub cut : IsCutAt fault w c d (options_for j) (output_of (options_for j) (known_names (options_for j) patches)) (items_for (options_for j) (completed (patch_text j)) patches) (after_all (file_puts j) f)
 
--- each crash since the call began leaves what one could have left at entry, or at each name that isn't temporary its old or its new bytes
-abbrev pub LeavesOldOrNew : World → World → Files → List Effect → Type 0
-LeavesOldOrNew u w f es = (c : Files) → LeftSince w.tree u.tree.moment c → MayLeave u.tree c ⊎ ((q : List ℕ) → is_temp q ≡ false → HoldsOldOrNew es f c q)
+-- the run came to its end, and of its summary a first part is written
+pub record IsCutTelling (why : Why) (j : PlainGenJob) (r : Run) (w : TreeView) (c d : SinkView) : Type 0 where
+  pub is : (why ≡ TreeFault) ⊎ (why ≡ WriteFault)
+  pub going : r.stop ≡ None
+  pub files : w.told ≡ Some r.files
+  pub said : ReceivesBehind c d r.said (summary j r)
 
--- no count of faults rose, nor stands at its greatest value
-pub record NoneFailed (u w : World) : Type 0 where
-  pub tree : HasRisen u.tree.faults w.tree.faults → ⊥
-  pub scratch : HasRisen u.scratch.faults w.scratch.faults → ⊥
-  pub out : HasRisen u.out.faults w.out.faults → ⊥
+-- of the run over the file patches that are read
+abbrev pub IsCutBehind : Why → PlainGenJob → Files → TreeView → SinkView → SinkView → Type 0
+IsCutBehind why j f w c d = (ps : List PlainPatch) × Reads j ps × IsCutTelling why j (run_over j ps f) w c d
+
+-- after a fault, or where memory ran out: nothing was begun, or the command was cut off at one of its steps
+abbrev pub BreaksOff : Why → Result PlainGenJob WordFault → World → World → Files → Type 0
+BreaksOff why job u w f = IsAsAtEntry u.tree w.tree u.scratch w.scratch u.out w.out ⊎ AsksFor job (λ j. IsCutPutting why j u.tree w.tree u.scratch w.scratch u.out w.out
+    ⊎ (IsCutBefore j f w.tree u.scratch w.scratch u.out w.out ⊎ (IsCutRun why j f w.tree u.out w.out ⊎ IsCutBehind why j f w.tree u.out w.out)))
 
 -- all that is promised of a run of the words that ask for this, from one state of its devices to another
 pub record Carries (job : Result PlainGenJob WordFault) (u w : World) (why : Why) (given : Option Receipt) : Type 0 where
@@ -88,18 +83,20 @@ pub record Carries (job : Result PlainGenJob WordFault) (u w : World) (why : Why
   pub scratch : ScratchPasses u.scratch w.scratch
   pub sink : SinkPasses u.out w.out
   pub cause : HasCause why job u w
-  pub untouched : is_early why ≡ true → IsAsAtEntry u w
-  -- from then on each crash leaves all effects
+  -- a refusal, of the words or of the made patch, comes before a file is put
+  pub untouched : is_early why ≡ true → IsAsAtEntry u.tree w.tree u.scratch w.scratch u.out w.out
+  -- after an end each crash from then on leaves all effects
   pub quiet : is_through why ≡ true → IsQuiet w.tree
   pub receipt : HasReceipt why given
   pub answers : (f : Files) → Tells job u f → Answers (is_own why) why given f u w (command job f)
-  pub images : (f : Files) → Tells job u f → LeavesAllowed u w f (command job f).effects
+  pub images : (f : Files) → Tells job u f → LeavesAllowed u.tree w.tree f (command job f).effects
   -- wherever the run is stopped, each file holds its old bytes or its completed new ones
-  pub names : (f : Files) → Tells job u f → LeavesOldOrNew u w f (command job f).effects
+  pub names : (f : Files) → Tells job u f → LeavesOldOrNew u.tree w.tree f (command job f).effects
+  pub cut : is_own why ≡ false → (f : Files) → Tells job u f → BreaksOff why job u w f
   -- unless a device failed, no temporary is left that the run started
   pub tidy : is_fault why ≡ false → IsTidy u.tree w.tree
   -- the scratch holds the pages of the last file that was kept there, or what it held
   pub pages : is_ended why ≡ true → (f : Files) (before : List ℕ) → Tells job u f → u.scratch.told ≡ Some before
       → AsksFor job (λ j. w.scratch.told ≡ Some (scratch_behind_all (options_for j) (command job f).taken before))
   -- where all is told and no device failed, only want of memory stands between the command and its answer
-  pub complete : (f : Files) → Tells job u f → NoneFailed u w → IsAnswer why given f u w (command job f) ⊎ (why ≡ Memory)
+  pub complete : (f : Files) → Tells job u f → NoneFailed u w → IsAnswer why given f w.tree u.out w.out (command job f) ⊎ (why ≡ Memory)

@@ -11,10 +11,11 @@ use Rattle.patch_set.specs.declared.fault.SetFault.TheVariants as set
 use Rattle.patch_set.specs.Refusals.{refusal}
 use Rattle.tool_words.specs.PlainJobs.{PlainGenJob}
 use Rattle.run_answers.specs.declared.why.Why.{Why}
-use Rattle.run_answers.specs.declared.why.Why.TheVariants.{Done, Rejected, Usage, Malformed, Garbage, EdReverse, OutMany, Reserved, NoPatchFile, TooLong, LongLine, FileTooLong, BadPattern, NoContext, Unfit, BadState, StackEnd, StackName, ReadFault, WriteFault, TreeFault, ScratchFault, Disagree, Memory, Unsupported}
+use Rattle.run_answers.specs.declared.why.Why.TheVariants.{Done, Rejected, Usage, Malformed, Garbage, EdReverse, OutMany, Reserved, NoPatchFile, TooLong, LongLine, FileTooLong, BadPattern, NoContext, Unfit, BadState, StackEnd, StackName, ReadFault, WriteFault, TreeFault, ScratchFault, Disagree, Memory}
+use Rattle.run_answers.specs.Worlds.{World}
 use Rattle.gen_cli.specs.Jobs.{AsksFor, options_for}
 use Rattle.gen_cli.specs.Command.{patch_text}
-use Rattle.gen_cli.specs.Worlds.{World, Tells}
+use Rattle.gen_cli.specs.Worlds.{Tells}
 
 -- the made patch is refused so
 abbrev pub IsRefused : SetFault → PlainGenJob → Type 0
@@ -24,7 +25,6 @@ abbrev pub HasCause : Why → Result PlainGenJob WordFault → World → World �
 HasCause Done job u w = AsksFor job (λ j. Unit {0})
 HasCause Rejected job u w = AsksFor job (λ j. Unit {0})
 HasCause Usage job u w = job ≡ Err words.Usage
-HasCause Unsupported job u w = job ≡ Err words.Unsupported
 HasCause TooLong job u w = AsksFor job (IsRefused set.TooLong)
 HasCause (Malformed line kind) job u w = AsksFor job (IsRefused (set.Malformed line kind))
 HasCause Garbage job u w = AsksFor job (IsRefused set.Garbage)

@@ -1,5 +1,5 @@
 -- The run over the made patch with its summary, on the files that were put.
-use Rattle.std.specs.Prelude.{◌≡◌, ◌≢◌, ℕ, ◌-◌, ◌^◌, ◌<◌, ◌≤◌, List, length, Bool, true, false, Some, Result, OnOk}
+use Rattle.std.specs.Prelude.{◌≡◌, ◌≢◌, ◌⊎◌, ℕ, ◌-◌, ◌^◌, ◌<◌, ◌≤◌, List, length, Bool, true, false, Some, Result, OnOk}
 use Rattle.outside.specs.Faults.{HasRisen}
 use Rattle.outside.specs.Files.{Files}
 use Rattle.outside.specs.TreeView.{TreeView, Passes}
@@ -11,19 +11,20 @@ use Rattle.outside.specs.Quiet.{IsQuiet, TellsPrefix, LeavesPrefix}
 use Rattle.tool_words.specs.PlainJobs.{PlainGenJob}
 use Rattle.patch_set.specs.SetView.{SetView}
 use Rattle.patch_effects.specs.Making.{IsTidy}
+use Rattle.patch_effects.specs.declared.fault.RunFault.{RunFault}
 use Rattle.patch_run.specs.Applied.{Receipt}
-use Rattle.patch_run.specs.Run.{Run, set_run}
-use Rattle.patch_run.specs.Doing.{IsWholeOf}
+use Rattle.patch_run.specs.Run.{Run, items_of, set_run}
+use Rattle.patch_run.specs.Doing.{IsCutAt, IsWholeOf}
 use Rattle.run_answers.specs.declared.why.Why.{Why}
-use Rattle.run_answers.specs.declared.why.Why.TheVariants.{Done, Rejected, Usage, Malformed, Garbage, EdReverse, OutMany, Reserved, NoPatchFile, TooLong, LongLine, FileTooLong, BadPattern, NoContext, Unfit, BadState, StackEnd, StackName, ReadFault, WriteFault, TreeFault, ScratchFault, Disagree, Memory, Unsupported}
-use Rattle.run_answers.specs.Answers.{is_fault, is_own}
+use Rattle.run_answers.specs.declared.why.Why.TheVariants.{Done, Rejected, Usage, Malformed, Garbage, EdReverse, OutMany, Reserved, NoPatchFile, TooLong, LongLine, FileTooLong, BadPattern, NoContext, Unfit, BadState, StackEnd, StackName, ReadFault, WriteFault, TreeFault, ScratchFault, Disagree, Memory}
+use Rattle.run_answers.specs.Answers.{is_fault, is_own, is_through, of_run}
 use Rattle.patch_cli.specs.Scratches.{scratch_behind_all}
 use Rattle.patch_cli.specs.Command.{Outcome}
 use Rattle.patch_cli.specs.Carries.{HasReceipt, why_of, receipt_of}
-use Rattle.patch_cli.specs.Finishes.{IsToldTo}
+use Rattle.patch_cli.specs.Finishes.{IsNotBegun, IsToldTo}
 use Rattle.gen_cli.specs.Jobs.{options_for}
 use Rattle.gen_cli.specs.Command.{told_of}
-use Rattle.gen_cli.specs.Carries.{is_through}
+use Rattle.gen_cli.specs.Carries.{IsCutTelling}
 
 -- the run over the set
 abbrev pub run_in : PlainGenJob → SetView → Files → Run
@@ -59,7 +60,6 @@ HasEndCause (BadState file) j t w a b c d = ⊥
 HasEndCause (StackEnd applied) j t w a b c d = ⊥
 HasEndCause (StackName line) j t w a b c d = ⊥
 HasEndCause ReadFault j t w a b c d = ⊥
-HasEndCause Unsupported j t w a b c d = ⊥
 
 -- the run's own answer: its effects are made whole, and its text and its summary are written
 pub record IsRunAnswer (result : Result Receipt Why) (t w : TreeView) (c d : SinkView) (r : Run) (o : Outcome) : Type 0 where
@@ -76,6 +76,11 @@ abbrev pub RunAnswers : Bool → Result Receipt Why → TreeView → TreeView �
 RunAnswers true result t w c d r o = IsRunAnswer result t w c d r o
 RunAnswers false result t w c d r o = IsRunPart t w c d r o
 
+-- a fault cuts the run off at one file patch, or comes before the first; or the run came to its end, and its summary is cut off
+abbrev pub EndsCut : Why → PlainGenJob → SetView → TreeView → TreeView → ScratchView → ScratchView → SinkView → SinkView → Files → Type 0
+EndsCut why j v t w a b c d f = IsNotBegun t w a b c d
+    ⊎ (((e : RunFault) × (why ≡ of_run e) × IsCutAt e w c d (options_for j) v.output (items_of v) f) ⊎ IsCutTelling why j (run_in j v f) w c d)
+
 -- from a quiet tree on
 pub record Ends (j : PlainGenJob) (v : SetView) (t w : TreeView) (a b : ScratchView) (c d : SinkView) (result : Result Receipt Why) : Type 0 where
   pub tree : Passes t w
@@ -86,5 +91,6 @@ pub record Ends (j : PlainGenJob) (v : SetView) (t w : TreeView) (a b : ScratchV
   pub receipt : HasReceipt (why_of result) (receipt_of result)
   pub answers : (f : Files) → IsToldTo (options_for j) t a f → RunAnswers (is_own (why_of result)) result t w c d (run_in j v f) (ending_in j v f)
   pub moments : (f : Files) → IsToldTo (options_for j) t a f → LeavesPrefix t w (run_in j v f).effects
+  pub cut : is_own (why_of result) ≡ false → (f : Files) → IsToldTo (options_for j) t a f → EndsCut (why_of result) j v t w a b c d f
   pub tidy : is_fault (why_of result) ≡ false → IsTidy t w
   pub pages : OnOk result ((f : Files) (before : List ℕ) → IsToldTo (options_for j) t a f → a.told ≡ Some before → b.told ≡ Some (scratch_behind_all (options_for j) (run_in j v f).taken before))

@@ -2,6 +2,7 @@
 use Rattle.std.specs.Prelude.{ℕ, List, [], Bool, true, false, Some, Result, Ok, Err}
 use Rattle.patch_options.specs.PlainJob.{PlainOptions}
 use Rattle.patch_options.specs.Table.{options_of}
+use Rattle.patch_options.specs.declared.options.PlanKind.{PlanKind}
 use Rattle.patch_options.specs.declared.options.WordFault.{WordFault}
 use Rattle.patch_options.specs.declared.options.WordFault.TheVariants.{Usage}
 use Rattle.tool_words.specs.PlainJobs.{PlainToolJob, PlainGenJob}
@@ -45,3 +46,7 @@ plain_patch = options_of []
 -- the options of `patch -s -p0`, with the job's plan and buffer
 abbrev pub options_for : PlainGenJob → PlainOptions
 options_for j = record plain_patch { strip = Some 0; silent = true; plan = j.plan; buffer = j.buffer }
+
+-- the same job with another plan
+abbrev pub with_plan : PlanKind → PlainGenJob → PlainGenJob
+with_plan plan j = record j { plan = plan }

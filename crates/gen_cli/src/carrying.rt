@@ -4,6 +4,7 @@ ghost use Rattle.outside.specs.Quiet.{IsQuiet};
 ghost use Rattle.patch_gen.specs.Tree.{made};
 ghost use Rattle.patch_options.specs.PlainJob.{plain_options};
 ghost use Rattle.tool_words.specs.PlainJobs.{plain_gen_job};
+ghost use Rattle.run_answers.specs.Worlds.{world};
 ghost use Rattle.patch_cli.specs.Carries.{why_of, receipt_of};
 ghost use Rattle.patch_cli.specs.Scratches.{has_scratch};
 ghost use Rattle.gen_cli.specs.Jobs.{options_for};
@@ -11,7 +12,6 @@ ghost use Rattle.gen_cli.specs.Summary.{summary_of};
 ghost use Rattle.gen_cli.specs.Preparing.{ArePlaces, AreMade, IsMadeSet};
 ghost use Rattle.gen_cli.specs.Telling.{TellsOf};
 ghost use Rattle.gen_cli.specs.Ending.{Ends};
-ghost use Rattle.gen_cli.specs.Worlds.{world};
 ghost use Rattle.gen_cli.specs.Carries.{Carries};
 
 use crate::places::Place;

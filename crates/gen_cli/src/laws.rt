@@ -3,11 +3,15 @@
 ghost use Rattle.std.specs.Prelude.{◌≡◌, List};
 ghost use Rattle.outside.specs.Files.{Files};
 ghost use Rattle.file_patch.specs.PlainPatch.{PlainPatch};
+ghost use Rattle.patch_options.specs.declared.options.PlanKind.{PlanKind};
 ghost use Rattle.tool_words.specs.PlainJobs.{PlainGenJob};
 ghost use Rattle.run_answers.specs.declared.why.Why.TheVariants.{Done};
 ghost use Rattle.gen_cli.specs.Command.{on_job, run_over, summary};
+ghost use Rattle.gen_cli.specs.Jobs.{with_plan};
 
-/// A command that ends with `Done` says one line, its summary: the run over the file patches says nothing.
+/// A command that ends with `Done` says one line, its summary: the run over the file patches says nothing. What a command does
+/// is the same with each plan.
 pub fn gen_laws()
     ensures done { (j : PlainGenJob) (f : Files) → (on_job j f).why ≡ Done → (ps : List PlainPatch) × ((on_job j f).text ≡ summary j (run_over j ps f)) }
+    ensures plans { (j : PlainGenJob) (plan : PlanKind) (f : Files) → on_job (with_plan plan j) f ≡ on_job j f }
 {}

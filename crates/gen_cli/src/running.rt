@@ -1,14 +1,14 @@
 //! A run of `patchgen`, from its words or its job to its answer.
-ghost use Rattle.std.specs.Prelude.{◌≡◌, ◌⊎◌, map, true, false, Ok, Err, string_bytes};
+ghost use Rattle.std.specs.Prelude.{◌≡◌, ◌⊎◌, map, false, Ok, Err, string_bytes};
 ghost use Rattle.outside.specs.Quiet.{IsQuiet};
 ghost use Rattle.patch_options.specs.declared.options.WordFault.{WordFault};
 ghost use Rattle.tool_words.specs.PlainJobs.{plain_gen_job, IsSize};
 ghost use Rattle.run_answers.specs.Answers.{exit_status, of_words};
+ghost use Rattle.run_answers.specs.Worlds.{world};
 ghost use Rattle.patch_cli.specs.Carries.{why_of, receipt_of};
 ghost use Rattle.patch_cli.specs.Scratches.{has_scratch};
 ghost use Rattle.gen_cli.specs.Jobs.{job_of, uses_scratch};
-ghost use Rattle.gen_cli.specs.Worlds.{world};
-ghost use Rattle.gen_cli.specs.Carries.{Carries, is_early};
+ghost use Rattle.gen_cli.specs.Carries.{Carries};
 
 use crate::carrying::carry_out;
 use crate::reading::read_job;

@@ -29,7 +29,7 @@ use Rattle.patch_run.specs.Run.{Run, run_of, set_run, item_of, items_of}
 use Rattle.patch_run.specs.Doing.{IsCutAt}
 use Rattle.patch_effects.specs.declared.fault.RunFault.{RunFault}
 use Rattle.run_answers.specs.declared.why.Why.{Why}
-use Rattle.run_answers.specs.declared.why.Why.TheVariants.{Done, Rejected, Usage, Malformed, Garbage, EdReverse, OutMany, Reserved, NoPatchFile, TooLong, LongLine, FileTooLong, BadPattern, NoContext, Unfit, BadState, StackEnd, StackName, ReadFault, WriteFault, TreeFault, ScratchFault, Disagree, Memory, Unsupported}
+use Rattle.run_answers.specs.declared.why.Why.TheVariants.{Done, Rejected, Usage, Malformed, Garbage, EdReverse, OutMany, Reserved, NoPatchFile, TooLong, LongLine, FileTooLong, BadPattern, NoContext, Unfit, BadState, StackEnd, StackName, ReadFault, WriteFault, TreeFault, ScratchFault, Disagree, Memory}
 use Rattle.patch_cli.specs.Command.{Reads, item_for, items_for, run_for, carried_out, on_patches, on_refusal, on_input, on_job}
 use Rattle.patch_cli.specs.Worlds.{World, world, TellsFiles, TellsLeft, TellsInput, is_standard}
 use Rattle.patch_cli.specs.Finishes.{CanApply}
@@ -149,7 +149,6 @@ module _ (t u : TreeView) (s : SourceView) (opens : Opens t u) where
     early_behind (LongLine line size) early = absurd early.stops
     early_behind (FileTooLong size) early = absurd early.stops
     early_behind Usage early = record { cause = early.cause; stops = ends_behind Usage early.stops }
-    early_behind Unsupported early = record { cause = early.cause; stops = ends_behind Unsupported early.stops }
     early_behind NoPatchFile early = record { cause = early.cause; stops = ends_behind NoPatchFile early.stops }
     early_behind TooLong early = record { cause = early.cause; stops = ends_behind TooLong early.stops }
     early_behind (Malformed line kind) early = record { cause = early.cause; stops = ends_behind (Malformed line kind) early.stops }

@@ -1,12 +1,9 @@
 -- How a run is put together from the steps before its first change, and its file patches.
-use Rattle.std.proofs.Common.{◌≡◌, ◌⊎◌, inl, inr, ⊎_elim, ℕ, zero, List, [], length, true, false, Bool, if◌then◌else◌, Option, Some, None, Result, Ok, Err, refl, sym, ◌∙◌, ap, subst, arith}
-use Rattle.std.proofs.lemmas.List.{append-nil}
-use Rattle.std.proofs.lemmas.Option.{same_Some}
-use Rattle.outside.specs.Files.{Files, SameLasting, lasting-same}
+use Rattle.std.proofs.Common.{◌≡◌, ◌⊎◌, inl, inr, ⊎_elim, ℕ, List, [], length, true, false, Bool, if◌then◌else◌, Option, Some, None, Result, Ok, Err, refl, sym, ◌∙◌, ap, subst}
+use Rattle.outside.specs.Files.{Files}
 use Rattle.outside.specs.TreeView.{TreeView, Passes, passes_both}
-use Rattle.outside.specs.SinkView.{SinkView, SinkPasses, sink_passes_none, Receives, Rises, Writes}
+use Rattle.outside.specs.SinkView.{SinkView, Receives, Rises, Writes}
 use Rattle.outside.specs.SourceView.{SourcePasses}
-use Rattle.outside.specs.ScratchView.{ScratchView, ScratchPasses, scratch_passes_none}
 use Rattle.outside.specs.Calls.{IsUntouched}
 use Rattle.outside.specs.Quiet.{LeavesPrefix}
 use Rattle.outside.proofs.Views.{rises_then, since_split}
@@ -26,156 +23,29 @@ use Rattle.patch_effects.specs.Making.{IsTidy, UnlessFailed}
 use Rattle.patch_effects.specs.declared.fault.RunFault.{RunFault}
 use Rattle.patch_effects.specs.declared.fault.RunFault.TheVariants as runs
 use Rattle.run_answers.specs.declared.why.Why.{Why}
-use Rattle.run_answers.specs.declared.why.Why.TheVariants.{Done, Rejected, Usage, Malformed, Garbage, EdReverse, OutMany, Reserved, NoPatchFile, TooLong, LongLine, FileTooLong, BadPattern, NoContext, Unfit, BadState, StackEnd, StackName, ReadFault, WriteFault, TreeFault, ScratchFault, Disagree, Memory, Unsupported}
+use Rattle.run_answers.specs.declared.why.Why.TheVariants.{Done, Rejected, Usage, Malformed, Garbage, EdReverse, OutMany, Reserved, NoPatchFile, TooLong, LongLine, FileTooLong, BadPattern, NoContext, Unfit, BadState, StackEnd, StackName, ReadFault, WriteFault, TreeFault, ScratchFault, Disagree, Memory}
 use Rattle.run_answers.specs.Answers.{is_fault, of_run}
+use Rattle.run_answers.specs.Moments.{FirstPart, IsAsAtEntry, LeavesAllowed, Opens}
 use Rattle.patch_cli.specs.Answers.{Sort, sort_of, IsEarly}
-use Rattle.patch_cli.specs.Answers.Sort.{ended, halted, refusal, unread, broken, starved}
-use Rattle.patch_cli.specs.Command.{Outcome, Reads, command, refused, on_job, carried_out, end_of, receipt_if}
+use Rattle.patch_cli.specs.Answers.Sort.{ended, unread, starved}
+use Rattle.patch_cli.specs.Command.{Outcome, Reads, command, on_job, carried_out, end_of, receipt_if}
 use Rattle.patch_cli.specs.Worlds.{World, TellsFiles, TellsLeft, TellsInput, AsksFor, reads_source, pages_all}
 use Rattle.patch_cli.specs.Causes.{HasCause}
 use Rattle.patch_cli.specs.Scratches.{scratch_behind_all}
 use Rattle.patch_cli.specs.Finishes.{IsToldTo, HasPlanCause, Finishes}
 use Rattle.patch_cli.specs.Finishes as finishes
-use Rattle.run_answers.specs.Moments.{Opens}
-use Rattle.patch_cli.specs.Opening.{IsAsked, StopsBy, StopsEarly}
-use Rattle.patch_cli.specs.Carries.{IsAnswer, FirstPart, Answers, IsAsAtEntry, Untouched, QuietAfter, IsBehindReading, IsEnd, HasReceipt, HasRead, Heeds, IsCut, BreaksOff, LeavesAllowed, Carries, NoneFailed, IsComplete}
-use Rattle.run_answers.proofs.Opens.{opens_both, opens_untouched, tidy_same, tidy_behind}
+use Rattle.patch_cli.specs.Opening.{IsAsked}
+use Rattle.patch_cli.specs.Carries.{IsAnswer, Answers, Untouched, QuietAfter, IsEnd, HasReceipt, HasRead, Heeds, IsCut, BreaksOff, Carries, NoneFailed, IsComplete}
+use Rattle.run_answers.proofs.Opens.{opens_both, opens_untouched, tidy_behind}
 use Rattle.patch_cli.proofs.Asked.{tells_input, carried-match, cut-match}
-
--- ---- an end before the first change
-no_receipt : (why : Why) (job : Result PlainJob WordFault) (u : World) → StopsBy (sort_of why) why job u → HasReceipt why None
-no_receipt Done job u stops = absurd stops
-no_receipt Rejected job u stops = absurd stops
-no_receipt Usage job u stops = refl
-no_receipt (Malformed line kind) job u stops = refl
-no_receipt Garbage job u stops = refl
-no_receipt (EdReverse line) job u stops = refl
-no_receipt (OutMany count) job u stops = refl
-no_receipt (Reserved line) job u stops = refl
-no_receipt NoPatchFile job u stops = refl
-no_receipt TooLong job u stops = refl
-no_receipt (LongLine line length) job u stops = refl
-no_receipt (FileTooLong length) job u stops = refl
-no_receipt BadPattern job u stops = refl
-no_receipt (NoContext line) job u stops = refl
-no_receipt (Unfit line) job u stops = refl
-no_receipt (BadState file) job u stops = refl
-no_receipt (StackEnd applied) job u stops = refl
-no_receipt (StackName line) job u stops = refl
-no_receipt ReadFault job u stops = refl
-no_receipt WriteFault job u stops = refl
-no_receipt TreeFault job u stops = refl
-no_receipt ScratchFault job u stops = refl
-no_receipt (Disagree want got) job u stops = refl
-no_receipt Memory job u stops = refl
-no_receipt Unsupported job u stops = refl
-
-module _ {u w : World} (why : Why) (job : Result PlainJob WordFault) (same : IsAsAtEntry u w) where
-  untouched_early : (s : Sort) → Untouched s u w
-  untouched_early ended = tt
-  untouched_early halted = tt
-  untouched_early refusal = same
-  untouched_early unread = same
-  untouched_early broken = tt
-  untouched_early starved = tt
-
-  quiet_early : (s : Sort) → StopsBy s why job u → QuietAfter s w
-  quiet_early ended stops = absurd stops
-  quiet_early halted stops = absurd stops
-  quiet_early refusal stops = tt
-  quiet_early unread stops = tt
-  quiet_early broken stops = tt
-  quiet_early starved stops = tt
-
-  not_behind : (s : Sort) → StopsBy s why job u → IsBehindReading s → ⊥
-  not_behind ended stops is = stops
-  not_behind halted stops is = stops
-  not_behind refusal stops is = is
-  not_behind unread stops is = is
-  not_behind broken stops is = is
-  not_behind starved stops is = is
-
-  no_end : (s : Sort) → StopsBy s why job u → IsEnd s → ⊥
-  no_end ended stops is = stops
-  no_end halted stops is = is
-  no_end refusal stops is = is
-  no_end unread stops is = is
-  no_end broken stops is = is
-  no_end starved stops is = is
-
-  nothing_yet : (f : Files) (o : Outcome) → u.tree.told ≡ Some f → FirstPart u w o
-  nothing_yet f o told = record {
-    tells = λ f g was now. (zero, omega arith, subst (λ (x : Files). SameLasting f x) (same_Some _ _ (sym was ∙ sym same.told ∙ now)) (lasting-same f));
-    said = λ b now. inr (zero, ap (λ (a : SinkView). a.told) same.out ∙ now ∙ ap (λ (l : List ℕ). Some l) (sym (append-nil b)));
-  }
-
-  refused_so : (f : Files) → u.tree.told ≡ Some f → IsAnswer why None f u w (refused why f)
-  refused_so f told = record {
-    is = refl;
-    text = λ b now. ap (λ (a : SinkView). a.told) same.out ∙ now ∙ ap (λ (l : List ℕ). Some l) (sym (append-nil b));
-    files = same.told ∙ told;
-    made = lasting-same f;
-    applied = refl;
-  }
-
-  answers_early : (s : Sort) → StopsBy s why job u → (f : Files) (left : List ℕ) → TellsFiles job u f → TellsLeft job u left → Answers s why None f u w (on_job job f left)
-  answers_early ended stops f left told tells = absurd stops
-  answers_early halted stops f left told tells = absurd stops
-  answers_early refusal stops f left told tells = subst (λ (x : Outcome). IsAnswer why None f u w x) (sym (stops f left (tells_input job u f left told tells))) (refused_so f told.files)
-  answers_early unread stops f left told tells = nothing_yet f (on_job job f left) told.files
-  answers_early broken stops f left told tells = nothing_yet f (on_job job f left) told.files
-  answers_early starved stops f left told tells = nothing_yet f (on_job job f left) told.files
-
-  heeds_early : (s : Sort) → StopsBy s why job u → (f : Files) (left : List ℕ) → TellsInput job u f left → Heeds s why job u w f left
-  heeds_early ended stops f left told = absurd stops
-  heeds_early halted stops f left told = absurd stops
-  heeds_early refusal stops f left told = stops f left told
-  heeds_early unread stops f left told = tt
-  heeds_early broken stops f left told = inl same
-  heeds_early starved stops f left told = inl same
-
-  breaks_early : (s : Sort) (f : Files) (left : List ℕ) → BreaksOff s why job u w f left
-  breaks_early ended f left = tt
-  breaks_early halted f left = tt
-  breaks_early refusal f left = tt
-  breaks_early unread f left = tt
-  breaks_early broken f left = inl same
-  breaks_early starved f left = inl same
-
-pub carries_early : {words : List (List ℕ)} {u w : World} {why : Why} → Opens u.tree w.tree → w.scratch ≡ u.scratch → w.out ≡ u.out → SourcePasses u.source w.source → TakesAtMost 268435457 u.source w.source
-    → (reads_source (job_of words) ≡ false → w.source ≡ u.source) → StopsEarly why (job_of words) u w → Carries words u w why None
-carries_early {words = words} {u = u} {w = w} {why = why} opens scratch out source taken none_read stops =
-    let same : IsAsAtEntry u w = record { told = opens.told; scratch = scratch; out = out; images = opens.images } in
-    let job = job_of words in
-    record {
-      tree = opens.passes;
-      scratch = subst (λ (x : ScratchView). ScratchPasses u.scratch x) (sym scratch) (scratch_passes_none u.scratch);
-      source = source;
-      sink = subst (λ (x : SinkView). SinkPasses u.out x) (sym out) (sink_passes_none u.out);
-      cause = stops.cause;
-      untouched = untouched_early why job same (sort_of why);
-      quiet = quiet_early why job same (sort_of why) stops.stops;
-      receipt = no_receipt why job u stops.stops;
-      starved = λ is pages. same;
-      read = λ behind reads left told. absurd (not_behind why job same (sort_of why) stops.stops behind);
-      unread = none_read;
-      taken = taken;
-      answers = λ f left told tells. answers_early why job same (sort_of why) stops.stops f left told tells;
-      images = λ f left told tells c since. inl (opens.images c since);
-      heeds = λ f left told. heeds_early why job same (sort_of why) stops.stops f left told;
-      cut = λ f left told tells. breaks_early why job same (sort_of why) f left;
-      tidy = λ is. tidy_same u.tree w.tree opens.told;
-      dry = λ is. opens;
-      pages = λ is f left before told tells was. absurd (no_end why job same (sort_of why) stops.stops is);
-    }
 
 -- ---- behind the reading: an answer of the run, or a first part of it
 module _ (u w : World) {v : TreeView} (opens : Opens u.tree v) where
-  part_on : (r : Run) (count : ℕ) → doing.IsPartOf v w.tree u.out w.out r.effects r.said → FirstPart u w (carried_out count r)
+  part_on : (r : Run) (count : ℕ) → doing.IsPartOf v w.tree u.out w.out r.effects r.said → FirstPart u.tree w.tree u.out w.out r.effects r.said
   part_on r count part = record { tells = λ f g was now. part.tells f g (opens.told ∙ was) now; said = part.said }
 
   far_on : (r : Run) (count : ℕ) (why : Why) (applied : Option Receipt) (f : Files) → u.tree.told ≡ Some f → doing.IsFar v w.tree u.out w.out r
-      → why ≡ (carried_out count r).why → applied ≡ (carried_out count r).applied → IsAnswer why applied f u w (carried_out count r)
+      → why ≡ (carried_out count r).why → applied ≡ (carried_out count r).applied → IsAnswer why applied f w.tree u.out w.out (carried_out count r)
   far_on r count why applied f told far is receipt = record {
     is = is;
     text = far.said;
@@ -185,7 +55,7 @@ module _ (u w : World) {v : TreeView} (opens : Opens u.tree v) where
   }
 
   stop_on : (r : Run) (count : ℕ) (why : Why) (f : Files) → u.tree.told ≡ Some f → doing.IsFar v w.tree u.out w.out r
-      → (fault : OpenFault) → r.stop ≡ Some fault → why ≡ of_run (of_open fault) → IsAnswer why None f u w (carried_out count r)
+      → (fault : OpenFault) → r.stop ≡ Some fault → why ≡ of_run (of_open fault) → IsAnswer why None f w.tree u.out w.out (carried_out count r)
   stop_on r count why f told far fault stop is = far_on r count why None f told far
       (is ∙ sym (ap (λ s. end_of s r.is_bad) stop))
       (sym (ap (λ s. receipt_if s (record { is_bad = r.is_bad; done = count; effects = length r.effects })) stop))
@@ -222,7 +92,7 @@ module _ (u w : World) {v : TreeView} (opens : Opens u.tree v) where
   tidy_fault runs.Memory tidy is = tidy_behind u.tree v w.tree opens.told tidy
 
   -- a paged plan that found no memory hasn't begun
-  not_begun : finishes.IsNotBegun v w.tree u.scratch w.scratch u.out w.out → IsAsAtEntry u w
+  not_begun : finishes.IsNotBegun v w.tree u.scratch w.scratch u.out w.out → IsAsAtEntry u.tree w.tree u.scratch w.scratch u.out w.out
   not_begun none =
       let both = opens_both opens (opens_untouched none.tree) in
       record { told = both.told; scratch = none.scratch; out = none.out; images = both.images }
@@ -321,8 +191,8 @@ module _ (words : List (List ℕ)) (u w : World) {v : TreeView} {o : PlainOption
       subst (λ (x : Outcome). Answers s why applied f u w x) (sym (is_carried f left told tells)) (gives f told.files (tells_run f told))
 
   images_run : Passes v w.tree → ((f : Files) → IsToldTo o v u.scratch f → LeavesPrefix v w.tree (set_run o set f).effects)
-      → (f : Files) (left : List ℕ) → TellsFiles (job_of words) u f → TellsLeft (job_of words) u left → LeavesAllowed u w f (command words f left).effects
-  images_run passes moments f left told tells = subst (λ (x : Outcome). LeavesAllowed u w f x.effects) (sym (is_carried f left told tells)) (λ c since. ⊎_elim
+      → (f : Files) (left : List ℕ) → TellsFiles (job_of words) u f → TellsLeft (job_of words) u left → LeavesAllowed u.tree w.tree f (command words f left).effects
+  images_run passes moments f left told tells = subst (λ (x : Outcome). LeavesAllowed u.tree w.tree f x.effects) (sym (is_carried f left told tells)) (λ c since. ⊎_elim
       (λ before. inl (opens.images c before))
       (λ later. inr (moments f (tells_run f told) f (opens.told ∙ told.files) c later))
       (since_split passes u.tree.moment c opens.passes.later since))
@@ -330,7 +200,7 @@ module _ (words : List (List ℕ)) (u w : World) {v : TreeView} {o : PlainOption
   -- the run was cut off at one of the file patches, or before the first
   cuts_at : (e : RunFault) (f : Files) (left : List ℕ) → TellsFiles (job_of words) u f → TellsLeft (job_of words) u left
       → finishes.IsNotBegun v w.tree u.scratch w.scratch u.out w.out ⊎ doing.IsCutAt e w.tree u.out w.out o set.output (items_of set) f
-      → IsAsAtEntry u w ⊎ AsksFor (job_of words) (IsCut (of_run e) u w f left)
+      → IsAsAtEntry u.tree w.tree u.scratch w.scratch u.out w.out ⊎ AsksFor (job_of words) (IsCut (of_run e) u w f left)
   cuts_at e f left told tells = ⊎_elim (λ none. inl (not_begun u w opens none)) (λ at. inr (subst (λ j. AsksFor j (IsCut (of_run e) u w f left)) (sym job) (record {
     text = set.text;
     patches = plain_patches set;
@@ -340,7 +210,7 @@ module _ (words : List (List ℕ)) (u w : World) {v : TreeView} {o : PlainOption
     cut = cut-match o asked.can.read.0 set asked.can.read.1 f e w.tree u.out w.out at;
   })))
 
-  breaks_fault : (e : RunFault) (f : Files) (left : List ℕ) → IsAsAtEntry u w ⊎ AsksFor (job_of words) (IsCut (of_run e) u w f left) → BreaksOff (sort_of (of_run e)) (of_run e) (job_of words) u w f left
+  breaks_fault : (e : RunFault) (f : Files) (left : List ℕ) → IsAsAtEntry u.tree w.tree u.scratch w.scratch u.out w.out ⊎ AsksFor (job_of words) (IsCut (of_run e) u w f left) → BreaksOff (sort_of (of_run e)) (of_run e) (job_of words) u w f left
   breaks_fault runs.Tree f left cut = cut
   breaks_fault runs.Write f left cut = cut
   breaks_fault runs.Scratch f left cut = cut
@@ -383,7 +253,7 @@ module _ (words : List (List ℕ)) (u w : World) {v : TreeView} {o : PlainOption
         subst (λ (x : Why). Carries words u w x None) (sym says) (carries_fault e (subst (λ (r : Result Receipt RunFault). Finishes o set v w.tree u.scratch w.scratch u.out w.out r) is does))
 
     end_answer : (receipt : Receipt) → Finishes o set v w.tree u.scratch w.scratch u.out w.out (Ok receipt) → (f : Files) → u.tree.told ≡ Some f → IsToldTo o v u.scratch f
-        → IsAnswer (if receipt.is_bad then Rejected else Done) (Some receipt) f u w (carried_out (length set.patches) (set_run o set f))
+        → IsAnswer (if receipt.is_bad then Rejected else Done) (Some receipt) f w.tree u.out w.out (carried_out (length set.patches) (set_run o set f))
     end_answer receipt does f told to =
         let r = set_run o set f in
         far_on u w opens r (length set.patches) (if receipt.is_bad then Rejected else Done) (Some receipt) f told (does.whole f to)
@@ -464,7 +334,6 @@ is_complete TreeFault applied c f left told tells none = absurd (none.tree c.cau
 is_complete ScratchFault applied c f left told tells none = absurd (none.scratch c.cause)
 is_complete (Disagree want got) applied c f left told tells none = absurd (c.cause.1 f told)
 is_complete Memory applied c f left told tells none = inr refl
-is_complete Unsupported applied c f left told tells none = inl (c.answers f left told tells)
 
 -- ---- the line of the answer
 pub writes_whole : {R E : Type 0} (a b : SinkView) (s : Result R E) (p : List ℕ) → Writes a b s p → Receives a b p ⊎ Rises a b

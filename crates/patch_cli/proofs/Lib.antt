@@ -1,4 +1,5 @@
 pub mod Asked
 pub mod Finishing
+pub mod Early
 pub mod Carrying
 pub mod SamePlan

@@ -50,14 +50,14 @@ module _ (plan : PlanKind) where
   unfolding mark_of
   item_same o output r i = rw (ending_same (turn_of o output r i) r.files) (grind arith)
 
-  run_same : (o : PlainOptions) (output : Option Target) (items : List Item) (r : Run) → run_on (with_plan plan o) output items r ≡ run_on o output items r
+  pub run_same : (o : PlainOptions) (output : Option Target) (items : List Item) (r : Run) → run_on (with_plan plan o) output items r ≡ run_on o output items r
   unfolding run_on
   run_same o output [] r = refl
   run_same o output (i ∷ items) r = rw (item_same o output r i) (run_same o output items (with_item o output r i))
 
   -- ---- a command
 
-  refusal_same : (o : PlainOptions) (text : List ℕ) → refusal (with_plan plan o) text ≡ refusal o text
+  pub refusal_same : (o : PlainOptions) (text : List ℕ) → refusal (with_plan plan o) text ≡ refusal o text
   refusal_same o text = grind arith
 
   pub job_same : (o : PlainOptions) (f : Files) (left : List ℕ) → on_job (Ok (patch (with_plan plan o))) f left ≡ on_job (Ok (patch o)) f left

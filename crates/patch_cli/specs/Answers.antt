@@ -1,6 +1,6 @@
 -- Of what sort the answers of a run are.
 use Rattle.run_answers.specs.declared.why.Why.{Why}
-use Rattle.run_answers.specs.declared.why.Why.TheVariants.{Done, Rejected, Usage, Malformed, Garbage, EdReverse, OutMany, Reserved, NoPatchFile, TooLong, LongLine, FileTooLong, BadPattern, NoContext, Unfit, BadState, StackEnd, StackName, ReadFault, WriteFault, TreeFault, ScratchFault, Disagree, Memory, Unsupported}
+use Rattle.run_answers.specs.declared.why.Why.TheVariants.{Done, Rejected, Usage, Malformed, Garbage, EdReverse, OutMany, Reserved, NoPatchFile, TooLong, LongLine, FileTooLong, BadPattern, NoContext, Unfit, BadState, StackEnd, StackName, ReadFault, WriteFault, TreeFault, ScratchFault, Disagree, Memory}
 
 pub data Sort : Type 0 where
   -- every file patch had its turn
@@ -22,7 +22,6 @@ sort_of Rejected = ended
 sort_of (LongLine line length) = halted
 sort_of (FileTooLong length) = halted
 sort_of Usage = refusal
-sort_of Unsupported = refusal
 sort_of NoPatchFile = refusal
 sort_of TooLong = refusal
 sort_of (Malformed line kind) = refusal

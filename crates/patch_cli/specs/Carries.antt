@@ -1,12 +1,12 @@
 -- What a run promises: that it is the command's, and what stands at each moment.
 use Rattle.std.specs.Prelude.{◌≡◌, ◌⊎◌, ℕ, List, [], true, false, Option, Some, None, Result, Ok, Err, IsSomeAnd, if◌then◌else◌}
 use Rattle.outside.specs.Faults.{HasRisen}
-use Rattle.outside.specs.Files.{Files, SameLasting, is_temp}
-use Rattle.outside.specs.TreeView.{Passes, MayLeave, LeftSince}
-use Rattle.outside.specs.SinkView.{SinkPasses, Receives, ReceivesPart}
+use Rattle.outside.specs.Files.{Files, SameLasting}
+use Rattle.outside.specs.TreeView.{TreeView, Passes}
+use Rattle.outside.specs.SinkView.{SinkView, SinkPasses, Receives}
 use Rattle.outside.specs.SourceView.{SourcePasses}
 use Rattle.outside.specs.ScratchView.{ScratchPasses}
-use Rattle.outside.specs.Quiet.{IsQuiet, Effect, TellsPrefix, after_all}
+use Rattle.outside.specs.Quiet.{IsQuiet, after_all}
 use Rattle.file_patch.specs.PlainPatch.{PlainPatch}
 use Rattle.patch_options.specs.PlainJob.{PlainOptions, PlainJob}
 use Rattle.patch_options.specs.Words.{job_of}
@@ -20,42 +20,31 @@ use Rattle.patch_effects.specs.declared.fault.RunFault.{RunFault}
 use Rattle.run_answers.specs.declared.why.Why.{Why}
 use Rattle.run_answers.specs.declared.why.Why.TheVariants.{Done, Rejected, Memory}
 use Rattle.run_answers.specs.Answers.{of_run, is_fault}
+use Rattle.run_answers.specs.Moments.{FirstPart, IsAsAtEntry, LeavesAllowed, Opens}
 use Rattle.patch_cli.specs.Answers.{Sort, sort_of}
 use Rattle.patch_cli.specs.Answers.Sort.{ended, halted, refusal, unread, broken, starved}
 use Rattle.patch_cli.specs.Scratches.{scratch_behind_all}
 use Rattle.patch_cli.specs.Command.{Outcome, Reads, refused, items_for, on_job, command}
 use Rattle.patch_cli.specs.Worlds.{World, TellsFiles, TellsLeft, TellsInput, AsksFor, reads_source, pages_all}
 use Rattle.patch_cli.specs.Causes.{HasCause}
-use Rattle.run_answers.specs.Moments.{Opens, IsAfterPrefix, HoldsOldOrNew}
 
 -- an answer of the command itself: its text, and the files after its effects
-pub record IsAnswer (why : Why) (given : Option Receipt) (f : Files) (u w : World) (o : Outcome) : Type 0 where
+pub record IsAnswer (why : Why) (given : Option Receipt) (f : Files) (w : TreeView) (c d : SinkView) (o : Outcome) : Type 0 where
   pub is : why ≡ o.why
-  pub text : Receives u.out w.out o.text
-  pub files : w.tree.told ≡ Some o.files
+  pub text : Receives c d o.text
+  pub files : w.told ≡ Some o.files
   -- which are the files at entry after the effects, temporary names aside
   pub made : SameLasting (after_all o.effects f) o.files
   pub applied : given ≡ o.applied
 
--- a first part of the effects and of the text
-pub record FirstPart (u w : World) (o : Outcome) : Type 0 where
-  pub tells : TellsPrefix u.tree w.tree o.effects
-  pub said : ReceivesPart u.out w.out o.text
-
+-- a first part of the effects and of the text after a fault or where memory ran out, else all
 abbrev pub Answers : Sort → Why → Option Receipt → Files → World → World → Outcome → Type 0
-Answers ended why applied f u w o = IsAnswer why applied f u w o
-Answers halted why applied f u w o = IsAnswer why applied f u w o
-Answers refusal why applied f u w o = IsAnswer why applied f u w o
-Answers unread why applied f u w o = FirstPart u w o
-Answers broken why applied f u w o = FirstPart u w o
-Answers starved why applied f u w o = FirstPart u w o
-
--- the tree is told as at entry, nothing was written, and a crash leaves what one could have left at entry
-pub record IsAsAtEntry (u w : World) : Type 0 where
-  pub told : w.tree.told ≡ u.tree.told
-  pub scratch : w.scratch ≡ u.scratch
-  pub out : w.out ≡ u.out
-  pub images : (c : Files) → LeftSince w.tree u.tree.moment c → MayLeave u.tree c
+Answers ended why applied f u w o = IsAnswer why applied f w.tree u.out w.out o
+Answers halted why applied f u w o = IsAnswer why applied f w.tree u.out w.out o
+Answers refusal why applied f u w o = IsAnswer why applied f w.tree u.out w.out o
+Answers unread why applied f u w o = FirstPart u.tree w.tree u.out w.out o.effects o.text
+Answers broken why applied f u w o = FirstPart u.tree w.tree u.out w.out o.effects o.text
+Answers starved why applied f u w o = FirstPart u.tree w.tree u.out w.out o.effects o.text
 
 -- the patch text that the words name was read, and isn't refused
 abbrev pub HasRead : Result PlainJob WordFault → Files → List ℕ → Type 0
@@ -65,8 +54,8 @@ HasRead job f left = AsksFor job (λ o. (text : List ℕ) × (ps : List PlainPat
 abbrev pub Untouched : Sort → World → World → Type 0
 Untouched ended u w = Unit {0}
 Untouched halted u w = Unit {0}
-Untouched refusal u w = IsAsAtEntry u w
-Untouched unread u w = IsAsAtEntry u w
+Untouched refusal u w = IsAsAtEntry u.tree w.tree u.scratch w.scratch u.out w.out
+Untouched unread u w = IsAsAtEntry u.tree w.tree u.scratch w.scratch u.out w.out
 Untouched broken u w = Unit {0}
 Untouched starved u w = Unit {0}
 
@@ -110,8 +99,8 @@ Heeds ended why job u w f left = HasRead job f left
 Heeds halted why job u w f left = HasRead job f left
 Heeds refusal why job u w f left = on_job job f left ≡ refused why f
 Heeds unread why job u w f left = Unit {0}
-Heeds broken why job u w f left = IsAsAtEntry u w ⊎ HasRead job f left
-Heeds starved why job u w f left = IsAsAtEntry u w ⊎ HasRead job f left
+Heeds broken why job u w f left = IsAsAtEntry u.tree w.tree u.scratch w.scratch u.out w.out ⊎ HasRead job f left
+Heeds starved why job u w f left = IsAsAtEntry u.tree w.tree u.scratch w.scratch u.out w.out ⊎ HasRead job f left
 
 -- the run over the file patches of the patch text was cut off at one of them, those in front of it having come to their ends; of that one
 -- nothing is done before all that it says is in the output
@@ -129,16 +118,8 @@ BreaksOff ended why job u w f left = Unit {0}
 BreaksOff halted why job u w f left = Unit {0}
 BreaksOff refusal why job u w f left = Unit {0}
 BreaksOff unread why job u w f left = Unit {0}
-BreaksOff broken why job u w f left = IsAsAtEntry u w ⊎ AsksFor job (IsCut why u w f left)
-BreaksOff starved why job u w f left = IsAsAtEntry u w ⊎ AsksFor job (IsCut why u w f left)
-
--- each crash since the call began leaves what one could have left at entry, or the files at entry after a first part of the effects
-abbrev pub LeavesAllowed : World → World → Files → List Effect → Type 0
-LeavesAllowed u w f es = (c : Files) → LeftSince w.tree u.tree.moment c → MayLeave u.tree c ⊎ IsAfterPrefix es f c
-
--- each crash since the call began leaves what one could have left at entry, or at each name that isn't temporary its old or its new bytes
-abbrev pub LeavesOldOrNew : World → World → Files → List Effect → Type 0
-LeavesOldOrNew u w f es = (c : Files) → LeftSince w.tree u.tree.moment c → MayLeave u.tree c ⊎ ((q : List ℕ) → is_temp q ≡ false → HoldsOldOrNew es f c q)
+BreaksOff broken why job u w f left = IsAsAtEntry u.tree w.tree u.scratch w.scratch u.out w.out ⊎ AsksFor job (IsCut why u w f left)
+BreaksOff starved why job u w f left = IsAsAtEntry u.tree w.tree u.scratch w.scratch u.out w.out ⊎ AsksFor job (IsCut why u w f left)
 
 -- all that is promised of a run of these words from one state of its devices to another
 pub record Carries (words : List (List ℕ)) (u w : World) (why : Why) (applied : Option Receipt) : Type 0 where
@@ -151,14 +132,14 @@ pub record Carries (words : List (List ℕ)) (u w : World) (why : Why) (applied 
   pub quiet : QuietAfter (sort_of why) w
   pub receipt : HasReceipt why applied
   -- a plan that keeps every file in the scratch wants no memory once there can be a change
-  pub starved : why ≡ Memory → pages_all (job_of words) ≡ true → IsAsAtEntry u w
+  pub starved : why ≡ Memory → pages_all (job_of words) ≡ true → IsAsAtEntry u.tree w.tree u.scratch w.scratch u.out w.out
   -- standard input is read to its end, or not at all
   pub read : IsBehindReading (sort_of why) → reads_source (job_of words) ≡ true → (left : List ℕ) → u.source.told ≡ Some left → w.source.told ≡ Some []
   pub unread : reads_source (job_of words) ≡ false → w.source ≡ u.source
   -- one that never ends is left behind the longest text and one byte
   pub taken : TakesAtMost 268435457 u.source w.source
   pub answers : (f : Files) (left : List ℕ) → TellsFiles (job_of words) u f → TellsLeft (job_of words) u left → Answers (sort_of why) why applied f u w (command words f left)
-  pub images : (f : Files) (left : List ℕ) → TellsFiles (job_of words) u f → TellsLeft (job_of words) u left → LeavesAllowed u w f (command words f left).effects
+  pub images : (f : Files) (left : List ℕ) → TellsFiles (job_of words) u f → TellsLeft (job_of words) u left → LeavesAllowed u.tree w.tree f (command words f left).effects
   pub heeds : (f : Files) (left : List ℕ) → TellsInput (job_of words) u f left → Heeds (sort_of why) why (job_of words) u w f left
   pub cut : (f : Files) (left : List ℕ) → TellsFiles (job_of words) u f → TellsLeft (job_of words) u left → BreaksOff (sort_of why) why (job_of words) u w f left
   -- unless a device failed, no temporary is left that the run started, whatever is told; where it is told, `answers` and `cut` say what each temporary name stands for
@@ -178,7 +159,7 @@ pub record NoneFailed (u w : World) : Type 0 where
 
 -- the answer is the command's, with its text and its files, or memory ran out
 abbrev pub IsComplete : Why → Option Receipt → Files → World → World → Outcome → Type 0
-IsComplete why applied f u w o = IsAnswer why applied f u w o ⊎ (why ≡ Memory)
+IsComplete why applied f u w o = IsAnswer why applied f w.tree u.out w.out o ⊎ (why ≡ Memory)
 
 -- the answer of a run that came to its end, or stopped
 abbrev pub why_of : Result Receipt Why → Why

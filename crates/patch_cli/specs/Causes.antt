@@ -11,7 +11,7 @@ use Rattle.patch_set.specs.declared.fault.SetFault.{SetFault}
 use Rattle.patch_set.specs.declared.fault.SetFault.TheVariants as set
 use Rattle.patch_set.specs.Refusals.{refusal}
 use Rattle.run_answers.specs.declared.why.Why.{Why}
-use Rattle.run_answers.specs.declared.why.Why.TheVariants.{Done, Rejected, Usage, Malformed, Garbage, EdReverse, OutMany, Reserved, NoPatchFile, TooLong, LongLine, FileTooLong, BadPattern, NoContext, Unfit, BadState, StackEnd, StackName, ReadFault, WriteFault, TreeFault, ScratchFault, Disagree, Memory, Unsupported}
+use Rattle.run_answers.specs.declared.why.Why.TheVariants.{Done, Rejected, Usage, Malformed, Garbage, EdReverse, OutMany, Reserved, NoPatchFile, TooLong, LongLine, FileTooLong, BadPattern, NoContext, Unfit, BadState, StackEnd, StackName, ReadFault, WriteFault, TreeFault, ScratchFault, Disagree, Memory}
 use Rattle.patch_cli.specs.Worlds.{World, TellsFiles, AsksFor, is_standard, reads_source}
 
 -- some text is refused so
@@ -22,7 +22,6 @@ abbrev pub HasCause : Why → Result PlainJob WordFault → World → World → 
 HasCause Done job u w = Unit {0}
 HasCause Rejected job u w = Unit {0}
 HasCause Usage job u w = job ≡ Err words.Usage
-HasCause Unsupported job u w = job ≡ Err words.Unsupported
 HasCause NoPatchFile job u w = AsksFor job (λ o. is_standard o.input ≡ false)
 HasCause TooLong job u w = AsksFor job (λ o. Unit {0})
 HasCause (Malformed line kind) job u w = AsksFor job (IsRefusal (set.Malformed line kind))

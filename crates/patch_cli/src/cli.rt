@@ -7,13 +7,14 @@ ghost use Rattle.patch_options.specs.PlainJob.{plain_options};
 ghost use Rattle.patch_options.specs.Words.{job_of};
 ghost use Rattle.patch_options.specs.declared.options.WordFault.{WordFault};
 ghost use Rattle.run_answers.specs.Answers.{exit_status, is_ended, of_words};
+ghost use Rattle.run_answers.specs.Moments.{LeavesOldOrNew};
 ghost use Rattle.patch_cli.specs.Answers.{sort_of, IsEarly};
 ghost use Rattle.patch_cli.specs.Command.{command};
 ghost use Rattle.run_answers.specs.Reasons.{refusal_line};
 ghost use Rattle.patch_cli.specs.Worlds.{world, TellsFiles, TellsLeft, reads_source, uses_scratch};
 ghost use Rattle.patch_cli.specs.Scratches.{has_scratch};
 ghost use Rattle.patch_cli.specs.Finishes.{CanApply, Finishes};
-ghost use Rattle.patch_cli.specs.Carries.{Carries, NoneFailed, IsComplete, LeavesOldOrNew, why_of, receipt_of};
+ghost use Rattle.patch_cli.specs.Carries.{Carries, NoneFailed, IsComplete, why_of, receipt_of};
 
 use crate::opening::open;
 use crate::plans::apply;
@@ -62,7 +63,7 @@ pub fn run<T: Tree, C: Scratch, I: Source, O: Sink, E: Sink>(
     ensures names { (f : Files) (left : List ℕ)
         → TellsFiles (job_of (map string_bytes words.now)) (world (T.view tree.old) (C.view scratch) (I.view input.old) (O.view out.old)) f
         → TellsLeft (job_of (map string_bytes words.now)) (world (T.view tree.old) (C.view scratch) (I.view input.old) (O.view out.old)) left
-        → LeavesOldOrNew (world (T.view tree.old) (C.view scratch) (I.view input.old) (O.view out.old)) (world (T.view tree.new) (C.view result.1) (I.view input.new) (O.view out.new)) f (command (map string_bytes words.now) f left).effects }
+        → LeavesOldOrNew (T.view tree.old) (T.view tree.new) f (command (map string_bytes words.now) f left).effects }
     ensures status { result.0.status ≡ exit_status result.0.why }
 
     // Words that give no job are answered before any device is called, and refusals before the output or the scratch is.

@@ -85,9 +85,6 @@ pub enum Job {
 pub enum WordFault {
     #[error("the words are not a command")]
     Usage,
-    /// A tool that isn't built yet.
-    #[error("the words name what isn't built yet")]
-    Unsupported,
     #[error("out of memory")]
     Memory,
 }

@@ -9,11 +9,10 @@ use Rattle.patch_set.specs.declared.fault.SetFault.TheVariants as set
 use Rattle.patch_effects.specs.declared.fault.RunFault.{RunFault}
 use Rattle.patch_effects.specs.declared.fault.RunFault.TheVariants as runs
 use Rattle.run_answers.specs.declared.why.Why.{Why}
-use Rattle.run_answers.specs.declared.why.Why.TheVariants.{Done, Rejected, Usage, Malformed, Garbage, EdReverse, OutMany, Reserved, NoPatchFile, TooLong, LongLine, FileTooLong, ReadFault, WriteFault, TreeFault, ScratchFault, Disagree, Memory, Unsupported}
+use Rattle.run_answers.specs.declared.why.Why.TheVariants.{Done, Rejected, Usage, Malformed, Garbage, EdReverse, OutMany, Reserved, NoPatchFile, TooLong, LongLine, FileTooLong, ReadFault, WriteFault, TreeFault, ScratchFault, Disagree, Memory}
 
 abbrev pub of_words : WordFault → Why
 of_words words.Usage = Usage
-of_words words.Unsupported = Unsupported
 of_words words.Memory = Memory
 
 abbrev pub of_input : InputFault → Why
@@ -65,6 +64,27 @@ abbrev pub is_ended : Why → Bool
 is_ended Done = true
 is_ended Rejected = true
 is_ended why = false
+
+-- the command came to its end, or to a file that isn't taken
+abbrev pub is_through : Why → Bool
+is_through Done = true
+is_through Rejected = true
+is_through (LongLine line length) = true
+is_through (FileTooLong length) = true
+is_through why = false
+
+-- a refusal, or a fault of standard input: it comes before anything is said or changed
+abbrev pub is_early : Why → Bool
+is_early Done = false
+is_early Rejected = false
+is_early (LongLine line length) = false
+is_early (FileTooLong length) = false
+is_early WriteFault = false
+is_early TreeFault = false
+is_early ScratchFault = false
+is_early (Disagree want got) = false
+is_early Memory = false
+is_early why = true
 
 -- the exit status
 abbrev pub exit_status : Why → ℕ

@@ -1,3 +1,5 @@
 pub mod Answers
 pub mod Reasons
 pub mod Moments
+pub mod Worlds
+pub mod Outcomes

@@ -7,7 +7,7 @@ use Rattle.tool_words.specs.Tools.{tool_named}
 use Rattle.run_answers.specs.declared.reporting.Reason.{Reason}
 use Rattle.run_answers.specs.Answers.{is_ended}
 use Rattle.run_answers.specs.declared.why.Why.{Why}
-use Rattle.run_answers.specs.declared.why.Why.TheVariants.{Done, Rejected, Usage, Malformed, Garbage, EdReverse, OutMany, Reserved, NoPatchFile, TooLong, LongLine, FileTooLong, BadPattern, NoContext, Unfit, BadState, StackEnd, StackName, ReadFault, WriteFault, TreeFault, ScratchFault, Disagree, Memory, Unsupported}
+use Rattle.run_answers.specs.declared.why.Why.TheVariants.{Done, Rejected, Usage, Malformed, Garbage, EdReverse, OutMany, Reserved, NoPatchFile, TooLong, LongLine, FileTooLong, BadPattern, NoContext, Unfit, BadState, StackEnd, StackName, ReadFault, WriteFault, TreeFault, ScratchFault, Disagree, Memory}
 
 abbrev pub kind_text : BadKind → List ℕ
 kind_text Range = codes "a bad range"
@@ -49,7 +49,6 @@ reason_of TreeFault = codes "tree fault"
 reason_of ScratchFault = codes "scratch fault"
 reason_of (Disagree want got) = decimal want ++ (codes " expected, " ++ (decimal got ++ codes " found"))
 reason_of Memory = codes "out of memory"
-reason_of Unsupported = codes "not supported yet"
 
 -- a word that is a tool: `patch`, or one of the others
 abbrev pub is_tool : List ℕ → Bool

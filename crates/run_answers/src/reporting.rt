@@ -142,7 +142,6 @@ fn reason_of(why: Why) -> Reason
             end: b" found",
         },
         Why::Memory => plain(b"out of memory"),
-        Why::Unsupported => plain(b"not supported yet"),
     }
 }
 

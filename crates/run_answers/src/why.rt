@@ -61,8 +61,6 @@ pub enum Why {
     Disagree { want: u64, got: u64 },
     /// Memory ran out.
     Memory,
-    /// What isn't built yet.
-    Unsupported,
 }
 
 impl Why {
@@ -94,7 +92,6 @@ impl From<WordFault> for Why {
     fn from(fault: WordFault) -> Self {
         match fault {
             WordFault::Usage => Why::Usage,
-            WordFault::Unsupported => Why::Unsupported,
             WordFault::Memory => Why::Memory,
         }
     }

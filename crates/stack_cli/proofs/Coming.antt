@@ -26,13 +26,16 @@ use Rattle.patch_options.specs.declared.options.WordFault.{WordFault}
 use Rattle.tool_words.specs.declared.jobs.StackOp.{StackOp}
 use Rattle.stack_steps.specs.Steps.{IsWhole, IsPart, HasStepCause, Steps}
 use Rattle.run_answers.specs.declared.why.Why.{Why}
-use Rattle.run_answers.specs.declared.why.Why.TheVariants.{Done, Rejected, Usage, Malformed, Garbage, EdReverse, OutMany, Reserved, NoPatchFile, TooLong, LongLine, FileTooLong, BadPattern, NoContext, Unfit, BadState, StackEnd, StackName, ReadFault, WriteFault, TreeFault, ScratchFault, Disagree, Memory, Unsupported}
-use Rattle.run_answers.specs.Answers.{is_own, of_run}
+use Rattle.run_answers.specs.declared.why.Why.TheVariants.{Done, Rejected, Usage, Malformed, Garbage, EdReverse, OutMany, Reserved, NoPatchFile, TooLong, LongLine, FileTooLong, BadPattern, NoContext, Unfit, BadState, StackEnd, StackName, ReadFault, WriteFault, TreeFault, ScratchFault, Disagree, Memory}
+use Rattle.run_answers.specs.Answers.{is_own, of_run, is_early}
+use Rattle.run_answers.specs.Moments.{FirstPart}
+use Rattle.run_answers.specs.Worlds.{World, world}
+use Rattle.run_answers.specs.Outcomes.{Outcome}
 use Rattle.stack_cli.specs.Jobs.{AsksFor, IsPushing}
-use Rattle.stack_cli.specs.Command.{Outcome, behind}
-use Rattle.stack_cli.specs.Worlds.{World, world, Tells}
+use Rattle.stack_cli.specs.Command.{behind}
+use Rattle.stack_cli.specs.Worlds.{Tells}
 use Rattle.stack_cli.specs.Causes.{HasCause}
-use Rattle.stack_cli.specs.Carries.{IsAnswer, FirstPart, Answers, is_early}
+use Rattle.stack_cli.specs.Carries.{IsAnswer, Answers}
 use Rattle.stack_cli.specs.Comes.{Comes}
 use Rattle.stack_cli.specs.Stages.{ended, why_by}
 
@@ -47,7 +50,6 @@ pub cause_then : (job : Result StackOp WordFault) (u v w : World) (why : Why) �
 cause_then job u v w Done p s o cause = cause
 cause_then job u v w Rejected p s o cause = cause
 cause_then job u v w Usage p s o cause = cause
-cause_then job u v w Unsupported p s o cause = cause
 cause_then job u v w NoPatchFile p s o cause = cause
 cause_then job u v w TooLong p s o cause = cause
 cause_then job u v w (Malformed line kind) p s o cause = cause
@@ -129,9 +131,9 @@ cause-fault op u w (runs.FileTooLong size) cause = absurd cause
 cause-fault op u w (runs.Disagree want got) cause = absurd cause
 cause-fault op u w runs.Memory cause = tt
 
-pub part-answers : (b : Bool) (why : Why) (f : Files) {u w : World} (o : Outcome) → b ≡ false → FirstPart u w o → Answers b why f u w o
-part-answers true why f o not part = absurd (false≢true (sym not))
-part-answers false why f o not part = part
+pub part-answers : (b : Bool) (why : Why) (f : Files) (u w : World) (o : Outcome) → b ≡ false → FirstPart u.tree w.tree u.out w.out o.effects o.text → Answers b why f u w o
+part-answers true why f u w o not part = absurd (false≢true (sym not))
+part-answers false why f u w o not part = part
 
 pub comes_stop : {R : Type 0} {op : StackOp} {u w : World} {es : Files → List Effect} {t : Files → List ℕ} (e : RunFault) (o : Files → Outcome)
     → Steps {R = R} u.tree w.tree u.out w.out (Err e) es t → w.scratch ≡ u.scratch → Comes op u w (of_run e) (λ f. behind (es f) (t f) (o f))
@@ -147,7 +149,7 @@ comes_stop {op = op} {u = u} {w = w} {es = es} {t = t} e o a scratch =
       tidy = λ own. absurd (false≢true (sym not.0 ∙ own));
       answers = λ f told.
           let part = a.err f told.files in
-          part-answers (is_own (of_run e)) (of_run e) f (behind (es f) (t f) (o f)) not.0 (record {
+          part-answers (is_own (of_run e)) (of_run e) f u w (behind (es f) (t f) (o f)) not.0 (record {
             tells = tells_longer u.tree w.tree (es f) (o f).effects (es f ++ (o f).effects) refl part.tells;
             said = part_longer u.out w.out (t f) (o f).text part.said;
           });
@@ -217,7 +219,7 @@ comes_nothing {op = op} {u = u} {w = w} {a = a} {c = c} why o same quiet own lat
   late = late;
   quiet = λ is. absurd (false≢true (sym own ∙ is));
   tidy = λ is. absurd (false≢true (sym own ∙ is));
-  answers = λ f told. part-answers (is_own why) why f (o f) own (record {
+  answers = λ f told. part-answers (is_own why) why f (world u a c) (world w a c) (o f) own (record {
     tells = tells_longer u w [] (o f).effects (o f).effects refl (made_tells_all u w [] (untouched_made same quiet));
     said = part_longer c c [] (o f).text (received_part c c [] (received_none c));
   });

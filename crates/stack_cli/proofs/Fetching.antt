@@ -47,12 +47,11 @@ use Rattle.stack_patch.specs.Pushes.{IsPush, IsPushed}
 use Rattle.tool_words.specs.declared.jobs.StackOp.TheVariants.{Push}
 use Rattle.run_answers.specs.declared.why.Why.{Why}
 use Rattle.run_answers.specs.declared.why.Why.TheVariants.{TreeFault, Disagree, Memory, StackName}
-use Rattle.run_answers.specs.Answers.{is_own, of_input, of_set}
+use Rattle.run_answers.specs.Answers.{is_own, of_input, of_set, is_early}
+use Rattle.run_answers.specs.Worlds.{world}
 use Rattle.stack_cli.specs.Causes.{HasCause}
-use Rattle.stack_cli.specs.Carries.{is_early}
 use Rattle.stack_cli.proofs.Pushed.{own_stops, read-stops}
 use Rattle.stack_cli.specs.Command.{input_why, patch_why, patches_stop, stop_in, text_why}
-use Rattle.stack_cli.specs.Worlds.{world}
 use Rattle.stack_cli.specs.Comes.{StopsEarly}
 use Rattle.stack_cli.specs.Faults.{of_push}
 use Rattle.stack_cli.specs.Stages.{CanPush, IsNext}

@@ -36,9 +36,10 @@ use Rattle.stack_state.specs.Causes as causes
 use Rattle.stack_steps.proofs.Restoring.{undone-is}
 use Rattle.run_answers.specs.declared.why.Why.{Why}
 use Rattle.run_answers.specs.declared.why.Why.TheVariants.{Done, StackEnd, BadState}
+use Rattle.run_answers.specs.Worlds.{World, world}
+use Rattle.run_answers.specs.Outcomes.{Outcome, refused}
 use Rattle.stack_cli.specs.Jobs.{operation}
-use Rattle.stack_cli.specs.Command.{Outcome, behind, on_op, refused}
-use Rattle.stack_cli.specs.Worlds.{World, world}
+use Rattle.stack_cli.specs.Command.{behind, on_op}
 use Rattle.stack_cli.specs.Comes.{StopsEarly}
 use Rattle.stack_cli.specs.Faults.{of_state}
 use Rattle.stack_cli.specs.Stages.{ended}

@@ -17,27 +17,28 @@ use Rattle.stack_law.specs.Laws.{Recovers, files_after}
 use Rattle.stack_reader.specs.Reading.{read_patch}
 use Rattle.stack_reader.proofs.Lawful.{keeps}
 use Rattle.run_answers.specs.declared.why.Why.{Why}
-use Rattle.run_answers.specs.declared.why.Why.TheVariants.{Done, Rejected, Usage, Malformed, Garbage, EdReverse, OutMany, Reserved, NoPatchFile, TooLong, LongLine, FileTooLong, BadPattern, NoContext, Unfit, BadState, StackEnd, StackName, ReadFault, WriteFault, TreeFault, ScratchFault, Disagree, Memory, Unsupported}
-use Rattle.run_answers.specs.Answers.{is_own, of_words}
-use Rattle.run_answers.specs.Moments.{Opens}
+use Rattle.run_answers.specs.declared.why.Why.TheVariants.{Done, Rejected, Usage, Malformed, Garbage, EdReverse, OutMany, Reserved, NoPatchFile, TooLong, LongLine, FileTooLong, BadPattern, NoContext, Unfit, BadState, StackEnd, StackName, ReadFault, WriteFault, TreeFault, ScratchFault, Disagree, Memory}
+use Rattle.run_answers.specs.Answers.{is_own, of_words, is_through, is_early}
+use Rattle.run_answers.specs.Moments.{Opens, FirstPart, IsAsAtEntry, LeavesAllowed}
+use Rattle.run_answers.specs.Worlds.{World, world, NoneFailed}
+use Rattle.run_answers.specs.Outcomes.{Outcome, refused}
 use Rattle.run_answers.proofs.Names.{old_or_new}
 use Rattle.run_answers.proofs.Opens.{opens_none, opens_both, opens_untouched, tidy_same, tidy_behind}
 use Rattle.stack_cli.specs.Jobs.{AsksFor, IsPushing, operation}
-use Rattle.stack_cli.specs.Command.{Outcome, command, on_op, refused}
-use Rattle.stack_cli.specs.Worlds.{World, world, Tells, NoneFailed}
+use Rattle.stack_cli.specs.Command.{command, on_op}
+use Rattle.stack_cli.specs.Worlds.{Tells}
 use Rattle.stack_cli.specs.Causes.{HasCause}
-use Rattle.stack_cli.specs.Carries.{IsAnswer, FirstPart, Answers, IsAsAtEntry, is_end, is_early, LeavesAllowed, LeavesRecoverable, Carries}
+use Rattle.stack_cli.specs.Carries.{IsAnswer, Answers, LeavesRecoverable, Carries}
 use Rattle.stack_cli.specs.Comes.{Comes, StopsEarly}
 use Rattle.stack_cli.proofs.Coming.{cause_then}
 
 -- ---- of which sort an answer is
-end-own : (why : Why) → is_end why ≡ true → is_own why ≡ true
+end-own : (why : Why) → is_through why ≡ true → is_own why ≡ true
 end-own Done is = refl
 end-own Rejected is = refl
 end-own (LongLine line size) is = refl
 end-own (FileTooLong size) is = refl
 end-own Usage is = refl
-end-own Unsupported is = refl
 end-own NoPatchFile is = refl
 end-own TooLong is = refl
 end-own (Malformed line kind) is = refl
@@ -58,13 +59,12 @@ end-own ScratchFault is = is
 end-own (Disagree want got) is = is
 end-own Memory is = is
 
-early-end : (why : Why) → (is_own why ≡ true → is_early why ≡ true) → is_end why ≡ true → ⊥
+early-end : (why : Why) → (is_own why ≡ true → is_early why ≡ true) → is_through why ≡ true → ⊥
 early-end Done early is = absurd (false≢true (early refl))
 early-end Rejected early is = absurd (false≢true (early refl))
 early-end (LongLine line size) early is = absurd (false≢true (early refl))
 early-end (FileTooLong size) early is = absurd (false≢true (early refl))
 early-end Usage early is = absurd (false≢true is)
-early-end Unsupported early is = absurd (false≢true is)
 early-end NoPatchFile early is = absurd (false≢true is)
 early-end TooLong early is = absurd (false≢true is)
 early-end (Malformed line kind) early is = absurd (false≢true is)
@@ -112,7 +112,6 @@ is-complete TreeFault cause f told none answer = absurd (none.tree cause)
 is-complete ScratchFault cause f told none answer = absurd (none.scratch cause.1)
 is-complete (Disagree want got) cause f told none answer = absurd (cause.1 f told)
 is-complete Memory cause f told none answer = inr refl
-is-complete Unsupported cause f told none answer = inl answer
 
 -- ---- a command that was begun
 pub carries_late : (op : StackOp) (u w : World) (why : Why) → ((IsPushing op → ⊥) → w.scratch ≡ u.scratch) → Comes op u w why (on_op op) → Carries (Ok op) u w why
@@ -133,8 +132,8 @@ carries_late op u w why unkept d = record {
 }
 
 -- ---- an end before anything is said or changed
-module _ (u w : World) (same : IsAsAtEntry u w) where
-  nothing-yet : (f : Files) (o : Outcome) → u.tree.told ≡ Some f → FirstPart u w o
+module _ (u w : World) (same : IsAsAtEntry u.tree w.tree u.scratch w.scratch u.out w.out) where
+  nothing-yet : (f : Files) (o : Outcome) → u.tree.told ≡ Some f → FirstPart u.tree w.tree u.out w.out o.effects o.text
   nothing-yet f o told = record {
     tells = λ g h was now. (zero, omega arith, subst (λ (x : Files). SameLasting g x) (same_Some _ _ (sym was ∙ sym same.told ∙ now)) (lasting-same g));
     said = λ b now. inr (zero, ap (λ (a : SinkView). a.told) same.out ∙ now ∙ ap (λ (l : List ℕ). Some l) (sym (append-nil b)));
@@ -156,11 +155,11 @@ recovers-early (Ok op) u w f images = λ c since. inl (images c since)
 recovers-early (Err fault) u w f images = tt
 
 pub carries_entry : (job : Result StackOp WordFault) (t v : TreeView) (a : ScratchView) (c : SinkView) (why : Why) → Opens t v → HasCause why job (world t a c) (world v a c)
-    → (is_end why ≡ true → ⊥) → (is_own why ≡ true → (f : Files) → t.told ≡ Some f → command job f ≡ refused why) → Carries job (world t a c) (world v a c) why
+    → (is_through why ≡ true → ⊥) → (is_own why ≡ true → (f : Files) → t.told ≡ Some f → command job f ≡ refused why) → Carries job (world t a c) (world v a c) why
 carries_entry job t v a c why opens cause going ends =
     let u = world t a c in
     let w = world v a c in
-    let same : IsAsAtEntry u w = record { told = opens.told; scratch = refl; out = refl; images = opens.images } in
+    let same : IsAsAtEntry t v a a c c = record { told = opens.told; scratch = refl; out = refl; images = opens.images } in
     record {
       tree = opens.passes;
       scratch = scratch_passes_none a;
@@ -187,12 +186,10 @@ GivesNone job why = (why ≡ Memory) ⊎ ((fault : WordFault) × (why ≡ of_wor
 module _ (job : Result StackOp WordFault) (t : TreeView) (a : ScratchView) (c : SinkView) where
   words-cause : (fault : WordFault) → job ≡ Err fault → HasCause (of_words fault) job (world t a c) (world t a c)
   words-cause words.Usage is = is
-  words-cause words.Unsupported is = is
   words-cause words.Memory is = tt
 
-  words-going : (fault : WordFault) → is_end (of_words fault) ≡ true → ⊥
+  words-going : (fault : WordFault) → is_through (of_words fault) ≡ true → ⊥
   words-going words.Usage is = absurd (false≢true is)
-  words-going words.Unsupported is = absurd (false≢true is)
   words-going words.Memory is = absurd (false≢true is)
 
   carries-as : (y why : Why) → y ≡ why → Carries job (world t a c) (world t a c) why → Carries job (world t a c) (world t a c) y
@@ -239,7 +236,7 @@ module _ (job : Result StackOp WordFault) (t v : TreeView) (a : ScratchView) (c 
   recovers-behind (Ok op) f leaves = images-behind (λ d. Recovers f (files_after read_patch (operation op) f) d) leaves
   recovers-behind (Err fault) f leaves = tt
 
-  entry-behind : IsAsAtEntry (world v a c) w → IsAsAtEntry (world t a c) w
+  entry-behind : IsAsAtEntry v w.tree a w.scratch c w.out → IsAsAtEntry t w.tree a w.scratch c w.out
   entry-behind same =
       let more : Opens v w.tree = record { passes = done.tree; told = same.told; images = same.images } in
       let both = opens_both opens more in

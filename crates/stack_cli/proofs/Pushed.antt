@@ -33,13 +33,13 @@ use Rattle.stack_law.proofs.Recovering.{recovering-is, recover-by}
 use Rattle.stack_reader.specs.Reading.{push_options, application_of, patch_of_set, read_patch, targets_for}
 use Rattle.tool_words.specs.declared.jobs.StackOp.TheVariants.{Push}
 use Rattle.run_answers.specs.declared.why.Why.{Why}
-use Rattle.run_answers.specs.Answers.{is_own}
+use Rattle.run_answers.specs.Answers.{is_own, is_early}
 use Rattle.stack_cli.specs.Causes.{HasCause}
-use Rattle.stack_cli.specs.Carries.{is_early}
 use Rattle.run_answers.specs.declared.why.Why.TheVariants.{Done, FileTooLong, StackEnd, StackName, TreeFault, Disagree, Memory}
+use Rattle.run_answers.specs.Worlds.{World, world}
+use Rattle.run_answers.specs.Outcomes.{Outcome, refused}
 use Rattle.stack_cli.specs.Jobs.{operation}
-use Rattle.stack_cli.specs.Command.{Outcome, answer_why, behind, first_file, on_op, outcome_with, patch_why, refused, saved_files, stop_in, stop_why}
-use Rattle.stack_cli.specs.Worlds.{World, world}
+use Rattle.stack_cli.specs.Command.{answer_why, behind, first_file, on_op, outcome_with, patch_why, saved_files, stop_in, stop_why}
 use Rattle.stack_cli.specs.Comes.{Comes, StopsEarly}
 use Rattle.stack_cli.specs.Stages.{IsNext, Stage, applied_by, closed, ended, on_recovered, on_said, on_saved, saved_by}
 use Rattle.stack_cli.specs.States.{IsNamed, IsState, plain_stack, stage_of}

@@ -52,11 +52,14 @@ use Rattle.stack_steps.specs.Undoing.{undone_by}
 use Rattle.tool_words.specs.declared.jobs.StackOp.TheVariants.{Push}
 use Rattle.run_answers.specs.declared.why.Why.{Why}
 use Rattle.run_answers.specs.declared.why.Why.TheVariants.{Done, Rejected}
-use Rattle.run_answers.specs.Answers.{is_own, of_run}
-use Rattle.stack_cli.specs.Command.{Outcome, behind, stop_why}
-use Rattle.stack_cli.specs.Worlds.{World, world, Tells}
+use Rattle.run_answers.specs.Answers.{is_own, of_run, is_early}
+use Rattle.run_answers.specs.Moments.{FirstPart}
+use Rattle.run_answers.specs.Worlds.{World, world}
+use Rattle.run_answers.specs.Outcomes.{Outcome}
+use Rattle.stack_cli.specs.Command.{behind, stop_why}
+use Rattle.stack_cli.specs.Worlds.{Tells}
 use Rattle.stack_cli.specs.Causes.{HasCause}
-use Rattle.stack_cli.specs.Carries.{Answers, FirstPart, is_early}
+use Rattle.stack_cli.specs.Carries.{Answers}
 use Rattle.stack_cli.specs.Comes.{Comes}
 use Rattle.stack_cli.specs.Stages.{CanPush, Closes, HasCut, IsCut, IsStill, Stage, closed, ended, ending_if, is_cut, on_saved}
 use Rattle.stack_cli.proofs.Coming.{cause_then, comes_end, comes_is, comes_stop, comes_why, part-answers}
@@ -236,7 +239,7 @@ cut-quiet runs.Memory is quiet = absurd (false≢true is)
 
 -- ---- another fault
 module _ (u v w : World) (set : SetView) (s : Stage) (save : List ℕ) (e : RunFault) (still : IsStill e v w (of_run e)) (same : w.scratch ≡ v.scratch) where
-  part-more : (f : Files) → IsPartOf u.tree v.tree u.out v.out (set_run push_options set f).effects (set_run push_options set f).said → (o : Outcome) → FirstPart u w (behind (set_run push_options set f).effects (set_run push_options set f).said o)
+  part-more : (f : Files) → IsPartOf u.tree v.tree u.out v.out (set_run push_options set f).effects (set_run push_options set f).said → (o : Outcome) → FirstPart u.tree w.tree u.out w.out ((set_run push_options set f).effects ++ o.effects) ((set_run push_options set f).said ++ o.text)
   part-more f part o =
       let r = set_run push_options set f in
       record {
@@ -260,7 +263,7 @@ module _ (u v w : World) (set : SetView) (s : Stage) (save : List ℕ) (e : RunF
     late = late;
     quiet = λ is. absurd (false≢true (sym own ∙ is));
     tidy = λ is. absurd (false≢true (sym own ∙ is));
-    answers = λ f told. part-answers (is_own (of_run e)) (of_run e) f (on_saved set s (entries_of save) f) own (part-more f (part f told) (rest f));
+    answers = λ f told. part-answers (is_own (of_run e)) (of_run e) f u w (on_saved set s (entries_of save) f) own (part-more f (part f told) (rest f));
     images = λ f told. leaves-more f (rest f) tree (part f told).leaves;
   }
     where

@@ -27,12 +27,12 @@ use Rattle.stack_state.specs.declared.fault.StateFault.TheVariants as state
 use Rattle.stack_state.specs.Causes as causes
 use Rattle.run_answers.specs.declared.why.Why.{Why}
 use Rattle.run_answers.specs.declared.why.Why.TheVariants.{Memory}
-use Rattle.run_answers.specs.Answers.{is_own}
+use Rattle.run_answers.specs.Answers.{is_own, is_early}
+use Rattle.run_answers.specs.Worlds.{World, world}
+use Rattle.run_answers.specs.Outcomes.{Outcome, refused}
 use Rattle.stack_cli.specs.Jobs.{operation}
-use Rattle.stack_cli.specs.Command.{Outcome, outcome_with, next_file, applied_in, on_op, refused}
-use Rattle.stack_cli.specs.Worlds.{World, world}
+use Rattle.stack_cli.specs.Command.{outcome_with, next_file, applied_in, on_op}
 use Rattle.stack_cli.specs.Causes.{HasCause}
-use Rattle.stack_cli.specs.Carries.{is_early}
 use Rattle.stack_cli.specs.Comes.{StopsEarly}
 use Rattle.stack_cli.specs.Faults.{of_state}
 use Rattle.stack_cli.proofs.Coming.{cause_then}

@@ -1,22 +1,24 @@
 -- What a run of `patchstack` promises: that it is the command's, and what stands at each moment.
-use Rattle.std.specs.Prelude.{◌≡◌, ◌⊎◌, ℕ, List, Bool, true, false, Some, Result, Ok, Err}
-use Rattle.outside.specs.Files.{Files, SameLasting, is_temp}
+use Rattle.std.specs.Prelude.{◌≡◌, ◌⊎◌, Bool, true, false, Some, Result, Ok, Err}
+use Rattle.outside.specs.Files.{Files, SameLasting}
 use Rattle.outside.specs.TreeView.{Passes, MayLeave, LeftSince}
-use Rattle.outside.specs.SinkView.{SinkPasses, Receives, ReceivesPart}
+use Rattle.outside.specs.SinkView.{SinkPasses, Receives}
 use Rattle.outside.specs.ScratchView.{ScratchPasses}
-use Rattle.outside.specs.Quiet.{IsQuiet, Effect, TellsPrefix, after_all}
+use Rattle.outside.specs.Quiet.{IsQuiet, after_all}
 use Rattle.patch_options.specs.declared.options.WordFault.{WordFault}
 use Rattle.patch_effects.specs.Making.{IsTidy}
 use Rattle.stack_law.specs.Laws.{Recovers, files_after}
 use Rattle.stack_reader.specs.Reading.{read_patch}
 use Rattle.tool_words.specs.declared.jobs.StackOp.{StackOp}
 use Rattle.run_answers.specs.declared.why.Why.{Why}
-use Rattle.run_answers.specs.declared.why.Why.TheVariants.{Done, Rejected, LongLine, FileTooLong, WriteFault, TreeFault, ScratchFault, Disagree, Memory}
-use Rattle.run_answers.specs.Answers.{is_own}
-use Rattle.run_answers.specs.Moments.{IsAfterPrefix, HoldsOldOrNew}
+use Rattle.run_answers.specs.declared.why.Why.TheVariants.{Memory}
+use Rattle.run_answers.specs.Answers.{is_own, is_early, is_through}
+use Rattle.run_answers.specs.Moments.{FirstPart, IsAsAtEntry, LeavesAllowed, LeavesOldOrNew}
+use Rattle.run_answers.specs.Worlds.{World, NoneFailed}
+use Rattle.run_answers.specs.Outcomes.{Outcome}
 use Rattle.stack_cli.specs.Jobs.{AsksFor, IsPushing, operation}
-use Rattle.stack_cli.specs.Command.{Outcome, command}
-use Rattle.stack_cli.specs.Worlds.{World, Tells, NoneFailed}
+use Rattle.stack_cli.specs.Command.{command}
+use Rattle.stack_cli.specs.Worlds.{Tells}
 use Rattle.stack_cli.specs.Causes.{HasCause}
 
 -- the answer of an outcome: its text, and the files after its effects, temporary names aside
@@ -25,51 +27,10 @@ pub record IsAnswer (why : Why) (f : Files) (u w : World) (o : Outcome) : Type 0
   pub text : Receives u.out w.out o.text
   pub files : (g : Files) → w.tree.told ≡ Some g → SameLasting (after_all o.effects f) g
 
--- a first part of the effects and of the text
-pub record FirstPart (u w : World) (o : Outcome) : Type 0 where
-  pub tells : TellsPrefix u.tree w.tree o.effects
-  pub said : ReceivesPart u.out w.out o.text
-
 -- a first part after a fault or where memory ran out, else all
 abbrev pub Answers : Bool → Why → Files → World → World → Outcome → Type 0
 Answers true why f u w o = IsAnswer why f u w o
-Answers false why f u w o = FirstPart u w o
-
--- the tree is told as at entry, nothing was written, and a crash leaves what one could have left at entry
-pub record IsAsAtEntry (u w : World) : Type 0 where
-  pub told : w.tree.told ≡ u.tree.told
-  pub scratch : w.scratch ≡ u.scratch
-  pub out : w.out ≡ u.out
-  pub images : (c : Files) → LeftSince w.tree u.tree.moment c → MayLeave u.tree c
-
--- the command was begun, and came to an end: this may be a file that isn't saved or isn't taken
-abbrev pub is_end : Why → Bool
-is_end Done = true
-is_end Rejected = true
-is_end (LongLine line length) = true
-is_end (FileTooLong length) = true
-is_end why = false
-
--- a refusal: it comes before anything is said or changed
-abbrev pub is_early : Why → Bool
-is_early Done = false
-is_early Rejected = false
-is_early (LongLine line length) = false
-is_early (FileTooLong length) = false
-is_early WriteFault = false
-is_early TreeFault = false
-is_early ScratchFault = false
-is_early (Disagree want got) = false
-is_early Memory = false
-is_early why = true
-
--- each crash since the call began leaves what one could have left at entry, or the files at entry after a first part of the effects
-abbrev pub LeavesAllowed : World → World → Files → List Effect → Type 0
-LeavesAllowed u w f es = (c : Files) → LeftSince w.tree u.tree.moment c → MayLeave u.tree c ⊎ IsAfterPrefix es f c
-
--- each crash since the call began leaves what one could have left at entry, or at each name that isn't temporary its old or its new bytes
-abbrev pub LeavesOldOrNew : World → World → Files → List Effect → Type 0
-LeavesOldOrNew u w f es = (c : Files) → LeftSince w.tree u.tree.moment c → MayLeave u.tree c ⊎ ((q : List ℕ) → is_temp q ≡ false → HoldsOldOrNew es f c q)
+Answers false why f u w o = FirstPart u.tree w.tree u.out w.out o.effects o.text
 
 -- each crash since the call began leaves what one could have left at entry, or what recovers to the files before the command, or after it, as its count says
 abbrev pub LeavesRecoverable : Result StackOp WordFault → World → World → Files → Type 0
@@ -82,15 +43,15 @@ pub record Carries (job : Result StackOp WordFault) (u w : World) (why : Why) : 
   pub scratch : ScratchPasses u.scratch w.scratch
   pub sink : SinkPasses u.out w.out
   pub cause : HasCause why job u w
-  pub untouched : is_early why ≡ true → IsAsAtEntry u w
+  pub untouched : is_early why ≡ true → IsAsAtEntry u.tree w.tree u.scratch w.scratch u.out w.out
   -- only a push keeps anything in the scratch
   pub unkept : (AsksFor job IsPushing → ⊥) → w.scratch ≡ u.scratch
   -- after an end each crash from then on leaves all effects
-  pub quiet : is_end why ≡ true → IsQuiet w.tree
+  pub quiet : is_through why ≡ true → IsQuiet w.tree
   pub answers : (f : Files) → Tells job u f → Answers (is_own why) why f u w (command job f)
-  pub images : (f : Files) → Tells job u f → LeavesAllowed u w f (command job f).effects
+  pub images : (f : Files) → Tells job u f → LeavesAllowed u.tree w.tree f (command job f).effects
   -- wherever the run is stopped, each file holds its old bytes or its completed new ones
-  pub names : (f : Files) → Tells job u f → LeavesOldOrNew u w f (command job f).effects
+  pub names : (f : Files) → Tells job u f → LeavesOldOrNew u.tree w.tree f (command job f).effects
   -- and what is left recovers
   pub recovers : (f : Files) → Tells job u f → LeavesRecoverable job u w f
   -- behind an answer of the command itself no temporary is left that the run started

@@ -13,9 +13,10 @@ use Rattle.stack_reader.specs.Reading.{push_options}
 use Rattle.tool_words.specs.declared.jobs.StackOp.{StackOp}
 use Rattle.tool_words.specs.declared.jobs.StackOp.TheVariants.{Push, Pop, Applied}
 use Rattle.run_answers.specs.declared.why.Why.{Why}
-use Rattle.run_answers.specs.declared.why.Why.TheVariants.{Done, Rejected, Usage, Malformed, Garbage, EdReverse, OutMany, Reserved, NoPatchFile, TooLong, LongLine, FileTooLong, BadPattern, NoContext, Unfit, BadState, StackEnd, StackName, ReadFault, WriteFault, TreeFault, ScratchFault, Disagree, Memory, Unsupported}
+use Rattle.run_answers.specs.declared.why.Why.TheVariants.{Done, Rejected, Usage, Malformed, Garbage, EdReverse, OutMany, Reserved, NoPatchFile, TooLong, LongLine, FileTooLong, BadPattern, NoContext, Unfit, BadState, StackEnd, StackName, ReadFault, WriteFault, TreeFault, ScratchFault, Disagree, Memory}
+use Rattle.run_answers.specs.Worlds.{World}
 use Rattle.stack_cli.specs.Jobs.{AsksFor, IsPushing}
-use Rattle.stack_cli.specs.Worlds.{World, Tells}
+use Rattle.stack_cli.specs.Worlds.{Tells}
 
 -- a push, and some text is refused so
 abbrev pub RefusesText : SetFault → StackOp → Type 0
@@ -31,7 +32,6 @@ abbrev pub HasCause : Why → Result StackOp WordFault → World → World → T
 HasCause Done job u w = AsksFor job (λ op. Unit {0})
 HasCause Rejected job u w = AsksFor job IsPushing
 HasCause Usage job u w = job ≡ Err words.Usage
-HasCause Unsupported job u w = job ≡ Err words.Unsupported
 HasCause NoPatchFile job u w = AsksFor job (λ op. Unit {0})
 HasCause TooLong job u w = AsksFor job IsPushing
 HasCause (Malformed line kind) job u w = AsksFor job (RefusesText (set.Malformed line kind))

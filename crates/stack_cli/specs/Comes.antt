@@ -1,5 +1,5 @@
 -- Parts of a command, on a quiet tree.
-use Rattle.std.specs.Prelude.{◌≡◌, true, false, Some, Result, Ok}
+use Rattle.std.specs.Prelude.{◌≡◌, true, false, Some, Ok}
 use Rattle.outside.specs.Files.{Files}
 use Rattle.outside.specs.TreeView.{Passes}
 use Rattle.outside.specs.SinkView.{SinkPasses}
@@ -8,11 +8,13 @@ use Rattle.outside.specs.Quiet.{IsQuiet, LeavesPrefix}
 use Rattle.patch_effects.specs.Making.{IsTidy}
 use Rattle.tool_words.specs.declared.jobs.StackOp.{StackOp}
 use Rattle.run_answers.specs.declared.why.Why.{Why}
-use Rattle.run_answers.specs.Answers.{is_own}
-use Rattle.stack_cli.specs.Command.{Outcome, on_op, refused}
-use Rattle.stack_cli.specs.Worlds.{World, Tells}
+use Rattle.run_answers.specs.Answers.{is_own, is_early}
+use Rattle.run_answers.specs.Worlds.{World}
+use Rattle.run_answers.specs.Outcomes.{Outcome, refused}
+use Rattle.stack_cli.specs.Command.{on_op}
+use Rattle.stack_cli.specs.Worlds.{Tells}
 use Rattle.stack_cli.specs.Causes.{HasCause}
-use Rattle.stack_cli.specs.Carries.{Answers, is_early}
+use Rattle.stack_cli.specs.Carries.{Answers}
 
 -- a part behind all refusals, to the command's end: it comes to this outcome of the files, or to a first part of it
 pub record Comes (op : StackOp) (u w : World) (why : Why) (o : Files → Outcome) : Type 0 where

@@ -29,17 +29,8 @@ use Rattle.tool_words.specs.declared.jobs.StackOp.{StackOp}
 use Rattle.run_answers.specs.declared.why.Why.{Why}
 use Rattle.run_answers.specs.declared.why.Why.TheVariants.{Done, Rejected, NoPatchFile, FileTooLong, BadState, StackEnd, StackName}
 use Rattle.run_answers.specs.Answers.{of_words, of_input, of_set, of_run}
+use Rattle.run_answers.specs.Outcomes.{Outcome, refused}
 use Rattle.stack_cli.specs.Jobs.{operation}
-
-pub record Outcome : Type 0 where
-  pub why : Why
-  -- what goes to standard output
-  pub text : List ℕ
-  pub effects : List Effect
-
--- a refusal says nothing and changes nothing
-abbrev pub refused : Why → Outcome
-refused why = record { why = why; text = []; effects = [] }
 
 -- what was said and done before, and then this
 abbrev pub behind : List Effect → List ℕ → Outcome → Outcome

@@ -24,9 +24,10 @@ use Rattle.tool_words.specs.declared.jobs.StackOp.TheVariants.{Push}
 use Rattle.run_answers.specs.declared.why.Why.{Why}
 use Rattle.run_answers.specs.declared.why.Why.TheVariants.{Done, Rejected, FileTooLong}
 use Rattle.run_answers.specs.Answers.{of_run}
+use Rattle.run_answers.specs.Worlds.{World}
+use Rattle.run_answers.specs.Outcomes.{Outcome}
 use Rattle.stack_steps.specs.Undoing.{undone_by}
-use Rattle.stack_cli.specs.Command.{Outcome, behind, stop_in, stop_why}
-use Rattle.stack_cli.specs.Worlds.{World}
+use Rattle.stack_cli.specs.Command.{behind, stop_in, stop_why}
 use Rattle.stack_cli.specs.Comes.{Comes}
 
 abbrev pub ended : Why → List Effect → List ℕ → Outcome

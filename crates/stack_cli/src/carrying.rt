@@ -3,8 +3,8 @@ ghost use Rattle.std.specs.Prelude.{◌≡◌, ◌⊎◌, map, Ok, Err, string_b
 ghost use Rattle.outside.specs.Quiet.{IsQuiet};
 ghost use Rattle.patch_options.specs.declared.options.WordFault.{WordFault};
 ghost use Rattle.run_answers.specs.Answers.{of_words};
+ghost use Rattle.run_answers.specs.Worlds.{world};
 ghost use Rattle.stack_cli.specs.Jobs.{AsksFor, IsPushing, job_of};
-ghost use Rattle.stack_cli.specs.Worlds.{world};
 ghost use Rattle.stack_cli.specs.Carries.{Carries};
 ghost use Rattle.stack_cli.specs.States.{IsState};
 

@@ -13,7 +13,7 @@ ghost use Rattle.stack_law.specs.Commands.{Ending as endings};
 ghost use Rattle.tool_words.specs.declared.jobs.StackOp.TheVariants.{Push};
 ghost use Rattle.run_answers.specs.Answers.{of_run};
 ghost use Rattle.run_answers.specs.declared.why.Why.TheVariants.{Done, Rejected};
-ghost use Rattle.stack_cli.specs.Worlds.{world};
+ghost use Rattle.run_answers.specs.Worlds.{world};
 ghost use Rattle.stack_cli.specs.Comes.{Comes};
 ghost use Rattle.stack_cli.specs.Stages.{Closes, HasCut, IsCut, QuietBy, Stage, is_cut, closed, ending_if, why_by};
 ghost use Rattle.stack_cli.specs.States.{stage_of};

@@ -13,7 +13,7 @@ ghost use Rattle.outside.specs.Names.{is_absolute};
 ghost use Rattle.outside.specs.Quiet.Effect.{Put};
 ghost use Rattle.stack_cli.specs.Command.{behind, on_op};
 ghost use Rattle.tool_words.specs.declared.jobs.StackOp.TheVariants.{Push};
-ghost use Rattle.stack_cli.specs.Worlds.{world};
+ghost use Rattle.run_answers.specs.Worlds.{world};
 ghost use Rattle.stack_cli.specs.Carries.{Carries};
 ghost use Rattle.stack_cli.specs.Comes.{Comes, StopsEarly};
 ghost use Rattle.stack_cli.specs.Stages.{CanPush, IsNext, on_recovered, on_said, on_saved};

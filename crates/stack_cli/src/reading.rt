@@ -8,10 +8,10 @@ ghost use Rattle.patch_options.specs.declared.options.WordFault.{WordFault as Th
 ghost use Rattle.tool_words.specs.PlainJobs.{plain_tool_job};
 ghost use Rattle.tool_words.specs.declared.jobs.StackOp.{StackOp as Op};
 ghost use Rattle.run_answers.specs.Answers.{of_words};
+ghost use Rattle.run_answers.specs.Worlds.{world};
 ghost use Rattle.stack_law.specs.Stack.{stack_of};
 ghost use Rattle.stack_state.specs.Reading.{next_save};
 ghost use Rattle.stack_cli.specs.Jobs.{job_of, op_in, stack_op};
-ghost use Rattle.stack_cli.specs.Worlds.{world};
 ghost use Rattle.stack_cli.specs.Comes.{StopsEarly};
 ghost use Rattle.stack_cli.specs.States.{IsState, IsStack};
 

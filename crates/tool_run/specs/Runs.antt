@@ -7,10 +7,12 @@ use Rattle.patch_run.specs.Applied.{Receipt}
 use Rattle.run_answers.specs.declared.why.Why.{Why}
 use Rattle.run_answers.specs.declared.why.Why.TheVariants.{Memory}
 use Rattle.run_answers.specs.Answers.{of_words}
+use Rattle.run_answers.specs.Moments.{LeavesOldOrNew}
+use Rattle.run_answers.specs.Worlds as worlds
 use Rattle.patch_cli.specs.Answers.{IsEarly, sort_of}
 use Rattle.patch_cli.specs.Command.{command}
 use Rattle.patch_cli.specs.Worlds.{World, TellsFiles, TellsLeft, reads_source, uses_scratch}
-use Rattle.patch_cli.specs.Carries.{Carries, NoneFailed, IsComplete, LeavesOldOrNew}
+use Rattle.patch_cli.specs.Carries.{Carries, NoneFailed, IsComplete}
 use Rattle.filter_cli.specs.Jobs.{AsksFor, HasPattern, ReadsSource}
 use Rattle.filter_cli.specs.Jobs as filter_jobs
 use Rattle.filter_cli.specs.Command.{Searches}
@@ -18,10 +20,8 @@ use Rattle.filter_cli.specs.Worlds.{Tells}
 use Rattle.filter_cli.specs.Worlds as filter_worlds
 use Rattle.filter_cli.specs.Carries as filter
 use Rattle.gen_cli.specs.Jobs as gen_jobs
-use Rattle.gen_cli.specs.Worlds as gen_worlds
 use Rattle.gen_cli.specs.Carries as gen
 use Rattle.stack_cli.specs.Jobs as stack_jobs
-use Rattle.stack_cli.specs.Worlds as stack_worlds
 use Rattle.stack_cli.specs.Carries as stack
 
 -- the devices themselves at one moment, but for standard error
@@ -41,7 +41,7 @@ pub record RunsPatch {T C F I O : Type 0} (words : List (List ℕ)) (u w : World
   -- where all is told and no device failed, only want of memory stands between the command and its answer
   pub complete : (f : Files) (left : List ℕ) → TellsFiles (job_of words) u f → TellsLeft (job_of words) u left → NoneFailed u w → IsComplete why applied f u w (command words f left)
   -- wherever the run is stopped, each file holds its old bytes or its completed new ones
-  pub names : (f : Files) (left : List ℕ) → TellsFiles (job_of words) u f → TellsLeft (job_of words) u left → LeavesOldOrNew u w f (command words f left).effects
+  pub names : (f : Files) (left : List ℕ) → TellsFiles (job_of words) u f → TellsLeft (job_of words) u left → LeavesOldOrNew u.tree w.tree f (command words f left).effects
   -- words that give no job are answered before any device is called, and refusals before the output or the scratch is
   pub words_first : (fault : WordFault) → job_of words ≡ Err fault → (why ≡ of_words fault) ⊎ (why ≡ Memory)
   pub still : (fault : WordFault) → job_of words ≡ Err fault → e.tree ≡ d.tree
@@ -66,7 +66,7 @@ pub record RunsFilter {T C F I O : Type 0} (words : List (List ℕ)) (u w : filt
   pub no_receipt : applied ≡ None
 
 -- what `gen_cli` promises of `patchgen`; standard input isn't read, and the finder isn't asked
-pub record RunsGen {T C F I O : Type 0} (words : List (List ℕ)) (u w : gen_worlds.World) (d e : Devices T C F I O) (why : Why) (applied : Option Receipt) : Type 0 where
+pub record RunsGen {T C F I O : Type 0} (words : List (List ℕ)) (u w : worlds.World) (d e : Devices T C F I O) (why : Why) (applied : Option Receipt) : Type 0 where
   pub carries : gen.Carries (gen_jobs.job_of words) u w why applied
   -- words that give no job are answered before any device is called
   pub words_first : (fault : WordFault) → gen_jobs.job_of words ≡ Err fault → (why ≡ of_words fault) ⊎ (why ≡ Memory)
@@ -77,7 +77,7 @@ pub record RunsGen {T C F I O : Type 0} (words : List (List ℕ)) (u w : gen_wor
   pub finder : e.finder ≡ d.finder
 
 -- what `stack_cli` promises of `patchstack`; standard input isn't read, the finder isn't asked, and there is no receipt
-pub record RunsStack {T C F I O : Type 0} (words : List (List ℕ)) (u w : stack_worlds.World) (d e : Devices T C F I O) (why : Why) (applied : Option Receipt) : Type 0 where
+pub record RunsStack {T C F I O : Type 0} (words : List (List ℕ)) (u w : worlds.World) (d e : Devices T C F I O) (why : Why) (applied : Option Receipt) : Type 0 where
   pub carries : stack.Carries (stack_jobs.job_of words) u w why
   -- words that give no operation are answered before any device is called
   pub words_first : (fault : WordFault) → stack_jobs.job_of words ≡ Err fault → (why ≡ of_words fault) ⊎ (why ≡ Memory)

@@ -5,8 +5,7 @@ ghost use Rattle.run_answers.specs.Answers.{exit_status, is_ended, of_words};
 ghost use Rattle.run_answers.specs.Reasons.{refusal_line};
 ghost use Rattle.patch_cli.specs.Worlds as patch_worlds;
 ghost use Rattle.filter_cli.specs.Worlds as filter_worlds;
-ghost use Rattle.gen_cli.specs.Worlds as gen_worlds;
-ghost use Rattle.stack_cli.specs.Worlds as stack_worlds;
+ghost use Rattle.run_answers.specs.Worlds as worlds;
 ghost use Rattle.stack_cli.specs.Jobs as stack_jobs;
 ghost use Rattle.stack_cli.specs.Carries as stack_carries;
 ghost use Rattle.gen_cli.specs.Jobs.{job_of, uses_scratch};
@@ -42,8 +41,8 @@ pub fn run<T: Tree, C: Scratch, F: Finder, I: Source, O: Sink, E: Sink>(
 ) -> (Exit, C)
     ensures patch { kind_of (map string_bytes words.now) ≡ Patch → RunsPatch (map string_bytes words.now) (patch_worlds.world (T.view tree.old) (C.view scratch) (I.view input.old) (O.view out.old)) (patch_worlds.world (T.view tree.new) (C.view result.1) (I.view input.new) (O.view out.new)) (devices tree.old scratch finder.old input.old out.old) (devices tree.new result.1 finder.new input.new out.new) result.0.why result.0.applied }
     ensures filter { kind_of (map string_bytes words.now) ≡ Filter → RunsFilter (map string_bytes words.now) (filter_worlds.world (T.view tree.old) (F.view finder.old) (I.view input.old) (O.view out.old)) (filter_worlds.world (T.view tree.new) (F.view finder.new) (I.view input.new) (O.view out.new)) (devices tree.old scratch finder.old input.old out.old) (devices tree.new result.1 finder.new input.new out.new) result.0.why result.0.applied }
-    ensures making { kind_of (map string_bytes words.now) ≡ Gen → RunsGen (map string_bytes words.now) (gen_worlds.world (T.view tree.old) (C.view scratch) (O.view out.old)) (gen_worlds.world (T.view tree.new) (C.view result.1) (O.view out.new)) (devices tree.old scratch finder.old input.old out.old) (devices tree.new result.1 finder.new input.new out.new) result.0.why result.0.applied }
-    ensures stack { kind_of (map string_bytes words.now) ≡ Stack → RunsStack (map string_bytes words.now) (stack_worlds.world (T.view tree.old) (C.view scratch) (O.view out.old)) (stack_worlds.world (T.view tree.new) (C.view result.1) (O.view out.new)) (devices tree.old scratch finder.old input.old out.old) (devices tree.new result.1 finder.new input.new out.new) result.0.why result.0.applied }
+    ensures making { kind_of (map string_bytes words.now) ≡ Gen → RunsGen (map string_bytes words.now) (worlds.world (T.view tree.old) (C.view scratch) (O.view out.old)) (worlds.world (T.view tree.new) (C.view result.1) (O.view out.new)) (devices tree.old scratch finder.old input.old out.old) (devices tree.new result.1 finder.new input.new out.new) result.0.why result.0.applied }
+    ensures stack { kind_of (map string_bytes words.now) ≡ Stack → RunsStack (map string_bytes words.now) (worlds.world (T.view tree.old) (C.view scratch) (O.view out.old)) (worlds.world (T.view tree.new) (C.view result.1) (O.view out.new)) (devices tree.old scratch finder.old input.old out.old) (devices tree.new result.1 finder.new input.new out.new) result.0.why result.0.applied }
     ensures status { result.0.status ≡ exit_status result.0.why }
     ensures out_rest { O.same_rest out.old out.new }
 
@@ -94,7 +93,7 @@ fn run_making<T: Tree, C: Scratch, O: Sink, E: Sink>(
     out: &mut O,
     err: &mut E,
 ) -> (Exit, C)
-    ensures carries { Carries (job_of (map string_bytes words.now)) (gen_worlds.world (T.view tree.old) (C.view scratch) (O.view out.old)) (gen_worlds.world (T.view tree.new) (C.view result.1) (O.view out.new)) result.0.why result.0.applied }
+    ensures carries { Carries (job_of (map string_bytes words.now)) (worlds.world (T.view tree.old) (C.view scratch) (O.view out.old)) (worlds.world (T.view tree.new) (C.view result.1) (O.view out.new)) result.0.why result.0.applied }
     ensures words { (fault : WordFault) → job_of (map string_bytes words.now) ≡ Err fault → (result.0.why ≡ of_words fault) ⊎ (result.0.why ≡ Why.Memory) }
     ensures still { (fault : WordFault) → job_of (map string_bytes words.now) ≡ Err fault → tree.new ≡ tree.old }
     ensures silent { (fault : WordFault) → job_of (map string_bytes words.now) ≡ Err fault → out.new ≡ out.old }
@@ -120,7 +119,7 @@ fn run_stacking<T: Tree, C: Scratch, O: Sink, E: Sink>(
     out: &mut O,
     err: &mut E,
 ) -> (Exit, C)
-    ensures carries { stack_carries.Carries (stack_jobs.job_of (map string_bytes words.now)) (stack_worlds.world (T.view tree.old) (C.view scratch) (O.view out.old)) (stack_worlds.world (T.view tree.new) (C.view result.1) (O.view out.new)) result.0.why }
+    ensures carries { stack_carries.Carries (stack_jobs.job_of (map string_bytes words.now)) (worlds.world (T.view tree.old) (C.view scratch) (O.view out.old)) (worlds.world (T.view tree.new) (C.view result.1) (O.view out.new)) result.0.why }
     ensures words { (fault : WordFault) → stack_jobs.job_of (map string_bytes words.now) ≡ Err fault → (result.0.why ≡ of_words fault) ⊎ (result.0.why ≡ Why.Memory) }
     ensures still { (fault : WordFault) → stack_jobs.job_of (map string_bytes words.now) ≡ Err fault → tree.new ≡ tree.old }
     ensures silent { (fault : WordFault) → stack_jobs.job_of (map string_bytes words.now) ≡ Err fault → out.new ≡ out.old }

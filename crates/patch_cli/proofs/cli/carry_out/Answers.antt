@@ -1,5 +1,6 @@
 use Rattle.std.proofs.Common.{map, string_bytes, refl, ap}
-use Rattle.patch_cli.proofs.Carrying.{carries_early, carries_cut, carries_end, not_early}
+use Rattle.patch_cli.proofs.Early.{carries_early}
+use Rattle.patch_cli.proofs.Carrying.{carries_cut, carries_end, not_early}
 use Rattle.patch_cli.proofs.cli.carry_out.Goals as goal
 
 pub returns-in-Err-clause-carries : goal.returns-in-Err-clause-carries

@@ -3,11 +3,11 @@ use Rattle.outside.specs.Quiet.{after, after_all}
 use Rattle.tool_words.specs.declared.jobs.StackOp.TheVariants.{Pop}
 use Rattle.run_answers.specs.declared.why.Why.TheVariants.{Done}
 use Rattle.run_answers.specs.Answers.{of_run}
+use Rattle.run_answers.specs.Worlds.{world}
 use Rattle.series_stack.specs.Saves.{entries_of}
 use Rattle.stack_law.specs.Stack.{save_name, undoing, undoing_by}
 use Rattle.stack_law.specs.Outcomes.{lowering, recovered_text, said, tally}
 use Rattle.stack_cli.specs.Command.{behind, on_op}
-use Rattle.stack_cli.specs.Worlds.{world}
 use Rattle.stack_cli.specs.Stages.{ended, why_by}
 use Rattle.stack_cli.proofs.Coming.{comes_by, comes_is, comes_stop, comes_then, comes_why}
 use Rattle.stack_cli.proofs.Standing.{stands}
