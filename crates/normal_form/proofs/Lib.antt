@@ -8,6 +8,7 @@ pub mod Unbroken
 pub mod SpansLemmas
 pub mod Steady
 pub mod FirstFault
+pub mod Filling
 pub mod GoesOn
 pub mod WritingLemmas
 pub mod Canonical

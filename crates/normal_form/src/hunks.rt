@@ -15,7 +15,7 @@ ghost use Rattle.normal_form.specs.Grammar.{IsCommand, IsPiece, SpellsHunk};
 ghost use Rattle.normal_form.specs.Hunks.{body_at, hunk_at, is_marked, begins_marked, begins_hunk, reading};
 
 use crate::command::{Command, is_command_line, opening_of};
-use crate::stretch::{after_divider, has_mark, read_stretch};
+use crate::stretch::{after_divider, has_mark, lines_ahead, read_stretch};
 use hunk_core::{BadKind, FormFault, Hunk, HunkLine, Hunks, Place, Side, backslash_end, bad};
 use line_list::{Span, next_line};
 use std::alloc::Global;
@@ -58,7 +58,8 @@ fn read_body(
     ensures lies { IfOk result (λ x. All (λ l. LiesIn text.now l.span) x.0.items) }
     ensures exact { Gives (λ x. (body_of text.now x.0.items, ahead_of text.now x.1)) result (body_at command (ahead_of text.now place)) }
 {
-    let none = Vec::new(alloc);
+    let most = command.old_count.saturating_add(command.new_count);
+    let none = Vec::with_capacity(alloc, lines_ahead(text, most, place.at))?;
     let (old, behind) = read_stretch(text, Side::Forward, command.old_count, none, place)?;
     let middle = after_divider(text, command.action, behind)?;
     read_stretch(text, Side::Reversed, command.new_count, old, middle)

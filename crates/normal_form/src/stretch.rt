@@ -1,6 +1,6 @@
 //! The lines of one side of a hunk.
 
-ghost use Rattle.std.specs.Prelude.{◌≡◌, ◌+◌, ◌<◌, ◌≤◌, ◌^◌, length, vec_len, slice_range, IfOk, All, is_some};
+ghost use Rattle.std.specs.Prelude.{◌≡◌, ◌+◌, ◌-◌, ◌<◌, ◌≤◌, ◌^◌, length, vec_len, slice_range, IfOk, All, is_some};
 ghost use Rattle.hunk_core.specs.PlainHunk.{marked_of, body_of};
 ghost use Rattle.hunk_core.specs.Turned.{LiesIn};
 ghost use Rattle.hunk_core.specs.Reading.{Gives, IsPlace, ahead_of};
@@ -103,6 +103,25 @@ fn line_of(text: &[u8], side: Side, left: u64, place: Place) -> Result<(HunkLine
         )),
         Some(_) => Err(bad(behind.number, BadKind::MisplacedBackslash)),
     }
+}
+
+/// How many lines stand at `at`, so many at most, so that no more is reserved than the text holds.
+pub fn lines_ahead(text: &[u8], most: u64, at: usize) -> usize
+    requires { at ≤ length text.now }
+    ensures { result ≤ length text.now - at }
+{
+    let mut count = 0;
+    let mut left = most;
+    let mut at = at;
+    'ahead: while left > 0 {
+        let Some(end) = next_line(text, at) else {
+            break;
+        };
+        count += 1;
+        left -= 1;
+        at = end;
+    }
+    count
 }
 
 /// So many lines of one side, behind those that were read before, and the place after them.

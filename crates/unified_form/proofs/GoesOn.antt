@@ -21,7 +21,8 @@ use Rattle.unified_form.specs.FirstFault.{CanGoOn}
 use Rattle.unified_form.proofs.Bodies.{made, is_left, marked-ok, room-back, mark_at-shows, TakesLine, line_takes, TakesBody, body_takes}
 use Rattle.unified_form.proofs.RangeGrammar.{opening-takes}
 use Rattle.unified_form.proofs.Pieces.{at_line-ok, is_ranges, TakesHunk, hunk_takes}
-use Rattle.unified_form.proofs.FirstFault.{failed, err_is, backslash_one, short_or, fault-short, fault-late, bind_err, marked_low, room_low, ended_low, range_low, settled_err, rest_of_line, one_more_line, add_err, body_low, with_body, more_hunks, hunks_low}
+use Rattle.unified_form.proofs.BodyFaults.{failed, err_is, backslash_one, bind_err, marked_low, room_low, ended_low, rest_of_line, one_more_line, add_err, body_low}
+use Rattle.unified_form.proofs.FirstFault.{short_or, fault-short, fault-late, range_low, settled_err, with_body, more_hunks, hunks_low}
 
 -- ---- the lines in front
 

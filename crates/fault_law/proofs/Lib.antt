@@ -1,0 +1,12 @@
+pub mod FailedTests
+pub mod Naming
+pub mod NumberForms
+pub mod UnifiedRanges
+pub mod UnifiedReading
+pub mod EdReading
+pub mod NormalCommands
+pub mod NormalReading
+pub mod ContextRanges
+pub mod ContextParts
+pub mod ContextReading
+pub mod TextReading

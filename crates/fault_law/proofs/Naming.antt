@@ -1,0 +1,59 @@
+-- A named line, behind more lines.
+use Rattle.std.proofs.Common.{◌≡◌, ◌≢◌, ◌⊎◌, inl, inr, ℕ, ◌+◌, Bool, true, false, cond, List, [], ◌∷◌, ◌++◌, length, None, Some, Result, Ok, Err, refl, sym, ap, ◌∙◌, append_assoc, arith}
+use Rattle.std.proofs.lemmas.List.{length-append}
+use Rattle.hunk_core.specs.LineTests.{is_backslash, after_backslash}
+use Rattle.hunk_core.specs.declared.BadKind.TheVariants as kinds
+use Rattle.hunk_core.specs.Reading.{◌>>=◌, Fault, fault, Ahead}
+use Rattle.fault_law.specs.NamedLines.{NamesLine}
+
+-- ---- steps that fail
+
+abbrev pub failed : {A : Type 0} → Fault → Result A Fault
+failed e = Err e
+
+pub err_is : {A : Type 0} (d e : Fault) → failed {A = A} d ≡ failed e → d ≡ e
+err_is d e h = cc
+
+pub bind_err : {A B : Type 0} (r : Result A Fault) (f : A → Result B Fault) (e : Fault) → (r >>= f) ≡ Err e → (r ≡ Err e) ⊎ ((x : A) × (r ≡ Ok x) × (f x ≡ Err e))
+bind_err (Ok x) f e h = inr (x, refl, h)
+bind_err {B = B} (Err d) f e h = inl (ap (λ x. Err x) (err_is {A = B} d e h))
+
+pub guard_err : {A : Type 0} (b : Bool) (d e : Fault) (x : A) → cond b (failed d) (Ok x) ≡ Err e → d ≡ e
+guard_err true d e x h = cc
+guard_err false d e x h = absurd cc
+
+abbrev pub add : {X : Type 0} → X → List X × Ahead → Result (List X × Ahead) Fault
+add x others = Ok (x ∷ others.0, others.1)
+
+pub add_err : {X : Type 0} (x : X) (r : Result (List X × Ahead) Fault) (e : Fault) → (r >>= add x) ≡ Err e → r ≡ Err e
+add_err x (Ok y) e h = absurd cc
+add_err {X = X} x (Err d) e h = ap (λ x. Err x) (err_is {A = List X × Ahead} d e h)
+
+pub ends_short : {A B : Type 0} (number : ℕ) (e : Fault) → failed {A = A} (fault number kinds.ShortEnd) ≡ failed e → e.kind ≢ kinds.ShortEnd → B
+ends_short {A = A} number e h long = absurd (long (sym (ap (λ (x : Fault). x.kind) (err_is {A = A} (fault number kinds.ShortEnd) e h))))
+
+-- ---- the first line, and one behind others
+
+pub named-here : (Holds : List (List ℕ) → List ℕ → List (List ℕ) → Type 0) (number : ℕ) (line : List ℕ) (rest : List (List ℕ)) (named : ℕ) → named ≡ number → Holds [] line rest → NamesLine Holds number (line ∷ rest) named
+named-here Holds number line rest named here holds = record { front = []; line = line; behind = rest; parts = refl; counted = omega (arith, here); holds = holds }
+
+pub named-past : (Holds More : List (List ℕ) → List ℕ → List (List ℕ) → Type 0) (own : List (List ℕ)) (number next : ℕ) (lines rest : List (List ℕ)) (named : ℕ) → lines ≡ own ++ rest → next ≡ number + length own
+    → ((front : List (List ℕ)) (line : List ℕ) (behind : List (List ℕ)) → rest ≡ front ++ line ∷ behind → Holds front line behind → More (own ++ front) line behind) → NamesLine Holds next rest named → NamesLine More number lines named
+named-past Holds More own number next lines rest named parts count on n = record {
+  front = own ++ n.front;
+  line = n.line;
+  behind = n.behind;
+  parts = parts ∙ ap (λ (ls : List (List ℕ)). own ++ ls) n.parts ∙ sym (append_assoc own n.front (n.line ∷ n.behind));
+  counted = omega (arith, n.counted, count, length-append own n.front);
+  holds = on n.front n.line n.behind n.parts n.holds;
+}
+
+-- ---- backslash lines
+
+pub loud-line : (rest more : List (List ℕ)) → after_backslash rest ≡ Some more → (line : List ℕ) × (rest ≡ line ∷ more) × (is_backslash line ≡ true)
+loud-line [] more e = absurd cc
+loud-line (line ∷ rest) more e = by (is_backslash line) refl e
+  where
+    by : (b : Bool) → is_backslash line ≡ b → cond b (Some rest) None ≡ Some more → (l : List ℕ) × (line ∷ rest ≡ l ∷ more) × (is_backslash l ≡ true)
+    by true is e = (line, (let same : rest ≡ more = cc in rw same refl), is)
+    by false is e = absurd cc

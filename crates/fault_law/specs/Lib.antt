@@ -1,0 +1,6 @@
+pub mod NamedLines
+pub mod UnifiedFaults
+pub mod ContextFaults
+pub mod NormalFaults
+pub mod EdFaults
+pub mod TextFaults
