@@ -1,5 +1,5 @@
 -- What names stand for, as a save that is taken, or why none is.
-use Rattle.std.specs.Prelude.{◌≡◌, ◌≢◌, ℕ, ◌^◌, ◌≤◌, List, [], ◌∷◌, ◌++◌, length, map, true, nat_lt, if◌then◌else◌, Option, None, Some, option_map}
+use Rattle.std.specs.Prelude.{◌≡◌, ℕ, ◌^◌, ◌<◌, ◌≤◌, List, [], ◌∷◌, ◌++◌, length, map, true, nat_lt, if◌then◌else◌, Option, None, Some, option_map}
 use Rattle.std.specs.List.{AllByRecursion}
 use Rattle.std.specs.FinMap.{get}
 use Rattle.outside.specs.Files.{Files}
@@ -39,7 +39,7 @@ abbrev pub HasTakeCause : StackFault → TreeView → TreeView → List (List �
 HasTakeCause (BadState file) u w names = ⊥
 HasTakeCause (FileTooLong size) u w names = (2 ^ 32 ≤ size) × ((f : Files) → u.told ≡ Some f → too_long (entries_at f names) ≡ Some size)
 HasTakeCause Tree u w names = Rises u w
-HasTakeCause (Disagree want got) u w names = (want ≢ got) × (u.told ≡ None)
+HasTakeCause (Disagree want got) u w names = (got < want) × (u.told ≡ None)
 HasTakeCause Memory u w names = Unit {0}
 
 -- the same of one name
@@ -47,5 +47,13 @@ abbrev pub HasEntryCause : StackFault → TreeView → TreeView → List ℕ →
 HasEntryCause (BadState file) u w name = ⊥
 HasEntryCause (FileTooLong size) u w name = (2 ^ 32 ≤ size) × ((f : Files) → u.told ≡ Some f → option_map length (get f name) ≡ Some size)
 HasEntryCause Tree u w name = Rises u w
-HasEntryCause (Disagree want got) u w name = (want ≢ got) × (u.told ≡ None)
+HasEntryCause (Disagree want got) u w name = (got < want) × (u.told ≡ None)
 HasEntryCause Memory u w name = Unit {0}
+
+-- where the fault has the size of a file, that is this one
+abbrev pub HasSize : ℕ → StackFault → Type 0
+HasSize size (BadState file) = Unit {0}
+HasSize size (FileTooLong long) = long ≡ size
+HasSize size Tree = Unit {0}
+HasSize size (Disagree want got) = want ≡ size
+HasSize size Memory = Unit {0}

@@ -8,7 +8,7 @@ ghost use Rattle.series_stack.specs.Found.{entry_with};
 ghost use Rattle.series_stack.specs.Saves.{entries_of, entry_text, save_text};
 ghost use Rattle.series_stack.specs.Saves.Entry.{Missing, Held};
 ghost use Rattle.series_stack.specs.Undoing.{entries_at};
-ghost use Rattle.series_stack.specs.Taking.{too_long, AreSaved, IsSaveOf, HasEntryMore, HasEntryCause, HasTakeCause};
+ghost use Rattle.series_stack.specs.Taking.{too_long, AreSaved, IsSaveOf, HasEntryMore, HasEntryCause, HasTakeCause, HasSize};
 
 use crate::fault::StackFault;
 use num_text::put_number;
@@ -20,7 +20,7 @@ const LONGEST: u64 = 4_294_967_295;
 
 /// The save of what names stand for, an entry for each in their order, whether or not something has the name. The tree is
 /// left untouched. The faults are `FileTooLong` with the size of the first file of at least 2^32 bytes, `Tree`, `Disagree`
-/// with a file's size and how many bytes came, and `Memory`.
+/// with a file's size and how many bytes came, which are fewer, and `Memory`.
 pub fn take_names<T: Tree>(
     alloc: Global,
     names: &[Name],
@@ -80,6 +80,7 @@ fn add_file<T: Tree>(
     ensures short { OnOk result (size < 2 ^ 32) }
     ensures form { OnOk result (HasEntryMore text.old.items text.new.items name.now) }
     ensures cause { IfErr result (λ e. HasEntryCause e (T.view tree.old) (T.view tree.new) name.now) }
+    ensures size { IfErr result (HasSize size) }
 {
     if size > LONGEST {
         return Err(StackFault::FileTooLong { length: size });
@@ -124,6 +125,7 @@ fn add_bytes<T: Tree>(
     ensures bytes { OnOk result ((f : Files) → (T.view tree.old).told ≡ Some f → text.new.items ≡ text.old.items ++ (bytes_at f name.now ++ 10 ∷ [])) }
     ensures form { OnOk result ((bytes : List ℕ) × ((length bytes ≡ size) × (text.new.items ≡ text.old.items ++ (bytes ++ 10 ∷ [])))) }
     ensures cause { IfErr result (λ e. HasEntryCause e (T.view tree.old) (T.view tree.new) name.now) }
+    ensures size { IfErr result (HasSize size) }
 {
     let start = text.len();
     if text.resize(start + size, 0).is_err() {
@@ -143,17 +145,27 @@ fn read_whole<T: Tree>(name: &Name, buf: &mut [u8], tree: &mut T) -> Result<(), 
     ensures untouched { IsUntouched (T.view tree.old) (T.view tree.new) }
     ensures bytes { OnOk result ((f : Files) → (T.view tree.old).told ≡ Some f → buf.new ≡ bytes_at f name.now) }
     ensures cause { IfErr result (λ e. HasEntryCause e (T.view tree.old) (T.view tree.new) name.now) }
+    ensures size { IfErr result (HasSize (length buf.old)) }
 {
     match tree.read_at(name, 0, buf) {
-        Ok(count) => {
-            if count < buf.len() {
-                return Err(StackFault::Disagree {
-                    want: buf.len() as u64,
-                    got: count as u64,
-                });
-            }
-            Ok(())
-        }
+        Ok(count) => match came(buf.len(), count) {
+            Ok(()) => Ok(()),
+            Err(fault) => Err(fault),
+        },
         Err(_) => Err(StackFault::Tree),
     }
+}
+
+// Whether as many bytes came as were wanted.
+fn came(want: usize, got: usize) -> Result<(), StackFault>
+    ensures whole { OnOk result (want ≤ got) }
+    ensures fewer { IfErr result (λ e. (e ≡ StackFault.Disagree want got) × (got < want)) }
+{
+    if got < want {
+        return Err(StackFault::Disagree {
+            want: want as u64,
+            got: got as u64,
+        });
+    }
+    Ok(())
 }

@@ -1,5 +1,5 @@
 -- What a fault says of a state that is read.
-use Rattle.std.specs.Prelude.{◌≡◌, ◌≢◌, None, Some, Result, Ok, Err}
+use Rattle.std.specs.Prelude.{◌≡◌, ℕ, ◌<◌, None, Some, Result, Ok, Err}
 use Rattle.outside.specs.Files.{Files}
 use Rattle.outside.specs.TreeView.{TreeView, Rises}
 use Rattle.series_stack.specs.declared.fault.StackFault.{StackFault}
@@ -14,7 +14,7 @@ abbrev pub HasCause : {X : Type 0} → StateFault → TreeView → TreeView → 
 HasCause NoSeries u w state = (f : Files) → u.told ≡ Some f → state f ≡ Err Unlisted
 HasCause (Bad file) u w state = (f : Files) → u.told ≡ Some f → state f ≡ Err (Broken file)
 HasCause Tree u w state = Rises u w
-HasCause (Disagree want got) u w state = (want ≢ got) × (u.told ≡ None)
+HasCause (Disagree want got) u w state = (got < want) × (u.told ≡ None)
 HasCause Memory u w state = Unit {0}
 
 -- the same where no file is refused
@@ -22,8 +22,16 @@ abbrev pub HasReadCause : StateFault → TreeView → TreeView → Type 0
 HasReadCause NoSeries u w = ⊥
 HasReadCause (Bad file) u w = ⊥
 HasReadCause Tree u w = Rises u w
-HasReadCause (Disagree want got) u w = (want ≢ got) × (u.told ≡ None)
+HasReadCause (Disagree want got) u w = (got < want) × (u.told ≡ None)
 HasReadCause Memory u w = Unit {0}
+
+-- where the fault has the size of a file, that is this one
+abbrev pub HasSize : ℕ → StateFault → Type 0
+HasSize size NoSeries = Unit {0}
+HasSize size (Bad file) = Unit {0}
+HasSize size Tree = Unit {0}
+HasSize size (Disagree want got) = want ≡ size
+HasSize size Memory = Unit {0}
 
 -- the same fault, of one who only looks at texts
 abbrev pub of_stack : StackFault → StateFault

@@ -1,16 +1,16 @@
 //! A file of the tree, read whole.
-ghost use Rattle.std.specs.Prelude.{◌≡◌, Some, None, length, IfOk, IfErr, OnOk, option_map, vec_items};
+ghost use Rattle.std.specs.Prelude.{◌≡◌, ◌≤◌, ◌<◌, Some, None, length, IfOk, IfErr, OnOk, option_map, vec_items};
 ghost use Rattle.std.specs.FinMap.{get};
 ghost use Rattle.outside.specs.Files.{Files, bytes_at};
 ghost use Rattle.outside.specs.Calls.{IsThere, IsUntouched};
-ghost use Rattle.stack_state.specs.Causes.{HasReadCause};
+ghost use Rattle.stack_state.specs.Causes.{HasReadCause, HasSize};
 
 use crate::fault::StateFault;
 use outside::{Name, Tree};
 use std::alloc::{AllocError, Global};
 
 /// The bytes of a file, or none where nothing has the name. The tree is left untouched. The faults are `Tree`, `Disagree`
-/// and `Memory`.
+/// with the file's size and how many bytes came, which are fewer, and `Memory`.
 pub fn read_whole<T: Tree>(
     alloc: Global,
     name: &Name,
@@ -39,6 +39,7 @@ fn read_file<T: Tree>(
     ensures untouched { IsUntouched (T.view tree.old) (T.view tree.new) }
     ensures bytes { IfOk result (λ held. (f : Files) → (T.view tree.old).told ≡ Some f → get f name.now ≡ option_map vec_items held) }
     ensures cause { IfErr result (λ e. HasReadCause e (T.view tree.old) (T.view tree.new)) }
+    ensures size { IfErr result (HasSize size) }
 {
     let mut text = room(alloc, size)?;
     read_into(name, &mut text, tree)?;
@@ -58,17 +59,27 @@ fn read_into<T: Tree>(name: &Name, buf: &mut [u8], tree: &mut T) -> Result<(), S
     ensures untouched { IsUntouched (T.view tree.old) (T.view tree.new) }
     ensures bytes { OnOk result ((f : Files) → (T.view tree.old).told ≡ Some f → buf.new ≡ bytes_at f name.now) }
     ensures cause { IfErr result (λ e. HasReadCause e (T.view tree.old) (T.view tree.new)) }
+    ensures size { IfErr result (HasSize (length buf.old)) }
 {
     match tree.read_at(name, 0, buf) {
-        Ok(count) => {
-            if count < buf.len() {
-                return Err(StateFault::Disagree {
-                    want: buf.len() as u64,
-                    got: count as u64,
-                });
-            }
-            Ok(())
-        }
+        Ok(count) => match came(buf.len(), count) {
+            Ok(()) => Ok(()),
+            Err(fault) => Err(fault),
+        },
         Err(_) => Err(StateFault::Tree),
     }
+}
+
+// Whether as many bytes came as were wanted.
+fn came(want: usize, got: usize) -> Result<(), StateFault>
+    ensures whole { OnOk result (want ≤ got) }
+    ensures fewer { IfErr result (λ e. (e ≡ StateFault.Disagree want got) × (got < want)) }
+{
+    if got < want {
+        return Err(StateFault::Disagree {
+            want: want as u64,
+            got: got as u64,
+        });
+    }
+    Ok(())
 }
