@@ -1,6 +1,5 @@
 pub mod Cutting
 pub mod Keeping
-pub mod Scripts
 pub mod Alike
 pub mod Pieces
 pub mod Parts

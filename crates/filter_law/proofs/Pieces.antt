@@ -26,7 +26,7 @@ use Rattle.text_joins.proofs.Spelling.{edits-joined}
 use Rattle.filter_law.specs.LeftPatches.{those, kept_change}
 use Rattle.filter_law.proofs.Cutting.{owns_of, flat}
 use Rattle.filter_law.proofs.Keeping.{unified-kept, normal-kept, context-kept}
-use Rattle.filter_law.proofs.Scripts.{script-begins}
+use Rattle.text_joins.proofs.Scripts.{script-begins}
 
 -- ---- as many flags as hunks
 

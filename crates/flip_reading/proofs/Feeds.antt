@@ -122,11 +122,11 @@ normal-sides actions.Change piece olds news s all =
     (stretch-inner Forward s.0 olds s.4 (front-all s.0 (s.1 ∷ s.2) own_all), stretch-inner Reversed s.2 news s.6 (rest-all s.0 (s.1 ∷ s.2) own_all).1)
 normal-sides actions.Delete piece olds news s all = (stretch-inner Forward piece olds s.0 all, none-inner news s.1)
 
-on-side-inner : (side : Side) (ls : List (List ℕ)) (more : List Marked) → AllByRecursion NoInner ls → AllByRecursion HasNoInnerFeed more → AllByRecursion HasNoInnerFeed (normal.on_side side ls ++ more)
+pub on-side-inner : (side : Side) (ls : List (List ℕ)) (more : List Marked) → AllByRecursion NoInner ls → AllByRecursion HasNoInnerFeed more → AllByRecursion HasNoInnerFeed (normal.on_side side ls ++ more)
 on-side-inner side [] more a b = b
 on-side-inner side (l ∷ ls) more a b = (a.0, on-side-inner side ls more a.1 b)
 
-side-inner : (side : Side) (ls : List (List ℕ)) → AllByRecursion NoInner ls → AllByRecursion HasNoInnerFeed (normal.on_side side ls)
+pub side-inner : (side : Side) (ls : List (List ℕ)) → AllByRecursion NoInner ls → AllByRecursion HasNoInnerFeed (normal.on_side side ls)
 side-inner side [] a = tt
 side-inner side (l ∷ ls) a = (a.0, side-inner side ls a.1)
 

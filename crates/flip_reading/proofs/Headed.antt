@@ -50,15 +50,15 @@ pub heads-quiet : (ways : Ways) (hs : List Head) (rest : List (List ℕ)) → Ar
 heads-quiet ways [] rest = tt
 heads-quiet ways (h ∷ hs) rest = (quiet-line ways h.0 h.1 (head_lines hs ++ rest), heads-quiet ways hs rest)
 
-clean-heads : (xs ys : List Head) → AreClean xs → AreClean ys → AreClean (xs ++ ys)
+pub clean-heads : (xs ys : List Head) → AreClean xs → AreClean ys → AreClean (xs ++ ys)
 clean-heads [] ys a b = b
 clean-heads (x ∷ xs) ys a b = (a.0, clean-heads xs ys a.1 b)
 
-clean-if : (k : Kind) (o : Option (List ℕ)) → CleanIn o → AreClean (heads_if k o)
+pub clean-if : (k : Kind) (o : Option (List ℕ)) → CleanIn o → AreClean (heads_if k o)
 clean-if k None a = tt
 clean-if k (Some bs) a = (a, tt)
 
-joined-heads : (xs ys : List Head) → joined (head_lines (xs ++ ys)) ≡ joined (head_lines xs) ++ joined (head_lines ys)
+pub joined-heads : (xs ys : List Head) → joined (head_lines (xs ++ ys)) ≡ joined (head_lines xs) ++ joined (head_lines ys)
 joined-heads xs ys = ap joined (map-append (λ (h : Head). line_of h.0 h.1) xs ys) ∙ flat_map-append (λ (l : List ℕ). l) (head_lines xs) (head_lines ys)
 
 -- ---- one file patch
@@ -127,11 +127,11 @@ headed ways text form h k l new old index n =
 
 -- ---- the three forms
 
-not-true : (b : Bool) → not b ≡ true → b ≡ false
+pub not-true : (b : Bool) → not b ≡ true → b ≡ false
 not-true true e = absurd (cc)
 not-true false e = refl
 
-not-false : (b : Bool) → not b ≡ false → b ≡ true
+pub not-false : (b : Bool) → not b ≡ false → b ≡ true
 not-false true e = refl
 not-false false e = absurd (cc)
 
@@ -141,13 +141,13 @@ has-line k l (Some bs) b x y p q e = tt
 has-line k l None (Some bs) x y p q e = tt
 has-line k l None None x y p q e = let bad : false ≡ true = sym (ap (λ o. is_some (file_name o) || is_some (file_name y)) p ∙ ap (λ o. is_some (file_name None) || is_some (file_name o)) q) ∙ e in absurd (cc)
 
-minus-is : Minus ≢ Index
+pub minus-is : Minus ≢ Index
 minus-is e = cc
 
-plus-is : Plus ≢ Index
+pub plus-is : Plus ≢ Index
 plus-is e = cc
 
-stars-is : Stars ≢ Index
+pub stars-is : Stars ≢ Index
 stars-is e = cc
 
 module _ (ways : Ways) (text : List ℕ) (place number : ℕ) (rs : List Row) (all : AreRows text rs) where

@@ -144,7 +144,7 @@ index-other Plus other bs = refl
 index-other Stars other bs = refl
 index-other Index other bs = absurd (other refl)
 
-index-index : (bs : List ℕ) → after (codes "Index:") (mark Index ++ bs) ≡ Some (32 ∷ bs)
+pub index-index : (bs : List ℕ) → after (codes "Index:") (mark Index ++ bs) ≡ Some (32 ∷ bs)
 unfolding after
 index-index bs = refl
 

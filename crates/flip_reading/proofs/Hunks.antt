@@ -1,4 +1,4 @@
--- Hunks that are turned round and written are read again.
+-- Hunks that are written are read again; those that keep the rules keep them turned round.
 use Rattle.std.proofs.Common.{◌≡◌, ℕ, ◌≤◌, Bool, true, false, cond, ◌||◌, eqb, List, [], ◌∷◌, ◌++◌, length, map, Option, None, Some, refl, sym, ap, subst, ◌∙◌, arith}
 use Rattle.std.specs.Prelude.{nat_lt}
 use Rattle.std.specs.List.{AllByRecursion, flat_map}
@@ -68,8 +68,12 @@ pub record IsGood (h : PlainHunk) : Type 0 where
   pub unbroken : first_broken h ≡ None
   pub clean : AllByRecursion HasNoInnerFeed h.body
 
-pub swapped-good : (h : PlainHunk) → IsGood h → IsGood (swapped h)
+swapped-good : (h : PlainHunk) → IsGood h → IsGood (swapped h)
 swapped-good h g = record { unbroken = swapped-unbroken h g.unbroken; clean = swapped-feeds h.body g.clean }
+
+pub all-swapped : (hs : List PlainHunk) → AllByRecursion IsGood hs → AllByRecursion IsGood (map swapped hs)
+all-swapped [] all = tt
+all-swapped (h ∷ hs) all = (swapped-good h all.0, all-swapped hs all.1)
 
 -- ---- a written hunk is whole lines
 
@@ -211,11 +215,11 @@ pub whole-both : (xs ys : List (List ℕ)) → AllByRecursion IsLine xs → AllB
 whole-both [] ys a b = b
 whole-both (x ∷ xs) ys a b = (a.0, whole-both xs ys a.1 b)
 
--- the lines of written hunks, each turned round
-pub record IsBody (form : Form) (least : ℕ) (gs : List PlainHunk) (body : List (List ℕ)) : Type 0 where
+-- the lines of written hunks
+pub record IsBody (form : Form) (least : ℕ) (hs : List PlainHunk) (body : List (List ℕ)) : Type 0 where
   pub whole : AllByRecursion IsLine body
-  pub is : flat_map (hunk_text form) (map swapped gs) ≡ joined body
-  pub chain : ChainAs form least body [] (map (λ g. as_shown form (swapped g)) gs)
+  pub is : flat_map (hunk_text form) hs ≡ joined body
+  pub chain : ChainAs form least body [] (map (as_shown form) hs)
   pub quiet : IsQuietAs form body
 
 quiet-first : (form : Form) (least : ℕ) (own behind more : List (List ℕ)) (h : PlainHunk) → SpellsAs form least own behind h → IsQuietAs form (own ++ more)
@@ -231,25 +235,25 @@ quiet-none Normal = tt
 quiet-none Ed = tt
 
 -- a hunk starts where it does also as its form shows it
-chain-same : (form : Form) (g : PlainHunk) (gs : List PlainHunk) (more : List (List ℕ)) → ChainAs form g.new_start more [] (map (λ x. as_shown form (swapped x)) gs) → ChainAs form (as_shown form (swapped g)).old_start more [] (map (λ x. as_shown form (swapped x)) gs)
-chain-same Unified g gs more c = c
-chain-same Context g gs more c = c
-chain-same Normal g gs more c = c
-chain-same Ed g gs more c = c
+chain-same : (form : Form) (h : PlainHunk) (hs : List PlainHunk) (more : List (List ℕ)) → ChainAs form h.old_start more [] (map (as_shown form) hs) → ChainAs form (as_shown form h).old_start more [] (map (as_shown form) hs)
+chain-same Unified h hs more c = c
+chain-same Context h hs more c = c
+chain-same Normal h hs more c = c
+chain-same Ed h hs more c = c
 
-pub body-of : (form : Form) (least : ℕ) (gs : List PlainHunk) → IsHunkForm form → AllByRecursion IsGood gs → Rising least (map (λ g. g.new_start) gs) → (body : List (List ℕ)) × IsBody form least gs body
+pub body-of : (form : Form) (least : ℕ) (hs : List PlainHunk) → IsHunkForm form → AllByRecursion IsGood hs → Rising least (map (λ h. h.old_start) hs) → (body : List (List ℕ)) × IsBody form least hs body
 body-of form least [] is good rises = ([], record { whole = tt; is = refl; chain = refl; quiet = quiet-none form })
-body-of form least (g ∷ gs) is good rises =
-    let later = body-of form g.new_start gs is good.1 rises.1 in
-    let w = written form (swapped g) is (swapped-good g good.0) in
+body-of form least (h ∷ hs) is good rises =
+    let later = body-of form h.old_start hs is good.1 rises.1 in
+    let w = written form h is good.0 in
     let behind_quiet : IsQuietAs form (later.0 ++ []) = subst (IsQuietAs form) (sym (append-nil later.0)) later.1.quiet in
     let spelled = w.1.spell least (later.0 ++ []) rises.0 behind_quiet in (
       w.0 ++ later.0,
       record {
         whole = whole-both w.0 later.0 w.1.are.whole later.1.whole;
-        is = flat_map-cons (hunk_text form) (swapped g) (map swapped gs) ∙ ap (λ (x : List ℕ). x ++ flat_map (hunk_text form) (map swapped gs)) w.1.are.is ∙ ap (λ (x : List ℕ). joined w.0 ++ x) later.1.is ∙ sym (flat_map-append (λ (l : List ℕ). l) w.0 later.0);
-        chain = (w.0, later.0, refl, spelled, chain-same form g gs later.0 later.1.chain);
-        quiet = quiet-first form least w.0 (later.0 ++ []) later.0 (as_shown form (swapped g)) spelled;
+        is = flat_map-cons (hunk_text form) h hs ∙ ap (λ (x : List ℕ). x ++ flat_map (hunk_text form) hs) w.1.are.is ∙ ap (λ (x : List ℕ). joined w.0 ++ x) later.1.is ∙ sym (flat_map-append (λ (l : List ℕ). l) w.0 later.0);
+        chain = (w.0, later.0, refl, spelled, chain-same form h hs later.0 later.1.chain);
+        quiet = quiet-first form least w.0 (later.0 ++ []) later.0 (as_shown form h) spelled;
       },
     )
 

@@ -1,10 +1,10 @@
-mod Lines
-mod Shown
-mod Region
-mod Feeds
-mod Hunks
-mod Names
-mod Headers
-mod Headed
-mod Reading
-mod Stretches
+pub mod Lines
+pub mod Shown
+pub mod Region
+pub mod Feeds
+pub mod Hunks
+pub mod Names
+pub mod Headers
+pub mod Headed
+pub mod Reading
+pub mod Stretches

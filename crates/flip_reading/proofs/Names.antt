@@ -21,10 +21,10 @@ text_or_none o = option_map_or (λ name. name) o []
 
 -- ---- fronts that pass a test
 
-abbrev Passing : (ℕ → Bool) → List ℕ → Type 0
+abbrev pub Passing : (ℕ → Bool) → List ℕ → Type 0
 Passing p bs = AllByRecursion (λ b. p b ≡ true) bs
 
-take-passing : (p : ℕ → Bool) (n : ℕ) (bs : List ℕ) → n ≤ prefix_len p bs → Passing p (take n bs)
+pub take-passing : (p : ℕ → Bool) (n : ℕ) (bs : List ℕ) → n ≤ prefix_len p bs → Passing p (take n bs)
 take-passing p zero bs le = tt
 take-passing p (suc n) [] le = tt
 take-passing p (suc n) (b ∷ bs) le = by (p b) refl le (take-passing p n bs)
@@ -45,11 +45,11 @@ no-spaces : (bs : List ℕ) → list_any (λ b. eqb b 32) bs ≡ false → Passi
 no-spaces [] e = tt
 no-spaces (b ∷ bs) e = let both = either-no (eqb b 32) (list_any (λ c. eqb c 32) bs) e in (ap not both.0, no-spaces bs both.1)
 
-abbrev NoTab : List ℕ → Type 0
+abbrev pub NoTab : List ℕ → Type 0
 NoTab bs = Passing (λ b. not (eqb b 9)) bs
 
 -- a name is in front of the first tab
-name-before : (bs : List ℕ) → name_length bs ≤ position_or_len (λ b. eqb b 9) bs
+pub name-before : (bs : List ℕ) → name_length bs ≤ position_or_len (λ b. eqb b 9) bs
 name-before bs = by (nat_lt (position_or_len (λ b. eqb b 9) bs) (length bs)) refl
   where
     by : (v : Bool) → nat_lt (position_or_len (λ b. eqb b 9) bs) (length bs) ≡ v → unwrap_or (cond v (Some (position_or_len (λ b. eqb b 9) bs)) None) (first (λ b. eqb b 32) bs) ≤ position_or_len (λ b. eqb b 9) bs
@@ -83,7 +83,7 @@ blanks-zero : (c : ℕ) (bs : List ℕ) → is_blank c ≡ false → blanks (c �
 blanks-zero c bs e = first-is (λ b. not (is_blank b)) (c ∷ bs) ∙ rw e refl
 
 -- a name that begins with no blank, behind a space
-spaced : (c : ℕ) (cs : List ℕ) → is_blank c ≡ false → NoTab (c ∷ cs) → name_said (Some (32 ∷ ((c ∷ cs) ++ tab_if (c ∷ cs)))) ≡ Some (c ∷ cs)
+pub spaced : (c : ℕ) (cs : List ℕ) → is_blank c ≡ false → NoTab (c ∷ cs) → name_said (Some (32 ∷ ((c ∷ cs) ++ tab_if (c ∷ cs)))) ≡ Some (c ∷ cs)
 spaced c cs plain all =
     let name : List ℕ = c ∷ cs in
     let whole : List ℕ = (c ∷ cs) ++ tab_if (c ∷ cs) in
@@ -127,7 +127,7 @@ clean-tab : (v : Bool) → Clean (cond v (9 ∷ []) [])
 clean-tab true = ((λ e. cc), tt)
 clean-tab false = tt
 
-clean-said : (bs : List ℕ) → Clean bs → Clean (text_or_none (name_said (Some bs)))
+pub clean-said : (bs : List ℕ) → Clean bs → Clean (text_or_none (name_said (Some bs)))
 clean-said bs all = by (eqb (name_length (unblanked bs)) 0)
   where
     by : (v : Bool) → Clean (text_or_none (cond v None (Some (take (name_length (unblanked bs)) (unblanked bs)))))

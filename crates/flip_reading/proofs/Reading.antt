@@ -52,7 +52,7 @@ use Rattle.flip_reading.specs.TurnedPatches.{as_shown, turned_change, turned_pat
 use Rattle.flip_reading.proofs.Feeds.{context-feeds, normal-feeds, unified-feeds}
 use Rattle.flip_reading.proofs.Headed.{HasHead, heads-quiet, heads-whole, shown-headed}
 use Rattle.flip_reading.proofs.Headers.{Head, head_lines}
-use Rattle.flip_reading.proofs.Hunks.{ChainAs, IsGood, IsHunkForm, SpellsAs, body-of, chain-piece, rising, whole-both}
+use Rattle.flip_reading.proofs.Hunks.{ChainAs, IsGood, IsHunkForm, Rising, SpellsAs, all-swapped, body-of, chain-piece, rising, whole-both}
 use Rattle.flip_reading.proofs.Lines.{Kind, Minus, Plus, Stars, Index, clean-line, line_of}
 use Rattle.flip_reading.proofs.Region.{IsShownIf, regions-shown}
 use Rattle.flip_reading.proofs.Shown.{either-no}
@@ -73,13 +73,13 @@ one-good Context least own g is s p = record { unbroken = context_unbroken.hunk-
 one-good Normal least own g is s p = record { unbroken = normal_unbroken.hunk-unbroken least own g s p; clean = normal-feeds least own g s p }
 one-good Ed least own g is s p = absurd is
 
-all-good : (text : List ℕ) (form : Form) (least : ℕ) (spans : List Span) (gs : List PlainHunk) → IsHunkForm form → SpellInTurn (Spells form) text least spans gs → AllByRecursion IsGood gs
+pub all-good : (text : List ℕ) (form : Form) (least : ℕ) (spans : List Span) (gs : List PlainHunk) → IsHunkForm form → SpellInTurn (Spells form) text least spans gs → AllByRecursion IsGood gs
 all-good text form least [] [] is s = tt
 all-good text form least [] (g ∷ gs) is s = absurd s
 all-good text form least (a ∷ spans) [] is s = absurd s
 all-good text form least (a ∷ spans) (g ∷ gs) is s = (one-good form least (lines (bytes_at text a)) g is s.0 (lines-pieces (bytes_at text a)), all-good text form g.old_start spans gs is s.1)
 
-hunk-form : (text : List ℕ) (form : Form) (at end : ℕ) (spans : List Span) (gs : List PlainHunk) → AreInTurn at spans end → at < end → SpellInTurn (Spells form) text 0 spans gs → IsHunkForm form
+pub hunk-form : (text : List ℕ) (form : Form) (at end : ℕ) (spans : List Span) (gs : List PlainHunk) → AreInTurn at spans end → at < end → SpellInTurn (Spells form) text 0 spans gs → IsHunkForm form
 hunk-form text Unified at end spans gs turn less s = tt
 hunk-form text Context at end spans gs turn less s = tt
 hunk-form text Normal at end spans gs turn less s = tt
@@ -87,11 +87,11 @@ hunk-form text Ed at end [] gs turn less s = absurd (omega (arith, turn, less))
 hunk-form text Ed at end (a ∷ spans) [] turn less s = absurd s
 hunk-form text Ed at end (a ∷ spans) (g ∷ gs) turn less s = absurd s.0
 
-abbrev HasHunk : List PlainHunk → Type 0
+abbrev pub HasHunk : List PlainHunk → Type 0
 HasHunk [] = ⊥
 HasHunk (g ∷ gs) = Unit {0}
 
-some-hunk : (text : List ℕ) (form : Form) (at end : ℕ) (spans : List Span) (gs : List PlainHunk) → AreInTurn at spans end → at < end → SpellInTurn (Spells form) text 0 spans gs → HasHunk gs
+pub some-hunk : (text : List ℕ) (form : Form) (at end : ℕ) (spans : List Span) (gs : List PlainHunk) → AreInTurn at spans end → at < end → SpellInTurn (Spells form) text 0 spans gs → HasHunk gs
 some-hunk text form at end [] gs turn less s = absurd (omega (arith, turn, less))
 some-hunk text form at end (a ∷ spans) [] turn less s = absurd s
 some-hunk text form at end (a ∷ spans) (g ∷ gs) turn less s = tt
@@ -104,13 +104,13 @@ opens-hunk ways Context least own behind tail h s = context_pieces.hunk_opens le
 opens-hunk ways Normal least own behind tail h s = normal_pieces.hunk_opens least own tail h s
 opens-hunk ways Ed least own behind tail h s = absurd s
 
-opens-body : (ways : Ways) (form : Form) (least : ℕ) (body : List (List ℕ)) (gs : List PlainHunk) → HasHunk gs → ChainAs form least body [] (map (λ g. as_shown form (swapped g)) gs) → begins ways.only form (body ++ []) ≡ true
+pub opens-body : (ways : Ways) (form : Form) (least : ℕ) (body : List (List ℕ)) (hs : List PlainHunk) → HasHunk hs → ChainAs form least body [] (map (as_shown form) hs) → begins ways.only form (body ++ []) ≡ true
 opens-body ways form least body [] some c = absurd some
-opens-body ways form least body (g ∷ gs) some c =
+opens-body ways form least body (h ∷ hs) some c =
     ap (λ ls. begins ways.only form (ls ++ [])) c.2 ∙ ap (begins ways.only form) (append_assoc c.0 c.1 [])
-    ∙ opens-hunk ways form least c.0 (c.1 ++ []) (c.1 ++ []) (as_shown form (swapped g)) c.3
+    ∙ opens-hunk ways form least c.0 (c.1 ++ []) (c.1 ++ []) (as_shown form h) c.3
 
-both-true : (a b : Bool) → a ≡ true → b ≡ true → (a && b) ≡ true
+pub both-true : (a b : Bool) → a ≡ true → b ≡ true → (a && b) ≡ true
 both-true a b e f = rw (e, f) refl
 
 asks-none : (o : Option Form) (k : Kind) (bs : List ℕ) → asks_dot o (line_of k bs) ≡ false
@@ -124,13 +124,21 @@ asks-none (Some form) k bs = refl
 no-dot : (ways : Ways) (k : Kind) (bs : List ℕ) → asks_dot ways.only (line_of k bs) ≡ false
 no-dot ways k bs = asks-none ways.only k bs
 
-no-dots : (ways : Ways) (hs : List Head) → list_any (asks_dot ways.only) (head_lines hs) ≡ false
+pub no-dots : (ways : Ways) (hs : List Head) → list_any (asks_dot ways.only) (head_lines hs) ≡ false
 no-dots ways [] = refl
 no-dots ways (h ∷ hs) = rw (no-dot ways h.0 h.1, no-dots ways hs) refl
 
-clean-front : (hs : List Head) (body more : List (List ℕ)) → HasHead hs → BeginCleanly ((head_lines hs ++ body) ++ more)
+pub clean-front : (hs : List Head) (body more : List (List ℕ)) → HasHead hs → BeginCleanly ((head_lines hs ++ body) ++ more)
 clean-front [] body more some = absurd some
 clean-front (h ∷ hs) body more some = clean-line h.0 h.1 ((head_lines hs ++ body) ++ more)
+
+some-swapped : (gs : List PlainHunk) → HasHunk gs → HasHunk (map swapped gs)
+some-swapped [] some = absurd some
+some-swapped (g ∷ gs) some = tt
+
+pub map-both : {A B C : Type 0} (g : B → C) (f : A → B) (xs : List A) → map g (map f xs) ≡ map (λ x. g (f x)) xs
+map-both g f [] = refl
+map-both g f (x ∷ xs) = ap (λ ys. g (f x) ∷ ys) (map-both g f xs)
 
 record HasOwn (ways : Ways) (text : List ℕ) (p : FilePatch) : Type 0 where
   own : List (List ℕ)
@@ -150,7 +158,9 @@ made ways text p gs is r =
     let hunky = hunk-form text form p.header.at p.span.end p.hunk_spans.items gs turn r.placed.some pieces in
     let some = some-hunk text form p.header.at p.span.end p.hunk_spans.items gs turn r.placed.some pieces in
     let rises = rising (map (λ g. g.new_start) gs) (ap (λ c. starts_fall (new_starts c)) (sym is) ∙ more.1) in
-    let b = body-of form 0 gs hunky (all-good text form 0 p.hunk_spans.items gs hunky pieces) rises in
+    let turned_rises = subst (Rising 0) (sym (map-both (λ (h : PlainHunk). h.old_start) swapped gs)) rises in
+    let b = body-of form 0 (map swapped gs) hunky (all-swapped gs (all-good text form 0 p.hunk_spans.items gs hunky pieces)) turned_rises in
+    let chain = subst (ChainAs form 0 b.0 []) (map-both (as_shown form) swapped gs) b.1.chain in
     let shown = r.shown fits.0 in
     let h = shown-headed ways text p.header shown hunky more.0 in
     let region : List (List ℕ) = head_lines h.heads in
@@ -160,9 +170,9 @@ made ways text p gs is r =
       stop = Opening form;
       parts = refl;
       quiet = heads-quiet ways h.heads (b.0 ++ []);
-      stands = (opening-words ways form (b.0 ++ [])).1 (both-true (admits ways.only form) (begins ways.only form (b.0 ++ [])) (and_left _ _ (stop-opens ways form (shown.first ∷ shown.rest) shown.stands)) (opens-body ways form 0 b.0 gs some b.1.chain));
+      stands = (opening-words ways form (b.0 ++ [])).1 (both-true (admits ways.only form) (begins ways.only form (b.0 ++ [])) (and_left _ _ (stop-opens ways form (shown.first ∷ shown.rest) shown.stands)) (opens-body ways form 0 b.0 (map swapped gs) (some-swapped gs some) b.1.chain));
       says = h.said b.0;
-      spelled = subst (λ c. IsPiece form 0 (b.0 ++ []) (turned_change form c) (length b.0) []) (sym is) (chain-piece form b.0 (map (λ g. as_shown form (swapped g)) gs) hunky b.1.chain);
+      spelled = subst (λ c. IsPiece form 0 (b.0 ++ []) (turned_change form c) (length b.0) []) (sym is) (chain-piece form b.0 (map (λ g. as_shown form (swapped g)) gs) hunky chain);
     } in
     record {
       own = region ++ b.0;
@@ -220,11 +230,11 @@ gather ways text (p ∷ ps) all =
 
 -- ---- a set
 
-all-placed : (text : List ℕ) (start before : ℕ) (ps : List FilePatch) → ArePlaced text start before ps → AllByRecursion (λ (p : FilePatch). (s : ℕ) × ((b : ℕ) × IsPlaced text s b p)) ps
+pub all-placed : (text : List ℕ) (start before : ℕ) (ps : List FilePatch) → ArePlaced text start before ps → AllByRecursion (λ (p : FilePatch). (s : ℕ) × ((b : ℕ) × IsPlaced text s b p)) ps
 all-placed text start before [] placed = tt
 all-placed text start before (p ∷ ps) placed = ((start, (before, placed.0)), all-placed text p.span.end (before + row_count p.change) ps placed.1)
 
-all-shown : (ways : Ways) (text : List ℕ) (ps : List FilePatch) → AllByRecursion (λ (r : Region). IsShownIf ways text r.header) (map region_of ps) → AllByRecursion (λ (p : FilePatch). IsShownIf ways text p.header) ps
+pub all-shown : (ways : Ways) (text : List ℕ) (ps : List FilePatch) → AllByRecursion (λ (r : Region). IsShownIf ways text r.header) (map region_of ps) → AllByRecursion (λ (p : FilePatch). IsShownIf ways text p.header) ps
 all-shown ways text [] all = tt
 all-shown ways text (p ∷ ps) all = (all.0, all-shown ways text ps all.1)
 
@@ -237,7 +247,7 @@ find-none test text (p ∷ ps) e = by (test (patch_of text p)) refl e (find-none
     by true t e again = absurd (cc)
     by false t e again = (t, again e)
 
-map-none : {A B : Type 0} (f : A → B) (o : Option A) → option_map f o ≡ None → o ≡ None
+pub map-none : {A B : Type 0} (f : A → B) (o : Option A) → option_map f o ≡ None → o ≡ None
 map-none f None e = refl
 map-none f (Some x) e = absurd (cc)
 
@@ -259,7 +269,7 @@ ready v whole none =
     (all-shown v.ways v.text v.patches (subst (AllByRecursion (λ (r : Region). IsShownIf v.ways v.text r.header)) (sym whole.regions) (regions-shown (length v.text) v.ways v.text 0 1)))
     (find-none (λ p. is_script p.change) v.text v.patches scripts) (find-none is_unfit v.text v.patches unfits)
 
-whole-pieces : (ls : List (List ℕ)) → AllByRecursion IsLine ls → ArePieces ls
+pub whole-pieces : (ls : List (List ℕ)) → AllByRecursion IsLine ls → ArePieces ls
 whole-pieces [] all = tt
 whole-pieces (l ∷ []) all = inl all.0
 whole-pieces (l ∷ k ∷ ls) all = (all.0, whole-pieces (k ∷ ls) all.1)
@@ -268,15 +278,11 @@ flipped-is : (v : SetView) → flipped v ≡ flat_map (flipped_patch v.text) (re
 unfolding flipped
 flipped-is v = refl
 
-reverse-map : {A B : Type 0} (f : A → B) (xs : List A) → reverse (map f xs) ≡ map f (reverse xs)
+pub reverse-map : {A B : Type 0} (f : A → B) (xs : List A) → reverse (map f xs) ≡ map f (reverse xs)
 reverse-map f [] = refl
 reverse-map f (x ∷ xs) =
     reverse-append (f x ∷ []) (map f xs) ∙ ap (λ ys. ys ++ (f x ∷ [])) (reverse-map f xs)
     ∙ sym (ap (map f) (reverse-append (x ∷ []) xs) ∙ map-append f (reverse xs) (x ∷ []))
-
-map-both : {A B C : Type 0} (g : B → C) (f : A → B) (xs : List A) → map g (map f xs) ≡ map (λ x. g (f x)) xs
-map-both g f [] = refl
-map-both g f (x ∷ xs) = ap (λ ys. g (f x) ∷ ys) (map-both g f xs)
 
 pub reads-law : (v : SetView) → IsWhole v → refused (plain_patches v) ≡ None → read_unnumbered v.ways (flipped v) ≡ Ok (turned_patches v)
 reads-law v whole none =

@@ -37,7 +37,7 @@ clean-drop zero bs all = all
 clean-drop (suc k) [] all = tt
 clean-drop (suc k) (b ∷ bs) all = clean-drop k bs all.1
 
-clean-behind : (fs bs : List ℕ) → Clean (fs ++ bs) → Clean bs
+pub clean-behind : (fs bs : List ℕ) → Clean (fs ++ bs) → Clean bs
 clean-behind [] bs all = all
 clean-behind (f ∷ fs) bs all = clean-behind fs bs all.1
 

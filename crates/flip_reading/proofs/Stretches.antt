@@ -121,7 +121,7 @@ sorts waiting (m ∷ body) h = by m.mark (λ ws k. sorts ws body k)
     by its.Drop more = sort-drop waiting m.line body (drops_before waiting body) (more waiting h)
     by its.Add more = sort-add waiting m.line body (drops_before (waiting ++ line_of its.Add m.line ∷ []) body) (more (waiting ++ line_of its.Add m.line ∷ []) (added-more waiting (line_of its.Add m.line) h refl))
 
-context-shown : (h : PlainHunk) → IsReordered h (context.in_order h)
+pub context-shown : (h : PlainHunk) → IsReordered h (context.in_order h)
 context-shown h = let s = sorts [] h.body tt in record { old_start = refl; new_start = refl; olds = s.forward; news = s.reversed; drops = s.drops }
 
 -- ---- the normal form: no line is kept

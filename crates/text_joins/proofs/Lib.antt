@@ -5,6 +5,7 @@ pub mod Joining
 pub mod Places
 pub mod HeaderLines
 pub mod LedLines
+pub mod Scripts
 pub mod Headers
 pub mod Standing
 pub mod Finding

@@ -1,0 +1,11 @@
+mod Names
+mod Headed
+mod Kept
+mod Shown
+mod Blocks
+mod EdText
+mod NormalBody
+mod EdBody
+mod Changes
+mod Bodies
+mod Reading
