@@ -34,6 +34,8 @@ test:
 	@sh tests/commands $(BIN)
 	@sh tests/beside_patchutils $(BIN)
 	@sh tests/pages $(BIN) $(TOOLS)
+	@sh tests/large $(BIN) small
+	@sh tests/dist $(RT) $(BIN) build $(TOOLS)
 
 times:
 	@python3 tests/proofs times

@@ -25,7 +25,7 @@ fn field<'r>(row: &'r str, label: &str) -> &'r str {
 }
 
 /// The text in which a bar stands for a line's end.
-fn text_of(alloc: Global, shown: &str) -> Result<String, Fail> {
+pub fn text_of(alloc: Global, shown: &str) -> Result<String, Fail> {
     Ok(shown.replace(alloc, "|", "\n")?)
 }
 

@@ -1,5 +1,6 @@
 //! The rows, group by group, each with every plan.
 
+use crate::options::{ASKED, BACKUPS, POSIX, REJECTS};
 use crate::row::{PLANS, is_kept};
 use crate::texts::{OTHERS, UNIFIED};
 use std::test::Fail;
@@ -194,6 +195,19 @@ out patching file f|
 after f=a|.|x|c|
 
 words patch f p.diff
+file f=a|b|c|
+file p.diff=2c|..|.|s/.//|a|x|.|
+answer Done 0
+out patching file f|
+after f=a|.|x|c|
+
+words patch f p.diff
+file f=a|b|c|
+file p.diff=5d|
+answer Rejected 1
+out patching file f|Hunk #1 FAILED at 5.|1 out of 1 hunk FAILED|
+
+words patch f p.diff
 file f=a|b|
 file p.diff=*** f|--- f|***************|*** 1,2 ****|--- 1,3 ----|  a|+ x|  b|
 answer Done 0
@@ -260,44 +274,6 @@ file f=a|b|c|
 file p.diff=2c|..|.|s/.//|a|x|.|
 answer EdReverse { line: 1 } 2
 err patch: **** the ed script at line 1 can't be reversed|
-";
-
-/// What POSIX says, and both the old and the new lines.
-const OPTIONS: &str = "
-words patch --posix -p0 -i p.diff
-file f=0|a|b|c|
-file p.diff=--- f|+++ f|@@ -1,3 +1,3 @@| a|-b|+B| c|
-answer Done 0
-out patching file f|Hunk #1 succeeded at 2 (offset 1 line).|
-after f=0|a|B|c|
-gone f.orig
-
-words patch --posix -p0 -i p.diff
-file f=a|b|
-file p.diff=--- f|+++ /dev/null|@@ -1,2 +0,0 @@|-a|-b|
-answer Done 0
-out patching file f|
-after f=
-
-words patch --posix -p0 -i p.diff
-file p.diff=--- /dev/null|+++ n|@@ -0,0 +1 @@|+a|
-answer Rejected 1
-out can't find file to patch at input line 3|Skipping patch.|1 out of 1 hunk ignored|
-gone n
-
-words patch -D X -p0 -i p.diff
-file f=a|b|c|
-file p.diff=--- f|+++ f|@@ -1,3 +1,3 @@| a|-b|+B| c|
-answer Done 0
-out patching file f|
-after f=a|#ifndef X|b|#else|B|#endif|c|
-
-words patch -D X -E -p0 -i p.diff
-file f=a|b|
-file p.diff=--- f|+++ /dev/null|@@ -1,2 +0,0 @@|-a|-b|
-answer Done 0
-out patching file f|
-after f=#ifndef X|a|b|#endif|
 ";
 
 /// Files that are made, taken away, renamed and copied by git headers.
@@ -397,7 +373,8 @@ gone x.ptmp
 #[test]
 fn worked_rows(rt: HostRuntime) -> Result<(), Fail> {
     for rows in [
-        PLACES, FUZZ, REVERSED, NAMES, FORMS, TEXTS, OPTIONS, HEADERS, REFUSED, UNIFIED, OTHERS,
+        PLACES, FUZZ, REVERSED, NAMES, FORMS, TEXTS, POSIX, BACKUPS, ASKED, REJECTS, HEADERS,
+        REFUSED, UNIFIED, OTHERS,
     ] {
         for row in rows.trim().split("\n\n") {
             for tool in PLANS {

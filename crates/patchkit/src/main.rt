@@ -99,6 +99,7 @@ fn run_over<O: Write + Drop, E: Write + Drop>(
     let mut input = Input::new(alloc, rt.stdin());
     let scratch = Pages::new(alloc, rt);
     let (exit, pages) = run_words(alloc, words, &mut tree, scratch, &mut input, out, err);
+    tree.end();
     let paged = pages.remove();
     match exit.why {
         Why::Usage => put_usage(alloc, err, tool, words),

@@ -1,5 +1,6 @@
 //! Each plan behind a small file, and the pages that two of them write.
 
+use crate::changing::lines_of;
 use line_store::{Half, LineStore, Plan};
 use mem_world::{MemScratch, MemTree};
 use outside::Name;
@@ -119,25 +120,83 @@ fn pages_are_packed(rt: HostRuntime) -> Result<(), Fail> {
     Ok(())
 }
 
-/// 100 lines of 100 bytes.
-fn long_lines(alloc: Global) -> Result<Vec<u8>, Fail> {
-    let mut bytes = Vec::new(alloc);
-    for _ in 0..100 {
-        bytes.extend_from_slice(&[b'x'; 99])?;
-        bytes.push(b'\n')?;
-    }
-    Ok(bytes)
+/// A file by its lines, so many of so many bytes each; how many bytes it takes in the scratch, padded and packed; and how many reads of
+/// the scratch a packed line may cost.
+#[derive(Clone, Copy)]
+struct Filled {
+    lines: &'static [(u32, u32)],
+    padded: usize,
+    packed: usize,
+    reads: u32,
 }
 
-// Four lines stand on a page, and one of 508 bytes fills it.
+// Four lines of 100 bytes stand on a page, and one of 508 bytes fills it.
+const FILLED: [Filled; 3] = [
+    Filled {
+        lines: &[(1, 2), (1, 4)],
+        padded: 512,
+        packed: 520,
+        reads: 2,
+    },
+    Filled {
+        lines: &[(100, 100)],
+        padded: 12_800,
+        packed: 13_000,
+        reads: 6,
+    },
+    Filled {
+        lines: &[(100, 100), (1, 508)],
+        padded: 51_712,
+        packed: 13_520,
+        reads: 6,
+    },
+];
+
+/// The scratch of a padded file.
+fn padded(alloc: Global, bytes: Vec<u8>) -> Result<MemScratch, Fail> {
+    let mut plan = PlanB::new(PagePair::new(alloc, 512)?, scratch(alloc));
+    takes(alloc, &mut plan, bytes)?;
+    Ok(plan.into_parts().1)
+}
+
+/// The scratch of a packed file behind a load of line `k`, if it has one.
+fn packed(alloc: Global, bytes: Vec<u8>, k: u64) -> Result<MemScratch, Fail> {
+    let mut plan = PackedB::new(PagePair::new(alloc, 512)?, scratch(alloc));
+    takes(alloc, &mut plan, bytes)?;
+    if k > 0 && k <= plan.count() {
+        let _loaded = plan.load(k, Half::First);
+    }
+    Ok(plan.into_parts().1)
+}
+
+/// The most reads that a line of a packed file costs, of each fourth line, since as many stand on a page.
+fn most_reads(alloc: Global, lines: &[(u32, u32)]) -> Result<u32, Fail> {
+    let filled = packed(alloc, lines_of(alloc, lines)?, 0)?.calls();
+    let mut most = 0;
+    for page in 0..26 {
+        let calls = packed(alloc, lines_of(alloc, lines)?, 4 * page + 1)?.calls();
+        most = most.max(calls.saturating_sub(filled));
+    }
+    Ok(most)
+}
+
+/// Whether a file takes as many bytes in the scratch as its row says, and each line no more reads.
+fn is_filled_as(alloc: Global, row: &Filled) -> Result<bool, Fail> {
+    let padded = padded(alloc, lines_of(alloc, row.lines)?)?.bytes().len();
+    let packed = packed(alloc, lines_of(alloc, row.lines)?, 0)?.bytes().len();
+    let reads = most_reads(alloc, row.lines)?;
+    Ok(padded == row.padded && packed == row.packed && 0 < reads && reads <= row.reads)
+}
+
 #[test]
 fn lines_fill_as_many_pages_as_they_need(rt: HostRuntime) -> Result<(), Fail> {
-    let alloc = rt.alloc();
-    let mut bytes = long_lines(alloc)?;
-    bytes.extend_from_slice(&[b'y'; 507])?;
-    bytes.push(b'\n')?;
-    let mut plan = PackedB::new(PagePair::new(alloc, 512)?, scratch(alloc));
-    assert!(rt; takes(alloc, &mut plan, bytes)?);
-    assert_eq!(rt; plan.into_parts().1.bytes().len(), 13_520);
+    for row in &FILLED {
+        assert!(rt;
+            is_filled_as(rt.alloc(), row)?,
+            "{} {}",
+            row.padded,
+            row.packed
+        );
+    }
     Ok(())
 }

@@ -29,6 +29,11 @@ impl<'r, R: Files<File = File>> Disk<'r, R> {
         }
     }
 
+    /// Takes away the temporaries that a run left which a fault of another file broke off. Nothing is called behind it.
+    pub fn end(&mut self) {
+        self.files.give_up_all();
+    }
+
     /// What failed last.
     pub fn trouble(&self) -> Option<&Trouble> {
         self.trouble.as_ref()

@@ -187,6 +187,14 @@ impl<'r, R: Files<File = File>> OpenFiles<'r, R> {
         }
     }
 
+    /// Takes away what is still being filled, as far as the system lets it.
+    pub fn give_up_all(&mut self) {
+        self.writing = None;
+        for temporary in self.origins.filled() {
+            take_away(self.rt, temporary.path());
+        }
+    }
+
     pub fn remove(&mut self, name: Path<'_>) -> io::Result<()> {
         self.close(name.text)?;
         self.origins.end(name.text);

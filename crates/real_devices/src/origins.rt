@@ -41,10 +41,19 @@ struct Origin {
 
 /// A temporary that was started, and the rights that it gets once it is sealed.
 #[derive(Drop)]
-struct Temporary {
+pub struct Temporary {
     name: String,
     given: usize,
     rights: Rights,
+}
+
+impl Temporary {
+    pub fn path(&self) -> Path<'_> {
+        Path {
+            text: self.name.as_str(),
+            given: self.given,
+        }
+    }
 }
 
 /// The rights that a temporary is to get.
@@ -132,12 +141,14 @@ impl Origins {
     /// The temporary that was started last of those that are being filled.
     pub fn last(&self) -> Option<Path<'_>> {
         match self.temporaries.last() {
-            Some(last) => Some(Path {
-                text: last.name.as_str(),
-                given: last.given,
-            }),
+            Some(last) => Some(last.path()),
             None => None,
         }
+    }
+
+    /// The temporaries that are being filled.
+    pub fn filled(&self) -> &[Temporary] {
+        &self.temporaries
     }
 
     /// Forgets a temporary, and tells its rights.

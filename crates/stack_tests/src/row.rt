@@ -1,7 +1,7 @@
 //! A row is a text of labelled lines, in which a bar stands for a line's end. Names that it doesn't give stand for nothing.
 
 use mem_world::{MemScratch, MemSink, MemTree};
-use outside::Name;
+use outside::{Name, Tree};
 use run_answers::Why;
 use stack_cli::run_stack;
 use std::alloc::Global;
@@ -18,11 +18,11 @@ fn field<'r>(row: &'r str, label: &str) -> &'r str {
 }
 
 /// The text in which a bar stands for a line's end.
-fn text_of(alloc: Global, shown: &str) -> Result<String, Fail> {
+pub fn text_of(alloc: Global, shown: &str) -> Result<String, Fail> {
     Ok(shown.replace(alloc, "|", "\n")?)
 }
 
-fn name_of(alloc: Global, text: &str) -> Result<Name, Fail> {
+pub fn name_of(alloc: Global, text: &str) -> Result<Name, Fail> {
     match Name::new(alloc, text.as_bytes()) {
         Ok(name) => Ok(name),
         Err(_) => Err("no name".into()),
@@ -36,11 +36,11 @@ fn add_file(alloc: Global, tree: &mut MemTree, file: &str) -> Result<(), Fail> {
     Ok(())
 }
 
-/// The tree with the files of a row behind this label.
-pub fn tree_of(alloc: Global, row: &str, label: &str) -> Result<MemTree, Fail> {
-    let mut tree = MemTree::new(alloc, Vec::new(alloc));
+/// The tree with the files of a row. The call with this number fails, none where it is 0.
+pub fn tree_of(alloc: Global, row: &str, fails: u32) -> Result<MemTree, Fail> {
+    let mut tree = MemTree::new(alloc, Vec::from_slice(alloc, &[fails])?);
     for line in row.split('\n') {
-        if let Some(file) = line.strip_prefix(label) {
+        if let Some(file) = line.strip_prefix("file ") {
             add_file(alloc, &mut tree, file)?;
         }
     }
@@ -48,10 +48,10 @@ pub fn tree_of(alloc: Global, row: &str, label: &str) -> Result<MemTree, Fail> {
 }
 
 /// Runs an operation over a tree.
-pub fn run_over(
+pub fn run_over<T: Tree>(
     alloc: Global,
     operation: &str,
-    tree: &mut MemTree,
+    tree: &mut T,
     out: &mut MemSink,
 ) -> Result<Why, Fail> {
     let words = vec![in alloc;
@@ -96,17 +96,19 @@ pub fn has_files(alloc: Global, tree: &MemTree, row: &str) -> Result<bool, Fail>
     Ok(true)
 }
 
-/// Whether an operation does what a row says.
-pub fn is_kept(alloc: Global, row: &str) -> Result<bool, Fail> {
-    let mut tree = tree_of(alloc, row, "file ")?;
+/// Whether an operation over this tree answers, and says, what a row does.
+pub fn is_said<T: Tree>(alloc: Global, row: &str, tree: &mut T) -> Result<bool, Fail> {
     let mut out = MemSink::new(alloc, Vec::new(alloc));
-    let why = run_over(alloc, field(row, "operation "), &mut tree, &mut out)?;
+    let why = run_over(alloc, field(row, "operation "), tree, &mut out)?;
     let answer = format!(in alloc; "{why:?}")?;
     if answer.as_str() != field(row, "answer ") {
         return Ok(false);
     }
-    if out.bytes() != text_of(alloc, field(row, "out "))?.as_bytes() {
-        return Ok(false);
-    }
-    has_files(alloc, &tree, row)
+    Ok(out.bytes() == text_of(alloc, field(row, "out "))?.as_bytes())
+}
+
+/// Whether an operation does what a row says.
+pub fn is_kept(alloc: Global, row: &str) -> Result<bool, Fail> {
+    let mut tree = tree_of(alloc, row, 0)?;
+    Ok(is_said(alloc, row, &mut tree)? && has_files(alloc, &tree, row)?)
 }

@@ -7,7 +7,7 @@ use std::alloc::Global;
 use std::test::Fail;
 
 /// The files before a push, which are those that a pop gives back.
-const BEFORE: &str = "file patches/series=one.diff|
+pub const BEFORE: &str = "file patches/series=one.diff|
 file patches/one.diff=--- a/f|+++ b/f|@@ -1,3 +1,3 @@| a|-b|+B| c|--- /dev/null|+++ b/g|@@ -0,0 +1 @@|+x|
 file f=a|b|c|
 after f=a|b|c|
@@ -15,7 +15,7 @@ gone g
 gone .pc/1.save";
 
 /// The files after it.
-const AFTER: &str = "file patches/series=one.diff|
+pub const AFTER: &str = "file patches/series=one.diff|
 file patches/one.diff=--- a/f|+++ b/f|@@ -1,3 +1,3 @@| a|-b|+B| c|--- /dev/null|+++ b/g|@@ -0,0 +1 @@|+x|
 file f=a|B|c|
 file g=x|
@@ -30,24 +30,29 @@ fn run(alloc: Global, operation: &str, tree: &mut MemTree) -> Result<Why, Fail> 
     run_over(alloc, operation, tree, &mut out)
 }
 
-/// Whether what a stop leaves is counted, and is then as before a push or after one.
-fn recovers(alloc: Global, tree: &MemTree, call: u32, choice: u64) -> Result<bool, Fail> {
-    let mut image = tree.stop_at(alloc, call, choice)?;
-    if run(alloc, "applied", &mut image)? != Why::Done {
+/// Whether what is left is counted, and is then as before a push or after one.
+pub fn recovers(alloc: Global, tree: &mut MemTree) -> Result<bool, Fail> {
+    if run(alloc, "applied", tree)? != Why::Done {
         return Ok(false);
     }
-    Ok(has_files(alloc, &image, BEFORE)? || has_files(alloc, &image, AFTER)?)
+    Ok(has_files(alloc, tree, BEFORE)? || has_files(alloc, tree, AFTER)?)
+}
+
+/// Whether what a stop leaves recovers.
+fn stop_recovers(alloc: Global, tree: &MemTree, call: u32, choice: u64) -> Result<bool, Fail> {
+    let mut image = tree.stop_at(alloc, call, choice)?;
+    recovers(alloc, &mut image)
 }
 
 /// Whether a command is done that leads to these files, and all that stops of it may leave recovers.
 fn stops_well(alloc: Global, operation: &str, from: &str, to: &str) -> Result<bool, Fail> {
-    let mut tree = tree_of(alloc, from, "file ")?;
+    let mut tree = tree_of(alloc, from, 0)?;
     if run(alloc, operation, &mut tree)? != Why::Done || !has_files(alloc, &tree, to)? {
         return Ok(false);
     }
     for call in 0..tree.calls() {
         for choice in 0..8 {
-            if !recovers(alloc, &tree, call + 1, choice)? {
+            if !stop_recovers(alloc, &tree, call + 1, choice)? {
                 return Ok(false);
             }
         }

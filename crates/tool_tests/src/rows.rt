@@ -38,6 +38,10 @@ words lsdiff -s -s
 answer Usage 2
 err lsdiff: **** the words are not a command|
 
+words pach
+answer Usage 2
+err patchkit: **** the words are not a command|
+
 words filterdiff -i *.c p.diff
 p.diff diff --git a/lib/main.c b/lib/main.c|index 83db48f..bf269f4 100644|--- a/lib/main.c|+++ b/lib/main.c|@@ -1,3 +1,4 @@| int main(void)| {|+  setup();| }|diff --git a/my notes.txt b/my notes.txt|index 83db48f..bf269f4 100644|--- a/my notes.txt\t|+++ b/my notes.txt\t|@@ -1 +1 @@|-old|+new|diff --git a/new.txt b/new.txt|new file mode 100644|index 0000000..257cc56|--- /dev/null|+++ b/new.txt|@@ -0,0 +1 @@|+foo|
 answer Done 0

@@ -1,4 +1,4 @@
-use Rattle.command_tests.proofs.turning.TurningScratchScratch.write_at.Goals as goal
+use Rattle.command_tests.proofs.spoiling.SpoilingScratchScratch.write_at.Goals as goal
 
 pub returns-then-at-bytes-clause-call : goal.returns-then-at-bytes-clause-call
 returns-then-at-bytes-clause-call c = c.counted.ensures.call _ _

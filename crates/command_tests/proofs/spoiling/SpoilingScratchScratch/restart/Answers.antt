@@ -1,4 +1,4 @@
-use Rattle.command_tests.proofs.turning.TurningScratchScratch.read_at.Goals as goal
+use Rattle.command_tests.proofs.spoiling.SpoilingScratchScratch.restart.Goals as goal
 
 pub returns-clause-call : goal.returns-clause-call
 returns-clause-call c = c.counted.ensures.call _ _
