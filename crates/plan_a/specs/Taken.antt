@@ -27,3 +27,12 @@ IsCutFault size bytes (LongLine line length) = (size - 4 < length) × (refusal s
 IsCutFault size bytes (FileTooLong length) = ⊥
 IsCutFault size bytes (Disagree want got) = ⊥
 IsCutFault size bytes Memory = Unit {0}
+
+-- where fewer bytes came than a file was said to have, that number stands first
+abbrev pub HasWanted : ℕ → OpenFault → Type 0
+HasWanted length Tree = Unit {0}
+HasWanted length Scratch = Unit {0}
+HasWanted length (LongLine line long) = Unit {0}
+HasWanted length (FileTooLong long) = Unit {0}
+HasWanted length (Disagree want got) = (want ≡ length) × (got < length)
+HasWanted length Memory = Unit {0}

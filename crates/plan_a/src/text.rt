@@ -8,7 +8,7 @@ ghost use Rattle.outside.specs.TreeView.{Passes};
 ghost use Rattle.outside.specs.Calls.{IsThere, IsUntouched};
 ghost use Rattle.line_store.specs.Store.{IsFirstAlike, IsLastAlike, line_at};
 ghost use Rattle.line_store.specs.Taking.{refusal};
-ghost use Rattle.plan_a.specs.Taken.{HasLength, IsFile, HasTextCause, IsCutFault};
+ghost use Rattle.plan_a.specs.Taken.{HasLength, IsFile, HasTextCause, HasWanted, IsCutFault};
 ghost use Rattle.plan_a.specs.Places.{places_of};
 ghost use Rattle.plan_a.specs.Cut.{IsCut, IsRange, from_of};
 
@@ -171,7 +171,7 @@ fn size_of<T: Tree>(tree: &mut T, name: &Name) -> Result<u64, OpenFault>
     Ok(tree.size(name)?.unwrap_or(0))
 }
 
-/// Reads a file whole, of which so many bytes are stated.
+/// Reads a file whole, of which so many bytes are stated. What is taken are the bytes that came.
 fn read_bytes<T: Tree>(
     alloc: Global,
     tree: &mut T,
@@ -185,11 +185,14 @@ fn read_bytes<T: Tree>(
     ensures bytes { IfOk result (λ bytes. IsFile (T.view tree.old) name.now bytes.items) }
     ensures all { IfOk result (λ bytes. vec_len bytes ≡ length) }
     ensures cause { (size : ℕ) → IfErr result (λ e. HasTextCause e size (T.view tree.old) (T.view tree.new) name.now) }
+    ensures wanted { IfErr result (HasWanted length) }
 {
     let mut bytes = Vec::with_capacity(alloc, length as usize)?;
     bytes.resize(length as usize, 0)?;
-    let got = tree.read_at(name, 0, &mut bytes)? as u64;
-    if got != length {
+    let count = tree.read_at(name, 0, &mut bytes)?;
+    bytes.truncate(count);
+    let got = bytes.len() as u64;
+    if got < length {
         return Err(OpenFault::Disagree { want: length, got });
     }
     Ok(bytes)
