@@ -18,7 +18,7 @@ use Rattle.patch_cli.specs.Command.{Outcome}
 use Rattle.gen_cli.specs.Command.{command}
 use Rattle.gen_cli.specs.Worlds.{Tells}
 use Rattle.gen_cli.specs.Causes.{HasCause}
-use Rattle.gen_cli.specs.Carries.{Answers, BreaksOff, Carries, IsCutPutting}
+use Rattle.gen_cli.specs.Carries.{Answers, BreaksOff, Carries, IsCutPutting, StarvesEarly}
 use Rattle.gen_cli.proofs.Whole.{carries_does}
 
 module _ (job : Result PlainGenJob WordFault) (t v : TreeView) (a : ScratchView) (c : SinkView) (opens : Opens t v) where
@@ -78,6 +78,10 @@ module _ (job : Result PlainGenJob WordFault) (t v : TreeView) (a : ScratchView)
           cut
       breaks_behind (Err fault) f cut = ⊎_elim (λ same. inl (same_behind same)) (λ never. absurd never) cut
 
+      starved_behind : (x : Result PlainGenJob WordFault) (f : Files) → StarvesEarly x (world v a c) w f → StarvesEarly x (world t a c) w f
+      starved_behind (Ok j) f starves = λ paged. ⊎_elim (λ same. inl (same_behind same)) (λ before. inr before) (starves paged)
+      starved_behind (Err fault) f starves = tt
+
       pub carries_behind : Carries job (world t a c) w why given
       carries_behind = carries_does why given (record {
         tree = passes_both opens.passes done.tree;
@@ -95,6 +99,7 @@ module _ (job : Result PlainGenJob WordFault) (t v : TreeView) (a : ScratchView)
             (λ part. inr part)
             (done.images f (tells_behind f told) d later))
             (since_split done.tree t.moment d opens.passes.later since);
+        starved = λ is f told. starved_behind job f (done.starved is f (tells_behind f told));
         cut = λ own f told. breaks_behind job f (done.cut own f (tells_behind f told));
         tidy = λ none. tidy_behind t v w.tree opens.told (done.tidy none);
         pages = λ is f before told was. done.pages is f before (tells_behind f told) was;

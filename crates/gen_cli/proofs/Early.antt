@@ -1,4 +1,4 @@
--- Ends before a file is put: by the words, by a tree that couldn't be settled, or by the made patch.
+-- Ends before a file is put: by the words, by a tree that couldn't be settled, or by want of memory. The made patch isn't refused.
 use Rattle.std.proofs.Common.{◌≡◌, ◌⊎◌, inl, inr, ⊎_elim, false, Option, None, Some, Result, Ok, Err, refl, sym, ◌∙◌, ap, subst}
 use Rattle.std.proofs.lemmas.Bool.{false≢true}
 use Rattle.outside.specs.TreeView.{TreeView, Rises}
@@ -7,19 +7,21 @@ use Rattle.outside.specs.ScratchView.{ScratchView}
 use Rattle.patch_options.specs.declared.options.WordFault.{WordFault}
 use Rattle.patch_options.specs.declared.options.WordFault.TheVariants as words
 use Rattle.patch_set.specs.declared.fault.SetFault.{SetFault}
-use Rattle.patch_set.specs.declared.fault.SetFault.TheVariants as set
 use Rattle.patch_set.specs.Refusals.{refusal}
 use Rattle.patch_run.specs.Applied.{Receipt}
-use Rattle.tool_words.specs.PlainJobs.{PlainGenJob}
+use Rattle.patch_options.specs.Table.{uses, value_of}
+use Rattle.tool_words.specs.PlainJobs.{PlainGenJob, IsSize}
 use Rattle.run_answers.specs.declared.why.Why.{Why}
 use Rattle.run_answers.specs.declared.why.Why.TheVariants as whys
 use Rattle.run_answers.specs.Answers.{of_set, of_words, is_through}
 use Rattle.run_answers.specs.Moments.{Opens}
 use Rattle.run_answers.specs.Worlds.{World, world}
 use Rattle.run_answers.proofs.Opens.{opens_none}
+use Rattle.gen_law.specs.Plain.{TakesNames}
+use Rattle.gen_law.proofs.Free.{made-free}
 use Rattle.patch_cli.specs.Carries.{HasReceipt}
 use Rattle.gen_cli.specs.Jobs.{options_for}
-use Rattle.gen_cli.specs.Command.{command, patch_text, on_refusal}
+use Rattle.gen_cli.specs.Command.{command, patch_text}
 use Rattle.gen_cli.specs.Causes.{HasCause}
 use Rattle.gen_cli.specs.Carries.{Carries}
 use Rattle.gen_cli.proofs.Whole.{carries_early, carries_is}
@@ -59,40 +61,22 @@ module _ (job : Result PlainGenJob WordFault) (t : TreeView) (a : ScratchView) (
   pub settle_carry : (v : TreeView) (why : Why) → Opens t v → why ≡ whys.TreeFault → Rises t v → Carries job (world t a c) (world v a c) why None
   settle_carry v why opens is rises = carries_is why whys.TreeFault None None is refl (carries_early job t v a c whys.TreeFault opens rises refl refl (λ own. absurd (false≢true own)))
 
-module _ (j : PlainGenJob) (t : TreeView) (a : ScratchView) (c : SinkView) where
-  set-cause : (fault : SetFault) → refusal (options_for j) (patch_text j) ≡ Some fault → HasCause (of_set fault) (Ok j) (world t a c) (world t a c)
-  set-cause (set.Malformed line kind) is = is
-  set-cause set.Garbage is = is
-  set-cause set.TooLong is = is
-  set-cause (set.OutMany count) is = is
-  set-cause (set.EdReverse line) is = is
-  set-cause (set.Reserved line) is = is
-  set-cause set.Memory is = tt
+-- the options of `patchgen` take each file patch for the file that its header names
+takes : (j : PlainGenJob) → TakesNames (options_for j)
+unfolding uses value_of
+takes j = record { only = refl; strip = refl; file = refl; dir = refl; output = refl; reject = refl; prefix = refl; suffix = refl; reverse = refl }
 
-  set-receipt : (fault : SetFault) → HasReceipt (of_set fault) None
-  set-receipt (set.Malformed line kind) = refl
-  set-receipt set.Garbage = refl
-  set-receipt set.TooLong = refl
-  set-receipt (set.OutMany count) = refl
-  set-receipt (set.EdReverse line) = refl
-  set-receipt (set.Reserved line) = refl
-  set-receipt set.Memory = refl
+pub patch_free : (j : PlainGenJob) → IsSize j → refusal (options_for j) (patch_text j) ≡ None
+patch_free j size = made-free (options_for j) j.seed j.files j.lines (takes j) size.some_files size.few_files size.some_lines size.few_lines size.few
 
-  set-going : (fault : SetFault) → is_through (of_set fault) ≡ false
-  set-going (set.Malformed line kind) = refl
-  set-going set.Garbage = refl
-  set-going set.TooLong = refl
-  set-going (set.OutMany count) = refl
-  set-going (set.EdReverse line) = refl
-  set-going (set.Reserved line) = refl
-  set-going set.Memory = refl
+not_refused : (j : PlainGenJob) → IsSize j → (fault : SetFault) → refusal (options_for j) (patch_text j) ≡ Some fault → ⊥
+not_refused j size fault is = let bad : None ≡ Some fault = sym (patch_free j size) ∙ is in absurd (cc)
 
-  pub unmade_carry : (why : Why) → IsUnmade j why → Carries (Ok j) (world t a c) (world t a c) why None
-  unmade_carry why none = ⊎_elim
-      (λ (is : why ≡ whys.Memory). carries_is why whys.Memory None None is refl (starved (Ok j) t a c))
-      (λ (fault, is, gives). carries_is why (of_set fault) None None is refl
-      (carries_early (Ok j) t t a c (of_set fault) (opens_none t) (set-cause fault gives) (set-receipt fault) (set-going fault) (λ own f. ap (λ (x : Option SetFault). on_refusal j x f) gives)))
-      none
+pub unmade_carry : (j : PlainGenJob) (t : TreeView) (a : ScratchView) (c : SinkView) (why : Why) → IsSize j → IsUnmade j why → Carries (Ok j) (world t a c) (world t a c) why None
+unmade_carry j t a c why size none = ⊎_elim
+    (λ (is : why ≡ whys.Memory). carries_is why whys.Memory None None is refl (starved (Ok j) t a c))
+    (λ (fault, is, gives). absurd (not_refused j size fault gives))
+    none
 
 same-fault : (one other : WordFault) (job : Result PlainGenJob WordFault) → job ≡ Err one → job ≡ Err other → one ≡ other
 same-fault one other job is same = cc

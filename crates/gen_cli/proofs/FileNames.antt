@@ -1,57 +1,13 @@
--- The names of the made files.
-use Rattle.std.proofs.Common.{◌≡◌, ℕ, zero, suc, ◌+◌, ◌-◌, ◌<◌, List, [], ◌∷◌, ◌++◌, map, length, get_or, drop, codes, Bool, true, false, ◌||◌, refl, sym, ◌∙◌, ap, arith, length-append, length-drop}
-use Rattle.std.proofs.lemmas.List.{get_or-append-add, get_or-drop, get_or-map, length-map, map-append}
+-- The places of the made files.
+use Rattle.std.proofs.Common.{◌≡◌, ℕ, ◌+◌, ◌-◌, ◌<◌, List, [], ◌∷◌, ◌++◌, map, length, get_or, false, refl, sym, ◌∙◌, ap, arith}
+use Rattle.std.proofs.lemmas.List.{get_or-map, length-map, map-append}
 use Rattle.std.proofs.lemmas.List.FromFn.{map-range_with_len_more, get_or-map-range_with_len, length-map-range_with_len}
-use Rattle.std.proofs.lemmas.Bool.{false≢true}
-use Rattle.std.specs.List.{list_any, range_with_len}
-use Rattle.std.specs.Cmp.Lexicographic.{same_text}
-use Rattle.num_text.specs.Numbers.{is_digit, decimal, AllDigits}
-use Rattle.num_text.proofs.Decimal.{decimal-numeral}
+use Rattle.std.specs.List.{range_with_len}
 use Rattle.outside.specs.Files.{is_temp, temp_of}
-use Rattle.outside.specs.Names.{is_slash, is_control, IsEnding}
 use Rattle.patch_gen.specs.Patches.{file_name}
+use Rattle.gen_law.proofs.Targets.{file_lasting}
 use Rattle.gen_cli.specs.declared.places.Place.{Place}
 use Rattle.gen_cli.specs.Preparing.{ArePlaces}
-
--- ---- digits
-
-no-slash : (d : ℕ) → is_digit d ≡ true → is_slash d ≡ false
-no-slash d is = grind arith
-
-no-control : (d : ℕ) → is_digit d ≡ true → is_control d ≡ false
-no-control d is = grind arith
-
-free : (test : ℕ → Bool) → ((d : ℕ) → is_digit d ≡ true → test d ≡ false) → (ds : List ℕ) → AllDigits ds → list_any test ds ≡ false
-free test none [] all = refl
-free test none (d ∷ ds) all = ap (λ b. b || list_any test ds) (none d all.0) ∙ free test none ds all.1
-
-digit-at : (ds : List ℕ) (i : ℕ) → AllDigits ds → i < length ds → is_digit (get_or ds i 0) ≡ true
-digit-at [] i all lt = absurd (omega (arith, lt))
-digit-at (d ∷ ds) zero all lt = all.0
-digit-at (d ∷ ds) (suc i) all lt = digit-at ds i all.1 (omega (arith, lt))
-
--- a number may be put behind a name
-pub number_ending : (n : ℕ) → IsEnding (decimal n)
-number_ending n = record { no_slash = free is_slash no-slash (decimal n) (decimal-numeral n).digits; no_control = free is_control no-control (decimal n) (decimal-numeral n).digits }
-
--- what ends in a digit is no name of a temporary
-not-temp : (front ds : List ℕ) → 0 < length ds → AllDigits ds → is_temp (front ++ ds) ≡ false
-unfolding is_temp
-not-temp front ds some all = elim (is_temp (front ++ ds)) as (λ b. is_temp (front ++ ds) ≡ b → b ≡ false) [
-  | true ↦ λ is.
-      let k = length (front ++ ds) - 5 in
-      let tail : codes ".ptmp" ≡ drop k (front ++ ds) = same_text (codes ".ptmp") (drop k (front ++ ds)) (sym is) in
-      let long : k + 4 ≡ length front + (length ds - 1) = omega (arith, some, length-append front ds, length-drop k (front ++ ds), ap (λ (l : List ℕ). length l) tail) in
-      let byte : 112 ≡ get_or ds (length ds - 1) 0 =
-      ap (λ (l : List ℕ). get_or l 4 0) tail ∙ get_or-drop k (front ++ ds) 4 0 ∙ ap (λ i. get_or (front ++ ds) i 0) long ∙ get_or-append-add front ds (length ds - 1) 0 in
-      absurd (false≢true (ap is_digit byte ∙ digit-at ds (length ds - 1) all (omega (arith, some))))
-  | false ↦ λ is. refl
-] refl
-
-pub file_lasting : (i : ℕ) → is_temp (file_name i) ≡ false
-file_lasting i = not-temp (codes "gen/f") (decimal i) (decimal-numeral i).some (decimal-numeral i).digits
-
--- ---- places
 
 pub places_none : ArePlaces [] 0
 places_none = record { names = refl; temps = refl }

@@ -28,7 +28,7 @@ use Rattle.patch_run.specs.Run.{Run}
 use Rattle.patch_run.specs.Doing.{IsPartOf, IsHalted, IsCutOff, QuietAfter, ReceivesBehind}
 use Rattle.tool_words.specs.PlainJobs.{PlainGenJob}
 use Rattle.run_answers.specs.declared.why.Why.{Why}
-use Rattle.run_answers.specs.declared.why.Why.TheVariants.{Done, Rejected, LongLine, FileTooLong, WriteFault, TreeFault}
+use Rattle.run_answers.specs.declared.why.Why.TheVariants.{Done, Rejected, LongLine, FileTooLong, WriteFault, TreeFault, Memory}
 use Rattle.run_answers.specs.Answers.{is_fault, is_own, of_run, is_through}
 use Rattle.patch_cli.specs.Command.{end_of, receipt_if}
 use Rattle.patch_cli.specs.Carries.{HasReceipt}
@@ -42,6 +42,15 @@ use Rattle.gen_cli.specs.Telling.{IsUnmeasured, IsUnwritten, TellsOf}
 use Rattle.gen_cli.specs.Ending.{run_in, ending_in, HasEndCause, IsRunAnswer, IsRunPart, RunAnswers, Ends}
 
 -- ---- a run that was cut off
+
+cut_memory : (e : RunFault) → ◌≡◌ {A = Result Receipt Why} (Err (of_run e)) (Err Memory) → ◌≡◌ {A = Result Receipt RunFault} (Err e) (Err runs.Memory)
+cut_memory runs.Tree is = absurd (cc)
+cut_memory runs.Write is = absurd (cc)
+cut_memory runs.Scratch is = absurd (cc)
+cut_memory (runs.LongLine line count) is = absurd (cc)
+cut_memory (runs.FileTooLong count) is = absurd (cc)
+cut_memory (runs.Disagree want got) is = absurd (cc)
+cut_memory runs.Memory is = refl
 
 module _ (j : PlainGenJob) (v : SetView) (t w : TreeView) (a b : ScratchView) (c d : SinkView) where
   cut_cause : (e : RunFault) → HasPlanCause e (options_for j) t w a b c d → HasEndCause (of_run e) j t w a b c d
@@ -118,6 +127,7 @@ module _ (j : PlainGenJob) (v : SetView) (t w : TreeView) (a b : ScratchView) (c
     receipt = cut_receipt e;
     answers = λ f told. cut_answers f e (does.cut f told);
     moments = does.moments;
+    starved = λ is paged. does.starved (cut_memory e is) paged;
     cut = λ own f told. ⊎_elim (λ none. inl none) (λ at. inr (inl (e, refl, at))) (does.cut_at f told);
     tidy = cut_tidy e does.tidy;
     pages = tt;
@@ -214,6 +224,7 @@ module _ (j : PlainGenJob) (v : SetView) (t u w : TreeView) (a b : ScratchView) 
         receipt = refl;
         answers = λ f told. first_part f told tells.tree (unmeasured f told un.out);
         moments = λ f told. (made_all f told tells.tree).since;
+        starved = λ is. absurd (cc);
         cut = λ own f told. inr (inr (telling f told TreeFault (inl refl) tells.tree (said_still f told un.out)));
         tidy = λ is. absurd (false≢true (sym is));
         pages = tt;
@@ -227,6 +238,7 @@ module _ (j : PlainGenJob) (v : SetView) (t u w : TreeView) (a b : ScratchView) 
         receipt = refl;
         answers = λ f told. first_part f told tells.tree (unwritten f told un.part);
         moments = λ f told. (made_all f told tells.tree).since;
+        starved = λ is. absurd (cc);
         cut = λ own f told. inr (inr (telling f told WriteFault (inr refl) tells.tree (said_part f told un.part)));
         tidy = λ is. absurd (false≢true (sym is));
         pages = tt;
@@ -243,6 +255,7 @@ module _ (j : PlainGenJob) (v : SetView) (t u w : TreeView) (a b : ScratchView) 
     receipt = end_receipt r.is_bad r refl;
     answers = λ f told. subst (λ own. RunAnswers own (Ok r) t w c d (run_in j v f) (ending_in j v f)) (sym (end_own r.is_bad)) (whole f told r tells.same tells.tree tells.written);
     moments = λ f told. (made_all f told tells.tree).since;
+    starved = λ is. absurd (cc);
     cut = λ own. absurd (false≢true (sym own ∙ end_own r.is_bad));
     tidy = λ is. tidy_both t u w does.tree does.tidy (untouched_tidy tells.tree);
     pages = λ f before told was. does.holds f before told was;

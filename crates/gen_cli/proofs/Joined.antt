@@ -1,5 +1,5 @@
 -- The files that are put, and the run over them, as one run.
-use Rattle.std.proofs.Common.{◌≡◌, ◌⊎◌, inl, inr, ⊎_elim, ℕ, zero, List, ◌++◌, length, Bool, true, false, Option, None, Some, Result, Ok, Err, refl, sym, ◌∙◌, ap, subst}
+use Rattle.std.proofs.Common.{◌≡◌, ◌⊎◌, inl, inr, ⊎_elim, ℕ, zero, List, ◌++◌, length, Bool, true, false, if◌then◌else◌, Option, None, Some, Result, Ok, Err, refl, sym, ◌∙◌, ap, subst}
 use Rattle.std.proofs.lemmas.Bool.{false≢true}
 use Rattle.std.proofs.lemmas.List.{append-nil, length-map}
 use Rattle.hunk_core.specs.Reading.{Fault}
@@ -97,6 +97,14 @@ not_early ScratchFault j t w a b c d cause is = false≢true is
 not_early (Disagree want got) j t w a b c d cause is = false≢true is
 not_early Memory j t w a b c d cause is = false≢true is
 
+end_memory : (bad : Bool) → (if bad then Rejected else Done) ≡ Memory → ⊥
+end_memory true is = absurd (cc)
+end_memory false is = absurd (cc)
+
+memory_result : (result : Result Receipt Why) → why_of result ≡ Memory → result ≡ Err Memory
+memory_result (Ok r) is = absurd (end_memory r.is_bad is)
+memory_result (Err why) is = ap (λ (x : Why). Err x) is
+
 module _ (j : PlainGenJob) (v : SetView) (t : TreeView) (a : ScratchView) (c : SinkView) (set : IsMadeSet j v) where
   abbrev puts : List Effect
   puts = file_puts j
@@ -140,6 +148,7 @@ module _ (j : PlainGenJob) (v : SetView) (t : TreeView) (a : ScratchView) (c : S
     });
     images = λ f told. subst (λ (o : Outcome). LeavesAllowed t w f o.effects) (sym (is_carried f))
         (λ d since. inr (since_longer t w puts (run_in j v (behind f)).effects (puts ++ (run_in j v (behind f)).effects) refl cut.leaves f told.files d since));
+    starved = λ is. absurd (cc);
     cut = λ own f told. inr (inl (record { is = refl; tells = cut.tells; scratch = refl; out = refl }));
     tidy = λ is. absurd (false≢true (sym is));
     pages = λ is. absurd (false≢true is);
@@ -189,10 +198,13 @@ module _ (j : PlainGenJob) (v : SetView) (t : TreeView) (a : ScratchView) (c : S
           (cut-match (options_for j) (patch_text j) v set.read (behind f) e w c d at);
     }
 
+    not_begun : (f : Files) → Tells (Ok j) (world t a c) f → IsNotBegun u w a b c d → IsCutBefore j f w a b c d
+    not_begun f told none = record { files = none.tree.told ∙ all.done f told.files; scratch = none.scratch; out = none.out }
+
     cut_then : (why : Why) (f : Files) → Tells (Ok j) (world t a c) f → EndsCut why j v u w a b c d (behind f)
         → IsCutBefore j f w a b c d ⊎ (IsCutRun why j f w c d ⊎ IsCutBehind why j f w c d)
     cut_then why f told cut = ⊎_elim
-        (λ (none : IsNotBegun u w a b c d). inl (record { files = none.tree.told ∙ all.done f told.files; scratch = none.scratch; out = none.out }))
+        (λ none. inl (not_begun f told none))
         (λ later. inr (⊎_elim
         (λ (e, is, at). inl (cut_run why f e is at))
         (λ telling. inr (plain_patches v, reads_set, subst (λ (r : Run). IsCutTelling why j r w c d) (sym (run_is f)) telling))
@@ -228,6 +240,7 @@ module _ (j : PlainGenJob) (v : SetView) (t : TreeView) (a : ScratchView) (c : S
           (answers_then result ends (is_own (why_of result)) f told (ends.answers (behind f) (told_on_to f told)));
       images = λ f told. subst (λ (o : Outcome). LeavesAllowed t w f o.effects) (sym (is_carried f))
           (λ x since. inr (leaves_after are_made ends.tree (run_in j v (behind f)).effects (ends.moments (behind f) (told_on_to f told)) f told.files x since));
+      starved = λ is f told paged. inr (not_begun f told (ends.starved (memory_result result is) paged));
       cut = λ own f told. inr (inr (cut_then (why_of result) f told (ends.cut own (behind f) (told_on_to f told))));
       tidy = λ none. tidy_both t u w all.tree all.tidy (ends.tidy none);
       pages = pages_then result ends;

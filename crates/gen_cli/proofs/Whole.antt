@@ -1,5 +1,5 @@
 -- What a run promises, from what its steps say.
-use Rattle.std.proofs.Common.{◌≡◌, ◌⊎◌, inl, inr, ⊎_elim, ℕ, zero, List, length, true, false, Bool, Option, Some, None, Result, refl, sym, ◌∙◌, ap, subst, arith}
+use Rattle.std.proofs.Common.{◌≡◌, ◌⊎◌, inl, inr, ⊎_elim, ℕ, zero, List, length, true, false, Bool, Option, Some, None, Result, Ok, Err, refl, sym, ◌∙◌, ap, subst, arith}
 use Rattle.std.proofs.lemmas.Bool.{false≢true}
 use Rattle.std.proofs.lemmas.List.{append-nil}
 use Rattle.std.proofs.lemmas.Option.{same_Some}
@@ -26,7 +26,7 @@ use Rattle.gen_cli.specs.Jobs.{AsksFor, options_for}
 use Rattle.gen_cli.specs.Command.{command}
 use Rattle.gen_cli.specs.Worlds.{Tells}
 use Rattle.gen_cli.specs.Causes.{HasCause}
-use Rattle.gen_cli.specs.Carries.{Answers, BreaksOff, Carries}
+use Rattle.gen_cli.specs.Carries.{Answers, BreaksOff, Carries, StarvesEarly}
 
 -- the scratch behind a run that came to its end
 abbrev pub KeepsPages : Result PlainGenJob WordFault → World → World → Type 0
@@ -43,6 +43,7 @@ pub record Does (job : Result PlainGenJob WordFault) (u w : World) (why : Why) (
   pub receipt : HasReceipt why given
   pub answers : (f : Files) → Tells job u f → Answers (is_own why) why given f u w (command job f)
   pub images : (f : Files) → Tells job u f → LeavesAllowed u.tree w.tree f (command job f).effects
+  pub starved : why ≡ Memory → (f : Files) → Tells job u f → StarvesEarly job u w f
   pub cut : is_own why ≡ false → (f : Files) → Tells job u f → BreaksOff why job u w f
   pub tidy : is_fault why ≡ false → IsTidy u.tree w.tree
   pub pages : is_ended why ≡ true → KeepsPages job u w
@@ -87,6 +88,7 @@ carries_does {job = job} why given d = record {
   answers = d.answers;
   images = d.images;
   names = λ f told c since. ⊎_elim (λ entry. inl entry) (λ part. inr (old_or_new (command job f).effects f c part)) (d.images f told c since);
+  starved = d.starved;
   cut = d.cut;
   tidy = d.tidy;
   pages = d.pages;
@@ -150,6 +152,10 @@ module _ (u w : World) (same : IsAsAtEntry u.tree w.tree u.scratch w.scratch u.o
   answers_early true why f o told ends = subst (λ (x : Outcome). IsAnswer why None f w.tree u.out w.out x) (sym (ends refl)) (refused_so why f told)
   answers_early false why f o told ends = nothing_yet f o told
 
+starved_entry : (job : Result PlainGenJob WordFault) (u w : World) (f : Files) → IsAsAtEntry u.tree w.tree u.scratch w.scratch u.out w.out → StarvesEarly job u w f
+starved_entry (Ok j) u w f same = λ paged. inl same
+starved_entry (Err fault) u w f same = tt
+
 pub carries_early : (job : Result PlainGenJob WordFault) (t v : TreeView) (a : ScratchView) (c : SinkView) (why : Why) → Opens t v → HasCause why job (world t a c) (world v a c)
     → HasReceipt why None → is_through why ≡ false → (is_own why ≡ true → (f : Files) → command job f ≡ refused why f) → Carries job (world t a c) (world v a c) why None
 carries_early job t v a c why opens cause receipt going ends =
@@ -166,6 +172,7 @@ carries_early job t v a c why opens cause receipt going ends =
       receipt = receipt;
       answers = λ f told. answers_early u w same (is_own why) why f (command job f) told.files (λ own. ends own f);
       images = λ f told d since. inl (opens.images d since);
+      starved = λ is f told. starved_entry job u w f same;
       cut = λ own f told. inl same;
       tidy = λ none. tidy_same t v opens.told;
       pages = λ is. absurd (through_ended why going is);

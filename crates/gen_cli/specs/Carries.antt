@@ -1,5 +1,5 @@
 -- What a run of `patchgen` promises: that it is the command's, and what stands at each moment.
-use Rattle.std.specs.Prelude.{◌≡◌, ◌⊎◌, ℕ, List, Bool, true, false, Option, Some, None, Result, Ok}
+use Rattle.std.specs.Prelude.{◌≡◌, ◌⊎◌, ℕ, List, Bool, true, false, Option, Some, None, Result, Ok, Err}
 use Rattle.line_list.specs.Completed.{completed}
 use Rattle.outside.specs.Files.{Files}
 use Rattle.outside.specs.TreeView.{TreeView, Passes}
@@ -22,7 +22,7 @@ use Rattle.run_answers.specs.declared.why.Why.TheVariants.{WriteFault, TreeFault
 use Rattle.run_answers.specs.Answers.{of_run, is_early, is_ended, is_fault, is_own, is_through}
 use Rattle.run_answers.specs.Moments.{FirstPart, IsAsAtEntry, LeavesAllowed, LeavesOldOrNew}
 use Rattle.run_answers.specs.Worlds.{World, NoneFailed}
-use Rattle.patch_cli.specs.Scratches.{scratch_behind_all}
+use Rattle.patch_cli.specs.Scratches.{is_paged, scratch_behind_all}
 use Rattle.patch_cli.specs.Command.{Outcome, items_for}
 use Rattle.patch_cli.specs.Carries.{HasReceipt, IsAnswer}
 use Rattle.gen_cli.specs.Jobs.{AsksFor, options_for}
@@ -77,13 +77,18 @@ abbrev pub BreaksOff : Why → Result PlainGenJob WordFault → World → World 
 BreaksOff why job u w f = IsAsAtEntry u.tree w.tree u.scratch w.scratch u.out w.out ⊎ AsksFor job (λ j. IsCutPutting why j u.tree w.tree u.scratch w.scratch u.out w.out
     ⊎ (IsCutBefore j f w.tree u.scratch w.scratch u.out w.out ⊎ (IsCutRun why j f w.tree u.out w.out ⊎ IsCutBehind why j f w.tree u.out w.out)))
 
+-- where every file is kept in the scratch, want of memory came before the run over the file patches
+abbrev pub StarvesEarly : Result PlainGenJob WordFault → World → World → Files → Type 0
+StarvesEarly (Ok j) u w f = is_paged j.plan ≡ true → IsAsAtEntry u.tree w.tree u.scratch w.scratch u.out w.out ⊎ IsCutBefore j f w.tree u.scratch w.scratch u.out w.out
+StarvesEarly (Err fault) u w f = Unit {0}
+
 -- all that is promised of a run of the words that ask for this, from one state of its devices to another
 pub record Carries (job : Result PlainGenJob WordFault) (u w : World) (why : Why) (given : Option Receipt) : Type 0 where
   pub tree : Passes u.tree w.tree
   pub scratch : ScratchPasses u.scratch w.scratch
   pub sink : SinkPasses u.out w.out
   pub cause : HasCause why job u w
-  -- a refusal, of the words or of the made patch, comes before a file is put
+  -- a refusal comes before a file is put
   pub untouched : is_early why ≡ true → IsAsAtEntry u.tree w.tree u.scratch w.scratch u.out w.out
   -- after an end each crash from then on leaves all effects
   pub quiet : is_through why ≡ true → IsQuiet w.tree
@@ -92,6 +97,7 @@ pub record Carries (job : Result PlainGenJob WordFault) (u w : World) (why : Why
   pub images : (f : Files) → Tells job u f → LeavesAllowed u.tree w.tree f (command job f).effects
   -- wherever the run is stopped, each file holds its old bytes or its completed new ones
   pub names : (f : Files) → Tells job u f → LeavesOldOrNew u.tree w.tree f (command job f).effects
+  pub starved : why ≡ Memory → (f : Files) → Tells job u f → StarvesEarly job u w f
   pub cut : is_own why ≡ false → (f : Files) → Tells job u f → BreaksOff why job u w f
   -- unless a device failed, no temporary is left that the run started
   pub tidy : is_fault why ≡ false → IsTidy u.tree w.tree

@@ -1,5 +1,5 @@
 -- The run over the made patch with its summary, on the files that were put.
-use Rattle.std.specs.Prelude.{◌≡◌, ◌≢◌, ◌⊎◌, ℕ, ◌-◌, ◌^◌, ◌<◌, ◌≤◌, List, length, Bool, true, false, Some, Result, OnOk}
+use Rattle.std.specs.Prelude.{◌≡◌, ◌≢◌, ◌⊎◌, ℕ, ◌-◌, ◌^◌, ◌<◌, ◌≤◌, List, length, Bool, true, false, Some, Result, Err, OnOk}
 use Rattle.outside.specs.Faults.{HasRisen}
 use Rattle.outside.specs.Files.{Files}
 use Rattle.outside.specs.TreeView.{TreeView, Passes}
@@ -18,7 +18,7 @@ use Rattle.patch_run.specs.Doing.{IsCutAt, IsWholeOf}
 use Rattle.run_answers.specs.declared.why.Why.{Why}
 use Rattle.run_answers.specs.declared.why.Why.TheVariants.{Done, Rejected, Usage, Malformed, Garbage, EdReverse, OutMany, Reserved, NoPatchFile, TooLong, LongLine, FileTooLong, BadPattern, NoContext, Unfit, BadState, StackEnd, StackName, ReadFault, WriteFault, TreeFault, ScratchFault, Disagree, Memory}
 use Rattle.run_answers.specs.Answers.{is_fault, is_own, is_through, of_run}
-use Rattle.patch_cli.specs.Scratches.{scratch_behind_all}
+use Rattle.patch_cli.specs.Scratches.{is_paged, scratch_behind_all}
 use Rattle.patch_cli.specs.Command.{Outcome}
 use Rattle.patch_cli.specs.Carries.{HasReceipt, why_of, receipt_of}
 use Rattle.patch_cli.specs.Finishes.{IsNotBegun, IsToldTo}
@@ -91,6 +91,8 @@ pub record Ends (j : PlainGenJob) (v : SetView) (t w : TreeView) (a b : ScratchV
   pub receipt : HasReceipt (why_of result) (receipt_of result)
   pub answers : (f : Files) → IsToldTo (options_for j) t a f → RunAnswers (is_own (why_of result)) result t w c d (run_in j v f) (ending_in j v f)
   pub moments : (f : Files) → IsToldTo (options_for j) t a f → LeavesPrefix t w (run_in j v f).effects
+  -- a plan that keeps every file in the scratch wants memory before the run alone
+  pub starved : result ≡ Err Memory → is_paged j.plan ≡ true → IsNotBegun t w a b c d
   pub cut : is_own (why_of result) ≡ false → (f : Files) → IsToldTo (options_for j) t a f → EndsCut (why_of result) j v t w a b c d f
   pub tidy : is_fault (why_of result) ≡ false → IsTidy t w
   pub pages : OnOk result ((f : Files) (before : List ℕ) → IsToldTo (options_for j) t a f → a.told ≡ Some before → b.told ≡ Some (scratch_behind_all (options_for j) (run_in j v f).taken before))

@@ -1,0 +1,5 @@
+mod Names
+mod Hunks
+mod Reading
+pub mod Targets
+pub mod Free

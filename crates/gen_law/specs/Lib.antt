@@ -1,0 +1,2 @@
+pub mod MadePatches
+pub mod Plain
