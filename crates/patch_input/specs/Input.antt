@@ -1,5 +1,5 @@
 -- The patch text of a run: the bytes of a file of the tree, or what the source has left.
-use Rattle.std.specs.Prelude.{◌≡◌, ◌≢◌, ℕ, ◌≤◌, List, [], ◌++◌, length, drop, nat_le, if◌then◌else◌, Option, Some, None, Result, Ok, Err}
+use Rattle.std.specs.Prelude.{◌≡◌, ◌≢◌, ℕ, ◌<◌, ◌≤◌, List, [], ◌++◌, length, drop, nat_le, if◌then◌else◌, Option, Some, None, Result, Ok, Err}
 use Rattle.std.specs.FinMap.{get}
 use Rattle.outside.specs.Faults.{HasRisen}
 use Rattle.outside.specs.Files.{Files}
@@ -59,6 +59,15 @@ HasFileCause Source t u name = ⊥
 HasFileCause Tree t u name = Rises t u
 HasFileCause (Disagree want got) t u name = (want ≢ got) × (t.told ≡ None)
 HasFileCause Memory t u name = Unit {0}
+
+-- where fewer bytes came than a file was said to have, that number stands first
+abbrev pub HasWanted : ℕ → InputFault → Type 0
+HasWanted size NoPatchFile = Unit {0}
+HasWanted size TooLong = Unit {0}
+HasWanted size Source = Unit {0}
+HasWanted size Tree = Unit {0}
+HasWanted size (Disagree want got) = (want ≡ size) × (got < size)
+HasWanted size Memory = Unit {0}
 
 -- and of the source alone
 abbrev pub HasSourceCause : InputFault → SourceView → SourceView → Type 0

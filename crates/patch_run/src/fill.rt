@@ -13,6 +13,7 @@ ghost use Rattle.hunk_apply.specs.Session.{IsTried};
 ghost use Rattle.patch_options.specs.PlainJob.{IsMacroName};
 ghost use Rattle.patch_run.specs.OnePatch.{tried, parted_output};
 ghost use Rattle.patch_run.specs.Trying.{IsSession, IsBegun, HasTryCause, HasLineCause};
+ghost use Rattle.patch_effects.specs.Faults.{of_line};
 ghost use Rattle.patch_effects.specs.Making.{IsGone, IsTidy, UnlessFailed};
 ghost use Rattle.patch_run.specs.TurnView.{plain_turn, IsTurn};
 
@@ -304,25 +305,25 @@ fn fill_begun<'n, P: LineStore, T: Tree>(
             }),
             Err(_) => Err(RunFault::Tree),
         },
-        Err(ApplyFault::Line(LineFault::Disagree { want, got })) => match sink.finish() {
-            Ok(()) => Err(give_up(want, got, sink.into_temp(), tree)),
+        Err(ApplyFault::Line(LineFault::Scratch)) => Err(RunFault::Scratch),
+        Err(ApplyFault::Line(fault)) => match sink.finish() {
+            Ok(()) => Err(give_up(fault, sink.into_temp(), tree)),
             Err(_) => Err(RunFault::Tree),
         },
-        Err(ApplyFault::Line(LineFault::Scratch)) => Err(RunFault::Scratch),
         Err(ApplyFault::Write) => Err(RunFault::Tree),
     }
 }
 
-/// Takes the temporary away, since no device has failed, and answers the two numbers, or the fault of the tree.
-fn give_up<T: Tree>(want: u64, got: u64, temp: Temp<'_>, tree: &mut T) -> RunFault
+/// Takes the temporary away, since no device has failed, and answers the fault of the lines, or that of the tree.
+fn give_up<T: Tree>(fault: LineFault, temp: Temp<'_>, tree: &mut T) -> RunFault
     requires quiet { IsQuiet (T.view tree.old) }
     requires there { IsThere (T.view tree.old) temp.name.now }
     ensures works { WorksOn (T.view tree.old) (T.view tree.new) temp.entry.name.now }
-    ensures fault { (result ≡ RunFault.Disagree want got) ⊎ ((result ≡ RunFault.Tree) × Rises (T.view tree.old) (T.view tree.new)) }
+    ensures fault { (result ≡ of_line fault) ⊎ ((result ≡ RunFault.Tree) × Rises (T.view tree.old) (T.view tree.new)) }
     ensures gone { UnlessFailed result (IsGone (T.view tree.new) temp.entry.name.now) }
 {
     match temp.forget(tree) {
-        Ok(()) => RunFault::Disagree { want, got },
+        Ok(()) => RunFault::from(fault),
         Err(_) => RunFault::Tree,
     }
 }

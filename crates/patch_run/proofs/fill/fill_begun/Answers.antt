@@ -46,11 +46,11 @@ returns-in-Err-finish-clause-works g c =
     let view = g.T.Tree.view in
     let sink = c.new-sink.result in
     let filled = c.try_into.new.out in
-    let last = c.finish-in-Err-Line-Disagree.new.self in
+    let last = c.finish-in-Err-Line.new.self in
     around_works _ _ _ c.args.begun.temporary c.requires.quiet
     (around_is view c.args.tree.now _ sink.tree.now last.tree.now _ sink.temp.name.now c.new-sink.ensures.same (search rules) c.new-sink.ensures.name
     (around_both (view sink.tree.now) (view filled.tree.now) (view last.tree.now) sink.temp.name.now c.try_into.ensures.rest.2
-    (subst (λ n. SameAround (view filled.tree.now) (view last.tree.now) n) c.try_into.ensures.rest.1 c.finish-in-Err-Line-Disagree.ensures.rest.2)))
+    (subst (λ n. SameAround (view filled.tree.now) (view last.tree.now) n) c.try_into.ensures.rest.1 c.finish-in-Err-Line.ensures.rest.2)))
 
 pub returns-in-Err-Line-Scratch-clause-works : goal.returns-in-Err-Line-Scratch-clause-works
 returns-in-Err-Line-Scratch-clause-works g c =
@@ -71,8 +71,8 @@ returns-in-Ok-finish-2-clause-works g c =
     let view = g.T.Tree.view in
     let sink = c.new-sink.result in
     let filled = c.try_into.new.out in
-    let last = c.finish-in-Err-Line-Disagree.new.self in
-    let rest = c.finish-in-Err-Line-Disagree.ensures.rest in
+    let last = c.finish-in-Err-Line.new.self in
+    let rest = c.finish-in-Err-Line.ensures.rest in
     let temp = c.into_temp-in-Ok-finish-2.result.name.now in
     let around = around_is view c.args.tree.now last.tree.now sink.tree.now last.tree.now c.args.begun.name.now sink.temp.name.now c.new-sink.ensures.same refl c.new-sink.ensures.name
     (around_both (view sink.tree.now) (view filled.tree.now) (view last.tree.now) sink.temp.name.now c.try_into.ensures.rest.2
