@@ -104,7 +104,7 @@ last_stops (state.Bad file) u w a c s n is some cause = record {
 }
 last_stops state.Tree u w a c s n is some cause = record { cause = cause; early = λ own. absurd (false≢true own); stops = λ own. absurd (false≢true own) }
 last_stops (state.Disagree want got) u w a c s n is some cause = record {
-  cause = (λ same. omega (arith, same, cause.0), λ f told. let never = sym told.files ∙ cause.1 in absurd (cc));
+  cause = (λ equal. let no : ⊥ = omega (arith, equal, cause.0) in no, λ f told. let never = sym told.files ∙ cause.1 in absurd (cc));
   early = λ own. absurd (false≢true own);
   stops = λ own. absurd (false≢true own);
 }

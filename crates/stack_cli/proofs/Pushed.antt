@@ -83,7 +83,7 @@ save_fails {u = u} {w = w} {a = a} {c = c} (stack.FileTooLong size) v s names na
     comes_is (on_said v s) (λ f told. long_stage v s names size f named (cause.1 f told))
     (comes_end {u = world u a c} {w = world w a c} (tt {0}) (FileTooLong size) refl refl (tt, cause.0) (steps_untouched c (tt {0}) same quiet) refl)
 save_fails stack.Tree v s names named same quiet cause = comes_nothing TreeFault (on_said v s) same quiet refl refl cause
-save_fails (stack.Disagree want got) v s names named same quiet cause = comes_nothing (Disagree want got) (on_said v s) same quiet refl refl (λ same. omega (arith, same, cause.0), λ f told. let never = sym told.files ∙ cause.1 in absurd (cc))
+save_fails (stack.Disagree want got) v s names named same quiet cause = comes_nothing (Disagree want got) (on_said v s) same quiet refl refl (λ equal. let no : ⊥ = omega (arith, equal, cause.0) in no, λ f told. let never = sym told.files ∙ cause.1 in absurd (cc))
 save_fails stack.Memory v s names named same quiet cause = comes_nothing Memory (on_said v s) same quiet refl refl tt
 
 -- ---- one stage after another, as the law has them

@@ -68,7 +68,7 @@ stack_stops state.NoSeries op u w a c cause = record { cause = tt; early = λ ow
 stack_stops (state.Bad file) op u w a c cause = record { cause = tt; early = λ own. refl; stops = λ own f told. refused_stack op f (Bad file) (cause f told) }
 stack_stops state.Tree op u w a c cause = record { cause = cause; early = λ own. absurd (false≢true own); stops = λ own. absurd (false≢true own) }
 stack_stops (state.Disagree want got) op u w a c cause = record {
-  cause = (λ same. omega (arith, same, cause.0), λ f told. let never = sym told.files ∙ cause.1 in absurd (cc));
+  cause = (λ equal. let no : ⊥ = omega (arith, equal, cause.0) in no, λ f told. let never = sym told.files ∙ cause.1 in absurd (cc));
   early = λ own. absurd (false≢true own);
   stops = λ own. absurd (false≢true own);
 }
@@ -111,7 +111,7 @@ save_stops (state.Bad file) op u w a c s is cause = record {
 }
 save_stops state.Tree op u w a c s is cause = record { cause = cause; early = λ own. absurd (false≢true own); stops = λ own. absurd (false≢true own) }
 save_stops (state.Disagree want got) op u w a c s is cause = record {
-  cause = (λ same. omega (arith, same, cause.0), λ f told. let never = sym told.files ∙ cause.1 in absurd (cc));
+  cause = (λ equal. let no : ⊥ = omega (arith, equal, cause.0) in no, λ f told. let never = sym told.files ∙ cause.1 in absurd (cc));
   early = λ own. absurd (false≢true own);
   stops = λ own. absurd (false≢true own);
 }
