@@ -9,13 +9,12 @@ use Rattle.hunk_core.specs.declared.check.BadHunk.{BadHunk}
 use Rattle.hunk_core.specs.declared.check.BadHunk.TheVariants.{Start, Sum}
 use Rattle.hunk_core.specs.PlainHunk.{PlainHunk}
 use Rattle.hunk_core.specs.Rules.{HasNoInnerFeed, first_broken}
-use Rattle.hunk_core.specs.Turned.{swapped}
 use Rattle.unified_form.specs.Canonical.{canonical}
 use Rattle.patch_gen.specs.Patches.{hunk_text, kept_lines, new_line}
 use Rattle.patch_gen.specs.Texts.{file_line, in_places, line_value}
 use Rattle.flip_patch.specs.Flipped as flipped
 use Rattle.flip_reading.specs.TurnedPatches.{as_shown}
-use Rattle.flip_reading.proofs.Hunks.{IsBody, IsGood, Rising, body-of, swapped-good}
+use Rattle.flip_reading.proofs.Hunks.{IsBody, IsGood, Rising, body-of}
 use Rattle.gen_law.specs.MadePatches.{body_from, made_hunk, made_hunks}
 
 -- ---- no line feed within a line
@@ -72,32 +71,32 @@ written x h =
 
 -- ---- all hunks of a file
 
--- taken from their other side, so that what is written of them is turned back
-abbrev backs : ℕ → ℕ → ℕ → List PlainHunk
-backs x a n = map (λ h. swapped (made_hunk (file_line x) h)) (range_with_len a n)
+-- the hunks from this number on, so many
+abbrev run_of : ℕ → ℕ → ℕ → List PlainHunk
+run_of x a n = map (made_hunk (file_line x)) (range_with_len a n)
 
-backs-good : (x a n : ℕ) → 1 ≤ a → a + n ≤ 500001 → AllByRecursion IsGood (backs x a n)
-backs-good x a zero some few = tt
-backs-good x a (suc n) some few = (swapped-good (made_hunk (file_line x) a) (made-good x a some (omega (arith, few))), backs-good x (a + 1) n (omega arith) (omega (arith, few)))
+run-good : (x a n : ℕ) → 1 ≤ a → a + n ≤ 500001 → AllByRecursion IsGood (run_of x a n)
+run-good x a zero some few = tt
+run-good x a (suc n) some few = (made-good x a some (omega (arith, few)), run-good x (a + 1) n (omega arith) (omega (arith, few)))
 
-backs-rise : (x a n least : ℕ) → least ≤ 20 * a - 13 → Rising least (map (λ g. g.new_start) (backs x a n))
-backs-rise x a zero least le = tt
-backs-rise x a (suc n) least le = (le, backs-rise x (a + 1) n (20 * a - 13) (omega arith))
+run-rises : (x a n least : ℕ) → least ≤ 20 * a - 13 → Rising least (map (λ h. h.old_start) (run_of x a n))
+run-rises x a zero least le = tt
+run-rises x a (suc n) least le = (le, run-rises x (a + 1) n (20 * a - 13) (omega arith))
 
-turned-back : (x a n : ℕ) → map (λ g. as_shown Unified (swapped g)) (backs x a n) ≡ map (made_hunk (file_line x)) (range_with_len a n)
-turned-back x a zero = refl
-turned-back x a (suc n) = ap (λ hs. made_hunk (file_line x) a ∷ hs) (turned-back x (a + 1) n)
+shown-same : (x a n : ℕ) → map (as_shown Unified) (run_of x a n) ≡ run_of x a n
+shown-same x a zero = refl
+shown-same x a (suc n) = ap (λ hs. made_hunk (file_line x) a ∷ hs) (shown-same x (a + 1) n)
 
-texts-are : (x a n : ℕ) → flat_map (flipped.hunk_text Unified) (map swapped (backs x a n)) ≡ flat_map (hunk_text (file_line x)) (range_with_len a n)
+texts-are : (x a n : ℕ) → flat_map (flipped.hunk_text Unified) (run_of x a n) ≡ flat_map (hunk_text (file_line x)) (range_with_len a n)
 texts-are x a zero = refl
-texts-are x a (suc n) = ap (λ t. t ++ flat_map (flipped.hunk_text Unified) (map swapped (backs x (a + 1) n))) (written x a) ∙ ap (λ t. hunk_text (file_line x) a ++ t) (texts-are x (a + 1) n)
+texts-are x a (suc n) = ap (λ t. t ++ flat_map (flipped.hunk_text Unified) (run_of x (a + 1) n)) (written x a) ∙ ap (λ t. hunk_text (file_line x) a ++ t) (texts-are x (a + 1) n)
 
 -- the lines of all hunks
-pub body-for : (x n : ℕ) → n ≤ 500000 → (body : List (List ℕ)) × IsBody Unified 0 (backs x 1 n) body
-body-for x n few = body-of Unified 0 (backs x 1 n) tt (backs-good x 1 n (omega arith) (omega (arith, few))) (backs-rise x 1 n 0 (omega arith))
+pub body-for : (x n : ℕ) → n ≤ 500000 → (body : List (List ℕ)) × IsBody Unified 0 (run_of x 1 n) body
+body-for x n few = body-of Unified 0 (run_of x 1 n) tt (run-good x 1 n (omega arith) (omega (arith, few))) (run-rises x 1 n 0 (omega arith))
 
-pub body-text : (x n : ℕ) (body : List (List ℕ)) → IsBody Unified 0 (backs x 1 n) body → flat_map (hunk_text (file_line x)) (range_with_len 1 n) ≡ flat_map (λ line. line) body
+pub body-text : (x n : ℕ) (body : List (List ℕ)) → IsBody Unified 0 (run_of x 1 n) body → flat_map (hunk_text (file_line x)) (range_with_len 1 n) ≡ flat_map (λ line. line) body
 body-text x n body is = sym (texts-are x 1 n) ∙ is.is
 
-pub body-hunks : (x n : ℕ) → map (λ g. as_shown Unified (swapped g)) (backs x 1 n) ≡ made_hunks (file_line x) n
-body-hunks x n = turned-back x 1 n
+pub body-hunks : (x n : ℕ) → map (as_shown Unified) (run_of x 1 n) ≡ made_hunks (file_line x) n
+body-hunks x n = shown-same x 1 n
