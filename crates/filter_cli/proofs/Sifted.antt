@@ -149,8 +149,8 @@ module _ (job : PlainToolJob) (i : Input) (s : PlainSelect) (R : FilterFault →
       faulted : (b : Bool) (e : FilterFault) (f : Files) (left : List ℕ) → AnswersFault b e (P f left) u.out w.out → ByOutcome (Ok job) u f left (Answers b (of_filter e) f u w)
       faulted true e f left (is, out) = (written (Err e), agrees.outcome f left (Err e) is, refused_so (Ok job) u w (entry out) (of_filter e) f)
       faulted false e f left fault = ⊎_elim
-          (λ out. (command u.finder.hit (Ok job) f left, inl refl, first _ (nothing out _)))
-          (λ (bytes, is, part). (written (Ok bytes), agrees.outcome f left (Ok bytes) is, first _ part))
+          (λ out. (command u.finder.hit (Ok job) f left, inl refl, first (command u.finder.hit (Ok job) f left) (nothing out _)))
+          (λ (bytes, is, part). (written (Ok bytes), agrees.outcome f left (Ok bytes) is, first (written (Ok bytes)) part))
           fault
 
     pub sifts_carry : (r : Result (Unit {0}) FilterFault) → Sifts i s R Q P u.tree w.tree u.source w.source u.out w.out r → Carries (Ok job) u w (why_by r)
