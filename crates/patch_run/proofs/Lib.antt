@@ -1,4 +1,4 @@
-mod Writing
+pub mod Writing
 mod Runs
 mod Deciding
 mod StartSteps
@@ -6,31 +6,19 @@ mod First
 mod StartTaken
 mod Filling
 mod PastMarks
-mod Folding
+mod MoreWritten
+pub mod Folding
 mod Marks
 mod Ready
 mod Going
 mod RunEnds
-mod Applying
+pub mod Applying
 mod Turning
 mod Rejecting
 mod Telling
 mod EndCause
-mod DoneNone
-mod BackedUp
 mod Getting
 mod Moving
-mod Renaming
 mod Parting
-mod Forcing
-mod SaidFirst
 mod TestByTest
-mod Keeping
 pub mod Places
-mod Skipping
-mod Standing
-mod Naming
-mod Unwritten
-mod Removing
-mod TriedFiles
-mod Rejected

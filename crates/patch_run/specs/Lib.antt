@@ -4,6 +4,7 @@ pub mod HunksSaid
 pub mod Outputs
 pub mod OnePatch
 pub mod Run
+pub mod Targets
 pub mod Devices
 pub mod Starting
 pub mod Trying
@@ -11,4 +12,3 @@ pub mod Ready
 pub mod TurnView
 pub mod Applied
 pub mod Doing
-pub mod Laws

@@ -8,7 +8,6 @@ mod choices;
 mod discard;
 mod effects;
 mod fill;
-mod laws;
 mod names;
 mod past;
 mod rejects;
@@ -18,7 +17,7 @@ mod tell;
 mod turn;
 mod weighing;
 mod word;
+mod written;
 
 pub use applied::Applied;
-pub use laws::{effect_laws, name_laws, run_laws};
 pub use set::apply_set;

@@ -155,7 +155,7 @@ fn put_if_to<O: Sink>(
     if turn.options.dry_run || !has_rejects(turn.options, earlier) {
         return Ok(());
     }
-    match written_by(turn, earlier) {
+    match written_by(turn.set, earlier.patch, earlier.row) {
         Some(target) => {
             if is_same(name, &target.reject) {
                 put_own(

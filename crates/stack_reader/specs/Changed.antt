@@ -3,7 +3,7 @@ use Rattle.std.specs.Prelude.{ℕ, List, Bool, ◌&&◌, ◌||◌, bytes_eq, is_
 use Rattle.std.specs.List.{list_any}
 use Rattle.patch_options.specs.PlainJob.{PlainOptions}
 use Rattle.target_names.specs.declared.derived.Target.{Target}
-pub use Rattle.patch_run.specs.Laws.{targets_in}
+pub use Rattle.patch_run.specs.Targets.{targets_in}
 
 -- the options ask for backups, always or where a hunk failed or stands elsewhere than it says
 abbrev pub may_back_up : PlainOptions → Bool

@@ -20,7 +20,7 @@ returns-then-turn-clause-writes g c =
     ]))
 
 pub put_own-requires-clause-named : goal.put_own-requires-clause-named
-put_own-requires-clause-named g c = c.written_by.ensures.named c.in-Some.target.now (ap option_copied c.in-Some.is)
+put_own-requires-clause-named g c = c.written_by.ensures.named c.requires.turn.ready.output c.requires.fit.named c.in-Some.target.now (ap option_copied c.in-Some.is)
 
 pub put_own-requires-clause-hunks : goal.put_own-requires-clause-hunks
 put_own-requires-clause-hunks g c =
@@ -36,5 +36,5 @@ returns-then-is_same-clause-writes g c =
     let t : PlainTurn = alone (plain_options turn.options.now) turn.set.now e.patch.now in
     writes_is c.put_own.result _ c.put_own.ensures.writes (own_text t e.row e.verdicts.now c.args.name.now c.in-Some.target.now
     (both (has_rejects t e.verdicts.now) t.options.dry_run (sym (c.has_rejects.ensures t turn.set.now.text refl refl) ∙ c.if-not-has_rejects.false) c.if-turn.false)
-    (sym c.written_by.ensures.target ∙ ap option_copied c.in-Some.is)
+    (sym (c.written_by.ensures.target t.options) ∙ ap option_copied c.in-Some.is)
     (sym c.is_same.ensures ∙ c.if-is_same.true))

@@ -1,0 +1,13 @@
+mod Naming
+mod DoneNone
+mod BackedUp
+mod Renaming
+mod Forcing
+mod SaidFirst
+mod Keeping
+mod Skipping
+mod Standing
+mod Unwritten
+mod Removing
+mod TriedFiles
+mod Rejected
