@@ -37,3 +37,7 @@ on-ok-none P Q (Err e) is = tt
 pub if-err-still : {R E : Type 0} (C : E → Type 0) (x : E) (r : Result R E) → IsErrAnd r (λ e. e ≡ x) → C x → IfErr r C
 if-err-still C x (Ok v) is held = absurd is
 if-err-still C x (Err e) is held = subst C (sym is) held
+
+pub on-err-map : {R E : Type 0} (r : Result R E) (P Q : Type 0) → (P → Q) → OnErr r P → OnErr r Q
+on-err-map (Ok x) P Q f p = tt
+on-err-map (Err e) P Q f p = f p

@@ -20,23 +20,23 @@ loop-q-init g c = record {
       (wrote-none (view c.args.out.now) c.args.tail more);
 }
 
-pub copy_stretch-requires-clause-counted : goal.copy_stretch-requires-clause-counted
-copy_stretch-requires-clause-counted g c = counted-still _ _ c.requires.counted c.loop-q.invariant.keeps
+pub copy_some-requires-clause-counted : goal.copy_some-requires-clause-counted
+copy_some-requires-clause-counted g c = counted-still _ _ c.requires.counted c.loop-q.invariant.keeps
 
 pub returns-in_err-copied-clause-part : goal.returns-in_err-copied-clause-part
 returns-in_err-copied-clause-part g c =
     let view = g.O.Sink.view in
-    on-err _ ((lines : List (List ℕ)) → (g.S.LineStore.seen c.args.store.now).told ≡ Some lines → (more : List (List ℕ)) → ReceivesPart (view c.args.out.now) (view c.copy_stretch.new.out) (join_behind c.args.tail.is_open (lines_between lines c.args.from c.args.to ++ more)))
+    on-err _ ((lines : List (List ℕ)) → (g.S.LineStore.seen c.args.store.now).told ≡ Some lines → (more : List (List ℕ)) → ReceivesPart (view c.args.out.now) (view c.copy_some.new.out) (join_behind c.args.tail.is_open (lines_between lines c.args.from c.args.to ++ more)))
     (λ lines told more.
     let to : c.loop-q.q + (c.args.to - c.loop-q.q) ≡ c.args.to = omega (arith, c.loop-q.invariant.high) in
     let left : List (List ℕ) = lines_between lines c.loop-q.q c.args.to ++ more in
-    part-same (view c.args.out.now) (view c.copy_stretch.new.out) c.args.tail.is_open
+    part-same (view c.args.out.now) (view c.copy_some.new.out) c.args.tail.is_open
     (lines_between lines c.args.from c.loop-q.q ++ left) (lines_between lines c.args.from c.args.to ++ more)
     (meet-between lines c.args.from c.loop-q.q c.args.to more c.loop-q.invariant.low c.loop-q.invariant.high)
-    (part-after (view c.args.out.now) (view c.loop-q.out) (view c.copy_stretch.new.out) c.args.tail c.loop-q.now
+    (part-after (view c.args.out.now) (view c.loop-q.out) (view c.copy_some.new.out) c.args.tail c.loop-q.now
     (lines_between lines c.args.from c.loop-q.q ++ left) left
     (c.loop-q.invariant.written lines told left)
-    (subst (λ e. ReceivesPart (view c.loop-q.out) (view c.copy_stretch.new.out) (join_behind c.loop-q.now.is_open (lines_between lines c.loop-q.q e ++ more))) to
+    (subst (λ e. ReceivesPart (view c.loop-q.out) (view c.copy_some.new.out) (join_behind c.loop-q.now.is_open (lines_between lines c.loop-q.q e ++ more))) to
     (c.in_err-copied.ensures.part lines (c.loop-q.invariant.keeps.told ∙ told) more))))
 
 pub loop-q-preserved : goal.loop-q-preserved
@@ -52,10 +52,10 @@ loop-q-preserved g c =
       rest = g.met.O.Sink.rest_both _ _ _ c.loop-q.invariant.rest c.in_ok-copied.ensures.rest;
       written = λ lines told more.
           let left : List (List ℕ) = lines_between lines c.loop-q.q (c.loop-q.q + c.in_ok-copied.copied.count) ++ more in
-          wrote-same (view c.args.out.now) (view c.copy_stretch.new.out) c.args.tail c.in_ok-copied.copied.tail
+          wrote-same (view c.args.out.now) (view c.copy_some.new.out) c.args.tail c.in_ok-copied.copied.tail
           (lines_between lines c.args.from c.loop-q.q ++ left) (lines_between lines c.args.from (c.loop-q.q + c.in_ok-copied.copied.count) ++ more) more more
           (meet-between lines c.args.from c.loop-q.q (c.loop-q.q + c.in_ok-copied.copied.count) more c.loop-q.invariant.low (omega arith)) refl
-          (wrote-both (view c.args.out.now) (view c.loop-q.out) (view c.copy_stretch.new.out) c.args.tail c.loop-q.now c.in_ok-copied.copied.tail
+          (wrote-both (view c.args.out.now) (view c.loop-q.out) (view c.copy_some.new.out) c.args.tail c.loop-q.now c.in_ok-copied.copied.tail
           (lines_between lines c.args.from c.loop-q.q ++ left) left more
           (c.loop-q.invariant.written lines told left)
           (c.in_ok-copied.ensures.written lines (c.loop-q.invariant.keeps.told ∙ told) more));
