@@ -15,6 +15,7 @@ use Rattle.hunk_core.specs.PlainHunk.{Marked, marked_of, body_of, bytes_at}
 use Rattle.hunk_core.specs.Turned.{swapped_line, is_keep}
 use Rattle.hunk_place.specs.Taken.{taken}
 use Rattle.hunk_apply.specs.Body.{turned_mark, side_marked, side_body}
+use Rattle.hunk_apply.specs.Passage.{width}
 use Rattle.hunk_apply.specs.Splice.{Edit, add, marked_edits, body_edits, AreFrom}
 use Rattle.hunk_apply.proofs.SpliceLemmas.{sooner, from-append}
 
@@ -40,10 +41,6 @@ on-side Forward k = refl
 on-side Reversed Keep = refl
 on-side Reversed Drop = refl
 on-side Reversed Add = refl
-
--- how many old lines a line with this mark is
-abbrev pub width : Side → Mark → ℕ
-width side k = cond (is_on_side side k) 1 0
 
 pub wider : (q w r : ℕ) → r ≡ w → q + w ≡ q + r
 wider q w r e = omega arith

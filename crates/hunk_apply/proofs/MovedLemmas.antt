@@ -1,5 +1,5 @@
 -- The state behind a hunk.
-use Rattle.std.proofs.Common.{◌≡◌, ℕ, ◌+◌, ◌-◌, ◌<◌, ◌≤◌, ◌^◌, List, [], length, reverse, count_by, Bool, true, false, cond, ◌&&◌, sym, ap, ◌∙◌, arith, to_z, of_z, w64, Option, Some, None}
+use Rattle.std.proofs.Common.{◌≡◌, ℕ, ◌+◌, ◌-◌, ◌<◌, ◌≤◌, ◌^◌, List, [], ◌++◌, length, reverse, count_by, Bool, true, false, cond, ◌&&◌, refl, sym, ap, subst, ◌∙◌, arith, to_z, of_z, w64, Option, Some, None}
 use Rattle.std.specs.Prelude.{ℤ, pos, negsuc, ◌+ℤ◌, ◌-ℤ◌, ◌≤ℤ◌, ◌==◌}
 use Rattle.std.specs.List.{prefix_len}
 use Rattle.std.proofs.lemmas.Int.{ints}
@@ -8,18 +8,23 @@ use Rattle.hunk_core.specs.declared.Side.{Side}
 use Rattle.hunk_core.specs.declared.Hunk.{Hunk}
 use Rattle.hunk_core.specs.Sides.{taken_count}
 use Rattle.hunk_core.specs.PlainHunk.{PlainHunk, old_lines}
-use Rattle.hunk_core.specs.Turned.{trailing, is_add, is_drop}
-use Rattle.hunk_core.specs.declared.Verdict.TheVariants.{At}
+use Rattle.hunk_core.specs.Turned.{trailing, base, is_add, is_drop}
+use Rattle.hunk_core.specs.declared.Verdict.{Verdict}
+use Rattle.hunk_core.specs.declared.Verdict.TheVariants.{At, Nowhere}
 use Rattle.hunk_place.specs.declared.PlaceState.{PlaceState}
 use Rattle.hunk_place.specs.declared.Spot.{Spot}
 use Rattle.hunk_place.specs.Taken.{taken}
-use Rattle.hunk_place.specs.Verdicts.{adds, drops, verdict_of, after_hunk}
+use Rattle.hunk_place.specs.Verdicts.{IsPlaced, adds, drops, verdict_of, after_hunk}
 use Rattle.hunk_place.proofs.TakenLemmas.{taken-trailing}
 use Rattle.hunk_apply.specs.Body.{turned_mark}
-use Rattle.hunk_apply.specs.Splice.{body_edits, hunk_edits}
+use Rattle.outside.specs.SinkView.{SinkView}
+use Rattle.hunk_apply.specs.declared.put.Tail.{Tail}
+use Rattle.hunk_apply.specs.Splice.{Edit, body_edits, hunk_edits, spliced_from, AreFrom}
 use Rattle.hunk_apply.specs.Moved.{moved_state}
+use Rattle.hunk_apply.specs.Written.{Wrote}
 use Rattle.hunk_apply.proofs.BodyLemmas.{is_kept, post-old}
 use Rattle.hunk_apply.proofs.HunkLemmas.{adds-are, drops-are, old-length, no-edits}
+use Rattle.hunk_apply.proofs.WrittenLemmas.{wrote-none, wrote-same}
 
 pub net-is : (n : ℤ) (a d : ℕ) → a < 2 ^ 32 → d < 2 ^ 32 → negsuc (2 ^ 33) ≤ℤ n → n ≤ℤ pos (2 ^ 33) → to_z w64 (of_z w64 (to_z w64 (of_z w64 n) +ℤ to_z w64 (of_z w64 (to_z w64 a -ℤ to_z w64 d)))) ≡ n +ℤ (pos a -ℤ pos d)
 net-is n a d high_a high_d low high = omega (arith, ints)
@@ -91,3 +96,49 @@ placed-consumed h state (Some s) line fuzz offset e =
 pub placed-edits : (h : PlainHunk) (place : Option Spot) (line fuzz : ℕ) (offset : ℤ) → At line fuzz offset ≡ verdict_of h place → body_edits line h.body ≡ hunk_edits place h
 placed-edits h None line fuzz offset e = cc
 placed-edits h (Some s) line fuzz offset e = let same : line ≡ s.line = cc in ap (λ n. body_edits n h.body) same
+
+pub placed-state : (h : PlainHunk) (state : PlaceState) (place : Option Spot) (line fuzz : ℕ) (offset : ℤ) → At line fuzz offset ≡ verdict_of h place → moved_state h state line offset ≡ after_hunk h state place
+placed-state h state None line fuzz offset e = cc
+placed-state h state (Some s) line fuzz offset e =
+    let same : line ≡ s.line = cc in
+    let far : offset ≡ pos s.line -ℤ pos (base h) = cc in
+    ap (λ n. moved_state h state n offset) same ∙ ap (λ o. moved_state h state s.line o) far
+
+pub placed-wrote : (u v : SinkView) (r t : Tail) (lines : List (List ℕ)) (later : List Edit) (h : PlainHunk) (state : PlaceState) (place : Option Spot) (line fuzz : ℕ) (offset : ℤ) → At line fuzz offset ≡ verdict_of h place → AreFrom ((after_hunk h state place).consumed + 1) later
+    → (AreFrom ((moved_state h state line offset).consumed + 1) later → Wrote u v r t (spliced_from lines (body_edits line h.body ++ later) (state.consumed + 1)) (spliced_from lines later ((moved_state h state line offset).consumed + 1)))
+    → Wrote u v r t (spliced_from lines (hunk_edits place h ++ later) (state.consumed + 1)) (spliced_from lines later ((after_hunk h state place).consumed + 1))
+placed-wrote u v r t lines later h state place line fuzz offset e from w =
+    let there : (after_hunk h state place).consumed ≡ (moved_state h state line offset).consumed = placed-consumed h state place line fuzz offset e in
+    wrote-same u v r t (spliced_from lines (body_edits line h.body ++ later) (state.consumed + 1)) (spliced_from lines (hunk_edits place h ++ later) (state.consumed + 1))
+    (spliced_from lines later ((moved_state h state line offset).consumed + 1)) (spliced_from lines later ((after_hunk h state place).consumed + 1))
+    (ap (λ es. spliced_from lines (es ++ later) (state.consumed + 1)) (placed-edits h place line fuzz offset e)) (ap (λ n. spliced_from lines later (n + 1)) (sym there))
+    (w (subst (λ n. AreFrom (n + 1) later) there from))
+
+-- where a verdict says that a hunk stands nowhere
+pub nowhere-state : (h : PlainHunk) (state : PlaceState) (place : Option Spot) → Nowhere ≡ verdict_of h place → state ≡ after_hunk h state place
+nowhere-state h state None e = refl
+nowhere-state h state (Some s) e = cc
+
+pub nowhere-wrote : (v : SinkView) (t : Tail) (lines : List (List ℕ)) (later : List Edit) (h : PlainHunk) (state : PlaceState) (place : Option Spot) → Nowhere ≡ verdict_of h place
+    → Wrote v v t t (spliced_from lines (hunk_edits place h ++ later) (state.consumed + 1)) (spliced_from lines later ((after_hunk h state place).consumed + 1))
+nowhere-wrote v t lines later h state None e = wrote-none v t (spliced_from lines later (state.consumed + 1))
+nowhere-wrote v t lines later h state (Some s) e = absurd (cc)
+
+pub still-below : (n : ℤ) (len : ℕ) → n ≤ℤ (n +ℤ pos len)
+still-below n len = omega (arith, ints)
+
+pub still-above : (n : ℤ) (len : ℕ) → (n -ℤ pos len) ≤ℤ n
+still-above n len = omega (arith, ints)
+
+-- a hunk's offset is small, and is handed on as it is
+pub placed-near : (count consumed n post line fuzz : ℕ) (offset : ℤ) (v : Verdict) → v ≡ At line fuzz offset → IsPlaced count consumed n post v → (negsuc (2 ^ 41) ≤ℤ offset) × (offset ≤ℤ pos (2 ^ 41))
+placed-near count consumed n post line fuzz offset v e p =
+    let q : IsPlaced count consumed n post (At line fuzz offset) = subst (IsPlaced count consumed n post) e p in
+    (q.2, q.3)
+
+pub offset-is : (o : ℤ) → negsuc (2 ^ 41) ≤ℤ o → o ≤ℤ pos (2 ^ 41) → to_z w64 (of_z w64 o) ≡ o
+offset-is o low high = omega (arith, ints)
+
+-- the last line that is consumed is one of the file's
+pub kept-within : (last line old post count : ℕ) → last + post + 1 ≡ line + old → line + old ≤ count + 1 + post → last ≤ count
+kept-within last line old post count exact room = omega arith

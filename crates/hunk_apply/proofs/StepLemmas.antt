@@ -9,7 +9,8 @@ use Rattle.line_list.specs.Join.{lacks_feed, feed_if}
 use Rattle.hunk_apply.specs.Body.{turned_mark}
 use Rattle.hunk_apply.specs.Splice.{Edit, marked_edits, spliced_from, AreFrom}
 use Rattle.hunk_apply.specs.Written.{is_nothing, join_behind, Wrote}
-use Rattle.hunk_apply.proofs.BodyLemmas.{width, marked-width}
+use Rattle.hunk_apply.specs.Passage.{width}
+use Rattle.hunk_apply.proofs.BodyLemmas.{marked-width}
 use Rattle.hunk_apply.proofs.SpliceLemmas.{line-dropped, line-added}
 use Rattle.hunk_apply.proofs.WrittenLemmas.{wrote-none, wrote-line, wrote-same, part-line, part-same}
 

@@ -8,7 +8,7 @@ ghost use Rattle.outside.specs.SinkView.{IsSinkCall, SinkPasses, Receives, Recei
 ghost use Rattle.hunk_core.specs.Turned.{LiesIn};
 ghost use Rattle.ed_form.specs.PlainEdit.{edits_of, lines_of, IsLawfulScript};
 ghost use Rattle.hunk_apply.specs.Script.{reaches_behind, scripted, script_lines, script_verdict};
-ghost use Rattle.hunk_apply.specs.Written.{Wrote, lines_between, is_nothing, join_behind};
+ghost use Rattle.hunk_apply.specs.Written.{WhereTold, Wrote, WroteFront, BrokeOff, lines_between, is_nothing, join_behind};
 ghost use Rattle.hunk_apply.specs.Session.{is_placed, is_failed, is_inexact, IsTried, FillsFirst};
 ghost use Rattle.hunk_apply.specs.Faults.{HasApplyCause, IsCounted};
 
@@ -92,8 +92,8 @@ fn put_script<S: LineStore, O: Sink>(
     requires lawful { IsLawfulScript text.now script.now }
     requires counted { IsCounted (S.seen store.old) }
     requires fails { fails ≡ reaches_behind (S.seen store.old).count (edits_of text.now script.now.edits.items) }
-    ensures written { IfOk result (λ end. (lines : List (List ℕ)) → (S.seen store.old).told ≡ Some lines → Wrote (O.view out.old) (O.view out.new) tail end (script_lines lines (edits_of text.now script.now.edits.items)) []) }
-    ensures part { OnErr result ((lines : List (List ℕ)) → (S.seen store.old).told ≡ Some lines → ReceivesPart (O.view out.old) (O.view out.new) (join_behind tail.is_open (script_lines lines (edits_of text.now script.now.edits.items)))) }
+    ensures written { IfOk result (λ end. WhereTold (S.seen store.old) (λ lines. Wrote (O.view out.old) (O.view out.new) tail end (script_lines lines (edits_of text.now script.now.edits.items)) [])) }
+    ensures part { OnErr result (WhereTold (S.seen store.old) (λ lines. ReceivesPart (O.view out.old) (O.view out.new) (join_behind tail.is_open (script_lines lines (edits_of text.now script.now.edits.items))))) }
     ensures keeps { Keeps (S.seen store.old) (S.seen store.new) }
     ensures sink { SinkPasses (O.view out.old) (O.view out.new) }
     ensures rest { O.same_rest out.old out.new }
@@ -119,8 +119,8 @@ fn carry_out<S: LineStore, O: Sink>(
     requires lawful { IsLawfulScript text.now script.now }
     requires counted { IsCounted (S.seen store.old) }
     requires within { reaches_behind (S.seen store.old).count (edits_of text.now script.now.edits.items) ≡ false }
-    ensures written { IfOk result (λ end. (lines : List (List ℕ)) → (S.seen store.old).told ≡ Some lines → Wrote (O.view out.old) (O.view out.new) tail end (scripted lines (edits_of text.now script.now.edits.items)) []) }
-    ensures part { OnErr result ((lines : List (List ℕ)) → (S.seen store.old).told ≡ Some lines → ReceivesPart (O.view out.old) (O.view out.new) (join_behind tail.is_open (scripted lines (edits_of text.now script.now.edits.items)))) }
+    ensures written { IfOk result (λ end. WhereTold (S.seen store.old) (λ lines. Wrote (O.view out.old) (O.view out.new) tail end (scripted lines (edits_of text.now script.now.edits.items)) [])) }
+    ensures part { OnErr result (WhereTold (S.seen store.old) (λ lines. ReceivesPart (O.view out.old) (O.view out.new) (join_behind tail.is_open (scripted lines (edits_of text.now script.now.edits.items))))) }
     ensures keeps { Keeps (S.seen store.old) (S.seen store.new) }
     ensures sink { SinkPasses (O.view out.old) (O.view out.new) }
     ensures rest { O.same_rest out.old out.new }
@@ -152,8 +152,8 @@ fn put_edit<S: LineStore, O: Sink>(
     requires low { 1 ≤ from }
     requires order { from ≤ edit.now.first }
     requires high { edit.now.first ≤ (S.seen store.old).count + 1 }
-    ensures written { IfOk result (λ now. (lines : List (List ℕ)) → (S.seen store.old).told ≡ Some lines → (more : List (List ℕ)) → Wrote (O.view out.old) (O.view out.new) tail now (lines_between lines from edit.now.first ++ (lines_of text.now edit.now.added.items ++ more)) more) }
-    ensures part { OnErr result ((lines : List (List ℕ)) → (S.seen store.old).told ≡ Some lines → (more : List (List ℕ)) → ReceivesPart (O.view out.old) (O.view out.new) (join_behind tail.is_open (lines_between lines from edit.now.first ++ (lines_of text.now edit.now.added.items ++ more)))) }
+    ensures written { IfOk result (λ now. WhereTold (S.seen store.old) (λ lines. (more : List (List ℕ)) → Wrote (O.view out.old) (O.view out.new) tail now (lines_between lines from edit.now.first ++ (lines_of text.now edit.now.added.items ++ more)) more)) }
+    ensures part { OnErr result (WhereTold (S.seen store.old) (λ lines. (more : List (List ℕ)) → ReceivesPart (O.view out.old) (O.view out.new) (join_behind tail.is_open (lines_between lines from edit.now.first ++ (lines_of text.now edit.now.added.items ++ more))))) }
     ensures keeps { Keeps (S.seen store.old) (S.seen store.new) }
     ensures sink { SinkPasses (O.view out.old) (O.view out.new) }
     ensures rest { O.same_rest out.old out.new }
@@ -169,8 +169,8 @@ fn put_added<O: Sink>(out: &mut O, tail: Tail, text: &[u8], edit: &EdEdit) -> Re
     requires lies { All (LiesIn text.now) edit.now.added.items }
     ensures call { IsSinkCall (O.view out.old) (O.view out.new) result }
     ensures rest { O.same_rest out.old out.new }
-    ensures written { IfOk result (λ now. (more : List (List ℕ)) → Wrote (O.view out.old) (O.view out.new) tail now (lines_of text.now edit.now.added.items ++ more) more) }
-    ensures part { OnErr result ((more : List (List ℕ)) → ReceivesPart (O.view out.old) (O.view out.new) (join_behind tail.is_open (lines_of text.now edit.now.added.items ++ more))) }
+    ensures written { IfOk result (λ now. WroteFront (O.view out.old) (O.view out.new) tail now (lines_of text.now edit.now.added.items)) }
+    ensures part { OnErr result (BrokeOff (O.view out.old) (O.view out.new) tail (lines_of text.now edit.now.added.items)) }
 {
     let mut now = tail;
     for k in 0..edit.added.len() {

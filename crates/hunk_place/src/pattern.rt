@@ -1,13 +1,13 @@
 //! The old lines of a hunk that are compared at a place, found once for a whole search.
 
-ghost use Rattle.std.specs.Prelude.{◌≡◌, ◌↔◌, ◌+◌, ◌-◌, ◌<◌, ◌≤◌, ℕ, IsTrue, List, drop, length, Some, IfOk, IfErr};
+ghost use Rattle.std.specs.Prelude.{◌≡◌, ◌+◌, ◌-◌, ◌<◌, ◌≤◌, ℕ, List, drop, Some, IfOk, IfErr};
 ghost use Rattle.line_store.specs.Store.{Keeps, HasCause, line_at};
 ghost use Rattle.hunk_core.specs.Sides.{taken_count};
 ghost use Rattle.hunk_core.specs.Turned.{IsLawful};
 ghost use Rattle.hunk_place.specs.Loose.{same_line};
-ghost use Rattle.hunk_place.specs.Taken.{taken_lines, side_lines};
-ghost use Rattle.hunk_place.specs.Placing.{fits};
+ghost use Rattle.hunk_place.specs.Taken.{side_lines};
 ghost use Rattle.hunk_place.specs.Pattern.{IsPattern, LieWithin};
+ghost use Rattle.hunk_place.specs.Passing.{WhereTold};
 
 use crate::loose::are_same;
 use hunk_core::{Hunk, Side, is_taken};
@@ -67,7 +67,7 @@ impl<'a> Pattern<'a> {
     ) -> Result<bool, LineFault>
         requires pattern { IsPattern self.now }
         requires within { LieWithin self.now (S.seen store.old).count at }
-        ensures value { IfOk result (λ yes. (lines : List (List ℕ)) → (S.seen store.old).told ≡ Some lines → (back : ℕ) → self.now.last ≡ taken_count self.now.side self.now.hunk.now.body.items - back → yes ≡ fits lines (taken_lines self.now.text.now self.now.side self.now.hunk.now) self.now.loose self.now.front back at) }
+        ensures value { IfOk result (λ yes. WhereTold (S.seen store.old).told self.now (λ f. yes ≡ f at)) }
         ensures keeps { Keeps (S.seen store.old) (S.seen store.new) }
         ensures cause { IfErr result (λ e. HasCause e (S.seen store.old) (S.seen store.new)) }
     {

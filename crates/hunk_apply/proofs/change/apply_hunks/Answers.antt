@@ -73,3 +73,57 @@ returns-in-Script-clause-part g c =
     c.apply_script.result
     (λ h lines told. subst (λ (bytes : List ℕ). ReceivesPart (view c.args.out.now) (view c.apply_script.new.out) bytes) (script-output lines c.args.fuzz c.args.loose c.args.side es change (ap (change_of text) c.in-Script.is)) (h lines told))
     c.apply_script.ensures.part
+
+pub returns-in-Hunks-clause-tried : goal.returns-in-Hunks-clause-tried
+returns-in-Hunks-clause-tried g c = c.apply_each.ensures.tried
+
+pub returns-in-Hunks-clause-applied : goal.returns-in-Hunks-clause-applied
+returns-in-Hunks-clause-applied g c = c.apply_each.ensures.applied
+
+pub returns-in-Hunks-clause-failed : goal.returns-in-Hunks-clause-failed
+returns-in-Hunks-clause-failed g c = c.apply_each.ensures.failed
+
+pub returns-in-Hunks-clause-inexact : goal.returns-in-Hunks-clause-inexact
+returns-in-Hunks-clause-inexact g c = c.apply_each.ensures.inexact
+
+pub returns-in-Hunks-clause-filled : goal.returns-in-Hunks-clause-filled
+returns-in-Hunks-clause-filled g c = c.apply_each.ensures.filled
+
+pub returns-in-Hunks-clause-keeps : goal.returns-in-Hunks-clause-keeps
+returns-in-Hunks-clause-keeps g c = c.apply_each.ensures.keeps
+
+pub returns-in-Hunks-clause-sink : goal.returns-in-Hunks-clause-sink
+returns-in-Hunks-clause-sink g c = c.apply_each.ensures.sink
+
+pub returns-in-Hunks-clause-rest : goal.returns-in-Hunks-clause-rest
+returns-in-Hunks-clause-rest g c = c.apply_each.ensures.rest
+
+pub returns-in-Hunks-clause-cause : goal.returns-in-Hunks-clause-cause
+returns-in-Hunks-clause-cause g c = c.apply_each.ensures.cause
+
+pub returns-in-Script-clause-tried : goal.returns-in-Script-clause-tried
+returns-in-Script-clause-tried g c = c.apply_script.ensures.tried
+
+pub returns-in-Script-clause-applied : goal.returns-in-Script-clause-applied
+returns-in-Script-clause-applied g c = c.apply_script.ensures.applied
+
+pub returns-in-Script-clause-failed : goal.returns-in-Script-clause-failed
+returns-in-Script-clause-failed g c = c.apply_script.ensures.failed
+
+pub returns-in-Script-clause-inexact : goal.returns-in-Script-clause-inexact
+returns-in-Script-clause-inexact g c = c.apply_script.ensures.inexact
+
+pub returns-in-Script-clause-filled : goal.returns-in-Script-clause-filled
+returns-in-Script-clause-filled g c = c.apply_script.ensures.filled
+
+pub returns-in-Script-clause-keeps : goal.returns-in-Script-clause-keeps
+returns-in-Script-clause-keeps g c = c.apply_script.ensures.keeps
+
+pub returns-in-Script-clause-sink : goal.returns-in-Script-clause-sink
+returns-in-Script-clause-sink g c = c.apply_script.ensures.sink
+
+pub returns-in-Script-clause-rest : goal.returns-in-Script-clause-rest
+returns-in-Script-clause-rest g c = c.apply_script.ensures.rest
+
+pub returns-in-Script-clause-cause : goal.returns-in-Script-clause-cause
+returns-in-Script-clause-cause g c = c.apply_script.ensures.cause

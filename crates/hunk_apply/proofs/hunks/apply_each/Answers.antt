@@ -10,7 +10,7 @@ use Rattle.hunk_place.specs.Taken.{taken}
 use Rattle.hunk_place.specs.Verdicts.{spots, spot, after_hunk, at_start}
 use Rattle.hunk_apply.specs.declared.put.Tail.{Tail}
 use Rattle.hunk_apply.specs.Applied.{taken_all, applied}
-use Rattle.hunk_apply.specs.Session.{IsTried, body_lines}
+use Rattle.hunk_apply.specs.Session.{IsTried, FillsFirst, body_lines}
 use Rattle.hunk_apply.specs.Splice.{Edit, all_edits, hunk_edits, spliced_from}
 use Rattle.hunk_apply.specs.Written.{Wrote, is_nothing}
 use Rattle.hunk_apply.proofs.CopyLemmas.{copied, copied-part}
@@ -280,3 +280,19 @@ returns-clause-sink g c = sink_passes_both c.loop-j.invariant.sink c.in_ok-end.e
 
 pub returns-clause-rest : goal.returns-clause-rest
 returns-clause-rest g c = g.met.O.Sink.rest_both _ _ _ c.loop-j.invariant.rest c.in_ok-end.ensures.rest
+
+pub returns-clause-applied : goal.returns-clause-applied
+returns-clause-applied g c = c.session_of.ensures.applied
+
+pub returns-clause-failed : goal.returns-clause-failed
+returns-clause-failed g c = c.session_of.ensures.failed
+
+pub returns-clause-inexact : goal.returns-clause-inexact
+returns-clause-inexact g c = c.session_of.ensures.inexact
+
+-- as many rows as were tried are filled when a hunk fails
+pub returns-in_err-step-clause-filled : goal.returns-in_err-step-clause-filled
+returns-in_err-step-clause-filled g c = on-err _ (FillsFirst c.args.verdicts.now c.loop-j.verdicts) (record { count = c.loop-j.j; tried = c.loop-j.invariant.tried; others = c.loop-j.invariant.others })
+
+pub returns-in_err-end-clause-filled : goal.returns-in_err-end-clause-filled
+returns-in_err-end-clause-filled g c = on-err _ (FillsFirst c.args.verdicts.now c.loop-j.verdicts) (record { count = c.loop-j.j; tried = c.loop-j.invariant.tried; others = c.loop-j.invariant.others })

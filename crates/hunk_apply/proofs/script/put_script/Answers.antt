@@ -2,9 +2,10 @@ use Rattle.std.proofs.Common.{◌≡◌, ◌+◌, ◌++◌, ℕ, List, [], Some,
 use Rattle.std.proofs.lemmas.Result.{on_err_weaker}
 use Rattle.outside.specs.SinkView.{ReceivesPart}
 use Rattle.ed_form.specs.PlainEdit.{edits_of}
+use Rattle.hunk_apply.specs.Faults.{HasApplyCause}
 use Rattle.hunk_apply.specs.Script.{scripted, script_lines}
 use Rattle.hunk_apply.specs.Written.{lines_between, join_behind}
-use Rattle.hunk_apply.proofs.FaultLemmas.{on-err}
+use Rattle.hunk_apply.proofs.FaultLemmas.{on-err, if-ok-none, if-err-still}
 use Rattle.hunk_apply.proofs.ScriptLemmas.{stays-whole, carried-out, whole-between}
 use Rattle.hunk_apply.proofs.WrittenLemmas.{wrote-same, part-same}
 use Rattle.hunk_apply.proofs.script.put_script.Goals as goal
@@ -43,3 +44,47 @@ returns-clause-part g c =
     (carried-out lines es (g.S.LineStore.seen c.args.store.now).count c.args.fails c.requires.fails count c.if-fails.false)
     (h lines told))
     c.carry_out.ensures.part
+
+pub returns-in_err-end-clause-written : goal.returns-in_err-end-clause-written
+returns-in_err-end-clause-written g c = if-ok-none _ _ c.from_residual.result c.from_residual.ensures.1
+
+pub returns-in_err-end-clause-keeps : goal.returns-in_err-end-clause-keeps
+returns-in_err-end-clause-keeps g c = c.in_err-end.ensures.keeps
+
+pub returns-in_err-end-clause-sink : goal.returns-in_err-end-clause-sink
+returns-in_err-end-clause-sink g c = c.in_err-end.ensures.sink
+
+pub returns-in_err-end-clause-rest : goal.returns-in_err-end-clause-rest
+returns-in_err-end-clause-rest g c = c.in_err-end.ensures.rest
+
+pub returns-in_err-end-clause-cause : goal.returns-in_err-end-clause-cause
+returns-in_err-end-clause-cause g c =
+    if-err-still (λ e. HasApplyCause e (g.S.LineStore.seen c.args.store.now) (g.S.LineStore.seen c.copy_lines.new.store) (g.O.Sink.view c.args.out.now) (g.O.Sink.view c.copy_lines.new.out))
+    c.in_err-end.field-0.0 c.from_residual.result c.from_residual.ensures.1 c.in_err-end.ensures.cause
+
+pub returns-then-fails-clause-keeps : goal.returns-then-fails-clause-keeps
+returns-then-fails-clause-keeps g c = c.in_ok-end.ensures.keeps
+
+pub returns-then-fails-clause-sink : goal.returns-then-fails-clause-sink
+returns-then-fails-clause-sink g c = c.in_ok-end.ensures.sink
+
+pub returns-then-fails-clause-rest : goal.returns-then-fails-clause-rest
+returns-then-fails-clause-rest g c = c.in_ok-end.ensures.rest
+
+pub returns-then-fails-clause-part : goal.returns-then-fails-clause-part
+returns-then-fails-clause-part g c = tt
+
+pub returns-then-fails-clause-cause : goal.returns-then-fails-clause-cause
+returns-then-fails-clause-cause g c = tt
+
+pub returns-clause-keeps : goal.returns-clause-keeps
+returns-clause-keeps g c = c.carry_out.ensures.keeps
+
+pub returns-clause-sink : goal.returns-clause-sink
+returns-clause-sink g c = c.carry_out.ensures.sink
+
+pub returns-clause-rest : goal.returns-clause-rest
+returns-clause-rest g c = c.carry_out.ensures.rest
+
+pub returns-clause-cause : goal.returns-clause-cause
+returns-clause-cause g c = c.carry_out.ensures.cause
