@@ -1,5 +1,5 @@
 -- A text that grows by what each element of a list gives.
-use Rattle.std.proofs.Common.{◌≡◌, ◌∙◌, ℕ, suc, ◌+◌, ◌-◌, ◌<◌, ◌≤◌, List, [], ◌∷◌, ◌++◌, drop, get_or, length, flat_map, replicate, Bool, true, false, nat_lt, if◌then◌else◌, ap, sym, arith}
+use Rattle.std.proofs.Common.{◌≡◌, ◌∙◌, ℕ, suc, ◌+◌, ◌-◌, ◌<◌, ◌≤◌, List, [], ◌∷◌, ◌++◌, drop, get_or, length, flat_map, replicate, Bool, true, false, nat_lt, if◌then◌else◌, Result, Ok, Err, OnOk, is_ok, ap, sym, arith}
 use Rattle.std.proofs.lemmas.Bool.{le-ltb, lt-ltb}
 use Rattle.std.proofs.lemmas.List.{append_assoc, append-nil, at_drop_all, at_drop_more}
 use Rattle.std.proofs.lemmas.List.Concat.{flat_map-cons}
@@ -18,6 +18,15 @@ pub all_told : {X : Type 0} (f : X → List ℕ) (xs : List X) (n : ℕ) (text w
 all_told f xs n text whole end so_far = sym (append-nil text) ∙ (sym (at_drop_all (λ l. text ++ flat_map f l) xs n end) ∙ so_far)
 
 -- ---- pieces
+
+-- a last piece that may find no room
+pub told_then : {E : Type 0} (r : Result (Unit {0}) E) {P Q : Type 0} → OnOk r P → (P → Q) → OnOk r Q
+told_then (Ok u) p f = f p
+told_then (Err e) p f = tt
+
+pub told_if : {E : Type 0} (r : Result (Unit {0}) E) (old : List ℕ) {new text : List ℕ} {Q : Type 0} → new ≡ (if is_ok r then text else old) → (new ≡ text → Q) → OnOk r Q
+told_if (Ok u) old is f = f is
+told_if (Err e) old is f = tt
 
 pub two_told : (old a b : List ℕ) {e new : List ℕ} → e ≡ old ++ a → new ≡ e ++ b → new ≡ old ++ (a ++ b)
 two_told old a b is-e is-new = rw (is-new, is-e) (append_assoc old a b)

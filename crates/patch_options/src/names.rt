@@ -1,5 +1,5 @@
 //! The names that a command gives.
-ghost use Rattle.std.specs.Prelude.{◌≡◌, ◌⊎◌, ◌++◌, codes, true, false, IfOk, IfErr, string_bytes, option_map, option_and_then};
+ghost use Rattle.std.specs.Prelude.{◌≡◌, ◌⊎◌, ◌++◌, codes, bytes_eq, true, false, IfOk, IfErr, string_bytes, option_map, option_and_then};
 ghost use Rattle.patch_options.specs.HasNames.{HasNames, HasOutputs};
 ghost use Rattle.outside.specs.Names.{given_form};
 ghost use Rattle.patch_options.specs.Forms.{is_name, is_lasting_name, is_output, is_reject_file, is_directory, is_patch_file, is_prefix};
@@ -10,7 +10,7 @@ use crate::table::value_of;
 use crate::{Input, WordFault};
 use clap::ArgMatches;
 use outside::{Name, NameFault, is_here};
-use std::alloc::Global;
+use std::alloc::{AllocError, Global};
 
 /// The names that are written, and what stands before that of a backup.
 #[derive(Drop)]
@@ -36,16 +36,31 @@ pub fn read_names(alloc: Global, matches: &ArgMatches<'_>) -> Result<Names, Word
     ensures lawful { IfOk result (λ names. names_agree (rows_in matches.now) ≡ true) }
     ensures refused { IfErr result (λ fault. (fault ≡ WordFault.Memory) ⊎ ((fault ≡ WordFault.Usage) × (names_agree (rows_in matches.now) ≡ false))) }
 {
-    Ok(Names {
-        input: read_input(
-            alloc,
-            value_of(matches, "input"),
-            value_of(matches, "patchfile"),
-        )?,
-        dir: read_directory(alloc, value_of(matches, "directory"))?,
-        file: read_lasting_name(alloc, value_of(matches, "file"))?,
-        outputs: read_outputs(alloc, matches)?,
-    })
+    let input = match read_input(
+        alloc,
+        value_of(matches, "input"),
+        value_of(matches, "patchfile"),
+    ) {
+        Ok(input) => input,
+        Err(fault) => return Err(fault),
+    };
+    let dir = match read_directory(alloc, value_of(matches, "directory")) {
+        Ok(dir) => dir,
+        Err(fault) => return Err(fault),
+    };
+    let file = match read_lasting_name(alloc, value_of(matches, "file")) {
+        Ok(file) => file,
+        Err(fault) => return Err(fault),
+    };
+    match read_outputs(alloc, matches) {
+        Ok(outputs) => Ok(Names {
+            dir,
+            file,
+            input,
+            outputs,
+        }),
+        Err(fault) => Err(fault),
+    }
 }
 
 #[tactic(auto, unfolding(crate::specs::Table::outputs_agree))]
@@ -54,12 +69,23 @@ fn read_outputs(alloc: Global, matches: &ArgMatches<'_>) -> Result<Outputs, Word
     ensures lawful { IfOk result (λ outputs. outputs_agree (rows_in matches.now) ≡ true) }
     ensures refused { IfErr result (λ fault. (fault ≡ WordFault.Memory) ⊎ ((fault ≡ WordFault.Usage) × (outputs_agree (rows_in matches.now) ≡ false))) }
 {
-    Ok(Outputs {
-        output: read_output(alloc, value_of(matches, "output"))?,
-        reject: read_reject(alloc, value_of(matches, "reject-file"))?,
-        no_rejects: is_no_file(value_of(matches, "reject-file")),
-        prefix: read_prefix(alloc, value_of(matches, "prefix"))?,
-    })
+    let output = match read_output(alloc, value_of(matches, "output")) {
+        Ok(output) => output,
+        Err(fault) => return Err(fault),
+    };
+    let reject = match read_reject(alloc, value_of(matches, "reject-file")) {
+        Ok(reject) => reject,
+        Err(fault) => return Err(fault),
+    };
+    match read_prefix(alloc, value_of(matches, "prefix")) {
+        Ok(prefix) => Ok(Outputs {
+            output,
+            reject,
+            no_rejects: is_no_file(value_of(matches, "reject-file")),
+            prefix,
+        }),
+        Err(fault) => Err(fault),
+    }
 }
 
 /// The patch file, which is the value of `-i` or the second operand.
@@ -229,13 +255,29 @@ fn prefix_of(alloc: Global, text: &str) -> Result<String, WordFault>
     ensures lawful { IfOk result (λ prefix. is_prefix text.now ≡ true) }
     ensures refused { IfErr result (λ fault. (fault ≡ WordFault.Memory) ⊎ ((fault ≡ WordFault.Usage) × (is_prefix text.now ≡ false))) }
 {
-    let mut sample = String::from_str(alloc, text)?;
-    sample.push('x')?;
-    let name = name_of(alloc, sample.as_str())?;
-    if name.text() != sample.as_str() {
+    let sample = sample_of(alloc, text)?;
+    if !is_normal(alloc, sample.as_str())? {
         return Err(WordFault::Usage);
     }
     Ok(String::from_str(alloc, text)?)
+}
+
+fn sample_of(alloc: Global, text: &str) -> Result<String, AllocError>
+    ensures { IfOk result (λ sample. string_bytes sample ≡ text.now ++ codes "x") }
+{
+    let mut sample = String::from_str(alloc, text)?;
+    sample.push('x')?;
+    Ok(sample)
+}
+
+/// Whether a name is in normal form as it is given.
+fn is_normal(alloc: Global, text: &str) -> Result<bool, WordFault>
+    ensures normal { IfOk result (λ is. is ≡ bytes_eq (given_form text.now) text.now) }
+    ensures lawful { IfOk result (λ is. is_name text.now ≡ true) }
+    ensures refused { IfErr result (λ fault. (fault ≡ WordFault.Memory) ⊎ ((fault ≡ WordFault.Usage) × (is_name text.now ≡ false))) }
+{
+    let name = name_of(alloc, text)?;
+    Ok(name.text() == text)
 }
 
 fn read_prefix(alloc: Global, text: Option<&str>) -> Result<Option<String>, WordFault>

@@ -1,7 +1,7 @@
 //! Simple commands: the table of a tool's words, and what `clap` matches by it.
 ghost use Rattle.std.specs.Prelude.{◌≡◌, ◌≢◌, ◌⊎◌, map, string_bytes, true, false, option_map, IfOk, IfErr};
-ghost use Rattle.clap.specs.Words.{app_of, is_simple_and_free, kind_of, rule_of};
-ghost use Rattle.patch_options.specs.Simple.{plain_word, plain_table, with_form, with_rules, word_rule, simple_command, takes, rows_by, rows_in, values_of};
+ghost use Rattle.clap.specs.Words.{app_of, is_simple_and_free, kind_of, new_rule, rule_of};
+ghost use Rattle.patch_options.specs.Simple.{plain_word, plain_table, with_rules, word_rule, simple_command, takes, rows_by, rows_in, values_of};
 
 use crate::WordFault;
 use clap::error::ErrorKind;
@@ -56,7 +56,10 @@ pub fn matched_by<'a>(
     ensures rows { IfOk result (λ m. rows_in m ≡ rows_by (simple_command name.entry.now (plain_table table.entry.now)) (map string_bytes words.entry.now)) }
     ensures refused { IfErr result (λ fault. (fault ≡ WordFault.Memory) ⊎ ((fault ≡ WordFault.Usage) × (takes (simple_command name.entry.now (plain_table table.entry.now)) (map string_bytes words.entry.now) ≡ false))) }
 {
-    let command = command_of(alloc, name, table)?;
+    let command = match command_of(alloc, name, table) {
+        Ok(command) => command,
+        Err(_) => return Err(WordFault::Memory),
+    };
     match command.try_get_matches_from(words) {
         Ok(matches) => Ok(matches),
         Err(error) => Err(why_refused(&error)),
@@ -83,7 +86,10 @@ fn command_of<'a>(
 {
     let mut command = Command::new(alloc, name).disable_help_flag(true);
     for group in table {
-        command = with_words(alloc, command, group.words)?;
+        command = match with_words(alloc, command, group.words) {
+            Ok(longer) => longer,
+            Err(error) => return Err(error),
+        };
     }
     Ok(command)
 }
@@ -98,7 +104,10 @@ fn with_words<'a>(
 {
     let mut command = command;
     for word in words {
-        command = command.arg(argument_of(alloc, word))?;
+        command = match command.arg(argument_of(alloc, word)) {
+            Ok(longer) => longer,
+            Err(error) => return Err(error),
+        };
     }
     Ok(command)
 }
@@ -108,23 +117,27 @@ fn argument_of<'a>(alloc: Global, word: &'a Word) -> Arg<'a>
     ensures rule { rule_of result ≡ word_rule (plain_word word.entry.now) }
     ensures local { result.global ≡ false }
 {
-    let arg = Arg::new(alloc, word.name);
-    match word.letter {
-        Some(letter) => with_form(arg.short(letter), word),
-        None => with_form(arg, word),
+    match word.form {
+        WordForm::Switch => lettered(alloc, word)
+            .long(word.name)
+            .action(ArgAction::Count),
+        WordForm::Letter => lettered(alloc, word).action(ArgAction::Count),
+        WordForm::Value => lettered(alloc, word).long(word.name),
+        WordForm::Values => lettered(alloc, word)
+            .long(word.name)
+            .action(ArgAction::Append),
+        WordForm::Operand => lettered(alloc, word),
     }
 }
 
-fn with_form<'a>(arg: Arg<'a>, word: &'a Word) -> Arg<'a>
-    ensures rule { rule_of result ≡ with_form word.entry.now.form word.entry.now.name.now (rule_of arg.entry) }
-    ensures local { result.global ≡ arg.entry.global }
+/// An argument by its name, with its letter.
+fn lettered<'a>(alloc: Global, word: &'a Word) -> Arg<'a>
+    ensures rule { rule_of result ≡ record (new_rule word.entry.now.name.now) { short = word.entry.now.letter } }
+    ensures local { result.global ≡ false }
 {
-    match word.form {
-        WordForm::Switch => arg.long(word.name).action(ArgAction::Count),
-        WordForm::Letter => arg.action(ArgAction::Count),
-        WordForm::Value => arg.long(word.name),
-        WordForm::Values => arg.long(word.name).action(ArgAction::Append),
-        WordForm::Operand => arg,
+    match word.letter {
+        Some(letter) => Arg::new(alloc, word.name).short(letter),
+        None => Arg::new(alloc, word.name),
     }
 }
 

@@ -2,6 +2,7 @@
 ghost use Rattle.std.specs.Prelude.{◌≡◌, ◌⊎◌, ◌||◌, ◌<◌, codes, true, false, is_some, IfOk, IfErr, string_bytes, option_map, option_and_then, unwrap_or};
 ghost use Rattle.std.specs.List.{list_all};
 ghost use Rattle.patch_options.specs.Forms.{number_of, buffer_of, plan_of, reject_form_of, is_suffix, is_backup_kind, is_get, is_macro_name};
+ghost use Rattle.patch_options.specs.HasNames.{HasNames};
 ghost use Rattle.patch_options.specs.PlainJob.{plain_options};
 ghost use Rattle.patch_options.specs.Simple.{plain_word, rows_in};
 ghost use Rattle.patch_options.specs.Table.{uses, value_of, text_of, has_form, is_used, is_given_once, are_both_used, form_uses, are_single, exclusions_hold, switches_agree, numbers_agree, words_agree, values_agree, is_command, options_of, only_form, mismatch_backup};
@@ -25,20 +26,33 @@ pub fn read_options(alloc: Global, matches: &ArgMatches<'_>) -> Result<Options, 
     if !switches_agree(matches) || !values_agree(matches) {
         return Err(WordFault::Usage);
     }
+    let texts = read_texts(alloc, matches)?;
+    match read_names(alloc, matches) {
+        Ok(names) => Ok(options_of(matches, names, texts)),
+        Err(fault) => Err(fault),
+    }
+}
+
+fn options_of(matches: &ArgMatches<'_>, names: Names, texts: Texts) -> Options
+    requires names { HasNames (rows_in matches.now) names }
+    requires suffix { option_map string_bytes texts.suffix ≡ value_of (rows_in matches.now) (codes "suffix") }
+    requires define { option_map string_bytes texts.define ≡ value_of (rows_in matches.now) (codes "ifdef") }
+    ensures { plain_options result ≡ options_of (rows_in matches.now) }
+{
     let Names {
         dir,
         file,
         input,
         outputs,
-    } = read_names(alloc, matches)?;
+    } = names;
     let Outputs {
         output,
         reject,
         no_rejects,
         prefix,
     } = outputs;
-    let Texts { suffix, define } = read_texts(alloc, matches)?;
-    Ok(Options {
+    let Texts { suffix, define } = texts;
+    Options {
         only: only_form(matches),
         strip: number_in(matches, "strip"),
         fuzz: number_in(matches, "fuzz").unwrap_or(2),
@@ -67,7 +81,7 @@ pub fn read_options(alloc: Global, matches: &ArgMatches<'_>) -> Result<Options, 
         verbose: is_used(matches, "verbose"),
         plan: plan_in(matches),
         buffer: buffer_in(matches),
-    })
+    }
 }
 
 /// How often the switch was given.

@@ -56,8 +56,7 @@ fn put_group(text: &mut String, group: &Group) -> Result<(), AllocError>
 {
     text.push_str("\n")?;
     text.push_str(group.heading)?;
-    put_rows(text, group.words)?;
-    Ok(())
+    put_rows(text, group.words)
 }
 
 fn put_rows(text: &mut String, words: &[Word]) -> Result<(), AllocError>
@@ -76,8 +75,7 @@ fn put_row(text: &mut String, word: &Word) -> Result<(), AllocError>
     text.push_str("  ")?;
     text.push_str(word.shown)?;
     put_gap(text, word.shown.len())?;
-    put_line(text, word.help)?;
-    Ok(())
+    put_line(text, word.help)
 }
 
 /// What brings the text to that column behind a word of this width, in the next line where the word is too wide.
@@ -87,8 +85,7 @@ fn put_gap(text: &mut String, width: usize) -> Result<(), AllocError>
     if width < 28 {
         return put_spaces(text, 28 - width);
     }
-    text.push_str("\n                              ")?;
-    Ok(())
+    text.push_str("\n                              ")
 }
 
 fn put_spaces(text: &mut String, count: usize) -> Result<(), AllocError>
@@ -104,6 +101,5 @@ fn put_line(text: &mut String, line: &str) -> Result<(), AllocError>
     ensures { OnOk result (string_bytes text.new ≡ string_bytes text.old ++ (line.now ++ 10 ∷ [])) }
 {
     text.push_str(line)?;
-    text.push_str("\n")?;
-    Ok(())
+    text.push_str("\n")
 }

@@ -28,7 +28,13 @@ fn read_patch(alloc: Global, words: &[String]) -> Result<Job, WordFault>
     ensures lawful { IfOk result (λ job. IsLawfulJob (plain_job job)) }
     ensures refused { IfErr result (λ fault. (fault ≡ WordFault.Memory) ⊎ (patch_job (map string_bytes words.now) ≡ Err fault)) }
 {
-    let matches = matched_by(alloc, "patch", patch_table(), words)?;
-    let options = read_options(alloc, &matches)?;
+    let matches = match matched_by(alloc, "patch", patch_table(), words) {
+        Ok(matches) => matches,
+        Err(fault) => return Err(fault),
+    };
+    let options = match read_options(alloc, &matches) {
+        Ok(options) => options,
+        Err(fault) => return Err(fault),
+    };
     Ok(Job::Patch(options))
 }

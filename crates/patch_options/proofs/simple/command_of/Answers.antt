@@ -7,8 +7,8 @@ loop-group-init c = begun c.new.result c.disable_help_flag-command.result c.args
 
 pub loop-group-preserved : goal.loop-group-preserved
 loop-group-preserved c =
-    group_more (simple_command c.args.name.now (plain_table c.args.table.now)) c.loop-group.command c.in_ok-command.command c.args.table.now c.loop-group.group-index _
-    c.loop-group-test.true c.loop-group.invariant c.in_ok-command.ensures
+    group_more (simple_command c.args.name.now (plain_table c.args.table.now)) c.loop-group.command c.in-Ok.longer c.args.table.now c.loop-group.group-index _
+    c.loop-group-test.true c.loop-group.invariant c.in-Ok.ensures
 
 pub returns : goal.returns
 returns c = groups_ended (simple_command c.args.name.now (plain_table c.args.table.now)) c.loop-group.command c.args.table.now c.loop-group.group-index c.loop-group-test.false c.loop-group.invariant

@@ -8,8 +8,8 @@ loop-word-init c = refl
 
 pub loop-word-preserved : goal.loop-word-preserved
 loop-word-preserved c =
-    word_more (with_words (app_of c.args.command) c.args.words.now) c.loop-word.command c.in_ok-command.command c.argument_of.result c.args.words.now c.loop-word.word-index _
-    c.loop-word-test.true c.loop-word.invariant c.argument_of.ensures.rule c.argument_of.ensures.local c.in_ok-command.ensures
+    word_more (with_words (app_of c.args.command) c.args.words.now) c.loop-word.command c.in-Ok.longer c.argument_of.result c.args.words.now c.loop-word.word-index _
+    c.loop-word-test.true c.loop-word.invariant c.argument_of.ensures.rule c.argument_of.ensures.local c.in-Ok.ensures
 
 pub returns : goal.returns
 returns c = words_ended (with_words (app_of c.args.command) c.args.words.now) c.loop-word.command c.args.words.now c.loop-word.word-index c.loop-word-test.false c.loop-word.invariant

@@ -1,10 +1,11 @@
 use Rattle.std.proofs.Common.{refl}
-use Rattle.patch_options.proofs.table.read_options.Goals as goal
+use Rattle.patch_options.specs.Simple.{rows_in}
+use Rattle.patch_options.specs.Table.{options_of}
+use Rattle.patch_options.proofs.table.options_of.Goals as goal
 
-pub returns-clause-options : goal.returns-clause-options
-returns-clause-options c =
-    let names = c.in_ok-dir.ensures.names in
-    let texts = c.in_ok-suffix.ensures in
+pub returns : goal.returns
+returns c =
+    let names = c.requires.names in
     rw (
       c.only_form.ensures,
       c.number_in.ensures,
@@ -18,7 +19,7 @@ returns-clause-options c =
       c.is_used-6.ensures,
       c.is_used-7.ensures,
       c.mismatch_backup.ensures,
-      texts.suffix,
+      c.requires.suffix,
       names.outputs.prefix,
       names.dir,
       names.file,
@@ -27,7 +28,7 @@ returns-clause-options c =
       names.outputs.reject,
       names.outputs.no_rejects,
       c.reject_form_in.ensures,
-      texts.define,
+      c.requires.define,
       c.is_used-8.ensures,
       c.is_used-9.ensures,
       c.is_used-10.ensures,
@@ -35,4 +36,4 @@ returns-clause-options c =
       c.is_used-11.ensures,
       c.plan_in.ensures,
       c.buffer_in.ensures,
-    ) refl
+    ) (refl {a = options_of (rows_in c.args.matches.now)})

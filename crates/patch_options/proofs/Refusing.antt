@@ -1,0 +1,85 @@
+-- Why switches and values have words refused.
+use Rattle.std.proofs.Common.{◌≡◌, ◌⊎◌, ◌∙◌, ◌&&◌, not, Bool, true, false, List, Option, codes, ap, refl, sym, inl, inr}
+use Rattle.clap.specs.Words.{Row, Text}
+use Rattle.patch_options.specs.Forms.{is_output, is_reject_file, is_prefix, is_directory, is_lasting_name}
+use Rattle.patch_options.specs.Table.{value_of, has_form, inputs_agree, names_agree, outputs_agree}
+use Rattle.patch_options.specs.declared.options.WordFault.{WordFault}
+use Rattle.patch_options.specs.declared.options.WordFault.TheVariants.{Usage, Memory}
+
+no_left : (a b : Bool) → a ≡ false → (a && b) ≡ false
+no_left a b none = ap (λ t. t && b) none
+
+no_right : (a b : Bool) → b ≡ false → (a && b) ≡ false
+no_right true b none = none
+no_right false b none = refl
+
+all_yes : (a b : Bool) → a ≡ true → b ≡ true → (a && b) ≡ true
+all_yes a b holds more = ap (λ t. t && b) holds ∙ more
+
+-- ---- switches that exclude each other
+
+pub first_is : (a b c : Bool) → a ≡ true → false ≡ (not a && (not b && not c))
+first_is a b c is = rw is refl
+
+pub second_is : (a b c : Bool) → b ≡ true → false ≡ (not a && (not b && not c))
+second_is a b c is = sym (no_right (not a) (not b && not c) (rw is refl))
+
+pub neither_is : (a b c x : Bool) → a ≡ false → b ≡ false → x ≡ c → not x ≡ (not a && (not b && not c))
+neither_is a b c x first second last = rw (first, second, last) refl
+
+-- ---- faults
+
+refused_as : (fault : WordFault) (a b : Bool) → (a ≡ false → b ≡ false) → (fault ≡ Memory) ⊎ ((fault ≡ Usage) × (a ≡ false)) → (fault ≡ Memory) ⊎ ((fault ≡ Usage) × (b ≡ false))
+refused_as fault a b none (inl memory) = inl memory
+refused_as fault a b none (inr usage) = inr (usage.0, none usage.1)
+
+has_value : (form : Text → Bool) (value : Option Text) {given : Option Text} {is : Bool} → given ≡ value → has_form form given ≡ is → has_form form value ≡ is
+has_value form value same is = ap (has_form form) (sym same) ∙ is
+
+inputs_same : {input operand other another : Option Text} {is : Bool} → input ≡ other → operand ≡ another → inputs_agree input operand ≡ is → inputs_agree other another ≡ is
+inputs_same {input} {operand} {other} {another} same_input same_operand is = ap (λ i. inputs_agree i another) (sym same_input) ∙ (ap (inputs_agree input) (sym same_operand) ∙ is)
+
+-- ---- names that are written
+
+module _ (rows : List Row) (fault : WordFault) (given : Option Text) where
+  pub output_refused : given ≡ value_of rows (codes "output") → (fault ≡ Memory) ⊎ ((fault ≡ Usage) × (has_form is_output given ≡ false)) → (fault ≡ Memory) ⊎ ((fault ≡ Usage) × (outputs_agree rows ≡ false))
+  unfolding outputs_agree
+  output_refused same = refused_as fault _ _ (λ none. no_left _ _ (has_value is_output _ same none))
+
+  pub reject_refused : given ≡ value_of rows (codes "reject-file") → (fault ≡ Memory) ⊎ ((fault ≡ Usage) × (has_form is_reject_file given ≡ false)) → (fault ≡ Memory) ⊎ ((fault ≡ Usage) × (outputs_agree rows ≡ false))
+  unfolding outputs_agree
+  reject_refused same = refused_as fault _ _ (λ none. no_right _ _ (no_left _ _ (has_value is_reject_file _ same none)))
+
+  pub prefix_refused : given ≡ value_of rows (codes "prefix") → (fault ≡ Memory) ⊎ ((fault ≡ Usage) × (has_form is_prefix given ≡ false)) → (fault ≡ Memory) ⊎ ((fault ≡ Usage) × (outputs_agree rows ≡ false))
+  unfolding outputs_agree
+  prefix_refused same = refused_as fault _ _ (λ none. no_right _ _ (no_right _ _ (has_value is_prefix _ same none)))
+
+pub outputs_lawful : (rows : List Row) {output reject prefix : Option Text} → output ≡ value_of rows (codes "output") → has_form is_output output ≡ true → reject ≡ value_of rows (codes "reject-file") → has_form is_reject_file reject ≡ true
+    → prefix ≡ value_of rows (codes "prefix") → has_form is_prefix prefix ≡ true → outputs_agree rows ≡ true
+unfolding outputs_agree
+outputs_lawful rows same_output output same_reject reject same_prefix prefix =
+    all_yes _ _ (has_value is_output _ same_output output) (all_yes _ _ (has_value is_reject_file _ same_reject reject) (has_value is_prefix _ same_prefix prefix))
+
+-- ---- all names
+
+module _ (rows : List Row) (fault : WordFault) where
+  pub input_refused : {input operand : Option Text} → input ≡ value_of rows (codes "input") → operand ≡ value_of rows (codes "patchfile")
+      → (fault ≡ Memory) ⊎ ((fault ≡ Usage) × (inputs_agree input operand ≡ false)) → (fault ≡ Memory) ⊎ ((fault ≡ Usage) × (names_agree rows ≡ false))
+  input_refused same_input same_operand = refused_as fault _ _ (λ none. no_left _ _ (inputs_same same_input same_operand none))
+
+  pub directory_refused : {given : Option Text} → given ≡ value_of rows (codes "directory") → (fault ≡ Memory) ⊎ ((fault ≡ Usage) × (has_form is_directory given ≡ false))
+      → (fault ≡ Memory) ⊎ ((fault ≡ Usage) × (names_agree rows ≡ false))
+  directory_refused same = refused_as fault _ _ (λ none. no_right _ _ (no_left _ _ (has_value is_directory _ same none)))
+
+  pub file_refused : {given : Option Text} → given ≡ value_of rows (codes "file") → (fault ≡ Memory) ⊎ ((fault ≡ Usage) × (has_form is_lasting_name given ≡ false))
+      → (fault ≡ Memory) ⊎ ((fault ≡ Usage) × (names_agree rows ≡ false))
+  file_refused same = refused_as fault _ _ (λ none. no_right _ _ (no_right _ _ (no_left _ _ (has_value is_lasting_name _ same none))))
+
+  pub outputs_refused : (fault ≡ Memory) ⊎ ((fault ≡ Usage) × (outputs_agree rows ≡ false)) → (fault ≡ Memory) ⊎ ((fault ≡ Usage) × (names_agree rows ≡ false))
+  outputs_refused = refused_as fault _ _ (λ none. no_right (inputs_agree (value_of rows (codes "input")) (value_of rows (codes "patchfile"))) _
+      (no_right (has_form is_directory (value_of rows (codes "directory"))) _ (no_right (has_form is_lasting_name (value_of rows (codes "file"))) (outputs_agree rows) none)))
+
+pub names_lawful : (rows : List Row) {input operand dir file : Option Text} → input ≡ value_of rows (codes "input") → operand ≡ value_of rows (codes "patchfile") → inputs_agree input operand ≡ true
+    → dir ≡ value_of rows (codes "directory") → has_form is_directory dir ≡ true → file ≡ value_of rows (codes "file") → has_form is_lasting_name file ≡ true → outputs_agree rows ≡ true → names_agree rows ≡ true
+names_lawful rows same_input same_operand inputs same_dir dir same_file file outputs =
+    all_yes _ _ (inputs_same same_input same_operand inputs) (all_yes _ _ (has_value is_directory _ same_dir dir) (all_yes _ _ (has_value is_lasting_name _ same_file file) outputs))
