@@ -34,7 +34,7 @@ test:
 	@sh tests/commands $(BIN)
 	@sh tests/beside_patchutils $(BIN)
 	@sh tests/pages $(BIN) $(TOOLS)
-	@sh tests/large $(BIN) small
+	@sh tests/large $(BIN) memory
 	@sh tests/dist $(RT) $(BIN) build $(TOOLS)
 
 times:

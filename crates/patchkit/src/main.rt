@@ -4,11 +4,13 @@
 mod behind;
 mod called;
 mod help;
+mod root;
 mod unfit;
 
 use crate::behind::{line_behind, usage_lines};
 use crate::called::{called_tool, tool_of, words_of};
 use crate::help::{Telling, told};
+use crate::root::root_of;
 use outside::{Scratch, Sink, Source, Tree, put_all};
 use patch_filters::RegexFinder;
 use patch_options::patch_usage;
@@ -22,6 +24,9 @@ use tool_words::{Tool, usage};
 
 /// The status of every answer that is no application: a refusal, a fault or want of memory.
 const REFUSED: u8 = 2;
+
+/// The tool of which the tree keeps saves.
+const STACK: &str = "patchstack";
 
 fn main(rt: HostRuntime) -> ExitCode {
     let status = match words_of(&rt) {
@@ -95,16 +100,16 @@ fn run_over<O: Write + Drop, E: Write + Drop>(
     err: &mut Output<E>,
 ) -> Exit {
     let alloc = rt.alloc();
-    let mut tree = Disk::new(alloc, rt);
+    let mut tree = Disk::new(alloc, rt, tool == STACK, root_of(alloc, words));
     let mut input = Input::new(alloc, rt.stdin());
     let scratch = Pages::new(alloc, rt);
     let (exit, pages) = run_words(alloc, words, &mut tree, scratch, &mut input, out, err);
     tree.end();
-    let paged = pages.remove();
+    pages.end();
     match exit.why {
         Why::Usage => put_usage(alloc, err, tool, words),
         Why::TreeFault => put_behind(alloc, err, tool, exit.why, tree.trouble()),
-        Why::ScratchFault => put_behind(alloc, err, tool, exit.why, paged.as_ref()),
+        Why::ScratchFault => put_behind(alloc, err, tool, exit.why, pages.trouble()),
         Why::ReadFault => put_behind(alloc, err, tool, exit.why, input.trouble()),
         why => put_behind(alloc, err, tool, why, out.trouble()),
     }

@@ -1,10 +1,10 @@
 //! The tree of files.
 ghost use Rattle.outside.specs.Silent.{silent_tree};
 
-use crate::faults::counted;
+use crate::faults::Faults;
 use crate::files::OpenFiles;
 use crate::paths::Path;
-use crate::trouble::{Trouble, keep_trouble};
+use crate::trouble::Trouble;
 use outside::{Failed, Name, Tree};
 use std::alloc::Global;
 use std::fs::File;
@@ -13,19 +13,19 @@ use std::rt::Files;
 /// The files, and the count of their faults. It tells no content.
 #[derive(Drop)]
 pub struct Disk<'r, R: Files<File = File>> {
-    alloc: Global,
     files: OpenFiles<'r, R>,
-    faults: u64,
-    trouble: Option<Trouble>,
+    faults: Faults,
+    root: Option<String>,
 }
 
 impl<'r, R: Files<File = File>> Disk<'r, R> {
-    pub fn new(alloc: Global, rt: &'r R) -> Disk<'r, R> {
+    /// The tree of a stack of patches has saves, whose rights have rules of their own. Where the operator gives the directory
+    /// that a run works in, nothing begins unless it is there.
+    pub fn new(alloc: Global, rt: &'r R, is_stack: bool, root: Option<String>) -> Disk<'r, R> {
         Disk {
-            alloc,
-            files: OpenFiles::new(alloc, rt),
-            faults: 0,
-            trouble: None,
+            files: OpenFiles::new(alloc, rt, is_stack),
+            faults: Faults::new(alloc),
+            root,
         }
     }
 
@@ -36,78 +36,75 @@ impl<'r, R: Files<File = File>> Disk<'r, R> {
 
     /// What failed last.
     pub fn trouble(&self) -> Option<&Trouble> {
-        self.trouble.as_ref()
+        self.faults.trouble()
+    }
+}
+
+fn text_of(root: &Option<String>) -> &str {
+    match root {
+        Some(root) => root.as_str(),
+        None => ".",
     }
 }
 
 impl<'r, R: Files<File = File>> Tree for Disk<'r, R> {
     ghost use Rattle.std.proofs.lemmas.Option.{none-some};
 
-    ghost view = { λ d. silent_tree d.faults };
+    ghost view = { λ d. silent_tree d.faults.count };
 
     ghost told_may_stay = { λ d f is. absurd (none-some f is) };
 
-    /// Nothing: that the tree is settled when a run begins is a premise over real files.
+    /// That the tree is settled when a run begins is a premise over real files: all that is looked for is its directory.
     fn settle(&mut self) -> Result<(), Failed> {
-        Ok(())
+        let done = self.files.find_root(&self.root);
+        self.faults.answer(text_of(&self.root), done)
     }
 
     fn size(&mut self, name: &Name) -> Result<Option<u64>, Failed> {
         let done = self.files.size(Path::of(name));
-        keep_trouble(&mut self.trouble, self.alloc, name.text(), &done);
-        counted(&mut self.faults, done)
+        self.faults.answer(name.text(), done)
     }
 
     fn read_at(&mut self, name: &Name, at: u64, buf: &mut [u8]) -> Result<usize, Failed> {
         let done = self.files.read_at(Path::of(name), at, buf);
-        keep_trouble(&mut self.trouble, self.alloc, name.text(), &done);
-        counted(&mut self.faults, done)
+        self.faults.answer(name.text(), done)
     }
 
     fn has_dir(&mut self, name: &Name, parts: u64) -> Result<bool, Failed> {
         let done = self.files.has_dir(Path::of(name), parts);
-        keep_trouble(&mut self.trouble, self.alloc, name.text(), &done);
-        counted(&mut self.faults, done)
+        self.faults.answer(name.text(), done)
     }
 
     fn start(&mut self, temp: &Name) -> Result<(), Failed> {
         let done = self.files.start(Path::of(temp));
-        keep_trouble(&mut self.trouble, self.alloc, temp.text(), &done);
-        self.files.give_up(Path::of(temp), done.is_err());
-        counted(&mut self.faults, done)
+        self.faults.answer(temp.text(), done)
     }
 
     fn append(&mut self, temp: &Name, piece: &[u8]) -> Result<(), Failed> {
         let done = self.files.append(Path::of(temp), piece);
-        keep_trouble(&mut self.trouble, self.alloc, temp.text(), &done);
-        self.files.give_up(Path::of(temp), done.is_err());
-        counted(&mut self.faults, done)
+        self.faults.answer(temp.text(), done)
     }
 
     fn seal(&mut self, temp: &Name) -> Result<(), Failed> {
         let done = self.files.seal(Path::of(temp));
-        keep_trouble(&mut self.trouble, self.alloc, temp.text(), &done);
-        self.files.give_up(Path::of(temp), done.is_err());
-        counted(&mut self.faults, done)
+        self.faults.answer(temp.text(), done)
     }
 
     fn swap(&mut self, temp: &Name, to: &Name) -> Result<(), Failed> {
         let done = self.files.swap(Path::of(temp), Path::of(to));
         let blamed = self.files.blamed(Path::of(to), done.is_err()).text;
-        keep_trouble(&mut self.trouble, self.alloc, blamed, &done);
-        self.files.give_up(Path::of(temp), done.is_err());
-        counted(&mut self.faults, done)
+        let told = self.faults.answer(blamed, done);
+        self.files.give_up(Path::of(temp), told.is_err());
+        told
     }
 
     fn drop_name(&mut self, name: &Name) -> Result<(), Failed> {
         let done = self.files.remove(Path::of(name));
-        keep_trouble(&mut self.trouble, self.alloc, name.text(), &done);
-        counted(&mut self.faults, done)
+        self.faults.answer(name.text(), done)
     }
 
     fn fix_names(&mut self) -> Result<(), Failed> {
         let done = self.files.sync_directories();
-        keep_trouble(&mut self.trouble, self.alloc, self.files.unsynced(), &done);
-        counted(&mut self.faults, done)
+        self.faults.answer(self.files.unsynced(), done)
     }
 }

@@ -1,21 +1,54 @@
-//! The count of a device's faults, which rises at each `Err` of the system.
+//! What a device's calls come to: its count of faults rises at each `Err` of the system, and what failed last is kept.
 ghost use Rattle.std.specs.Prelude.{◌≡◌, ◌≤◌, Ok, IfOk, IsErr};
 ghost use Rattle.outside.specs.Faults.{HasRisen};
 
+use crate::trouble::{Trouble, trouble_of};
 use outside::Failed;
+use std::alloc::Global;
 use std::io;
 
-/// Counts a fault where the system answered one.
-pub fn counted<T: Drop>(faults: &mut u64, done: io::Result<T>) -> Result<T, Failed>
-    ensures kept { IfOk result (λ value. done ≡ Ok value) }
-    ensures counts { faults.old ≤ faults.new }
-    ensures cause { IsErr result → HasRisen faults.old faults.new }
-{
-    match done {
-        Ok(value) => Ok(value),
-        Err(_) => {
-            *faults = faults.saturating_add(1);
-            Err(Failed)
+#[derive(Drop)]
+pub struct Faults {
+    alloc: Global,
+    trouble: Option<Trouble>,
+    pub count: u64,
+}
+
+impl Faults {
+    pub fn new(alloc: Global) -> Faults {
+        Faults {
+            alloc,
+            trouble: None,
+            count: 0,
         }
+    }
+
+    /// What failed last.
+    pub fn trouble(&self) -> Option<&Trouble> {
+        self.trouble.as_ref()
+    }
+
+    /// The answer of a call on the device or the file of this name. A fault is counted where the system answered one.
+    pub fn answer<T: Drop>(&mut self, name: &str, done: io::Result<T>) -> Result<T, Failed>
+        ensures kept { IfOk result (λ value. done ≡ Ok value) }
+        ensures counts { self.old.count ≤ self.new.count }
+        ensures cause { IsErr result → HasRisen self.old.count self.new.count }
+    {
+        match done {
+            Ok(value) => Ok(value),
+            Err(error) => {
+                self.note(name, error);
+                Err(Failed)
+            }
+        }
+    }
+
+    /// Counts a fault, and keeps what failed. Without memory that is nothing.
+    pub fn note(&mut self, name: &str, error: io::Error)
+        ensures counts { self.old.count ≤ self.new.count }
+        ensures cause { HasRisen self.old.count self.new.count }
+    {
+        self.count = self.count.saturating_add(1);
+        self.trouble = trouble_of(self.alloc, name, error);
     }
 }

@@ -4,15 +4,20 @@
 mod disk;
 mod faults;
 mod files;
+mod found;
 mod fresh;
 mod looks;
 mod origins;
 mod pages;
 mod paths;
+mod reading;
 mod rights;
+mod saves;
 mod streams;
+mod temporaries;
 mod trouble;
 mod unsynced;
+mod writing;
 
 pub use disk::Disk;
 pub use pages::Pages;

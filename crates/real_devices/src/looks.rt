@@ -3,10 +3,9 @@
 //! What is kept is which file and which directory a name led to through directories alone. That isn't taken on trust: each
 //! later use sees first that the name still leads to them, or else goes the whole way again.
 
-use crate::origins::Seen;
-use crate::paths::{Identity, Path, found_at, plain_file_in};
+use crate::found::{Found, Identity};
+use crate::paths::{Path, found_at, plain};
 use std::alloc::Global;
-use std::fs::{File, Metadata, OpenFile};
 use std::io;
 use std::rt::Files;
 
@@ -31,32 +30,27 @@ impl Looks {
         Looks { alloc, last: None }
     }
 
-    /// The regular file at a path that goes through directories alone.
-    pub fn file<R: Files>(&mut self, rt: &R, path: Path<'_>) -> io::Result<Option<Metadata>> {
+    /// What stands at a path that goes through directories alone.
+    pub fn file<R: Files>(&mut self, rt: &R, path: Path<'_>) -> io::Result<Found> {
         match self.same_file(rt, path) {
-            Some(found) => Ok(Some(found)),
+            Some(found) => Ok(found),
             None => self.file_anew(rt, path),
         }
     }
 
     /// The same, with each directory on the way looked at.
-    pub fn file_anew<R: Files>(&mut self, rt: &R, path: Path<'_>) -> io::Result<Option<Metadata>> {
+    pub fn file_anew<R: Files>(&mut self, rt: &R, path: Path<'_>) -> io::Result<Found> {
         self.last = None;
-        match plain_file_in(rt, path)? {
-            Some((directory, found)) => {
-                self.keep(path, directory, &found);
-                Ok(Some(found))
-            }
-            None => Ok(None),
-        }
+        let found = plain(rt, path)?;
+        self.last = made(self.alloc, path, found);
+        Ok(found)
     }
 
     /// The file that was looked at last, where the path still leads to it.
-    fn same_file<R: Files>(&self, rt: &R, path: Path<'_>) -> Option<Metadata> {
-        let file = self.kept(path)?;
-        match found_at(rt, path) {
-            Ok(Some(found)) if found.is_file() && Identity::of(&found).is_same(file) => Some(found),
-            _ => None,
+    fn same_file<R: Files>(&self, rt: &R, path: Path<'_>) -> Option<Found> {
+        match self.kept(path) {
+            Some(file) => still(rt, path, file),
+            None => None,
         }
     }
 
@@ -78,19 +72,6 @@ impl Looks {
         }
     }
 
-    /// Keeps what was found. Without memory nothing is kept.
-    fn keep(&mut self, path: Path<'_>, directory: Identity, found: &Metadata) {
-        if let Ok(name) = String::from_str(self.alloc, path.text) {
-            self.last = Some(Look {
-                name,
-                given: path.given,
-                file: Identity::of(found),
-                directory,
-                was_read: false,
-            });
-        }
-    }
-
     /// The bytes of the file are read.
     pub fn read(&mut self) {
         if let Some(look) = &mut self.last {
@@ -100,10 +81,8 @@ impl Looks {
 
     /// Forgets the file once its bytes were read: the next look may be for another file patch.
     pub fn forget_read(&mut self) {
-        if let Some(look) = &self.last {
-            if look.was_read {
-                self.forget();
-            }
+        if matches!(&self.last, Some(look) if look.was_read) {
+            self.last = None;
         }
     }
 
@@ -121,17 +100,27 @@ impl Look {
     }
 }
 
-/// Opens a file, if it is the one that is meant.
-pub fn open_same<R: Files<File = File>>(
-    rt: &R,
-    name: &str,
-    meant: Identity,
-) -> io::Result<Option<(File, Seen)>> {
-    let file = File::open(rt, name)?;
-    let found = file.metadata()?;
-    if Identity::of(&found).is_same(meant) {
-        Ok(Some((file, Seen::of(&found))))
-    } else {
-        Ok(None)
+/// What is kept of a file. Without memory that is nothing.
+fn made(alloc: Global, path: Path<'_>, found: Found) -> Option<Look> {
+    if !found.is_file {
+        return None;
+    }
+    match String::from_str(alloc, path.text) {
+        Ok(name) => Some(Look {
+            name,
+            given: path.given,
+            file: found.identity,
+            directory: found.within,
+            was_read: false,
+        }),
+        Err(_) => None,
+    }
+}
+
+/// The file at a path, if it is the one that is meant.
+fn still<R: Files>(rt: &R, path: Path<'_>, meant: Identity) -> Option<Found> {
+    match found_at(rt, path) {
+        Ok(found) if found.is_file && found.identity.is_same(meant) => Some(found),
+        _ => None,
     }
 }

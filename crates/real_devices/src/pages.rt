@@ -2,10 +2,10 @@
 ghost use Rattle.std.specs.Prelude.{◌≤◌, length, IfOk};
 ghost use Rattle.outside.specs.Silent.{silent_scratch};
 
-use crate::faults::counted;
-use crate::files::read_whole;
+use crate::faults::Faults;
 use crate::fresh::make_anew;
-use crate::trouble::{Trouble, keep_trouble};
+use crate::reading::read_whole;
+use crate::trouble::Trouble;
 use outside::{Failed, Scratch};
 use std::alloc::Global;
 use std::fs::File;
@@ -20,10 +20,8 @@ const NAME: &str = ".ptmp";
 #[derive(Drop)]
 pub struct Pages<'r, R: Files<File = File>> {
     rt: &'r R,
-    alloc: Global,
-    trouble: Option<Trouble>,
     file: Option<File>,
-    faults: u64,
+    faults: Faults,
     reads: u64,
 }
 
@@ -31,20 +29,22 @@ impl<'r, R: Files<File = File>> Pages<'r, R> {
     pub fn new(alloc: Global, rt: &'r R) -> Pages<'r, R> {
         Pages {
             rt,
-            alloc,
-            trouble: None,
             file: None,
-            faults: 0,
+            faults: Faults::new(alloc),
             reads: 0,
         }
     }
 
-    /// Removes the file, if it was made, and tells what failed last.
-    pub fn remove(self) -> Option<Trouble> {
+    /// Removes the file, if it was made. Nothing is called behind it.
+    pub fn end(&self) {
         if self.file.is_some() {
             let _ = fs::remove_file(self.rt, NAME);
         }
-        self.trouble
+    }
+
+    /// What failed last.
+    pub fn trouble(&self) -> Option<&Trouble> {
+        self.faults.trouble()
     }
 
     fn write(&self, at: u64, piece: &[u8]) -> io::Result<()> {
@@ -82,24 +82,21 @@ fn make_scratch<R: Files>(rt: &R) -> io::Result<R::File> {
 }
 
 impl<'r, R: Files<File = File>> Scratch for Pages<'r, R> {
-    ghost view = { λ s. silent_scratch s.faults s.reads };
+    ghost view = { λ s. silent_scratch s.faults.count s.reads };
 
     fn restart(&mut self) -> Result<(), Failed> {
         let done = empty(self.rt, &mut self.file);
-        keep_trouble(&mut self.trouble, self.alloc, NAME, &done);
-        counted(&mut self.faults, done)
+        self.faults.answer(NAME, done)
     }
 
     fn write_at(&mut self, at: u64, piece: &[u8]) -> Result<(), Failed> {
         let done = self.write(at, piece);
-        keep_trouble(&mut self.trouble, self.alloc, NAME, &done);
-        counted(&mut self.faults, done)
+        self.faults.answer(NAME, done)
     }
 
     fn read_at(&mut self, at: u64, buf: &mut [u8]) -> Result<usize, Failed> {
         self.reads = self.reads.saturating_add(1);
         let done = self.read(at, buf);
-        keep_trouble(&mut self.trouble, self.alloc, NAME, &done);
-        counted(&mut self.faults, done)
+        self.faults.answer(NAME, done)
     }
 }

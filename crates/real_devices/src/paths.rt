@@ -1,42 +1,14 @@
-//! What stands at a name.
+//! What stands at a path.
 //!
 //! Links are followed in the part of a name that the operator gave, and nowhere else: else a name that is one, or that goes
 //! through one, is no file here.
 
+use crate::found::{Found, Identity, found_behind, found_itself};
+use crate::rights::Rights;
 use outside::Name;
-use std::fs::Metadata;
+use std::io;
 use std::io::ErrorKind;
-use std::os::unix::fs::MetadataExt;
 use std::rt::Files;
-use std::{fs, io};
-
-/// Which file or directory it is.
-#[derive(Clone, Copy)]
-pub struct Identity {
-    device: u64,
-    number: u64,
-}
-
-impl Identity {
-    pub fn of(found: &Metadata) -> Identity {
-        Identity {
-            device: found.dev(),
-            number: found.ino(),
-        }
-    }
-
-    /// The working directory, to which no name leads: it is never another one.
-    pub fn here() -> Identity {
-        Identity {
-            device: 0,
-            number: 0,
-        }
-    }
-
-    pub fn is_same(self, other: Identity) -> bool {
-        self.device == other.device && self.number == other.number
-    }
-}
 
 /// A name, or a directory that it goes through.
 #[derive(Clone, Copy)]
@@ -54,18 +26,12 @@ impl<'a> Path<'a> {
         }
     }
 
-    /// Whether its last component may be a link.
-    fn is_given(self) -> bool {
-        self.text.len() <= self.given
-    }
-
     /// The directory that ends with the slash at this place; the first slash of an absolute name stands for the root.
-    pub fn directory(self, slash: usize) -> Option<Path<'a>> {
-        let text = self.text.get(..slash.max(1))?;
-        Some(Path {
-            text,
+    pub fn directory(self, slash: usize) -> Path<'a> {
+        Path {
+            text: self.text.get(..slash.max(1)).unwrap_or(self.text),
             given: self.given,
-        })
+        }
     }
 
     /// The directory that its last component stands in.
@@ -84,42 +50,74 @@ impl<'a> Path<'a> {
 }
 
 /// What stands at a path: what a link points to where the operator gave it, else the link itself.
-pub fn found_at<R: Files>(rt: &R, path: Path<'_>) -> io::Result<Option<Metadata>> {
-    if path.is_given() {
-        return found(fs::metadata(rt, path.text));
+pub fn found_at<R: Files>(rt: &R, path: Path<'_>) -> io::Result<Found> {
+    // (its last component may be a link)
+    if path.text.len() <= path.given {
+        found_behind(rt, path.text)
+    } else {
+        found_itself(rt, path.text)
     }
-    found_itself(rt, path)
 }
 
-/// What stands at a path, a link itself and not what it points to.
-fn found_itself<R: Files>(rt: &R, path: Path<'_>) -> io::Result<Option<Metadata>> {
-    found(fs::symlink_metadata(rt, path.text))
+/// The way to what stands at a path.
+#[derive(Clone, Copy)]
+pub struct Way {
+    /// It goes through directories alone.
+    pub is_open: bool,
+    /// The last directory.
+    pub directory: Identity,
+    /// What all its directories let others do with what stands at its end.
+    pub inside: Rights,
 }
 
-fn found(answer: io::Result<Metadata>) -> io::Result<Option<Metadata>> {
-    match answer {
-        Ok(found) => Ok(Some(found)),
-        Err(error) if is_missing(error.kind()) => Ok(None),
+impl Way {
+    /// The way to what stands in the working directory.
+    fn here() -> Way {
+        Way {
+            is_open: true,
+            directory: Identity::here(),
+            inside: Rights::all(),
+        }
+    }
+
+    fn through(self, found: Found) -> Way {
+        Way {
+            is_open: found.is_directory,
+            directory: found.identity,
+            inside: self.inside.met(found.rights.inside()),
+        }
+    }
+}
+
+/// The way that a path goes, up to the first component that is no directory.
+pub fn way_of<R: Files>(rt: &R, path: Path<'_>) -> io::Result<Way> {
+    let mut way = Way::here();
+    for (slash, _) in path.text.match_indices('/') {
+        way = way.through(found_at(rt, path.directory(slash))?);
+        if !way.is_open {
+            break;
+        }
+    }
+    Ok(way)
+}
+
+/// The directory that a path's last component stands in, or the error where the path goes through anything else.
+pub fn directory_of<R: Files>(rt: &R, path: Path<'_>) -> io::Result<Identity> {
+    match way_of(rt, path) {
+        Ok(way) if way.is_open => Ok(way.directory),
+        Ok(_) => Err(not_a_directory()),
         Err(error) => Err(error),
     }
 }
 
-fn is_missing(kind: ErrorKind) -> bool {
-    kind == ErrorKind::NotFound || kind == ErrorKind::NotADirectory
-}
-
-/// The directory that a path's last component stands in, where the path goes through directories alone.
-pub fn way<R: Files>(rt: &R, path: Path<'_>) -> io::Result<Option<Identity>> {
-    let mut last = Identity::here();
-    for (slash, _) in path.text.match_indices('/') {
-        if let Some(directory) = path.directory(slash) {
-            match found_at(rt, directory)? {
-                Some(found) if found.is_dir() => last = Identity::of(&found),
-                _ => return Ok(None),
-            }
-        }
+/// The error, unless a directory is there, links followed.
+pub fn find_directory<R: Files>(rt: &R, path: &str) -> io::Result<()> {
+    match found_behind(rt, path) {
+        Ok(found) if found.is_directory => Ok(()),
+        Ok(found) if found.is_there => Err(not_a_directory()),
+        Ok(_) => Err(no_file()),
+        Err(error) => Err(error),
     }
-    Ok(Some(last))
 }
 
 /// Whether the directory that a path's last component stands in is still this one.
@@ -128,87 +126,66 @@ pub fn leads_to<R: Files>(rt: &R, path: Path<'_>, directory: Identity) -> bool {
     if parent == "." {
         return true;
     }
-    match fs::metadata(rt, parent) {
-        Ok(found) => Identity::of(&found).is_same(directory),
+    match found_behind(rt, parent) {
+        Ok(found) => found.identity.is_same(directory),
         Err(_) => false,
     }
 }
 
-/// What stands at a path that goes through directories alone, and in which directory. One that can't be reached has nothing: a
-/// name longer than the system takes, or one behind a directory that can't be searched.
-fn plain_metadata_in<R: Files>(rt: &R, path: Path<'_>) -> io::Result<Option<(Identity, Metadata)>> {
+/// What stands at a path that goes through directories alone. One that can't be reached has nothing: a name longer than the
+/// system takes, or one behind a directory that can't be searched.
+pub fn plain<R: Files>(rt: &R, path: Path<'_>) -> io::Result<Found> {
     match reached(rt, path) {
-        Err(error) if is_out_of_reach(error.kind()) => Ok(None),
+        Err(error) => out_of_reach(error),
         done => done,
     }
 }
 
-fn reached<R: Files>(rt: &R, path: Path<'_>) -> io::Result<Option<(Identity, Metadata)>> {
-    let Some(directory) = way(rt, path)? else {
-        return Ok(None);
-    };
-    match found_at(rt, path)? {
-        Some(found) => Ok(Some((directory, found))),
-        None => Ok(None),
+fn reached<R: Files>(rt: &R, path: Path<'_>) -> io::Result<Found> {
+    match way_of(rt, path) {
+        Ok(way) => found_behind_way(rt, path, way),
+        Err(error) => Err(error),
     }
 }
 
-/// Whether a directory stands at a path that goes through directories alone.
-pub fn is_plain_directory<R: Files>(rt: &R, path: Path<'_>) -> io::Result<bool> {
-    match plain_metadata_in(rt, path)? {
-        Some((_, found)) => Ok(found.is_dir()),
-        None => Ok(false),
+fn found_behind_way<R: Files>(rt: &R, path: Path<'_>, way: Way) -> io::Result<Found> {
+    if !way.is_open {
+        return Ok(Found::nothing());
+    }
+    match found_at(rt, path) {
+        Ok(found) => Ok(Found {
+            within: way.directory,
+            ..found
+        }),
+        Err(error) => Err(error),
     }
 }
 
-fn is_out_of_reach(kind: ErrorKind) -> bool {
-    kind == ErrorKind::InvalidFilename
-        || kind == ErrorKind::PermissionDenied
-        || kind == ErrorKind::FilesystemLoop
-}
-
-/// The regular file at a path that goes through directories alone, and the directory that it stands in.
-pub fn plain_file_in<R: Files>(rt: &R, path: Path<'_>) -> io::Result<Option<(Identity, Metadata)>> {
-    match plain_metadata_in(rt, path)? {
-        Some((directory, found)) if found.is_file() => Ok(Some((directory, found))),
-        _ => Ok(None),
+/// Nothing, where the error says that it can't be reached.
+fn out_of_reach(error: io::Error) -> io::Result<Found> {
+    match error.kind() {
+        ErrorKind::InvalidFilename | ErrorKind::PermissionDenied | ErrorKind::FilesystemLoop => {
+            Ok(Found::nothing())
+        }
+        _ => Err(error),
     }
 }
 
 /// Whether the file at a path may be replaced: where anything but a regular file stands there, a link too, or on the way, that is
 /// an error.
 pub fn replaceable<R: Files>(rt: &R, path: Path<'_>) -> io::Result<()> {
-    match way(rt, path)? {
-        Some(_) => replaceable_here(rt, path),
-        None => Err(not_a_directory()),
+    match directory_of(rt, path) {
+        Ok(_) => replaceable_here(rt, path),
+        Err(error) => Err(error),
     }
 }
 
 /// The same in a directory that was seen to be one.
 pub fn replaceable_here<R: Files>(rt: &R, path: Path<'_>) -> io::Result<()> {
-    match found_itself(rt, path)? {
-        Some(found) if !found.is_file() => Err(io::Error::new(
-            ErrorKind::AlreadyExists,
-            "Not a regular file",
-        )),
-        _ => Ok(()),
-    }
-}
-
-/// The regular file of that name in a directory that was seen to be one.
-pub fn file_here<R: Files>(rt: &R, path: Path<'_>) -> io::Result<Option<Metadata>> {
-    match found_itself(rt, path)? {
-        Some(found) if found.is_file() => Ok(Some(found)),
-        _ => Ok(None),
-    }
-}
-
-/// The directory that was found, or the error where something else was.
-pub fn directory_found(found: &Metadata) -> io::Result<Identity> {
-    if found.is_dir() {
-        Ok(Identity::of(found))
-    } else {
-        Err(not_a_directory())
+    match found_itself(rt, path.text) {
+        Ok(found) if found.is_there && !found.is_file => Err(not_a_file()),
+        Ok(_) => Ok(()),
+        Err(error) => Err(error),
     }
 }
 
@@ -225,6 +202,11 @@ pub fn no_file() -> io::Error {
     io::Error::new(ErrorKind::NotFound, "No such file or directory")
 }
 
+/// The answer where something else than a regular file would be replaced.
+fn not_a_file() -> io::Error {
+    io::Error::new(ErrorKind::AlreadyExists, "Not a regular file")
+}
+
 /// The answer where something on the way is no directory.
 pub fn not_a_directory() -> io::Error {
     io::Error::new(ErrorKind::NotADirectory, "Not a directory")
@@ -236,7 +218,7 @@ pub fn first_parts(path: Path<'_>, parts: u64) -> Path<'_> {
     for (slash, _) in path.text.match_indices('/') {
         count = count.saturating_add(1);
         if count == parts {
-            return path.directory(slash).unwrap_or(path);
+            return path.directory(slash);
         }
     }
     path

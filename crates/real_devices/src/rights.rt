@@ -25,6 +25,24 @@ impl Rights {
         }
     }
 
+    /// That all may do all, whoever owns it.
+    pub fn all() -> Rights {
+        Rights {
+            owner: 0,
+            group: 0,
+            bits: PERMISSION_BITS,
+        }
+    }
+
+    /// Those of nothing.
+    pub fn none() -> Rights {
+        Rights {
+            owner: 0,
+            group: 0,
+            bits: 0,
+        }
+    }
+
     /// The same owner and group, with no bit that the other file lacks.
     pub fn limited(self, most: Rights) -> Rights {
         Rights {
@@ -43,6 +61,33 @@ impl Rights {
         }
     }
 
+    /// What both files let others do, where one is given the group of the second.
+    pub fn met(self, other: Rights) -> Rights {
+        Rights {
+            owner: other.owner,
+            group: other.group,
+            bits: bits_for(self, other) & other.bits,
+        }
+    }
+
+    /// The rights of a new file for those alone who have `most`, and for its owner.
+    pub fn shown_to(self, most: Rights) -> Rights {
+        Rights {
+            owner: self.owner,
+            group: self.group,
+            bits: self.bits & (0o700 | bits_for(most, self)),
+        }
+    }
+
+    /// What a directory lets be done with the files in it: all by those who may search it, nothing by others.
+    pub fn inside(self) -> Rights {
+        Rights {
+            owner: self.owner,
+            group: self.group,
+            bits: (self.bits & 0o111) * 7,
+        }
+    }
+
     fn has_owner_of(self, other: Rights) -> bool {
         self.owner == other.owner && self.group == other.group
     }
@@ -51,12 +96,7 @@ impl Rights {
 /// Gives a file these rights: the owner and the group first, as far as the process may, and then the bits. It is called while
 /// the file is its owner's alone, so that no bit ever speaks of another owner or group than it was meant for.
 pub fn give(file: &File, wanted: Rights) -> io::Result<()> {
-    let old = Rights::of(&file.metadata()?);
-    let now = if old.has_owner_of(wanted) {
-        old
-    } else {
-        give_owner(file, wanted)?
-    };
+    let now = owned(file, wanted)?;
     let bits = bits_for(wanted, now);
     if now.bits == bits {
         return Ok(());
@@ -64,12 +104,29 @@ pub fn give(file: &File, wanted: Rights) -> io::Result<()> {
     file.set_permissions(Permissions::from_mode(bits))
 }
 
+/// Gives a file the owner and the group, if it has others, and tells what it has then.
+fn owned(file: &File, wanted: Rights) -> io::Result<Rights> {
+    let old = rights_of(file)?;
+    if old.has_owner_of(wanted) {
+        Ok(old)
+    } else {
+        give_owner(file, wanted)
+    }
+}
+
 /// Gives a file the owner and the group, or the group alone, or neither, whichever the system allows, and tells what it has.
 fn give_owner(file: &File, wanted: Rights) -> io::Result<Rights> {
     if fchown(file, Some(wanted.owner), Some(wanted.group)).is_err() {
         let _ = fchown(file, None, Some(wanted.group));
     }
-    Ok(Rights::of(&file.metadata()?))
+    rights_of(file)
+}
+
+pub fn rights_of(file: &File) -> io::Result<Rights> {
+    match file.metadata() {
+        Ok(found) => Ok(Rights::of(&found)),
+        Err(error) => Err(error),
+    }
 }
 
 /// The bits for a file that may have another group: then its members and all others get what both had.

@@ -2,8 +2,8 @@
 ghost use Rattle.std.specs.Prelude.{◌≤◌, length, IfOk};
 ghost use Rattle.outside.specs.Silent.{silent_source, silent_sink};
 
-use crate::faults::counted;
-use crate::trouble::{Trouble, keep_trouble};
+use crate::faults::Faults;
+use crate::trouble::Trouble;
 use outside::{Failed, Sink, Source};
 use std::alloc::Global;
 use std::io;
@@ -15,35 +15,30 @@ const PIECE: usize = 65_536;
 /// Standard input.
 #[derive(Drop)]
 pub struct Input<R: Read + Drop> {
-    alloc: Global,
     reader: R,
-    trouble: Option<Trouble>,
-    faults: u64,
+    faults: Faults,
 }
 
 impl<R: Read + Drop> Input<R> {
     pub fn new(alloc: Global, reader: R) -> Input<R> {
         Input {
-            alloc,
             reader,
-            trouble: None,
-            faults: 0,
+            faults: Faults::new(alloc),
         }
     }
 
     /// What failed last.
     pub fn trouble(&self) -> Option<&Trouble> {
-        self.trouble.as_ref()
+        self.faults.trouble()
     }
 }
 
 impl<R: Read + Drop> Source for Input<R> {
-    ghost view = { λ s. silent_source s.faults };
+    ghost view = { λ s. silent_source s.faults.count };
 
     fn read(&mut self, buf: &mut [u8]) -> Result<usize, Failed> {
         let read = read_some(&mut self.reader, buf);
-        keep_trouble(&mut self.trouble, self.alloc, "standard input", &read);
-        counted(&mut self.faults, read)
+        self.faults.answer("standard input", read)
     }
 }
 
@@ -63,37 +58,35 @@ fn read_some<R: Read>(reader: &mut R, buf: &mut [u8]) -> io::Result<usize>
 /// Standard output or standard error, written in large pieces.
 #[derive(Drop)]
 pub struct Output<W: Write + Drop> {
-    alloc: Global,
-    trouble: Option<Trouble>,
     writer: BufWriter<W>,
-    faults: u64,
+    faults: Faults,
 }
 
 impl<W: Write + Drop> Output<W> {
     pub fn new(alloc: Global, writer: W) -> io::Result<Output<W>> {
         Ok(Output {
-            alloc,
-            trouble: None,
             writer: BufWriter::with_capacity(alloc, PIECE, writer)?,
-            faults: 0,
+            faults: Faults::new(alloc),
         })
     }
 
     /// Writes what was gathered.
     pub fn flush(&mut self) -> io::Result<()> {
         let done = self.writer.flush();
-        keep_trouble(&mut self.trouble, self.alloc, "standard output", &done);
+        if let Err(error) = done {
+            self.faults.note("standard output", error);
+        }
         done
     }
 
     /// What failed last.
     pub fn trouble(&self) -> Option<&Trouble> {
-        self.trouble.as_ref()
+        self.faults.trouble()
     }
 }
 
 impl<W: Write + Drop> Sink for Output<W> {
-    ghost view = { λ s. silent_sink s.faults };
+    ghost view = { λ s. silent_sink s.faults.count };
 
     ghost same_rest = { λ _ _. Unit {0} };
 
@@ -103,8 +96,7 @@ impl<W: Write + Drop> Sink for Output<W> {
 
     fn write(&mut self, piece: &[u8]) -> Result<usize, Failed> {
         let put = self.writer.write_all(piece);
-        keep_trouble(&mut self.trouble, self.alloc, "standard output", &put);
-        match counted(&mut self.faults, put) {
+        match self.faults.answer("standard output", put) {
             Ok(()) => Ok(piece.len()),
             Err(fault) => Err(fault),
         }

@@ -11,19 +11,8 @@ pub struct Trouble {
     pub error: io::Error,
 }
 
-/// Keeps the trouble that an answer of the system tells of, if any. Without memory there is none.
-pub fn keep_trouble<T>(
-    kept: &mut Option<Trouble>,
-    alloc: Global,
-    name: &str,
-    done: &io::Result<T>,
-) {
-    if let Err(error) = done {
-        *kept = trouble_of(alloc, name, *error);
-    }
-}
-
-fn trouble_of(alloc: Global, name: &str, error: io::Error) -> Option<Trouble> {
+/// What failed, or nothing without memory.
+pub fn trouble_of(alloc: Global, name: &str, error: io::Error) -> Option<Trouble> {
     match String::from_str(alloc, shown(name, error.kind())) {
         Ok(name) => Some(Trouble { name, error }),
         Err(_) => None,

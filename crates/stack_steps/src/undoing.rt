@@ -28,7 +28,20 @@ pub fn undo<T: Tree>(alloc: Global, number: u32, save: &[u8], tree: &mut T) -> R
     }
 }
 
+/// Looks at the save first, so that the tree can tell where the bytes that are put come from.
 fn undo_by<T: Tree>(alloc: Global, name: &Name, save: &[u8], tree: &mut T) -> Result<(), RunFault>
+    requires lasting { is_temp name.now ≡ false }
+    requires save { IsSome (entries_of save.now) }
+    requires quiet { IsQuiet (T.view tree.old) }
+    ensures { (c : SinkView) → Steps (T.view tree.old) (T.view tree.new) c c result (undone_by name.now (entries_of save.now)) (λ f. []) }
+{
+    match tree.size(name) {
+        Ok(_) => undo_held(alloc, name, save, tree),
+        Err(_) => Err(RunFault::Tree),
+    }
+}
+
+fn undo_held<T: Tree>(alloc: Global, name: &Name, save: &[u8], tree: &mut T) -> Result<(), RunFault>
     requires lasting { is_temp name.now ≡ false }
     requires save { IsSome (entries_of save.now) }
     requires quiet { IsQuiet (T.view tree.old) }

@@ -1,0 +1,105 @@
+//! What stands at a name, as the system tells it.
+
+use crate::rights::Rights;
+use std::fs::{File, Metadata};
+use std::io::ErrorKind;
+use std::os::unix::fs::MetadataExt;
+use std::rt::Files;
+use std::{fs, io};
+
+/// Which file or directory it is.
+#[derive(Clone, Copy)]
+pub struct Identity {
+    device: u64,
+    number: u64,
+}
+
+impl Identity {
+    /// The working directory, to which no name leads: it is never another one.
+    pub fn here() -> Identity {
+        Identity {
+            device: 0,
+            number: 0,
+        }
+    }
+
+    fn of(found: &Metadata) -> Identity {
+        Identity {
+            device: found.dev(),
+            number: found.ino(),
+        }
+    }
+
+    pub fn is_same(self, other: Identity) -> bool {
+        self.device == other.device && self.number == other.number
+    }
+}
+
+/// What stands at a name, if anything does: the few things that are asked of it, in place of all that the system tells.
+#[derive(Clone, Copy)]
+pub struct Found {
+    pub is_there: bool,
+    pub is_file: bool,
+    pub is_directory: bool,
+    pub identity: Identity,
+    pub rights: Rights,
+    pub length: u64,
+    /// The directory that it stands in, where the way to it was looked at.
+    pub within: Identity,
+}
+
+impl Found {
+    pub fn nothing() -> Found {
+        Found {
+            is_there: false,
+            is_file: false,
+            is_directory: false,
+            identity: Identity::here(),
+            rights: Rights::none(),
+            length: 0,
+            within: Identity::here(),
+        }
+    }
+
+    fn of(found: &Metadata) -> Found {
+        Found {
+            is_there: true,
+            is_file: found.is_file(),
+            is_directory: found.is_dir(),
+            identity: Identity::of(found),
+            rights: Rights::of(found),
+            length: found.len(),
+            within: Identity::here(),
+        }
+    }
+}
+
+/// What stands where a path leads to, links followed.
+pub fn found_behind<R: Files>(rt: &R, path: &str) -> io::Result<Found> {
+    told(fs::metadata(rt, path))
+}
+
+/// What stands at a path, a link itself and not what it points to.
+pub fn found_itself<R: Files>(rt: &R, path: &str) -> io::Result<Found> {
+    told(fs::symlink_metadata(rt, path))
+}
+
+/// What an open file is.
+pub fn found_open(file: &File) -> io::Result<Found> {
+    told(file.metadata())
+}
+
+fn told(answer: io::Result<Metadata>) -> io::Result<Found> {
+    match answer {
+        Ok(found) => Ok(Found::of(&found)),
+        Err(error) => missing(error),
+    }
+}
+
+/// Nothing, where the error says so.
+fn missing(error: io::Error) -> io::Result<Found> {
+    match error.kind() {
+        ErrorKind::NotFound | ErrorKind::NotADirectory => Ok(Found::nothing()),
+        _ => Err(error),
+    }
+}

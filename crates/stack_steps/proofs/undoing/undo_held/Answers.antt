@@ -1,0 +1,15 @@
+use Rattle.std.proofs.Common.{[], None}
+use Rattle.outside.specs.Quiet.{after_all}
+use Rattle.series_stack.specs.Saves.{entries_of}
+use Rattle.stack_steps.specs.Undoing.{restored_by, taken_away}
+use Rattle.stack_steps.proofs.Stepping.{steps_then, steps_stop}
+use Rattle.stack_steps.proofs.undoing.undo_held.Goals as goal
+
+pub take_away-requires-clause-quiet : goal.take_away-requires-clause-quiet
+take_away-requires-clause-quiet g c = (c.in-Ok.ensures (record { told = None; faults = 0 })).quiet
+
+pub returns-in-Ok : goal.returns-in-Ok
+returns-in-Ok g c s = steps_then c.in-Ok.field-0 c.take_away.result (c.in-Ok.ensures s) (c.take_away.ensures s)
+
+pub returns-in-Err : goal.returns-in-Err
+returns-in-Err g c s = steps_stop c.in-Err.fault (λ f. taken_away c.args.name.now (after_all (restored_by (entries_of c.args.save.now) f) f)) (λ f. []) (c.in-Err.ensures s)
