@@ -2,12 +2,14 @@
 use Rattle.std.specs.Prelude.{ℕ, ◌+◌, ◌-◌, Bool, true, false, ◌==◌, List, [], ◌∷◌, ◌++◌, codes, length, reverse, if◌then◌else◌}
 use Rattle.std.specs.List.{flat_map}
 use Rattle.diff_command.specs.Letters.{letter}
+use Rattle.hunk_core.specs.declared.Side.{Side}
 use Rattle.hunk_core.specs.declared.Form.{Form}
 use Rattle.hunk_core.specs.declared.Form.TheVariants.{Unified, Context, Normal, Ed}
 use Rattle.ed_form.specs.Texts.{is_dot}
 use Rattle.file_patch.specs.PlainPatch.{PlainChange, hunks, script}
-use Rattle.normal_form.specs.Canonical.{action_for, lines_text, span_text}
-use Rattle.change_commands.specs.Blocks.{Block, blocks_in}
+use Rattle.normal_form.specs.Canonical.{action_for, line_text, lines_text, span_text}
+use Rattle.change_commands.specs.Blocks.{Block, Edit, blocks_in}
+use Rattle.change_commands.specs.Fronts.{front}
 
 -- the start of a range of so many lines from this line on; an empty one starts at the line in front of it
 abbrev pub range_start : ℕ → ℕ → ℕ
@@ -27,6 +29,10 @@ normal_command adds drops b = lines_text (range_start b.first (length b.dropped)
 unfoldable pub normal_behind : ℕ → ℕ → List Block → List ℕ
 normal_behind adds drops [] = []
 normal_behind adds drops (b ∷ bs) = normal_command adds drops b ++ normal_behind (adds + length b.added) (drops + length b.dropped) bs
+
+-- the lines of one side of the block that edits begin with in this gap, as the normal form writes them
+abbrev pub side_text : Side → ℕ → List Edit → List ℕ
+side_text side gap es = flat_map (line_text side) (front side gap es)
 
 abbrev pub normal_text : List Block → List ℕ
 normal_text bs = normal_behind 0 0 bs

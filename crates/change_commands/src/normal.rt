@@ -1,13 +1,12 @@
 //! Blocks as commands of the normal form.
 
 ghost use Rattle.std.specs.Prelude.{◌≡◌, ◌+◌, ◌≤◌, ◌^◌, ◌++◌, ◌∷◌, []};
-ghost use Rattle.std.specs.List.{flat_map};
 ghost use Rattle.hunk_core.specs.Writing.{Puts};
 ghost use Rattle.diff_command.specs.Letters.{letter};
-ghost use Rattle.normal_form.specs.Canonical.{action_for, command_text, divider_text, line_text, span_text};
+ghost use Rattle.normal_form.specs.Canonical.{action_for, command_text, divider_text, span_text};
 ghost use Rattle.change_commands.specs.Blocks.{blocks_of, hunk_edits};
-ghost use Rattle.change_commands.specs.Commands.{normal_command, normal_text, range_start};
-ghost use Rattle.change_commands.specs.Fronts.{front, front_block};
+ghost use Rattle.change_commands.specs.Commands.{normal_command, normal_text, range_start, side_text};
+ghost use Rattle.change_commands.specs.Fronts.{front_block};
 ghost use Rattle.change_commands.specs.Walk.{IsBlock, IsKept, IsSmall, edits_left, left_hunks, new_start};
 
 use crate::block::{Block, next_block};
@@ -98,7 +97,7 @@ fn put_head<O: Sink>(net: Net, block: Block, out: &mut O) -> Result<(), Failed>
 fn put_news<O: Sink>(kept: Kept, place: Place, block: Block, out: &mut O) -> Result<(), Failed>
     requires kept { IsKept kept }
     requires near { block.first ≤ 2 ^ 43 }
-    ensures { Puts O.view O.same_rest out.old out.new result (divider_text (action_for block.drops block.adds) ++ flat_map (line_text Side.Reversed) (front Side.Reversed block.first (edits_left kept.entry place))) }
+    ensures { Puts O.view O.same_rest out.old out.new result (divider_text (action_for block.drops block.adds) ++ side_text Side.Reversed block.first (edits_left kept.entry place)) }
 {
     put_piece(out, divider(block))?;
     put_side(kept, place, block.first, Side::Reversed, out)
@@ -108,7 +107,7 @@ fn put_news<O: Sink>(kept: Kept, place: Place, block: Block, out: &mut O) -> Res
 fn put_lines<O: Sink>(kept: Kept, place: Place, block: Block, out: &mut O) -> Result<(), Failed>
     requires kept { IsKept kept }
     requires near { block.first ≤ 2 ^ 43 }
-    ensures { Puts O.view O.same_rest out.old out.new result (flat_map (line_text Side.Forward) (front Side.Forward block.first (edits_left kept.entry place)) ++ (divider_text (action_for block.drops block.adds) ++ flat_map (line_text Side.Reversed) (front Side.Reversed block.first (edits_left kept.entry place)))) }
+    ensures { Puts O.view O.same_rest out.old out.new result (side_text Side.Forward block.first (edits_left kept.entry place) ++ (divider_text (action_for block.drops block.adds) ++ side_text Side.Reversed block.first (edits_left kept.entry place))) }
 {
     put_side(kept, place, block.first, Side::Forward, out)?;
     put_news(kept, place, block, out)

@@ -21,6 +21,7 @@ use Rattle.run_answers.specs.declared.why.Why.TheVariants.{Done, Usage, BadPatte
 use Rattle.run_answers.specs.Answers.{of_words, of_input, of_set}
 use Rattle.run_answers.specs.Outcomes.{Outcome, refused}
 use Rattle.filter_cli.specs.Jobs.{AsksFor, MayBeRefused}
+use Rattle.filter_cli.specs.Worlds.{World, Tells}
 
 -- the answer that a filter's fault is
 abbrev pub of_filter : FilterFault → Why
@@ -96,3 +97,7 @@ Searches (stack_job op) files left = ⊥
 -- the outcome is the command's; or a pattern that isn't always taken is refused, where there are file patches to search
 abbrev pub IsOutcome : FinderView → Result PlainToolJob WordFault → Files → List ℕ → Outcome → Type 0
 IsOutcome v job files left o = (o ≡ command v.hit job files left) ⊎ ((o ≡ refused BadPattern) × AsksFor job (λ j. MayBeRefused v j × Searches j files left))
+
+-- what holds where the text is told and isn't searched
+abbrev pub UnlessSearched : Result PlainToolJob WordFault → World → Type 0 → Type 0
+UnlessSearched job w P = (f : Files) (left : List ℕ) → Tells job w f left → (AsksFor job (λ j. Searches j f left) → ⊥) → P

@@ -1,13 +1,12 @@
 //! A run of a filter, from its words to its answer.
-ghost use Rattle.std.specs.Prelude.{◌≡◌, ◌⊎◌, ℕ, List, map, true, Ok, Err, string_bytes};
-ghost use Rattle.outside.specs.Files.{Files};
+ghost use Rattle.std.specs.Prelude.{◌≡◌, ◌⊎◌, map, true, Ok, Err, string_bytes};
 ghost use Rattle.outside.specs.Quiet.{IsQuiet};
 ghost use Rattle.patch_options.specs.declared.options.WordFault.{WordFault};
 ghost use Rattle.tool_words.specs.PlainJobs.{plain_tool_job};
 ghost use Rattle.run_answers.specs.Answers.{of_words};
 ghost use Rattle.filter_cli.specs.Jobs.{AsksFor, HasPattern, ReadsSource, is_filter, job_of};
-ghost use Rattle.filter_cli.specs.Command.{Searches};
-ghost use Rattle.filter_cli.specs.Worlds.{world, Tells};
+ghost use Rattle.filter_cli.specs.Command.{UnlessSearched};
+ghost use Rattle.filter_cli.specs.Worlds.{world};
 ghost use Rattle.filter_cli.specs.Carries.{Carries};
 
 use crate::reading::read_job;
@@ -36,7 +35,7 @@ pub fn run_filter<T: Tree, F: Finder, I: Source, O: Sink>(
     ensures still { (fault : WordFault) → job_of (map string_bytes words.now) ≡ Err fault → tree.new ≡ tree.old }
     ensures silent { (fault : WordFault) → job_of (map string_bytes words.now) ≡ Err fault → out.new ≡ out.old }
     ensures unread { (ReadsSource (job_of (map string_bytes words.now)) → ⊥) → source.new ≡ source.old }
-    ensures unasked { (f : Files) (left : List ℕ) → Tells (job_of (map string_bytes words.now)) (world (T.view tree.old) (F.view finder.old) (I.view source.old) (O.view out.old)) f left → (AsksFor (job_of (map string_bytes words.now)) (λ j. Searches j f left) → ⊥) → finder.new ≡ finder.old }
+    ensures unasked { UnlessSearched (job_of (map string_bytes words.now)) (world (T.view tree.old) (F.view finder.old) (I.view source.old) (O.view out.old)) (finder.new ≡ finder.old) }
     ensures no_pattern { (AsksFor (job_of (map string_bytes words.now)) HasPattern → ⊥) → finder.new ≡ finder.old }
     ensures rest { O.same_rest out.old out.new }
 {
@@ -58,7 +57,7 @@ fn run_job<T: Tree, F: Finder, I: Source, O: Sink>(
     requires filter { is_filter (plain_tool_job job) ≡ true }
     ensures carries { Carries (Ok (plain_tool_job job)) (world (T.view tree.old) (F.view finder.old) (I.view source.old) (O.view out.old)) (world (T.view tree.new) (F.view finder.new) (I.view source.new) (O.view out.new)) result }
     ensures unread { (ReadsSource (Ok (plain_tool_job job)) → ⊥) → source.new ≡ source.old }
-    ensures unasked { (f : Files) (left : List ℕ) → Tells (Ok (plain_tool_job job)) (world (T.view tree.old) (F.view finder.old) (I.view source.old) (O.view out.old)) f left → (AsksFor (Ok (plain_tool_job job)) (λ j. Searches j f left) → ⊥) → finder.new ≡ finder.old }
+    ensures unasked { UnlessSearched (Ok (plain_tool_job job)) (world (T.view tree.old) (F.view finder.old) (I.view source.old) (O.view out.old)) (finder.new ≡ finder.old) }
     ensures no_pattern { (AsksFor (Ok (plain_tool_job job)) HasPattern → ⊥) → finder.new ≡ finder.old }
     ensures rest { O.same_rest out.old out.new }
 {
@@ -81,7 +80,7 @@ fn run_settled<T: Tree, F: Finder, I: Source, O: Sink>(
     requires quiet { IsQuiet (T.view tree.old) }
     ensures carries { Carries (Ok (plain_tool_job job)) (world (T.view tree.old) (F.view finder.old) (I.view source.old) (O.view out.old)) (world (T.view tree.new) (F.view finder.new) (I.view source.new) (O.view out.new)) result }
     ensures unread { (ReadsSource (Ok (plain_tool_job job)) → ⊥) → source.new ≡ source.old }
-    ensures unasked { (f : Files) (left : List ℕ) → Tells (Ok (plain_tool_job job)) (world (T.view tree.old) (F.view finder.old) (I.view source.old) (O.view out.old)) f left → (AsksFor (Ok (plain_tool_job job)) (λ j. Searches j f left) → ⊥) → finder.new ≡ finder.old }
+    ensures unasked { UnlessSearched (Ok (plain_tool_job job)) (world (T.view tree.old) (F.view finder.old) (I.view source.old) (O.view out.old)) (finder.new ≡ finder.old) }
     ensures no_pattern { (AsksFor (Ok (plain_tool_job job)) HasPattern → ⊥) → finder.new ≡ finder.old }
     ensures rest { O.same_rest out.old out.new }
 {

@@ -2,13 +2,14 @@
 use Rattle.std.specs.Prelude.{◌≡◌, ◌≢◌, ◌⊎◌, ℕ, List, Bool, true, false, None, Some, Result, Ok, Err, IfErr, OnOk, []}
 use Rattle.outside.specs.Faults.{HasRisen}
 use Rattle.outside.specs.Files.{Files}
+use Rattle.outside.specs.FinderView.{FinderView}
 use Rattle.outside.specs.TreeView.{TreeView, Rises}
 use Rattle.outside.specs.Calls.{IsUntouched}
 use Rattle.outside.specs.SourceView.{SourceView, SourcePasses}
 use Rattle.outside.specs.SinkView.{SinkView, SinkPasses, Receives, ReceivesPart}
 use Rattle.outside.specs.SinkView as sink
 use Rattle.patch_options.specs.declared.options.Input.{Input}
-use Rattle.tool_words.specs.PlainJobs.{PlainSelect}
+use Rattle.tool_words.specs.PlainJobs.{PlainGrepJob, PlainSelect}
 use Rattle.patch_input.specs.declared.fault.InputFault.{InputFault}
 use Rattle.patch_input.specs.declared.fault.InputFault.TheVariants as input
 use Rattle.patch_input.specs.Input.{IsStandard, TakesAtMost}
@@ -17,7 +18,7 @@ use Rattle.patch_set.specs.declared.fault.SetFault.TheVariants as set
 use Rattle.patch_set.specs.Refusals.{refusal}
 use Rattle.split_recount.specs.Recounted.{recounted}
 use Rattle.filter_run.specs.Texts.{defaults}
-use Rattle.filter_run.specs.Outcomes.{Outcome}
+use Rattle.filter_run.specs.Outcomes.{IsGrepped, Outcome}
 use Rattle.filter_run.specs.declared.fault.FilterFault.{FilterFault}
 use Rattle.filter_run.specs.declared.fault.FilterFault.TheVariants as faults
 
@@ -127,3 +128,7 @@ pub record Sifts (i : Input) (s : PlainSelect) (R : FilterFault → Type 0) (Q :
   pub early : IfErr result (λ e. is_early e ≡ true → d ≡ c)
   pub answers : (f : Files) (left : List ℕ) → IsTold i s t a f left → Answers result (IsOutcome f left) c d
   pub cause : IfErr result (λ e. HasCause e i s R Q t u a b c d)
+
+-- `grepdiff` does so, by what its finder takes and where it finds it
+abbrev pub Greps : FinderView → PlainGrepJob → TreeView → TreeView → SourceView → SourceView → SinkView → SinkView → Result (Unit {0}) FilterFault → Type 0
+Greps finder j t u a b c d result = Sifts j.input j.select HasTextCause (finder.takes j.pattern ≡ false) (IsGrepped finder.takes finder.hit j) t u a b c d result

@@ -1,11 +1,11 @@
 //! The filters that write one text and leave the tree as it is.
-ghost use Rattle.std.specs.Prelude.{◌≡◌, ℕ, List, None, false, string_bytes};
+ghost use Rattle.std.specs.Prelude.{◌≡◌, ℕ, List, None};
 ghost use Rattle.outside.specs.Files.{Files};
 ghost use Rattle.outside.specs.FinderView.{FinderPasses};
 ghost use Rattle.tool_words.specs.PlainJobs.{plain_filter_job, plain_grep_job, plain_list_job, plain_select};
 ghost use Rattle.patch_input.specs.Input.{IsFile};
-ghost use Rattle.filter_run.specs.Outcomes.{HasPatches, IsGrepped, IsOutcomeOf, filter_outcome, given, list_outcome, no_selection, recount_outcome};
-ghost use Rattle.filter_run.specs.Sifting.{HasCountCause, HasTextCause, IsTold, Sifts};
+ghost use Rattle.filter_run.specs.Outcomes.{HasPatches, IsOutcomeOf, filter_outcome, given, list_outcome, no_selection, recount_outcome};
+ghost use Rattle.filter_run.specs.Sifting.{Greps, HasCountCause, HasTextCause, IsTold, Sifts};
 
 use crate::fault::FilterFault;
 use crate::opening::open_text;
@@ -72,7 +72,7 @@ pub fn run_grep<T: Tree, F: Finder, I: Source, O: Sink>(
     source: &mut I,
     out: &mut O,
 ) -> Result<(), FilterFault>
-    ensures sifts { Sifts job.input (plain_select job.select) HasTextCause ((F.view finder.old).takes (string_bytes job.pattern) ≡ false) (IsGrepped (F.view finder.old).takes (F.view finder.old).hit (plain_grep_job job)) (T.view tree.old) (T.view tree.new) (I.view source.old) (I.view source.new) (O.view out.old) (O.view out.new) result }
+    ensures sifts { Greps (F.view finder.old) (plain_grep_job job) (T.view tree.old) (T.view tree.new) (I.view source.old) (I.view source.new) (O.view out.old) (O.view out.new) result }
     ensures unread { IsFile job.input → source.new ≡ source.old }
     ensures rest { O.same_rest out.old out.new }
     ensures finder { FinderPasses (F.view finder.old) (F.view finder.new) }

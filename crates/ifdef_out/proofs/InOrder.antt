@@ -24,7 +24,8 @@ use Rattle.ed_form.specs.PlainEdit.{PlainEdit, AreLawful, lowest}
 use Rattle.hunk_apply.specs.Applied.{taken_all}
 use Rattle.hunk_apply.specs.Body.{turned_mark, side_body}
 use Rattle.hunk_apply.specs.Splice.{Edit, add, drop_line, body_edits, marked_edits, hunk_edits, all_edits}
-use Rattle.hunk_apply.proofs.BodyLemmas.{is_kept, width, marked-width, body-is, edits-next, rest-edits, place-more, place-within, post-old, post-fits, at-place}
+use Rattle.hunk_apply.specs.Passage.{width}
+use Rattle.hunk_apply.proofs.BodyLemmas.{is_kept, marked-width, body-is, edits-next, rest-edits, place-more, place-within, post-old, post-fits, at-place}
 use Rattle.hunk_apply.proofs.FoldLemmas.{edits-cons, edits-nil, spots-cons}
 use Rattle.hunk_apply.proofs.HunkLemmas.{no-edits, old-length, trailing-old}
 use Rattle.hunk_apply.proofs.PlaceLemmas.{spot-behind}

@@ -1,5 +1,6 @@
 -- The edits that are left of a change when a walk over it has come to a place.
 use Rattle.std.specs.Prelude.{◌≡◌, ℕ, ◌+◌, ◌-◌, ◌*◌, ◌^◌, ◌<◌, ◌≤◌, List, [], ◌∷◌, ◌++◌, map, flat_map, reverse, drop, length, All, Option, None, Some, IfSome, option_map}
+use Rattle.line_store.specs.Store.{Seen}
 use Rattle.hunk_core.specs.declared.Side.{Side}
 use Rattle.hunk_core.specs.declared.Hunk.{Hunk}
 use Rattle.hunk_core.specs.declared.Verdict.{Verdict}
@@ -8,14 +9,15 @@ use Rattle.hunk_core.specs.Turned.{LiesIn}
 use Rattle.hunk_place.specs.Order.{from_to}
 use Rattle.ed_form.specs.declared.script.EdEdit.{EdEdit}
 use Rattle.ed_form.specs.PlainEdit.{edits_of, lines_of}
-use Rattle.file_patch.specs.PlainPatch.{IsLawfulChange, row_count}
+use Rattle.file_patch.specs.PlainPatch.{IsLawfulChange, change_of, row_count}
 use Rattle.file_patch.specs.declared.Change.{Change}
 use Rattle.file_patch.specs.declared.Change.TheVariants.{Hunks, Script}
 use Rattle.hunk_apply.specs.Applied.{taken_all}
 use Rattle.hunk_apply.specs.Body.{side_body}
 use Rattle.hunk_apply.specs.Session.{IsTried}
+use Rattle.hunk_apply.specs.Written.{lines_between}
 use Rattle.hunk_apply.specs.Splice.{Edit, add, drop_line, body_edits}
-use Rattle.ifdef_out.specs.Placed.{placed_edits, command_edits}
+use Rattle.ifdef_out.specs.Placed.{placed_edits, command_edits, change_edits}
 use Rattle.ifdef_out.specs.Chain.{block_end, block_added, behind_block, is_some_line}
 use Rattle.ifdef_out.specs.declared.place.Place.{Place}
 use Rattle.ifdef_out.specs.declared.place.LineEdit.{LineEdit}
@@ -61,6 +63,10 @@ left_of text side vs (Script s) row line next = script_at text s.edits.items row
 abbrev pub edits_left : Edits → Place → List Edit
 edits_left e p = left_of e.text.now e.side e.verdicts.now e.change.now p.row p.line p.next
 
+-- all edits of the change
+abbrev pub all_of : Edits → List Edit
+all_of e = change_edits e.verdicts.now e.side (change_of e.text.now e.change.now)
+
 -- how far a walk over so many hunks or commands can go on at most
 abbrev pub way_of : ℕ → Place → ℕ
 way_of count p = (count - p.row) * 2 ^ 66 + (2 ^ 64 - p.line) + (2 ^ 64 - p.next)
@@ -85,6 +91,14 @@ pub record IsBlock (e : Edits) (p : Place) (first : ℕ) (b : Block) : Type 0 wh
   pub end : b.end ≡ block_end first (edits_left e p)
   pub adding : b.is_adding ≡ is_some_line (block_added first (edits_left e p))
   pub behind : edits_left e b.behind ≡ behind_block first (edits_left e p)
+
+-- what is said of the lines from `from` up to, not including, `to`, where the store tells its lines and has these
+abbrev pub WhereHad : Seen → ℕ → ℕ → (List (List ℕ) → Type 0) → Type 0
+WhereHad seen from to P = (lines : List (List ℕ)) → seen.told ≡ Some lines → 1 ≤ from → from ≤ to → to ≤ length lines + 1 → P (lines_between lines from to)
+
+-- what is said of the lines that a block drops, where the store has them, and of those that it adds, if it adds any
+abbrev pub WhereDropped : Seen → ℕ → Block → (List (List ℕ) → List (List ℕ) → Type 0) → Type 0
+WhereDropped seen first b P = WhereHad seen first b.end (λ dropped. (added : List (List ℕ)) → b.is_adding ≡ is_some_line added → P dropped added)
 
 -- a lawful change with a verdict for each hunk
 pub record AreEdits (e : Edits) : Type 0 where

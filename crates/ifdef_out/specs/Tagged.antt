@@ -5,6 +5,7 @@ use Rattle.hunk_core.specs.declared.Mark.{Mark}
 use Rattle.hunk_core.specs.declared.Mark.TheVariants.{Keep, Drop, Add}
 use Rattle.hunk_core.specs.PlainHunk.{Marked}
 use Rattle.hunk_apply.specs.Splice.{Edit}
+use Rattle.hunk_apply.specs.Written.{lines_between}
 use Rattle.ifdef_out.specs.Whole.{whole}
 
 -- whose a written line is: of the file and of what becomes of it, of one of them alone, or a line of the preprocessor
@@ -69,6 +70,10 @@ tagged name lines es = tagged_behind name [] [] (whole lines es)
 
 abbrev pub texts : List Tagged → List (List ℕ)
 texts ts = map (λ t. t.line) ts
+
+-- the lines of a block that drops those from `first` up to, not including, `end`
+abbrev pub block_lines : List ℕ → List (List ℕ) → ℕ → ℕ → List (List ℕ) → List (List ℕ)
+block_lines name lines first end added = texts (closed name (lines_between lines first end) added)
 
 -- the written text; a line gets the line feed that it lacks where another one follows
 abbrev pub ifdef_text : List ℕ → List (List ℕ) → List Edit → List ℕ

@@ -1,13 +1,12 @@
 //! All blocks of a change, and the lines between them.
 
-ghost use Rattle.std.specs.Prelude.{◌≡◌, ℕ, List, [], length, Some, IfOk, OnErr, IfErr};
+ghost use Rattle.std.specs.Prelude.{length, IfOk, OnErr, IfErr};
 ghost use Rattle.line_store.specs.Store.{Keeps};
 ghost use Rattle.outside.specs.SinkView.{SinkPasses, Receives, ReceivesPart};
-ghost use Rattle.file_patch.specs.PlainPatch.{change_of};
 ghost use Rattle.hunk_apply.specs.Faults.{HasApplyCause};
+ghost use Rattle.hunk_apply.specs.Written.{WhereTold};
 ghost use Rattle.ifdef_out.specs.Chain.{AreInOrder};
-ghost use Rattle.ifdef_out.specs.Placed.{change_edits};
-ghost use Rattle.ifdef_out.specs.Places.{AreEdits};
+ghost use Rattle.ifdef_out.specs.Places.{AreEdits, all_of};
 ghost use Rattle.ifdef_out.specs.Tagged.{ifdef_text};
 
 use crate::block::block_at;
@@ -26,8 +25,8 @@ pub fn put_blocks<S: LineStore, O: Sink>(
     define: &str,
 ) -> Result<Tail, ApplyFault>
     requires { AreEdits edits }
-    ensures received { IfOk result (λ _. (lines : List (List ℕ)) → (S.seen store.old).told ≡ Some lines → AreInOrder (length lines) 1 (change_edits edits.entry.verdicts.now edits.entry.side (change_of edits.entry.text.now edits.entry.change.now)) → Receives (O.view out.old) (O.view out.new) (ifdef_text define.now lines (change_edits edits.entry.verdicts.now edits.entry.side (change_of edits.entry.text.now edits.entry.change.now)))) }
-    ensures part { OnErr result ((lines : List (List ℕ)) → (S.seen store.old).told ≡ Some lines → AreInOrder (length lines) 1 (change_edits edits.entry.verdicts.now edits.entry.side (change_of edits.entry.text.now edits.entry.change.now)) → ReceivesPart (O.view out.old) (O.view out.new) (ifdef_text define.now lines (change_edits edits.entry.verdicts.now edits.entry.side (change_of edits.entry.text.now edits.entry.change.now)))) }
+    ensures received { IfOk result (λ _. WhereTold (S.seen store.old) (λ lines. AreInOrder (length lines) 1 (all_of edits.entry) → Receives (O.view out.old) (O.view out.new) (ifdef_text define.now lines (all_of edits.entry)))) }
+    ensures part { OnErr result (WhereTold (S.seen store.old) (λ lines. AreInOrder (length lines) 1 (all_of edits.entry) → ReceivesPart (O.view out.old) (O.view out.new) (ifdef_text define.now lines (all_of edits.entry)))) }
     ensures keeps { Keeps (S.seen store.old) (S.seen store.new) }
     ensures sink { SinkPasses (O.view out.old) (O.view out.new) }
     ensures rest { O.same_rest out.old out.new }

@@ -1,15 +1,15 @@
 //! A block written with its conditions.
 
-ghost use Rattle.std.specs.Prelude.{◌≡◌, ◌+◌, ◌≤◌, ◌++◌, ℕ, List, ◌∷◌, length, option_map, Some, IfOk, OnErr, IfErr};
+ghost use Rattle.std.specs.Prelude.{◌≡◌, ◌+◌, ◌≤◌, ◌++◌, ℕ, List, ◌∷◌, length, option_map, IfOk, OnErr, IfErr};
 ghost use Rattle.line_store.specs.Store.{Keeps};
 ghost use Rattle.outside.specs.SinkView.{IsSinkCall, SinkPasses, ReceivesPart};
 ghost use Rattle.hunk_core.specs.PlainHunk.{bytes_at};
 ghost use Rattle.hunk_apply.specs.Faults.{HasApplyCause};
 ghost use Rattle.hunk_apply.specs.Splice.{added_line};
-ghost use Rattle.hunk_apply.specs.Written.{Wrote, lines_between, join_behind};
+ghost use Rattle.hunk_apply.specs.Written.{WhereTold, Wrote, WroteFront, BrokeOff, join_behind};
 ghost use Rattle.ifdef_out.specs.Chain.{block_added, is_some_line};
-ghost use Rattle.ifdef_out.specs.Places.{AreEdits, IsBlock, Lies, edits_left};
-ghost use Rattle.ifdef_out.specs.Tagged.{closed, else_mark, endif_line, ifndef_line, opening, texts};
+ghost use Rattle.ifdef_out.specs.Places.{AreEdits, IsBlock, Lies, WhereDropped, WhereHad, edits_left};
+ghost use Rattle.ifdef_out.specs.Tagged.{block_lines, else_mark, endif_line, ifndef_line, opening, texts};
 
 use crate::block::{Block, gap_behind};
 use crate::edits::Edits;
@@ -33,8 +33,8 @@ pub fn put_block<S: LineStore, O: Sink>(
 ) -> Result<Tail, ApplyFault>
     requires edits { AreEdits edits }
     requires block { IsBlock edits place first block }
-    ensures written { IfOk result (λ now. (lines : List (List ℕ)) → (S.seen store.old).told ≡ Some lines → 1 ≤ first → block.end ≤ length lines + 1 → (more : List (List ℕ)) → Wrote (O.view out.old) (O.view out.new) tail now (texts (closed define.now (lines_between lines first block.end) (block_added first (edits_left edits.entry place))) ++ more) more) }
-    ensures part { OnErr result ((lines : List (List ℕ)) → (S.seen store.old).told ≡ Some lines → 1 ≤ first → block.end ≤ length lines + 1 → (more : List (List ℕ)) → ReceivesPart (O.view out.old) (O.view out.new) (join_behind tail.is_open (texts (closed define.now (lines_between lines first block.end) (block_added first (edits_left edits.entry place))) ++ more))) }
+    ensures written { IfOk result (λ now. WhereTold (S.seen store.old) (λ lines. 1 ≤ first → block.end ≤ length lines + 1 → WroteFront (O.view out.old) (O.view out.new) tail now (block_lines define.now lines first block.end (block_added first (edits_left edits.entry place))))) }
+    ensures part { OnErr result (WhereTold (S.seen store.old) (λ lines. 1 ≤ first → block.end ≤ length lines + 1 → BrokeOff (O.view out.old) (O.view out.new) tail (block_lines define.now lines first block.end (block_added first (edits_left edits.entry place))))) }
     ensures keeps { Keeps (S.seen store.old) (S.seen store.new) }
     ensures sink { SinkPasses (O.view out.old) (O.view out.new) }
     ensures rest { O.same_rest out.old out.new }
@@ -54,8 +54,8 @@ fn put_opening<S: LineStore, O: Sink>(
     block: Block,
     define: &str,
 ) -> Result<Tail, ApplyFault>
-    ensures written { IfOk result (λ now. (lines : List (List ℕ)) → (S.seen store.old).told ≡ Some lines → 1 ≤ first → first ≤ block.end → block.end ≤ length lines + 1 → (added : List (List ℕ)) → block.is_adding ≡ is_some_line added → (more : List (List ℕ)) → Wrote (O.view out.old) (O.view out.new) tail now (texts (opening define.now (lines_between lines first block.end) added) ++ more) more) }
-    ensures part { OnErr result ((lines : List (List ℕ)) → (S.seen store.old).told ≡ Some lines → 1 ≤ first → first ≤ block.end → block.end ≤ length lines + 1 → (added : List (List ℕ)) → block.is_adding ≡ is_some_line added → (more : List (List ℕ)) → ReceivesPart (O.view out.old) (O.view out.new) (join_behind tail.is_open (texts (opening define.now (lines_between lines first block.end) added) ++ more))) }
+    ensures written { IfOk result (λ now. WhereDropped (S.seen store.old) first block (λ dropped added. WroteFront (O.view out.old) (O.view out.new) tail now (texts (opening define.now dropped added)))) }
+    ensures part { OnErr result (WhereDropped (S.seen store.old) first block (λ dropped added. BrokeOff (O.view out.old) (O.view out.new) tail (texts (opening define.now dropped added)))) }
     ensures keeps { Keeps (S.seen store.old) (S.seen store.new) }
     ensures sink { SinkPasses (O.view out.old) (O.view out.new) }
     ensures rest { O.same_rest out.old out.new }
@@ -78,8 +78,8 @@ fn put_dropped<S: LineStore, O: Sink>(
     block: Block,
     define: &str,
 ) -> Result<Tail, ApplyFault>
-    ensures written { IfOk result (λ now. (lines : List (List ℕ)) → (S.seen store.old).told ≡ Some lines → 1 ≤ first → first ≤ block.end → block.end ≤ length lines + 1 → (added : List (List ℕ)) → block.is_adding ≡ is_some_line added → (more : List (List ℕ)) → Wrote (O.view out.old) (O.view out.new) tail now (ifndef_line define.now ∷ (lines_between lines first block.end ++ (texts (else_mark added) ++ more))) more) }
-    ensures part { OnErr result ((lines : List (List ℕ)) → (S.seen store.old).told ≡ Some lines → 1 ≤ first → first ≤ block.end → block.end ≤ length lines + 1 → (added : List (List ℕ)) → block.is_adding ≡ is_some_line added → (more : List (List ℕ)) → ReceivesPart (O.view out.old) (O.view out.new) (join_behind tail.is_open (ifndef_line define.now ∷ (lines_between lines first block.end ++ (texts (else_mark added) ++ more))))) }
+    ensures written { IfOk result (λ now. WhereDropped (S.seen store.old) first block (λ dropped added. (more : List (List ℕ)) → Wrote (O.view out.old) (O.view out.new) tail now (ifndef_line define.now ∷ (dropped ++ (texts (else_mark added) ++ more))) more)) }
+    ensures part { OnErr result (WhereDropped (S.seen store.old) first block (λ dropped added. (more : List (List ℕ)) → ReceivesPart (O.view out.old) (O.view out.new) (join_behind tail.is_open (ifndef_line define.now ∷ (dropped ++ (texts (else_mark added) ++ more)))))) }
     ensures keeps { Keeps (S.seen store.old) (S.seen store.new) }
     ensures sink { SinkPasses (O.view out.old) (O.view out.new) }
     ensures rest { O.same_rest out.old out.new }
@@ -94,8 +94,8 @@ fn put_dropped<S: LineStore, O: Sink>(
 fn put_else<O: Sink>(out: &mut O, tail: Tail, is_adding: bool) -> Result<Tail, Failed>
     ensures call { IsSinkCall (O.view out.old) (O.view out.new) result }
     ensures rest { O.same_rest out.old out.new }
-    ensures written { IfOk result (λ now. (added : List (List ℕ)) → is_adding ≡ is_some_line added → (more : List (List ℕ)) → Wrote (O.view out.old) (O.view out.new) tail now (texts (else_mark added) ++ more) more) }
-    ensures part { OnErr result ((added : List (List ℕ)) → is_adding ≡ is_some_line added → (more : List (List ℕ)) → ReceivesPart (O.view out.old) (O.view out.new) (join_behind tail.is_open (texts (else_mark added) ++ more))) }
+    ensures written { IfOk result (λ now. (added : List (List ℕ)) → is_adding ≡ is_some_line added → WroteFront (O.view out.old) (O.view out.new) tail now (texts (else_mark added))) }
+    ensures part { OnErr result ((added : List (List ℕ)) → is_adding ≡ is_some_line added → BrokeOff (O.view out.old) (O.view out.new) tail (texts (else_mark added))) }
 {
     if is_adding {
         let end = put_line(out, tail, b"#else\n")?;
@@ -134,8 +134,8 @@ fn put_added<O: Sink>(
     requires { AreEdits edits }
     ensures call { IsSinkCall (O.view out.old) (O.view out.new) result }
     ensures rest { O.same_rest out.old out.new }
-    ensures written { IfOk result (λ now. (more : List (List ℕ)) → Wrote (O.view out.old) (O.view out.new) tail now (block_added first (edits_left edits.entry place) ++ more) more) }
-    ensures part { OnErr result ((more : List (List ℕ)) → ReceivesPart (O.view out.old) (O.view out.new) (join_behind tail.is_open (block_added first (edits_left edits.entry place) ++ more))) }
+    ensures written { IfOk result (λ now. WroteFront (O.view out.old) (O.view out.new) tail now (block_added first (edits_left edits.entry place))) }
+    ensures part { OnErr result (BrokeOff (O.view out.old) (O.view out.new) tail (block_added first (edits_left edits.entry place))) }
 {
     let mut now = tail;
     let mut at = place;
@@ -156,8 +156,8 @@ fn put_edit<O: Sink>(out: &mut O, tail: Tail, text: &[u8], edit: LineEdit) -> Re
     requires { Lies text.now edit }
     ensures call { IsSinkCall (O.view out.old) (O.view out.new) result }
     ensures rest { O.same_rest out.old out.new }
-    ensures written { IfOk result (λ now. (more : List (List ℕ)) → Wrote (O.view out.old) (O.view out.new) tail now (added_line (option_map (bytes_at text.now) edit.added) ++ more) more) }
-    ensures part { OnErr result ((more : List (List ℕ)) → ReceivesPart (O.view out.old) (O.view out.new) (join_behind tail.is_open (added_line (option_map (bytes_at text.now) edit.added) ++ more))) }
+    ensures written { IfOk result (λ now. WroteFront (O.view out.old) (O.view out.new) tail now (added_line (option_map (bytes_at text.now) edit.added))) }
+    ensures part { OnErr result (BrokeOff (O.view out.old) (O.view out.new) tail (added_line (option_map (bytes_at text.now) edit.added))) }
 {
     if let Some(span) = edit.added {
         let now = put_line(out, tail, &text[span.start as usize..span.end as usize])?;
@@ -174,8 +174,8 @@ pub fn copy_within<S: LineStore, O: Sink>(
     from: u64,
     to: u64,
 ) -> Result<Tail, ApplyFault>
-    ensures written { IfOk result (λ now. (lines : List (List ℕ)) → (S.seen store.old).told ≡ Some lines → 1 ≤ from → from ≤ to → to ≤ length lines + 1 → (more : List (List ℕ)) → Wrote (O.view out.old) (O.view out.new) tail now (lines_between lines from to ++ more) more) }
-    ensures part { OnErr result ((lines : List (List ℕ)) → (S.seen store.old).told ≡ Some lines → 1 ≤ from → from ≤ to → to ≤ length lines + 1 → (more : List (List ℕ)) → ReceivesPart (O.view out.old) (O.view out.new) (join_behind tail.is_open (lines_between lines from to ++ more))) }
+    ensures written { IfOk result (λ now. WhereHad (S.seen store.old) from to (λ these. WroteFront (O.view out.old) (O.view out.new) tail now these)) }
+    ensures part { OnErr result (WhereHad (S.seen store.old) from to (λ these. BrokeOff (O.view out.old) (O.view out.new) tail these)) }
     ensures keeps { Keeps (S.seen store.old) (S.seen store.new) }
     ensures sink { SinkPasses (O.view out.old) (O.view out.new) }
     ensures rest { O.same_rest out.old out.new }

@@ -4,6 +4,7 @@ ghost use Rattle.std.specs.Option.{option_copied};
 ghost use Rattle.outside.specs.SinkView.{Writes};
 ghost use Rattle.run_answers.specs.Answers.{is_ended};
 ghost use Rattle.run_answers.specs.Reasons.{refusal_line, is_tool, tool_of, reason_of, kind_text, decimal_if, text_of, behind_front, behind_first, behind_middle};
+ghost use Rattle.run_answers.specs.declared.why.Why.TheVariants.{Malformed};
 
 use crate::why::Why;
 use hunk_core::BadKind;
@@ -86,20 +87,15 @@ fn reason_of(why: Why) -> Reason
     match why {
         Why::Done | Why::Rejected => plain(b""),
         Why::Usage => plain(b"the words are not a command"),
-        Why::Malformed { line, kind } => {
-            numbered(b"malformed patch at line ", line, b": ", kind_text(kind))
-        }
+        Why::Malformed { line, kind } => malformed(line, kind),
         Why::Garbage => plain(b"Only garbage was found in the patch input."),
         Why::EdReverse { line } => {
-            numbered(b"the ed script at line ", line, b"", b" can't be reversed")
+            numbered(b"the ed script at line ", line, b" can't be reversed")
         }
-        Why::OutMany { count } => numbered(
-            b"-o takes one file patch, here are ",
-            u64::from(count),
-            b"",
-            b"",
-        ),
-        Why::Reserved { line } => numbered(b"a reserved name at line ", line, b"", b""),
+        Why::OutMany { count } => {
+            numbered(b"-o takes one file patch, here are ", u64::from(count), b"")
+        }
+        Why::Reserved { line } => numbered(b"a reserved name at line ", line, b""),
         Why::NoPatchFile => plain(b"Can't find the patch file"),
         Why::TooLong => plain(b"the patch is too long"),
         Why::LongLine { line, length } => Reason {
@@ -109,27 +105,21 @@ fn reason_of(why: Why) -> Reason
             second: Some(length),
             end: b" bytes, more than the buffer holds",
         },
-        Why::FileTooLong { length } => {
-            numbered(b"a file of ", length, b"", b" bytes is too long")
-        }
+        Why::FileTooLong { length } => numbered(b"a file of ", length, b" bytes is too long"),
         Why::BadPattern => plain(b"the pattern can't be read"),
-        Why::NoContext { line } => numbered(
-            b"the patch at line ",
-            line,
-            b"",
-            b" lacks what the form shows",
-        ),
-        Why::Unfit { line } => {
-            numbered(b"the patch at line ", line, b"", b" doesn't fit the form")
+        Why::NoContext { line } => {
+            numbered(b"the patch at line ", line, b" lacks what the form shows")
         }
+        Why::Unfit { line } => numbered(b"the patch at line ", line, b" doesn't fit the form"),
         Why::BadState { file: _ } => plain(b"the stack's state can't be read"),
-        Why::StackEnd { applied } => numbered(
-            b"",
-            u64::from(applied),
-            b"",
-            b" patches are applied, nothing to do",
-        ),
-        Why::StackName { line } => numbered(b"a name of the stack at line ", line, b"", b""),
+        Why::StackEnd { applied } => {
+            numbered(
+                b"",
+                u64::from(applied),
+                b" patches are applied, nothing to do",
+            )
+        }
+        Why::StackName { line } => numbered(b"a name of the stack at line ", line, b""),
         Why::ReadFault => plain(b"read fault"),
         Why::WriteFault => plain(b"write fault"),
         Why::TreeFault => plain(b"tree fault"),
@@ -159,15 +149,28 @@ fn plain(text: &'static [u8]) -> Reason
 }
 
 /// A reason with one number.
-fn numbered(front: &'static [u8], number: u64, middle: &'static [u8], end: &'static [u8]) -> Reason
-    ensures { text_of result ≡ front.now ++ (decimal_if (Some number) ++ (middle.now ++ end.now)) }
+fn numbered(front: &'static [u8], number: u64, end: &'static [u8]) -> Reason
+    ensures { text_of result ≡ front.now ++ (decimal_if (Some number) ++ end.now) }
 {
     Reason {
         front,
         first: Some(number),
-        middle,
+        middle: b"",
         second: None,
         end,
+    }
+}
+
+/// The first fault of a patch text.
+fn malformed(line: u64, kind: BadKind) -> Reason
+    ensures { text_of result ≡ reason_of (Malformed line kind) }
+{
+    Reason {
+        front: b"malformed patch at line ",
+        first: Some(line),
+        middle: b": ",
+        second: None,
+        end: kind_text(kind),
     }
 }
 

@@ -36,3 +36,36 @@ returns-clause-value g c lines told =
     c.last_pass-pass.ensures.follows (omega arith)
     (c.in-Ok.ensures.keeps.told ∙ told)
     c.last_pass-pass.ensures.last)
+
+pub returns-in-Err-clause-held : goal.returns-in-Err-clause-held
+returns-in-Err-clause-held g c = c.in-Err.ensures.held
+
+pub returns-in-Err-clause-marked : goal.returns-in-Err-clause-marked
+returns-in-Err-clause-marked g c = c.in-Err.ensures.marked
+
+pub returns-in-Err-clause-other : goal.returns-in-Err-clause-other
+returns-in-Err-clause-other g c = c.in-Err.ensures.other
+
+pub returns-in-Err-clause-keeps : goal.returns-in-Err-clause-keeps
+returns-in-Err-clause-keeps g c = c.in-Err.ensures.keeps
+
+pub returns-in-Err-clause-cause : goal.returns-in-Err-clause-cause
+returns-in-Err-clause-cause g c = c.in-Err.ensures.cause
+
+pub returns-in-Err-clause-on : goal.returns-in-Err-clause-on
+returns-in-Err-clause-on g c = tt
+
+pub returns-in-Err-clause-within : goal.returns-in-Err-clause-within
+returns-in-Err-clause-within g c = tt
+
+pub returns-in-Err-clause-value : goal.returns-in-Err-clause-value
+returns-in-Err-clause-value g c = tt
+
+pub returns-in-Err-clause-between : goal.returns-in-Err-clause-between
+returns-in-Err-clause-between g c = tt
+
+pub returns-clause-marked : goal.returns-clause-marked
+returns-clause-marked g c = c.in-Ok.ensures.marked
+
+pub returns-clause-cause : goal.returns-clause-cause
+returns-clause-cause g c = tt

@@ -51,3 +51,24 @@ loop-end-preserved g c =
           (part-of-front (c.in-Some.end - c.loop-end.at) c.loop-end.at c.args.got (page_of c.args.pair.now First) (omega arith) ∙ ap (λ p. take (c.in-Some.end - c.loop-end.at) (drop c.loop-end.at p)) (sym c.loop-end.invariant.first))
           c.in-Ok.ensures.room c.in-Ok.ensures.filled;
     }
+
+pub returns-in-Err-clause-size : goal.returns-in-Err-clause-size
+returns-in-Err-clause-size g c = c.in-Err.ensures.size ∙ c.loop-end.invariant.size
+
+pub returns-in-Err-clause-passes : goal.returns-in-Err-clause-passes
+returns-in-Err-clause-passes g c = scratch_passes_both c.loop-end.invariant.passes c.in-Err.ensures.passes
+
+pub returns-in-Err-clause-ready : goal.returns-in-Err-clause-ready
+returns-in-Err-clause-ready g c = tt
+
+pub returns-in-Err-clause-count : goal.returns-in-Err-clause-count
+returns-in-Err-clause-count g c = tt
+
+pub returns-in-Err-clause-within : goal.returns-in-Err-clause-within
+returns-in-Err-clause-within g c = tt
+
+pub returns-in-Err-clause-left : goal.returns-in-Err-clause-left
+returns-in-Err-clause-left g c = tt
+
+pub returns-in-Err-clause-copies : goal.returns-in-Err-clause-copies
+returns-in-Err-clause-copies g c = tt

@@ -57,3 +57,33 @@ returns-in-Err-clause-cause g c =
     let file : told_file (tree c.args.tree.now) c.args.name.now ≡ Some (bytes_at f c.args.name.now) = rw told refl in
     let len : length (bytes_at f c.args.name.now) ≡ c.args.length = c.requires.stated (bytes_at f c.args.name.now) file in
     copied-count c.args.layout (view c.loop-copied.scratch).told (told_file (tree c.args.tree.now) c.args.name.now) (page_of c.loop-copied.pair Second) (bytes_at f c.args.name.now) c.loop-copied.copied.at c.loop-copied.copied.filling c.loop-copied.invariant.copied file (omega arith) (c.requires.measured (bytes_at f c.args.name.now) file) other))
+
+pub returns-in-Ok-clause-untouched : goal.returns-in-Ok-clause-untouched
+returns-in-Ok-clause-untouched g c = c.loop-copied.invariant.untouched
+
+pub returns-in-Ok-clause-size : goal.returns-in-Ok-clause-size
+returns-in-Ok-clause-size g c = c.in-Ok.ensures.size ∙ c.loop-copied.invariant.size
+
+pub returns-in-Ok-clause-passes : goal.returns-in-Ok-clause-passes
+returns-in-Ok-clause-passes g c = scratch_passes_both c.loop-copied.invariant.passes c.in-Ok.ensures.passes
+
+pub returns-in-Err-clause-untouched : goal.returns-in-Err-clause-untouched
+returns-in-Err-clause-untouched g c = c.loop-copied.invariant.untouched
+
+pub returns-in-Err-clause-size : goal.returns-in-Err-clause-size
+returns-in-Err-clause-size g c = c.in-Err.ensures.size ∙ c.loop-copied.invariant.size
+
+pub returns-in-Err-clause-passes : goal.returns-in-Err-clause-passes
+returns-in-Err-clause-passes g c = scratch_passes_both c.loop-copied.invariant.passes c.in-Err.ensures.passes
+
+pub returns-in-Ok-clause-cause : goal.returns-in-Ok-clause-cause
+returns-in-Ok-clause-cause g c = tt
+
+pub returns-in-Err-clause-written : goal.returns-in-Err-clause-written
+returns-in-Err-clause-written g c = tt
+
+pub returns-in_err-copied-clause-size : goal.returns-in_err-copied-clause-size
+returns-in_err-copied-clause-size g c = c.in_err-copied.ensures.size ∙ c.loop-copied.invariant.size
+
+pub returns-in_err-copied-clause-passes : goal.returns-in_err-copied-clause-passes
+returns-in_err-copied-clause-passes g c = scratch_passes_both c.loop-copied.invariant.passes c.in_err-copied.ensures.passes

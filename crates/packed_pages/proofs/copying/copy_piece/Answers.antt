@@ -68,3 +68,66 @@ returns-clause-copied g c =
     (λ text file.
     let len : length text ≡ c.args.length = c.requires.stated text file in
     part-made text (page_of c.read_piece.new.pair First) c.args.copied.at c.in_ok-got.got (eqb (c.args.copied.at + c.in_ok-got.got) c.args.length) (c.in_ok-got.ensures.bytes text file) (omega arith) (λ is. eqb-true _ _ is ∙ sym len))
+
+pub returns-in-Err-clause-untouched : goal.returns-in-Err-clause-untouched
+returns-in-Err-clause-untouched g c = c.in_ok-got.ensures.untouched
+
+pub returns-in-Err-clause-size : goal.returns-in-Err-clause-size
+returns-in-Err-clause-size g c = c.copy_lines.ensures.size ∙ c.in_ok-got.ensures.size
+
+pub returns-in-Err-clause-passes : goal.returns-in-Err-clause-passes
+returns-in-Err-clause-passes g c = c.copy_lines.ensures.passes
+
+pub returns-in-Err-clause-ready : goal.returns-in-Err-clause-ready
+returns-in-Err-clause-ready g c = tt
+
+pub returns-in-Err-clause-few : goal.returns-in-Err-clause-few
+returns-in-Err-clause-few g c = tt
+
+pub returns-in-Err-clause-on : goal.returns-in-Err-clause-on
+returns-in-Err-clause-on g c = tt
+
+pub returns-in-Err-clause-within : goal.returns-in-Err-clause-within
+returns-in-Err-clause-within g c = tt
+
+pub returns-in-Err-clause-copied : goal.returns-in-Err-clause-copied
+returns-in-Err-clause-copied g c = tt
+
+pub returns-then-now-eq0-clause-untouched : goal.returns-then-now-eq0-clause-untouched
+returns-then-now-eq0-clause-untouched g c = c.in_ok-got.ensures.untouched
+
+pub returns-then-now-eq0-clause-size : goal.returns-then-now-eq0-clause-size
+returns-then-now-eq0-clause-size g c = c.copy_lines.ensures.size ∙ c.in_ok-got.ensures.size
+
+pub returns-then-now-eq0-clause-passes : goal.returns-then-now-eq0-clause-passes
+returns-then-now-eq0-clause-passes g c = c.copy_lines.ensures.passes
+
+pub returns-then-now-eq0-clause-ready : goal.returns-then-now-eq0-clause-ready
+returns-then-now-eq0-clause-ready g c = tt
+
+pub returns-then-now-eq0-clause-few : goal.returns-then-now-eq0-clause-few
+returns-then-now-eq0-clause-few g c = tt
+
+pub returns-then-now-eq0-clause-on : goal.returns-then-now-eq0-clause-on
+returns-then-now-eq0-clause-on g c = tt
+
+pub returns-then-now-eq0-clause-within : goal.returns-then-now-eq0-clause-within
+returns-then-now-eq0-clause-within g c = tt
+
+pub returns-then-now-eq0-clause-copied : goal.returns-then-now-eq0-clause-copied
+returns-then-now-eq0-clause-copied g c = tt
+
+pub returns-clause-untouched : goal.returns-clause-untouched
+returns-clause-untouched g c = c.in_ok-got.ensures.untouched
+
+pub returns-clause-size : goal.returns-clause-size
+returns-clause-size g c = c.copy_lines.ensures.size ∙ c.in_ok-got.ensures.size
+
+pub returns-clause-passes : goal.returns-clause-passes
+returns-clause-passes g c = c.copy_lines.ensures.passes
+
+pub returns-clause-ready : goal.returns-clause-ready
+returns-clause-ready g c = c.in-Ok.ensures.ready
+
+pub returns-clause-cause : goal.returns-clause-cause
+returns-clause-cause g c = tt

@@ -36,3 +36,24 @@ returns-clause-filled g c ls was =
     (record { room = record { pages = f.room.pages + 1; filled = 4 + c.args.count }; first = f.count + 1; count = f.count + 1 }) ls
     (ap (λ n. record { pages = f.room.pages + 1; filled = 4 + n }) (sym len)) refl refl (omega arith) c.requires.ready.filled (omega arith) c.flush.ensures.passes.telling c.in-Ok.ensures.written
     (subst (λ n. Extends (page_of c.flush.new.pair Second) (page_of c.make_record-2.new.pair Second) 0 (record_of (4 + n) (take c.args.count (drop c.args.from (page_of c.args.pair.now First))))) (sym len) made) was
+
+pub returns-in-Err-clause-size : goal.returns-in-Err-clause-size
+returns-in-Err-clause-size g c = c.in-Err.ensures.size
+
+pub returns-in-Err-clause-first : goal.returns-in-Err-clause-first
+returns-in-Err-clause-first g c = c.in-Err.ensures.first
+
+pub returns-in-Err-clause-passes : goal.returns-in-Err-clause-passes
+returns-in-Err-clause-passes g c = c.in-Err.ensures.passes
+
+pub returns-in-Err-clause-ready : goal.returns-in-Err-clause-ready
+returns-in-Err-clause-ready g c = tt
+
+pub returns-in-Err-clause-count : goal.returns-in-Err-clause-count
+returns-in-Err-clause-count g c = tt
+
+pub returns-in-Err-clause-room : goal.returns-in-Err-clause-room
+returns-in-Err-clause-room g c = tt
+
+pub returns-in-Err-clause-filled : goal.returns-in-Err-clause-filled
+returns-in-Err-clause-filled g c = tt

@@ -16,3 +16,39 @@ returns-in-Some-clause-loaded g c =
 
 pub returns-in-Some-clause-line : goal.returns-in-Some-clause-line
 returns-in-Some-clause-line g c = near-line c.page.result.now c.get.result c.args.k c.in-Some.place c.in-Some.ensures
+
+pub returns-in-None-clause-size : goal.returns-in-None-clause-size
+returns-in-None-clause-size g c = c.find_line.ensures.size
+
+pub returns-in-None-clause-other : goal.returns-in-None-clause-other
+returns-in-None-clause-other g c = c.find_line.ensures.other
+
+pub returns-in-None-clause-marked : goal.returns-in-None-clause-marked
+returns-in-None-clause-marked g c = c.find_line.ensures.marked
+
+pub returns-in-None-clause-loaded : goal.returns-in-None-clause-loaded
+returns-in-None-clause-loaded g c = c.find_line.ensures.loaded
+
+pub returns-in-None-clause-line : goal.returns-in-None-clause-line
+returns-in-None-clause-line g c = c.find_line.ensures.line
+
+pub returns-in-None-clause-passes : goal.returns-in-None-clause-passes
+returns-in-None-clause-passes g c = c.find_line.ensures.passes
+
+pub returns-in-None-clause-told : goal.returns-in-None-clause-told
+returns-in-None-clause-told g c = c.find_line.ensures.told
+
+pub returns-in-None-clause-reads : goal.returns-in-None-clause-reads
+returns-in-None-clause-reads g c = c.find_line.ensures.reads
+
+pub returns-in-None-clause-still : goal.returns-in-None-clause-still
+returns-in-None-clause-still g c = c.find_line.ensures.still
+
+pub returns-in-None-clause-cause : goal.returns-in-None-clause-cause
+returns-in-None-clause-cause g c = c.find_line.ensures.cause
+
+pub returns-in-Some-clause-marked : goal.returns-in-Some-clause-marked
+returns-in-Some-clause-marked g c = c.requires.marked
+
+pub returns-in-Some-clause-cause : goal.returns-in-Some-clause-cause
+returns-in-Some-clause-cause g c = tt

@@ -28,3 +28,15 @@ returns-in-Some-clause-page g c x is b told =
     let view = g.C.Scratch.view in
     let reaches = subst (λ page. IfReaches page (place_of c.args.places.now c.args.half) c.args.k (Some c.in-Some.at)) c.page.ensures.is c.in-Some.ensures in
     moved-page c.args.pair.now c.args.layout c.args.places.now (view c.args.scratch.now) c.args.half (place_of c.args.places.now c.args.half) c.args.k c.in-Some.at x b c.requires.held refl reaches c.requires.low c.requires.high (sym c.go_to.ensures.held ∙ is) told
+
+pub returns-in-Some-clause-marked : goal.returns-in-Some-clause-marked
+returns-in-Some-clause-marked g c = c.requires.marked
+
+pub returns-in-Some-clause-dropped : goal.returns-in-Some-clause-dropped
+returns-in-Some-clause-dropped g c = tt
+
+pub returns-in-Some-clause-cause : goal.returns-in-Some-clause-cause
+returns-in-Some-clause-cause g c = tt
+
+pub returns-in-Some-clause-other : goal.returns-in-Some-clause-other
+returns-in-Some-clause-other g c = c.go_to.ensures.other
