@@ -6,6 +6,7 @@ mod First
 mod StartTaken
 mod Filling
 mod PastMarks
+mod MoreWritten
 mod Folding
 mod Marks
 mod Ready

@@ -88,14 +88,24 @@ marks-kept o v w vs ws n (p ∷ ps) (r ∷ rs) text output skips within same =
     ∙ ap (λ (l : List Mark). mark_in o v vs (p, r) ∷ l) (marks-kept o v w vs ws n ps rs text output skips (All-tail (EndsWithin n) p ps within) same)
 
 -- where only verdicts behind them change
-pub marks-front : (o : PlainOptions) (v : SetView) (k n : ℕ) (vs ws : List Verdict) → AreNumbered 0 v.patches → hunks_in (take k v.patches) ≤ n → take n ws ≡ take n vs → marks o v k ws ≡ marks o v k vs
+marks-front : (o : PlainOptions) (v : SetView) (k n : ℕ) (vs ws : List Verdict) → AreNumbered 0 v.patches → hunks_in (take k v.patches) ≤ n → take n ws ≡ take n vs → marks o v k ws ≡ marks o v k vs
 unfolding marks
 marks-front o v k n vs ws is le same =
     marks-kept o v v vs ws n (take k v.patches) v.rows refl refl refl (numbered-within 0 n (take k v.patches) (numbered-take 0 k v.patches is) (omega (arith, le))) same
 
-mark-alone : (o : PlainOptions) (v : SetView) (k : ℕ) (vs : List Verdict) (p : FilePatch) (r : Row) (l : List Verdict) → mark_of (alone o v p) r l ≡ mark_of (turn_at o v k vs p) r l
+-- so the verdicts in front of those of the next one tell as much
+pub marks-before : (o : PlainOptions) (v : SetView) (k : ℕ) (p : FilePatch) (vs front : List Verdict) → AreNumbered 0 v.patches → k < length v.patches → p ≡ get_or v.patches k p → front ≡ take p.first_verdict vs → marks o v k front ≡ marks o v k vs
+marks-before o v k p vs front is lt at same =
+    let first = numbered-first 0 k v.patches p is lt at in
+    marks-front o v k p.first_verdict vs front is (omega (arith, first)) (ap (λ (l : List Verdict). take p.first_verdict l) same ∙ take-take p.first_verdict p.first_verdict vs (omega arith))
+
+pub mark-alone : (o : PlainOptions) (v : SetView) (k : ℕ) (vs : List Verdict) (p : FilePatch) (r : Row) (l : List Verdict) → mark_of (alone o v p) r l ≡ mark_of (turn_at o v k vs p) r l
 unfolding mark_of
 mark-alone o v k vs p r l = refl
+
+pub marks-none : (o : PlainOptions) (v : SetView) (vs : List Verdict) → marks o v 0 vs ≡ []
+unfolding marks
+marks-none o v vs = refl
 
 pub marks-next : (o : PlainOptions) (v : SetView) (k : ℕ) (p : FilePatch) (r : Row) (vs ws : List Verdict) → AreNumbered 0 v.patches → k < length v.patches → length v.rows ≡ length v.patches → p ≡ get_or v.patches k p → take p.first_verdict ws ≡ take p.first_verdict vs
     → marks o (with_row v k r) (k + 1) ws ≡ marks o v k vs ++ mark_of (turn_at o v k vs p) r (rows_in ws p) ∷ []

@@ -30,6 +30,28 @@ own_text t r vs name w is by same = sym (
     ∙ ap (λ (o : Option Target). text_if name (option_map (λ x. (x.reject, own_reject t x r.side vs)) o)) by
     ∙ ap (λ (b : Bool). if b then own_reject t w r.side vs else []) same)
 
+-- one whose rejects go to another file
+pub other_text : (t : PlainTurn) (r : Row) (vs : List Verdict) (name : List ℕ) (w : Target) → written_by t r ≡ Some w → bytes_eq name w.reject ≡ false → [] ≡ text_if name (mark_of t r vs).rejected
+unfolding mark_of
+other_text t r vs name w by other = sym (
+    ap (λ (o : Option Target). text_if name (if has_rejects t vs && not t.options.dry_run then option_map (λ x. (x.reject, own_reject t x r.side vs)) o else None)) by
+    ∙ none (has_rejects t vs && not t.options.dry_run))
+  where
+    none : (b : Bool) → text_if name (if b then Some (w.reject, own_reject t w r.side vs) else None) ≡ []
+    none true = ap (λ (same : Bool). if same then own_reject t w r.side vs else []) other
+    none false = refl
+
+-- one that chose no target
+pub no_writer : (t : PlainTurn) (r : Row) (vs : List Verdict) (name : List ℕ) → written_by t r ≡ None → [] ≡ text_if name (mark_of t r vs).rejected
+unfolding mark_of
+no_writer t r vs name by = sym (
+    ap (λ (o : Option Target). text_if name (if has_rejects t vs && not t.options.dry_run then option_map (λ x. (x.reject, own_reject t x r.side vs)) o else None)) by
+    ∙ none (has_rejects t vs && not t.options.dry_run))
+  where
+    none : (b : Bool) → text_if name (if b then None else None) ≡ []
+    none true = refl
+    none false = refl
+
 -- both, from how they are tested
 pub not_both : (a b : Bool) → b ≡ true → (a && not b) ≡ false
 not_both true b is = ap not is

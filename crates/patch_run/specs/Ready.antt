@@ -1,8 +1,10 @@
 -- What a file patch needs before its turn comes.
-use Rattle.std.specs.Prelude.{◌≡◌, ℕ, ◌+◌, ◌<◌, ◌≤◌, ◌^◌, List, [], ◌∷◌, length, map, take, drop, All}
+use Rattle.std.specs.Prelude.{◌≡◌, ℕ, ◌+◌, ◌<◌, ◌≤◌, ◌^◌, List, [], ◌∷◌, length, map, take, drop, All, Option}
 use Rattle.std.specs.List.{zip}
 use Rattle.std.specs.Option.{ForSome}
 use Rattle.hunk_core.specs.declared.Verdict.{Verdict}
+use Rattle.name_marks.specs.Marked.{is_marked}
+use Rattle.name_marks.specs.declared.marks.NameMarks.{NameMarks}
 use Rattle.patch_options.specs.PlainJob.{PlainOptions, HasContext, IsMacroName}
 use Rattle.file_patch.specs.declared.FilePatch.{FilePatch}
 use Rattle.file_patch.specs.PlainPatch.{row_count}
@@ -10,7 +12,7 @@ use Rattle.file_patch.specs.Absent.{IsLawfulPatch}
 use Rattle.patch_set.specs.declared.set.Row.{Row}
 use Rattle.patch_set.specs.SetView.{SetView}
 use Rattle.patch_effects.specs.Named.{IsNamed}
-use Rattle.patch_run.specs.OnePatch.{Mark, PlainTurn, mark_of}
+use Rattle.patch_run.specs.OnePatch.{Mark, PlainTurn, mark_of, was_written}
 use Rattle.patch_run.specs.Run.{item_of}
 
 -- the verdicts on the hunks of a file patch
@@ -39,6 +41,10 @@ marks o v count verdicts = map (mark_in o v verdicts) (zip (take count v.patches
 -- the verdicts of the first file patches of a set are there
 abbrev pub HasVerdicts : SetView → ℕ → List Verdict → Type 0
 HasVerdicts v count verdicts = All (λ p. p.first_verdict + row_count p.change ≤ length verdicts) (take count v.patches)
+
+-- the names that file patches with these marks made or took away, where they are kept
+abbrev pub AreWritten : Option NameMarks → List Mark → Type 0
+AreWritten names past = ForSome names (λ n. (q : List ℕ) → is_marked n q ≡ was_written past q)
 
 -- a set whose file patches are carried out with these options
 pub record IsReady (o : PlainOptions) (v : SetView) : Type 0 where

@@ -18,6 +18,7 @@ mod tell;
 mod turn;
 mod weighing;
 mod word;
+mod written;
 
 pub use applied::Applied;
 pub use laws::{effect_laws, name_laws, run_laws};

@@ -1,11 +1,13 @@
 //! What the file patches before one did.
 
-ghost use Rattle.std.specs.Prelude.{◌≡◌, ◌<◌, ◌≤◌, ◌+◌, ◌^◌, length, slice_index_or, bytes_eq, option_map};
+ghost use Rattle.std.specs.Prelude.{◌≡◌, ◌<◌, ◌≤◌, ◌+◌, ◌^◌, All, length, slice_index_or, bytes_eq, option_map};
 ghost use Rattle.std.specs.Option.{ForSome, option_copied};
 ghost use Rattle.file_patch.specs.PlainPatch.{row_count};
 ghost use Rattle.patch_run.specs.OnePatch.{Mark, mark_of, has_name, is_name, was_written, written_by, renamed_by};
 ghost use Rattle.patch_effects.specs.Named.{IsNamed};
+ghost use Rattle.patch_options.specs.PlainJob.{PlainOptions};
 ghost use Rattle.patch_run.specs.Ready.{IsFit, alone, rows_in};
+ghost use Rattle.patch_set.specs.SetView.{SetView};
 ghost use Rattle.patch_run.specs.TurnView.{plain_turn, IsTurn};
 
 use crate::asking::renames;
@@ -14,7 +16,7 @@ use crate::turn::Turn;
 use file_patch::FilePatch;
 use hunk_core::Verdict;
 use outside::Name;
-use patch_set::Row;
+use patch_set::{PatchSet, Row};
 use target_names::Target;
 
 /// A file patch before one, and what was done with it.
@@ -61,33 +63,42 @@ fn row_count(patch: &FilePatch) -> usize
     patch.hunks() as usize
 }
 
-/// The target that it wrote, if it chose one.
-pub fn written_by<'a>(turn: &Turn<'a>, earlier: &Earlier<'a>) -> Option<&'a Target>
-    requires turn { IsTurn turn.now }
-    requires fit { IsFit turn.now.set.now.text earlier.now.patch.now }
-    ensures target { option_copied result ≡ written_by (alone (plain_turn turn.now).options turn.now.set.now earlier.now.patch.now) earlier.now.row }
-    ensures named { ForSome (option_copied result) IsNamed }
+/// The target that a file patch with this row wrote, if it chose one.
+pub fn written_by<'a>(set: &'a PatchSet, patch: &'a FilePatch, row: Row) -> Option<&'a Target>
+    ensures target { (o : PlainOptions) → option_copied result ≡ written_by (alone o set.now patch.now) row }
+    ensures named { ForSome set.now.output IsNamed → All IsNamed patch.now.targets.items → ForSome (option_copied result) IsNamed }
 {
-    if let Some(output) = turn.set.output() {
+    if let Some(output) = set.output() {
         return Some(output);
     }
-    let place = earlier.row.target?;
-    written_at(earlier.patch, place)
+    let place = row.target?;
+    written_at(patch, place)
 }
 
 /// The target whose file it renamed, if it chose one.
-fn renamed_by<'a>(turn: &Turn<'_>, earlier: &Earlier<'a>) -> Option<&'a Target>
-    ensures target { option_copied result ≡ renamed_by (alone (plain_turn turn.now).options turn.now.set.now earlier.now.patch.now) earlier.now.row }
+pub fn renamed_by<'a>(patch: &'a FilePatch, row: Row) -> Option<&'a Target>
+    ensures target { (o : PlainOptions) (v : SetView) → option_copied result ≡ renamed_by (alone o v patch.now) row }
 {
-    if !renames(earlier.patch) {
+    if !renames(patch) {
         return None;
     }
-    let place = earlier.row.target?;
-    target_in(earlier.patch, place)
+    let place = row.target?;
+    target_in(patch, place)
 }
 
 /// Whether one of those before it made or took away this name, as its target or from a file that it renamed.
 pub fn was_written(turn: &Turn<'_>, name: &Name) -> bool
+    requires turn { IsTurn turn.now }
+    ensures { result ≡ was_written (plain_turn turn.now).past name.now }
+{
+    match turn.written {
+        Some(names) => names.has(name),
+        None => is_found_written(turn, name),
+    }
+}
+
+/// The same by a walk over them.
+fn is_found_written(turn: &Turn<'_>, name: &Name) -> bool
     requires turn { IsTurn turn.now }
     ensures { result ≡ was_written (plain_turn turn.now).past name.now }
 {
@@ -99,19 +110,17 @@ pub fn was_written(turn: &Turn<'_>, name: &Name) -> bool
     false
 }
 
-#[tactic(auto, unfolding(crate::specs::OnePatch::mark_of))]
+/// Whether one of those before it did so.
 fn has_written(turn: &Turn<'_>, earlier: &Earlier<'_>, name: &Name) -> bool
-    requires turn { IsTurn turn.now }
-    requires fit { IsFit turn.now.set.now.text earlier.now.patch.now }
     ensures { result ≡ has_name name.now (mark_of (alone (plain_turn turn.now).options turn.now.set.now earlier.now.patch.now) earlier.now.row earlier.now.verdicts.now) }
 {
     if !earlier.row.wrote {
         return false;
     }
-    if is_name(name, written_by(turn, earlier)) {
+    if is_name(name, written_by(turn.set, earlier.patch, earlier.row)) {
         return true;
     }
-    is_name(name, renamed_by(turn, earlier))
+    is_name(name, renamed_by(earlier.patch, earlier.row))
 }
 
 /// Whether it is the name of this target.

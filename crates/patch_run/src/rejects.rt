@@ -139,7 +139,6 @@ fn put_earlier<O: Sink>(turn: &Turn<'_>, name: &Name, out: &mut O) -> Result<(),
 }
 
 /// Writes the reject text of one before it, if it goes to this file.
-#[tactic(auto, unfolding(crate::specs::OnePatch::mark_of))]
 fn put_if_to<O: Sink>(
     turn: &Turn<'_>,
     earlier: &Earlier<'_>,
@@ -155,7 +154,7 @@ fn put_if_to<O: Sink>(
     if turn.options.dry_run || !has_rejects(turn.options, earlier) {
         return Ok(());
     }
-    match written_by(turn, earlier) {
+    match written_by(turn.set, earlier.patch, earlier.row) {
         Some(target) => {
             if is_same(name, &target.reject) {
                 put_own(

@@ -1,6 +1,6 @@
 //! All file patches of a set.
 
-ghost use Rattle.std.specs.Prelude.{◌≡◌, ◌<◌, ◌≤◌, ◌+◌, ◌⊎◌, ◌||◌, ℕ, List, true, length, take, drop, replicate, slice_index_or, Some, IfOk, IfErr, OnOk};
+ghost use Rattle.std.specs.Prelude.{◌≡◌, ◌<◌, ◌≤◌, ◌+◌, ◌⊎◌, ◌||◌, ℕ, List, [], true, length, take, drop, replicate, slice_index_or, Some, IfOk, IfErr, OnOk};
 ghost use Rattle.outside.specs.Files.{Files};
 ghost use Rattle.outside.specs.Calls.{IsUntouched};
 ghost use Rattle.outside.specs.Quiet.{IsQuiet};
@@ -9,7 +9,7 @@ ghost use Rattle.file_patch.specs.PlainPatch.{row_count};
 ghost use Rattle.patch_options.specs.PlainJob.{plain_options, IsLawful};
 ghost use Rattle.patch_set.specs.SetView.{IsRead, hunks_in};
 ghost use Rattle.patch_run.specs.Run.{items_of, set_run};
-ghost use Rattle.patch_run.specs.Ready.{IsReady, AreNumbered, rows_in, turn_at};
+ghost use Rattle.patch_run.specs.Ready.{IsReady, AreNumbered, AreWritten, marks, rows_in, turn_at};
 ghost use Rattle.patch_run.specs.OnePatch.{ending};
 ghost use Rattle.patch_run.specs.Doing.{Does, Runs, IsReceipt, IsCutAt, NoneFailed, EndsSo, StaysSet, IsPlacedOn, IsPlacedLast};
 ghost use Rattle.patch_run.specs.Devices.{Told};
@@ -20,8 +20,10 @@ ghost use Rattle.hunk_apply.specs.Change.{change_verdicts};
 use crate::applied::Applied;
 use crate::apply::{Done, apply_one};
 use crate::turn::Turn;
+use crate::written::{room_for, with_row};
 use hunk_core::Verdict;
 use line_store::Plan;
+use name_marks::NameMarks;
 use outside::{Sink, Tree};
 use patch_effects::RunFault;
 use patch_options::Options;
@@ -63,7 +65,16 @@ pub fn apply_set<P: Plan, T: Tree, O: Sink>(
     ensures placed { OnOk result ((lines : List (List ℕ)) → (P.seen plan.new).told ≡ Some lines → IsPlacedLast (plain_options options.now) set.new set.new.verdicts lines) }
 {
     let mut verdicts = set.take_verdicts();
-    let applied = apply_all(set, options, verdicts.as_mut_slice(), plan, tree, out);
+    let written = room_for(*verdicts.allocator(), set, options);
+    let applied = apply_all(
+        set,
+        options,
+        verdicts.as_mut_slice(),
+        written,
+        plan,
+        tree,
+        out,
+    );
     set.give_verdicts(verdicts);
     applied
 }
@@ -73,6 +84,7 @@ fn apply_all<P: Plan, T: Tree, O: Sink>(
     set: &mut PatchSet,
     options: &Options,
     verdicts: &mut [Verdict],
+    written: Option<NameMarks>,
     plan: &mut P,
     tree: &mut T,
     out: &mut O,
@@ -80,6 +92,7 @@ fn apply_all<P: Plan, T: Tree, O: Sink>(
     requires lawful { IsLawful (plain_options options.now) }
     requires read { (given : List ℕ) × IsRead (plain_options options.now) given set.old }
     requires verdicts { length verdicts.old ≡ hunks_in set.old.patches }
+    requires written { AreWritten written [] }
     requires size { (P.seen plan.old).size ≡ options.now.buffer }
     requires quiet { IsQuiet (T.view tree.old) }
     ensures runs { Runs (T.view tree.old) (T.view tree.new) (P.seen plan.old) (P.seen plan.new) (O.view out.old) (O.view out.new) P.scratch_after result (set_run (plain_options options.now) set.old) }
@@ -95,8 +108,10 @@ fn apply_all<P: Plan, T: Tree, O: Sink>(
     let count = set.patches().len() as u32;
     let mut is_bad = false;
     let mut effects = 0;
+    let mut written = written;
     for k in 0..count {
-        let done = apply_at(set, k, options, verdicts, plan, tree, out)?;
+        let done = apply_at(set, k, options, verdicts, &written, plan, tree, out)?;
+        written = with_row(written, set, k, done.row);
         set.note(k, done.row);
         is_bad = either(is_bad, done.is_bad);
         effects += done.effects;
@@ -116,6 +131,7 @@ fn apply_at<P: Plan, T: Tree, O: Sink>(
     k: u32,
     options: &Options,
     verdicts: &mut [Verdict],
+    written: &Option<NameMarks>,
     plan: &mut P,
     tree: &mut T,
     out: &mut O,
@@ -124,6 +140,7 @@ fn apply_at<P: Plan, T: Tree, O: Sink>(
     requires ready { IsReady (plain_options options.now) set.now }
     requires numbered { AreNumbered 0 set.now.patches }
     requires verdicts { length verdicts.old ≡ hunks_in set.now.patches }
+    requires written { AreWritten written.now (marks (plain_options options.now) set.now k verdicts.old) }
     requires size { (P.seen plan.old).size ≡ options.now.buffer }
     requires quiet { IsQuiet (T.view tree.old) }
     ensures does { (p : ThePatch) → p ≡ slice_index_or set.now.patches k p
@@ -144,6 +161,7 @@ fn apply_at<P: Plan, T: Tree, O: Sink>(
         patch,
         count: k,
         verdicts: before,
+        written,
     };
     apply_front(&turn, behind, plan, tree, out)
 }

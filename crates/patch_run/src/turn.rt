@@ -2,6 +2,7 @@
 
 use file_patch::FilePatch;
 use hunk_core::Verdict;
+use name_marks::NameMarks;
 use patch_options::Options;
 use patch_set::PatchSet;
 
@@ -15,4 +16,6 @@ pub struct Turn<'a> {
     pub count: u32,
     /// The verdicts on the hunks of those.
     pub verdicts: &'a [Verdict],
+    /// The names that those made or took away, where these are kept.
+    pub written: &'a Option<NameMarks>,
 }

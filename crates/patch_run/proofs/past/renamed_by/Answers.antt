@@ -5,14 +5,14 @@ use Rattle.patch_run.proofs.past.renamed_by.Goals as goal
 
 pub returns-then-not-renames : goal.returns-then-not-renames
 returns-then-not-renames c = record {
-  target = sym (ap (λ b. if b then option_and_then (slice_get c.args.earlier.now.patch.now.targets.items) c.args.earlier.now.row.target else None) (sym (c.renames.ensures c.args.turn.now.set.now.text) ∙ c.if-not-renames.true));
+  target = λ o v. sym (ap (λ b. if b then option_and_then (slice_get c.args.patch.now.targets.items) c.args.row.target else None) (sym (c.renames.ensures v.text) ∙ c.if-not-renames.true));
 }
 
 pub returns : goal.returns
 returns c =
-    let targets = c.args.earlier.now.patch.now.targets.items in
+    let targets = c.args.patch.now.targets.items in
     record {
-      target = c.target_in.ensures.target
-          ∙ sym (ap (λ b. if b then option_and_then (slice_get targets) c.args.earlier.now.row.target else None) (sym (c.renames.ensures c.args.turn.now.set.now.text) ∙ c.if-not-renames.false)
+      target = λ o v. c.target_in.ensures.target
+          ∙ sym (ap (λ b. if b then option_and_then (slice_get targets) c.args.row.target else None) (sym (c.renames.ensures v.text) ∙ c.if-not-renames.false)
           ∙ ap (option_and_then (slice_get targets)) c.in_ok-place.was);
     }

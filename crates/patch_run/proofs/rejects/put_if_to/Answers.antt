@@ -4,7 +4,7 @@ use Rattle.patch_options.specs.PlainJob.{plain_options}
 use Rattle.outside.proofs.Writing.{writes_none, writes_is}
 use Rattle.patch_run.specs.OnePatch.{PlainTurn, has_rejects}
 use Rattle.patch_run.specs.Ready.{alone}
-use Rattle.patch_run.proofs.Rejecting.{no_text, own_text, not_both, both, rejected_hunks}
+use Rattle.patch_run.proofs.Rejecting.{no_text, own_text, other_text, no_writer, not_both, both, rejected_hunks}
 use Rattle.patch_run.proofs.rejects.put_if_to.Goals as goal
 use Rattle.patch_run.proofs.rejects.put_if_to.Goals.{then-turn-via-then-turn, then-turn-via-else-turn+then-not-has_rejects}
 
@@ -20,7 +20,7 @@ returns-then-turn-clause-writes g c =
     ]))
 
 pub put_own-requires-clause-named : goal.put_own-requires-clause-named
-put_own-requires-clause-named g c = c.written_by.ensures.named c.in-Some.target.now (ap option_copied c.in-Some.is)
+put_own-requires-clause-named g c = c.written_by.ensures.named c.requires.turn.ready.output c.requires.fit.named c.in-Some.target.now (ap option_copied c.in-Some.is)
 
 pub put_own-requires-clause-hunks : goal.put_own-requires-clause-hunks
 put_own-requires-clause-hunks g c =
@@ -36,5 +36,21 @@ returns-then-is_same-clause-writes g c =
     let t : PlainTurn = alone (plain_options turn.options.now) turn.set.now e.patch.now in
     writes_is c.put_own.result _ c.put_own.ensures.writes (own_text t e.row e.verdicts.now c.args.name.now c.in-Some.target.now
     (both (has_rejects t e.verdicts.now) t.options.dry_run (sym (c.has_rejects.ensures t turn.set.now.text refl refl) ∙ c.if-not-has_rejects.false) c.if-turn.false)
-    (sym c.written_by.ensures.target ∙ ap option_copied c.in-Some.is)
+    (sym (c.written_by.ensures.target t.options) ∙ ap option_copied c.in-Some.is)
     (sym c.is_same.ensures ∙ c.if-is_same.true))
+
+pub returns-else-is_same-clause-writes : goal.returns-else-is_same-clause-writes
+returns-else-is_same-clause-writes g c =
+    let turn = c.args.turn.now in
+    let e = c.args.earlier.now in
+    let t : PlainTurn = alone (plain_options turn.options.now) turn.set.now e.patch.now in
+    writes_is (Ok tt) _ (writes_none (g.O.Sink.view c.args.out.now) tt) (other_text t e.row e.verdicts.now c.args.name.now c.in-Some.target.now
+    (sym (c.written_by.ensures.target t.options) ∙ ap option_copied c.in-Some.is)
+    (sym c.is_same.ensures ∙ c.if-is_same.false))
+
+pub returns-in-None-clause-writes : goal.returns-in-None-clause-writes
+returns-in-None-clause-writes g c =
+    let turn = c.args.turn.now in
+    let e = c.args.earlier.now in
+    let t : PlainTurn = alone (plain_options turn.options.now) turn.set.now e.patch.now in
+    writes_is (Ok tt) _ (writes_none (g.O.Sink.view c.args.out.now) tt) (no_writer t e.row e.verdicts.now c.args.name.now (sym (c.written_by.ensures.target t.options) ∙ ap option_copied c.in-None.is))

@@ -1,12 +1,13 @@
-use Rattle.std.proofs.Common.{◌≡◌, ◌+◌, ◌<◌, ◌||◌, List, length, Bool, refl, sym, ◌∙◌, ap, subst, arith}
+use Rattle.std.proofs.Common.{◌≡◌, ◌+◌, ◌<◌, ◌||◌, List, [], ◌∷◌, ◌++◌, length, Bool, refl, sym, ◌∙◌, ap, subst, arith}
 use Rattle.std.proofs.lemmas.List.{length-set}
 use Rattle.outside.specs.Calls.{untouched_none, untouched_both}
 use Rattle.file_patch.specs.declared.FilePatch.{FilePatch}
 use Rattle.patch_options.specs.PlainJob.{plain_options}
 use Rattle.patch_set.specs.SetView.{SetView, hunks_in, with_row}
-use Rattle.patch_run.specs.Ready.{AreNumbered}
+use Rattle.patch_run.specs.Ready.{AreNumbered, AreWritten, marks, rows_in}
 use Rattle.patch_run.specs.Doing.{StaysSet}
-use Rattle.patch_run.proofs.Marks.{patch-there}
+use Rattle.patch_run.specs.OnePatch.{Mark}
+use Rattle.patch_run.proofs.Marks.{patch-there, marks-none, marks-next, mark-alone}
 use Rattle.patch_run.proofs.Ready.{ready, ready_still, numbered}
 use Rattle.patch_run.proofs.Going.{IsAt, IsNext, run_to, goes_none, goes_on, at_none, at_next}
 use Rattle.patch_run.proofs.RunEnds.{IsPlacedTo, cut_ends, runs_cut, runs_all, placed_none, placed_next}
@@ -27,6 +28,7 @@ loop-k-init g c =
       rest = g.met.O.Sink.rest_none _;
       dry = λ dry. untouched_none u;
       at = λ f told. at_none u a d g.P.Plan.scratch_after o c.args.set.now c.args.verdicts.now f c.requires.quiet told;
+      written = subst (λ (past : List Mark). AreWritten c.args.written past) (sym (marks-none o c.args.set.now c.args.verdicts.now)) c.requires.written;
       placed = λ lines told. placed_none o c.args.set.now c.args.verdicts.now lines;
     }
 
@@ -129,6 +131,10 @@ loop-k-preserved g c =
           subst (λ (s : SetView). IsAt u w a b' d h g.P.Plan.scratch_after o s (k + 1) ws c.either-is_bad.result count (run_to o s (k + 1) f)) noted
           (subst (λ (bad : Bool). IsAt u w a b' d h g.P.Plan.scratch_after o (with_row v k done.row) (k + 1) ws bad count (run_to o v (k + 1) f)) is_bad
           (at_next o v k p.0 vs ws next f u x w a b b' d e h was done inv.goes.plan.size ended));
+      written = subst (λ (s : SetView). AreWritten c.with_row-written.result (marks o s (k + 1) ws)) noted
+          (subst (λ (past : List Mark). AreWritten c.with_row-written.result past) (sym (marks-next o v k p.0 done.row vs ws places lt inv.rows p.1 next.before))
+          (subst (λ (m : Mark). AreWritten c.with_row-written.result (marks o v k vs ++ m ∷ [])) (mark-alone o v k vs p.0 done.row (rows_in ws p.0))
+          (c.with_row-written.ensures o (marks o v k vs) p.0 (rows_in ws p.0) p.1 inv.written)));
       placed = λ lines told.
           subst (λ (s : SetView). IsPlacedTo o s (k + 1) ws lines) noted
           (placed_next o v k p.0 done.row ws lines lt p.1 inv.rows (c.in_ok-done.ensures.placed p.0 lines p.1 told));

@@ -5,6 +5,7 @@ use Rattle.patch_options.specs.PlainJob.{plain_options}
 use Rattle.patch_set.specs.SetView.{hunks_in}
 use Rattle.patch_run.specs.Devices.{Told}
 use Rattle.patch_run.specs.Doing.{StaysSet}
+use Rattle.patch_run.specs.Ready.{AreWritten, marks}
 use Rattle.patch_run.proofs.Going.{Goes, IsAt, run_to}
 use Rattle.patch_run.proofs.RunEnds.{IsPlacedTo}
 use Rattle.patch_run.proofs.set.apply_all.Given as goal
@@ -27,5 +28,6 @@ invariant-loop-k g l =
       rest : g.O.Sink.same_rest l.fn.out l.out;
       dry : o.dry_run ≡ true → IsUntouched u v;
       at : (f : Files) → Told u a f → IsAt u v a b c d g.P.Plan.scratch_after o l.set l.k l.verdicts l.is_bad l.effects (run_to o l.set l.k f);
+      written : AreWritten l.written (marks o l.set l.k l.verdicts);
       placed : (lines : List (List ℕ)) → b.told ≡ Some lines → IsPlacedTo o l.set l.k l.verdicts lines;
     }

@@ -1,5 +1,5 @@
 use Rattle.std.proofs.Common.{◌≡◌, ◌⊎◌, ◌+◌, ◌++◌, ℕ, List, length, take, drop, get_or, replicate, Some, sym, ◌∙◌, ap, subst, arith}
-use Rattle.std.proofs.lemmas.List.{take_at, take-take, drop_at, drop-drop}
+use Rattle.std.proofs.lemmas.List.{take_at, drop_at, drop-drop}
 use Rattle.std.proofs.lemmas.List.Elements.{All-get_or}
 use Rattle.std.proofs.lemmas.Result.{IfOk-weaker}
 use Rattle.hunk_core.specs.declared.Verdict.{Verdict}
@@ -11,8 +11,8 @@ use Rattle.patch_options.specs.PlainJob.{plain_options}
 use Rattle.patch_run.specs.Doing.{Does, IsPlacedOn}
 use Rattle.patch_run.specs.OnePatch.{Mark, PlainTurn, ending}
 use Rattle.patch_run.specs.Run.{item_of}
-use Rattle.patch_run.specs.Ready.{IsFit, marks, rows_in, turn_at}
-use Rattle.patch_run.proofs.Marks.{place-at, same-patch, all-first, marks-front, numbered-first, rows-last}
+use Rattle.patch_run.specs.Ready.{IsFit, AreWritten, marks, rows_in, turn_at}
+use Rattle.patch_run.proofs.Marks.{place-at, same-patch, all-first, marks-before, rows-last}
 use Rattle.patch_run.proofs.RunEnds.{placed_rows}
 use Rattle.patch_run.proofs.set.apply_at.Goals as goal
 
@@ -33,6 +33,8 @@ apply_front-requires-clause-turn g c =
       fit = subst (λ (p : FilePatch). IsFit v.text p) (sym at) (All-get_or (IsFit v.text) v.patches c.args.k q c.requires.within c.requires.ready.patches);
       within = omega (arith, c.requires.within);
       past = all-first v.patches c.args.k q (length c.split_at_mut-before.result.0.now) c.requires.numbered c.requires.within at (omega (arith, c.split_at_mut-before.ensures.front_len));
+      written = subst (λ (past : List Mark). AreWritten c.args.written.now past)
+          (sym (marks-before (plain_options c.args.options.now) v c.args.k q c.args.verdicts.now c.split_at_mut-before.result.0.now c.requires.numbered c.requires.within at c.split_at_mut-before.ensures.front)) c.requires.written;
     }
 
 pub apply_front-requires-clause-rows : goal.apply_front-requires-clause-rows
@@ -52,9 +54,7 @@ returns-clause-does g c p here =
     let front = c.split_at_mut-before.result.0.now in
     let at : q ≡ get_or v.patches k q = c.index-patches-k.is ∙ ap (λ (l : List FilePatch). get_or l k q) c.patches.ensures.patches in
     let turn : List Mark → PlainTurn = λ past. record { options = o; output = v.output; item = item_of v.text v.skipped q; past = past } in
-    let first = numbered-first 0 k v.patches q c.requires.numbered c.requires.within at in
-    let past : marks o v k front ≡ marks o v k c.args.verdicts.now =
-    marks-front o v k q.first_verdict c.args.verdicts.now front c.requires.numbered (omega (arith, first)) (ap (λ (l : List Verdict). take q.first_verdict l) s.front ∙ take-take q.first_verdict q.first_verdict c.args.verdicts.now (omega arith)) in
+    let past : marks o v k front ≡ marks o v k c.args.verdicts.now = marks-before o v k q c.args.verdicts.now front c.requires.numbered c.requires.within at s.front in
     let D = λ (rows : List Verdict) (t : PlainTurn). Does (g.T.Tree.view c.args.tree.now) (g.T.Tree.view c.apply_front.new.tree) (g.P.LineStore.seen c.args.plan.now) (g.P.LineStore.seen c.apply_front.new.plan) (g.O.Sink.view c.args.out.now) (g.O.Sink.view c.apply_front.new.out) g.P.Plan.scratch_after c.apply_front.result rows (ending t) in
     let does : D (take (row_count q.change) c.apply_front.new.verdicts) (turn (marks o v k front)) = c.apply_front.ensures.does in
     subst (λ (x : FilePatch). D (rows_in (front ++ c.apply_front.new.verdicts) x) (turn_at o v k c.args.verdicts.now x)) (same-patch v.patches k p q c.requires.within here at)
