@@ -1,17 +1,33 @@
 -- Effects behind a look at the tree.
-use Rattle.std.proofs.Common.{List, [], false, Result, Err, refl, sym, ◌∙◌, ap}
+use Rattle.std.proofs.Common.{List, [], false, Result, Ok, Err, OnOk, refl, sym, ◌∙◌, ap}
 use Rattle.std.proofs.lemmas.Option.{same_Some}
+use Rattle.std.proofs.lemmas.Result.{IfErr-weaker}
 use Rattle.outside.specs.Files.{Files}
-use Rattle.outside.specs.TreeView.{TreeView, Passes}
+use Rattle.outside.specs.TreeView.{TreeView, Passes, passes_both}
 use Rattle.outside.specs.Calls.{IsUntouched}
 use Rattle.outside.specs.Quiet.{IsQuiet, Effect}
+use Rattle.outside.proofs.Views.{rises_then}
 use Rattle.outside.proofs.Effects.{made_tells_all, since_longer, tells_longer}
 use Rattle.target_names.specs.declared.derived.Target.{Target}
 use Rattle.patch_effects.specs.declared.fault.RunFault.{RunFault}
 use Rattle.patch_effects.specs.Named.{IsNamed}
-use Rattle.patch_effects.specs.Making.{Makes}
+use Rattle.patch_effects.specs.Making.{Makes, GoesQuietly, IsTidy}
 use Rattle.patch_effects.proofs.Making.{makes_both, makes_works, untouched_works}
+use Rattle.patch_effects.proofs.Tidy.{tidy_both, untouched_tidy}
 use Rattle.patch_run.proofs.Applying.{works_made}
+
+module _ {R : Type 0} {u v w : TreeView} (same : IsUntouched u v) where
+  -- calls behind the look, since before it
+  pub goes_after : (r : Result R RunFault) → GoesQuietly v w r → GoesQuietly u w r
+  goes_after r goes = record {
+    passes = passes_both same.passes goes.passes;
+    cause = IfErr-weaker r _ _ (λ e is. (is.0, rises_then u v w same.passes is.1)) goes.cause;
+    quiet = goes.quiet;
+  }
+
+  pub tidy_after : (r : Result R RunFault) → Passes v w → OnOk r (IsTidy v w) → OnOk r (IsTidy u w)
+  tidy_after (Ok x) passes tidy = tidy_both u v w same.passes (untouched_tidy same) tidy
+  tidy_after (Err e) passes tidy = tt
 
 module _ {R : Type 0} {u v : TreeView} {t : Target} (named : IsNamed t) (same : IsUntouched u v) (quiet : IsQuiet u) (es : Files → List Effect) where
   -- the same effects since before it

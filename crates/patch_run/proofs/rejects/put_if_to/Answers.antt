@@ -54,3 +54,15 @@ returns-in-None-clause-writes g c =
     let e = c.args.earlier.now in
     let t : PlainTurn = alone (plain_options turn.options.now) turn.set.now e.patch.now in
     writes_is (Ok tt) _ (writes_none (g.O.Sink.view c.args.out.now) tt) (no_writer t e.row e.verdicts.now c.args.name.now (sym (c.written_by.ensures.target t.options) ∙ ap option_copied c.in-None.is))
+
+pub returns-then-turn-clause-rest : goal.returns-then-turn-clause-rest
+returns-then-turn-clause-rest g c = g.met.O.Sink.rest_none _
+
+pub returns-then-is_same-clause-rest : goal.returns-then-is_same-clause-rest
+returns-then-is_same-clause-rest g c = c.put_own.ensures.rest
+
+pub returns-else-is_same-clause-rest : goal.returns-else-is_same-clause-rest
+returns-else-is_same-clause-rest g c = g.met.O.Sink.rest_none _
+
+pub returns-in-None-clause-rest : goal.returns-in-None-clause-rest
+returns-in-None-clause-rest g c = g.met.O.Sink.rest_none _

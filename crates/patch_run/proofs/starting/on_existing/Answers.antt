@@ -7,6 +7,7 @@ use Rattle.say_text.specs.Messages.{silenced, exists_line}
 use Rattle.target_names.specs.declared.derived.Target.{Target}
 use Rattle.patch_run.specs.OnePatch.{PlainTurn, Start, bytes_of, exists_said, said_first, skips_at, on_taking, on_existing, shown, written, turns_round}
 use Rattle.patch_run.specs.TurnView.{plain_turn}
+use Rattle.patch_effects.proofs.Passing.{if_ok_none}
 use Rattle.patch_run.proofs.StartSteps.{Begins, begins_first, begins_skips, starts_said, starts_unsaid, starts_is}
 use Rattle.patch_run.proofs.starting.on_existing.Goals as goal
 
@@ -45,3 +46,18 @@ returns-then-is_turned-clause-starts g c =
     (said (Ok c.in_ok-say_exists.field-0) t place c.shown.result.now c.written.result.now c.turns_round-is_turned.result true c.in_ok-say_exists.ensures.writes c.shown.ensures c.written.ensures.target c.if-is_turned.true)
     (rw c.other.ensures at c.on_taking.ensures.starts))
     (λ f told. chosen t place (bytes_of t f place) c.args.side true (sym c.if-is_turned.ensures))
+
+pub returns-in_err-say_exists-clause-rest : goal.returns-in_err-say_exists-clause-rest
+returns-in_err-say_exists-clause-rest g c = c.in_err-say_exists.ensures.rest
+
+pub returns-in_err-say_exists-clause-within : goal.returns-in_err-say_exists-clause-within
+returns-in_err-say_exists-clause-within g c = if_ok_none _ _ c.from_residual.result c.from_residual.ensures.1
+
+pub returns-then-is_turned-clause-rest : goal.returns-then-is_turned-clause-rest
+returns-then-is_turned-clause-rest g c = g.met.O.Sink.rest_both _ _ _ c.in_ok-say_exists.ensures.rest c.on_taking.ensures.rest
+
+pub returns-then-is_turned-clause-within : goal.returns-then-is_turned-clause-within
+returns-then-is_turned-clause-within g c = c.on_taking.ensures.within
+
+pub returns-else-is_turned-clause-rest : goal.returns-else-is_turned-clause-rest
+returns-else-is_turned-clause-rest g c = c.in_ok-say_exists.ensures.rest

@@ -4,6 +4,7 @@ use Rattle.patch_options.specs.PlainJob.{plain_options}
 use Rattle.say_text.specs.Messages.{silenced, reversed_line}
 use Rattle.patch_run.specs.OnePatch.{on_direction, lines_in}
 use Rattle.patch_run.specs.TurnView.{plain_turn}
+use Rattle.patch_effects.proofs.Passing.{if_ok_none}
 use Rattle.patch_run.proofs.Deciding.{weighs_fails, weighs_stops, direction-said}
 use Rattle.patch_run.proofs.weighing.direct.Goals as goal
 
@@ -28,3 +29,30 @@ returns-in_err-is_reversed-clause-rest g c = g.met.O.Sink.rest_none _
 
 pub returns-in_err-say_reversed-clause-rest : goal.returns-in_err-say_reversed-clause-rest
 returns-in_err-say_reversed-clause-rest g c = c.in_err-say_reversed.ensures.rest
+
+pub returns-then-not-branch-clause-rest : goal.returns-then-not-branch-clause-rest
+returns-then-not-branch-clause-rest g c = g.met.O.Sink.rest_none _
+
+pub returns-then-not-branch-clause-within : goal.returns-then-not-branch-clause-within
+returns-then-not-branch-clause-within g c = c.requires.within
+
+pub returns-in_err-is_reversed-clause-within : goal.returns-in_err-is_reversed-clause-within
+returns-in_err-is_reversed-clause-within g c = if_ok_none _ _ c.from_residual.result c.from_residual.ensures.1
+
+pub returns-in_err-say_reversed-clause-within : goal.returns-in_err-say_reversed-clause-within
+returns-in_err-say_reversed-clause-within g c = if_ok_none _ _ c.from_residual-in_err-say_reversed.result c.from_residual-in_err-say_reversed.ensures.1
+
+pub returns-then-is_turned-clause-rest : goal.returns-then-is_turned-clause-rest
+returns-then-is_turned-clause-rest g c = c.in_ok-say_reversed.ensures.rest
+
+pub returns-then-is_turned-clause-within : goal.returns-then-is_turned-clause-within
+returns-then-is_turned-clause-within g c = c.requires.within
+
+pub returns-else-is_turned-clause-rest : goal.returns-else-is_turned-clause-rest
+returns-else-is_turned-clause-rest g c = c.in_ok-say_reversed.ensures.rest
+
+pub returns-then-turn-clause-rest : goal.returns-then-turn-clause-rest
+returns-then-turn-clause-rest g c = g.met.O.Sink.rest_none _
+
+pub returns-then-turn-clause-within : goal.returns-then-turn-clause-within
+returns-then-turn-clause-within g c = c.requires.within
