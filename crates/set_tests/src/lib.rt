@@ -1,27 +1,7 @@
-//! Worked rows of names and choices, of sets, of their git headers, of their parts and counts, and of lists, filtered texts and lines that are found.
+//! Tests of names and sets: each call that takes memory, once with enough of it. What they answer for many texts are rows of the scripts in tests/.
 #![tactic(auto)]
 
 #[cfg(test)]
-mod candidates;
-#[cfg(test)]
-mod choosing;
-#[cfg(test)]
-mod counts;
-#[cfg(test)]
-mod git_headers;
-#[cfg(test)]
-mod jobs;
-#[cfg(test)]
-mod parts;
-#[cfg(test)]
-mod reading;
+mod names;
 #[cfg(test)]
 mod sets;
-#[cfg(test)]
-mod tables;
-#[cfg(test)]
-mod targets;
-#[cfg(test)]
-mod texts;
-#[cfg(test)]
-mod written;

@@ -1,46 +1,122 @@
-//! What several tables need: fields of rows, options and sets.
+//! A set and its parts, true counts, and the file patches of a git header.
 
-ghost use Rattle.std.specs.Prelude.{IfOk};
 ghost use Rattle.patch_options.specs.PlainJob.{plain_options, IsLawful};
 
-use patch_options::{Job, Options, read_words};
+use crate::names::has_target;
+use patch_header::Ways;
+use patch_options::{Input, Options, PlanKind};
 use patch_set::{PatchSet, read_set};
-use std::alloc::Global;
-use std::test::Fail;
+use patch_text::read_patches;
+use split_recount::{recount, split_parts};
+use std::alloc::{AllocError, Global};
 
-/// A field of a row, counted from 0, or nothing. Fields stand between blanks.
-pub fn field(row: &str, place: usize) -> &str {
-    match row.split(' ').nth(place) {
-        Some(field) => field,
-        None => "",
+/// Whether a text was made, and is the wanted one.
+pub fn is_told(text: Result<String, AllocError>, wanted: &str) -> bool {
+    match text {
+        Ok(text) => text.as_str() == wanted,
+        Err(_) => false,
     }
 }
 
-/// The options of the words of `patch`.
-pub fn options(alloc: Global, words: &str) -> Result<Options, Fail>
-    ensures { IfOk result (λ options. IsLawful (plain_options options)) }
-{
-    let mut given = Vec::new(alloc);
-    for word in words.split(' ') {
-        given.push(String::from_str(alloc, word)?)?;
-    }
-    match read_words(alloc, &given) {
-        Ok(Job::Patch(options)) => Ok(options),
-        Err(_) => Err("a command")?,
+const RENAMED: &str =
+    "Ok([FilePatch { header: Header { form: Unified, at: 0, opening: 1, names_line: 1, old_name: None, new_name: None, index: None, prereq: None, old_stamp: Unknown, new_stamp: Unknown, action: Rename, bare: true, from: Some(Span { start: 53, end: 54 }), to: Some(Span { start: 65, end: 66 }) }, span: Span { start: 0, end: 67 }, hunk_spans: [], change: Hunks([]), old_absent: false, new_absent: false, targets: [], first_verdict: 0 }])";
+
+fn renamed_told(alloc: Global) -> Result<String, AllocError> {
+    let ways = Ways {
+        only: None,
+        git: true,
+        skip_binary: false,
+    };
+    let text = b"diff --git a/x b/y\nsimilarity index 100%\nrename from x\nrename to y\n";
+    format!(in alloc; "{:?}", read_patches(alloc, text, ways))
+}
+
+fn is_counted(alloc: Global) -> bool {
+    match recount(alloc, b"@@ -04,2 +9,9 @@ fn f()\n-a\n+b") {
+        Ok(bytes) => bytes.as_slice() == b"@@ -4 +4 @@ fn f()\n-a\n+b\n".as_slice(),
+        Err(_) => false,
     }
 }
 
-/// The set of a text.
-pub fn set(alloc: Global, text: Vec<u8>) -> Result<PatchSet, Fail> {
-    let options = options(alloc, "patch")?;
-    set_with(alloc, text, &options)
+/// Two file patches, of which the second one's file is the first one's second target.
+const TEXT: &str = "--- f\n+++ g\n@@ -1 +1 @@\n-a\n+b\n--- g\n+++ g\n@@ -1 +1 @@\n-a\n+b\n";
+
+const SET: &str =
+    "Span { start: 0, end: 30 } [Span { start: 12, end: 30 }] Span { start: 30, end: 60 } [Span { start: 42, end: 60 }] [Untried, Untried] Ok([Span { start: 0, end: 30 }, Span { start: 30, end: 60 }])";
+
+fn set_told(alloc: Global, set: &PatchSet) -> Result<String, AllocError> {
+    match set.patches() {
+        [first, second] => format!(in alloc;
+            "{:?} {:?} {:?} {:?} {:?} {:?}",
+            first.span,
+            first.hunk_spans,
+            second.span,
+            second.hunk_spans,
+            set.verdicts(),
+            split_parts(alloc, set, true)
+        ),
+        _ => Err(AllocError),
+    }
 }
 
-fn set_with(alloc: Global, text: Vec<u8>, options: &Options) -> Result<PatchSet, Fail>
+/// Whether the set of the text is as it should be.
+fn has_set(alloc: Global, options: &Options) -> bool
     requires { IsLawful (plain_options options.now) }
 {
-    match read_set(alloc, text, options) {
-        Ok(set) => Ok(set),
-        Err(_) => Err("a set")?,
+    match Vec::from_slice(alloc, TEXT.as_bytes()) {
+        Ok(text) => match read_set(alloc, text, options) {
+            Ok(set) => is_told(set_told(alloc, &set), SET),
+            Err(_) => false,
+        },
+        Err(_) => false,
     }
+}
+
+/// What `patch` alone asks for.
+fn plain() -> Options
+    ensures { IsLawful (plain_options result) }
+{
+    Options {
+        only: None,
+        strip: None,
+        fuzz: 2,
+        reverse: false,
+        force: false,
+        batch: false,
+        forward: false,
+        loose: false,
+        remove_empty: false,
+        backup: false,
+        mismatch_backup: true,
+        suffix: None,
+        prefix: None,
+        dir: None,
+        file: None,
+        input: Input::Standard,
+        output: None,
+        reject: None,
+        no_rejects: false,
+        reject_form: None,
+        define: None,
+        posix: false,
+        skip_binary: false,
+        dry_run: false,
+        silent: false,
+        verbose: false,
+        plan: PlanKind::Auto,
+        buffer: 65_536,
+    }
+}
+
+/// Whether all is as it should be that goes by options.
+fn goes_by_options(alloc: Global) -> bool {
+    let options = plain();
+    has_target(alloc, &options) && has_set(alloc, &options)
+}
+
+#[test]
+fn sets_are_read(rt: HostRuntime) {
+    assert!(rt; is_told(renamed_told(rt.alloc()), RENAMED));
+    assert!(rt; is_counted(rt.alloc()));
+    assert!(rt; goes_by_options(rt.alloc()));
 }

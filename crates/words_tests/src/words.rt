@@ -1,7 +1,8 @@
-//! The words of `patch`, each alone and together.
+//! The words of `patch`, each alone and together, and commands of the other tools.
 
 /// Switches short and long, words that stand together, and values that are texts, names and numbers, attached and apart.
-/// `clap` takes one `=` off an attached value.
+/// `clap` takes one `=` off an attached value. Behind `patch` stands what isn't as without words, behind another tool the whole job;
+/// there patterns are lists of bytes: `a` is 97, `*` is 42.
 pub const ROWS: &str = r#"
 patch =>
 patch|-c => only: Some(Context)
@@ -33,19 +34,19 @@ patch|--dry-run => dry_run: true
 patch|--silent => silent: true
 patch|--quiet => silent: true
 patch|--verbose => verbose: true
-patch|-RftNlEbs => reverse: true force: true batch: true forward: true loose: true remove_empty: true backup: true silent: true
-patch|-Rp1 => strip: Some(1) reverse: true
-patch|-bp|1|-F0 => strip: Some(1) fuzz: 0 backup: true
-patch|-ni-|f|--quiet|--backup-if-mismatch => only: Some(Normal) file: Some("f") silent: true
+patch|-RftNlEbs => reverse: true, force: true, batch: true, forward: true, loose: true, remove_empty: true, backup: true, silent: true
+patch|-Rp1 => strip: Some(1), reverse: true
+patch|-bp|1|-F0 => strip: Some(1), fuzz: 0, backup: true
+patch|-ni-|f|--quiet|--backup-if-mismatch => only: Some(Normal), file: Some("f"), silent: true
 patch|-zR => suffix: Some("R")
-patch|--quiet|--verbose => silent: true verbose: true
-patch|-f|-N|-t => force: true batch: true forward: true
-patch|f|-R|p => reverse: true file: Some("f") input: File("p")
-patch|-R|--|-f|-p1 => reverse: true file: Some("-f") input: File("-p1")
-patch|-p007|--|f|- => strip: Some(7) file: Some("f")
+patch|--quiet|--verbose => silent: true, verbose: true
+patch|-f|-N|-t => force: true, batch: true, forward: true
+patch|f|-R|p => reverse: true, file: Some("f"), input: File("p")
+patch|-R|--|-f|-p1 => reverse: true, file: Some("-f"), input: File("-p1")
+patch|-p007|--|f|- => strip: Some(7), file: Some("f")
 patch|--|-- => file: Some("--")
 patch|-- =>
-patch|-u|--no-backup-if-mismatch|-d./d/|--output=o|-r|a//r|--reject-format=context|--dry-run|--verbose|--plan=a|--buffer=512|-p4294967295|-z~|-Bold/|f|p.ptmp => only: Some(Unified) strip: Some(4294967295) mismatch_backup: false suffix: Some("~") prefix: Some("old/") dir: Some("d") file: Some("f") input: File("p.ptmp") output: Some("o") reject: Some("a/r") reject_form: Some(Context) dry_run: true verbose: true plan: Whole buffer: 512
+patch|-u|--no-backup-if-mismatch|-d./d/|--output=o|-r|a//r|--reject-format=context|--dry-run|--verbose|--plan=a|--buffer=512|-p4294967295|-z~|-Bold/|f|p.ptmp => only: Some(Unified), strip: Some(4294967295), mismatch_backup: false, suffix: Some("~"), prefix: Some("old/"), dir: Some("d"), file: Some("f"), input: File("p.ptmp"), output: Some("o"), reject: Some("a/r"), reject_form: Some(Context), dry_run: true, verbose: true, plan: Whole, buffer: 512
 patch|-z|x => suffix: Some("x")
 patch|-zx => suffix: Some("x")
 patch|-z=~ => suffix: Some("~")
@@ -76,11 +77,11 @@ patch|--plan=auto =>
 patch|--plan=b => plan: Padded
 patch|--plan|packed => plan: Packed
 patch|f => file: Some("f")
-patch|f|p.diff => file: Some("f") input: File("p.diff")
+patch|f|p.diff => file: Some("f"), input: File("p.diff")
 patch|./a//f/ => file: Some("a/f")
-patch|-|p => file: Some("-") input: File("p")
+patch|-|p => file: Some("-"), input: File("p")
 patch|f|- => file: Some("f")
-patch|f|x.ptmp => file: Some("f") input: File("x.ptmp")
+patch|f|x.ptmp => file: Some("f"), input: File("x.ptmp")
 patch|x.ptmp/f => file: Some("x.ptmp/f")
 patch|-i|a => input: File("a")
 patch|-ia => input: File("a")
@@ -90,7 +91,7 @@ patch|-i|- =>
 patch|-i- =>
 patch|--input=- =>
 patch|-i-x => input: File("-x")
-patch|-i|a|f => file: Some("f") input: File("a")
+patch|-i|a|f => file: Some("f"), input: File("a")
 patch|-d|d => dir: Some("d")
 patch|-dd => dir: Some("d")
 patch|--directory|d => dir: Some("d")
@@ -111,7 +112,7 @@ patch|-r- => no_rejects: true
 patch|--reject-file=- => no_rejects: true
 patch|/etc//x/./y => file: Some("/etc/x/y")
 patch|../a/../f => file: Some("../a/../f")
-patch|..|/p => file: Some("..") input: File("/p")
+patch|..|/p => file: Some(".."), input: File("/p")
 patch|-i|../x.patch => input: File("../x.patch")
 patch|-d|/usr/src/ => dir: Some("/usr/src")
 patch|-d|.. => dir: Some("..")
@@ -132,17 +133,17 @@ patch|-g|00 =>
 patch|--get=0 =>
 patch|--binary =>
 patch|--skip-binary => skip_binary: true
-patch|--skip-binary|-s|-p1 => strip: Some(1) skip_binary: true silent: true
-patch|-t|-F|0|-N|-p1|-u|-V|never|-E|-b|-B|.pc/x/|--reject-file=- => only: Some(Unified) strip: Some(1) fuzz: 0 batch: true forward: true remove_empty: true backup: true prefix: Some(".pc/x/") no_rejects: true
-patch|--posix => mismatch_backup: false posix: true
+patch|--skip-binary|-s|-p1 => strip: Some(1), skip_binary: true, silent: true
+patch|-t|-F|0|-N|-p1|-u|-V|never|-E|-b|-B|.pc/x/|--reject-file=- => only: Some(Unified), strip: Some(1), fuzz: 0, batch: true, forward: true, remove_empty: true, backup: true, prefix: Some(".pc/x/"), no_rejects: true
+patch|--posix => mismatch_backup: false, posix: true
 patch|--posix|--backup-if-mismatch => posix: true
-patch|--posix|--no-backup-if-mismatch => mismatch_backup: false posix: true
+patch|--posix|--no-backup-if-mismatch => mismatch_backup: false, posix: true
 patch|-D|X => define: Some("X")
 patch|-DX => define: Some("X")
 patch|-D=X => define: Some("X")
 patch|--ifdef=_a9 => define: Some("_a9")
 patch|--ifdef|zZ_0 => define: Some("zZ_0")
-patch|-RD|_ => reverse: true define: Some("_")
+patch|-RD|_ => reverse: true, define: Some("_")
 patch|-p0 => strip: Some(0)
 patch|-p|0 => strip: Some(0)
 patch|--strip=1 => strip: Some(1)
@@ -160,4 +161,24 @@ patch|--buffer|512 => buffer: 512
 patch|--buffer=1048576 => buffer: 1048576
 patch|--buffer=000512 => buffer: 512
 patch|--buffer=65536 =>
+lsdiff|-snp1|-i|a*|-xb|-Ic|-Xd|--strip=2|e => Ok(List(ListJob { input: File("e"), select: Select { strip: 1, include: [[97, 42]], exclude: [[98]], include_file: Some("c"), exclude_file: Some("d"), only_included: true }, status: true, numbers: true, shown_strip: 2 }))
+filterdiff|--hunks=1,2-5|--lines=-3|--files|7-|--format=ed => Ok(Filter(FilterJob { input: Standard, select: Select { strip: 0, include: [], exclude: [], include_file: None, exclude_file: None, only_included: false }, hunks: Some(Ranges { items: [(1, 1), (2, 5)] }), lines: Some(Ranges { items: [(1, 3)] }), files: Some(Ranges { items: [(7, 4294967295)] }), format: Some(Ed) }))
+grepdiff|-E|--output-matching=hunk|[a-z]+|f => Ok(Grep(GrepJob { input: File("f"), select: Select { strip: 0, include: [], exclude: [], include_file: None, exclude_file: None, only_included: false }, pattern: "[a-z]+", output: Hunks }))
+splitdiff|-a|./a//f/ => Ok(Split(SplitJob { input: "a/f", every: true }))
+recountdiff|- => Ok(Recount(Standard))
+patchgen|0|1|20 => Ok(Gen(GenJob { seed: 0, files: 1, lines: 20, plan: Auto, buffer: 65536 }))
+patchgen|4294967295|1|20 => Ok(Gen(GenJob { seed: 4294967295, files: 1, lines: 20, plan: Auto, buffer: 65536 }))
+patchgen|7|1000|10000 => Ok(Gen(GenJob { seed: 7, files: 1000, lines: 10000, plan: Auto, buffer: 65536 }))
+patchgen|0|1|9999999 => Ok(Gen(GenJob { seed: 0, files: 1, lines: 9999999, plan: Auto, buffer: 65536 }))
+patchgen|0|2|5000000 => Ok(Gen(GenJob { seed: 0, files: 2, lines: 5000000, plan: Auto, buffer: 65536 }))
+patchgen|007|001|0020 => Ok(Gen(GenJob { seed: 7, files: 1, lines: 20, plan: Auto, buffer: 65536 }))
+patchgen|--plan=a|0|1|20 => Ok(Gen(GenJob { seed: 0, files: 1, lines: 20, plan: Whole, buffer: 65536 }))
+patchgen|--plan|b|0|1|20 => Ok(Gen(GenJob { seed: 0, files: 1, lines: 20, plan: Padded, buffer: 65536 }))
+patchgen|0|1|20|--plan=packed => Ok(Gen(GenJob { seed: 0, files: 1, lines: 20, plan: Packed, buffer: 65536 }))
+patchgen|0|--plan=auto|1|20 => Ok(Gen(GenJob { seed: 0, files: 1, lines: 20, plan: Auto, buffer: 65536 }))
+patchgen|--buffer=512|0|1|20 => Ok(Gen(GenJob { seed: 0, files: 1, lines: 20, plan: Auto, buffer: 512 }))
+patchgen|--buffer|1048576|0|1|20 => Ok(Gen(GenJob { seed: 0, files: 1, lines: 20, plan: Auto, buffer: 1048576 }))
+patchgen|--plan=b|--buffer=4096|7|3|40 => Ok(Gen(GenJob { seed: 7, files: 3, lines: 40, plan: Padded, buffer: 4096 }))
+reversediff|a/f => Ok(Flip(File("a/f")))
+patchstack|pop => Ok(Stack(Pop))
 "#;

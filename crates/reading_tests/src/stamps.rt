@@ -1,9 +1,8 @@
 //! Stamps and their instants, which are those of `date -u +%s`.
 
 use stamp::{Stamp, read_stamp};
-use std::alloc::{AllocError, Global};
-use std::test::Fail;
 
+/// A stamp, and behind `=` what it says.
 const STAMPS: &str = "1970-01-01 00:00:00 +0000=0
 1969-12-31 23:59:59 -0000=-1
 2002-02-21 23:30:39.942229878 -0800=1014363039
@@ -27,19 +26,20 @@ thu Feb 21 23:30:39 2002=none
 Thu Feb 30 23:30:39 2002=none
 =none";
 
-/// A stamp with what it says.
-fn with_instant(alloc: Global, text: &str) -> Result<String, AllocError> {
-    match read_stamp(text.as_bytes()) {
-        Stamp::Instant(instant) => format!(in alloc; "{text}={instant}"),
-        Stamp::Unknown => format!(in alloc; "{text}=none"),
+/// Whether the stamp of a row says what stands behind it.
+fn is_so(row: &str) -> bool {
+    match row.split_once('=') {
+        Some((text, wanted)) => match read_stamp(text.as_bytes()) {
+            Stamp::Instant(instant) => wanted.parse::<i64>() == Ok(instant),
+            Stamp::Unknown => wanted == "none",
+        },
+        None => false,
     }
 }
 
 #[test]
-fn stamps_are_read(rt: HostRuntime) -> Result<(), Fail> {
+fn stamps_are_read(rt: HostRuntime) {
     for row in STAMPS.split('\n') {
-        let (text, _) = row.split_once('=').ok_or("a row")?;
-        assert_eq!(rt; with_instant(rt.alloc(), text)?.as_str(), row);
+        assert!(rt; is_so(row), "{row}");
     }
-    Ok(())
 }

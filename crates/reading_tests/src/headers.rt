@@ -1,0 +1,147 @@
+//! What the lines in front of a file patch say, row by row; git headers are read in rows of `git`.
+
+use hunk_core::Form;
+use line_list::Span;
+use patch_header::{Header, HeaderStep, next_header};
+use std::alloc::{AllocError, Global};
+
+/// The form that is asked for, `-` or `git`; a text; and the form of the opening, its line and the line of the names; the old and
+/// the new name, `Index:` and `Prereq:`; the stamps; and what git says of the file, whether the header is bare, and the names that
+/// the file goes from and to. Instants are those of `date -u +%s`.
+const ROWS: &[&str] = &[
+    // A tab ends a name that holds a space.
+    "-=diff --git a/my file b/my file\nindex 1f2..3e4 100644\n--- a/my file\t2002-02-21 23:30:39.942229878 -0800\n+++ b/my file\t2002-02-21 23:30:50 -0800\n@@ -1 +1 @@\n-a\n+b\n=Unified 5 3; [a/my file] [b/my file] [] []; Instant(1014363039) Instant(1014363050); Plain false [] []",
+    // The last line of each kind counts.
+    "-=--- first\n+++ first\nIndex: first\nPrereq: first\n--- f Thu Feb 21 23:30:39 2002\nPrereq:\t 1.2\rx\nIndex:g\n+++  \t h\nIndex: i j\n@@ -1,2 +1 @@ x\n=Unified 10 5; [f] [h] [i] [1.2]; Instant(1014334239) Unknown; Plain false [] []",
+    // A last line with an empty name tells none.
+    "-=--- f\n--- \t\nIndex: f\nIndex:\nPrereq: \r\n@@ -1 +1 @@\n=Unified 6 6; [] [] [] []; Unknown Unknown; Plain false [] []",
+    "-=+++ u\n*** old\tThu Feb 21 23:30:39 2002\n--- new\t1970-01-01 00:00:00 +0000\n***************\n*** 1,3 ****\n  a\n=Context 4 2; [old] [new] [] []; Instant(1014334239) Instant(0); Plain false [] []",
+    "-=*** x\n--- y\n+++ z\nIndex: f\n1d0\n< a\n=Normal 5 5; [] [] [f] []; Unknown Unknown; Plain false [] []",
+    // A command that text follows opens a script only before a dot, unless scripts alone are asked for.
+    "-=Index: f\n3a\nx\n.\n=Ed 2 2; [] [] [f] []; Unknown Unknown; Plain false [] []",
+    "-=3a\nx\n1,2d\n=Ed 3 3; [] [] [] []; Unknown Unknown; Plain false [] []",
+    "Ed=3a\nx\n1,2d\n=Ed 1 1; [] [] [] []; Unknown Unknown; Plain false [] []",
+    // The openings of forms that aren't asked for are as any other line.
+    "Normal=--- f\n@@ -1 +1 @@\n3d\n1c1\n< a\n---\n> b\n=Normal 4 4; [] [] [] []; Unknown Unknown; Plain false [] []",
+    // A line of asterisks alone opens nothing, nor does a command alone.
+    "-=***************\n1c1\nx\n@@ -a\n@@ -1\n=Unified 5 5; [] [] [] []; Unknown Unknown; Plain false [] []",
+    // The last line may lack its line feed.
+    "-=--- f\n+++ g\n@@ -1=Unified 3 1; [f] [g] [] []; Unknown Unknown; Plain false [] []",
+    // What is known of dots holds from the opening on.
+    "-=1a\nx\n@@ -1 +1 @@\n=Unified 3 3; [] [] [] []; Unknown Unknown; Plain false [] []",
+    "-=--- f\nGIT binary patch\n@@ -1 +1 @@\n=Binary { line: 2 }",
+    "Context=x\ny\nBinary files a/f and b/f differ\n=Binary { line: 3 }",
+    "-=Binary files a/f and b/f differ.\n=End",
+    "-=GIT binary patches\n=End",
+    "-=--- f\n+++ f\n1a\nx\n..\n=End",
+    "Context=@@ -1 +1 @@\n-a\n+b\n=End",
+    "-==End",
+    // An empty file that is new has no hunk; its names stand in its git line.
+    "git=diff --git a/e b/e\nnew file mode 100644\nindex 0000000..e69de29\n=Unified 1 1; [a/e] [b/e] [] []; Unknown Unknown; New true [] []",
+    // Halves that differ behind their first slash are no names.
+    "git=x\ndiff --git a/x b/y\nsimilarity index 100%\nrename from x\nrename to y\n=Unified 2 2; [] [] [] []; Unknown Unknown; Rename true [x] [y]",
+    "git=diff --git a/x b/y\nsimilarity index 90%\nrename from x\nrename to y\n--- a/x\n+++ b/y\n@@ -1 +1 @@\n-a\n+b\n=Unified 7 5; [a/x] [b/y] [] []; Unknown Unknown; Rename false [x] [y]",
+    // Where git headers aren't read their lines say nothing.
+    "-=diff --git a/x b/y\nsimilarity index 90%\nrename from x\nrename to y\n--- a/x\n+++ b/y\n@@ -1 +1 @@\n-a\n+b\n=Unified 7 5; [a/x] [b/y] [] []; Unknown Unknown; Plain false [] []",
+    // The last of equal lines counts, and a name goes up to the end of its line.
+    "git=diff --git a/f b/f\ncopy from a\ncopy from b \tc\ncopy to d\n=Unified 1 1; [a/f] [b/f] [] []; Unknown Unknown; Copy true [b \tc] [d]",
+    // A file that is new isn't renamed.
+    "git=diff --git a/f b/f\nrename from a\nrename to b\ndeleted file mode 100644\nnew file mode 100644\n=Unified 1 1; [a/f] [b/f] [] []; Unknown Unknown; New true [] []",
+    // Without a hunk directly behind them the lines of both names lead nothing.
+    "git=diff --git a/f b/f\nnew mode 100755\n--- a/f\n+++ b/f\n\n@@ -1 +1 @@\n=Unified 6 3; [a/f] [b/f] [] []; Unknown Unknown; Plain false [] []",
+    // Modes alone are ordinary text.
+    "git=diff --git a/f b/f\nold mode 100644\nnew mode 100755\n=End",
+    "git=diff --git a/f b/f\n\nnew file mode 100644\n=End",
+    "-=diff --git a/e b/e\nnew file mode 100644\n=End",
+];
+
+fn only(word: &str) -> Option<Form> {
+    match word {
+        "Context" => Some(Form::Context),
+        "Normal" => Some(Form::Normal),
+        "Ed" => Some(Form::Ed),
+        _ => None,
+    }
+}
+
+fn piece(text: &str, span: Option<Span>) -> &str {
+    match span {
+        Some(span) => text
+            .get(span.start as usize..span.end as usize)
+            .unwrap_or("?"),
+        None => "",
+    }
+}
+
+fn lines(alloc: Global, header: Header) -> Result<String, AllocError> {
+    let (form, opening, names_line) = (header.form, header.opening, header.names_line);
+    format!(in alloc; "{form:?} {opening} {names_line}")
+}
+
+fn names(alloc: Global, text: &str, header: Header) -> Result<String, AllocError> {
+    let old = piece(text, header.old_name);
+    let new = piece(text, header.new_name);
+    let index = piece(text, header.index);
+    let prereq = piece(text, header.prereq);
+    format!(in alloc; " [{old}] [{new}] [{index}] [{prereq}]")
+}
+
+fn stamps(alloc: Global, header: Header) -> Result<String, AllocError> {
+    format!(in alloc; " {:?} {:?}", header.old_stamp, header.new_stamp)
+}
+
+fn git(alloc: Global, text: &str, header: Header) -> Result<String, AllocError> {
+    let from = piece(text, header.from);
+    let to = piece(text, header.to);
+    format!(in alloc; " {:?} {} [{from}] [{to}]", header.action, header.bare)
+}
+
+/// Whether a text was made, and is the wanted one.
+pub fn is_told(text: Result<String, AllocError>, wanted: &str) -> bool {
+    match text {
+        Ok(text) => text.as_str() == wanted,
+        Err(_) => false,
+    }
+}
+
+/// Whether this is found in a text.
+fn says(alloc: Global, text: &str, step: HeaderStep, wanted: &str) -> bool {
+    match step {
+        HeaderStep::Found(header) => {
+            let mut wanted = wanted.split(';');
+            is_told(lines(alloc, header), wanted.next().unwrap_or(""))
+                && is_told(names(alloc, text, header), wanted.next().unwrap_or(""))
+                && is_told(stamps(alloc, header), wanted.next().unwrap_or(""))
+                && is_told(git(alloc, text, header), wanted.next().unwrap_or(""))
+        }
+        other => is_told(format!(in alloc; "{other:?}"), wanted),
+    }
+}
+
+/// Whether this is found in the text of a row.
+fn is_found(alloc: Global, word: &str, text: &str, wanted: &str) -> bool {
+    let bytes = text.as_bytes();
+    if bytes.len() > 4096 {
+        return false;
+    }
+    let step = next_header(bytes, 0, 1, only(word), word == "git");
+    says(alloc, text, step, wanted)
+}
+
+/// Whether a row is so.
+fn is_so(alloc: Global, row: &str) -> bool {
+    match row.split_once('=') {
+        Some((word, rest)) => match rest.split_once('=') {
+            Some((text, wanted)) => is_found(alloc, word, text, wanted),
+            None => false,
+        },
+        None => false,
+    }
+}
+
+#[test]
+fn headers_are_found(rt: HostRuntime) {
+    for row in ROWS {
+        assert!(rt; is_so(rt.alloc(), row), "{row}");
+    }
+}

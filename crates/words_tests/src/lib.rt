@@ -1,0 +1,7 @@
+//! Tests of the words of commands. Words that are refused are rows of tests/rows; more of the filters' words are rows of tests/filters.
+#![tactic(auto)]
+
+#[cfg(test)]
+mod rows;
+#[cfg(test)]
+mod words;
