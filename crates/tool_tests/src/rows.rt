@@ -194,7 +194,7 @@ fn is_kept(alloc: Global, row: &str, devices: &str, words: &str) -> Result<bool,
 }
 
 /// The first run of a row that doesn't do what the row says, or nothing.
-fn broken(alloc: Global, row: &'static str) -> &'static str {
+fn broken_in(alloc: Global, row: &'static str) -> &'static str {
     for line in row.split('\n') {
         if let Some(run) = line.strip_prefix("run ") {
             let (devices, words) = run.split_once(": ").unwrap_or(("", run));
@@ -206,14 +206,40 @@ fn broken(alloc: Global, row: &'static str) -> &'static str {
     ""
 }
 
-// An empty line stands between each two rows.
-#[test]
-fn runs_do_what_their_rows_say(rt: HostRuntime) {
-    for rows in [PATCHES, STACK, MADE, ANSWERS, STATED] {
-        for row in rows.split("\n\n") {
-            let run = broken(rt.alloc(), row);
-            assert!(rt; run.is_empty(), "{run}");
+/// The same of rows, with an empty line between each two.
+fn broken(alloc: Global, rows: &'static str) -> &'static str {
+    for row in rows.split("\n\n") {
+        let run = broken_in(alloc, row);
+        if !run.is_empty() {
+            return run;
         }
+    }
+    ""
+}
+
+#[test]
+fn files_are_patched_and_parted(rt: HostRuntime) {
+    let run = broken(rt.alloc(), PATCHES);
+    assert!(rt; run.is_empty(), "{run}");
+}
+
+#[test]
+fn a_stack_is_pushed_and_popped(rt: HostRuntime) {
+    let run = broken(rt.alloc(), STACK);
+    assert!(rt; run.is_empty(), "{run}");
+}
+
+#[test]
+fn files_are_made_and_patched(rt: HostRuntime) {
+    let run = broken(rt.alloc(), MADE);
+    assert!(rt; run.is_empty(), "{run}");
+}
+
+#[test]
+fn answers_are_those_of_the_rows(rt: HostRuntime) {
+    for rows in [ANSWERS, STATED] {
+        let run = broken(rt.alloc(), rows);
+        assert!(rt; run.is_empty(), "{run}");
     }
 }
 
