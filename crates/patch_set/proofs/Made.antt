@@ -1,5 +1,5 @@
 -- A set that is made of file patches with their targets.
-use Rattle.std.proofs.Common.{◌≡◌, ℕ, ◌<◌, ◌^◌, List, map, length, All, Option, None, option_map, arith, refl, sym, ap, subst, ◌∙◌}
+use Rattle.std.proofs.Common.{◌≡◌, ℕ, List, map, Option, None, option_map, arith, refl, sym, ap, subst, ◌∙◌}
 use Rattle.std.specs.List.{find}
 use Rattle.std.specs.Option.{ForSome}
 use Rattle.file_patch.specs.declared.FilePatch.{FilePatch}
@@ -14,10 +14,10 @@ use Rattle.patch_set.specs.Spans.{ArePlaced}
 use Rattle.patch_set.specs.Looks.{is_reserving}
 use Rattle.patch_set.specs.Named.{known_names, output_of}
 use Rattle.patch_set.specs.Naming.{AreNamed}
-use Rattle.patch_set.specs.SetView.{SetView, HasTargets, IsSetOf, hunks_in, plain_patches}
+use Rattle.patch_set.specs.Fresh.{AreWhole}
+use Rattle.patch_set.specs.SetView.{SetView, HasTargets, IsSetOf, plain_patches}
 use Rattle.patch_set.specs.Refusals.{reserved}
 use Rattle.patch_set.specs.declared.fault.SetFault.TheVariants as faults
-use Rattle.file_patch.specs.Absent.{IsLawfulPatch}
 use Rattle.patch_set.proofs.Named.{named-few, named-count, named-hunks, named-lawful, named-placed, named-plain, named-regions, named-targets}
 use Rattle.patch_set.proofs.Found.{named-fit, output-fit, reserved-named}
 
@@ -74,24 +74,15 @@ made-set o text ps qs output v same ways patches out have none regions at skips 
     (subst (λ x. ForSome x HasTemps) (sym out) have.temps)
     (ap (λ x. find (is_reserving x) v.patches) out ∙ ap (λ rs. find (is_reserving output) rs) patches ∙ none-found (find (is_reserving output) qs) none) regions at skips
 
--- what the file patches keep
-pub record AreKept (o : PlainOptions) (text : List ℕ) (qs : List FilePatch) : Type 0 where
-  pub lawful : All (IsLawfulPatch text) qs
-  pub regions : map region_of qs ≡ regions_of (ways_of o) text
-  pub placed : ArePlaced text 0 0 qs
-  pub count : length qs < 2 ^ 32
-  pub hunks : hunks_in qs < 2 ^ 32
-
-pub kept : (o : PlainOptions) (text : List ℕ) (ps qs : List FilePatch) (output : Option Target) → HaveTargets o text ps qs output
-    → All (IsLawfulPatch text) ps → map region_of ps ≡ regions_of (ways_of o) text → ArePlaced text 0 0 ps → length ps < 2 ^ 32 → hunks_in ps < 2 ^ 32 → AreKept o text qs
-kept o text ps qs output have lawful regions at count hunks =
+pub kept : (o : PlainOptions) (text : List ℕ) (ps qs : List FilePatch) (output : Option Target) → HaveTargets o text ps qs output → AreWhole (ways_of o) text ps → AreWhole (ways_of o) text qs
+kept o text ps qs output have whole =
     let known = known_names o (map (patch_of text) ps) in
     record {
-      lawful = named-lawful o text known ps qs have.are lawful;
-      regions = named-regions o text known ps qs have.are ∙ regions;
-      placed = named-placed o text known 0 0 ps qs have.are at;
-      count = omega (arith, named-count o text known ps qs have.are);
-      hunks = omega (arith, named-hunks o text known ps qs have.are);
+      lawful = named-lawful o text known ps qs have.are whole.lawful;
+      regions = named-regions o text known ps qs have.are ∙ whole.regions;
+      placed = named-placed o text known 0 0 ps qs have.are whole.placed;
+      count = omega (arith, named-count o text known ps qs have.are, whole.count);
+      hunks = omega (arith, named-hunks o text known ps qs have.are, whole.hunks);
     }
 
 -- the line of a name of a temporary, or none

@@ -6,5 +6,6 @@ pub mod PlainName
 pub mod Refusals
 pub mod SetView
 pub mod Spans
+pub mod Fresh
 pub mod Skipped
 pub mod OneView

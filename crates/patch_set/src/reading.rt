@@ -1,14 +1,12 @@
 //! Reading a set.
-ghost use Rattle.std.specs.Prelude.{◌≡◌, ◌≤◌, ◌<◌, ◌^◌, Ok, Err, IfOk, All, length, map};
+ghost use Rattle.std.specs.Prelude.{◌≡◌, ◌≤◌, Ok, Err, IfOk, length, map};
 ghost use Rattle.line_list.specs.Completed.{completed};
 ghost use Rattle.file_patch.specs.PlainPatch.{patch_of};
-ghost use Rattle.file_patch.specs.Absent.{IsLawfulPatch};
 ghost use Rattle.patch_options.specs.PlainJob.{plain_options, IsLawful};
-ghost use Rattle.patch_text.specs.Regions.{region_of, regions_of};
 ghost use Rattle.patch_set.specs.Asked.{ways_of};
-ghost use Rattle.patch_set.specs.Spans.{ArePlaced};
+ghost use Rattle.patch_set.specs.Fresh.{AreWhole};
 ghost use Rattle.patch_set.specs.Refusals.{refusal, refusal_of, reserved};
-ghost use Rattle.patch_set.specs.SetView.{IsRead, IsSetOf, IsFresh, IsWhole, Meets, hunks_in};
+ghost use Rattle.patch_set.specs.SetView.{IsRead, IsSetOf, IsFresh, IsWhole, Meets};
 
 use crate::SetFault;
 use crate::asked::ways_of;
@@ -63,11 +61,7 @@ fn set_of(
     patches: Vec<FilePatch>,
 ) -> Result<PatchSet, SetFault>
     requires options { IsLawful (plain_options options.now) }
-    requires lawful { All (IsLawfulPatch text.items) patches.items }
-    requires regions { map region_of patches.items ≡ regions_of (ways_of (plain_options options.now)) text.items }
-    requires spans { ArePlaced text.items 0 0 patches.items }
-    requires count { length patches.items < 2 ^ 32 }
-    requires hunks { hunks_in patches.items < 2 ^ 32 }
+    requires whole { AreWhole (ways_of (plain_options options.now)) text.items patches.items }
     ensures set { IfOk result (IsSetOf (plain_options options.now) text.items (map (patch_of text.items) patches.items)) }
     ensures fresh { IfOk result IsFresh }
     ensures whole { IfOk result IsWhole }
@@ -87,11 +81,7 @@ fn named_set(
     patches: Vec<FilePatch>,
 ) -> Result<PatchSet, SetFault>
     requires options { IsLawful (plain_options options.now) }
-    requires lawful { All (IsLawfulPatch text.items) patches.items }
-    requires regions { map region_of patches.items ≡ regions_of (ways_of (plain_options options.now)) text.items }
-    requires spans { ArePlaced text.items 0 0 patches.items }
-    requires count { length patches.items < 2 ^ 32 }
-    requires hunks { hunks_in patches.items < 2 ^ 32 }
+    requires whole { AreWhole (ways_of (plain_options options.now)) text.items patches.items }
     ensures set { IfOk result (IsSetOf (plain_options options.now) text.items (map (patch_of text.items) patches.items)) }
     ensures fresh { IfOk result IsFresh }
     ensures whole { IfOk result IsWhole }

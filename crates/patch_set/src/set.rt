@@ -1,14 +1,13 @@
 //! A set of file patches.
-ghost use Rattle.std.specs.Prelude.{◌≡◌, ◌<◌, ◌^◌, [], IfOk, All, length, map, replicate, slice_index_or};
+ghost use Rattle.std.specs.Prelude.{◌≡◌, ◌<◌, ◌^◌, [], IfOk, length, map, replicate, slice_index_or};
 ghost use Rattle.std.specs.Option.{ForSome, option_copied};
 ghost use Rattle.hunk_core.specs.declared.Verdict.TheVariants.{Untried};
-ghost use Rattle.file_patch.specs.Absent.{IsLawfulPatch};
 ghost use Rattle.file_patch.specs.PlainPatch.{header_of};
 ghost use Rattle.patch_text.specs.Regions.{region_of, regions_of};
 ghost use Rattle.patch_set.specs.PlainName.{plain_name};
 ghost use Rattle.patch_set.specs.Skipped.{skipped_lines};
-ghost use Rattle.patch_set.specs.Spans.{ArePlaced};
-ghost use Rattle.patch_set.specs.SetView.{IsFresh, IsWhole, first_row, hunks_in, patch_at, with_row, with_verdicts};
+ghost use Rattle.patch_set.specs.SetView.{IsWhole, first_row, hunks_in, patch_at, with_row, with_verdicts};
+ghost use Rattle.patch_set.specs.Fresh.{AreFirst, AreWhole, IsUntried};
 
 use crate::header_name::plain_name;
 use crate::names::Named;
@@ -144,6 +143,14 @@ impl PatchSet {
     }
 }
 
+/// What a set has beside its text and its file patches.
+#[derive(Drop)]
+struct Notes {
+    skipped: Vec<u64>,
+    verdicts: Vec<Verdict>,
+    rows: Vec<Row>,
+}
+
 /// The set of these file patches, of which nothing was tried yet.
 pub fn untried(
     alloc: Global,
@@ -151,27 +158,45 @@ pub fn untried(
     ways: Ways,
     named: Named,
 ) -> Result<PatchSet, AllocError>
-    requires lawful { All (IsLawfulPatch text.items) named.patches.items }
-    requires regions { map region_of named.patches.items ≡ regions_of ways text.items }
-    requires placed { ArePlaced text.items 0 0 named.patches.items }
-    requires count { length named.patches.items < 2 ^ 32 }
-    requires hunks { hunks_in named.patches.items < 2 ^ 32 }
-    ensures text { IfOk result (λ set. set.text ≡ text.items) }
-    ensures ways { IfOk result (λ set. set.ways ≡ ways) }
-    ensures patches { IfOk result (λ set. set.patches ≡ named.patches.items) }
-    ensures output { IfOk result (λ set. set.output ≡ named.output) }
-    ensures skipped { IfOk result (λ set. set.skipped ≡ skipped_lines ways text.items) }
-    ensures fresh { IfOk result IsFresh }
-    ensures whole { IfOk result IsWhole }
+    requires { AreWhole ways text.items named.patches.items }
+    ensures { IfOk result (IsUntried text.items ways named) }
 {
-    let skipped = skipped_lines(alloc, &text, ways, &named.patches)?;
-    let verdicts = untried_hunks(alloc, hunks_in(&named.patches))?;
-    let rows = first_rows(alloc, named.patches.len())?;
-    Ok(PatchSet {
+    let notes = first_notes(alloc, &text, ways, &named.patches)?;
+    Ok(noted(text, ways, named, notes))
+}
+
+/// The set with these notes.
+fn noted(text: Vec<u8>, ways: Ways, named: Named, notes: Notes) -> PatchSet
+    requires whole { AreWhole ways text.items named.patches.items }
+    requires notes { AreFirst ways text.items named.patches.items notes }
+    ensures { IsUntried text.items ways named result }
+{
+    PatchSet {
         text,
         ways,
         patches: named.patches,
         output: named.output,
+        skipped: notes.skipped,
+        verdicts: notes.verdicts,
+        rows: notes.rows,
+    }
+}
+
+/// The notes of a set of which nothing was tried yet.
+fn first_notes(
+    alloc: Global,
+    text: &[u8],
+    ways: Ways,
+    patches: &[FilePatch],
+) -> Result<Notes, AllocError>
+    requires regions { map region_of patches.now ≡ regions_of ways text.now }
+    requires hunks { hunks_in patches.now < 2 ^ 32 }
+    ensures { IfOk result (AreFirst ways text.now patches.now) }
+{
+    let skipped = skipped_lines(alloc, text, ways, patches)?;
+    let verdicts = untried_hunks(alloc, hunks_in(patches))?;
+    let rows = first_rows(alloc, patches.len())?;
+    Ok(Notes {
         skipped,
         verdicts,
         rows,

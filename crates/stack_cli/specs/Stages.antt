@@ -45,6 +45,10 @@ closed endings.Done stop s undoing = ended Done (raising s.applied ∷ []) (endi
 closed endings.Rejected stop s undoing = ended Rejected undoing (ending_text endings.Rejected s.name s.applied s.all)
 closed endings.CutOff stop s undoing = ended stop undoing []
 
+-- behind the patch, which its save would undo
+abbrev pub closed_over : Ending → Why → Stage → Option (List Entry) → Files → Outcome
+closed_over ending stop s entries f = closed ending stop s (undone_by (save_name (suc s.applied)) entries f)
+
 -- on the files with the save
 abbrev pub applied_by : Application → Why → Stage → Option (List Entry) → Files → Outcome
 applied_by a stop s entries f = behind a.effects a.text (closed a.ending stop s (undoing_by (save_name (suc s.applied)) entries (after_all a.effects f)))

@@ -1,13 +1,11 @@
 //! What a push does behind its patch.
-ghost use Rattle.std.specs.Prelude.{◌≡◌, ◌≤◌, ℕ, List, suc, length, not, Err, IsSome};
+ghost use Rattle.std.specs.Prelude.{◌≡◌, ◌≤◌, ℕ, List, length, not, Err, IsSome};
 ghost use Rattle.outside.specs.Files.{Files};
 ghost use Rattle.outside.specs.Quiet.{IsQuiet, Effect};
 ghost use Rattle.outside.specs.ScratchView.{ScratchView};
 ghost use Rattle.outside.specs.SinkView.{SinkView};
 ghost use Rattle.patch_run.specs.Doing.{QuietAfter};
 ghost use Rattle.series_stack.specs.Saves.{entries_of};
-ghost use Rattle.stack_steps.specs.Undoing.{undone_by};
-ghost use Rattle.stack_law.specs.Stack.{save_name};
 ghost use Rattle.stack_law.specs.Commands.Ending.{CutOff};
 ghost use Rattle.stack_law.specs.Commands.{Ending as endings};
 ghost use Rattle.tool_words.specs.declared.jobs.StackOp.TheVariants.{Push};
@@ -15,7 +13,7 @@ ghost use Rattle.run_answers.specs.Answers.{of_run};
 ghost use Rattle.run_answers.specs.declared.why.Why.TheVariants.{Done, Rejected};
 ghost use Rattle.run_answers.specs.Worlds.{world};
 ghost use Rattle.stack_cli.specs.Comes.{Comes};
-ghost use Rattle.stack_cli.specs.Stages.{Closes, HasCut, IsCut, QuietBy, Stage, is_cut, closed, ending_if, why_by};
+ghost use Rattle.stack_cli.specs.Stages.{Closes, HasCut, IsCut, QuietBy, Stage, is_cut, closed, closed_over, ending_if, why_by};
 ghost use Rattle.stack_cli.specs.States.{stage_of};
 
 use crate::fault::done;
@@ -67,7 +65,7 @@ fn close_ended<T: Tree, O: Sink>(
     requires applied { state.now.stack.applied ≤ 9999 }
     requires save { IsSome (entries_of save.now) }
     requires quiet { IsQuiet (T.view tree.old) }
-    ensures comes { (a : ScratchView) → Comes Push (world (T.view tree.old) a (O.view out.old)) (world (T.view tree.new) a (O.view out.new)) result (λ f. closed (ending_if applied.is_bad) Done (stage_of state.now name.now) (undone_by (save_name (suc state.now.stack.applied)) (entries_of save.now) f)) }
+    ensures comes { (a : ScratchView) → Comes Push (world (T.view tree.old) a (O.view out.old)) (world (T.view tree.new) a (O.view out.new)) result (λ f. closed_over (ending_if applied.is_bad) Done (stage_of state.now name.now) (entries_of save.now) f) }
     ensures rest { O.same_rest out.old out.new }
 {
     if is_whole(&applied) {
@@ -106,7 +104,7 @@ fn close_rejected<T: Tree, O: Sink>(
     requires applied { state.now.stack.applied ≤ 9999 }
     requires save { IsSome (entries_of save.now) }
     requires quiet { IsQuiet (T.view tree.old) }
-    ensures comes { (a : ScratchView) → Comes Push (world (T.view tree.old) a (O.view out.old)) (world (T.view tree.new) a (O.view out.new)) result (λ f. closed endings.Rejected Done (stage_of state.now name.now) (undone_by (save_name (suc state.now.stack.applied)) (entries_of save.now) f)) }
+    ensures comes { (a : ScratchView) → Comes Push (world (T.view tree.old) a (O.view out.old)) (world (T.view tree.new) a (O.view out.new)) result (λ f. closed_over endings.Rejected Done (stage_of state.now name.now) (entries_of save.now) f) }
     ensures rest { O.same_rest out.old out.new }
 {
     let stack = &state.stack;
@@ -153,7 +151,7 @@ fn undo_cut<T: Tree>(alloc: Global, applied: u32, save: &[u8], cut: RunFault, tr
     requires save { IsSome (entries_of save.now) }
     requires quiet { IsQuiet (T.view tree.old) }
     requires cut { IsCut cut }
-    ensures { (a : ScratchView) (c : SinkView) (s : Stage) → s.applied ≡ applied → Comes Push (world (T.view tree.old) a c) (world (T.view tree.new) a c) result (λ f. closed CutOff (of_run cut) s (undone_by (save_name (suc s.applied)) (entries_of save.now) f)) }
+    ensures { (a : ScratchView) (c : SinkView) (s : Stage) → s.applied ≡ applied → Comes Push (world (T.view tree.old) a c) (world (T.view tree.new) a c) result (λ f. closed_over CutOff (of_run cut) s (entries_of save.now) f) }
 {
     match undo(alloc, applied + 1, save, tree) {
         Ok(()) => Why::from(cut),

@@ -1,5 +1,6 @@
-use Rattle.std.proofs.Common.{◌≡◌, Ok, subst, ap, map, length, arith}
+use Rattle.std.proofs.Common.{◌≡◌, Ok, All, subst, ap, map, length, arith}
 use Rattle.std.proofs.lemmas.Bool.{le-ltb}
+use Rattle.file_patch.specs.Absent.{IsLawfulPatch}
 use Rattle.file_patch.specs.PlainPatch.{patch_of}
 use Rattle.patch_options.specs.PlainJob.{plain_options}
 use Rattle.patch_text.specs.Patches.{patches_of}
@@ -25,12 +26,14 @@ returns-clause-refused c =
     subst (λ r. Meets r c.set_of.result)
     (read-refusal o c.args.text.items text ps (le-ltb 268435456 (length c.args.text.items) (omega arith)) c.in_ok-text.ensures read) c.set_of.ensures.refused
 
-pub set_of-requires-clause-spans : goal.set_of-requires-clause-spans
-set_of-requires-clause-spans c =
-    subst (λ t. ArePlaced t 0 0 c.in_ok-patches.patches.items) c.deref.ensures.value (are-placed _ _ _ c.in_ok-patches.ensures.are)
-
-pub set_of-requires-clause-regions : goal.set_of-requires-clause-regions
-set_of-requires-clause-regions c =
+pub set_of-requires-clause-whole : goal.set_of-requires-clause-whole
+set_of-requires-clause-whole c =
     let ps = c.in_ok-patches.patches.items in
-    subst (λ w. map region_of ps ≡ regions_of w c.in_ok-text.text.items) c.ways_of.ensures
-    (subst (λ t. map region_of ps ≡ regions_of c.ways_of.result t) c.deref.ensures.value c.in_ok-patches.ensures.regions)
+    record {
+      lawful = subst (λ t. All (IsLawfulPatch t) c.in_ok-patches.patches.items) c.deref.ensures.value c.in_ok-patches.ensures.lawful;
+      regions = subst (λ w. map region_of ps ≡ regions_of w c.in_ok-text.text.items) c.ways_of.ensures
+          (subst (λ t. map region_of ps ≡ regions_of c.ways_of.result t) c.deref.ensures.value c.in_ok-patches.ensures.regions);
+      placed = subst (λ t. ArePlaced t 0 0 c.in_ok-patches.patches.items) c.deref.ensures.value (are-placed _ _ _ c.in_ok-patches.ensures.are);
+      count = c.in_ok-patches.ensures.count;
+      hunks = c.in_ok-patches.ensures.hunks;
+    }

@@ -1,0 +1,36 @@
+-- A set of which nothing was tried yet.
+use Rattle.std.specs.Prelude.{◌≡◌, ℕ, ◌<◌, ◌^◌, List, length, map, replicate, All}
+use Rattle.hunk_core.specs.declared.Verdict.TheVariants.{Untried}
+use Rattle.file_patch.specs.declared.FilePatch.{FilePatch}
+use Rattle.file_patch.specs.Absent.{IsLawfulPatch}
+use Rattle.patch_header.specs.declared.ways.Ways.{Ways}
+use Rattle.patch_text.specs.Regions.{region_of, regions_of}
+use Rattle.patch_set.specs.declared.names.Named.{Named}
+use Rattle.patch_set.specs.declared.set.Notes.{Notes}
+use Rattle.patch_set.specs.SetView.{SetView, IsFresh, IsWhole, first_row, hunks_in}
+use Rattle.patch_set.specs.Skipped.{skipped_lines}
+use Rattle.patch_set.specs.Spans.{ArePlaced}
+
+-- lawful file patches that lie where the text says, one behind the other, and can be counted with their hunks
+pub record AreWhole (ways : Ways) (text : List ℕ) (ps : List FilePatch) : Type 0 where
+  pub lawful : All (IsLawfulPatch text) ps
+  pub regions : map region_of ps ≡ regions_of ways text
+  pub placed : ArePlaced text 0 0 ps
+  pub count : length ps < 2 ^ 32
+  pub hunks : hunks_in ps < 2 ^ 32
+
+-- what is noted before anything was tried
+pub record AreFirst (ways : Ways) (text : List ℕ) (ps : List FilePatch) (n : Notes) : Type 0 where
+  pub skipped : n.skipped.items ≡ skipped_lines ways text
+  pub verdicts : n.verdicts.items ≡ replicate (hunks_in ps) Untried
+  pub rows : n.rows.items ≡ replicate (length ps) first_row
+
+-- the set of these file patches
+pub record IsUntried (given : List ℕ) (read : Ways) (named : Named) (v : SetView) : Type 0 where
+  pub text : v.text ≡ given
+  pub ways : v.ways ≡ read
+  pub patches : v.patches ≡ named.patches.items
+  pub output : v.output ≡ named.output
+  pub skipped : v.skipped ≡ skipped_lines read given
+  pub fresh : IsFresh v
+  pub whole : IsWhole v
