@@ -1,7 +1,7 @@
 use Rattle.std.proofs.Common.{◌||◌, Option, option_map, sym, ◌∙◌, ap}
 use Rattle.patch_options.specs.PlainJob.{plain_options}
 use Rattle.target_names.specs.declared.derived.Target.{Target}
-use Rattle.patch_run.specs.OnePatch.{PlainTurn, is_name, written_by, renamed_by}
+use Rattle.patch_run.specs.OnePatch.{PlainTurn, is_name, renamed_by}
 use Rattle.patch_run.specs.Ready.{alone}
 use Rattle.patch_run.proofs.MoreWritten.{has-none, has-both}
 use Rattle.patch_run.proofs.past.has_written.Goals as goal
