@@ -1,5 +1,6 @@
 -- From a set that is read to what `filterdiff` with a form comes to, and what a run promises then.
 use Rattle.std.proofs.Common.{◌≡◌, ℕ, true, false, List, [], Option, None, Some, Result, Ok, Err, refl, sym, ap, ◌∙◌, inr}
+use Rattle.std.specs.Prelude.{IfSome}
 use Rattle.std.proofs.lemmas.Bool.{false≢true}
 use Rattle.hunk_core.specs.declared.Form.{Form}
 use Rattle.outside.specs.Files.{Files}
@@ -17,7 +18,7 @@ use Rattle.format_convert.specs.declared.fault.ConvertFault.{ConvertFault}
 use Rattle.format_convert.specs.declared.fault.ConvertFault.TheVariants as convert
 use Rattle.format_convert.specs.Converted.{Converts, converted}
 use Rattle.format_convert.specs.Refusals.{refusal as form_refusal}
-use Rattle.filter_run.specs.Converting.{FormOutcome, Forms, HasFormCause, IsConverted, convert_outcome, converted_by, converted_in, form_refused, of_convert, unless_unfit, unless_unread}
+use Rattle.filter_run.specs.Converting.{FormOutcome, Forms, HasFormCause, IsConverted, convert_outcome, converted_by, converted_in, form_refused, of_convert, of_converted, unless_unfit, unless_unread}
 use Rattle.filter_run.specs.Outcomes.{Outcome, filter_with, given}
 use Rattle.filter_run.specs.Sifting.{HasTextCause, IsTold, is_refusal}
 use Rattle.filter_run.specs.Opened.{IsGarbage, IsReadOf, IsReadOfSome, IsRefused, Opens}
@@ -147,3 +148,10 @@ module _ (form : Form) (j : PlainFilterJob) where
             answers = λ f left told. inr (bytes, comes-so None w.cause.0 f left told, w.cause.2);
             cause = w.cause.1;
           }
+
+    -- over what was opened
+    pub forms-over : {O : Type 0} (view : O → SinkView) (same : O → O → Type 0) (x y : O) (o : Option SetView) (r : Result (Unit {0}) ConvertFault) → Opens j.input j.select new t u a b (Ok o) → IfSome o IsReadOfSome
+        → IfSome o (λ v. Converts view same x y r (form_refusal form (left_patches (filter_with j new) (plain_patches v))) (converted form (filter_with j new) v)) → (o ≡ None → (r ≡ Ok tt) × (y ≡ x)) → Forms form j t u a b (view x) (view y) (of_converted r)
+    forms-over view same x y None r h some converts none = let is = none refl in rw (is.0, is.1) (forms-nothing (view x) h)
+    forms-over view same x y (Some v) (Ok done) h some converts none = forms-written v h view same x y converts
+    forms-over view same x y (Some v) (Err e) h some converts none = forms-refused v h view same x y some e converts

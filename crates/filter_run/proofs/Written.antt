@@ -1,10 +1,12 @@
 -- From what was read, and what was written of it, to what a filter promises.
-use Rattle.std.proofs.Common.{◌≡◌, ◌≢◌, inl, inr, ℕ, Bool, true, false, List, [], ◌∷◌, None, Some, Result, Ok, Err, refl, sym, ◌∙◌}
+use Rattle.std.proofs.Common.{◌≡◌, ◌≢◌, inl, inr, ℕ, Bool, true, false, List, [], ◌∷◌, Option, None, Some, Result, Ok, Err, IfErr, OnOk, OnErr, refl, sym, ◌∙◌}
+use Rattle.std.specs.Prelude.{IfSome}
 use Rattle.std.proofs.lemmas.Bool.{false≢true}
 use Rattle.outside.specs.Files.{Files}
 use Rattle.outside.specs.TreeView.{TreeView}
 use Rattle.outside.specs.FinderView.{FinderView}
 use Rattle.outside.specs.SourceView.{SourceView}
+use Rattle.outside.specs.declared.Failed.{Failed}
 use Rattle.outside.specs.SinkView.{SinkView, SinkPasses, sink_passes_none, Receives, ReceivesPart, Writes}
 use Rattle.outside.proofs.Writing.{received_none}
 use Rattle.patch_options.specs.declared.options.Input.{Input}
@@ -16,7 +18,7 @@ use Rattle.patch_set.specs.SetView.{SetView}
 use Rattle.patch_filters.specs.declared.fault.GrepFault.{GrepFault}
 use Rattle.patch_filters.specs.declared.fault.GrepFault.TheVariants as grep
 use Rattle.patch_filters.specs.Grepped.{HasGrepCause, grepped}
-use Rattle.filter_run.specs.Faults.{of_grep}
+use Rattle.filter_run.specs.Faults.{of_grep, of_search, of_sink}
 use Rattle.filter_run.specs.Outcomes.{Outcome, HasPatches, IsGrepped, given, grep_with}
 use Rattle.filter_run.specs.Sifting.{AnswersFault, HasCause, HasTextCause, IsTold, Sifts, is_early, is_refusal}
 use Rattle.filter_run.specs.Opened.{IsGarbage, IsReadOf, IsRefused, HasOpeningCause, Opens}
@@ -126,6 +128,13 @@ module _ (i : Input) (old new : PlainSelect) (Q : Type 0) (written : PlainSelect
     pub sifts-cut : {R E : Type 0} (e : E) → Writes {R = R} c d (Err e) (written new v) → Sifts i old HasTextCause Q P t u a b c d (Err faults.Write)
     sifts-cut e w = sifts-broken faults.Write refl refl w.call.passes w.failed (w.call.cause refl)
 
+  -- over what was opened
+  pub sifts-over : {O : Type 0} (view : O → SinkView) (x y : O) (o : Option SetView) (r : Result (Unit {0}) Failed) → Opens i old new t u a b (Ok o) → IfSome o (λ v. Writes (view x) (view y) r (written new v)) → (o ≡ None → (r ≡ Ok tt) × (y ≡ x))
+      → Sifts i old HasTextCause Q P t u a b (view x) (view y) (of_sink r)
+  sifts-over view x y None r h writes none = let is = none refl in rw (is.0, is.1) (sifts-nothing (view x) h)
+  sifts-over view x y (Some v) (Ok done) h writes none = sifts-written v h (view x) (view y) writes
+  sifts-over view x y (Some v) (Err e) h writes none = sifts-cut v h (view x) (view y) e writes
+
 -- ---- a search, whose pattern may be refused
 abbrev ended : GrepFault → Result (Unit {0}) GrepFault
 ended e = Err e
@@ -174,3 +183,24 @@ module _ (new : PlainSelect) (finder : FinderView) (j : PlainGrepJob) (t u : Tre
       | [] ↦ λ empty. same empty
       | p ∷ ps ↦ λ some. absurd (none (patches-there (given j.input j.select files left) new v (λ empty. let never = sym some ∙ empty in absurd (cc)) (h.opened files left told)))
     ] refl
+
+  -- over what was opened
+  module _ {O F : Type 0} (view : O → SinkView) (x y : O) (f g : F) (o : Option SetView) (r : Result (Unit {0}) GrepFault) (h : Opens j.input j.select new t u a b (Ok o))
+      (unasked : IfSome o (λ v. v.patches ≡ [] → (r ≡ Ok tt) × (g ≡ f) × (y ≡ x))) (none : o ≡ None → (r ≡ Ok tt) × (g ≡ f) × (y ≡ x)) where
+    pub searched-over : SinkPasses (view x) (view y) → IfSome o (λ v. OnOk r (Receives (view x) (view y) (bytes new v))) → IfSome o (λ v. OnErr r (ReceivesPart (view x) (view y) (bytes new v)))
+        → IfErr r (λ e. HasGrepCause e view finder j.pattern x y) → Searches (view x) (view y) (of_search r)
+    searched-over passes received failed cause = over o r h unasked none received failed cause
+      where
+        over : (p : Option SetView) (s : Result (Unit {0}) GrepFault) → Opens j.input j.select new t u a b (Ok p) → IfSome p (λ v. v.patches ≡ [] → (s ≡ Ok tt) × (g ≡ f) × (y ≡ x)) → (p ≡ None → (s ≡ Ok tt) × (g ≡ f) × (y ≡ x))
+            → IfSome p (λ v. OnOk s (Receives (view x) (view y) (bytes new v))) → IfSome p (λ v. OnErr s (ReceivesPart (view x) (view y) (bytes new v))) → IfErr s (λ e. HasGrepCause e view finder j.pattern x y)
+            → Searches (view x) (view y) (of_search s)
+        over None s k empty nothing got part why = let is = nothing refl in rw (is.0, is.2) (searched-nothing (view x) k)
+        over (Some v) (Ok done) k empty nothing got part why = searched-done v k (view x) (view y) passes got
+        over (Some v) (Err e) k empty nothing got part why = searched-faulted v k view x y f g e passes part why empty
+
+    pub searched-untold : (files : Files) (left : List ℕ) → IsTold j.input j.select t a files left → (HasPatches (given j.input j.select files left) → ⊥) → g ≡ f
+    searched-untold files left told without = untold o h unasked none
+      where
+        untold : (p : Option SetView) → Opens j.input j.select new t u a b (Ok p) → IfSome p (λ v. v.patches ≡ [] → (r ≡ Ok tt) × (g ≡ f) × (y ≡ x)) → (p ≡ None → (r ≡ Ok tt) × (g ≡ f) × (y ≡ x)) → g ≡ f
+        untold None k empty nothing = (nothing refl).1
+        untold (Some v) k empty nothing = searched-unasked v k f g (λ is. (empty is).1) files left told without

@@ -48,6 +48,11 @@ of_convert (convert.NoContext line) = NoContext line
 of_convert (convert.Unfit line) = Unfit line
 of_convert convert.Write = Filter faults.Write
 
+-- what a filter with a form answers where the writing has answered so
+abbrev pub of_converted : Result (Unit {0}) ConvertFault → Result (Unit {0}) FormFault
+of_converted (Ok done) = Ok done
+of_converted (Err e) = Err (of_convert e)
+
 -- these bytes, where the text can be written in the form
 abbrev pub unless_unfit : Option ConvertFault → List ℕ → FormOutcome
 unless_unfit None bytes = Ok bytes

@@ -1,12 +1,25 @@
 //! How a filter reads a text: as `patch` does without options.
-ghost use Rattle.std.specs.Prelude.{◌≡◌};
+ghost use Rattle.std.specs.Prelude.{◌≡◌, IfOk};
 ghost use Rattle.patch_options.specs.PlainJob.{plain_options, IsLawful};
+ghost use Rattle.patch_set.specs.Refusals.{refusal};
+ghost use Rattle.patch_set.specs.SetView.{IsRead, IsWhole, Meets};
 ghost use Rattle.filter_run.specs.Texts.{defaults};
 
 use patch_options::{Input, Options, PlanKind};
+use patch_set::{PatchSet, SetFault, read_set};
+use std::alloc::Global;
+
+/// The set of a text.
+pub fn read_plain(alloc: Global, text: Vec<u8>) -> Result<PatchSet, SetFault>
+    ensures read { IfOk result (IsRead defaults text.items) }
+    ensures whole { IfOk result IsWhole }
+    ensures refused { Meets (refusal defaults text.items) result }
+{
+    read_set(alloc, text, &default_options())
+}
 
 /// What `patch` alone asks for.
-pub fn default_options() -> Options
+fn default_options() -> Options
     ensures options { plain_options result ≡ defaults }
     ensures lawful { IsLawful (plain_options result) }
 {

@@ -12,13 +12,13 @@ ghost use Rattle.filter_run.specs.Outcomes.{IsOutcomeOf, no_selection};
 ghost use Rattle.filter_run.specs.Sifting.{Sifts};
 ghost use Rattle.filter_run.specs.Flips.{HasFlipCause, IsTextRead, IsUnread, TurnAnswers, flip_outcome, text_flipped, turned_unless};
 
-use crate::defaults::default_options;
+use crate::defaults::read_plain;
 use crate::fault::FilterFault;
 use flip_patch::flip_patches;
 use outside::{Sink, Source, Tree};
 use patch_input::read_input;
 use patch_options::Input;
-use patch_set::{PatchSet, read_set};
+use patch_set::PatchSet;
 use std::alloc::Global;
 
 /// Carries out a command of `reversediff`: the file patches of the text from the last to the first, each turned round. A text
@@ -54,7 +54,7 @@ fn read_whole<T: Tree, I: Source>(
     ensures refused { IfErr result (λ e. IsUnread e input.now (T.view tree.old) (T.view tree.new) (I.view source.old) (I.view source.new)) }
 {
     let text = read_input(alloc, input, None, tree, source)?;
-    let set = read_set(alloc, text, &default_options())?;
+    let set = read_plain(alloc, text)?;
     Ok(set)
 }
 

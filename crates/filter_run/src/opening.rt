@@ -14,13 +14,13 @@ ghost use Rattle.filter_run.specs.Sifting.{HasInputCause, IsTold, is_refusal};
 ghost use Rattle.filter_run.specs.Opened.{IsReadOfSome, Opens};
 ghost use Rattle.filter_run.specs.declared.fault.FilterFault.TheVariants as faults;
 
-use crate::defaults::default_options;
+use crate::defaults::read_plain;
 use crate::fault::FilterFault;
 use crate::patterns::add_patterns;
 use outside::{Source, Tree};
 use patch_input::{InputFault, read_input};
 use patch_options::Input;
-use patch_set::{PatchSet, SetFault, read_set};
+use patch_set::{PatchSet, SetFault};
 use std::alloc::Global;
 use tool_words::Select;
 
@@ -52,8 +52,7 @@ fn read_patches(alloc: Global, text: Vec<u8>) -> Result<Option<PatchSet>, SetFau
     ensures none { IfOk result (λ given. given ≡ None → refusal defaults text.items ≡ Some TheFault.Garbage) }
     ensures refused { IfErr result (λ e. (e ≡ TheFault.Memory) ⊎ ((e ≢ TheFault.Garbage) × (refusal defaults text.items ≡ Some e))) }
 {
-    let options = default_options();
-    match read_set(alloc, text, &options) {
+    match read_plain(alloc, text) {
         Ok(set) => Ok(Some(set)),
         Err(fault) => match fault {
             SetFault::Garbage => Ok(None),

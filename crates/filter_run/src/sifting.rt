@@ -1,19 +1,25 @@
 //! The filters that write one text and leave the tree as it is.
-ghost use Rattle.std.specs.Prelude.{◌≡◌, ℕ, List, None};
+ghost use Rattle.std.specs.Prelude.{◌≡◌, ℕ, List, [], None, Ok, string_bytes, IfErr, IfSome, OnErr, OnOk};
 ghost use Rattle.outside.specs.Files.{Files};
 ghost use Rattle.outside.specs.FinderView.{FinderPasses};
+ghost use Rattle.outside.specs.SinkView.{Receives, ReceivesPart, SinkPasses, Writes};
 ghost use Rattle.tool_words.specs.PlainJobs.{plain_filter_job, plain_grep_job, plain_list_job, plain_select};
 ghost use Rattle.patch_input.specs.Input.{IsFile};
+ghost use Rattle.patch_set.specs.SetView.{plain_patches};
+ghost use Rattle.patch_filters.specs.Filtered.{filtered};
+ghost use Rattle.patch_filters.specs.Grepped.{HasGrepCause, grepped};
+ghost use Rattle.patch_filters.specs.Listed.{listed};
+ghost use Rattle.filter_run.specs.Faults.{of_search, of_sink};
 ghost use Rattle.filter_run.specs.Outcomes.{HasPatches, IsOutcomeOf, filter_outcome, given, list_outcome, no_selection, recount_outcome};
 ghost use Rattle.filter_run.specs.Sifting.{Greps, HasCountCause, HasTextCause, IsTold, Sifts};
 
 use crate::fault::FilterFault;
 use crate::opening::open_text;
-use outside::{Finder, Sink, Source, Tree, put_all};
-use patch_filters::{filter_patches, grep_patches, list_patches};
+use outside::{Failed, Finder, Sink, Source, Tree, put_all};
+use patch_filters::{GrepFault, filter_patches, grep_patches, list_patches};
 use patch_input::read_input;
 use patch_options::Input;
-use patch_set::SetFault;
+use patch_set::{PatchSet, SetFault};
 use split_recount::recount;
 use std::alloc::Global;
 use tool_words::{FilterJob, GrepJob, ListJob};
@@ -31,12 +37,9 @@ pub fn run_list<T: Tree, I: Source, O: Sink>(
     ensures rest { O.same_rest out.old out.new }
 {
     let mut job = job;
-    match open_text(alloc, &job.input, &mut job.select, tree, source)? {
-        Some(set) => match list_patches(&set, &job, out) {
-            Ok(()) => Ok(()),
-            Err(_) => Err(FilterFault::Write),
-        },
-        None => Ok(()),
+    match open_text(alloc, &job.input, &mut job.select, tree, source) {
+        Ok(opened) => sink_answer(put_listed(&opened, &job, out)),
+        Err(fault) => Err(fault),
     }
 }
 
@@ -54,12 +57,9 @@ pub fn run_filter<T: Tree, I: Source, O: Sink>(
     ensures rest { O.same_rest out.old out.new }
 {
     let mut job = job;
-    match open_text(alloc, &job.input, &mut job.select, tree, source)? {
-        Some(set) => match filter_patches(&set, &job, out) {
-            Ok(()) => Ok(()),
-            Err(_) => Err(FilterFault::Write),
-        },
-        None => Ok(()),
+    match open_text(alloc, &job.input, &mut job.select, tree, source) {
+        Ok(opened) => sink_answer(put_filtered(&opened, &job, out)),
+        Err(fault) => Err(fault),
     }
 }
 
@@ -80,12 +80,9 @@ pub fn run_grep<T: Tree, F: Finder, I: Source, O: Sink>(
     ensures unasked { (f : Files) (left : List ℕ) → IsTold job.input (plain_select job.select) (T.view tree.old) (I.view source.old) f left → (HasPatches (given job.input (plain_select job.select) f left) → ⊥) → finder.new ≡ finder.old }
 {
     let mut job = job;
-    match open_text(alloc, &job.input, &mut job.select, tree, source)? {
-        Some(set) => match grep_patches(alloc, &set, &job, finder, out) {
-            Ok(()) => Ok(()),
-            Err(fault) => Err(FilterFault::from(fault)),
-        },
-        None => Ok(()),
+    match open_text(alloc, &job.input, &mut job.select, tree, source) {
+        Ok(opened) => search_answer(put_grepped(alloc, &opened, &job, finder, out)),
+        Err(fault) => Err(fault),
     }
 }
 
@@ -109,5 +106,74 @@ pub fn run_recount<T: Tree, I: Source, O: Sink>(
     match put_all(out, &counted) {
         Ok(()) => Ok(()),
         Err(_) => Err(FilterFault::Write),
+    }
+}
+
+/// Writes the list of the file patches, where there are some.
+fn put_listed<O: Sink>(opened: &Option<PatchSet>, job: &ListJob, out: &mut O) -> Result<(), Failed>
+    ensures writes { IfSome opened.now (λ set. Writes (O.view out.old) (O.view out.new) result (listed (plain_list_job job.now) (plain_patches set))) }
+    ensures none { opened.now ≡ None → (result ≡ Ok tt) × (out.new ≡ out.old) }
+    ensures rest { O.same_rest out.old out.new }
+{
+    match opened {
+        Some(set) => list_patches(set, job, out),
+        None => Ok(()),
+    }
+}
+
+/// Writes what is meant of the file patches, where there are some.
+fn put_filtered<O: Sink>(
+    opened: &Option<PatchSet>,
+    job: &FilterJob,
+    out: &mut O,
+) -> Result<(), Failed>
+    ensures writes { IfSome opened.now (λ set. Writes (O.view out.old) (O.view out.new) result (filtered (plain_filter_job job.now) set)) }
+    ensures none { opened.now ≡ None → (result ≡ Ok tt) × (out.new ≡ out.old) }
+    ensures rest { O.same_rest out.old out.new }
+{
+    match opened {
+        Some(set) => filter_patches(set, job, out),
+        None => Ok(()),
+    }
+}
+
+/// Writes what is found in the file patches, where there are some.
+fn put_grepped<F: Finder, O: Sink>(
+    alloc: Global,
+    opened: &Option<PatchSet>,
+    job: &GrepJob,
+    finder: &mut F,
+    out: &mut O,
+) -> Result<(), GrepFault>
+    ensures finder { FinderPasses (F.view finder.old) (F.view finder.new) }
+    ensures passes { SinkPasses (O.view out.old) (O.view out.new) }
+    ensures rest { O.same_rest out.old out.new }
+    ensures received { IfSome opened.now (λ set. OnOk result (Receives (O.view out.old) (O.view out.new) (grepped ((F.view finder.old).hit (string_bytes job.now.pattern)) (plain_grep_job job.now) set))) }
+    ensures failed { IfSome opened.now (λ set. OnErr result (ReceivesPart (O.view out.old) (O.view out.new) (grepped ((F.view finder.old).hit (string_bytes job.now.pattern)) (plain_grep_job job.now) set))) }
+    ensures cause { IfErr result (λ e. HasGrepCause e O.view (F.view finder.old) (string_bytes job.now.pattern) out.old out.new) }
+    ensures unasked { IfSome opened.now (λ set. set.patches ≡ [] → (result ≡ Ok tt) × (finder.new ≡ finder.old) × (out.new ≡ out.old)) }
+    ensures none { opened.now ≡ None → (result ≡ Ok tt) × (finder.new ≡ finder.old) × (out.new ≡ out.old) }
+{
+    match opened {
+        Some(set) => grep_patches(alloc, set, job, finder, out),
+        None => Ok(()),
+    }
+}
+
+fn sink_answer(written: Result<(), Failed>) -> Result<(), FilterFault>
+    ensures { result ≡ of_sink written }
+{
+    match written {
+        Ok(()) => Ok(()),
+        Err(_) => Err(FilterFault::Write),
+    }
+}
+
+fn search_answer(found: Result<(), GrepFault>) -> Result<(), FilterFault>
+    ensures { result ≡ of_search found }
+{
+    match found {
+        Ok(()) => Ok(()),
+        Err(fault) => Err(FilterFault::from(fault)),
     }
 }

@@ -14,12 +14,12 @@ ghost use Rattle.filter_run.specs.Sifting.{is_refusal};
 ghost use Rattle.filter_run.specs.Parting.{PutsPart, PutsParts, part_name};
 ghost use Rattle.filter_run.specs.Splits.{IsSplit, HasEarlyCause, Splits};
 
-use crate::defaults::default_options;
+use crate::defaults::read_plain;
 use crate::fault::FilterFault;
 use line_list::Span;
 use outside::{Failed, Name, Sink, Tree, put_all};
 use patch_input::read_file;
-use patch_set::{PatchSet, read_set};
+use patch_set::PatchSet;
 use replace_file::put_whole;
 use split_recount::split_parts;
 use std::alloc::{AllocError, Global};
@@ -51,7 +51,7 @@ fn read_split<T: Tree>(alloc: Global, job: &SplitJob, tree: &mut T) -> Result<Pa
     ensures cause { IfErr result (λ e. HasEarlyCause e (T.view tree.old) (T.view tree.new)) }
 {
     let text = read_file(alloc, &job.input, tree)?;
-    let set = read_set(alloc, text, &default_options())?;
+    let set = read_plain(alloc, text)?;
     Ok(set)
 }
 

@@ -1,9 +1,7 @@
-use Rattle.std.proofs.Common.{◌≡◌, ◌⊎◌, true, None, Some, Err, subst}
+use Rattle.std.proofs.Common.{◌≡◌, true, Some, Err}
 use Rattle.outside.specs.Files.{Files}
 use Rattle.tool_words.specs.PlainJobs.{plain_split_job}
-use Rattle.patch_set.specs.declared.fault.SetFault.TheVariants as set
 use Rattle.patch_set.specs.Refusals.{refusal}
-use Rattle.patch_set.specs.SetView.{IsRead}
 use Rattle.filter_run.specs.Texts.{defaults}
 use Rattle.filter_run.specs.Sifting.{is_refusal}
 use Rattle.filter_run.specs.Splits.{IsSplit, HasEarlyCause}
@@ -29,21 +27,18 @@ returns-in_err-set-clause-refused g c =
     let j = plain_split_job c.args.job.now in
     let e = c.in_err-set.field-0.0 in
     let text = c.in_ok-text.text.items in
-    let meets : (e ≡ set.Memory) ⊎ (refusal defaults text ≡ Some e) = subst (λ o. (e ≡ set.Memory) ⊎ (refusal o text ≡ Some e)) c.default_options.ensures.options c.in_err-set.ensures.refused in
     passed c.from_residual-in_err-set.result _ (λ e. is_refusal e ≡ true → (f : Files) → t.told ≡ Some f → IsSplit j f (Err e)) c.from_residual-in_err-set.ensures.1
-    (λ yes f told. split-refused j f text c.in_ok-text.ensures.short (c.in_ok-text.ensures.text f told) e (set-refused e (refusal defaults text) meets yes))
+    (λ yes f told. split-refused j f text c.in_ok-text.ensures.short (c.in_ok-text.ensures.text f told) e (set-refused e (refusal defaults text) c.in_err-set.ensures.refused yes))
 
 pub returns-in_err-set-clause-cause : goal.returns-in_err-set-clause-cause
 returns-in_err-set-clause-cause g c =
     let e = c.in_err-set.field-0.0 in
     let text = c.in_ok-text.text.items in
-    let meets : (e ≡ set.Memory) ⊎ (refusal defaults text ≡ Some e) = subst (λ o. (e ≡ set.Memory) ⊎ (refusal o text ≡ Some e)) c.default_options.ensures.options c.in_err-set.ensures.refused in
-    passed c.from_residual-in_err-set.result _ (λ e. HasEarlyCause e (g.T.Tree.view c.args.tree.now) (g.T.Tree.view c.read_file.new.tree)) c.from_residual-in_err-set.ensures.1 (set-cause e text meets)
+    passed c.from_residual-in_err-set.result _ (λ e. HasEarlyCause e (g.T.Tree.view c.args.tree.now) (g.T.Tree.view c.read_file.new.tree)) c.from_residual-in_err-set.ensures.1 (set-cause e text c.in_err-set.ensures.refused)
 
 pub returns-clause-set : goal.returns-clause-set
 returns-clause-set g c f told =
     let j = plain_split_job c.args.job.now in
     let text = c.in_ok-text.text.items in
     split-into j f text c.in_ok-text.ensures.short (c.in_ok-text.ensures.text f told) c.in_ok-set.set
-    (subst (λ o. refusal o text ≡ None) c.default_options.ensures.options c.in_ok-set.ensures.refused)
-    (subst (λ o. IsRead o text c.in_ok-set.set) c.default_options.ensures.options c.in_ok-set.ensures.read)
+    c.in_ok-set.ensures.refused c.in_ok-set.ensures.read
