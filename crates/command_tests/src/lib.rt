@@ -1,24 +1,11 @@
-//! Worked rows of the command over devices in memory; runs of which a call fails, and that are stopped; and runs over devices that give
-//! less than they state, or something else.
+//! Runs of `patch` over a file that changes while it is read, and over a scratch that is looked at afterwards or gives back other bytes.
 #![tactic(auto)]
 
 #[cfg(test)]
-mod devices;
-#[cfg(test)]
-mod failing;
-#[cfg(test)]
-mod options;
-#[cfg(test)]
-mod row;
+mod changing;
 #[cfg(test)]
 mod rows;
 #[cfg(test)]
-mod scene;
-#[cfg(test)]
-mod scratches;
+mod running;
 #[cfg(test)]
 mod spoiling;
-#[cfg(test)]
-mod stopping;
-#[cfg(test)]
-mod texts;

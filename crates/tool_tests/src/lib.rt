@@ -1,9 +1,13 @@
-//! Worked rows of the filters over devices in memory, and runs of `splitdiff` of which a call fails or that are stopped.
+//! Runs of the tools over devices in memory, of which calls fail, that are stopped, or that give less than they state.
 #![tactic(auto)]
 
 #[cfg(test)]
-mod parts;
+mod failing;
+#[cfg(test)]
+mod odd;
 #[cfg(test)]
 mod row;
 #[cfg(test)]
 mod rows;
+#[cfg(test)]
+mod running;

@@ -1,13 +1,12 @@
-//! A row is a text of labelled lines, in which a bar stands for a line's end. What it doesn't name is empty.
+//! A row is a text of labelled lines, in which a bar stands for a line's end. What it doesn't name is empty. Each line `files` is a
+//! state of the tree: files, and names that stand for nothing, with tabs between them. A run begins in the first state.
 
-use mem_world::{MemScratch, MemSink, MemSource, MemTree};
-use outside::{Finder, Name};
-use std::alloc::Global;
-use std::test::Fail;
-use tool_run::{Exit, run};
+use mem_world::MemTree;
+use outside::Name;
+use std::alloc::{AllocError, Global};
 
 /// What stands behind a label, or nothing.
-fn field<'r>(row: &'r str, label: &str) -> &'r str {
+pub fn field<'r>(row: &'r str, label: &str) -> &'r str {
     for line in row.split('\n') {
         if let Some(rest) = line.strip_prefix(label) {
             return rest;
@@ -17,69 +16,83 @@ fn field<'r>(row: &'r str, label: &str) -> &'r str {
 }
 
 /// The text in which a bar stands for a line's end.
-fn text_of(alloc: Global, shown: &str) -> Result<String, Fail> {
-    Ok(shown.replace(alloc, "|", "\n")?)
+pub fn text_of(alloc: Global, shown: &str) -> Result<Vec<u8>, AllocError> {
+    let text = shown.replace(alloc, "|", "\n")?;
+    Vec::from_slice(alloc, text.as_bytes())
 }
 
-/// Whether bytes are the text behind a label.
-fn is_text(alloc: Global, bytes: &[u8], row: &str, label: &str) -> Result<bool, Fail> {
-    Ok(bytes == text_of(alloc, field(row, label))?.as_bytes())
+pub fn name_of(alloc: Global, text: &str) -> Result<Name, AllocError> {
+    match Name::new(alloc, text.as_bytes()) {
+        Ok(name) => Ok(name),
+        Err(_) => Err(AllocError),
+    }
 }
 
-fn words_of(alloc: Global, row: &str) -> Result<Vec<String>, Fail> {
+pub fn words_of(alloc: Global, text: &str) -> Result<Vec<String>, AllocError> {
     let mut words = Vec::new(alloc);
-    for word in field(row, "words ").split(' ') {
+    for word in text.split(' ') {
         words.push(String::from_str(alloc, word)?)?;
     }
     Ok(words)
 }
 
-pub fn name_of(alloc: Global, text: &str) -> Result<Name, Fail> {
-    match Name::given(alloc, text.as_bytes()) {
-        Ok(name) => Ok(name),
-        Err(_) => Err("no name".into()),
+fn add_file(alloc: Global, tree: &mut MemTree, file: &str) -> Result<(), AllocError> {
+    match file.split_once('=') {
+        Some((name, text)) => tree.add(name_of(alloc, name)?, text_of(alloc, text)?),
+        None => Ok(()),
     }
 }
 
-/// The tree of a row: its text stands in `p.diff`, and its patterns in `patterns`.
-pub fn tree_of(alloc: Global, row: &str, failing: Vec<u32>) -> Result<MemTree, Fail> {
+/// The tree of a row, of which these calls fail.
+pub fn tree_of(alloc: Global, row: &str, failing: Vec<u32>) -> Result<MemTree, AllocError> {
     let mut tree = MemTree::new(alloc, failing);
-    for name in ["p.diff", "patterns"] {
-        let label = format!(in alloc; "{name} ")?;
-        let text = text_of(alloc, field(row, label.as_str()))?;
-        let bytes = Vec::from_slice(alloc, text.as_bytes())?;
-        tree.add(name_of(alloc, name)?, bytes)?;
+    for file in field(row, "files ").split('\t') {
+        add_file(alloc, &mut tree, file)?;
     }
     Ok(tree)
 }
 
-/// Whether a run answers, and says, what a row does.
-fn is_said(
-    alloc: Global,
-    exit: &Exit,
-    out: &MemSink,
-    err: &MemSink,
-    row: &str,
-) -> Result<bool, Fail> {
-    let answer = format!(in alloc; "{:?} {}", exit.why, exit.status)?;
-    if answer.as_str() != field(row, "answer ") || exit.applied.is_some() {
-        return Ok(false);
+/// Whether a name of a state stands for what it says.
+fn stands(alloc: Global, tree: &MemTree, file: &str) -> Result<bool, AllocError> {
+    match file.split_once('=') {
+        Some((name, text)) => {
+            let text = text_of(alloc, text)?;
+            Ok(tree.bytes_of(&name_of(alloc, name)?) == Some(text.as_slice()))
+        }
+        None => Ok(tree.bytes_of(&name_of(alloc, file)?).is_none()),
     }
-    Ok(is_text(alloc, out.bytes(), row, "out ")? && is_text(alloc, err.bytes(), row, "err ")?)
 }
 
-/// Whether a run does what a row says.
-pub fn is_kept<F: Finder>(alloc: Global, finder: &mut F, row: &str) -> Result<bool, Fail> {
-    let words = words_of(alloc, row)?;
-    let mut tree = tree_of(alloc, row, Vec::new(alloc))?;
-    let text = text_of(alloc, field(row, "input "))?;
-    let left = Vec::from_slice(alloc, text.as_bytes())?;
-    let mut input = MemSource::new(alloc, left, Vec::new(alloc));
-    let mut out = MemSink::new(alloc, Vec::new(alloc));
-    let mut err = MemSink::new(alloc, Vec::new(alloc));
-    let scratch = MemScratch::new(alloc, Vec::new(alloc));
-    let (exit, _scratch) = run(
-        alloc, &words, &mut tree, scratch, finder, &mut input, &mut out, &mut err,
-    );
-    is_said(alloc, &exit, &out, &err, row)
+fn is_state(alloc: Global, tree: &MemTree, state: &str) -> Result<bool, AllocError> {
+    for file in state.split('\t') {
+        if !stands(alloc, tree, file)? {
+            return Ok(false);
+        }
+    }
+    Ok(true)
+}
+
+/// The first of a row's states in which a tree is, as a bit: 1, 2, 4 and so on; 0 where it is in none.
+pub fn state_of(alloc: Global, tree: &MemTree, row: &str) -> Result<u32, AllocError> {
+    let mut bit = 1u32;
+    for line in row.split('\n') {
+        if let Some(state) = line.strip_prefix("files ") {
+            if is_state(alloc, tree, state)? {
+                return Ok(bit);
+            }
+            bit = bit.saturating_mul(2);
+        }
+    }
+    Ok(0)
+}
+
+/// The bits of all states of a row.
+pub fn all_states(row: &str) -> u32 {
+    let mut bits = 0u32;
+    for line in row.split('\n') {
+        if line.starts_with("files ") {
+            bits = bits.saturating_mul(2).saturating_add(1);
+        }
+    }
+    bits
 }
