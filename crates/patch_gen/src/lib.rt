@@ -11,8 +11,6 @@ ghost use Rattle.patch_gen.specs.Tree.{file_state, made_file, made};
 mod diff;
 mod draws;
 mod room;
-#[cfg(test)]
-mod tests;
 mod text;
 
 use diff::add_file_patch;

@@ -53,6 +53,3 @@ pub fn read_input<T: Tree, I: Source>(
         }
     }
 }
-
-#[cfg(test)]
-mod tests;
