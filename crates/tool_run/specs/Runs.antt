@@ -1,6 +1,11 @@
 -- What a run of the program promises, for each kind of tools. A further kind is one record more.
 use Rattle.std.specs.Prelude.{◌≡◌, ◌⊎◌, ℕ, List, false, Option, None, Err}
 use Rattle.outside.specs.Files.{Files}
+use Rattle.outside.specs.FinderView.{FinderView}
+use Rattle.outside.specs.ScratchView.{ScratchView}
+use Rattle.outside.specs.SinkView.{SinkView}
+use Rattle.outside.specs.SourceView.{SourceView}
+use Rattle.outside.specs.TreeView.{TreeView}
 use Rattle.patch_options.specs.Words.{job_of}
 use Rattle.patch_options.specs.declared.options.WordFault.{WordFault}
 use Rattle.patch_run.specs.Applied.{Receipt}
@@ -12,6 +17,8 @@ use Rattle.run_answers.specs.Worlds as worlds
 use Rattle.patch_cli.specs.Answers.{IsEarly, sort_of}
 use Rattle.patch_cli.specs.Command.{command}
 use Rattle.patch_cli.specs.Worlds.{World, TellsFiles, TellsLeft, reads_source, uses_scratch}
+use Rattle.patch_cli.specs.Worlds as patch_worlds
+use Rattle.patch_cli.specs.declared.cli.Exit.{Exit}
 use Rattle.patch_cli.specs.Carries.{Carries, NoneFailed, IsComplete}
 use Rattle.filter_cli.specs.Jobs.{AsksFor, HasPattern, ReadsSource}
 use Rattle.filter_cli.specs.Jobs as filter_jobs
@@ -88,3 +95,16 @@ pub record RunsStack {T C F I O : Type 0} (words : List (List ℕ)) (u w : world
   pub input : e.input ≡ d.input
   pub finder : e.finder ≡ d.finder
   pub no_receipt : applied ≡ None
+
+-- the same, of the devices at entry and at exit, by what they are seen as, and of how the run ends
+abbrev pub PatchRuns : {T C F I O : Type 0} → (T → TreeView) → (C → ScratchView) → (I → SourceView) → (O → SinkView) → List (List ℕ) → Devices T C F I O → Devices T C F I O → Exit → Type 0
+PatchRuns tree scratch input out words d e exit = RunsPatch words (patch_worlds.world (tree d.tree) (scratch d.scratch) (input d.input) (out d.out)) (patch_worlds.world (tree e.tree) (scratch e.scratch) (input e.input) (out e.out)) d e exit.why exit.applied
+
+abbrev pub FilterRuns : {T C F I O : Type 0} → (T → TreeView) → (F → FinderView) → (I → SourceView) → (O → SinkView) → List (List ℕ) → Devices T C F I O → Devices T C F I O → Exit → Type 0
+FilterRuns tree finder input out words d e exit = RunsFilter words (filter_worlds.world (tree d.tree) (finder d.finder) (input d.input) (out d.out)) (filter_worlds.world (tree e.tree) (finder e.finder) (input e.input) (out e.out)) d e exit.why exit.applied
+
+abbrev pub GenRuns : {T C F I O : Type 0} → (T → TreeView) → (C → ScratchView) → (O → SinkView) → List (List ℕ) → Devices T C F I O → Devices T C F I O → Exit → Type 0
+GenRuns tree scratch out words d e exit = RunsGen words (worlds.world (tree d.tree) (scratch d.scratch) (out d.out)) (worlds.world (tree e.tree) (scratch e.scratch) (out e.out)) d e exit.why exit.applied
+
+abbrev pub StackRuns : {T C F I O : Type 0} → (T → TreeView) → (C → ScratchView) → (O → SinkView) → List (List ℕ) → Devices T C F I O → Devices T C F I O → Exit → Type 0
+StackRuns tree scratch out words d e exit = RunsStack words (worlds.world (tree d.tree) (scratch d.scratch) (out d.out)) (worlds.world (tree e.tree) (scratch e.scratch) (out e.out)) d e exit.why exit.applied

@@ -3,8 +3,6 @@ ghost use Rattle.std.specs.Prelude.{◌≡◌, ◌⊎◌, map, false, true, None
 ghost use Rattle.outside.specs.SinkView.{Receives, ReceivesPart, Rises};
 ghost use Rattle.run_answers.specs.Answers.{exit_status, is_ended, of_words};
 ghost use Rattle.run_answers.specs.Reasons.{refusal_line};
-ghost use Rattle.patch_cli.specs.Worlds as patch_worlds;
-ghost use Rattle.filter_cli.specs.Worlds as filter_worlds;
 ghost use Rattle.run_answers.specs.Worlds as worlds;
 ghost use Rattle.stack_cli.specs.Jobs as stack_jobs;
 ghost use Rattle.stack_cli.specs.Carries as stack_carries;
@@ -12,7 +10,7 @@ ghost use Rattle.gen_cli.specs.Jobs.{job_of, uses_scratch};
 ghost use Rattle.gen_cli.specs.Carries.{Carries};
 ghost use Rattle.patch_options.specs.declared.options.WordFault.{WordFault};
 ghost use Rattle.tool_run.specs.Kinds.{kind_of};
-ghost use Rattle.tool_run.specs.Runs.{devices, RunsFilter, RunsGen, RunsPatch, RunsStack};
+ghost use Rattle.tool_run.specs.Runs.{devices, FilterRuns, GenRuns, PatchRuns, StackRuns};
 ghost use Rattle.tool_run.specs.declared.kind.Kind.TheVariants.{Filter, Gen, Patch, Stack};
 
 use crate::kind::{Kind, kind_of};
@@ -39,10 +37,10 @@ pub fn run<T: Tree, C: Scratch, F: Finder, I: Source, O: Sink, E: Sink>(
     out: &mut O,
     err: &mut E,
 ) -> (Exit, C)
-    ensures patch { kind_of (map string_bytes words.now) ≡ Patch → RunsPatch (map string_bytes words.now) (patch_worlds.world (T.view tree.old) (C.view scratch) (I.view input.old) (O.view out.old)) (patch_worlds.world (T.view tree.new) (C.view result.1) (I.view input.new) (O.view out.new)) (devices tree.old scratch finder.old input.old out.old) (devices tree.new result.1 finder.new input.new out.new) result.0.why result.0.applied }
-    ensures filter { kind_of (map string_bytes words.now) ≡ Filter → RunsFilter (map string_bytes words.now) (filter_worlds.world (T.view tree.old) (F.view finder.old) (I.view input.old) (O.view out.old)) (filter_worlds.world (T.view tree.new) (F.view finder.new) (I.view input.new) (O.view out.new)) (devices tree.old scratch finder.old input.old out.old) (devices tree.new result.1 finder.new input.new out.new) result.0.why result.0.applied }
-    ensures making { kind_of (map string_bytes words.now) ≡ Gen → RunsGen (map string_bytes words.now) (worlds.world (T.view tree.old) (C.view scratch) (O.view out.old)) (worlds.world (T.view tree.new) (C.view result.1) (O.view out.new)) (devices tree.old scratch finder.old input.old out.old) (devices tree.new result.1 finder.new input.new out.new) result.0.why result.0.applied }
-    ensures stack { kind_of (map string_bytes words.now) ≡ Stack → RunsStack (map string_bytes words.now) (worlds.world (T.view tree.old) (C.view scratch) (O.view out.old)) (worlds.world (T.view tree.new) (C.view result.1) (O.view out.new)) (devices tree.old scratch finder.old input.old out.old) (devices tree.new result.1 finder.new input.new out.new) result.0.why result.0.applied }
+    ensures patch { kind_of (map string_bytes words.now) ≡ Patch → PatchRuns T.view C.view I.view O.view (map string_bytes words.now) (devices tree.old scratch finder.old input.old out.old) (devices tree.new result.1 finder.new input.new out.new) result.0 }
+    ensures filter { kind_of (map string_bytes words.now) ≡ Filter → FilterRuns T.view F.view I.view O.view (map string_bytes words.now) (devices tree.old scratch finder.old input.old out.old) (devices tree.new result.1 finder.new input.new out.new) result.0 }
+    ensures making { kind_of (map string_bytes words.now) ≡ Gen → GenRuns T.view C.view O.view (map string_bytes words.now) (devices tree.old scratch finder.old input.old out.old) (devices tree.new result.1 finder.new input.new out.new) result.0 }
+    ensures stack { kind_of (map string_bytes words.now) ≡ Stack → StackRuns T.view C.view O.view (map string_bytes words.now) (devices tree.old scratch finder.old input.old out.old) (devices tree.new result.1 finder.new input.new out.new) result.0 }
     ensures status { result.0.status ≡ exit_status result.0.why }
     ensures out_rest { O.same_rest out.old out.new }
 
@@ -71,7 +69,7 @@ fn run_sifting<T: Tree, C: Scratch, F: Finder, I: Source, O: Sink, E: Sink>(
     out: &mut O,
     err: &mut E,
 ) -> (Exit, C)
-    ensures runs { RunsFilter (map string_bytes words.now) (filter_worlds.world (T.view tree.old) (F.view finder.old) (I.view input.old) (O.view out.old)) (filter_worlds.world (T.view tree.new) (F.view finder.new) (I.view input.new) (O.view out.new)) (devices tree.old scratch finder.old input.old out.old) (devices tree.new result.1 finder.new input.new out.new) result.0.why result.0.applied }
+    ensures runs { FilterRuns T.view F.view I.view O.view (map string_bytes words.now) (devices tree.old scratch finder.old input.old out.old) (devices tree.new result.1 finder.new input.new out.new) result.0 }
     ensures status { result.0.status ≡ exit_status result.0.why }
     ensures out_rest { O.same_rest out.old out.new }
     ensures err_part { ReceivesPart (E.view err.old) (E.view err.new) (refusal_line (map string_bytes words.now) result.0.why) }
