@@ -6,7 +6,8 @@ use Rattle.hunk_core.specs.declared.Form.{Form}
 use Rattle.hunk_core.specs.declared.Form.TheVariants.{Unified, Context, Normal, Ed}
 use Rattle.ed_form.specs.Texts.{is_dot}
 use Rattle.file_patch.specs.PlainPatch.{PlainChange, hunks, script}
-use Rattle.normal_form.specs.Canonical.{action_for, lines_text, span_text}
+use Rattle.normal_form.specs.Canonical.{action_for, lines_text}
+use Rattle.diff_command.specs.Spans.{span_text}
 use Rattle.change_commands.specs.Blocks.{Block, blocks_in}
 
 -- the start of a range of so many lines from this line on; an empty one starts at the line in front of it
