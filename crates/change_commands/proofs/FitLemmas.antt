@@ -11,12 +11,11 @@ use Rattle.hunk_core.specs.declared.Mark.{Mark}
 use Rattle.hunk_core.specs.declared.Side.{Side}
 use Rattle.hunk_core.specs.LineTests.{ends_line}
 use Rattle.hunk_core.specs.PlainHunk.{Marked, PlainHunk, hunk_of, hunks_of, old_lines}
-use Rattle.hunk_core.specs.Rules.{lacks_inner_end}
+use Rattle.hunk_core.specs.Rules.{lacks_inner_end, is_too_large}
 use Rattle.hunk_core.specs.Turned.{base}
 use Rattle.change_commands.specs.Taken.{hunk_if, kept_hunks}
 use Rattle.change_commands.specs.Blocks.{Block}
 use Rattle.change_commands.specs.Fitting.{changed_lines, falls_behind, has_large_command, has_large_normal, has_open, is_large_ed, is_large_normal, is_own, own_lines}
-use Rattle.normal_form.specs.Commands.{is_too_large}
 use Rattle.change_commands.specs.Commands.{range_start}
 use Rattle.change_commands.specs.Seeing.{ends_open, is_over_ed, is_large as large_of}
 use Rattle.change_commands.specs.declared.block.Block.{Block as Size}

@@ -3,7 +3,8 @@ use Rattle.std.proofs.Common.{◌≡◌, ℕ, ◌+◌, ◌-◌, List, [], ◌∷
 use Rattle.diff_command.specs.Letters.{letter}
 use Rattle.std.specs.List.{flat_map}
 use Rattle.hunk_core.specs.declared.Side.TheVariants.{Forward, Reversed}
-use Rattle.normal_form.specs.Canonical.{action_for, command_text, divider_text, line_text, span_text}
+use Rattle.normal_form.specs.Canonical.{action_for, command_text, divider_text, line_text}
+use Rattle.diff_command.specs.Spans.{span_text}
 use Rattle.change_commands.specs.Blocks.{Block, Edit}
 use Rattle.change_commands.specs.Commands.{normal_behind, normal_command, range_start}
 use Rattle.change_commands.specs.Fronts.{front, front_block}

@@ -7,7 +7,8 @@ use Rattle.hunk_core.specs.declared.Form.{Form}
 use Rattle.hunk_core.specs.declared.Form.TheVariants.{Unified, Context, Normal, Ed}
 use Rattle.ed_form.specs.Texts.{is_dot}
 use Rattle.file_patch.specs.PlainPatch.{PlainChange, hunks, script}
-use Rattle.normal_form.specs.Canonical.{action_for, line_text, lines_text, span_text}
+use Rattle.normal_form.specs.Canonical.{action_for, line_text, lines_text}
+use Rattle.diff_command.specs.Spans.{span_text}
 use Rattle.change_commands.specs.Blocks.{Block, Edit, blocks_in}
 use Rattle.change_commands.specs.Fronts.{front}
 

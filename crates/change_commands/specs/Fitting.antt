@@ -8,9 +8,8 @@ use Rattle.hunk_core.specs.declared.Side.{Side}
 use Rattle.hunk_core.specs.declared.Side.TheVariants.{Forward, Reversed}
 use Rattle.hunk_core.specs.PlainHunk.{Marked, PlainHunk, old_lines}
 use Rattle.hunk_core.specs.LineTests.{ends_line}
-use Rattle.hunk_core.specs.Rules.{lacks_inner_end}
+use Rattle.hunk_core.specs.Rules.{lacks_inner_end, is_too_large}
 use Rattle.hunk_core.specs.Turned.{base, is_add, is_drop}
-use Rattle.normal_form.specs.Commands.{is_too_large}
 use Rattle.file_patch.specs.PlainPatch.{PlainChange, hunks, script}
 use Rattle.change_commands.specs.Blocks.{Block, blocks_in}
 use Rattle.change_commands.specs.Commands.{new_first, range_start}

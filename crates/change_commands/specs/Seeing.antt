@@ -3,8 +3,7 @@ use Rattle.std.specs.Prelude.{◌≡◌, ℕ, ◌+◌, ◌-◌, Bool, false, not
 use Rattle.hunk_core.specs.declared.Form.{Form}
 use Rattle.hunk_core.specs.declared.Form.TheVariants.{Unified, Context, Normal, Ed}
 use Rattle.hunk_core.specs.LineTests.{ends_line}
-use Rattle.hunk_core.specs.Rules.{lacks_inner_end}
-use Rattle.normal_form.specs.Commands.{is_too_large}
+use Rattle.hunk_core.specs.Rules.{lacks_inner_end, is_too_large}
 use Rattle.change_commands.specs.Commands.{range_start}
 use Rattle.change_commands.specs.Walk.{new_start}
 use Rattle.change_commands.specs.declared.block.Block.{Block as Size}

@@ -5,7 +5,7 @@ ghost use Rattle.hunk_core.specs.PlainHunk.{body_of, bytes_at, marked_of};
 ghost use Rattle.hunk_core.specs.Rules.{lacks_inner_end};
 ghost use Rattle.hunk_core.specs.Turned.{IsLawful, LiesIn};
 ghost use Rattle.file_patch.specs.PlainPatch.{hunks};
-ghost use Rattle.normal_form.specs.Commands.{is_too_large};
+ghost use Rattle.hunk_core.specs.Rules.{is_too_large};
 ghost use Rattle.change_commands.specs.Blocks.{blocks_of, hunk_edits};
 ghost use Rattle.change_commands.specs.Commands.{range_start};
 ghost use Rattle.change_commands.specs.Fitting.{changed_lines, falls_back, has_open, has_large_command, has_open_line, is_ed, is_own, is_unfit, own_lines};

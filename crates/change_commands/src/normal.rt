@@ -3,7 +3,8 @@
 ghost use Rattle.std.specs.Prelude.{◌≡◌, ◌+◌, ◌≤◌, ◌^◌, ◌++◌, ◌∷◌, []};
 ghost use Rattle.hunk_core.specs.Writing.{Puts};
 ghost use Rattle.diff_command.specs.Letters.{letter};
-ghost use Rattle.normal_form.specs.Canonical.{action_for, command_text, divider_text, span_text};
+ghost use Rattle.normal_form.specs.Canonical.{action_for, command_text, divider_text};
+ghost use Rattle.diff_command.specs.Spans.{span_text};
 ghost use Rattle.change_commands.specs.Blocks.{blocks_of, hunk_edits};
 ghost use Rattle.change_commands.specs.Commands.{normal_command, normal_text, range_start, side_text};
 ghost use Rattle.change_commands.specs.Fronts.{front_block};

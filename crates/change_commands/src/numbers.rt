@@ -3,7 +3,8 @@
 ghost use Rattle.std.specs.Prelude.{◌≡◌, ◌+◌, ◌≤◌, ◌^◌, ◌++◌, ◌∷◌, [], length};
 ghost use Rattle.num_text.specs.Numbers.{decimal};
 ghost use Rattle.diff_command.specs.Letters.{letter};
-ghost use Rattle.normal_form.specs.Canonical.{action_for, span_text};
+ghost use Rattle.normal_form.specs.Canonical.{action_for};
+ghost use Rattle.diff_command.specs.Spans.{span_text};
 ghost use Rattle.change_commands.specs.Commands.{range_start};
 
 use arrayvec::ArrayVec;

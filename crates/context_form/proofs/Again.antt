@@ -1,25 +1,24 @@
 -- The canonical text of a hunk that breaks no rule is read as that hunk.
-use Rattle.std.proofs.Common.{◌≡◌, ◌≢◌, ◌⊎◌, ℕ, suc, ◌+◌, ◌-◌, ◌^◌, ◌<◌, Bool, true, false, cond, not, eqb, ltb, ◌||◌, List, [], ◌∷◌, ◌++◌, length, take, map, Option, None, Some, Ok, refl, sym, ap, subst, ◌∙◌, append_assoc, arith, inl, inr}
-use Rattle.std.specs.Prelude.{filter}
+use Rattle.std.proofs.Common.{◌≡◌, ℕ, suc, ◌+◌, ◌-◌, ◌^◌, ◌<◌, Bool, true, false, cond, not, eqb, ltb, List, [], ◌∷◌, ◌++◌, length, Option, None, Some, Ok, refl, sym, ap, subst, ◌∙◌, arith}
 use Rattle.std.specs.List.{AllByRecursion}
-use Rattle.std.proofs.lemmas.Bool.{eqb-true, eqb-false, ltb-false}
-use Rattle.std.proofs.lemmas.List.{length-append, length-map, append-nil}
-use Rattle.line_list.specs.Lines.{lines, IsLine}
+use Rattle.std.proofs.lemmas.Bool.{eqb-true}
+use Rattle.std.proofs.lemmas.List.{length-append, length-map}
+use Rattle.line_list.specs.Lines.{lines}
 use Rattle.hunk_core.specs.declared.Mark.{Mark}
 use Rattle.hunk_core.specs.declared.Mark.TheVariants as its
 use Rattle.hunk_core.specs.declared.Side.{Side}
 use Rattle.hunk_core.specs.declared.Side.TheVariants.{Forward, Reversed}
-use Rattle.hunk_core.specs.declared.check.BadHunk.{BadHunk}
-use Rattle.hunk_core.specs.declared.check.BadHunk.TheVariants as rules
-use Rattle.hunk_core.specs.Sides.{is_on_side}
 use Rattle.hunk_core.specs.PlainHunk.{Marked, PlainHunk, lines_on, old_lines, new_lines}
-use Rattle.hunk_core.specs.Turned.{is_drop}
-use Rattle.hunk_core.specs.LineTests.{ends_line, after_backslash}
-use Rattle.hunk_core.specs.Rules.{starts_at_zero, runs_over, lacks_inner_end, first_broken, HasNoInnerFeed}
+use Rattle.hunk_core.specs.LineTests.{after_backslash, marked}
+use Rattle.hunk_core.specs.Rules.{starts_at_zero, first_broken, HasNoInnerFeed}
 use Rattle.hunk_core.specs.Reading.{◌>>=◌, Ahead, ahead}
 use Rattle.hunk_core.proofs.ReadSteps.{bind_ok, ok_is}
+use Rattle.line_list.proofs.WholeLines.{LinesFit}
+use Rattle.hunk_core.proofs.RuleLemmas.{kept, fits-back}
+use Rattle.hunk_core.proofs.LineEnds.{clean-on, lines-fit}
+use Rattle.context_form.proofs.Sorting.{sorts}
 use Rattle.context_form.specs.Parts.{mark_at}
-use Rattle.context_form.specs.Merging.{part_of, may_follow, DropsFirst}
+use Rattle.context_form.specs.Merging.{part_of}
 use Rattle.context_form.specs.Hunks.{hunk_at, hunks_at}
 use Rattle.context_form.specs.Presence.{may_begin, begins_part, drops_alone, is_there}
 use Rattle.context_form.specs.Grammar.{SpellsPart, SpellsRange, stated_as, written, SpellsHunk, IsPiece}
@@ -27,130 +26,10 @@ use Rattle.context_form.specs.Canonical.{stars_text, range_line_text, mixed, can
 use Rattle.context_form.proofs.JoinLemmas.{part-some}
 use Rattle.context_form.proofs.HunkLoops.{hunks_step}
 use Rattle.context_form.proofs.Pieces.{hunk_again, hunk_opens, reading_again}
-use Rattle.context_form.proofs.Canonical.{NoFeed, LinesFit, lines_of, part_lines, hunk_lines, part-spelled, side-spelled, range-spelled, stars-are, text-lines}
+use Rattle.context_form.proofs.Canonical.{lines_of, part_lines, hunk_lines, part-spelled, side-spelled, range-spelled, stars-are, text-lines}
 
 -- ---- the dropped lines first
-
-abbrev AreAdded : List Marked → Type 0
-AreAdded ms = AllByRecursion (λ m. m.mark ≡ its.Add) ms
-
-added-more : (waiting : List Marked) (m : Marked) → AreAdded waiting → m.mark ≡ its.Add → AreAdded (waiting ++ m ∷ [])
-added-more [] m h e = (e, tt)
-added-more (w ∷ waiting) m h e = (h.0, added-more waiting m h.1 e)
-
-part-both : (side : Side) (xs ys : List Marked) → part_of side (xs ++ ys) ≡ part_of side xs ++ part_of side ys
-part-both side [] ys = refl
-part-both side (x ∷ xs) ys = by (is_on_side side x.mark) (part-both side xs ys)
-  where
-    by : (b : Bool) → part_of side (xs ++ ys) ≡ part_of side xs ++ part_of side ys → cond b (x ∷ part_of side (xs ++ ys)) (part_of side (xs ++ ys)) ≡ cond b (x ∷ part_of side xs) (part_of side xs) ++ part_of side ys
-    by true e = ap (λ ms. x ∷ ms) e
-    by false e = e
-
-added-forward : (waiting : List Marked) → AreAdded waiting → part_of Forward waiting ≡ []
-added-forward [] h = refl
-added-forward (w ∷ waiting) h = let off : is_on_side Forward w.mark ≡ false = ap (is_on_side Forward) h.0 in ap (λ b. cond b (w ∷ part_of Forward waiting) (part_of Forward waiting)) off ∙ added-forward waiting h.1
-
-added-reversed : (waiting : List Marked) → AreAdded waiting → part_of Reversed waiting ≡ waiting
-added-reversed [] h = refl
-added-reversed (w ∷ waiting) h = let on : is_on_side Reversed w.mark ≡ true = ap (is_on_side Reversed) h.0 in ap (λ b. cond b (w ∷ part_of Reversed waiting) (part_of Reversed waiting)) on ∙ ap (λ ms. w ∷ ms) (added-reversed waiting h.1)
-
--- what comes next is no dropped line
-abbrev NotDropped : List Marked → Type 0
-NotDropped [] = Unit {0}
-NotDropped (m ∷ rest) = is_drop m.mark ≡ false
-
-wait-first : (waiting rest : List Marked) → AreAdded waiting → NotDropped rest → DropsFirst rest → DropsFirst (waiting ++ rest)
-wait-first [] rest h n d = d
-wait-first (w ∷ waiting) rest h n d = (by waiting h.1, wait-first waiting rest h.1 n d)
-  where
-    follow : (mark : Mark) (m : Marked) (ms : List Marked) → is_drop m.mark ≡ false → may_follow mark (m ∷ ms) ≡ true
-    follow its.Keep m ms e = refl
-    follow its.Drop m ms e = refl
-    follow its.Add m ms e = rw e refl
-
-    last : (ms : List Marked) → NotDropped ms → may_follow w.mark ms ≡ true
-    last [] k = refl
-    last (m ∷ ms) k = follow w.mark m ms k
-
-    by : (ws : List Marked) → AreAdded ws → may_follow w.mark (ws ++ rest) ≡ true
-    by [] k = last rest n
-    by (x ∷ ws) k = follow w.mark x (ws ++ rest) (ap is_drop k.0)
-
--- what the sorted body is
-record Sorts (waiting body sorted : List Marked) : Type 0 where
-  forward : part_of Forward sorted ≡ part_of Forward body
-  reversed : part_of Reversed sorted ≡ waiting ++ part_of Reversed body
-  drops : DropsFirst sorted
-
-may-drop : (body : List Marked) → may_follow its.Drop body ≡ true
-may-drop [] = refl
-may-drop (m ∷ body) = refl
-
-may-keep : (body : List Marked) → may_follow its.Keep body ≡ true
-may-keep [] = refl
-may-keep (m ∷ body) = refl
-
-abbrev line_of : Mark → List ℕ → Marked
-line_of mark line = record { mark = mark; line = line }
-
-sort-keep : (waiting : List Marked) (line : List ℕ) (body sorted : List Marked) → AreAdded waiting → Sorts [] body sorted → Sorts waiting (line_of its.Keep line ∷ body) (waiting ++ line_of its.Keep line ∷ sorted)
-sort-keep waiting line body sorted h s =
-    let m = line_of its.Keep line in
-    record {
-      forward = part-both Forward waiting (m ∷ sorted) ∙ ap (λ ms. ms ++ m ∷ part_of Forward sorted) (added-forward waiting h) ∙ ap (λ ms. m ∷ ms) s.forward;
-      reversed = part-both Reversed waiting (m ∷ sorted) ∙ ap (λ ms. ms ++ m ∷ part_of Reversed sorted) (added-reversed waiting h) ∙ ap (λ ms. waiting ++ m ∷ ms) s.reversed;
-      drops = wait-first waiting (m ∷ sorted) h refl (may-keep sorted, s.drops);
-    }
-
-sort-drop : (waiting : List Marked) (line : List ℕ) (body sorted : List Marked) → Sorts waiting body sorted → Sorts waiting (line_of its.Drop line ∷ body) (line_of its.Drop line ∷ sorted)
-sort-drop waiting line body sorted s = record { forward = ap (λ ms. line_of its.Drop line ∷ ms) s.forward; reversed = s.reversed; drops = (may-drop sorted, s.drops) }
-
-sort-add : (waiting : List Marked) (line : List ℕ) (body sorted : List Marked) → Sorts (waiting ++ line_of its.Add line ∷ []) body sorted → Sorts waiting (line_of its.Add line ∷ body) sorted
-sort-add waiting line body sorted s = record { forward = s.forward; reversed = s.reversed ∙ append_assoc waiting (line_of its.Add line ∷ []) (part_of Reversed body); drops = s.drops }
-
-sort-none : (waiting : List Marked) → AreAdded waiting → Sorts waiting [] waiting
-sort-none waiting h = record { forward = added-forward waiting h; reversed = added-reversed waiting h ∙ sym (append-nil waiting); drops = subst DropsFirst (append-nil waiting) (wait-first waiting [] h tt tt) }
-
-sorts : (waiting body : List Marked) → AreAdded waiting → Sorts waiting body (drops_before waiting body)
-unfolding drops_before
-sorts waiting [] h = sort-none waiting h
-sorts waiting (m ∷ body) h = by m.mark (λ ws k. sorts ws body k)
-  where
-    by : (mark : Mark) → ((ws : List Marked) → AreAdded ws → Sorts ws body (drops_before ws body)) → Sorts waiting (line_of mark m.line ∷ body) (drops_before waiting (line_of mark m.line ∷ body))
-    by its.Keep more = sort-keep waiting m.line body (drops_before [] body) h (more [] tt)
-    by its.Drop more = sort-drop waiting m.line body (drops_before waiting body) (more waiting h)
-    by its.Add more = sort-add waiting m.line body (drops_before (waiting ++ line_of its.Add m.line ∷ []) body) (more (waiting ++ line_of its.Add m.line ∷ []) (added-more waiting (line_of its.Add m.line) h refl))
-
 -- ---- no rule is broken
-
-pass : (b : Bool) (x : BadHunk) (o : Option BadHunk) → cond b (Some x) o ≡ None → (b ≡ false) × (o ≡ None)
-pass true x o e = absurd cc
-pass false x o e = (refl, e)
-
-or_false : (x y : Bool) → (x || y) ≡ false → (x ≡ false) × (y ≡ false)
-or_false true y e = absurd cc
-or_false false y e = (refl, e)
-
-record Kept (h : PlainHunk) : Type 0 where
-  some : eqb (length h.body) 0 ≡ false
-  old_begins : starts_at_zero h.old_start (old_lines h.body) ≡ false
-  new_begins : starts_at_zero h.new_start (new_lines h.body) ≡ false
-  old_fits : runs_over h.old_start (old_lines h.body) ≡ false
-  new_fits : runs_over h.new_start (new_lines h.body) ≡ false
-  old_ends : lacks_inner_end (old_lines h.body) ≡ false
-  new_ends : lacks_inner_end (new_lines h.body) ≡ false
-
-kept : (h : PlainHunk) → first_broken h ≡ None → Kept h
-kept h e =
-    let a = pass (eqb (length h.body) 0) rules.NoLines _ e in
-    let b = pass (starts_at_zero h.old_start (old_lines h.body) || starts_at_zero h.new_start (new_lines h.body)) rules.Start _ a.1 in
-    let c = pass (runs_over h.old_start (old_lines h.body) || runs_over h.new_start (new_lines h.body)) rules.Sum _ b.1 in
-    let d = pass (lacks_inner_end (old_lines h.body) || lacks_inner_end (new_lines h.body)) rules.InnerEnd _ c.1 in
-    let begin = or_false _ _ b.0 in
-    let fits = or_false _ _ c.0 in
-    let ends = or_false _ _ d.0 in
-    record { some = a.0; old_begins = begin.0; new_begins = begin.1; old_fits = fits.0; new_fits = fits.1; old_ends = ends.0; new_ends = ends.1 }
-
 starts-back : (start : ℕ) (side : List (List ℕ)) → starts_at_zero start side ≡ false → start ≡ 0 → length side ≡ 0
 starts-back start side e none_before = by (eqb (length side) 0) refl
   where
@@ -158,56 +37,7 @@ starts-back start side e none_before = by (eqb (length side) 0) refl
     by true none = eqb-true (length side) 0 none
     by false none = absurd (let bad : starts_at_zero start side ≡ true = rw (none_before, none) refl in cc)
 
-fits-back : (start : ℕ) (side : List (List ℕ)) → runs_over start side ≡ false → start + length side < 4294967296
-fits-back start side e = omega (arith, ltb-false 4294967295 (start + length side) e)
-
 -- ---- lines that fit
-
-abbrev IsClean : List ℕ → Type 0
-IsClean line = AllByRecursion (λ b. b ≢ 10) (take (length line - 1) line)
-
-whole-line : (line : List ℕ) → IsClean line → ends_line line ≡ true → IsLine line
-whole-line [] h e = absurd cc
-whole-line (b ∷ []) h e = eqb-true b 10 e
-whole-line (b ∷ c ∷ bs) h e =
-    let n : length (b ∷ c ∷ bs) - 1 ≡ suc (length (c ∷ bs) - 1) = omega arith in
-    let h2 : NoFeed (take (suc (length (c ∷ bs) - 1)) (b ∷ c ∷ bs)) = subst (λ k. NoFeed (take k (b ∷ c ∷ bs))) n h in
-    (h2.0, whole-line (c ∷ bs) h2.1 e)
-
-open-line : (line : List ℕ) → IsClean line → ends_line line ≡ false → NoFeed line
-open-line [] h e = tt
-open-line (b ∷ []) h e = (eqb-false b 10 e, tt)
-open-line (b ∷ c ∷ bs) h e =
-    let n : length (b ∷ c ∷ bs) - 1 ≡ suc (length (c ∷ bs) - 1) = omega arith in
-    let h2 : NoFeed (take (suc (length (c ∷ bs) - 1)) (b ∷ c ∷ bs)) = subst (λ k. NoFeed (take k (b ∷ c ∷ bs))) n h in
-    (h2.0, open-line (c ∷ bs) h2.1 e)
-
-clean-on : (side : Side) (body : List Marked) → AllByRecursion HasNoInnerFeed body → AllByRecursion IsClean (lines_on side body)
-clean-on side [] h = tt
-clean-on side (m ∷ body) h = by (is_on_side side m.mark) (clean-on side body h.1)
-  where
-    by : (b : Bool) → AllByRecursion IsClean (lines_on side body) → AllByRecursion IsClean (map (λ (x : Marked). x.line) (cond b (m ∷ filter (λ x. is_on_side side x.mark) body) (filter (λ x. is_on_side side x.mark) body)))
-    by true more = (h.0, more)
-    by false more = more
-
-abbrev no_lines : List (List ℕ)
-no_lines = []
-
-lines-fit : (ls : List (List ℕ)) → AllByRecursion IsClean ls → lacks_inner_end ls ≡ false → LinesFit ls
-lines-fit [] clean ends = tt
-lines-fit (l ∷ []) clean ends = (by (ends_line l) refl, tt)
-  where
-    by : (b : Bool) → ends_line l ≡ b → IsLine l ⊎ (NoFeed l × (no_lines ≡ no_lines))
-    by true is = inl (whole-line l clean.0 is)
-    by false is = inr (open-line l clean.0 is, refl)
-lines-fit (l ∷ k ∷ ls) clean ends =
-    let e = or_false (not (ends_line l)) (lacks_inner_end (k ∷ ls)) ends in
-    (inl (whole-line l clean.0 (back (ends_line l) e.0)), lines-fit (k ∷ ls) clean.1 e.1)
-  where
-    back : (b : Bool) → not b ≡ false → b ≡ true
-    back true h = refl
-    back false h = absurd cc
-
 -- ---- what follows
 
 none-begins : (may_keep : Bool) (rest : List (List ℕ)) → begins_part true rest ≡ false → begins_part may_keep rest ≡ false
@@ -250,7 +80,7 @@ some-lines : (body : List Marked) → eqb (length body) 0 ≡ false → 0 < leng
 some-lines [] e = absurd cc
 some-lines (m ∷ body) e = by m.mark
   where
-    by : (k : Mark) → 0 < length (part_of Forward (line_of k m.line ∷ body)) + length (part_of Reversed (line_of k m.line ∷ body))
+    by : (k : Mark) → 0 < length (part_of Forward (marked k m.line ∷ body)) + length (part_of Reversed (marked k m.line ∷ body))
     by its.Keep = omega arith
     by its.Drop = omega arith
     by its.Add = omega arith

@@ -1,13 +1,11 @@
 -- The canonical text of a hunk spells its parts.
-use Rattle.std.proofs.Common.{◌≡◌, ◌≢◌, ◌⊎◌, ℕ, ◌+◌, ◌-◌, ◌<◌, ◌≤◌, Bool, true, false, cond, not, eqb, ltb, ◌&&◌, ◌||◌, List, [], ◌∷◌, ◌++◌, length, take, map, refl, sym, ap, subst, ◌∙◌, append_assoc, arith, inl, inr}
-use Rattle.std.specs.Prelude.{codes, replicate}
-use Rattle.std.specs.List.{AllByRecursion, flat_map}
+use Rattle.std.proofs.Common.{◌≡◌, ◌⊎◌, ℕ, ◌+◌, ◌-◌, ◌<◌, ◌≤◌, Bool, true, false, cond, not, eqb, ltb, ◌&&◌, ◌||◌, List, [], ◌∷◌, ◌++◌, length, map, refl, sym, ap, subst, ◌∙◌, append_assoc, arith, inl, inr}
+use Rattle.std.specs.Prelude.{replicate}
+use Rattle.std.specs.List.{flat_map}
 use Rattle.std.proofs.lemmas.Bool.{eqb-true, eqb-false, ltb-true, ltb-false}
-use Rattle.std.proofs.lemmas.List.{take_at, length-append}
 use Rattle.std.proofs.lemmas.List.Concat.{flat_map-cons, flat_map-append}
 use Rattle.line_list.specs.Lines.{lines, IsLine}
-use Rattle.line_list.proofs.Pieces.{line-first}
-use Rattle.num_text.specs.Numbers.{decimal, is_digit, AllDigits}
+use Rattle.num_text.specs.Numbers.{decimal}
 use Rattle.num_text.proofs.Decimal.{decimal-numeral}
 use Rattle.hunk_core.specs.declared.Mark.{Mark}
 use Rattle.hunk_core.specs.declared.Mark.TheVariants as its
@@ -16,22 +14,18 @@ use Rattle.hunk_core.specs.declared.Side.TheVariants.{Forward, Reversed}
 use Rattle.hunk_core.specs.Sides.{is_on_side}
 use Rattle.hunk_core.specs.PlainHunk.{Marked, PlainHunk, old_lines, new_lines}
 use Rattle.hunk_core.specs.Turned.{is_keep, other_side}
-use Rattle.hunk_core.specs.LineTests.{after, marked, ends_line, is_backslash}
-use Rattle.hunk_core.proofs.ReadSteps.{chosen}
+use Rattle.hunk_core.specs.LineTests.{after, marked, ends_line}
+use Rattle.diff_command.specs.Spans.{span_text}
+use Rattle.hunk_core.specs.Writing.{no_newline}
+use Rattle.line_list.proofs.WholeLines.{NoFeed, shorter, closes, line-prefix, LinesFit, AreLines, lines-both, lines-whole}
+use Rattle.hunk_core.proofs.LineEnds.{line-ends, no-end, clean, backslash, no-newline-line}
+use Rattle.diff_command.proofs.CommandLemmas.{span-clean}
 use Rattle.context_form.specs.Openings.{is_stars}
 use Rattle.context_form.specs.Ranges.{before_range, behind_range}
 use Rattle.context_form.specs.Merging.{part_of}
 use Rattle.context_form.specs.Grammar.{mark_byte, SpellsLine, SpellsPart, is_change, has_change, AreKept, SpellsSide, SpellsRange}
-use Rattle.context_form.specs.Canonical.{stars_text, span_text, range_line_text, no_newline, line_text, stretch_has, mixed, mixed_behind, part_text, canonical}
+use Rattle.context_form.specs.Canonical.{stars_text, range_line_text, line_text, stretch_has, mixed, mixed_behind, part_text, canonical}
 use Rattle.context_form.proofs.JoinLemmas.{part-some, side-written, side-left-out}
-
-abbrev pub NoFeed : List ℕ → Type 0
-NoFeed bs = AllByRecursion (λ b. b ≢ 10) bs
-
--- each line has its line feed, or is the last
-abbrev pub LinesFit : List (List ℕ) → Type 0
-LinesFit [] = Unit {0}
-LinesFit (l ∷ ls) = (IsLine l ⊎ (NoFeed l × (ls ≡ []))) × LinesFit ls
 
 abbrev pub lines_of : List Marked → List (List ℕ)
 lines_of part = map (λ m. m.line) part
@@ -53,25 +47,6 @@ part_lines side changed (m ∷ body) = cond (is_on_side side m.mark) (line_lines
 
 abbrev pub hunk_lines : ℕ → ℕ → List Marked → List (List ℕ)
 hunk_lines a b body = stars_text ∷ range_line_text Forward a (length (old_lines body)) ∷ (part_lines Forward (mixed body) body ++ range_line_text Reversed b (length (new_lines body)) ∷ part_lines Reversed (mixed body) body)
-
-line-ends : (line : List ℕ) → IsLine line → ends_line line ≡ true
-line-ends [] h = absurd h
-line-ends (b ∷ []) h = grind arith
-line-ends (b ∷ c ∷ bytes) h = line-ends (c ∷ bytes) h.1
-
-no-end : (line : List ℕ) → NoFeed line → ends_line line ≡ false
-no-end [] h = refl
-no-end (b ∷ []) h = let ne = h.0 in grind arith
-no-end (b ∷ c ∷ bytes) h = no-end (c ∷ bytes) h.1
-
-backslash : is_backslash no_newline ≡ true
-unfolding after
-backslash = refl
-
-shorter : (line : List ℕ) → line ≡ take (length (line ++ 10 ∷ []) - 1) (line ++ 10 ∷ [])
-shorter line =
-    let len : length (line ++ 10 ∷ []) - 1 ≡ length line = omega (arith, length-append line (10 ∷ [])) in
-    sym (ap (λ n. take n (line ++ 10 ∷ [])) len ∙ take_at line (10 ∷ []) (length line) refl)
 
 line-spelled : (changed : Bool) (m : Marked) (others : List Marked) → IsLine m.line ⊎ (NoFeed m.line × (others ≡ [])) → SpellsLine (line_lines changed m) m others
 line-spelled changed m others (inl h) = subst (λ (b : Bool). SpellsLine (lines_by b changed m) m others) (sym (line-ends m.line h)) (changed, refl)
@@ -207,63 +182,6 @@ unfolding after
 stars-are = refl
 
 -- ---- the bytes are these lines
-
-no-feed : (ds : List ℕ) → AllDigits ds → NoFeed ds
-no-feed [] h = tt
-no-feed (d ∷ ds) h = (not_feed d h.0, no-feed ds h.1)
-  where
-    not_feed : (b : ℕ) → is_digit b ≡ true → b ≢ 10
-    not_feed b is e = let ten : is_digit 10 ≡ true = subst (λ (x : ℕ). is_digit x ≡ true) e is in cc
-
-both : (xs ys : List ℕ) → NoFeed xs → NoFeed ys → NoFeed (xs ++ ys)
-both [] ys h k = k
-both (x ∷ xs) ys h k = (h.0, both xs ys h.1 k)
-
-closes : (bs : List ℕ) → NoFeed bs → IsLine (bs ++ 10 ∷ [])
-closes [] h = refl
-closes (b ∷ []) h = (h.0, refl)
-closes (b ∷ c ∷ bs) h = (h.0, closes (c ∷ bs) h.1)
-
-longer : (b : ℕ) (line : List ℕ) → b ≢ 10 → IsLine line → IsLine (b ∷ line)
-longer b [] ne h = absurd h
-longer b (c ∷ bs) ne h = (ne, h)
-
-line-prefix : (xs ys : List ℕ) → NoFeed xs → IsLine ys → IsLine (xs ++ ys)
-line-prefix [] ys h k = k
-line-prefix (x ∷ xs) ys h k = longer x (xs ++ ys) h.0 (line-prefix xs ys h.1 k)
-
-abbrev is_clean : List ℕ → Bool
-is_clean [] = true
-is_clean (b ∷ bs) = cond (eqb b 10) false (is_clean bs)
-
-clean : (bs : List ℕ) → is_clean bs ≡ true → NoFeed bs
-clean [] e = tt
-clean (b ∷ bs) e =
-    elim (chosen (eqb b 10) false (is_clean bs) true e) [
-      | inl feed ↦ absurd cc
-      | inr other ↦ (eqb-false b 10 other.0, clean bs other.1)
-    ]
-
-span-clean : (start count : ℕ) → NoFeed (span_text start count)
-span-clean start count = by (ltb 1 count)
-  where
-    digits : (n : ℕ) → NoFeed (decimal n)
-    digits n = no-feed (decimal n) (decimal-numeral n).digits
-
-    by : (b : Bool) → NoFeed (cond b (decimal start ++ 44 ∷ decimal (start + count - 1)) (decimal start))
-    by true = both (decimal start) (44 ∷ decimal (start + count - 1)) (digits start) ((λ e. cc), digits (start + count - 1))
-    by false = digits start
-
-no-newline-line : IsLine no_newline
-no-newline-line = line-prefix (92 ∷ 32 ∷ codes "No newline at end of file") (10 ∷ []) (clean (92 ∷ 32 ∷ codes "No newline at end of file") refl) refl
-
-abbrev AreLines : List (List ℕ) → Type 0
-AreLines ls = AllByRecursion IsLine ls
-
-lines-both : (xs ys : List (List ℕ)) → AreLines xs → AreLines ys → AreLines (xs ++ ys)
-lines-both [] ys h k = k
-lines-both (x ∷ xs) ys h k = (h.0, lines-both xs ys h.1 k)
-
 marks-clean : (changed : Bool) (mark : Mark) → NoFeed (marks_of changed mark)
 marks-clean changed its.Keep = clean (32 ∷ 32 ∷ []) refl
 marks-clean true its.Drop = clean (33 ∷ 32 ∷ []) refl
@@ -296,14 +214,6 @@ part-whole side changed (m ∷ body) h = by (is_on_side side m.mark) h (λ k. pa
     by : (b : Bool) → LinesFit (lines_of (cond b (m ∷ part_of side body) (part_of side body))) → (LinesFit (lines_of (part_of side body)) → AreLines (part_lines side (mixed_behind changed m.mark body) body)) → AreLines (cond b (line_lines changed m) [] ++ part_lines side (mixed_behind changed m.mark body) body)
     by true k more = lines-both (line_lines changed m) (part_lines side (mixed_behind changed m.mark body) body) (line-whole changed m (lines_of (part_of side body)) k.0) (more k.1)
     by false k more = more k
-
-lines-whole : (ls : List (List ℕ)) (rest : List ℕ) → AreLines ls → lines (flat_map (λ line. line) ls ++ rest) ≡ ls ++ lines rest
-lines-whole [] rest h = refl
-lines-whole (line ∷ ls) rest h =
-    ap (λ bs. lines (bs ++ rest)) (flat_map-cons (λ line. line) line ls)
-    ∙ ap lines (append_assoc line (flat_map (λ line. line) ls) rest)
-    ∙ line-first line (flat_map (λ line. line) ls ++ rest) h.0
-    ∙ ap (λ more. line ∷ more) (lines-whole ls rest h.1)
 
 line-joined : (changed : Bool) (m : Marked) → flat_map (λ line. line) (line_lines changed m) ≡ line_text changed m
 line-joined changed m = by (ends_line m.line)

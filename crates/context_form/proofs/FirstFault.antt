@@ -1,6 +1,6 @@
 -- A fault stays whatever lines come after the one that decides it.
-use Rattle.std.proofs.Common.{◌≡◌, ◌≢◌, ◌⊎◌, inl, inr, ℕ, zero, suc, ◌+◌, ◌-◌, ◌≤◌, ◌<◌, Bool, true, false, cond, ◌&&◌, List, [], ◌∷◌, ◌++◌, length, None, Some, Result, Ok, Err, refl, sym, ap, subst, ◌∙◌, arith}
-use Rattle.std.proofs.lemmas.Bool.{cases_lt}
+use Rattle.std.proofs.Common.{◌≡◌, ◌≢◌, inl, inr, ℕ, zero, suc, ◌+◌, ◌-◌, ◌≤◌, ◌<◌, Bool, true, false, cond, List, [], ◌∷◌, ◌++◌, length, None, Some, Result, Ok, Err, refl, sym, ap, subst, ◌∙◌, arith}
+use Rattle.std.proofs.lemmas.Bool.{cases_lt, and_parts}
 use Rattle.std.proofs.lemmas.List.{length-append}
 use Rattle.hunk_core.specs.declared.BadKind.{BadKind}
 use Rattle.hunk_core.specs.declared.BadKind.TheVariants as kinds
@@ -9,15 +9,17 @@ use Rattle.std.specs.Prelude.{is_some}
 use Rattle.hunk_core.specs.LineTests.{is_backslash, after_backslash}
 use Rattle.hunk_core.specs.Reading.{◌>>=◌, Fault, Ahead, ahead}
 use Rattle.hunk_core.proofs.ReadSteps.{chosen}
+use Rattle.hunk_core.specs.FirstFault.{AgreeTo}
+use Rattle.hunk_core.proofs.FaultSteps.{failed, bind_err, add_err, short_or}
+use Rattle.hunk_core.proofs.Agreeing.{agree_head, agree_front}
 use Rattle.context_form.specs.Openings.{is_stars, begins_old, begins_hunk}
 use Rattle.context_form.specs.Hunks.{PlainPart, whole, parts_at, hunk_at, hunks_at, reading}
 use Rattle.context_form.specs.Grammar.{IsPiece}
-use Rattle.context_form.specs.FirstFault.{AgreeTo, lines_behind, reach, behind_first, decided_at, decided_by}
-use Rattle.context_form.proofs.Steady.{failed, bind_err, agree_head}
+use Rattle.context_form.specs.FirstFault.{lines_behind, reach, behind_first, decided_at, decided_by}
 use Rattle.context_form.proofs.SteadyParts.{steady-parts}
 use Rattle.context_form.proofs.HunkLoops.{hunks_step}
 use Rattle.context_form.proofs.Pieces.{hunk-shrinks, reading_again}
-use Rattle.context_form.proofs.HunkFaults.{err_fault, whole-over, FailsBehind, FailsWhole, hunk-fails, ReadsWhole, hunk-reads, hunk-bad, hunk-over, hunk-good, hunk-loud}
+use Rattle.context_form.proofs.HunkFaults.{whole-over, FailsBehind, FailsWhole, hunk-fails, ReadsWhole, hunk-reads, hunk-bad, hunk-over, hunk-good, hunk-loud}
 
 -- ---- which line decides
 
@@ -43,10 +45,6 @@ old_too : (last number : ℕ) (rest others : List (List ℕ)) → AgreeTo last n
 old_too last number [] others agree le e = absurd cc
 old_too last number (line ∷ rest) others agree le e = let a = agree_head last number line rest others agree le in rw a.1 e
 
-both : (x y : Bool) → (x && y) ≡ true → (x ≡ true) × (y ≡ true)
-both true y e = (refl, e)
-both false y e = absurd cc
-
 begins_again : (line : List ℕ) (rest : List (List ℕ)) → is_stars line ≡ true → begins_old rest ≡ true → begins_hunk (line ∷ rest) ≡ true
 begins_again line rest c m = rw (c, m) refl
 
@@ -62,7 +60,7 @@ opens_too : (last number : ℕ) (rest others : List (List ℕ)) → AgreeTo last
 opens_too last number [] others agree le e = absurd cc
 opens_too last number (line ∷ rest) others agree le e =
     let a = agree_head last number line rest others agree (omega (arith, le)) in
-    let b = both (is_stars line) (begins_old rest) e in
+    let b = and_parts (is_stars line) (begins_old rest) e in
     subst (Opens last number (line ∷ rest)) (sym a.1) (record { begins = begins_again line a.0 b.0 (old_too last (number + 1) rest a.0 a.2 le b.1); number_is = refl; same = refl; agree = a.2; count = omega arith })
 
 behind-number : (number : ℕ) (rest : List (List ℕ)) → begins_hunk rest ≡ true → ((behind_first number rest).number ≡ number + 1) × ((number + 1) + length (behind_first number rest).rest ≡ number + length rest)
@@ -75,13 +73,6 @@ begins_some (line ∷ rest) e = omega arith
 
 abbrev more_hunks : ℕ → PlainHunk × Ahead → Result (List PlainHunk × Ahead) Fault
 more_hunks most first = hunks_at most first.0.old_start first.1 >>= λ others. Ok (first.0 ∷ others.0, others.1)
-
-abbrev put_first : PlainHunk → List PlainHunk × Ahead → Result (List PlainHunk × Ahead) Fault
-put_first h others = Ok (h ∷ others.0, others.1)
-
-add_err : (h : PlainHunk) (r : Result (List PlainHunk × Ahead) Fault) (e : Fault) → (r >>= put_first h) ≡ Err e → r ≡ Err e
-add_err h (Ok x) e f = absurd (let bad : put_first h x ≡ failed {A = List PlainHunk × Ahead} e = f in cc)
-add_err h (Err d) e f = ap (λ x. Err x) (err_fault {A = List PlainHunk × Ahead} d e f)
 
 -- what a fault of hunks is
 pub record FaultIs (most least : ℕ) (p : Ahead) (e : Fault) : Type 0 where
@@ -234,29 +225,6 @@ fault-unspelled number lines others e hs next rest h long agree piece =
     let fails = fault-stays number lines others e h long agree in
     let reads = reading_again number others hs next rest piece in
     cc
-
-agree_past : (last number : ℕ) (lines others : List (List ℕ)) → last < number → AgreeTo last number lines others
-agree_past last number [] others past = past
-agree_past last number (line ∷ lines) [] past = past
-agree_past last number (line ∷ lines) (other ∷ others) past = ((λ le. absurd (omega (arith, past, le))), agree_past last (number + 1) lines others (omega (arith, past)))
-
-agree_front : (last number : ℕ) (front behind others : List (List ℕ)) → last < number + length front → AgreeTo last number (front ++ behind) (front ++ others)
-agree_front last number [] behind others past = agree_past last number behind others (omega (arith, past))
-agree_front last number (line ∷ front) behind others past = ((λ le. refl), agree_front last (number + 1) front behind others (omega (arith, past)))
-
-short_or : (k : BadKind) → (k ≡ kinds.ShortEnd) ⊎ (k ≢ kinds.ShortEnd)
-short_or kinds.Range = inr (λ h. cc)
-short_or kinds.Mark = inr (λ h. cc)
-short_or kinds.Count = inr (λ h. cc)
-short_or kinds.ShortEnd = inl refl
-short_or kinds.NumberTooLarge = inr (λ h. cc)
-short_or kinds.SidesDiffer = inr (λ h. cc)
-short_or kinds.MisplacedBackslash = inr (λ h. cc)
-short_or kinds.EdCommand = inr (λ h. cc)
-short_or kinds.EdOrder = inr (λ h. cc)
-short_or kinds.EdNoDot = inr (λ h. cc)
-short_or kinds.Binary = inr (λ h. cc)
-short_or kinds.HunkOrder = inr (λ h. cc)
 
 differs : (k other : BadKind) → k ≡ kinds.ShortEnd → kinds.ShortEnd ≢ other → k ≢ other
 differs k other is ne h = ne (sym is ∙ h)

@@ -1,15 +1,16 @@
 -- Each part with its range line that is spelled is read.
-use Rattle.std.proofs.Common.{◌≡◌, ℕ, ◌+◌, ◌^◌, ◌<◌, ◌≤◌, Bool, true, false, cond, eqb, ltb, ◌&&◌, ◌||◌, not, List, [], ◌∷◌, ◌++◌, length, None, Some, Ok, refl, sym, ap, subst, ◌∙◌, append_assoc, arith}
-use Rattle.std.proofs.lemmas.Bool.{eqb-true, le-ltb}
+use Rattle.std.proofs.Common.{◌≡◌, ℕ, ◌+◌, ◌^◌, ◌<◌, ◌≤◌, Bool, true, false, cond, eqb, ltb, ◌||◌, not, List, [], ◌∷◌, ◌++◌, length, None, Some, Ok, refl, sym, ap, subst, ◌∙◌, append_assoc, arith}
+use Rattle.std.proofs.lemmas.Bool.{eqb-true, le-ltb, and_parts}
 use Rattle.std.proofs.lemmas.List.{length-append}
 use Rattle.hunk_core.specs.declared.Mark.{Mark}
 use Rattle.hunk_core.specs.declared.Side.{Side}
 use Rattle.hunk_core.specs.declared.Side.TheVariants.{Forward, Reversed}
 use Rattle.hunk_core.specs.Sides.{is_on_side}
-use Rattle.hunk_core.specs.PlainHunk.{Marked, PlainHunk}
+use Rattle.hunk_core.specs.PlainHunk.{Marked}
 use Rattle.hunk_core.specs.Turned.{is_keep}
 use Rattle.hunk_core.specs.LineTests.{after_backslash}
 use Rattle.hunk_core.specs.Reading.{ahead}
+use Rattle.hunk_core.proofs.SideLemmas.{hunk_is}
 use Rattle.context_form.specs.declared.range.Stated.{Stated}
 use Rattle.context_form.specs.Ranges.{range_line, most, is_count}
 use Rattle.context_form.specs.Parts.{PlainBody, no_body, body_at, begins_new, is_done}
@@ -106,13 +107,9 @@ zero-kept m part e = by (is_keep m.mark) refl
     by false is = refl
     by true is = absurd (omega (arith, e, kept-first m part is))
 
-both : (x y : Bool) → (x && y) ≡ true → (x ≡ true) × (y ≡ true)
-both true y e = (refl, e)
-both false y e = absurd cc
-
 none-dropped : (own : List (List ℕ)) (body : List Marked) → drops_alone (written Forward own body) ≡ true → kept_count body ≡ 0
 none-dropped [] body e = absurd cc
-none-dropped (line ∷ own) body e = let b = both _ _ e in sym (kept-on Forward body) ∙ eqb-true (kept_count (part_of Forward body)) 0 b.1
+none-dropped (line ∷ own) body e = let b = and_parts _ _ e in sym (kept-on Forward body) ∙ eqb-true (kept_count (part_of Forward body)) 0 b.1
 
 -- a new part that is written is there
 there-by : (may_keep : Bool) (line bytes : List ℕ) (changed : Bool) (mark : Mark) (rest : List (List ℕ)) → line ≡ mark_byte changed mark ∷ 32 ∷ bytes → is_on_side Reversed mark ≡ true → (may_keep || not (is_keep mark)) ≡ true → begins_part may_keep (line ∷ rest) ≡ true
@@ -182,7 +179,7 @@ new-again number at old_line old_single old_start line single start old new body
     zero-done : (k : ℕ) → k ≡ 0 → eqb k 0 ≡ true
     zero-done k e = rw e refl
 
--- ---- both
+-- ---- and_parts
 
 sized-step : (part partner : PlainPart) (n : ℕ) → size_by part.body.lines partner.body.lines ≡ n → is_count part.stated n ≡ true → ltb 4294967295 (part.stated.start + n) ≡ false → sized part partner ≡ Ok tt
 sized-step part partner n e c f = rw (e, c, f) refl
@@ -193,9 +190,6 @@ whole-step old new body e1 e2 e3 = rw (e1, e2, e3) refl
 
 swap-some : (old new : List (List ℕ)) → 0 < length (old ++ new) → 0 < length (new ++ old)
 swap-some old new some = omega (arith, some, length-append old new, length-append new old)
-
-abbrev hunk_is : ℕ → ℕ → List Marked → PlainHunk
-hunk_is a m body = record { old_start = a; new_start = m; body = body }
 
 pub whole-again : (number at : ℕ) (old_line : List ℕ) (old_single : Bool) (old_start : ℕ) (line : List ℕ) (single : Bool) (start : ℕ) (old new : List (List ℕ)) (body : List Marked) → SpellsRange Forward old_line old_single old_start (length (part_of Forward body)) → SpellsRange Reversed line single start (length (part_of Reversed body))
     → old_start + length (part_of Forward body) < 2 ^ 32 → start + length (part_of Reversed body) < 2 ^ 32 → SpellsSide Forward old new body → SpellsSide Reversed new old body → 0 < length (old ++ new) → DropsFirst body

@@ -7,18 +7,14 @@ use Rattle.std.specs.Prelude.{is_some}
 use Rattle.hunk_core.specs.LineTests.{after_backslash}
 use Rattle.hunk_core.specs.Reading.{◌>>=◌, Fault, fault, Ahead, ahead}
 use Rattle.hunk_core.proofs.ReadSteps.{bind_ok, guard_ok, ok_is}
+use Rattle.hunk_core.proofs.FaultSteps.{failed, bind_err, err_is}
 use Rattle.context_form.specs.Openings.{begins_hunk}
 use Rattle.context_form.specs.Ranges.{is_count}
 use Rattle.context_form.specs.Merging.{joined, size_beside}
 use Rattle.context_form.specs.Hunks.{quiet, PlainPart, sized, agreed, whole, parts_at, first_hunk, hunk_at}
 use Rattle.context_form.specs.FirstFault.{behind_first}
-use Rattle.context_form.proofs.Steady.{failed, bind_err}
 
 -- ---- how a hunk fails
-
-pub err_fault : {A : Type 0} (d e : Fault) → failed {A = A} d ≡ failed e → d ≡ e
-err_fault d e h = cc
-
 -- a fault over two whole parts is none of these
 pub record IsOverParts (e : Fault) : Type 0 where
   pub long : e.kind ≢ kinds.ShortEnd
@@ -87,7 +83,7 @@ loud-is : (q : Ahead) (e : Fault) → quiet q ≡ Err e → (is_some (after_back
 loud-is q e h = by (is_some (after_backslash q.rest)) refl h
   where
     by : (b : Bool) → is_some (after_backslash q.rest) ≡ b → cond b (Err (fault q.number kinds.MisplacedBackslash)) (Ok tt) ≡ failed {A = Unit {0}} e → (is_some (after_backslash q.rest) ≡ true) × (fault q.number kinds.MisplacedBackslash ≡ e)
-    by true is k = (is, err_fault {A = Unit {0}} _ e k)
+    by true is k = (is, err_is {A = Unit {0}} _ e k)
     by false is k = absurd cc
 
 pub hunk-fails : (least : ℕ) (p : Ahead) (e : Fault) → begins_hunk p.rest ≡ true → hunk_at least p ≡ Err e → (parts_at least (behind_first p.number p.rest) ≡ Err e) ⊎ (FailsWhole least p e ⊎ FailsBehind least p e)

@@ -9,6 +9,7 @@ use Rattle.hunk_core.specs.declared.Side.TheVariants.{Forward, Reversed}
 use Rattle.hunk_core.specs.Sides.{is_on_side}
 use Rattle.hunk_core.specs.PlainHunk.{Marked}
 use Rattle.hunk_core.specs.Turned.{is_keep, other_side}
+use Rattle.hunk_core.specs.LineTests.{marked}
 use Rattle.context_form.specs.Parts.{PlainBody}
 use Rattle.context_form.specs.Merging.{merge, alone, joined, kept_count, size_by, part_of, may_follow, DropsFirst}
 use Rattle.context_form.specs.Grammar.{SpellsPart, SpellsLine, has_change, AreKept, SpellsSide, written}
@@ -27,9 +28,6 @@ counted-is part = is_count_by counted (λ m. is_keep m.mark) refl (λ x xs. refl
 kept-cons : (m : Marked) (part : List Marked) → kept_count (m ∷ part) ≡ cond (is_keep m.mark) (1 + kept_count part) (kept_count part)
 kept-cons m part = sym (counted-is (m ∷ part)) ∙ ap (λ n. cond (is_keep m.mark) (1 + n) n) (counted-is part)
 
-abbrev line_of : Mark → List ℕ → Marked
-line_of mark line = record { mark = mark; line = line }
-
 pub kept-first : (m : Marked) (part : List Marked) → is_keep m.mark ≡ true → 0 < kept_count (m ∷ part)
 kept-first m part keeps =
     let one : kept_count (m ∷ part) ≡ 1 + kept_count part = kept-cons m part ∙ ap (λ b. cond b (1 + kept_count part) (kept_count part)) keeps in
@@ -40,12 +38,12 @@ pub kept-on : (side : Side) (body : List Marked) → kept_count (part_of side bo
 kept-on side [] = refl
 kept-on side (m ∷ body) = by side m.mark (kept-on side body)
   where
-    by : (s : Side) (mark : Mark) → kept_count (part_of s body) ≡ kept_count body → kept_count (part_of s (line_of mark m.line ∷ body)) ≡ kept_count (line_of mark m.line ∷ body)
-    by s its.Keep e = kept-cons (line_of its.Keep m.line) (part_of s body) ∙ ap (λ n. 1 + n) e ∙ sym (kept-cons (line_of its.Keep m.line) body)
-    by Forward its.Drop e = kept-cons (line_of its.Drop m.line) (part_of Forward body) ∙ e ∙ sym (kept-cons (line_of its.Drop m.line) body)
-    by Reversed its.Drop e = e ∙ sym (kept-cons (line_of its.Drop m.line) body)
-    by Forward its.Add e = e ∙ sym (kept-cons (line_of its.Add m.line) body)
-    by Reversed its.Add e = kept-cons (line_of its.Add m.line) (part_of Reversed body) ∙ e ∙ sym (kept-cons (line_of its.Add m.line) body)
+    by : (s : Side) (mark : Mark) → kept_count (part_of s body) ≡ kept_count body → kept_count (part_of s (marked mark m.line ∷ body)) ≡ kept_count (marked mark m.line ∷ body)
+    by s its.Keep e = kept-cons (marked its.Keep m.line) (part_of s body) ∙ ap (λ n. 1 + n) e ∙ sym (kept-cons (marked its.Keep m.line) body)
+    by Forward its.Drop e = kept-cons (marked its.Drop m.line) (part_of Forward body) ∙ e ∙ sym (kept-cons (marked its.Drop m.line) body)
+    by Reversed its.Drop e = e ∙ sym (kept-cons (marked its.Drop m.line) body)
+    by Forward its.Add e = e ∙ sym (kept-cons (marked its.Add m.line) body)
+    by Reversed its.Add e = kept-cons (marked its.Add m.line) (part_of Reversed body) ∙ e ∙ sym (kept-cons (marked its.Add m.line) body)
 
 pub kept-all : (part : List Marked) → AreKept part → kept_count part ≡ length part
 kept-all [] h = refl
@@ -77,7 +75,7 @@ other-kept : (side : Side) (part : List Marked) → AllOn side part → AreKept 
 other-kept side [] h = tt
 other-kept side (m ∷ part) h = by side m.mark h.0 (other-kept side part h.1)
   where
-    by : (s : Side) (mark : Mark) → is_on_side s mark ≡ true → AreKept (part_of (other_side s) part) → AreKept (part_of (other_side s) (line_of mark m.line ∷ part))
+    by : (s : Side) (mark : Mark) → is_on_side s mark ≡ true → AreKept (part_of (other_side s) part) → AreKept (part_of (other_side s) (marked mark m.line ∷ part))
     by Forward its.Keep on more = (refl, more)
     by Reversed its.Keep on more = (refl, more)
     by Forward its.Drop on more = more
@@ -93,7 +91,7 @@ drops-alone side (m ∷ part) h = (by part h.1, drops-alone side part h.1)
     by [] k = refl
     by (x ∷ ms) k = both side m.mark x.mark h.0 k.0
       where
-        both : (s : Side) (a b : Mark) → is_on_side s a ≡ true → is_on_side s b ≡ true → may_follow a (line_of b x.line ∷ ms) ≡ true
+        both : (s : Side) (a b : Mark) → is_on_side s a ≡ true → is_on_side s b ≡ true → may_follow a (marked b x.line ∷ ms) ≡ true
         both s its.Keep b e f = refl
         both s its.Drop b e f = refl
         both Forward its.Add b e f = absurd cc
@@ -106,12 +104,12 @@ pub kept-other : (side : Side) (body : List Marked) → AreKept (part_of side bo
 kept-other side [] h = refl
 kept-other side (m ∷ body) h = by side m.mark (λ k. kept-other side body k) h
   where
-    by : (s : Side) (mark : Mark) → (AreKept (part_of s body) → part_of (other_side s) body ≡ body) → AreKept (part_of s (line_of mark m.line ∷ body)) → part_of (other_side s) (line_of mark m.line ∷ body) ≡ line_of mark m.line ∷ body
-    by Forward its.Keep more k = ap (λ ms. line_of its.Keep m.line ∷ ms) (more k.1)
-    by Reversed its.Keep more k = ap (λ ms. line_of its.Keep m.line ∷ ms) (more k.1)
+    by : (s : Side) (mark : Mark) → (AreKept (part_of s body) → part_of (other_side s) body ≡ body) → AreKept (part_of s (marked mark m.line ∷ body)) → part_of (other_side s) (marked mark m.line ∷ body) ≡ marked mark m.line ∷ body
+    by Forward its.Keep more k = ap (λ ms. marked its.Keep m.line ∷ ms) (more k.1)
+    by Reversed its.Keep more k = ap (λ ms. marked its.Keep m.line ∷ ms) (more k.1)
     by Forward its.Drop more k = absurd (let bad = k.0 in cc)
-    by Reversed its.Drop more k = ap (λ ms. line_of its.Drop m.line ∷ ms) (more k)
-    by Forward its.Add more k = ap (λ ms. line_of its.Add m.line ∷ ms) (more k)
+    by Reversed its.Drop more k = ap (λ ms. marked its.Drop m.line ∷ ms) (more k)
+    by Forward its.Add more k = ap (λ ms. marked its.Add m.line ∷ ms) (more k)
     by Reversed its.Add more k = absurd (let bad = k.0 in cc)
 
 -- ---- parts that are written

@@ -20,3 +20,4 @@ pub mod SteadyParts
 pub mod HunkFaults
 pub mod FirstFault
 pub mod Words
+pub mod Sorting

@@ -43,10 +43,6 @@ unfolding stretch_has
 has-nil side = refl
 
 -- ---- a body taken from a side
-
-abbrev line_of : Mark → List ℕ → Marked
-line_of mark line = record { mark = mark; line = line }
-
 has-forward : (s : Side) (body : List Marked) → stretch_has s (map (taken_line Forward) body) ≡ stretch_has s body
 unfolding stretch_has
 has-forward s [] = refl

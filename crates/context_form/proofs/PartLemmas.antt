@@ -7,13 +7,15 @@ use Rattle.hunk_core.specs.declared.Mark.{Mark}
 use Rattle.hunk_core.specs.declared.Mark.TheVariants as its
 use Rattle.hunk_core.specs.declared.Side.{Side}
 use Rattle.hunk_core.specs.declared.Side.TheVariants.{Forward, Reversed}
-use Rattle.hunk_core.specs.Sides.{is_on_side}
+use Rattle.hunk_core.specs.Sides.{is_on_side, own_mark}
 use Rattle.hunk_core.specs.PlainHunk.{Marked}
 use Rattle.hunk_core.specs.LineTests.{after, marked, is_backslash, after_backslash}
 use Rattle.hunk_core.specs.Reading.{◌>>=◌, Fault, Ahead, ahead}
 use Rattle.hunk_core.proofs.ReadSteps.{bind_ok, chosen, guard_ok, must_ok, ok_is}
+use Rattle.hunk_core.proofs.Agreeing.{after_backslash-some}
+use Rattle.hunk_core.proofs.TextLemmas.{some-not}
 use Rattle.context_form.specs.Ranges.{before_range}
-use Rattle.context_form.specs.Parts.{own_mark, own_byte, mark_by, mark_at, Shown, must_be_marked, marked_at, room_at, cut, ended_by, first_line, line_at, is_done, PlainBody, with_line, body_at}
+use Rattle.context_form.specs.Parts.{own_byte, mark_by, mark_at, Shown, must_be_marked, marked_at, room_at, cut, ended_by, first_line, line_at, is_done, PlainBody, with_line, body_at}
 use Rattle.context_form.specs.Grammar.{mark_byte, Shows, SpellsLine, SpellsPart, is_change, has_change}
 use Rattle.context_form.proofs.MergeIs.{AllOn}
 
@@ -103,14 +105,6 @@ pub record TakesLine (side : Side) (left : ℕ) (p : Ahead) (x : Shown × Ahead)
 none-left : (others : List Marked) → length others < 1 → others ≡ []
 none-left [] e = refl
 none-left (l ∷ ls) e = absurd (omega (arith, e))
-
-pub after_backslash-some : (rest more : List (List ℕ)) → after_backslash rest ≡ Some more → (line : List ℕ) × (rest ≡ line ∷ more) × (is_backslash line ≡ true)
-after_backslash-some [] more e = absurd cc
-after_backslash-some (line ∷ rest) more e = by (is_backslash line) refl e
-  where
-    by : (b : Bool) → is_backslash line ≡ b → cond b (Some rest) None ≡ Some more → (l : List ℕ) × (line ∷ rest ≡ l ∷ more) × (is_backslash l ≡ true)
-    by true is e = (line, (let same : rest ≡ more = cc in rw same refl), is)
-    by false is e = absurd cc
 
 backslash-no-change : (line : List ℕ) → is_backslash line ≡ true → is_change line ≡ false
 unfolding after
@@ -233,10 +227,6 @@ body_takes side (suc left) before p x h =
     ]
 
 -- ---- what is spelled is read
-
-some-not : (n : ℕ) → eqb (suc n) 0 ≡ false
-some-not n = grind arith
-
 -- how the line of a part begins
 pub record Marks (line : List ℕ) : Type 0 where
   pub quiet : is_backslash line ≡ false

@@ -1,7 +1,7 @@
 -- Hunks that are read are spelled so, and what is spelled so is read.
-use Rattle.std.proofs.Common.{◌≡◌, ℕ, zero, suc, ◌+◌, ◌≤◌, ◌<◌, Bool, true, false, eqb, ◌&&◌, List, [], ◌∷◌, ◌++◌, length, Option, None, Some, Result, Ok, Err, refl, sym, ap, subst, ◌∙◌, append_assoc, arith, inl, inr}
+use Rattle.std.proofs.Common.{◌≡◌, ℕ, zero, suc, ◌+◌, ◌≤◌, ◌<◌, true, false, eqb, List, [], ◌∷◌, ◌++◌, length, None, Result, Ok, Err, refl, sym, ap, subst, ◌∙◌, append_assoc, arith, inl, inr}
 use Rattle.std.specs.Prelude.{is_some, IfOk}
-use Rattle.std.proofs.lemmas.Bool.{eqb-true}
+use Rattle.std.proofs.lemmas.Bool.{eqb-true, and_parts}
 use Rattle.std.proofs.lemmas.List.{length-append}
 use Rattle.hunk_core.specs.declared.fault.FormFault.{FormFault}
 use Rattle.hunk_core.specs.declared.Side.TheVariants.{Forward, Reversed}
@@ -9,6 +9,7 @@ use Rattle.hunk_core.specs.PlainHunk.{Marked, PlainHunk}
 use Rattle.hunk_core.specs.LineTests.{after, is_backslash, after_backslash}
 use Rattle.hunk_core.specs.Reading.{Gives, ◌>>=◌, Ahead, ahead}
 use Rattle.hunk_core.proofs.ReadSteps.{bind_ok, chosen, guard_ok, ok_is}
+use Rattle.hunk_core.proofs.OptionLemmas.{is_none}
 use Rattle.context_form.specs.Openings.{is_stars, opens_old, begins_hunk}
 use Rattle.context_form.specs.Parts.{begins_new}
 use Rattle.context_form.specs.Merging.{part_of, size_by}
@@ -30,15 +31,7 @@ pub record TakesHunk (least : ℕ) (p : Ahead) (x : PlainHunk × Ahead) : Type 0
   pub spelled : SpellsHunk least own x.1.rest x.0
   pub silent : after_backslash x.1.rest ≡ None
 
-is_none : (o : Option (List (List ℕ))) → is_some o ≡ false → o ≡ None
-is_none None e = refl
-is_none (Some x) e = absurd cc
-
-both : (x y : Bool) → (x && y) ≡ true → (x ≡ true) × (y ≡ true)
-both true y e = (refl, e)
-both false y e = absurd cc
-
--- what both parts took
+-- what and_parts parts took
 record TakesParts (least : ℕ) (p : Ahead) (x : (PlainPart × PlainPart) × Ahead) : Type 0 where
   middle : Ahead
   old : TakesPart Forward least p (x.0.0, middle)
@@ -53,9 +46,6 @@ parts-take least p x h =
 
 join_lines : (stars : List ℕ) (rest : List (List ℕ)) (line : List ℕ) (old middle : List (List ℕ)) (line2 : List ℕ) (new behind : List (List ℕ)) → rest ≡ line ∷ (old ++ middle) → middle ≡ line2 ∷ (new ++ behind) → stars ∷ rest ≡ (stars ∷ line ∷ (old ++ line2 ∷ new)) ++ behind
 join_lines stars rest line old middle line2 new behind e1 e2 = rw (e1, e2) (ap (λ (ls : List (List ℕ)). stars ∷ line ∷ ls) (sym (append_assoc old (line2 ∷ new) behind)))
-
-abbrev hunk_is : ℕ → ℕ → List Marked → PlainHunk
-hunk_is a m body = record { old_start = a; new_start = m; body = body }
 
 hunk-from : (least number : ℕ) (stars : List ℕ) (rest : List (List ℕ)) (old new : PlainPart) (next : Ahead) (h : PlainHunk) → is_stars stars ≡ true → TakesParts least (ahead (number + 1) rest) ((old, new), next) → TakesWhole old new h → after_backslash next.rest ≡ None → TakesHunk least (ahead number (stars ∷ rest)) (h, next)
 hunk-from least number stars rest old new next h opens t w silent =
@@ -107,7 +97,7 @@ hunk_takes least number (stars ∷ rest) x opens h =
     let b = bind_ok (whole a.0.0.0 a.0.0.1) (λ g. quiet a.0.1 >>= λ done. Ok (g, a.0.1)) x a.2 in
     let c = bind_ok (quiet a.0.1) (λ done. Ok (b.0, a.0.1)) x b.2 in
     let g = guard_ok (is_some (after_backslash a.0.1.rest)) _ tt c.0 c.1 in
-    subst (TakesHunk least (ahead number (stars ∷ rest))) (ok_is _ _ c.2) (hunk-from least number stars rest a.0.0.0 a.0.0.1 a.0.1 b.0 (both _ _ opens).0 (parts-take least (ahead (number + 1) rest) a.0 a.1) (whole-takes a.0.0.0 a.0.0.1 b.0 b.1) (is_none (after_backslash a.0.1.rest) g.0))
+    subst (TakesHunk least (ahead number (stars ∷ rest))) (ok_is _ _ c.2) (hunk-from least number stars rest a.0.0.0 a.0.0.1 a.0.1 b.0 (and_parts _ _ opens).0 (parts-take least (ahead (number + 1) rest) a.0 a.1) (whole-takes a.0.0.0 a.0.0.1 b.0 b.1) (is_none (after_backslash a.0.1.rest) g.0))
 
 pub hunk-shrinks : (least number : ℕ) (rest : List (List ℕ)) (x : PlainHunk × Ahead) → begins_hunk rest ≡ true → first_hunk least number rest ≡ Ok x → length x.1.rest < length rest
 hunk-shrinks least number rest x opens h = let t = hunk_takes least number rest x opens h in omega (arith, ap length t.parts, length-append t.own x.1.rest, t.some)
@@ -157,7 +147,7 @@ stars-quiet (b ∷ bytes) e =
 
 pub opening_quiet : (rest : List (List ℕ)) → begins_hunk rest ≡ true → after_backslash rest ≡ None
 opening_quiet [] e = refl
-opening_quiet (line ∷ rest) e = line_quiet line rest (stars-quiet line (both _ _ e).0)
+opening_quiet (line ∷ rest) e = line_quiet line rest (stars-quiet line (and_parts _ _ e).0)
 
 opens-both : (stars line : List ℕ) (rest : List (List ℕ)) → is_stars stars ≡ true → opens_old line ≡ true → begins_hunk (stars ∷ line ∷ rest) ≡ true
 opens-both stars line rest e f = rw (e, f) refl

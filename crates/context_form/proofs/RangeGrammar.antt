@@ -1,8 +1,7 @@
 -- A range line that is read is spelled so, and one that is spelled so is read.
-use Rattle.std.proofs.Common.{◌≡◌, ℕ, ◌+◌, ◌-◌, ◌^◌, ◌<◌, ◌≤◌, Bool, true, false, cond, eqb, ltb, ◌||◌, List, ◌∷◌, ◌++◌, Option, None, Some, Result, Ok, Err, refl, sym, ap, subst, ◌∙◌, append_assoc, arith, inl, inr}
+use Rattle.std.proofs.Common.{◌≡◌, ℕ, ◌+◌, ◌-◌, ◌^◌, ◌<◌, ◌≤◌, Bool, true, false, cond, eqb, ltb, ◌||◌, List, ◌∷◌, ◌++◌, Option, None, Some, Ok, refl, sym, ap, subst, ◌∙◌, append_assoc, arith, inl, inr}
 use Rattle.std.specs.Prelude.{is_some}
-use Rattle.std.proofs.lemmas.Bool.{eqb-true, eqb-false, ltb-true, ltb-false, le-ltb, lt-ltb, ne_eqb}
-use Rattle.hunk_core.specs.declared.BadKind.{BadKind}
+use Rattle.std.proofs.lemmas.Bool.{eqb-true, eqb-false, ltb-true, ltb-false, le-ltb, lt-ltb, ne_eqb, or_parts}
 use Rattle.hunk_core.specs.declared.BadKind.TheVariants as kinds
 use Rattle.hunk_core.specs.declared.Side.{Side}
 use Rattle.hunk_core.specs.declared.Side.TheVariants.{Forward, Reversed}
@@ -15,7 +14,9 @@ use Rattle.num_text.proofs.Runs.{number-again}
 use Rattle.num_text.specs.NumberRanges.{range_at}
 use Rattle.num_text.specs.NumberRanges as ranges
 use Rattle.num_text.proofs.RangeGrammar.{range-takes, StopsRange, ranged, range-again, range-single}
-use Rattle.diff_command.specs.Letters.{◌>>=◌, is_line_end}
+use Rattle.diff_command.specs.Letters.{is_line_end}
+use Rattle.hunk_core.proofs.OptionLemmas.{some_step}
+use Rattle.hunk_core.proofs.FaultSteps.{pass}
 use Rattle.context_form.specs.declared.range.Stated.{Stated}
 use Rattle.context_form.specs.Ranges.{before_range, behind_range, closed, numbers_at, is_bad_range, is_too_large, stated, checked, from_numbers, range_line, most, is_count, is_count_by}
 use Rattle.context_form.specs.Openings.{opens_old}
@@ -23,19 +24,6 @@ use Rattle.context_form.specs.Parts.{mark_at}
 use Rattle.context_form.specs.Grammar.{SpellsNumbers, SpellsRange, stated_as}
 
 -- ---- steps
-
-some_step : {A B : Type 0} (r : Option A) (f : A → Option B) (y : B) → (r >>= f) ≡ Some y → (x : A) × (r ≡ Some x) × (f x ≡ Some y)
-some_step (Some x) f y e = (x, refl, e)
-some_step None f y e = absurd cc
-
-or_false : (x y : Bool) → (x || y) ≡ false → (x ≡ false) × (y ≡ false)
-or_false true y e = absurd cc
-or_false false y e = (refl, e)
-
-pass : {A : Type 0} (b : Bool) (d : BadKind) (x : Result A BadKind) (q : A) → cond b (Err d) x ≡ Ok q → (b ≡ false) × (x ≡ Ok q)
-pass true d x q e = absurd cc
-pass false d x q e = (refl, e)
-
 -- ---- the numbers
 
 closed-ok : (r : NumberRange) (o : Option (List ℕ)) (q : NumberRange) → closed r o ≡ Some q → (rest : List ℕ) × (o ≡ Some rest) × (is_line_end rest ≡ true) × (r ≡ q)
@@ -67,7 +55,7 @@ record TakesNumbers (side : Side) (line : List ℕ) (r : NumberRange) : Type 0 w
   spelled : ranges.SpellsRange text r.is_single r.first r.last
   turned : r.is_turned ≡ ltb r.last r.first
 
-join_parts : (line a first b second c rest : List ℕ) → line ≡ a ++ first → first ≡ b ++ second → second ≡ c ++ rest → line ≡ a ++ (b ++ (c ++ rest))
+pub join_parts : (line a first b second c rest : List ℕ) → line ≡ a ++ first → first ≡ b ++ second → second ≡ c ++ rest → line ≡ a ++ (b ++ (c ++ rest))
 join_parts line a first b second c rest e1 e2 e3 = rw (e1, e2, e3) refl
 
 numbers-one : (side : Side) (line : List ℕ) (r : NumberRange) → numbers_at side line ≡ Some r → r.is_single ≡ true → r.last ≡ r.first
@@ -157,7 +145,7 @@ known-one side least line first last turned read one fits order =
 known-two : (side : Side) (least : ℕ) (line : List ℕ) (first last : ℕ) (turned : Bool) → numbers_at side line ≡ Some (made first last false turned) → (turned || eqb first 0) ≡ false → ltb 4294967295 (first + ((last - first) + 1)) ≡ false → least ≤ first
     → Known side least line (record { start = first; count = Some ((last - first) + 1) })
 known-two side least line first last turned read good fits order =
-    let g = or_false turned (eqb first 0) good in
+    let g = or_parts turned (eqb first 0) good in
     let ne = eqb-false first 0 g.1 in
     let low : first + ((last - first) + 1) ≤ 4294967295 = ltb-false 4294967295 (first + ((last - first) + 1)) fits in
     let t = numbers-take side line (made first last false turned) read (omega (arith, low)) (omega (arith, low)) in

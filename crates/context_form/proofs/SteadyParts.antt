@@ -1,36 +1,26 @@
 -- The two parts of a hunk are read without a look behind where they stop, but for the line there.
-use Rattle.std.proofs.Common.{◌≡◌, ◌≢◌, ℕ, zero, suc, ◌-◌, ◌&&◌, ◌+◌, Bool, true, false, cond, eqb, ltb, List, [], ◌∷◌, Option, None, Some, Result, Ok, Err, refl, sym, ap, subst, ◌∙◌, arith}
+use Rattle.std.proofs.Common.{◌≡◌, ◌≢◌, ℕ, zero, suc, ◌-◌, ◌&&◌, ◌+◌, Bool, true, false, cond, eqb, ltb, List, [], ◌∷◌, Option, None, Some, Result, Ok, Err, refl, ap, subst, ◌∙◌, arith}
 use Rattle.hunk_core.specs.declared.BadKind.{BadKind}
 use Rattle.hunk_core.specs.declared.BadKind.TheVariants as kinds
 use Rattle.hunk_core.specs.declared.Mark.{Mark}
 use Rattle.hunk_core.specs.declared.Side.{Side}
 use Rattle.hunk_core.specs.declared.Side.TheVariants.{Forward, Reversed}
 use Rattle.hunk_core.specs.PlainHunk.{Marked}
-use Rattle.hunk_core.specs.LineTests.{is_backslash, after_backslash}
+use Rattle.hunk_core.specs.LineTests.{after_backslash}
 use Rattle.hunk_core.specs.Reading.{◌>>=◌, Fault, fault, Ahead, ahead}
 use Rattle.num_text.specs.declared.range.NumberRange.{NumberRange}
+use Rattle.hunk_core.specs.Refusals.{unmarked}
+use Rattle.hunk_core.proofs.FaultSteps.{failed, with_rest, err_is, assoc, here-is, unmarked-kind}
+use Rattle.hunk_core.proofs.Steady.{one_line, FailsHere, peek_by}
 use Rattle.context_form.specs.declared.range.Stated.{Stated}
 use Rattle.context_form.specs.Ranges.{is_bad_range, is_too_large, stated, from_numbers, numbers_at, range_line, most}
-use Rattle.context_form.specs.Parts.{mark_at, Shown, unmarked, must_be_marked, marked_at, room_at, cut, ended_by, first_line, line_at, is_done, PlainBody, no_body, with_line, body_at}
+use Rattle.context_form.specs.Parts.{mark_at, Shown, must_be_marked, marked_at, room_at, cut, ended_by, first_line, line_at, is_done, PlainBody, no_body, with_line, body_at}
 use Rattle.context_form.specs.Presence.{begins_part, is_there, begins_old_part}
 use Rattle.context_form.specs.Hunks.{PlainPart, fitting, at_line, first_range, old_part, too_few, enough, new_count, new_part, parts_at}
-use Rattle.context_form.proofs.Steady.{failed, Steady, steady-then, steady-value, one_line, with_rest, steady-same, LooksAhead, steady-test, FailsHere, steady-line, steady-before, peek_by, steady-peek}
+use Rattle.hunk_core.proofs.Steady.{steady-then, steady-value, steady-same}
+use Rattle.context_form.proofs.Steady.{Steady, LooksAhead, steady-test, steady-line, steady-before, steady-peek}
 
 -- ---- lines
-
-here-is : (number : ℕ) (kind : BadKind) (e : Fault) → kind ≢ kinds.ShortEnd → fault number kind ≡ e → (e.line ≡ number) × (e.kind ≢ kinds.ShortEnd)
-here-is number kind e ne is = (sym (ap (λ (x : Fault). x.line) is), λ short. ne (ap (λ (x : Fault). x.kind) is ∙ short))
-
-err_fault : {A : Type 0} (d e : Fault) → failed {A = A} d ≡ failed e → d ≡ e
-err_fault d e h = cc
-
-unmarked-kind : (line : List ℕ) → unmarked line ≢ kinds.ShortEnd
-unmarked-kind line = by (is_backslash line)
-  where
-    by : (b : Bool) → cond b kinds.MisplacedBackslash kinds.Mark ≢ kinds.ShortEnd
-    by true = λ h. cc
-    by false = λ h. cc
-
 abbrev taken_line : Side → ℕ → ℕ → List ℕ → Result Shown Fault
 taken_line side left number line = marked_at number side line >>= λ m. room_at number left m
 
@@ -38,16 +28,12 @@ taken-here : (side : Side) (left : ℕ) → FailsHere (taken_line side left)
 taken-here side left number line e h = by (mark_at side line) h
   where
     room : (m : Shown) (b : Bool) → cond b (Err (fault number kinds.Count)) (Ok m) ≡ failed {A = Shown} e → (e.line ≡ number) × (e.kind ≢ kinds.ShortEnd)
-    room m true k = here-is number kinds.Count e (λ z. cc) (err_fault {A = Shown} _ e k)
+    room m true k = here-is number kinds.Count e (λ z. cc) (err_is {A = Shown} _ e k)
     room m false k = absurd cc
 
     by : (o : Option (Mark × Bool)) → (must_be_marked number line o >>= λ m. room_at number left m) ≡ Err e → (e.line ≡ number) × (e.kind ≢ kinds.ShortEnd)
-    by None k = here-is number (unmarked line) e (unmarked-kind line) (err_fault {A = Shown} _ e k)
+    by None k = here-is number (unmarked line) e (unmarked-kind line) (err_is {A = Shown} _ e k)
     by (Some m) k = room _ (eqb left 0) k
-
-assoc : {A B : Type 0} (r : Result A Fault) (q : Ahead) (g : A → Ahead → Result (B × Ahead) Fault) → ((r >>= with_rest q) >>= λ x. g x.0 x.1) ≡ (r >>= λ a. g a q)
-assoc (Ok a) q g = refl
-assoc (Err d) q g = refl
 
 abbrev ended : ℕ → Shown → Ahead → Result (Shown × Ahead) Fault
 ended left m q = peek_by m (cond (eqb left 1) (Some (cut m)) None) q (after_backslash q.rest)
@@ -134,7 +120,7 @@ old-here least number line e h = by (range_line Forward least line) refl h
   where
     by : (o : Result Stated BadKind) → range_line Forward least line ≡ o → (at_line number o >>= λ s. numbered number s) ≡ Err e → (e.line ≡ number) × (e.kind ≢ kinds.ShortEnd)
     by (Ok s) is k = absurd cc
-    by (Err kind) is k = here-is number kind e (range-kind Forward least line kind is) (err_fault {A = ℕ × Stated} _ e k)
+    by (Err kind) is k = here-is number kind e (range-kind Forward least line kind is) (err_is {A = ℕ × Stated} _ e k)
 
 abbrev part_with : ℕ × Stated → PlainBody → PlainPart
 part_with s b = record { number = s.0; stated = s.1; body = b }
@@ -193,7 +179,7 @@ new-here number line e h = by (range_line Reversed 0 line) refl h
   where
     by : (o : Result Stated BadKind) → range_line Reversed 0 line ≡ o → (at_line number o >>= λ s. numbered number s) ≡ Err e → (e.line ≡ number) × (e.kind ≢ kinds.ShortEnd)
     by (Ok s) is k = absurd cc
-    by (Err kind) is k = here-is number kind e (range-kind Reversed 0 line kind is) (err_fault {A = ℕ × Stated} _ e k)
+    by (Err kind) is k = here-is number kind e (range-kind Reversed 0 line kind is) (err_is {A = ℕ × Stated} _ e k)
 
 -- the old part has its lines
 abbrev enough_line : PlainPart → ℕ × Stated → Ahead → Result ((ℕ × Stated) × Ahead) Fault

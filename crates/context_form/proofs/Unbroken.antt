@@ -1,17 +1,19 @@
 -- A hunk that a piece of a text spells breaks no rule.
-use Rattle.std.proofs.Common.{◌≡◌, ℕ, suc, ◌+◌, ◌<◌, ◌≤◌, Bool, true, false, not, cond, eqb, ◌&&◌, ◌||◌, List, [], ◌∷◌, ◌++◌, length, map, None, Some, refl, ap, subst, ◌∙◌, arith}
-use Rattle.std.proofs.lemmas.Bool.{eqb-true, ne_eqb, le-ltb}
+use Rattle.std.proofs.Common.{◌≡◌, ℕ, suc, ◌<◌, ◌≤◌, Bool, true, false, not, cond, eqb, ◌||◌, List, [], ◌∷◌, ◌++◌, length, map, None, refl, ap, subst, ◌∙◌, arith}
+use Rattle.std.proofs.lemmas.Bool.{ne_eqb}
 use Rattle.std.proofs.lemmas.List.{length-map}
 use Rattle.line_list.specs.Lines.{IsLine, ArePieces}
 use Rattle.hunk_core.specs.declared.Side.{Side}
 use Rattle.hunk_core.specs.declared.Side.TheVariants.{Forward, Reversed}
-use Rattle.hunk_core.specs.declared.check.BadHunk.{BadHunk}
 use Rattle.hunk_core.specs.Sides.{is_on_side}
 use Rattle.hunk_core.specs.PlainHunk.{Marked, PlainHunk, lines_on, old_lines, new_lines}
 use Rattle.hunk_core.specs.LineTests.{ends_line}
 use Rattle.hunk_core.specs.Rules.{starts_at_zero, runs_over, lacks_inner_end, first_broken}
 use Rattle.hunk_core.specs.Turned.{other_side}
 use Rattle.hunk_core.proofs.PieceLemmas.{pieces-first, pieces-last}
+use Rattle.line_list.proofs.WholeLines.{whole-before}
+use Rattle.hunk_core.proofs.RuleLemmas.{no-rule, zero-start, no-run}
+use Rattle.hunk_core.proofs.LineEnds.{line-ends, lacks-step}
 use Rattle.context_form.specs.Merging.{part_of}
 use Rattle.context_form.specs.Presence.{is_there}
 use Rattle.context_form.specs.Grammar.{mark_byte, SpellsLine, SpellsPart, SpellsNumbers, SpellsSide, SpellsHunk, SpellsPiece, stated_as, written}
@@ -51,19 +53,9 @@ at-end least own behind h s = record {
 }
 
 -- ---- a line that stands before another has its line feed
-
-line-ends : (line : List ℕ) → IsLine line → ends_line line ≡ true
-line-ends [] h = absurd h
-line-ends (b ∷ []) h = grind arith
-line-ends (b ∷ c ∷ bytes) h = line-ends (c ∷ bytes) h.1
-
 behind-two : (b : ℕ) (line : List ℕ) → IsLine (b ∷ 32 ∷ line) → ends_line line ≡ true
 behind-two b [] h = absurd (let bad : 32 ≡ 10 = h.1 in cc)
 behind-two b (c ∷ bytes) h = line-ends (c ∷ bytes) h.1.1
-
-lacks-step : (line : List ℕ) (lines : List (List ℕ)) → (0 < length lines → ends_line line ≡ true) → lacks_inner_end lines ≡ false → lacks_inner_end (line ∷ lines) ≡ false
-lacks-step line [] ends none = refl
-lacks-step line (x ∷ xs) ends none = let e : ends_line line ≡ true = ends (omega arith) in rw (e, none) refl
 
 abbrev lines_of : List Marked → List (List ℕ)
 lines_of part = map (λ m. m.line) part
@@ -76,10 +68,6 @@ part-some [] (m ∷ part) s some = absurd (none s.0 s.1 s.2 s.3)
     none [] rest e h = h
     none (line ∷ own) rest e h = cc
 part-some (line ∷ piece) (m ∷ part) s some = omega arith
-
-whole-before : (line : List ℕ) (rest : List (List ℕ)) → 0 < length rest → ArePieces (line ∷ rest) → IsLine line
-whole-before line [] some h = absurd (omega (arith, some))
-whole-before line (next ∷ rest) some h = h.0
 
 ends-inner : (own rest : List (List ℕ)) (m : Marked) (others : List Marked) → SpellsLine own m others → SpellsPart rest others → 0 < length others → ArePieces (own ++ rest) → ends_line m.line ≡ true
 ends-inner [] rest m others h s some pieces = absurd h
@@ -132,16 +120,6 @@ numbers-start : (text : List ℕ) (single : Bool) (start count : ℕ) → Spells
 numbers-start text true start count s z = s.2 z
 numbers-start text false start count s z = absurd (omega (arith, z, s.6))
 
-zero-start : (start : ℕ) (side : List (List ℕ)) → (start ≡ 0 → length side ≡ 0) → starts_at_zero start side ≡ false
-zero-start start side begins = by (eqb start 0) refl
-  where
-    by : (b : Bool) → eqb start 0 ≡ b → (b && not (eqb (length side) 0)) ≡ false
-    by true e = let z : length side ≡ 0 = begins (eqb-true start 0 e) in rw z refl
-    by false e = refl
-
-no-run : (start : ℕ) (side : List (List ℕ)) → start + length side < 4294967296 → runs_over start side ≡ false
-no-run start side small = le-ltb 4294967295 (start + length side) (omega (arith, small))
-
 part-within : (side : Side) (body : List Marked) → length (part_of side body) ≤ length body
 part-within side [] = omega arith
 part-within side (m ∷ body) = by (is_on_side side m.mark) (part-within side body)
@@ -161,9 +139,6 @@ written-some side (line ∷ own) partner body s some = by (part_of side body) s 
 some-body : (old new : List (List ℕ)) (body : List Marked) → SpellsSide Forward old new body → SpellsSide Reversed new old body → 0 < length (old ++ new) → 0 < length body
 some-body [] new body s t some = written-some Reversed new [] body t some
 some-body (line ∷ old) new body s t some = written-some Forward (line ∷ old) new body s (omega arith)
-
-no-rule : (x y z w : BadHunk) (a b b2 c c2 d d2 : Bool) → a ≡ false → b ≡ false → b2 ≡ false → c ≡ false → c2 ≡ false → d ≡ false → d2 ≡ false → cond a (Some x) (cond (b || b2) (Some y) (cond (c || c2) (Some z) (cond (d || d2) (Some w) None))) ≡ None
-no-rule x y z w a b b2 c c2 d d2 e1 e2 e3 e4 e5 e6 e7 = rw (e1, e2, e3, e4, e5, e6, e7) refl
 
 swap-some : (old new : List (List ℕ)) → 0 < length (old ++ new) → 0 < length (new ++ old)
 swap-some [] [] some = absurd (omega (arith, some))

@@ -1,7 +1,7 @@
 -- The tests of the grammar, in words.
 use Rattle.std.proofs.Common.{◌≡◌, ◌↔◌, ◌⊎◌, inl, inr, ℕ, ◌<◌, Bool, true, false, cond, eqb, ◌&&◌, ◌||◌, not, List, [], ◌∷◌, ◌++◌, length, drop, Option, None, Some, refl, sym, ap, ◌∙◌, arith}
 use Rattle.std.specs.Prelude.{is_some, replicate}
-use Rattle.std.proofs.lemmas.Bool.{ne_eqb}
+use Rattle.std.proofs.lemmas.Bool.{ne_eqb, and_parts}
 use Rattle.num_text.specs.Numbers.{number_at, is_digit}
 use Rattle.hunk_core.specs.declared.Mark.{Mark}
 use Rattle.hunk_core.specs.declared.Mark.TheVariants as its
@@ -20,11 +20,6 @@ use Rattle.context_form.proofs.PartLemmas.{mark-takes, mark-again}
 use Rattle.context_form.proofs.HalvesAgain.{there-again}
 
 -- ---- the opening
-
-both : (x y : Bool) → (x && y) ≡ true → (x ≡ true) × (y ≡ true)
-both true y e = (refl, e)
-both false y e = absurd cc
-
 abbrev stars : List ℕ
 stars = replicate 15 42
 
@@ -48,9 +43,9 @@ Opening lines = (bytes : List ℕ) × (d : ℕ) × (more : List ℕ) × (rest : 
 
 opening-is : (lines : List (List ℕ)) → begins_hunk lines ≡ true → Opening lines
 opening-is [] e = absurd cc
-opening-is (line ∷ []) e = absurd (let b = both (is_stars line) false e in let bad = b.1 in cc)
+opening-is (line ∷ []) e = absurd (let b = and_parts (is_stars line) false e in let bad = b.1 in cc)
 opening-is (line ∷ other ∷ rest) e =
-    let b = both (is_stars line) (opens_old other) e in
+    let b = and_parts (is_stars line) (opens_old other) e in
     let s = has_some (after stars line) b.0 in
     let o = old-first (after before other) b.1 in
     let d = number-first o.0 o.2 in

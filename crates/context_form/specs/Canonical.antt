@@ -1,7 +1,6 @@
 -- The canonical text of a hunk.
-use Rattle.std.specs.Prelude.{◌≡◌, ℕ, ◌+◌, ◌-◌, Bool, true, false, nat_lt, ◌&&◌, List, [], ◌∷◌, ◌++◌, length, codes, replicate, if◌then◌else◌}
+use Rattle.std.specs.Prelude.{◌≡◌, ℕ, Bool, true, false, ◌&&◌, List, [], ◌∷◌, ◌++◌, length, replicate, if◌then◌else◌}
 use Rattle.line_list.specs.Lines.{lines}
-use Rattle.num_text.specs.Numbers.{decimal}
 use Rattle.hunk_core.specs.declared.Mark.{Mark}
 use Rattle.hunk_core.specs.declared.Side.{Side}
 use Rattle.hunk_core.specs.declared.Side.TheVariants.{Forward, Reversed}
@@ -9,6 +8,8 @@ use Rattle.hunk_core.specs.Sides.{is_on_side}
 use Rattle.hunk_core.specs.PlainHunk.{Marked, PlainHunk, old_lines, new_lines}
 use Rattle.hunk_core.specs.Turned.{is_keep, is_drop}
 use Rattle.hunk_core.specs.LineTests.{ends_line}
+use Rattle.hunk_core.specs.Writing.{no_newline}
+use Rattle.diff_command.specs.Spans.{span_text}
 use Rattle.context_form.specs.Ranges.{before_range, behind_range}
 use Rattle.context_form.specs.Grammar.{mark_byte, SpellsHunk, IsPiece}
 
@@ -16,17 +17,9 @@ use Rattle.context_form.specs.Grammar.{mark_byte, SpellsHunk, IsPiece}
 abbrev pub stars_text : List ℕ
 stars_text = replicate 15 42 ++ 10 ∷ []
 
--- one number for at most one line, and two for more
-abbrev pub span_text : ℕ → ℕ → List ℕ
-span_text start count = if nat_lt 1 count then decimal start ++ 44 ∷ decimal (start + count - 1) else decimal start
-
 -- the range line of a part
 abbrev pub range_line_text : Side → ℕ → ℕ → List ℕ
 range_line_text side start count = before_range side ++ (span_text start count ++ (behind_range side ++ 10 ∷ []))
-
--- the line after one that has no line feed
-abbrev pub no_newline : List ℕ
-no_newline = 92 ∷ 32 ∷ (codes "No newline at end of file" ++ 10 ∷ [])
 
 -- a line behind its mark, '! ' for one of changed lines
 abbrev pub line_text : Bool → Marked → List ℕ

@@ -1,17 +1,11 @@
 -- What makes a fault the first one.
-use Rattle.std.specs.Prelude.{◌≡◌, ℕ, zero, suc, ◌+◌, ◌≤◌, ◌<◌, List, [], ◌∷◌, length, is_some, Result, Ok, Err, if◌then◌else◌}
+use Rattle.std.specs.Prelude.{ℕ, zero, suc, ◌+◌, List, [], ◌∷◌, length, is_some, Result, Ok, Err, if◌then◌else◌}
 use Rattle.hunk_core.specs.declared.BadKind.{BadKind}
 use Rattle.hunk_core.specs.declared.BadKind.TheVariants as kinds
 use Rattle.hunk_core.specs.PlainHunk.{PlainHunk}
 use Rattle.hunk_core.specs.LineTests.{after_backslash}
 use Rattle.hunk_core.specs.Reading.{Fault, Ahead, ahead}
 use Rattle.context_form.specs.Hunks.{PlainPart, parts_at, whole}
-
--- two lists of lines, which begin at this number, are the same up to the line with the last number
-abbrev pub AgreeTo : ℕ → ℕ → List (List ℕ) → List (List ℕ) → Type 0
-AgreeTo last number [] others = last < number
-AgreeTo last number (line ∷ rest) [] = last < number
-AgreeTo last number (line ∷ rest) (other ∷ others) = (number ≤ last → line ≡ other) × AgreeTo last (number + 1) rest others
 
 -- how far behind its own line a fault in the lines of a part is decided: whether the greatest number is too large as a start is told by the first line of the part, and that is asked before the count of the old part
 abbrev pub lines_behind : BadKind → ℕ

@@ -4,18 +4,14 @@ use Rattle.hunk_core.specs.declared.Mark.{Mark}
 use Rattle.hunk_core.specs.declared.Mark.TheVariants as its
 use Rattle.hunk_core.specs.declared.Side.{Side}
 use Rattle.hunk_core.specs.declared.Side.TheVariants.{Forward, Reversed}
-use Rattle.hunk_core.specs.declared.BadKind.{BadKind}
 use Rattle.hunk_core.specs.declared.BadKind.TheVariants as kinds
 use Rattle.hunk_core.specs.PlainHunk.{Marked, body_of}
-use Rattle.hunk_core.specs.LineTests.{after, marked, unended, is_backslash, after_backslash}
+use Rattle.hunk_core.specs.LineTests.{after, marked, unended, after_backslash}
 use Rattle.hunk_core.specs.Reading.{Fault, fault, ◌>>=◌, Ahead, ahead}
+use Rattle.hunk_core.specs.Sides.{own_mark}
+use Rattle.hunk_core.specs.Refusals.{unmarked}
 use Rattle.context_form.specs.declared.part.Body.{Body}
 use Rattle.context_form.specs.Ranges.{before_range}
-
--- the mark of a line that is on this side alone
-abbrev pub own_mark : Side → Mark
-own_mark Forward = its.Drop
-own_mark Reversed = its.Add
 
 -- '-' for a line that is dropped, '+' for one that is added
 abbrev pub own_byte : Side → ℕ
@@ -38,10 +34,6 @@ mark_at side (b ∷ c ∷ bytes) = if c == 32 then mark_by side b else None
 -- a line of a part without its mark, and whether that was '! '
 abbrev pub Shown : Type 0
 Shown = Marked × Bool
-
--- why a line is refused that has no mark where one must stand
-abbrev pub unmarked : List ℕ → BadKind
-unmarked line = if is_backslash line then kinds.MisplacedBackslash else kinds.Mark
 
 -- a line of this part has a mark, which is taken off
 abbrev pub must_be_marked : ℕ → List ℕ → Option (Mark × Bool) → Result Shown Fault

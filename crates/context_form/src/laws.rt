@@ -8,7 +8,8 @@ ghost use Rattle.context_form.specs.Merging.{kept_count, part_of};
 ghost use Rattle.num_text.specs.Numbers.{is_digit};
 ghost use Rattle.hunk_core.specs.declared.Side.{Side};
 ghost use Rattle.context_form.specs.Grammar.{IsPiece, SpellsHunk, stated_as, written};
-ghost use Rattle.context_form.specs.FirstFault.{AgreeTo, decided_by};
+ghost use Rattle.context_form.specs.FirstFault.{decided_by};
+ghost use Rattle.hunk_core.specs.FirstFault.{AgreeTo};
 ghost use Rattle.context_form.specs.Hunks.{reading};
 ghost use Rattle.context_form.specs.Presence.{Begins, BeginsChange, is_there};
 

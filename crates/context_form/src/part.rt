@@ -7,7 +7,9 @@ ghost use Rattle.hunk_core.specs.Turned.{LiesIn};
 ghost use Rattle.hunk_core.specs.Reading.{Gives, IsPlace, ahead_of};
 ghost use Rattle.hunk_core.specs.LineTests.{after, is_backslash};
 ghost use Rattle.context_form.specs.Ranges.{before_range};
-ghost use Rattle.context_form.specs.Parts.{own_mark, own_byte, mark_by, mark_at, unmarked, marked_at, room_at, line_at, begins_new, is_done, plain_of, no_body, body_at};
+ghost use Rattle.context_form.specs.Parts.{own_byte, mark_by, mark_at, marked_at, room_at, line_at, begins_new, is_done, plain_of, no_body, body_at};
+ghost use Rattle.hunk_core.specs.Sides.{own_mark};
+ghost use Rattle.hunk_core.specs.Refusals.{unmarked};
 
 use hunk_core::{
     BadKind, FormFault, HunkLine, Mark, Place, Side, after_prefix, backslash_end, bad,

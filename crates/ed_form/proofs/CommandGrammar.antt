@@ -1,69 +1,29 @@
 -- A command that is read is spelled so, and one that is spelled so is read.
-use Rattle.std.proofs.Common.{◌≡◌, ℕ, ◌^◌, ◌<◌, ◌≤◌, Bool, true, false, not, cond, eqb, ltb, ◌||◌, List, [], ◌∷◌, ◌++◌, Option, None, Some, Result, Ok, Err, refl, sym, ap, subst, ◌∙◌, arith, inl, inr}
-use Rattle.std.proofs.lemmas.Bool.{eqb-true, eqb-false, ltb-true, ltb-false, le-ltb, lt-ltb, ne_eqb}
+use Rattle.std.proofs.Common.{◌≡◌, ℕ, ◌^◌, ◌<◌, ◌≤◌, Bool, true, false, not, cond, eqb, ltb, List, ◌∷◌, ◌++◌, Option, None, Some, Ok, Err, refl, sym, ap, subst, ◌∙◌, arith, inl, inr}
+use Rattle.std.proofs.lemmas.Bool.{eqb-false, ltb-true, ltb-false, le-ltb, lt-ltb, ne_eqb, or_parts}
 use Rattle.hunk_core.specs.declared.BadKind.{BadKind}
 use Rattle.hunk_core.specs.declared.BadKind.TheVariants as kinds
 use Rattle.hunk_core.proofs.ReadSteps.{chosen, some_is}
 use Rattle.num_text.specs.declared.range.NumberRange.{NumberRange}
 use Rattle.num_text.specs.NumberRanges.{range_at, SpellsRange}
-use Rattle.num_text.proofs.RangeGrammar.{range-takes, StopsRange, ranged, range-again, range-single}
+use Rattle.num_text.proofs.RangeGrammar.{range-takes, ranged, range-again, range-single}
 use Rattle.diff_command.specs.declared.Action.{Action}
 use Rattle.diff_command.specs.declared.Action.TheVariants.{Add, Change, Delete}
-use Rattle.diff_command.specs.Letters.{◌>>=◌, action_at, is_line_end, letter}
+use Rattle.diff_command.specs.Letters.{action_at, is_line_end, letter}
+use Rattle.hunk_core.proofs.OptionLemmas.{some_step}
+use Rattle.hunk_core.proofs.FaultSteps.{pass}
+use Rattle.diff_command.proofs.CommandLemmas.{action-takes, action-again, stops-letter}
 use Rattle.ed_form.specs.declared.command.Command.{Command}
 use Rattle.ed_form.specs.declared.command.Heading.{Heading}
 use Rattle.ed_form.specs.Commands.{whole, parts_at, is_command, is_bad_range, start, heading, is_too_large, placed, checked, from_parts, opening}
 use Rattle.ed_form.specs.Grammar.{SpellsAddresses, SpellsCommand}
 
 -- ---- steps
-
-pub some_step : {A B : Type 0} (r : Option A) (f : A → Option B) (y : B) → (r >>= f) ≡ Some y → (x : A) × (r ≡ Some x) × (f x ≡ Some y)
-some_step (Some x) f y e = (x, refl, e)
-some_step None f y e = absurd cc
-
-or_false : (x y : Bool) → (x || y) ≡ false → (x ≡ false) × (y ≡ false)
-or_false true y e = absurd cc
-or_false false y e = (refl, e)
-
-pass : {A : Type 0} (b : Bool) (d : BadKind) (x : Result A BadKind) (q : A) → cond b (Err d) x ≡ Ok q → (b ≡ false) × (x ≡ Ok q)
-pass true d x q e = absurd cc
-pass false d x q e = (refl, e)
-
 must : {A : Type 0} (b : Bool) (d : BadKind) (x q : A) → cond b (Ok x) (Err d) ≡ Ok q → (b ≡ true) × (x ≡ q)
 must true d x q e = (refl, cc)
 must false d x q e = absurd cc
 
 -- ---- the letter
-
-pub action-takes : (bytes : List ℕ) (x : Action × List ℕ) → action_at bytes ≡ Some x → bytes ≡ letter x.0 ∷ x.1
-unfolding action_at
-action-takes [] x e = absurd cc
-action-takes (b ∷ bytes) x e =
-    elim (chosen (eqb b 97) _ _ (Some x) e) [
-      | inl one ↦ is b 97 (Add, bytes) (eqb-true b 97 one.0) one.1 refl
-      | inr e1 ↦ elim (chosen (eqb b 99) _ _ (Some x) e1.1) [
-        | inl two ↦ is b 99 (Change, bytes) (eqb-true b 99 two.0) two.1 refl
-        | inr e2 ↦ elim (chosen (eqb b 100) _ _ (Some x) e2.1) [
-          | inl three ↦ is b 100 (Delete, bytes) (eqb-true b 100 three.0) three.1 refl
-          | inr other ↦ absurd cc
-        ]
-      ]
-    ]
-  where
-    is : (c n : ℕ) (y : Action × List ℕ) → c ≡ n → Some y ≡ Some x → n ∷ y.1 ≡ letter y.0 ∷ y.1 → c ∷ y.1 ≡ letter x.0 ∷ x.1
-    is c n y same h l = let found : y ≡ x = some_is y x (Some y) refl h in ap (λ k. k ∷ y.1) same ∙ l ∙ ap (λ (z : Action × List ℕ). letter z.0 ∷ z.1) found
-
-pub action-again : (action : Action) (rest : List ℕ) → action_at (letter action ∷ rest) ≡ Some (action, rest)
-unfolding action_at
-action-again Add rest = refl
-action-again Change rest = refl
-action-again Delete rest = refl
-
-pub stops-letter : (action : Action) (rest : List ℕ) → StopsRange (letter action ∷ rest)
-stops-letter Add rest = record { digit = refl; comma = λ n. refl }
-stops-letter Change rest = record { digit = refl; comma = λ n. refl }
-stops-letter Delete rest = record { digit = refl; comma = λ n. refl }
-
 -- ---- the parts
 
 abbrev pub made : NumberRange → Action → Command
@@ -141,7 +101,7 @@ checked-passes below c h e =
     let q = heading c in
     let p2 = pass (is_too_large q) kinds.NumberTooLarge _ h p1.1 in
     let p3 = must (ltb q.last below) kinds.EdOrder q h p2.1 in
-    let large = or_false (ltb 4294967295 q.first) (ltb 4294967295 q.last) p2.0 in
+    let large = or_parts (ltb 4294967295 q.first) (ltb 4294967295 q.last) p2.0 in
     let first : q.first < 2 ^ 32 = omega (arith, ltb-false 4294967295 q.first large.0) in
     let last : q.last < 2 ^ 32 = omega (arith, ltb-false 4294967295 q.last large.1) in
     record {
@@ -162,12 +122,12 @@ addresses-of Add range text good spelled turned =
     let one : SpellsRange text true range.first range.last = subst (λ s. SpellsRange text s range.first range.last) (not_not range.is_single good) spelled in
     (rw one.0 one.1, refl)
 addresses-of Change range text good spelled turned =
-    let g = or_false range.is_turned (eqb range.first 0) good in
+    let g = or_parts range.is_turned (eqb range.first 0) good in
     let le = ltb-false range.last range.first (sym turned ∙ g.0) in
     let ne = eqb-false range.first 0 g.1 in
     (range.is_single, spelled, omega arith, omega (arith, le))
 addresses-of Delete range text good spelled turned =
-    let g = or_false range.is_turned (eqb range.first 0) good in
+    let g = or_parts range.is_turned (eqb range.first 0) good in
     let le = ltb-false range.last range.first (sym turned ∙ g.0) in
     let ne = eqb-false range.first 0 g.1 in
     (range.is_single, spelled, omega arith, omega (arith, le))

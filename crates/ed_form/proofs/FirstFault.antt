@@ -5,16 +5,18 @@ use Rattle.std.proofs.lemmas.List.{length-append}
 use Rattle.hunk_core.specs.declared.BadKind.TheVariants as kinds
 use Rattle.hunk_core.specs.Reading.{◌>>=◌, Fault, fault, Ahead, ahead}
 use Rattle.hunk_core.proofs.ReadSteps.{chosen}
+use Rattle.hunk_core.specs.FirstFault.{AgreeTo}
+use Rattle.hunk_core.proofs.FaultSteps.{failed, err_is, bind_err}
+use Rattle.hunk_core.proofs.Agreeing.{agree_front}
 use Rattle.ed_form.specs.Commands.{begins_script}
 use Rattle.ed_form.specs.PlainEdit.{PlainEdit, lowest}
 use Rattle.ed_form.specs.Texts.{is_dot}
 use Rattle.ed_form.specs.Scripts.{edit_at, begins_substitution, no_edits, edits_at, reading}
 use Rattle.ed_form.specs.Grammar.{HaveNoDot, SpellsEdit, IsPiece, StandsBehind}
-use Rattle.ed_form.specs.FirstFault.{AgreeTo}
 use Rattle.ed_form.proofs.Counts.{edit-counts}
 use Rattle.ed_form.proofs.EditLoops.{edits_step, some_lines, no_more}
 use Rattle.ed_form.proofs.Pieces.{TakesEdit, edit_takes, reading_again}
-use Rattle.ed_form.proofs.OneEdit.{failed, err_is, bind_err, guard_err, agree_head, agree_front, edit-low, edit-stays, edit-goes, edit-more, edit-endless, edit-ended}
+use Rattle.ed_form.proofs.OneEdit.{guard_err, agree_head, edit-low, edit-stays, edit-goes, edit-more, edit-endless, edit-ended}
 
 -- ---- edits that follow each other
 

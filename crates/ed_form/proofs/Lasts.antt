@@ -1,11 +1,11 @@
 -- The last line of a text, and the words that lines are.
 use Rattle.std.proofs.Common.{◌≡◌, ℕ, suc, ◌+◌, ◌-◌, ◌<◌, ◌≤◌, true, false, List, [], ◌∷◌, ◌++◌, length, get_or, drop, slice_range, Option, None, Some, refl, sym, ap, ◌∙◌, arith}
-use Rattle.std.proofs.lemmas.List.{drop_more, length-take, length-drop, map_push}
+use Rattle.std.proofs.lemmas.List.{map_push}
 use Rattle.line_list.specs.declared.Span.{Span}
 use Rattle.hunk_core.specs.LineTests.{after}
 use Rattle.hunk_core.specs.PlainHunk.{bytes_at}
 use Rattle.hunk_core.specs.Turned.{LiesIn}
-use Rattle.hunk_core.proofs.TextLemmas.{after-takes, after-again}
+use Rattle.hunk_core.proofs.TextLemmas.{after-takes, after-again, slice-first, slice-length}
 use Rattle.diff_command.specs.Letters.{is_line_end}
 use Rattle.ed_form.specs.PlainEdit.{lines_of}
 use Rattle.ed_form.specs.Texts.{is_over, is_word, is_double, ends_double, undoubled}
@@ -50,18 +50,8 @@ last-double text (s ∷ t ∷ spans) d lt =
     rw k (last-double text (t ∷ spans) d (omega arith))
 
 -- ---- spans of the text
-
-slice-first : (text : List ℕ) (at end : ℕ) → at < end → end ≤ length text → slice_range text at end ≡ get_or text at 0 ∷ slice_range text (at + 1) end
-slice-first text at end lt le =
-    let here : drop at text ≡ get_or text at 0 ∷ drop (at + 1) text = drop_more text at 0 (omega arith) in
-    let width : end - at ≡ suc (end - (at + 1)) = omega arith in
-    rw (width, here) refl
-
 slice-rest : (text : List ℕ) (at end : ℕ) → at < end → end ≤ length text → slice_range text (at + 1) end ≡ drop 1 (slice_range text at end)
 slice-rest text at end lt le = sym (ap (λ (bs : List ℕ). drop 1 bs) (slice-first text at end lt le))
-
-slice-length : (text : List ℕ) (at end : ℕ) → end ≤ length text → length (slice_range text at end) ≡ end - at
-slice-length text at end le = omega (arith, length-take (end - at) (drop at text), length-drop at text)
 
 -- the last span, whose line is '..', has two bytes or more
 pub last-long : (text : List ℕ) (all spans : List Span) (s : Span) → all ≡ spans ++ s ∷ [] → LiesIn text s → ends_double (lines_of text all) ≡ true → s.start + 2 ≤ s.end

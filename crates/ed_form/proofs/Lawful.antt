@@ -1,7 +1,6 @@
 -- A script that is read is lawful, and its span is its piece of the text.
 use Rattle.std.proofs.Common.{◌≡◌, ℕ, zero, suc, ◌+◌, ◌≤◌, ◌<◌, ◌^◌, ◌≢◌, true, false, List, [], ◌∷◌, ◌++◌, length, sum_by, drop, slice_range, Result, Ok, Err, sym, ap, subst, ◌∙◌, append_assoc, arith, inl, inr}
 use Rattle.std.specs.Prelude.{IfOk, All}
-use Rattle.std.specs.List.{AllByRecursion}
 use Rattle.std.proofs.lemmas.List.Elements.{All-from_recursion}
 use Rattle.std.proofs.lemmas.List.{length-map}
 use Rattle.line_list.specs.Lines.{lines, ArePieces, IsLine}
@@ -13,6 +12,7 @@ use Rattle.hunk_core.specs.Turned.{LiesIn}
 use Rattle.hunk_core.proofs.PieceLemmas.{pieces-last, piece-lines}
 use Rattle.diff_command.specs.declared.Action.{Action}
 use Rattle.diff_command.specs.declared.Action.TheVariants.{Add, Change, Delete}
+use Rattle.line_list.proofs.WholeLines.{AreLines}
 use Rattle.ed_form.specs.declared.script.EdScript.{EdScript}
 use Rattle.ed_form.specs.Commands.{begins_script}
 use Rattle.ed_form.specs.PlainEdit.{PlainEdit, edit_of, edits_of, lowest, IsLawfulEdit, AreLawful, IsLawfulScript}
@@ -21,9 +21,6 @@ use Rattle.ed_form.specs.Scripts.{reading, read_of}
 use Rattle.ed_form.specs.Grammar.{IsEnded, IsCorrected, SpellsText, SpellsAdded, SpellsAddresses, SpellsEdit, SpellsEdits}
 use Rattle.ed_form.proofs.Lasts.{word-takes}
 use Rattle.ed_form.proofs.Pieces.{reading_finds}
-
-abbrev AreLines : List (List ℕ) → Type 0
-AreLines ls = AllByRecursion IsLine ls
 
 lines-append : (xs ys : List (List ℕ)) → AreLines xs → AreLines ys → AreLines (xs ++ ys)
 lines-append [] ys h k = k

@@ -7,6 +7,9 @@ use Rattle.hunk_core.specs.Reading.{◌>>=◌, Fault, fault, Ahead, ahead}
 use Rattle.hunk_core.proofs.ReadSteps.{chosen, ok_is, guard_ok}
 use Rattle.diff_command.specs.declared.Action.{Action}
 use Rattle.diff_command.specs.declared.Action.TheVariants.{Add, Change, Delete}
+use Rattle.hunk_core.specs.FirstFault.{AgreeTo}
+use Rattle.hunk_core.proofs.FaultSteps.{failed, err_is, bind_err}
+use Rattle.hunk_core.proofs.Agreeing.{agree_front}
 use Rattle.ed_form.specs.declared.added.Part.{Part}
 use Rattle.ed_form.specs.declared.added.Part.TheVariants.{Text, Ended, Corrected}
 use Rattle.ed_form.specs.declared.command.Command.{Command}
@@ -16,20 +19,9 @@ use Rattle.ed_form.specs.PlainEdit.{PlainEdit}
 use Rattle.ed_form.specs.Texts.{is_dot, is_open, is_taken, step, closed, text_at}
 use Rattle.ed_form.specs.Scripts.{at_line, added_at, edit, first_edit, begins_substitution}
 use Rattle.ed_form.specs.Grammar.{HaveNoDot}
-use Rattle.ed_form.specs.FirstFault.{AgreeTo}
 use Rattle.ed_form.proofs.TextLoops.{text-takes, text-stops}
 use Rattle.ed_form.proofs.TextGrammar.{text-dot, text-run, ended-stops}
 use Rattle.ed_form.proofs.Counts.{edit-parts, edit-counts, text-counts}
-
-abbrev pub failed : {A : Type 0} → Fault → Result A Fault
-failed e = Err e
-
-pub err_is : {A : Type 0} (d e : Fault) → failed {A = A} d ≡ failed e → d ≡ e
-err_is d e h = cc
-
-pub bind_err : {A B : Type 0} (r : Result A Fault) (f : A → Result B Fault) (e : Fault) → (r >>= f) ≡ Err e → (r ≡ Err e) ⊎ ((x : A) × (r ≡ Ok x) × (f x ≡ Err e))
-bind_err (Ok x) f e h = inr (x, refl, h)
-bind_err {B = B} (Err d) f e h = inl (ap (λ x. Err x) (err_is {A = B} d e h))
 
 pub guard_err : {A : Type 0} (b : Bool) (d e : Fault) (x : A) → cond b (failed d) (Ok x) ≡ failed e → (b ≡ true) × (d ≡ e)
 guard_err {A = A} true d e x h = (refl, err_is {A = A} d e h)
@@ -40,15 +32,6 @@ guard_err false d e x h = absurd cc
 pub agree_head : (last number : ℕ) (line : List ℕ) (rest others : List (List ℕ)) → AgreeTo last number (line ∷ rest) others → number ≤ last → (more : List (List ℕ)) × (others ≡ line ∷ more) × AgreeTo last (number + 1) rest more
 agree_head last number line rest [] h le = absurd (omega (arith, h, le))
 agree_head last number line rest (other ∷ more) h le = (more, ap (λ l. l ∷ more) (sym (h.0 le)), h.1)
-
-agree_past : (last number : ℕ) (lines others : List (List ℕ)) → last < number → AgreeTo last number lines others
-agree_past last number [] others past = past
-agree_past last number (line ∷ lines) [] past = past
-agree_past last number (line ∷ lines) (other ∷ others) past = ((λ le. absurd (omega (arith, past, le))), agree_past last (number + 1) lines others (omega (arith, past)))
-
-pub agree_front : (last number : ℕ) (front behind others : List (List ℕ)) → last < number + length front → AgreeTo last number (front ++ behind) (front ++ others)
-agree_front last number [] behind others past = agree_past last number behind others (omega (arith, past))
-agree_front last number (line ∷ front) behind others past = ((λ le. refl), agree_front last (number + 1) front behind others (omega (arith, past)))
 
 -- lines and the same with others behind them
 agree_more : (last number : ℕ) (lines others : List (List ℕ)) → last < number + length lines → AgreeTo last number lines (lines ++ others)

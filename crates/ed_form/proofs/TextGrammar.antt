@@ -1,5 +1,5 @@
 -- A text that is read is spelled so, and one that is spelled so is read.
-use Rattle.std.proofs.Common.{◌≡◌, ◌⊎◌, inl, inr, ℕ, zero, suc, ◌+◌, Bool, true, false, ◌&&◌, List, [], ◌∷◌, ◌++◌, length, drop, Ok, refl, sym, ap, subst, ◌∙◌, append_assoc, arith}
+use Rattle.std.proofs.Common.{◌≡◌, inl, inr, ℕ, zero, suc, ◌+◌, Bool, true, false, ◌&&◌, List, [], ◌∷◌, ◌++◌, length, drop, Ok, refl, sym, ap, subst, ◌∙◌, append_assoc, arith}
 use Rattle.std.proofs.lemmas.List.{length-append, append-nil}
 use Rattle.hunk_core.specs.declared.BadKind.TheVariants as kinds
 use Rattle.hunk_core.specs.LineTests.{after}
@@ -9,6 +9,7 @@ use Rattle.hunk_core.proofs.TextLemmas.{after-again}
 use Rattle.diff_command.specs.declared.Action.{Action}
 use Rattle.diff_command.specs.declared.Action.TheVariants.{Add, Change, Delete}
 use Rattle.diff_command.specs.Letters.{is_line_end}
+use Rattle.std.proofs.lemmas.Bool.{cases_Bool, and_parts}
 use Rattle.ed_form.specs.declared.added.Part.{Part}
 use Rattle.ed_form.specs.declared.added.Part.TheVariants.{Text, Ended, Corrected}
 use Rattle.ed_form.specs.Texts.{is_dot, is_double, is_correction, is_append, is_substitution, ends_double, undoubled, is_open, is_taken, closed, text_at, goes_on}
@@ -18,11 +19,6 @@ use Rattle.ed_form.proofs.Lasts.{word-takes, word-again, ends-push, undoubled-pu
 use Rattle.ed_form.proofs.TextLoops.{text-takes, text-stops}
 
 -- ---- lines
-
-both : (x y : Bool) → (x && y) ≡ true → (x ≡ true) × (y ≡ true)
-both true y e = (refl, e)
-both false y e = absurd cc
-
 -- a line '..' is a dot before a line '.'
 pub double-lone : (line : List ℕ) → is_double line ≡ true → (lone : List ℕ) × (line ≡ 46 ∷ lone) × (is_dot lone ≡ true)
 double-lone line e = let t = word-takes (46 ∷ 46 ∷ []) line e in (46 ∷ t.0, t.1, word-again (46 ∷ []) t.0 t.2)
@@ -48,10 +44,6 @@ correction-substitutes line e = let t = word-takes (115 ∷ 47 ∷ 46 ∷ 47 ∷
 pub clear-push : (ls : List (List ℕ)) (line : List ℕ) → HaveNoDot ls → is_dot line ≡ false → HaveNoDot (ls ++ line ∷ [])
 clear-push [] line h e = (e, tt)
 clear-push (x ∷ ls) line h e = (h.0, clear-push ls line h.1 e)
-
-tested : (b : Bool) → (b ≡ true) ⊎ (b ≡ false)
-tested true = inl refl
-tested false = inr refl
 
 text-line : (opened : ℕ) (before : List (List ℕ)) (number : ℕ) (line : List ℕ) (rest : List (List ℕ)) → is_dot line ≡ false → text_at opened Text before number (line ∷ rest) ≡ text_at opened Text (before ++ line ∷ []) (number + 1) rest
 text-line opened before number line rest e = text-takes opened Text before number line rest refl ∙ rw e refl
@@ -165,7 +157,7 @@ pub text_takes : (opened : ℕ) (part : Part) (base seen text : List (List ℕ))
 unfolding text_at
 text_takes opened Text base seen text number [] x single s h = absurd cc
 text_takes opened Text base seen text number (line ∷ rest) x single s h =
-    elim (tested (is_dot line)) [
+    elim (cases_Bool (is_dot line)) [
       | inl dot ↦ takes-step base seen number line rest x (text_takes opened Ended base (seen ++ line ∷ []) text (number + 1) rest x single (record { dot = line; parts = ap (λ (l : List (List ℕ)). l ++ line ∷ []) s.0; clear = s.1; ends = dot }) (sym (text-dot opened (base ++ text) number line rest dot) ∙ h))
       | inr other ↦ takes-step base seen number line rest x (text_takes opened Text base (seen ++ line ∷ []) (text ++ line ∷ []) (number + 1) rest x single (ap (λ (l : List (List ℕ)). l ++ line ∷ []) s.0, clear-push text line s.1 other)
           (ap (λ (t : List (List ℕ)). text_at opened Text t (number + 1) rest) (sym (append_assoc base text (line ∷ []))) ∙ sym (text-line opened (base ++ text) number line rest other) ∙ h))
@@ -174,7 +166,7 @@ text_takes opened Ended base seen text number [] x single s h = takes-none base 
 text_takes opened Ended base seen text number (line ∷ rest) x single s h =
     elim (chosen (ends_double (base ++ text) && is_correction line) _ _ (Ok x) h) [
       | inl taken ↦ (
-          let b = both (ends_double (base ++ text)) (is_correction line) taken.0 in
+          let b = and_parts (ends_double (base ++ text)) (is_correction line) taken.0 in
           let d = ends-doubled base text single b.0 in
           takes-step base seen number line rest x (text_takes opened Corrected base (seen ++ line ∷ []) (d.front ++ d.lone ∷ []) (number + 1) rest x single (corrected-by base seen text line s d b.1 d) (subst (λ (t : List (List ℕ)). text_at opened Corrected t (number + 1) rest ≡ Ok x) d.becomes taken.1)))
       | inr none ↦ takes-none base seen text number (line ∷ rest) x (inl s) (closed-is opened Ended (base ++ text) (ahead number (line ∷ rest)) x none.1).1

@@ -11,12 +11,14 @@ use Rattle.num_text.specs.NumberRanges.{one, two, with_second, behind_first, fro
 use Rattle.num_text.proofs.Runs.{number-takes, number-again}
 use Rattle.num_text.proofs.RangeGrammar.{StopsRange}
 use Rattle.diff_command.specs.Letters.{action_at, is_line_end, letter}
+use Rattle.hunk_core.proofs.OptionLemmas.{some_step}
+use Rattle.diff_command.proofs.CommandLemmas.{action-takes, action-again, stops-letter}
 use Rattle.ed_form.specs.declared.command.Command.{Command}
 use Rattle.ed_form.specs.Commands.{parts_at, is_command}
 use Rattle.ed_form.specs.Texts.{is_word, is_substitution}
 use Rattle.ed_form.specs.Grammar.{IsCommand}
 use Rattle.ed_form.proofs.Lasts.{word-takes, word-again}
-use Rattle.ed_form.proofs.CommandGrammar.{some_step, action-takes, action-again, stops-letter, whole-ok}
+use Rattle.ed_form.proofs.CommandGrammar.{whole-ok}
 
 -- the numbers of a range, however large
 pub record Numbers (bytes rest : List ℕ) : Type 0 where

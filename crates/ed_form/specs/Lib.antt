@@ -3,4 +3,3 @@ pub mod Commands
 pub mod Texts
 pub mod Scripts
 pub mod Grammar
-pub mod FirstFault

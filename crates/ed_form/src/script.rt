@@ -10,7 +10,7 @@ ghost use Rattle.ed_form.specs.PlainEdit.{PlainEdit, edit_of, edits_of, IsLawful
 ghost use Rattle.ed_form.specs.Texts.{is_dot, is_word, is_substitution};
 ghost use Rattle.ed_form.specs.Scripts.{edit_at, begins_substitution, reading, read_of, these};
 ghost use Rattle.ed_form.specs.Grammar.{IsCommand, HaveNoDot, SpellsEdits, IsPiece, StandsBehind};
-ghost use Rattle.ed_form.specs.FirstFault.{AgreeTo};
+ghost use Rattle.hunk_core.specs.FirstFault.{AgreeTo};
 
 use crate::added::{read_added, substitutes};
 use crate::command::{is_command_line, opening_of};

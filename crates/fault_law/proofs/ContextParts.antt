@@ -13,12 +13,14 @@ use Rattle.hunk_core.specs.LineTests.{after, is_backslash, after_backslash}
 use Rattle.hunk_core.specs.Reading.{◌>>=◌, Fault, fault, Ahead, ahead}
 use Rattle.hunk_core.proofs.ReadSteps.{chosen}
 use Rattle.hunk_core.proofs.TextLemmas.{backslash-words}
-use Rattle.context_form.specs.Parts.{Shown, PlainBody, mark_at, unmarked, must_be_marked, marked_at, room_at, cut, ended_by, first_line, line_at, is_done, with_line, body_at}
+use Rattle.context_form.specs.Parts.{Shown, PlainBody, mark_at, must_be_marked, marked_at, room_at, cut, ended_by, first_line, line_at, is_done, with_line, body_at}
 use Rattle.context_form.specs.Grammar.{mark_byte, SpellsLine}
 use Rattle.context_form.proofs.PartLemmas.{mark-again, TakesLine, line_takes}
+use Rattle.hunk_core.specs.Refusals.{unmarked}
+use Rattle.hunk_core.proofs.FaultSteps.{failed, err_is, bind_err}
 use Rattle.fault_law.specs.NamedLines.{NamesLine}
 use Rattle.fault_law.specs.ContextFaults.{HasNoMark, has_dashes}
-use Rattle.fault_law.proofs.Naming.{failed, err_is, bind_err, ends_short, named-here, named-past, loud-line}
+use Rattle.fault_law.proofs.Naming.{ends_short, named-here, named-past, loud-line}
 
 -- ---- lines without '--- '
 

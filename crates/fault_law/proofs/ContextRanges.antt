@@ -1,6 +1,6 @@
 -- What is wrong with a range line of a context hunk.
 use Rattle.std.proofs.Common.{◌≡◌, ◌⊎◌, inl, inr, ℕ, ◌+◌, ◌-◌, ◌^◌, min, Bool, true, false, cond, eqb, ltb, List, ◌++◌, Option, None, Some, Result, Ok, Err, refl, sym, ap, ◌∙◌, arith}
-use Rattle.std.proofs.lemmas.Bool.{eqb-true, eqb-false, ltb-true, ltb-false}
+use Rattle.std.proofs.lemmas.Bool.{eqb-true, eqb-false, ltb-true, ltb-false, or_parts}
 use Rattle.hunk_core.specs.declared.BadKind.{BadKind}
 use Rattle.hunk_core.specs.declared.BadKind.TheVariants as kinds
 use Rattle.hunk_core.specs.declared.Side.{Side}
@@ -14,11 +14,11 @@ use Rattle.num_text.proofs.RangeGrammar.{StopsRange}
 use Rattle.diff_command.specs.Letters.{is_line_end}
 use Rattle.context_form.specs.declared.range.Stated.{Stated}
 use Rattle.context_form.specs.Ranges.{before_range, behind_range, closed, numbers_at, is_bad_range, is_too_large, stated, checked, from_numbers, range_line, most, most_by, is_count, is_count_by}
-use Rattle.ed_form.proofs.CommandGrammar.{some_step}
-use Rattle.context_form.proofs.RangeGrammar.{is_one, line-known}
+use Rattle.context_form.proofs.RangeGrammar.{is_one, line-known, join_parts}
+use Rattle.hunk_core.proofs.OptionLemmas.{some_step}
 use Rattle.fault_law.specs.ContextFaults.{HasNumbers, IsBadRange, IsTooLarge, StartsBelow}
 use Rattle.fault_law.proofs.NumberForms.{read_as, range_form, range_read}
-use Rattle.fault_law.proofs.FailedTests.{kind_is, or_true, or_false}
+use Rattle.fault_law.proofs.FailedTests.{kind_is, or_true}
 
 -- ---- a range line that was read is spelled so, and what is spelled so is read
 
@@ -36,9 +36,6 @@ record NumbersForm (side : Side) (line : List ℕ) (r : NumberRange) : Type 0 wh
   last : ℕ
   has : HasNumbers side line single first last
   read : r ≡ read_as single first last
-
-join_parts : (line a first b second c rest : List ℕ) → line ≡ a ++ first → first ≡ b ++ second → second ≡ c ++ rest → line ≡ a ++ (b ++ (c ++ rest))
-join_parts line a first b second c rest e1 e2 e3 = rw (e1, e2, e3) refl
 
 numbers_form : (side : Side) (line : List ℕ) (r : NumberRange) → numbers_at side line ≡ Some r → NumbersForm side line r
 unfolding numbers_at
@@ -111,7 +108,7 @@ large side line true first last h good e =
     (true, first, 0, record { text = h.text; rest = h.rest; parts = h.parts; ends = h.ends; numbers = (h.spelled.1, omega arith, λ none. refl) }, omega arith)
 large side line false first last h good e =
     let above = ltb-true 4294967295 (min first (2 ^ 32) + ((min last (2 ^ 32) - min first (2 ^ 32)) + 1)) e in
-    let both = or_false (ltb last first) (eqb (min first (2 ^ 32)) 0) good in
+    let both = or_parts (ltb last first) (eqb (min first (2 ^ 32)) 0) good in
     let order = ltb-false last first both.0 in
     let later = eqb-false (min first (2 ^ 32)) 0 both.1 in
     let s = h.spelled in

@@ -24,9 +24,10 @@ use Rattle.context_form.proofs.RangeGrammar.{is_one, line-known, dashes-again}
 use Rattle.context_form.proofs.Halves.{TakesPart, range-takes, old-takes, new-takes}
 use Rattle.context_form.proofs.HunkFaults.{hunk-fails}
 use Rattle.context_form.proofs.Pieces.{hunk_takes}
+use Rattle.hunk_core.proofs.FaultSteps.{failed, err_is, bind_err}
 use Rattle.fault_law.specs.NamedLines.{NamesLine}
 use Rattle.fault_law.specs.ContextFaults.{IsTooLarge, StartsBelow, has_dashes, Breaks, IsAtFault}
-use Rattle.fault_law.proofs.Naming.{failed, err_is, bind_err, add_err, ends_short, named-here, named-past, loud-line}
+use Rattle.fault_law.proofs.Naming.{add_err, ends_short, named-here, named-past, loud-line}
 use Rattle.fault_law.proofs.ContextRanges.{RangeFault, range_breaks, large_stated, most-counts}
 use Rattle.fault_law.proofs.ContextParts.{InPart, body_breaks}
 

@@ -20,11 +20,14 @@ use Rattle.ed_form.specs.Commands.{parts_at, is_command, begins_script, is_bad_r
 use Rattle.ed_form.specs.Texts.{is_dot, is_append, is_substitution, is_taken, step, is_open, closed, text_at}
 use Rattle.ed_form.specs.Scripts.{at_line, added_at, edit, first_edit, edit_at, begins_substitution, no_edits, edits_at, reading}
 use Rattle.ed_form.specs.Grammar.{IsCommand, SpellsEdit}
-use Rattle.ed_form.proofs.CommandGrammar.{some_step, action-takes, whole-ok, made}
+use Rattle.ed_form.proofs.CommandGrammar.{whole-ok, made}
 use Rattle.ed_form.proofs.Pieces.{TakesEdit, edit_takes}
+use Rattle.hunk_core.proofs.OptionLemmas.{some_step}
+use Rattle.diff_command.proofs.CommandLemmas.{action-takes}
+use Rattle.hunk_core.proofs.FaultSteps.{failed, err_is, bind_err}
 use Rattle.fault_law.specs.NamedLines.{NamesLine}
 use Rattle.fault_law.specs.EdFaults.{AreBad, AreTooLarge, EndsOpen, HaveNoEnd, Breaks, IsAtFault}
-use Rattle.fault_law.proofs.Naming.{failed, err_is, bind_err, add_err, named-here, named-past}
+use Rattle.fault_law.proofs.Naming.{add_err, named-here, named-past}
 use Rattle.fault_law.proofs.NumberForms.{read_as, range_form}
 use Rattle.fault_law.proofs.FailedTests.{kind_is, or_true}
 

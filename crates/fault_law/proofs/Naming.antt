@@ -1,30 +1,13 @@
 -- A named line, behind more lines.
-use Rattle.std.proofs.Common.{◌≡◌, ◌≢◌, ◌⊎◌, inl, inr, ℕ, ◌+◌, Bool, true, false, cond, List, [], ◌∷◌, ◌++◌, length, None, Some, Result, Ok, Err, refl, sym, ap, ◌∙◌, append_assoc, arith}
+use Rattle.std.proofs.Common.{◌≡◌, ◌≢◌, ℕ, ◌+◌, Bool, true, false, cond, List, [], ◌∷◌, ◌++◌, length, None, Some, Result, Ok, Err, refl, sym, ap, ◌∙◌, append_assoc, arith}
 use Rattle.std.proofs.lemmas.List.{length-append}
 use Rattle.hunk_core.specs.LineTests.{is_backslash, after_backslash}
 use Rattle.hunk_core.specs.declared.BadKind.TheVariants as kinds
 use Rattle.hunk_core.specs.Reading.{◌>>=◌, Fault, fault, Ahead}
+use Rattle.hunk_core.proofs.FaultSteps.{failed, err_is, add}
 use Rattle.fault_law.specs.NamedLines.{NamesLine}
 
 -- ---- steps that fail
-
-abbrev pub failed : {A : Type 0} → Fault → Result A Fault
-failed e = Err e
-
-pub err_is : {A : Type 0} (d e : Fault) → failed {A = A} d ≡ failed e → d ≡ e
-err_is d e h = cc
-
-pub bind_err : {A B : Type 0} (r : Result A Fault) (f : A → Result B Fault) (e : Fault) → (r >>= f) ≡ Err e → (r ≡ Err e) ⊎ ((x : A) × (r ≡ Ok x) × (f x ≡ Err e))
-bind_err (Ok x) f e h = inr (x, refl, h)
-bind_err {B = B} (Err d) f e h = inl (ap (λ x. Err x) (err_is {A = B} d e h))
-
-pub guard_err : {A : Type 0} (b : Bool) (d e : Fault) (x : A) → cond b (failed d) (Ok x) ≡ Err e → d ≡ e
-guard_err true d e x h = cc
-guard_err false d e x h = absurd cc
-
-abbrev pub add : {X : Type 0} → X → List X × Ahead → Result (List X × Ahead) Fault
-add x others = Ok (x ∷ others.0, others.1)
-
 pub add_err : {X : Type 0} (x : X) (r : Result (List X × Ahead) Fault) (e : Fault) → (r >>= add x) ≡ Err e → r ≡ Err e
 add_err x (Ok y) e h = absurd cc
 add_err {X = X} x (Err d) e h = ap (λ x. Err x) (err_is {A = List X × Ahead} d e h)

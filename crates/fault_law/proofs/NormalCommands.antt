@@ -1,7 +1,7 @@
 -- What is wrong with a command of a normal hunk.
 use Rattle.std.proofs.Common.{◌≡◌, ◌⊎◌, inl, inr, ℕ, ◌+◌, ◌-◌, ◌^◌, ◌<◌, min, Bool, true, false, cond, eqb, ltb, ◌||◌, List, [], ◌∷◌, Option, None, Some, Result, Ok, Err, refl, sym, ap, subst, ◌∙◌, arith}
 use Rattle.std.specs.Prelude.{is_some}
-use Rattle.std.proofs.lemmas.Bool.{eqb-true, ltb-true, ltb-false}
+use Rattle.std.proofs.lemmas.Bool.{eqb-true, ltb-true, ltb-false, or_parts}
 use Rattle.hunk_core.specs.declared.BadKind.{BadKind}
 use Rattle.hunk_core.specs.declared.BadKind.TheVariants as kinds
 use Rattle.hunk_core.specs.declared.Side.TheVariants.{Forward, Reversed}
@@ -9,12 +9,15 @@ use Rattle.num_text.specs.NumberRanges.{range_at, SpellsRange}
 use Rattle.diff_command.specs.Letters.{action_at, is_line_end, letter}
 use Rattle.normal_form.specs.declared.command.Command.{Command}
 use Rattle.normal_form.specs.declared.command.Parts.{Parts}
-use Rattle.normal_form.specs.Commands.{parts_at, is_command, takes_lines, is_bad_range, size, command, is_too_large, checked, from_parts, opening}
+use Rattle.normal_form.specs.Commands.{parts_at, is_command, takes_lines, is_bad_range, size, command, checked, from_parts, opening}
 use Rattle.normal_form.specs.Grammar.{IsCommand}
-use Rattle.normal_form.proofs.CommandGrammar.{some_step, action-takes, whole-ok, join_parts, made}
+use Rattle.normal_form.proofs.CommandGrammar.{whole-ok, join_parts, made}
+use Rattle.hunk_core.specs.Rules.{is_too_large}
+use Rattle.hunk_core.proofs.OptionLemmas.{some_step}
+use Rattle.diff_command.proofs.CommandLemmas.{action-takes}
 use Rattle.fault_law.specs.NormalFaults.{IsBadSpan, IsLargeSpan, Breaks}
 use Rattle.fault_law.proofs.NumberForms.{read_as, range_form}
-use Rattle.fault_law.proofs.FailedTests.{kind_is, or_true, or_false}
+use Rattle.fault_law.proofs.FailedTests.{kind_is, or_true}
 
 -- ---- a command that was read is spelled so
 
@@ -83,7 +86,7 @@ large_span true true first last one good e =
     (1, omega arith, omega arith)
 large_span true false first last one good e =
     let above = ltb-true 4294967295 (min first (2 ^ 32) + ((min last (2 ^ 32) - min first (2 ^ 32)) + 1)) e in
-    let order = ltb-false last first (or_false (ltb last first) (eqb (min first (2 ^ 32)) 0) good).0 in
+    let order = ltb-false last first (or_parts (ltb last first) (eqb (min first (2 ^ 32)) 0) good).0 in
     (last + 1 - first, omega arith, omega arith)
 large_span false true first last one good e = let above = ltb-true 4294967295 (min first (2 ^ 32) + 0) e in omega arith
 large_span false false first last one good e = absurd cc
@@ -115,13 +118,13 @@ checked_breaks least line is kind e =
       refl,
       (
         is,
-        let both = or_false _ _ good in elim (or_true _ _ large) [
+        let both = or_parts _ _ good in elim (or_true _ _ large) [
           | inl here ↦ inl (large_span old_lines is.old_range.0 is.old_range.1 is.old_range.2 one_old both.0 here)
           | inr here ↦ inr (large_span new_lines is.new_range.0 is.new_range.1 is.new_range.2 one_new both.1 here)
         ],
       ),
     ))
-    (λ fits below. (refl, (is, starts_below is.old_range.0 is.old_range.1 is.old_range.2 least (size old old_lines) (or_false _ _ fits).0 below)))
+    (λ fits below. (refl, (is, starts_below is.old_range.0 is.old_range.1 is.old_range.2 least (size old old_lines) (or_parts _ _ fits).0 below)))
 
 pub opening_breaks : (least : ℕ) (line : List ℕ) (kind : BadKind) → is_command line ≡ true → opening least line ≡ Err kind → Breaks least kind [] line
 opening_breaks least line kind begins e = by (parts_at line) refl begins e

@@ -15,16 +15,18 @@ use Rattle.diff_command.specs.declared.Action.{Action}
 use Rattle.diff_command.specs.declared.Action.TheVariants.{Add, Change, Delete}
 use Rattle.normal_form.specs.declared.command.Command.{Command}
 use Rattle.normal_form.specs.Commands.{is_command, opening}
-use Rattle.normal_form.specs.Stretches.{marks, unmarked, must_be_marked, marked_at, ended_by, first_line, line_at, stretch_at, is_divider, first_divider, divider_at}
-use Rattle.normal_form.specs.Hunks.{at_line, body_at, change, settled, first_hunk, hunk_at, begins_marked, begins_hunk, hunks_at, reading}
+use Rattle.normal_form.specs.Stretches.{marks, must_be_marked, marked_at, ended_by, first_line, line_at, stretch_at, is_divider, first_divider, divider_at}
+use Rattle.normal_form.specs.Hunks.{at_line, body_at, change, first_hunk, hunk_at, begins_marked, begins_hunk, hunks_at, reading}
 use Rattle.normal_form.specs.Grammar.{SpellsLine, SpellsStretch, SpellsCommand}
 use Rattle.normal_form.proofs.CommandGrammar.{opening-takes}
 use Rattle.normal_form.proofs.Stretches.{TakesLine, line_takes, TakesStretch, stretch_takes, none-left}
 use Rattle.normal_form.proofs.Pieces.{CountsNone, counts-none, no-lines, empty-piece, divider_takes, body_takes, at_line-ok, hunk_takes}
 use Rattle.normal_form.proofs.FirstFault.{with_body, more_hunks}
+use Rattle.hunk_core.specs.Refusals.{unmarked, settled}
+use Rattle.hunk_core.proofs.FaultSteps.{failed, err_is, bind_err}
 use Rattle.fault_law.specs.NamedLines.{NamesLine}
 use Rattle.fault_law.specs.NormalFaults.{LacksSide, LacksMark, Breaks, IsAtFault}
-use Rattle.fault_law.proofs.Naming.{failed, err_is, bind_err, add_err, ends_short, named-here, named-past, loud-line}
+use Rattle.fault_law.proofs.Naming.{add_err, ends_short, named-here, named-past, loud-line}
 use Rattle.fault_law.proofs.NormalCommands.{opening_breaks}
 
 -- ---- a line that isn't what must stand there

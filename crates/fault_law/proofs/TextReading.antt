@@ -31,9 +31,10 @@ use Rattle.patch_text.specs.Patches.{as_hunks, as_script, change_at, bare_change
 use Rattle.patch_text.specs.Texts.{GoesUpTo, Stand, ComesFault, IsFaulty}
 use Rattle.text_joins.proofs.Places.{skip-lines}
 use Rattle.text_joins.proofs.Standing.{placed, behind_header, header-split}
+use Rattle.hunk_core.proofs.FaultSteps.{bind_err}
 use Rattle.fault_law.specs.NamedLines.{NamesLine}
 use Rattle.fault_law.specs.TextFaults.{IsAtFaultIn, IsAtFault}
-use Rattle.fault_law.proofs.Naming.{bind_err, named-past}
+use Rattle.fault_law.proofs.Naming.{named-past}
 use Rattle.fault_law.proofs.UnifiedReading as unified_lines
 use Rattle.fault_law.proofs.ContextReading as context_lines
 use Rattle.fault_law.proofs.NormalReading as normal_lines

@@ -1,6 +1,6 @@
 -- A range line of the unified form, whatever its numbers.
 use Rattle.std.proofs.Common.{◌≡◌, ℕ, ◌+◌, ◌^◌, ◌≤◌, ◌⊎◌, min, Bool, true, false, cond, eqb, ltb, ◌||◌, ◌&&◌, List, [], ◌∷◌, ◌++◌, Option, None, Some, Result, Ok, Err, refl, sym, ap, subst, ◌∙◌, append_assoc, arith, inl, inr}
-use Rattle.std.proofs.lemmas.Bool.{eqb-true, eqb-false, ltb-true, ltb-false}
+use Rattle.std.proofs.lemmas.Bool.{eqb-true, eqb-false, ltb-true, ltb-false, or_parts}
 use Rattle.hunk_core.specs.declared.BadKind.{BadKind}
 use Rattle.hunk_core.specs.declared.BadKind.TheVariants as kinds
 use Rattle.hunk_core.specs.LineTests.{after}
@@ -9,11 +9,14 @@ use Rattle.hunk_core.proofs.ReadSteps.{chosen, some_is}
 use Rattle.num_text.specs.Numbers.{number_at, IsNumeral, NoDigitFirst, BeginsWithNumeral}
 use Rattle.num_text.proofs.Runs.{number-takes, number-again}
 use Rattle.unified_form.specs.declared.range.Ranges.{Ranges}
-use Rattle.unified_form.specs.Ranges.{◌>>=◌, capped, size_at, count_at, range_at, range_line, is_bad_range, is_too_large, checked, from_ranges, opening}
+use Rattle.unified_form.specs.Ranges.{capped, size_at, count_at, range_at, range_line, is_bad_range, checked, from_ranges, opening}
 use Rattle.unified_form.specs.Grammar.{SpellsRange, SpellsRanges}
-use Rattle.unified_form.proofs.RangeGrammar.{some_step}
+use Rattle.hunk_core.specs.OptionSteps.{◌>>=◌}
+use Rattle.hunk_core.specs.Rules.{is_too_large}
+use Rattle.hunk_core.proofs.OptionLemmas.{some_step}
+use Rattle.unified_form.proofs.RangeGrammar.{made, join_parts}
 use Rattle.fault_law.specs.UnifiedFaults.{StartsAtNone, Breaks}
-use Rattle.fault_law.proofs.FailedTests.{kind_is, or_true, or_false, and_true}
+use Rattle.fault_law.proofs.FailedTests.{kind_is, or_true, and_true}
 
 -- ---- numbers
 
@@ -109,13 +112,6 @@ record IsCapped (r q : Ranges) : Type 0 where
   new_start : r.new_start ≡ min q.new_start (2 ^ 32)
   new_count : r.new_count ≡ min q.new_count (2 ^ 32)
 
-abbrev made : ℕ → ℕ → ℕ → ℕ → Ranges
-made a b c d = record { old_start = a; old_count = b; new_start = c; new_count = d }
-
-join_parts : (line a old b c new d rest : List ℕ) → line ≡ (64 ∷ 64 ∷ 32 ∷ 45 ∷ []) ++ a → a ≡ old ++ b → b ≡ (32 ∷ 43 ∷ []) ++ c → c ≡ new ++ d → d ≡ (32 ∷ 64 ∷ 64 ∷ []) ++ rest
-    → line ≡ (64 ∷ 64 ∷ 32 ∷ 45 ∷ []) ++ (old ++ ((32 ∷ 43 ∷ []) ++ (new ++ ((32 ∷ 64 ∷ 64 ∷ []) ++ rest))))
-join_parts line a old b c new d rest e1 e2 e3 e4 e5 = rw (e1, e2, e3, e4, e5) refl
-
 line_form : (line : List ℕ) (r : Ranges) → range_line line ≡ Some r → (q : Ranges) × SpellsRanges line q × IsCapped r q
 unfolding range_line
 line_form line r e =
@@ -203,7 +199,7 @@ checked_breaks least line r q kind s c e =
       ),
     ))
     (λ none. let both = and_true _ _ none in inl (refl, (q, s, none_counted r.old_count q.old_count both.0 c.old_count, none_counted r.new_count q.new_count both.1 c.new_count)))
-    (λ fits below. (refl, (q, s, let under = ltb-true r.old_start least below in let read = c.old_start in let small = ltb-false 4294967295 (r.old_start + r.old_count) (or_false _ _ fits).0 in omega arith)))
+    (λ fits below. (refl, (q, s, let under = ltb-true r.old_start least below in let read = c.old_start in let small = ltb-false 4294967295 (r.old_start + r.old_count) (or_parts _ _ fits).0 in omega arith)))
 
 pub opening_breaks : (least : ℕ) (line : List ℕ) (kind : BadKind) → opening least line ≡ Err kind → Breaks least kind [] line
 opening_breaks least line kind e = by (range_line line) refl e

@@ -13,15 +13,17 @@ use Rattle.unified_form.specs.declared.body.Left.{Left}
 use Rattle.unified_form.specs.declared.range.Ranges.{Ranges}
 use Rattle.unified_form.specs.Ranges.{opening}
 use Rattle.unified_form.specs.Bodies.{marked_at, mark_at, must_be_marked, room_at, ended_by, first_line, line_at, body_at}
-use Rattle.unified_form.specs.Hunks.{at_line, left_of, change, settled, first_hunk, hunk_at, begins_hunk, hunks_at, reading}
+use Rattle.unified_form.specs.Hunks.{at_line, left_of, change, first_hunk, hunk_at, begins_hunk, hunks_at, reading}
 use Rattle.unified_form.specs.Grammar.{Shows}
 use Rattle.unified_form.proofs.Bodies.{shows-mark_at, mark_at-shows, marked-ok, line_takes, body_takes}
 use Rattle.unified_form.proofs.BodyFaults.{ended_low, rest_of_line, one_more_line}
 use Rattle.unified_form.proofs.FirstFault.{settled_err, with_body, more_hunks}
 use Rattle.unified_form.proofs.Pieces.{hunk_takes}
+use Rattle.hunk_core.specs.Refusals.{settled}
+use Rattle.hunk_core.proofs.FaultSteps.{failed, err_is, bind_err, guard_err}
 use Rattle.fault_law.specs.NamedLines.{NamesLine}
 use Rattle.fault_law.specs.UnifiedFaults.{Breaks, IsAtFault}
-use Rattle.fault_law.proofs.Naming.{failed, err_is, bind_err, guard_err, add_err, ends_short, named-here, named-past, loud-line}
+use Rattle.fault_law.proofs.Naming.{add_err, ends_short, named-here, named-past, loud-line}
 use Rattle.fault_law.proofs.UnifiedRanges.{opening_breaks}
 
 -- ---- a line of a body

@@ -13,7 +13,7 @@ use Rattle.num_text.specs.NumberRanges as numbers
 use Rattle.diff_command.specs.Letters.{is_line_end}
 use Rattle.context_form.specs.Ranges.{before_range, behind_range}
 use Rattle.context_form.specs.Grammar.{mark_byte, SpellsRange, SpellsHunks}
-use Rattle.fault_law.specs.NamedLines.{last_start}
+use Rattle.hunk_core.specs.Pieces.{last_start}
 
 -- '*** ', one number or two, ' ****' for an old part; '--- ', numbers, ' ----' for a new one
 pub record HasNumbers (side : Side) (line : List ℕ) (single : Bool) (first last : ℕ) : Type 0 where

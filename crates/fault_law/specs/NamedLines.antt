@@ -1,6 +1,5 @@
 -- The line that a fault names.
-use Rattle.std.specs.Prelude.{◌≡◌, ℕ, ◌+◌, List, [], ◌∷◌, ◌++◌, length}
-use Rattle.hunk_core.specs.PlainHunk.{PlainHunk}
+use Rattle.std.specs.Prelude.{◌≡◌, ℕ, ◌+◌, List, ◌∷◌, ◌++◌, length}
 
 -- of these lines, the first of which has this number, one has that number, and this holds of the lines in front of it, of itself and of the lines behind it
 pub record NamesLine (Holds : List (List ℕ) → List ℕ → List (List ℕ) → Type 0) (number : ℕ) (lines : List (List ℕ)) (named : ℕ) : Type 0 where
@@ -10,8 +9,3 @@ pub record NamesLine (Holds : List (List ℕ) → List ℕ → List (List ℕ) �
   pub parts : lines ≡ front ++ line ∷ behind
   pub counted : named ≡ number + length front
   pub holds : Holds front line behind
-
--- the old start of the last of these hunks, or this number where there is none
-abbrev pub last_start : ℕ → List PlainHunk → ℕ
-last_start least [] = least
-last_start least (h ∷ hs) = last_start h.old_start hs

@@ -12,7 +12,7 @@ use Rattle.normal_form.specs.declared.command.Command.{Command}
 use Rattle.normal_form.specs.Commands.{takes_lines}
 use Rattle.normal_form.specs.Stretches.{marks, is_divider}
 use Rattle.normal_form.specs.Grammar.{IsCommand, SpellsStretch, SpellsCommand, SpellsHunks}
-use Rattle.fault_law.specs.NamedLines.{last_start}
+use Rattle.hunk_core.specs.Pieces.{last_start}
 
 -- lines whose second number is below the first, or that start at 0; or two numbers for a place
 abbrev pub IsBadSpan : Bool → Bool → ℕ → ℕ → Type 0

@@ -6,7 +6,7 @@ use Rattle.hunk_core.specs.PlainHunk.{Marked, PlainHunk}
 use Rattle.hunk_core.specs.LineTests.{is_backslash}
 use Rattle.unified_form.specs.declared.range.Ranges.{Ranges}
 use Rattle.unified_form.specs.Grammar.{Shows, SpellsRanges, SpellsHunks}
-use Rattle.fault_law.specs.NamedLines.{last_start}
+use Rattle.hunk_core.specs.Pieces.{last_start}
 
 -- lines that are counted, from 0 on
 abbrev pub StartsAtNone : ℕ → ℕ → Type 0

@@ -1,5 +1,5 @@
 -- A file patch apart from where its lines lie: what its header says, and its hunks or its script.
-use Rattle.std.specs.Prelude.{◌≡◌, ℕ, ◌<◌, ◌^◌, Bool, List, length, sum_by, All, Option, option_map}
+use Rattle.std.specs.Prelude.{◌≡◌, ℕ, ◌<◌, ◌^◌, Bool, List, length, sum_by, All, Option, option_map, true, false}
 use Rattle.line_list.specs.declared.Span.{Span}
 use Rattle.hunk_core.specs.declared.Form.{Form}
 use Rattle.hunk_core.specs.declared.Hunk.{Hunk}
@@ -92,3 +92,8 @@ pub record AreLawfulHunks (text : List ℕ) (hs : List Hunk) : Type 0 where
 abbrev pub IsLawfulChange : List ℕ → Change → Type 0
 IsLawfulChange text (Hunks hs) = AreLawfulHunks text hs.items
 IsLawfulChange text (Script s) = IsLawfulScript text s
+
+-- an ed script, which doesn't tell the lines that it takes away
+abbrev pub is_script : PlainChange → Bool
+is_script (hunks hs) = false
+is_script (script es) = true

@@ -6,3 +6,4 @@ pub mod Opens
 pub mod Readings
 pub mod Records
 pub mod Rooms
+pub mod Told

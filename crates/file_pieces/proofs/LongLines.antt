@@ -1,6 +1,6 @@
 -- The longest of some lines, and the first that is too long.
 use Rattle.std.proofs.Common.{◌≡◌, ℕ, zero, suc, ◌+◌, ◌-◌, ◌<◌, ◌≤◌, Bool, true, false, List, [], ◌∷◌, ◌++◌, length, get_or, max, refl, sym, ap, ◌∙◌, arith, None, Some, append-nil, length-append}
-use Rattle.std.specs.Prelude.{nat_lt, find}
+use Rattle.std.specs.Prelude.{find}
 use Rattle.std.specs.List.{range_with_len}
 use Rattle.std.specs.Option.{option_map}
 use Rattle.std.proofs.lemmas.Bool.Decides.{nat_tests}
@@ -8,7 +8,7 @@ use Rattle.std.proofs.Math.ListN.{get_or-append}
 use Rattle.std.proofs.Math.Seq.{get_or-append_seam}
 use Rattle.line_store.specs.declared.fault.OpenFault.TheVariants.{LongLine}
 use Rattle.line_store.specs.Store.{line_at}
-use Rattle.line_store.specs.Taking.{first_long, long_line}
+use Rattle.line_store.specs.Taking.{first_long, long_line, is_long}
 use Rattle.file_pieces.specs.Records.{longest}
 
 pub longest-more : (ls : List (List ℕ)) (line : List ℕ) → longest (ls ++ line ∷ []) ≡ max (longest ls) (length line)
@@ -27,9 +27,6 @@ find-skip p a (suc n) m no_ =
     let f : a + suc n ≡ a + 1 + n = omega arith in
     let here : p a ≡ false = no_ a (omega arith) (omega arith) in
     rw (e, f, here) (find-skip p (a + 1) n m (λ k low high. no_ k (omega arith) (omega arith)))
-
-abbrev is_long : ℕ → List (List ℕ) → ℕ → Bool
-is_long size ls k = nat_lt (size - 4) (length (line_at ls k))
 
 short-at : (size : ℕ) (ls more : List (List ℕ)) (k : ℕ) → longest ls ≤ size - 4 → 1 ≤ k → k ≤ length ls → is_long size (ls ++ more) k ≡ false
 short-at size ls more k short low high =

@@ -7,20 +7,16 @@ use Rattle.hunk_core.specs.declared.Mark.{Mark}
 use Rattle.hunk_core.specs.declared.Mark.TheVariants.{Keep, Drop, Add}
 use Rattle.hunk_core.specs.declared.Side.TheVariants.{Forward, Reversed}
 use Rattle.hunk_core.specs.PlainHunk.{Marked, PlainHunk, old_lines, new_lines}
-use Rattle.hunk_core.specs.Turned.{swapped_mark, swapped_line, swapped, is_keep, is_add, is_drop, leading, trailing}
+use Rattle.hunk_core.specs.Turned.{swapped_line, swapped, is_keep, is_add, is_drop, leading, trailing}
 use Rattle.hunk_place.specs.Verdicts.{adds, drops}
 use Rattle.hunk_core.proofs.SideLemmas.{swapped-lines}
+use Rattle.hunk_core.proofs.TurnedLemmas.{keep-swapped, mark-twice}
 
 pub swapped-old : (h : PlainHunk) → old_lines (swapped h).body ≡ new_lines h.body
 swapped-old h = swapped-lines Forward h.body
 
 pub swapped-new : (h : PlainHunk) → new_lines (swapped h).body ≡ old_lines h.body
 swapped-new h = swapped-lines Reversed h.body
-
-mark-twice : (m : Mark) → swapped_mark (swapped_mark m) ≡ m
-mark-twice Keep = refl
-mark-twice Drop = refl
-mark-twice Add = refl
 
 line-twice : (m : Marked) → swapped_line (swapped_line m) ≡ m
 line-twice m = ap (λ (k : Mark). let x : Marked = record { mark = k; line = m.line } in x) (mark-twice m.mark)
@@ -34,11 +30,6 @@ swapped-twice h = ap (λ (ms : List Marked). let x : PlainHunk = record { old_st
 
 abbrev is_kept : Marked → Bool
 is_kept m = is_keep m.mark
-
-keep-swapped : (m : Mark) → is_keep (swapped_mark m) ≡ is_keep m
-keep-swapped Keep = refl
-keep-swapped Drop = refl
-keep-swapped Add = refl
 
 front-swapped : (ms : List Marked) → prefix_len is_kept (map swapped_line ms) ≡ prefix_len is_kept ms
 front-swapped [] = refl

@@ -7,13 +7,13 @@ use Rattle.hunk_core.specs.declared.Mark.TheVariants.{Keep, Drop, Add}
 use Rattle.hunk_core.specs.PlainHunk.{Marked, PlainHunk, old_lines, new_lines}
 use Rattle.hunk_core.specs.Turned.{base, swapped}
 use Rattle.line_store.specs.Store.{line_at}
-use Rattle.hunk_place.proofs.FitLemmas.{front-is, front-rest}
 use Rattle.hunk_apply.specs.Splice.{AreFrom, Edit, all_edits, body_edits, spliced_from}
 use Rattle.hunk_apply.specs.Written.{lines_between}
 use Rattle.hunk_apply.proofs.BodyLemmas.{body-from, edits-from, edits-mark, edits-none}
 use Rattle.hunk_apply.proofs.CopyLemmas.{between-take, kept}
 use Rattle.hunk_apply.proofs.FoldLemmas.{edits-cons, edits-nil}
 use Rattle.hunk_apply.proofs.SpliceLemmas.{from-append, line-added, line-dropped, line-kept, nothing-left, sooner}
+use Rattle.line_list.proofs.Elements.{front-is, front-rest}
 use Rattle.flip_law.proofs.Placed.{as_stated, stands-at}
 use Rattle.flip_law.proofs.Turns.{Turns}
 

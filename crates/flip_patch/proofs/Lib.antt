@@ -1,4 +1,4 @@
 mod Loops
 mod Refused
 mod Ordered
-mod Placed
+pub mod Placed

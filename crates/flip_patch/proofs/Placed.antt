@@ -1,9 +1,9 @@
 -- One file patch of a set.
-use Rattle.std.proofs.Common.{◌≡◌, ℕ, zero, suc, ◌+◌, ◌<◌, List, [], ◌∷◌, ◌++◌, length, get_or, map, reverse, refl, sym, ap, subst, ◌∙◌, arith, Some}
+use Rattle.std.proofs.Common.{◌≡◌, ℕ, zero, suc, ◌+◌, List, [], ◌∷◌, ◌++◌, map, reverse, refl, sym, ap, subst, ◌∙◌, Some}
 use Rattle.std.specs.Prelude.{slice_get}
 use Rattle.std.specs.List.{flat_map}
 use Rattle.std.proofs.lemmas.List.Concat.{flat_map-cons}
-use Rattle.std.proofs.lemmas.Option.{same_Some, slice_get-get_or}
+use Rattle.std.proofs.lemmas.Option.{same_Some}
 use Rattle.hunk_core.specs.declared.Form.{Form}
 use Rattle.hunk_core.specs.declared.Hunk.{Hunk}
 use Rattle.hunk_core.specs.PlainHunk.{hunk_of, hunks_of}
@@ -13,14 +13,6 @@ use Rattle.file_patch.specs.PlainPatch.{row_count}
 use Rattle.patch_set.specs.Spans.{ArePlaced, IsPlaced}
 use Rattle.patch_set.specs.SetView.{SetView}
 use Rattle.flip_patch.specs.Flipped.{flipped, flipped_patch, hunk_text}
-
-pub found : {A : Type 0} (xs : List A) (i : ℕ) (x : A) → i < length xs → x ≡ get_or xs i x → slice_get xs i ≡ Some x
-found xs i x lt is = slice_get-get_or xs i x lt ∙ ap (λ y. Some y) (sym is)
-
-pub there-is : {A : Type 0} (xs : List A) (i : ℕ) → i < length xs → (x : A) × (slice_get xs i ≡ Some x)
-there-is [] i lt = absurd (omega (arith, lt))
-there-is (x ∷ xs) zero lt = (x, refl)
-there-is (x ∷ xs) (suc i) lt = there-is xs i (omega (arith, lt))
 
 pub placed-at : (text : List ℕ) (start before : ℕ) (ps : List FilePatch) (i : ℕ) (p : FilePatch) → ArePlaced text start before ps → slice_get ps i ≡ Some p → IsPlaced text p.span.start p.first_verdict p
 placed-at text start before [] i p placed is = absurd (cc)

@@ -10,9 +10,9 @@ use Rattle.file_patch.specs.declared.Change.{Change}
 use Rattle.file_patch.specs.declared.Change.TheVariants.{Hunks, Script}
 use Rattle.file_patch.specs.declared.FilePatch.{FilePatch}
 use Rattle.file_patch.specs.Actions.{is_moved}
-use Rattle.file_patch.specs.PlainPatch.{PlainPatch, change_of, patch_of}
+use Rattle.file_patch.specs.PlainPatch.{PlainPatch, change_of, patch_of, is_script}
 use Rattle.flip_patch.specs.declared.fault.FlipFault.TheVariants.{EdReverse, Unfit}
-use Rattle.flip_patch.specs.Refusals.{first_opening, is_script, is_unfit, new_starts, refused, starts_fall, told_script, told_starts, told_unfit}
+use Rattle.flip_patch.specs.Refusals.{first_opening, is_unfit, new_starts, refused, starts_fall, told_script, told_starts, told_unfit}
 
 script-told : (text : List ℕ) (c : Change) → is_script (change_of text c) ≡ told_script c
 script-told text (Hunks hs) = refl

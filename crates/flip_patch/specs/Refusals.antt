@@ -8,13 +8,9 @@ use Rattle.file_patch.specs.declared.Change.{Change}
 use Rattle.file_patch.specs.declared.Change.TheVariants.{Hunks, Script}
 use Rattle.file_patch.specs.declared.FilePatch.{FilePatch}
 use Rattle.file_patch.specs.PlainPatch.{PlainChange, PlainPatch, hunks, script}
+pub use Rattle.file_patch.specs.PlainPatch.{is_script}
 use Rattle.flip_patch.specs.declared.fault.FlipFault.{FlipFault}
 use Rattle.flip_patch.specs.declared.fault.FlipFault.TheVariants.{EdReverse, Unfit, Write}
-
--- an ed script, which doesn't tell the lines that it takes away
-abbrev pub is_script : PlainChange → Bool
-is_script (hunks hs) = false
-is_script (script es) = true
 
 -- a start stands in front of the one before it
 abbrev pub starts_fall : List ℕ → Bool

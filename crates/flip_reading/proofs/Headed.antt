@@ -97,7 +97,7 @@ needs-files form text h k l new old index n e = name-is (header_of text h) (n.fi
 turned-is : (text : List ℕ) (form : Form) (h : Header) → h.form ≡ form → read_header form (header_of text h).new_name (header_of text h).old_name (cond (needs_index form (header_of text h)) (header_of text h).index None) h.new_stamp h.old_stamp ≡ turned_header (header_of text h)
 turned-is text form h e = ap (λ f. read_header f (header_of text h).new_name (header_of text h).old_name (cond (needs_index f (header_of text h)) (header_of text h).index None) h.new_stamp h.old_stamp) (sym e)
 
-some-heads : (v : Bool) (name : List ℕ) (more : List Head) → (v ≡ false → HasHead more) → HasHead (heads_if Index (index-of v name) ++ more)
+pub some-heads : (v : Bool) (name : List ℕ) (more : List Head) → (v ≡ false → HasHead more) → HasHead (heads_if Index (index-of v name) ++ more)
 some-heads true name more h = tt
 some-heads false name more h = h refl
 

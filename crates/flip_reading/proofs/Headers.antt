@@ -18,9 +18,9 @@ use Rattle.file_patch.specs.Actions.{is_moved}
 use Rattle.file_patch.specs.PlainPatch.{PlainHeader}
 use Rattle.patch_set.specs.PlainName.{better_of, file_name, plain_name}
 use Rattle.header_lines.specs.HeaderText.{index_line, names_file}
-use Rattle.header_lines.specs.Marks.{holds_space, name_end}
 use Rattle.text_joins.specs.Said.{behind, header_behind, from_by, last_behind, led_lines, name_said, new_line, old_line, stamp_said, to_by, word_said}
 use Rattle.text_joins.proofs.HeaderLines.{all-reverse}
+use Rattle.patch_header.specs.Written.{holds_space, name_end}
 use Rattle.flip_reading.proofs.Lines.{Kind, Minus, Plus, Stars, Index, content-closed, git-none, line_of, mark}
 use Rattle.flip_reading.proofs.Names.{index-clean, said-again, tab_if, text_or_none}
 use Rattle.flip_reading.proofs.Shown.{Clean, CleanIn, opt_line}
@@ -275,7 +275,7 @@ index-joined true name =
     ∙ ap (λ x. codes "Index: " ++ x) (sym (append_assoc name (tab_if name) (10 ∷ [])))
     ∙ sym (joined-if Index (Some (name ++ tab_if name)))
 
-neither : (a b : Option (List ℕ)) → (is_some a || is_some b) ≡ false → (a ≡ None) × (b ≡ None)
+pub neither : (a b : Option (List ℕ)) → (is_some a || is_some b) ≡ false → (a ≡ None) × (b ≡ None)
 neither None None e = (refl, refl)
 neither None (Some y) e = absurd (cc)
 neither (Some x) b e = absurd (cc)

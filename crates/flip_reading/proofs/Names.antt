@@ -7,9 +7,9 @@ use Rattle.std.proofs.Math.Seq.{take-append_seam}
 use Rattle.std.proofs.lemmas.Bool.Decides.{nat_tests}
 use Rattle.std.proofs.lemmas.List.{append-nil, length-append}
 use Rattle.patch_header.specs.Values.{blanks, first, is_blank, name_length, unblanked}
-use Rattle.header_lines.specs.Marks.{holds_space}
 use Rattle.text_joins.specs.Said.{bytes_before, name_said}
 use Rattle.text_joins.proofs.HeaderLines.{first-short}
+use Rattle.patch_header.specs.Written.{holds_space}
 use Rattle.flip_reading.proofs.Shown.{Clean, CleanIn, blanks-none, clean-both, clean-drop, either-no, first-is, name-short, not-blank}
 
 -- a tab behind a name with a space

@@ -1,10 +1,10 @@
 -- A set turned round, read again.
-use Rattle.std.proofs.Common.{◌≡◌, inl, ℕ, ◌+◌, ◌<◌, Bool, true, false, cond, ◌&&◌, ◌||◌, List, [], ◌∷◌, ◌++◌, length, map, reverse, append_assoc, Option, None, Some, Ok, refl, sym, ap, subst, ◌∙◌, arith}
+use Rattle.std.proofs.Common.{◌≡◌, inl, ℕ, ◌+◌, ◌<◌, Bool, true, false, cond, ◌||◌, List, [], ◌∷◌, ◌++◌, length, map, reverse, append_assoc, Option, None, Some, Ok, refl, sym, ap, subst, ◌∙◌, arith}
 use Rattle.std.specs.Prelude.{find, option_map}
 use Rattle.std.specs.List.{AllByRecursion, flat_map, list_any}
 use Rattle.std.specs.Option.{option_or}
 use Rattle.std.proofs.lemmas.Grind.{flat_map-append}
-use Rattle.std.proofs.lemmas.List.{append-nil, map-append, reverse-append}
+use Rattle.std.proofs.lemmas.List.{append-nil}
 use Rattle.std.proofs.lemmas.List.Concat.{flat_map-cons}
 use Rattle.line_list.specs.Lines.{ArePieces, IsLine, lines}
 use Rattle.line_list.specs.declared.Span.{Span}
@@ -29,7 +29,7 @@ use Rattle.patch_header.specs.declared.openings.Stop.TheVariants.{Opening}
 use Rattle.patch_header.specs.declared.ways.Ways.{Ways}
 use Rattle.patch_header.proofs.Stands.{and_left, opening-words, stop-opens}
 use Rattle.file_patch.specs.Actions.{is_moved}
-use Rattle.file_patch.specs.PlainPatch.{PlainPatch, hunks, change_of, patch_of, row_count}
+use Rattle.file_patch.specs.PlainPatch.{PlainPatch, hunks, change_of, patch_of, row_count, is_script}
 use Rattle.file_patch.specs.declared.Change.{Change}
 use Rattle.file_patch.specs.declared.Change.TheVariants.{Hunks, Script}
 use Rattle.file_patch.specs.declared.FilePatch.{FilePatch}
@@ -40,7 +40,7 @@ use Rattle.patch_set.specs.SetView.{IsWhole, SetView, plain_patches}
 use Rattle.patch_set.specs.Spans.{ArePlaced, IsPlaced}
 use Rattle.header_lines.specs.HeaderText.{header_text}
 use Rattle.flip_patch.specs.Flipped.{flipped, flipped_patch, hunk_text, swapped_hunks}
-use Rattle.flip_patch.specs.Refusals.{first_opening, is_script, is_unfit, new_starts, refused, starts_fall}
+use Rattle.flip_patch.specs.Refusals.{first_opening, is_unfit, new_starts, refused, starts_fall}
 use Rattle.flip_patch.specs.declared.fault.FlipFault.{FlipFault}
 use Rattle.flip_patch.specs.declared.fault.FlipFault.TheVariants.{EdReverse, Unfit}
 use Rattle.text_joins.specs.Following.{IsFilePatch}
@@ -48,6 +48,9 @@ use Rattle.text_joins.specs.Joins.{BeginCleanly, FitTogether, JoinCleanly, Part,
 use Rattle.text_joins.proofs.HeaderLines.{all-reverse}
 use Rattle.text_joins.proofs.Joining.{region-is}
 use Rattle.text_joins.proofs.Standing.{parts-read}
+use Rattle.hunk_core.proofs.TurnedLemmas.{reverse-map}
+use Rattle.flip_patch.proofs.Placed.{flipped-is}
+use Rattle.std.proofs.lemmas.Bool.{and_from}
 use Rattle.flip_reading.specs.TurnedPatches.{as_shown, turned_change, turned_patch, turned_patches}
 use Rattle.flip_reading.proofs.Feeds.{context-feeds, normal-feeds, unified-feeds}
 use Rattle.flip_reading.proofs.Headed.{HasHead, heads-quiet, heads-whole, shown-headed}
@@ -110,9 +113,6 @@ opens-body ways form least body (h ∷ hs) some c =
     ap (λ ls. begins ways.only form (ls ++ [])) c.2 ∙ ap (begins ways.only form) (append_assoc c.0 c.1 [])
     ∙ opens-hunk ways form least c.0 (c.1 ++ []) (c.1 ++ []) (as_shown form h) c.3
 
-pub both-true : (a b : Bool) → a ≡ true → b ≡ true → (a && b) ≡ true
-both-true a b e f = rw (e, f) refl
-
 asks-none : (o : Option Form) (k : Kind) (bs : List ℕ) → asks_dot o (line_of k bs) ≡ false
 unfolding ed.parts_at range_at
 asks-none None Minus bs = refl
@@ -170,7 +170,7 @@ made ways text p gs is r =
       stop = Opening form;
       parts = refl;
       quiet = heads-quiet ways h.heads (b.0 ++ []);
-      stands = (opening-words ways form (b.0 ++ [])).1 (both-true (admits ways.only form) (begins ways.only form (b.0 ++ [])) (and_left _ _ (stop-opens ways form (shown.first ∷ shown.rest) shown.stands)) (opens-body ways form 0 b.0 (map swapped gs) (some-swapped gs some) b.1.chain));
+      stands = (opening-words ways form (b.0 ++ [])).1 (and_from (admits ways.only form) (begins ways.only form (b.0 ++ [])) (and_left _ _ (stop-opens ways form (shown.first ∷ shown.rest) shown.stands)) (opens-body ways form 0 b.0 (map swapped gs) (some-swapped gs some) b.1.chain));
       says = h.said b.0;
       spelled = subst (λ c. IsPiece form 0 (b.0 ++ []) (turned_change form c) (length b.0) []) (sym is) (chain-piece form b.0 (map (λ g. as_shown form (swapped g)) gs) hunky chain);
     } in
@@ -273,16 +273,6 @@ pub whole-pieces : (ls : List (List ℕ)) → AllByRecursion IsLine ls → ArePi
 whole-pieces [] all = tt
 whole-pieces (l ∷ []) all = inl all.0
 whole-pieces (l ∷ k ∷ ls) all = (all.0, whole-pieces (k ∷ ls) all.1)
-
-flipped-is : (v : SetView) → flipped v ≡ flat_map (flipped_patch v.text) (reverse v.patches)
-unfolding flipped
-flipped-is v = refl
-
-pub reverse-map : {A B : Type 0} (f : A → B) (xs : List A) → reverse (map f xs) ≡ map f (reverse xs)
-reverse-map f [] = refl
-reverse-map f (x ∷ xs) =
-    reverse-append (f x ∷ []) (map f xs) ∙ ap (λ ys. ys ++ (f x ∷ [])) (reverse-map f xs)
-    ∙ sym (ap (map f) (reverse-append (x ∷ []) xs) ∙ map-append f (reverse xs) (x ∷ []))
 
 pub reads-law : (v : SetView) → IsWhole v → refused (plain_patches v) ≡ None → read_unnumbered v.ways (flipped v) ≡ Ok (turned_patches v)
 reads-law v whole none =

@@ -18,6 +18,7 @@ use Rattle.patch_header.specs.declared.ways.Ways.{Ways}
 use Rattle.file_patch.specs.PlainPatch.{PlainChange}
 use Rattle.patch_text.specs.Patches.{change_behind, place_before}
 use Rattle.patch_text.specs.Regions.{Region, next_region, region_by, region_with, regions_at, with_later}
+use Rattle.patch_text.proofs.RegionLaws.{regions-zero}
 
 -- a header that isn't bare is that of an opening behind these lines
 pub record IsShown (ways : Ways) (text : List ℕ) (h : Header) : Type 0 where
@@ -114,10 +115,6 @@ step-shown ways text at line h e = by (first_stop ways (lines (drop at text))) r
 regions-cons : (most : ℕ) (ways : Ways) (text : List ℕ) (at number : ℕ) → regions_at (suc most) ways text at number ≡ with_later (λ p. regions_at most ways text (place_before text p.rest) p.number) (next_region ways text at number)
 unfolding regions_at
 regions-cons most ways text at number = refl
-
-regions-zero : (ways : Ways) (text : List ℕ) (at number : ℕ) → regions_at zero ways text at number ≡ []
-unfolding regions_at
-regions-zero ways text at number = refl
 
 pub regions-shown : (most : ℕ) (ways : Ways) (text : List ℕ) (at number : ℕ) → AllByRecursion (λ (r : Region). IsShownIf ways text r.header) (regions_at most ways text at number)
 regions-shown zero ways text at number = subst (AllByRecursion (λ (r : Region). IsShownIf ways text r.header)) (sym (regions-zero ways text at number)) tt

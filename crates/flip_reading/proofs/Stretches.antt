@@ -1,5 +1,5 @@
 -- Dropped lines come first in each stretch, and each side keeps its lines.
-use Rattle.std.proofs.Common.{◌≡◌, ℕ, ◌+◌, Bool, true, false, cond, List, [], ◌∷◌, ◌++◌, map, refl, sym, ap, subst, ◌∙◌, append_assoc}
+use Rattle.std.proofs.Common.{◌≡◌, ℕ, ◌+◌, false, List, [], ◌∷◌, ◌++◌, map, refl, sym, ap, subst, ◌∙◌}
 use Rattle.std.specs.List.{AllByRecursion}
 use Rattle.std.proofs.lemmas.List.{append-nil, map-append}
 use Rattle.line_list.specs.Lines.{lines}
@@ -10,12 +10,10 @@ use Rattle.hunk_core.specs.declared.Mark.{Mark}
 use Rattle.hunk_core.specs.declared.Mark.TheVariants as its
 use Rattle.hunk_core.specs.declared.Side.{Side}
 use Rattle.hunk_core.specs.declared.Side.TheVariants.{Forward, Reversed}
-use Rattle.hunk_core.specs.Sides.{is_on_side}
 use Rattle.hunk_core.specs.PlainHunk.{Marked, PlainHunk, bytes_at, hunks_of, lines_on, old_lines, new_lines}
-use Rattle.hunk_core.specs.Turned.{is_drop, is_keep, swapped, swapped_line}
+use Rattle.hunk_core.specs.Turned.{is_keep, swapped, swapped_line}
 use Rattle.hunk_core.specs.Pieces.{SpellInTurn}
-use Rattle.context_form.specs.Merging.{DropsFirst, may_follow, part_of}
-use Rattle.context_form.specs.Canonical.{drops_before}
+use Rattle.context_form.specs.Merging.{DropsFirst, part_of}
 use Rattle.context_form.specs.Canonical as context
 use Rattle.normal_form.specs.Canonical as normal
 use Rattle.normal_form.specs.Grammar.{SpellsHunk, on_side}
@@ -26,101 +24,12 @@ use Rattle.file_patch.specs.PlainPatch.{change_of, patch_of, row_count}
 use Rattle.patch_text.specs.Changes.{SpellChange, Spells}
 use Rattle.patch_set.specs.Spans.{ArePlaced}
 use Rattle.patch_set.specs.SetView.{SetView, IsWhole, plain_patches}
+use Rattle.hunk_core.specs.LineTests.{marked}
+use Rattle.context_form.proofs.Sorting.{AreAdded, may-drop, added-forward, added-reversed, part-both, wait-first, sorts}
 use Rattle.flip_reading.specs.TurnedPatches.{as_shown}
 use Rattle.flip_reading.specs.AsShown.{AreShown, IsReordered, IsShown}
 
-abbrev line_of : Mark → List ℕ → Marked
-line_of mark line = record { mark = mark; line = line }
-
-part-both : (side : Side) (xs ys : List Marked) → part_of side (xs ++ ys) ≡ part_of side xs ++ part_of side ys
-part-both side [] ys = refl
-part-both side (x ∷ xs) ys = by (is_on_side side x.mark) (part-both side xs ys)
-  where
-    by : (b : Bool) → part_of side (xs ++ ys) ≡ part_of side xs ++ part_of side ys → cond b (x ∷ part_of side (xs ++ ys)) (part_of side (xs ++ ys)) ≡ cond b (x ∷ part_of side xs) (part_of side xs) ++ part_of side ys
-    by true e = ap (λ ms. x ∷ ms) e
-    by false e = e
-
-may-drop : (body : List Marked) → may_follow its.Drop body ≡ true
-may-drop [] = refl
-may-drop (m ∷ body) = refl
-
-may-keep : (body : List Marked) → may_follow its.Keep body ≡ true
-may-keep [] = refl
-may-keep (m ∷ body) = refl
-
 -- ---- the context form: added lines wait for the end of the stretch
-
-abbrev AreAdded : List Marked → Type 0
-AreAdded ms = AllByRecursion (λ m. m.mark ≡ its.Add) ms
-
-added-more : (waiting : List Marked) (m : Marked) → AreAdded waiting → m.mark ≡ its.Add → AreAdded (waiting ++ m ∷ [])
-added-more [] m h e = (e, tt)
-added-more (w ∷ waiting) m h e = (h.0, added-more waiting m h.1 e)
-
-added-forward : (waiting : List Marked) → AreAdded waiting → part_of Forward waiting ≡ []
-added-forward [] h = refl
-added-forward (w ∷ waiting) h = let off : is_on_side Forward w.mark ≡ false = ap (is_on_side Forward) h.0 in ap (λ b. cond b (w ∷ part_of Forward waiting) (part_of Forward waiting)) off ∙ added-forward waiting h.1
-
-added-reversed : (waiting : List Marked) → AreAdded waiting → part_of Reversed waiting ≡ waiting
-added-reversed [] h = refl
-added-reversed (w ∷ waiting) h = let on : is_on_side Reversed w.mark ≡ true = ap (is_on_side Reversed) h.0 in ap (λ b. cond b (w ∷ part_of Reversed waiting) (part_of Reversed waiting)) on ∙ ap (λ ms. w ∷ ms) (added-reversed waiting h.1)
-
--- no dropped line comes next
-abbrev NotDropped : List Marked → Type 0
-NotDropped [] = Unit {0}
-NotDropped (m ∷ rest) = is_drop m.mark ≡ false
-
-wait-first : (waiting rest : List Marked) → AreAdded waiting → NotDropped rest → DropsFirst rest → DropsFirst (waiting ++ rest)
-wait-first [] rest h n d = d
-wait-first (w ∷ waiting) rest h n d = (by waiting h.1, wait-first waiting rest h.1 n d)
-  where
-    follow : (mark : Mark) (m : Marked) (ms : List Marked) → is_drop m.mark ≡ false → may_follow mark (m ∷ ms) ≡ true
-    follow its.Keep m ms e = refl
-    follow its.Drop m ms e = refl
-    follow its.Add m ms e = rw e refl
-
-    last : (ms : List Marked) → NotDropped ms → may_follow w.mark ms ≡ true
-    last [] k = refl
-    last (m ∷ ms) k = follow w.mark m ms k
-
-    by : (ws : List Marked) → AreAdded ws → may_follow w.mark (ws ++ rest) ≡ true
-    by [] k = last rest n
-    by (x ∷ ws) k = follow w.mark x (ws ++ rest) (ap is_drop k.0)
-
--- a body behind lines that wait, once it is sorted
-record Sorts (waiting body sorted : List Marked) : Type 0 where
-  forward : part_of Forward sorted ≡ part_of Forward body
-  reversed : part_of Reversed sorted ≡ waiting ++ part_of Reversed body
-  drops : DropsFirst sorted
-
-sort-keep : (waiting : List Marked) (line : List ℕ) (body sorted : List Marked) → AreAdded waiting → Sorts [] body sorted → Sorts waiting (line_of its.Keep line ∷ body) (waiting ++ line_of its.Keep line ∷ sorted)
-sort-keep waiting line body sorted h s =
-    let m = line_of its.Keep line in
-    record {
-      forward = part-both Forward waiting (m ∷ sorted) ∙ ap (λ ms. ms ++ m ∷ part_of Forward sorted) (added-forward waiting h) ∙ ap (λ ms. m ∷ ms) s.forward;
-      reversed = part-both Reversed waiting (m ∷ sorted) ∙ ap (λ ms. ms ++ m ∷ part_of Reversed sorted) (added-reversed waiting h) ∙ ap (λ ms. waiting ++ m ∷ ms) s.reversed;
-      drops = wait-first waiting (m ∷ sorted) h refl (may-keep sorted, s.drops);
-    }
-
-sort-drop : (waiting : List Marked) (line : List ℕ) (body sorted : List Marked) → Sorts waiting body sorted → Sorts waiting (line_of its.Drop line ∷ body) (line_of its.Drop line ∷ sorted)
-sort-drop waiting line body sorted s = record { forward = ap (λ ms. line_of its.Drop line ∷ ms) s.forward; reversed = s.reversed; drops = (may-drop sorted, s.drops) }
-
-sort-add : (waiting : List Marked) (line : List ℕ) (body sorted : List Marked) → Sorts (waiting ++ line_of its.Add line ∷ []) body sorted → Sorts waiting (line_of its.Add line ∷ body) sorted
-sort-add waiting line body sorted s = record { forward = s.forward; reversed = s.reversed ∙ append_assoc waiting (line_of its.Add line ∷ []) (part_of Reversed body); drops = s.drops }
-
-sort-none : (waiting : List Marked) → AreAdded waiting → Sorts waiting [] waiting
-sort-none waiting h = record { forward = added-forward waiting h; reversed = added-reversed waiting h ∙ sym (append-nil waiting); drops = subst DropsFirst (append-nil waiting) (wait-first waiting [] h tt tt) }
-
-sorts : (waiting body : List Marked) → AreAdded waiting → Sorts waiting body (drops_before waiting body)
-unfolding drops_before
-sorts waiting [] h = sort-none waiting h
-sorts waiting (m ∷ body) h = by m.mark (λ ws k. sorts ws body k)
-  where
-    by : (mark : Mark) → ((ws : List Marked) → AreAdded ws → Sorts ws body (drops_before ws body)) → Sorts waiting (line_of mark m.line ∷ body) (drops_before waiting (line_of mark m.line ∷ body))
-    by its.Keep more = sort-keep waiting m.line body (drops_before [] body) h (more [] tt)
-    by its.Drop more = sort-drop waiting m.line body (drops_before waiting body) (more waiting h)
-    by its.Add more = sort-add waiting m.line body (drops_before (waiting ++ line_of its.Add m.line ∷ []) body) (more (waiting ++ line_of its.Add m.line ∷ []) (added-more waiting (line_of its.Add m.line) h refl))
-
 pub context-shown : (h : PlainHunk) → IsReordered h (context.in_order h)
 context-shown h = let s = sorts [] h.body tt in record { old_start = refl; new_start = refl; olds = s.forward; news = s.reversed; drops = s.drops }
 
@@ -133,17 +42,17 @@ changes-on : (side : Side) (body : List Marked) → AreChanges body → part_of 
 changes-on side [] h = refl
 changes-on side (m ∷ body) h = by side m.mark h.0 (changes-on side body h.1)
   where
-    by : (s : Side) (mark : Mark) → is_keep mark ≡ false → part_of s body ≡ on_side s (lines_on s body) → part_of s (line_of mark m.line ∷ body) ≡ on_side s (lines_on s (line_of mark m.line ∷ body))
+    by : (s : Side) (mark : Mark) → is_keep mark ≡ false → part_of s body ≡ on_side s (lines_on s body) → part_of s (marked mark m.line ∷ body) ≡ on_side s (lines_on s (marked mark m.line ∷ body))
     by Forward its.Keep off again = absurd cc
-    by Forward its.Drop off again = ap (λ ms. line_of its.Drop m.line ∷ ms) again
+    by Forward its.Drop off again = ap (λ ms. marked its.Drop m.line ∷ ms) again
     by Forward its.Add off again = again
     by Reversed its.Keep off again = absurd cc
     by Reversed its.Drop off again = again
-    by Reversed its.Add off again = ap (λ ms. line_of its.Add m.line ∷ ms) again
+    by Reversed its.Add off again = ap (λ ms. marked its.Add m.line ∷ ms) again
 
 dropped-forward : (ls : List (List ℕ)) → part_of Forward (on_side Forward ls) ≡ on_side Forward ls
 dropped-forward [] = refl
-dropped-forward (l ∷ ls) = ap (λ ms. line_of its.Drop l ∷ ms) (dropped-forward ls)
+dropped-forward (l ∷ ls) = ap (λ ms. marked its.Drop l ∷ ms) (dropped-forward ls)
 
 dropped-reversed : (ls : List (List ℕ)) → part_of Reversed (on_side Forward ls) ≡ []
 dropped-reversed [] = refl

@@ -1,12 +1,12 @@
 -- The file patches of a set with their numbers, from 0.
 use Rattle.std.proofs.Common.{map, ◌≡◌, ℕ, zero, suc, ◌+◌, ◌<◌, ◌≤◌, Bool, true, false, ◌&&◌, cond, List, [], ◌∷◌, ◌++◌, length, get_or, drop, Option, None, Some, refl, sym, ap, subst, ◌∙◌, arith}
-use Rattle.std.specs.Prelude.{find, option_map, slice_get}
+use Rattle.std.specs.Prelude.{find, option_map}
 use Rattle.std.specs.List.{flat_map, range_with_len, zip}
 use Rattle.std.specs.Option.{option_or}
 use Rattle.std.proofs.lemmas.List.{append-nil, at_drop_more, drop_all, length-map}
 use Rattle.std.proofs.lemmas.Grind.{flat_map-append}
 use Rattle.std.proofs.lemmas.List.Concat.{flat_map-cons}
-use Rattle.std.proofs.lemmas.Option.{get_or_from_slice_get, same_Some, slice_get-get_or}
+use Rattle.std.proofs.lemmas.Option.{get_or_from_slice_get, slice_get-get_or}
 use Rattle.hunk_core.specs.declared.Form.{Form}
 use Rattle.hunk_core.specs.declared.Hunk.{Hunk}
 use Rattle.hunk_core.specs.PlainHunk.{PlainHunk, hunk_of, hunks_of}
@@ -17,28 +17,18 @@ use Rattle.file_patch.specs.PlainPatch.{AreLawfulHunks, IsLawfulChange, PlainCha
 use Rattle.patch_set.specs.SetView.{SetView, patch_at, plain_patches}
 use Rattle.patch_set.proofs.Named.{rows-counted}
 use Rattle.patch_filters.specs.Kept.{keeps}
-use Rattle.patch_filters.proofs.Rows.{found, zip-at, zip-count}
+use Rattle.patch_filters.proofs.Rows.{zip-at, zip-count}
 use Rattle.tool_words.specs.PlainJobs.{PlainFilterJob}
 use Rattle.change_commands.specs.Taken.{flags, has_kept, hunk_if, kept_hunks, left_change, left_patch, left_patches, patch_if}
 use Rattle.change_commands.specs.Walk.{IsHunks}
 use Rattle.change_commands.proofs.Rows.{flag-at, flags-long}
-use Rattle.format_convert.specs.Converted.{change_text, converted, hunk_text, hunk_texts, rows, written_if}
+use Rattle.line_list.proofs.Elements.{found, behind, numbered-from, numbered-long}
+use Rattle.patch_header.specs.Written.{hunk_text}
+use Rattle.format_convert.specs.Converted.{change_text, converted, hunk_texts, rows, written_if}
 use Rattle.change_commands.specs.Commands.{command_text}
 use Rattle.hunk_core.specs.declared.Form.TheVariants.{Unified, Context, Normal, Ed}
 use Rattle.format_convert.specs.Refusals.{change_lacks, first_line, is_unfit, lacks_context, no_context, refusal, shows_context, unfit}
 use Rattle.format_convert.specs.declared.fault.ConvertFault.{ConvertFault}
-
-abbrev behind : {A : Type 0} → ℕ → A → Option (ℕ × A)
-behind n x = Some (n, x)
-
-numbered-from : {A : Type 0} (a : ℕ) (xs : List A) (i : ℕ) (x : A) → slice_get xs i ≡ Some x → slice_get (zip (range_with_len a (length xs)) xs) i ≡ Some (a + i, x)
-numbered-from a [] i x is = absurd cc
-numbered-from {A = A} a (y ∷ xs) zero x is = let e : a ≡ a + 0 = omega arith in ap (λ n. Some (n, y)) e ∙ ap (λ (z : A). Some (a + 0, z)) (same_Some y x is)
-numbered-from {A = A} a (y ∷ xs) (suc i) x is = let e : a + 1 + i ≡ a + suc i = omega arith in numbered-from (a + 1) xs i x is ∙ ap (λ n. behind n x) e
-
-numbered-long : {A : Type 0} (a : ℕ) (xs : List A) → length (zip (range_with_len a (length xs)) xs) ≡ length xs
-numbered-long a [] = refl
-numbered-long a (y ∷ xs) = ap suc (numbered-long (a + 1) xs)
 
 pub rows-long : (v : SetView) → length (rows v) ≡ length v.patches
 rows-long v = numbered-long 0 v.patches

@@ -6,14 +6,13 @@ use Rattle.hunk_core.specs.declared.Form.{Form}
 use Rattle.hunk_core.specs.declared.Form.TheVariants.{Unified, Context, Normal, Ed}
 use Rattle.hunk_core.specs.declared.Side.TheVariants.{Forward}
 use Rattle.hunk_core.specs.PlainHunk.{PlainHunk}
-use Rattle.unified_form.specs.Canonical as unified
-use Rattle.context_form.specs.Canonical as context
 use Rattle.patch_header.specs.declared.header.Header.{Header}
 use Rattle.file_patch.specs.declared.FilePatch.{FilePatch}
 use Rattle.file_patch.specs.PlainPatch.{PlainChange, PlainPatch, hunks, script, patch_of}
 use Rattle.patch_set.specs.SetView.{SetView}
 use Rattle.header_lines.specs.HeaderText.{header_text}
 use Rattle.tool_words.specs.PlainJobs.{PlainFilterJob}
+use Rattle.patch_header.specs.Written.{hunk_text}
 use Rattle.format_convert.specs.declared.fault.ConvertFault.{ConvertFault}
 use Rattle.format_convert.specs.declared.fault.ConvertFault.TheVariants.{NoContext, Unfit, Write}
 use Rattle.change_commands.specs.Taken.{has_kept, left_patch}
@@ -25,13 +24,6 @@ use Rattle.format_convert.specs.Refusals.{shows_context}
 abbrev pub hunk_texts : (PlainHunk → List ℕ) → PlainChange → List ℕ
 hunk_texts canonical (hunks hs) = flat_map canonical hs
 hunk_texts canonical (script es) = []
-
--- a hunk in its canonical text; the forms of commands have none
-abbrev pub hunk_text : Form → PlainHunk → List ℕ
-hunk_text Unified h = unified.canonical h
-hunk_text Context h = context.canonical h
-hunk_text Normal h = []
-hunk_text Ed h = []
 
 -- a change in a form: its hunks, or a command for each of its blocks
 abbrev pub change_text : Form → PlainChange → List ℕ

@@ -12,7 +12,8 @@ ghost use Rattle.file_patch.specs.PlainPatch.{AreLawfulHunks, patch_of, row_coun
 ghost use Rattle.patch_filters.specs.Kept.{keeps};
 ghost use Rattle.change_commands.specs.Taken.{flags, kept_hunks, left_patch};
 ghost use Rattle.change_commands.specs.Walk.{IsHunks};
-ghost use Rattle.format_convert.specs.Converted.{hunk_text, hunk_texts};
+ghost use Rattle.format_convert.specs.Converted.{hunk_texts};
+ghost use Rattle.patch_header.specs.Written.{hunk_text};
 
 use change_commands::patch_at;
 use file_patch::{Change, FilePatch};

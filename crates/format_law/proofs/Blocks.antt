@@ -1,5 +1,5 @@
 -- Where the blocks of a change stand, and which lines they have.
-use Rattle.std.proofs.Common.{◌≡◌, ℕ, suc, ◌+◌, ◌<◌, ◌≤◌, Bool, true, false, cond, not, eqb, ◌||◌, ◌&&◌, List, [], ◌∷◌, ◌++◌, length, map, append_assoc, Option, None, Some, refl, sym, ap, subst, ◌∙◌, arith}
+use Rattle.std.proofs.Common.{◌≡◌, ℕ, suc, ◌+◌, ◌<◌, ◌≤◌, Bool, true, false, cond, not, eqb, ◌||◌, ◌&&◌, List, [], ◌∷◌, ◌++◌, length, map, append_assoc, refl, sym, ap, subst, ◌∙◌, arith}
 use Rattle.std.specs.Prelude.{filter, nat_lt}
 use Rattle.std.specs.List.{AllByRecursion, flat_map}
 use Rattle.std.proofs.lemmas.Bool.Decides.{nat_tests}
@@ -9,7 +9,6 @@ use Rattle.hunk_core.specs.declared.Mark.{Mark}
 use Rattle.hunk_core.specs.declared.Mark.TheVariants.{Keep, Drop, Add}
 use Rattle.hunk_core.specs.declared.Side.{Side}
 use Rattle.hunk_core.specs.declared.Side.TheVariants.{Forward, Reversed}
-use Rattle.hunk_core.specs.declared.check.BadHunk.{BadHunk}
 use Rattle.hunk_core.specs.declared.check.BadHunk.TheVariants as rules
 use Rattle.hunk_core.specs.LineTests.{ends_line}
 use Rattle.hunk_core.specs.PlainHunk.{Marked, PlainHunk, new_lines, old_lines}
@@ -24,13 +23,9 @@ use Rattle.change_commands.proofs.FrontLemmas.{blocks-cons, blocks-none}
 use Rattle.change_commands.proofs.Steps.{edits-mark, edits-none}
 use Rattle.flip_reading.proofs.Hunks.{IsGood}
 use Rattle.flip_reading.proofs.Shown.{either-no}
+use Rattle.hunk_core.proofs.RuleLemmas.{pass}
 
 -- ---- the rules of a hunk, one by one
-
-pass : (b : Bool) (x : BadHunk) (o : Option BadHunk) → cond b (Some x) o ≡ None → (b ≡ false) × (o ≡ None)
-pass true x o e = absurd cc
-pass false x o e = (refl, e)
-
 begins-no : (start : ℕ) (side : List (List ℕ)) → starts_at_zero start side ≡ false → 1 ≤ cond (eqb (length side) 0) (start + 1) start
 begins-no start side e = by (eqb (length side) 0) e
   where

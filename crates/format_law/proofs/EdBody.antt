@@ -30,8 +30,8 @@ use Rattle.format_convert.specs.Refusals.{change_lacks, shows_context}
 use Rattle.format_convert.specs.Converted.{is_written}
 use Rattle.flip_reading.proofs.Feeds.{NoInner}
 use Rattle.flip_reading.proofs.Hunks.{IsGood, whole-both}
-use Rattle.flip_reading.proofs.Reading.{reverse-map}
 use Rattle.flip_reading.proofs.Shown.{Clean, either-no}
+use Rattle.hunk_core.proofs.TurnedLemmas.{reverse-map}
 use Rattle.format_law.proofs.Blocks.{Apart, Climbs, IsSome, blocks-apart, blocks-lines, blocks-some, climbs-less, edits-climb, holds-each, lines_by}
 use Rattle.format_law.proofs.EdText.{added-spelled, command-appends, head-line, head-spelled, text-joined, text-whole, text_rows}
 use Rattle.format_law.proofs.NormalBody.{block-lines, changed-clean}

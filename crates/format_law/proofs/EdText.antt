@@ -19,11 +19,15 @@ use Rattle.ed_form.specs.Commands.{is_command, parts_at}
 use Rattle.ed_form.specs.Grammar.{IsCorrected, SpellsAdded, SpellsAddresses, SpellsCommand, SpellsText, begins_append}
 use Rattle.ed_form.specs.Texts.{is_append, is_dot}
 use Rattle.ed_form.proofs.Lasts.{word-takes}
-use Rattle.normal_form.specs.Canonical.{action_for, span_text}
+use Rattle.normal_form.specs.Canonical.{action_for}
 use Rattle.unified_form.proofs.Canonical.{closes}
 use Rattle.change_commands.specs.Commands.{ed_head, ed_line, ed_lines, goes_on, range_start}
 use Rattle.change_commands.proofs.EdLemmas.{lines-cons, lines-none}
 use Rattle.flip_reading.proofs.Shown.{Clean, clean-both}
+use Rattle.diff_command.specs.Spans.{span_text}
+use Rattle.hunk_core.proofs.TextLemmas.{some-not}
+use Rattle.diff_command.proofs.CommandLemmas.{letter-clean}
+use Rattle.normal_form.proofs.Canonical.{changes, deletes}
 
 -- ---- the lines of a text
 
@@ -131,16 +135,6 @@ text-spelled line [] others is all quiet = last-spelled line others is quiet
 text-spelled line (next ∷ more) others is all quiet = next-spelled line next more others is (text-spelled next more others all.0 all.1 quiet)
 
 -- ---- the head
-
-pub some-not : (n : ℕ) → eqb (suc n) 0 ≡ false
-some-not n = grind arith
-
-deletes : (m : ℕ) → action_for (suc m) 0 ≡ Delete
-deletes m = rw (some-not m) refl
-
-changes : (m n : ℕ) → action_for (suc m) (suc n) ≡ Change
-changes m n = rw (some-not m, some-not n) refl
-
 -- an added text, or none
 pub added-spelled : (drops : ℕ) (added others : List (List ℕ)) → 1 ≤ drops + length added → AllByRecursion IsLine added → begins_append others ≡ false → SpellsAdded (action_for drops (length added)) (text_rows added) added others
 added-spelled zero [] others some all quiet = absurd (omega (arith, some))
@@ -197,11 +191,6 @@ span-clean start count = by (nat_lt 1 count)
     by : (v : Bool) → Clean (cond v (decimal start ++ 44 ∷ decimal (start + count - 1)) (decimal start))
     by true = clean-both (decimal start) (44 ∷ decimal (start + count - 1)) (decimal-clean start) ((λ e. cc), decimal-clean (start + count - 1))
     by false = decimal-clean start
-
-letter-clean : (action : Action) → letter action ≢ 10
-letter-clean Add = λ e. cc
-letter-clean Change = λ e. cc
-letter-clean Delete = λ e. cc
 
 pub head-line : (first drops adds : ℕ) → IsLine (ed_head first drops adds)
 head-line first drops adds = closes (span_text (range_start first drops) drops ++ letter (action_for drops adds) ∷ []) (clean-both (span_text (range_start first drops) drops) (letter (action_for drops adds) ∷ []) (span-clean (range_start first drops) drops) (letter-clean (action_for drops adds), tt))

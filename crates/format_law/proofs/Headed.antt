@@ -18,8 +18,8 @@ use Rattle.patch_set.specs.PlainName.{better_of, file_name, plain_name}
 use Rattle.header_lines.specs.HeaderText.{header_text, index_line, name_lines, named_line, names_file, needs_index}
 use Rattle.header_lines.specs.Marks.{shows_names}
 use Rattle.text_joins.specs.Said.{behind, header_said, name_said, new_line, old_line, stamp_said}
-use Rattle.flip_reading.proofs.Headed.{AreClean, HasHead, clean-heads, clean-if, joined-heads, minus-is, not-false, plus-is, stars-is}
-use Rattle.flip_reading.proofs.Headers.{Head, behind-is, head_lines, heads_if, index-index, index-joined, index-of, index-other, joined-if, last-three, minus-index, minus-minus, minus-plus, minus-stars, or-first, or-second, or-third, plus-index, plus-minus, plus-plus, prereq-none, same-header, shown, shown-no, shown-yes, stars-index, stars-minus, stars-stars, three}
+use Rattle.flip_reading.proofs.Headed.{AreClean, HasHead, clean-heads, clean-if, joined-heads, minus-is, not-false, plus-is, stars-is, some-heads}
+use Rattle.flip_reading.proofs.Headers.{Head, behind-is, head_lines, heads_if, index-index, index-joined, index-of, index-other, joined-if, last-three, minus-index, minus-minus, minus-plus, minus-stars, or-first, or-second, or-third, plus-index, plus-minus, plus-plus, prereq-none, same-header, shown, shown-no, shown-yes, stars-index, stars-minus, stars-stars, three, neither}
 use Rattle.flip_reading.proofs.Lines.{Kind, Minus, Plus, Stars, Index, content-closed, line_of, mark}
 use Rattle.flip_reading.proofs.Names.{NoTab, spaced, tab-clean, tab_if, text_or_none}
 use Rattle.flip_reading.proofs.Region.{IsShown}
@@ -52,10 +52,6 @@ record Wanted (text : List ℕ) (form : Form) (h : Header) (k l : Kind) (old new
 index-clean-of : (v : Bool) (name : List ℕ) → Clean name → CleanIn (index-of v name)
 index-clean-of false name c = tt
 index-clean-of true name c = clean-both name (tab_if name) c (tab-clean name)
-
-some-heads : (v : Bool) (name : List ℕ) (more : List Head) → (v ≡ false → HasHead more) → HasHead (heads_if Index (index-of v name) ++ more)
-some-heads true name more h = tt
-some-heads false name more h = h refl
 
 -- what stands behind 'Index:' in the line that is written
 line-behind : (name : List ℕ) → behind (codes "Index:") (index_line name) ≡ after (codes "Index:") (mark Index ++ (name ++ tab_if name))
@@ -198,11 +194,6 @@ better-first (Some x) (Some y) c d e = by (is_better y x)
     by : (v : Bool) → option_map_or (λ (name : List ℕ). name) (option_or (cond v (Some y) (Some x)) c) [] ≡ option_map_or (λ (name : List ℕ). name) (option_or (cond v (Some y) (Some x)) d) []
     by true = refl
     by false = refl
-
-neither : (a b : Option (List ℕ)) → (is_some a || is_some b) ≡ false → (a ≡ None) × (b ≡ None)
-neither None None e = (refl, refl)
-neither None (Some y) e = absurd (cc)
-neither (Some x) b e = absurd (cc)
 
 abbrev one_of : Option (List ℕ) → Option (List ℕ) → Option (List ℕ) → List ℕ
 one_of a b c = option_map_or (λ (name : List ℕ). name) (option_or (better_of (file_name a) (file_name b)) c) []

@@ -24,9 +24,9 @@ use Rattle.flip_reading.proofs.Feeds.{NoInner, on-side-inner, side-inner}
 use Rattle.flip_reading.proofs.Hunks.{ChainAs, IsGood, Rising, body-of, chain-piece}
 use Rattle.flip_reading.proofs.Reading.{HasHunk, opens-body}
 use Rattle.flip_reading.proofs.Shown.{either-no}
+use Rattle.hunk_core.proofs.TextLemmas.{some-not}
 use Rattle.format_law.specs.ReadAgain.{block_hunk, block_hunks}
 use Rattle.format_law.proofs.Blocks.{Apart, IsSome, blocks-apart, blocks-lines, blocks-some, edits-climb, holds-each, hunks-lines, lacks-each, lines_by}
-use Rattle.format_law.proofs.EdText.{some-not}
 use Rattle.format_law.proofs.Shown.{Body}
 
 -- ---- the lines of both sides

@@ -38,8 +38,9 @@ use Rattle.format_convert.proofs.RowLemmas.{converted-is, left-is, refusal-is, r
 use Rattle.flip_reading.proofs.Headed.{heads-quiet, heads-whole}
 use Rattle.flip_reading.proofs.Headers.{head_lines}
 use Rattle.flip_reading.proofs.Hunks.{whole-both}
-use Rattle.flip_reading.proofs.Reading.{all-placed, all-shown, both-true, clean-front, map-none, no-dots, whole-pieces}
+use Rattle.flip_reading.proofs.Reading.{all-placed, all-shown, clean-front, map-none, no-dots, whole-pieces}
 use Rattle.flip_reading.proofs.Region.{IsShownIf, regions-shown}
+use Rattle.std.proofs.lemmas.Bool.{and_from}
 use Rattle.format_law.specs.ReadAgain.{IsGivenBack, again_if, change_again, header_again, patch_again, patches_again}
 use Rattle.format_law.proofs.Bodies.{body-for, changes-for, not-bare}
 use Rattle.format_law.proofs.Headed.{HeadedIn, headed-in, shown-name}
@@ -89,7 +90,7 @@ own-of ways form text p c admitted h b =
       stop = Opening form;
       parts = refl;
       quiet = heads-quiet ways h.heads (b.body ++ []);
-      stands = (opening-words ways form (b.body ++ [])).1 (both-true (admits ways.only form) (begins ways.only form (b.body ++ [])) admitted b.opens);
+      stands = (opening-words ways form (b.body ++ [])).1 (and_from (admits ways.only form) (begins ways.only form (b.body ++ [])) admitted b.opens);
       says = h.said ways b.body;
       spelled = b.spelled;
     } in

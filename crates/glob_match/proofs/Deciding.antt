@@ -1,7 +1,7 @@
 -- The test of a match and the relation.
 use Rattle.std.proofs.Common.{◌≡◌, ℕ, zero, suc, ◌+◌, ◌<◌, ◌≤◌, Bool, true, false, ◌&&◌, ◌||◌, List, [], ◌∷◌, length, drop, refl, sym, subst, arith}
 use Rattle.std.proofs.Common.{inl, inr}
-use Rattle.std.proofs.lemmas.Bool.{cases_lt}
+use Rattle.std.proofs.lemmas.Bool.{cases_lt, and_from}
 use Rattle.std.specs.Prelude.{◌↔◌, IsTrue, ◌==◌}
 use Rattle.std.specs.List.{list_any, range_with_len}
 use Rattle.glob_match.specs.Pattern.{Element, Run, Any, Byte, OneOf, elements}
@@ -41,10 +41,6 @@ both : (p q : Bool) → (p && q) ≡ true → (p ≡ true) × (q ≡ true)
 both true q is = (refl, is)
 both false q is = absurd cc
 
-and-true : (p q : Bool) → p ≡ true → q ≡ true → (p && q) ≡ true
-and-true true q is also = also
-and-true false q is also = absurd cc
-
 matched : (es : List Element) (name : List ℕ) → fits es name ≡ true → Match es name
 unfolding fits Match
 matched [] [] is = refl
@@ -65,9 +61,9 @@ fitting (Run ∷ es) name is = in-range-found (λ k. fits es (drop k name)) 0 (l
 fitting (Any ∷ es) [] is = absurd is
 fitting (Any ∷ es) (b ∷ bs) is = fitting es bs is
 fitting (Byte c ∷ es) [] is = absurd is
-fitting (Byte c ∷ es) (b ∷ bs) is = and-true _ _ is.0 (fitting es bs is.1)
+fitting (Byte c ∷ es) (b ∷ bs) is = and_from _ _ is.0 (fitting es bs is.1)
 fitting (OneOf o ms ∷ es) [] is = absurd is
-fitting (OneOf o ms ∷ es) (b ∷ bs) is = and-true _ _ is.0 (fitting es bs is.1)
+fitting (OneOf o ms ∷ es) (b ∷ bs) is = and_from _ _ is.0 (fitting es bs is.1)
 
 pub decided : (pattern name : List ℕ) → (does_match pattern name ≡ true) ↔ Matches pattern name
 decided pattern name = (matched (elements pattern) name, fitting (elements pattern) name)

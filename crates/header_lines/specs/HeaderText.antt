@@ -9,7 +9,8 @@ use Rattle.hunk_core.specs.Turned.{other_side}
 use Rattle.patch_header.specs.declared.header.Header.{Header}
 use Rattle.file_patch.specs.PlainPatch.{PlainHeader, header_of}
 use Rattle.patch_set.specs.PlainName.{file_name, plain_name}
-use Rattle.header_lines.specs.Marks.{shows_names, old_mark, new_mark, name_end}
+use Rattle.patch_header.specs.Written.{old_mark, new_mark, name_end}
+use Rattle.header_lines.specs.Marks.{shows_names}
 
 -- the first of some lines, with its line feed
 abbrev pub first_line : List (List ℕ) → List ℕ

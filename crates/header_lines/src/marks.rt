@@ -1,7 +1,8 @@
 //! What stands around a name in a header line.
 
 ghost use Rattle.std.specs.Prelude.{◌≡◌};
-ghost use Rattle.header_lines.specs.Marks.{holds_space, name_end, new_mark, old_mark, shows_names};
+ghost use Rattle.header_lines.specs.Marks.{shows_names};
+ghost use Rattle.patch_header.specs.Written.{holds_space, name_end, new_mark, old_mark};
 
 use hunk_core::Form;
 

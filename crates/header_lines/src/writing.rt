@@ -8,7 +8,7 @@ ghost use Rattle.file_patch.specs.PlainPatch.{header_of};
 ghost use Rattle.patch_set.specs.PlainName.{plain_name};
 ghost use Rattle.patch_set.specs.SetView.{patch_at};
 ghost use Rattle.header_lines.specs.HeaderText.{header_text, index_if, index_line, name_lines, named_line, span_on};
-ghost use Rattle.header_lines.specs.Marks.{new_mark, old_mark};
+ghost use Rattle.patch_header.specs.Written.{new_mark, old_mark};
 
 use crate::marks::{name_end, new_mark, old_mark, shows_names};
 use crate::names::{needs_index, rest_of_line, span_on};

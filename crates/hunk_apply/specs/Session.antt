@@ -1,9 +1,10 @@
 -- What came of the hunks of a file, by their verdicts.
-use Rattle.std.specs.Prelude.{◌≡◌, ◌≤◌, ◌^◌, ℕ, ℤ, pos, negsuc, List, take, drop, length, Bool, true, false, not, ◌==◌, ◌&&◌}
+use Rattle.std.specs.Prelude.{◌≡◌, ◌≤◌, ◌^◌, ℕ, List, take, drop, length, Bool, true, false, not, ◌==◌, ◌&&◌}
 use Rattle.std.specs.List.{All, sum_by}
 use Rattle.hunk_core.specs.declared.Hunk.{Hunk}
 use Rattle.hunk_core.specs.declared.Verdict.{Verdict}
 use Rattle.hunk_core.specs.declared.Verdict.TheVariants.{Untried, Ignored, Nowhere, At}
+pub use Rattle.file_patch.specs.Absent.{is_zero}
 
 abbrev pub is_placed : Verdict → Bool
 is_placed Untried = false
@@ -16,10 +17,6 @@ is_failed Untried = false
 is_failed Ignored = false
 is_failed Nowhere = true
 is_failed (At line fuzz offset) = false
-
-abbrev pub is_zero : ℤ → Bool
-is_zero (pos n) = n == 0
-is_zero (negsuc n) = false
 
 -- the hunk failed, or was placed with fuzz or at an offset other than 0
 abbrev pub is_inexact : Verdict → Bool

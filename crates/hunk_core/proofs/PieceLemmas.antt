@@ -6,7 +6,7 @@ use Rattle.std.proofs.lemmas.List.Concat.{flat_map-append}
 use Rattle.line_list.specs.Lines.{lines, ArePieces}
 use Rattle.line_list.specs.declared.Span.{Span}
 use Rattle.hunk_core.specs.PlainHunk.{PlainHunk, bytes_at}
-use Rattle.hunk_core.specs.Pieces.{AreInTurn, AreWhole, SpellInTurn}
+use Rattle.hunk_core.specs.Pieces.{AreInTurn, AreWhole, SpellInTurn, last_start}
 use Rattle.line_list.proofs.Pieces.{joined, lines-joined, lines-pieces, pieces-only}
 
 -- the first of some pieces are pieces
@@ -40,12 +40,6 @@ pub piece-whole : (text : List ℕ) (at next : ℕ) (own : List (List ℕ)) → 
 piece-whole text at next own le high e = e ∙ ap (λ ls. ls ++ lines (drop next text)) (sym (piece-lines text at next own le high e))
 
 -- ---- one span behind the other
-
--- the start of the last hunk, or what stood before the first
-abbrev pub last_start : ℕ → List PlainHunk → ℕ
-last_start least [] = least
-last_start least (h ∷ hs) = last_start h.old_start hs
-
 turn-push : (at : ℕ) (ss : List Span) (mid : ℕ) (s : Span) → AreInTurn at ss mid → s.start ≡ mid → mid < s.end → AreInTurn at (ss ++ s ∷ []) s.end
 turn-push at [] mid s h start some = (start ∙ sym h, omega (arith, h, some), refl)
 turn-push at (x ∷ ss) mid s h start some = (h.0, h.1, turn-push x.end ss mid s h.2 start some)

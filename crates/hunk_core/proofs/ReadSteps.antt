@@ -21,7 +21,7 @@ pub must_ok : {A : Type 0} (b : Bool) (d : Fault) (x y : A) → cond b (Ok x) (E
 must_ok true d x y e = (refl, cc)
 must_ok false d x y e = absurd cc
 
-abbrev done : {A : Type 0} → A → Result A Fault
+abbrev pub done : {A : Type 0} → A → Result A Fault
 done x = Ok x
 
 pub ok_is : {A : Type 0} (x y : A) → done x ≡ done y → x ≡ y

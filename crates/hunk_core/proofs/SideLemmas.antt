@@ -10,7 +10,7 @@ use Rattle.hunk_core.specs.declared.Side.TheVariants.{Forward, Reversed}
 use Rattle.hunk_core.specs.declared.HunkLine.{HunkLine}
 use Rattle.hunk_core.specs.declared.Hunk.{Hunk}
 use Rattle.hunk_core.specs.Sides.{is_on_side, taken_count}
-use Rattle.hunk_core.specs.PlainHunk.{Marked, bytes_at, marked_of, body_of, hunk_of, lines_on, old_lines, new_lines}
+use Rattle.hunk_core.specs.PlainHunk.{Marked, bytes_at, marked_of, body_of, hunk_of, lines_on, old_lines, new_lines, PlainHunk}
 use Rattle.hunk_core.specs.Turned.{swapped_mark, swapped_line, other_side, turned}
 use Rattle.hunk_core.specs.LineTests.{ends_line}
 use Rattle.hunk_core.specs.Rules.{lacks_inner_end}
@@ -81,3 +81,6 @@ pub lacks-behind : (ls : List (List ℕ)) → lacks_inner_end ls ≡ lacks_behin
 lacks-behind [] = refl
 lacks-behind (line ∷ []) = refl
 lacks-behind (line ∷ next ∷ more) = ap (λ b. not (ends_line line) || b) (lacks-behind (next ∷ more))
+
+abbrev pub hunk_is : ℕ → ℕ → List Marked → PlainHunk
+hunk_is a m body = record { old_start = a; new_start = m; body = body }

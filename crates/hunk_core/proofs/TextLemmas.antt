@@ -3,8 +3,9 @@ use Rattle.std.proofs.Common.{◌≡◌, ◌↔◌, ℕ, suc, ◌+◌, ◌-◌, 
 use Rattle.std.specs.Prelude.{MatchOption, is_some}
 use Rattle.std.specs.Borrow.{Bor}
 use Rattle.std.proofs.lemmas.Bool.{eqb-true}
-use Rattle.std.proofs.lemmas.List.{length-take, length-drop, take-take}
+use Rattle.std.proofs.lemmas.List.{length-take, length-drop, take-take, drop_more}
 use lib.Pointwise.{pointwise}
+use Rattle.hunk_core.proofs.ReadSteps.{some_is}
 use Rattle.hunk_core.specs.Reading.{Reads}
 use Rattle.hunk_core.specs.LineTests.{after, is_backslash, ends_line}
 
@@ -33,9 +34,6 @@ after-none (p ∷ prefix) (b ∷ bytes) h =
 pub strips : (prefix bytes : List ℕ) (r : Option (Bor (List ℕ))) → MatchOption r (pointwise eqb (take (length prefix) bytes) prefix ≡ false) (λ x. (pointwise eqb (take (length prefix) bytes) prefix ≡ true) × (x.now ≡ drop (length prefix) bytes) × (length x.now + length prefix ≡ length bytes)) → Reads (λ x. x.now) r (after prefix bytes)
 strips prefix bytes None h = after-none prefix bytes h
 strips prefix bytes (Some x) h = rw h.1 (after-some prefix bytes h.0)
-
-some_is : {A : Type 0} (x y : A) (o : Option A) → o ≡ Some x → o ≡ Some y → x ≡ y
-some_is x y o e f = cc
 
 pub after-takes : (prefix bytes rest : List ℕ) → after prefix bytes ≡ Some rest → bytes ≡ prefix ++ rest
 unfolding after
@@ -100,3 +98,15 @@ pub slice-none : (text : List ℕ) (at end : ℕ) → at ≡ end → slice_range
 slice-none text at end e =
     let width : end - at ≡ 0 = omega (arith, e) in
     rw width refl
+
+pub slice-first : (text : List ℕ) (at end : ℕ) → at < end → end ≤ length text → slice_range text at end ≡ get_or text at 0 ∷ slice_range text (at + 1) end
+slice-first text at end lt le =
+    let here : drop at text ≡ get_or text at 0 ∷ drop (at + 1) text = drop_more text at 0 (omega arith) in
+    let width : end - at ≡ suc (end - (at + 1)) = omega arith in
+    rw (width, here) refl
+
+pub slice-length : (text : List ℕ) (at end : ℕ) → end ≤ length text → length (slice_range text at end) ≡ end - at
+slice-length text at end le = omega (arith, length-take (end - at) (drop at text), length-drop at text)
+
+pub some-not : (n : ℕ) → eqb (suc n) 0 ≡ false
+some-not n = grind arith

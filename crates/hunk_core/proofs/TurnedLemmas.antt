@@ -14,17 +14,17 @@ use Rattle.hunk_core.specs.PlainHunk.{Marked, PlainHunk, hunk_of, body_of, marke
 use Rattle.hunk_core.specs.Turned.{swapped_mark, swapped_line, taken_line, other_side, is_keep, turned, leading, trailing, base}
 use Rattle.hunk_core.proofs.SideLemmas.{turned-lines, turned-others, lines-counted}
 
-prefix_len-map : {A B : Type 0} (p : B → Bool) (f : A → B) (q : A → Bool) → ((x : A) → p (f x) ≡ q x) → (xs : List A) → prefix_len p (map f xs) ≡ prefix_len q xs
+pub prefix_len-map : {A B : Type 0} (p : B → Bool) (f : A → B) (q : A → Bool) → ((x : A) → p (f x) ≡ q x) → (xs : List A) → prefix_len p (map f xs) ≡ prefix_len q xs
 prefix_len-map p f q same [] = refl
 prefix_len-map p f q same (x ∷ xs) = let again : prefix_len p (map f xs) ≡ prefix_len q xs = prefix_len-map p f q same xs in rw (same x, again) refl
 
-reverse-map : {A B : Type 0} (f : A → B) (xs : List A) → reverse (map f xs) ≡ map f (reverse xs)
+pub reverse-map : {A B : Type 0} (f : A → B) (xs : List A) → reverse (map f xs) ≡ map f (reverse xs)
 reverse-map f [] = refl
 reverse-map f (x ∷ xs) =
     reverse-append (f x ∷ []) (map f xs) ∙ ap (λ ys. ys ++ (f x ∷ [])) (reverse-map f xs)
     ∙ sym (ap (map f) (reverse-append (x ∷ []) xs) ∙ map-append f (reverse xs) (x ∷ []))
 
-keep-swapped : (m : Mark) → is_keep (swapped_mark m) ≡ is_keep m
+pub keep-swapped : (m : Mark) → is_keep (swapped_mark m) ≡ is_keep m
 keep-swapped Keep = refl
 keep-swapped Drop = refl
 keep-swapped Add = refl
@@ -32,13 +32,13 @@ keep-swapped Add = refl
 abbrev is_kept : Marked → Bool
 is_kept m = is_keep m.mark
 
-abbrev is_kept_line : HunkLine → Bool
+abbrev pub is_kept_line : HunkLine → Bool
 is_kept_line l = is_keep l.mark
 
-kept : (text : List ℕ) (ls : List HunkLine) → prefix_len is_kept (body_of text ls) ≡ prefix_len is_kept_line ls
+pub kept : (text : List ℕ) (ls : List HunkLine) → prefix_len is_kept (body_of text ls) ≡ prefix_len is_kept_line ls
 kept text ls = prefix_len-map is_kept (marked_of text) is_kept_line (λ l. refl) ls
 
-kept-swapped : (body : List Marked) → prefix_len is_kept (map swapped_line body) ≡ prefix_len is_kept body
+pub kept-swapped : (body : List Marked) → prefix_len is_kept (map swapped_line body) ≡ prefix_len is_kept body
 kept-swapped body = prefix_len-map is_kept swapped_line is_kept (λ m. keep-swapped m.mark) body
 
 pub turned-leading : (text : List ℕ) (side : Side) (h : Hunk) → leading (turned side (hunk_of text h)).body ≡ prefix_len (λ l. is_keep l.mark) h.body.items
@@ -78,3 +78,8 @@ swapped-body (m ∷ body) = ap (λ ms. swapped_line m ∷ ms) (swapped-body body
 pub turned-body : (side : Side) (h : PlainHunk) → (turned side h).body ≡ map (taken_line side) h.body
 turned-body Forward h = same-body h.body
 turned-body Reversed h = swapped-body h.body
+
+pub mark-twice : (m : Mark) → swapped_mark (swapped_mark m) ≡ m
+mark-twice Keep = refl
+mark-twice Drop = refl
+mark-twice Add = refl

@@ -6,3 +6,6 @@ pub mod LineTests
 pub mod Rules
 pub mod Pieces
 pub mod Writing
+pub mod FirstFault
+pub mod OptionSteps
+pub mod Refusals

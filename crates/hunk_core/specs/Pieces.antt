@@ -39,3 +39,8 @@ pub record AreSound (text : List ℕ) (h : Hunks) : Type 0 where
   pub few : sum_by (λ x. length x.body.items) h.items.items < 2 ^ 32
   pub lawful : All (IsLawful text) h.items.items
   pub unbroken : All (λ x. first_broken (hunk_of text x) ≡ None) h.items.items
+
+-- the start of the last hunk, or what stood before the first
+abbrev pub last_start : ℕ → List PlainHunk → ℕ
+last_start least [] = least
+last_start least (h ∷ hs) = last_start h.old_start hs

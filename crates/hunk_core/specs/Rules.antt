@@ -41,3 +41,7 @@ pub record IsSameHunk (a b : Hunk) : Type 0 where
   pub old_start : a.old_start ≡ b.old_start
   pub new_start : a.new_start ≡ b.new_start
   pub body : a.body.items ≡ b.body.items
+
+-- a start and its count come above the greatest number
+abbrev pub is_too_large : ℕ → ℕ → Bool
+is_too_large start count = nat_lt 4294967295 (start + count)

@@ -2,7 +2,7 @@
 use Rattle.std.proofs.Common.{◌≡◌, ◌≢◌, ℕ, zero, suc, ◌+◌, ◌-◌, ◌<◌, ◌≤◌, Bool, true, false, cond, ◌&&◌, eqb, List, [], ◌∷◌, length, get_or, drop, map, refl, sym, ap, subst, ◌∙◌, arith, inl, inr, count_by}
 use Rattle.std.specs.List.{list_all, range_with_len}
 use Rattle.std.proofs.lemmas.Bool.{cases_eq}
-use Rattle.std.proofs.lemmas.List.{at_drop_more, at_drop_all, get_or-drop, length-drop, drop_all, drop-drop}
+use Rattle.std.proofs.lemmas.List.{at_drop_more, at_drop_all, length-drop, drop_all}
 use Rattle.std.proofs.lemmas.List.Sums.{sum_by-cons}
 use Rattle.line_store.specs.Store.{line_at}
 use Rattle.hunk_core.specs.declared.Mark.{Mark}
@@ -15,6 +15,7 @@ use Rattle.line_list.specs.declared.Span.{Span}
 use Rattle.hunk_core.specs.Sides.{is_on_side, taken_count}
 use Rattle.hunk_core.specs.PlainHunk.{PlainHunk, hunk_of, body_of, old_lines, bytes_at}
 use Rattle.hunk_core.specs.Turned.{turned, swapped_line}
+use Rattle.line_list.proofs.Elements.{front-is}
 use Rattle.hunk_place.specs.Loose.{same_line}
 use Rattle.hunk_place.specs.Order.{from_to}
 use Rattle.hunk_place.specs.Placing.{fits}
@@ -62,21 +63,6 @@ side-take text side items at i l lt is on h =
     let step : side_lines text side (drop at items) ≡ side_lines text side (get_or items at l ∷ drop (at + 1) items) = at_drop_more (side_lines text side) items at l lt in
     let same : side_lines text side (l ∷ drop (at + 1) items) ≡ bytes_at text l.span ∷ side_lines text side (drop (at + 1) items) = side-cons text side l (drop (at + 1) items) ∙ rw on refl in
     sym h ∙ step ∙ ap (λ x. side_lines text side (x ∷ drop (at + 1) items)) (sym is) ∙ same
-
-pub front-rest : {X : Type 0} (xs ys : List X) (x : X) (i : ℕ) → drop i xs ≡ x ∷ ys → drop (i + 1) xs ≡ ys
-front-rest xs ys x i e = sym (drop-drop 1 i xs) ∙ ap (drop 1) e
-
-pub front-is : {X : Type 0} (xs ys : List X) (x d : X) (i : ℕ) → drop i xs ≡ x ∷ ys → get_or xs i d ≡ x
-front-is xs ys x d i e =
-    let a : get_or (drop i xs) 0 d ≡ get_or xs (i + 0) d = get_or-drop i xs 0 d in
-    let z : i + 0 ≡ i = omega arith in
-    ap (λ k. get_or xs k d) (sym z) ∙ sym a ∙ ap (λ l. get_or l 0 d) e
-
-pub front-within : {X : Type 0} (xs ys : List X) (x : X) (i : ℕ) → drop i xs ≡ x ∷ ys → i < length xs
-front-within xs ys x i e =
-    let a : length (drop i xs) ≡ length xs - i = length-drop i xs in
-    let b : length (drop i xs) ≡ suc (length ys) = ap length e in
-    omega arith
 
 all-true : (f : ℕ → Bool) (a n : ℕ) → ((k : ℕ) → a ≤ k → k < a + n → f k ≡ true) → list_all f (range_with_len a n) ≡ true
 all-true f a zero h = refl

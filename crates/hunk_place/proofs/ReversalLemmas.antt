@@ -2,8 +2,6 @@
 use Rattle.std.proofs.Common.{◌≡◌, ℕ, zero, suc, ◌+◌, ◌-◌, ◌<◌, ◌≤◌, Bool, true, false, not, ◌&&◌, eqb, List, [], ◌∷◌, length, map, refl, sym, ap, ◌∙◌, arith, Option, Some, None}
 use Rattle.std.proofs.lemmas.Bool.Decides.{nat_tests}
 use Rattle.std.specs.Prelude.{ℤ, pos, ◌==◌, nat_lt}
-use Rattle.hunk_core.specs.declared.Mark.{Mark}
-use Rattle.hunk_core.specs.declared.Mark.TheVariants.{Keep, Drop, Add}
 use Rattle.hunk_core.specs.declared.Side.{Side}
 use Rattle.hunk_core.specs.declared.Side.TheVariants.{Forward, Reversed}
 use Rattle.hunk_core.specs.declared.Hunk.{Hunk}
@@ -11,17 +9,13 @@ use Rattle.hunk_core.specs.declared.Verdict.{Verdict}
 use Rattle.hunk_core.specs.declared.Verdict.TheVariants.{Untried, Ignored, Nowhere, At}
 use Rattle.hunk_core.specs.Sides.{taken_count}
 use Rattle.hunk_core.specs.PlainHunk.{Marked, PlainHunk, hunk_of, old_lines}
-use Rattle.hunk_core.specs.Turned.{swapped_mark, swapped_line, swapped, other_side}
+use Rattle.hunk_core.specs.Turned.{swapped_line, swapped, other_side}
+use Rattle.hunk_core.proofs.TurnedLemmas.{mark-twice}
 use Rattle.hunk_place.specs.declared.Spot.{Spot}
 use Rattle.hunk_place.specs.Taken.{taken, taken_lines}
 use Rattle.hunk_place.specs.Verdicts.{verdict_of, spot, is_sooner, looks_reversed, verdict_sooner, is_without_fuzz, at_start}
 use Rattle.hunk_place.proofs.FitLemmas.{taken-length}
 use Rattle.hunk_place.proofs.TakenLemmas.{lines-are}
-
-mark-twice : (m : Mark) → swapped_mark (swapped_mark m) ≡ m
-mark-twice Keep = refl
-mark-twice Drop = refl
-mark-twice Add = refl
 
 lines-twice : (ms : List Marked) → map swapped_line (map swapped_line ms) ≡ ms
 lines-twice [] = refl

@@ -1,19 +1,16 @@
 -- The numbers of a hunk as it is taken from a side.
-use Rattle.std.proofs.Common.{◌≡◌, ℕ, ◌+◌, Bool, true, false, cond, eqb, List, [], ◌∷◌, ◌++◌, length, map, reverse, refl, sym, ap, ◌∙◌, arith}
+use Rattle.std.proofs.Common.{◌≡◌, ℕ, ◌+◌, Bool, true, false, cond, eqb, List, length, reverse, refl, sym, ap, ◌∙◌, arith}
 use Rattle.std.specs.Prelude.{ℤ, pos, negsuc, ◌+ℤ◌, ◌-ℤ◌, ◌≤ℤ◌, ◌==◌, if◌then◌else◌}
 use Rattle.std.proofs.Common.{to_z, of_z, w64, ◌≤◌, ◌^◌}
 use Rattle.std.proofs.lemmas.Int.{ints}
 use Rattle.std.specs.List.{prefix_len}
-use Rattle.std.proofs.lemmas.List.{reverse-append, map-append}
-use Rattle.hunk_core.specs.declared.Mark.{Mark}
-use Rattle.hunk_core.specs.declared.Mark.TheVariants.{Keep, Drop, Add}
 use Rattle.hunk_core.specs.declared.Side.{Side}
 use Rattle.hunk_core.specs.declared.Side.TheVariants.{Forward, Reversed}
-use Rattle.hunk_core.specs.declared.HunkLine.{HunkLine}
 use Rattle.hunk_core.specs.declared.Hunk.{Hunk}
 use Rattle.hunk_core.specs.Sides.{start_of, taken_count}
 use Rattle.hunk_core.specs.PlainHunk.{Marked, PlainHunk, body_of, marked_of, old_lines}
-use Rattle.hunk_core.specs.Turned.{swapped_mark, swapped_line, is_keep, leading, trailing, base}
+use Rattle.hunk_core.specs.Turned.{swapped_line, is_keep, leading, trailing, base}
+use Rattle.hunk_core.proofs.TurnedLemmas.{reverse-map, is_kept_line, kept, kept-swapped}
 use Rattle.hunk_place.specs.declared.PlaceState.{PlaceState}
 use Rattle.hunk_place.specs.declared.first.Numbers.{Numbers}
 use Rattle.hunk_place.specs.Taken.{taken, taken_lines}
@@ -21,32 +18,8 @@ use Rattle.hunk_place.specs.Placing.{Search, search_of}
 use Rattle.hunk_place.specs.Numbered.{search_with}
 use Rattle.hunk_place.proofs.FitLemmas.{taken-length}
 
-prefix_len-map : {A B : Type 0} (p : B → Bool) (f : A → B) (q : A → Bool) → ((x : A) → p (f x) ≡ q x) → (xs : List A) → prefix_len p (map f xs) ≡ prefix_len q xs
-prefix_len-map p f q same [] = refl
-prefix_len-map p f q same (x ∷ xs) = let again : prefix_len p (map f xs) ≡ prefix_len q xs = prefix_len-map p f q same xs in rw (same x, again) refl
-
-reverse-map : {A B : Type 0} (f : A → B) (xs : List A) → reverse (map f xs) ≡ map f (reverse xs)
-reverse-map f [] = refl
-reverse-map f (x ∷ xs) =
-    reverse-append (f x ∷ []) (map f xs) ∙ ap (λ ys. ys ++ (f x ∷ [])) (reverse-map f xs)
-    ∙ sym (ap (map f) (reverse-append (x ∷ []) xs) ∙ map-append f (reverse xs) (x ∷ []))
-
-keep-swapped : (m : Mark) → is_keep (swapped_mark m) ≡ is_keep m
-keep-swapped Keep = refl
-keep-swapped Drop = refl
-keep-swapped Add = refl
-
 abbrev is_kept : Marked → Bool
 is_kept m = is_keep m.mark
-
-abbrev is_kept_line : HunkLine → Bool
-is_kept_line l = is_keep l.mark
-
-kept : (text : List ℕ) (ls : List HunkLine) → prefix_len is_kept (body_of text ls) ≡ prefix_len is_kept_line ls
-kept text ls = prefix_len-map is_kept (marked_of text) is_kept_line (λ l. refl) ls
-
-kept-swapped : (body : List Marked) → prefix_len is_kept (map swapped_line body) ≡ prefix_len is_kept body
-kept-swapped body = prefix_len-map is_kept swapped_line is_kept (λ m. keep-swapped m.mark) body
 
 pub taken-leading : (text : List ℕ) (side : Side) (h : Hunk) → leading (taken text side h).body ≡ prefix_len is_kept_line h.body.items
 taken-leading text Forward h = kept text h.body.items

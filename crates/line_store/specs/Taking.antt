@@ -1,5 +1,5 @@
 -- What a plan does when it takes a file.
-use Rattle.std.specs.Prelude.{◌≡◌, ◌≢◌, ℕ, ◌-◌, ◌^◌, ◌<◌, ◌≤◌, List, [], length, true, is_some, nat_lt, nat_le, if◌then◌else◌, Option, Some, None, find}
+use Rattle.std.specs.Prelude.{Bool, ◌≡◌, ◌≢◌, ℕ, ◌-◌, ◌^◌, ◌<◌, ◌≤◌, List, [], length, true, is_some, nat_lt, nat_le, if◌then◌else◌, Option, Some, None, find}
 use Rattle.std.specs.List.{range_with_len}
 use Rattle.std.specs.Option.{option_map}
 use Rattle.line_list.specs.Lines.{lines}
@@ -13,6 +13,10 @@ use Rattle.line_store.specs.Store.{Seen, Rises, line_at}
 -- the size of a buffer
 abbrev pub IsSize : ℕ → Type 0
 IsSize size = (512 ≤ size) × (size ≤ 1048576)
+
+-- a line that is longer than a buffer of this size admits
+abbrev pub is_long : ℕ → List (List ℕ) → ℕ → Bool
+is_long size ls k = nat_lt (size - 4) (length (line_at ls k))
 
 -- the number of the first line that is longer than a buffer of this size admits
 unfoldable pub first_long : ℕ → List (List ℕ) → Option ℕ

@@ -1,67 +1,35 @@
 -- The canonical text of a hunk that breaks no rule is read as that hunk.
-use Rattle.std.proofs.Common.{◌≡◌, ◌≢◌, ◌⊎◌, ℕ, suc, ◌+◌, ◌-◌, ◌<◌, Bool, true, false, cond, not, eqb, ◌||◌, List, [], ◌∷◌, ◌++◌, length, take, map, Option, None, Some, Ok, refl, sym, ap, subst, ◌∙◌, arith, inl, inr}
+use Rattle.std.proofs.Common.{◌≡◌, ℕ, suc, ◌+◌, ◌<◌, Bool, true, false, cond, eqb, List, [], ◌∷◌, ◌++◌, length, map, None, Ok, refl, sym, ap, subst, ◌∙◌, arith}
 use Rattle.std.specs.Prelude.{filter}
 use Rattle.std.specs.List.{AllByRecursion}
-use Rattle.std.proofs.lemmas.Bool.{eqb-true, eqb-false, ltb-false}
-use Rattle.line_list.specs.Lines.{lines, IsLine}
+use Rattle.std.proofs.lemmas.Bool.{eqb-true}
+use Rattle.line_list.specs.Lines.{lines}
 use Rattle.hunk_core.specs.declared.Mark.{Mark}
 use Rattle.hunk_core.specs.declared.Mark.TheVariants as its
-use Rattle.hunk_core.specs.declared.Side.{Side}
 use Rattle.hunk_core.specs.declared.Side.TheVariants.{Forward, Reversed}
-use Rattle.hunk_core.specs.declared.check.BadHunk.{BadHunk}
-use Rattle.hunk_core.specs.declared.check.BadHunk.TheVariants as rules
 use Rattle.hunk_core.specs.Sides.{is_on_side}
-use Rattle.hunk_core.specs.PlainHunk.{Marked, PlainHunk, lines_on, old_lines, new_lines}
-use Rattle.hunk_core.specs.LineTests.{ends_line, after_backslash}
-use Rattle.hunk_core.specs.Rules.{starts_at_zero, runs_over, lacks_inner_end, first_broken, HasNoInnerFeed}
+use Rattle.hunk_core.specs.PlainHunk.{Marked, PlainHunk, old_lines, new_lines}
+use Rattle.hunk_core.specs.LineTests.{after_backslash}
+use Rattle.hunk_core.specs.Rules.{starts_at_zero, first_broken, HasNoInnerFeed}
 use Rattle.hunk_core.specs.Reading.{◌>>=◌, Ahead, ahead}
 use Rattle.hunk_core.proofs.ReadSteps.{bind_ok, ok_is}
+use Rattle.line_list.proofs.WholeLines.{LinesFit}
+use Rattle.hunk_core.proofs.RuleLemmas.{kept, fits-back}
+use Rattle.hunk_core.proofs.LineEnds.{clean-on, lines-fit}
 use Rattle.normal_form.specs.Hunks.{hunk_at, hunks_at}
 use Rattle.normal_form.specs.Grammar.{command_of, AreFair, SpellsHunk, IsPiece}
 use Rattle.normal_form.specs.Canonical.{action_for, canonical, in_order, SpellsFirst}
 use Rattle.normal_form.proofs.HunkLoops.{hunks_step}
 use Rattle.normal_form.proofs.Pieces.{hunk_again, hunk_opens, reading_again}
-use Rattle.normal_form.proofs.Canonical.{NoFeed, LinesFit, hunk_lines, body-spelled, Starts, command-spelled, text-lines}
+use Rattle.normal_form.proofs.Canonical.{hunk_lines, body-spelled, Starts, command-spelled, text-lines}
 
 -- ---- no rule is broken
-
-pass : (b : Bool) (x : BadHunk) (o : Option BadHunk) → cond b (Some x) o ≡ None → (b ≡ false) × (o ≡ None)
-pass true x o e = absurd cc
-pass false x o e = (refl, e)
-
-or_false : (x y : Bool) → (x || y) ≡ false → (x ≡ false) × (y ≡ false)
-or_false true y e = absurd cc
-or_false false y e = (refl, e)
-
-record Kept (h : PlainHunk) : Type 0 where
-  some : eqb (length h.body) 0 ≡ false
-  old_begins : starts_at_zero h.old_start (old_lines h.body) ≡ false
-  new_begins : starts_at_zero h.new_start (new_lines h.body) ≡ false
-  old_fits : runs_over h.old_start (old_lines h.body) ≡ false
-  new_fits : runs_over h.new_start (new_lines h.body) ≡ false
-  old_ends : lacks_inner_end (old_lines h.body) ≡ false
-  new_ends : lacks_inner_end (new_lines h.body) ≡ false
-
-kept : (h : PlainHunk) → first_broken h ≡ None → Kept h
-kept h e =
-    let a = pass (eqb (length h.body) 0) rules.NoLines _ e in
-    let b = pass (starts_at_zero h.old_start (old_lines h.body) || starts_at_zero h.new_start (new_lines h.body)) rules.Start _ a.1 in
-    let c = pass (runs_over h.old_start (old_lines h.body) || runs_over h.new_start (new_lines h.body)) rules.Sum _ b.1 in
-    let d = pass (lacks_inner_end (old_lines h.body) || lacks_inner_end (new_lines h.body)) rules.InnerEnd _ c.1 in
-    let begin = or_false _ _ b.0 in
-    let fits = or_false _ _ c.0 in
-    let ends = or_false _ _ d.0 in
-    record { some = a.0; old_begins = begin.0; new_begins = begin.1; old_fits = fits.0; new_fits = fits.1; old_ends = ends.0; new_ends = ends.1 }
-
 starts-back : (start : ℕ) (side : List (List ℕ)) → starts_at_zero start side ≡ false → Starts start side
 starts-back start side e none_before = by (eqb (length side) 0) refl
   where
     by : (b : Bool) → eqb (length side) 0 ≡ b → length side ≡ 0
     by true none = eqb-true (length side) 0 none
     by false none = absurd (let bad : starts_at_zero start side ≡ true = rw (none_before, none) refl in cc)
-
-fits-back : (start : ℕ) (side : List (List ℕ)) → runs_over start side ≡ false → start + length side < 4294967296
-fits-back start side e = omega (arith, ltb-false 4294967295 (start + length side) e)
 
 some-sides : (body : List Marked) → eqb (length body) 0 ≡ false → 0 < length (old_lines body) + length (new_lines body)
 some-sides [] e = absurd cc
@@ -73,52 +41,6 @@ some-sides (m ∷ body) e = by m.mark
     by its.Add = omega arith
 
 -- ---- lines that fit
-
-abbrev IsClean : List ℕ → Type 0
-IsClean line = AllByRecursion (λ b. b ≢ 10) (take (length line - 1) line)
-
-whole-line : (line : List ℕ) → IsClean line → ends_line line ≡ true → IsLine line
-whole-line [] h e = absurd cc
-whole-line (b ∷ []) h e = eqb-true b 10 e
-whole-line (b ∷ c ∷ bs) h e =
-    let n : length (b ∷ c ∷ bs) - 1 ≡ suc (length (c ∷ bs) - 1) = omega arith in
-    let h2 : NoFeed (take (suc (length (c ∷ bs) - 1)) (b ∷ c ∷ bs)) = subst (λ k. NoFeed (take k (b ∷ c ∷ bs))) n h in
-    (h2.0, whole-line (c ∷ bs) h2.1 e)
-
-open-line : (line : List ℕ) → IsClean line → ends_line line ≡ false → NoFeed line
-open-line [] h e = tt
-open-line (b ∷ []) h e = (eqb-false b 10 e, tt)
-open-line (b ∷ c ∷ bs) h e =
-    let n : length (b ∷ c ∷ bs) - 1 ≡ suc (length (c ∷ bs) - 1) = omega arith in
-    let h2 : NoFeed (take (suc (length (c ∷ bs) - 1)) (b ∷ c ∷ bs)) = subst (λ k. NoFeed (take k (b ∷ c ∷ bs))) n h in
-    (h2.0, open-line (c ∷ bs) h2.1 e)
-
-clean-on : (side : Side) (body : List Marked) → AllByRecursion HasNoInnerFeed body → AllByRecursion IsClean (lines_on side body)
-clean-on side [] h = tt
-clean-on side (m ∷ body) h = by (is_on_side side m.mark) (clean-on side body h.1)
-  where
-    by : (b : Bool) → AllByRecursion IsClean (lines_on side body) → AllByRecursion IsClean (map (λ (x : Marked). x.line) (cond b (m ∷ filter (λ x. is_on_side side x.mark) body) (filter (λ x. is_on_side side x.mark) body)))
-    by true more = (h.0, more)
-    by false more = more
-
-abbrev no_lines : List (List ℕ)
-no_lines = []
-
-lines-fit : (ls : List (List ℕ)) → AllByRecursion IsClean ls → lacks_inner_end ls ≡ false → LinesFit ls
-lines-fit [] clean ends = tt
-lines-fit (l ∷ []) clean ends = (by (ends_line l) refl, tt)
-  where
-    by : (b : Bool) → ends_line l ≡ b → IsLine l ⊎ (NoFeed l × (no_lines ≡ no_lines))
-    by true is = inl (whole-line l clean.0 is)
-    by false is = inr (open-line l clean.0 is, refl)
-lines-fit (l ∷ k ∷ ls) clean ends =
-    let e = or_false (not (ends_line l)) (lacks_inner_end (k ∷ ls)) ends in
-    (inl (whole-line l clean.0 (back (ends_line l) e.0)), lines-fit (k ∷ ls) clean.1 e.1)
-  where
-    back : (b : Bool) → not b ≡ false → b ≡ true
-    back true h = refl
-    back false h = absurd cc
-
 -- ---- whatever is spelled begins with the hunk
 
 begins-with : (h : PlainHunk) (own rest : List (List ℕ)) (number next : ℕ) (hs : List PlainHunk) (behind : List (List ℕ)) → SpellsHunk 0 own h → after_backslash rest ≡ None → IsPiece number (own ++ rest) hs next behind → (others : List PlainHunk) × (hs ≡ h ∷ others)

@@ -1,33 +1,29 @@
 -- The canonical text of a hunk spells it.
-use Rattle.std.proofs.Common.{◌≡◌, ◌≢◌, ◌⊎◌, ℕ, suc, ◌+◌, ◌-◌, ◌<◌, ◌≤◌, Bool, true, false, cond, eqb, ltb, List, [], ◌∷◌, ◌++◌, length, take, refl, sym, ap, subst, ◌∙◌, append_assoc, arith, inl, inr}
-use Rattle.std.specs.Prelude.{codes}
-use Rattle.std.specs.List.{AllByRecursion, flat_map}
+use Rattle.std.proofs.Common.{◌≡◌, ◌⊎◌, ℕ, suc, ◌+◌, ◌-◌, ◌<◌, ◌≤◌, Bool, true, false, cond, eqb, ltb, List, [], ◌∷◌, ◌++◌, length, refl, sym, ap, subst, ◌∙◌, append_assoc, arith, inl, inr}
+use Rattle.std.specs.List.{flat_map}
 use Rattle.std.proofs.lemmas.Bool.{eqb-true, eqb-false, ltb-true, ltb-false}
-use Rattle.std.proofs.lemmas.List.{take_at, length-append, append-nil}
+use Rattle.std.proofs.lemmas.List.{append-nil}
 use Rattle.std.proofs.lemmas.List.Concat.{flat_map-cons, flat_map-append}
 use Rattle.line_list.specs.Lines.{lines, IsLine}
-use Rattle.line_list.proofs.Pieces.{line-first}
-use Rattle.num_text.specs.Numbers.{decimal, is_digit, AllDigits}
+use Rattle.num_text.specs.Numbers.{decimal}
 use Rattle.num_text.proofs.Decimal.{decimal-numeral}
 use Rattle.hunk_core.specs.declared.Side.{Side}
 use Rattle.hunk_core.specs.declared.Side.TheVariants.{Forward, Reversed}
 use Rattle.hunk_core.specs.PlainHunk.{PlainHunk}
-use Rattle.hunk_core.specs.LineTests.{after, ends_line, is_backslash}
-use Rattle.hunk_core.proofs.ReadSteps.{chosen}
+use Rattle.hunk_core.specs.LineTests.{after, ends_line}
 use Rattle.diff_command.specs.declared.Action.{Action}
 use Rattle.diff_command.specs.declared.Action.TheVariants.{Add, Change, Delete}
+use Rattle.diff_command.specs.Spans.{span_text}
+use Rattle.hunk_core.specs.Writing.{no_newline}
+use Rattle.line_list.proofs.Pieces.{longer}
+use Rattle.line_list.proofs.WholeLines.{NoFeed, shorter, closes, line-prefix, LinesFit, AreLines, lines-both, lines-whole}
+use Rattle.hunk_core.proofs.LineEnds.{line-ends, no-end, clean, backslash, no-newline-line}
+use Rattle.hunk_core.proofs.TextLemmas.{some-not}
+use Rattle.diff_command.proofs.CommandLemmas.{letter-clean, span-clean}
 use Rattle.normal_form.specs.Stretches.{marks, is_divider}
 use Rattle.diff_command.specs.Letters.{letter}
 use Rattle.normal_form.specs.Grammar.{SpellsLine, SpellsStretch, SpellsBody, SpellsSpan, SpellsCommand, command_of}
-use Rattle.normal_form.specs.Canonical.{action_for, span_text, command_text, divider_text, no_newline, line_text, lines_text}
-
-abbrev pub NoFeed : List ℕ → Type 0
-NoFeed bs = AllByRecursion (λ b. b ≢ 10) bs
-
--- each line has its line feed, or is the last
-abbrev pub LinesFit : List (List ℕ) → Type 0
-LinesFit [] = Unit {0}
-LinesFit (l ∷ ls) = (IsLine l ⊎ (NoFeed l × (ls ≡ []))) × LinesFit ls
+use Rattle.normal_form.specs.Canonical.{action_for, command_text, divider_text, line_text, lines_text}
 
 -- ---- the lines of the text
 
@@ -49,25 +45,6 @@ body_lines action olds news = stretch_lines Forward olds ++ (divider_lines actio
 abbrev pub hunk_lines : ℕ → ℕ → List (List ℕ) → List (List ℕ) → List (List ℕ)
 hunk_lines a m olds news = command_text a (length olds) m (length news) ∷ body_lines (action_for (length olds) (length news)) olds news
 
-line-ends : (line : List ℕ) → IsLine line → ends_line line ≡ true
-line-ends [] h = absurd h
-line-ends (b ∷ []) h = grind arith
-line-ends (b ∷ c ∷ bytes) h = line-ends (c ∷ bytes) h.1
-
-no-end : (line : List ℕ) → NoFeed line → ends_line line ≡ false
-no-end [] h = refl
-no-end (b ∷ []) h = let ne = h.0 in grind arith
-no-end (b ∷ c ∷ bytes) h = no-end (c ∷ bytes) h.1
-
-backslash : is_backslash no_newline ≡ true
-unfolding after
-backslash = refl
-
-shorter : (line : List ℕ) → line ≡ take (length (line ++ 10 ∷ []) - 1) (line ++ 10 ∷ [])
-shorter line =
-    let len : length (line ++ 10 ∷ []) - 1 ≡ length line = omega (arith, length-append line (10 ∷ [])) in
-    sym (ap (λ n. take n (line ++ 10 ∷ [])) len ∙ take_at line (10 ∷ []) (length line) refl)
-
 abbrev lines_by : Bool → Side → List ℕ → List (List ℕ)
 lines_by b side l = cond b ((marks side ++ l) ∷ []) ((marks side ++ (l ++ 10 ∷ [])) ∷ no_newline ∷ [])
 
@@ -83,13 +60,10 @@ divides : is_divider (45 ∷ 45 ∷ 45 ∷ 10 ∷ []) ≡ true
 unfolding after
 divides = refl
 
-some-not : (n : ℕ) → eqb (suc n) 0 ≡ false
-some-not n = grind arith
-
-deletes : (m : ℕ) → action_for (suc m) 0 ≡ Delete
+pub deletes : (m : ℕ) → action_for (suc m) 0 ≡ Delete
 deletes m = rw (some-not m) refl
 
-changes : (m n : ℕ) → action_for (suc m) (suc n) ≡ Change
+pub changes : (m n : ℕ) → action_for (suc m) (suc n) ≡ Change
 changes m n = rw (some-not m, some-not n) refl
 
 abbrev spells_by : List (List ℕ) → List (List ℕ) → Action → Type 0
@@ -138,74 +112,12 @@ command-spelled h (o ∷ olds) [] some s t = subst (spelled_command h (o ∷ old
 command-spelled h (o ∷ olds) (n ∷ news) some s t = subst (spelled_command h (o ∷ olds) (n ∷ news)) (sym (changes (length olds) (length news))) (record { old = span_text h.old_start (length (o ∷ olds)); new = span_text h.new_start (length (n ∷ news)); rest = 10 ∷ []; parts = refl; ends = refl; old_span = lines-spelled h.old_start (length (o ∷ olds)) (omega arith) (begins h.old_start o olds s); new_span = lines-spelled h.new_start (length (n ∷ news)) (omega arith) (begins h.new_start n news t) })
 
 -- ---- the bytes are these lines
-
-no-feed : (ds : List ℕ) → AllDigits ds → NoFeed ds
-no-feed [] h = tt
-no-feed (d ∷ ds) h = (not_feed d h.0, no-feed ds h.1)
-  where
-    not_feed : (b : ℕ) → is_digit b ≡ true → b ≢ 10
-    not_feed b is e = let ten : is_digit 10 ≡ true = subst (λ (x : ℕ). is_digit x ≡ true) e is in cc
-
-both : (xs ys : List ℕ) → NoFeed xs → NoFeed ys → NoFeed (xs ++ ys)
-both [] ys h k = k
-both (x ∷ xs) ys h k = (h.0, both xs ys h.1 k)
-
-closes : (bs : List ℕ) → NoFeed bs → IsLine (bs ++ 10 ∷ [])
-closes [] h = refl
-closes (b ∷ []) h = (h.0, refl)
-closes (b ∷ c ∷ bs) h = (h.0, closes (c ∷ bs) h.1)
-
-longer : (b : ℕ) (line : List ℕ) → b ≢ 10 → IsLine line → IsLine (b ∷ line)
-longer b [] ne h = absurd h
-longer b (c ∷ bs) ne h = (ne, h)
-
-line-prefix : (xs ys : List ℕ) → NoFeed xs → IsLine ys → IsLine (xs ++ ys)
-line-prefix [] ys h k = k
-line-prefix (x ∷ xs) ys h k = longer x (xs ++ ys) h.0 (line-prefix xs ys h.1 k)
-
-abbrev is_clean : List ℕ → Bool
-is_clean [] = true
-is_clean (b ∷ bs) = cond (eqb b 10) false (is_clean bs)
-
-clean : (bs : List ℕ) → is_clean bs ≡ true → NoFeed bs
-clean [] e = tt
-clean (b ∷ bs) e =
-    elim (chosen (eqb b 10) false (is_clean bs) true e) [
-      | inl feed ↦ absurd cc
-      | inr other ↦ (eqb-false b 10 other.0, clean bs other.1)
-    ]
-
-span-clean : (start count : ℕ) → NoFeed (span_text start count)
-span-clean start count = by (ltb 1 count)
-  where
-    digits : (n : ℕ) → NoFeed (decimal n)
-    digits n = no-feed (decimal n) (decimal-numeral n).digits
-
-    by : (b : Bool) → NoFeed (cond b (decimal start ++ 44 ∷ decimal (start + count - 1)) (decimal start))
-    by true = both (decimal start) (44 ∷ decimal (start + count - 1)) (digits start) ((λ e. cc), digits (start + count - 1))
-    by false = digits start
-
-letter-clean : (action : Action) → letter action ≢ 10
-letter-clean Add = λ e. cc
-letter-clean Change = λ e. cc
-letter-clean Delete = λ e. cc
-
 command-line : (a b m n : ℕ) → IsLine (command_text a b m n)
 command-line a b m n = line-prefix (span_text a b) _ (span-clean a b) (longer (letter (action_for b n)) _ (letter-clean (action_for b n)) (line-prefix (span_text m n) (10 ∷ []) (span-clean m n) refl))
-
-no-newline-line : IsLine no_newline
-no-newline-line = line-prefix (92 ∷ 32 ∷ codes "No newline at end of file") (10 ∷ []) (clean (92 ∷ 32 ∷ codes "No newline at end of file") refl) refl
 
 marks-clean : (side : Side) → NoFeed (marks side)
 marks-clean Forward = clean (marks Forward) refl
 marks-clean Reversed = clean (marks Reversed) refl
-
-abbrev AreLines : List (List ℕ) → Type 0
-AreLines ls = AllByRecursion IsLine ls
-
-lines-both : (xs ys : List (List ℕ)) → AreLines xs → AreLines ys → AreLines (xs ++ ys)
-lines-both [] ys h k = k
-lines-both (x ∷ xs) ys h k = (h.0, lines-both xs ys h.1 k)
 
 line-whole : (side : Side) (l : List ℕ) (ls : List (List ℕ)) → IsLine l ⊎ (NoFeed l × (ls ≡ [])) → AreLines (line_lines side l)
 line-whole side l ls (inl h) = subst (λ (b : Bool). AreLines (lines_by b side l)) (sym (line-ends l h)) (line-prefix (marks side) l (marks-clean side) h, tt)
@@ -219,14 +131,6 @@ divider-whole : (action : Action) → AreLines (divider_lines action)
 divider-whole Add = tt
 divider-whole Change = (line-prefix (45 ∷ 45 ∷ 45 ∷ []) (10 ∷ []) (clean (45 ∷ 45 ∷ 45 ∷ []) refl) refl, tt)
 divider-whole Delete = tt
-
-lines-whole : (ls : List (List ℕ)) (rest : List ℕ) → AreLines ls → lines (flat_map (λ line. line) ls ++ rest) ≡ ls ++ lines rest
-lines-whole [] rest h = refl
-lines-whole (line ∷ ls) rest h =
-    ap (λ bs. lines (bs ++ rest)) (flat_map-cons (λ line. line) line ls)
-    ∙ ap lines (append_assoc line (flat_map (λ line. line) ls) rest)
-    ∙ line-first line (flat_map (λ line. line) ls ++ rest) h.0
-    ∙ ap (λ more. line ∷ more) (lines-whole ls rest h.1)
 
 line-joined : (side : Side) (l : List ℕ) → flat_map (λ line. line) (line_lines side l) ≡ line_text side l
 line-joined side l = by (ends_line l)

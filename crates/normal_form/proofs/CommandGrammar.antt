@@ -1,7 +1,6 @@
 -- A command that is read is spelled so, and one that is spelled so is read.
-use Rattle.std.proofs.Common.{◌≡◌, ℕ, ◌+◌, ◌^◌, ◌<◌, Bool, true, false, not, cond, eqb, ltb, ◌||◌, List, [], ◌∷◌, ◌++◌, Option, None, Some, Result, Ok, Err, refl, sym, ap, subst, ◌∙◌, arith, inl, inr}
-use Rattle.std.proofs.lemmas.Bool.{eqb-true, eqb-false, ltb-false, le-ltb, ne_eqb}
-use Rattle.hunk_core.specs.declared.BadKind.{BadKind}
+use Rattle.std.proofs.Common.{◌≡◌, ℕ, ◌+◌, ◌^◌, ◌<◌, Bool, true, false, not, eqb, ltb, ◌||◌, List, [], ◌∷◌, ◌++◌, Option, None, Some, Ok, refl, sym, ap, subst, ◌∙◌, arith, inl, inr}
+use Rattle.std.proofs.lemmas.Bool.{eqb-true, eqb-false, ltb-false, le-ltb, ne_eqb, or_parts}
 use Rattle.hunk_core.specs.declared.BadKind.TheVariants as kinds
 use Rattle.hunk_core.specs.declared.Side.TheVariants.{Forward, Reversed}
 use Rattle.hunk_core.proofs.ReadSteps.{chosen, some_is}
@@ -9,59 +8,19 @@ use Rattle.num_text.specs.declared.range.NumberRange.{NumberRange}
 use Rattle.num_text.specs.NumberRanges.{range_at, SpellsRange}
 use Rattle.num_text.proofs.RangeGrammar.{range-takes, StopsRange, ranged, range-again, stops-nil, range-single}
 use Rattle.diff_command.specs.declared.Action.{Action}
-use Rattle.diff_command.specs.declared.Action.TheVariants.{Add, Change, Delete}
+use Rattle.hunk_core.specs.Rules.{is_too_large}
+use Rattle.hunk_core.proofs.OptionLemmas.{some_step}
+use Rattle.hunk_core.proofs.FaultSteps.{pass}
+use Rattle.diff_command.proofs.CommandLemmas.{action-takes, action-again, stops-letter}
 use Rattle.normal_form.specs.declared.command.Parts.{Parts}
 use Rattle.normal_form.specs.declared.command.Command.{Command}
-use Rattle.diff_command.specs.Letters.{◌>>=◌, action_at, is_line_end}
-use Rattle.normal_form.specs.Commands.{whole, parts_at, takes_lines, is_bad_range, size, command, is_too_large, placed, checked, from_parts, opening}
+use Rattle.diff_command.specs.Letters.{action_at, is_line_end}
+use Rattle.normal_form.specs.Commands.{whole, parts_at, takes_lines, is_bad_range, size, command, placed, checked, from_parts, opening}
 use Rattle.diff_command.specs.Letters.{letter}
 use Rattle.normal_form.specs.Grammar.{SpellsSpan, SpellsCommand, AreFair}
 
 -- ---- steps
-
-pub some_step : {A B : Type 0} (r : Option A) (f : A → Option B) (y : B) → (r >>= f) ≡ Some y → (x : A) × (r ≡ Some x) × (f x ≡ Some y)
-some_step (Some x) f y e = (x, refl, e)
-some_step None f y e = absurd cc
-
-or_false : (x y : Bool) → (x || y) ≡ false → (x ≡ false) × (y ≡ false)
-or_false true y e = absurd cc
-or_false false y e = (refl, e)
-
-pass : {A : Type 0} (b : Bool) (d : BadKind) (x : Result A BadKind) (q : A) → cond b (Err d) x ≡ Ok q → (b ≡ false) × (x ≡ Ok q)
-pass true d x q e = absurd cc
-pass false d x q e = (refl, e)
-
 -- ---- the letter
-
-pub action-takes : (bytes : List ℕ) (x : Action × List ℕ) → action_at bytes ≡ Some x → bytes ≡ letter x.0 ∷ x.1
-unfolding action_at
-action-takes [] x e = absurd cc
-action-takes (b ∷ bytes) x e =
-    elim (chosen (eqb b 97) _ _ (Some x) e) [
-      | inl one ↦ is b 97 (Add, bytes) (eqb-true b 97 one.0) one.1 refl
-      | inr e1 ↦ elim (chosen (eqb b 99) _ _ (Some x) e1.1) [
-        | inl two ↦ is b 99 (Change, bytes) (eqb-true b 99 two.0) two.1 refl
-        | inr e2 ↦ elim (chosen (eqb b 100) _ _ (Some x) e2.1) [
-          | inl three ↦ is b 100 (Delete, bytes) (eqb-true b 100 three.0) three.1 refl
-          | inr other ↦ absurd cc
-        ]
-      ]
-    ]
-  where
-    is : (c n : ℕ) (y : Action × List ℕ) → c ≡ n → Some y ≡ Some x → n ∷ y.1 ≡ letter y.0 ∷ y.1 → c ∷ y.1 ≡ letter x.0 ∷ x.1
-    is c n y same h l = let found : y ≡ x = some_is y x (Some y) refl h in ap (λ k. k ∷ y.1) same ∙ l ∙ ap (λ (z : Action × List ℕ). letter z.0 ∷ z.1) found
-
-pub action-again : (action : Action) (rest : List ℕ) → action_at (letter action ∷ rest) ≡ Some (action, rest)
-unfolding action_at
-action-again Add rest = refl
-action-again Change rest = refl
-action-again Delete rest = refl
-
-pub stops-letter : (action : Action) (rest : List ℕ) → StopsRange (letter action ∷ rest)
-stops-letter Add rest = record { digit = refl; comma = λ n. refl }
-stops-letter Change rest = record { digit = refl; comma = λ n. refl }
-stops-letter Delete rest = record { digit = refl; comma = λ n. refl }
-
 pub stops-end : (rest : List ℕ) → is_line_end rest ≡ true → StopsRange rest
 stops-end [] e = stops-nil
 stops-end (b ∷ []) e = let ten : b ≡ 10 = eqb-true b 10 e in subst (λ k. StopsRange (k ∷ [])) (sym ten) (record { digit = refl; comma = λ n. refl })
@@ -138,7 +97,7 @@ parts-again line old new rest action s t a b m n parts ends old_range new_range 
 
 range-small : (r : NumberRange) (lines : Bool) → is_bad_range r lines ≡ false → (text : List ℕ) → SpellsRange text r.is_single r.first r.last → r.is_turned ≡ ltb r.last r.first → SpellsSpan text lines r.first (size r lines)
 range-small r true e text spelled turned =
-    let g = or_false r.is_turned (eqb r.first 0) e in
+    let g = or_parts r.is_turned (eqb r.first 0) e in
     let le = ltb-false r.last r.first (sym turned ∙ g.0) in
     let ne = eqb-false r.first 0 g.1 in
     (r.is_single, r.last, spelled, omega arith, omega (arith, le), omega (arith, le))
@@ -187,8 +146,8 @@ checked-passes least p c e =
     let p2 = pass (is_too_large q.old_start q.old_count || is_too_large q.new_start q.new_count) kinds.NumberTooLarge _ c p1.1 in
     let p3 = pass (ltb q.old_start least) kinds.HunkOrder (Ok q) c p2.1 in
     let same : q ≡ c = cc in
-    let bad = or_false (is_bad_range p.old (takes_lines p.action Forward)) (is_bad_range p.new (takes_lines p.action Reversed)) p1.0 in
-    let big = or_false (is_too_large q.old_start q.old_count) (is_too_large q.new_start q.new_count) p2.0 in
+    let bad = or_parts (is_bad_range p.old (takes_lines p.action Forward)) (is_bad_range p.new (takes_lines p.action Reversed)) p1.0 in
+    let big = or_parts (is_too_large q.old_start q.old_count) (is_too_large q.new_start q.new_count) p2.0 in
     record { old = bad.0; new = bad.1; same = same; fair = subst (AreFair least) same (record { fits = record { old = large q.old_start q.old_count big.0; new = large q.new_start q.new_count big.1 }; order = ltb-false q.old_start least p3.0 }) }
 
 last-small : (r : NumberRange) (lines : Bool) → is_bad_range r lines ≡ false → (r.is_single ≡ true → r.last ≡ r.first) → r.first + size r lines < 2 ^ 32 → (r.first < 2 ^ 32) × (r.last < 2 ^ 32)

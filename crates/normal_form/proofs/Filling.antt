@@ -1,8 +1,6 @@
 -- The lines in front of a fault, filled up to the lines of a hunk.
-use Rattle.std.proofs.Common.{◌≡◌, ℕ, zero, suc, ◌+◌, ◌-◌, ◌≤◌, Bool, true, false, cond, eqb, List, [], ◌∷◌, ◌++◌, length, take, Option, None, Some, Result, Ok, Err, refl, sym, ap, subst, ◌∙◌, append_assoc, arith, inl, inr, ◌≢◌, ◌<◌}
+use Rattle.std.proofs.Common.{◌≡◌, ℕ, zero, suc, ◌+◌, ◌-◌, ◌≤◌, Bool, true, false, cond, eqb, List, [], ◌∷◌, ◌++◌, length, take, Option, None, Some, Result, Ok, Err, refl, sym, ap, subst, ◌∙◌, append_assoc, arith, inl, inr, ◌<◌}
 use Rattle.std.specs.List.{AllByRecursion}
-use Rattle.std.proofs.lemmas.List.{length-append}
-use Rattle.std.proofs.Math.Seq.{take-append-add}
 use Rattle.line_list.specs.Lines.{IsLine}
 use Rattle.hunk_core.specs.declared.BadKind.{BadKind}
 use Rattle.hunk_core.specs.declared.BadKind.TheVariants as kinds
@@ -15,50 +13,25 @@ use Rattle.hunk_core.proofs.ReadSteps.{ok_is}
 use Rattle.hunk_core.proofs.TextLemmas.{after-takes}
 use Rattle.diff_command.specs.declared.Action.{Action}
 use Rattle.diff_command.specs.declared.Action.TheVariants.{Add, Change, Delete}
+use Rattle.hunk_core.specs.Refusals.{unmarked}
+use Rattle.hunk_core.proofs.FaultSteps.{failed, bind_err, err_is}
+use Rattle.hunk_core.proofs.Filling.{IsInside, none_in_front, front_with, first_inside, past_inside, none_inside}
 use Rattle.normal_form.specs.declared.command.Command.{Command}
-use Rattle.normal_form.specs.Stretches.{marks, unmarked, marked_at, ended_by, first_line, line_at, stretch_at, is_divider, first_divider, divider_at}
+use Rattle.normal_form.specs.Stretches.{marks, marked_at, ended_by, first_line, line_at, stretch_at, is_divider, first_divider, divider_at}
 use Rattle.normal_form.specs.Hunks.{body_at}
 use Rattle.normal_form.specs.Grammar.{SpellsStretch, SpellsBody}
 use Rattle.normal_form.proofs.Stretches.{marked-ok, TakesLine, line_takes, TakesStretch, stretch_takes, none-left}
 use Rattle.normal_form.proofs.Pieces.{CountsNone, no-lines, empty-piece, divider_takes}
-use Rattle.normal_form.proofs.Steady.{failed, bind_err}
-use Rattle.normal_form.proofs.FirstFault.{err_fault, marked-here, steady-stretch}
+use Rattle.normal_form.proofs.FirstFault.{marked-here, steady-stretch}
 
 pub fault_at : {A : Type 0} (number : ℕ) (kind : BadKind) (e : Fault) → failed {A = A} (fault number kind) ≡ failed e → e.line ≡ number
-fault_at {A = A} number kind e h = sym (ap (λ (x : Fault). x.line) (err_fault {A = A} (fault number kind) e h))
+fault_at {A = A} number kind e h = sym (ap (λ (x : Fault). x.line) (err_is {A = A} (fault number kind) e h))
 
 -- ---- the lines in front
-
-pub none_in_front : (at number : ℕ) (lines : List (List ℕ)) → at ≡ number → take (at - number) lines ≡ []
-none_in_front at number lines e = let none : at - number ≡ 0 = omega (arith, e) in rw none refl
-
--- lines that were taken stand in front of a fault that comes behind them
-front_past : (at number next : ℕ) (lines own rest : List (List ℕ)) → lines ≡ own ++ rest → next ≡ number + length own → next ≤ at → take (at - number) lines ≡ own ++ take (at - next) rest
-front_past at number next lines own rest parts count le =
-    let k : at - number ≡ length own + (at - next) = omega (arith, count, le) in
-    rw (parts, k) (take-append-add own rest (at - next))
-
-pub front_with : (at number next : ℕ) (lines own rest others : List (List ℕ)) → lines ≡ own ++ rest → next ≡ number + length own → next ≤ at → take (at - number) lines ++ others ≡ own ++ (take (at - next) rest ++ others)
-front_with at number next lines own rest others parts count le =
-    ap (λ (ls : List (List ℕ)). ls ++ others) (front_past at number next lines own rest parts count le) ∙ append_assoc own (take (at - next) rest) others
-
 -- and a fault directly behind them
 pub front_to : (at number next : ℕ) (lines own rest others : List (List ℕ)) → lines ≡ own ++ rest → next ≡ number + length own → at ≡ next → take (at - number) lines ++ others ≡ own ++ others
 front_to at number next lines own rest others parts count here =
     front_with at number next lines own rest others parts count (omega (arith, here)) ∙ ap (λ (ls : List (List ℕ)). own ++ (ls ++ others)) (none_in_front at next rest here)
-
--- a fault lies in one of the lines, unless the text ends too early
-abbrev pub IsInside : Ahead → Fault → Type 0
-IsInside p e = e.kind ≢ kinds.ShortEnd → e.line < p.number + length p.rest
-
-pub none_inside : {A : Type 0} (number : ℕ) (e : Fault) → failed {A = A} (fault number kinds.ShortEnd) ≡ failed e → IsInside (ahead number []) e
-none_inside {A = A} number e h long = absurd (long (sym (ap (λ (x : Fault). x.kind) (err_fault {A = A} (fault number kinds.ShortEnd) e h))))
-
-pub first_inside : (number : ℕ) (line : List ℕ) (rest : List (List ℕ)) (e : Fault) → e.line ≡ number → IsInside (ahead number (line ∷ rest)) e
-first_inside number line rest e here long = omega (arith, here)
-
-pub past_inside : (p q : Ahead) (e : Fault) (own : List (List ℕ)) → p.rest ≡ own ++ q.rest → q.number ≡ p.number + length own → IsInside q e → IsInside p e
-past_inside p q e own parts number more long = omega (arith, more long, number, ap length parts, length-append own q.rest)
 
 pub some_loud : (rest more : List (List ℕ)) → after_backslash rest ≡ Some more → 0 < length rest
 some_loud [] more e = absurd cc

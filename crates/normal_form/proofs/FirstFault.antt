@@ -1,54 +1,43 @@
 -- A fault stays whatever lines come after the one behind its own.
-use Rattle.std.proofs.Common.{◌≡◌, ◌≢◌, ◌⊎◌, inl, inr, ℕ, zero, suc, ◌+◌, ◌-◌, ◌≤◌, ◌<◌, Bool, true, false, cond, eqb, ltb, ◌&&◌, ◌||◌, List, [], ◌∷◌, ◌++◌, length, Option, None, Some, Result, Ok, Err, refl, sym, ap, subst, ◌∙◌, arith}
+use Rattle.std.proofs.Common.{◌≡◌, ◌≢◌, inl, inr, ℕ, zero, suc, ◌+◌, ◌-◌, ◌≤◌, ◌<◌, Bool, true, false, cond, eqb, ltb, ◌||◌, List, [], ◌∷◌, ◌++◌, length, Option, None, Some, Result, Ok, Err, refl, sym, ap, subst, ◌∙◌, arith}
 use Rattle.std.specs.Prelude.{is_some}
-use Rattle.std.proofs.lemmas.Bool.{cases_lt}
+use Rattle.std.proofs.lemmas.Bool.{cases_lt, and_parts}
 use Rattle.std.proofs.lemmas.List.{length-append}
 use Rattle.hunk_core.specs.declared.BadKind.{BadKind}
 use Rattle.hunk_core.specs.declared.BadKind.TheVariants as kinds
 use Rattle.hunk_core.specs.declared.Side.{Side}
 use Rattle.hunk_core.specs.declared.Side.TheVariants.{Forward, Reversed}
 use Rattle.hunk_core.specs.PlainHunk.{Marked, PlainHunk}
-use Rattle.hunk_core.specs.LineTests.{after, unended, is_backslash, after_backslash}
+use Rattle.hunk_core.specs.LineTests.{after, unended, after_backslash}
 use Rattle.hunk_core.specs.Reading.{◌>>=◌, Fault, fault, Ahead, ahead}
 use Rattle.hunk_core.proofs.ReadSteps.{bind_ok, chosen, ok_is}
-use Rattle.normal_form.specs.FirstFault.{AgreeTo, CanGoOn}
+use Rattle.hunk_core.specs.FirstFault.{AgreeTo}
+use Rattle.hunk_core.specs.Rules.{is_too_large}
+use Rattle.hunk_core.specs.Refusals.{unmarked, settled}
+use Rattle.hunk_core.proofs.FaultSteps.{failed, bind_err, with_rest, err_is, put_first, add_err, assoc, short_or, here-is, unmarked-kind}
+use Rattle.hunk_core.proofs.Agreeing.{agree_head, agree_less, agree_front}
+use Rattle.hunk_core.proofs.Steady.{one_line, FailsHere, peek_by}
+use Rattle.normal_form.specs.FirstFault.{CanGoOn}
 use Rattle.diff_command.specs.declared.Action.{Action}
 use Rattle.diff_command.specs.declared.Action.TheVariants.{Add, Change, Delete}
 use Rattle.normal_form.specs.declared.command.Command.{Command}
 use Rattle.normal_form.specs.declared.command.Parts.{Parts}
-use Rattle.normal_form.specs.Commands.{takes_lines, is_bad_range, is_too_large, command, placed, from_parts, parts_at, opening, is_command}
-use Rattle.normal_form.specs.Stretches.{marks, unmarked, must_be_marked, marked_at, ended_by, first_line, line_at, stretch_at, is_divider, first_divider, divider_at}
-use Rattle.normal_form.specs.Hunks.{at_line, body_at, change, settled, first_hunk, hunk_at, begins_marked, begins_hunk, hunks_at, reading}
+use Rattle.normal_form.specs.Commands.{takes_lines, is_bad_range, command, placed, from_parts, parts_at, opening, is_command}
+use Rattle.normal_form.specs.Stretches.{marks, must_be_marked, marked_at, ended_by, first_line, line_at, stretch_at, is_divider, first_divider, divider_at}
+use Rattle.normal_form.specs.Hunks.{at_line, body_at, change, first_hunk, hunk_at, begins_marked, begins_hunk, hunks_at, reading}
 use Rattle.normal_form.specs.Grammar.{IsPiece}
-use Rattle.normal_form.proofs.Steady.{failed, bind_err, agree_head, agree_less, Steady, steady-then, steady-value, one_line, with_rest, steady-same, FailsHere, steady-line, peek_by, steady-peek}
+use Rattle.hunk_core.proofs.Steady.{steady-then, steady-value, steady-same}
+use Rattle.normal_form.proofs.Steady.{Steady, steady-line, steady-peek}
 use Rattle.normal_form.proofs.HunkLoops.{hunks_step}
 use Rattle.normal_form.proofs.Pieces.{hunk-shrinks, no_hunks, reading_again}
 
 -- ---- lines
-
-here-is : (number : ℕ) (kind : BadKind) (e : Fault) → kind ≢ kinds.ShortEnd → fault number kind ≡ e → (e.line ≡ number) × (e.kind ≢ kinds.ShortEnd)
-here-is number kind e ne is = (sym (ap (λ (x : Fault). x.line) is), λ short. ne (ap (λ (x : Fault). x.kind) is ∙ short))
-
-pub err_fault : {A : Type 0} (d e : Fault) → failed {A = A} d ≡ failed e → d ≡ e
-err_fault d e h = cc
-
-pub unmarked-kind : (line : List ℕ) → unmarked line ≢ kinds.ShortEnd
-unmarked-kind line = by (is_backslash line)
-  where
-    by : (b : Bool) → cond b kinds.MisplacedBackslash kinds.Mark ≢ kinds.ShortEnd
-    by true = λ h. cc
-    by false = λ h. cc
-
 pub marked-here : (side : Side) → FailsHere (λ number line. marked_at number side line)
 marked-here side number line e h = by (after (marks side) line) h
   where
     by : (o : Option (List ℕ)) → must_be_marked number side line o ≡ Err e → (e.line ≡ number) × (e.kind ≢ kinds.ShortEnd)
-    by None h = here-is number (unmarked line) e (unmarked-kind line) (err_fault {A = Marked} _ e h)
+    by None h = here-is number (unmarked line) e (unmarked-kind line) (err_is {A = Marked} _ e h)
     by (Some bytes) h = absurd cc
-
-assoc : {A B : Type 0} (r : Result A Fault) (q : Ahead) (g : A → Ahead → Result (B × Ahead) Fault) → ((r >>= with_rest q) >>= λ x. g x.0 x.1) ≡ (r >>= λ a. g a q)
-assoc (Ok a) q g = refl
-assoc (Err d) q g = refl
 
 abbrev ended : ℕ → Marked → Ahead → Result (Marked × Ahead) Fault
 ended left m q = peek_by m (cond (eqb left 0) (Some (unended m)) None) q (after_backslash q.rest)
@@ -99,7 +88,7 @@ dividing-here number line e h = by (is_divider line) h
   where
     by : (b : Bool) → divided b number line ≡ failed {A = Unit {0}} e → (e.line ≡ number) × (e.kind ≢ kinds.ShortEnd)
     by true h = absurd cc
-    by false h = here-is number (unmarked line) e (unmarked-kind line) (err_fault {A = Unit {0}} _ e h)
+    by false h = here-is number (unmarked line) e (unmarked-kind line) (err_is {A = Unit {0}} _ e h)
 
 abbrev divides_to : Bool → ℕ → List ℕ → List (List ℕ) → Result (Unit {0} × Ahead) Fault
 divides_to b number line rest = cond b (Ok (nothing, ahead (number + 1) rest)) (Err (fault number (unmarked line)))
@@ -152,7 +141,7 @@ opening-here least number line e h = by (opening least line) refl h
   where
     by : (o : Result Command BadKind) → opening least line ≡ o → at_line number o ≡ Err e → (e.line ≡ number) × (e.kind ≢ kinds.ShortEnd)
     by (Ok c) is h = absurd cc
-    by (Err kind) is h = here-is number kind e (opening-kind least line kind is) (err_fault {A = Command} _ e h)
+    by (Err kind) is h = here-is number kind e (opening-kind least line kind is) (err_is {A = Command} _ e h)
 
 abbrev settles : Command → List Marked → Ahead → Result (PlainHunk × Ahead) Fault
 settles c body q = settled (change c body) q
@@ -183,10 +172,6 @@ marked_too : (last number : ℕ) (rest others : List (List ℕ)) → AgreeTo las
 marked_too last number [] others agree le e = absurd cc
 marked_too last number (line ∷ rest) others agree le e = let a = agree_head last number line rest others agree le in rw a.1 e
 
-both : (x y : Bool) → (x && y) ≡ true → (x ≡ true) × (y ≡ true)
-both true y e = (refl, e)
-both false y e = absurd cc
-
 begins_again : (line : List ℕ) (rest : List (List ℕ)) → is_command line ≡ true → begins_marked rest ≡ true → begins_hunk (line ∷ rest) ≡ true
 begins_again line rest c m = rw (c, m) refl
 
@@ -194,7 +179,7 @@ begins_too : (last number : ℕ) (rest others : List (List ℕ)) → AgreeTo las
 begins_too last number [] others agree le e = absurd cc
 begins_too last number (line ∷ rest) others agree le e =
     let a = agree_head last number line rest others agree (omega (arith, le)) in
-    let b = both (is_command line) (begins_marked rest) e in
+    let b = and_parts (is_command line) (begins_marked rest) e in
     ap begins_hunk a.1 ∙ begins_again line a.0 b.0 (marked_too last (number + 1) rest a.0 a.2 le b.1)
 
 begins_some : (rest : List (List ℕ)) → begins_hunk rest ≡ true → 0 < length rest
@@ -203,13 +188,6 @@ begins_some (line ∷ rest) e = omega arith
 
 abbrev pub more_hunks : ℕ → PlainHunk × Ahead → Result (List PlainHunk × Ahead) Fault
 more_hunks most first = hunks_at most first.0.old_start first.1 >>= λ others. Ok (first.0 ∷ others.0, others.1)
-
-abbrev pub put_first : PlainHunk → List PlainHunk × Ahead → Result (List PlainHunk × Ahead) Fault
-put_first h others = Ok (h ∷ others.0, others.1)
-
-pub add_err : (h : PlainHunk) (r : Result (List PlainHunk × Ahead) Fault) (e : Fault) → (r >>= put_first h) ≡ Err e → r ≡ Err e
-add_err h (Ok x) e f = absurd (let bad : put_first h x ≡ failed {A = List PlainHunk × Ahead} e = f in cc)
-add_err h (Err d) e f = ap (λ x. Err x) (err_fault {A = List PlainHunk × Ahead} d e f)
 
 pub hunks_low : (most least : ℕ) (p : Ahead) (e : Fault) → hunks_at most least p ≡ Err e → (p.number ≤ e.line) × (e.kind ≡ kinds.ShortEnd → e.line ≡ p.number + length p.rest)
 unfolding hunks_at
@@ -267,29 +245,6 @@ fault-unspelled number lines others e hs next rest h long agree piece =
     let fails = fault-stays number lines others e h long agree in
     let reads = reading_again number others hs next rest piece in
     cc
-
-agree_past : (last number : ℕ) (lines others : List (List ℕ)) → last < number → AgreeTo last number lines others
-agree_past last number [] others past = past
-agree_past last number (line ∷ lines) [] past = past
-agree_past last number (line ∷ lines) (other ∷ others) past = ((λ le. absurd (omega (arith, past, le))), agree_past last (number + 1) lines others (omega (arith, past)))
-
-agree_front : (last number : ℕ) (front behind others : List (List ℕ)) → last < number + length front → AgreeTo last number (front ++ behind) (front ++ others)
-agree_front last number [] behind others past = agree_past last number behind others (omega (arith, past))
-agree_front last number (line ∷ front) behind others past = ((λ le. refl), agree_front last (number + 1) front behind others (omega (arith, past)))
-
-pub short_or : (k : BadKind) → (k ≡ kinds.ShortEnd) ⊎ (k ≢ kinds.ShortEnd)
-short_or kinds.Range = inr (λ h. cc)
-short_or kinds.Mark = inr (λ h. cc)
-short_or kinds.Count = inr (λ h. cc)
-short_or kinds.ShortEnd = inl refl
-short_or kinds.NumberTooLarge = inr (λ h. cc)
-short_or kinds.SidesDiffer = inr (λ h. cc)
-short_or kinds.MisplacedBackslash = inr (λ h. cc)
-short_or kinds.EdCommand = inr (λ h. cc)
-short_or kinds.EdOrder = inr (λ h. cc)
-short_or kinds.EdNoDot = inr (λ h. cc)
-short_or kinds.Binary = inr (λ h. cc)
-short_or kinds.HunkOrder = inr (λ h. cc)
 
 pub fault-late : (number : ℕ) (front behind others : List (List ℕ)) (e : Fault) (hs : List PlainHunk) (next : ℕ) (rest : List (List ℕ)) → IsPiece number (front ++ others) hs next rest → reading number (front ++ behind) ≡ Err e → number + length front ≤ e.line + 1
 fault-late number front behind others e hs next rest piece h =

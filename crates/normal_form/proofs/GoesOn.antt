@@ -3,7 +3,6 @@ use Rattle.std.proofs.Common.{◌≡◌, ℕ, zero, suc, ◌+◌, ◌-◌, ◌�
 use Rattle.std.specs.Prelude.{is_some}
 use Rattle.std.specs.List.{AllByRecursion}
 use Rattle.std.proofs.lemmas.List.{append-nil}
-use Rattle.std.proofs.Math.Seq.{take-append_seam}
 use Rattle.line_list.specs.Lines.{IsLine}
 use Rattle.hunk_core.specs.declared.BadKind.TheVariants as kinds
 use Rattle.hunk_core.specs.declared.Side.TheVariants.{Forward, Reversed}
@@ -11,16 +10,18 @@ use Rattle.hunk_core.specs.PlainHunk.{Marked, PlainHunk}
 use Rattle.hunk_core.specs.LineTests.{after_backslash}
 use Rattle.hunk_core.specs.Reading.{Fault, fault, Ahead, ahead}
 use Rattle.hunk_core.proofs.ReadSteps.{chosen}
+use Rattle.hunk_core.specs.Refusals.{settled}
+use Rattle.hunk_core.proofs.FaultSteps.{failed, bind_err, short_or, add_err}
+use Rattle.hunk_core.proofs.Filling.{none_in_front, front_with, IsInside, first_inside, past_inside, whole_front, none_inside}
 use Rattle.normal_form.specs.declared.command.Command.{Command}
 use Rattle.normal_form.specs.Commands.{opening}
-use Rattle.normal_form.specs.Hunks.{at_line, body_at, change, settled, first_hunk, hunk_at, begins_hunk, hunks_at, reading}
+use Rattle.normal_form.specs.Hunks.{at_line, body_at, change, first_hunk, hunk_at, begins_hunk, hunks_at, reading}
 use Rattle.normal_form.specs.Grammar.{on_side, SpellsBody, SpellsCommand, AreFair, command_of, SpellsHunk, SpellsHunks}
 use Rattle.normal_form.specs.FirstFault.{CanGoOn}
 use Rattle.normal_form.proofs.CommandGrammar.{opening-takes}
 use Rattle.normal_form.proofs.Pieces.{counts-none, TakesBody, body_takes, at_line-ok, is_counted, TakesHunk, hunk_takes}
-use Rattle.normal_form.proofs.Steady.{failed, bind_err}
-use Rattle.normal_form.proofs.FirstFault.{short_or, fault-short, fault-not_sooner, steady-body, opening-here, with_body, more_hunks, add_err, hunks_low}
-use Rattle.normal_form.proofs.Filling.{fault_at, none_in_front, front_with, front_to, IsInside, none_inside, first_inside, past_inside, some_loud, FillsBody, body_fills}
+use Rattle.normal_form.proofs.FirstFault.{fault-short, fault-not_sooner, steady-body, opening-here, with_body, more_hunks, hunks_low}
+use Rattle.normal_form.proofs.Filling.{fault_at, front_to, some_loud, FillsBody, body_fills}
 
 -- ---- hunks
 
@@ -120,11 +121,6 @@ fault-goes_on number lines e h =
     let f = hunks_fill (length lines) 0 (ahead number lines) e h in
     let own = take (e.line - number) lines ++ f.others in
     record { others = f.others; are_lines = f.are_lines; hs = f.hs; next = number + length own; whole = record { own = own; parts = sym (append-nil own); spelled = f.spelled; ends = (refl, refl); counted = refl } }
-
-whole_front : (number : ℕ) (lines : List (List ℕ)) (at : ℕ) → at ≡ number + length lines → take (at - number) lines ≡ lines
-whole_front number lines at e =
-    let k : at - number ≡ length lines = omega (arith, e) in
-    ap (λ n. take n lines) k ∙ ap (take (length lines)) (sym (append-nil lines)) ∙ take-append_seam lines []
 
 pub fault-short_end : (number : ℕ) (lines : List (List ℕ)) (e : Fault) → reading number lines ≡ Err e → e.kind ≡ kinds.ShortEnd ↔ CanGoOn number lines
 fault-short_end number lines e h = (

@@ -1,7 +1,7 @@
 -- Hunks that are read are spelled so, and what is spelled so is read.
-use Rattle.std.proofs.Common.{◌≡◌, ℕ, zero, suc, ◌+◌, ◌≤◌, ◌<◌, Bool, true, false, eqb, ◌&&◌, List, [], ◌∷◌, ◌++◌, length, Option, None, Some, Result, Ok, Err, refl, sym, ap, subst, ◌∙◌, append_assoc, arith, inl, inr}
-use Rattle.std.specs.Prelude.{is_some, IfOk}
-use Rattle.std.proofs.lemmas.Bool.{eqb-true}
+use Rattle.std.proofs.Common.{◌≡◌, ℕ, zero, suc, ◌+◌, ◌≤◌, ◌<◌, true, false, eqb, List, [], ◌∷◌, ◌++◌, length, None, Result, Ok, Err, refl, sym, ap, subst, ◌∙◌, append_assoc, arith, inl, inr}
+use Rattle.std.specs.Prelude.{IfOk}
+use Rattle.std.proofs.lemmas.Bool.{eqb-true, and_parts}
 use Rattle.std.proofs.lemmas.List.{length-append, append-nil}
 use Rattle.hunk_core.specs.declared.BadKind.{BadKind}
 use Rattle.hunk_core.specs.declared.fault.FormFault.{FormFault}
@@ -14,10 +14,13 @@ use Rattle.hunk_core.proofs.ReadSteps.{bind_ok, chosen, guard_ok, must_ok, ok_is
 use Rattle.num_text.specs.NumberRanges.{range_at}
 use Rattle.diff_command.specs.declared.Action.{Action}
 use Rattle.diff_command.specs.declared.Action.TheVariants.{Add, Change, Delete}
+use Rattle.hunk_core.specs.Refusals.{settled}
+use Rattle.hunk_core.proofs.OptionLemmas.{is_none}
+use Rattle.hunk_core.proofs.SideLemmas.{hunk_is}
 use Rattle.normal_form.specs.declared.command.Command.{Command}
 use Rattle.normal_form.specs.Commands.{takes_lines, parts_at, opening, is_command}
 use Rattle.normal_form.specs.Stretches.{marks, stretch_at, is_divider, first_divider, divider_at}
-use Rattle.normal_form.specs.Hunks.{at_line, body_at, change, settled, first_hunk, hunk_at, is_marked, begins_marked, begins_hunk, hunks_at, reading}
+use Rattle.normal_form.specs.Hunks.{at_line, body_at, change, first_hunk, hunk_at, is_marked, begins_marked, begins_hunk, hunks_at, reading}
 use Rattle.normal_form.specs.Grammar.{on_side, SpellsLine, SpellsStretch, SpellsBody, SpellsSpan, command_of, SpellsCommand, AreFair, SpellsHunk, SpellsHunks, EndsPiece, IsPiece}
 use Rattle.normal_form.proofs.CommandGrammar.{opening-takes, opening-again, opening-is}
 use Rattle.normal_form.proofs.Stretches.{TakesStretch, stretch_takes, stretch_again, divider-quiet, none-left}
@@ -183,10 +186,6 @@ command-quiet (b ∷ bytes) e =
       | inr other ↦ rw other.0 refl
     ]
 
-both : (x y : Bool) → (x && y) ≡ true → (x ≡ true) × (y ≡ true)
-both true y e = (refl, e)
-both false y e = absurd cc
-
 -- ---- one hunk
 
 pub record TakesHunk (least : ℕ) (p : Ahead) (x : PlainHunk × Ahead) : Type 0 where
@@ -196,10 +195,6 @@ pub record TakesHunk (least : ℕ) (p : Ahead) (x : PlainHunk × Ahead) : Type 0
   pub some : 0 < length own
   pub spelled : SpellsHunk least own x.0
   pub quiet : after_backslash x.1.rest ≡ None
-
-is_none : (o : Option (List (List ℕ))) → is_some o ≡ false → o ≡ None
-is_none None e = refl
-is_none (Some x) e = absurd cc
 
 pub at_line-ok : (number : ℕ) (o : Result Command BadKind) (c : Command) → at_line number o ≡ Ok c → o ≡ Ok c
 at_line-ok number (Ok q) c e = cc
@@ -235,9 +230,6 @@ hunk_takes least number (line ∷ rest) x h =
 pub hunk-shrinks : (least number : ℕ) (rest : List (List ℕ)) (x : PlainHunk × Ahead) → first_hunk least number rest ≡ Ok x → length x.1.rest < length rest
 hunk-shrinks least number rest x h = let t = hunk_takes least number rest x h in omega (arith, ap length t.parts, length-append t.own x.1.rest, t.some)
 
-abbrev hunk_is : ℕ → ℕ → List Marked → PlainHunk
-hunk_is a m body = record { old_start = a; new_start = m; body = body }
-
 first-step : (least number : ℕ) (line : List ℕ) (rest more : List (List ℕ)) (c : Command) (body : List Marked) (after_number : ℕ) → opening least line ≡ Ok c → body_at c (ahead (number + 1) rest) ≡ Ok (body, ahead after_number more) → after_backslash more ≡ None → first_hunk least number (line ∷ rest) ≡ Ok (change c body, ahead after_number more)
 unfolding first_hunk
 first-step least number line rest more c body after_number e1 e2 e3 = rw (e1, e2, e3) refl
@@ -257,7 +249,7 @@ hunk_again h (line ∷ lines) rest least number s none =
 
 pub opening_quiet : (rest : List (List ℕ)) → begins_hunk rest ≡ true → after_backslash rest ≡ None
 opening_quiet [] e = refl
-opening_quiet (line ∷ rest) e = rw (command-quiet line (both _ _ e).0) refl
+opening_quiet (line ∷ rest) e = rw (command-quiet line (and_parts _ _ e).0) refl
 
 pub hunk_opens : (least : ℕ) (own tail : List (List ℕ)) (h : PlainHunk) → SpellsHunk least own h → begins_hunk (own ++ tail) ≡ true
 hunk_opens least [] tail h s = absurd s

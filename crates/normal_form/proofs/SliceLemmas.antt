@@ -1,18 +1,11 @@
 -- A line as a part of a text, and what stands behind its mark.
-use Rattle.std.proofs.Common.{◌≡◌, ℕ, suc, ◌+◌, ◌-◌, ◌<◌, ◌≤◌, true, List, ◌∷◌, ◌++◌, length, get_or, drop, slice_range, Some, refl, ap, sym, subst, ◌∙◌, arith}
+use Rattle.std.proofs.Common.{◌≡◌, ℕ, ◌+◌, ◌-◌, ◌≤◌, true, List, ◌∷◌, ◌++◌, length, get_or, slice_range, Some, ap, sym, subst, ◌∙◌, arith}
 use Rattle.std.specs.Prelude.{is_some}
-use Rattle.std.proofs.lemmas.List.{drop_more, length-take, length-drop}
 use Rattle.hunk_core.specs.declared.Side.{Side}
 use Rattle.hunk_core.specs.declared.Side.TheVariants.{Forward, Reversed}
 use Rattle.hunk_core.specs.LineTests.{after}
-use Rattle.hunk_core.proofs.TextLemmas.{after-takes, has_some}
+use Rattle.hunk_core.proofs.TextLemmas.{after-takes, has_some, slice-first, slice-length}
 use Rattle.normal_form.specs.Stretches.{marks}
-
-pub slice-first : (text : List ℕ) (at end : ℕ) → at < end → end ≤ length text → slice_range text at end ≡ get_or text at 0 ∷ slice_range text (at + 1) end
-slice-first text at end lt le =
-    let here : drop at text ≡ get_or text at 0 ∷ drop (at + 1) text = drop_more text at 0 (omega arith) in
-    let width : end - at ≡ suc (end - (at + 1)) = omega arith in
-    rw (width, here) refl
 
 long-prefix : (side : Side) (line rest : List ℕ) → line ≡ marks side ++ rest → 2 ≤ length line
 long-prefix Forward line rest e = omega (arith, ap length e)
@@ -21,9 +14,6 @@ long-prefix Reversed line rest e = omega (arith, ap length e)
 -- a marked line has two bytes or more
 pub marked-long : (side : Side) (line : List ℕ) → is_some (after (marks side) line) ≡ true → 2 ≤ length line
 marked-long side line e = let s = has_some (after (marks side) line) e in long-prefix side line s.0 (after-takes (marks side) line s.0 s.1)
-
-pub slice-length : (text : List ℕ) (at end : ℕ) → end ≤ length text → length (slice_range text at end) ≡ end - at
-slice-length text at end le = omega (arith, length-take (end - at) (drop at text), length-drop at text)
 
 behind-two : (side : Side) (b c : ℕ) (rest more : List ℕ) → b ∷ c ∷ rest ≡ marks side ++ more → rest ≡ more
 behind-two Forward b c rest more e = cc

@@ -1,5 +1,5 @@
 -- Lines of a side that are read are spelled so, and what is spelled so is read.
-use Rattle.std.proofs.Common.{◌≡◌, ℕ, zero, suc, ◌+◌, ◌-◌, Bool, true, false, cond, eqb, List, [], ◌∷◌, ◌++◌, length, take, Option, None, Some, Ok, refl, sym, ap, subst, ◌∙◌, append_assoc, arith, inl, inr}
+use Rattle.std.proofs.Common.{◌≡◌, ℕ, zero, suc, ◌+◌, ◌-◌, true, false, eqb, List, [], ◌∷◌, ◌++◌, length, take, Option, None, Some, Ok, refl, sym, ap, subst, ◌∙◌, append_assoc, arith, inl, inr}
 use Rattle.std.proofs.lemmas.Bool.{eqb-true}
 use Rattle.std.proofs.lemmas.List.{length-append, append-nil}
 use Rattle.hunk_core.specs.declared.Side.{Side}
@@ -9,7 +9,9 @@ use Rattle.hunk_core.specs.LineTests.{after, marked, unended, is_backslash, afte
 use Rattle.hunk_core.specs.Reading.{Ahead, ahead}
 use Rattle.hunk_core.proofs.ReadSteps.{bind_ok, chosen, must_ok, ok_is}
 use Rattle.hunk_core.proofs.TextLemmas.{after-takes, after-again}
-use Rattle.normal_form.specs.Stretches.{marks, own_mark, must_be_marked, marked_at, ended_by, first_line, line_at, stretch_at, is_divider}
+use Rattle.hunk_core.specs.Sides.{own_mark}
+use Rattle.hunk_core.proofs.Agreeing.{after_backslash-some}
+use Rattle.normal_form.specs.Stretches.{marks, must_be_marked, marked_at, ended_by, first_line, line_at, stretch_at, is_divider}
 use Rattle.normal_form.specs.Grammar.{on_side, SpellsLine, SpellsStretch}
 
 -- ---- one line
@@ -26,14 +28,6 @@ pub record TakesLine (side : Side) (left : ℕ) (p : Ahead) (x : Marked × Ahead
   pub number : x.1.number ≡ p.number + length own
   pub is : x.0 ≡ marked (own_mark side) line
   pub spelled : (others : List (List ℕ)) → length others ≡ left → SpellsLine side own line others
-
-pub after_backslash-some : (rest more : List (List ℕ)) → after_backslash rest ≡ Some more → (line : List ℕ) × (rest ≡ line ∷ more) × (is_backslash line ≡ true)
-after_backslash-some [] more e = absurd cc
-after_backslash-some (line ∷ rest) more e = by (is_backslash line) refl e
-  where
-    by : (b : Bool) → is_backslash line ≡ b → cond b (Some rest) None ≡ Some more → (l : List ℕ) × (line ∷ rest ≡ l ∷ more) × (is_backslash l ≡ true)
-    by true is e = (line, (let same : rest ≡ more = cc in rw same refl), is)
-    by false is e = absurd cc
 
 pub none-left : (others : List (List ℕ)) → length others ≡ 0 → others ≡ []
 none-left [] e = refl

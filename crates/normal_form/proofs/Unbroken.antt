@@ -1,16 +1,18 @@
 -- A hunk that a piece of a text spells breaks no rule.
-use Rattle.std.proofs.Common.{◌≡◌, ℕ, suc, ◌+◌, ◌<◌, Bool, true, false, not, cond, eqb, ◌&&◌, ◌||◌, List, [], ◌∷◌, ◌++◌, length, None, Some, refl, ap, subst, ◌∙◌, arith}
-use Rattle.std.proofs.lemmas.Bool.{eqb-true, ne_eqb, le-ltb}
+use Rattle.std.proofs.Common.{◌≡◌, ℕ, suc, ◌+◌, ◌<◌, Bool, true, false, eqb, List, [], ◌∷◌, ◌++◌, length, None, refl, ap, subst, ◌∙◌, arith}
+use Rattle.std.proofs.lemmas.Bool.{ne_eqb}
 use Rattle.line_list.specs.Lines.{IsLine, ArePieces}
 use Rattle.hunk_core.specs.declared.Side.{Side}
 use Rattle.hunk_core.specs.declared.Side.TheVariants.{Forward, Reversed}
-use Rattle.hunk_core.specs.declared.check.BadHunk.{BadHunk}
 use Rattle.hunk_core.specs.PlainHunk.{Marked, PlainHunk, old_lines, new_lines}
 use Rattle.hunk_core.specs.LineTests.{ends_line}
 use Rattle.hunk_core.specs.Rules.{starts_at_zero, runs_over, lacks_inner_end, first_broken}
 use Rattle.hunk_core.proofs.PieceLemmas.{pieces-first, pieces-last}
 use Rattle.diff_command.specs.declared.Action.{Action}
 use Rattle.diff_command.specs.declared.Action.TheVariants.{Add, Change, Delete}
+use Rattle.line_list.proofs.WholeLines.{whole-before}
+use Rattle.hunk_core.proofs.RuleLemmas.{no-rule, zero-start, no-run}
+use Rattle.hunk_core.proofs.LineEnds.{line-ends, lacks-step}
 use Rattle.normal_form.specs.Commands.{takes_lines}
 use Rattle.normal_form.specs.Stretches.{marks}
 use Rattle.normal_form.specs.Grammar.{on_side, SpellsLine, SpellsStretch, SpellsBody, SpellsSpan, SpellsHunk}
@@ -42,12 +44,6 @@ length-bodies [] news = omega (arith, length-news news)
 length-bodies (o ∷ olds) news = omega (arith, length-bodies olds news)
 
 -- ---- a line that stands before another has its line feed
-
-line-ends : (line : List ℕ) → IsLine line → ends_line line ≡ true
-line-ends [] h = absurd h
-line-ends (b ∷ []) h = grind arith
-line-ends (b ∷ c ∷ bytes) h = line-ends (c ∷ bytes) h.1
-
 behind-one : (b : ℕ) (line : List ℕ) → IsLine (b ∷ 32 ∷ line) → ends_line line ≡ true
 behind-one b [] h = absurd (let bad : 32 ≡ 10 = h.1 in cc)
 behind-one b (c ∷ bytes) h = line-ends (c ∷ bytes) h.1.1
@@ -55,10 +51,6 @@ behind-one b (c ∷ bytes) h = line-ends (c ∷ bytes) h.1.1
 behind-marks : (side : Side) (line : List ℕ) → IsLine (marks side ++ line) → ends_line line ≡ true
 behind-marks Forward line h = behind-one 60 line h
 behind-marks Reversed line h = behind-one 62 line h
-
-pub lacks-step : (line : List ℕ) (lines : List (List ℕ)) → (0 < length lines → ends_line line ≡ true) → lacks_inner_end lines ≡ false → lacks_inner_end (line ∷ lines) ≡ false
-lacks-step line [] ends none = refl
-lacks-step line (x ∷ xs) ends none = let e : ends_line line ≡ true = ends (omega arith) in rw (e, none) refl
 
 stretch-some : (side : Side) (piece ls : List (List ℕ)) → SpellsStretch side piece ls → 0 < length ls → 0 < length piece
 stretch-some side piece [] s some = absurd (omega (arith, some))
@@ -68,10 +60,6 @@ stretch-some side [] (l ∷ ls) s some = absurd (none s.0 s.1 s.2 s.3)
     none [] rest e h = h
     none (line ∷ own) rest e h = cc
 stretch-some side (line ∷ piece) (l ∷ ls) s some = omega arith
-
-whole-before : (line : List ℕ) (rest : List (List ℕ)) → 0 < length rest → ArePieces (line ∷ rest) → IsLine line
-whole-before line [] some h = absurd (omega (arith, some))
-whole-before line (next ∷ rest) some h = h.0
 
 ends-inner : (side : Side) (own rest : List (List ℕ)) (l : List ℕ) (others : List (List ℕ)) → SpellsLine side own l others → SpellsStretch side rest others → 0 < length others → ArePieces (own ++ rest) → ends_line l ≡ true
 ends-inner side [] rest l others h s some pieces = absurd h
@@ -106,21 +94,8 @@ counts-some Add old new a b m n s t = omega (arith, span-some new m n t)
 counts-some Change old new a b m n s t = omega (arith, span-some new m n t)
 counts-some Delete old new a b m n s t = omega (arith, span-some old a b s)
 
-zero-start : (start : ℕ) (side : List (List ℕ)) → (start ≡ 0 → length side ≡ 0) → starts_at_zero start side ≡ false
-zero-start start side begins = by (eqb start 0) refl
-  where
-    by : (b : Bool) → eqb start 0 ≡ b → (b && not (eqb (length side) 0)) ≡ false
-    by true e = let z : length side ≡ 0 = begins (eqb-true start 0 e) in rw z refl
-    by false e = refl
-
-no-run : (start : ℕ) (side : List (List ℕ)) → start + length side < 4294967296 → runs_over start side ≡ false
-no-run start side small = le-ltb 4294967295 (start + length side) (omega (arith, small))
-
 some-body : (body : List Marked) (n : ℕ) → length body ≡ n → 0 < n → eqb (length body) 0 ≡ false
 some-body body n e some = ne_eqb (length body) 0 (λ z. absurd (omega (arith, z, e, some)))
-
-no-rule : (x y z w : BadHunk) (a b b2 c c2 d d2 : Bool) → a ≡ false → b ≡ false → b2 ≡ false → c ≡ false → c2 ≡ false → d ≡ false → d2 ≡ false → cond a (Some x) (cond (b || b2) (Some y) (cond (c || c2) (Some z) (cond (d || d2) (Some w) None))) ≡ None
-no-rule x y z w a b b2 c c2 d d2 e1 e2 e3 e4 e5 e6 e7 = rw (e1, e2, e3, e4, e5, e6, e7) refl
 
 pub hunk-unbroken : (least : ℕ) (own : List (List ℕ)) (h : PlainHunk) → SpellsHunk least own h → ArePieces own → first_broken h ≡ None
 hunk-unbroken least [] h s pieces = absurd s

@@ -11,14 +11,16 @@ use Rattle.num_text.specs.Numbers.{number_at}
 use Rattle.num_text.specs.declared.range.NumberRange.{NumberRange}
 use Rattle.num_text.specs.NumberRanges.{one, two, with_second, behind_first, from_first, range_at, SpellsRange}
 use Rattle.num_text.proofs.Runs.{number-takes, number-again}
-use Rattle.num_text.proofs.RangeGrammar.{StopsRange}
+use Rattle.num_text.proofs.RangeGrammar.{StopsRange, range-first}
 use Rattle.diff_command.specs.Letters.{letter, action_at, is_line_end}
+use Rattle.hunk_core.proofs.OptionLemmas.{some_step}
+use Rattle.diff_command.proofs.CommandLemmas.{action-takes, action-again, stops-letter}
 use Rattle.normal_form.specs.declared.command.Parts.{Parts}
 use Rattle.normal_form.specs.Commands.{parts_at, is_command}
 use Rattle.normal_form.specs.Stretches.{marks, ends_divider, is_divider}
 use Rattle.normal_form.specs.Hunks.{is_marked}
 use Rattle.normal_form.specs.Grammar.{IsRange, IsCommand}
-use Rattle.normal_form.proofs.CommandGrammar.{some_step, action-takes, action-again, stops-letter, stops-end, whole-ok, join_parts}
+use Rattle.normal_form.proofs.CommandGrammar.{stops-end, whole-ok, join_parts}
 
 -- ---- ranges, however large their numbers are
 
@@ -61,10 +63,6 @@ range-found bytes x e = by (number_at bytes) refl e
     by : (o : Option (ℕ × List ℕ)) → number_at bytes ≡ o → from_first o ≡ Some x → BeginsWithRange bytes x.1
     by None read h = absurd cc
     by (Some n) read h = behind n.0 n.1 read h
-
-range-first : (bytes : List ℕ) (n : ℕ) (rest : List ℕ) → number_at bytes ≡ Some (n, rest) → range_at bytes ≡ behind_first n rest
-unfolding range_at
-range-first bytes n rest read = rw read refl
 
 range-read : (text : List ℕ) (single : Bool) (first last : ℕ) (rest : List ℕ) → SpellsRange text single first last → StopsRange rest → (r : NumberRange) × (range_at (text ++ rest) ≡ Some (r, rest))
 range-read text true first last rest s stops = (one first, range-first (text ++ rest) first rest (number-again text first rest s.1 stops.digit) ∙ stops.comma first)

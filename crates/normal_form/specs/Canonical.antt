@@ -1,8 +1,7 @@
 -- The canonical text of a hunk.
-use Rattle.std.specs.Prelude.{◌≡◌, ℕ, ◌+◌, ◌-◌, Bool, true, false, nat_lt, ◌==◌, List, [], ◌∷◌, ◌++◌, length, codes, if◌then◌else◌}
+use Rattle.std.specs.Prelude.{◌≡◌, ℕ, Bool, true, false, ◌==◌, List, [], ◌∷◌, ◌++◌, length, if◌then◌else◌}
 use Rattle.std.specs.List.{flat_map}
 use Rattle.line_list.specs.Lines.{lines}
-use Rattle.num_text.specs.Numbers.{decimal}
 use Rattle.hunk_core.specs.declared.HunkLine.{HunkLine}
 use Rattle.hunk_core.specs.declared.Side.{Side}
 use Rattle.hunk_core.specs.declared.Side.TheVariants.{Forward, Reversed}
@@ -11,6 +10,8 @@ use Rattle.hunk_core.specs.Turned.{is_drop, is_add}
 use Rattle.hunk_core.specs.LineTests.{ends_line}
 use Rattle.diff_command.specs.declared.Action.{Action}
 use Rattle.diff_command.specs.declared.Action.TheVariants.{Add, Change, Delete}
+use Rattle.hunk_core.specs.Writing.{no_newline}
+use Rattle.diff_command.specs.Spans.{span_text}
 use Rattle.normal_form.specs.Stretches.{marks}
 use Rattle.diff_command.specs.Letters.{letter}
 use Rattle.normal_form.specs.Grammar.{on_side, SpellsHunk, IsPiece}
@@ -29,10 +30,6 @@ drops_come_first (l ∷ ls) = if is_drop l.mark then drops_come_first ls else ar
 abbrev pub action_for : ℕ → ℕ → Action
 action_for old new = if old == 0 then Add else if new == 0 then Delete else Change
 
--- one number for at most one line, and two for more
-abbrev pub span_text : ℕ → ℕ → List ℕ
-span_text start count = if nat_lt 1 count then decimal start ++ 44 ∷ decimal (start + count - 1) else decimal start
-
 -- the old lines, a letter, the new lines
 abbrev pub command_text : ℕ → ℕ → ℕ → ℕ → List ℕ
 command_text old_start old_count new_start new_count = span_text old_start old_count ++ (letter (action_for old_count new_count) ∷ (span_text new_start new_count ++ 10 ∷ []))
@@ -42,10 +39,6 @@ abbrev pub divider_text : Action → List ℕ
 divider_text Add = []
 divider_text Change = 45 ∷ 45 ∷ 45 ∷ 10 ∷ []
 divider_text Delete = []
-
--- the line after one that has no line feed
-abbrev pub no_newline : List ℕ
-no_newline = 92 ∷ 32 ∷ (codes "No newline at end of file" ++ 10 ∷ [])
 
 -- a line behind the mark of its side
 abbrev pub line_text : Side → List ℕ → List ℕ

@@ -4,11 +4,13 @@ use Rattle.hunk_core.specs.declared.BadKind.{BadKind}
 use Rattle.hunk_core.specs.declared.BadKind.TheVariants as kinds
 use Rattle.hunk_core.specs.declared.Side.{Side}
 use Rattle.hunk_core.specs.declared.Side.TheVariants.{Forward, Reversed}
-use Rattle.diff_command.specs.Letters.{◌>>=◌, action_at, is_line_end}
+use Rattle.diff_command.specs.Letters.{action_at, is_line_end}
 use Rattle.num_text.specs.declared.range.NumberRange.{NumberRange}
 use Rattle.num_text.specs.NumberRanges.{range_at, HasSmallEnds}
 use Rattle.diff_command.specs.declared.Action.{Action}
 use Rattle.diff_command.specs.declared.Action.TheVariants.{Add, Change, Delete}
+use Rattle.hunk_core.specs.Rules.{is_too_large}
+use Rattle.hunk_core.specs.OptionSteps.{◌>>=◌}
 use Rattle.normal_form.specs.declared.command.Parts.{Parts}
 use Rattle.normal_form.specs.declared.command.Command.{Command}
 
@@ -66,10 +68,6 @@ pub record IsSmall (c : Command) : Type 0 where
 pub record Fits (c : Command) : Type 0 where
   pub old : c.old_start + c.old_count < 2 ^ 32
   pub new : c.new_start + c.new_count < 2 ^ 32
-
--- a start and its count come above the greatest number
-abbrev pub is_too_large : ℕ → ℕ → Bool
-is_too_large start count = nat_lt 4294967295 (start + count)
 
 -- the tests on numbers that are lawful as ranges
 abbrev pub placed : ℕ → Command → Result Command BadKind

@@ -8,10 +8,11 @@ use Rattle.num_text.specs.Numbers.{IsNumeral}
 use Rattle.num_text.specs.NumberRanges.{SpellsRange}
 use Rattle.diff_command.specs.declared.Action.{Action}
 use Rattle.diff_command.specs.declared.Action.TheVariants.{Add, Change, Delete}
+use Rattle.hunk_core.specs.Sides.{own_mark}
 use Rattle.normal_form.specs.declared.command.Command.{Command}
 use Rattle.diff_command.specs.Letters.{letter, is_line_end}
 use Rattle.normal_form.specs.Commands.{takes_lines, Fits}
-use Rattle.normal_form.specs.Stretches.{marks, own_mark, is_divider}
+use Rattle.normal_form.specs.Stretches.{marks, is_divider}
 use Rattle.normal_form.specs.Hunks.{begins_hunk}
 
 -- lines of a body that are on this side alone

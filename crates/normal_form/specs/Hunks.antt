@@ -4,8 +4,9 @@ use Rattle.hunk_core.specs.declared.BadKind.{BadKind}
 use Rattle.hunk_core.specs.declared.BadKind.TheVariants as kinds
 use Rattle.hunk_core.specs.declared.Side.TheVariants.{Forward, Reversed}
 use Rattle.hunk_core.specs.PlainHunk.{Marked, PlainHunk}
-use Rattle.hunk_core.specs.LineTests.{after, after_backslash}
+use Rattle.hunk_core.specs.LineTests.{after}
 use Rattle.hunk_core.specs.Reading.{Fault, fault, ◌>>=◌, Ahead, ahead}
+use Rattle.hunk_core.specs.Refusals.{settled}
 use Rattle.normal_form.specs.declared.command.Command.{Command}
 use Rattle.normal_form.specs.Commands.{opening, is_command}
 use Rattle.normal_form.specs.Stretches.{marks, stretch_at, divider_at}
@@ -25,10 +26,6 @@ body_at c p = do
 -- a hunk with these starts
 abbrev pub change : Command → List Marked → PlainHunk
 change c body = record { old_start = c.old_start; new_start = c.new_start; body = body }
-
--- no backslash line stands behind a hunk
-abbrev pub settled : PlainHunk → Ahead → Result (PlainHunk × Ahead) Fault
-settled h p = if is_some (after_backslash p.rest) then Err (fault p.number kinds.MisplacedBackslash) else Ok (h, p)
 
 -- a hunk whose command is the first of these lines, and what is ahead behind it
 unfoldable pub first_hunk : ℕ → ℕ → List (List ℕ) → Result (PlainHunk × Ahead) Fault

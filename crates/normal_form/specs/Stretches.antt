@@ -1,31 +1,21 @@
 -- The lines of a hunk, read line by line.
 use Rattle.std.specs.Prelude.{ℕ, zero, suc, ◌+◌, Bool, false, ◌==◌, List, [], ◌∷◌, ◌++◌, Option, None, Some, Result, Ok, Err, if◌then◌else◌}
-use Rattle.hunk_core.specs.declared.Mark.{Mark}
-use Rattle.hunk_core.specs.declared.Mark.TheVariants as its
 use Rattle.hunk_core.specs.declared.Side.{Side}
 use Rattle.hunk_core.specs.declared.Side.TheVariants.{Forward, Reversed}
-use Rattle.hunk_core.specs.declared.BadKind.{BadKind}
 use Rattle.hunk_core.specs.declared.BadKind.TheVariants as kinds
 use Rattle.hunk_core.specs.PlainHunk.{Marked}
-use Rattle.hunk_core.specs.LineTests.{after, marked, unended, is_backslash, after_backslash}
+use Rattle.hunk_core.specs.LineTests.{after, marked, unended, after_backslash}
 use Rattle.hunk_core.specs.Reading.{Fault, fault, ◌>>=◌, Ahead, ahead}
 use Rattle.diff_command.specs.declared.Action.{Action}
 use Rattle.diff_command.specs.declared.Action.TheVariants.{Add, Change, Delete}
 use Rattle.diff_command.specs.Letters.{is_line_end}
+use Rattle.hunk_core.specs.Sides.{own_mark}
+use Rattle.hunk_core.specs.Refusals.{unmarked}
 
 -- '< ' for old lines, '> ' for new ones
 abbrev pub marks : Side → List ℕ
 marks Forward = 60 ∷ 32 ∷ []
 marks Reversed = 62 ∷ 32 ∷ []
-
--- the mark of a line that is on this side alone
-abbrev pub own_mark : Side → Mark
-own_mark Forward = its.Drop
-own_mark Reversed = its.Add
-
--- why a line is refused that hasn't the form which must stand there
-abbrev pub unmarked : List ℕ → BadKind
-unmarked line = if is_backslash line then kinds.MisplacedBackslash else kinds.Mark
 
 -- a line of this side has its mark
 abbrev pub must_be_marked : ℕ → Side → List ℕ → Option (List ℕ) → Result Marked Fault

@@ -10,7 +10,8 @@ ghost use Rattle.hunk_core.specs.Pieces.{read_of, these, AreInTurn, AreWhole, Sp
 ghost use Rattle.hunk_core.specs.declared.Side.{Side};
 ghost use Rattle.normal_form.specs.Commands.{is_command};
 ghost use Rattle.normal_form.specs.Stretches.{marks, is_divider};
-ghost use Rattle.normal_form.specs.FirstFault.{AgreeTo, CanGoOn};
+ghost use Rattle.normal_form.specs.FirstFault.{CanGoOn};
+ghost use Rattle.hunk_core.specs.FirstFault.{AgreeTo};
 ghost use Rattle.normal_form.specs.Grammar.{IsCommand, IsPiece, SpellsHunk};
 ghost use Rattle.normal_form.specs.Hunks.{body_at, hunk_at, is_marked, begins_marked, begins_hunk, reading};
 

@@ -11,7 +11,8 @@ ghost use Rattle.hunk_core.specs.LineTests.{after_backslash};
 ghost use Rattle.hunk_core.specs.Rules.{HasNoInnerFeed, first_broken};
 ghost use Rattle.hunk_core.specs.Writing.{Puts};
 ghost use Rattle.normal_form.specs.Stretches.{marks};
-ghost use Rattle.normal_form.specs.Canonical.{are_added, drops_come_first, action_for, span_text, command_text, divider_text, line_text, canonical, in_order, SpellsFirst};
+ghost use Rattle.normal_form.specs.Canonical.{are_added, drops_come_first, action_for, command_text, divider_text, line_text, canonical, in_order, SpellsFirst};
+ghost use Rattle.diff_command.specs.Spans.{span_text};
 
 use arrayvec::ArrayVec;
 use diff_command::{Action, letter_of};

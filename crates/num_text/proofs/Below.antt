@@ -1,6 +1,6 @@
 -- Two numbers compared digit by digit, aligned at their ends.
-use Rattle.std.proofs.Common.{◌≡◌, ◌≢◌, ◌&&◌, ℕ, zero, suc, ◌+◌, ◌-◌, ◌*◌, ◌<◌, ◌≤◌, Bool, true, false, cond, ltb, List, [], ◌∷◌, length, get_or, drop, refl, sym, ap, subst, ◌∙◌, arith, inl, inr}
-use Rattle.std.proofs.lemmas.Bool.{cases_lt, ltb-true, ltb-false, leb-true, lt-ltb, le-ltb}
+use Rattle.std.proofs.Common.{◌≡◌, ◌≢◌, ℕ, zero, suc, ◌+◌, ◌-◌, ◌*◌, ◌<◌, ◌≤◌, Bool, true, false, cond, ltb, List, [], ◌∷◌, length, get_or, drop, refl, sym, ap, subst, ◌∙◌, arith, inl, inr}
+use Rattle.std.proofs.lemmas.Bool.{cases_lt, ltb-true, ltb-false, leb-true, lt-ltb, le-ltb, and_parts}
 use Rattle.std.proofs.lemmas.List.{length-drop}
 use Rattle.num_text.specs.Numbers.{is_digit, value_after, after_digits}
 use Rattle.num_text.specs.NumberRanges.{place_value}
@@ -27,15 +27,11 @@ digits-inside (b ∷ bs) (suc e) k le same lt = by (is_digit b) refl (λ is j le
     by true is more = inner is (more is) k lt
     by false is more = absurd (no-run b bs e (omega arith) (same ∙ rest-stop b bs is))
 
-both : (x y : Bool) → (x && y) ≡ true → (x ≡ true) × (y ≡ true)
-both true y e = (refl, e)
-both false y e = absurd cc
-
 digit-low : (b : ℕ) → is_digit b ≡ true → 48 ≤ b
-digit-low b is = leb-true 48 b (both _ _ is).0
+digit-low b is = leb-true 48 b (and_parts _ _ is).0
 
 digit-high : (b : ℕ) → is_digit b ≡ true → b ≤ 57
-digit-high b is = leb-true b 57 (both _ _ is).1
+digit-high b is = leb-true b 57 (and_parts _ _ is).1
 
 rest-shorter : (ls : List ℕ) → length (after_digits ls) ≤ length ls
 rest-shorter [] = rw rest-nil (omega arith)

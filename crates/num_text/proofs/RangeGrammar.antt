@@ -86,7 +86,7 @@ pub record StopsRange (rest : List ℕ) : Type 0 where
 abbrev pub ranged : Bool → ℕ → ℕ → NumberRange
 ranged single first last = record { first = first; last = last; is_single = single; is_turned = ltb last first }
 
-range-first : (bytes : List ℕ) (n : ℕ) (rest : List ℕ) → number_at bytes ≡ Some (n, rest) → range_at bytes ≡ behind_first n rest
+pub range-first : (bytes : List ℕ) (n : ℕ) (rest : List ℕ) → number_at bytes ≡ Some (n, rest) → range_at bytes ≡ behind_first n rest
 unfolding range_at
 range-first bytes n rest read = rw read refl
 

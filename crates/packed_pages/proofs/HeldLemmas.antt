@@ -13,6 +13,8 @@ use Rattle.line_store.specs.declared.Half.{Half}
 use Rattle.line_store.specs.declared.Half.TheVariants.{First, Second}
 use Rattle.page_pair.specs.Pair.{Pair, page_of}
 use Rattle.file_pieces.specs.Records.{stated, line_in}
+use Rattle.file_pieces.specs.Held.{HasPageCause}
+use Rattle.file_pieces.proofs.Told.{mapped-lines}
 use Rattle.packed_pages.specs.declared.layout.Layout.{Layout}
 use Rattle.packed_pages.specs.declared.marks.PageMarks.{PageMarks}
 use Rattle.packed_pages.specs.declared.marks.Marks.{Marks}
@@ -21,7 +23,7 @@ use Rattle.packed_pages.specs.declared.places.Places.{Places}
 use Rattle.packed_pages.specs.Packs.{records, joined, page_with, bytes_of}
 use Rattle.packed_pages.specs.Layout.{IsLayout, HasPacks, first_line, page_in, place_in, lines_on, pages_in, decoded, lines_told, told-none, told-some}
 use Rattle.packed_pages.specs.Marks.{AreMarks, AreMarked, marks_of}
-use Rattle.packed_pages.specs.Held.{seen_of, place_of, line_held, IsPage, HoldsPacks, HasPageCause, IsOnPage, IsLoaded, IsHeld, Overruns, IsRecordFault, IfStart}
+use Rattle.packed_pages.specs.Held.{seen_of, place_of, line_held, IsPage, HoldsPacks, IsOnPage, IsLoaded, IsHeld, Overruns, IsRecordFault, IfStart}
 use Rattle.packed_pages.proofs.Pages.{pages-many, first-at, page-at, page-length, joined-more, place-at, stated-at, line-in-at, record-within}
 
 -- where the page of a place stands among the pages of the scratch
@@ -98,10 +100,6 @@ packs-made l b ps is made m counted fits =
 pub packs-decoded : (l : Layout) (b : List ℕ) → HasPacks l b → decoded l b ≡ joined (pages_in l b)
 unfolding decoded
 packs-decoded l b h = sym (fill_by_all (λ i. get_or (joined (pages_in l b)) i []) (joined (pages_in l b)) l.count [] h.counted (λ i lt. refl))
-
-mapped-lines : (f : List ℕ → List (List ℕ)) (o : Option (List ℕ)) (ls : List (List ℕ)) → option_map f o ≡ Some ls → (b : List ℕ) × ((o ≡ Some b) × (f b ≡ ls))
-mapped-lines f None ls e = absurd cc
-mapped-lines f (Some b) ls e = (b, (refl, cc))
 
 -- a line of the page that a half holds
 pub line-there : (l : Layout) (v : ScratchView) (p : Place) (page : List ℕ) (k : ℕ) (ls : List (List ℕ)) → IsLayout l → HoldsPacks l v → p.page < l.pages → ((b : List ℕ) → v.told ≡ Some b → IsPage l b p page) → 1 ≤ k → k ≤ l.count → p.first ≤ k → k < p.next → lines_told l v.told ≡ Some ls → line_in page (place_in (k - p.first) page) ≡ line_at ls k

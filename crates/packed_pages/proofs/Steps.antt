@@ -7,13 +7,13 @@ use Rattle.line_store.specs.declared.Half.{Half}
 use Rattle.line_store.specs.Store.{line_at, NoneAlike, IsLastAlike}
 use Rattle.page_pair.specs.Pair.{Pair, page_of}
 use Rattle.file_pieces.specs.Records.{stated, line_in}
+use Rattle.file_pieces.specs.Alike.{TellsAlike, FindsFirst}
 use Rattle.packed_pages.specs.declared.layout.Layout.{Layout}
 use Rattle.packed_pages.specs.declared.places.Place.{Place}
 use Rattle.packed_pages.specs.declared.places.Places.{Places}
 use Rattle.packed_pages.specs.Layout.{place_in, first_line, page_in, lines_told, IsPageOf}
 use Rattle.packed_pages.specs.Held.{IsPage, IsLoaded, IsHeld, place_of}
-use Rattle.packed_pages.specs.Steps.{IsWhole, Follows, IfNear, Misses, TellsAlike, IfLast, IfReaches, moved}
-use Rattle.packed_pages.specs.Alike.{FindsFirst}
+use Rattle.packed_pages.specs.Steps.{IsWhole, Follows, IfNear, Misses, IfLast, IfReaches, moved}
 use Rattle.packed_pages.proofs.Pages.{place-more}
 use Rattle.packed_pages.proofs.HeldLemmas.{line-there}
 use Rattle.packed_pages.proofs.Spans.{page-plain}

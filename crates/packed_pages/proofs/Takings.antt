@@ -1,19 +1,17 @@
 -- A file that was taken.
 use Rattle.std.proofs.Common.{◌≡◌, ℕ, ◌^◌, ◌<◌, true, false, List, length, Option, None, Some, is_some, refl, sym, ap, ◌∙◌, arith, inl, inr}
-use Rattle.std.specs.Prelude.{nat_le}
 use Rattle.std.specs.Option.{option_map}
 use Rattle.std.proofs.lemmas.Bool.{false≢true, cases_eq}
-use Rattle.std.proofs.lemmas.Bool.Decides.{nat_tests}
 use Rattle.std.proofs.lemmas.List.{nil_from_length}
 use Rattle.std.proofs.lemmas.Option.{none-some}
 use Rattle.line_list.specs.Lines.{lines}
 use Rattle.outside.specs.ScratchView.{ScratchView}
 use Rattle.line_store.specs.declared.Half.{Half}
-use Rattle.line_store.specs.Store.{Seen, line_at}
-use Rattle.line_store.specs.Taking.{refusal, first_long, Takes}
-use Rattle.line_store.specs.declared.fault.OpenFault.TheVariants.{LongLine}
+use Rattle.line_store.specs.Store.{Seen}
+use Rattle.line_store.specs.Taking.{Takes}
 use Rattle.page_pair.specs.Pair.{Pair}
 use Rattle.file_pieces.proofs.LongLines.{none-long}
+use Rattle.file_pieces.proofs.Told.{told-something, admitted-is}
 use Rattle.packed_pages.specs.declared.layout.Layout.{Layout}
 use Rattle.packed_pages.specs.declared.places.Places.{Places}
 use Rattle.packed_pages.specs.Packs.{joined, bytes_of, packs}
@@ -45,15 +43,6 @@ decoded-told l told b ls is e n = elim (cases_eq l.count 0) [
   | inl none ↦ told-none l told none ∙ ap Some (sym (nil_from_length ls (omega arith)))
   | inr some ↦ told-some l told (omega arith) ∙ ap (option_map (decoded l)) is ∙ ap Some e
 ]
-
-admitted-is : (size : ℕ) (text : List ℕ) → length text < 2 ^ 40 → first_long size (lines text) ≡ None → refusal size text ≡ None
-admitted-is size text lt short =
-    let t : nat_le (2 ^ 40) (length text) ≡ false = grind (arith, nat_tests) in
-    rw t (ap (option_map (λ k. LongLine k (length (line_at (lines text) k)))) short)
-
-told-something : (o : Option (List ℕ)) → is_some o ≡ true → (b : List ℕ) × (o ≡ Some b)
-told-something None e = absurd (false≢true e)
-told-something (Some b) e = (b, refl)
 
 pub written-takes : (before : Seen) (l : Layout) (places : Places) (v : ScratchView) (file : Option (List ℕ)) (text : List ℕ) → IsLayout l → l.size ≡ before.size → is_some v.told ≡ is_some before.scratch → IsWritten l v.told file → file ≡ Some text → IsMeasuredAs l (lines text) → length text < 2 ^ 40 → Takes before (seen_of l places v) text
 written-takes before l places v file text is size telling was known m short = record {

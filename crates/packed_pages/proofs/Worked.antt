@@ -1,9 +1,7 @@
 -- The format at the lines `a` and `bcd`, each with its line feed.
-use Rattle.std.proofs.Common.{◌≡◌, List, ℕ, [], ◌∷◌, length, take, refl}
+use Rattle.std.proofs.Common.{◌≡◌, [], ◌∷◌, length, take, refl}
+use Rattle.file_pieces.proofs.Told.{two_lines}
 use Rattle.packed_pages.specs.Packs.{pages_of, bytes_of, packs, page_with, packed_record}
-
-abbrev pub two_lines : List (List ℕ)
-two_lines = (97 ∷ 10 ∷ []) ∷ (98 ∷ 99 ∷ 100 ∷ 10 ∷ []) ∷ []
 
 pub pages_worked : pages_of 512 two_lines ≡ two_lines ∷ []
 unfolding pages_of packed_record

@@ -1,7 +1,6 @@
 -- What a plan of packed pages holds, and what it is seen as.
-use Rattle.std.specs.Prelude.{◌≡◌, ◌≢◌, ◌⊎◌, ⊤, ℕ, ◌+◌, ◌-◌, ◌^◌, ◌<◌, ◌≤◌, List, [], length, false, Option, Some, None}
+use Rattle.std.specs.Prelude.{◌≡◌, ◌≢◌, ◌⊎◌, ⊤, ℕ, ◌+◌, ◌-◌, ◌^◌, ◌<◌, ◌≤◌, List, length, false, Option, Some, None}
 use Rattle.std.specs.Option.{option_map}
-use Rattle.outside.specs.Faults.{HasRisen}
 use Rattle.outside.specs.ScratchView.{ScratchView}
 use Rattle.line_store.specs.declared.fault.LineFault.{LineFault}
 use Rattle.line_store.specs.declared.fault.LineFault.TheVariants.{Scratch, Disagree}
@@ -146,12 +145,3 @@ IsPastEnd (Disagree want got) page at = (want ≢ got) × (length page < at + 4 
 abbrev pub IsRecordFault : LineFault → ℕ → List ℕ → Type 0
 IsRecordFault Scratch n page = ⊥
 IsRecordFault (Disagree want got) n page = (want ≢ got) × Overruns n page
-
--- why a line was not fetched
-abbrev pub HasPageCause : LineFault → ScratchView → ScratchView → Type 0
-HasPageCause Scratch v w = HasRisen v.faults w.faults
-HasPageCause (Disagree want got) v w = (want ≢ got) × (v.told ≡ None)
-
--- a plan that stands for no lines, over a scratch
-abbrev pub bare : ℕ → ScratchView → Seen
-bare size v = record { told = Some []; count = 0; held = λ h. None; faults = v.faults; scratch = v.told; size = size; needs_memory = false }

@@ -3,7 +3,6 @@ pub mod Layout
 pub mod Marks
 pub mod Held
 pub mod Steps
-pub mod Alike
 pub mod Filling
 pub mod Copying
 pub mod Packing

@@ -1,5 +1,5 @@
 -- Places reached from another one of the same page without a search.
-use Rattle.std.specs.Prelude.{◌≡◌, ◌≢◌, ⊤, ℕ, ◌+◌, ◌-◌, ◌<◌, ◌≤◌, List, length, Bool, true, false, Option, Some, None}
+use Rattle.std.specs.Prelude.{◌≡◌, ◌≢◌, ⊤, ℕ, ◌+◌, ◌-◌, ◌<◌, ◌≤◌, List, length, Option, Some, None}
 use Rattle.file_pieces.specs.Records.{stated, line_in}
 use Rattle.packed_pages.specs.declared.places.Place.{Place}
 use Rattle.packed_pages.specs.Layout.{place_in}
@@ -28,11 +28,6 @@ IfNear page (Some p) k (Some q) = Follows page p q × (q.line ≡ k)
 -- none of the records of a page that stand for lines from one up to before another is this line
 abbrev pub Misses : List ℕ → ℕ → List ℕ → ℕ → ℕ → Type 0
 Misses page first line from to = (i : ℕ) → from ≤ i → i < to → line_in page (place_in (i - first) page) ≢ line
-
--- whether the record of a place is this line
-abbrev pub TellsAlike : List ℕ → List ℕ → ℕ → Bool → Type 0
-TellsAlike page line at true = line_in page at ≡ line
-TellsAlike page line at false = line_in page at ≢ line
 
 -- a place that follows another one holds this line, and none behind it does, up to before a line
 pub record IsLastAt (page : List ℕ) (start : Place) (line : List ℕ) (to : ℕ) (q : Place) : Type 0 where

@@ -9,7 +9,8 @@ ghost use Rattle.file_pieces.specs.Records.{stated};
 ghost use Rattle.packed_pages.specs.declared.places.Place.{Place};
 ghost use Rattle.packed_pages.specs.Layout.{IsLayout, page_in, place_in};
 ghost use Rattle.packed_pages.specs.Marks.{IsMark, AreMarks, AreMarked, marks_of};
-ghost use Rattle.packed_pages.specs.Held.{seen_of, place_of, line_held, IsHeld, IsOnPage, IsLoaded, HoldsPage, HoldsPacks, HoldsPageOf, HasPageOf, HasPageCause, IsRecordFault, IfStart, ReadsAtMost, ReadsByDigits};
+ghost use Rattle.packed_pages.specs.Held.{seen_of, place_of, line_held, IsHeld, IsOnPage, IsLoaded, HoldsPage, HoldsPacks, HoldsPageOf, HasPageOf, IsRecordFault, IfStart, ReadsAtMost, ReadsByDigits};
+ghost use Rattle.file_pieces.specs.Held.{HasPageCause};
 
 use crate::layout::Layout;
 use crate::marks::{Mark, Marks};

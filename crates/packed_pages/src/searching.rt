@@ -3,7 +3,8 @@
 ghost use Rattle.std.specs.Prelude.{◌≡◌, ◌<◌, ◌≤◌, ◌+◌, ◌-◌, ◌*◌, ℕ, List, Some, IfOk, IfErr};
 ghost use Rattle.outside.specs.ScratchView.{ScratchPasses};
 ghost use Rattle.packed_pages.specs.Layout.{IsLayout, first_line};
-ghost use Rattle.packed_pages.specs.Held.{HoldsPacks, HasPageCause, IsSpan, IsSpanTold, ReadsAtMost, ReadsByDigits};
+ghost use Rattle.packed_pages.specs.Held.{HoldsPacks, IsSpan, IsSpanTold, ReadsAtMost, ReadsByDigits};
+ghost use Rattle.file_pieces.specs.Held.{HasPageCause};
 
 use crate::layout::Layout;
 use line_store::LineFault;

@@ -3,7 +3,8 @@
 ghost use Rattle.std.specs.Prelude.{◌≡◌, ◌≤◌, ◌<◌, ◌+◌, ◌^◌, IsTrue, ◌↔◌, ℕ, List, length, None, Some, IfSome};
 ghost use Rattle.file_pieces.specs.Records.{stated, line_in};
 ghost use Rattle.packed_pages.specs.declared.places.Place.{Place};
-ghost use Rattle.packed_pages.specs.Steps.{IsWhole, Follows, IfNear, Misses, TellsAlike, IfLast, IfReaches};
+ghost use Rattle.packed_pages.specs.Steps.{IsWhole, Follows, IfNear, Misses, IfLast, IfReaches};
+ghost use Rattle.file_pieces.specs.Alike.{TellsAlike};
 ghost use Rattle.packed_pages.specs.Held.{place_of};
 
 use crate::places::{Place, Places};

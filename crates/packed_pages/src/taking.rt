@@ -7,7 +7,7 @@ ghost use Rattle.outside.specs.Calls.{IsThere, IsUntouched};
 ghost use Rattle.outside.specs.ScratchView.{ScratchPasses};
 ghost use Rattle.file_pieces.specs.Reading.{told_file, HasLength, IsMeasureFault, IsTakeFault};
 ghost use Rattle.packed_pages.specs.Layout.{IsLayout};
-ghost use Rattle.packed_pages.specs.Held.{bare};
+ghost use Rattle.file_pieces.specs.Held.{bare};
 ghost use Rattle.packed_pages.specs.Filling.{IsMeasuredAs};
 ghost use Rattle.packed_pages.specs.Copying.{IsWritten};
 

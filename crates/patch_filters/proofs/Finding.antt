@@ -12,7 +12,7 @@ use Rattle.patch_filters.specs.declared.fault.GrepFault.{GrepFault}
 use Rattle.patch_filters.specs.declared.fault.GrepFault.TheVariants.{Pattern, Write, Memory}
 use Rattle.patch_filters.specs.Grepped.{IsAsked, IsFindFault, IsPatternFault, HasGrepCause, Finds, test_by, test_of}
 use Rattle.patch_filters.proofs.Searching.{asked-none, asked-both, same-test}
-use Rattle.patch_filters.proofs.Loops.{up_to, one-more, both}
+use Rattle.hunk_core.proofs.Loops.{up_to, one-more, both}
 
 -- what was asked and received so far, before a further call
 pub record HasFound {O : Type 0} (view : O → SinkView) (same : O → O → Type 0) (asked answered : FinderView) (old new : O) (bytes : List ℕ) : Type 0 where

@@ -1,8 +1,7 @@
-mod Loops
 pub mod Rows
 mod Ranges
 mod OldLines
-mod Placed
+pub mod Placed
 mod Whole
 mod AsWritten
 mod Searching

@@ -2,7 +2,7 @@
 use Rattle.std.proofs.Common.{◌≡◌, ℕ, suc, ◌-◌, ◌≤◌, Bool, true, false, ◌&&◌, ◌||◌, List, [], ◌∷◌, refl, sym, ap, ◌∙◌, arith}
 use Rattle.std.specs.Prelude.{nat_le, max, min}
 use Rattle.std.specs.List.{list_any}
-use Rattle.std.proofs.lemmas.Bool.{le-leb, leb-true}
+use Rattle.std.proofs.lemmas.Bool.{le-leb, leb-true, and_from}
 use Rattle.glob_match.proofs.Deciding.{found-in-range, in-range-found}
 use Rattle.tool_words.specs.PlainJobs.{PlainRanges}
 use Rattle.patch_filters.specs.Selected.{is_in}
@@ -32,10 +32,6 @@ and-both : (p q : Bool) → (p && q) ≡ true → (p ≡ true) × (q ≡ true)
 and-both true q is = (refl, is)
 and-both false q is = absurd cc
 
-and-true : (p q : Bool) → p ≡ true → q ≡ true → (p && q) ≡ true
-and-true true q is also = also
-and-true false q is also = absurd cc
-
 module _ (first last : ℕ) where
   abbrev is_between : ℕ × ℕ → ℕ → Bool
   is_between r n = nat_le r.0 n && nat_le n r.1
@@ -52,7 +48,7 @@ module _ (first last : ℕ) where
       (λ meet.
       let le : max first r.0 ≤ min last r.1 = leb-true (max first r.0) (min last r.1) meet in
       in-range-found (is_between r) first (suc last - first) (max first r.0) (omega arith) (omega (arith, le))
-      (and-true _ _ (le-leb r.0 (max first r.0) (omega arith)) (le-leb (max first r.0) r.1 (omega (arith, le)))))
+      (and_from _ _ (le-leb r.0 (max first r.0) (omega arith)) (le-leb (max first r.0) r.1 (omega (arith, le)))))
 
   pub one-in : (ranges : PlainRanges) → list_any (is_in ranges) (from_to first last) ≡ list_any meets ranges
   one-in [] = any-none (from_to first last)

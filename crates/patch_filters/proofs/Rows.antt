@@ -1,7 +1,7 @@
 -- Lists with numbers, and what stands at a place of them.
 use Rattle.std.proofs.Common.{◌≡◌, ℕ, zero, suc, ◌+◌, ◌<◌, Bool, true, false, ◌||◌, cond, List, [], ◌∷◌, ◌++◌, length, get_or, map, Option, Some, refl, sym, ap, subst, ◌∙◌, arith}
 use Rattle.std.specs.Prelude.{slice_get, filter, option_map}
-use Rattle.std.specs.List.{flat_map, list_any, range_with_len, zip}
+use Rattle.std.specs.List.{flat_map, list_any, zip}
 use Rattle.std.specs.Option.{ForSome}
 use Rattle.std.proofs.lemmas.List.{length-map}
 use Rattle.std.proofs.lemmas.List.Concat.{flat_map-cons}
@@ -11,6 +11,7 @@ use Rattle.file_patch.specs.PlainPatch.{PlainChange, PlainPatch, hunks, script, 
 use Rattle.patch_set.proofs.Named.{rows-counted}
 use Rattle.patch_set.specs.SetView.{SetView}
 use Rattle.tool_words.specs.PlainJobs.{PlainFilterJob, PlainListJob}
+use Rattle.line_list.proofs.Elements.{behind, numbered-from, numbered-long}
 use Rattle.patch_filters.specs.Listed.{is_listed, line_if_selected, list_line, listed}
 use Rattle.patch_filters.specs.Filtered.{filtered, is_taken_of, written, written_if_taken}
 use Rattle.patch_filters.specs.Selected.{numbered}
@@ -21,14 +22,6 @@ use Rattle.patch_filters.specs.Kept.{is_kept, kept}
 
 pub for-some : {A : Type 0} (P : A → Type 0) (o : Option A) (x : A) → o ≡ Some x → P x → ForSome o P
 for-some P o x is p = λ y also. subst P (same_Some x y (sym is ∙ also)) p
-
-pub found : {A : Type 0} (xs : List A) (i : ℕ) (x : A) → i < length xs → x ≡ get_or xs i x → slice_get xs i ≡ Some x
-found xs i x lt is = slice_get-get_or xs i x lt ∙ ap (λ y. Some y) (sym is)
-
-pub there-is : {A : Type 0} (xs : List A) (i : ℕ) → i < length xs → (x : A) × (slice_get xs i ≡ Some x)
-there-is [] i lt = absurd (omega (arith, lt))
-there-is (x ∷ xs) zero lt = (x, refl)
-there-is (x ∷ xs) (suc i) lt = there-is xs i (omega (arith, lt))
 
 -- ---- a test of what elements stand for
 
@@ -48,21 +41,8 @@ flat-if {A = A} test f (x ∷ xs) =
     ∙ sym (flat_map-cons (λ (y : A). cond (test y) (f y) []) x xs)
 
 -- ---- numbers
-
-abbrev behind : {A : Type 0} → ℕ → A → Option (ℕ × A)
-behind n x = Some (n, x)
-
-numbered-from : {A : Type 0} (a : ℕ) (xs : List A) (i : ℕ) (x : A) → slice_get xs i ≡ Some x → slice_get (zip (range_with_len a (length xs)) xs) i ≡ Some (a + i, x)
-numbered-from a [] i x is = absurd cc
-numbered-from {A = A} a (y ∷ xs) zero x is = let e : a ≡ a + 0 = omega arith in ap (λ n. Some (n, y)) e ∙ ap (λ (z : A). Some (a + 0, z)) (same_Some y x is)
-numbered-from {A = A} a (y ∷ xs) (suc i) x is = let e : a + 1 + i ≡ a + suc i = omega arith in numbered-from (a + 1) xs i x is ∙ ap (λ n. behind n x) e
-
 pub numbered-at : {A : Type 0} (xs : List A) (i : ℕ) (x : A) → slice_get xs i ≡ Some x → slice_get (numbered xs) i ≡ Some (suc i, x)
 numbered-at {A = A} xs i x is = let e : 1 + i ≡ suc i = omega arith in numbered-from 1 xs i x is ∙ ap (λ n. behind n x) e
-
-numbered-long : {A : Type 0} (a : ℕ) (xs : List A) → length (zip (range_with_len a (length xs)) xs) ≡ length xs
-numbered-long a [] = refl
-numbered-long a (y ∷ xs) = ap suc (numbered-long (a + 1) xs)
 
 pub numbered-count : {A : Type 0} (xs : List A) → length (numbered xs) ≡ length xs
 numbered-count xs = numbered-long 1 xs

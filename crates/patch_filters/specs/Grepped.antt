@@ -1,9 +1,8 @@
 -- What is written of the file patches of which a line is found (manual page of `grepdiff`).
-use Rattle.std.specs.Prelude.{◌≡◌, ℕ, ◌-◌, Bool, true, false, ◌&&◌, filter, List, [], ◌∷◌, ◌++◌, codes, length, map, take, slice_get, Option, None, Some, Result, IfErr, OnOk, OnErr, if◌then◌else◌}
+use Rattle.std.specs.Prelude.{◌≡◌, ℕ, Bool, true, false, ◌&&◌, filter, List, [], ◌∷◌, ◌++◌, codes, map, take, slice_get, Option, None, Some, Result, IfErr, OnOk, OnErr, if◌then◌else◌}
 use Rattle.std.specs.List.{flat_map, list_any}
 use Rattle.outside.specs.FinderView.{FinderView, FinderPasses}
 use Rattle.outside.specs.SinkView.{SinkView, SinkPasses, Receives, ReceivesPart, Rises}
-use Rattle.hunk_core.specs.LineTests.{ends_line}
 use Rattle.hunk_core.specs.PlainHunk.{bytes_at}
 use Rattle.file_patch.specs.declared.FilePatch.{FilePatch}
 use Rattle.file_patch.specs.PlainPatch.{PlainChange, PlainPatch, hunks, script, change_of, header_of, patch_of}
@@ -12,14 +11,11 @@ use Rattle.patch_set.specs.SetView.{SetView}
 use Rattle.tool_words.specs.PlainJobs.{PlainGrepJob}
 use Rattle.tool_words.specs.declared.jobs.GrepOut.{GrepOut}
 use Rattle.tool_words.specs.declared.jobs.GrepOut.TheVariants.{Names, Hunks, Files}
+pub use Rattle.patch_header.specs.Content.{content}
 use Rattle.patch_filters.specs.declared.fault.GrepFault.{GrepFault}
 use Rattle.patch_filters.specs.declared.fault.GrepFault.TheVariants.{Pattern, Write, Memory}
 use Rattle.patch_filters.specs.Selected.{is_selected}
 use Rattle.patch_filters.specs.Filtered.{region, pieces, chosen}
-
--- a line without the line feed at its end
-abbrev pub content : List ℕ → List ℕ
-content line = if ends_line line then take (length line - 1) line else line
 
 -- the contents of all lines of each hunk, without their marks; an ed script is one hunk, with the lines that it inserts
 abbrev pub contents : PlainChange → List (List (List ℕ))

@@ -7,7 +7,8 @@ ghost use Rattle.hunk_core.specs.PlainHunk.{hunk_of};
 ghost use Rattle.hunk_core.specs.Turned.{IsLawful, LiesIn};
 ghost use Rattle.ed_form.specs.PlainEdit.{edits_of, lines_of};
 ghost use Rattle.file_patch.specs.PlainPatch.{IsLawfulChange, change_of, row_count};
-ghost use Rattle.patch_filters.specs.Grepped.{IsAsked, IsFirst, IsPatternFault, content, hits_of, test_of};
+ghost use Rattle.patch_filters.specs.Grepped.{IsAsked, IsFirst, IsPatternFault, hits_of, test_of};
+ghost use Rattle.patch_header.specs.Content.{content};
 
 use crate::GrepFault;
 use crate::pieces::bytes_at;

@@ -7,13 +7,14 @@ use Rattle.hunk_core.specs.LineTests.{after, ends_line}
 use Rattle.num_text.specs.Numbers.{is_digit, value_after, after_digits}
 use Rattle.num_text.specs.NumberRanges.{range_at, from_first}
 use Rattle.num_text.specs.declared.range.NumberRange.{NumberRange}
-use Rattle.diff_command.specs.Letters.{◌>>=◌, action_at, is_line_end}
+use Rattle.diff_command.specs.Letters.{action_at, is_line_end}
 use Rattle.diff_command.specs.declared.Action.{Action}
 use Rattle.ed_form.specs.Commands as ed
 use Rattle.ed_form.specs.declared.command.Command.{Command}
 use Rattle.unified_form.specs.Ranges as range_line
 use Rattle.context_form.specs.Openings as context
 use Rattle.normal_form.specs.Commands as command
+use Rattle.hunk_core.specs.OptionSteps.{◌>>=◌}
 use Rattle.patch_header.specs.Content.{content, is_binary}
 
 -- the first byte of a line; 0 where there is none
@@ -39,7 +40,7 @@ after-front p prefix (b ∷ bytes) h = by (eqb b p) refl h
     by true e k = eqb-true b p e
     by false e k = absurd cc
 
-unified-some : (o : Option (List ℕ)) → is_some (range_line.◌>>=◌ o range_line.size_at) ≡ true → is_some o ≡ true
+unified-some : (o : Option (List ℕ)) → is_some (o >>= range_line.size_at) ≡ true → is_some o ≡ true
 unified-some None h = absurd cc
 unified-some (Some x) h = refl
 

@@ -17,7 +17,7 @@ use Rattle.patch_header.proofs.Stands.{stop-end}
 
 -- ---- one region
 
-region-here : (ways : Ways) (rest : List (List ℕ)) (stop : Stop) → stop_at ways rest ≡ Some stop → region_of ways rest ≡ []
+pub region-here : (ways : Ways) (rest : List (List ℕ)) (stop : Stop) → stop_at ways rest ≡ Some stop → region_of ways rest ≡ []
 unfolding region_of
 region-here ways [] stop h = refl
 region-here ways (line ∷ rest) stop h = rw h refl
@@ -27,7 +27,7 @@ unfolding first_stop
 stop-here ways [] stop h = sym (stop-end ways) ∙ h
 stop-here ways (line ∷ rest) stop h = rw h refl
 
-region-passed : (ways : Ways) (region rest : List (List ℕ)) → AreQuiet ways region rest → region_of ways (region ++ rest) ≡ region ++ region_of ways rest
+pub region-passed : (ways : Ways) (region rest : List (List ℕ)) → AreQuiet ways region rest → region_of ways (region ++ rest) ≡ region ++ region_of ways rest
 unfolding region_of
 region-passed ways [] rest h = refl
 region-passed ways (line ∷ region) rest h = rw h.0 (ap (λ ls. line ∷ ls) (region-passed ways region rest h.1))
@@ -53,7 +53,7 @@ stop-is ways text at region place stop h s =
     ∙ stop-passed ways region (lines (drop place text)) h.quiet
     ∙ stop-here ways (lines (drop place text)) stop s
 
-stop-nowhere : (ways : Ways) → first_stop ways [] ≡ None
+pub stop-nowhere : (ways : Ways) → first_stop ways [] ≡ None
 unfolding first_stop
 stop-nowhere ways = refl
 

@@ -10,3 +10,4 @@ pub mod Scanning
 pub mod Steps
 pub mod Kept
 pub mod Searching
+pub mod Written

@@ -14,7 +14,7 @@ both : (a b : Bool) → (a && b) ≡ true → (a ≡ true) × (b ≡ true)
 both true b h = (refl, h)
 both false b h = cc
 
-is_false : (b : Bool) → not b ≡ true → b ≡ false
+pub is_false : (b : Bool) → not b ≡ true → b ≡ false
 is_false true h = cc
 is_false false h = refl
 
@@ -44,10 +44,10 @@ prefix_is text h =
     let parts = both (is_none (broken_given (text ++ codes "x"))) _ h in
     record { lawful = none_of _ parts.0; normal = (bytes_eq-Decides _ _).0 parts.1 }
 
-none_has : {X : Type 0} (P : X → Type 0) → ForSome None P
+pub none_has : {X : Type 0} (P : X → Type 0) → ForSome None P
 none_has P = λ x e. cc
 
-some_has : {X : Type 0} (P : X → Type 0) (x : X) → P x → ForSome (Some x) P
+pub some_has : {X : Type 0} (P : X → Type 0) (x : X) → P x → ForSome (Some x) P
 some_has P x h = λ y e. subst P (ap (λ o. unwrap_or o x) e) h
 
 -- a value that has a form

@@ -7,7 +7,7 @@ use Rattle.std.specs.Option.{ForSome}
 use Rattle.file_patch.specs.declared.Change.{Change}
 use Rattle.file_patch.specs.declared.Change.TheVariants.{Hunks, Script}
 use Rattle.file_patch.specs.declared.FilePatch.{FilePatch}
-use Rattle.file_patch.specs.PlainPatch.{PlainPatch, change_of, header_of, patch_of}
+use Rattle.file_patch.specs.PlainPatch.{PlainPatch, change_of, header_of, patch_of, is_script}
 use Rattle.patch_options.specs.PlainJob.{PlainOptions}
 use Rattle.target_names.specs.declared.derived.Target.{Target}
 use Rattle.target_names.specs.Targets.{HasTemps, IsLasting, is_reserved}
@@ -18,7 +18,7 @@ use Rattle.patch_set.specs.Looks.{has_script, is_reserving, is_script_change}
 use Rattle.patch_set.specs.Named.{known_names, output_of, targets_of}
 use Rattle.patch_set.specs.Naming.{IsNamed, AreNamed}
 use Rattle.patch_set.specs.SetView.{IsFit}
-use Rattle.patch_set.specs.Refusals.{first_of, ed_reverse, has_reserved, is_script, reserved, reserves_output}
+use Rattle.patch_set.specs.Refusals.{first_of, ed_reverse, has_reserved, reserved, reserves_output}
 
 -- a fault at the opening of the file patch that is found, and of what it stands for
 module _ (make : ℕ → SetFault) (text : List ℕ) where

@@ -1,12 +1,12 @@
 -- Why a patch text makes no set: the first of the refusals that applies.
-use Rattle.std.specs.Prelude.{ℕ, Bool, true, false, ◌&&◌, ◌==◌, not, if◌then◌else◌, List, [], ◌∷◌, length, nat_lt, ◌||◌, Option, None, Some, option_map, is_some, Result, Ok, Err}
+use Rattle.std.specs.Prelude.{ℕ, Bool, false, ◌&&◌, ◌==◌, not, if◌then◌else◌, List, [], ◌∷◌, length, nat_lt, ◌||◌, Option, None, Some, option_map, is_some, Result, Ok, Err}
 use Rattle.std.specs.List.{find, list_any}
 use Rattle.std.specs.Option.{option_map_or}
 use Rattle.line_list.specs.Completed.{completed}
 use Rattle.hunk_core.specs.declared.fault.FormFault.{FormFault}
 use Rattle.hunk_core.specs.declared.fault.FormFault.TheVariants as forms
 use Rattle.hunk_core.specs.Reading.{Fault}
-use Rattle.file_patch.specs.PlainPatch.{PlainChange, PlainPatch, hunks, script}
+use Rattle.file_patch.specs.PlainPatch.{PlainPatch, is_script}
 use Rattle.patch_options.specs.PlainJob.{PlainOptions}
 use Rattle.target_names.specs.Targets.{is_reserved}
 use Rattle.patch_text.specs.Patches.{patches_of}
@@ -32,10 +32,6 @@ garbage text ps = if length ps == 0 && not (length text == 0) then Some faults.G
 -- one output for more than one file patch
 abbrev pub out_many : PlainOptions → List PlainPatch → Option SetFault
 out_many o ps = if is_some o.output && nat_lt 1 (length ps) then Some (faults.OutMany (length ps)) else None
-
-abbrev pub is_script : PlainChange → Bool
-is_script (hunks hs) = false
-is_script (script es) = true
 
 -- an ed script can't be reversed; the line is that of the opening of the first
 abbrev pub ed_reverse : PlainOptions → List PlainPatch → Option SetFault

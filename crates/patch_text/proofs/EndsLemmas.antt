@@ -31,7 +31,7 @@ use Rattle.normal_form.specs.Commands.{is_command, parts_at}
 use Rattle.normal_form.specs.Stretches.{marks, ends_divider, is_divider}
 use Rattle.normal_form.specs.Grammar as normal
 use Rattle.normal_form.proofs.Pieces as normal_pieces
-use Rattle.normal_form.proofs.SliceLemmas.{slice-length}
+use Rattle.hunk_core.proofs.TextLemmas.{slice-length}
 use Rattle.patch_text.specs.Regions.{begins_piece, ends_from, piece_ends}
 use Rattle.file_patch.specs.PlainPatch.{hunks}
 use Rattle.patch_text.specs.Texts.{IsPiece}

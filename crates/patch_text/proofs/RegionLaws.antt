@@ -35,7 +35,7 @@ region-none ways text at number h = ap (region_by text at) (sym (one-step ways t
 
 -- ---- all of them
 
-regions-step : (most : ℕ) (ways : Ways) (text : List ℕ) (at number : ℕ) → regions_at (suc most) ways text at number ≡ with_later (λ p. regions_at most ways text (place_before text p.rest) p.number) (next_region ways text at number)
+pub regions-step : (most : ℕ) (ways : Ways) (text : List ℕ) (at number : ℕ) → regions_at (suc most) ways text at number ≡ with_later (λ p. regions_at most ways text (place_before text p.rest) p.number) (next_region ways text at number)
 unfolding regions_at
 regions-step most ways text at number = refl
 
@@ -61,3 +61,7 @@ all-regions (suc most) ways text start number before (p ∷ ps) end next enough 
 
 pub regions-are : (ways : Ways) (text : List ℕ) (ps : List FilePatch) → ArePatches ways text ps → map region_of ps ≡ regions_of ways text
 regions-are ways text ps h = sym (all-regions (length text) ways text 0 1 0 ps h.end h.next (omega arith) h.turn h.ends)
+
+pub regions-zero : (ways : Ways) (text : List ℕ) (at number : ℕ) → regions_at zero ways text at number ≡ []
+unfolding regions_at
+regions-zero ways text at number = refl

@@ -12,6 +12,7 @@ use Rattle.patch_header.specs.declared.ways.Ways.{Ways}
 use Rattle.patch_header.specs.Steps.{IsFirstOpening, first_stop}
 use Rattle.file_patch.specs.declared.FilePatch.{FilePatch}
 use Rattle.file_patch.specs.PlainPatch.{PlainPatch, row_count}
+use Rattle.patch_header.proofs.StepLemmas.{stop-nowhere}
 use Rattle.patch_text.specs.Patches.{place_before, next_patch, and_later, patches_at, patches_of}
 use Rattle.patch_text.specs.Spans.{IsPatch, LieInTurn}
 use Rattle.patch_text.proofs.ChangeLemmas.{lines-sum}
@@ -20,10 +21,6 @@ use Rattle.patch_text.proofs.ChangeLemmas.{lines-sum}
 
 pub place-back : (text : List ℕ) (at : ℕ) → at ≤ length text → place_before text (lines (drop at text)) ≡ at
 place-back text at high = omega (arith, high, lines-sum (drop at text), length-drop at text)
-
-stop-nowhere : (ways : Ways) → first_stop ways [] ≡ None
-unfolding first_stop
-stop-nowhere ways = refl
 
 -- nothing comes at the end of the text
 pub next-end : (ways : Ways) (text : List ℕ) (at number : ℕ) → at ≡ length text → next_patch ways text at number ≡ Ok None

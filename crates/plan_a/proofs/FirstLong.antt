@@ -1,10 +1,10 @@
 -- The first line that is too long.
 use Rattle.std.proofs.Common.{◌≡◌, ℕ, zero, suc, ◌+◌, ◌-◌, ◌<◌, ◌≤◌, ◌^◌, Bool, true, false, List, [], length, get_or, refl, ap, ◌∙◌, arith, Some, None}
-use Rattle.std.specs.Prelude.{nat_lt, nat_le, find}
+use Rattle.std.specs.Prelude.{nat_le, find}
 use Rattle.std.specs.List.{range_with_len}
 use Rattle.std.proofs.lemmas.Bool.Decides.{nat_tests}
 use Rattle.line_store.specs.Store.{line_at}
-use Rattle.line_store.specs.Taking.{first_long}
+use Rattle.line_store.specs.Taking.{first_long, is_long}
 use Rattle.line_store.specs.declared.fault.OpenFault.TheVariants.{LongLine}
 use Rattle.line_list.specs.Lines.{lines}
 use Rattle.plan_a.specs.Cut.{IsFirstLong}
@@ -21,9 +21,6 @@ find-here p a (suc n) lt e = rw e refl
 find-none : (p : ℕ → Bool) (a n : ℕ) → n ≡ 0 → find p (range_with_len a n) ≡ None
 find-none p a zero e = refl
 find-none p a (suc n) e = absurd (omega arith)
-
-abbrev pub is_long : ℕ → List (List ℕ) → ℕ → Bool
-is_long size ls k = nat_lt (size - 4) (length (line_at ls k))
 
 -- none of the first k lines is too long
 pub record NoneLong (size : ℕ) (ls : List (List ℕ)) (k : ℕ) : Type 0 where

@@ -1,11 +1,12 @@
 -- The lines of a text, read one after another.
 use Rattle.std.proofs.Common.{◌≡◌, ℕ, suc, ◌+◌, ◌-◌, ◌<◌, ◌≤◌, List, [], ◌∷◌, ◌++◌, length, get_or, drop, slice_range, refl, sym, ap, subst, ◌∙◌, arith, inl, inr, length-append}
 use Rattle.std.proofs.lemmas.Bool.{cases_eq}
-use Rattle.std.proofs.lemmas.List.{get_or-drop, length-drop, drop-drop}
+use Rattle.std.proofs.lemmas.List.{length-drop}
 use Rattle.std.proofs.Math.ListN.{get_or-append}
 use Rattle.std.proofs.Math.Seq.{get_or-append_seam}
 use Rattle.std.proofs.lemmas.List.{length-take}
 use Rattle.line_list.specs.Lines.{lines, IsLineAt}
+use Rattle.line_list.proofs.Elements.{front-is, front-rest, front-within}
 use Rattle.plan_a.specs.Cut.{IsPiece, IsCut, from_of, to_of}
 
 -- k lines stand before a place in a text
@@ -17,21 +18,6 @@ pub record IsRead (text : List ℕ) (at k : ℕ) : Type 0 where
 
 pub read-start : (text : List ℕ) → IsRead text 0 0
 read-start text = record { rest = refl; few = omega arith; within = omega arith; most = omega arith }
-
-front-is : {X : Type 0} (xs ys : List X) (x d : X) (i : ℕ) → drop i xs ≡ x ∷ ys → get_or xs i d ≡ x
-front-is xs ys x d i e =
-    let a : get_or (drop i xs) 0 d ≡ get_or xs (i + 0) d = get_or-drop i xs 0 d in
-    let z : i + 0 ≡ i = omega arith in
-    ap (λ k. get_or xs k d) (sym z) ∙ sym a ∙ ap (λ l. get_or l 0 d) e
-
-front-rest : {X : Type 0} (xs ys : List X) (x : X) (i : ℕ) → drop i xs ≡ x ∷ ys → drop (i + 1) xs ≡ ys
-front-rest xs ys x i e = sym (drop-drop 1 i xs) ∙ ap (drop 1) e
-
-front-within : {X : Type 0} (xs ys : List X) (x : X) (i : ℕ) → drop i xs ≡ x ∷ ys → i < length xs
-front-within xs ys x i e =
-    let a : length (drop i xs) ≡ length xs - i = length-drop i xs in
-    let b : length (drop i xs) ≡ suc (length ys) = ap length e in
-    omega arith
 
 here : (text : List ℕ) (at end k : ℕ) → IsRead text at k → IsLineAt text at end → drop k (lines text) ≡ slice_range text at end ∷ lines (drop end text)
 here text at end k r l = sym r.rest ∙ l.first

@@ -11,10 +11,12 @@ use Rattle.line_store.specs.declared.Half.TheVariants.{First, Second}
 use Rattle.line_store.specs.declared.halves.Halves.{Halves}
 use Rattle.line_store.specs.Halves.{half_of}
 use Rattle.page_pair.specs.Pair.{Pair, page_of}
+use Rattle.file_pieces.specs.Held.{HasPageCause}
+use Rattle.file_pieces.proofs.Told.{mapped-lines}
 use Rattle.plan_b.specs.declared.layout.Layout.{Layout}
 use Rattle.plan_b.specs.Layout.{IsLayout, page_number, place_on_page, place_of, decoded, lines_told, told-some}
 use Rattle.file_pieces.specs.Records.{stated, line_in}
-use Rattle.plan_b.specs.Held.{seen_of, HoldsPage, HoldsRecords, HasPageCause, IsLoaded, IsHeld, page_held}
+use Rattle.plan_b.specs.Held.{seen_of, HoldsPage, HoldsRecords, IsLoaded, IsHeld, page_held}
 use Rattle.file_pieces.proofs.Windows.{window}
 use Rattle.plan_b.proofs.Layouts.{place-fits}
 
@@ -62,10 +64,6 @@ held-more p q l hs ht v w half held size told pages halves here = record {
   each First Second own others k is = others Second k (λ (e : Second ≡ First). (cc)) is
   each Second First own others k is = others First k (λ (e : First ≡ Second). (cc)) is
   each Second Second own others k is = own k is
-
-mapped-lines : (f : List ℕ → List (List ℕ)) (o : Option (List ℕ)) (ls : List (List ℕ)) → option_map f o ≡ Some ls → (b : List ℕ) × ((o ≡ Some b) × (f b ≡ ls))
-mapped-lines f None ls e = absurd cc
-mapped-lines f (Some b) ls e = (b, (refl, cc))
 
 -- line k of those that a layout's records hold
 decoded-at : (l : Layout) (b : List ℕ) (k : ℕ) → 1 ≤ k → k ≤ l.count → line_at (decoded l b) k ≡ line_in b (place_of l (k - 1))

@@ -11,12 +11,13 @@ use Rattle.line_store.specs.Halves.{half_of}
 use Rattle.line_store.specs.Store.{line_at, NoneAlike}
 use Rattle.page_pair.specs.Pair.{Pair, page_of}
 use Rattle.file_pieces.specs.Records.{stated, line_in}
+use Rattle.file_pieces.specs.Alike.{TellsAlike, FindsFirst}
 use Rattle.plan_b.specs.declared.layout.Layout.{Layout}
 use Rattle.plan_b.specs.declared.spots.Spot.{Spot}
 use Rattle.plan_b.specs.declared.spots.Spots.{Spots}
 use Rattle.plan_b.specs.Layout.{IsLayout, page_number, place_on_page, lines_told}
 use Rattle.plan_b.specs.Held.{HoldsPage, HoldsRecords, IsLoaded, IsHeld}
-use Rattle.plan_b.specs.Spots.{spot_of, IsSpot, AreSpots, IsRecord, Follows, IfNear, Misses, TellsAlike, FindsFirst, FindsLast}
+use Rattle.plan_b.specs.Spots.{spot_of, IsSpot, AreSpots, IsRecord, Follows, IfNear, Misses, FindsLast}
 use Rattle.plan_b.proofs.Layouts.{some-fit, place-fits}
 use Rattle.plan_b.proofs.HeldLemmas.{line-there}
 

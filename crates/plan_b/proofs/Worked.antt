@@ -1,10 +1,8 @@
 -- The format at the lines `a` and `bcd`, each with its line feed.
-use Rattle.std.proofs.Common.{◌≡◌, ℕ, List, [], ◌∷◌, refl}
+use Rattle.std.proofs.Common.{◌≡◌, [], ◌∷◌, refl}
+use Rattle.file_pieces.proofs.Told.{two_lines}
 use Rattle.plan_b.specs.Pages.{width_of}
 use Rattle.file_pieces.specs.Records.{record_of}
-
-abbrev pub two_lines : List (List ℕ)
-two_lines = (97 ∷ 10 ∷ []) ∷ (98 ∷ 99 ∷ 100 ∷ 10 ∷ []) ∷ []
 
 pub width_worked : width_of two_lines ≡ 8
 width_worked = refl

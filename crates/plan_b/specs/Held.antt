@@ -1,10 +1,7 @@
 -- What a plan of padded pages holds, and what it is seen as.
-use Rattle.std.specs.Prelude.{◌≡◌, ◌≢◌, ◌⊎◌, ℕ, ◌+◌, ◌-◌, ◌*◌, ◌≤◌, List, [], take, drop, false, Option, Some, None}
+use Rattle.std.specs.Prelude.{◌≡◌, ◌⊎◌, ℕ, ◌+◌, ◌-◌, ◌*◌, ◌≤◌, List, take, drop, false, Option, Some}
 use Rattle.std.specs.Option.{option_map}
-use Rattle.outside.specs.Faults.{HasRisen}
 use Rattle.outside.specs.ScratchView.{ScratchView, counted}
-use Rattle.line_store.specs.declared.fault.LineFault.{LineFault}
-use Rattle.line_store.specs.declared.fault.LineFault.TheVariants.{Scratch, Disagree}
 use Rattle.line_store.specs.declared.Half.{Half}
 use Rattle.line_store.specs.declared.halves.Halves.{Halves}
 use Rattle.line_store.specs.Halves.{half_of}
@@ -55,12 +52,3 @@ page_held l halves h = option_map (λ k. page_number l (k - 1)) (half_of halves 
 -- the scratch was read once or not at all
 abbrev pub ReadsOnceAtMost : ScratchView → ScratchView → Type 0
 ReadsOnceAtMost v w = (w.reads ≡ v.reads) ⊎ (w.reads ≡ counted v.reads)
-
--- why a page was not fetched
-abbrev pub HasPageCause : LineFault → ScratchView → ScratchView → Type 0
-HasPageCause Scratch v w = HasRisen v.faults w.faults
-HasPageCause (Disagree want got) v w = (want ≢ got) × (v.told ≡ None)
-
--- a plan that stands for no lines, over a scratch
-abbrev pub bare : ℕ → ScratchView → Seen
-bare size v = record { told = Some []; count = 0; held = λ h. None; faults = v.faults; scratch = v.told; size = size; needs_memory = false }

@@ -46,16 +46,6 @@ IfNear page l (Some j) k (Some s) = Follows page l j k s
 abbrev pub Misses : List ℕ → Layout → List ℕ → ℕ → ℕ → Type 0
 Misses page l line from to = (i : ℕ) → from ≤ i → i < to → line_in page (place_on_page l (i - 1)) ≢ line
 
--- whether the record at a place is this line
-abbrev pub TellsAlike : List ℕ → List ℕ → ℕ → Bool → Type 0
-TellsAlike page line at true = line_in page at ≡ line
-TellsAlike page line at false = line_in page at ≢ line
-
--- from a line on, the first one that is alike is another one, or none up to that one
-abbrev pub FindsFirst : List (List ℕ) → List ℕ → ℕ → ℕ → Bool → Type 0
-FindsFirst lines line from k true = (line_at lines k ≡ line) × NoneAlike lines line from k
-FindsFirst lines line from k false = NoneAlike lines line from (k + 1)
-
 -- up to before a line, the last one that is alike is another one, or none from that one on
 abbrev pub FindsLast : List (List ℕ) → List ℕ → ℕ → ℕ → Bool → Type 0
 FindsLast lines line to k true = (line_at lines k ≡ line) × NoneAlike lines line (k + 1) to

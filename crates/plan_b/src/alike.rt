@@ -6,7 +6,8 @@ ghost use Rattle.line_store.specs.Halves.{half_of};
 ghost use Rattle.line_store.specs.Store.{Keeps, HasCause, IsFirstAlike, IsLastAlike};
 ghost use Rattle.plan_b.specs.Layout.{lines_told};
 ghost use Rattle.plan_b.specs.Held.{seen_of, IsHeld};
-ghost use Rattle.plan_b.specs.Spots.{AreSpots, FindsFirst, FindsLast};
+ghost use Rattle.plan_b.specs.Spots.{AreSpots, FindsLast};
+ghost use Rattle.file_pieces.specs.Alike.{FindsFirst};
 
 use crate::layout::Layout;
 use crate::loading::load_line;

@@ -9,7 +9,8 @@ ghost use Rattle.page_pair.specs.Pair.{page_of};
 ghost use Rattle.plan_b.specs.Layout.{IsLayout, HasRecords, page_number, place_on_page};
 ghost use Rattle.file_pieces.specs.Records.{stated};
 ghost use Rattle.plan_b.specs.Spots.{IsSpot, AreSpots};
-ghost use Rattle.plan_b.specs.Held.{seen_of, IsHeld, IsLoaded, HoldsPage, HoldsRecords, HasPageCause, page_held, ReadsOnceAtMost};
+ghost use Rattle.plan_b.specs.Held.{seen_of, IsHeld, IsLoaded, HoldsPage, HoldsRecords, page_held, ReadsOnceAtMost};
+ghost use Rattle.file_pieces.specs.Held.{HasPageCause};
 
 use crate::layout::Layout;
 use crate::spots::{Spot, Spots};

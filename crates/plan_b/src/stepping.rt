@@ -3,7 +3,8 @@
 ghost use Rattle.std.specs.Prelude.{◌≡◌, ◌≤◌, ◌<◌, ◌+◌, ◌-◌, ◌^◌, IsTrue, ◌↔◌, ℕ, List, length, None, Some, IfSome};
 ghost use Rattle.file_pieces.specs.Records.{stated, line_in};
 ghost use Rattle.plan_b.specs.Layout.{IsLayout};
-ghost use Rattle.plan_b.specs.Spots.{IsRecord, Follows, IfNear, Misses, TellsAlike};
+ghost use Rattle.plan_b.specs.Spots.{IsRecord, Follows, IfNear, Misses};
+ghost use Rattle.file_pieces.specs.Alike.{TellsAlike};
 
 use crate::layout::Layout;
 use crate::spots::Spot;

@@ -6,7 +6,7 @@ ghost use Rattle.line_store.specs.Taking.{refusal, HasOpenCause};
 ghost use Rattle.outside.specs.Calls.{IsThere, IsUntouched};
 ghost use Rattle.outside.specs.ScratchView.{ScratchPasses};
 ghost use Rattle.plan_b.specs.Layout.{IsLayout};
-ghost use Rattle.plan_b.specs.Held.{bare};
+ghost use Rattle.file_pieces.specs.Held.{bare};
 ghost use Rattle.file_pieces.specs.Records.{IsWriteFault};
 ghost use Rattle.file_pieces.specs.Reading.{told_file, HasLength};
 ghost use Rattle.file_pieces.specs.Reading.{IsTakeFault};

@@ -10,8 +10,8 @@ use Rattle.hunk_core.specs.LineTests.{after, after_backslash}
 use Rattle.unified_form.proofs.Again as unified
 use Rattle.context_form.proofs.Again as context
 use Rattle.context_form.specs.Presence.{may_begin, begins_part}
+use Rattle.patch_header.specs.Written.{hunk_text}
 use Rattle.reject_text.specs.Headers.{IsRejectForm}
-use Rattle.reject_text.specs.Rejects.{hunk_text}
 use Rattle.reject_text.specs.Again.{AreUnbroken, AreClean, AreReadAgain}
 
 -- ---- the text of a hunk doesn't begin as a line of the one before it

@@ -14,8 +14,9 @@ use Rattle.hunk_core.specs.declared.Verdict.{Verdict}
 use Rattle.hunk_core.specs.declared.Hunk.{Hunk}
 use Rattle.hunk_core.specs.PlainHunk.{PlainHunk, hunk_of, hunks_of}
 use Rattle.hunk_core.specs.Turned.{turned}
+use Rattle.patch_header.specs.Written.{hunk_text}
 use Rattle.reject_text.specs.Starts.{Row, placed_adds, placed_drops, net}
-use Rattle.reject_text.specs.Rejects.{rows_of, reject_of, first_reject, reject_at, rejects, hunk_text}
+use Rattle.reject_text.specs.Rejects.{rows_of, reject_of, first_reject, reject_at, rejects}
 
 -- ---- numbers in a row
 

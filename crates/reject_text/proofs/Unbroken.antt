@@ -15,21 +15,12 @@ use Rattle.hunk_core.specs.PlainHunk.{Marked, PlainHunk, old_lines, new_lines}
 use Rattle.hunk_core.specs.Rules.{starts_at_zero, runs_over, lacks_inner_end, first_broken, HasNoInnerFeed}
 use Rattle.hunk_core.specs.Turned.{swapped_line, turned}
 use Rattle.hunk_core.proofs.SideLemmas.{swapped-lines}
+use Rattle.hunk_core.proofs.RuleLemmas.{Kept, no-rule}
 use Rattle.reject_text.specs.Starts.{Row, net, least_start, greatest_start, put_between, moved_start, moved}
 use Rattle.reject_text.specs.Again.{AreUnbroken, AreClean}
 use Rattle.reject_text.specs.Rejects.{rows_of, if_nowhere, first_reject, reject_at, rejects}
 
 -- ---- the four rules, side by side
-
-record Kept (h : PlainHunk) : Type 0 where
-  some : eqb (length h.body) 0 ≡ false
-  old_begins : starts_at_zero h.old_start (old_lines h.body) ≡ false
-  new_begins : starts_at_zero h.new_start (new_lines h.body) ≡ false
-  old_fits : runs_over h.old_start (old_lines h.body) ≡ false
-  new_fits : runs_over h.new_start (new_lines h.body) ≡ false
-  old_ends : lacks_inner_end (old_lines h.body) ≡ false
-  new_ends : lacks_inner_end (new_lines h.body) ≡ false
-
 neither : (a b : Bool) → (a || b) ≡ false → (a ≡ false) × (b ≡ false)
 neither true b e = absurd (cc)
 neither false b e = (refl, e)
@@ -48,9 +39,6 @@ kept h e =
     let fits = neither _ _ c.0 in
     let ends = neither _ _ d.0 in
     record { some = a.0; old_begins = begins.0; new_begins = begins.1; old_fits = fits.0; new_fits = fits.1; old_ends = ends.0; new_ends = ends.1 }
-
-no-rule : (x y z w : BadHunk) (a b b2 c c2 d d2 : Bool) → a ≡ false → b ≡ false → b2 ≡ false → c ≡ false → c2 ≡ false → d ≡ false → d2 ≡ false → cond a (Some x) (cond (b || b2) (Some y) (cond (c || c2) (Some z) (cond (d || d2) (Some w) None))) ≡ None
-no-rule x y z w a b b2 c c2 d d2 e1 e2 e3 e4 e5 e6 e7 = rw (e1, e2, e3, e4, e5, e6, e7) refl
 
 unbroken : (h : PlainHunk) → Kept h → first_broken h ≡ None
 unbroken h k = no-rule _ _ _ _ _ _ _ _ _ _ _ k.some k.old_begins k.new_begins k.old_fits k.new_fits k.old_ends k.new_ends

@@ -7,7 +7,7 @@ use Rattle.hunk_core.specs.PlainHunk.{PlainHunk}
 use Rattle.hunk_core.specs.Rules.{HasNoInnerFeed, first_broken}
 use Rattle.unified_form.specs.Canonical as unified
 use Rattle.context_form.specs.Canonical as context
-use Rattle.reject_text.specs.Rejects.{hunk_text}
+use Rattle.patch_header.specs.Written.{hunk_text}
 
 -- the hunks break no rule
 abbrev pub AreUnbroken : List PlainHunk → Type 0

@@ -2,17 +2,15 @@
 use Rattle.std.specs.Prelude.{ℕ, ℤ, List, [], ◌∷◌, ◌++◌, length, take, drop, map}
 use Rattle.std.specs.List.{flat_map, range_with_len, zip}
 use Rattle.hunk_core.specs.declared.Form.{Form}
-use Rattle.hunk_core.specs.declared.Form.TheVariants.{Unified, Context, Normal, Ed}
 use Rattle.hunk_core.specs.declared.Side.{Side}
 use Rattle.hunk_core.specs.declared.Verdict.{Verdict}
 use Rattle.hunk_core.specs.declared.Verdict.TheVariants.{Untried, Ignored, Nowhere, At}
 use Rattle.hunk_core.specs.PlainHunk.{PlainHunk}
 use Rattle.hunk_core.specs.Turned.{turned}
-use Rattle.unified_form.specs.Canonical as unified
-use Rattle.context_form.specs.Canonical as context
 use Rattle.file_patch.specs.declared.Change.{Change}
 use Rattle.file_patch.specs.declared.Change.TheVariants.{Hunks, Script}
 use Rattle.file_patch.specs.PlainPatch.{PlainChange, hunks, script}
+use Rattle.patch_header.specs.Written.{hunk_text}
 use Rattle.reject_text.specs.Headers.{headers}
 use Rattle.reject_text.specs.Starts.{Row, net, moved}
 
@@ -53,13 +51,6 @@ reject_at rows i = first_reject (net (take i rows)) (drop i rows)
 -- the hunks that have no place, in their order
 unfoldable pub rejects : List Row → List PlainHunk
 rejects rows = flat_map (reject_at rows) (range_with_len 0 (length rows))
-
--- a hunk in its canonical text
-abbrev pub hunk_text : Form → PlainHunk → List ℕ
-hunk_text Unified h = unified.canonical h
-hunk_text Context h = context.canonical h
-hunk_text Normal h = []
-hunk_text Ed h = []
 
 -- two header lines, and the hunks that have no place
 abbrev pub reject_text : List PlainHunk → List Verdict → Side → List ℕ → Form → List ℕ

@@ -2,7 +2,8 @@
 
 ghost use Rattle.std.specs.Prelude.{◌≡◌, ◌++◌};
 ghost use Rattle.hunk_core.specs.Writing.{Puts};
-ghost use Rattle.reject_text.specs.Headers.{IsRejectForm, old_mark, new_mark, holds_space, name_end, name_line, headers};
+ghost use Rattle.reject_text.specs.Headers.{IsRejectForm, name_line, headers};
+ghost use Rattle.patch_header.specs.Written.{old_mark, new_mark, holds_space, name_end};
 
 use hunk_core::Form;
 use outside::{Failed, Sink, put_all};

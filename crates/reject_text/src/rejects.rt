@@ -10,7 +10,8 @@ ghost use Rattle.file_patch.specs.PlainPatch.{AreLawfulHunks, IsLawfulChange, ch
 ghost use Rattle.reject_text.specs.Headers.{IsRejectForm};
 ghost use Rattle.reject_text.specs.Starts.{moved};
 ghost use Rattle.reject_text.specs.Again.{AreUnbroken, AreClean, AreReadAgain};
-ghost use Rattle.reject_text.specs.Rejects.{AreHunks, hunks_in, rows_of, reject_of, rejects, hunk_text, reject_text};
+ghost use Rattle.reject_text.specs.Rejects.{AreHunks, hunks_in, rows_of, reject_of, rejects, reject_text};
+ghost use Rattle.patch_header.specs.Written.{hunk_text};
 
 use crate::header::put_headers;
 use crate::moving::{moved_start, placed_growth};

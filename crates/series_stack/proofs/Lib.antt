@@ -1,7 +1,7 @@
+pub mod EffectLists
 pub mod Listing
 pub mod Fronts
 pub mod Entries
-pub mod EffectLists
 pub mod Steps
 pub mod Meaning
 pub mod Saving

@@ -6,7 +6,8 @@ use Rattle.num_text.specs.declared.range.NumberRange.{NumberRange}
 use Rattle.num_text.specs.NumberRanges.{one, with_second, behind_first, from_first, range_at as number_range_at}
 use Rattle.hunk_core.specs.LineTests.{after}
 use Rattle.unified_form.specs.declared.range.Ranges.{Ranges}
-use Rattle.unified_form.specs.Ranges.{◌>>=◌, capped, size_at, count_at, range_at, range_line}
+use Rattle.unified_form.specs.Ranges.{capped, size_at, count_at, range_at, range_line}
+use Rattle.hunk_core.specs.OptionSteps.{◌>>=◌}
 use Rattle.split_recount.specs.RangeLines.{range_parts}
 
 -- a range of numbers as a start and a count

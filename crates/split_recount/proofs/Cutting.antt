@@ -122,11 +122,6 @@ module _ (every : Bool) (end : ℕ) (rows : List (ℕ × List ℕ)) where
   rows-done i part done all le a pushed =
       pushed ∙ ap (λ l. done ++ between part.start l end) (sym (ap (cuts every a.names) (drop_all i rows le) ∙ none-cut every a.names)) ∙ a.both
 
-pub there-is : {A : Type 0} (xs : List A) (i : ℕ) → i < length xs → (x : A) × (slice_get xs i ≡ Some x)
-there-is [] i lt = absurd (omega (arith, lt))
-there-is (x ∷ xs) zero lt = (x, refl)
-there-is (x ∷ xs) (suc i) lt = there-is xs i (omega (arith, lt))
-
 pub row-at : (v : SetView) (i : ℕ) (p : FilePatch) → patch_at v i ≡ Some p → slice_get (rows_of v) i ≡ Some (row_of v.text p)
 row-at v i p is = slice_get-map (row_of v.text) v.patches i ∙ ap (option_map (row_of v.text)) is
 

@@ -16,11 +16,12 @@ use Rattle.hunk_core.specs.LineTests.{after}
 use Rattle.hunk_core.specs.Reading.{Fault, Gives}
 use Rattle.hunk_core.proofs.ReadSteps.{bind_ok, chosen}
 use Rattle.unified_form.specs.declared.body.Left.{Left}
-use Rattle.unified_form.specs.Ranges.{is_opening, is_too_large}
+use Rattle.unified_form.specs.Ranges.{is_opening}
 use Rattle.unified_form.specs.Canonical.{range_text}
 use Rattle.unified_form.specs.Grammar.{counts_of, SpellsRange}
 use Rattle.unified_form.proofs.Canonical.{range-spelled}
 use Rattle.unified_form.proofs.Words.{opening-words}
+use Rattle.hunk_core.specs.Rules.{is_too_large}
 use Rattle.split_recount.specs.Bodies.{begins, begins_header, ends_body, body_of, marked_lines, misplaced}
 use Rattle.split_recount.specs.RangeLines.{stated, line_with}
 use Rattle.split_recount.specs.Recounted.{unplaced, line_at, new_start, true_line, at_line, unless_misplaced, sound_body, recounted_line, in_front, with_body, behind_line, none, recounting, recounted_lines, recounted, bytes_of}

@@ -5,9 +5,9 @@ use Rattle.hunk_core.specs.declared.BadKind.{BadKind}
 use Rattle.hunk_core.specs.declared.BadKind.TheVariants as kinds
 use Rattle.hunk_core.specs.PlainHunk.{Marked, PlainHunk, old_lines}
 use Rattle.unified_form.specs.declared.body.Left.{Left}
-use Rattle.unified_form.specs.Ranges.{is_too_large}
 use Rattle.unified_form.specs.Grammar.{counts_of}
 use Rattle.unified_form.proofs.Counts.{counts-old}
+use Rattle.hunk_core.specs.Rules.{is_too_large}
 use Rattle.split_recount.specs.RangeLines.{line_with}
 use Rattle.split_recount.specs.Recounted.{unplaced, one_if_none, less, line_at, true_line}
 

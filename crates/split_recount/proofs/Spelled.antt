@@ -1,7 +1,7 @@
 -- A body without a misplaced backslash line is spelled by the unified grammar.
-use Rattle.std.proofs.Common.{◌≡◌, ℕ, ◌+◌, Bool, true, false, cond, not, eqb, ◌&&◌, ◌⊎◌, ◌↔◌, List, [], ◌∷◌, ◌++◌, Option, None, Some, refl, sym, ap, subst, ◌∙◌, inl, inr}
+use Rattle.std.proofs.Common.{◌≡◌, ℕ, ◌+◌, Bool, true, false, cond, not, eqb, ◌&&◌, ◌↔◌, List, [], ◌∷◌, ◌++◌, Option, None, Some, refl, sym, ap, subst, ◌∙◌, inl, inr}
 use Rattle.std.specs.Prelude.{option_map}
-use Rattle.std.proofs.lemmas.Bool.{eqb-true}
+use Rattle.std.proofs.lemmas.Bool.{eqb-true, cases_Bool}
 use Rattle.std.specs.List.{AllByRecursion, cons_option}
 use Rattle.hunk_core.specs.declared.Mark.{Mark}
 use Rattle.hunk_core.specs.declared.Mark.TheVariants.{Keep, Drop, Add}
@@ -15,10 +15,6 @@ use Rattle.split_recount.specs.Bodies.{is_body_line, ends_body, body_of, marked_
 use Rattle.split_recount.specs.Measured.{with_mark}
 use Rattle.split_recount.proofs.Measuring.{sides_of, sides-more}
 use Rattle.split_recount.proofs.Ends.{body_none, body_ends, body_more, goes_body}
-
-tested : (b : Bool) → (b ≡ true) ⊎ (b ≡ false)
-tested true = inl refl
-tested false = inr refl
 
 -- ---- lines of a body
 
@@ -125,7 +121,7 @@ spelled-from before number (line ∷ next ∷ rest) all first e =
     let m = shown line all.0 first in
     let behind : misplaced (mark_in line) (number + 1) (next ∷ rest) ≡ None = (placed before number line (next ∷ rest) e).1 in
     let further = placed (mark_in line) (number + 1) next rest behind in
-    elim (tested (is_backslash next)) [
+    elim (cases_Bool (is_backslash next)) [
       | inl slash ↦ (
           let none : mark_in next ≡ None = ap (option_map (λ x. x.mark)) (unmarked next slash) in
           let rests : misplaced None (number + 1 + 1) rest ≡ None = ap (λ found. misplaced found (number + 1 + 1) rest) (sym none) ∙ further.1 in

@@ -13,17 +13,14 @@ use Rattle.hunk_core.proofs.TextLemmas.{after-takes}
 use Rattle.hunk_core.proofs.ReadSteps.{some_is, chosen}
 use Rattle.unified_form.specs.declared.body.Left.{Left}
 use Rattle.unified_form.specs.declared.range.Ranges.{Ranges}
-use Rattle.unified_form.specs.Ranges.{capped, size_at, count_at, range_at, is_bad_range, is_too_large}
+use Rattle.unified_form.specs.Ranges.{capped, size_at, count_at, range_at, is_bad_range}
 use Rattle.unified_form.specs.Canonical.{range_text}
-use Rattle.unified_form.proofs.RangeGrammar.{some_step}
+use Rattle.hunk_core.specs.Rules.{is_too_large}
+use Rattle.hunk_core.proofs.OptionLemmas.{some_step}
+use Rattle.line_list.proofs.Pieces.{longer}
 use Rattle.split_recount.specs.RangeLines.{range_parts, stated_by, stated, line_with}
 
 -- ---- bytes in front
-
-pub longer : (b : ℕ) (line : List ℕ) → b ≢ 10 → IsLine line → IsLine (b ∷ line)
-longer b [] ne h = absurd h
-longer b (c ∷ bs) ne h = (ne, h)
-
 shorter : (b : ℕ) (line : List ℕ) → b ≢ 10 → IsLine (b ∷ line) → IsLine line
 shorter b [] ne h = absurd (ne h)
 shorter b (c ∷ bs) ne h = h.1

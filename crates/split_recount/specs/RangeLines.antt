@@ -5,8 +5,10 @@ use Rattle.hunk_core.specs.declared.BadKind.{BadKind}
 use Rattle.hunk_core.specs.declared.BadKind.TheVariants as kinds
 use Rattle.unified_form.specs.declared.range.Ranges.{Ranges}
 use Rattle.unified_form.specs.declared.body.Left.{Left}
-use Rattle.unified_form.specs.Ranges.{◌>>=◌, range_at, is_bad_range, is_too_large}
+use Rattle.unified_form.specs.Ranges.{range_at, is_bad_range}
 use Rattle.unified_form.specs.Canonical.{range_text}
+use Rattle.hunk_core.specs.Rules.{is_too_large}
+use Rattle.hunk_core.specs.OptionSteps.{◌>>=◌}
 
 -- the ranges of a line, and what stands behind them
 unfoldable pub range_parts : List ℕ → Option (Ranges × List ℕ)

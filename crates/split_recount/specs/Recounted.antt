@@ -9,8 +9,9 @@ use Rattle.hunk_core.specs.PlainHunk.{Marked, PlainHunk}
 use Rattle.hunk_core.specs.Turned.{base}
 use Rattle.hunk_core.specs.Reading.{Fault, fault, ◌>>=◌}
 use Rattle.unified_form.specs.declared.body.Left.{Left}
-use Rattle.unified_form.specs.Ranges.{is_opening, is_too_large}
+use Rattle.unified_form.specs.Ranges.{is_opening}
 use Rattle.unified_form.specs.Grammar.{counts_of}
+use Rattle.hunk_core.specs.Rules.{is_too_large}
 use Rattle.split_recount.specs.Bodies.{begins, ends_body, body_of, marked_lines, misplaced}
 use Rattle.split_recount.specs.RangeLines.{stated, line_with}
 

@@ -3,7 +3,8 @@
 ghost use Rattle.std.specs.Prelude.{◌≡◌, ◌<◌, ◌^◌, ◌++◌, ◌||◌, IfOk, OnOk, if◌then◌else◌};
 ghost use Rattle.num_text.specs.Numbers.{decimal};
 ghost use Rattle.hunk_core.specs.Reading.{Reads};
-ghost use Rattle.unified_form.specs.Ranges.{range_at, is_bad_range, is_too_large};
+ghost use Rattle.unified_form.specs.Ranges.{range_at, is_bad_range};
+ghost use Rattle.hunk_core.specs.Rules.{is_too_large};
 ghost use Rattle.unified_form.specs.Canonical.{range_text};
 ghost use Rattle.split_recount.specs.RangeLines.{range_parts, stated};
 ghost use Rattle.split_recount.specs.Walking.{Says, both_ranges, written};

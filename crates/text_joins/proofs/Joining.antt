@@ -20,7 +20,7 @@ use Rattle.ed_form.specs.Scripts.{begins_substitution}
 use Rattle.patch_header.specs.Content.{is_dot, has_dot}
 use Rattle.patch_header.specs.GitHeaders.{is_git_line, is_extended, extended_run, behind_run, git_header, action_of, is_plain, has_names, begins_bare}
 use Rattle.patch_header.specs.Openings.{admits, begins, begins_binary, asks_dot, tells_binary, stops_bare, stop_at}
-use Rattle.patch_header.specs.Steps.{AreQuiet, region_of}
+use Rattle.patch_header.specs.Steps.{region_of}
 use Rattle.patch_header.specs.declared.openings.Stop.{Stop}
 use Rattle.patch_header.specs.declared.openings.Stop.TheVariants.{Opening, Binary, Bare}
 use Rattle.patch_header.specs.declared.ways.Ways.{Ways}
@@ -28,6 +28,7 @@ use Rattle.patch_header.proofs.Stands.{and_left, and_right, opening-words, bare-
 use Rattle.patch_header.proofs.ScanLemmas.{run-more, behind-more, run-stops, run-none, behind-none}
 use Rattle.file_patch.specs.PlainPatch.{PlainHeader, PlainChange, PlainPatch, hunks, script}
 use Rattle.patch_text.specs.Texts.{IsPiece}
+use Rattle.patch_header.proofs.StepLemmas.{region-here, region-passed}
 use Rattle.text_joins.specs.Said.{header_said, bare_header}
 use Rattle.text_joins.specs.Following.{Spell, IsFilePatch, AreFilePatches}
 use Rattle.text_joins.specs.Joins.{begin_with, begin_with_git, BeginCleanly, JoinCleanly, Part, all_lines, FitTogether}
@@ -197,17 +198,6 @@ module _ (ways : Ways) (body others : List (List ℕ)) (change : PlainChange) (c
   spell-joined Binary s git h = absurd s
 
 -- ---- a file patch
-
-region-here : (ways : Ways) (rest : List (List ℕ)) (stop : Stop) → stop_at ways rest ≡ Some stop → region_of ways rest ≡ []
-unfolding region_of
-region-here ways [] stop h = refl
-region-here ways (line ∷ rest) stop h = rw h refl
-
-region-passed : (ways : Ways) (region rest : List (List ℕ)) → AreQuiet ways region rest → region_of ways (region ++ rest) ≡ region ++ region_of ways rest
-unfolding region_of
-region-passed ways [] rest h = refl
-region-passed ways (line ∷ region) rest h = rw h.0 (ap (λ ls. line ∷ ls) (region-passed ways region rest h.1))
-
 -- the lines in front of the opening are those in front of the first that stands
 pub region-is : (ways : Ways) (own others : List (List ℕ)) (p : PlainPatch) (x : IsFilePatch ways own others p) → region_of ways (own ++ others) ≡ x.region
 region-is ways own others p x =

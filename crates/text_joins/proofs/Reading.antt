@@ -4,7 +4,7 @@ use Rattle.std.specs.Prelude.{sum_by}
 use Rattle.line_list.specs.Lines.{lines}
 use Rattle.line_list.proofs.Pieces.{lines-pieces}
 use Rattle.hunk_core.specs.Reading.{Fault, ◌>>=◌, Ahead}
-use Rattle.hunk_core.proofs.ReadSteps.{bind_ok}
+use Rattle.hunk_core.proofs.ReadSteps.{bind_ok, done}
 use Rattle.patch_header.specs.GitHeaders.{git_header}
 use Rattle.patch_header.specs.GitRows.{led_by}
 use Rattle.patch_header.specs.Openings.{admits, begins, stop_at}
@@ -32,9 +32,6 @@ use Rattle.text_joins.proofs.Standing.{placed, behind_header, header-split, some
 
 took : {A : Type 0} (x y : A) → Some x ≡ Some y → x ≡ y
 took x y e = cc
-
-abbrev done : {A : Type 0} → A → Result A Fault
-done x = Ok x
 
 same-done : {A : Type 0} (x y : A) → done x ≡ done y → x ≡ y
 same-done x y e = cc

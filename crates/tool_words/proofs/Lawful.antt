@@ -1,5 +1,5 @@
 -- What a tool is asked for is lawful.
-use Rattle.std.proofs.Common.{◌≡◌, ◌&&◌, ◌*◌, ◌≤◌, ◌-◌, ◌^◌, ◌==◌, ℕ, Bool, true, false, not, List, [], ◌∷◌, Option, Some, None, All, codes, refl, ap, subst, arith, if◌then◌else◌, bytes_eq, length, nat_le, nat_lt, option_map, option_and_then, unwrap_or}
+use Rattle.std.proofs.Common.{◌≡◌, ◌&&◌, ◌*◌, ◌≤◌, ◌-◌, ◌^◌, ◌==◌, ℕ, Bool, true, false, not, List, [], ◌∷◌, Option, Some, None, All, codes, refl, arith, if◌then◌else◌, bytes_eq, length, nat_le, nat_lt, option_map, option_and_then, unwrap_or}
 use Rattle.std.specs.List.{slice_split, position_or_len, before_first, after_first}
 use Rattle.std.specs.Option.{ForSome, option_map_or}
 use Rattle.std.proofs.lemmas.List.Elements.{All-nil, All-cons}
@@ -7,6 +7,7 @@ use Rattle.clap.specs.Words.{Row, Text}
 use Rattle.outside.specs.Files.{is_temp}
 use Rattle.patch_options.specs.Forms.{buffer_in, buffer_of, is_empty, is_lasting_name, is_name, number_of}
 use Rattle.patch_options.specs.Table.{is_single, value_of}
+use Rattle.patch_options.proofs.Lawful.{some_has, none_has, is_false}
 use Rattle.tool_words.specs.Asked.{asked, gen_of, is_gen, is_lawful, is_made, is_size, is_split_file, is_within, number_in}
 use Rattle.tool_words.specs.PlainJobs.{AreRanges, IsLawfulToolJob, IsRange, IsSize}
 use Rattle.tool_words.specs.Ranges.{between, end_or, item_of, items_by, ordered, positive, positive_of, ranges_of, single}
@@ -15,13 +16,6 @@ use Rattle.tool_words.specs.declared.tools.Tool.{Tool}
 use Rattle.tool_words.specs.declared.tools.Tool.TheVariants.{Lsdiff, Filterdiff, Grepdiff, Splitdiff, Recountdiff, Patchgen, Reversediff, Patchstack}
 
 -- ---- values that may be none
-
-none_has : {X : Type 0} (P : X → Type 0) → ForSome None P
-none_has P = λ x e. cc
-
-some_has : {X : Type 0} (P : X → Type 0) (x : X) → P x → ForSome (Some x) P
-some_has P x h = λ y e. subst P (ap (λ o. unwrap_or o x) e) h
-
 then_has : {X Y : Type 0} (P : X → Type 0) (Q : Y → Type 0) (f : X → Option Y) (o : Option X) → ForSome o P → ((x : X) → P x → ForSome (f x) Q) → ForSome (option_and_then f o) Q
 then_has P Q f None h law = none_has Q
 then_has P Q f (Some x) h law = law x (h x refl)
@@ -102,10 +96,6 @@ ranges_have (Some text) = items_have (slice_split (λ b. b == 44) text)
 both : (a b : Bool) → (a && b) ≡ true → (a ≡ true) × (b ≡ true)
 both true b h = (refl, h)
 both false b h = cc
-
-is_false : (b : Bool) → not b ≡ true → b ≡ false
-is_false true h = cc
-is_false false h = refl
 
 split_has : (value : Option Text) → option_map_or is_split_file value false ≡ true → is_temp (option_map_or name_in value []) ≡ false
 unfolding is_split_file is_lasting_name

@@ -1,20 +1,19 @@
 -- The canonical text of a hunk that breaks no rule is read as that hunk.
-use Rattle.std.proofs.Common.{◌≡◌, ◌≢◌, ◌⊎◌, ℕ, suc, ◌+◌, ◌-◌, ◌<◌, Bool, true, false, cond, not, eqb, ◌||◌, List, [], ◌∷◌, ◌++◌, length, take, map, Option, None, Some, Ok, refl, sym, ap, subst, ◌∙◌, arith, inl, inr}
+use Rattle.std.proofs.Common.{◌≡◌, ◌≢◌, ◌⊎◌, ℕ, suc, ◌+◌, ◌-◌, ◌<◌, Bool, true, false, cond, not, eqb, List, [], ◌∷◌, ◌++◌, length, take, map, None, Ok, refl, sym, ap, subst, ◌∙◌, arith, inl, inr}
 use Rattle.std.specs.Prelude.{filter}
 use Rattle.std.specs.List.{AllByRecursion}
-use Rattle.std.proofs.lemmas.Bool.{eqb-true, eqb-false, ltb-false}
+use Rattle.std.proofs.lemmas.Bool.{eqb-true, eqb-false, ltb-false, or_parts}
 use Rattle.line_list.specs.Lines.{lines, IsLine}
 use Rattle.hunk_core.specs.declared.Mark.{Mark}
 use Rattle.hunk_core.specs.declared.Mark.TheVariants.{Keep, Drop, Add}
 use Rattle.hunk_core.specs.declared.Side.TheVariants.{Forward, Reversed}
-use Rattle.hunk_core.specs.declared.check.BadHunk.{BadHunk}
-use Rattle.hunk_core.specs.declared.check.BadHunk.TheVariants as rules
 use Rattle.hunk_core.specs.Sides.{is_on_side}
 use Rattle.hunk_core.specs.PlainHunk.{Marked, PlainHunk, old_lines, new_lines}
 use Rattle.hunk_core.specs.LineTests.{ends_line, after_backslash}
 use Rattle.hunk_core.specs.Rules.{starts_at_zero, runs_over, lacks_inner_end, first_broken, HasNoInnerFeed}
 use Rattle.hunk_core.specs.Reading.{◌>>=◌, Ahead, ahead}
 use Rattle.hunk_core.proofs.ReadSteps.{bind_ok, ok_is}
+use Rattle.hunk_core.proofs.RuleLemmas.{Kept, kept}
 use Rattle.unified_form.specs.declared.body.Left.{Left}
 use Rattle.unified_form.specs.Bodies.{is_last_line}
 use Rattle.unified_form.specs.Hunks.{hunk_at, hunks_at}
@@ -27,35 +26,6 @@ use Rattle.unified_form.proofs.Pieces.{hunk_again, hunk_opens, reading_again}
 use Rattle.unified_form.proofs.Canonical.{hunk_lines, LinesFit, IsHunk, hunk-spelled, canonical-lines}
 
 -- ---- no rule is broken
-
-pass : (b : Bool) (x : BadHunk) (o : Option BadHunk) → cond b (Some x) o ≡ None → (b ≡ false) × (o ≡ None)
-pass true x o e = absurd cc
-pass false x o e = (refl, e)
-
-or_false : (x y : Bool) → (x || y) ≡ false → (x ≡ false) × (y ≡ false)
-or_false true y e = absurd cc
-or_false false y e = (refl, e)
-
-record Kept (h : PlainHunk) : Type 0 where
-  some : eqb (length h.body) 0 ≡ false
-  old_begins : starts_at_zero h.old_start (old_lines h.body) ≡ false
-  new_begins : starts_at_zero h.new_start (new_lines h.body) ≡ false
-  old_fits : runs_over h.old_start (old_lines h.body) ≡ false
-  new_fits : runs_over h.new_start (new_lines h.body) ≡ false
-  old_ends : lacks_inner_end (old_lines h.body) ≡ false
-  new_ends : lacks_inner_end (new_lines h.body) ≡ false
-
-kept : (h : PlainHunk) → first_broken h ≡ None → Kept h
-kept h e =
-    let a = pass (eqb (length h.body) 0) rules.NoLines _ e in
-    let b = pass (starts_at_zero h.old_start (old_lines h.body) || starts_at_zero h.new_start (new_lines h.body)) rules.Start _ a.1 in
-    let c = pass (runs_over h.old_start (old_lines h.body) || runs_over h.new_start (new_lines h.body)) rules.Sum _ b.1 in
-    let d = pass (lacks_inner_end (old_lines h.body) || lacks_inner_end (new_lines h.body)) rules.InnerEnd _ c.1 in
-    let begins = or_false _ _ b.0 in
-    let fits = or_false _ _ c.0 in
-    let ends = or_false _ _ d.0 in
-    record { some = a.0; old_begins = begins.0; new_begins = begins.1; old_fits = fits.0; new_fits = fits.1; old_ends = ends.0; new_ends = ends.1 }
-
 begins-back : (start count : ℕ) (side : List (List ℕ)) → count ≡ length side → starts_at_zero start side ≡ false → start ≡ 0 → count ≡ 0
 begins-back start count side same e none_before = by (eqb (length side) 0) refl
   where
@@ -102,7 +72,7 @@ open-line (b ∷ c ∷ bs) h e =
 
 lacks-rest : (line : List ℕ) (ls : List (List ℕ)) → lacks_inner_end (line ∷ ls) ≡ false → lacks_inner_end ls ≡ false
 lacks-rest line [] e = refl
-lacks-rest line (x ∷ xs) e = (or_false (not (ends_line line)) (lacks_inner_end (x ∷ xs)) e).1
+lacks-rest line (x ∷ xs) e = (or_parts (not (ends_line line)) (lacks_inner_end (x ∷ xs)) e).1
 
 lacks-last : (line : List ℕ) (ls : List (List ℕ)) → lacks_inner_end (line ∷ ls) ≡ false → ends_line line ≡ false → length ls ≡ 0
 lacks-last line [] e bare = refl

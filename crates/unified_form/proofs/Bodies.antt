@@ -1,11 +1,12 @@
 -- A body that is read is spelled so, and what is spelled so is read.
-use Rattle.std.proofs.Common.{◌≡◌, ℕ, zero, suc, ◌+◌, ◌-◌, ◌≤◌, ◌<◌, Bool, true, false, cond, eqb, ◌||◌, List, [], ◌∷◌, ◌++◌, length, Option, None, Some, Ok, refl, sym, ap, subst, ◌∙◌, append_assoc, arith, inl, inr}
-use Rattle.std.proofs.lemmas.Bool.{eqb-true, eqb-false}
+use Rattle.std.proofs.Common.{◌≡◌, ℕ, zero, suc, ◌+◌, ◌-◌, ◌≤◌, ◌<◌, true, false, eqb, List, [], ◌∷◌, ◌++◌, length, Option, None, Some, Ok, refl, sym, ap, subst, ◌∙◌, append_assoc, arith, inl, inr}
+use Rattle.std.proofs.lemmas.Bool.{eqb-true, eqb-false, or_parts}
 use Rattle.std.proofs.lemmas.List.{length-append}
 use Rattle.hunk_core.specs.declared.Mark.{Mark}
 use Rattle.hunk_core.specs.declared.Mark.TheVariants.{Keep, Drop, Add}
 use Rattle.hunk_core.specs.PlainHunk.{Marked}
 use Rattle.hunk_core.specs.Reading.{◌>>=◌, Ahead, ahead}
+use Rattle.hunk_core.proofs.Agreeing.{after_backslash-some}
 use Rattle.unified_form.specs.declared.body.Left.{Left}
 use Rattle.hunk_core.specs.LineTests.{after}
 use Rattle.unified_form.specs.Bodies.{mark_at, is_last_line, must_be_marked, marked_at, room_at, ended_by, first_line, line_at, body_at}
@@ -73,10 +74,6 @@ marked-ok number line (Some x) m e = cc
 abbrev pub made : ℕ → ℕ → Left
 made o n = record { old = o; new = n }
 
-or_false : (x y : Bool) → (x || y) ≡ false → (x ≡ false) × (y ≡ false)
-or_false true y e = absurd cc
-or_false false y e = (refl, e)
-
 not_zero : (a : ℕ) → eqb a 0 ≡ false → 0 < a
 not_zero a e = let ne = eqb-false a 0 e in omega arith
 
@@ -86,7 +83,7 @@ is_left a b c d e f = rw (e, f) refl
 pub room-back : (number : ℕ) (mark : Mark) (before room : Left) → room_at number mark before ≡ Ok room → before ≡ one_more mark room
 room-back number Keep before room e =
     let g = guard_ok _ _ (made (before.old - 1) (before.new - 1)) room e in
-    let z = or_false (eqb before.old 0) (eqb before.new 0) g.0 in
+    let z = or_parts (eqb before.old 0) (eqb before.new 0) g.0 in
     let o : before.old - 1 ≡ room.old = ap (λ (r : Left). r.old) g.1 in
     let n : before.new - 1 ≡ room.new = ap (λ (r : Left). r.new) g.1 in
     is_left before.old before.new (room.old + 1) (room.new + 1) (omega (arith, not_zero before.old z.0)) (omega (arith, not_zero before.new z.1))
@@ -121,14 +118,6 @@ pub record TakesLine (before : Left) (p : Ahead) (x : Marked × Left × Ahead) :
   pub number : x.2.number ≡ p.number + length own
   pub counts : before ≡ one_more x.0.mark x.1
   pub spelled : (body : List Marked) → counts_of body ≡ x.1 → SpellsLine own x.0 body
-
-after_backslash-some : (rest more : List (List ℕ)) → after_backslash rest ≡ Some more → (line : List ℕ) × (rest ≡ line ∷ more) × (is_backslash line ≡ true)
-after_backslash-some [] more e = absurd cc
-after_backslash-some (line ∷ rest) more e = by (is_backslash line) refl e
-  where
-    by : (b : Bool) → is_backslash line ≡ b → cond b (Some rest) None ≡ Some more → (l : List ℕ) × (line ∷ rest ≡ l ∷ more) × (is_backslash l ≡ true)
-    by true is e = (line, (let same : rest ≡ more = cc in rw same refl), is)
-    by false is e = absurd cc
 
 line_ends : (line : List ℕ) (m : Marked) (before room : Left) (number : ℕ) (rest : List (List ℕ)) (o : Option (List (List ℕ))) (x : Marked × Left × Ahead) → Shows line m → before ≡ one_more m.mark room → after_backslash rest ≡ o
     → ended_by number m room rest o ≡ Ok x → TakesLine before (ahead number (line ∷ rest)) x

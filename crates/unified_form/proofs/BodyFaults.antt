@@ -1,5 +1,5 @@
 -- A fault in the lines of a body stays whatever lines come after its own.
-use Rattle.std.proofs.Common.{◌≡◌, ◌≢◌, ◌⊎◌, inl, inr, ℕ, zero, suc, ◌+◌, ◌≤◌, ◌<◌, Bool, true, false, cond, eqb, List, [], ◌∷◌, length, Option, None, Some, Result, Ok, Err, refl, sym, ap, subst, ◌∙◌, arith}
+use Rattle.std.proofs.Common.{◌≡◌, ◌≢◌, inl, inr, ℕ, zero, suc, ◌+◌, ◌≤◌, ◌<◌, Bool, true, false, cond, eqb, List, [], ◌∷◌, length, Option, None, Some, Result, Ok, Err, refl, sym, ap, subst, ◌∙◌, arith}
 use Rattle.hunk_core.specs.declared.Mark.{Mark}
 use Rattle.hunk_core.specs.declared.Mark.TheVariants.{Keep, Drop, Add}
 use Rattle.hunk_core.specs.declared.BadKind.TheVariants as kinds
@@ -7,28 +7,14 @@ use Rattle.hunk_core.specs.PlainHunk.{Marked}
 use Rattle.hunk_core.specs.LineTests.{is_backslash, after_backslash, unended}
 use Rattle.hunk_core.specs.Reading.{◌>>=◌, Fault, fault, Ahead, ahead}
 use Rattle.hunk_core.proofs.ReadSteps.{bind_ok, chosen, must_ok, ok_is}
+use Rattle.hunk_core.specs.FirstFault.{AgreeTo}
+use Rattle.hunk_core.proofs.FaultSteps.{failed, err_is, bind_err, guard_err, add}
+use Rattle.hunk_core.proofs.Agreeing.{agree_head}
 use Rattle.unified_form.specs.declared.body.Left.{Left}
 use Rattle.unified_form.specs.Bodies.{is_last_line, marked_at, mark_at, must_be_marked, room_at, ended_by, first_line, line_at, body_at}
-use Rattle.unified_form.specs.FirstFault.{AgreeTo}
 
 -- ---- steps that fail
-
-abbrev pub failed : {A : Type 0} → Fault → Result A Fault
-failed e = Err e
-
-pub err_is : {A : Type 0} (d e : Fault) → failed {A = A} d ≡ failed e → d ≡ e
-err_is d e h = cc
-
-pub bind_err : {A B : Type 0} (r : Result A Fault) (f : A → Result B Fault) (e : Fault) → (r >>= f) ≡ Err e → (r ≡ Err e) ⊎ ((x : A) × (r ≡ Ok x) × (f x ≡ Err e))
-bind_err (Ok x) f e h = inr (x, refl, h)
-bind_err {B = B} (Err d) f e h = inl (ap (λ x. Err x) (err_is {A = B} d e h))
-
 -- ---- lines that agree
-
-pub agree_head : (last number : ℕ) (line : List ℕ) (rest others : List (List ℕ)) → AgreeTo last number (line ∷ rest) others → number ≤ last → (more : List (List ℕ)) × (others ≡ line ∷ more) × AgreeTo last (number + 1) rest more
-agree_head last number line rest [] h le = absurd (omega arith)
-agree_head last number line rest (other ∷ more) h le = (more, ap (λ l. l ∷ more) (sym (h.0 le)), h.1)
-
 quiet_too : (b : Bool) (rest more : List (List ℕ)) → cond b (Some rest) None ≡ None → cond b (Some more) None ≡ None
 quiet_too true rest more h = absurd cc
 quiet_too false rest more h = refl
@@ -80,10 +66,6 @@ marked_low number line e h = by (mark_at line) h
     by : (o : Option Marked) → must_be_marked number line o ≡ Err e → (e.line ≡ number) × (e.kind ≢ kinds.ShortEnd)
     by None h = let is : fault number (cond (is_backslash line) kinds.MisplacedBackslash kinds.Mark) ≡ e = cc in (sym (ap (λ (x : Fault). x.line) is), subst (λ (x : Fault). x.kind ≢ kinds.ShortEnd) is (kind (is_backslash line)))
     by (Some m) h = absurd cc
-
-guard_err : {A : Type 0} (b : Bool) (d e : Fault) (x : A) → cond b (failed d) (Ok x) ≡ Err e → d ≡ e
-guard_err true d e x h = cc
-guard_err false d e x h = absurd cc
 
 count_low : (number : ℕ) (e : Fault) → fault number kinds.Count ≡ e → (e.line ≡ number) × (e.kind ≢ kinds.ShortEnd)
 count_low number e is = (sym (ap (λ (x : Fault). x.line) is), subst (λ (x : Fault). x.kind ≢ kinds.ShortEnd) is (λ h. cc))
@@ -191,9 +173,6 @@ line_goes left last number (line ∷ rest) others x h le agree =
 
 abbrev pub one_more_line : ℕ → Marked × Left × Ahead → Result (List Marked × Ahead) Fault
 one_more_line most first = body_at most first.1 first.2 >>= λ others. Ok (first.0 ∷ others.0, others.1)
-
-abbrev pub add : {X : Type 0} → X → List X × Ahead → Result (List X × Ahead) Fault
-add x others = Ok (x ∷ others.0, others.1)
 
 pub add_err : {X : Type 0} (m : X) (r : Result (List X × Ahead) Fault) (e : Fault) → (r >>= add m) ≡ Err e → r ≡ Err e
 add_err m (Ok x) e h = absurd cc

@@ -6,17 +6,19 @@ use Rattle.std.specs.List.{AllByRecursion}
 use Rattle.std.specs.Prelude.{codes}
 use Rattle.std.specs.List.{flat_map}
 use Rattle.std.proofs.lemmas.List.Concat.{flat_map-cons, flat_map-append}
-use Rattle.line_list.proofs.Pieces.{line-first}
 use Rattle.line_list.specs.Lines.{lines, IsLine}
 use Rattle.num_text.specs.Numbers.{decimal, is_digit, AllDigits}
 use Rattle.hunk_core.specs.declared.Mark.{Mark}
 use Rattle.hunk_core.specs.declared.Mark.TheVariants.{Keep, Drop, Add}
 use Rattle.hunk_core.specs.PlainHunk.{Marked, PlainHunk}
+use Rattle.hunk_core.specs.Writing.{no_newline}
+use Rattle.line_list.proofs.Pieces.{longer}
+use Rattle.line_list.proofs.WholeLines.{AreLines, lines-both, lines-whole}
+use Rattle.hunk_core.proofs.LineEnds.{line-ends, is_clean, backslash}
 use Rattle.unified_form.specs.Bodies.{is_last_line}
-use Rattle.hunk_core.specs.LineTests.{marked, is_backslash, unended}
-use Rattle.hunk_core.specs.LineTests.{after}
+use Rattle.hunk_core.specs.LineTests.{marked, unended}
 use Rattle.unified_form.specs.Grammar.{mark_byte, counts_of, SpellsLine, SpellsBody, SpellsRange, SpellsHunk, ranges_of, AreFair}
-use Rattle.unified_form.specs.Canonical.{range_text, range_line_text, no_newline, line_text, canonical}
+use Rattle.unified_form.specs.Canonical.{range_text, range_line_text, line_text, canonical}
 use Rattle.hunk_core.specs.LineTests.{ends_line}
 use Rattle.num_text.proofs.Decimal.{decimal-numeral}
 use Rattle.hunk_core.proofs.ReadSteps.{chosen}
@@ -50,20 +52,10 @@ range-spelled start count =
     ]
 
 -- ---- lines
-
-line-ends : (line : List ℕ) → IsLine line → ends_line line ≡ true
-line-ends [] h = absurd h
-line-ends (b ∷ []) h = grind arith
-line-ends (b ∷ c ∷ bytes) h = line-ends (c ∷ bytes) h.1
-
 no-end : (line : List ℕ) → AllByRecursion (λ b. b ≢ 10) line → ends_line line ≡ false
 no-end [] h = refl
 no-end (b ∷ []) h = let ne = h.0 in grind arith
 no-end (b ∷ c ∷ bytes) h = no-end (c ∷ bytes) h.1
-
-backslash : is_backslash no_newline ≡ true
-unfolding after
-backslash = refl
 
 shorter : (mark : Mark) (line : List ℕ) → marked mark line ≡ unended (marked mark (line ++ 10 ∷ []))
 shorter mark line =
@@ -118,17 +110,9 @@ range-clean start count =
       | inr many ↦ subst (λ t. AllByRecursion (λ b. b ≢ 10) t) many.1 (both (decimal start) (44 ∷ decimal count) (no-feed (decimal start) (decimal-numeral start).digits) ((λ e. cc), no-feed (decimal count) (decimal-numeral count).digits))
     ]
 
-longer : (b : ℕ) (line : List ℕ) → b ≢ 10 → IsLine line → IsLine (b ∷ line)
-longer b [] ne h = absurd h
-longer b (c ∷ bs) ne h = (ne, h)
-
 line-prefix : (xs ys : List ℕ) → AllByRecursion (λ b. b ≢ 10) xs → IsLine ys → IsLine (xs ++ ys)
 line-prefix [] ys h k = k
 line-prefix (x ∷ xs) ys h k = longer x (xs ++ ys) h.0 (line-prefix xs ys h.1 k)
-
-abbrev is_clean : List ℕ → Bool
-is_clean [] = true
-is_clean (b ∷ bs) = cond (eqb b 10) false (is_clean bs)
 
 clean : (bs : List ℕ) → is_clean bs ≡ true → AllByRecursion (λ b. b ≢ 10) bs
 clean [] e = tt
@@ -154,13 +138,6 @@ mark-clean Keep = λ e. cc
 mark-clean Drop = λ e. cc
 mark-clean Add = λ e. cc
 
-abbrev pub AreLines : List (List ℕ) → Type 0
-AreLines ls = AllByRecursion IsLine ls
-
-lines-both : (xs ys : List (List ℕ)) → AreLines xs → AreLines ys → AreLines (xs ++ ys)
-lines-both [] ys h k = k
-lines-both (x ∷ xs) ys h k = (h.0, lines-both xs ys h.1 k)
-
 line-lines : (m : Marked) (body : List Marked) → IsLine m.line ⊎ (AllByRecursion (λ b. b ≢ 10) m.line × (is_last_line m.mark (counts_of body) ≡ true)) → AreLines (line_lines m)
 line-lines m body (inl h) = subst (λ (b : Bool). AreLines (cond b ((mark_byte m.mark ∷ m.line) ∷ []) ((mark_byte m.mark ∷ (m.line ++ 10 ∷ [])) ∷ no_newline ∷ []))) (sym (line-ends m.line h)) (longer (mark_byte m.mark) m.line (mark-clean m.mark) h, tt)
 line-lines m body (inr h) = subst (λ (b : Bool). AreLines (cond b ((mark_byte m.mark ∷ m.line) ∷ []) ((mark_byte m.mark ∷ (m.line ++ 10 ∷ [])) ∷ no_newline ∷ []))) (sym (no-end m.line h.0)) (longer (mark_byte m.mark) (m.line ++ 10 ∷ []) (mark-clean m.mark) (closes m.line h.0), (no-newline-line, tt))
@@ -168,14 +145,6 @@ line-lines m body (inr h) = subst (λ (b : Bool). AreLines (cond b ((mark_byte m
 body-lines : (body : List Marked) → LinesFit body → AreLines (body_lines body)
 body-lines [] h = tt
 body-lines (m ∷ body) h = lines-both (line_lines m) (body_lines body) (line-lines m body h.0) (body-lines body h.1)
-
-lines-whole : (ls : List (List ℕ)) (rest : List ℕ) → AreLines ls → lines (flat_map (λ line. line) ls ++ rest) ≡ ls ++ lines rest
-lines-whole [] rest h = refl
-lines-whole (line ∷ ls) rest h =
-    ap (λ bs. lines (bs ++ rest)) (flat_map-cons (λ line. line) line ls)
-    ∙ ap lines (append_assoc line (flat_map (λ line. line) ls) rest)
-    ∙ line-first line (flat_map (λ line. line) ls ++ rest) h.0
-    ∙ ap (λ more. line ∷ more) (lines-whole ls rest h.1)
 
 -- ---- the bytes are these lines
 

@@ -1,5 +1,5 @@
 -- A fault stays whatever lines come after its own.
-use Rattle.std.proofs.Common.{◌≡◌, ◌≢◌, ◌⊎◌, inl, inr, ℕ, zero, suc, ◌+◌, ◌-◌, ◌≤◌, ◌<◌, Bool, true, false, cond, List, [], ◌∷◌, ◌++◌, length, Option, None, Some, Result, Ok, Err, refl, sym, ap, subst, ◌∙◌, arith}
+use Rattle.std.proofs.Common.{◌≡◌, ◌≢◌, inl, inr, ℕ, zero, suc, ◌+◌, ◌-◌, ◌≤◌, ◌<◌, Bool, true, false, cond, List, [], ◌∷◌, ◌++◌, length, Option, None, Some, Result, Ok, Err, refl, sym, ap, subst, ◌∙◌, arith}
 use Rattle.std.specs.Prelude.{is_some}
 use Rattle.hunk_core.specs.declared.BadKind.{BadKind}
 use Rattle.hunk_core.specs.declared.BadKind.TheVariants as kinds
@@ -8,18 +8,21 @@ use Rattle.hunk_core.specs.LineTests.{after_backslash}
 use Rattle.hunk_core.specs.Reading.{◌>>=◌, Fault, fault, Ahead, ahead}
 use Rattle.hunk_core.proofs.TextLemmas.{has_some}
 use Rattle.hunk_core.proofs.ReadSteps.{bind_ok, chosen, guard_ok}
+use Rattle.hunk_core.specs.Refusals.{settled}
+use Rattle.hunk_core.specs.FirstFault.{AgreeTo}
+use Rattle.hunk_core.proofs.FaultSteps.{failed, err_is, bind_err, short_or}
+use Rattle.hunk_core.proofs.Agreeing.{agree_head, agree_front}
 use Rattle.unified_form.specs.declared.range.Ranges.{Ranges}
 use Rattle.unified_form.specs.Ranges.{range_line, from_ranges, opening}
 use Rattle.unified_form.specs.Bodies.{body_at}
-use Rattle.unified_form.specs.Hunks.{at_line, left_of, change, settled, first_hunk, hunk_at, begins_hunk, hunks_at, reading}
-use Rattle.unified_form.specs.FirstFault.{AgreeTo}
+use Rattle.unified_form.specs.Hunks.{at_line, left_of, change, first_hunk, hunk_at, begins_hunk, hunks_at, reading}
 use Rattle.unified_form.specs.Grammar.{IsPiece}
 use Rattle.unified_form.proofs.Pieces.{reading_again}
 use Rattle.std.proofs.lemmas.Bool.{cases_lt}
 use Rattle.std.proofs.lemmas.List.{length-append}
 use Rattle.unified_form.proofs.HunkLoops.{hunks_step}
 use Rattle.unified_form.proofs.Steps.{hunk-shrinks}
-use Rattle.unified_form.proofs.BodyFaults.{failed, err_is, bind_err, agree_head, agree_quiet, agree_loud, add_err, body_low, body_up, body_stays, body_goes}
+use Rattle.unified_form.proofs.BodyFaults.{agree_quiet, agree_loud, add_err, body_low, body_up, body_stays, body_goes}
 
 -- ---- a hunk
 
@@ -218,29 +221,6 @@ fault-unspelled number lines others e hs next rest h long agree piece =
     let fails = fault-stays number lines others e h long agree in
     let reads = reading_again number others hs next rest piece in
     cc
-
-agree_past : (last number : ℕ) (lines others : List (List ℕ)) → last < number → AgreeTo last number lines others
-agree_past last number [] others past = past
-agree_past last number (line ∷ lines) [] past = past
-agree_past last number (line ∷ lines) (other ∷ others) past = ((λ le. absurd (omega (arith, past, le))), agree_past last (number + 1) lines others (omega (arith, past)))
-
-agree_front : (last number : ℕ) (front behind others : List (List ℕ)) → last < number + length front → AgreeTo last number (front ++ behind) (front ++ others)
-agree_front last number [] behind others past = agree_past last number behind others (omega (arith, past))
-agree_front last number (line ∷ front) behind others past = ((λ le. refl), agree_front last (number + 1) front behind others (omega (arith, past)))
-
-pub short_or : (k : BadKind) → (k ≡ kinds.ShortEnd) ⊎ (k ≢ kinds.ShortEnd)
-short_or kinds.Range = inr (λ h. cc)
-short_or kinds.Mark = inr (λ h. cc)
-short_or kinds.Count = inr (λ h. cc)
-short_or kinds.ShortEnd = inl refl
-short_or kinds.NumberTooLarge = inr (λ h. cc)
-short_or kinds.SidesDiffer = inr (λ h. cc)
-short_or kinds.MisplacedBackslash = inr (λ h. cc)
-short_or kinds.EdCommand = inr (λ h. cc)
-short_or kinds.EdOrder = inr (λ h. cc)
-short_or kinds.EdNoDot = inr (λ h. cc)
-short_or kinds.Binary = inr (λ h. cc)
-short_or kinds.HunkOrder = inr (λ h. cc)
 
 pub fault-late : (number : ℕ) (front behind others : List (List ℕ)) (e : Fault) (hs : List PlainHunk) (next : ℕ) (rest : List (List ℕ)) → IsPiece number (front ++ others) hs next rest → reading number (front ++ behind) ≡ Err e → number + length front ≤ e.line
 fault-late number front behind others e hs next rest piece h =

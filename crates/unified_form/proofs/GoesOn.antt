@@ -1,9 +1,8 @@
 -- The lines in front of a fault can go on to a piece.
-use Rattle.std.proofs.Common.{subst, ◌≡◌, ◌≢◌, ◌↔◌, ℕ, zero, suc, ◌+◌, ◌-◌, ◌≤◌, ◌<◌, eqb, List, [], ◌∷◌, ◌++◌, length, take, Ok, Err, refl, sym, ap, ◌∙◌, append_assoc, arith, inl, inr}
+use Rattle.std.proofs.Common.{subst, ◌≡◌, ◌↔◌, ℕ, zero, suc, ◌+◌, ◌-◌, ◌≤◌, ◌<◌, eqb, List, [], ◌∷◌, ◌++◌, length, take, Ok, Err, refl, sym, ap, ◌∙◌, arith, inl, inr}
 use Rattle.std.specs.List.{AllByRecursion}
-use Rattle.std.proofs.lemmas.List.{append-nil, length-append}
+use Rattle.std.proofs.lemmas.List.{append-nil}
 use Rattle.line_list.specs.Lines.{IsLine}
-use Rattle.std.proofs.Math.Seq.{take-append-add, take-append_seam}
 use Rattle.hunk_core.specs.declared.Mark.TheVariants.{Drop, Add}
 use Rattle.hunk_core.specs.declared.BadKind.TheVariants as kinds
 use Rattle.hunk_core.specs.PlainHunk.{Marked, PlainHunk}
@@ -11,46 +10,21 @@ use Rattle.hunk_core.specs.LineTests.{marked, after_backslash}
 use Rattle.hunk_core.specs.Reading.{Fault, fault, Ahead, ahead}
 use Rattle.hunk_core.proofs.ReadSteps.{chosen}
 use Rattle.hunk_core.proofs.TextLemmas.{has_some}
+use Rattle.hunk_core.specs.Refusals.{settled}
+use Rattle.hunk_core.proofs.FaultSteps.{failed, bind_err, short_or}
+use Rattle.hunk_core.proofs.Filling.{IsInside, none_in_front, front_with, whole_front, first_inside, past_inside, none_inside}
 use Rattle.unified_form.specs.declared.body.Left.{Left}
 use Rattle.unified_form.specs.declared.range.Ranges.{Ranges}
 use Rattle.unified_form.specs.Ranges.{opening}
 use Rattle.unified_form.specs.Bodies.{mark_at, marked_at, room_at, ended_by, first_line, line_at, body_at}
-use Rattle.unified_form.specs.Hunks.{at_line, left_of, change, settled, first_hunk, hunk_at, begins_hunk, hunks_at, reading}
+use Rattle.unified_form.specs.Hunks.{at_line, left_of, change, first_hunk, hunk_at, begins_hunk, hunks_at, reading}
 use Rattle.unified_form.specs.Grammar.{one_more, counts_of, ranges_of, SpellsBody, SpellsRanges, AreFair, SpellsHunks}
 use Rattle.unified_form.specs.FirstFault.{CanGoOn}
 use Rattle.unified_form.proofs.Bodies.{made, is_left, marked-ok, room-back, mark_at-shows, TakesLine, line_takes, TakesBody, body_takes}
 use Rattle.unified_form.proofs.RangeGrammar.{opening-takes}
 use Rattle.unified_form.proofs.Pieces.{at_line-ok, is_ranges, TakesHunk, hunk_takes}
-use Rattle.unified_form.proofs.BodyFaults.{failed, err_is, backslash_one, bind_err, marked_low, room_low, ended_low, rest_of_line, one_more_line, add_err, body_low}
-use Rattle.unified_form.proofs.FirstFault.{short_or, fault-short, fault-late, range_low, settled_err, with_body, more_hunks, hunks_low}
-
--- ---- the lines in front
-
-none_in_front : (at number : ℕ) (lines : List (List ℕ)) → at ≡ number → take (at - number) lines ≡ []
-none_in_front at number lines e = let none : at - number ≡ 0 = omega (arith, e) in rw none refl
-
--- lines that were taken stand in front of a fault that comes behind them
-front_past : (at number next : ℕ) (lines own rest : List (List ℕ)) → lines ≡ own ++ rest → next ≡ number + length own → next ≤ at → take (at - number) lines ≡ own ++ take (at - next) rest
-front_past at number next lines own rest parts count le =
-    let k : at - number ≡ length own + (at - next) = omega (arith, count, le) in
-    rw (parts, k) (take-append-add own rest (at - next))
-
-front_with : (at number next : ℕ) (lines own rest others : List (List ℕ)) → lines ≡ own ++ rest → next ≡ number + length own → next ≤ at → take (at - number) lines ++ others ≡ own ++ (take (at - next) rest ++ others)
-front_with at number next lines own rest others parts count le =
-    ap (λ (ls : List (List ℕ)). ls ++ others) (front_past at number next lines own rest parts count le) ∙ append_assoc own (take (at - next) rest) others
-
--- a fault lies in one of the lines, unless the text ends too early
-abbrev IsInside : Ahead → Fault → Type 0
-IsInside p e = e.kind ≢ kinds.ShortEnd → e.line < p.number + length p.rest
-
-none_inside : {A : Type 0} (number : ℕ) (e : Fault) → failed {A = A} (fault number kinds.ShortEnd) ≡ failed e → IsInside (ahead number []) e
-none_inside {A = A} number e h long = absurd (long (sym (ap (λ (x : Fault). x.kind) (err_is {A = A} (fault number kinds.ShortEnd) e h))))
-
-first_inside : (number : ℕ) (line : List ℕ) (rest : List (List ℕ)) (e : Fault) → e.line ≡ number → IsInside (ahead number (line ∷ rest)) e
-first_inside number line rest e here long = omega (arith, here)
-
-past_inside : (p q : Ahead) (e : Fault) (own : List (List ℕ)) → p.rest ≡ own ++ q.rest → q.number ≡ p.number + length own → IsInside q e → IsInside p e
-past_inside p q e own parts number more long = omega (arith, more long, number, ap length parts, length-append own q.rest)
+use Rattle.unified_form.proofs.BodyFaults.{backslash_one, marked_low, room_low, ended_low, rest_of_line, one_more_line, add_err, body_low}
+use Rattle.unified_form.proofs.FirstFault.{fault-short, fault-late, range_low, settled_err, with_body, more_hunks, hunks_low}
 
 -- ---- lines that fill a body up
 
@@ -256,11 +230,6 @@ fault-goes_on number lines e h =
     let f = hunks_fill (length lines) 0 (ahead number lines) e h in
     let own = take (e.line - number) lines ++ f.others in
     record { others = f.others; are_lines = f.are_lines; hs = f.hs; next = number + length own; whole = record { own = own; parts = sym (append-nil own); spelled = f.spelled; ends = (refl, refl); counted = refl } }
-
-whole_front : (number : ℕ) (lines : List (List ℕ)) (at : ℕ) → at ≡ number + length lines → take (at - number) lines ≡ lines
-whole_front number lines at e =
-    let k : at - number ≡ length lines = omega (arith, e) in
-    ap (λ n. take n lines) k ∙ ap (take (length lines)) (sym (append-nil lines)) ∙ take-append_seam lines []
 
 pub fault-short_end : (number : ℕ) (lines : List (List ℕ)) (e : Fault) → reading number lines ≡ Err e → e.kind ≡ kinds.ShortEnd ↔ CanGoOn number lines
 fault-short_end number lines e h = (

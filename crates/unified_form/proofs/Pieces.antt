@@ -8,24 +8,23 @@ use Rattle.std.proofs.lemmas.List.{length-append}
 use Rattle.hunk_core.specs.declared.BadKind.{BadKind}
 use Rattle.hunk_core.specs.PlainHunk.{PlainHunk}
 use Rattle.hunk_core.specs.Reading.{◌>>=◌, Ahead, ahead}
+use Rattle.hunk_core.specs.OptionSteps.{◌>>=◌ as ◌>>?◌}
+use Rattle.hunk_core.specs.Refusals.{settled}
+use Rattle.hunk_core.proofs.OptionLemmas.{some_step, is_none}
 use Rattle.unified_form.specs.declared.body.Left.{Left}
 use Rattle.unified_form.specs.declared.range.Ranges.{Ranges}
-use Rattle.unified_form.specs.Ranges.{◌>>=◌ as ◌>>?◌, size_at, count_at, range_at, range_line, from_ranges, opening, is_opening}
+use Rattle.unified_form.specs.Ranges.{size_at, count_at, range_at, range_line, from_ranges, opening, is_opening}
 use Rattle.hunk_core.specs.LineTests.{after}
 use Rattle.unified_form.specs.Bodies.{body_at}
 use Rattle.hunk_core.specs.LineTests.{is_backslash, after_backslash}
-use Rattle.unified_form.specs.Hunks.{at_line, left_of, change, settled, first_hunk, hunk_at, begins_hunk, hunks_at, reading}
+use Rattle.unified_form.specs.Hunks.{at_line, left_of, change, first_hunk, hunk_at, begins_hunk, hunks_at, reading}
 use Rattle.unified_form.specs.Grammar.{counts_of, ranges_of, SpellsHunk, SpellsHunks, EndsPiece, IsPiece}
 use Rattle.unified_form.proofs.Steps.{hunk-shrinks}
 use Rattle.hunk_core.proofs.ReadSteps.{bind_ok, chosen, guard_ok, ok_is}
-use Rattle.unified_form.proofs.RangeGrammar.{opening-takes, opening-again}
+use Rattle.unified_form.proofs.RangeGrammar.{opening-takes, opening-again, made}
 use Rattle.unified_form.proofs.Bodies.{body_takes, body_again}
 
 -- ---- a line that opens a hunk
-
-some_step : {A B : Type 0} (r : Option A) (f : A → Option B) (y : B) → (r >>? f) ≡ Some y → (x : A) × (r ≡ Some x) × (f x ≡ Some y)
-some_step (Some x) f y e = (x, refl, e)
-some_step None f y e = absurd cc
 
 was_read : (least : ℕ) (o : Option Ranges) (r : Ranges) → from_ranges least o ≡ Ok r → (q : Ranges) × (o ≡ Some q)
 was_read least None r e = absurd cc
@@ -63,16 +62,9 @@ pub record TakesHunk (least : ℕ) (p : Ahead) (x : PlainHunk × Ahead) : Type 0
   pub spelled : SpellsHunk least own x.0
   pub quiet : after_backslash x.1.rest ≡ None
 
-is_none : (o : Option (List (List ℕ))) → is_some o ≡ false → o ≡ None
-is_none None e = refl
-is_none (Some x) e = absurd cc
-
 pub at_line-ok : (number : ℕ) (o : Result Ranges BadKind) (r : Ranges) → at_line number o ≡ Ok r → o ≡ Ok r
 at_line-ok number (Ok q) r e = cc
 at_line-ok number (Err kind) r e = absurd cc
-
-abbrev made : ℕ → ℕ → ℕ → ℕ → Ranges
-made a b c d = record { old_start = a; old_count = b; new_start = c; new_count = d }
 
 pub is_ranges : (a b c d e f : ℕ) → b ≡ e → d ≡ f → made a b c d ≡ made a e c f
 is_ranges a b c d e f h k = rw (h, k) refl

@@ -3,11 +3,12 @@ use Rattle.std.proofs.Common.{◌≡◌, ℕ, zero, suc, ◌+◌, ◌≤◌, ◌
 use Rattle.hunk_core.specs.PlainHunk.{Marked, PlainHunk}
 use Rattle.hunk_core.proofs.ReadSteps.{bind_ok, chosen, guard_ok, must_ok, ok_is}
 use Rattle.hunk_core.specs.Reading.{◌>>=◌, Ahead, ahead}
+use Rattle.hunk_core.specs.Refusals.{settled}
 use Rattle.unified_form.specs.declared.body.Left.{Left}
 use Rattle.unified_form.specs.Ranges.{opening}
 use Rattle.unified_form.specs.Bodies.{is_last_line, marked_at, room_at, ended_by, first_line, line_at, body_at}
 use Rattle.hunk_core.specs.LineTests.{is_backslash, after_backslash}
-use Rattle.unified_form.specs.Hunks.{at_line, left_of, change, settled, first_hunk}
+use Rattle.unified_form.specs.Hunks.{at_line, left_of, change, first_hunk}
 
 -- a backslash line is one line
 pub after_backslash-shrinks : (rest more : List (List ℕ)) → after_backslash rest ≡ Some more → length more < length rest

@@ -1,5 +1,5 @@
 -- What is spelled breaks none of the rules of a hunk.
-use Rattle.std.proofs.Common.{◌≡◌, ◌≢◌, ℕ, ◌+◌, ◌≤◌, ◌<◌, Bool, true, false, cond, not, eqb, ◌&&◌, ◌||◌, List, [], ◌∷◌, ◌++◌, length, map, None, Some, refl, sym, subst, arith, inl, inr}
+use Rattle.std.proofs.Common.{◌≡◌, ◌≢◌, ℕ, ◌+◌, ◌≤◌, ◌<◌, Bool, true, false, cond, not, eqb, ◌&&◌, List, [], ◌∷◌, ◌++◌, length, map, None, refl, sym, subst, arith, inl, inr}
 use Rattle.std.specs.Prelude.{filter}
 use Rattle.std.proofs.lemmas.Bool.{eqb-true}
 use Rattle.line_list.specs.Lines.{IsLine, ArePieces}
@@ -7,24 +7,19 @@ use Rattle.hunk_core.specs.declared.Mark.{Mark}
 use Rattle.hunk_core.specs.declared.Mark.TheVariants.{Keep, Drop, Add}
 use Rattle.hunk_core.specs.declared.Side.{Side}
 use Rattle.hunk_core.specs.declared.Side.TheVariants.{Forward, Reversed}
-use Rattle.hunk_core.specs.declared.check.BadHunk.{BadHunk}
 use Rattle.hunk_core.specs.Sides.{is_on_side}
 use Rattle.hunk_core.specs.PlainHunk.{Marked, PlainHunk, lines_on, old_lines, new_lines}
 use Rattle.hunk_core.specs.LineTests.{ends_line}
 use Rattle.hunk_core.specs.Rules.{starts_at_zero, runs_over, lacks_inner_end, first_broken}
 use Rattle.hunk_core.proofs.PieceLemmas.{pieces-last}
+use Rattle.hunk_core.proofs.RuleLemmas.{no-rule}
+use Rattle.hunk_core.proofs.LineEnds.{line-ends, lacks-step}
 use Rattle.unified_form.specs.declared.body.Left.{Left}
 use Rattle.unified_form.specs.Bodies.{is_last_line}
 use Rattle.unified_form.specs.Grammar.{mark_byte, Shows, counts_of, SpellsLine, SpellsBody, SpellsHunk}
 use Rattle.unified_form.proofs.Counts.{counts-old, counts-new, left_on, counts-on}
 
 -- ---- a line that stands before another has its line feed
-
-pub line-ends : (line : List ℕ) → IsLine line → ends_line line ≡ true
-line-ends [] h = absurd h
-line-ends (b ∷ []) h = grind arith
-line-ends (b ∷ c ∷ bytes) h = line-ends (c ∷ bytes) h.1
-
 not-feed : (mark : Mark) → mark_byte mark ≢ 10
 not-feed Keep = λ e. cc
 not-feed Drop = λ e. cc
@@ -81,10 +76,6 @@ rest-some : (side : Side) (rest : List (List ℕ)) (body : List Marked) → 0 < 
 rest-some side rest [] more h = absurd (omega arith)
 rest-some side rest (m ∷ body) more h = piece-some rest m body h
 
-lacks-step : (line : List ℕ) (lines : List (List ℕ)) → (0 < length lines → ends_line line ≡ true) → lacks_inner_end lines ≡ false → lacks_inner_end (line ∷ lines) ≡ false
-lacks-step line [] ends none = refl
-lacks-step line (x ∷ xs) ends none = let e : ends_line line ≡ true = ends (omega arith) in rw (e, none) refl
-
 pub body-ends : (side : Side) (body : List Marked) (piece : List (List ℕ)) → SpellsBody piece body → ArePieces piece → lacks_inner_end (lines_on side body) ≡ false
 body-ends side [] piece h pieces = refl
 body-ends side (m ∷ body) piece h pieces =
@@ -112,9 +103,6 @@ no-run start count side same small = let le : start + length side ≤ 4294967295
 some-body : (body : List Marked) → 0 < (counts_of body).old + (counts_of body).new → eqb (length body) 0 ≡ false
 some-body [] h = absurd (omega arith)
 some-body (m ∷ body) h = grind arith
-
-no-rule : (x y z w : BadHunk) (a b b2 c c2 d d2 : Bool) → a ≡ false → b ≡ false → b2 ≡ false → c ≡ false → c2 ≡ false → d ≡ false → d2 ≡ false → cond a (Some x) (cond (b || b2) (Some y) (cond (c || c2) (Some z) (cond (d || d2) (Some w) None))) ≡ None
-no-rule x y z w a b b2 c c2 d d2 e1 e2 e3 e4 e5 e6 e7 = rw (e1, e2, e3, e4, e5, e6, e7) refl
 
 pub hunk-unbroken : (least : ℕ) (own : List (List ℕ)) (h : PlainHunk) → SpellsHunk least own h → ArePieces own → first_broken h ≡ None
 hunk-unbroken least [] h s pieces = absurd s

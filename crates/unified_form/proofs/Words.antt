@@ -9,7 +9,8 @@ use Rattle.hunk_core.specs.Sides.{is_on_side}
 use Rattle.hunk_core.specs.PlainHunk.{Marked, lines_on}
 use Rattle.hunk_core.specs.LineTests.{after}
 use Rattle.hunk_core.proofs.TextLemmas.{after-takes, after-again}
-use Rattle.unified_form.specs.Ranges.{◌>>=◌, size_at, is_opening}
+use Rattle.hunk_core.specs.OptionSteps.{◌>>=◌}
+use Rattle.unified_form.specs.Ranges.{size_at, is_opening}
 use Rattle.unified_form.specs.Bodies.{is_last_line}
 use Rattle.unified_form.specs.Grammar.{counts_of}
 use Rattle.unified_form.proofs.Counts.{counts-on}

@@ -5,8 +5,9 @@ use Rattle.std.proofs.lemmas.List.{take_more, map_push, map-append, flat_map_mor
 use Rattle.std.proofs.lemmas.List.Concat.{flat_map-append}
 use Rattle.hunk_core.specs.LineTests.{ends_line}
 use Rattle.hunk_core.specs.PlainHunk.{Marked}
+use Rattle.hunk_core.specs.Writing.{no_newline}
+use Rattle.hunk_core.proofs.TextLemmas.{slice-first}
 use Rattle.unified_form.specs.Grammar.{mark_byte}
-use Rattle.unified_form.specs.Canonical.{no_newline}
 use Rattle.hunk_core.specs.declared.Side.{Side}
 use Rattle.hunk_core.specs.declared.HunkLine.{HunkLine}
 use Rattle.hunk_core.specs.declared.Hunk.{Hunk}
@@ -17,7 +18,6 @@ use Rattle.hunk_core.proofs.TurnedLemmas.{turned-body, turned-count, turned-othe
 use Rattle.unified_form.specs.Grammar.{counts_of}
 use Rattle.unified_form.specs.Canonical.{range_line_text, line_text, canonical}
 use Rattle.unified_form.proofs.Counts.{counts-old, counts-new}
-use Rattle.unified_form.proofs.SliceLemmas.{slice-first}
 
 abbrev pub written : List ℕ → Side → List HunkLine → List ℕ
 written text side ls = flat_map line_text (map (taken_line side) (body_of text ls))

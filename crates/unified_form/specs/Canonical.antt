@@ -1,10 +1,11 @@
 -- The canonical text of a hunk.
-use Rattle.std.specs.Prelude.{◌≡◌, ℕ, ◌==◌, List, [], ◌∷◌, ◌++◌, codes, if◌then◌else◌}
+use Rattle.std.specs.Prelude.{◌≡◌, ℕ, ◌==◌, List, [], ◌∷◌, ◌++◌, if◌then◌else◌}
 use Rattle.std.specs.List.{flat_map}
 use Rattle.line_list.specs.Lines.{lines}
 use Rattle.num_text.specs.Numbers.{decimal}
 use Rattle.hunk_core.specs.PlainHunk.{Marked, PlainHunk}
 use Rattle.hunk_core.specs.LineTests.{ends_line}
+use Rattle.hunk_core.specs.Writing.{no_newline}
 use Rattle.unified_form.specs.Grammar.{mark_byte, counts_of, SpellsHunk, IsPiece}
 
 -- a count of 1 is left off
@@ -14,10 +15,6 @@ range_text start count = if count == 1 then decimal start else decimal start ++ 
 -- '@@ -', the old range, ' +', the new range, ' @@' and nothing behind it
 abbrev pub range_line_text : ℕ → ℕ → ℕ → ℕ → List ℕ
 range_line_text old_start old_count new_start new_count = (64 ∷ 64 ∷ 32 ∷ 45 ∷ []) ++ (range_text old_start old_count ++ ((32 ∷ 43 ∷ []) ++ (range_text new_start new_count ++ ((32 ∷ 64 ∷ 64 ∷ []) ++ 10 ∷ []))))
-
--- the line after one that has no line feed
-abbrev pub no_newline : List ℕ
-no_newline = 92 ∷ 32 ∷ (codes "No newline at end of file" ++ 10 ∷ [])
 
 -- a line behind its mark
 abbrev pub line_text : Marked → List ℕ

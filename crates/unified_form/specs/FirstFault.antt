@@ -1,15 +1,9 @@
 -- What makes a fault the first one.
-use Rattle.std.specs.Prelude.{◌≡◌, ℕ, ◌+◌, ◌≤◌, ◌<◌, List, [], ◌∷◌, ◌++◌}
+use Rattle.std.specs.Prelude.{ℕ, List, [], ◌++◌}
 use Rattle.std.specs.List.{AllByRecursion}
 use Rattle.line_list.specs.Lines.{IsLine}
 use Rattle.hunk_core.specs.PlainHunk.{PlainHunk}
 use Rattle.unified_form.specs.Grammar.{IsPiece}
-
--- two lists of lines, which begin at this number, are the same up to the line with the last number
-abbrev pub AgreeTo : ℕ → ℕ → List (List ℕ) → List (List ℕ) → Type 0
-AgreeTo last number [] others = last < number
-AgreeTo last number (line ∷ rest) [] = last < number
-AgreeTo last number (line ∷ rest) (other ∷ others) = (number ≤ last → line ≡ other) × AgreeTo last (number + 1) rest others
 
 -- hunks begin with these lines: with other whole lines behind them they are a piece
 pub record CanGoOn (number : ℕ) (front : List (List ℕ)) : Type 0 where

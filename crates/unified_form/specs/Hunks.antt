@@ -1,14 +1,14 @@
 -- Hunks that follow each other, read line by line.
-use Rattle.std.specs.Prelude.{ℕ, zero, suc, ◌+◌, Bool, false, List, [], ◌∷◌, length, is_some, Result, Ok, Err, if◌then◌else◌}
+use Rattle.std.specs.Prelude.{ℕ, zero, suc, ◌+◌, Bool, false, List, [], ◌∷◌, length, Result, Ok, Err, if◌then◌else◌}
 use Rattle.hunk_core.specs.declared.BadKind.{BadKind}
 use Rattle.hunk_core.specs.declared.BadKind.TheVariants as kinds
 use Rattle.hunk_core.specs.PlainHunk.{Marked, PlainHunk}
 use Rattle.hunk_core.specs.Reading.{Fault, fault, ◌>>=◌, Ahead, ahead}
+use Rattle.hunk_core.specs.Refusals.{settled}
 use Rattle.unified_form.specs.declared.range.Ranges.{Ranges}
 use Rattle.unified_form.specs.declared.body.Left.{Left}
 use Rattle.unified_form.specs.Ranges.{opening, is_opening}
 use Rattle.unified_form.specs.Bodies.{body_at}
-use Rattle.hunk_core.specs.LineTests.{after_backslash}
 
 -- the ranges, or the fault of this line
 abbrev pub at_line : ℕ → Result Ranges BadKind → Result Ranges Fault
@@ -22,10 +22,6 @@ left_of r = record { old = r.old_count; new = r.new_count }
 -- a hunk with these starts
 abbrev pub change : Ranges → List Marked → PlainHunk
 change r body = record { old_start = r.old_start; new_start = r.new_start; body = body }
-
--- no backslash line stands behind a hunk
-abbrev pub settled : PlainHunk → Ahead → Result (PlainHunk × Ahead) Fault
-settled h p = if is_some (after_backslash p.rest) then Err (fault p.number kinds.MisplacedBackslash) else Ok (h, p)
 
 -- a hunk whose range line is the first of these lines, and what is ahead behind it
 unfoldable pub first_hunk : ℕ → ℕ → List (List ℕ) → Result (PlainHunk × Ahead) Fault

@@ -1,5 +1,6 @@
 use Rattle.std.proofs.Common.{◌≤◌, ◌-◌, slice_range, refl, arith}
-use Rattle.context_form.proofs.SliceLemmas.{slice-length, slice-behind}
+use Rattle.hunk_core.proofs.TextLemmas.{slice-length}
+use Rattle.context_form.proofs.SliceLemmas.{slice-behind}
 use Rattle.context_form.proofs.part.marked_line.Goals as goal
 
 pub returns-clause-exact : goal.returns-clause-exact

@@ -2,9 +2,10 @@ use Rattle.std.proofs.Common.{◌≡◌, length, arith}
 use Rattle.std.proofs.lemmas.Result.{err_from_is_err_and}
 use Rattle.hunk_core.specs.PlainHunk.{hunk_of}
 use Rattle.hunk_core.specs.Turned.{swapped}
+use Rattle.line_list.proofs.Elements.{found}
 use Rattle.flip_patch.specs.Flipped.{hunk_text}
-use Rattle.flip_patch.proofs.Loops.{goes-on, stops, ends}
-use Rattle.flip_patch.proofs.Placed.{flat-swapped, found}
+use Rattle.hunk_core.proofs.Loops.{goes-on, stops, ends}
+use Rattle.flip_patch.proofs.Placed.{flat-swapped}
 use Rattle.flip_patch.proofs.hunks.put_hunks.Goals as goal
 
 pub returns-in_err-put_hunk : goal.returns-in_err-put_hunk

@@ -1,5 +1,6 @@
 use Rattle.std.proofs.Common.{◌≡◌, get_or, subst}
-use Rattle.flip_patch.proofs.Placed.{found, placed-at}
+use Rattle.line_list.proofs.Elements.{found}
+use Rattle.flip_patch.proofs.Placed.{placed-at}
 use Rattle.flip_patch.proofs.patches.patch_at.Goals as goal
 
 pub returns-clause-placed : goal.returns-clause-placed

@@ -8,7 +8,7 @@ use Rattle.patch_filters.specs.Kept.{keeps}
 use Rattle.tool_words.specs.PlainJobs.{plain_filter_job}
 use Rattle.change_commands.specs.Taken.{flags}
 use Rattle.change_commands.proofs.Parts.{written-all, written-more, written-none, written-stop}
-use Rattle.format_convert.specs.Converted.{hunk_text}
+use Rattle.patch_header.specs.Written.{hunk_text}
 use Rattle.format_convert.proofs.RowLemmas.{kept_from, last-hunk, next-hunk, rows-of}
 use Rattle.format_convert.proofs.hunks.put_each.Goals as goal
 

@@ -6,7 +6,7 @@ use Rattle.patch_set.specs.SetView.{patch_at}
 use Rattle.tool_words.specs.PlainJobs.{plain_filter_job}
 use Rattle.change_commands.specs.Taken.{flags}
 use Rattle.change_commands.proofs.Parts.{Written}
-use Rattle.format_convert.specs.Converted.{hunk_text}
+use Rattle.patch_header.specs.Written.{hunk_text}
 use Rattle.format_convert.proofs.RowLemmas.{kept_from}
 use Rattle.format_convert.proofs.hunks.put_each.Given as goal
 

@@ -1,9 +1,9 @@
 use Rattle.std.proofs.Common.{◌≡◌, ◌+◌, ◌<◌, ◌≤◌, ◌&&◌, ℕ, Bool, cond, Option, None, Some, drop, length, refl, sym, ap, ◌∙◌, arith, rules}
 use Rattle.std.specs.List.{flat_map}
 use Rattle.file_patch.specs.PlainPatch.{patch_of}
-use Rattle.patch_filters.proofs.Rows.{there-is}
 use Rattle.tool_words.specs.PlainJobs.{plain_filter_job}
 use Rattle.change_commands.specs.Taken.{has_kept, left_patch}
+use Rattle.line_list.proofs.Elements.{there-is}
 use Rattle.format_convert.specs.Converted.{rows}
 use Rattle.format_convert.specs.Refusals.{first_line, is_unfit}
 use Rattle.format_convert.proofs.RowLemmas.{row_if, lacks-left, last-first, left-is, next-first}

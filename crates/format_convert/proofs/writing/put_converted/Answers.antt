@@ -1,9 +1,9 @@
 use Rattle.std.proofs.Common.{◌≡◌, ◌+◌, ◌<◌, ◌≤◌, ℕ, List, drop, length, sym, ap, subst, ◌∙◌, arith, rules}
 use Rattle.std.specs.List.{flat_map}
 use Rattle.std.proofs.lemmas.Result.{err_from_is_err_and}
-use Rattle.patch_filters.proofs.Rows.{there-is}
 use Rattle.tool_words.specs.PlainJobs.{plain_filter_job}
 use Rattle.change_commands.proofs.Parts.{Written, written-all, written-more, written-none, written-stop}
+use Rattle.line_list.proofs.Elements.{there-is}
 use Rattle.format_convert.specs.Converted.{converted, rows, written_if}
 use Rattle.format_convert.proofs.RowLemmas.{converted-is, next-text, rows-end}
 use Rattle.format_convert.proofs.writing.put_converted.Goals as goal

@@ -1,7 +1,7 @@
 use Rattle.std.proofs.Common.{◌++◌}
 use Rattle.std.proofs.lemmas.Result.{err_from_is_err_and}
 use Rattle.hunk_core.proofs.SinkSteps.{has-put, puts-more, puts-stop}
-use Rattle.header_lines.specs.Marks.{name_end}
+use Rattle.patch_header.specs.Written.{name_end}
 use Rattle.header_lines.proofs.writing.put_index_line.Goals as goal
 
 pub returns-in_err-put_piece : goal.returns-in_err-put_piece

@@ -1,8 +1,9 @@
 use Rattle.std.proofs.Common.{◌≡◌, ◌≤◌, ◌+◌, ℕ, List, [], ◌∷◌, drop, sym, ap, ◌∙◌, subst, arith, rules}
 use Rattle.std.proofs.lemmas.List.{drop_all}
 use Rattle.hunk_core.specs.PlainHunk.{bytes_at}
+use Rattle.line_list.proofs.Elements.{front-rest}
 use Rattle.hunk_place.specs.Taken.{side_lines}
-use Rattle.hunk_place.proofs.FitLemmas.{side-skip, side-take, front-rest, nothing, all-behind}
+use Rattle.hunk_place.proofs.FitLemmas.{side-skip, side-take, nothing, all-behind}
 use Rattle.hunk_place.proofs.pattern.index_behind.Goals as goal
 use Rattle.hunk_place.proofs.pattern.index_behind.Goals.{then-is_taken+else-i-front, else-is_taken}
 

@@ -1,8 +1,9 @@
 use Rattle.std.proofs.Common.{◌≡◌, arith, refl, slice_range, true, rules}
 use Rattle.std.specs.Prelude.{is_some}
 use Rattle.hunk_core.specs.LineTests.{after}
+use Rattle.hunk_core.proofs.TextLemmas.{slice-length}
 use Rattle.normal_form.specs.Stretches.{marks}
-use Rattle.normal_form.proofs.SliceLemmas.{marked-long, slice-length, slice-behind}
+use Rattle.normal_form.proofs.SliceLemmas.{marked-long, slice-behind}
 use Rattle.normal_form.proofs.stretch.marked_line.Goals as goal
 
 pub overflow_add-start : goal.overflow_add-start

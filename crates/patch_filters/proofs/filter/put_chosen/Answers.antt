@@ -5,7 +5,7 @@ use Rattle.patch_set.proofs.Named.{rows-counted}
 use Rattle.tool_words.specs.PlainJobs.{plain_filter_job}
 use Rattle.patch_filters.specs.Kept.{kept}
 use Rattle.patch_filters.specs.Filtered.{text_if}
-use Rattle.patch_filters.proofs.Loops.{goes-on, stops, ends}
+use Rattle.hunk_core.proofs.Loops.{goes-on, stops, ends}
 use Rattle.patch_filters.proofs.Placed.{rows, rows-long, row-at}
 use Rattle.patch_filters.proofs.Rows.{kept-long}
 use Rattle.patch_filters.proofs.filter.put_chosen.Goals as goal

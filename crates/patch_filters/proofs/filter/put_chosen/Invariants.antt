@@ -3,7 +3,7 @@ use Rattle.file_patch.specs.PlainPatch.{change_of}
 use Rattle.tool_words.specs.PlainJobs.{plain_filter_job}
 use Rattle.patch_filters.specs.Kept.{kept}
 use Rattle.patch_filters.specs.Filtered.{pieces, text_if}
-use Rattle.patch_filters.proofs.Loops.{up_to}
+use Rattle.hunk_core.proofs.Loops.{up_to}
 use Rattle.std.specs.List.{zip}
 use Rattle.patch_filters.proofs.filter.put_chosen.Given as goal
 

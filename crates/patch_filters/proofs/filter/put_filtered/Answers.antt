@@ -1,10 +1,11 @@
 use Rattle.std.proofs.Common.{◌≡◌, ◌<◌, length, rules, arith}
 use Rattle.std.proofs.lemmas.Result.{err_from_is_err_and}
 use Rattle.tool_words.specs.PlainJobs.{plain_filter_job}
+use Rattle.line_list.proofs.Elements.{there-is}
 use Rattle.patch_filters.specs.Selected.{numbered}
 use Rattle.patch_filters.specs.Filtered.{written_if_taken}
-use Rattle.patch_filters.proofs.Loops.{goes-on, stops, ends}
-use Rattle.patch_filters.proofs.Rows.{filtered-is, numbered-at, numbered-count, there-is}
+use Rattle.hunk_core.proofs.Loops.{goes-on, stops, ends}
+use Rattle.patch_filters.proofs.Rows.{filtered-is, numbered-at, numbered-count}
 use Rattle.patch_filters.proofs.filter.put_filtered.Goals as goal
 
 pub returns-in_err-put_if_taken : goal.returns-in_err-put_if_taken

@@ -2,7 +2,7 @@ use Rattle.hunk_core.proofs.SinkSteps.{HasPut}
 use Rattle.tool_words.specs.PlainJobs.{plain_filter_job}
 use Rattle.patch_filters.specs.Selected.{numbered}
 use Rattle.patch_filters.specs.Filtered.{written_if_taken}
-use Rattle.patch_filters.proofs.Loops.{up_to}
+use Rattle.hunk_core.proofs.Loops.{up_to}
 use Rattle.patch_filters.proofs.filter.put_filtered.Given as goal
 
 abbrev pub invariant-loop-patch : goal.invariant-loop-patch

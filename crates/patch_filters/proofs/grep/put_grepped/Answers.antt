@@ -1,7 +1,7 @@
 use Rattle.std.proofs.Common.{◌≡◌, ◌<◌, length, rules}
 use Rattle.tool_words.specs.PlainJobs.{plain_grep_job}
+use Rattle.line_list.proofs.Elements.{there-is}
 use Rattle.patch_filters.specs.Grepped.{test_of, text_if_found}
-use Rattle.patch_filters.proofs.Rows.{there-is}
 use Rattle.patch_filters.proofs.Searching.{still-kept}
 use Rattle.patch_filters.proofs.Finding.{by-first, ends-in, found-ends, found-goes-on, found-none, found-stops}
 use Rattle.patch_filters.proofs.Hits.{grepped-is}

@@ -1,6 +1,6 @@
 use Rattle.std.proofs.Common.{◌≡◌, ◌-◌, length, get_or, ap, subst, ◌∙◌, arith, rules, max}
+use Rattle.line_list.proofs.Elements.{found}
 use Rattle.patch_filters.proofs.OldLines.{script-lines}
-use Rattle.patch_filters.proofs.Rows.{found}
 use Rattle.patch_filters.proofs.hunks.addressed.Goals as goal
 
 pub returns : goal.returns

@@ -1,8 +1,8 @@
 use Rattle.std.proofs.Common.{◌<◌, subst}
 use Rattle.file_patch.specs.PlainPatch.{row_count}
+use Rattle.line_list.proofs.Elements.{found}
 use Rattle.patch_filters.specs.OldLines.{numbers_of}
 use Rattle.patch_filters.proofs.OldLines.{hunk-at}
-use Rattle.patch_filters.proofs.Rows.{found}
 use Rattle.patch_filters.proofs.hunks.lines_of.Goals as goal
 
 pub returns-in-Hunks : goal.returns-in-Hunks

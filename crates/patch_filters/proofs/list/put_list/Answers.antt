@@ -6,9 +6,10 @@ use Rattle.std.proofs.lemmas.Option.{slice_get-map}
 use Rattle.file_patch.specs.PlainPatch.{patch_of}
 use Rattle.patch_set.specs.SetView.{plain_patches}
 use Rattle.tool_words.specs.PlainJobs.{plain_list_job}
+use Rattle.line_list.proofs.Elements.{there-is}
 use Rattle.patch_filters.specs.Listed.{line_if_selected}
-use Rattle.patch_filters.proofs.Loops.{goes-on, stops, ends}
-use Rattle.patch_filters.proofs.Rows.{listed-is, there-is}
+use Rattle.hunk_core.proofs.Loops.{goes-on, stops, ends}
+use Rattle.patch_filters.proofs.Rows.{listed-is}
 use Rattle.patch_filters.proofs.list.put_list.Goals as goal
 
 pub returns-in_err-put_if_selected : goal.returns-in_err-put_if_selected

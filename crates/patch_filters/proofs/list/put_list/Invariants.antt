@@ -2,7 +2,7 @@ use Rattle.hunk_core.proofs.SinkSteps.{HasPut}
 use Rattle.patch_set.specs.SetView.{plain_patches}
 use Rattle.tool_words.specs.PlainJobs.{plain_list_job}
 use Rattle.patch_filters.specs.Listed.{line_if_selected}
-use Rattle.patch_filters.proofs.Loops.{up_to}
+use Rattle.hunk_core.proofs.Loops.{up_to}
 use Rattle.patch_filters.proofs.list.put_list.Given as goal
 
 abbrev pub invariant-loop-patch : goal.invariant-loop-patch

@@ -1,6 +1,7 @@
 use Rattle.std.proofs.Common.{◌≡◌, ◌<◌, true, false, length, sym, ap, ◌∙◌, arith, rules}
-use Rattle.patch_filters.specs.Grepped.{content, test_of}
-use Rattle.patch_filters.proofs.Rows.{found}
+use Rattle.line_list.proofs.Elements.{found}
+use Rattle.patch_header.specs.Content.{content}
+use Rattle.patch_filters.specs.Grepped.{test_of}
 use Rattle.patch_filters.proofs.Searching.{none-more, none-there, some-here}
 use Rattle.patch_filters.proofs.Hits.{line-count, line-flag, line_flags, lines-any}
 use Rattle.patch_filters.proofs.search.hunk_has_hit.Goals as goal

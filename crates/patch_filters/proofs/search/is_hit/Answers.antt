@@ -1,7 +1,7 @@
 use Rattle.std.proofs.Common.{◌≡◌, ◌<◌, IfOk, sym, subst}
 use Rattle.file_patch.specs.PlainPatch.{row_count}
+use Rattle.line_list.proofs.Elements.{found}
 use Rattle.patch_filters.specs.Grepped.{test_of}
-use Rattle.patch_filters.proofs.Rows.{found}
 use Rattle.patch_filters.proofs.Hits.{hunk-hits}
 use Rattle.patch_filters.proofs.search.is_hit.Goals as goal
 

@@ -1,6 +1,6 @@
 use Rattle.std.proofs.Common.{◌≡◌, ◌<◌, true, false, length, sym, ◌∙◌, arith, rules}
+use Rattle.line_list.proofs.Elements.{found}
 use Rattle.patch_filters.specs.Grepped.{test_of}
-use Rattle.patch_filters.proofs.Rows.{found}
 use Rattle.patch_filters.proofs.Searching.{none-more, none-there, some-here}
 use Rattle.patch_filters.proofs.Hits.{edit-count, edit-flag, edit_flags, edits-any}
 use Rattle.patch_filters.proofs.search.script_has_hit.Goals as goal

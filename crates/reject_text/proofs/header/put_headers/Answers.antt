@@ -1,6 +1,7 @@
 use Rattle.std.proofs.lemmas.Result.{err_from_is_err_and}
 use Rattle.hunk_core.proofs.SinkSteps.{has-put, puts-more, puts-stop}
-use Rattle.reject_text.specs.Headers.{new_mark, name_line}
+use Rattle.patch_header.specs.Written.{new_mark}
+use Rattle.reject_text.specs.Headers.{name_line}
 use Rattle.reject_text.proofs.header.put_headers.Goals as goal
 
 pub returns-in_err-put_name_line : goal.returns-in_err-put_name_line

@@ -12,8 +12,9 @@ use Rattle.hunk_core.specs.PlainHunk.{hunk_of, hunks_of}
 use Rattle.hunk_core.specs.Turned.{turned}
 use Rattle.hunk_core.specs.Writing.{Puts}
 use Rattle.hunk_core.proofs.SinkSteps.{HasPut, has-none, has-put, has-more, puts-more, puts-stop, puts-done}
+use Rattle.patch_header.specs.Written.{hunk_text}
 use Rattle.reject_text.specs.Starts.{Row, net, placed_adds, placed_drops}
-use Rattle.reject_text.specs.Rejects.{rows_of, hunk_text, reject_of, rejects}
+use Rattle.reject_text.specs.Rejects.{rows_of, reject_of, rejects}
 use Rattle.reject_text.proofs.Rows.{text_to, text_at, text_behind, text-more, cut-off, rows-long, row-at, row-is, rejects-are, net-more}
 use Rattle.reject_text.proofs.rejects.put_each.Goals as goal
 

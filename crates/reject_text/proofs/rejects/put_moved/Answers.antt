@@ -3,8 +3,8 @@ use Rattle.hunk_core.specs.PlainHunk.{hunk_of}
 use Rattle.hunk_core.specs.Sides.{start_of, taken_count}
 use Rattle.hunk_core.specs.Turned.{taken, turned, other_side}
 use Rattle.hunk_core.specs.Writing.{Puts}
+use Rattle.patch_header.specs.Written.{hunk_text}
 use Rattle.reject_text.specs.Starts.{moved}
-use Rattle.reject_text.specs.Rejects.{hunk_text}
 use Rattle.reject_text.proofs.Moved.{start-is, moved-is}
 use Rattle.reject_text.proofs.rejects.put_moved.Goals as goal
 

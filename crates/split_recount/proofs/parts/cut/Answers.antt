@@ -1,8 +1,9 @@
 use Rattle.std.proofs.Common.{◌<◌, ◌≤◌, [], ◌∷◌, length, sym, subst, ap, ◌∙◌, rules, arith}
 use Rattle.std.proofs.lemmas.List.{length-map}
+use Rattle.line_list.proofs.Elements.{there-is}
 use Rattle.split_recount.specs.Parts.{row_of, rows_of}
 use Rattle.split_recount.specs.Splitting.{AreNames}
-use Rattle.split_recount.proofs.Cutting.{first-row, row-more, rows-done, row-at, there-is, parts-are, all_parts}
+use Rattle.split_recount.proofs.Cutting.{first-row, row-more, rows-done, row-at, parts-are, all_parts}
 use Rattle.split_recount.proofs.parts.cut.Goals as goal
 
 pub loop-patch-init : goal.loop-patch-init

@@ -4,9 +4,10 @@ use Rattle.line_store.specs.Store.{Keeps, line_at}
 use Rattle.line_store.proofs.StoreLemmas.{keeps-more}
 use Rattle.hunk_core.specs.PlainHunk.{bytes_at}
 use Rattle.hunk_core.specs.Sides.{taken_count}
+use Rattle.line_list.proofs.Elements.{front-rest}
 use Rattle.hunk_place.specs.Loose.{same_line}
 use Rattle.hunk_place.specs.Taken.{side_lines}
-use Rattle.hunk_place.proofs.FitLemmas.{side-length, side-skip, side-take, front-rest, fits-so, fits-not, one-more, same-at, none-left, nothing}
+use Rattle.hunk_place.proofs.FitLemmas.{side-length, side-skip, side-take, fits-so, fits-not, one-more, same-at, none-left, nothing}
 use Rattle.hunk_place.proofs.pattern.Pattern.fits_at.Goals as goal
 use Rattle.hunk_place.proofs.pattern.Pattern.fits_at.Goals.{then-is_taken+in_ok-is_line+else-not-branch, else-is_taken}
 
