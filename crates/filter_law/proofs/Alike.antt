@@ -1,5 +1,5 @@
 -- Two openings of one form look alike to the lines in front of them.
-use Rattle.std.proofs.Common.{◌≡◌, inl, inr, ◌≤◌, ℕ, Bool, true, false, List, [], ◌∷◌, ◌++◌, Option, None, Some, refl, sym, ◌∙◌, arith}
+use Rattle.std.proofs.Common.{◌≡◌, inl, inr, ◌≤◌, ℕ, true, false, List, [], ◌∷◌, ◌++◌, Option, None, Some, refl, sym, ◌∙◌, arith}
 use Rattle.std.specs.Prelude.{is_some, replicate}
 use Rattle.hunk_core.specs.declared.Form.{Form}
 use Rattle.hunk_core.specs.declared.Form.TheVariants.{Unified, Context, Normal, Ed}
@@ -12,16 +12,11 @@ use Rattle.patch_header.specs.Openings.{begins}
 use Rattle.patch_header.proofs.Fronts.{front, and_left, or_cases, after-front, unified-front, context-front, range-front, normal-range, ed-range}
 use Rattle.text_joins.proofs.Quiet.{LookAlike}
 use Rattle.text_joins.proofs.Solid.{is_no, digit-low, form-front, front-solid, solid-shows, solid-alike}
+use Rattle.patch_header.specs.GitRows.{is_unified}
 
 no-number : (o : Option (List ℕ)) → (is_some o ≡ true → ⊥) → has_number o ≡ false
 no-number None h = refl
 no-number (Some x) h = absurd (h refl)
-
-abbrev is_unified : Form → Bool
-is_unified Unified = true
-is_unified Context = false
-is_unified Normal = false
-is_unified Ed = false
 
 marked-none : (only : Option Form) (f : Form) (line : List ℕ) (more : List (List ℕ)) → begins only f (line ∷ more) ≡ true → is_marked line ≡ false
 marked-none only f line more h =

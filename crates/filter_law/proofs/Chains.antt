@@ -30,21 +30,13 @@ use Rattle.filter_run.specs.Texts.{defaults, Spot, read_patches, regions_in, spo
 use Rattle.text_joins.specs.Unnumbered.{unnumbered}
 use Rattle.text_joins.specs.Joins.{read_unnumbered}
 use Rattle.text_joins.proofs.Reading.{goes-of, text-found}
+use Rattle.patch_text.proofs.RegionLaws.{regions-step, regions-zero}
 use Rattle.filter_law.specs.LeftPatches.{is_some_kept, kept_patch, left_patches, spot_left, left_in}
 use Rattle.filter_law.specs.CleanJoins.{AreCleanJoins, AreCleanJoinsIn}
 use Rattle.filter_law.proofs.Parts.{Known, known}
 use Rattle.filter_law.proofs.Walking.{Chain, chain-reads}
 
 -- ---- regions
-
-regions-step : (most : ℕ) (ways : Ways) (text : List ℕ) (at number : ℕ) → regions_at (suc most) ways text at number ≡ with_later (λ p. regions_at most ways text (place_before text p.rest) p.number) (next_region ways text at number)
-unfolding regions_at
-regions-step most ways text at number = refl
-
-regions-zero : (ways : Ways) (text : List ℕ) (at number : ℕ) → regions_at zero ways text at number ≡ []
-unfolding regions_at
-regions-zero ways text at number = refl
-
 regions-none : (most : ℕ) (ways : Ways) (text : List ℕ) (at number : ℕ) → IsEnd ways text at → regions_at most ways text at number ≡ []
 regions-none zero ways text at number h = regions-zero ways text at number
 regions-none (suc most) ways text at number h =

@@ -2,7 +2,6 @@
 use Rattle.std.proofs.Common.{◌≡◌, ℕ, ◌+◌, Bool, cond, List, [], ◌∷◌, ◌++◌, length, map, refl, sym, ap, ◌∙◌}
 use Rattle.std.specs.Prelude.{◌==◌, filter, if◌then◌else◌, reverse}
 use Rattle.std.specs.List.{flat_map, list_any, range_with_len, zip}
-use Rattle.std.proofs.lemmas.List.{map-append, reverse-append}
 use Rattle.std.proofs.lemmas.List.Concat.{flat_map-cons}
 use Rattle.std.proofs.lemmas.List.Folds.{flat_map-map}
 use Rattle.hunk_core.specs.declared.Form.{Form}
@@ -28,6 +27,7 @@ use Rattle.split_recount.specs.Parts.{between, cuts_behind, parts, row_of}
 use Rattle.tool_words.specs.PlainJobs.{PlainFilterJob, PlainGrepJob}
 use Rattle.tool_words.specs.declared.jobs.GrepOut.{GrepOut}
 use Rattle.tool_words.specs.declared.jobs.GrepOut.TheVariants.{Names, Hunks, Files}
+use Rattle.hunk_core.proofs.TurnedLemmas.{reverse-map}
 use Rattle.filter_run.specs.Flips.{flipped_in, spot_flipped}
 use Rattle.filter_run.specs.Converting.{converted_in, form_refused, spot_converted}
 use Rattle.filter_run.specs.Texts.{defaults, read_patches, patches_in, regions_in, Spot, spots_in, spot_written, is_spot_taken, filtered_in, spot_found, grepped_in, row_at, parts_in}
@@ -76,13 +76,6 @@ module _ (text : List ℕ) (start before : ℕ) (p : FilePatch) (at : IsPlaced t
 rows-same : (text : List ℕ) (ps : List FilePatch) → map (row_of text) ps ≡ map (row_at text) (map region_of ps)
 rows-same text [] = refl
 rows-same text (p ∷ ps) = ap (λ (rs : List (ℕ × List ℕ)). row_of text p ∷ rs) (rows-same text ps)
-
-reverse-map : {A B : Type 0} (f : A → B) (xs : List A) → reverse (map f xs) ≡ map f (reverse xs)
-reverse-map f [] = refl
-reverse-map f (x ∷ xs) =
-    reverse-append (f x ∷ []) (map f xs)
-    ∙ ap (λ ys. ys ++ (f x ∷ [])) (reverse-map f xs)
-    ∙ sym (ap (map f) (reverse-append (x ∷ []) xs) ∙ map-append f (reverse xs) (x ∷ []))
 
 -- ---- a set that was read
 

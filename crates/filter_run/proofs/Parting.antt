@@ -24,6 +24,7 @@ use Rattle.patch_filters.specs.Selected.{numbered}
 use Rattle.patch_filters.proofs.Rows.{numbered-at, numbered-count}
 use Rattle.patch_effects.specs.Making.{IsTidy}
 use Rattle.patch_effects.proofs.Tidy.{tidy_none, tidy_both, untouched_tidy, put_if_tidy}
+use Rattle.patch_filters.proofs.Placed.{turn-end}
 use Rattle.filter_run.specs.declared.fault.FilterFault.{FilterFault}
 use Rattle.filter_run.specs.declared.fault.FilterFault.TheVariants as faults
 use Rattle.filter_run.specs.Parting.{part_name, part_put, part_puts, part_line, part_lines, AreCutAt, ReceivesFirst, PutsPart, PutsParts}
@@ -45,10 +46,6 @@ module _ (spans : List Span) (i : ℕ) (span : Span) (is : slice_get spans i ≡
 
 pub rows-end : (spans : List Span) (i : ℕ) → length spans ≤ i → take i (numbered spans) ≡ numbered spans
 rows-end spans i le = take_all i (numbered spans) (omega (arith, le, numbered-count spans))
-
-turn-end : (at : ℕ) (ss : List Span) (end : ℕ) → AreInTurn at ss end → at ≤ end
-turn-end at [] end turn = omega (arith, turn)
-turn-end at (s ∷ ss) end turn = omega (arith, turn.1, turn-end s.end ss end turn.2)
 
 -- each span lies within the text
 pub turn-within : (at : ℕ) (ss : List Span) (end i : ℕ) (s : Span) → AreInTurn at ss end → slice_get ss i ≡ Some s → (s.start ≤ s.end) × (s.end ≤ end)

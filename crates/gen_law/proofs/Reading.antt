@@ -1,5 +1,5 @@
 -- The patch over a made tree, read again.
-use Rattle.std.proofs.Common.{◌≡◌, inl, ℕ, zero, suc, ◌+◌, ◌/◌, ◌≤◌, Bool, true, false, ◌&&◌, List, [], ◌∷◌, ◌++◌, map, append_assoc, Option, None, Some, Ok, refl, sym, ap, subst, ◌∙◌, arith}
+use Rattle.std.proofs.Common.{◌≡◌, ℕ, zero, suc, ◌+◌, ◌/◌, ◌≤◌, true, false, List, [], ◌∷◌, ◌++◌, map, append_assoc, Option, None, Some, Ok, refl, sym, ap, subst, ◌∙◌, arith}
 use Rattle.std.specs.Prelude.{codes}
 use Rattle.std.specs.List.{AllByRecursion, flat_map, list_any, range_with_len}
 use Rattle.std.proofs.lemmas.Grind.{flat_map-append}
@@ -7,7 +7,7 @@ use Rattle.std.proofs.lemmas.List.{append-nil}
 use Rattle.std.proofs.lemmas.List.Concat.{flat_map-cons}
 use Rattle.line_list.specs.Completed.{IsComplete}
 use Rattle.line_list.specs.Join.{ends_open}
-use Rattle.line_list.specs.Lines.{ArePieces, IsLine, lines}
+use Rattle.line_list.specs.Lines.{IsLine, lines}
 use Rattle.line_list.proofs.JoinLemmas.{line-has}
 use Rattle.line_list.proofs.Pieces.{joined, pieces-only}
 use Rattle.hunk_core.specs.declared.Form.{Form}
@@ -33,6 +33,8 @@ use Rattle.flip_reading.proofs.Headed.{AreClean, heads-quiet, heads-whole}
 use Rattle.flip_reading.proofs.Headers.{Head, head_lines}
 use Rattle.flip_reading.proofs.Hunks.{ChainAs, chain-piece, whole-both}
 use Rattle.flip_reading.proofs.Lines.{Kind, Minus, Plus, Stars, Index, clean-line, line_of}
+use Rattle.std.proofs.lemmas.Bool.{and_from}
+use Rattle.flip_reading.proofs.Reading.{whole-pieces}
 use Rattle.gen_law.specs.MadePatches.{made_file_patch, made_hunk, made_hunks, made_patches}
 use Rattle.gen_law.proofs.Hunks.{body-for, body-hunks, body-text}
 use Rattle.gen_law.proofs.Names.{heads, header-read, name-clean}
@@ -57,9 +59,6 @@ no-dot (Some form) k bs = refl
 no-dots : (ways : Ways) (hs : List Head) → list_any (asks_dot ways.only) (head_lines hs) ≡ false
 no-dots ways [] = refl
 no-dots ways (h ∷ hs) = rw (no-dot ways.only h.0 h.1, no-dots ways hs) refl
-
-both-true : (a b : Bool) → a ≡ true → b ≡ true → (a && b) ≡ true
-both-true a b e f = rw (e, f) refl
 
 -- a hunk opens where there is one
 opens-body : (ways : Ways) (line : ℕ → List ℕ) (n : ℕ) (body : List (List ℕ)) → 1 ≤ n → ChainAs Unified 0 body [] (made_hunks line n) → begins ways.only Unified (body ++ []) ≡ true
@@ -91,7 +90,7 @@ one-own ways seed lines i admitted some few =
       stop = Opening Unified;
       parts = refl;
       quiet = heads-quiet ways (heads i) (b.0 ++ []);
-      stands = (opening-words ways Unified (b.0 ++ [])).1 (both-true (admits ways.only Unified) (begins ways.only Unified (b.0 ++ [])) admitted (opens-body ways (file_line x) n b.0 (omega (arith, some)) chain));
+      stands = (opening-words ways Unified (b.0 ++ [])).1 (and_from (admits ways.only Unified) (begins ways.only Unified (b.0 ++ [])) admitted (opens-body ways (file_line x) n b.0 (omega (arith, some)) chain));
       says = header-read ways i b.0;
       spelled = chain-piece Unified b.0 hs tt chain;
     } in
@@ -141,11 +140,6 @@ gather ways seed lines a (suc n) admitted some few =
       patches = ap (λ qs. made_file_patch seed lines a ∷ qs) g.patches;
       begins_so = subst BeginCleanly (sym these) (o.begins_so (all_lines g.parts));
     }
-
-whole-pieces : (ls : List (List ℕ)) → AllByRecursion IsLine ls → ArePieces ls
-whole-pieces [] all = tt
-whole-pieces (l ∷ []) all = inl all.0
-whole-pieces (l ∷ k ∷ ls) all = (all.0, whole-pieces (k ∷ ls) all.1)
 
 pub patch-is : (seed files count : ℕ) → (made seed files count).patch ≡ flat_map (made_patch seed count) (range_with_len 1 files)
 unfolding made
