@@ -8,8 +8,8 @@ ghost use Rattle.page_pair.specs.Pair.{page_of};
 ghost use Rattle.file_pieces.specs.Reading.{told_file, HasLength, IsReadFault, IsOpen, GoesTo};
 
 use crate::reading::read_piece;
+use line_list::first_feed;
 use line_store::{Half, OpenFault};
-use memchr::memchr;
 use outside::{Name, Tree};
 use page_pair::PagePair;
 
@@ -76,7 +76,7 @@ fn read_on<T: Tree>(
 {
     let got = read_piece(pair, tree, name, end, length)?;
     let piece = pair.page(Half::First);
-    match memchr(b'\n', &piece[..got]) {
+    match first_feed(&piece[..got]) {
         Some(k) => Ok(Known {
             end: end + k as u64 + 1,
             is_ended: true,

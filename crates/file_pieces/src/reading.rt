@@ -7,8 +7,8 @@ ghost use Rattle.outside.specs.Calls.{IsThere, IsUntouched};
 ghost use Rattle.page_pair.specs.Pair.{page_of, IsPair};
 ghost use Rattle.file_pieces.specs.Reading.{told_file, HasLength, IsReadFault, FindsWhole, IsOpenEnd};
 
+use line_list::first_feed;
 use line_store::{Half, OpenFault};
-use memchr::memchr;
 use outside::{Name, Tree};
 use page_pair::PagePair;
 
@@ -57,7 +57,7 @@ pub fn whole_line(piece: &[u8], is_last: bool, at: usize) -> Option<usize>
     requires { at ≤ length piece.now }
     ensures { FindsWhole piece.now is_last at result }
 {
-    match memchr(b'\n', &piece[at..]) {
+    match first_feed(&piece[at..]) {
         Some(k) => Some(at + k + 1),
         None => open_line(piece.len(), is_last, at),
     }

@@ -39,12 +39,11 @@ pub fn backslash_end(text: &[u8], at: usize) -> Option<usize>
     ensures range { IfSome result (λ e. at < e × e ≤ length text.now) }
     ensures exact { Reads (λ e. lines (drop e text.now)) result (after_backslash (lines (drop at text.now))) }
 {
-    let end = next_line(text, at)?;
-    if begins_backslash(&text[at..end]) {
-        Some(end)
-    } else {
-        None
+    // Tested first, so that the line is looked for only where it is one.
+    if !begins_backslash(&text[at..]) {
+        return None;
     }
+    next_line(text, at)
 }
 
 /// The line without its line feed; an empty one stays as it is.

@@ -164,8 +164,18 @@ fn fill_body(
     let mut place = place;
     while left.old > 0 || left.new > 0 {
         let (line, behind, next) = line_of(text, left, place)?;
-        lines.push(line)?;
-        left = behind;
+        // Field by field: a copy of the whole would wait for the stores of its parts.
+        lines.push(HunkLine {
+            mark: line.mark,
+            span: Span {
+                start: line.span.start,
+                end: line.span.end,
+            },
+        })?;
+        left = Left {
+            old: behind.old,
+            new: behind.new,
+        };
         place = next;
     }
     Ok(place)
