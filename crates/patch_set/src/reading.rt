@@ -92,12 +92,6 @@ fn named_set(
     let named = name_all(alloc, &text, options, patches)?;
     match reserved(&named) {
         Some(line) => Err(SetFault::Reserved { line }),
-        None => Ok(untried(
-            alloc,
-            text,
-            ways_of(options),
-            named,
-            are_asked(options),
-        )?),
+        None => Ok(untried(alloc, text, ways_of(options), named, are_asked(options))?),
     }
 }

@@ -1,4 +1,4 @@
-use Rattle.std.proofs.Common.{List, take, All, ◌∙◌, subst, arith}
+use Rattle.std.proofs.Common.{List, take, All, subst, arith}
 use Rattle.std.proofs.lemmas.List.{take_all}
 use Rattle.std.proofs.lemmas.List.Elements.{All-nil, All-more}
 use Rattle.file_patch.specs.declared.FilePatch.{FilePatch}
