@@ -1,7 +1,7 @@
 //! Marks at names.
 
-ghost use Rattle.std.specs.Prelude.{◌≡◌, ◌||◌, ℕ, List, true, false, bytes_eq};
-ghost use Rattle.name_marks.specs.Marked.{is_marked};
+ghost use Rattle.std.specs.Prelude.{◌≡◌, ◌||◌, ℕ, List, true, false, bytes_eq, OnOk, OnErr};
+ghost use Rattle.name_marks.specs.Marked.{has_room, is_marked};
 
 use outside::Name;
 use std::alloc::{AllocError, Global};
@@ -16,7 +16,8 @@ pub struct NameMarks {
 impl NameMarks {
     /// There is room for no name, and none is marked.
     pub fn new(alloc: Global) -> NameMarks
-        ensures { (q : List ℕ) → is_marked result q ≡ false }
+        ensures room { (q : List ℕ) → has_room result q ≡ false }
+        ensures marks { (q : List ℕ) → is_marked result q ≡ false }
     {
         NameMarks {
             marks: BTreeMap::new(alloc),
@@ -25,7 +26,9 @@ impl NameMarks {
 
     /// Makes room for a name.
     pub fn add(&mut self, alloc: Global, name: &Name) -> Result<(), AllocError>
-        ensures { (q : List ℕ) → is_marked self.new q ≡ is_marked self.old q }
+        ensures room { OnOk result ((q : List ℕ) → has_room self.new q ≡ (bytes_eq q name.now || has_room self.old q)) }
+        ensures refused { OnErr result ((q : List ℕ) → has_room self.new q ≡ has_room self.old q) }
+        ensures marks { (q : List ℕ) → is_marked self.new q ≡ is_marked self.old q }
     {
         if let Some(_mark) = self.marks.get(name.text()) {
             return Ok(());
@@ -47,6 +50,8 @@ impl NameMarks {
 
     /// Marks a name, and says whether there was room for it; where there was none, no mark changes.
     pub fn mark(&mut self, name: &Name) -> bool
+        ensures room { result ≡ has_room self.old name.now }
+        ensures rooms { (q : List ℕ) → has_room self.new q ≡ has_room self.old q }
         ensures marked { result ≡ true → (q : List ℕ) → is_marked self.new q ≡ (bytes_eq q name.now || is_marked self.old q) }
         ensures kept { result ≡ false → (q : List ℕ) → is_marked self.new q ≡ is_marked self.old q }
     {

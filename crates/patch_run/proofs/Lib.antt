@@ -35,3 +35,4 @@ mod Unwritten
 mod Removing
 mod TriedFiles
 mod Rejected
+mod Roomy

@@ -1,12 +1,14 @@
 //! All file patches of a set.
 
 ghost use Rattle.std.specs.Prelude.{◌≡◌, ◌<◌, ◌≤◌, ◌+◌, ◌⊎◌, ◌||◌, ℕ, List, [], true, length, take, drop, replicate, slice_index_or, Some, IfOk, IfErr, OnOk};
+ghost use Rattle.std.specs.Option.{ForSome};
 ghost use Rattle.outside.specs.Files.{Files};
 ghost use Rattle.outside.specs.Calls.{IsUntouched};
 ghost use Rattle.outside.specs.Quiet.{IsQuiet};
 ghost use Rattle.file_patch.specs.declared.FilePatch.{FilePatch as ThePatch};
 ghost use Rattle.file_patch.specs.PlainPatch.{row_count};
 ghost use Rattle.patch_options.specs.PlainJob.{plain_options, IsLawful};
+ghost use Rattle.patch_set.specs.Room.{HaveRoom};
 ghost use Rattle.patch_set.specs.SetView.{IsRead, hunks_in};
 ghost use Rattle.patch_run.specs.Run.{items_of, set_run};
 ghost use Rattle.patch_run.specs.Ready.{IsReady, AreNumbered, AreWritten, marks, rows_in, turn_at};
@@ -20,7 +22,7 @@ ghost use Rattle.hunk_apply.specs.Change.{change_verdicts};
 use crate::applied::Applied;
 use crate::apply::{Done, apply_one};
 use crate::turn::Turn;
-use crate::written::{room_for, with_row};
+use crate::written::with_row;
 use hunk_core::Verdict;
 use line_store::Plan;
 use name_marks::NameMarks;
@@ -65,7 +67,7 @@ pub fn apply_set<P: Plan, T: Tree, O: Sink>(
     ensures placed { OnOk result ((lines : List (List ℕ)) → (P.seen plan.new).told ≡ Some lines → IsPlacedLast (plain_options options.now) set.new set.new.verdicts lines) }
 {
     let mut verdicts = set.take_verdicts();
-    let written = room_for(*verdicts.allocator(), set, options);
+    let written = set.take_marks();
     let applied = apply_all(
         set,
         options,
@@ -93,6 +95,7 @@ fn apply_all<P: Plan, T: Tree, O: Sink>(
     requires read { (given : List ℕ) × IsRead (plain_options options.now) given set.old }
     requires verdicts { length verdicts.old ≡ hunks_in set.old.patches }
     requires written { AreWritten written [] }
+    requires room { ForSome written (HaveRoom set.old.patches set.old.output) }
     requires size { (P.seen plan.old).size ≡ options.now.buffer }
     requires quiet { IsQuiet (T.view tree.old) }
     ensures runs { Runs (T.view tree.old) (T.view tree.new) (P.seen plan.old) (P.seen plan.new) (O.view out.old) (O.view out.new) P.scratch_after result (set_run (plain_options options.now) set.old) }

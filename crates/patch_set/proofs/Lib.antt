@@ -10,3 +10,4 @@ pub mod OneView
 pub mod InBytes
 mod Skipping
 mod BareHeaders
+pub mod Roomy

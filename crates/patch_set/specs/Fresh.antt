@@ -1,5 +1,5 @@
 -- A set of which nothing was tried yet.
-use Rattle.std.specs.Prelude.{◌≡◌, ℕ, ◌<◌, ◌^◌, List, length, map, replicate, All}
+use Rattle.std.specs.Prelude.{◌≡◌, ℕ, ◌<◌, ◌^◌, List, length, map, replicate, All, Option}
 use Rattle.hunk_core.specs.declared.Verdict.TheVariants.{Untried}
 use Rattle.file_patch.specs.declared.FilePatch.{FilePatch}
 use Rattle.file_patch.specs.Absent.{IsLawfulPatch}
@@ -7,6 +7,8 @@ use Rattle.patch_header.specs.declared.ways.Ways.{Ways}
 use Rattle.patch_text.specs.Regions.{region_of, regions_of}
 use Rattle.patch_set.specs.declared.names.Named.{Named}
 use Rattle.patch_set.specs.declared.set.Notes.{Notes}
+use Rattle.target_names.specs.declared.derived.Target.{Target}
+use Rattle.patch_set.specs.Room.{AreBlank}
 use Rattle.patch_set.specs.SetView.{SetView, IsFresh, IsWhole, first_row, hunks_in}
 use Rattle.patch_set.specs.Skipped.{skipped_lines}
 use Rattle.patch_set.specs.Spans.{ArePlaced}
@@ -20,10 +22,11 @@ pub record AreWhole (ways : Ways) (text : List ℕ) (ps : List FilePatch) : Type
   pub hunks : hunks_in ps < 2 ^ 32
 
 -- what is noted before anything was tried
-pub record AreFirst (ways : Ways) (text : List ℕ) (ps : List FilePatch) (n : Notes) : Type 0 where
+pub record AreFirst (ways : Ways) (text : List ℕ) (ps : List FilePatch) (out : Option Target) (n : Notes) : Type 0 where
   pub skipped : n.skipped.items ≡ skipped_lines ways text
   pub verdicts : n.verdicts.items ≡ replicate (hunks_in ps) Untried
   pub rows : n.rows.items ≡ replicate (length ps) first_row
+  pub marks : AreBlank ps out n.marks
 
 -- the set of these file patches
 pub record IsUntried (given : List ℕ) (read : Ways) (named : Named) (v : SetView) : Type 0 where

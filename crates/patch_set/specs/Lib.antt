@@ -4,6 +4,7 @@ pub mod Named
 pub mod Naming
 pub mod PlainName
 pub mod Refusals
+pub mod Room
 pub mod SetView
 pub mod Spans
 pub mod Fresh

@@ -5,6 +5,7 @@ mod asked;
 mod fault;
 mod header_name;
 mod laws;
+mod marks;
 mod names;
 mod reading;
 mod refusals;

@@ -10,6 +10,7 @@ ghost use Rattle.patch_set.specs.SetView.{IsRead, IsSetOf, IsFresh, IsWhole, Mee
 
 use crate::SetFault;
 use crate::asked::ways_of;
+use crate::marks::are_asked;
 use crate::names::name_all;
 use crate::refusals::{refused, reserved};
 use crate::set::{PatchSet, untried};
@@ -23,7 +24,8 @@ use std::alloc::{AllocError, Global};
 const LONGEST: usize = 268_435_456;
 
 /// Reads a patch text, as if its last line had its line feed, for these options. They tell whether git headers are read,
-/// and whether binary changes are passed over.
+/// and whether binary changes are passed over. Where they can ask for a backup, room is made for the names of all targets, so
+/// that a run that marks them takes no memory.
 pub fn read_set(alloc: Global, text: Vec<u8>, options: &Options) -> Result<PatchSet, SetFault>
     requires { IsLawful (plain_options options.now) }
     ensures read { IfOk result (IsRead (plain_options options.now) text.items) }
@@ -90,6 +92,6 @@ fn named_set(
     let named = name_all(alloc, &text, options, patches)?;
     match reserved(&named) {
         Some(line) => Err(SetFault::Reserved { line }),
-        None => Ok(untried(alloc, text, ways_of(options), named)?),
+        None => Ok(untried(alloc, text, ways_of(options), named, are_asked(options))?),
     }
 }

@@ -8,12 +8,15 @@ ghost use Rattle.patch_set.specs.PlainName.{plain_name};
 ghost use Rattle.patch_set.specs.Skipped.{skipped_lines};
 ghost use Rattle.patch_set.specs.SetView.{IsWhole, first_row, hunks_in, patch_at, with_row, with_verdicts};
 ghost use Rattle.patch_set.specs.Fresh.{AreFirst, AreWhole, IsUntried};
+ghost use Rattle.patch_set.specs.Room.{AreUnmarked, HaveRoom};
 
 use crate::header_name::plain_name;
+use crate::marks::room_if;
 use crate::names::Named;
 use crate::skipped::skipped_lines;
 use file_patch::FilePatch;
 use hunk_core::{Side, Verdict};
+use name_marks::NameMarks;
 use patch_header::Ways;
 use std::alloc::{AllocError, Global};
 use std::marker::Model;
@@ -40,16 +43,19 @@ pub struct PatchSet {
     skipped: Vec<u64>,
     verdicts: Vec<Verdict>,
     rows: Vec<Row>,
+    /// Room for the names that a run makes or takes away. No part of what the set is seen as.
+    marks: Option<NameMarks>,
 }
 
 impl Model for PatchSet {
+    ghost use Rattle.patch_set.specs.Room.{AreBlank};
     ghost use Rattle.patch_set.specs.SetView.{SetView, IsWhole};
 
     ghost Value = { SetView };
 
     ghost view = { λ s. record { text = s.text.items; ways = s.ways; patches = s.patches.items; output = s.output; skipped = s.skipped.items; verdicts = s.verdicts.items; rows = s.rows.items } };
 
-    ghost invariant = { λ s. IsWhole (record { text = s.text.items; ways = s.ways; patches = s.patches.items; output = s.output; skipped = s.skipped.items; verdicts = s.verdicts.items; rows = s.rows.items }) };
+    ghost invariant = { λ s. IsWhole (record { text = s.text.items; ways = s.ways; patches = s.patches.items; output = s.output; skipped = s.skipped.items; verdicts = s.verdicts.items; rows = s.rows.items }) × AreBlank s.patches.items s.output s.marks };
 }
 
 impl PatchSet {
@@ -141,6 +147,16 @@ impl PatchSet {
     {
         self.verdicts = verdicts;
     }
+
+    /// Hands out marks at the names that a run can make or take away, and leaves none. There are none either where no backup
+    /// can be asked for.
+    pub fn take_marks(&mut self) -> Option<NameMarks>
+        ensures unmarked { ForSome result AreUnmarked }
+        ensures room { ForSome result (HaveRoom self.old.patches self.old.output) }
+        ensures left { self.new ≡ self.old }
+    {
+        self.marks.take()
+    }
 }
 
 /// What a set has beside its text and its file patches.
@@ -149,26 +165,35 @@ struct Notes {
     skipped: Vec<u64>,
     verdicts: Vec<Verdict>,
     rows: Vec<Row>,
+    marks: Option<NameMarks>,
 }
 
-/// The set of these file patches, of which nothing was tried yet.
+/// The set of these file patches, of which nothing was tried yet, with room for marks where that is asked for.
 pub fn untried(
     alloc: Global,
     text: Vec<u8>,
     ways: Ways,
     named: Named,
+    marks_asked: bool,
 ) -> Result<PatchSet, AllocError>
     requires { AreWhole ways text.items named.patches.items }
     ensures { IfOk result (IsUntried text.items ways named) }
 {
-    let notes = first_notes(alloc, &text, ways, &named.patches)?;
+    let notes = first_notes(
+        alloc,
+        &text,
+        ways,
+        &named.patches,
+        &named.output,
+        marks_asked,
+    )?;
     Ok(noted(text, ways, named, notes))
 }
 
 /// The set with these notes.
 fn noted(text: Vec<u8>, ways: Ways, named: Named, notes: Notes) -> PatchSet
     requires whole { AreWhole ways text.items named.patches.items }
-    requires notes { AreFirst ways text.items named.patches.items notes }
+    requires notes { AreFirst ways text.items named.patches.items named.output notes }
     ensures { IsUntried text.items ways named result }
 {
     PatchSet {
@@ -179,6 +204,7 @@ fn noted(text: Vec<u8>, ways: Ways, named: Named, notes: Notes) -> PatchSet
         skipped: notes.skipped,
         verdicts: notes.verdicts,
         rows: notes.rows,
+        marks: notes.marks,
     }
 }
 
@@ -188,18 +214,22 @@ fn first_notes(
     text: &[u8],
     ways: Ways,
     patches: &[FilePatch],
+    output: &Option<Target>,
+    marks_asked: bool,
 ) -> Result<Notes, AllocError>
     requires regions { map region_of patches.now ≡ regions_of ways text.now }
     requires hunks { hunks_in patches.now < 2 ^ 32 }
-    ensures { IfOk result (AreFirst ways text.now patches.now) }
+    ensures { IfOk result (AreFirst ways text.now patches.now output.now) }
 {
     let skipped = skipped_lines(alloc, text, ways, patches)?;
     let verdicts = untried_hunks(alloc, hunks_in(patches))?;
     let rows = first_rows(alloc, patches.len())?;
+    let marks = room_if(alloc, marks_asked, patches, output)?;
     Ok(Notes {
         skipped,
         verdicts,
         rows,
+        marks,
     })
 }
 

@@ -1,8 +1,10 @@
 use Rattle.std.proofs.Common.{◌≡◌, ◌+◌, ◌<◌, ◌||◌, List, [], ◌∷◌, ◌++◌, length, Bool, refl, sym, ◌∙◌, ap, subst, arith}
 use Rattle.std.proofs.lemmas.List.{length-set}
+use Rattle.std.specs.Option.{ForSome}
 use Rattle.outside.specs.Calls.{untouched_none, untouched_both}
 use Rattle.file_patch.specs.declared.FilePatch.{FilePatch}
 use Rattle.patch_options.specs.PlainJob.{plain_options}
+use Rattle.patch_set.specs.Room.{HaveRoom}
 use Rattle.patch_set.specs.SetView.{SetView, hunks_in, with_row}
 use Rattle.patch_run.specs.Ready.{AreNumbered, AreWritten, marks, rows_in}
 use Rattle.patch_run.specs.Doing.{StaysSet}
@@ -29,6 +31,7 @@ loop-k-init g c =
       dry = λ dry. untouched_none u;
       at = λ f told. at_none u a d g.P.Plan.scratch_after o c.args.set.now c.args.verdicts.now f c.requires.quiet told;
       written = subst (λ (past : List Mark). AreWritten c.args.written past) (sym (marks-none o c.args.set.now c.args.verdicts.now)) c.requires.written;
+      room = c.requires.room;
       placed = λ lines told. placed_none o c.args.set.now c.args.verdicts.now lines;
     }
 
@@ -38,6 +41,9 @@ apply_at-requires-clause-ready g c =
     let some : 0 < length c.args.set.now.patches = omega (arith, c.loop-k-test.true, ap (λ (l : List FilePatch). length l) c.patches.ensures.patches) in
     let o = plain_options c.args.options.now in
     ready_still o c.args.set.now c.loop-k.set inv.same inv.rows (ready o c.requires.read.0 c.args.set.now c.requires.lawful c.requires.read.1 c.patches.ensures.whole some)
+
+pub with_row-written-requires-clause-room : goal.with_row-written-requires-clause-room
+with_row-written-requires-clause-room g c = c.loop-k.invariant.room
 
 pub apply_at-requires-clause-numbered : goal.apply_at-requires-clause-numbered
 apply_at-requires-clause-numbered g c =
@@ -134,7 +140,8 @@ loop-k-preserved g c =
       written = subst (λ (s : SetView). AreWritten c.with_row-written.result (marks o s (k + 1) ws)) noted
           (subst (λ (past : List Mark). AreWritten c.with_row-written.result past) (sym (marks-next o v k p.0 done.row vs ws places lt inv.rows p.1 next.before))
           (subst (λ (m : Mark). AreWritten c.with_row-written.result (marks o v k vs ++ m ∷ [])) (mark-alone o v k vs p.0 done.row (rows_in ws p.0))
-          (c.with_row-written.ensures o (marks o v k vs) p.0 (rows_in ws p.0) p.1 inv.written)));
+          (c.with_row-written.ensures.written o (marks o v k vs) p.0 (rows_in ws p.0) p.1 inv.written)));
+      room = subst (λ (s : SetView). ForSome c.with_row-written.result (HaveRoom s.patches s.output)) noted c.with_row-written.ensures.room;
       placed = λ lines told.
           subst (λ (s : SetView). IsPlacedTo o s (k + 1) ws lines) noted
           (placed_next o v k p.0 done.row ws lines lt p.1 inv.rows (c.in_ok-done.ensures.placed p.0 lines p.1 told));

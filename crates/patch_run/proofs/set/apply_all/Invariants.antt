@@ -1,7 +1,9 @@
 use Rattle.std.proofs.Common.{◌≡◌, ◌*◌, ◌≤◌, ℕ, List, length, true, Some}
+use Rattle.std.specs.Option.{ForSome}
 use Rattle.outside.specs.Files.{Files}
 use Rattle.outside.specs.Calls.{IsUntouched}
 use Rattle.patch_options.specs.PlainJob.{plain_options}
+use Rattle.patch_set.specs.Room.{HaveRoom}
 use Rattle.patch_set.specs.SetView.{hunks_in}
 use Rattle.patch_run.specs.Devices.{Told}
 use Rattle.patch_run.specs.Doing.{StaysSet}
@@ -29,5 +31,6 @@ invariant-loop-k g l =
       dry : o.dry_run ≡ true → IsUntouched u v;
       at : (f : Files) → Told u a f → IsAt u v a b c d g.P.Plan.scratch_after o l.set l.k l.verdicts l.is_bad l.effects (run_to o l.set l.k f);
       written : AreWritten l.written (marks o l.set l.k l.verdicts);
+      room : ForSome l.written (HaveRoom l.set.patches l.set.output);
       placed : (lines : List (List ℕ)) → b.told ≡ Some lines → IsPlacedTo o l.set l.k l.verdicts lines;
     }
