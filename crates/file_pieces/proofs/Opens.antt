@@ -1,5 +1,5 @@
 -- A line that goes on over pieces.
-use Rattle.std.proofs.Common.{◌≡◌, ◌≢◌, ℕ, zero, suc, false, eqb, max, ◌+◌, ◌-◌, ◌<◌, ◌≤◌, eq-eqb, List, [], ◌∷◌, length, get_or, take, drop, sym, ap, ◌∙◌, arith, min, inl, inr, length-drop}
+use Rattle.std.proofs.Common.{◌≡◌, ◌≢◌, ℕ, zero, suc, false, eqb, ◌+◌, ◌-◌, ◌<◌, ◌≤◌, eq-eqb, List, [], ◌∷◌, length, get_or, take, drop, sym, ap, ◌∙◌, arith, min, inl, inr, length-drop}
 use Rattle.std.proofs.lemmas.Bool.{eqb-true, cases_lt}
 use Rattle.std.proofs.lemmas.List.{take_rest, drop-drop, length-take, get_or-drop}
 use Rattle.std.specs.List.{slice_range}

@@ -1,10 +1,5 @@
-use Rattle.std.proofs.Common.{◌≡◌, ◌+◌, ◌-◌, ◌≤◌, length, None, sym, ap, subst, ◌∙◌, arith}
-use Rattle.line_list.specs.Lines.{lines}
-use Rattle.line_store.specs.Taking.{first_long}
+use Rattle.std.proofs.Common.{◌≡◌, subst, ◌∙◌}
 use Rattle.outside.proofs.Views.{untouched_both}
-use Rattle.file_pieces.specs.Records.{longest}
-use Rattle.file_pieces.proofs.LongLines.{none-long}
-use Rattle.file_pieces.proofs.Measures.{measured-all}
 use Rattle.file_pieces.specs.Room.{HasRoom}
 use Rattle.file_pieces.proofs.Readings.{told-later}
 use Rattle.file_pieces.proofs.measuring.measure.Goals as goal
