@@ -1,19 +1,12 @@
 //! The program: its words, real devices for the run, its exit status, and what helps whoever called it.
 #![tactic(auto)]
 
-mod behind;
-mod called;
-mod help;
-mod root;
-mod unfit;
-
-use crate::behind::{line_behind, usage_lines};
-use crate::called::{called_tool, tool_of, words_of};
-use crate::help::{Telling, told};
-use crate::root::root_of;
 use outside::{Scratch, Sink, Source, Tree, put_all};
 use patch_filters::RegexFinder;
 use patch_options::patch_usage;
+use program_words::{
+    Telling, called_tool, line_behind, root_of, told, tool_of, usage_lines, words_of,
+};
 use real_devices::{Disk, Input, Output, Pages, Trouble};
 use std::alloc::Global;
 use std::io;

@@ -2,8 +2,8 @@
 
 use crate::unfit::unfit_word;
 use real_devices::Trouble;
+use run_answers::Why;
 use std::alloc::{AllocError, Global};
-use tool_run::Why;
 
 /// The largest buffer that can be asked for.
 const LARGEST_BUFFER: u64 = 1_048_576;
