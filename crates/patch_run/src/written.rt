@@ -46,7 +46,7 @@ fn mark_both(set: &PatchSet, patch: &FilePatch, row: Row, names: &mut NameMarks)
 }
 
 fn mark(target: Option<&Target>, names: &mut NameMarks)
-    requires { ForSome (option_copied target.entry) (HasRoom names.old) }
+    requires { ForSome (option_copied target) (HasRoom names.old) }
     ensures marked { (q : List ℕ) → is_marked names.new q ≡ (is_name q (option_map (λ w. w.name) (option_copied target.entry)) || is_marked names.old q) }
     ensures rooms { (q : List ℕ) → has_room names.new q ≡ has_room names.old q }
 {

@@ -20,8 +20,8 @@ mark-requires c =
     subst (λ (x : Option Target). ForSome x (HasRoom n)) (sym (c.written_by.ensures.target any))
     (written-roomy n (alone any c.args.set.now c.args.patch.now) c.args.row c.requires.targets c.requires.output)
 
-pub mark-2-requires : goal.mark-2-requires
-mark-2-requires c =
+pub mark-requires-2 : goal.mark-requires-2
+mark-requires-2 c =
     let n = c.args.names.now in
     let m = c.mark.new.names in
     subst (λ (x : Option Target). ForSome x (HasRoom m)) (sym (c.renamed_by.ensures.target any c.args.set.now))

@@ -1,4 +1,4 @@
-use Rattle.std.proofs.Common.{◌≡◌, ◌||◌, ℕ, List, None, Some, is_some, bytes_eq, sym, ◌∙◌, ap, subst, string_bytes}
+use Rattle.std.proofs.Common.{◌≡◌, ◌||◌, ℕ, List, false, None, Some, is_some, bytes_eq, sym, ◌∙◌, ap, subst, string_bytes}
 use Rattle.std.specs.BTreeMap.{get_by_text}
 use Rattle.std.proofs.lemmas.Map.Text.{btree_map_updates_text}
 use Rattle.name_marks.proofs.Marking.{enough, roomier, roomy}
