@@ -7,7 +7,7 @@ mod help;
 mod root;
 mod unfit;
 
-use crate::behind::{line_behind, usage_lines};
+use crate::behind::{line_behind, missing_line, usage_lines};
 use crate::called::{called_tool, tool_of, words_of};
 use crate::help::{Telling, told};
 use crate::root::root_of;
@@ -108,6 +108,7 @@ fn run_over<O: Write + Drop, E: Write + Drop>(
     pages.end();
     match exit.why {
         Why::Usage => put_usage(alloc, err, tool, words),
+        Why::NoPatchFile => put_missing(alloc, err, tool, words),
         Why::TreeFault => put_behind(alloc, err, tool, exit.why, tree.trouble()),
         Why::ScratchFault => put_behind(alloc, err, tool, exit.why, pages.trouble()),
         Why::ReadFault => put_behind(alloc, err, tool, exit.why, input.trouble()),
@@ -147,6 +148,13 @@ fn put_behind<E: Sink>(
 fn put_usage<E: Sink>(alloc: Global, err: &mut E, tool: &str, words: &[String]) {
     if let Ok(lines) = usage_lines(alloc, tool, words) {
         let _ = put_all(err, lines.as_str().as_bytes());
+    }
+}
+
+/// Writes which patch file wasn't found.
+fn put_missing<E: Sink>(alloc: Global, err: &mut E, tool: &str, words: &[String]) {
+    if let Ok(Some(line)) = missing_line(alloc, tool, words) {
+        let _ = put_all(err, line.as_str().as_bytes());
     }
 }
 
