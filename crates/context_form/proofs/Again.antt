@@ -73,7 +73,7 @@ begins-with h own rest number next hs behind s quiet piece =
     let got : hs ≡ a.0.0 ∷ b.0.0 = ap (λ (x : List PlainHunk × Ahead). x.0) (sym (ok_is _ _ b.2)) in
     (b.0.0, got ∙ ap (λ (x : PlainHunk × Ahead). x.0 ∷ b.0.0) same)
 
-on-length : (side : Side) (body : List Marked) → length (lines_on side body) ≡ length (part_of side body)
+pub on-length : (side : Side) (body : List Marked) → length (lines_on side body) ≡ length (part_of side body)
 on-length side body = length-map (part_of side body) (λ (m : Marked). m.line)
 
 some-lines : (body : List Marked) → eqb (length body) 0 ≡ false → 0 < length (part_of Forward body) + length (part_of Reversed body)

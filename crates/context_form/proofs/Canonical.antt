@@ -2,7 +2,7 @@
 use Rattle.std.proofs.Common.{◌≡◌, ◌⊎◌, ℕ, ◌+◌, ◌-◌, ◌<◌, ◌≤◌, Bool, true, false, cond, not, eqb, ltb, ◌&&◌, ◌||◌, List, [], ◌∷◌, ◌++◌, length, map, refl, sym, ap, subst, ◌∙◌, append_assoc, arith, inl, inr}
 use Rattle.std.specs.Prelude.{replicate}
 use Rattle.std.specs.List.{flat_map}
-use Rattle.std.proofs.lemmas.Bool.{eqb-true, eqb-false, ltb-true, ltb-false}
+use Rattle.std.proofs.lemmas.Bool.{eqb-true, eqb-false, ltb-true, ltb-false, or_from}
 use Rattle.std.proofs.lemmas.List.Concat.{flat_map-cons, flat_map-append}
 use Rattle.line_list.specs.Lines.{lines, IsLine}
 use Rattle.num_text.specs.Numbers.{decimal}
@@ -88,16 +88,13 @@ lines-no-change m = by (ends_line m.line)
     by true = rw (line-no-change m.mark m.line) refl
     by false = rw (line-no-change m.mark (m.line ++ 10 ∷ []), newline-no-change) refl
 
-or-false : (a b : Bool) → a ≡ false → b ≡ false → (a || b) ≡ false
-or-false a b e f = rw (e, f) refl
-
 has-both : (xs ys : List (List ℕ)) → has_change xs ≡ false → has_change ys ≡ false → has_change (xs ++ ys) ≡ false
 has-both [] ys e f = f
 has-both (x ∷ xs) ys e f = by (is_change x) refl e (λ k. has-both xs ys k f)
   where
     by : (b : Bool) → is_change x ≡ b → (b || has_change xs) ≡ false → (has_change xs ≡ false → has_change (xs ++ ys) ≡ false) → (is_change x || has_change (xs ++ ys)) ≡ false
     by true is h more = absurd cc
-    by false is h more = or-false (is_change x) (has_change (xs ++ ys)) is (more h)
+    by false is h more = or_from (is_change x) (has_change (xs ++ ys)) is (more h)
 
 -- where the other part has no lines, no stretch is mixed
 none-mixed : (side : Side) (body : List Marked) → part_of side body ≡ [] → stretch_has side body ≡ false

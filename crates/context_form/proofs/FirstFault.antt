@@ -1,5 +1,5 @@
 -- A fault stays whatever lines come after the one that decides it.
-use Rattle.std.proofs.Common.{◌≡◌, ◌≢◌, inl, inr, ℕ, zero, suc, ◌+◌, ◌-◌, ◌≤◌, ◌<◌, Bool, true, false, cond, List, [], ◌∷◌, ◌++◌, length, None, Some, Result, Ok, Err, refl, sym, ap, subst, ◌∙◌, arith}
+use Rattle.std.proofs.Common.{◌≡◌, ◌≢◌, inl, inr, ℕ, zero, suc, ◌+◌, ◌-◌, ◌≤◌, Bool, true, false, cond, List, [], ◌∷◌, ◌++◌, length, None, Some, Result, Ok, Err, refl, sym, ap, subst, ◌∙◌, arith}
 use Rattle.std.proofs.lemmas.Bool.{cases_lt, and_parts}
 use Rattle.std.proofs.lemmas.List.{length-append}
 use Rattle.hunk_core.specs.declared.BadKind.{BadKind}
@@ -17,7 +17,7 @@ use Rattle.context_form.specs.Hunks.{PlainPart, whole, parts_at, hunk_at, hunks_
 use Rattle.context_form.specs.Grammar.{IsPiece}
 use Rattle.context_form.specs.FirstFault.{lines_behind, reach, behind_first, decided_at, decided_by}
 use Rattle.context_form.proofs.SteadyParts.{steady-parts}
-use Rattle.context_form.proofs.HunkLoops.{hunks_step}
+use Rattle.context_form.proofs.HunkLoops.{hunks_step, some_lines}
 use Rattle.context_form.proofs.Pieces.{hunk-shrinks, reading_again}
 use Rattle.context_form.proofs.HunkFaults.{whole-over, FailsBehind, FailsWhole, hunk-fails, ReadsWhole, hunk-reads, hunk-bad, hunk-over, hunk-good, hunk-loud}
 
@@ -66,10 +66,6 @@ opens_too last number (line ∷ rest) others agree le e =
 behind-number : (number : ℕ) (rest : List (List ℕ)) → begins_hunk rest ≡ true → ((behind_first number rest).number ≡ number + 1) × ((number + 1) + length (behind_first number rest).rest ≡ number + length rest)
 behind-number number [] e = absurd cc
 behind-number number (line ∷ rest) e = (refl, omega arith)
-
-begins_some : (rest : List (List ℕ)) → begins_hunk rest ≡ true → 0 < length rest
-begins_some [] e = absurd cc
-begins_some (line ∷ rest) e = omega arith
 
 abbrev more_hunks : ℕ → PlainHunk × Ahead → Result (List PlainHunk × Ahead) Fault
 more_hunks most first = hunks_at most first.0.old_start first.1 >>= λ others. Ok (first.0 ∷ others.0, others.1)
@@ -178,7 +174,7 @@ hunks_stay (suc most) most2 least p others e h long agree enough =
           let q = behind_first p.number p.rest in
           let q2 : behind_first p.number others ≡ ahead (behind_first p.number p.rest).number (behind_first p.number others).rest = renumber (behind_first p.number others) (behind_first p.number p.rest).number (o.number_is ∙ sym o.same) in
           let agree2 : AgreeTo (decided_at (suc most) least p) (behind_first p.number p.rest).number (behind_first p.number p.rest).rest (behind_first p.number others).rest = subst (λ n. AgreeTo (decided_at (suc most) least p) n (behind_first p.number p.rest).rest (behind_first p.number others).rest) (sym o.same) o.agree in
-          let k : most2 ≡ suc (most2 - 1) = omega (arith, enough, begins_some others o.begins) in
+          let k : most2 ≡ suc (most2 - 1) = omega (arith, enough, some_lines others o.begins) in
           subst (λ n. hunks_at n least (ahead p.number others) ≡ Err e) (sym k) (elim (bind_err (hunk_at least p) (more_hunks most) e some.1) [
             | inl bad ↦ hunks_err (most2 - 1) least (ahead p.number others) e o.begins (elim (hunk-fails least p e some.0 bad) [
               | inl parts ↦ hunk-bad least (ahead p.number others) e o.begins (ap (parts_at least) q2 ∙ (steady-parts least).stays q (behind_first p.number others).rest e parts long (subst (λ n. AgreeTo n (behind_first p.number p.rest).number (behind_first p.number p.rest).rest (behind_first p.number others).rest) (decided-parts most least p e parts) agree2))

@@ -147,7 +147,7 @@ pub record TakesWhole (old new : PlainPart) (h : PlainHunk) : Type 0 where
   pub old_start : h.old_start ≡ old.stated.start
   pub new_start : h.new_start ≡ new.stated.start
 
-abbrev made : PlainPart → PlainPart → List Marked → PlainHunk
+abbrev pub made : PlainPart → PlainPart → List Marked → PlainHunk
 made old new body = record { old_start = old.stated.start; new_start = new.stated.start; body = body }
 
 pub whole-takes : (old new : PlainPart) (h : PlainHunk) → whole old new ≡ Ok h → TakesWhole old new h

@@ -21,11 +21,8 @@ use Rattle.context_form.specs.Grammar.{mark_byte, SpellsRange, SpellsPart, has_c
 use Rattle.context_form.proofs.MergeIs.{AllOn}
 use Rattle.context_form.proofs.Loops.{body_done}
 use Rattle.context_form.proofs.RangeGrammar.{line-again, most-again, count-again}
-use Rattle.context_form.proofs.PartLemmas.{body_again, first-of, mark-again}
+use Rattle.context_form.proofs.PartLemmas.{body_again, first-of, mark-again, bodied}
 use Rattle.context_form.proofs.JoinLemmas.{kept-first, kept-on, of-all, join-again, size-again}
-
-abbrev pub bodied : List Marked → Bool → PlainBody
-bodied ls changed = record { lines = ls; changed = changed }
 
 abbrev pub parted : ℕ → Stated → PlainBody → PlainPart
 parted number s b = record { number = number; stated = s; body = b }

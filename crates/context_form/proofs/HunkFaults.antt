@@ -13,6 +13,7 @@ use Rattle.context_form.specs.Ranges.{is_count}
 use Rattle.context_form.specs.Merging.{joined, size_beside}
 use Rattle.context_form.specs.Hunks.{quiet, PlainPart, sized, agreed, whole, parts_at, first_hunk, hunk_at}
 use Rattle.context_form.specs.FirstFault.{behind_first}
+use Rattle.context_form.proofs.Halves.{made}
 
 -- ---- how a hunk fails
 -- a fault over two whole parts is none of these
@@ -43,9 +44,6 @@ sized-over part partner e h = by (not (is_count part.stated (size_beside part.bo
 agreed-over : (number : ℕ) (o : Option (List Marked)) (e : Fault) → agreed number o ≡ Err e → IsOverParts e
 agreed-over number None e h = over-sides e (kind-of {A = List Marked} number kinds.SidesDiffer e h)
 agreed-over number (Some body) e h = absurd cc
-
-abbrev made : PlainPart → PlainPart → List Marked → PlainHunk
-made old new body = record { old_start = old.stated.start; new_start = new.stated.start; body = body }
 
 no-err : {A : Type 0} (a : A) (e : Fault) → Ok a ≡ failed {A = A} e → ⊥
 no-err a e h = cc

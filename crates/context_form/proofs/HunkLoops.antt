@@ -1,5 +1,5 @@
 -- Reading one hunk after the other, as a loop does.
-use Rattle.std.proofs.Common.{◌≡◌, ℕ, zero, suc, ◌-◌, ◌≤◌, ◌<◌, true, false, List, [], ◌∷◌, ◌++◌, length, Result, Ok, Err, refl, sym, ap, ◌∙◌, arith}
+use Rattle.std.proofs.Common.{◌≡◌, ℕ, suc, ◌-◌, ◌≤◌, ◌<◌, true, false, List, [], ◌∷◌, ◌++◌, length, Result, Ok, Err, refl, sym, ap, ◌∙◌, arith}
 use Rattle.std.proofs.lemmas.List.{append-nil}
 use Rattle.hunk_core.specs.declared.fault.FormFault.{FormFault}
 use Rattle.hunk_core.specs.declared.fault.FormFault.TheVariants as errors
@@ -8,7 +8,7 @@ use Rattle.hunk_core.specs.Reading.{◌>>=◌, Fault, Fails, Ahead}
 use Rattle.context_form.specs.Openings.{begins_hunk}
 use Rattle.context_form.specs.Hunks.{hunk_at, hunks_at}
 use Rattle.hunk_core.proofs.ReadSteps.{with_front, front_none, regroup}
-use Rattle.context_form.proofs.Pieces.{hunk-shrinks}
+use Rattle.context_form.proofs.Pieces.{hunk-shrinks, no_hunks}
 
 -- these hunks were read, and what is left gives the whole
 pub record HunksSoFar (front : List PlainHunk) (least : ℕ) (p : Ahead) (total : Result (List PlainHunk × Ahead) Fault) : Type 0 where
@@ -19,7 +19,7 @@ pub record HunksSoFar (front : List PlainHunk) (least : ℕ) (p : Ahead) (total 
 pub hunks_begin : (least : ℕ) (p : Ahead) → HunksSoFar [] least p (hunks_at (length p.rest) least p)
 hunks_begin least p = record { most = length p.rest; enough = omega arith; same = front_none (hunks_at (length p.rest) least p) }
 
-some_lines : (rest : List (List ℕ)) → begins_hunk rest ≡ true → 0 < length rest
+pub some_lines : (rest : List (List ℕ)) → begins_hunk rest ≡ true → 0 < length rest
 some_lines [] h = absurd cc
 some_lines (line ∷ rest) h = omega arith
 
@@ -44,10 +44,5 @@ hunks_fail (errors.Malformed line kind) front least p total opens h so_far =
     let one : with_front front (hunks_at so_far.most least p) ≡ Err (record { line = line; kind = kind }) = ap (λ m. with_front front (hunks_at m least p)) k ∙ rw (hunks_step (so_far.most - 1) least p opens, h) refl in
     sym so_far.same ∙ one
 
-no_more : (most least : ℕ) (p : Ahead) → begins_hunk p.rest ≡ false → hunks_at most least p ≡ Ok ([], p)
-unfolding hunks_at
-no_more zero least p none = refl
-no_more (suc most) least p none = rw none refl
-
 pub hunks_done : (front : List PlainHunk) (least : ℕ) (p : Ahead) (total : Result (List PlainHunk × Ahead) Fault) → begins_hunk p.rest ≡ false → HunksSoFar front least p total → total ≡ Ok (front, p)
-hunks_done front least p total none so_far = sym so_far.same ∙ rw (no_more so_far.most least p none) (ap (λ ns. Ok (ns, p)) (append-nil front))
+hunks_done front least p total none so_far = sym so_far.same ∙ rw (no_hunks so_far.most least p none) (ap (λ ns. Ok (ns, p)) (append-nil front))

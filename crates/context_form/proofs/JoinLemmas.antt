@@ -15,6 +15,7 @@ use Rattle.context_form.specs.Merging.{merge, alone, joined, kept_count, size_by
 use Rattle.context_form.specs.Grammar.{SpellsPart, SpellsLine, has_change, AreKept, SpellsSide, written}
 use Rattle.context_form.proofs.MergeIs.{AllOn}
 use Rattle.context_form.proofs.MergeLaws.{merge-again, merge-takes}
+use Rattle.context_form.proofs.PartLemmas.{bodied}
 
 -- ---- counting kept lines
 
@@ -200,9 +201,6 @@ both-written old new o n olds news body s t on on2 e =
       new_size = size-some n news (o ∷ olds) (part_of Reversed body) m.new_side;
       is = sym m.old_side ∙ sym (written-is Forward old body some);
     }
-
-abbrev bodied : List Marked → Bool → PlainBody
-bodied ls changed = record { lines = ls; changed = changed }
 
 pub join-takes : (old new : List (List ℕ)) (olds news : List Marked) (a b : Bool) (body : List Marked) → SpellsPart old olds → SpellsPart new news → AllOn Forward olds → AllOn Reversed news → a ≡ has_change old → b ≡ has_change new → joined (bodied olds a) (bodied news b) ≡ Some body → TakesJoin old new olds news body
 join-takes old new [] [] a b body s t on on2 e f h = absurd cc

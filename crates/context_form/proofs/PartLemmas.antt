@@ -3,6 +3,7 @@ use Rattle.std.proofs.Common.{◌≡◌, ℕ, zero, suc, ◌+◌, ◌<◌, Bool,
 use Rattle.std.specs.Prelude.{is_some}
 use Rattle.std.proofs.lemmas.Bool.{eqb-true}
 use Rattle.std.proofs.lemmas.List.{length-append, append-nil}
+use Rattle.std.proofs.lemmas.Option.{same_Some}
 use Rattle.hunk_core.specs.declared.Mark.{Mark}
 use Rattle.hunk_core.specs.declared.Mark.TheVariants as its
 use Rattle.hunk_core.specs.declared.Side.{Side}
@@ -28,9 +29,6 @@ pub record MarkIs (side : Side) (line : List ℕ) (m : Mark × Bool) : Type 0 wh
   pub on : is_on_side side m.0 ≡ true
   pub change : m.1 ≡ is_change line
 
-some_is : {A : Type 0} (x y : A) → Some x ≡ Some y → x ≡ y
-some_is x y e = cc
-
 abbrev begins : ℕ → List ℕ → List ℕ
 begins b bytes = b ∷ 32 ∷ bytes
 
@@ -51,11 +49,11 @@ sign-is Reversed bytes = record { changed = false; is = refl; on = refl; change 
 mark-by : (side : Side) (b : ℕ) (bytes : List ℕ) (m : Mark × Bool) → mark_by side b ≡ Some m → MarkIs side (begins b bytes) m
 mark-by side b bytes m e =
     elim (chosen (eqb b 32) (Some (its.Keep, false)) _ (Some m) e) [
-      | inl space ↦ is 32 (its.Keep, false) (eqb-true b 32 space.0) (some_is _ _ space.1) (spaces-are side bytes)
+      | inl space ↦ is 32 (its.Keep, false) (eqb-true b 32 space.0) (same_Some _ _ space.1) (spaces-are side bytes)
       | inr e1 ↦ elim (chosen (eqb b 33) (Some (own_mark side, true)) _ (Some m) e1.1) [
-        | inl mark ↦ is 33 (own_mark side, true) (eqb-true b 33 mark.0) (some_is _ _ mark.1) (change-is side bytes)
+        | inl mark ↦ is 33 (own_mark side, true) (eqb-true b 33 mark.0) (same_Some _ _ mark.1) (change-is side bytes)
         | inr e2 ↦ elim (chosen (eqb b (own_byte side)) (Some (own_mark side, false)) None (Some m) e2.1) [
-          | inl sign ↦ is (own_byte side) (own_mark side, false) (eqb-true b (own_byte side) sign.0) (some_is _ _ sign.1) (sign-is side bytes)
+          | inl sign ↦ is (own_byte side) (own_mark side, false) (eqb-true b (own_byte side) sign.0) (same_Some _ _ sign.1) (sign-is side bytes)
           | inr other ↦ absurd cc
         ]
       ]
@@ -291,7 +289,7 @@ body_on : (side : Side) (left : ℕ) (before : PlainBody) (p : Ahead) (x : Shown
 unfolding body_at
 body_on side left before p x y on one more = rw (on, one) more
 
-abbrev bodied : List Marked → Bool → PlainBody
+abbrev pub bodied : List Marked → Bool → PlainBody
 bodied ls changed = record { lines = ls; changed = changed }
 
 body_end : (side : Side) (before : PlainBody) (p : Ahead) → is_done side 0 p.rest ≡ true → body_at side 0 before p ≡ Ok (before, p)

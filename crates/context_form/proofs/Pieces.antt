@@ -19,7 +19,8 @@ use Rattle.context_form.specs.Grammar.{SpellsRange, has_change, stated_as, writt
 use Rattle.context_form.proofs.RangeGrammar.{is_one, line-known, dashes-again, dashes-quiet, dashes-unmarked, stars-again}
 use Rattle.context_form.proofs.JoinLemmas.{join-takes}
 use Rattle.context_form.proofs.Halves.{TakesPart, TakesNew, TakesWhole, old-takes, new-takes, whole-takes}
-use Rattle.context_form.proofs.HalvesAgain.{bodied, parted, old-again, new-again, whole-again}
+use Rattle.context_form.proofs.HalvesAgain.{parted, old-again, new-again, whole-again}
+use Rattle.context_form.proofs.PartLemmas.{bodied}
 
 -- ---- one hunk that is read
 
@@ -149,7 +150,7 @@ pub opening_quiet : (rest : List (List ℕ)) → begins_hunk rest ≡ true → a
 opening_quiet [] e = refl
 opening_quiet (line ∷ rest) e = line_quiet line rest (stars-quiet line (and_parts _ _ e).0)
 
-opens-both : (stars line : List ℕ) (rest : List (List ℕ)) → is_stars stars ≡ true → opens_old line ≡ true → begins_hunk (stars ∷ line ∷ rest) ≡ true
+pub opens-both : (stars line : List ℕ) (rest : List (List ℕ)) → is_stars stars ≡ true → opens_old line ≡ true → begins_hunk (stars ∷ line ∷ rest) ≡ true
 opens-both stars line rest e f = rw (e, f) refl
 
 pub hunk_opens : (least : ℕ) (own behind tail : List (List ℕ)) (h : PlainHunk) → SpellsHunk least own behind h → begins_hunk (own ++ tail) ≡ true
@@ -201,7 +202,7 @@ hunks_quiet : (hs : List PlainHunk) (least : ℕ) (own rest : List (List ℕ)) �
 hunks_quiet [] least own rest s none = rw s none
 hunks_quiet (h ∷ hs) least own rest s none = rw (s.2, append_assoc s.0 s.1 rest) (opening_quiet (s.0 ++ (s.1 ++ rest)) (hunk_opens least s.0 (s.1 ++ rest) (s.1 ++ rest) h s.3))
 
-no_hunks : (most least : ℕ) (p : Ahead) → begins_hunk p.rest ≡ false → hunks_at most least p ≡ Ok ([], p)
+pub no_hunks : (most least : ℕ) (p : Ahead) → begins_hunk p.rest ≡ false → hunks_at most least p ≡ Ok ([], p)
 unfolding hunks_at
 no_hunks zero least p none = refl
 no_hunks (suc most) least p none = rw none refl

@@ -26,7 +26,7 @@ use Rattle.context_form.specs.Grammar.{SpellsNumbers, SpellsRange, stated_as}
 -- ---- steps
 -- ---- the numbers
 
-closed-ok : (r : NumberRange) (o : Option (List ℕ)) (q : NumberRange) → closed r o ≡ Some q → (rest : List ℕ) × (o ≡ Some rest) × (is_line_end rest ≡ true) × (r ≡ q)
+pub closed-ok : (r : NumberRange) (o : Option (List ℕ)) (q : NumberRange) → closed r o ≡ Some q → (rest : List ℕ) × (o ≡ Some rest) × (is_line_end rest ≡ true) × (r ≡ q)
 closed-ok r None q e = absurd cc
 closed-ok r (Some rest) q e =
     elim (chosen (is_line_end rest) (Some r) None (Some q) e) [
@@ -34,7 +34,7 @@ closed-ok r (Some rest) q e =
       | inr not_there ↦ absurd cc
     ]
 
-stops-behind : (side : Side) (rest : List ℕ) → StopsRange (behind_range side ++ rest)
+pub stops-behind : (side : Side) (rest : List ℕ) → StopsRange (behind_range side ++ rest)
 stops-behind Forward rest = record { digit = refl; comma = λ n. refl }
 stops-behind Reversed rest = record { digit = refl; comma = λ n. refl }
 

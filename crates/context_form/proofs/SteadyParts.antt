@@ -15,7 +15,7 @@ use Rattle.hunk_core.proofs.Steady.{one_line, FailsHere, peek_by}
 use Rattle.context_form.specs.declared.range.Stated.{Stated}
 use Rattle.context_form.specs.Ranges.{is_bad_range, is_too_large, stated, from_numbers, numbers_at, range_line, most}
 use Rattle.context_form.specs.Parts.{mark_at, Shown, must_be_marked, marked_at, room_at, cut, ended_by, first_line, line_at, is_done, PlainBody, no_body, with_line, body_at}
-use Rattle.context_form.specs.Presence.{begins_part, is_there, begins_old_part}
+use Rattle.context_form.specs.Presence.{is_there, begins_old_part}
 use Rattle.context_form.specs.Hunks.{PlainPart, fitting, at_line, first_range, old_part, too_few, enough, new_count, new_part, parts_at}
 use Rattle.hunk_core.proofs.Steady.{steady-then, steady-value, steady-same}
 use Rattle.context_form.proofs.Steady.{Steady, LooksAhead, steady-test, steady-line, steady-before, steady-peek}
@@ -214,9 +214,6 @@ new-same old number (line ∷ rest) = by (at_line number (range_line Reversed 0 
         ≡ ((r >>= and_ahead (ahead (number + 1) rest)) >>= λ s. fitting number s.0 (is_there s.0 old.body.lines s.1.rest) >>= λ fits. enough number old >>= λ few. body_at Reversed (new_count s.0 old.body.lines s.1.rest) no_body s.1 >>= λ b. Ok (part_with (number, s.0) b.0, b.1))
     by (Ok s) = checked-same (large_test (is_there s old.body.lines) s rest) number (number, s) (ahead (number + 1) rest) (λ x. new_counted old x.0 x.1) (one-less number) ∙ inner s (fitting number s (is_there s old.body.lines rest))
     by (Err d) = refl
-
-begins-looks : (may_keep : Bool) → LooksAhead (begins_part may_keep)
-begins-looks may_keep = record { same = λ line rest others. refl }
 
 there-same : (s : Stated) (olds : List Marked) (line : List ℕ) (rest others : List (List ℕ)) → is_there s olds (line ∷ rest) ≡ is_there s olds (line ∷ others)
 there-same s olds line rest others = by s.start s.count

@@ -1,12 +1,12 @@
 -- A hunk that a piece of a text spells breaks no rule.
-use Rattle.std.proofs.Common.{◌≡◌, ℕ, suc, ◌<◌, ◌≤◌, Bool, true, false, not, cond, eqb, ◌||◌, List, [], ◌∷◌, ◌++◌, length, map, None, refl, ap, subst, ◌∙◌, arith}
+use Rattle.std.proofs.Common.{◌≡◌, ℕ, suc, ◌<◌, ◌≤◌, Bool, true, false, not, cond, eqb, ◌||◌, List, [], ◌∷◌, ◌++◌, length, None, refl, ap, subst, ◌∙◌, arith}
 use Rattle.std.proofs.lemmas.Bool.{ne_eqb}
 use Rattle.std.proofs.lemmas.List.{length-map}
 use Rattle.line_list.specs.Lines.{IsLine, ArePieces}
 use Rattle.hunk_core.specs.declared.Side.{Side}
 use Rattle.hunk_core.specs.declared.Side.TheVariants.{Forward, Reversed}
 use Rattle.hunk_core.specs.Sides.{is_on_side}
-use Rattle.hunk_core.specs.PlainHunk.{Marked, PlainHunk, lines_on, old_lines, new_lines}
+use Rattle.hunk_core.specs.PlainHunk.{Marked, PlainHunk, old_lines, new_lines}
 use Rattle.hunk_core.specs.LineTests.{ends_line}
 use Rattle.hunk_core.specs.Rules.{starts_at_zero, runs_over, lacks_inner_end, first_broken}
 use Rattle.hunk_core.specs.Turned.{other_side}
@@ -18,6 +18,8 @@ use Rattle.context_form.specs.Merging.{part_of}
 use Rattle.context_form.specs.Presence.{is_there}
 use Rattle.context_form.specs.Grammar.{mark_byte, SpellsLine, SpellsPart, SpellsNumbers, SpellsSide, SpellsHunk, SpellsPiece, stated_as, written}
 use Rattle.context_form.proofs.JoinLemmas.{kept-other}
+use Rattle.context_form.proofs.Again.{on-length}
+use Rattle.context_form.proofs.Canonical.{lines_of}
 
 -- ---- a hunk at the end of a text
 
@@ -56,9 +58,6 @@ at-end least own behind h s = record {
 behind-two : (b : ℕ) (line : List ℕ) → IsLine (b ∷ 32 ∷ line) → ends_line line ≡ true
 behind-two b [] h = absurd (let bad : 32 ≡ 10 = h.1 in cc)
 behind-two b (c ∷ bytes) h = line-ends (c ∷ bytes) h.1.1
-
-abbrev lines_of : List Marked → List (List ℕ)
-lines_of part = map (λ m. m.line) part
 
 part-some : (piece : List (List ℕ)) (part : List Marked) → SpellsPart piece part → 0 < length part → 0 < length piece
 part-some piece [] s some = absurd (omega (arith, some))
@@ -113,9 +112,6 @@ side-ends side [] (line ∷ partner) body s t some p q =
 
 -- ---- the other rules
 
-length-on : (side : Side) (body : List Marked) → length (lines_on side body) ≡ length (part_of side body)
-length-on side body = length-map (part_of side body) (λ (m : Marked). m.line)
-
 numbers-start : (text : List ℕ) (single : Bool) (start count : ℕ) → SpellsNumbers text single start count → start ≡ 0 → count ≡ 0
 numbers-start text true start count s z = s.2 z
 numbers-start text false start count s z = absurd (omega (arith, z, s.6))
@@ -153,8 +149,8 @@ hunk-unbroken least own behind h s pieces =
     let olds : ArePieces s.old = pieces-first s.old (s.new_line ∷ s.new) inner in
     let news : ArePieces s.new = pieces-last (s.new_line ∷ []) s.new (pieces-last s.old (s.new_line ∷ s.new) inner) in
     let body = h.body in
-    let n = length-on Forward body in
-    let n2 = length-on Reversed body in
+    let n = on-length Forward body in
+    let n2 = on-length Reversed body in
     let some : eqb (length h.body) 0 ≡ false = ne_eqb (length h.body) 0 (λ z. absurd (omega (arith, z, some-body s.old s.new h.body s.old_part s.new_part s.some))) in
     let a : starts_at_zero h.old_start (old_lines h.body) ≡ false = zero-start h.old_start (old_lines h.body) (λ z. n ∙ numbers-start s.old_range.text s.old_single h.old_start (length (part_of Forward h.body)) s.old_range.numbers z) in
     let b : starts_at_zero h.new_start (new_lines h.body) ≡ false = zero-start h.new_start (new_lines h.body) (λ z. n2 ∙ numbers-start s.new_range.text s.new_single h.new_start (length (part_of Reversed h.body)) s.new_range.numbers z) in

@@ -2,6 +2,7 @@
 use Rattle.std.proofs.Common.{◌≡◌, ◌↔◌, ◌⊎◌, inl, inr, ℕ, ◌<◌, Bool, true, false, cond, eqb, ◌&&◌, ◌||◌, not, List, [], ◌∷◌, ◌++◌, length, drop, Option, None, Some, refl, sym, ap, ◌∙◌, arith}
 use Rattle.std.specs.Prelude.{is_some, replicate}
 use Rattle.std.proofs.lemmas.Bool.{ne_eqb, and_parts}
+use Rattle.std.proofs.Math.Bool.{or-true}
 use Rattle.num_text.specs.Numbers.{number_at, is_digit}
 use Rattle.hunk_core.specs.declared.Mark.{Mark}
 use Rattle.hunk_core.specs.declared.Mark.TheVariants as its
@@ -18,6 +19,7 @@ use Rattle.context_form.specs.Presence.{may_begin, begins_part, drops_alone, is_
 use Rattle.context_form.specs.Grammar.{mark_byte, stated_as, written, SpellsHunk}
 use Rattle.context_form.proofs.PartLemmas.{mark-takes, mark-again}
 use Rattle.context_form.proofs.HalvesAgain.{there-again}
+use Rattle.context_form.proofs.Pieces.{opens-both}
 
 -- ---- the opening
 abbrev stars : List ℕ
@@ -59,9 +61,6 @@ old-again d more e = rw (after-again before (d ∷ more), e) refl
 stars-again : (bytes : List ℕ) → is_some (after stars (stars ++ bytes)) ≡ true
 stars-again bytes = rw (after-again stars bytes) refl
 
-opens-both : (line other : List ℕ) (rest : List (List ℕ)) → is_stars line ≡ true → opens_old other ≡ true → begins_hunk (line ∷ other ∷ rest) ≡ true
-opens-both line other rest e f = rw (e, f) refl
-
 pub opening-words : (lines : List (List ℕ)) → begins_hunk lines ≡ true ↔ Opening lines
 opening-words lines = (
   λ e. opening-is lines e,
@@ -97,10 +96,6 @@ tells may_keep (line ∷ rest) e = by (mark_at Reversed line) refl e
 told-by : (may_keep changed : Bool) (mark : Mark) (bytes : List ℕ) (more rest : List (List ℕ)) → rest ≡ (mark_byte changed mark ∷ 32 ∷ bytes) ∷ more → is_on_side Reversed mark ≡ true → (may_keep || not (is_keep mark)) ≡ true → begins_part may_keep rest ≡ true
 told-by may_keep changed mark bytes more rest e on may = ap (begins_part may_keep) e ∙ ap (may_begin may_keep) (mark-again Reversed changed mark bytes on) ∙ may
 
-or-true : (b : Bool) → (b || true) ≡ true
-or-true true = refl
-or-true false = refl
-
 told-change : (may_keep : Bool) (rest : List (List ℕ)) → BeginsChange rest → begins_part may_keep rest ≡ true
 told-change may_keep rest (inl h) = told-by may_keep false its.Add h.0 h.1 rest h.2 refl (or-true may_keep)
 told-change may_keep rest (inr h) = told-by may_keep true its.Add h.0 h.1 rest h.2 refl (or-true may_keep)
@@ -113,8 +108,8 @@ told false rest h = told-change false rest h
 pub zero-words : (olds : List Marked) (rest : List (List ℕ)) → is_there (stated_as true 0 0) olds rest ≡ false
 zero-words olds rest = refl
 
-there-is : (may_keep : Bool) (start n : ℕ) (olds : List Marked) (rest : List (List ℕ)) → 0 < start → drops_alone olds ≡ not may_keep → is_there (stated_as true start n) olds rest ≡ begins_part may_keep rest
-there-is may_keep start n olds rest some alone =
+part-there : (may_keep : Bool) (start n : ℕ) (olds : List Marked) (rest : List (List ℕ)) → 0 < start → drops_alone olds ≡ not may_keep → is_there (stated_as true start n) olds rest ≡ begins_part may_keep rest
+part-there may_keep start n olds rest some alone =
     let begins : eqb start 0 ≡ false = ne_eqb start 0 (λ z. absurd (omega (arith, some, z))) in
     ap (λ b. cond b false (begins_part (not (drops_alone olds)) rest)) begins ∙ ap (λ b. begins_part (not b) rest) alone ∙ ap (λ b. begins_part b rest) (twice may_keep)
   where
@@ -135,12 +130,12 @@ drops-not m n (inr some) = let b : eqb n 0 ≡ false = ne_eqb n 0 (λ z. absurd 
 
 pub alone-words : (start n : ℕ) (olds : List Marked) (rest : List (List ℕ)) → 0 < start → 0 < length olds → kept_count olds ≡ 0 → is_there (stated_as true start n) olds rest ≡ true ↔ BeginsChange rest
 alone-words start n olds rest some there none =
-    let is = there-is false start n olds rest some (drops-is (length olds) (kept_count olds) there none) in
+    let is = part-there false start n olds rest some (drops-is (length olds) (kept_count olds) there none) in
     (λ e. tells false rest (sym is ∙ e), λ h. is ∙ told false rest h)
 
 pub other-words : (start n : ℕ) (olds : List Marked) (rest : List (List ℕ)) → 0 < start → (length olds ≡ 0) ⊎ (0 < kept_count olds) → is_there (stated_as true start n) olds rest ≡ true ↔ (Begins 32 rest ⊎ BeginsChange rest)
 other-words start n olds rest some other =
-    let is = there-is true start n olds rest some (drops-not (length olds) (kept_count olds) other) in
+    let is = part-there true start n olds rest some (drops-not (length olds) (kept_count olds) other) in
     (λ e. tells true rest (sym is ∙ e), λ h. is ∙ told true rest h)
 
 pub two-words : (start n : ℕ) (olds : List Marked) (rest : List (List ℕ)) → is_there (stated_as false start n) olds rest ≡ true ↔ (Begins 32 rest ⊎ BeginsChange rest)

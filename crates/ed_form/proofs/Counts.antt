@@ -59,7 +59,7 @@ edit-parts below number line rest x e =
     let b = bind_ok (added_at number a.0.action (ahead (number + 1) rest)) (λ text. Ok (edit a.0 text.0, text.1)) x a.2 in
     record { h = a.0; text = b.0; heading = a.1; added = b.1; is = ok_is _ _ b.2 }
 
-no-edit : (below number : ℕ) (x : PlainEdit × Ahead) (A : Type 0) → first_edit below number [] ≡ Ok x → A
+pub no-edit : (below number : ℕ) (x : PlainEdit × Ahead) (A : Type 0) → first_edit below number [] ≡ Ok x → A
 unfolding first_edit
 no-edit below number x A h = absurd cc
 

@@ -5,7 +5,7 @@ use Rattle.hunk_core.specs.declared.BadKind.TheVariants as kinds
 use Rattle.hunk_core.specs.declared.fault.FormFault.{FormFault}
 use Rattle.hunk_core.specs.declared.fault.FormFault.TheVariants as errors
 use Rattle.hunk_core.specs.Reading.{◌>>=◌, Fault, fault, Fails, Ahead}
-use Rattle.hunk_core.proofs.ReadSteps.{with_front, front_none, regroup}
+use Rattle.hunk_core.proofs.ReadSteps.{with_front, regroup}
 use Rattle.ed_form.specs.Commands.{begins_script}
 use Rattle.ed_form.specs.PlainEdit.{PlainEdit, lowest}
 use Rattle.ed_form.specs.Scripts.{edit_at, begins_substitution, no_edits, edits_at}
@@ -16,9 +16,6 @@ pub record EditsSoFar (front : List PlainEdit) (below : ℕ) (p : Ahead) (total 
   pub most : ℕ
   pub enough : length p.rest ≤ most
   pub same : with_front front (edits_at most below p) ≡ total
-
-pub edits_begin : (below : ℕ) (p : Ahead) → EditsSoFar [] below p (edits_at (length p.rest) below p)
-edits_begin below p = record { most = length p.rest; enough = omega arith; same = front_none (edits_at (length p.rest) below p) }
 
 pub some_lines : (rest : List (List ℕ)) → begins_script rest ≡ true → 0 < length rest
 some_lines [] h = absurd cc

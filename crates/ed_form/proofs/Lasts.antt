@@ -1,5 +1,5 @@
 -- The last line of a text, and the words that lines are.
-use Rattle.std.proofs.Common.{◌≡◌, ℕ, suc, ◌+◌, ◌-◌, ◌<◌, ◌≤◌, true, false, List, [], ◌∷◌, ◌++◌, length, get_or, drop, slice_range, Option, None, Some, refl, sym, ap, ◌∙◌, arith}
+use Rattle.std.proofs.Common.{◌≡◌, ℕ, suc, ◌+◌, ◌-◌, ◌<◌, ◌≤◌, true, List, [], ◌∷◌, ◌++◌, length, get_or, drop, slice_range, Option, None, Some, refl, sym, ap, ◌∙◌, arith}
 use Rattle.std.proofs.lemmas.List.{map_push}
 use Rattle.line_list.specs.declared.Span.{Span}
 use Rattle.hunk_core.specs.LineTests.{after}
@@ -36,11 +36,6 @@ pub undoubled-push : (ls : List (List ℕ)) (line : List ℕ) → undoubled (ls 
 undoubled-push [] line = refl
 undoubled-push (x ∷ []) line = refl
 undoubled-push (x ∷ y ∷ ls) line = ap (λ (m : List (List ℕ)). x ∷ m) (undoubled-push (y ∷ ls) line)
-
--- a list without spans ends with no line
-pub none-double : (text : List ℕ) (spans : List Span) → length spans ≡ 0 → ends_double (lines_of text spans) ≡ false
-none-double text [] e = refl
-none-double text (s ∷ spans) e = absurd (omega (arith, e))
 
 pub last-double : (text : List ℕ) (spans : List Span) (d : Span) → 0 < length spans → ends_double (lines_of text spans) ≡ is_double (bytes_at text (get_or spans (length spans - 1) d))
 last-double text [] d lt = absurd (omega arith)

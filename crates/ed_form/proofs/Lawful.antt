@@ -12,7 +12,7 @@ use Rattle.hunk_core.specs.Turned.{LiesIn}
 use Rattle.hunk_core.proofs.PieceLemmas.{pieces-last, piece-lines}
 use Rattle.diff_command.specs.declared.Action.{Action}
 use Rattle.diff_command.specs.declared.Action.TheVariants.{Add, Change, Delete}
-use Rattle.line_list.proofs.WholeLines.{AreLines}
+use Rattle.line_list.proofs.WholeLines.{AreLines, lines-both}
 use Rattle.ed_form.specs.declared.script.EdScript.{EdScript}
 use Rattle.ed_form.specs.Commands.{begins_script}
 use Rattle.ed_form.specs.PlainEdit.{PlainEdit, edit_of, edits_of, lowest, IsLawfulEdit, AreLawful, IsLawfulScript}
@@ -21,10 +21,6 @@ use Rattle.ed_form.specs.Scripts.{reading, read_of}
 use Rattle.ed_form.specs.Grammar.{IsEnded, IsCorrected, SpellsText, SpellsAdded, SpellsAddresses, SpellsEdit, SpellsEdits}
 use Rattle.ed_form.proofs.Lasts.{word-takes}
 use Rattle.ed_form.proofs.Pieces.{reading_finds}
-
-lines-append : (xs ys : List (List ℕ)) → AreLines xs → AreLines ys → AreLines (xs ++ ys)
-lines-append [] ys h k = k
-lines-append (x ∷ xs) ys h k = (h.0, lines-append xs ys h.1 k)
 
 -- pieces before another one have their line feeds
 inner-lines : (ls : List (List ℕ)) (next : List ℕ) (rest : List (List ℕ)) → ArePieces (ls ++ next ∷ rest) → AreLines ls
@@ -46,7 +42,7 @@ corrected-lines own text others s h =
     let parts : own ++ others ≡ s.front ++ ((46 ∷ s.lone) ∷ s.dot ∷ s.correction ∷ others) = ap (λ (o : List (List ℕ)). o ++ others) s.parts ∙ append_assoc s.front ((46 ∷ s.lone) ∷ tail) others in
     let pieces : ArePieces (s.front ++ ((46 ∷ s.lone) ∷ s.dot ∷ s.correction ∷ others)) = subst ArePieces parts h in
     let last : ArePieces ((46 ∷ s.lone) ∷ s.dot ∷ s.correction ∷ others) = pieces-last s.front ((46 ∷ s.lone) ∷ s.dot ∷ s.correction ∷ others) pieces in
-    subst AreLines (sym s.is) (lines-append s.front (s.lone ∷ []) (inner-lines s.front (46 ∷ s.lone) (s.dot ∷ s.correction ∷ others) pieces) (lone-line s.lone s.is_lone last.0, tt))
+    subst AreLines (sym s.is) (lines-both s.front (s.lone ∷ []) (inner-lines s.front (46 ∷ s.lone) (s.dot ∷ s.correction ∷ others) pieces) (lone-line s.lone s.is_lone last.0, tt))
 
 text-lines : (turns : ℕ) (own text others : List (List ℕ)) → SpellsText turns own text others → ArePieces (own ++ others) → AreLines text
 text-lines zero own text others (inl s) h = ended-lines own text others s h
@@ -58,7 +54,7 @@ text-lines (suc turns) own text others s h =
     let parts : own ++ others ≡ one ++ (append ∷ (rest ++ others)) = ap (λ (o : List (List ℕ)). o ++ others) s.3 ∙ append_assoc one (append ∷ rest) others in
     let pieces : ArePieces (one ++ (append ∷ (rest ++ others))) = subst ArePieces parts h in
     let last : ArePieces (append ∷ (rest ++ others)) = pieces-last one (append ∷ (rest ++ others)) pieces in
-    subst AreLines (sym s.7) (lines-append s.5 s.6 (corrected-lines one s.5 (append ∷ (rest ++ others)) s.8 pieces) (text-lines turns rest s.6 others s.9 (pieces-last (append ∷ []) (rest ++ others) last)))
+    subst AreLines (sym s.7) (lines-both s.5 s.6 (corrected-lines one s.5 (append ∷ (rest ++ others)) s.8 pieces) (text-lines turns rest s.6 others s.9 (pieces-last (append ∷ []) (rest ++ others) last)))
 
 added-lines : (action : Action) (own added others : List (List ℕ)) → SpellsAdded action own added others → ArePieces (own ++ others) → AreLines added
 added-lines Add own added others s h = text-lines s.0 own added others s.1 h

@@ -4,7 +4,7 @@ use Rattle.std.proofs.lemmas.List.{append-nil}
 use Rattle.hunk_core.specs.declared.BadKind.{BadKind}
 use Rattle.hunk_core.specs.declared.BadKind.TheVariants as kinds
 use Rattle.hunk_core.specs.Reading.{◌>>=◌, Fault, fault, Ahead, ahead}
-use Rattle.hunk_core.proofs.ReadSteps.{chosen, ok_is, guard_ok}
+use Rattle.hunk_core.proofs.ReadSteps.{chosen, ok_is}
 use Rattle.diff_command.specs.declared.Action.{Action}
 use Rattle.diff_command.specs.declared.Action.TheVariants.{Add, Change, Delete}
 use Rattle.hunk_core.specs.FirstFault.{AgreeTo}
@@ -20,7 +20,7 @@ use Rattle.ed_form.specs.Texts.{is_dot, is_open, is_taken, step, closed, text_at
 use Rattle.ed_form.specs.Scripts.{at_line, added_at, edit, first_edit, begins_substitution}
 use Rattle.ed_form.specs.Grammar.{HaveNoDot}
 use Rattle.ed_form.proofs.TextLoops.{text-takes, text-stops}
-use Rattle.ed_form.proofs.TextGrammar.{text-dot, text-run, ended-stops}
+use Rattle.ed_form.proofs.TextGrammar.{text-dot, text-run, ended-stops, closed-is}
 use Rattle.ed_form.proofs.Counts.{edit-parts, edit-counts, text-counts}
 
 pub guard_err : {A : Type 0} (b : Bool) (d e : Fault) (x : A) → cond b (failed d) (Ok x) ≡ failed e → (b ≡ true) × (d ≡ e)
@@ -58,9 +58,6 @@ pub record Goes {A : Type 0} (f : List (List ℕ) → Result (A × Ahead) Fault)
   pub over : others ≡ own ++ more
   pub read : f others ≡ Ok (x.0, ahead x.1.number more)
   pub agree : AgreeTo last x.1.number x.1.rest more
-
-closed-is : (opened : ℕ) (part : Part) (before : List (List ℕ)) (p : Ahead) (x : List (List ℕ) × Ahead) → closed opened part before p ≡ Ok x → (is_open part ≡ false) × ((before, p) ≡ x)
-closed-is opened part before p x h = guard_ok (is_open part) (fault opened kinds.EdNoDot) (before, p) x h
 
 text-none : (opened : ℕ) (part : Part) (before : List (List ℕ)) (number : ℕ) (line : List ℕ) (rest : List (List ℕ)) → is_taken part before line ≡ false → is_open part ≡ false → text_at opened part before number (line ∷ rest) ≡ Ok (before, ahead number (line ∷ rest))
 text-none opened part before number line rest none whole = text-stops opened part before number (line ∷ rest) none ∙ rw whole refl

@@ -18,7 +18,7 @@ use Rattle.ed_form.specs.Scripts.{at_line, added_at, edit, first_edit, edit_at, 
 use Rattle.ed_form.specs.Grammar.{SpellsEdit, SpellsEdits, EndsPiece, IsPiece}
 use Rattle.ed_form.proofs.CommandGrammar.{opening-takes, opening-again, opening-is, heading_is}
 use Rattle.ed_form.proofs.TextGrammar.{added_takes, added_again}
-use Rattle.ed_form.proofs.Counts.{edit-parts, edit-counts}
+use Rattle.ed_form.proofs.Counts.{edit-parts, edit-counts, no-edit}
 use Rattle.ed_form.proofs.EditLoops.{no_more}
 
 -- ---- one edit
@@ -33,10 +33,6 @@ pub record TakesEdit (below : ℕ) (p : Ahead) (x : PlainEdit × Ahead) : Type 0
 at_line-ok : (number : ℕ) (o : Result Heading BadKind) (h : Heading) → at_line number o ≡ Ok h → o ≡ Ok h
 at_line-ok number (Ok q) h e = cc
 at_line-ok number (Err kind) h e = absurd cc
-
-no-edit : (below number : ℕ) (x : PlainEdit × Ahead) (A : Type 0) → first_edit below number [] ≡ Ok x → A
-unfolding first_edit
-no-edit below number x A h = absurd cc
 
 pub edit_takes : (below number : ℕ) (rest : List (List ℕ)) (x : PlainEdit × Ahead) → first_edit below number rest ≡ Ok x → TakesEdit below (ahead number rest) x
 edit_takes below number [] x h = no-edit below number x _ h

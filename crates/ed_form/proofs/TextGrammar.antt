@@ -122,7 +122,7 @@ takes-step base seen number line rest x t = record {
 takes-none : (base seen text : List (List ℕ)) (number : ℕ) (rest : List (List ℕ)) (x : List (List ℕ) × Ahead) → SpellsText 0 seen text rest → (base ++ text, ahead number rest) ≡ x → TakesText base seen number rest x
 takes-none base seen text number rest x s e = subst (TakesText base seen number rest) e (record { turns = 0; own = seen; text = text; is = refl; parts = refl; number_of = refl; spelled = s })
 
-closed-is : (opened : ℕ) (part : Part) (before : List (List ℕ)) (p : Ahead) (x : List (List ℕ) × Ahead) → closed opened part before p ≡ Ok x → (is_open part ≡ false) × ((before, p) ≡ x)
+pub closed-is : (opened : ℕ) (part : Part) (before : List (List ℕ)) (p : Ahead) (x : List (List ℕ) × Ahead) → closed opened part before p ≡ Ok x → (is_open part ≡ false) × ((before, p) ≡ x)
 closed-is opened part before p x h = guard_ok (is_open part) (fault opened kinds.EdNoDot) (before, p) x h
 
 corrected-by : (base seen text : List (List ℕ)) (line : List ℕ) → IsEnded seen text → EndsDouble base text → is_correction line ≡ true → (d : EndsDouble base text) → IsCorrected (seen ++ line ∷ []) (d.front ++ d.lone ∷ [])

@@ -18,9 +18,10 @@ use Rattle.context_form.specs.Grammar.{mark_byte, SpellsLine}
 use Rattle.context_form.proofs.PartLemmas.{mark-again, TakesLine, line_takes}
 use Rattle.hunk_core.specs.Refusals.{unmarked}
 use Rattle.hunk_core.proofs.FaultSteps.{failed, err_is, bind_err}
+use Rattle.hunk_core.proofs.Agreeing.{after_backslash-some}
 use Rattle.fault_law.specs.NamedLines.{NamesLine}
 use Rattle.fault_law.specs.ContextFaults.{HasNoMark, has_dashes}
-use Rattle.fault_law.proofs.Naming.{ends_short, named-here, named-past, loud-line}
+use Rattle.fault_law.proofs.Naming.{ends_short, named-here, named-past}
 
 -- ---- lines without '--- '
 
@@ -116,7 +117,7 @@ line_breaks side left number (line ∷ rest) e h long =
         | inl bad ↦ (let b = room_breaks number left side line good.0 e bad in named-here (InPart side e.kind) number line rest e.line b.0 b.1)
         | inr room ↦ (
             let l = ended_at room.0 left (ahead (number + 1) rest) e room.2 in
-            let b = loud-line rest l.1 l.2 in
+            let b = after_backslash-some rest l.1 l.2 in
             record {
               front = line ∷ [];
               line = b.0;

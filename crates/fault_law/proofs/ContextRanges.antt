@@ -1,34 +1,22 @@
 -- What is wrong with a range line of a context hunk.
 use Rattle.std.proofs.Common.{◌≡◌, ◌⊎◌, inl, inr, ℕ, ◌+◌, ◌-◌, ◌^◌, min, Bool, true, false, cond, eqb, ltb, List, ◌++◌, Option, None, Some, Result, Ok, Err, refl, sym, ap, ◌∙◌, arith}
-use Rattle.std.proofs.lemmas.Bool.{eqb-true, eqb-false, ltb-true, ltb-false, or_parts}
+use Rattle.std.proofs.lemmas.Bool.{eqb-true, eqb-false, ltb-true, ltb-false, or_parts, or_cases}
 use Rattle.hunk_core.specs.declared.BadKind.{BadKind}
 use Rattle.hunk_core.specs.declared.BadKind.TheVariants as kinds
 use Rattle.hunk_core.specs.declared.Side.{Side}
-use Rattle.hunk_core.specs.declared.Side.TheVariants.{Forward, Reversed}
 use Rattle.hunk_core.specs.LineTests.{after}
-use Rattle.hunk_core.proofs.ReadSteps.{chosen, some_is}
 use Rattle.hunk_core.proofs.TextLemmas.{after-takes, after-again}
 use Rattle.num_text.specs.declared.range.NumberRange.{NumberRange}
 use Rattle.num_text.specs.NumberRanges.{range_at}
-use Rattle.num_text.proofs.RangeGrammar.{StopsRange}
-use Rattle.diff_command.specs.Letters.{is_line_end}
 use Rattle.context_form.specs.declared.range.Stated.{Stated}
-use Rattle.context_form.specs.Ranges.{before_range, behind_range, closed, numbers_at, is_bad_range, is_too_large, stated, checked, from_numbers, range_line, most, most_by, is_count, is_count_by}
-use Rattle.context_form.proofs.RangeGrammar.{is_one, line-known, join_parts}
+use Rattle.context_form.specs.Ranges.{before_range, behind_range, numbers_at, is_bad_range, is_too_large, stated, checked, from_numbers, range_line, most, most_by, is_count, is_count_by}
+use Rattle.context_form.proofs.RangeGrammar.{is_one, line-known, join_parts, closed-ok, stops-behind}
 use Rattle.hunk_core.proofs.OptionLemmas.{some_step}
 use Rattle.fault_law.specs.ContextFaults.{HasNumbers, IsBadRange, IsTooLarge, StartsBelow}
 use Rattle.fault_law.proofs.NumberForms.{read_as, range_form, range_read}
-use Rattle.fault_law.proofs.FailedTests.{kind_is, or_true}
+use Rattle.fault_law.proofs.FailedTests.{kind_is}
 
 -- ---- a range line that was read is spelled so, and what is spelled so is read
-
-closed_ok : (r : NumberRange) (o : Option (List ℕ)) (q : NumberRange) → closed r o ≡ Some q → (rest : List ℕ) × (o ≡ Some rest) × (is_line_end rest ≡ true) × (r ≡ q)
-closed_ok r None q e = absurd cc
-closed_ok r (Some rest) q e =
-    elim (chosen (is_line_end rest) (Some r) None (Some q) e) [
-      | inl ends ↦ (rest, refl, ends.0, some_is r q (Some r) refl ends.1)
-      | inr not_there ↦ absurd cc
-    ]
 
 record NumbersForm (side : Side) (line : List ℕ) (r : NumberRange) : Type 0 where
   single : Bool
@@ -42,7 +30,7 @@ unfolding numbers_at
 numbers_form side line r e =
     let a = some_step (after (before_range side) line) _ r e in
     let b = some_step (range_at a.0) _ r a.2 in
-    let c = closed_ok b.0.0 (after (behind_range side) b.0.1) r b.2 in
+    let c = closed-ok b.0.0 (after (behind_range side) b.0.1) r b.2 in
     let f = range_form a.0 b.0 b.1 in
     record {
       single = f.single;
@@ -58,17 +46,13 @@ numbers_form side line r e =
       read = sym c.3 ∙ f.read;
     }
 
-stops_behind : (side : Side) (rest : List ℕ) → StopsRange (behind_range side ++ rest)
-stops_behind Forward rest = record { digit = refl; comma = λ n. refl }
-stops_behind Reversed rest = record { digit = refl; comma = λ n. refl }
-
 numbers_read : (side : Side) (line : List ℕ) (single : Bool) (first last : ℕ) → HasNumbers side line single first last → numbers_at side line ≡ Some (read_as single first last)
 unfolding numbers_at
 numbers_read side line single first last h =
     rw (
       h.parts,
       after-again (before_range side) (h.text ++ (behind_range side ++ h.rest)),
-      range_read h.text single first last (behind_range side ++ h.rest) h.spelled (stops_behind side h.rest),
+      range_read h.text single first last (behind_range side ++ h.rest) h.spelled (stops-behind side h.rest),
       after-again (behind_range side) h.rest,
       h.ends,
     ) refl
@@ -96,7 +80,7 @@ bad side line false first last h e =
       first,
       last,
       h,
-      elim (or_true (ltb last first) (eqb (min first (2 ^ 32)) 0) e) [
+      elim (or_cases (ltb last first) (eqb (min first (2 ^ 32)) 0) e) [
         | inl turned ↦ inl (ltb-true last first turned)
         | inr none ↦ inr (let zero_first = eqb-true (min first (2 ^ 32)) 0 none in omega arith)
       ],

@@ -25,9 +25,10 @@ use Rattle.context_form.proofs.Halves.{TakesPart, range-takes, old-takes, new-ta
 use Rattle.context_form.proofs.HunkFaults.{hunk-fails}
 use Rattle.context_form.proofs.Pieces.{hunk_takes}
 use Rattle.hunk_core.proofs.FaultSteps.{failed, err_is, bind_err}
+use Rattle.hunk_core.proofs.Agreeing.{after_backslash-some}
 use Rattle.fault_law.specs.NamedLines.{NamesLine}
 use Rattle.fault_law.specs.ContextFaults.{IsTooLarge, StartsBelow, has_dashes, Breaks, IsAtFault}
-use Rattle.fault_law.proofs.Naming.{add_err, ends_short, named-here, named-past, loud-line}
+use Rattle.fault_law.proofs.Naming.{add_err, ends_short, named-here, named-past}
 use Rattle.fault_law.proofs.ContextRanges.{RangeFault, range_breaks, large_stated, most-counts}
 use Rattle.fault_law.proofs.ContextParts.{InPart, body_breaks}
 
@@ -259,7 +260,7 @@ loud_behind least p x e b loud same =
     let o = b.old in
     let n = b.new in
     let some = has_some (after_backslash x.1.rest) loud in
-    let l = loud-line x.1.rest some.0 some.1 in
+    let l = after_backslash-some x.1.rest some.0 some.1 in
     let own = o.line ∷ (o.own ++ n.line ∷ n.own) in
     subst (λ (y : Fault). NamesLine (InParts least y.kind) p.number p.rest y.line) same (record {
       front = own;

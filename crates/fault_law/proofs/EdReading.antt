@@ -1,7 +1,7 @@
 -- The line that a fault of an ed script names.
 use Rattle.std.proofs.Common.{◌≡◌, ◌≢◌, ◌⊎◌, inl, inr, ℕ, zero, suc, ◌+◌, ◌≤◌, ◌<◌, ◌^◌, min, Bool, true, false, not, cond, eqb, ltb, ◌||◌, List, [], ◌∷◌, ◌++◌, length, Option, None, Some, Result, Ok, Err, refl, sym, ap, subst, ◌∙◌, arith}
 use Rattle.std.specs.Prelude.{is_some}
-use Rattle.std.proofs.lemmas.Bool.{eqb-true, ltb-true, ltb-false}
+use Rattle.std.proofs.lemmas.Bool.{eqb-true, ltb-true, ltb-false, or_cases}
 use Rattle.hunk_core.specs.declared.BadKind.{BadKind}
 use Rattle.hunk_core.specs.declared.BadKind.TheVariants as kinds
 use Rattle.hunk_core.specs.Reading.{◌>>=◌, Fault, fault, Ahead, ahead}
@@ -29,7 +29,7 @@ use Rattle.fault_law.specs.NamedLines.{NamesLine}
 use Rattle.fault_law.specs.EdFaults.{AreBad, AreTooLarge, EndsOpen, HaveNoEnd, Breaks, IsAtFault}
 use Rattle.fault_law.proofs.Naming.{add_err, named-here, named-past}
 use Rattle.fault_law.proofs.NumberForms.{read_as, range_form}
-use Rattle.fault_law.proofs.FailedTests.{kind_is, or_true}
+use Rattle.fault_law.proofs.FailedTests.{kind_is}
 
 -- ---- a command
 
@@ -73,7 +73,7 @@ first_failed P false false true h kind e f g i = absurd cc
 lines_bad : (single : Bool) (first last : ℕ) → ((read_as single first last).is_turned || eqb (read_as single first last).first 0) ≡ true → (last < first) ⊎ (first ≡ 0)
 lines_bad true first last e = inr (let none = eqb-true (min first (2 ^ 32)) 0 e in omega arith)
 lines_bad false first last e =
-    elim (or_true (ltb last first) (eqb (min first (2 ^ 32)) 0) e) [
+    elim (or_cases (ltb last first) (eqb (min first (2 ^ 32)) 0) e) [
       | inl turned ↦ inl (ltb-true last first turned)
       | inr none ↦ inr (let zero_first = eqb-true (min first (2 ^ 32)) 0 none in omega arith)
     ]
@@ -93,14 +93,14 @@ ends_low false first last one = (omega arith, omega arith)
 
 lines_large : (first last a b : ℕ) → (ltb 4294967295 a || ltb 4294967295 b) ≡ true → a ≤ first → b ≤ last → (2 ^ 32 ≤ first) ⊎ (2 ^ 32 ≤ last)
 lines_large first last a b e low high =
-    elim (or_true (ltb 4294967295 a) (ltb 4294967295 b) e) [
+    elim (or_cases (ltb 4294967295 a) (ltb 4294967295 b) e) [
       | inl above ↦ inl (let more = ltb-true 4294967295 a above in omega arith)
       | inr above ↦ inr (let more = ltb-true 4294967295 b above in omega arith)
     ]
 
 place_large : (last b : ℕ) → (ltb 4294967295 (b + 1) || ltb 4294967295 b) ≡ true → b ≤ last → 2 ^ 32 ≤ last + 1
 place_large last b e high =
-    elim (or_true (ltb 4294967295 (b + 1)) (ltb 4294967295 b) e) [
+    elim (or_cases (ltb 4294967295 (b + 1)) (ltb 4294967295 b) e) [
       | inl above ↦ (let more = ltb-true 4294967295 (b + 1) above in omega arith)
       | inr above ↦ (let more = ltb-true 4294967295 b above in omega arith)
     ]

@@ -1,7 +1,6 @@
 -- A named line, behind more lines.
-use Rattle.std.proofs.Common.{◌≡◌, ◌≢◌, ℕ, ◌+◌, Bool, true, false, cond, List, [], ◌∷◌, ◌++◌, length, None, Some, Result, Ok, Err, refl, sym, ap, ◌∙◌, append_assoc, arith}
+use Rattle.std.proofs.Common.{◌≡◌, ◌≢◌, ℕ, ◌+◌, List, [], ◌∷◌, ◌++◌, length, Result, Ok, Err, refl, sym, ap, ◌∙◌, append_assoc, arith}
 use Rattle.std.proofs.lemmas.List.{length-append}
-use Rattle.hunk_core.specs.LineTests.{is_backslash, after_backslash}
 use Rattle.hunk_core.specs.declared.BadKind.TheVariants as kinds
 use Rattle.hunk_core.specs.Reading.{◌>>=◌, Fault, fault, Ahead}
 use Rattle.hunk_core.proofs.FaultSteps.{failed, err_is, add}
@@ -32,11 +31,3 @@ named-past Holds More own number next lines rest named parts count on n = record
 }
 
 -- ---- backslash lines
-
-pub loud-line : (rest more : List (List ℕ)) → after_backslash rest ≡ Some more → (line : List ℕ) × (rest ≡ line ∷ more) × (is_backslash line ≡ true)
-loud-line [] more e = absurd cc
-loud-line (line ∷ rest) more e = by (is_backslash line) refl e
-  where
-    by : (b : Bool) → is_backslash line ≡ b → cond b (Some rest) None ≡ Some more → (l : List ℕ) × (line ∷ rest ≡ l ∷ more) × (is_backslash l ≡ true)
-    by true is e = (line, (let same : rest ≡ more = cc in rw same refl), is)
-    by false is e = absurd cc

@@ -1,34 +1,30 @@
 -- What is wrong with a command of a normal hunk.
-use Rattle.std.proofs.Common.{◌≡◌, ◌⊎◌, inl, inr, ℕ, ◌+◌, ◌-◌, ◌^◌, ◌<◌, min, Bool, true, false, cond, eqb, ltb, ◌||◌, List, [], ◌∷◌, Option, None, Some, Result, Ok, Err, refl, sym, ap, subst, ◌∙◌, arith}
+use Rattle.std.proofs.Common.{◌≡◌, inl, inr, ℕ, ◌+◌, ◌-◌, ◌^◌, ◌<◌, min, Bool, true, false, cond, eqb, ltb, ◌||◌, List, [], Option, None, Some, Result, Ok, Err, refl, sym, ap, subst, ◌∙◌, arith}
 use Rattle.std.specs.Prelude.{is_some}
-use Rattle.std.proofs.lemmas.Bool.{eqb-true, ltb-true, ltb-false, or_parts}
+use Rattle.std.proofs.lemmas.Bool.{eqb-true, ltb-true, ltb-false, or_parts, or_cases}
 use Rattle.hunk_core.specs.declared.BadKind.{BadKind}
 use Rattle.hunk_core.specs.declared.BadKind.TheVariants as kinds
 use Rattle.hunk_core.specs.declared.Side.TheVariants.{Forward, Reversed}
 use Rattle.num_text.specs.NumberRanges.{range_at, SpellsRange}
-use Rattle.diff_command.specs.Letters.{action_at, is_line_end, letter}
+use Rattle.diff_command.specs.Letters.{action_at, letter}
 use Rattle.normal_form.specs.declared.command.Command.{Command}
 use Rattle.normal_form.specs.declared.command.Parts.{Parts}
 use Rattle.normal_form.specs.Commands.{parts_at, is_command, takes_lines, is_bad_range, size, command, checked, from_parts, opening}
 use Rattle.normal_form.specs.Grammar.{IsCommand}
 use Rattle.normal_form.proofs.CommandGrammar.{whole-ok, join_parts, made}
+use Rattle.normal_form.proofs.Words.{end-found}
 use Rattle.hunk_core.specs.Rules.{is_too_large}
 use Rattle.hunk_core.proofs.OptionLemmas.{some_step}
 use Rattle.diff_command.proofs.CommandLemmas.{action-takes}
 use Rattle.fault_law.specs.NormalFaults.{IsBadSpan, IsLargeSpan, Breaks}
 use Rattle.fault_law.proofs.NumberForms.{read_as, range_form}
-use Rattle.fault_law.proofs.FailedTests.{kind_is, or_true}
+use Rattle.fault_law.proofs.FailedTests.{kind_is}
 
 -- ---- a command that was read is spelled so
 
 record CommandForm (line : List ℕ) (p : Parts) : Type 0 where
   is : IsCommand line
   read : p ≡ made (read_as is.old_range.0 is.old_range.1 is.old_range.2) is.action (read_as is.new_range.0 is.new_range.1 is.new_range.2)
-
-end_found : (rest : List ℕ) → is_line_end rest ≡ true → (rest ≡ []) ⊎ (rest ≡ 10 ∷ [])
-end_found [] e = inl refl
-end_found (b ∷ []) e = inr (ap (λ c. c ∷ []) (eqb-true b 10 e))
-end_found (b ∷ c ∷ rest) e = absurd cc
 
 command_form : (line : List ℕ) (p : Parts) → parts_at line ≡ Some p → CommandForm line p
 unfolding parts_at
@@ -48,7 +44,7 @@ command_form line p e =
         parts = join_parts line old.text a.0.1 (letter b.0.0) b.0.1 new.text d.0.1 old.parts (action-takes a.0.1 b.0 b.1) new.parts;
         old_range = (old.single, old.first, old.last, old.spelled);
         new_range = (new.single, new.first, new.last, new.spelled);
-        ends = end_found d.0.1 w.0;
+        ends = end-found d.0.1 w.0;
       };
       read = sym w.1 ∙ ap (λ r. made r b.0.0 d.0.0) old.read ∙ ap (λ r. made (read_as old.single old.first old.last) b.0.0 r) new.read;
     }
@@ -72,7 +68,7 @@ first_failed P false false false c kind e f g i = absurd cc
 bad_span : (lines single : Bool) (first last : ℕ) → is_bad_range (read_as single first last) lines ≡ true → IsBadSpan lines single first last
 bad_span true true first last e = inr (let none = eqb-true (min first (2 ^ 32)) 0 e in omega arith)
 bad_span true false first last e =
-    elim (or_true (ltb last first) (eqb (min first (2 ^ 32)) 0) e) [
+    elim (or_cases (ltb last first) (eqb (min first (2 ^ 32)) 0) e) [
       | inl turned ↦ inl (ltb-true last first turned)
       | inr none ↦ inr (let zero_first = eqb-true (min first (2 ^ 32)) 0 none in omega arith)
     ]
@@ -108,7 +104,7 @@ checked_breaks least line is kind e =
       refl,
       (
         is,
-        elim (or_true _ _ bad) [
+        elim (or_cases _ _ bad) [
           | inl here ↦ inl (bad_span old_lines is.old_range.0 is.old_range.1 is.old_range.2 here)
           | inr here ↦ inr (bad_span new_lines is.new_range.0 is.new_range.1 is.new_range.2 here)
         ],
@@ -118,7 +114,7 @@ checked_breaks least line is kind e =
       refl,
       (
         is,
-        let both = or_parts _ _ good in elim (or_true _ _ large) [
+        let both = or_parts _ _ good in elim (or_cases _ _ large) [
           | inl here ↦ inl (large_span old_lines is.old_range.0 is.old_range.1 is.old_range.2 one_old both.0 here)
           | inr here ↦ inr (large_span new_lines is.new_range.0 is.new_range.1 is.new_range.2 one_new both.1 here)
         ],

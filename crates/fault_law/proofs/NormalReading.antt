@@ -24,9 +24,10 @@ use Rattle.normal_form.proofs.Pieces.{CountsNone, counts-none, no-lines, empty-p
 use Rattle.normal_form.proofs.FirstFault.{with_body, more_hunks}
 use Rattle.hunk_core.specs.Refusals.{unmarked, settled}
 use Rattle.hunk_core.proofs.FaultSteps.{failed, err_is, bind_err}
+use Rattle.hunk_core.proofs.Agreeing.{after_backslash-some}
 use Rattle.fault_law.specs.NamedLines.{NamesLine}
 use Rattle.fault_law.specs.NormalFaults.{LacksSide, LacksMark, Breaks, IsAtFault}
-use Rattle.fault_law.proofs.Naming.{add_err, ends_short, named-here, named-past, loud-line}
+use Rattle.fault_law.proofs.Naming.{add_err, ends_short, named-here, named-past}
 use Rattle.fault_law.proofs.NormalCommands.{opening_breaks}
 
 -- ---- a line that isn't what must stand there
@@ -46,7 +47,7 @@ unmarked_is number line e Lacks same lacks = (sym (ap (λ (x : Fault). x.line) s
 loud_named : (Lacks : List (List ℕ) → List ℕ → Type 0) (own lines rest more : List (List ℕ)) (number next : ℕ) (e : Fault) → lines ≡ own ++ rest → next ≡ number + length own → after_backslash rest ≡ Some more → fault next kinds.MisplacedBackslash ≡ e
     → NamesLine (λ part line behind. Unmarked e.kind line (Lacks part line)) number lines e.line
 loud_named Lacks own lines rest more number next e parts count loud same =
-    let b = loud-line rest more loud in
+    let b = after_backslash-some rest more loud in
     record {
       front = own;
       line = b.0;
@@ -234,7 +235,7 @@ hunk_breaks least number line rest e begins h long =
             | inr body ↦ (
                 let t = body_takes c p body.0 none body.1 in
                 let late = settled_at (change c body.0.0) body.0.1 e body.2 in
-                let b = loud-line body.0.1.rest late.1 late.2 in
+                let b = after_backslash-some body.0.1.rest late.1 late.2 in
                 subst (λ (x : Fault). NamesLine (OfHunk least x.kind) number (line ∷ rest) x.line) late.0 (record {
                   front = line ∷ t.own;
                   line = b.0;

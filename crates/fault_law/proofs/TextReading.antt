@@ -1,6 +1,7 @@
 -- The line that a fault of a patch text names.
 use Rattle.std.proofs.Common.{◌≡◌, ◌≢◌, inl, inr, ℕ, ◌+◌, Bool, true, false, not, cond, ◌&&◌, List, [], ◌∷◌, ◌++◌, length, drop, None, Some, Result, Ok, Err, refl, sym, ap, subst, ◌∙◌, append_assoc, arith}
 use Rattle.std.proofs.lemmas.List.{length-append}
+use Rattle.std.proofs.lemmas.Option.{same_Some}
 use Rattle.line_list.specs.Lines.{lines}
 use Rattle.hunk_core.specs.declared.BadKind.{BadKind}
 use Rattle.hunk_core.specs.declared.BadKind.TheVariants as kinds
@@ -55,15 +56,12 @@ further text at number own place next n parts count = record {
   counted = omega (arith, n.counted, count, length-append n.front own);
 }
 
-took : {A : Type 0} (x y : A) → Some x ≡ Some y → x ≡ y
-took x y e = cc
-
 header_place : (ways : Ways) (text : List ℕ) (place number : ℕ) (rs : List Row) (stop : Stop) (h : Header) → header_at ways text place number rs stop ≡ Some h → (place ≡ h.at) × (number ≡ h.opening)
 header_place ways text place number rs (Opening form) h e =
-    let is : header_with text form place number rs (led_by ways form rs) ≡ h = took _ h e in
+    let is : header_with text form place number rs (led_by ways form rs) ≡ h = same_Some _ h e in
     (ap (λ (x : Header). x.at) is, ap (λ (x : Header). x.opening) is)
 header_place ways text place number rs Bare h e =
-    let is : bare_with text place number rs ≡ h = took _ h e in
+    let is : bare_with text place number rs ≡ h = same_Some _ h e in
     (ap (λ (x : Header). x.at) is, ap (λ (x : Header). x.opening) is)
 header_place ways text place number rs Binary h e = absurd cc
 

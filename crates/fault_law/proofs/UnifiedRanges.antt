@@ -1,6 +1,6 @@
 -- A range line of the unified form, whatever its numbers.
 use Rattle.std.proofs.Common.{◌≡◌, ℕ, ◌+◌, ◌^◌, ◌≤◌, ◌⊎◌, min, Bool, true, false, cond, eqb, ltb, ◌||◌, ◌&&◌, List, [], ◌∷◌, ◌++◌, Option, None, Some, Result, Ok, Err, refl, sym, ap, subst, ◌∙◌, append_assoc, arith, inl, inr}
-use Rattle.std.proofs.lemmas.Bool.{eqb-true, eqb-false, ltb-true, ltb-false, or_parts}
+use Rattle.std.proofs.lemmas.Bool.{eqb-true, eqb-false, ltb-true, ltb-false, or_parts, and_parts, or_cases}
 use Rattle.hunk_core.specs.declared.BadKind.{BadKind}
 use Rattle.hunk_core.specs.declared.BadKind.TheVariants as kinds
 use Rattle.hunk_core.specs.LineTests.{after}
@@ -16,7 +16,7 @@ use Rattle.hunk_core.specs.Rules.{is_too_large}
 use Rattle.hunk_core.proofs.OptionLemmas.{some_step}
 use Rattle.unified_form.proofs.RangeGrammar.{made, join_parts}
 use Rattle.fault_law.specs.UnifiedFaults.{StartsAtNone, Breaks}
-use Rattle.fault_law.proofs.FailedTests.{kind_is, or_true, and_true}
+use Rattle.fault_law.proofs.FailedTests.{kind_is}
 
 -- ---- numbers
 
@@ -181,7 +181,7 @@ checked_breaks least line r q kind s c e =
       inr (
         q,
         s,
-        elim (or_true _ _ bad) [
+        elim (or_cases _ _ bad) [
           | inl old ↦ inl (at_none r.old_start r.old_count q.old_start q.old_count old c.old_start c.old_count)
           | inr new ↦ inr (at_none r.new_start r.new_count q.new_start q.new_count new c.new_start c.new_count)
         ],
@@ -192,13 +192,13 @@ checked_breaks least line r q kind s c e =
       (
         q,
         s,
-        elim (or_true _ _ large) [
+        elim (or_cases _ _ large) [
           | inl old ↦ inl (comes_above r.old_start r.old_count q.old_start q.old_count old c.old_start c.old_count)
           | inr new ↦ inr (comes_above r.new_start r.new_count q.new_start q.new_count new c.new_start c.new_count)
         ],
       ),
     ))
-    (λ none. let both = and_true _ _ none in inl (refl, (q, s, none_counted r.old_count q.old_count both.0 c.old_count, none_counted r.new_count q.new_count both.1 c.new_count)))
+    (λ none. let both = and_parts _ _ none in inl (refl, (q, s, none_counted r.old_count q.old_count both.0 c.old_count, none_counted r.new_count q.new_count both.1 c.new_count)))
     (λ fits below. (refl, (q, s, let under = ltb-true r.old_start least below in let read = c.old_start in let small = ltb-false 4294967295 (r.old_start + r.old_count) (or_parts _ _ fits).0 in omega arith)))
 
 pub opening_breaks : (least : ℕ) (line : List ℕ) (kind : BadKind) → opening least line ≡ Err kind → Breaks least kind [] line

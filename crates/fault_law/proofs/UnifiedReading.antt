@@ -21,9 +21,10 @@ use Rattle.unified_form.proofs.FirstFault.{settled_err, with_body, more_hunks}
 use Rattle.unified_form.proofs.Pieces.{hunk_takes}
 use Rattle.hunk_core.specs.Refusals.{settled}
 use Rattle.hunk_core.proofs.FaultSteps.{failed, err_is, bind_err, guard_err}
+use Rattle.hunk_core.proofs.Agreeing.{after_backslash-some}
 use Rattle.fault_law.specs.NamedLines.{NamesLine}
 use Rattle.fault_law.specs.UnifiedFaults.{Breaks, IsAtFault}
-use Rattle.fault_law.proofs.Naming.{add_err, ends_short, named-here, named-past, loud-line}
+use Rattle.fault_law.proofs.Naming.{add_err, ends_short, named-here, named-past}
 use Rattle.fault_law.proofs.UnifiedRanges.{opening_breaks}
 
 -- ---- a line of a body
@@ -59,7 +60,7 @@ room_breaks number line m Add left e shown h = count_breaks number line m e show
 -- a backslash line behind others
 loud_breaks : (own lines rest more : List (List ℕ)) (number next : ℕ) (e : Fault) → lines ≡ own ++ rest → next ≡ number + length own → after_backslash rest ≡ Some more → fault next kinds.MisplacedBackslash ≡ e → NamesLine (InBody e.kind) number lines e.line
 loud_breaks own lines rest more number next e parts count loud same =
-    let b = loud-line rest more loud in
+    let b = after_backslash-some rest more loud in
     subst (λ (x : Fault). NamesLine (InBody x.kind) number lines x.line) same (record {
       front = own;
       line = b.0;

@@ -1,5 +1,5 @@
 -- A file patch apart from where its lines lie: what its header says, and its hunks or its script.
-use Rattle.std.specs.Prelude.{◌≡◌, ℕ, ◌<◌, ◌^◌, Bool, List, length, sum_by, All, Option, option_map, true, false}
+use Rattle.std.specs.Prelude.{◌≡◌, ℕ, ◌<◌, ◌^◌, Bool, List, length, sum_by, All, Option, option_map, true, false, find}
 use Rattle.line_list.specs.declared.Span.{Span}
 use Rattle.hunk_core.specs.declared.Form.{Form}
 use Rattle.hunk_core.specs.declared.Hunk.{Hunk}
@@ -97,3 +97,7 @@ IsLawfulChange text (Script s) = IsLawfulScript text s
 abbrev pub is_script : PlainChange → Bool
 is_script (hunks hs) = false
 is_script (script es) = true
+
+-- the line of the opening of the first one that passes
+abbrev pub first_opening : (PlainPatch → Bool) → List PlainPatch → Option ℕ
+first_opening test ps = option_map (λ p. p.header.opening) (find test ps)

@@ -1,6 +1,7 @@
 -- Two openings of one form look alike to the lines in front of them.
 use Rattle.std.proofs.Common.{◌≡◌, inl, inr, ◌≤◌, ℕ, true, false, List, [], ◌∷◌, ◌++◌, Option, None, Some, refl, sym, ◌∙◌, arith}
 use Rattle.std.specs.Prelude.{is_some, replicate}
+use Rattle.std.proofs.lemmas.Bool.{false_from_ne_true}
 use Rattle.hunk_core.specs.declared.Form.{Form}
 use Rattle.hunk_core.specs.declared.Form.TheVariants.{Unified, Context, Normal, Ed}
 use Rattle.hunk_core.specs.LineTests.{after}
@@ -11,7 +12,7 @@ use Rattle.normal_form.specs.Hunks.{is_marked}
 use Rattle.patch_header.specs.Openings.{begins}
 use Rattle.patch_header.proofs.Fronts.{front, and_left, or_cases, after-front, unified-front, context-front, range-front, normal-range, ed-range}
 use Rattle.text_joins.proofs.Quiet.{LookAlike}
-use Rattle.text_joins.proofs.Solid.{is_no, digit-low, form-front, front-solid, solid-shows, solid-alike}
+use Rattle.text_joins.proofs.Solid.{digit-low, form-front, front-solid, solid-shows, solid-alike}
 use Rattle.patch_header.specs.GitRows.{is_unified}
 
 no-number : (o : Option (List ℕ)) → (is_some o ≡ true → ⊥) → has_number o ≡ false
@@ -21,7 +22,7 @@ no-number (Some x) h = absurd (h refl)
 marked-none : (only : Option Form) (f : Form) (line : List ℕ) (more : List (List ℕ)) → begins only f (line ∷ more) ≡ true → is_marked line ≡ false
 marked-none only f line more h =
     let o = form-front only f line more h in
-    is_no (is_marked line) (λ m. elim (or_cases (is_some (after (60 ∷ 32 ∷ []) line)) (is_some (after (62 ∷ 32 ∷ []) line)) m) [
+    false_from_ne_true (is_marked line) (λ m. elim (or_cases (is_some (after (60 ∷ 32 ∷ []) line)) (is_some (after (62 ∷ 32 ∷ []) line)) m) [
       | inl a ↦ o.no_old (after-front 60 (32 ∷ []) line a)
       | inr a ↦ o.no_new (after-front 62 (32 ∷ []) line a)
     ])
@@ -43,9 +44,9 @@ ranged-none only Ed line more h = let low : 48 ≤ front line = (digit-low (fron
 
 hunk-is : (only : Option Form) (f : Form) (line : List ℕ) (more : List (List ℕ)) → begins only f (line ∷ more) ≡ true → is_opening line ≡ is_unified f
 hunk-is only Unified line more h = h
-hunk-is only Context line more h = is_no (is_opening line) (λ k. let a : front line ≡ 64 = unified-front line k in let b : front line ≡ 42 = context-front line (and_left (is_stars line) _ h) in omega (arith, a, b))
-hunk-is only Normal line more h = is_no (is_opening line) (λ k. let a : front line ≡ 64 = unified-front line k in let b : front line ≤ 57 = (digit-low (front line) (range-front line (normal-range line (and_left _ _ h)))).1 in omega (arith, a, b))
-hunk-is only Ed line more h = is_no (is_opening line) (λ k. let a : front line ≡ 64 = unified-front line k in let b : front line ≤ 57 = (digit-low (front line) (range-front line (ed-range line (and_left _ _ h)))).1 in omega (arith, a, b))
+hunk-is only Context line more h = false_from_ne_true (is_opening line) (λ k. let a : front line ≡ 64 = unified-front line k in let b : front line ≡ 42 = context-front line (and_left (is_stars line) _ h) in omega (arith, a, b))
+hunk-is only Normal line more h = false_from_ne_true (is_opening line) (λ k. let a : front line ≡ 64 = unified-front line k in let b : front line ≤ 57 = (digit-low (front line) (range-front line (normal-range line (and_left _ _ h)))).1 in omega (arith, a, b))
+hunk-is only Ed line more h = false_from_ne_true (is_opening line) (λ k. let a : front line ≡ 64 = unified-front line k in let b : front line ≤ 57 = (digit-low (front line) (range-front line (ed-range line (and_left _ _ h)))).1 in omega (arith, a, b))
 
 none-begins : (only : Option Form) (f : Form) → begins only f [] ≡ true → ⊥
 none-begins only Unified h = absurd cc

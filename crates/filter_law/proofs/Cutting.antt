@@ -1,9 +1,9 @@
 -- Hunks that are cut out of a text and put one behind the other.
-use Rattle.std.proofs.Common.{◌≡◌, ℕ, Bool, true, false, cond, ◌||◌, List, [], ◌∷◌, ◌++◌, map, drop, refl, sym, ap, subst, ◌∙◌, inl}
+use Rattle.std.proofs.Common.{◌≡◌, ℕ, Bool, true, false, cond, ◌||◌, List, [], ◌∷◌, ◌++◌, map, drop, refl, sym, ap, subst, ◌∙◌}
 use Rattle.std.specs.List.{AllByRecursion, flat_map, zip}
 use Rattle.std.proofs.lemmas.List.Concat.{flat_map-cons, flat_map-append}
 use Rattle.std.proofs.lemmas.List.Folds.{list_any-append}
-use Rattle.line_list.specs.Lines.{lines, IsLine, ArePieces}
+use Rattle.line_list.specs.Lines.{lines, IsLine}
 use Rattle.line_list.specs.declared.Span.{Span}
 use Rattle.line_list.proofs.Pieces.{joined, lines-joined}
 use Rattle.hunk_core.specs.PlainHunk.{bytes_at}
@@ -74,12 +74,3 @@ dots-join a b h k = list_any-append is_dot a b ∙ ap (λ v. v || has_dot b) h �
 pub all-both : (a b : List (List ℕ)) → AllByRecursion IsLine (a ++ b) → AllByRecursion IsLine a × AllByRecursion IsLine b
 all-both [] b h = (tt, h)
 all-both (x ∷ a) b h = let more = all-both a b h.1 in ((h.0, more.0), more.1)
-
-pub all-join : (a b : List (List ℕ)) → AllByRecursion IsLine a → AllByRecursion IsLine b → AllByRecursion IsLine (a ++ b)
-all-join [] b h k = k
-all-join (x ∷ a) b h k = (h.0, all-join a b h.1 k)
-
-pub all-pieces : (ls : List (List ℕ)) → AllByRecursion IsLine ls → ArePieces ls
-all-pieces [] h = tt
-all-pieces (line ∷ []) h = inl h.0
-all-pieces (line ∷ next ∷ more) h = (h.0, all-pieces (next ∷ more) h.1)

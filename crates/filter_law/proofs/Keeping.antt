@@ -28,7 +28,7 @@ use Rattle.filter_law.proofs.Cutting.{owns_of, flat}
 
 -- ---- hunks in turn
 
-abbrev Relation : Type 1
+abbrev pub Relation : Type 1
 Relation = ℕ → List (List ℕ) → PlainHunk → Type 0
 
 -- each of these lines spells its hunk, behind one that starts at least

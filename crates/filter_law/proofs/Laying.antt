@@ -25,9 +25,7 @@ use Rattle.patch_text.proofs.EndsLemmas.{spans-end, script-end}
 use Rattle.text_joins.proofs.Places.{skip-lines, lines-within}
 use Rattle.text_joins.proofs.Spelling.{hunk-told, not-there}
 use Rattle.text_joins.proofs.Standing.{some-bytes}
-
-abbrev Relation : Type 1
-Relation = ℕ → List (List ℕ) → PlainHunk → Type 0
+use Rattle.filter_law.proofs.Keeping.{Relation}
 
 -- these lines are these hunks, one behind the other
 Cut : Relation → ℕ → List (List ℕ) → List PlainHunk → Type 0

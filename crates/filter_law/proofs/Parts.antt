@@ -6,6 +6,7 @@ use Rattle.std.proofs.lemmas.List.{append-nil}
 use Rattle.std.proofs.lemmas.List.Concat.{flat_map-append}
 use Rattle.line_list.specs.Lines.{lines, IsLine}
 use Rattle.line_list.proofs.Pieces.{joined, lines-joined}
+use Rattle.line_list.proofs.WholeLines.{lines-both}
 use Rattle.hunk_core.specs.declared.Form.{Form}
 use Rattle.hunk_core.specs.declared.Form.TheVariants.{Ed}
 use Rattle.hunk_core.specs.PlainHunk.{bytes_at}
@@ -43,7 +44,7 @@ use Rattle.text_joins.proofs.Joining.{region-is}
 use Rattle.text_joins.proofs.Standing.{behind_header, header-split}
 use Rattle.filter_law.specs.LeftPatches.{those, kept_change, spot_left}
 use Rattle.filter_law.proofs.Alike.{form-alike}
-use Rattle.filter_law.proofs.Cutting.{owns_of, flat, pieces-have, chosen-lines, dots-both, dots-join, all-both, all-join}
+use Rattle.filter_law.proofs.Cutting.{owns_of, flat, pieces-have, chosen-lines, dots-both, dots-join, all-both}
 use Rattle.filter_law.proofs.Pieces.{kept-piece}
 use Rattle.filter_law.proofs.Laying.{Laid, laid}
 use Rattle.filter_run.specs.Texts.{Spot, spot_written, spot_hunks, spot_bare}
@@ -180,7 +181,7 @@ module _ (j : PlainFilterJob) (ways : Ways) (text : List ℕ) (start number : �
 
     lines-have : AllByRecursion IsLine body × AllByRecursion IsLine (lines (drop end text))
     unfolding body
-    lines-have = pieces-have text (AllByRecursion IsLine) all-both tt all-join h.at lay.ss end (kept j change) lay.turn lay.whole (both place).1
+    lines-have = pieces-have text (AllByRecursion IsLine) all-both tt lines-both h.at lay.ss end (kept j change) lay.turn lay.whole (both place).1
 
     dots-have : has_dot rest ≡ false → (has_dot body ≡ false) × (has_dot (lines (drop end text)) ≡ false)
     unfolding body
@@ -238,7 +239,7 @@ module _ (j : PlainFilterJob) (ways : Ways) (text : List ℕ) (start number : �
         } in
         record {
           own = region ++ body;
-          are_lines = all-join region body (both place).0 lines-have.0;
+          are_lines = lines-both region body (both place).0 lines-have.0;
           bytes = written-is any;
           is = alone;
           dots = λ q. let two = dots-both region rest (ap has_dot (sym (before_it place)) ∙ q) in dots-join region body two.0 (dots-have two.1).0;
@@ -309,7 +310,7 @@ module _ (j : PlainFilterJob) (ways : Ways) (text : List ℕ) (start number : �
         piece-lines text start end (region ++ git) (omega (arith, far, some)) top (before_it place ∙ ap (λ ls. region ++ ls) (bare-split ∙ ap (λ ls. git ++ ls) (sym bare-behind)) ∙ sym (append_assoc region git (lines (drop end text)))) in
         record {
           own = region ++ git;
-          are_lines = all-join region git (both place).0 bare-lines.0;
+          are_lines = lines-both region git (both place).0 bare-lines.0;
           bytes = ap joined (sym inside) ∙ lines-joined (slice_range text start end)
               ∙ sym (ap (λ v. cond v (slice_range text start end) []) asks) ∙ sym (ap (λ v. cond v (spot_bare j text spot) (spot_hunks j text spot)) bare);
           is = alone;

@@ -1,10 +1,11 @@
 -- The hunks of a file patch that are kept, and a script, alone.
 use Rattle.std.proofs.Common.{◌≡◌, ◌+◌, ◌^◌, ℕ, suc, Bool, true, false, cond, ◌||◌, List, [], ◌∷◌, ◌++◌, length, drop, Option, refl, sym, ap, subst, ◌∙◌, arith}
-use Rattle.std.specs.List.{list_any, range_with_len, zip}
+use Rattle.std.specs.List.{list_any}
 use Rattle.std.proofs.lemmas.List.{append-nil, length-map}
 use Rattle.std.proofs.lemmas.List.Concat.{flat_map-cons}
 use Rattle.line_list.specs.Lines.{lines}
 use Rattle.line_list.specs.declared.Span.{Span}
+use Rattle.line_list.proofs.Elements.{numbered-long}
 use Rattle.hunk_core.specs.declared.Form.{Form}
 use Rattle.hunk_core.specs.declared.Form.TheVariants.{Unified, Context, Normal, Ed}
 use Rattle.hunk_core.specs.PlainHunk.{PlainHunk, bytes_at}
@@ -30,12 +31,8 @@ use Rattle.text_joins.proofs.Scripts.{script-begins}
 
 -- ---- as many flags as hunks
 
-zip-size : {A : Type 0} (k : ℕ) (xs : List A) → length (zip (range_with_len k (length xs)) xs) ≡ length xs
-zip-size k [] = refl
-zip-size k (x ∷ xs) = ap suc (zip-size (k + 1) xs)
-
 kept-size : (j : PlainFilterJob) (c : PlainChange) → length (kept j c) ≡ length (old_of_each c)
-kept-size j c = length-map (numbered (old_of_each c)) (λ h. is_kept j h.0 h.1) ∙ zip-size 1 (old_of_each c)
+kept-size j c = length-map (numbered (old_of_each c)) (λ h. is_kept j h.0 h.1) ∙ numbered-long 1 (old_of_each c)
 
 turn-size : (P : ℕ → List (List ℕ) → PlainHunk → Type 0) (text : List ℕ) (least : ℕ) (ss : List Span) (hs : List PlainHunk) → SpellInTurn P text least ss hs → length hs ≡ length ss
 turn-size P text least [] [] h = refl

@@ -5,6 +5,7 @@ use Rattle.std.specs.List.{AllByRecursion, flat_map, range_with_len, zip}
 use Rattle.std.proofs.lemmas.List.Concat.{flat_map-cons, flat_map-append}
 use Rattle.line_list.specs.Lines.{lines, IsLine}
 use Rattle.line_list.proofs.Pieces.{joined, pieces-only}
+use Rattle.line_list.proofs.WholeLines.{whole-pieces, lines-both}
 use Rattle.patch_header.specs.Content.{has_dot}
 use Rattle.patch_header.specs.declared.ways.Ways.{Ways}
 use Rattle.patch_header.proofs.Stands.{and_right}
@@ -16,7 +17,7 @@ use Rattle.text_joins.specs.Joins as joins
 use Rattle.text_joins.specs.Joins.{AddNoDot, BeginCleanly, begin_with_git, Part, all_lines, FitTogether, read_unnumbered}
 use Rattle.text_joins.proofs.Standing.{parts-read}
 use Rattle.filter_law.specs.CleanJoins.{Text, all_bytes, FollowCleanly}
-use Rattle.filter_law.proofs.Cutting.{all-both, all-join, all-pieces, dots-join}
+use Rattle.filter_law.proofs.Cutting.{all-both, dots-join}
 use Rattle.filter_law.proofs.Parts.{Known}
 
 part-lines : (q : Part) (qs : List Part) → all_lines (q ∷ qs) ≡ q.own ++ all_lines qs
@@ -68,7 +69,7 @@ module _ (A : Type 0) (ways : Ways) (text : List ℕ) (left bare : A → Bool) (
             parts = q ∷ more.parts;
             match = (one.bytes, refl, is, more.match);
             alone = (one.is, more.alone);
-            are_lines = subst (AllByRecursion IsLine) (sym (part-lines q more.parts)) (all-join one.own (all_lines more.parts) one.are_lines more.are_lines);
+            are_lines = subst (AllByRecursion IsLine) (sym (part-lines q more.parts)) (lines-both one.own (all_lines more.parts) one.are_lines more.are_lines);
             dots = λ h. ap has_dot (part-lines q more.parts) ∙ dots-join one.own (all_lines more.parts) (one.dots h) (more.dots (it.dots h));
             apart = (λ asks. more.dots (one.asks asks), more.apart);
           }
@@ -110,7 +111,7 @@ module _ (A : Type 0) (ways : Ways) (text : List ℕ) (left bare : A → Bool) (
   fit (q ∷ qs) [] m alone all apart clean = absurd m
   fit (q ∷ qs) (n ∷ ns) m alone all apart clean =
       let later : AllByRecursion IsLine (all_lines qs) = all-behind q qs all in
-      let lines_are : lines (all_bytes (map row ns)) ≡ all_lines qs = ap lines (text-bytes ns ∙ match-bytes qs ns m.3) ∙ pieces-only (all_lines qs) (all-pieces (all_lines qs) later) in
+      let lines_are : lines (all_bytes (map row ns)) ≡ all_lines qs = ap lines (text-bytes ns ∙ match-bytes qs ns m.3) ∙ pieces-only (all_lines qs) (whole-pieces (all_lines qs) later) in
       let is_bare : q.patch.header.bare ≡ bare n.1 = ap (λ (p : PlainPatch). p.header.bare) m.1 ∙ sym m.2 in
       let one : joins.JoinCleanly ways q.own (all_lines qs) q.patch = record {
         begins = subst BeginCleanly lines_are clean.0;
@@ -136,6 +137,6 @@ module _ (A : Type 0) (ways : Ways) (text : List ℕ) (left bare : A → Bool) (
       let w = walk 1 0 all c in
       let total = flat_map (λ (n : ℕ × A). written n.1) (filter taken (numbered all)) in
       let bytes : total ≡ joined (all_lines w.parts) = left-alone none (numbered all) ∙ match-bytes w.parts (filter test (numbered all)) w.match in
-      let lines_are : lines total ≡ all_lines w.parts = ap lines bytes ∙ pieces-only (all_lines w.parts) (all-pieces (all_lines w.parts) w.are_lines) in
+      let lines_are : lines total ≡ all_lines w.parts = ap lines bytes ∙ pieces-only (all_lines w.parts) (whole-pieces (all_lines w.parts) w.are_lines) in
       parts-read ways total w.parts lines_are (fit w.parts (filter test (numbered all)) w.match w.alone w.are_lines w.apart clean)
       ∙ ap (λ ps. Ok ps) (match-patches w.parts (filter test (numbered all)) w.match)

@@ -10,11 +10,11 @@ use Rattle.outside.specs.Calls.{IsUntouched}
 use Rattle.outside.specs.SourceView.{SourceView, SourcePasses}
 use Rattle.outside.specs.SinkView.{SinkView, sink_passes_none}
 use Rattle.hunk_core.specs.Writing.{Puts}
-use Rattle.file_patch.specs.PlainPatch.{PlainPatch}
+use Rattle.file_patch.specs.PlainPatch.{PlainPatch, first_opening}
 use Rattle.flip_patch.specs.declared.fault.FlipFault.{FlipFault}
 use Rattle.flip_patch.specs.declared.fault.FlipFault.TheVariants as flip
 use Rattle.flip_patch.specs.Flipped.{flipped}
-use Rattle.flip_patch.specs.Refusals.{Answers, first_opening, is_script, is_unfit, refused}
+use Rattle.flip_patch.specs.Refusals.{Answers, is_script, is_unfit, refused}
 use Rattle.patch_options.specs.declared.options.Input.{Input}
 use Rattle.patch_input.specs.Input.{IsStandard, TakesAtMost}
 use Rattle.patch_set.specs.declared.fault.SetFault.{SetFault}

@@ -1,5 +1,5 @@
 -- A hunk and the same turned round.
-use Rattle.std.proofs.Common.{◌≡◌, ◌+◌, ◌≤◌, Bool, cond, List, [], ◌∷◌, ◌++◌, length, map, reverse, count_by, refl, sym, ap, ◌∙◌, arith}
+use Rattle.std.proofs.Common.{◌≡◌, ◌+◌, ◌≤◌, cond, List, [], ◌∷◌, ◌++◌, length, map, reverse, count_by, refl, sym, ap, ◌∙◌, arith}
 use Rattle.std.specs.List.{prefix_len}
 use Rattle.std.proofs.lemmas.List.{reverse-append, map-append}
 use Rattle.std.proofs.lemmas.List.Sums.{sum_by-cons}
@@ -7,10 +7,10 @@ use Rattle.hunk_core.specs.declared.Mark.{Mark}
 use Rattle.hunk_core.specs.declared.Mark.TheVariants.{Keep, Drop, Add}
 use Rattle.hunk_core.specs.declared.Side.TheVariants.{Forward, Reversed}
 use Rattle.hunk_core.specs.PlainHunk.{Marked, PlainHunk, old_lines, new_lines}
-use Rattle.hunk_core.specs.Turned.{swapped_line, swapped, is_keep, is_add, is_drop, leading, trailing}
+use Rattle.hunk_core.specs.Turned.{swapped_line, swapped, is_add, is_drop, leading, trailing}
 use Rattle.hunk_place.specs.Verdicts.{adds, drops}
 use Rattle.hunk_core.proofs.SideLemmas.{swapped-lines}
-use Rattle.hunk_core.proofs.TurnedLemmas.{keep-swapped, mark-twice}
+use Rattle.hunk_core.proofs.TurnedLemmas.{keep-swapped, mark-twice, is_kept}
 
 pub swapped-old : (h : PlainHunk) → old_lines (swapped h).body ≡ new_lines h.body
 swapped-old h = swapped-lines Forward h.body
@@ -27,9 +27,6 @@ body-twice (m ∷ ms) = ap (λ (x : Marked). x ∷ map swapped_line (map swapped
 
 pub swapped-twice : (h : PlainHunk) → swapped (swapped h) ≡ h
 swapped-twice h = ap (λ (ms : List Marked). let x : PlainHunk = record { old_start = h.old_start; new_start = h.new_start; body = ms } in x) (body-twice h.body)
-
-abbrev is_kept : Marked → Bool
-is_kept m = is_keep m.mark
 
 front-swapped : (ms : List Marked) → prefix_len is_kept (map swapped_line ms) ≡ prefix_len is_kept ms
 front-swapped [] = refl

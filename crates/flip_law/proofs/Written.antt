@@ -1,12 +1,13 @@
 -- Lists of lines whose joined text is read as the same lines.
-use Rattle.std.proofs.Common.{◌≡◌, ◌⊎◌, inl, inr, ℕ, ◌+◌, ◌≤◌, Bool, true, false, List, [], ◌∷◌, ◌++◌, length, map, refl, sym, ap, subst, ◌∙◌, arith}
+use Rattle.std.proofs.Common.{◌≡◌, inl, inr, ℕ, ◌+◌, ◌≤◌, Bool, true, false, List, [], ◌∷◌, ◌++◌, length, map, refl, sym, ap, subst, ◌∙◌, arith}
 use Rattle.std.specs.List.{AllByRecursion}
 use Rattle.std.proofs.lemmas.List.{length-append}
 use Rattle.std.proofs.lemmas.List.Concat.{flat_map-cons}
 use Rattle.line_list.specs.Join.{feed_if, join, lacks_feed}
-use Rattle.line_list.specs.Lines.{ArePieces, IsLine, IsOpenLine, lines}
-use Rattle.line_list.proofs.JoinLemmas.{join-lines, open-lacks}
+use Rattle.line_list.specs.Lines.{ArePieces, IsLine, lines}
+use Rattle.line_list.proofs.JoinLemmas.{join-lines, open-lacks, join-one}
 use Rattle.line_list.proofs.Pieces.{joined, lines-pieces, pieces-only}
+use Rattle.line_list.proofs.WholeLines.{IsPieceLine, ArePieceLines, front-all, rest-all, pieces-all}
 use Rattle.hunk_core.specs.declared.Mark.{Mark}
 use Rattle.hunk_core.specs.declared.Mark.TheVariants.{Keep, Drop, Add}
 use Rattle.hunk_core.specs.PlainHunk.{Marked, PlainHunk, old_lines, new_lines}
@@ -17,53 +18,30 @@ use Rattle.flip_law.specs.Turnable.{ArePlacedExactly, AreTurnable, HaveLines, ed
 use Rattle.flip_law.proofs.Turned.{both, new-is, undone-law}
 use Rattle.flip_law.proofs.Turns.{Turns}
 
-abbrev pub HasBytes : List ℕ → Type 0
-HasBytes line = IsLine line ⊎ IsOpenLine line
-
-abbrev pub AllHave : List (List ℕ) → Type 0
-AllHave ls = AllByRecursion HasBytes ls
-
-split-front : (xs ys : List (List ℕ)) → AllHave (xs ++ ys) → AllHave xs
-split-front [] ys all = tt
-split-front (x ∷ xs) ys all = (all.0, split-front xs ys all.1)
-
-split-rest : (xs ys : List (List ℕ)) → AllHave (xs ++ ys) → AllHave ys
-split-rest [] ys all = all
-split-rest (x ∷ xs) ys all = split-rest xs ys all.1
-
-together : (xs ys : List (List ℕ)) → AllHave xs → AllHave ys → AllHave (xs ++ ys)
+together : (xs ys : List (List ℕ)) → ArePieceLines xs → ArePieceLines ys → ArePieceLines (xs ++ ys)
 together [] ys all also = also
 together (x ∷ xs) ys all also = (all.0, together xs ys all.1 also)
 
-new-have : (ms : List Marked) → AllByRecursion (λ m. HasBytes m.line) ms → AllHave (new_lines ms)
+new-have : (ms : List Marked) → AllByRecursion (λ m. IsPieceLine m.line) ms → ArePieceLines (new_lines ms)
 new-have [] all = tt
 new-have (m ∷ ms) all = by m.mark all.0 (new-have ms all.1)
   where
-    by : (k : Mark) → HasBytes m.line → AllHave (new_lines ms) → let y : Marked = record { mark = k; line = m.line } in AllHave (new_lines (y ∷ ms))
+    by : (k : Mark) → IsPieceLine m.line → ArePieceLines (new_lines ms) → let y : Marked = record { mark = k; line = m.line } in ArePieceLines (new_lines (y ∷ ms))
     by Keep here again = (here, again)
     by Drop here again = again
     by Add here again = (here, again)
 
-turns-have : (q r : ℕ) (old new : List (List ℕ)) (hs : List PlainHunk) → Turns q r old new hs → AllHave old → HaveLines hs → AllHave new
-turns-have q r old new [] ts all bodies = subst AllHave ts all
+turns-have : (q r : ℕ) (old new : List (List ℕ)) (hs : List PlainHunk) → Turns q r old new hs → ArePieceLines old → HaveLines hs → ArePieceLines new
+turns-have q r old new [] ts all bodies = subst ArePieceLines ts all
 turns-have q r old new (h ∷ hs) (front, (rest, (more, (t, ts)))) all bodies =
-    let whole = subst AllHave t.from all in
-    let behind = split-rest (old_lines h.body) rest (split-rest front (old_lines h.body ++ rest) whole) in
+    let whole = subst ArePieceLines t.from all in
+    let behind = rest-all (old_lines h.body) rest (rest-all front (old_lines h.body ++ rest) whole) in
     let again = turns-have (base h + length (old_lines h.body)) (base (swapped h) + length (new_lines h.body)) rest more hs ts behind bodies.1 in
-    subst AllHave (sym t.to) (together front (new_lines h.body ++ more) (split-front front (old_lines h.body ++ rest) whole) (together (new_lines h.body) more (new-have h.body bodies.0) again))
-
-pieces-have : (ls : List (List ℕ)) → ArePieces ls → AllHave ls
-pieces-have [] p = tt
-pieces-have (l ∷ []) p = (p, tt)
-pieces-have (l ∷ k ∷ ls) p = (inl p.0, pieces-have (k ∷ ls) p.1)
+    subst ArePieceLines (sym t.to) (together front (new_lines h.body ++ more) (front-all front (old_lines h.body ++ rest) whole) (together (new_lines h.body) more (new-have h.body bodies.0) again))
 
 join-more : (l k : List ℕ) (ls : List (List ℕ)) → join (l ∷ k ∷ ls) ≡ (l ++ feed_if (lacks_feed l)) ++ join (k ∷ ls)
 unfolding join
 join-more l k ls = refl
-
-join-one : (l : List ℕ) → join (l ∷ []) ≡ l
-unfolding join
-join-one l = refl
 
 long-more : (l k : List ℕ) (ls : List (List ℕ)) → length (join (l ∷ k ∷ ls)) ≡ length l + length (feed_if (lacks_feed l)) + length (join (k ∷ ls))
 long-more l k ls = ap length (join-more l k ls) ∙ length-append (l ++ feed_if (lacks_feed l)) (join (k ∷ ls)) ∙ ap (λ n. n + length (join (k ∷ ls))) (length-append l (feed_if (lacks_feed l)))
@@ -81,12 +59,12 @@ feeds-none : (b : Bool) → length (feed_if b) ≡ 0 → b ≡ false
 feeds-none true e = absurd (omega (arith, e))
 feeds-none false e = refl
 
-whole-line : (l : List ℕ) → HasBytes l → lacks_feed l ≡ false → IsLine l
+whole-line : (l : List ℕ) → IsPieceLine l → lacks_feed l ≡ false → IsLine l
 whole-line l (inl is) e = is
 whole-line l (inr open_) e = let bad : true ≡ false = sym (open-lacks l open_) ∙ e in absurd (cc)
 
 -- where it adds nothing, each line but the last has its line feed
-pieces-joined : (ls : List (List ℕ)) → AllHave ls → length (join ls) ≡ length (joined ls) → ArePieces ls
+pieces-joined : (ls : List (List ℕ)) → ArePieceLines ls → length (join ls) ≡ length (joined ls) → ArePieces ls
 pieces-joined [] all e = tt
 pieces-joined (l ∷ []) all e = all.0
 pieces-joined (l ∷ k ∷ ls) all e =
@@ -103,7 +81,7 @@ pub read-law : (text : List ℕ) (fuzz : ℕ) (hs : List PlainHunk) → ArePlace
 read-law text fuzz hs e t bodies same =
     let w = both (lines text) fuzz hs e t in
     let new : List (List ℕ) = spliced (lines text) (edits_in (lines text) fuzz hs) in
-    let have : AllHave new = subst AllHave (sym (new-is (lines text) w.0 fuzz hs e w.1)) (turns-have 1 1 (lines text) w.0 hs w.1 (pieces-have (lines text) (lines-pieces text)) bodies) in
+    let have : ArePieceLines new = subst ArePieceLines (sym (new-is (lines text) w.0 fuzz hs e w.1)) (turns-have 1 1 (lines text) w.0 hs w.1 (pieces-all (lines text) (lines-pieces text)) bodies) in
     ap lines (applied-join (lines text) fuzz hs ∙ same) ∙ pieces-only new (pieces-joined new have (ap length same))
 
 pub text-law : (text : List ℕ) (fuzz most : ℕ) (hs : List PlainHunk) → ArePlacedExactly (lines text) fuzz hs → AreTurnable hs → HaveLines hs

@@ -16,6 +16,7 @@ use Rattle.hunk_core.specs.Pieces.{SpellInTurn}
 use Rattle.line_list.specs.Lines.{lines}
 use Rattle.normal_form.specs.Canonical.{are_added, drops_come_first}
 use Rattle.normal_form.specs.Grammar.{SpellsHunk, on_side}
+use Rattle.normal_form.proofs.WritingLemmas.{added-nil}
 use Rattle.patch_text.specs.Changes.{Spells}
 use Rattle.flip_patch.specs.Ordered.{IsOrdered}
 
@@ -31,10 +32,6 @@ behind-drops : (l : HunkLine) (ls : List HunkLine) → l.mark ≡ Add → are_ad
 unfolding drops_come_first
 behind-drops l ls e again = ap (λ k. cond (is_drop k) (drops_come_first ls) (are_added (l ∷ ls))) e ∙ again
 
-none-added : are_added [] ≡ true
-unfolding are_added
-none-added = refl
-
 none-dropped : drops_come_first [] ≡ true
 unfolding drops_come_first
 none-dropped = refl
@@ -46,7 +43,7 @@ behind-first : (m n : Marked) (ms ns : List Marked) → m ∷ ms ≡ n ∷ ns �
 behind-first m n ms ns e = cc
 
 adds : (text : List ℕ) (ls : List HunkLine) (news : List (List ℕ)) → body_of text ls ≡ on_side Reversed news → are_added ls ≡ true
-adds text [] news e = none-added
+adds text [] news e = added-nil
 adds text (l ∷ ls) [] e = absurd (cc)
 adds text (l ∷ ls) (n ∷ news) e =
     added-step l ls (mark-first (marked_of text l) _ (body_of text ls) (on_side Reversed news) e) (adds text ls news (behind-first (marked_of text l) _ (body_of text ls) (on_side Reversed news) e))

@@ -10,11 +10,12 @@ use Rattle.file_patch.specs.declared.Change.{Change}
 use Rattle.file_patch.specs.declared.Change.TheVariants.{Hunks, Script}
 use Rattle.file_patch.specs.declared.FilePatch.{FilePatch}
 use Rattle.file_patch.specs.Actions.{is_moved}
-use Rattle.file_patch.specs.PlainPatch.{PlainPatch, change_of, patch_of, is_script}
+use Rattle.file_patch.specs.PlainPatch.{PlainPatch, change_of, patch_of, is_script, first_opening}
 use Rattle.flip_patch.specs.declared.fault.FlipFault.TheVariants.{EdReverse, Unfit}
-use Rattle.flip_patch.specs.Refusals.{first_opening, is_unfit, new_starts, refused, starts_fall, told_script, told_starts, told_unfit}
+use Rattle.flip_patch.specs.Refusals.{is_unfit, new_starts, refused, starts_fall, told_starts, told_unfit}
+use Rattle.patch_set.specs.Looks.{is_script_change}
 
-script-told : (text : List ℕ) (c : Change) → is_script (change_of text c) ≡ told_script c
+script-told : (text : List ℕ) (c : Change) → is_script (change_of text c) ≡ is_script_change c
 script-told text (Hunks hs) = refl
 script-told text (Script s) = refl
 
@@ -41,13 +42,13 @@ first-told test told text same (p ∷ ps) =
     by false again = again
 
 -- the refusal, by the first ed script and the first file patch that doesn't fit
-refused-is : (text : List ℕ) (ps : List FilePatch) → refused (map (patch_of text) ps) ≡ option_or (option_map EdReverse (option_map (λ p. p.header.opening) (find (λ p. told_script p.change) ps))) (option_map Unfit (option_map (λ p. p.header.opening) (find told_unfit ps)))
+refused-is : (text : List ℕ) (ps : List FilePatch) → refused (map (patch_of text) ps) ≡ option_or (option_map EdReverse (option_map (λ p. p.header.opening) (find (λ p. is_script_change p.change) ps))) (option_map Unfit (option_map (λ p. p.header.opening) (find told_unfit ps)))
 refused-is text ps =
-    ap (λ o. option_or (option_map EdReverse o) (option_map Unfit (first_opening is_unfit (map (patch_of text) ps)))) (first-told (λ p. is_script p.change) (λ p. told_script p.change) text (λ p. script-told text p.change) ps)
-    ∙ ap (λ o. option_or (option_map EdReverse (option_map (λ p. p.header.opening) (find (λ p. told_script p.change) ps))) (option_map Unfit o)) (first-told is_unfit told_unfit text (unfit-told text) ps)
+    ap (λ o. option_or (option_map EdReverse o) (option_map Unfit (first_opening is_unfit (map (patch_of text) ps)))) (first-told (λ p. is_script p.change) (λ p. is_script_change p.change) text (λ p. script-told text p.change) ps)
+    ∙ ap (λ o. option_or (option_map EdReverse (option_map (λ p. p.header.opening) (find (λ p. is_script_change p.change) ps))) (option_map Unfit o)) (first-told is_unfit told_unfit text (unfit-told text) ps)
 
 abbrev script_line : List FilePatch → Option ℕ
-script_line ps = option_map (λ p. p.header.opening) (find (λ p. told_script p.change) ps)
+script_line ps = option_map (λ p. p.header.opening) (find (λ p. is_script_change p.change) ps)
 
 abbrev unfit_line : List FilePatch → Option ℕ
 unfit_line ps = option_map (λ p. p.header.opening) (find told_unfit ps)

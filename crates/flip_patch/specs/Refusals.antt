@@ -1,5 +1,5 @@
 -- Which file patches can't be turned round, and what is said of the first one.
-use Rattle.std.specs.Prelude.{◌≡◌, ℕ, Bool, true, false, nat_lt, ◌||◌, List, [], ◌∷◌, Option, None, Some, map, option_map, find, Result, Err, IfErr}
+use Rattle.std.specs.Prelude.{◌≡◌, ℕ, Bool, false, nat_lt, ◌||◌, List, [], ◌∷◌, Option, None, Some, map, option_map, Result, Err, IfErr}
 use Rattle.std.specs.Option.{option_or}
 use Rattle.outside.specs.SinkView.{SinkView}
 use Rattle.hunk_core.specs.Writing.{Puts}
@@ -7,7 +7,7 @@ use Rattle.file_patch.specs.Actions.{is_moved}
 use Rattle.file_patch.specs.declared.Change.{Change}
 use Rattle.file_patch.specs.declared.Change.TheVariants.{Hunks, Script}
 use Rattle.file_patch.specs.declared.FilePatch.{FilePatch}
-use Rattle.file_patch.specs.PlainPatch.{PlainChange, PlainPatch, hunks, script}
+use Rattle.file_patch.specs.PlainPatch.{PlainChange, PlainPatch, hunks, script, first_opening}
 pub use Rattle.file_patch.specs.PlainPatch.{is_script}
 use Rattle.flip_patch.specs.declared.fault.FlipFault.{FlipFault}
 use Rattle.flip_patch.specs.declared.fault.FlipFault.TheVariants.{EdReverse, Unfit, Write}
@@ -27,21 +27,12 @@ new_starts (script es) = []
 abbrev pub is_unfit : PlainPatch → Bool
 is_unfit p = p.header.bare || (is_moved p.header.action || starts_fall (new_starts p.change))
 
--- the same, told by the file patch itself
-abbrev pub told_script : Change → Bool
-told_script (Hunks hs) = false
-told_script (Script s) = true
-
 abbrev pub told_starts : Change → List ℕ
 told_starts (Hunks hs) = map (λ h. h.new_start) hs.items
 told_starts (Script s) = []
 
 abbrev pub told_unfit : FilePatch → Bool
 told_unfit p = p.header.bare || (is_moved p.header.action || starts_fall (told_starts p.change))
-
--- the line of the opening of the first one that passes
-abbrev pub first_opening : (PlainPatch → Bool) → List PlainPatch → Option ℕ
-first_opening test ps = option_map (λ p. p.header.opening) (find test ps)
 
 -- why these file patches aren't turned round; an ed script comes first, wherever it stands
 abbrev pub refused : List PlainPatch → Option FlipFault

@@ -2,14 +2,15 @@
 
 ghost use Rattle.std.specs.Prelude.{◌≡◌, ℕ, List, find, map, option_map};
 ghost use Rattle.file_patch.specs.PlainPatch.{patch_of};
-ghost use Rattle.flip_patch.specs.Refusals.{refused, starts_fall, told_script, told_starts, told_unfit};
+ghost use Rattle.flip_patch.specs.Refusals.{refused, starts_fall, told_starts, told_unfit};
+ghost use Rattle.patch_set.specs.Looks.{is_script_change};
 
 use crate::fault::FlipFault;
 use file_patch::{Change, FilePatch};
 use hunk_core::Hunk;
 
 fn is_script(patch: &FilePatch) -> bool
-    ensures { result ≡ told_script patch.now.change }
+    ensures { result ≡ is_script_change patch.now.change }
 {
     match &patch.change {
         Change::Hunks(_) => false,
@@ -52,7 +53,7 @@ fn is_unfit(patch: &FilePatch) -> bool
 
 /// The opening of the first ed script.
 fn first_script(patches: &[FilePatch]) -> Option<u64>
-    ensures { result ≡ option_map (λ p. p.header.opening) (find (λ p. told_script p.change) patches.now) }
+    ensures { result ≡ option_map (λ p. p.header.opening) (find (λ p. is_script_change p.change) patches.now) }
 {
     let patch = patches.iter().find(|patch| is_script(patch))?;
     Some(patch.header.opening)

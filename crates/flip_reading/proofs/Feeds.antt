@@ -1,14 +1,14 @@
 -- The lines of a hunk that was read have a line feed at most at their ends.
-use Rattle.std.proofs.Common.{◌≡◌, ◌⊎◌, inl, inr, ℕ, zero, suc, ◌-◌, ◌<◌, Bool, true, false, cond, List, [], ◌∷◌, ◌++◌, length, take, map, refl, sym, ap, subst, ◌∙◌, arith}
+use Rattle.std.proofs.Common.{◌≡◌, ◌⊎◌, inl, inr, ℕ, suc, ◌-◌, ◌<◌, Bool, true, false, cond, List, [], ◌∷◌, ◌++◌, length, take, refl, sym, ap, subst, ◌∙◌, arith}
 use Rattle.std.specs.List.{AllByRecursion}
 use Rattle.std.proofs.Math.Seq.{take-append_seam}
 use Rattle.std.proofs.lemmas.List.{length-append}
-use Rattle.line_list.specs.Lines.{ArePieces, IsLine, IsOpenLine}
+use Rattle.line_list.specs.Lines.{ArePieces, IsLine}
+use Rattle.line_list.proofs.WholeLines.{IsPieceLine, ArePieceLines, pieces-all, front-all, rest-all, no-feed-take, NoFeed}
 use Rattle.hunk_core.specs.Rules.{HasNoInnerFeed}
 use Rattle.hunk_core.specs.LineTests.{unended}
 use Rattle.hunk_core.specs.PlainHunk.{Marked, PlainHunk}
 use Rattle.hunk_core.specs.Sides.{is_on_side}
-use Rattle.hunk_core.specs.Turned.{swapped_line}
 use Rattle.hunk_core.specs.declared.Mark.{Mark}
 use Rattle.hunk_core.specs.declared.Mark.TheVariants.{Keep, Drop, Add}
 use Rattle.hunk_core.specs.declared.Side.{Side}
@@ -21,53 +21,29 @@ use Rattle.normal_form.specs.Stretches.{marks}
 use Rattle.context_form.specs.Grammar as context
 use Rattle.context_form.specs.Merging.{part_of}
 use Rattle.flip_reading.proofs.Lines.{closed}
-use Rattle.flip_reading.proofs.Shown.{Clean, line-clean, line-parts}
+use Rattle.flip_reading.proofs.Shown.{line-clean, line-parts}
 
 -- a line feed at most as the last byte
 abbrev pub NoInner : List ℕ → Type 0
-NoInner bs = Clean (take (length bs - 1) bs)
+NoInner bs = NoFeed (take (length bs - 1) bs)
 
-abbrev pub IsPieceLine : List ℕ → Type 0
-IsPieceLine line = IsLine line ⊎ IsOpenLine line
-
-abbrev pub ArePieceLines : List (List ℕ) → Type 0
-ArePieceLines ls = AllByRecursion IsPieceLine ls
-
-pub pieces-all : (ls : List (List ℕ)) → ArePieces ls → ArePieceLines ls
-pieces-all [] p = tt
-pieces-all (l ∷ []) p = (p, tt)
-pieces-all (l ∷ k ∷ ls) p = (inl p.0, pieces-all (k ∷ ls) p.1)
-
-front-all : (xs ys : List (List ℕ)) → ArePieceLines (xs ++ ys) → ArePieceLines xs
-front-all [] ys all = tt
-front-all (x ∷ xs) ys all = (all.0, front-all xs ys all.1)
-
-rest-all : (xs ys : List (List ℕ)) → ArePieceLines (xs ++ ys) → ArePieceLines ys
-rest-all [] ys all = all
-rest-all (x ∷ xs) ys all = rest-all xs ys all.1
-
-clean-take : (n : ℕ) (bs : List ℕ) → Clean bs → Clean (take n bs)
-clean-take zero bs all = tt
-clean-take (suc n) [] all = tt
-clean-take (suc n) (b ∷ bs) all = (all.0, clean-take n bs all.1)
-
-closed-inner : (bs : List ℕ) → Clean bs → NoInner (closed bs)
+closed-inner : (bs : List ℕ) → NoFeed bs → NoInner (closed bs)
 closed-inner bs all =
     let long : length (closed bs) - 1 ≡ length bs = omega (arith, length-append bs (10 ∷ [])) in
-    subst Clean (sym (ap (λ n. take n (closed bs)) long ∙ take-append_seam bs (10 ∷ []))) all
+    subst NoFeed (sym (ap (λ n. take n (closed bs)) long ∙ take-append_seam bs (10 ∷ []))) all
 
 piece-inner : (line : List ℕ) → IsPieceLine line → NoInner line
 piece-inner line (inl is) = let p = line-parts line is in subst NoInner (sym p.1) (closed-inner p.0 (line-clean p.0 (subst IsLine p.1 is)))
-piece-inner line (inr is) = clean-take (length line - 1) line is.1
+piece-inner line (inr is) = no-feed-take (length line - 1) line is.1
 
 inner-tail : (b : ℕ) (bs : List ℕ) → NoInner (b ∷ bs) → NoInner bs
 inner-tail b [] all = tt
 inner-tail b (c ∷ cs) all =
     let e : length (b ∷ c ∷ cs) - 1 ≡ suc (length (c ∷ cs) - 1) = omega arith in
-    (subst (λ n. Clean (take n (b ∷ c ∷ cs))) e all).1
+    (subst (λ n. NoFeed (take n (b ∷ c ∷ cs))) e all).1
 
 inner-unended : (bs : List ℕ) → NoInner bs → NoInner (take (length bs - 1) bs)
-inner-unended bs all = clean-take (length (take (length bs - 1) bs) - 1) (take (length bs - 1) bs) all
+inner-unended bs all = no-feed-take (length (take (length bs - 1) bs) - 1) (take (length bs - 1) bs) all
 
 -- ---- the unified form
 
@@ -219,7 +195,3 @@ context-feeds least own behind h s p =
     (context-half Reversed s.new s.old h.body s.new_part (rest-all s.old (s.new_line ∷ s.new) all).1)
 
 -- ---- turned round
-
-pub swapped-feeds : (body : List Marked) → AllByRecursion HasNoInnerFeed body → AllByRecursion HasNoInnerFeed (map swapped_line body)
-swapped-feeds [] all = tt
-swapped-feeds (m ∷ body) all = (all.0, swapped-feeds body all.1)

@@ -6,6 +6,7 @@ use Rattle.std.proofs.lemmas.Grind.{flat_map-append}
 use Rattle.std.proofs.lemmas.List.{map-append}
 use Rattle.line_list.specs.Lines.{IsLine}
 use Rattle.line_list.proofs.Pieces.{joined}
+use Rattle.line_list.proofs.WholeLines.{NoFeed, no-feed-both}
 use Rattle.hunk_core.specs.declared.Form.{Form}
 use Rattle.hunk_core.specs.declared.Form.TheVariants.{Unified, Context, Normal, Ed}
 use Rattle.hunk_core.specs.declared.Side.TheVariants.{Reversed}
@@ -29,14 +30,14 @@ use Rattle.flip_reading.proofs.Hunks.{IsHunkForm}
 use Rattle.flip_reading.proofs.Names.{text_or_none}
 use Rattle.flip_reading.proofs.Lines.{Kind, Minus, Plus, Stars, Index, line_of, mark, quiet-line}
 use Rattle.flip_reading.proofs.Region.{IsShown}
-use Rattle.flip_reading.proofs.Shown.{AreRows, Clean, CleanIn, Shows, clean-both, name-shows, opt_line, region-rows}
+use Rattle.flip_reading.proofs.Shown.{AreRows, CleanIn, Shows, name-shows, opt_line, region-rows}
 
 -- ---- lines of heads
 
 abbrev pub AreClean : List Head → Type 0
-AreClean hs = AllByRecursion (λ (h : Head). Clean h.1) hs
+AreClean hs = AllByRecursion (λ (h : Head). NoFeed h.1) hs
 
-mark-clean : (k : Kind) → Clean (mark k)
+mark-clean : (k : Kind) → NoFeed (mark k)
 mark-clean Minus = ((λ e. cc), ((λ e. cc), ((λ e. cc), ((λ e. cc), tt))))
 mark-clean Plus = ((λ e. cc), ((λ e. cc), ((λ e. cc), ((λ e. cc), tt))))
 mark-clean Stars = ((λ e. cc), ((λ e. cc), ((λ e. cc), ((λ e. cc), tt))))
@@ -44,7 +45,7 @@ mark-clean Index = ((λ e. cc), ((λ e. cc), ((λ e. cc), ((λ e. cc), ((λ e. c
 
 pub heads-whole : (hs : List Head) → AreClean hs → AllByRecursion IsLine (head_lines hs)
 heads-whole [] all = tt
-heads-whole (h ∷ hs) all = (closes (mark h.0 ++ h.1) (clean-both (mark h.0) h.1 (mark-clean h.0) all.0), heads-whole hs all.1)
+heads-whole (h ∷ hs) all = (closes (mark h.0 ++ h.1) (no-feed-both (mark h.0) h.1 (mark-clean h.0) all.0), heads-whole hs all.1)
 
 pub heads-quiet : (ways : Ways) (hs : List Head) (rest : List (List ℕ)) → AreQuiet ways (head_lines hs) rest
 heads-quiet ways [] rest = tt

@@ -5,6 +5,7 @@ use Rattle.std.specs.List.{AllByRecursion}
 use Rattle.std.specs.Option.{option_map_or, option_or}
 use Rattle.std.proofs.lemmas.List.{append-nil, map-append, reverse-append}
 use Rattle.line_list.proofs.Pieces.{joined}
+use Rattle.line_list.proofs.WholeLines.{NoFeed}
 use Rattle.hunk_core.specs.declared.Form.{Form}
 use Rattle.hunk_core.specs.LineTests.{after}
 use Rattle.stamp.specs.declared.Stamp.{Stamp}
@@ -23,7 +24,7 @@ use Rattle.text_joins.proofs.HeaderLines.{all-reverse}
 use Rattle.patch_header.specs.Written.{holds_space, name_end}
 use Rattle.flip_reading.proofs.Lines.{Kind, Minus, Plus, Stars, Index, content-closed, git-none, line_of, mark}
 use Rattle.flip_reading.proofs.Names.{index-clean, said-again, tab_if, text_or_none}
-use Rattle.flip_reading.proofs.Shown.{Clean, CleanIn, opt_line}
+use Rattle.flip_reading.proofs.Shown.{CleanIn, opt_line}
 
 abbrev pub Head : Type 0
 Head = Kind × List ℕ
@@ -304,4 +305,4 @@ index-read true name o index e h =
 
 pub index-of-clean : (v : Bool) (name : List ℕ) (o index : Option (List ℕ)) → index ≡ name_said o → CleanIn o → (v ≡ true → name ≡ text_or_none index) → CleanIn (index-of v name)
 index-of-clean false name o index e clean h = tt
-index-of-clean true name o index e clean h = subst (λ n. Clean (n ++ tab_if n)) (sym (h refl ∙ ap text_or_none e)) (index-clean o clean)
+index-of-clean true name o index e clean h = subst (λ n. NoFeed (n ++ tab_if n)) (sym (h refl ∙ ap text_or_none e)) (index-clean o clean)

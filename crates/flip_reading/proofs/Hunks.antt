@@ -6,8 +6,10 @@ use Rattle.std.proofs.lemmas.Bool.Decides.{nat_tests}
 use Rattle.std.proofs.lemmas.Grind.{flat_map-append}
 use Rattle.std.proofs.lemmas.List.{append-nil, append_cancel_right, length-map}
 use Rattle.std.proofs.lemmas.List.Concat.{flat_map-cons}
+use Rattle.std.proofs.Math.Bool.{or_comm}
 use Rattle.line_list.specs.Lines.{ArePieces, IsLine, lines}
 use Rattle.line_list.proofs.Pieces.{joined, line-open, lines-joined, lines-pieces}
+use Rattle.line_list.proofs.WholeLines.{lines-both}
 use Rattle.hunk_core.specs.declared.Form.{Form}
 use Rattle.hunk_core.specs.declared.Form.TheVariants.{Unified, Context, Normal, Ed}
 use Rattle.hunk_core.specs.declared.Side.TheVariants.{Forward, Reversed}
@@ -18,6 +20,7 @@ use Rattle.hunk_core.specs.PlainHunk.{PlainHunk, old_lines, new_lines}
 use Rattle.hunk_core.specs.Rules.{HasNoInnerFeed, first_broken, lacks_inner_end, runs_over, starts_at_zero}
 use Rattle.hunk_core.specs.Turned.{swapped, swapped_line}
 use Rattle.hunk_core.proofs.SideLemmas.{swapped-lines}
+use Rattle.hunk_core.proofs.TurnedLemmas.{swapped-feeds}
 use Rattle.unified_form.specs.Grammar as unified
 use Rattle.unified_form.proofs.Again as unified_again
 use Rattle.normal_form.specs.Grammar as normal
@@ -35,7 +38,6 @@ use Rattle.flip_patch.specs.Flipped.{hunk_text}
 use Rattle.flip_patch.specs.Refusals.{starts_fall}
 use Rattle.text_joins.proofs.Spelling.{hunk-told, not-there}
 use Rattle.flip_reading.specs.TurnedPatches.{as_shown}
-use Rattle.flip_reading.proofs.Feeds.{swapped-feeds}
 use Rattle.flip_reading.proofs.Shown.{front-whole}
 
 -- ---- no rule is broken
@@ -46,21 +48,15 @@ first_of a b c d = cond a (Some NoLines) (cond b (Some Start) (cond c (Some Sum)
 same-first : (a b c d e f g h : Bool) → a ≡ e → b ≡ f → c ≡ g → d ≡ h → first_of a b c d ≡ first_of e f g h
 same-first a b c d e f g h p q r s = rw (p, q, r, s) refl
 
-turn-or : (a b : Bool) → (a || b) ≡ (b || a)
-turn-or true true = refl
-turn-or true false = refl
-turn-or false true = refl
-turn-or false false = refl
-
 swapped-unbroken : (h : PlainHunk) → first_broken h ≡ None → first_broken (swapped h) ≡ None
 swapped-unbroken h e =
     let olds : old_lines (map swapped_line h.body) ≡ new_lines h.body = swapped-lines Forward h.body in
     let news : new_lines (map swapped_line h.body) ≡ old_lines h.body = swapped-lines Reversed h.body in
     same-first _ _ _ _ _ _ _ _
     (ap (λ n. eqb n 0) (length-map h.body swapped_line))
-    (ap (λ ls. starts_at_zero h.new_start ls || starts_at_zero h.old_start (new_lines (map swapped_line h.body))) olds ∙ ap (λ ls. starts_at_zero h.new_start (new_lines h.body) || starts_at_zero h.old_start ls) news ∙ turn-or (starts_at_zero h.new_start (new_lines h.body)) (starts_at_zero h.old_start (old_lines h.body)))
-    (ap (λ ls. runs_over h.new_start ls || runs_over h.old_start (new_lines (map swapped_line h.body))) olds ∙ ap (λ ls. runs_over h.new_start (new_lines h.body) || runs_over h.old_start ls) news ∙ turn-or (runs_over h.new_start (new_lines h.body)) (runs_over h.old_start (old_lines h.body)))
-    (ap (λ ls. lacks_inner_end ls || lacks_inner_end (new_lines (map swapped_line h.body))) olds ∙ ap (λ ls. lacks_inner_end (new_lines h.body) || lacks_inner_end ls) news ∙ turn-or (lacks_inner_end (new_lines h.body)) (lacks_inner_end (old_lines h.body)))
+    (ap (λ ls. starts_at_zero h.new_start ls || starts_at_zero h.old_start (new_lines (map swapped_line h.body))) olds ∙ ap (λ ls. starts_at_zero h.new_start (new_lines h.body) || starts_at_zero h.old_start ls) news ∙ or_comm (starts_at_zero h.new_start (new_lines h.body)) (starts_at_zero h.old_start (old_lines h.body)))
+    (ap (λ ls. runs_over h.new_start ls || runs_over h.old_start (new_lines (map swapped_line h.body))) olds ∙ ap (λ ls. runs_over h.new_start (new_lines h.body) || runs_over h.old_start ls) news ∙ or_comm (runs_over h.new_start (new_lines h.body)) (runs_over h.old_start (old_lines h.body)))
+    (ap (λ ls. lacks_inner_end ls || lacks_inner_end (new_lines (map swapped_line h.body))) olds ∙ ap (λ ls. lacks_inner_end (new_lines h.body) || lacks_inner_end ls) news ∙ or_comm (lacks_inner_end (new_lines h.body)) (lacks_inner_end (old_lines h.body)))
     ∙ e
 
 -- a hunk that keeps the rules and whose lines have no inner line feed
@@ -211,10 +207,6 @@ pub rising : (ss : List ℕ) → starts_fall ss ≡ false → Rising 0 ss
 rising [] e = tt
 rising (s ∷ ss) e = (omega arith, rising-behind s ss e)
 
-pub whole-both : (xs ys : List (List ℕ)) → AllByRecursion IsLine xs → AllByRecursion IsLine ys → AllByRecursion IsLine (xs ++ ys)
-whole-both [] ys a b = b
-whole-both (x ∷ xs) ys a b = (a.0, whole-both xs ys a.1 b)
-
 -- the lines of written hunks
 pub record IsBody (form : Form) (least : ℕ) (hs : List PlainHunk) (body : List (List ℕ)) : Type 0 where
   pub whole : AllByRecursion IsLine body
@@ -250,7 +242,7 @@ body-of form least (h ∷ hs) is good rises =
     let spelled = w.1.spell least (later.0 ++ []) rises.0 behind_quiet in (
       w.0 ++ later.0,
       record {
-        whole = whole-both w.0 later.0 w.1.are.whole later.1.whole;
+        whole = lines-both w.0 later.0 w.1.are.whole later.1.whole;
         is = flat_map-cons (hunk_text form) h hs ∙ ap (λ (x : List ℕ). x ++ flat_map (hunk_text form) hs) w.1.are.is ∙ ap (λ (x : List ℕ). joined w.0 ++ x) later.1.is ∙ sym (flat_map-append (λ (l : List ℕ). l) w.0 later.0);
         chain = (w.0, later.0, refl, spelled, chain-same form h hs later.0 later.1.chain);
         quiet = quiet-first form least w.0 (later.0 ++ []) later.0 (as_shown form h) spelled;

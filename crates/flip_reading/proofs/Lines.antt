@@ -1,8 +1,9 @@
 -- The lines of a written header: nothing opens at them, and nothing goes on with them.
-use Rattle.std.proofs.Common.{◌≡◌, ℕ, ◌-◌, Bool, true, false, cond, ◌&&◌, List, [], ◌∷◌, ◌++◌, length, take, Option, None, refl, ap, ◌∙◌, arith}
+use Rattle.std.proofs.Common.{◌≡◌, ℕ, ◌-◌, true, false, cond, List, [], ◌∷◌, ◌++◌, length, take, Option, None, refl, ap, ◌∙◌, arith}
 use Rattle.std.specs.Prelude.{codes}
 use Rattle.std.proofs.Math.Seq.{take-append_seam}
 use Rattle.std.proofs.lemmas.List.{length-append}
+use Rattle.std.proofs.lemmas.Bool.{and_right}
 use Rattle.hunk_core.specs.declared.Form.{Form}
 use Rattle.hunk_core.specs.declared.Form.TheVariants.{Unified, Context, Normal, Ed}
 use Rattle.hunk_core.specs.LineTests.{after, ends_line}
@@ -66,10 +67,6 @@ begins-none only Index Context bs more = refl
 begins-none only Index Normal bs more = refl
 begins-none only Index Ed bs more = refl
 
-and-none : (a b : Bool) → b ≡ false → (a && b) ≡ false
-and-none true b e = e
-and-none false b e = refl
-
 binary-none : (k : Kind) (bs : List ℕ) → is_binary (line_of k bs) ≡ false
 unfolding after
 binary-none Minus bs = rw (content-closed (mark Minus ++ bs)) refl
@@ -92,8 +89,8 @@ bare-none k bs more = rw (git-none k bs) refl
 pub quiet-line : (ways : Ways) (k : Kind) (bs : List ℕ) (more : List (List ℕ)) → stop_at ways (line_of k bs ∷ more) ≡ None
 quiet-line ways k bs more =
     (nothing-words ways (line_of k bs ∷ more)).1 (
-      λ f. and-none _ (begins ways.only f (line_of k bs ∷ more)) (begins-none ways.only k f bs more),
-      and-none _ (is_binary (line_of k bs)) (binary-none k bs),
+      λ f. and_right _ (begins ways.only f (line_of k bs ∷ more)) (begins-none ways.only k f bs more),
+      and_right _ (is_binary (line_of k bs)) (binary-none k bs),
       stops-not ways (line_of k bs ∷ more) (bare-none k bs more),
     )
 

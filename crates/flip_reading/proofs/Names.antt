@@ -6,11 +6,13 @@ use Rattle.std.specs.Option.{option_map_or}
 use Rattle.std.proofs.Math.Seq.{take-append_seam}
 use Rattle.std.proofs.lemmas.Bool.Decides.{nat_tests}
 use Rattle.std.proofs.lemmas.List.{append-nil, length-append}
+use Rattle.std.proofs.lemmas.Bool.{or_parts}
 use Rattle.patch_header.specs.Values.{blanks, first, is_blank, name_length, unblanked}
 use Rattle.text_joins.specs.Said.{bytes_before, name_said}
-use Rattle.text_joins.proofs.HeaderLines.{first-short}
+use Rattle.text_joins.proofs.HeaderLines.{first-short, name-short}
 use Rattle.patch_header.specs.Written.{holds_space}
-use Rattle.flip_reading.proofs.Shown.{Clean, CleanIn, blanks-none, clean-both, clean-drop, either-no, first-is, name-short, not-blank}
+use Rattle.flip_reading.proofs.Shown.{CleanIn, blanks-none, clean-drop, first-is, not-blank}
+use Rattle.line_list.proofs.WholeLines.{no-feed-take, NoFeed, no-feed-both}
 
 -- a tab behind a name with a space
 abbrev pub tab_if : List ℕ → List ℕ
@@ -43,7 +45,7 @@ passing-ends p (b ∷ bs) c all stop = let again : prefix_len p (bs ++ c ∷ [])
 
 no-spaces : (bs : List ℕ) → list_any (λ b. eqb b 32) bs ≡ false → Passing (λ b. not (eqb b 32)) bs
 no-spaces [] e = tt
-no-spaces (b ∷ bs) e = let both = either-no (eqb b 32) (list_any (λ c. eqb c 32) bs) e in (ap not both.0, no-spaces bs both.1)
+no-spaces (b ∷ bs) e = let both = or_parts (eqb b 32) (list_any (λ c. eqb c 32) bs) e in (ap not both.0, no-spaces bs both.1)
 
 abbrev pub NoTab : List ℕ → Type 0
 NoTab bs = Passing (λ b. not (eqb b 9)) bs
@@ -118,25 +120,20 @@ said-again (Some bs) = by (eqb (name_length (unblanked bs)) 0) refl
 
 -- ---- without line feeds
 
-clean-take : (n : ℕ) (bs : List ℕ) → Clean bs → Clean (take n bs)
-clean-take zero bs all = tt
-clean-take (suc n) [] all = tt
-clean-take (suc n) (b ∷ bs) all = (all.0, clean-take n bs all.1)
-
-clean-tab : (v : Bool) → Clean (cond v (9 ∷ []) [])
+clean-tab : (v : Bool) → NoFeed (cond v (9 ∷ []) [])
 clean-tab true = ((λ e. cc), tt)
 clean-tab false = tt
 
-pub clean-said : (bs : List ℕ) → Clean bs → Clean (text_or_none (name_said (Some bs)))
+pub clean-said : (bs : List ℕ) → NoFeed bs → NoFeed (text_or_none (name_said (Some bs)))
 clean-said bs all = by (eqb (name_length (unblanked bs)) 0)
   where
-    by : (v : Bool) → Clean (text_or_none (cond v None (Some (take (name_length (unblanked bs)) (unblanked bs)))))
+    by : (v : Bool) → NoFeed (text_or_none (cond v None (Some (take (name_length (unblanked bs)) (unblanked bs)))))
     by true = tt
-    by false = clean-take (name_length (unblanked bs)) (unblanked bs) (clean-drop (blanks bs) bs all)
+    by false = no-feed-take (name_length (unblanked bs)) (unblanked bs) (clean-drop (blanks bs) bs all)
 
-pub tab-clean : (name : List ℕ) → Clean (tab_if name)
+pub tab-clean : (name : List ℕ) → NoFeed (tab_if name)
 tab-clean name = clean-tab (holds_space name)
 
-pub index-clean : (o : Option (List ℕ)) → CleanIn o → Clean (text_or_none (name_said o) ++ tab_if (text_or_none (name_said o)))
+pub index-clean : (o : Option (List ℕ)) → CleanIn o → NoFeed (text_or_none (name_said o) ++ tab_if (text_or_none (name_said o)))
 index-clean None all = tt
-index-clean (Some bs) all = clean-both (text_or_none (name_said (Some bs))) (tab_if (text_or_none (name_said (Some bs)))) (clean-said bs all) (tab-clean (text_or_none (name_said (Some bs))))
+index-clean (Some bs) all = no-feed-both (text_or_none (name_said (Some bs))) (tab_if (text_or_none (name_said (Some bs)))) (clean-said bs all) (tab-clean (text_or_none (name_said (Some bs))))

@@ -9,6 +9,7 @@ use Rattle.std.proofs.lemmas.List.Concat.{flat_map-cons}
 use Rattle.line_list.specs.Lines.{ArePieces, IsLine, lines}
 use Rattle.line_list.specs.declared.Span.{Span}
 use Rattle.line_list.proofs.Pieces.{joined, lines-pieces, pieces-only}
+use Rattle.line_list.proofs.WholeLines.{lines-both}
 use Rattle.hunk_core.specs.declared.Form.{Form}
 use Rattle.hunk_core.specs.declared.Form.TheVariants.{Unified, Context, Normal, Ed}
 use Rattle.hunk_core.specs.declared.Side.TheVariants.{Reversed}
@@ -29,7 +30,7 @@ use Rattle.patch_header.specs.declared.openings.Stop.TheVariants.{Opening}
 use Rattle.patch_header.specs.declared.ways.Ways.{Ways}
 use Rattle.patch_header.proofs.Stands.{and_left, opening-words, stop-opens}
 use Rattle.file_patch.specs.Actions.{is_moved}
-use Rattle.file_patch.specs.PlainPatch.{PlainPatch, hunks, change_of, patch_of, row_count, is_script}
+use Rattle.file_patch.specs.PlainPatch.{PlainPatch, hunks, change_of, patch_of, row_count, is_script, first_opening}
 use Rattle.file_patch.specs.declared.Change.{Change}
 use Rattle.file_patch.specs.declared.Change.TheVariants.{Hunks, Script}
 use Rattle.file_patch.specs.declared.FilePatch.{FilePatch}
@@ -40,7 +41,7 @@ use Rattle.patch_set.specs.SetView.{IsWhole, SetView, plain_patches}
 use Rattle.patch_set.specs.Spans.{ArePlaced, IsPlaced}
 use Rattle.header_lines.specs.HeaderText.{header_text}
 use Rattle.flip_patch.specs.Flipped.{flipped, flipped_patch, hunk_text, swapped_hunks}
-use Rattle.flip_patch.specs.Refusals.{first_opening, is_unfit, new_starts, refused, starts_fall}
+use Rattle.flip_patch.specs.Refusals.{is_unfit, new_starts, refused, starts_fall}
 use Rattle.flip_patch.specs.declared.fault.FlipFault.{FlipFault}
 use Rattle.flip_patch.specs.declared.fault.FlipFault.TheVariants.{EdReverse, Unfit}
 use Rattle.text_joins.specs.Following.{IsFilePatch}
@@ -50,15 +51,14 @@ use Rattle.text_joins.proofs.Joining.{region-is}
 use Rattle.text_joins.proofs.Standing.{parts-read}
 use Rattle.hunk_core.proofs.TurnedLemmas.{reverse-map}
 use Rattle.flip_patch.proofs.Placed.{flipped-is}
-use Rattle.std.proofs.lemmas.Bool.{and_from}
+use Rattle.std.proofs.lemmas.Bool.{and_from, or_parts}
 use Rattle.flip_reading.specs.TurnedPatches.{as_shown, turned_change, turned_patch, turned_patches}
 use Rattle.flip_reading.proofs.Feeds.{context-feeds, normal-feeds, unified-feeds}
 use Rattle.flip_reading.proofs.Headed.{HasHead, heads-quiet, heads-whole, shown-headed}
 use Rattle.flip_reading.proofs.Headers.{Head, head_lines}
-use Rattle.flip_reading.proofs.Hunks.{ChainAs, IsGood, IsHunkForm, Rising, SpellsAs, all-swapped, body-of, chain-piece, rising, whole-both}
+use Rattle.flip_reading.proofs.Hunks.{ChainAs, IsGood, IsHunkForm, Rising, SpellsAs, all-swapped, body-of, chain-piece, rising}
 use Rattle.flip_reading.proofs.Lines.{Kind, Minus, Plus, Stars, Index, clean-line, line_of}
 use Rattle.flip_reading.proofs.Region.{IsShownIf, regions-shown}
-use Rattle.flip_reading.proofs.Shown.{either-no}
 
 -- ---- what is known of a file patch that isn't refused
 
@@ -113,7 +113,7 @@ opens-body ways form least body (h ∷ hs) some c =
     ap (λ ls. begins ways.only form (ls ++ [])) c.2 ∙ ap (begins ways.only form) (append_assoc c.0 c.1 [])
     ∙ opens-hunk ways form least c.0 (c.1 ++ []) (c.1 ++ []) (as_shown form h) c.3
 
-asks-none : (o : Option Form) (k : Kind) (bs : List ℕ) → asks_dot o (line_of k bs) ≡ false
+pub asks-none : (o : Option Form) (k : Kind) (bs : List ℕ) → asks_dot o (line_of k bs) ≡ false
 unfolding ed.parts_at range_at
 asks-none None Minus bs = refl
 asks-none None Plus bs = refl
@@ -151,8 +151,8 @@ record HasOwn (ways : Ways) (text : List ℕ) (p : FilePatch) : Type 0 where
 made : (ways : Ways) (text : List ℕ) (p : FilePatch) (gs : List PlainHunk) → change_of text p.change ≡ hunks gs → IsReady ways text p → HasOwn ways text p
 made ways text p gs is r =
     let form : Form = p.header.form in
-    let fits = either-no p.header.bare (is_moved p.header.action || starts_fall (new_starts (change_of text p.change))) r.fit in
-    let more = either-no (is_moved p.header.action) (starts_fall (new_starts (change_of text p.change))) fits.1 in
+    let fits = or_parts p.header.bare (is_moved p.header.action || starts_fall (new_starts (change_of text p.change))) r.fit in
+    let more = or_parts (is_moved p.header.action) (starts_fall (new_starts (change_of text p.change))) fits.1 in
     let turn = r.placed.cut.turn fits.0 in
     let pieces = subst (SpellChange text form p.hunk_spans.items) is r.placed.pieces in
     let hunky = hunk-form text form p.header.at p.span.end p.hunk_spans.items gs turn r.placed.some pieces in
@@ -176,7 +176,7 @@ made ways text p gs is r =
     } in
     record {
       own = region ++ b.0;
-      whole = whole-both region b.0 (heads-whole h.heads h.clean) b.1.whole;
+      whole = lines-both region b.0 (heads-whole h.heads h.clean) b.1.whole;
       is = ap (λ c. header_text text form Reversed p.header ++ flat_map (hunk_text form) (swapped_hunks c)) is ∙ ap (λ x. x ++ flat_map (hunk_text form) (map swapped gs)) h.is ∙ ap (λ x. joined region ++ x) b.1.is ∙ sym (flat_map-append (λ (l : List ℕ). l) region b.0);
       reads = reads;
       begins_so = λ more. clean-front h.heads b.0 more h.some;
@@ -221,7 +221,7 @@ gather ways text (p ∷ ps) all =
     } in
     record {
       parts = part ∷ g.parts;
-      whole = subst (AllByRecursion IsLine) (sym these) (whole-both o.own (all_lines g.parts) o.whole g.whole);
+      whole = subst (AllByRecursion IsLine) (sym these) (lines-both o.own (all_lines g.parts) o.whole g.whole);
       is = flat_map-cons (flipped_patch text) p ps ∙ ap (λ x. x ++ flat_map (flipped_patch text) ps) o.is ∙ ap (λ x. joined o.own ++ x) g.is ∙ sym (flat_map-append (λ (l : List ℕ). l) o.own (all_lines g.parts)) ∙ ap joined (sym these);
       fit = (o.reads, clean, g.fit);
       patches = ap (λ qs. turned_patch (patch_of text p) ∷ qs) g.patches;

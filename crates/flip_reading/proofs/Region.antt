@@ -15,10 +15,11 @@ use Rattle.patch_header.specs.declared.header.Header.{Header}
 use Rattle.patch_header.specs.declared.search.HeaderStep.{HeaderStep}
 use Rattle.patch_header.specs.declared.search.HeaderStep.TheVariants as steps
 use Rattle.patch_header.specs.declared.ways.Ways.{Ways}
+use Rattle.patch_header.proofs.StepLemmas.{stop-nowhere}
 use Rattle.file_patch.specs.PlainPatch.{PlainChange}
 use Rattle.patch_text.specs.Patches.{change_behind, place_before}
-use Rattle.patch_text.specs.Regions.{Region, next_region, region_by, region_with, regions_at, with_later}
-use Rattle.patch_text.proofs.RegionLaws.{regions-zero}
+use Rattle.patch_text.specs.Regions.{Region, region_by, region_with, regions_at, with_later}
+use Rattle.patch_text.proofs.RegionLaws.{regions-zero, regions-step}
 
 -- a header that isn't bare is that of an opening behind these lines
 pub record IsShown (ways : Ways) (text : List ℕ) (h : Header) : Type 0 where
@@ -36,10 +37,6 @@ pub record IsShown (ways : Ways) (text : List ℕ) (h : Header) : Type 0 where
 abbrev pub IsShownIf : Ways → List ℕ → Header → Type 0
 IsShownIf ways text h = h.bare ≡ false → IsShown ways text h
 
-region-nil : (ways : Ways) → region_before ways [] ≡ []
-unfolding region_before
-region-nil ways = refl
-
 region-cons : (ways : Ways) (line : List ℕ) (rest : List (List ℕ)) → region_before ways (line ∷ rest) ≡ cond (is_some (stop_at ways (line ∷ rest))) [] (line ∷ region_before ways rest)
 unfolding region_before
 region-cons ways line rest = refl
@@ -49,10 +46,6 @@ region-on ways line rest is = region-cons ways line rest ∙ ap (λ o. cond (is_
 
 region-ends : (ways : Ways) (line : List ℕ) (rest : List (List ℕ)) (s : Stop) → stop_at ways (line ∷ rest) ≡ Some s → region_before ways (line ∷ rest) ≡ []
 region-ends ways line rest s is = region-cons ways line rest ∙ ap (λ o. cond (is_some o) [] (line ∷ region_before ways rest)) is
-
-first-nil : (ways : Ways) → first_stop ways [] ≡ None
-unfolding first_stop
-first-nil ways = refl
 
 first-cons : (ways : Ways) (line : List ℕ) (rest : List (List ℕ)) → first_stop ways (line ∷ rest) ≡ cond (is_some (stop_at ways (line ∷ rest))) (stop_at ways (line ∷ rest)) (first_stop ways rest)
 unfolding first_stop
@@ -66,7 +59,7 @@ record Parts (ways : Ways) (ls : List (List ℕ)) (stop : Stop) : Type 0 where
 
 -- the lines in front of the first stop, and it
 parts : (ways : Ways) (ls : List (List ℕ)) (stop : Stop) → first_stop ways ls ≡ Some stop → Parts ways ls stop
-parts ways [] stop e = absurd (let bad : None ≡ Some stop = sym (first-nil ways) ∙ e in cc)
+parts ways [] stop e = absurd (let bad : None ≡ Some stop = sym (stop-nowhere ways) ∙ e in cc)
 parts ways (line ∷ more) stop e = by (stop_at ways (line ∷ more)) refl (parts ways more stop) (sym (first-cons ways line more) ∙ e)
   where
     by : (o : Option Stop) → stop_at ways (line ∷ more) ≡ o → (first_stop ways more ≡ Some stop → Parts ways more stop) → cond (is_some (stop_at ways (line ∷ more))) (stop_at ways (line ∷ more)) (first_stop ways more) ≡ Some stop → Parts ways (line ∷ more) stop
@@ -74,9 +67,6 @@ parts ways (line ∷ more) stop e = by (stop_at ways (line ∷ more)) refl (part
         let q = again (sym (rw is refl) ∙ h) in
         record { first = q.first; rest = q.rest; ahead = ap (λ ls. line ∷ ls) q.ahead ∙ ap (λ (x : List (List ℕ)). x ++ q.first ∷ q.rest) (sym (region-on ways line more is)); stands = q.stands }
     by (Some s) is again h = record { first = line; rest = more; ahead = ap (λ (x : List (List ℕ)). x ++ line ∷ more) (sym (region-ends ways line more s is)); stands = is ∙ (sym (rw is refl) ∙ h) }
-
-some-is : {A : Type 0} (x y : A) → Some x ≡ Some y → x ≡ y
-some-is x y e = cc
 
 found-is : (h k : Header) → steps.Found h ≡ steps.Found k → h ≡ k
 found-is h k e = cc
@@ -112,14 +102,10 @@ step-shown ways text at line h e = by (first_stop ways (lines (drop at text))) r
     by None is h2 = absurd (cc)
     by (Some stop) is h2 = shown-at ways text at line stop h is h2
 
-regions-cons : (most : ℕ) (ways : Ways) (text : List ℕ) (at number : ℕ) → regions_at (suc most) ways text at number ≡ with_later (λ p. regions_at most ways text (place_before text p.rest) p.number) (next_region ways text at number)
-unfolding regions_at
-regions-cons most ways text at number = refl
-
 pub regions-shown : (most : ℕ) (ways : Ways) (text : List ℕ) (at number : ℕ) → AllByRecursion (λ (r : Region). IsShownIf ways text r.header) (regions_at most ways text at number)
 regions-shown zero ways text at number = subst (AllByRecursion (λ (r : Region). IsShownIf ways text r.header)) (sym (regions-zero ways text at number)) tt
 regions-shown (suc most) ways text at number =
-    subst (AllByRecursion (λ (r : Region). IsShownIf ways text r.header)) (sym (regions-cons most ways text at number))
+    subst (AllByRecursion (λ (r : Region). IsShownIf ways text r.header)) (sym (regions-step most ways text at number))
     (by-step (next_step ways text at number) refl (λ p. regions-shown most ways text (place_before text p.rest) p.number))
   where
     by-change : (h : Header) → IsShownIf ways text h → (c : Result (PlainChange × Ahead) Fault) → ((p : Ahead) → AllByRecursion (λ (r : Region). IsShownIf ways text r.header) (regions_at most ways text (place_before text p.rest) p.number))

@@ -1,15 +1,17 @@
 -- The lines in which the names of a header stand, as they are copied.
-use Rattle.std.proofs.Common.{◌≡◌, ◌≢◌, ℕ, zero, suc, ◌+◌, ◌<◌, ◌≤◌, Bool, true, false, cond, not, eqb, ◌||◌, List, [], ◌∷◌, ◌++◌, length, take, drop, reverse, append_assoc, Option, None, Some, refl, sym, ap, subst, ◌∙◌, arith}
+use Rattle.std.proofs.Common.{◌≡◌, ℕ, zero, suc, ◌+◌, ◌≤◌, Bool, true, false, cond, not, eqb, List, [], ◌∷◌, ◌++◌, length, take, drop, reverse, append_assoc, Option, None, Some, refl, sym, ap, subst, ◌∙◌, arith}
 use Rattle.std.specs.Prelude.{is_some, option_map, nat_lt, unwrap_or}
 use Rattle.std.specs.List.{AllByRecursion, position, position_or_len, prefix_len}
 use Rattle.std.proofs.Math.Seq.{drop-append_seam, take-append_seam}
 use Rattle.std.proofs.lemmas.Bool.Decides.{nat_tests}
 use Rattle.std.proofs.lemmas.List.{drop-append-le, drop-drop, length-drop, take-append-drop}
-use Rattle.std.proofs.lemmas.List.Quantifiers.{position-Some}
 use Rattle.std.proofs.lemmas.List.Sums.{prefix_len-le-length}
+use Rattle.std.proofs.lemmas.Bool.{or_parts}
+use Rattle.std.proofs.lemmas.Option.{same_Some}
 use Rattle.line_list.specs.declared.Span.{Span}
 use Rattle.line_list.specs.Lines.{ArePieces, IsLine, lines}
 use Rattle.line_list.proofs.Pieces.{line-first, lines-pieces}
+use Rattle.line_list.proofs.WholeLines.{NoFeed}
 use Rattle.hunk_core.specs.LineTests.{after}
 use Rattle.hunk_core.proofs.TextLemmas.{after-takes}
 use Rattle.unified_form.proofs.Canonical.{closes}
@@ -24,28 +26,20 @@ use Rattle.patch_header.specs.declared.region.Tail.{Tail}
 use Rattle.file_patch.specs.PlainPatch.{bytes_in}
 use Rattle.header_lines.specs.HeaderText.{first_line, named_line, rest_of_line}
 use Rattle.text_joins.specs.Said.{bytes_before, name_said, stamp_said}
-use Rattle.text_joins.proofs.HeaderLines.{all-reverse, first-short, span-bytes, tail-bytes}
+use Rattle.text_joins.proofs.HeaderLines.{all-reverse, first-short, span-bytes, tail-bytes, name-short}
 use Rattle.text_joins.proofs.Places.{StandsAt, rows-stand}
 use Rattle.flip_reading.proofs.Lines.{closed, content-closed}
 
--- no line feed
-abbrev pub Clean : List ℕ → Type 0
-Clean bs = AllByRecursion (λ b. b ≢ 10) bs
-
-pub clean-drop : (k : ℕ) (bs : List ℕ) → Clean bs → Clean (drop k bs)
+pub clean-drop : (k : ℕ) (bs : List ℕ) → NoFeed bs → NoFeed (drop k bs)
 clean-drop zero bs all = all
 clean-drop (suc k) [] all = tt
 clean-drop (suc k) (b ∷ bs) all = clean-drop k bs all.1
 
-pub clean-behind : (fs bs : List ℕ) → Clean (fs ++ bs) → Clean bs
+pub clean-behind : (fs bs : List ℕ) → NoFeed (fs ++ bs) → NoFeed bs
 clean-behind [] bs all = all
 clean-behind (f ∷ fs) bs all = clean-behind fs bs all.1
 
-pub clean-both : (fs bs : List ℕ) → Clean fs → Clean bs → Clean (fs ++ bs)
-clean-both [] bs all also = also
-clean-both (f ∷ fs) bs all also = (all.0, clean-both fs bs all.1 also)
-
-pub line-clean : (bs : List ℕ) → IsLine (closed bs) → Clean bs
+pub line-clean : (bs : List ℕ) → IsLine (closed bs) → NoFeed bs
 line-clean [] l = tt
 line-clean (b ∷ []) l = (l.0, tt)
 line-clean (b ∷ c ∷ bs) l = (l.0, line-clean (c ∷ bs) l.1)
@@ -92,16 +86,13 @@ pub record IsTail (text : List ℕ) (t : Tail) (b : List ℕ) : Type 0 where
   pub bytes : bytes_of text t ≡ b
   pub rest : List ℕ
   pub on : drop t.start text ≡ closed b ++ rest
-  pub clean : Clean b
-
-some-is : {A : Type 0} (x y : A) → Some x ≡ Some y → x ≡ y
-some-is x y e = cc
+  pub clean : NoFeed b
 
 tail-start : (m : List ℕ) (r : Row) (t : Tail) (b : List ℕ) → after m (content r.line) ≡ Some b → tail_of m r ≡ Some t → t.start ≡ r.start + length m
 tail-start m r t b e is =
     let u : Tail = record { number = r.number; start = r.start + length m; end = r.start + length (content r.line) } in
     let made : tail_of m r ≡ Some u = ap (λ o. cond (is_some o) (Some u) None) e in
-    ap (λ (x : Tail). x.start) (sym (some-is u t (sym made ∙ is)))
+    ap (λ (x : Tail). x.start) (sym (same_Some u t (sym made ∙ is)))
 
 tail-some : (m : List ℕ) (r : Row) (t : Tail) → tail_of m r ≡ Some t → (b : List ℕ) × (after m (content r.line) ≡ Some b)
 tail-some m r t is = by (after m (content r.line)) refl
@@ -123,7 +114,7 @@ row-tail text m r t row is =
     let bytes : Some (bytes_of text t) ≡ Some w.0 = sym (ap (option_map (bytes_of text)) is) ∙ tail-bytes text m r row.stands ∙ w.1 in (
       w.0,
       record {
-        bytes = some-is (bytes_of text t) w.0 bytes;
+        bytes = same_Some (bytes_of text t) w.0 bytes;
         rest = rest;
         on = ap (λ n. drop n text) start ∙ sym (drop-drop (length m) r.start text) ∙ ap (drop (length m)) (whole ∙ ap (λ x. x ++ rest) (append_assoc m w.0 (10 ∷ [])) ∙ append_assoc m (closed w.0) rest) ∙ drop-append_seam m (closed w.0 ++ rest);
         clean = clean-behind m w.0 (line-clean (m ++ w.0) (subst IsLine line row.whole));
@@ -164,7 +155,7 @@ opt_line m (Some bs) = closed (m ++ bs)
 
 abbrev pub CleanIn : Option (List ℕ) → Type 0
 CleanIn None = Unit {0}
-CleanIn (Some bs) = Clean bs
+CleanIn (Some bs) = NoFeed bs
 
 pub record Shows (text : List ℕ) (span : Option Span) (told : Stamp) (o : Option (List ℕ)) : Type 0 where
   pub line : (m : List ℕ) → named_line text m span ≡ opt_line m o
@@ -186,7 +177,7 @@ pos-is : (test : ℕ → Bool) (bs : List ℕ) (k : ℕ) → position test bs �
 pos-is test bs k e = by (nat_lt (position_or_len test bs) (length bs)) e
   where
     by : (v : Bool) → cond v (Some (position_or_len test bs)) None ≡ Some k → k ≡ position_or_len test bs
-    by true h = sym (some-is (position_or_len test bs) k h)
+    by true h = sym (same_Some (position_or_len test bs) k h)
     by false h = absurd (cc)
 
 pol-some : (test : ℕ → Bool) (c : ℕ) (cs : List ℕ) → test c ≡ false → 1 ≤ position_or_len test (c ∷ cs)
@@ -199,27 +190,16 @@ not-blank c cs e = by (is_blank c) refl
     by true t = let none : position_or_len (λ b. not (is_blank b)) (c ∷ cs) ≡ 0 = sym (first-is (λ b. not (is_blank b)) (c ∷ cs)) ∙ e in let some : position_or_len (λ b. not (is_blank b)) (c ∷ cs) ≡ suc (prefix_len (λ x. not (not (is_blank x))) cs) = rw t (omega arith) in absurd (omega (arith, none, some))
     by false t = t
 
-pub either-no : (a b : Bool) → (a || b) ≡ false → (a ≡ false) × (b ≡ false)
-either-no true b e = absurd (cc)
-either-no false b e = (refl, e)
-
 name-none : (bs : List ℕ) → blanks bs ≡ 0 → name_length bs ≡ 0 → bs ≡ []
 name-none [] e n = refl
 name-none (c ∷ cs) e n = absurd (by (position (λ b. eqb b 9) (c ∷ cs)) refl n)
   where
     no : (eqb c 32 ≡ false) × (eqb c 9 ≡ false)
-    no = either-no (eqb c 32) (eqb c 9) (not-blank c cs e)
+    no = or_parts (eqb c 32) (eqb c 9) (not-blank c cs e)
 
     by : (o : Option ℕ) → position (λ b. eqb b 9) (c ∷ cs) ≡ o → unwrap_or o (first (λ b. eqb b 32) (c ∷ cs)) ≡ 0 → ⊥
     by None is z = let some : 1 ≤ position_or_len (λ b. eqb b 32) (c ∷ cs) = pol-some (λ b. eqb b 32) c cs no.0 in omega (arith, some, z, first-is (λ b. eqb b 32) (c ∷ cs))
     by (Some k) is z = let some : 1 ≤ position_or_len (λ b. eqb b 9) (c ∷ cs) = pol-some (λ b. eqb b 9) c cs no.1 in omega (arith, some, z, pos-is (λ b. eqb b 9) (c ∷ cs) k is)
-
-pub name-short : (bs : List ℕ) → name_length bs ≤ length bs
-name-short bs = by (position (λ b. eqb b 9) bs) refl
-  where
-    by : (o : Option ℕ) → position (λ b. eqb b 9) bs ≡ o → unwrap_or o (first (λ b. eqb b 32) bs) ≤ length bs
-    by None e = first-short (λ b. eqb b 32) bs
-    by (Some k) e = let low : k < length bs = (position-Some (λ b. eqb b 9) bs k 0 e).0 in omega (arith, low)
 
 tail-shows : (text : List ℕ) (t : Tail) (b : List ℕ) → IsTail text t b → (o : Option (List ℕ)) × Shows text (name_in text (Some t)) (stamp_in text (Some t)) o
 tail-shows text t b at = by (eqb (name_length (unblanked b)) 0) refl

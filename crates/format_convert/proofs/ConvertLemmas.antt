@@ -6,27 +6,27 @@ use Rattle.outside.specs.SinkView.{SinkView, sink_passes_none}
 use Rattle.outside.specs.declared.Failed.{Failed}
 use Rattle.hunk_core.specs.Writing.{Puts}
 use Rattle.hunk_core.specs.declared.Form.{Form}
-use Rattle.file_patch.specs.PlainPatch.{PlainPatch}
+use Rattle.file_patch.specs.PlainPatch.{PlainPatch, first_opening}
 use Rattle.format_convert.specs.declared.fault.ConvertFault.{ConvertFault}
 use Rattle.format_convert.specs.declared.fault.ConvertFault.TheVariants.{NoContext, Unfit, Write}
 use Rattle.format_convert.specs.Converted.{Converts, HasConvertCause}
-use Rattle.format_convert.specs.Refusals.{first_line, is_unfit, lacks_context, no_context, refusal, unfit}
+use Rattle.format_convert.specs.Refusals.{is_unfit, lacks_context, no_context, refusal, unfit}
 use Rattle.format_convert.proofs.RowLemmas.{refusal-is}
 
 module _ (form : Form) (ps : List PlainPatch) where
-  both : (a b : Option ℕ) → first_line (lacks_context form) ps ≡ a → first_line (is_unfit form) ps ≡ b → refusal form ps ≡ option_or (option_map no_context a) (option_map unfit b)
+  both : (a b : Option ℕ) → first_opening (lacks_context form) ps ≡ a → first_opening (is_unfit form) ps ≡ b → refusal form ps ≡ option_or (option_map no_context a) (option_map unfit b)
   both a b first then_b =
       refusal-is form ps
-      ∙ ap (λ (o : Option ℕ). option_or (option_map no_context o) (option_map unfit (first_line (is_unfit form) ps))) first
+      ∙ ap (λ (o : Option ℕ). option_or (option_map no_context o) (option_map unfit (first_opening (is_unfit form) ps))) first
       ∙ ap (λ (o : Option ℕ). option_or (option_map no_context a) (option_map unfit o)) then_b
 
-  pub lacking : (line : ℕ) → Some line ≡ first_line (lacks_context form) ps → Some (NoContext line) ≡ refusal form ps
-  lacking line is = sym (both (Some line) (first_line (is_unfit form) ps) (sym is) refl)
+  pub lacking : (line : ℕ) → Some line ≡ first_opening (lacks_context form) ps → Some (NoContext line) ≡ refusal form ps
+  lacking line is = sym (both (Some line) (first_opening (is_unfit form) ps) (sym is) refl)
 
-  pub unfitting : (line : ℕ) → None ≡ first_line (lacks_context form) ps → Some line ≡ first_line (is_unfit form) ps → Some (Unfit line) ≡ refusal form ps
+  pub unfitting : (line : ℕ) → None ≡ first_opening (lacks_context form) ps → Some line ≡ first_opening (is_unfit form) ps → Some (Unfit line) ≡ refusal form ps
   unfitting line none is = sym (both None (Some line) (sym none) (sym is))
 
-  pub fitting : None ≡ first_line (lacks_context form) ps → None ≡ first_line (is_unfit form) ps → None ≡ refusal form ps
+  pub fitting : None ≡ first_opening (lacks_context form) ps → None ≡ first_opening (is_unfit form) ps → None ≡ refusal form ps
   fitting none fits = sym (both None None (sym none) (sym fits))
 
 never-write : (a b : Option ℕ) → option_or (option_map no_context a) (option_map unfit b) ≡ Some Write → ⊥
@@ -38,7 +38,7 @@ module _ {O : Type 0} (view : O → SinkView) (same : O → O → Type 0) (form 
   refused-cause : (e : ConvertFault) (x : O) → Some e ≡ refusal form ps → HasConvertCause e view x x (refusal form ps) bytes
   refused-cause (NoContext line) x is = (sym is, refl)
   refused-cause (Unfit line) x is = (sym is, refl)
-  refused-cause Write x is = absurd (never-write (first_line (lacks_context form) ps) (first_line (is_unfit form) ps) (sym (refusal-is form ps) ∙ sym is))
+  refused-cause Write x is = absurd (never-write (first_opening (lacks_context form) ps) (first_opening (is_unfit form) ps) (sym (refusal-is form ps) ∙ sym is))
 
   pub converts-refused : (e : ConvertFault) (x : O) → same x x → Some e ≡ refusal form ps → Converts view same x x (Err e) (refusal form ps) bytes
   converts-refused e x stays is = record { passes = sink_passes_none (view x); rest = stays; accepted = tt; received = tt; cause = refused-cause e x is }

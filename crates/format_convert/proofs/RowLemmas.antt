@@ -13,7 +13,7 @@ use Rattle.hunk_core.specs.PlainHunk.{PlainHunk, hunk_of, hunks_of}
 use Rattle.file_patch.specs.declared.FilePatch.{FilePatch}
 use Rattle.file_patch.specs.declared.Change.{Change}
 use Rattle.file_patch.specs.declared.Change.TheVariants.{Hunks, Script}
-use Rattle.file_patch.specs.PlainPatch.{AreLawfulHunks, IsLawfulChange, PlainChange, PlainPatch, hunks, script, patch_of, change_of, hunk_count, row_count}
+use Rattle.file_patch.specs.PlainPatch.{AreLawfulHunks, IsLawfulChange, PlainChange, PlainPatch, hunks, script, patch_of, change_of, hunk_count, row_count, first_opening}
 use Rattle.patch_set.specs.SetView.{SetView, patch_at, plain_patches}
 use Rattle.patch_set.proofs.Named.{rows-counted}
 use Rattle.patch_filters.specs.Kept.{keeps}
@@ -27,7 +27,7 @@ use Rattle.patch_header.specs.Written.{hunk_text}
 use Rattle.format_convert.specs.Converted.{change_text, converted, hunk_texts, rows, written_if}
 use Rattle.change_commands.specs.Commands.{command_text}
 use Rattle.hunk_core.specs.declared.Form.TheVariants.{Unified, Context, Normal, Ed}
-use Rattle.format_convert.specs.Refusals.{change_lacks, first_line, is_unfit, lacks_context, no_context, refusal, shows_context, unfit}
+use Rattle.format_convert.specs.Refusals.{change_lacks, is_unfit, lacks_context, no_context, refusal, shows_context, unfit}
 use Rattle.format_convert.specs.declared.fault.ConvertFault.{ConvertFault}
 
 pub rows-long : (v : SetView) → length (rows v) ≡ length v.patches
@@ -62,7 +62,7 @@ pub converted-is : (form : Form) (j : PlainFilterJob) (v : SetView) → converte
 unfolding converted
 converted-is form j v = refl
 
-pub refusal-is : (form : Form) (ps : List PlainPatch) → refusal form ps ≡ option_or (option_map no_context (first_line (lacks_context form) ps)) (option_map unfit (first_line (is_unfit form) ps))
+pub refusal-is : (form : Form) (ps : List PlainPatch) → refusal form ps ≡ option_or (option_map no_context (first_opening (lacks_context form) ps)) (option_map unfit (first_opening (is_unfit form) ps))
 unfolding refusal
 refusal-is form ps = refl
 
@@ -77,19 +77,19 @@ push : (b : Bool) (x : PlainPatch) (o : Option PlainPatch) → option_map (λ (p
 push true x o = refl
 push false x o = refl
 
-first-row : (test : PlainPatch → Bool) (k : Bool) (x : PlainPatch) (rest : List PlainPatch) → first_line test (cond k (x ∷ []) [] ++ rest) ≡ cond (k && test x) (Some x.header.opening) (first_line test rest)
+first-row : (test : PlainPatch → Bool) (k : Bool) (x : PlainPatch) (rest : List PlainPatch) → first_opening test (cond k (x ∷ []) [] ++ rest) ≡ cond (k && test x) (Some x.header.opening) (first_opening test rest)
 first-row test true x rest = push (test x) x (find test rest)
 first-row test false x rest = refl
 
 pub next-first : (test : PlainPatch → Bool) (j : PlainFilterJob) (v : SetView) (i : ℕ) (p : FilePatch) → i < length v.patches → patch_at v i ≡ Some p
-    → first_line test (flat_map (row_if j v.text) (drop i (rows v))) ≡ cond (has_kept j i (patch_of v.text p) && test (left_patch j i (patch_of v.text p))) (Some p.header.opening) (first_line test (flat_map (row_if j v.text) (drop (i + 1) (rows v))))
+    → first_opening test (flat_map (row_if j v.text) (drop i (rows v))) ≡ cond (has_kept j i (patch_of v.text p) && test (left_patch j i (patch_of v.text p))) (Some p.header.opening) (first_opening test (flat_map (row_if j v.text) (drop (i + 1) (rows v))))
 next-first test j v i p lt is =
-    ap (λ xs. first_line test (flat_map (row_if j v.text) xs)) (row-at v i p lt is)
-    ∙ ap (first_line test) (flat_map-cons (row_if j v.text) (i, p) (drop (i + 1) (rows v)))
+    ap (λ xs. first_opening test (flat_map (row_if j v.text) xs)) (row-at v i p lt is)
+    ∙ ap (first_opening test) (flat_map-cons (row_if j v.text) (i, p) (drop (i + 1) (rows v)))
     ∙ first-row test (has_kept j i (patch_of v.text p)) (left_patch j i (patch_of v.text p)) (flat_map (row_if j v.text) (drop (i + 1) (rows v)))
 
-pub last-first : (test : PlainPatch → Bool) (j : PlainFilterJob) (v : SetView) (i : ℕ) → length v.patches ≤ i → first_line test (flat_map (row_if j v.text) (drop i (rows v))) ≡ None
-last-first test j v i le = ap (λ xs. first_line test (flat_map (row_if j v.text) xs)) (rows-end v i le)
+pub last-first : (test : PlainPatch → Bool) (j : PlainFilterJob) (v : SetView) (i : ℕ) → length v.patches ≤ i → first_opening test (flat_map (row_if j v.text) (drop i (rows v))) ≡ None
+last-first test j v i le = ap (λ xs. first_opening test (flat_map (row_if j v.text) xs)) (rows-end v i le)
 
 lacks-change : (wanted form : Form) (are : List Bool) (c : PlainChange) → change_lacks wanted form (left_change are c) ≡ change_lacks wanted form c
 lacks-change wanted form are (hunks hs) = refl

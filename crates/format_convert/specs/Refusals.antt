@@ -1,9 +1,9 @@
 -- Why a set isn't written in another form.
-use Rattle.std.specs.Prelude.{ℕ, Bool, true, false, not, ◌&&◌, List, find, Option, option_map}
+use Rattle.std.specs.Prelude.{ℕ, Bool, true, false, not, ◌&&◌, List, Option, option_map}
 use Rattle.std.specs.Option.{option_or}
 use Rattle.hunk_core.specs.declared.Form.{Form}
 use Rattle.hunk_core.specs.declared.Form.TheVariants.{Unified, Context, Normal, Ed}
-use Rattle.file_patch.specs.PlainPatch.{PlainChange, PlainPatch, hunks, script}
+use Rattle.file_patch.specs.PlainPatch.{PlainChange, PlainPatch, hunks, script, first_opening}
 use Rattle.change_commands.specs.Fitting.{is_ed, is_unfit as change_unfit}
 use Rattle.format_convert.specs.declared.fault.ConvertFault.{ConvertFault}
 use Rattle.format_convert.specs.declared.fault.ConvertFault.TheVariants.{NoContext, Unfit}
@@ -36,10 +36,6 @@ is_unfit wanted p = not (shows_context wanted) && change_unfit wanted p.change
 
 -- ---- both refusals
 
--- where the first of some file patches opens of which this holds
-abbrev pub first_line : (PlainPatch → Bool) → List PlainPatch → Option ℕ
-first_line test ps = option_map (λ p. p.header.opening) (find test ps)
-
 abbrev pub no_context : ℕ → ConvertFault
 no_context line = NoContext line
 
@@ -48,4 +44,4 @@ unfit line = Unfit line
 
 -- the refusal: want of context anywhere comes first
 unfoldable pub refusal : Form → List PlainPatch → Option ConvertFault
-refusal wanted ps = option_or (option_map no_context (first_line (lacks_context wanted) ps)) (option_map unfit (first_line (is_unfit wanted) ps))
+refusal wanted ps = option_or (option_map no_context (first_opening (lacks_context wanted) ps)) (option_map unfit (first_opening (is_unfit wanted) ps))

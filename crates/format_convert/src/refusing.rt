@@ -4,9 +4,9 @@ ghost use Rattle.std.specs.Prelude.{◌≡◌, ◌<◌, ◌&&◌, ℕ, List, len
 ghost use Rattle.std.specs.Option.{ForSome};
 ghost use Rattle.patch_set.specs.SetView.{patch_at, plain_patches};
 ghost use Rattle.tool_words.specs.PlainJobs.{plain_filter_job};
-ghost use Rattle.file_patch.specs.PlainPatch.{patch_of};
+ghost use Rattle.file_patch.specs.PlainPatch.{patch_of, first_opening};
 ghost use Rattle.change_commands.specs.Taken.{has_kept, left_patch, left_patches};
-ghost use Rattle.format_convert.specs.Refusals.{first_line, is_unfit, lacks_context, refusal};
+ghost use Rattle.format_convert.specs.Refusals.{is_unfit, lacks_context, refusal};
 
 use crate::fault::ConvertFault;
 use crate::forms::{is_ed, is_normal, shows_context};
@@ -61,7 +61,7 @@ fn opening(set: &PatchSet, patch: u32) -> u64
 
 /// The line of the first file patch with a kept hunk that lacks what the form shows.
 fn first_without_context(set: &PatchSet, job: &FilterJob, form: Form) -> Option<u64>
-    ensures { result ≡ first_line (lacks_context form) (left_patches (plain_filter_job job.now) (plain_patches set.now)) }
+    ensures { result ≡ first_opening (lacks_context form) (left_patches (plain_filter_job job.now) (plain_patches set.now)) }
 {
     for patch in 0..set.patches().len() {
         if is_lacking(set, job, patch as u32, form) {
@@ -73,7 +73,7 @@ fn first_without_context(set: &PatchSet, job: &FilterJob, form: Form) -> Option<
 
 /// The line of the first file patch whose kept hunks can't be written as commands of the form.
 fn first_unfit(set: &PatchSet, job: &FilterJob, form: Form) -> Option<u64>
-    ensures { result ≡ first_line (is_unfit form) (left_patches (plain_filter_job job.now) (plain_patches set.now)) }
+    ensures { result ≡ first_opening (is_unfit form) (left_patches (plain_filter_job job.now) (plain_patches set.now)) }
 {
     for patch in 0..set.patches().len() {
         if is_misfit(set, job, patch as u32, form) {

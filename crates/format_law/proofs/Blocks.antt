@@ -5,6 +5,7 @@ use Rattle.std.specs.List.{AllByRecursion, flat_map}
 use Rattle.std.proofs.lemmas.Bool.Decides.{nat_tests}
 use Rattle.std.proofs.lemmas.Grind.{flat_map-append}
 use Rattle.std.proofs.lemmas.List.{append-nil, length-append}
+use Rattle.std.proofs.lemmas.Bool.{or_parts}
 use Rattle.hunk_core.specs.declared.Mark.{Mark}
 use Rattle.hunk_core.specs.declared.Mark.TheVariants.{Keep, Drop, Add}
 use Rattle.hunk_core.specs.declared.Side.{Side}
@@ -22,7 +23,6 @@ use Rattle.change_commands.proofs.FitLemmas.{falls-cons}
 use Rattle.change_commands.proofs.FrontLemmas.{blocks-cons, blocks-none}
 use Rattle.change_commands.proofs.Steps.{edits-mark, edits-none}
 use Rattle.flip_reading.proofs.Hunks.{IsGood}
-use Rattle.flip_reading.proofs.Shown.{either-no}
 use Rattle.hunk_core.proofs.RuleLemmas.{pass}
 
 -- ---- the rules of a hunk, one by one
@@ -41,7 +41,7 @@ pub base-some : (h : PlainHunk) → IsGood h → 1 ≤ base h
 base-some h g =
     let a = pass (eqb (length h.body) 0) rules.NoLines _ g.unbroken in
     let b = pass (starts_at_zero h.old_start (old_lines h.body) || starts_at_zero h.new_start (new_lines h.body)) rules.Start _ a.1 in
-    begins-no h.old_start (old_lines h.body) (either-no (starts_at_zero h.old_start (old_lines h.body)) (starts_at_zero h.new_start (new_lines h.body)) b.0).0
+    begins-no h.old_start (old_lines h.body) (or_parts (starts_at_zero h.old_start (old_lines h.body)) (starts_at_zero h.new_start (new_lines h.body)) b.0).0
 
 -- ---- edits that follow each other in the file
 
@@ -65,7 +65,7 @@ body-climbs at (m ∷ ms) later c = subst (λ es. Climbs at (es ++ later)) (sym 
 hunks-climb : (from : ℕ) (hs : List PlainHunk) → falls_behind from hs ≡ false → Climbs from (hunk_edits hs)
 hunks-climb from [] e = tt
 hunks-climb from (h ∷ hs) e =
-    let both = either-no (nat_lt (base h) from) (falls_behind (base h + length (old_lines h.body)) hs) (sym (falls-cons from h hs) ∙ e) in
+    let both = or_parts (nat_lt (base h) from) (falls_behind (base h + length (old_lines h.body)) hs) (sym (falls-cons from h hs) ∙ e) in
     let low : from ≤ base h = lower (base h) from both.0 in
     climbs-less from (base h) (hunk_edits (h ∷ hs)) low (body-climbs (base h) h.body (hunk_edits hs) (hunks-climb (base h + length (old_lines h.body)) hs both.1))
   where
@@ -75,7 +75,7 @@ hunks-climb from (h ∷ hs) e =
 pub edits-climb : (hs : List PlainHunk) → AllByRecursion IsGood hs → falls_behind 0 hs ≡ false → Climbs 1 (hunk_edits hs)
 edits-climb [] good e = tt
 edits-climb (h ∷ hs) good e =
-    let both = either-no (nat_lt (base h) 0) (falls_behind (base h + length (old_lines h.body)) hs) (sym (falls-cons 0 h hs) ∙ e) in
+    let both = or_parts (nat_lt (base h) 0) (falls_behind (base h + length (old_lines h.body)) hs) (sym (falls-cons 0 h hs) ∙ e) in
     climbs-less 1 (base h) (hunk_edits (h ∷ hs)) (base-some h good.0) (body-climbs (base h) h.body (hunk_edits hs) (hunks-climb (base h + length (old_lines h.body)) hs both.1))
 
 -- ---- where blocks stand
@@ -209,9 +209,9 @@ hunks-lines side (h ∷ hs) =
 lacks-parts : (xs ys : List (List ℕ)) → lacks_inner_end (xs ++ ys) ≡ false → (lacks_inner_end xs ≡ false) × (lacks_inner_end ys ≡ false)
 lacks-parts [] ys e = (refl, e)
 lacks-parts (x ∷ []) [] e = (refl, refl)
-lacks-parts (x ∷ []) (y ∷ ys) e = (refl, (either-no (not (ends_line x)) (lacks_inner_end (y ∷ ys)) e).1)
+lacks-parts (x ∷ []) (y ∷ ys) e = (refl, (or_parts (not (ends_line x)) (lacks_inner_end (y ∷ ys)) e).1)
 lacks-parts (x ∷ z ∷ xs) ys e =
-    let both = either-no (not (ends_line x)) (lacks_inner_end (z ∷ (xs ++ ys))) e in
+    let both = or_parts (not (ends_line x)) (lacks_inner_end (z ∷ (xs ++ ys))) e in
     let more = lacks-parts (z ∷ xs) ys both.1 in
     (neither (not (ends_line x)) (lacks_inner_end (z ∷ xs)) both.0 more.0, more.1)
   where

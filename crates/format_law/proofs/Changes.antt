@@ -3,6 +3,7 @@ use Rattle.std.proofs.Common.{◌≡◌, ℕ, suc, ◌+◌, ◌-◌, ◌<◌, �
 use Rattle.std.specs.List.{AllByRecursion, flat_map}
 use Rattle.std.proofs.lemmas.Bool.Decides.{nat_tests}
 use Rattle.std.proofs.lemmas.List.{append-nil, length-map, reverse-reverse}
+use Rattle.std.proofs.lemmas.Bool.{or_parts}
 use Rattle.hunk_core.specs.declared.Form.{Form}
 use Rattle.hunk_core.specs.declared.Form.TheVariants.{Unified, Context, Normal, Ed}
 use Rattle.hunk_core.specs.declared.Mark.{Mark}
@@ -12,6 +13,7 @@ use Rattle.hunk_core.specs.PlainHunk.{Marked, PlainHunk}
 use Rattle.hunk_core.specs.Turned.{base}
 use Rattle.context_form.specs.Canonical.{drops_before, in_order}
 use Rattle.normal_form.specs.Grammar.{on_side}
+use Rattle.normal_form.proofs.Unbroken.{old-lines-are}
 use Rattle.ed_form.specs.PlainEdit.{AreLawful, PlainEdit}
 use Rattle.file_patch.specs.PlainPatch.{hunks, script}
 use Rattle.change_commands.specs.Blocks.{Block, Edit, add_at, behind, block_of, blocks_in, blocks_of, body_edits, change_of_block, changes, command_edits, drop_at, drop_count, drops_from, hunk_edits, in_front, marked_edits, script_edits}
@@ -22,12 +24,11 @@ use Rattle.change_commands.proofs.ScriptLemmas.{drops-more, drops-none}
 use Rattle.change_commands.proofs.Steps.{edits-mark, edits-none}
 use Rattle.format_convert.specs.Refusals.{change_lacks, shows_context}
 use Rattle.flip_reading.proofs.Hunks.{IsGood}
-use Rattle.flip_reading.proofs.Shown.{either-no}
 use Rattle.flip_reading.proofs.Stretches.{context-shown}
 use Rattle.format_law.specs.ReadAgain.{block_hunk, block_hunks, change_again}
 use Rattle.format_law.proofs.Blocks.{Apart, IsSome, blocks-apart, blocks-some, edits-climb}
 use Rattle.format_law.proofs.EdBody.{script-apart}
-use Rattle.format_law.proofs.NormalBody.{hunks-cons, hunks-none, olds-are}
+use Rattle.format_law.proofs.NormalBody.{hunks-cons, hunks-none}
 
 -- ---- an edit in front of blocks
 
@@ -172,7 +173,7 @@ body-block at (d ∷ ds) ls =
 
 block-base : (more less : ℕ) (b : Block) → 1 ≤ b.first → base (block_hunk more less b) ≡ b.first
 block-base more less b low =
-    ap (λ (ls : List (List ℕ)). cond (eqb (length ls) 0) (range_start b.first (length b.dropped) + 1) (range_start b.first (length b.dropped))) (olds-are b.dropped b.added)
+    ap (λ (ls : List (List ℕ)). cond (eqb (length ls) 0) (range_start b.first (length b.dropped) + 1) (range_start b.first (length b.dropped))) (old-lines-are b.dropped b.added)
     ∙ by (eqb (length b.dropped) 0)
   where
     by : (v : Bool) → cond v (cond v (b.first - 1) b.first + 1) (cond v (b.first - 1) b.first) ≡ b.first
@@ -245,7 +246,7 @@ ed-same bs apart some =
 -- ---- a change in a form
 
 hunks-apart : (form : Form) (hs : List PlainHunk) → AllByRecursion IsGood hs → is_unfit form (hunks hs) ≡ false → Apart 0 (blocks_in (hunks hs))
-hunks-apart form hs good fits = let falls = either-no (falls_back hs) (has_open_line form hs || has_large_command form (blocks_in (hunks hs))) fits in blocks-apart (hunk_edits hs) (edits-climb hs good falls.0)
+hunks-apart form hs good fits = let falls = or_parts (falls_back hs) (has_open_line form hs || has_large_command form (blocks_in (hunks hs))) fits in blocks-apart (hunk_edits hs) (edits-climb hs good falls.0)
 
 pub hunks-changes : (form : Form) (hs : List PlainHunk) → AllByRecursion IsGood hs → (not (shows_context form) && is_unfit form (hunks hs)) ≡ false → changes (change_again form (hunks hs)) ≡ changes (hunks hs)
 hunks-changes Unified hs good fits = refl

@@ -5,8 +5,10 @@ use Rattle.std.specs.List.{AllByRecursion, flat_map, list_any}
 use Rattle.std.proofs.lemmas.Bool.Decides.{nat_tests}
 use Rattle.std.proofs.lemmas.Grind.{flat_map-append}
 use Rattle.std.proofs.lemmas.List.{append-nil, length-reverse, reverse-append}
+use Rattle.std.proofs.lemmas.Bool.{or_parts}
 use Rattle.line_list.specs.Lines.{IsLine}
 use Rattle.line_list.proofs.Pieces.{joined}
+use Rattle.line_list.proofs.WholeLines.{lines-both, NoFeed}
 use Rattle.hunk_core.specs.declared.Form.{Form}
 use Rattle.hunk_core.specs.declared.Form.TheVariants.{Unified, Context, Normal, Ed}
 use Rattle.hunk_core.specs.declared.Side.TheVariants.{Forward, Reversed}
@@ -29,8 +31,7 @@ use Rattle.change_commands.proofs.ScriptLemmas.{drops-more, drops-none}
 use Rattle.format_convert.specs.Refusals.{change_lacks, shows_context}
 use Rattle.format_convert.specs.Converted.{is_written}
 use Rattle.flip_reading.proofs.Feeds.{NoInner}
-use Rattle.flip_reading.proofs.Hunks.{IsGood, whole-both}
-use Rattle.flip_reading.proofs.Shown.{Clean, either-no}
+use Rattle.flip_reading.proofs.Hunks.{IsGood}
 use Rattle.hunk_core.proofs.TurnedLemmas.{reverse-map}
 use Rattle.format_law.proofs.Blocks.{Apart, Climbs, IsSome, blocks-apart, blocks-lines, blocks-some, climbs-less, edits-climb, holds-each, lines_by}
 use Rattle.format_law.proofs.EdText.{added-spelled, command-appends, head-line, head-spelled, text-joined, text-whole, text_rows}
@@ -61,7 +62,7 @@ commands-joined (b ∷ bs) =
 
 commands-whole : (bs : List Block) → AllByRecursion IsCommand bs → AllByRecursion IsLine (flat_map command_rows bs)
 commands-whole [] all = tt
-commands-whole (b ∷ bs) all = whole-both (command_rows b) (flat_map command_rows bs) (head-line b.first (length b.dropped) (length b.added), text-whole b.added all.0.whole) (commands-whole bs all.1)
+commands-whole (b ∷ bs) all = lines-both (command_rows b) (flat_map command_rows bs) (head-line b.first (length b.dropped) (length b.added), text-whole b.added all.0.whole) (commands-whole bs all.1)
 
 -- ---- where they stand, from the last one
 
@@ -88,7 +89,7 @@ reversed-falls end (b ∷ bs) apart =
 
 small-first : (b : Block) → is_large_ed b ≡ false → (b.first < 2 ^ 32) × (b.first + length b.dropped - 1 < 2 ^ 32)
 small-first b small =
-    let both = either-no (nat_lt 4294967295 b.first) (nat_lt 4294967295 (b.first + length b.dropped - 1)) small in
+    let both = or_parts (nat_lt 4294967295 b.first) (nat_lt 4294967295 (b.first + length b.dropped - 1)) small in
     (below b.first both.0, below (b.first + length b.dropped - 1) both.1)
   where
     below : (n : ℕ) → nat_lt 4294967295 n ≡ false → n < 2 ^ 32
@@ -165,7 +166,7 @@ blocks-body ways c all apart some =
 
 any-none : (test : Block → Bool) (bs : List Block) → list_any test bs ≡ false → AllByRecursion (λ b. test b ≡ false) bs
 any-none test [] e = tt
-any-none test (b ∷ bs) e = let both = either-no (test b) (list_any test bs) e in (both.0, any-none test bs both.1)
+any-none test (b ∷ bs) e = let both = or_parts (test b) (list_any test bs) e in (both.0, any-none test bs both.1)
 
 apart-first : (end : ℕ) (bs : List Block) → Apart end bs → AllByRecursion (λ b. 1 ≤ b.first) bs
 apart-first end [] apart = tt
@@ -180,12 +181,12 @@ whole-line [] clean e = absurd (cc)
 whole-line (b ∷ []) clean e = grind (arith, nat_tests)
 whole-line (b ∷ c ∷ cs) clean e =
     let n : length (b ∷ c ∷ cs) - 1 ≡ suc (length (c ∷ cs) - 1) = omega arith in
-    let both = subst (λ k. Clean (take k (b ∷ c ∷ cs))) n clean in
+    let both = subst (λ k. NoFeed (take k (b ∷ c ∷ cs))) n clean in
     (both.0, whole-line (c ∷ cs) both.1 e)
 
 closed-lines : (ls : List (List ℕ)) → AllByRecursion NoInner ls → has_open ls ≡ false → AllByRecursion IsLine ls
 closed-lines [] clean e = tt
-closed-lines (l ∷ ls) clean e = let both = either-no (not (ends_line l)) (has_open ls) e in (whole-line l clean.0 (not-no (ends_line l) both.0), closed-lines ls clean.1 both.1)
+closed-lines (l ∷ ls) clean e = let both = or_parts (not (ends_line l)) (has_open ls) e in (whole-line l clean.0 (not-no (ends_line l) both.0), closed-lines ls clean.1 both.1)
   where
     not-no : (v : Bool) → not v ≡ false → v ≡ true
     not-no true e = refl
@@ -195,9 +196,9 @@ pub ed-body : (ways : Ways) (hs : List PlainHunk) → AllByRecursion IsGood hs �
 ed-body ways hs good fits some =
     let bs : List Block = blocks_in (hunks hs) in
     let inner : Bool = lacks_inner_end (changed_lines Forward hs) || lacks_inner_end (changed_lines Reversed hs) in
-    let falls = either-no (falls_back hs) ((has_open (changed_lines Reversed hs) || inner) || list_any is_large_ed bs) fits in
-    let opens = either-no (has_open (changed_lines Reversed hs) || inner) (list_any is_large_ed bs) falls.1 in
-    let closed = either-no (has_open (changed_lines Reversed hs)) inner opens.0 in
+    let falls = or_parts (falls_back hs) ((has_open (changed_lines Reversed hs) || inner) || list_any is_large_ed bs) fits in
+    let opens = or_parts (has_open (changed_lines Reversed hs) || inner) (list_any is_large_ed bs) falls.1 in
+    let closed = or_parts (has_open (changed_lines Reversed hs)) inner opens.0 in
     let apart = blocks-apart (hunk_edits hs) (edits-climb hs good falls.0) in
     let lines = closed-lines (changed_lines Reversed hs) (changed-clean Reversed hs good) closed.0 in
     blocks-body ways (hunks hs)
@@ -237,7 +238,7 @@ script-climbs below from (e ∷ es) later l low some c =
     subst (Climbs 1) (sym (ap (λ x. x ++ later) (script-more e es) ∙ append_assoc (script_edits es) (command_edits e) later))
     (script-climbs (lowest e) e.first es (command_edits e ++ later) l.2 (lowest-low e) l.0.start own)
 
-all-by : {A : Type 0} (P : A → Type 0) (xs : List A) → All P xs → AllByRecursion P xs
+pub all-by : {A : Type 0} (P : A → Type 0) (xs : List A) → All P xs → AllByRecursion P xs
 all-by P [] all = tt
 all-by P (x ∷ xs) all = (all 0 x (omega arith), all-by P xs (λ k d lt. all (suc k) d (omega (arith, lt))))
 
@@ -260,7 +261,7 @@ script-whole below [] l = tt
 script-whole below (e ∷ es) l =
     subst (AllByRecursion IsLine)
     (sym (ap (flat_map (line_on Reversed)) (script-more e es) ∙ flat_map-append (line_on Reversed) (script_edits es) (command_edits e) ∙ ap (λ x. flat_map (line_on Reversed) (script_edits es) ++ x) (command-adds e)))
-    (whole-both (flat_map (line_on Reversed) (script_edits es)) e.added (script-whole (lowest e) es l.2) (all-by IsLine e.added l.0.added))
+    (lines-both (flat_map (line_on Reversed) (script_edits es)) e.added (script-whole (lowest e) es l.2) (all-by IsLine e.added l.0.added))
 
 pub script-apart : (es : List PlainEdit) → AreLawful (2 ^ 32) es → Apart 0 (blocks_of (script_edits es))
 script-apart es l = blocks-apart (script_edits es) (subst (Climbs 1) (append-nil (script_edits es)) (script-climbs (2 ^ 32) (2 ^ 32) es [] l (omega arith) (omega arith) tt))

@@ -1,5 +1,5 @@
 -- A block that is written as an ed command is spelled by its lines.
-use Rattle.std.proofs.Common.{◌≡◌, ◌≢◌, inl, inr, ℕ, zero, suc, ◌+◌, ◌-◌, ◌<◌, ◌≤◌, ◌^◌, Bool, true, false, cond, eqb, List, [], ◌∷◌, ◌++◌, length, append_assoc, refl, sym, ap, subst, ◌∙◌, arith}
+use Rattle.std.proofs.Common.{◌≡◌, inl, inr, ℕ, zero, suc, ◌+◌, ◌-◌, ◌<◌, ◌≤◌, ◌^◌, Bool, true, false, cond, eqb, List, [], ◌∷◌, ◌++◌, length, append_assoc, refl, sym, ap, subst, ◌∙◌, arith}
 use Rattle.std.specs.Prelude.{codes, nat_lt}
 use Rattle.std.specs.List.{AllByRecursion}
 use Rattle.std.proofs.lemmas.Bool.{eqb-true}
@@ -7,7 +7,8 @@ use Rattle.std.proofs.lemmas.Bool.Decides.{nat_tests}
 use Rattle.std.proofs.lemmas.Grind.{flat_map-append}
 use Rattle.line_list.specs.Lines.{IsLine}
 use Rattle.line_list.proofs.Pieces.{joined}
-use Rattle.num_text.specs.Numbers.{AllDigits, IsNumeral, decimal, is_digit}
+use Rattle.line_list.proofs.WholeLines.{NoFeed, no-feed-both}
+use Rattle.num_text.specs.Numbers.{IsNumeral, decimal}
 use Rattle.num_text.specs.NumberRanges.{SpellsRange, range_at}
 use Rattle.num_text.proofs.Decimal.{decimal-numeral}
 use Rattle.hunk_core.proofs.ReadSteps.{chosen}
@@ -23,10 +24,9 @@ use Rattle.normal_form.specs.Canonical.{action_for}
 use Rattle.unified_form.proofs.Canonical.{closes}
 use Rattle.change_commands.specs.Commands.{ed_head, ed_line, ed_lines, goes_on, range_start}
 use Rattle.change_commands.proofs.EdLemmas.{lines-cons, lines-none}
-use Rattle.flip_reading.proofs.Shown.{Clean, clean-both}
 use Rattle.diff_command.specs.Spans.{span_text}
 use Rattle.hunk_core.proofs.TextLemmas.{some-not}
-use Rattle.diff_command.proofs.CommandLemmas.{letter-clean}
+use Rattle.diff_command.proofs.CommandLemmas.{letter-clean, no-feed}
 use Rattle.normal_form.proofs.Canonical.{changes, deletes}
 
 -- ---- the lines of a text
@@ -175,25 +175,18 @@ head-spelled first (suc d) (suc a) low some small last =
     let spelled : SpellsRange text r.0 first (first + suc d - 1) = subst (λ s. SpellsRange (span_text s (suc d)) r.0 first (first + suc d - 1)) (sym (start-some first d)) r.1 in
     subst (λ (k : Action). SpellsCommand (head_with text k) k first (first + suc d - 1)) (sym (changes d a)) (command-with text Change first (first + suc d - 1) (r.0, spelled, low, omega arith) small last)
 
-digits-clean : (ds : List ℕ) → AllDigits ds → Clean ds
-digits-clean [] all = tt
-digits-clean (d ∷ ds) all = (not_feed d all.0, digits-clean ds all.1)
-  where
-    not_feed : (b : ℕ) → is_digit b ≡ true → b ≢ 10
-    not_feed b is e = let ten : is_digit 10 ≡ true = subst (λ (x : ℕ). is_digit x ≡ true) e is in cc
+decimal-clean : (n : ℕ) → NoFeed (decimal n)
+decimal-clean n = no-feed (decimal n) (decimal-numeral n).digits
 
-decimal-clean : (n : ℕ) → Clean (decimal n)
-decimal-clean n = digits-clean (decimal n) (decimal-numeral n).digits
-
-span-clean : (start count : ℕ) → Clean (span_text start count)
+span-clean : (start count : ℕ) → NoFeed (span_text start count)
 span-clean start count = by (nat_lt 1 count)
   where
-    by : (v : Bool) → Clean (cond v (decimal start ++ 44 ∷ decimal (start + count - 1)) (decimal start))
-    by true = clean-both (decimal start) (44 ∷ decimal (start + count - 1)) (decimal-clean start) ((λ e. cc), decimal-clean (start + count - 1))
+    by : (v : Bool) → NoFeed (cond v (decimal start ++ 44 ∷ decimal (start + count - 1)) (decimal start))
+    by true = no-feed-both (decimal start) (44 ∷ decimal (start + count - 1)) (decimal-clean start) ((λ e. cc), decimal-clean (start + count - 1))
     by false = decimal-clean start
 
 pub head-line : (first drops adds : ℕ) → IsLine (ed_head first drops adds)
-head-line first drops adds = closes (span_text (range_start first drops) drops ++ letter (action_for drops adds) ∷ []) (clean-both (span_text (range_start first drops) drops) (letter (action_for drops adds) ∷ []) (span-clean (range_start first drops) drops) (letter-clean (action_for drops adds), tt))
+head-line first drops adds = closes (span_text (range_start first drops) drops ++ letter (action_for drops adds) ∷ []) (no-feed-both (span_text (range_start first drops) drops) (letter (action_for drops adds) ∷ []) (span-clean (range_start first drops) drops) (letter-clean (action_for drops adds), tt))
 
 -- a command is no line 'a'
 pub command-appends : (line : List ℕ) → is_command line ≡ true → is_append line ≡ false

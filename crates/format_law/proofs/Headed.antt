@@ -3,7 +3,9 @@ use Rattle.std.proofs.Common.{◌≡◌, ◌≢◌, ℕ, Bool, true, false, cond
 use Rattle.std.specs.Prelude.{is_some, codes}
 use Rattle.std.specs.List.{list_any}
 use Rattle.std.specs.Option.{IfSome, option_map_or, option_or}
+use Rattle.std.proofs.lemmas.Bool.{or_parts}
 use Rattle.line_list.proofs.Pieces.{joined}
+use Rattle.line_list.proofs.WholeLines.{NoFeed, no-feed-both}
 use Rattle.hunk_core.specs.declared.Form.{Form}
 use Rattle.hunk_core.specs.declared.Form.TheVariants.{Unified, Context, Normal, Ed}
 use Rattle.hunk_core.specs.declared.Side.TheVariants.{Forward}
@@ -23,7 +25,7 @@ use Rattle.flip_reading.proofs.Headers.{Head, behind-is, head_lines, heads_if, i
 use Rattle.flip_reading.proofs.Lines.{Kind, Minus, Plus, Stars, Index, content-closed, line_of, mark}
 use Rattle.flip_reading.proofs.Names.{NoTab, spaced, tab-clean, tab_if, text_or_none}
 use Rattle.flip_reading.proofs.Region.{IsShown}
-use Rattle.flip_reading.proofs.Shown.{Clean, CleanIn, clean-both, either-no, opt_line}
+use Rattle.flip_reading.proofs.Shown.{CleanIn, opt_line}
 use Rattle.format_law.specs.ReadAgain.{IsGivenBack, begins_with_space, header_again, index_said, name_if, stamp_if}
 use Rattle.format_law.proofs.Names.{Holds, Source, source}
 
@@ -49,9 +51,9 @@ record Wanted (text : List ℕ) (form : Form) (h : Header) (k l : Kind) (old new
   l_other : l ≢ Index
   first : needs_index form (header_of text h) ≡ false → HasHead (heads_if k old ++ heads_if l new)
 
-index-clean-of : (v : Bool) (name : List ℕ) → Clean name → CleanIn (index-of v name)
+index-clean-of : (v : Bool) (name : List ℕ) → NoFeed name → CleanIn (index-of v name)
 index-clean-of false name c = tt
-index-clean-of true name c = clean-both name (tab_if name) c (tab-clean name)
+index-clean-of true name c = no-feed-both name (tab_if name) c (tab-clean name)
 
 -- what stands behind 'Index:' in the line that is written
 line-behind : (name : List ℕ) → behind (codes "Index:") (index_line name) ≡ after (codes "Index:") (mark Index ++ (name ++ tab_if name))
@@ -63,7 +65,7 @@ index-again : (v : Bool) (name : List ℕ) → name_said (shown (codes "Index:")
 index-again false name = refl
 index-again true name = ap name_said (sym (line-behind name))
 
-headed : (text : List ℕ) (form : Form) (h : Header) (k l : Kind) (old new : Option (List ℕ)) → Wanted text form h k l old new → Clean (plain_name (header_of text h)) → HeadedIn text form h
+headed : (text : List ℕ) (form : Form) (h : Header) (k l : Kind) (old new : Option (List ℕ)) → Wanted text form h k l old new → NoFeed (plain_name (header_of text h)) → HeadedIn text form h
 headed text form h k l old new n clean =
     let v : Bool = needs_index form (header_of text h) in
     let name : List ℕ = plain_name (header_of text h) in
@@ -175,14 +177,14 @@ given-back name g = ap (λ o. text_or_none (name_said o)) (line-behind name ∙ 
   where
     no-tabs : (bs : List ℕ) → list_any (λ b. eqb b 9) bs ≡ false → NoTab bs
     no-tabs [] e = tt
-    no-tabs (b ∷ bs) e = let both = either-no (eqb b 9) (list_any (λ c. eqb c 9) bs) e in (ap not both.0, no-tabs bs both.1)
+    no-tabs (b ∷ bs) e = let both = or_parts (eqb b 9) (list_any (λ c. eqb c 9) bs) e in (ap not both.0, no-tabs bs both.1)
 
     none : (v w : Bool) → v ≡ false → w ≡ false → (v || w) ≡ false
     none v w e f = rw (e, f) refl
 
     by : (bs : List ℕ) → begins_with_space bs ≡ false → list_any (λ b. eqb b 9) bs ≡ false → text_or_none (name_said (Some (32 ∷ (bs ++ tab_if bs)))) ≡ bs
     by [] e f = refl
-    by (c ∷ cs) e f = let tabs = either-no (eqb c 9) (list_any (λ b. eqb b 9) cs) f in ap text_or_none (spaced c cs (none (eqb c 32) (eqb c 9) e tabs.0) (no-tabs (c ∷ cs) f))
+    by (c ∷ cs) e f = let tabs = or_parts (eqb c 9) (list_any (λ b. eqb b 9) cs) f in ap text_or_none (spaced c cs (none (eqb c 32) (eqb c 9) e tabs.0) (no-tabs (c ∷ cs) f))
 
 -- where one of two names is there, the better one is one of them, whatever else is
 better-first : (a b c d : Option (List ℕ)) → (is_some a || is_some b) ≡ true → option_map_or (λ (name : List ℕ). name) (option_or (better_of a b) c) [] ≡ option_map_or (λ (name : List ℕ). name) (option_or (better_of a b) d) []

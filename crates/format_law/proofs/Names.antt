@@ -3,7 +3,9 @@ use Rattle.std.proofs.Common.{◌≡◌, ℕ, zero, suc, ◌≤◌, Bool, true, 
 use Rattle.std.specs.Prelude.{is_some, codes}
 use Rattle.std.specs.List.{AllByRecursion, list_any, position_or_len}
 use Rattle.std.specs.Option.{option_or}
+use Rattle.std.proofs.lemmas.Bool.{or_parts}
 use Rattle.line_list.specs.Lines.{IsLine}
+use Rattle.line_list.proofs.WholeLines.{NoFeed}
 use Rattle.hunk_core.specs.declared.Form.{Form}
 use Rattle.hunk_core.specs.declared.Form.TheVariants.{Unified, Context, Normal, Ed}
 use Rattle.hunk_core.specs.LineTests.{after}
@@ -30,7 +32,7 @@ use Rattle.text_joins.proofs.Places.{StandsAt}
 use Rattle.flip_reading.proofs.Lines.{content-closed}
 use Rattle.flip_reading.proofs.Names.{NoTab, clean-said, name-before, take-passing, text_or_none}
 use Rattle.flip_reading.proofs.Region.{IsShown}
-use Rattle.flip_reading.proofs.Shown.{AreRows, Clean, CleanIn, IsRow, Shows, blanks-none, clean-behind, either-no, line-clean, line-parts, name-shows, not-blank, region-rows}
+use Rattle.flip_reading.proofs.Shown.{AreRows, CleanIn, IsRow, Shows, blanks-none, clean-behind, line-clean, line-parts, name-shows, not-blank, region-rows}
 use Rattle.format_law.specs.ReadAgain.{IsGivenBack}
 
 -- ---- what holds of all names holds of the one
@@ -70,46 +72,46 @@ holds-name P h none a b c d =
 
 -- ---- without line feeds
 
-said-clean : (o : Option (List ℕ)) → CleanIn o → Holds Clean (name_said o)
+said-clean : (o : Option (List ℕ)) → CleanIn o → Holds NoFeed (name_said o)
 said-clean None c = tt
 said-clean (Some bs) c = by (name_said (Some bs)) (clean-said bs c)
   where
-    by : (o : Option (List ℕ)) → Clean (text_or_none o) → Holds Clean o
+    by : (o : Option (List ℕ)) → NoFeed (text_or_none o) → Holds NoFeed o
     by None h = tt
     by (Some x) h = h
 
-behind-clean : (m line : List ℕ) → IsLine line → Holds Clean (behind m line)
+behind-clean : (m line : List ℕ) → IsLine line → Holds NoFeed (behind m line)
 behind-clean m line is = by (after m (content line)) refl
   where
-    clear : Clean (content line)
-    clear = let p = line-parts line is in subst Clean (sym (ap content p.1 ∙ content-closed p.0)) (line-clean p.0 (subst IsLine p.1 is))
+    clear : NoFeed (content line)
+    clear = let p = line-parts line is in subst NoFeed (sym (ap content p.1 ∙ content-closed p.0)) (line-clean p.0 (subst IsLine p.1 is))
 
-    by : (o : Option (List ℕ)) → after m (content line) ≡ o → Holds Clean (after m (content line))
-    by None e = subst (Holds Clean) (sym e) tt
-    by (Some rest) e = subst (Holds Clean) (sym e) (clean-behind m rest (subst Clean (after-takes m (content line) rest e) clear))
+    by : (o : Option (List ℕ)) → after m (content line) ≡ o → Holds NoFeed (after m (content line))
+    by None e = subst (Holds NoFeed) (sym e) tt
+    by (Some rest) e = subst (Holds NoFeed) (sym e) (clean-behind m rest (subst NoFeed (after-takes m (content line) rest e) clear))
 
-first-clean : (m : List ℕ) (ls : List (List ℕ)) → AllByRecursion IsLine ls → Holds Clean (first_some (behind m) ls)
+first-clean : (m : List ℕ) (ls : List (List ℕ)) → AllByRecursion IsLine ls → Holds NoFeed (first_some (behind m) ls)
 first-clean m [] all = tt
 first-clean m (line ∷ ls) all = by (behind m line) (behind-clean m line all.0) (first-clean m ls all.1)
   where
-    by : (o : Option (List ℕ)) → Holds Clean o → Holds Clean (first_some (behind m) ls) → Holds Clean (cond (is_some o) o (first_some (behind m) ls))
+    by : (o : Option (List ℕ)) → Holds NoFeed o → Holds NoFeed (first_some (behind m) ls) → Holds NoFeed (cond (is_some o) o (first_some (behind m) ls))
     by None h k = k
     by (Some x) h k = h
 
-whole-clean : (o : Option (List ℕ)) → Holds Clean o → Holds Clean (whole_said o)
+whole-clean : (o : Option (List ℕ)) → Holds NoFeed o → Holds NoFeed (whole_said o)
 whole-clean None h = tt
 whole-clean (Some bs) h = by (eqb (length bs) 0)
   where
-    all-of : (n : ℕ) (xs : List ℕ) → Clean xs → Clean (take n xs)
+    all-of : (n : ℕ) (xs : List ℕ) → NoFeed xs → NoFeed (take n xs)
     all-of zero xs c = tt
     all-of (suc n) [] c = tt
     all-of (suc n) (x ∷ xs) c = (c.0, all-of n xs c.1)
 
-    by : (v : Bool) → Holds Clean (let none : Option (List ℕ) = None in cond v none (Some (take (length bs) bs)))
+    by : (v : Bool) → Holds NoFeed (let none : Option (List ℕ) = None in cond v none (Some (take (length bs) bs)))
     by true = tt
     by false = all-of (length bs) bs h
 
-to-clean : (a : Action) (ls : List (List ℕ)) → AllByRecursion IsLine ls → Holds Clean (to_by a ls)
+to-clean : (a : Action) (ls : List (List ℕ)) → AllByRecursion IsLine ls → Holds NoFeed (to_by a ls)
 to-clean actions.Plain ls all = tt
 to-clean actions.New ls all = tt
 to-clean actions.Deleted ls all = tt
@@ -122,7 +124,7 @@ front-given : (n : ℕ) (u : List ℕ) → blanks u ≡ 0 → n ≤ position_or_
 front-given zero u e low = record { front = refl; tab = refl }
 front-given (suc n) [] e low = record { front = refl; tab = refl }
 front-given (suc n) (c ∷ cs) e low =
-    let plain = either-no (eqb c 32) (eqb c 9) (not-blank c cs e) in
+    let plain = or_parts (eqb c 32) (eqb c 9) (not-blank c cs e) in
     record { front = plain.0; tab = no-tabs (take (suc n) (c ∷ cs)) (take-passing (λ b. not (eqb b 9)) (suc n) (c ∷ cs) low) }
   where
     turn : (v w : Bool) → not v ≡ true → w ≡ false → (v || w) ≡ false
@@ -148,7 +150,7 @@ pub record Source (text : List ℕ) (h : Header) : Type 0 where
   pub new : Option (List ℕ)
   pub olds : Shows text h.old_name h.old_stamp old
   pub news : Shows text h.new_name h.new_stamp new
-  pub clean : Clean (plain_name (header_of text h))
+  pub clean : NoFeed (plain_name (header_of text h))
   pub given : Holds IsGivenBack (bytes_in text h.to) → IsGivenBack (plain_name (header_of text h))
 
 stand-all : (text : List ℕ) (rs : List Row) → AreRows text rs → AllByRecursion (StandsAt text) rs
@@ -191,11 +193,11 @@ module _ (ways : Ways) (text : List ℕ) (place number : ℕ) (rs : List Row) (a
         new = ns.0;
         olds = os.1;
         news = ns.1;
-        clean = holds-name Clean (header_of text (made form)) tt
-            (subst (Holds Clean) (sym os.1.name) (said-clean os.0 os.1.clean))
-            (subst (Holds Clean) (sym ns.1.name) (said-clean ns.0 ns.1.clean))
-            (subst (Holds Clean) (sym (to-said text gs (stand-all text gs led))) to)
-            (subst (Holds Clean) (sym x.1.name) (said-clean x.0 x.1.clean));
+        clean = holds-name NoFeed (header_of text (made form)) tt
+            (subst (Holds NoFeed) (sym os.1.name) (said-clean os.0 os.1.clean))
+            (subst (Holds NoFeed) (sym ns.1.name) (said-clean ns.0 ns.1.clean))
+            (subst (Holds NoFeed) (sym (to-said text gs (stand-all text gs led))) to)
+            (subst (Holds NoFeed) (sym x.1.name) (said-clean x.0 x.1.clean));
         given = λ given. holds-name IsGivenBack (header_of text (made form)) (record { front = refl; tab = refl })
             (subst (Holds IsGivenBack) (sym os.1.name) (said-given os.0))
             (subst (Holds IsGivenBack) (sym ns.1.name) (said-given ns.0))

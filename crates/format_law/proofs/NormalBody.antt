@@ -3,6 +3,7 @@ use Rattle.std.proofs.Common.{◌≡◌, ℕ, zero, suc, ◌+◌, ◌-◌, ◌<�
 use Rattle.std.specs.Prelude.{filter}
 use Rattle.std.specs.List.{AllByRecursion, flat_map}
 use Rattle.std.proofs.lemmas.List.{length-append, length-map}
+use Rattle.std.proofs.lemmas.Bool.{or_parts, or_from}
 use Rattle.hunk_core.specs.declared.Form.TheVariants.{Normal}
 use Rattle.hunk_core.specs.declared.Side.{Side}
 use Rattle.hunk_core.specs.declared.Side.TheVariants.{Forward, Reversed}
@@ -11,6 +12,7 @@ use Rattle.hunk_core.specs.PlainHunk.{Marked, PlainHunk, new_lines, old_lines}
 use Rattle.hunk_core.specs.Rules.{HasNoInnerFeed, lacks_inner_end, runs_over, starts_at_zero}
 use Rattle.normal_form.specs.Canonical.{canonical, in_order, lines_text}
 use Rattle.normal_form.specs.Grammar.{on_side}
+use Rattle.normal_form.proofs.Unbroken.{old-lines-are, new-lines-are}
 use Rattle.patch_header.specs.declared.ways.Ways.{Ways}
 use Rattle.file_patch.specs.PlainPatch.{hunks}
 use Rattle.change_commands.specs.Blocks.{Block, blocks_in, hunk_edits}
@@ -23,37 +25,15 @@ use Rattle.flip_reading.specs.TurnedPatches.{as_shown}
 use Rattle.flip_reading.proofs.Feeds.{NoInner, on-side-inner, side-inner}
 use Rattle.flip_reading.proofs.Hunks.{ChainAs, IsGood, Rising, body-of, chain-piece}
 use Rattle.flip_reading.proofs.Reading.{HasHunk, opens-body}
-use Rattle.flip_reading.proofs.Shown.{either-no}
 use Rattle.hunk_core.proofs.TextLemmas.{some-not}
 use Rattle.format_law.specs.ReadAgain.{block_hunk, block_hunks}
 use Rattle.format_law.proofs.Blocks.{Apart, IsSome, blocks-apart, blocks-lines, blocks-some, edits-climb, holds-each, hunks-lines, lacks-each, lines_by}
 use Rattle.format_law.proofs.Shown.{Body}
 
--- ---- the lines of both sides
-
-olds-none : (news : List (List ℕ)) → old_lines (on_side Reversed news) ≡ []
-olds-none [] = refl
-olds-none (l ∷ news) = olds-none news
-
-pub olds-are : (olds news : List (List ℕ)) → old_lines (on_side Forward olds ++ on_side Reversed news) ≡ olds
-olds-are [] news = olds-none news
-olds-are (l ∷ olds) news = ap (λ ls. l ∷ ls) (olds-are olds news)
-
-news-all : (news : List (List ℕ)) → new_lines (on_side Reversed news) ≡ news
-news-all [] = refl
-news-all (l ∷ news) = ap (λ ls. l ∷ ls) (news-all news)
-
-pub news-are : (olds news : List (List ℕ)) → new_lines (on_side Forward olds ++ on_side Reversed news) ≡ news
-news-are [] news = news-all news
-news-are (l ∷ olds) news = news-are olds news
-
 -- ---- the hunk of a block keeps the rules
 
 all-false : (a b c d : Bool) → a ≡ false → b ≡ false → c ≡ false → d ≡ false → cond a (Some NoLines) (cond b (Some Start) (cond c (Some Sum) (cond d (Some InnerEnd) None))) ≡ None
 all-false a b c d p q r s = rw (p, q, r, s) refl
-
-both-false : (a b : Bool) → a ≡ false → b ≡ false → (a || b) ≡ false
-both-false a b p q = rw (p, q) refl
 
 some-lines : (n : ℕ) → 1 ≤ n → eqb n 0 ≡ false
 some-lines zero some = absurd (omega (arith, some))
@@ -95,17 +75,17 @@ record Keeps (adds drops : ℕ) (b : Block) : Type 0 where
 block-good : (adds drops : ℕ) (b : Block) → Keeps adds drops b → IsGood (block_hunk adds drops b)
 block-good adds drops b k =
     let body : List Marked = on_side Forward b.dropped ++ on_side Reversed b.added in
-    let olds : old_lines body ≡ b.dropped = olds-are b.dropped b.added in
-    let news : new_lines body ≡ b.added = news-are b.dropped b.added in
+    let olds : old_lines body ≡ b.dropped = old-lines-are b.dropped b.added in
+    let news : new_lines body ≡ b.added = new-lines-are b.dropped b.added in
     let h : PlainHunk = block_hunk adds drops b in
     let long : length body ≡ length b.dropped + length b.added = length-append (on_side Forward b.dropped) (on_side Reversed b.added) ∙ ap (λ n. n + length (on_side Reversed b.added)) (length-map b.dropped _) ∙ ap (λ n. length b.dropped + n) (length-map b.added _) in
     let starts : (starts_at_zero h.old_start (old_lines body) || starts_at_zero h.new_start (new_lines body)) ≡ false =
     ap (λ ls. starts_at_zero h.old_start ls || starts_at_zero h.new_start (new_lines body)) olds ∙ ap (λ ls. starts_at_zero h.old_start b.dropped || starts_at_zero h.new_start ls) news
-    ∙ both-false _ _ (begins-one b.first b.dropped k.first) (begins-one (new_first adds drops b) b.added k.new) in
+    ∙ or_from _ _ (begins-one b.first b.dropped k.first) (begins-one (new_first adds drops b) b.added k.new) in
     let sums : (runs_over h.old_start (old_lines body) || runs_over h.new_start (new_lines body)) ≡ false =
     ap (λ ls. runs_over h.old_start ls || runs_over h.new_start (new_lines body)) olds ∙ ap (λ ls. runs_over h.old_start b.dropped || runs_over h.new_start ls) news ∙ k.small in
     let ends : (lacks_inner_end (old_lines body) || lacks_inner_end (new_lines body)) ≡ false =
-    ap (λ ls. lacks_inner_end ls || lacks_inner_end (new_lines body)) olds ∙ ap (λ ls. lacks_inner_end b.dropped || lacks_inner_end ls) news ∙ both-false _ _ k.dropped k.added in
+    ap (λ ls. lacks_inner_end ls || lacks_inner_end (new_lines body)) olds ∙ ap (λ ls. lacks_inner_end b.dropped || lacks_inner_end ls) news ∙ or_from _ _ k.dropped k.added in
     record {
       unbroken = all-false _ _ _ _ (some-lines (length body) (omega (arith, long, k.some.some))) starts sums ends;
       clean = on-side-inner Forward b.dropped (on_side Reversed b.added) k.dropped_clean (side-inner Reversed b.added k.added_clean);
@@ -131,7 +111,7 @@ record AllKeep (bs : List Block) : Type 0 where
 blocks-good : (adds drops end : ℕ) (bs : List Block) → drops ≤ end → Apart end bs → AllKeep bs → has_large_normal adds drops bs ≡ false → AllByRecursion IsGood (block_hunks adds drops bs)
 blocks-good adds drops end [] low apart k small = subst (AllByRecursion IsGood) (sym (hunks-none adds drops)) tt
 blocks-good adds drops end (b ∷ bs) low apart k small =
-    let both = either-no (is_large_normal adds drops b) (has_large_normal (adds + length b.added) (drops + length b.dropped) bs) (sym (large-cons adds drops b bs) ∙ small) in
+    let both = or_parts (is_large_normal adds drops b) (has_large_normal (adds + length b.added) (drops + length b.dropped) bs) (sym (large-cons adds drops b bs) ∙ small) in
     let behind : end < b.first = apart.0 in
     let keeps : Keeps adds drops b = record {
       some = k.some.0;
@@ -156,8 +136,8 @@ blocks-rise from adds drops end (b ∷ bs) low apart =
 block-text : (adds drops : ℕ) (b : Block) → canonical (block_hunk adds drops b) ≡ normal_command adds drops b
 block-text adds drops b =
     let h : PlainHunk = block_hunk adds drops b in
-    ap (λ ls. lines_text h.old_start h.new_start ls (new_lines h.body)) (olds-are b.dropped b.added)
-    ∙ ap (λ ls. lines_text h.old_start h.new_start b.dropped ls) (news-are b.dropped b.added)
+    ap (λ ls. lines_text h.old_start h.new_start ls (new_lines h.body)) (old-lines-are b.dropped b.added)
+    ∙ ap (λ ls. lines_text h.old_start h.new_start b.dropped ls) (new-lines-are b.dropped b.added)
 
 blocks-text : (adds drops : ℕ) (bs : List Block) → flat_map (hunk_text Normal) (block_hunks adds drops bs) ≡ normal_behind adds drops bs
 blocks-text adds drops [] = ap (flat_map (hunk_text Normal)) (hunks-none adds drops) ∙ sym (behind-none adds drops)
@@ -173,8 +153,8 @@ with_body h body = record { old_start = h.old_start; new_start = h.new_start; bo
 block-order : (adds drops : ℕ) (b : Block) → in_order (block_hunk adds drops b) ≡ block_hunk adds drops b
 block-order adds drops b =
     let h : PlainHunk = block_hunk adds drops b in
-    ap (λ ls. with_body h (on_side Forward ls ++ on_side Reversed (new_lines h.body))) (olds-are b.dropped b.added)
-    ∙ ap (λ ls. with_body h (on_side Forward b.dropped ++ on_side Reversed ls)) (news-are b.dropped b.added)
+    ap (λ ls. with_body h (on_side Forward ls ++ on_side Reversed (new_lines h.body))) (old-lines-are b.dropped b.added)
+    ∙ ap (λ ls. with_body h (on_side Forward b.dropped ++ on_side Reversed ls)) (new-lines-are b.dropped b.added)
 
 blocks-order : (adds drops : ℕ) (bs : List Block) → map (as_shown Normal) (block_hunks adds drops bs) ≡ block_hunks adds drops bs
 blocks-order adds drops [] = ap (map (as_shown Normal)) (hunks-none adds drops) ∙ sym (hunks-none adds drops)
@@ -213,9 +193,9 @@ block-lines side hs = blocks-lines side (hunk_edits hs) ∙ hunks-lines side hs
 pub normal-body : (ways : Ways) (hs : List PlainHunk) → AllByRecursion IsGood hs → is_unfit Normal (hunks hs) ≡ false → not (eqb (length (blocks_in (hunks hs))) 0) ≡ true → Body ways Normal (hunks hs)
 normal-body ways hs good fits some =
     let bs : List Block = blocks_in (hunks hs) in
-    let falls = either-no (falls_back hs) ((lacks_inner_end (changed_lines Forward hs) || lacks_inner_end (changed_lines Reversed hs)) || has_large_normal 0 0 bs) fits in
-    let opens = either-no (lacks_inner_end (changed_lines Forward hs) || lacks_inner_end (changed_lines Reversed hs)) (has_large_normal 0 0 bs) falls.1 in
-    let ends = either-no (lacks_inner_end (changed_lines Forward hs)) (lacks_inner_end (changed_lines Reversed hs)) opens.0 in
+    let falls = or_parts (falls_back hs) ((lacks_inner_end (changed_lines Forward hs) || lacks_inner_end (changed_lines Reversed hs)) || has_large_normal 0 0 bs) fits in
+    let opens = or_parts (lacks_inner_end (changed_lines Forward hs) || lacks_inner_end (changed_lines Reversed hs)) (has_large_normal 0 0 bs) falls.1 in
+    let ends = or_parts (lacks_inner_end (changed_lines Forward hs)) (lacks_inner_end (changed_lines Reversed hs)) opens.0 in
     let apart = blocks-apart (hunk_edits hs) (edits-climb hs good falls.0) in
     let keep : AllKeep bs = record {
       some = blocks-some (hunk_edits hs);

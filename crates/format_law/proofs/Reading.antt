@@ -1,6 +1,6 @@
 -- A set that was written in a form, read again.
-use Rattle.std.proofs.Common.{◌≡◌, ℕ, suc, Bool, true, false, cond, List, [], ◌∷◌, ◌++◌, length, map, Option, None, Some, Ok, refl, sym, ap, subst, ◌∙◌, arith}
-use Rattle.std.specs.Prelude.{All, find, option_map}
+use Rattle.std.proofs.Common.{◌≡◌, ℕ, Bool, true, false, cond, List, [], ◌∷◌, ◌++◌, length, map, Option, None, Some, Ok, refl, sym, ap, subst, ◌∙◌}
+use Rattle.std.specs.Prelude.{find, option_map}
 use Rattle.std.specs.List.{AllByRecursion, flat_map, list_any, range_with_len, zip}
 use Rattle.std.specs.Option.{IfSome, option_or}
 use Rattle.std.proofs.lemmas.Grind.{flat_map-append}
@@ -8,6 +8,7 @@ use Rattle.std.proofs.lemmas.List.{append-nil}
 use Rattle.std.proofs.lemmas.List.Concat.{flat_map-cons}
 use Rattle.line_list.specs.Lines.{IsLine, lines}
 use Rattle.line_list.proofs.Pieces.{joined, pieces-only}
+use Rattle.line_list.proofs.WholeLines.{lines-both}
 use Rattle.hunk_core.specs.declared.Form.{Form}
 use Rattle.hunk_core.specs.declared.Side.TheVariants.{Forward}
 use Rattle.patch_header.specs.Openings.{admits, asks_dot, begins}
@@ -16,7 +17,7 @@ use Rattle.patch_header.specs.declared.openings.Stop.TheVariants.{Opening}
 use Rattle.patch_header.specs.declared.ways.Ways.{Ways}
 use Rattle.patch_header.proofs.Stands.{opening-words}
 use Rattle.file_patch.specs.Absent.{IsLawfulPatch}
-use Rattle.file_patch.specs.PlainPatch.{IsLawfulChange, PlainChange, PlainPatch, header_of, patch_of}
+use Rattle.file_patch.specs.PlainPatch.{IsLawfulChange, PlainChange, PlainPatch, header_of, patch_of, first_opening}
 use Rattle.file_patch.specs.declared.FilePatch.{FilePatch}
 use Rattle.patch_text.specs.Regions.{Region}
 use Rattle.patch_set.specs.PlainName.{plain_name}
@@ -32,12 +33,11 @@ use Rattle.change_commands.specs.Blocks.{changes}
 use Rattle.change_commands.specs.Taken.{flags, has_kept, left_patch, left_patches}
 use Rattle.change_commands.proofs.Rows.{flags-long}
 use Rattle.format_convert.specs.Converted.{change_text, converted, is_written, rows, written, written_if}
-use Rattle.format_convert.specs.Refusals.{first_line, is_unfit, lacks_context, no_context, refusal, unfit}
+use Rattle.format_convert.specs.Refusals.{is_unfit, lacks_context, no_context, refusal, unfit}
 use Rattle.format_convert.specs.declared.fault.ConvertFault.{ConvertFault}
 use Rattle.format_convert.proofs.RowLemmas.{converted-is, left-is, refusal-is, row_if}
 use Rattle.flip_reading.proofs.Headed.{heads-quiet, heads-whole}
 use Rattle.flip_reading.proofs.Headers.{head_lines}
-use Rattle.flip_reading.proofs.Hunks.{whole-both}
 use Rattle.flip_reading.proofs.Reading.{all-placed, all-shown, clean-front, map-none, no-dots, whole-pieces}
 use Rattle.flip_reading.proofs.Region.{IsShownIf, regions-shown}
 use Rattle.std.proofs.lemmas.Bool.{and_from}
@@ -45,6 +45,7 @@ use Rattle.format_law.specs.ReadAgain.{IsGivenBack, again_if, change_again, head
 use Rattle.format_law.proofs.Bodies.{body-for, changes-for, not-bare}
 use Rattle.format_law.proofs.Headed.{HeadedIn, headed-in, shown-name}
 use Rattle.format_law.proofs.Shown.{Body}
+use Rattle.format_law.proofs.EdBody.{all-by}
 
 -- ---- what is known of a file patch of a set
 
@@ -54,10 +55,6 @@ pub record IsReady (ways : Ways) (text : List ℕ) (p : FilePatch) : Type 0 wher
   pub placed : IsPlaced text start before p
   pub shown : IsShownIf ways text p.header
   pub lawful : IsLawfulChange text p.change
-
-all-by : {A : Type 0} (P : A → Type 0) (xs : List A) → All P xs → AllByRecursion P xs
-all-by P [] all = tt
-all-by P (x ∷ xs) all = (all 0 x (omega arith), all-by P xs (λ k d lt. all (suc k) d (omega (arith, lt))))
 
 all-ready : (ways : Ways) (text : List ℕ) (ps : List FilePatch) → AllByRecursion (λ (p : FilePatch). (s : ℕ) × ((b : ℕ) × IsPlaced text s b p)) ps → AllByRecursion (λ (p : FilePatch). IsShownIf ways text p.header) ps
     → AllByRecursion (IsLawfulPatch text) ps → AllByRecursion (IsReady ways text) ps
@@ -96,7 +93,7 @@ own-of ways form text p c admitted h b =
     } in
     record {
       own = region ++ b.body;
-      whole = whole-both region b.body (heads-whole h.heads h.clean) b.whole;
+      whole = lines-both region b.body (heads-whole h.heads h.clean) b.whole;
       is = ap (λ x. x ++ change_text form c) h.is ∙ ap (λ x. joined region ++ x) b.is ∙ sym (flat_map-append (λ (l : List ℕ). l) region b.body);
       reads = reads;
       begins_so = λ more. clean-front h.heads b.body more h.some;
@@ -154,7 +151,7 @@ module _ (from ways : Ways) (form : Form) (j : PlainFilterJob) (text : List ℕ)
       } in
       record {
         parts = part ∷ g.parts;
-        whole = subst (AllByRecursion IsLine) (sym these) (whole-both o.own (all_lines g.parts) o.whole g.whole);
+        whole = subst (AllByRecursion IsLine) (sym these) (lines-both o.own (all_lines g.parts) o.whole g.whole);
         is = ap (λ x. x ++ flat_map (written_if form j text) rs) (bytes ∙ o.is) ∙ ap (λ x. joined o.own ++ x) g.is ∙ sym (flat_map-append (λ (l : List ℕ). l) o.own (all_lines g.parts)) ∙ ap joined (sym these);
         fit = (o.reads, clean, g.fit);
         patches = ap (λ qs. again ∷ qs) g.patches ∙ sym (flat_map-append (again_if form) (row_if j text r) (flat_map (row_if j text) rs) ∙ ap (λ ps. ps ++ flat_map (again_if form) (flat_map (row_if j text) rs)) one);
@@ -226,10 +223,10 @@ both-all P Q (p ∷ ps) a b = ((a.0, b.0), both-all P Q ps a.1 b.1)
 
 all-fit : (form : Form) (ps : List PlainPatch) → refusal form ps ≡ None → AllByRecursion (IsFit form) ps
 all-fit form ps none =
-    let both = or-none (option_map no_context (first_line (lacks_context form) ps)) (option_map unfit (first_line (is_unfit form) ps)) (sym (refusal-is form ps) ∙ none) in
+    let both = or-none (option_map no_context (first_opening (lacks_context form) ps)) (option_map unfit (first_opening (is_unfit form) ps)) (sym (refusal-is form ps) ∙ none) in
     both-all (λ p. lacks_context form p ≡ false) (λ p. is_unfit form p ≡ false) ps
-    (find-none (lacks_context form) ps (map-none (λ (p : PlainPatch). p.header.opening) (find (lacks_context form) ps) (map-none no_context (first_line (lacks_context form) ps) both.0)))
-    (find-none (is_unfit form) ps (map-none (λ (p : PlainPatch). p.header.opening) (find (is_unfit form) ps) (map-none unfit (first_line (is_unfit form) ps) both.1)))
+    (find-none (lacks_context form) ps (map-none (λ (p : PlainPatch). p.header.opening) (find (lacks_context form) ps) (map-none no_context (first_opening (lacks_context form) ps) both.0)))
+    (find-none (is_unfit form) ps (map-none (λ (p : PlainPatch). p.header.opening) (find (is_unfit form) ps) (map-none unfit (first_opening (is_unfit form) ps) both.1)))
 
 pub reads-law : (form : Form) (j : PlainFilterJob) (v : SetView) (ways : Ways) → IsWhole v → admits ways.only form ≡ true → refusal form (left_patches j (plain_patches v)) ≡ None → read_unnumbered ways (converted form j v) ≡ Ok (patches_again form j v)
 reads-law form j v ways whole admitted none =

@@ -5,6 +5,7 @@ use Rattle.std.specs.List.{AllByRecursion, position_or_len}
 use Rattle.std.proofs.Math.Seq.{drop-append_seam, take-append_seam}
 use Rattle.std.proofs.lemmas.Bool.Decides.{nat_tests}
 use Rattle.std.proofs.lemmas.List.{append-nil}
+use Rattle.std.proofs.lemmas.Bool.{or_parts}
 use Rattle.num_text.specs.Numbers.{is_digit, decimal, AllDigits}
 use Rattle.num_text.proofs.Decimal.{decimal-numeral}
 use Rattle.hunk_core.specs.declared.Form.TheVariants.{Unified}
@@ -17,8 +18,10 @@ use Rattle.patch_gen.specs.Patches.{file_name}
 use Rattle.text_joins.specs.Said.{bytes_before, header_said, last_behind, name_said, new_line, old_line, stamp_said}
 use Rattle.flip_reading.proofs.Headers.{Head, behind-is, head_lines, index-other, last-three, minus-index, minus-minus, minus-plus, or-first, or-second, or-third, plus-index, plus-minus, plus-plus, prereq-none, same-header, shown, shown-no, shown-yes}
 use Rattle.flip_reading.proofs.Lines.{Minus, Plus, Index}
-use Rattle.flip_reading.proofs.Shown.{Clean, either-no, first-is}
+use Rattle.flip_reading.proofs.Shown.{first-is}
+use Rattle.flip_reading.proofs.Headed.{minus-is, plus-is}
 use Rattle.gen_law.specs.MadePatches.{made_header}
+use Rattle.line_list.proofs.WholeLines.{NoFeed}
 
 -- ---- a name without blanks
 
@@ -31,11 +34,11 @@ none-stops p (b ∷ bs) all = let again : position_or_len p bs ≡ length bs = n
 
 no-tabs : (bs : List ℕ) → IsUnbroken bs → AllByRecursion (λ b. eqb b 9 ≡ false) bs
 no-tabs [] all = tt
-no-tabs (b ∷ bs) all = ((either-no (eqb b 32) (eqb b 9) all.0).1, no-tabs bs all.1)
+no-tabs (b ∷ bs) all = ((or_parts (eqb b 32) (eqb b 9) all.0).1, no-tabs bs all.1)
 
 no-spaces : (bs : List ℕ) → IsUnbroken bs → AllByRecursion (λ b. eqb b 32 ≡ false) bs
 no-spaces [] all = tt
-no-spaces (b ∷ bs) all = ((either-no (eqb b 32) (eqb b 9) all.0).0, no-spaces bs all.1)
+no-spaces (b ∷ bs) all = ((or_parts (eqb b 32) (eqb b 9) all.0).0, no-spaces bs all.1)
 
 length-whole : (bs : List ℕ) → IsUnbroken bs → name_length bs ≡ length bs
 length-whole bs all =
@@ -86,11 +89,11 @@ name-plain i = (refl, (refl, (refl, (refl, (refl, digits-plain (decimal i) (deci
 digit-clean : (d : ℕ) → is_digit d ≡ true → d ≢ 10
 digit-clean d is e = let bad : is_digit 10 ≡ true = ap is_digit (sym e) ∙ is in absurd (cc)
 
-digits-clean : (ds : List ℕ) → AllDigits ds → Clean ds
+digits-clean : (ds : List ℕ) → AllDigits ds → NoFeed ds
 digits-clean [] all = tt
 digits-clean (d ∷ ds) all = (digit-clean d all.0, digits-clean ds all.1)
 
-pub name-clean : (i : ℕ) → Clean (file_name i)
+pub name-clean : (i : ℕ) → NoFeed (file_name i)
 name-clean i = ((λ e. cc), ((λ e. cc), ((λ e. cc), ((λ e. cc), ((λ e. cc), digits-clean (decimal i) (decimal-numeral i).digits)))))
 
 -- ---- the two lines
@@ -98,12 +101,6 @@ name-clean i = ((λ e. cc), ((λ e. cc), ((λ e. cc), ((λ e. cc), ((λ e. cc), 
 -- the old name's line, and the new one's
 abbrev pub heads : ℕ → List Head
 heads i = (Minus, file_name i) ∷ (Plus, file_name i) ∷ []
-
-minus-is : Minus ≢ Index
-minus-is e = cc
-
-plus-is : Plus ≢ Index
-plus-is e = cc
 
 old-is : (n : List ℕ) → old_line Unified (head_lines ((Minus, n) ∷ (Plus, n) ∷ [])) ≡ Some n
 old-is n =

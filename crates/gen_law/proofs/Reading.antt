@@ -1,5 +1,5 @@
 -- The patch over a made tree, read again.
-use Rattle.std.proofs.Common.{◌≡◌, ℕ, zero, suc, ◌+◌, ◌/◌, ◌≤◌, true, false, List, [], ◌∷◌, ◌++◌, map, append_assoc, Option, None, Some, Ok, refl, sym, ap, subst, ◌∙◌, arith}
+use Rattle.std.proofs.Common.{◌≡◌, ℕ, zero, suc, ◌+◌, ◌/◌, ◌≤◌, true, false, List, [], ◌∷◌, ◌++◌, map, append_assoc, Ok, refl, sym, ap, subst, ◌∙◌, arith}
 use Rattle.std.specs.Prelude.{codes}
 use Rattle.std.specs.List.{AllByRecursion, flat_map, list_any, range_with_len}
 use Rattle.std.proofs.lemmas.Grind.{flat_map-append}
@@ -10,10 +10,9 @@ use Rattle.line_list.specs.Join.{ends_open}
 use Rattle.line_list.specs.Lines.{IsLine, lines}
 use Rattle.line_list.proofs.JoinLemmas.{line-has}
 use Rattle.line_list.proofs.Pieces.{joined, pieces-only}
-use Rattle.hunk_core.specs.declared.Form.{Form}
+use Rattle.line_list.proofs.WholeLines.{lines-both}
 use Rattle.hunk_core.specs.declared.Form.TheVariants.{Unified}
 use Rattle.hunk_core.specs.PlainHunk.{PlainHunk}
-use Rattle.num_text.specs.NumberRanges.{range_at}
 use Rattle.ed_form.specs.Commands as ed
 use Rattle.unified_form.proofs.Pieces.{hunk_opens}
 use Rattle.patch_header.specs.Openings.{admits, asks_dot, begins}
@@ -31,10 +30,10 @@ use Rattle.text_joins.proofs.Joining.{region-is}
 use Rattle.text_joins.proofs.Standing.{parts-read}
 use Rattle.flip_reading.proofs.Headed.{AreClean, heads-quiet, heads-whole}
 use Rattle.flip_reading.proofs.Headers.{Head, head_lines}
-use Rattle.flip_reading.proofs.Hunks.{ChainAs, chain-piece, whole-both}
-use Rattle.flip_reading.proofs.Lines.{Kind, Minus, Plus, Stars, Index, clean-line, line_of}
+use Rattle.flip_reading.proofs.Hunks.{ChainAs, chain-piece}
+use Rattle.flip_reading.proofs.Lines.{Minus, Plus, clean-line}
 use Rattle.std.proofs.lemmas.Bool.{and_from}
-use Rattle.flip_reading.proofs.Reading.{whole-pieces}
+use Rattle.flip_reading.proofs.Reading.{whole-pieces, asks-none}
 use Rattle.gen_law.specs.MadePatches.{made_file_patch, made_hunk, made_hunks, made_patches}
 use Rattle.gen_law.proofs.Hunks.{body-for, body-hunks, body-text}
 use Rattle.gen_law.proofs.Names.{heads, header-read, name-clean}
@@ -48,17 +47,9 @@ heads-text i =
     let back : List ℕ = (codes "+++ " ++ n) ++ 10 ∷ [] in
     ap (λ t. front ++ 10 ∷ t) (sym (append-nil back)) ∙ sym (append_assoc front (10 ∷ []) (back ++ []))
 
-no-dot : (o : Option Form) (k : Kind) (bs : List ℕ) → asks_dot o (line_of k bs) ≡ false
-unfolding ed.parts_at range_at
-no-dot None Minus bs = refl
-no-dot None Plus bs = refl
-no-dot None Stars bs = refl
-no-dot None Index bs = refl
-no-dot (Some form) k bs = refl
-
 no-dots : (ways : Ways) (hs : List Head) → list_any (asks_dot ways.only) (head_lines hs) ≡ false
 no-dots ways [] = refl
-no-dots ways (h ∷ hs) = rw (no-dot ways.only h.0 h.1, no-dots ways hs) refl
+no-dots ways (h ∷ hs) = rw (asks-none ways.only h.0 h.1, no-dots ways hs) refl
 
 -- a hunk opens where there is one
 opens-body : (ways : Ways) (line : ℕ → List ℕ) (n : ℕ) (body : List (List ℕ)) → 1 ≤ n → ChainAs Unified 0 body [] (made_hunks line n) → begins ways.only Unified (body ++ []) ≡ true
@@ -96,7 +87,7 @@ one-own ways seed lines i admitted some few =
     } in
     record {
       own = region ++ b.0;
-      whole = whole-both region b.0 (heads-whole (heads i) clean) b.1.whole;
+      whole = lines-both region b.0 (heads-whole (heads i) clean) b.1.whole;
       is = ap (λ t. t ++ flat_map (hunk_text (file_line x)) (range_with_len 1 n)) (heads-text i) ∙ ap (λ t. joined region ++ t) (body-text x n b.0 b.1) ∙ sym (flat_map-append (λ (l : List ℕ). l) region b.0);
       reads = reads;
       begins_so = λ more. clean-line Minus (file_name i) ((head_lines ((Plus, file_name i) ∷ []) ++ b.0) ++ more);
@@ -134,7 +125,7 @@ gather ways seed lines a (suc n) admitted some few =
     } in
     record {
       parts = part ∷ g.parts;
-      whole = subst (AllByRecursion IsLine) (sym these) (whole-both o.own (all_lines g.parts) o.whole g.whole);
+      whole = subst (AllByRecursion IsLine) (sym these) (lines-both o.own (all_lines g.parts) o.whole g.whole);
       is = ap (λ t. t ++ flat_map (made_patch seed lines) (range_with_len (a + 1) n)) o.is ∙ ap (λ t. joined o.own ++ t) g.is ∙ sym (flat_map-append (λ (l : List ℕ). l) o.own (all_lines g.parts)) ∙ ap joined (sym these);
       fit = (o.reads, clean, g.fit);
       patches = ap (λ qs. made_file_patch seed lines a ∷ qs) g.patches;

@@ -1,7 +1,7 @@
 -- The test of a match and the relation.
-use Rattle.std.proofs.Common.{◌≡◌, ℕ, zero, suc, ◌+◌, ◌<◌, ◌≤◌, Bool, true, false, ◌&&◌, ◌||◌, List, [], ◌∷◌, length, drop, refl, sym, subst, arith}
+use Rattle.std.proofs.Common.{◌≡◌, ℕ, zero, suc, ◌+◌, ◌<◌, ◌≤◌, Bool, true, false, ◌||◌, List, [], ◌∷◌, length, drop, refl, sym, subst, arith}
 use Rattle.std.proofs.Common.{inl, inr}
-use Rattle.std.proofs.lemmas.Bool.{cases_lt, and_from}
+use Rattle.std.proofs.lemmas.Bool.{cases_lt, and_from, and_parts, or_left, or_right}
 use Rattle.std.specs.Prelude.{◌↔◌, IsTrue, ◌==◌}
 use Rattle.std.specs.List.{list_any, range_with_len}
 use Rattle.glob_match.specs.Pattern.{Element, Run, Any, Byte, OneOf, elements}
@@ -20,26 +20,14 @@ found-in-range test a (suc n) is = elim (test a) as (λ b. test a ≡ b → (k :
   | false ↦ λ here. let more = found-in-range test (a + 1) n (or-true (test a) _ is here) in (more.0, omega (arith, more.1), omega (arith, more.2), more.3)
 ] refl
 
-or-left : (p q : Bool) → p ≡ true → (p || q) ≡ true
-or-left true q is = refl
-or-left false q is = absurd cc
-
-or-right : (p q : Bool) → q ≡ true → (p || q) ≡ true
-or-right true q is = refl
-or-right false q is = is
-
 pub in-range-found : (test : ℕ → Bool) (a n k : ℕ) → a ≤ k → k < a + n → test k ≡ true → list_any test (range_with_len a n) ≡ true
 in-range-found test a zero k low high is = absurd (omega arith)
 in-range-found test a (suc n) k low high is = elim (cases_lt a k) [
-  | inl less ↦ or-right (test a) _ (in-range-found test (a + 1) n k (omega (arith, less)) (omega arith) is)
-  | inr all ↦ or-left (test a) _ (let same : k ≡ a = omega (arith, all) in subst (λ m. test m ≡ true) same is)
+  | inl less ↦ or_right (test a) _ (in-range-found test (a + 1) n k (omega (arith, less)) (omega arith) is)
+  | inr all ↦ or_left (test a) _ (let same : k ≡ a = omega (arith, all) in subst (λ m. test m ≡ true) same is)
 ]
 
 -- ---- the test and the relation
-
-both : (p q : Bool) → (p && q) ≡ true → (p ≡ true) × (q ≡ true)
-both true q is = (refl, is)
-both false q is = absurd cc
 
 matched : (es : List Element) (name : List ℕ) → fits es name ≡ true → Match es name
 unfolding fits Match
@@ -49,9 +37,9 @@ matched (Run ∷ es) name is = let f = found-in-range (λ k. fits es (drop k nam
 matched (Any ∷ es) [] is = absurd cc
 matched (Any ∷ es) (b ∷ bs) is = matched es bs is
 matched (Byte c ∷ es) [] is = absurd cc
-matched (Byte c ∷ es) (b ∷ bs) is = let h = both _ _ is in (h.0, matched es bs h.1)
+matched (Byte c ∷ es) (b ∷ bs) is = let h = and_parts _ _ is in (h.0, matched es bs h.1)
 matched (OneOf o ms ∷ es) [] is = absurd cc
-matched (OneOf o ms ∷ es) (b ∷ bs) is = let h = both _ _ is in (h.0, matched es bs h.1)
+matched (OneOf o ms ∷ es) (b ∷ bs) is = let h = and_parts _ _ is in (h.0, matched es bs h.1)
 
 fitting : (es : List Element) (name : List ℕ) → Match es name → fits es name ≡ true
 unfolding fits Match

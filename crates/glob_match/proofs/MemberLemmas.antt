@@ -1,12 +1,9 @@
 -- Whether a byte is a member, place by place.
-use Rattle.std.proofs.Common.{◌≡◌, ◌≢◌, ℕ, ◌+◌, ◌-◌, ◌<◌, ◌≤◌, Bool, true, false, eqb, leb, ◌&&◌, ◌||◌, List, [], ◌∷◌, length, get_or, drop, refl, sym, ap, ◌∙◌, arith, length-drop}
+use Rattle.std.proofs.Common.{◌≡◌, ◌≢◌, ℕ, ◌+◌, ◌-◌, ◌<◌, ◌≤◌, true, false, eqb, leb, ◌&&◌, ◌||◌, List, [], ◌∷◌, length, get_or, drop, refl, sym, ap, ◌∙◌, arith, length-drop}
 use Rattle.std.proofs.lemmas.List.{drop-drop, get_or-drop, drop_all}
 use Rattle.std.proofs.lemmas.Bool.{eq-eqb, ne_eqb, le-leb, lt-leb, and_left, and_right}
+use Rattle.std.proofs.Math.Bool.{or-false}
 use Rattle.glob_match.specs.Matching.{is_member}
-
-or-false : (v : Bool) → (v || false) ≡ v
-or-false true = refl
-or-false false = refl
 
 range-front : (xs : List ℕ) (byte : ℕ) → 2 < length xs → get_or xs 1 0 ≡ 45 → is_member xs byte ≡ ((leb (get_or xs 0 0) byte && leb byte (get_or xs 2 0)) || is_member (drop 3 xs) byte)
 unfolding is_member

@@ -1,7 +1,7 @@
 -- Reading a pattern element by element.
-use Rattle.std.proofs.Common.{◌≡◌, ◌≢◌, ℕ, zero, suc, ◌+◌, ◌-◌, ◌<◌, ◌≤◌, true, false, cond, eqb, List, [], ◌∷◌, length, get_or, take, drop, None, Some, refl, sym, ap, ◌∙◌, arith}
+use Rattle.std.proofs.Common.{◌≡◌, ◌≢◌, ℕ, zero, suc, ◌+◌, ◌-◌, ◌<◌, true, false, cond, eqb, List, [], ◌∷◌, length, get_or, take, drop, None, Some, refl, sym, ap, ◌∙◌, arith}
 use Rattle.std.specs.Prelude.{option_map, slice_range}
-use Rattle.std.proofs.lemmas.List.{drop_more, drop-drop, drop_all}
+use Rattle.std.proofs.lemmas.List.{drop_more, drop-drop}
 use Rattle.std.proofs.lemmas.Bool.{eq-eqb}
 use Rattle.glob_match.specs.Pattern.{before_bracket, members_of, set_front, is_sign, after_open, front_of, elements_after, elements}
 
@@ -59,9 +59,6 @@ members-found pattern start k lt high is before =
     let width : start + 1 + k - start ≡ suc k = omega arith in
     ap members_of (drop_more pattern start 0 lt) ∙ ap (option_map (λ ms. get_or pattern start 0 ∷ ms)) (bracket-found (drop (start + 1) pattern) k high is before)
     ∙ sym (rw (width, drop_more pattern start 0 lt) refl)
-
-pub members-end : (pattern : List ℕ) (start : ℕ) → length pattern ≤ start → members_of (drop start pattern) ≡ None
-members-end pattern start le = ap members_of (drop_all start pattern le)
 
 pub sign-open : (pattern : List ℕ) (at : ℕ) → true ≡ is_sign (drop (at + 1) pattern) → after_open (drop (at + 1) pattern) ≡ set_front true 1 (members_of (drop (at + 1 + 1) pattern))
 sign-open pattern at e =

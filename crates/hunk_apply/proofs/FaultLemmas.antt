@@ -1,5 +1,5 @@
 -- Calls of a store and a sink, one after another.
-use Rattle.std.proofs.Common.{◌≡◌, Result, Ok, Err, OnOk, OnErr, IfOk, IfErr, sym, ◌∙◌, subst, arith}
+use Rattle.std.proofs.Common.{◌≡◌, Result, Ok, Err, OnErr, IfOk, IfErr, sym, ◌∙◌, subst, arith}
 use Rattle.std.specs.Result.{IsErrAnd}
 use Rattle.line_store.specs.Store.{Seen, Keeps}
 use Rattle.line_store.proofs.StoreLemmas.{cause-more}
@@ -24,15 +24,6 @@ counted-still a b h k lines told = k.count ∙ h lines (sym k.told ∙ told)
 pub if-ok-map : {R E : Type 0} (r : Result R E) (P Q : R → Type 0) → ((x : R) → P x → Q x) → IfOk r P → IfOk r Q
 if-ok-map (Ok x) P Q f p = f x p
 if-ok-map (Err e) P Q f p = tt
-
--- a fault that is passed on: what is said of a value says nothing, and what held of the fault holds still
-pub if-ok-none : {R E : Type 0} (P : R → Type 0) (Q : E → Type 0) (r : Result R E) → IsErrAnd r Q → IfOk r P
-if-ok-none P Q (Ok x) is = absurd is
-if-ok-none P Q (Err e) is = tt
-
-pub on-ok-none : {R E : Type 0} (P : Type 0) (Q : E → Type 0) (r : Result R E) → IsErrAnd r Q → OnOk r P
-on-ok-none P Q (Ok x) is = absurd is
-on-ok-none P Q (Err e) is = tt
 
 pub if-err-still : {R E : Type 0} (C : E → Type 0) (x : E) (r : Result R E) → IsErrAnd r (λ e. e ≡ x) → C x → IfErr r C
 if-err-still C x (Ok v) is held = absurd is

@@ -9,14 +9,15 @@ use Rattle.hunk_core.specs.declared.HunkLine.{HunkLine}
 use Rattle.hunk_core.specs.declared.Hunk.{Hunk}
 use Rattle.hunk_core.specs.Sides.{taken_count}
 use Rattle.hunk_core.specs.PlainHunk.{Marked, old_lines}
-use Rattle.hunk_core.specs.Turned.{is_add, is_drop, trailing}
+use Rattle.hunk_core.specs.Turned.{is_add, is_drop, trailing, taken_mark}
+use Rattle.hunk_core.proofs.TurnedLemmas.{is_kept_line}
 use Rattle.hunk_place.specs.Taken.{taken}
 use Rattle.hunk_place.specs.Verdicts.{adds, drops}
 use Rattle.hunk_place.proofs.FitLemmas.{taken-length}
 use Rattle.hunk_place.proofs.TakenLemmas.{lines-are, taken-trailing}
-use Rattle.hunk_apply.specs.Body.{turned_mark, side_marked}
+use Rattle.hunk_apply.specs.Body.{side_marked}
 use Rattle.hunk_apply.specs.Splice.{body_edits}
-use Rattle.hunk_apply.proofs.BodyLemmas.{body-is, edits-none, edits-mark, is_kept, post-old}
+use Rattle.hunk_apply.proofs.BodyLemmas.{body-is, edits-none, edits-mark, post-old}
 
 count-map : (p : Marked → Bool) (f : HunkLine → Marked) (ls : List HunkLine) → count_by p (map f ls) ≡ count_by (λ l. p (f l)) ls
 count-map p f [] = refl
@@ -24,10 +25,10 @@ count-map p f (l ∷ ls) =
     sum_by-cons (λ m. cond (p m) 1 0) (f l) (map f ls) ∙ ap (λ n. cond (p (f l)) 1 0 + n) (count-map p f ls)
     ∙ sym (sum_by-cons (λ x. cond (p (f x)) 1 0) l ls)
 
-pub adds-are : (text : List ℕ) (side : Side) (h : Hunk) → adds (taken text side h) ≡ count_by (λ l. is_add (turned_mark side l.mark)) h.body.items
+pub adds-are : (text : List ℕ) (side : Side) (h : Hunk) → adds (taken text side h) ≡ count_by (λ l. is_add (taken_mark side l.mark)) h.body.items
 adds-are text side h = ap (count_by (λ m. is_add m.mark)) (body-is text side h) ∙ count-map (λ m. is_add m.mark) (side_marked text side) h.body.items
 
-pub drops-are : (text : List ℕ) (side : Side) (h : Hunk) → drops (taken text side h) ≡ count_by (λ l. is_drop (turned_mark side l.mark)) h.body.items
+pub drops-are : (text : List ℕ) (side : Side) (h : Hunk) → drops (taken text side h) ≡ count_by (λ l. is_drop (taken_mark side l.mark)) h.body.items
 drops-are text side h = ap (count_by (λ m. is_drop m.mark)) (body-is text side h) ∙ count-map (λ m. is_drop m.mark) (side_marked text side) h.body.items
 
 -- a body that changes nothing has no edits
@@ -48,6 +49,6 @@ old-length text side h = ap length (sym (lines-are text side h)) ∙ taken-lengt
 pub trailing-old : (text : List ℕ) (side : Side) (h : Hunk) → trailing (taken text side h).body ≤ length (old_lines (taken text side h).body)
 trailing-old text side h =
     let n : length (old_lines (taken text side h).body) ≡ taken_count side h.body.items = old-length text side h in
-    let m : trailing (taken text side h).body ≡ prefix_len is_kept (reverse h.body.items) = taken-trailing text side h in
-    let old : prefix_len is_kept (reverse h.body.items) ≤ taken_count side h.body.items = post-old side h.body.items in
+    let m : trailing (taken text side h).body ≡ prefix_len is_kept_line (reverse h.body.items) = taken-trailing text side h in
+    let old : prefix_len is_kept_line (reverse h.body.items) ≤ taken_count side h.body.items = post-old side h.body.items in
     omega arith

@@ -8,21 +8,21 @@ use Rattle.hunk_core.specs.declared.Side.{Side}
 use Rattle.hunk_core.specs.declared.Hunk.{Hunk}
 use Rattle.hunk_core.specs.Sides.{taken_count}
 use Rattle.hunk_core.specs.PlainHunk.{PlainHunk, old_lines}
-use Rattle.hunk_core.specs.Turned.{trailing, base, is_add, is_drop}
+use Rattle.hunk_core.specs.Turned.{trailing, base, is_add, is_drop, taken_mark}
 use Rattle.hunk_core.specs.declared.Verdict.{Verdict}
 use Rattle.hunk_core.specs.declared.Verdict.TheVariants.{At, Nowhere}
+use Rattle.hunk_core.proofs.TurnedLemmas.{is_kept_line}
 use Rattle.hunk_place.specs.declared.PlaceState.{PlaceState}
 use Rattle.hunk_place.specs.declared.Spot.{Spot}
 use Rattle.hunk_place.specs.Taken.{taken}
 use Rattle.hunk_place.specs.Verdicts.{IsPlaced, adds, drops, verdict_of, after_hunk}
 use Rattle.hunk_place.proofs.TakenLemmas.{taken-trailing}
-use Rattle.hunk_apply.specs.Body.{turned_mark}
 use Rattle.outside.specs.SinkView.{SinkView}
 use Rattle.hunk_apply.specs.declared.put.Tail.{Tail}
 use Rattle.hunk_apply.specs.Splice.{Edit, body_edits, hunk_edits, spliced_from, AreFrom}
 use Rattle.hunk_apply.specs.Moved.{moved_state}
 use Rattle.hunk_apply.specs.Written.{Wrote}
-use Rattle.hunk_apply.proofs.BodyLemmas.{is_kept, post-old}
+use Rattle.hunk_apply.proofs.BodyLemmas.{post-old}
 use Rattle.hunk_apply.proofs.HunkLemmas.{adds-are, drops-are, old-length, no-edits}
 use Rattle.hunk_apply.proofs.WrittenLemmas.{wrote-none, wrote-same}
 
@@ -36,31 +36,31 @@ moved-is c s line offset k o n ek eo en =
     ∙ ap (λ x. let p : PlaceState = record { consumed = cond ((adds c == 0) && (drops c == 0)) s.consumed ((line - 1 + length (old_lines c.body)) - trailing c.body); offset = x; net = n } in p) eo
     ∙ ap (λ x. let p : PlaceState = record { consumed = cond ((adds c == 0) && (drops c == 0)) s.consumed ((line - 1 + length (old_lines c.body)) - trailing c.body); offset = offset; net = x } in p) en
 
-test-is : (text : List ℕ) (side : Side) (h : Hunk) (a d : ℕ) (b : Bool) → a ≡ count_by (λ l. is_add (turned_mark side l.mark)) h.body.items → d ≡ count_by (λ l. is_drop (turned_mark side l.mark)) h.body.items → b ≡ ((a == 0) && (d == 0)) → ((adds (taken text side h) == 0) && (drops (taken text side h) == 0)) ≡ b
+test-is : (text : List ℕ) (side : Side) (h : Hunk) (a d : ℕ) (b : Bool) → a ≡ count_by (λ l. is_add (taken_mark side l.mark)) h.body.items → d ≡ count_by (λ l. is_drop (taken_mark side l.mark)) h.body.items → b ≡ ((a == 0) && (d == 0)) → ((adds (taken text side h) == 0) && (drops (taken text side h) == 0)) ≡ b
 test-is text side h a d b ea ed eb =
     ap (λ x. (x == 0) && (drops (taken text side h) == 0)) (adds-are text side h ∙ sym ea)
     ∙ ap (λ x. (a == 0) && (x == 0)) (drops-are text side h ∙ sym ed) ∙ sym eb
 
-pub moved-none : (text : List ℕ) (side : Side) (h : Hunk) (s : PlaceState) (line : ℕ) (offset : ℤ) (a d : ℕ) (b : Bool) (o n : ℤ) → a ≡ count_by (λ l. is_add (turned_mark side l.mark)) h.body.items → d ≡ count_by (λ l. is_drop (turned_mark side l.mark)) h.body.items → b ≡ ((a == 0) && (d == 0)) → b ≡ true → o ≡ offset → n ≡ s.net +ℤ (pos a -ℤ pos d)
+pub moved-none : (text : List ℕ) (side : Side) (h : Hunk) (s : PlaceState) (line : ℕ) (offset : ℤ) (a d : ℕ) (b : Bool) (o n : ℤ) → a ≡ count_by (λ l. is_add (taken_mark side l.mark)) h.body.items → d ≡ count_by (λ l. is_drop (taken_mark side l.mark)) h.body.items → b ≡ ((a == 0) && (d == 0)) → b ≡ true → o ≡ offset → n ≡ s.net +ℤ (pos a -ℤ pos d)
     → let p : PlaceState = record { consumed = s.consumed; offset = o; net = n } in p ≡ moved_state (taken text side h) s line offset
 moved-none text side h s line offset a d b o n ea ed eb t eo en =
     moved-is (taken text side h) s line offset s.consumed o n
     (sym (ap (λ x. cond x s.consumed ((line - 1 + length (old_lines (taken text side h).body)) - trailing (taken text side h).body)) (test-is text side h a d b ea ed eb ∙ t))) eo
     (en ∙ ap (λ x. s.net +ℤ (pos x -ℤ pos d)) (ea ∙ sym (adds-are text side h)) ∙ ap (λ x. s.net +ℤ (pos (adds (taken text side h)) -ℤ pos x)) (ed ∙ sym (drops-are text side h)))
 
-pub moved-some : (text : List ℕ) (side : Side) (h : Hunk) (s : PlaceState) (line : ℕ) (offset : ℤ) (a d k : ℕ) (b : Bool) (o n : ℤ) → a ≡ count_by (λ l. is_add (turned_mark side l.mark)) h.body.items → d ≡ count_by (λ l. is_drop (turned_mark side l.mark)) h.body.items → b ≡ ((a == 0) && (d == 0)) → b ≡ false
-    → k ≡ line - 1 + taken_count side h.body.items - prefix_len is_kept (reverse h.body.items) → o ≡ offset → n ≡ s.net +ℤ (pos a -ℤ pos d)
+pub moved-some : (text : List ℕ) (side : Side) (h : Hunk) (s : PlaceState) (line : ℕ) (offset : ℤ) (a d k : ℕ) (b : Bool) (o n : ℤ) → a ≡ count_by (λ l. is_add (taken_mark side l.mark)) h.body.items → d ≡ count_by (λ l. is_drop (taken_mark side l.mark)) h.body.items → b ≡ ((a == 0) && (d == 0)) → b ≡ false
+    → k ≡ line - 1 + taken_count side h.body.items - prefix_len is_kept_line (reverse h.body.items) → o ≡ offset → n ≡ s.net +ℤ (pos a -ℤ pos d)
     → let p : PlaceState = record { consumed = k; offset = o; net = n } in p ≡ moved_state (taken text side h) s line offset
 moved-some text side h s line offset a d k b o n ea ed eb t ek eo en =
     moved-is (taken text side h) s line offset k o n
-    (ek ∙ ap (λ x. line - 1 + x - prefix_len is_kept (reverse h.body.items)) (sym (old-length text side h)) ∙ ap (λ x. line - 1 + length (old_lines (taken text side h).body) - x) (sym (taken-trailing text side h))
+    (ek ∙ ap (λ x. line - 1 + x - prefix_len is_kept_line (reverse h.body.items)) (sym (old-length text side h)) ∙ ap (λ x. line - 1 + length (old_lines (taken text side h).body) - x) (sym (taken-trailing text side h))
     ∙ sym (ap (λ x. cond x s.consumed ((line - 1 + length (old_lines (taken text side h).body)) - trailing (taken text side h).body)) (test-is text side h a d b ea ed eb ∙ t))) eo
     (en ∙ ap (λ x. s.net +ℤ (pos x -ℤ pos d)) (ea ∙ sym (adds-are text side h)) ∙ ap (λ x. s.net +ℤ (pos (adds (taken text side h)) -ℤ pos x)) (ed ∙ sym (drops-are text side h)))
 
 both-zero : (a d : ℕ) → ((a == 0) && (d == 0)) ≡ true → (a ≡ 0) × (d ≡ 0)
 both-zero a d h = (grind (arith, nat_tests), grind (arith, nat_tests))
 
-pub same-edits : (text : List ℕ) (side : Side) (h : Hunk) (at a d : ℕ) (b : Bool) → a ≡ count_by (λ l. is_add (turned_mark side l.mark)) h.body.items → d ≡ count_by (λ l. is_drop (turned_mark side l.mark)) h.body.items → b ≡ ((a == 0) && (d == 0)) → b ≡ true → body_edits at (taken text side h).body ≡ []
+pub same-edits : (text : List ℕ) (side : Side) (h : Hunk) (at a d : ℕ) (b : Bool) → a ≡ count_by (λ l. is_add (taken_mark side l.mark)) h.body.items → d ≡ count_by (λ l. is_drop (taken_mark side l.mark)) h.body.items → b ≡ ((a == 0) && (d == 0)) → b ≡ true → body_edits at (taken text side h).body ≡ []
 same-edits text side h at a d b ea ed eb t =
     let z : (adds (taken text side h) ≡ 0) × (drops (taken text side h) ≡ 0) = both-zero (adds (taken text side h)) (drops (taken text side h)) (test-is text side h a d b ea ed eb ∙ t) in
     no-edits (taken text side h).body at z.0 z.1
@@ -72,19 +72,19 @@ pub net-above : (n : ℤ) (a d len : ℕ) → a < 2 ^ 32 → d < 2 ^ 32 → negs
 net-above n a d len high_a high_d low high few = omega (arith, ints)
 
 -- a hunk that changes nothing consumes nothing
-pub consumed-none : (text : List ℕ) (side : Side) (h : Hunk) (s : PlaceState) (line : ℕ) (offset : ℤ) (a d : ℕ) (b : Bool) → a ≡ count_by (λ l. is_add (turned_mark side l.mark)) h.body.items → d ≡ count_by (λ l. is_drop (turned_mark side l.mark)) h.body.items → b ≡ ((a == 0) && (d == 0)) → b ≡ true → (moved_state (taken text side h) s line offset).consumed ≡ s.consumed
+pub consumed-none : (text : List ℕ) (side : Side) (h : Hunk) (s : PlaceState) (line : ℕ) (offset : ℤ) (a d : ℕ) (b : Bool) → a ≡ count_by (λ l. is_add (taken_mark side l.mark)) h.body.items → d ≡ count_by (λ l. is_drop (taken_mark side l.mark)) h.body.items → b ≡ ((a == 0) && (d == 0)) → b ≡ true → (moved_state (taken text side h) s line offset).consumed ≡ s.consumed
 consumed-none text side h s line offset a d b ea ed eb t =
     ap (λ x. cond x s.consumed ((line - 1 + length (old_lines (taken text side h).body)) - trailing (taken text side h).body)) (test-is text side h a d b ea ed eb ∙ t)
 
 -- another one consumes its old lines but for trailing context
-pub consumed-some : (text : List ℕ) (side : Side) (h : Hunk) (s : PlaceState) (line : ℕ) (offset : ℤ) (a d : ℕ) (b : Bool) → a ≡ count_by (λ l. is_add (turned_mark side l.mark)) h.body.items → d ≡ count_by (λ l. is_drop (turned_mark side l.mark)) h.body.items → b ≡ ((a == 0) && (d == 0)) → b ≡ false → 1 ≤ line
-    → (moved_state (taken text side h) s line offset).consumed + 1 ≡ line + taken_count side h.body.items - prefix_len is_kept (reverse h.body.items)
+pub consumed-some : (text : List ℕ) (side : Side) (h : Hunk) (s : PlaceState) (line : ℕ) (offset : ℤ) (a d : ℕ) (b : Bool) → a ≡ count_by (λ l. is_add (taken_mark side l.mark)) h.body.items → d ≡ count_by (λ l. is_drop (taken_mark side l.mark)) h.body.items → b ≡ ((a == 0) && (d == 0)) → b ≡ false → 1 ≤ line
+    → (moved_state (taken text side h) s line offset).consumed + 1 ≡ line + taken_count side h.body.items - prefix_len is_kept_line (reverse h.body.items)
 consumed-some text side h s line offset a d b ea ed eb t low =
     let n : length (old_lines (taken text side h).body) ≡ taken_count side h.body.items = old-length text side h in
-    let m : trailing (taken text side h).body ≡ prefix_len is_kept (reverse h.body.items) = taken-trailing text side h in
-    let old : prefix_len is_kept (reverse h.body.items) ≤ taken_count side h.body.items = post-old side h.body.items in
+    let m : trailing (taken text side h).body ≡ prefix_len is_kept_line (reverse h.body.items) = taken-trailing text side h in
+    let old : prefix_len is_kept_line (reverse h.body.items) ≤ taken_count side h.body.items = post-old side h.body.items in
     ap (λ x. cond x s.consumed ((line - 1 + length (old_lines (taken text side h).body)) - trailing (taken text side h).body) + 1) (test-is text side h a d b ea ed eb ∙ t)
-    ∙ (let sum : (line - 1 + length (old_lines (taken text side h).body)) - trailing (taken text side h).body + 1 ≡ line + taken_count side h.body.items - prefix_len is_kept (reverse h.body.items) = omega arith in sum)
+    ∙ (let sum : (line - 1 + length (old_lines (taken text side h).body)) - trailing (taken text side h).body + 1 ≡ line + taken_count side h.body.items - prefix_len is_kept_line (reverse h.body.items) = omega arith in sum)
 
 -- where a verdict says that a hunk stands
 pub placed-consumed : (h : PlainHunk) (state : PlaceState) (place : Option Spot) (line fuzz : ℕ) (offset : ℤ) → At line fuzz offset ≡ verdict_of h place → (after_hunk h state place).consumed ≡ (moved_state h state line offset).consumed

@@ -1,18 +1,12 @@
 -- The lines of a hunk as they are taken from a side, one by one.
 use Rattle.std.specs.Prelude.{ℕ, List, map}
 use Rattle.hunk_core.specs.declared.Side.{Side}
-use Rattle.hunk_core.specs.declared.Side.TheVariants.{Forward, Reversed}
 use Rattle.hunk_core.specs.declared.HunkLine.{HunkLine}
-use Rattle.hunk_core.specs.declared.Mark.{Mark}
 use Rattle.hunk_core.specs.PlainHunk.{Marked, marked_of}
-use Rattle.hunk_core.specs.Turned.{swapped_mark}
-
-abbrev pub turned_mark : Side → Mark → Mark
-turned_mark Forward mark = mark
-turned_mark Reversed mark = swapped_mark mark
+use Rattle.hunk_core.specs.Turned.{taken_mark}
 
 abbrev pub side_marked : List ℕ → Side → HunkLine → Marked
-side_marked text side l = record { mark = turned_mark side l.mark; line = (marked_of text l).line }
+side_marked text side l = record { mark = taken_mark side l.mark; line = (marked_of text l).line }
 
 abbrev pub side_body : List ℕ → Side → List HunkLine → List Marked
 side_body text side ls = map (side_marked text side) ls

@@ -8,12 +8,11 @@ use Rattle.hunk_core.specs.declared.Mark.{Mark}
 use Rattle.hunk_core.specs.declared.Hunk.{Hunk}
 use Rattle.hunk_core.specs.PlainHunk.{PlainHunk, bytes_at}
 use Rattle.hunk_core.specs.Sides.{is_on_side, taken_count}
-use Rattle.hunk_core.specs.Turned.{is_keep}
+use Rattle.hunk_core.specs.Turned.{is_keep, taken_mark}
 use Rattle.hunk_place.specs.Taken.{taken}
 use Rattle.hunk_place.specs.Verdicts.{spot, after_hunk}
 use Rattle.hunk_place.specs.declared.PlaceState.{PlaceState}
 use Rattle.hunk_apply.specs.declared.put.Tail.{Tail}
-use Rattle.hunk_apply.specs.Body.{turned_mark}
 use Rattle.hunk_apply.specs.Moved.{moved_state}
 use Rattle.hunk_apply.specs.Splice.{Edit, marked_edits, body_edits, hunk_edits, spliced_from, AreFrom}
 use Rattle.hunk_apply.specs.Written.{Wrote, join_behind}
@@ -41,7 +40,7 @@ abbrev pub line_passage : List ℕ → Side → HunkLine → ℕ → Passage
 line_passage text side line q = record {
   first = q;
   next = q + width side line.mark;
-  edits = λ later. marked_edits (turned_mark side line.mark) q (bytes_at text line.span) (λ _. later);
+  edits = λ later. marked_edits (taken_mark side line.mark) q (bytes_at text line.span) (λ _. later);
 }
 
 -- how many lines of context a hunk ends with

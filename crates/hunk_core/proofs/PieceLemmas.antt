@@ -66,9 +66,6 @@ pub record SpansSoFar (Spells : ℕ → List (List ℕ) → PlainHunk → Type 0
   pub pieces : SpellInTurn Spells text 0 ss hs
   pub last : last_start 0 hs ≡ least
 
-pub spans_begin : (Spells : ℕ → List (List ℕ) → PlainHunk → Type 0) (text : List ℕ) (at : ℕ) → SpansSoFar Spells text at [] [] at 0
-spans_begin Spells text at = record { turn = refl; whole = tt; pieces = tt; last = refl }
-
 pub spans_go_on : (Spells : ℕ → List (List ℕ) → PlainHunk → Type 0) (text : List ℕ) (at : ℕ) (ss : List Span) (hs : List PlainHunk) (start end least : ℕ) (h : PlainHunk)
     → SpansSoFar Spells text at ss hs start least → start < end → lines (drop start text) ≡ lines (slice_range text start end) ++ lines (drop end text) → Spells least (lines (slice_range text start end)) h
     → SpansSoFar Spells text at (ss ++ (record { start = start; end = end }) ∷ []) (hs ++ h ∷ []) end h.old_start

@@ -10,7 +10,7 @@ use Rattle.hunk_core.specs.declared.Side.TheVariants.{Forward, Reversed}
 use Rattle.hunk_core.specs.declared.HunkLine.{HunkLine}
 use Rattle.hunk_core.specs.declared.Hunk.{Hunk}
 use Rattle.hunk_core.specs.Sides.{is_on_side, taken_count}
-use Rattle.hunk_core.specs.PlainHunk.{Marked, bytes_at, marked_of, body_of, hunk_of, lines_on, old_lines, new_lines, PlainHunk}
+use Rattle.hunk_core.specs.PlainHunk.{Marked, marked_of, body_of, hunk_of, lines_on, old_lines, new_lines, PlainHunk}
 use Rattle.hunk_core.specs.Turned.{swapped_mark, swapped_line, other_side, turned}
 use Rattle.hunk_core.specs.LineTests.{ends_line}
 use Rattle.hunk_core.specs.Rules.{lacks_inner_end}
@@ -63,12 +63,6 @@ rest_on text side ls i = lines_on side (body_of text (drop i ls))
 
 from-here : (ls : List HunkLine) (i : ℕ) (x : HunkLine) → i < length ls → x ≡ get_or ls i x → drop i ls ≡ x ∷ drop (i + 1) ls
 from-here ls i x lt is = drop_more ls i x lt ∙ ap (λ y. y ∷ drop (i + 1) ls) (sym is)
-
-pub on-yes : (text : List ℕ) (side : Side) (ls : List HunkLine) (i : ℕ) (x : HunkLine) → i < length ls → x ≡ get_or ls i x → is_on_side side x.mark ≡ true → rest_on text side ls i ≡ bytes_at text x.span ∷ rest_on text side ls (i + 1)
-on-yes text side ls i x lt is on = rw (from-here ls i x lt is, on) refl
-
-pub on-no : (text : List ℕ) (side : Side) (ls : List HunkLine) (i : ℕ) (x : HunkLine) → i < length ls → x ≡ get_or ls i x → is_on_side side x.mark ≡ false → rest_on text side ls i ≡ rest_on text side ls (i + 1)
-on-no text side ls i x lt is on = rw (from-here ls i x lt is, on) refl
 
 -- ---- inner ends
 

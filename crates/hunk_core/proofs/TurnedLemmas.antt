@@ -1,7 +1,7 @@
 -- The numbers of a hunk as it is taken from a side.
 use Rattle.std.proofs.Common.{◌≡◌, ℕ, ◌+◌, Bool, List, [], ◌∷◌, ◌++◌, length, map, reverse, refl, sym, ap, ◌∙◌}
 use Rattle.std.specs.Prelude.{◌==◌, if◌then◌else◌}
-use Rattle.std.specs.List.{prefix_len}
+use Rattle.std.specs.List.{prefix_len, AllByRecursion}
 use Rattle.std.proofs.lemmas.List.{reverse-append, map-append}
 use Rattle.hunk_core.specs.declared.Mark.{Mark}
 use Rattle.hunk_core.specs.declared.Mark.TheVariants.{Keep, Drop, Add}
@@ -13,6 +13,7 @@ use Rattle.hunk_core.specs.Sides.{start_of, taken_count}
 use Rattle.hunk_core.specs.PlainHunk.{Marked, PlainHunk, hunk_of, body_of, marked_of, old_lines, new_lines}
 use Rattle.hunk_core.specs.Turned.{swapped_mark, swapped_line, taken_line, other_side, is_keep, turned, leading, trailing, base}
 use Rattle.hunk_core.proofs.SideLemmas.{turned-lines, turned-others, lines-counted}
+use Rattle.hunk_core.specs.Rules.{HasNoInnerFeed}
 
 pub prefix_len-map : {A B : Type 0} (p : B → Bool) (f : A → B) (q : A → Bool) → ((x : A) → p (f x) ≡ q x) → (xs : List A) → prefix_len p (map f xs) ≡ prefix_len q xs
 prefix_len-map p f q same [] = refl
@@ -29,7 +30,7 @@ keep-swapped Keep = refl
 keep-swapped Drop = refl
 keep-swapped Add = refl
 
-abbrev is_kept : Marked → Bool
+abbrev pub is_kept : Marked → Bool
 is_kept m = is_keep m.mark
 
 abbrev pub is_kept_line : HunkLine → Bool
@@ -83,3 +84,7 @@ pub mark-twice : (m : Mark) → swapped_mark (swapped_mark m) ≡ m
 mark-twice Keep = refl
 mark-twice Drop = refl
 mark-twice Add = refl
+
+pub swapped-feeds : (body : List Marked) → AllByRecursion HasNoInnerFeed body → AllByRecursion HasNoInnerFeed (map swapped_line body)
+swapped-feeds [] all = tt
+swapped-feeds (m ∷ body) all = (all.0, swapped-feeds body all.1)

@@ -2,6 +2,7 @@
 use Rattle.std.proofs.Common.{◌≡◌, ◌≢◌, ◌⊎◌, inl, inr, ℕ, ◌+◌, ◌<◌, ◌≤◌, ◌||◌, List, [], ◌∷◌, ◌++◌, length, Bool, true, false, eqb, refl, sym, ap, subst, ◌∙◌, arith, append_assoc, Option, Some, None}
 use Rattle.std.proofs.lemmas.List.{append-nil}
 use Rattle.std.proofs.lemmas.Bool.Decides.{nat_tests}
+use Rattle.std.proofs.Math.Bool.{or-true}
 use Rattle.line_store.specs.Store.{line_at}
 use Rattle.hunk_apply.specs.Splice.{Edit, add, drop_line, AreFrom}
 use Rattle.hunk_apply.specs.Written.{lines_between}
@@ -155,10 +156,6 @@ gathers name lines ds ns (e ∷ es) q low le h =
 -- a block that begins with an edit has a line
 pub some-between : (lines : List (List ℕ)) (q to : ℕ) → 1 ≤ q → q < to → to ≤ length lines + 1 → is_some_line (lines_between lines q to) ≡ true
 some-between lines q to low lt high = ap is_some_line (sym (next-between lines q to low lt high))
-
-or-true : (b : Bool) → (b || true) ≡ true
-or-true true = refl
-or-true false = refl
 
 has-line : (lines : List (List ℕ)) (e : Edit) (es : List Edit) → 1 ≤ e.at → AreInOrder (length lines) e.at (e ∷ es) → (is_some_line (lines_between lines e.at (block_end e.at (e ∷ es))) || is_some_line (block_added e.at (e ∷ es))) ≡ true
 has-line lines e es low h = by e.added h.1 h.2

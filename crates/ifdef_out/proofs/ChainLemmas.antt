@@ -63,10 +63,6 @@ pub or-next : (a b c d : Bool) → c ≡ (a || b) → (a || (b || d)) ≡ (c || 
 or-next true b c d e = ap (λ x. x || d) (sym e)
 or-next false b c d e = ap (λ x. x || d) (sym e)
 
-pub or-none : (a : Bool) → (a || false) ≡ a
-or-none true = refl
-or-none false = refl
-
 -- the lines of a block that begins with an edit
 pub added-next : (q : ℕ) (left : List Edit) (e : Edit) (es : List Edit) (to : ℕ) → left ≡ e ∷ es → e.at ≡ q → to ≡ next_gap q e.added → block_added q left ≡ added_line e.added ++ block_added to es
 added-next q left e es to is here next = ap (block_added q) is ∙ added-more q e es here ∙ ap (λ n. added_line e.added ++ block_added n es) (sym next)

@@ -1,18 +1,15 @@
 -- The lines of a completed text that was joined.
-use Rattle.std.proofs.Common.{◌≡◌, ◌⊎◌, inl, inr, ℕ, ◌<◌, List, [], ◌∷◌, ◌++◌, length, map, refl, sym, ap, subst, ◌∙◌, arith, append_assoc}
+use Rattle.std.proofs.Common.{◌≡◌, inl, inr, ℕ, ◌<◌, List, [], ◌∷◌, ◌++◌, length, map, refl, sym, ap, subst, ◌∙◌, arith, append_assoc}
 use Rattle.std.specs.List.{AllByRecursion}
 use Rattle.std.proofs.lemmas.List.{append-nil, length-append}
 use Rattle.std.proofs.lemmas.List.Concat.{flat_map-cons}
 use Rattle.line_list.specs.Lines.{lines, IsLine, IsOpenLine, ArePieces}
 use Rattle.line_list.specs.Join.{join, lacks_feed, feed_if}
 use Rattle.line_list.specs.Completed.{completed}
-use Rattle.line_list.proofs.JoinLemmas.{lacks-append, line-has, open-lacks, open-last, open-nothing}
+use Rattle.line_list.proofs.JoinLemmas.{lacks-append, line-has, open-lacks, open-last, open-nothing, join-one}
 use Rattle.line_list.proofs.Pieces.{joined, pieces-only}
+use Rattle.line_list.proofs.WholeLines.{IsPieceLine}
 use Rattle.ifdef_out.specs.Reading.{fed}
-
--- a line of a text
-abbrev pub IsPiece : List ℕ → Type 0
-IsPiece line = IsLine line ⊎ IsOpenLine line
 
 open-closed : (line : List ℕ) → IsOpenLine line → IsLine (line ++ 10 ∷ [])
 open-closed [] h = absurd (omega (arith, h.0))
@@ -22,7 +19,7 @@ open-closed (b ∷ c ∷ bs) h = (h.1.0, open-closed (c ∷ bs) (omega arith, h.
 pub fed-whole : (line : List ℕ) → IsLine line → fed line ≡ line
 fed-whole line h = ap (λ b. line ++ feed_if b) (line-has line h) ∙ append-nil line
 
-fed-line : (line : List ℕ) → IsPiece line → IsLine (fed line)
+fed-line : (line : List ℕ) → IsPieceLine line → IsLine (fed line)
 fed-line line (inl h) = subst IsLine (sym (fed-whole line h)) h
 fed-line line (inr h) = subst (λ b. IsLine (line ++ feed_if b)) (sym (open-lacks line h)) (open-closed line h)
 
@@ -30,11 +27,11 @@ some-line : (line : List ℕ) → IsLine line → 0 < length line
 some-line [] h = absurd h
 some-line (b ∷ bs) h = omega arith
 
-some-piece : (line : List ℕ) → IsPiece line → 0 < length line
+some-piece : (line : List ℕ) → IsPieceLine line → 0 < length line
 some-piece line (inl h) = some-line line h
 some-piece line (inr h) = h.0
 
-fed-pieces : (ls : List (List ℕ)) → AllByRecursion IsPiece ls → ArePieces (map fed ls)
+fed-pieces : (ls : List (List ℕ)) → AllByRecursion IsPieceLine ls → ArePieces (map fed ls)
 fed-pieces [] h = tt
 fed-pieces (l ∷ []) h = inl (fed-line l h.0)
 fed-pieces (l ∷ next ∷ more) h = (fed-line l h.0, fed-pieces (next ∷ more) h.1)
@@ -43,15 +40,11 @@ join-cons : (line next : List ℕ) (more : List (List ℕ)) → join (line ∷ n
 unfolding join
 join-cons line next more = refl
 
-join-one : (line : List ℕ) → join (line ∷ []) ≡ line
-unfolding join
-join-one line = refl
-
 join-none : join [] ≡ []
 unfolding join
 join-none = refl
 
-some-join : (line : List ℕ) (more : List (List ℕ)) → IsPiece line → 0 < length (join (line ∷ more))
+some-join : (line : List ℕ) (more : List (List ℕ)) → IsPieceLine line → 0 < length (join (line ∷ more))
 some-join line [] h = omega (arith, ap length (join-one line), some-piece line h)
 some-join line (next ∷ more) h = omega (arith, ap length (join-cons line next more), length-append (fed line) (join (next ∷ more)), length-append line (feed_if (lacks_feed line)), some-piece line h)
 
@@ -66,7 +59,7 @@ completed-none = ap feed_if (open-nothing [] refl)
 fed-append : (a b : List ℕ) → 0 < length b → fed (a ++ b) ≡ a ++ fed b
 fed-append a b some = append_assoc a b (feed_if (lacks_feed (a ++ b))) ∙ ap (λ v. a ++ (b ++ feed_if v)) (lacks-append a b some)
 
-completed-joined : (ls : List (List ℕ)) → AllByRecursion IsPiece ls → completed (join ls) ≡ joined (map fed ls)
+completed-joined : (ls : List (List ℕ)) → AllByRecursion IsPieceLine ls → completed (join ls) ≡ joined (map fed ls)
 completed-joined [] h = ap completed join-none ∙ completed-none
 completed-joined (line ∷ []) h =
     ap completed (join-one line) ∙ completed-some line (some-piece line h.0) ∙ sym (append-nil (fed line)) ∙ sym (flat_map-cons (λ (l : List ℕ). l) (fed line) [])
@@ -79,5 +72,5 @@ completed-joined (line ∷ next ∷ more) h =
     ∙ sym (flat_map-cons (λ (l : List ℕ). l) (fed line) (map fed (next ∷ more)))
 
 -- the lines of the completed text are those that were joined, each with its line feed
-pub lines-joined : (ls : List (List ℕ)) → AllByRecursion IsPiece ls → lines (completed (join ls)) ≡ map fed ls
+pub lines-joined : (ls : List (List ℕ)) → AllByRecursion IsPieceLine ls → lines (completed (join ls)) ≡ map fed ls
 lines-joined ls h = ap lines (completed-joined ls h) ∙ pieces-only (map fed ls) (fed-pieces ls h)

@@ -5,19 +5,14 @@ use Rattle.hunk_apply.specs.declared.put.Tail.{Tail}
 use Rattle.hunk_apply.specs.Splice.{Edit}
 use Rattle.hunk_apply.specs.Written.{Wrote, lines_between, join_behind}
 use Rattle.hunk_apply.proofs.WrittenLemmas.{wrote-none, wrote-both, wrote-same, wrote-whole, part-after, part-same, part-whole}
-use Rattle.ifdef_out.specs.Whole.{whole_from}
 use Rattle.ifdef_out.specs.Tagged.{closed, tagged_behind, texts, ifdef_text}
 use Rattle.ifdef_out.specs.Chain.{block_end, block_added, behind_block, AreInOrder}
 use Rattle.ifdef_out.proofs.WholeLemmas.{nothing-left}
-use Rattle.ifdef_out.proofs.TaggedLemmas.{kept-to, tagged-none}
+use Rattle.ifdef_out.proofs.TaggedLemmas.{kept-to, tagged-none, rest_of}
 use Rattle.ifdef_out.proofs.BlockLemmas.{Ahead}
 
 abbrev pub first : Tail
 first = record { is_open = false; is_empty = true }
-
--- the lines from line q on
-abbrev pub rest_of : List ℕ → List (List ℕ) → List Edit → ℕ → List (List ℕ)
-rest_of name lines es q = texts (tagged_behind name [] [] (whole_from lines es q))
 
 pub record Going (name : List ℕ) (lines : List (List ℕ)) (all : List Edit) (u v : SinkView) (now : Tail) (left : List Edit) (next : ℕ) : Type 0 where
   pub low : 1 ≤ next

@@ -10,10 +10,10 @@ use Rattle.hunk_core.specs.declared.Verdict.{Verdict}
 use Rattle.hunk_core.specs.declared.Verdict.TheVariants.{Untried, Ignored, Nowhere, At}
 use Rattle.hunk_core.specs.PlainHunk.{PlainHunk, bytes_at}
 use Rattle.hunk_core.specs.Sides.{is_on_side}
-use Rattle.hunk_core.specs.Turned.{IsLawful, LiesIn}
+use Rattle.hunk_core.specs.Turned.{IsLawful, LiesIn, taken_mark}
 use Rattle.hunk_place.specs.Taken.{taken}
 use Rattle.hunk_apply.specs.Applied.{taken_all}
-use Rattle.hunk_apply.specs.Body.{turned_mark, side_body}
+use Rattle.hunk_apply.specs.Body.{side_body}
 use Rattle.hunk_apply.specs.Splice.{Edit, body_edits, marked_edits}
 use Rattle.hunk_apply.proofs.BodyLemmas.{body-is, edits-none, edits-next}
 use Rattle.ifdef_out.specs.Placed.{verdict_edits, placed_edits}
@@ -87,11 +87,11 @@ module _ (text : List ℕ) (side : Side) (vs : List Verdict) (hs : List Hunk) (r
 
   -- one line of a body
   pub line-ahead : (line next : ℕ) (h : Hunk) (l : HunkLine) → row < length hs → h ≡ get_or hs row h → line < length h.body.items → l ≡ get_or h.body.items line l
-      → hunks_at text side vs hs row line next ≡ marked_edits (turned_mark side l.mark) next (bytes_at text l.span) (λ _. hunks_at text side vs hs row (line + 1) (next + cond (is_on_side side l.mark) 1 0))
+      → hunks_at text side vs hs row line next ≡ marked_edits (taken_mark side l.mark) next (bytes_at text l.span) (λ _. hunks_at text side vs hs row (line + 1) (next + cond (is_on_side side l.mark) 1 0))
   line-ahead line next h l lt is within at =
       hunk-ahead line next h lt is
       ∙ edits-next text side h.body.items line next l later within at
-      ∙ ap (λ es. marked_edits (turned_mark side l.mark) next (bytes_at text l.span) (λ _. es)) (sym (hunk-ahead (line + 1) (next + cond (is_on_side side l.mark) 1 0) h lt is))
+      ∙ ap (λ es. marked_edits (taken_mark side l.mark) next (bytes_at text l.span) (λ _. es)) (sym (hunk-ahead (line + 1) (next + cond (is_on_side side l.mark) 1 0) h lt is))
 
 -- the hunk of a row
 pub here : (hs : List Hunk) (row : ℕ) → row < length hs → (h : Hunk) × (h ≡ get_or hs row h)

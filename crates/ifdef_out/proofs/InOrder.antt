@@ -13,7 +13,8 @@ use Rattle.hunk_core.specs.declared.Hunk.{Hunk}
 use Rattle.hunk_core.specs.declared.HunkLine.{HunkLine}
 use Rattle.hunk_core.specs.PlainHunk.{PlainHunk, bytes_at, old_lines}
 use Rattle.hunk_core.specs.Sides.{taken_count}
-use Rattle.hunk_core.specs.Turned.{trailing}
+use Rattle.hunk_core.specs.Turned.{trailing, taken_mark}
+use Rattle.hunk_core.proofs.TurnedLemmas.{is_kept_line}
 use Rattle.hunk_place.specs.Order.{from_to}
 use Rattle.hunk_place.specs.Taken.{taken}
 use Rattle.hunk_place.specs.Verdicts.{spots, spot, after_hunk, adds, drops}
@@ -22,10 +23,10 @@ use Rattle.hunk_place.specs.declared.Spot.{Spot}
 use Rattle.hunk_place.proofs.TakenLemmas.{taken-trailing}
 use Rattle.ed_form.specs.PlainEdit.{PlainEdit, AreLawful, lowest}
 use Rattle.hunk_apply.specs.Applied.{taken_all}
-use Rattle.hunk_apply.specs.Body.{turned_mark, side_body}
+use Rattle.hunk_apply.specs.Body.{side_body}
 use Rattle.hunk_apply.specs.Splice.{Edit, add, drop_line, body_edits, marked_edits, hunk_edits, all_edits}
 use Rattle.hunk_apply.specs.Passage.{width}
-use Rattle.hunk_apply.proofs.BodyLemmas.{is_kept, marked-width, body-is, edits-next, rest-edits, place-more, place-within, post-old, post-fits, at-place}
+use Rattle.hunk_apply.proofs.BodyLemmas.{marked-width, body-is, edits-next, rest-edits, place-more, place-within, post-old, post-fits, at-place}
 use Rattle.hunk_apply.proofs.FoldLemmas.{edits-cons, edits-nil, spots-cons}
 use Rattle.hunk_apply.proofs.HunkLemmas.{no-edits, old-length, trailing-old}
 use Rattle.hunk_apply.proofs.PlaceLemmas.{spot-behind}
@@ -70,30 +71,30 @@ marked-order n r q m w Drop line rest is le within high more = (le, omega arith,
 marked-order n r q m w Add line rest is le within high more = (le, omega arith, more q (omega arith))
 
 -- the lines of a body, but for trailing context
-module _ (text : List ℕ) (side : Side) (items : List HunkLine) (n at m : ℕ) (is : m + prefix_len is_kept (reverse items) ≡ at + taken_count side items) (high : m ≤ n + 1) where
-  lines-order : (j k q r : ℕ) → k + j + prefix_len is_kept (reverse items) ≡ length items → q ≡ at + taken_count side (take k items) → r ≤ q → q ≤ m → OrderTo n r m (body_edits q (side_body text side (drop k items)))
+module _ (text : List ℕ) (side : Side) (items : List HunkLine) (n at m : ℕ) (is : m + prefix_len is_kept_line (reverse items) ≡ at + taken_count side items) (high : m ≤ n + 1) where
+  lines-order : (j k q r : ℕ) → k + j + prefix_len is_kept_line (reverse items) ≡ length items → q ≡ at + taken_count side (take k items) → r ≤ q → q ≤ m → OrderTo n r m (body_edits q (side_body text side (drop k items)))
   lines-order zero k q r sum place le within =
       subst (OrderTo n r m) (sym (rest-edits text side items q k (length items) (omega arith) (omega arith))) (let x : r ≤ m = omega arith in x)
   lines-order (suc j) k q r sum place le within =
       let p : (l : HunkLine) × (l ≡ get_or items k l) = at-place items k (omega arith) in
       let more : q + width side p.0.mark ≡ at + taken_count side (take (k + 1) items) = place-more side items k q at p.0 place (omega arith) p.1 in
-      let below : q + width side p.0.mark ≤ at + taken_count side items - prefix_len is_kept (reverse items) = place-within side items k q at p.0 place (omega arith) p.1 in
+      let below : q + width side p.0.mark ≤ at + taken_count side items - prefix_len is_kept_line (reverse items) = place-within side items k q at p.0 place (omega arith) p.1 in
       let rest : List Edit = body_edits (q + width side p.0.mark) (side_body text side (drop (k + 1) items)) ++ [] in
-      let next : body_edits q (side_body text side (drop k items)) ≡ marked_edits (turned_mark side p.0.mark) q (bytes_at text p.0.span) (λ _. body_edits (q + width side p.0.mark) (side_body text side (drop (k + 1) items)) ++ []) =
+      let next : body_edits q (side_body text side (drop k items)) ≡ marked_edits (taken_mark side p.0.mark) q (bytes_at text p.0.span) (λ _. body_edits (q + width side p.0.mark) (side_body text side (drop (k + 1) items)) ++ []) =
       sym (append-nil (body_edits q (side_body text side (drop k items)))) ∙ edits-next text side items k q p.0 [] (omega arith) p.1 in
       subst (OrderTo n r m) (sym next)
-      (marked-order n r q m (width side p.0.mark) (turned_mark side p.0.mark) (bytes_at text p.0.span) rest (marked-width side p.0.mark (turned_mark side p.0.mark) refl) le (omega arith) high
+      (marked-order n r q m (width side p.0.mark) (taken_mark side p.0.mark) (bytes_at text p.0.span) rest (marked-width side p.0.mark (taken_mark side p.0.mark) refl) le (omega arith) high
       (λ s lt. subst (OrderTo n s m) (sym (append-nil (body_edits (q + width side p.0.mark) (side_body text side (drop (k + 1) items))))) (lines-order j (k + 1) (q + width side p.0.mark) s (omega arith) more lt (omega arith))))
 
 -- the edits of a hunk that stands at a line
 body-order : (text : List ℕ) (side : Side) (h : Hunk) (n at m r : ℕ) → m + trailing (taken text side h).body ≡ at + length (old_lines (taken text side h).body) → m ≤ n + 1 → r ≤ at → OrderTo n r m (body_edits at (taken text side h).body)
 body-order text side h n at m r is high le =
-    let post : trailing (taken text side h).body ≡ prefix_len is_kept (reverse h.body.items) = taken-trailing text side h in
+    let post : trailing (taken text side h).body ≡ prefix_len is_kept_line (reverse h.body.items) = taken-trailing text side h in
     let old : length (old_lines (taken text side h).body) ≡ taken_count side h.body.items = old-length text side h in
-    let fits : prefix_len is_kept (reverse h.body.items) ≤ length h.body.items = post-fits h.body.items in
-    let kept : prefix_len is_kept (reverse h.body.items) ≤ taken_count side h.body.items = post-old side h.body.items in
+    let fits : prefix_len is_kept_line (reverse h.body.items) ≤ length h.body.items = post-fits h.body.items in
+    let kept : prefix_len is_kept_line (reverse h.body.items) ≤ taken_count side h.body.items = post-old side h.body.items in
     subst (λ ms. OrderTo n r m (body_edits at ms)) (sym (body-is text side h))
-    (lines-order text side h.body.items n at m (omega arith) high (length h.body.items - prefix_len is_kept (reverse h.body.items)) 0 at r (omega arith) (omega arith) le (omega arith))
+    (lines-order text side h.body.items n at m (omega arith) high (length h.body.items - prefix_len is_kept_line (reverse h.body.items)) 0 at r (omega arith) (omega arith) le (omega arith))
 
 eq-zero : (k : ℕ) → (k == 0) ≡ true → k ≡ 0
 eq-zero k t = grind (arith, nat_tests)

@@ -7,6 +7,8 @@ use Rattle.std.proofs.lemmas.Slice.Eq.{bytes_eq-Decides}
 use Rattle.line_list.specs.Lines.{IsLine}
 use Rattle.line_list.specs.Lines.{lines as text_lines}
 use Rattle.line_list.specs.Completed.{completed}
+use Rattle.line_list.proofs.WholeLines.{IsPieceLine}
+use Rattle.line_list.proofs.Pieces.{longer}
 use Rattle.hunk_core.specs.declared.Mark.{Mark}
 use Rattle.hunk_core.specs.declared.Mark.TheVariants.{Keep, Drop, Add}
 use Rattle.hunk_core.specs.PlainHunk.{Marked, old_lines, new_lines}
@@ -15,7 +17,7 @@ use Rattle.ifdef_out.specs.Whole.{added, whole}
 use Rattle.patch_options.specs.Forms.{begins_name, goes_on_name, is_macro_name}
 use Rattle.ifdef_out.specs.Tagged.{Both, as_tag, block, else_line, else_mark, endif_line, ifdef_line, ifndef_line, ifdef_text, tagged, tagged_behind, texts}
 use Rattle.ifdef_out.specs.Reading.{fed, branch_lines, is_marking, IsPlain}
-use Rattle.ifdef_out.proofs.FedLemmas.{IsPiece, fed-whole, lines-joined}
+use Rattle.ifdef_out.proofs.FedLemmas.{fed-whole, lines-joined}
 use Rattle.ifdef_out.proofs.KeptLemmas.{whole-old, whole-new}
 use Rattle.ifdef_out.proofs.TaggedLemmas.{tagged-none, tagged-kept, tagged-dropped, tagged-added, texts-append, closed-split, opening-some}
 
@@ -48,17 +50,12 @@ name-line [] t = cc
 name-line (b ∷ []) t = (macro-byte b (begins-goes b (and-left (begins_name b) (list_all goes_on_name []) t)), refl)
 name-line (b ∷ c ∷ bs) t = (macro-byte b (begins-goes b (and-left (begins_name b) (list_all goes_on_name (c ∷ bs)) t)), rest-line (c ∷ bs) (and-right (begins_name b) (list_all goes_on_name (c ∷ bs)) t))
 
--- bytes without a line feed in front of a line
-front-line : (b : ℕ) (line : List ℕ) → b ≢ 10 → IsLine line → IsLine (b ∷ line)
-front-line b [] ne h = absurd h
-front-line b (c ∷ cs) ne h = (ne, h)
-
 other-byte : (b : ℕ) → not (eqb b 10) ≡ true → b ≢ 10
 other-byte b t = λ e. let x : not (eqb 10 10) ≡ true = subst (λ k. not (eqb k 10) ≡ true) e t in cc
 
 fronts-line : (bs line : List ℕ) → list_all (λ b. not (eqb b 10)) bs ≡ true → IsLine line → IsLine (bs ++ line)
 fronts-line [] line h k = k
-fronts-line (b ∷ bs) line h k = front-line b (bs ++ line) (other-byte b (and-left (not (eqb b 10)) (list_all (λ c. not (eqb c 10)) bs) h)) (fronts-line bs line (and-right (not (eqb b 10)) (list_all (λ c. not (eqb c 10)) bs) h) k)
+fronts-line (b ∷ bs) line h k = longer b (bs ++ line) (other-byte b (and-left (not (eqb b 10)) (list_all (λ c. not (eqb c 10)) bs) h)) (fronts-line bs line (and-right (not (eqb b 10)) (list_all (λ c. not (eqb c 10)) bs) h) k)
 
 same-line : (line : List ℕ) → bytes_eq line line ≡ true
 same-line line = (bytes_eq-Decides line line).1 refl
@@ -208,52 +205,52 @@ module _ (name : List ℕ) (defined : Bool) where
             ∙ ap (λ ls. cond defined (map fed ls) (map fed (ds ++ old_lines ms))) (append_assoc ns (m.line ∷ []) (new_lines ms))
 
 -- the written lines are lines of a text, where those of the two files are
-is-piece : (name : List ℕ) (line : List ℕ) → IsPlain name line → IsPiece line
+is-piece : (name : List ℕ) (line : List ℕ) → IsPlain name line → IsPieceLine line
 is-piece name line h = h.0
 
-append-pieces : (xs ys : List (List ℕ)) → AllByRecursion IsPiece xs → AllByRecursion IsPiece ys → AllByRecursion IsPiece (xs ++ ys)
+append-pieces : (xs ys : List (List ℕ)) → AllByRecursion IsPieceLine xs → AllByRecursion IsPieceLine ys → AllByRecursion IsPieceLine (xs ++ ys)
 append-pieces [] ys h k = k
 append-pieces (x ∷ xs) ys h k = (h.0, append-pieces xs ys h.1 k)
 
-plain-pieces : (name : List ℕ) (ls : List (List ℕ)) → AllByRecursion (IsPlain name) ls → AllByRecursion IsPiece ls
+plain-pieces : (name : List ℕ) (ls : List (List ℕ)) → AllByRecursion (IsPlain name) ls → AllByRecursion IsPieceLine ls
 plain-pieces name [] h = tt
 plain-pieces name (l ∷ ls) h = (h.0.0, plain-pieces name ls h.1)
 
 module _ (name : List ℕ) (macro : is_macro_name name ≡ true) where
-  else-pieces : (ns : List (List ℕ)) → AllByRecursion IsPiece (texts (else_mark ns))
+  else-pieces : (ns : List (List ℕ)) → AllByRecursion IsPieceLine (texts (else_mark ns))
   else-pieces [] = tt
   else-pieces (n ∷ ns) = (inl (fronts-line (codes "#else") (10 ∷ []) refl refl), tt)
 
-  rest-pieces : (ns more : List (List ℕ)) → AllByRecursion IsPiece ns → AllByRecursion IsPiece more → AllByRecursion IsPiece (ns ++ (endif_line ∷ more))
+  rest-pieces : (ns more : List (List ℕ)) → AllByRecursion IsPieceLine ns → AllByRecursion IsPieceLine more → AllByRecursion IsPieceLine (ns ++ (endif_line ∷ more))
   rest-pieces ns more h k = append-pieces ns (endif_line ∷ more) h (inl (fronts-line (codes "#endif") (10 ∷ []) refl refl), k)
 
-  block-pieces : (ds ns more : List (List ℕ)) → AllByRecursion IsPiece ds → AllByRecursion IsPiece ns → AllByRecursion IsPiece more → AllByRecursion IsPiece (texts (block name ds ns) ++ more)
+  block-pieces : (ds ns more : List (List ℕ)) → AllByRecursion IsPieceLine ds → AllByRecursion IsPieceLine ns → AllByRecursion IsPieceLine more → AllByRecursion IsPieceLine (texts (block name ds ns) ++ more)
   block-pieces [] [] more hd hn hm = hm
   block-pieces [] (n ∷ ns) more hd hn hm =
-      subst (AllByRecursion IsPiece) (sym (closed-split name [] (n ∷ ns) more))
+      subst (AllByRecursion IsPieceLine) (sym (closed-split name [] (n ∷ ns) more))
       (inl (fronts-line (codes "#ifdef ") (name ++ 10 ∷ []) refl (name-line name macro)), rest-pieces (n ∷ ns) more hn hm)
   block-pieces (d ∷ ds) ns more hd hn hm =
-      subst (AllByRecursion IsPiece) (sym (closed-split name (d ∷ ds) ns more ∙ opening-some name (d ∷ ds) ns (ns ++ (endif_line ∷ more)) refl)) (
+      subst (AllByRecursion IsPieceLine) (sym (closed-split name (d ∷ ds) ns more ∙ opening-some name (d ∷ ds) ns (ns ++ (endif_line ∷ more)) refl)) (
         inl (fronts-line (codes "#ifndef ") (name ++ 10 ∷ []) refl (name-line name macro)),
         append-pieces (d ∷ ds) (texts (else_mark ns) ++ (ns ++ (endif_line ∷ more))) hd (append-pieces (texts (else_mark ns)) (ns ++ (endif_line ∷ more)) (else-pieces ns) (rest-pieces ns more hn hm)),
       )
 
-  behind-pieces : (ds ns : List (List ℕ)) (ms : List Marked) → AllByRecursion IsPiece ds → AllByRecursion IsPiece ns → AllByRecursion IsPiece (old_lines ms) → AllByRecursion IsPiece (new_lines ms) → AllByRecursion IsPiece (texts (tagged_behind name ds ns ms))
+  behind-pieces : (ds ns : List (List ℕ)) (ms : List Marked) → AllByRecursion IsPieceLine ds → AllByRecursion IsPieceLine ns → AllByRecursion IsPieceLine (old_lines ms) → AllByRecursion IsPieceLine (new_lines ms) → AllByRecursion IsPieceLine (texts (tagged_behind name ds ns ms))
   behind-pieces ds ns [] hd hn ho hw =
-      subst (AllByRecursion IsPiece) (append-nil (texts (block name ds ns)) ∙ ap texts (sym (tagged-none name ds ns))) (block-pieces ds ns [] hd hn tt)
+      subst (AllByRecursion IsPieceLine) (append-nil (texts (block name ds ns)) ∙ ap texts (sym (tagged-none name ds ns))) (block-pieces ds ns [] hd hn tt)
   behind-pieces ds ns (m ∷ ms) hd hn ho hw =
       by m.mark ho hw (behind-pieces [] [] ms tt tt) (λ p. behind-pieces (ds ++ m.line ∷ []) ns ms (append-pieces ds (m.line ∷ []) hd (p, tt)) hn) (λ p. behind-pieces ds (ns ++ m.line ∷ []) ms hd (append-pieces ns (m.line ∷ []) hn (p, tt)))
     where
-      by : (k : Mark) → let y : Marked = record { mark = k; line = m.line } in AllByRecursion IsPiece (old_lines (y ∷ ms)) → AllByRecursion IsPiece (new_lines (y ∷ ms))
-          → (AllByRecursion IsPiece (old_lines ms) → AllByRecursion IsPiece (new_lines ms) → AllByRecursion IsPiece (texts (tagged_behind name [] [] ms)))
-          → (IsPiece m.line → AllByRecursion IsPiece (old_lines ms) → AllByRecursion IsPiece (new_lines ms) → AllByRecursion IsPiece (texts (tagged_behind name (ds ++ m.line ∷ []) ns ms)))
-          → (IsPiece m.line → AllByRecursion IsPiece (old_lines ms) → AllByRecursion IsPiece (new_lines ms) → AllByRecursion IsPiece (texts (tagged_behind name ds (ns ++ m.line ∷ []) ms)))
-          → AllByRecursion IsPiece (texts (tagged_behind name ds ns (y ∷ ms)))
+      by : (k : Mark) → let y : Marked = record { mark = k; line = m.line } in AllByRecursion IsPieceLine (old_lines (y ∷ ms)) → AllByRecursion IsPieceLine (new_lines (y ∷ ms))
+          → (AllByRecursion IsPieceLine (old_lines ms) → AllByRecursion IsPieceLine (new_lines ms) → AllByRecursion IsPieceLine (texts (tagged_behind name [] [] ms)))
+          → (IsPieceLine m.line → AllByRecursion IsPieceLine (old_lines ms) → AllByRecursion IsPieceLine (new_lines ms) → AllByRecursion IsPieceLine (texts (tagged_behind name (ds ++ m.line ∷ []) ns ms)))
+          → (IsPieceLine m.line → AllByRecursion IsPieceLine (old_lines ms) → AllByRecursion IsPieceLine (new_lines ms) → AllByRecursion IsPieceLine (texts (tagged_behind name ds (ns ++ m.line ∷ []) ms)))
+          → AllByRecursion IsPieceLine (texts (tagged_behind name ds ns (y ∷ ms)))
       by Keep ko kw here dropped added =
-          subst (AllByRecursion IsPiece) (sym (ap texts (tagged-kept name ds ns m.line ms) ∙ texts-append (block name ds ns) (as_tag Both m.line ∷ tagged_behind name [] [] ms)))
+          subst (AllByRecursion IsPieceLine) (sym (ap texts (tagged-kept name ds ns m.line ms) ∙ texts-append (block name ds ns) (as_tag Both m.line ∷ tagged_behind name [] [] ms)))
           (block-pieces ds ns (m.line ∷ texts (tagged_behind name [] [] ms)) hd hn (ko.0, here ko.1 kw.1))
-      by Drop ko kw here dropped added = subst (AllByRecursion IsPiece) (sym (ap texts (tagged-dropped name ds ns m.line ms))) (dropped ko.0 ko.1 kw)
-      by Add ko kw here dropped added = subst (AllByRecursion IsPiece) (sym (ap texts (tagged-added name ds ns m.line ms))) (added kw.0 ko kw.1)
+      by Drop ko kw here dropped added = subst (AllByRecursion IsPieceLine) (sym (ap texts (tagged-dropped name ds ns m.line ms))) (dropped ko.0 ko.1 kw)
+      by Add ko kw here dropped added = subst (AllByRecursion IsPieceLine) (sym (ap texts (tagged-added name ds ns m.line ms))) (added kw.0 ko kw.1)
 
 -- the law: each reader gets one of the two files
 pub read-text : (name : List ℕ) (defined : Bool) (lines : List (List ℕ)) (es : List Edit) → is_macro_name name ≡ true → AllByRecursion (IsPlain name) lines → AllByRecursion (IsPlain name) (spliced lines es)

@@ -9,7 +9,7 @@ use Rattle.hunk_apply.specs.Written.{lines_between}
 use Rattle.hunk_apply.proofs.CopyLemmas.{none-between, more-between, meet-between}
 use Rattle.hunk_apply.proofs.SpliceLemmas.{sooner}
 use Rattle.ifdef_out.specs.Whole.{added, whole_from}
-use Rattle.ifdef_out.specs.Tagged.{Tag, Both, Old, New, Marking, Tagged, as_tag, block, closed, else_line, else_mark, endif_line, ifdef_line, ifndef_line, opening, tagged_behind, texts}
+use Rattle.ifdef_out.specs.Tagged.{Tag, Both, Old, New, Marking, Tagged, as_tag, block, closed, else_line, else_mark, endif_line, ifndef_line, opening, tagged_behind, texts}
 use Rattle.ifdef_out.specs.Chain.{is_some_line}
 use Rattle.ifdef_out.proofs.WholeLemmas.{kept, dropped, line-kept, none-left}
 
@@ -66,8 +66,8 @@ is-closed name [] [] some = cc
 is-closed name [] (a ∷ ns) some = refl
 is-closed name (d ∷ ds) ns some = refl
 
--- lines in front of all edits
-abbrev rest_of : List ℕ → List (List ℕ) → List Edit → ℕ → List (List ℕ)
+-- the lines from line q on
+abbrev pub rest_of : List ℕ → List (List ℕ) → List Edit → ℕ → List (List ℕ)
 rest_of name lines es q = texts (tagged_behind name [] [] (whole_from lines es q))
 
 kept-on : (name : List ℕ) (lines : List (List ℕ)) (es : List Edit) (from n : ℕ) → 1 ≤ from → from + n ≤ length lines + 1 → AreFrom (from + n) es
@@ -97,10 +97,6 @@ kept-to name lines es from to low order high h =
 pub else-one : (ns : List (List ℕ)) → is_some_line ns ≡ true → texts (else_mark ns) ≡ else_line ∷ []
 else-one [] some = cc
 else-one (a ∷ ns) some = refl
-
--- what stands in front of the added lines of a block
-pub opening-none : (name : List ℕ) (ns more : List (List ℕ)) → ifdef_line name ∷ more ≡ texts (opening name [] ns) ++ more
-opening-none name ns more = refl
 
 pub opening-some : (name : List ℕ) (ds ns more : List (List ℕ)) → is_some_line ds ≡ true → texts (opening name ds ns) ++ more ≡ ifndef_line name ∷ (ds ++ (texts (else_mark ns) ++ more))
 opening-some name [] ns more some = cc

@@ -4,10 +4,9 @@ ghost use Rattle.std.specs.Prelude.{◌≡◌, ◌+◌, ◌<◌, ◌++◌, ◌^�
 ghost use Rattle.std.specs.List.{All};
 ghost use Rattle.hunk_core.specs.PlainHunk.{bytes_at};
 ghost use Rattle.hunk_core.specs.Sides.{is_on_side};
-ghost use Rattle.hunk_core.specs.Turned.{IsLawful, LiesIn};
+ghost use Rattle.hunk_core.specs.Turned.{IsLawful, LiesIn, taken_mark};
 ghost use Rattle.hunk_core.specs.declared.Side.{Side};
 ghost use Rattle.hunk_apply.specs.Applied.{taken_all};
-ghost use Rattle.hunk_apply.specs.Body.{turned_mark};
 ghost use Rattle.hunk_apply.specs.Session.{IsTried};
 ghost use Rattle.hunk_apply.specs.Splice.{Edit, marked_edits};
 ghost use Rattle.ifdef_out.specs.Placed.{placed_edits};
@@ -75,7 +74,7 @@ pub fn hunk_step(
 /// The step over a line of a body.
 fn line_step(line: HunkLine, side: Side, place: Place) -> Step
     requires { place.line < 2 ^ 32 }
-    ensures edit { (text : List ℕ) → (rest : List Edit) → marked_edits (turned_mark side line.mark) place.next (bytes_at text line.span) (λ _. rest) ≡ step_edit text result.edit ++ rest }
+    ensures edit { (text : List ℕ) → (rest : List Edit) → marked_edits (taken_mark side line.mark) place.next (bytes_at text line.span) (λ _. rest) ≡ step_edit text result.edit ++ rest }
     ensures row { result.behind.row ≡ place.row }
     ensures line { result.behind.line ≡ place.line + 1 }
     ensures next { result.behind.next ≡ place.next + (if is_on_side side line.mark then 1 else 0) }

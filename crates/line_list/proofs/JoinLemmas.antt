@@ -102,3 +102,7 @@ last-lacks text b lt e =
 pub none-lacks : (text : List ℕ) → length text ≤ 0 → false ≡ ends_open (lines text)
 none-lacks [] le = sym (open-nothing [] refl)
 none-lacks (b ∷ bs) le = absurd (omega arith)
+
+pub join-one : (line : List ℕ) → join (line ∷ []) ≡ line
+unfolding join
+join-one line = refl

@@ -1,8 +1,8 @@
 -- Bytes without a line feed, whole lines, and the lines of a text that whole ones join to.
-use Rattle.std.proofs.Common.{◌≢◌, ℕ, List, [], ◌∷◌, ◌++◌, ◌≡◌, ◌-◌, length, take, refl, sym, ap, ◌∙◌, arith, ◌⊎◌, append_assoc, ◌<◌}
+use Rattle.std.proofs.Common.{◌≢◌, ℕ, List, [], ◌∷◌, ◌++◌, ◌≡◌, ◌-◌, length, take, refl, sym, ap, ◌∙◌, arith, ◌⊎◌, append_assoc, ◌<◌, inl, zero, suc}
 use Rattle.std.specs.List.{AllByRecursion, flat_map}
 use Rattle.std.proofs.lemmas.List.{take_at, length-append}
-use Rattle.line_list.specs.Lines.{IsLine, lines, ArePieces}
+use Rattle.line_list.specs.Lines.{IsLine, lines, ArePieces, IsOpenLine}
 use Rattle.line_list.proofs.Pieces.{longer, line-first}
 use Rattle.std.proofs.lemmas.List.Concat.{flat_map-cons}
 
@@ -50,3 +50,33 @@ lines-whole (line ∷ ls) rest h =
 pub whole-before : (line : List ℕ) (rest : List (List ℕ)) → 0 < length rest → ArePieces (line ∷ rest) → IsLine line
 whole-before line [] some h = absurd (omega (arith, some))
 whole-before line (next ∷ rest) some h = h.0
+
+pub whole-pieces : (ls : List (List ℕ)) → AreLines ls → ArePieces ls
+whole-pieces [] h = tt
+whole-pieces (line ∷ []) h = inl h.0
+whole-pieces (line ∷ next ∷ more) h = (h.0, whole-pieces (next ∷ more) h.1)
+
+pub no-feed-take : (n : ℕ) (bs : List ℕ) → NoFeed bs → NoFeed (take n bs)
+no-feed-take zero bs all = tt
+no-feed-take (suc n) [] all = tt
+no-feed-take (suc n) (b ∷ bs) all = (all.0, no-feed-take n bs all.1)
+
+-- a line of a text, and a list of such lines, which needn't be those of one text
+abbrev pub IsPieceLine : List ℕ → Type 0
+IsPieceLine line = IsLine line ⊎ IsOpenLine line
+
+abbrev pub ArePieceLines : List (List ℕ) → Type 0
+ArePieceLines ls = AllByRecursion IsPieceLine ls
+
+pub pieces-all : (ls : List (List ℕ)) → ArePieces ls → ArePieceLines ls
+pieces-all [] p = tt
+pieces-all (l ∷ []) p = (p, tt)
+pieces-all (l ∷ k ∷ ls) p = (inl p.0, pieces-all (k ∷ ls) p.1)
+
+pub front-all : (xs ys : List (List ℕ)) → ArePieceLines (xs ++ ys) → ArePieceLines xs
+front-all [] ys all = tt
+front-all (x ∷ xs) ys all = (all.0, front-all xs ys all.1)
+
+pub rest-all : (xs ys : List (List ℕ)) → ArePieceLines (xs ++ ys) → ArePieceLines ys
+rest-all [] ys all = all
+rest-all (x ∷ xs) ys all = rest-all xs ys all.1

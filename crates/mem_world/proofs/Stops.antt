@@ -192,10 +192,6 @@ shows_rest (Bound n bytes) d rest = absurd (false≢true rest)
 shows_rest (HalfSwapped n to) d rest = absurd (false≢true rest)
 shows_rest (HalfGone n) d rest = absurd (false≢true rest)
 
-shown_gone : (t : Bool) (o : Option (List ℕ)) → o ≡ None → None ≡ cond t (option_map (λ (c : List ℕ). let x : List ℕ = [] in x) o) o
-shown_gone true o none = sym (ap (option_map (λ (c : List ℕ). let x : List ℕ = [] in x)) none)
-shown_gone false o none = sym none
-
 pub if_ok : {V E : Type 0} (P Q : V → Type 0) → ((v : V) → P v → Q v) → (r : Result V E) → IfOk r P → IfOk r Q
 if_ok P Q f (Ok v) p = f v p
 if_ok P Q f (Err e) p = tt

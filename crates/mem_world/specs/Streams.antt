@@ -1,5 +1,5 @@
 -- A device in memory: which of its calls fail, and how often it failed.
-use Rattle.std.specs.Prelude.{◌≡◌, ℕ, ◌+◌, ◌-◌, ◌^◌, ◌≤◌, ◌==◌, min, Bool, true, false, Result, is_err, IsErr, OnOk}
+use Rattle.std.specs.Prelude.{◌≡◌, ℕ, ◌+◌, ◌-◌, ◌^◌, ◌==◌, min, Bool, true, false, Result, is_err, IsErr, OnOk}
 use Rattle.std.specs.List.{list_any}
 use Rattle.outside.specs.Faults.{HasRisen}
 use Rattle.mem_world.specs.declared.device.Device.{Device}
@@ -16,11 +16,6 @@ is_listed d = list_any (λ n. n == next_call d.calls) d.failing.items
 pub record Counts (old new : Device) : Type 0 where
   pub calls : new.calls ≡ next_call old.calls
   pub failing : new.failing.items ≡ old.failing.items
-
--- the count rises, or stands at its greatest value
-pub record Raises (old new : ℕ) : Type 0 where
-  pub counts : old ≤ new
-  pub rises : HasRisen old new
 
 -- a call that needs no memory: it fails exactly where it is listed
 pub record FailsWhereListed {R E : Type 0} (old new : Device) (result : Result R E) : Type 0 where

@@ -11,7 +11,8 @@ pub struct Device {
 
 impl Device {
     ghost use Rattle.std.specs.Prelude.{◌≡◌, true, false};
-    ghost use Rattle.mem_world.specs.Streams.{Counts, Raises, is_listed};
+    ghost use Rattle.mem_world.specs.Streams.{Counts, is_listed};
+    ghost use Rattle.mem_world.specs.Count.{Raises};
 
     pub fn new(failing: Vec<u32>) -> Device
         ensures failing { result.failing ≡ failing }

@@ -195,7 +195,7 @@ opening-takes least line c e =
 not-large : (start count : ℕ) → start + count < 2 ^ 32 → is_too_large start count ≡ false
 not-large start count lt = le-ltb 4294967295 (start + count) (omega (arith, lt))
 
-abbrev command_is : Action → ℕ → ℕ → ℕ → ℕ → Command
+abbrev pub command_is : Action → ℕ → ℕ → ℕ → ℕ → Command
 command_is action a b m n = record { action = action; old_start = a; old_count = b; new_start = m; new_count = n }
 
 placed-again : (least : ℕ) (c : Command) → AreFair least c → placed least c ≡ Ok c

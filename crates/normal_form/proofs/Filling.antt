@@ -2,6 +2,7 @@
 use Rattle.std.proofs.Common.{◌≡◌, ℕ, zero, suc, ◌+◌, ◌-◌, ◌≤◌, Bool, true, false, cond, eqb, List, [], ◌∷◌, ◌++◌, length, take, Option, None, Some, Result, Ok, Err, refl, sym, ap, subst, ◌∙◌, append_assoc, arith, inl, inr, ◌<◌}
 use Rattle.std.specs.List.{AllByRecursion}
 use Rattle.line_list.specs.Lines.{IsLine}
+use Rattle.line_list.proofs.WholeLines.{lines-both}
 use Rattle.hunk_core.specs.declared.BadKind.{BadKind}
 use Rattle.hunk_core.specs.declared.BadKind.TheVariants as kinds
 use Rattle.hunk_core.specs.declared.Side.{Side}
@@ -72,10 +73,6 @@ dashes-line = ((λ h. absurd (omega (arith, h))), ((λ h. absurd (omega (arith, 
 divides : is_divider dashes ≡ true
 unfolding after
 divides = refl
-
-both-lines : (ls ms : List (List ℕ)) → AllByRecursion IsLine ls → AllByRecursion IsLine ms → AllByRecursion IsLine (ls ++ ms)
-both-lines [] ms h k = k
-both-lines (l ∷ ls) ms h k = (h.0, both-lines ls ms h.1 k)
 
 -- ---- lines of one side
 
@@ -173,7 +170,7 @@ old_fills Change old new p e none bad =
     let front = take (e.line - p.number) p.rest in
     record {
       others = f.others ++ dashes ∷ fill Reversed new;
-      are_lines = both-lines f.others (dashes ∷ fill Reversed new) f.are_lines (dashes-line, fill-lines Reversed new);
+      are_lines = lines-both f.others (dashes ∷ fill Reversed new) f.are_lines (dashes-line, fill-lines Reversed new);
       olds = f.ls;
       news = filled new;
       old_count = f.counts;

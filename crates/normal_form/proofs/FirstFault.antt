@@ -28,7 +28,7 @@ use Rattle.normal_form.specs.Hunks.{at_line, body_at, change, first_hunk, hunk_a
 use Rattle.normal_form.specs.Grammar.{IsPiece}
 use Rattle.hunk_core.proofs.Steady.{steady-then, steady-value, steady-same}
 use Rattle.normal_form.proofs.Steady.{Steady, steady-line, steady-peek}
-use Rattle.normal_form.proofs.HunkLoops.{hunks_step}
+use Rattle.normal_form.proofs.HunkLoops.{hunks_step, some_lines}
 use Rattle.normal_form.proofs.Pieces.{hunk-shrinks, no_hunks, reading_again}
 
 -- ---- lines
@@ -182,10 +182,6 @@ begins_too last number (line ∷ rest) others agree le e =
     let b = and_parts (is_command line) (begins_marked rest) e in
     ap begins_hunk a.1 ∙ begins_again line a.0 b.0 (marked_too last (number + 1) rest a.0 a.2 le b.1)
 
-begins_some : (rest : List (List ℕ)) → begins_hunk rest ≡ true → 0 < length rest
-begins_some [] e = absurd cc
-begins_some (line ∷ rest) e = omega arith
-
 abbrev pub more_hunks : ℕ → PlainHunk × Ahead → Result (List PlainHunk × Ahead) Fault
 more_hunks most first = hunks_at most first.0.old_start first.1 >>= λ others. Ok (first.0 ∷ others.0, others.1)
 
@@ -218,7 +214,7 @@ hunks_stay (suc most) most2 least p others e h long agree enough =
     elim (chosen (begins_hunk p.rest) _ _ (Err e) h) [
       | inl some ↦ (
           let begins = begins_too (e.line + 1) p.number p.rest others agree (omega (arith, low.0)) some.0 in
-          let k : most2 ≡ suc (most2 - 1) = omega (arith, enough, begins_some others begins) in
+          let k : most2 ≡ suc (most2 - 1) = omega (arith, enough, some_lines others begins) in
           subst (λ n. hunks_at n least (ahead p.number others) ≡ Err e) (sym k) (elim (bind_err (hunk_at least p) (more_hunks most) e some.1) [
             | inl bad ↦ hunks_err (most2 - 1) least (ahead p.number others) e begins ((steady-hunk least).stays p others e bad long (agree_less (e.line + 1) e.line p.number p.rest others (omega arith) agree))
             | inr good ↦ (
@@ -274,7 +270,7 @@ hunks_stop (suc most) most2 least p others e x h long agree enough read none =
     elim (chosen (begins_hunk p.rest) _ _ (Err e) h) [
       | inl some ↦ elim (chosen (begins_hunk others) true false _ refl) [
         | inl begins ↦ (
-            let k : most2 ≡ suc (most2 - 1) = omega (arith, enough, begins_some others begins.0) in
+            let k : most2 ≡ suc (most2 - 1) = omega (arith, enough, some_lines others begins.0) in
             let on : (hunk_at least (ahead p.number others) >>= more_hunks (most2 - 1)) ≡ Ok x = sym (hunks_step (most2 - 1) least (ahead p.number others) begins.0) ∙ subst (λ n. hunks_at n least (ahead p.number others) ≡ Ok x) k read in
             elim (bind_err (hunk_at least p) (more_hunks most) e some.1) [
               | inl bad ↦ (let same : hunk_at least (ahead p.number others) ≡ Err e = (steady-hunk least).stays p others e bad long agree in let a = bind_ok (hunk_at least (ahead p.number others)) (more_hunks (most2 - 1)) x on in cc)
@@ -293,7 +289,7 @@ hunks_stop (suc most) most2 least p others e x h long agree enough read none =
             ])
         | inr quiet ↦ (
             let left : others ≡ [] = sym (nothing_begins most2 least (ahead p.number others) x quiet.0 read) ∙ none in
-            some_agree e.line p.number p.rest (begins_some p.rest some.0) low.0 (subst (AgreeTo e.line p.number p.rest) left agree))
+            some_agree e.line p.number p.rest (some_lines p.rest some.0) low.0 (subst (AgreeTo e.line p.number p.rest) left agree))
       ]
       | inr other ↦ absurd (let bad : Ok ([], p) ≡ failed {A = List PlainHunk × Ahead} e = other.1 in cc)
     ]

@@ -22,8 +22,10 @@ use Rattle.normal_form.specs.Commands.{takes_lines, parts_at, opening, is_comman
 use Rattle.normal_form.specs.Stretches.{marks, stretch_at, is_divider, first_divider, divider_at}
 use Rattle.normal_form.specs.Hunks.{at_line, body_at, change, first_hunk, hunk_at, is_marked, begins_marked, begins_hunk, hunks_at, reading}
 use Rattle.normal_form.specs.Grammar.{on_side, SpellsLine, SpellsStretch, SpellsBody, SpellsSpan, command_of, SpellsCommand, AreFair, SpellsHunk, SpellsHunks, EndsPiece, IsPiece}
-use Rattle.normal_form.proofs.CommandGrammar.{opening-takes, opening-again, opening-is}
+use Rattle.normal_form.proofs.CommandGrammar.{opening-takes, opening-again, opening-is, command_is}
 use Rattle.normal_form.proofs.Stretches.{TakesStretch, stretch_takes, stretch_again, divider-quiet, none-left}
+use Rattle.normal_form.proofs.Unbroken.{span-some}
+use Rattle.normal_form.proofs.Words.{mark-is}
 
 -- ---- the lines of a hunk
 
@@ -146,17 +148,12 @@ body_again c piece rest olds news number old new s none = rw (old, new) (with_ag
 
 -- ---- how a hunk begins
 
-marks-show : (side : Side) (bs : List ℕ) → is_marked (marks side ++ bs) ≡ true
-unfolding after
-marks-show Forward bs = refl
-marks-show Reversed bs = refl
-
 stretch-first : (side : Side) (piece tail ls : List (List ℕ)) → SpellsStretch side piece ls → 0 < length ls → begins_marked (piece ++ tail) ≡ true
 stretch-first side piece tail [] s some = absurd (omega (arith, some))
 stretch-first side piece tail (l ∷ ls) s some = rw (s.2, append_assoc s.0 s.1 tail) (first s.0 s.3)
   where
     shows : (line bytes : List ℕ) → line ≡ marks side ++ bytes → is_marked line ≡ true
-    shows line bytes e = rw e (marks-show side bytes)
+    shows line bytes e = rw e (mark-is side bytes)
 
     first : (own : List (List ℕ)) → SpellsLine side own l ls → begins_marked (own ++ (s.1 ++ tail)) ≡ true
     first [] h = absurd h
@@ -164,13 +161,10 @@ stretch-first side piece tail (l ∷ ls) s some = rw (s.2, append_assoc s.0 s.1 
     first (line ∷ mark ∷ []) h = shows line h.2 h.3
     first (line ∷ mark ∷ other ∷ more) h = absurd h
 
-some-lines : (text : List ℕ) (start count : ℕ) → SpellsSpan text true start count → 0 < count
-some-lines text start count s = omega (arith, s.4, s.5)
-
 body-first : (action : Action) (piece tail olds news : List (List ℕ)) (old new : List ℕ) (a m : ℕ) → SpellsBody action piece olds news → SpellsSpan old (takes_lines action Forward) a (length olds) → SpellsSpan new (takes_lines action Reversed) m (length news) → begins_marked (piece ++ tail) ≡ true
-body-first Add piece tail olds news old new a m s o n = stretch-first Reversed piece tail news s.1 (some-lines new m (length news) n)
-body-first Change piece tail olds news old new a m s o n = rw (s.3, append_assoc s.0 (s.1 ∷ s.2) tail) (stretch-first Forward s.0 ((s.1 ∷ s.2) ++ tail) olds s.4 (some-lines old a (length olds) o))
-body-first Delete piece tail olds news old new a m s o n = stretch-first Forward piece tail olds s.0 (some-lines old a (length olds) o)
+body-first Add piece tail olds news old new a m s o n = stretch-first Reversed piece tail news s.1 (span-some new m (length news) n)
+body-first Change piece tail olds news old new a m s o n = rw (s.3, append_assoc s.0 (s.1 ∷ s.2) tail) (stretch-first Forward s.0 ((s.1 ∷ s.2) ++ tail) olds s.4 (span-some old a (length olds) o))
+body-first Delete piece tail olds news old new a m s o n = stretch-first Forward piece tail olds s.0 (span-some old a (length olds) o)
 
 pub counts-none : (action : Action) (old new : List ℕ) (a b m n : ℕ) → SpellsSpan old (takes_lines action Forward) a b → SpellsSpan new (takes_lines action Reversed) m n → CountsNone action b n
 counts-none Add old new a b m n s t = s.1
@@ -200,10 +194,7 @@ pub at_line-ok : (number : ℕ) (o : Result Command BadKind) (c : Command) → a
 at_line-ok number (Ok q) c e = cc
 at_line-ok number (Err kind) c e = absurd cc
 
-abbrev pub made : Action → ℕ → ℕ → ℕ → ℕ → Command
-made action a b m n = record { action = action; old_start = a; old_count = b; new_start = m; new_count = n }
-
-pub is_counted : (action : Action) (a b m n e f : ℕ) → e ≡ b → f ≡ n → made action a b m n ≡ made action a e m f
+pub is_counted : (action : Action) (a b m n e f : ℕ) → e ≡ b → f ≡ n → command_is action a b m n ≡ command_is action a e m f
 is_counted action a b m n e f h k = rw (h, k) refl
 
 pub hunk_takes : (least number : ℕ) (rest : List (List ℕ)) (x : PlainHunk × Ahead) → first_hunk least number rest ≡ Ok x → TakesHunk least (ahead number rest) x

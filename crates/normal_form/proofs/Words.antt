@@ -72,7 +72,7 @@ range-read text false first last rest s stops =
 
 -- ---- a command
 
-end-found : (rest : List ℕ) → is_line_end rest ≡ true → (rest ≡ []) ⊎ (rest ≡ 10 ∷ [])
+pub end-found : (rest : List ℕ) → is_line_end rest ≡ true → (rest ≡ []) ⊎ (rest ≡ 10 ∷ [])
 end-found [] e = inl refl
 end-found (b ∷ []) e = inr (ap (λ c. c ∷ []) (eqb-true b 10 e))
 end-found (b ∷ c ∷ rest) e = absurd cc
@@ -127,7 +127,7 @@ mark-found line e = by (is_some (after (marks Forward) line)) refl e
     by true is h = mark-of Forward line is
     by false is h = mark-of Reversed line h
 
-mark-is : (side : Side) (bytes : List ℕ) → is_marked (marks side ++ bytes) ≡ true
+pub mark-is : (side : Side) (bytes : List ℕ) → is_marked (marks side ++ bytes) ≡ true
 unfolding after
 mark-is Forward bytes = refl
 mark-is Reversed bytes = refl

@@ -2,7 +2,7 @@
 use Rattle.std.proofs.Common.{◌≡◌, inl, inr, ⊎_elim, ◌+◌, ◌<◌, ◌≤◌, ℕ, suc, List, [], ◌∷◌, ◌++◌, length, take, Some, Result, Ok, Err, IsErr, refl, sym, ◌∙◌, ap, subst, arith, append_assoc, zero-add}
 use Rattle.std.proofs.lemmas.Bool.{cases_lt}
 use Rattle.std.proofs.lemmas.List.{take-append-le, take_all, append-nil}
-use Rattle.outside.specs.SinkView.{SinkView, sink_passes_none, sink_passes_both, Receives, ReceivesPart, Writes}
+use Rattle.outside.specs.SinkView.{SinkView, sink_passes_none, sink_passes_both, Receives, ReceivesPart, Writes, IsSinkCall}
 
 take-over : {A : Type 0} (xs ys : List A) (n : ℕ) → take (length xs + n) (xs ++ ys) ≡ xs ++ take n ys
 take-over [] ys n = ap (λ m. take m ys) (zero-add n)
@@ -65,3 +65,11 @@ writes_none a x = record { call = record { passes = sink_passes_none a; cause = 
 
 pub writes_is : {R E : Type 0} {a b : SinkView} {p : List ℕ} (r : Result R E) (q : List ℕ) → Writes a b r p → p ≡ q → Writes a b r q
 writes_is {a = a} {b = b} r q w e = subst (λ (l : List ℕ). Writes a b r l) e w
+
+-- a first call that failed
+pub stop_all : {R S E D : Type 0} {a b : SinkView} (e : E) (s : Result S D) (p q : List ℕ) → IsErr s → IsSinkCall {R = R} a b (Err e) → ReceivesPart a b p → Writes a b s (p ++ q)
+stop_all e s p q is call failed = writes_stop e s q is (record { call = call; received = tt; failed = failed })
+
+-- a first call, and what follows it
+pub then_all : {R S E D : Type 0} {a b c : SinkView} (x : R) (r : Result S D) (p q : List ℕ) → IsSinkCall {E = E} a b (Ok x) → Receives a b p → Writes b c r q → Writes a c r (p ++ q)
+then_all x r p q call received more = writes_then x r (record { call = call; received = received; failed = tt }) more

@@ -1,5 +1,4 @@
 pub mod EffectLists
 pub mod Making
-pub mod Passing
 pub mod Placing
 pub mod Tidy

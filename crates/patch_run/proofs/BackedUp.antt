@@ -3,6 +3,7 @@ use Rattle.std.proofs.Common.{◌≡◌, ◌⊎◌, inl, inr, ℕ, List, [], ◌
 use Rattle.std.proofs.lemmas.List.Folds.{list_any-append}
 use Rattle.std.proofs.lemmas.Slice.Eq.{bytes_eq-Decides}
 use Rattle.std.specs.Option.{option_map}
+use Rattle.std.proofs.Math.Bool.{or-true}
 use Rattle.outside.specs.Files.{Files}
 use Rattle.hunk_core.specs.declared.Verdict.{Verdict}
 use Rattle.patch_options.specs.PlainJob.{PlainOptions}
@@ -21,14 +22,10 @@ holds_name wrote o w name by is named =
     ∙ ap (λ n. bytes_eq name n) named
     ∙ (bytes_eq-Decides name name).1 refl
 
-or_true : (b : Bool) → (b || true) ≡ true
-or_true true = refl
-or_true false = refl
-
 pub mark_named : (t : PlainTurn) (r : Row) (vs : List Verdict) (w : Target) (name : List ℕ) → r.wrote ≡ true → (written_by t r ≡ Some w) ⊎ (renamed_by t r ≡ Some w) → w.name ≡ name → has_name name (mark_of t r vs) ≡ true
 unfolding mark_of
 mark_named t r vs w name wrote (inl is) named = ap (λ b. b || is_name name (mark_of t r vs).renamed) (holds_name r.wrote (written_by t r) w name wrote is named)
-mark_named t r vs w name wrote (inr is) named = ap (λ b. is_name name (mark_of t r vs).written || b) (holds_name r.wrote (renamed_by t r) w name wrote is named) ∙ or_true (is_name name (mark_of t r vs).written)
+mark_named t r vs w name wrote (inr is) named = ap (λ b. is_name name (mark_of t r vs).written || b) (holds_name r.wrote (renamed_by t r) w name wrote is named) ∙ or-true (is_name name (mark_of t r vs).written)
 
 still_written : (marks more : List Mark) (name : List ℕ) → was_written marks name ≡ true → was_written (marks ++ more) name ≡ true
 still_written marks more name is = list_any-append (has_name name) marks more ∙ ap (λ b. b || was_written more name) is
@@ -37,7 +34,7 @@ now_written : (t : PlainTurn) (r : Run) (e : Ending) (name : List ℕ) → HasWr
 now_written t r (ended s) name has =
     list_any-append (has_name name) r.past (mark_of t s.row s.verdicts ∷ [])
     ∙ ap (λ b. was_written r.past name || (b || false)) (mark_named t s.row s.verdicts has.1.0 name has.0 has.1.1.0 has.1.1.1)
-    ∙ or_true (was_written r.past name)
+    ∙ or-true (was_written r.past name)
 now_written t r (stopped said fault) name has = absurd has
 
 -- a run keeps its marks

@@ -5,29 +5,25 @@ use Rattle.std.specs.List.{list_any, flat_map}
 use Rattle.std.specs.Option.{option_or, option_and_then, option_to_list}
 use Rattle.std.proofs.lemmas.List.Folds.{list_any-append}
 use Rattle.std.proofs.lemmas.Option.{slice_get-get_or}
+use Rattle.std.proofs.lemmas.Bool.{or_parts}
 use Rattle.target_names.specs.declared.derived.Target.{Target}
 use Rattle.patch_set.specs.declared.set.Row.{Row}
 use Rattle.patch_run.specs.Asking.{renames, written_place}
 use Rattle.patch_run.specs.OnePatch.{Item, PlainTurn, no_target, target_at, written_at, written, written_by, renamed_by}
 use Rattle.patch_run.specs.Laws.{targets_in}
 
--- neither holds
-pub neither : (a b : Bool) → (a || b) ≡ false → (a ≡ false) × (b ≡ false)
-neither true b is = absurd cc
-neither false b is = (refl, is)
-
 -- ---- what holds of none of the targets
 
 module _ (p : Target → Bool) where
   none_get : (xs : List Target) (k : ℕ) (x : Target) → list_any p xs ≡ false → slice_get xs k ≡ Some x → p x ≡ false
   none_get [] k x none is = absurd cc
-  none_get (y ∷ ys) zero x none is = (let same : y ≡ x = cc in subst (λ (z : Target). p z ≡ false) same (neither (p y) (list_any p ys) none).0)
-  none_get (y ∷ ys) (suc k) x none is = none_get ys k x (neither (p y) (list_any p ys) none).1 is
+  none_get (y ∷ ys) zero x none is = (let same : y ≡ x = cc in subst (λ (z : Target). p z ≡ false) same (or_parts (p y) (list_any p ys) none).0)
+  none_get (y ∷ ys) (suc k) x none is = none_get ys k x (or_parts (p y) (list_any p ys) none).1 is
 
   pub none_at : (xs : List Target) (k : ℕ) → list_any p xs ≡ false → k < length xs → p (target_at xs k) ≡ false
   none_at [] k none less = absurd (omega (arith, less))
-  none_at (y ∷ ys) zero none less = (neither (p y) (list_any p ys) none).0
-  none_at (y ∷ ys) (suc k) none less = none_at ys k (neither (p y) (list_any p ys) none).1 (omega (arith, less))
+  none_at (y ∷ ys) zero none less = (or_parts (p y) (list_any p ys) none).0
+  none_at (y ∷ ys) (suc k) none less = none_at ys k (or_parts (p y) (list_any p ys) none).1 (omega (arith, less))
 
   -- of none that a file patch can have
   pub record IsNoneOf (out : Option Target) (i : Item) : Type 0 where
@@ -47,15 +43,15 @@ module _ (p : Target → Bool) where
 
       by : (o : Option Target) → t.output ≡ o → p (unwrap_or o (unwrap_or (written_at t.item k) (target_at t.item.targets k))) ≡ false
       by None is = chosen (slice_get t.item.targets (written_place t.item.patch k)) refl
-      by (Some w) is = (neither (p w) false (subst (λ (o : Option Target). list_any p (option_to_list o) ≡ false) is none.output)).0
+      by (Some w) is = (or_parts (p w) false (subst (λ (o : Option Target). list_any p (option_to_list o) ≡ false) is none.output)).0
 
   -- of none of a run, from the front
   pub none_first : (output : Option Target) (i : Item) (items : List Item) → list_any p (targets_in output (i ∷ items)) ≡ false → IsNoneOf output i × (list_any p (targets_in output items) ≡ false)
   none_first output i items none =
       let outs = option_to_list output in
       let more = flat_map (λ (x : Item). x.targets) items in
-      let parts = neither (list_any p outs) (list_any p (i.targets ++ more)) (sym (list_any-append p outs (i.targets ++ more)) ∙ none) in
-      let own = neither (list_any p i.targets) (list_any p more) (sym (list_any-append p i.targets more) ∙ parts.1) in
+      let parts = or_parts (list_any p outs) (list_any p (i.targets ++ more)) (sym (list_any-append p outs (i.targets ++ more)) ∙ none) in
+      let own = or_parts (list_any p i.targets) (list_any p more) (sym (list_any-append p i.targets more) ∙ parts.1) in
       (record { output = parts.0; own = own.0 }, list_any-append p outs more ∙ ap (λ b. b || list_any p more) parts.0 ∙ own.1)
 
 -- ---- what a row names

@@ -1,6 +1,6 @@
 -- What a reject file holds behind a run.
 use Rattle.std.proofs.Common.{◌≡◌, ◌≢◌, ℕ, zero, suc, ◌+◌, ◌<◌, List, [], ◌∷◌, ◌++◌, length, replicate, Bool, true, false, not, ◌&&◌, ◌||◌, if◌then◌else◌, cond, bytes_eq, nat_lt, Option, None, Some, refl, sym, ◌∙◌, ap, arith}
-use Rattle.std.proofs.lemmas.Bool.{false≢true}
+use Rattle.std.proofs.lemmas.Bool.{false≢true, or_parts}
 use Rattle.std.proofs.lemmas.List.{append-nil}
 use Rattle.std.proofs.lemmas.List.Concat.{flat_map-append}
 use Rattle.std.proofs.lemmas.List.Folds.{list_any-append}
@@ -26,11 +26,9 @@ use Rattle.patch_run.specs.OnePatch.{Item, Mark, PlainTurn, Start, skips, refuse
 use Rattle.patch_run.specs.Run.{Run, begun, files_after, turn_of, with_ending, if_going, with_item, run_on, run_of}
 use Rattle.patch_run.specs.Laws.{targets_in, is_kept_for, rejects_to}
 use Rattle.patch_run.proofs.Places.{IsTriedWithin, start_within}
-use Rattle.patch_run.proofs.Naming.{neither, IsNoneOf, none_at, none_written, none_first, written_is}
+use Rattle.patch_run.proofs.Naming.{IsNoneOf, none_at, none_written, none_first, written_is}
 use Rattle.patch_run.proofs.Standing.{Others, all_stays, cleared_stays, written_others}
-
-unlike : (a b : List ℕ) → bytes_eq a b ≡ false → a ≢ b
-unlike a b not eq = false≢true (sym not ∙ (bytes_eq-Decides a b).1 eq)
+use Rattle.patch_run.proofs.Unwritten.{unlike}
 
 -- a file patch of which each hunk is ignored has no rejects
 none_failed : (n : ℕ) → failed (replicate n Ignored) ≡ 0
@@ -100,8 +98,8 @@ module _ (q : List ℕ) (lasting : is_temp q ≡ false) where
       let s = target_at t.item.targets place in
       let w = written t place in
       let x = tried t side (lines_in (bytes_of t f place)) in
-      let of_w = neither (bytes_eq q w.name) (bytes_eq q w.backup) (none_written kept_for t place none less) in
-      let of_s = neither (bytes_eq q s.name) (bytes_eq q s.backup) (none_at kept_for t.item.targets place none.own less) in
+      let of_w = or_parts (bytes_eq q w.name) (bytes_eq q w.backup) (none_written kept_for t place none less) in
+      let of_s = or_parts (bytes_eq q s.name) (bytes_eq q s.backup) (none_at kept_for t.item.targets place none.own less) in
       let others : t.options.dry_run ≡ false → Others q (written_effects t f s w x) = λ wet. written_others q t f s w x (unlike q w.backup of_w.1) (λ moves. unlike q s.backup of_s.1) (λ is. unlike q w.name of_w.0) (λ is moves. unlike q s.name of_s.0) wet in
       cleared_stays q lasting st.cleared (after_all st.effects f)
       ∙ effects_reject t f s w x others

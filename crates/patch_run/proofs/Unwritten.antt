@@ -1,6 +1,6 @@
 -- A name that no file patch of a run has made or taken away stands for what it stood for.
 use Rattle.std.proofs.Common.{◌≡◌, ◌≢◌, inl, inr, ℕ, ◌<◌, List, [], ◌∷◌, length, Bool, true, false, not, ◌&&◌, ◌||◌, bytes_eq, Option, None, Some, refl, sym, ◌∙◌, ap}
-use Rattle.std.proofs.lemmas.Bool.{false≢true}
+use Rattle.std.proofs.lemmas.Bool.{false≢true, or_parts}
 use Rattle.std.proofs.lemmas.List.Folds.{list_any-append}
 use Rattle.std.proofs.lemmas.Slice.Eq.{bytes_eq-Decides}
 use Rattle.std.specs.List.{list_any}
@@ -20,10 +20,10 @@ use Rattle.patch_run.specs.Run.{Run, begun, files_after, turn_of, with_ending, i
 use Rattle.patch_run.specs.Laws.{targets_in, is_beside}
 use Rattle.patch_run.proofs.Places.{IsTriedWithin, start_within}
 use Rattle.patch_run.proofs.BackedUp.{mark_named, run_keeps}
-use Rattle.patch_run.proofs.Naming.{neither, IsNoneOf, none_at, none_written, none_first, written_is, renamed_is}
+use Rattle.patch_run.proofs.Naming.{IsNoneOf, none_at, none_written, none_first, written_is, renamed_is}
 use Rattle.patch_run.proofs.Standing.{all_stays, cleared_stays, effects_others}
 
-unlike : (a b : List ℕ) → bytes_eq a b ≡ false → a ≢ b
+pub unlike : (a b : List ℕ) → bytes_eq a b ≡ false → a ≢ b
 unlike a b not eq = false≢true (sym not ∙ (bytes_eq-Decides a b).1 eq)
 
 -- where it would follow from the name's being written
@@ -45,8 +45,8 @@ module _ (q : List ℕ) (lasting : is_temp q ≡ false) where
       let s = target_at t.item.targets place in
       let w = written t place in
       let x = tried t side (lines_in (bytes_of t f place)) in
-      let of_w = neither (bytes_eq q w.backup) (bytes_eq q w.reject) (none_written beside t place none less) in
-      let of_s = neither (bytes_eq q s.backup) (bytes_eq q s.reject) (none_at beside t.item.targets place none.own less) in
+      let of_w = or_parts (bytes_eq q w.backup) (bytes_eq q w.reject) (none_written beside t place none less) in
+      let of_s = or_parts (bytes_eq q s.backup) (bytes_eq q s.reject) (none_at beside t.item.targets place none.own less) in
       let own : wrote t f w x ≡ true → q ≢ w.name = λ is eq. false≢true (sym unmarked ∙ mark_named t st.row st.verdicts w q is (inl (written_is t st.row place refl less)) (sym eq)) in
       let source : wrote t f w x ≡ true → renames t.item.patch ≡ true → q ≢ s.name = λ is moves eq. false≢true (sym unmarked ∙ mark_named t st.row st.verdicts s q is (inr (renamed_is t st.row place refl less moves)) (sym eq)) in
       cleared_stays q lasting st.cleared (after_all st.effects f)
@@ -74,8 +74,8 @@ module _ (q : List ℕ) (lasting : is_temp q ≡ false) where
   with_keeps : (t : PlainTurn) (r : Run) (e : Ending) → KeepsName t r.files e → Keeps r (with_ending t r e)
   with_keeps t r (ended st) keeps unwritten =
       let m = mark_of t st.row st.verdicts in
-      let parts = neither (was_written r.past q) (has_name q m || false) (sym (list_any-append (has_name q) r.past (m ∷ [])) ∙ unwritten) in
-      keeps (neither (has_name q m) false parts.1).0
+      let parts = or_parts (was_written r.past q) (has_name q m || false) (sym (list_any-append (has_name q) r.past (m ∷ [])) ∙ unwritten) in
+      keeps (or_parts (has_name q m) false parts.1).0
   with_keeps t r (stopped said fault) keeps unwritten = refl
 
   item_keeps : (o : PlainOptions) (output : Option Target) (r : Run) (i : Item) → IsNoneOf beside output i → Keeps r (with_item o output r i)

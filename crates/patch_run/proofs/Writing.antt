@@ -9,7 +9,7 @@ use Rattle.patch_options.specs.PlainJob.{PlainOptions}
 use Rattle.target_names.specs.declared.derived.Target.{Target}
 use Rattle.file_patch.specs.declared.Change.{Change}
 use Rattle.file_patch.specs.declared.Change.TheVariants.{Hunks, Script}
-use Rattle.file_patch.specs.PlainPatch.{change_of}
+use Rattle.file_patch.specs.PlainPatch.{change_of, is_script}
 use Rattle.reject_text.specs.Rejects.{AreHunks}
 use Rattle.patch_header.specs.declared.git_lines.Action.{Action}
 use Rattle.patch_header.specs.declared.git_lines.Action.TheVariants.{Plain, New, Deleted, Rename, Copy}
@@ -19,7 +19,7 @@ use Rattle.outside.specs.Quiet.{Effect}
 use Rattle.hunk_apply.specs.Written.{is_nothing}
 use Rattle.patch_run.specs.Asking.{is_rename, renames}
 use Rattle.patch_effects.proofs.Placing.{put_count}
-use Rattle.patch_run.specs.OnePatch.{PlainTurn, Tried, has_rejects, is_backup_due, is_moving, is_unwanted, is_removal, is_written, made_effects, written_effects, rejects_text, reject_effects, effects_of, wrote, is_script, is_unrejected}
+use Rattle.patch_run.specs.OnePatch.{PlainTurn, Tried, has_rejects, is_backup_due, is_moving, is_unwanted, is_removal, is_written, made_effects, written_effects, rejects_text, reject_effects, effects_of, wrote, is_unrejected}
 
 -- ---- the effects of a file patch
 

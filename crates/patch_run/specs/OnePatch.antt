@@ -21,7 +21,7 @@ use Rattle.patch_header.specs.declared.git_lines.Action.TheVariants.{Plain, New,
 use Rattle.patch_options.specs.PlainJob.{PlainOptions}
 use Rattle.target_names.specs.declared.derived.Target.{Target}
 use Rattle.patch_set.specs.declared.set.Row.{Row}
-use Rattle.file_patch.specs.PlainPatch.{PlainChange, hunks, script}
+use Rattle.file_patch.specs.PlainPatch.{PlainChange, hunks, script, is_script}
 use Rattle.file_patch.specs.Absent.{creates, deletes}
 use Rattle.patch_set.specs.Asked.{is_posix}
 use Rattle.name_choice.specs.declared.Choice.{Choice}
@@ -209,10 +209,6 @@ unfoldable pub start : PlainTurn → Files → Start
 start t files = said_first (skipped_said t) (own_start t files)
 
 -- ---- what came of the hunks
-
-abbrev pub is_script : PlainChange → Bool
-is_script (hunks hs) = false
-is_script (script es) = true
 
 -- no reject file is written: of a script, or as the options ask
 abbrev pub is_unrejected : PlainOptions → PlainChange → Bool

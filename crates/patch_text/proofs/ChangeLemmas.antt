@@ -1,5 +1,5 @@
 -- What a reader of a form gives, as a change.
-use Rattle.std.proofs.Common.{◌≡◌, ◌≢◌, ℕ, ◌^◌, ◌+◌, ◌<◌, ◌≤◌, Bool, true, false, ◌&&◌, ◌||◌, List, [], ◌∷◌, ◌++◌, length, map, drop, slice_range, Option, refl, sym, ap, subst, ◌∙◌, arith, inl, inr, length-drop, eqb, get_or}
+use Rattle.std.proofs.Common.{◌≡◌, ◌≢◌, ℕ, ◌^◌, ◌+◌, ◌<◌, ◌≤◌, Bool, true, false, ◌||◌, List, [], ◌∷◌, ◌++◌, length, map, drop, slice_range, Option, refl, sym, ap, subst, ◌∙◌, arith, inl, inr, length-drop, eqb, get_or}
 use Rattle.std.specs.Prelude.{sum_by}
 use Rattle.std.proofs.lemmas.List.{length-map}
 use Rattle.std.proofs.lemmas.List.Concat.{length-flat_map}
@@ -31,6 +31,7 @@ use Rattle.patch_text.specs.Patches.{begins_change}
 use Rattle.patch_text.specs.Regions.{piece_ends}
 use Rattle.patch_text.specs.Texts.{IsPiece}
 use Rattle.patch_header.specs.declared.header.Header.{Header}
+use Rattle.patch_header.proofs.Fronts.{and_left}
 use Rattle.patch_text.specs.Changes.{Spells, IsChange, IsBareChange, IsBehind, hunks_read}
 use Rattle.patch_text.specs.declared.change.ReadChange.{ReadChange}
 
@@ -133,16 +134,12 @@ one_empty text side (x ∷ y ∷ hs) h n e is count = absurd (omega (arith, e))
 
 -- ---- what opens it
 
-and-left : (a b : Bool) → (a && b) ≡ true → a ≡ true
-and-left true b e = refl
-and-left false b e = absurd cc
-
 pub opens-change : (only : Option Form) (form : Form) (rest : List (List ℕ)) → begins only form rest ≡ true → begins_change form rest ≡ true
 opens-change only Unified rest e = e
 opens-change only Context rest e = e
 opens-change only Normal rest e = e
 opens-change only Ed [] e = absurd cc
-opens-change only Ed (line ∷ rest) e = and-left _ _ e
+opens-change only Ed (line ∷ rest) e = and_left _ _ e
 
 pub not-end : (text : List ℕ) (begins : List (List ℕ) → Bool) (at end : ℕ) → begins (lines (drop at text)) ≡ true → begins (lines (drop end text)) ≡ false → at ≢ end
 not-end text begins at end opens ends = λ e. (let bad : true ≡ false = sym opens ∙ ap (λ p. begins (lines (drop p text))) e ∙ ends in cc)

@@ -1,5 +1,5 @@
 -- The pieces of hunks end in front of the lines that begin a piece.
-use Rattle.std.proofs.Common.{◌≡◌, ◌≢◌, ℕ, ◌+◌, ◌<◌, ◌≤◌, Bool, true, false, cond, eqb, ◌&&◌, List, [], ◌∷◌, ◌++◌, length, drop, map, slice_range, Option, None, Some, refl, sym, ap, ◌∙◌, append_assoc, arith, inl, inr, length-drop}
+use Rattle.std.proofs.Common.{◌≡◌, ◌≢◌, ℕ, ◌+◌, ◌<◌, ◌≤◌, Bool, true, false, cond, eqb, List, [], ◌∷◌, ◌++◌, length, drop, map, slice_range, Option, None, Some, refl, sym, ap, ◌∙◌, append_assoc, arith, inl, inr, length-drop}
 use Rattle.std.specs.Prelude.{is_some, sum_by}
 use Rattle.std.specs.List.{AllByRecursion}
 use Rattle.std.proofs.lemmas.Bool.{eqb-true}
@@ -37,6 +37,7 @@ use Rattle.file_patch.specs.PlainPatch.{hunks}
 use Rattle.patch_text.specs.Texts.{IsPiece}
 use Rattle.patch_text.specs.Changes.{Spells, IsChange, hunks_read}
 use Rattle.patch_text.proofs.ChangeLemmas.{hunks-change, lines-sum, turn-count}
+use Rattle.patch_header.proofs.Fronts.{and_left}
 
 -- ---- lines that begin no piece
 
@@ -143,10 +144,6 @@ context-side : (side : Side) (piece partner : List (List ℕ)) (body : List Mark
 context-side side [] partner body h = tt
 context-side side (line ∷ piece) partner body h = context-part (line ∷ piece) (part_of side body) h
 
-and-first : (a b : Bool) → (a && b) ≡ true → a ≡ true
-and-first true b e = refl
-and-first false b e = absurd cc
-
 context-piece : (least : ℕ) (own : List (List ℕ)) (h : PlainHunk) → context.SpellsPiece least own h → IsOnePiece Context own
 context-piece least own h s =
     let new-part : AreQuiet Context (s.new_line ∷ s.new) = (context-range Reversed s.new_line s.new_single h.new_start (length (part_of Reversed h.body)) s.new_range, context-side Reversed s.new s.old h.body s.new_part) in
@@ -195,7 +192,7 @@ normal-body actions.Delete piece olds news h = normal-stretch Forward piece olds
 
 normal-piece : (least : ℕ) (own : List (List ℕ)) (h : PlainHunk) → normal.SpellsHunk least own h → IsOnePiece Normal own
 normal-piece least [] h s = absurd s
-normal-piece least (line ∷ rest) h s = (and-first _ _ (normal_pieces.hunk_opens least (line ∷ rest) [] h s), normal-body s.0 rest s.1 s.2 s.6)
+normal-piece least (line ∷ rest) h s = (and_left _ _ (normal_pieces.hunk_opens least (line ∷ rest) [] h s), normal-body s.0 rest s.1 s.2 s.6)
 
 -- ---- spans
 

@@ -39,13 +39,13 @@ pub regions-step : (most : ℕ) (ways : Ways) (text : List ℕ) (at number : ℕ
 unfolding regions_at
 regions-step most ways text at number = refl
 
-regions-nil : (ways : Ways) (text : List ℕ) (at number : ℕ) → regions_at zero ways text at number ≡ []
+pub regions-zero : (ways : Ways) (text : List ℕ) (at number : ℕ) → regions_at zero ways text at number ≡ []
 unfolding regions_at
-regions-nil ways text at number = refl
+regions-zero ways text at number = refl
 
 all-regions : (most : ℕ) (ways : Ways) (text : List ℕ) (start number before : ℕ) (ps : List FilePatch) (end next : ℕ) → length text ≤ start + most → LieInTurn ways text start number before ps end next → IsEnd ways text end
     → regions_at most ways text start number ≡ map region_of ps
-all-regions zero ways text start number before [] end next enough h ends = regions-nil ways text start number
+all-regions zero ways text start number before [] end next enough h ends = regions-zero ways text start number
 all-regions (suc most) ways text start number before [] end next enough h ends =
     let none : next_region ways text start number ≡ None = region-none ways text start number (subst (IsEnd ways text) (sym h.0) ends) in
     regions-step most ways text start number ∙ ap (with_later (λ p. regions_at most ways text (place_before text p.rest) p.number)) none
@@ -61,7 +61,3 @@ all-regions (suc most) ways text start number before (p ∷ ps) end next enough 
 
 pub regions-are : (ways : Ways) (text : List ℕ) (ps : List FilePatch) → ArePatches ways text ps → map region_of ps ≡ regions_of ways text
 regions-are ways text ps h = sym (all-regions (length text) ways text 0 1 0 ps h.end h.next (omega arith) h.turn h.ends)
-
-pub regions-zero : (ways : Ways) (text : List ℕ) (at number : ℕ) → regions_at zero ways text at number ≡ []
-unfolding regions_at
-regions-zero ways text at number = refl

@@ -43,13 +43,13 @@ front-none (Err f) = refl
 pub patches_begin : (ways : Ways) (text : List ℕ) → PatchesSoFar ways text [] 0 1
 patches_begin ways text = record { most = length text; enough = omega arith; same = front-none (patches_of ways text) }
 
-step : (most : ℕ) (ways : Ways) (text : List ℕ) (at number : ℕ) → patches_at (suc most) ways text at number ≡ (next_patch ways text at number >>= and_later (λ p. patches_at most ways text (place_before text p.rest) p.number))
+pub patches-step : (most : ℕ) (ways : Ways) (text : List ℕ) (at number : ℕ) → patches_at (suc most) ways text at number ≡ (next_patch ways text at number >>= and_later (λ p. patches_at most ways text (place_before text p.rest) p.number))
 unfolding patches_at
-step most ways text at number = refl
+patches-step most ways text at number = refl
 
-none-left : (ways : Ways) (text : List ℕ) (at number : ℕ) → patches_at zero ways text at number ≡ Ok []
+pub patches-zero : (ways : Ways) (text : List ℕ) (at number : ℕ) → patches_at zero ways text at number ≡ Ok []
 unfolding patches_at
-none-left ways text at number = refl
+patches-zero ways text at number = refl
 
 regroup : (front : List PlainPatch) (n : PlainPatch) (read : Result (List PlainPatch) Fault) → ((read >>= λ others. Ok (n ∷ others)) >>= λ others. Ok (front ++ others)) ≡ (read >>= λ others. Ok ((front ++ n ∷ []) ++ others))
 regroup front n (Ok x) = ap Ok (sym (append_assoc front (n ∷ []) x))
@@ -67,7 +67,7 @@ patches_go_on ways text front at number end next p some high read so_far =
     let rest = patches_at m.0 ways text end next in
     let place : place_before text (lines (drop end text)) ≡ end = place-back text end high in
     let one : patches_at so_far.most ways text at number ≡ (rest >>= λ others. Ok (p ∷ others))
-    = ap (λ k. patches_at k ways text at number) m.1 ∙ step m.0 ways text at number ∙ ap (λ r. r >>= and_later (λ q. patches_at m.0 ways text (place_before text q.rest) q.number)) read ∙ ap (λ k. patches_at m.0 ways text k next >>= λ others. Ok (p ∷ others)) place in
+    = ap (λ k. patches_at k ways text at number) m.1 ∙ patches-step m.0 ways text at number ∙ ap (λ r. r >>= and_later (λ q. patches_at m.0 ways text (place_before text q.rest) q.number)) read ∙ ap (λ k. patches_at m.0 ways text k next >>= λ others. Ok (p ∷ others)) place in
     record {
       most = m.0;
       enough = omega (arith, so_far.enough, m.1, some);
@@ -79,12 +79,12 @@ patches_fail errors.Memory ways text front at number high h so_far = tt
 patches_fail (errors.Malformed line kind) ways text front at number high h so_far =
     let m = more ways text at number so_far.most so_far.enough high (λ e. (let none = next-end ways text at number e in cc)) in
     let one : patches_at so_far.most ways text at number ≡ Err (record { line = line; kind = kind })
-    = ap (λ k. patches_at k ways text at number) m.1 ∙ step m.0 ways text at number ∙ ap (λ r. r >>= and_later (λ q. patches_at m.0 ways text (place_before text q.rest) q.number)) h in
+    = ap (λ k. patches_at k ways text at number) m.1 ∙ patches-step m.0 ways text at number ∙ ap (λ r. r >>= and_later (λ q. patches_at m.0 ways text (place_before text q.rest) q.number)) h in
     sym so_far.same ∙ ap (λ r. r >>= λ others. Ok (front ++ others)) one
 
 no-more : (most : ℕ) (ways : Ways) (text : List ℕ) (at number : ℕ) → next_patch ways text at number ≡ Ok None → patches_at most ways text at number ≡ Ok []
-no-more zero ways text at number none = none-left ways text at number
-no-more (suc most) ways text at number none = step most ways text at number ∙ ap (λ r. r >>= and_later (λ q. patches_at most ways text (place_before text q.rest) q.number)) none
+no-more zero ways text at number none = patches-zero ways text at number
+no-more (suc most) ways text at number none = patches-step most ways text at number ∙ ap (λ r. r >>= and_later (λ q. patches_at most ways text (place_before text q.rest) q.number)) none
 
 pub patches_done : (ways : Ways) (text : List ℕ) (front : List PlainPatch) (at number : ℕ) → next_patch ways text at number ≡ Ok None → PatchesSoFar ways text front at number → patches_of ways text ≡ Ok front
 patches_done ways text front at number none so_far = sym so_far.same ∙ ap (λ r. r >>= λ others. Ok (front ++ others)) (no-more so_far.most ways text at number none) ∙ ap Ok (append-nil front)

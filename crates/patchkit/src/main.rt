@@ -5,7 +5,7 @@ use outside::{Scratch, Sink, Source, Tree, put_all};
 use patch_filters::RegexFinder;
 use patch_options::patch_usage;
 use program_words::{
-    Telling, called_tool, line_behind, root_of, told, tool_of, usage_lines, words_of,
+    Telling, called_tool, line_behind, missing_line, root_of, told, tool_of, usage_lines, words_of,
 };
 use real_devices::{Disk, Input, Output, Pages, Trouble};
 use std::alloc::Global;
@@ -101,6 +101,7 @@ fn run_over<O: Write + Drop, E: Write + Drop>(
     pages.end();
     match exit.why {
         Why::Usage => put_usage(alloc, err, tool, words),
+        Why::NoPatchFile => put_missing(alloc, err, tool, words),
         Why::TreeFault => put_behind(alloc, err, tool, exit.why, tree.trouble()),
         Why::ScratchFault => put_behind(alloc, err, tool, exit.why, pages.trouble()),
         Why::ReadFault => put_behind(alloc, err, tool, exit.why, input.trouble()),
@@ -140,6 +141,13 @@ fn put_behind<E: Sink>(
 fn put_usage<E: Sink>(alloc: Global, err: &mut E, tool: &str, words: &[String]) {
     if let Ok(lines) = usage_lines(alloc, tool, words) {
         let _ = put_all(err, lines.as_str().as_bytes());
+    }
+}
+
+/// Writes which patch file wasn't found.
+fn put_missing<E: Sink>(alloc: Global, err: &mut E, tool: &str, words: &[String]) {
+    if let Ok(Some(line)) = missing_line(alloc, tool, words) {
+        let _ = put_all(err, line.as_str().as_bytes());
     }
 }
 

@@ -1,6 +1,7 @@
 //! The line behind the line of an answer: what helps whoever reads it.
 
 use crate::unfit::unfit_word;
+use patch_options::{Input, Job, read_words};
 use real_devices::Trouble;
 use run_answers::Why;
 use std::alloc::{AllocError, Global};
@@ -37,6 +38,33 @@ pub fn usage_lines(alloc: Global, tool: &str, words: &[String]) -> Result<String
         ),
         None => format!(in alloc; "Try '{tool} --help' for more information.\n"),
     }
+}
+
+/// Which patch file wasn't found, where the words of `patch` name one.
+pub fn missing_line(
+    alloc: Global,
+    tool: &str,
+    words: &[String],
+) -> Result<Option<String>, AllocError> {
+    if tool != "patch" {
+        return Ok(None);
+    }
+    match read_words(alloc, words) {
+        Ok(job) => missing_in(alloc, &job),
+        Err(_) => Ok(None),
+    }
+}
+
+fn missing_in(alloc: Global, job: &Job) -> Result<Option<String>, AllocError> {
+    let Job::Patch(options) = job;
+    match &options.input {
+        Input::File(name) => missing_name(alloc, name.text()),
+        Input::Standard => Ok(None),
+    }
+}
+
+fn missing_name(alloc: Global, name: &str) -> Result<Option<String>, AllocError> {
+    Ok(Some(format!(in alloc; "patch: {name}: not found\n")?))
 }
 
 /// The smallest buffer that holds a line of so many bytes.

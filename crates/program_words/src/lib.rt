@@ -7,7 +7,7 @@ mod help;
 mod root;
 mod unfit;
 
-pub use behind::{line_behind, usage_lines};
+pub use behind::{line_behind, missing_line, usage_lines};
 pub use called::{called_tool, tool_of, words_of};
 pub use help::{Telling, told};
 pub use root::root_of;

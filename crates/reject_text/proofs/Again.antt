@@ -11,6 +11,7 @@ use Rattle.unified_form.proofs.Again as unified
 use Rattle.context_form.proofs.Again as context
 use Rattle.context_form.specs.Presence.{may_begin, begins_part}
 use Rattle.patch_header.specs.Written.{hunk_text}
+use Rattle.patch_header.proofs.Rows.{no-lines}
 use Rattle.reject_text.specs.Headers.{IsRejectForm}
 use Rattle.reject_text.specs.Again.{AreUnbroken, AreClean, AreReadAgain}
 
@@ -46,20 +47,16 @@ star-line bs = refl
 star-starts : (bs : List ℕ) → begins_part true (lines (42 ∷ bs)) ≡ false
 star-starts bs = ap (begins_part true) (star-line bs) ∙ star-begins (lines bs)
 
-no-line : lines [] ≡ []
-unfolding lines
-no-line = refl
-
 unified-quiet : (hs : List PlainHunk) → after_backslash (lines (flat_map (hunk_text Unified) hs)) ≡ None
-unified-quiet [] = ap after_backslash no-line
+unified-quiet [] = ap after_backslash no-lines
 unified-quiet (h ∷ hs) = ap (λ bs. after_backslash (lines bs)) (flat_map-cons (hunk_text Unified) h hs) ∙ ap after_backslash (at-line _) ∙ at-quiet _
 
 context-quiet : (hs : List PlainHunk) → after_backslash (lines (flat_map (hunk_text Context) hs)) ≡ None
-context-quiet [] = ap after_backslash no-line
+context-quiet [] = ap after_backslash no-lines
 context-quiet (h ∷ hs) = ap (λ bs. after_backslash (lines bs)) (flat_map-cons (hunk_text Context) h hs) ∙ ap after_backslash (star-line _) ∙ star-quiet _
 
 context-begins : (hs : List PlainHunk) → begins_part true (lines (flat_map (hunk_text Context) hs)) ≡ false
-context-begins [] = ap (begins_part true) no-line
+context-begins [] = ap (begins_part true) no-lines
 context-begins (h ∷ hs) = ap (λ bs. begins_part true (lines bs)) (flat_map-cons (hunk_text Context) h hs) ∙ star-starts _
 
 pub read-again : (form : Form) (hs : List PlainHunk) → IsRejectForm form → AreUnbroken hs → AreClean hs → AreReadAgain form hs

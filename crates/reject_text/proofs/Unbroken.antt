@@ -1,30 +1,28 @@
 -- Hunks that break no rule, and whose lines have no inner line feed, turned and moved.
-use Rattle.std.proofs.Common.{◌≡◌, ℕ, zero, suc, ◌≤◌, Bool, true, false, cond, eqb, ◌||◌, List, [], ◌∷◌, ◌++◌, length, map, drop, Option, None, Some, refl, sym, ap, subst, ◌∙◌, arith}
+use Rattle.std.proofs.Common.{◌≡◌, ℕ, zero, suc, ◌≤◌, Bool, true, false, cond, eqb, List, [], ◌∷◌, ◌++◌, length, map, drop, Option, None, Some, refl, sym, ap, subst, ◌∙◌, arith}
 use Rattle.std.specs.Prelude.{ℤ, pos, negsuc}
 use Rattle.std.specs.List.{AllByRecursion, flat_map, range_with_len}
 use Rattle.std.proofs.lemmas.Bool.Decides.{nat_tests}
 use Rattle.std.proofs.lemmas.List.{length-map}
 use Rattle.std.proofs.lemmas.List.Concat.{flat_map-cons}
+use Rattle.std.proofs.lemmas.Bool.{or_parts}
 use Rattle.hunk_core.specs.declared.check.BadHunk.{BadHunk}
 use Rattle.hunk_core.specs.declared.check.BadHunk.TheVariants.{NoLines, Start, Sum, InnerEnd}
 use Rattle.hunk_core.specs.declared.Side.{Side}
 use Rattle.hunk_core.specs.declared.Side.TheVariants.{Forward, Reversed}
 use Rattle.hunk_core.specs.declared.Verdict.{Verdict}
 use Rattle.hunk_core.specs.declared.Verdict.TheVariants.{Untried, Ignored, Nowhere, At}
-use Rattle.hunk_core.specs.PlainHunk.{Marked, PlainHunk, old_lines, new_lines}
+use Rattle.hunk_core.specs.PlainHunk.{PlainHunk, old_lines, new_lines}
 use Rattle.hunk_core.specs.Rules.{starts_at_zero, runs_over, lacks_inner_end, first_broken, HasNoInnerFeed}
 use Rattle.hunk_core.specs.Turned.{swapped_line, turned}
 use Rattle.hunk_core.proofs.SideLemmas.{swapped-lines}
 use Rattle.hunk_core.proofs.RuleLemmas.{Kept, no-rule}
+use Rattle.hunk_core.proofs.TurnedLemmas.{swapped-feeds}
 use Rattle.reject_text.specs.Starts.{Row, net, least_start, greatest_start, put_between, moved_start, moved}
 use Rattle.reject_text.specs.Again.{AreUnbroken, AreClean}
 use Rattle.reject_text.specs.Rejects.{rows_of, if_nowhere, first_reject, reject_at, rejects}
 
 -- ---- the four rules, side by side
-neither : (a b : Bool) → (a || b) ≡ false → (a ≡ false) × (b ≡ false)
-neither true b e = absurd (cc)
-neither false b e = (refl, e)
-
 passed-by : (x : BadHunk) (a : Bool) (others : Option BadHunk) → cond a (Some x) others ≡ None → (a ≡ false) × (others ≡ None)
 passed-by x true others e = absurd (cc)
 passed-by x false others e = (refl, e)
@@ -35,9 +33,9 @@ kept h e =
     let b = passed-by Start _ _ a.1 in
     let c = passed-by Sum _ _ b.1 in
     let d = passed-by InnerEnd _ _ c.1 in
-    let begins = neither _ _ b.0 in
-    let fits = neither _ _ c.0 in
-    let ends = neither _ _ d.0 in
+    let begins = or_parts _ _ b.0 in
+    let fits = or_parts _ _ c.0 in
+    let ends = or_parts _ _ d.0 in
     record { some = a.0; old_begins = begins.0; new_begins = begins.1; old_fits = fits.0; new_fits = fits.1; old_ends = ends.0; new_ends = ends.1 }
 
 unbroken : (h : PlainHunk) → Kept h → first_broken h ≡ None
@@ -129,13 +127,9 @@ rejects-unbroken side hs vs all =
     (record { turns = λ s h e. unbroken (turned s h) (turned-kept s h (kept h e)); moves = λ n h e. unbroken (moved n h) (moved-kept n h (kept h e)) })
     side hs vs all
 
-clean-swapped : (body : List Marked) → AllByRecursion HasNoInnerFeed body → AllByRecursion HasNoInnerFeed (map swapped_line body)
-clean-swapped [] all = tt
-clean-swapped (m ∷ body) all = (all.0, clean-swapped body all.1)
-
 clean-turned : (side : Side) (h : PlainHunk) → AllByRecursion HasNoInnerFeed h.body → AllByRecursion HasNoInnerFeed (turned side h).body
 clean-turned Forward h all = all
-clean-turned Reversed h all = clean-swapped h.body all
+clean-turned Reversed h all = swapped-feeds h.body all
 
 pub rejects-clean : (side : Side) (hs : List PlainHunk) (vs : List Verdict) → AreClean hs → AreClean (rejects (rows_of side hs vs))
 rejects-clean side hs vs all = rejects-keep (λ h. AllByRecursion HasNoInnerFeed h.body) (record { turns = clean-turned; moves = λ n h e. e }) side hs vs all

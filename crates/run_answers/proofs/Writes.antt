@@ -1,21 +1,13 @@
 -- Writes in parts, as the calls of `put_all` give them.
-use Rattle.std.proofs.Common.{◌≡◌, ℕ, List, [], ◌∷◌, ◌++◌, codes, map, string_bytes, Bool, true, false, if◌then◌else◌, Some, ◌∙◌, Result, Ok, Err, IsErr, sym, ap}
+use Rattle.std.proofs.Common.{◌≡◌, ℕ, List, [], ◌∷◌, ◌++◌, codes, map, string_bytes, Bool, true, false, if◌then◌else◌, Some, ◌∙◌, Result, Ok, Err, sym, ap}
 use Rattle.std.specs.List.{slice_get}
 use Rattle.std.specs.declared.string.String.{String}
 use Rattle.std.proofs.lemmas.Option.{same_Some}
-use Rattle.outside.specs.SinkView.{SinkView, IsSinkCall, Receives, ReceivesPart, Writes}
-use Rattle.outside.proofs.Writing.{received_part, writes_stop, writes_then, writes_is, writes_none}
+use Rattle.outside.specs.SinkView.{SinkView, ReceivesPart, Writes}
+use Rattle.outside.proofs.Writing.{received_part, writes_is, writes_none}
 use Rattle.run_answers.specs.declared.why.Why.{Why}
 use Rattle.run_answers.specs.Answers.{is_ended}
 use Rattle.run_answers.specs.Reasons.{refusal_line, tool_of, reason_of}
-
--- a first part that failed
-pub stop_all : {R S E D : Type 0} {a b : SinkView} (e : E) (s : Result S D) (p q : List ℕ) → IsErr s → IsSinkCall {R = R} a b (Err e) → ReceivesPart a b p → Writes a b s (p ++ q)
-stop_all e s p q is call failed = writes_stop e s q is (record { call = call; received = tt; failed = failed })
-
--- a first part, and what follows it
-pub then_all : {R S E D : Type 0} {a b c : SinkView} (x : R) (r : Result S D) (p q : List ℕ) → IsSinkCall {E = E} a b (Ok x) → Receives a b p → Writes b c r q → Writes a c r (p ++ q)
-then_all x r p q call received more = writes_then x r (record { call = call; received = received; failed = tt }) more
 
 -- the line of an answer that has one
 abbrev pub whole_line : List ℕ → Why → List ℕ

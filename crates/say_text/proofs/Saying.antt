@@ -1,23 +1,15 @@
 -- Writes in parts, as the calls of `put_all` give them, and what is written with `-s`.
-use Rattle.std.proofs.Common.{◌≡◌, ℕ, ℤ, List, [], ◌++◌, Bool, true, false, not, ◌&&◌, if◌then◌else◌, Result, Ok, Err, IsErr, OnOk, OnErr, refl, sym, ap, subst, ◌∙◌, to_z, of_z, w64}
+use Rattle.std.proofs.Common.{◌≡◌, ℕ, ℤ, List, [], Bool, true, false, not, ◌&&◌, if◌then◌else◌, Result, Ok, OnOk, OnErr, refl, sym, ap, subst, ◌∙◌, to_z, of_z, w64}
 use Rattle.std.proofs.lemmas.Int.{to_z-of_z}
 use mir.Val.{SFits}
 use Rattle.outside.specs.SinkView.{SinkView, IsSinkCall, Receives, ReceivesPart, Writes}
-use Rattle.outside.proofs.Writing.{writes_stop, writes_then, writes_is, writes_none}
+use Rattle.outside.proofs.Writing.{writes_is, writes_none}
 use Rattle.patch_options.specs.PlainJob.{PlainOptions}
 use Rattle.say_text.specs.Messages.{silenced}
 
 -- one call, whose piece is this text
 pub by_one : {R E : Type 0} {a b : SinkView} (r : Result R E) (p q : List ℕ) → IsSinkCall a b r → OnOk r (Receives a b p) → OnErr r (ReceivesPart a b p) → p ≡ q → Writes a b r q
 by_one r p q call received failed is = writes_is r q (record { call = call; received = received; failed = failed }) is
-
--- a first call that failed
-pub stop_all : {R S E D : Type 0} {a b : SinkView} (e : E) (s : Result S D) (p q : List ℕ) → IsErr s → IsSinkCall {R = R} a b (Err e) → ReceivesPart a b p → Writes a b s (p ++ q)
-stop_all e s p q is call failed = writes_stop e s q is (record { call = call; received = tt; failed = failed })
-
--- a first call, and what follows it
-pub then_all : {R S E D : Type 0} {a b c : SinkView} (x : R) (r : Result S D) (p q : List ℕ) → IsSinkCall {E = E} a b (Ok x) → Receives a b p → Writes b c r q → Writes a c r (p ++ q)
-then_all x r p q call received more = writes_then x r (record { call = call; received = received; failed = tt }) more
 
 -- without `-s` the whole text is written
 pub heard : {R E : Type 0} {a b : SinkView} (o : PlainOptions) (r : Result R E) (p : List ℕ) → o.silent ≡ false → Writes a b r p → Writes a b r (silenced o p)

@@ -1,10 +1,11 @@
 -- Where a body ends, line by line.
-use Rattle.std.proofs.Common.{◌≡◌, ℕ, Bool, true, false, not, eqb, ◌&&◌, ◌||◌, List, [], ◌∷◌, refl, sym, ap, ◌∙◌}
+use Rattle.std.proofs.Common.{◌≡◌, ℕ, Bool, true, false, not, eqb, ◌||◌, List, [], ◌∷◌, refl, sym, ap, ◌∙◌}
 use Rattle.std.proofs.lemmas.Bool.{eqb-true}
 use Rattle.hunk_core.specs.LineTests.{after}
 use Rattle.unified_form.specs.Ranges.{is_opening}
 use Rattle.unified_form.proofs.Words.{opening-words}
 use Rattle.split_recount.specs.Bodies.{is_body_line, is_signature, is_empty, begins_header, ends_body, body_of}
+use Rattle.patch_header.proofs.Fronts.{and_left}
 
 -- a test that rules out two others stands for both
 five : (o s h e b : Bool) → (b ≡ true → o ≡ false) → (b ≡ true → e ≡ false) → (o || s || h || e || not b) ≡ (not b || s || h)
@@ -34,10 +35,6 @@ opens_other line body = by (is_opening line) refl
         let no : is_body_line line ≡ false = ap is_body_line w.2 ∙ at-first (64 ∷ 32 ∷ 45 ∷ w.0 ∷ w.1) in
         absurd cc
 
-and-first : (a b : Bool) → (a && b) ≡ true → a ≡ true
-and-first true b e = refl
-and-first false b e = absurd cc
-
 empty_other : (line : List ℕ) → is_body_line line ≡ true → is_empty line ≡ false
 unfolding after
 empty_other [] body = absurd cc
@@ -46,7 +43,7 @@ empty_other (b ∷ bytes) body = by (is_empty (b ∷ bytes)) refl
     by : (v : Bool) → is_empty (b ∷ bytes) ≡ v → v ≡ false
     by false e = refl
     by true e =
-        let first : b ≡ 10 = eqb-true b 10 (and-first (eqb b 10) _ e) in
+        let first : b ≡ 10 = eqb-true b 10 (and_left (eqb b 10) _ e) in
         let no : is_body_line (b ∷ bytes) ≡ false = rw first refl in
         absurd cc
 

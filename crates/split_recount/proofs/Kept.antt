@@ -7,6 +7,7 @@ use Rattle.line_list.specs.Completed.{completed, IsComplete}
 use Rattle.line_list.specs.Join.{ends_open}
 use Rattle.line_list.proofs.Pieces.{pieces-only, lines-pieces}
 use Rattle.line_list.proofs.JoinLemmas.{completed-complete}
+use Rattle.line_list.proofs.WholeLines.{whole-pieces}
 use Rattle.num_text.specs.Numbers.{decimal, is_digit, AllDigits}
 use Rattle.num_text.proofs.Decimal.{decimal-numeral}
 use Rattle.hunk_core.specs.declared.BadKind.{BadKind}
@@ -28,7 +29,7 @@ use Rattle.split_recount.specs.Recounted.{unplaced, line_at, new_start, true_lin
 use Rattle.split_recount.specs.TrueCounts.{is_other, Spells, AreTrue}
 use Rattle.split_recount.proofs.Ends.{body_ends, body_more}
 use Rattle.split_recount.proofs.Spelled.{IsSpelled, body-spelled}
-use Rattle.split_recount.proofs.WholeLines.{said-line, written-line, all-whole, whole-pieces, whole-ends}
+use Rattle.split_recount.proofs.WholeLines.{said-line, written-line, all-whole, whole-ends}
 
 -- ---- a range line
 

@@ -4,6 +4,7 @@ use Rattle.std.proofs.lemmas.List.{append-nil}
 use Rattle.std.proofs.Math.Seq.{take-add, drop-drop}
 use Rattle.std.specs.List.{list_any, cons_option}
 use Rattle.std.specs.Prelude.{option_map}
+use Rattle.std.proofs.Math.Bool.{or-false}
 use Rattle.line_list.specs.Lines.{IsLineAt}
 use Rattle.hunk_core.specs.declared.Mark.{Mark}
 use Rattle.hunk_core.specs.declared.Mark.TheVariants.{Keep, Drop, Add}
@@ -119,10 +120,6 @@ measures_more text at b end sides slash so goes marked slashed =
       backslash = so.backslash ∙ ap (λ (ls : List (List ℕ)). b.has_backslash || list_any is_backslash ls) more ∙ or-assoc b.has_backslash (is_backslash line) (list_any is_backslash (body_at text end))
           ∙ ap (λ (v : Bool). v || list_any is_backslash (body_at text end)) (sym slashed);
     }
-
-or-false : (a : Bool) → (a || false) ≡ a
-or-false true = refl
-or-false false = refl
 
 pub measures_done : (text : List ℕ) (at : ℕ) (b : Body) → Measures text at b → body_at text b.end ≡ [] → IsMeasured text at b
 measures_done text at b so none =

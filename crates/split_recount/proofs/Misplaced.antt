@@ -1,6 +1,7 @@
 -- The first misplaced backslash line of a body, line by line.
-use Rattle.std.proofs.Common.{◌≡◌, ℕ, ◌+◌, ◌≤◌, ◌<◌, ◌^◌, Bool, true, false, not, eqb, ◌&&◌, ◌||◌, List, [], ◌∷◌, length, slice_range, Option, None, Some, refl, sym, ap, ◌∙◌, arith}
+use Rattle.std.proofs.Common.{◌≡◌, ℕ, ◌+◌, ◌≤◌, ◌<◌, ◌^◌, Bool, true, false, not, eqb, ◌&&◌, List, [], ◌∷◌, length, slice_range, Option, None, Some, refl, sym, ap, ◌∙◌, arith}
 use Rattle.std.specs.List.{list_any}
+use Rattle.std.proofs.lemmas.Bool.{or_parts}
 use Rattle.line_list.specs.Lines.{IsLineAt}
 use Rattle.hunk_core.specs.declared.Mark.{Mark}
 use Rattle.hunk_core.specs.LineTests.{is_backslash}
@@ -60,10 +61,6 @@ search-further text total at number before left end mark fewer wrong so takes w 
           ∙ ap (λ m. misplaced m (number + 1) (body_at text end)) (sym takes.mark_is);
     }
 
-neither : (a b : Bool) → (a || b) ≡ false → (a ≡ false) × (b ≡ false)
-neither true b e = absurd cc
-neither false b e = (refl, e)
-
 none-first : (a b : Bool) → a ≡ false → (a && b) ≡ false
 none-first a b e = rw e refl
 
@@ -71,7 +68,7 @@ none-first a b e = rw e refl
 pub none_misplaced : (before : Option Mark) (number : ℕ) (body : List (List ℕ)) → list_any is_backslash body ≡ false → misplaced before number body ≡ None
 none_misplaced before number [] e = not-there before number [] refl
 none_misplaced before number (line ∷ body) e =
-    let both = neither (is_backslash line) (list_any is_backslash body) e in
+    let both = or_parts (is_backslash line) (list_any is_backslash body) e in
     further before number line body (none-first (is_backslash line) _ both.0) ∙ none_misplaced (mark_in line) (number + 1) body both.1
 
 -- ---- a whole body

@@ -1,8 +1,9 @@
 -- Parts begin only where a name comes again, or at each file patch.
-use Rattle.std.proofs.Common.{◌≡◌, ℕ, zero, suc, ◌<◌, ◌≤◌, ◌⊎◌, Bool, true, false, ◌||◌, List, [], ◌∷◌, length, map, Some, inl, inr, refl, sym, ap, ◌∙◌, arith, bytes_eq}
+use Rattle.std.proofs.Common.{◌≡◌, ℕ, zero, suc, ◌<◌, ◌≤◌, Bool, true, false, List, [], ◌∷◌, length, map, Some, inl, inr, refl, sym, ap, ◌∙◌, arith, bytes_eq}
 use Rattle.std.specs.Prelude.{slice_get}
 use Rattle.std.proofs.lemmas.List.{length-map}
 use Rattle.std.proofs.lemmas.Option.{same_Some}
+use Rattle.std.proofs.lemmas.Bool.{or_cases}
 use Rattle.line_list.specs.declared.Span.{Span}
 use Rattle.file_patch.specs.declared.FilePatch.{FilePatch}
 use Rattle.target_names.specs.Numbered.{is_among}
@@ -45,10 +46,6 @@ are-as-many v whole some = ap length (parts-are true v (some-text v whole some))
 
 -- ---- at names that come again
 
-or-either : (a b : Bool) → (a || b) ≡ true → (a ≡ true) ⊎ (b ≡ true)
-or-either true b e = inl refl
-or-either false b e = inr e
-
 module _ (Seen : ℕ × List ℕ → Type 0) (end : ℕ) where
   -- the name of one that was seen, and begins between two places
   abbrev Named : ℕ → ℕ → List ℕ → Type 0
@@ -66,13 +63,13 @@ module _ (Seen : ℕ × List ℕ → Type 0) (end : ℕ) where
   here-named row low name seen le e = (row, seen, le, omega arith, sym (are-same name row.1 e))
 
   first-named : (row : ℕ × List ℕ) → Seen row → AreNamed row.0 row.0 (row.1 ∷ [])
-  first-named row seen name e = elim (or-either (bytes_eq name row.1) false e) [
+  first-named row seen name e = elim (or_cases (bytes_eq name row.1) false e) [
     | inl same ↦ here-named row row.0 name seen (omega arith) same
     | inr none ↦ absurd cc
   ]
 
   more-named : (names : List (List ℕ)) (low at : ℕ) (row : ℕ × List ℕ) → Seen row → low ≤ at → at < row.0 → AreNamed low at names → AreNamed low row.0 (row.1 ∷ names)
-  more-named names low at row seen le lt named name e = elim (or-either (bytes_eq name row.1) (is_among names name) e) [
+  more-named names low at row seen le lt named name e = elim (or_cases (bytes_eq name row.1) (is_among names name) e) [
     | inl same ↦ here-named row low name seen (omega (arith, le, lt)) same
     | inr among ↦ let r = named name among in (r.0, r.1, r.2, omega (arith, r.3, lt), r.4)
   ]

@@ -2,6 +2,7 @@
 use Rattle.std.proofs.Common.{◌≡◌, ◌≢◌, ℕ, zero, suc, ◌<◌, ◌≤◌, Bool, true, false, ◌||◌, List, [], ◌∷◌, length, map, Some, inl, inr, refl, sym, ap, subst, ◌∙◌, arith, bytes_eq}
 use Rattle.std.specs.Prelude.{slice_get}
 use Rattle.std.proofs.lemmas.Option.{same_Some}
+use Rattle.std.proofs.lemmas.Bool.{or_parts}
 use Rattle.line_list.specs.declared.Span.{Span}
 use Rattle.hunk_core.specs.Pieces.{AreInTurn}
 use Rattle.file_patch.specs.declared.FilePatch.{FilePatch}
@@ -13,14 +14,10 @@ use Rattle.split_recount.specs.PartLaws.{HaveOwnNames}
 use Rattle.split_recount.proofs.Cutting.{cut-there, cut-later, row-at, parts-are}
 use Rattle.split_recount.proofs.PartsInTurn.{Rows, Ascend, in-turn, ascend, empty-or, no-part, spans}
 
-both-false : (a b : Bool) → (a || b) ≡ false → (a ≡ false) × (b ≡ false)
-both-false true b e = absurd cc
-both-false false b e = (refl, e)
-
 differ : (name other : List ℕ) (names : List (List ℕ)) → is_among (name ∷ names) other ≡ false → name ≢ other
 differ name other names e = λ same.
     let x : bytes_eq other name ≡ true = subst (λ n. bytes_eq other n ≡ true) (sym same) (same-is other) in
-    let y = sym x ∙ (both-false (bytes_eq other name) (is_among names other) e).0 in cc
+    let y = sym x ∙ (or_parts (bytes_eq other name) (is_among names other) e).0 in cc
 
 at-least : (low : ℕ) (row : ℕ × List ℕ) (rows : Rows) (end i : ℕ) (r : ℕ × List ℕ) → Ascend low (row ∷ rows) end → slice_get (row ∷ rows) i ≡ Some r → row.0 ≤ r.0
 at-least low row rows end zero r up is = let e = ap (λ x. x.0) (same_Some row r is) in omega (arith, e)
@@ -58,8 +55,8 @@ module _ (every : Bool) (end : ℕ) where
   fresh names low at (row ∷ rows) i r s up is there lt = by (every || is_among names row.1) refl (λ j at-first. fresh (row.1 ∷ names) low row.0 rows j r s up.1 at-first)
     where
       here : (n : ℕ) → (every || is_among names row.1) ≡ false → slice_get (row ∷ rows) n ≡ Some r → ((j : ℕ) → slice_get rows j ≡ Some r → IsNew (row.1 ∷ names) r) → IsNew names r
-      here zero e at-n more = subst (IsNew names) (same_Some row r at-n) (both-false every (is_among names row.1) e)
-      here (suc j) e at-n more = ((more j at-n).0, (both-false (bytes_eq r.1 row.1) (is_among names r.1) (more j at-n).1).1)
+      here zero e at-n more = subst (IsNew names) (same_Some row r at-n) (or_parts every (is_among names row.1) e)
+      here (suc j) e at-n more = ((more j at-n).0, (or_parts (bytes_eq r.1 row.1) (is_among names r.1) (more j at-n).1).1)
 
       by : (b : Bool) → (every || is_among names row.1) ≡ b
           → ((j : ℕ) → slice_get (spans every end (row.1 ∷ names) low rows) 0 ≡ Some s → slice_get rows j ≡ Some r → r.0 < s.end → IsNew (row.1 ∷ names) r) → IsNew names r

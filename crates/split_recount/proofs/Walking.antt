@@ -10,7 +10,6 @@ use Rattle.hunk_core.specs.Reading.{Fault, fault, Fails}
 use Rattle.unified_form.specs.declared.body.Left.{Left}
 use Rattle.unified_form.specs.Ranges.{is_opening}
 use Rattle.unified_form.specs.Grammar.{counts_of}
-use Rattle.unified_form.specs.Hunks.{begins_hunk}
 use Rattle.split_recount.specs.declared.body.Sides.{Sides}
 use Rattle.split_recount.specs.declared.body.Body.{Body}
 use Rattle.split_recount.specs.declared.recounting.Reached.{Reached}
@@ -110,10 +109,6 @@ all-kept number earlier (line ∷ rest) = by (ends_body line rest) refl (all-kep
         ∙ sym (ap (kept number earlier (line ∷ rest)) (body_more (line ∷ rest) line rest refl e))
 
 -- ---- steps
-
--- whether the line at a place opens a hunk
-pub opens-at : (text : List ℕ) (at end : ℕ) → IsLineAt text at end → begins_hunk (lines (drop at text)) ≡ is_opening (slice_range text at end)
-opens-at text at end place = ap begins_hunk place.first
 
 -- no more lines count behind a line than before
 no-more : (earlier : Left) (line : List ℕ) (at : ℕ) → earlier.old ≤ at → earlier.new ≤ at → ((behind_line earlier false line).old ≤ at) × ((behind_line earlier false line).new ≤ at)

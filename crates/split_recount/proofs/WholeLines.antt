@@ -143,11 +143,6 @@ all-whole (line ∷ []) (inl h) e = (h, tt)
 all-whole (line ∷ []) (inr h) e = let o : lacks_feed line ≡ true = open-lacks line h in absurd cc
 all-whole (line ∷ next ∷ more) h e = (h.0, all-whole (next ∷ more) h.1 e)
 
-pub whole-pieces : (ls : List (List ℕ)) → AllByRecursion IsLine ls → ArePieces ls
-whole-pieces [] h = tt
-whole-pieces (line ∷ []) h = inl h.0
-whole-pieces (line ∷ next ∷ more) h = (h.0, whole-pieces (next ∷ more) h.1)
-
 pub whole-ends : (ls : List (List ℕ)) → AllByRecursion IsLine ls → ends_open ls ≡ false
 unfolding ends_open
 whole-ends [] h = refl

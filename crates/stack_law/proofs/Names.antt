@@ -1,6 +1,6 @@
 -- The names of a stack's own files: none is temporary, and none is another's or one that may be saved.
-use Rattle.std.proofs.Common.{◌≡◌, ℕ, List, [], ◌∷◌, ◌++◌, codes, drop, Bool, true, false, ◌&&◌, not, bytes_eq, Option, Some, refl, sym, ◌∙◌, ap, subst, arith, nat_eq}
-use Rattle.std.proofs.lemmas.Bool.{false≢true}
+use Rattle.std.proofs.Common.{◌≡◌, ℕ, List, [], ◌∷◌, ◌++◌, codes, drop, Bool, true, false, not, bytes_eq, Option, Some, refl, sym, ◌∙◌, ap, subst, arith, nat_eq}
+use Rattle.std.proofs.lemmas.Bool.{false≢true, and_parts}
 use Rattle.std.proofs.lemmas.List.Prefix.{end_rest}
 use Rattle.std.specs.Cmp.Lexicographic.{pointwise}
 use Rattle.num_text.specs.Numbers.{decimal, is_digit, number_at, IsNumeral}
@@ -80,17 +80,13 @@ pub save-no_other : (j k : ℕ) → (j ≡ k → ⊥) → bytes_eq (save_name j)
 save-no_other j k ne = unequal (save_name j) (save_name k) (λ same. ne (same_number j k same))
 
 -- ---- names that may be saved
-pub both_true : (a b : Bool) → (a && b) ≡ true → (a ≡ true) × (b ≡ true)
-both_true true b is = (refl, is)
-both_true false b is = absurd cc
-
 not_true : (a : Bool) → not a ≡ true → a ≡ false
 not_true true is = absurd cc
 not_true false is = refl
 
 pub saved-lasting : (name : List ℕ) → is_saved name ≡ true → (is_temp name ≡ false) × (is_of_stack name ≡ false)
 saved-lasting name is =
-    let a = both_true _ _ is in
-    let b = both_true _ _ a.1 in
-    let c = both_true _ _ b.1 in
+    let a = and_parts _ _ is in
+    let b = and_parts _ _ a.1 in
+    let c = and_parts _ _ b.1 in
     (not_true (is_temp name) c.0, not_true (is_of_stack name) c.1)

@@ -1,6 +1,6 @@
 -- The stack that files hold.
 use Rattle.std.proofs.Common.{◌≡◌, ℕ, ◌<◌, ◌≤◌, ◌^◌, List, length, map, Bool, true, false, ◌&&◌, cond, leb, Option, Some, None, Ok, refl, ◌∙◌, ap, subst, arith}
-use Rattle.std.proofs.lemmas.Bool.{leb-true}
+use Rattle.std.proofs.lemmas.Bool.{leb-true, and_parts}
 use Rattle.std.proofs.lemmas.List.{length-map}
 use Rattle.outside.specs.Names.{normal_form}
 use Rattle.std.specs.List.{slice_split, list_all}
@@ -13,7 +13,7 @@ use Rattle.series_stack.specs.Count.{count_text}
 use Rattle.series_stack.specs.Undoing.{is_one_of, SameBeside}
 use Rattle.series_stack.proofs.Meaning.{count-sound, count-again, put-at}
 use Rattle.stack_law.specs.Stack.{Stack, series_name, count_name, count_in, counted, listed, stack_in, stack_of}
-use Rattle.stack_law.proofs.Names.{series-lasting, count-lasting, both_true}
+use Rattle.stack_law.proofs.Names.{series-lasting, count-lasting}
 
 pub stack-same : (f g : Files) → get g series_name ≡ get f series_name → get g count_name ≡ get f count_name → stack_of g ≡ stack_of f
 unfolding stack_of
@@ -40,7 +40,7 @@ few_written named names is = by (list_all is_lawful named && leb (length named) 
     by true holds e =
         let same : map normal_form named ≡ names = cc in
         let count : length (map normal_form named) ≡ length names = ap (λ (l : List (List ℕ)). length l) same in
-        let few : length named ≤ 9999 = leb-true (length named) 9999 (both_true (list_all is_lawful named) (leb (length named) 9999) holds).1 in
+        let few : length named ≤ 9999 = leb-true (length named) 9999 (and_parts (list_all is_lawful named) (leb (length named) 9999) holds).1 in
         omega (arith, count, few, length-map named normal_form)
     by false holds e = absurd cc
 

@@ -2,6 +2,7 @@
 use Rattle.std.proofs.Common.{◌≡◌, ℕ, suc, ◌≤◌, List, [], ◌∷◌, ◌++◌, drop, length, true, false, bytes_eq, is_some, Option, Some, None, Result, Ok, Err, refl, sym, ◌∙◌, ap, subst, arith}
 use Rattle.std.specs.List.{AllByRecursion}
 use Rattle.std.specs.FinMap.{get}
+use Rattle.std.proofs.lemmas.Bool.{or_parts}
 use Rattle.outside.specs.Files.{Files}
 use Rattle.outside.specs.Quiet.{after, after_all}
 use Rattle.series_stack.specs.Saves.{save_text}
@@ -15,7 +16,7 @@ use Rattle.stack_law.specs.Commands.Work.{Pushing, Popping}
 use Rattle.stack_law.specs.Outcomes.{Outcome, raising, lowering, pop_effects, push_outcome, outcome_of, command}
 use Rattle.stack_law.specs.Outcomes.Answer.{Refused, Ended}
 use Rattle.stack_law.specs.Laws.{files_after, TakesBack}
-use Rattle.stack_law.proofs.Touching.{neither, apart_from, IsWithin, effect-apart}
+use Rattle.stack_law.proofs.Touching.{neither, IsWithin, effect-apart}
 use Rattle.stack_law.proofs.States.{with_count}
 use Rattle.stack_law.proofs.Recovering.{IsClean, clean-recover}
 use Rattle.stack_law.proofs.Recovery.{recovered-at}
@@ -78,7 +79,7 @@ module _ (read : Reader) (g : Files) (s : Stack) (clean : IsClean g s) (behind :
         stack = ap stack_of pop_files ∙ pop_stack z (with_count s (suc s.applied)) s.applied high_stack few save_some next_none;
         files = record {
           at = λ q lasting apart.
-              let no_count : bytes_eq count_name q ≡ false = (apart_from (bytes_eq count_name q) false apart).0 in
+              let no_count : bytes_eq count_name q ≡ false = (or_parts (bytes_eq count_name q) false apart).0 in
               ap (λ (v : Files). get v q) pop_files
               ∙ recovered-at x (with_count (with_count s (suc s.applied)) s.applied) (save_text (entries_at g names)) (entries_at g names)
               (lowered_stack z (with_count s (suc s.applied)) s.applied high_stack few save_some next_none)

@@ -30,10 +30,6 @@ pub neither : (a b : Bool) → a ≡ false → b ≡ false → (a || b) ≡ fals
 neither true b is other = absurd cc
 neither false b is other = other
 
-pub apart_from : (a b : Bool) → (a || b) ≡ false → (a ≡ false) × (b ≡ false)
-apart_from true b is = absurd cc
-apart_from false b is = (refl, is)
-
 -- ---- effects
 abbrev pub IsWithin : List (List ℕ) → Effect → Type 0
 IsWithin names e = is_one_of names (changed_by e) ≡ true

@@ -3,6 +3,7 @@ use Rattle.std.proofs.Common.{◌≡◌, ℕ, zero, suc, ◌-◌, ◌≤◌, Lis
 use Rattle.std.specs.Prelude.{is_none}
 use Rattle.std.specs.List.{AllByRecursion}
 use Rattle.std.specs.FinMap.{get}
+use Rattle.std.proofs.lemmas.Bool.{or_parts}
 use Rattle.outside.specs.Files.{Files, is_temp}
 use Rattle.outside.specs.Names.{normal_form}
 use Rattle.series_stack.specs.declared.fault.StateFile.TheVariants.{Save}
@@ -14,7 +15,7 @@ use Rattle.stack_law.specs.Stack.Refusal.{Bad}
 use Rattle.stack_law.specs.Commands.{Target, Patch, Reader, names_of, IsLasting, StackOp, Work, is_bad, has_bad_save, own_line, checked, pushing, push_work, popped, popping, pop_work, work_by, work_of}
 use Rattle.stack_law.specs.Commands.StackOp.{Push, Pop}
 use Rattle.stack_law.specs.Commands.Work.{Pushing, Popping}
-use Rattle.stack_law.proofs.Touching.{apart_from, neither}
+use Rattle.stack_law.proofs.Touching.{neither}
 use Rattle.stack_law.proofs.Recovering.{IsReady}
 
 -- ---- names
@@ -53,7 +54,7 @@ none-there (Some text) is = absurd cc
 
 pub work-ready : (read : Reader) (op : StackOp) (f : Files) (s : Stack) (w : Work) → stack_of f ≡ Ok s → work_of read op f s ≡ Ok w → IsReady f s
 work-ready read op f s w stack is =
-    let x = apart_from (is_bad (get f (save_name (suc s.applied)))) (is_some (get f (save_name (suc (suc s.applied))))) (work-is read op f s w is).0 in
+    let x = or_parts (is_bad (get f (save_name (suc s.applied)))) (is_some (get f (save_name (suc (suc s.applied))))) (work-is read op f s w is).0 in
     record { stack = stack; next = x.0; behind = none-there (get f (save_name (suc (suc s.applied)))) x.1 }
 
 -- ---- a push

@@ -16,6 +16,7 @@ use Rattle.target_names.proofs.Names.{all-join, numbers-below, numbers-next, num
 use Rattle.series_stack.specs.Saves.{is_of_stack}
 use Rattle.patch_set.specs.Named.{names_of, patch_names, known_names, target_in, targets_of}
 use Rattle.patch_set.specs.SetView.{SetView, IsRead, plain_patches}
+use Rattle.patch_set.proofs.Joined.{joined-first, joined-nil}
 use Rattle.stack_law.specs.Commands.{own_line}
 use Rattle.stack_law.specs.Commands.{Target as Saves}
 use Rattle.stack_law.specs.Commands as stack
@@ -24,17 +25,9 @@ use Rattle.stack_patch.specs.Gathering.{Gathered, nothing, own_here, with_names,
 
 -- ---- names that join
 
-joined-nil : (names : List (List ℕ)) → joined_by names [] ≡ names
-unfolding joined_by
-joined-nil names = refl
-
-joined-more : (names : List (List ℕ)) (other : List ℕ) (others : List (List ℕ)) → joined_by names (other ∷ others) ≡ joined_by (with_name names other) others
-unfolding joined_by
-joined-more names other others = refl
-
 joined-append : (names one two : List (List ℕ)) → joined_by names (one ++ two) ≡ joined_by (joined_by names one) two
 joined-append names [] two = ap (λ (l : List (List ℕ)). joined_by l two) (sym (joined-nil names))
-joined-append names (n ∷ one) two = joined-more names n (one ++ two) ∙ joined-append (with_name names n) one two ∙ ap (λ (l : List (List ℕ)). joined_by l two) (sym (joined-more names n one))
+joined-append names (n ∷ one) two = joined-first names n (one ++ two) ∙ joined-append (with_name names n) one two ∙ ap (λ (l : List (List ℕ)). joined_by l two) (sym (joined-first names n one))
 
 not_both : (v : Bool) → v ≡ true → v ≡ false → ⊥
 not_both true is not = absurd (cc)
@@ -148,10 +141,10 @@ module _ (ps : List PlainPatch) where
       → fold (with_target line) (met seen) (map (target_in push_options known) ns) ≡ met (joined_by seen ns)
   of-patch line [] rest seen is all = ap (λ (l : List (List ℕ)). met l) (sym (joined-nil seen))
   of-patch line (n ∷ ns) rest seen is all =
-      let more : known ≡ joined_by (with_name seen n) (ns ++ rest) = is ∙ joined-more seen n (ns ++ rest) in
+      let more : known ≡ joined_by (with_name seen n) (ns ++ rest) = is ∙ joined-first seen n (ns ++ rest) in
       ap (λ (g : Gathered). fold (with_target line) g (map (target_in push_options known) ns)) (one more (is_among seen n) refl)
       ∙ of-patch line ns rest (with_name seen n) more (opened_on line seen n ns all.1)
-      ∙ ap (λ (l : List (List ℕ)). met l) (sym (joined-more seen n ns))
+      ∙ ap (λ (l : List (List ℕ)). met l) (sym (joined-first seen n ns))
     where
       one : known ≡ joined_by (with_name seen n) (ns ++ rest) → (v : Bool) → is_among seen n ≡ v → with_target line (met seen) (target_in push_options known n) ≡ met (with_name seen n)
       one more true among = met-again line seen (n ∷ (ns ++ rest)) n is among ∙ ap (λ (l : List (List ℕ)). met l) (sym (with-there seen n among))

@@ -8,6 +8,7 @@ use Rattle.std.specs.Str.Lossy.{utf8_valid_len}
 use Rattle.std.proofs.lemmas.Bool.{eqb-true}
 use Rattle.std.proofs.lemmas.Str.{IsUtf8-append}
 use Rattle.std.proofs.lemmas.List.Folds.{list_any-append}
+use Rattle.std.proofs.Math.Bool.{or-true}
 use Rattle.outside.specs.declared.name.NameRule.{NameRule}
 use Rattle.outside.specs.Names.{broken_rule, normal_form, IsPatchName, IsEnding}
 use Rattle.outside.proofs.Components.{neither}
@@ -73,14 +74,10 @@ joined_each P known (name ∷ others) a b = joined_each P (with_name known name)
 pub distinct_each : (P : List ℕ → Type 0) (names : List (List ℕ)) → Each P names → Each P (distinct names)
 distinct_each P names each = joined_each P [] names tt each
 
-or_true : (b : Bool) → (b || true) ≡ true
-or_true true = refl
-or_true false = refl
-
 among_behind : (front names : List (List ℕ)) → Each (λ n. is_among (front ++ names) n ≡ true) names
 among_behind front [] = tt
 among_behind front (name ∷ names) = (
-  list_any-append (bytes_eq name) front (name ∷ names) ∙ ap (λ b. list_any (bytes_eq name) front || (b || list_any (bytes_eq name) names)) (same-is name) ∙ or_true (list_any (bytes_eq name) front),
+  list_any-append (bytes_eq name) front (name ∷ names) ∙ ap (λ b. list_any (bytes_eq name) front || (b || list_any (bytes_eq name) names)) (same-is name) ∙ or-true (list_any (bytes_eq name) front),
   subst (λ (l : List (List ℕ)). Each (λ n. is_among l n ≡ true) names) (append_assoc front (name ∷ []) names) (among_behind (front ++ name ∷ []) names),
 )
 
@@ -177,14 +174,14 @@ module _ (tf : List ℕ → Target) (owns : (n : List ℕ) → (tf n).name ≡ n
     ap (λ (x : List ℕ). bytes_eq x n || (bytes_eq (tf n).reject n || is_one_of (all_names known) n)) (owns n) ∙ ap (λ b. b || (bytes_eq (tf n).reject n || is_one_of (all_names known) n)) (same-is n),
     ap (λ (x : List ℕ). bytes_eq (tf n).name (n ++ codes ".rej") || (bytes_eq x (n ++ codes ".rej") || is_one_of (all_names known) (n ++ codes ".rej"))) (rejects n)
         ∙ ap (λ b. bytes_eq (tf n).name (n ++ codes ".rej") || (b || is_one_of (all_names known) (n ++ codes ".rej"))) (same-is (n ++ codes ".rej"))
-        ∙ or_true (bytes_eq (tf n).name (n ++ codes ".rej")),
+        ∙ or-true (bytes_eq (tf n).name (n ++ codes ".rej")),
   )
 
   later : (n q : List ℕ) (known : List (List ℕ)) → is_one_of (all_names known) q ≡ true → is_one_of (all_names (n ∷ known)) q ≡ true
   later n q known is =
       ap (λ b. bytes_eq (tf n).name q || (bytes_eq (tf n).reject q || b)) is
-      ∙ ap (λ b. bytes_eq (tf n).name q || b) (or_true (bytes_eq (tf n).reject q))
-      ∙ or_true (bytes_eq (tf n).name q)
+      ∙ ap (λ b. bytes_eq (tf n).name q || b) (or-true (bytes_eq (tf n).reject q))
+      ∙ or-true (bytes_eq (tf n).name q)
 
   pub are_among : (known : List (List ℕ)) (name : List ℕ) → is_among known name ≡ true → AreAmong known name
   are_among [] name is = absurd cc

@@ -1,8 +1,9 @@
 -- The names that a run can change are those of its targets.
-use Rattle.std.proofs.Common.{◌≡◌, ℕ, List, [], ◌∷◌, ◌++◌, Bool, true, false, ◌&&◌, ◌||◌, bytes_eq, Option, None, Some, refl, sym, ◌∙◌, ap, subst, append_assoc}
+use Rattle.std.proofs.Common.{◌≡◌, ℕ, List, [], ◌∷◌, ◌++◌, true, ◌&&◌, ◌||◌, bytes_eq, Option, None, Some, sym, ◌∙◌, ap, subst, append_assoc}
 use Rattle.std.specs.List.{AllByRecursion, list_any, flat_map}
 use Rattle.std.specs.Option.{option_to_list}
 use Rattle.std.proofs.lemmas.List.Folds.{list_any-append}
+use Rattle.std.proofs.Math.Bool.{or-true}
 use Rattle.outside.specs.Files.{Files}
 use Rattle.patch_options.specs.PlainJob.{PlainOptions}
 use Rattle.target_names.specs.declared.derived.Target.{Target}
@@ -13,23 +14,19 @@ use Rattle.stack_law.specs.Commands.{changed_by}
 use Rattle.stack_reader.specs.Changed.{may_back_up, is_name_of, targets_in, can_change}
 use Rattle.stack_reader.proofs.Changing.{IsOpen, AreOpen, run_only}
 
-or_true : (b : Bool) → (b || true) ≡ true
-or_true true = refl
-or_true false = refl
-
 -- ---- a target's own names
 
 own_name : (o : PlainOptions) (t : Target) → is_name_of o t.name t ≡ true
 own_name o t = ap (λ b. b || (bytes_eq t.reject t.name || (may_back_up o && bytes_eq t.backup t.name))) (same-is t.name)
 
 own_reject : (o : PlainOptions) (t : Target) → is_name_of o t.reject t ≡ true
-own_reject o t = ap (λ b. bytes_eq t.name t.reject || (b || (may_back_up o && bytes_eq t.backup t.reject))) (same-is t.reject) ∙ or_true (bytes_eq t.name t.reject)
+own_reject o t = ap (λ b. bytes_eq t.name t.reject || (b || (may_back_up o && bytes_eq t.backup t.reject))) (same-is t.reject) ∙ or-true (bytes_eq t.name t.reject)
 
 own_backup : (o : PlainOptions) (t : Target) → may_back_up o ≡ true → is_name_of o t.backup t ≡ true
 own_backup o t may =
     ap (λ b. bytes_eq t.name t.backup || (bytes_eq t.reject t.backup || (b && bytes_eq t.backup t.backup))) may
     ∙ ap (λ b. bytes_eq t.name t.backup || (bytes_eq t.reject t.backup || b)) (same-is t.backup)
-    ∙ ap (λ b. bytes_eq t.name t.backup || b) (or_true (bytes_eq t.reject t.backup)) ∙ or_true (bytes_eq t.name t.backup)
+    ∙ ap (λ b. bytes_eq t.name t.backup || b) (or-true (bytes_eq t.reject t.backup)) ∙ or-true (bytes_eq t.name t.backup)
 
 -- ---- among all targets
 
@@ -41,7 +38,7 @@ among : (o : PlainOptions) (front : List Target) (t : Target) (behind : List Tar
 among o front t behind name is =
     list_any-append (is_name_of o name) front (t ∷ behind)
     ∙ ap (λ b. list_any (is_name_of o name) front || (b || list_any (is_name_of o name) behind)) is
-    ∙ or_true (list_any (is_name_of o name) front)
+    ∙ or-true (list_any (is_name_of o name) front)
 
 opens : (o : PlainOptions) (front : List Target) (t : Target) (behind : List Target) → IsOpen (May o (front ++ t ∷ behind)) o t
 opens o front t behind = record {

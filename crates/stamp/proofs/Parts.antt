@@ -6,6 +6,7 @@ use Rattle.std.proofs.lemmas.Bool.{and_right, and_parts, and_from, leb-true, le-
 use Rattle.std.proofs.lemmas.Option.{option_and_then_some}
 use Rattle.jiff_core.specs.Calendar.{is_leap_year, days_from_civil}
 use Rattle.num_text.specs.Numbers.{is_digit, after_digits, AllDigits}
+use Rattle.num_text.proofs.NumberLemmas.{rest-step}
 use Rattle.stamp.specs.Forms.{two, four, IsDay, IsTime, time_text, Offset, offset_text, offset_seconds, IsFraction}
 use Rattle.stamp.specs.Reading.{two_at, four_at, stands, is_day, day_number, clock_of, zone_of, after_fraction, numeric_day}
 use Rattle.stamp.proofs.OptionLemmas.{if-some, if-other}
@@ -222,16 +223,12 @@ pub record Fraction (rest : List ℕ) : Type 0 where
   pub is_fraction : IsFraction bytes
   pub spelled : rest ≡ bytes ++ after_fraction rest
 
-digit-after : (d : ℕ) (bs : List ℕ) → is_digit d ≡ true → after_digits (d ∷ bs) ≡ after_digits bs
-unfolding after_digits
-digit-after d bs e = rw e refl
-
 fraction-by : (rest : List ℕ) → stands rest 0 46 ≡ true → (d : ℕ) → get_or rest 1 0 ≡ d → is_digit d ≡ true → (digits : List ℕ) × (rest ≡ 46 ∷ (digits ++ after_digits (drop 1 rest))) × (0 < length digits) × AllDigits digits
 fraction-by rest dot d at is =
     let front = digits-front (drop 2 rest) in
     let low : 48 ≤ d = leb-true _ _ (and_parts _ _ is).0 in
     let one : drop 1 rest ≡ d ∷ drop 2 rest = piece rest 1 d at (omega arith) in
-    let after : after_digits (drop 1 rest) ≡ after_digits (drop 2 rest) = ap after_digits one ∙ digit-after d (drop 2 rest) is in
+    let after : after_digits (drop 1 rest) ≡ after_digits (drop 2 rest) = ap after_digits one ∙ rest-step d (drop 2 rest) is in
     (d ∷ front.0, byte-piece rest 0 46 dot (omega arith) ∙ ap (λ r. 46 ∷ r) (one ∙ ap (λ r. d ∷ r) (front.1 ∙ ap (λ r. front.0 ++ r) (sym after))), omega arith, (is, front.2))
 
 fraction-cases : (rest : List ℕ) (v : Bool) → (stands rest 0 46 && is_digit (get_or rest 1 0)) ≡ v → (bytes : List ℕ) × IsFraction bytes × (rest ≡ bytes ++ cond v (after_digits (drop 1 rest)) rest)

@@ -24,6 +24,7 @@ use Rattle.patch_header.specs.declared.openings.Stop.{Stop}
 use Rattle.patch_header.specs.declared.search.HeaderStep.TheVariants.{Found, End}
 use Rattle.patch_header.specs.declared.ways.Ways.{Ways}
 use Rattle.patch_header.proofs.Stands.{stop-end}
+use Rattle.patch_header.proofs.StepLemmas.{stop-nowhere}
 use Rattle.file_patch.specs.PlainPatch.{PlainChange, hunks, script}
 use Rattle.patch_text.specs.Patches.{as_hunks, as_script, change_at, begins_change, place_before}
 use Rattle.patch_text.specs.Texts.{IsPiece}
@@ -60,16 +61,12 @@ region-none : (ways : Ways) → region_of ways [] ≡ []
 unfolding region_of
 region-none ways = refl
 
-stop-none : (ways : Ways) → first_stop ways [] ≡ None
-unfolding first_stop
-stop-none ways = refl
-
 first : (ways : Ways) (ls : List (List ℕ)) → First ways ls
 first ways [] = record {
   rest = [];
   parts = ap (λ ls. ls ++ []) (sym (region-none ways));
   quiet = subst (λ ls. AreQuiet ways ls []) (sym (region-none ways)) tt;
-  stands = stop-none ways ∙ sym (stop-end ways);
+  stands = stop-nowhere ways ∙ sym (stop-end ways);
   none = λ e. refl;
 }
 first ways (line ∷ more) = by (stop_at ways (line ∷ more)) refl (first ways more)

@@ -111,7 +111,7 @@ first-short test bytes = by (position test bytes) refl
     by None e = omega arith
     by (Some k) e = let low : k < length bytes = (position-Some test bytes k 0 e).0 in omega (arith, low)
 
-name-short : (bytes : List ℕ) → name_length bytes ≤ length bytes
+pub name-short : (bytes : List ℕ) → name_length bytes ≤ length bytes
 name-short bytes = by (position (λ b. eqb b 9) bytes) refl
   where
     by : (o : Option ℕ) → position (λ b. eqb b 9) bytes ≡ o → unwrap_or o (first (λ b. eqb b 32) bytes) ≤ length bytes

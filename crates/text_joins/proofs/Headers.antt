@@ -3,6 +3,7 @@ use Rattle.std.proofs.Common.{◌≡◌, ◌+◌, ◌-◌, ◌≤◌, ℕ, Bool,
 use Rattle.std.specs.Prelude.{codes, option_map}
 use Rattle.std.specs.List.{AllByRecursion}
 use Rattle.std.proofs.lemmas.List.{length-take}
+use Rattle.std.proofs.lemmas.Option.{same_Some}
 use Rattle.line_list.specs.Lines.{lines}
 use Rattle.hunk_core.specs.declared.Form.{Form}
 use Rattle.hunk_core.specs.declared.Form.TheVariants.{Unified}
@@ -30,6 +31,7 @@ use Rattle.text_joins.specs.Said.{behind, last_behind, name_said, word_said, sta
 use Rattle.text_joins.proofs.Places.{StandsAt, first-bytes, rows-stand, skip-line}
 use Rattle.text_joins.proofs.HeaderLines.{span-bytes, tail-bytes, name-said, word-said, old-name, new-name, old-stamp, new-stamp, from-said, to-said}
 use Rattle.text_joins.proofs.LedLines.{led-is, led-all}
+use Rattle.text_joins.proofs.Joining.{no-header, run-tail}
 
 abbrev plain : Form → Bool → Option (List ℕ) → Option (List ℕ) → Option (List ℕ) → Option (List ℕ) → Stamp → Stamp → Action → Option (List ℕ) → Option (List ℕ) → PlainHeader
 plain form bare old new index prereq old_stamp new_stamp action from to = record {
@@ -133,27 +135,17 @@ bare-said text place number line at region git_line more all e =
 
 -- ---- both
 
-run-tail : (x : List ℕ) (a b : List (List ℕ)) → x ∷ a ≡ x ∷ b → a ≡ b
-run-tail x a b e = cc
-
-took : {A : Type 0} (x y : A) → Some x ≡ Some y → x ≡ y
-took x y e = cc
-
-no-header : (others : List (List ℕ)) → [] ≡ git_header others → others ≡ []
-no-header [] h = refl
-no-header (line ∷ others) h = absurd cc
-
 -- what stands behind a region says the same of lines alone
 pub said-alone : (ways : Ways) (text : List ℕ) (at line place number : ℕ) (region body rest others : List (List ℕ)) (stop : Stop) (h : Header) → lines (drop at text) ≡ region ++ rest → lines (drop place text) ≡ body ++ others
     → (stop ≡ Bare → body ≡ git_header (body ++ others)) → stop_at ways (body ++ others) ≡ Some stop → header_at ways text place number (rows line at region) stop ≡ Some h → header_said ways region body stop ≡ Some (unnumbered_header (header_of text h))
 said-alone ways text at line place number region body rest others (Opening form) h e b bare stands says =
     let all : AllByRecursion (StandsAt text) (rows line at region) = rows-stand text line at region rest e in
-    let is : header_with text form place number (rows line at region) (git.led_by ways form (rows line at region)) ≡ h = took _ h says in
+    let is : header_with text form place number (rows line at region) (git.led_by ways form (rows line at region)) ≡ h = same_Some _ h says in
     ap Some (sym (opening-said text ways form place number line at region all) ∙ ap (λ x. unnumbered_header (header_of text x)) is)
 said-alone ways text at line place number region [] rest others Bare h e b bare stands says = absurd (let none : stop_at ways others ≡ None = ap (stop_at ways) (no-header others (bare refl)) ∙ stop-end ways in cc)
 said-alone ways text at line place number region (git_line ∷ extended) rest others Bare h e b bare stands says =
     let all : AllByRecursion (StandsAt text) (rows line at region) = rows-stand text line at region rest e in
-    let is : bare_with text place number (rows line at region) ≡ h = took _ h says in
+    let is : bare_with text place number (rows line at region) ≡ h = same_Some _ h says in
     let run : extended ≡ extended_run (extended ++ others) = run-tail git_line extended (extended_run (extended ++ others)) (bare refl) in
     ap Some (ap (bare_header region git_line) run ∙ sym (bare-said text place number line at region git_line (extended ++ others) all b) ∙ ap (λ x. unnumbered_header (header_of text x)) is)
 said-alone ways text at line place number region body rest others Binary h e b bare stands says = absurd cc

@@ -73,7 +73,7 @@ ends-not only Context others (script es) n m all h p = p
 ends-not only Normal others (script es) n m all h p = p
 ends-not only Ed others (hunks hs) n m all h p = p
 
-no-header : (others : List (List ℕ)) → [] ≡ git_header others → others ≡ []
+pub no-header : (others : List (List ℕ)) → [] ≡ git_header others → others ≡ []
 no-header [] h = refl
 no-header (line ∷ others) h = absurd cc
 
@@ -136,7 +136,7 @@ opens-joined only Ed (line ∷ more) others h = and-then (ed_commands.is_command
 
 -- ---- a bare git header in front of others
 
-run-tail : (x : List ℕ) (a b : List (List ℕ)) → x ∷ a ≡ x ∷ b → a ≡ b
+pub run-tail : (x : List ℕ) (a b : List (List ℕ)) → x ∷ a ≡ x ∷ b → a ≡ b
 run-tail x a b e = cc
 
 run-joined : (rest others : List (List ℕ)) → rest ≡ extended_run (rest ++ []) → extended_run others ≡ [] → behind_run others ≡ others → (extended_run (rest ++ others) ≡ rest) × (behind_run (rest ++ others) ≡ others)

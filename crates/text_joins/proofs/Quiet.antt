@@ -3,6 +3,7 @@ use Rattle.std.proofs.Common.{◌≡◌, Bool, true, false, cond, not, ◌&&◌,
 use Rattle.std.specs.Prelude.{codes}
 use Rattle.std.specs.List.{list_any}
 use Rattle.std.proofs.lemmas.List.Folds.{list_any-append}
+use Rattle.std.proofs.lemmas.Bool.{or_left, or_right}
 use Rattle.hunk_core.specs.declared.Form.{Form}
 use Rattle.hunk_core.specs.declared.Form.TheVariants.{Unified, Context, Normal, Ed}
 use Rattle.unified_form.specs.Hunks as unified
@@ -104,14 +105,6 @@ pub or-right_no : (a b : Bool) → (a || b) ≡ false → b ≡ false
 or-right_no true b e = absurd cc
 or-right_no false b e = e
 
-or-right_yes : (a b : Bool) → b ≡ true → (a || b) ≡ true
-or-right_yes true b e = refl
-or-right_yes false b e = e
-
-or-left_yes : (a b : Bool) → a ≡ true → (a || b) ≡ true
-or-left_yes true b e = refl
-or-left_yes false b e = absurd cc
-
 -- no line '.' comes in behind these
 dots-behind : (more rest other : List (List ℕ)) → (has_dot rest ≡ false → has_dot other ≡ false) → has_dot (more ++ rest) ≡ false → has_dot (more ++ other) ≡ false
 dots-behind more rest other k h =
@@ -140,6 +133,6 @@ pub quiet-alike : (ways : Ways) (region rest other : List (List ℕ)) → LookAl
     → AreQuiet ways region rest → AreQuiet ways region other
 quiet-alike ways [] rest other same dots h = tt
 quiet-alike ways (line ∷ more) rest other same dots h = (
-  quiet-line ways line more rest other same (λ q. dots (or-left_yes (asks_dot ways.only line) (list_any (asks_dot ways.only) more) q)) h.0,
-  quiet-alike ways more rest other same (λ q. dots (or-right_yes (asks_dot ways.only line) (list_any (asks_dot ways.only) more) q)) h.1,
+  quiet-line ways line more rest other same (λ q. dots (or_left (asks_dot ways.only line) (list_any (asks_dot ways.only) more) q)) h.0,
+  quiet-alike ways more rest other same (λ q. dots (or_right (asks_dot ways.only line) (list_any (asks_dot ways.only) more) q)) h.1,
 )

@@ -1,10 +1,11 @@
 -- A text that is read has the file patches that are read.
 use Rattle.std.proofs.Common.{◌≡◌, ◌⊎◌, inl, inr, ◌+◌, ◌<◌, ◌≤◌, ℕ, zero, suc, true, false, cond, List, [], ◌∷◌, ◌++◌, length, map, drop, Some, Result, Ok, Err, refl, sym, ap, subst, ◌∙◌, arith}
 use Rattle.std.specs.Prelude.{sum_by}
+use Rattle.std.proofs.lemmas.Option.{same_Some}
 use Rattle.line_list.specs.Lines.{lines}
 use Rattle.line_list.proofs.Pieces.{lines-pieces}
 use Rattle.hunk_core.specs.Reading.{Fault, ◌>>=◌, Ahead}
-use Rattle.hunk_core.proofs.ReadSteps.{bind_ok, done}
+use Rattle.hunk_core.proofs.ReadSteps.{bind_ok, ok_is}
 use Rattle.patch_header.specs.GitHeaders.{git_header}
 use Rattle.patch_header.specs.GitRows.{led_by}
 use Rattle.patch_header.specs.Openings.{admits, begins, stop_at}
@@ -18,10 +19,11 @@ use Rattle.patch_header.specs.declared.search.HeaderStep.TheVariants as steps
 use Rattle.patch_header.specs.declared.ways.Ways.{Ways}
 use Rattle.patch_header.proofs.Stands.{and_right, opening-words}
 use Rattle.file_patch.specs.PlainPatch.{PlainChange, PlainPatch, hunks}
-use Rattle.patch_text.specs.Patches.{bare_change, change_at, change_behind, patch_with, patch_by, next_patch, and_later, place_before, patches_at, patches_of}
+use Rattle.patch_text.specs.Patches.{bare_change, change_at, change_behind, patch_with, patch_by, and_later, place_before, patches_at, patches_of}
 use Rattle.patch_text.specs.Texts.{IsPiece, GoesUpTo, StandsFirst, Stand, HasPatches}
 use Rattle.patch_text.proofs.ChangeLemmas.{opens-change}
 use Rattle.patch_text.proofs.TextLaws.{quiet-end}
+use Rattle.patch_text.proofs.TextLoops.{patches-step, patches-zero}
 use Rattle.text_joins.specs.Unnumbered.{unnumbered}
 use Rattle.text_joins.specs.Following.{Spell, AreFilePatches}
 use Rattle.text_joins.specs.Joins.{read_unnumbered}
@@ -30,12 +32,6 @@ use Rattle.text_joins.proofs.Joining.{body-some}
 use Rattle.text_joins.proofs.Places.{skip-lines, lines-within}
 use Rattle.text_joins.proofs.Standing.{placed, behind_header, header-split, some-bytes, text-alone}
 
-took : {A : Type 0} (x y : A) → Some x ≡ Some y → x ≡ y
-took x y e = cc
-
-same-done : {A : Type 0} (x y : A) → done x ≡ done y → x ≡ y
-same-done x y e = cc
-
 -- ---- what stands, by the header
 
 abbrev pub Stands : Stop → ℕ → Header → Type 0
@@ -43,10 +39,10 @@ Stands stop place h = ((stop ≡ Opening h.form) × (place ≡ h.at) × (h.bare 
 
 pub stands-so : (ways : Ways) (text : List ℕ) (place number : ℕ) (rs : List Row) (stop : Stop) (h : Header) → header_at ways text place number rs stop ≡ Some h → Stands stop place h
 stands-so ways text place number rs (Opening form) h e =
-    let is : header_with text form place number rs (led_by ways form rs) ≡ h = took _ h e in
+    let is : header_with text form place number rs (led_by ways form rs) ≡ h = same_Some _ h e in
     inl (ap (λ (x : Header). Opening x.form) is, ap (λ (x : Header). x.at) is, sym (ap (λ (x : Header). x.bare) is))
 stands-so ways text place number rs Bare h e =
-    let is : bare_with text place number rs ≡ h = took _ h e in
+    let is : bare_with text place number rs ≡ h = same_Some _ h e in
     inr (refl, ap (λ (x : Header). x.at) is, sym (ap (λ (x : Header). x.bare) is))
 stands-so ways text place number rs Binary h e = absurd cc
 
@@ -91,7 +87,7 @@ module _ (ways : Ways) (text : List ℕ) (h : Header) (x : PlainChange × Ahead)
   bare-goes : h.bare ≡ true → stop_at ways (lines (drop h.at text)) ≡ Some Bare → Goes text h x
   bare-goes bare stands =
       let rest = lines (drop h.at text) in
-      let is : bare_change text h.at h.opening ≡ x = same-done (bare_change text h.at h.opening) x (sym (ap (λ b. cond b (Ok (bare_change text h.at h.opening)) (change_at h.form h.opening rest)) bare) ∙ read) in
+      let is : bare_change text h.at h.opening ≡ x = ok_is (bare_change text h.at h.opening) x (sym (ap (λ b. cond b (Ok (bare_change text h.at h.opening)) (change_at h.form h.opening rest)) bare) ∙ read) in
       let others : x.1.rest ≡ behind_header rest = sym (ap (λ (y : PlainChange × Ahead). y.1.rest) is) ∙ skip-lines text h.at (git_header rest) (behind_header rest) (header-split rest) in
       let parts : rest ≡ git_header rest ++ x.1.rest = header-split rest ∙ ap (λ ls. git_header rest ++ ls) (sym others) in
       let end : place_before text x.1.rest ≡ h.at + sum_by length (git_header rest) = place-is text h.at (git_header rest) x.1.rest high parts in
@@ -133,14 +129,6 @@ goes-so ways text at number h x le opens read =
 
 -- ---- all of them
 
-patches-zero : (ways : Ways) (text : List ℕ) (at number : ℕ) → patches_at zero ways text at number ≡ Ok []
-unfolding patches_at
-patches-zero ways text at number = refl
-
-patches-step : (most : ℕ) (ways : Ways) (text : List ℕ) (at number : ℕ) → patches_at (suc most) ways text at number ≡ (next_patch ways text at number >>= and_later (λ p. patches_at most ways text (place_before text p.rest) p.number))
-unfolding patches_at
-patches-step most ways text at number = refl
-
 record Standing (ways : Ways) (text : List ℕ) (at number : ℕ) (ps : List PlainPatch) : Type 0 where
   end : ℕ
   next : ℕ
@@ -157,13 +145,13 @@ one-more ways text at number mid line p later ps first more e =
 
 all-found : (most : ℕ) (ways : Ways) (text : List ℕ) (at number : ℕ) (ps : List PlainPatch) → length text ≤ at + most → at ≤ length text → patches_at most ways text at number ≡ Ok ps → Standing ways text at number ps
 all-found zero ways text at number ps enough le e =
-    none-stand ways text at number ps (same-done [] ps (sym (patches-zero ways text at number) ∙ e)) (quiet-end ways text at (omega (arith, enough, le)))
+    none-stand ways text at number ps (ok_is [] ps (sym (patches-zero ways text at number) ∙ e)) (quiet-end ways text at (omega (arith, enough, le)))
 all-found (suc most) ways text at number ps enough le e =
     by (next_step ways text at number) refl (sym (patches-step most ways text at number) ∙ e) (λ mid line later far high read. all-found most ways text mid line later far high read)
   where
     by : (s : HeaderStep) → next_step ways text at number ≡ s → (patch_by text s >>= and_later (λ p. patches_at most ways text (place_before text p.rest) p.number)) ≡ Ok ps
         → ((mid line : ℕ) (later : List PlainPatch) → length text ≤ mid + most → mid ≤ length text → patches_at most ways text mid line ≡ Ok later → Standing ways text mid line later) → Standing ways text at number ps
-    by steps.End s r again = none-stand ways text at number ps (same-done [] ps r) (end-found ways text at number s)
+    by steps.End s r again = none-stand ways text at number ps (ok_is [] ps r) (end-found ways text at number s)
     by (steps.Binary n) s r again = absurd cc
     by (steps.Found h) s r again = found (change_behind text h) refl r
       where
@@ -175,7 +163,7 @@ all-found (suc most) ways text at number ps enough le e =
             let mid = place_before text x.1.rest in
             let b = bind_ok (patches_at most ways text mid x.1.number) (λ others. Ok (patch_with text h x.0 ∷ others)) ps q in
             let more = again mid x.1.number b.0 (let far : at < mid = first.some in omega arith) first.high b.1 in
-            one-more ways text at number mid x.1.number (patch_with text h x.0) b.0 ps first more (same-done (patch_with text h x.0 ∷ b.0) ps b.2)
+            one-more ways text at number mid x.1.number (patch_with text h x.0) b.0 ps first more (ok_is (patch_with text h x.0 ∷ b.0) ps b.2)
 
 -- what is read stands by the grammars
 pub text-found : (ways : Ways) (text : List ℕ) (ps : List PlainPatch) → patches_of ways text ≡ Ok ps → HasPatches ways text ps
@@ -184,4 +172,4 @@ text-found ways text ps e = let s = all-found (length text) ways text 0 1 ps (om
 pub lines-found : (ways : Ways) (text : List ℕ) (qs : List PlainPatch) → read_unnumbered ways text ≡ Ok qs → AreFilePatches ways (lines text) qs
 lines-found ways text qs e =
     let b = bind_ok (patches_of ways text) (λ ps. Ok (map unnumbered ps)) qs e in
-    subst (AreFilePatches ways (lines text)) (same-done (map unnumbered b.0) qs b.2) (text-alone ways text b.0 (text-found ways text b.0 b.1))
+    subst (AreFilePatches ways (lines text)) (ok_is (map unnumbered b.0) qs b.2) (text-alone ways text b.0 (text-found ways text b.0 b.1))

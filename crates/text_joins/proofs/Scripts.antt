@@ -2,6 +2,7 @@
 use Rattle.std.proofs.Common.{◌≡◌, inl, inr, ◌<◌, ℕ, zero, suc, Bool, true, false, cond, not, ◌&&◌, ◌||◌, List, [], ◌∷◌, ◌++◌, Option, None, Some, Result, Ok, Err, refl, sym, ap, ◌∙◌, append_assoc}
 use Rattle.std.specs.Prelude.{nat_lt}
 use Rattle.std.proofs.lemmas.List.Folds.{list_any-append}
+use Rattle.std.proofs.lemmas.Bool.{or_left, or_right}
 use Rattle.hunk_core.specs.declared.BadKind.{BadKind}
 use Rattle.hunk_core.specs.declared.BadKind.TheVariants as kinds
 use Rattle.hunk_core.specs.declared.Form.{Form}
@@ -29,20 +30,12 @@ same-dot line h =
       | inr e ↦ ap is_dot e
     ]
 
-or-yes : (a b : Bool) → b ≡ true → (a || b) ≡ true
-or-yes true b e = refl
-or-yes false b e = e
-
-or-first : (a b : Bool) → a ≡ true → (a || b) ≡ true
-or-first true b e = refl
-or-first false b e = absurd cc
-
 -- one of these lines is '.'
 dot-there : (front : List (List ℕ)) (dot : List ℕ) (more : List (List ℕ)) → texts.is_dot dot ≡ true → has_dot (front ++ dot ∷ more) ≡ true
-dot-there front dot more h = list_any-append is_dot front (dot ∷ more) ∙ or-yes (has_dot front) (has_dot (dot ∷ more)) (or-first (is_dot dot) (has_dot more) (same-dot dot h))
+dot-there front dot more h = list_any-append is_dot front (dot ∷ more) ∙ or_right (has_dot front) (has_dot (dot ∷ more)) (or_left (is_dot dot) (has_dot more) (same-dot dot h))
 
 dot-front : (a b : List (List ℕ)) → has_dot a ≡ true → has_dot (a ++ b) ≡ true
-dot-front a b h = list_any-append is_dot a b ∙ or-first (has_dot a) (has_dot b) h
+dot-front a b h = list_any-append is_dot a b ∙ or_left (has_dot a) (has_dot b) h
 
 corrected-dot : (own text : List (List ℕ)) → IsCorrected own text → has_dot own ≡ true
 corrected-dot own text c = ap has_dot c.parts ∙ ap has_dot (sym (append_assoc c.front ((46 ∷ c.lone) ∷ []) (c.dot ∷ c.correction ∷ []))) ∙ dot-there (c.front ++ (46 ∷ c.lone) ∷ []) c.dot (c.correction ∷ []) c.ends

@@ -1,7 +1,7 @@
 -- What an opening and a git line aren't: a line of both names, an extended line, or a binary line.
 use Rattle.std.proofs.Common.{◌≡◌, inl, inr, ◌<◌, ◌≤◌, ℕ, suc, Bool, true, false, ◌&&◌, ◌||◌, leb, List, [], ◌∷◌, ◌++◌, Option, refl, sym, ap, ◌∙◌, arith}
 use Rattle.std.specs.Prelude.{codes}
-use Rattle.std.proofs.lemmas.Bool.{leb-true}
+use Rattle.std.proofs.lemmas.Bool.{leb-true, false_from_ne_true}
 use Rattle.hunk_core.specs.declared.Form.{Form}
 use Rattle.hunk_core.specs.declared.Form.TheVariants.{Unified, Context, Normal, Ed}
 use Rattle.hunk_core.specs.LineTests.{after}
@@ -16,10 +16,6 @@ use Rattle.patch_header.proofs.Fronts.{front, and_left, and_right, after-front, 
 use Rattle.patch_header.proofs.GitWords.{starts-words}
 use Rattle.patch_header.proofs.ScanLemmas.{run-stops, behind-stops}
 use Rattle.text_joins.proofs.Quiet.{LookAlike}
-
-pub is_no : (v : Bool) → (v ≡ true → ⊥) → v ≡ false
-is_no true h = absurd (h refl)
-is_no false h = refl
 
 -- ---- how a line begins
 
@@ -106,7 +102,7 @@ form-front only Ed line more h = at-digit (front line) (range-front line (ed-ran
 -- ---- lines that a git header doesn't go on with, nor lines of names, nor binary lines
 
 not-binary : (line : List ℕ) → OpensForm (front line) → is_binary line ≡ false
-not-binary line o = is_no (is_binary line) (λ h. elim (binary-front line h) [
+not-binary line o = false_from_ne_true (is_binary line) (λ h. elim (binary-front line h) [
   | inl e ↦ o.no_binary e
   | inr e ↦ o.no_files e
 ])
@@ -119,9 +115,9 @@ pub record IsSolid (line : List ℕ) : Type 0 where
 
 pub front-solid : (line : List ℕ) → OpensForm (front line) → IsSolid line
 front-solid line o = record {
-  extended = is_no (is_extended line) (λ h. let l : 99 ≤ front line = extended-letter line h in let b : front line < 99 = o.low in omega arith);
-  minus = is_no (starts (codes "--- ") line) (λ h. o.no_minus (starts-front 45 44 (codes "-- ") line refl h));
-  plus = is_no (starts (codes "+++ ") line) (λ h. o.no_plus (starts-front 43 42 (codes "++ ") line refl h));
+  extended = false_from_ne_true (is_extended line) (λ h. let l : 99 ≤ front line = extended-letter line h in let b : front line < 99 = o.low in omega arith);
+  minus = false_from_ne_true (starts (codes "--- ") line) (λ h. o.no_minus (starts-front 45 44 (codes "-- ") line refl h));
+  plus = false_from_ne_true (starts (codes "+++ ") line) (λ h. o.no_plus (starts-front 43 42 (codes "++ ") line refl h));
   text = not-binary line o;
 }
 

@@ -2,6 +2,7 @@
 use Rattle.std.proofs.Common.{◌≡◌, inl, inr, ◌+◌, ◌<◌, ◌≤◌, ℕ, List, [], ◌∷◌, ◌++◌, map, length, drop, Some, Ok, refl, sym, ap, subst, ◌∙◌, arith, append_assoc}
 use Rattle.std.specs.Prelude.{sum_by}
 use Rattle.std.proofs.lemmas.List.Sums.{sum_by-cons}
+use Rattle.std.proofs.lemmas.Option.{same_Some}
 use Rattle.line_list.specs.Lines.{lines, ArePieces}
 use Rattle.line_list.proofs.Pieces.{lines-pieces}
 use Rattle.hunk_core.specs.declared.Form.{Form}
@@ -26,9 +27,6 @@ use Rattle.text_joins.specs.Joins.{Part, all_lines, FitTogether, read_unnumbered
 use Rattle.text_joins.proofs.Headers.{said-alone}
 use Rattle.text_joins.proofs.Joining.{body-some, parts-fit}
 use Rattle.text_joins.proofs.Places.{skip-lines, lines-within}
-
-took : {A : Type 0} (x y : A) → Some x ≡ Some y → x ≡ y
-took x y e = cc
 
 -- ---- a change, whatever its number
 
@@ -66,12 +64,12 @@ record Behind (text : List ℕ) (place end : ℕ) (stop : Stop) (change : PlainC
 
 behind-stop : (ways : Ways) (text : List ℕ) (place number : ℕ) (rs : List Row) (stop : Stop) (h : Header) (change : PlainChange) (end next : ℕ) → header_at ways text place number rs stop ≡ Some h → GoesUpTo text h change end next → Behind text place end stop change
 behind-stop ways text place number rs (Opening form) h change end next e g =
-    let is : header_with text form place number rs (led_by ways form rs) ≡ h = took _ h e in
+    let is : header_with text form place number rs (led_by ways form rs) ≡ h = same_Some _ h e in
     let goes : GoesUpTo text (header_with text form place number rs (led_by ways form rs)) change end next = subst (λ (x : Header). GoesUpTo text x change end next) (sym is) g in
     let p = placed form number (lines (drop place text)) change next (lines (drop end text)) (goes.spelled refl) in
     record { body = p.own; ahead = p.parts; spelled = p.anywhere 0 (length p.own) (omega arith) }
 behind-stop ways text place number rs Bare h change end next e g =
-    let is : bare_with text place number rs ≡ h = took _ h e in
+    let is : bare_with text place number rs ≡ h = same_Some _ h e in
     let goes : GoesUpTo text (bare_with text place number rs) change end next = subst (λ (x : Header). GoesUpTo text x change end next) (sym is) g in
     let one : IsBare text place number change end next = goes.bare refl in
     let ls = lines (drop place text) in
@@ -186,7 +184,7 @@ patch-stands ways text at number own others q le e x =
     let o = opened ways text place line end next rs x.stop x.body others q.change ahead left refl refl x.spelled in
     let stands : stop_at ways (lines (drop place text)) ≡ Some x.stop = ap (stop_at ways) ahead ∙ x.stands in
     let says = said-alone ways text at number place line x.region x.body (x.body ++ others) others x.stop o.header parts ahead (bare-spelled x.stop x.body others q.change x.spelled) x.stands o.says in
-    let header : unnumbered_header (header_of text o.header) ≡ q.header = took (unnumbered_header (header_of text o.header)) q.header (sym says ∙ x.says) in
+    let header : unnumbered_header (header_of text o.header) ≡ q.header = same_Some (unnumbered_header (header_of text o.header)) q.header (sym says ∙ x.says) in
     let region : IsRegion ways text at x.region place = record { parts = parts ∙ ap (λ ls. x.region ++ ls) (sym ahead); ends = refl; quiet = subst (AreQuiet ways x.region) (sym ahead) x.quiet } in
     record {
       patch = record { header = header_of text o.header; change = q.change };

@@ -1,6 +1,5 @@
 -- How the answer of a filter is passed on, and its line written.
-use Rattle.std.proofs.Common.{◌≡◌, ◌⊎◌, inl, inr, ℕ, List, Option, None, Result, Ok, Err, refl, sym, subst}
-use Rattle.outside.specs.SinkView.{SinkView, Receives, Rises, Writes}
+use Rattle.std.proofs.Common.{◌≡◌, ℕ, List, Option, None, sym, subst}
 use Rattle.patch_run.specs.Applied.{Receipt}
 use Rattle.run_answers.specs.declared.why.Why.{Why}
 use Rattle.filter_cli.specs.Worlds.{World}
@@ -11,7 +10,3 @@ pub runs_as : {T C F I O : Type 0} {words : List (List ℕ)} {u w : World} {d e 
     → RunsFilter words u w d e why None → RunsFilter words u w d e y given
 runs_as {words = words} {u = u} {w = w} {d = d} {e = e} {why = why} y given is none runs =
     subst (λ (x : Why). RunsFilter words u w d e x given) (sym is) (subst (λ (x : Option Receipt). RunsFilter words u w d e why x) (sym none) runs)
-
-pub writes_whole : {R E : Type 0} (a b : SinkView) (s : Result R E) (p : List ℕ) → Writes a b s p → Receives a b p ⊎ Rises a b
-writes_whole a b (Ok r) p w = inl w.received
-writes_whole a b (Err e) p w = inr (w.call.cause refl)

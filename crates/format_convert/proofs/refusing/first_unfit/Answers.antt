@@ -1,16 +1,16 @@
 use Rattle.std.proofs.Common.{◌≡◌, ◌+◌, ◌<◌, ◌≤◌, ◌&&◌, ℕ, Bool, cond, Option, None, Some, drop, length, refl, sym, ap, ◌∙◌, arith, rules}
 use Rattle.std.specs.List.{flat_map}
-use Rattle.file_patch.specs.PlainPatch.{patch_of}
+use Rattle.file_patch.specs.PlainPatch.{patch_of, first_opening}
 use Rattle.tool_words.specs.PlainJobs.{plain_filter_job}
 use Rattle.change_commands.specs.Taken.{has_kept, left_patch}
 use Rattle.line_list.proofs.Elements.{there-is}
 use Rattle.format_convert.specs.Converted.{rows}
-use Rattle.format_convert.specs.Refusals.{first_line, is_unfit}
+use Rattle.format_convert.specs.Refusals.{is_unfit}
 use Rattle.format_convert.proofs.RowLemmas.{row_if, lacks-left, last-first, left-is, next-first}
 use Rattle.format_convert.proofs.refusing.first_unfit.Goals as goal
 
 pub loop-patch-init : goal.loop-patch-init
-loop-patch-init c = ap (first_line (is_unfit c.args.form)) (left-is (plain_filter_job c.args.job.now) c.args.set.now)
+loop-patch-init c = ap (first_opening (is_unfit c.args.form)) (left-is (plain_filter_job c.args.job.now) c.args.set.now)
 
 pub loop-patch-preserved : goal.loop-patch-preserved
 loop-patch-preserved c =
@@ -19,7 +19,7 @@ loop-patch-preserved c =
     let i = c.loop-patch.patch in
     let lt : i < length v.patches = search rules in
     let p = there-is v.patches i lt in
-    let rest = first_line (is_unfit c.args.form) (flat_map (row_if j v.text) (drop (i + 1) (rows v))) in
+    let rest = first_opening (is_unfit c.args.form) (flat_map (row_if j v.text) (drop (i + 1) (rows v))) in
     let flag = ap (λ (b : Bool). b) (sym (c.is_misfit.ensures p.0 p.1)) ∙ c.if-is_misfit.false in
     c.loop-patch.invariant ∙ next-first (is_unfit c.args.form) j v i p.0 lt p.1
     ∙ ap (λ (b : Bool). cond b (Some p.0.header.opening) rest) (flag)
@@ -31,7 +31,7 @@ returns-then-is_misfit c =
     let i = c.loop-patch.patch in
     let lt : i < length v.patches = search rules in
     let p = there-is v.patches i lt in
-    let rest = first_line (is_unfit c.args.form) (flat_map (row_if j v.text) (drop (i + 1) (rows v))) in
+    let rest = first_opening (is_unfit c.args.form) (flat_map (row_if j v.text) (drop (i + 1) (rows v))) in
     let flag = ap (λ (b : Bool). b) (sym (c.is_misfit.ensures p.0 p.1)) ∙ c.if-is_misfit.true in
     ap (λ (n : ℕ). Some n) (c.opening.ensures p.0 p.1)
     ∙ sym (c.loop-patch.invariant ∙ next-first (is_unfit c.args.form) j v i p.0 lt p.1

@@ -5,9 +5,10 @@ use Rattle.patch_set.specs.SetView.{plain_patches}
 use Rattle.change_commands.specs.Taken.{left_patches}
 use Rattle.format_convert.specs.Converted.{rows}
 use Rattle.format_convert.proofs.RowLemmas.{row_if}
-use Rattle.format_convert.specs.Refusals.{first_line, lacks_context}
+use Rattle.format_convert.specs.Refusals.{lacks_context}
+use Rattle.file_patch.specs.PlainPatch.{first_opening}
 use Rattle.format_convert.proofs.refusing.first_without_context.Given as goal
 
 -- it isn't one of the file patches so far
 abbrev pub invariant-loop-patch : goal.invariant-loop-patch
-invariant-loop-patch l = first_line (lacks_context l.form) (left_patches (plain_filter_job l.job) (plain_patches l.set)) ≡ first_line (lacks_context l.form) (flat_map (row_if (plain_filter_job l.job) l.set.text) (drop l.patch (rows l.set)))
+invariant-loop-patch l = first_opening (lacks_context l.form) (left_patches (plain_filter_job l.job) (plain_patches l.set)) ≡ first_opening (lacks_context l.form) (flat_map (row_if (plain_filter_job l.job) l.set.text) (drop l.patch (rows l.set)))

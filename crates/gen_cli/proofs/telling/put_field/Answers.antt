@@ -1,5 +1,5 @@
 use Rattle.num_text.specs.Numbers.{decimal}
-use Rattle.run_answers.proofs.Writes.{stop_all, then_all}
+use Rattle.outside.proofs.Writing.{stop_all, then_all}
 use Rattle.gen_cli.proofs.telling.put_field.Goals as goal
 
 pub returns-in_err-put_all-clause-writes : goal.returns-in_err-put_all-clause-writes

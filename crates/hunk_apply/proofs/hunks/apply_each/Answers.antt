@@ -5,6 +5,7 @@ use Rattle.std.proofs.lemmas.List.{take_all}
 use Rattle.std.proofs.lemmas.List.Sums.{sum_by_more}
 use Rattle.line_store.proofs.StoreLemmas.{keeps-same, keeps-more}
 use Rattle.outside.specs.SinkView.{sink_passes_none, sink_passes_both, Receives, ReceivesPart}
+use Rattle.outside.proofs.Exits.{if_ok_none, on_ok_none}
 use Rattle.hunk_core.specs.declared.Hunk.{Hunk}
 use Rattle.hunk_place.specs.Taken.{taken}
 use Rattle.hunk_place.specs.Verdicts.{spots, spot, after_hunk, at_start}
@@ -14,7 +15,7 @@ use Rattle.hunk_apply.specs.Session.{IsTried, FillsFirst, body_lines}
 use Rattle.hunk_apply.specs.Splice.{Edit, all_edits, hunk_edits, spliced_from}
 use Rattle.hunk_apply.specs.Written.{Wrote, is_nothing}
 use Rattle.hunk_apply.proofs.CopyLemmas.{copied, copied-part}
-use Rattle.hunk_apply.proofs.FaultLemmas.{on-err, if-ok-none, on-ok-none, if-err-still, apply-cause-more}
+use Rattle.hunk_apply.proofs.FaultLemmas.{on-err, if-err-still, apply-cause-more}
 use Rattle.hunk_apply.proofs.FoldLemmas.{verdicts-more, edits-more, verdicts-end, edits-end, edits-behind, applied-is}
 use Rattle.hunk_apply.proofs.RowLemmas.{tried-more, others-more}
 use Rattle.hunk_apply.proofs.SpliceLemmas.{nothing-left}
@@ -182,25 +183,25 @@ returns-clause-output_empty g c lines told =
     ∙ ap is_nothing (applied-is lines c.args.fuzz c.args.loose hunks)
 
 pub returns-in_err-step-clause-applied : goal.returns-in_err-step-clause-applied
-returns-in_err-step-clause-applied g c = if-ok-none _ _ c.from_residual.result c.from_residual.ensures.1
+returns-in_err-step-clause-applied g c = if_ok_none _ _ c.from_residual.result c.from_residual.ensures.1
 
 pub returns-in_err-step-clause-failed : goal.returns-in_err-step-clause-failed
-returns-in_err-step-clause-failed g c = if-ok-none _ _ c.from_residual.result c.from_residual.ensures.1
+returns-in_err-step-clause-failed g c = if_ok_none _ _ c.from_residual.result c.from_residual.ensures.1
 
 pub returns-in_err-step-clause-inexact : goal.returns-in_err-step-clause-inexact
-returns-in_err-step-clause-inexact g c = if-ok-none _ _ c.from_residual.result c.from_residual.ensures.1
+returns-in_err-step-clause-inexact g c = if_ok_none _ _ c.from_residual.result c.from_residual.ensures.1
 
 pub returns-in_err-step-clause-output_empty : goal.returns-in_err-step-clause-output_empty
-returns-in_err-step-clause-output_empty g c = if-ok-none _ _ c.from_residual.result c.from_residual.ensures.1
+returns-in_err-step-clause-output_empty g c = if_ok_none _ _ c.from_residual.result c.from_residual.ensures.1
 
 pub returns-in_err-step-clause-placed : goal.returns-in_err-step-clause-placed
-returns-in_err-step-clause-placed g c = on-ok-none _ _ c.from_residual.result c.from_residual.ensures.1
+returns-in_err-step-clause-placed g c = on_ok_none _ _ c.from_residual.result c.from_residual.ensures.1
 
 pub returns-in_err-step-clause-tried : goal.returns-in_err-step-clause-tried
-returns-in_err-step-clause-tried g c = on-ok-none _ _ c.from_residual.result c.from_residual.ensures.1
+returns-in_err-step-clause-tried g c = on_ok_none _ _ c.from_residual.result c.from_residual.ensures.1
 
 pub returns-in_err-step-clause-received : goal.returns-in_err-step-clause-received
-returns-in_err-step-clause-received g c = on-ok-none _ _ c.from_residual.result c.from_residual.ensures.1
+returns-in_err-step-clause-received g c = on_ok_none _ _ c.from_residual.result c.from_residual.ensures.1
 
 pub returns-in_err-step-clause-keeps : goal.returns-in_err-step-clause-keeps
 returns-in_err-step-clause-keeps g c = keeps-more (g.S.LineStore.seen c.args.store.now) (g.S.LineStore.seen c.loop-j.store) (g.S.LineStore.seen c.apply_hunk.new.store) c.loop-j.invariant.keeps c.in_err-step.ensures.keeps
@@ -223,25 +224,25 @@ returns-in_err-step-clause-cause g c =
     if-err-still (λ e. HasApplyCause e a d u w) fault c.from_residual.result c.from_residual.ensures.1 (apply-cause-more fault a b d u v w c.loop-j.invariant.keeps c.loop-j.invariant.sink c.in_err-step.ensures.cause)
 
 pub returns-in_err-end-clause-applied : goal.returns-in_err-end-clause-applied
-returns-in_err-end-clause-applied g c = if-ok-none _ _ c.from_residual-in_err-end.result c.from_residual-in_err-end.ensures.1
+returns-in_err-end-clause-applied g c = if_ok_none _ _ c.from_residual-in_err-end.result c.from_residual-in_err-end.ensures.1
 
 pub returns-in_err-end-clause-failed : goal.returns-in_err-end-clause-failed
-returns-in_err-end-clause-failed g c = if-ok-none _ _ c.from_residual-in_err-end.result c.from_residual-in_err-end.ensures.1
+returns-in_err-end-clause-failed g c = if_ok_none _ _ c.from_residual-in_err-end.result c.from_residual-in_err-end.ensures.1
 
 pub returns-in_err-end-clause-inexact : goal.returns-in_err-end-clause-inexact
-returns-in_err-end-clause-inexact g c = if-ok-none _ _ c.from_residual-in_err-end.result c.from_residual-in_err-end.ensures.1
+returns-in_err-end-clause-inexact g c = if_ok_none _ _ c.from_residual-in_err-end.result c.from_residual-in_err-end.ensures.1
 
 pub returns-in_err-end-clause-output_empty : goal.returns-in_err-end-clause-output_empty
-returns-in_err-end-clause-output_empty g c = if-ok-none _ _ c.from_residual-in_err-end.result c.from_residual-in_err-end.ensures.1
+returns-in_err-end-clause-output_empty g c = if_ok_none _ _ c.from_residual-in_err-end.result c.from_residual-in_err-end.ensures.1
 
 pub returns-in_err-end-clause-placed : goal.returns-in_err-end-clause-placed
-returns-in_err-end-clause-placed g c = on-ok-none _ _ c.from_residual-in_err-end.result c.from_residual-in_err-end.ensures.1
+returns-in_err-end-clause-placed g c = on_ok_none _ _ c.from_residual-in_err-end.result c.from_residual-in_err-end.ensures.1
 
 pub returns-in_err-end-clause-tried : goal.returns-in_err-end-clause-tried
-returns-in_err-end-clause-tried g c = on-ok-none _ _ c.from_residual-in_err-end.result c.from_residual-in_err-end.ensures.1
+returns-in_err-end-clause-tried g c = on_ok_none _ _ c.from_residual-in_err-end.result c.from_residual-in_err-end.ensures.1
 
 pub returns-in_err-end-clause-received : goal.returns-in_err-end-clause-received
-returns-in_err-end-clause-received g c = on-ok-none _ _ c.from_residual-in_err-end.result c.from_residual-in_err-end.ensures.1
+returns-in_err-end-clause-received g c = on_ok_none _ _ c.from_residual-in_err-end.result c.from_residual-in_err-end.ensures.1
 
 pub returns-in_err-end-clause-keeps : goal.returns-in_err-end-clause-keeps
 returns-in_err-end-clause-keeps g c = keeps-more (g.S.LineStore.seen c.args.store.now) (g.S.LineStore.seen c.loop-j.store) (g.S.LineStore.seen c.copy_lines.new.store) c.loop-j.invariant.keeps c.in_err-end.ensures.keeps

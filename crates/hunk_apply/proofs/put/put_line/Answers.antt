@@ -1,7 +1,8 @@
 use Rattle.std.proofs.Common.{◌++◌, refl, arith}
 use Rattle.outside.specs.SinkView.{sink_passes_both, ReceivesPart}
+use Rattle.outside.proofs.Exits.{if_ok_none, on_ok_none}
 use Rattle.line_list.specs.Join.{feed_if}
-use Rattle.hunk_apply.proofs.FaultLemmas.{on-err, if-ok-none, on-ok-none}
+use Rattle.hunk_apply.proofs.FaultLemmas.{on-err}
 use Rattle.hunk_apply.proofs.WrittenLemmas.{receives-both, part-front, part-behind}
 use Rattle.hunk_apply.proofs.put.put_line.Goals as goal
 
@@ -23,7 +24,7 @@ pub returns-in_err-put_feed-clause-rest : goal.returns-in_err-put_feed-clause-re
 returns-in_err-put_feed-clause-rest g c = c.in_err-put_feed.ensures.rest
 
 pub returns-in_err-put_feed-clause-received : goal.returns-in_err-put_feed-clause-received
-returns-in_err-put_feed-clause-received g c = on-ok-none _ _ c.from_residual.result c.from_residual.ensures.1
+returns-in_err-put_feed-clause-received g c = on_ok_none _ _ c.from_residual.result c.from_residual.ensures.1
 
 pub returns-in_err-put_feed-clause-failed : goal.returns-in_err-put_feed-clause-failed
 returns-in_err-put_feed-clause-failed g c =
@@ -32,10 +33,10 @@ returns-in_err-put_feed-clause-failed g c =
     (part-front (view c.args.out.now) (view c.put_feed.new.out) (feed_if c.args.tail.is_open) c.args.line.now c.in_err-put_feed.ensures.failed)
 
 pub returns-in_err-put_feed-clause-end : goal.returns-in_err-put_feed-clause-end
-returns-in_err-put_feed-clause-end g c = if-ok-none _ _ c.from_residual.result c.from_residual.ensures.1
+returns-in_err-put_feed-clause-end g c = if_ok_none _ _ c.from_residual.result c.from_residual.ensures.1
 
 pub returns-in_err-put_feed-clause-nothing : goal.returns-in_err-put_feed-clause-nothing
-returns-in_err-put_feed-clause-nothing g c = if-ok-none _ _ c.from_residual.result c.from_residual.ensures.1
+returns-in_err-put_feed-clause-nothing g c = if_ok_none _ _ c.from_residual.result c.from_residual.ensures.1
 
 pub returns-in_err-put_all-clause-call : goal.returns-in_err-put_all-clause-call
 returns-in_err-put_all-clause-call g c = record {
@@ -47,13 +48,13 @@ pub returns-in_err-put_all-clause-rest : goal.returns-in_err-put_all-clause-rest
 returns-in_err-put_all-clause-rest g c = g.met.O.Sink.rest_both _ _ _ c.in_ok-put_feed.ensures.rest c.in_err-put_all.ensures.rest
 
 pub returns-in_err-put_all-clause-received : goal.returns-in_err-put_all-clause-received
-returns-in_err-put_all-clause-received g c = on-ok-none _ _ c.from_residual-in_err-put_all.result c.from_residual-in_err-put_all.ensures.1
+returns-in_err-put_all-clause-received g c = on_ok_none _ _ c.from_residual-in_err-put_all.result c.from_residual-in_err-put_all.ensures.1
 
 pub returns-in_err-put_all-clause-end : goal.returns-in_err-put_all-clause-end
-returns-in_err-put_all-clause-end g c = if-ok-none _ _ c.from_residual-in_err-put_all.result c.from_residual-in_err-put_all.ensures.1
+returns-in_err-put_all-clause-end g c = if_ok_none _ _ c.from_residual-in_err-put_all.result c.from_residual-in_err-put_all.ensures.1
 
 pub returns-in_err-put_all-clause-nothing : goal.returns-in_err-put_all-clause-nothing
-returns-in_err-put_all-clause-nothing g c = if-ok-none _ _ c.from_residual-in_err-put_all.result c.from_residual-in_err-put_all.ensures.1
+returns-in_err-put_all-clause-nothing g c = if_ok_none _ _ c.from_residual-in_err-put_all.result c.from_residual-in_err-put_all.ensures.1
 
 pub returns-clause-call : goal.returns-clause-call
 returns-clause-call g c = record {

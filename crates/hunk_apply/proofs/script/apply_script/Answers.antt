@@ -1,12 +1,13 @@
 use Rattle.std.proofs.Common.{◌≡◌, ℕ, List, [], ◌∷◌, Some, length, true, false, refl, ap, ◌∙◌, arith}
 use Rattle.outside.specs.SinkView.{ReceivesPart}
+use Rattle.outside.proofs.Exits.{if_ok_none, on_ok_none}
 use Rattle.line_list.specs.Join.{join}
 use Rattle.ed_form.specs.PlainEdit.{edits_of}
 use Rattle.hunk_apply.specs.declared.put.Tail.{Tail}
 use Rattle.hunk_apply.specs.Faults.{HasApplyCause}
 use Rattle.hunk_apply.specs.Session.{FillsFirst}
 use Rattle.hunk_apply.specs.Script.{reaches_behind, script_lines}
-use Rattle.hunk_apply.proofs.FaultLemmas.{on-err, if-ok-none, on-ok-none, if-err-still}
+use Rattle.hunk_apply.proofs.FaultLemmas.{on-err, if-err-still}
 use Rattle.hunk_apply.proofs.ScriptLemmas.{behind-is, one-row}
 use Rattle.hunk_apply.proofs.WrittenLemmas.{wrote-whole, wrote-nothing, part-whole}
 use Rattle.hunk_apply.proofs.script.apply_script.Goals as goal
@@ -46,25 +47,25 @@ returns-clause-output_empty g c lines told =
     c.session_of.ensures.nothing ∙ wrote-nothing (view c.args.out.now) (view c.put_script.new.out) first c.in_ok-end.end (script_lines lines es) (c.in_ok-end.ensures.written lines told) refl refl
 
 pub returns-in_err-end-clause-placed : goal.returns-in_err-end-clause-placed
-returns-in_err-end-clause-placed g c = on-ok-none _ _ c.from_residual.result c.from_residual.ensures.1
+returns-in_err-end-clause-placed g c = on_ok_none _ _ c.from_residual.result c.from_residual.ensures.1
 
 pub returns-in_err-end-clause-tried : goal.returns-in_err-end-clause-tried
-returns-in_err-end-clause-tried g c = on-ok-none _ _ c.from_residual.result c.from_residual.ensures.1
+returns-in_err-end-clause-tried g c = on_ok_none _ _ c.from_residual.result c.from_residual.ensures.1
 
 pub returns-in_err-end-clause-received : goal.returns-in_err-end-clause-received
-returns-in_err-end-clause-received g c = on-ok-none _ _ c.from_residual.result c.from_residual.ensures.1
+returns-in_err-end-clause-received g c = on_ok_none _ _ c.from_residual.result c.from_residual.ensures.1
 
 pub returns-in_err-end-clause-applied : goal.returns-in_err-end-clause-applied
-returns-in_err-end-clause-applied g c = if-ok-none _ _ c.from_residual.result c.from_residual.ensures.1
+returns-in_err-end-clause-applied g c = if_ok_none _ _ c.from_residual.result c.from_residual.ensures.1
 
 pub returns-in_err-end-clause-failed : goal.returns-in_err-end-clause-failed
-returns-in_err-end-clause-failed g c = if-ok-none _ _ c.from_residual.result c.from_residual.ensures.1
+returns-in_err-end-clause-failed g c = if_ok_none _ _ c.from_residual.result c.from_residual.ensures.1
 
 pub returns-in_err-end-clause-inexact : goal.returns-in_err-end-clause-inexact
-returns-in_err-end-clause-inexact g c = if-ok-none _ _ c.from_residual.result c.from_residual.ensures.1
+returns-in_err-end-clause-inexact g c = if_ok_none _ _ c.from_residual.result c.from_residual.ensures.1
 
 pub returns-in_err-end-clause-output_empty : goal.returns-in_err-end-clause-output_empty
-returns-in_err-end-clause-output_empty g c = if-ok-none _ _ c.from_residual.result c.from_residual.ensures.1
+returns-in_err-end-clause-output_empty g c = if_ok_none _ _ c.from_residual.result c.from_residual.ensures.1
 
 pub returns-in_err-end-clause-keeps : goal.returns-in_err-end-clause-keeps
 returns-in_err-end-clause-keeps g c = c.in_err-end.ensures.keeps

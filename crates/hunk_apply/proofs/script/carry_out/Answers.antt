@@ -1,13 +1,14 @@
 use Rattle.std.proofs.Common.{◌≡◌, ◌+◌, ◌-◌, ◌≤◌, ◌<◌, ◌++◌, ◌^◌, ℕ, List, [], Some, length, take, drop, refl, sym, ap, subst, ◌∙◌, arith, rules}
 use Rattle.line_store.proofs.StoreLemmas.{keeps-same, keeps-more}
 use Rattle.outside.specs.SinkView.{sink_passes_none, sink_passes_both, ReceivesPart}
+use Rattle.outside.proofs.Exits.{if_ok_none}
 use Rattle.std.specs.List.{All}
 use Rattle.hunk_core.specs.Turned.{LiesIn}
 use Rattle.ed_form.specs.declared.script.EdEdit.{EdEdit}
 use Rattle.ed_form.specs.PlainEdit.{edits_of, lines_of}
 use Rattle.hunk_apply.specs.Script.{scripted}
 use Rattle.hunk_apply.specs.Written.{lines_between, join_behind}
-use Rattle.hunk_apply.proofs.FaultLemmas.{on-err, counted-still, if-ok-none, if-err-still, apply-cause-more}
+use Rattle.hunk_apply.proofs.FaultLemmas.{on-err, counted-still, if-err-still, apply-cause-more}
 use Rattle.hunk_apply.proofs.ScriptLemmas.{EndWithin, ends-within, begin-all, edit-begins, edit-order, edit-within, next-begin, edit-left, scripted-all, lines-left}
 use Rattle.hunk_apply.proofs.WrittenLemmas.{wrote-none, wrote-both, wrote-same, part-after, part-same}
 use Rattle.hunk_apply.specs.Faults.{HasApplyCause}
@@ -173,7 +174,7 @@ returns-clause-written g c lines told =
     (c.in_ok-end.ensures.written lines (c.loop-k.invariant.keeps.told ∙ told) []))
 
 pub returns-in_err-now-clause-written : goal.returns-in_err-now-clause-written
-returns-in_err-now-clause-written g c = if-ok-none _ _ c.from_residual.result c.from_residual.ensures.1
+returns-in_err-now-clause-written g c = if_ok_none _ _ c.from_residual.result c.from_residual.ensures.1
 
 pub returns-in_err-now-clause-keeps : goal.returns-in_err-now-clause-keeps
 returns-in_err-now-clause-keeps g c = keeps-more (g.S.LineStore.seen c.args.store.now) (g.S.LineStore.seen c.loop-k.store) (g.S.LineStore.seen c.put_edit.new.store) c.loop-k.invariant.keeps c.in_err-now.ensures.keeps
@@ -196,7 +197,7 @@ returns-in_err-now-clause-cause g c =
     if-err-still (λ e. HasApplyCause e a d u w) fault c.from_residual.result c.from_residual.ensures.1 (apply-cause-more fault a b d u v w c.loop-k.invariant.keeps c.loop-k.invariant.sink c.in_err-now.ensures.cause)
 
 pub returns-in_err-end-clause-written : goal.returns-in_err-end-clause-written
-returns-in_err-end-clause-written g c = if-ok-none _ _ c.from_residual-in_err-end.result c.from_residual-in_err-end.ensures.1
+returns-in_err-end-clause-written g c = if_ok_none _ _ c.from_residual-in_err-end.result c.from_residual-in_err-end.ensures.1
 
 pub returns-in_err-end-clause-keeps : goal.returns-in_err-end-clause-keeps
 returns-in_err-end-clause-keeps g c = keeps-more (g.S.LineStore.seen c.args.store.now) (g.S.LineStore.seen c.loop-k.store) (g.S.LineStore.seen c.copy_lines.new.store) c.loop-k.invariant.keeps c.in_err-end.ensures.keeps

@@ -1,11 +1,12 @@
 use Rattle.std.proofs.Common.{◌≡◌, ◌++◌, ℕ, List, Some, refl}
 use Rattle.line_store.proofs.StoreLemmas.{keeps-same}
 use Rattle.outside.specs.SinkView.{sink_passes_both, ReceivesPart}
+use Rattle.outside.proofs.Exits.{if_ok_none}
 use Rattle.ed_form.specs.PlainEdit.{lines_of}
 use Rattle.hunk_apply.specs.declared.ApplyFault.TheVariants.{Write}
 use Rattle.hunk_apply.specs.Faults.{HasApplyCause}
 use Rattle.hunk_apply.specs.Written.{lines_between, join_behind}
-use Rattle.hunk_apply.proofs.FaultLemmas.{on-err, if-ok-none, if-err-still, apply-cause-more}
+use Rattle.hunk_apply.proofs.FaultLemmas.{on-err, if-err-still, apply-cause-more}
 use Rattle.hunk_apply.proofs.WrittenLemmas.{wrote-both, part-after}
 use Rattle.hunk_apply.proofs.script.put_edit.Goals as goal
 
@@ -37,7 +38,7 @@ returns-clause-written g c lines told more =
     (c.in_ok-now.ensures.written more)
 
 pub returns-in_err-copied-clause-written : goal.returns-in_err-copied-clause-written
-returns-in_err-copied-clause-written g c = if-ok-none _ _ c.from_residual.result c.from_residual.ensures.1
+returns-in_err-copied-clause-written g c = if_ok_none _ _ c.from_residual.result c.from_residual.ensures.1
 
 pub returns-in_err-copied-clause-keeps : goal.returns-in_err-copied-clause-keeps
 returns-in_err-copied-clause-keeps g c = c.in_err-copied.ensures.keeps
@@ -54,7 +55,7 @@ returns-in_err-copied-clause-cause g c =
     c.in_err-copied.field-0.0 c.from_residual.result c.from_residual.ensures.1 c.in_err-copied.ensures.cause
 
 pub returns-in_err-now-clause-written : goal.returns-in_err-now-clause-written
-returns-in_err-now-clause-written g c = if-ok-none _ _ c.from_residual-in_err-now.result c.from_residual-in_err-now.ensures.1
+returns-in_err-now-clause-written g c = if_ok_none _ _ c.from_residual-in_err-now.result c.from_residual-in_err-now.ensures.1
 
 pub returns-in_err-now-clause-keeps : goal.returns-in_err-now-clause-keeps
 returns-in_err-now-clause-keeps g c = c.in_ok-copied.ensures.keeps

@@ -1,11 +1,12 @@
 use Rattle.std.proofs.Common.{◌≡◌, ◌+◌, ◌++◌, ℕ, List, [], Some, length, refl, ◌∙◌}
 use Rattle.std.proofs.lemmas.Result.{on_err_weaker}
 use Rattle.outside.specs.SinkView.{ReceivesPart}
+use Rattle.outside.proofs.Exits.{if_ok_none}
 use Rattle.ed_form.specs.PlainEdit.{edits_of}
 use Rattle.hunk_apply.specs.Faults.{HasApplyCause}
 use Rattle.hunk_apply.specs.Script.{scripted, script_lines}
 use Rattle.hunk_apply.specs.Written.{lines_between, join_behind}
-use Rattle.hunk_apply.proofs.FaultLemmas.{on-err, if-ok-none, if-err-still}
+use Rattle.hunk_apply.proofs.FaultLemmas.{on-err, if-err-still}
 use Rattle.hunk_apply.proofs.ScriptLemmas.{stays-whole, carried-out, whole-between}
 use Rattle.hunk_apply.proofs.WrittenLemmas.{wrote-same, part-same}
 use Rattle.hunk_apply.proofs.script.put_script.Goals as goal
@@ -46,7 +47,7 @@ returns-clause-part g c =
     c.carry_out.ensures.part
 
 pub returns-in_err-end-clause-written : goal.returns-in_err-end-clause-written
-returns-in_err-end-clause-written g c = if-ok-none _ _ c.from_residual.result c.from_residual.ensures.1
+returns-in_err-end-clause-written g c = if_ok_none _ _ c.from_residual.result c.from_residual.ensures.1
 
 pub returns-in_err-end-clause-keeps : goal.returns-in_err-end-clause-keeps
 returns-in_err-end-clause-keeps g c = c.in_err-end.ensures.keeps

@@ -3,8 +3,10 @@ use Rattle.std.specs.Prelude.{pos, negsuc, ◌≤ℤ◌}
 use Rattle.std.specs.List.{prefix_len}
 use Rattle.line_store.proofs.StoreLemmas.{keeps-more}
 use Rattle.outside.specs.SinkView.{sink_passes_none}
+use Rattle.outside.proofs.Exits.{if_ok_none}
 use Rattle.hunk_core.specs.declared.Verdict.TheVariants.{At}
 use Rattle.hunk_core.specs.Sides.{taken_count}
+use Rattle.hunk_core.proofs.TurnedLemmas.{is_kept_line}
 use Rattle.hunk_place.specs.Verdicts.{IsPlaced}
 use Rattle.hunk_place.specs.Taken.{taken}
 use Rattle.hunk_place.specs.Verdicts.{verdict_of, spot}
@@ -15,8 +17,8 @@ use Rattle.hunk_apply.specs.Passage.{BrokeOffIn, hunk_passage, post_count}
 use Rattle.hunk_apply.specs.Session.{IsTried}
 use Rattle.hunk_apply.specs.Splice.{body_edits, hunk_edits, spliced_from, AreFrom}
 use Rattle.hunk_apply.specs.Written.{WhereTold, join_behind}
-use Rattle.hunk_apply.proofs.BodyLemmas.{is_kept, post-old}
-use Rattle.hunk_apply.proofs.FaultLemmas.{on-err, if-ok-none, if-err-still, apply-cause-more}
+use Rattle.hunk_apply.proofs.BodyLemmas.{post-old}
+use Rattle.hunk_apply.proofs.FaultLemmas.{on-err, if-err-still, apply-cause-more}
 use Rattle.hunk_apply.proofs.MovedLemmas.{placed-consumed, placed-edits, placed-near, offset-is, placed-state, placed-wrote, nowhere-state, nowhere-wrote, still-below, still-above}
 use Rattle.hunk_apply.proofs.WrittenLemmas.{part-none, part-same}
 use Rattle.hunk_apply.proofs.step.apply_hunk.Goals as goal
@@ -38,7 +40,7 @@ returns-in_err-moved-in-At-clause-part g c =
 pub returns-in_ok-moved-in-At-clause-tried : goal.returns-in_ok-moved-in-At-clause-tried
 returns-in_ok-moved-in-At-clause-tried g c =
     let items = c.args.hunk.now.body.items in
-    let post : ℕ = prefix_len is_kept (reverse items) in
+    let post : ℕ = prefix_len is_kept_line (reverse items) in
     let old : post ≤ taken_count c.args.side items = post-old c.args.side items in
     let placed = subst (IsPlaced (g.S.LineStore.seen c.args.store.now).count c.args.state.now.consumed (taken_count c.args.side items) post) c.in-At.is c.in_ok-verdict.ensures.placed in
     let room : c.in-At.line + taken_count c.args.side items ≤ (g.S.LineStore.seen c.args.store.now).count + 1 + post = placed.1 in
@@ -141,58 +143,58 @@ returns-in-Nowhere-clause-written g c lines told later from =
     nowhere-wrote (g.O.Sink.view c.args.out.now) c.args.tail lines later h c.args.state.now (spot lines c.args.fuzz c.args.loose h c.args.state.now) (sym c.in-Nowhere.is ∙ c.in_ok-verdict.ensures.value lines told)
 
 pub returns-in_err-verdict-clause-verdict : goal.returns-in_err-verdict-clause-verdict
-returns-in_err-verdict-clause-verdict g c = if-ok-none _ _ c.from_residual.result c.from_residual.ensures.1
+returns-in_err-verdict-clause-verdict g c = if_ok_none _ _ c.from_residual.result c.from_residual.ensures.1
 
 pub returns-in_err-moved-in-At-clause-verdict : goal.returns-in_err-moved-in-At-clause-verdict
-returns-in_err-moved-in-At-clause-verdict g c = if-ok-none _ _ c.from_residual-in_err-moved-in-At.result c.from_residual-in_err-moved-in-At.ensures.1
+returns-in_err-moved-in-At-clause-verdict g c = if_ok_none _ _ c.from_residual-in_err-moved-in-At.result c.from_residual-in_err-moved-in-At.ensures.1
 
 pub returns-in_err-verdict-clause-tried : goal.returns-in_err-verdict-clause-tried
-returns-in_err-verdict-clause-tried g c = if-ok-none _ _ c.from_residual.result c.from_residual.ensures.1
+returns-in_err-verdict-clause-tried g c = if_ok_none _ _ c.from_residual.result c.from_residual.ensures.1
 
 pub returns-in_err-moved-in-At-clause-tried : goal.returns-in_err-moved-in-At-clause-tried
-returns-in_err-moved-in-At-clause-tried g c = if-ok-none _ _ c.from_residual-in_err-moved-in-At.result c.from_residual-in_err-moved-in-At.ensures.1
+returns-in_err-moved-in-At-clause-tried g c = if_ok_none _ _ c.from_residual-in_err-moved-in-At.result c.from_residual-in_err-moved-in-At.ensures.1
 
 pub returns-in_err-verdict-clause-state : goal.returns-in_err-verdict-clause-state
-returns-in_err-verdict-clause-state g c = if-ok-none _ _ c.from_residual.result c.from_residual.ensures.1
+returns-in_err-verdict-clause-state g c = if_ok_none _ _ c.from_residual.result c.from_residual.ensures.1
 
 pub returns-in_err-moved-in-At-clause-state : goal.returns-in_err-moved-in-At-clause-state
-returns-in_err-moved-in-At-clause-state g c = if-ok-none _ _ c.from_residual-in_err-moved-in-At.result c.from_residual-in_err-moved-in-At.ensures.1
+returns-in_err-moved-in-At-clause-state g c = if_ok_none _ _ c.from_residual-in_err-moved-in-At.result c.from_residual-in_err-moved-in-At.ensures.1
 
 pub returns-in_err-verdict-clause-within : goal.returns-in_err-verdict-clause-within
-returns-in_err-verdict-clause-within g c = if-ok-none _ _ c.from_residual.result c.from_residual.ensures.1
+returns-in_err-verdict-clause-within g c = if_ok_none _ _ c.from_residual.result c.from_residual.ensures.1
 
 pub returns-in_err-moved-in-At-clause-within : goal.returns-in_err-moved-in-At-clause-within
-returns-in_err-moved-in-At-clause-within g c = if-ok-none _ _ c.from_residual-in_err-moved-in-At.result c.from_residual-in_err-moved-in-At.ensures.1
+returns-in_err-moved-in-At-clause-within g c = if_ok_none _ _ c.from_residual-in_err-moved-in-At.result c.from_residual-in_err-moved-in-At.ensures.1
 
 pub returns-in_err-verdict-clause-far_back : goal.returns-in_err-verdict-clause-far_back
-returns-in_err-verdict-clause-far_back g c = if-ok-none _ _ c.from_residual.result c.from_residual.ensures.1
+returns-in_err-verdict-clause-far_back g c = if_ok_none _ _ c.from_residual.result c.from_residual.ensures.1
 
 pub returns-in_err-moved-in-At-clause-far_back : goal.returns-in_err-moved-in-At-clause-far_back
-returns-in_err-moved-in-At-clause-far_back g c = if-ok-none _ _ c.from_residual-in_err-moved-in-At.result c.from_residual-in_err-moved-in-At.ensures.1
+returns-in_err-moved-in-At-clause-far_back g c = if_ok_none _ _ c.from_residual-in_err-moved-in-At.result c.from_residual-in_err-moved-in-At.ensures.1
 
 pub returns-in_err-verdict-clause-far_on : goal.returns-in_err-verdict-clause-far_on
-returns-in_err-verdict-clause-far_on g c = if-ok-none _ _ c.from_residual.result c.from_residual.ensures.1
+returns-in_err-verdict-clause-far_on g c = if_ok_none _ _ c.from_residual.result c.from_residual.ensures.1
 
 pub returns-in_err-moved-in-At-clause-far_on : goal.returns-in_err-moved-in-At-clause-far_on
-returns-in_err-moved-in-At-clause-far_on g c = if-ok-none _ _ c.from_residual-in_err-moved-in-At.result c.from_residual-in_err-moved-in-At.ensures.1
+returns-in_err-moved-in-At-clause-far_on g c = if_ok_none _ _ c.from_residual-in_err-moved-in-At.result c.from_residual-in_err-moved-in-At.ensures.1
 
 pub returns-in_err-verdict-clause-net_below : goal.returns-in_err-verdict-clause-net_below
-returns-in_err-verdict-clause-net_below g c = if-ok-none _ _ c.from_residual.result c.from_residual.ensures.1
+returns-in_err-verdict-clause-net_below g c = if_ok_none _ _ c.from_residual.result c.from_residual.ensures.1
 
 pub returns-in_err-moved-in-At-clause-net_below : goal.returns-in_err-moved-in-At-clause-net_below
-returns-in_err-moved-in-At-clause-net_below g c = if-ok-none _ _ c.from_residual-in_err-moved-in-At.result c.from_residual-in_err-moved-in-At.ensures.1
+returns-in_err-moved-in-At-clause-net_below g c = if_ok_none _ _ c.from_residual-in_err-moved-in-At.result c.from_residual-in_err-moved-in-At.ensures.1
 
 pub returns-in_err-verdict-clause-net_above : goal.returns-in_err-verdict-clause-net_above
-returns-in_err-verdict-clause-net_above g c = if-ok-none _ _ c.from_residual.result c.from_residual.ensures.1
+returns-in_err-verdict-clause-net_above g c = if_ok_none _ _ c.from_residual.result c.from_residual.ensures.1
 
 pub returns-in_err-moved-in-At-clause-net_above : goal.returns-in_err-moved-in-At-clause-net_above
-returns-in_err-moved-in-At-clause-net_above g c = if-ok-none _ _ c.from_residual-in_err-moved-in-At.result c.from_residual-in_err-moved-in-At.ensures.1
+returns-in_err-moved-in-At-clause-net_above g c = if_ok_none _ _ c.from_residual-in_err-moved-in-At.result c.from_residual-in_err-moved-in-At.ensures.1
 
 pub returns-in_err-verdict-clause-written : goal.returns-in_err-verdict-clause-written
-returns-in_err-verdict-clause-written g c = if-ok-none _ _ c.from_residual.result c.from_residual.ensures.1
+returns-in_err-verdict-clause-written g c = if_ok_none _ _ c.from_residual.result c.from_residual.ensures.1
 
 pub returns-in_err-moved-in-At-clause-written : goal.returns-in_err-moved-in-At-clause-written
-returns-in_err-moved-in-At-clause-written g c = if-ok-none _ _ c.from_residual-in_err-moved-in-At.result c.from_residual-in_err-moved-in-At.ensures.1
+returns-in_err-moved-in-At-clause-written g c = if_ok_none _ _ c.from_residual-in_err-moved-in-At.result c.from_residual-in_err-moved-in-At.ensures.1
 
 pub returns-in_err-verdict-clause-keeps : goal.returns-in_err-verdict-clause-keeps
 returns-in_err-verdict-clause-keeps g c = c.in_err-verdict.ensures.keeps

@@ -1,8 +1,9 @@
 use Rattle.std.proofs.Common.{◌≡◌, ◌≢◌, ◌||◌, ℕ, [], length, sym, ap, ◌∙◌, arith}
+use Rattle.std.proofs.Math.Bool.{or-false}
 use Rattle.hunk_core.specs.PlainHunk.{bytes_at}
 use Rattle.ifdef_out.specs.Chain.{block_end, block_added, behind_block, is_some_line}
 use Rattle.ifdef_out.specs.Places.{IsFound, edits_left, edit_at}
-use Rattle.ifdef_out.proofs.ChainLemmas.{end-none, added-none, behind-none, end-more, added-more, behind-more, end-stop, added-stop, behind-stop, adds-some, or-next, or-none}
+use Rattle.ifdef_out.proofs.ChainLemmas.{end-none, added-none, behind-none, end-more, added-more, behind-more, end-stop, added-stop, behind-stop, adds-some, or-next}
 use Rattle.ifdef_out.proofs.block.block_at.Goals as goal
 
 pub returns : goal.returns
@@ -11,7 +12,7 @@ returns c =
     let none : edits_left c.args.edits c.loop-found.block.behind ≡ [] = c.in_default.ensures in
     record {
       end = sym (c.loop-found.invariant.end ∙ ap (block_end q) none ∙ end-none q);
-      adding = sym (c.loop-found.invariant.adding ∙ ap (λ es. c.loop-found.block.is_adding || is_some_line (block_added q es)) none ∙ ap (λ ls. c.loop-found.block.is_adding || is_some_line ls) (added-none q) ∙ or-none c.loop-found.block.is_adding);
+      adding = sym (c.loop-found.invariant.adding ∙ ap (λ es. c.loop-found.block.is_adding || is_some_line (block_added q es)) none ∙ ap (λ ls. c.loop-found.block.is_adding || is_some_line ls) (added-none q) ∙ or-false c.loop-found.block.is_adding);
       behind = sym (c.loop-found.invariant.behind ∙ ap (behind_block q) none ∙ behind-none q ∙ sym none);
     }
 
@@ -24,7 +25,7 @@ returns-then-found-block c =
     let away : c.in-Some.found.edit.at ≢ c.loop-found.block.end = c.if-found-block.true in
     record {
       end = sym (c.loop-found.invariant.end ∙ ap (block_end q) f.left ∙ end-stop q e es away);
-      adding = sym (c.loop-found.invariant.adding ∙ ap (λ xs. c.loop-found.block.is_adding || is_some_line (block_added q xs)) f.left ∙ ap (λ ls. c.loop-found.block.is_adding || is_some_line ls) (added-stop q e es away) ∙ or-none c.loop-found.block.is_adding);
+      adding = sym (c.loop-found.invariant.adding ∙ ap (λ xs. c.loop-found.block.is_adding || is_some_line (block_added q xs)) f.left ∙ ap (λ ls. c.loop-found.block.is_adding || is_some_line ls) (added-stop q e es away) ∙ or-false c.loop-found.block.is_adding);
       behind = sym (c.loop-found.invariant.behind ∙ ap (behind_block q) f.left ∙ behind-stop q e es away ∙ sym f.left);
     }
 

@@ -1,11 +1,11 @@
 use Rattle.std.proofs.Common.{◌≡◌, length, replicate, sym, ◌∙◌, ap}
 use Rattle.outside.specs.Calls.{untouched_both}
+use Rattle.outside.proofs.Exits.{if_ok_none}
 use Rattle.hunk_core.specs.declared.Verdict.TheVariants.{Ignored}
 use Rattle.patch_run.specs.OnePatch.{total}
 use Rattle.patch_run.specs.TurnView.{plain_turn}
 use Rattle.patch_run.proofs.Marks.{rows-counted}
 use Rattle.patch_run.proofs.Turning.{start_fails, lines_told, skip_does, try_does}
-use Rattle.patch_effects.proofs.Passing.{if_ok_none}
 use Rattle.patch_run.proofs.apply.apply_one.Goals as goal
 
 pub returns-in_err-row-clause-does : goal.returns-in_err-row-clause-does

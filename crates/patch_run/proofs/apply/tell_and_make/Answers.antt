@@ -2,6 +2,7 @@ use Rattle.std.proofs.Common.{inl, Option, None, sym, ◌∙◌, subst}
 use Rattle.std.proofs.lemmas.Bool.{false≢true}
 use Rattle.outside.specs.Calls.{untouched_none}
 use Rattle.outside.proofs.Effects.{made_none}
+use Rattle.outside.proofs.Exits.{if_ok_none, on_ok_none}
 use Rattle.replace_file.specs.declared.temp.Temp.{Temp}
 use Rattle.patch_effects.specs.declared.fault.RunFault.{RunFault}
 use Rattle.patch_run.specs.OnePatch.{Tried, tried_said}
@@ -10,7 +11,6 @@ use Rattle.patch_run.specs.Trying.{IsBegun}
 use Rattle.patch_run.specs.Doing.{IsOutcome, IsOrdered}
 use Rattle.patch_run.proofs.Applying.{on_err, if_any, is_wet, is_dry, unmade, tell_ordered, tell_fails, tell_dry, tell_made, tell_breaks}
 use Rattle.patch_effects.proofs.Tidy.{tidy_none}
-use Rattle.patch_effects.proofs.Passing.{if_ok_none, on_ok_none}
 use Rattle.patch_run.proofs.apply.tell_and_make.Goals as goal
 
 pub returns-in_err-tell-clause-broken : goal.returns-in_err-tell-clause-broken

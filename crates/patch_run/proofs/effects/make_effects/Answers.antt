@@ -4,7 +4,7 @@ use Rattle.patch_run.specs.TurnView.{plain_turn}
 use Rattle.patch_effects.proofs.Making.{makes_both, makes_stops, makes_fault, makes_value}
 use Rattle.patch_run.proofs.Writing.{effects_split, effects_on, effects_count, wrote_as}
 use Rattle.patch_effects.proofs.Tidy.{tidy_both}
-use Rattle.patch_effects.proofs.Passing.{if_ok_none, on_ok_none}
+use Rattle.outside.proofs.Exits.{if_ok_none, on_ok_none}
 use Rattle.patch_run.proofs.effects.make_effects.Goals as goal
 
 pub returns-in_err-made-clause-makes : goal.returns-in_err-made-clause-makes

@@ -4,8 +4,8 @@ use Rattle.std.specs.FinMap.{get}
 use Rattle.patch_run.specs.OnePatch.{is_removal}
 use Rattle.patch_run.specs.TurnView.{plain_turn}
 use Rattle.patch_effects.proofs.Making.{makes_is}
-use Rattle.patch_effects.proofs.Passing.{if_ok_none, on_ok_none}
 use Rattle.patch_run.proofs.Writing.{written_as}
+use Rattle.outside.proofs.Exits.{if_ok_none, on_ok_none}
 use Rattle.patch_run.proofs.effects.write_target.Goals as goal
 
 pub returns-clause-makes : goal.returns-clause-makes

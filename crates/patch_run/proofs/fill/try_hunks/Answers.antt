@@ -1,5 +1,5 @@
 use Rattle.outside.proofs.Quiet.{works_none}
-use Rattle.patch_effects.proofs.Passing.{if_ok_none, on_ok_none}
+use Rattle.outside.proofs.Exits.{if_ok_none, on_ok_none}
 use Rattle.patch_effects.proofs.Tidy.{gone_tidy, unmade_tidy}
 use Rattle.patch_run.proofs.fill.try_hunks.Goals as goal
 

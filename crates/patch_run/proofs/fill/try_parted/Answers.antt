@@ -1,7 +1,7 @@
 use Rattle.std.proofs.Common.{◌∙◌}
 use Rattle.outside.specs.SinkView.{sink_passes_none}
+use Rattle.outside.proofs.Exits.{if_ok_none, on_ok_none}
 use Rattle.line_store.proofs.StoreLemmas.{keeps-more}
-use Rattle.patch_effects.proofs.Passing.{if_ok_none, on_ok_none}
 use Rattle.patch_run.proofs.fill.try_parted.Goals as goal
 
 pub returns-in_err-session-clause-keeps : goal.returns-in_err-session-clause-keeps

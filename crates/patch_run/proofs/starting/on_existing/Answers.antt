@@ -1,13 +1,13 @@
 use Rattle.std.proofs.Common.{◌≡◌, Bool, true, false, List, ℕ, Option, None, Result, Ok, Err, if◌then◌else◌, sym, ◌∙◌, ap}
 use Rattle.outside.specs.SinkView.{SinkView, Writes}
 use Rattle.outside.proofs.Writing.{writes_is}
+use Rattle.outside.proofs.Exits.{if_ok_none}
 use Rattle.hunk_core.specs.declared.Side.{Side}
 use Rattle.hunk_core.specs.Turned.{other_side}
 use Rattle.say_text.specs.Messages.{silenced, exists_line}
 use Rattle.target_names.specs.declared.derived.Target.{Target}
 use Rattle.patch_run.specs.OnePatch.{PlainTurn, Start, bytes_of, exists_said, said_first, skips_at, on_taking, on_existing, shown, written, turns_round}
 use Rattle.patch_run.specs.TurnView.{plain_turn}
-use Rattle.patch_effects.proofs.Passing.{if_ok_none}
 use Rattle.patch_run.proofs.StartSteps.{Begins, begins_first, begins_skips, starts_said, starts_unsaid, starts_is}
 use Rattle.patch_run.proofs.starting.on_existing.Goals as goal
 

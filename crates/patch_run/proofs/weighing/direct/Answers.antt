@@ -4,8 +4,8 @@ use Rattle.patch_options.specs.PlainJob.{plain_options}
 use Rattle.say_text.specs.Messages.{silenced, reversed_line}
 use Rattle.patch_run.specs.OnePatch.{on_direction, lines_in}
 use Rattle.patch_run.specs.TurnView.{plain_turn}
-use Rattle.patch_effects.proofs.Passing.{if_ok_none}
 use Rattle.patch_run.proofs.Deciding.{weighs_fails, weighs_stops, direction-said}
+use Rattle.outside.proofs.Exits.{if_ok_none}
 use Rattle.patch_run.proofs.weighing.direct.Goals as goal
 
 pub returns-in_err-say_reversed-clause-weighs : goal.returns-in_err-say_reversed-clause-weighs

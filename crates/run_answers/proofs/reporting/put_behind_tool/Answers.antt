@@ -1,6 +1,6 @@
 use Rattle.std.proofs.Common.{[], ◌∷◌, ◌++◌, codes}
 use Rattle.run_answers.specs.Reasons.{reason_of}
-use Rattle.run_answers.proofs.Writes.{stop_all, then_all}
+use Rattle.outside.proofs.Writing.{stop_all, then_all}
 use Rattle.run_answers.proofs.reporting.put_behind_tool.Goals as goal
 
 pub returns-in_err-put_all-clause-writes : goal.returns-in_err-put_all-clause-writes

@@ -1,5 +1,5 @@
 use Rattle.run_answers.specs.Reasons.{behind_front}
-use Rattle.run_answers.proofs.Writes.{stop_all, then_all}
+use Rattle.outside.proofs.Writing.{stop_all, then_all}
 use Rattle.run_answers.proofs.reporting.put_reason.Goals as goal
 
 pub returns-in_err-put_all-clause-writes : goal.returns-in_err-put_all-clause-writes

@@ -1,6 +1,7 @@
 use Rattle.std.proofs.Common.{[], ◌∷◌, ◌++◌, codes, map, string_bytes, sym, ◌∙◌}
 use Rattle.run_answers.specs.Reasons.{reason_of}
-use Rattle.run_answers.proofs.Writes.{stop_all, then_all, behind_tool, no_line}
+use Rattle.run_answers.proofs.Writes.{behind_tool, no_line}
+use Rattle.outside.proofs.Writing.{stop_all, then_all}
 use Rattle.run_answers.proofs.reporting.report.Goals as goal
 
 pub returns-then-is_ended-clause-writes : goal.returns-then-is_ended-clause-writes

@@ -1,5 +1,5 @@
 use Rattle.std.proofs.Common.{◌++◌}
-use Rattle.say_text.proofs.Saying.{stop_all, then_all}
+use Rattle.outside.proofs.Writing.{stop_all, then_all}
 use Rattle.say_text.proofs.pieces.put_around.Goals as goal
 
 pub returns-in_err-put_all-clause-writes : goal.returns-in_err-put_all-clause-writes

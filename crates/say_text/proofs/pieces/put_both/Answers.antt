@@ -1,5 +1,6 @@
-use Rattle.say_text.proofs.Saying.{by_one, stop_all, then_all}
+use Rattle.say_text.proofs.Saying.{by_one}
 use Rattle.std.proofs.Common.{refl}
+use Rattle.outside.proofs.Writing.{stop_all, then_all}
 use Rattle.say_text.proofs.pieces.put_both.Goals as goal
 
 pub returns-in_err-put_all-clause-writes : goal.returns-in_err-put_all-clause-writes

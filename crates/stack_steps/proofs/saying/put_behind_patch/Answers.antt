@@ -1,7 +1,6 @@
 use Rattle.std.proofs.Common.{◌≡◌, ℕ, List, ◌∷◌, ◌++◌, codes, ap, ◌∙◌}
-use Rattle.outside.proofs.Writing.{writes_is}
+use Rattle.outside.proofs.Writing.{writes_is, stop_all, then_all}
 use Rattle.stack_law.specs.Outcomes.{tally}
-use Rattle.stack_steps.proofs.Writes.{stop_all, then_all}
 use Rattle.stack_steps.proofs.saying.put_behind_patch.Goals as goal
 
 pub returns-in_err-put_all-clause-writes : goal.returns-in_err-put_all-clause-writes

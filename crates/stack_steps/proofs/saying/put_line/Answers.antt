@@ -1,5 +1,5 @@
 use Rattle.std.proofs.Common.{[], ◌∷◌}
-use Rattle.stack_steps.proofs.Writes.{stop_all, then_all}
+use Rattle.outside.proofs.Writing.{stop_all, then_all}
 use Rattle.stack_steps.proofs.saying.put_line.Goals as goal
 
 pub returns-in_err-put_all-clause-writes : goal.returns-in_err-put_all-clause-writes

@@ -1,6 +1,6 @@
 use Rattle.std.proofs.Common.{◌∷◌, ◌++◌, codes}
 use Rattle.stack_law.specs.Outcomes.{tally}
-use Rattle.stack_steps.proofs.Writes.{stop_all, then_all}
+use Rattle.outside.proofs.Writing.{stop_all, then_all}
 use Rattle.stack_steps.proofs.saying.say_rejected.Goals as goal
 
 pub returns-in_err-put_all-clause-writes : goal.returns-in_err-put_all-clause-writes
