@@ -8,7 +8,7 @@ use Rattle.patch_set.specs.Refusals.{is_too_long, refusal, refusal_of}
 use Rattle.patch_set.specs.SetView.{SetView, IsRead}
 use Rattle.patch_set.specs.declared.fault.SetFault.TheVariants as faults
 use Rattle.patch_text.specs.Patches.{patches_of}
-use Rattle.std.specs.Prelude.{if◌then◌else◌, Option, Some}
+use Rattle.std.specs.Prelude.{if◌then◌else◌, Some}
 use Rattle.filter_run.specs.Texts.{defaults, dry_defaults}
 
 pub read-alike : (given : List ℕ) (v : SetView) → IsRead dry_defaults given v → IsRead defaults given v
