@@ -10,3 +10,4 @@ pub mod PartNames
 pub mod Parting
 pub mod SplitRun
 pub mod InForm
+mod DryReading

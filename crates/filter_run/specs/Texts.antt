@@ -27,6 +27,10 @@ use Rattle.tool_words.specs.declared.jobs.GrepOut.TheVariants.{Names, Hunks, Fil
 abbrev pub defaults : PlainOptions
 defaults = options_of []
 
+-- the same in a dry run, of which no set knows
+abbrev pub dry_defaults : PlainOptions
+dry_defaults = record defaults { dry_run = true }
+
 -- the file patches that were read; a text that is refused has none
 abbrev pub read_patches : Result (List PlainPatch) Fault → List PlainPatch
 read_patches (Ok ps) = ps

@@ -3,7 +3,7 @@ ghost use Rattle.std.specs.Prelude.{◌≡◌, IfOk};
 ghost use Rattle.patch_options.specs.PlainJob.{plain_options, IsLawful};
 ghost use Rattle.patch_set.specs.Refusals.{refusal};
 ghost use Rattle.patch_set.specs.SetView.{IsRead, IsWhole, Meets};
-ghost use Rattle.filter_run.specs.Texts.{defaults};
+ghost use Rattle.filter_run.specs.Texts.{defaults, dry_defaults};
 
 use patch_options::{Input, Options, PlanKind};
 use patch_set::{PatchSet, SetFault, read_set};
@@ -18,9 +18,9 @@ pub fn read_plain(alloc: Global, text: Vec<u8>) -> Result<PatchSet, SetFault>
     read_set(alloc, text, &default_options())
 }
 
-/// What `patch` alone asks for.
+/// What `patch` alone asks for, in a dry run: the set is the same, without the room that a run needs for its marks.
 fn default_options() -> Options
-    ensures options { plain_options result ≡ defaults }
+    ensures options { plain_options result ≡ dry_defaults }
     ensures lawful { IsLawful (plain_options result) }
 {
     Options {
@@ -47,7 +47,7 @@ fn default_options() -> Options
         define: None,
         posix: false,
         skip_binary: false,
-        dry_run: false,
+        dry_run: true,
         silent: false,
         verbose: false,
         plan: PlanKind::Auto,

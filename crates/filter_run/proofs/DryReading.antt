@@ -1,0 +1,30 @@
+-- A set that is read for a dry run is the one that is read for any other.
+use Rattle.std.proofs.Common.{◌≡◌, ℕ, List, Result, Ok, Err, refl, ap}
+use Rattle.hunk_core.specs.Reading.{Fault}
+use Rattle.line_list.specs.Completed.{completed}
+use Rattle.file_patch.specs.PlainPatch.{PlainPatch}
+use Rattle.patch_set.specs.Asked.{ways_of}
+use Rattle.patch_set.specs.Refusals.{is_too_long, refusal, refusal_of}
+use Rattle.patch_set.specs.SetView.{SetView, IsRead}
+use Rattle.patch_set.specs.declared.fault.SetFault.TheVariants as faults
+use Rattle.patch_text.specs.Patches.{patches_of}
+use Rattle.std.specs.Prelude.{if◌then◌else◌, Some}
+use Rattle.filter_run.specs.Texts.{defaults, dry_defaults}
+
+pub read-alike : (given : List ℕ) (v : SetView) → IsRead dry_defaults given v → IsRead defaults given v
+read-alike given v h = record {
+  text = h.text;
+  ways = h.ways;
+  patches = h.patches;
+  regions = h.regions;
+  spans = h.spans;
+  skipped = h.skipped;
+  names = record { targets = h.names.targets; output = h.names.output; few = h.names.few; fit = h.names.fit; output_fit = h.names.output_fit };
+}
+
+of-alike : (text : List ℕ) (r : Result (List PlainPatch) Fault) → refusal_of dry_defaults text r ≡ refusal_of defaults text r
+of-alike text (Ok ps) = refl
+of-alike text (Err f) = refl
+
+pub refused-alike : (text : List ℕ) → refusal dry_defaults text ≡ refusal defaults text
+refused-alike text = ap (λ r. if is_too_long text then Some faults.TooLong else r) (of-alike text (patches_of (ways_of defaults) (completed text)))
