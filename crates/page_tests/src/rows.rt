@@ -66,7 +66,18 @@ fn wrong_of(text: &str) -> Wrong {
     }
 }
 
-/// What comes of the file with these lines, where so many reads of the scratch come right, and how many bytes the scratch has then.
+/// A file with these lines, and with others when it is read a second time.
+fn file_of(alloc: Global, lines: &str) -> Result<ChangingFile, AllocError> {
+    let (first, others) = lines.split_once(" / ").unwrap_or((lines, ""));
+    Ok(ChangingFile {
+        first: lines_of(alloc, first)?,
+        others: lines_of(alloc, others)?,
+        begun: 0,
+        faults: 0,
+    })
+}
+
+/// What comes of it, where so many reads of the scratch come right, and how many bytes the scratch has then.
 fn answered(
     alloc: Global,
     plan: &str,
@@ -74,13 +85,7 @@ fn answered(
     lines: &str,
     right: u64,
 ) -> Result<(String, usize), AllocError> {
-    let (first, others) = lines.split_once(" / ").unwrap_or((lines, lines));
-    let mut file = ChangingFile {
-        first: lines_of(alloc, first)?,
-        others: lines_of(alloc, others)?,
-        begun: 0,
-        faults: 0,
-    };
+    let mut file = file_of(alloc, lines)?;
     let scratch = SpoilingScratch {
         inner: MemScratch::new(alloc, Vec::new(alloc)),
         wrong,
@@ -88,38 +93,37 @@ fn answered(
         faults: 0,
         reads: 0,
     };
-    let (text, scratch) = if plan == "b" {
-        by_padded(alloc, &mut file, scratch)?
+    if plan == "b" {
+        by_padded(alloc, &mut file, scratch)
     } else {
-        by_packed(alloc, &mut file, scratch)?
-    };
-    Ok((text, scratch.inner.bytes().len()))
-}
-
-/// Whether this is the answer of a row, and so many bytes are left in the scratch, where the row says how many.
-fn is_answer(answer: &str, text: &str, kept: usize) -> bool {
-    match answer.strip_prefix(text) {
-        Some(rest) => rest.is_empty() || rest.trim().parse().unwrap_or(0) == kept,
-        None => false,
+        by_packed(alloc, &mut file, scratch)
     }
 }
 
-/// Whether a row is so. What comes back wrong is found at each read that it comes at, until as many come right as are made.
+/// Whether a row is so by what came with so many right reads; `None` where more are to come right. What comes back wrong is found at
+/// each read that it comes at, until as many come right as are made. A row can say how many bytes are left in the scratch.
+fn judged(answer: &str, right: u64, text: &str, kept: usize) -> Option<bool> {
+    let is_found = answer.starts_with("Err");
+    if is_found && text == "Ok((0, None))" {
+        return Some(right > 1);
+    }
+    match answer.strip_prefix(text) {
+        Some("") if is_found => None,
+        Some("") => Some(true),
+        Some(rest) => Some(rest.trim().parse().unwrap_or(0) == kept),
+        None => Some(false),
+    }
+}
+
+/// Whether a row is so.
 fn is_so(alloc: Global, row: &str) -> Result<bool, AllocError> {
     let (front, answer) = row.split_once(" = ").unwrap_or((row, ""));
     let (plan, front) = front.split_once(' ').unwrap_or(("", ""));
     let (wrong, lines) = front.split_once(' ').unwrap_or(("", ""));
-    let is_found = answer.starts_with("Err");
     for right in 0..64 {
         let (text, kept) = answered(alloc, plan, wrong_of(wrong), lines, right)?;
-        if is_found && text.as_str() == "Ok((0, None))" {
-            return Ok(right > 1);
-        }
-        if !is_answer(answer, text.as_str(), kept) {
-            return Ok(false);
-        }
-        if !is_found {
-            return Ok(true);
+        if let Some(is_so) = judged(answer, right, text.as_str(), kept) {
+            return Ok(is_so);
         }
     }
     Ok(false)

@@ -40,16 +40,16 @@ fn taken<P: Plan>(
     }
 }
 
-/// The same of padded pages, and the scratch behind it.
+/// The same of padded pages, and how many bytes are in the scratch behind it.
 pub fn by_padded(
     alloc: Global,
     file: &mut ChangingFile,
     scratch: SpoilingScratch,
-) -> Result<(String, SpoilingScratch), AllocError> {
+) -> Result<(String, usize), AllocError> {
     let mut plan = PlanB::new(PagePair::new(alloc, 512)?, scratch);
     let text = taken(alloc, &mut plan, file)?;
     let (_pair, scratch) = plan.into_parts();
-    Ok((text, scratch))
+    Ok((text, scratch.inner.bytes().len()))
 }
 
 /// And of packed ones.
@@ -57,9 +57,9 @@ pub fn by_packed(
     alloc: Global,
     file: &mut ChangingFile,
     scratch: SpoilingScratch,
-) -> Result<(String, SpoilingScratch), AllocError> {
+) -> Result<(String, usize), AllocError> {
     let mut plan = PackedB::new(PagePair::new(alloc, 512)?, scratch);
     let text = taken(alloc, &mut plan, file)?;
     let (_pair, scratch) = plan.into_parts();
-    Ok((text, scratch))
+    Ok((text, scratch.inner.bytes().len()))
 }

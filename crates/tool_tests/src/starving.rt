@@ -1,9 +1,9 @@
 //! A run of `patch`: what it leaves of its file, whatever memory it is refused.
 
-use mem_world::{MemScratch, MemSink, MemSource, MemTree, PlainFinder};
+use mem_world::{MemScratch, MemSink, MemSource, MemTree};
 use outside::Name;
+use patch_cli::{Why, run};
 use std::alloc::{AllocError, Global};
-use tool_run::{Why, run};
 
 const WORDS: &str = "patch -b --plan=b --buffer=512";
 
@@ -35,13 +35,6 @@ const HALF: &[u8] = b"a\nB\nc\n";
 
 const NEW: &[u8] = b"A\nB\nc\n";
 
-fn name_of(alloc: Global, text: &[u8]) -> Result<Name, AllocError> {
-    match Name::new(alloc, text) {
-        Ok(name) => Ok(name),
-        Err(_) => Err(AllocError),
-    }
-}
-
 /// Runs the words, and answers why the run ended.
 fn ended(alloc: Global, tree: &mut MemTree, out: &mut MemSink) -> Result<Why, AllocError> {
     let mut words = Vec::new(alloc);
@@ -55,7 +48,6 @@ fn ended(alloc: Global, tree: &mut MemTree, out: &mut MemSink) -> Result<Why, Al
         &words,
         tree,
         scratch,
-        &mut PlainFinder::new(),
         &mut MemSource::new(alloc, input, Vec::new(alloc)),
         out,
         &mut MemSink::new(alloc, Vec::new(alloc)),
@@ -63,42 +55,45 @@ fn ended(alloc: Global, tree: &mut MemTree, out: &mut MemSink) -> Result<Why, Al
     Ok(exit.why)
 }
 
-/// Whether a run may leave these bytes of the file and of its backup.
-fn is_left(file: Option<&[u8]>, backup: Option<&[u8]>) -> bool {
-    match (file, backup) {
-        (Some(file), None) => file == OLD,
-        (Some(file), Some(backup)) => {
-            backup == OLD && (file == OLD || file == HALF || file == NEW)
-        }
-        _ => false,
-    }
-}
-
-/// Whether a run can end so that has written and left this: all of it, or a first part where memory was refused.
-fn is_well(why: Why, out: &[u8], file: Option<&[u8]>, backup: Option<&[u8]>) -> bool {
-    match why {
-        Why::Done => out == TEXT && file == Some(NEW) && backup == Some(OLD),
-        Why::Memory | Why::TreeFault | Why::ScratchFault | Why::WriteFault => {
-            TEXT.starts_with(out) && is_left(file, backup)
-        }
-        _ => false,
-    }
-}
-
-/// Whether the run ends well; of no interest where what is beside it wants memory.
-fn ends_well(alloc: Global) -> Result<bool, AllocError> {
+/// The file alone.
+fn tree_of(alloc: Global) -> Result<MemTree, AllocError> {
     let mut tree = MemTree::new(alloc, Vec::new(alloc));
-    tree.add(name_of(alloc, b"f")?, Vec::from_slice(alloc, OLD)?)?;
+    match Name::new(alloc, b"f") {
+        Ok(name) => tree.add(name, Vec::from_slice(alloc, OLD)?)?,
+        Err(_) => return Err(AllocError),
+    }
+    Ok(tree)
+}
+
+/// Whether a file has these bytes; of no interest where the look at it wants memory.
+fn is_file(alloc: Global, tree: &MemTree, name: &[u8], bytes: &[u8]) -> bool {
+    match Name::new(alloc, name) {
+        Ok(name) => tree.bytes_of(&name) == Some(bytes),
+        Err(_) => true,
+    }
+}
+
+/// Whether a run can end so that has left and written this: all of it, or a first part where memory was refused.
+fn is_well(alloc: Global, why: Why, tree: &MemTree, out: &[u8]) -> bool {
+    let is_old = is_file(alloc, tree, b"f", OLD);
+    let is_half = is_file(alloc, tree, b"f", HALF);
+    let is_new = is_file(alloc, tree, b"f", NEW);
+    let is_kept = is_file(alloc, tree, b"f.orig", OLD);
+    match why {
+        Why::Done => is_new && is_kept && out == TEXT,
+        Why::Memory | Why::TreeFault | Why::ScratchFault | Why::WriteFault => {
+            (is_old || is_kept && (is_half || is_new)) && TEXT.starts_with(out)
+        }
+        _ => false,
+    }
+}
+
+/// Whether the run ends well.
+fn ends_well(alloc: Global) -> Result<bool, AllocError> {
+    let mut tree = tree_of(alloc)?;
     let mut out = MemSink::new(alloc, Vec::new(alloc));
     let why = ended(alloc, &mut tree, &mut out)?;
-    let file = name_of(alloc, b"f")?;
-    let backup = name_of(alloc, b"f.orig")?;
-    Ok(is_well(
-        why,
-        out.bytes(),
-        tree.bytes_of(&file),
-        tree.bytes_of(&backup),
-    ))
+    Ok(is_well(alloc, why, &tree, out.bytes()))
 }
 
 // tests/starved runs this alone, with each allocation refused in turn.

@@ -6,11 +6,12 @@ use std::alloc::{AllocError, Global};
 use tool_words::read_tool_words;
 
 /// What `patch` alone gives.
-const PLAIN: &str = "Ok(Options { only: None, strip: None, fuzz: 2, reverse: false, force: false, \
+const PLAIN: &str =
+    "Ok(Patch(Options { only: None, strip: None, fuzz: 2, reverse: false, force: false, \
     batch: false, forward: false, loose: false, remove_empty: false, backup: false, \
     mismatch_backup: true, suffix: None, prefix: None, dir: None, file: None, \
     input: Standard, output: None, reject: None, no_rejects: false, reject_form: None, \
-    define: None, posix: false, skip_binary: false, dry_run: false, silent: false, verbose: false, plan: Auto, buffer: 65536 })";
+    define: None, posix: false, skip_binary: false, dry_run: false, silent: false, verbose: false, plan: Auto, buffer: 65536 }))";
 
 /// What the words of a row give.
 fn answer(alloc: Global, row: &str) -> Result<String, AllocError> {
@@ -33,8 +34,8 @@ fn is_told(answer: &str, wanted: &str) -> bool {
     let mut left = wanted;
     for field in answer.split(", ") {
         let field = field
-            .trim_start_matches("Ok(Options { ")
-            .trim_end_matches(" })");
+            .trim_start_matches("Ok(Patch(Options { ")
+            .trim_end_matches(" }))");
         match left.strip_prefix(field) {
             Some(rest) => left = rest.trim_start_matches(", "),
             None if PLAIN.contains(field) => {}
