@@ -31,6 +31,7 @@ test:
 	@sh tests/rows $(BIN)
 	@sh tests/filters $(BIN)
 	@sh tests/killed $(BIN)
+	@sh tests/failing $(BIN)
 	@sh tests/commands $(BIN)
 	@sh tests/beside_patchutils $(BIN)
 	@sh tests/pages $(BIN) $(TOOLS)

@@ -1,4 +1,4 @@
-//! A set and its parts, true counts, and the file patches of a git header.
+//! A set, and the file patches of a git header.
 
 ghost use Rattle.patch_options.specs.PlainJob.{plain_options, IsLawful};
 
@@ -7,7 +7,6 @@ use patch_header::Ways;
 use patch_options::{Input, Options, PlanKind};
 use patch_set::{PatchSet, read_set};
 use patch_text::read_patches;
-use split_recount::{recount, split_parts};
 use std::alloc::{AllocError, Global};
 
 /// Whether a text was made, and is the wanted one.
@@ -31,29 +30,21 @@ fn renamed_told(alloc: Global) -> Result<String, AllocError> {
     format!(in alloc; "{:?}", read_patches(alloc, text, ways))
 }
 
-fn is_counted(alloc: Global) -> bool {
-    match recount(alloc, b"@@ -04,2 +9,9 @@ fn f()\n-a\n+b") {
-        Ok(bytes) => bytes.as_slice() == b"@@ -4 +4 @@ fn f()\n-a\n+b\n".as_slice(),
-        Err(_) => false,
-    }
-}
-
 /// Two file patches, of which the second one's file is the first one's second target.
 const TEXT: &str = "--- f\n+++ g\n@@ -1 +1 @@\n-a\n+b\n--- g\n+++ g\n@@ -1 +1 @@\n-a\n+b\n";
 
 const SET: &str =
-    "Span { start: 0, end: 30 } [Span { start: 12, end: 30 }] Span { start: 30, end: 60 } [Span { start: 42, end: 60 }] [Untried, Untried] Ok([Span { start: 0, end: 30 }, Span { start: 30, end: 60 }])";
+    "Span { start: 0, end: 30 } [Span { start: 12, end: 30 }] Span { start: 30, end: 60 } [Span { start: 42, end: 60 }] [Untried, Untried]";
 
 fn set_told(alloc: Global, set: &PatchSet) -> Result<String, AllocError> {
     match set.patches() {
         [first, second] => format!(in alloc;
-            "{:?} {:?} {:?} {:?} {:?} {:?}",
+            "{:?} {:?} {:?} {:?} {:?}",
             first.span,
             first.hunk_spans,
             second.span,
             second.hunk_spans,
-            set.verdicts(),
-            split_parts(alloc, set, true)
+            set.verdicts()
         ),
         _ => Err(AllocError),
     }
@@ -117,6 +108,5 @@ fn goes_by_options(alloc: Global) -> bool {
 #[test]
 fn sets_are_read(rt: HostRuntime) {
     assert!(rt; is_told(renamed_told(rt.alloc()), RENAMED));
-    assert!(rt; is_counted(rt.alloc()));
     assert!(rt; goes_by_options(rt.alloc()));
 }

@@ -1,0 +1,11 @@
+//! Tests of the plans over pages: a file that changes while it is taken, and a scratch that gives its bytes back cut or changed.
+#![tactic(auto)]
+
+#[cfg(test)]
+mod changing;
+#[cfg(test)]
+mod rows;
+#[cfg(test)]
+mod spoiling;
+#[cfg(test)]
+mod taking;
