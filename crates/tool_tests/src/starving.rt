@@ -1,64 +1,88 @@
-//! A run of `patch`: what it leaves of its file, whatever memory it is refused.
+//! A run of `patchgen 7 1 20 --plan=b --buffer=512`: what it leaves of its file, whatever memory it is refused.
 
-use mem_world::{MemScratch, MemSink, MemSource, MemTree};
+use gen_cli::run_gen;
+use mem_world::{MemScratch, MemSink, MemTree};
 use outside::Name;
-use patch_cli::{Why, run};
+use patch_options::PlanKind;
+use run_answers::Why;
 use std::alloc::{AllocError, Global};
+use tool_words::GenJob;
 
-const WORDS: &str = "patch -b --plan=b --buffer=512";
+const TEXT: &[u8] = b"files 1 hunks 1 applied 1 moved 1 bytes 276 status 0\n";
 
-/// Two file patches for one file, in two forms.
-const INPUT: &[u8] = b"--- f
-+++ f
-@@ -1,3 +1,3 @@
- a
--b
-+B
- c
-*** f
---- f
-***************
-*** 1,2 ****
-! a
-  B
---- 1,2 ----
-! A
-  B
+/// What stands in the place of the file before the run.
+const OLD: &[u8] = b"something else\n";
+
+/// The file that a script written apart from this program makes from the seed 7.
+const MADE: &[u8] = b"extra 00001
+extra 00002
+extra 00003
+0000001 231
+0000002 753
+0000003 673
+0000004 545
+0000005 219
+0000006 864
+0000007 764
+0000008 739
+0000009 686
+0000010 195
+0000011 075
+0000012 632
+0000013 280
+0000014 949
+0000015 962
+0000016 405
+0000017 899
+0000018 796
+0000019 951
+0000020 936
 ";
 
-const TEXT: &[u8] = b"patching file f\npatching file f\n";
+/// The same as GNU patch leaves it.
+const PATCHED: &[u8] = b"extra 00001
+extra 00002
+extra 00003
+0000001 231
+0000002 753
+0000003 673
+0000004 545
+0000005 219
+0000006 864
+0000007 764
+0000008 739
+0000009 686
+new 0000010
+0000011 075
+0000012 632
+0000013 280
+0000014 949
+0000015 962
+0000016 405
+0000017 899
+0000018 796
+0000019 951
+0000020 936
+";
 
-/// The file before the run, behind the first file patch, and behind both.
-const OLD: &[u8] = b"a\nb\nc\n";
-
-const HALF: &[u8] = b"a\nB\nc\n";
-
-const NEW: &[u8] = b"A\nB\nc\n";
-
-/// Runs the words, and answers why the run ended.
-fn ended(alloc: Global, tree: &mut MemTree, out: &mut MemSink) -> Result<Why, AllocError> {
-    let mut words = Vec::new(alloc);
-    for word in WORDS.split(' ') {
-        words.push(String::from_str(alloc, word)?)?;
-    }
-    let input = Vec::from_slice(alloc, INPUT)?;
+/// Runs the job, and answers why the run ended. A page of 512 bytes has the file's 23 records of 16 bytes each.
+fn ended(alloc: Global, tree: &mut MemTree, out: &mut MemSink) -> Why {
+    let job = GenJob {
+        seed: 7,
+        files: 1,
+        lines: 20,
+        plan: PlanKind::Padded,
+        buffer: 512,
+    };
     let scratch = MemScratch::new(alloc, Vec::new(alloc));
-    let (exit, _scratch) = run(
-        alloc,
-        &words,
-        tree,
-        scratch,
-        &mut MemSource::new(alloc, input, Vec::new(alloc)),
-        out,
-        &mut MemSink::new(alloc, Vec::new(alloc)),
-    );
-    Ok(exit.why)
+    let (exit, _scratch) = run_gen(alloc, job, tree, scratch, out);
+    exit.why
 }
 
-/// The file alone.
+/// What stands in the place of the file.
 fn tree_of(alloc: Global) -> Result<MemTree, AllocError> {
     let mut tree = MemTree::new(alloc, Vec::new(alloc));
-    match Name::new(alloc, b"f") {
+    match Name::new(alloc, b"gen/f1") {
         Ok(name) => tree.add(name, Vec::from_slice(alloc, OLD)?)?,
         Err(_) => return Err(AllocError),
     }
@@ -75,14 +99,14 @@ fn is_file(alloc: Global, tree: &MemTree, name: &[u8], bytes: &[u8]) -> bool {
 
 /// Whether a run can end so that has left and written this: all of it, or a first part where memory was refused.
 fn is_well(alloc: Global, why: Why, tree: &MemTree, out: &[u8]) -> bool {
-    let is_old = is_file(alloc, tree, b"f", OLD);
-    let is_half = is_file(alloc, tree, b"f", HALF);
-    let is_new = is_file(alloc, tree, b"f", NEW);
-    let is_kept = is_file(alloc, tree, b"f.orig", OLD);
+    let is_old = is_file(alloc, tree, b"gen/f1", OLD);
+    let is_made = is_file(alloc, tree, b"gen/f1", MADE);
+    let is_patched = is_file(alloc, tree, b"gen/f1", PATCHED);
+    let is_kept = is_file(alloc, tree, b"gen/f1.orig", MADE);
     match why {
-        Why::Done => is_new && is_kept && out == TEXT,
+        Why::Done => is_patched && is_kept && out == TEXT,
         Why::Memory | Why::TreeFault | Why::ScratchFault | Why::WriteFault => {
-            (is_old || is_kept && (is_half || is_new)) && TEXT.starts_with(out)
+            (is_old || is_made || is_patched && is_kept) && TEXT.starts_with(out)
         }
         _ => false,
     }
@@ -92,7 +116,7 @@ fn is_well(alloc: Global, why: Why, tree: &MemTree, out: &[u8]) -> bool {
 fn ends_well(alloc: Global) -> Result<bool, AllocError> {
     let mut tree = tree_of(alloc)?;
     let mut out = MemSink::new(alloc, Vec::new(alloc));
-    let why = ended(alloc, &mut tree, &mut out)?;
+    let why = ended(alloc, &mut tree, &mut out);
     Ok(is_well(alloc, why, &tree, out.bytes()))
 }
 

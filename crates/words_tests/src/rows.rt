@@ -26,23 +26,25 @@ fn answer(alloc: Global, row: &str) -> Result<String, AllocError> {
     }
 }
 
-/// Whether an answer is what a row says. One of `patch` has the row's fields, in their order, and otherwise the plain ones.
+/// Whether one of two texts has each of these fields.
+fn are_among(fields: &str, first: &str, second: &str) -> bool {
+    for field in fields.split(", ") {
+        let field = field
+            .trim_start_matches("Ok(Patch(Options { ")
+            .trim_end_matches(" }))");
+        if !first.contains(field) && !second.contains(field) {
+            return false;
+        }
+    }
+    true
+}
+
+/// Whether an answer is what a row says. One of `patch` has the row's fields, and otherwise the plain ones.
 fn is_told(answer: &str, wanted: &str) -> bool {
     if answer == wanted {
         return true;
     }
-    let mut left = wanted;
-    for field in answer.split(", ") {
-        let field = field
-            .trim_start_matches("Ok(Patch(Options { ")
-            .trim_end_matches(" }))");
-        match left.strip_prefix(field) {
-            Some(rest) => left = rest.trim_start_matches(", "),
-            None if PLAIN.contains(field) => {}
-            None => return false,
-        }
-    }
-    left.is_empty()
+    are_among(answer, PLAIN, wanted) && are_among(wanted, answer, answer)
 }
 
 /// Whether a row is so.
