@@ -1,5 +1,5 @@
 -- What the filters write of a text that is read as `patch` reads it without options: told by the text alone (manual pages of patchutils).
-use Rattle.std.specs.Prelude.{ℕ, Bool, ◌==◌, filter, List, [], ◌++◌, codes, length, map, slice_range, if◌then◌else◌, Result, Ok, Err}
+use Rattle.std.specs.Prelude.{ℕ, Bool, true, ◌==◌, filter, List, [], ◌++◌, codes, length, map, slice_range, if◌then◌else◌, Result, Ok, Err}
 use Rattle.std.specs.List.{flat_map, list_any, zip}
 use Rattle.line_list.specs.Completed.{completed}
 use Rattle.line_list.specs.declared.Span.{Span}
