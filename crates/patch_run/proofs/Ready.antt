@@ -14,7 +14,7 @@ use Rattle.patch_options.specs.PlainJob.{PlainOptions, IsLawful}
 use Rattle.target_names.specs.declared.derived.Target.{Target}
 use Rattle.target_names.specs.Targets.{below, shown_from, reject_name}
 use Rattle.patch_set.specs.Named.{known_names, names_of, target_in, targets_of}
-use Rattle.patch_set.specs.SetView.{SetView, IsWhole, IsRead, hunks_in, plain_patches, with_verdicts}
+use Rattle.patch_set.specs.SetView.{SetView, IsWhole, IsRead, hunks_in, plain_patches, with_verdicts, without_marks}
 use Rattle.patch_set.specs.SetView as of_set
 use Rattle.patch_set.specs.Spans.{ArePlaced}
 use Rattle.patch_run.specs.Doing.{StaysSet}
@@ -103,7 +103,7 @@ ready_still o old new stays rows was = record {
 }
 
 -- a set is read whatever its verdicts are
-pub read_still : (o : PlainOptions) (given : List ℕ) (v : SetView) (vs : List Verdict) → IsRead o given v → IsRead o given (with_verdicts v vs)
+pub read_still : (o : PlainOptions) (given : List ℕ) (v : SetView) (vs : List Verdict) → IsRead o given v → IsRead o given (without_marks (with_verdicts v vs))
 read_still o given v vs read = record {
   text = read.text;
   ways = read.ways;

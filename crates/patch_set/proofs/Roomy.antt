@@ -9,6 +9,7 @@ use Rattle.name_marks.specs.Marked.{has_room, is_marked}
 use Rattle.name_marks.specs.declared.marks.NameMarks.{NameMarks}
 use Rattle.target_names.specs.declared.derived.Target.{Target}
 use Rattle.patch_set.specs.Room.{AreBlank, AreUnmarked, GivesRoom, HasRoom, HaveRoom}
+use Rattle.patch_set.specs.SetView.{SetView, IsWhole}
 
 pub gives-none : (n : NameMarks) → GivesRoom n n
 gives-none n = record { same = λ q. refl; room = λ q is. is }
@@ -56,4 +57,16 @@ pub some-blank : (ps : List FilePatch) (out : Option Target) (n : NameMarks) →
 some-blank ps out n unmarked room = record {
   unmarked = λ m is. subst AreUnmarked (same_Some n m is) unmarked;
   room = λ m is. subst (λ (x : NameMarks). HaveRoom ps out x) (same_Some n m is) room;
+}
+
+-- a set is whole with marks and without
+pub whole-still : (v : SetView) (has : Bool) → IsWhole v → IsWhole (record v { has_marks = has })
+whole-still v has whole = record {
+  lawful = whole.lawful;
+  regions = whole.regions;
+  placed = whole.placed;
+  count = whole.count;
+  hunks = whole.hunks;
+  rows = whole.rows;
+  skipped = whole.skipped;
 }

@@ -1,5 +1,5 @@
 -- What a set of file patches is seen as, and what one that was read is.
-use Rattle.std.specs.Prelude.{◌≡◌, ℕ, ◌<◌, ◌^◌, List, length, map, take, drop, replicate, set, slice_get, sum_by, All, false, Option, None, Result, Ok, Err, ◌⊎◌}
+use Rattle.std.specs.Prelude.{◌≡◌, ℕ, ◌<◌, ◌^◌, List, length, map, take, drop, replicate, set, slice_get, sum_by, All, Bool, false, Option, None, Result, Ok, Err, ◌⊎◌}
 use Rattle.std.specs.Option.{ForSome}
 use Rattle.line_list.specs.Completed.{completed}
 use Rattle.hunk_core.specs.declared.Side.TheVariants.{Forward}
@@ -34,6 +34,8 @@ pub record SetView : Type 0 where
   pub verdicts : List Verdict
   -- one for each file patch
   pub rows : List Row
+  -- marks at the names that a run can make or take away are there to be handed out
+  pub has_marks : Bool
 
 -- how many hunks the file patches have
 abbrev pub hunks_in : List FilePatch → ℕ
@@ -112,9 +114,12 @@ abbrev pub Meets : {X : Type 0} → Option SetFault → Result X SetFault → Ty
 Meets refused (Ok x) = refused ≡ None
 Meets refused (Err e) = (e ≡ Memory) ⊎ (refused ≡ Option.Some e)
 
--- the same set with another row for a file patch, or with these verdicts
+-- the same set with another row for a file patch, with these verdicts, or once its marks were handed out
 abbrev pub with_row : SetView → ℕ → Row → SetView
-with_row v patch row = record { text = v.text; ways = v.ways; patches = v.patches; output = v.output; skipped = v.skipped; verdicts = v.verdicts; rows = set v.rows patch row }
+with_row v patch row = record v { rows = set v.rows patch row }
 
 abbrev pub with_verdicts : SetView → List Verdict → SetView
-with_verdicts v verdicts = record { text = v.text; ways = v.ways; patches = v.patches; output = v.output; skipped = v.skipped; verdicts = verdicts; rows = v.rows }
+with_verdicts v verdicts = record v { verdicts = verdicts }
+
+abbrev pub without_marks : SetView → SetView
+without_marks v = record v { has_marks = false }

@@ -10,7 +10,7 @@ ghost use Rattle.target_names.specs.Numbered.{is_among};
 ghost use Rattle.patch_set.specs.declared.set.Row.{Row};
 ghost use Rattle.patch_set.specs.Named.{known_names, patch_names, target_in};
 ghost use Rattle.patch_set.specs.OneView.{AreOne};
-ghost use Rattle.patch_set.specs.SetView.{SetView, IsRead, IsWhole, with_row, with_verdicts};
+ghost use Rattle.patch_set.specs.SetView.{SetView, IsRead, IsWhole, with_row, with_verdicts, without_marks};
 ghost use Rattle.patch_text.specs.Spelled.{spelled_in, spelled_of};
 
 /// Two targets of a run, the output's among them, have the same number exactly where they have the same name; of one that is
@@ -26,10 +26,11 @@ pub fn numbers_tell_targets_apart()
         → (target_in o (known_names o ps) one).number ≡ (target_in o (known_names o ps) other).number }
 {}
 
-/// What was read stays whatever is noted of the file patches and their hunks.
+/// What was read stays whatever is noted of the file patches and their hunks, and once the marks were handed out.
 pub fn what_was_read_stays()
     ensures rows { (o : PlainOptions) (given : List ℕ) (v : SetView) (patch : ℕ) (row : Row) → IsRead o given v → IsRead o given (with_row v patch row) }
     ensures verdicts { (o : PlainOptions) (given : List ℕ) (v : SetView) (verdicts : List Verdict) → IsRead o given v → IsRead o given (with_verdicts v verdicts) }
+    ensures marks { (o : PlainOptions) (given : List ℕ) (v : SetView) → IsRead o given v → IsRead o given (without_marks v) }
 {}
 
 /// A text that is read twice for the same options gives the same file patches, at the same places, with the same verdict rows and targets.

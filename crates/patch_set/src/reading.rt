@@ -5,6 +5,7 @@ ghost use Rattle.file_patch.specs.PlainPatch.{patch_of};
 ghost use Rattle.patch_options.specs.PlainJob.{plain_options, IsLawful};
 ghost use Rattle.patch_set.specs.Asked.{ways_of};
 ghost use Rattle.patch_set.specs.Fresh.{AreWhole};
+ghost use Rattle.patch_set.specs.Room.{are_asked};
 ghost use Rattle.patch_set.specs.Refusals.{refusal, refusal_of, reserved};
 ghost use Rattle.patch_set.specs.SetView.{IsRead, IsSetOf, IsFresh, IsWhole, Meets};
 
@@ -31,6 +32,7 @@ pub fn read_set(alloc: Global, text: Vec<u8>, options: &Options) -> Result<Patch
     ensures read { IfOk result (IsRead (plain_options options.now) text.items) }
     ensures fresh { IfOk result IsFresh }
     ensures whole { IfOk result IsWhole }
+    ensures marks { IfOk result (λ set. set.has_marks ≡ are_asked (plain_options options.now)) }
     ensures refused { Meets (refusal (plain_options options.now) text.items) result }
     ensures memory { result ≡ Err SetFault.Memory → length text.items ≤ 268435456 }
 {
@@ -67,6 +69,7 @@ fn set_of(
     ensures set { IfOk result (IsSetOf (plain_options options.now) text.items (map (patch_of text.items) patches.items)) }
     ensures fresh { IfOk result IsFresh }
     ensures whole { IfOk result IsWhole }
+    ensures marks { IfOk result (λ set. set.has_marks ≡ are_asked (plain_options options.now)) }
     ensures refused { Meets (refusal_of (plain_options options.now) text.items (Ok (map (patch_of text.items) patches.items))) result }
 {
     match refused(&text, options, &patches) {
@@ -87,6 +90,7 @@ fn named_set(
     ensures set { IfOk result (IsSetOf (plain_options options.now) text.items (map (patch_of text.items) patches.items)) }
     ensures fresh { IfOk result IsFresh }
     ensures whole { IfOk result IsWhole }
+    ensures marks { IfOk result (λ set. set.has_marks ≡ are_asked (plain_options options.now)) }
     ensures refused { Meets (reserved (plain_options options.now) (map (patch_of text.items) patches.items)) result }
 {
     let named = name_all(alloc, &text, options, patches)?;

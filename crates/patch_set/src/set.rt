@@ -1,12 +1,12 @@
 //! A set of file patches.
-ghost use Rattle.std.specs.Prelude.{◌≡◌, ◌<◌, ◌^◌, [], IfOk, length, map, replicate, slice_index_or};
+ghost use Rattle.std.specs.Prelude.{◌≡◌, ◌<◌, ◌^◌, [], IfOk, is_some, length, map, replicate, slice_index_or};
 ghost use Rattle.std.specs.Option.{ForSome, option_copied};
 ghost use Rattle.hunk_core.specs.declared.Verdict.TheVariants.{Untried};
 ghost use Rattle.file_patch.specs.PlainPatch.{header_of};
 ghost use Rattle.patch_text.specs.Regions.{region_of, regions_of};
 ghost use Rattle.patch_set.specs.PlainName.{plain_name};
 ghost use Rattle.patch_set.specs.Skipped.{skipped_lines};
-ghost use Rattle.patch_set.specs.SetView.{IsWhole, first_row, hunks_in, patch_at, with_row, with_verdicts};
+ghost use Rattle.patch_set.specs.SetView.{IsWhole, first_row, hunks_in, patch_at, with_row, with_verdicts, without_marks};
 ghost use Rattle.patch_set.specs.Fresh.{AreFirst, AreWhole, IsUntried};
 ghost use Rattle.patch_set.specs.Room.{AreUnmarked, HaveRoom};
 
@@ -43,19 +43,20 @@ pub struct PatchSet {
     skipped: Vec<u64>,
     verdicts: Vec<Verdict>,
     rows: Vec<Row>,
-    /// Room for the names that a run makes or takes away. No part of what the set is seen as.
+    /// Room for the names that a run makes or takes away. What the set is seen as says whether it is there.
     marks: Option<NameMarks>,
 }
 
 impl Model for PatchSet {
+    ghost use Rattle.std.specs.Prelude.{is_some};
     ghost use Rattle.patch_set.specs.Room.{AreBlank};
     ghost use Rattle.patch_set.specs.SetView.{SetView, IsWhole};
 
     ghost Value = { SetView };
 
-    ghost view = { λ s. record { text = s.text.items; ways = s.ways; patches = s.patches.items; output = s.output; skipped = s.skipped.items; verdicts = s.verdicts.items; rows = s.rows.items } };
+    ghost view = { λ s. record { text = s.text.items; ways = s.ways; patches = s.patches.items; output = s.output; skipped = s.skipped.items; verdicts = s.verdicts.items; rows = s.rows.items; has_marks = is_some s.marks } };
 
-    ghost invariant = { λ s. IsWhole (record { text = s.text.items; ways = s.ways; patches = s.patches.items; output = s.output; skipped = s.skipped.items; verdicts = s.verdicts.items; rows = s.rows.items }) × AreBlank s.patches.items s.output s.marks };
+    ghost invariant = { λ s. IsWhole (record { text = s.text.items; ways = s.ways; patches = s.patches.items; output = s.output; skipped = s.skipped.items; verdicts = s.verdicts.items; rows = s.rows.items; has_marks = is_some s.marks }) × AreBlank s.patches.items s.output s.marks };
 }
 
 impl PatchSet {
@@ -148,12 +149,12 @@ impl PatchSet {
         self.verdicts = verdicts;
     }
 
-    /// Hands out marks at the names that a run can make or take away, and leaves none. There are none either where no backup
-    /// can be asked for.
+    /// Hands out marks at the names that a run can make or take away, if they are there, and leaves none.
     pub fn take_marks(&mut self) -> Option<NameMarks>
         ensures unmarked { ForSome result AreUnmarked }
         ensures room { ForSome result (HaveRoom self.old.patches self.old.output) }
-        ensures left { self.new ≡ self.old }
+        ensures handed { is_some result ≡ self.old.has_marks }
+        ensures left { self.new ≡ without_marks self.old }
     {
         self.marks.take()
     }
@@ -177,7 +178,8 @@ pub fn untried(
     marks_asked: bool,
 ) -> Result<PatchSet, AllocError>
     requires { AreWhole ways text.items named.patches.items }
-    ensures { IfOk result (IsUntried text.items ways named) }
+    ensures untried { IfOk result (IsUntried text.items ways named) }
+    ensures marks { IfOk result (λ set. set.has_marks ≡ marks_asked) }
 {
     let notes = first_notes(
         alloc,
@@ -194,7 +196,8 @@ pub fn untried(
 fn noted(text: Vec<u8>, ways: Ways, named: Named, notes: Notes) -> PatchSet
     requires whole { AreWhole ways text.items named.patches.items }
     requires notes { AreFirst ways text.items named.patches.items named.output notes }
-    ensures { IsUntried text.items ways named result }
+    ensures untried { IsUntried text.items ways named result }
+    ensures marks { result.has_marks ≡ is_some notes.marks }
 {
     PatchSet {
         text,
@@ -219,7 +222,8 @@ fn first_notes(
 ) -> Result<Notes, AllocError>
     requires regions { map region_of patches.now ≡ regions_of ways text.now }
     requires hunks { hunks_in patches.now < 2 ^ 32 }
-    ensures { IfOk result (AreFirst ways text.now patches.now output.now) }
+    ensures first { IfOk result (AreFirst ways text.now patches.now output.now) }
+    ensures asked { IfOk result (λ notes. is_some notes.marks ≡ marks_asked) }
 {
     let skipped = skipped_lines(alloc, text, ways, patches)?;
     let verdicts = untried_hunks(alloc, hunks_in(patches))?;

@@ -5,7 +5,7 @@ use Rattle.hunk_core.specs.declared.Verdict.{Verdict}
 use Rattle.outside.specs.Files.{Files}
 use Rattle.patch_options.specs.PlainJob.{plain_options}
 use Rattle.patch_set.specs.Room.{HaveRoom}
-use Rattle.patch_set.specs.SetView.{SetView, IsRead}
+use Rattle.patch_set.specs.SetView.{SetView, IsRead, without_marks}
 use Rattle.patch_effects.specs.declared.fault.RunFault.{RunFault}
 use Rattle.patch_run.specs.Devices.{Told}
 use Rattle.patch_run.specs.Run.{items_of, set_run}
@@ -18,7 +18,7 @@ pub apply_all-applied-requires-clause-read : goal.apply_all-applied-requires-cla
 apply_all-applied-requires-clause-read g c =
     let o = plain_options c.args.options.now in
     let given = c.requires.read.0 in
-    (given, subst (λ (s : SetView). IsRead o given s) (sym (c.take_marks-written.ensures.left ∙ c.take_verdicts-verdicts.ensures.left)) (read_still o given c.args.set.now [] c.requires.read.1))
+    (given, subst (λ (s : SetView). IsRead o given s) (sym (c.take_marks-written.ensures.left ∙ ap without_marks c.take_verdicts-verdicts.ensures.left)) (read_still o given c.args.set.now [] c.requires.read.1))
 
 pub apply_all-applied-requires-clause-written : goal.apply_all-applied-requires-clause-written
 apply_all-applied-requires-clause-written g c = c.take_marks-written.ensures.unmarked
@@ -30,7 +30,7 @@ pub returns-clause-runs : goal.returns-clause-runs
 returns-clause-runs g c =
     let o = plain_options c.args.options.now in
     subst (λ (s : SetView). Runs (g.T.Tree.view c.args.tree.now) (g.T.Tree.view c.apply_all-applied.new.tree) (g.P.LineStore.seen c.args.plan.now) (g.P.LineStore.seen c.apply_all-applied.new.plan) (g.O.Sink.view c.args.out.now) (g.O.Sink.view c.apply_all-applied.new.out) g.P.Plan.scratch_after c.apply_all-applied.result (set_run o s))
-    (c.take_marks-written.ensures.left ∙ c.take_verdicts-verdicts.ensures.left)
+    (c.take_marks-written.ensures.left ∙ ap without_marks c.take_verdicts-verdicts.ensures.left)
     c.apply_all-applied.ensures.runs
 
 pub returns-clause-cut : goal.returns-clause-cut
@@ -38,7 +38,7 @@ returns-clause-cut g c =
     let o = plain_options c.args.options.now in
     subst (λ (s : SetView). IfErr c.apply_all-applied.result (λ (e : RunFault). (f : Files) → Told (g.T.Tree.view c.args.tree.now) (g.P.LineStore.seen c.args.plan.now) f
     → IsCutAt e (g.T.Tree.view c.apply_all-applied.new.tree) (g.O.Sink.view c.args.out.now) (g.O.Sink.view c.apply_all-applied.new.out) o s.output (items_of s) f))
-    (c.take_marks-written.ensures.left ∙ c.take_verdicts-verdicts.ensures.left)
+    (c.take_marks-written.ensures.left ∙ ap without_marks c.take_verdicts-verdicts.ensures.left)
     c.apply_all-applied.ensures.cut
 
 pub returns-clause-complete : goal.returns-clause-complete
@@ -57,11 +57,11 @@ returns-clause-receipt g c =
     (subst (λ (l : List Verdict). IfOk ended (λ applied. (f : Files) → Told (g.T.Tree.view c.args.tree.now) (g.P.LineStore.seen c.args.plan.now) f → IsReceipt (set_run o v f) applied (length v.patches) l new.set.rows))
     (sym same)
     (subst (λ (s : SetView). IfOk ended (λ applied. (f : Files) → Told (g.T.Tree.view c.args.tree.now) (g.P.LineStore.seen c.args.plan.now) f → IsReceipt (set_run o s f) applied (length s.patches) new.verdicts new.set.rows))
-    (c.take_marks-written.ensures.left ∙ c.take_verdicts-verdicts.ensures.left)
+    (c.take_marks-written.ensures.left ∙ ap without_marks c.take_verdicts-verdicts.ensures.left)
     c.apply_all-applied.ensures.receipt))
 
 pub returns-clause-done : goal.returns-clause-done
-returns-clause-done g c = subst (λ (s : SetView). IfOk c.apply_all-applied.result (λ applied. applied.done ≡ length s.patches)) (c.take_marks-written.ensures.left ∙ c.take_verdicts-verdicts.ensures.left) c.apply_all-applied.ensures.done
+returns-clause-done g c = subst (λ (s : SetView). IfOk c.apply_all-applied.result (λ applied. applied.done ≡ length s.patches)) (c.take_marks-written.ensures.left ∙ ap without_marks c.take_verdicts-verdicts.ensures.left) c.apply_all-applied.ensures.done
 
 pub returns-clause-rest : goal.returns-clause-rest
 returns-clause-rest g c = c.apply_all-applied.ensures.rest
@@ -72,7 +72,7 @@ returns-clause-dry g c = c.apply_all-applied.ensures.dry
 pub returns-clause-set : goal.returns-clause-set
 returns-clause-set g c =
     let stays = c.apply_all-applied.ensures.set in
-    let left = (c.take_marks-written.ensures.left ∙ c.take_verdicts-verdicts.ensures.left) in
+    let left = (c.take_marks-written.ensures.left ∙ ap without_marks c.take_verdicts-verdicts.ensures.left) in
     record {
       text = ap (λ (s : SetView). s.text) c.give_verdicts.ensures ∙ stays.text ∙ ap (λ (s : SetView). s.text) left;
       patches = ap (λ (s : SetView). s.patches) c.give_verdicts.ensures ∙ stays.patches ∙ ap (λ (s : SetView). s.patches) left;
