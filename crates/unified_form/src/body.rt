@@ -110,7 +110,7 @@ fn is_last(mark: Mark, left: Left) -> bool
 
 /// A line of the body, what is left behind it, and the place after it.
 #[tactic(auto, unfolding(crate::specs::Bodies::first_line))]
-fn line_of(text: &[u8], left: Left, place: Place) -> Result<(HunkLine, Left, Place), FormFault>
+pub fn line_of(text: &[u8], left: Left, place: Place) -> Result<(HunkLine, Left, Place), FormFault>
     requires { IsPlace text.now place }
     ensures place { IfOk result (λ x. IsPlace text.now x.2 × (place.at < x.2.at)) }
     ensures less { IfOk result (λ x. x.1.old + x.1.new < left.old + left.new) }

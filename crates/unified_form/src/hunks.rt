@@ -84,7 +84,7 @@ fn take_hunk(
 }
 
 /// The same, with what its piece of the text is.
-fn read_hunk(
+pub fn read_hunk(
     alloc: Global,
     text: &[u8],
     least: u64,

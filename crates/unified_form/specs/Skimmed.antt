@@ -1,0 +1,52 @@
+-- Hunks that follow each other, of which only the first is kept: what is ahead behind the others, without their lines.
+use Rattle.std.specs.Prelude.{◌≡◌, ℕ, zero, suc, ◌+◌, ◌==◌, List, [], ◌∷◌, drop, Bool, true, false, is_some, Result, Ok, Err, if◌then◌else◌}
+use Rattle.line_list.specs.Lines.{lines}
+use Rattle.hunk_core.specs.declared.BadKind.TheVariants as kinds
+use Rattle.hunk_core.specs.PlainHunk.{PlainHunk, hunk_of}
+use Rattle.hunk_core.specs.LineTests.{after_backslash}
+use Rattle.hunk_core.specs.Reading.{Fault, fault, ◌>>=◌, Ahead, ahead}
+use Rattle.unified_form.specs.declared.body.Left.{Left}
+use Rattle.unified_form.specs.declared.range.Ranges.{Ranges}
+use Rattle.unified_form.specs.declared.skim.Skim.{Skim}
+use Rattle.unified_form.specs.Ranges.{opening}
+use Rattle.unified_form.specs.Bodies.{line_at}
+use Rattle.unified_form.specs.Grammar.{IsPiece}
+use Rattle.unified_form.specs.Hunks.{at_line, left_of, begins_hunk, reading}
+
+-- what is ahead behind a body with at most this many lines, and with these counts
+unfoldable pub past_body : ℕ → Left → Ahead → Result Ahead Fault
+past_body zero left p = Ok p
+past_body (suc most) left p = if left.old + left.new == 0 then Ok p else (line_at left p >>= λ first. past_body most first.1 first.2)
+
+-- no backslash line stands behind a hunk with these ranges
+abbrev pub past_settled : Ranges → Ahead → Result (ℕ × Ahead) Fault
+past_settled r p = if is_some (after_backslash p.rest) then Err (fault p.number kinds.MisplacedBackslash) else Ok (r.old_start, p)
+
+-- the old start of a hunk whose range line is the first of these lines, and what is ahead behind it
+unfoldable pub past_first : ℕ → ℕ → List (List ℕ) → Result (ℕ × Ahead) Fault
+past_first least number [] = Err (fault number kinds.ShortEnd)
+past_first least number (line ∷ rest) = do
+  r ← at_line number (opening least line)
+  behind ← past_body (r.old_count + r.new_count) (left_of r) (ahead (number + 1) rest)
+  past_settled r behind
+
+-- the same of a hunk that starts at least
+abbrev pub past_hunk : ℕ → Ahead → Result (ℕ × Ahead) Fault
+past_hunk least p = past_first least p.number p.rest
+
+-- what is ahead behind at most so many hunks that follow each other
+unfoldable pub past_hunks : ℕ → ℕ → Ahead → Result Ahead Fault
+past_hunks zero least p = Ok p
+past_hunks (suc most) least p = if begins_hunk p.rest then (past_hunk least p >>= λ first. past_hunks most first.0 first.1) else Ok p
+
+-- there is a hunk
+abbrev pub are_some : List PlainHunk → Bool
+are_some [] = false
+are_some (h ∷ hs) = true
+
+-- the first of the hunks that these lines begin with, whether there are others, and the place behind them all
+pub record IsSkimmed (text : List ℕ) (number : ℕ) (rest : List (List ℕ)) (s : Skim) : Type 0 where
+  pub others : List PlainHunk
+  pub more : s.more ≡ are_some others
+  pub read : reading number rest ≡ Ok (hunk_of text s.first ∷ others, ahead s.next (lines (drop s.end text)))
+  pub piece : IsPiece number rest (hunk_of text s.first ∷ others) s.next (lines (drop s.end text))

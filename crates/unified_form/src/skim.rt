@@ -1,0 +1,122 @@
+//! Hunks that follow each other, of which only the first is kept: who wants no more of a file patch takes no memory for the others.
+
+ghost use Rattle.std.specs.Prelude.{◌≡◌, ℕ, true, ◌+◌, ◌<◌, ◌≤◌, ◌^◌, length, drop, IfOk, IfErr};
+ghost use Rattle.line_list.specs.Lines.{lines};
+ghost use Rattle.hunk_core.specs.Reading.{Fails, Gives, IsPlace, ahead_of};
+ghost use Rattle.hunk_core.specs.Turned.{IsLawful};
+ghost use Rattle.unified_form.specs.Hunks.{begins_hunk, reading};
+ghost use Rattle.unified_form.specs.Skimmed.{IsSkimmed, past_body, past_hunk, past_hunks};
+
+use crate::body::{Left, line_of};
+use crate::hunks::{at_opening, read_hunk};
+use crate::range::opening_of;
+use hunk_core::{BadKind, FormFault, Hunk, Place, backslash_end, bad};
+use line_list::next_line;
+use std::alloc::Global;
+
+/// The first of the hunks that follow each other in a text.
+#[derive(Debug, Drop)]
+pub struct Skim {
+    pub first: Hunk,
+    /// Whether others follow.
+    pub more: bool,
+    /// The place after the last hunk.
+    pub end: usize,
+    /// The number of the line there.
+    pub next: u64,
+}
+
+/// The place after a body with these counts.
+fn pass_body(text: &[u8], left: Left, place: Place) -> Result<Place, FormFault>
+    requires { IsPlace text.now place }
+    ensures place { IfOk result (λ x. IsPlace text.now x × (place.at ≤ x.at)) }
+    ensures exact { Gives (ahead_of text.now) result (past_body (left.old + left.new) left (ahead_of text.now place)) }
+{
+    let mut left = left;
+    let mut place = place;
+    while left.old > 0 || left.new > 0 {
+        let (_line, behind, next) = line_of(text, left, place)?;
+        left = Left {
+            old: behind.old,
+            new: behind.new,
+        };
+        place = next;
+    }
+    Ok(place)
+}
+
+/// The old start of a hunk whose old start is at least `least`, and the place after it.
+#[tactic(auto, unfolding(crate::specs::Skimmed::past_first))]
+fn pass_hunk(text: &[u8], least: u64, place: Place) -> Result<(u64, Place), FormFault>
+    requires { IsPlace text.now place }
+    ensures place { IfOk result (λ x. IsPlace text.now x.1 × (place.at < x.1.at)) }
+    ensures exact { Gives (λ x. (x.0, ahead_of text.now x.1)) result (past_hunk least (ahead_of text.now place)) }
+{
+    let number = place.number;
+    let Some(end) = next_line(text, place.at) else {
+        return Err(bad(number, BadKind::ShortEnd));
+    };
+    let ranges = match opening_of(&text[place.at..end], least) {
+        Ok(ranges) => ranges,
+        Err(kind) => return Err(bad(number, kind)),
+    };
+    let left = Left {
+        old: ranges.old_count as u32,
+        new: ranges.new_count as u32,
+    };
+    let next = pass_body(
+        text,
+        left,
+        Place {
+            at: end,
+            number: number + 1,
+        },
+    )?;
+    if backslash_end(text, next.at).is_some() {
+        return Err(bad(next.number, BadKind::MisplacedBackslash));
+    }
+    Ok((ranges.old_start, next))
+}
+
+/// The place after the hunks that follow each other, of which the first starts at `least` or later.
+fn pass_hunks(text: &[u8], least: u64, place: Place) -> Result<Place, FormFault>
+    requires { IsPlace text.now place }
+    ensures place { IfOk result (λ x. IsPlace text.now x × (place.at ≤ x.at)) }
+    ensures exact { (most : ℕ) → length (lines (drop place.at text.now)) ≤ most → Gives (ahead_of text.now) result (past_hunks most least (ahead_of text.now place)) }
+{
+    let mut least = least;
+    let mut place = place;
+    'hunks: while at_opening(text, place.at) {
+        let (start, next) = pass_hunk(text, least, place)?;
+        least = start;
+        place = next;
+    }
+    Ok(place)
+}
+
+/// The first of the hunks that follow each other from `at` on, where the line has this number, and the place after the last of
+/// them. All are read, and a fault in any is answered; but only the first takes memory.
+pub fn skim_hunks(alloc: Global, text: &[u8], at: usize, line: u64) -> Result<Skim, FormFault>
+    requires short { length text.now < 2 ^ 32 }
+    requires within { at ≤ length text.now }
+    requires opens { begins_hunk (lines (drop at text.now)) ≡ true }
+    requires small { line < 2 ^ 32 }
+    ensures within { IfOk result (λ s. (at < s.end) × (s.end ≤ length text.now)) }
+    ensures lawful { IfOk result (λ s. IsLawful text.now s.first) }
+    ensures few { IfOk result (λ s. length s.first.body.items < 2 ^ 32) }
+    // What is read is what reading gives, and the first hunk is its first.
+    ensures read { IfOk result (IsSkimmed text.now line (lines (drop at text.now))) }
+    // A fault is the first one that reading meets.
+    ensures fails { IfErr result (λ e. Fails e (reading line (lines (drop at text.now)))) }
+{
+    let mut spare = Vec::new(alloc);
+    let (first, next) = read_hunk(alloc, text, 0, Place { at, number: line }, &mut spare)?;
+    let more = at_opening(text, next.at);
+    let end = pass_hunks(text, u64::from(first.old_start), next)?;
+    Ok(Skim {
+        first,
+        more,
+        end: end.at,
+        next: end.number,
+    })
+}
