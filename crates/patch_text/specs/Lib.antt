@@ -1,5 +1,6 @@
 pub mod Patches
 pub mod Texts
+pub mod Outlines
 pub mod Changes
 pub mod Regions
 pub mod Spelled

@@ -3,6 +3,8 @@
 
 mod absent;
 mod change;
+mod outline;
 mod patches;
 
+pub use outline::read_outlines;
 pub use patches::read_patches;

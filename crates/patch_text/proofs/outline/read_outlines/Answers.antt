@@ -1,0 +1,51 @@
+use Rattle.std.proofs.Common.{◌≡◌, ◌<◌, ◌∷◌, [], None, Some, Ok, map, arith, length-append}
+use Rattle.std.proofs.lemmas.Result.{err_from_is_err_and}
+use Rattle.std.proofs.lemmas.List.{map_push}
+use Rattle.std.proofs.lemmas.List.Elements.{All-push}
+use Rattle.file_patch.specs.PlainPatch.{patch_of}
+use Rattle.file_patch.specs.Absent.{IsLawfulPatch}
+use Rattle.patch_text.specs.Reading.{IsProgress, ahead_of}
+use Rattle.patch_text.specs.Outlines.{next_outlined}
+use Rattle.patch_text.proofs.OutlineLoops.{outlines_begin, outlines_go_on, outlines_fail, outlines_done}
+use Rattle.patch_text.proofs.outline.read_outlines.Goals as goal
+
+pub patches-init : goal.patches-init
+patches-init c = rw c.new-patches.ensures.items (record {
+  progress = record { within = omega arith; numbers = omega arith; few = omega arith; known = λ e. absurd cc };
+  lawful = λ k d lt. absurd (omega (arith, lt));
+  count = omega arith;
+  so_far = outlines_begin c.args.ways c.args.text.now;
+})
+
+pub returns-in_err-patch-clause-exact : goal.returns-in_err-patch-clause-exact
+returns-in_err-patch-clause-exact c =
+    let p = err_from_is_err_and c.from_residual.result c.from_residual.ensures.1 in
+    let text = c.args.text.now in
+    let here = c.patches.here in
+    rw (p.1, p.2) (outlines_fail c.in_err-patch.field-0.0 c.args.ways text (map (patch_of text) c.patches.patches.items) here.at here.number c.patches.invariant.progress.within c.in_err-patch.ensures.exact c.patches.invariant.so_far)
+
+pub patches-preserved : goal.patches-preserved
+patches-preserved c =
+    let text = c.args.text.now in
+    let here = c.patches.here in
+    let was = c.patches.invariant in
+    let ps = c.patches.patches.items in
+    let p = c.in-Some.patch in
+    let behind = c.in-Some.behind in
+    let lawful : IsLawfulPatch text p = rw c.in-Some.is at c.in_ok-patch.ensures.lawful in
+    let progress : IsProgress text behind = rw c.in-Some.is at c.in_ok-patch.ensures.progress in
+    let after : here.at < behind.at = rw c.in-Some.is at c.in_ok-patch.ensures.behind in
+    let next : next_outlined c.args.ways text here.at here.number ≡ Ok (Some (patch_of text p, ahead_of text behind)) = rw c.in-Some.is at c.in_ok-patch.ensures.exact in
+    rw c.in_ok-push.ensures.items (record {
+      progress = progress;
+      lawful = All-push (IsLawfulPatch text) ps p was.lawful lawful;
+      count = omega (arith, length-append ps (p ∷ []), was.count, after);
+      so_far = rw (map_push (patch_of text) ps p) (outlines_go_on c.args.ways text (map (patch_of text) ps) here.at here.number behind.at behind.number (patch_of text p) after progress.within next was.so_far);
+    })
+
+pub returns-clause-exact : goal.returns-clause-exact
+returns-clause-exact c =
+    let text = c.args.text.now in
+    let here = c.patches.here in
+    let none : next_outlined c.args.ways text here.at here.number ≡ Ok None = rw c.in_default.is at c.in_ok-patch.ensures.exact in
+    outlines_done c.args.ways text (map (patch_of text) c.patches.patches.items) here.at here.number none c.patches.invariant.so_far
