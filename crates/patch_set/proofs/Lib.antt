@@ -4,6 +4,7 @@ pub mod Walked
 pub mod Found
 pub mod Made
 pub mod Completing
+pub mod Outlines
 pub mod InTurn
 pub mod Verdicts
 pub mod OneView

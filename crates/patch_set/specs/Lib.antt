@@ -6,6 +6,7 @@ pub mod PlainName
 pub mod Refusals
 pub mod Room
 pub mod SetView
+pub mod Outlined
 pub mod Spans
 pub mod Fresh
 pub mod Skipped

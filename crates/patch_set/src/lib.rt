@@ -7,6 +7,7 @@ mod header_name;
 mod laws;
 mod marks;
 mod names;
+mod outline;
 mod reading;
 mod refusals;
 mod set;
@@ -20,6 +21,7 @@ pub use laws::{
     what_was_read_stays,
 };
 pub use names::bytes_in;
+pub use outline::{Outline, read_outline};
 pub use reading::read_set;
 pub use set::{PatchSet, Row};
 pub use target_names::Target;

@@ -22,7 +22,7 @@ use patch_text::read_patches;
 use std::alloc::{AllocError, Global};
 
 /// The longest text that is read, in bytes.
-const LONGEST: usize = 268_435_456;
+pub const LONGEST: usize = 268_435_456;
 
 /// Reads a patch text, as if its last line had its line feed, for these options. They tell whether git headers are read,
 /// and whether binary changes are passed over. Where they can ask for a backup, room is made for the names of all targets, so
@@ -46,7 +46,7 @@ pub fn read_set(alloc: Global, text: Vec<u8>, options: &Options) -> Result<Patch
 
 /// The text with a line feed at its end.
 #[tactic(auto, unfolding(line_list::specs::Completed::completed))]
-fn completed(text: Vec<u8>) -> Result<Vec<u8>, AllocError>
+pub fn completed(text: Vec<u8>) -> Result<Vec<u8>, AllocError>
     ensures { IfOk result (λ whole. whole.items ≡ completed text.items) }
 {
     let mut text = text;

@@ -1,0 +1,99 @@
+//! A patch text and its file patches without their hunks, for who wants no more than a list of them.
+ghost use Rattle.std.specs.Prelude.{◌≡◌, ◌<◌, ◌^◌, Ok, All, IfOk, length, map, slice_get};
+ghost use Rattle.std.specs.Option.{ForSome};
+ghost use Rattle.file_patch.specs.Absent.{IsLawfulPatch};
+ghost use Rattle.file_patch.specs.PlainPatch.{header_of, patch_of};
+ghost use Rattle.patch_options.specs.PlainJob.{plain_options, IsLawful};
+ghost use Rattle.patch_set.specs.Outlined.{IsOutline};
+ghost use Rattle.patch_set.specs.PlainName.{plain_name};
+ghost use Rattle.patch_set.specs.Refusals.{refusal, refusal_of, reserved};
+ghost use Rattle.patch_set.specs.SetView.{Meets};
+
+use crate::SetFault;
+use crate::asked::ways_of;
+use crate::header_name::plain_name;
+use crate::names::name_all;
+use crate::reading::{LONGEST, completed};
+use crate::refusals::{refused, reserved};
+use file_patch::FilePatch;
+use patch_options::Options;
+use patch_text::read_outlines;
+use std::alloc::Global;
+
+/// A patch text and its file patches, each with its only hunk or, if it has several, with none.
+#[derive(Drop)]
+pub struct Outline {
+    /// The text that was read; its last line has its line feed.
+    pub text: Vec<u8>,
+    /// The file patches in the order of the text.
+    pub patches: Vec<FilePatch>,
+}
+
+impl Outline {
+    /// The name of a file patch, counted from 0, as that of a set (`PatchSet::plain_name`).
+    pub fn plain_name(&self, patch: u32) -> &[u8]
+        requires { patch < length self.now.patches.items }
+        ensures { ForSome (slice_get self.now.patches.items patch) (λ p. result.now ≡ plain_name (header_of self.now.text.items p.header)) }
+    {
+        plain_name(&self.text, &self.patches[patch as usize].header)
+    }
+}
+
+/// Reads the file patches of a text for these options as `read_set` does, and refuses what that refuses; but hunks take no memory.
+pub fn read_outline(alloc: Global, text: Vec<u8>, options: &Options) -> Result<Outline, SetFault>
+    requires { IsLawful (plain_options options.now) }
+    ensures outline { IfOk result (IsOutline (plain_options options.now) text.items) }
+    ensures refused { Meets (refusal (plain_options options.now) text.items) result }
+{
+    if text.len() > LONGEST {
+        return Err(SetFault::TooLong);
+    }
+    let text = completed(text)?;
+    let patches = read_outlines(alloc, &text, ways_of(options))?;
+    outline_of(alloc, text, options, patches)
+}
+
+/// The outline of these file patches, unless they are refused.
+fn outline_of(
+    alloc: Global,
+    text: Vec<u8>,
+    options: &Options,
+    patches: Vec<FilePatch>,
+) -> Result<Outline, SetFault>
+    requires options { IsLawful (plain_options options.now) }
+    requires lawful { All (IsLawfulPatch text.items) patches.items }
+    requires count { length patches.items < 2 ^ 32 }
+    ensures text { IfOk result (λ o. o.text.items ≡ text.items) }
+    ensures plain { IfOk result (λ o. map (patch_of text.items) o.patches.items ≡ map (patch_of text.items) patches.items) }
+    ensures lawful { IfOk result (λ o. All (IsLawfulPatch text.items) o.patches.items) }
+    ensures refused { Meets (refusal_of (plain_options options.now) text.items (Ok (map (patch_of text.items) patches.items))) result }
+{
+    match refused(&text, options, &patches) {
+        Some(fault) => Err(fault),
+        None => named_outline(alloc, text, options, patches),
+    }
+}
+
+/// The same, where the names alone are looked at.
+fn named_outline(
+    alloc: Global,
+    text: Vec<u8>,
+    options: &Options,
+    patches: Vec<FilePatch>,
+) -> Result<Outline, SetFault>
+    requires options { IsLawful (plain_options options.now) }
+    requires lawful { All (IsLawfulPatch text.items) patches.items }
+    ensures text { IfOk result (λ o. o.text.items ≡ text.items) }
+    ensures plain { IfOk result (λ o. map (patch_of text.items) o.patches.items ≡ map (patch_of text.items) patches.items) }
+    ensures lawful { IfOk result (λ o. All (IsLawfulPatch text.items) o.patches.items) }
+    ensures refused { Meets (reserved (plain_options options.now) (map (patch_of text.items) patches.items)) result }
+{
+    let named = name_all(alloc, &text, options, patches)?;
+    match reserved(&named) {
+        Some(line) => Err(SetFault::Reserved { line }),
+        None => Ok(Outline {
+            text,
+            patches: named.patches,
+        }),
+    }
+}
