@@ -154,7 +154,7 @@ const SKIP_BINARY: Word = Word {
     letter: None,
     name: "skip-binary",
     shown: "--skip-binary",
-    help: "pass over binary changes, which else refuse the text",
+    help: "pass over binary changes, don't refuse the text",
 };
 
 const FILE: Word = Word {
