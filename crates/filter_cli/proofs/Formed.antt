@@ -36,7 +36,7 @@ module _ (form : Form) (j : PlainFilterJob) where
   comes : j.format ≡ Some form → (f : Files) (left : List ℕ) (o : FormOutcome) → convert_outcome form j f left ≡ o → formed o ≡ in_form j.format j f left
   comes asked f left o is = sym (ap (λ (x : Option Form). in_form x j f left) asked ∙ ap formed is)
 
-  forms : (v : FinderView) → j.format ≡ Some form → Agrees (filter_job j) j.input j.select HasTextCause ⊥ (IsConverted form j) v
+  forms : (v : FinderView) → j.format ≡ Some form → Agrees (filter_job j) j.input j.select (HasTextCause j.select.skip_binary) ⊥ (IsConverted form j) v
   forms v asked = record {
     from = λ is. is;
     to = λ is. is;
@@ -72,7 +72,7 @@ module _ (form : Form) (j : PlainFilterJob) where
         })
 
     pub forms_carry : (r : Result (Unit {0}) FormFault) → Forms form j u.tree w.tree u.source w.source u.out w.out r → Carries (Ok (filter_job j)) u w (why_formed r)
-    forms_carry (Ok done) x = sifts_carry (filter_job j) j.input j.select HasTextCause ⊥ (IsConverted form j) u w (forms u.finder asked) finder quiet unread (Ok done) x
-    forms_carry (Err (Filter fault)) x = sifts_carry (filter_job j) j.input j.select HasTextCause ⊥ (IsConverted form j) u w (forms u.finder asked) finder quiet unread (Err fault) x
+    forms_carry (Ok done) x = sifts_carry (filter_job j) j.input j.select (HasTextCause j.select.skip_binary) ⊥ (IsConverted form j) u w (forms u.finder asked) finder quiet unread (Ok done) x
+    forms_carry (Err (Filter fault)) x = sifts_carry (filter_job j) j.input j.select (HasTextCause j.select.skip_binary) ⊥ (IsConverted form j) u w (forms u.finder asked) finder quiet unread (Err fault) x
     forms_carry (Err (NoContext line)) x = refuses_carry (convert.NoContext line) (λ is. absurd (cc)) refl (form, asked, x.cause) x
     forms_carry (Err (Unfit line)) x = refuses_carry (convert.Unfit line) (λ is. absurd (cc)) refl (inr (form, asked, x.cause)) x

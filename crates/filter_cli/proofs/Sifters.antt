@@ -21,7 +21,7 @@ pub file-unless : (i : Input) → (IsStandard i → ⊥) → IsFile i
 file-unless Standard never = never tt
 file-unless (File name) never = tt
 
-pub lists : (j : PlainListJob) (v : FinderView) → Agrees (list_job j) j.input j.select HasTextCause ⊥ (IsOutcomeOf (list_outcome j)) v
+pub lists : (j : PlainListJob) (v : FinderView) → Agrees (list_job j) j.input j.select (HasTextCause j.select.skip_binary) ⊥ (IsOutcomeOf (list_outcome j)) v
 lists j v = record {
   from = λ is. is;
   to = λ is. is;
@@ -32,7 +32,7 @@ lists j v = record {
   uncut = λ why f u w. tt;
 }
 
-pub filters : (j : PlainFilterJob) (v : FinderView) → j.format ≡ None → Agrees (filter_job j) j.input j.select HasTextCause ⊥ (IsOutcomeOf (filter_outcome j)) v
+pub filters : (j : PlainFilterJob) (v : FinderView) → j.format ≡ None → Agrees (filter_job j) j.input j.select (HasTextCause j.select.skip_binary) ⊥ (IsOutcomeOf (filter_outcome j)) v
 filters j v plain = record {
   from = λ is. is;
   to = λ is. is;
@@ -43,7 +43,7 @@ filters j v plain = record {
   uncut = λ why f u w. tt;
 }
 
-pub greps : (j : PlainGrepJob) (v : FinderView) → Agrees (grep_job j) j.input j.select HasTextCause (v.takes j.pattern ≡ false) (IsGrepped v.takes v.hit j) v
+pub greps : (j : PlainGrepJob) (v : FinderView) → Agrees (grep_job j) j.input j.select (HasTextCause j.select.skip_binary) (v.takes j.pattern ≡ false) (IsGrepped v.takes v.hit j) v
 greps j v = record {
   from = λ is. is;
   to = λ is. is;

@@ -53,7 +53,7 @@ module _ (j : PlainSplitJob) (h : FinderView) (a : SourceView) (t w : TreeView) 
   abbrev behind : World
   behind = world w h a d
 
-  split-cause : (e : FilterFault) → HasSplitCause e t w c d → HasCause (of_filter e) (Ok (split_job j)) before behind
+  split-cause : (e : FilterFault) → HasSplitCause j.skip_binary e t w c d → HasCause (of_filter e) (Ok (split_job j)) before behind
   split-cause (faults.Input input.NoPatchFile) x = tt
   split-cause (faults.Input input.TooLong) x = tt
   split-cause (faults.Input input.Source) x = absurd x
@@ -68,7 +68,7 @@ module _ (j : PlainSplitJob) (h : FinderView) (a : SourceView) (t w : TreeView) 
   split-cause faults.Memory x = tt
 
   -- what comes before anything is written is a refusal
-  split-early : (e : FilterFault) → HasSplitCause e t w c d → is_early (of_filter e) ≡ true → is_refusal e ≡ true
+  split-early : (e : FilterFault) → HasSplitCause j.skip_binary e t w c d → is_early (of_filter e) ≡ true → is_refusal e ≡ true
   split-early (faults.Input input.NoPatchFile) x early = refl
   split-early (faults.Input input.TooLong) x early = refl
   split-early (faults.Input input.Source) x early = absurd x

@@ -69,10 +69,10 @@ NamesFile (stack_job op) = ⊥
 -- some text is refused so: `lsdiff`, `filterdiff` and `grepdiff` take one without file patches, `recountdiff` refuses bad hunks alone, and
 -- `reversediff` refuses also what can't be turned round
 abbrev pub MayFault : PlainToolJob → FilterFault → Type 0
-MayFault (list_job j) fault = HasTextCause fault
-MayFault (filter_job j) fault = HasTextCause fault
-MayFault (grep_job j) fault = HasTextCause fault
-MayFault (split_job j) fault = HasRefusal fault
+MayFault (list_job j) fault = HasTextCause j.select.skip_binary fault
+MayFault (filter_job j) fault = HasTextCause j.select.skip_binary fault
+MayFault (grep_job j) fault = HasTextCause j.select.skip_binary fault
+MayFault (split_job j) fault = HasRefusal j.skip_binary fault
 MayFault (recount_job input) fault = HasCountCause fault
 MayFault (gen_job j) fault = ⊥
 MayFault (flip_job input) fault = HasFlipCause fault

@@ -150,23 +150,23 @@ all-from P (x ∷ xs) h = (h 0 x (omega arith), all-from P xs (λ k d low. h (su
 whole-lines : (text : List ℕ) → IsComplete text → AllByRecursion IsLine (lines text)
 whole-lines text c = all-from IsLine (lines text) (complete-whole text c)
 
-pub told : (text : List ℕ) (j : PlainFilterJob) → AreCleanJoinsIn j text → read_unnumbered (ways_of defaults) (filtered_in j text) ≡ Ok (map unnumbered (left_in j text))
+pub told : (text : List ℕ) (j : PlainFilterJob) → AreCleanJoinsIn j text → read_unnumbered (ways_of (defaults j.select.skip_binary)) (filtered_in j text) ≡ Ok (map unnumbered (left_in j text))
 unfolding filtered_in
 told text j clean =
-    chain-reads Spot (ways_of defaults) (completed text) (spot_left j) (λ s. s.0.header.bare) (spot_written j (completed text)) (λ s. kept_patch j s.1) (is_spot_taken j) (spots_in text) chain (spot-none j (ways_of defaults) (completed text)) clean
+    chain-reads Spot (ways_of (defaults j.select.skip_binary)) (completed text) (spot_left j) (λ s. s.0.header.bare) (spot_written j (completed text)) (λ s. kept_patch j s.1) (is_spot_taken j) (spots_in j.select.skip_binary text) chain (spot-none j (ways_of (defaults j.select.skip_binary)) (completed text)) clean
   where
-    by : (o : Result (List PlainPatch) Fault) → patches_of (ways_of defaults) (completed text) ≡ o → SpotChain j (ways_of defaults) (completed text) 0 (zip (regions_in text) (read_patches o))
+    by : (o : Result (List PlainPatch) Fault) → patches_of (ways_of (defaults j.select.skip_binary)) (completed text) ≡ o → SpotChain j (ways_of (defaults j.select.skip_binary)) (completed text) 0 (zip (regions_in j.select.skip_binary text) (read_patches o))
     by (Ok ps) e =
-        let h = text-found (ways_of defaults) (completed text) ps e in
-        spots-chain j (ways_of defaults) (completed text) (length (completed text)) ps 0 1 h.end h.next (omega arith) (whole-lines (completed text) (completed-complete text)) h.stand h.ends
-    by (Err f) e = none (regions_in text)
+        let h = text-found (ways_of (defaults j.select.skip_binary)) (completed text) ps e in
+        spots-chain j (ways_of (defaults j.select.skip_binary)) (completed text) (length (completed text)) ps 0 1 h.end h.next (omega arith) (whole-lines (completed text) (completed-complete text)) h.stand h.ends
+    by (Err f) e = none (regions_in j.select.skip_binary text)
       where
-        none : (rs : List Region) → SpotChain j (ways_of defaults) (completed text) 0 (zip rs [])
+        none : (rs : List Region) → SpotChain j (ways_of (defaults j.select.skip_binary)) (completed text) 0 (zip rs [])
         none [] = tt
         none (r ∷ rs) = tt
 
-    chain : SpotChain j (ways_of defaults) (completed text) 0 (spots_in text)
-    chain = by (patches_of (ways_of defaults) (completed text)) refl
+    chain : SpotChain j (ways_of (defaults j.select.skip_binary)) (completed text) 0 (spots_in j.select.skip_binary text)
+    chain = by (patches_of (ways_of (defaults j.select.skip_binary)) (completed text)) refl
 
 pub of-set : (o : PlainOptions) (given : List ℕ) (v : SetView) (j : PlainFilterJob) → IsRead o given v → AreCleanJoins j v → read_unnumbered v.ways (filtered j v) ≡ Ok (map unnumbered (left_patches j v))
 unfolding filtered

@@ -50,6 +50,6 @@ AreCleanJoinsIn j text = FollowCleanly (map (spot_text j (completed text)) (left
 abbrev pub ReadsAsLeft : Type 0
 ReadsAsLeft = (o : PlainOptions) (given : List ℕ) (v : SetView) (j : PlainFilterJob) → IsRead o given v → AreCleanJoins j v → read_unnumbered v.ways (filtered j v) ≡ Ok (map unnumbered (left_patches j v))
 
--- and so is what `filterdiff` writes of a text, which is nothing where the text is refused
+-- and so is what `filterdiff` writes of a text, read in the ways in which it reads the text; that is nothing where the text is refused
 abbrev pub TextReadsAsLeft : Type 0
-TextReadsAsLeft = (text : List ℕ) (j : PlainFilterJob) → AreCleanJoinsIn j text → read_unnumbered (ways_of defaults) (filtered_in j text) ≡ Ok (map unnumbered (left_in j text))
+TextReadsAsLeft = (text : List ℕ) (j : PlainFilterJob) → AreCleanJoinsIn j text → read_unnumbered (ways_of (defaults j.select.skip_binary)) (filtered_in j text) ≡ Ok (map unnumbered (left_in j text))

@@ -42,7 +42,7 @@ left_of j v = filter (is_left j v.text) (numbered v.patches)
 abbrev pub left_patches : PlainFilterJob → SetView → List PlainPatch
 left_patches j v = map (λ n. kept_patch j (patch_of v.text n.1)) (left_of j v)
 
--- ---- of a text that is read as `patch` reads it without options
+-- ---- of a text that is read as the job asks for
 
 abbrev pub spot_left : PlainFilterJob → Spot → Bool
 spot_left j s = is_some_kept j s.0.header.bare s.1.change
@@ -52,7 +52,7 @@ is_left_in j n = is_spot_taken j n && spot_left j n.1
 
 -- those of a text that are left, with their numbers
 abbrev pub left_spots : PlainFilterJob → List ℕ → List (ℕ × Spot)
-left_spots j text = filter (is_left_in j) (numbered (spots_in text))
+left_spots j text = filter (is_left_in j) (numbered (spots_in j.select.skip_binary text))
 
 -- what they are, with their kept hunks alone
 abbrev pub left_in : PlainFilterJob → List ℕ → List PlainPatch

@@ -1,5 +1,5 @@
 -- What is written of a set is told by its text.
-use Rattle.std.proofs.Common.{◌≡◌, ℕ, ◌+◌, Bool, cond, List, [], ◌∷◌, ◌++◌, length, map, refl, sym, ap, ◌∙◌}
+use Rattle.std.proofs.Common.{◌≡◌, ℕ, ◌+◌, Bool, false, cond, List, [], ◌∷◌, ◌++◌, length, map, refl, sym, ap, ◌∙◌}
 use Rattle.std.specs.Prelude.{◌==◌, filter, if◌then◌else◌, reverse}
 use Rattle.std.specs.List.{flat_map, list_any, range_with_len, zip}
 use Rattle.std.proofs.lemmas.List.Concat.{flat_map-cons}
@@ -24,7 +24,7 @@ use Rattle.format_convert.specs.Converted.{converted, written_if}
 use Rattle.format_convert.specs.Refusals.{refusal as form_refusal}
 use Rattle.format_convert.proofs.RowLemmas.{converted-is}
 use Rattle.split_recount.specs.Parts.{between, cuts_behind, parts, row_of}
-use Rattle.tool_words.specs.PlainJobs.{PlainFilterJob, PlainGrepJob}
+use Rattle.tool_words.specs.PlainJobs.{PlainFilterJob, PlainGrepJob, PlainSplitJob}
 use Rattle.tool_words.specs.declared.jobs.GrepOut.{GrepOut}
 use Rattle.tool_words.specs.declared.jobs.GrepOut.TheVariants.{Names, Hunks, Files}
 use Rattle.hunk_core.proofs.TurnedLemmas.{reverse-map}
@@ -79,57 +79,59 @@ rows-same text (p ∷ ps) = ap (λ (rs : List (ℕ × List ℕ)). row_of text p 
 
 -- ---- a set that was read
 
-module _ (text : List ℕ) (v : SetView) (read : IsRead defaults text v) where
-  pub patches-by : patches_in text ≡ plain_patches v
-  patches-by = ap read_patches (ap (patches_of (ways_of defaults)) (sym read.text) ∙ read.patches)
+module _ (skip : Bool) (text : List ℕ) (v : SetView) (read : IsRead (defaults skip) text v) where
+  pub patches-by : patches_in skip text ≡ plain_patches v
+  patches-by = ap read_patches (ap (patches_of (ways_of (defaults skip))) (sym read.text) ∙ read.patches)
 
-  regions-by : regions_in text ≡ map region_of v.patches
-  regions-by = ap (regions_of (ways_of defaults)) (sym read.text) ∙ sym read.regions
+  regions-by : regions_in skip text ≡ map region_of v.patches
+  regions-by = ap (regions_of (ways_of (defaults skip))) (sym read.text) ∙ sym read.regions
 
-  spots-by : spots_in text ≡ map (spot v.text) v.patches
-  spots-by = ap (λ (rs : List Region). zip rs (patches_in text)) regions-by ∙ ap (λ (ps : List PlainPatch). zip (map region_of v.patches) ps) patches-by ∙ zip-both v.text v.patches
+  spots-by : spots_in skip text ≡ map (spot v.text) v.patches
+  spots-by = ap (λ (rs : List Region). zip rs (patches_in skip text)) regions-by ∙ ap (λ (ps : List PlainPatch). zip (map region_of v.patches) ps) patches-by ∙ zip-both v.text v.patches
 
-  pub filtered-by : (j : PlainFilterJob) → filtered j v ≡ filtered_in j text
-  unfolding filtered_in
-  filtered-by j =
-      filtered-is j v
-      ∙ numbered-same v.text (written_if_taken j v.text) (λ n. cond (is_spot_taken j n) (spot_written j v.text n.1) [])
-      (λ n start before p at. ap (λ (t : List ℕ). cond (is_taken_of j v.text (n, p)) t []) (written-same v.text start before p at j)) 1 0 0 v.patches read.spans
-      ∙ sym (flat-if (is_spot_taken j) (λ n. spot_written j v.text n.1) (numbered (map (spot v.text) v.patches)))
-      ∙ ap (λ (ss : List Spot). flat_map (λ n. spot_written j v.text n.1) (filter (is_spot_taken j) (numbered ss))) (sym spots-by)
-      ∙ ap (λ (t : List ℕ). flat_map (λ n. spot_written j t n.1) (filter (is_spot_taken j) (numbered (spots_in text)))) read.text
+-- ---- what each filter writes of it
 
-  pub grepped-by : (hit : List ℕ → Bool) (j : PlainGrepJob) → grepped hit j v ≡ grepped_in hit j text
-  unfolding grepped grepped_in
-  grepped-by hit j =
-      flat-if (λ p. is_found hit j (patch_of v.text p)) (found_text hit j.output v.text) v.patches
-      ∙ all-same v.text (λ p. cond (is_found hit j (patch_of v.text p)) (found_text hit j.output v.text p) []) (λ s. cond (is_found hit j s.1) (spot_found hit j.output v.text s) [])
-      (λ start before p at. ap (λ (t : List ℕ). cond (is_found hit j (patch_of v.text p)) t []) (found-same v.text start before p at hit j.output)) 0 0 v.patches read.spans
-      ∙ sym (flat-if (λ (s : Spot). is_found hit j s.1) (spot_found hit j.output v.text) (map (spot v.text) v.patches))
-      ∙ ap (λ (ss : List Spot). flat_map (spot_found hit j.output v.text) (filter (λ s. is_found hit j s.1) ss)) (sym spots-by)
-      ∙ ap (λ (t : List ℕ). flat_map (spot_found hit j.output t) (filter (λ s. is_found hit j s.1) (spots_in text))) read.text
+pub filtered-by : (j : PlainFilterJob) (text : List ℕ) (v : SetView) → IsRead (defaults j.select.skip_binary) text v → filtered j v ≡ filtered_in j text
+unfolding filtered_in
+filtered-by j text v read =
+    filtered-is j v
+    ∙ numbered-same v.text (written_if_taken j v.text) (λ n. cond (is_spot_taken j n) (spot_written j v.text n.1) [])
+    (λ n start before p at. ap (λ (t : List ℕ). cond (is_taken_of j v.text (n, p)) t []) (written-same v.text start before p at j)) 1 0 0 v.patches read.spans
+    ∙ sym (flat-if (is_spot_taken j) (λ n. spot_written j v.text n.1) (numbered (map (spot v.text) v.patches)))
+    ∙ ap (λ (ss : List Spot). flat_map (λ n. spot_written j v.text n.1) (filter (is_spot_taken j) (numbered ss))) (sym (spots-by j.select.skip_binary text v read))
+    ∙ ap (λ (t : List ℕ). flat_map (λ n. spot_written j t n.1) (filter (is_spot_taken j) (numbered (spots_in j.select.skip_binary text)))) read.text
 
-  pub form-by : (form : Form) (j : PlainFilterJob) → form_refusal form (left_patches j (plain_patches v)) ≡ form_refused form j text
-  form-by form j = ap (λ (ps : List PlainPatch). form_refusal form (left_patches j ps)) (sym patches-by)
+pub grepped-by : (hit : List ℕ → Bool) (j : PlainGrepJob) (text : List ℕ) (v : SetView) → IsRead (defaults j.select.skip_binary) text v → grepped hit j v ≡ grepped_in hit j text
+unfolding grepped grepped_in
+grepped-by hit j text v read =
+    flat-if (λ p. is_found hit j (patch_of v.text p)) (found_text hit j.output v.text) v.patches
+    ∙ all-same v.text (λ p. cond (is_found hit j (patch_of v.text p)) (found_text hit j.output v.text p) []) (λ s. cond (is_found hit j s.1) (spot_found hit j.output v.text s) [])
+    (λ start before p at. ap (λ (t : List ℕ). cond (is_found hit j (patch_of v.text p)) t []) (found-same v.text start before p at hit j.output)) 0 0 v.patches read.spans
+    ∙ sym (flat-if (λ (s : Spot). is_found hit j s.1) (spot_found hit j.output v.text) (map (spot v.text) v.patches))
+    ∙ ap (λ (ss : List Spot). flat_map (spot_found hit j.output v.text) (filter (λ s. is_found hit j s.1) ss)) (sym (spots-by j.select.skip_binary text v read))
+    ∙ ap (λ (t : List ℕ). flat_map (spot_found hit j.output t) (filter (λ s. is_found hit j s.1) (spots_in j.select.skip_binary text))) read.text
 
-  pub converted-by : (form : Form) (j : PlainFilterJob) → converted form j v ≡ converted_in form j text
-  unfolding converted_in
-  converted-by form j =
-      converted-is form j v
-      ∙ numbered-same v.text (written_if form j v.text) (spot_converted form j v.text) (λ n start before p at. refl) 0 0 0 v.patches read.spans
-      ∙ ap (λ (ss : List Spot). flat_map (spot_converted form j v.text) (zip (range_with_len 0 (length ss)) ss)) (sym spots-by)
-      ∙ ap (λ (t : List ℕ). flat_map (spot_converted form j t) (zip (range_with_len 0 (length (spots_in text))) (spots_in text))) read.text
+pub form-by : (form : Form) (j : PlainFilterJob) (text : List ℕ) (v : SetView) → IsRead (defaults j.select.skip_binary) text v → form_refusal form (left_patches j (plain_patches v)) ≡ form_refused form j text
+form-by form j text v read = ap (λ (ps : List PlainPatch). form_refusal form (left_patches j ps)) (sym (patches-by j.select.skip_binary text v read))
 
-  pub parts-by : (every : Bool) → parts every v ≡ parts_in every text
-  unfolding parts_in
-  parts-by every =
-      ap (λ (rows : List (ℕ × List ℕ)). if length v.text == 0 then [] else between 0 (cuts_behind every rows) (length v.text)) (rows-same v.text v.patches ∙ ap (map (row_at v.text)) (sym regions-by))
-      ∙ ap (λ (t : List ℕ). if length t == 0 then [] else between 0 (cuts_behind every (map (row_at t) (regions_in text))) (length t)) read.text
+pub converted-by : (form : Form) (j : PlainFilterJob) (text : List ℕ) (v : SetView) → IsRead (defaults j.select.skip_binary) text v → converted form j v ≡ converted_in form j text
+unfolding converted_in
+converted-by form j text v read =
+    converted-is form j v
+    ∙ numbered-same v.text (written_if form j v.text) (spot_converted form j v.text) (λ n start before p at. refl) 0 0 0 v.patches read.spans
+    ∙ ap (λ (ss : List Spot). flat_map (spot_converted form j v.text) (zip (range_with_len 0 (length ss)) ss)) (sym (spots-by j.select.skip_binary text v read))
+    ∙ ap (λ (t : List ℕ). flat_map (spot_converted form j t) (zip (range_with_len 0 (length (spots_in j.select.skip_binary text))) (spots_in j.select.skip_binary text))) read.text
 
-  pub flipped-by : flipped v ≡ flipped_in text
-  unfolding flipped flipped_in
-  flipped-by =
-      sym (flat_map-map (spot_flipped v.text) (spot v.text) (reverse v.patches))
-      ∙ ap (flat_map (spot_flipped v.text)) (sym (reverse-map (spot v.text) v.patches))
-      ∙ ap (λ (ss : List Spot). flat_map (spot_flipped v.text) (reverse ss)) (sym spots-by)
-      ∙ ap (λ (t : List ℕ). flat_map (spot_flipped t) (reverse (spots_in text))) read.text
+pub parts-by : (j : PlainSplitJob) (text : List ℕ) (v : SetView) → IsRead (defaults j.skip_binary) text v → parts j.every v ≡ parts_in j text
+unfolding parts_in
+parts-by j text v read =
+    ap (λ (rows : List (ℕ × List ℕ)). if length v.text == 0 then [] else between 0 (cuts_behind j.every rows) (length v.text)) (rows-same v.text v.patches ∙ ap (map (row_at v.text)) (sym (regions-by j.skip_binary text v read)))
+    ∙ ap (λ (t : List ℕ). if length t == 0 then [] else between 0 (cuts_behind j.every (map (row_at t) (regions_in j.skip_binary text))) (length t)) read.text
+
+pub flipped-by : (text : List ℕ) (v : SetView) → IsRead (defaults false) text v → flipped v ≡ flipped_in text
+unfolding flipped flipped_in
+flipped-by text v read =
+    sym (flat_map-map (spot_flipped v.text) (spot v.text) (reverse v.patches))
+    ∙ ap (flat_map (spot_flipped v.text)) (sym (reverse-map (spot v.text) v.patches))
+    ∙ ap (λ (ss : List Spot). flat_map (spot_flipped v.text) (reverse ss)) (sym (spots-by false text v read))
+    ∙ ap (λ (t : List ℕ). flat_map (spot_flipped t) (reverse (spots_in false text))) read.text

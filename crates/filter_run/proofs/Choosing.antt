@@ -144,6 +144,7 @@ select_with s include exclude = record {
   include_file = s.include_file;
   exclude_file = s.exclude_file;
   only_included = s.only_included;
+  skip_binary = s.skip_binary;
 }
 
 pub chosen : (s : PlainSelect) (t u : TreeView) → IsUntouched t u → (name other : Option (List ℕ)) → name ≡ s.include_file → other ≡ s.exclude_file → (include exclude : List (List ℕ)) → Adds name t s.include include → Adds other u s.exclude exclude

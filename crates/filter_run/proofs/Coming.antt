@@ -18,21 +18,21 @@ use Rattle.filter_run.specs.declared.fault.FilterFault.TheVariants as faults
 use Rattle.filter_run.proofs.ByText.{patches-by, filtered-by, grepped-by}
 
 -- the bytes that are written of a set that is read from the text, unless that is refused
-abbrev pub ComesBy : Option SetFault → (SetView → List ℕ) → List ℕ → Outcome → Type 0
-ComesBy None written text o = (v : SetView) × IsRead defaults text v × (o ≡ Ok (written v))
-ComesBy (Some Garbage) written text o = o ≡ Ok []
-ComesBy (Some fault) written text o = o ≡ Err (faults.Set fault)
+abbrev pub ComesBy : Bool → Option SetFault → (SetView → List ℕ) → List ℕ → Outcome → Type 0
+ComesBy skip None written text o = (v : SetView) × IsRead (defaults skip) text v × (o ≡ Ok (written v))
+ComesBy skip (Some Garbage) written text o = o ≡ Ok []
+ComesBy skip (Some fault) written text o = o ≡ Err (faults.Set fault)
 
 abbrev pub Comes : (PlainSelect → SetView → List ℕ) → Result (List ℕ × PlainSelect) InputFault → Outcome → Type 0
-Comes written (Ok (text, s)) o = ComesBy (refusal defaults text) (written s) text o
+Comes written (Ok (text, s)) o = ComesBy s.skip_binary (refusal (defaults s.skip_binary) text) (written s) text o
 Comes written (Err fault) o = o ≡ Err (faults.Input fault)
 
 abbrev done_with : List ℕ → Outcome
 done_with bytes = Ok bytes
 
 -- the bytes that are written of a set are told by its text
-module _ (written : PlainSelect → SetView → List ℕ) (told : PlainSelect → List ℕ → List ℕ) (same : (s : PlainSelect) (text : List ℕ) (v : SetView) → IsRead defaults text v → written s v ≡ told s text) where
-  by-refusal : (r : Option SetFault) (s : PlainSelect) (text : List ℕ) (o : Outcome) → ComesBy r (written s) text o → o ≡ unless_refused r (told s text)
+module _ (written : PlainSelect → SetView → List ℕ) (told : PlainSelect → List ℕ → List ℕ) (same : (s : PlainSelect) (text : List ℕ) (v : SetView) → IsRead (defaults s.skip_binary) text v → written s v ≡ told s text) where
+  by-refusal : (r : Option SetFault) (s : PlainSelect) (text : List ℕ) (o : Outcome) → ComesBy s.skip_binary r (written s) text o → o ≡ unless_refused r (told s text)
   by-refusal None s text o h = h.2 ∙ ap done_with (same s text h.0 h.1)
   by-refusal (Some (Malformed line kind)) s text o h = h
   by-refusal (Some Garbage) s text o h = h
@@ -43,23 +43,23 @@ module _ (written : PlainSelect → SetView → List ℕ) (told : PlainSelect �
   by-refusal (Some Memory) s text o h = h
 
   comes-is : (x : Result (List ℕ × PlainSelect) InputFault) (o : Outcome) → Comes written x o → o ≡ outcome_by told x
-  comes-is (Ok (text, s)) o h = by-refusal (refusal defaults text) s text o h
+  comes-is (Ok (text, s)) o h = by-refusal (refusal (defaults s.skip_binary) text) s text o h
   comes-is (Err fault) o h = h
 
 pub listed-is : (j : PlainListJob) (f : Files) (left : List ℕ) (o : Outcome) → Comes (λ s v. listed (list_with j s) (plain_patches v)) (given j.input j.select f left) o → o ≡ list_outcome j f left
 unfolding list_outcome
-listed-is j f left = comes-is (λ s v. listed (list_with j s) (plain_patches v)) (λ s text. listed (list_with j s) (patches_in text))
-    (λ s text v read. ap (listed (list_with j s)) (sym (patches-by text v read))) (given j.input j.select f left)
+listed-is j f left = comes-is (λ s v. listed (list_with j s) (plain_patches v)) (λ s text. listed (list_with j s) (patches_in s.skip_binary text))
+    (λ s text v read. ap (listed (list_with j s)) (sym (patches-by s.skip_binary text v read))) (given j.input j.select f left)
 
 pub filtered-is : (j : PlainFilterJob) (f : Files) (left : List ℕ) (o : Outcome) → Comes (λ s v. filtered (filter_with j s) v) (given j.input j.select f left) o → o ≡ filter_outcome j f left
 unfolding filter_outcome
 filtered-is j f left = comes-is (λ s v. filtered (filter_with j s) v) (λ s text. filtered_in (filter_with j s) text)
-    (λ s text v read. filtered-by text v read (filter_with j s)) (given j.input j.select f left)
+    (λ s text v read. filtered-by (filter_with j s) text v read) (given j.input j.select f left)
 
 pub grepped-is : (hit : List ℕ → List ℕ → Bool) (j : PlainGrepJob) (f : Files) (left : List ℕ) (o : Outcome) → Comes (λ s v. grepped (hit j.pattern) (grep_with j s) v) (given j.input j.select f left) o → o ≡ grep_outcome hit j f left
 unfolding grep_outcome
 grepped-is hit j f left = comes-is (λ s v. grepped (hit j.pattern) (grep_with j s) v) (λ s text. grepped_in (hit j.pattern) (grep_with j s) text)
-    (λ s text v read. grepped-by text v read (hit j.pattern) (grep_with j s)) (given j.input j.select f left)
+    (λ s text v read. grepped-by (hit j.pattern) (grep_with j s) text v read) (given j.input j.select f left)
 
 -- ---- a text with file patches
 
@@ -67,5 +67,5 @@ none-of-none : (text : List ℕ) (ps : List FilePatch) → map (patch_of text) p
 none-of-none text [] empty = refl
 none-of-none text (p ∷ ps) empty = absurd cc
 
-pub some-there : (text : List ℕ) (v : SetView) → IsRead defaults text v → v.patches ≢ [] → patches_in text ≢ []
-some-there text v read some empty = some (none-of-none v.text v.patches (sym (patches-by text v read) ∙ empty))
+pub some-there : (skip : Bool) (text : List ℕ) (v : SetView) → IsRead (defaults skip) text v → v.patches ≢ [] → patches_in skip text ≢ []
+some-there skip text v read some empty = some (none-of-none v.text v.patches (sym (patches-by skip text v read) ∙ empty))

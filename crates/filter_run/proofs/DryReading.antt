@@ -1,5 +1,5 @@
 -- A set that is read for a dry run is the one that is read for any other.
-use Rattle.std.proofs.Common.{◌≡◌, ℕ, List, Result, Ok, Err, refl, ap}
+use Rattle.std.proofs.Common.{◌≡◌, ℕ, Bool, List, Result, Ok, Err, refl, ap}
 use Rattle.hunk_core.specs.Reading.{Fault}
 use Rattle.line_list.specs.Completed.{completed}
 use Rattle.file_patch.specs.PlainPatch.{PlainPatch}
@@ -11,8 +11,8 @@ use Rattle.patch_text.specs.Patches.{patches_of}
 use Rattle.std.specs.Prelude.{if◌then◌else◌, Some}
 use Rattle.filter_run.specs.Texts.{defaults, dry_defaults}
 
-pub read-alike : (given : List ℕ) (v : SetView) → IsRead dry_defaults given v → IsRead defaults given v
-read-alike given v h = record {
+pub read-alike : (skip : Bool) (given : List ℕ) (v : SetView) → IsRead (dry_defaults skip) given v → IsRead (defaults skip) given v
+read-alike skip given v h = record {
   text = h.text;
   ways = h.ways;
   patches = h.patches;
@@ -22,9 +22,9 @@ read-alike given v h = record {
   names = record { targets = h.names.targets; output = h.names.output; few = h.names.few; fit = h.names.fit; output_fit = h.names.output_fit };
 }
 
-of-alike : (text : List ℕ) (r : Result (List PlainPatch) Fault) → refusal_of dry_defaults text r ≡ refusal_of defaults text r
-of-alike text (Ok ps) = refl
-of-alike text (Err f) = refl
+of-alike : (skip : Bool) (text : List ℕ) (r : Result (List PlainPatch) Fault) → refusal_of (dry_defaults skip) text r ≡ refusal_of (defaults skip) text r
+of-alike skip text (Ok ps) = refl
+of-alike skip text (Err f) = refl
 
-pub refused-alike : (text : List ℕ) → refusal dry_defaults text ≡ refusal defaults text
-refused-alike text = ap (λ r. if is_too_long text then Some faults.TooLong else r) (of-alike text (patches_of (ways_of defaults) (completed text)))
+pub refused-alike : (skip : Bool) (text : List ℕ) → refusal (dry_defaults skip) text ≡ refusal (defaults skip) text
+refused-alike skip text = ap (λ r. if is_too_long text then Some faults.TooLong else r) (of-alike skip text (patches_of (ways_of (defaults skip)) (completed text)))

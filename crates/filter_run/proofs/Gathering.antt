@@ -1,5 +1,5 @@
 -- What was read before a filter writes.
-use Rattle.std.proofs.Common.{◌≡◌, ◌≢◌, ◌⊎◌, inl, inr, ⊎_elim, ℕ, true, List, [], Option, None, Some, Result, Ok, Err, refl, sym, ap, ◌∙◌}
+use Rattle.std.proofs.Common.{◌≡◌, ◌≢◌, ◌⊎◌, inl, inr, ⊎_elim, ℕ, Bool, true, List, [], Option, None, Some, Result, Ok, Err, refl, sym, ap, subst, ◌∙◌}
 use Rattle.std.specs.Prelude.{IsErrAnd, IfSome}
 use Rattle.std.proofs.lemmas.Result.{err_from_is_err_and}
 use Rattle.outside.specs.Files.{Files}
@@ -22,40 +22,40 @@ use Rattle.filter_run.specs.declared.fault.FilterFault.{FilterFault}
 use Rattle.filter_run.specs.declared.fault.FilterFault.TheVariants as faults
 
 -- a text that isn't read is refused, or memory ran out
-abbrev pub IsUnread : List ℕ → SetFault → Type 0
-IsUnread text e = (e ≡ Memory) ⊎ ((e ≢ Garbage) × (refusal defaults text ≡ Some e))
+abbrev pub IsUnread : Bool → List ℕ → SetFault → Type 0
+IsUnread skip text e = (e ≡ Memory) ⊎ ((e ≢ Garbage) × (refusal (defaults skip) text ≡ Some e))
 
 -- the text and the selection that are given, wherever they are told
 abbrev pub AreGiven : Input → PlainSelect → PlainSelect → TreeView → SourceView → List ℕ → Type 0
 AreGiven i old new t a text = (f : Files) (left : List ℕ) → IsTold i old t a f left → given i old f left ≡ Ok (text, new)
 
 module _ (i : Input) (old new : PlainSelect) (t : TreeView) (a : SourceView) (text : List ℕ) (are : AreGiven i old new t a text) where
-  pub garbage-opened : refusal defaults text ≡ Some Garbage → (f : Files) (left : List ℕ) → IsTold i old t a f left → IsGarbage new (given i old f left)
+  pub garbage-opened : refusal (defaults new.skip_binary) text ≡ Some Garbage → (f : Files) (left : List ℕ) → IsTold i old t a f left → IsGarbage new (given i old f left)
   garbage-opened is f left told = record { text = text; is = are f left told; garbage = is }
 
-  pub set-opened : (v : SetView) → IsRead defaults text v → refusal defaults text ≡ None → (f : Files) (left : List ℕ) → IsTold i old t a f left → IsReadOf v new (given i old f left)
+  pub set-opened : (v : SetView) → IsRead (defaults new.skip_binary) text v → refusal (defaults new.skip_binary) text ≡ None → (f : Files) (left : List ℕ) → IsTold i old t a f left → IsReadOf v new (given i old f left)
   set-opened v read free f left told = record { text = text; is = are f left told; free = free; read = read }
 
-  pub text-refused-so : (e : SetFault) → IsUnread text e → is_refusal (faults.Set e) ≡ true → (f : Files) (left : List ℕ) → IsTold i old t a f left → IsRefusedText e (given i old f left)
+  pub text-refused-so : (e : SetFault) → IsUnread new.skip_binary text e → is_refusal (faults.Set e) ≡ true → (f : Files) (left : List ℕ) → IsTold i old t a f left → IsRefusedText e (given i old f left)
   text-refused-so e is refuses f left told = ⊎_elim
       (λ (memory : e ≡ Memory). absurd (let h : is_refusal (faults.Set Memory) ≡ true = sym (ap (λ x. is_refusal (faults.Set x)) memory) ∙ refuses in cc))
-      (λ (here : (e ≢ Garbage) × (refusal defaults text ≡ Some e)). record { text = text; select = new; is = are f left told; refused = here.1; some = here.0 })
+      (λ (here : (e ≢ Garbage) × (refusal (defaults new.skip_binary) text ≡ Some e)). record { text = text; select = new; is = are f left told; refused = here.1; some = here.0 })
       is
 
-pub unread-cause : (text : List ℕ) (e : SetFault) → IsUnread text e → HasTextCause (faults.Set e)
-unread-cause text (Malformed line kind) (inl never) = absurd (cc)
-unread-cause text (Malformed line kind) (inr is) = (text, is.1)
-unread-cause text Garbage (inl never) = absurd (cc)
-unread-cause text Garbage (inr is) = is.0 refl
-unread-cause text TooLong (inl never) = absurd (cc)
-unread-cause text TooLong (inr is) = (text, is.1)
-unread-cause text (OutMany count) (inl never) = absurd (cc)
-unread-cause text (OutMany count) (inr is) = (text, is.1)
-unread-cause text (EdReverse line) (inl never) = absurd (cc)
-unread-cause text (EdReverse line) (inr is) = (text, is.1)
-unread-cause text (Reserved line) (inl never) = absurd (cc)
-unread-cause text (Reserved line) (inr is) = (text, is.1)
-unread-cause text Memory is = tt
+pub unread-cause : (skip : Bool) (text : List ℕ) (e : SetFault) → IsUnread skip text e → HasTextCause skip (faults.Set e)
+unread-cause skip text (Malformed line kind) (inl never) = absurd (cc)
+unread-cause skip text (Malformed line kind) (inr is) = (text, is.1)
+unread-cause skip text Garbage (inl never) = absurd (cc)
+unread-cause skip text Garbage (inr is) = is.0 refl
+unread-cause skip text TooLong (inl never) = absurd (cc)
+unread-cause skip text TooLong (inr is) = (text, is.1)
+unread-cause skip text (OutMany count) (inl never) = absurd (cc)
+unread-cause skip text (OutMany count) (inr is) = (text, is.1)
+unread-cause skip text (EdReverse line) (inl never) = absurd (cc)
+unread-cause skip text (EdReverse line) (inr is) = (text, is.1)
+unread-cause skip text (Reserved line) (inl never) = absurd (cc)
+unread-cause skip text (Reserved line) (inr is) = (text, is.1)
+unread-cause skip text Memory is = tt
 
 -- a fault that is passed on
 pub fault-is : {X E : Type 0} (r : Result X E) (e : E) → IsErrAnd r (λ f. f ≡ e) → r ≡ Err e
@@ -76,18 +76,18 @@ module _ (i : Input) (old new : PlainSelect) (t u : TreeView) (a b : SourceView)
   }
 
   module _ (text : List ℕ) (are : AreGiven i old new t a text) where
-    pub opens-unread : (r : Result (Option SetView) FilterFault) (e : SetFault) → IsErrAnd r (λ f. f ≡ faults.Set e) → IsUnread text e → Opens i old new t u a b r
-    opens-unread r e is unread = rw (fault-is r (faults.Set e) is) record {
+    pub opens-unread : new.skip_binary ≡ old.skip_binary → (r : Result (Option SetView) FilterFault) (e : SetFault) → IsErrAnd r (λ f. f ≡ faults.Set e) → IsUnread new.skip_binary text e → Opens i old new t u a b r
+    opens-unread skips r e is unread = rw (fault-is r (faults.Set e) is) record {
       untouched = same;
       source = source;
       read = tt;
       taken = taken;
       opened = tt;
       refused = text-refused-so i old new t a text are e unread;
-      cause = unread-cause text e unread;
+      cause = subst (λ (skip : Bool). HasTextCause skip (faults.Set e)) skips (unread-cause new.skip_binary text e unread);
     }
 
-    pub opens-read : (set : Option SetView) → (IsStandard i → (left : List ℕ) → a.told ≡ Some left → b.told ≡ Some []) → IfSome set (λ v. IsRead defaults text v × IsWhole v × (refusal defaults text ≡ None)) → (set ≡ None → refusal defaults text ≡ Some Garbage)
+    pub opens-read : (set : Option SetView) → (IsStandard i → (left : List ℕ) → a.told ≡ Some left → b.told ≡ Some []) → IfSome set (λ v. IsRead (defaults new.skip_binary) text v × IsWhole v × (refusal (defaults new.skip_binary) text ≡ None)) → (set ≡ None → refusal (defaults new.skip_binary) text ≡ Some Garbage)
         → Opens i old new t u a b (Ok set)
     opens-read None end some none = record {
       untouched = same;

@@ -38,8 +38,8 @@ module _ (form : Form) (j : PlainFilterJob) where
   module _ (x : Result (List ℕ × PlainSelect) InputFault) where
     by-read : (s : PlainSelect) (v : SetView) → IsReadOf v s x → converted_by form j x ≡ unless_unfit (form_refusal form (left_patches (filter_with j s) (plain_patches v))) (converted form (filter_with j s) v)
     by-read s v h = rw (h.is, h.free)
-        (ap (λ (r : Option ConvertFault). unless_unfit r (converted_in form (filter_with j s) h.text)) (sym (form-by h.text v h.read form (filter_with j s)))
-        ∙ ap (unless_unfit (form_refusal form (left_patches (filter_with j s) (plain_patches v)))) (sym (converted-by h.text v h.read form (filter_with j s))))
+        (ap (λ (r : Option ConvertFault). unless_unfit r (converted_in form (filter_with j s) h.text)) (sym (form-by form (filter_with j s) h.text v h.read))
+        ∙ ap (unless_unfit (form_refusal form (left_patches (filter_with j s) (plain_patches v)))) (sym (converted-by form (filter_with j s) h.text v h.read)))
 
     by-none : (s : PlainSelect) → IsGarbage s x → converted_by form j x ≡ Ok []
     by-none s h = rw (h.is, h.garbage) refl
@@ -115,9 +115,9 @@ module _ (form : Form) (j : PlainFilterJob) where
           cause = tt;
         }
 
-        module _ (some : IsReadOfSome v) where
+        module _ (some : IsReadOfSome new.skip_binary v) where
           refused-so : (e : ConvertFault) → refused ≡ Some e → HasFormCause form j e
-          refused-so e is = (some.0, new, sym (form-by some.0 v some.1 form (filter_with j new)) ∙ is)
+          refused-so e is = (some.0, new, sym (form-by form (filter_with j new) some.0 v some.1) ∙ is)
 
           pub forms-refused : (e : ConvertFault) → Converts view same x y (Err e) refused bytes → Forms form j t u a b (view x) (view y) (Err (of_convert e))
           forms-refused (convert.NoContext line) w = record {
@@ -150,7 +150,7 @@ module _ (form : Form) (j : PlainFilterJob) where
           }
 
     -- over what was opened
-    pub forms-over : {O : Type 0} (view : O → SinkView) (same : O → O → Type 0) (x y : O) (o : Option SetView) (r : Result (Unit {0}) ConvertFault) → Opens j.input j.select new t u a b (Ok o) → IfSome o IsReadOfSome
+    pub forms-over : {O : Type 0} (view : O → SinkView) (same : O → O → Type 0) (x y : O) (o : Option SetView) (r : Result (Unit {0}) ConvertFault) → Opens j.input j.select new t u a b (Ok o) → IfSome o (IsReadOfSome new.skip_binary)
         → IfSome o (λ v. Converts view same x y r (form_refusal form (left_patches (filter_with j new) (plain_patches v))) (converted form (filter_with j new) v)) → (o ≡ None → (r ≡ Ok tt) × (y ≡ x)) → Forms form j t u a b (view x) (view y) (of_converted r)
     forms-over view same x y None r h some converts none = let is = none refl in rw (is.0, is.1) (forms-nothing (view x) h)
     forms-over view same x y (Some v) (Ok done) h some converts none = forms-written v h view same x y converts

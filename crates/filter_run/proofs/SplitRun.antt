@@ -48,8 +48,8 @@ input-cause (input.Disagree want got) t u name h = h
 input-cause input.Memory t u name h = tt
 
 pub input-refused : (j : PlainSplitJob) (e : InputFault) (t u : TreeView) → HasFileCause e t u j.input → is_refusal (faults.Input e) ≡ true → (f : Files) → t.told ≡ Some f → IsSplit j f (Err (faults.Input e))
-input-refused j input.NoPatchFile t u h is f told = subst (λ (r : Result (List ℕ) InputFault). SplitsText r (Err (faults.Input input.NoPatchFile))) (sym (h f told)) refl
-input-refused j input.TooLong t u h is f told = subst (λ (r : Result (List ℕ) InputFault). SplitsText r (Err (faults.Input input.TooLong))) (sym (h f told)) refl
+input-refused j input.NoPatchFile t u h is f told = subst (λ (r : Result (List ℕ) InputFault). SplitsText j.skip_binary r (Err (faults.Input input.NoPatchFile))) (sym (h f told)) refl
+input-refused j input.TooLong t u h is f told = subst (λ (r : Result (List ℕ) InputFault). SplitsText j.skip_binary r (Err (faults.Input input.TooLong))) (sym (h f told)) refl
 input-refused j input.Source t u h is f told = absurd h
 input-refused j input.Tree t u h is f told = absurd (false≢true is)
 input-refused j (input.Disagree want got) t u h is f told = absurd (false≢true is)
@@ -59,28 +59,28 @@ text-is : (text : List ℕ) → length text ≤ 268435456 → answer_of (Some te
 text-is text short = ap (λ (b : Bool). if b then Ok text else Err input.TooLong) (le-leb (length text) 268435456 short)
 
 module _ (j : PlainSplitJob) (f : Files) (text : List ℕ) (short : length text ≤ 268435456) (is : get f j.input ≡ Some text) where
-  by-text : (o : Result SetView FilterFault) → SplitsBy (refusal defaults text) text o → IsSplit j f o
-  by-text o by = subst (λ (r : Result (List ℕ) InputFault). SplitsText r o) (sym (ap answer_of is ∙ text-is text short)) by
+  by-text : (o : Result SetView FilterFault) → SplitsBy j.skip_binary (refusal (defaults j.skip_binary) text) text o → IsSplit j f o
+  by-text o by = subst (λ (r : Result (List ℕ) InputFault). SplitsText j.skip_binary r o) (sym (ap answer_of is ∙ text-is text short)) by
 
-  pub split-into : (v : SetView) → refusal defaults text ≡ None → IsRead defaults text v → IsSplit j f (Ok v)
-  split-into v free read = by-text (Ok v) (subst (λ (r : Option SetFault). SplitsBy r text (Ok v)) (sym free) (v, read, refl))
+  pub split-into : (v : SetView) → refusal (defaults j.skip_binary) text ≡ None → IsRead (defaults j.skip_binary) text v → IsSplit j f (Ok v)
+  split-into v free read = by-text (Ok v) (subst (λ (r : Option SetFault). SplitsBy j.skip_binary r text (Ok v)) (sym free) (v, read, refl))
 
-  pub split-refused : (e : SetFault) → refusal defaults text ≡ Some e → IsSplit j f (Err (faults.Set e))
-  split-refused e refused = by-text (Err (faults.Set e)) (subst (λ (r : Option SetFault). SplitsBy r text (Err (faults.Set e))) (sym refused) refl)
+  pub split-refused : (e : SetFault) → refusal (defaults j.skip_binary) text ≡ Some e → IsSplit j f (Err (faults.Set e))
+  split-refused e refused = by-text (Err (faults.Set e)) (subst (λ (r : Option SetFault). SplitsBy j.skip_binary r text (Err (faults.Set e))) (sym refused) refl)
 
 pub set-refused : (e : SetFault) (r : Option SetFault) → (e ≡ set.Memory) ⊎ (r ≡ Some e) → is_refusal (faults.Set e) ≡ true → r ≡ Some e
 set-refused e r (inl memory) is = absurd (false≢true (ap (λ (x : SetFault). is_refusal (faults.Set x)) (sym memory) ∙ is))
 set-refused e r (inr refused) is = refused
 
-pub set-cause : (e : SetFault) (text : List ℕ) → (e ≡ set.Memory) ⊎ (refusal defaults text ≡ Some e) → HasSetCause e
-set-cause e text (inl memory) = subst HasSetCause (sym memory) tt
-set-cause set.Memory text (inr refused) = tt
-set-cause (set.Malformed line kind) text (inr refused) = (text, refused)
-set-cause set.Garbage text (inr refused) = (text, refused)
-set-cause set.TooLong text (inr refused) = (text, refused)
-set-cause (set.OutMany count) text (inr refused) = (text, refused)
-set-cause (set.EdReverse line) text (inr refused) = (text, refused)
-set-cause (set.Reserved line) text (inr refused) = (text, refused)
+pub set-cause : (skip : Bool) (e : SetFault) (text : List ℕ) → (e ≡ set.Memory) ⊎ (refusal (defaults skip) text ≡ Some e) → HasSetCause skip e
+set-cause skip e text (inl memory) = subst (HasSetCause skip) (sym memory) tt
+set-cause skip set.Memory text (inr refused) = tt
+set-cause skip (set.Malformed line kind) text (inr refused) = (text, refused)
+set-cause skip set.Garbage text (inr refused) = (text, refused)
+set-cause skip set.TooLong text (inr refused) = (text, refused)
+set-cause skip (set.OutMany count) text (inr refused) = (text, refused)
+set-cause skip (set.EdReverse line) text (inr refused) = (text, refused)
+set-cause skip (set.Reserved line) text (inr refused) = (text, refused)
 
 -- ---- what is cut is told by the text
 
@@ -92,20 +92,20 @@ seen every (Err e) = Err e
 abbrev cut_into : List ℕ → List Span → Result Cut FilterFault
 cut_into text spans = Ok (text, spans)
 
-by-refusal : (every : Bool) (r : Option SetFault) (text : List ℕ) (o : Result SetView FilterFault) → SplitsBy r text o → cut_unless every r text ≡ seen every o
-by-refusal every None text o h =
-    ap (λ (l : List ℕ). cut_into l (parts_in every text)) (sym h.1.text)
-    ∙ ap (λ (ss : List Span). cut_into h.0.text ss) (sym (parts-by text h.0 h.1 every))
-    ∙ sym (ap (seen every) h.2)
-by-refusal every (Some fault) text o h = sym (ap (seen every) h)
+by-refusal : (j : PlainSplitJob) (r : Option SetFault) (text : List ℕ) (o : Result SetView FilterFault) → SplitsBy j.skip_binary r text o → cut_unless j r text ≡ seen j.every o
+by-refusal j None text o h =
+    ap (λ (l : List ℕ). cut_into l (parts_in j text)) (sym h.1.text)
+    ∙ ap (λ (ss : List Span). cut_into h.0.text ss) (sym (parts-by j text h.0 h.1))
+    ∙ sym (ap (seen j.every) h.2)
+by-refusal j (Some fault) text o h = sym (ap (seen j.every) h)
 
-by-answer : (every : Bool) (x : Result (List ℕ) InputFault) (o : Result SetView FilterFault) → SplitsText x o → cut_of every x ≡ seen every o
-by-answer every (Ok text) o h = by-refusal every (refusal defaults text) text o h
-by-answer every (Err fault) o h = sym (ap (seen every) h)
+by-answer : (j : PlainSplitJob) (x : Result (List ℕ) InputFault) (o : Result SetView FilterFault) → SplitsText j.skip_binary x o → cut_of j x ≡ seen j.every o
+by-answer j (Ok text) o h = by-refusal j (refusal (defaults j.skip_binary) text) text o h
+by-answer j (Err fault) o h = sym (ap (seen j.every) h)
 
 split-is : (j : PlainSplitJob) (f : Files) (o : Result SetView FilterFault) → IsSplit j f o → split_outcome j f ≡ seen j.every o
 unfolding split_outcome
-split-is j f o h = by-answer j.every (answer_of (get f j.input)) o h
+split-is j f o h = by-answer j (answer_of (get f j.input)) o h
 
 -- ---- the run
 
@@ -118,7 +118,7 @@ early true e j f t u c refused same = split-is j f (Err e) (refused refl)
 early false e j f t u c refused same = inl (record { tree = same; out = refl })
 
 module _ (j : PlainSplitJob) {t u : TreeView} (c : SinkView) (same : IsUntouched t u) where
-  early-cut : (e : FilterFault) → HasEarlyCause e t u → (is_refusal e ≡ true → (f : Files) → t.told ≡ Some f → IsSplit j f (Err e)) → Splits j t u c c (Err e)
+  early-cut : (e : FilterFault) → HasEarlyCause j.skip_binary e t u → (is_refusal e ≡ true → (f : Files) → t.told ≡ Some f → IsSplit j f (Err e)) → Splits j t u c c (Err e)
   early-cut (faults.Input x) cause refused = record {
     tree = same.passes;
     sink = sink_passes_none c;
@@ -143,7 +143,7 @@ module _ (j : PlainSplitJob) {t u : TreeView} (c : SinkView) (same : IsUntouched
   early-cut faults.Write cause refused = absurd cause
   early-cut faults.Memory cause refused = absurd cause
 
-  pub splits-unread : (e : FilterFault) (s : Result (Unit {0}) FilterFault) → IsErrAnd s (λ x. x ≡ e) → HasEarlyCause e t u → (is_refusal e ≡ true → (f : Files) → t.told ≡ Some f → IsSplit j f (Err e)) → Splits j t u c c s
+  pub splits-unread : (e : FilterFault) (s : Result (Unit {0}) FilterFault) → IsErrAnd s (λ x. x ≡ e) → HasEarlyCause j.skip_binary e t u → (is_refusal e ≡ true → (f : Files) → t.told ≡ Some f → IsSplit j f (Err e)) → Splits j t u c c s
   splits-unread e (Ok x) is cause refused = absurd is
   splits-unread e (Err x) is cause refused = subst (λ (y : FilterFault). Splits j t u c c (Err y)) (sym is) (early-cut e cause refused)
 

@@ -1,5 +1,5 @@
 -- From a text that was read, and what was written of its set, to what `reversediff` promises.
-use Rattle.std.proofs.Common.{◌≡◌, ◌⊎◌, inl, inr, ℕ, true, List, [], Option, None, Some, Result, Ok, Err, refl, sym, ap, ◌∙◌, subst}
+use Rattle.std.proofs.Common.{◌≡◌, ◌⊎◌, inl, inr, ℕ, true, false, List, [], Option, None, Some, Result, Ok, Err, refl, sym, ap, ◌∙◌, subst}
 use Rattle.std.specs.Prelude.{option_map}
 use Rattle.std.specs.Option.{option_or}
 use Rattle.std.specs.Result.{IsErrAnd}
@@ -34,10 +34,10 @@ use Rattle.filter_run.proofs.Taking.{text-is, text-refused, text-cause}
 use Rattle.filter_run.proofs.Written.{answers-none}
 
 -- ---- what comes of a text is what comes of its set
-pub by-set : (text : List ℕ) (v : SetView) → refusal defaults text ≡ None → IsRead defaults text v → (r : Option FlipFault) → refused (plain_patches v) ≡ r → text_flipped text ≡ turned_unless r (flipped v)
+pub by-set : (text : List ℕ) (v : SetView) → refusal (defaults false) text ≡ None → IsRead (defaults false) text v → (r : Option FlipFault) → refused (plain_patches v) ≡ r → text_flipped text ≡ turned_unless r (flipped v)
 by-set text v free read r is =
     ap (λ f. flipped_unless f text) free
-    ∙ ap (λ f. turned_unless f (flipped_in text)) (ap refused (patches-by text v read) ∙ is)
+    ∙ ap (λ f. turned_unless f (flipped_in text)) (ap refused (patches-by false text v read) ∙ is)
     ∙ ap (turned_unless r) (sym (flipped-by text v read))
 
 -- ---- answers by another name
@@ -71,7 +71,7 @@ module _ {O : Type 0} (view : O → SinkView) (same : O → O → Type 0) (x y :
 
 -- ---- a text that makes no set
 
-why-so : (e : SetFault) (text : List ℕ) → (e ≡ set.Memory) ⊎ (refusal defaults text ≡ Some e) → HasFlipCause (faults.Set e)
+why-so : (e : SetFault) (text : List ℕ) → (e ≡ set.Memory) ⊎ (refusal (defaults false) text ≡ Some e) → HasFlipCause (faults.Set e)
 why-so (set.Malformed line kind) text (inl never) = absurd (cc)
 why-so (set.Malformed line kind) text (inr is) = (text, ap (λ r. flipped_unless r text) is)
 why-so set.Garbage text (inl never) = absurd (cc)
@@ -106,7 +106,7 @@ module _ (i : Input) (t u : TreeView) (a b : SourceView) (same : IsUntouched t u
     sink = sink_passes_none c;
     early = λ is. refl;
     answers = λ f left told. answers-none (is_refusal (faults.Set e)) (faults.Set e) (IsOutcomeOf (flip_outcome i) f left) c
-        (λ refuses. sym (ap flipped_from (text-is i no_selection t a (Ok h.text) h.given f left told) ∙ ap (λ r. flipped_unless r h.text) (set-refused e (refusal defaults h.text) h.why refuses)));
+        (λ refuses. sym (ap flipped_from (text-is i no_selection t a (Ok h.text) h.given f left told) ∙ ap (λ r. flipped_unless r h.text) (set-refused e (refusal (defaults false) h.text) h.why refuses)));
     cause = why-so e h.text h.why;
   }
   flips-unread (faults.Unfit line) h c = absurd h

@@ -34,18 +34,18 @@ module _ (written : PlainSelect → SetView → List ℕ) (x : Result (List ℕ 
   comes-none : (s : PlainSelect) → IsGarbage s x → Comes written x (Ok [])
   comes-none s h = rw (h.is, h.garbage) refl
 
-comes-by : (e : SetFault) (bytes : SetView → List ℕ) (text : List ℕ) → e ≢ Garbage → ComesBy (Some e) bytes text (Err (faults.Set e))
-comes-by (Malformed line kind) bytes text ne = refl
-comes-by Garbage bytes text ne = absurd (ne refl)
-comes-by TooLong bytes text ne = refl
-comes-by (OutMany count) bytes text ne = refl
-comes-by (EdReverse line) bytes text ne = refl
-comes-by (Reserved line) bytes text ne = refl
-comes-by Memory bytes text ne = refl
+comes-by : (skip : Bool) (e : SetFault) (bytes : SetView → List ℕ) (text : List ℕ) → e ≢ Garbage → ComesBy skip (Some e) bytes text (Err (faults.Set e))
+comes-by skip (Malformed line kind) bytes text ne = refl
+comes-by skip Garbage bytes text ne = absurd (ne refl)
+comes-by skip TooLong bytes text ne = refl
+comes-by skip (OutMany count) bytes text ne = refl
+comes-by skip (EdReverse line) bytes text ne = refl
+comes-by skip (Reserved line) bytes text ne = refl
+comes-by skip Memory bytes text ne = refl
 
 comes-refused : (written : PlainSelect → SetView → List ℕ) (e : FilterFault) (x : Result (List ℕ × PlainSelect) InputFault) → IsRefused e x → Comes written x (Err e)
 comes-refused written (faults.Input e) x is = rw is refl
-comes-refused written (faults.Set e) x is = rw (is.is, is.refused) (comes-by e (written is.select) is.text is.some)
+comes-refused written (faults.Set e) x is = rw (is.is, is.refused) (comes-by is.select.skip_binary e (written is.select) is.text is.some)
 comes-refused written (faults.Unfit line) x is = absurd is
 comes-refused written faults.Pattern x is = absurd is
 comes-refused written faults.Tree x is = absurd is
@@ -53,14 +53,14 @@ comes-refused written faults.Write x is = absurd is
 comes-refused written faults.Memory x is = absurd is
 
 pub patches-there : (x : Result (List ℕ × PlainSelect) InputFault) (s : PlainSelect) (v : SetView) → v.patches ≢ [] → IsReadOf v s x → HasPatches x
-patches-there x s v some h = rw (h.is) (h.free, some-there h.text v h.read some)
+patches-there x s v some h = rw (h.is) (h.free, some-there s.skip_binary h.text v h.read some)
 
 -- ---- answers that write nothing
 pub answers-none : (b : Bool) (e : FilterFault) (P : Outcome → Type 0) (c : SinkView) → (b ≡ true → P (Err e)) → AnswersFault b e P c c
 answers-none true e P c is = (is refl, refl)
 answers-none false e P c is = inl refl
 
-pub opening-cause : (e : FilterFault) (i : Input) (s : PlainSelect) (Q : Type 0) (t u : TreeView) (a b : SourceView) (c : SinkView) → HasOpeningCause e i s t u a b → HasCause e i s HasTextCause Q t u a b c c
+pub opening-cause : (e : FilterFault) (i : Input) (s : PlainSelect) (Q : Type 0) (t u : TreeView) (a b : SourceView) (c : SinkView) → HasOpeningCause e i s t u a b → HasCause e i s (HasTextCause s.skip_binary) Q t u a b c c
 opening-cause (faults.Input e) i s Q t u a b c h = h
 opening-cause (faults.Set e) i s Q t u a b c h = h
 opening-cause (faults.Unfit line) i s Q t u a b c h = absurd h
@@ -72,7 +72,7 @@ opening-cause faults.Memory i s Q t u a b c h = tt
 -- ---- a filter over a set, of which these are the bytes, where the definition allows what comes so
 module _ (i : Input) (old new : PlainSelect) (Q : Type 0) (written : PlainSelect → SetView → List ℕ) (P : Files → List ℕ → Outcome → Type 0)
     (allows : (f : Files) (left : List ℕ) (o : Outcome) → Comes written (given i old f left) o → P f left o) (t u : TreeView) (a b : SourceView) where
-  pub sifts-unopened : (e : FilterFault) (c : SinkView) → Opens i old new t u a b (Err e) → Sifts i old HasTextCause Q P t u a b c c (Err e)
+  pub sifts-unopened : (e : FilterFault) (c : SinkView) → Opens i old new t u a b (Err e) → Sifts i old (HasTextCause old.skip_binary) Q P t u a b c c (Err e)
   sifts-unopened e c h = record {
     untouched = h.untouched;
     source = h.source;
@@ -84,7 +84,7 @@ module _ (i : Input) (old new : PlainSelect) (Q : Type 0) (written : PlainSelect
     cause = opening-cause e i old Q t u a b c h.cause;
   }
 
-  pub sifts-nothing : (c : SinkView) → Opens i old new t u a b (Ok None) → Sifts i old HasTextCause Q P t u a b c c (Ok tt)
+  pub sifts-nothing : (c : SinkView) → Opens i old new t u a b (Ok None) → Sifts i old (HasTextCause old.skip_binary) Q P t u a b c c (Ok tt)
   sifts-nothing c h = record {
     untouched = h.untouched;
     source = h.source;
@@ -97,7 +97,7 @@ module _ (i : Input) (old new : PlainSelect) (Q : Type 0) (written : PlainSelect
   }
 
   module _ (v : SetView) (h : Opens i old new t u a b (Ok (Some v))) (c d : SinkView) where
-    pub sifts-done : SinkPasses c d → Receives c d (written new v) → Sifts i old HasTextCause Q P t u a b c d (Ok tt)
+    pub sifts-done : SinkPasses c d → Receives c d (written new v) → Sifts i old (HasTextCause old.skip_binary) Q P t u a b c d (Ok tt)
     sifts-done passes received = record {
       untouched = h.untouched;
       source = h.source;
@@ -109,11 +109,11 @@ module _ (i : Input) (old new : PlainSelect) (Q : Type 0) (written : PlainSelect
       cause = tt;
     }
 
-    pub sifts-written : {E : Type 0} → Writes {R = Unit {0}} {E = E} c d (Ok tt) (written new v) → Sifts i old HasTextCause Q P t u a b c d (Ok tt)
+    pub sifts-written : {E : Type 0} → Writes {R = Unit {0}} {E = E} c d (Ok tt) (written new v) → Sifts i old (HasTextCause old.skip_binary) Q P t u a b c d (Ok tt)
     sifts-written w = sifts-done w.call.passes w.received
 
     -- a fault of a device, or want of memory
-    pub sifts-broken : (e : FilterFault) → is_refusal e ≡ false → is_early e ≡ false → SinkPasses c d → ReceivesPart c d (written new v) → HasCause e i old HasTextCause Q t u a b c d → Sifts i old HasTextCause Q P t u a b c d (Err e)
+    pub sifts-broken : (e : FilterFault) → is_refusal e ≡ false → is_early e ≡ false → SinkPasses c d → ReceivesPart c d (written new v) → HasCause e i old (HasTextCause old.skip_binary) Q t u a b c d → Sifts i old (HasTextCause old.skip_binary) Q P t u a b c d (Err e)
     sifts-broken e is late passes part cause = record {
       untouched = h.untouched;
       source = h.source;
@@ -125,12 +125,12 @@ module _ (i : Input) (old new : PlainSelect) (Q : Type 0) (written : PlainSelect
       cause = cause;
     }
 
-    pub sifts-cut : {R E : Type 0} (e : E) → Writes {R = R} c d (Err e) (written new v) → Sifts i old HasTextCause Q P t u a b c d (Err faults.Write)
+    pub sifts-cut : {R E : Type 0} (e : E) → Writes {R = R} c d (Err e) (written new v) → Sifts i old (HasTextCause old.skip_binary) Q P t u a b c d (Err faults.Write)
     sifts-cut e w = sifts-broken faults.Write refl refl w.call.passes w.failed (w.call.cause refl)
 
   -- over what was opened
   pub sifts-over : {O : Type 0} (view : O → SinkView) (x y : O) (o : Option SetView) (r : Result (Unit {0}) Failed) → Opens i old new t u a b (Ok o) → IfSome o (λ v. Writes (view x) (view y) r (written new v)) → (o ≡ None → (r ≡ Ok tt) × (y ≡ x))
-      → Sifts i old HasTextCause Q P t u a b (view x) (view y) (of_sink r)
+      → Sifts i old (HasTextCause old.skip_binary) Q P t u a b (view x) (view y) (of_sink r)
   sifts-over view x y None r h writes none = let is = none refl in rw (is.0, is.1) (sifts-nothing (view x) h)
   sifts-over view x y (Some v) (Ok done) h writes none = sifts-written v h (view x) (view y) writes
   sifts-over view x y (Some v) (Err e) h writes none = sifts-cut v h (view x) (view y) e writes
@@ -144,7 +144,7 @@ module _ (new : PlainSelect) (finder : FinderView) (j : PlainGrepJob) (t u : Tre
   bytes s v = grepped (finder.hit j.pattern) (grep_with j s) v
 
   abbrev Searches : SinkView → SinkView → Result (Unit {0}) FilterFault → Type 0
-  Searches c d result = Sifts j.input j.select HasTextCause (finder.takes j.pattern ≡ false) (IsGrepped finder.takes finder.hit j) t u a b c d result
+  Searches c d result = Sifts j.input j.select (HasTextCause j.select.skip_binary) (finder.takes j.pattern ≡ false) (IsGrepped finder.takes finder.hit j) t u a b c d result
 
   pub searched-unopened : (e : FilterFault) (c : SinkView) → Opens j.input j.select new t u a b (Err e) → Searches c c (Err e)
   searched-unopened = sifts-unopened j.input j.select new (finder.takes j.pattern ≡ false) bytes (IsGrepped finder.takes finder.hit j) (λ f left o is. inl (grepped-is finder.hit j f left o is)) t u a b
@@ -156,7 +156,7 @@ module _ (new : PlainSelect) (finder : FinderView) (j : PlainGrepJob) (t u : Tre
     pub searched-done : (c d : SinkView) → SinkPasses c d → Receives c d (bytes new v) → Searches c d (Ok tt)
     searched-done = sifts-done j.input j.select new (finder.takes j.pattern ≡ false) bytes (IsGrepped finder.takes finder.hit j) (λ f left o is. inl (grepped-is finder.hit j f left o is)) t u a b v h
 
-    searched-broken : (c d : SinkView) (e : FilterFault) → is_refusal e ≡ false → is_early e ≡ false → SinkPasses c d → ReceivesPart c d (bytes new v) → HasCause e j.input j.select HasTextCause (finder.takes j.pattern ≡ false) t u a b c d → Searches c d (Err e)
+    searched-broken : (c d : SinkView) (e : FilterFault) → is_refusal e ≡ false → is_early e ≡ false → SinkPasses c d → ReceivesPart c d (bytes new v) → HasCause e j.input j.select (HasTextCause j.select.skip_binary) (finder.takes j.pattern ≡ false) t u a b c d → Searches c d (Err e)
     searched-broken = sifts-broken j.input j.select new (finder.takes j.pattern ≡ false) bytes (IsGrepped finder.takes finder.hit j) (λ f left o is. inl (grepped-is finder.hit j f left o is)) t u a b v h
 
     searched-untaken : v.patches ≢ [] → finder.takes j.pattern ≡ false → (c : SinkView) → Searches c c (Err faults.Pattern)

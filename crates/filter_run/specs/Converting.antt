@@ -36,11 +36,11 @@ spot_converted form j text n = written_of form j text n.0 n.1.0.header n.1.1
 
 -- what is written in a form of the file patches of a text
 unfoldable pub converted_in : Form → PlainFilterJob → List ℕ → List ℕ
-converted_in form j text = flat_map (spot_converted form j (completed text)) (zip (range_with_len 0 (length (spots_in text))) (spots_in text))
+converted_in form j text = flat_map (spot_converted form j (completed text)) (zip (range_with_len 0 (length (spots_in j.select.skip_binary text))) (spots_in j.select.skip_binary text))
 
 -- why a text isn't written in a form
 abbrev pub form_refused : Form → PlainFilterJob → List ℕ → Option ConvertFault
-form_refused form j text = form_refusal form (left_patches j (patches_in text))
+form_refused form j text = form_refusal form (left_patches j (patches_in j.select.skip_binary text))
 
 -- what a fault of the writing is
 abbrev pub of_convert : ConvertFault → FormFault
@@ -66,7 +66,7 @@ unless_unread (Some fault) o = Err (Filter (faults.Set fault))
 
 -- what comes of a text and a selection
 abbrev pub converted_by : Form → PlainFilterJob → Result (List ℕ × PlainSelect) InputFault → FormOutcome
-converted_by form j (Ok (text, s)) = unless_unread (refusal defaults text) (unless_unfit (form_refused form (filter_with j s) text) (converted_in form (filter_with j s) text))
+converted_by form j (Ok (text, s)) = unless_unread (refusal (defaults s.skip_binary) text) (unless_unfit (form_refused form (filter_with j s) text) (converted_in form (filter_with j s) text))
 converted_by form j (Err fault) = Err (Filter (faults.Input fault))
 
 -- `filterdiff` with a form
@@ -99,7 +99,7 @@ pub record Refuses (form : Form) (j : PlainFilterJob) (t u : TreeView) (a b : So
 
 -- a run with a form is as that of a filter, but for the refusals for the form
 abbrev pub Forms : Form → PlainFilterJob → TreeView → TreeView → SourceView → SourceView → SinkView → SinkView → Result (Unit {0}) FormFault → Type 0
-Forms form j t u a b c d (Ok done) = Sifts j.input j.select HasTextCause ⊥ (IsConverted form j) t u a b c d (Ok done)
-Forms form j t u a b c d (Err (Filter fault)) = Sifts j.input j.select HasTextCause ⊥ (IsConverted form j) t u a b c d (Err fault)
+Forms form j t u a b c d (Ok done) = Sifts j.input j.select (HasTextCause j.select.skip_binary) ⊥ (IsConverted form j) t u a b c d (Ok done)
+Forms form j t u a b c d (Err (Filter fault)) = Sifts j.input j.select (HasTextCause j.select.skip_binary) ⊥ (IsConverted form j) t u a b c d (Err fault)
 Forms form j t u a b c d (Err (NoContext line)) = Refuses form j t u a b c d (convert.NoContext line)
 Forms form j t u a b c d (Err (Unfit line)) = Refuses form j t u a b c d (convert.Unfit line)

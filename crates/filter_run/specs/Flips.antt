@@ -1,5 +1,5 @@
 -- What is written of a text that is turned round, and why none is: told by the text alone.
-use Rattle.std.specs.Prelude.{◌≡◌, ◌⊎◌, ℕ, List, ◌++◌, reverse, Option, None, Some, Result, Ok, Err, IfErr}
+use Rattle.std.specs.Prelude.{◌≡◌, ◌⊎◌, ℕ, false, List, ◌++◌, reverse, Option, None, Some, Result, Ok, Err, IfErr}
 use Rattle.std.specs.List.{flat_map}
 use Rattle.line_list.specs.Completed.{completed}
 use Rattle.hunk_core.specs.declared.Side.TheVariants.{Reversed}
@@ -34,7 +34,7 @@ spot_flipped text s = header_text text s.0.header.form Reversed s.0.header ++ fl
 
 -- the file patches of a text from the last to the first, each turned round
 unfoldable pub flipped_in : List ℕ → List ℕ
-flipped_in text = flat_map (spot_flipped (completed text)) (reverse (spots_in text))
+flipped_in text = flat_map (spot_flipped (completed text)) (reverse (spots_in false text))
 
 -- these bytes, where the file patches can be turned round
 abbrev pub turned_unless : Option FlipFault → List ℕ → Outcome
@@ -43,12 +43,12 @@ turned_unless (Some fault) bytes = Err (of_flip fault)
 
 -- a text that is refused, also one without file patches that isn't empty, is refused as by `patch`
 abbrev pub flipped_unless : Option SetFault → List ℕ → Outcome
-flipped_unless None text = turned_unless (refused (patches_in text)) (flipped_in text)
+flipped_unless None text = turned_unless (refused (patches_in false text)) (flipped_in text)
 flipped_unless (Some fault) text = Err (faults.Set fault)
 
 -- what comes of a text
 abbrev pub text_flipped : List ℕ → Outcome
-text_flipped text = flipped_unless (refusal defaults text) text
+text_flipped text = flipped_unless (refusal (defaults false) text) text
 
 abbrev pub flipped_from : Result (List ℕ) InputFault → Outcome
 flipped_from (Ok text) = text_flipped text
@@ -69,14 +69,14 @@ HasFlipCause e = (text : List ℕ) × (text_flipped text ≡ Err e)
 pub record IsTextRead (i : Input) (t : TreeView) (a : SourceView) (v : SetView) : Type 0 where
   pub text : List ℕ
   pub given : IsAnswer (Ok text) i None t a
-  pub free : refusal defaults text ≡ None
-  pub read : IsRead defaults text v
+  pub free : refusal (defaults false) text ≡ None
+  pub read : IsRead (defaults false) text v
 
 -- the text that is given makes no set, or memory ran out
 pub record IsNotRead (e : SetFault) (i : Input) (t : TreeView) (a : SourceView) : Type 0 where
   pub text : List ℕ
   pub given : IsAnswer (Ok text) i None t a
-  pub why : (e ≡ set.Memory) ⊎ (refusal defaults text ≡ Some e)
+  pub why : (e ≡ set.Memory) ⊎ (refusal (defaults false) text ≡ Some e)
 
 -- why there is no set
 abbrev pub IsUnread : FilterFault → Input → TreeView → TreeView → SourceView → SourceView → Type 0

@@ -1,5 +1,5 @@
 -- What a filter has read before it writes.
-use Rattle.std.specs.Prelude.{◌≡◌, ◌≢◌, ℕ, List, [], Option, None, Some, Result, Ok, Err, true, IfOk, IfErr, OnOk}
+use Rattle.std.specs.Prelude.{◌≡◌, ◌≢◌, ℕ, Bool, List, [], Option, None, Some, Result, Ok, Err, true, IfOk, IfErr, OnOk}
 use Rattle.outside.specs.Files.{Files}
 use Rattle.outside.specs.TreeView.{TreeView}
 use Rattle.outside.specs.Calls.{IsUntouched}
@@ -22,25 +22,25 @@ use Rattle.filter_run.specs.declared.fault.FilterFault.TheVariants as faults
 pub record IsReadOf (v : SetView) (s : PlainSelect) (x : Result (List ℕ × PlainSelect) InputFault) : Type 0 where
   pub text : List ℕ
   pub is : x ≡ Ok (text, s)
-  pub free : refusal defaults text ≡ None
-  pub read : IsRead defaults text v
+  pub free : refusal (defaults s.skip_binary) text ≡ None
+  pub read : IsRead (defaults s.skip_binary) text v
 
--- the set is read from some text
-abbrev pub IsReadOfSome : SetView → Type 0
-IsReadOfSome v = (text : List ℕ) × IsRead defaults text v
+-- the set is read from some text, of which binary changes are passed over or not
+abbrev pub IsReadOfSome : Bool → SetView → Type 0
+IsReadOfSome skip v = (text : List ℕ) × IsRead (defaults skip) text v
 
 -- a text without file patches
 pub record IsGarbage (s : PlainSelect) (x : Result (List ℕ × PlainSelect) InputFault) : Type 0 where
   pub text : List ℕ
   pub is : x ≡ Ok (text, s)
-  pub garbage : refusal defaults text ≡ Some Garbage
+  pub garbage : refusal (defaults s.skip_binary) text ≡ Some Garbage
 
 -- a text that is refused
 pub record IsRefusedText (e : SetFault) (x : Result (List ℕ × PlainSelect) InputFault) : Type 0 where
   pub text : List ℕ
   pub select : PlainSelect
   pub is : x ≡ Ok (text, select)
-  pub refused : refusal defaults text ≡ Some e
+  pub refused : refusal (defaults select.skip_binary) text ≡ Some e
   pub some : e ≢ Garbage
 
 abbrev pub IsOpened : Option SetView → PlainSelect → Result (List ℕ × PlainSelect) InputFault → Type 0
@@ -59,7 +59,7 @@ IsRefused faults.Memory x = ⊥
 -- what a fault says, whatever is told
 abbrev pub HasOpeningCause : FilterFault → Input → PlainSelect → TreeView → TreeView → SourceView → SourceView → Type 0
 HasOpeningCause (faults.Input e) i s t u a b = HasInputCause e i s t u a b
-HasOpeningCause (faults.Set e) i s t u a b = HasTextCause (faults.Set e)
+HasOpeningCause (faults.Set e) i s t u a b = HasTextCause s.skip_binary (faults.Set e)
 HasOpeningCause (faults.Unfit line) i s t u a b = ⊥
 HasOpeningCause faults.Pattern i s t u a b = ⊥
 HasOpeningCause faults.Tree i s t u a b = ⊥

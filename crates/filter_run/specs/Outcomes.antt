@@ -52,6 +52,7 @@ with_patterns s include exclude = record {
   include_file = s.include_file;
   exclude_file = s.exclude_file;
   only_included = s.only_included;
+  skip_binary = s.skip_binary;
 }
 
 abbrev pub and_excluded : PlainSelect → List (List ℕ) → Result (List (List ℕ)) InputFault → Result PlainSelect InputFault
@@ -99,7 +100,7 @@ unless_refused (Some fault) bytes = Err (faults.Set fault)
 
 -- what comes of a text and a selection
 abbrev pub outcome_by : (PlainSelect → List ℕ → List ℕ) → Result (List ℕ × PlainSelect) InputFault → Outcome
-outcome_by written (Ok (text, s)) = unless_refused (refusal defaults text) (written s text)
+outcome_by written (Ok (text, s)) = unless_refused (refusal (defaults s.skip_binary) text) (written s text)
 outcome_by written (Err fault) = Err (faults.Input fault)
 
 -- the outcome is this one
@@ -108,7 +109,7 @@ IsOutcomeOf outcome files left o = o ≡ outcome files left
 
 -- `lsdiff`
 unfoldable pub list_outcome : PlainListJob → Files → List ℕ → Outcome
-list_outcome j files left = outcome_by (λ s text. listed (list_with j s) (patches_in text)) (given j.input j.select files left)
+list_outcome j files left = outcome_by (λ s text. listed (list_with j s) (patches_in s.skip_binary text)) (given j.input j.select files left)
 
 -- `filterdiff`
 unfoldable pub filter_outcome : PlainFilterJob → Files → List ℕ → Outcome
@@ -120,7 +121,7 @@ grep_outcome hit j files left = outcome_by (λ s text. grepped_in (hit j.pattern
 
 -- the text is read, and has file patches
 abbrev pub HasPatches : Result (List ℕ × PlainSelect) InputFault → Type 0
-HasPatches (Ok (text, s)) = (refusal defaults text ≡ None) × (patches_in text ≢ [])
+HasPatches (Ok (text, s)) = (refusal (defaults s.skip_binary) text ≡ None) × (patches_in s.skip_binary text ≢ [])
 HasPatches (Err fault) = ⊥
 
 -- a pattern that isn't always taken may be refused instead, if there are file patches to search
@@ -142,4 +143,4 @@ recount_outcome input files left = recounted_from (answer_of (input_bytes input 
 
 -- all file patches are meant
 abbrev pub no_selection : PlainSelect
-no_selection = record { strip = 0; include = []; exclude = []; include_file = None; exclude_file = None; only_included = false }
+no_selection = record { strip = 0; include = []; exclude = []; include_file = None; exclude_file = None; only_included = false; skip_binary = false }

@@ -73,9 +73,9 @@ abbrev pub Answers : Result (Unit {0}) FilterFault → (Outcome → Type 0) → 
 Answers (Ok done) P c d = (bytes : List ℕ) × P (Ok bytes) × Receives c d bytes
 Answers (Err e) P c d = AnswersFault (is_refusal e) e P c d
 
--- some text is refused so
-abbrev pub IsRefusal : SetFault → Type 0
-IsRefusal fault = (text : List ℕ) × (refusal defaults text ≡ Some fault)
+-- some text is refused so, where binary changes are passed over or not
+abbrev pub IsRefusal : Bool → SetFault → Type 0
+IsRefusal skip fault = (text : List ℕ) × (refusal (defaults skip) text ≡ Some fault)
 
 -- what a fault of reading says, whatever is told
 abbrev pub HasInputCause : InputFault → Input → PlainSelect → TreeView → TreeView → SourceView → SourceView → Type 0
@@ -86,19 +86,19 @@ HasInputCause input.Tree i s t u a b = Rises t u
 HasInputCause (input.Disagree want got) i s t u a b = NamesFile i s × (want ≢ got) × (t.told ≡ None)
 HasInputCause input.Memory i s t u a b = Unit {0}
 
-abbrev pub HasSetCause : SetFault → Type 0
-HasSetCause set.Memory = Unit {0}
-HasSetCause fault = IsRefusal fault
+abbrev pub HasSetCause : Bool → SetFault → Type 0
+HasSetCause skip set.Memory = Unit {0}
+HasSetCause skip fault = IsRefusal skip fault
 
 -- what a text that is refused says
-abbrev pub HasRefusal : FilterFault → Type 0
-HasRefusal (faults.Set fault) = HasSetCause fault
-HasRefusal e = ⊥
+abbrev pub HasRefusal : Bool → FilterFault → Type 0
+HasRefusal skip (faults.Set fault) = HasSetCause skip fault
+HasRefusal skip e = ⊥
 
 -- the same where a text without file patches isn't refused
-abbrev pub HasTextCause : FilterFault → Type 0
-HasTextCause (faults.Set set.Garbage) = ⊥
-HasTextCause e = HasRefusal e
+abbrev pub HasTextCause : Bool → FilterFault → Type 0
+HasTextCause skip (faults.Set set.Garbage) = ⊥
+HasTextCause skip e = HasRefusal skip e
 
 -- some text can't be recounted for this
 abbrev pub HasCountCause : FilterFault → Type 0
@@ -131,4 +131,4 @@ pub record Sifts (i : Input) (s : PlainSelect) (R : FilterFault → Type 0) (Q :
 
 -- `grepdiff` does so, by what its finder takes and where it finds it
 abbrev pub Greps : FinderView → PlainGrepJob → TreeView → TreeView → SourceView → SourceView → SinkView → SinkView → Result (Unit {0}) FilterFault → Type 0
-Greps finder j t u a b c d result = Sifts j.input j.select HasTextCause (finder.takes j.pattern ≡ false) (IsGrepped finder.takes finder.hit j) t u a b c d result
+Greps finder j t u a b c d result = Sifts j.input j.select (HasTextCause j.select.skip_binary) (finder.takes j.pattern ≡ false) (IsGrepped finder.takes finder.hit j) t u a b c d result

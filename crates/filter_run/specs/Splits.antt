@@ -29,31 +29,31 @@ abbrev pub Cut : Type 0
 Cut = List ℕ × List Span
 
 -- a text without file patches is refused, unless it is empty
-abbrev pub cut_unless : Bool → Option SetFault → List ℕ → Result Cut FilterFault
-cut_unless every None text = Ok (completed text, parts_in every text)
-cut_unless every (Some fault) text = Err (faults.Set fault)
+abbrev pub cut_unless : PlainSplitJob → Option SetFault → List ℕ → Result Cut FilterFault
+cut_unless j None text = Ok (completed text, parts_in j text)
+cut_unless j (Some fault) text = Err (faults.Set fault)
 
-abbrev pub cut_of : Bool → Result (List ℕ) InputFault → Result Cut FilterFault
-cut_of every (Ok text) = cut_unless every (refusal defaults text) text
-cut_of every (Err fault) = Err (faults.Input fault)
+abbrev pub cut_of : PlainSplitJob → Result (List ℕ) InputFault → Result Cut FilterFault
+cut_of j (Ok text) = cut_unless j (refusal (defaults j.skip_binary) text) text
+cut_of j (Err fault) = Err (faults.Input fault)
 
 -- what is cut into parts, or why nothing is
 unfoldable pub split_outcome : PlainSplitJob → Files → Result Cut FilterFault
-split_outcome j files = cut_of j.every (answer_of (get files j.input))
+split_outcome j files = cut_of j (answer_of (get files j.input))
 
 -- ---- the set that is read
 
-abbrev pub SplitsBy : Option SetFault → List ℕ → Result SetView FilterFault → Type 0
-SplitsBy None text o = (v : SetView) × IsRead defaults text v × (o ≡ Ok v)
-SplitsBy (Some fault) text o = o ≡ Err (faults.Set fault)
+abbrev pub SplitsBy : Bool → Option SetFault → List ℕ → Result SetView FilterFault → Type 0
+SplitsBy skip None text o = (v : SetView) × IsRead (defaults skip) text v × (o ≡ Ok v)
+SplitsBy skip (Some fault) text o = o ≡ Err (faults.Set fault)
 
-abbrev pub SplitsText : Result (List ℕ) InputFault → Result SetView FilterFault → Type 0
-SplitsText (Ok text) o = SplitsBy (refusal defaults text) text o
-SplitsText (Err fault) o = o ≡ Err (faults.Input fault)
+abbrev pub SplitsText : Bool → Result (List ℕ) InputFault → Result SetView FilterFault → Type 0
+SplitsText skip (Ok text) o = SplitsBy skip (refusal (defaults skip) text) text o
+SplitsText skip (Err fault) o = o ≡ Err (faults.Input fault)
 
 -- the set of which the parts are put, or why none is
 abbrev pub IsSplit : PlainSplitJob → Files → Result SetView FilterFault → Type 0
-IsSplit j f o = SplitsText (answer_of (get f j.input)) o
+IsSplit j f o = SplitsText j.skip_binary (answer_of (get f j.input)) o
 
 -- ---- the run
 
@@ -76,23 +76,23 @@ HasReadCause (input.Disagree want got) t u = (want ≢ got) × (t.told ≡ None)
 HasReadCause input.Memory t u = Unit {0}
 
 -- of a fault that comes before the first part
-abbrev pub HasEarlyCause : FilterFault → TreeView → TreeView → Type 0
-HasEarlyCause (faults.Input e) t u = HasReadCause e t u
-HasEarlyCause (faults.Set e) t u = HasSetCause e
-HasEarlyCause (faults.Unfit line) t u = ⊥
-HasEarlyCause faults.Pattern t u = ⊥
-HasEarlyCause faults.Tree t u = ⊥
-HasEarlyCause faults.Write t u = ⊥
-HasEarlyCause faults.Memory t u = ⊥
+abbrev pub HasEarlyCause : Bool → FilterFault → TreeView → TreeView → Type 0
+HasEarlyCause skip (faults.Input e) t u = HasReadCause e t u
+HasEarlyCause skip (faults.Set e) t u = HasSetCause skip e
+HasEarlyCause skip (faults.Unfit line) t u = ⊥
+HasEarlyCause skip faults.Pattern t u = ⊥
+HasEarlyCause skip faults.Tree t u = ⊥
+HasEarlyCause skip faults.Write t u = ⊥
+HasEarlyCause skip faults.Memory t u = ⊥
 
-abbrev pub HasSplitCause : FilterFault → TreeView → TreeView → SinkView → SinkView → Type 0
-HasSplitCause (faults.Input e) t u c d = HasReadCause e t u
-HasSplitCause (faults.Set e) t u c d = HasSetCause e
-HasSplitCause (faults.Unfit line) t u c d = ⊥
-HasSplitCause faults.Pattern t u c d = ⊥
-HasSplitCause faults.Tree t u c d = Rises t u
-HasSplitCause faults.Write t u c d = sink.Rises c d
-HasSplitCause faults.Memory t u c d = Unit {0}
+abbrev pub HasSplitCause : Bool → FilterFault → TreeView → TreeView → SinkView → SinkView → Type 0
+HasSplitCause skip (faults.Input e) t u c d = HasReadCause e t u
+HasSplitCause skip (faults.Set e) t u c d = HasSetCause skip e
+HasSplitCause skip (faults.Unfit line) t u c d = ⊥
+HasSplitCause skip faults.Pattern t u c d = ⊥
+HasSplitCause skip faults.Tree t u c d = Rises t u
+HasSplitCause skip faults.Write t u c d = sink.Rises c d
+HasSplitCause skip faults.Memory t u c d = Unit {0}
 
 -- a command of `splitdiff` on a quiet tree
 pub record Splits (j : PlainSplitJob) (t u : TreeView) (c d : SinkView) (result : Result (Unit {0}) FilterFault) : Type 0 where
@@ -103,4 +103,4 @@ pub record Splits (j : PlainSplitJob) (t u : TreeView) (c d : SinkView) (result 
   pub refused : IfErr result (λ e. is_refusal e ≡ true → IsNotBegun t u c d)
   pub answers : (f : Files) → t.told ≡ Some f → SplitAnswers result j f t u c d
   pub tidy : TidyAfter result t u
-  pub cause : IfErr result (λ e. HasSplitCause e t u c d)
+  pub cause : IfErr result (λ e. HasSplitCause j.skip_binary e t u c d)

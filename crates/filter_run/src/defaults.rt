@@ -1,4 +1,4 @@
-//! How a filter reads a text: as `patch` does without options.
+//! How a filter reads a text: as `patch` does without options, but perhaps for `--skip-binary`.
 ghost use Rattle.std.specs.Prelude.{◌≡◌, IfOk};
 ghost use Rattle.patch_options.specs.PlainJob.{plain_options, IsLawful};
 ghost use Rattle.patch_set.specs.Refusals.{refusal};
@@ -9,18 +9,19 @@ use patch_options::{Input, Options, PlanKind};
 use patch_set::{PatchSet, SetFault, read_set};
 use std::alloc::Global;
 
-/// The set of a text.
-pub fn read_plain(alloc: Global, text: Vec<u8>) -> Result<PatchSet, SetFault>
-    ensures read { IfOk result (IsRead defaults text.items) }
+/// The set of a text, of which binary changes are passed over or not.
+pub fn read_plain(alloc: Global, text: Vec<u8>, skip_binary: bool) -> Result<PatchSet, SetFault>
+    ensures read { IfOk result (IsRead (defaults skip_binary) text.items) }
     ensures whole { IfOk result IsWhole }
-    ensures refused { Meets (refusal defaults text.items) result }
+    ensures refused { Meets (refusal (defaults skip_binary) text.items) result }
 {
-    read_set(alloc, text, &default_options())
+    read_set(alloc, text, &default_options(skip_binary))
 }
 
-/// What `patch` alone asks for, in a dry run: the set is the same, without the room that a run needs for its marks.
-fn default_options() -> Options
-    ensures options { plain_options result ≡ dry_defaults }
+/// What `patch` alone asks for, or with `--skip-binary`, in a dry run: the set is the same, without the room that a run needs
+/// for its marks.
+fn default_options(skip_binary: bool) -> Options
+    ensures options { plain_options result ≡ dry_defaults skip_binary }
     ensures lawful { IsLawful (plain_options result) }
 {
     Options {
@@ -46,7 +47,7 @@ fn default_options() -> Options
         reject_form: None,
         define: None,
         posix: false,
-        skip_binary: false,
+        skip_binary,
         dry_run: true,
         silent: false,
         verbose: false,

@@ -1,5 +1,5 @@
 //! A text turned round.
-ghost use Rattle.std.specs.Prelude.{◌≡◌, ℕ, List, [], None, Some, IfOk, IfErr, OnOk};
+ghost use Rattle.std.specs.Prelude.{◌≡◌, ℕ, false, List, [], None, Some, IfOk, IfErr, OnOk};
 ghost use Rattle.outside.specs.Calls.{IsUntouched};
 ghost use Rattle.outside.specs.SourceView.{SourcePasses};
 ghost use Rattle.patch_input.specs.Input.{IsFile, IsStandard, TakesAtMost};
@@ -54,7 +54,7 @@ fn read_whole<T: Tree, I: Source>(
     ensures refused { IfErr result (λ e. IsUnread e input.now (T.view tree.old) (T.view tree.new) (I.view source.old) (I.view source.new)) }
 {
     let text = read_input(alloc, input, None, tree, source)?;
-    let set = read_plain(alloc, text)?;
+    let set = read_plain(alloc, text, false)?;
     Ok(set)
 }
 
@@ -72,5 +72,5 @@ fn put_turned<O: Sink>(set: &PatchSet, out: &mut O) -> Result<(), FilterFault>
 /// What comes of a text that `patch` takes without options is what comes of the set that is read from it. So what is said of
 /// a set turned round holds of it.
 pub fn texts_turn_as_sets()
-    ensures { (text : List ℕ) (v : SetView) → refusal defaults text ≡ None → IsRead defaults text v → text_flipped text ≡ turned_unless (refused (plain_patches v)) (flipped v) }
+    ensures { (text : List ℕ) (v : SetView) → refusal (defaults false) text ≡ None → IsRead (defaults false) text v → text_flipped text ≡ turned_unless (refused (plain_patches v)) (flipped v) }
 {}

@@ -40,19 +40,24 @@ fn read_given<T: Tree, I: Source>(
     ensures given { IfOk result (λ text. (f : Files) (left : List ℕ) → IsTold input.now (plain_select select.old) (T.view tree.old) (I.view source.old) f left → given input.now (plain_select select.old) f left ≡ Ok (text.items, plain_select select.new)) }
     ensures refused { IfErr result (λ e. is_refusal (faults.Input e) ≡ true → (f : Files) (left : List ℕ) → IsTold input.now (plain_select select.old) (T.view tree.old) (I.view source.old) f left → given input.now (plain_select select.old) f left ≡ Err e) }
     ensures cause { IfErr result (λ e. HasInputCause e input.now (plain_select select.old) (T.view tree.old) (T.view tree.new) (I.view source.old) (I.view source.new)) }
+    ensures skips { select.new.skip_binary ≡ select.old.skip_binary }
 {
     let text = read_input(alloc, input, None, tree, source)?;
     add_patterns(alloc, select, tree)?;
     Ok(text)
 }
 
-/// The file patches of a text, read as `patch` reads it without options; none where it has none.
-fn read_patches(alloc: Global, text: Vec<u8>) -> Result<Option<PatchSet>, SetFault>
-    ensures set { IfOk result (λ given. IfSome given (λ v. IsRead defaults text.items v × IsWhole v × (refusal defaults text.items ≡ None))) }
-    ensures none { IfOk result (λ given. given ≡ None → refusal defaults text.items ≡ Some TheFault.Garbage) }
-    ensures refused { IfErr result (λ e. (e ≡ TheFault.Memory) ⊎ ((e ≢ TheFault.Garbage) × (refusal defaults text.items ≡ Some e))) }
+/// The file patches of a text, of which binary changes are passed over or not; none where it has none.
+fn read_patches(
+    alloc: Global,
+    text: Vec<u8>,
+    skip_binary: bool,
+) -> Result<Option<PatchSet>, SetFault>
+    ensures set { IfOk result (λ given. IfSome given (λ v. IsRead (defaults skip_binary) text.items v × IsWhole v × (refusal (defaults skip_binary) text.items ≡ None))) }
+    ensures none { IfOk result (λ given. given ≡ None → refusal (defaults skip_binary) text.items ≡ Some TheFault.Garbage) }
+    ensures refused { IfErr result (λ e. (e ≡ TheFault.Memory) ⊎ ((e ≢ TheFault.Garbage) × (refusal (defaults skip_binary) text.items ≡ Some e))) }
 {
-    match read_plain(alloc, text) {
+    match read_plain(alloc, text, skip_binary) {
         Ok(set) => Ok(Some(set)),
         Err(fault) => match fault {
             SetFault::Garbage => Ok(None),
@@ -72,9 +77,9 @@ pub fn open_text<T: Tree, I: Source>(
     ensures opens { Opens input.now (plain_select select.old) (plain_select select.new) (T.view tree.old) (T.view tree.new) (I.view source.old) (I.view source.new) result }
     ensures unread { IsFile input.now → source.new ≡ source.old }
     ensures whole { IfOk result (λ given_set. IfSome given_set IsWhole) }
-    ensures read { IfOk result (λ given_set. IfSome given_set IsReadOfSome) }
+    ensures read { IfOk result (λ given_set. IfSome given_set (IsReadOfSome select.new.skip_binary)) }
 {
     let text = read_given(alloc, input, select, tree, source)?;
-    let set = read_patches(alloc, text)?;
+    let set = read_patches(alloc, text, select.skip_binary)?;
     Ok(set)
 }

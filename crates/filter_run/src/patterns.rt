@@ -24,6 +24,7 @@ pub fn add_patterns<T: Tree>(
     ensures untouched { IsUntouched (T.view tree.old) (T.view tree.new) }
     ensures selection { OnOk result ((f : Files) → (NamesPatterns (plain_select select.old) → (T.view tree.old).told ≡ Some f) → selection (plain_select select.old) f ≡ Ok (plain_select select.new)) }
     ensures cause { IfErr result (λ e. HasSelectionCause e (plain_select select.old) (T.view tree.old) (T.view tree.new)) }
+    ensures skips { select.new.skip_binary ≡ select.old.skip_binary }
 {
     add_from(
         alloc,

@@ -32,7 +32,7 @@ pub fn run_list<T: Tree, I: Source, O: Sink>(
     source: &mut I,
     out: &mut O,
 ) -> Result<(), FilterFault>
-    ensures sifts { Sifts job.input (plain_select job.select) HasTextCause ⊥ (IsOutcomeOf (list_outcome (plain_list_job job))) (T.view tree.old) (T.view tree.new) (I.view source.old) (I.view source.new) (O.view out.old) (O.view out.new) result }
+    ensures sifts { Sifts job.input (plain_select job.select) (HasTextCause job.select.skip_binary) ⊥ (IsOutcomeOf (list_outcome (plain_list_job job))) (T.view tree.old) (T.view tree.new) (I.view source.old) (I.view source.new) (O.view out.old) (O.view out.new) result }
     ensures unread { IsFile job.input → source.new ≡ source.old }
     ensures rest { O.same_rest out.old out.new }
 {
@@ -52,7 +52,7 @@ pub fn run_filter<T: Tree, I: Source, O: Sink>(
     out: &mut O,
 ) -> Result<(), FilterFault>
     requires { job.format ≡ None }
-    ensures sifts { Sifts job.input (plain_select job.select) HasTextCause ⊥ (IsOutcomeOf (filter_outcome (plain_filter_job job))) (T.view tree.old) (T.view tree.new) (I.view source.old) (I.view source.new) (O.view out.old) (O.view out.new) result }
+    ensures sifts { Sifts job.input (plain_select job.select) (HasTextCause job.select.skip_binary) ⊥ (IsOutcomeOf (filter_outcome (plain_filter_job job))) (T.view tree.old) (T.view tree.new) (I.view source.old) (I.view source.new) (O.view out.old) (O.view out.new) result }
     ensures unread { IsFile job.input → source.new ≡ source.old }
     ensures rest { O.same_rest out.old out.new }
 {

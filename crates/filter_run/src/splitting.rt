@@ -48,10 +48,10 @@ fn read_split<T: Tree>(alloc: Global, job: &SplitJob, tree: &mut T) -> Result<Pa
     ensures whole { IfOk result IsWhole }
     ensures set { IfOk result (λ v. (f : Files) → (T.view tree.old).told ≡ Some f → IsSplit (plain_split_job job.now) f (Ok v)) }
     ensures refused { IfErr result (λ e. is_refusal e ≡ true → (f : Files) → (T.view tree.old).told ≡ Some f → IsSplit (plain_split_job job.now) f (Err e)) }
-    ensures cause { IfErr result (λ e. HasEarlyCause e (T.view tree.old) (T.view tree.new)) }
+    ensures cause { IfErr result (λ e. HasEarlyCause job.now.skip_binary e (T.view tree.old) (T.view tree.new)) }
 {
     let text = read_file(alloc, &job.input, tree)?;
-    let set = read_plain(alloc, text)?;
+    let set = read_plain(alloc, text, job.skip_binary)?;
     Ok(set)
 }
 

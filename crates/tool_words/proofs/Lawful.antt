@@ -165,7 +165,7 @@ pub lawful_job : (tool : Tool) (rows : List Row) → is_lawful tool rows ≡ tru
 lawful_job Lsdiff rows h = tt
 lawful_job Filterdiff rows h = record { hunks = ranges_have (value_of rows (codes "hunks")); lines = ranges_have (value_of rows (codes "lines")); files = ranges_have (value_of rows (codes "files")) }
 lawful_job Grepdiff rows h = tt
-lawful_job Splitdiff rows h = split_has (value_of rows (codes "file")) (both (is_single rows (codes "every")) _ h).1
+lawful_job Splitdiff rows h = split_has (value_of rows (codes "file")) (both (is_single rows (codes "every") && is_single rows (codes "skip-binary")) _ h).1
 lawful_job Recountdiff rows h = tt
 lawful_job Patchgen rows h = gen_has rows h
 lawful_job Reversediff rows h = tt

@@ -3,7 +3,7 @@ use Rattle.std.proofs.Common.{◌≡◌, ◌⊎◌, ◌&&◌, ◌||◌, ℕ, Boo
 use Rattle.clap.specs.Words.{Row}
 use Rattle.tool_words.specs.PlainJobs.{PlainSelect}
 use Rattle.patch_options.specs.Forms.{is_name}
-use Rattle.patch_options.specs.Table.{value_of, has_form}
+use Rattle.patch_options.specs.Table.{is_used, value_of, has_form}
 use Rattle.tool_words.specs.Selecting.{is_number, is_select, select_of, name_in, number_or_0, patterns}
 use Rattle.patch_options.specs.declared.options.WordFault.{WordFault}
 use Rattle.patch_options.specs.declared.options.WordFault.TheVariants.{Usage, Memory}
@@ -24,23 +24,25 @@ unfolding is_select
 exclude_refused rows fault (inl memory) = inl memory
 exclude_refused rows fault (inr usage) = inr (usage.0, rw usage.1 (not_last (has_form is_number (value_of rows (codes "strip-match"))) (has_form is_name (value_of rows (codes "include-from-file")))))
 
-abbrev pub selecting : ℕ → List (List ℕ) → List (List ℕ) → Option (List ℕ) → Option (List ℕ) → Bool → PlainSelect
-selecting strip include exclude include_file exclude_file only_included = record {
+abbrev pub selecting : ℕ → List (List ℕ) → List (List ℕ) → Option (List ℕ) → Option (List ℕ) → Bool → Bool → PlainSelect
+selecting strip include exclude include_file exclude_file only_included skip_binary = record {
   strip = strip;
   include = include;
   exclude = exclude;
   include_file = include_file;
   exclude_file = exclude_file;
   only_included = only_included;
+  skip_binary = skip_binary;
 }
 
-pub select_is : (rows : List Row) {strip : ℕ} {include exclude : List (List ℕ)} {include_file exclude_file : Option (List ℕ)} {only_included : Bool}
+pub select_is : (rows : List Row) {strip : ℕ} {include exclude : List (List ℕ)} {include_file exclude_file : Option (List ℕ)} {only_included skip_binary : Bool}
     → strip ≡ number_or_0 rows (codes "strip-match")
     → include ≡ patterns rows (codes "include")
     → exclude ≡ patterns rows (codes "exclude")
     → include_file ≡ option_map name_in (value_of rows (codes "include-from-file"))
     → exclude_file ≡ option_map name_in (value_of rows (codes "exclude-from-file"))
     → only_included ≡ (is_some (value_of rows (codes "include")) || is_some (value_of rows (codes "include-from-file")))
-    → selecting strip include exclude include_file exclude_file only_included ≡ select_of rows
+    → skip_binary ≡ is_used rows (codes "skip-binary")
+    → selecting strip include exclude include_file exclude_file only_included skip_binary ≡ select_of rows
 unfolding select_of
-select_is rows e1 e2 e3 e4 e5 e6 = rw (e1, e2, e3, e4, e5, e6) refl
+select_is rows e1 e2 e3 e4 e5 e6 e7 = rw (e1, e2, e3, e4, e5, e6, e7) refl

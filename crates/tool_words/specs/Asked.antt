@@ -20,7 +20,7 @@ use Rattle.tool_words.specs.declared.tools.Tool.TheVariants.{Lsdiff, Filterdiff,
 
 -- the text that is read, and the file patches that are meant, are lawful
 abbrev pub is_subject : List Row → Bool
-is_subject rows = is_select rows && is_input rows
+is_subject rows = is_single rows (codes "skip-binary") && (is_select rows && is_input rows)
 
 -- ---- `lsdiff`
 
@@ -103,12 +103,13 @@ unfoldable pub is_split_file : List ℕ → Bool
 is_split_file text = not (bytes_eq text (codes "-")) && is_lasting_name text
 
 abbrev pub is_split : List Row → Bool
-is_split rows = is_single rows (codes "every") && option_map_or is_split_file (value_of rows (codes "file")) false
+is_split rows = (is_single rows (codes "every") && is_single rows (codes "skip-binary")) && option_map_or is_split_file (value_of rows (codes "file")) false
 
 abbrev pub split_of : List Row → PlainSplitJob
 split_of rows = record {
   input = option_map_or name_in (value_of rows (codes "file")) [];
   every = is_used rows (codes "every");
+  skip_binary = is_used rows (codes "skip-binary");
 }
 
 -- ---- `patchgen`

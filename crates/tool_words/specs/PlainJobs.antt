@@ -17,7 +17,7 @@ use Rattle.tool_words.specs.declared.jobs.StackOp.{StackOp}
 use Rattle.tool_words.specs.declared.jobs.ToolJob.{ToolJob}
 use Rattle.tool_words.specs.declared.jobs.ToolJob.TheVariants.{List as ListOf, Filter, Grep, Split, Recount, Gen, Flip, Stack}
 
--- which file patches are meant by their names; each field is that of `Select`
+-- which file patches are meant; each field is that of `Select`
 pub record PlainSelect : Type 0 where
   pub strip : ℕ
   pub include : List (List ℕ)
@@ -25,6 +25,7 @@ pub record PlainSelect : Type 0 where
   pub include_file : Option (List ℕ)
   pub exclude_file : Option (List ℕ)
   pub only_included : Bool
+  pub skip_binary : Bool
 
 -- numbers from a first up to and with a last
 abbrev pub PlainRanges : Type 0
@@ -58,6 +59,7 @@ pub record PlainGrepJob : Type 0 where
 pub record PlainSplitJob : Type 0 where
   pub input : List ℕ
   pub every : Bool
+  pub skip_binary : Bool
 
 -- what is made; each field is that of `GenJob`
 pub record PlainGenJob : Type 0 where
@@ -87,6 +89,7 @@ plain_select s = record {
   include_file = s.include_file;
   exclude_file = s.exclude_file;
   only_included = s.only_included;
+  skip_binary = s.skip_binary;
 }
 
 abbrev pub plain_ranges : Option Ranges → Option PlainRanges
@@ -102,7 +105,7 @@ abbrev pub plain_grep_job : GrepJob → PlainGrepJob
 plain_grep_job j = record { input = j.input; select = plain_select j.select; pattern = string_bytes j.pattern; output = j.output }
 
 abbrev pub plain_split_job : SplitJob → PlainSplitJob
-plain_split_job j = record { input = j.input; every = j.every }
+plain_split_job j = record { input = j.input; every = j.every; skip_binary = j.skip_binary }
 
 abbrev pub plain_gen_job : GenJob → PlainGenJob
 plain_gen_job j = record { seed = j.seed; files = j.files; lines = j.lines; plan = j.plan; buffer = j.buffer }

@@ -4,7 +4,7 @@ use Rattle.clap.specs.Words.{Row, Text}
 use Rattle.outside.specs.Names.{given_form}
 use Rattle.patch_options.specs.Forms.{number_of, is_name, is_patch_file}
 use Rattle.patch_options.specs.Simple.{values_of}
-use Rattle.patch_options.specs.Table.{value_of, has_form, input_of}
+use Rattle.patch_options.specs.Table.{is_used, value_of, has_form, input_of}
 use Rattle.patch_options.specs.declared.options.Input.{Input}
 use Rattle.tool_words.specs.PlainJobs.{PlainSelect}
 
@@ -35,6 +35,7 @@ select_of rows = record {
   include_file = option_map name_in (value_of rows (codes "include-from-file"));
   exclude_file = option_map name_in (value_of rows (codes "exclude-from-file"));
   only_included = is_some (value_of rows (codes "include")) || is_some (value_of rows (codes "include-from-file"));
+  skip_binary = is_used rows (codes "skip-binary");
 }
 
 -- the text that is read: a file, or standard input

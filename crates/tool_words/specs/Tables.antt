@@ -1,6 +1,6 @@
 -- The tables of the words of the tools beside `patch` (manual pages of patchutils).
 use Rattle.std.specs.Prelude.{List, [], ◌∷◌, ◌++◌, codes, Some}
-use Rattle.patch_options.specs.Simple.{PlainWord, a_word, named, operand, option, switch}
+use Rattle.patch_options.specs.Simple.{PlainWord, a_word, long_switch, named, operand, option, switch}
 use Rattle.patch_options.specs.declared.simple.WordForm.TheVariants.{Letter, Values}
 
 -- which file patches are meant by their names; the letters in ASCII: p 112, i 105, x 120
@@ -15,20 +15,24 @@ file_words = option 73 (codes "include-from-file") ∷ option 88 (codes "exclude
 abbrev pub input_table : List PlainWord
 input_table = operand (codes "file") ∷ []
 
+-- the same where binary changes can be passed over
+abbrev pub subject_table : List PlainWord
+subject_table = long_switch (codes "skip-binary") ∷ input_table
+
 -- s 115, n 110
 abbrev pub list_table : List PlainWord
-list_table = switch 115 (codes "status") ∷ switch 110 (codes "line-number") ∷ named (codes "strip") ∷ (name_words ++ file_words) ++ input_table
+list_table = switch 115 (codes "status") ∷ switch 110 (codes "line-number") ∷ named (codes "strip") ∷ (name_words ++ file_words) ++ subject_table
 
 abbrev pub filter_table : List PlainWord
-filter_table = name_words ++ file_words ++ (named (codes "files") ∷ named (codes "hunks") ∷ named (codes "lines") ∷ named (codes "format") ∷ input_table)
+filter_table = name_words ++ file_words ++ (named (codes "files") ∷ named (codes "hunks") ∷ named (codes "lines") ∷ named (codes "format") ∷ subject_table)
 
 -- E 69
 abbrev pub grep_table : List PlainWord
-grep_table = name_words ++ (named (codes "output-matching") ∷ switch 69 (codes "extended-regexp") ∷ operand (codes "regex") ∷ input_table)
+grep_table = name_words ++ (named (codes "output-matching") ∷ switch 69 (codes "extended-regexp") ∷ operand (codes "regex") ∷ subject_table)
 
 -- a 97
 abbrev pub split_table : List PlainWord
-split_table = a_word Letter (Some 97) (codes "every") ∷ input_table
+split_table = a_word Letter (Some 97) (codes "every") ∷ subject_table
 
 abbrev pub gen_table : List PlainWord
 gen_table = operand (codes "seed") ∷ operand (codes "files") ∷ operand (codes "lines") ∷ named (codes "plan") ∷ named (codes "buffer") ∷ []

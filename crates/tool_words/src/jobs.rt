@@ -4,7 +4,7 @@ use hunk_core::Form;
 use outside::Name;
 use patch_options::{Input, PlanKind};
 
-/// Which file patches are meant, by their names. A pattern matches a whole name.
+/// Which file patches are meant, by what they are and by their names. A pattern matches a whole name.
 #[derive(Drop, Debug)]
 pub struct Select {
     /// How many slashes are stripped from a name, with what stands before them, before it is matched.
@@ -19,6 +19,8 @@ pub struct Select {
     pub exclude_file: Option<Name>,
     /// There are patterns to be included, or a file of them.
     pub only_included: bool,
+    /// Binary changes are passed over, and don't refuse the text.
+    pub skip_binary: bool,
 }
 
 /// Numbers, as ranges from the first up to and with the last.
@@ -83,6 +85,8 @@ pub struct SplitJob {
     pub input: Name,
     /// Each file patch begins a part.
     pub every: bool,
+    /// Binary changes are passed over, and don't refuse the file.
+    pub skip_binary: bool,
 }
 
 /// One command of `patchgen`.

@@ -1,7 +1,7 @@
 //! What the words of each tool ask for, by what was matched in them.
 ghost use Rattle.std.specs.Prelude.{◌≡◌, ◌⊎◌, true, false, codes, is_some, option_map, option_and_then, unwrap_or, IfOk, IfErr, IfSome};
 ghost use Rattle.patch_options.specs.Simple.{rows_in};
-ghost use Rattle.patch_options.specs.Table.{has_form, is_single, text_of, value_of};
+ghost use Rattle.patch_options.specs.Table.{has_form, text_of, value_of};
 ghost use Rattle.tool_words.specs.PlainJobs.{plain_ranges, plain_tool_job};
 ghost use Rattle.tool_words.specs.PlainJobs.PlainToolJob.{list_job, filter_job, grep_job, split_job, recount_job, gen_job, flip_job, stack_job};
 ghost use Rattle.tool_words.specs.Ranges.{ranges_of};
@@ -9,7 +9,7 @@ ghost use Rattle.tool_words.specs.Selecting.{is_input, input_in, name_in};
 ghost use Rattle.tool_words.specs.Asked.{are_list_words, is_list, list_of, are_ranges, is_form, form_of, is_filter, filter_of, is_grep_out, grep_out_of, is_grep, grep_of, is_split_file, is_split, split_of, is_size, is_gen, gen_of, stack_op_of, stack_op_in, is_lawful, asked};
 
 use crate::ranges::read_ranges;
-use crate::selecting::{number_or_0, read_operand, read_subject};
+use crate::selecting::{is_single, number_or_0, read_operand, read_subject};
 use crate::{
     FilterJob, GenJob, GrepJob, GrepOut, ListJob, Ranges, SplitJob, StackOp, Tool, ToolJob,
 };
@@ -18,7 +18,7 @@ use hunk_core::Form;
 use outside::Name;
 use patch_options::{
     WordFault, buffer_in, is_buffer, is_number, is_plan, is_used, lasting_name_of, number_in,
-    plan_in, uses, value_of,
+    plan_in, value_of,
 };
 use std::alloc::Global;
 
@@ -65,13 +65,6 @@ fn are_list_words(matches: &ArgMatches<'_>) -> bool
     is_single(matches, "status")
         && is_single(matches, "line-number")
         && is_number(value_of(matches, "strip"))
-}
-
-/// Whether the switch was given once at most.
-fn is_single(matches: &ArgMatches<'_>, name: &str) -> bool
-    ensures { result ≡ is_single (rows_in matches.now) name.now }
-{
-    uses(matches, name) <= 1
 }
 
 /// The ranges of the hunks, of the lines and of the file patches that are meant.
@@ -198,7 +191,7 @@ fn split_of(alloc: Global, matches: &ArgMatches<'_>) -> Result<ToolJob, WordFaul
     ensures lawful { IfOk result (λ job. is_split (rows_in matches.now) ≡ true) }
     ensures refused { IfErr result (λ fault. (fault ≡ WordFault.Memory) ⊎ ((fault ≡ WordFault.Usage) × (is_split (rows_in matches.now) ≡ false))) }
 {
-    if !is_single(matches, "every") {
+    if !is_single(matches, "every") || !is_single(matches, "skip-binary") {
         return Err(WordFault::Usage);
     }
     let Some(text) = value_of(matches, "file") else {
@@ -207,6 +200,7 @@ fn split_of(alloc: Global, matches: &ArgMatches<'_>) -> Result<ToolJob, WordFaul
     Ok(ToolJob::Split(SplitJob {
         input: split_file(alloc, text)?,
         every: is_used(matches, "every"),
+        skip_binary: is_used(matches, "skip-binary"),
     }))
 }
 

@@ -149,6 +149,14 @@ const BUFFER: Word = Word {
     help: "bytes of a buffer, 512 to 1048576 (65536)",
 };
 
+const SKIP_BINARY: Word = Word {
+    form: WordForm::Switch,
+    letter: None,
+    name: "skip-binary",
+    shown: "--skip-binary",
+    help: "pass over binary changes, don't refuse the text",
+};
+
 const FILE: Word = Word {
     form: WordForm::Operand,
     letter: None,
@@ -228,7 +236,7 @@ static LIST: [Group; 3] = [
     },
     Group {
         heading: "Input:\n",
-        words: &[FILE],
+        words: &[SKIP_BINARY, FILE],
     },
 ];
 
@@ -254,7 +262,7 @@ static FILTER: [Group; 4] = [
     },
     Group {
         heading: "Input:\n",
-        words: &[FILE],
+        words: &[SKIP_BINARY, FILE],
     },
 ];
 
@@ -269,13 +277,13 @@ static GREP: [Group; 3] = [
     },
     Group {
         heading: "Input:\n",
-        words: &[EXTENDED, REGEX, FILE],
+        words: &[EXTENDED, REGEX, SKIP_BINARY, FILE],
     },
 ];
 
 static SPLIT: [Group; 1] = [Group {
     heading: "",
-    words: &[EVERY, SPLIT_FILE],
+    words: &[EVERY, SKIP_BINARY, SPLIT_FILE],
 }];
 
 static INPUT: [Group; 1] = [Group {

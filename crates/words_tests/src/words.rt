@@ -161,10 +161,11 @@ patch|--buffer|512 => buffer: 512
 patch|--buffer=1048576 => buffer: 1048576
 patch|--buffer=000512 => buffer: 512
 patch|--buffer=65536 =>
-lsdiff|-snp1|-i|a*|-xb|-Ic|-Xd|--strip=2|e => Ok(List(ListJob { input: File("e"), select: Select { strip: 1, include: [[97, 42]], exclude: [[98]], include_file: Some("c"), exclude_file: Some("d"), only_included: true }, status: true, numbers: true, shown_strip: 2 }))
-filterdiff|--hunks=1,2-5|--lines=-3|--files|7-|--format=ed => Ok(Filter(FilterJob { input: Standard, select: Select { strip: 0, include: [], exclude: [], include_file: None, exclude_file: None, only_included: false }, hunks: Some(Ranges { items: [(1, 1), (2, 5)] }), lines: Some(Ranges { items: [(1, 3)] }), files: Some(Ranges { items: [(7, 4294967295)] }), format: Some(Ed) }))
-grepdiff|-E|--output-matching=hunk|[a-z]+|f => Ok(Grep(GrepJob { input: File("f"), select: Select { strip: 0, include: [], exclude: [], include_file: None, exclude_file: None, only_included: false }, pattern: "[a-z]+", output: Hunks }))
-splitdiff|-a|./a//f/ => Ok(Split(SplitJob { input: "a/f", every: true }))
+lsdiff|-snp1|-i|a*|-xb|-Ic|-Xd|--strip=2|--skip-binary|e => Ok(List(ListJob { input: File("e"), select: Select { strip: 1, include: [[97, 42]], exclude: [[98]], include_file: Some("c"), exclude_file: Some("d"), only_included: true, skip_binary: true }, status: true, numbers: true, shown_strip: 2 }))
+filterdiff|--hunks=1,2-5|--lines=-3|--files|7-|--format=ed => Ok(Filter(FilterJob { input: Standard, select: Select { strip: 0, include: [], exclude: [], include_file: None, exclude_file: None, only_included: false, skip_binary: false }, hunks: Some(Ranges { items: [(1, 1), (2, 5)] }), lines: Some(Ranges { items: [(1, 3)] }), files: Some(Ranges { items: [(7, 4294967295)] }), format: Some(Ed) }))
+grepdiff|-E|--output-matching=hunk|[a-z]+|f => Ok(Grep(GrepJob { input: File("f"), select: Select { strip: 0, include: [], exclude: [], include_file: None, exclude_file: None, only_included: false, skip_binary: false }, pattern: "[a-z]+", output: Hunks }))
+splitdiff|-a|./a//f/ => Ok(Split(SplitJob { input: "a/f", every: true, skip_binary: false }))
+splitdiff|--skip-binary|f => Ok(Split(SplitJob { input: "f", every: false, skip_binary: true }))
 recountdiff|- => Ok(Recount(Standard))
 patchgen|0|1|20 => Ok(Gen(GenJob { seed: 0, files: 1, lines: 20, plan: Auto, buffer: 65536 }))
 patchgen|4294967295|1|20 => Ok(Gen(GenJob { seed: 4294967295, files: 1, lines: 20, plan: Auto, buffer: 65536 }))

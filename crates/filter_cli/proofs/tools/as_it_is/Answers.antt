@@ -17,5 +17,5 @@ returns-clause-carries g c v =
     let u = world (g.T.Tree.view c.args.tree.now) v (g.I.Source.view c.args.source.now) (g.O.Sink.view c.args.out.now) in
     let w = world (g.T.Tree.view c.run_filter.new.tree) v (g.I.Source.view c.run_filter.new.source) (g.O.Sink.view c.run_filter.new.out) in
     carries_is c.answer.result (why_by c.run_filter.result) c.answer.ensures
-    (sifts_carry (filter_job j) j.input j.select HasTextCause ⊥ (IsOutcomeOf (filter_outcome j)) u w (filters j v c.requires.format) (finder_passes_none v) c.requires.quiet
+    (sifts_carry (filter_job j) j.input j.select (HasTextCause j.select.skip_binary) ⊥ (IsOutcomeOf (filter_outcome j)) u w (filters j v c.requires.format) (finder_passes_none v) c.requires.quiet
     (λ never. ap (λ x. g.I.Source.view x) (c.run_filter.ensures.unread (file-unless j.input never))) c.run_filter.result c.run_filter.ensures.sifts)

@@ -17,7 +17,7 @@ returns-clause-carries g c =
     let u = world (g.T.Tree.view c.args.tree.now) v (g.I.Source.view c.args.source.now) (g.O.Sink.view c.args.out.now) in
     let w = world (g.T.Tree.view c.run_grep.new.tree) (g.F.Finder.view c.run_grep.new.finder) (g.I.Source.view c.run_grep.new.source) (g.O.Sink.view c.run_grep.new.out) in
     carries_is c.answer.result (why_by c.run_grep.result) c.answer.ensures
-    (sifts_carry (grep_job j) j.input j.select HasTextCause (v.takes j.pattern ≡ false) (IsGrepped v.takes v.hit j) u w (greps j v) c.run_grep.ensures.finder c.requires.quiet
+    (sifts_carry (grep_job j) j.input j.select (HasTextCause j.select.skip_binary) (v.takes j.pattern ≡ false) (IsGrepped v.takes v.hit j) u w (greps j v) c.run_grep.ensures.finder c.requires.quiet
     (λ never. ap (λ x. g.I.Source.view x) (c.run_grep.ensures.unread (file-unless j.input never))) c.run_grep.result c.run_grep.ensures.sifts)
 
 pub returns-clause-unasked : goal.returns-clause-unasked

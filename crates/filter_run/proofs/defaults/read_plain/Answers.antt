@@ -14,9 +14,9 @@ read_set-requires c = c.default_options.ensures.lawful
 
 pub returns-clause-read : goal.returns-clause-read
 returns-clause-read c =
-    IfOk-weaker c.read_set.result (IsRead dry_defaults c.args.text.items) (IsRead defaults c.args.text.items) (read-alike c.args.text.items)
+    IfOk-weaker c.read_set.result (IsRead (dry_defaults c.args.skip_binary) c.args.text.items) (IsRead (defaults c.args.skip_binary) c.args.text.items) (read-alike c.args.skip_binary c.args.text.items)
     (subst (λ (o : PlainOptions). IfOk c.read_set.result (IsRead o c.args.text.items)) c.default_options.ensures.options c.read_set.ensures.read)
 
 pub returns-clause-refused : goal.returns-clause-refused
 returns-clause-refused c =
-    subst (λ (r : Option SetFault). Meets r c.read_set.result) (ap (λ (o : PlainOptions). refusal o c.args.text.items) c.default_options.ensures.options ∙ refused-alike c.args.text.items) c.read_set.ensures.refused
+    subst (λ (r : Option SetFault). Meets r c.read_set.result) (ap (λ (o : PlainOptions). refusal o c.args.text.items) c.default_options.ensures.options ∙ refused-alike c.args.skip_binary c.args.text.items) c.read_set.ensures.refused

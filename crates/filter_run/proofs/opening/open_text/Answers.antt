@@ -14,7 +14,7 @@ returns-in_err-set-clause-opens g c =
     let old = plain_select c.args.select.now in
     let new = plain_select c.read_given.new.select in
     opens-unread c.args.input.now old new _ _ _ _ c.read_given.ensures.untouched c.read_given.ensures.source c.read_given.ensures.taken
-    c.in_ok-text.text.items c.in_ok-text.ensures.given c.from_residual-in_err-set.result c.in_err-set.field-0.0 c.from_residual-in_err-set.ensures.1 c.in_err-set.ensures.refused
+    c.in_ok-text.text.items c.in_ok-text.ensures.given c.read_given.ensures.skips c.from_residual-in_err-set.result c.in_err-set.field-0.0 c.from_residual-in_err-set.ensures.1 c.in_err-set.ensures.refused
 
 pub returns-clause-opens : goal.returns-clause-opens
 returns-clause-opens g c =

@@ -19,7 +19,7 @@ pub returns-in_err-text-clause-cause : goal.returns-in_err-text-clause-cause
 returns-in_err-text-clause-cause g c =
     let t = g.T.Tree.view c.args.tree.now in
     let u = g.T.Tree.view c.read_file.new.tree in
-    passed c.from_residual.result _ (λ e. HasEarlyCause e t u) c.from_residual.ensures.1 (input-cause c.in_err-text.field-0.0 t u c.args.job.now.input c.in_err-text.ensures.cause)
+    passed c.from_residual.result _ (λ e. HasEarlyCause c.args.job.now.skip_binary e t u) c.from_residual.ensures.1 (input-cause c.in_err-text.field-0.0 t u c.args.job.now.input c.in_err-text.ensures.cause)
 
 pub returns-in_err-set-clause-refused : goal.returns-in_err-set-clause-refused
 returns-in_err-set-clause-refused g c =
@@ -28,13 +28,13 @@ returns-in_err-set-clause-refused g c =
     let e = c.in_err-set.field-0.0 in
     let text = c.in_ok-text.text.items in
     passed c.from_residual-in_err-set.result _ (λ e. is_refusal e ≡ true → (f : Files) → t.told ≡ Some f → IsSplit j f (Err e)) c.from_residual-in_err-set.ensures.1
-    (λ yes f told. split-refused j f text c.in_ok-text.ensures.short (c.in_ok-text.ensures.text f told) e (set-refused e (refusal defaults text) c.in_err-set.ensures.refused yes))
+    (λ yes f told. split-refused j f text c.in_ok-text.ensures.short (c.in_ok-text.ensures.text f told) e (set-refused e (refusal (defaults j.skip_binary) text) c.in_err-set.ensures.refused yes))
 
 pub returns-in_err-set-clause-cause : goal.returns-in_err-set-clause-cause
 returns-in_err-set-clause-cause g c =
     let e = c.in_err-set.field-0.0 in
     let text = c.in_ok-text.text.items in
-    passed c.from_residual-in_err-set.result _ (λ e. HasEarlyCause e (g.T.Tree.view c.args.tree.now) (g.T.Tree.view c.read_file.new.tree)) c.from_residual-in_err-set.ensures.1 (set-cause e text c.in_err-set.ensures.refused)
+    passed c.from_residual-in_err-set.result _ (λ e. HasEarlyCause c.args.job.now.skip_binary e (g.T.Tree.view c.args.tree.now) (g.T.Tree.view c.read_file.new.tree)) c.from_residual-in_err-set.ensures.1 (set-cause c.args.job.now.skip_binary e text c.in_err-set.ensures.refused)
 
 pub returns-clause-set : goal.returns-clause-set
 returns-clause-set g c f told =

@@ -21,6 +21,7 @@ returns-clause-select c = select_is (rows_in c.args.matches.now)
     (c.in_ok-include_file.ensures.name ∙ ap (λ t. option_map name_in t) c.value_of-2.ensures)
     (c.in_ok-exclude_file.ensures.name ∙ ap (λ t. option_map name_in t) c.value_of-3.ensures)
     c.is_one_given.ensures
+    c.is_used.ensures
 
 pub returns-clause-lawful : goal.returns-clause-lawful
 unfolding value_of
