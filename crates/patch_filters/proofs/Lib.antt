@@ -7,3 +7,4 @@ mod AsWritten
 mod Searching
 mod Finding
 mod Hits
+pub mod Outlined

@@ -1,10 +1,18 @@
 //! Laws of what is written.
+ghost use Rattle.std.specs.Prelude.{◌≡◌, List, map};
+ghost use Rattle.file_patch.specs.PlainPatch.{PlainPatch};
+ghost use Rattle.patch_text.specs.Outlines.{outline};
+ghost use Rattle.tool_words.specs.PlainJobs.{PlainListJob};
+ghost use Rattle.patch_filters.specs.Listed.{listed};
 ghost use Rattle.patch_filters.specs.Laws.{WritesAll, WritesNone, WritesNoBare};
 
 /// Where nothing is asked for, all file patches of a set are written as they are. Nothing is written of a file patch with
-/// hunks exactly where none of them is kept, and of a bare git header where it isn't meant or hunks are asked for.
+/// hunks exactly where none of them is kept, and of a bare git header where it isn't meant or hunks are asked for. The list of
+/// file patches is the same without their hunks.
 pub fn filter_laws()
     ensures all { WritesAll }
     ensures none { WritesNone }
     ensures bare { WritesNoBare }
+    // A list needs no hunk but one that is alone.
+    ensures outlined { (j : PlainListJob) (ps : List PlainPatch) → listed j (map outline ps) ≡ listed j ps }
 {}

@@ -1,24 +1,22 @@
 //! The list of file patches.
 
-ghost use Rattle.std.specs.Prelude.{◌≡◌, ◌<◌, ◌≤◌, ◌++◌, ℕ, List, codes, length};
+ghost use Rattle.std.specs.Prelude.{◌≡◌, ◌<◌, ◌≤◌, ◌++◌, ℕ, List, All, codes, length, map, slice_get};
 ghost use Rattle.std.specs.Option.{ForSome};
 ghost use Rattle.outside.specs.SinkView.{Writes};
 ghost use Rattle.hunk_core.specs.Writing.{Puts};
 ghost use Rattle.file_patch.specs.PlainPatch.{patch_of};
 ghost use Rattle.file_patch.specs.Absent.{IsLawfulPatch};
-ghost use Rattle.patch_set.specs.SetView.{patch_at, plain_patches};
 ghost use Rattle.tool_words.specs.PlainJobs.{plain_list_job};
 ghost use Rattle.patch_filters.specs.Listed.{front, line_if_selected, listed, number_text, sign, sign_text};
 
 use crate::numbers::is_selected;
 use crate::pieces::put_piece;
-use crate::set::patch_at;
 use arrayvec::ArrayVec;
 use file_patch::FilePatch;
 use hunk_core::{Side, add_piece};
 use num_text::put_number;
 use outside::{Failed, Sink};
-use patch_set::PatchSet;
+use patch_set::Outline;
 use target_names::shortened;
 use tool_words::ListJob;
 
@@ -89,36 +87,39 @@ pub fn put_line<O: Sink>(out: &mut O, name: &[u8]) -> Result<(), Failed>
 
 /// Writes the line of a file patch, counted from 0, if it is selected.
 fn put_if_selected<O: Sink>(
-    set: &PatchSet,
+    outline: &Outline,
     job: &ListJob,
-    patch: u32,
+    patch: usize,
     out: &mut O,
 ) -> Result<(), Failed>
-    requires { patch < length set.now.patches }
-    ensures { ForSome (patch_at set.now patch) (λ p. Puts O.view O.same_rest out.old out.new result (line_if_selected (plain_list_job job.now) (patch_of set.now.text p))) }
+    requires within { patch < length outline.now.patches.items }
+    requires lawful { All (IsLawfulPatch outline.now.text.items) outline.now.patches.items }
+    ensures { ForSome (slice_get outline.now.patches.items patch) (λ p. Puts O.view O.same_rest out.old out.new result (line_if_selected (plain_list_job job.now) (patch_of outline.now.text.items p))) }
 {
-    let name = set.plain_name(patch);
+    let name = outline.plain_name(patch);
     if !is_selected(&job.select, name) {
         return Ok(());
     }
-    let front = front(job, patch_at(set, patch));
+    let front = front(job, &outline.patches[patch]);
     put_name(out, front.as_slice(), shortened(job.shown_strip, name))
 }
 
 /// Writes a line for each file patch whose name is selected: the number of the line of its names, if it is asked for, and
 /// a tab; a sign that says which side is no file, if that is asked for, and a space; and its name.
-pub fn list_patches<O: Sink>(set: &PatchSet, job: &ListJob, out: &mut O) -> Result<(), Failed>
-    ensures writes { Writes (O.view out.old) (O.view out.new) result (listed (plain_list_job job.now) (plain_patches set.now)) }
+pub fn list_patches<O: Sink>(outline: &Outline, job: &ListJob, out: &mut O) -> Result<(), Failed>
+    requires { All (IsLawfulPatch outline.now.text.items) outline.now.patches.items }
+    ensures writes { Writes (O.view out.old) (O.view out.new) result (listed (plain_list_job job.now) (map (patch_of outline.now.text.items) outline.now.patches.items)) }
     ensures rest { O.same_rest out.old out.new }
 {
-    put_list(set, job, out)
+    put_list(outline, job, out)
 }
 
-fn put_list<O: Sink>(set: &PatchSet, job: &ListJob, out: &mut O) -> Result<(), Failed>
-    ensures { Puts O.view O.same_rest out.old out.new result (listed (plain_list_job job.now) (plain_patches set.now)) }
+fn put_list<O: Sink>(outline: &Outline, job: &ListJob, out: &mut O) -> Result<(), Failed>
+    requires { All (IsLawfulPatch outline.now.text.items) outline.now.patches.items }
+    ensures { Puts O.view O.same_rest out.old out.new result (listed (plain_list_job job.now) (map (patch_of outline.now.text.items) outline.now.patches.items)) }
 {
-    for patch in 0..set.patches().len() {
-        put_if_selected(set, job, patch as u32, out)?;
+    for patch in 0..outline.patches.len() {
+        put_if_selected(outline, job, patch, out)?;
     }
     Ok(())
 }

@@ -31,11 +31,11 @@ pub struct Outline {
 
 impl Outline {
     /// The name of a file patch, counted from 0, as that of a set (`PatchSet::plain_name`).
-    pub fn plain_name(&self, patch: u32) -> &[u8]
+    pub fn plain_name(&self, patch: usize) -> &[u8]
         requires { patch < length self.now.patches.items }
         ensures { ForSome (slice_get self.now.patches.items patch) (λ p. result.now ≡ plain_name (header_of self.now.text.items p.header)) }
     {
-        plain_name(&self.text, &self.patches[patch as usize].header)
+        plain_name(&self.text, &self.patches[patch].header)
     }
 }
 

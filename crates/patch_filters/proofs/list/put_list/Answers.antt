@@ -1,10 +1,9 @@
-use Rattle.std.proofs.Common.{◌≡◌, ◌<◌, length, ap, ◌∙◌, rules, arith}
+use Rattle.std.proofs.Common.{◌≡◌, ◌<◌, length, map, ap, ◌∙◌, rules, arith}
 use Rattle.std.proofs.lemmas.Result.{err_from_is_err_and}
 use Rattle.std.specs.Prelude.{option_map}
 use Rattle.std.proofs.lemmas.List.{length-map}
 use Rattle.std.proofs.lemmas.Option.{slice_get-map}
 use Rattle.file_patch.specs.PlainPatch.{patch_of}
-use Rattle.patch_set.specs.SetView.{plain_patches}
 use Rattle.tool_words.specs.PlainJobs.{plain_list_job}
 use Rattle.line_list.proofs.Elements.{there-is}
 use Rattle.patch_filters.specs.Listed.{line_if_selected}
@@ -15,26 +14,29 @@ use Rattle.patch_filters.proofs.list.put_list.Goals as goal
 pub returns-in_err-put_if_selected : goal.returns-in_err-put_if_selected
 returns-in_err-put_if_selected g c =
     let j = plain_list_job c.args.job.now in
-    let v = c.args.set.now in
+    let text = c.args.outline.now.text.items in
+    let ps = c.args.outline.now.patches.items in
     let i = c.loop-patch.patch in
-    let lt : i < length v.patches = search rules in
-    let p = there-is v.patches i lt in
+    let lt : i < length ps = search rules in
+    let p = there-is ps i lt in
     let q = err_from_is_err_and c.from_residual.result c.from_residual.ensures.1 in
-    rw (q.1, listed-is j (plain_patches v)) (stops (line_if_selected j) (plain_patches v) g.met.O.Sink.rest_both i _ c.in_err-put_if_selected.field-0.0 q.0 (omega (arith, lt, length-map v.patches (patch_of v.text))) (slice_get-map (patch_of v.text) v.patches i ∙ ap (option_map (patch_of v.text)) p.1) c.loop-patch.invariant (c.in_err-put_if_selected.ensures p.0 p.1))
+    rw (q.1, listed-is j (map (patch_of text) ps)) (stops (line_if_selected j) (map (patch_of text) ps) g.met.O.Sink.rest_both i _ c.in_err-put_if_selected.field-0.0 q.0 (omega (arith, lt, length-map ps (patch_of text))) (slice_get-map (patch_of text) ps i ∙ ap (option_map (patch_of text)) p.1) c.loop-patch.invariant (c.in_err-put_if_selected.ensures p.0 p.1))
 
 pub loop-patch-preserved : goal.loop-patch-preserved
 loop-patch-preserved g c =
     let j = plain_list_job c.args.job.now in
-    let v = c.args.set.now in
+    let text = c.args.outline.now.text.items in
+    let ps = c.args.outline.now.patches.items in
     let i = c.loop-patch.patch in
-    let lt : i < length v.patches = search rules in
-    let p = there-is v.patches i lt in
-    goes-on (line_if_selected j) (plain_patches v) g.met.O.Sink.rest_both i _ c.in_ok-put_if_selected.field-0 (omega (arith, lt, length-map v.patches (patch_of v.text))) (slice_get-map (patch_of v.text) v.patches i ∙ ap (option_map (patch_of v.text)) p.1) c.loop-patch.invariant (c.in_ok-put_if_selected.ensures p.0 p.1)
+    let lt : i < length ps = search rules in
+    let p = there-is ps i lt in
+    goes-on (line_if_selected j) (map (patch_of text) ps) g.met.O.Sink.rest_both i _ c.in_ok-put_if_selected.field-0 (omega (arith, lt, length-map ps (patch_of text))) (slice_get-map (patch_of text) ps i ∙ ap (option_map (patch_of text)) p.1) c.loop-patch.invariant (c.in_ok-put_if_selected.ensures p.0 p.1)
 
 pub returns : goal.returns
 returns g c =
     let j = plain_list_job c.args.job.now in
-    let v = c.args.set.now in
+    let text = c.args.outline.now.text.items in
+    let ps = c.args.outline.now.patches.items in
     let i = c.loop-patch.patch in
-    let all : i ≡ length v.patches = search rules in
-    rw (listed-is j (plain_patches v)) (ends (line_if_selected j) (plain_patches v) g.met.O.Sink.rest_both i _ (omega (arith, all, length-map v.patches (patch_of v.text))) c.loop-patch.invariant)
+    let all : i ≡ length ps = search rules in
+    rw (listed-is j (map (patch_of text) ps)) (ends (line_if_selected j) (map (patch_of text) ps) g.met.O.Sink.rest_both i _ (omega (arith, all, length-map ps (patch_of text))) c.loop-patch.invariant)
