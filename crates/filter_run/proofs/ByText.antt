@@ -5,18 +5,23 @@ use Rattle.std.specs.List.{flat_map, list_any, range_with_len, zip}
 use Rattle.std.proofs.lemmas.List.Concat.{flat_map-cons}
 use Rattle.std.proofs.lemmas.List.Folds.{flat_map-map}
 use Rattle.hunk_core.specs.declared.Form.{Form}
+use Rattle.hunk_core.proofs.ReadSteps.{bind_ok, ok_is}
 use Rattle.file_patch.specs.declared.FilePatch.{FilePatch}
 use Rattle.file_patch.specs.PlainPatch.{PlainPatch, change_of, patch_of, row_count}
 use Rattle.patch_text.specs.Patches.{patches_of}
+use Rattle.patch_text.specs.Outlines.{outlined_all}
 use Rattle.patch_text.specs.Regions.{Region, region_of, regions_of}
 use Rattle.patch_set.specs.Asked.{ways_of}
 use Rattle.patch_set.specs.SetView.{SetView, IsRead, plain_patches}
+use Rattle.patch_set.specs.declared.outline.Outline.{Outline}
 use Rattle.patch_set.specs.Spans.{IsPlaced, ArePlaced}
 use Rattle.patch_set.proofs.InBytes.{cut-bytes}
 use Rattle.patch_filters.specs.Filtered.{chosen, filtered, region, written, written_bare, written_if_taken, is_taken_of}
 use Rattle.patch_filters.specs.Grepped.{found_text, grepped, hits_of, is_found}
 use Rattle.patch_filters.specs.Kept.{kept}
+use Rattle.patch_filters.specs.Listed.{listed}
 use Rattle.patch_filters.specs.Selected.{numbered}
+use Rattle.patch_filters.proofs.Outlined.{outlines-listed}
 use Rattle.patch_filters.proofs.Rows.{flat-if, filtered-is}
 use Rattle.flip_patch.specs.Flipped.{flipped}
 use Rattle.change_commands.specs.Taken.{left_patches}
@@ -24,10 +29,11 @@ use Rattle.format_convert.specs.Converted.{converted, written_if}
 use Rattle.format_convert.specs.Refusals.{refusal as form_refusal}
 use Rattle.format_convert.proofs.RowLemmas.{converted-is}
 use Rattle.split_recount.specs.Parts.{between, cuts_behind, parts, row_of}
-use Rattle.tool_words.specs.PlainJobs.{PlainFilterJob, PlainGrepJob, PlainSplitJob}
+use Rattle.tool_words.specs.PlainJobs.{PlainFilterJob, PlainGrepJob, PlainListJob, PlainSplitJob}
 use Rattle.tool_words.specs.declared.jobs.GrepOut.{GrepOut}
 use Rattle.tool_words.specs.declared.jobs.GrepOut.TheVariants.{Names, Hunks, Files}
 use Rattle.hunk_core.proofs.TurnedLemmas.{reverse-map}
+use Rattle.filter_run.specs.Opened.{IsOutlined}
 use Rattle.filter_run.specs.Flips.{flipped_in, spot_flipped}
 use Rattle.filter_run.specs.Converting.{converted_in, form_refused, spot_converted}
 use Rattle.filter_run.specs.Texts.{defaults, read_patches, patches_in, regions_in, Spot, spots_in, spot_written, is_spot_taken, filtered_in, spot_found, grepped_in, row_at, parts_in}
@@ -35,6 +41,14 @@ use Rattle.filter_run.specs.Texts.{defaults, read_patches, patches_in, regions_i
 -- a file patch of a set, as it is in the text
 abbrev spot : List ℕ → FilePatch → Spot
 spot text p = (region_of p, patch_of text p)
+
+-- ---- a list
+
+pub listed-by : (j : PlainListJob) (skip : Bool) (text : List ℕ) (v : Outline) → IsOutlined skip text v → listed j (map (patch_of v.text.items) v.patches.items) ≡ listed j (patches_in skip text)
+listed-by j skip text v read =
+    let ways = ways_of (defaults skip) in
+    let a = bind_ok (patches_of ways v.text.items) outlined_all (map (patch_of v.text.items) v.patches.items) read.patches in
+    ap (listed j) (sym (ok_is _ _ a.2)) ∙ outlines-listed j a.0 ∙ ap (listed j) (sym (ap read_patches (ap (patches_of ways) (sym read.text) ∙ a.1)))
 
 -- ---- lists side by side
 

@@ -2,37 +2,39 @@
 use Rattle.std.proofs.Common.{◌≡◌, ◌≢◌, ℕ, Bool, List, [], ◌∷◌, map, Option, None, Some, Result, Ok, Err, refl, sym, ap, ◌∙◌}
 use Rattle.outside.specs.Files.{Files}
 use Rattle.file_patch.specs.declared.FilePatch.{FilePatch}
-use Rattle.file_patch.specs.PlainPatch.{patch_of}
+use Rattle.file_patch.specs.PlainPatch.{PlainPatch, patch_of}
 use Rattle.tool_words.specs.PlainJobs.{PlainSelect, PlainListJob, PlainFilterJob, PlainGrepJob}
 use Rattle.patch_input.specs.declared.fault.InputFault.{InputFault}
 use Rattle.patch_set.specs.declared.fault.SetFault.{SetFault}
 use Rattle.patch_set.specs.declared.fault.SetFault.TheVariants.{Malformed, Garbage, TooLong, OutMany, EdReverse, Reserved, Memory}
 use Rattle.patch_set.specs.Refusals.{refusal}
-use Rattle.patch_set.specs.SetView.{SetView, IsRead, plain_patches}
+use Rattle.patch_set.specs.SetView.{SetView, IsRead}
+use Rattle.patch_set.specs.declared.outline.Outline.{Outline}
 use Rattle.patch_filters.specs.Listed.{listed}
 use Rattle.patch_filters.specs.Filtered.{filtered}
 use Rattle.patch_filters.specs.Grepped.{grepped}
 use Rattle.filter_run.specs.Texts.{defaults, patches_in, filtered_in, grepped_in}
 use Rattle.filter_run.specs.Outcomes.{Outcome, unless_refused, outcome_by, given, list_with, filter_with, grep_with, list_outcome, filter_outcome, grep_outcome}
 use Rattle.filter_run.specs.declared.fault.FilterFault.TheVariants as faults
-use Rattle.filter_run.proofs.ByText.{patches-by, filtered-by, grepped-by}
+use Rattle.filter_run.specs.Opened.{IsOutlined, IsSet}
+use Rattle.filter_run.proofs.ByText.{patches-by, listed-by, filtered-by, grepped-by}
 
--- the bytes that are written of a set that is read from the text, unless that is refused
-abbrev pub ComesBy : Bool → Option SetFault → (SetView → List ℕ) → List ℕ → Outcome → Type 0
-ComesBy skip None written text o = (v : SetView) × IsRead (defaults skip) text v × (o ≡ Ok (written v))
-ComesBy skip (Some Garbage) written text o = o ≡ Ok []
-ComesBy skip (Some fault) written text o = o ≡ Err (faults.Set fault)
+-- the bytes that are written of what is read from the text, unless that is refused
+abbrev pub ComesBy : {V : Type 0} → (Bool → List ℕ → V → Type 0) → Bool → Option SetFault → (V → List ℕ) → List ℕ → Outcome → Type 0
+ComesBy {V} Is skip None written text o = (v : V) × Is skip text v × (o ≡ Ok (written v))
+ComesBy Is skip (Some Garbage) written text o = o ≡ Ok []
+ComesBy Is skip (Some fault) written text o = o ≡ Err (faults.Set fault)
 
-abbrev pub Comes : (PlainSelect → SetView → List ℕ) → Result (List ℕ × PlainSelect) InputFault → Outcome → Type 0
-Comes written (Ok (text, s)) o = ComesBy s.skip_binary (refusal (defaults s.skip_binary) text) (written s) text o
-Comes written (Err fault) o = o ≡ Err (faults.Input fault)
+abbrev pub Comes : {V : Type 0} → (Bool → List ℕ → V → Type 0) → (PlainSelect → V → List ℕ) → Result (List ℕ × PlainSelect) InputFault → Outcome → Type 0
+Comes Is written (Ok (text, s)) o = ComesBy Is s.skip_binary (refusal (defaults s.skip_binary) text) (written s) text o
+Comes Is written (Err fault) o = o ≡ Err (faults.Input fault)
 
 abbrev done_with : List ℕ → Outcome
 done_with bytes = Ok bytes
 
--- the bytes that are written of a set are told by its text
-module _ (written : PlainSelect → SetView → List ℕ) (told : PlainSelect → List ℕ → List ℕ) (same : (s : PlainSelect) (text : List ℕ) (v : SetView) → IsRead (defaults s.skip_binary) text v → written s v ≡ told s text) where
-  by-refusal : (r : Option SetFault) (s : PlainSelect) (text : List ℕ) (o : Outcome) → ComesBy s.skip_binary r (written s) text o → o ≡ unless_refused r (told s text)
+-- the bytes that are written are told by the text
+module _ {V : Type 0} (Is : Bool → List ℕ → V → Type 0) (written : PlainSelect → V → List ℕ) (told : PlainSelect → List ℕ → List ℕ) (same : (s : PlainSelect) (text : List ℕ) (v : V) → Is s.skip_binary text v → written s v ≡ told s text) where
+  by-refusal : (r : Option SetFault) (s : PlainSelect) (text : List ℕ) (o : Outcome) → ComesBy Is s.skip_binary r (written s) text o → o ≡ unless_refused r (told s text)
   by-refusal None s text o h = h.2 ∙ ap done_with (same s text h.0 h.1)
   by-refusal (Some (Malformed line kind)) s text o h = h
   by-refusal (Some Garbage) s text o h = h
@@ -42,23 +44,26 @@ module _ (written : PlainSelect → SetView → List ℕ) (told : PlainSelect �
   by-refusal (Some (Reserved line)) s text o h = h
   by-refusal (Some Memory) s text o h = h
 
-  comes-is : (x : Result (List ℕ × PlainSelect) InputFault) (o : Outcome) → Comes written x o → o ≡ outcome_by told x
+  comes-is : (x : Result (List ℕ × PlainSelect) InputFault) (o : Outcome) → Comes Is written x o → o ≡ outcome_by told x
   comes-is (Ok (text, s)) o h = by-refusal (refusal (defaults s.skip_binary) text) s text o h
   comes-is (Err fault) o h = h
 
-pub listed-is : (j : PlainListJob) (f : Files) (left : List ℕ) (o : Outcome) → Comes (λ s v. listed (list_with j s) (plain_patches v)) (given j.input j.select f left) o → o ≡ list_outcome j f left
-unfolding list_outcome
-listed-is j f left = comes-is (λ s v. listed (list_with j s) (plain_patches v)) (λ s text. listed (list_with j s) (patches_in s.skip_binary text))
-    (λ s text v read. ap (listed (list_with j s)) (sym (patches-by s.skip_binary text v read))) (given j.input j.select f left)
+abbrev pub outlined : Outline → List PlainPatch
+outlined v = map (patch_of v.text.items) v.patches.items
 
-pub filtered-is : (j : PlainFilterJob) (f : Files) (left : List ℕ) (o : Outcome) → Comes (λ s v. filtered (filter_with j s) v) (given j.input j.select f left) o → o ≡ filter_outcome j f left
+pub listed-is : (j : PlainListJob) (f : Files) (left : List ℕ) (o : Outcome) → Comes IsOutlined (λ s v. listed (list_with j s) (outlined v)) (given j.input j.select f left) o → o ≡ list_outcome j f left
+unfolding list_outcome
+listed-is j f left = comes-is IsOutlined (λ s v. listed (list_with j s) (outlined v)) (λ s text. listed (list_with j s) (patches_in s.skip_binary text))
+    (λ s text v read. listed-by (list_with j s) s.skip_binary text v read) (given j.input j.select f left)
+
+pub filtered-is : (j : PlainFilterJob) (f : Files) (left : List ℕ) (o : Outcome) → Comes IsSet (λ s v. filtered (filter_with j s) v) (given j.input j.select f left) o → o ≡ filter_outcome j f left
 unfolding filter_outcome
-filtered-is j f left = comes-is (λ s v. filtered (filter_with j s) v) (λ s text. filtered_in (filter_with j s) text)
+filtered-is j f left = comes-is IsSet (λ s v. filtered (filter_with j s) v) (λ s text. filtered_in (filter_with j s) text)
     (λ s text v read. filtered-by (filter_with j s) text v read) (given j.input j.select f left)
 
-pub grepped-is : (hit : List ℕ → List ℕ → Bool) (j : PlainGrepJob) (f : Files) (left : List ℕ) (o : Outcome) → Comes (λ s v. grepped (hit j.pattern) (grep_with j s) v) (given j.input j.select f left) o → o ≡ grep_outcome hit j f left
+pub grepped-is : (hit : List ℕ → List ℕ → Bool) (j : PlainGrepJob) (f : Files) (left : List ℕ) (o : Outcome) → Comes IsSet (λ s v. grepped (hit j.pattern) (grep_with j s) v) (given j.input j.select f left) o → o ≡ grep_outcome hit j f left
 unfolding grep_outcome
-grepped-is hit j f left = comes-is (λ s v. grepped (hit j.pattern) (grep_with j s) v) (λ s text. grepped_in (hit j.pattern) (grep_with j s) text)
+grepped-is hit j f left = comes-is IsSet (λ s v. grepped (hit j.pattern) (grep_with j s) v) (λ s text. grepped_in (hit j.pattern) (grep_with j s) text)
     (λ s text v read. grepped-by (hit j.pattern) (grep_with j s) text v read) (given j.input j.select f left)
 
 -- ---- a text with file patches

@@ -13,7 +13,6 @@ use Rattle.patch_input.specs.Input.{IsStandard, TakesAtMost}
 use Rattle.patch_set.specs.declared.fault.SetFault.{SetFault}
 use Rattle.patch_set.specs.declared.fault.SetFault.TheVariants.{Malformed, Garbage, TooLong, OutMany, EdReverse, Reserved, Memory}
 use Rattle.patch_set.specs.Refusals.{refusal}
-use Rattle.patch_set.specs.SetView.{SetView, IsRead, IsWhole}
 use Rattle.filter_run.specs.Texts.{defaults}
 use Rattle.filter_run.specs.Outcomes.{given}
 use Rattle.filter_run.specs.Sifting.{IsTold, is_refusal, HasInputCause, HasTextCause}
@@ -29,12 +28,13 @@ IsUnread skip text e = (e ≡ Memory) ⊎ ((e ≢ Garbage) × (refusal (defaults
 abbrev pub AreGiven : Input → PlainSelect → PlainSelect → TreeView → SourceView → List ℕ → Type 0
 AreGiven i old new t a text = (f : Files) (left : List ℕ) → IsTold i old t a f left → given i old f left ≡ Ok (text, new)
 
+module _ {V : Type 0} (Is : Bool → List ℕ → V → Type 0) (i : Input) (old new : PlainSelect) (t : TreeView) (a : SourceView) (text : List ℕ) (are : AreGiven i old new t a text) where
+  pub read-opened : (v : V) → Is new.skip_binary text v → refusal (defaults new.skip_binary) text ≡ None → (f : Files) (left : List ℕ) → IsTold i old t a f left → IsReadOf Is v new (given i old f left)
+  read-opened v read free f left told = record { text = text; is = are f left told; free = free; read = read }
+
 module _ (i : Input) (old new : PlainSelect) (t : TreeView) (a : SourceView) (text : List ℕ) (are : AreGiven i old new t a text) where
   pub garbage-opened : refusal (defaults new.skip_binary) text ≡ Some Garbage → (f : Files) (left : List ℕ) → IsTold i old t a f left → IsGarbage new (given i old f left)
   garbage-opened is f left told = record { text = text; is = are f left told; garbage = is }
-
-  pub set-opened : (v : SetView) → IsRead (defaults new.skip_binary) text v → refusal (defaults new.skip_binary) text ≡ None → (f : Files) (left : List ℕ) → IsTold i old t a f left → IsReadOf v new (given i old f left)
-  set-opened v read free f left told = record { text = text; is = are f left told; free = free; read = read }
 
   pub text-refused-so : (e : SetFault) → IsUnread new.skip_binary text e → is_refusal (faults.Set e) ≡ true → (f : Files) (left : List ℕ) → IsTold i old t a f left → IsRefusedText e (given i old f left)
   text-refused-so e is refuses f left told = ⊎_elim
@@ -62,9 +62,9 @@ pub fault-is : {X E : Type 0} (r : Result X E) (e : E) → IsErrAnd r (λ f. f �
 fault-is r e is = let q = err_from_is_err_and r is in q.1 ∙ ap (λ f. Err f) q.2
 
 -- ---- the whole opening
-module _ (i : Input) (old new : PlainSelect) (t u : TreeView) (a b : SourceView) (same : IsUntouched t u) (source : SourcePasses a b) (taken : TakesAtMost 268435457 a b) where
-  pub opens-ungiven : (r : Result (Option SetView) FilterFault) (e : InputFault) → IsErrAnd r (λ f. f ≡ faults.Input e)
-      → (is_refusal (faults.Input e) ≡ true → (f : Files) (left : List ℕ) → IsTold i old t a f left → given i old f left ≡ Err e) → HasInputCause e i old t u a b → Opens i old new t u a b r
+module _ {V : Type 0} (Is : Bool → List ℕ → V → Type 0) (i : Input) (old new : PlainSelect) (t u : TreeView) (a b : SourceView) (same : IsUntouched t u) (source : SourcePasses a b) (taken : TakesAtMost 268435457 a b) where
+  pub opens-ungiven : (r : Result (Option V) FilterFault) (e : InputFault) → IsErrAnd r (λ f. f ≡ faults.Input e)
+      → (is_refusal (faults.Input e) ≡ true → (f : Files) (left : List ℕ) → IsTold i old t a f left → given i old f left ≡ Err e) → HasInputCause e i old t u a b → Opens Is i old new t u a b r
   opens-ungiven r e is refused cause = rw (fault-is r (faults.Input e) is) record {
     untouched = same;
     source = source;
@@ -76,7 +76,7 @@ module _ (i : Input) (old new : PlainSelect) (t u : TreeView) (a b : SourceView)
   }
 
   module _ (text : List ℕ) (are : AreGiven i old new t a text) where
-    pub opens-unread : new.skip_binary ≡ old.skip_binary → (r : Result (Option SetView) FilterFault) (e : SetFault) → IsErrAnd r (λ f. f ≡ faults.Set e) → IsUnread new.skip_binary text e → Opens i old new t u a b r
+    pub opens-unread : new.skip_binary ≡ old.skip_binary → (r : Result (Option V) FilterFault) (e : SetFault) → IsErrAnd r (λ f. f ≡ faults.Set e) → IsUnread new.skip_binary text e → Opens Is i old new t u a b r
     opens-unread skips r e is unread = rw (fault-is r (faults.Set e) is) record {
       untouched = same;
       source = source;
@@ -87,8 +87,8 @@ module _ (i : Input) (old new : PlainSelect) (t u : TreeView) (a b : SourceView)
       cause = subst (λ (skip : Bool). HasTextCause skip (faults.Set e)) skips (unread-cause new.skip_binary text e unread);
     }
 
-    pub opens-read : (set : Option SetView) → (IsStandard i → (left : List ℕ) → a.told ≡ Some left → b.told ≡ Some []) → IfSome set (λ v. IsRead (defaults new.skip_binary) text v × IsWhole v × (refusal (defaults new.skip_binary) text ≡ None)) → (set ≡ None → refusal (defaults new.skip_binary) text ≡ Some Garbage)
-        → Opens i old new t u a b (Ok set)
+    pub opens-read : (set : Option V) → (IsStandard i → (left : List ℕ) → a.told ≡ Some left → b.told ≡ Some []) → IfSome set (λ v. Is new.skip_binary text v × (refusal (defaults new.skip_binary) text ≡ None)) → (set ≡ None → refusal (defaults new.skip_binary) text ≡ Some Garbage)
+        → Opens Is i old new t u a b (Ok set)
     opens-read None end some none = record {
       untouched = same;
       source = source;
@@ -103,7 +103,7 @@ module _ (i : Input) (old new : PlainSelect) (t u : TreeView) (a b : SourceView)
       source = source;
       read = end;
       taken = taken;
-      opened = set-opened i old new t a text are v some.0 some.2;
+      opened = read-opened Is i old new t a text are v some.0 some.1;
       refused = tt;
       cause = tt;
     }

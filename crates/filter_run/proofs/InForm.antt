@@ -1,5 +1,5 @@
 -- From a set that is read to what `filterdiff` with a form comes to, and what a run promises then.
-use Rattle.std.proofs.Common.{◌≡◌, ℕ, true, false, List, [], Option, None, Some, Result, Ok, Err, refl, sym, ap, ◌∙◌, inr}
+use Rattle.std.proofs.Common.{◌≡◌, ℕ, List, [], Option, None, Some, Result, Ok, Err, refl, sym, ap, ◌∙◌, inr}
 use Rattle.std.specs.Prelude.{IfSome}
 use Rattle.std.proofs.lemmas.Bool.{false≢true}
 use Rattle.hunk_core.specs.declared.Form.{Form}
@@ -18,10 +18,10 @@ use Rattle.format_convert.specs.declared.fault.ConvertFault.{ConvertFault}
 use Rattle.format_convert.specs.declared.fault.ConvertFault.TheVariants as convert
 use Rattle.format_convert.specs.Converted.{Converts, converted}
 use Rattle.format_convert.specs.Refusals.{refusal as form_refusal}
-use Rattle.filter_run.specs.Converting.{FormOutcome, Forms, HasFormCause, IsConverted, convert_outcome, converted_by, converted_in, form_refused, of_convert, of_converted, unless_unfit, unless_unread}
-use Rattle.filter_run.specs.Outcomes.{Outcome, filter_with, given}
-use Rattle.filter_run.specs.Sifting.{HasTextCause, IsTold, is_refusal}
-use Rattle.filter_run.specs.Opened.{IsGarbage, IsReadOf, IsReadOfSome, IsRefused, Opens}
+use Rattle.filter_run.specs.Converting.{FormOutcome, Forms, HasFormCause, IsConverted, convert_outcome, converted_by, converted_in, of_convert, of_converted, unless_unfit, unless_unread}
+use Rattle.filter_run.specs.Outcomes.{filter_with, given}
+use Rattle.filter_run.specs.Sifting.{IsTold, is_refusal}
+use Rattle.filter_run.specs.Opened.{IsGarbage, IsReadOf, IsReadOfSome, IsSet, IsRefused, Opens}
 use Rattle.filter_run.specs.declared.fault.FilterFault.{FilterFault}
 use Rattle.filter_run.specs.declared.fault.FilterFault.TheVariants as faults
 use Rattle.filter_run.specs.declared.form_fault.FormFault.TheVariants.{Filter}
@@ -36,7 +36,7 @@ module _ (form : Form) (j : PlainFilterJob) where
   -- ---- what was read decides what comes
 
   module _ (x : Result (List ℕ × PlainSelect) InputFault) where
-    by-read : (s : PlainSelect) (v : SetView) → IsReadOf v s x → converted_by form j x ≡ unless_unfit (form_refusal form (left_patches (filter_with j s) (plain_patches v))) (converted form (filter_with j s) v)
+    by-read : (s : PlainSelect) (v : SetView) → IsReadOf IsSet v s x → converted_by form j x ≡ unless_unfit (form_refusal form (left_patches (filter_with j s) (plain_patches v))) (converted form (filter_with j s) v)
     by-read s v h = rw (h.is, h.free)
         (ap (λ (r : Option ConvertFault). unless_unfit r (converted_in form (filter_with j s) h.text)) (sym (form-by form (filter_with j s) h.text v h.read))
         ∙ ap (unless_unfit (form_refusal form (left_patches (filter_with j s) (plain_patches v)))) (sym (converted-by form (filter_with j s) h.text v h.read)))
@@ -65,7 +65,7 @@ module _ (form : Form) (j : PlainFilterJob) where
   -- ---- what a run promises
 
   module _ (new : PlainSelect) (t u : TreeView) (a b : SourceView) where
-    pub forms-unopened : (e : FilterFault) (c : SinkView) → Opens j.input j.select new t u a b (Err e) → Forms form j t u a b c c (Err (Filter e))
+    pub forms-unopened : (e : FilterFault) (c : SinkView) → Opens IsSet j.input j.select new t u a b (Err e) → Forms form j t u a b c c (Err (Filter e))
     forms-unopened e c h = record {
       untouched = h.untouched;
       source = h.source;
@@ -77,7 +77,7 @@ module _ (form : Form) (j : PlainFilterJob) where
       cause = opening-cause e j.input j.select ⊥ t u a b c h.cause;
     }
 
-    pub forms-nothing : (c : SinkView) → Opens j.input j.select new t u a b (Ok None) → Forms form j t u a b c c (Ok tt)
+    pub forms-nothing : (c : SinkView) → Opens IsSet j.input j.select new t u a b (Ok None) → Forms form j t u a b c c (Ok tt)
     forms-nothing c h = record {
       untouched = h.untouched;
       source = h.source;
@@ -89,7 +89,7 @@ module _ (form : Form) (j : PlainFilterJob) where
       cause = tt;
     }
 
-    module _ (v : SetView) (h : Opens j.input j.select new t u a b (Ok (Some v))) where
+    module _ (v : SetView) (h : Opens IsSet j.input j.select new t u a b (Ok (Some v))) where
       abbrev refused : Option ConvertFault
       refused = form_refusal form (left_patches (filter_with j new) (plain_patches v))
 
@@ -150,7 +150,7 @@ module _ (form : Form) (j : PlainFilterJob) where
           }
 
     -- over what was opened
-    pub forms-over : {O : Type 0} (view : O → SinkView) (same : O → O → Type 0) (x y : O) (o : Option SetView) (r : Result (Unit {0}) ConvertFault) → Opens j.input j.select new t u a b (Ok o) → IfSome o (IsReadOfSome new.skip_binary)
+    pub forms-over : {O : Type 0} (view : O → SinkView) (same : O → O → Type 0) (x y : O) (o : Option SetView) (r : Result (Unit {0}) ConvertFault) → Opens IsSet j.input j.select new t u a b (Ok o) → IfSome o (IsReadOfSome new.skip_binary)
         → IfSome o (λ v. Converts view same x y r (form_refusal form (left_patches (filter_with j new) (plain_patches v))) (converted form (filter_with j new) v)) → (o ≡ None → (r ≡ Ok tt) × (y ≡ x)) → Forms form j t u a b (view x) (view y) (of_converted r)
     forms-over view same x y None r h some converts none = let is = none refl in rw (is.0, is.1) (forms-nothing (view x) h)
     forms-over view same x y (Some v) (Ok done) h some converts none = forms-written v h view same x y converts

@@ -1,15 +1,13 @@
 -- From a text that was read, and what was written of its set, to what `reversediff` promises.
-use Rattle.std.proofs.Common.{◌≡◌, ◌⊎◌, inl, inr, ℕ, true, false, List, [], Option, None, Some, Result, Ok, Err, refl, sym, ap, ◌∙◌, subst}
+use Rattle.std.proofs.Common.{◌≡◌, ◌⊎◌, inl, inr, ℕ, false, List, [], Option, None, Some, Result, Ok, Err, refl, sym, ap, ◌∙◌, subst}
 use Rattle.std.specs.Prelude.{option_map}
 use Rattle.std.specs.Option.{option_or}
-use Rattle.std.specs.Result.{IsErrAnd}
 use Rattle.std.proofs.lemmas.Bool.{false≢true}
 use Rattle.outside.specs.Files.{Files}
 use Rattle.outside.specs.TreeView.{TreeView}
 use Rattle.outside.specs.Calls.{IsUntouched}
 use Rattle.outside.specs.SourceView.{SourceView, SourcePasses}
 use Rattle.outside.specs.SinkView.{SinkView, sink_passes_none}
-use Rattle.hunk_core.specs.Writing.{Puts}
 use Rattle.file_patch.specs.PlainPatch.{PlainPatch, first_opening}
 use Rattle.flip_patch.specs.declared.fault.FlipFault.{FlipFault}
 use Rattle.flip_patch.specs.declared.fault.FlipFault.TheVariants as flip
@@ -22,10 +20,10 @@ use Rattle.patch_set.specs.declared.fault.SetFault.TheVariants as set
 use Rattle.patch_set.specs.Refusals.{refusal}
 use Rattle.patch_set.specs.SetView.{SetView, IsRead, plain_patches}
 use Rattle.filter_run.specs.Faults.{of_flip}
-use Rattle.filter_run.specs.Texts.{defaults, patches_in}
-use Rattle.filter_run.specs.Outcomes.{Outcome, IsOutcomeOf, no_selection}
+use Rattle.filter_run.specs.Texts.{defaults}
+use Rattle.filter_run.specs.Outcomes.{IsOutcomeOf, no_selection}
 use Rattle.filter_run.specs.Sifting.{IsTold, Sifts, is_refusal}
-use Rattle.filter_run.specs.Flips.{HasFlipCause, IsTextRead, IsNotRead, IsUnread, TurnAnswers, flip_outcome, flipped_from, flipped_in, flipped_unless, text_flipped, turned_unless}
+use Rattle.filter_run.specs.Flips.{HasFlipCause, IsTextRead, IsUnread, TurnAnswers, flip_outcome, flipped_from, flipped_in, flipped_unless, text_flipped, turned_unless}
 use Rattle.filter_run.specs.declared.fault.FilterFault.{FilterFault}
 use Rattle.filter_run.specs.declared.fault.FilterFault.TheVariants as faults
 use Rattle.filter_run.proofs.ByText.{patches-by, flipped-by}

@@ -12,18 +12,27 @@ use Rattle.patch_set.specs.declared.fault.SetFault.{SetFault}
 use Rattle.patch_set.specs.declared.fault.SetFault.TheVariants.{Garbage}
 use Rattle.patch_set.specs.Refusals.{refusal}
 use Rattle.patch_set.specs.SetView.{SetView, IsRead}
+use Rattle.patch_set.specs.Outlined.{IsOutline}
+use Rattle.patch_set.specs.declared.outline.Outline.{Outline}
 use Rattle.filter_run.specs.Texts.{defaults}
 use Rattle.filter_run.specs.Outcomes.{given}
 use Rattle.filter_run.specs.Sifting.{IsTold, is_refusal, HasInputCause, HasTextCause}
 use Rattle.filter_run.specs.declared.fault.FilterFault.{FilterFault}
 use Rattle.filter_run.specs.declared.fault.FilterFault.TheVariants as faults
 
--- a text and a selection are given, and the set is read from the text
-pub record IsReadOf (v : SetView) (s : PlainSelect) (x : Result (List ℕ × PlainSelect) InputFault) : Type 0 where
+-- what is read of a text: a set, or an outline
+abbrev pub IsSet : Bool → List ℕ → SetView → Type 0
+IsSet skip text v = IsRead (defaults skip) text v
+
+abbrev pub IsOutlined : Bool → List ℕ → Outline → Type 0
+IsOutlined skip text v = IsOutline (defaults skip) text v
+
+-- a text and a selection are given, and this is read from the text
+pub record IsReadOf {V : Type 0} (Is : Bool → List ℕ → V → Type 0) (v : V) (s : PlainSelect) (x : Result (List ℕ × PlainSelect) InputFault) : Type 0 where
   pub text : List ℕ
   pub is : x ≡ Ok (text, s)
   pub free : refusal (defaults s.skip_binary) text ≡ None
-  pub read : IsRead (defaults s.skip_binary) text v
+  pub read : Is s.skip_binary text v
 
 -- the set is read from some text, of which binary changes are passed over or not
 abbrev pub IsReadOfSome : Bool → SetView → Type 0
@@ -43,9 +52,9 @@ pub record IsRefusedText (e : SetFault) (x : Result (List ℕ × PlainSelect) In
   pub refused : refusal (defaults select.skip_binary) text ≡ Some e
   pub some : e ≢ Garbage
 
-abbrev pub IsOpened : Option SetView → PlainSelect → Result (List ℕ × PlainSelect) InputFault → Type 0
-IsOpened None s x = IsGarbage s x
-IsOpened (Some v) s x = IsReadOf v s x
+abbrev pub IsOpened : {V : Type 0} → (Bool → List ℕ → V → Type 0) → Option V → PlainSelect → Result (List ℕ × PlainSelect) InputFault → Type 0
+IsOpened Is None s x = IsGarbage s x
+IsOpened Is (Some v) s x = IsReadOf Is v s x
 
 abbrev pub IsRefused : FilterFault → Result (List ℕ × PlainSelect) InputFault → Type 0
 IsRefused (faults.Input e) x = x ≡ Err e
@@ -67,11 +76,11 @@ HasOpeningCause faults.Write i s t u a b = ⊥
 HasOpeningCause faults.Memory i s t u a b = Unit {0}
 
 -- the text is read, then the files of patterns, by which one selection becomes another; then the file patches of the text
-pub record Opens (i : Input) (old new : PlainSelect) (t u : TreeView) (a b : SourceView) (result : Result (Option SetView) FilterFault) : Type 0 where
+pub record Opens {V : Type 0} (Is : Bool → List ℕ → V → Type 0) (i : Input) (old new : PlainSelect) (t u : TreeView) (a b : SourceView) (result : Result (Option V) FilterFault) : Type 0 where
   pub untouched : IsUntouched t u
   pub source : SourcePasses a b
   pub read : OnOk result (IsStandard i → (left : List ℕ) → a.told ≡ Some left → b.told ≡ Some [])
   pub taken : TakesAtMost 268435457 a b
-  pub opened : IfOk result (λ given_set. (f : Files) (left : List ℕ) → IsTold i old t a f left → IsOpened given_set new (given i old f left))
+  pub opened : IfOk result (λ given_set. (f : Files) (left : List ℕ) → IsTold i old t a f left → IsOpened Is given_set new (given i old f left))
   pub refused : IfErr result (λ e. is_refusal e ≡ true → (f : Files) (left : List ℕ) → IsTold i old t a f left → IsRefused e (given i old f left))
   pub cause : IfErr result (λ e. HasOpeningCause e i old t u a b)

@@ -1,12 +1,13 @@
 //! How a filter reads a text: as `patch` does without options, but perhaps for `--skip-binary`.
 ghost use Rattle.std.specs.Prelude.{◌≡◌, IfOk};
 ghost use Rattle.patch_options.specs.PlainJob.{plain_options, IsLawful};
+ghost use Rattle.patch_set.specs.Outlined.{IsOutline};
 ghost use Rattle.patch_set.specs.Refusals.{refusal};
 ghost use Rattle.patch_set.specs.SetView.{IsRead, IsWhole, Meets};
 ghost use Rattle.filter_run.specs.Texts.{defaults, dry_defaults};
 
 use patch_options::{Input, Options, PlanKind};
-use patch_set::{PatchSet, SetFault, read_set};
+use patch_set::{Outline, PatchSet, SetFault, read_outline, read_set};
 use std::alloc::Global;
 
 /// The set of a text, of which binary changes are passed over or not.
@@ -16,6 +17,14 @@ pub fn read_plain(alloc: Global, text: Vec<u8>, skip_binary: bool) -> Result<Pat
     ensures refused { Meets (refusal (defaults skip_binary) text.items) result }
 {
     read_set(alloc, text, &default_options(skip_binary))
+}
+
+/// The same without hunks.
+pub fn outline_plain(alloc: Global, text: Vec<u8>, skip_binary: bool) -> Result<Outline, SetFault>
+    ensures outline { IfOk result (IsOutline (defaults skip_binary) text.items) }
+    ensures refused { Meets (refusal (defaults skip_binary) text.items) result }
+{
+    read_outline(alloc, text, &default_options(skip_binary))
 }
 
 /// What `patch` alone asks for, or with `--skip-binary`, in a dry run: the set is the same, without the room that a run needs

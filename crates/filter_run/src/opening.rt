@@ -1,26 +1,28 @@
 //! What a filter reads before it writes: the text, the files of patterns, and the file patches of the text.
-ghost use Rattle.std.specs.Prelude.{◌≡◌, ◌≢◌, ◌⊎◌, ℕ, List, [], true, Ok, Err, Some, None, IfOk, IfErr, IfSome, OnOk};
+ghost use Rattle.std.specs.Prelude.{◌≡◌, ◌≢◌, ◌⊎◌, ℕ, List, [], true, All, Ok, Err, Some, None, IfOk, IfErr, IfSome, OnOk};
 ghost use Rattle.outside.specs.Files.{Files};
 ghost use Rattle.outside.specs.Calls.{IsUntouched};
 ghost use Rattle.outside.specs.SourceView.{SourcePasses};
 ghost use Rattle.tool_words.specs.PlainJobs.{plain_select};
 ghost use Rattle.patch_input.specs.Input.{IsFile, IsStandard, TakesAtMost};
+ghost use Rattle.file_patch.specs.Absent.{IsLawfulPatch};
+ghost use Rattle.patch_set.specs.Outlined.{IsOutline};
 ghost use Rattle.patch_set.specs.SetView.{IsRead, IsWhole};
 ghost use Rattle.patch_set.specs.Refusals.{refusal};
 ghost use Rattle.patch_set.specs.declared.fault.SetFault.{SetFault as TheFault};
 ghost use Rattle.filter_run.specs.Texts.{defaults};
 ghost use Rattle.filter_run.specs.Outcomes.{given};
 ghost use Rattle.filter_run.specs.Sifting.{HasInputCause, IsTold, is_refusal};
-ghost use Rattle.filter_run.specs.Opened.{IsReadOfSome, Opens};
+ghost use Rattle.filter_run.specs.Opened.{IsOutlined, IsReadOfSome, IsSet, Opens};
 ghost use Rattle.filter_run.specs.declared.fault.FilterFault.TheVariants as faults;
 
-use crate::defaults::read_plain;
+use crate::defaults::{outline_plain, read_plain};
 use crate::fault::FilterFault;
 use crate::patterns::add_patterns;
 use outside::{Source, Tree};
 use patch_input::{InputFault, read_input};
 use patch_options::Input;
-use patch_set::{PatchSet, SetFault};
+use patch_set::{Outline, PatchSet, SetFault};
 use std::alloc::Global;
 use tool_words::Select;
 
@@ -53,12 +55,32 @@ fn read_patches(
     text: Vec<u8>,
     skip_binary: bool,
 ) -> Result<Option<PatchSet>, SetFault>
-    ensures set { IfOk result (λ given. IfSome given (λ v. IsRead (defaults skip_binary) text.items v × IsWhole v × (refusal (defaults skip_binary) text.items ≡ None))) }
+    ensures set { IfOk result (λ given. IfSome given (λ v. IsRead (defaults skip_binary) text.items v × (refusal (defaults skip_binary) text.items ≡ None))) }
+    ensures whole { IfOk result (λ given. IfSome given IsWhole) }
     ensures none { IfOk result (λ given. given ≡ None → refusal (defaults skip_binary) text.items ≡ Some TheFault.Garbage) }
     ensures refused { IfErr result (λ e. (e ≡ TheFault.Memory) ⊎ ((e ≢ TheFault.Garbage) × (refusal (defaults skip_binary) text.items ≡ Some e))) }
 {
     match read_plain(alloc, text, skip_binary) {
         Ok(set) => Ok(Some(set)),
+        Err(fault) => match fault {
+            SetFault::Garbage => Ok(None),
+            _ => Err(fault),
+        },
+    }
+}
+
+/// The same without their hunks.
+fn read_outlines(
+    alloc: Global,
+    text: Vec<u8>,
+    skip_binary: bool,
+) -> Result<Option<Outline>, SetFault>
+    ensures outline { IfOk result (λ given. IfSome given (λ v. IsOutline (defaults skip_binary) text.items v × (refusal (defaults skip_binary) text.items ≡ None))) }
+    ensures none { IfOk result (λ given. given ≡ None → refusal (defaults skip_binary) text.items ≡ Some TheFault.Garbage) }
+    ensures refused { IfErr result (λ e. (e ≡ TheFault.Memory) ⊎ ((e ≢ TheFault.Garbage) × (refusal (defaults skip_binary) text.items ≡ Some e))) }
+{
+    match outline_plain(alloc, text, skip_binary) {
+        Ok(outline) => Ok(Some(outline)),
         Err(fault) => match fault {
             SetFault::Garbage => Ok(None),
             _ => Err(fault),
@@ -74,7 +96,7 @@ pub fn open_text<T: Tree, I: Source>(
     tree: &mut T,
     source: &mut I,
 ) -> Result<Option<PatchSet>, FilterFault>
-    ensures opens { Opens input.now (plain_select select.old) (plain_select select.new) (T.view tree.old) (T.view tree.new) (I.view source.old) (I.view source.new) result }
+    ensures opens { Opens IsSet input.now (plain_select select.old) (plain_select select.new) (T.view tree.old) (T.view tree.new) (I.view source.old) (I.view source.new) result }
     ensures unread { IsFile input.now → source.new ≡ source.old }
     ensures whole { IfOk result (λ given_set. IfSome given_set IsWhole) }
     ensures read { IfOk result (λ given_set. IfSome given_set (IsReadOfSome select.new.skip_binary)) }
@@ -82,4 +104,21 @@ pub fn open_text<T: Tree, I: Source>(
     let text = read_given(alloc, input, select, tree, source)?;
     let set = read_patches(alloc, text, select.skip_binary)?;
     Ok(set)
+}
+
+/// The same without their hunks, for a filter that wants no more than a list.
+pub fn open_outline<T: Tree, I: Source>(
+    alloc: Global,
+    input: &Input,
+    select: &mut Select,
+    tree: &mut T,
+    source: &mut I,
+) -> Result<Option<Outline>, FilterFault>
+    ensures opens { Opens IsOutlined input.now (plain_select select.old) (plain_select select.new) (T.view tree.old) (T.view tree.new) (I.view source.old) (I.view source.new) result }
+    ensures unread { IsFile input.now → source.new ≡ source.old }
+    ensures lawful { IfOk result (λ given. IfSome given (λ v. All (IsLawfulPatch v.text.items) v.patches.items)) }
+{
+    let text = read_given(alloc, input, select, tree, source)?;
+    let outline = read_outlines(alloc, text, select.skip_binary)?;
+    Ok(outline)
 }

@@ -1,11 +1,12 @@
 //! The filters that write one text and leave the tree as it is.
-ghost use Rattle.std.specs.Prelude.{◌≡◌, ℕ, List, [], None, Ok, string_bytes, IfErr, IfSome, OnErr, OnOk};
+ghost use Rattle.std.specs.Prelude.{◌≡◌, ℕ, List, [], All, None, Ok, map, string_bytes, IfErr, IfSome, OnErr, OnOk};
 ghost use Rattle.outside.specs.Files.{Files};
 ghost use Rattle.outside.specs.FinderView.{FinderPasses};
 ghost use Rattle.outside.specs.SinkView.{Receives, ReceivesPart, SinkPasses, Writes};
 ghost use Rattle.tool_words.specs.PlainJobs.{plain_filter_job, plain_grep_job, plain_list_job, plain_select};
 ghost use Rattle.patch_input.specs.Input.{IsFile};
-ghost use Rattle.patch_set.specs.SetView.{plain_patches};
+ghost use Rattle.file_patch.specs.Absent.{IsLawfulPatch};
+ghost use Rattle.file_patch.specs.PlainPatch.{patch_of};
 ghost use Rattle.patch_filters.specs.Filtered.{filtered};
 ghost use Rattle.patch_filters.specs.Grepped.{HasGrepCause, grepped};
 ghost use Rattle.patch_filters.specs.Listed.{listed};
@@ -14,12 +15,12 @@ ghost use Rattle.filter_run.specs.Outcomes.{HasPatches, IsOutcomeOf, filter_outc
 ghost use Rattle.filter_run.specs.Sifting.{Greps, HasCountCause, HasTextCause, IsTold, Sifts};
 
 use crate::fault::FilterFault;
-use crate::opening::open_text;
+use crate::opening::{open_outline, open_text};
 use outside::{Failed, Finder, Sink, Source, Tree, put_all};
 use patch_filters::{GrepFault, filter_patches, grep_patches, list_patches};
 use patch_input::read_input;
 use patch_options::Input;
-use patch_set::{PatchSet, SetFault};
+use patch_set::{Outline, PatchSet, SetFault};
 use split_recount::recount;
 use std::alloc::Global;
 use tool_words::{FilterJob, GrepJob, ListJob};
@@ -37,7 +38,7 @@ pub fn run_list<T: Tree, I: Source, O: Sink>(
     ensures rest { O.same_rest out.old out.new }
 {
     let mut job = job;
-    match open_text(alloc, &job.input, &mut job.select, tree, source) {
+    match open_outline(alloc, &job.input, &mut job.select, tree, source) {
         Ok(opened) => sink_answer(put_listed(&opened, &job, out)),
         Err(fault) => Err(fault),
     }
@@ -110,13 +111,14 @@ pub fn run_recount<T: Tree, I: Source, O: Sink>(
 }
 
 /// Writes the list of the file patches, where there are some.
-fn put_listed<O: Sink>(opened: &Option<PatchSet>, job: &ListJob, out: &mut O) -> Result<(), Failed>
-    ensures writes { IfSome opened.now (λ set. Writes (O.view out.old) (O.view out.new) result (listed (plain_list_job job.now) (plain_patches set))) }
+fn put_listed<O: Sink>(opened: &Option<Outline>, job: &ListJob, out: &mut O) -> Result<(), Failed>
+    requires { IfSome opened.now (λ v. All (IsLawfulPatch v.text.items) v.patches.items) }
+    ensures writes { IfSome opened.now (λ v. Writes (O.view out.old) (O.view out.new) result (listed (plain_list_job job.now) (map (patch_of v.text.items) v.patches.items))) }
     ensures none { opened.now ≡ None → (result ≡ Ok tt) × (out.new ≡ out.old) }
     ensures rest { O.same_rest out.old out.new }
 {
     match opened {
-        Some(set) => list_patches(set, job, out),
+        Some(outline) => list_patches(outline, job, out),
         None => Ok(()),
     }
 }

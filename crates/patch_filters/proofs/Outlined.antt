@@ -11,7 +11,7 @@ use Rattle.target_names.specs.Stripped.{shortened}
 use Rattle.patch_text.specs.Outlines.{only_hunk, outline}
 use Rattle.patch_set.specs.PlainName.{plain_name}
 use Rattle.tool_words.specs.PlainJobs.{PlainListJob}
-use Rattle.patch_filters.specs.Listed.{is_listed, list_line, listed, number_text, sign, sign_text}
+use Rattle.patch_filters.specs.Listed.{is_listed, list_line, listed, number_text, sign}
 
 same-empty : (side : Side) (c : PlainChange) → is_empty_on side (only_hunk c) ≡ is_empty_on side c
 same-empty side (hunks []) = refl

@@ -3,7 +3,7 @@ use Rattle.patch_set.specs.declared.fault.SetFault.TheVariants as set
 use Rattle.filter_run.proofs.opening.read_patches.Goals as goal
 
 pub returns-in-Ok-clause-set : goal.returns-in-Ok-clause-set
-returns-in-Ok-clause-set c = (c.in-Ok.ensures.read, c.in-Ok.ensures.whole, c.in-Ok.ensures.refused)
+returns-in-Ok-clause-set c = (c.in-Ok.ensures.read, c.in-Ok.ensures.refused)
 
 pub returns-in-Garbage-clause-none : goal.returns-in-Garbage-clause-none
 returns-in-Garbage-clause-none c = λ none.
@@ -16,6 +16,7 @@ returns-in-Garbage-clause-none c = λ none.
 pub returns-in_default : goal.returns-in_default
 returns-in_default c = record {
   set = tt;
+  whole = tt;
   none = tt;
   refused = ⊎_elim
       (λ memory. inl memory)
