@@ -1,20 +1,20 @@
 -- Hunks passed over one after the other, as a loop does, and what reading gives of them.
-use Rattle.std.proofs.Common.{◌≡◌, ℕ, zero, suc, ◌-◌, ◌+◌, ◌≤◌, ◌<◌, Bool, true, false, cond, eqb, List, [], ◌∷◌, length, Result, Ok, Err, refl, sym, ap, subst, ◌∙◌, arith}
+use Rattle.std.proofs.Common.{◌≡◌, ℕ, zero, suc, ◌-◌, ◌+◌, ◌≤◌, ◌<◌, Bool, true, false, cond, eqb, List, [], ◌∷◌, length, Option, None, Some, Result, Ok, Err, refl, sym, ap, subst, ◌∙◌, arith}
 use Rattle.std.specs.Prelude.{is_some}
 use Rattle.hunk_core.specs.declared.fault.FormFault.{FormFault}
 use Rattle.hunk_core.specs.declared.fault.FormFault.TheVariants as errors
 use Rattle.hunk_core.specs.declared.BadKind.TheVariants as kinds
 use Rattle.hunk_core.specs.PlainHunk.{Marked, PlainHunk}
-use Rattle.hunk_core.specs.LineTests.{after_backslash}
+use Rattle.hunk_core.specs.LineTests.{unended, after_backslash}
 use Rattle.hunk_core.specs.Reading.{◌>>=◌, Fault, fault, Fails, Ahead, ahead}
 use Rattle.hunk_core.specs.Refusals.{settled}
 use Rattle.hunk_core.proofs.ReadSteps.{bind_ok, done, ok_is, with_front}
 use Rattle.unified_form.specs.declared.body.Left.{Left}
 use Rattle.unified_form.specs.declared.range.Ranges.{Ranges}
 use Rattle.unified_form.specs.Ranges.{opening}
-use Rattle.unified_form.specs.Bodies.{line_at, body_at}
+use Rattle.unified_form.specs.Bodies.{is_last_line, marked_at, room_at, ended_by, first_line, line_at, body_at}
 use Rattle.unified_form.specs.Hunks.{at_line, left_of, change, first_hunk, hunk_at, hunks_at, begins_hunk}
-use Rattle.unified_form.specs.Skimmed.{past_body, past_settled, past_first, past_hunk, past_hunks, are_some}
+use Rattle.unified_form.specs.Skimmed.{past_ended, past_first_line, past_line, past_body, past_settled, past_first, past_hunk, past_hunks, are_some}
 use Rattle.unified_form.proofs.HunkLoops.{HunksSoFar, hunks_step as hunks_step_of}
 use Rattle.unified_form.proofs.Steps.{hunk-shrinks}
 
@@ -29,20 +29,20 @@ pub record BodyPast (left : Left) (p : Ahead) (total : Result Ahead Fault) : Typ
 pub body_past_begins : (left : Left) (p : Ahead) → BodyPast left p (past_body (left.old + left.new) left p)
 body_past_begins left p = record { most = left.old + left.new; enough = omega arith; same = refl }
 
-body_step : (most : ℕ) (left : Left) (p : Ahead) → 0 < left.old + left.new → past_body (suc most) left p ≡ (line_at left p >>= λ first. past_body most first.1 first.2)
+body_step : (most : ℕ) (left : Left) (p : Ahead) → 0 < left.old + left.new → past_body (suc most) left p ≡ (past_line left p >>= λ first. past_body most first.0 first.1)
 unfolding past_body
 body_step most left p some =
     let more : eqb (left.old + left.new) 0 ≡ false = grind arith in
     rw more refl
 
-pub body_past_goes_on : (left : Left) (p : Ahead) (x : Marked × Left × Ahead) (total : Result Ahead Fault) → 0 < left.old + left.new → x.1.old + x.1.new < left.old + left.new → line_at left p ≡ Ok x → BodyPast left p total → BodyPast x.1 x.2 total
+pub body_past_goes_on : (left : Left) (p : Ahead) (x : Left × Ahead) (total : Result Ahead Fault) → 0 < left.old + left.new → x.0.old + x.0.new < left.old + left.new → past_line left p ≡ Ok x → BodyPast left p total → BodyPast x.0 x.1 total
 body_past_goes_on left p x total some less read so_far =
     let most = so_far.most in
     let k : most ≡ suc (most - 1) = omega (arith, so_far.enough) in
-    let one : past_body most left p ≡ past_body (most - 1) x.1 x.2 = ap (λ m. past_body m left p) k ∙ rw (body_step (most - 1) left p some, read) refl in
+    let one : past_body most left p ≡ past_body (most - 1) x.0 x.1 = ap (λ m. past_body m left p) k ∙ rw (body_step (most - 1) left p some, read) refl in
     record { most = most - 1; enough = omega (arith, so_far.enough); same = sym one ∙ so_far.same }
 
-pub body_past_fails : (e : FormFault) (left : Left) (p : Ahead) (total : Result Ahead Fault) → 0 < left.old + left.new → Fails e (line_at left p) → BodyPast left p total → Fails e total
+pub body_past_fails : (e : FormFault) (left : Left) (p : Ahead) (total : Result Ahead Fault) → 0 < left.old + left.new → Fails e (past_line left p) → BodyPast left p total → Fails e total
 body_past_fails errors.Memory left p total some h so_far = tt
 body_past_fails (errors.Malformed line kind) left p total some h so_far =
     let k : so_far.most ≡ suc (so_far.most - 1) = omega (arith, so_far.enough) in
@@ -93,8 +93,37 @@ body_again : (r : Result (List Marked × Ahead) Fault) (m : Marked) → (r >>= �
 body_again (Ok x) m = refl
 body_again (Err e) m = refl
 
+abbrev left_ok : Left → Ahead → Result (Left × Ahead) Fault
+left_ok left p = Ok (left, p)
+
+abbrev line_ok : Marked → Left → Ahead → Result (Marked × Left × Ahead) Fault
+line_ok m left p = Ok (m, left, p)
+
+last_both : (b : Bool) (number : ℕ) (m : Marked) (left : Left) (more : List (List ℕ))
+    → cond b (left_ok left (ahead (number + 2) more)) (Err (fault (number + 1) kinds.MisplacedBackslash)) ≡ (cond b (line_ok (unended m) left (ahead (number + 2) more)) (Err (fault (number + 1) kinds.MisplacedBackslash)) >>= λ x. left_ok x.1 x.2)
+last_both true number m left more = refl
+last_both false number m left more = refl
+
+ended_both : (number : ℕ) (m : Marked) (left : Left) (rest : List (List ℕ)) (o : Option (List (List ℕ))) → past_ended number m.mark left rest o ≡ (ended_by number m left rest o >>= λ x. left_ok x.1 x.2)
+ended_both number m left rest None = refl
+ended_both number m left rest (Some more) = last_both (is_last_line m.mark left) number m left more
+
+roomed : (number : ℕ) (m : Marked) (rest : List (List ℕ)) (o : Result Left Fault) → (o >>= λ room. past_ended number m.mark room rest (after_backslash rest)) ≡ ((o >>= λ room. ended_by number m room rest (after_backslash rest)) >>= λ x. left_ok x.1 x.2)
+roomed number m rest (Ok room) = ended_both number m room rest (after_backslash rest)
+roomed number m rest (Err e) = refl
+
+lined : (number : ℕ) (left : Left) (rest : List (List ℕ)) (o : Result Marked Fault)
+    → (o >>= λ m. room_at number m.mark left >>= λ room. past_ended number m.mark room rest (after_backslash rest)) ≡ ((o >>= λ m. room_at number m.mark left >>= λ room. ended_by number m room rest (after_backslash rest)) >>= λ x. left_ok x.1 x.2)
+lined number left rest (Ok m) = roomed number m rest (room_at number m.mark left)
+lined number left rest (Err e) = refl
+
+line_is : (left : Left) (number : ℕ) (rest : List (List ℕ)) → past_first_line left number rest ≡ (first_line left number rest >>= λ x. left_ok x.1 x.2)
+unfolding past_first_line first_line
+line_is left number [] = refl
+line_is left number (line ∷ rest) = lined number left rest (marked_at number line)
+
 body_both : (b : Bool) (read : Result (Marked × Left × Ahead) Fault) (p : Ahead) (f : Left → Ahead → Result Ahead Fault) (g : Left → Ahead → Result (List Marked × Ahead) Fault) → ((l : Left) (q : Ahead) → f l q ≡ (g l q >>= λ x. Ok x.1))
-    → cond b (Ok p) (read >>= λ first. f first.1 first.2) ≡ (cond b (body_ok [] p) (read >>= λ first. g first.1 first.2 >>= λ others. body_ok (first.0 ∷ others.0) others.1) >>= λ x. Ok x.1)
+    → cond b (Ok p) ((read >>= λ x. left_ok x.1 x.2) >>= λ first. f first.0 first.1) ≡ (cond b (body_ok [] p) (read >>= λ first. g first.1 first.2 >>= λ others. body_ok (first.0 ∷ others.0) others.1) >>= λ x. Ok x.1)
 body_both true read p f g h = refl
 body_both false (Err e) p f g h = refl
 body_both false (Ok x) p f g h = h x.1 x.2 ∙ body_again (g x.1 x.2) x.0
@@ -102,7 +131,9 @@ body_both false (Ok x) p f g h = h x.1 x.2 ∙ body_again (g x.1 x.2) x.0
 body_is : (most : ℕ) (left : Left) (p : Ahead) → past_body most left p ≡ (body_at most left p >>= λ x. Ok x.1)
 unfolding past_body body_at
 body_is zero left p = refl
-body_is (suc most) left p = body_both (eqb (left.old + left.new) 0) (line_at left p) p (past_body most) (body_at most) (body_is most)
+body_is (suc most) left p =
+    ap (λ o. cond (eqb (left.old + left.new) 0) (Ok p) (o >>= λ first. past_body most first.0 first.1)) (line_is left p.number p.rest)
+    ∙ body_both (eqb (left.old + left.new) 0) (line_at left p) p (past_body most) (body_at most) (body_is most)
 
 settled_both : (b : Bool) (r : Ranges) (x : List Marked × Ahead) → cond b (Err (fault x.1.number kinds.MisplacedBackslash)) (start_ok r.old_start x.1) ≡ (cond b (Err (fault x.1.number kinds.MisplacedBackslash)) (hunk_ok (change r x.0) x.1) >>= λ y. start_ok y.0.old_start y.1)
 settled_both true r x = refl

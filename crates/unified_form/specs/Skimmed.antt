@@ -1,6 +1,7 @@
 -- Hunks that follow each other, of which only the first is kept: what is ahead behind the others, without their lines.
-use Rattle.std.specs.Prelude.{◌≡◌, ℕ, zero, suc, ◌+◌, ◌==◌, List, [], ◌∷◌, drop, Bool, true, false, is_some, Result, Ok, Err, if◌then◌else◌}
+use Rattle.std.specs.Prelude.{◌≡◌, ℕ, zero, suc, ◌+◌, ◌==◌, List, [], ◌∷◌, drop, Bool, true, false, Option, Some, None, is_some, Result, Ok, Err, if◌then◌else◌}
 use Rattle.line_list.specs.Lines.{lines}
+use Rattle.hunk_core.specs.declared.Mark.{Mark}
 use Rattle.hunk_core.specs.declared.BadKind.TheVariants as kinds
 use Rattle.hunk_core.specs.PlainHunk.{PlainHunk, hunk_of}
 use Rattle.hunk_core.specs.LineTests.{after_backslash}
@@ -9,14 +10,30 @@ use Rattle.unified_form.specs.declared.body.Left.{Left}
 use Rattle.unified_form.specs.declared.range.Ranges.{Ranges}
 use Rattle.unified_form.specs.declared.skim.Skim.{Skim}
 use Rattle.unified_form.specs.Ranges.{opening}
-use Rattle.unified_form.specs.Bodies.{line_at}
+use Rattle.unified_form.specs.Bodies.{is_last_line, marked_at, room_at}
 use Rattle.unified_form.specs.Grammar.{IsPiece}
 use Rattle.unified_form.specs.Hunks.{at_line, left_of, begins_hunk, reading}
+
+-- what is left behind a line with this left, and what is ahead, where a backslash line may follow
+abbrev pub past_ended : ℕ → Mark → Left → List (List ℕ) → Option (List (List ℕ)) → Result (Left × Ahead) Fault
+past_ended number mark left rest None = Ok (left, ahead (number + 1) rest)
+past_ended number mark left rest (Some more) = if is_last_line mark left then Ok (left, ahead (number + 2) more) else Err (fault (number + 1) kinds.MisplacedBackslash)
+
+-- what is left behind the first of these lines as a line of a body with this left, and what is ahead
+unfoldable pub past_first_line : Left → ℕ → List (List ℕ) → Result (Left × Ahead) Fault
+past_first_line left number [] = Err (fault number kinds.ShortEnd)
+past_first_line left number (line ∷ rest) = do
+  m ← marked_at number line
+  room ← room_at number m.mark left
+  past_ended number m.mark room rest (after_backslash rest)
+
+abbrev pub past_line : Left → Ahead → Result (Left × Ahead) Fault
+past_line left p = past_first_line left p.number p.rest
 
 -- what is ahead behind a body with at most this many lines, and with these counts
 unfoldable pub past_body : ℕ → Left → Ahead → Result Ahead Fault
 past_body zero left p = Ok p
-past_body (suc most) left p = if left.old + left.new == 0 then Ok p else (line_at left p >>= λ first. past_body most first.1 first.2)
+past_body (suc most) left p = if left.old + left.new == 0 then Ok p else (past_line left p >>= λ first. past_body most first.0 first.1)
 
 -- no backslash line stands behind a hunk with these ranges
 abbrev pub past_settled : Ranges → Ahead → Result (ℕ × Ahead) Fault

@@ -60,7 +60,7 @@ fn mark_of(text: &[u8], at: usize, end: usize) -> Option<HunkLine>
 }
 
 /// The mark of a line that must have one.
-fn marked_line(text: &[u8], at: usize, end: usize, number: u64) -> Result<HunkLine, FormFault>
+pub fn marked_line(text: &[u8], at: usize, end: usize, number: u64) -> Result<HunkLine, FormFault>
     requires low { at < end }
     requires high { end ≤ length text.now }
     requires short { length text.now < 2 ^ 32 }
@@ -76,7 +76,7 @@ fn marked_line(text: &[u8], at: usize, end: usize, number: u64) -> Result<HunkLi
 }
 
 /// What is left after a line with this mark.
-fn left_after(mark: Mark, left: Left, number: u64) -> Result<Left, FormFault>
+pub fn left_after(mark: Mark, left: Left, number: u64) -> Result<Left, FormFault>
     ensures less { IfOk result (λ x. x.old + x.new < left.old + left.new) }
     ensures exact { Gives (λ x. x) result (room_at number mark left) }
 {
@@ -98,7 +98,7 @@ fn left_after(mark: Mark, left: Left, number: u64) -> Result<Left, FormFault>
 }
 
 /// Whether a line with this mark, behind which this much is left, is the last of its sides.
-fn is_last(mark: Mark, left: Left) -> bool
+pub fn is_last(mark: Mark, left: Left) -> bool
     ensures { result ≡ is_last_line mark left }
 {
     match mark {
@@ -110,7 +110,7 @@ fn is_last(mark: Mark, left: Left) -> bool
 
 /// A line of the body, what is left behind it, and the place after it.
 #[tactic(auto, unfolding(crate::specs::Bodies::first_line))]
-pub fn line_of(text: &[u8], left: Left, place: Place) -> Result<(HunkLine, Left, Place), FormFault>
+fn line_of(text: &[u8], left: Left, place: Place) -> Result<(HunkLine, Left, Place), FormFault>
     requires { IsPlace text.now place }
     ensures place { IfOk result (λ x. IsPlace text.now x.2 × (place.at < x.2.at)) }
     ensures less { IfOk result (λ x. x.1.old + x.1.new < left.old + left.new) }

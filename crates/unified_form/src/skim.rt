@@ -5,9 +5,9 @@ ghost use Rattle.line_list.specs.Lines.{lines};
 ghost use Rattle.hunk_core.specs.Reading.{Fails, Gives, IsPlace, ahead_of};
 ghost use Rattle.hunk_core.specs.Turned.{IsLawful};
 ghost use Rattle.unified_form.specs.Hunks.{begins_hunk, reading};
-ghost use Rattle.unified_form.specs.Skimmed.{IsSkimmed, past_body, past_hunk, past_hunks};
+ghost use Rattle.unified_form.specs.Skimmed.{IsSkimmed, past_body, past_hunk, past_hunks, past_line};
 
-use crate::body::{Left, line_of};
+use crate::body::{Left, is_last, left_after, marked_line};
 use crate::hunks::{at_opening, read_hunk};
 use crate::range::opening_of;
 use hunk_core::{BadKind, FormFault, Hunk, Place, backslash_end, bad};
@@ -26,6 +26,39 @@ pub struct Skim {
     pub next: u64,
 }
 
+/// What is left behind a line of a body, and the place after it.
+#[tactic(auto, unfolding(crate::specs::Skimmed::past_first_line))]
+fn pass_line(text: &[u8], left: Left, place: Place) -> Result<(Left, Place), FormFault>
+    requires { IsPlace text.now place }
+    ensures place { IfOk result (λ x. IsPlace text.now x.1 × (place.at < x.1.at)) }
+    ensures less { IfOk result (λ x. x.0.old + x.0.new < left.old + left.new) }
+    ensures exact { Gives (λ x. (x.0, ahead_of text.now x.1)) result (past_line left (ahead_of text.now place)) }
+{
+    let number = place.number;
+    let Some(end) = next_line(text, place.at) else {
+        return Err(bad(number, BadKind::ShortEnd));
+    };
+    let line = marked_line(text, place.at, end, number)?;
+    let left = left_after(line.mark, left, number)?;
+    match backslash_end(text, end) {
+        None => Ok((
+            left,
+            Place {
+                at: end,
+                number: number + 1,
+            },
+        )),
+        Some(at) if is_last(line.mark, left) => Ok((
+            left,
+            Place {
+                at,
+                number: number + 2,
+            },
+        )),
+        Some(_) => Err(bad(number + 1, BadKind::MisplacedBackslash)),
+    }
+}
+
 /// The place after a body with these counts.
 fn pass_body(text: &[u8], left: Left, place: Place) -> Result<Place, FormFault>
     requires { IsPlace text.now place }
@@ -35,7 +68,7 @@ fn pass_body(text: &[u8], left: Left, place: Place) -> Result<Place, FormFault>
     let mut left = left;
     let mut place = place;
     while left.old > 0 || left.new > 0 {
-        let (_line, behind, next) = line_of(text, left, place)?;
+        let (behind, next) = pass_line(text, left, place)?;
         left = Left {
             old: behind.old,
             new: behind.new,

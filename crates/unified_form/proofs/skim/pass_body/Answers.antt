@@ -1,25 +1,24 @@
 use Rattle.std.proofs.Common.{◌+◌, ◌<◌, arith}
 use Rattle.std.proofs.lemmas.Result.{err_from_is_err_and}
-use Rattle.hunk_core.specs.PlainHunk.{marked_of}
 use Rattle.hunk_core.specs.Reading.{ahead_of}
 use Rattle.unified_form.proofs.Skimming.{body_past_goes_on, body_past_fails, body_past_done}
 use Rattle.unified_form.proofs.skim.pass_body.Goals as goal
 use Rattle.unified_form.proofs.skim.pass_body.Goals.{then-left-gt0, else-left-gt0+then-left-gt0-2}
 
-pub returns-in_err-_line-clause-exact : goal.returns-in_err-_line-clause-exact
-returns-in_err-_line-clause-exact c =
+pub returns-in_err-behind-clause-exact : goal.returns-in_err-behind-clause-exact
+returns-in_err-behind-clause-exact c =
     let p = err_from_is_err_and c.from_residual.result c.from_residual.ensures.1 in
     let some : 0 < c.loop-left.left.old + c.loop-left.left.new = elim c.if-left-gt0.branch [ then-left-gt0 w ↦ omega arith | else-left-gt0+then-left-gt0-2 w ↦ omega arith ] in
-    rw (p.1, p.2) (body_past_fails c.in_err-_line.field-0.0 c.loop-left.left (ahead_of c.args.text.now c.loop-left.place) _ some c.in_err-_line.ensures.exact c.loop-left.invariant.so_far)
+    rw (p.1, p.2) (body_past_fails c.in_err-behind.field-0.0 c.loop-left.left (ahead_of c.args.text.now c.loop-left.place) _ some c.in_err-behind.ensures.exact c.loop-left.invariant.so_far)
 
 pub loop-left-preserved : goal.loop-left-preserved
 loop-left-preserved c =
     let some : 0 < c.loop-left.left.old + c.loop-left.left.new = elim c.if-left-gt0.branch [ then-left-gt0 w ↦ omega arith | else-left-gt0+then-left-gt0-2 w ↦ omega arith ] in
     let text = c.args.text.now in
     record {
-      place = c.in_ok-_line.ensures.place.0;
-      later = omega (arith, c.in_ok-_line.ensures.place.1, c.loop-left.invariant.later);
-      so_far = body_past_goes_on c.loop-left.left (ahead_of text c.loop-left.place) (marked_of text c.in_ok-_line._line, c.in_ok-_line.behind, ahead_of text c.in_ok-_line.next) _ some c.in_ok-_line.ensures.less c.in_ok-_line.ensures.exact c.loop-left.invariant.so_far;
+      place = c.in_ok-behind.ensures.place.0;
+      later = omega (arith, c.in_ok-behind.ensures.place.1, c.loop-left.invariant.later);
+      so_far = body_past_goes_on c.loop-left.left (ahead_of text c.loop-left.place) (c.in_ok-behind.behind, ahead_of text c.in_ok-behind.next) _ some c.in_ok-behind.ensures.less c.in_ok-behind.ensures.exact c.loop-left.invariant.so_far;
     }
 
 pub returns-clause-exact : goal.returns-clause-exact
