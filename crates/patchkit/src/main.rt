@@ -5,10 +5,11 @@ use outside::{Scratch, Sink, Source, Tree, put_all};
 use patch_filters::RegexFinder;
 use patch_options::patch_usage;
 use program_words::{
-    Telling, called_tool, line_behind, missing_line, root_of, told, tool_of, usage_lines, words_of,
+    Telling, called_tool, line_behind, rejected_lines, root_of, told, tool_of, usage_lines,
+    words_of,
 };
 use real_devices::{Disk, Input, Output, Pages, Trouble};
-use std::alloc::Global;
+use std::alloc::{AllocError, Global};
 use std::io;
 use std::io::{ErrorKind, Write};
 use std::process::ExitCode;
@@ -100,8 +101,9 @@ fn run_over<O: Write + Drop, E: Write + Drop>(
     tree.end();
     pages.end();
     match exit.why {
-        Why::Usage => put_usage(alloc, err, tool, words),
-        Why::NoPatchFile => put_missing(alloc, err, tool, words),
+        Why::Usage => put_lines(err, usage_lines(alloc, tool, words)),
+        Why::NoPatchFile => put_missing(err, tool, tree.missing()),
+        Why::Rejected => put_lines(err, rejected_lines(alloc, rt, tool, words, out.heard())),
         Why::TreeFault => put_behind(alloc, err, tool, exit.why, tree.trouble()),
         Why::ScratchFault => put_behind(alloc, err, tool, exit.why, pages.trouble()),
         Why::ReadFault => put_behind(alloc, err, tool, exit.why, input.trouble()),
@@ -137,17 +139,20 @@ fn put_behind<E: Sink>(
     }
 }
 
-/// Writes which word can't be taken, and where the words are told.
-fn put_usage<E: Sink>(alloc: Global, err: &mut E, tool: &str, words: &[String]) {
-    if let Ok(lines) = usage_lines(alloc, tool, words) {
+/// Writes lines, where memory was left for them.
+fn put_lines<E: Sink>(err: &mut E, lines: Result<String, AllocError>) {
+    if let Ok(lines) = lines {
         let _ = put_all(err, lines.as_str().as_bytes());
     }
 }
 
-/// Writes which patch file wasn't found.
-fn put_missing<E: Sink>(alloc: Global, err: &mut E, tool: &str, words: &[String]) {
-    if let Ok(Some(line)) = missing_line(alloc, tool, words) {
-        let _ = put_all(err, line.as_str().as_bytes());
+/// Writes which file wasn't found that was to be read, and why.
+fn put_missing<E: Sink>(err: &mut E, tool: &str, text: Result<Option<String>, AllocError>) {
+    if let Ok(Some(text)) = text {
+        let _ = put_all(err, tool.as_bytes());
+        let _ = put_all(err, b": ");
+        let _ = put_all(err, text.as_str().as_bytes());
+        let _ = put_all(err, b"\n");
     }
 }
 

@@ -1,7 +1,7 @@
 //! The line behind the line of an answer: what helps whoever reads it.
 
+use crate::lacking::{Lack, lack_of, operands_text};
 use crate::unfit::unfit_word;
-use patch_options::{Input, Job, read_words};
 use real_devices::Trouble;
 use run_answers::Why;
 use std::alloc::{AllocError, Global};
@@ -29,42 +29,30 @@ pub fn line_behind(
     }
 }
 
-/// The lines behind words that are not a command: the first that can't be taken, where one of them can't, and where the words
-/// are told.
+/// The lines behind words that are not a command: the first that can't be taken, where one of them can't, or what is missing
+/// behind the last; and where the words are told.
 pub fn usage_lines(alloc: Global, tool: &str, words: &[String]) -> Result<String, AllocError> {
     match unfit_word(alloc, words)? {
         Some(word) => format!(in alloc;
             "{tool}: can't take {word:?} here\nTry '{tool} --help' for more information.\n"
         ),
+        None => lacking_lines(alloc, tool, words),
+    }
+}
+
+fn lacking_lines(alloc: Global, tool: &str, words: &[String]) -> Result<String, AllocError> {
+    match lack_of(alloc, words)? {
+        Some(Lack::Value(option)) => format!(in alloc;
+            "{tool}: {option:?} wants a value\nTry '{tool} --help' for more information.\n"
+        ),
+        Some(Lack::Operands(count)) => {
+            let operands = operands_text(alloc, tool, count)?;
+            format!(in alloc;
+                "{tool}: missing at the end:{operands}\nTry '{tool} --help' for more information.\n"
+            )
+        }
         None => format!(in alloc; "Try '{tool} --help' for more information.\n"),
     }
-}
-
-/// Which patch file wasn't found, where the words of `patch` name one.
-pub fn missing_line(
-    alloc: Global,
-    tool: &str,
-    words: &[String],
-) -> Result<Option<String>, AllocError> {
-    if tool != "patch" {
-        return Ok(None);
-    }
-    match read_words(alloc, words) {
-        Ok(job) => missing_in(alloc, &job),
-        Err(_) => Ok(None),
-    }
-}
-
-fn missing_in(alloc: Global, job: &Job) -> Result<Option<String>, AllocError> {
-    let Job::Patch(options) = job;
-    match &options.input {
-        Input::File(name) => missing_name(alloc, name.text()),
-        Input::Standard => Ok(None),
-    }
-}
-
-fn missing_name(alloc: Global, name: &str) -> Result<Option<String>, AllocError> {
-    Ok(Some(format!(in alloc; "patch: {name}: not found\n")?))
 }
 
 /// The smallest buffer that holds a line of so many bytes.

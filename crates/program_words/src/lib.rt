@@ -4,10 +4,13 @@
 mod behind;
 mod called;
 mod help;
+mod lacking;
 mod root;
+mod skipped;
 mod unfit;
 
-pub use behind::{line_behind, missing_line, usage_lines};
+pub use behind::{line_behind, usage_lines};
 pub use called::{called_tool, tool_of, words_of};
 pub use help::{Telling, told};
 pub use root::root_of;
+pub use skipped::rejected_lines;

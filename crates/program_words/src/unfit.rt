@@ -1,4 +1,4 @@
-//! Which word can't be taken, for the line behind a refusal.
+//! Which word can't be taken, and how many are missing, for the line behind a refusal.
 
 use patch_options::read_words;
 use std::alloc::{AllocError, Global};
@@ -8,7 +8,7 @@ use tool_words::read_tool_words;
 const VALUES: [&str; 7] = ["512", "0", "a", "context", "simple", "push", "hunk"];
 
 /// An operand that each tool takes, unless it wants a value from above.
-const OPERAND: &str = "1";
+pub const OPERAND: &str = "20";
 
 /// How many operands a tool takes at most.
 const OPERANDS: usize = 3;
@@ -37,40 +37,55 @@ pub fn unfit_word(alloc: Global, words: &[String]) -> Result<Option<&str>, Alloc
 
 /// Whether the words up to this place give a command, by themselves or with a value and operands behind them.
 fn can_go_on(alloc: Global, words: &[String], last: usize) -> Result<bool, AllocError> {
-    if goes_on_with(alloc, words, last, None)? {
-        return Ok(true);
-    }
-    for value in VALUES {
-        if goes_on_with(alloc, words, last, Some(value))? {
-            return Ok(true);
-        }
-    }
-    Ok(false)
+    let front = words.get(..last.saturating_add(1)).unwrap_or(words);
+    Ok(missing_words(alloc, front)?.is_some())
 }
 
-/// The same with this value, where there is one, and so many operands as it takes.
-fn goes_on_with(
+/// How many words are missing behind these, at least as the values and operands from above go on with them. There is no
+/// number where none of these gives a command.
+pub fn missing_words(alloc: Global, words: &[String]) -> Result<Option<usize>, AllocError> {
+    if let Some(operands) = missing_behind(alloc, words, None)? {
+        return Ok(Some(operands));
+    }
+    for value in VALUES {
+        if let Some(operands) = missing_behind(alloc, words, Some(value))? {
+            return Ok(Some(operands.saturating_add(1)));
+        }
+    }
+    Ok(None)
+}
+
+/// How many operands are missing behind these words and this value, where there is one.
+fn missing_behind(
     alloc: Global,
     words: &[String],
-    last: usize,
     value: Option<&str>,
-) -> Result<bool, AllocError> {
-    let mut tried = Vec::new(alloc);
-    for word in words.iter().take(last.saturating_add(1)) {
-        tried.push(String::from_str(alloc, word.as_str())?)?;
-    }
+) -> Result<Option<usize>, AllocError> {
+    let mut tried = copied(alloc, words)?;
     if let Some(value) = value {
         tried.push(String::from_str(alloc, value)?)?;
     }
-    for _ in 0..OPERANDS {
+    for operands in 0..OPERANDS {
         if is_command(alloc, &tried) {
-            return Ok(true);
+            return Ok(Some(operands));
         }
         tried.push(String::from_str(alloc, OPERAND)?)?;
     }
-    Ok(is_command(alloc, &tried))
+    if is_command(alloc, &tried) {
+        Ok(Some(OPERANDS))
+    } else {
+        Ok(None)
+    }
 }
 
-fn is_command(alloc: Global, words: &[String]) -> bool {
+pub fn copied(alloc: Global, words: &[String]) -> Result<Vec<String>, AllocError> {
+    let mut copy = Vec::new(alloc);
+    for word in words {
+        copy.push(String::from_str(alloc, word.as_str())?)?;
+    }
+    Ok(copy)
+}
+
+pub fn is_command(alloc: Global, words: &[String]) -> bool {
     read_words(alloc, words).is_ok() || read_tool_words(alloc, words).is_ok()
 }

@@ -6,7 +6,7 @@ use crate::files::OpenFiles;
 use crate::paths::Path;
 use crate::trouble::Trouble;
 use outside::{Failed, Name, Tree};
-use std::alloc::Global;
+use std::alloc::{AllocError, Global};
 use std::fs::File;
 use std::rt::Files;
 
@@ -37,6 +37,11 @@ impl<'r, R: Files<File = File>> Disk<'r, R> {
     /// What failed last.
     pub fn trouble(&self) -> Option<&Trouble> {
         self.faults.trouble()
+    }
+
+    /// The name of the last file that was looked for and isn't there, and why, as `d/n: not found`.
+    pub fn missing(&self) -> Result<Option<String>, AllocError> {
+        self.files.missing()
     }
 }
 

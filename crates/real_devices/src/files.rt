@@ -7,6 +7,7 @@ ghost use Rattle.std.specs.Prelude.{◌≤◌, length, IfOk};
 use crate::found::{Found, Identity, found_itself, found_open};
 use crate::fresh::{make_anew, open_to_append, rights_due, take_away};
 use crate::looks::Looks;
+use crate::missing::Missing;
 use crate::origins::{Origin, origin_of, started, usual};
 use crate::paths::{
     Path, find_directory, first_parts, no_file, plain, replaceable, replaceable_here, target_of,
@@ -18,7 +19,7 @@ use crate::saves::Saves;
 use crate::temporaries::Temporaries;
 use crate::unsynced::Directories;
 use crate::writing::Writing;
-use std::alloc::Global;
+use std::alloc::{AllocError, Global};
 use std::fs::{File, OpenFile};
 use std::rt::Files;
 use std::{fs, io};
@@ -33,6 +34,7 @@ pub struct OpenFiles<'r, R: Files<File = File>> {
     saves: Saves,
     temporaries: Temporaries,
     looks: Looks,
+    missing: Missing,
     directories: Directories,
 }
 
@@ -47,6 +49,7 @@ impl<'r, R: Files<File = File>> OpenFiles<'r, R> {
             saves: Saves::new(alloc, is_stack),
             temporaries: Temporaries::new(alloc),
             looks: Looks::new(alloc),
+            missing: Missing::new(alloc),
             directories: Directories::new(alloc),
         }
     }
@@ -67,8 +70,14 @@ impl<'r, R: Files<File = File>> OpenFiles<'r, R> {
         if found.is_file {
             Ok(Some(found.length))
         } else {
+            self.missing.note(name);
             Ok(None)
         }
+    }
+
+    /// The name of the last file whose size was asked and that isn't there, and why.
+    pub fn missing(&self) -> Result<Option<String>, AllocError> {
+        self.missing.text(self.alloc, self.rt)
     }
 
     pub fn read_at(&mut self, name: Path<'_>, at: u64, buf: &mut [u8]) -> io::Result<usize>

@@ -6,7 +6,9 @@ mod faults;
 mod files;
 mod found;
 mod fresh;
+mod heard;
 mod looks;
+mod missing;
 mod origins;
 mod pages;
 mod paths;
@@ -20,6 +22,8 @@ mod unsynced;
 mod writing;
 
 pub use disk::Disk;
+pub use heard::Heard;
+pub use missing::missing_text;
 pub use pages::Pages;
 pub use streams::{Input, Output};
 pub use trouble::Trouble;

@@ -3,6 +3,7 @@ ghost use Rattle.std.specs.Prelude.{◌≤◌, length, IfOk};
 ghost use Rattle.outside.specs.Silent.{silent_source, silent_sink};
 
 use crate::faults::Faults;
+use crate::heard::Heard;
 use crate::trouble::Trouble;
 use outside::{Failed, Sink, Source};
 use std::alloc::Global;
@@ -59,6 +60,7 @@ fn read_some<R: Read>(reader: &mut R, buf: &mut [u8]) -> io::Result<usize>
 #[derive(Drop)]
 pub struct Output<W: Write + Drop> {
     writer: BufWriter<W>,
+    heard: Heard,
     faults: Faults,
 }
 
@@ -66,6 +68,7 @@ impl<W: Write + Drop> Output<W> {
     pub fn new(alloc: Global, writer: W) -> io::Result<Output<W>> {
         Ok(Output {
             writer: BufWriter::with_capacity(alloc, PIECE, writer)?,
+            heard: Heard::nothing(),
             faults: Faults::new(alloc),
         })
     }
@@ -83,6 +86,11 @@ impl<W: Write + Drop> Output<W> {
     pub fn trouble(&self) -> Option<&Trouble> {
         self.faults.trouble()
     }
+
+    /// What was said that more is told of.
+    pub fn heard(&self) -> Heard {
+        self.heard
+    }
 }
 
 impl<W: Write + Drop> Sink for Output<W> {
@@ -95,6 +103,7 @@ impl<W: Write + Drop> Sink for Output<W> {
     ghost rest_both = { λ _ _ _ _ _. tt };
 
     fn write(&mut self, piece: &[u8]) -> Result<usize, Failed> {
+        self.heard.hear(piece);
         let put = self.writer.write_all(piece);
         match self.faults.answer("standard output", put) {
             Ok(()) => Ok(piece.len()),

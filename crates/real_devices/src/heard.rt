@@ -1,0 +1,61 @@
+//! What was said that a line behind the answer tells more of. The texts are those of `say_text`, and each is written as one piece.
+
+/// What stands around the number of a line, where no file was found for a file patch.
+const NO_FILE: &str = "can't find file to patch at input line ";
+
+const SKIPPED: &str = "\nSkipping patch.\n";
+
+/// What stands in front of the name of a reject file.
+const REJECTS: &[u8] = b" FAILED -- saving rejects to file ";
+
+/// None of these pieces has more bytes.
+const LONGEST: usize = 100;
+
+#[derive(Clone, Copy)]
+pub struct Heard {
+    /// The line at which the first file patch opens for which no file was found, from 1.
+    pub no_file: Option<u64>,
+    /// Whether a reject file was named.
+    pub rejects: bool,
+}
+
+impl Heard {
+    pub fn nothing() -> Heard {
+        Heard {
+            no_file: None,
+            rejects: false,
+        }
+    }
+
+    /// Hears what is written at once.
+    pub fn hear(&mut self, piece: &[u8]) {
+        if piece.len() > LONGEST {
+            return;
+        }
+        if piece.ends_with(REJECTS) {
+            self.rejects = true;
+        }
+        if self.no_file.is_none() {
+            self.no_file = line_in(piece);
+        }
+    }
+}
+
+/// The line at which no file was found, where the piece says so. No name is taken for that, since none has a line feed.
+fn line_in(piece: &[u8]) -> Option<u64> {
+    if !piece.starts_with(NO_FILE.as_bytes()) {
+        return None;
+    }
+    match std::str::from_utf8(piece) {
+        Ok(text) => line_of(text),
+        Err(_) => None,
+    }
+}
+
+fn line_of(text: &str) -> Option<u64> {
+    let number = text.strip_prefix(NO_FILE)?.strip_suffix(SKIPPED)?;
+    match number.parse::<u64>() {
+        Ok(line) => Some(line),
+        Err(_) => None,
+    }
+}
