@@ -23,7 +23,7 @@ returns-clause-unasked g c = λ f left told none. refl
 pub returns-in-Ok-clause-sifts : goal.returns-in-Ok-clause-sifts
 returns-in-Ok-clause-sifts g c =
     let put = c.put_grepped.ensures in
-    rw c.search_answer.ensures
+    rw c.search_answer-answer.ensures
     (searched-over (plain_select c.open_text.new.select) (g.F.Finder.view c.args.finder.now) (plain_grep_job c.args.job) _ _ _ _
     g.O.Sink.view c.args.out.now c.put_grepped.new.out c.args.finder.now c.put_grepped.new.finder c.in-Ok.opened c.put_grepped.result c.in-Ok.ensures.opens put.unasked put.none
     put.passes put.received put.failed put.cause)
