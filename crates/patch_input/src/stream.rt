@@ -11,9 +11,6 @@ use std::alloc::{AllocError, Global};
 /// How many bytes are read at once.
 const PIECE: usize = 65_536;
 
-/// How many bytes a text has before there is room for the longest.
-const FIRST: usize = 1_048_576;
-
 /// All that is left.
 pub fn read_source<I: Source>(alloc: Global, source: &mut I) -> Result<Vec<u8>, InputFault>
     ensures passes { SourcePasses (I.view source.old) (I.view source.new) }
@@ -64,21 +61,8 @@ fn read_on<I: Source>(
     if text.len() + count > LONGEST as usize {
         return Err(InputFault::TooLong);
     }
-    make_room(text, count);
     text.extend_from_slice(&piece[..count])?;
     Ok(count > 0)
-}
-
-/// Makes room for the longest text at once where a long one has none for so many bytes: what isn't written takes no memory, and a text
-/// that grows bit by bit is moved each time. Where there isn't so much room, it grows so.
-fn make_room(text: &mut Vec<u8>, count: usize)
-    ensures { text.new.items ≡ text.old.items }
-{
-    let length = text.len();
-    if length < FIRST || length > LONGEST as usize || text.capacity() - length >= count {
-        return;
-    }
-    let _more = text.try_reserve_exact(LONGEST as usize + 1 - length);
 }
 
 /// Reads at most so many bytes, and answers how many.
