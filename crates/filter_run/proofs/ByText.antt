@@ -33,7 +33,7 @@ use Rattle.tool_words.specs.PlainJobs.{PlainFilterJob, PlainGrepJob, PlainListJo
 use Rattle.tool_words.specs.declared.jobs.GrepOut.{GrepOut}
 use Rattle.tool_words.specs.declared.jobs.GrepOut.TheVariants.{Names, Hunks, Files}
 use Rattle.hunk_core.proofs.TurnedLemmas.{reverse-map}
-use Rattle.filter_run.specs.Opened.{IsOutlined}
+use Rattle.filter_run.specs.Opened.{IsOutlineOf}
 use Rattle.filter_run.specs.Flips.{flipped_in, spot_flipped}
 use Rattle.filter_run.specs.Converting.{converted_in, form_refused, spot_converted}
 use Rattle.filter_run.specs.Texts.{defaults, read_patches, patches_in, regions_in, Spot, spots_in, spot_written, is_spot_taken, filtered_in, spot_found, grepped_in, row_at, parts_in}
@@ -44,7 +44,7 @@ spot text p = (region_of p, patch_of text p)
 
 -- ---- a list
 
-pub listed-by : (j : PlainListJob) (skip : Bool) (text : List ℕ) (v : Outline) → IsOutlined skip text v → listed j (map (patch_of v.text.items) v.patches.items) ≡ listed j (patches_in skip text)
+pub listed-by : (j : PlainListJob) (skip : Bool) (text : List ℕ) (v : Outline) → IsOutlineOf skip text v → listed j (map (patch_of v.text.items) v.patches.items) ≡ listed j (patches_in skip text)
 listed-by j skip text v read =
     let ways = ways_of (defaults skip) in
     let a = bind_ok (patches_of ways v.text.items) outlined_all (map (patch_of v.text.items) v.patches.items) read.patches in

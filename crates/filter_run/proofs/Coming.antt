@@ -16,7 +16,7 @@ use Rattle.patch_filters.specs.Grepped.{grepped}
 use Rattle.filter_run.specs.Texts.{defaults, patches_in, filtered_in, grepped_in}
 use Rattle.filter_run.specs.Outcomes.{Outcome, unless_refused, outcome_by, given, list_with, filter_with, grep_with, list_outcome, filter_outcome, grep_outcome}
 use Rattle.filter_run.specs.declared.fault.FilterFault.TheVariants as faults
-use Rattle.filter_run.specs.Opened.{IsOutlined, IsSet}
+use Rattle.filter_run.specs.Opened.{IsOutlineOf, IsSet}
 use Rattle.filter_run.proofs.ByText.{patches-by, listed-by, filtered-by, grepped-by}
 
 -- the bytes that are written of what is read from the text, unless that is refused
@@ -51,9 +51,9 @@ module _ {V : Type 0} (Is : Bool → List ℕ → V → Type 0) (written : Plain
 abbrev pub outlined : Outline → List PlainPatch
 outlined v = map (patch_of v.text.items) v.patches.items
 
-pub listed-is : (j : PlainListJob) (f : Files) (left : List ℕ) (o : Outcome) → Comes IsOutlined (λ s v. listed (list_with j s) (outlined v)) (given j.input j.select f left) o → o ≡ list_outcome j f left
+pub listed-is : (j : PlainListJob) (f : Files) (left : List ℕ) (o : Outcome) → Comes IsOutlineOf (λ s v. listed (list_with j s) (outlined v)) (given j.input j.select f left) o → o ≡ list_outcome j f left
 unfolding list_outcome
-listed-is j f left = comes-is IsOutlined (λ s v. listed (list_with j s) (outlined v)) (λ s text. listed (list_with j s) (patches_in s.skip_binary text))
+listed-is j f left = comes-is IsOutlineOf (λ s v. listed (list_with j s) (outlined v)) (λ s text. listed (list_with j s) (patches_in s.skip_binary text))
     (λ s text v read. listed-by (list_with j s) s.skip_binary text v read) (given j.input j.select f left)
 
 pub filtered-is : (j : PlainFilterJob) (f : Files) (left : List ℕ) (o : Outcome) → Comes IsSet (λ s v. filtered (filter_with j s) v) (given j.input j.select f left) o → o ≡ filter_outcome j f left

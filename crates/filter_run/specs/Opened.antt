@@ -24,8 +24,8 @@ use Rattle.filter_run.specs.declared.fault.FilterFault.TheVariants as faults
 abbrev pub IsSet : Bool → List ℕ → SetView → Type 0
 IsSet skip text v = IsRead (defaults skip) text v
 
-abbrev pub IsOutlined : Bool → List ℕ → Outline → Type 0
-IsOutlined skip text v = IsOutline (defaults skip) text v
+abbrev pub IsOutlineOf : Bool → List ℕ → Outline → Type 0
+IsOutlineOf skip text v = IsOutline (defaults skip) text v
 
 -- a text and a selection are given, and this is read from the text
 pub record IsReadOf {V : Type 0} (Is : Bool → List ℕ → V → Type 0) (v : V) (s : PlainSelect) (x : Result (List ℕ × PlainSelect) InputFault) : Type 0 where

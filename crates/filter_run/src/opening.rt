@@ -13,7 +13,7 @@ ghost use Rattle.patch_set.specs.declared.fault.SetFault.{SetFault as TheFault};
 ghost use Rattle.filter_run.specs.Texts.{defaults};
 ghost use Rattle.filter_run.specs.Outcomes.{given};
 ghost use Rattle.filter_run.specs.Sifting.{HasInputCause, IsTold, is_refusal};
-ghost use Rattle.filter_run.specs.Opened.{IsOutlined, IsReadOfSome, IsSet, Opens};
+ghost use Rattle.filter_run.specs.Opened.{IsOutlineOf, IsReadOfSome, IsSet, Opens};
 ghost use Rattle.filter_run.specs.declared.fault.FilterFault.TheVariants as faults;
 
 use crate::defaults::{outline_plain, read_plain};
@@ -70,7 +70,7 @@ fn read_patches(
 }
 
 /// The same without their hunks.
-fn read_outlines(
+fn outline_patches(
     alloc: Global,
     text: Vec<u8>,
     skip_binary: bool,
@@ -114,11 +114,11 @@ pub fn open_outline<T: Tree, I: Source>(
     tree: &mut T,
     source: &mut I,
 ) -> Result<Option<Outline>, FilterFault>
-    ensures opens { Opens IsOutlined input.now (plain_select select.old) (plain_select select.new) (T.view tree.old) (T.view tree.new) (I.view source.old) (I.view source.new) result }
+    ensures opens { Opens IsOutlineOf input.now (plain_select select.old) (plain_select select.new) (T.view tree.old) (T.view tree.new) (I.view source.old) (I.view source.new) result }
     ensures unread { IsFile input.now → source.new ≡ source.old }
     ensures lawful { IfOk result (λ given. IfSome given (λ v. All (IsLawfulPatch v.text.items) v.patches.items)) }
 {
     let text = read_given(alloc, input, select, tree, source)?;
-    let outline = read_outlines(alloc, text, select.skip_binary)?;
+    let outline = outline_patches(alloc, text, select.skip_binary)?;
     Ok(outline)
 }

@@ -45,7 +45,8 @@ pub fn run_list<T: Tree, I: Source, O: Sink>(
     }
 }
 
-/// Carries out a command of `filterdiff` that asks for no form: the text without the file patches and hunks that it doesn't mean.
+/// Carries out a command of `filterdiff` that asks for no form: the text without the file patches and hunks that it doesn't mean. What was
+/// read is left to the end of the process.
 pub fn run_filter<T: Tree, I: Source, O: Sink>(
     alloc: Global,
     job: FilterJob,
@@ -69,7 +70,8 @@ pub fn run_filter<T: Tree, I: Source, O: Sink>(
     }
 }
 
-/// Carries out a command of `grepdiff`: the names of the file patches that have what is looked for, or these themselves.
+/// Carries out a command of `grepdiff`: the names of the file patches that have what is looked for, or these themselves. What was read is left
+/// to the end of the process.
 pub fn run_grep<T: Tree, F: Finder, I: Source, O: Sink>(
     alloc: Global,
     job: GrepJob,

@@ -1,5 +1,5 @@
 //! A patch text and its file patches without their hunks, for who wants no more than a list of them.
-ghost use Rattle.std.specs.Prelude.{◌≡◌, ◌<◌, ◌^◌, Ok, All, IfOk, length, map, slice_get};
+ghost use Rattle.std.specs.Prelude.{◌≡◌, ◌<◌, ◌≤◌, ◌^◌, Ok, Err, All, IfOk, length, map, slice_get};
 ghost use Rattle.std.specs.Option.{ForSome};
 ghost use Rattle.file_patch.specs.Absent.{IsLawfulPatch};
 ghost use Rattle.file_patch.specs.PlainPatch.{header_of, patch_of};
@@ -20,7 +20,7 @@ use patch_options::Options;
 use patch_text::read_outlines;
 use std::alloc::Global;
 
-/// A patch text and its file patches, each with its only hunk or, if it has several, with none.
+/// A patch text and its file patches, each with its only hunk or, if it has several, with none; an ed script stays.
 #[derive(Drop)]
 pub struct Outline {
     /// The text that was read; its last line has its line feed.
@@ -39,11 +39,13 @@ impl Outline {
     }
 }
 
-/// Reads the file patches of a text for these options as `read_set` does, and refuses what that refuses; but hunks take no memory.
+/// Reads the file patches of a text for these options as `read_set` does, and refuses what that refuses. Hunks of the unified form but the
+/// first of each file patch are read without being kept, those of the other forms one file patch at a time.
 pub fn read_outline(alloc: Global, text: Vec<u8>, options: &Options) -> Result<Outline, SetFault>
     requires { IsLawful (plain_options options.now) }
     ensures outline { IfOk result (IsOutline (plain_options options.now) text.items) }
     ensures refused { Meets (refusal (plain_options options.now) text.items) result }
+    ensures memory { result ≡ Err SetFault.Memory → length text.items ≤ 268435456 }
 {
     if text.len() > LONGEST {
         return Err(SetFault::TooLong);

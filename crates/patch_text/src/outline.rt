@@ -1,5 +1,5 @@
-//! File patches without their hunks, for who wants no more of them than a list: the hunks are read, and a fault in any is answered, but they
-//! take no memory.
+//! File patches without their hunks, for who wants no more of them than a list: the hunks are read, and a fault in any is answered, but none
+//! of several is kept.
 
 ghost use Rattle.std.specs.Prelude.{◌≡◌, ◌+◌, ◌<◌, ◌≤◌, ◌^◌, ℕ, List, [], ◌∷◌, true, false, None, length, drop, map, IfOk, IfErr, IfSome, All, option_map};
 ghost use Rattle.line_list.specs.Lines.{lines};
@@ -195,9 +195,10 @@ fn next_outline(
     }
 }
 
-/// The file patches of a text that is read in these ways, each with its only hunk or without its hunks, or the first fault. All else
-/// in them is as `read_patches` gives it, but where each hunk lies and how many came before. The text is meant to be completed.
-/// The time is linear in the text, and the memory in the number of file patches and the lines of each one's first hunk.
+/// The file patches of a text that is read in these ways, each with its only hunk or with none of several, or the first fault; an ed
+/// script stays. What each stands for is else as `read_patches` gives it; where its hunks lie, and how many came before, isn't told. The text
+/// is meant to be completed. The time is linear in the text. Hunks of the unified form but the first are read without being kept, those of
+/// the other forms one file patch at a time.
 pub fn read_outlines(alloc: Global, text: &[u8], ways: Ways) -> Result<Vec<FilePatch>, FormFault>
     requires { length text.now < 2 ^ 32 }
     ensures exact { Gives (λ ps. map (patch_of text.now) ps.items) result (outlines_of ways text.now) }

@@ -5,7 +5,7 @@ ghost use Rattle.patch_options.specs.PlainJob.{plain_options, IsLawful};
 use crate::names::has_target;
 use patch_header::Ways;
 use patch_options::{Input, Options, PlanKind};
-use patch_set::{PatchSet, read_set};
+use patch_set::{Outline, PatchSet, read_outline, read_set};
 use patch_text::read_patches;
 use std::alloc::{AllocError, Global};
 
@@ -63,6 +63,31 @@ fn has_set(alloc: Global, options: &Options) -> bool
     }
 }
 
+/// One file patch, of two hunks.
+const TWO_HUNKS: &str = "--- f\n+++ g\n@@ -1 +1 @@\n-a\n+b\n@@ -9 +9 @@\n-a\n+b\n";
+
+const OUTLINE: &str = "Span { start: 0, end: 48 } Hunks([])";
+
+fn outline_told(alloc: Global, outline: &Outline) -> Result<String, AllocError> {
+    match outline.patches.as_slice() {
+        [only] => format!(in alloc; "{:?} {:?}", only.span, only.change),
+        _ => Err(AllocError),
+    }
+}
+
+/// Whether the outline of the text is as it should be.
+fn has_outline(alloc: Global, options: &Options) -> bool
+    requires { IsLawful (plain_options options.now) }
+{
+    match Vec::from_slice(alloc, TWO_HUNKS.as_bytes()) {
+        Ok(text) => match read_outline(alloc, text, options) {
+            Ok(outline) => is_told(outline_told(alloc, &outline), OUTLINE),
+            Err(_) => false,
+        },
+        Err(_) => false,
+    }
+}
+
 /// What `patch` alone asks for.
 fn plain() -> Options
     ensures { IsLawful (plain_options result) }
@@ -102,7 +127,7 @@ fn plain() -> Options
 /// Whether all is as it should be that goes by options.
 fn goes_by_options(alloc: Global) -> bool {
     let options = plain();
-    has_target(alloc, &options) && has_set(alloc, &options)
+    has_target(alloc, &options) && has_set(alloc, &options) && has_outline(alloc, &options)
 }
 
 #[test]

@@ -1,4 +1,4 @@
-//! Which file patches a filter means by their names, and the text that it reads.
+//! Which file patches a filter means by their names, and the text that it reads and how.
 ghost use Rattle.std.specs.Prelude.{◌≡◌, ◌⊎◌, ◌&&◌, ◌||◌, [], true, false, map, is_some, option_map, unwrap_or, IfOk, IfErr};
 ghost use Rattle.patch_options.specs.Simple.{rows_in};
 ghost use Rattle.patch_options.specs.Table.{is_single, value_of};

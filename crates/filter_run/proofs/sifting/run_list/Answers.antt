@@ -1,7 +1,7 @@
 use Rattle.tool_words.specs.PlainJobs.{plain_list_job, plain_select}
 use Rattle.patch_filters.specs.Listed.{listed}
 use Rattle.filter_run.specs.Outcomes.{IsOutcomeOf, list_outcome, list_with}
-use Rattle.filter_run.specs.Opened.{IsOutlined}
+use Rattle.filter_run.specs.Opened.{IsOutlineOf}
 use Rattle.filter_run.proofs.Coming.{listed-is, outlined}
 use Rattle.filter_run.proofs.Written.{sifts-unopened, sifts-over}
 use Rattle.filter_run.proofs.sifting.run_list.Goals as goal
@@ -9,7 +9,7 @@ use Rattle.filter_run.proofs.sifting.run_list.Goals as goal
 pub returns-clause-sifts : goal.returns-clause-sifts
 returns-clause-sifts g c =
     let j = plain_list_job c.args.job in
-    sifts-unopened IsOutlined j.input j.select (plain_select c.open_outline.new.select) ⊥ (λ s v. listed (list_with j s) (outlined v)) (IsOutcomeOf (list_outcome j)) (listed-is j) _ _ _ _ c.in-Err.fault _ c.in-Err.ensures.opens
+    sifts-unopened IsOutlineOf j.input j.select (plain_select c.open_outline.new.select) ⊥ (λ s v. listed (list_with j s) (outlined v)) (IsOutcomeOf (list_outcome j)) (listed-is j) _ _ _ _ c.in-Err.fault _ c.in-Err.ensures.opens
 
 pub returns-clause-unread : goal.returns-clause-unread
 returns-clause-unread g c = c.open_outline.ensures.unread
@@ -21,7 +21,7 @@ pub returns-in-Ok-clause-sifts : goal.returns-in-Ok-clause-sifts
 returns-in-Ok-clause-sifts g c =
     let j = plain_list_job c.args.job in
     rw c.sink_answer.ensures
-    (sifts-over IsOutlined j.input j.select (plain_select c.open_outline.new.select) ⊥ (λ s v. listed (list_with j s) (outlined v)) (IsOutcomeOf (list_outcome j)) (listed-is j) _ _ _ _
+    (sifts-over IsOutlineOf j.input j.select (plain_select c.open_outline.new.select) ⊥ (λ s v. listed (list_with j s) (outlined v)) (IsOutcomeOf (list_outcome j)) (listed-is j) _ _ _ _
     g.O.Sink.view c.args.out.now c.put_listed.new.out c.in-Ok.opened c.put_listed.result c.in-Ok.ensures.opens c.put_listed.ensures.writes c.put_listed.ensures.none)
 
 pub returns-in-Ok-clause-unread : goal.returns-in-Ok-clause-unread

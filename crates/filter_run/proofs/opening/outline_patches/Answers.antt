@@ -1,6 +1,6 @@
 use Rattle.std.proofs.Common.{◌≡◌, inl, inr, ⊎_elim}
 use Rattle.patch_set.specs.declared.fault.SetFault.TheVariants as set
-use Rattle.filter_run.proofs.opening.read_outlines.Goals as goal
+use Rattle.filter_run.proofs.opening.outline_patches.Goals as goal
 
 pub returns-in-Ok-clause-outline : goal.returns-in-Ok-clause-outline
 returns-in-Ok-clause-outline c = (c.in-Ok.ensures.outline, c.in-Ok.ensures.refused)
