@@ -13,7 +13,7 @@ use Rattle.patch_text.specs.Outlines.{outlined_all}
 use Rattle.patch_text.specs.Regions.{Region, region_of, regions_of}
 use Rattle.patch_set.specs.Asked.{ways_of}
 use Rattle.patch_set.specs.SetView.{SetView, IsRead, plain_patches}
-use Rattle.patch_set.specs.declared.outline.Outline.{Outline}
+use Rattle.patch_set.specs.Outlined.{OutlineView, outlined}
 use Rattle.patch_set.specs.Spans.{IsPlaced, ArePlaced}
 use Rattle.patch_set.proofs.InBytes.{cut-bytes}
 use Rattle.patch_filters.specs.Filtered.{chosen, filtered, region, written, written_bare, written_if_taken, is_taken_of}
@@ -44,10 +44,10 @@ spot text p = (region_of p, patch_of text p)
 
 -- ---- a list
 
-pub listed-by : (j : PlainListJob) (skip : Bool) (text : List ℕ) (v : Outline) → IsOutlineOf skip text v → listed j (map (patch_of v.text.items) v.patches.items) ≡ listed j (patches_in skip text)
+pub listed-by : (j : PlainListJob) (skip : Bool) (text : List ℕ) (v : OutlineView) → IsOutlineOf skip text v → listed j (outlined v) ≡ listed j (patches_in skip text)
 listed-by j skip text v read =
     let ways = ways_of (defaults skip) in
-    let a = bind_ok (patches_of ways v.text.items) outlined_all (map (patch_of v.text.items) v.patches.items) read.patches in
+    let a = bind_ok (patches_of ways v.text) outlined_all (outlined v) read.patches in
     ap (listed j) (sym (ok_is _ _ a.2)) ∙ outlines-listed j a.0 ∙ ap (listed j) (sym (ap read_patches (ap (patches_of ways) (sym read.text) ∙ a.1)))
 
 -- ---- lists side by side

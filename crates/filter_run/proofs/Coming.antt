@@ -2,14 +2,14 @@
 use Rattle.std.proofs.Common.{◌≡◌, ◌≢◌, ℕ, Bool, List, [], ◌∷◌, map, Option, None, Some, Result, Ok, Err, refl, sym, ap, ◌∙◌}
 use Rattle.outside.specs.Files.{Files}
 use Rattle.file_patch.specs.declared.FilePatch.{FilePatch}
-use Rattle.file_patch.specs.PlainPatch.{PlainPatch, patch_of}
+use Rattle.file_patch.specs.PlainPatch.{patch_of}
 use Rattle.tool_words.specs.PlainJobs.{PlainSelect, PlainListJob, PlainFilterJob, PlainGrepJob}
 use Rattle.patch_input.specs.declared.fault.InputFault.{InputFault}
 use Rattle.patch_set.specs.declared.fault.SetFault.{SetFault}
 use Rattle.patch_set.specs.declared.fault.SetFault.TheVariants.{Malformed, Garbage, TooLong, OutMany, EdReverse, Reserved, Memory}
 use Rattle.patch_set.specs.Refusals.{refusal}
 use Rattle.patch_set.specs.SetView.{SetView, IsRead}
-use Rattle.patch_set.specs.declared.outline.Outline.{Outline}
+use Rattle.patch_set.specs.Outlined.{outlined}
 use Rattle.patch_filters.specs.Listed.{listed}
 use Rattle.patch_filters.specs.Filtered.{filtered}
 use Rattle.patch_filters.specs.Grepped.{grepped}
@@ -47,9 +47,6 @@ module _ {V : Type 0} (Is : Bool → List ℕ → V → Type 0) (written : Plain
   comes-is : (x : Result (List ℕ × PlainSelect) InputFault) (o : Outcome) → Comes Is written x o → o ≡ outcome_by told x
   comes-is (Ok (text, s)) o h = by-refusal (refusal (defaults s.skip_binary) text) s text o h
   comes-is (Err fault) o h = h
-
-abbrev pub outlined : Outline → List PlainPatch
-outlined v = map (patch_of v.text.items) v.patches.items
 
 pub listed-is : (j : PlainListJob) (f : Files) (left : List ℕ) (o : Outcome) → Comes IsOutlineOf (λ s v. listed (list_with j s) (outlined v)) (given j.input j.select f left) o → o ≡ list_outcome j f left
 unfolding list_outcome

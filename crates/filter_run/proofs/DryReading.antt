@@ -4,8 +4,7 @@ use Rattle.hunk_core.specs.Reading.{Fault}
 use Rattle.line_list.specs.Completed.{completed}
 use Rattle.file_patch.specs.PlainPatch.{PlainPatch}
 use Rattle.patch_set.specs.Asked.{ways_of}
-use Rattle.patch_set.specs.Outlined.{IsOutline}
-use Rattle.patch_set.specs.declared.outline.Outline.{Outline}
+use Rattle.patch_set.specs.Outlined.{IsOutline, OutlineView}
 use Rattle.patch_set.specs.Refusals.{is_too_long, refusal, refusal_of}
 use Rattle.patch_set.specs.SetView.{SetView, IsRead}
 use Rattle.patch_set.specs.declared.fault.SetFault.TheVariants as faults
@@ -24,8 +23,8 @@ read-alike skip given v h = record {
   names = record { targets = h.names.targets; output = h.names.output; few = h.names.few; fit = h.names.fit; output_fit = h.names.output_fit };
 }
 
-pub outlined-alike : (skip : Bool) (given : List ℕ) (v : Outline) → IsOutline (dry_defaults skip) given v → IsOutline (defaults skip) given v
-outlined-alike skip given v h = record { text = h.text; patches = h.patches; lawful = h.lawful }
+pub outlined-alike : (skip : Bool) (given : List ℕ) (v : OutlineView) → IsOutline (dry_defaults skip) given v → IsOutline (defaults skip) given v
+outlined-alike skip given v h = record { text = h.text; patches = h.patches }
 
 of-alike : (skip : Bool) (text : List ℕ) (r : Result (List PlainPatch) Fault) → refusal_of (dry_defaults skip) text r ≡ refusal_of (defaults skip) text r
 of-alike skip text (Ok ps) = refl

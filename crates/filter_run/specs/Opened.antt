@@ -12,8 +12,7 @@ use Rattle.patch_set.specs.declared.fault.SetFault.{SetFault}
 use Rattle.patch_set.specs.declared.fault.SetFault.TheVariants.{Garbage}
 use Rattle.patch_set.specs.Refusals.{refusal}
 use Rattle.patch_set.specs.SetView.{SetView, IsRead}
-use Rattle.patch_set.specs.Outlined.{IsOutline}
-use Rattle.patch_set.specs.declared.outline.Outline.{Outline}
+use Rattle.patch_set.specs.Outlined.{IsOutline, OutlineView}
 use Rattle.filter_run.specs.Texts.{defaults}
 use Rattle.filter_run.specs.Outcomes.{given}
 use Rattle.filter_run.specs.Sifting.{IsTold, is_refusal, HasInputCause, HasTextCause}
@@ -24,7 +23,7 @@ use Rattle.filter_run.specs.declared.fault.FilterFault.TheVariants as faults
 abbrev pub IsSet : Bool → List ℕ → SetView → Type 0
 IsSet skip text v = IsRead (defaults skip) text v
 
-abbrev pub IsOutlineOf : Bool → List ℕ → Outline → Type 0
+abbrev pub IsOutlineOf : Bool → List ℕ → OutlineView → Type 0
 IsOutlineOf skip text v = IsOutline (defaults skip) text v
 
 -- a text and a selection are given, and this is read from the text

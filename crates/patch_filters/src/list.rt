@@ -1,11 +1,12 @@
 //! The list of file patches.
 
-ghost use Rattle.std.specs.Prelude.{◌≡◌, ◌<◌, ◌≤◌, ◌++◌, ℕ, List, All, codes, length, map, slice_get};
+ghost use Rattle.std.specs.Prelude.{◌≡◌, ◌<◌, ◌≤◌, ◌++◌, ℕ, List, codes, length, slice_get};
 ghost use Rattle.std.specs.Option.{ForSome};
 ghost use Rattle.outside.specs.SinkView.{Writes};
 ghost use Rattle.hunk_core.specs.Writing.{Puts};
 ghost use Rattle.file_patch.specs.PlainPatch.{patch_of};
 ghost use Rattle.file_patch.specs.Absent.{IsLawfulPatch};
+ghost use Rattle.patch_set.specs.Outlined.{outlined};
 ghost use Rattle.tool_words.specs.PlainJobs.{plain_list_job};
 ghost use Rattle.patch_filters.specs.Listed.{front, line_if_selected, listed, number_text, sign, sign_text};
 
@@ -92,33 +93,30 @@ fn put_if_selected<O: Sink>(
     patch: usize,
     out: &mut O,
 ) -> Result<(), Failed>
-    requires within { patch < length outline.now.patches.items }
-    requires lawful { All (IsLawfulPatch outline.now.text.items) outline.now.patches.items }
-    ensures { ForSome (slice_get outline.now.patches.items patch) (λ p. Puts O.view O.same_rest out.old out.new result (line_if_selected (plain_list_job job.now) (patch_of outline.now.text.items p))) }
+    requires { patch < length outline.now.patches }
+    ensures { ForSome (slice_get outline.now.patches patch) (λ p. Puts O.view O.same_rest out.old out.new result (line_if_selected (plain_list_job job.now) (patch_of outline.now.text p))) }
 {
     let name = outline.plain_name(patch);
     if !is_selected(&job.select, name) {
         return Ok(());
     }
-    let front = front(job, &outline.patches[patch]);
+    let front = front(job, &outline.patches()[patch]);
     put_name(out, front.as_slice(), shortened(job.shown_strip, name))
 }
 
 /// Writes a line for each file patch whose name is selected: the number of the line of its names, if it is asked for, and
 /// a tab; a sign that says which side is no file, if that is asked for, and a space; and its name.
 pub fn list_patches<O: Sink>(outline: &Outline, job: &ListJob, out: &mut O) -> Result<(), Failed>
-    requires { All (IsLawfulPatch outline.now.text.items) outline.now.patches.items }
-    ensures writes { Writes (O.view out.old) (O.view out.new) result (listed (plain_list_job job.now) (map (patch_of outline.now.text.items) outline.now.patches.items)) }
+    ensures writes { Writes (O.view out.old) (O.view out.new) result (listed (plain_list_job job.now) (outlined outline.now)) }
     ensures rest { O.same_rest out.old out.new }
 {
     put_list(outline, job, out)
 }
 
 fn put_list<O: Sink>(outline: &Outline, job: &ListJob, out: &mut O) -> Result<(), Failed>
-    requires { All (IsLawfulPatch outline.now.text.items) outline.now.patches.items }
-    ensures { Puts O.view O.same_rest out.old out.new result (listed (plain_list_job job.now) (map (patch_of outline.now.text.items) outline.now.patches.items)) }
+    ensures { Puts O.view O.same_rest out.old out.new result (listed (plain_list_job job.now) (outlined outline.now)) }
 {
-    for patch in 0..outline.patches.len() {
+    for patch in 0..outline.patches().len() {
         put_if_selected(outline, job, patch, out)?;
     }
     Ok(())

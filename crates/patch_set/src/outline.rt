@@ -19,21 +19,40 @@ use file_patch::FilePatch;
 use patch_options::Options;
 use patch_text::read_outlines;
 use std::alloc::Global;
+use std::marker::Model;
 
 /// A patch text and its file patches, each with its only hunk or, if it has several, with none; an ed script stays.
 #[derive(Drop)]
 pub struct Outline {
-    /// The text that was read; its last line has its line feed.
-    pub text: Vec<u8>,
-    /// The file patches in the order of the text.
-    pub patches: Vec<FilePatch>,
+    text: Vec<u8>,
+    patches: Vec<FilePatch>,
+}
+
+impl Model for Outline {
+    ghost use Rattle.std.specs.Prelude.{All};
+    ghost use Rattle.file_patch.specs.Absent.{IsLawfulPatch};
+    ghost use Rattle.patch_set.specs.Outlined.{OutlineView};
+
+    ghost Value = { OutlineView };
+
+    ghost view = { λ s. record { text = s.text.items; patches = s.patches.items } };
+
+    ghost invariant = { λ s. All (IsLawfulPatch s.text.items) s.patches.items };
 }
 
 impl Outline {
+    /// The file patches in the order of the text.
+    pub fn patches(&self) -> &[FilePatch]
+        ensures patches { result.now ≡ self.now.patches }
+        ensures lawful { All (IsLawfulPatch self.now.text) self.now.patches }
+    {
+        &self.patches
+    }
+
     /// The name of a file patch, counted from 0, as that of a set (`PatchSet::plain_name`).
     pub fn plain_name(&self, patch: usize) -> &[u8]
-        requires { patch < length self.now.patches.items }
-        ensures { ForSome (slice_get self.now.patches.items patch) (λ p. result.now ≡ plain_name (header_of self.now.text.items p.header)) }
+        requires { patch < length self.now.patches }
+        ensures { ForSome (slice_get self.now.patches patch) (λ p. result.now ≡ plain_name (header_of self.now.text p.header)) }
     {
         plain_name(&self.text, &self.patches[patch].header)
     }
@@ -65,9 +84,8 @@ fn outline_of(
     requires options { IsLawful (plain_options options.now) }
     requires lawful { All (IsLawfulPatch text.items) patches.items }
     requires count { length patches.items < 2 ^ 32 }
-    ensures text { IfOk result (λ o. o.text.items ≡ text.items) }
-    ensures plain { IfOk result (λ o. map (patch_of text.items) o.patches.items ≡ map (patch_of text.items) patches.items) }
-    ensures lawful { IfOk result (λ o. All (IsLawfulPatch text.items) o.patches.items) }
+    ensures text { IfOk result (λ o. o.text ≡ text.items) }
+    ensures plain { IfOk result (λ o. map (patch_of text.items) o.patches ≡ map (patch_of text.items) patches.items) }
     ensures refused { Meets (refusal_of (plain_options options.now) text.items (Ok (map (patch_of text.items) patches.items))) result }
 {
     match refused(&text, options, &patches) {
@@ -85,9 +103,8 @@ fn named_outline(
 ) -> Result<Outline, SetFault>
     requires options { IsLawful (plain_options options.now) }
     requires lawful { All (IsLawfulPatch text.items) patches.items }
-    ensures text { IfOk result (λ o. o.text.items ≡ text.items) }
-    ensures plain { IfOk result (λ o. map (patch_of text.items) o.patches.items ≡ map (patch_of text.items) patches.items) }
-    ensures lawful { IfOk result (λ o. All (IsLawfulPatch text.items) o.patches.items) }
+    ensures text { IfOk result (λ o. o.text ≡ text.items) }
+    ensures plain { IfOk result (λ o. map (patch_of text.items) o.patches ≡ map (patch_of text.items) patches.items) }
     ensures refused { Meets (reserved (plain_options options.now) (map (patch_of text.items) patches.items)) result }
 {
     let named = name_all(alloc, &text, options, patches)?;

@@ -69,7 +69,7 @@ const TWO_HUNKS: &str = "--- f\n+++ g\n@@ -1 +1 @@\n-a\n+b\n@@ -9 +9 @@\n-a\n+b\
 const OUTLINE: &str = "Span { start: 0, end: 48 } Hunks([])";
 
 fn outline_told(alloc: Global, outline: &Outline) -> Result<String, AllocError> {
-    match outline.patches.as_slice() {
+    match outline.patches() {
         [only] => format!(in alloc; "{:?} {:?}", only.span, only.change),
         _ => Err(AllocError),
     }

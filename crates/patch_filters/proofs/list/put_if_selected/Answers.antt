@@ -10,5 +10,5 @@ pub returns-then-not-is_selected : goal.returns-then-not-is_selected
 returns-then-not-is_selected g c = λ p is.
     let j = plain_list_job c.args.job.now in
     let none : c.is_selected.result ≡ false = search rules in
-    let left_out : is_listed j (patch_of c.args.outline.now.text.items p) ≡ false = sym (c.is_selected.ensures ∙ ap (is_selected j.select) (c.plain_name-name.ensures p is)) ∙ none in
+    let left_out : is_listed j (patch_of c.args.outline.now.text p) ≡ false = sym (c.is_selected.ensures ∙ ap (is_selected j.select) (c.plain_name-name.ensures p is)) ∙ none in
     rw left_out (puts-done _ (has-none g.met.O.Sink.rest_none c.args.out.now))

@@ -14,8 +14,8 @@ use Rattle.patch_filters.proofs.list.put_list.Goals as goal
 pub returns-in_err-put_if_selected : goal.returns-in_err-put_if_selected
 returns-in_err-put_if_selected g c =
     let j = plain_list_job c.args.job.now in
-    let text = c.args.outline.now.text.items in
-    let ps = c.args.outline.now.patches.items in
+    let text = c.args.outline.now.text in
+    let ps = c.args.outline.now.patches in
     let i = c.loop-patch.patch in
     let lt : i < length ps = search rules in
     let p = there-is ps i lt in
@@ -25,8 +25,8 @@ returns-in_err-put_if_selected g c =
 pub loop-patch-preserved : goal.loop-patch-preserved
 loop-patch-preserved g c =
     let j = plain_list_job c.args.job.now in
-    let text = c.args.outline.now.text.items in
-    let ps = c.args.outline.now.patches.items in
+    let text = c.args.outline.now.text in
+    let ps = c.args.outline.now.patches in
     let i = c.loop-patch.patch in
     let lt : i < length ps = search rules in
     let p = there-is ps i lt in
@@ -35,8 +35,8 @@ loop-patch-preserved g c =
 pub returns : goal.returns
 returns g c =
     let j = plain_list_job c.args.job.now in
-    let text = c.args.outline.now.text.items in
-    let ps = c.args.outline.now.patches.items in
+    let text = c.args.outline.now.text in
+    let ps = c.args.outline.now.patches in
     let i = c.loop-patch.patch in
     let all : i ≡ length ps = search rules in
     rw (listed-is j (map (patch_of text) ps)) (ends (line_if_selected j) (map (patch_of text) ps) g.met.O.Sink.rest_both i _ (omega (arith, all, length-map ps (patch_of text))) c.loop-patch.invariant)

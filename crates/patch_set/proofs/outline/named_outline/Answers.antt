@@ -29,8 +29,8 @@ returns-in-None-clause-plain c =
     let have = have-targets o text c.deref.result.now ps named.patches.items named.output c.deref.ensures.value c.in_ok-named.ensures.patches c.in_ok-named.ensures.output c.in_ok-named.ensures.temps in
     named-plain o text (known_names o (map (patch_of text) ps)) ps named.patches.items have.are
 
-pub returns-in-None-clause-lawful : goal.returns-in-None-clause-lawful
-returns-in-None-clause-lawful c =
+pub invariant_of-result : goal.invariant_of-result
+invariant_of-result c =
     let o = plain_options c.args.options.now in
     let text = c.args.text.items in
     let ps = c.args.patches.items in
