@@ -85,7 +85,7 @@ fn binary_line(alloc: Global, tool: &str) -> Result<Option<String>, AllocError> 
 fn state_line(alloc: Global, tool: &str, file: StateFile) -> Result<Option<String>, AllocError> {
     let text = match file {
         StateFile::Series => "patches/series: each line must be a name below patches/",
-        StateFile::Count => ".pc/applied: must be how many patches are applied",
+        StateFile::Count => ".pc/applied: must say how many of the patches are applied",
         StateFile::Save => ".pc: a save is missing or isn't of its form",
     };
     Ok(Some(format!(in alloc; "{tool}: {text}\n")?))
