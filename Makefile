@@ -4,7 +4,8 @@
 # make test     runs the gate (rt ci), then the checks and the worked rows on real files
 # make times    prints what each crate's proof, tests and edits took, slowest crate first, as make and make test noted it
 # make deep     tries the wrong bodies that the gate leaves out (wrong-bodies); CRATES='NAME ..' takes those of some crates alone
-# make install  installs the program, its links, the manual and completions for bash, zsh and fish below PREFIX
+# make install  installs the program, its links, the manual and completions for bash, zsh and fish below PREFIX; without rt the program
+#               that was built before
 # make dist     packs them into build/patchkit-VERSION-MACHINE.tar.gz, which needs no toolchain
 RT ?= rt
 PREFIX ?= /usr/local
@@ -44,7 +45,8 @@ times:
 deep:
 	@sh tests/deep $(RT) $(CRATES)
 
-install: all
+install:
+	@sh tests/build --there $(RT) $(BIN) $(TOOLS)
 	mkdir -p $(DESTDIR)$(PREFIX)/bin $(DESTDIR)$(PREFIX)/share/man/man1
 	install -m 755 $(BIN)/patchkit $(DESTDIR)$(PREFIX)/bin/patchkit
 	for tool in $(TOOLS); do ln -sf patchkit $(DESTDIR)$(PREFIX)/bin/$$tool || exit; done

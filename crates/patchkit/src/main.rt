@@ -5,8 +5,8 @@ use outside::{Scratch, Sink, Source, Tree, put_all};
 use patch_filters::RegexFinder;
 use patch_options::patch_usage;
 use program_words::{
-    Telling, called_tool, line_behind, rejected_lines, root_of, told, tool_of, usage_lines,
-    words_of,
+    Telling, called_tool, cut_line, line_behind, rejected_lines, root_of, told, tool_of,
+    usage_lines, words_of,
 };
 use real_devices::{Disk, Input, Output, Pages, Trouble};
 use std::alloc::{AllocError, Global};
@@ -98,6 +98,10 @@ fn run_over<O: Write + Drop, E: Write + Drop>(
     let mut input = Input::new(alloc, rt.stdin());
     let scratch = Pages::new(alloc, rt);
     let (exit, pages) = run_words(alloc, words, &mut tree, scratch, &mut input, out, err);
+    put_lines(
+        err,
+        cut_line(alloc, &mut tree, words, exit.why, input.last()),
+    );
     tree.end();
     pages.end();
     match exit.why {

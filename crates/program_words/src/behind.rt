@@ -2,8 +2,10 @@
 
 use crate::lacking::{Lack, lack_of, operands_text};
 use crate::unfit::unfit_word;
+use hunk_core::BadKind;
 use real_devices::Trouble;
 use run_answers::Why;
+use series_stack::StateFile;
 use std::alloc::{AllocError, Global};
 
 /// The largest buffer that can be asked for.
@@ -22,6 +24,11 @@ pub fn line_behind(
 ) -> Result<Option<String>, AllocError> {
     match why {
         Why::LongLine { length, .. } => buffer_line(alloc, tool, length),
+        Why::Malformed {
+            kind: BadKind::Binary,
+            ..
+        } => binary_line(alloc, tool),
+        Why::BadState { file } => state_line(alloc, tool, file),
         Why::ReadFault | Why::WriteFault | Why::TreeFault | Why::ScratchFault => {
             trouble_line(alloc, tool, trouble)
         }
@@ -62,6 +69,26 @@ fn buffer_line(alloc: Global, tool: &str, length: u64) -> Result<Option<String>,
         return Ok(None);
     }
     Ok(Some(format!(in alloc; "{tool}: --buffer={least} would hold it\n")?))
+}
+
+/// What passes over binary changes, where the tool has it.
+fn binary_line(alloc: Global, tool: &str) -> Result<Option<String>, AllocError> {
+    match tool {
+        "patch" | "lsdiff" | "filterdiff" | "grepdiff" | "splitdiff" => Ok(Some(format!(in alloc;
+            "{tool}: --skip-binary passes over binary changes\n"
+        )?)),
+        _ => Ok(None),
+    }
+}
+
+/// Which file of a stack isn't of its form, and what it should have.
+fn state_line(alloc: Global, tool: &str, file: StateFile) -> Result<Option<String>, AllocError> {
+    let text = match file {
+        StateFile::Series => "patches/series: each line must be a name below patches/",
+        StateFile::Count => ".pc/applied: must say how many of the patches are applied",
+        StateFile::Save => ".pc: a save is missing or isn't of its form",
+    };
+    Ok(Some(format!(in alloc; "{tool}: {text}\n")?))
 }
 
 fn trouble_line(

@@ -3,6 +3,7 @@
 
 mod behind;
 mod called;
+mod cut;
 mod help;
 mod lacking;
 mod root;
@@ -11,6 +12,7 @@ mod unfit;
 
 pub use behind::{line_behind, usage_lines};
 pub use called::{called_tool, tool_of, words_of};
+pub use cut::cut_line;
 pub use help::{Telling, told};
 pub use root::root_of;
 pub use skipped::rejected_lines;

@@ -43,6 +43,22 @@ impl<'r, R: Files<File = File>> Disk<'r, R> {
     pub fn missing(&self) -> Result<Option<String>, AllocError> {
         self.files.missing()
     }
+
+    /// The last byte of a file, where it is there and has one. No fault is counted, so it is asked behind a run.
+    pub fn last_byte(&mut self, name: &Name) -> Option<u8> {
+        match self.files.size(Path::of(name)) {
+            Ok(Some(size)) if size > 0 => self.byte_at(name, size - 1),
+            _ => None,
+        }
+    }
+
+    fn byte_at(&mut self, name: &Name, at: u64) -> Option<u8> {
+        let mut byte = [0; 1];
+        match self.files.read_at(Path::of(name), at, &mut byte) {
+            Ok(1) => Some(byte[0]),
+            _ => None,
+        }
+    }
 }
 
 fn text_of(root: &Option<String>) -> &str {

@@ -13,10 +13,11 @@ use std::io::{BufWriter, ErrorKind, Read, Write};
 /// How many bytes are gathered before they are written.
 const PIECE: usize = 65_536;
 
-/// Standard input.
+/// Standard input, and the last byte that it gave.
 #[derive(Drop)]
 pub struct Input<R: Read + Drop> {
     reader: R,
+    last: Option<u8>,
     faults: Faults,
 }
 
@@ -24,8 +25,14 @@ impl<R: Read + Drop> Input<R> {
     pub fn new(alloc: Global, reader: R) -> Input<R> {
         Input {
             reader,
+            last: None,
             faults: Faults::new(alloc),
         }
+    }
+
+    /// The last byte that was read, where one was.
+    pub fn last(&self) -> Option<u8> {
+        self.last
     }
 
     /// What failed last.
@@ -39,7 +46,15 @@ impl<R: Read + Drop> Source for Input<R> {
 
     fn read(&mut self, buf: &mut [u8]) -> Result<usize, Failed> {
         let read = read_some(&mut self.reader, buf);
-        self.faults.answer("standard input", read)
+        match self.faults.answer("standard input", read) {
+            Ok(count) => {
+                if count > 0 {
+                    self.last = Some(buf[count - 1]);
+                }
+                Ok(count)
+            }
+            Err(fault) => Err(fault),
+        }
     }
 }
 
