@@ -22,7 +22,7 @@ use Rattle.patch_set.specs.SetView.{SetView}
 use Rattle.plan_b.specs.Pages.{pages}
 use Rattle.packed_pages.specs.Packs.{packs}
 use Rattle.patch_run.specs.Applied.{Receipt}
-use Rattle.patch_run.specs.Devices.{Told, HasRunCause}
+use Rattle.patch_start.specs.Devices.{Told, HasRunCause}
 use Rattle.patch_run.specs.Doing.{Runs, IsReceipt, IsPartOf, IsCutAt, scratch_behind}
 use Rattle.patch_run.specs.Run.{Run, items_of, set_run}
 use Rattle.patch_effects.specs.declared.fault.RunFault.{RunFault}

@@ -1,9 +1,5 @@
 mod Writing
-mod Runs
-mod Deciding
-mod StartSteps
 mod First
-mod StartTaken
 mod Filling
 mod PastMarks
 mod MoreWritten
@@ -19,7 +15,6 @@ mod Telling
 mod EndCause
 mod DoneNone
 mod BackedUp
-mod Getting
 mod Moving
 mod Renaming
 mod Parting
@@ -27,7 +22,6 @@ mod Forcing
 mod SaidFirst
 mod TestByTest
 mod Keeping
-pub mod Places
 mod Skipping
 mod Standing
 mod Naming

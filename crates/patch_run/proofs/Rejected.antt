@@ -25,7 +25,7 @@ use Rattle.patch_effects.proofs.EffectLists.{after_all-append}
 use Rattle.patch_run.specs.OnePatch.{Item, Mark, PlainTurn, Start, skips, refuses, tries, Ending, ended, stopped, Tried, total, bytes_of, lines_in, target_at, written, written_by, tried, failed, written_effects, effects_of, finished_at, is_unrejected, has_rejects, own_reject, mark_of, is_name, text_if, rejected_before, start, ending_of, ending}
 use Rattle.patch_run.specs.Run.{Run, begun, files_after, turn_of, with_ending, if_going, with_item, run_on, run_of}
 use Rattle.patch_run.specs.Laws.{targets_in, is_kept_for, rejects_to}
-use Rattle.patch_run.proofs.Places.{IsTriedWithin, start_within}
+use Rattle.patch_start.proofs.Places.{IsTriedWithin, start_within}
 use Rattle.patch_run.proofs.Naming.{IsNoneOf, none_at, none_written, none_first, written_is}
 use Rattle.patch_run.proofs.Standing.{Others, all_stays, cleared_stays, written_others}
 use Rattle.patch_run.proofs.Unwritten.{unlike}

@@ -10,7 +10,7 @@ use Rattle.name_marks.specs.declared.marks.NameMarks.{NameMarks}
 use Rattle.target_names.specs.declared.derived.Target.{Target}
 use Rattle.patch_set.specs.declared.set.Row.{Row}
 use Rattle.patch_set.specs.Room.{HasRoom, HaveRoom}
-use Rattle.patch_run.specs.Asking.{renames, written_place}
+use Rattle.patch_start.specs.Asking.{renames, written_place}
 use Rattle.patch_run.specs.OnePatch.{PlainTurn, renamed_by, written_at, written_by}
 
 module _ (P : Target → Type 0) where

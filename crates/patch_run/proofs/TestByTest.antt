@@ -4,7 +4,7 @@ use Rattle.hunk_apply.specs.Written.{is_nothing}
 use Rattle.hunk_core.specs.declared.Side.{Side}
 use Rattle.file_patch.specs.Absent.{deletes}
 use Rattle.target_names.specs.declared.derived.Target.{Target}
-use Rattle.patch_run.specs.Asking.{moves, renames, is_bare, acts_new, acts_deleted, takes_files}
+use Rattle.patch_start.specs.Asking.{moves, renames, is_bare, acts_new, acts_deleted, takes_files}
 use Rattle.patch_run.specs.OnePatch.{PlainTurn, Tried, some_placed, is_taken_away, is_made_bare, is_backup_apart}
 
 module _ (t : PlainTurn) (x : Tried) where

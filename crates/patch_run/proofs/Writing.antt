@@ -17,7 +17,7 @@ use Rattle.file_patch.specs.Actions.{is_moved}
 use Rattle.patch_effects.specs.TargetEffects.{put_if, backup_effects, target_effects, moved_effects}
 use Rattle.outside.specs.Quiet.{Effect}
 use Rattle.hunk_apply.specs.Written.{is_nothing}
-use Rattle.patch_run.specs.Asking.{is_rename, renames}
+use Rattle.patch_start.specs.Asking.{is_rename, renames}
 use Rattle.patch_effects.proofs.Placing.{put_count}
 use Rattle.patch_run.specs.OnePatch.{PlainTurn, Tried, has_rejects, is_backup_due, is_moving, is_unwanted, is_removal, is_written, made_effects, written_effects, rejects_text, reject_effects, effects_of, wrote, is_unrejected}
 

@@ -35,7 +35,7 @@ use Rattle.patch_set.specs.SetView.{SetView}
 use Rattle.patch_run.specs.Applied.{Receipt}
 use Rattle.patch_run.specs.Ready.{rows_in}
 use Rattle.patch_run.specs.Run.{Run, files_after, turn_of, run_of}
-use Rattle.patch_run.specs.Devices.{Told, HasRunCause, scratch_with}
+use Rattle.patch_start.specs.Devices.{Told, HasRunCause, scratch_with}
 
 -- what stays of the three devices over any part of a run, and what a fault says of them
 pub record Stays {R : Type 0} (u w : TreeView) (a b : Seen) (c d : SinkView) (result : Result R RunFault) : Type 0 where

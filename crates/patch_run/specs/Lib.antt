@@ -1,11 +1,7 @@
-pub mod Asking
-pub mod Turns
 pub mod HunksSaid
 pub mod Outputs
 pub mod OnePatch
 pub mod Run
-pub mod Devices
-pub mod Starting
 pub mod Trying
 pub mod Ready
 pub mod TurnView

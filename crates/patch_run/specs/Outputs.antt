@@ -6,7 +6,7 @@ use Rattle.hunk_apply.specs.Change.{change_output, change_verdicts}
 use Rattle.hunk_apply.specs.Session.{is_placed, is_failed}
 use Rattle.ifdef_out.specs.Placed.{change_edits}
 use Rattle.ifdef_out.specs.Tagged.{ifdef_text}
-use Rattle.patch_run.specs.Turns.{PlainTurn}
+use Rattle.patch_start.specs.Turns.{PlainTurn}
 
 -- the new text of the file, and what is written of it
 pub record Tried : Type 0 where

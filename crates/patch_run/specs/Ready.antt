@@ -1,34 +1,21 @@
 -- What a file patch needs before its turn comes.
-use Rattle.std.specs.Prelude.{◌≡◌, ℕ, ◌+◌, ◌<◌, ◌≤◌, ◌^◌, List, [], ◌∷◌, length, map, take, drop, All, Option}
+use Rattle.std.specs.Prelude.{◌≡◌, ℕ, ◌+◌, ◌≤◌, List, [], ◌∷◌, length, map, take, drop, All, Option}
 use Rattle.std.specs.List.{zip}
 use Rattle.std.specs.Option.{ForSome}
 use Rattle.hunk_core.specs.declared.Verdict.{Verdict}
 use Rattle.name_marks.specs.Marked.{is_marked}
 use Rattle.name_marks.specs.declared.marks.NameMarks.{NameMarks}
-use Rattle.patch_options.specs.PlainJob.{PlainOptions, HasContext, IsMacroName}
+use Rattle.patch_options.specs.PlainJob.{PlainOptions}
 use Rattle.file_patch.specs.declared.FilePatch.{FilePatch}
 use Rattle.file_patch.specs.PlainPatch.{row_count}
-use Rattle.file_patch.specs.Absent.{IsLawfulPatch}
 use Rattle.patch_set.specs.declared.set.Row.{Row}
 use Rattle.patch_set.specs.SetView.{SetView}
-use Rattle.patch_effects.specs.Named.{IsNamed}
 use Rattle.patch_run.specs.OnePatch.{Mark, PlainTurn, mark_of, was_written}
-use Rattle.patch_run.specs.Run.{item_of}
+pub use Rattle.patch_start.specs.Ready.{item_of, IsFit, alone, IsReady}
 
 -- the verdicts on the hunks of a file patch
 abbrev pub rows_in : List Verdict → FilePatch → List Verdict
 rows_in verdicts p = take (row_count p.change) (drop p.first_verdict verdicts)
-
--- a file patch of a set, with its targets
-pub record IsFit (text : List ℕ) (p : FilePatch) : Type 0 where
-  pub lawful : IsLawfulPatch text p
-  pub few : length p.targets.items < 2 ^ 32
-  pub named : All IsNamed p.targets.items
-  pub hunks : row_count p.change < 2 ^ 32
-
--- the turn of a file patch without what was before it
-abbrev pub alone : PlainOptions → SetView → FilePatch → PlainTurn
-alone o v p = record { options = o; output = v.output; item = item_of v.text v.skipped p; past = [] }
 
 -- the mark that a file patch has by its row and its verdicts
 abbrev pub mark_in : PlainOptions → SetView → List Verdict → FilePatch × Row → Mark
@@ -45,15 +32,6 @@ HasVerdicts v count verdicts = All (λ p. p.first_verdict + row_count p.change �
 -- the names that file patches with these marks made or took away, where they are kept
 abbrev pub AreWritten : Option NameMarks → List Mark → Type 0
 AreWritten names past = ForSome names (λ n. (q : List ℕ) → is_marked n q ≡ was_written past q)
-
--- a set whose file patches are carried out with these options
-pub record IsReady (o : PlainOptions) (v : SetView) : Type 0 where
-  pub patches : All (IsFit v.text) v.patches
-  pub output : ForSome v.output IsNamed
-  pub reject_form : ForSome o.reject_form HasContext
-  pub define : ForSome o.define IsMacroName
-  pub rows : length v.rows ≡ length v.patches
-  pub count : length v.patches < 2 ^ 32
 
 -- each file patch has its verdicts behind those of the one before it
 abbrev pub AreNumbered : ℕ → List FilePatch → Type 0

@@ -7,9 +7,8 @@ use Rattle.outside.specs.Quiet.{Effect, after_all}
 use Rattle.line_store.specs.declared.fault.OpenFault.{OpenFault}
 use Rattle.patch_options.specs.PlainJob.{PlainOptions}
 use Rattle.target_names.specs.declared.derived.Target.{Target}
-use Rattle.file_patch.specs.declared.FilePatch.{FilePatch}
-use Rattle.file_patch.specs.PlainPatch.{patch_of}
 use Rattle.patch_set.specs.SetView.{SetView}
+pub use Rattle.patch_start.specs.Ready.{item_of}
 use Rattle.patch_run.specs.OnePatch.{Item, Mark, PlainTurn, Story, Ending, ended, stopped, mark_of, ending}
 
 -- a run so far
@@ -77,10 +76,6 @@ run_on o output (i ∷ items) r = run_on o output items (with_item o output r i)
 
 abbrev pub run_of : PlainOptions → Option Target → List Item → Files → Run
 run_of o output items files = run_on o output items (begun files)
-
--- a file patch of a set, of whose text these lines are passed over
-abbrev pub item_of : List ℕ → List ℕ → FilePatch → Item
-item_of text skipped p = record { patch = patch_of text p; targets = p.targets.items; skipped = skipped }
 
 abbrev pub items_of : SetView → List Item
 items_of v = map (item_of v.text v.skipped) v.patches

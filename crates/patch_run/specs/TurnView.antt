@@ -1,23 +1,18 @@
 -- A file patch whose turn it is, as a run sees it.
-use Rattle.std.specs.Prelude.{◌≤◌, length}
+use Rattle.std.specs.Prelude.{◌≡◌, ◌≤◌, ◌==◌, length}
 use Rattle.patch_options.specs.PlainJob.{plain_options}
+use Rattle.patch_start.specs.TaskView.{plain_task, with_past, IsTask}
 use Rattle.patch_run.specs.declared.turn.Turn.{Turn}
 use Rattle.patch_run.specs.OnePatch.{PlainTurn}
-use Rattle.patch_run.specs.Run.{item_of}
-use Rattle.patch_run.specs.Ready.{IsReady, IsFit, HasVerdicts, AreWritten, marks}
+use Rattle.patch_run.specs.Ready.{HasVerdicts, AreWritten, marks}
 
 abbrev pub plain_turn : Turn → PlainTurn
-plain_turn t = record {
-  options = plain_options t.options.now;
-  output = t.set.now.output;
-  item = item_of t.set.now.text t.set.now.skipped t.patch.now;
-  past = marks (plain_options t.options.now) t.set.now t.count t.verdicts.now;
-}
+plain_turn t = with_past (marks (plain_options t.task.options.now) t.task.set.now t.count t.verdicts.now) (plain_task t.task)
 
--- the set can be carried out, the file patch is fit to be, and the file patches before it have their verdicts and the names that they made or took away
+-- it is a file patch that is carried out, and those before it have their verdicts and the names that they made or took away
 pub record IsTurn (t : Turn) : Type 0 where
-  pub ready : IsReady (plain_options t.options.now) t.set.now
-  pub fit : IsFit t.set.now.text t.patch.now
-  pub within : t.count ≤ length t.set.now.patches
-  pub past : HasVerdicts t.set.now t.count t.verdicts.now
+  pub task : IsTask t.task
+  pub first : t.task.is_first ≡ (t.count == 0)
+  pub within : t.count ≤ length t.task.set.now.patches
+  pub past : HasVerdicts t.task.set.now t.count t.verdicts.now
   pub written : AreWritten t.written.now (plain_turn t).past

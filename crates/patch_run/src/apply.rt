@@ -15,15 +15,12 @@ ghost use Rattle.patch_run.specs.OnePatch.{Tried, ignored_said, bytes_of, lines_
 ghost use Rattle.patch_run.specs.Trying.{IsSession, IsBegun};
 ghost use Rattle.patch_run.specs.Doing.{Does, Stays, QuietAfter, IsDone, IsPartOf, IsDeviceFault, HasEndCause, IsOutcome, IsMadeWhole, IsOrdered};
 ghost use Rattle.patch_effects.specs.Making.{IsGone, IsTidy, TidyAfter};
-ghost use Rattle.patch_run.specs.Devices.{Told};
+ghost use Rattle.patch_start.specs.Devices.{Told};
 ghost use Rattle.patch_effects.specs.Named.{IsNamed};
 ghost use Rattle.patch_run.specs.TurnView.{plain_turn, IsTurn};
 
-use crate::asking::is_bare;
 use crate::effects::make_effects;
 use crate::fill::{Attempt, try_hunks};
-use crate::names::{chosen, written};
-use crate::starting::{Decision, start};
 use crate::tell::{is_kept, tell};
 use crate::turn::Turn;
 use hunk_apply::Session;
@@ -32,6 +29,7 @@ use line_store::{LineStore, Plan};
 use outside::{Failed, Sink, Tree};
 use patch_effects::{Made, RunFault};
 use patch_set::Row;
+use patch_start::{Decision, chosen, is_bare, start, written};
 use say_text::say_ignored;
 use target_names::Target;
 
@@ -54,21 +52,21 @@ pub fn apply_one<P: Plan, T: Tree, O: Sink>(
     out: &mut O,
 ) -> Result<Done, RunFault>
     requires turn { IsTurn turn.now }
-    requires size { (P.seen plan.old).size ≡ turn.now.options.now.buffer }
-    requires rows { length verdicts.old ≡ row_count turn.now.patch.now.change }
+    requires size { (P.seen plan.old).size ≡ turn.now.task.options.now.buffer }
+    requires rows { length verdicts.old ≡ row_count turn.now.task.patch.now.change }
     requires quiet { IsQuiet (T.view tree.old) }
     ensures does { Does (T.view tree.old) (T.view tree.new) (P.seen plan.old) (P.seen plan.new) (O.view out.old) (O.view out.new) P.scratch_after result verdicts.new (ending (plain_turn turn.now)) }
     ensures rest { O.same_rest out.old out.new }
-    ensures dry { turn.now.options.now.dry_run ≡ true → IsUntouched (T.view tree.old) (T.view tree.new) }
+    ensures dry { turn.now.task.options.now.dry_run ≡ true → IsUntouched (T.view tree.old) (T.view tree.new) }
     ensures rows { length verdicts.new ≡ length verdicts.old }
     ensures few { IfOk result (λ done. done.effects ≤ 5) }
 
     // Whatever the tree tells, hunks are placed only on lines that the plan lends.
     ensures placed { IfOk result (λ done. (lines : List (List ℕ)) → (P.seen plan.new).told ≡ Some lines
         → (verdicts.new ≡ replicate (length verdicts.old) Ignored)
-        ⊎ (verdicts.new ≡ change_verdicts lines turn.now.options.now.fuzz turn.now.options.now.loose done.row.side (plain_turn turn.now).item.patch.change)) }
+        ⊎ (verdicts.new ≡ change_verdicts lines turn.now.task.options.now.fuzz turn.now.task.options.now.loose done.row.side (plain_turn turn.now).item.patch.change)) }
 {
-    match start(turn, plan, tree, out)? {
+    match start(&turn.task, plan, tree, out)? {
         Decision::Skip(row) => skip(turn, row, verdicts, out),
         Decision::Try { place, side } => try_at(turn, place, side, verdicts, plan, tree, out),
     }
@@ -82,7 +80,7 @@ fn skip<O: Sink>(
     out: &mut O,
 ) -> Result<Done, RunFault>
     requires turn { IsTurn turn.now }
-    requires rows { length verdicts.old ≡ row_count turn.now.patch.now.change }
+    requires rows { length verdicts.old ≡ row_count turn.now.task.patch.now.change }
     ensures writes { Writes (O.view out.old) (O.view out.new) result (ignored_said (plain_turn turn.now)) }
     ensures fault { IfErr result (λ e. e ≡ RunFault.Write) }
     ensures rest { O.same_rest out.old out.new }
@@ -104,10 +102,10 @@ fn tell_ignored<O: Sink>(turn: &Turn<'_>, out: &mut O) -> Result<(), Failed>
     ensures writes { Writes (O.view out.old) (O.view out.new) result (ignored_said (plain_turn turn.now)) }
     ensures rest { O.same_rest out.old out.new }
 {
-    if is_bare(turn.patch) {
+    if is_bare(turn.task.patch) {
         return Ok(());
     }
-    say_ignored(turn.options, turn.patch.hunks(), out)
+    say_ignored(turn.task.options, turn.task.patch.hunks(), out)
 }
 
 /// Tries the hunks on the lines that were taken, says what came of them, and makes the effects.
@@ -121,8 +119,8 @@ fn try_at<P: LineStore, T: Tree, O: Sink>(
     out: &mut O,
 ) -> Result<Done, RunFault>
     requires turn { IsTurn turn.now }
-    requires within { place < length turn.now.patch.now.targets.items }
-    requires rows { length verdicts.old ≡ row_count turn.now.patch.now.change }
+    requires within { place < length turn.now.task.patch.now.targets.items }
+    requires rows { length verdicts.old ≡ row_count turn.now.task.patch.now.change }
     requires quiet { IsQuiet (T.view tree.old) }
     requires told { (f : Files) → Told (T.view tree.old) (P.seen plan.old) f → is_some (P.seen plan.old).told ≡ true }
     ensures stays { Stays (T.view tree.old) (T.view tree.new) (P.seen plan.old) (P.seen plan.new) (O.view out.old) (O.view out.new) result }
@@ -137,14 +135,14 @@ fn try_at<P: LineStore, T: Tree, O: Sink>(
     ensures order { IfErr result (λ e. (f : Files) → (T.view tree.old).told ≡ Some f → (P.seen plan.old).told ≡ Some (lines_in (bytes_of (plain_turn turn.now) f place))
         → IsOrdered e (T.view tree.old) (T.view tree.new) (O.view out.old) (O.view out.new) (finished_at (plain_turn turn.now) f [] place side).said) }
     ensures rest { O.same_rest out.old out.new }
-    ensures dry { turn.now.options.now.dry_run ≡ true → IsUntouched (T.view tree.old) (T.view tree.new) }
+    ensures dry { turn.now.task.options.now.dry_run ≡ true → IsUntouched (T.view tree.old) (T.view tree.new) }
     ensures rows { length verdicts.new ≡ length verdicts.old }
     ensures few { IfOk result (λ done. done.effects ≤ 5) }
     ensures placed { IfOk result (λ done. (lines : List (List ℕ)) → (P.seen plan.new).told ≡ Some lines
-        → verdicts.new ≡ change_verdicts lines turn.now.options.now.fuzz turn.now.options.now.loose done.row.side (plain_turn turn.now).item.patch.change) }
+        → verdicts.new ≡ change_verdicts lines turn.now.task.options.now.fuzz turn.now.task.options.now.loose done.row.side (plain_turn turn.now).item.patch.change) }
 {
-    let source = chosen(turn, place);
-    let target = written(turn, place);
+    let source = chosen(&turn.task, place);
+    let target = written(&turn.task, place);
     let attempt = try_hunks(turn, &target.temp, side, verdicts, plan, tree)?;
     let session = attempt.session;
     let made = tell_and_make(turn, source, target, side, attempt, verdicts, tree, out)?;
@@ -165,26 +163,26 @@ fn tell_and_make<T: Tree, O: Sink>(
     requires turn { IsTurn turn.now }
     requires source { IsNamed source.now }
     requires named { IsNamed target.now }
-    requires rows { length verdicts.now ≡ row_count turn.now.patch.now.change }
+    requires rows { length verdicts.now ≡ row_count turn.now.task.patch.now.change }
     requires tried { All IsTried verdicts.now }
-    requires begun { IsBegun turn.now.options.now.dry_run attempt.temp target.now.temp }
+    requires begun { IsBegun turn.now.task.options.now.dry_run attempt.temp target.now.temp }
     requires quiet { IsQuiet (T.view tree.old) }
-    requires there { turn.now.options.now.dry_run ≡ false → IsThere (T.view tree.old) target.now.temp }
+    requires there { turn.now.task.options.now.dry_run ≡ false → IsThere (T.view tree.old) target.now.temp }
     ensures tree { Passes (T.view tree.old) (T.view tree.new) }
     ensures sink { SinkPasses (O.view out.old) (O.view out.new) }
     ensures cause { IfErr result (λ e. HasEndCause e (T.view tree.old) (T.view tree.new) (O.view out.old) (O.view out.new)) }
     ensures quiet { OnOk result (IsQuiet (T.view tree.new)) }
     ensures rest { O.same_rest out.old out.new }
-    ensures dry { turn.now.options.now.dry_run ≡ true → IsUntouched (T.view tree.old) (T.view tree.new) }
-    ensures whole { IfOk result (λ made. (f : Files) (x : Tried) → (T.view tree.old).told ≡ Some f → IsOutcome turn.now.options.now.dry_run (T.view tree.old) attempt.entry.session target.now.temp side verdicts.now x
+    ensures dry { turn.now.task.options.now.dry_run ≡ true → IsUntouched (T.view tree.old) (T.view tree.new) }
+    ensures whole { IfOk result (λ made. (f : Files) (x : Tried) → (T.view tree.old).told ≡ Some f → IsOutcome turn.now.task.options.now.dry_run (T.view tree.old) attempt.entry.session target.now.temp side verdicts.now x
         → IsMadeWhole (plain_turn turn.now) f source.now target.now x made (T.view tree.old) (T.view tree.new) (O.view out.old) (O.view out.new)) }
-    ensures broken { OnErr result ((f : Files) (x : Tried) → (T.view tree.old).told ≡ Some f → IsOutcome turn.now.options.now.dry_run (T.view tree.old) attempt.entry.session target.now.temp side verdicts.now x
+    ensures broken { OnErr result ((f : Files) (x : Tried) → (T.view tree.old).told ≡ Some f → IsOutcome turn.now.task.options.now.dry_run (T.view tree.old) attempt.entry.session target.now.temp side verdicts.now x
         → IsPartOf (T.view tree.old) (T.view tree.new) (O.view out.old) (O.view out.new) (effects_of (plain_turn turn.now) f source.now target.now x) (tried_said (plain_turn turn.now) target.now x)) }
-    ensures order { IfErr result (λ e. (x : Tried) → IsOutcome turn.now.options.now.dry_run (T.view tree.old) attempt.entry.session target.now.temp side verdicts.now x
+    ensures order { IfErr result (λ e. (x : Tried) → IsOutcome turn.now.task.options.now.dry_run (T.view tree.old) attempt.entry.session target.now.temp side verdicts.now x
         → IsOrdered e (T.view tree.old) (T.view tree.new) (O.view out.old) (O.view out.new) (tried_said (plain_turn turn.now) target.now x)) }
     ensures few { IfOk result (λ made. made.effects ≤ 5) }
     ensures tidy { OnOk result (IsTidy (T.view tree.old) (T.view tree.new)) }
-    ensures gone { OnOk result (turn.now.options.now.dry_run ≡ false → IsGone (T.view tree.new) target.now.temp) }
+    ensures gone { OnOk result (turn.now.task.options.now.dry_run ≡ false → IsGone (T.view tree.new) target.now.temp) }
 {
     tell(turn, target, side, &attempt.session, verdicts, out)?;
     match attempt.temp {

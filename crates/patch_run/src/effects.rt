@@ -12,14 +12,13 @@ ghost use Rattle.hunk_apply.specs.Session.{is_failed, is_inexact};
 ghost use Rattle.hunk_apply.specs.Written.{is_nothing};
 ghost use Rattle.reject_text.specs.Rejects.{AreHunks};
 ghost use Rattle.file_patch.specs.PlainPatch.{row_count};
-ghost use Rattle.patch_run.specs.Asking.{renames};
+ghost use Rattle.patch_start.specs.Asking.{renames};
 ghost use Rattle.patch_run.specs.OnePatch.{Tried, is_backup_due, is_backup_apart, is_made_bare, is_written, is_unwanted, is_always_put, is_removal, is_moving, made_effects, written_effects, effects_of, wrote, has_rejects};
 ghost use Rattle.patch_run.specs.Trying.{IsSession};
 ghost use Rattle.patch_effects.specs.Making.{Makes, GoesQuietly, IsGone, IsTidy};
 ghost use Rattle.patch_effects.specs.Named.{IsNamed};
 ghost use Rattle.patch_run.specs.TurnView.{plain_turn, IsTurn};
 
-use crate::asking::{acts_new, is_bare, renames, takes_files};
 use crate::past::{is_same, was_written};
 use crate::rejects::put_rejects;
 use crate::tell::{is_taken_away, is_unrejected};
@@ -29,6 +28,7 @@ use hunk_core::{Side, Verdict};
 use outside::{Failed, Name, Tree};
 use patch_effects::{Made, RunFault, forget, write_moved, write_placed};
 use patch_options::Options;
+use patch_start::{acts_new, is_bare, renames, takes_files};
 use replace_file::Temp;
 use target_names::Target;
 
@@ -47,8 +47,8 @@ pub fn make_effects<T: Tree>(
     requires source { IsNamed source.now }
     requires named { IsNamed target.now }
     requires temp { temp.name.now ≡ target.now.temp }
-    requires rows { length verdicts.now ≡ row_count turn.now.patch.now.change }
-    requires wet { turn.now.options.now.dry_run ≡ false }
+    requires rows { length verdicts.now ≡ row_count turn.now.task.patch.now.change }
+    requires wet { turn.now.task.options.now.dry_run ≡ false }
     requires quiet { IsQuiet (T.view tree.old) }
     requires there { IsThere (T.view tree.old) target.now.temp }
     ensures goes { GoesQuietly (T.view tree.old) (T.view tree.new) result }
@@ -71,9 +71,9 @@ pub fn make_effects<T: Tree>(
 /// Whether hunks were rejected.
 fn is_rejected(turn: &Turn<'_>, session: &Session) -> bool
     ensures rejected { (vs : List Verdict) → session.now.failed ≡ count_by is_failed vs → result ≡ has_rejects (plain_turn turn.now) vs }
-    ensures hunks { result ≡ true → AreHunks turn.now.patch.now.change }
+    ensures hunks { result ≡ true → AreHunks turn.now.task.patch.now.change }
 {
-    session.failed > 0 && !is_unrejected(turn.options, &turn.patch.change)
+    session.failed > 0 && !is_unrejected(turn.task.options, &turn.task.patch.change)
 }
 
 /// What was done, with a reject file, if there is one.
@@ -189,7 +189,7 @@ fn is_renamed(turn: &Turn<'_>, source: &Target, target: &Target) -> bool
     ensures apart { result ≡ true → target.now.name ≢ source.now.name }
     ensures renames { result ≡ true → renames (plain_turn turn.now).item.patch ≡ true }
 {
-    if !renames(turn.patch) {
+    if !renames(turn.task.patch) {
         return false;
     }
     !is_same(&source.name, &target.name)
@@ -283,7 +283,7 @@ fn is_written(turn: &Turn<'_>, side: Side, session: &Session) -> bool
     if session.applied > 0 {
         return true;
     }
-    is_bare(turn.patch) && is_made_bare(turn, side, session)
+    is_bare(turn.task.patch) && is_made_bare(turn, side, session)
 }
 
 /// Whether the target of a file patch without hunks is written.
@@ -291,10 +291,10 @@ fn is_made_bare(turn: &Turn<'_>, side: Side, session: &Session) -> bool
     requires turn { IsTurn turn.now }
     ensures { (x : Tried) → x.side ≡ side → IsSession session.now x.verdicts x.text → result ≡ is_made_bare (plain_turn turn.now) x }
 {
-    if acts_new(turn.patch, side) {
+    if acts_new(turn.task.patch, side) {
         return true;
     }
-    if turn.patch.is_moved() {
+    if turn.task.patch.is_moved() {
         return true;
     }
     is_taken_away(turn, side, session) && session.output_empty
@@ -308,7 +308,7 @@ fn is_backup_due(turn: &Turn<'_>, target: &Target, other: &Target, session: &Ses
     ensures other { result ≡ true → renames (plain_turn turn.now).item.patch ≡ true → target.now.backup ≢ other.now.name }
 {
     // (the file patches before this one are many, and asked last)
-    if !is_backup_asked(turn.options, session) || !is_backup_apart(turn, target, other) {
+    if !is_backup_asked(turn.task.options, session) || !is_backup_apart(turn, target, other) {
         return false;
     }
     !was_written(turn, &target.name)
@@ -323,7 +323,7 @@ fn is_backup_apart(turn: &Turn<'_>, target: &Target, other: &Target) -> bool
     if is_same(&target.backup, &target.name) {
         return false;
     }
-    if renames(turn.patch) {
+    if renames(turn.task.patch) {
         !is_same(&target.backup, &other.name)
     } else {
         true
@@ -349,11 +349,11 @@ fn is_removal(turn: &Turn<'_>, side: Side, session: &Session) -> bool
 fn is_always_put(turn: &Turn<'_>) -> bool
     ensures { result ≡ is_always_put (plain_turn turn.now) }
 {
-    let options = turn.options;
+    let options = turn.task.options;
     if options.output.is_some() || options.define.is_some() {
         return true;
     }
-    turn.patch.is_moved()
+    turn.task.patch.is_moved()
 }
 
 /// Whether a file without a byte is to be taken away.
@@ -361,8 +361,8 @@ fn is_unwanted(turn: &Turn<'_>, side: Side) -> bool
     requires turn { IsTurn turn.now }
     ensures { result ≡ is_unwanted (plain_turn turn.now) side }
 {
-    if turn.options.remove_empty {
+    if turn.task.options.remove_empty {
         return true;
     }
-    takes_files(turn.options) && turn.patch.deletes(side)
+    takes_files(turn.task.options) && turn.task.patch.deletes(side)
 }

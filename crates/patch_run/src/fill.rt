@@ -45,15 +45,15 @@ pub fn try_hunks<'n, P: LineStore, T: Tree>(
 ) -> Result<Attempt<'n>, RunFault>
     requires turn { IsTurn turn.now }
     requires temp { is_temp temp.now ≡ true }
-    requires rows { length verdicts.old ≡ row_count turn.now.patch.now.change }
+    requires rows { length verdicts.old ≡ row_count turn.now.task.patch.now.change }
     requires quiet { IsQuiet (T.view tree.old) }
     ensures works { WorksOn (T.view tree.old) (T.view tree.new) temp.now }
     ensures keeps { Keeps (P.seen plan.old) (P.seen plan.new) }
     ensures cause { IfErr result (λ e. HasTryCause e (T.view tree.old) (T.view tree.new) (P.seen plan.old) (P.seen plan.new)) }
-    ensures dry { turn.now.options.now.dry_run ≡ true → tree.new ≡ tree.old }
-    ensures begun { IfOk result (λ attempt. IsBegun turn.now.options.now.dry_run attempt.temp temp.now) }
-    ensures there { OnOk result (turn.now.options.now.dry_run ≡ false → IsThere (T.view tree.new) temp.now) }
-    ensures holds { OnOk result ((lines : List (List ℕ)) → (P.seen plan.old).told ≡ Some lines → turn.now.options.now.dry_run ≡ false → Holds (T.view tree.new) temp.now (tried (plain_turn turn.now) side lines).output) }
+    ensures dry { turn.now.task.options.now.dry_run ≡ true → tree.new ≡ tree.old }
+    ensures begun { IfOk result (λ attempt. IsBegun turn.now.task.options.now.dry_run attempt.temp temp.now) }
+    ensures there { OnOk result (turn.now.task.options.now.dry_run ≡ false → IsThere (T.view tree.new) temp.now) }
+    ensures holds { OnOk result ((lines : List (List ℕ)) → (P.seen plan.old).told ≡ Some lines → turn.now.task.options.now.dry_run ≡ false → Holds (T.view tree.new) temp.now (tried (plain_turn turn.now) side lines).output) }
     ensures session { IfOk result (λ attempt. (lines : List (List ℕ)) → (P.seen plan.old).told ≡ Some lines → IsSession attempt.session verdicts.new (tried (plain_turn turn.now) side lines).text) }
     ensures verdicts { OnOk result ((lines : List (List ℕ)) → (P.seen plan.old).told ≡ Some lines → verdicts.new ≡ (tried (plain_turn turn.now) side lines).verdicts) }
     ensures tried { OnOk result (All IsTried verdicts.new) }
@@ -62,7 +62,7 @@ pub fn try_hunks<'n, P: LineStore, T: Tree>(
     // After a fault that no device has caused the temporary is gone again.
     ensures tidy { IfErr result (λ e. UnlessFailed e (IsTidy (T.view tree.old) (T.view tree.new))) }
 {
-    if turn.options.dry_run {
+    if turn.task.options.dry_run {
         let session = try_dry(turn, side, verdicts, plan)?;
         Ok(Attempt {
             session,
@@ -81,7 +81,7 @@ fn try_dry<P: LineStore>(
     plan: &mut P,
 ) -> Result<Session, RunFault>
     requires turn { IsTurn turn.now }
-    requires rows { length verdicts.old ≡ row_count turn.now.patch.now.change }
+    requires rows { length verdicts.old ≡ row_count turn.now.task.patch.now.change }
     ensures keeps { Keeps (P.seen plan.old) (P.seen plan.new) }
     ensures cause { IfErr result (λ e. HasLineCause e (P.seen plan.old) (P.seen plan.new)) }
     ensures session { IfOk result (λ session. (lines : List (List ℕ)) → (P.seen plan.old).told ≡ Some lines → IsSession session verdicts.new (tried (plain_turn turn.now) side lines).text) }
@@ -101,7 +101,7 @@ fn try_nowhere<P: LineStore>(
     plan: &mut P,
 ) -> Result<Session, LineFault>
     requires turn { IsTurn turn.now }
-    requires rows { length verdicts.old ≡ row_count turn.now.patch.now.change }
+    requires rows { length verdicts.old ≡ row_count turn.now.task.patch.now.change }
     ensures keeps { Keeps (P.seen plan.old) (P.seen plan.new) }
     ensures cause { IfErr result (λ e. HasCause e (P.seen plan.old) (P.seen plan.new)) }
     ensures session { IfOk result (λ session. (lines : List (List ℕ)) → (P.seen plan.old).told ≡ Some lines → IsSession session verdicts.new (tried (plain_turn turn.now) side lines).text) }
@@ -127,7 +127,7 @@ fn try_into<P: LineStore, O: Sink>(
     out: &mut O,
 ) -> Result<Session, ApplyFault>
     requires turn { IsTurn turn.now }
-    requires rows { length verdicts.old ≡ row_count turn.now.patch.now.change }
+    requires rows { length verdicts.old ≡ row_count turn.now.task.patch.now.change }
     ensures keeps { Keeps (P.seen plan.old) (P.seen plan.new) }
     ensures sink { SinkPasses (O.view out.old) (O.view out.new) }
     ensures rest { O.same_rest out.old out.new }
@@ -138,7 +138,7 @@ fn try_into<P: LineStore, O: Sink>(
     ensures tried { OnOk result (All IsTried verdicts.new) }
     ensures rows { length verdicts.new ≡ length verdicts.old }
 {
-    match &turn.options.define {
+    match &turn.task.options.define {
         Some(define) => try_parted(turn, define, side, verdicts, plan, out),
         None => try_plain(turn, side, verdicts, plan, out),
     }
@@ -155,7 +155,7 @@ fn try_parted<P: LineStore, O: Sink>(
 ) -> Result<Session, ApplyFault>
     requires turn { IsTurn turn.now }
     requires define { IsMacroName define.now }
-    requires rows { length verdicts.old ≡ row_count turn.now.patch.now.change }
+    requires rows { length verdicts.old ≡ row_count turn.now.task.patch.now.change }
     ensures keeps { Keeps (P.seen plan.old) (P.seen plan.new) }
     ensures sink { SinkPasses (O.view out.old) (O.view out.new) }
     ensures rest { O.same_rest out.old out.new }
@@ -182,7 +182,7 @@ fn put_parted<P: LineStore, O: Sink>(
 ) -> Result<(), ApplyFault>
     requires turn { IsTurn turn.now }
     requires define { IsMacroName define.now }
-    requires rows { length verdicts.now ≡ row_count turn.now.patch.now.change }
+    requires rows { length verdicts.now ≡ row_count turn.now.task.patch.now.change }
     requires tried { All IsTried verdicts.now }
     requires placed { (lines : List (List ℕ)) → (P.seen plan.old).told ≡ Some lines → verdicts.now ≡ (tried (plain_turn turn.now) side lines).verdicts }
     ensures keeps { Keeps (P.seen plan.old) (P.seen plan.new) }
@@ -193,8 +193,8 @@ fn put_parted<P: LineStore, O: Sink>(
 {
     match put_ifdef(
         plan,
-        turn.set.text(),
-        turn.patch,
+        turn.task.set.text(),
+        turn.task.patch,
         side,
         verdicts,
         define,
@@ -215,7 +215,7 @@ fn try_plain<P: LineStore, O: Sink>(
     out: &mut O,
 ) -> Result<Session, ApplyFault>
     requires turn { IsTurn turn.now }
-    requires rows { length verdicts.old ≡ row_count turn.now.patch.now.change }
+    requires rows { length verdicts.old ≡ row_count turn.now.task.patch.now.change }
     ensures keeps { Keeps (P.seen plan.old) (P.seen plan.new) }
     ensures sink { SinkPasses (O.view out.old) (O.view out.new) }
     ensures rest { O.same_rest out.old out.new }
@@ -226,11 +226,11 @@ fn try_plain<P: LineStore, O: Sink>(
     ensures tried { OnOk result (All IsTried verdicts.new) }
     ensures rows { length verdicts.new ≡ length verdicts.old }
 {
-    let options = turn.options;
+    let options = turn.task.options;
     apply_hunks(
         plan,
-        turn.set.text(),
-        turn.patch,
+        turn.task.set.text(),
+        turn.task.patch,
         side,
         options.fuzz,
         options.loose,
@@ -250,7 +250,7 @@ fn fill_temp<'n, P: LineStore, T: Tree>(
 ) -> Result<Attempt<'n>, RunFault>
     requires turn { IsTurn turn.now }
     requires temp { is_temp temp.now ≡ true }
-    requires rows { length verdicts.old ≡ row_count turn.now.patch.now.change }
+    requires rows { length verdicts.old ≡ row_count turn.now.task.patch.now.change }
     requires quiet { IsQuiet (T.view tree.old) }
     ensures works { WorksOn (T.view tree.old) (T.view tree.new) temp.now }
     ensures keeps { Keeps (P.seen plan.old) (P.seen plan.new) }
@@ -281,7 +281,7 @@ fn fill_begun<'n, P: LineStore, T: Tree>(
     tree: &mut T,
 ) -> Result<Attempt<'n>, RunFault>
     requires turn { IsTurn turn.now }
-    requires rows { length verdicts.old ≡ row_count turn.now.patch.now.change }
+    requires rows { length verdicts.old ≡ row_count turn.now.task.patch.now.change }
     requires quiet { IsQuiet (T.view tree.old) }
     requires empty { Holds (T.view tree.old) begun.name.now [] }
     ensures works { WorksOn (T.view tree.old) (T.view tree.new) begun.entry.name.now }

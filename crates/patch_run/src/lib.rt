@@ -3,21 +3,15 @@
 
 mod applied;
 mod apply;
-mod asking;
-mod choices;
 mod discard;
 mod effects;
 mod fill;
 mod laws;
-mod names;
 mod past;
 mod rejects;
 mod set;
-mod starting;
 mod tell;
 mod turn;
-mod weighing;
-mod word;
 mod written;
 
 pub use applied::Applied;

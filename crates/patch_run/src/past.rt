@@ -10,13 +10,12 @@ ghost use Rattle.patch_run.specs.Ready.{IsFit, alone, rows_in};
 ghost use Rattle.patch_set.specs.SetView.{SetView};
 ghost use Rattle.patch_run.specs.TurnView.{plain_turn, IsTurn};
 
-use crate::asking::renames;
-use crate::names::{target_in, written_at};
 use crate::turn::Turn;
 use file_patch::FilePatch;
 use hunk_core::Verdict;
 use outside::Name;
 use patch_set::{PatchSet, Row};
+use patch_start::{renames, target_in, written_at};
 use target_names::Target;
 
 /// A file patch before one, and what was done with it.
@@ -31,14 +30,14 @@ pub struct Earlier<'a> {
 pub fn earlier_patch<'a>(turn: &Turn<'a>, k: u32) -> Earlier<'a>
     requires turn { IsTurn turn.now }
     requires low { k < turn.now.count }
-    ensures mark { (m : Mark) → slice_index_or (plain_turn turn.now).past k m ≡ mark_of (alone (plain_turn turn.now).options turn.now.set.now result.patch.now) result.row result.verdicts.now }
-    ensures fit { IsFit turn.now.set.now.text result.patch.now }
+    ensures mark { (m : Mark) → slice_index_or (plain_turn turn.now).past k m ≡ mark_of (alone (plain_turn turn.now).options turn.now.task.set.now result.patch.now) result.row result.verdicts.now }
+    ensures fit { IsFit turn.now.task.set.now.text result.patch.now }
     ensures rows { length result.verdicts.now ≡ row_count result.patch.now.change }
 {
-    let patch = &turn.set.patches()[k as usize];
+    let patch = &turn.task.set.patches()[k as usize];
     Earlier {
         patch,
-        row: turn.set.row(k),
+        row: turn.task.set.row(k),
         verdicts: rows_in(turn.verdicts, patch),
     }
 }
@@ -112,12 +111,12 @@ fn is_found_written(turn: &Turn<'_>, name: &Name) -> bool
 
 /// Whether one of those before it did so.
 fn has_written(turn: &Turn<'_>, earlier: &Earlier<'_>, name: &Name) -> bool
-    ensures { result ≡ has_name name.now (mark_of (alone (plain_turn turn.now).options turn.now.set.now earlier.now.patch.now) earlier.now.row earlier.now.verdicts.now) }
+    ensures { result ≡ has_name name.now (mark_of (alone (plain_turn turn.now).options turn.now.task.set.now earlier.now.patch.now) earlier.now.row earlier.now.verdicts.now) }
 {
     if !earlier.row.wrote {
         return false;
     }
-    if is_name(name, written_by(turn.set, earlier.patch, earlier.row)) {
+    if is_name(name, written_by(turn.task.set, earlier.patch, earlier.row)) {
         return true;
     }
     is_name(name, renamed_by(earlier.patch, earlier.row))

@@ -19,7 +19,6 @@ ghost use Rattle.patch_effects.specs.Named.{IsNamed};
 ghost use Rattle.patch_run.specs.Ready.{IsFit, alone};
 ghost use Rattle.patch_run.specs.TurnView.{plain_turn, IsTurn};
 
-use crate::names::shown;
 use crate::past::{Earlier, earlier_patch, is_same, written_by};
 use crate::tell::is_unrejected;
 use crate::turn::Turn;
@@ -28,6 +27,7 @@ use hunk_core::{Form, Side, Verdict};
 use outside::{Failed, Name, Sink, Tree};
 use patch_effects::RunFault;
 use patch_options::Options;
+use patch_start::shown;
 use reject_text::put_reject;
 use replace_file::{Temp, TempSink, begin_temp, put_begun};
 use target_names::Target;
@@ -43,8 +43,8 @@ pub fn put_rejects<T: Tree>(
 ) -> Result<(), RunFault>
     requires turn { IsTurn turn.now }
     requires named { IsNamed target.now }
-    requires rows { length verdicts.now ≡ row_count turn.now.patch.now.change }
-    requires hunks { rejected ≡ true → AreHunks turn.now.patch.now.change }
+    requires rows { length verdicts.now ≡ row_count turn.now.task.patch.now.change }
+    requires hunks { rejected ≡ true → AreHunks turn.now.task.patch.now.change }
     requires quiet { IsQuiet (T.view tree.old) }
     requires gone { IsGone (T.view tree.old) target.now.temp }
     ensures goes { GoesQuietly (T.view tree.old) (T.view tree.new) result }
@@ -70,8 +70,8 @@ fn swap_rejects<T: Tree>(
 ) -> Result<(), Failed>
     requires turn { IsTurn turn.now }
     requires named { IsNamed target.now }
-    requires rows { length verdicts.now ≡ row_count turn.now.patch.now.change }
-    requires hunks { AreHunks turn.now.patch.now.change }
+    requires rows { length verdicts.now ≡ row_count turn.now.task.patch.now.change }
+    requires hunks { AreHunks turn.now.task.patch.now.change }
     requires quiet { IsQuiet (T.view tree.old) }
     ensures { Puts (T.view tree.old) (T.view tree.new) result target.now.reject_temp target.now.reject (λ f. rejects_text (plain_turn turn.now) target.now side verdicts.now) }
 {
@@ -91,8 +91,8 @@ fn fill_rejects<'n, T: Tree>(
 ) -> Result<Temp<'n>, Failed>
     requires turn { IsTurn turn.now }
     requires named { IsNamed target.now }
-    requires rows { length verdicts.now ≡ row_count turn.now.patch.now.change }
-    requires hunks { AreHunks turn.now.patch.now.change }
+    requires rows { length verdicts.now ≡ row_count turn.now.task.patch.now.change }
+    requires hunks { AreHunks turn.now.task.patch.now.change }
     requires quiet { IsQuiet (T.view tree.old) }
     requires there { IsThere (T.view tree.old) begun.name.now }
     requires empty { Holds (T.view tree.old) begun.name.now [] }
@@ -117,13 +117,13 @@ fn put_texts<O: Sink>(
 ) -> Result<(), Failed>
     requires turn { IsTurn turn.now }
     requires named { IsNamed target.now }
-    requires rows { length verdicts.now ≡ row_count turn.now.patch.now.change }
-    requires hunks { AreHunks turn.now.patch.now.change }
+    requires rows { length verdicts.now ≡ row_count turn.now.task.patch.now.change }
+    requires hunks { AreHunks turn.now.task.patch.now.change }
     ensures writes { Writes (O.view out.old) (O.view out.new) result (rejects_text (plain_turn turn.now) target.now side verdicts.now) }
     ensures rest { O.same_rest out.old out.new }
 {
     put_earlier(turn, &target.reject, out)?;
-    put_own(turn, turn.patch, target, side, verdicts, out)
+    put_own(turn, turn.task.patch, target, side, verdicts, out)
 }
 
 /// Writes the reject texts of those before it that go to this file.
@@ -146,15 +146,15 @@ fn put_if_to<O: Sink>(
     out: &mut O,
 ) -> Result<(), Failed>
     requires turn { IsTurn turn.now }
-    requires fit { IsFit turn.now.set.now.text earlier.now.patch.now }
+    requires fit { IsFit turn.now.task.set.now.text earlier.now.patch.now }
     requires rows { length earlier.now.verdicts.now ≡ row_count earlier.now.patch.now.change }
-    ensures writes { Writes (O.view out.old) (O.view out.new) result (text_if name.now (mark_of (alone (plain_turn turn.now).options turn.now.set.now earlier.now.patch.now) earlier.now.row earlier.now.verdicts.now).rejected) }
+    ensures writes { Writes (O.view out.old) (O.view out.new) result (text_if name.now (mark_of (alone (plain_turn turn.now).options turn.now.task.set.now earlier.now.patch.now) earlier.now.row earlier.now.verdicts.now).rejected) }
     ensures rest { O.same_rest out.old out.new }
 {
-    if turn.options.dry_run || !has_rejects(turn.options, earlier) {
+    if turn.task.options.dry_run || !has_rejects(turn.task.options, earlier) {
         return Ok(());
     }
-    match written_by(turn.set, earlier.patch, earlier.row) {
+    match written_by(turn.task.set, earlier.patch, earlier.row) {
         Some(target) => {
             if is_same(name, &target.reject) {
                 put_own(
@@ -202,16 +202,16 @@ fn put_own<O: Sink>(
     out: &mut O,
 ) -> Result<(), Failed>
     requires turn { IsTurn turn.now }
-    requires fit { IsFit turn.now.set.now.text patch.now }
+    requires fit { IsFit turn.now.task.set.now.text patch.now }
     requires named { IsNamed target.now }
     requires rows { length verdicts.now ≡ row_count patch.now.change }
     requires hunks { AreHunks patch.now.change }
-    ensures writes { Writes (O.view out.old) (O.view out.new) result (own_reject (alone (plain_turn turn.now).options turn.now.set.now patch.now) target.now side verdicts.now) }
+    ensures writes { Writes (O.view out.old) (O.view out.new) result (own_reject (alone (plain_turn turn.now).options turn.now.task.set.now patch.now) target.now side verdicts.now) }
     ensures rest { O.same_rest out.old out.new }
 {
     let form = reject_form(turn, patch);
     put_reject(
-        turn.set.text(),
+        turn.task.set.text(),
         patch,
         verdicts,
         side,
@@ -224,10 +224,10 @@ fn put_own<O: Sink>(
 /// The form of the rejects of a file patch.
 fn reject_form(turn: &Turn<'_>, patch: &FilePatch) -> Form
     requires turn { IsTurn turn.now }
-    ensures form { result ≡ reject_form (alone (plain_turn turn.now).options turn.now.set.now patch.now) }
+    ensures form { result ≡ reject_form (alone (plain_turn turn.now).options turn.now.task.set.now patch.now) }
     ensures fits { IsRejectForm result }
 {
-    match turn.options.reject_form {
+    match turn.task.options.reject_form {
         Some(form) => form,
         None => own_reject_form(patch.header.form),
     }

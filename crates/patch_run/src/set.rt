@@ -14,7 +14,7 @@ ghost use Rattle.patch_run.specs.Run.{items_of, set_run};
 ghost use Rattle.patch_run.specs.Ready.{IsReady, AreNumbered, AreWritten, marks, rows_in, turn_at};
 ghost use Rattle.patch_run.specs.OnePatch.{ending};
 ghost use Rattle.patch_run.specs.Doing.{Does, Runs, IsReceipt, IsCutAt, NoneFailed, EndsSo, StaysSet, IsPlacedOn, IsPlacedLast};
-ghost use Rattle.patch_run.specs.Devices.{Told};
+ghost use Rattle.patch_start.specs.Devices.{Told};
 ghost use Rattle.patch_run.specs.TurnView.{IsTurn, plain_turn};
 ghost use Rattle.hunk_core.specs.declared.Verdict.TheVariants.{Ignored};
 ghost use Rattle.hunk_apply.specs.Change.{change_verdicts};
@@ -30,6 +30,7 @@ use outside::{Sink, Tree};
 use patch_effects::RunFault;
 use patch_options::Options;
 use patch_set::PatchSet;
+use patch_start::Task;
 
 /// Carries out the file patches of a set one after another, each on the files that those before it left: what is said
 /// goes to `out`, and the effects are made on the tree. The plan holds the lines of one file at a time. Afterwards the set
@@ -159,9 +160,12 @@ fn apply_at<P: Plan, T: Tree, O: Sink>(
     let patch = &set.patches()[k as usize];
     let (before, behind) = verdicts.split_at_mut(patch.first_verdict as usize);
     let turn = Turn {
-        options,
-        set,
-        patch,
+        task: Task {
+            options,
+            set,
+            patch,
+            is_first: k == 0,
+        },
         count: k,
         verdicts: before,
         written,
@@ -178,20 +182,20 @@ fn apply_front<P: Plan, T: Tree, O: Sink>(
     out: &mut O,
 ) -> Result<Done, RunFault>
     requires turn { IsTurn turn.now }
-    requires size { (P.seen plan.old).size ≡ turn.now.options.now.buffer }
-    requires rows { row_count turn.now.patch.now.change ≤ length verdicts.old }
+    requires size { (P.seen plan.old).size ≡ turn.now.task.options.now.buffer }
+    requires rows { row_count turn.now.task.patch.now.change ≤ length verdicts.old }
     requires quiet { IsQuiet (T.view tree.old) }
-    ensures does { Does (T.view tree.old) (T.view tree.new) (P.seen plan.old) (P.seen plan.new) (O.view out.old) (O.view out.new) P.scratch_after result (take (row_count turn.now.patch.now.change) verdicts.new) (ending (plain_turn turn.now)) }
-    ensures behind { drop (row_count turn.now.patch.now.change) verdicts.new ≡ drop (row_count turn.now.patch.now.change) verdicts.old }
+    ensures does { Does (T.view tree.old) (T.view tree.new) (P.seen plan.old) (P.seen plan.new) (O.view out.old) (O.view out.new) P.scratch_after result (take (row_count turn.now.task.patch.now.change) verdicts.new) (ending (plain_turn turn.now)) }
+    ensures behind { drop (row_count turn.now.task.patch.now.change) verdicts.new ≡ drop (row_count turn.now.task.patch.now.change) verdicts.old }
     ensures verdicts { length verdicts.new ≡ length verdicts.old }
     ensures rest { O.same_rest out.old out.new }
-    ensures dry { turn.now.options.now.dry_run ≡ true → IsUntouched (T.view tree.old) (T.view tree.new) }
+    ensures dry { turn.now.task.options.now.dry_run ≡ true → IsUntouched (T.view tree.old) (T.view tree.new) }
     ensures few { IfOk result (λ done. done.effects ≤ 5) }
     ensures placed { IfOk result (λ done. (lines : List (List ℕ)) → (P.seen plan.new).told ≡ Some lines
-        → (take (row_count turn.now.patch.now.change) verdicts.new ≡ replicate (row_count turn.now.patch.now.change) Ignored)
-        ⊎ (take (row_count turn.now.patch.now.change) verdicts.new ≡ change_verdicts lines turn.now.options.now.fuzz turn.now.options.now.loose done.row.side (plain_turn turn.now).item.patch.change)) }
+        → (take (row_count turn.now.task.patch.now.change) verdicts.new ≡ replicate (row_count turn.now.task.patch.now.change) Ignored)
+        ⊎ (take (row_count turn.now.task.patch.now.change) verdicts.new ≡ change_verdicts lines turn.now.task.options.now.fuzz turn.now.task.options.now.loose done.row.side (plain_turn turn.now).item.patch.change)) }
 {
-    let count = turn.patch.hunks() as usize;
+    let count = turn.task.patch.hunks() as usize;
     let own = &mut verdicts[..count];
     apply_one(turn, own, plan, tree, out)
 }

@@ -16,8 +16,6 @@ ghost use Rattle.patch_run.specs.Trying.{IsSession};
 ghost use Rattle.patch_effects.specs.Named.{IsNamed};
 ghost use Rattle.patch_run.specs.TurnView.{plain_turn, IsTurn};
 
-use crate::asking::{acts_deleted, is_bare, takes_files};
-use crate::names::{shown, shown_reject};
 use crate::turn::Turn;
 use ed_form::EdScript;
 use file_patch::Change;
@@ -25,6 +23,7 @@ use hunk_apply::Session;
 use hunk_core::{Hunk, Side, Verdict};
 use outside::{Failed, Sink};
 use patch_options::Options;
+use patch_start::{acts_deleted, is_bare, shown, shown_reject, takes_files};
 use reject_text::placed_growth;
 use say_text::{say_failed, say_failures, say_not_deleting, say_placed};
 use target_names::Target;
@@ -40,7 +39,7 @@ pub fn tell<O: Sink>(
 ) -> Result<(), Failed>
     requires turn { IsTurn turn.now }
     requires named { IsNamed target.now }
-    requires rows { length verdicts.now ≡ row_count turn.now.patch.now.change }
+    requires rows { length verdicts.now ≡ row_count turn.now.task.patch.now.change }
     requires tried { All IsTried verdicts.now }
     ensures writes { (x : Tried) → x.side ≡ side → x.verdicts ≡ verdicts.now → IsSession session.now x.verdicts x.text → Writes (O.view out.old) (O.view out.new) result (tried_said (plain_turn turn.now) target.now x) }
     ensures call { IsSinkCall (O.view out.old) (O.view out.new) result }
@@ -59,16 +58,23 @@ fn say_change<O: Sink>(
     out: &mut O,
 ) -> Result<(), Failed>
     requires turn { IsTurn turn.now }
-    requires rows { length verdicts.now ≡ row_count turn.now.patch.now.change }
+    requires rows { length verdicts.now ≡ row_count turn.now.task.patch.now.change }
     requires tried { All IsTried verdicts.now }
     ensures writes { Writes (O.view out.old) (O.view out.new) result (change_said (plain_turn turn.now).options side (plain_turn turn.now).item.patch.change verdicts.now) }
     ensures rest { O.same_rest out.old out.new }
 {
-    match &turn.patch.change {
+    match &turn.task.patch.change {
         Change::Hunks(hunks) => {
-            say_hunks(turn.options, turn.set.text(), hunks, side, verdicts, out)
+            say_hunks(
+                turn.task.options,
+                turn.task.set.text(),
+                hunks,
+                side,
+                verdicts,
+                out,
+            )
         }
-        Change::Script(script) => say_script(turn.options, script, verdicts, out),
+        Change::Script(script) => say_script(turn.task.options, script, verdicts, out),
     }
 }
 
@@ -166,7 +172,7 @@ fn say_kept<O: Sink>(
     ensures rest { O.same_rest out.old out.new }
 {
     if is_kept(turn, side, session) {
-        say_not_deleting(turn.options, shown(target), out)
+        say_not_deleting(turn.task.options, shown(target), out)
     } else {
         Ok(())
     }
@@ -185,13 +191,13 @@ pub fn is_taken_away(turn: &Turn<'_>, side: Side, session: &Session) -> bool
     requires turn { IsTurn turn.now }
     ensures { (x : Tried) → x.side ≡ side → IsSession session.now x.verdicts x.text → result ≡ is_taken_away (plain_turn turn.now) x }
 {
-    if !takes_files(turn.options) {
+    if !takes_files(turn.task.options) {
         return false;
     }
-    if is_bare(turn.patch) {
-        acts_deleted(turn.patch, side)
+    if is_bare(turn.task.patch) {
+        acts_deleted(turn.task.patch, side)
     } else {
-        turn.patch.deletes(side) && session.applied > 0
+        turn.task.patch.deletes(side) && session.applied > 0
     }
 }
 
@@ -213,9 +219,9 @@ fn say_rejected<O: Sink>(
     }
     let reject = named_reject(turn, target);
     say_failures(
-        turn.options,
+        turn.task.options,
         session.failed,
-        turn.patch.hunks(),
+        turn.task.patch.hunks(),
         reject,
         out,
     )
@@ -227,7 +233,7 @@ fn named_reject<'a>(turn: &Turn<'_>, target: &'a Target) -> Option<&'a str>
     requires named { IsNamed target.now }
     ensures { option_copied result ≡ named_reject (plain_turn turn.now) target.now }
 {
-    if turn.options.dry_run || is_unrejected(turn.options, &turn.patch.change) {
+    if turn.task.options.dry_run || is_unrejected(turn.task.options, &turn.task.patch.change) {
         None
     } else {
         Some(shown_reject(target))

@@ -1,17 +1,13 @@
 //! A file patch whose turn it is.
 
-use file_patch::FilePatch;
 use hunk_core::Verdict;
 use name_marks::NameMarks;
-use patch_options::Options;
-use patch_set::PatchSet;
+use patch_start::Task;
 
 /// A file patch of a set whose turn it is, and what the run knows of those before it.
 #[derive(Drop)]
 pub struct Turn<'a> {
-    pub options: &'a Options,
-    pub set: &'a PatchSet,
-    pub patch: &'a FilePatch,
+    pub task: Task<'a>,
     /// How many file patches stand before it.
     pub count: u32,
     /// The verdicts on the hunks of those.

@@ -23,17 +23,17 @@ returns-in_err-tell-clause-broken g c =
 pub returns-in-Some-clause-whole : goal.returns-in-Some-clause-whole
 returns-in-Some-clause-whole g c =
     tell_made (plain_turn c.args.turn.now) c.args.source.now c.args.target.now c.args.attempt.session c.args.side c.args.verdicts.now (g.T.Tree.view c.args.tree.now) (g.T.Tree.view c.make_effects.new.tree) (g.O.Sink.view c.args.out.now) (g.O.Sink.view c.tell.new.out)
-    c.in-Some.temp (subst (λ (o : Option Temp). IsBegun c.args.turn.now.options.now.dry_run o c.args.target.now.temp) c.in-Some.is c.requires.begun) (λ y side vs counts. (c.in_ok-tell.ensures.writes y side vs counts).received) c.make_effects.result c.make_effects.ensures.makes c.make_effects.ensures.gone c.make_effects.ensures.wrote c.make_effects.ensures.count
+    c.in-Some.temp (subst (λ (o : Option Temp). IsBegun c.args.turn.now.task.options.now.dry_run o c.args.target.now.temp) c.in-Some.is c.requires.begun) (λ y side vs counts. (c.in_ok-tell.ensures.writes y side vs counts).received) c.make_effects.result c.make_effects.ensures.makes c.make_effects.ensures.gone c.make_effects.ensures.wrote c.make_effects.ensures.count
 
 pub returns-in-Some-clause-broken : goal.returns-in-Some-clause-broken
 returns-in-Some-clause-broken g c =
     tell_breaks (plain_turn c.args.turn.now) c.args.source.now c.args.target.now c.args.attempt.session c.args.side c.args.verdicts.now (g.T.Tree.view c.args.tree.now) (g.T.Tree.view c.make_effects.new.tree) (g.O.Sink.view c.args.out.now) (g.O.Sink.view c.tell.new.out)
-    c.in-Some.temp (subst (λ (o : Option Temp). IsBegun c.args.turn.now.options.now.dry_run o c.args.target.now.temp) c.in-Some.is c.requires.begun) (λ y side vs counts. (c.in_ok-tell.ensures.writes y side vs counts).received) c.make_effects.result c.make_effects.ensures.makes
+    c.in-Some.temp (subst (λ (o : Option Temp). IsBegun c.args.turn.now.task.options.now.dry_run o c.args.target.now.temp) c.in-Some.is c.requires.begun) (λ y side vs counts. (c.in_ok-tell.ensures.writes y side vs counts).received) c.make_effects.result c.make_effects.ensures.makes
 
 pub returns-in-None-clause-whole : goal.returns-in-None-clause-whole
 returns-in-None-clause-whole g c f x told is =
     let u = g.T.Tree.view c.args.tree.now in
-    let begun : IsBegun c.args.turn.now.options.now.dry_run None c.args.target.now.temp = subst (λ (o : Option Temp). IsBegun c.args.turn.now.options.now.dry_run o c.args.target.now.temp) c.in-None.is c.requires.begun in
+    let begun : IsBegun c.args.turn.now.task.options.now.dry_run None c.args.target.now.temp = subst (λ (o : Option Temp). IsBegun c.args.turn.now.task.options.now.dry_run o c.args.target.now.temp) c.in-None.is c.requires.begun in
     tell_dry (plain_turn c.args.turn.now) c.args.source.now c.args.target.now c.args.attempt.session c.args.side c.args.verdicts.now u u (g.O.Sink.view c.args.out.now) (g.O.Sink.view c.tell.new.out) f x begun c.requires.quiet told
     (λ y side vs counts. (c.in_ok-tell.ensures.writes y side vs counts).received) is
 
@@ -42,8 +42,8 @@ returns-in_err-tell-clause-dry g c dry = untouched_none (g.T.Tree.view c.args.tr
 
 pub returns-in-Some-clause-dry : goal.returns-in-Some-clause-dry
 returns-in-Some-clause-dry g c dry =
-    let begun = subst (λ (o : Option Temp). IsBegun c.args.turn.now.options.now.dry_run o c.args.target.now.temp) c.in-Some.is c.requires.begun in
-    absurd (false≢true (sym (is_wet c.args.turn.now.options.now.dry_run c.args.target.now.temp c.in-Some.temp begun) ∙ dry))
+    let begun = subst (λ (o : Option Temp). IsBegun c.args.turn.now.task.options.now.dry_run o c.args.target.now.temp) c.in-Some.is c.requires.begun in
+    absurd (false≢true (sym (is_wet c.args.turn.now.task.options.now.dry_run c.args.target.now.temp c.in-Some.temp begun) ∙ dry))
 
 pub returns-in-None-clause-dry : goal.returns-in-None-clause-dry
 returns-in-None-clause-dry g c dry = untouched_none (g.T.Tree.view c.args.tree.now)
@@ -52,7 +52,7 @@ pub returns-in_err-tell-clause-order : goal.returns-in_err-tell-clause-order
 returns-in_err-tell-clause-order g c =
     let u = g.T.Tree.view c.args.tree.now in
     if_any
-    (λ (e : RunFault). (x : Tried) → IsOutcome c.args.turn.now.options.now.dry_run u c.args.attempt.session c.args.target.now.temp c.args.side c.args.verdicts.now x
+    (λ (e : RunFault). (x : Tried) → IsOutcome c.args.turn.now.task.options.now.dry_run u c.args.attempt.session c.args.target.now.temp c.args.side c.args.verdicts.now x
     → IsOrdered e u u (g.O.Sink.view c.args.out.now) (g.O.Sink.view c.tell.new.out) (tried_said (plain_turn c.args.turn.now) c.args.target.now x))
     c.from_residual.result (λ e x is. inl (unmade (made_none u c.requires.quiet)))
 
@@ -66,8 +66,8 @@ returns-in-None-clause-tidy g c = tidy_none (g.T.Tree.view c.args.tree.now)
 
 pub returns-in-None-clause-gone : goal.returns-in-None-clause-gone
 returns-in-None-clause-gone g c wet =
-    let begun : IsBegun c.args.turn.now.options.now.dry_run None c.args.target.now.temp = subst (λ (o : Option Temp). IsBegun c.args.turn.now.options.now.dry_run o c.args.target.now.temp) c.in-None.is c.requires.begun in
-    absurd (false≢true (sym wet ∙ is_dry c.args.turn.now.options.now.dry_run c.args.target.now.temp begun))
+    let begun : IsBegun c.args.turn.now.task.options.now.dry_run None c.args.target.now.temp = subst (λ (o : Option Temp). IsBegun c.args.turn.now.task.options.now.dry_run o c.args.target.now.temp) c.in-None.is c.requires.begun in
+    absurd (false≢true (sym wet ∙ is_dry c.args.turn.now.task.options.now.dry_run c.args.target.now.temp begun))
 
 pub returns-in_err-tell-clause-rest : goal.returns-in_err-tell-clause-rest
 returns-in_err-tell-clause-rest g c = c.in_err-tell.ensures.rest

@@ -123,7 +123,7 @@ pub returns-clause-tidy : goal.returns-clause-tidy
 returns-clause-tidy g c =
     let view = g.T.Tree.view in
     let made = c.in_ok-made.ensures in
-    attempt_tidy (view c.args.tree.now) (view c.try_hunks.new.tree) (view c.tell_and_make.new.tree) c.args.turn.now.options.now.dry_run c.written-target.result.now.temp
+    attempt_tidy (view c.args.tree.now) (view c.try_hunks.new.tree) (view c.tell_and_make.new.tree) c.args.turn.now.task.options.now.dry_run c.written-target.result.now.temp
     (λ dry. subst (λ s. IsTidy (view s) (view c.tell_and_make.new.tree)) (c.in_ok-attempt.ensures.dry dry) made.tidy) made.gone c.in_ok-attempt.ensures.works made.tidy
 
 pub returns-in_err-attempt-clause-keeps : goal.returns-in_err-attempt-clause-keeps
@@ -171,4 +171,4 @@ returns-clause-few g c = omega (arith, c.done_of.ensures.effects, c.in_ok-made.e
 pub returns-clause-placed : goal.returns-clause-placed
 returns-clause-placed g c lines told =
     c.in_ok-attempt.ensures.verdicts lines (sym c.in_ok-attempt.ensures.keeps.told ∙ told)
-    ∙ ap (λ (r : Row). change_verdicts lines c.args.turn.now.options.now.fuzz c.args.turn.now.options.now.loose r.side (plain_turn c.args.turn.now).item.patch.change) (sym c.done_of.ensures.row)
+    ∙ ap (λ (r : Row). change_verdicts lines c.args.turn.now.task.options.now.fuzz c.args.turn.now.task.options.now.loose r.side (plain_turn c.args.turn.now).item.patch.change) (sym c.done_of.ensures.row)

@@ -7,7 +7,7 @@ use Rattle.patch_run.proofs.fill.try_into.Goals as goal
 
 pub try_parted-requires-clause-define : goal.try_parted-requires-clause-define
 try_parted-requires-clause-define g c =
-    subst (λ (n : List ℕ). IsMacroName n) (sym c.deref.ensures) (c.requires.turn.ready.define (string_bytes c.in-Some.define) (ap (option_map string_bytes) c.in-Some.is))
+    subst (λ (n : List ℕ). IsMacroName n) (sym c.deref.ensures) (c.requires.turn.task.ready.define (string_bytes c.in-Some.define) (ap (option_map string_bytes) c.in-Some.is))
 
 pub returns-in-Some-clause-received : goal.returns-in-Some-clause-received
 returns-in-Some-clause-received g c =

@@ -20,7 +20,7 @@ returns-in_err-put_if_to-clause-writes g c =
     let past = (plain_turn t).past in
     let n = c.args.name.now in
     let k = c.loop-k.k in
-    let all : length past ≡ t.count = marks-length (plain_options t.options.now) t.set.now t.count t.verdicts.now c.requires.turn.within c.requires.turn.ready.rows in
+    let all : length past ≡ t.count = marks-length (plain_options t.task.options.now) t.task.set.now t.count t.verdicts.now c.requires.turn.within c.requires.turn.task.ready.rows in
     let mark = c.earlier_patch.ensures.mark no_mark in
     let stop = writes_is c.from_residual.result _ (writes_stop c.in_err-put_if_to.field-0.0 c.from_residual.result (rejected_before (drop (k + 1) past) n) c.from_residual.ensures.0
     (writes_then tt (Err c.in_err-put_if_to.field-0.0) c.loop-k.invariant.writes (writes_is (Err c.in_err-put_if_to.field-0.0) _ c.in_err-put_if_to.ensures.writes (ap (λ (m : Mark). text_if n m.rejected) (sym mark))))) in
@@ -32,7 +32,7 @@ loop-k-preserved g c =
     let past = (plain_turn t).past in
     let n = c.args.name.now in
     let k = c.loop-k.k in
-    let all : length past ≡ t.count = marks-length (plain_options t.options.now) t.set.now t.count t.verdicts.now c.requires.turn.within c.requires.turn.ready.rows in
+    let all : length past ≡ t.count = marks-length (plain_options t.task.options.now) t.task.set.now t.count t.verdicts.now c.requires.turn.within c.requires.turn.task.ready.rows in
     let mark = c.earlier_patch.ensures.mark no_mark in
     record {
       writes = writes_is (Ok tt) _ (writes_then tt (Ok tt) c.loop-k.invariant.writes (writes_is (Ok tt) _ c.in_ok-put_if_to.ensures.writes (ap (λ (m : Mark). text_if n m.rejected) (sym mark)))) (rejected-more past k no_mark n (omega arith));
@@ -43,5 +43,5 @@ pub returns-clause-writes : goal.returns-clause-writes
 returns-clause-writes g c =
     let t = c.args.turn.now in
     let past = (plain_turn t).past in
-    let all : length past ≡ t.count = marks-length (plain_options t.options.now) t.set.now t.count t.verdicts.now c.requires.turn.within c.requires.turn.ready.rows in
+    let all : length past ≡ t.count = marks-length (plain_options t.task.options.now) t.task.set.now t.count t.verdicts.now c.requires.turn.within c.requires.turn.task.ready.rows in
     writes_is (Ok tt) _ c.loop-k.invariant.writes (ap (λ (l : List Mark). rejected_before l c.args.name.now) (take_all c.loop-k.k past (omega arith)))

@@ -5,7 +5,7 @@ use Rattle.outside.specs.Calls.{IsUntouched}
 use Rattle.patch_options.specs.PlainJob.{plain_options}
 use Rattle.patch_set.specs.Room.{HaveRoom}
 use Rattle.patch_set.specs.SetView.{hunks_in}
-use Rattle.patch_run.specs.Devices.{Told}
+use Rattle.patch_start.specs.Devices.{Told}
 use Rattle.patch_run.specs.Doing.{StaysSet}
 use Rattle.patch_run.specs.Ready.{AreWritten, marks}
 use Rattle.patch_run.proofs.Going.{Goes, IsAt, run_to}

@@ -1,4 +1,4 @@
-use Rattle.std.proofs.Common.{◌≡◌, ◌⊎◌, ◌+◌, ◌++◌, ℕ, List, length, take, drop, get_or, replicate, Some, sym, ◌∙◌, ap, subst, arith}
+use Rattle.std.proofs.Common.{◌≡◌, ◌⊎◌, ◌+◌, ◌++◌, ℕ, List, length, take, drop, get_or, replicate, Some, refl, sym, ◌∙◌, ap, subst, arith}
 use Rattle.std.proofs.lemmas.List.{take_at, drop_at, drop-drop}
 use Rattle.std.proofs.lemmas.List.Elements.{All-get_or}
 use Rattle.std.proofs.lemmas.Result.{IfOk-weaker}
@@ -29,8 +29,11 @@ apply_front-requires-clause-turn g c =
     let q = c.index-patches-k.result in
     let at : q ≡ get_or v.patches c.args.k q = c.index-patches-k.is ∙ ap (λ (l : List FilePatch). get_or l c.args.k q) c.patches.ensures.patches in
     record {
-      ready = c.requires.ready;
-      fit = subst (λ (p : FilePatch). IsFit v.text p) (sym at) (All-get_or (IsFit v.text) v.patches c.args.k q c.requires.within c.requires.ready.patches);
+      task = record {
+        ready = c.requires.ready;
+        fit = subst (λ (p : FilePatch). IsFit v.text p) (sym at) (All-get_or (IsFit v.text) v.patches c.args.k q c.requires.within c.requires.ready.patches);
+      };
+      first = refl;
       within = omega (arith, c.requires.within);
       past = all-first v.patches c.args.k q (length c.split_at_mut-before.result.0.now) c.requires.numbered c.requires.within at (omega (arith, c.split_at_mut-before.ensures.front_len));
       written = subst (λ (past : List Mark). AreWritten c.args.written.now past)

@@ -12,8 +12,8 @@ use Rattle.patch_run.proofs.set.apply_front.Goals as goal
 
 pub returns-clause-does : goal.returns-clause-does
 returns-clause-does g c =
-    let n = row_count c.args.turn.now.patch.now.change in
-    let is : c.hunks-count.result ≡ n = c.hunks-count.ensures [] ∙ rows-counted [] c.args.turn.now.patch.now.change in
+    let n = row_count c.args.turn.now.task.patch.now.change in
+    let is : c.hunks-count.result ≡ n = c.hunks-count.ensures [] ∙ rows-counted [] c.args.turn.now.task.patch.now.change in
     let ws = c.apply_one.new.verdicts in
     let long : length ws ≡ n = omega (arith, c.apply_one.ensures.rows, length-take c.hunks-count.result c.args.verdicts.now, is, c.requires.rows) in
     subst (λ (l : List Verdict). Does (g.T.Tree.view c.args.tree.now) (g.T.Tree.view c.apply_one.new.tree) (g.P.LineStore.seen c.args.plan.now) (g.P.LineStore.seen c.apply_one.new.plan) (g.O.Sink.view c.args.out.now) (g.O.Sink.view c.apply_one.new.out) g.P.Plan.scratch_after c.apply_one.result l (ending (plain_turn c.args.turn.now)))
@@ -22,16 +22,16 @@ returns-clause-does g c =
 
 pub returns-clause-behind : goal.returns-clause-behind
 returns-clause-behind g c =
-    let n = row_count c.args.turn.now.patch.now.change in
-    let is : c.hunks-count.result ≡ n = c.hunks-count.ensures [] ∙ rows-counted [] c.args.turn.now.patch.now.change in
+    let n = row_count c.args.turn.now.task.patch.now.change in
+    let is : c.hunks-count.result ≡ n = c.hunks-count.ensures [] ∙ rows-counted [] c.args.turn.now.task.patch.now.change in
     let ws = c.apply_one.new.verdicts in
     let long : length ws ≡ n = omega (arith, c.apply_one.ensures.rows, length-take c.hunks-count.result c.args.verdicts.now, is, c.requires.rows) in
     drop_at ws (drop c.hunks-count.result c.args.verdicts.now) n long ∙ ap (λ k. drop k c.args.verdicts.now) is
 
 pub returns-clause-verdicts : goal.returns-clause-verdicts
 returns-clause-verdicts g c =
-    let n = row_count c.args.turn.now.patch.now.change in
-    let is : c.hunks-count.result ≡ n = c.hunks-count.ensures [] ∙ rows-counted [] c.args.turn.now.patch.now.change in
+    let n = row_count c.args.turn.now.task.patch.now.change in
+    let is : c.hunks-count.result ≡ n = c.hunks-count.ensures [] ∙ rows-counted [] c.args.turn.now.task.patch.now.change in
     let rest = drop c.hunks-count.result c.args.verdicts.now in
     omega (arith, length-append c.apply_one.new.verdicts rest, length-drop c.hunks-count.result c.args.verdicts.now, c.apply_one.ensures.rows, length-take c.hunks-count.result c.args.verdicts.now, is, c.requires.rows)
 
@@ -46,12 +46,12 @@ returns-clause-few g c = c.apply_one.ensures.few
 
 pub returns-clause-placed : goal.returns-clause-placed
 returns-clause-placed g c =
-    let n = row_count c.args.turn.now.patch.now.change in
+    let n = row_count c.args.turn.now.task.patch.now.change in
     let count = c.hunks-count.result in
-    let is : count ≡ n = c.hunks-count.ensures [] ∙ rows-counted [] c.args.turn.now.patch.now.change in
+    let is : count ≡ n = c.hunks-count.ensures [] ∙ rows-counted [] c.args.turn.now.task.patch.now.change in
     let ws = c.apply_one.new.verdicts in
     let own : length (take count c.args.verdicts.now) ≡ n = omega (arith, length-take count c.args.verdicts.now, is, c.requires.rows) in
-    let o = c.args.turn.now.options.now in
+    let o = c.args.turn.now.task.options.now in
     let placed : List Verdict → ℕ → Type 0 = λ l m. IfOk c.apply_one.result (λ done. (lines : List (List ℕ)) → (g.P.LineStore.seen c.apply_one.new.plan).told ≡ Some lines
     → (l ≡ replicate m Ignored) ⊎ (l ≡ change_verdicts lines o.fuzz o.loose done.row.side (plain_turn c.args.turn.now).item.patch.change)) in
     subst (λ (l : List Verdict). placed l n) (sym (take_at ws (drop count c.args.verdicts.now) n (c.apply_one.ensures.rows ∙ own)))

@@ -1,0 +1,6 @@
+mod Getting
+mod Runs
+mod StartSteps
+mod StartTaken
+mod Deciding
+pub mod Places

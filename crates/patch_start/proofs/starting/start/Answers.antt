@@ -1,0 +1,39 @@
+use Rattle.std.proofs.Common.{◌≡◌, Bool, List, [], if◌then◌else◌, refl, sym, ap}
+use Rattle.outside.specs.Files.{Files}
+use Rattle.outside.proofs.Writing.{writes_is}
+use Rattle.name_choice.specs.declared.Choice.{Choice}
+use Rattle.name_choice.specs.declared.Choice.TheVariants.{Existing, Create, Nothing}
+use Rattle.say_text.specs.Messages.{skipping_lines}
+use Rattle.patch_start.specs.Turns.{Mark, PlainTurn}
+use Rattle.patch_start.specs.Start.{on_choice, choice_of, skipped_said, own_start, start}
+use Rattle.patch_start.specs.TaskView.{plain_task, with_past}
+use Rattle.patch_start.proofs.StartSteps.{starts_said, starts_unsaid, starts_is, begins_first}
+use Rattle.patch_start.proofs.starting.start.Goals as goal
+
+-- once its first words are said, a file patch is taken alike whatever was before it
+module _ (past : List Mark) (t : PlainTurn) (f : Files) where
+  chosen_same : (x : Choice) → on_choice t f x ≡ on_choice (with_past past t) f x
+  chosen_same (Existing k) = refl
+  chosen_same (Create k) = refl
+  chosen_same Nothing = refl
+
+  own_same : own_start t f ≡ own_start (with_past past t) f
+  own_same = chosen_same (choice_of t f)
+
+said_if : (t : PlainTurn) (first other : Bool) → first ≡ other → (if other then skipping_lines t.item.skipped else []) ≡ (if first then skipping_lines t.item.skipped else [])
+said_if t first other is = ap (λ (b : Bool). if b then skipping_lines t.item.skipped else []) (sym is)
+
+pub returns-in_err-tell_skipped-clause-starts : goal.returns-in_err-tell_skipped-clause-starts
+unfolding start
+returns-in_err-tell_skipped-clause-starts g c past first =
+    let t = plain_task c.args.task.now in
+    starts_unsaid _ _ c.in_err-tell_skipped.field-0.0 c.from_residual.result (λ f. start (with_past past t) f) c.from_residual.ensures.1
+    (writes_is _ _ c.in_err-tell_skipped.ensures.writes (said_if t _ _ first))
+    (λ f. begins_first (skipped_said (with_past past t)) (own_start (with_past past t) f))
+
+pub returns-clause-starts : goal.returns-clause-starts
+unfolding start
+returns-clause-starts g c past first =
+    let t = plain_task c.args.task.now in
+    starts_said c.in_ok-tell_skipped.field-0 c.start_own.result (writes_is _ _ c.in_ok-tell_skipped.ensures.writes (said_if t _ _ first))
+    (starts_is c.start_own.result (λ f. own_start (with_past past t) f) c.start_own.ensures.starts (λ f told. own_same past t f))

@@ -1,0 +1,178 @@
+-- How a file patch is taken: its file is chosen, and its hunks are tried from a side, or it is skipped (POSIX `patch`; GNU patch manual, "Invoking patch").
+use Rattle.std.specs.Prelude.{ℕ, List, [], ◌∷◌, ◌++◌, Bool, true, false, not, ◌&&◌, ◌||◌, if◌then◌else◌, bytes_eq, Option, None, Some, is_some, unwrap_or}
+use Rattle.std.specs.List.{list_any, slice_split}
+use Rattle.std.specs.FinMap.{get}
+use Rattle.line_list.specs.Lines.{lines}
+use Rattle.outside.specs.Files.{Files}
+use Rattle.hunk_core.specs.declared.Side.{Side}
+use Rattle.hunk_core.specs.PlainHunk.{PlainHunk}
+use Rattle.hunk_core.specs.Turned.{turned, other_side}
+use Rattle.hunk_place.specs.Verdicts.{looks_reversed}
+use Rattle.hunk_apply.specs.Written.{is_nothing}
+use Rattle.line_store.specs.declared.fault.OpenFault.{OpenFault}
+use Rattle.line_store.specs.Taking.{refusal}
+use Rattle.patch_header.specs.Values.{is_white}
+use Rattle.patch_header.specs.declared.git_lines.Action.{Action}
+use Rattle.patch_header.specs.declared.git_lines.Action.TheVariants.{Plain, New, Deleted, Rename, Copy}
+use Rattle.patch_options.specs.PlainJob.{PlainOptions}
+use Rattle.target_names.specs.declared.derived.Target.{Target}
+use Rattle.patch_set.specs.declared.set.Row.{Row}
+use Rattle.file_patch.specs.PlainPatch.{PlainChange, hunks, script}
+use Rattle.file_patch.specs.Absent.{creates}
+use Rattle.patch_set.specs.Asked.{is_posix}
+use Rattle.name_choice.specs.declared.Choice.{Choice}
+use Rattle.name_choice.specs.declared.Choice.TheVariants.{Existing, Create, Nothing}
+use Rattle.name_choice.specs.Choice.{choice, names_of, side_of}
+use Rattle.say_text.specs.Messages.{silenced, skipping_lines, patching_line, no_file_lines, prereq_line, reversed_line, exists_line}
+use Rattle.say_text.specs.Origins.{PlainOrigin}
+use Rattle.say_text.specs.Origins.PlainOrigin.{Itself, RenamedFrom, CopiedFrom}
+use Rattle.patch_start.specs.Asking.{moves}
+use Rattle.patch_start.specs.Turns.{Mark, PlainTurn, target_at, written, bytes_of, shown}
+
+-- how a file patch is taken, once this was said: it is skipped, and what its row holds; or its file isn't taken; or its hunks are tried from a side
+pub data Start : Type 0 where
+  skips : List ℕ → Row → Option (List ℕ) → Start
+  refuses : List ℕ → OpenFault → Start
+  tries : List ℕ → ℕ → Side → Start
+
+-- this was said first
+abbrev pub said_first : List ℕ → Start → Start
+said_first text (skips said row taken) = skips (text ++ said) row taken
+said_first text (refuses said fault) = refuses (text ++ said) fault
+said_first text (tries said place side) = tries (text ++ said) place side
+
+-- skipped once a name was chosen
+abbrev pub skips_at : List ℕ → ℕ → Side → Option (List ℕ) → Start
+skips_at said place side taken = skips said (record { side = side; target = Some place; wrote = false }) taken
+
+abbrev pub lines_in : Option (List ℕ) → List (List ℕ)
+lines_in None = []
+lines_in (Some bytes) = lines bytes
+
+-- the first hunk of a change, if it has hunks
+abbrev pub first_hunk : PlainChange → Option PlainHunk
+first_hunk (hunks []) = None
+first_hunk (hunks (h ∷ hs)) = Some h
+first_hunk (script es) = None
+
+abbrev pub is_reversed : PlainOptions → List (List ℕ) → Side → Option PlainHunk → Bool
+is_reversed o ls side None = false
+is_reversed o ls side (Some h) = looks_reversed ls o.fuzz o.loose (turned side h)
+
+-- `-t` turns a file patch round that doesn't suit its file, unless `-N` outweighs it (GNU patch manual, "Applying Reversed Patches")
+abbrev pub turns : PlainOptions → Bool
+turns o = o.batch && not o.forward
+
+-- a rename or a copy is never turned round
+abbrev pub turns_round : PlainTurn → Bool
+turns_round t = turns t.options && not (moves t.item.patch)
+
+-- its hunks are tried; where the first looks reversed it is turned round, or skipped; with `-f`, or once turned round, that isn't asked
+abbrev pub on_direction : PlainTurn → ℕ → Option (List ℕ) → Bool → Side → Start
+on_direction t place bytes was_turned side =
+    if t.options.force || was_turned || not (is_reversed t.options (lines_in bytes) side (first_hunk t.item.patch.change)) then tries [] place side
+    else if turns_round t then tries (silenced t.options (reversed_line true)) place (other_side side)
+    else skips_at (silenced t.options (reversed_line false)) place side bytes
+
+-- some run of bytes between white space is the word; a line feed is white space, so a run lies in one line
+abbrev pub line_has_word : List ℕ → List ℕ → Bool
+line_has_word word line = list_any (bytes_eq word) (slice_split is_white line)
+
+abbrev pub has_word : List ℕ → List (List ℕ) → Bool
+has_word word ls = list_any (line_has_word word) ls
+
+-- a file that is there lacks the word of the `Prereq:` line
+abbrev pub lacks_word : Option (List ℕ) → Option (List ℕ) → Bool
+lacks_word None bytes = false
+lacks_word (Some word) None = false
+lacks_word (Some word) (Some bytes) = not (has_word word (lines bytes))
+
+abbrev pub prereq_said : PlainTurn → List ℕ
+prereq_said t = silenced t.options (prereq_line t.options.force (unwrap_or t.item.patch.header.prereq []))
+
+abbrev pub on_prereq : PlainTurn → ℕ → Option (List ℕ) → Bool → Side → Start
+on_prereq t place bytes was_turned side =
+    if not (lacks_word t.item.patch.header.prereq bytes) then on_direction t place bytes was_turned side
+    else if t.options.force then said_first (prereq_said t) (on_direction t place bytes was_turned side)
+    else skips_at (prereq_said t) place side bytes
+
+-- the file is taken, if it is there and its lines fit the buffer
+abbrev pub refusal_of : ℕ → Option (List ℕ) → Option OpenFault
+refusal_of size None = None
+refusal_of size (Some bytes) = refusal size bytes
+
+abbrev pub refused_or : Option OpenFault → Start → Start
+refused_or None later = later
+refused_or (Some fault) later = refuses [] fault
+
+abbrev pub on_taking : PlainTurn → ℕ → Option (List ℕ) → Bool → Side → Start
+on_taking t place bytes was_turned side = refused_or (refusal_of t.options.buffer bytes) (on_prereq t place bytes was_turned side)
+
+-- the file is there and has bytes
+abbrev pub has_bytes : Option (List ℕ) → Bool
+has_bytes None = false
+has_bytes (Some bytes) = not (is_nothing bytes)
+
+abbrev pub exists_said : PlainTurn → ℕ → Bool → List ℕ
+exists_said t place is_turned = silenced t.options (exists_line (shown (written t place)) is_turned)
+
+-- it would be made by the file patch, which is turned round, or skipped
+abbrev pub on_existing : PlainTurn → ℕ → Option (List ℕ) → Side → Start
+on_existing t place bytes side =
+    if turns_round t then said_first (exists_said t place true) (on_taking t place bytes true (other_side side))
+    else skips_at (exists_said t place false) place side None
+
+-- a file with bytes stands where one is made: at the chosen name, or at the name that a file is to get
+abbrev pub is_in_the_way : PlainTurn → Files → ℕ → Side → Bool
+is_in_the_way t files place side = if moves t.item.patch then has_bytes (get files (written t place).name)
+    else creates side t.item.patch && has_bytes (bytes_of t files place)
+
+-- with `-f` that isn't asked
+abbrev pub on_creation : PlainTurn → Files → ℕ → Side → Start
+on_creation t files place side =
+    if not (is_in_the_way t files place side) || t.options.force then on_taking t place (bytes_of t files place) false side
+    else on_existing t place (bytes_of t files place) side
+
+-- the name that a file had, which messages show behind the one that it gets
+abbrev pub origin_from : Action → List ℕ → PlainOrigin
+origin_from Plain name = Itself
+origin_from New name = Itself
+origin_from Deleted name = Itself
+origin_from Rename name = RenamedFrom name
+origin_from Copy name = CopiedFrom name
+
+abbrev pub origin_of : PlainTurn → ℕ → PlainOrigin
+origin_of t place = origin_from t.item.patch.header.action (shown (target_at t.item.targets place))
+
+-- the file that is named first: the chosen one, or what it is renamed or copied to
+abbrev pub named : PlainTurn → ℕ → Target
+named t place = if moves t.item.patch then written t place else target_at t.item.targets place
+
+abbrev pub patching_said : PlainTurn → ℕ → List ℕ
+patching_said t place = silenced t.options (patching_line t.options.dry_run t.options.output (shown (named t place)) (origin_of t place))
+
+abbrev pub on_target : PlainTurn → Files → ℕ → Start
+on_target t files place = said_first (patching_said t place) (on_creation t files place (side_of t.options.reverse))
+
+abbrev pub on_choice : PlainTurn → Files → Choice → Start
+on_choice t files (Existing k) = on_target t files k
+on_choice t files (Create k) = on_target t files k
+on_choice t files Nothing = skips (no_file_lines t.item.patch.header.opening) (record { side = side_of t.options.reverse; target = None; wrote = false }) None
+
+abbrev pub choice_of : PlainTurn → Files → Choice
+choice_of t files = choice t.item.patch.header.action (creates (side_of t.options.reverse) t.item.patch) (names_of t.item.targets) (is_some t.options.file) t.options.reverse (is_posix t.options) files
+
+-- the first of a run
+abbrev pub is_first : List Mark → Bool
+is_first [] = true
+is_first (m ∷ past) = false
+
+-- before anything else a run says which binary changes are passed over
+abbrev pub skipped_said : PlainTurn → List ℕ
+skipped_said t = if is_first t.past then skipping_lines t.item.skipped else []
+
+abbrev pub own_start : PlainTurn → Files → Start
+own_start t files = on_choice t files (choice_of t files)
+
+unfoldable pub start : PlainTurn → Files → Start
+start t files = said_first (skipped_said t) (own_start t files)

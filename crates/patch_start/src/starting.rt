@@ -1,0 +1,302 @@
+//! How a file patch is taken: whether its hunks are tried, and from which side.
+
+ghost use Rattle.std.specs.Prelude.{◌≡◌, ◌<◌, ℕ, List, [], length, if◌then◌else◌, is_some, false, Some, None, IfOk, IfErr, OnErr};
+ghost use Rattle.std.specs.FinMap.{get};
+ghost use Rattle.outside.specs.Files.{Files};
+ghost use Rattle.outside.specs.TreeView.{Rises};
+ghost use Rattle.outside.specs.Calls.{IsUntouched};
+ghost use Rattle.outside.specs.SinkView.{Writes};
+ghost use Rattle.name_choice.specs.Choice.{IsWithin as IsAmong, side_of};
+ghost use Rattle.say_text.specs.Messages.{no_file_lines, skipping_lines};
+ghost use Rattle.patch_effects.specs.declared.fault.RunFault.TheVariants.{Write};
+ghost use Rattle.patch_start.specs.Turns.{Mark, bytes_of};
+ghost use Rattle.patch_start.specs.Start.{has_bytes, is_in_the_way, start, own_start, is_first, choice_of, on_target, on_creation, on_existing, on_taking};
+ghost use Rattle.patch_start.specs.Starting.{Starts, Takes, IsPresent, IsWithin};
+ghost use Rattle.patch_start.specs.TaskView.{plain_task, with_past, IsTask};
+
+use crate::choices::turns_round;
+use crate::names::{chosen, named, origin, shown, written};
+use crate::task::Task;
+use crate::weighing::weigh;
+use hunk_core::Side;
+use line_store::{OpenFault, Plan};
+use name_choice::{Choice, choose};
+use outside::{Failed, Name, Sink, Tree};
+use patch_effects::RunFault;
+use patch_set::{Row, is_posix};
+use say_text::{say_exists, say_no_file, say_patching, say_skipped};
+
+/// What becomes of a file patch.
+#[derive(Clone, Copy, Debug, PartialEq, Eq)]
+pub enum Decision {
+    /// All its hunks are ignored.
+    Skip(Row),
+    /// Its hunks are tried on the chosen file from this side.
+    Try { place: u32, side: Side },
+}
+
+/// Says which binary changes are passed over, if none was before it. Then it chooses the file, says so, takes its lines, and
+/// decides. The tree is left as it is.
+pub fn start<P: Plan, T: Tree, O: Sink>(
+    task: &Task<'_>,
+    plan: &mut P,
+    tree: &mut T,
+    out: &mut O,
+) -> Result<Decision, RunFault>
+    requires task { IsTask task.now }
+    requires size { (P.seen plan.old).size ≡ task.now.options.now.buffer }
+    ensures starts { (past : List Mark) → is_first past ≡ task.now.is_first
+        → Starts (T.view tree.old) (T.view tree.new) (P.seen plan.old) (P.seen plan.new) (O.view out.old) (O.view out.new) P.scratch_after result (bytes_of (plain_task task.now)) (start (with_past past (plain_task task.now))) }
+    ensures rest { O.same_rest out.old out.new }
+    ensures within { IfOk result (IsWithin (length task.now.patch.now.targets.items)) }
+{
+    tell_skipped(task, out)?;
+    start_own(task, plan, tree, out)
+}
+
+/// Says which binary changes are passed over, before the first file patch of a run.
+fn tell_skipped<O: Sink>(task: &Task<'_>, out: &mut O) -> Result<(), Failed>
+    ensures writes { Writes (O.view out.old) (O.view out.new) result (if task.now.is_first then skipping_lines task.now.set.now.skipped else []) }
+    ensures rest { O.same_rest out.old out.new }
+{
+    if !task.is_first {
+        return Ok(());
+    }
+    say_skipped(task.set.skipped(), out)
+}
+
+/// Chooses the file, says so, takes its lines, and decides.
+fn start_own<P: Plan, T: Tree, O: Sink>(
+    task: &Task<'_>,
+    plan: &mut P,
+    tree: &mut T,
+    out: &mut O,
+) -> Result<Decision, RunFault>
+    requires task { IsTask task.now }
+    requires size { (P.seen plan.old).size ≡ task.now.options.now.buffer }
+    ensures starts { Starts (T.view tree.old) (T.view tree.new) (P.seen plan.old) (P.seen plan.new) (O.view out.old) (O.view out.new) P.scratch_after result (bytes_of (plain_task task.now)) (own_start (plain_task task.now)) }
+    ensures rest { O.same_rest out.old out.new }
+    ensures within { IfOk result (IsWithin (length task.now.patch.now.targets.items)) }
+{
+    let choice = match choose_target(task, tree) {
+        Ok(choice) => choice,
+        Err(_) => return Err(RunFault::Tree),
+    };
+    match choice {
+        Choice::Existing(place) => on_target(task, place, true, plan, tree, out),
+        Choice::Create(place) => on_target(task, place, false, plan, tree, out),
+        Choice::Nothing => without_target(task, out),
+    }
+}
+
+/// Chooses the target.
+fn choose_target<T: Tree>(task: &Task<'_>, tree: &mut T) -> Result<Choice, Failed>
+    requires task { IsTask task.now }
+    ensures untouched { IsUntouched (T.view tree.old) (T.view tree.new) }
+    ensures cause { OnErr result (Rises (T.view tree.old) (T.view tree.new)) }
+    ensures within { IfOk result (IsAmong (length task.now.patch.now.targets.items)) }
+    ensures chosen { IfOk result (λ chosen. (f : Files) → (T.view tree.old).told ≡ Some f → chosen ≡ choice_of (plain_task task.now) f) }
+    ensures there { IfOk result (λ chosen. (f : Files) → (T.view tree.new).told ≡ Some f → IsPresent (bytes_of (plain_task task.now) f) chosen) }
+{
+    let options = task.options;
+    choose(
+        task.patch,
+        options.file.is_some(),
+        options.reverse,
+        is_posix(options),
+        tree,
+    )
+}
+
+/// The file patch is skipped, since no file is found for it.
+fn without_target<O: Sink>(task: &Task<'_>, out: &mut O) -> Result<Decision, RunFault>
+    ensures writes { Writes (O.view out.old) (O.view out.new) result (no_file_lines task.now.patch.now.header.opening) }
+    ensures fault { IfErr result (λ e. e ≡ Write) }
+    ensures rest { O.same_rest out.old out.new }
+    ensures row { IfOk result (λ d. d ≡ Decision.Skip (record { side = side_of task.now.options.now.reverse; target = None; wrote = false })) }
+{
+    say_no_file(task.options, task.patch.header.opening, out)?;
+    Ok(Decision::Skip(Row {
+        side: own_side(task),
+        target: None,
+        wrote: false,
+    }))
+}
+
+/// The side that the options ask for.
+fn own_side(task: &Task<'_>) -> Side
+    ensures { result ≡ side_of task.now.options.now.reverse }
+{
+    if task.options.reverse {
+        Side::Reversed
+    } else {
+        Side::Forward
+    }
+}
+
+/// A file is chosen, which is there or isn't.
+fn on_target<P: Plan, T: Tree, O: Sink>(
+    task: &Task<'_>,
+    place: u32,
+    there: bool,
+    plan: &mut P,
+    tree: &mut T,
+    out: &mut O,
+) -> Result<Decision, RunFault>
+    requires task { IsTask task.now }
+    requires size { (P.seen plan.old).size ≡ task.now.options.now.buffer }
+    requires within { place < length task.now.patch.now.targets.items }
+    requires there { (f : Files) → (T.view tree.old).told ≡ Some f → there ≡ is_some (bytes_of (plain_task task.now) f place) }
+    ensures starts { Starts (T.view tree.old) (T.view tree.new) (P.seen plan.old) (P.seen plan.new) (O.view out.old) (O.view out.new) P.scratch_after result (bytes_of (plain_task task.now)) (λ f. on_target (plain_task task.now) f place) }
+    ensures rest { O.same_rest out.old out.new }
+    ensures within { IfOk result (IsWithin (length task.now.patch.now.targets.items)) }
+{
+    say_patching(
+        task.options,
+        shown(named(task, place)),
+        origin(task, place),
+        out,
+    )?;
+    on_creation(task, place, there, own_side(task), plan, tree, out)
+}
+
+/// Whether a file that is there and has bytes stands where one is made.
+fn is_in_the_way<T: Tree>(
+    task: &Task<'_>,
+    place: u32,
+    side: Side,
+    tree: &mut T,
+) -> Result<bool, Failed>
+    requires task { IsTask task.now }
+    requires within { place < length task.now.patch.now.targets.items }
+    ensures untouched { IsUntouched (T.view tree.old) (T.view tree.new) }
+    ensures cause { OnErr result (Rises (T.view tree.old) (T.view tree.new)) }
+    ensures way { IfOk result (λ yes. (f : Files) → (T.view tree.old).told ≡ Some f → yes ≡ is_in_the_way (plain_task task.now) f place side) }
+{
+    if task.patch.is_moved() {
+        return has_bytes(&written(task, place).name, tree);
+    }
+    if !task.patch.creates(side) {
+        return Ok(false);
+    }
+    has_bytes(&chosen(task, place).name, tree)
+}
+
+/// Whether a file is there and has bytes.
+fn has_bytes<T: Tree>(name: &Name, tree: &mut T) -> Result<bool, Failed>
+    ensures untouched { IsUntouched (T.view tree.old) (T.view tree.new) }
+    ensures cause { OnErr result (Rises (T.view tree.old) (T.view tree.new)) }
+    ensures bytes { IfOk result (λ yes. (f : Files) → (T.view tree.old).told ≡ Some f → yes ≡ has_bytes (get f name.now)) }
+{
+    match tree.size(name)? {
+        Some(size) => Ok(size > 0),
+        None => Ok(false),
+    }
+}
+
+fn on_creation<P: Plan, T: Tree, O: Sink>(
+    task: &Task<'_>,
+    place: u32,
+    there: bool,
+    side: Side,
+    plan: &mut P,
+    tree: &mut T,
+    out: &mut O,
+) -> Result<Decision, RunFault>
+    requires task { IsTask task.now }
+    requires size { (P.seen plan.old).size ≡ task.now.options.now.buffer }
+    requires within { place < length task.now.patch.now.targets.items }
+    requires there { (f : Files) → (T.view tree.old).told ≡ Some f → there ≡ is_some (bytes_of (plain_task task.now) f place) }
+    ensures starts { Starts (T.view tree.old) (T.view tree.new) (P.seen plan.old) (P.seen plan.new) (O.view out.old) (O.view out.new) P.scratch_after result (bytes_of (plain_task task.now)) (λ f. on_creation (plain_task task.now) f place side) }
+    ensures rest { O.same_rest out.old out.new }
+    ensures within { IfOk result (IsWithin (length task.now.patch.now.targets.items)) }
+{
+    let is_in_the_way = match is_in_the_way(task, place, side, tree) {
+        Ok(yes) => yes,
+        Err(_) => return Err(RunFault::Tree),
+    };
+    if !is_in_the_way || task.options.force {
+        on_taking(task, place, there, false, side, plan, tree, out)
+    } else {
+        on_existing(task, place, there, side, plan, tree, out)
+    }
+}
+
+/// The file is in the way: the file patch is turned round, or skipped.
+fn on_existing<P: Plan, T: Tree, O: Sink>(
+    task: &Task<'_>,
+    place: u32,
+    there: bool,
+    side: Side,
+    plan: &mut P,
+    tree: &mut T,
+    out: &mut O,
+) -> Result<Decision, RunFault>
+    requires task { IsTask task.now }
+    requires size { (P.seen plan.old).size ≡ task.now.options.now.buffer }
+    requires within { place < length task.now.patch.now.targets.items }
+    requires there { (f : Files) → (T.view tree.old).told ≡ Some f → there ≡ is_some (bytes_of (plain_task task.now) f place) }
+    ensures starts { Starts (T.view tree.old) (T.view tree.new) (P.seen plan.old) (P.seen plan.new) (O.view out.old) (O.view out.new) P.scratch_after result (bytes_of (plain_task task.now)) (λ f. on_existing (plain_task task.now) place (bytes_of (plain_task task.now) f place) side) }
+    ensures rest { O.same_rest out.old out.new }
+    ensures within { IfOk result (IsWithin (length task.now.patch.now.targets.items)) }
+{
+    let is_turned = turns_round(task);
+    say_exists(task.options, shown(written(task, place)), is_turned, out)?;
+    if is_turned {
+        on_taking(task, place, there, true, side.other(), plan, tree, out)
+    } else {
+        Ok(skip_at(place, side))
+    }
+}
+
+/// All hunks are ignored, though a file was chosen.
+pub fn skip_at(place: u32, side: Side) -> Decision
+    ensures { result ≡ Decision.Skip (record { side = side; target = Some place; wrote = false }) }
+{
+    Decision::Skip(Row {
+        side,
+        target: Some(place),
+        wrote: false,
+    })
+}
+
+/// The file is taken, and weighed.
+fn on_taking<P: Plan, T: Tree, O: Sink>(
+    task: &Task<'_>,
+    place: u32,
+    there: bool,
+    was_turned: bool,
+    side: Side,
+    plan: &mut P,
+    tree: &mut T,
+    out: &mut O,
+) -> Result<Decision, RunFault>
+    requires task { IsTask task.now }
+    requires size { (P.seen plan.old).size ≡ task.now.options.now.buffer }
+    requires within { place < length task.now.patch.now.targets.items }
+    requires there { (f : Files) → (T.view tree.old).told ≡ Some f → there ≡ is_some (bytes_of (plain_task task.now) f place) }
+    ensures starts { Starts (T.view tree.old) (T.view tree.new) (P.seen plan.old) (P.seen plan.new) (O.view out.old) (O.view out.new) P.scratch_after result (bytes_of (plain_task task.now)) (λ f. on_taking (plain_task task.now) place (bytes_of (plain_task task.now) f place) was_turned side) }
+    ensures rest { O.same_rest out.old out.new }
+    ensures within { IfOk result (IsWithin (length task.now.patch.now.targets.items)) }
+{
+    take(&chosen(task, place).name, there, plan, tree)?;
+    weigh(task, place, there, was_turned, side, plan, out)
+}
+
+/// Takes the lines of a file, or none where it isn't there.
+fn take<P: Plan, T: Tree>(
+    name: &Name,
+    there: bool,
+    plan: &mut P,
+    tree: &mut T,
+) -> Result<(), OpenFault>
+    requires { (f : Files) → (T.view tree.old).told ≡ Some f → there ≡ is_some (get f name.now) }
+    ensures { Takes (T.view tree.old) (T.view tree.new) (P.seen plan.old) (P.seen plan.new) P.scratch_after result (λ f. get f name.now) }
+{
+    if there {
+        plan.take_file(tree, name)
+    } else {
+        plan.take_empty();
+        Ok(())
+    }
+}
