@@ -32,8 +32,8 @@ use Rattle.run_answers.specs.declared.why.Why.TheVariants.{Done, Rejected, LongL
 use Rattle.run_answers.specs.Answers.{is_fault, is_own, of_run, is_through}
 use Rattle.patch_cli.specs.Command.{end_of, receipt_if}
 use Rattle.patch_cli.specs.Carries.{HasReceipt}
-use Rattle.patch_cli.specs.Finishes.{IsToldTo, HasPlanCause, LeavesVerdicts, Finishes, verdicts_of}
-use Rattle.patch_cli.specs.Finishes as finishes
+use Rattle.planned_run.specs.Finishes.{IsToldTo, HasPlanCause, LeavesVerdicts, Finishes, verdicts_of}
+use Rattle.planned_run.specs.Finishes as finishes
 use Rattle.gen_cli.specs.Jobs.{options_for}
 use Rattle.gen_cli.specs.Summary.{summary_of}
 use Rattle.gen_cli.specs.Command.{summary, summary_if}

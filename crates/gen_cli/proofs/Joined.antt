@@ -28,10 +28,10 @@ use Rattle.run_answers.specs.declared.why.Why.TheVariants.{Done, Rejected, Usage
 use Rattle.run_answers.specs.Answers.{is_ended, is_own, is_early, of_run}
 use Rattle.run_answers.specs.Moments.{FirstPart, LeavesAllowed}
 use Rattle.run_answers.specs.Worlds.{world}
-use Rattle.patch_cli.specs.Scratches.{scratch_behind_all}
+use Rattle.planned_run.specs.Scratches.{scratch_behind_all}
 use Rattle.patch_cli.specs.Command.{Outcome, items_for, run_for}
 use Rattle.patch_cli.specs.Carries.{HasReceipt, why_of, receipt_of}
-use Rattle.patch_cli.specs.Finishes.{IsNotBegun, IsToldTo}
+use Rattle.planned_run.specs.Finishes.{IsNotBegun, IsToldTo}
 use Rattle.patch_cli.proofs.Asked.{cut-match, run-match}
 use Rattle.gen_cli.specs.Jobs.{options_for}
 use Rattle.gen_cli.specs.Command.{command, file_puts, patch_text, on_patches, on_refusal, run_over, told_of}

@@ -19,7 +19,7 @@ use Rattle.run_answers.specs.Moments.{Opens, FirstPart, IsAsAtEntry, LeavesAllow
 use Rattle.run_answers.specs.Worlds.{World, world, NoneFailed}
 use Rattle.run_answers.proofs.Names.{old_or_new}
 use Rattle.run_answers.proofs.Opens.{tidy_same}
-use Rattle.patch_cli.specs.Scratches.{scratch_behind_all}
+use Rattle.planned_run.specs.Scratches.{scratch_behind_all}
 use Rattle.patch_cli.specs.Command.{Outcome, refused}
 use Rattle.patch_cli.specs.Carries.{HasReceipt, IsAnswer}
 use Rattle.gen_cli.specs.Jobs.{AsksFor, options_for}

@@ -22,7 +22,7 @@ use Rattle.run_answers.specs.declared.why.Why.TheVariants.{WriteFault, TreeFault
 use Rattle.run_answers.specs.Answers.{of_run, is_early, is_ended, is_fault, is_own, is_through}
 use Rattle.run_answers.specs.Moments.{FirstPart, IsAsAtEntry, LeavesAllowed, LeavesOldOrNew}
 use Rattle.run_answers.specs.Worlds.{World, NoneFailed}
-use Rattle.patch_cli.specs.Scratches.{is_paged, scratch_behind_all}
+use Rattle.planned_run.specs.Scratches.{is_paged, scratch_behind_all}
 use Rattle.patch_cli.specs.Command.{Outcome, items_for}
 use Rattle.patch_cli.specs.Carries.{HasReceipt, IsAnswer}
 use Rattle.gen_cli.specs.Jobs.{AsksFor, options_for}

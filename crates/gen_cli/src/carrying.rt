@@ -6,7 +6,7 @@ ghost use Rattle.patch_options.specs.PlainJob.{plain_options};
 ghost use Rattle.tool_words.specs.PlainJobs.{plain_gen_job};
 ghost use Rattle.run_answers.specs.Worlds.{world};
 ghost use Rattle.patch_cli.specs.Carries.{why_of, receipt_of};
-ghost use Rattle.patch_cli.specs.Scratches.{has_scratch};
+ghost use Rattle.planned_run.specs.Scratches.{has_scratch};
 ghost use Rattle.gen_cli.specs.Jobs.{options_for};
 ghost use Rattle.gen_cli.specs.Summary.{summary_of};
 ghost use Rattle.gen_cli.specs.Preparing.{ArePlaces, AreMade, IsMadeSet};
@@ -21,9 +21,8 @@ use crate::tally::{count_moved, count_placed, total_size};
 use crate::telling::{Summary, put_summary};
 use hunk_core::Verdict;
 use outside::{Scratch, Sink, Tree};
-use patch_cli::{Applied, apply};
-use patch_options::Options;
-use patch_set::PatchSet;
+use patch_cli::Applied;
+use planned_run::apply;
 use run_answers::Why;
 use std::alloc::Global;
 use tool_words::GenJob;
@@ -32,7 +31,7 @@ use tool_words::GenJob;
 pub fn carry_out<T: Tree, C: Scratch, O: Sink>(
     alloc: Global,
     job: GenJob,
-    work: Work,
+    mut work: Work,
     tree: &mut T,
     scratch: C,
     out: &mut O,
@@ -46,44 +45,64 @@ pub fn carry_out<T: Tree, C: Scratch, O: Sink>(
     ensures scratch { has_scratch job.plan ≡ false → result.1 ≡ scratch }
     ensures rest { O.same_rest out.old out.new }
 {
-    let Work {
-        options,
-        set,
-        places,
-        files,
-        hunks,
-    } = work;
-    match put_files(job, &places, files, tree) {
-        Ok(()) => apply_made(alloc, job, options, set, &places, hunks, scratch, tree, out),
+    put_and_apply(alloc, job, &mut work, tree, scratch, out)
+}
+
+/// The same over what is lent: it is let go above, once, and not at each of the exits.
+fn put_and_apply<T: Tree, C: Scratch, O: Sink>(
+    alloc: Global,
+    job: GenJob,
+    work: &mut Work,
+    tree: &mut T,
+    scratch: C,
+    out: &mut O,
+) -> (Result<Applied, Why>, C)
+    requires options { plain_options work.old.options ≡ options_for (plain_gen_job job) }
+    requires made { AreMade (plain_gen_job job) work.old.places.items (map (λ v. v.items) work.old.files.items) }
+    requires set { IsMadeSet (plain_gen_job job) work.old.set }
+    requires hunks { work.old.hunks ≡ (made job.seed job.files job.lines).hunks }
+    requires quiet { IsQuiet (T.view tree.old) }
+    ensures carries { Carries (Ok (plain_gen_job job)) (world (T.view tree.old) (C.view scratch) (O.view out.old)) (world (T.view tree.new) (C.view result.1) (O.view out.new)) (why_of result.0) (receipt_of result.0) }
+    ensures scratch { has_scratch job.plan ≡ false → result.1 ≡ scratch }
+    ensures rest { O.same_rest out.old out.new }
+{
+    match put_files(job, &work.places, &work.files, tree) {
+        Ok(()) => apply_made(alloc, job, work, scratch, tree, out),
         Err(_) => (Err(Why::TreeFault), scratch),
     }
 }
 
-/// Applies the patch to the files that were put, and tells what came of it.
+/// Lets the bytes of the files go, which were put, applies the patch to these, and tells what came of it.
 fn apply_made<T: Tree, C: Scratch, O: Sink>(
     alloc: Global,
     job: GenJob,
-    options: Options,
-    mut set: PatchSet,
-    places: &[Place],
-    hunks: u32,
+    work: &mut Work,
     scratch: C,
     tree: &mut T,
     out: &mut O,
 ) -> (Result<Applied, Why>, C)
-    requires options { plain_options options ≡ options_for (plain_gen_job job) }
-    requires set { IsMadeSet (plain_gen_job job) set }
-    requires places { ArePlaces places.now job.files }
-    requires hunks { hunks ≡ (made job.seed job.files job.lines).hunks }
+    requires options { plain_options work.old.options ≡ options_for (plain_gen_job job) }
+    requires set { IsMadeSet (plain_gen_job job) work.old.set }
+    requires places { ArePlaces work.old.places.items job.files }
+    requires hunks { work.old.hunks ≡ (made job.seed job.files job.lines).hunks }
     requires quiet { IsQuiet (T.view tree.old) }
-    ensures ends { Ends (plain_gen_job job) set (T.view tree.old) (T.view tree.new) (C.view scratch) (C.view result.1) (O.view out.old) (O.view out.new) result.0 }
+    ensures ends { Ends (plain_gen_job job) work.old.set (T.view tree.old) (T.view tree.new) (C.view scratch) (C.view result.1) (O.view out.old) (O.view out.new) result.0 }
     ensures scratch { has_scratch job.plan ≡ false → result.1 ≡ scratch }
     ensures rest { O.same_rest out.old out.new }
 {
-    let (applied, scratch) = apply(alloc, &options, &mut set, scratch, tree, out);
+    work.files.clear();
+    let (applied, scratch) = apply(alloc, &work.options, &mut work.set, scratch, tree, out);
     match applied {
         Ok(applied) => (
-            tell(job, applied, set.verdicts(), places, hunks, tree, out),
+            tell(
+                job,
+                applied,
+                work.set.verdicts(),
+                &work.places,
+                work.hunks,
+                tree,
+                out,
+            ),
             scratch,
         ),
         Err(fault) => (Err(Why::from(fault)), scratch),

@@ -13,14 +13,14 @@ use outside::{Failed, Tree};
 use replace_file::put_whole;
 use tool_words::GenJob;
 
-/// Puts the files in their order, each at its place and whole at every moment. They are let go then.
+/// Puts the files in their order, each at its place and whole at every moment.
 pub fn put_files<T: Tree>(
     job: GenJob,
     places: &[Place],
-    files: Vec<Vec<u8>>,
+    files: &[Vec<u8>],
     tree: &mut T,
 ) -> Result<(), Failed>
-    requires made { AreMade (plain_gen_job job) places.now (map (λ v. v.items) files.items) }
+    requires made { AreMade (plain_gen_job job) places.now (map (λ v. v.items) files.now) }
     requires quiet { IsQuiet (T.view tree.old) }
     ensures { PutsAll (file_puts (plain_gen_job job)) (T.view tree.old) (T.view tree.new) result }
 {

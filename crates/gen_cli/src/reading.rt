@@ -15,9 +15,10 @@ pub fn read_job(alloc: Global, words: &[String]) -> Result<GenJob, Why>
     ensures size { IfOk result (λ job. IsSize (plain_gen_job job)) }
     ensures refused { IfErr result (λ why. (why ≡ Why.Memory) ⊎ ((fault : WordFault) × (why ≡ of_words fault) × (job_of (map string_bytes words.now) ≡ Err fault))) }
 {
-    let job = read_tool_words(alloc, words)?;
-    let job = made_by(&job)?;
-    Ok(job)
+    match read_tool_words(alloc, words) {
+        Ok(job) => made_by(&job),
+        Err(fault) => Err(Why::from(fault)),
+    }
 }
 
 fn made_by(job: &ToolJob) -> Result<GenJob, Why>

@@ -6,7 +6,7 @@ ghost use Rattle.tool_words.specs.PlainJobs.{plain_gen_job, IsSize};
 ghost use Rattle.run_answers.specs.Answers.{exit_status, of_words};
 ghost use Rattle.run_answers.specs.Worlds.{world};
 ghost use Rattle.patch_cli.specs.Carries.{why_of, receipt_of};
-ghost use Rattle.patch_cli.specs.Scratches.{has_scratch};
+ghost use Rattle.planned_run.specs.Scratches.{has_scratch};
 ghost use Rattle.gen_cli.specs.Jobs.{job_of, uses_scratch};
 ghost use Rattle.gen_cli.specs.Carries.{Carries};
 

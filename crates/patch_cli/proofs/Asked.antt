@@ -32,7 +32,7 @@ use Rattle.run_answers.specs.declared.why.Why.{Why}
 use Rattle.run_answers.specs.declared.why.Why.TheVariants.{Done, Rejected, Usage, Malformed, Garbage, EdReverse, OutMany, Reserved, NoPatchFile, TooLong, LongLine, FileTooLong, BadPattern, NoContext, Unfit, BadState, StackEnd, StackName, ReadFault, WriteFault, TreeFault, ScratchFault, Disagree, Memory}
 use Rattle.patch_cli.specs.Command.{Reads, item_for, items_for, run_for, carried_out, on_patches, on_refusal, on_input, on_job}
 use Rattle.patch_cli.specs.Worlds.{World, world, TellsFiles, TellsLeft, TellsInput, is_standard}
-use Rattle.patch_cli.specs.Finishes.{CanApply}
+use Rattle.planned_run.specs.Finishes.{CanApply}
 use Rattle.run_answers.specs.Moments.{Opens}
 use Rattle.patch_cli.specs.Opening.{IsAsked, EndsSo, StopsEarly}
 

@@ -31,9 +31,9 @@ use Rattle.patch_cli.specs.Answers.Sort.{ended, unread, starved}
 use Rattle.patch_cli.specs.Command.{Outcome, Reads, command, on_job, carried_out, end_of, receipt_if}
 use Rattle.patch_cli.specs.Worlds.{World, TellsFiles, TellsLeft, TellsInput, AsksFor, reads_source, pages_all}
 use Rattle.patch_cli.specs.Causes.{HasCause}
-use Rattle.patch_cli.specs.Scratches.{scratch_behind_all}
-use Rattle.patch_cli.specs.Finishes.{IsToldTo, HasPlanCause, Finishes}
-use Rattle.patch_cli.specs.Finishes as finishes
+use Rattle.planned_run.specs.Scratches.{scratch_behind_all}
+use Rattle.planned_run.specs.Finishes.{IsToldTo, HasPlanCause, Finishes}
+use Rattle.planned_run.specs.Finishes as finishes
 use Rattle.patch_cli.specs.Opening.{IsAsked}
 use Rattle.patch_cli.specs.Carries.{IsAnswer, Answers, Untouched, QuietAfter, IsEnd, HasReceipt, HasRead, Heeds, IsCut, BreaksOff, Carries, NoneFailed, IsComplete}
 use Rattle.run_answers.proofs.Opens.{opens_both, opens_untouched, tidy_behind}

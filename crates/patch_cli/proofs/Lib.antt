@@ -1,5 +1,4 @@
 pub mod Asked
-pub mod Finishing
 pub mod Early
 pub mod Carrying
 pub mod SamePlan

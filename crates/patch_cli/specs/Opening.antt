@@ -11,7 +11,7 @@ use Rattle.patch_cli.specs.Answers.Sort.{ended, halted, refusal, unread, broken,
 use Rattle.patch_cli.specs.Command.{Reads, refused, on_job}
 use Rattle.patch_cli.specs.Worlds.{World, TellsInput}
 use Rattle.patch_cli.specs.Causes.{HasCause}
-use Rattle.patch_cli.specs.Finishes.{CanApply}
+use Rattle.planned_run.specs.Finishes.{CanApply}
 
 -- where it is told what they read, the patch text that these options name is this set
 pub record IsAsked (o : PlainOptions) (v : SetView) (u : World) : Type 0 where

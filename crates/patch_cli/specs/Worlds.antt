@@ -11,7 +11,7 @@ use Rattle.patch_options.specs.declared.options.WordFault.{WordFault}
 use Rattle.patch_options.specs.declared.options.Input.{Input}
 use Rattle.patch_options.specs.declared.options.Input.TheVariants.{Standard, File}
 use Rattle.patch_input.specs.Input.{IsTold}
-use Rattle.patch_cli.specs.Scratches.{has_scratch, is_paged}
+use Rattle.planned_run.specs.Scratches.{has_scratch, is_paged}
 
 -- what the devices of a run are seen as at one moment
 pub record World : Type 1 where

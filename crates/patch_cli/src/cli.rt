@@ -12,17 +12,17 @@ ghost use Rattle.patch_cli.specs.Answers.{sort_of, IsEarly};
 ghost use Rattle.patch_cli.specs.Command.{command};
 ghost use Rattle.run_answers.specs.Reasons.{refusal_line};
 ghost use Rattle.patch_cli.specs.Worlds.{world, TellsFiles, TellsLeft, reads_source, uses_scratch};
-ghost use Rattle.patch_cli.specs.Scratches.{has_scratch};
-ghost use Rattle.patch_cli.specs.Finishes.{CanApply, Finishes};
+ghost use Rattle.planned_run.specs.Scratches.{has_scratch};
+ghost use Rattle.planned_run.specs.Finishes.{CanApply, Finishes};
 ghost use Rattle.patch_cli.specs.Carries.{Carries, NoneFailed, IsComplete, why_of, receipt_of};
 
 use crate::opening::open;
-use crate::plans::apply;
 use outside::{Scratch, Sink, Source, Tree};
 use patch_effects::RunFault;
 use patch_options::Options;
 use patch_run::Applied;
 use patch_set::PatchSet;
+use planned_run::apply;
 use run_answers::{Why, report};
 use std::alloc::Global;
 

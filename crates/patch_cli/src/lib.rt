@@ -4,10 +4,8 @@
 mod cli;
 mod laws;
 mod opening;
-mod plans;
 
 pub use cli::{Exit, exit_of, run};
 pub use laws::command_laws;
 pub use patch_run::Applied;
-pub use plans::apply;
 pub use run_answers::Why;

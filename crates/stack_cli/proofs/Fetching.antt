@@ -29,7 +29,7 @@ use Rattle.patch_input.specs.declared.fault.InputFault.{InputFault}
 use Rattle.patch_input.specs.declared.fault.InputFault.TheVariants as input
 use Rattle.patch_input.specs.Input.{HasFileCause, answer_of}
 use Rattle.patch_run.specs.Run.{Run, set_run}
-use Rattle.patch_cli.specs.Finishes.{CanApply}
+use Rattle.planned_run.specs.Finishes.{CanApply}
 use Rattle.series_stack.specs.Series.{is_feed, is_lawful, named_lines, names_written, series_of}
 use Rattle.stack_law.specs.Stack.{Stack, patch_name, stack_of}
 use Rattle.stack_law.specs.Commands.{IsPatch, names_of, own_line}

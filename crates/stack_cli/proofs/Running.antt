@@ -45,7 +45,7 @@ use Rattle.patch_run.specs.Applied.{Receipt}
 use Rattle.patch_run.specs.Run.{Run, set_run}
 use Rattle.patch_run.specs.Doing.{IsFar, IsPartOf, QuietAfter}
 use Rattle.patch_set.specs.SetView.{SetView, plain_patches}
-use Rattle.patch_cli.specs.Finishes.{Finishes, IsToldTo}
+use Rattle.planned_run.specs.Finishes.{Finishes, IsToldTo}
 use Rattle.stack_reader.specs.Reading.{push_options, ending_by, targets_for}
 use Rattle.stack_steps.specs.Steps.{Steps}
 use Rattle.stack_steps.specs.Undoing.{undone_by}

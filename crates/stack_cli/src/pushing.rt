@@ -23,8 +23,8 @@ use crate::closing::close;
 use crate::fault::{of_push, of_save};
 use crate::reading::State;
 use outside::{Name, Scratch, Sink, Tree};
-use patch_cli::apply;
 use patch_set::PatchSet;
+use planned_run::apply;
 use run_answers::Why;
 use series_stack::take_names;
 use stack_patch::{Saved, push_options, read_push, saved_names};
@@ -83,7 +83,7 @@ fn push_named<T: Tree, C: Scratch, O: Sink>(
     ensures rest { O.same_rest out.old out.new }
 {
     match read_next(alloc, state, name, tree) {
-        Ok(next) => push_next(alloc, state, name, next, tree, scratch, out),
+        Ok(mut next) => push_next(alloc, state, name, &mut next, tree, scratch, out),
         Err(why) => (why, scratch),
     }
 }
@@ -177,14 +177,14 @@ fn push_next<T: Tree, C: Scratch, O: Sink>(
     alloc: Global,
     state: &State,
     name: &Name,
-    next: Next,
+    next: &mut Next,
     tree: &mut T,
     scratch: C,
     out: &mut O,
 ) -> (Why, C)
     requires state { IsState (T.view tree.old) state.now }
     requires name { IsNamed state.now name.now }
-    requires next { IsNext (T.view tree.old) name.now next.set next.names.items }
+    requires next { IsNext (T.view tree.old) name.now next.old.set next.old.names.items }
     requires quiet { IsQuiet (T.view tree.old) }
     ensures comes { Comes Push (world (T.view tree.old) (C.view scratch) (O.view out.old)) (world (T.view tree.new) (C.view result.1) (O.view out.new)) result.0 (on_op Push) }
     ensures rest { O.same_rest out.old out.new }
@@ -199,17 +199,17 @@ fn push_recovered<T: Tree, C: Scratch, O: Sink>(
     alloc: Global,
     state: &State,
     name: &Name,
-    next: Next,
+    next: &mut Next,
     tree: &mut T,
     scratch: C,
     out: &mut O,
 ) -> (Why, C)
     requires few { length state.now.stack.patches.items ≤ 9999 }
     requires applied { state.now.stack.applied ≤ 9999 }
-    requires can { CanPush next.set }
-    requires names { next.names.items ≡ names_of (targets_for push_options (plain_patches next.set)) }
+    requires can { CanPush next.old.set }
+    requires names { next.old.names.items ≡ names_of (targets_for push_options (plain_patches next.old.set)) }
     requires quiet { IsQuiet (T.view tree.old) }
-    ensures comes { Comes Push (world (T.view tree.old) (C.view scratch) (O.view out.old)) (world (T.view tree.new) (C.view result.1) (O.view out.new)) result.0 (on_recovered next.set (stage_of state.now name.now)) }
+    ensures comes { Comes Push (world (T.view tree.old) (C.view scratch) (O.view out.old)) (world (T.view tree.new) (C.view result.1) (O.view out.new)) result.0 (on_recovered next.old.set (stage_of state.now name.now)) }
     ensures rest { O.same_rest out.old out.new }
 {
     match say_applying(out, name) {
@@ -222,21 +222,21 @@ fn push_said<T: Tree, C: Scratch, O: Sink>(
     alloc: Global,
     state: &State,
     name: &Name,
-    next: Next,
+    next: &mut Next,
     tree: &mut T,
     scratch: C,
     out: &mut O,
 ) -> (Why, C)
     requires few { length state.now.stack.patches.items ≤ 9999 }
     requires applied { state.now.stack.applied ≤ 9999 }
-    requires can { CanPush next.set }
-    requires names { next.names.items ≡ names_of (targets_for push_options (plain_patches next.set)) }
+    requires can { CanPush next.old.set }
+    requires names { next.old.names.items ≡ names_of (targets_for push_options (plain_patches next.old.set)) }
     requires quiet { IsQuiet (T.view tree.old) }
-    ensures comes { Comes Push (world (T.view tree.old) (C.view scratch) (O.view out.old)) (world (T.view tree.new) (C.view result.1) (O.view out.new)) result.0 (on_said next.set (stage_of state.now name.now)) }
+    ensures comes { Comes Push (world (T.view tree.old) (C.view scratch) (O.view out.old)) (world (T.view tree.new) (C.view result.1) (O.view out.new)) result.0 (on_said next.old.set (stage_of state.now name.now)) }
     ensures rest { O.same_rest out.old out.new }
 {
     match take_names(alloc, &next.names, tree) {
-        Ok(save) => push_taken(alloc, state, name, next.set, &save, tree, scratch, out),
+        Ok(save) => push_taken(alloc, state, name, &mut next.set, &save, tree, scratch, out),
         Err(fault) => (of_save(fault), scratch),
     }
 }
@@ -246,7 +246,7 @@ fn push_taken<T: Tree, C: Scratch, O: Sink>(
     alloc: Global,
     state: &State,
     name: &Name,
-    set: PatchSet,
+    set: &mut PatchSet,
     save: &[u8],
     tree: &mut T,
     scratch: C,
@@ -254,11 +254,11 @@ fn push_taken<T: Tree, C: Scratch, O: Sink>(
 ) -> (Why, C)
     requires few { length state.now.stack.patches.items ≤ 9999 }
     requires applied { state.now.stack.applied ≤ 9999 }
-    requires can { CanPush set }
+    requires can { CanPush set.old }
     requires save { IsSome (entries_of save.now) }
     requires quiet { IsQuiet (T.view tree.old) }
     ensures comes { Comes Push (world (T.view tree.old) (C.view scratch) (O.view out.old)) (world (T.view tree.new) (C.view result.1) (O.view out.new)) result.0
-        (λ f. behind (Put (save_name (suc state.now.stack.applied)) save.now ∷ []) [] (on_saved set (stage_of state.now name.now) (entries_of save.now) (after (Put (save_name (suc state.now.stack.applied)) save.now) f))) }
+        (λ f. behind (Put (save_name (suc state.now.stack.applied)) save.now ∷ []) [] (on_saved set.old (stage_of state.now name.now) (entries_of save.now) (after (Put (save_name (suc state.now.stack.applied)) save.now) f))) }
     ensures rest { O.same_rest out.old out.new }
 {
     match put_save(alloc, state.stack.applied + 1, save, tree) {
@@ -272,7 +272,7 @@ fn push_saved<T: Tree, C: Scratch, O: Sink>(
     alloc: Global,
     state: &State,
     name: &Name,
-    mut set: PatchSet,
+    set: &mut PatchSet,
     save: &[u8],
     tree: &mut T,
     scratch: C,
@@ -280,14 +280,14 @@ fn push_saved<T: Tree, C: Scratch, O: Sink>(
 ) -> (Why, C)
     requires few { length state.now.stack.patches.items ≤ 9999 }
     requires applied { state.now.stack.applied ≤ 9999 }
-    requires can { CanPush set }
+    requires can { CanPush set.old }
     requires save { IsSome (entries_of save.now) }
     requires there { IsThere (T.view tree.old) (save_name (suc state.now.stack.applied)) }
     requires quiet { IsQuiet (T.view tree.old) }
-    ensures comes { Comes Push (world (T.view tree.old) (C.view scratch) (O.view out.old)) (world (T.view tree.new) (C.view result.1) (O.view out.new)) result.0 (on_saved set (stage_of state.now name.now) (entries_of save.now)) }
+    ensures comes { Comes Push (world (T.view tree.old) (C.view scratch) (O.view out.old)) (world (T.view tree.new) (C.view result.1) (O.view out.new)) result.0 (on_saved set.old (stage_of state.now name.now) (entries_of save.now)) }
     ensures rest { O.same_rest out.old out.new }
 {
     let options = push_options();
-    let (ended, scratch) = apply(alloc, &options, &mut set, scratch, tree, out);
+    let (ended, scratch) = apply(alloc, &options, set, scratch, tree, out);
     (close(alloc, state, name, save, ended, tree, out), scratch)
 }

@@ -28,9 +28,10 @@ pub fn read_op(alloc: Global, words: &[String]) -> Result<StackOp, Why>
     ensures job { IfOk result (λ op. job_of (map string_bytes words.now) ≡ Ok op) }
     ensures refused { IfErr result (λ why. (why ≡ Why.Memory) ⊎ ((fault : TheFault) × (why ≡ of_words fault) × (job_of (map string_bytes words.now) ≡ Err fault))) }
 {
-    let job = read_tool_words(alloc, words)?;
-    let op = supported(&job)?;
-    Ok(op)
+    match read_tool_words(alloc, words) {
+        Ok(job) => supported(&job),
+        Err(fault) => Err(Why::from(fault)),
+    }
 }
 
 fn supported(job: &ToolJob) -> Result<StackOp, Why>

@@ -16,8 +16,8 @@ loop-done-init g c = puts_none tt (g.T.Tree.view c.args.tree.now) c.requires.qui
 pub bounds-places-k : goal.bounds-places-k
 bounds-places-k g c = omega (arith, c.loop-done-test.true, place_count c.args.places.now c.args.job.files c.requires.made.named)
 
-pub index-requires : goal.index-requires
-index-requires g c = omega (arith, c.loop-done-test.true, count_of (λ v. v.items) (made_file c.args.job.seed c.args.job.lines) c.args.files.items c.args.job.files c.requires.made.bytes)
+pub bounds-files-k : goal.bounds-files-k
+bounds-files-k g c = omega (arith, c.loop-done-test.true, count_of (λ v. v.items) (made_file c.args.job.seed c.args.job.lines) c.args.files.now c.args.job.files c.requires.made.bytes)
 
 pub put_file-requires-clause-temp : goal.put_file-requires-clause-temp
 put_file-requires-clause-temp g c = ap (λ p. p.temp) c.index-places-k.is ∙ temp_at c.args.places.now c.args.job.files c.loop-done.done c.index-places-k.result c.requires.made.named c.loop-done-test.true ∙ ap (λ p. temp_of p.name) (sym c.index-places-k.is)
@@ -30,8 +30,8 @@ returns-in_err-put_file g c =
     let j = plain_gen_job c.args.job in
     let n = c.loop-done.done in
     let name = ap (λ p. p.name) c.index-places-k.is ∙ name_at c.args.places.now c.args.job.files n c.index-places-k.result c.requires.made.named c.loop-done-test.true in
-    let held = c.index.result.now in
-    let bytes = c.as_slice.ensures.value ∙ ap (λ v. v.items) c.index.ensures ∙ at_number (λ v. v.items) (made_file c.args.job.seed c.args.job.lines) c.args.files.items c.args.job.files n held c.requires.made.bytes c.loop-done-test.true in
+    let held = c.index-files-k.result in
+    let bytes = c.as_slice.ensures.value ∙ ap (λ v. v.items) c.index-files-k.is ∙ at_number (λ v. v.items) (made_file c.args.job.seed c.args.job.lines) c.args.files.now c.args.job.files n held c.requires.made.bytes c.loop-done-test.true in
     puts_cut (map (file_put j) (range_with_len 1 n)) (g.T.Tree.view c.args.tree.now) (g.T.Tree.view c.loop-done.tree) (g.T.Tree.view c.put_file.new.tree) c.loop-done.invariant (file_put j (n + 1)) (others j n) (file_puts j)
     (files_all j n c.loop-done-test.true) c.in_err-put_file.field-0.0 (same_put j (n + 1) _ _ name bytes c.in_err-put_file.ensures) c.from_residual.result c.from_residual.ensures.0
 
@@ -40,8 +40,8 @@ loop-done-preserved g c =
     let j = plain_gen_job c.args.job in
     let n = c.loop-done.done in
     let name = ap (λ p. p.name) c.index-places-k.is ∙ name_at c.args.places.now c.args.job.files n c.index-places-k.result c.requires.made.named c.loop-done-test.true in
-    let held = c.index.result.now in
-    let bytes = c.as_slice.ensures.value ∙ ap (λ v. v.items) c.index.ensures ∙ at_number (λ v. v.items) (made_file c.args.job.seed c.args.job.lines) c.args.files.items c.args.job.files n held c.requires.made.bytes c.loop-done-test.true in
+    let held = c.index-files-k.result in
+    let bytes = c.as_slice.ensures.value ∙ ap (λ v. v.items) c.index-files-k.is ∙ at_number (λ v. v.items) (made_file c.args.job.seed c.args.job.lines) c.args.files.now c.args.job.files n held c.requires.made.bytes c.loop-done-test.true in
     subst (λ es. PutsAll {R = Unit {0}} {E = Failed} es (g.T.Tree.view c.args.tree.now) (g.T.Tree.view c.put_file.new.tree) (Ok tt)) (files_more j n)
     (puts_more (map (file_put j) (range_with_len 1 n)) (g.T.Tree.view c.args.tree.now) (g.T.Tree.view c.loop-done.tree) (g.T.Tree.view c.put_file.new.tree) c.loop-done.invariant (file_put j (n + 1))
     c.in_ok-put_file.field-0 (same_put j (n + 1) _ _ name bytes c.in_ok-put_file.ensures))

@@ -22,11 +22,11 @@ push_recovered-requires-clause-applied g c = omega (arith, c.requires.state.is.a
 
 pub returns-in-Ok-clause-comes : goal.returns-in-Ok-clause-comes
 returns-in-Ok-clause-comes g c = comes_is (on_op Push)
-    (λ f told. pushed_is c.args.state.now c.args.name.now c.args.next.set c.args.next.names.items c.requires.next c.requires.name c.requires.state f told)
-    (comes_then c.in-Ok.field-0 c.push_recovered.result.0 (on_recovered c.args.next.set (stage_of c.args.state.now c.args.name.now)) c.in-Ok.ensures.steps refl c.push_recovered.ensures.comes)
+    (λ f told. pushed_is c.args.state.now c.args.name.now c.args.next.now.set c.args.next.now.names.items c.requires.next c.requires.name c.requires.state f told)
+    (comes_then c.in-Ok.field-0 c.push_recovered.result.0 (on_recovered c.args.next.now.set (stage_of c.args.state.now c.args.name.now)) c.in-Ok.ensures.steps refl c.push_recovered.ensures.comes)
 
 pub returns-in-Err-clause-comes : goal.returns-in-Err-clause-comes
 returns-in-Err-clause-comes g c = comes_is (on_op Push)
-    (λ f told. pushed_is c.args.state.now c.args.name.now c.args.next.set c.args.next.names.items c.requires.next c.requires.name c.requires.state f told)
+    (λ f told. pushed_is c.args.state.now c.args.name.now c.args.next.now.set c.args.next.now.names.items c.requires.next c.requires.name c.requires.state f told)
     (comes_why c.from.result (of_run c.in-Err.fault) c.from.ensures
-    (comes_stop c.in-Err.fault (λ f. on_recovered c.args.next.set (stage_of c.args.state.now c.args.name.now) (after_all (undoing (suc c.args.state.now.stack.applied) f) f)) c.in-Err.ensures.steps refl))
+    (comes_stop c.in-Err.fault (λ f. on_recovered c.args.next.now.set (stage_of c.args.state.now c.args.name.now) (after_all (undoing (suc c.args.state.now.stack.applied) f) f)) c.in-Err.ensures.steps refl))

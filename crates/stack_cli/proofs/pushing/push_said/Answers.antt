@@ -13,12 +13,12 @@ push_taken-requires-clause-quiet g c = untouched_quiet c.take_names.ensures.unto
 
 pub returns-in-Err-clause-comes : goal.returns-in-Err-clause-comes
 returns-in-Err-clause-comes g c = comes_why c.of_save.result (of_save c.in-Err.fault) c.of_save.ensures
-    (save_fails c.in-Err.fault c.args.next.set (stage_of c.args.state.now c.args.name.now) c.deref.result.now (c.deref.ensures.value ∙ c.requires.names) c.take_names.ensures.untouched c.requires.quiet c.in-Err.ensures.cause)
+    (save_fails c.in-Err.fault c.args.next.now.set (stage_of c.args.state.now c.args.name.now) c.deref.result.now (c.deref.ensures.value ∙ c.requires.names) c.take_names.ensures.untouched c.requires.quiet c.in-Err.ensures.cause)
 
 pub returns-in-Ok-clause-comes : goal.returns-in-Ok-clause-comes
 returns-in-Ok-clause-comes g c =
     let s = stage_of c.args.state.now c.args.name.now in
     let named = c.deref.ensures.value ∙ c.requires.names in
-    comes_is (on_said c.args.next.set s)
-    (λ f told. said_stage c.args.next.set s c.deref.result.now c.deref-in-Ok.result.now c.in-Ok.save.items f named c.deref-in-Ok.ensures.value (subst (λ (l : List (List ℕ)). AreSaved l) (sym named) c.requires.can.saved) (c.in-Ok.ensures.short f told) (c.in-Ok.ensures.save f told))
+    comes_is (on_said c.args.next.now.set s)
+    (λ f told. said_stage c.args.next.now.set s c.deref.result.now c.deref-in-Ok.result.now c.in-Ok.save.items f named c.deref-in-Ok.ensures.value (subst (λ (l : List (List ℕ)). AreSaved l) (sym named) c.requires.can.saved) (c.in-Ok.ensures.short f told) (c.in-Ok.ensures.save f told))
     (comes_untouched c.take_names.ensures.untouched c.requires.quiet c.push_taken.ensures.comes)

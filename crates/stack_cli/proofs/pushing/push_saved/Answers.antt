@@ -2,14 +2,14 @@ use Rattle.std.proofs.Common.{refl, sym, subst}
 use Rattle.outside.specs.ScratchView.{ScratchView}
 use Rattle.run_answers.specs.Worlds.{world}
 use Rattle.patch_options.specs.PlainJob.{PlainOptions, plain_options}
-use Rattle.patch_cli.specs.Finishes.{CanApply, Finishes}
+use Rattle.planned_run.specs.Finishes.{CanApply, Finishes}
 use Rattle.stack_reader.specs.Reading.{push_options}
 use Rattle.stack_cli.specs.States.{stage_of}
 use Rattle.stack_cli.proofs.Running.{has_cut, run_closes, still_saved}
 use Rattle.stack_cli.proofs.pushing.push_saved.Goals as goal
 
 pub apply-ended-requires-clause-can : goal.apply-ended-requires-clause-can
-apply-ended-requires-clause-can g c = subst (λ (o : PlainOptions). CanApply o c.args.set) (sym c.push_options-options.ensures) c.requires.can.can
+apply-ended-requires-clause-can g c = subst (λ (o : PlainOptions). CanApply o c.args.set.now) (sym c.push_options-options.ensures) c.requires.can.can
 
 pub close-requires-clause-quiet : goal.close-requires-clause-quiet
 close-requires-clause-quiet g c = c.apply-ended.ensures.finishes.quiet
@@ -18,8 +18,8 @@ pub close-requires-clause-cut : goal.close-requires-clause-cut
 close-requires-clause-cut g c =
     let u = world (g.T.Tree.view c.args.tree.now) (g.C.Scratch.view c.args.scratch) (g.O.Sink.view c.args.out.now) in
     let v = world (g.T.Tree.view c.apply-ended.new.tree) (g.C.Scratch.view c.apply-ended.result.1) (g.O.Sink.view c.apply-ended.new.out) in
-    has_cut {u = u} {v = v} c.args.set c.apply-ended.result.0
-    (subst (λ (o : PlainOptions). Finishes o c.args.set u.tree v.tree u.scratch v.scratch u.out v.out c.apply-ended.result.0) c.push_options-options.ensures c.apply-ended.ensures.finishes)
+    has_cut {u = u} {v = v} c.args.set.now c.apply-ended.result.0
+    (subst (λ (o : PlainOptions). Finishes o c.args.set.now u.tree v.tree u.scratch v.scratch u.out v.out c.apply-ended.result.0) c.push_options-options.ensures c.apply-ended.ensures.finishes)
 
 pub returns-clause-comes : goal.returns-clause-comes
 returns-clause-comes g c =
@@ -27,7 +27,7 @@ returns-clause-comes g c =
     let u = world (g.T.Tree.view c.args.tree.now) (g.C.Scratch.view c.args.scratch) (g.O.Sink.view c.args.out.now) in
     let v = world (g.T.Tree.view c.apply-ended.new.tree) (g.C.Scratch.view c.apply-ended.result.1) (g.O.Sink.view c.apply-ended.new.out) in
     let w = world (g.T.Tree.view c.close.new.tree) (g.C.Scratch.view c.apply-ended.result.1) (g.O.Sink.view c.close.new.out) in
-    run_closes {u = u} {v = v} {w = w} c.args.set s c.args.save.now c.close.result c.apply-ended.result.0 c.requires.save
-    (λ f told far. still_saved u v c.args.set s c.requires.can c.requires.there f told.files far)
-    (subst (λ (o : PlainOptions). Finishes o c.args.set u.tree v.tree u.scratch v.scratch u.out v.out c.apply-ended.result.0) c.push_options-options.ensures c.apply-ended.ensures.finishes)
+    run_closes {u = u} {v = v} {w = w} c.args.set.now s c.args.save.now c.close.result c.apply-ended.result.0 c.requires.save
+    (λ f told far. still_saved u v c.args.set.now s c.requires.can c.requires.there f told.files far)
+    (subst (λ (o : PlainOptions). Finishes o c.args.set.now u.tree v.tree u.scratch v.scratch u.out v.out c.apply-ended.result.0) c.push_options-options.ensures c.apply-ended.ensures.finishes)
     refl (c.close.ensures.closes (g.C.Scratch.view c.apply-ended.result.1))

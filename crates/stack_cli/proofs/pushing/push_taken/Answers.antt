@@ -24,7 +24,7 @@ push_saved-requires-clause-there g c =
 pub returns-in-Ok-clause-comes : goal.returns-in-Ok-clause-comes
 returns-in-Ok-clause-comes g c =
     let o = g.O.Sink.view c.args.out.now in
-    comes_then c.in-Ok.field-0 c.push_saved.result.0 (on_saved c.args.set (stage_of c.args.state.now c.args.name.now) (entries_of c.args.save.now))
+    comes_then c.in-Ok.field-0 c.push_saved.result.0 (on_saved c.args.set.now (stage_of c.args.state.now c.args.name.now) (entries_of c.args.save.now))
     (one_more (λ k. Steps (g.T.Tree.view c.args.tree.now) (g.T.Tree.view c.put_save.new.tree) o o (Ok c.in-Ok.field-0) (λ f. Put (save_name k) c.args.save.now ∷ []) (λ f. [])) c.args.state.now.stack.applied (c.in-Ok.ensures o))
     refl c.push_saved.ensures.comes
 
@@ -32,5 +32,5 @@ pub returns-in-Err-clause-comes : goal.returns-in-Err-clause-comes
 returns-in-Err-clause-comes g c =
     let o = g.O.Sink.view c.args.out.now in
     comes_why c.from.result (of_run c.in-Err.fault) c.from.ensures
-    (comes_stop c.in-Err.fault (λ f. on_saved c.args.set (stage_of c.args.state.now c.args.name.now) (entries_of c.args.save.now) (after (Put (save_name (suc c.args.state.now.stack.applied)) c.args.save.now) f))
+    (comes_stop c.in-Err.fault (λ f. on_saved c.args.set.now (stage_of c.args.state.now c.args.name.now) (entries_of c.args.save.now) (after (Put (save_name (suc c.args.state.now.stack.applied)) c.args.save.now) f))
     (one_more (λ k. Steps {R = Unit {0}} (g.T.Tree.view c.args.tree.now) (g.T.Tree.view c.put_save.new.tree) o o (Err c.in-Err.fault) (λ f. Put (save_name k) c.args.save.now ∷ []) (λ f. [])) c.args.state.now.stack.applied (c.in-Err.ensures o)) refl)

@@ -4,8 +4,8 @@ ghost use Rattle.outside.specs.ScratchView.{ScratchView};
 ghost use Rattle.outside.specs.Quiet.{IsQuiet};
 ghost use Rattle.patch_options.specs.PlainJob.{plain_options};
 ghost use Rattle.patch_options.specs.declared.options.PlanKind.TheVariants.{Whole, Padded, Packed, Auto};
-ghost use Rattle.patch_cli.specs.Scratches.{has_scratch};
-ghost use Rattle.patch_cli.specs.Finishes.{CanApply, Finishes, LeavesVerdicts};
+ghost use Rattle.planned_run.specs.Scratches.{has_scratch};
+ghost use Rattle.planned_run.specs.Finishes.{CanApply, Finishes, LeavesVerdicts};
 
 use auto_plan::AutoPlan;
 use outside::{Scratch, Sink, Tree};

@@ -19,7 +19,7 @@ use Rattle.patch_run.specs.Doing.{QuietAfter, IsFar, IsCutOff, IsCutAt}
 use Rattle.patch_effects.specs.Making.{TidyAfter}
 use Rattle.patch_effects.specs.declared.fault.RunFault.{RunFault}
 use Rattle.patch_effects.specs.declared.fault.RunFault.TheVariants.{Tree, Write, Scratch, LongLine, FileTooLong, Disagree, Memory}
-use Rattle.patch_cli.specs.Scratches.{has_scratch, is_paged, scratch_behind_all}
+use Rattle.planned_run.specs.Scratches.{has_scratch, is_paged, scratch_behind_all}
 
 -- a set that was read with these options, and of which nothing was carried out yet
 pub record CanApply (o : PlainOptions) (v : SetView) : Type 0 where

@@ -3,9 +3,9 @@ use Rattle.outside.specs.ScratchView.{ScratchView}
 use Rattle.line_store.specs.Store.{Seen}
 use Rattle.packed_pages.specs.declared.PackedB.{PackedB}
 use Rattle.patch_options.specs.PlainJob.{plain_options}
-use Rattle.patch_cli.specs.Scratches.{has_scratch, is_paged}
-use Rattle.patch_cli.proofs.Finishing.{finishes_paged, finishes_without_pages, verdicts_paged, keeps_auto}
-use Rattle.patch_cli.proofs.plans.apply_by_size.Goals as goal
+use Rattle.planned_run.specs.Scratches.{has_scratch, is_paged}
+use Rattle.planned_run.proofs.Finishing.{finishes_paged, finishes_without_pages, verdicts_paged, keeps_auto}
+use Rattle.planned_run.proofs.plans.apply_by_size.Goals as goal
 
 pub returns-clause-finishes : goal.returns-clause-finishes
 returns-clause-finishes g c =

@@ -1,4 +1,4 @@
-use Rattle.patch_cli.proofs.plans.apply.Goals as goal
+use Rattle.planned_run.proofs.plans.apply.Goals as goal
 
 pub returns-in-Whole-clause-finishes : goal.returns-in-Whole-clause-finishes
 returns-in-Whole-clause-finishes g c = c.apply_whole.ensures.finishes (g.C.Scratch.view c.args.scratch)

@@ -27,8 +27,8 @@ use Rattle.patch_run.specs.Doing.{Runs, IsReceipt, IsPartOf, IsCutAt, scratch_be
 use Rattle.patch_run.specs.Run.{Run, items_of, set_run}
 use Rattle.patch_effects.specs.declared.fault.RunFault.{RunFault}
 use Rattle.patch_effects.specs.declared.fault.RunFault.TheVariants.{Tree, Write, Scratch, LongLine, FileTooLong, Disagree, Memory}
-use Rattle.patch_cli.specs.Scratches.{has_scratch, is_paged, goes_there, pages_of, pages_or, scratch_behind_all}
-use Rattle.patch_cli.specs.Finishes.{IsToldTo, HasPlanCause, IsNotBegun, LeavesVerdicts, Finishes}
+use Rattle.planned_run.specs.Scratches.{has_scratch, is_paged, goes_there, pages_of, pages_or, scratch_behind_all}
+use Rattle.planned_run.specs.Finishes.{IsToldTo, HasPlanCause, IsNotBegun, LeavesVerdicts, Finishes}
 
 -- ---- the scratch
 

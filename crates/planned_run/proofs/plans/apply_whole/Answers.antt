@@ -1,7 +1,7 @@
 use Rattle.std.proofs.Common.{refl}
 use Rattle.patch_options.specs.PlainJob.{plain_options}
-use Rattle.patch_cli.proofs.Finishing.{finishes_whole, verdicts_whole}
-use Rattle.patch_cli.proofs.plans.apply_whole.Goals as goal
+use Rattle.planned_run.proofs.Finishing.{finishes_whole, verdicts_whole}
+use Rattle.planned_run.proofs.plans.apply_whole.Goals as goal
 
 pub returns-clause-finishes : goal.returns-clause-finishes
 returns-clause-finishes g c = finishes_whole (plain_options c.args.options.now) c.args.set.now _ _ c.apply_set.result c.apply_set.ensures.runs c.apply_set.ensures.receipt c.apply_set.ensures.cut c.apply_set.ensures.dry (record {

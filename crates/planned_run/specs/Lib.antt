@@ -1,0 +1,2 @@
+pub mod Scratches
+pub mod Finishes
