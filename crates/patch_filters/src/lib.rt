@@ -6,6 +6,7 @@ mod fault;
 mod filter;
 mod grep;
 mod hunks;
+mod kept;
 mod laws;
 mod list;
 mod numbers;
@@ -15,8 +16,9 @@ mod search;
 mod set;
 
 pub use fault::GrepFault;
-pub use filter::{filter_patches, keeps};
+pub use filter::filter_patches;
 pub use grep::grep_patches;
+pub use kept::keeps;
 pub use laws::filter_laws;
 pub use list::list_patches;
 pub use regex_finder::RegexFinder;

@@ -5,7 +5,7 @@ use Rattle.unified_form.specs.declared.skim.OldRange.{OldRange}
 use Rattle.file_patch.specs.declared.FilePatch.{FilePatch}
 use Rattle.file_patch.specs.PlainPatch.{PlainPatch, patch_of}
 use Rattle.patch_options.specs.PlainJob.{PlainOptions}
-use Rattle.patch_text.specs.Digests.{digests_of}
+use Rattle.patch_text.specs.Digests.{AreDigests, digests_of}
 use Rattle.patch_text.specs.Regions.{region_of, regions_of}
 use Rattle.patch_set.specs.Asked.{ways_of}
 
@@ -25,3 +25,5 @@ pub record IsDigestOf (o : PlainOptions) (given : List ℕ) (v : DigestView) : T
   pub text : v.text ≡ completed given
   pub patches : digests_of (ways_of o) v.text ≡ Ok (digested v, v.olds)
   pub regions : map region_of v.patches ≡ regions_of (ways_of o) v.text
+  -- each has a piece for each of its hunks
+  pub are : AreDigests v.text v.patches v.olds

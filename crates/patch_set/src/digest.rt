@@ -106,6 +106,7 @@ fn digest_of(
     ensures plain { IfOk result (λ d. map (patch_of text.items) d.patches ≡ map (patch_of text.items) digests.patches.items) }
     ensures olds { IfOk result (λ d. d.olds ≡ map (λ os. os.items) digests.olds.items) }
     ensures regions { IfOk result (λ d. map region_of d.patches ≡ map region_of digests.patches.items) }
+    ensures are { IfOk result (λ d. AreDigests text.items d.patches d.olds) }
     ensures refused { Meets (refusal_of (plain_options options.now) text.items (Ok (map (patch_of text.items) digests.patches.items))) result }
 {
     match refused(&text, options, &digests.patches) {
@@ -127,6 +128,7 @@ fn named_digest(
     ensures plain { IfOk result (λ d. map (patch_of text.items) d.patches ≡ map (patch_of text.items) digests.patches.items) }
     ensures olds { IfOk result (λ d. d.olds ≡ map (λ os. os.items) digests.olds.items) }
     ensures regions { IfOk result (λ d. map region_of d.patches ≡ map region_of digests.patches.items) }
+    ensures are { IfOk result (λ d. AreDigests text.items d.patches d.olds) }
     ensures refused { Meets (reserved (plain_options options.now) (map (patch_of text.items) digests.patches.items)) result }
 {
     let named = name_all(alloc, &text, options, digests.patches)?;

@@ -38,6 +38,15 @@ returns-in-None-clause-regions c =
     let have = have-targets o text c.deref.result.now ps named.patches.items named.output c.deref.ensures.value c.in_ok-named.ensures.patches c.in_ok-named.ensures.output c.in_ok-named.ensures.temps in
     named-regions o text (known_names o (map (patch_of text) ps)) ps named.patches.items have.are
 
+pub returns-in-None-clause-are : goal.returns-in-None-clause-are
+returns-in-None-clause-are c =
+    let o = plain_options c.args.options.now in
+    let text = c.args.text.items in
+    let ps = c.args.digests.patches.items in
+    let named = c.in_ok-named.named in
+    let have = have-targets o text c.deref.result.now ps named.patches.items named.output c.deref.ensures.value c.in_ok-named.ensures.patches c.in_ok-named.ensures.output c.in_ok-named.ensures.temps in
+    named-digests o text (known_names o (map (patch_of text) ps)) ps named.patches.items _ have.are c.requires.are
+
 pub invariant_of-result : goal.invariant_of-result
 invariant_of-result c =
     let o = plain_options c.args.options.now in
