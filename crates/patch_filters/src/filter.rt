@@ -63,12 +63,7 @@ fn put_if_kept<O: Sink>(
 }
 
 /// Writes a hunk, counted from 0.
-fn put_span<O: Sink>(
-    text: &[u8],
-    patch: &FilePatch,
-    hunk: usize,
-    out: &mut O,
-) -> Result<(), Failed>
+fn put_span<O: Sink>(text: &[u8], patch: &FilePatch, hunk: usize, out: &mut O) -> Result<(), Failed>
     requires cut { AreCut patch.now.header patch.now.hunk_spans.items patch.now.span.end }
     requires high { patch.now.span.end ≤ length text.now }
     requires within { hunk < length patch.now.hunk_spans.items }
@@ -188,7 +183,13 @@ fn put_if_taken<O: Sink>(
     if !is_taken(digest, job, patch) {
         return Ok(());
     }
-    put_written(digest.text(), job, patch_at(digest, patch), digest.olds(patch), out)
+    put_written(
+        digest.text(),
+        job,
+        patch_at(digest, patch),
+        digest.olds(patch),
+        out,
+    )
 }
 
 /// Writes each file patch that is selected and whose number is meant: the lines in front of its first hunk, and the hunks

@@ -1,5 +1,5 @@
-//! The file patches of a set as a list, the text of a set with file patches and hunks left out, and the file patches of which
-//! a line is found, to any sink. Only a finder takes memory. After a failure the sink received a first part.
+//! The file patches of a text as a list, the text with file patches and hunks left out, and the file patches of which a line is
+//! found, to any sink. Only a finder takes memory. After a failure the sink received a first part.
 #![tactic(auto)]
 
 mod fault;

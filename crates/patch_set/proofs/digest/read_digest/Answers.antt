@@ -1,4 +1,4 @@
-use Rattle.std.proofs.Common.{◌≡◌, Ok, subst, ap, map, length, sym, ◌∙◌, arith}
+use Rattle.std.proofs.Common.{◌≡◌, Ok, subst, ap, map, length, arith}
 use Rattle.std.proofs.lemmas.Bool.{le-ltb}
 use Rattle.file_patch.specs.PlainPatch.{patch_of}
 use Rattle.patch_options.specs.PlainJob.{plain_options}
