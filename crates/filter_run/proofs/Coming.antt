@@ -11,13 +11,13 @@ use Rattle.patch_set.specs.Refusals.{refusal}
 use Rattle.patch_set.specs.SetView.{SetView, IsRead}
 use Rattle.patch_set.specs.Outlined.{outlined}
 use Rattle.patch_filters.specs.Listed.{listed}
-use Rattle.patch_filters.specs.Filtered.{filtered}
+use Rattle.patch_filters.specs.Digested.{filtered_digest}
 use Rattle.patch_filters.specs.Grepped.{grepped}
 use Rattle.filter_run.specs.Texts.{defaults, patches_in, filtered_in, grepped_in}
 use Rattle.filter_run.specs.Outcomes.{Outcome, unless_refused, outcome_by, given, list_with, filter_with, grep_with, list_outcome, filter_outcome, grep_outcome}
 use Rattle.filter_run.specs.declared.fault.FilterFault.TheVariants as faults
-use Rattle.filter_run.specs.Opened.{IsOutlineOf, IsSet}
-use Rattle.filter_run.proofs.ByText.{patches-by, listed-by, filtered-by, grepped-by}
+use Rattle.filter_run.specs.Opened.{IsDigestIn, IsOutlineOf, IsSet}
+use Rattle.filter_run.proofs.ByText.{patches-by, listed-by, digested-by, grepped-by}
 
 -- the bytes that are written of what is read from the text, unless that is refused
 abbrev pub ComesBy : {V : Type 0} → (Bool → List ℕ → V → Type 0) → Bool → Option SetFault → (V → List ℕ) → List ℕ → Outcome → Type 0
@@ -53,10 +53,10 @@ unfolding list_outcome
 listed-is j f left = comes-is IsOutlineOf (λ s v. listed (list_with j s) (outlined v)) (λ s text. listed (list_with j s) (patches_in s.skip_binary text))
     (λ s text v read. listed-by (list_with j s) s.skip_binary text v read) (given j.input j.select f left)
 
-pub filtered-is : (j : PlainFilterJob) (f : Files) (left : List ℕ) (o : Outcome) → Comes IsSet (λ s v. filtered (filter_with j s) v) (given j.input j.select f left) o → o ≡ filter_outcome j f left
+pub filtered-is : (j : PlainFilterJob) (f : Files) (left : List ℕ) (o : Outcome) → Comes IsDigestIn (λ s v. filtered_digest (filter_with j s) v) (given j.input j.select f left) o → o ≡ filter_outcome j f left
 unfolding filter_outcome
-filtered-is j f left = comes-is IsSet (λ s v. filtered (filter_with j s) v) (λ s text. filtered_in (filter_with j s) text)
-    (λ s text v read. filtered-by (filter_with j s) text v read) (given j.input j.select f left)
+filtered-is j f left = comes-is IsDigestIn (λ s v. filtered_digest (filter_with j s) v) (λ s text. filtered_in (filter_with j s) text)
+    (λ s text v read. digested-by (filter_with j s) text v read) (given j.input j.select f left)
 
 pub grepped-is : (hit : List ℕ → List ℕ → Bool) (j : PlainGrepJob) (f : Files) (left : List ℕ) (o : Outcome) → Comes IsSet (λ s v. grepped (hit j.pattern) (grep_with j s) v) (given j.input j.select f left) o → o ≡ grep_outcome hit j f left
 unfolding grep_outcome

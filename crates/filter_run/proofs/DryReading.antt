@@ -4,6 +4,7 @@ use Rattle.hunk_core.specs.Reading.{Fault}
 use Rattle.line_list.specs.Completed.{completed}
 use Rattle.file_patch.specs.PlainPatch.{PlainPatch}
 use Rattle.patch_set.specs.Asked.{ways_of}
+use Rattle.patch_set.specs.Digested.{DigestView, IsDigestOf}
 use Rattle.patch_set.specs.Outlined.{IsOutline, OutlineView}
 use Rattle.patch_set.specs.Refusals.{is_too_long, refusal, refusal_of}
 use Rattle.patch_set.specs.SetView.{SetView, IsRead}
@@ -25,6 +26,9 @@ read-alike skip given v h = record {
 
 pub outlined-alike : (skip : Bool) (given : List ℕ) (v : OutlineView) → IsOutline (dry_defaults skip) given v → IsOutline (defaults skip) given v
 outlined-alike skip given v h = record { text = h.text; patches = h.patches }
+
+pub digested-alike : (skip : Bool) (given : List ℕ) (v : DigestView) → IsDigestOf (dry_defaults skip) given v → IsDigestOf (defaults skip) given v
+digested-alike skip given v h = record { text = h.text; patches = h.patches; regions = h.regions; are = h.are }
 
 of-alike : (skip : Bool) (text : List ℕ) (r : Result (List PlainPatch) Fault) → refusal_of (dry_defaults skip) text r ≡ refusal_of (defaults skip) text r
 of-alike skip text (Ok ps) = refl

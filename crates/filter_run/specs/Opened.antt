@@ -12,6 +12,7 @@ use Rattle.patch_set.specs.declared.fault.SetFault.{SetFault}
 use Rattle.patch_set.specs.declared.fault.SetFault.TheVariants.{Garbage}
 use Rattle.patch_set.specs.Refusals.{refusal}
 use Rattle.patch_set.specs.SetView.{SetView, IsRead}
+use Rattle.patch_set.specs.Digested.{DigestView, IsDigestOf}
 use Rattle.patch_set.specs.Outlined.{IsOutline, OutlineView}
 use Rattle.filter_run.specs.Texts.{defaults}
 use Rattle.filter_run.specs.Outcomes.{given}
@@ -19,12 +20,15 @@ use Rattle.filter_run.specs.Sifting.{IsTold, is_refusal, HasInputCause, HasTextC
 use Rattle.filter_run.specs.declared.fault.FilterFault.{FilterFault}
 use Rattle.filter_run.specs.declared.fault.FilterFault.TheVariants as faults
 
--- what is read of a text: a set, or an outline
+-- what is read of a text: a set, an outline, or a digest
 abbrev pub IsSet : Bool → List ℕ → SetView → Type 0
 IsSet skip text v = IsRead (defaults skip) text v
 
 abbrev pub IsOutlineOf : Bool → List ℕ → OutlineView → Type 0
 IsOutlineOf skip text v = IsOutline (defaults skip) text v
+
+abbrev pub IsDigestIn : Bool → List ℕ → DigestView → Type 0
+IsDigestIn skip text v = IsDigestOf (defaults skip) text v
 
 -- a text and a selection are given, and this is read from the text
 pub record IsReadOf {V : Type 0} (Is : Bool → List ℕ → V → Type 0) (v : V) (s : PlainSelect) (x : Result (List ℕ × PlainSelect) InputFault) : Type 0 where

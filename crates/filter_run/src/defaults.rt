@@ -1,13 +1,14 @@
 //! How a filter reads a text: as `patch` does without options, but perhaps for `--skip-binary`.
 ghost use Rattle.std.specs.Prelude.{◌≡◌, IfOk};
 ghost use Rattle.patch_options.specs.PlainJob.{plain_options, IsLawful};
+ghost use Rattle.patch_set.specs.Digested.{IsDigestOf};
 ghost use Rattle.patch_set.specs.Outlined.{IsOutline};
 ghost use Rattle.patch_set.specs.Refusals.{refusal};
 ghost use Rattle.patch_set.specs.SetView.{IsRead, IsWhole, Meets};
 ghost use Rattle.filter_run.specs.Texts.{defaults, dry_defaults};
 
 use patch_options::{Input, Options, PlanKind};
-use patch_set::{Outline, PatchSet, SetFault, read_outline, read_set};
+use patch_set::{Digest, Outline, PatchSet, SetFault, read_digest, read_outline, read_set};
 use std::alloc::Global;
 
 /// The set of a text, of which binary changes are passed over or not.
@@ -25,6 +26,14 @@ pub fn outline_plain(alloc: Global, text: Vec<u8>, skip_binary: bool) -> Result<
     ensures refused { Meets (refusal (defaults skip_binary) text.items) result }
 {
     read_outline(alloc, text, &default_options(skip_binary))
+}
+
+/// The same without hunks, with the piece and the old lines of each.
+pub fn digest_plain(alloc: Global, text: Vec<u8>, skip_binary: bool) -> Result<Digest, SetFault>
+    ensures digest { IfOk result (IsDigestOf (defaults skip_binary) text.items) }
+    ensures refused { Meets (refusal (defaults skip_binary) text.items) result }
+{
+    read_digest(alloc, text, &default_options(skip_binary))
 }
 
 /// What `patch` alone asks for, or with `--skip-binary`, in a dry run: the set is the same, without the room that a run needs

@@ -15,5 +15,5 @@ pub use converting::run_convert;
 pub use fault::FilterFault;
 pub use flipping::{run_flip, texts_turn_as_sets};
 pub use form_fault::FormFault;
-pub use sifting::{run_filter, run_grep, run_list, run_recount};
+pub use sifting::{digests_are_filtered_as_sets, run_filter, run_grep, run_list, run_recount};
 pub use splitting::run_split;

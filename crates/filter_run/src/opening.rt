@@ -5,6 +5,7 @@ ghost use Rattle.outside.specs.Calls.{IsUntouched};
 ghost use Rattle.outside.specs.SourceView.{SourcePasses};
 ghost use Rattle.tool_words.specs.PlainJobs.{plain_select};
 ghost use Rattle.patch_input.specs.Input.{IsFile, IsStandard, TakesAtMost};
+ghost use Rattle.patch_set.specs.Digested.{IsDigestOf};
 ghost use Rattle.patch_set.specs.Outlined.{IsOutline};
 ghost use Rattle.patch_set.specs.SetView.{IsRead, IsWhole};
 ghost use Rattle.patch_set.specs.Refusals.{refusal};
@@ -12,16 +13,16 @@ ghost use Rattle.patch_set.specs.declared.fault.SetFault.{SetFault as TheFault};
 ghost use Rattle.filter_run.specs.Texts.{defaults};
 ghost use Rattle.filter_run.specs.Outcomes.{given};
 ghost use Rattle.filter_run.specs.Sifting.{HasInputCause, IsTold, is_refusal};
-ghost use Rattle.filter_run.specs.Opened.{IsOutlineOf, IsReadOfSome, IsSet, Opens};
+ghost use Rattle.filter_run.specs.Opened.{IsDigestIn, IsOutlineOf, IsReadOfSome, IsSet, Opens};
 ghost use Rattle.filter_run.specs.declared.fault.FilterFault.TheVariants as faults;
 
-use crate::defaults::{outline_plain, read_plain};
+use crate::defaults::{digest_plain, outline_plain, read_plain};
 use crate::fault::FilterFault;
 use crate::patterns::add_patterns;
 use outside::{Source, Tree};
 use patch_input::{InputFault, read_input};
 use patch_options::Input;
-use patch_set::{Outline, PatchSet, SetFault};
+use patch_set::{Digest, Outline, PatchSet, SetFault};
 use std::alloc::Global;
 use tool_words::Select;
 
@@ -87,6 +88,25 @@ fn outline_patches(
     }
 }
 
+/// The same without their hunks, with the piece and the old lines of each.
+fn digest_patches(
+    alloc: Global,
+    text: Vec<u8>,
+    skip_binary: bool,
+) -> Result<Option<Digest>, SetFault>
+    ensures digest { IfOk result (λ given. IfSome given (λ v. IsDigestOf (defaults skip_binary) text.items v × (refusal (defaults skip_binary) text.items ≡ None))) }
+    ensures none { IfOk result (λ given. given ≡ None → refusal (defaults skip_binary) text.items ≡ Some TheFault.Garbage) }
+    ensures refused { IfErr result (λ e. (e ≡ TheFault.Memory) ⊎ ((e ≢ TheFault.Garbage) × (refusal (defaults skip_binary) text.items ≡ Some e))) }
+{
+    match digest_plain(alloc, text, skip_binary) {
+        Ok(digest) => Ok(Some(digest)),
+        Err(fault) => match fault {
+            SetFault::Garbage => Ok(None),
+            _ => Err(fault),
+        },
+    }
+}
+
 /// The file patches that a filter reads, and its selection with the patterns of its files; none where the text has none.
 pub fn open_text<T: Tree, I: Source>(
     alloc: Global,
@@ -119,4 +139,20 @@ pub fn open_outline<T: Tree, I: Source>(
     let text = read_given(alloc, input, select, tree, source)?;
     let outline = outline_patches(alloc, text, select.skip_binary)?;
     Ok(outline)
+}
+
+/// The same without their hunks, for a filter that leaves file patches and hunks out.
+pub fn open_digest<T: Tree, I: Source>(
+    alloc: Global,
+    input: &Input,
+    select: &mut Select,
+    tree: &mut T,
+    source: &mut I,
+) -> Result<Option<Digest>, FilterFault>
+    ensures opens { Opens IsDigestIn input.now (plain_select select.old) (plain_select select.new) (T.view tree.old) (T.view tree.new) (I.view source.old) (I.view source.new) result }
+    ensures unread { IsFile input.now → source.new ≡ source.old }
+{
+    let text = read_given(alloc, input, select, tree, source)?;
+    let digest = digest_patches(alloc, text, select.skip_binary)?;
+    Ok(digest)
 }

@@ -3,23 +3,27 @@ ghost use Rattle.std.specs.Prelude.{◌≡◌, ℕ, List, [], None, Ok, string_b
 ghost use Rattle.outside.specs.Files.{Files};
 ghost use Rattle.outside.specs.FinderView.{FinderPasses};
 ghost use Rattle.outside.specs.SinkView.{Receives, ReceivesPart, SinkPasses, Writes};
-ghost use Rattle.tool_words.specs.PlainJobs.{plain_filter_job, plain_grep_job, plain_list_job, plain_select};
+ghost use Rattle.tool_words.specs.PlainJobs.{PlainFilterJob, plain_filter_job, plain_grep_job, plain_list_job, plain_select};
 ghost use Rattle.patch_input.specs.Input.{IsFile};
+ghost use Rattle.patch_set.specs.Digested.{DigestView, IsDigestOf};
 ghost use Rattle.patch_set.specs.Outlined.{outlined};
+ghost use Rattle.patch_set.specs.SetView.{IsRead, SetView};
+ghost use Rattle.patch_filters.specs.Digested.{filtered_digest};
 ghost use Rattle.patch_filters.specs.Filtered.{filtered};
 ghost use Rattle.patch_filters.specs.Grepped.{HasGrepCause, grepped};
 ghost use Rattle.patch_filters.specs.Listed.{listed};
 ghost use Rattle.filter_run.specs.Faults.{of_search, of_sink};
 ghost use Rattle.filter_run.specs.Outcomes.{HasPatches, IsOutcomeOf, filter_outcome, given, list_outcome, no_selection, recount_outcome};
+ghost use Rattle.filter_run.specs.Texts.{defaults};
 ghost use Rattle.filter_run.specs.Sifting.{Greps, HasCountCause, HasTextCause, IsTold, Sifts};
 
 use crate::fault::FilterFault;
-use crate::opening::{open_outline, open_text};
+use crate::opening::{open_digest, open_outline, open_text};
 use outside::{Failed, Finder, Sink, Source, Tree, put_all};
 use patch_filters::{GrepFault, filter_patches, grep_patches, list_patches};
 use patch_input::read_input;
 use patch_options::Input;
-use patch_set::{Outline, PatchSet, SetFault};
+use patch_set::{Digest, Outline, PatchSet, SetFault};
 use split_recount::recount;
 use std::alloc::Global;
 use std::mem::forget;
@@ -44,8 +48,7 @@ pub fn run_list<T: Tree, I: Source, O: Sink>(
     }
 }
 
-/// Carries out a command of `filterdiff` that asks for no form: the text without the file patches and hunks that it doesn't mean. What was
-/// read is left to the end of the process.
+/// Carries out a command of `filterdiff` that asks for no form: the text without the file patches and hunks that it doesn't mean.
 pub fn run_filter<T: Tree, I: Source, O: Sink>(
     alloc: Global,
     job: FilterJob,
@@ -59,15 +62,16 @@ pub fn run_filter<T: Tree, I: Source, O: Sink>(
     ensures rest { O.same_rest out.old out.new }
 {
     let mut job = job;
-    match open_text(alloc, &job.input, &mut job.select, tree, source) {
-        Ok(opened) => {
-            let answer = sink_answer(put_filtered(&opened, &job, out));
-            leave(opened);
-            answer
-        }
+    match open_digest(alloc, &job.input, &mut job.select, tree, source) {
+        Ok(opened) => sink_answer(put_filtered(&opened, &job, out)),
         Err(fault) => Err(fault),
     }
 }
+
+/// What is written of a digest is what is written of the set that is read from the same text. So what is said of a set holds of it.
+pub fn digests_are_filtered_as_sets()
+    ensures { (j : PlainFilterJob) (text : List ℕ) (v : SetView) (d : DigestView) → IsRead (defaults j.select.skip_binary) text v → IsDigestOf (defaults j.select.skip_binary) text d → filtered_digest j d ≡ filtered j v }
+{}
 
 /// Carries out a command of `grepdiff`: the names of the file patches that have what is looked for, or these themselves. What was read is left
 /// to the end of the process.
@@ -139,16 +143,16 @@ fn put_listed<O: Sink>(opened: &Option<Outline>, job: &ListJob, out: &mut O) -> 
 
 /// Writes what is meant of the file patches, where there are some.
 fn put_filtered<O: Sink>(
-    opened: &Option<PatchSet>,
+    opened: &Option<Digest>,
     job: &FilterJob,
     out: &mut O,
 ) -> Result<(), Failed>
-    ensures writes { IfSome opened.now (λ set. Writes (O.view out.old) (O.view out.new) result (filtered (plain_filter_job job.now) set)) }
+    ensures writes { IfSome opened.now (λ v. Writes (O.view out.old) (O.view out.new) result (filtered_digest (plain_filter_job job.now) v)) }
     ensures none { opened.now ≡ None → (result ≡ Ok tt) × (out.new ≡ out.old) }
     ensures rest { O.same_rest out.old out.new }
 {
     match opened {
-        Some(set) => filter_patches(set, job, out),
+        Some(digest) => filter_patches(digest, job, out),
         None => Ok(()),
     }
 }

@@ -145,11 +145,11 @@ module _ (flags : List Bool) (text : List ℕ) (p : FilePatch) (at : IsPlaced te
   pub first-hunk : first < row_count p.change
   first-hunk = omega (arith, long, first-within flags first is)
 
-  pub first-piece : piece ≡ up_to text_if (rows flags text p at long) (first + 1)
+  pub first-piece : piece ≡ up_to text_if (rows flags text p (row_count p.change) at.each long) (first + 1)
   first-piece =
-      let row = row-at flags text p at long first first-hunk ∙ ap (λ b. Some (b, piece)) (get_or_from_slice_get flags first true false is.1) in
+      let row = row-at flags text p (row_count p.change) at.each long first first-hunk ∙ ap (λ b. Some (b, piece)) (get_or_from_slice_get flags first true false is.1) in
       sym (ap (λ t. t ++ piece) (none-chosen flags (pieces text p) first is.0))
-      ∙ one-more text_if (rows flags text p at long) first (true, piece) (omega (arith, first-hunk, rows-long flags text p at long)) row
+      ∙ one-more text_if (rows flags text p (row_count p.change) at.each long) first (true, piece) (omega (arith, first-hunk, rows-long flags text p (row_count p.change) at.each long)) row
 
-  pub first-whole : piece ++ flat_map text_if (drop (first + 1) (rows flags text p at long)) ≡ flat_map text_if (rows flags text p at long)
-  first-whole = ap (λ t. t ++ flat_map text_if (drop (first + 1) (rows flags text p at long))) first-piece ∙ both text_if (rows flags text p at long) (first + 1)
+  pub first-whole : piece ++ flat_map text_if (drop (first + 1) (rows flags text p (row_count p.change) at.each long)) ≡ flat_map text_if (rows flags text p (row_count p.change) at.each long)
+  first-whole = ap (λ t. t ++ flat_map text_if (drop (first + 1) (rows flags text p (row_count p.change) at.each long))) first-piece ∙ both text_if (rows flags text p (row_count p.change) at.each long) (first + 1)

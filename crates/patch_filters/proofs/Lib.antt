@@ -8,3 +8,4 @@ mod Searching
 mod Finding
 mod Hits
 pub mod Outlined
+pub mod Digesting

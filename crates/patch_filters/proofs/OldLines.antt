@@ -18,7 +18,7 @@ use Rattle.patch_filters.specs.OldLines.{from_to, old_numbers, least, greatest, 
 
 -- ---- a hunk
 
-one-line : (n : ℕ) → from_to n n ≡ n ∷ []
+pub one-line : (n : ℕ) → from_to n n ≡ n ∷ []
 one-line n = let e : suc n - n ≡ 1 = omega arith in ap (range_with_len n) e
 
 pub no-lines : (text : List ℕ) (h : Hunk) (count : ℕ) (first last : ℕ) → count ≡ taken_count Forward h.body.items → count ≡ 0 → first ≡ max 1 h.old_start → last ≡ max 1 h.old_start → from_to first last ≡ old_numbers (hunk_of text h)
@@ -26,7 +26,7 @@ no-lines text h count first last is none low high =
     let lines : length (old_lines (hunk_of text h).body) ≡ 0 = turned-count text Forward h ∙ sym is ∙ none in
     rw (low, high, lines) (one-line (max 1 h.old_start))
 
-some-lines : (start n : ℕ) → 0 < n → from_to start (start + n - 1) ≡ cond (n == 0) (max 1 start ∷ []) (range_with_len start n)
+pub some-lines : (start n : ℕ) → 0 < n → from_to start (start + n - 1) ≡ cond (n == 0) (max 1 start ∷ []) (range_with_len start n)
 some-lines start zero some = absurd (omega arith)
 some-lines start (suc n) some =
     let e : suc (start + suc n - 1) - start ≡ suc n = omega arith in

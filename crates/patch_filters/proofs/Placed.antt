@@ -7,8 +7,10 @@ use Rattle.std.proofs.lemmas.Option.{same_Some, slice_get-get_or}
 use Rattle.line_list.specs.declared.Span.{Span}
 use Rattle.hunk_core.specs.PlainHunk.{bytes_at}
 use Rattle.hunk_core.specs.Pieces.{AreInTurn}
+use Rattle.patch_header.specs.declared.header.Header.{Header}
 use Rattle.file_patch.specs.declared.FilePatch.{FilePatch}
 use Rattle.file_patch.specs.PlainPatch.{row_count}
+use Rattle.patch_text.specs.Changes.{AreCut}
 use Rattle.patch_set.specs.Spans.{IsPlaced, ArePlaced}
 use Rattle.patch_filters.specs.Filtered.{pieces}
 use Rattle.patch_filters.proofs.Rows.{zip-at, zip-count}
@@ -32,12 +34,15 @@ placed-at text start before (q ∷ ps) zero p at is = subst (λ x. IsPlaced text
 placed-at text start before (q ∷ ps) (suc i) p at is = placed-at text q.span.end (before + row_count q.change) ps i p at.1 is
 
 -- one that has a hunk is no bare git header, so its pieces make up what it opens
-pub turn-with : (text : List ℕ) (start before : ℕ) (p : FilePatch) (hunk : ℕ) → IsPlaced text start before p → hunk < row_count p.change → AreInTurn p.header.at p.hunk_spans.items p.span.end
-turn-with text start before p hunk at lt = by p.header.bare refl
+pub turn-of : (h : Header) (ss : List Span) (end i : ℕ) → AreCut h ss end → i < length ss → AreInTurn h.at ss end
+turn-of h ss end i cut lt = by h.bare refl
   where
-    by : (b : Bool) → p.header.bare ≡ b → AreInTurn p.header.at p.hunk_spans.items p.span.end
-    by false is = at.cut.turn is
-    by true is = absurd (omega (arith, lt, at.each, ap length (at.cut.none is)))
+    by : (b : Bool) → h.bare ≡ b → AreInTurn h.at ss end
+    by false is = cut.turn is
+    by true is = absurd (omega (arith, lt, ap length (cut.none is)))
+
+pub turn-with : (text : List ℕ) (start before : ℕ) (p : FilePatch) (hunk : ℕ) → IsPlaced text start before p → hunk < row_count p.change → AreInTurn p.header.at p.hunk_spans.items p.span.end
+turn-with text start before p hunk at lt = turn-of p.header p.hunk_spans.items p.span.end hunk at.cut (omega (arith, lt, at.each))
 
 pub turn-end : (at : ℕ) (ss : List Span) (end : ℕ) → AreInTurn at ss end → at ≤ end
 turn-end at [] end turn = omega (arith, turn)
@@ -50,17 +55,17 @@ span-in at (t ∷ ss) end (suc i) s turn is = span-in t.end ss end i s turn.2 is
 
 -- ---- the pieces with flags, one for each hunk
 
-module _ (flags : List Bool) (text : List ℕ) (p : FilePatch) (at : IsPlaced text p.span.start p.first_verdict p) (long : length flags ≡ row_count p.change) where
+module _ (flags : List Bool) (text : List ℕ) (p : FilePatch) (count : ℕ) (each : length p.hunk_spans.items ≡ count) (long : length flags ≡ count) where
   abbrev pub rows : List (Bool × List ℕ)
   rows = zip flags (pieces text p)
 
-  pieces-long : length (pieces text p) ≡ row_count p.change
-  pieces-long = length-map p.hunk_spans.items (bytes_at text) ∙ at.each
+  pieces-long : length (pieces text p) ≡ count
+  pieces-long = length-map p.hunk_spans.items (bytes_at text) ∙ each
 
-  pub rows-long : length rows ≡ row_count p.change
+  pub rows-long : length rows ≡ count
   rows-long = zip-count flags (pieces text p) (long ∙ sym pieces-long) ∙ pieces-long
 
-  pub row-at : (i : ℕ) → i < row_count p.change → slice_get rows i ≡ Some (get_or flags i false, get_or (pieces text p) i [])
+  pub row-at : (i : ℕ) → i < count → slice_get rows i ≡ Some (get_or flags i false, get_or (pieces text p) i [])
   row-at i lt =
       zip-at flags (pieces text p) i _ _
       (slice_get-get_or flags i false (omega (arith, lt, long)))

@@ -53,20 +53,23 @@ olds-count : (c : PlainChange) → length (old_of_each c) ≡ hunk_count c
 olds-count (hunks hs) = length-map hs old_numbers
 olds-count (script es) = refl
 
-pub kept-at : (j : PlainFilterJob) (c : PlainChange) (i : ℕ) (olds : List ℕ) → slice_get (old_of_each c) i ≡ Some olds → slice_get (kept j c) i ≡ Some (is_kept j (suc i) olds)
-kept-at j c i olds is =
-    slice_get-map (λ (h : ℕ × List ℕ). is_kept j h.0 h.1) (numbered (old_of_each c)) i
-    ∙ ap (option_map (λ (h : ℕ × List ℕ). is_kept j h.0 h.1)) (numbered-at (old_of_each c) i olds is)
-
 -- the flag of a hunk whose old lines are these
+pub flags-at : (j : PlainFilterJob) (each : List (List ℕ)) (i : ℕ) (olds : List ℕ) → slice_get each i ≡ Some olds → get_or (map (λ h. is_kept j h.0 h.1) (numbered each)) i false ≡ is_kept j (suc i) olds
+flags-at j each i olds is =
+    get_or_from_slice_get (map (λ h. is_kept j h.0 h.1) (numbered each)) i (is_kept j (suc i) olds) false
+    (slice_get-map (λ (h : ℕ × List ℕ). is_kept j h.0 h.1) (numbered each) i ∙ ap (option_map (λ (h : ℕ × List ℕ). is_kept j h.0 h.1)) (numbered-at each i olds is))
+
 pub flag-at : (j : PlainFilterJob) (c : PlainChange) (i : ℕ) (olds : List ℕ) → slice_get (old_of_each c) i ≡ Some olds → get_or (kept j c) i false ≡ is_kept j (suc i) olds
-flag-at j c i olds is = get_or_from_slice_get (kept j c) i (is_kept j (suc i) olds) false (kept-at j c i olds is)
+flag-at j c i olds is = flags-at j (old_of_each c) i olds is
 
 pub olds-there : (text : List ℕ) (c : Change) (i : ℕ) → i < row_count c → slice_get (old_of_each (change_of text c)) i ≡ Some (get_or (old_of_each (change_of text c)) i [])
 olds-there text c i lt = slice_get-get_or (old_of_each (change_of text c)) i [] (omega (arith, lt, olds-count (change_of text c), rows-counted text c))
 
+pub flags-count : (j : PlainFilterJob) (each : List (List ℕ)) → length (map (λ h. is_kept j h.0 h.1) (numbered each)) ≡ length each
+flags-count j each = length-map (numbered each) (λ (h : ℕ × List ℕ). is_kept j h.0 h.1) ∙ numbered-count each
+
 pub kept-count : (j : PlainFilterJob) (c : PlainChange) → length (kept j c) ≡ hunk_count c
-kept-count j c = length-map (numbered (old_of_each c)) (λ (h : ℕ × List ℕ). is_kept j h.0 h.1) ∙ numbered-count (old_of_each c) ∙ olds-count c
+kept-count j c = flags-count j (old_of_each c) ∙ olds-count c
 
 pub kept-long : (j : PlainFilterJob) (text : List ℕ) (c : Change) → length (kept j (change_of text c)) ≡ row_count c
 kept-long j text c = kept-count j (change_of text c) ∙ rows-counted text c

@@ -3,6 +3,7 @@ pub mod Listed
 pub mod OldLines
 pub mod Kept
 pub mod Filtered
+pub mod Digested
 pub mod Grepped
 pub mod Laws
 pub mod RegexFound

@@ -1,52 +1,42 @@
-//! The text of a set with file patches and hunks left out.
+//! The text of a digest with file patches and hunks left out.
 
-ghost use Rattle.std.specs.Prelude.{◌≡◌, ◌<◌, ◌++◌, ◌^◌, ℕ, List, [], false, length, slice_index_or, suc};
+ghost use Rattle.std.specs.Prelude.{◌≡◌, ◌+◌, ◌<◌, ◌≤◌, ◌^◌, ◌++◌, [], Some, false, length, slice_get, slice_index_or, suc};
 ghost use Rattle.std.specs.List.{list_any};
 ghost use Rattle.std.specs.Option.{ForSome};
 ghost use Rattle.outside.specs.SinkView.{Writes};
 ghost use Rattle.hunk_core.specs.Writing.{Puts};
-ghost use Rattle.file_patch.specs.PlainPatch.{IsLawfulChange, change_of, header_of, patch_of, row_count};
-ghost use Rattle.patch_set.specs.SetView.{patch_at};
-ghost use Rattle.patch_set.specs.Spans.{IsPlaced};
+ghost use Rattle.file_patch.specs.PlainPatch.{header_of};
+ghost use Rattle.patch_text.specs.Changes.{AreCut};
+ghost use Rattle.patch_text.specs.Digests.{IsDigest};
 ghost use Rattle.tool_words.specs.PlainJobs.{plain_filter_job};
-ghost use Rattle.patch_filters.specs.OldLines.{IsCounted};
-ghost use Rattle.patch_filters.specs.Kept.{is_taken, kept, keeps};
-ghost use Rattle.patch_filters.specs.Filtered.{asks_no_hunk, chosen, filtered, pieces, region, text_if, written, written_bare, written_hunks, written_if_taken};
+ghost use Rattle.patch_filters.specs.Kept.{is_taken};
+ghost use Rattle.patch_filters.specs.Filtered.{asks_no_hunk, chosen, pieces, region, text_if, written_bare};
+ghost use Rattle.patch_filters.specs.Digested.{digest_hunks, digest_if_taken, digest_kept, digest_written, filtered_digest};
 
-use crate::hunks::is_kept;
+use crate::hunks::is_row_kept;
 use crate::numbers::{is_meant, is_selected};
-use crate::pieces::{bytes_at, put_hunk, put_piece, put_region};
-use crate::set::patch_at;
+use crate::pieces::{bytes_at, put_piece};
 use file_patch::FilePatch;
 use outside::{Failed, Sink};
-use patch_set::PatchSet;
+use patch_set::Digest;
 use tool_words::FilterJob;
+use unified_form::OldRange;
 
 /// Whether a file patch, counted from 0, is meant.
-fn is_taken(set: &PatchSet, job: &FilterJob, patch: u32) -> bool
-    requires { patch < length set.now.patches }
-    ensures { ForSome (patch_at set.now patch) (λ p. result ≡ is_taken (plain_filter_job job.now) (suc patch) (header_of set.now.text p.header)) }
+fn is_taken(digest: &Digest, job: &FilterJob, patch: usize) -> bool
+    requires within { patch < length digest.now.patches }
+    requires few { patch + 1 < 2 ^ 64 }
+    ensures { ForSome (slice_get digest.now.patches patch) (λ p. result ≡ is_taken (plain_filter_job job.now) (suc patch) (header_of digest.now.text p.header)) }
 {
-    is_selected(&job.select, set.plain_name(patch)) && is_meant(&job.files, u64::from(patch) + 1)
+    is_selected(&job.select, digest.plain_name(patch)) && is_meant(&job.files, patch as u64 + 1)
 }
 
-/// Whether a hunk of a file patch is kept, both counted from 0: the file patch is selected, its number is meant, and so are
-/// the number of the hunk and one of its old lines. An ed script is one hunk.
-pub fn keeps(set: &PatchSet, job: &FilterJob, patch: u32, hunk: u32) -> bool
-    requires patch { patch < length set.now.patches }
-    requires hunk { ForSome (patch_at set.now patch) (λ p. hunk < row_count p.change) }
-    ensures { ForSome (patch_at set.now patch) (λ p. result ≡ keeps (plain_filter_job job.now) patch (patch_of set.now.text p) hunk) }
+fn has_kept(text: &[u8], job: &FilterJob, patch: &FilePatch, olds: &[OldRange]) -> bool
+    requires { IsDigest text.now patch.now olds.now }
+    ensures { result ≡ list_any (λ is. is) (digest_kept (plain_filter_job job.now) text.now patch.now olds.now) }
 {
-    is_taken(set, job, patch) && is_kept(job, &patch_at(set, patch).change, hunk)
-}
-
-fn has_kept(job: &FilterJob, patch: &FilePatch) -> bool
-    requires counted { IsCounted patch.now.change }
-    requires few { row_count patch.now.change < 2 ^ 32 }
-    ensures { (text : List ℕ) → IsLawfulChange text patch.now.change → result ≡ list_any (λ is. is) (kept (plain_filter_job job.now) (change_of text patch.now.change)) }
-{
-    for hunk in 0..patch.hunks() {
-        if is_kept(job, &patch.change, hunk) {
+    for hunk in 0..patch.hunk_spans.len() {
+        if is_row_kept(text, job, patch, olds, hunk) {
             return true;
         }
     }
@@ -58,32 +48,43 @@ fn put_if_kept<O: Sink>(
     text: &[u8],
     job: &FilterJob,
     patch: &FilePatch,
-    hunk: u32,
+    olds: &[OldRange],
+    hunk: usize,
     out: &mut O,
 ) -> Result<(), Failed>
-    requires lawful { IsLawfulChange text.now patch.now.change }
-    requires placed { IsPlaced text.now patch.now.span.start patch.now.first_verdict patch.now }
-    requires within { hunk < row_count patch.now.change }
-    ensures { Puts O.view O.same_rest out.old out.new result (text_if (slice_index_or (kept (plain_filter_job job.now) (change_of text.now patch.now.change)) hunk false, slice_index_or (pieces text.now patch.now) hunk [])) }
+    requires digest { IsDigest text.now patch.now olds.now }
+    requires within { hunk < length patch.now.hunk_spans.items }
+    ensures { Puts O.view O.same_rest out.old out.new result (text_if (slice_index_or (digest_kept (plain_filter_job job.now) text.now patch.now olds.now) hunk false, slice_index_or (pieces text.now patch.now) hunk [])) }
 {
-    if !is_kept(job, &patch.change, hunk) {
+    if !is_row_kept(text, job, patch, olds, hunk) {
         return Ok(());
     }
-    put_hunk(text, patch, hunk, out)
+    put_span(text, patch, hunk, out)
+}
+
+/// Writes a hunk, counted from 0.
+fn put_span<O: Sink>(text: &[u8], patch: &FilePatch, hunk: usize, out: &mut O) -> Result<(), Failed>
+    requires cut { AreCut patch.now.header patch.now.hunk_spans.items patch.now.span.end }
+    requires high { patch.now.span.end ≤ length text.now }
+    requires within { hunk < length patch.now.hunk_spans.items }
+    ensures { Puts O.view O.same_rest out.old out.new result (slice_index_or (pieces text.now patch.now) hunk []) }
+{
+    let span = patch.hunk_spans[hunk];
+    put_piece(out, bytes_at(text, span))
 }
 
 fn put_chosen<O: Sink>(
     text: &[u8],
     job: &FilterJob,
     patch: &FilePatch,
+    olds: &[OldRange],
     out: &mut O,
 ) -> Result<(), Failed>
-    requires lawful { IsLawfulChange text.now patch.now.change }
-    requires placed { IsPlaced text.now patch.now.span.start patch.now.first_verdict patch.now }
-    ensures { Puts O.view O.same_rest out.old out.new result (chosen (kept (plain_filter_job job.now) (change_of text.now patch.now.change)) (pieces text.now patch.now)) }
+    requires { IsDigest text.now patch.now olds.now }
+    ensures { Puts O.view O.same_rest out.old out.new result (chosen (digest_kept (plain_filter_job job.now) text.now patch.now olds.now) (pieces text.now patch.now)) }
 {
-    for hunk in 0..patch.hunks() {
-        put_if_kept(text, job, patch, hunk, out)?;
+    for hunk in 0..patch.hunk_spans.len() {
+        put_if_kept(text, job, patch, olds, hunk, out)?;
     }
     Ok(())
 }
@@ -93,30 +94,30 @@ fn put_parts<O: Sink>(
     text: &[u8],
     job: &FilterJob,
     patch: &FilePatch,
+    olds: &[OldRange],
     out: &mut O,
 ) -> Result<(), Failed>
-    requires lawful { IsLawfulChange text.now patch.now.change }
-    requires placed { IsPlaced text.now patch.now.span.start patch.now.first_verdict patch.now }
-    ensures { Puts O.view O.same_rest out.old out.new result (region text.now patch.now ++ chosen (kept (plain_filter_job job.now) (change_of text.now patch.now.change)) (pieces text.now patch.now)) }
+    requires { IsDigest text.now patch.now olds.now }
+    ensures { Puts O.view O.same_rest out.old out.new result (region text.now patch.now ++ chosen (digest_kept (plain_filter_job job.now) text.now patch.now olds.now) (pieces text.now patch.now)) }
 {
-    put_region(text, patch, out)?;
-    put_chosen(text, job, patch, out)
+    put_piece(out, &text[patch.span.start as usize..patch.header.at])?;
+    put_chosen(text, job, patch, olds, out)
 }
 
 fn put_hunks<O: Sink>(
     text: &[u8],
     job: &FilterJob,
     patch: &FilePatch,
+    olds: &[OldRange],
     out: &mut O,
 ) -> Result<(), Failed>
-    requires lawful { IsLawfulChange text.now patch.now.change }
-    requires placed { IsPlaced text.now patch.now.span.start patch.now.first_verdict patch.now }
-    ensures { Puts O.view O.same_rest out.old out.new result (written_hunks (plain_filter_job job.now) text.now patch.now) }
+    requires { IsDigest text.now patch.now olds.now }
+    ensures { Puts O.view O.same_rest out.old out.new result (digest_hunks (plain_filter_job job.now) text.now patch.now olds.now) }
 {
-    if !has_kept(job, patch) {
+    if !has_kept(text, job, patch, olds) {
         return Ok(());
     }
-    put_parts(text, job, patch, out)
+    put_parts(text, job, patch, olds, out)
 }
 
 fn asks_no_hunk(job: &FilterJob) -> bool
@@ -131,7 +132,9 @@ fn put_bare<O: Sink>(
     patch: &FilePatch,
     out: &mut O,
 ) -> Result<(), Failed>
-    requires { IsPlaced text.now patch.now.span.start patch.now.first_verdict patch.now }
+    requires region { patch.now.span.start ≤ patch.now.header.at }
+    requires some { patch.now.header.at < patch.now.span.end }
+    requires high { patch.now.span.end ≤ length text.now }
     ensures { Puts O.view O.same_rest out.old out.new result (written_bare (plain_filter_job job.now) text.now patch.now) }
 {
     if !asks_no_hunk(job) {
@@ -144,50 +147,66 @@ fn put_written<O: Sink>(
     text: &[u8],
     job: &FilterJob,
     patch: &FilePatch,
+    olds: &[OldRange],
     out: &mut O,
 ) -> Result<(), Failed>
-    requires lawful { IsLawfulChange text.now patch.now.change }
-    requires placed { IsPlaced text.now patch.now.span.start patch.now.first_verdict patch.now }
-    ensures { Puts O.view O.same_rest out.old out.new result (written (plain_filter_job job.now) text.now patch.now) }
+    requires { IsDigest text.now patch.now olds.now }
+    ensures { Puts O.view O.same_rest out.old out.new result (digest_written (plain_filter_job job.now) text.now patch.now olds.now) }
 {
     if patch.header.bare {
         put_bare(text, job, patch, out)
     } else {
-        put_hunks(text, job, patch, out)
+        put_hunks(text, job, patch, olds, out)
     }
+}
+
+/// A file patch, counted from 0.
+fn patch_at(digest: &Digest, patch: usize) -> &FilePatch
+    requires { patch < length digest.now.patches }
+    ensures is { slice_get digest.now.patches patch ≡ Some result.now }
+    ensures digest { ForSome (slice_get digest.now.olds patch) (IsDigest digest.now.text result.now) }
+{
+    &digest.patches()[patch]
 }
 
 /// Writes what is written of a file patch, counted from 0, if it is meant.
 fn put_if_taken<O: Sink>(
-    set: &PatchSet,
+    digest: &Digest,
     job: &FilterJob,
-    patch: u32,
+    patch: usize,
     out: &mut O,
 ) -> Result<(), Failed>
-    requires { patch < length set.now.patches }
-    ensures { ForSome (patch_at set.now patch) (λ p. Puts O.view O.same_rest out.old out.new result (written_if_taken (plain_filter_job job.now) set.now.text (suc patch, p))) }
+    requires within { patch < length digest.now.patches }
+    requires few { patch + 1 < 2 ^ 64 }
+    ensures { ForSome (slice_get digest.now.patches patch) (λ p. ForSome (slice_get digest.now.olds patch) (λ olds. Puts O.view O.same_rest out.old out.new result (digest_if_taken (plain_filter_job job.now) digest.now.text (suc patch, (p, olds))))) }
 {
-    if !is_taken(set, job, patch) {
+    if !is_taken(digest, job, patch) {
         return Ok(());
     }
-    put_written(set.text(), job, patch_at(set, patch), out)
+    put_written(
+        digest.text(),
+        job,
+        patch_at(digest, patch),
+        digest.olds(patch),
+        out,
+    )
 }
 
 /// Writes each file patch that is selected and whose number is meant: the lines in front of its first hunk, and the hunks
 /// that are kept; nothing where none is. Range lines stay as they are. A bare git header is written where neither numbers
 /// nor lines of hunks are asked for.
-pub fn filter_patches<O: Sink>(set: &PatchSet, job: &FilterJob, out: &mut O) -> Result<(), Failed>
-    ensures writes { Writes (O.view out.old) (O.view out.new) result (filtered (plain_filter_job job.now) set.now) }
+pub fn filter_patches<O: Sink>(digest: &Digest, job: &FilterJob, out: &mut O) -> Result<(), Failed>
+    ensures writes { Writes (O.view out.old) (O.view out.new) result (filtered_digest (plain_filter_job job.now) digest.now) }
     ensures rest { O.same_rest out.old out.new }
 {
-    put_filtered(set, job, out)
+    put_filtered(digest, job, out)
 }
 
-fn put_filtered<O: Sink>(set: &PatchSet, job: &FilterJob, out: &mut O) -> Result<(), Failed>
-    ensures { Puts O.view O.same_rest out.old out.new result (filtered (plain_filter_job job.now) set.now) }
+fn put_filtered<O: Sink>(digest: &Digest, job: &FilterJob, out: &mut O) -> Result<(), Failed>
+    ensures { Puts O.view O.same_rest out.old out.new result (filtered_digest (plain_filter_job job.now) digest.now) }
 {
-    for patch in 0..set.patches().len() {
-        put_if_taken(set, job, patch as u32, out)?;
+    for patch in 0..digest.patches().len() {
+        put_if_taken(digest, job, patch, out)?;
     }
     Ok(())
 }

@@ -6,13 +6,16 @@ ghost use Rattle.ed_form.specs.PlainEdit.{IsLawfulScript, edits_of};
 ghost use Rattle.file_patch.specs.PlainPatch.{IsLawfulChange, change_of, row_count};
 ghost use Rattle.tool_words.specs.PlainJobs.{plain_filter_job};
 ghost use Rattle.patch_filters.specs.OldLines.{IsCounted, addressed, numbers_of, old_numbers, old_of_each};
+ghost use Rattle.patch_text.specs.Digests.{IsDigest, rows_in};
 ghost use Rattle.patch_filters.specs.Kept.{kept};
+ghost use Rattle.patch_filters.specs.Digested.{digest_kept, olds_by, range_numbers};
 
 use crate::numbers::{Lines, is_meant, is_one_meant};
 use ed_form::EdScript;
-use file_patch::Change;
+use file_patch::{Change, FilePatch};
 use hunk_core::{Hunk, Side};
 use tool_words::FilterJob;
+use unified_form::OldRange;
 
 /// A line's number, counted from 1.
 fn at_least_one(number: u32) -> u64
@@ -63,6 +66,53 @@ fn lines_of(change: &Change, hunk: u32) -> Lines
         Change::Hunks(hunks) => old_lines(&hunks[hunk as usize]),
         Change::Script(script) => addressed(script),
     }
+}
+
+/// The old lines that a range states.
+fn range_lines(old: OldRange) -> Lines
+    ensures { numbers_of result ≡ range_numbers old }
+{
+    let count = u64::from(old.count);
+    if count == 0 {
+        let line = at_least_one(old.start);
+        return Lines {
+            first: line,
+            last: line,
+        };
+    }
+    let first = u64::from(old.start);
+    Lines {
+        first,
+        last: first + count - 1,
+    }
+}
+
+/// The old lines of a hunk of a digest, counted from 0; an ed script is one, and tells them itself.
+fn row_lines(change: &Change, olds: &[OldRange], hunk: usize) -> Lines
+    requires counted { IsCounted change.now }
+    requires within { hunk < rows_in change.now olds.now }
+    ensures { (text : List ℕ) → IsLawfulChange text change.now → slice_get (olds_by (change_of text change.now) olds.now) hunk ≡ Some (numbers_of result) }
+{
+    match change {
+        Change::Hunks(_) => range_lines(olds[hunk]),
+        Change::Script(script) => addressed(script),
+    }
+}
+
+/// Whether a hunk of a file patch of a digest, counted from 0, is kept.
+pub fn is_row_kept(
+    text: &[u8],
+    job: &FilterJob,
+    patch: &FilePatch,
+    olds: &[OldRange],
+    hunk: usize,
+) -> bool
+    requires digest { IsDigest text.now patch.now olds.now }
+    requires within { hunk < length patch.now.hunk_spans.items }
+    ensures { result ≡ slice_index_or (digest_kept (plain_filter_job job.now) text.now patch.now olds.now) hunk false }
+{
+    is_meant(&job.hunks, hunk as u64 + 1)
+        && is_one_meant(&job.lines, row_lines(&patch.change, olds, hunk))
 }
 
 /// Whether a hunk, counted from 0, is kept.

@@ -1,11 +1,12 @@
-//! The file patches of a set as a list, the text of a set with file patches and hunks left out, and the file patches of which
-//! a line is found, to any sink. Only a finder takes memory. After a failure the sink received a first part.
+//! The file patches of a text as a list, the text with file patches and hunks left out, and the file patches of which a line is
+//! found, to any sink. Only a finder takes memory. After a failure the sink received a first part.
 #![tactic(auto)]
 
 mod fault;
 mod filter;
 mod grep;
 mod hunks;
+mod kept;
 mod laws;
 mod list;
 mod numbers;
@@ -15,8 +16,9 @@ mod search;
 mod set;
 
 pub use fault::GrepFault;
-pub use filter::{filter_patches, keeps};
+pub use filter::filter_patches;
 pub use grep::grep_patches;
+pub use kept::keeps;
 pub use laws::filter_laws;
 pub use list::list_patches;
 pub use regex_finder::RegexFinder;

@@ -7,6 +7,7 @@ pub mod Refusals
 pub mod Room
 pub mod SetView
 pub mod Outlined
+pub mod Digested
 pub mod Spans
 pub mod Fresh
 pub mod Skipped

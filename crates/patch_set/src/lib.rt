@@ -2,6 +2,7 @@
 #![tactic(auto)]
 
 mod asked;
+mod digest;
 mod fault;
 mod header_name;
 mod laws;
@@ -14,6 +15,7 @@ mod set;
 mod skipped;
 
 pub use asked::{is_posix, ways_of};
+pub use digest::{Digest, read_digest};
 pub use fault::SetFault;
 pub use file_patch::{Change, FilePatch};
 pub use laws::{

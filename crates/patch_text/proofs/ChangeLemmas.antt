@@ -74,7 +74,7 @@ turn-some : (at : ℕ) (ss : List Span) (end n : ℕ) → AreInTurn at ss end �
 turn-some at [] end n h some e = absurd (omega (arith, h, some))
 turn-some at (s ∷ ss) end n h some e = omega (arith, e)
 
-spell-count : (S : ℕ → List (List ℕ) → PlainHunk → Type 0) (text : List ℕ) (least : ℕ) (ss : List Span) (hs : List PlainHunk) → SpellInTurn S text least ss hs → length ss ≡ length hs
+pub spell-count : (S : ℕ → List (List ℕ) → PlainHunk → Type 0) (text : List ℕ) (least : ℕ) (ss : List Span) (hs : List PlainHunk) → SpellInTurn S text least ss hs → length ss ≡ length hs
 spell-count S text least [] [] h = refl
 spell-count S text least [] (x ∷ hs) h = absurd h
 spell-count S text least (s ∷ ss) [] h = absurd h
@@ -163,7 +163,7 @@ rows-behind text h r is = by h.bare refl
     by true e = let none : length r.spans.items ≡ 0 = ap length (is.cut.none e) in omega (arith, is.each, none, is.some)
     by false e = omega (arith, is.each, turn-count h.at r.spans.items r.end (is.cut.turn e))
 
-differ : (b : Bool) → b ≡ true → b ≡ false → ⊥
+pub differ : (b : Bool) → b ≡ true → b ≡ false → ⊥
 differ b is isnt = cc
 
 pub behind-hunks : (text : List ℕ) (h : Header) (r : ReadChange) → h.bare ≡ false → IsChange text h.form h.at h.opening r → IsBehind text h r

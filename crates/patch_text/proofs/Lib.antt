@@ -4,5 +4,7 @@ pub mod HeaderLemmas
 pub mod TextLoops
 pub mod OutlineLemmas
 pub mod OutlineLoops
+pub mod DigestLemmas
+pub mod DigestLoops
 pub mod TextLaws
 pub mod RegionLaws

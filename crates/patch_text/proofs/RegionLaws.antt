@@ -30,7 +30,7 @@ region-next ways text start number before p line opens is =
     ∙ ap (λ k. Some (region_up_to text start p.header k, behind)) place
     ∙ ap (λ r. Some (r, behind)) (same-region text start before p line is)
 
-region-none : (ways : Ways) (text : List ℕ) (at number : ℕ) → IsEnd ways text at → next_region ways text at number ≡ None
+pub region-none : (ways : Ways) (text : List ℕ) (at number : ℕ) → IsEnd ways text at → next_region ways text at number ≡ None
 region-none ways text at number h = ap (region_by text at) (sym (one-step ways text at number End h))
 
 -- ---- all of them

@@ -1,6 +1,7 @@
 pub mod Patches
 pub mod Texts
 pub mod Outlines
+pub mod Digests
 pub mod Changes
 pub mod Regions
 pub mod Spelled

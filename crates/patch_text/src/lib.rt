@@ -3,8 +3,10 @@
 
 mod absent;
 mod change;
+mod digest;
 mod outline;
 mod patches;
 
+pub use digest::{Digests, read_digests};
 pub use outline::read_outlines;
 pub use patches::read_patches;

@@ -99,7 +99,7 @@ fn outline_whole(alloc: Global, text: &[u8], header: Header) -> Result<Outlined,
 }
 
 /// Whether hunks of the unified form follow a header.
-fn is_unified(header: &Header) -> bool
+pub fn is_unified(header: &Header) -> bool
     ensures form { result ≡ true → header.now.form ≡ Form.Unified }
     ensures bare { result ≡ true → header.now.bare ≡ false }
 {

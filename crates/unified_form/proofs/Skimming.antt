@@ -4,17 +4,20 @@ use Rattle.std.specs.Prelude.{is_some}
 use Rattle.hunk_core.specs.declared.fault.FormFault.{FormFault}
 use Rattle.hunk_core.specs.declared.fault.FormFault.TheVariants as errors
 use Rattle.hunk_core.specs.declared.BadKind.TheVariants as kinds
-use Rattle.hunk_core.specs.PlainHunk.{Marked, PlainHunk}
+use Rattle.hunk_core.specs.PlainHunk.{Marked, PlainHunk, old_lines}
 use Rattle.hunk_core.specs.LineTests.{unended, after_backslash}
 use Rattle.hunk_core.specs.Reading.{◌>>=◌, Fault, fault, Fails, Ahead, ahead}
 use Rattle.hunk_core.specs.Refusals.{settled}
 use Rattle.hunk_core.proofs.ReadSteps.{bind_ok, done, ok_is, with_front}
 use Rattle.unified_form.specs.declared.body.Left.{Left}
 use Rattle.unified_form.specs.declared.range.Ranges.{Ranges}
+use Rattle.unified_form.specs.declared.skim.OldRange.{OldRange}
 use Rattle.unified_form.specs.Ranges.{opening}
 use Rattle.unified_form.specs.Bodies.{is_last_line, marked_at, room_at, ended_by, first_line, line_at, body_at}
 use Rattle.unified_form.specs.Hunks.{at_line, left_of, change, first_hunk, hunk_at, hunks_at, begins_hunk}
-use Rattle.unified_form.specs.Skimmed.{past_ended, past_first_line, past_line, past_body, past_settled, past_first, past_hunk, past_hunks, are_some}
+use Rattle.unified_form.specs.Skimmed.{past_ended, past_first_line, past_line, past_body, past_settled, past_first, old_range, stated_range, past_hunk, past_hunks, are_some}
+use Rattle.unified_form.proofs.Bodies.{body_takes}
+use Rattle.unified_form.proofs.Counts.{counts-old}
 use Rattle.unified_form.proofs.HunkLoops.{HunksSoFar, hunks_step as hunks_step_of}
 use Rattle.unified_form.proofs.Steps.{hunk-shrinks}
 
@@ -71,7 +74,7 @@ some_lines : (rest : List (List ℕ)) → begins_hunk rest ≡ true → 0 < leng
 some_lines [] h = absurd cc
 some_lines (line ∷ rest) h = omega arith
 
-hunks_step : (most least : ℕ) (p : Ahead) → begins_hunk p.rest ≡ true → past_hunks (suc most) least p ≡ (past_hunk least p >>= λ first. past_hunks most first.0 first.1)
+hunks_step : (most least : ℕ) (p : Ahead) → begins_hunk p.rest ≡ true → past_hunks (suc most) least p ≡ (past_hunk least p >>= λ first. past_hunks most first.0.start first.1)
 unfolding past_hunks
 hunks_step most least p opens = rw opens refl
 
@@ -80,8 +83,8 @@ hunks_step most least p opens = rw opens refl
 abbrev body_ok : List Marked → Ahead → Result (List Marked × Ahead) Fault
 body_ok ms p = Ok (ms, p)
 
-abbrev start_ok : ℕ → Ahead → Result (ℕ × Ahead) Fault
-start_ok n p = Ok (n, p)
+abbrev old_ok : OldRange → Ahead → Result (OldRange × Ahead) Fault
+old_ok o p = Ok (o, p)
 
 abbrev hunk_ok : PlainHunk → Ahead → Result (PlainHunk × Ahead) Fault
 hunk_ok h p = Ok (h, p)
@@ -135,20 +138,26 @@ body_is (suc most) left p =
     ap (λ o. cond (eqb (left.old + left.new) 0) (Ok p) (o >>= λ first. past_body most first.0 first.1)) (line_is left p.number p.rest)
     ∙ body_both (eqb (left.old + left.new) 0) (line_at left p) p (past_body most) (body_at most) (body_is most)
 
-settled_both : (b : Bool) (r : Ranges) (x : List Marked × Ahead) → cond b (Err (fault x.1.number kinds.MisplacedBackslash)) (start_ok r.old_start x.1) ≡ (cond b (Err (fault x.1.number kinds.MisplacedBackslash)) (hunk_ok (change r x.0) x.1) >>= λ y. start_ok y.0.old_start y.1)
-settled_both true r x = refl
-settled_both false r x = refl
+settled_both : (b : Bool) (r : Ranges) (x : List Marked × Ahead) → r.old_count ≡ length (old_lines x.0)
+    → cond b (Err (fault x.1.number kinds.MisplacedBackslash)) (old_ok (stated_range r) x.1) ≡ (cond b (Err (fault x.1.number kinds.MisplacedBackslash)) (hunk_ok (change r x.0) x.1) >>= λ y. old_ok (old_range y.0) y.1)
+settled_both true r x counted = refl
+settled_both false r x counted = ap (λ n. old_ok (record { start = r.old_start; count = n }) x.1) counted
 
-behind_both : (r : Ranges) (o : Result (List Marked × Ahead) Fault) → ((o >>= λ x. Ok x.1) >>= past_settled r) ≡ ((o >>= λ body. settled (change r body.0) body.1) >>= λ y. start_ok y.0.old_start y.1)
-behind_both r (Err e) = refl
-behind_both r (Ok x) = settled_both (is_some (after_backslash x.1.rest)) r x
+behind_both : (r : Ranges) (o : Result (List Marked × Ahead) Fault) → ((x : List Marked × Ahead) → o ≡ Ok x → r.old_count ≡ length (old_lines x.0))
+    → ((o >>= λ x. Ok x.1) >>= past_settled r) ≡ ((o >>= λ body. settled (change r body.0) body.1) >>= λ y. old_ok (old_range y.0) y.1)
+behind_both r (Err e) counted = refl
+behind_both r (Ok x) counted = settled_both (is_some (after_backslash x.1.rest)) r x (counted x refl)
+
+-- a body that is read has as many old lines as the range line states
+old-counted : (r : Ranges) (p : Ahead) (x : List Marked × Ahead) → body_at (r.old_count + r.new_count) (left_of r) p ≡ Ok x → r.old_count ≡ length (old_lines x.0)
+old-counted r p x read = ap (λ (l : Left). l.old) (body_takes (r.old_count + r.new_count) (left_of r) p x (omega arith) read).counts ∙ counts-old x.0
 
 ranged : (number : ℕ) (rest : List (List ℕ)) (o : Result Ranges Fault)
-    → (o >>= λ r. past_body (r.old_count + r.new_count) (left_of r) (ahead number rest) >>= past_settled r) ≡ ((o >>= λ r. body_at (r.old_count + r.new_count) (left_of r) (ahead number rest) >>= λ body. settled (change r body.0) body.1) >>= λ y. start_ok y.0.old_start y.1)
+    → (o >>= λ r. past_body (r.old_count + r.new_count) (left_of r) (ahead number rest) >>= past_settled r) ≡ ((o >>= λ r. body_at (r.old_count + r.new_count) (left_of r) (ahead number rest) >>= λ body. settled (change r body.0) body.1) >>= λ y. old_ok (old_range y.0) y.1)
 ranged number rest (Err e) = refl
-ranged number rest (Ok r) = ap (λ o. o >>= past_settled r) (body_is (r.old_count + r.new_count) (left_of r) (ahead number rest)) ∙ behind_both r (body_at (r.old_count + r.new_count) (left_of r) (ahead number rest))
+ranged number rest (Ok r) = ap (λ o. o >>= past_settled r) (body_is (r.old_count + r.new_count) (left_of r) (ahead number rest)) ∙ behind_both r (body_at (r.old_count + r.new_count) (left_of r) (ahead number rest)) (old-counted r (ahead number rest))
 
-pub hunk_is : (least number : ℕ) (rest : List (List ℕ)) → past_first least number rest ≡ (first_hunk least number rest >>= λ y. start_ok y.0.old_start y.1)
+pub hunk_is : (least number : ℕ) (rest : List (List ℕ)) → past_first least number rest ≡ (first_hunk least number rest >>= λ y. old_ok (old_range y.0) y.1)
 unfolding past_first first_hunk
 hunk_is least number [] = refl
 hunk_is least number (line ∷ rest) = ranged (number + 1) rest (at_line number (opening least line))
@@ -158,7 +167,7 @@ hunks_again (Ok x) h = refl
 hunks_again (Err e) h = refl
 
 hunks_both : (b : Bool) (read : Result (PlainHunk × Ahead) Fault) (p : Ahead) (f : ℕ → Ahead → Result Ahead Fault) (g : ℕ → Ahead → Result (List PlainHunk × Ahead) Fault) → ((n : ℕ) (q : Ahead) → f n q ≡ (g n q >>= λ x. Ok x.1))
-    → cond b ((read >>= λ y. start_ok y.0.old_start y.1) >>= λ first. f first.0 first.1) (Ok p) ≡ (cond b (read >>= λ first. g first.0.old_start first.1 >>= λ others. hunks_ok (first.0 ∷ others.0) others.1) (hunks_ok [] p) >>= λ x. Ok x.1)
+    → cond b ((read >>= λ y. old_ok (old_range y.0) y.1) >>= λ first. f first.0.start first.1) (Ok p) ≡ (cond b (read >>= λ first. g first.0.old_start first.1 >>= λ others. hunks_ok (first.0 ∷ others.0) others.1) (hunks_ok [] p) >>= λ x. Ok x.1)
 hunks_both true (Ok y) p f g h = h y.0.old_start y.1 ∙ hunks_again (g y.0.old_start y.1) y.0
 hunks_both true (Err e) p f g h = refl
 hunks_both false read p f g h = refl
@@ -167,20 +176,20 @@ pub hunks_are : (most least : ℕ) (p : Ahead) → past_hunks most least p ≡ (
 unfolding past_hunks hunks_at
 hunks_are zero least p = refl
 hunks_are (suc most) least p =
-    ap (λ o. cond (begins_hunk p.rest) (o >>= λ first. past_hunks most first.0 first.1) (Ok p)) (hunk_is least p.number p.rest)
+    ap (λ o. cond (begins_hunk p.rest) (o >>= λ first. past_hunks most first.0.start first.1) (Ok p)) (hunk_is least p.number p.rest)
     ∙ hunks_both (begins_hunk p.rest) (hunk_at least p) p (past_hunks most) (hunks_at most) (hunks_are most)
 
-past-shrinks : (least number : ℕ) (rest : List (List ℕ)) (x : ℕ × Ahead) → past_first least number rest ≡ Ok x → length x.1.rest < length rest
+past-shrinks : (least number : ℕ) (rest : List (List ℕ)) (x : OldRange × Ahead) → past_first least number rest ≡ Ok x → length x.1.rest < length rest
 past-shrinks least number rest x h =
-    let b = bind_ok (first_hunk least number rest) (λ y. start_ok y.0.old_start y.1) x (sym (hunk_is least number rest) ∙ h) in
-    subst (λ (z : ℕ × Ahead). length z.1.rest < length rest) (ok_is _ _ b.2) (hunk-shrinks least number rest b.0 b.1)
+    let b = bind_ok (first_hunk least number rest) (λ y. old_ok (old_range y.0) y.1) x (sym (hunk_is least number rest) ∙ h) in
+    subst (λ (z : OldRange × Ahead). length z.1.rest < length rest) (ok_is _ _ b.2) (hunk-shrinks least number rest b.0 b.1)
 
-pub hunks_past_go_on : (least : ℕ) (p : Ahead) (x : ℕ × Ahead) (total : Result Ahead Fault) → begins_hunk p.rest ≡ true → past_hunk least p ≡ Ok x → HunksPast least p total → HunksPast x.0 x.1 total
+pub hunks_past_go_on : (least : ℕ) (p : Ahead) (x : OldRange × Ahead) (total : Result Ahead Fault) → begins_hunk p.rest ≡ true → past_hunk least p ≡ Ok x → HunksPast least p total → HunksPast x.0.start x.1 total
 hunks_past_go_on least p x total opens read so_far =
     let most = so_far.most in
     let some = some_lines p.rest opens in
     let k : most ≡ suc (most - 1) = omega (arith, so_far.enough) in
-    let one : past_hunks most least p ≡ past_hunks (most - 1) x.0 x.1 = ap (λ m. past_hunks m least p) k ∙ rw (hunks_step (most - 1) least p opens, read) refl in
+    let one : past_hunks most least p ≡ past_hunks (most - 1) x.0.start x.1 = ap (λ m. past_hunks m least p) k ∙ rw (hunks_step (most - 1) least p opens, read) refl in
     record { most = most - 1; enough = omega (arith, so_far.enough, past-shrinks least p.number p.rest x read); same = sym one ∙ so_far.same }
 
 pub hunks_past_fail : (e : FormFault) (least : ℕ) (p : Ahead) (total : Result Ahead Fault) → begins_hunk p.rest ≡ true → Fails e (past_hunk least p) → HunksPast least p total → Fails e total
@@ -239,3 +248,19 @@ skim_fails errors.Memory h behind total s fails = tt
 skim_fails (errors.Malformed line kind) h behind total s fails =
     let f : hunks_at s.most h.old_start behind ≡ Err (fault line kind) = failed (hunks_at s.most h.old_start behind) (fault line kind) (sym (hunks_are s.most h.old_start behind) ∙ fails) in
     sym s.same ∙ rw f refl
+
+-- ---- one row
+
+pub row_fails : (e : FormFault) (least number : ℕ) (rest : List (List ℕ)) → Fails e (past_first least number rest) → Fails e (first_hunk least number rest)
+row_fails errors.Memory least number rest h = tt
+row_fails (errors.Malformed line kind) least number rest h = not-behind (first_hunk least number rest) (fault line kind) (sym (hunk_is least number rest) ∙ h)
+  where
+    not-behind : (r : Result (PlainHunk × Ahead) Fault) (f : Fault) → (r >>= λ y. old_ok (old_range y.0) y.1) ≡ Err f → r ≡ Err f
+    not-behind (Ok x) f e = absurd cc
+    not-behind (Err d) f e = cc
+
+pub row_reads : (least number : ℕ) (rest : List (List ℕ)) (old : OldRange) (p : Ahead) → past_first least number rest ≡ old_ok old p → (h : PlainHunk) × (first_hunk least number rest ≡ hunk_ok h p) × (old_range h ≡ old)
+row_reads least number rest old p read =
+    let b = bind_ok (first_hunk least number rest) (λ y. old_ok (old_range y.0) y.1) (old, p) (sym (hunk_is least number rest) ∙ read) in
+    let same : (old_range b.0.0, b.0.1) ≡ (old, p) = ok_is _ _ b.2 in
+    (b.0.0, b.1 ∙ ap (λ (x : OldRange × Ahead). hunk_ok b.0.0 x.1) same, ap (λ (x : OldRange × Ahead). x.0) same)

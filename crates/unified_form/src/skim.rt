@@ -14,6 +14,15 @@ use hunk_core::{BadKind, FormFault, Hunk, Place, backslash_end, bad};
 use line_list::next_line;
 use std::alloc::Global;
 
+/// Which lines of the old side a hunk is about.
+#[derive(Clone, Copy, Debug, PartialEq, Eq)]
+pub struct OldRange {
+    /// The stated start.
+    pub start: u32,
+    /// How many lines are kept or dropped.
+    pub count: u32,
+}
+
 /// The first of the hunks that follow each other in a text.
 #[derive(Debug, Drop)]
 pub struct Skim {
@@ -78,9 +87,9 @@ fn pass_body(text: &[u8], left: Left, place: Place) -> Result<Place, FormFault>
     Ok(place)
 }
 
-/// The old start of a hunk whose old start is at least `least`, and the place after it.
+/// The old lines of a hunk whose old start is at least `least`, and the place after it.
 #[tactic(auto, unfolding(crate::specs::Skimmed::past_first))]
-fn pass_hunk(text: &[u8], least: u64, place: Place) -> Result<(u64, Place), FormFault>
+pub fn pass_hunk(text: &[u8], least: u64, place: Place) -> Result<(OldRange, Place), FormFault>
     requires { IsPlace text.now place }
     ensures place { IfOk result (λ x. IsPlace text.now x.1 × (place.at < x.1.at)) }
     ensures exact { Gives (λ x. (x.0, ahead_of text.now x.1)) result (past_hunk least (ahead_of text.now place)) }
@@ -108,7 +117,11 @@ fn pass_hunk(text: &[u8], least: u64, place: Place) -> Result<(u64, Place), Form
     if backslash_end(text, next.at).is_some() {
         return Err(bad(next.number, BadKind::MisplacedBackslash));
     }
-    Ok((ranges.old_start, next))
+    let old = OldRange {
+        start: ranges.old_start as u32,
+        count: ranges.old_count as u32,
+    };
+    Ok((old, next))
 }
 
 /// The place after the hunks that follow each other, of which the first starts at `least` or later.
@@ -120,8 +133,8 @@ fn pass_hunks(text: &[u8], least: u64, place: Place) -> Result<Place, FormFault>
     let mut least = least;
     let mut place = place;
     'hunks: while at_opening(text, place.at) {
-        let (start, next) = pass_hunk(text, least, place)?;
-        least = start;
+        let (old, next) = pass_hunk(text, least, place)?;
+        least = u64::from(old.start);
         place = next;
     }
     Ok(place)

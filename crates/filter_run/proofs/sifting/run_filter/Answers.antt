@@ -1,7 +1,7 @@
 use Rattle.tool_words.specs.PlainJobs.{plain_filter_job, plain_select}
-use Rattle.patch_filters.specs.Filtered.{filtered}
+use Rattle.patch_filters.specs.Digested.{filtered_digest}
 use Rattle.filter_run.specs.Outcomes.{IsOutcomeOf, filter_outcome, filter_with}
-use Rattle.filter_run.specs.Opened.{IsSet}
+use Rattle.filter_run.specs.Opened.{IsDigestIn}
 use Rattle.filter_run.proofs.Coming.{filtered-is}
 use Rattle.filter_run.proofs.Written.{sifts-unopened, sifts-over}
 use Rattle.filter_run.proofs.sifting.run_filter.Goals as goal
@@ -9,10 +9,10 @@ use Rattle.filter_run.proofs.sifting.run_filter.Goals as goal
 pub returns-clause-sifts : goal.returns-clause-sifts
 returns-clause-sifts g c =
     let j = plain_filter_job c.args.job in
-    sifts-unopened IsSet j.input j.select (plain_select c.open_text.new.select) ⊥ (λ s v. filtered (filter_with j s) v) (IsOutcomeOf (filter_outcome j)) (filtered-is j) _ _ _ _ c.in-Err.fault _ c.in-Err.ensures.opens
+    sifts-unopened IsDigestIn j.input j.select (plain_select c.open_digest.new.select) ⊥ (λ s v. filtered_digest (filter_with j s) v) (IsOutcomeOf (filter_outcome j)) (filtered-is j) _ _ _ _ c.in-Err.fault _ c.in-Err.ensures.opens
 
 pub returns-clause-unread : goal.returns-clause-unread
-returns-clause-unread g c = c.open_text.ensures.unread
+returns-clause-unread g c = c.open_digest.ensures.unread
 
 pub returns-clause-rest : goal.returns-clause-rest
 returns-clause-rest g c = g.met.O.Sink.rest_none c.args.out.now
@@ -20,12 +20,12 @@ returns-clause-rest g c = g.met.O.Sink.rest_none c.args.out.now
 pub returns-in-Ok-clause-sifts : goal.returns-in-Ok-clause-sifts
 returns-in-Ok-clause-sifts g c =
     let j = plain_filter_job c.args.job in
-    rw c.sink_answer-answer.ensures
-    (sifts-over IsSet j.input j.select (plain_select c.open_text.new.select) ⊥ (λ s v. filtered (filter_with j s) v) (IsOutcomeOf (filter_outcome j)) (filtered-is j) _ _ _ _
+    rw c.sink_answer.ensures
+    (sifts-over IsDigestIn j.input j.select (plain_select c.open_digest.new.select) ⊥ (λ s v. filtered_digest (filter_with j s) v) (IsOutcomeOf (filter_outcome j)) (filtered-is j) _ _ _ _
     g.O.Sink.view c.args.out.now c.put_filtered.new.out c.in-Ok.opened c.put_filtered.result c.in-Ok.ensures.opens c.put_filtered.ensures.writes c.put_filtered.ensures.none)
 
 pub returns-in-Ok-clause-unread : goal.returns-in-Ok-clause-unread
-returns-in-Ok-clause-unread g c = c.open_text.ensures.unread
+returns-in-Ok-clause-unread g c = c.open_digest.ensures.unread
 
 pub returns-in-Ok-clause-rest : goal.returns-in-Ok-clause-rest
 returns-in-Ok-clause-rest g c = c.put_filtered.ensures.rest

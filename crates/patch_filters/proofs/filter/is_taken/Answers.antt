@@ -8,14 +8,14 @@ use Rattle.patch_filters.proofs.filter.is_taken.Goals as goal
 pub returns-then-is_selected : goal.returns-then-is_selected
 returns-then-is_selected c = λ p is.
     let j = plain_filter_job c.args.job.now in
-    let h = header_of c.args.set.now.text p.header in
-    let n : c.from.result + 1 ≡ suc c.args.patch = omega (arith, c.from.ensures) in
+    let h = header_of c.args.digest.now.text p.header in
+    let n : c.args.patch + 1 ≡ suc c.args.patch = omega arith in
     let selected : is_selected j.select (plain_name h) ≡ true = sym (c.is_selected.ensures ∙ ap (is_selected j.select) (c.plain_name.ensures p is)) ∙ c.if-is_selected.true in
     c.is_meant.ensures ∙ ap (is_meant j.files) n ∙ sym (ap (λ b. b && is_meant j.files (suc c.args.patch)) selected)
 
 pub returns-else-is_selected : goal.returns-else-is_selected
 returns-else-is_selected c = λ p is.
     let j = plain_filter_job c.args.job.now in
-    let h = header_of c.args.set.now.text p.header in
+    let h = header_of c.args.digest.now.text p.header in
     let selected : is_selected j.select (plain_name h) ≡ false = sym (c.is_selected.ensures ∙ ap (is_selected j.select) (c.plain_name.ensures p is)) ∙ c.if-is_selected.false in
     c.if-is_selected.false ∙ sym (ap (λ b. b && is_meant j.files (suc c.args.patch)) selected)

@@ -1,36 +1,58 @@
-use Rattle.std.proofs.Common.{◌≡◌, ◌<◌, length, rules, arith}
+use Rattle.std.proofs.Common.{◌≡◌, ◌<◌, List, length, sym, subst, arith}
+use Rattle.std.specs.List.{zip}
 use Rattle.std.proofs.lemmas.Result.{err_from_is_err_and}
+use Rattle.file_patch.specs.declared.FilePatch.{FilePatch}
 use Rattle.tool_words.specs.PlainJobs.{plain_filter_job}
 use Rattle.line_list.proofs.Elements.{there-is}
-use Rattle.patch_filters.specs.Selected.{numbered}
-use Rattle.patch_filters.specs.Filtered.{written_if_taken}
 use Rattle.hunk_core.proofs.Loops.{goes-on, stops, ends}
-use Rattle.patch_filters.proofs.Rows.{filtered-is, numbered-at, numbered-count}
+use Rattle.patch_set.proofs.Digests.{digests-count}
+use Rattle.patch_filters.specs.Selected.{numbered}
+use Rattle.patch_filters.specs.Digested.{digest_if_taken}
+use Rattle.patch_filters.proofs.Digesting.{filtered-digest-is}
+use Rattle.patch_filters.proofs.Rows.{numbered-at, numbered-count, zip-at, zip-count}
 use Rattle.patch_filters.proofs.filter.put_filtered.Goals as goal
+
+pub put_if_taken-requires-clause-few : goal.put_if_taken-requires-clause-few
+put_if_taken-requires-clause-few g c = omega (arith, c.loop-patch-test.true, c.patches-patch-end.type_inv.0)
 
 pub returns-in_err-put_if_taken : goal.returns-in_err-put_if_taken
 returns-in_err-put_if_taken g c =
     let j = plain_filter_job c.args.job.now in
-    let v = c.args.set.now in
+    let v = c.args.digest.now in
     let i = c.loop-patch.patch in
-    let lt : i < length v.patches = search rules in
+    let xs = zip v.patches v.olds in
+    let same = digests-count v.text v.patches v.olds c.patches-patch-end.ensures.are in
+    let count = zip-count v.patches v.olds (sym same) in
+    let lt : i < length v.patches = subst (λ (ps : List FilePatch). i < length ps) c.patches-patch-end.ensures.patches (omega (arith, c.loop-patch-test.true)) in
     let p = there-is v.patches i lt in
+    let own = there-is v.olds i (omega (arith, lt, same)) in
+    let row = numbered-at xs i (p.0, own.0) (zip-at v.patches v.olds i p.0 own.0 p.1 own.1) in
+    let within : i < length (numbered xs) = omega (arith, lt, same, count, numbered-count xs) in
     let q = err_from_is_err_and c.from_residual.result c.from_residual.ensures.1 in
-    rw (q.1, filtered-is j v) (stops (written_if_taken j v.text) (numbered v.patches) g.met.O.Sink.rest_both i _ c.in_err-put_if_taken.field-0.0 q.0 (omega (arith, lt, numbered-count v.patches)) (numbered-at v.patches i p.0 p.1) c.loop-patch.invariant (c.in_err-put_if_taken.ensures p.0 p.1))
+    rw (q.1, filtered-digest-is j v) (stops (digest_if_taken j v.text) (numbered xs) g.met.O.Sink.rest_both i _ c.in_err-put_if_taken.field-0.0 q.0 within row c.loop-patch.invariant (c.in_err-put_if_taken.ensures p.0 p.1 own.0 own.1))
 
 pub loop-patch-preserved : goal.loop-patch-preserved
 loop-patch-preserved g c =
     let j = plain_filter_job c.args.job.now in
-    let v = c.args.set.now in
+    let v = c.args.digest.now in
     let i = c.loop-patch.patch in
-    let lt : i < length v.patches = search rules in
+    let xs = zip v.patches v.olds in
+    let same = digests-count v.text v.patches v.olds c.patches-patch-end.ensures.are in
+    let count = zip-count v.patches v.olds (sym same) in
+    let lt : i < length v.patches = subst (λ (ps : List FilePatch). i < length ps) c.patches-patch-end.ensures.patches (omega (arith, c.loop-patch-test.true)) in
     let p = there-is v.patches i lt in
-    goes-on (written_if_taken j v.text) (numbered v.patches) g.met.O.Sink.rest_both i _ c.in_ok-put_if_taken.field-0 (omega (arith, lt, numbered-count v.patches)) (numbered-at v.patches i p.0 p.1) c.loop-patch.invariant (c.in_ok-put_if_taken.ensures p.0 p.1)
+    let own = there-is v.olds i (omega (arith, lt, same)) in
+    let row = numbered-at xs i (p.0, own.0) (zip-at v.patches v.olds i p.0 own.0 p.1 own.1) in
+    let within : i < length (numbered xs) = omega (arith, lt, same, count, numbered-count xs) in
+    goes-on (digest_if_taken j v.text) (numbered xs) g.met.O.Sink.rest_both i _ c.in_ok-put_if_taken.field-0 within row c.loop-patch.invariant (c.in_ok-put_if_taken.ensures p.0 p.1 own.0 own.1)
 
 pub returns : goal.returns
 returns g c =
     let j = plain_filter_job c.args.job.now in
-    let v = c.args.set.now in
+    let v = c.args.digest.now in
     let i = c.loop-patch.patch in
-    let all : i ≡ length v.patches = search rules in
-    rw (filtered-is j v) (ends (written_if_taken j v.text) (numbered v.patches) g.met.O.Sink.rest_both i _ (omega (arith, all, numbered-count v.patches)) c.loop-patch.invariant)
+    let xs = zip v.patches v.olds in
+    let same = digests-count v.text v.patches v.olds c.patches-patch-end.ensures.are in
+    let count = zip-count v.patches v.olds (sym same) in
+    let all : i ≡ length v.patches = subst (λ (ps : List FilePatch). i ≡ length ps) c.patches-patch-end.ensures.patches (omega (arith, c.loop-patch-test.false, c.loop-patch.auto.patch-end)) in
+    rw (filtered-digest-is j v) (ends (digest_if_taken j v.text) (numbered xs) g.met.O.Sink.rest_both i _ (omega (arith, all, same, count, numbered-count xs)) c.loop-patch.invariant)

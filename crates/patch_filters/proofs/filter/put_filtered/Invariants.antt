@@ -1,9 +1,10 @@
+use Rattle.std.specs.List.{zip}
 use Rattle.hunk_core.proofs.SinkSteps.{HasPut}
+use Rattle.hunk_core.proofs.Loops.{up_to}
 use Rattle.tool_words.specs.PlainJobs.{plain_filter_job}
 use Rattle.patch_filters.specs.Selected.{numbered}
-use Rattle.patch_filters.specs.Filtered.{written_if_taken}
-use Rattle.hunk_core.proofs.Loops.{up_to}
+use Rattle.patch_filters.specs.Digested.{digest_if_taken}
 use Rattle.patch_filters.proofs.filter.put_filtered.Given as goal
 
 abbrev pub invariant-loop-patch : goal.invariant-loop-patch
-invariant-loop-patch g l = HasPut g.O.Sink.view g.O.Sink.same_rest l.fn.out l.out (up_to (written_if_taken (plain_filter_job l.job) l.set.text) (numbered l.set.patches) l.patch)
+invariant-loop-patch g l = HasPut g.O.Sink.view g.O.Sink.same_rest l.fn.out l.out (up_to (digest_if_taken (plain_filter_job l.job) l.digest.text) (numbered (zip l.digest.patches l.digest.olds)) l.patch)

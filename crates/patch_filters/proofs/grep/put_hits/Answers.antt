@@ -52,10 +52,10 @@ loop-hunk-preserved g c =
     let i = c.loop-hunk.hunk in
     let piece = get_or (pieces text p) i [] in
     let lt : i < row_count p.change = omega (arith, c.loop-hunk-test.true, c.hunks-hunk-end.ensures text, rows-counted text p.change) in
-    let xs = rows flags text p at long in
-    let within : i < length xs = omega (arith, lt, rows-long flags text p at long) in
+    let xs = rows flags text p (row_count p.change) at.each long in
+    let within : i < length xs = omega (arith, lt, rows-long flags text p (row_count p.change) at.each long) in
     let put = by-first (λ hit. text_if (get_or (hits_of hit (change_of text p.change)) i false, piece)) c.loop-hunk.invariant.finder c.in_ok-put_if_hit.ensures in
-    found-goes-on text_if xs g.met.O.Sink.rest_both i (get_or flags i false, piece) c.in_ok-put_if_hit.field-0 within (row-at flags text p at long i lt) c.loop-hunk.invariant put
+    found-goes-on text_if xs g.met.O.Sink.rest_both i (get_or flags i false, piece) c.in_ok-put_if_hit.field-0 within (row-at flags text p (row_count p.change) at.each long i lt) c.loop-hunk.invariant put
 
 pub returns-in_err-put_hunk : goal.returns-in_err-put_hunk
 returns-in_err-put_hunk g c =
@@ -65,7 +65,7 @@ returns-in_err-put_hunk g c =
     let flags = hits_of (test_of v) (change_of text p.change) in
     let long = hits-long (test_of v) text p.change in
     let at = c.requires.placed in
-    let rest = flat_map text_if (drop (c.args.first + 1) (rows flags text p at long)) in
+    let rest = flat_map text_if (drop (c.args.first + 1) (rows flags text p (row_count p.change) at.each long)) in
     ends-in c.from_residual.result Write c.from_residual.ensures.1
     (subst (Finds g.O.Sink.view g.O.Sink.same_rest v v c.args.out.now c.put_hunk.new.out (Err Write)) (first-whole flags text p at long c.args.first c.requires.first)
     (finds-stop Write rest (finds-write {R = Unit {0}} c.in_err-put_hunk.field-0.0 (asked-none v) c.in_err-put_hunk.ensures)))
@@ -81,11 +81,11 @@ returns-in_err-put_if_hit g c =
     let i = c.loop-hunk.hunk in
     let piece = get_or (pieces text p) i [] in
     let lt : i < row_count p.change = omega (arith, c.loop-hunk-test.true, c.hunks-hunk-end.ensures text, rows-counted text p.change) in
-    let xs = rows flags text p at long in
-    let within : i < length xs = omega (arith, lt, rows-long flags text p at long) in
+    let xs = rows flags text p (row_count p.change) at.each long in
+    let within : i < length xs = omega (arith, lt, rows-long flags text p (row_count p.change) at.each long) in
     let put = by-first (λ hit. text_if (get_or (hits_of hit (change_of text p.change)) i false, piece)) c.loop-hunk.invariant.finder c.in_err-put_if_hit.ensures in
     ends-in c.from_residual-in_err-put_if_hit.result c.in_err-put_if_hit.field-0.0 c.from_residual-in_err-put_if_hit.ensures.1
-    (found-stops text_if xs g.met.O.Sink.rest_both i (get_or flags i false, piece) c.in_err-put_if_hit.field-0.0 within (row-at flags text p at long i lt) c.loop-hunk.invariant put)
+    (found-stops text_if xs g.met.O.Sink.rest_both i (get_or flags i false, piece) c.in_err-put_if_hit.field-0.0 within (row-at flags text p (row_count p.change) at.each long i lt) c.loop-hunk.invariant put)
 
 pub returns : goal.returns
 returns g c =
@@ -95,7 +95,7 @@ returns g c =
     let flags = hits_of (test_of v) (change_of text p.change) in
     let long = hits-long (test_of v) text p.change in
     let at = c.requires.placed in
-    let xs = rows flags text p at long in
+    let xs = rows flags text p (row_count p.change) at.each long in
     let first = first-hunk flags text p at long c.args.first c.requires.first in
-    let end : c.loop-hunk.hunk ≡ length xs = omega (arith, c.loop-hunk-test.false, c.loop-hunk.auto.hunk-end, c.hunks-hunk-end.ensures text, rows-counted text p.change, rows-long flags text p at long, first) in
+    let end : c.loop-hunk.hunk ≡ length xs = omega (arith, c.loop-hunk-test.false, c.loop-hunk.auto.hunk-end, c.hunks-hunk-end.ensures text, rows-counted text p.change, rows-long flags text p (row_count p.change) at.each long, first) in
     found-ends text_if xs g.met.O.Sink.rest_both c.loop-hunk.hunk tt end c.loop-hunk.invariant

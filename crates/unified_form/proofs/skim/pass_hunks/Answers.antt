@@ -13,19 +13,19 @@ hunks-init c = record {
   so_far = λ most enough. hunks_past_begin most c.args.least (ahead_of c.args.text.now c.args.place) enough;
 }
 
-pub returns-in_err-start-clause-exact : goal.returns-in_err-start-clause-exact
-returns-in_err-start-clause-exact c = λ most enough.
+pub returns-in_err-old-clause-exact : goal.returns-in_err-old-clause-exact
+returns-in_err-old-clause-exact c = λ most enough.
     let p = err_from_is_err_and c.from_residual.result c.from_residual.ensures.1 in
     let opens : begins_hunk (lines (drop c.hunks.place.at c.args.text.now)) ≡ true = sym c.hunks-test.ensures in
-    rw (p.1, p.2) (hunks_past_fail c.in_err-start.field-0.0 c.hunks.least (ahead_of c.args.text.now c.hunks.place) _ opens c.in_err-start.ensures.exact (c.hunks.invariant.so_far most enough))
+    rw (p.1, p.2) (hunks_past_fail c.in_err-old.field-0.0 c.hunks.least (ahead_of c.args.text.now c.hunks.place) _ opens c.in_err-old.ensures.exact (c.hunks.invariant.so_far most enough))
 
 pub hunks-preserved : goal.hunks-preserved
 hunks-preserved c =
     let opens : begins_hunk (lines (drop c.hunks.place.at c.args.text.now)) ≡ true = sym c.hunks-test.ensures in
     record {
-      place = c.in_ok-start.ensures.place.0;
-      later = omega (arith, c.in_ok-start.ensures.place.1, c.hunks.invariant.later);
-      so_far = λ most enough. hunks_past_go_on c.hunks.least (ahead_of c.args.text.now c.hunks.place) (c.in_ok-start.start, ahead_of c.args.text.now c.in_ok-start.next) _ opens c.in_ok-start.ensures.exact (c.hunks.invariant.so_far most enough);
+      place = c.in_ok-old.ensures.place.0;
+      later = omega (arith, c.in_ok-old.ensures.place.1, c.hunks.invariant.later);
+      so_far = λ most enough. rw c.from-least.ensures (hunks_past_go_on c.hunks.least (ahead_of c.args.text.now c.hunks.place) (c.in_ok-old.old, ahead_of c.args.text.now c.in_ok-old.next) _ opens c.in_ok-old.ensures.exact (c.hunks.invariant.so_far most enough));
     }
 
 pub returns-clause-exact : goal.returns-clause-exact

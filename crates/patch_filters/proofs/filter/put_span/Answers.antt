@@ -1,0 +1,18 @@
+use Rattle.std.proofs.Common.{arith}
+use Rattle.line_list.proofs.Elements.{found}
+use Rattle.patch_filters.proofs.Placed.{span-in, turn-of}
+use Rattle.patch_filters.proofs.filter.put_span.Goals as goal
+
+pub bytes_at-requires-clause-order : goal.bytes_at-requires-clause-order
+bytes_at-requires-clause-order g c =
+    let p = c.args.patch.now in
+    let s = c.index-span.result.now in
+    let spans = p.hunk_spans.items in
+    omega (arith, (span-in p.header.at spans p.span.end c.args.hunk s (turn-of p.header spans p.span.end c.args.hunk c.requires.cut c.requires.within) (found spans c.args.hunk s c.requires.within c.index-span.ensures)).0)
+
+pub bytes_at-requires-clause-within : goal.bytes_at-requires-clause-within
+bytes_at-requires-clause-within g c =
+    let p = c.args.patch.now in
+    let s = c.index-span.result.now in
+    let spans = p.hunk_spans.items in
+    omega (arith, (span-in p.header.at spans p.span.end c.args.hunk s (turn-of p.header spans p.span.end c.args.hunk c.requires.cut c.requires.within) (found spans c.args.hunk s c.requires.within c.index-span.ensures)).1, c.requires.high)

@@ -1,0 +1,25 @@
+use Rattle.std.proofs.Common.{◌≡◌, Ok, subst, ap, map, length, arith}
+use Rattle.std.proofs.lemmas.Bool.{le-ltb}
+use Rattle.file_patch.specs.PlainPatch.{patch_of}
+use Rattle.patch_options.specs.PlainJob.{plain_options}
+use Rattle.patch_text.specs.Digests.{digests_of, plain_digests}
+use Rattle.patch_set.specs.Asked.{ways_of}
+use Rattle.patch_set.specs.SetView.{Meets}
+use Rattle.patch_set.proofs.Completing.{completed-length}
+use Rattle.patch_set.proofs.Outlines.{digest-refusal}
+use Rattle.patch_set.proofs.digest.read_digest.Goals as goal
+
+pub read_digests-requires : goal.read_digests-requires
+read_digests-requires c = omega (arith, completed-length c.args.text.items, ap length c.deref.ensures.value, ap length c.in_ok-text.ensures)
+
+pub returns-clause-refused : goal.returns-clause-refused
+returns-clause-refused c =
+    let text = c.in_ok-text.text.items in
+    let o = plain_options c.args.options.now in
+    let d = c.in_ok-digests.digests in
+    let ps = map (patch_of text) d.patches.items in
+    let read : digests_of (ways_of o) text ≡ Ok (plain_digests text d) =
+    subst (λ w. digests_of w text ≡ Ok (plain_digests text d)) c.ways_of.ensures
+    (subst (λ t. digests_of c.ways_of.result t ≡ Ok (plain_digests t d)) c.deref.ensures.value c.in_ok-digests.ensures.exact) in
+    subst (λ r. Meets r c.digest_of.result)
+    (digest-refusal o c.args.text.items text ps (map (λ os. os.items) d.olds.items) (le-ltb 268435456 (length c.args.text.items) (omega arith)) c.in_ok-text.ensures read) c.digest_of.ensures.refused

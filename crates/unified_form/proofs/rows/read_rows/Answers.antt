@@ -1,0 +1,55 @@
+use Rattle.std.proofs.Common.{◌≡◌, [], sym, refl, true, false, drop, arith}
+use Rattle.std.proofs.lemmas.Result.{err_from_is_err_and}
+use Rattle.line_list.specs.Lines.{lines}
+use Rattle.hunk_core.specs.Reading.{ahead, ahead_of}
+use Rattle.unified_form.specs.Hunks.{begins_hunk}
+use Rattle.unified_form.proofs.HunkLoops.{hunks_begin, hunks_done}
+use Rattle.unified_form.proofs.Pieces.{reading_finds}
+use Rattle.unified_form.proofs.Rowing.{rows_go_on, rows_fail}
+use Rattle.unified_form.proofs.rows.read_rows.Goals as goal
+
+pub hunks-init : goal.hunks-init
+hunks-init c = rw (c.new-spans.ensures.items, c.new-olds.ensures.items) (record {
+  place = record { short = c.requires.short; within = c.requires.within; small = omega (arith, c.requires.small) };
+  so_far = record {
+    hunks = [];
+    ranges = refl;
+    pieces = record { turn = refl; whole = tt; pieces = tt; last = refl };
+    so_far = hunks_begin 0 (ahead c.args.line (lines (drop c.args.at c.args.text.now)));
+  };
+})
+
+pub returns-in_err-old-clause-fails : goal.returns-in_err-old-clause-fails
+returns-in_err-old-clause-fails c =
+    let p = err_from_is_err_and c.from_residual.result c.from_residual.ensures.1 in
+    let opens : begins_hunk (lines (drop c.hunks.place.at c.args.text.now)) ≡ true = sym c.hunks-test.ensures in
+    rw (p.1, p.2) (rows_fail c.in_err-old.field-0.0 c.args.text.now c.args.at c.hunks.spans.items c.hunks.olds.items c.hunks.least c.hunks.place _ opens c.in_err-old.ensures.fails c.hunks.invariant.so_far)
+
+pub hunks-preserved : goal.hunks-preserved
+hunks-preserved c =
+    let opens : begins_hunk (lines (drop c.hunks.place.at c.args.text.now)) ≡ true = sym c.hunks-test.ensures in
+    let row = c.in_ok-old.ensures in
+    record {
+      place = row.place.0;
+      so_far = rw (c.in_ok-push.ensures.items, c.in_ok-push-2.ensures.items, c.from-least.ensures) (rows_go_on c.args.text.now c.args.at c.hunks.spans.items c.hunks.olds.items c.hunks.least c.hunks.place c.in_ok-old.next c.in_ok-old.old _ opens row.place.1 row.row c.hunks.invariant.so_far);
+    }
+
+pub returns-clause-turn : goal.returns-clause-turn
+returns-clause-turn c = c.hunks.invariant.so_far.pieces.turn
+
+pub returns-clause-whole : goal.returns-clause-whole
+returns-clause-whole c = c.hunks.invariant.so_far.pieces.whole
+
+pub returns-clause-read : goal.returns-clause-read
+returns-clause-read c =
+    let text = c.args.text.now in
+    let s = c.hunks.invariant.so_far in
+    let none : begins_hunk (lines (drop c.hunks.place.at text)) ≡ false = sym c.hunks-test.ensures in
+    let read = hunks_done s.hunks c.hunks.least (ahead_of text c.hunks.place) _ none s.so_far in
+    record {
+      hunks = s.hunks;
+      olds = s.ranges;
+      pieces = s.pieces.pieces;
+      read = read;
+      piece = reading_finds c.args.line (lines (drop c.args.at text)) (s.hunks, ahead_of text c.hunks.place) c.requires.opens read;
+    }

@@ -1,0 +1,74 @@
+//! Hunks that follow each other, of which only the pieces and the old lines are kept.
+
+ghost use Rattle.std.specs.Prelude.{◌≡◌, true, ◌<◌, ◌≤◌, ◌^◌, length, drop, IfOk, IfErr};
+ghost use Rattle.line_list.specs.Lines.{lines};
+ghost use Rattle.hunk_core.specs.Pieces.{AreInTurn, AreWhole};
+ghost use Rattle.hunk_core.specs.Reading.{Fails, IsPlace, ahead_of};
+ghost use Rattle.unified_form.specs.Hunks.{begins_hunk, hunk_at, reading};
+ghost use Rattle.unified_form.specs.Skimmed.{AreRows, IsRow};
+
+use crate::hunks::at_opening;
+use crate::skim::{OldRange, pass_hunk};
+use hunk_core::{FormFault, Place};
+use line_list::Span;
+use std::alloc::Global;
+
+/// Hunks without their lines.
+#[derive(Debug, Drop)]
+pub struct HunkRows {
+    /// The piece of each.
+    pub spans: Vec<Span>,
+    /// The old lines of each.
+    pub olds: Vec<OldRange>,
+    /// The place after the last, and the number of the line there.
+    pub end: usize,
+    pub next: u64,
+}
+
+/// The old lines of a hunk whose old start is at least `least`, and the place after it.
+fn read_row(text: &[u8], least: u64, place: Place) -> Result<(OldRange, Place), FormFault>
+    requires { IsPlace text.now place }
+    ensures place { IfOk result (λ x. IsPlace text.now x.1 × (place.at < x.1.at)) }
+    ensures row { IfOk result (λ x. IsRow text.now least place x.0 x.1) }
+    ensures fails { IfErr result (λ e. Fails e (hunk_at least (ahead_of text.now place))) }
+{
+    pass_hunk(text, least, place)
+}
+
+/// The pieces and the old lines of the hunks that follow each other from `at` on, where the line has this number. Their bodies are read,
+/// and a fault in any is answered.
+pub fn read_rows(alloc: Global, text: &[u8], at: usize, line: u64) -> Result<HunkRows, FormFault>
+    requires short { length text.now < 2 ^ 32 }
+    requires within { at ≤ length text.now }
+    requires opens { begins_hunk (lines (drop at text.now)) ≡ true }
+    requires small { line < 2 ^ 32 }
+    ensures within { IfOk result (λ r. r.end ≤ length text.now) }
+    // The spans are the pieces of the hunks, one behind the other from `at` up to the end.
+    ensures turn { IfOk result (λ r. AreInTurn at r.spans.items r.end) }
+    ensures whole { IfOk result (λ r. AreWhole text.now r.spans.items) }
+    // The rows are those of the hunks that reading gives.
+    ensures read { IfOk result (AreRows text.now line (lines (drop at text.now))) }
+    // A fault is the first one that reading meets.
+    ensures fails { IfErr result (λ e. Fails e (reading line (lines (drop at text.now)))) }
+{
+    let mut spans = Vec::new(alloc);
+    let mut olds = Vec::new(alloc);
+    let mut place = Place { at, number: line };
+    let mut least: u64 = 0;
+    'hunks: while at_opening(text, place.at) {
+        let (old, next) = read_row(text, least, place)?;
+        spans.push(Span {
+            start: place.at as u32,
+            end: next.at as u32,
+        })?;
+        olds.push(old)?;
+        least = u64::from(old.start);
+        place = next;
+    }
+    Ok(HunkRows {
+        spans,
+        olds,
+        end: place.at,
+        next: place.number,
+    })
+}
