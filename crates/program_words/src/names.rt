@@ -94,9 +94,9 @@ fn with_line<'a>(given: Given<'a>, line: &'a [u8], number: u64, opening: u64) ->
             given.new = Some(new);
         }
     } else if number.saturating_add(2) == opening {
-        given.old = first_of(name_behind(line, b"--- "), name_behind(line, b"*** "));
+        given.old = name_of(line, [b"--- ", b"*** ", b"Index: "]);
     } else if number.saturating_add(1) == opening {
-        given.new = first_of(name_behind(line, b"+++ "), name_behind(line, b"--- "));
+        given.new = name_of(line, [b"+++ ", b"--- ", b"Index: "]);
     }
     given
 }
@@ -126,6 +126,16 @@ fn parts_at(names: &[u8], space: usize) -> (&[u8], &[u8]) {
         names.get(..space).unwrap_or(names),
         names.get(space.saturating_add(1)..).unwrap_or(names),
     )
+}
+
+/// The name behind the mark that the line begins with.
+fn name_of<'a>(line: &'a [u8], marks: [&[u8]; 3]) -> Option<&'a [u8]> {
+    for mark in marks {
+        if let Some(name) = name_behind(line, mark) {
+            return Some(name);
+        }
+    }
+    None
 }
 
 /// The name behind a mark at the line's front: up to a tab, else up to a space.
