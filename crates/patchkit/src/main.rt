@@ -5,10 +5,10 @@ use outside::{Scratch, Sink, Source, Tree, put_all};
 use patch_filters::RegexFinder;
 use patch_options::patch_usage;
 use program_words::{
-    Telling, called_tool, cut_line, line_behind, rejected_lines, root_of, told, tool_of,
-    usage_lines, words_of,
+    Telling, called_tool, line_behind, pattern_line, places_of, rejected_lines, state_line,
+    text_lines, told, tool_of, usage_lines, words_of,
 };
-use real_devices::{Disk, Input, Output, Pages, Trouble};
+use real_devices::{Disk, Heard, Input, Output, Pages, Passed, Trouble};
 use std::alloc::{AllocError, Global};
 use std::io;
 use std::io::{ErrorKind, Write};
@@ -19,8 +19,8 @@ use tool_words::{Tool, usage};
 /// The status of every answer that is no application: a refusal, a fault or want of memory.
 const REFUSED: u8 = 2;
 
-/// The tool of which the tree keeps saves.
-const STACK: &str = "patchstack";
+/// The tool that may apply a patch text from standard input.
+const PATCH: &str = "patch";
 
 fn main(rt: HostRuntime) -> ExitCode {
     let status = match words_of(&rt) {
@@ -94,26 +94,48 @@ fn run_over<O: Write + Drop, E: Write + Drop>(
     err: &mut Output<E>,
 ) -> Exit {
     let alloc = rt.alloc();
-    let mut tree = Disk::new(alloc, rt, tool == STACK, root_of(alloc, words));
-    let mut input = Input::new(alloc, rt.stdin());
+    let mut tree = Disk::new(alloc, rt, places_of(alloc, tool, words));
+    let mut input = Input::new(alloc, rt.stdin(), tool == PATCH);
     let scratch = Pages::new(alloc, rt);
     let (exit, pages) = run_words(alloc, words, &mut tree, scratch, &mut input, out, err);
-    put_lines(
-        err,
-        cut_line(alloc, &mut tree, words, exit.why, input.last()),
-    );
     tree.end();
     pages.end();
+    if tree.passed().is_empty() {
+        put_texts(rt, tool, words, exit.why, out.heard(), input.passed(), err);
+    } else {
+        put_texts(rt, tool, words, exit.why, out.heard(), tree.passed(), err);
+    }
     match exit.why {
+        Why::Done | Why::Rejected | Why::Garbage => {}
         Why::Usage => put_lines(err, usage_lines(alloc, tool, words)),
         Why::NoPatchFile => put_missing(err, tool, tree.missing()),
-        Why::Rejected => put_lines(err, rejected_lines(alloc, rt, tool, words, out.heard())),
+        Why::BadPattern => put_lines(err, pattern_line(alloc, tool, words)),
+        Why::BadState { file } => put_lines(err, state_line(alloc, tool, &mut tree, file)),
         Why::TreeFault => put_behind(alloc, err, tool, exit.why, tree.trouble()),
         Why::ScratchFault => put_behind(alloc, err, tool, exit.why, pages.trouble()),
         Why::ReadFault => put_behind(alloc, err, tool, exit.why, input.trouble()),
         why => put_behind(alloc, err, tool, why, out.trouble()),
     }
     exit
+}
+
+/// Writes what is to be told of a patch text that was taken, and of what was left out of it.
+fn put_texts<E: Sink>(
+    rt: &HostRuntime,
+    tool: &str,
+    words: &[String],
+    why: Why,
+    heard: Heard,
+    passed: &Passed,
+    err: &mut E,
+) {
+    put_lines(err, text_lines(rt.alloc(), tool, words, why, passed));
+    if matches!(why, Why::Rejected) {
+        put_lines(
+            err,
+            rejected_lines(rt.alloc(), rt, tool, words, heard, passed),
+        );
+    }
 }
 
 /// The run, with a finder of regular expressions.

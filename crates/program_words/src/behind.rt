@@ -1,11 +1,11 @@
 //! The line behind the line of an answer: what helps whoever reads it.
 
 use crate::lacking::{Lack, lack_of, operands_text};
-use crate::unfit::unfit_word;
+use crate::unfit::{copied, unfit_place};
+use crate::wanted::{wanted_by, with_value};
 use hunk_core::BadKind;
 use real_devices::Trouble;
 use run_answers::Why;
-use series_stack::StateFile;
 use std::alloc::{AllocError, Global};
 
 /// The largest buffer that can be asked for.
@@ -28,7 +28,6 @@ pub fn line_behind(
             kind: BadKind::Binary,
             ..
         } => binary_line(alloc, tool),
-        Why::BadState { file } => state_line(alloc, tool, file),
         Why::ReadFault | Why::WriteFault | Why::TreeFault | Why::ScratchFault => {
             trouble_line(alloc, tool, trouble)
         }
@@ -39,26 +38,60 @@ pub fn line_behind(
 /// The lines behind words that are not a command: the first that can't be taken, where one of them can't, or what is missing
 /// behind the last; and where the words are told.
 pub fn usage_lines(alloc: Global, tool: &str, words: &[String]) -> Result<String, AllocError> {
-    match unfit_word(alloc, words)? {
-        Some(word) => format!(in alloc;
-            "{tool}: can't take {word:?} here\nTry '{tool} --help' for more information.\n"
-        ),
-        None => lacking_lines(alloc, tool, words),
+    let mut lines = match unfit_place(alloc, words)? {
+        Some(place) => unfit_line(alloc, tool, words, place)?,
+        None => lacking_line(alloc, tool, words)?,
+    };
+    let help = format!(in alloc; "Try '{tool} --help' for more information.\n")?;
+    lines.push_str(help.as_str())?;
+    Ok(lines)
+}
+
+/// The line of the word at this place, which can't be taken: where an option takes it as its value, what that should be.
+fn unfit_line(
+    alloc: Global,
+    tool: &str,
+    words: &[String],
+    place: usize,
+) -> Result<String, AllocError> {
+    let front = words.get(..place).unwrap_or(words);
+    let word = word_at(words, place);
+    if let Some(Lack::Value(option)) = lack_of(alloc, front)? {
+        return value_line(alloc, tool, option, word);
+    }
+    if let Some((option, value)) = with_value(tool, word) {
+        let mut tried = copied(alloc, front)?;
+        tried.push(String::from_str(alloc, option)?)?;
+        if let Some(Lack::Value(option)) = lack_of(alloc, &tried)? {
+            return value_line(alloc, tool, option, value);
+        }
+    }
+    format!(in alloc; "{tool}: can't take {word:?} here\n")
+}
+
+fn word_at(words: &[String], place: usize) -> &str {
+    match words.get(place) {
+        Some(word) => word.as_str(),
+        None => "",
     }
 }
 
-fn lacking_lines(alloc: Global, tool: &str, words: &[String]) -> Result<String, AllocError> {
+fn value_line(alloc: Global, tool: &str, option: &str, value: &str) -> Result<String, AllocError> {
+    let wanted = wanted_by(alloc, tool, option)?;
+    format!(in alloc; "{tool}: {option:?} wants {wanted}, and {value:?} stands behind it\n")
+}
+
+fn lacking_line(alloc: Global, tool: &str, words: &[String]) -> Result<String, AllocError> {
     match lack_of(alloc, words)? {
-        Some(Lack::Value(option)) => format!(in alloc;
-            "{tool}: {option:?} wants a value\nTry '{tool} --help' for more information.\n"
-        ),
+        Some(Lack::Value(option)) => {
+            let wanted = wanted_by(alloc, tool, option)?;
+            format!(in alloc; "{tool}: {option:?} wants {wanted}\n")
+        }
         Some(Lack::Operands(count)) => {
             let operands = operands_text(alloc, tool, count)?;
-            format!(in alloc;
-                "{tool}: missing at the end:{operands}\nTry '{tool} --help' for more information.\n"
-            )
+            format!(in alloc; "{tool}: missing at the end:{operands}\n")
         }
-        None => format!(in alloc; "Try '{tool} --help' for more information.\n"),
+        None => Ok(String::new(alloc)),
     }
 }
 
@@ -79,16 +112,6 @@ fn binary_line(alloc: Global, tool: &str) -> Result<Option<String>, AllocError> 
         )?)),
         _ => Ok(None),
     }
-}
-
-/// Which file of a stack isn't of its form, and what it should have.
-fn state_line(alloc: Global, tool: &str, file: StateFile) -> Result<Option<String>, AllocError> {
-    let text = match file {
-        StateFile::Series => "patches/series: each line must be a name below patches/",
-        StateFile::Count => ".pc/applied: must say how many of the patches are applied",
-        StateFile::Save => ".pc: a save is missing or isn't of its form",
-    };
-    Ok(Some(format!(in alloc; "{tool}: {text}\n")?))
 }
 
 fn trouble_line(

@@ -6,6 +6,7 @@ use std::alloc::{AllocError, Global};
 use tool_words::tool_named;
 
 /// What is missing behind the last word.
+#[derive(Clone, Copy)]
 pub enum Lack<'a> {
     /// The value of this option.
     Value(&'a str),

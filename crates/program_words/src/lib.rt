@@ -4,15 +4,23 @@
 mod behind;
 mod called;
 mod cut;
+mod ended;
 mod help;
 mod lacking;
-mod root;
+mod modes;
+mod names;
+mod pattern;
+mod places;
 mod skipped;
+mod state;
 mod unfit;
+mod wanted;
 
 pub use behind::{line_behind, usage_lines};
 pub use called::{called_tool, tool_of, words_of};
-pub use cut::cut_line;
+pub use ended::text_lines;
 pub use help::{Telling, told};
-pub use root::root_of;
+pub use pattern::pattern_line;
+pub use places::places_of;
 pub use skipped::rejected_lines;
+pub use state::state_line;

@@ -13,10 +13,10 @@ pub const OPERAND: &str = "20";
 /// How many operands a tool takes at most.
 const OPERANDS: usize = 3;
 
-/// The first word behind which no further words give a command. There is none where words are missing at the end.
+/// The place of the first word behind which no further words give a command. There is none where words are missing at the end.
 ///
 /// Where words give no command whatever follows, more of them give none either: so it is looked for by halves.
-pub fn unfit_word(alloc: Global, words: &[String]) -> Result<Option<&str>, AllocError> {
+pub fn unfit_place(alloc: Global, words: &[String]) -> Result<Option<usize>, AllocError> {
     let (mut fits, mut end) = (0, words.len());
     for _ in 0..u64::BITS {
         if fits >= end {
@@ -29,9 +29,10 @@ pub fn unfit_word(alloc: Global, words: &[String]) -> Result<Option<&str>, Alloc
             end = middle;
         }
     }
-    match words.get(fits) {
-        Some(word) => Ok(Some(word.as_str())),
-        None => Ok(None),
+    if fits < words.len() {
+        Ok(Some(fits))
+    } else {
+        Ok(None)
     }
 }
 

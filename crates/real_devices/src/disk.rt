@@ -3,29 +3,47 @@ ghost use Rattle.outside.specs.Silent.{silent_tree};
 
 use crate::faults::Faults;
 use crate::files::OpenFiles;
+use crate::passed::Passed;
 use crate::paths::Path;
 use crate::trouble::Trouble;
 use outside::{Failed, Name, Tree};
 use std::alloc::{AllocError, Global};
 use std::fs::File;
+use std::io;
 use std::rt::Files;
+
+/// The longest file that is read for a line behind an answer.
+const LARGEST_TEXT: u64 = 1_048_576;
+
+/// What the words of a run say of its tree.
+#[derive(Drop)]
+pub struct Places {
+    /// Whether it is that of a stack of patches.
+    pub is_stack: bool,
+    /// The directory that the run works in, where the operator gives one.
+    pub root: Option<String>,
+    /// The file of its patch text, where that is one.
+    pub patch: Option<Name>,
+}
 
 /// The files, and the count of their faults. It tells no content.
 #[derive(Drop)]
 pub struct Disk<'r, R: Files<File = File>> {
     files: OpenFiles<'r, R>,
     faults: Faults,
-    root: Option<String>,
+    places: Places,
+    passed: Passed,
 }
 
 impl<'r, R: Files<File = File>> Disk<'r, R> {
     /// The tree of a stack of patches has saves, whose rights have rules of their own. Where the operator gives the directory
     /// that a run works in, nothing begins unless it is there.
-    pub fn new(alloc: Global, rt: &'r R, is_stack: bool, root: Option<String>) -> Disk<'r, R> {
+    pub fn new(alloc: Global, rt: &'r R, places: Places) -> Disk<'r, R> {
         Disk {
-            files: OpenFiles::new(alloc, rt, is_stack),
+            files: OpenFiles::new(alloc, rt, places.is_stack),
             faults: Faults::new(alloc),
-            root,
+            places,
+            passed: Passed::new(alloc),
         }
     }
 
@@ -44,20 +62,46 @@ impl<'r, R: Files<File = File>> Disk<'r, R> {
         self.files.missing()
     }
 
-    /// The last byte of a file, where it is there and has one. No fault is counted, so it is asked behind a run.
-    pub fn last_byte(&mut self, name: &Name) -> Option<u8> {
+    /// What is kept of the patch text that was read last.
+    pub fn passed(&self) -> &Passed {
+        &self.passed
+    }
+
+    /// A file of up to 1 MiB, where it is there. No fault is counted, so it is asked behind a run.
+    pub fn text(&mut self, alloc: Global, name: &Name) -> Option<Vec<u8>> {
         match self.files.size(Path::of(name)) {
-            Ok(Some(size)) if size > 0 => self.byte_at(name, size - 1),
+            Ok(Some(size)) if size <= LARGEST_TEXT => self.read_text(alloc, name, size as usize),
             _ => None,
         }
     }
 
-    fn byte_at(&mut self, name: &Name, at: u64) -> Option<u8> {
-        let mut byte = [0; 1];
-        match self.files.read_at(Path::of(name), at, &mut byte) {
-            Ok(1) => Some(byte[0]),
-            _ => None,
+    fn read_text(&mut self, alloc: Global, name: &Name, size: usize) -> Option<Vec<u8>> {
+        let mut text = match vec![in alloc; 0u8; size] {
+            Ok(text) => text,
+            Err(_) => return None,
+        };
+        match self.files.read_at(Path::of(name), 0, &mut text) {
+            Ok(count) => {
+                text.truncate(count);
+                Some(text)
+            }
+            Err(_) => None,
         }
+    }
+}
+
+/// Whether the file has a patch text that is applied.
+fn is_patch(places: &Places, name: &str) -> bool {
+    match &places.patch {
+        Some(patch) => patch.text() == name,
+        None => places.is_stack && name.starts_with("patches/") && name != "patches/series",
+    }
+}
+
+/// Lets what was read of a patch text go by, which is read at once.
+fn see(passed: &mut Passed, is_patch: bool, read: &io::Result<usize>, buf: &[u8]) {
+    if let (true, Ok(count)) = (is_patch, read) {
+        passed.whole(buf.get(..*count).unwrap_or(&[]));
     }
 }
 
@@ -77,8 +121,8 @@ impl<'r, R: Files<File = File>> Tree for Disk<'r, R> {
 
     /// That the tree is settled when a run begins is a premise over real files: all that is looked for is its directory.
     fn settle(&mut self) -> Result<(), Failed> {
-        let done = self.files.find_root(&self.root);
-        self.faults.answer(text_of(&self.root), done)
+        let done = self.files.find_root(&self.places.root);
+        self.faults.answer(text_of(&self.places.root), done)
     }
 
     fn size(&mut self, name: &Name) -> Result<Option<u64>, Failed> {
@@ -88,6 +132,8 @@ impl<'r, R: Files<File = File>> Tree for Disk<'r, R> {
 
     fn read_at(&mut self, name: &Name, at: u64, buf: &mut [u8]) -> Result<usize, Failed> {
         let done = self.files.read_at(Path::of(name), at, buf);
+        let is_patch = at == 0 && is_patch(&self.places, name.text());
+        see(&mut self.passed, is_patch, &done, buf);
         self.faults.answer(name.text(), done)
     }
 

@@ -4,6 +4,7 @@ ghost use Rattle.outside.specs.Silent.{silent_source, silent_sink};
 
 use crate::faults::Faults;
 use crate::heard::Heard;
+use crate::passed::Passed;
 use crate::trouble::Trouble;
 use outside::{Failed, Sink, Source};
 use std::alloc::Global;
@@ -13,26 +14,29 @@ use std::io::{BufWriter, ErrorKind, Read, Write};
 /// How many bytes are gathered before they are written.
 const PIECE: usize = 65_536;
 
-/// Standard input, and the last byte that it gave.
+/// Standard input, and what is kept of the text that it gave.
 #[derive(Drop)]
 pub struct Input<R: Read + Drop> {
     reader: R,
-    last: Option<u8>,
+    is_patch: bool,
+    passed: Passed,
     faults: Faults,
 }
 
 impl<R: Read + Drop> Input<R> {
-    pub fn new(alloc: Global, reader: R) -> Input<R> {
+    /// Of a patch text that is applied something is kept.
+    pub fn new(alloc: Global, reader: R, is_patch: bool) -> Input<R> {
         Input {
             reader,
-            last: None,
+            is_patch,
+            passed: Passed::new(alloc),
             faults: Faults::new(alloc),
         }
     }
 
-    /// The last byte that was read, where one was.
-    pub fn last(&self) -> Option<u8> {
-        self.last
+    /// What is kept of the text.
+    pub fn passed(&self) -> &Passed {
+        &self.passed
     }
 
     /// What failed last.
@@ -46,15 +50,17 @@ impl<R: Read + Drop> Source for Input<R> {
 
     fn read(&mut self, buf: &mut [u8]) -> Result<usize, Failed> {
         let read = read_some(&mut self.reader, buf);
-        match self.faults.answer("standard input", read) {
-            Ok(count) => {
-                if count > 0 {
-                    self.last = Some(buf[count - 1]);
-                }
-                Ok(count)
-            }
-            Err(fault) => Err(fault),
+        if self.is_patch {
+            see(&mut self.passed, &read, buf);
         }
+        self.faults.answer("standard input", read)
+    }
+}
+
+/// Lets what was read go by.
+fn see(passed: &mut Passed, read: &io::Result<usize>, buf: &[u8]) {
+    if let Ok(count) = read {
+        passed.piece(buf.get(..*count).unwrap_or(&[]));
     }
 }
 

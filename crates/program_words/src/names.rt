@@ -1,0 +1,212 @@
+//! The names in the lines of a file patch for which no file was found.
+
+use memchr::{memmem, memrchr};
+use outside::Name;
+use std::alloc::{AllocError, Global};
+use target_names::{candidates, moved_names};
+
+/// Names as the lines have them.
+#[derive(Clone, Copy)]
+struct Given<'a> {
+    old: Option<&'a [u8]>,
+    new: Option<&'a [u8]>,
+    /// Whether a rename or a copy without hunks gives them.
+    is_moved: bool,
+}
+
+/// How a run reads names.
+#[derive(Clone, Copy)]
+pub struct Reading {
+    /// What `-p` says.
+    pub strip: Option<u32>,
+    pub is_posix: bool,
+}
+
+/// Which names the file patch gives whose opening is this line of the text, and what `-p` leaves of them. Nothing is said where
+/// its lines aren't in this front of the text.
+pub fn names_line(
+    alloc: Global,
+    tool: &str,
+    reading: Reading,
+    front: &[u8],
+    opening: u64,
+) -> Result<String, AllocError> {
+    let given = given_in(front, opening);
+    let written = written_names(alloc, given)?;
+    if written.is_empty() {
+        return Ok(String::new(alloc));
+    }
+    let left = left_names(alloc, given, reading)?;
+    if left.as_str() == written.as_str() {
+        return format!(in alloc; "{tool}: the patch names {written}\n");
+    }
+    match reading.strip {
+        Some(strip) => {
+            format!(in alloc; "{tool}: the patch names {written}, with -p{strip} {left}\n")
+        }
+        None => format!(in alloc; "{tool}: the patch names {written}, without -p {left}\n"),
+    }
+}
+
+/// The names in the two lines in front of the opening, or in it and behind it where it is that of a bare git header.
+fn given_in(front: &[u8], opening: u64) -> Given<'_> {
+    let mut given = Given {
+        old: None,
+        new: None,
+        is_moved: false,
+    };
+    let mut number = 0u64;
+    for line in front.split(|byte| *byte == b'\n') {
+        number = number.saturating_add(1);
+        if number > opening && !is_of_header(line) {
+            break;
+        }
+        given = with_line(given, line, number, opening);
+    }
+    given
+}
+
+/// Whether the line goes on with a git header.
+fn is_of_header(line: &[u8]) -> bool {
+    is_moving(line)
+        || line.starts_with(b"old mode ")
+        || line.starts_with(b"new mode ")
+        || line.starts_with(b"similarity index ")
+}
+
+fn is_moving(line: &[u8]) -> bool {
+    line.starts_with(b"rename ") || line.starts_with(b"copy ")
+}
+
+/// What the lines say up to this one.
+fn with_line<'a>(given: Given<'a>, line: &'a [u8], number: u64, opening: u64) -> Given<'a> {
+    let mut given = given;
+    if number > opening {
+        if is_moving(line) {
+            given.is_moved = true;
+            given.old = first_of(whole_name(line, b" from "), given.old);
+            given.new = first_of(whole_name(line, b" to "), given.new);
+        }
+    } else if number == opening {
+        if let Some(names) = line.strip_prefix(b"diff --git ") {
+            let (old, new) = both_names(names);
+            given.old = Some(old);
+            given.new = Some(new);
+        }
+    } else if number.saturating_add(2) == opening {
+        given.old = name_of(line, [b"--- ", b"*** ", b"Index: "]);
+    } else if number.saturating_add(1) == opening {
+        given.new = name_of(line, [b"+++ ", b"--- ", b"Index: "]);
+    }
+    given
+}
+
+fn first_of<'a>(one: Option<&'a [u8]>, other: Option<&'a [u8]>) -> Option<&'a [u8]> {
+    match one {
+        Some(_) => one,
+        None => other,
+    }
+}
+
+/// Both names of a git header's first line, behind its mark: where they are as long as each other the space between them is in
+/// the middle, else it stands in front of `b/`, else it is the last one.
+pub fn both_names(names: &[u8]) -> (&[u8], &[u8]) {
+    let half = names.len() / 2;
+    if names.len() % 2 == 1 && names.get(half) == Some(&b' ') {
+        return parts_at(names, half);
+    }
+    match memmem::rfind(names, b" b/") {
+        Some(space) => parts_at(names, space),
+        None => parts_at(names, memrchr(b' ', names).unwrap_or(0)),
+    }
+}
+
+fn parts_at(names: &[u8], space: usize) -> (&[u8], &[u8]) {
+    (
+        names.get(..space).unwrap_or(names),
+        names.get(space.saturating_add(1)..).unwrap_or(names),
+    )
+}
+
+/// The name behind the mark that the line begins with.
+fn name_of<'a>(line: &'a [u8], marks: [&[u8]; 3]) -> Option<&'a [u8]> {
+    for mark in marks {
+        if let Some(name) = name_behind(line, mark) {
+            return Some(name);
+        }
+    }
+    None
+}
+
+/// The name behind a mark at the line's front: up to a tab, else up to a space.
+fn name_behind<'a>(line: &'a [u8], mark: &[u8]) -> Option<&'a [u8]> {
+    let rest = line.strip_prefix(mark)?;
+    let end = match rest.iter().position(|byte| *byte == b'\t') {
+        Some(tab) => tab,
+        None => rest
+            .iter()
+            .position(|byte| *byte == b' ')
+            .unwrap_or(rest.len()),
+    };
+    rest.get(..end)
+}
+
+/// The name behind a mark that stands behind the line's first word.
+fn whole_name<'a>(line: &'a [u8], mark: &[u8]) -> Option<&'a [u8]> {
+    let space = line.iter().position(|byte| *byte == b' ')?;
+    line.get(space..)?.strip_prefix(mark)
+}
+
+/// The names as they are written.
+fn written_names(alloc: Global, given: Given<'_>) -> Result<String, AllocError> {
+    let mut text = String::new(alloc);
+    for name in [given.old, given.new] {
+        if let Some(name) = name {
+            if name != b"/dev/null".as_slice() {
+                let shown = String::from_utf8_lossy(alloc, name)?;
+                add_name(alloc, &mut text, shown.as_str())?;
+            }
+        }
+    }
+    Ok(text)
+}
+
+/// The names that a run looks for.
+fn left_names(alloc: Global, given: Given<'_>, reading: Reading) -> Result<String, AllocError> {
+    let names = looked_for(alloc, given, reading)?;
+    let mut text = String::new(alloc);
+    for name in &names {
+        add_name(alloc, &mut text, name.text())?;
+    }
+    if text.is_empty() {
+        text.push_str("none that counts")?;
+    }
+    Ok(text)
+}
+
+fn looked_for(alloc: Global, given: Given<'_>, reading: Reading) -> Result<Vec<Name>, AllocError> {
+    if given.is_moved {
+        moved_names(alloc, reading.strip, given.old, given.new)
+    } else {
+        candidates(
+            alloc,
+            reading.strip,
+            given.old,
+            given.new,
+            None,
+            reading.is_posix,
+        )
+    }
+}
+
+/// Adds a name in quotes, unless it is the one that is there.
+fn add_name(alloc: Global, text: &mut String, name: &str) -> Result<(), AllocError> {
+    let quoted = format!(in alloc; "{name:?}")?;
+    if text.as_str() == quoted.as_str() {
+        return Ok(());
+    }
+    if !text.is_empty() {
+        text.push_str(" and ")?;
+    }
+    text.push_str(quoted.as_str())
+}

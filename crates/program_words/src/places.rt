@@ -1,0 +1,59 @@
+//! What the words say of the tree that a run works on.
+
+use outside::Name;
+use patch_options::{Input, Job, Options, read_words};
+use real_devices::Places;
+use std::alloc::{AllocError, Global};
+
+/// The tool of which the tree keeps saves.
+const STACK: &str = "patchstack";
+
+/// What the words say, where they are a command. Without memory they say nothing: the run will say so.
+pub fn places_of(alloc: Global, tool: &str, words: &[String]) -> Places {
+    match read_words(alloc, words) {
+        Ok(Job::Patch(options)) => places_in(alloc, &options),
+        Err(_) => Places {
+            is_stack: tool == STACK,
+            root: None,
+            patch: None,
+        },
+    }
+}
+
+fn places_in(alloc: Global, options: &Options) -> Places {
+    Places {
+        is_stack: false,
+        root: text_of(alloc, &options.dir),
+        patch: patch_file(alloc, options).unwrap_or(None),
+    }
+}
+
+fn text_of(alloc: Global, dir: &Option<Name>) -> Option<String> {
+    match dir {
+        Some(dir) => copied(alloc, dir.text()),
+        None => None,
+    }
+}
+
+fn copied(alloc: Global, text: &str) -> Option<String> {
+    match String::from_str(alloc, text) {
+        Ok(text) => Some(text),
+        Err(_) => None,
+    }
+}
+
+/// The file of the patch text, below the directory.
+fn patch_file(alloc: Global, options: &Options) -> Result<Option<Name>, AllocError> {
+    match &options.input {
+        Input::File(file) => Ok(Some(below(alloc, options, file)?)),
+        Input::Standard => Ok(None),
+    }
+}
+
+/// A name below the directory of the words.
+pub fn below(alloc: Global, options: &Options, name: &Name) -> Result<Name, AllocError> {
+    match &options.dir {
+        Some(dir) => name.below(alloc, dir),
+        None => name.copy(alloc),
+    }
+}

@@ -1,0 +1,116 @@
+//! What an option wants that takes a value, for the line behind a refusal.
+
+use patch_options::{Group, Word, WordForm, patch_table};
+use std::alloc::{AllocError, Global};
+use tool_words::tool_named;
+
+/// What the option's value is, as `a number`. The option is as it is given, the last of its letters the one that is meant.
+pub fn wanted_by(alloc: Global, tool: &str, option: &str) -> Result<String, AllocError> {
+    match row_of(table_of(tool), option) {
+        Some(row) => value_of(alloc, row),
+        None => String::from_str(alloc, "a value"),
+    }
+}
+
+fn table_of(tool: &str) -> &'static [Group] {
+    match tool_named(tool) {
+        Some(tool) => tool.table(),
+        None => patch_table(),
+    }
+}
+
+fn row_of(table: &'static [Group], option: &str) -> Option<&'static Word> {
+    for group in table {
+        for word in group.words {
+            if is_meant(word, option) {
+                return Some(word);
+            }
+        }
+    }
+    None
+}
+
+/// Whether the option is this row's.
+fn is_meant(word: &Word, option: &str) -> bool {
+    match option.strip_prefix("--") {
+        Some(name) => word.name == name,
+        None => ends_with(option, word.letter),
+    }
+}
+
+fn ends_with(option: &str, letter: Option<char>) -> bool {
+    match letter {
+        Some(letter) => option.ends_with(letter),
+        None => false,
+    }
+}
+
+/// What stands for the value in the text that tells the words, in words of its own where that is a letter or a name.
+fn value_of(alloc: Global, row: &Word) -> Result<String, AllocError> {
+    let shown = behind_sign(row.shown);
+    let text = match shown {
+        "N" => "a number",
+        "FILE" => "a file",
+        "DIR" => "a directory",
+        "NAME" => "a name",
+        "PAT" => "a pattern",
+        "RANGE" => "a range",
+        "S" => return named(alloc, row.name),
+        _ => shown,
+    };
+    String::from_str(alloc, text)
+}
+
+fn behind_sign(shown: &str) -> &str {
+    match shown.rsplit_once('=') {
+        Some((_, value)) => value,
+        None => shown,
+    }
+}
+
+fn named(alloc: Global, name: &str) -> Result<String, AllocError> {
+    format!(in alloc; "a {name}")
+}
+
+/// The option at the front of a word that gives it its value too, and the value: `--strip` of `--strip=x`, `-Rp` of `-Rpx`.
+pub fn with_value<'a>(tool: &str, word: &'a str) -> Option<(&'a str, &'a str)> {
+    if word.starts_with("--") {
+        return word.split_once('=');
+    }
+    let letters = word.strip_prefix('-')?;
+    for (place, letter) in letters.char_indices() {
+        if takes_value(table_of(tool), letter) {
+            return parts_behind(
+                word,
+                place.saturating_add(letter.len_utf8()).saturating_add(1),
+            );
+        }
+    }
+    None
+}
+
+/// The two parts of a word, where both have a letter.
+fn parts_behind(word: &str, place: usize) -> Option<(&str, &str)> {
+    match (word.get(..place), word.get(place..)) {
+        (Some(option), Some(value)) if !value.is_empty() => Some((option, value)),
+        _ => None,
+    }
+}
+
+fn takes_value(table: &'static [Group], letter: char) -> bool {
+    for group in table {
+        for word in group.words {
+            if word.letter == Some(letter) {
+                return is_valued(word.form);
+            }
+        }
+    }
+    false
+}
+
+fn is_valued(form: WordForm) -> bool {
+    match form {
+        WordForm::Value | WordForm::Values => true,
+        WordForm::Switch | WordForm::Letter | WordForm::Operand => false,
+    }
+}

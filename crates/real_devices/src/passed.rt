@@ -1,0 +1,75 @@
+//! What is kept of a patch text that goes by, for the lines behind a run.
+
+use crate::modes::Modes;
+use std::alloc::Global;
+
+/// How much of its front is kept.
+const FRONT: usize = 1_048_576;
+
+#[derive(Drop)]
+pub struct Passed {
+    last: Option<u8>,
+    front: Vec<u8>,
+    /// How much more of the front is kept.
+    room: usize,
+    modes: Modes,
+}
+
+impl Passed {
+    pub fn new(alloc: Global) -> Passed {
+        Passed {
+            last: None,
+            front: Vec::new(alloc),
+            room: FRONT,
+            modes: Modes::new(alloc),
+        }
+    }
+
+    /// Whether nothing went by.
+    pub fn is_empty(&self) -> bool {
+        self.last.is_none()
+    }
+
+    /// The last byte, where there is one.
+    pub fn last(&self) -> Option<u8> {
+        self.last
+    }
+
+    /// The text up to 1 MiB, or less of it where memory was missing.
+    pub fn front(&self) -> &[u8] {
+        &self.front
+    }
+
+    /// The lines in which git headers say of a mode: of each header the first line, and behind it its lines `old mode` and
+    /// `new mode`, `new file mode`, or `deleted file mode`.
+    pub fn mode_lines(&self) -> &[u8] {
+        self.modes.lines()
+    }
+
+    /// A whole text goes by. What was kept of another one goes.
+    pub fn whole(&mut self, text: &[u8]) {
+        self.last = None;
+        self.front.clear();
+        self.room = FRONT;
+        self.keep(text);
+        self.modes.whole(text);
+    }
+
+    /// A piece goes by, behind those before it.
+    pub fn piece(&mut self, piece: &[u8]) {
+        let is_first = self.last.is_none();
+        self.keep(piece);
+        self.modes.piece(is_first, piece);
+    }
+
+    fn keep(&mut self, piece: &[u8]) {
+        if let Some(last) = piece.last() {
+            self.last = Some(*last);
+        }
+        let front = piece.get(..self.room).unwrap_or(piece);
+        match self.front.extend_from_slice(front) {
+            Ok(()) => self.room = self.room.saturating_sub(front.len()),
+            Err(_) => self.room = 0,
+        }
+    }
+}
