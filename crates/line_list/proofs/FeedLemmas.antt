@@ -56,8 +56,8 @@ pub compared : (text : List ℕ) (at k : ℕ) → k < 64 → (bit_at (mask_l (ma
 compared text at k l =
     let x = get_or text (at + k) 0 in
     let is : bit_at (mask_l (map (λ x. eqb x 10) (take 64 (drop at text)))) k ≡ cond (eqb x 10) 1 0 =
-        bit_mask_l (map (λ x. eqb x 10) (take 64 (drop at text))) k
-        ∙ ap (λ b. cond b 1 0) (get_or-map (λ x. eqb x 10) (take 64 (drop at text)) k 0 ∙ ap (λ y. eqb y 10) (get_or-chunk at 64 text k 0 l)) in
+    bit_mask_l (map (λ x. eqb x 10) (take 64 (drop at text))) k
+    ∙ ap (λ b. cond b 1 0) (get_or-map (λ x. eqb x 10) (take 64 (drop at text)) k 0 ∙ ap (λ y. eqb y 10) (get_or-chunk at 64 text k 0 l)) in
     let t = tells x _ refl in
     (λ h. t.0 (sym is ∙ h), λ h. is ∙ t.1 h)
 
@@ -92,11 +92,11 @@ line-by text at base m from k order before marks first =
     let e = base + from + k in
     let is : get_or text e 0 ≡ 10 = subst (λ n. get_or text n 0 ≡ 10) (omega arith) ((marks.each (from + k) first.within).0 first.set) in
     let none : NoFeed text at e = λ j above below feed. ⊎_elim (λ l. before j above l feed)
-        (λ ge. no-feed text base m from (from + k) marks (omega (arith, first.within)) (λ i l. first.below i (omega arith)) j ge (omega arith) feed)
-        (cases_lt j (base + from)) in
+    (λ ge. no-feed text base m from (from + k) marks (omega (arith, first.within)) (λ i l. first.below i (omega arith)) j ge (omega arith) feed)
+    (cases_lt j (base + from)) in
     let same : at + (e - at) ≡ e = omega arith in
     subst (λ n. IsLineAt text at (n + 1)) same
-        (line-to text at (e - at) (omega (arith, marks.within, first.within)) (subst (NoFeed text at) (sym same) none) (subst (λ n. get_or text n 0 ≡ 10) (sym same) is))
+    (line-to text at (e - at) (omega (arith, marks.within, first.within)) (subst (NoFeed text at) (sym same) none) (subst (λ n. get_or text n 0 ≡ 10) (sym same) is))
 
 -- ---- a word more
 

@@ -1,16 +1,16 @@
 //! Hunks that follow each other, of which only the pieces and the old lines are kept.
 
 ghost use Rattle.std.specs.Prelude.{◌≡◌, true, ◌<◌, ◌≤◌, ◌^◌, length, drop, IfOk, IfErr};
+ghost use Rattle.line_list.specs.Feeds.{AreFeeds};
 ghost use Rattle.line_list.specs.Lines.{lines};
 ghost use Rattle.hunk_core.specs.Pieces.{AreInTurn, AreWhole};
 ghost use Rattle.hunk_core.specs.Reading.{Fails, IsPlace, ahead_of};
 ghost use Rattle.unified_form.specs.Hunks.{begins_hunk, hunk_at, reading};
 ghost use Rattle.unified_form.specs.Skimmed.{AreRows, IsRow};
 
-use crate::hunks::at_opening;
-use crate::skim::{OldRange, pass_hunk};
+use crate::skim::{OldRange, opens_by, pass_hunk};
 use hunk_core::{FormFault, Place};
-use line_list::Span;
+use line_list::{Feeds, Span};
 use std::alloc::Global;
 
 /// Hunks without their lines.
@@ -26,13 +26,20 @@ pub struct HunkRows {
 }
 
 /// The old lines of a hunk whose old start is at least `least`, and the place after it.
-fn read_row(text: &[u8], least: u64, place: Place) -> Result<(OldRange, Place), FormFault>
-    requires { IsPlace text.now place }
+fn read_row(
+    text: &[u8],
+    least: u64,
+    place: Place,
+    feeds: &mut Feeds,
+) -> Result<(OldRange, Place), FormFault>
+    requires place { IsPlace text.now place }
+    requires feeds { AreFeeds text.now feeds.old }
+    ensures feeds { AreFeeds text.now feeds.new }
     ensures place { IfOk result (λ x. IsPlace text.now x.1 × (place.at < x.1.at)) }
     ensures row { IfOk result (λ x. IsRow text.now least place x.0 x.1) }
     ensures fails { IfErr result (λ e. Fails e (hunk_at least (ahead_of text.now place))) }
 {
-    pass_hunk(text, least, place)
+    pass_hunk(text, least, place, feeds)
 }
 
 /// The pieces and the old lines of the hunks that follow each other from `at` on, where the line has this number. Their bodies are read,
@@ -55,8 +62,9 @@ pub fn read_rows(alloc: Global, text: &[u8], at: usize, line: u64) -> Result<Hun
     let mut olds = Vec::new(alloc);
     let mut place = Place { at, number: line };
     let mut least: u64 = 0;
-    'hunks: while at_opening(text, place.at) {
-        let (old, next) = read_row(text, least, place)?;
+    let mut feeds = Feeds::unknown();
+    'hunks: while opens_by(text, place.at, &mut feeds) {
+        let (old, next) = read_row(text, least, place, &mut feeds)?;
         spans.push(Span {
             start: place.at as u32,
             end: next.at as u32,

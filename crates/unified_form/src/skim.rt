@@ -1,6 +1,7 @@
 //! Hunks that follow each other, of which only the first is kept: who wants no more of a file patch takes no memory for the others.
 
 ghost use Rattle.std.specs.Prelude.{◌≡◌, ℕ, true, ◌+◌, ◌<◌, ◌≤◌, ◌^◌, length, drop, IfOk, IfErr};
+ghost use Rattle.line_list.specs.Feeds.{AreFeeds};
 ghost use Rattle.line_list.specs.Lines.{lines};
 ghost use Rattle.hunk_core.specs.Reading.{Fails, Gives, IsPlace, ahead_of};
 ghost use Rattle.hunk_core.specs.Turned.{IsLawful};
@@ -9,9 +10,9 @@ ghost use Rattle.unified_form.specs.Skimmed.{IsSkimmed, past_body, past_hunk, pa
 
 use crate::body::{Left, is_last, left_after, marked_line};
 use crate::hunks::{at_opening, read_hunk};
-use crate::range::opening_of;
+use crate::range::{opening_of, opens_hunk};
 use hunk_core::{BadKind, FormFault, Hunk, Place, backslash_end, bad};
-use line_list::next_line;
+use line_list::{Feeds, next_line_by};
 use std::alloc::Global;
 
 /// Which lines of the old side a hunk is about.
@@ -35,16 +36,36 @@ pub struct Skim {
     pub next: u64,
 }
 
+/// Whether a hunk opens at `at`.
+pub fn opens_by(text: &[u8], at: usize, feeds: &mut Feeds) -> bool
+    requires within { at ≤ length text.now }
+    requires feeds { AreFeeds text.now feeds.old }
+    ensures feeds { AreFeeds text.now feeds.new }
+    ensures opens { result ≡ begins_hunk (lines (drop at text.now)) }
+{
+    match next_line_by(text, at, feeds) {
+        None => false,
+        Some(end) => opens_hunk(&text[at..end]),
+    }
+}
+
 /// What is left behind a line of a body, and the place after it.
 #[tactic(auto, unfolding(crate::specs::Skimmed::past_first_line))]
-fn pass_line(text: &[u8], left: Left, place: Place) -> Result<(Left, Place), FormFault>
-    requires { IsPlace text.now place }
+fn pass_line(
+    text: &[u8],
+    left: Left,
+    place: Place,
+    feeds: &mut Feeds,
+) -> Result<(Left, Place), FormFault>
+    requires place { IsPlace text.now place }
+    requires feeds { AreFeeds text.now feeds.old }
+    ensures feeds { AreFeeds text.now feeds.new }
     ensures place { IfOk result (λ x. IsPlace text.now x.1 × (place.at < x.1.at)) }
     ensures less { IfOk result (λ x. x.0.old + x.0.new < left.old + left.new) }
     ensures exact { Gives (λ x. (x.0, ahead_of text.now x.1)) result (past_line left (ahead_of text.now place)) }
 {
     let number = place.number;
-    let Some(end) = next_line(text, place.at) else {
+    let Some(end) = next_line_by(text, place.at, feeds) else {
         return Err(bad(number, BadKind::ShortEnd));
     };
     let line = marked_line(text, place.at, end, number)?;
@@ -69,15 +90,17 @@ fn pass_line(text: &[u8], left: Left, place: Place) -> Result<(Left, Place), For
 }
 
 /// The place after a body with these counts.
-fn pass_body(text: &[u8], left: Left, place: Place) -> Result<Place, FormFault>
-    requires { IsPlace text.now place }
+fn pass_body(text: &[u8], left: Left, place: Place, feeds: &mut Feeds) -> Result<Place, FormFault>
+    requires place { IsPlace text.now place }
+    requires feeds { AreFeeds text.now feeds.old }
+    ensures feeds { AreFeeds text.now feeds.new }
     ensures place { IfOk result (λ x. IsPlace text.now x × (place.at ≤ x.at)) }
     ensures exact { Gives (ahead_of text.now) result (past_body (left.old + left.new) left (ahead_of text.now place)) }
 {
     let mut left = left;
     let mut place = place;
     while left.old > 0 || left.new > 0 {
-        let (behind, next) = pass_line(text, left, place)?;
+        let (behind, next) = pass_line(text, left, place, feeds)?;
         left = Left {
             old: behind.old,
             new: behind.new,
@@ -89,13 +112,20 @@ fn pass_body(text: &[u8], left: Left, place: Place) -> Result<Place, FormFault>
 
 /// The old lines of a hunk whose old start is at least `least`, and the place after it.
 #[tactic(auto, unfolding(crate::specs::Skimmed::past_first))]
-pub fn pass_hunk(text: &[u8], least: u64, place: Place) -> Result<(OldRange, Place), FormFault>
-    requires { IsPlace text.now place }
+pub fn pass_hunk(
+    text: &[u8],
+    least: u64,
+    place: Place,
+    feeds: &mut Feeds,
+) -> Result<(OldRange, Place), FormFault>
+    requires place { IsPlace text.now place }
+    requires feeds { AreFeeds text.now feeds.old }
+    ensures feeds { AreFeeds text.now feeds.new }
     ensures place { IfOk result (λ x. IsPlace text.now x.1 × (place.at < x.1.at)) }
     ensures exact { Gives (λ x. (x.0, ahead_of text.now x.1)) result (past_hunk least (ahead_of text.now place)) }
 {
     let number = place.number;
-    let Some(end) = next_line(text, place.at) else {
+    let Some(end) = next_line_by(text, place.at, feeds) else {
         return Err(bad(number, BadKind::ShortEnd));
     };
     let ranges = match opening_of(&text[place.at..end], least) {
@@ -113,6 +143,7 @@ pub fn pass_hunk(text: &[u8], least: u64, place: Place) -> Result<(OldRange, Pla
             at: end,
             number: number + 1,
         },
+        feeds,
     )?;
     if backslash_end(text, next.at).is_some() {
         return Err(bad(next.number, BadKind::MisplacedBackslash));
@@ -132,8 +163,9 @@ fn pass_hunks(text: &[u8], least: u64, place: Place) -> Result<Place, FormFault>
 {
     let mut least = least;
     let mut place = place;
-    'hunks: while at_opening(text, place.at) {
-        let (old, next) = pass_hunk(text, least, place)?;
+    let mut feeds = Feeds::unknown();
+    'hunks: while opens_by(text, place.at, &mut feeds) {
+        let (old, next) = pass_hunk(text, least, place, &mut feeds)?;
         least = u64::from(old.start);
         place = next;
     }

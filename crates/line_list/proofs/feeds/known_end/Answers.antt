@@ -27,5 +27,5 @@ returns-in-Some c =
     let marks = c.requires.feeds.each word (omega (arith, c.if-word-feeds.false)) in
     let here : f.at + 64 * word + from ≡ c.args.at = omega (arith, c.if-at-feeds.false) in
     subst (λ n. IsLineAt text c.args.at (n + c.in-Some.k + 1)) here
-        (line-by text c.args.at (f.at + 64 * word) _ from c.in-Some.k (omega (arith, here)) (λ j above below feed. absurd (omega (arith, here))) marks
-        (record { within = c.in-Some.ensures.within; set = c.in-Some.ensures.set; below = c.in-Some.ensures.below }))
+    (line-by text c.args.at (f.at + 64 * word) _ from c.in-Some.k (omega (arith, here)) (λ j above below feed. absurd (omega (arith, here))) marks
+    (record { within = c.in-Some.ensures.within; set = c.in-Some.ensures.set; below = c.in-Some.ensures.below }))

@@ -10,6 +10,7 @@ use Rattle.unified_form.proofs.rows.read_rows.Goals as goal
 
 pub hunks-init : goal.hunks-init
 hunks-init c = rw (c.new-spans.ensures.items, c.new-olds.ensures.items) (record {
+  feeds = c.unknown-feeds.ensures c.args.text.now;
   place = record { short = c.requires.short; within = c.requires.within; small = omega (arith, c.requires.small) };
   so_far = record {
     hunks = [];
@@ -22,14 +23,15 @@ hunks-init c = rw (c.new-spans.ensures.items, c.new-olds.ensures.items) (record 
 pub returns-in_err-old-clause-fails : goal.returns-in_err-old-clause-fails
 returns-in_err-old-clause-fails c =
     let p = err_from_is_err_and c.from_residual.result c.from_residual.ensures.1 in
-    let opens : begins_hunk (lines (drop c.hunks.place.at c.args.text.now)) ≡ true = sym c.hunks-test.ensures in
+    let opens : begins_hunk (lines (drop c.hunks.place.at c.args.text.now)) ≡ true = sym c.hunks-test.ensures.opens in
     rw (p.1, p.2) (rows_fail c.in_err-old.field-0.0 c.args.text.now c.args.at c.hunks.spans.items c.hunks.olds.items c.hunks.least c.hunks.place _ opens c.in_err-old.ensures.fails c.hunks.invariant.so_far)
 
 pub hunks-preserved : goal.hunks-preserved
 hunks-preserved c =
-    let opens : begins_hunk (lines (drop c.hunks.place.at c.args.text.now)) ≡ true = sym c.hunks-test.ensures in
+    let opens : begins_hunk (lines (drop c.hunks.place.at c.args.text.now)) ≡ true = sym c.hunks-test.ensures.opens in
     let row = c.in_ok-old.ensures in
     record {
+      feeds = c.read_row.ensures.feeds;
       place = row.place.0;
       so_far = rw (c.in_ok-push.ensures.items, c.in_ok-push-2.ensures.items, c.from-least.ensures) (rows_go_on c.args.text.now c.args.at c.hunks.spans.items c.hunks.olds.items c.hunks.least c.hunks.place c.in_ok-old.next c.in_ok-old.old _ opens row.place.1 row.row c.hunks.invariant.so_far);
     }
@@ -44,7 +46,7 @@ pub returns-clause-read : goal.returns-clause-read
 returns-clause-read c =
     let text = c.args.text.now in
     let s = c.hunks.invariant.so_far in
-    let none : begins_hunk (lines (drop c.hunks.place.at text)) ≡ false = sym c.hunks-test.ensures in
+    let none : begins_hunk (lines (drop c.hunks.place.at text)) ≡ false = sym c.hunks-test.ensures.opens in
     let read = hunks_done s.hunks c.hunks.least (ahead_of text c.hunks.place) _ none s.so_far in
     record {
       hunks = s.hunks;

@@ -16,6 +16,7 @@ loop-left-preserved c =
     let some : 0 < c.loop-left.left.old + c.loop-left.left.new = elim c.if-left-gt0.branch [ then-left-gt0 w ↦ omega arith | else-left-gt0+then-left-gt0-2 w ↦ omega arith ] in
     let text = c.args.text.now in
     record {
+      feeds = c.pass_line.ensures.feeds;
       place = c.in_ok-behind.ensures.place.0;
       later = omega (arith, c.in_ok-behind.ensures.place.1, c.loop-left.invariant.later);
       so_far = body_past_goes_on c.loop-left.left (ahead_of text c.loop-left.place) (c.in_ok-behind.behind, ahead_of text c.in_ok-behind.next) _ some c.in_ok-behind.ensures.less c.in_ok-behind.ensures.exact c.loop-left.invariant.so_far;

@@ -8,6 +8,7 @@ use Rattle.unified_form.proofs.skim.pass_hunks.Goals as goal
 
 pub hunks-init : goal.hunks-init
 hunks-init c = record {
+  feeds = c.unknown-feeds.ensures c.args.text.now;
   place = record { short = c.requires.short; within = c.requires.within; small = c.requires.small };
   later = omega arith;
   so_far = λ most enough. hunks_past_begin most c.args.least (ahead_of c.args.text.now c.args.place) enough;
@@ -16,13 +17,14 @@ hunks-init c = record {
 pub returns-in_err-old-clause-exact : goal.returns-in_err-old-clause-exact
 returns-in_err-old-clause-exact c = λ most enough.
     let p = err_from_is_err_and c.from_residual.result c.from_residual.ensures.1 in
-    let opens : begins_hunk (lines (drop c.hunks.place.at c.args.text.now)) ≡ true = sym c.hunks-test.ensures in
+    let opens : begins_hunk (lines (drop c.hunks.place.at c.args.text.now)) ≡ true = sym c.hunks-test.ensures.opens in
     rw (p.1, p.2) (hunks_past_fail c.in_err-old.field-0.0 c.hunks.least (ahead_of c.args.text.now c.hunks.place) _ opens c.in_err-old.ensures.exact (c.hunks.invariant.so_far most enough))
 
 pub hunks-preserved : goal.hunks-preserved
 hunks-preserved c =
-    let opens : begins_hunk (lines (drop c.hunks.place.at c.args.text.now)) ≡ true = sym c.hunks-test.ensures in
+    let opens : begins_hunk (lines (drop c.hunks.place.at c.args.text.now)) ≡ true = sym c.hunks-test.ensures.opens in
     record {
+      feeds = c.pass_hunk.ensures.feeds;
       place = c.in_ok-old.ensures.place.0;
       later = omega (arith, c.in_ok-old.ensures.place.1, c.hunks.invariant.later);
       so_far = λ most enough. rw c.from-least.ensures (hunks_past_go_on c.hunks.least (ahead_of c.args.text.now c.hunks.place) (c.in_ok-old.old, ahead_of c.args.text.now c.in_ok-old.next) _ opens c.in_ok-old.ensures.exact (c.hunks.invariant.so_far most enough));
@@ -30,5 +32,5 @@ hunks-preserved c =
 
 pub returns-clause-exact : goal.returns-clause-exact
 returns-clause-exact c = λ most enough.
-    let none : begins_hunk (lines (drop c.hunks.place.at c.args.text.now)) ≡ false = sym c.hunks-test.ensures in
+    let none : begins_hunk (lines (drop c.hunks.place.at c.args.text.now)) ≡ false = sym c.hunks-test.ensures.opens in
     hunks_past_done c.hunks.least (ahead_of c.args.text.now c.hunks.place) _ none (c.hunks.invariant.so_far most enough)
