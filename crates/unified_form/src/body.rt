@@ -1,6 +1,7 @@
 //! The body of a hunk.
 
 ghost use Rattle.std.specs.Prelude.{◌≡◌, ℕ, List, ◌+◌, ◌<◌, ◌≤◌, ◌^◌, length, drop, slice_range, Option, IfSome, IfOk, All, vec_len, ◌-◌};
+ghost use Rattle.line_list.specs.Feeds.{AreFeeds};
 ghost use Rattle.line_list.specs.Lines.{lines, IsLineAt};
 ghost use Rattle.hunk_core.specs.PlainHunk.{marked_of, body_of};
 ghost use Rattle.hunk_core.specs.Turned.{LiesIn};
@@ -12,7 +13,7 @@ ghost use Rattle.hunk_core.specs.LineTests.{unended, is_backslash, after_backsla
 use hunk_core::{
     BadKind, FormFault, HunkLine, Mark, Place, backslash_end, bad, begins_backslash, without_feed,
 };
-use line_list::{Span, next_line};
+use line_list::{Feeds, Span, next_line_by};
 use std::alloc::Global;
 
 /// How many lines a body still has on each side.
@@ -110,15 +111,22 @@ pub fn is_last(mark: Mark, left: Left) -> bool
 
 /// A line of the body, what is left behind it, and the place after it.
 #[tactic(auto, unfolding(crate::specs::Bodies::first_line))]
-fn line_of(text: &[u8], left: Left, place: Place) -> Result<(HunkLine, Left, Place), FormFault>
-    requires { IsPlace text.now place }
+fn line_of(
+    text: &[u8],
+    left: Left,
+    place: Place,
+    feeds: &mut Feeds,
+) -> Result<(HunkLine, Left, Place), FormFault>
+    requires place { IsPlace text.now place }
+    requires feeds { AreFeeds text.now feeds.old }
+    ensures feeds { AreFeeds text.now feeds.new }
     ensures place { IfOk result (λ x. IsPlace text.now x.2 × (place.at < x.2.at)) }
     ensures less { IfOk result (λ x. x.1.old + x.1.new < left.old + left.new) }
     ensures lies { IfOk result (λ x. LiesIn text.now x.0.span) }
     ensures exact { Gives (λ x. (marked_of text.now x.0, x.1, ahead_of text.now x.2)) result (line_at left (ahead_of text.now place)) }
 {
     let number = place.number;
-    let Some(end) = next_line(text, place.at) else {
+    let Some(end) = next_line_by(text, place.at, feeds) else {
         return Err(bad(number, BadKind::ShortEnd));
     };
     let line = marked_line(text, place.at, end, number)?;
@@ -152,8 +160,11 @@ fn fill_body(
     left: Left,
     place: Place,
     lines: &mut Vec<HunkLine>,
+    feeds: &mut Feeds,
 ) -> Result<Place, FormFault>
-    requires { IsPlace text.now place }
+    requires place { IsPlace text.now place }
+    requires feeds { AreFeeds text.now feeds.old }
+    ensures feeds { AreFeeds text.now feeds.new }
     ensures place { IfOk result (λ x. IsPlace text.now x × (place.at ≤ x.at)) }
     ensures few { IfOk result (λ x. place.at + vec_len lines.new ≤ x.at) }
     ensures lies { IfOk result (λ x. All (λ l. LiesIn text.now l.span) lines.new.items) }
@@ -163,7 +174,7 @@ fn fill_body(
     let mut left = left;
     let mut place = place;
     while left.old > 0 || left.new > 0 {
-        let (line, behind, next) = line_of(text, left, place)?;
+        let (line, behind, next) = line_of(text, left, place, feeds)?;
         // Field by field: a copy of the whole would wait for the stores of its parts.
         lines.push(HunkLine {
             mark: line.mark,
@@ -189,14 +200,17 @@ pub fn read_body(
     left: Left,
     place: Place,
     spare: &mut Vec<HunkLine>,
+    feeds: &mut Feeds,
 ) -> Result<(Vec<HunkLine>, Place), FormFault>
-    requires { IsPlace text.now place }
+    requires place { IsPlace text.now place }
+    requires feeds { AreFeeds text.now feeds.old }
+    ensures feeds { AreFeeds text.now feeds.new }
     ensures place { IfOk result (λ x. IsPlace text.now x.1 × (place.at ≤ x.1.at)) }
     ensures few { IfOk result (λ x. place.at + vec_len x.0 ≤ x.1.at) }
     ensures lies { IfOk result (λ x. All (λ l. LiesIn text.now l.span) x.0.items) }
     ensures exact { Gives (λ x. (body_of text.now x.0.items, ahead_of text.now x.1)) result (body_at (left.old + left.new) left (ahead_of text.now place)) }
 {
-    let end = fill_body(text, left, place, spare)?;
+    let end = fill_body(text, left, place, spare, feeds)?;
     let lines = Vec::from_slice(alloc, spare)?;
     Ok((lines, end))
 }

@@ -1,6 +1,7 @@
 //! Hunks that follow each other.
 
 ghost use Rattle.std.specs.Prelude.{◌≡◌, ◌≢◌, ◌↔◌, ℕ, List, [], ◌∷◌, ◌++◌, Err, true, None, ◌+◌, ◌<◌, ◌≤◌, ◌^◌, ◌-◌, length, vec_len, take, drop, slice_range, IfOk};
+ghost use Rattle.line_list.specs.Feeds.{AreFeeds};
 ghost use Rattle.line_list.specs.Lines.{lines};
 ghost use Rattle.hunk_core.specs.PlainHunk.{Marked, PlainHunk, hunk_of, hunks_of, lines_on, old_lines, new_lines};
 ghost use Rattle.hunk_core.specs.declared.Mark.{Mark};
@@ -21,7 +22,7 @@ ghost use Rattle.unified_form.specs.Hunks.{hunk_at, begins_hunk, reading};
 use crate::body::{Left, read_body};
 use crate::range::{opening_of, opens_hunk};
 use hunk_core::{BadKind, FormFault, Hunk, HunkLine, Hunks, Place, backslash_end, bad};
-use line_list::{Span, next_line};
+use line_list::{Feeds, Span, next_line, next_line_by};
 use std::alloc::Global;
 
 /// Whether a hunk opens at `at`.
@@ -35,6 +36,19 @@ pub fn at_opening(text: &[u8], at: usize) -> bool
     }
 }
 
+/// The same, with feeds.
+pub fn opens_by(text: &[u8], at: usize, feeds: &mut Feeds) -> bool
+    requires within { at ≤ length text.now }
+    requires feeds { AreFeeds text.now feeds.old }
+    ensures feeds { AreFeeds text.now feeds.new }
+    ensures opens { result ≡ begins_hunk (lines (drop at text.now)) }
+{
+    match next_line_by(text, at, feeds) {
+        None => false,
+        Some(end) => opens_hunk(&text[at..end]),
+    }
+}
+
 /// A hunk whose old start is at least `least`, with the place after it.
 #[tactic(auto, unfolding(crate::specs::Hunks::first_hunk))]
 fn take_hunk(
@@ -43,15 +57,18 @@ fn take_hunk(
     least: u64,
     place: Place,
     spare: &mut Vec<HunkLine>,
+    feeds: &mut Feeds,
 ) -> Result<(Hunk, Place), FormFault>
-    requires { IsPlace text.now place }
+    requires place { IsPlace text.now place }
+    requires feeds { AreFeeds text.now feeds.old }
+    ensures feeds { AreFeeds text.now feeds.new }
     ensures place { IfOk result (λ x. IsPlace text.now x.1 × (place.at < x.1.at)) }
     ensures few { IfOk result (λ x. place.at + vec_len x.0.body ≤ x.1.at) }
     ensures lawful { IfOk result (λ x. IsLawful text.now x.0) }
     ensures exact { Gives (λ x. (hunk_of text.now x.0, ahead_of text.now x.1)) result (hunk_at least (ahead_of text.now place)) }
 {
     let number = place.number;
-    let Some(end) = next_line(text, place.at) else {
+    let Some(end) = next_line_by(text, place.at, feeds) else {
         return Err(bad(number, BadKind::ShortEnd));
     };
     let ranges = match opening_of(&text[place.at..end], least) {
@@ -71,6 +88,7 @@ fn take_hunk(
             number: number + 1,
         },
         spare,
+        feeds,
     )?;
     if backslash_end(text, next.at).is_some() {
         return Err(bad(next.number, BadKind::MisplacedBackslash));
@@ -90,8 +108,11 @@ pub fn read_hunk(
     least: u64,
     place: Place,
     spare: &mut Vec<HunkLine>,
+    feeds: &mut Feeds,
 ) -> Result<(Hunk, Place), FormFault>
-    requires { IsPlace text.now place }
+    requires place { IsPlace text.now place }
+    requires feeds { AreFeeds text.now feeds.old }
+    ensures feeds { AreFeeds text.now feeds.new }
     ensures place { IfOk result (λ x. IsPlace text.now x.1 × (place.at < x.1.at)) }
     ensures whole { IfOk result (λ x. lines (drop place.at text.now) ≡ lines (slice_range text.now place.at x.1.at) ++ lines (drop x.1.at text.now)) }
     ensures piece { IfOk result (λ x. SpellsHunk least (lines (slice_range text.now place.at x.1.at)) (hunk_of text.now x.0)) }
@@ -100,7 +121,7 @@ pub fn read_hunk(
     ensures unbroken { IfOk result (λ x. first_broken (hunk_of text.now x.0) ≡ None) }
     ensures exact { Gives (λ x. (hunk_of text.now x.0, ahead_of text.now x.1)) result (hunk_at least (ahead_of text.now place)) }
 {
-    take_hunk(alloc, text, least, place, spare)
+    take_hunk(alloc, text, least, place, spare, feeds)
 }
 
 /// The hunks that follow each other, by reading on.
@@ -121,8 +142,9 @@ fn read_all(alloc: Global, text: &[u8], at: usize, line: u64) -> Result<Hunks, F
     let mut spare = Vec::new(alloc);
     let mut place = Place { at, number: line };
     let mut least: u64 = 0;
-    'hunks: while at_opening(text, place.at) {
-        let (hunk, next) = read_hunk(alloc, text, least, place, &mut spare)?;
+    let mut feeds = Feeds::unknown();
+    'hunks: while opens_by(text, place.at, &mut feeds) {
+        let (hunk, next) = read_hunk(alloc, text, least, place, &mut spare, &mut feeds)?;
         spans.push(Span {
             start: place.at as u32,
             end: next.at as u32,

@@ -8,7 +8,8 @@ ghost use Rattle.hunk_core.specs.Reading.{Fails, IsPlace, ahead_of};
 ghost use Rattle.unified_form.specs.Hunks.{begins_hunk, hunk_at, reading};
 ghost use Rattle.unified_form.specs.Skimmed.{AreRows, IsRow};
 
-use crate::skim::{OldRange, opens_by, pass_hunk};
+use crate::hunks::opens_by;
+use crate::skim::{OldRange, pass_hunk};
 use hunk_core::{FormFault, Place};
 use line_list::{Feeds, Span};
 use std::alloc::Global;

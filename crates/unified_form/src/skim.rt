@@ -9,8 +9,8 @@ ghost use Rattle.unified_form.specs.Hunks.{begins_hunk, reading};
 ghost use Rattle.unified_form.specs.Skimmed.{IsSkimmed, past_body, past_hunk, past_hunks, past_line};
 
 use crate::body::{Left, is_last, left_after, marked_line};
-use crate::hunks::{at_opening, read_hunk};
-use crate::range::{opening_of, opens_hunk};
+use crate::hunks::{at_opening, opens_by, read_hunk};
+use crate::range::opening_of;
 use hunk_core::{BadKind, FormFault, Hunk, Place, backslash_end, bad};
 use line_list::{Feeds, next_line_by};
 use std::alloc::Global;
@@ -34,19 +34,6 @@ pub struct Skim {
     pub end: usize,
     /// The number of the line there.
     pub next: u64,
-}
-
-/// Whether a hunk opens at `at`.
-pub fn opens_by(text: &[u8], at: usize, feeds: &mut Feeds) -> bool
-    requires within { at ≤ length text.now }
-    requires feeds { AreFeeds text.now feeds.old }
-    ensures feeds { AreFeeds text.now feeds.new }
-    ensures opens { result ≡ begins_hunk (lines (drop at text.now)) }
-{
-    match next_line_by(text, at, feeds) {
-        None => false,
-        Some(end) => opens_hunk(&text[at..end]),
-    }
 }
 
 /// What is left behind a line of a body, and the place after it.
@@ -156,16 +143,16 @@ pub fn pass_hunk(
 }
 
 /// The place after the hunks that follow each other, of which the first starts at `least` or later.
-fn pass_hunks(text: &[u8], least: u64, place: Place) -> Result<Place, FormFault>
-    requires { IsPlace text.now place }
+fn pass_hunks(text: &[u8], least: u64, place: Place, feeds: &mut Feeds) -> Result<Place, FormFault>
+    requires place { IsPlace text.now place }
+    requires feeds { AreFeeds text.now feeds.old }
     ensures place { IfOk result (λ x. IsPlace text.now x × (place.at ≤ x.at)) }
     ensures exact { (most : ℕ) → length (lines (drop place.at text.now)) ≤ most → Gives (ahead_of text.now) result (past_hunks most least (ahead_of text.now place)) }
 {
     let mut least = least;
     let mut place = place;
-    let mut feeds = Feeds::unknown();
-    'hunks: while opens_by(text, place.at, &mut feeds) {
-        let (old, next) = pass_hunk(text, least, place, &mut feeds)?;
+    'hunks: while opens_by(text, place.at, feeds) {
+        let (old, next) = pass_hunk(text, least, place, feeds)?;
         least = u64::from(old.start);
         place = next;
     }
@@ -188,9 +175,11 @@ pub fn skim_hunks(alloc: Global, text: &[u8], at: usize, line: u64) -> Result<Sk
     ensures fails { IfErr result (λ e. Fails e (reading line (lines (drop at text.now)))) }
 {
     let mut spare = Vec::new(alloc);
-    let (first, next) = read_hunk(alloc, text, 0, Place { at, number: line }, &mut spare)?;
+    let mut feeds = Feeds::unknown();
+    let place = Place { at, number: line };
+    let (first, next) = read_hunk(alloc, text, 0, place, &mut spare, &mut feeds)?;
     let more = at_opening(text, next.at);
-    let end = pass_hunks(text, u64::from(first.old_start), next)?;
+    let end = pass_hunks(text, u64::from(first.old_start), next, &mut feeds)?;
     Ok(Skim {
         first,
         more,

@@ -21,6 +21,7 @@ loop-left-preserved c =
     let some : 0 < c.loop-left.left.old + c.loop-left.left.new = elim c.if-left-gt0.branch [ then-left-gt0 w ↦ omega arith | else-left-gt0+then-left-gt0-2 w ↦ omega arith ] in
     let e : body_of c.args.text.now c.push.new.self.items ≡ body_of c.args.text.now c.loop-left.lines.items ++ marked_of c.args.text.now c.in_ok-line.line ∷ [] = rw c.in_ok-push.ensures.items (map_push _ c.loop-left.lines.items c.in_ok-line.line) in
     record {
+      feeds = c.line_of.ensures.feeds;
       place = c.in_ok-line.ensures.place.0;
       later = omega (arith, c.in_ok-line.ensures.place.1, c.loop-left.invariant.later);
       few = rw c.in_ok-push.ensures.items (simp length-append (omega (arith, c.in_ok-line.ensures.place.1, c.loop-left.invariant.few)));

@@ -1,4 +1,4 @@
-use Rattle.std.proofs.Common.{◌≡◌, ◌++◌, ◌∷◌, [], sym, true, false, drop, length, length-append, arith}
+use Rattle.std.proofs.Common.{◌≡◌, ◌++◌, ◌∷◌, [], refl, sym, true, false, drop, length, length-append, arith}
 use Rattle.std.proofs.lemmas.Result.{err_from_is_err_and}
 use Rattle.std.proofs.lemmas.List.{map_push}
 use Rattle.std.proofs.lemmas.List.Sums.{sum_by-append}
@@ -11,22 +11,35 @@ use Rattle.hunk_core.specs.Turned.{IsLawful}
 use Rattle.hunk_core.specs.Rules.{first_broken}
 use Rattle.hunk_core.proofs.PieceLemmas.{spans_go_on}
 use Rattle.unified_form.specs.Grammar.{SpellsHunk}
-use Rattle.hunk_core.specs.Reading.{ahead_of}
+use Rattle.hunk_core.specs.Reading.{ahead, ahead_of}
 use Rattle.unified_form.specs.Hunks.{reading, begins_hunk}
-use Rattle.unified_form.proofs.HunkLoops.{hunks_go_on, hunks_fail, hunks_done}
+use Rattle.unified_form.proofs.HunkLoops.{hunks_begin, hunks_go_on, hunks_fail, hunks_done}
 use Rattle.unified_form.proofs.hunks.read_all.Goals as goal
+
+pub hunks-init : goal.hunks-init
+hunks-init c = rw (c.new-spans.ensures.items, c.new-items.ensures.items) (record {
+  feeds = c.unknown-feeds.ensures c.args.text.now;
+  place = record { short = c.requires.short; within = c.requires.within; small = omega (arith, c.requires.small) };
+  spans = record { turn = refl; whole = tt; pieces = tt; last = refl };
+  count = omega arith;
+  few = omega arith;
+  lawful = λ k d l. absurd (omega (arith, l));
+  unbroken = λ k d l. absurd (omega (arith, l));
+  so_far = hunks_begin 0 (ahead c.args.line (lines (drop c.args.at c.args.text.now)));
+})
 
 pub returns-in_err-hunk-clause-exact : goal.returns-in_err-hunk-clause-exact
 returns-in_err-hunk-clause-exact c =
     let p = err_from_is_err_and c.from_residual.result c.from_residual.ensures.1 in
-    let opens : begins_hunk (lines (drop c.hunks.place.at c.args.text.now)) ≡ true = sym c.hunks-test.ensures in
+    let opens : begins_hunk (lines (drop c.hunks.place.at c.args.text.now)) ≡ true = sym c.hunks-test.ensures.opens in
     rw (p.1, p.2) (hunks_fail c.in_err-hunk.field-0.0 (hunks_of c.args.text.now c.hunks.items.items) c.hunks.least (ahead_of c.args.text.now c.hunks.place) _ opens c.in_err-hunk.ensures.exact c.hunks.invariant.so_far)
 
 pub hunks-preserved : goal.hunks-preserved
 hunks-preserved c =
-    let opens : begins_hunk (lines (drop c.hunks.place.at c.args.text.now)) ≡ true = sym c.hunks-test.ensures in
+    let opens : begins_hunk (lines (drop c.hunks.place.at c.args.text.now)) ≡ true = sym c.hunks-test.ensures.opens in
     let e : hunks_of c.args.text.now c.push-in-hunks.new.self.items ≡ hunks_of c.args.text.now c.hunks.items.items ++ hunk_of c.args.text.now c.in_ok-hunk.hunk ∷ [] = rw c.in_ok-push-2.ensures.items (map_push _ c.hunks.items.items c.in_ok-hunk.hunk) in
     record {
+      feeds = c.read_hunk.ensures.feeds;
       place = c.in_ok-hunk.ensures.place.0;
       spans = rw (e, c.in_ok-push.ensures.items, c.from-least.ensures) (spans_go_on SpellsHunk c.args.text.now c.args.at c.hunks.spans.items (hunks_of c.args.text.now c.hunks.items.items) c.hunks.place.at c.in_ok-hunk.next.at c.hunks.least (hunk_of c.args.text.now c.in_ok-hunk.hunk) c.hunks.invariant.spans c.in_ok-hunk.ensures.place.1 c.in_ok-hunk.ensures.whole c.in_ok-hunk.ensures.piece);
       count = rw c.in_ok-push-2.ensures.items (simp length-append (omega (arith, c.in_ok-hunk.ensures.place.1, c.hunks.invariant.count)));
@@ -38,5 +51,5 @@ hunks-preserved c =
 
 pub returns-clause-exact : goal.returns-clause-exact
 returns-clause-exact c =
-    let none : begins_hunk (lines (drop c.hunks.place.at c.args.text.now)) ≡ false = sym c.hunks-test.ensures in
+    let none : begins_hunk (lines (drop c.hunks.place.at c.args.text.now)) ≡ false = sym c.hunks-test.ensures.opens in
     hunks_done (hunks_of c.args.text.now c.hunks.items.items) c.hunks.least (ahead_of c.args.text.now c.hunks.place) _ none c.hunks.invariant.so_far

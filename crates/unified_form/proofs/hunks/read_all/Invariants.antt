@@ -6,6 +6,7 @@ use Rattle.hunk_core.specs.Turned.{IsLawful}
 use Rattle.hunk_core.specs.Rules.{first_broken}
 use Rattle.hunk_core.proofs.PieceLemmas.{SpansSoFar}
 use Rattle.unified_form.specs.Grammar.{SpellsHunk}
+use Rattle.line_list.specs.Feeds.{AreFeeds}
 use Rattle.hunk_core.specs.Reading.{IsPlace, ahead_of}
 use Rattle.unified_form.specs.Hunks.{reading}
 use Rattle.unified_form.proofs.HunkLoops.{HunksSoFar}
@@ -13,6 +14,7 @@ use Rattle.unified_form.proofs.hunks.read_all.Given as goal
 
 abbrev pub invariant-hunks : goal.invariant-hunks
 invariant-hunks l = record {
+  feeds : AreFeeds l.text l.feeds;
   place : IsPlace l.text l.place;
   spans : SpansSoFar SpellsHunk l.text l.at l.spans.items (hunks_of l.text l.items.items) l.place.at l.least;
   count : l.at + length l.items.items ≤ l.place.at;

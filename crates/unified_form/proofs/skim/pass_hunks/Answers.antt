@@ -8,8 +8,8 @@ use Rattle.unified_form.proofs.skim.pass_hunks.Goals as goal
 
 pub hunks-init : goal.hunks-init
 hunks-init c = record {
-  feeds = c.unknown-feeds.ensures c.args.text.now;
-  place = record { short = c.requires.short; within = c.requires.within; small = c.requires.small };
+  feeds = c.requires.feeds;
+  place = record { short = c.requires.place.short; within = c.requires.place.within; small = c.requires.place.small };
   later = omega arith;
   so_far = λ most enough. hunks_past_begin most c.args.least (ahead_of c.args.text.now c.args.place) enough;
 }

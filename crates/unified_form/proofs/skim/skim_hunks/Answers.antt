@@ -10,6 +10,9 @@ use Rattle.unified_form.proofs.Pieces.{is_found}
 use Rattle.unified_form.proofs.Skimming.{skims, skim_fails}
 use Rattle.unified_form.proofs.skim.skim_hunks.Goals as goal
 
+pub read_hunk-requires-clause-feeds : goal.read_hunk-requires-clause-feeds
+read_hunk-requires-clause-feeds c = c.unknown-feeds.ensures c.args.text.now
+
 pub returns-in_err-first-clause-fails : goal.returns-in_err-first-clause-fails
 returns-in_err-first-clause-fails c =
     let p = err_from_is_err_and c.from_residual.result c.from_residual.ensures.1 in
