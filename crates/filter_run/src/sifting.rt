@@ -29,7 +29,7 @@ use std::alloc::Global;
 use std::mem::forget;
 use tool_words::{FilterJob, GrepJob, ListJob};
 
-/// Carries out a command of `lsdiff`: the list of the file patches that it means.
+/// Carries out a command of `lsdiff`: the list of the file patches that it means. What was read is left to the end of the process.
 pub fn run_list<T: Tree, I: Source, O: Sink>(
     alloc: Global,
     job: ListJob,
@@ -43,12 +43,17 @@ pub fn run_list<T: Tree, I: Source, O: Sink>(
 {
     let mut job = job;
     match open_outline(alloc, &job.input, &mut job.select, tree, source) {
-        Ok(opened) => sink_answer(put_listed(&opened, &job, out)),
+        Ok(opened) => {
+            let answer = sink_answer(put_listed(&opened, &job, out));
+            leave(opened);
+            answer
+        }
         Err(fault) => Err(fault),
     }
 }
 
-/// Carries out a command of `filterdiff` that asks for no form: the text without the file patches and hunks that it doesn't mean.
+/// Carries out a command of `filterdiff` that asks for no form: the text without the file patches and hunks that it doesn't mean. What was
+/// read is left to the end of the process.
 pub fn run_filter<T: Tree, I: Source, O: Sink>(
     alloc: Global,
     job: FilterJob,
@@ -63,7 +68,11 @@ pub fn run_filter<T: Tree, I: Source, O: Sink>(
 {
     let mut job = job;
     match open_digest(alloc, &job.input, &mut job.select, tree, source) {
-        Ok(opened) => sink_answer(put_filtered(&opened, &job, out)),
+        Ok(opened) => {
+            let answer = sink_answer(put_filtered(&opened, &job, out));
+            leave(opened);
+            answer
+        }
         Err(fault) => Err(fault),
     }
 }
@@ -101,8 +110,9 @@ pub fn run_grep<T: Tree, F: Finder, I: Source, O: Sink>(
     }
 }
 
-/// Leaves a set to the end of the process, which a filter comes to next: to give its memory back hunk by hunk takes a tenth of a run.
-fn leave(opened: Option<PatchSet>) {
+/// Leaves what was read to the end of the process, which a filter comes to next: to give the memory of many file patches or hunks back takes
+/// a tenth of a run.
+fn leave<V: Drop>(opened: Option<V>) {
     forget(opened);
 }
 

@@ -20,7 +20,7 @@ returns-clause-rest g c = g.met.O.Sink.rest_none c.args.out.now
 pub returns-in-Ok-clause-sifts : goal.returns-in-Ok-clause-sifts
 returns-in-Ok-clause-sifts g c =
     let j = plain_filter_job c.args.job in
-    rw c.sink_answer.ensures
+    rw c.sink_answer-answer.ensures
     (sifts-over IsDigestIn j.input j.select (plain_select c.open_digest.new.select) ⊥ (λ s v. filtered_digest (filter_with j s) v) (IsOutcomeOf (filter_outcome j)) (filtered-is j) _ _ _ _
     g.O.Sink.view c.args.out.now c.put_filtered.new.out c.in-Ok.opened c.put_filtered.result c.in-Ok.ensures.opens c.put_filtered.ensures.writes c.put_filtered.ensures.none)
 

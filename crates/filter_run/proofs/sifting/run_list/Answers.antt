@@ -21,7 +21,7 @@ returns-clause-rest g c = g.met.O.Sink.rest_none c.args.out.now
 pub returns-in-Ok-clause-sifts : goal.returns-in-Ok-clause-sifts
 returns-in-Ok-clause-sifts g c =
     let j = plain_list_job c.args.job in
-    rw c.sink_answer.ensures
+    rw c.sink_answer-answer.ensures
     (sifts-over IsOutlineOf j.input j.select (plain_select c.open_outline.new.select) ⊥ (λ s v. listed (list_with j s) (outlined v)) (IsOutcomeOf (list_outcome j)) (listed-is j) _ _ _ _
     g.O.Sink.view c.args.out.now c.put_listed.new.out c.in-Ok.opened c.put_listed.result c.in-Ok.ensures.opens c.put_listed.ensures.writes c.put_listed.ensures.none)
 
