@@ -98,15 +98,15 @@ def follow(run, watch):
         time.sleep(0.5)
 
 
-def note(watch, took, begun):
-    """Writes what these runs took into the ledger. What they didn't prove keeps the times of the run that did."""
+def note(watch, run, begun):
+    """Writes what this run took into the ledger. What it didn't prove keeps the times of the run that did."""
     ledger = read_ledger()
     for name, kinds in watch.sums().items():
         of = ledger["crates"].setdefault(name, {})
         if {"seed", "edit", "last"} & {*kinds}:
             of = {kind: it for kind, it in of.items() if kind in ("proof", "tests")}
         ledger["crates"][name] = {**of, **kinds}
-    ledger["run"] = {"minutes": (time.time() - begun) / 60, "processor": sum(it.ru_utime + it.ru_stime for it in took) / 60, "at": time.strftime("%Y-%m-%d %H:%M")}
+    ledger["run"] = {"minutes": (time.time() - begun) / 60, "processor": (run.ru_utime + run.ru_stime) / 60, "at": time.strftime("%Y-%m-%d %H:%M")}
     ledger["run"]["noted"] = sum(watch.seconds[it] for it in watch.ended) / 60
     os.makedirs("build", exist_ok=True)
     with open(f"{LEDGER}.new", "w", encoding="utf-8") as file:
