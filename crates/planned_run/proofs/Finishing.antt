@@ -28,7 +28,7 @@ use Rattle.patch_run.specs.Run.{Run, items_of, set_run}
 use Rattle.patch_effects.specs.declared.fault.RunFault.{RunFault}
 use Rattle.patch_effects.specs.declared.fault.RunFault.TheVariants.{Tree, Write, Scratch, LongLine, FileTooLong, Disagree, Memory}
 use Rattle.planned_run.specs.Scratches.{has_scratch, is_paged, goes_there, pages_of, pages_or, scratch_behind_all}
-use Rattle.planned_run.specs.Finishes.{IsToldTo, HasPlanCause, IsNotBegun, LeavesVerdicts, Finishes}
+use Rattle.planned_run.specs.Finishes.{IsToldTo, HasPlanCause, IsNotBegun, LeavesVerdicts, LeavesRows, Finishes}
 
 -- ---- the scratch
 
@@ -172,6 +172,10 @@ pub verdicts_paged : {u w : TreeView} {before after : Seen} {c d : SinkView} {sc
 verdicts_paged a o v vs rs (Ok given) runs receipt told has = λ f t. (receipt f (t.files, ap is_some told ∙ t.scratch has)).verdicts
 verdicts_paged a o v vs rs (Err e) runs receipt told has = tt
 
+pub rows_paged : {u w : TreeView} {before after : Seen} {c d : SinkView} {scratch_after : ℕ → List ℕ → Option (List ℕ) → Option (List ℕ)} (a : ScratchView) (o : PlainOptions) (v : SetView) (vs : List Verdict) (rs : List Row) (result : Result Receipt RunFault) → Runs u w before after c d scratch_after result (set_run o v) → IfOk result (GivesReceipt u before (set_run o v) (length v.patches) vs rs) → before.scratch ≡ a.told → has_scratch o.plan ≡ true → IfOk result (LeavesRows o v u a rs)
+rows_paged a o v vs rs (Ok given) runs receipt told has = λ f t. (receipt f (t.files, ap is_some told ∙ t.scratch has)).rows
+rows_paged a o v vs rs (Err e) runs receipt told has = tt
+
 -- ---- the plan in memory, which has none
 
 pub record StandsAlone (o : PlainOptions) (before after : Seen) : Type 0 where
@@ -240,6 +244,10 @@ finishes_whole {u = u} {w = w} {c = c} {d = d} {scratch_after = scratch_after} o
 pub verdicts_whole : {u w : TreeView} {before after : Seen} {c d : SinkView} {scratch_after : ℕ → List ℕ → Option (List ℕ) → Option (List ℕ)} (a : ScratchView) (o : PlainOptions) (v : SetView) (vs : List Verdict) (rs : List Row) (result : Result Receipt RunFault) → Runs u w before after c d scratch_after result (set_run o v) → IfOk result (GivesReceipt u before (set_run o v) (length v.patches) vs rs) → before.scratch ≡ Some [] → IfOk result (LeavesVerdicts o v u a vs)
 verdicts_whole a o v vs rs (Ok given) runs receipt told = λ f t. (receipt f (t.files, ap is_some told)).verdicts
 verdicts_whole a o v vs rs (Err e) runs receipt told = tt
+
+pub rows_whole : {u w : TreeView} {before after : Seen} {c d : SinkView} {scratch_after : ℕ → List ℕ → Option (List ℕ) → Option (List ℕ)} (a : ScratchView) (o : PlainOptions) (v : SetView) (vs : List Verdict) (rs : List Row) (result : Result Receipt RunFault) → Runs u w before after c d scratch_after result (set_run o v) → IfOk result (GivesReceipt u before (set_run o v) (length v.patches) vs rs) → before.scratch ≡ Some [] → IfOk result (LeavesRows o v u a rs)
+rows_whole a o v vs rs (Ok given) runs receipt told = λ f t. (receipt f (t.files, ap is_some told)).rows
+rows_whole a o v vs rs (Err e) runs receipt told = tt
 
 -- ---- no memory for the pages
 

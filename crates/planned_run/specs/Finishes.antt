@@ -1,5 +1,5 @@
 -- The part of a run behind the reading of the patch text.
-use Rattle.std.specs.Prelude.{◌≡◌, ◌≢◌, ◌⊎◌, ℕ, ◌-◌, ◌^◌, ◌<◌, ◌≤◌, List, length, true, is_some, Some, None, Result, Err, OnOk, IfOk, IfErr}
+use Rattle.std.specs.Prelude.{◌≡◌, ◌≢◌, ◌⊎◌, ℕ, ◌-◌, ◌^◌, ◌<◌, ◌≤◌, List, length, map, true, is_some, Some, None, Result, Err, OnOk, IfOk, IfErr}
 use Rattle.std.specs.List.{flat_map}
 use Rattle.outside.specs.Faults.{HasRisen}
 use Rattle.outside.specs.Files.{Files}
@@ -12,6 +12,7 @@ use Rattle.outside.specs.ScratchView.{ScratchView, ScratchPasses}
 use Rattle.outside.specs.Quiet.{LeavesPrefix}
 use Rattle.hunk_core.specs.declared.Verdict.{Verdict}
 use Rattle.patch_options.specs.PlainJob.{PlainOptions, IsLawful}
+use Rattle.patch_set.specs.declared.set.Row.{Row}
 use Rattle.patch_set.specs.SetView.{SetView, IsRead, HasVerdicts}
 use Rattle.patch_run.specs.Applied.{Receipt}
 use Rattle.patch_run.specs.Run.{Run, items_of, set_run}
@@ -21,7 +22,7 @@ use Rattle.patch_effects.specs.declared.fault.RunFault.{RunFault}
 use Rattle.patch_effects.specs.declared.fault.RunFault.TheVariants.{Tree, Write, Scratch, LongLine, FileTooLong, Disagree, Memory}
 use Rattle.planned_run.specs.Scratches.{has_scratch, is_paged, scratch_behind_all}
 
--- a set that was read with these options, and of which nothing was carried out yet
+-- a set that was read with these options
 pub record CanApply (o : PlainOptions) (v : SetView) : Type 0 where
   pub lawful : IsLawful o
   pub read : (given : List ℕ) × IsRead o given v
@@ -58,6 +59,10 @@ verdicts_of r = flat_map (λ s. s.verdicts) r.stories
 -- where all is told, a run that came to its end leaves these verdicts
 abbrev pub LeavesVerdicts : PlainOptions → SetView → TreeView → ScratchView → List Verdict → Receipt → Type 0
 LeavesVerdicts o v u a verdicts given = (f : Files) → IsToldTo o u a f → verdicts ≡ verdicts_of (set_run o v f)
+
+-- and these rows
+abbrev pub LeavesRows : PlainOptions → SetView → TreeView → ScratchView → List Row → Receipt → Type 0
+LeavesRows o v u a rows given = (f : Files) → IsToldTo o u a f → rows ≡ map (λ s. s.row) (set_run o v f).stories
 
 -- a set is carried out with the plan that the options name, on a quiet tree
 pub record Finishes (o : PlainOptions) (v : SetView) (u w : TreeView) (a b : ScratchView) (c d : SinkView) (result : Result Receipt RunFault) : Type 0 where

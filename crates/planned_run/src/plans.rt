@@ -1,11 +1,12 @@
 //! The run over the file patches, with the plan that the options name.
-ghost use Rattle.std.specs.Prelude.{◌≡◌, false, IfOk};
+ghost use Rattle.std.specs.Prelude.{◌≡◌, false, length, IfOk};
+ghost use Rattle.patch_run.specs.Doing.{StaysSet};
 ghost use Rattle.outside.specs.ScratchView.{ScratchView};
 ghost use Rattle.outside.specs.Quiet.{IsQuiet};
 ghost use Rattle.patch_options.specs.PlainJob.{plain_options};
 ghost use Rattle.patch_options.specs.declared.options.PlanKind.TheVariants.{Whole, Padded, Packed, Auto};
 ghost use Rattle.planned_run.specs.Scratches.{has_scratch};
-ghost use Rattle.planned_run.specs.Finishes.{CanApply, Finishes, LeavesVerdicts};
+ghost use Rattle.planned_run.specs.Finishes.{CanApply, Finishes, LeavesVerdicts, LeavesRows};
 
 use auto_plan::AutoPlan;
 use outside::{Scratch, Sink, Tree};
@@ -33,7 +34,11 @@ pub fn apply<C: Scratch, T: Tree, O: Sink>(
     requires quiet { IsQuiet (T.view tree.old) }
     ensures finishes { Finishes (plain_options options.now) set.old (T.view tree.old) (T.view tree.new) (C.view scratch) (C.view result.1) (O.view out.old) (O.view out.new) result.0 }
     ensures verdicts { IfOk result.0 (LeavesVerdicts (plain_options options.now) set.old (T.view tree.old) (C.view scratch) set.new.verdicts) }
+    ensures noted { IfOk result.0 (LeavesRows (plain_options options.now) set.old (T.view tree.old) (C.view scratch) set.new.rows) }
+    ensures done { IfOk result.0 (λ given. given.done ≡ length set.old.patches) }
     ensures scratch { has_scratch options.now.plan ≡ false → result.1 ≡ scratch }
+    ensures set { StaysSet set.old set.new }
+    ensures rows { length set.new.verdicts ≡ length set.old.verdicts }
     ensures rest { O.same_rest out.old out.new }
 {
     match options.plan {
@@ -57,6 +62,10 @@ fn apply_whole<T: Tree, O: Sink>(
     requires quiet { IsQuiet (T.view tree.old) }
     ensures finishes { (a : ScratchView) → Finishes (plain_options options.now) set.old (T.view tree.old) (T.view tree.new) a a (O.view out.old) (O.view out.new) result }
     ensures verdicts { (a : ScratchView) → IfOk result (LeavesVerdicts (plain_options options.now) set.old (T.view tree.old) a set.new.verdicts) }
+    ensures noted { (a : ScratchView) → IfOk result (LeavesRows (plain_options options.now) set.old (T.view tree.old) a set.new.rows) }
+    ensures done { IfOk result (λ given. given.done ≡ length set.old.patches) }
+    ensures set { StaysSet set.old set.new }
+    ensures rows { length set.new.verdicts ≡ length set.old.verdicts }
     ensures rest { O.same_rest out.old out.new }
 {
     let mut whole = PlanA::new(alloc, options.buffer);
@@ -77,6 +86,10 @@ fn apply_padded<C: Scratch, T: Tree, O: Sink>(
     requires quiet { IsQuiet (T.view tree.old) }
     ensures finishes { Finishes (plain_options options.now) set.old (T.view tree.old) (T.view tree.new) (C.view scratch) (C.view result.1) (O.view out.old) (O.view out.new) result.0 }
     ensures verdicts { IfOk result.0 (LeavesVerdicts (plain_options options.now) set.old (T.view tree.old) (C.view scratch) set.new.verdicts) }
+    ensures noted { IfOk result.0 (LeavesRows (plain_options options.now) set.old (T.view tree.old) (C.view scratch) set.new.rows) }
+    ensures done { IfOk result.0 (λ given. given.done ≡ length set.old.patches) }
+    ensures set { StaysSet set.old set.new }
+    ensures rows { length set.new.verdicts ≡ length set.old.verdicts }
     ensures rest { O.same_rest out.old out.new }
 {
     let pair = match PagePair::new(alloc, options.buffer as usize) {
@@ -103,6 +116,10 @@ fn apply_packed<C: Scratch, T: Tree, O: Sink>(
     requires quiet { IsQuiet (T.view tree.old) }
     ensures finishes { Finishes (plain_options options.now) set.old (T.view tree.old) (T.view tree.new) (C.view scratch) (C.view result.1) (O.view out.old) (O.view out.new) result.0 }
     ensures verdicts { IfOk result.0 (LeavesVerdicts (plain_options options.now) set.old (T.view tree.old) (C.view scratch) set.new.verdicts) }
+    ensures noted { IfOk result.0 (LeavesRows (plain_options options.now) set.old (T.view tree.old) (C.view scratch) set.new.rows) }
+    ensures done { IfOk result.0 (λ given. given.done ≡ length set.old.patches) }
+    ensures set { StaysSet set.old set.new }
+    ensures rows { length set.new.verdicts ≡ length set.old.verdicts }
     ensures rest { O.same_rest out.old out.new }
 {
     let pair = match PagePair::new(alloc, options.buffer as usize) {
@@ -129,6 +146,10 @@ fn apply_by_size<C: Scratch, T: Tree, O: Sink>(
     requires quiet { IsQuiet (T.view tree.old) }
     ensures finishes { Finishes (plain_options options.now) set.old (T.view tree.old) (T.view tree.new) (C.view scratch) (C.view result.1) (O.view out.old) (O.view out.new) result.0 }
     ensures verdicts { IfOk result.0 (LeavesVerdicts (plain_options options.now) set.old (T.view tree.old) (C.view scratch) set.new.verdicts) }
+    ensures noted { IfOk result.0 (LeavesRows (plain_options options.now) set.old (T.view tree.old) (C.view scratch) set.new.rows) }
+    ensures done { IfOk result.0 (λ given. given.done ≡ length set.old.patches) }
+    ensures set { StaysSet set.old set.new }
+    ensures rows { length set.new.verdicts ≡ length set.old.verdicts }
     ensures rest { O.same_rest out.old out.new }
 {
     let pair = match PagePair::new(alloc, options.buffer as usize) {

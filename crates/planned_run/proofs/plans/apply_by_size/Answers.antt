@@ -4,7 +4,7 @@ use Rattle.line_store.specs.Store.{Seen}
 use Rattle.packed_pages.specs.declared.PackedB.{PackedB}
 use Rattle.patch_options.specs.PlainJob.{plain_options}
 use Rattle.planned_run.specs.Scratches.{has_scratch, is_paged}
-use Rattle.planned_run.proofs.Finishing.{finishes_paged, finishes_without_pages, verdicts_paged, keeps_auto}
+use Rattle.planned_run.proofs.Finishing.{finishes_paged, finishes_without_pages, verdicts_paged, rows_paged, keeps_auto}
 use Rattle.planned_run.proofs.plans.apply_by_size.Goals as goal
 
 pub returns-clause-finishes : goal.returns-clause-finishes
@@ -30,3 +30,9 @@ returns-clause-verdicts g c =
 
 pub returns-in-Err-clause-finishes : goal.returns-in-Err-clause-finishes
 returns-in-Err-clause-finishes g c = finishes_without_pages (plain_options c.args.options.now) c.args.set.now _ _ _ c.requires.quiet
+
+pub returns-clause-noted : goal.returns-clause-noted
+returns-clause-noted g c =
+    let given = g.C.Scratch.view c.new-2.result.scratch in
+    rows_paged (g.C.Scratch.view c.args.scratch) (plain_options c.args.options.now) c.args.set.now _ _ c.apply_set-applied.result c.apply_set-applied.ensures.runs c.apply_set-applied.ensures.receipt
+    (◌∙◌ {b = given.told} (ap (λ (s : Seen). s.scratch) c.new-either.ensures.seen) c.new-2.ensures.scratch) (ap has_scratch c.requires.plan)

@@ -2,7 +2,7 @@ use Rattle.std.proofs.Common.{sym, ap, ◌∙◌}
 use Rattle.outside.specs.ScratchView.{ScratchView}
 use Rattle.patch_options.specs.PlainJob.{plain_options}
 use Rattle.planned_run.specs.Scratches.{has_scratch}
-use Rattle.planned_run.proofs.Finishing.{finishes_paged, finishes_without_pages, verdicts_paged, keeps_packed}
+use Rattle.planned_run.proofs.Finishing.{finishes_paged, finishes_without_pages, verdicts_paged, rows_paged, keeps_packed}
 use Rattle.planned_run.proofs.plans.apply_packed.Goals as goal
 
 pub returns-clause-finishes : goal.returns-clause-finishes
@@ -24,3 +24,6 @@ returns-clause-verdicts g c = verdicts_paged (g.C.Scratch.view c.args.scratch) (
 
 pub returns-in-Err-clause-finishes : goal.returns-in-Err-clause-finishes
 returns-in-Err-clause-finishes g c = finishes_without_pages (plain_options c.args.options.now) c.args.set.now _ _ _ c.requires.quiet
+
+pub returns-clause-noted : goal.returns-clause-noted
+returns-clause-noted g c = rows_paged (g.C.Scratch.view c.args.scratch) (plain_options c.args.options.now) c.args.set.now _ _ c.apply_set-applied.result c.apply_set-applied.ensures.runs c.apply_set-applied.ensures.receipt c.new-packed.ensures.scratch (ap has_scratch c.requires.plan)
