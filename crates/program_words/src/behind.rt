@@ -1,9 +1,9 @@
 //! The line behind the line of an answer: what helps whoever reads it.
 
 use crate::lacking::{Lack, lack_of, operands_text};
+use crate::mending::{malformed_line, misfit_line};
 use crate::unfit::{copied, unfit_place};
 use crate::wanted::{wanted_by, with_value};
-use hunk_core::BadKind;
 use real_devices::Trouble;
 use run_answers::Why;
 use std::alloc::{AllocError, Global};
@@ -24,10 +24,8 @@ pub fn line_behind(
 ) -> Result<Option<String>, AllocError> {
     match why {
         Why::LongLine { length, .. } => buffer_line(alloc, tool, length),
-        Why::Malformed {
-            kind: BadKind::Binary,
-            ..
-        } => binary_line(alloc, tool),
+        Why::Malformed { kind, .. } => malformed_line(alloc, tool, kind),
+        Why::Unfit { .. } => misfit_line(alloc, tool),
         Why::ReadFault | Why::WriteFault | Why::TreeFault | Why::ScratchFault => {
             trouble_line(alloc, tool, trouble)
         }
@@ -102,16 +100,6 @@ fn buffer_line(alloc: Global, tool: &str, length: u64) -> Result<Option<String>,
         return Ok(None);
     }
     Ok(Some(format!(in alloc; "{tool}: --buffer={least} would hold it\n")?))
-}
-
-/// What passes over binary changes, where the tool has it.
-fn binary_line(alloc: Global, tool: &str) -> Result<Option<String>, AllocError> {
-    match tool {
-        "patch" | "lsdiff" | "filterdiff" | "grepdiff" | "splitdiff" => Ok(Some(format!(in alloc;
-            "{tool}: --skip-binary passes over binary changes\n"
-        )?)),
-        _ => Ok(None),
-    }
 }
 
 fn trouble_line(

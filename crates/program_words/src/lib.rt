@@ -7,6 +7,7 @@ mod cut;
 mod ended;
 mod help;
 mod lacking;
+mod mending;
 mod modes;
 mod names;
 mod pattern;
