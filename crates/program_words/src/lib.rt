@@ -16,6 +16,7 @@ mod skipped;
 mod state;
 mod unfit;
 mod wanted;
+mod which;
 
 pub use behind::{line_behind, usage_lines};
 pub use called::{called_tool, tool_of, words_of};

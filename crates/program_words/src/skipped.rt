@@ -8,10 +8,6 @@ use real_devices::{Heard, Passed, missing_text};
 use std::alloc::{AllocError, Global};
 use std::rt::Files;
 
-/// What is told of the reject files that `patchstack` named.
-const NO_REJECTS: &str = "patchstack: nothing of the patch stays, not even its reject files; \
-    'patch -p1 -i patches/NAME' leaves them\n";
-
 /// The lines behind an answer that not all was applied, if there is more to tell: why no file was found, and that a stack
 /// keeps no reject files.
 pub fn rejected_lines<R: Files>(
@@ -35,9 +31,17 @@ fn stack_lines(alloc: Global, heard: Heard, passed: &Passed) -> Result<String, A
         None => String::new(alloc),
     };
     if heard.rejects {
-        lines.push_str(NO_REJECTS)?;
+        let rejects = no_rejects(alloc, passed.file())?;
+        lines.push_str(rejects.as_str())?;
     }
     Ok(lines)
+}
+
+/// What is told of the reject files that `patchstack` named.
+fn no_rejects(alloc: Global, patch: &str) -> Result<String, AllocError> {
+    format!(in alloc;
+        "patchstack: nothing of the patch stays, not even its reject files; 'patch -p1 -i {patch}' leaves them\n"
+    )
 }
 
 fn stack_names(alloc: Global, passed: &Passed, line: u64) -> Result<String, AllocError> {

@@ -98,6 +98,13 @@ fn is_patch(places: &Places, name: &str) -> bool {
     }
 }
 
+/// Keeps which file has the patch text.
+fn note_file(passed: &mut Passed, places: &Places, name: &str) {
+    if is_patch(places, name) {
+        passed.name(name);
+    }
+}
+
 /// Lets what was read of a patch text go by, which is read at once.
 fn see(passed: &mut Passed, is_patch: bool, read: &io::Result<usize>, buf: &[u8]) {
     if let (true, Ok(count)) = (is_patch, read) {
@@ -127,6 +134,7 @@ impl<'r, R: Files<File = File>> Tree for Disk<'r, R> {
 
     fn size(&mut self, name: &Name) -> Result<Option<u64>, Failed> {
         let done = self.files.size(Path::of(name));
+        note_file(&mut self.passed, &self.places, name.text());
         self.faults.answer(name.text(), done)
     }
 
