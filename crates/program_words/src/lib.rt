@@ -1,6 +1,7 @@
 //! The words that the program was called with, as the system gives them, and the texts that help whoever called it.
 #![tactic(auto)]
 
+mod barred;
 mod behind;
 mod called;
 mod cut;

@@ -1,5 +1,6 @@
 //! The names in the lines of a file patch for which no file was found.
 
+use crate::barred::none_text;
 use memchr::{memmem, memrchr};
 use outside::Name;
 use std::alloc::{AllocError, Global};
@@ -179,7 +180,7 @@ fn left_names(alloc: Global, given: Given<'_>, reading: Reading) -> Result<Strin
         add_name(alloc, &mut text, name.text())?;
     }
     if text.is_empty() {
-        text.push_str("none that counts")?;
+        return none_text(alloc, reading.strip, given.old, given.new);
     }
     Ok(text)
 }

@@ -129,10 +129,13 @@ fn place_of(alloc: Global, options: &Options) -> Result<String, AllocError> {
     }
 }
 
-/// What may be wrong with the words.
+/// What may be wrong with the file, or with the words.
 fn question_of(alloc: Global, options: &Options) -> Result<String, AllocError> {
     match options.strip {
-        Some(strip) => format!(in alloc; "is -p{strip} right"),
-        None => String::from_str(alloc, "is -p1 missing, or the file's name"),
+        Some(strip) => format!(in alloc; "is it there, no link, and -p{strip} right"),
+        None => String::from_str(
+            alloc,
+            "is it there, no link, or is -p1 missing, or the file's name",
+        ),
     }
 }

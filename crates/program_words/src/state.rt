@@ -84,7 +84,8 @@ fn fault_of(alloc: Global, line: &[u8], count: u64) -> Result<Option<&'static st
     }
 }
 
-fn broken(rule: NameRule) -> &'static str {
+/// What breaks the rule, behind the name that does.
+pub fn broken(rule: NameRule) -> &'static str {
     match rule {
         NameRule::Empty => "names no file",
         NameRule::Absolute => "begins with a slash",
