@@ -4,6 +4,7 @@
 mod barred;
 mod behind;
 mod called;
+mod count;
 mod cut;
 mod ended;
 mod help;

@@ -1,5 +1,6 @@
 //! What is wrong with a file of a stack, for the line behind a refusal.
 
+use crate::count::count_line;
 use outside::{Name, NameFault, NameRule};
 use real_devices::Disk;
 use series_stack::StateFile;
@@ -7,7 +8,7 @@ use std::alloc::{AllocError, Global};
 use std::fs::File;
 use std::rt::Files;
 
-const SERIES: &str = "patches/series";
+pub const SERIES: &str = "patches/series";
 
 /// The most patches that a stack may have.
 const MOST: u64 = 9_999;
@@ -21,9 +22,7 @@ pub fn state_line<R: Files<File = File>>(
 ) -> Result<String, AllocError> {
     match file {
         StateFile::Series => series_line(alloc, tool, tree),
-        StateFile::Count => format!(in alloc;
-            "{tool}: .pc/applied: must say how many of the patches are applied\n"
-        ),
+        StateFile::Count => count_line(alloc, tool, tree),
         StateFile::Save => {
             format!(in alloc; "{tool}: .pc: a save is missing or isn't of its form\n")
         }
@@ -35,7 +34,7 @@ fn series_line<R: Files<File = File>>(
     tool: &str,
     tree: &mut Disk<'_, R>,
 ) -> Result<String, AllocError> {
-    let fault = match series_in(alloc, tree)? {
+    let fault = match text_at(alloc, tree, SERIES)? {
         Some(text) => first_fault(alloc, &text)?,
         None => None,
     };
@@ -47,11 +46,13 @@ fn series_line<R: Files<File = File>>(
     }
 }
 
-fn series_in<R: Files<File = File>>(
+/// The text of a file of the stack, if it can be read.
+pub fn text_at<R: Files<File = File>>(
     alloc: Global,
     tree: &mut Disk<'_, R>,
+    name: &str,
 ) -> Result<Option<Vec<u8>>, AllocError> {
-    match Name::new(alloc, SERIES.as_bytes()) {
+    match Name::new(alloc, name.as_bytes()) {
         Ok(name) => Ok(tree.text(alloc, &name)),
         Err(_) => Err(AllocError),
     }
