@@ -9,6 +9,9 @@ use target_names::{last_component, shortened};
 /// The mode that a file gets without being given one.
 const USUAL: &[u8] = b"100644";
 
+/// The mode of a symbolic link.
+const LINK: &[u8] = b"120000";
+
 /// How a run takes names and lines.
 #[derive(Clone, Copy)]
 struct Taking {
@@ -73,11 +76,24 @@ fn put_mode(
     let Some(mode) = mode_in(line, taking.is_reversed) else {
         return Ok(());
     };
-    let mode = String::from_utf8_lossy(alloc, mode)?;
     let name = String::from_utf8_lossy(alloc, name_in(header, taking))?;
-    let name = name.as_str();
-    let said = format!(in alloc; "{tool}: mode {mode} of {name:?} isn't carried out\n")?;
+    let said = if mode == LINK {
+        link_line(alloc, tool, name.as_str())?
+    } else {
+        mode_line(alloc, tool, mode, name.as_str())?
+    };
     text.push_str(said.as_str())
+}
+
+fn mode_line(alloc: Global, tool: &str, mode: &[u8], name: &str) -> Result<String, AllocError> {
+    let mode = String::from_utf8_lossy(alloc, mode)?;
+    format!(in alloc; "{tool}: mode {mode} of {name:?} isn't carried out\n")
+}
+
+fn link_line(alloc: Global, tool: &str, name: &str) -> Result<String, AllocError> {
+    format!(in alloc;
+        "{tool}: {name:?} is a symbolic link in the patch: a regular file holds its text\n"
+    )
 }
 
 /// The mode that the line gives the file, where that isn't the usual one of a new file.
