@@ -59,7 +59,7 @@ impl<'r, R: Files<File = File>> Disk<'r, R> {
 
     /// The name of the last file that was looked for and isn't there, and why, as `d/n: not found`.
     pub fn missing(&self) -> Result<Option<String>, AllocError> {
-        self.files.missing()
+        self.files.missing(self.places.is_stack)
     }
 
     /// What is kept of the patch text that was read last.
