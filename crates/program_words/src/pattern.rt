@@ -26,11 +26,11 @@ fn said_of(alloc: Global, tool: &str, pattern: &str, error: Error) -> Result<Str
         Error::Syntax(error) => {
             let place = error.span.start.saturating_add(1);
             let what = error.kind.message();
-            format!(in alloc; "{tool}: the pattern {pattern:?}, at byte {place}: {what}\n")
+            format!(in alloc; "{tool}: the pattern \"{pattern}\", at byte {place}: {what}\n")
         }
         Error::CompiledTooBig => {
             format!(in alloc;
-                "{tool}: the pattern {pattern:?} takes more than 10 MiB once it is compiled\n"
+                "{tool}: the pattern \"{pattern}\" takes more than 10 MiB once it is compiled\n"
             )
         }
         Error::Internal | Error::OutOfMemory => Ok(String::new(alloc)),
