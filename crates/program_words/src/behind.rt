@@ -93,10 +93,10 @@ fn lacking_line(alloc: Global, tool: &str, words: &[String]) -> Result<String, A
     }
 }
 
-/// The smallest buffer that holds a line of so many bytes.
+/// The smallest buffer that holds a line of so many bytes, where the tool has the word.
 fn buffer_line(alloc: Global, tool: &str, length: u64) -> Result<Option<String>, AllocError> {
     let least = length.saturating_add(BESIDE_LINE);
-    if least > LARGEST_BUFFER {
+    if least > LARGEST_BUFFER || tool == "patchstack" {
         return Ok(None);
     }
     Ok(Some(format!(in alloc; "{tool}: --buffer={least} would hold it\n")?))
