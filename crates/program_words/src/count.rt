@@ -1,27 +1,30 @@
 //! What is wrong with the count of a stack's applied patches.
 
+use crate::lines::{Lines, is_feed};
 use crate::state::{SERIES, text_at};
 use real_devices::Disk;
-use std::alloc::{AllocError, Global};
 use std::fs::File;
 use std::rt::Files;
 
 const APPLIED: &str = ".pc/applied";
 
 /// That the count is more than there are patches, or what the file should say.
-pub fn count_line<R: Files<File = File>>(
-    alloc: Global,
-    tool: &str,
-    tree: &mut Disk<'_, R>,
-) -> Result<String, AllocError> {
-    let said = number_in(text_at(alloc, tree, APPLIED)?);
-    let listed = patches_in(text_at(alloc, tree, SERIES)?);
+pub fn put_count<R: Files<File = File>>(lines: &mut Lines, tool: &str, tree: &mut Disk<'_, R>) {
+    let said = number_in(text_at(lines, tree, APPLIED));
+    let listed = patches_in(text_at(lines, tree, SERIES));
     if said <= listed {
-        return format!(in alloc;
-            "{tool}: {APPLIED}: must say how many of the patches are applied\n"
+        lines.put_line(
+            tool,
+            ".pc/applied: must say how many of the patches are applied",
         );
+    } else {
+        lines.put(tool);
+        lines.put(": .pc/applied says ");
+        lines.put_number(said);
+        lines.put(", and patches/series lists ");
+        lines.put_number(listed);
+        lines.put("\n");
     }
-    format!(in alloc; "{tool}: {APPLIED} says {said}, and {SERIES} lists {listed}\n")
 }
 
 /// The number that the text is, or 0.
@@ -50,7 +53,7 @@ fn patches_in(series: Option<Vec<u8>>) -> u64 {
 
 fn lines_of(series: &[u8]) -> u64 {
     let mut count = 0u64;
-    for line in series.split(|byte| *byte == b'\n') {
+    for line in series.split(is_feed) {
         if !line.is_empty() && !line.starts_with(b"#") {
             count = count.saturating_add(1);
         }

@@ -1,7 +1,7 @@
 //! What to do about a patch text that is refused.
 
+use crate::lines::Lines;
 use hunk_core::BadKind;
-use std::alloc::{AllocError, Global};
 
 /// What `reversediff` can't turn round.
 const NO_WAY_BACK: &str =
@@ -12,41 +12,33 @@ const NO_COMMANDS: &str =
     "hunks out of order, or in the form of ed a last line without a line feed, can't be written so";
 
 /// What helps with a malformed text, where something does.
-pub fn malformed_line(
-    alloc: Global,
-    tool: &str,
-    kind: BadKind,
-) -> Result<Option<String>, AllocError> {
-    match mending(tool, kind) {
-        Some(text) => Ok(Some(format!(in alloc; "{tool}: {text}\n")?)),
-        None => Ok(None),
-    }
-}
-
-fn mending(tool: &str, kind: BadKind) -> Option<&'static str> {
+pub fn put_malformed(lines: &mut Lines, tool: &str, kind: BadKind) {
     match kind {
-        BadKind::Binary if passes_binary(tool) => Some("--skip-binary passes over binary changes"),
-        BadKind::Mark | BadKind::Count | BadKind::ShortEnd if tool != "recountdiff" => {
-            Some("if the numbers of its '@@' line are wrong, recountdiff mends them")
-        }
-        _ => None,
+        BadKind::Binary => put_binary(lines, tool),
+        BadKind::Mark | BadKind::Count | BadKind::ShortEnd if tool != "recountdiff" =>
+            lines.put_line(
+                tool,
+                "if the numbers of its '@@' line are wrong, recountdiff mends them",
+            ),
+        _ => {}
     }
 }
 
-/// Whether the tool has the word that passes over binary changes.
-fn passes_binary(tool: &str) -> bool {
+/// What passes over binary changes, where the tool has it.
+fn put_binary(lines: &mut Lines, tool: &str) {
     match tool {
-        "patch" | "lsdiff" | "filterdiff" | "grepdiff" | "splitdiff" => true,
-        _ => false,
+        "patch" | "lsdiff" | "filterdiff" | "grepdiff" | "splitdiff" => {
+            lines.put_line(tool, "--skip-binary passes over binary changes")
+        }
+        _ => {}
     }
 }
 
 /// What can't be turned round, or written in another form.
-pub fn misfit_line(alloc: Global, tool: &str) -> Result<Option<String>, AllocError> {
-    let text = if tool == "reversediff" {
-        NO_WAY_BACK
+pub fn put_misfit(lines: &mut Lines, tool: &str) {
+    if tool == "reversediff" {
+        lines.put_line(tool, NO_WAY_BACK);
     } else {
-        NO_COMMANDS
-    };
-    Ok(Some(format!(in alloc; "{tool}: {text}\n")?))
+        lines.put_line(tool, NO_COMMANDS);
+    }
 }

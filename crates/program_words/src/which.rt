@@ -1,21 +1,17 @@
 //! Which patch of a stack is meant, for the line behind its refusal.
 
+use crate::lines::Lines;
 use real_devices::Passed;
 use run_answers::Why;
-use std::alloc::{AllocError, Global};
 
 /// The patch that a push was refused for. The other tools have one patch text alone.
-pub fn patch_line(
-    alloc: Global,
-    tool: &str,
-    why: Why,
-    passed: &Passed,
-) -> Result<String, AllocError> {
+pub fn put_patch(lines: &mut Lines, tool: &str, why: Why, passed: &Passed) {
     let file = passed.file();
-    if tool != "patchstack" || file.is_empty() || !is_refused(why) {
-        return Ok(String::new(alloc));
+    if tool == "patchstack" && !file.is_empty() && is_refused(why) {
+        lines.put("patchstack: that is ");
+        lines.put(file);
+        lines.put("\n");
     }
-    format!(in alloc; "patchstack: that is {file}\n")
 }
 
 /// Whether it is a patch text that was refused.

@@ -2,11 +2,9 @@
 ghost use Rattle.outside.specs.Silent.{silent_tree};
 
 use crate::faults::Faults;
-use crate::files::OpenFiles;
 use crate::passed::Passed;
-use crate::paths::Path;
-use crate::trouble::Trouble;
 use outside::{Failed, Name, Tree};
+use real_files::{OpenFiles, Path, Trouble};
 use std::alloc::{AllocError, Global};
 use std::fs::File;
 use std::io;
