@@ -5,10 +5,10 @@ use outside::{Scratch, Sink, Source, Tree, put_all};
 use patch_filters::RegexFinder;
 use patch_options::patch_usage;
 use program_words::{
-    Telling, called_tool, line_behind, pattern_line, places_of, rejected_lines, state_line,
-    text_lines, told, tool_of, usage_lines, words_of,
+    Ended, Lines, Telling, called_tool, places_of, put_behind, put_patch, put_pattern, put_state,
+    put_texts, put_usage, told, tool_of, words_of,
 };
-use real_devices::{Disk, Heard, Input, Output, Pages, Passed, Trouble};
+use real_devices::{Disk, Input, Output, Pages, Trouble};
 use std::alloc::{AllocError, Global};
 use std::io;
 use std::io::{ErrorKind, Write};
@@ -100,42 +100,31 @@ fn run_over<O: Write + Drop, E: Write + Drop>(
     let (exit, pages) = run_words(alloc, words, &mut tree, scratch, &mut input, out, err);
     tree.end();
     pages.end();
-    if tree.passed().is_empty() {
-        put_texts(rt, tool, words, exit.why, out.heard(), input.passed(), err);
-    } else {
-        put_texts(rt, tool, words, exit.why, out.heard(), tree.passed(), err);
-    }
+    let mut lines = Lines::new(alloc);
+    put_patch(&mut lines, tool, exit.why, tree.passed());
     match exit.why {
-        Why::Done | Why::Rejected | Why::Garbage => {}
-        Why::Usage => put_lines(err, usage_lines(alloc, tool, words)),
-        Why::NoPatchFile => put_missing(err, tool, tree.missing()),
-        Why::BadPattern => put_lines(err, pattern_line(alloc, tool, words)),
-        Why::BadState { file } => put_lines(err, state_line(alloc, tool, &mut tree, file)),
-        Why::TreeFault => put_behind(alloc, err, tool, exit.why, tree.trouble()),
-        Why::ScratchFault => put_behind(alloc, err, tool, exit.why, pages.trouble()),
-        Why::ReadFault => put_behind(alloc, err, tool, exit.why, input.trouble()),
-        why => put_behind(alloc, err, tool, why, out.trouble()),
+        Why::Done | Why::Rejected | Why::Garbage => {
+            let ended = Ended {
+                why: exit.why,
+                heard: out.heard(),
+            };
+            if tree.passed().is_empty() {
+                put_texts(&mut lines, rt, tool, words, ended, input.passed());
+            } else {
+                put_texts(&mut lines, rt, tool, words, ended, tree.passed());
+            }
+        }
+        Why::Usage => put_usage(&mut lines, tool, words),
+        Why::NoPatchFile => put_missing(&mut lines, tool, tree.missing()),
+        Why::BadPattern => put_pattern(&mut lines, tool, words),
+        Why::BadState { file } => put_state(&mut lines, tool, &mut tree, file),
+        Why::TreeFault => put_behind(&mut lines, tool, exit.why, tree.trouble()),
+        Why::ScratchFault => put_behind(&mut lines, tool, exit.why, pages.trouble()),
+        Why::ReadFault => put_behind(&mut lines, tool, exit.why, input.trouble()),
+        why => put_behind(&mut lines, tool, why, out.trouble()),
     }
+    let _ = put_all(err, lines.text().as_bytes());
     exit
-}
-
-/// Writes what is to be told of a patch text that was taken, and of what was left out of it.
-fn put_texts<E: Sink>(
-    rt: &HostRuntime,
-    tool: &str,
-    words: &[String],
-    why: Why,
-    heard: Heard,
-    passed: &Passed,
-    err: &mut E,
-) {
-    put_lines(err, text_lines(rt.alloc(), tool, words, why, passed));
-    if matches!(why, Why::Rejected) {
-        put_lines(
-            err,
-            rejected_lines(rt.alloc(), rt, tool, words, heard, passed),
-        );
-    }
 }
 
 /// The run, with a finder of regular expressions.
@@ -152,40 +141,20 @@ fn run_words<T: Tree, C: Scratch, I: Source, O: Sink, E: Sink>(
     run(alloc, words, tree, scratch, &mut finder, input, out, err)
 }
 
-/// Writes the line behind an answer's, as far as memory and the device allow.
-fn put_behind<E: Sink>(
-    alloc: Global,
-    err: &mut E,
-    tool: &str,
-    why: Why,
-    trouble: Option<&Trouble>,
-) {
-    if let Ok(Some(line)) = line_behind(alloc, tool, why, trouble) {
-        let _ = put_all(err, line.as_str().as_bytes());
-    }
-}
-
-/// Writes lines, where memory was left for them.
-fn put_lines<E: Sink>(err: &mut E, lines: Result<String, AllocError>) {
-    if let Ok(lines) = lines {
-        let _ = put_all(err, lines.as_str().as_bytes());
-    }
-}
-
-/// Writes which file wasn't found that was to be read, and why.
-fn put_missing<E: Sink>(err: &mut E, tool: &str, text: Result<Option<String>, AllocError>) {
+/// Which file wasn't found that was to be read, and why.
+fn put_missing(lines: &mut Lines, tool: &str, text: Result<Option<String>, AllocError>) {
     if let Ok(Some(text)) = text {
-        let _ = put_all(err, tool.as_bytes());
-        let _ = put_all(err, b": ");
-        let _ = put_all(err, text.as_str().as_bytes());
-        let _ = put_all(err, b"\n");
+        lines.put_line(tool, text.as_str());
     }
 }
 
+/// Writes that a write failed, and what helps, as far as memory and the device allow.
 fn put_write_fault<E: Sink>(alloc: Global, err: &mut E, tool: &str, trouble: Option<&Trouble>) {
+    let mut lines = Lines::new(alloc);
+    put_behind(&mut lines, tool, Why::WriteFault, trouble);
     let _ = put_all(err, tool.as_bytes());
     let _ = put_all(err, b": **** write fault\n");
-    put_behind(alloc, err, tool, Why::WriteFault, trouble);
+    let _ = put_all(err, lines.text().as_bytes());
 }
 
 /// The answer where the words can't be had, or memory runs out before the run: a word that isn't UTF-8 is no command.
@@ -197,8 +166,8 @@ fn refused(rt: &HostRuntime, tool: &str, kind: ErrorKind) -> u8 {
         return REFUSED;
     }
     let _ = err.write_all(b": **** the words are not a command\n");
-    if let Ok(lines) = usage_lines(rt.alloc(), tool, &[]) {
-        let _ = err.write_all(lines.as_str().as_bytes());
-    }
+    let mut lines = Lines::new(rt.alloc());
+    put_usage(&mut lines, tool, &[]);
+    let _ = err.write_all(lines.text().as_bytes());
     REFUSED
 }

@@ -1,12 +1,12 @@
 //! The line behind the line of an answer: what helps whoever reads it.
 
-use crate::lacking::{Lack, lack_of, operands_text};
-use crate::unfit::{copied, unfit_place};
-use crate::wanted::{wanted_by, with_value};
-use hunk_core::BadKind;
+use crate::lacking::{Lack, lack_of, put_operands};
+use crate::lines::Lines;
+use crate::mending::{put_malformed, put_misfit};
+use crate::unfit::{add, copied, unfit_place};
+use crate::wanted::{put_wanted, with_value};
 use real_devices::Trouble;
 use run_answers::Why;
-use std::alloc::{AllocError, Global};
 
 /// The largest buffer that can be asked for.
 const LARGEST_BUFFER: u64 = 1_048_576;
@@ -16,57 +16,38 @@ const BESIDE_LINE: u64 = 4;
 
 /// The line behind that of an answer: where a fault was and the system's words, or what to do about a refusal. Most answers
 /// have none.
-pub fn line_behind(
-    alloc: Global,
-    tool: &str,
-    why: Why,
-    trouble: Option<&Trouble>,
-) -> Result<Option<String>, AllocError> {
+pub fn put_behind(lines: &mut Lines, tool: &str, why: Why, trouble: Option<&Trouble>) {
     match why {
-        Why::LongLine { length, .. } => buffer_line(alloc, tool, length),
-        Why::Malformed {
-            kind: BadKind::Binary,
-            ..
-        } => binary_line(alloc, tool),
+        Why::LongLine { length, .. } => put_buffer(lines, tool, length),
+        Why::Malformed { kind, .. } => put_malformed(lines, tool, kind),
+        Why::Unfit { .. } => put_misfit(lines, tool),
         Why::ReadFault | Why::WriteFault | Why::TreeFault | Why::ScratchFault => {
-            trouble_line(alloc, tool, trouble)
+            put_trouble(lines, tool, trouble)
         }
-        _ => Ok(None),
+        _ => {}
     }
 }
 
 /// The lines behind words that are not a command: the first that can't be taken, where one of them can't, or what is missing
 /// behind the last; and where the words are told.
-pub fn usage_lines(alloc: Global, tool: &str, words: &[String]) -> Result<String, AllocError> {
-    let mut lines = match unfit_place(alloc, words)? {
-        Some(place) => unfit_line(alloc, tool, words, place)?,
-        None => lacking_line(alloc, tool, words)?,
-    };
-    let help = format!(in alloc; "Try '{tool} --help' for more information.\n")?;
-    lines.push_str(help.as_str())?;
-    Ok(lines)
+pub fn put_usage(lines: &mut Lines, tool: &str, words: &[String]) {
+    match unfit_place(lines, words) {
+        Some(place) => put_unfit(lines, tool, words, place),
+        None => put_lacking(lines, tool, words),
+    }
+    lines.put("Try '");
+    lines.put(tool);
+    lines.put(" --help' for more information.\n");
 }
 
 /// The line of the word at this place, which can't be taken: where an option takes it as its value, what that should be.
-fn unfit_line(
-    alloc: Global,
-    tool: &str,
-    words: &[String],
-    place: usize,
-) -> Result<String, AllocError> {
+fn put_unfit(lines: &mut Lines, tool: &str, words: &[String], place: usize) {
     let front = words.get(..place).unwrap_or(words);
     let word = word_at(words, place);
-    if let Some(Lack::Value(option)) = lack_of(alloc, front)? {
-        return value_line(alloc, tool, option, word);
+    match lack_of(lines, front) {
+        Some(Lack::Value(option)) => put_value(lines, tool, option, word),
+        _ => put_word(lines, tool, front, word),
     }
-    if let Some((option, value)) = with_value(tool, word) {
-        let mut tried = copied(alloc, front)?;
-        tried.push(String::from_str(alloc, option)?)?;
-        if let Some(Lack::Value(option)) = lack_of(alloc, &tried)? {
-            return value_line(alloc, tool, option, value);
-        }
-    }
-    format!(in alloc; "{tool}: can't take {word:?} here\n")
 }
 
 fn word_at(words: &[String], place: usize) -> &str {
@@ -76,54 +57,75 @@ fn word_at(words: &[String], place: usize) -> &str {
     }
 }
 
-fn value_line(alloc: Global, tool: &str, option: &str, value: &str) -> Result<String, AllocError> {
-    let wanted = wanted_by(alloc, tool, option)?;
-    format!(in alloc; "{tool}: {option:?} wants {wanted}, and {value:?} stands behind it\n")
+/// The line of a word that isn't an option's value, but may hold one.
+fn put_word(lines: &mut Lines, tool: &str, front: &[String], word: &str) {
+    match with_value(tool, word) {
+        Some((option, value)) if wants_value(lines, front, option) => {
+            put_value(lines, tool, option, value)
+        }
+        _ => {
+            lines.put(tool);
+            lines.put(": can't take ");
+            lines.put_quoted(word);
+            lines.put(" here\n");
+        }
+    }
 }
 
-fn lacking_line(alloc: Global, tool: &str, words: &[String]) -> Result<String, AllocError> {
-    match lack_of(alloc, words)? {
+/// Whether the option wants a value behind these words.
+fn wants_value(lines: &mut Lines, front: &[String], option: &str) -> bool {
+    let mut tried = copied(lines, front);
+    add(lines, &mut tried, option);
+    matches!(lack_of(lines, &tried), Some(Lack::Value(_)))
+}
+
+fn put_value(lines: &mut Lines, tool: &str, option: &str, value: &str) {
+    put_wants(lines, tool, option);
+    lines.put(", and ");
+    lines.put_quoted(value);
+    lines.put(" stands behind it\n");
+}
+
+fn put_wants(lines: &mut Lines, tool: &str, option: &str) {
+    lines.put(tool);
+    lines.put(": ");
+    lines.put_quoted(option);
+    lines.put(" wants ");
+    put_wanted(lines, tool, option);
+}
+
+fn put_lacking(lines: &mut Lines, tool: &str, words: &[String]) {
+    match lack_of(lines, words) {
         Some(Lack::Value(option)) => {
-            let wanted = wanted_by(alloc, tool, option)?;
-            format!(in alloc; "{tool}: {option:?} wants {wanted}\n")
+            put_wants(lines, tool, option);
+            lines.put("\n");
         }
         Some(Lack::Operands(count)) => {
-            let operands = operands_text(alloc, tool, count)?;
-            format!(in alloc; "{tool}: missing at the end:{operands}\n")
+            lines.put(tool);
+            lines.put(": missing at the end:");
+            put_operands(lines, tool, count);
+            lines.put("\n");
         }
-        None => Ok(String::new(alloc)),
+        None => {}
     }
 }
 
-/// The smallest buffer that holds a line of so many bytes.
-fn buffer_line(alloc: Global, tool: &str, length: u64) -> Result<Option<String>, AllocError> {
+/// The smallest buffer that holds a line of so many bytes, where the tool has the word.
+fn put_buffer(lines: &mut Lines, tool: &str, length: u64) {
     let least = length.saturating_add(BESIDE_LINE);
-    if least > LARGEST_BUFFER {
-        return Ok(None);
-    }
-    Ok(Some(format!(in alloc; "{tool}: --buffer={least} would hold it\n")?))
-}
-
-/// What passes over binary changes, where the tool has it.
-fn binary_line(alloc: Global, tool: &str) -> Result<Option<String>, AllocError> {
-    match tool {
-        "patch" | "lsdiff" | "filterdiff" | "grepdiff" | "splitdiff" => Ok(Some(format!(in alloc;
-            "{tool}: --skip-binary passes over binary changes\n"
-        )?)),
-        _ => Ok(None),
+    if least <= LARGEST_BUFFER && tool != "patchstack" {
+        lines.put(tool);
+        lines.put(": --buffer=");
+        lines.put_number(least);
+        lines.put(" would hold it\n");
     }
 }
 
-fn trouble_line(
-    alloc: Global,
-    tool: &str,
-    trouble: Option<&Trouble>,
-) -> Result<Option<String>, AllocError> {
-    match trouble {
-        Some(trouble) => {
-            let text = trouble.text(alloc)?;
-            Ok(Some(format!(in alloc; "{tool}: {text}\n")?))
+fn put_trouble(lines: &mut Lines, tool: &str, trouble: Option<&Trouble>) {
+    if let Some(trouble) = trouble {
+        match trouble.text(lines.alloc) {
+            Ok(text) => lines.put_line(tool, text.as_str()),
+            Err(_) => lines.cut(),
         }
-        None => Ok(None),
     }
 }

@@ -1,14 +1,14 @@
 //! The line behind a run over a patch text that is cut in its last line.
 
+use crate::lines::Lines;
 use real_devices::Passed;
-use std::alloc::{AllocError, Global};
 
 const CUT: &str = "patch: the patch text ends in the middle of a line, which was taken as whole\n";
 
 /// The line, where the last byte of the patch text is no line feed.
-pub fn cut_line(alloc: Global, passed: &Passed) -> Result<String, AllocError> {
+pub fn put_cut(lines: &mut Lines, passed: &Passed) {
     match passed.last() {
-        Some(b'\n') | None => Ok(String::new(alloc)),
-        Some(_) => String::from_str(alloc, CUT),
+        Some(b'\n') | None => {}
+        Some(_) => lines.put(CUT),
     }
 }

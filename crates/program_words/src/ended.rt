@@ -1,39 +1,91 @@
 //! The lines behind a run over a patch text that was taken.
 
-use crate::cut::cut_line;
-use crate::modes::mode_lines;
-use real_devices::Passed;
+use crate::cut::put_cut;
+use crate::lines::Lines;
+use crate::modes::{Taking, put_modes};
+use crate::skipped::{put_skipped, put_stack_skipped};
+use patch_options::{Job, Options, read_words};
+use real_devices::{Heard, Passed};
 use run_answers::Why;
-use std::alloc::{AllocError, Global};
+use std::rt::Files;
 
-/// That the text is cut in its last line, and which modes aren't carried out. Nothing is said where the run was refused, but of a
-/// text of modes alone, which has no file patch.
-pub fn text_lines(
-    alloc: Global,
+/// What a run came to, and what it said.
+#[derive(Clone, Copy)]
+pub struct Ended {
+    pub why: Why,
+    pub heard: Heard,
+}
+
+/// That the text is cut in its last line, which modes aren't carried out, and of what was left out why no file was found, and
+/// that a stack keeps no reject files. Nothing is said where the run was refused, but of a text of modes alone, which has no
+/// file patch.
+pub fn put_texts<R: Files>(
+    lines: &mut Lines,
+    rt: &R,
     tool: &str,
     words: &[String],
-    why: Why,
+    ended: Ended,
     passed: &Passed,
-) -> Result<String, AllocError> {
-    match why {
-        Why::Done | Why::Rejected => ended_lines(alloc, tool, words, passed),
-        Why::Garbage => mode_lines(alloc, tool, words, passed),
-        _ => Ok(String::new(alloc)),
+) {
+    match tool {
+        "patch" => {
+            if let Ok(Job::Patch(options)) = read_words(lines.alloc, words) {
+                put_of_patch(lines, rt, &options, ended, passed);
+            }
+        }
+        "patchstack" => put_of_stack(lines, words, ended, passed),
+        _ => {}
     }
 }
 
-fn ended_lines(
-    alloc: Global,
-    tool: &str,
-    words: &[String],
+fn put_of_patch<R: Files>(
+    lines: &mut Lines,
+    rt: &R,
+    options: &Options,
+    ended: Ended,
     passed: &Passed,
-) -> Result<String, AllocError> {
-    let mut lines = if tool == "patch" {
-        cut_line(alloc, passed)?
-    } else {
-        String::new(alloc)
+) {
+    let taking = Taking {
+        strip: options.strip,
+        is_reversed: options.reverse,
     };
-    let modes = mode_lines(alloc, tool, words, passed)?;
-    lines.push_str(modes.as_str())?;
-    Ok(lines)
+    match ended.why {
+        Why::Done => put_taken(lines, taking, passed),
+        Why::Rejected => {
+            put_taken(lines, taking, passed);
+            put_skipped(lines, rt, options, ended.heard, passed);
+        }
+        Why::Garbage => put_modes(lines, "patch", taking, passed),
+        _ => {}
+    }
+}
+
+fn put_taken(lines: &mut Lines, taking: Taking, passed: &Passed) {
+    put_cut(lines, passed);
+    put_modes(lines, "patch", taking, passed);
+}
+
+fn put_of_stack(lines: &mut Lines, words: &[String], ended: Ended, passed: &Passed) {
+    match ended.why {
+        Why::Done | Why::Garbage => put_pushed(lines, words, passed),
+        Why::Rejected => {
+            put_pushed(lines, words, passed);
+            put_stack_skipped(lines, ended.heard, passed);
+        }
+        _ => {}
+    }
+}
+
+/// The modes of a stack's patches, which are taken as with `-p1`. It gives none where it pops.
+fn put_pushed(lines: &mut Lines, words: &[String], passed: &Passed) {
+    let taking = Taking {
+        strip: Some(1),
+        is_reversed: false,
+    };
+    match words {
+        [_, operation] if operation.as_str() == "push" => {
+            put_modes(lines, "patchstack", taking, passed)
+        }
+        _ => {}
+    }
 }

@@ -1,9 +1,9 @@
 //! What is missing behind words that could go on, for the line behind a refusal.
 
-use crate::unfit::{OPERAND, copied, is_command, missing_words};
+use crate::lines::Lines;
+use crate::unfit::{OPERAND, add, copied, is_command, missing_words};
+use crate::wanted::table_of;
 use patch_options::{Group, Word, WordForm};
-use std::alloc::{AllocError, Global};
-use tool_words::tool_named;
 
 /// What is missing behind the last word.
 #[derive(Clone, Copy)]
@@ -15,65 +15,57 @@ pub enum Lack<'a> {
 }
 
 /// What is missing behind words that give no command, if further words would give one.
-pub fn lack_of(alloc: Global, words: &[String]) -> Result<Option<Lack<'_>>, AllocError> {
-    let Some(count) = missing_words(alloc, words)? else {
-        return Ok(None);
-    };
+pub fn lack_of<'a>(lines: &mut Lines, words: &'a [String]) -> Option<Lack<'a>> {
+    let count = missing_words(lines, words)?;
     match words.split_last() {
-        Some((last, front)) if wants_value(alloc, front, last.as_str(), count)? => {
-            Ok(Some(Lack::Value(last.as_str())))
+        Some((last, front)) if wants_value(lines, front, last.as_str(), count) => {
+            Some(Lack::Value(last.as_str()))
         }
-        _ => Ok(Some(Lack::Operands(count))),
+        _ => Some(Lack::Operands(count)),
     }
 }
 
 /// Whether the last word is an option without its value: then so many operands in front of it give no command.
-fn wants_value(
-    alloc: Global,
-    front: &[String],
-    last: &str,
-    count: usize,
-) -> Result<bool, AllocError> {
+fn wants_value(lines: &mut Lines, front: &[String], last: &str, count: usize) -> bool {
     if last == "--" || !last.starts_with('-') {
-        return Ok(false);
+        return false;
     }
-    let mut tried = copied(alloc, front)?;
+    let mut tried = copied(lines, front);
     for _ in 0..count {
-        tried.push(String::from_str(alloc, OPERAND)?)?;
+        add(lines, &mut tried, OPERAND);
     }
-    tried.push(String::from_str(alloc, last)?)?;
-    Ok(!is_command(alloc, &tried))
+    add(lines, &mut tried, last);
+    !is_command(lines.alloc, &tried)
 }
 
 /// The last so many operands that a tool must have, as the text that tells its words has them, with a space in front of each.
-pub fn operands_text(alloc: Global, tool: &str, count: usize) -> Result<String, AllocError> {
-    let mut text = String::new(alloc);
-    let shown = needed_operands(alloc, tool)?;
-    for operand in shown.iter().skip(shown.len().saturating_sub(count)) {
-        text.push(' ')?;
-        text.push_str(operand)?;
-    }
-    Ok(text)
-}
-
-/// The operands that a tool must have. `patch` has none.
-fn needed_operands(alloc: Global, tool: &str) -> Result<Vec<&'static str>, AllocError> {
-    match tool_named(tool) {
-        Some(tool) => operands_in(alloc, tool.table()),
-        None => Ok(Vec::new(alloc)),
-    }
-}
-
-fn operands_in(alloc: Global, table: &'static [Group]) -> Result<Vec<&'static str>, AllocError> {
-    let mut operands = Vec::new(alloc);
+pub fn put_operands(lines: &mut Lines, tool: &str, count: usize) {
+    let table = table_of(tool);
+    let mut before = needed_in(table).saturating_sub(count);
     for group in table {
         for word in group.words {
             if is_needed(word) {
-                operands.push(word.shown)?;
+                if before == 0 {
+                    lines.put(" ");
+                    lines.put(word.shown);
+                }
+                before = before.saturating_sub(1);
             }
         }
     }
-    Ok(operands)
+}
+
+/// How many operands a tool must have. `patch` has none.
+fn needed_in(table: &'static [Group]) -> usize {
+    let mut count = 0usize;
+    for group in table {
+        for word in group.words {
+            if is_needed(word) {
+                count = count.saturating_add(1);
+            }
+        }
+    }
+    count
 }
 
 fn is_needed(word: &Word) -> bool {

@@ -1,12 +1,16 @@
 //! The words that the program was called with, as the system gives them, and the texts that help whoever called it.
 #![tactic(auto)]
 
+mod barred;
 mod behind;
 mod called;
+mod count;
 mod cut;
 mod ended;
 mod help;
 mod lacking;
+mod lines;
+mod mending;
 mod modes;
 mod names;
 mod pattern;
@@ -15,12 +19,14 @@ mod skipped;
 mod state;
 mod unfit;
 mod wanted;
+mod which;
 
-pub use behind::{line_behind, usage_lines};
+pub use behind::{put_behind, put_usage};
 pub use called::{called_tool, tool_of, words_of};
-pub use ended::text_lines;
+pub use ended::{Ended, put_texts};
 pub use help::{Telling, told};
-pub use pattern::pattern_line;
+pub use lines::Lines;
+pub use pattern::put_pattern;
 pub use places::places_of;
-pub use skipped::rejected_lines;
-pub use state::state_line;
+pub use state::put_state;
+pub use which::put_patch;

@@ -1,83 +1,53 @@
 //! The lines behind a run over a patch text in which git gives files modes: none is carried out.
 
+use crate::lines::{Lines, is_feed};
 use crate::names::both_names;
-use patch_options::{Job, Options, read_words};
 use real_devices::Passed;
-use std::alloc::{AllocError, Global};
 use target_names::{last_component, shortened};
 
 /// The mode that a file gets without being given one.
 const USUAL: &[u8] = b"100644";
 
+/// The mode of a symbolic link.
+const LINK: &[u8] = b"120000";
+
 /// How a run takes names and lines.
 #[derive(Clone, Copy)]
-struct Taking {
-    strip: Option<u32>,
-    is_reversed: bool,
+pub struct Taking {
+    pub strip: Option<u32>,
+    pub is_reversed: bool,
 }
 
-/// A line for each file to which git gives a mode that isn't the usual one of a new file. A stack gives none where it pops.
-pub fn mode_lines(
-    alloc: Global,
-    tool: &str,
-    words: &[String],
-    passed: &Passed,
-) -> Result<String, AllocError> {
-    let mut text = String::new(alloc);
-    let Some(taking) = taking_of(alloc, words) else {
-        return Ok(text);
-    };
+/// A line for each file to which git gives a mode that isn't the usual one of a new file.
+pub fn put_modes(lines: &mut Lines, tool: &str, taking: Taking, passed: &Passed) {
     let mut header = b"".as_slice();
-    for line in passed.mode_lines().split(|byte| *byte == b'\n') {
+    for line in passed.mode_lines().split(is_feed) {
         match line.strip_prefix(b"diff --git ") {
             Some(names) => header = names,
-            None => put_mode(alloc, &mut text, tool, taking, header, line)?,
+            None => put_mode(lines, tool, taking, header, line),
         }
     }
-    Ok(text)
 }
 
-/// How the words have names and lines taken, where they apply a patch; those of a stack's are taken as with `-p1`.
-fn taking_of(alloc: Global, words: &[String]) -> Option<Taking> {
-    match read_words(alloc, words) {
-        Ok(Job::Patch(options)) => Some(taking_by(&options)),
-        Err(_) => pushing(words),
+fn put_mode(lines: &mut Lines, tool: &str, taking: Taking, header: &[u8], line: &[u8]) {
+    if let Some(mode) = mode_in(line, taking.is_reversed) {
+        lines.put(tool);
+        put_of(lines, mode, name_in(header, taking));
     }
 }
 
-fn taking_by(options: &Options) -> Taking {
-    Taking {
-        strip: options.strip,
-        is_reversed: options.reverse,
+fn put_of(lines: &mut Lines, mode: &[u8], name: &[u8]) {
+    if mode == LINK {
+        lines.put(": ");
+        lines.put_bytes_quoted(name);
+        lines.put(" is a symbolic link in the patch: a regular file holds its text\n");
+    } else {
+        lines.put(": mode ");
+        lines.put_bytes(mode);
+        lines.put(" of ");
+        lines.put_bytes_quoted(name);
+        lines.put(" isn't carried out\n");
     }
-}
-
-fn pushing(words: &[String]) -> Option<Taking> {
-    match words {
-        [_, operation] if operation.as_str() == "push" => Some(Taking {
-            strip: Some(1),
-            is_reversed: false,
-        }),
-        _ => None,
-    }
-}
-
-fn put_mode(
-    alloc: Global,
-    text: &mut String,
-    tool: &str,
-    taking: Taking,
-    header: &[u8],
-    line: &[u8],
-) -> Result<(), AllocError> {
-    let Some(mode) = mode_in(line, taking.is_reversed) else {
-        return Ok(());
-    };
-    let mode = String::from_utf8_lossy(alloc, mode)?;
-    let name = String::from_utf8_lossy(alloc, name_in(header, taking))?;
-    let name = name.as_str();
-    let said = format!(in alloc; "{tool}: mode {mode} of {name:?} isn't carried out\n")?;
-    text.push_str(said.as_str())
 }
 
 /// The mode that the line gives the file, where that isn't the usual one of a new file.

@@ -1,6 +1,8 @@
 //! The names in the lines of a file patch for which no file was found.
 
-use memchr::{memmem, memrchr};
+use crate::barred::put_none;
+use crate::lines::{Lines, is_feed};
+use memchr::{memchr, memmem, memrchr};
 use outside::Name;
 use std::alloc::{AllocError, Global};
 use target_names::{candidates, moved_names};
@@ -24,27 +26,34 @@ pub struct Reading {
 
 /// Which names the file patch gives whose opening is this line of the text, and what `-p` leaves of them. Nothing is said where
 /// its lines aren't in this front of the text.
-pub fn names_line(
-    alloc: Global,
-    tool: &str,
-    reading: Reading,
-    front: &[u8],
-    opening: u64,
-) -> Result<String, AllocError> {
+pub fn put_names(lines: &mut Lines, tool: &str, reading: Reading, front: &[u8], opening: u64) {
     let given = given_in(front, opening);
-    let written = written_names(alloc, given)?;
-    if written.is_empty() {
-        return Ok(String::new(alloc));
+    let written = written_names(lines.alloc, given);
+    if !written.text().is_empty() {
+        let left = left_names(lines.alloc, given, reading);
+        put_both(lines, tool, reading.strip, &written, &left);
     }
-    let left = left_names(alloc, given, reading)?;
-    if left.as_str() == written.as_str() {
-        return format!(in alloc; "{tool}: the patch names {written}\n");
+}
+
+fn put_both(lines: &mut Lines, tool: &str, strip: Option<u32>, written: &Lines, left: &Lines) {
+    lines.put(tool);
+    lines.put(": the patch names ");
+    lines.put_made(written);
+    if !left.is_same(written) {
+        put_strip(lines, strip);
+        lines.put_made(left);
     }
-    match reading.strip {
+    lines.put("\n");
+}
+
+fn put_strip(lines: &mut Lines, strip: Option<u32>) {
+    match strip {
         Some(strip) => {
-            format!(in alloc; "{tool}: the patch names {written}, with -p{strip} {left}\n")
+            lines.put(", with -p");
+            lines.put_number(u64::from(strip));
+            lines.put(" ");
         }
-        None => format!(in alloc; "{tool}: the patch names {written}, without -p {left}\n"),
+        None => lines.put(", without -p "),
     }
 }
 
@@ -56,7 +65,7 @@ fn given_in(front: &[u8], opening: u64) -> Given<'_> {
         is_moved: false,
     };
     let mut number = 0u64;
-    for line in front.split(|byte| *byte == b'\n') {
+    for line in front.split(is_feed) {
         number = number.saturating_add(1);
         if number > opening && !is_of_header(line) {
             break;
@@ -141,47 +150,50 @@ fn name_of<'a>(line: &'a [u8], marks: [&[u8]; 3]) -> Option<&'a [u8]> {
 /// The name behind a mark at the line's front: up to a tab, else up to a space.
 fn name_behind<'a>(line: &'a [u8], mark: &[u8]) -> Option<&'a [u8]> {
     let rest = line.strip_prefix(mark)?;
-    let end = match rest.iter().position(|byte| *byte == b'\t') {
+    rest.get(..name_end(rest))
+}
+
+fn name_end(rest: &[u8]) -> usize {
+    match memchr(b'\t', rest) {
         Some(tab) => tab,
-        None => rest
-            .iter()
-            .position(|byte| *byte == b' ')
-            .unwrap_or(rest.len()),
-    };
-    rest.get(..end)
+        None => memchr(b' ', rest).unwrap_or(rest.len()),
+    }
 }
 
 /// The name behind a mark that stands behind the line's first word.
 fn whole_name<'a>(line: &'a [u8], mark: &[u8]) -> Option<&'a [u8]> {
-    let space = line.iter().position(|byte| *byte == b' ')?;
+    let space = memchr(b' ', line)?;
     line.get(space..)?.strip_prefix(mark)
 }
 
 /// The names as they are written.
-fn written_names(alloc: Global, given: Given<'_>) -> Result<String, AllocError> {
-    let mut text = String::new(alloc);
-    for name in [given.old, given.new] {
-        if let Some(name) = name {
-            if name != b"/dev/null".as_slice() {
-                let shown = String::from_utf8_lossy(alloc, name)?;
-                add_name(alloc, &mut text, shown.as_str())?;
-            }
+fn written_names(alloc: Global, given: Given<'_>) -> Lines {
+    let mut text = Lines::new(alloc);
+    add_given(&mut text, given.old);
+    add_given(&mut text, given.new);
+    text
+}
+
+fn add_given(text: &mut Lines, name: Option<&[u8]>) {
+    match name {
+        Some(b"/dev/null") | None => {}
+        Some(name) => {
+            let mut quoted = Lines::new(text.alloc);
+            quoted.put_bytes_quoted(name);
+            add_name(text, &quoted);
         }
     }
-    Ok(text)
 }
 
 /// The names that a run looks for.
-fn left_names(alloc: Global, given: Given<'_>, reading: Reading) -> Result<String, AllocError> {
-    let names = looked_for(alloc, given, reading)?;
-    let mut text = String::new(alloc);
-    for name in &names {
-        add_name(alloc, &mut text, name.text())?;
+fn left_names(alloc: Global, given: Given<'_>, reading: Reading) -> Lines {
+    let mut text = Lines::new(alloc);
+    match looked_for(alloc, given, reading) {
+        Ok(names) if names.is_empty() => put_none(&mut text, reading.strip, given.old, given.new),
+        Ok(names) => add_names(&mut text, &names),
+        Err(_) => text.cut(),
     }
-    if text.is_empty() {
-        text.push_str("none that counts")?;
-    }
-    Ok(text)
+    text
 }
 
 fn looked_for(alloc: Global, given: Given<'_>, reading: Reading) -> Result<Vec<Name>, AllocError> {
@@ -199,14 +211,20 @@ fn looked_for(alloc: Global, given: Given<'_>, reading: Reading) -> Result<Vec<N
     }
 }
 
-/// Adds a name in quotes, unless it is the one that is there.
-fn add_name(alloc: Global, text: &mut String, name: &str) -> Result<(), AllocError> {
-    let quoted = format!(in alloc; "{name:?}")?;
-    if text.as_str() == quoted.as_str() {
-        return Ok(());
+fn add_names(text: &mut Lines, names: &[Name]) {
+    for name in names {
+        let mut quoted = Lines::new(text.alloc);
+        quoted.put_quoted(name.text());
+        add_name(text, &quoted);
     }
-    if !text.is_empty() {
-        text.push_str(" and ")?;
+}
+
+/// Adds a name, unless it is the one that is there.
+fn add_name(text: &mut Lines, name: &Lines) {
+    if !text.is_same(name) {
+        if !text.text().is_empty() {
+            text.put(" and ");
+        }
+        text.put_made(name);
     }
-    text.push_str(quoted.as_str())
 }

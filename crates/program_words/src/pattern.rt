@@ -1,38 +1,45 @@
 //! Why a pattern isn't taken, for the line behind its refusal.
 
-use regex::Error;
-use regex::bytes::Regex;
-use std::alloc::{AllocError, Global};
-use tool_words::{GrepJob, ToolJob, read_tool_words};
+use crate::lines::Lines;
+use regex_syntax::{Config, Error, ErrorKind, parse};
+use tool_words::{ToolJob, read_tool_words};
 
-/// The pattern of the words and what is wrong with it, where it is refused.
-pub fn pattern_line(alloc: Global, tool: &str, words: &[String]) -> Result<String, AllocError> {
-    match read_tool_words(alloc, words) {
-        Ok(ToolJob::Grep(job)) => line_of(alloc, tool, &job),
-        _ => Ok(String::new(alloc)),
+/// The pattern of the words and what is wrong with it. It was refused: so one that can be read is too big.
+pub fn put_pattern(lines: &mut Lines, tool: &str, words: &[String]) {
+    if let Ok(job) = read_tool_words(lines.alloc, words) {
+        put_of(lines, tool, &job);
     }
 }
 
-fn line_of(alloc: Global, tool: &str, job: &GrepJob) -> Result<String, AllocError> {
-    let pattern = job.pattern.as_str();
-    match Regex::new(alloc, pattern) {
-        Ok(_) => Ok(String::new(alloc)),
-        Err(error) => said_of(alloc, tool, pattern, error),
+fn put_of(lines: &mut Lines, tool: &str, job: &ToolJob) {
+    if let ToolJob::Grep(job) = job {
+        lines.put(tool);
+        lines.put(": the pattern ");
+        lines.put("\"");
+        lines.put(job.pattern.as_str());
+        lines.put("\"");
+        put_reading(lines, job.pattern.as_str());
     }
 }
 
-fn said_of(alloc: Global, tool: &str, pattern: &str, error: Error) -> Result<String, AllocError> {
-    match error {
-        Error::Syntax(error) => {
-            let place = error.span.start.saturating_add(1);
-            let what = error.kind.message();
-            format!(in alloc; "{tool}: the pattern {pattern:?}, at byte {place}: {what}\n")
-        }
-        Error::CompiledTooBig => {
-            format!(in alloc;
-                "{tool}: the pattern {pattern:?} takes more than 10 MiB once it is compiled\n"
-            )
-        }
-        Error::Internal | Error::OutOfMemory => Ok(String::new(alloc)),
+/// Reads the pattern as one that lines of any bytes are searched for.
+fn put_reading(lines: &mut Lines, pattern: &str) {
+    let config = Config {
+        utf8: false,
+        ..Config::default()
+    };
+    match parse(lines.alloc, pattern, &config) {
+        Ok(_) => lines.put(" takes more than 10 MiB once it is compiled\n"),
+        Err(error) if error.kind == ErrorKind::OutOfMemory => lines.cut(),
+        Err(error) => put_error(lines, error),
     }
+}
+
+fn put_error(lines: &mut Lines, error: Error) {
+    let place = error.span.start.saturating_add(1);
+    lines.put(", at byte ");
+    lines.put_number(place as u64);
+    lines.put(": ");
+    lines.put(error.kind.message());
+    lines.put("\n");
 }

@@ -1,134 +1,100 @@
 //! The lines behind a run that left something out, where what was said leaves a question open.
 
-use crate::names::{Reading, names_line};
+use crate::lines::Lines;
+use crate::names::{Reading, put_names};
 use crate::places::below;
 use outside::Name;
-use patch_options::{Job, Options, read_words};
+use patch_options::Options;
 use real_devices::{Heard, Passed, missing_text};
-use std::alloc::{AllocError, Global};
 use std::rt::Files;
 
-/// What is told of the reject files that `patchstack` named.
-const NO_REJECTS: &str = "patchstack: nothing of the patch stays, not even its reject files; \
-    'patch -p1 -i patches/NAME' leaves them\n";
-
-/// The lines behind an answer that not all was applied, if there is more to tell: why no file was found, and that a stack
-/// keeps no reject files.
-pub fn rejected_lines<R: Files>(
-    alloc: Global,
-    rt: &R,
-    tool: &str,
-    words: &[String],
-    heard: Heard,
-    passed: &Passed,
-) -> Result<String, AllocError> {
-    match tool {
-        "patch" => patch_lines(alloc, rt, words, heard, passed),
-        "patchstack" => stack_lines(alloc, heard, passed),
-        _ => Ok(String::new(alloc)),
+/// Why no file was found for a patch of a stack, and that it keeps no reject files.
+pub fn put_stack_skipped(lines: &mut Lines, heard: Heard, passed: &Passed) {
+    if let Some(line) = heard.no_file {
+        put_stack_names(lines, passed, line);
     }
-}
-
-fn stack_lines(alloc: Global, heard: Heard, passed: &Passed) -> Result<String, AllocError> {
-    let mut lines = match heard.no_file {
-        Some(line) => stack_names(alloc, passed, line)?,
-        None => String::new(alloc),
-    };
     if heard.rejects {
-        lines.push_str(NO_REJECTS)?;
+        lines.put(
+            "patchstack: nothing of the patch stays, not even its reject files; 'patch -p1 -i ",
+        );
+        lines.put(passed.file());
+        lines.put("' leaves them\n");
     }
-    Ok(lines)
 }
 
-fn stack_names(alloc: Global, passed: &Passed, line: u64) -> Result<String, AllocError> {
+fn put_stack_names(lines: &mut Lines, passed: &Passed, line: u64) {
+    lines.put("patchstack: no file here suits the names of the file patch at input line ");
+    lines.put_number(line);
+    lines.put("; they are taken as with -p1\n");
     let reading = Reading {
         strip: Some(1),
         is_posix: false,
     };
-    let mut lines = format!(in alloc;
-        "patchstack: no file here suits the names of the file patch at input line {line}; they are taken as with -p1\n"
-    )?;
-    let names = names_line(alloc, "patchstack", reading, passed.front(), line)?;
-    lines.push_str(names.as_str())?;
-    Ok(lines)
-}
-
-fn patch_lines<R: Files>(
-    alloc: Global,
-    rt: &R,
-    words: &[String],
-    heard: Heard,
-    passed: &Passed,
-) -> Result<String, AllocError> {
-    match read_words(alloc, words) {
-        Ok(Job::Patch(options)) => no_file_lines(alloc, rt, &options, heard, passed),
-        Err(_) => Ok(String::new(alloc)),
-    }
+    put_names(lines, "patchstack", reading, passed.front(), line);
 }
 
 /// Why no file was found: the one that the words name isn't there, or none has a name that the patch gives.
-fn no_file_lines<R: Files>(
-    alloc: Global,
+pub fn put_skipped<R: Files>(
+    lines: &mut Lines,
     rt: &R,
     options: &Options,
     heard: Heard,
     passed: &Passed,
-) -> Result<String, AllocError> {
+) {
     match (&options.file, heard.no_file) {
-        (Some(file), _) => operand_line(alloc, rt, options, file),
-        (None, Some(line)) => names_lines(alloc, options, passed, line),
-        (None, None) => Ok(String::new(alloc)),
+        (Some(file), _) => put_operand(lines, rt, options, file),
+        (None, Some(line)) => put_unfound(lines, options, passed, line),
+        (None, None) => {}
     }
 }
 
-fn operand_line<R: Files>(
-    alloc: Global,
-    rt: &R,
-    options: &Options,
-    file: &Name,
-) -> Result<String, AllocError> {
-    let name = below(alloc, options, file)?;
-    match missing_text(alloc, rt, &name)? {
-        Some(text) => format!(in alloc; "patch: {text}\n"),
-        None => Ok(String::new(alloc)),
+fn put_operand<R: Files>(lines: &mut Lines, rt: &R, options: &Options, file: &Name) {
+    match below(lines.alloc, options, file) {
+        Ok(name) => put_missing(lines, rt, &name),
+        Err(_) => lines.cut(),
     }
 }
 
-fn names_lines(
-    alloc: Global,
-    options: &Options,
-    passed: &Passed,
-    line: u64,
-) -> Result<String, AllocError> {
+fn put_missing<R: Files>(lines: &mut Lines, rt: &R, name: &Name) {
+    match missing_text(lines.alloc, rt, name) {
+        Ok(Some(text)) => lines.put_line("patch", text.as_str()),
+        Ok(None) => {}
+        Err(_) => lines.cut(),
+    }
+}
+
+fn put_unfound(lines: &mut Lines, options: &Options, passed: &Passed, line: u64) {
+    lines.put("patch: no file ");
+    put_place(lines, options);
+    lines.put(" suits the names of the file patch at input line ");
+    lines.put_number(line);
+    put_question(lines, options.strip);
     let reading = Reading {
         strip: options.strip,
         is_posix: options.posix,
     };
-    let place = place_of(alloc, options)?;
-    let question = question_of(alloc, options)?;
-    let mut lines = format!(in alloc;
-        "patch: no file {place} suits the names of the file patch at input line {line}; {question}?\n"
-    )?;
-    let names = names_line(alloc, "patch", reading, passed.front(), line)?;
-    lines.push_str(names.as_str())?;
-    Ok(lines)
+    put_names(lines, "patch", reading, passed.front(), line);
 }
 
 /// Where the files are.
-fn place_of(alloc: Global, options: &Options) -> Result<String, AllocError> {
+fn put_place(lines: &mut Lines, options: &Options) {
     match &options.dir {
         Some(dir) => {
-            let dir = dir.text();
-            format!(in alloc; "in {dir}")
+            lines.put("in ");
+            lines.put(dir.text());
         }
-        None => String::from_str(alloc, "here"),
+        None => lines.put("here"),
     }
 }
 
-/// What may be wrong with the words.
-fn question_of(alloc: Global, options: &Options) -> Result<String, AllocError> {
-    match options.strip {
-        Some(strip) => format!(in alloc; "is -p{strip} right"),
-        None => String::from_str(alloc, "is -p1 missing, or the file's name"),
+/// What may be wrong with the file, or with the words.
+fn put_question(lines: &mut Lines, strip: Option<u32>) {
+    match strip {
+        Some(strip) => {
+            lines.put("; is it there, no link, and -p");
+            lines.put_number(u64::from(strip));
+            lines.put(" right?\n");
+        }
+        None => lines.put("; is it there, no link, or is -p1 missing, or the file's name?\n"),
     }
 }

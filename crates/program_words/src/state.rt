@@ -1,90 +1,101 @@
 //! What is wrong with a file of a stack, for the line behind a refusal.
 
+use crate::count::put_count;
+use crate::lines::{Lines, is_feed};
 use outside::{Name, NameFault, NameRule};
 use real_devices::Disk;
 use series_stack::StateFile;
-use std::alloc::{AllocError, Global};
 use std::fs::File;
 use std::rt::Files;
 
-const SERIES: &str = "patches/series";
+pub const SERIES: &str = "patches/series";
 
 /// The most patches that a stack may have.
 const MOST: u64 = 9_999;
 
 /// Which file of a stack isn't of its form, and what it should have; of the list of patches, which line is wrong.
-pub fn state_line<R: Files<File = File>>(
-    alloc: Global,
+pub fn put_state<R: Files<File = File>>(
+    lines: &mut Lines,
     tool: &str,
     tree: &mut Disk<'_, R>,
     file: StateFile,
-) -> Result<String, AllocError> {
+) {
     match file {
-        StateFile::Series => series_line(alloc, tool, tree),
-        StateFile::Count => format!(in alloc;
-            "{tool}: .pc/applied: must say how many of the patches are applied\n"
-        ),
-        StateFile::Save => {
-            format!(in alloc; "{tool}: .pc: a save is missing or isn't of its form\n")
+        StateFile::Series => put_series(lines, tool, tree),
+        StateFile::Count => put_count(lines, tool, tree),
+        StateFile::Save => { lines.put_line(tool, ".pc: a save is missing or isn't of its form") }
+    }
+}
+
+fn put_series<R: Files<File = File>>(lines: &mut Lines, tool: &str, tree: &mut Disk<'_, R>) {
+    let text = text_at(lines, tree, SERIES);
+    put_series_of(lines, tool, text);
+}
+
+/// The text of a file of the stack, if it can be read.
+pub fn text_at<R: Files<File = File>>(
+    lines: &mut Lines,
+    tree: &mut Disk<'_, R>,
+    name: &str,
+) -> Option<Vec<u8>> {
+    match Name::new(lines.alloc, name.as_bytes()) {
+        Ok(name) => tree.text(lines.alloc, &name),
+        Err(_) => {
+            lines.cut();
+            None
         }
     }
 }
 
-fn series_line<R: Files<File = File>>(
-    alloc: Global,
-    tool: &str,
-    tree: &mut Disk<'_, R>,
-) -> Result<String, AllocError> {
-    let fault = match series_in(alloc, tree)? {
-        Some(text) => first_fault(alloc, &text)?,
-        None => None,
-    };
-    match fault {
-        Some((number, what)) => format!(in alloc;
-            "{tool}: {SERIES}: line {number} {what}; each line must be a name below patches/\n"
-        ),
-        None => { format!(in alloc; "{tool}: {SERIES}: each line must be a name below patches/\n") }
+fn put_series_of(lines: &mut Lines, tool: &str, text: Option<Vec<u8>>) {
+    lines.put(tool);
+    lines.put(": patches/series: ");
+    if let Some(text) = text {
+        put_fault(lines, &text);
     }
-}
-
-fn series_in<R: Files<File = File>>(
-    alloc: Global,
-    tree: &mut Disk<'_, R>,
-) -> Result<Option<Vec<u8>>, AllocError> {
-    match Name::new(alloc, SERIES.as_bytes()) {
-        Ok(name) => Ok(tree.text(alloc, &name)),
-        Err(_) => Err(AllocError),
-    }
+    lines.put("each line must be a name below patches/\n");
 }
 
 /// The first line that isn't taken, and why. Empty lines and those that begin with `#` are passed over.
-fn first_fault(alloc: Global, text: &[u8]) -> Result<Option<(u64, &'static str)>, AllocError> {
+fn put_fault(lines: &mut Lines, text: &[u8]) {
     let (mut number, mut count) = (0u64, 0u64);
-    for line in text.split(|byte| *byte == b'\n') {
+    for line in text.split(is_feed) {
         number = number.saturating_add(1);
         if !line.is_empty() && !line.starts_with(b"#") {
             count = count.saturating_add(1);
-            if let Some(what) = fault_of(alloc, line, count)? {
-                return Ok(Some((number, what)));
+            if let Some(what) = fault_of(lines, line, count) {
+                put_line(lines, number, what);
+                break;
             }
         }
     }
-    Ok(None)
+}
+
+fn put_line(lines: &mut Lines, number: u64, what: &str) {
+    lines.put("line ");
+    lines.put_number(number);
+    lines.put(" ");
+    lines.put(what);
+    lines.put("; ");
 }
 
 /// What is wrong with the line, which is that of the patch with this number.
-fn fault_of(alloc: Global, line: &[u8], count: u64) -> Result<Option<&'static str>, AllocError> {
+fn fault_of(lines: &mut Lines, line: &[u8], count: u64) -> Option<&'static str> {
     if count > MOST {
-        return Ok(Some("is one more than the 9999 that there may be"));
+        return Some("is one more than the 9999 that there may be");
     }
-    match Name::new(alloc, line) {
-        Ok(_) => Ok(None),
-        Err(NameFault::Refused { rule }) => Ok(Some(broken(rule))),
-        Err(NameFault::Memory) => Err(AllocError),
+    match Name::new(lines.alloc, line) {
+        Ok(_) => None,
+        Err(NameFault::Refused { rule }) => Some(broken(rule)),
+        Err(NameFault::Memory) => {
+            lines.cut();
+            None
+        }
     }
 }
 
-fn broken(rule: NameRule) -> &'static str {
+/// What breaks the rule, behind the name that does.
+pub fn broken(rule: NameRule) -> &'static str {
     match rule {
         NameRule::Empty => "names no file",
         NameRule::Absolute => "begins with a slash",

@@ -1,5 +1,6 @@
 //! Which word can't be taken, and how many are missing, for the line behind a refusal.
 
+use crate::lines::Lines;
 use patch_options::read_words;
 use std::alloc::{AllocError, Global};
 use tool_words::read_tool_words;
@@ -10,83 +11,93 @@ const VALUES: [&str; 7] = ["512", "0", "a", "context", "simple", "push", "hunk"]
 /// An operand that each tool takes, unless it wants a value from above.
 pub const OPERAND: &str = "20";
 
-/// How many operands a tool takes at most.
-const OPERANDS: usize = 3;
+/// A tool takes up to three operands.
+const COUNTS: usize = 4;
 
 /// The place of the first word behind which no further words give a command. There is none where words are missing at the end.
 ///
 /// Where words give no command whatever follows, more of them give none either: so it is looked for by halves.
-pub fn unfit_place(alloc: Global, words: &[String]) -> Result<Option<usize>, AllocError> {
+pub fn unfit_place(lines: &mut Lines, words: &[String]) -> Option<usize> {
     let (mut fits, mut end) = (0, words.len());
     for _ in 0..u64::BITS {
         if fits >= end {
             break;
         }
         let middle = fits + (end - fits) / 2;
-        if can_go_on(alloc, words, middle)? {
+        if can_go_on(lines, words, middle) {
             fits = middle + 1;
         } else {
             end = middle;
         }
     }
-    if fits < words.len() {
-        Ok(Some(fits))
-    } else {
-        Ok(None)
-    }
+    if fits < words.len() { Some(fits) } else { None }
 }
 
 /// Whether the words up to this place give a command, by themselves or with a value and operands behind them.
-fn can_go_on(alloc: Global, words: &[String], last: usize) -> Result<bool, AllocError> {
+fn can_go_on(lines: &mut Lines, words: &[String], last: usize) -> bool {
     let front = words.get(..last.saturating_add(1)).unwrap_or(words);
-    Ok(missing_words(alloc, front)?.is_some())
+    missing_words(lines, front).is_some()
 }
 
 /// How many words are missing behind these, at least as the values and operands from above go on with them. There is no
 /// number where none of these gives a command.
-pub fn missing_words(alloc: Global, words: &[String]) -> Result<Option<usize>, AllocError> {
-    if let Some(operands) = missing_behind(alloc, words, None)? {
-        return Ok(Some(operands));
+pub fn missing_words(lines: &mut Lines, words: &[String]) -> Option<usize> {
+    if let Some(operands) = missing_behind(lines, words, None) {
+        return Some(operands);
     }
-    for value in VALUES {
-        if let Some(operands) = missing_behind(alloc, words, Some(value))? {
-            return Ok(Some(operands.saturating_add(1)));
+    for value in VALUES.iter() {
+        if let Some(operands) = missing_behind(lines, words, Some(value)) {
+            return Some(operands.saturating_add(1));
         }
     }
-    Ok(None)
+    None
 }
 
 /// How many operands are missing behind these words and this value, where there is one.
-fn missing_behind(
-    alloc: Global,
-    words: &[String],
-    value: Option<&str>,
-) -> Result<Option<usize>, AllocError> {
-    let mut tried = copied(alloc, words)?;
+fn missing_behind(lines: &mut Lines, words: &[String], value: Option<&str>) -> Option<usize> {
+    let mut tried = copied(lines, words);
     if let Some(value) = value {
-        tried.push(String::from_str(alloc, value)?)?;
+        add(lines, &mut tried, value);
     }
-    for operands in 0..OPERANDS {
-        if is_command(alloc, &tried) {
-            return Ok(Some(operands));
+    for operands in 0..COUNTS {
+        if is_command(lines.alloc, &tried) {
+            return Some(operands);
         }
-        tried.push(String::from_str(alloc, OPERAND)?)?;
+        add(lines, &mut tried, OPERAND);
     }
-    if is_command(alloc, &tried) {
-        Ok(Some(OPERANDS))
-    } else {
-        Ok(None)
+    None
+}
+
+pub fn copied(lines: &mut Lines, words: &[String]) -> Vec<String> {
+    let mut copy = Vec::new(lines.alloc);
+    for word in words {
+        add(lines, &mut copy, word.as_str());
+    }
+    copy
+}
+
+/// Adds a word, or cuts the lines where memory is missing.
+pub fn add(lines: &mut Lines, words: &mut Vec<String>, word: &str) {
+    if added(lines.alloc, words, word).is_err() {
+        lines.cut();
     }
 }
 
-pub fn copied(alloc: Global, words: &[String]) -> Result<Vec<String>, AllocError> {
-    let mut copy = Vec::new(alloc);
-    for word in words {
-        copy.push(String::from_str(alloc, word.as_str())?)?;
-    }
-    Ok(copy)
+fn added(alloc: Global, words: &mut Vec<String>, word: &str) -> Result<(), AllocError> {
+    let word = String::from_str(alloc, word)?;
+    words.push(word)?;
+    Ok(())
 }
 
 pub fn is_command(alloc: Global, words: &[String]) -> bool {
-    read_words(alloc, words).is_ok() || read_tool_words(alloc, words).is_ok()
+    is_of_patch(alloc, words) || is_of_tool(alloc, words)
+}
+
+fn is_of_patch(alloc: Global, words: &[String]) -> bool {
+    read_words(alloc, words).is_ok()
+}
+
+fn is_of_tool(alloc: Global, words: &[String]) -> bool {
+    let read = read_tool_words(alloc, words);
+    read.is_ok()
 }

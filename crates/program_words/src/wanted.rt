@@ -1,18 +1,19 @@
 //! What an option wants that takes a value, for the line behind a refusal.
 
+use crate::lines::Lines;
 use patch_options::{Group, Word, WordForm, patch_table};
-use std::alloc::{AllocError, Global};
 use tool_words::tool_named;
 
 /// What the option's value is, as `a number`. The option is as it is given, the last of its letters the one that is meant.
-pub fn wanted_by(alloc: Global, tool: &str, option: &str) -> Result<String, AllocError> {
+pub fn put_wanted(lines: &mut Lines, tool: &str, option: &str) {
     match row_of(table_of(tool), option) {
-        Some(row) => value_of(alloc, row),
-        None => String::from_str(alloc, "a value"),
+        Some(row) => put_value_of(lines, row),
+        None => lines.put("a value"),
     }
 }
 
-fn table_of(tool: &str) -> &'static [Group] {
+/// The table of a tool's words.
+pub fn table_of(tool: &str) -> &'static [Group] {
     match tool_named(tool) {
         Some(tool) => tool.table(),
         None => patch_table(),
@@ -46,19 +47,20 @@ fn ends_with(option: &str, letter: Option<char>) -> bool {
 }
 
 /// What stands for the value in the text that tells the words, in words of its own where that is a letter or a name.
-fn value_of(alloc: Global, row: &Word) -> Result<String, AllocError> {
-    let shown = behind_sign(row.shown);
-    let text = match shown {
-        "N" => "a number",
-        "FILE" => "a file",
-        "DIR" => "a directory",
-        "NAME" => "a name",
-        "PAT" => "a pattern",
-        "RANGE" => "a range",
-        "S" => return named(alloc, row.name),
-        _ => shown,
-    };
-    String::from_str(alloc, text)
+fn put_value_of(lines: &mut Lines, row: &Word) {
+    match behind_sign(row.shown) {
+        "N" => lines.put("a number"),
+        "FILE" => lines.put("a file"),
+        "DIR" => lines.put("a directory"),
+        "NAME" => lines.put("a name"),
+        "PAT" => lines.put("a pattern"),
+        "RANGE" => lines.put("a range"),
+        "S" => {
+            lines.put("a ");
+            lines.put(row.name);
+        }
+        shown => lines.put(shown),
+    }
 }
 
 fn behind_sign(shown: &str) -> &str {
@@ -66,10 +68,6 @@ fn behind_sign(shown: &str) -> &str {
         Some((_, value)) => value,
         None => shown,
     }
-}
-
-fn named(alloc: Global, name: &str) -> Result<String, AllocError> {
-    format!(in alloc; "a {name}")
 }
 
 /// The option at the front of a word that gives it its value too, and the value: `--strip` of `--strip=x`, `-Rp` of `-Rpx`.

@@ -2,11 +2,9 @@
 ghost use Rattle.outside.specs.Silent.{silent_tree};
 
 use crate::faults::Faults;
-use crate::files::OpenFiles;
 use crate::passed::Passed;
-use crate::paths::Path;
-use crate::trouble::Trouble;
 use outside::{Failed, Name, Tree};
+use real_files::{OpenFiles, Path, Trouble};
 use std::alloc::{AllocError, Global};
 use std::fs::File;
 use std::io;
@@ -59,7 +57,7 @@ impl<'r, R: Files<File = File>> Disk<'r, R> {
 
     /// The name of the last file that was looked for and isn't there, and why, as `d/n: not found`.
     pub fn missing(&self) -> Result<Option<String>, AllocError> {
-        self.files.missing()
+        self.files.missing(self.places.is_stack)
     }
 
     /// What is kept of the patch text that was read last.
@@ -98,6 +96,13 @@ fn is_patch(places: &Places, name: &str) -> bool {
     }
 }
 
+/// Keeps which file has the patch text.
+fn note_file(passed: &mut Passed, places: &Places, name: &str) {
+    if is_patch(places, name) {
+        passed.name(name);
+    }
+}
+
 /// Lets what was read of a patch text go by, which is read at once.
 fn see(passed: &mut Passed, is_patch: bool, read: &io::Result<usize>, buf: &[u8]) {
     if let (true, Ok(count)) = (is_patch, read) {
@@ -127,6 +132,7 @@ impl<'r, R: Files<File = File>> Tree for Disk<'r, R> {
 
     fn size(&mut self, name: &Name) -> Result<Option<u64>, Failed> {
         let done = self.files.size(Path::of(name));
+        note_file(&mut self.passed, &self.places, name.text());
         self.faults.answer(name.text(), done)
     }
 

@@ -2,8 +2,8 @@
 ghost use Rattle.std.specs.Prelude.{◌≡◌, ◌≤◌, Ok, IfOk, IsErr};
 ghost use Rattle.outside.specs.Faults.{HasRisen};
 
-use crate::trouble::{Trouble, trouble_of};
 use outside::Failed;
+use real_files::{Trouble, trouble_of};
 use std::alloc::Global;
 use std::io;
 

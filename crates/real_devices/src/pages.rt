@@ -3,10 +3,8 @@ ghost use Rattle.std.specs.Prelude.{◌≤◌, length, IfOk};
 ghost use Rattle.outside.specs.Silent.{silent_scratch};
 
 use crate::faults::Faults;
-use crate::fresh::make_anew;
-use crate::reading::read_whole;
-use crate::trouble::Trouble;
 use outside::{Failed, Scratch};
+use real_files::{Trouble, make_anew, read_whole};
 use std::alloc::Global;
 use std::fs::File;
 use std::io::ErrorKind;

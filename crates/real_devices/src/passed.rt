@@ -8,6 +8,7 @@ const FRONT: usize = 1_048_576;
 
 #[derive(Drop)]
 pub struct Passed {
+    file: String,
     last: Option<u8>,
     front: Vec<u8>,
     /// How much more of the front is kept.
@@ -18,6 +19,7 @@ pub struct Passed {
 impl Passed {
     pub fn new(alloc: Global) -> Passed {
         Passed {
+            file: String::new(alloc),
             last: None,
             front: Vec::new(alloc),
             room: FRONT,
@@ -25,9 +27,14 @@ impl Passed {
         }
     }
 
-    /// Whether nothing went by.
+    /// Whether nothing went by, not even the name of a file.
     pub fn is_empty(&self) -> bool {
-        self.last.is_none()
+        self.file.is_empty() && self.last.is_none()
+    }
+
+    /// The name of the file of the text, or nothing where it comes from no file or memory was missing.
+    pub fn file(&self) -> &str {
+        self.file.as_str()
     }
 
     /// The last byte, where there is one.
@@ -44,6 +51,12 @@ impl Passed {
     /// `new mode`, `new file mode`, or `deleted file mode`.
     pub fn mode_lines(&self) -> &[u8] {
         self.modes.lines()
+    }
+
+    /// The text that goes by is in the file of this name.
+    pub fn name(&mut self, file: &str) {
+        self.file.clear();
+        let _ = self.file.push_str(file);
     }
 
     /// A whole text goes by. What was kept of another one goes.

@@ -1,11 +1,18 @@
 //! The file that was looked for last and isn't there, for the line that says which it is.
 
+use crate::found::Found;
 use crate::paths::{Path, found_at};
 use crate::trouble::Trouble;
 use outside::Name;
 use std::alloc::{AllocError, Global};
 use std::io;
 use std::rt::Files;
+
+/// What is told where something else than a regular file stands.
+const NO_FILE: &str = "not a regular file";
+
+/// The same where standard input may be read in its place.
+const NO_PIPE: &str = "not a regular file; anything else is only read as standard input";
 
 #[derive(Drop)]
 pub struct Missing {
@@ -28,8 +35,13 @@ impl Missing {
         let _ = self.name.push_str(name.text);
     }
 
-    /// The name, and why no file is read there.
-    pub fn text<R: Files>(&self, alloc: Global, rt: &R) -> Result<Option<String>, AllocError> {
+    /// The name, and why no file is read there. The files of a stack are never read from standard input.
+    pub fn text<R: Files>(
+        &self,
+        alloc: Global,
+        rt: &R,
+        is_stack: bool,
+    ) -> Result<Option<String>, AllocError> {
         if self.name.is_empty() {
             return Ok(None);
         }
@@ -37,7 +49,7 @@ impl Missing {
             text: self.name.as_str(),
             given: self.given,
         };
-        text_at(alloc, rt, path)
+        text_at(alloc, rt, path, if is_stack { NO_FILE } else { NO_PIPE })
     }
 }
 
@@ -48,18 +60,34 @@ pub fn missing_text<R: Files>(
     rt: &R,
     name: &Name,
 ) -> Result<Option<String>, AllocError> {
-    text_at(alloc, rt, Path::of(name))
+    text_at(alloc, rt, Path::of(name), NO_FILE)
 }
 
-fn text_at<R: Files>(alloc: Global, rt: &R, path: Path<'_>) -> Result<Option<String>, AllocError> {
+fn text_at<R: Files>(
+    alloc: Global,
+    rt: &R,
+    path: Path<'_>,
+    no_pipe: &str,
+) -> Result<Option<String>, AllocError> {
     let name = path.text;
     match found_at(rt, path) {
         Ok(found) if found.is_file => Ok(None),
-        Ok(found) if found.is_there => {
-            Ok(Some(format!(in alloc; "{name}: not a regular file")?))
+        Ok(found) => {
+            let what = kind_of(found, no_pipe);
+            Ok(Some(format!(in alloc; "{name}: {what}")?))
         }
-        Ok(_) => Ok(Some(format!(in alloc; "{name}: not found")?)),
         Err(error) => Ok(Some(trouble_text(alloc, name, error)?)),
+    }
+}
+
+/// What stands there, where that is no regular file.
+fn kind_of(found: Found, no_pipe: &str) -> &str {
+    if found.is_directory {
+        NO_FILE
+    } else if found.is_there {
+        no_pipe
+    } else {
+        "not found"
     }
 }
 

@@ -4,6 +4,9 @@ use std::alloc::{AllocError, Global};
 use std::io;
 use std::io::ErrorKind;
 
+/// Behind the system's words where a temporary can't be made, since it may be the directory that doesn't let it.
+const BESIDE: &str = " (a file beside it could not be made)";
+
 /// The name of a device or a file, and what the system answered.
 #[derive(Drop)]
 pub struct Trouble {
@@ -13,20 +16,28 @@ pub struct Trouble {
 
 /// What failed, or nothing without memory.
 pub fn trouble_of(alloc: Global, name: &str, error: io::Error) -> Option<Trouble> {
-    match String::from_str(alloc, shown(name, error.kind())) {
+    match String::from_str(alloc, name) {
         Ok(name) => Some(Trouble { name, error }),
         Err(_) => None,
     }
 }
 
-/// A temporary is shown as the file that it is for, unless a directory stands at its own name.
-fn shown(name: &str, kind: ErrorKind) -> &str {
+/// A temporary is shown as the file that it is for, unless a directory stands at its own name; and what is to be told of that.
+fn shown(name: &str, kind: ErrorKind) -> (&str, &'static str) {
     if kind == ErrorKind::IsADirectory {
-        return name;
+        return (name, "");
     }
     match name.strip_suffix(".ptmp") {
-        Some(target) if !target.is_empty() && !target.ends_with('/') => target,
-        _ => name,
+        Some(target) if !target.is_empty() && !target.ends_with('/') => (target, beside(kind)),
+        _ => (name, ""),
+    }
+}
+
+fn beside(kind: ErrorKind) -> &'static str {
+    if kind == ErrorKind::PermissionDenied {
+        BESIDE
+    } else {
+        ""
     }
 }
 
@@ -34,9 +45,9 @@ impl Trouble {
     /// The name and the system's words, as `d/n: Permission denied`.
     pub fn text(&self, alloc: Global) -> Result<String, AllocError> {
         let said = format!(in alloc; "{}", self.error)?;
-        let name = self.name.as_str();
+        let (name, more) = shown(self.name.as_str(), self.error.kind());
         let words = words_in(said.as_str());
-        format!(in alloc; "{name}: {words}")
+        format!(in alloc; "{name}: {words}{more}")
     }
 }
 

@@ -76,8 +76,8 @@ impl<'r, R: Files<File = File>> OpenFiles<'r, R> {
     }
 
     /// The name of the last file whose size was asked and that isn't there, and why.
-    pub fn missing(&self) -> Result<Option<String>, AllocError> {
-        self.missing.text(self.alloc, self.rt)
+    pub fn missing(&self, is_stack: bool) -> Result<Option<String>, AllocError> {
+        self.missing.text(self.alloc, self.rt, is_stack)
     }
 
     pub fn read_at(&mut self, name: Path<'_>, at: u64, buf: &mut [u8]) -> io::Result<usize>

@@ -1,0 +1,93 @@
+//! Lines for standard error, put together piece by piece.
+
+use std::alloc::Global;
+use std::fmt::Write;
+
+/// Where memory is missing once, none of the lines is told: so what is put behind that doesn't matter.
+#[derive(Drop)]
+pub struct Lines {
+    pub alloc: Global,
+    text: String,
+    is_cut: bool,
+}
+
+impl Lines {
+    pub fn new(alloc: Global) -> Lines {
+        Lines {
+            alloc,
+            text: String::new(alloc),
+            is_cut: false,
+        }
+    }
+
+    /// The lines, if they are whole.
+    pub fn text(&self) -> &str {
+        if self.is_cut { "" } else { self.text.as_str() }
+    }
+
+    /// Whether the text is the same, and whole in both.
+    pub fn is_same(&self, other: &Lines) -> bool {
+        !self.is_cut && !other.is_cut && self.text.as_str() == other.text.as_str()
+    }
+
+    /// Memory is missing for what belongs here.
+    pub fn cut(&mut self) {
+        self.is_cut = true;
+    }
+
+    pub fn put(&mut self, piece: &str) {
+        if self.text.push_str(piece).is_err() {
+            self.is_cut = true;
+        }
+    }
+
+    /// Puts a text that was made, if memory was there for it.
+    pub fn put_made(&mut self, made: &Lines) {
+        self.put(made.text.as_str());
+        if made.is_cut {
+            self.is_cut = true;
+        }
+    }
+
+    /// Puts a word in quotes.
+    pub fn put_quoted(&mut self, word: &str) {
+        if write!(self.text, "{word:?}").is_err() {
+            self.is_cut = true;
+        }
+    }
+
+    pub fn put_number(&mut self, number: u64) {
+        if write!(self.text, "{number}").is_err() {
+            self.is_cut = true;
+        }
+    }
+
+    /// Puts bytes as text.
+    pub fn put_bytes(&mut self, bytes: &[u8]) {
+        match String::from_utf8_lossy(self.alloc, bytes) {
+            Ok(text) => self.put(text.as_str()),
+            Err(_) => self.is_cut = true,
+        }
+    }
+
+    /// Puts bytes as text in quotes.
+    pub fn put_bytes_quoted(&mut self, bytes: &[u8]) {
+        match String::from_utf8_lossy(self.alloc, bytes) {
+            Ok(text) => self.put_quoted(text.as_str()),
+            Err(_) => self.is_cut = true,
+        }
+    }
+
+    /// Puts a line of the tool's.
+    pub fn put_line(&mut self, tool: &str, said: &str) {
+        self.put(tool);
+        self.put(": ");
+        self.put(said);
+        self.put("\n");
+    }
+}
+
+/// Whether a line ends with this byte.
+pub fn is_feed(byte: &u8) -> bool {
+    *byte == b'\n'
+}

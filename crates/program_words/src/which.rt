@@ -1,0 +1,28 @@
+//! Which patch of a stack is meant, for the line behind its refusal.
+
+use crate::lines::Lines;
+use real_devices::Passed;
+use run_answers::Why;
+
+/// The patch that a push was refused for. The other tools have one patch text alone.
+pub fn put_patch(lines: &mut Lines, tool: &str, why: Why, passed: &Passed) {
+    let file = passed.file();
+    if tool == "patchstack" && !file.is_empty() && is_refused(why) {
+        lines.put("patchstack: that is ");
+        lines.put(file);
+        lines.put("\n");
+    }
+}
+
+/// Whether it is a patch text that was refused.
+fn is_refused(why: Why) -> bool {
+    match why {
+        Why::Malformed { .. }
+        | Why::Garbage
+        | Why::EdReverse { .. }
+        | Why::Reserved { .. }
+        | Why::TooLong
+        | Why::StackName { .. } => true,
+        _ => false,
+    }
+}
