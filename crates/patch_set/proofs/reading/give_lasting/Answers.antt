@@ -1,4 +1,4 @@
-use Rattle.std.proofs.Common.{None, Some, inr, sym}
+use Rattle.std.proofs.Common.{None, Some, inr}
 use Rattle.patch_options.specs.PlainJob.{plain_options}
 use Rattle.patch_set.specs.Naming.{HaveTargets}
 use Rattle.patch_set.proofs.Made.{none-found, told-reserved}
