@@ -15,8 +15,8 @@ use Rattle.patch_text.specs.Outlines.{outlined_all}
 use Rattle.patch_text.specs.Regions.{Region, region_of, regions_of}
 use Rattle.patch_set.specs.Asked.{ways_of}
 use Rattle.patch_set.specs.SetView.{SetView, IsRead, plain_patches}
-use Rattle.patch_set.specs.Digested.{DigestView, IsDigestOf, digested}
-use Rattle.patch_set.specs.Outlined.{OutlineView, outlined}
+use Rattle.set_outline.specs.Digested.{DigestView, IsDigestOf, digested}
+use Rattle.set_outline.specs.Outlined.{OutlineView, outlined}
 use Rattle.patch_set.specs.Spans.{IsPlaced, ArePlaced}
 use Rattle.patch_set.proofs.InBytes.{cut-bytes}
 use Rattle.patch_filters.specs.Digested.{digest_if_taken, digest_written, filtered_digest, olds_by}

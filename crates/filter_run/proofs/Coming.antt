@@ -9,7 +9,7 @@ use Rattle.patch_set.specs.declared.fault.SetFault.{SetFault}
 use Rattle.patch_set.specs.declared.fault.SetFault.TheVariants.{Malformed, Garbage, TooLong, OutMany, EdReverse, Reserved, Memory}
 use Rattle.patch_set.specs.Refusals.{refusal}
 use Rattle.patch_set.specs.SetView.{SetView, IsRead}
-use Rattle.patch_set.specs.Outlined.{outlined}
+use Rattle.set_outline.specs.Outlined.{outlined}
 use Rattle.patch_filters.specs.Listed.{listed}
 use Rattle.patch_filters.specs.Digested.{filtered_digest}
 use Rattle.patch_filters.specs.Grepped.{grepped}

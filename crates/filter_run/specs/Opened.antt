@@ -12,8 +12,8 @@ use Rattle.patch_set.specs.declared.fault.SetFault.{SetFault}
 use Rattle.patch_set.specs.declared.fault.SetFault.TheVariants.{Garbage}
 use Rattle.patch_set.specs.Refusals.{refusal}
 use Rattle.patch_set.specs.SetView.{SetView, IsRead}
-use Rattle.patch_set.specs.Digested.{DigestView, IsDigestOf}
-use Rattle.patch_set.specs.Outlined.{IsOutline, OutlineView}
+use Rattle.set_outline.specs.Digested.{DigestView, IsDigestOf}
+use Rattle.set_outline.specs.Outlined.{IsOutline, OutlineView}
 use Rattle.filter_run.specs.Texts.{defaults}
 use Rattle.filter_run.specs.Outcomes.{given}
 use Rattle.filter_run.specs.Sifting.{IsTold, is_refusal, HasInputCause, HasTextCause}

@@ -18,7 +18,7 @@ use crate::numbers::{is_meant, is_selected};
 use crate::pieces::{bytes_at, put_piece};
 use file_patch::FilePatch;
 use outside::{Failed, Sink};
-use patch_set::Digest;
+use set_outline::Digest;
 use tool_words::FilterJob;
 use unified_form::OldRange;
 

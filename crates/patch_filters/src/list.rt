@@ -6,7 +6,7 @@ ghost use Rattle.outside.specs.SinkView.{Writes};
 ghost use Rattle.hunk_core.specs.Writing.{Puts};
 ghost use Rattle.file_patch.specs.PlainPatch.{patch_of};
 ghost use Rattle.file_patch.specs.Absent.{IsLawfulPatch};
-ghost use Rattle.patch_set.specs.Outlined.{outlined};
+ghost use Rattle.set_outline.specs.Outlined.{outlined};
 ghost use Rattle.tool_words.specs.PlainJobs.{plain_list_job};
 ghost use Rattle.patch_filters.specs.Listed.{front, line_if_selected, listed, number_text, sign, sign_text};
 
@@ -17,7 +17,7 @@ use file_patch::FilePatch;
 use hunk_core::{Side, add_piece};
 use num_text::put_number;
 use outside::{Failed, Sink};
-use patch_set::Outline;
+use set_outline::Outline;
 use target_names::shortened;
 use tool_words::ListJob;
 

@@ -1,5 +1,5 @@
 -- The refusal of a text, and of the file patches of the completed text.
-use Rattle.std.proofs.Common.{◌≡◌, ℕ, ◌+◌, ◌≤◌, Bool, true, false, not, ◌&&◌, if◌then◌else◌, List, [], ◌∷◌, ◌++◌, length, None, Some, Ok, refl, sym, ap, ◌∙◌, arith, length-append}
+use Rattle.std.proofs.Common.{◌≡◌, ℕ, ◌+◌, ◌≤◌, Bool, true, false, not, ◌&&◌, ◌⊎◌, inl, inr, if◌then◌else◌, List, [], ◌∷◌, ◌++◌, length, Option, None, Some, Ok, refl, sym, ap, ◌∙◌, arith, length-append}
 use Rattle.std.specs.Prelude.{◌==◌}
 use Rattle.std.proofs.Math.Dec.{eqb-suc-zero}
 use Rattle.line_list.specs.Lines.{lines}
@@ -9,8 +9,9 @@ use Rattle.file_patch.specs.PlainPatch.{PlainPatch}
 use Rattle.patch_options.specs.PlainJob.{PlainOptions}
 use Rattle.patch_text.specs.Patches.{patches_of}
 use Rattle.patch_set.specs.Asked.{ways_of}
+use Rattle.patch_set.specs.declared.fault.SetFault.{SetFault}
 use Rattle.patch_set.specs.declared.fault.SetFault.TheVariants as faults
-use Rattle.patch_set.specs.Refusals.{first_of, out_many, ed_reverse, reserved, is_too_long, refusal, refusal_of}
+use Rattle.patch_set.specs.Refusals.{first_of, out_many, ed_reverse, reserved, is_too_long, too_long, refusal, refusal_of}
 
 one-byte : (v : Bool) → length (feed_if v) ≤ 1
 one-byte true = omega arith
@@ -37,3 +38,12 @@ read-refusal o text whole ps short is read =
     ap (λ t. refusal_of o t (Ok ps)) is ∙ same-refusal o text ps
     ∙ ap (λ r. refusal_of o text r) (sym read) ∙ ap (λ t. refusal_of o text (patches_of (ways_of o) t)) is
     ∙ ap (λ v. if v then Some faults.TooLong else refusal_of o text (patches_of (ways_of o) (completed text))) (sym short)
+
+long-first : (v : Bool) (r : Option SetFault) (e : SetFault) → (if v then Some faults.TooLong else None) ≡ Some e → (if v then Some faults.TooLong else r) ≡ Some e
+long-first true r e is = is
+long-first false r e is = absurd cc
+
+-- want of memory, or that the text is too long, are its refusal
+pub long-refusal : (o : PlainOptions) (text : List ℕ) (e : SetFault) → (e ≡ faults.Memory) ⊎ (too_long text ≡ Some e) → (e ≡ faults.Memory) ⊎ (refusal o text ≡ Some e)
+long-refusal o text e (inl memory) = inl memory
+long-refusal o text e (inr is) = inr (long-first (is_too_long text) (refusal_of o text (patches_of (ways_of o) (completed text))) e is)

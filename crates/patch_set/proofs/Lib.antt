@@ -4,8 +4,6 @@ pub mod Walked
 pub mod Found
 pub mod Made
 pub mod Completing
-pub mod Outlines
-pub mod Digests
 pub mod InTurn
 pub mod Verdicts
 pub mod OneView

@@ -13,17 +13,13 @@ use Rattle.patch_set.specs.Skipped.{skipped_lines}
 use Rattle.patch_set.specs.Spans.{ArePlaced}
 use Rattle.patch_set.specs.Looks.{is_reserving}
 use Rattle.patch_set.specs.Named.{known_names, output_of}
-use Rattle.patch_set.specs.Naming.{AreNamed}
+use Rattle.patch_set.specs.Naming.{AreNamed, HaveTargets}
 use Rattle.patch_set.specs.Fresh.{AreWhole}
 use Rattle.patch_set.specs.SetView.{SetView, HasTargets, IsSetOf, plain_patches}
 use Rattle.patch_set.specs.Refusals.{reserved}
 use Rattle.patch_set.specs.declared.fault.SetFault.TheVariants as faults
 use Rattle.patch_set.proofs.Named.{named-few, named-count, named-hunks, named-lawful, named-placed, named-plain, named-regions, named-targets}
 use Rattle.patch_set.proofs.Found.{named-fit, output-fit, reserved-named}
-
-none-found : (found : Option FilePatch) → None ≡ option_map (λ q. q.header.opening) found → found ≡ None
-none-found None is = refl
-none-found (Option.Some q) is = absurd cc
 
 has-targets : (o : PlainOptions) (text : List ℕ) (known : List (List ℕ)) (ps : List FilePatch) (v : SetView)
     → v.text ≡ text → AreNamed o text known ps v.patches → v.output ≡ output_of o known → ForSome v.output HasTemps
@@ -53,26 +49,19 @@ set-of o text ps v same ways are out temps none regions at skips =
       names = subst (λ rs. HasTargets o (known_names o rs) v) (sym plain) (has-targets o text known ps v same are out temps none);
     }
 
--- file patches and an output with their targets
-pub record HaveTargets (o : PlainOptions) (text : List ℕ) (ps qs : List FilePatch) (output : Option Target) : Type 0 where
-  pub are : AreNamed o text (known_names o (map (patch_of text) ps)) ps qs
-  pub out : output ≡ output_of o (known_names o (map (patch_of text) ps))
-  pub temps : ForSome output HasTemps
-
-pub have-targets : (o : PlainOptions) (text lent : List ℕ) (ps qs : List FilePatch) (output : Option Target) → lent ≡ text
-    → AreNamed o lent (known_names o (map (patch_of lent) ps)) ps qs → output ≡ output_of o (known_names o (map (patch_of lent) ps))
-    → ForSome output HasTemps → HaveTargets o text ps qs output
-have-targets o text lent ps qs output same are out temps = subst (λ t. HaveTargets o t ps qs output) same (record { are = are; out = out; temps = temps })
+pub none-found : (found : Option FilePatch) → None ≡ option_map (λ q. q.header.opening) found → found ≡ None
+none-found None is = refl
+none-found (Option.Some q) is = absurd cc
 
 -- the set holds these file patches, and this output
 pub made-set : (o : PlainOptions) (text : List ℕ) (ps qs : List FilePatch) (output : Option Target) (v : SetView)
     → v.text ≡ text → v.ways ≡ ways_of o → v.patches ≡ qs → v.output ≡ output → HaveTargets o text ps qs output
-    → None ≡ option_map (λ q. q.header.opening) (find (is_reserving output) qs)
+    → find (is_reserving output) qs ≡ None
     → map region_of ps ≡ regions_of (ways_of o) text → ArePlaced text 0 0 ps → v.skipped ≡ skipped_lines (ways_of o) text → IsSetOf o text (map (patch_of text) ps) v
 made-set o text ps qs output v same ways patches out have none regions at skips =
     set-of o text ps v same ways (subst (λ rs. AreNamed o text (known_names o (map (patch_of text) ps)) ps rs) (sym patches) have.are) (out ∙ have.out)
     (subst (λ x. ForSome x HasTemps) (sym out) have.temps)
-    (ap (λ x. find (is_reserving x) v.patches) out ∙ ap (λ rs. find (is_reserving output) rs) patches ∙ none-found (find (is_reserving output) qs) none) regions at skips
+    (ap (λ x. find (is_reserving x) v.patches) out ∙ ap (λ rs. find (is_reserving output) rs) patches ∙ none) regions at skips
 
 pub kept : (o : PlainOptions) (text : List ℕ) (ps qs : List FilePatch) (output : Option Target) → HaveTargets o text ps qs output → AreWhole (ways_of o) text ps → AreWhole (ways_of o) text qs
 kept o text ps qs output have whole =

@@ -7,7 +7,6 @@ use Rattle.std.proofs.lemmas.List.Elements.{recursion_from_All, All-from_recursi
 use Rattle.hunk_core.specs.declared.Side.{Side}
 use Rattle.hunk_core.specs.declared.Side.TheVariants.{Forward, Reversed}
 use Rattle.hunk_core.specs.PlainHunk.{hunk_of}
-use Rattle.unified_form.specs.declared.skim.OldRange.{OldRange}
 use Rattle.file_patch.specs.declared.Change.{Change}
 use Rattle.file_patch.specs.declared.Change.TheVariants.{Hunks, Script}
 use Rattle.file_patch.specs.declared.FilePatch.{FilePatch}
@@ -18,7 +17,6 @@ use Rattle.target_names.specs.Numbered.{joined_by}
 use Rattle.patch_set.specs.Named.{names_of, targets_of}
 use Rattle.patch_set.specs.Naming.{IsNamed, AreNamed}
 use Rattle.patch_set.specs.SetView.{hunks_in}
-use Rattle.patch_text.specs.Digests.{AreDigests, IsDigest}
 use Rattle.patch_text.specs.Regions.{region_of}
 use Rattle.patch_set.specs.Spans.{IsPlaced, ArePlaced}
 use Rattle.patch_set.proofs.Joined.{joined-append}
@@ -61,7 +59,7 @@ module _ (o : PlainOptions) (text : List ℕ) (known : List (List ℕ)) where
   same-told Forward p q is = is.old_absent
   same-told Reversed p q is = is.new_absent
 
-  same-lawful : (p q : FilePatch) → IsNamed o text known p q → IsLawfulPatch text p → IsLawfulPatch text q
+  pub same-lawful : (p q : FilePatch) → IsNamed o text known p q → IsLawfulPatch text p → IsLawfulPatch text q
   same-lawful p q is lawful = record {
     change = subst (λ c. IsLawfulChange text c) (sym is.change) lawful.change;
     absent = λ side. same-told side p q is ∙ lawful.absent side ∙ ap (is_absent side) (sym (same-plain p q is));
@@ -97,24 +95,6 @@ module _ (o : PlainOptions) (text : List ℕ) (known : List (List ℕ)) where
     same-place start before x y are.0 at.0,
     rw (are.0.span, are.0.change) (named-placed x.span.end (before + row_count x.change) ps qs are.1 at.1),
   )
-
-  same-digest : (p q : FilePatch) (olds : List OldRange) → IsNamed o text known p q → IsDigest text p olds → IsDigest text q olds
-  same-digest p q olds is digest = record {
-    lawful = same-lawful p q is digest.lawful;
-    region = rw (is.header, is.span) digest.region;
-    cut = rw (is.header, is.hunk_spans, is.span) digest.cut;
-    each = rw (is.hunk_spans, is.change) digest.each;
-    some = rw (is.header, is.span) digest.some;
-    high = rw is.span digest.high;
-  }
-
-  pub named-digests : (ps qs : List FilePatch) (olds : List (List OldRange)) → AreNamed o text known ps qs → AreDigests text ps olds → AreDigests text qs olds
-  named-digests [] [] [] are digests = tt
-  named-digests [] [] (own ∷ olds) are digests = absurd digests
-  named-digests [] (y ∷ qs) olds are digests = absurd are
-  named-digests (x ∷ ps) [] olds are digests = absurd are
-  named-digests (x ∷ ps) (y ∷ qs) [] are digests = absurd digests
-  named-digests (x ∷ ps) (y ∷ qs) (own ∷ olds) are digests = (same-digest x y own are.0 digests.0, named-digests ps qs olds are.1 digests.1)
 
   same-region : (p q : FilePatch) → IsNamed o text known p q → region_of q ≡ region_of p
   same-region p q is = rw (is.header, is.hunk_spans, is.span) refl

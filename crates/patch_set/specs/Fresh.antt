@@ -5,7 +5,7 @@ use Rattle.file_patch.specs.declared.FilePatch.{FilePatch}
 use Rattle.file_patch.specs.Absent.{IsLawfulPatch}
 use Rattle.patch_header.specs.declared.ways.Ways.{Ways}
 use Rattle.patch_text.specs.Regions.{region_of, regions_of}
-use Rattle.patch_set.specs.declared.names.Named.{Named}
+use Rattle.patch_set.specs.declared.names.NamedPatches.{NamedPatches}
 use Rattle.patch_set.specs.declared.set.Notes.{Notes}
 use Rattle.target_names.specs.declared.derived.Target.{Target}
 use Rattle.patch_set.specs.Room.{AreBlank}
@@ -29,7 +29,7 @@ pub record AreFirst (ways : Ways) (text : List ℕ) (ps : List FilePatch) (out :
   pub marks : AreBlank ps out n.marks
 
 -- the set of these file patches
-pub record IsUntried (given : List ℕ) (read : Ways) (named : Named) (v : SetView) : Type 0 where
+pub record IsUntried (given : List ℕ) (read : Ways) (named : NamedPatches) (v : SetView) : Type 0 where
   pub text : v.text ≡ given
   pub ways : v.ways ≡ read
   pub patches : v.patches ≡ named.patches.items

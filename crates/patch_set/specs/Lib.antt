@@ -6,8 +6,6 @@ pub mod PlainName
 pub mod Refusals
 pub mod Room
 pub mod SetView
-pub mod Outlined
-pub mod Digested
 pub mod Spans
 pub mod Fresh
 pub mod Skipped

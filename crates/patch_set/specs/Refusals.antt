@@ -25,6 +25,9 @@ first_of (Some f ∷ others) = Some f
 abbrev pub is_too_long : List ℕ → Bool
 is_too_long text = nat_lt 268435456 (length text)
 
+abbrev pub too_long : List ℕ → Option SetFault
+too_long text = if is_too_long text then Some faults.TooLong else None
+
 -- the text isn't empty and has no file patch
 abbrev pub garbage : List ℕ → List PlainPatch → Option SetFault
 garbage text ps = if length ps == 0 && not (length text == 0) then Some faults.Garbage else None

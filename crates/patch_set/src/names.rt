@@ -22,7 +22,7 @@ use target_names::{Numbers, Target, candidates, moved_names};
 
 /// File patches with their targets, and the output's target.
 #[derive(Drop)]
-pub struct Named {
+pub struct NamedPatches {
     pub patches: Vec<FilePatch>,
     pub output: Option<Target>,
 }
@@ -33,7 +33,7 @@ pub fn name_all(
     text: &[u8],
     options: &Options,
     patches: Vec<FilePatch>,
-) -> Result<Named, AllocError>
+) -> Result<NamedPatches, AllocError>
     requires { IsLawful (plain_options options.now) }
     ensures patches { IfOk result (λ named.
         AreNamed (plain_options options.now) text.now (known_names (plain_options options.now) (map (patch_of text.now) patches.items)) patches.items named.patches.items) }
@@ -45,7 +45,7 @@ pub fn name_all(
     let mut numbers = Numbers::new(alloc);
     name_patches(alloc, text, options, &mut numbers, patches.as_mut_slice())?;
     let output = name_output(alloc, options, &mut numbers)?;
-    Ok(Named { patches, output })
+    Ok(NamedPatches { patches, output })
 }
 
 fn name_output(

@@ -9,7 +9,7 @@ ghost use Rattle.patch_set.specs.Refusals.{first_of, garbage, out_many, ed_rever
 ghost use Rattle.patch_set.specs.Looks.{has_script, is_reserving};
 
 use crate::SetFault;
-use crate::names::Named;
+use crate::names::NamedPatches;
 use file_patch::{Change, FilePatch};
 use patch_options::Options;
 use target_names::Target;
@@ -82,7 +82,7 @@ fn has_script(patch: &FilePatch) -> bool
 }
 
 /// The line of the opening of the first file patch for which a name of a temporary would be written.
-pub fn reserved(named: &Named) -> Option<u64>
+pub fn reserved(named: &NamedPatches) -> Option<u64>
     ensures { result ≡ option_map (λ p. p.header.opening) (find (is_reserving named.now.output) named.now.patches.items) }
 {
     let by_output = is_output_reserved(&named.output);

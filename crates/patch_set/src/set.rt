@@ -12,7 +12,7 @@ ghost use Rattle.patch_set.specs.Room.{AreUnmarked, HaveRoom};
 
 use crate::header_name::plain_name;
 use crate::marks::room_if;
-use crate::names::Named;
+use crate::names::NamedPatches;
 use crate::skipped::skipped_lines;
 use file_patch::FilePatch;
 use hunk_core::{Side, Verdict};
@@ -174,7 +174,7 @@ pub fn untried(
     alloc: Global,
     text: Vec<u8>,
     ways: Ways,
-    named: Named,
+    named: NamedPatches,
     marks_asked: bool,
 ) -> Result<PatchSet, AllocError>
     requires { AreWhole ways text.items named.patches.items }
@@ -193,7 +193,7 @@ pub fn untried(
 }
 
 /// The set with these notes.
-fn noted(text: Vec<u8>, ways: Ways, named: Named, notes: Notes) -> PatchSet
+fn noted(text: Vec<u8>, ways: Ways, named: NamedPatches, notes: Notes) -> PatchSet
     requires whole { AreWhole ways text.items named.patches.items }
     requires notes { AreFirst ways text.items named.patches.items named.output notes }
     ensures untried { IsUntried text.items ways named result }

@@ -5,7 +5,8 @@ ghost use Rattle.patch_options.specs.PlainJob.{plain_options, IsLawful};
 use crate::names::has_target;
 use patch_header::Ways;
 use patch_options::{Input, Options, PlanKind};
-use patch_set::{Outline, PatchSet, read_outline, read_set};
+use patch_set::{PatchSet, read_set};
+use set_outline::{Outline, read_outline};
 use patch_text::read_patches;
 use std::alloc::{AllocError, Global};
 

@@ -1,5 +1,5 @@
 use Rattle.hunk_core.proofs.SinkSteps.{HasPut}
-use Rattle.patch_set.specs.Outlined.{outlined}
+use Rattle.set_outline.specs.Outlined.{outlined}
 use Rattle.tool_words.specs.PlainJobs.{plain_list_job}
 use Rattle.patch_filters.specs.Listed.{line_if_selected}
 use Rattle.hunk_core.proofs.Loops.{up_to}

@@ -9,29 +9,32 @@ use Rattle.patch_set.specs.Asked.{ways_of}
 use Rattle.patch_set.specs.SetView.{Meets}
 use Rattle.patch_set.specs.Spans.{ArePlaced}
 use Rattle.patch_set.proofs.InTurn.{are-placed}
-use Rattle.patch_set.proofs.Completing.{completed-length, read-refusal}
+use Rattle.patch_set.proofs.Completing.{completed-length, long-refusal, read-refusal}
 use Rattle.patch_set.proofs.reading.read_set.Goals as goal
 
 pub read_patches-requires : goal.read_patches-requires
-read_patches-requires c = omega (arith, completed-length c.args.text.items, ap length c.deref.ensures.value, ap length c.in_ok-text.ensures)
+read_patches-requires c = omega (arith, completed-length c.args.text.items, ap length c.deref.ensures.value, ap length c.in-Ok.ensures.whole, c.in-Ok.ensures.short)
 
 pub returns-clause-refused : goal.returns-clause-refused
 returns-clause-refused c =
-    let text = c.in_ok-text.text.items in
+    let text = c.in-Ok.text.items in
     let o = plain_options c.args.options.now in
     let ps = map (patch_of text) c.in_ok-patches.patches.items in
     let read : patches_of (ways_of o) text ≡ Ok ps =
     subst (λ w. patches_of w text ≡ Ok ps) c.ways_of.ensures
     (subst (λ t. patches_of c.ways_of.result t ≡ Ok (map (patch_of t) c.in_ok-patches.patches.items)) c.deref.ensures.value c.in_ok-patches.ensures.exact) in
     subst (λ r. Meets r c.set_of.result)
-    (read-refusal o c.args.text.items text ps (le-ltb 268435456 (length c.args.text.items) (omega arith)) c.in_ok-text.ensures read) c.set_of.ensures.refused
+    (read-refusal o c.args.text.items text ps (le-ltb 268435456 (length c.args.text.items) c.in-Ok.ensures.short) c.in-Ok.ensures.whole read) c.set_of.ensures.refused
+
+pub returns-in-Err-clause-refused : goal.returns-in-Err-clause-refused
+returns-in-Err-clause-refused c = long-refusal (plain_options c.args.options.now) c.args.text.items c.in-Err.fault c.in-Err.ensures.refused
 
 pub set_of-requires-clause-whole : goal.set_of-requires-clause-whole
 set_of-requires-clause-whole c =
     let ps = c.in_ok-patches.patches.items in
     record {
       lawful = subst (λ t. All (IsLawfulPatch t) c.in_ok-patches.patches.items) c.deref.ensures.value c.in_ok-patches.ensures.lawful;
-      regions = subst (λ w. map region_of ps ≡ regions_of w c.in_ok-text.text.items) c.ways_of.ensures
+      regions = subst (λ w. map region_of ps ≡ regions_of w c.in-Ok.text.items) c.ways_of.ensures
           (subst (λ t. map region_of ps ≡ regions_of c.ways_of.result t) c.deref.ensures.value c.in_ok-patches.ensures.regions);
       placed = subst (λ t. ArePlaced t 0 0 c.in_ok-patches.patches.items) c.deref.ensures.value (are-placed _ _ _ c.in_ok-patches.ensures.are);
       count = c.in_ok-patches.ensures.count;

@@ -5,16 +5,16 @@ use Rattle.patch_options.specs.PlainJob.{plain_options}
 use Rattle.patch_text.specs.Digests.{digests_of, plain_digests}
 use Rattle.patch_set.specs.Asked.{ways_of}
 use Rattle.patch_set.specs.SetView.{Meets}
-use Rattle.patch_set.proofs.Completing.{completed-length}
-use Rattle.patch_set.proofs.Outlines.{digest-refusal}
-use Rattle.patch_set.proofs.digest.read_digest.Goals as goal
+use Rattle.patch_set.proofs.Completing.{completed-length, long-refusal}
+use Rattle.set_outline.proofs.Outlines.{digest-refusal}
+use Rattle.set_outline.proofs.digest.read_digest.Goals as goal
 
 pub read_digests-requires : goal.read_digests-requires
-read_digests-requires c = omega (arith, completed-length c.args.text.items, ap length c.deref.ensures.value, ap length c.in_ok-text.ensures)
+read_digests-requires c = omega (arith, completed-length c.args.text.items, ap length c.deref.ensures.value, ap length c.in-Ok.ensures.whole, c.in-Ok.ensures.short)
 
 pub returns-clause-refused : goal.returns-clause-refused
 returns-clause-refused c =
-    let text = c.in_ok-text.text.items in
+    let text = c.in-Ok.text.items in
     let o = plain_options c.args.options.now in
     let d = c.in_ok-digests.digests in
     let ps = map (patch_of text) d.patches.items in
@@ -22,4 +22,7 @@ returns-clause-refused c =
     subst (λ w. digests_of w text ≡ Ok (plain_digests text d)) c.ways_of.ensures
     (subst (λ t. digests_of c.ways_of.result t ≡ Ok (plain_digests t d)) c.deref.ensures.value c.in_ok-digests.ensures.exact) in
     subst (λ r. Meets r c.digest_of.result)
-    (digest-refusal o c.args.text.items text ps (map (λ os. os.items) d.olds.items) (le-ltb 268435456 (length c.args.text.items) (omega arith)) c.in_ok-text.ensures read) c.digest_of.ensures.refused
+    (digest-refusal o c.args.text.items text ps (map (λ os. os.items) d.olds.items) (le-ltb 268435456 (length c.args.text.items) c.in-Ok.ensures.short) c.in-Ok.ensures.whole read) c.digest_of.ensures.refused
+
+pub returns-in-Err-clause-refused : goal.returns-in-Err-clause-refused
+returns-in-Err-clause-refused c = long-refusal (plain_options c.args.options.now) c.args.text.items c.in-Err.fault c.in-Err.ensures.refused

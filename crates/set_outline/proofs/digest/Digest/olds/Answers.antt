@@ -4,9 +4,9 @@ use Rattle.std.proofs.lemmas.List.{length-map}
 use Rattle.std.proofs.lemmas.Option.{slice_get-map}
 use Rattle.unified_form.specs.declared.skim.OldRange.{OldRange}
 use Rattle.line_list.proofs.Elements.{found}
-use Rattle.patch_set.specs.Digested.{DigestView}
-use Rattle.patch_set.proofs.Digests.{digests-count}
-use Rattle.patch_set.proofs.digest.Digest.olds.Goals as goal
+use Rattle.set_outline.specs.Digested.{DigestView}
+use Rattle.set_outline.proofs.Digests.{digests-count}
+use Rattle.set_outline.proofs.digest.Digest.olds.Goals as goal
 
 pub index-requires : goal.index-requires
 index-requires c =

@@ -4,19 +4,14 @@ ghost use Rattle.std.specs.Option.{ForSome};
 ghost use Rattle.file_patch.specs.Absent.{IsLawfulPatch};
 ghost use Rattle.file_patch.specs.PlainPatch.{header_of, patch_of};
 ghost use Rattle.patch_options.specs.PlainJob.{plain_options, IsLawful};
-ghost use Rattle.patch_set.specs.Outlined.{IsOutline};
+ghost use Rattle.set_outline.specs.Outlined.{IsOutline};
 ghost use Rattle.patch_set.specs.PlainName.{plain_name};
-ghost use Rattle.patch_set.specs.Refusals.{refusal, refusal_of, reserved};
+ghost use Rattle.patch_set.specs.Refusals.{refusal, refusal_of};
 ghost use Rattle.patch_set.specs.SetView.{Meets};
 
-use crate::SetFault;
-use crate::asked::ways_of;
-use crate::header_name::plain_name;
-use crate::names::name_all;
-use crate::reading::{LONGEST, completed};
-use crate::refusals::{refused, reserved};
 use file_patch::FilePatch;
 use patch_options::Options;
+use patch_set::{SetFault, give_targets, plain_name, ways_of, whole_text};
 use patch_text::read_outlines;
 use std::alloc::Global;
 use std::marker::Model;
@@ -31,7 +26,7 @@ pub struct Outline {
 impl Model for Outline {
     ghost use Rattle.std.specs.Prelude.{All};
     ghost use Rattle.file_patch.specs.Absent.{IsLawfulPatch};
-    ghost use Rattle.patch_set.specs.Outlined.{OutlineView};
+    ghost use Rattle.set_outline.specs.Outlined.{OutlineView};
 
     ghost Value = { OutlineView };
 
@@ -66,10 +61,10 @@ pub fn read_outline(alloc: Global, text: Vec<u8>, options: &Options) -> Result<O
     ensures refused { Meets (refusal (plain_options options.now) text.items) result }
     ensures memory { result ≡ Err SetFault.Memory → length text.items ≤ 268435456 }
 {
-    if text.len() > LONGEST {
-        return Err(SetFault::TooLong);
-    }
-    let text = completed(text)?;
+    let text = match whole_text(text) {
+        Ok(text) => text,
+        Err(fault) => return Err(fault),
+    };
     let patches = read_outlines(alloc, &text, ways_of(options))?;
     outline_of(alloc, text, options, patches)
 }
@@ -88,31 +83,11 @@ fn outline_of(
     ensures plain { IfOk result (λ o. map (patch_of text.items) o.patches ≡ map (patch_of text.items) patches.items) }
     ensures refused { Meets (refusal_of (plain_options options.now) text.items (Ok (map (patch_of text.items) patches.items))) result }
 {
-    match refused(&text, options, &patches) {
-        Some(fault) => Err(fault),
-        None => named_outline(alloc, text, options, patches),
-    }
-}
-
-/// The same, where the names alone are looked at.
-fn named_outline(
-    alloc: Global,
-    text: Vec<u8>,
-    options: &Options,
-    patches: Vec<FilePatch>,
-) -> Result<Outline, SetFault>
-    requires options { IsLawful (plain_options options.now) }
-    requires lawful { All (IsLawfulPatch text.items) patches.items }
-    ensures text { IfOk result (λ o. o.text ≡ text.items) }
-    ensures plain { IfOk result (λ o. map (patch_of text.items) o.patches ≡ map (patch_of text.items) patches.items) }
-    ensures refused { Meets (reserved (plain_options options.now) (map (patch_of text.items) patches.items)) result }
-{
-    let named = name_all(alloc, &text, options, patches)?;
-    match reserved(&named) {
-        Some(line) => Err(SetFault::Reserved { line }),
-        None => Ok(Outline {
+    match give_targets(alloc, &text, options, patches) {
+        Ok(named) => Ok(Outline {
             text,
             patches: named.patches,
         }),
+        Err(fault) => Err(fault),
     }
 }

@@ -5,19 +5,14 @@ ghost use Rattle.file_patch.specs.PlainPatch.{header_of, patch_of};
 ghost use Rattle.patch_options.specs.PlainJob.{plain_options, IsLawful};
 ghost use Rattle.patch_text.specs.Digests.{AreDigests};
 ghost use Rattle.patch_text.specs.Regions.{region_of};
-ghost use Rattle.patch_set.specs.Digested.{IsDigestOf};
+ghost use Rattle.set_outline.specs.Digested.{IsDigestOf};
 ghost use Rattle.patch_set.specs.PlainName.{plain_name};
-ghost use Rattle.patch_set.specs.Refusals.{refusal, refusal_of, reserved};
+ghost use Rattle.patch_set.specs.Refusals.{refusal, refusal_of};
 ghost use Rattle.patch_set.specs.SetView.{Meets};
 
-use crate::SetFault;
-use crate::asked::ways_of;
-use crate::header_name::plain_name;
-use crate::names::name_all;
-use crate::reading::{LONGEST, completed};
-use crate::refusals::{refused, reserved};
 use file_patch::FilePatch;
 use patch_options::Options;
+use patch_set::{SetFault, give_targets, plain_name, ways_of, whole_text};
 use patch_text::{Digests, read_digests};
 use std::alloc::Global;
 use std::marker::Model;
@@ -34,7 +29,7 @@ pub struct Digest {
 impl Model for Digest {
     ghost use Rattle.std.specs.Prelude.{map};
     ghost use Rattle.patch_text.specs.Digests.{AreDigests};
-    ghost use Rattle.patch_set.specs.Digested.{DigestView};
+    ghost use Rattle.set_outline.specs.Digested.{DigestView};
 
     ghost Value = { DigestView };
 
@@ -84,10 +79,10 @@ pub fn read_digest(alloc: Global, text: Vec<u8>, options: &Options) -> Result<Di
     ensures refused { Meets (refusal (plain_options options.now) text.items) result }
     ensures memory { result ≡ Err SetFault.Memory → length text.items ≤ 268435456 }
 {
-    if text.len() > LONGEST {
-        return Err(SetFault::TooLong);
-    }
-    let text = completed(text)?;
+    let text = match whole_text(text) {
+        Ok(text) => text,
+        Err(fault) => return Err(fault),
+    };
     let digests = read_digests(alloc, &text, ways_of(options))?;
     digest_of(alloc, text, options, digests)
 }
@@ -109,35 +104,12 @@ fn digest_of(
     ensures are { IfOk result (λ d. AreDigests text.items d.patches d.olds) }
     ensures refused { Meets (refusal_of (plain_options options.now) text.items (Ok (map (patch_of text.items) digests.patches.items))) result }
 {
-    match refused(&text, options, &digests.patches) {
-        Some(fault) => Err(fault),
-        None => named_digest(alloc, text, options, digests),
-    }
-}
-
-/// The same, where the names alone are looked at.
-fn named_digest(
-    alloc: Global,
-    text: Vec<u8>,
-    options: &Options,
-    digests: Digests,
-) -> Result<Digest, SetFault>
-    requires options { IsLawful (plain_options options.now) }
-    requires are { AreDigests text.items digests.patches.items (map (λ os. os.items) digests.olds.items) }
-    ensures text { IfOk result (λ d. d.text ≡ text.items) }
-    ensures plain { IfOk result (λ d. map (patch_of text.items) d.patches ≡ map (patch_of text.items) digests.patches.items) }
-    ensures olds { IfOk result (λ d. d.olds ≡ map (λ os. os.items) digests.olds.items) }
-    ensures regions { IfOk result (λ d. map region_of d.patches ≡ map region_of digests.patches.items) }
-    ensures are { IfOk result (λ d. AreDigests text.items d.patches d.olds) }
-    ensures refused { Meets (reserved (plain_options options.now) (map (patch_of text.items) digests.patches.items)) result }
-{
-    let named = name_all(alloc, &text, options, digests.patches)?;
-    match reserved(&named) {
-        Some(line) => Err(SetFault::Reserved { line }),
-        None => Ok(Digest {
+    match give_targets(alloc, &text, options, digests.patches) {
+        Ok(named) => Ok(Digest {
             text,
             patches: named.patches,
             olds: digests.olds,
         }),
+        Err(fault) => Err(fault),
     }
 }

@@ -1,0 +1,43 @@
+use Rattle.std.proofs.Common.{◌≡◌, ◌⊎◌, None, Some, Ok, map, subst, sym, ap, ◌∙◌}
+use Rattle.file_patch.specs.PlainPatch.{patch_of}
+use Rattle.patch_options.specs.PlainJob.{plain_options}
+use Rattle.patch_set.specs.declared.fault.SetFault.TheVariants as faults
+use Rattle.patch_set.specs.Fresh.{AreWhole}
+use Rattle.patch_set.specs.Naming.{HaveTargets}
+use Rattle.patch_set.specs.Refusals.{refusal_of}
+use Rattle.patch_set.specs.Skipped.{skipped_lines}
+use Rattle.patch_set.proofs.Made.{kept, made-set}
+use Rattle.patch_set.proofs.reading.set_of.Goals as goal
+
+pub untried-requires : goal.untried-requires
+untried-requires c =
+    let o = plain_options c.args.options.now in
+    let named = c.in-Ok.named in
+    subst (λ w. AreWhole w c.args.text.items named.patches.items) (sym c.ways_of.ensures)
+    (kept o c.args.text.items c.args.patches.items named.patches.items named.output
+    (subst (λ t. HaveTargets o t c.args.patches.items named.patches.items named.output) c.deref.ensures.value c.in-Ok.ensures.targets) c.requires.whole)
+
+pub returns-in-Err-clause-refused : goal.returns-in-Err-clause-refused
+returns-in-Err-clause-refused c =
+    subst (λ t. (c.in-Err.fault ≡ faults.Memory) ⊎ (refusal_of (plain_options c.args.options.now) t (Ok (map (patch_of t) c.args.patches.items)) ≡ Some c.in-Err.fault))
+    c.deref.ensures.value c.in-Err.ensures.refused
+
+pub returns-in_ok-untried-in-Ok-clause-refused : goal.returns-in_ok-untried-in-Ok-clause-refused
+returns-in_ok-untried-in-Ok-clause-refused c =
+    subst (λ t. refusal_of (plain_options c.args.options.now) t (Ok (map (patch_of t) c.args.patches.items)) ≡ None) c.deref.ensures.value c.in-Ok.ensures.refused
+
+pub returns-in_ok-untried-in-Ok-clause-set : goal.returns-in_ok-untried-in-Ok-clause-set
+returns-in_ok-untried-in-Ok-clause-set c =
+    let o = plain_options c.args.options.now in
+    let named = c.in-Ok.named in
+    let is = c.in_ok-untried-in-Ok.ensures.untried in
+    made-set o c.args.text.items c.args.patches.items named.patches.items named.output
+    c.in_ok-untried-in-Ok.field-0 is.text (is.ways ∙ c.ways_of.ensures) is.patches is.output
+    (subst (λ t. HaveTargets o t c.args.patches.items named.patches.items named.output) c.deref.ensures.value c.in-Ok.ensures.targets)
+    c.in-Ok.ensures.lasting c.requires.whole.regions c.requires.whole.placed (is.skipped ∙ ap (λ w. skipped_lines w c.args.text.items) c.ways_of.ensures)
+
+pub returns-in_ok-untried-in-Ok-clause-fresh : goal.returns-in_ok-untried-in-Ok-clause-fresh
+returns-in_ok-untried-in-Ok-clause-fresh c = c.in_ok-untried-in-Ok.ensures.untried.fresh
+
+pub returns-in_ok-untried-in-Ok-clause-whole : goal.returns-in_ok-untried-in-Ok-clause-whole
+returns-in_ok-untried-in-Ok-clause-whole c = c.in_ok-untried-in-Ok.ensures.untried.whole

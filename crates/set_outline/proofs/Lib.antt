@@ -1,0 +1,2 @@
+mod Outlines
+pub mod Digests
