@@ -14,7 +14,8 @@ ghost use Rattle.run_answers.specs.Reasons.{refusal_line};
 ghost use Rattle.patch_cli.specs.Worlds.{world, TellsFiles, TellsLeft, reads_source, uses_scratch};
 ghost use Rattle.planned_run.specs.Scratches.{has_scratch};
 ghost use Rattle.planned_run.specs.Finishes.{CanApply, Finishes};
-ghost use Rattle.patch_cli.specs.Carries.{Carries, NoneFailed, IsComplete, why_of, receipt_of};
+ghost use Rattle.run_outcome.specs.Answer.{why_of, receipt_of};
+ghost use Rattle.patch_cli.specs.Carries.{Carries, NoneFailed, IsComplete};
 
 use crate::opening::open;
 use outside::{Scratch, Sink, Source, Tree};
@@ -24,17 +25,8 @@ use patch_run::Applied;
 use patch_set::PatchSet;
 use planned_run::apply;
 use run_answers::{Why, report};
+use run_outcome::{Exit, exit_of};
 use std::alloc::Global;
-
-/// How a run ends.
-#[derive(Drop)]
-pub struct Exit {
-    /// 0 for `Done`, 1 for `Rejected`, else 2.
-    pub status: u8,
-    pub why: Why,
-    /// The receipt, for `Done` and `Rejected`.
-    pub applied: Option<Applied>,
-}
 
 /// Does all that the program does. `words[0]` is the tool.
 ///
@@ -85,40 +77,6 @@ pub fn run<T: Tree, C: Scratch, I: Source, O: Sink, E: Sink>(
     let exit = exit_of(ended);
     let _reported = report(err, words, exit.why);
     (exit, scratch)
-}
-
-/// How a run ends that came to its end, or stopped.
-pub fn exit_of(ended: Result<Applied, Why>) -> Exit
-    ensures why { result.why ≡ why_of ended }
-    ensures applied { result.applied ≡ receipt_of ended }
-    ensures status { result.status ≡ exit_status result.why }
-{
-    match ended {
-        Ok(applied) => {
-            let why = end_of(&applied);
-            Exit {
-                status: why.status(),
-                why,
-                applied: Some(applied),
-            }
-        }
-        Err(why) => Exit {
-            status: why.status(),
-            why,
-            applied: None,
-        },
-    }
-}
-
-/// The answer where every file patch had its turn.
-fn end_of(applied: &Applied) -> Why
-    ensures { result ≡ why_of (Ok applied.now) }
-{
-    if applied.status() == 0 {
-        Why::Done
-    } else {
-        Why::Rejected
-    }
 }
 
 /// Reads the words and the patch text, and carries out its file patches.
