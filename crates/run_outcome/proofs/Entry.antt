@@ -15,14 +15,14 @@ module _ {t w : TreeView} {a b : ScratchView} {c d : SinkView} (same : IsAsAtEnt
   pub nothing_yet : (f : Files) (o : Outcome) → t.told ≡ Some f → FirstPart t w c d o.effects o.text
   nothing_yet f o told = record {
     tells = λ f g was now. (zero, omega arith, subst (λ (x : Files). SameLasting f x) (same_Some _ _ (sym was ∙ sym same.told ∙ now)) (lasting-same f));
-    said = λ before now. inr (zero, ap (λ (x : SinkView). x.told) same.out ∙ now ∙ ap (λ (l : List ℕ). Some l) (sym (append-nil b)));
+    said = λ before now. inr (zero, ap (λ (x : SinkView). x.told) same.out ∙ now ∙ ap (λ (l : List ℕ). Some l) (sym (append-nil before)));
   }
 
   -- a refusal leaves the files, and says nothing
   pub refused_so : (why : Why) (f : Files) → t.told ≡ Some f → IsAnswer why None f w c d (refused why f)
   refused_so why f told = record {
     is = refl;
-    text = λ before now. ap (λ (x : SinkView). x.told) same.out ∙ now ∙ ap (λ (l : List ℕ). Some l) (sym (append-nil b));
+    text = λ before now. ap (λ (x : SinkView). x.told) same.out ∙ now ∙ ap (λ (l : List ℕ). Some l) (sym (append-nil before));
     files = same.told ∙ told;
     made = lasting-same f;
     applied = refl;
