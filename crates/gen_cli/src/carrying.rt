@@ -31,27 +31,6 @@ use tool_words::GenJob;
 pub fn carry_out<T: Tree, C: Scratch, O: Sink>(
     alloc: Global,
     job: GenJob,
-    mut work: Work,
-    tree: &mut T,
-    scratch: C,
-    out: &mut O,
-) -> (Result<Applied, Why>, C)
-    requires options { plain_options work.options ≡ options_for (plain_gen_job job) }
-    requires made { AreMade (plain_gen_job job) work.places.items (map (λ v. v.items) work.files.items) }
-    requires set { IsMadeSet (plain_gen_job job) work.set }
-    requires hunks { work.hunks ≡ (made job.seed job.files job.lines).hunks }
-    requires quiet { IsQuiet (T.view tree.old) }
-    ensures carries { Carries (Ok (plain_gen_job job)) (world (T.view tree.old) (C.view scratch) (O.view out.old)) (world (T.view tree.new) (C.view result.1) (O.view out.new)) (why_of result.0) (receipt_of result.0) }
-    ensures scratch { has_scratch job.plan ≡ false → result.1 ≡ scratch }
-    ensures rest { O.same_rest out.old out.new }
-{
-    put_and_apply(alloc, job, &mut work, tree, scratch, out)
-}
-
-/// The same over what is lent: it is let go above, once, and not at each of the exits.
-fn put_and_apply<T: Tree, C: Scratch, O: Sink>(
-    alloc: Global,
-    job: GenJob,
     work: &mut Work,
     tree: &mut T,
     scratch: C,

@@ -100,7 +100,12 @@ fn run_settled<T: Tree, C: Scratch, O: Sink>(
     ensures rest { O.same_rest out.old out.new }
 {
     match make_ready(alloc, job) {
-        Ok(work) => carry_out(alloc, job, work, tree, scratch, out),
+        Ok(mut work) => {
+            let ended = carry_out(alloc, job, &mut work, tree, scratch, out);
+            // (let go here, and not at the exit, where it would be proved field by field beside the devices)
+            drop(work);
+            ended
+        }
         Err(why) => (Err(why), scratch),
     }
 }

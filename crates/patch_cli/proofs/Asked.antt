@@ -1,5 +1,5 @@
 -- What the reading of words and patch text gives: a set that is to be carried out, or an early end.
-use Rattle.std.proofs.Common.{◌≡◌, true, List, ℕ, length, Some, None, Result, Ok, Err, IsErrAnd, IfErr, refl, sym, ◌∙◌, ap, subst}
+use Rattle.std.proofs.Common.{◌≡◌, true, List, ℕ, length, Some, None, Result, Ok, Err, refl, sym, ◌∙◌, ap, subst}
 use Rattle.std.proofs.lemmas.List.{length-map, length-replicate}
 use Rattle.outside.specs.Files.{Files}
 use Rattle.outside.specs.TreeView.{TreeView, Rises}
@@ -74,12 +74,6 @@ asked_so o text v t s lawful answer read fresh free a c = record {
 
 abbrev pub EndsEarly : Why → Result PlainJob WordFault → TreeView → TreeView → SourceView → SourceView → Type 0
 EndsEarly why job t u s r = (a : ScratchView) (c : SinkView) → StopsEarly why job (world t a s c) (world u a r c)
-
--- an exit with a fault that is handed on
-pub fails_early : {X : Type 0} (result : Result X Why) (e : Why) (job : Result PlainJob WordFault) (t u : TreeView) (s r : SourceView) → IsErrAnd result (λ d. d ≡ e) → EndsEarly e job t u s r
-    → IfErr result (λ why. EndsEarly why job t u s r)
-fails_early (Ok x) e job t u s r is early = absurd is
-fails_early (Err d) e job t u s r is early = λ a c. subst (λ (why : Why). StopsEarly why job (world t a s c) (world u a r c)) (sym is) (early a c)
 
 -- a tree that couldn't be settled
 pub settle_stops : (why : Why) (job : Result PlainJob WordFault) (t u : TreeView) (s : SourceView) → why ≡ TreeFault → Rises t u → EndsEarly why job t u s s

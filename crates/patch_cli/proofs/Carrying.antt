@@ -30,7 +30,7 @@ use Rattle.run_outcome.specs.Answer.{IsAnswer}
 use Rattle.run_outcome.proofs.Matching.{cut-match}
 use Rattle.run_outcome.proofs.Receipts.{memory_end, receipt_end, receipt_fault}
 use Rattle.patch_cli.specs.Answers.{Sort, sort_of, IsEarly}
-use Rattle.patch_cli.specs.Answers.Sort.{ended, unread, starved}
+use Rattle.patch_cli.specs.Answers.Sort.{ended}
 use Rattle.patch_cli.specs.Command.{Reads, command, on_job}
 use Rattle.patch_cli.specs.Worlds.{World, TellsFiles, TellsLeft, TellsInput, AsksFor, reads_source, pages_all}
 use Rattle.patch_cli.specs.Causes.{HasCause}

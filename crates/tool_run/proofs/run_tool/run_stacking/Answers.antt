@@ -1,4 +1,3 @@
-use Rattle.std.proofs.Common.{map, string_bytes}
 use Rattle.run_answers.proofs.Writes.{writes_part}
 use Rattle.run_outcome.proofs.Written.{writes_whole}
 use Rattle.tool_run.proofs.run_tool.run_stacking.Goals as goal
