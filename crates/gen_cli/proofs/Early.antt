@@ -19,7 +19,7 @@ use Rattle.run_answers.specs.Worlds.{World, world}
 use Rattle.run_answers.proofs.Opens.{opens_none}
 use Rattle.gen_law.specs.Plain.{TakesNames}
 use Rattle.gen_law.proofs.Free.{made-free}
-use Rattle.patch_cli.specs.Carries.{HasReceipt}
+use Rattle.run_outcome.specs.Answer.{HasReceipt}
 use Rattle.gen_cli.specs.Jobs.{options_for}
 use Rattle.gen_cli.specs.Command.{command, patch_text}
 use Rattle.gen_cli.specs.Causes.{HasCause}

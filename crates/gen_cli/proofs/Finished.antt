@@ -30,8 +30,8 @@ use Rattle.tool_words.specs.PlainJobs.{PlainGenJob}
 use Rattle.run_answers.specs.declared.why.Why.{Why}
 use Rattle.run_answers.specs.declared.why.Why.TheVariants.{Done, Rejected, LongLine, FileTooLong, WriteFault, TreeFault, Memory}
 use Rattle.run_answers.specs.Answers.{is_fault, is_own, of_run, is_through}
-use Rattle.patch_cli.specs.Command.{end_of, receipt_if}
-use Rattle.patch_cli.specs.Carries.{HasReceipt}
+use Rattle.run_outcome.specs.Outcome.{end_of, receipt_if}
+use Rattle.run_outcome.proofs.Receipts.{receipt_end, receipt_fault}
 use Rattle.planned_run.specs.Finishes.{IsToldTo, HasPlanCause, LeavesVerdicts, Finishes, verdicts_of}
 use Rattle.planned_run.specs.Finishes as finishes
 use Rattle.gen_cli.specs.Jobs.{options_for}
@@ -70,15 +70,6 @@ module _ (j : PlainGenJob) (v : SetView) (t w : TreeView) (a b : ScratchView) (c
   cut_quiet (runs.FileTooLong count) quiet is = quiet
   cut_quiet (runs.Disagree want got) quiet is = absurd (false≢true is)
   cut_quiet runs.Memory quiet is = absurd (false≢true is)
-
-  cut_receipt : (e : RunFault) → HasReceipt (of_run e) None
-  cut_receipt runs.Tree = refl
-  cut_receipt runs.Write = refl
-  cut_receipt runs.Scratch = refl
-  cut_receipt (runs.LongLine line count) = refl
-  cut_receipt (runs.FileTooLong count) = refl
-  cut_receipt (runs.Disagree want got) = refl
-  cut_receipt runs.Memory = refl
 
   cut_tidy : (e : RunFault) → TidyAfter {R = Receipt} (Err e) t w → is_fault (of_run e) ≡ false → IsTidy t w
   cut_tidy runs.Tree tidy is = absurd (false≢true (sym is))
@@ -124,7 +115,7 @@ module _ (j : PlainGenJob) (v : SetView) (t w : TreeView) (a b : ScratchView) (c
     sink = does.sink;
     cause = cut_cause e does.cause;
     quiet = cut_quiet e does.quiet;
-    receipt = cut_receipt e;
+    receipt = receipt_fault e;
     answers = λ f told. cut_answers f e (does.cut f told);
     moments = does.moments;
     starved = λ is paged. does.starved (cut_memory e is) paged;
@@ -150,10 +141,6 @@ made_on {t = t} {w = w} es made same = subst (λ (l : List Effect). HasMade t w 
 end_cause : (bad : Bool) (j : PlainGenJob) (t w : TreeView) (a b : ScratchView) (c d : SinkView) → HasEndCause (if bad then Rejected else Done) j t w a b c d
 end_cause true j t w a b c d = tt
 end_cause false j t w a b c d = tt
-
-end_receipt : (bad : Bool) (r : Receipt) → r.is_bad ≡ bad → HasReceipt (if bad then Rejected else Done) (Some r)
-end_receipt true r is = is
-end_receipt false r is = is
 
 end_own : (bad : Bool) → is_own (if bad then Rejected else Done) ≡ true
 end_own true = refl
@@ -252,7 +239,7 @@ module _ (j : PlainGenJob) (v : SetView) (t u w : TreeView) (a b : ScratchView) 
     sink = sink_passes_both does.sink tells.sink;
     cause = end_cause r.is_bad j t w a b c d;
     quiet = λ is. untouched_quiet tells.tree does.quiet;
-    receipt = end_receipt r.is_bad r refl;
+    receipt = receipt_end r.is_bad r refl;
     answers = λ f told. subst (λ own. RunAnswers own (Ok r) t w c d (run_in j v f) (ending_in j v f)) (sym (end_own r.is_bad)) (whole f told r tells.same tells.tree tells.written);
     moments = λ f told. (made_all f told tells.tree).since;
     starved = λ is. absurd (cc);

@@ -1,5 +1,5 @@
 -- The files that are put, and the run over them, as one run.
-use Rattle.std.proofs.Common.{◌≡◌, ◌⊎◌, inl, inr, ⊎_elim, ℕ, zero, List, ◌++◌, length, Bool, true, false, if◌then◌else◌, Option, None, Some, Result, Ok, Err, refl, sym, ◌∙◌, ap, subst}
+use Rattle.std.proofs.Common.{◌≡◌, ◌⊎◌, inl, inr, ⊎_elim, ℕ, zero, List, ◌++◌, length, Bool, true, false, Option, None, Some, Result, Ok, Err, refl, sym, ◌∙◌, ap, subst}
 use Rattle.std.proofs.lemmas.Bool.{false≢true}
 use Rattle.std.proofs.lemmas.List.{append-nil, length-map}
 use Rattle.hunk_core.specs.Reading.{Fault}
@@ -29,10 +29,11 @@ use Rattle.run_answers.specs.Answers.{is_ended, is_own, is_early, of_run}
 use Rattle.run_answers.specs.Moments.{FirstPart, LeavesAllowed}
 use Rattle.run_answers.specs.Worlds.{world}
 use Rattle.planned_run.specs.Scratches.{scratch_behind_all}
-use Rattle.patch_cli.specs.Command.{Outcome, items_for, run_for}
-use Rattle.patch_cli.specs.Carries.{HasReceipt, why_of, receipt_of}
+use Rattle.run_outcome.specs.Outcome.{Outcome, items_for, run_for}
+use Rattle.run_outcome.specs.Answer.{HasReceipt, why_of, receipt_of}
+use Rattle.run_outcome.proofs.Matching.{cut-match, run-match}
+use Rattle.run_outcome.proofs.Receipts.{memory_end}
 use Rattle.planned_run.specs.Finishes.{IsNotBegun, IsToldTo}
-use Rattle.patch_cli.proofs.Asked.{cut-match, run-match}
 use Rattle.gen_cli.specs.Jobs.{options_for}
 use Rattle.gen_cli.specs.Command.{command, file_puts, patch_text, on_patches, on_refusal, run_over, told_of}
 use Rattle.gen_cli.specs.Worlds.{Tells}
@@ -97,12 +98,8 @@ not_early ScratchFault j t w a b c d cause is = false≢true is
 not_early (Disagree want got) j t w a b c d cause is = false≢true is
 not_early Memory j t w a b c d cause is = false≢true is
 
-end_memory : (bad : Bool) → (if bad then Rejected else Done) ≡ Memory → ⊥
-end_memory true is = absurd (cc)
-end_memory false is = absurd (cc)
-
 memory_result : (result : Result Receipt Why) → why_of result ≡ Memory → result ≡ Err Memory
-memory_result (Ok r) is = absurd (end_memory r.is_bad is)
+memory_result (Ok r) is = absurd (memory_end r.is_bad is)
 memory_result (Err why) is = ap (λ (x : Why). Err x) is
 
 module _ (j : PlainGenJob) (v : SetView) (t : TreeView) (a : ScratchView) (c : SinkView) (set : IsMadeSet j v) where

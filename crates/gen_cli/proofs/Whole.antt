@@ -1,9 +1,7 @@
 -- What a run promises, from what its steps say.
-use Rattle.std.proofs.Common.{◌≡◌, ◌⊎◌, inl, inr, ⊎_elim, ℕ, zero, List, length, true, false, Bool, Option, Some, None, Result, Ok, Err, refl, sym, ◌∙◌, ap, subst, arith}
+use Rattle.std.proofs.Common.{◌≡◌, ◌⊎◌, inl, inr, ⊎_elim, ℕ, List, length, true, false, Bool, Option, Some, None, Result, Ok, Err, refl, sym, ◌∙◌, subst}
 use Rattle.std.proofs.lemmas.Bool.{false≢true}
-use Rattle.std.proofs.lemmas.List.{append-nil}
-use Rattle.std.proofs.lemmas.Option.{same_Some}
-use Rattle.outside.specs.Files.{Files, SameLasting, lasting-same}
+use Rattle.outside.specs.Files.{Files}
 use Rattle.outside.specs.TreeView.{TreeView, Passes}
 use Rattle.outside.specs.SinkView.{SinkView, SinkPasses, sink_passes_none}
 use Rattle.outside.specs.ScratchView.{ScratchView, ScratchPasses, scratch_passes_none}
@@ -15,13 +13,14 @@ use Rattle.patch_run.specs.Applied.{Receipt}
 use Rattle.run_answers.specs.declared.why.Why.{Why}
 use Rattle.run_answers.specs.declared.why.Why.TheVariants.{Done, Rejected, Usage, Malformed, Garbage, EdReverse, OutMany, Reserved, NoPatchFile, TooLong, LongLine, FileTooLong, BadPattern, NoContext, Unfit, BadState, StackEnd, StackName, ReadFault, WriteFault, TreeFault, ScratchFault, Disagree, Memory}
 use Rattle.run_answers.specs.Answers.{is_ended, is_fault, is_own, is_early, is_through}
-use Rattle.run_answers.specs.Moments.{Opens, FirstPart, IsAsAtEntry, LeavesAllowed}
+use Rattle.run_answers.specs.Moments.{Opens, IsAsAtEntry, LeavesAllowed}
 use Rattle.run_answers.specs.Worlds.{World, world, NoneFailed}
 use Rattle.run_answers.proofs.Names.{old_or_new}
 use Rattle.run_answers.proofs.Opens.{tidy_same}
 use Rattle.planned_run.specs.Scratches.{scratch_behind_all}
-use Rattle.patch_cli.specs.Command.{Outcome, refused}
-use Rattle.patch_cli.specs.Carries.{HasReceipt, IsAnswer}
+use Rattle.run_outcome.specs.Outcome.{Outcome, refused}
+use Rattle.run_outcome.specs.Answer.{HasReceipt, IsAnswer}
+use Rattle.run_outcome.proofs.Entry.{nothing_yet, refused_so}
 use Rattle.gen_cli.specs.Jobs.{AsksFor, options_for}
 use Rattle.gen_cli.specs.Command.{command}
 use Rattle.gen_cli.specs.Worlds.{Tells}
@@ -132,25 +131,9 @@ not_through : (why : Why) → is_through why ≡ false → is_through why ≡ tr
 not_through why not is = false≢true (sym not ∙ is)
 
 module _ (u w : World) (same : IsAsAtEntry u.tree w.tree u.scratch w.scratch u.out w.out) where
-  pub nothing_yet : (f : Files) (o : Outcome) → u.tree.told ≡ Some f → FirstPart u.tree w.tree u.out w.out o.effects o.text
-  nothing_yet f o told = record {
-    tells = λ f g was now. (zero, omega arith, subst (λ (x : Files). SameLasting f x) (same_Some _ _ (sym was ∙ sym same.told ∙ now)) (lasting-same f));
-    said = λ b now. inr (zero, ap (λ (a : SinkView). a.told) same.out ∙ now ∙ ap (λ (l : List ℕ). Some l) (sym (append-nil b)));
-  }
-
-  -- a refusal leaves the files, and says nothing
-  refused_so : (why : Why) (f : Files) → u.tree.told ≡ Some f → IsAnswer why None f w.tree u.out w.out (refused why f)
-  refused_so why f told = record {
-    is = refl;
-    text = λ b now. ap (λ (a : SinkView). a.told) same.out ∙ now ∙ ap (λ (l : List ℕ). Some l) (sym (append-nil b));
-    files = same.told ∙ told;
-    made = lasting-same f;
-    applied = refl;
-  }
-
   answers_early : (b : Bool) (why : Why) (f : Files) (o : Outcome) → u.tree.told ≡ Some f → (b ≡ true → o ≡ refused why f) → Answers b why None f u w o
-  answers_early true why f o told ends = subst (λ (x : Outcome). IsAnswer why None f w.tree u.out w.out x) (sym (ends refl)) (refused_so why f told)
-  answers_early false why f o told ends = nothing_yet f o told
+  answers_early true why f o told ends = subst (λ (x : Outcome). IsAnswer why None f w.tree u.out w.out x) (sym (ends refl)) (refused_so same why f told)
+  answers_early false why f o told ends = nothing_yet same f o told
 
 starved_entry : (job : Result PlainGenJob WordFault) (u w : World) (f : Files) → IsAsAtEntry u.tree w.tree u.scratch w.scratch u.out w.out → StarvesEarly job u w f
 starved_entry (Ok j) u w f same = λ paged. inl same

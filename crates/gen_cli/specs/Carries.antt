@@ -23,8 +23,8 @@ use Rattle.run_answers.specs.Answers.{of_run, is_early, is_ended, is_fault, is_o
 use Rattle.run_answers.specs.Moments.{FirstPart, IsAsAtEntry, LeavesAllowed, LeavesOldOrNew}
 use Rattle.run_answers.specs.Worlds.{World, NoneFailed}
 use Rattle.planned_run.specs.Scratches.{is_paged, scratch_behind_all}
-use Rattle.patch_cli.specs.Command.{Outcome, items_for}
-use Rattle.patch_cli.specs.Carries.{HasReceipt, IsAnswer}
+use Rattle.run_outcome.specs.Outcome.{Outcome, items_for}
+use Rattle.run_outcome.specs.Answer.{HasReceipt, IsAnswer}
 use Rattle.gen_cli.specs.Jobs.{AsksFor, options_for}
 use Rattle.gen_cli.specs.Command.{command, file_puts, patch_text, run_over, summary}
 use Rattle.gen_cli.specs.Worlds.{Tells}

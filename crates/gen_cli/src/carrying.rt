@@ -5,7 +5,7 @@ ghost use Rattle.patch_gen.specs.Tree.{made};
 ghost use Rattle.patch_options.specs.PlainJob.{plain_options};
 ghost use Rattle.tool_words.specs.PlainJobs.{plain_gen_job};
 ghost use Rattle.run_answers.specs.Worlds.{world};
-ghost use Rattle.patch_cli.specs.Carries.{why_of, receipt_of};
+ghost use Rattle.run_outcome.specs.Answer.{why_of, receipt_of};
 ghost use Rattle.planned_run.specs.Scratches.{has_scratch};
 ghost use Rattle.gen_cli.specs.Jobs.{options_for};
 ghost use Rattle.gen_cli.specs.Summary.{summary_of};
@@ -21,7 +21,7 @@ use crate::tally::{count_moved, count_placed, total_size};
 use crate::telling::{Summary, put_summary};
 use hunk_core::Verdict;
 use outside::{Scratch, Sink, Tree};
-use patch_cli::Applied;
+use patch_run::Applied;
 use planned_run::apply;
 use run_answers::Why;
 use std::alloc::Global;
@@ -29,27 +29,6 @@ use tool_words::GenJob;
 
 /// Carries out what was made ready, on a settled tree. The scratch comes back.
 pub fn carry_out<T: Tree, C: Scratch, O: Sink>(
-    alloc: Global,
-    job: GenJob,
-    mut work: Work,
-    tree: &mut T,
-    scratch: C,
-    out: &mut O,
-) -> (Result<Applied, Why>, C)
-    requires options { plain_options work.options ≡ options_for (plain_gen_job job) }
-    requires made { AreMade (plain_gen_job job) work.places.items (map (λ v. v.items) work.files.items) }
-    requires set { IsMadeSet (plain_gen_job job) work.set }
-    requires hunks { work.hunks ≡ (made job.seed job.files job.lines).hunks }
-    requires quiet { IsQuiet (T.view tree.old) }
-    ensures carries { Carries (Ok (plain_gen_job job)) (world (T.view tree.old) (C.view scratch) (O.view out.old)) (world (T.view tree.new) (C.view result.1) (O.view out.new)) (why_of result.0) (receipt_of result.0) }
-    ensures scratch { has_scratch job.plan ≡ false → result.1 ≡ scratch }
-    ensures rest { O.same_rest out.old out.new }
-{
-    put_and_apply(alloc, job, &mut work, tree, scratch, out)
-}
-
-/// The same over what is lent: it is let go above, once, and not at each of the exits.
-fn put_and_apply<T: Tree, C: Scratch, O: Sink>(
     alloc: Global,
     job: GenJob,
     work: &mut Work,

@@ -43,17 +43,25 @@ pub fn make_ready(alloc: Global, job: GenJob) -> Result<Work, Why>
         return Err(Why::Memory);
     };
     let Ok(places) = places_of(alloc, job.files) else {
+        drop(made);
         return Err(Why::Memory);
     };
     let options = options_for(job);
-    let set = read_made(alloc, made.patch, job, &options)?;
-    Ok(Work {
-        options,
-        set,
-        places,
-        files: made.files,
-        hunks: made.hunks,
-    })
+    match read_made(alloc, made.patch, job, &options) {
+        Ok(set) => Ok(Work {
+            options,
+            set,
+            places,
+            files: made.files,
+            hunks: made.hunks,
+        }),
+        Err(why) => {
+            drop(options);
+            drop(places);
+            drop(made.files);
+            Err(why)
+        }
+    }
 }
 
 /// The set of the made patch.

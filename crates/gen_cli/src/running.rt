@@ -5,7 +5,7 @@ ghost use Rattle.patch_options.specs.declared.options.WordFault.{WordFault};
 ghost use Rattle.tool_words.specs.PlainJobs.{plain_gen_job, IsSize};
 ghost use Rattle.run_answers.specs.Answers.{exit_status, of_words};
 ghost use Rattle.run_answers.specs.Worlds.{world};
-ghost use Rattle.patch_cli.specs.Carries.{why_of, receipt_of};
+ghost use Rattle.run_outcome.specs.Answer.{why_of, receipt_of};
 ghost use Rattle.planned_run.specs.Scratches.{has_scratch};
 ghost use Rattle.gen_cli.specs.Jobs.{job_of, uses_scratch};
 ghost use Rattle.gen_cli.specs.Carries.{Carries};
@@ -14,8 +14,9 @@ use crate::carrying::carry_out;
 use crate::reading::read_job;
 use crate::ready::make_ready;
 use outside::{Scratch, Sink, Tree};
-use patch_cli::{Applied, Exit, exit_of};
+use patch_run::Applied;
 use run_answers::{Why, settle};
+use run_outcome::{Exit, exit_of};
 use std::alloc::Global;
 use tool_words::GenJob;
 
@@ -99,7 +100,12 @@ fn run_settled<T: Tree, C: Scratch, O: Sink>(
     ensures rest { O.same_rest out.old out.new }
 {
     match make_ready(alloc, job) {
-        Ok(work) => carry_out(alloc, job, work, tree, scratch, out),
+        Ok(mut work) => {
+            let ended = carry_out(alloc, job, &mut work, tree, scratch, out);
+            // (let go here, and not at the exit, where it would be proved field by field beside the devices)
+            drop(work);
+            ended
+        }
         Err(why) => (Err(why), scratch),
     }
 }

@@ -1,5 +1,5 @@
 -- What the reading of words and patch text gives: a set that is to be carried out, or an early end.
-use Rattle.std.proofs.Common.{◌≡◌, true, List, [], ◌∷◌, ℕ, length, map, Some, None, Result, Ok, Err, IsErrAnd, IfErr, refl, sym, ◌∙◌, ap, subst}
+use Rattle.std.proofs.Common.{◌≡◌, true, List, ℕ, length, Some, None, Result, Ok, Err, refl, sym, ◌∙◌, ap, subst}
 use Rattle.std.proofs.lemmas.List.{length-map, length-replicate}
 use Rattle.outside.specs.Files.{Files}
 use Rattle.outside.specs.TreeView.{TreeView, Rises}
@@ -9,9 +9,7 @@ use Rattle.outside.specs.SinkView.{SinkView}
 use Rattle.outside.proofs.Views.{rises_then}
 use Rattle.hunk_core.specs.Reading.{Fault}
 use Rattle.hunk_core.specs.declared.Verdict.TheVariants.{Untried}
-use Rattle.target_names.specs.declared.derived.Target.{Target}
-use Rattle.file_patch.specs.declared.FilePatch.{FilePatch}
-use Rattle.file_patch.specs.PlainPatch.{PlainPatch, header_of, patch_of}
+use Rattle.file_patch.specs.PlainPatch.{PlainPatch, patch_of}
 use Rattle.patch_options.specs.PlainJob.{PlainOptions, PlainJob, IsLawful}
 use Rattle.patch_options.specs.PlainJob.PlainJob.{patch}
 use Rattle.patch_options.specs.declared.options.Input.{Input}
@@ -21,16 +19,14 @@ use Rattle.patch_input.specs.Input as input
 use Rattle.patch_input.specs.declared.fault.InputFault.{InputFault}
 use Rattle.patch_text.specs.Patches.{patches_of}
 use Rattle.patch_set.specs.Asked.{ways_of}
-use Rattle.patch_set.specs.Named.{known_names, output_of, targets_of}
 use Rattle.patch_set.specs.Refusals.{refusal}
 use Rattle.patch_set.specs.SetView.{SetView, plain_patches, hunks_in, IsRead, IsFresh}
-use Rattle.patch_run.specs.OnePatch.{Item}
-use Rattle.patch_run.specs.Run.{Run, run_of, set_run, item_of, items_of}
-use Rattle.patch_run.specs.Doing.{IsCutAt}
-use Rattle.patch_effects.specs.declared.fault.RunFault.{RunFault}
+use Rattle.patch_run.specs.Run.{Run, set_run}
 use Rattle.run_answers.specs.declared.why.Why.{Why}
 use Rattle.run_answers.specs.declared.why.Why.TheVariants.{Done, Rejected, Usage, Malformed, Garbage, EdReverse, OutMany, Reserved, NoPatchFile, TooLong, LongLine, FileTooLong, BadPattern, NoContext, Unfit, BadState, StackEnd, StackName, ReadFault, WriteFault, TreeFault, ScratchFault, Disagree, Memory}
-use Rattle.patch_cli.specs.Command.{Reads, item_for, items_for, run_for, carried_out, on_patches, on_refusal, on_input, on_job}
+use Rattle.run_outcome.specs.Outcome.{run_for, carried_out}
+use Rattle.run_outcome.proofs.Matching.{run-match}
+use Rattle.patch_cli.specs.Command.{Reads, on_patches, on_refusal, on_input, on_job}
 use Rattle.patch_cli.specs.Worlds.{World, world, TellsFiles, TellsLeft, TellsInput, is_standard}
 use Rattle.planned_run.specs.Finishes.{CanApply}
 use Rattle.run_answers.specs.Moments.{Opens}
@@ -48,49 +44,16 @@ tells_input (Err fault) u f left files rest = tt
 
 -- ---- a set that is read
 
-abbrev item_with : List ℕ → PlainPatch → List Target → Item
-item_with skipped p targets = record { patch = p; targets = targets; skipped = skipped }
-
--- file patches with the targets that their headers give
-items-match : (o : PlainOptions) (known : List (List ℕ)) (text skipped : List ℕ) (ps : List FilePatch)
-    → map (λ p. p.targets.items) ps ≡ map (λ p. targets_of o known (header_of text p.header)) ps
-    → map (item_for o known skipped) (map (patch_of text) ps) ≡ map (item_of text skipped) ps
-items-match o known text skipped [] same = refl
-items-match o known text skipped (p ∷ ps) same =
-    let first : p.targets.items ≡ targets_of o known (header_of text p.header) = cc in
-    let rest : map (λ p. p.targets.items) ps ≡ map (λ p. targets_of o known (header_of text p.header)) ps = cc in
-    ap (λ (ts : List Target). item_with skipped (patch_of text p) ts ∷ map (item_for o known skipped) (map (patch_of text) ps)) (sym first)
-    ∙ ap (λ (others : List Item). item_of text skipped p ∷ others) (items-match o known text skipped ps rest)
-
-module _ (o : PlainOptions) (given : List ℕ) (v : SetView) (read : IsRead o given v) where
-  items-read : items_for o v.text (plain_patches v) ≡ items_of v
-  items-read =
-      let known = known_names o (plain_patches v) in
-      ap (λ (l : List ℕ). map (item_for o known l) (plain_patches v)) (sym read.skipped)
-      ∙ items-match o known v.text v.skipped v.patches read.names.targets
-
-  -- the run over the file patches of a text is that over the set that is read from it
-  pub run-match : (f : Files) → run_for o v.text (plain_patches v) f ≡ set_run o v f
-  run-match f =
-      ap (λ t. run_of o t (items_for o v.text (plain_patches v)) f) (sym read.names.output)
-      ∙ ap (λ (items : List Item). run_of o v.output items f) items-read
-
-  -- a text that isn't refused is carried out as the set that is read from it
-  pub carried-match : (f : Files) (left : List ℕ) → Reads o f left v.text (plain_patches v) → on_job (Ok (patch o)) f left ≡ carried_out (length v.patches) (set_run o v f)
-  carried-match f left reads =
-      ap (λ (x : Result (List ℕ) InputFault). on_input o x f) reads.given
-      ∙ ap (λ x. on_refusal o x reads.bytes f) reads.free
-      ∙ ap (λ (t : List ℕ). on_patches o t (patches_of (ways_of o) t) f) (sym reads.whole)
-      ∙ ap (λ (ps : Result (List PlainPatch) Fault). on_patches o v.text ps f) reads.patches
-      ∙ ap (λ (n : ℕ). carried_out n (run_for o v.text (plain_patches v) f)) (length-map v.patches (patch_of v.text))
-      ∙ ap (λ (r : Run). carried_out (length v.patches) r) (run-match f)
-
-  -- a run over the set that was cut off, as one over the file patches of its text
-  pub cut-match : (f : Files) (e : RunFault) (w : TreeView) (c d : SinkView)
-      → IsCutAt e w c d o v.output (items_of v) f → IsCutAt e w c d o (output_of o (known_names o (plain_patches v))) (items_for o v.text (plain_patches v)) f
-  cut-match f e w c d at =
-      subst (λ t. IsCutAt e w c d o t (items_for o v.text (plain_patches v)) f) read.names.output
-      (subst (λ (items : List Item). IsCutAt e w c d o v.output items f) (sym items-read) at)
+-- a text that isn't refused is carried out as the set that is read from it
+pub carried-match : (o : PlainOptions) (given : List ℕ) (v : SetView) → IsRead o given v → (f : Files) (left : List ℕ) → Reads o f left v.text (plain_patches v)
+    → on_job (Ok (patch o)) f left ≡ carried_out (length v.patches) (set_run o v f)
+carried-match o given v read f left reads =
+    ap (λ (x : Result (List ℕ) InputFault). on_input o x f) reads.given
+    ∙ ap (λ x. on_refusal o x reads.bytes f) reads.free
+    ∙ ap (λ (t : List ℕ). on_patches o t (patches_of (ways_of o) t) f) (sym reads.whole)
+    ∙ ap (λ (ps : Result (List PlainPatch) Fault). on_patches o v.text ps f) reads.patches
+    ∙ ap (λ (n : ℕ). carried_out n (run_for o v.text (plain_patches v) f)) (length-map v.patches (patch_of v.text))
+    ∙ ap (λ (r : Run). carried_out (length v.patches) r) (run-match o given v read f)
 
 can_apply : (o : PlainOptions) (text : List ℕ) (v : SetView) → IsLawful o → IsRead o text v → IsFresh v → CanApply o v
 can_apply o text v lawful read fresh = record {
@@ -111,12 +74,6 @@ asked_so o text v t s lawful answer read fresh free a c = record {
 
 abbrev pub EndsEarly : Why → Result PlainJob WordFault → TreeView → TreeView → SourceView → SourceView → Type 0
 EndsEarly why job t u s r = (a : ScratchView) (c : SinkView) → StopsEarly why job (world t a s c) (world u a r c)
-
--- an exit with a fault that is handed on
-pub fails_early : {X : Type 0} (result : Result X Why) (e : Why) (job : Result PlainJob WordFault) (t u : TreeView) (s r : SourceView) → IsErrAnd result (λ d. d ≡ e) → EndsEarly e job t u s r
-    → IfErr result (λ why. EndsEarly why job t u s r)
-fails_early (Ok x) e job t u s r is early = absurd is
-fails_early (Err d) e job t u s r is early = λ a c. subst (λ (why : Why). StopsEarly why job (world t a s c) (world u a r c)) (sym is) (early a c)
 
 -- a tree that couldn't be settled
 pub settle_stops : (why : Why) (job : Result PlainJob WordFault) (t u : TreeView) (s : SourceView) → why ≡ TreeFault → Rises t u → EndsEarly why job t u s s

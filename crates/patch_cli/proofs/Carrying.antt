@@ -2,7 +2,6 @@
 use Rattle.std.proofs.Common.{◌≡◌, ◌⊎◌, inl, inr, ⊎_elim, ℕ, List, [], length, true, false, Bool, if◌then◌else◌, Option, Some, None, Result, Ok, Err, refl, sym, ◌∙◌, ap, subst}
 use Rattle.outside.specs.Files.{Files}
 use Rattle.outside.specs.TreeView.{TreeView, Passes, passes_both}
-use Rattle.outside.specs.SinkView.{SinkView, Receives, Rises, Writes}
 use Rattle.outside.specs.SourceView.{SourcePasses}
 use Rattle.outside.specs.Calls.{IsUntouched}
 use Rattle.outside.specs.Quiet.{LeavesPrefix}
@@ -26,18 +25,22 @@ use Rattle.run_answers.specs.declared.why.Why.{Why}
 use Rattle.run_answers.specs.declared.why.Why.TheVariants.{Done, Rejected, Usage, Malformed, Garbage, EdReverse, OutMany, Reserved, NoPatchFile, TooLong, LongLine, FileTooLong, BadPattern, NoContext, Unfit, BadState, StackEnd, StackName, ReadFault, WriteFault, TreeFault, ScratchFault, Disagree, Memory}
 use Rattle.run_answers.specs.Answers.{is_fault, of_run}
 use Rattle.run_answers.specs.Moments.{FirstPart, IsAsAtEntry, LeavesAllowed, Opens}
+use Rattle.run_outcome.specs.Outcome.{Outcome, carried_out, end_of, receipt_if}
+use Rattle.run_outcome.specs.Answer.{IsAnswer}
+use Rattle.run_outcome.proofs.Matching.{cut-match}
+use Rattle.run_outcome.proofs.Receipts.{memory_end, receipt_end, receipt_fault}
 use Rattle.patch_cli.specs.Answers.{Sort, sort_of, IsEarly}
-use Rattle.patch_cli.specs.Answers.Sort.{ended, unread, starved}
-use Rattle.patch_cli.specs.Command.{Outcome, Reads, command, on_job, carried_out, end_of, receipt_if}
+use Rattle.patch_cli.specs.Answers.Sort.{ended}
+use Rattle.patch_cli.specs.Command.{Reads, command, on_job}
 use Rattle.patch_cli.specs.Worlds.{World, TellsFiles, TellsLeft, TellsInput, AsksFor, reads_source, pages_all}
 use Rattle.patch_cli.specs.Causes.{HasCause}
 use Rattle.planned_run.specs.Scratches.{scratch_behind_all}
 use Rattle.planned_run.specs.Finishes.{IsToldTo, HasPlanCause, Finishes}
 use Rattle.planned_run.specs.Finishes as finishes
 use Rattle.patch_cli.specs.Opening.{IsAsked}
-use Rattle.patch_cli.specs.Carries.{IsAnswer, Answers, Untouched, QuietAfter, IsEnd, HasReceipt, HasRead, Heeds, IsCut, BreaksOff, Carries, NoneFailed, IsComplete}
+use Rattle.patch_cli.specs.Carries.{Answers, Untouched, QuietAfter, IsEnd, HasRead, Heeds, IsCut, BreaksOff, Carries, NoneFailed, IsComplete}
 use Rattle.run_answers.proofs.Opens.{opens_both, opens_untouched, tidy_behind}
-use Rattle.patch_cli.proofs.Asked.{tells_input, carried-match, cut-match}
+use Rattle.patch_cli.proofs.Asked.{tells_input, carried-match}
 
 -- ---- behind the reading: an answer of the run, or a first part of it
 module _ (u w : World) {v : TreeView} (opens : Opens u.tree v) where
@@ -116,15 +119,6 @@ module _ (u w : World) where
   quiet_fault (runs.Disagree want got) quiet = tt
   quiet_fault runs.Memory quiet = tt
 
-receipt_fault : (e : RunFault) → HasReceipt (of_run e) None
-receipt_fault runs.Tree = refl
-receipt_fault runs.Write = refl
-receipt_fault runs.Scratch = refl
-receipt_fault (runs.LongLine line length) = refl
-receipt_fault (runs.FileTooLong length) = refl
-receipt_fault (runs.Disagree want got) = refl
-receipt_fault runs.Memory = refl
-
 end_fault : (e : RunFault) → IsEnd (sort_of (of_run e)) → ⊥
 end_fault runs.Tree is = is
 end_fault runs.Write is = is
@@ -151,14 +145,6 @@ ended_sort false = refl
 ended_cause : (bad : Bool) (job : Result PlainJob WordFault) (u w : World) → HasCause (if bad then Rejected else Done) job u w
 ended_cause true job u w = tt
 ended_cause false job u w = tt
-
-ended_receipt : (bad : Bool) (r : Receipt) → r.is_bad ≡ bad → HasReceipt (if bad then Rejected else Done) (Some r)
-ended_receipt true r is = is
-ended_receipt false r is = is
-
-ended_memory : (bad : Bool) → (if bad then Rejected else Done) ≡ Memory → ⊥
-ended_memory true is = absurd (cc)
-ended_memory false is = absurd (cc)
 
 -- behind the reading
 module _ (words : List (List ℕ)) (u w : World) {v : TreeView} {o : PlainOptions} {set : SetView} (opens : Opens u.tree v) (job : job_of words ≡ Ok (patch o)) (asked : IsAsked o set u) where
@@ -272,8 +258,8 @@ module _ (words : List (List ℕ)) (u w : World) {v : TreeView} {o : PlainOption
           cause = ended_cause receipt.is_bad (job_of words) u w;
           untouched = subst (λ s. Untouched s u w) (sym is) tt;
           quiet = subst (λ s. QuietAfter s w) (sym is) does.quiet;
-          receipt = ended_receipt receipt.is_bad receipt refl;
-          starved = λ is pages. absurd (ended_memory receipt.is_bad is);
+          receipt = receipt_end receipt.is_bad receipt refl;
+          starved = λ is pages. absurd (memory_end receipt.is_bad is);
           read = λ behind. read;
           unread = none_read;
           taken = taken;
@@ -334,8 +320,3 @@ is_complete TreeFault applied c f left told tells none = absurd (none.tree c.cau
 is_complete ScratchFault applied c f left told tells none = absurd (none.scratch c.cause)
 is_complete (Disagree want got) applied c f left told tells none = absurd (c.cause.1 f told)
 is_complete Memory applied c f left told tells none = inr refl
-
--- ---- the line of the answer
-pub writes_whole : {R E : Type 0} (a b : SinkView) (s : Result R E) (p : List ℕ) → Writes a b s p → Receives a b p ⊎ Rises a b
-writes_whole a b (Ok r) p w = inl w.received
-writes_whole a b (Err e) p w = inr (w.call.cause refl)

@@ -1,8 +1,6 @@
 -- An end before the first change.
-use Rattle.std.proofs.Common.{◌≡◌, inl, inr, ℕ, zero, List, length, false, Some, None, Result, refl, sym, ◌∙◌, ap, subst, arith}
-use Rattle.std.proofs.lemmas.List.{append-nil}
-use Rattle.std.proofs.lemmas.Option.{same_Some}
-use Rattle.outside.specs.Files.{Files, SameLasting, lasting-same}
+use Rattle.std.proofs.Common.{◌≡◌, inl, ℕ, List, false, None, Result, refl, sym, subst}
+use Rattle.outside.specs.Files.{Files}
 use Rattle.outside.specs.SinkView.{SinkView, SinkPasses, sink_passes_none}
 use Rattle.outside.specs.SourceView.{SourcePasses}
 use Rattle.outside.specs.ScratchView.{ScratchView, ScratchPasses, scratch_passes_none}
@@ -12,13 +10,16 @@ use Rattle.patch_options.specs.declared.options.WordFault.{WordFault}
 use Rattle.patch_input.specs.Input.{TakesAtMost}
 use Rattle.run_answers.specs.declared.why.Why.{Why}
 use Rattle.run_answers.specs.declared.why.Why.TheVariants.{Done, Rejected, Usage, Malformed, Garbage, EdReverse, OutMany, Reserved, NoPatchFile, TooLong, LongLine, FileTooLong, BadPattern, NoContext, Unfit, BadState, StackEnd, StackName, ReadFault, WriteFault, TreeFault, ScratchFault, Disagree, Memory}
-use Rattle.run_answers.specs.Moments.{FirstPart, IsAsAtEntry, Opens}
+use Rattle.run_answers.specs.Moments.{IsAsAtEntry, Opens}
+use Rattle.run_outcome.specs.Outcome.{Outcome}
+use Rattle.run_outcome.specs.Answer.{HasReceipt, IsAnswer}
+use Rattle.run_outcome.proofs.Entry.{nothing_yet, refused_so}
 use Rattle.patch_cli.specs.Answers.{Sort, sort_of}
 use Rattle.patch_cli.specs.Answers.Sort.{ended, halted, refusal, unread, broken, starved}
-use Rattle.patch_cli.specs.Command.{Outcome, refused, on_job}
+use Rattle.patch_cli.specs.Command.{on_job}
 use Rattle.patch_cli.specs.Worlds.{World, TellsFiles, TellsLeft, TellsInput, reads_source}
 use Rattle.patch_cli.specs.Opening.{StopsBy, StopsEarly}
-use Rattle.patch_cli.specs.Carries.{IsAnswer, Answers, Untouched, QuietAfter, IsBehindReading, IsEnd, HasReceipt, Heeds, BreaksOff, Carries}
+use Rattle.patch_cli.specs.Carries.{Answers, Untouched, QuietAfter, IsBehindReading, IsEnd, Heeds, BreaksOff, Carries}
 use Rattle.run_answers.proofs.Opens.{tidy_same}
 use Rattle.patch_cli.proofs.Asked.{tells_input}
 
@@ -81,28 +82,13 @@ module _ (u w : World) (why : Why) (job : Result PlainJob WordFault) (same : IsA
   no_end broken stops is = is
   no_end starved stops is = is
 
-  nothing_yet : (f : Files) (o : Outcome) → u.tree.told ≡ Some f → FirstPart u.tree w.tree u.out w.out o.effects o.text
-  nothing_yet f o told = record {
-    tells = λ f g was now. (zero, omega arith, subst (λ (x : Files). SameLasting f x) (same_Some _ _ (sym was ∙ sym same.told ∙ now)) (lasting-same f));
-    said = λ b now. inr (zero, ap (λ (a : SinkView). a.told) same.out ∙ now ∙ ap (λ (l : List ℕ). Some l) (sym (append-nil b)));
-  }
-
-  refused_so : (f : Files) → u.tree.told ≡ Some f → IsAnswer why None f w.tree u.out w.out (refused why f)
-  refused_so f told = record {
-    is = refl;
-    text = λ b now. ap (λ (a : SinkView). a.told) same.out ∙ now ∙ ap (λ (l : List ℕ). Some l) (sym (append-nil b));
-    files = same.told ∙ told;
-    made = lasting-same f;
-    applied = refl;
-  }
-
   answers_early : (s : Sort) → StopsBy s why job u → (f : Files) (left : List ℕ) → TellsFiles job u f → TellsLeft job u left → Answers s why None f u w (on_job job f left)
   answers_early ended stops f left told tells = absurd stops
   answers_early halted stops f left told tells = absurd stops
-  answers_early refusal stops f left told tells = subst (λ (x : Outcome). IsAnswer why None f w.tree u.out w.out x) (sym (stops f left (tells_input job u f left told tells))) (refused_so f told.files)
-  answers_early unread stops f left told tells = nothing_yet f (on_job job f left) told.files
-  answers_early broken stops f left told tells = nothing_yet f (on_job job f left) told.files
-  answers_early starved stops f left told tells = nothing_yet f (on_job job f left) told.files
+  answers_early refusal stops f left told tells = subst (λ (x : Outcome). IsAnswer why None f w.tree u.out w.out x) (sym (stops f left (tells_input job u f left told tells))) (refused_so same why f told.files)
+  answers_early unread stops f left told tells = nothing_yet same f (on_job job f left) told.files
+  answers_early broken stops f left told tells = nothing_yet same f (on_job job f left) told.files
+  answers_early starved stops f left told tells = nothing_yet same f (on_job job f left) told.files
 
   heeds_early : (s : Sort) → StopsBy s why job u → (f : Files) (left : List ℕ) → TellsInput job u f left → Heeds s why job u w f left
   heeds_early ended stops f left told = absurd stops

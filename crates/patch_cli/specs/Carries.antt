@@ -1,12 +1,12 @@
 -- What a run promises: that it is the command's, and what stands at each moment.
-use Rattle.std.specs.Prelude.{◌≡◌, ◌⊎◌, ℕ, List, [], true, false, Option, Some, None, Result, Ok, Err, IsSomeAnd, if◌then◌else◌}
+use Rattle.std.specs.Prelude.{◌≡◌, ◌⊎◌, ℕ, List, [], true, false, Option, Some, Result}
 use Rattle.outside.specs.Faults.{HasRisen}
-use Rattle.outside.specs.Files.{Files, SameLasting}
-use Rattle.outside.specs.TreeView.{TreeView, Passes}
-use Rattle.outside.specs.SinkView.{SinkView, SinkPasses, Receives}
+use Rattle.outside.specs.Files.{Files}
+use Rattle.outside.specs.TreeView.{Passes}
+use Rattle.outside.specs.SinkView.{SinkPasses}
 use Rattle.outside.specs.SourceView.{SourcePasses}
 use Rattle.outside.specs.ScratchView.{ScratchPasses}
-use Rattle.outside.specs.Quiet.{IsQuiet, after_all}
+use Rattle.outside.specs.Quiet.{IsQuiet}
 use Rattle.file_patch.specs.PlainPatch.{PlainPatch}
 use Rattle.patch_options.specs.PlainJob.{PlainOptions, PlainJob}
 use Rattle.patch_options.specs.Words.{job_of}
@@ -18,24 +18,17 @@ use Rattle.patch_run.specs.Doing.{IsCutAt}
 use Rattle.patch_effects.specs.Making.{IsTidy}
 use Rattle.patch_effects.specs.declared.fault.RunFault.{RunFault}
 use Rattle.run_answers.specs.declared.why.Why.{Why}
-use Rattle.run_answers.specs.declared.why.Why.TheVariants.{Done, Rejected, Memory}
+use Rattle.run_answers.specs.declared.why.Why.TheVariants.{Memory}
 use Rattle.run_answers.specs.Answers.{of_run, is_fault}
 use Rattle.run_answers.specs.Moments.{FirstPart, IsAsAtEntry, LeavesAllowed, Opens}
 use Rattle.patch_cli.specs.Answers.{Sort, sort_of}
 use Rattle.patch_cli.specs.Answers.Sort.{ended, halted, refusal, unread, broken, starved}
 use Rattle.planned_run.specs.Scratches.{scratch_behind_all}
-use Rattle.patch_cli.specs.Command.{Outcome, Reads, refused, items_for, on_job, command}
+use Rattle.run_outcome.specs.Outcome.{Outcome, refused, items_for}
+use Rattle.run_outcome.specs.Answer.{HasReceipt, IsAnswer}
+use Rattle.patch_cli.specs.Command.{Reads, on_job, command}
 use Rattle.patch_cli.specs.Worlds.{World, TellsFiles, TellsLeft, TellsInput, AsksFor, reads_source, pages_all}
 use Rattle.patch_cli.specs.Causes.{HasCause}
-
--- an answer of the command itself: its text, and the files after its effects
-pub record IsAnswer (why : Why) (given : Option Receipt) (f : Files) (w : TreeView) (c d : SinkView) (o : Outcome) : Type 0 where
-  pub is : why ≡ o.why
-  pub text : Receives c d o.text
-  pub files : w.told ≡ Some o.files
-  -- which are the files at entry after the effects, temporary names aside
-  pub made : SameLasting (after_all o.effects f) o.files
-  pub applied : given ≡ o.applied
 
 -- a first part of the effects and of the text after a fault or where memory ran out, else all
 abbrev pub Answers : Sort → Why → Option Receipt → Files → World → World → Outcome → Type 0
@@ -85,12 +78,6 @@ IsEnd refusal = ⊥
 IsEnd unread = ⊥
 IsEnd broken = ⊥
 IsEnd starved = ⊥
-
--- the receipt is there exactly where every file patch had its turn, and tells which of the two ends it was
-abbrev pub HasReceipt : Why → Option Receipt → Type 0
-HasReceipt Done applied = IsSomeAnd applied (λ r. r.is_bad ≡ false)
-HasReceipt Rejected applied = IsSomeAnd applied (λ r. r.is_bad ≡ true)
-HasReceipt why applied = applied ≡ None
 
 -- where it is told what the patch text is read from: a refusal is the command's, and nothing changes before a text that isn't refused
 -- is read whole
@@ -160,12 +147,3 @@ pub record NoneFailed (u w : World) : Type 0 where
 -- the answer is the command's, with its text and its files, or memory ran out
 abbrev pub IsComplete : Why → Option Receipt → Files → World → World → Outcome → Type 0
 IsComplete why applied f u w o = IsAnswer why applied f w.tree u.out w.out o ⊎ (why ≡ Memory)
-
--- the answer of a run that came to its end, or stopped
-abbrev pub why_of : Result Receipt Why → Why
-why_of (Ok receipt) = if receipt.is_bad then Rejected else Done
-why_of (Err why) = why
-
-abbrev pub receipt_of : Result Receipt Why → Option Receipt
-receipt_of (Ok receipt) = Some receipt
-receipt_of (Err why) = None

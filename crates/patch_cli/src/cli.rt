@@ -1,9 +1,7 @@
 //! The whole run.
 ghost use Rattle.std.specs.Prelude.{◌≡◌, ◌⊎◌, ℕ, List, map, false, true, Ok, Err, string_bytes};
 ghost use Rattle.outside.specs.Files.{Files};
-ghost use Rattle.outside.specs.Quiet.{IsQuiet};
 ghost use Rattle.outside.specs.SinkView.{Receives, ReceivesPart, Rises};
-ghost use Rattle.patch_options.specs.PlainJob.{plain_options};
 ghost use Rattle.patch_options.specs.Words.{job_of};
 ghost use Rattle.patch_options.specs.declared.options.WordFault.{WordFault};
 ghost use Rattle.run_answers.specs.Answers.{exit_status, is_ended, of_words};
@@ -12,29 +10,16 @@ ghost use Rattle.patch_cli.specs.Answers.{sort_of, IsEarly};
 ghost use Rattle.patch_cli.specs.Command.{command};
 ghost use Rattle.run_answers.specs.Reasons.{refusal_line};
 ghost use Rattle.patch_cli.specs.Worlds.{world, TellsFiles, TellsLeft, reads_source, uses_scratch};
-ghost use Rattle.planned_run.specs.Scratches.{has_scratch};
-ghost use Rattle.planned_run.specs.Finishes.{CanApply, Finishes};
-ghost use Rattle.patch_cli.specs.Carries.{Carries, NoneFailed, IsComplete, why_of, receipt_of};
+ghost use Rattle.run_outcome.specs.Answer.{why_of, receipt_of};
+ghost use Rattle.patch_cli.specs.Carries.{Carries, NoneFailed, IsComplete};
 
 use crate::opening::open;
 use outside::{Scratch, Sink, Source, Tree};
-use patch_effects::RunFault;
-use patch_options::Options;
 use patch_run::Applied;
-use patch_set::PatchSet;
 use planned_run::apply;
 use run_answers::{Why, report};
+use run_outcome::{Exit, exit_of};
 use std::alloc::Global;
-
-/// How a run ends.
-#[derive(Drop)]
-pub struct Exit {
-    /// 0 for `Done`, 1 for `Rejected`, else 2.
-    pub status: u8,
-    pub why: Why,
-    /// The receipt, for `Done` and `Rejected`.
-    pub applied: Option<Applied>,
-}
 
 /// Does all that the program does. `words[0]` is the tool.
 ///
@@ -87,40 +72,6 @@ pub fn run<T: Tree, C: Scratch, I: Source, O: Sink, E: Sink>(
     (exit, scratch)
 }
 
-/// How a run ends that came to its end, or stopped.
-pub fn exit_of(ended: Result<Applied, Why>) -> Exit
-    ensures why { result.why ≡ why_of ended }
-    ensures applied { result.applied ≡ receipt_of ended }
-    ensures status { result.status ≡ exit_status result.why }
-{
-    match ended {
-        Ok(applied) => {
-            let why = end_of(&applied);
-            Exit {
-                status: why.status(),
-                why,
-                applied: Some(applied),
-            }
-        }
-        Err(why) => Exit {
-            status: why.status(),
-            why,
-            applied: None,
-        },
-    }
-}
-
-/// The answer where every file patch had its turn.
-fn end_of(applied: &Applied) -> Why
-    ensures { result ≡ why_of (Ok applied.now) }
-{
-    if applied.status() == 0 {
-        Why::Done
-    } else {
-        Why::Rejected
-    }
-}
-
 /// Reads the words and the patch text, and carries out its file patches.
 fn carry_out<T: Tree, C: Scratch, I: Source, O: Sink>(
     alloc: Global,
@@ -139,31 +90,15 @@ fn carry_out<T: Tree, C: Scratch, I: Source, O: Sink>(
     ensures input { reads_source (job_of (map string_bytes words.now)) ≡ false → input.new ≡ input.old }
     ensures rest { O.same_rest out.old out.new }
 {
-    let work = match open(alloc, words, tree, input) {
+    let mut work = match open(alloc, words, tree, input) {
         Ok(work) => work,
         Err(why) => return (Err(why), scratch),
     };
-    let (applied, scratch) = apply_owned(alloc, work.options, work.set, scratch, tree, out);
+    let (applied, scratch) = apply(alloc, &work.options, &mut work.set, scratch, tree, out);
+    // (let go here, and not at the exits, where it would be proved field by field beside the devices)
+    drop(work);
     match applied {
         Ok(applied) => (Ok(applied), scratch),
         Err(fault) => (Err(Why::from(fault)), scratch),
     }
-}
-
-/// Carries out the file patches. What was read is let go here, once, and not at each of the exits above.
-fn apply_owned<T: Tree, C: Scratch, O: Sink>(
-    alloc: Global,
-    options: Options,
-    mut set: PatchSet,
-    scratch: C,
-    tree: &mut T,
-    out: &mut O,
-) -> (Result<Applied, RunFault>, C)
-    requires can { CanApply (plain_options options) set }
-    requires quiet { IsQuiet (T.view tree.old) }
-    ensures finishes { Finishes (plain_options options) set (T.view tree.old) (T.view tree.new) (C.view scratch) (C.view result.1) (O.view out.old) (O.view out.new) result.0 }
-    ensures scratch { has_scratch options.plan ≡ false → result.1 ≡ scratch }
-    ensures rest { O.same_rest out.old out.new }
-{
-    apply(alloc, &options, &mut set, scratch, tree, out)
 }

@@ -5,7 +5,8 @@ mod cli;
 mod laws;
 mod opening;
 
-pub use cli::{Exit, exit_of, run};
+pub use cli::run;
 pub use laws::command_laws;
 pub use patch_run::Applied;
 pub use run_answers::Why;
+pub use run_outcome::Exit;

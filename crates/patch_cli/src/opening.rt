@@ -50,9 +50,20 @@ pub fn open<T: Tree, I: Source>(
     ensures refused { IfErr result (λ why. (a : ScratchView) (c : SinkView) → StopsEarly why (job_of (map string_bytes words.now)) (world (T.view tree.old) a (I.view source.old) c) (world (T.view tree.new) a (I.view source.new) c)) }
 {
     let options = read_options(alloc, words)?;
-    settle(tree)?;
-    let set = read_patches(alloc, &options, tree, source)?;
-    Ok(Work { options, set })
+    match settle(tree) {
+        Ok(()) => {}
+        Err(why) => {
+            drop(options);
+            return Err(why);
+        }
+    }
+    match read_patches(alloc, &options, tree, source) {
+        Ok(set) => Ok(Work { options, set }),
+        Err(why) => {
+            drop(options);
+            Err(why)
+        }
+    }
 }
 
 /// The options that the words give.

@@ -1,17 +1,15 @@
 -- How the parts of a command go on from one another, and what a run promises of them.
-use Rattle.std.proofs.Common.{◌≡◌, ◌⊎◌, inl, inr, ⊎_elim, ℕ, zero, List, [], ◌∷◌, ◌++◌, Bool, true, false, is_some, Some, None, Result, Ok, Err, refl, sym, ◌∙◌, ap, subst, arith}
+use Rattle.std.proofs.Common.{◌≡◌, ◌⊎◌, ℕ, List, [], ◌++◌, Bool, true, false, Some, None, Result, Ok, Err, refl, sym, ◌∙◌, ap, subst, arith}
 use Rattle.std.proofs.lemmas.Bool.{false≢true}
 use Rattle.std.proofs.lemmas.List.{append-nil}
 use Rattle.std.proofs.lemmas.Option.{same_Some}
 use Rattle.std.specs.FinMap.{get}
-use Rattle.outside.specs.Files.{Files, SameLasting, lasting-same}
+use Rattle.outside.specs.Files.{Files, SameLasting}
 use Rattle.outside.specs.TreeView.{TreeView, Passes, passes_both, told_on}
-use Rattle.outside.specs.TreeView as tree
-use Rattle.outside.specs.SinkView.{SinkView, SinkPasses, sink_passes_none, sink_passes_both, Receives, ReceivesPart}
-use Rattle.outside.specs.SinkView as sink
+use Rattle.outside.specs.SinkView.{SinkView, SinkPasses, sink_passes_none, sink_passes_both}
 use Rattle.outside.specs.ScratchView.{ScratchView, ScratchPasses, scratch_passes_none}
 use Rattle.outside.specs.Calls.{IsUntouched}
-use Rattle.outside.specs.Quiet.{IsQuiet, Effect, after_all, TellsPrefix, LeavesPrefix}
+use Rattle.outside.specs.Quiet.{IsQuiet, Effect, after_all, LeavesPrefix}
 use Rattle.outside.proofs.Effects.{made_tells_all, since_longer, tells_longer}
 use Rattle.series_stack.proofs.Steps.{untouched_made}
 use Rattle.stack_steps.proofs.Stepping.{steps_untouched}
@@ -24,18 +22,17 @@ use Rattle.patch_effects.specs.Making.{IsTidy}
 use Rattle.patch_effects.proofs.Tidy.{tidy_both}
 use Rattle.patch_options.specs.declared.options.WordFault.{WordFault}
 use Rattle.tool_words.specs.declared.jobs.StackOp.{StackOp}
-use Rattle.stack_steps.specs.Steps.{IsWhole, IsPart, HasStepCause, Steps}
+use Rattle.stack_steps.specs.Steps.{IsWhole, HasStepCause, Steps}
 use Rattle.run_answers.specs.declared.why.Why.{Why}
 use Rattle.run_answers.specs.declared.why.Why.TheVariants.{Done, Rejected, Usage, Malformed, Garbage, EdReverse, OutMany, Reserved, NoPatchFile, TooLong, LongLine, FileTooLong, BadPattern, NoContext, Unfit, BadState, StackEnd, StackName, ReadFault, WriteFault, TreeFault, ScratchFault, Disagree, Memory}
 use Rattle.run_answers.specs.Answers.{is_own, of_run, is_early}
 use Rattle.run_answers.specs.Moments.{FirstPart}
 use Rattle.run_answers.specs.Worlds.{World, world}
 use Rattle.run_answers.specs.Outcomes.{Outcome}
-use Rattle.stack_cli.specs.Jobs.{AsksFor, IsPushing}
 use Rattle.stack_cli.specs.Command.{behind}
 use Rattle.stack_cli.specs.Worlds.{Tells}
 use Rattle.stack_cli.specs.Causes.{HasCause}
-use Rattle.stack_cli.specs.Carries.{IsAnswer, Answers}
+use Rattle.stack_cli.specs.Carries.{Answers}
 use Rattle.stack_cli.specs.Comes.{Comes}
 use Rattle.stack_cli.specs.Stages.{ended, why_by}
 

@@ -1,5 +1,5 @@
 -- The patch of a push as it is read from its file.
-use Rattle.std.proofs.Common.{Vec, Global, ◌≡◌, ◌⊎◌, inl, inr, ⊎_elim, ℕ, zero, suc, ◌≤◌, List, [], ◌∷◌, map, drop, length, Bool, true, false, ◌&&◌, Option, None, Some, Result, Ok, Err, refl, sym, ◌∙◌, ap, subst, arith, if◌then◌else◌}
+use Rattle.std.proofs.Common.{Vec, Global, ◌≡◌, ◌⊎◌, inr, ⊎_elim, ℕ, zero, suc, List, [], ◌∷◌, map, drop, length, Bool, true, false, ◌&&◌, Option, None, Some, Result, Ok, Err, refl, sym, ◌∙◌, ap, subst, arith, if◌then◌else◌}
 use Rattle.std.specs.Prelude.{nat_le, nat_lt}
 use Rattle.std.proofs.lemmas.Bool.Decides.{nat_tests}
 use Rattle.std.specs.List.{AllByRecursion, list_all, slice_split}
@@ -27,11 +27,11 @@ use Rattle.patch_set.specs.Refusals.{refusal, refusal_of}
 use Rattle.patch_set.specs.SetView.{SetView, IsRead, IsFresh, hunks_in, plain_patches}
 use Rattle.patch_input.specs.declared.fault.InputFault.{InputFault}
 use Rattle.patch_input.specs.declared.fault.InputFault.TheVariants as input
-use Rattle.patch_input.specs.Input.{HasFileCause, answer_of}
+use Rattle.patch_input.specs.Input.{answer_of}
 use Rattle.patch_run.specs.Run.{Run, set_run}
 use Rattle.planned_run.specs.Finishes.{CanApply}
-use Rattle.series_stack.specs.Series.{is_feed, is_lawful, named_lines, names_written, series_of}
-use Rattle.stack_law.specs.Stack.{Stack, patch_name, stack_of}
+use Rattle.series_stack.specs.Series.{is_feed, is_lawful, named_lines, series_of}
+use Rattle.stack_law.specs.Stack.{patch_name}
 use Rattle.stack_law.specs.Commands.{IsPatch, names_of, own_line}
 use Rattle.stack_law.proofs.States.{stack-read}
 use Rattle.stack_law.proofs.Works.{targets-saved}
@@ -43,7 +43,7 @@ use Rattle.stack_patch.specs.declared.PushFault.{PushFault}
 use Rattle.stack_patch.specs.declared.PushFault.TheVariants.{Input, Set}
 use Rattle.stack_patch.specs.Causes as causes
 use Rattle.stack_patch.specs.Causes.{IsRefusal, RefusesSome}
-use Rattle.stack_patch.specs.Pushes.{IsPush, IsPushed}
+use Rattle.stack_patch.specs.Pushes.{IsPush}
 use Rattle.tool_words.specs.declared.jobs.StackOp.TheVariants.{Push}
 use Rattle.run_answers.specs.declared.why.Why.{Why}
 use Rattle.run_answers.specs.declared.why.Why.TheVariants.{TreeFault, Disagree, Memory, StackName}
@@ -54,7 +54,7 @@ use Rattle.stack_cli.proofs.Pushed.{own_stops, read-stops}
 use Rattle.stack_cli.specs.Command.{input_why, patch_why, patches_stop, stop_in, text_why}
 use Rattle.stack_cli.specs.Comes.{StopsEarly}
 use Rattle.stack_cli.specs.Faults.{of_push}
-use Rattle.stack_cli.specs.Stages.{CanPush, IsNext}
+use Rattle.stack_cli.specs.Stages.{IsNext}
 use Rattle.stack_cli.specs.States.{IsNamed, IsState, plain_stack}
 use Rattle.std.specs.Prelude.{IfOk, IfErr, OnOk}
 use Rattle.stack_cli.specs.declared.reading.State.{State}

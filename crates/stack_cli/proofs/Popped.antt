@@ -1,5 +1,5 @@
 -- What the commands come to that apply no patch.
-use Rattle.std.proofs.Common.{◌≡◌, ◌⊎◌, inl, inr, ⊎_elim, ℕ, zero, suc, ◌<◌, ◌≤◌, ◌-◌, nat_lt, get_or, List, [], ◌∷◌, ◌++◌, codes, drop, length, Bool, true, false, ◌||◌, is_some, is_none, IsSome, Option, Some, None, Result, Ok, Err, refl, sym, ◌∙◌, ap, subst, arith}
+use Rattle.std.proofs.Common.{◌≡◌, ℕ, zero, suc, ◌≤◌, nat_lt, get_or, List, [], ◌∷◌, ◌++◌, codes, drop, length, Bool, true, false, is_some, is_none, IsSome, Option, Some, None, Ok, Err, refl, sym, ◌∙◌, ap, subst, arith}
 use Rattle.std.proofs.lemmas.Bool.{false≢true}
 use Rattle.std.proofs.lemmas.Bool.Decides.{nat_tests}
 use Rattle.std.specs.FinMap.{get}
@@ -12,21 +12,17 @@ use Rattle.outside.proofs.Views.{told_back}
 use Rattle.std.proofs.lemmas.Option.{same_Some}
 use Rattle.stack_steps.specs.Steps.{Steps}
 use Rattle.outside.specs.Quiet.{Effect, after, after_all}
-use Rattle.outside.specs.Quiet.Effect.{Put}
-use Rattle.tool_words.specs.declared.jobs.StackOp.{StackOp}
-use Rattle.tool_words.specs.declared.jobs.StackOp.TheVariants.{Push, Pop, Applied}
+use Rattle.tool_words.specs.declared.jobs.StackOp.TheVariants.{Pop, Applied}
 use Rattle.series_stack.specs.declared.fault.StateFile.TheVariants.{Save}
-use Rattle.series_stack.specs.Count.{count_text}
 use Rattle.series_stack.specs.Saves.{Entry, entries_of}
-use Rattle.stack_law.specs.Stack.{Stack, Refusal, count_name, save_name, saved_in, stack_of, undoing, undoing_by, recovering, recover}
-use Rattle.stack_law.specs.Stack.Refusal.{NoSeries, Bad, AtEnd, NoPatch, OwnName}
-use Rattle.stack_law.specs.Commands.{Work, has_bad_save, work_by, popping, popped}
+use Rattle.stack_law.specs.Stack.{Refusal, save_name, saved_in, undoing, undoing_by, recover}
+use Rattle.stack_law.specs.Stack.Refusal.{NoSeries, Bad, AtEnd}
+use Rattle.stack_law.specs.Commands.{work_by, popping, popped}
 use Rattle.stack_law.specs.Commands.Work.{Popping, Telling}
 use Rattle.stack_law.specs.Outcomes.{lowering, recovered_text, said, tally}
-use Rattle.stack_law.specs.Outcomes as law
 use Rattle.stack_law.proofs.Popping.{count_apart}
 use Rattle.stack_law.proofs.Recovering.{IsReady, recovering-is, recover-by}
-use Rattle.stack_law.proofs.Recovery.{Recovery, recovery}
+use Rattle.stack_law.proofs.Recovery.{recovery}
 use Rattle.stack_law.proofs.Works.{work-ready}
 use Rattle.stack_reader.specs.Reading.{read_patch}
 use Rattle.stack_state.specs.Reading.{last_save, whole_save}
@@ -34,10 +30,9 @@ use Rattle.stack_state.specs.declared.fault.StateFault.{StateFault}
 use Rattle.stack_state.specs.declared.fault.StateFault.TheVariants as state
 use Rattle.stack_state.specs.Causes as causes
 use Rattle.stack_steps.proofs.Restoring.{undone-is}
-use Rattle.run_answers.specs.declared.why.Why.{Why}
 use Rattle.run_answers.specs.declared.why.Why.TheVariants.{Done, StackEnd, BadState}
-use Rattle.run_answers.specs.Worlds.{World, world}
-use Rattle.run_answers.specs.Outcomes.{Outcome, refused}
+use Rattle.run_answers.specs.Worlds.{world}
+use Rattle.run_answers.specs.Outcomes.{refused}
 use Rattle.stack_cli.specs.Jobs.{operation}
 use Rattle.stack_cli.specs.Command.{behind, on_op}
 use Rattle.stack_cli.specs.Comes.{StopsEarly}

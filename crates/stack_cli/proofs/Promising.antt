@@ -1,14 +1,12 @@
 -- What a run promises, from what its parts say.
-use Rattle.std.proofs.Common.{◌≡◌, ◌⊎◌, inl, inr, ⊎_elim, ℕ, zero, List, [], length, Bool, true, false, Some, None, Result, Ok, Err, refl, sym, ◌∙◌, ap, subst, arith}
+use Rattle.std.proofs.Common.{◌≡◌, ◌⊎◌, inl, inr, ⊎_elim, ℕ, zero, List, Bool, true, false, Some, Result, Ok, Err, refl, sym, ◌∙◌, ap, subst, arith}
 use Rattle.std.proofs.lemmas.Bool.{false≢true}
 use Rattle.std.proofs.lemmas.List.{append-nil}
 use Rattle.std.proofs.lemmas.Option.{same_Some}
 use Rattle.outside.specs.Files.{Files, SameLasting, lasting-same}
-use Rattle.outside.specs.TreeView.{TreeView, MayLeave, LeftSince, Passes, passes_both, Rises}
+use Rattle.outside.specs.TreeView.{TreeView, MayLeave, LeftSince, passes_both, Rises}
 use Rattle.outside.specs.SinkView.{SinkView, sink_passes_none}
 use Rattle.outside.specs.ScratchView.{ScratchView, scratch_passes_none}
-use Rattle.outside.specs.Calls.{IsUntouched}
-use Rattle.outside.specs.Quiet.{IsQuiet, Effect, after_all}
 use Rattle.outside.proofs.Views.{since_split}
 use Rattle.patch_options.specs.declared.options.WordFault.{WordFault}
 use Rattle.patch_options.specs.declared.options.WordFault.TheVariants as words
@@ -19,12 +17,12 @@ use Rattle.stack_reader.proofs.Lawful.{keeps}
 use Rattle.run_answers.specs.declared.why.Why.{Why}
 use Rattle.run_answers.specs.declared.why.Why.TheVariants.{Done, Rejected, Usage, Malformed, Garbage, EdReverse, OutMany, Reserved, NoPatchFile, TooLong, LongLine, FileTooLong, BadPattern, NoContext, Unfit, BadState, StackEnd, StackName, ReadFault, WriteFault, TreeFault, ScratchFault, Disagree, Memory}
 use Rattle.run_answers.specs.Answers.{is_own, of_words, is_through, is_early}
-use Rattle.run_answers.specs.Moments.{Opens, FirstPart, IsAsAtEntry, LeavesAllowed}
+use Rattle.run_answers.specs.Moments.{Opens, FirstPart, IsAsAtEntry}
 use Rattle.run_answers.specs.Worlds.{World, world, NoneFailed}
 use Rattle.run_answers.specs.Outcomes.{Outcome, refused}
 use Rattle.run_answers.proofs.Names.{old_or_new}
-use Rattle.run_answers.proofs.Opens.{opens_none, opens_both, opens_untouched, tidy_same, tidy_behind}
-use Rattle.stack_cli.specs.Jobs.{AsksFor, IsPushing, operation}
+use Rattle.run_answers.proofs.Opens.{opens_none, opens_both, tidy_same, tidy_behind}
+use Rattle.stack_cli.specs.Jobs.{IsPushing, operation}
 use Rattle.stack_cli.specs.Command.{command, on_op}
 use Rattle.stack_cli.specs.Worlds.{Tells}
 use Rattle.stack_cli.specs.Causes.{HasCause}

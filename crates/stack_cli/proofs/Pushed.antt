@@ -1,11 +1,9 @@
 -- What a push comes to, from its stages to the definition of the whole.
-use Rattle.std.proofs.Common.{◌≡◌, ◌⊎◌, inl, inr, ⊎_elim, ℕ, zero, suc, ◌<◌, ◌≤◌, ◌^◌, List, [], ◌∷◌, ◌++◌, codes, drop, length, Bool, true, false, is_some, IsSome, Option, Some, None, Result, Ok, Err, refl, sym, ◌∙◌, ap, subst, arith}
+use Rattle.std.proofs.Common.{◌≡◌, ℕ, suc, ◌≤◌, List, [], ◌∷◌, ◌++◌, codes, drop, length, true, false, Option, Some, None, Ok, refl, sym, ◌∙◌, ap, arith}
 use Rattle.std.specs.Prelude.{nat_lt}
-use Rattle.std.proofs.lemmas.Bool.{false≢true}
 use Rattle.std.proofs.lemmas.Bool.Decides.{nat_tests}
 use Rattle.std.proofs.lemmas.List.{append-nil, drop_all}
 use Rattle.std.specs.FinMap.{get}
-use Rattle.line_store.specs.declared.fault.OpenFault.{OpenFault}
 use Rattle.outside.specs.Files.{Files}
 use Rattle.outside.specs.TreeView.{TreeView}
 use Rattle.outside.specs.SinkView.{SinkView}
@@ -21,9 +19,9 @@ use Rattle.series_stack.specs.Taking.{AreSaved, HasTakeCause, too_long}
 use Rattle.series_stack.proofs.Taking.{save-read}
 use Rattle.patch_set.specs.SetView.{SetView, plain_patches}
 use Rattle.patch_run.specs.Run.{set_run}
-use Rattle.stack_law.specs.Stack.{Stack, Refusal, patch_name, save_name, stack_of, undoing, undoing_by, recovering, recover}
+use Rattle.stack_law.specs.Stack.{Stack, patch_name, save_name, undoing, undoing_by, recover}
 use Rattle.stack_law.specs.Stack.Refusal.{AtEnd, NoPatch, OwnName}
-use Rattle.stack_law.specs.Commands.{Application, Ending, Patch, Work, checked, names_of, own_line, pushing, push_work, work_by}
+use Rattle.stack_law.specs.Commands.{Application, Ending, Patch, checked, names_of, own_line, pushing, push_work, work_by}
 use Rattle.stack_law.specs.Commands.{Ending as endings}
 use Rattle.stack_law.specs.Commands.Work.{Pushing}
 use Rattle.stack_law.specs.Outcomes.{closing, ending_text, recovered_text, run_effects, said, saving}
@@ -35,19 +33,19 @@ use Rattle.tool_words.specs.declared.jobs.StackOp.TheVariants.{Push}
 use Rattle.run_answers.specs.declared.why.Why.{Why}
 use Rattle.run_answers.specs.Answers.{is_own, is_early}
 use Rattle.stack_cli.specs.Causes.{HasCause}
-use Rattle.run_answers.specs.declared.why.Why.TheVariants.{Done, FileTooLong, StackEnd, StackName, TreeFault, Disagree, Memory}
-use Rattle.run_answers.specs.Worlds.{World, world}
+use Rattle.run_answers.specs.declared.why.Why.TheVariants.{FileTooLong, StackEnd, StackName, TreeFault, Disagree, Memory}
+use Rattle.run_answers.specs.Worlds.{world}
 use Rattle.run_answers.specs.Outcomes.{Outcome, refused}
 use Rattle.stack_cli.specs.Jobs.{operation}
 use Rattle.stack_cli.specs.Command.{answer_why, behind, first_file, on_op, outcome_with, patch_why, saved_files, stop_in, stop_why}
 use Rattle.stack_cli.specs.Comes.{Comes, StopsEarly}
-use Rattle.stack_cli.specs.Stages.{IsNext, Stage, applied_by, closed, ended, on_recovered, on_said, on_saved, saved_by}
+use Rattle.stack_cli.specs.Stages.{IsNext, Stage, closed, ended, on_recovered, on_said, on_saved, saved_by}
 use Rattle.stack_cli.specs.States.{IsNamed, IsState, plain_stack, stage_of}
 use Rattle.stack_cli.specs.declared.reading.State.{State}
-use Rattle.stack_cli.specs.Faults.{of_push, of_save}
+use Rattle.stack_cli.specs.Faults.{of_save}
 use Rattle.stack_steps.proofs.Stepping.{steps_untouched}
 use Rattle.stack_cli.proofs.Coming.{comes_end, comes_is, comes_nothing}
-use Rattle.stack_cli.proofs.Standing.{Stands, refusing, stands, working}
+use Rattle.stack_cli.proofs.Standing.{refusing, stands, working}
 
 -- ---- the work of a push
 push_works : (f : Files) (s : Stack) (name : List ℕ) (more : List (List ℕ)) (p : Patch) → drop s.applied s.patches ≡ name ∷ more → read_patch (get f (patch_name name)) ≡ Some p → own_line p.targets ≡ None

@@ -1,8 +1,7 @@
 -- A patch that is run on the files with its save, and what is done behind it.
-use Rattle.std.proofs.Common.{◌≡◌, ◌⊎◌, inl, inr, ⊎_elim, ℕ, suc, ◌+◌, ◌<◌, ◌≤◌, ◌^◌, ◌-◌, List, [], ◌∷◌, ◌++◌, map, length, Bool, true, false, not, cond, is_some, IsSome, Option, Some, None, Result, Ok, Err, refl, sym, ◌∙◌, ap, subst, arith}
+use Rattle.std.proofs.Common.{◌≡◌, ℕ, suc, ◌+◌, ◌<◌, ◌-◌, List, [], ◌∷◌, ◌++◌, map, Bool, true, false, not, cond, is_some, IsSome, Option, Some, None, Result, Ok, Err, refl, sym, ◌∙◌, ap, subst, arith}
 use Rattle.std.proofs.lemmas.Bool.{false≢true}
 use Rattle.std.proofs.lemmas.List.{append-nil}
-use Rattle.std.proofs.lemmas.Option.{same_Some}
 use Rattle.std.specs.FinMap.{get}
 use Rattle.outside.specs.Files.{Files, SameLasting, is_temp, lasting-both}
 use Rattle.outside.specs.TreeView.{TreeView, Passes, passes_both}
@@ -10,8 +9,8 @@ use Rattle.outside.specs.Faults.{HasRisen}
 use Rattle.outside.specs.SinkView.{SinkView, SinkPasses, sink_passes_both, Receives, ReceivesPart}
 use Rattle.outside.specs.SinkView as sink
 use Rattle.outside.specs.ScratchView.{ScratchView, ScratchPasses, scratch_passes_both}
-use Rattle.outside.specs.Calls.{IsThere, IsUntouched}
-use Rattle.outside.specs.Quiet.{IsQuiet, Effect, after_all, HasMade, LeavesPrefix, TellsPrefix}
+use Rattle.outside.specs.Calls.{IsThere}
+use Rattle.outside.specs.Quiet.{IsQuiet, Effect, after_all, HasMade, LeavesPrefix}
 use Rattle.outside.specs.Quiet.Effect.{Remove}
 use Rattle.outside.proofs.Effects.{since_longer, tells_longer}
 use Rattle.outside.proofs.Views.{rises_first}
@@ -42,7 +41,7 @@ use Rattle.patch_effects.proofs.Tidy.{tidy_both}
 use Rattle.stack_steps.proofs.Restoring.{undone-there}
 use Rattle.stack_steps.proofs.Stepping.{one_more}
 use Rattle.patch_run.specs.Applied.{Receipt}
-use Rattle.patch_run.specs.Run.{Run, set_run}
+use Rattle.patch_run.specs.Run.{set_run}
 use Rattle.patch_run.specs.Doing.{IsFar, IsPartOf, QuietAfter}
 use Rattle.patch_set.specs.SetView.{SetView, plain_patches}
 use Rattle.planned_run.specs.Finishes.{Finishes, IsToldTo}
@@ -51,7 +50,7 @@ use Rattle.stack_steps.specs.Steps.{Steps}
 use Rattle.stack_steps.specs.Undoing.{undone_by}
 use Rattle.tool_words.specs.declared.jobs.StackOp.TheVariants.{Push}
 use Rattle.run_answers.specs.declared.why.Why.{Why}
-use Rattle.run_answers.specs.declared.why.Why.TheVariants.{Done, Rejected}
+use Rattle.run_answers.specs.declared.why.Why.TheVariants.{Done}
 use Rattle.run_answers.specs.Answers.{is_own, of_run, is_early}
 use Rattle.run_answers.specs.Moments.{FirstPart}
 use Rattle.run_answers.specs.Worlds.{World, world}

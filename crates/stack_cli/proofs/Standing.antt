@@ -1,5 +1,5 @@
 -- The stack that was read, and what a command is to do with it.
-use Rattle.std.proofs.Common.{◌≡◌, ◌⊎◌, inl, inr, ⊎_elim, ℕ, zero, suc, ◌<◌, ◌≤◌, ◌-◌, List, [], ◌∷◌, ◌++◌, drop, length, Bool, true, false, ◌||◌, is_some, is_none, IsSome, Option, Some, None, Result, Ok, Err, refl, sym, ◌∙◌, ap, subst, arith, if◌then◌else◌}
+use Rattle.std.proofs.Common.{◌≡◌, ℕ, suc, List, Bool, true, false, Option, Some, Result, Ok, Err, refl, sym, ◌∙◌, ap, subst, arith, if◌then◌else◌}
 use Rattle.std.specs.Prelude.{IfErr, option_map, vec_items}
 use Rattle.std.proofs.lemmas.Bool.{false≢true}
 use Rattle.std.specs.FinMap.{get}
@@ -10,29 +10,24 @@ use Rattle.outside.specs.SinkView.{SinkView, sink_passes_none}
 use Rattle.outside.specs.Calls.{IsUntouched}
 use Rattle.outside.specs.Quiet.{Effect}
 use Rattle.tool_words.specs.declared.jobs.StackOp.{StackOp}
-use Rattle.tool_words.specs.declared.jobs.StackOp.TheVariants.{Push, Pop, Applied}
 use Rattle.series_stack.specs.declared.fault.StateFile.TheVariants.{Save}
-use Rattle.stack_law.specs.Stack.{Stack, Refusal, save_name, saved_in, stack_of, undoing, recovering, recover}
-use Rattle.stack_law.specs.Stack.Refusal.{NoSeries, Bad, AtEnd, NoPatch, OwnName}
+use Rattle.stack_law.specs.Stack.{Stack, Refusal, save_name, stack_of, undoing, recover}
+use Rattle.stack_law.specs.Stack.Refusal.{NoSeries, Bad}
 use Rattle.stack_law.specs.Commands.{Work, has_bad_save, work_of, work_by}
-use Rattle.stack_law.specs.Commands.Work.{Pushing, Popping, Telling}
-use Rattle.stack_law.specs.Commands.{StackOp as operations}
 use Rattle.stack_law.specs.Outcomes as law
 use Rattle.stack_law.proofs.Answering.{command-is, command-work}
 use Rattle.stack_law.proofs.Recovering.{recovering-is}
 use Rattle.stack_reader.specs.Reading.{read_patch}
-use Rattle.stack_state.specs.Reading.{next_save, last_save, whole_save}
+use Rattle.stack_state.specs.Reading.{next_save}
 use Rattle.stack_state.specs.declared.fault.StateFault.{StateFault}
 use Rattle.stack_state.specs.declared.fault.StateFault.TheVariants as state
 use Rattle.stack_state.specs.Causes as causes
 use Rattle.run_answers.specs.declared.why.Why.{Why}
 use Rattle.run_answers.specs.declared.why.Why.TheVariants.{Memory}
-use Rattle.run_answers.specs.Answers.{is_own, is_early}
 use Rattle.run_answers.specs.Worlds.{World, world}
-use Rattle.run_answers.specs.Outcomes.{Outcome, refused}
+use Rattle.run_answers.specs.Outcomes.{Outcome}
 use Rattle.stack_cli.specs.Jobs.{operation}
 use Rattle.stack_cli.specs.Command.{outcome_with, next_file, applied_in, on_op}
-use Rattle.stack_cli.specs.Causes.{HasCause}
 use Rattle.stack_cli.specs.Comes.{StopsEarly}
 use Rattle.stack_cli.specs.Faults.{of_state}
 use Rattle.stack_cli.proofs.Coming.{cause_then}

@@ -83,7 +83,11 @@ fn push_named<T: Tree, C: Scratch, O: Sink>(
     ensures rest { O.same_rest out.old out.new }
 {
     match read_next(alloc, state, name, tree) {
-        Ok(mut next) => push_next(alloc, state, name, &mut next, tree, scratch, out),
+        Ok(mut next) => {
+            let ended = push_next(alloc, state, name, &mut next, tree, scratch, out);
+            drop(next);
+            ended
+        }
         Err(why) => (why, scratch),
     }
 }
@@ -126,8 +130,14 @@ fn read_from<T: Tree>(
 {
     let options = push_options();
     match read_push(alloc, file, &options, tree) {
-        Ok(set) => with_names(alloc, set),
-        Err(fault) => Err(of_push(fault)),
+        Ok(set) => {
+            drop(options);
+            with_names(alloc, set)
+        }
+        Err(fault) => {
+            drop(options);
+            Err(of_push(fault))
+        }
     }
 }
 
@@ -141,7 +151,10 @@ fn with_names(alloc: Global, set: PatchSet) -> Result<Next, Why>
 {
     match saved_names(alloc, &set) {
         Ok(saved) => checked(set, saved),
-        Err(_) => Err(Why::Memory),
+        Err(_) => {
+            drop(set);
+            Err(Why::Memory)
+        }
     }
 }
 
@@ -152,7 +165,11 @@ fn checked(set: PatchSet, saved: Saved) -> Result<Next, Why>
     ensures refused { IfErr result (λ why. (line : ℕ) × (why ≡ Why.StackName line) × (saved.own ≡ Some line)) }
 {
     match saved.own {
-        Some(line) => Err(Why::StackName { line }),
+        Some(line) => {
+            drop(set);
+            drop(saved.names);
+            Err(Why::StackName { line })
+        }
         None => Ok(Next {
             set,
             names: saved.names,
@@ -289,5 +306,6 @@ fn push_saved<T: Tree, C: Scratch, O: Sink>(
 {
     let options = push_options();
     let (ended, scratch) = apply(alloc, &options, set, scratch, tree, out);
+    drop(options);
     (close(alloc, state, name, save, ended, tree, out), scratch)
 }

@@ -29,7 +29,11 @@ pub fn read_op(alloc: Global, words: &[String]) -> Result<StackOp, Why>
     ensures refused { IfErr result (λ why. (why ≡ Why.Memory) ⊎ ((fault : TheFault) × (why ≡ of_words fault) × (job_of (map string_bytes words.now) ≡ Err fault))) }
 {
     match read_tool_words(alloc, words) {
-        Ok(job) => supported(&job),
+        Ok(job) => {
+            let op = supported(&job);
+            drop(job);
+            op
+        }
         Err(fault) => Err(Why::from(fault)),
     }
 }

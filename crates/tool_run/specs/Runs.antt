@@ -14,11 +14,11 @@ use Rattle.run_answers.specs.declared.why.Why.TheVariants.{Memory}
 use Rattle.run_answers.specs.Answers.{of_words}
 use Rattle.run_answers.specs.Moments.{LeavesOldOrNew}
 use Rattle.run_answers.specs.Worlds as worlds
+use Rattle.run_outcome.specs.declared.exit.Exit.{Exit}
 use Rattle.patch_cli.specs.Answers.{IsEarly, sort_of}
 use Rattle.patch_cli.specs.Command.{command}
 use Rattle.patch_cli.specs.Worlds.{World, TellsFiles, TellsLeft, reads_source, uses_scratch}
 use Rattle.patch_cli.specs.Worlds as patch_worlds
-use Rattle.patch_cli.specs.declared.cli.Exit.{Exit}
 use Rattle.patch_cli.specs.Carries.{Carries, NoneFailed, IsComplete}
 use Rattle.filter_cli.specs.Jobs.{AsksFor, HasPattern, ReadsSource}
 use Rattle.filter_cli.specs.Jobs as filter_jobs

@@ -4,6 +4,7 @@
 mod kind;
 mod run_tool;
 
-pub use patch_cli::{Applied, Exit};
+pub use patch_run::Applied;
 pub use run_answers::Why;
+pub use run_outcome::Exit;
 pub use run_tool::run;

@@ -7,5 +7,5 @@ files_are : (seed files lines : ℕ) → (made seed files lines).files ≡ map (
 unfolding made
 files_are seed files lines = refl
 
-pub returns-clause-made : goal.returns-clause-made
-returns-clause-made c = record { named = c.in-Ok-places_of.ensures; bytes = c.in-Ok.ensures.files ∙ files_are c.args.job.seed c.args.job.files c.args.job.lines }
+pub returns-in-Ok-read_made-clause-made : goal.returns-in-Ok-read_made-clause-made
+returns-in-Ok-read_made-clause-made c = record { named = c.in-Ok-places_of.ensures; bytes = c.in-Ok.ensures.files ∙ files_are c.args.job.seed c.args.job.files c.args.job.lines }

@@ -2,38 +2,25 @@ use Rattle.std.proofs.Common.{map, string_bytes}
 use Rattle.patch_options.specs.PlainJob.{plain_options}
 use Rattle.patch_options.specs.Words.{job_of}
 use Rattle.run_answers.proofs.Opens.{opens_both, opens_untouched}
-use Rattle.patch_cli.proofs.Asked.{asked_behind, fails_early, settle_stops, patches_stop}
+use Rattle.patch_cli.proofs.Asked.{asked_behind, settle_stops, patches_stop}
 use Rattle.patch_cli.proofs.opening.open.Goals as goal
 
-pub returns-in_err-set-clause-opens : goal.returns-in_err-set-clause-opens
-returns-in_err-set-clause-opens g c = opens_both c.settle.ensures.opens (opens_untouched c.read_patches.ensures.untouched)
+pub returns-in-Ok-read_patches-clause-opens : goal.returns-in-Ok-read_patches-clause-opens
+returns-in-Ok-read_patches-clause-opens g c = opens_both c.settle.ensures.opens (opens_untouched c.read_patches.ensures.untouched)
 
-pub returns-clause-opens : goal.returns-clause-opens
-returns-clause-opens g c = opens_both c.settle.ensures.opens (opens_untouched c.read_patches.ensures.untouched)
+pub returns-in-Err-read_patches-clause-opens : goal.returns-in-Err-read_patches-clause-opens
+returns-in-Err-read_patches-clause-opens g c = opens_both c.settle.ensures.opens (opens_untouched c.read_patches.ensures.untouched)
 
-pub returns-clause-asked : goal.returns-clause-asked
-returns-clause-asked g c a b =
+pub returns-in-Ok-read_patches-clause-asked : goal.returns-in-Ok-read_patches-clause-asked
+returns-in-Ok-read_patches-clause-asked g c a b =
     asked_behind (g.T.Tree.view c.args.tree.now) (g.T.Tree.view c.settle.new.tree) (g.I.Source.view c.args.source.now) c.settle.ensures.opens
-    (plain_options c.in_ok-options.options) c.in_ok-set.set a b (c.in_ok-set.ensures.asked a b)
+    (plain_options c.in_ok-options.options) c.in-Ok-read_patches.set a b (c.in-Ok-read_patches.ensures.asked a b)
 
-pub returns-in_err-settle-clause-refused : goal.returns-in_err-settle-clause-refused
-returns-in_err-settle-clause-refused g c =
-    let job = job_of (map string_bytes c.args.words.now) in
-    let t = g.T.Tree.view c.args.tree.now in
-    let u = g.T.Tree.view c.settle.new.tree in
-    let s = g.I.Source.view c.args.source.now in
-    let why = c.in_err-settle.field-0.0 in
-    fails_early c.from_residual-in_err-settle.result why job t u s s c.from_residual-in_err-settle.ensures.1
-    (settle_stops why job t u s c.in_err-settle.ensures.cause.0 c.in_err-settle.ensures.cause.1)
+pub returns-in-Err-clause-refused : goal.returns-in-Err-clause-refused
+returns-in-Err-clause-refused g c = settle_stops c.in-Err.why (job_of (map string_bytes c.args.words.now)) (g.T.Tree.view c.args.tree.now) (g.T.Tree.view c.settle.new.tree) (g.I.Source.view c.args.source.now)
+    c.in-Err.ensures.cause.0 c.in-Err.ensures.cause.1
 
-pub returns-in_err-set-clause-refused : goal.returns-in_err-set-clause-refused
-returns-in_err-set-clause-refused g c =
-    let job = job_of (map string_bytes c.args.words.now) in
-    let t = g.T.Tree.view c.args.tree.now in
-    let u = g.T.Tree.view c.settle.new.tree in
-    let w = g.T.Tree.view c.read_patches.new.tree in
-    let s = g.I.Source.view c.args.source.now in
-    let r = g.I.Source.view c.read_patches.new.source in
-    let why = c.in_err-set.field-0.0 in
-    fails_early c.from_residual-in_err-set.result why job t w s r c.from_residual-in_err-set.ensures.1
-    (patches_stop t u s c.settle.ensures.opens why (plain_options c.in_ok-options.options) job c.in_ok-options.ensures.job w r c.in_err-set.ensures.refused)
+pub returns-in-Err-read_patches-clause-refused : goal.returns-in-Err-read_patches-clause-refused
+returns-in-Err-read_patches-clause-refused g c =
+    patches_stop (g.T.Tree.view c.args.tree.now) (g.T.Tree.view c.settle.new.tree) (g.I.Source.view c.args.source.now) c.settle.ensures.opens c.in-Err-read_patches.why (plain_options c.in_ok-options.options)
+    (job_of (map string_bytes c.args.words.now)) c.in_ok-options.ensures.job (g.T.Tree.view c.read_patches.new.tree) (g.I.Source.view c.read_patches.new.source) c.in-Err-read_patches.ensures.refused

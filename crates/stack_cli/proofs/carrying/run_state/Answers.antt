@@ -1,5 +1,5 @@
 use Rattle.std.proofs.Common.{refl}
-use Rattle.tool_words.specs.declared.jobs.StackOp.TheVariants.{Push, Pop, Applied}
+use Rattle.tool_words.specs.declared.jobs.StackOp.TheVariants.{Applied}
 use Rattle.stack_cli.proofs.Promising.{carries_late}
 use Rattle.stack_cli.proofs.carrying.run_state.Goals as goal
 

@@ -1,4 +1,4 @@
-use Rattle.std.proofs.Common.{ap, sym, ◌∙◌}
+use Rattle.std.proofs.Common.{sym, ◌∙◌}
 use Rattle.series_stack.specs.Saves.{entries_of}
 use Rattle.stack_law.specs.Stack.{save_name}
 use Rattle.std.proofs.Common.{suc}

@@ -1,9 +1,4 @@
-use Rattle.std.proofs.Common.{[], ◌∷◌, suc, refl}
-use Rattle.outside.specs.SinkView.{SinkView}
-use Rattle.run_answers.specs.Answers.{of_run}
 use Rattle.series_stack.specs.Saves.{entries_of}
-use Rattle.stack_law.specs.Stack.{save_name}
-use Rattle.stack_steps.specs.Undoing.{undone_by}
 use Rattle.stack_cli.proofs.Running.{cut-comes, cut-fails}
 use Rattle.stack_cli.proofs.closing.undo_cut.Goals as goal
 

@@ -7,17 +7,17 @@ use Rattle.stack_cli.proofs.Standing.{state_on}
 use Rattle.stack_cli.proofs.Pushed.{next_on}
 use Rattle.stack_cli.proofs.pushing.push_named.Goals as goal
 
-pub push_next-requires-clause-state : goal.push_next-requires-clause-state
-push_next-requires-clause-state g c = state_on c.read_next.ensures.untouched c.requires.state
+pub push_next-ended-requires-clause-state : goal.push_next-ended-requires-clause-state
+push_next-ended-requires-clause-state g c = state_on c.read_next.ensures.untouched c.requires.state
 
-pub push_next-requires-clause-next : goal.push_next-requires-clause-next
-push_next-requires-clause-next g c = next_on c.read_next.ensures.untouched c.in-Ok.ensures.next
+pub push_next-ended-requires-clause-next : goal.push_next-ended-requires-clause-next
+push_next-ended-requires-clause-next g c = next_on c.read_next.ensures.untouched c.in-Ok.ensures.next
 
-pub push_next-requires-clause-quiet : goal.push_next-requires-clause-quiet
-push_next-requires-clause-quiet g c = untouched_quiet c.read_next.ensures.untouched c.requires.quiet
+pub push_next-ended-requires-clause-quiet : goal.push_next-ended-requires-clause-quiet
+push_next-ended-requires-clause-quiet g c = untouched_quiet c.read_next.ensures.untouched c.requires.quiet
 
 pub returns-in-Ok-clause-carries : goal.returns-in-Ok-clause-carries
-returns-in-Ok-clause-carries g c = carries_behind (Ok Push) _ _ _ _ (opens_untouched c.read_next.ensures.untouched) _ _ (carries_late Push _ _ _ (λ never. absurd (never tt)) c.push_next.ensures.comes)
+returns-in-Ok-clause-carries g c = carries_behind (Ok Push) _ _ _ _ (opens_untouched c.read_next.ensures.untouched) _ _ (carries_late Push _ _ _ (λ never. absurd (never tt)) c.push_next-ended.ensures.comes)
 
 pub returns-in-Err-clause-carries : goal.returns-in-Err-clause-carries
 returns-in-Err-clause-carries g c = carries_early Push _ _ _ _ c.in-Err.why (opens_untouched c.read_next.ensures.untouched) (c.in-Err.ensures.refused _ _)

@@ -1,4 +1,4 @@
-use Rattle.std.proofs.Common.{[], codes, refl}
+use Rattle.std.proofs.Common.{codes, refl}
 use Rattle.patch_effects.specs.declared.fault.RunFault.TheVariants.{Write}
 use Rattle.stack_law.specs.Outcomes.{said}
 use Rattle.stack_cli.specs.Stages.{on_said}

@@ -1,4 +1,4 @@
-use Rattle.std.proofs.Common.{◌≡◌, List, ℕ, sym, ◌∙◌, subst}
+use Rattle.std.proofs.Common.{List, ℕ, sym, ◌∙◌, subst}
 use Rattle.outside.proofs.Views.{untouched_quiet}
 use Rattle.series_stack.specs.Taking.{AreSaved}
 use Rattle.stack_cli.specs.Faults.{of_save}

@@ -1,9 +1,7 @@
 use Rattle.std.proofs.Common.{refl, sym, subst}
-use Rattle.outside.specs.ScratchView.{ScratchView}
 use Rattle.run_answers.specs.Worlds.{world}
-use Rattle.patch_options.specs.PlainJob.{PlainOptions, plain_options}
+use Rattle.patch_options.specs.PlainJob.{PlainOptions}
 use Rattle.planned_run.specs.Finishes.{CanApply, Finishes}
-use Rattle.stack_reader.specs.Reading.{push_options}
 use Rattle.stack_cli.specs.States.{stage_of}
 use Rattle.stack_cli.proofs.Running.{has_cut, run_closes, still_saved}
 use Rattle.stack_cli.proofs.pushing.push_saved.Goals as goal

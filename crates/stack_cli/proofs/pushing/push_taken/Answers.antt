@@ -1,4 +1,4 @@
-use Rattle.std.proofs.Common.{ℕ, Ok, Err, [], ◌∷◌, suc, refl}
+use Rattle.std.proofs.Common.{Ok, Err, [], ◌∷◌, suc, refl}
 use Rattle.outside.specs.Quiet.{after}
 use Rattle.outside.specs.Quiet.Effect.{Put}
 use Rattle.run_answers.specs.Answers.{of_run}

@@ -1,4 +1,3 @@
-use Rattle.std.proofs.Common.{◌≡◌, inl, inr, ⊎_elim}
 use Rattle.stack_cli.specs.Faults.{of_push}
 use Rattle.stack_cli.proofs.Standing.{stops_as}
 use Rattle.stack_cli.proofs.Fetching.{names_next, names_stop, push_stops}
@@ -13,6 +12,6 @@ returns-in-Ok-clause-next g c = names_next c.args.state.now c.args.name.now c.ar
 pub returns-in-Ok-clause-refused : goal.returns-in-Ok-clause-refused
 returns-in-Ok-clause-refused g c = names_stop (g.T.Tree.view c.args.tree.now) (g.T.Tree.view c.read_push.new.tree) c.args.state.now c.args.name.now c.args.file.now c.in-Ok.set c.requires.state c.requires.name c.requires.file c.in-Ok.ensures.push c.with_names.result c.with_names.ensures.refused
 
-pub returns-clause-refused : goal.returns-clause-refused
-returns-clause-refused g c a b = stops_as c.of_push.result (of_push c.in-Err.fault) c.of_push.ensures
+pub returns-in-Err-clause-refused : goal.returns-in-Err-clause-refused
+returns-in-Err-clause-refused g c a b = stops_as c.of_push.result (of_push c.in-Err.fault) c.of_push.ensures
     (push_stops (g.T.Tree.view c.args.tree.now) (g.T.Tree.view c.read_push.new.tree) a b c.args.state.now c.args.name.now c.args.file.now c.requires.state c.requires.name c.requires.file c.in-Err.fault c.in-Err.ensures.cause c.in-Err.ensures.some c.in-Err.ensures.none)

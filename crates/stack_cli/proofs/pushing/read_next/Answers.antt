@@ -1,4 +1,3 @@
-use Rattle.outside.specs.Calls.{untouched_none}
 use Rattle.tool_words.specs.declared.jobs.StackOp.TheVariants.{Push}
 use Rattle.stack_cli.proofs.Standing.{starved}
 use Rattle.stack_cli.proofs.pushing.read_next.Goals as goal

@@ -1,4 +1,4 @@
-use Rattle.std.proofs.Common.{◌≡◌, ℕ, List, [], ◌∷◌, ◌++◌, codes, drop, length, suc, ◌-◌, refl, sym, ◌∙◌, ap, arith}
+use Rattle.std.proofs.Common.{◌≡◌, ℕ, ◌∷◌, ◌++◌, codes, drop, length, suc, ◌-◌, refl, sym, ◌∙◌, ap, arith}
 use Rattle.outside.specs.Quiet.{after, after_all}
 use Rattle.tool_words.specs.declared.jobs.StackOp.TheVariants.{Pop}
 use Rattle.run_answers.specs.declared.why.Why.TheVariants.{Done}

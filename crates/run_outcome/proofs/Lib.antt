@@ -1,0 +1,5 @@
+pub mod SamePlan
+pub mod Matching
+pub mod Receipts
+pub mod Entry
+pub mod Written
