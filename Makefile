@@ -6,6 +6,7 @@
 # make deep     tries the wrong bodies that the gate leaves out (wrong-bodies); CRATES='NAME ..' takes those of some crates alone
 # make install  installs the program, its links, the manual and completions for bash, zsh and fish below PREFIX; without rt the program
 #               that was built before
+# make uninstall  removes what make install put there, but no directory
 # make dist     packs them into build/patchkit-VERSION-MACHINE.tar.gz, which needs no toolchain
 RT ?= rt
 PREFIX ?= /usr/local
@@ -13,7 +14,7 @@ DESTDIR ?=
 TOOLS = patch lsdiff filterdiff grepdiff splitdiff recountdiff reversediff patchgen patchstack
 BIN = build/bin
 
-.PHONY: all demo try test times deep install dist clean
+.PHONY: all demo try test times deep install uninstall dist clean
 
 all:
 	@sh tests/build $(RT) $(BIN) $(TOOLS)
@@ -50,8 +51,13 @@ install:
 	mkdir -p $(DESTDIR)$(PREFIX)/bin $(DESTDIR)$(PREFIX)/share/man/man1
 	install -m 755 $(BIN)/patchkit $(DESTDIR)$(PREFIX)/bin/patchkit
 	for tool in $(TOOLS); do ln -sf patchkit $(DESTDIR)$(PREFIX)/bin/$$tool || exit; done
-	for tool in $(TOOLS); do install -m 644 docs/man/$$tool.1 $(DESTDIR)$(PREFIX)/share/man/man1/$$tool.1 || exit; done
+	for tool in patchkit $(TOOLS); do install -m 644 docs/man/$$tool.1 $(DESTDIR)$(PREFIX)/share/man/man1/$$tool.1 || exit; done
 	python3 docs/completions/make $(BIN)/patchkit $(DESTDIR)$(PREFIX)/share $(TOOLS)
+
+# A program of a tool's name that isn't our link stays.
+uninstall:
+	cd $(DESTDIR)$(PREFIX)/bin && for tool in $(TOOLS); do [ "$$(readlink $$tool)" != patchkit ] || rm -f $$tool || exit; done && rm -f patchkit
+	cd $(DESTDIR)$(PREFIX)/share && for tool in patchkit $(TOOLS); do rm -f man/man1/$$tool.1 bash-completion/completions/$$tool zsh/site-functions/_$$tool fish/vendor_completions.d/$$tool.fish || exit; done
 
 dist: all
 	@sh tests/dist $(RT) $(BIN) build $(TOOLS)
