@@ -181,15 +181,17 @@ pub fn untried(
     ensures untried { IfOk result (IsUntried text.items ways named) }
     ensures marks { IfOk result (λ set. set.has_marks ≡ marks_asked) }
 {
-    let notes = first_notes(
+    match first_notes(
         alloc,
         &text,
         ways,
         &named.patches,
         &named.output,
         marks_asked,
-    )?;
-    Ok(noted(text, ways, named, notes))
+    ) {
+        Ok(notes) => Ok(noted(text, ways, named, notes)),
+        Err(error) => Err(error),
+    }
 }
 
 /// The set with these notes.
