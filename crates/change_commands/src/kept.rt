@@ -11,7 +11,7 @@ ghost use Rattle.change_commands.specs.Walk.{IsKept, kept_flags};
 
 use file_patch::FilePatch;
 use hunk_core::Hunk;
-use patch_filters::keeps;
+use filter_choice::keeps;
 use patch_set::PatchSet;
 use tool_words::FilterJob;
 

@@ -18,7 +18,7 @@ use Rattle.tool_words.specs.PlainJobs.PlainToolJob.{split_job}
 use Rattle.patch_input.specs.declared.fault.InputFault.TheVariants as input
 use Rattle.patch_set.specs.declared.fault.SetFault.TheVariants as set
 use Rattle.patch_effects.specs.Making.{IsTidy}
-use Rattle.patch_filters.specs.Selected.{numbered}
+use Rattle.filter_choice.specs.Selected.{numbered}
 use Rattle.filter_run.specs.declared.fault.FilterFault.{FilterFault}
 use Rattle.filter_run.specs.declared.fault.FilterFault.TheVariants as faults
 use Rattle.filter_run.specs.Sifting.{is_refusal}

@@ -32,7 +32,7 @@ use Rattle.patch_text.proofs.ChangeLemmas.{opens-change}
 use Rattle.patch_set.proofs.InBytes.{cut-bytes}
 use Rattle.tool_words.specs.PlainJobs.{PlainFilterJob}
 use Rattle.patch_filters.specs.Filtered.{chosen, asks_no_hunk}
-use Rattle.patch_filters.specs.Kept.{kept}
+use Rattle.filter_choice.specs.Kept.{kept}
 use Rattle.text_joins.specs.Unnumbered.{unnumbered_header, unnumbered}
 use Rattle.text_joins.specs.Said.{header_said}
 use Rattle.text_joins.specs.Following.{IsFilePatch}

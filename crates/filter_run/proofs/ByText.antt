@@ -22,13 +22,14 @@ use Rattle.patch_set.proofs.InBytes.{cut-bytes}
 use Rattle.patch_filters.specs.Digested.{digest_if_taken, digest_written, filtered_digest, olds_by}
 use Rattle.patch_filters.specs.Filtered.{chosen, filtered, pieces, region, written, written_bare, written_if_taken, is_taken_of}
 use Rattle.patch_filters.specs.Grepped.{found_text, grepped, hits_of, is_found}
-use Rattle.patch_filters.specs.Kept.{is_kept, is_taken, kept}
+use Rattle.filter_choice.specs.Kept.{is_kept, is_taken, kept}
 use Rattle.patch_filters.specs.Listed.{listed}
-use Rattle.patch_filters.specs.OldLines.{old_of_each}
-use Rattle.patch_filters.specs.Selected.{numbered}
+use Rattle.filter_choice.specs.OldLines.{old_of_each}
+use Rattle.filter_choice.specs.Selected.{numbered}
 use Rattle.patch_filters.proofs.Digesting.{filtered-digest-is, olds-same}
 use Rattle.patch_filters.proofs.Outlined.{outlines-listed}
-use Rattle.patch_filters.proofs.Rows.{flat-if, filtered-is}
+use Rattle.filter_choice.proofs.Rows.{flat-if}
+use Rattle.patch_filters.proofs.Rows.{filtered-is}
 use Rattle.flip_patch.specs.Flipped.{flipped}
 use Rattle.change_commands.specs.Taken.{left_patches}
 use Rattle.format_convert.specs.Converted.{converted, written_if}

@@ -20,11 +20,11 @@ use Rattle.outside.proofs.Names.{lasting-same}
 use Rattle.outside.proofs.Views.{rises_then}
 use Rattle.outside.proofs.Effects.{after_all-push, made_none, made_since, since_longer}
 use Rattle.outside.proofs.Writing.{received_none, received_part, received_both, part_after}
-use Rattle.patch_filters.specs.Selected.{numbered}
-use Rattle.patch_filters.proofs.Rows.{numbered-at, numbered-count}
+use Rattle.filter_choice.specs.Selected.{numbered}
+use Rattle.filter_choice.proofs.Rows.{numbered-at, numbered-count}
 use Rattle.patch_effects.specs.Making.{IsTidy}
 use Rattle.patch_effects.proofs.Tidy.{tidy_none, tidy_both, untouched_tidy, put_if_tidy}
-use Rattle.patch_filters.proofs.Placed.{turn-end}
+use Rattle.filter_choice.proofs.Placed.{turn-end}
 use Rattle.filter_run.specs.declared.fault.FilterFault.{FilterFault}
 use Rattle.filter_run.specs.declared.fault.FilterFault.TheVariants as faults
 use Rattle.filter_run.specs.Parting.{part_name, part_put, part_puts, part_line, part_lines, AreCutAt, ReceivesFirst, PutsPart, PutsParts}

@@ -22,7 +22,7 @@ use Rattle.patch_set.specs.declared.fault.SetFault.{SetFault}
 use Rattle.patch_set.specs.declared.fault.SetFault.TheVariants as set
 use Rattle.patch_set.specs.Refusals.{refusal}
 use Rattle.patch_set.specs.SetView.{SetView, IsRead}
-use Rattle.patch_filters.specs.Selected.{numbered}
+use Rattle.filter_choice.specs.Selected.{numbered}
 use Rattle.split_recount.specs.Parts.{parts}
 use Rattle.filter_run.specs.Texts.{defaults, parts_in}
 use Rattle.filter_run.specs.Sifting.{is_refusal, HasSetCause}

@@ -15,7 +15,7 @@ use Rattle.patch_input.specs.Input.{answer_of}
 use Rattle.patch_set.specs.declared.fault.SetFault.{SetFault}
 use Rattle.patch_set.specs.Refusals.{refusal}
 use Rattle.patch_set.specs.SetView.{SetView, IsRead}
-use Rattle.patch_filters.specs.Selected.{numbered}
+use Rattle.filter_choice.specs.Selected.{numbered}
 use Rattle.filter_run.specs.Texts.{defaults, parts_in}
 use Rattle.filter_run.specs.Sifting.{is_refusal, HasSetCause}
 use Rattle.filter_run.specs.Parting.{IsNotBegun, ArePut, AreCutAt, TidyAfter}

@@ -15,8 +15,8 @@ use Rattle.patch_set.specs.Asked.{ways_of}
 use Rattle.patch_set.specs.PlainName.{plain_name}
 use Rattle.patch_filters.specs.Filtered.{asks_no_hunk, chosen}
 use Rattle.patch_filters.specs.Grepped.{hits_of, is_found}
-use Rattle.patch_filters.specs.Kept.{is_taken, kept}
-use Rattle.patch_filters.specs.Selected.{numbered}
+use Rattle.filter_choice.specs.Kept.{is_taken, kept}
+use Rattle.filter_choice.specs.Selected.{numbered}
 use Rattle.split_recount.specs.Parts.{between, cuts_behind}
 use Rattle.tool_words.specs.PlainJobs.{PlainFilterJob, PlainGrepJob, PlainSplitJob}
 use Rattle.tool_words.specs.declared.jobs.GrepOut.{GrepOut}

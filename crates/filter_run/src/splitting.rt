@@ -9,7 +9,7 @@ ghost use Rattle.outside.specs.Quiet.{IsQuiet};
 ghost use Rattle.outside.specs.Quiet.Effect.{Put};
 ghost use Rattle.tool_words.specs.PlainJobs.{plain_split_job};
 ghost use Rattle.patch_set.specs.SetView.{IsWhole};
-ghost use Rattle.patch_filters.specs.Selected.{numbered};
+ghost use Rattle.filter_choice.specs.Selected.{numbered};
 ghost use Rattle.filter_run.specs.Sifting.{is_refusal};
 ghost use Rattle.filter_run.specs.Parting.{PutsPart, PutsParts, part_name};
 ghost use Rattle.filter_run.specs.Splits.{IsSplit, HasEarlyCause, Splits};

@@ -1,5 +1,5 @@
 use Rattle.std.proofs.Common.{take, Ok}
-use Rattle.patch_filters.specs.Selected.{numbered}
+use Rattle.filter_choice.specs.Selected.{numbered}
 use Rattle.filter_run.specs.Parting.{PutsParts}
 use Rattle.filter_run.proofs.splitting.put_parts.Given as goal
 

@@ -3,7 +3,7 @@ use Rattle.line_list.specs.declared.Span.{Span}
 use Rattle.hunk_core.specs.Pieces.{AreInTurn}
 use Rattle.outside.proofs.Views.{untouched_quiet}
 use Rattle.tool_words.specs.PlainJobs.{plain_split_job}
-use Rattle.patch_filters.specs.Selected.{numbered}
+use Rattle.filter_choice.specs.Selected.{numbered}
 use Rattle.split_recount.specs.Parts.{parts}
 use Rattle.split_recount.proofs.PartsInTurn.{join-back}
 use Rattle.filter_run.specs.Parting.{PutsParts}

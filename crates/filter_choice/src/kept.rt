@@ -5,7 +5,7 @@ ghost use Rattle.std.specs.Option.{ForSome};
 ghost use Rattle.file_patch.specs.PlainPatch.{header_of, patch_of, row_count};
 ghost use Rattle.patch_set.specs.SetView.{patch_at};
 ghost use Rattle.tool_words.specs.PlainJobs.{plain_filter_job};
-ghost use Rattle.patch_filters.specs.Kept.{is_taken, keeps};
+ghost use Rattle.filter_choice.specs.Kept.{is_taken, keeps};
 
 use crate::hunks::is_kept;
 use crate::numbers::{is_meant, is_selected};

@@ -1,8 +1,8 @@
 use Rattle.std.proofs.Common.{sym, ◌∙◌, rules, tests}
 use Rattle.std.proofs.lemmas.Iterator.{YieldsList-from_slice}
 use Rattle.std.proofs.lemmas.Iterator.Search.{any_from_yields_List}
-use Rattle.patch_filters.proofs.Ranges.{meets, one-in}
-use Rattle.patch_filters.proofs.numbers.is_one_in.Goals as goal
+use Rattle.filter_choice.proofs.Ranges.{meets, one-in}
+use Rattle.filter_choice.proofs.numbers.is_one_in.Goals as goal
 
 pub returns : goal.returns
 returns c =

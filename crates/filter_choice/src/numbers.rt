@@ -3,8 +3,8 @@
 ghost use Rattle.std.specs.Prelude.{◌≡◌, map, max, min, nat_le};
 ghost use Rattle.std.specs.List.{list_any};
 ghost use Rattle.tool_words.specs.PlainJobs.{plain_ranges, plain_select};
-ghost use Rattle.patch_filters.specs.Selected.{is_in, is_meant, is_one_meant, is_selected, matches_any};
-ghost use Rattle.patch_filters.specs.OldLines.{numbers_of};
+ghost use Rattle.filter_choice.specs.Selected.{is_in, is_meant, is_one_meant, is_selected, matches_any};
+ghost use Rattle.filter_choice.specs.OldLines.{numbers_of};
 
 use glob_match::matches;
 use target_names::shortened;

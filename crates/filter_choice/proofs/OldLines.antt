@@ -14,7 +14,7 @@ use Rattle.ed_form.specs.PlainEdit.{PlainEdit, lowest, edit_of, edits_of, AreLaw
 use Rattle.file_patch.specs.declared.Change.{Change}
 use Rattle.file_patch.specs.declared.Change.TheVariants.{Hunks, Script}
 use Rattle.file_patch.specs.PlainPatch.{IsLawfulChange}
-use Rattle.patch_filters.specs.OldLines.{from_to, old_numbers, least, greatest, addressed, IsCounted}
+use Rattle.filter_choice.specs.OldLines.{from_to, old_numbers, least, greatest, addressed, IsCounted}
 
 -- ---- a hunk
 

@@ -6,7 +6,7 @@ use Rattle.ed_form.specs.PlainEdit.{PlainEdit, lowest}
 use Rattle.file_patch.specs.declared.Change.{Change}
 use Rattle.file_patch.specs.declared.Change.TheVariants.{Hunks, Script}
 use Rattle.file_patch.specs.PlainPatch.{PlainChange, hunks, script}
-use Rattle.patch_filters.specs.declared.numbers.Lines.{Lines}
+use Rattle.filter_choice.specs.declared.numbers.Lines.{Lines}
 
 -- the numbers from a first to a last
 abbrev pub from_to : ℕ → ℕ → List ℕ

@@ -1,7 +1,7 @@
 use Rattle.std.proofs.Common.{◌≡◌, get_or, subst}
 use Rattle.line_list.proofs.Elements.{found}
-use Rattle.patch_filters.proofs.Placed.{placed-at}
-use Rattle.patch_filters.proofs.set.patch_at.Goals as goal
+use Rattle.filter_choice.proofs.Placed.{placed-at}
+use Rattle.filter_choice.proofs.set.patch_at.Goals as goal
 
 pub returns-clause-placed : goal.returns-clause-placed
 returns-clause-placed c =

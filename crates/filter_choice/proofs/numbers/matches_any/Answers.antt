@@ -2,8 +2,8 @@ use Rattle.std.proofs.Common.{◌∙◌, rules, tests}
 use Rattle.std.proofs.lemmas.Iterator.{YieldsList-from_slice}
 use Rattle.std.proofs.lemmas.Iterator.Search.{any_from_yields_List}
 use Rattle.glob_match.specs.Matching.{does_match}
-use Rattle.patch_filters.proofs.Rows.{any-map}
-use Rattle.patch_filters.proofs.numbers.matches_any.Goals as goal
+use Rattle.filter_choice.proofs.Rows.{any-map}
+use Rattle.filter_choice.proofs.numbers.matches_any.Goals as goal
 
 pub returns : goal.returns
 returns c =

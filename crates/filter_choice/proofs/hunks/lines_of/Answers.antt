@@ -1,9 +1,9 @@
 use Rattle.std.proofs.Common.{◌<◌, subst}
 use Rattle.file_patch.specs.PlainPatch.{row_count}
 use Rattle.line_list.proofs.Elements.{found}
-use Rattle.patch_filters.specs.OldLines.{numbers_of}
-use Rattle.patch_filters.proofs.OldLines.{hunk-at}
-use Rattle.patch_filters.proofs.hunks.lines_of.Goals as goal
+use Rattle.filter_choice.specs.OldLines.{numbers_of}
+use Rattle.filter_choice.proofs.OldLines.{hunk-at}
+use Rattle.filter_choice.proofs.hunks.lines_of.Goals as goal
 
 pub returns-in-Hunks : goal.returns-in-Hunks
 returns-in-Hunks c = λ text lawful.

@@ -1,7 +1,7 @@
 use Rattle.std.proofs.Common.{◌≡◌, ◌-◌, length, get_or, ap, subst, ◌∙◌, arith, rules, max}
 use Rattle.line_list.proofs.Elements.{found}
-use Rattle.patch_filters.proofs.OldLines.{script-lines}
-use Rattle.patch_filters.proofs.hunks.addressed.Goals as goal
+use Rattle.filter_choice.proofs.OldLines.{script-lines}
+use Rattle.filter_choice.proofs.hunks.addressed.Goals as goal
 
 pub returns : goal.returns
 returns c = λ text lawful.

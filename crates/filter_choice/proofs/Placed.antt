@@ -1,19 +1,14 @@
--- One file patch of a set, and the pieces of its hunks.
-use Rattle.std.proofs.Common.{◌≡◌, ℕ, zero, suc, ◌+◌, ◌<◌, ◌≤◌, Bool, true, false, List, [], ◌∷◌, length, get_or, Some, refl, sym, ap, subst, ◌∙◌, arith}
+-- One file patch of a set, and where the pieces of its hunks lie.
+use Rattle.std.proofs.Common.{◌≡◌, ℕ, zero, suc, ◌+◌, ◌<◌, ◌≤◌, Bool, true, false, List, [], ◌∷◌, length, Some, refl, ap, subst, arith}
 use Rattle.std.specs.Prelude.{slice_get}
-use Rattle.std.specs.List.{zip}
-use Rattle.std.proofs.lemmas.List.{length-map}
-use Rattle.std.proofs.lemmas.Option.{same_Some, slice_get-get_or}
+use Rattle.std.proofs.lemmas.Option.{same_Some}
 use Rattle.line_list.specs.declared.Span.{Span}
-use Rattle.hunk_core.specs.PlainHunk.{bytes_at}
 use Rattle.hunk_core.specs.Pieces.{AreInTurn}
 use Rattle.patch_header.specs.declared.header.Header.{Header}
 use Rattle.file_patch.specs.declared.FilePatch.{FilePatch}
 use Rattle.file_patch.specs.PlainPatch.{row_count}
 use Rattle.patch_text.specs.Changes.{AreCut}
 use Rattle.patch_set.specs.Spans.{IsPlaced, ArePlaced}
-use Rattle.patch_filters.specs.Filtered.{pieces}
-use Rattle.patch_filters.proofs.Rows.{zip-at, zip-count}
 
 by-itself : (text : List ℕ) (start before : ℕ) (p : FilePatch) → IsPlaced text start before p → IsPlaced text p.span.start p.first_verdict p
 by-itself text start before p at = record {
@@ -52,21 +47,3 @@ pub span-in : (at : ℕ) (ss : List Span) (end i : ℕ) (s : Span) → AreInTurn
 span-in at [] end i s turn is = absurd cc
 span-in at (t ∷ ss) end zero s turn is = subst (λ (x : Span). (x.start < x.end) × (x.end ≤ end)) (same_Some t s is) (omega (arith, turn.0, turn.1), turn-end t.end ss end turn.2)
 span-in at (t ∷ ss) end (suc i) s turn is = span-in t.end ss end i s turn.2 is
-
--- ---- the pieces with flags, one for each hunk
-
-module _ (flags : List Bool) (text : List ℕ) (p : FilePatch) (count : ℕ) (each : length p.hunk_spans.items ≡ count) (long : length flags ≡ count) where
-  abbrev pub rows : List (Bool × List ℕ)
-  rows = zip flags (pieces text p)
-
-  pieces-long : length (pieces text p) ≡ count
-  pieces-long = length-map p.hunk_spans.items (bytes_at text) ∙ each
-
-  pub rows-long : length rows ≡ count
-  rows-long = zip-count flags (pieces text p) (long ∙ sym pieces-long) ∙ pieces-long
-
-  pub row-at : (i : ℕ) → i < count → slice_get rows i ≡ Some (get_or flags i false, get_or (pieces text p) i [])
-  row-at i lt =
-      zip-at flags (pieces text p) i _ _
-      (slice_get-get_or flags i false (omega (arith, lt, long)))
-      (slice_get-get_or (pieces text p) i [] (omega (arith, lt, pieces-long)))

@@ -5,8 +5,8 @@ use Rattle.std.specs.List.{list_any}
 use Rattle.std.proofs.lemmas.Bool.{le-leb, leb-true, and_from}
 use Rattle.glob_match.proofs.Deciding.{found-in-range, in-range-found}
 use Rattle.tool_words.specs.PlainJobs.{PlainRanges}
-use Rattle.patch_filters.specs.Selected.{is_in}
-use Rattle.patch_filters.specs.OldLines.{from_to}
+use Rattle.filter_choice.specs.Selected.{is_in}
+use Rattle.filter_choice.specs.OldLines.{from_to}
 
 swap : (a b c d : Bool) → ((a || b) || (c || d)) ≡ ((a || c) || (b || d))
 swap true b c d = refl

@@ -1,6 +1,6 @@
 use Rattle.std.proofs.Common.{◌∙◌, arith, refl, rules}
-use Rattle.patch_filters.proofs.OldLines.{no-lines, old-lines}
-use Rattle.patch_filters.proofs.hunks.old_lines.Goals as goal
+use Rattle.filter_choice.proofs.OldLines.{no-lines, old-lines}
+use Rattle.filter_choice.proofs.hunks.old_lines.Goals as goal
 
 pub returns-then-count-eq0 : goal.returns-then-count-eq0
 returns-then-count-eq0 c = λ text.

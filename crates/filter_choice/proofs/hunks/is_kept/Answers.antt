@@ -1,10 +1,10 @@
 use Rattle.std.proofs.Common.{◌≡◌, ◌+◌, ◌&&◌, [], suc, get_or, sym, ap, ◌∙◌, arith}
 use Rattle.file_patch.specs.PlainPatch.{change_of}
 use Rattle.tool_words.specs.PlainJobs.{plain_filter_job}
-use Rattle.patch_filters.specs.Selected.{is_meant, is_one_meant}
-use Rattle.patch_filters.specs.OldLines.{numbers_of, old_of_each}
-use Rattle.patch_filters.proofs.Rows.{flag-at, olds-there}
-use Rattle.patch_filters.proofs.hunks.is_kept.Goals as goal
+use Rattle.filter_choice.specs.Selected.{is_meant, is_one_meant}
+use Rattle.filter_choice.specs.OldLines.{numbers_of, old_of_each}
+use Rattle.filter_choice.proofs.Rows.{flag-at, olds-there}
+use Rattle.filter_choice.proofs.hunks.is_kept.Goals as goal
 
 pub returns-then-is_meant : goal.returns-then-is_meant
 returns-then-is_meant c = λ text lawful.

@@ -3,8 +3,8 @@ use Rattle.std.specs.Prelude.{ℕ, suc, Bool, false, ◌&&◌, List, map, slice_
 use Rattle.file_patch.specs.PlainPatch.{PlainChange, PlainHeader, PlainPatch}
 use Rattle.patch_set.specs.PlainName.{plain_name}
 use Rattle.tool_words.specs.PlainJobs.{PlainFilterJob}
-use Rattle.patch_filters.specs.Selected.{is_selected, is_meant, is_one_meant, numbered}
-use Rattle.patch_filters.specs.OldLines.{old_of_each}
+use Rattle.filter_choice.specs.Selected.{is_selected, is_meant, is_one_meant, numbered}
+use Rattle.filter_choice.specs.OldLines.{old_of_each}
 
 -- the file patch with this number is meant
 abbrev pub is_taken : PlainFilterJob → ℕ → PlainHeader → Bool
