@@ -12,7 +12,8 @@ ghost use Rattle.filter_cli.specs.Command.{Searches};
 ghost use Rattle.filter_cli.specs.Worlds.{world, Tells};
 
 use crate::fault::{answer, form_answer};
-use filter_run::{run_convert, run_filter, run_flip, run_grep, run_list, run_recount, run_split};
+use filter_run::{run_convert, run_filter, run_grep, run_list};
+use whole_filters::{run_flip, run_recount, run_split};
 use hunk_core::Form;
 use outside::{Finder, Sink, Source, Tree};
 use patch_options::Input;

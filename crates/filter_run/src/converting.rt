@@ -9,13 +9,13 @@ ghost use Rattle.format_convert.specs.Refusals.{refusal};
 ghost use Rattle.filter_run.specs.Converting.{Forms, of_converted};
 
 use crate::form_fault::FormFault;
-use crate::opening::open_text;
 use format_convert::{ConvertFault, convert_patches};
 use hunk_core::Form;
 use outside::{Sink, Source, Tree};
 use patch_set::PatchSet;
 use std::alloc::Global;
 use tool_words::FilterJob;
+use whole_filters::open_text;
 
 /// Carries out a command of `filterdiff` that asks for a form: the file patches that it means are written anew in this form, or
 /// the first one is told that can't be.
