@@ -72,6 +72,29 @@ module _ (file text : List ℕ) where
     cause = tt;
   }
 
+  -- before the first one memory ran out
+  pub puts-starved : (rows : List (ℕ × Span)) (t : TreeView) (c : SinkView) → IsQuiet t → PutsParts file text rows t t c c (Err faults.Memory)
+  puts-starved rows t c quiet = record {
+    tree = passes_none t;
+    sink = sink_passes_none c;
+    quiet = tt;
+    answers = λ f told. (
+      0,
+      record {
+        few = omega arith;
+        files = λ g now. subst (λ (x : Files). SameLasting f x) (same_Some f g (sym told ∙ now)) (lasting-same f);
+        exact = λ ne. told;
+        leaves = since_longer t t [] (part_puts file text rows) (part_puts file text rows) refl (made_none t quiet).since;
+        out = received_part c c [] (received_none c);
+        said = 0;
+        near = omega arith;
+        names = λ x was. inr ([], was ∙ ap (λ (l : List ℕ). Some l) (sym (append-nil x)));
+      },
+    );
+    tidy = tidy_none t;
+    cause = tt;
+  }
+
   puts-push : (done : List (ℕ × Span)) (row : ℕ × Span) → part_puts file text (done ++ row ∷ []) ≡ part_puts file text done ++ part_put file text row ∷ []
   puts-push done row = map-append (part_put file text) done (row ∷ [])
 

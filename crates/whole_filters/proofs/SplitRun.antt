@@ -147,21 +147,6 @@ module _ (j : PlainSplitJob) {t u : TreeView} (c : SinkView) (same : IsUntouched
   splits-unread e (Ok x) is cause refused = absurd is
   splits-unread e (Err x) is cause refused = subst (λ (y : FilterFault). Splits j t u c c (Err y)) (sym is) (early-cut e cause refused)
 
-  starved : Splits j t u c c (Err faults.Memory)
-  starved = record {
-    tree = same.passes;
-    sink = sink_passes_none c;
-    quiet = tt;
-    refused = λ is. absurd (false≢true is);
-    answers = λ f told. inl (record { tree = same; out = refl });
-    tidy = untouched_tidy same;
-    cause = tt;
-  }
-
-  pub splits-starved : (s : Result (Unit {0}) FilterFault) → IsErrAnd s (λ x. x ≡ faults.Memory) → Splits j t u c c s
-  splits-starved (Ok x) is = absurd is
-  splits-starved (Err x) is = subst (λ (y : FilterFault). Splits j t u c c (Err y)) (sym is) starved
-
   -- once the text is read, the parts are put
   module _ (w : TreeView) (d : SinkView) (v : SetView) (quiet : IsQuiet t) (is : (f : Files) → t.told ≡ Some f → IsSplit j f (Ok v)) where
     leaves-behind : (es : List Effect) → Passes u w → LeavesPrefix u w es → LeavesPrefix t w es

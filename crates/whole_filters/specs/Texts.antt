@@ -1,6 +1,6 @@
 -- How a filter reads a text, as `patch` reads it without options, but perhaps for `--skip-binary`, and the parts of a text: told by the text alone
 -- (manual pages of patchutils).
-use Rattle.std.specs.Prelude.{ℕ, Bool, ◌==◌, List, [], length, map, slice_range, if◌then◌else◌, Result, Ok, Err}
+use Rattle.std.specs.Prelude.{ℕ, Bool, true, ◌==◌, List, [], length, map, slice_range, if◌then◌else◌, Result, Ok, Err}
 use Rattle.std.specs.List.{zip}
 use Rattle.line_list.specs.Completed.{completed}
 use Rattle.line_list.specs.declared.Span.{Span}

@@ -9,6 +9,7 @@ ghost use Rattle.outside.specs.Quiet.{IsQuiet};
 ghost use Rattle.outside.specs.Quiet.Effect.{Put};
 ghost use Rattle.tool_words.specs.PlainJobs.{plain_split_job};
 ghost use Rattle.patch_set.specs.SetView.{IsWhole};
+ghost use Rattle.split_recount.specs.Parts.{parts};
 ghost use Rattle.filter_choice.specs.Selected.{numbered};
 ghost use Rattle.whole_filters.specs.Sifting.{is_refusal};
 ghost use Rattle.whole_filters.specs.Parting.{PutsPart, PutsParts, part_name};
@@ -37,9 +38,10 @@ pub fn run_split<T: Tree, O: Sink>(
     ensures splits { Splits (plain_split_job job.now) (T.view tree.old) (T.view tree.new) (O.view out.old) (O.view out.new) result }
     ensures rest { O.same_rest out.old out.new }
 {
-    let set = read_split(alloc, job, tree)?;
-    let parts = split_parts(alloc, &set, job.every)?;
-    put_parts(alloc, &job.input, set.text(), &parts, tree, out)
+    match read_split(alloc, job, tree) {
+        Ok(set) => put_set(alloc, &job.input, &set, job.every, tree, out),
+        Err(fault) => Err(fault),
+    }
 }
 
 /// The set of which the parts are put.
@@ -53,6 +55,26 @@ fn read_split<T: Tree>(alloc: Global, job: &SplitJob, tree: &mut T) -> Result<Pa
     let text = read_file(alloc, &job.input, tree)?;
     let set = read_plain(alloc, text, job.skip_binary)?;
     Ok(set)
+}
+
+/// Puts the parts of a set.
+fn put_set<T: Tree, O: Sink>(
+    alloc: Global,
+    file: &Name,
+    set: &PatchSet,
+    every: bool,
+    tree: &mut T,
+    out: &mut O,
+) -> Result<(), FilterFault>
+    requires quiet { IsQuiet (T.view tree.old) }
+    requires whole { IsWhole set.now }
+    ensures puts { PutsParts file.now set.now.text (numbered (parts every set.now)) (T.view tree.old) (T.view tree.new) (O.view out.old) (O.view out.new) result }
+    ensures rest { O.same_rest out.old out.new }
+{
+    match split_parts(alloc, set, every) {
+        Ok(parts) => put_parts(alloc, file, set.text(), &parts, tree, out),
+        Err(_) => Err(FilterFault::Memory),
+    }
 }
 
 /// Puts the parts in their order, each with its number from 1, and writes the name of each behind its put.
