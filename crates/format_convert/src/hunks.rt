@@ -17,9 +17,9 @@ ghost use Rattle.patch_header.specs.Written.{hunk_text};
 
 use change_commands::patch_at;
 use file_patch::{Change, FilePatch};
+use filter_choice::keeps;
 use hunk_core::{Form, Hunk, Side};
 use outside::{Failed, Sink};
-use filter_choice::keeps;
 use patch_set::PatchSet;
 use tool_words::FilterJob;
 
