@@ -17,8 +17,8 @@ use Rattle.file_patch.specs.PlainPatch.{AreLawfulHunks, IsLawfulChange, PlainPat
 use Rattle.patch_set.specs.SetView.{SetView, patch_at}
 use Rattle.tool_words.specs.declared.jobs.FilterJob.{FilterJob}
 use Rattle.patch_set.proofs.Named.{rows-counted}
-use Rattle.patch_filters.specs.Kept.{keeps}
-use Rattle.patch_filters.proofs.Rows.{zip-at, zip-count}
+use Rattle.filter_choice.specs.Kept.{keeps}
+use Rattle.filter_choice.proofs.Rows.{zip-at, zip-count}
 use Rattle.tool_words.specs.PlainJobs.{PlainFilterJob, plain_filter_job}
 use Rattle.line_list.proofs.Elements.{found}
 use Rattle.change_commands.specs.Taken.{flags, hunk_if, kept_hunks, left_change, left_patch}

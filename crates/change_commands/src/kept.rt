@@ -10,8 +10,8 @@ ghost use Rattle.change_commands.specs.Taken.{has_kept};
 ghost use Rattle.change_commands.specs.Walk.{IsKept, kept_flags};
 
 use file_patch::FilePatch;
+use filter_choice::keeps;
 use hunk_core::Hunk;
-use patch_filters::keeps;
 use patch_set::PatchSet;
 use tool_words::FilterJob;
 

@@ -14,8 +14,8 @@ use Rattle.format_convert.specs.declared.fault.ConvertFault.TheVariants as conve
 use Rattle.filter_run.specs.declared.form_fault.FormFault.{FormFault}
 use Rattle.filter_run.specs.declared.form_fault.FormFault.TheVariants.{Filter, NoContext, Unfit}
 use Rattle.filter_run.specs.Converting.{FormOutcome, Forms, IsConverted, Refuses, as_form, convert_outcome, of_convert}
-use Rattle.filter_run.specs.Outcomes as outcomes
-use Rattle.filter_run.specs.Sifting.{HasTextCause}
+use Rattle.whole_filters.specs.Outcomes as outcomes
+use Rattle.whole_filters.specs.Sifting.{HasTextCause}
 use Rattle.run_answers.specs.declared.why.Why.{Why}
 use Rattle.run_answers.specs.declared.why.Why.TheVariants as whys
 use Rattle.run_answers.specs.Answers.{is_own}

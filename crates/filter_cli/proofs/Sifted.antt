@@ -17,11 +17,11 @@ use Rattle.patch_input.specs.declared.fault.InputFault.TheVariants as input
 use Rattle.patch_input.specs.Input.{IsStandard}
 use Rattle.patch_set.specs.declared.fault.SetFault.{SetFault}
 use Rattle.patch_set.specs.declared.fault.SetFault.TheVariants as set
-use Rattle.filter_run.specs.declared.fault.FilterFault.{FilterFault}
-use Rattle.filter_run.specs.declared.fault.FilterFault.TheVariants as faults
-use Rattle.filter_run.specs.Outcomes as outcomes
-use Rattle.filter_run.specs.Sifting.{IsTold, Sifts, is_refusal, AnswersFault}
-use Rattle.filter_run.specs.Sifting as sifting
+use Rattle.whole_filters.specs.declared.fault.FilterFault.{FilterFault}
+use Rattle.whole_filters.specs.declared.fault.FilterFault.TheVariants as faults
+use Rattle.whole_filters.specs.Outcomes as outcomes
+use Rattle.whole_filters.specs.Sifting.{IsTold, Sifts, is_refusal, AnswersFault}
+use Rattle.whole_filters.specs.Sifting as sifting
 use Rattle.run_answers.specs.declared.why.Why.{Why}
 use Rattle.run_answers.specs.declared.why.Why.TheVariants.{Done, TreeFault}
 use Rattle.run_answers.specs.Answers.{is_own, is_early}

@@ -9,10 +9,11 @@ use Rattle.patch_options.specs.declared.options.Input.TheVariants.{Standard, Fil
 use Rattle.patch_input.specs.Input.{IsFile, IsStandard}
 use Rattle.tool_words.specs.PlainJobs.{PlainListJob, PlainFilterJob, PlainGrepJob}
 use Rattle.tool_words.specs.PlainJobs.PlainToolJob.{list_job, filter_job, grep_job, recount_job, flip_job}
-use Rattle.filter_run.specs.declared.fault.FilterFault.{FilterFault}
-use Rattle.filter_run.specs.Outcomes.{IsOutcomeOf, IsGrepped, list_outcome, filter_outcome, grep_outcome, recount_outcome, no_selection}
-use Rattle.filter_run.specs.Flips.{HasFlipCause, flip_outcome}
-use Rattle.filter_run.specs.Sifting.{HasTextCause, HasCountCause}
+use Rattle.whole_filters.specs.declared.fault.FilterFault.{FilterFault}
+use Rattle.whole_filters.specs.Outcomes.{IsOutcomeOf, recount_outcome, no_selection}
+use Rattle.filter_run.specs.Outcomes.{IsGrepped, list_outcome, filter_outcome, grep_outcome}
+use Rattle.whole_filters.specs.Flips.{HasFlipCause, flip_outcome}
+use Rattle.whole_filters.specs.Sifting.{HasTextCause, HasCountCause}
 use Rattle.filter_cli.specs.Command.{in_form, written}
 use Rattle.filter_cli.proofs.Sifted.{Agrees}
 

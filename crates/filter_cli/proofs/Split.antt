@@ -18,12 +18,12 @@ use Rattle.tool_words.specs.PlainJobs.PlainToolJob.{split_job}
 use Rattle.patch_input.specs.declared.fault.InputFault.TheVariants as input
 use Rattle.patch_set.specs.declared.fault.SetFault.TheVariants as set
 use Rattle.patch_effects.specs.Making.{IsTidy}
-use Rattle.patch_filters.specs.Selected.{numbered}
-use Rattle.filter_run.specs.declared.fault.FilterFault.{FilterFault}
-use Rattle.filter_run.specs.declared.fault.FilterFault.TheVariants as faults
-use Rattle.filter_run.specs.Sifting.{is_refusal}
-use Rattle.filter_run.specs.Parting.{AreCutAt, ArePut, IsNotBegun, TidyAfter, part_line, part_lines, part_put, part_puts}
-use Rattle.filter_run.specs.Splits.{Cut, HasSplitCause, SplitFault, Splits, split_outcome}
+use Rattle.filter_choice.specs.Selected.{numbered}
+use Rattle.whole_filters.specs.declared.fault.FilterFault.{FilterFault}
+use Rattle.whole_filters.specs.declared.fault.FilterFault.TheVariants as faults
+use Rattle.whole_filters.specs.Sifting.{is_refusal}
+use Rattle.whole_filters.specs.Parting.{AreCutAt, ArePut, IsNotBegun, TidyAfter, part_line, part_lines, part_put, part_puts}
+use Rattle.whole_filters.specs.Splits.{Cut, HasSplitCause, SplitFault, Splits, split_outcome}
 use Rattle.run_answers.specs.declared.why.Why.{Why}
 use Rattle.run_answers.specs.declared.why.Why.TheVariants.{Done, TreeFault}
 use Rattle.run_answers.specs.Answers.{is_fault, is_own, is_early}

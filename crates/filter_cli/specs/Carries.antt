@@ -13,9 +13,9 @@ use Rattle.tool_words.specs.PlainJobs.{PlainToolJob}
 use Rattle.tool_words.specs.PlainJobs.PlainToolJob.{list_job, filter_job, grep_job, split_job, recount_job, gen_job, flip_job, stack_job}
 use Rattle.patch_input.specs.Input.{TakesAtMost}
 use Rattle.patch_effects.specs.Making.{IsTidy}
-use Rattle.patch_filters.specs.Selected.{numbered}
-use Rattle.filter_run.specs.Parting.{ReceivesFirst, part_lines, part_puts}
-use Rattle.filter_run.specs.Splits.{Cut, split_outcome}
+use Rattle.filter_choice.specs.Selected.{numbered}
+use Rattle.whole_filters.specs.Parting.{ReceivesFirst, part_lines, part_puts}
+use Rattle.whole_filters.specs.Splits.{Cut, split_outcome}
 use Rattle.run_answers.specs.declared.why.Why.{Why}
 use Rattle.run_answers.specs.declared.why.Why.TheVariants.{Done, TreeFault, Memory}
 use Rattle.run_answers.specs.Answers.{is_fault, is_own, is_early}

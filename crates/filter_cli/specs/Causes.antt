@@ -6,7 +6,7 @@ use Rattle.outside.specs.SinkView as sink
 use Rattle.patch_options.specs.declared.options.WordFault.{WordFault}
 use Rattle.patch_options.specs.declared.options.WordFault.TheVariants as words
 use Rattle.patch_set.specs.declared.fault.SetFault.TheVariants as set
-use Rattle.filter_run.specs.declared.fault.FilterFault.TheVariants as faults
+use Rattle.whole_filters.specs.declared.fault.FilterFault.TheVariants as faults
 use Rattle.tool_words.specs.PlainJobs.{PlainToolJob}
 use Rattle.run_answers.specs.declared.why.Why.{Why}
 use Rattle.run_answers.specs.declared.why.Why.TheVariants.{Done, Rejected, Usage, Malformed, Garbage, EdReverse, OutMany, Reserved, NoPatchFile, TooLong, LongLine, FileTooLong, BadPattern, NoContext, Unfit, BadState, StackEnd, StackName, ReadFault, WriteFault, TreeFault, ScratchFault, Disagree, Memory}

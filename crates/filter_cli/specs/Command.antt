@@ -6,16 +6,17 @@ use Rattle.outside.specs.FinderView.{FinderView}
 use Rattle.patch_options.specs.declared.options.WordFault.{WordFault}
 use Rattle.tool_words.specs.PlainJobs.{PlainFilterJob, PlainToolJob}
 use Rattle.tool_words.specs.PlainJobs.PlainToolJob.{list_job, filter_job, grep_job, split_job, recount_job, gen_job, flip_job, stack_job}
-use Rattle.patch_filters.specs.Selected.{numbered}
-use Rattle.filter_run.specs.declared.fault.FilterFault.{FilterFault}
-use Rattle.filter_run.specs.declared.fault.FilterFault.TheVariants as faults
+use Rattle.filter_choice.specs.Selected.{numbered}
+use Rattle.whole_filters.specs.declared.fault.FilterFault.{FilterFault}
+use Rattle.whole_filters.specs.declared.fault.FilterFault.TheVariants as faults
 use Rattle.filter_run.specs.declared.form_fault.FormFault.{FormFault}
 use Rattle.filter_run.specs.declared.form_fault.FormFault.TheVariants as forms
 use Rattle.filter_run.specs.Converting.{convert_outcome}
-use Rattle.filter_run.specs.Outcomes.{HasPatches, given, list_outcome, filter_outcome, grep_outcome, recount_outcome}
-use Rattle.filter_run.specs.Flips.{flip_outcome}
-use Rattle.filter_run.specs.Parting.{part_lines, part_puts}
-use Rattle.filter_run.specs.Splits.{Cut, split_outcome}
+use Rattle.filter_run.specs.Outcomes.{HasPatches, list_outcome, filter_outcome, grep_outcome}
+use Rattle.whole_filters.specs.Outcomes.{given, recount_outcome}
+use Rattle.whole_filters.specs.Flips.{flip_outcome}
+use Rattle.whole_filters.specs.Parting.{part_lines, part_puts}
+use Rattle.whole_filters.specs.Splits.{Cut, split_outcome}
 use Rattle.run_answers.specs.declared.why.Why.{Why}
 use Rattle.run_answers.specs.declared.why.Why.TheVariants.{Done, Usage, BadPattern, NoContext, Unfit, WriteFault, TreeFault, Memory}
 use Rattle.run_answers.specs.Answers.{of_words, of_input, of_set}

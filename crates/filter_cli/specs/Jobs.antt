@@ -8,13 +8,13 @@ use Rattle.tool_words.specs.PlainJobs.{PlainToolJob}
 use Rattle.tool_words.specs.PlainJobs.PlainToolJob.{list_job, filter_job, grep_job, split_job, recount_job, gen_job, flip_job, stack_job}
 use Rattle.tool_words.specs.Words.{tool_job}
 use Rattle.patch_input.specs.Input.{IsStandard}
-use Rattle.filter_run.specs.declared.fault.FilterFault.{FilterFault}
+use Rattle.whole_filters.specs.declared.fault.FilterFault.{FilterFault}
 use Rattle.format_convert.specs.declared.fault.ConvertFault.{ConvertFault}
 use Rattle.filter_run.specs.Converting.{HasFormCause}
-use Rattle.filter_run.specs.Outcomes.{no_selection}
-use Rattle.filter_run.specs.Sifting.{HasRefusal, HasTextCause, HasCountCause}
-use Rattle.filter_run.specs.Sifting as sifting
-use Rattle.filter_run.specs.Flips.{HasFlipCause}
+use Rattle.whole_filters.specs.Outcomes.{no_selection}
+use Rattle.whole_filters.specs.Sifting.{HasRefusal, HasTextCause, HasCountCause}
+use Rattle.whole_filters.specs.Sifting as sifting
+use Rattle.whole_filters.specs.Flips.{HasFlipCause}
 
 -- the job is a filter's
 abbrev pub is_filter : PlainToolJob → Bool

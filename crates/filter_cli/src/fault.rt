@@ -2,8 +2,9 @@
 ghost use Rattle.std.specs.Prelude.{◌≡◌};
 ghost use Rattle.filter_cli.specs.Command.{of_filter, why_by, why_formed};
 
-use filter_run::{FilterFault, FormFault};
+use filter_run::FormFault;
 use run_answers::Why;
+use whole_filters::FilterFault;
 
 pub fn why_of(fault: FilterFault) -> Why
     ensures { result ≡ of_filter fault }

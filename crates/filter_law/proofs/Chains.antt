@@ -25,8 +25,9 @@ use Rattle.patch_set.specs.Spans.{IsPlaced, ArePlaced}
 use Rattle.patch_set.proofs.InBytes.{cut-bytes}
 use Rattle.tool_words.specs.PlainJobs.{PlainFilterJob}
 use Rattle.patch_filters.specs.Filtered.{filtered, written, written_bare, written_hunks, region, pieces, chosen, is_taken_of, asks_no_hunk}
-use Rattle.patch_filters.specs.Kept.{kept}
-use Rattle.filter_run.specs.Texts.{defaults, Spot, read_patches, regions_in, spots_in, spot_written, spot_hunks, spot_bare, is_spot_taken, filtered_in, front_of, pieces_of, all_of}
+use Rattle.filter_choice.specs.Kept.{kept}
+use Rattle.whole_filters.specs.Texts.{defaults, Spot, read_patches, regions_in, spots_in, front_of, pieces_of, all_of}
+use Rattle.filter_run.specs.Texts.{spot_written, spot_hunks, spot_bare, is_spot_taken, filtered_in}
 use Rattle.text_joins.specs.Unnumbered.{unnumbered}
 use Rattle.text_joins.specs.Joins.{read_unnumbered}
 use Rattle.text_joins.proofs.Reading.{goes-of, text-found}

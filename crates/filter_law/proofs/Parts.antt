@@ -32,7 +32,7 @@ use Rattle.patch_text.proofs.ChangeLemmas.{opens-change}
 use Rattle.patch_set.proofs.InBytes.{cut-bytes}
 use Rattle.tool_words.specs.PlainJobs.{PlainFilterJob}
 use Rattle.patch_filters.specs.Filtered.{chosen, asks_no_hunk}
-use Rattle.patch_filters.specs.Kept.{kept}
+use Rattle.filter_choice.specs.Kept.{kept}
 use Rattle.text_joins.specs.Unnumbered.{unnumbered_header, unnumbered}
 use Rattle.text_joins.specs.Said.{header_said}
 use Rattle.text_joins.specs.Following.{IsFilePatch}
@@ -47,7 +47,8 @@ use Rattle.filter_law.proofs.Alike.{form-alike}
 use Rattle.filter_law.proofs.Cutting.{owns_of, flat, pieces-have, chosen-lines, dots-both, dots-join, all-both}
 use Rattle.filter_law.proofs.Pieces.{kept-piece}
 use Rattle.filter_law.proofs.Laying.{Laid, laid}
-use Rattle.filter_run.specs.Texts.{Spot, spot_written, spot_hunks, spot_bare}
+use Rattle.whole_filters.specs.Texts.{Spot}
+use Rattle.filter_run.specs.Texts.{spot_written, spot_hunks, spot_bare}
 use Rattle.text_joins.proofs.Reading.{stands-so}
 
 -- ---- what a file patch that is left is alone

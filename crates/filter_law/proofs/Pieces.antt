@@ -19,9 +19,9 @@ use Rattle.patch_text.specs.Patches.{begins_change}
 use Rattle.patch_text.specs.Texts.{IsPiece}
 use Rattle.patch_text.specs.Changes.{Spells, SpellChange}
 use Rattle.tool_words.specs.PlainJobs.{PlainFilterJob}
-use Rattle.patch_filters.specs.Kept.{kept, is_kept}
-use Rattle.patch_filters.specs.OldLines.{old_numbers, old_of_each, addressed}
-use Rattle.patch_filters.specs.Selected.{numbered}
+use Rattle.filter_choice.specs.Kept.{kept, is_kept}
+use Rattle.filter_choice.specs.OldLines.{old_numbers, old_of_each, addressed}
+use Rattle.filter_choice.specs.Selected.{numbered}
 use Rattle.text_joins.specs.Joins.{BeginCleanly}
 use Rattle.text_joins.proofs.Spelling.{edits-joined}
 use Rattle.filter_law.specs.LeftPatches.{those, kept_change}

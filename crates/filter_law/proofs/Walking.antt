@@ -10,7 +10,7 @@ use Rattle.patch_header.specs.Content.{has_dot}
 use Rattle.patch_header.specs.declared.ways.Ways.{Ways}
 use Rattle.patch_header.proofs.Stands.{and_right}
 use Rattle.file_patch.specs.PlainPatch.{PlainPatch}
-use Rattle.patch_filters.specs.Selected.{numbered}
+use Rattle.filter_choice.specs.Selected.{numbered}
 use Rattle.text_joins.specs.Unnumbered.{unnumbered}
 use Rattle.text_joins.specs.Following.{IsFilePatch}
 use Rattle.text_joins.specs.Joins as joins

@@ -1,9 +1,8 @@
 -- What is written of a set is told by its text.
-use Rattle.std.proofs.Common.{◌≡◌, ℕ, ◌+◌, Bool, false, cond, List, [], ◌∷◌, ◌++◌, length, map, refl, sym, ap, subst, ◌∙◌}
-use Rattle.std.specs.Prelude.{◌==◌, filter, if◌then◌else◌, reverse}
+use Rattle.std.proofs.Common.{◌≡◌, ℕ, ◌+◌, Bool, cond, List, [], ◌∷◌, ◌++◌, length, map, refl, sym, ap, subst, ◌∙◌}
+use Rattle.std.specs.Prelude.{filter, if◌then◌else◌}
 use Rattle.std.specs.List.{flat_map, list_any, range_with_len, zip}
 use Rattle.std.proofs.lemmas.List.Concat.{flat_map-cons}
-use Rattle.std.proofs.lemmas.List.Folds.{flat_map-map}
 use Rattle.hunk_core.specs.declared.Form.{Form}
 use Rattle.hunk_core.proofs.ReadSteps.{bind_ok, ok_is}
 use Rattle.unified_form.specs.declared.skim.OldRange.{OldRange}
@@ -22,31 +21,26 @@ use Rattle.patch_set.proofs.InBytes.{cut-bytes}
 use Rattle.patch_filters.specs.Digested.{digest_if_taken, digest_written, filtered_digest, olds_by}
 use Rattle.patch_filters.specs.Filtered.{chosen, filtered, pieces, region, written, written_bare, written_if_taken, is_taken_of}
 use Rattle.patch_filters.specs.Grepped.{found_text, grepped, hits_of, is_found}
-use Rattle.patch_filters.specs.Kept.{is_kept, is_taken, kept}
+use Rattle.filter_choice.specs.Kept.{is_kept, is_taken, kept}
 use Rattle.patch_filters.specs.Listed.{listed}
-use Rattle.patch_filters.specs.OldLines.{old_of_each}
-use Rattle.patch_filters.specs.Selected.{numbered}
+use Rattle.filter_choice.specs.OldLines.{old_of_each}
+use Rattle.filter_choice.specs.Selected.{numbered}
 use Rattle.patch_filters.proofs.Digesting.{filtered-digest-is, olds-same}
 use Rattle.patch_filters.proofs.Outlined.{outlines-listed}
-use Rattle.patch_filters.proofs.Rows.{flat-if, filtered-is}
-use Rattle.flip_patch.specs.Flipped.{flipped}
+use Rattle.filter_choice.proofs.Rows.{flat-if}
+use Rattle.patch_filters.proofs.Rows.{filtered-is}
 use Rattle.change_commands.specs.Taken.{left_patches}
 use Rattle.format_convert.specs.Converted.{converted, written_if}
 use Rattle.format_convert.specs.Refusals.{refusal as form_refusal}
 use Rattle.format_convert.proofs.RowLemmas.{converted-is}
-use Rattle.split_recount.specs.Parts.{between, cuts_behind, parts, row_of}
-use Rattle.tool_words.specs.PlainJobs.{PlainFilterJob, PlainGrepJob, PlainListJob, PlainSplitJob}
+use Rattle.tool_words.specs.PlainJobs.{PlainFilterJob, PlainGrepJob, PlainListJob}
 use Rattle.tool_words.specs.declared.jobs.GrepOut.{GrepOut}
 use Rattle.tool_words.specs.declared.jobs.GrepOut.TheVariants.{Names, Hunks, Files}
-use Rattle.hunk_core.proofs.TurnedLemmas.{reverse-map}
-use Rattle.filter_run.specs.Opened.{IsOutlineOf}
-use Rattle.filter_run.specs.Flips.{flipped_in, spot_flipped}
+use Rattle.whole_filters.specs.Opened.{IsOutlineOf}
 use Rattle.filter_run.specs.Converting.{converted_in, form_refused, spot_converted}
-use Rattle.filter_run.specs.Texts.{defaults, read_patches, patches_in, regions_in, Spot, spots_in, spot_written, is_spot_taken, filtered_in, spot_found, grepped_in, row_at, parts_in}
-
--- a file patch of a set, as it is in the text
-abbrev spot : List ℕ → FilePatch → Spot
-spot text p = (region_of p, patch_of text p)
+use Rattle.whole_filters.specs.Texts.{defaults, read_patches, patches_in, regions_in, Spot, spots_in}
+use Rattle.filter_run.specs.Texts.{spot_written, is_spot_taken, filtered_in, spot_found, grepped_in}
+use Rattle.whole_filters.proofs.ByText.{spot, patches-by, spots-by}
 
 -- ---- a list
 
@@ -57,10 +51,6 @@ listed-by j skip text v read =
     ap (listed j) (sym (ok_is _ _ a.2)) ∙ outlines-listed j a.0 ∙ ap (listed j) (sym (ap read_patches (ap (patches_of ways) (sym read.text) ∙ a.1)))
 
 -- ---- lists side by side
-
-zip-both : (text : List ℕ) (ps : List FilePatch) → zip (map region_of ps) (map (patch_of text) ps) ≡ map (spot text) ps
-zip-both text [] = refl
-zip-both text (p ∷ ps) = ap (λ (ss : List Spot). spot text p ∷ ss) (zip-both text ps)
 
 module _ (text : List ℕ) (f : ℕ × FilePatch → List ℕ) (g : ℕ × Spot → List ℕ) (same : (n start before : ℕ) (p : FilePatch) → IsPlaced text start before p → f (n, p) ≡ g (n, spot text p)) where
   numbered-same : (k start before : ℕ) (ps : List FilePatch) → ArePlaced text start before ps
@@ -98,22 +88,6 @@ module _ (text : List ℕ) (start before : ℕ) (p : FilePatch) (at : IsPlaced t
   found-same hit Names = refl
   found-same hit Hunks = ap (λ (ts : List (List ℕ)). region text p ++ chosen (hits_of hit (change_of text p.change)) ts) (cut-bytes text p.header p.hunk_spans.items p.span.end at.cut)
   found-same hit Files = refl
-
-rows-same : (text : List ℕ) (ps : List FilePatch) → map (row_of text) ps ≡ map (row_at text) (map region_of ps)
-rows-same text [] = refl
-rows-same text (p ∷ ps) = ap (λ (rs : List (ℕ × List ℕ)). row_of text p ∷ rs) (rows-same text ps)
-
--- ---- a set that was read
-
-module _ (skip : Bool) (text : List ℕ) (v : SetView) (read : IsRead (defaults skip) text v) where
-  pub patches-by : patches_in skip text ≡ plain_patches v
-  patches-by = ap read_patches (ap (patches_of (ways_of (defaults skip))) (sym read.text) ∙ read.patches)
-
-  regions-by : regions_in skip text ≡ map region_of v.patches
-  regions-by = ap (regions_of (ways_of (defaults skip))) (sym read.text) ∙ sym read.regions
-
-  spots-by : spots_in skip text ≡ map (spot v.text) v.patches
-  spots-by = ap (λ (rs : List Region). zip rs (patches_in skip text)) regions-by ∙ ap (λ (ps : List PlainPatch). zip (map region_of v.patches) ps) patches-by ∙ zip-both v.text v.patches
 
 -- ---- what each filter writes of it
 
@@ -200,17 +174,3 @@ converted-by form j text v read =
     ∙ numbered-same v.text (written_if form j v.text) (spot_converted form j v.text) (λ n start before p at. refl) 0 0 0 v.patches read.spans
     ∙ ap (λ (ss : List Spot). flat_map (spot_converted form j v.text) (zip (range_with_len 0 (length ss)) ss)) (sym (spots-by j.select.skip_binary text v read))
     ∙ ap (λ (t : List ℕ). flat_map (spot_converted form j t) (zip (range_with_len 0 (length (spots_in j.select.skip_binary text))) (spots_in j.select.skip_binary text))) read.text
-
-pub parts-by : (j : PlainSplitJob) (text : List ℕ) (v : SetView) → IsRead (defaults j.skip_binary) text v → parts j.every v ≡ parts_in j text
-unfolding parts_in
-parts-by j text v read =
-    ap (λ (rows : List (ℕ × List ℕ)). if length v.text == 0 then [] else between 0 (cuts_behind j.every rows) (length v.text)) (rows-same v.text v.patches ∙ ap (map (row_at v.text)) (sym (regions-by j.skip_binary text v read)))
-    ∙ ap (λ (t : List ℕ). if length t == 0 then [] else between 0 (cuts_behind j.every (map (row_at t) (regions_in j.skip_binary text))) (length t)) read.text
-
-pub flipped-by : (text : List ℕ) (v : SetView) → IsRead (defaults false) text v → flipped v ≡ flipped_in text
-unfolding flipped flipped_in
-flipped-by text v read =
-    sym (flat_map-map (spot_flipped v.text) (spot v.text) (reverse v.patches))
-    ∙ ap (flat_map (spot_flipped v.text)) (sym (reverse-map (spot v.text) v.patches))
-    ∙ ap (λ (ss : List Spot). flat_map (spot_flipped v.text) (reverse ss)) (sym (spots-by false text v read))
-    ∙ ap (λ (t : List ℕ). flat_map (spot_flipped t) (reverse (spots_in false text))) read.text

@@ -13,11 +13,14 @@ use Rattle.set_outline.specs.Outlined.{outlined}
 use Rattle.patch_filters.specs.Listed.{listed}
 use Rattle.patch_filters.specs.Digested.{filtered_digest}
 use Rattle.patch_filters.specs.Grepped.{grepped}
-use Rattle.filter_run.specs.Texts.{defaults, patches_in, filtered_in, grepped_in}
-use Rattle.filter_run.specs.Outcomes.{Outcome, unless_refused, outcome_by, given, list_with, filter_with, grep_with, list_outcome, filter_outcome, grep_outcome}
-use Rattle.filter_run.specs.declared.fault.FilterFault.TheVariants as faults
-use Rattle.filter_run.specs.Opened.{IsDigestIn, IsOutlineOf, IsSet}
-use Rattle.filter_run.proofs.ByText.{patches-by, listed-by, digested-by, grepped-by}
+use Rattle.whole_filters.specs.Texts.{defaults, patches_in}
+use Rattle.filter_run.specs.Texts.{filtered_in, grepped_in}
+use Rattle.whole_filters.specs.Outcomes.{Outcome, given}
+use Rattle.filter_run.specs.Outcomes.{unless_refused, outcome_by, list_with, filter_with, grep_with, list_outcome, filter_outcome, grep_outcome}
+use Rattle.whole_filters.specs.declared.fault.FilterFault.TheVariants as faults
+use Rattle.whole_filters.specs.Opened.{IsDigestIn, IsOutlineOf, IsSet}
+use Rattle.whole_filters.proofs.ByText.{patches-by}
+use Rattle.filter_run.proofs.ByText.{listed-by, digested-by, grepped-by}
 
 -- the bytes that are written of what is read from the text, unless that is refused
 abbrev pub ComesBy : {V : Type 0} → (Bool → List ℕ → V → Type 0) → Bool → Option SetFault → (V → List ℕ) → List ℕ → Outcome → Type 0

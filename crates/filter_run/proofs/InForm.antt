@@ -19,14 +19,16 @@ use Rattle.format_convert.specs.declared.fault.ConvertFault.TheVariants as conve
 use Rattle.format_convert.specs.Converted.{Converts, converted}
 use Rattle.format_convert.specs.Refusals.{refusal as form_refusal}
 use Rattle.filter_run.specs.Converting.{FormOutcome, Forms, HasFormCause, IsConverted, convert_outcome, converted_by, converted_in, of_convert, of_converted, unless_unfit, unless_unread}
-use Rattle.filter_run.specs.Outcomes.{filter_with, given}
-use Rattle.filter_run.specs.Sifting.{IsTold, is_refusal}
-use Rattle.filter_run.specs.Opened.{IsGarbage, IsReadOf, IsReadOfSome, IsSet, IsRefused, Opens}
-use Rattle.filter_run.specs.declared.fault.FilterFault.{FilterFault}
-use Rattle.filter_run.specs.declared.fault.FilterFault.TheVariants as faults
+use Rattle.filter_run.specs.Outcomes.{filter_with}
+use Rattle.whole_filters.specs.Outcomes.{given}
+use Rattle.whole_filters.specs.Sifting.{IsTold, is_refusal}
+use Rattle.whole_filters.specs.Opened.{IsGarbage, IsReadOf, IsReadOfSome, IsSet, IsRefused, Opens}
+use Rattle.whole_filters.specs.declared.fault.FilterFault.{FilterFault}
+use Rattle.whole_filters.specs.declared.fault.FilterFault.TheVariants as faults
 use Rattle.filter_run.specs.declared.form_fault.FormFault.TheVariants.{Filter}
 use Rattle.filter_run.proofs.ByText.{converted-by, form-by}
-use Rattle.filter_run.proofs.Written.{answers-none, opening-cause}
+use Rattle.whole_filters.proofs.Unwritten.{answers-none}
+use Rattle.filter_run.proofs.Written.{opening-cause}
 
 module _ (form : Form) (j : PlainFilterJob) where
   outcome-is : (f : Files) (left : List ℕ) → convert_outcome form j f left ≡ converted_by form j (given j.input j.select f left)

@@ -19,12 +19,14 @@ use Rattle.patch_filters.specs.declared.fault.GrepFault.{GrepFault}
 use Rattle.patch_filters.specs.declared.fault.GrepFault.TheVariants as grep
 use Rattle.patch_filters.specs.Grepped.{HasGrepCause, grepped}
 use Rattle.filter_run.specs.Faults.{of_grep, of_search, of_sink}
-use Rattle.filter_run.specs.Outcomes.{Outcome, HasPatches, IsGrepped, given, grep_with}
-use Rattle.filter_run.specs.Sifting.{AnswersFault, HasCause, HasTextCause, IsTold, Sifts, is_early, is_refusal}
-use Rattle.filter_run.specs.Opened.{IsGarbage, IsReadOf, IsRefused, IsSet, HasOpeningCause, Opens}
+use Rattle.whole_filters.specs.Outcomes.{Outcome, given}
+use Rattle.filter_run.specs.Outcomes.{HasPatches, IsGrepped, grep_with}
+use Rattle.whole_filters.specs.Sifting.{AnswersFault, HasCause, HasTextCause, IsTold, Sifts, is_early, is_refusal}
+use Rattle.whole_filters.specs.Opened.{IsGarbage, IsReadOf, IsRefused, IsSet, HasOpeningCause, Opens}
+use Rattle.whole_filters.proofs.Unwritten.{answers-none}
 use Rattle.filter_run.proofs.Coming.{Comes, ComesBy, grepped-is, some-there}
-use Rattle.filter_run.specs.declared.fault.FilterFault.{FilterFault}
-use Rattle.filter_run.specs.declared.fault.FilterFault.TheVariants as faults
+use Rattle.whole_filters.specs.declared.fault.FilterFault.{FilterFault}
+use Rattle.whole_filters.specs.declared.fault.FilterFault.TheVariants as faults
 
 -- ---- what was read decides what comes
 module _ {V : Type 0} (Is : Bool → List ℕ → V → Type 0) (written : PlainSelect → V → List ℕ) (x : Result (List ℕ × PlainSelect) InputFault) where
@@ -56,10 +58,6 @@ pub patches-there : (x : Result (List ℕ × PlainSelect) InputFault) (s : Plain
 patches-there x s v some h = rw (h.is) (h.free, some-there s.skip_binary h.text v h.read some)
 
 -- ---- answers that write nothing
-pub answers-none : (b : Bool) (e : FilterFault) (P : Outcome → Type 0) (c : SinkView) → (b ≡ true → P (Err e)) → AnswersFault b e P c c
-answers-none true e P c is = (is refl, refl)
-answers-none false e P c is = inl refl
-
 pub opening-cause : (e : FilterFault) (i : Input) (s : PlainSelect) (Q : Type 0) (t u : TreeView) (a b : SourceView) (c : SinkView) → HasOpeningCause e i s t u a b → HasCause e i s (HasTextCause s.skip_binary) Q t u a b c c
 opening-cause (faults.Input e) i s Q t u a b c h = h
 opening-cause (faults.Set e) i s Q t u a b c h = h

@@ -19,10 +19,11 @@ use Rattle.format_convert.specs.declared.fault.ConvertFault.{ConvertFault}
 use Rattle.format_convert.specs.declared.fault.ConvertFault.TheVariants as convert
 use Rattle.format_convert.specs.Converted.{written_of}
 use Rattle.format_convert.specs.Refusals.{refusal as form_refusal}
-use Rattle.filter_run.specs.Texts.{Spot, defaults, patches_in, spots_in}
-use Rattle.filter_run.specs.Outcomes.{Outcome, filter_with, given}
-use Rattle.filter_run.specs.Sifting.{HasTextCause, IsTold, Sifts}
-use Rattle.filter_run.specs.declared.fault.FilterFault.TheVariants as faults
+use Rattle.whole_filters.specs.Texts.{Spot, defaults, patches_in, spots_in}
+use Rattle.whole_filters.specs.Outcomes.{Outcome, given}
+use Rattle.filter_run.specs.Outcomes.{filter_with}
+use Rattle.whole_filters.specs.Sifting.{HasTextCause, IsTold, Sifts}
+use Rattle.whole_filters.specs.declared.fault.FilterFault.TheVariants as faults
 use Rattle.filter_run.specs.declared.form_fault.FormFault.{FormFault}
 use Rattle.filter_run.specs.declared.form_fault.FormFault.TheVariants.{Filter, NoContext, Unfit}
 

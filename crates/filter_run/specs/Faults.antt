@@ -3,21 +3,13 @@ use Rattle.std.specs.Prelude.{Result, Ok, Err}
 use Rattle.outside.specs.declared.Failed.{Failed}
 use Rattle.patch_filters.specs.declared.fault.GrepFault.{GrepFault}
 use Rattle.patch_filters.specs.declared.fault.GrepFault.TheVariants as grep
-use Rattle.flip_patch.specs.declared.fault.FlipFault.{FlipFault}
-use Rattle.flip_patch.specs.declared.fault.FlipFault.TheVariants as flip
-use Rattle.patch_set.specs.declared.fault.SetFault.TheVariants as set
-use Rattle.filter_run.specs.declared.fault.FilterFault.{FilterFault}
-use Rattle.filter_run.specs.declared.fault.FilterFault.TheVariants.{Set, Unfit, Pattern, Write, Memory}
+use Rattle.whole_filters.specs.declared.fault.FilterFault.{FilterFault}
+use Rattle.whole_filters.specs.declared.fault.FilterFault.TheVariants.{Pattern, Write, Memory}
 
 abbrev pub of_grep : GrepFault → FilterFault
 of_grep grep.Pattern = Pattern
 of_grep grep.Write = Write
 of_grep grep.Memory = Memory
-
-abbrev pub of_flip : FlipFault → FilterFault
-of_flip (flip.EdReverse line) = Set (set.EdReverse line)
-of_flip (flip.Unfit line) = Unfit line
-of_flip flip.Write = Write
 
 -- what a filter answers where a sink has answered so
 abbrev pub of_sink : Result (Unit {0}) Failed → Result (Unit {0}) FilterFault

@@ -9,13 +9,13 @@ ghost use Rattle.format_convert.specs.Refusals.{refusal};
 ghost use Rattle.filter_run.specs.Converting.{Forms, of_converted};
 
 use crate::form_fault::FormFault;
-use crate::opening::open_text;
 use format_convert::{ConvertFault, convert_patches};
 use hunk_core::Form;
 use outside::{Sink, Source, Tree};
 use patch_set::PatchSet;
 use std::alloc::Global;
 use tool_words::FilterJob;
+use whole_filters::open_text;
 
 /// Carries out a command of `filterdiff` that asks for a form: the file patches that it means are written anew in this form, or
 /// the first one is told that can't be.
@@ -32,8 +32,24 @@ pub fn run_convert<T: Tree, I: Source, O: Sink>(
     ensures rest { O.same_rest out.old out.new }
 {
     let mut job = job;
+    convert_given(alloc, &mut job, form, tree, source, out)
+}
+
+/// The same for a job that gets the patterns of its files.
+fn convert_given<T: Tree, I: Source, O: Sink>(
+    alloc: Global,
+    job: &mut FilterJob,
+    form: Form,
+    tree: &mut T,
+    source: &mut I,
+    out: &mut O,
+) -> Result<(), FormFault>
+    ensures forms { Forms form (plain_filter_job job.old) (T.view tree.old) (T.view tree.new) (I.view source.old) (I.view source.new) (O.view out.old) (O.view out.new) result }
+    ensures unread { IsFile job.old.input → source.new ≡ source.old }
+    ensures rest { O.same_rest out.old out.new }
+{
     match open_text(alloc, &job.input, &mut job.select, tree, source) {
-        Ok(opened) => form_answer(put_converted(&opened, &job, form, out)),
+        Ok(opened) => form_answer(put_converted(&opened, job, form, out)),
         Err(fault) => Err(FormFault::Filter(fault)),
     }
 }

@@ -3,8 +3,8 @@ ghost use Rattle.std.specs.Prelude.{◌≡◌};
 ghost use Rattle.filter_run.specs.Converting.{of_convert};
 ghost use Rattle.filter_run.specs.declared.form_fault.FormFault.TheVariants as forms;
 
-use crate::fault::FilterFault;
 use format_convert::ConvertFault;
+use whole_filters::FilterFault;
 
 /// Why `filterdiff` with a form ends early. A line is that of the opening of a file patch.
 #[derive(Clone, Copy, Debug, PartialEq, Eq)]

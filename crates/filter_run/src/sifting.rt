@@ -12,23 +12,21 @@ ghost use Rattle.patch_filters.specs.Digested.{filtered_digest};
 ghost use Rattle.patch_filters.specs.Filtered.{filtered};
 ghost use Rattle.patch_filters.specs.Grepped.{HasGrepCause, grepped};
 ghost use Rattle.patch_filters.specs.Listed.{listed};
-ghost use Rattle.filter_run.specs.Faults.{of_search, of_sink};
-ghost use Rattle.filter_run.specs.Outcomes.{HasPatches, IsOutcomeOf, filter_outcome, given, list_outcome, no_selection, recount_outcome};
-ghost use Rattle.filter_run.specs.Texts.{defaults};
-ghost use Rattle.filter_run.specs.Sifting.{Greps, HasCountCause, HasTextCause, IsTold, Sifts};
+ghost use Rattle.filter_run.specs.Faults.{of_grep, of_search, of_sink};
+ghost use Rattle.filter_run.specs.Outcomes.{HasPatches, filter_outcome, list_outcome};
+ghost use Rattle.whole_filters.specs.Outcomes.{IsOutcomeOf, given};
+ghost use Rattle.whole_filters.specs.Texts.{defaults};
+ghost use Rattle.filter_run.specs.Sifting.{Greps};
+ghost use Rattle.whole_filters.specs.Sifting.{HasTextCause, IsTold, Sifts};
 
-use crate::fault::FilterFault;
-use crate::opening::{open_digest, open_outline, open_text};
-use outside::{Failed, Finder, Sink, Source, Tree, put_all};
+use outside::{Failed, Finder, Sink, Source, Tree};
 use patch_filters::{GrepFault, filter_patches, grep_patches, list_patches};
-use patch_input::read_input;
-use patch_options::Input;
-use patch_set::{PatchSet, SetFault};
+use patch_set::PatchSet;
 use set_outline::{Digest, Outline};
-use split_recount::recount;
 use std::alloc::Global;
 use std::mem::forget;
 use tool_words::{FilterJob, GrepJob, ListJob};
+use whole_filters::{FilterFault, open_digest, open_outline, open_text};
 
 /// Carries out a command of `lsdiff`: the list of the file patches that it means. What was read is left to the end of the process.
 pub fn run_list<T: Tree, I: Source, O: Sink>(
@@ -117,29 +115,6 @@ fn leave<V: Drop>(opened: Option<V>) {
     forget(opened);
 }
 
-/// Carries out a command of `recountdiff`: the text with true counts.
-pub fn run_recount<T: Tree, I: Source, O: Sink>(
-    alloc: Global,
-    input: &Input,
-    tree: &mut T,
-    source: &mut I,
-    out: &mut O,
-) -> Result<(), FilterFault>
-    ensures sifts { Sifts input.now no_selection HasCountCause ⊥ (IsOutcomeOf (recount_outcome input.now)) (T.view tree.old) (T.view tree.new) (I.view source.old) (I.view source.new) (O.view out.old) (O.view out.new) result }
-    ensures unread { IsFile input.now → source.new ≡ source.old }
-    ensures rest { O.same_rest out.old out.new }
-{
-    let text = read_input(alloc, input, None, tree, source)?;
-    let counted = match recount(alloc, &text) {
-        Ok(counted) => counted,
-        Err(fault) => return Err(FilterFault::Set(SetFault::from(fault))),
-    };
-    match put_all(out, &counted) {
-        Ok(()) => Ok(()),
-        Err(_) => Err(FilterFault::Write),
-    }
-}
-
 /// Writes the list of the file patches, where there are some.
 fn put_listed<O: Sink>(opened: &Option<Outline>, job: &ListJob, out: &mut O) -> Result<(), Failed>
     ensures writes { IfSome opened.now (λ v. Writes (O.view out.old) (O.view out.new) result (listed (plain_list_job job.now) (outlined v))) }
@@ -205,6 +180,16 @@ fn search_answer(found: Result<(), GrepFault>) -> Result<(), FilterFault>
 {
     match found {
         Ok(()) => Ok(()),
-        Err(fault) => Err(FilterFault::from(fault)),
+        Err(fault) => Err(fault_of(fault)),
+    }
+}
+
+fn fault_of(found: GrepFault) -> FilterFault
+    ensures { result ≡ of_grep found }
+{
+    match found {
+        GrepFault::Pattern => FilterFault::Pattern,
+        GrepFault::Write => FilterFault::Write,
+        GrepFault::Memory => FilterFault::Memory,
     }
 }

@@ -16,8 +16,8 @@ use Rattle.file_patch.specs.declared.Change.TheVariants.{Hunks, Script}
 use Rattle.file_patch.specs.PlainPatch.{AreLawfulHunks, IsLawfulChange, PlainChange, PlainPatch, hunks, script, patch_of, change_of, hunk_count, row_count, first_opening}
 use Rattle.patch_set.specs.SetView.{SetView, patch_at, plain_patches}
 use Rattle.patch_set.proofs.Named.{rows-counted}
-use Rattle.patch_filters.specs.Kept.{keeps}
-use Rattle.patch_filters.proofs.Rows.{zip-at, zip-count}
+use Rattle.filter_choice.specs.Kept.{keeps}
+use Rattle.filter_choice.proofs.Rows.{zip-at, zip-count}
 use Rattle.tool_words.specs.PlainJobs.{PlainFilterJob}
 use Rattle.change_commands.specs.Taken.{flags, has_kept, hunk_if, kept_hunks, left_change, left_patch, left_patches, patch_if}
 use Rattle.change_commands.specs.Walk.{IsHunks}

@@ -9,7 +9,7 @@ ghost use Rattle.hunk_core.specs.PlainHunk.{hunk_of, hunks_of};
 ghost use Rattle.hunk_core.specs.Turned.{IsLawful};
 ghost use Rattle.hunk_core.specs.Writing.{Puts};
 ghost use Rattle.file_patch.specs.PlainPatch.{AreLawfulHunks, patch_of, row_count};
-ghost use Rattle.patch_filters.specs.Kept.{keeps};
+ghost use Rattle.filter_choice.specs.Kept.{keeps};
 ghost use Rattle.change_commands.specs.Taken.{flags, kept_hunks, left_patch};
 ghost use Rattle.change_commands.specs.Walk.{IsHunks};
 ghost use Rattle.format_convert.specs.Converted.{hunk_texts};
@@ -17,9 +17,9 @@ ghost use Rattle.patch_header.specs.Written.{hunk_text};
 
 use change_commands::patch_at;
 use file_patch::{Change, FilePatch};
+use filter_choice::keeps;
 use hunk_core::{Form, Hunk, Side};
 use outside::{Failed, Sink};
-use patch_filters::keeps;
 use patch_set::PatchSet;
 use tool_words::FilterJob;
 

@@ -15,10 +15,10 @@ use Rattle.patch_text.specs.Digests.{AreDigests, IsDigest, no_hunks, old_ranges,
 use Rattle.set_outline.specs.Digested.{DigestView}
 use Rattle.tool_words.specs.PlainJobs.{PlainFilterJob}
 use Rattle.patch_filters.specs.Digested.{digest_kept, digest_if_taken, filtered_digest, olds_by, range_numbers}
-use Rattle.patch_filters.specs.OldLines.{from_to, old_numbers, old_of_each}
-use Rattle.patch_filters.specs.Selected.{numbered}
-use Rattle.patch_filters.proofs.OldLines.{one-line, some-lines}
-use Rattle.patch_filters.proofs.Rows.{flags-count}
+use Rattle.filter_choice.specs.OldLines.{from_to, old_numbers, old_of_each}
+use Rattle.filter_choice.specs.Selected.{numbered}
+use Rattle.filter_choice.proofs.OldLines.{one-line, some-lines}
+use Rattle.filter_choice.proofs.Rows.{flags-count}
 
 -- ---- the old lines of a hunk
 

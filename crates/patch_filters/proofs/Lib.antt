@@ -1,7 +1,5 @@
 pub mod Rows
-mod Ranges
-mod OldLines
-pub mod Placed
+mod Flagged
 mod Whole
 mod AsWritten
 mod Searching

@@ -15,13 +15,14 @@ use Rattle.file_patch.specs.PlainPatch.{change_of, patch_of, row_count}
 use Rattle.patch_set.specs.Spans.{IsPlaced, ArePlaced}
 use Rattle.patch_set.proofs.Named.{rows-counted}
 use Rattle.tool_words.specs.PlainJobs.{PlainFilterJob}
-use Rattle.patch_filters.specs.Selected.{numbered}
-use Rattle.patch_filters.specs.OldLines.{old_of_each}
-use Rattle.patch_filters.specs.Kept.{is_kept, kept, keeps}
+use Rattle.filter_choice.specs.Selected.{numbered}
+use Rattle.filter_choice.specs.OldLines.{old_of_each}
+use Rattle.filter_choice.specs.Kept.{is_kept, kept, keeps}
 use Rattle.patch_filters.specs.Filtered.{region, pieces, text_if, chosen, asks_no_hunk, written, written_bare, written_hunks, is_taken_of, written_if_taken}
 use Rattle.patch_filters.specs.Laws.{AsksNothing, WritesAll, WritesNone, WritesNoBare}
-use Rattle.patch_filters.proofs.Placed.{placed-at, span-in, turn-end, turn-with}
-use Rattle.patch_filters.proofs.Rows.{filtered-is, kept-count, kept-long, zip-at}
+use Rattle.filter_choice.proofs.Placed.{placed-at, span-in, turn-end, turn-with}
+use Rattle.patch_filters.proofs.Rows.{filtered-is}
+use Rattle.filter_choice.proofs.Rows.{kept-count, kept-long, zip-at}
 
 -- ---- the text of a file patch is its region and its hunks
 

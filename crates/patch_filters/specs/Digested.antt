@@ -6,9 +6,9 @@ use Rattle.file_patch.specs.declared.FilePatch.{FilePatch}
 use Rattle.file_patch.specs.PlainPatch.{PlainChange, hunks, script, change_of}
 use Rattle.set_outline.specs.Digested.{DigestView}
 use Rattle.tool_words.specs.PlainJobs.{PlainFilterJob}
-use Rattle.patch_filters.specs.Selected.{numbered}
-use Rattle.patch_filters.specs.OldLines.{addressed}
-use Rattle.patch_filters.specs.Kept.{is_kept}
+use Rattle.filter_choice.specs.Selected.{numbered}
+use Rattle.filter_choice.specs.OldLines.{addressed}
+use Rattle.filter_choice.specs.Kept.{is_kept}
 use Rattle.patch_filters.specs.Filtered.{region, pieces, chosen, written_bare, is_taken_of}
 
 -- the numbers of the old lines of a hunk

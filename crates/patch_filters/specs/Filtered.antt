@@ -6,8 +6,8 @@ use Rattle.file_patch.specs.declared.FilePatch.{FilePatch}
 use Rattle.file_patch.specs.PlainPatch.{change_of, header_of}
 use Rattle.patch_set.specs.SetView.{SetView}
 use Rattle.tool_words.specs.PlainJobs.{PlainFilterJob}
-use Rattle.patch_filters.specs.Selected.{numbered}
-use Rattle.patch_filters.specs.Kept.{is_taken, kept}
+use Rattle.filter_choice.specs.Selected.{numbered}
+use Rattle.filter_choice.specs.Kept.{is_taken, kept}
 
 -- the lines of a file patch in front of its first hunk
 abbrev pub region : List ℕ → FilePatch → List ℕ

@@ -14,7 +14,7 @@ use Rattle.tool_words.specs.declared.jobs.GrepOut.TheVariants.{Names, Hunks, Fil
 pub use Rattle.patch_header.specs.Content.{content}
 use Rattle.patch_filters.specs.declared.fault.GrepFault.{GrepFault}
 use Rattle.patch_filters.specs.declared.fault.GrepFault.TheVariants.{Pattern, Write, Memory}
-use Rattle.patch_filters.specs.Selected.{is_selected}
+use Rattle.filter_choice.specs.Selected.{is_selected}
 use Rattle.patch_filters.specs.Filtered.{region, pieces, chosen}
 
 -- the contents of all lines of each hunk, without their marks; an ed script is one hunk, with the lines that it inserts

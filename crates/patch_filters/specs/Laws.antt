@@ -6,7 +6,7 @@ use Rattle.file_patch.specs.declared.FilePatch.{FilePatch}
 use Rattle.file_patch.specs.PlainPatch.{patch_of, row_count}
 use Rattle.patch_set.specs.SetView.{SetView, IsWhole, patch_at}
 use Rattle.tool_words.specs.PlainJobs.{PlainFilterJob}
-use Rattle.patch_filters.specs.Kept.{keeps}
+use Rattle.filter_choice.specs.Kept.{keeps}
 use Rattle.patch_filters.specs.Filtered.{filtered, asks_no_hunk, is_taken_of, written_if_taken}
 
 -- nothing is asked for: no name is excluded, none has to be included, and each number is meant

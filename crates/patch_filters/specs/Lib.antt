@@ -1,7 +1,4 @@
-pub mod Selected
 pub mod Listed
-pub mod OldLines
-pub mod Kept
 pub mod Filtered
 pub mod Digested
 pub mod Grepped

@@ -9,7 +9,7 @@ use Rattle.file_patch.specs.Actions.{is_moved}
 use Rattle.file_patch.specs.Absent.{is_absent}
 use Rattle.patch_set.specs.PlainName.{plain_name}
 use Rattle.tool_words.specs.PlainJobs.{PlainListJob}
-use Rattle.patch_filters.specs.Selected.{is_selected}
+use Rattle.filter_choice.specs.Selected.{is_selected}
 
 -- whether the old side is no file, or else the new one, or both are files; a file that is renamed or copied has both sides
 abbrev pub sign : PlainPatch → List ℕ

@@ -9,14 +9,14 @@ ghost use Rattle.file_patch.specs.PlainPatch.{header_of};
 ghost use Rattle.patch_text.specs.Changes.{AreCut};
 ghost use Rattle.patch_text.specs.Digests.{IsDigest};
 ghost use Rattle.tool_words.specs.PlainJobs.{plain_filter_job};
-ghost use Rattle.patch_filters.specs.Kept.{is_taken};
+ghost use Rattle.filter_choice.specs.Kept.{is_taken};
 ghost use Rattle.patch_filters.specs.Filtered.{asks_no_hunk, chosen, pieces, region, text_if, written_bare};
 ghost use Rattle.patch_filters.specs.Digested.{digest_hunks, digest_if_taken, digest_kept, digest_written, filtered_digest};
 
 use crate::hunks::is_row_kept;
-use crate::numbers::{is_meant, is_selected};
 use crate::pieces::{bytes_at, put_piece};
 use file_patch::FilePatch;
+use filter_choice::{is_meant, is_selected};
 use outside::{Failed, Sink};
 use set_outline::Digest;
 use tool_words::FilterJob;

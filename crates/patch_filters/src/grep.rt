@@ -13,11 +13,10 @@ ghost use Rattle.patch_filters.specs.Grepped.{Finds, HasGrepCause, IsFirst, foun
 
 use crate::GrepFault;
 use crate::list::put_line;
-use crate::numbers::is_selected;
 use crate::pieces::{bytes_at, put_hunk, put_piece, put_region};
 use crate::search::{first_hit, is_hit, keep_pattern};
-use crate::set::patch_at;
 use file_patch::FilePatch;
+use filter_choice::{is_selected, patch_at};
 use outside::{Finder, Sink};
 use patch_set::PatchSet;
 use std::alloc::Global;

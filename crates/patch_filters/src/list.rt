@@ -10,10 +10,10 @@ ghost use Rattle.set_outline.specs.Outlined.{outlined};
 ghost use Rattle.tool_words.specs.PlainJobs.{plain_list_job};
 ghost use Rattle.patch_filters.specs.Listed.{front, line_if_selected, listed, number_text, sign, sign_text};
 
-use crate::numbers::is_selected;
 use crate::pieces::put_piece;
 use arrayvec::ArrayVec;
 use file_patch::FilePatch;
+use filter_choice::is_selected;
 use hunk_core::{Side, add_piece};
 use num_text::put_number;
 use outside::{Failed, Sink};

@@ -2,7 +2,7 @@ use Rattle.std.proofs.Common.{Ok, ap, false, ◌≡◌}
 use Rattle.tool_words.specs.PlainJobs.{plain_grep_job}
 use Rattle.tool_words.specs.PlainJobs.PlainToolJob.{grep_job}
 use Rattle.filter_run.specs.Outcomes.{IsGrepped}
-use Rattle.filter_run.specs.Sifting.{HasTextCause}
+use Rattle.whole_filters.specs.Sifting.{HasTextCause}
 use Rattle.filter_cli.specs.Command.{why_by}
 use Rattle.filter_cli.specs.Worlds.{world}
 use Rattle.filter_cli.proofs.Whole.{carries_is}

@@ -1,8 +1,8 @@
 use Rattle.std.proofs.Common.{Ok, ap}
 use Rattle.outside.specs.FinderView.{finder_passes_none}
 use Rattle.tool_words.specs.PlainJobs.PlainToolJob.{flip_job}
-use Rattle.filter_run.specs.Outcomes.{IsOutcomeOf, no_selection}
-use Rattle.filter_run.specs.Flips.{HasFlipCause, flip_outcome}
+use Rattle.whole_filters.specs.Outcomes.{IsOutcomeOf, no_selection}
+use Rattle.whole_filters.specs.Flips.{HasFlipCause, flip_outcome}
 use Rattle.filter_cli.specs.Command.{why_by}
 use Rattle.filter_cli.specs.Worlds.{world}
 use Rattle.filter_cli.proofs.Whole.{carries_is}

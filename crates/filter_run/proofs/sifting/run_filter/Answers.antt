@@ -1,7 +1,8 @@
 use Rattle.tool_words.specs.PlainJobs.{plain_filter_job, plain_select}
 use Rattle.patch_filters.specs.Digested.{filtered_digest}
-use Rattle.filter_run.specs.Outcomes.{IsOutcomeOf, filter_outcome, filter_with}
-use Rattle.filter_run.specs.Opened.{IsDigestIn}
+use Rattle.whole_filters.specs.Outcomes.{IsOutcomeOf}
+use Rattle.filter_run.specs.Outcomes.{filter_outcome, filter_with}
+use Rattle.whole_filters.specs.Opened.{IsDigestIn}
 use Rattle.filter_run.proofs.Coming.{filtered-is}
 use Rattle.filter_run.proofs.Written.{sifts-unopened, sifts-over}
 use Rattle.filter_run.proofs.sifting.run_filter.Goals as goal

@@ -1,8 +1,9 @@
 use Rattle.tool_words.specs.PlainJobs.{plain_list_job, plain_select}
 use Rattle.patch_filters.specs.Listed.{listed}
-use Rattle.filter_run.specs.Outcomes.{IsOutcomeOf, list_outcome, list_with}
+use Rattle.whole_filters.specs.Outcomes.{IsOutcomeOf}
+use Rattle.filter_run.specs.Outcomes.{list_outcome, list_with}
 use Rattle.set_outline.specs.Outlined.{outlined}
-use Rattle.filter_run.specs.Opened.{IsOutlineOf}
+use Rattle.whole_filters.specs.Opened.{IsOutlineOf}
 use Rattle.filter_run.proofs.Coming.{listed-is}
 use Rattle.filter_run.proofs.Written.{sifts-unopened, sifts-over}
 use Rattle.filter_run.proofs.sifting.run_list.Goals as goal

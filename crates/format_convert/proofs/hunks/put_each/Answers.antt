@@ -4,7 +4,7 @@ use Rattle.hunk_core.specs.declared.Hunk.{Hunk}
 use Rattle.hunk_core.specs.PlainHunk.{hunk_of, hunks_of}
 use Rattle.hunk_core.specs.Turned.{IsLawful}
 use Rattle.file_patch.specs.PlainPatch.{patch_of}
-use Rattle.patch_filters.specs.Kept.{keeps}
+use Rattle.filter_choice.specs.Kept.{keeps}
 use Rattle.tool_words.specs.PlainJobs.{plain_filter_job}
 use Rattle.change_commands.specs.Taken.{flags}
 use Rattle.change_commands.proofs.Parts.{written-all, written-more, written-none, written-stop}

@@ -2,7 +2,7 @@ use Rattle.std.proofs.Common.{◌≡◌, ◌+◌, ◌&&◌, suc, true, false, sy
 use Rattle.file_patch.specs.PlainPatch.{header_of}
 use Rattle.patch_set.specs.PlainName.{plain_name}
 use Rattle.tool_words.specs.PlainJobs.{plain_filter_job}
-use Rattle.patch_filters.specs.Selected.{is_meant, is_selected}
+use Rattle.filter_choice.specs.Selected.{is_meant, is_selected}
 use Rattle.patch_filters.proofs.filter.is_taken.Goals as goal
 
 pub returns-then-is_selected : goal.returns-then-is_selected

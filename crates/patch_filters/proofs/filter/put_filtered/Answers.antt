@@ -6,10 +6,10 @@ use Rattle.tool_words.specs.PlainJobs.{plain_filter_job}
 use Rattle.line_list.proofs.Elements.{there-is}
 use Rattle.hunk_core.proofs.Loops.{goes-on, stops, ends}
 use Rattle.set_outline.proofs.Digests.{digests-count}
-use Rattle.patch_filters.specs.Selected.{numbered}
+use Rattle.filter_choice.specs.Selected.{numbered}
 use Rattle.patch_filters.specs.Digested.{digest_if_taken}
 use Rattle.patch_filters.proofs.Digesting.{filtered-digest-is}
-use Rattle.patch_filters.proofs.Rows.{numbered-at, numbered-count, zip-at, zip-count}
+use Rattle.filter_choice.proofs.Rows.{numbered-at, numbered-count, zip-at, zip-count}
 use Rattle.patch_filters.proofs.filter.put_filtered.Goals as goal
 
 pub put_if_taken-requires-clause-few : goal.put_if_taken-requires-clause-few

@@ -1,6 +1,6 @@
 use Rattle.std.proofs.Common.{arith}
 use Rattle.line_list.proofs.Elements.{found}
-use Rattle.patch_filters.proofs.Placed.{span-in, turn-of}
+use Rattle.filter_choice.proofs.Placed.{span-in, turn-of}
 use Rattle.patch_filters.proofs.filter.put_span.Goals as goal
 
 pub bytes_at-requires-clause-order : goal.bytes_at-requires-clause-order

@@ -7,7 +7,7 @@ use Rattle.patch_filters.specs.declared.fault.GrepFault.TheVariants.{Write}
 use Rattle.patch_filters.specs.Filtered.{pieces, text_if}
 use Rattle.patch_filters.specs.Grepped.{Finds, hits_of, test_of}
 use Rattle.patch_filters.proofs.Searching.{asked-none, still-kept}
-use Rattle.patch_filters.proofs.Placed.{rows, rows-long, row-at}
+use Rattle.patch_filters.proofs.Flagged.{rows, rows-long, row-at}
 use Rattle.patch_filters.proofs.Finding.{by-first, ends-in, finds-stop, finds-write, found-ends, found-goes-on, found-stops}
 use Rattle.patch_filters.proofs.Hits.{first-hunk, first-piece, first-whole, hits-long}
 use Rattle.patch_filters.proofs.grep.put_hits.Goals as goal

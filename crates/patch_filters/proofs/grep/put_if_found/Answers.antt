@@ -5,7 +5,7 @@ use Rattle.file_patch.specs.PlainPatch.{change_of, header_of, patch_of}
 use Rattle.patch_set.specs.PlainName.{plain_name}
 use Rattle.tool_words.specs.PlainJobs.{plain_grep_job}
 use Rattle.patch_filters.specs.declared.fault.GrepFault.TheVariants.{Memory}
-use Rattle.patch_filters.specs.Selected.{is_selected}
+use Rattle.filter_choice.specs.Selected.{is_selected}
 use Rattle.patch_filters.specs.Grepped.{IsFirst, found_text, hits_of, is_found, test_of, text_if_found}
 use Rattle.patch_filters.proofs.Searching.{same-test, still-kept}
 use Rattle.patch_filters.proofs.Finding.{by-first, ends-in, finds-done, finds-memory, finds-more, found-asked, found-none}

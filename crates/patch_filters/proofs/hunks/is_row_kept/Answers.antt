@@ -2,12 +2,12 @@ use Rattle.std.proofs.Common.{◌≡◌, ◌+◌, ◌&&◌, [], suc, get_or, sym
 use Rattle.std.proofs.lemmas.Option.{slice_get-get_or}
 use Rattle.file_patch.specs.PlainPatch.{change_of}
 use Rattle.tool_words.specs.PlainJobs.{plain_filter_job}
-use Rattle.patch_filters.specs.Selected.{is_meant, is_one_meant}
+use Rattle.filter_choice.specs.Selected.{is_meant, is_one_meant}
 use Rattle.patch_filters.specs.Digested.{olds_by}
-use Rattle.patch_filters.specs.OldLines.{numbers_of}
+use Rattle.filter_choice.specs.OldLines.{numbers_of}
 use Rattle.patch_filters.proofs.Digesting.{olds-by-count}
-use Rattle.patch_filters.proofs.OldLines.{counted}
-use Rattle.patch_filters.proofs.Rows.{flags-at}
+use Rattle.filter_choice.proofs.OldLines.{counted}
+use Rattle.filter_choice.proofs.Rows.{flags-at}
 use Rattle.patch_filters.proofs.hunks.is_row_kept.Goals as goal
 
 pub row_lines-requires-clause-counted : goal.row_lines-requires-clause-counted

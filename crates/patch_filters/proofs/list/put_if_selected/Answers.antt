@@ -2,7 +2,7 @@ use Rattle.std.proofs.Common.{◌≡◌, false, sym, ap, ◌∙◌, rules}
 use Rattle.hunk_core.proofs.SinkSteps.{has-none, puts-done}
 use Rattle.file_patch.specs.PlainPatch.{patch_of}
 use Rattle.tool_words.specs.PlainJobs.{plain_list_job}
-use Rattle.patch_filters.specs.Selected.{is_selected}
+use Rattle.filter_choice.specs.Selected.{is_selected}
 use Rattle.patch_filters.specs.Listed.{is_listed}
 use Rattle.patch_filters.proofs.list.put_if_selected.Goals as goal
 

@@ -1,6 +1,6 @@
 use Rattle.std.proofs.Common.{arith}
 use Rattle.line_list.proofs.Elements.{found}
-use Rattle.patch_filters.proofs.Placed.{span-in, turn-with}
+use Rattle.filter_choice.proofs.Placed.{span-in, turn-with}
 use Rattle.patch_filters.proofs.pieces.put_hunk.Goals as goal
 
 pub bytes_at-requires-clause-order : goal.bytes_at-requires-clause-order

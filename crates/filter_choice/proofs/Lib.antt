@@ -1,0 +1,4 @@
+pub mod Rows
+mod Ranges
+pub mod OldLines
+pub mod Placed

@@ -1,0 +1,11 @@
+pub mod ByText
+mod Choosing
+mod Taking
+mod Gathering
+pub mod Unwritten
+mod Recounting
+mod TurnedText
+mod PartNames
+mod Parting
+mod SplitRun
+mod DryReading

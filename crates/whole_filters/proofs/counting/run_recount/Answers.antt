@@ -1,0 +1,53 @@
+use Rattle.std.proofs.Common.{◌≤◌, ℕ, List, length, None, Ok, sym, subst, ap, ◌∙◌}
+use Rattle.patch_input.specs.Input.{IsAnswer}
+use Rattle.whole_filters.specs.declared.fault.FilterFault.TheVariants as faults
+use Rattle.whole_filters.proofs.Gathering.{fault-is}
+use Rattle.whole_filters.proofs.Recounting.{counts-unread, counts-refused, counts-written, counts-cut}
+use Rattle.whole_filters.proofs.counting.run_recount.Goals as goal
+
+pub returns-in_err-text-clause-sifts : goal.returns-in_err-text-clause-sifts
+returns-in_err-text-clause-sifts g c =
+    let e = c.in_err-text.field-0.0 in
+    rw (fault-is c.from_residual.result (faults.Input e) c.from_residual.ensures.1)
+    (counts-unread c.args.input.now _ _ _ _ c.read_input.ensures.untouched c.read_input.ensures.passes c.read_input.ensures.taken _ e c.in_err-text.ensures.cause)
+
+pub returns-in_err-text-clause-rest : goal.returns-in_err-text-clause-rest
+returns-in_err-text-clause-rest g c = g.met.O.Sink.rest_none c.args.out.now
+
+pub recount-requires : goal.recount-requires
+recount-requires g c = subst (λ (l : List ℕ). length l ≤ 268435456) (sym c.deref.ensures.value) c.in_ok-text.ensures.short
+
+pub returns-in-Err-clause-sifts : goal.returns-in-Err-clause-sifts
+returns-in-Err-clause-sifts g c =
+    let i = c.args.input.now in
+    let t = g.T.Tree.view c.args.tree.now in
+    let a = g.I.Source.view c.args.source.now in
+    let is = subst (λ (l : List ℕ). IsAnswer (Ok l) i None t a) (sym c.deref.ensures.value) c.in_ok-text.ensures.text in
+    rw c.from.ensures (counts-refused i t _ a _ c.read_input.ensures.untouched c.read_input.ensures.passes c.read_input.ensures.taken _ c.deref.result.now is c.in-Err.fault c.in-Err.ensures.exact)
+
+pub returns-in-Err-clause-rest : goal.returns-in-Err-clause-rest
+returns-in-Err-clause-rest g c = g.met.O.Sink.rest_none c.args.out.now
+
+pub returns-in-Ok-put_all-clause-sifts : goal.returns-in-Ok-put_all-clause-sifts
+returns-in-Ok-put_all-clause-sifts g c =
+    let i = c.args.input.now in
+    let t = g.T.Tree.view c.args.tree.now in
+    let a = g.I.Source.view c.args.source.now in
+    let is = subst (λ (l : List ℕ). IsAnswer (Ok l) i None t a) (sym c.deref.ensures.value) c.in_ok-text.ensures.text in
+    counts-written i t _ a _ c.read_input.ensures.untouched c.read_input.ensures.passes c.read_input.ensures.taken _ c.deref.result.now is
+    c.deref-2.result.now (c.in-Ok.ensures.exact ∙ ap (λ (l : List ℕ). Ok l) (sym c.deref-2.ensures.value)) _ c.in_ok-text.ensures.end c.in-Ok-put_all.ensures.call c.in-Ok-put_all.ensures.received
+
+pub returns-in-Ok-put_all-clause-rest : goal.returns-in-Ok-put_all-clause-rest
+returns-in-Ok-put_all-clause-rest g c = c.put_all.ensures.rest
+
+pub returns-clause-sifts : goal.returns-clause-sifts
+returns-clause-sifts g c =
+    let i = c.args.input.now in
+    let t = g.T.Tree.view c.args.tree.now in
+    let a = g.I.Source.view c.args.source.now in
+    let is = subst (λ (l : List ℕ). IsAnswer (Ok l) i None t a) (sym c.deref.ensures.value) c.in_ok-text.ensures.text in
+    counts-cut i t _ a _ c.read_input.ensures.untouched c.read_input.ensures.passes c.read_input.ensures.taken _ c.deref.result.now is
+    c.deref-2.result.now (c.in-Ok.ensures.exact ∙ ap (λ (l : List ℕ). Ok l) (sym c.deref-2.ensures.value)) _ c.in-Err-put_all.field-0 c.in-Err-put_all.ensures.call c.in-Err-put_all.ensures.failed
+
+pub returns-clause-rest : goal.returns-clause-rest
+returns-clause-rest g c = c.put_all.ensures.rest

@@ -1,0 +1,49 @@
+use Rattle.tool_words.specs.PlainJobs.{plain_select}
+use Rattle.outside.specs.Calls.{untouched_both}
+use Rattle.whole_filters.proofs.Gathering.{fault-is}
+use Rattle.whole_filters.proofs.Taking.{none-given, text-refused, text-cause, given-is, given-refused, selection-cause}
+use Rattle.whole_filters.proofs.opening.read_given.Goals as goal
+
+pub returns-in_err-text-clause-refused : goal.returns-in_err-text-clause-refused
+returns-in_err-text-clause-refused g c =
+    let i = c.args.input.now in
+    let e = c.in_err-text.field-0.0 in
+    rw (fault-is c.from_residual.result e c.from_residual.ensures.1)
+    (λ refuses f left told. none-given i (plain_select c.args.select.now) f left e (text-refused e i (plain_select c.args.select.now) _ _ _ _ c.in_err-text.ensures.cause refuses f left told))
+
+pub returns-in_err-text-clause-cause : goal.returns-in_err-text-clause-cause
+returns-in_err-text-clause-cause g c =
+    let e = c.in_err-text.field-0.0 in
+    rw (fault-is c.from_residual.result e c.from_residual.ensures.1) (text-cause e c.args.input.now (plain_select c.args.select.now) _ _ _ _ c.in_err-text.ensures.cause)
+
+pub returns-in_err-add_patterns-clause-untouched : goal.returns-in_err-add_patterns-clause-untouched
+returns-in_err-add_patterns-clause-untouched g c = untouched_both c.read_input.ensures.untouched c.add_patterns.ensures.untouched
+
+pub returns-in_err-add_patterns-clause-refused : goal.returns-in_err-add_patterns-clause-refused
+returns-in_err-add_patterns-clause-refused g c =
+    let t = g.T.Tree.view c.args.tree.now in
+    let u = g.T.Tree.view c.read_input.new.tree in
+    let a = g.I.Source.view c.args.source.now in
+    let e = c.in_err-add_patterns.field-0.0 in
+    rw (fault-is c.from_residual-in_err-add_patterns.result e c.from_residual-in_err-add_patterns.ensures.1)
+    (given-refused c.args.input.now (plain_select c.args.select.now) t u a c.read_input.ensures.untouched c.in_ok-text.text.items c.in_ok-text.ensures.text e _ c.in_err-add_patterns.ensures.cause)
+
+pub returns-in_err-add_patterns-clause-cause : goal.returns-in_err-add_patterns-clause-cause
+returns-in_err-add_patterns-clause-cause g c =
+    let t = g.T.Tree.view c.args.tree.now in
+    let u = g.T.Tree.view c.read_input.new.tree in
+    let a = g.I.Source.view c.args.source.now in
+    let b = g.I.Source.view c.read_input.new.source in
+    let e = c.in_err-add_patterns.field-0.0 in
+    rw (fault-is c.from_residual-in_err-add_patterns.result e c.from_residual-in_err-add_patterns.ensures.1)
+    (selection-cause e c.args.input.now (plain_select c.args.select.now) t u _ a b c.read_input.ensures.untouched c.in_err-add_patterns.ensures.cause)
+
+pub returns-clause-untouched : goal.returns-clause-untouched
+returns-clause-untouched g c = untouched_both c.read_input.ensures.untouched c.add_patterns.ensures.untouched
+
+pub returns-clause-given : goal.returns-clause-given
+returns-clause-given g c =
+    let t = g.T.Tree.view c.args.tree.now in
+    let u = g.T.Tree.view c.read_input.new.tree in
+    let a = g.I.Source.view c.args.source.now in
+    given-is c.args.input.now (plain_select c.args.select.now) t u a c.read_input.ensures.untouched c.in_ok-text.text.items c.in_ok-text.ensures.text (plain_select c.add_patterns.new.select) c.in_ok-add_patterns.ensures.selection

@@ -1,0 +1,16 @@
+use Rattle.std.proofs.Common.{ℕ, ◌++◌, map, Vec, Global, sym, ap, ◌∙◌}
+use Rattle.std.proofs.lemmas.Option.{none-some}
+use Rattle.whole_filters.specs.Outcomes.{patterns_in}
+use Rattle.whole_filters.proofs.Choosing.{file-cause, patterns-read}
+use Rattle.whole_filters.proofs.Gathering.{fault-is}
+use Rattle.whole_filters.proofs.patterns.add_file.Goals as goal
+
+pub returns-in_err-text-clause-cause : goal.returns-in_err-text-clause-cause
+returns-in_err-text-clause-cause g c =
+    let e = c.in_err-text.field-0.0 in
+    rw (fault-is c.from_residual.result e c.from_residual.ensures.1) (file-cause e _ _ c.args.name.now c.in_err-text.ensures.cause)
+
+pub returns-clause-added : goal.returns-clause-added
+returns-clause-added g c = λ f told.
+    let text = c.in_ok-text.text.items in
+    (patterns_in text, patterns-read f c.args.name.now text (c.in_ok-text.ensures.text f (told (λ none. none-some c.args.name.now (sym none)))) c.in_ok-text.ensures.short, c.in_ok-add_lines.ensures ∙ ap (λ bytes. map (λ (p : Vec ℕ Global). p.items) c.args.patterns.now.items ++ patterns_in bytes) c.deref.ensures.value)

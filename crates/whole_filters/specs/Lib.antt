@@ -1,0 +1,9 @@
+pub mod Faults
+pub mod Texts
+pub mod Outcomes
+pub mod Sifting
+pub mod Flips
+pub mod Patterns
+pub mod Opened
+pub mod Parting
+pub mod Splits
