@@ -8,8 +8,9 @@ use Rattle.target_names.specs.declared.derived.Target.{Target}
 use Rattle.patch_effects.specs.declared.fault.RunFault.{RunFault}
 use Rattle.patch_run.specs.OnePatch.{bytes_of, lines_in, written, effects_of, tried, tried_said, finished, finished_at}
 use Rattle.patch_run.specs.Doing.{IsDone, IsPartOf, IsOrdered}
-use Rattle.patch_run.specs.TurnView.{plain_turn}
-use Rattle.patch_run.proofs.Applying.{on_err, if_err, if_any, works_made, unmade, part_worked, tried_breaks, tried_ordered, tried_done}
+use Rattle.patch_outcome.specs.TurnView.{plain_turn}
+use Rattle.patch_run.proofs.Applying.{on_err, if_err, if_any, unmade, part_worked, tried_breaks, tried_ordered, tried_done}
+use Rattle.patch_outcome.proofs.Moving.{works_made}
 use Rattle.patch_effects.specs.Making.{IsTidy}
 use Rattle.patch_effects.proofs.Tidy.{attempt_tidy, passed_tidy}
 use Rattle.patch_run.proofs.EndCause.{end_failed}

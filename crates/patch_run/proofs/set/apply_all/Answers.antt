@@ -6,10 +6,10 @@ use Rattle.file_patch.specs.declared.FilePatch.{FilePatch}
 use Rattle.patch_options.specs.PlainJob.{plain_options}
 use Rattle.patch_set.specs.Room.{HaveRoom}
 use Rattle.patch_set.specs.SetView.{SetView, hunks_in, with_row}
-use Rattle.patch_run.specs.Ready.{AreNumbered, AreWritten, marks, rows_in}
+use Rattle.patch_outcome.specs.Ready.{AreNumbered, AreWritten, marks, rows_in}
 use Rattle.patch_run.specs.Doing.{StaysSet}
 use Rattle.patch_run.specs.OnePatch.{Mark}
-use Rattle.patch_run.proofs.Marks.{patch-there, marks-none, marks-next, mark-alone}
+use Rattle.patch_outcome.proofs.Marks.{patch-there, marks-none, marks-next, mark-alone}
 use Rattle.patch_run.proofs.Ready.{ready, ready_still, numbered}
 use Rattle.patch_run.proofs.Going.{IsAt, IsNext, run_to, goes_none, goes_on, at_none, at_next}
 use Rattle.patch_run.proofs.RunEnds.{IsPlacedTo, cut_ends, runs_cut, runs_all, placed_none, placed_next}

@@ -1,0 +1,82 @@
+use Rattle.outside.proofs.Quiet.{works_none}
+use Rattle.outside.proofs.Exits.{if_ok_none, on_ok_none}
+use Rattle.patch_effects.proofs.Tidy.{gone_tidy, unmade_tidy}
+use Rattle.patch_attempt.proofs.fill.try_hunks.Goals as goal
+
+pub returns-in_ok-session-clause-works : goal.returns-in_ok-session-clause-works
+returns-in_ok-session-clause-works g c = works_none (g.T.Tree.view c.args.tree.now) c.args.temp.now c.requires.quiet
+
+pub returns-in_err-session-clause-tidy : goal.returns-in_err-session-clause-tidy
+returns-in_err-session-clause-tidy g c = unmade_tidy (g.T.Tree.view c.args.tree.now) c.from_residual.result
+
+pub returns-else-turn-clause-tidy : goal.returns-else-turn-clause-tidy
+returns-else-turn-clause-tidy g c = gone_tidy c.args.temp.now c.fill_temp.result c.fill_temp.ensures.works c.fill_temp.ensures.gone
+
+pub returns-in_err-session-clause-keeps : goal.returns-in_err-session-clause-keeps
+returns-in_err-session-clause-keeps g c = c.in_err-session.ensures.keeps
+
+pub returns-in_err-session-clause-rows : goal.returns-in_err-session-clause-rows
+returns-in_err-session-clause-rows g c = c.in_err-session.ensures.rows
+
+pub returns-in_err-session-clause-works : goal.returns-in_err-session-clause-works
+returns-in_err-session-clause-works g c = works_none (g.T.Tree.view c.args.tree.now) c.args.temp.now c.requires.quiet
+
+pub returns-in_err-session-clause-begun : goal.returns-in_err-session-clause-begun
+returns-in_err-session-clause-begun g c = if_ok_none _ _ c.from_residual.result c.from_residual.ensures.1
+
+pub returns-in_err-session-clause-session : goal.returns-in_err-session-clause-session
+returns-in_err-session-clause-session g c = if_ok_none _ _ c.from_residual.result c.from_residual.ensures.1
+
+pub returns-in_err-session-clause-there : goal.returns-in_err-session-clause-there
+returns-in_err-session-clause-there g c = on_ok_none _ _ c.from_residual.result c.from_residual.ensures.1
+
+pub returns-in_err-session-clause-holds : goal.returns-in_err-session-clause-holds
+returns-in_err-session-clause-holds g c = on_ok_none _ _ c.from_residual.result c.from_residual.ensures.1
+
+pub returns-in_err-session-clause-verdicts : goal.returns-in_err-session-clause-verdicts
+returns-in_err-session-clause-verdicts g c = on_ok_none _ _ c.from_residual.result c.from_residual.ensures.1
+
+pub returns-in_err-session-clause-tried : goal.returns-in_err-session-clause-tried
+returns-in_err-session-clause-tried g c = on_ok_none _ _ c.from_residual.result c.from_residual.ensures.1
+
+pub returns-in_ok-session-clause-keeps : goal.returns-in_ok-session-clause-keeps
+returns-in_ok-session-clause-keeps g c = c.in_ok-session.ensures.keeps
+
+pub returns-in_ok-session-clause-session : goal.returns-in_ok-session-clause-session
+returns-in_ok-session-clause-session g c = c.in_ok-session.ensures.session
+
+pub returns-in_ok-session-clause-verdicts : goal.returns-in_ok-session-clause-verdicts
+returns-in_ok-session-clause-verdicts g c = c.in_ok-session.ensures.verdicts
+
+pub returns-in_ok-session-clause-tried : goal.returns-in_ok-session-clause-tried
+returns-in_ok-session-clause-tried g c = c.in_ok-session.ensures.tried
+
+pub returns-in_ok-session-clause-rows : goal.returns-in_ok-session-clause-rows
+returns-in_ok-session-clause-rows g c = c.in_ok-session.ensures.rows
+
+pub returns-in_ok-session-clause-cause : goal.returns-in_ok-session-clause-cause
+returns-in_ok-session-clause-cause g c = tt
+
+pub returns-in_ok-session-clause-tidy : goal.returns-in_ok-session-clause-tidy
+returns-in_ok-session-clause-tidy g c = tt
+
+pub returns-else-turn-clause-works : goal.returns-else-turn-clause-works
+returns-else-turn-clause-works g c = c.fill_temp.ensures.works
+
+pub returns-else-turn-clause-keeps : goal.returns-else-turn-clause-keeps
+returns-else-turn-clause-keeps g c = c.fill_temp.ensures.keeps
+
+pub returns-else-turn-clause-cause : goal.returns-else-turn-clause-cause
+returns-else-turn-clause-cause g c = c.fill_temp.ensures.cause
+
+pub returns-else-turn-clause-session : goal.returns-else-turn-clause-session
+returns-else-turn-clause-session g c = c.fill_temp.ensures.session
+
+pub returns-else-turn-clause-verdicts : goal.returns-else-turn-clause-verdicts
+returns-else-turn-clause-verdicts g c = c.fill_temp.ensures.verdicts
+
+pub returns-else-turn-clause-tried : goal.returns-else-turn-clause-tried
+returns-else-turn-clause-tried g c = c.fill_temp.ensures.tried
+
+pub returns-else-turn-clause-rows : goal.returns-else-turn-clause-rows
+returns-else-turn-clause-rows g c = c.fill_temp.ensures.rows
