@@ -9,8 +9,8 @@ returns-in_ok-session-clause-works g c = works_none (g.T.Tree.view c.args.tree.n
 pub returns-in_err-session-clause-tidy : goal.returns-in_err-session-clause-tidy
 returns-in_err-session-clause-tidy g c = unmade_tidy (g.T.Tree.view c.args.tree.now) c.from_residual.result
 
-pub returns-else-turn-clause-tidy : goal.returns-else-turn-clause-tidy
-returns-else-turn-clause-tidy g c = gone_tidy c.args.temp.now c.fill_temp.result c.fill_temp.ensures.works c.fill_temp.ensures.gone
+pub returns-else-task-clause-tidy : goal.returns-else-task-clause-tidy
+returns-else-task-clause-tidy g c = gone_tidy c.args.temp.now c.fill_temp.result c.fill_temp.ensures.works c.fill_temp.ensures.gone
 
 pub returns-in_err-session-clause-keeps : goal.returns-in_err-session-clause-keeps
 returns-in_err-session-clause-keeps g c = c.in_err-session.ensures.keeps
@@ -60,23 +60,23 @@ returns-in_ok-session-clause-cause g c = tt
 pub returns-in_ok-session-clause-tidy : goal.returns-in_ok-session-clause-tidy
 returns-in_ok-session-clause-tidy g c = tt
 
-pub returns-else-turn-clause-works : goal.returns-else-turn-clause-works
-returns-else-turn-clause-works g c = c.fill_temp.ensures.works
+pub returns-else-task-clause-works : goal.returns-else-task-clause-works
+returns-else-task-clause-works g c = c.fill_temp.ensures.works
 
-pub returns-else-turn-clause-keeps : goal.returns-else-turn-clause-keeps
-returns-else-turn-clause-keeps g c = c.fill_temp.ensures.keeps
+pub returns-else-task-clause-keeps : goal.returns-else-task-clause-keeps
+returns-else-task-clause-keeps g c = c.fill_temp.ensures.keeps
 
-pub returns-else-turn-clause-cause : goal.returns-else-turn-clause-cause
-returns-else-turn-clause-cause g c = c.fill_temp.ensures.cause
+pub returns-else-task-clause-cause : goal.returns-else-task-clause-cause
+returns-else-task-clause-cause g c = c.fill_temp.ensures.cause
 
-pub returns-else-turn-clause-session : goal.returns-else-turn-clause-session
-returns-else-turn-clause-session g c = c.fill_temp.ensures.session
+pub returns-else-task-clause-session : goal.returns-else-task-clause-session
+returns-else-task-clause-session g c = c.fill_temp.ensures.session
 
-pub returns-else-turn-clause-verdicts : goal.returns-else-turn-clause-verdicts
-returns-else-turn-clause-verdicts g c = c.fill_temp.ensures.verdicts
+pub returns-else-task-clause-verdicts : goal.returns-else-task-clause-verdicts
+returns-else-task-clause-verdicts g c = c.fill_temp.ensures.verdicts
 
-pub returns-else-turn-clause-tried : goal.returns-else-turn-clause-tried
-returns-else-turn-clause-tried g c = c.fill_temp.ensures.tried
+pub returns-else-task-clause-tried : goal.returns-else-task-clause-tried
+returns-else-task-clause-tried g c = c.fill_temp.ensures.tried
 
-pub returns-else-turn-clause-rows : goal.returns-else-turn-clause-rows
-returns-else-turn-clause-rows g c = c.fill_temp.ensures.rows
+pub returns-else-task-clause-rows : goal.returns-else-task-clause-rows
+returns-else-task-clause-rows g c = c.fill_temp.ensures.rows
