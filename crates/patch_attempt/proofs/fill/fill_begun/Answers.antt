@@ -221,3 +221,18 @@ returns-in-Ok-finish-clause-verdicts g c = c.in-Ok.ensures.verdicts
 
 pub returns-in-Ok-finish-clause-tried : goal.returns-in-Ok-finish-clause-tried
 returns-in-Ok-finish-clause-tried g c = c.in-Ok.ensures.tried
+
+pub returns-in-Ok-finish-clause-begun : goal.returns-in-Ok-finish-clause-begun
+returns-in-Ok-finish-clause-begun g c = c.into_temp.ensures.name ∙ c.finish.ensures.rest.1 ∙ c.try_into.ensures.rest.1 ∙ c.new-sink.ensures.name
+
+pub returns-in-Err-clause-gone : goal.returns-in-Err-clause-gone
+returns-in-Err-clause-gone g c = tt
+
+pub returns-in-Err-finish-clause-gone : goal.returns-in-Err-finish-clause-gone
+returns-in-Err-finish-clause-gone g c = tt
+
+pub returns-in-Err-Line-Scratch-clause-gone : goal.returns-in-Err-Line-Scratch-clause-gone
+returns-in-Err-Line-Scratch-clause-gone g c = tt
+
+pub returns-in-Err-Write-clause-gone : goal.returns-in-Err-Write-clause-gone
+returns-in-Err-Write-clause-gone g c = tt

@@ -1,3 +1,6 @@
+use Rattle.std.proofs.Common.{refl, sym, ◌∙◌}
+use Rattle.std.proofs.lemmas.Bool.{false≢true}
+use Rattle.std.proofs.lemmas.Result.{on_ok_weaker}
 use Rattle.outside.proofs.Quiet.{works_none}
 use Rattle.outside.proofs.Exits.{if_ok_none, on_ok_none}
 use Rattle.patch_effects.proofs.Tidy.{gone_tidy, unmade_tidy}
@@ -80,3 +83,24 @@ returns-else-task-clause-tried g c = c.fill_temp.ensures.tried
 
 pub returns-else-task-clause-rows : goal.returns-else-task-clause-rows
 returns-else-task-clause-rows g c = c.fill_temp.ensures.rows
+
+pub returns-in_ok-session-clause-dry : goal.returns-in_ok-session-clause-dry
+returns-in_ok-session-clause-dry g c dry = refl
+
+pub returns-in_err-session-clause-dry : goal.returns-in_err-session-clause-dry
+returns-in_err-session-clause-dry g c dry = refl
+
+pub returns-in_ok-session-clause-there : goal.returns-in_ok-session-clause-there
+returns-in_ok-session-clause-there g c wet = absurd (false≢true (sym wet ∙ c.if-task.true))
+
+pub returns-in_ok-session-clause-holds : goal.returns-in_ok-session-clause-holds
+returns-in_ok-session-clause-holds g c lines told wet = absurd (false≢true (sym wet ∙ c.if-task.true))
+
+pub returns-else-task-clause-dry : goal.returns-else-task-clause-dry
+returns-else-task-clause-dry g c dry = absurd (false≢true (sym c.if-task.false ∙ dry))
+
+pub returns-else-task-clause-there : goal.returns-else-task-clause-there
+returns-else-task-clause-there g c = on_ok_weaker c.fill_temp.result (λ there wet. there) c.fill_temp.ensures.there
+
+pub returns-else-task-clause-holds : goal.returns-else-task-clause-holds
+returns-else-task-clause-holds g c = on_ok_weaker c.fill_temp.result (λ holds lines told wet. holds lines told) c.fill_temp.ensures.holds

@@ -2,6 +2,7 @@ use Rattle.std.proofs.Common.{◌≡◌, ◌+◌, ◌<◌, ◌||◌, List, [], �
 use Rattle.std.proofs.lemmas.List.{length-set}
 use Rattle.std.specs.Option.{ForSome}
 use Rattle.outside.specs.Calls.{untouched_none, untouched_both}
+use Rattle.outside.proofs.Exits.{if_ok_none, on_ok_none}
 use Rattle.file_patch.specs.declared.FilePatch.{FilePatch}
 use Rattle.patch_options.specs.PlainJob.{plain_options}
 use Rattle.patch_set.specs.Room.{HaveRoom}
@@ -172,3 +173,18 @@ returns-in_err-done-clause-rest g c = g.met.O.Sink.rest_both _ _ _ c.loop-k.inva
 
 pub returns-in_err-done-clause-set : goal.returns-in_err-done-clause-set
 returns-in_err-done-clause-set g c = c.loop-k.invariant.same
+
+pub returns-clause-verdicts : goal.returns-clause-verdicts
+returns-clause-verdicts g c = c.loop-k.invariant.long ∙ ap (λ (l : List FilePatch). hunks_in l) c.loop-k.invariant.same.patches ∙ sym c.requires.verdicts
+
+pub returns-in_err-done-clause-verdicts : goal.returns-in_err-done-clause-verdicts
+returns-in_err-done-clause-verdicts g c = c.in_err-done.ensures.verdicts ∙ c.loop-k.invariant.long ∙ ap (λ (l : List FilePatch). hunks_in l) c.loop-k.invariant.same.patches ∙ sym c.requires.verdicts
+
+pub returns-in_err-done-clause-receipt : goal.returns-in_err-done-clause-receipt
+returns-in_err-done-clause-receipt g c = if_ok_none _ _ c.from_residual.result c.from_residual.ensures.1
+
+pub returns-in_err-done-clause-done : goal.returns-in_err-done-clause-done
+returns-in_err-done-clause-done g c = if_ok_none _ _ c.from_residual.result c.from_residual.ensures.1
+
+pub returns-in_err-done-clause-placed : goal.returns-in_err-done-clause-placed
+returns-in_err-done-clause-placed g c = on_ok_none _ _ c.from_residual.result c.from_residual.ensures.1
