@@ -1,5 +1,5 @@
 -- Effects behind a look at the tree.
-use Rattle.std.proofs.Common.{◌≡◌, ℕ, zero, List, [], false, Result, Ok, Err, OnOk, refl, sym, ◌∙◌, ap, arith}
+use Rattle.std.proofs.Common.{◌≡◌, ℕ, zero, List, [], true, false, Result, Ok, Err, OnOk, refl, sym, ◌∙◌, ap, arith}
 use Rattle.std.proofs.lemmas.Option.{same_Some}
 use Rattle.std.proofs.lemmas.Result.{IfErr-weaker}
 use Rattle.outside.specs.Files.{Files, is_temp}
