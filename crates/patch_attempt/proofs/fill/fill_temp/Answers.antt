@@ -1,7 +1,10 @@
-use Rattle.std.proofs.Common.{[], IfErr, refl, subst, sym}
+use Rattle.std.proofs.Common.{◌≡◌, ℕ, List, [], Some, OnOk, IfErr, refl, subst, sym}
+use Rattle.outside.specs.Calls.{IsThere}
 use Rattle.outside.specs.Quiet.{WorksOn, Holds}
 use Rattle.outside.proofs.Quiet.{holds_put, works_both}
 use Rattle.patch_effects.specs.Making.{IsGone, UnlessFailed}
+use Rattle.patch_task.specs.Outputs.{tried}
+use Rattle.patch_task.specs.TaskView.{plain_task}
 use Rattle.patch_attempt.proofs.fill.fill_temp.Goals as goal
 
 pub fill_begun-requires-clause-empty : goal.fill_begun-requires-clause-empty
@@ -35,3 +38,15 @@ returns-clause-tried g c = c.fill_begun.ensures.tried
 
 pub returns-clause-rows : goal.returns-clause-rows
 returns-clause-rows g c = c.fill_begun.ensures.rows
+
+pub returns-clause-there : goal.returns-clause-there
+returns-clause-there g c =
+    let w = g.T.Tree.view c.fill_begun.new.tree in
+    subst (λ n. OnOk c.fill_begun.result (IsThere w n)) c.in-Ok.ensures.name c.fill_begun.ensures.there
+
+pub returns-clause-holds : goal.returns-clause-holds
+returns-clause-holds g c =
+    let w = g.T.Tree.view c.fill_begun.new.tree in
+    let a = g.P.LineStore.seen c.args.plan.now in
+    let t = plain_task c.args.task.now in
+    subst (λ n. OnOk c.fill_begun.result ((lines : List (List ℕ)) → a.told ≡ Some lines → Holds w n (tried t c.args.side lines).output)) c.in-Ok.ensures.name c.fill_begun.ensures.holds
