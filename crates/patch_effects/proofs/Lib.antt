@@ -1,4 +1,5 @@
 pub mod EffectLists
+pub mod Filling
 pub mod Making
 pub mod Placing
 pub mod Tidy

@@ -1,5 +1,5 @@
 -- Hunks that were tried, and then told of with their effects.
-use Rattle.std.proofs.Common.{◌≡◌, ◌≢◌, inl, inr, ⊎_elim, ℕ, zero, List, [], ◌++◌, length, Bool, true, false, ◌||◌, if◌then◌else◌, Option, None, Some, Result, Ok, Err, OnOk, OnErr, IfOk, IfErr, refl, sym, ◌∙◌, ap, subst, arith}
+use Rattle.std.proofs.Common.{◌≡◌, ◌≢◌, inl, inr, ⊎_elim, ℕ, List, [], ◌++◌, length, Bool, true, false, ◌||◌, if◌then◌else◌, Option, None, Some, Result, Ok, Err, OnOk, OnErr, IfOk, IfErr, refl, sym, ◌∙◌, ap, subst}
 use Rattle.std.proofs.lemmas.Bool.{false≢true}
 use Rattle.std.proofs.lemmas.Option.{same_Some}
 use Rattle.std.specs.FinMap.{get, remove}
@@ -9,7 +9,6 @@ use Rattle.outside.specs.TreeView.{TreeView, Passes, Rises, told_on}
 use Rattle.outside.specs.SinkView.{SinkView, Receives, ReceivesPart}
 use Rattle.outside.specs.Quiet.{IsQuiet, Effect, HasMade, WorksOn, Holds, after_all}
 use Rattle.outside.proofs.Names.{equal_or_not, get-gone, get-gone_other, apart, same_files}
-use Rattle.outside.proofs.Quiet.{lasting-only}
 use Rattle.outside.proofs.Effects.{made_none, made_tells_all, since_longer, tells_longer}
 use Rattle.outside.proofs.Writing.{received_none, received_part, received_both, part_longer}
 use Rattle.hunk_core.specs.declared.Side.{Side}
@@ -18,7 +17,8 @@ use Rattle.hunk_apply.specs.declared.Session.{Session}
 use Rattle.replace_file.specs.declared.temp.Temp.{Temp}
 use Rattle.patch_effects.specs.declared.fault.RunFault.{RunFault}
 use Rattle.patch_effects.specs.declared.fault.RunFault.TheVariants.{Tree}
-use Rattle.patch_run.specs.Trying.{IsSession, IsBegun}
+use Rattle.patch_task.specs.Outputs.{IsSession}
+use Rattle.patch_attempt.specs.Trying.{IsBegun}
 use Rattle.target_names.specs.declared.derived.Target.{Target}
 use Rattle.patch_set.specs.declared.set.Row.{Row}
 use Rattle.patch_run.specs.declared.apply.Done.{Done}
@@ -28,16 +28,8 @@ use Rattle.patch_run.specs.Run.{cleared}
 use Rattle.patch_effects.specs.Making.{IsGone, IsPart, Makes}
 use Rattle.patch_effects.specs.Named.{IsNamed}
 use Rattle.patch_run.specs.Doing.{IsPartOf, IsWholeOf, IsDone, IsOutcome, IsMadeWhole, IsOrdered}
+use Rattle.patch_outcome.proofs.Moving.{works_made}
 use Rattle.patch_effects.proofs.EffectLists.{after_all-at, made_both, leaves_after, tells_after}
-
--- work on a temporary alone has no effect
-pub works_made : {u v : TreeView} (temp : List ℕ) → is_temp temp ≡ true → WorksOn u v temp → HasMade u v []
-works_made temp is works = record {
-  passes = works.passes;
-  quiet = works.quiet;
-  live = λ f g told now. lasting-only is (works.others f g told now);
-  since = λ f told c left. (zero, omega arith, works.since f told c left);
-}
 
 effects-same : (t : PlainTurn) (f g : Files) (s w : Target) (x : Tried) → get g s.name ≡ get f s.name → get g w.name ≡ get f w.name → effects_of t g s w x ≡ effects_of t f s w x
 unfolding effects_of

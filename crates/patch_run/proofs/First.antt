@@ -9,9 +9,9 @@ use Rattle.file_patch.specs.declared.FilePatch.{FilePatch}
 use Rattle.patch_set.specs.declared.set.Row.{Row}
 use Rattle.patch_set.specs.SetView.{SetView}
 use Rattle.patch_run.specs.OnePatch.{is_first}
-use Rattle.patch_run.specs.Ready.{mark_in, marks}
-use Rattle.patch_run.specs.TurnView.{plain_turn, IsTurn}
-use Rattle.patch_run.specs.declared.turn.Turn.{Turn}
+use Rattle.patch_outcome.specs.Ready.{mark_in, marks}
+use Rattle.patch_outcome.specs.TurnView.{plain_turn, IsTurn}
+use Rattle.patch_outcome.specs.declared.turn.Turn.{Turn}
 
 some-mark : (o : PlainOptions) (v : SetView) (vs : List Verdict) (k : ℕ) (ps : List FilePatch) (rs : List Row) → suc k ≤ length ps → length rs ≡ length ps → is_first (map (mark_in o v vs) (zip (take (suc k) ps) rs)) ≡ false
 some-mark o v vs k [] rs few long = absurd (omega (arith, few))

@@ -25,12 +25,12 @@ use Rattle.patch_run.specs.declared.apply.Done.{Done}
 use Rattle.patch_start.specs.Devices.{Told, HasRunCause, scratch_with}
 use Rattle.patch_run.specs.OnePatch.{Item, Mark, PlainTurn, Story, Ending, ending, mark_of}
 use Rattle.patch_run.specs.Run.{Run, run_on, turn_of, with_story, with_ending, run_of, item_of, items_of, set_run}
-use Rattle.patch_run.specs.Ready.{AreNumbered, marks, rows_in, turn_at}
+use Rattle.patch_outcome.specs.Ready.{AreNumbered, marks, rows_in, turn_at}
 use Rattle.patch_effects.specs.Making.{IsTidy, UnlessFailed}
 use Rattle.patch_run.specs.Doing.{Stays, IsDone, IsEnded, IsBroken, IsFar, IsCutOff, IsOrdered, IsCutAt, said_of, scratch_behind, StaysSet}
 use Rattle.patch_effects.proofs.Tidy.{tidy_none, tidy_both}
 use Rattle.patch_run.proofs.Folding.{run-next, cut_off, cut_here, far_on}
-use Rattle.patch_run.proofs.Marks.{verdicts-next, marks-next}
+use Rattle.patch_outcome.proofs.Marks.{verdicts-next, marks-next}
 
 -- what passes over the devices while a run goes on
 pub record Goes (u w : TreeView) (a b : Seen) (c d : SinkView) : Type 0 where

@@ -12,7 +12,7 @@ use Rattle.hunk_apply.specs.Applied.{applied}
 use Rattle.hunk_apply.specs.Change.{change_output}
 use Rattle.hunk_apply.specs.Splice.{spliced, spliced_from, all_edits}
 use Rattle.hunk_apply.proofs.SpliceLemmas.{line-kept, nothing-left, spliced-whole}
-use Rattle.patch_start.specs.Asking.{is_bare}
+use Rattle.patch_task.specs.Asking.{is_bare}
 use Rattle.patch_run.specs.OnePatch.{PlainTurn, text_of}
 
 -- without an edit the lines from one on are the file's

@@ -8,7 +8,7 @@ use Rattle.std.proofs.lemmas.Option.{slice_get-get_or}
 use Rattle.std.proofs.lemmas.Bool.{or_parts}
 use Rattle.target_names.specs.declared.derived.Target.{Target}
 use Rattle.patch_set.specs.declared.set.Row.{Row}
-use Rattle.patch_start.specs.Asking.{renames, written_place}
+use Rattle.patch_task.specs.Asking.{renames, written_place}
 use Rattle.patch_run.specs.OnePatch.{Item, PlainTurn, no_target, target_at, written_at, written, written_by, renamed_by}
 use Rattle.patch_run.specs.Laws.{targets_in}
 

@@ -19,7 +19,7 @@ use Rattle.patch_set.specs.SetView as of_set
 use Rattle.patch_set.specs.Spans.{ArePlaced}
 use Rattle.patch_run.specs.Doing.{StaysSet}
 use Rattle.patch_effects.specs.Named.{BeginsComponent, IsNamed}
-use Rattle.patch_run.specs.Ready.{IsFit, IsReady, AreNumbered}
+use Rattle.patch_outcome.specs.Ready.{IsFit, IsReady, AreNumbered}
 
 begins : (dir : Option (List ℕ)) (name : List ℕ) → BeginsComponent (below dir name) (shown_from dir name)
 begins None name = inl refl

@@ -12,9 +12,9 @@ use Rattle.patch_effects.specs.Named.{IsNamed}
 use Rattle.patch_effects.specs.TargetEffects.{backup_effects}
 use Rattle.patch_effects.proofs.EffectLists.{after_all-append}
 use Rattle.patch_run.specs.OnePatch.{PlainTurn, Tried, is_backup_due, is_moving, is_written, written_effects}
-use Rattle.patch_start.specs.Asking.{renames}
+use Rattle.patch_task.specs.Asking.{renames}
 use Rattle.patch_run.specs.Laws.{IsRenamed}
-use Rattle.patch_run.proofs.Writing.{written_as, moved_as}
+use Rattle.patch_outcome.proofs.Writing.{written_as, moved_as}
 
 -- ---- a rename
 

@@ -21,11 +21,11 @@ use Rattle.patch_run.specs.declared.apply.Done.{Done}
 use Rattle.patch_start.specs.Devices.{Told}
 use Rattle.patch_run.specs.OnePatch.{Item, ending}
 use Rattle.patch_run.specs.Run.{Run, items_of, set_run}
-use Rattle.patch_run.specs.Ready.{rows_in, turn_at}
+use Rattle.patch_outcome.specs.Ready.{rows_in, turn_at}
 use Rattle.patch_run.specs.Doing.{QuietAfter, Does, IsCutOff, IsCutAt, Runs, NoneFailed, EndsSo, StaysSet, IsPlacedOn}
 use Rattle.patch_effects.proofs.Tidy.{tidy_both, unless_then}
 use Rattle.patch_run.proofs.Folding.{cut_moments}
-use Rattle.patch_run.proofs.Marks.{rows-last}
+use Rattle.patch_outcome.proofs.Marks.{rows-last}
 use Rattle.patch_run.proofs.Going.{Goes, IsAt, IsNext, run_to, same-items, same-run, all-run, plan_both, cause_then, at_fault, at_cut}
 
 quiet_still : (R S : Type 0) (w : TreeView) (fault : RunFault) → QuietAfter {R = R} (Err fault) w → QuietAfter {R = S} (Err fault) w

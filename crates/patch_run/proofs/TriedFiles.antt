@@ -10,11 +10,11 @@ use Rattle.line_list.specs.Lines.{lines}
 use Rattle.target_names.specs.declared.derived.Target.{Target}
 use Rattle.patch_effects.specs.Named.{IsNamed}
 use Rattle.patch_effects.proofs.EffectLists.{after_all-append}
-use Rattle.patch_start.specs.Asking.{renames}
+use Rattle.patch_task.specs.Asking.{renames}
 use Rattle.patch_run.specs.OnePatch.{PlainTurn, Tried, bytes_of, lines_in, target_at, written, tried, output_on, is_written, is_removal, written_effects, reject_effects, effects_of, has_rejects, rejects_text, wrote, finished_at}
 use Rattle.patch_run.specs.Run.{cleared}
 use Rattle.patch_run.specs.Laws.{IsRenamed, IsApart, tried_files}
-use Rattle.patch_run.proofs.Writing.{effects_split, wrote_as}
+use Rattle.patch_outcome.proofs.Writing.{effects_split, wrote_as}
 use Rattle.patch_run.proofs.Renaming.{renamed}
 use Rattle.patch_run.proofs.Standing.{others_put, all_stays, cleared_stays, effects_others}
 

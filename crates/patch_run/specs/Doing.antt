@@ -22,7 +22,7 @@ use Rattle.hunk_apply.specs.declared.Session.{Session}
 use Rattle.target_names.specs.declared.derived.Target.{Target}
 use Rattle.patch_run.specs.declared.apply.Done.{Done}
 use Rattle.patch_effects.specs.declared.placed.Made.{Made}
-use Rattle.patch_run.specs.Trying.{IsSession}
+use Rattle.patch_task.specs.Outputs.{IsSession}
 use Rattle.patch_effects.specs.Making.{IsGone, IsPart, TidyAfter, UnlessFailed}
 use Rattle.patch_run.specs.OnePatch.{Item, PlainTurn, Tried, Story, Ending, ended, stopped, effects_of, tried_said, wrote, ending}
 use Rattle.hunk_core.specs.declared.Verdict.TheVariants.{Ignored}
@@ -33,7 +33,7 @@ use Rattle.file_patch.specs.PlainPatch.{change_of, row_count}
 use Rattle.patch_set.specs.declared.set.Row.{Row}
 use Rattle.patch_set.specs.SetView.{SetView}
 use Rattle.patch_run.specs.Applied.{Receipt}
-use Rattle.patch_run.specs.Ready.{rows_in}
+use Rattle.patch_outcome.specs.Ready.{rows_in}
 use Rattle.patch_run.specs.Run.{Run, files_after, turn_of, run_of}
 use Rattle.patch_start.specs.Devices.{Told, HasRunCause, scratch_with}
 

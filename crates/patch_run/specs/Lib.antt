@@ -1,10 +1,5 @@
-pub mod HunksSaid
-pub mod Outputs
 pub mod OnePatch
 pub mod Run
-pub mod Trying
-pub mod Ready
-pub mod TurnView
 pub mod Applied
 pub mod Doing
 pub mod Laws

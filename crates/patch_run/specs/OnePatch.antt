@@ -1,30 +1,21 @@
 -- What one file patch says and does, step by step (POSIX `patch`; GNU patch manual, "Invoking patch").
-use Rattle.std.specs.Prelude.{ℕ, List, [], ◌++◌, replicate, Bool, true, false, not, ◌&&◌, ◌||◌, if◌then◌else◌, bytes_eq, Option, None, Some, is_some, is_none, unwrap_or, option_map}
-use Rattle.std.specs.List.{list_any, flat_map}
-use Rattle.std.specs.FinMap.{get}
+use Rattle.std.specs.Prelude.{ℕ, List, [], ◌++◌, replicate, Bool, true, ◌||◌, if◌then◌else◌, Option, None, Some}
 use Rattle.outside.specs.Files.{Files}
 use Rattle.outside.specs.Quiet.{Effect}
-use Rattle.hunk_core.specs.declared.Form.{Form}
-use Rattle.hunk_core.specs.declared.Form.TheVariants.{Unified, Context, Normal, Ed}
 use Rattle.hunk_core.specs.declared.Side.{Side}
 use Rattle.hunk_core.specs.declared.Verdict.{Verdict}
 use Rattle.hunk_core.specs.declared.Verdict.TheVariants.{Ignored}
 use Rattle.line_store.specs.declared.fault.OpenFault.{OpenFault}
-use Rattle.patch_options.specs.PlainJob.{PlainOptions}
 use Rattle.target_names.specs.declared.derived.Target.{Target}
 use Rattle.patch_set.specs.declared.set.Row.{Row}
-use Rattle.file_patch.specs.PlainPatch.{PlainChange, hunks, script, is_script}
-use Rattle.file_patch.specs.Absent.{deletes}
-use Rattle.hunk_apply.specs.Session.{is_inexact}
-use Rattle.hunk_apply.specs.Written.{is_nothing}
-use Rattle.reject_text.specs.Rejects.{reject_text, hunks_in}
-use Rattle.say_text.specs.Messages.{not_deleting_line, failures_line, ignored_line}
-use Rattle.patch_effects.specs.TargetEffects.{put_if, backup_effects, target_effects, moved_effects}
-use Rattle.patch_start.specs.Asking.{moves, renames, is_bare, acts_new, acts_deleted, takes_files}
-pub use Rattle.patch_start.specs.Turns.{Item, Mark, PlainTurn, no_target, target_at, written_at, written, written_by, renamed_by, bytes_of, shown, shown_reject, total}
-pub use Rattle.patch_run.specs.Outputs.{Tried, verdicts_on, text_of, parted_output, output_on, tried, failed, some_placed, some_failed}
-pub use Rattle.patch_run.specs.HunksSaid.{hunk_said, script_said, change_said}
-unfoldable pub use Rattle.patch_run.specs.HunksSaid.{hunks_said}
+use Rattle.say_text.specs.Messages.{ignored_line}
+use Rattle.patch_task.specs.Asking.{is_bare}
+pub use Rattle.patch_task.specs.Turns.{Item, Mark, PlainTurn, no_target, target_at, written_at, written, written_by, renamed_by, bytes_of, shown, shown_reject, total}
+pub use Rattle.patch_task.specs.Outputs.{Tried, verdicts_on, text_of, parted_output, output_on, tried, failed, some_placed, some_failed}
+pub use Rattle.patch_outcome.specs.HunksSaid.{hunk_said, script_said, change_said}
+unfoldable pub use Rattle.patch_outcome.specs.HunksSaid.{hunks_said}
+pub use Rattle.patch_outcome.specs.Outcome.{is_unrejected, is_taken_away, is_kept, kept_said, named_reject, failures_said, own_reject_form, reject_form, has_rejects, own_reject, is_name, has_name, was_written, text_if, is_backup_asked, is_backup_apart, is_backup_due, is_made_bare, is_written, is_unwanted, is_always_put, is_removal, is_moving, made_effects, written_effects, rejects_text, reject_effects}
+unfoldable pub use Rattle.patch_outcome.specs.Outcome.{tried_said, mark_of, rejected_before, effects_of, wrote}
 pub use Rattle.patch_start.specs.Start.{Start, skips, refuses, tries, said_first, skips_at, lines_in, first_hunk, is_reversed, turns, turns_round, on_direction, line_has_word, has_word, lacks_word, prereq_said, on_prereq, refusal_of, refused_or, on_taking, has_bytes, exists_said, on_existing, is_in_the_way, on_creation, origin_from, origin_of, named, patching_said, on_target, on_choice, choice_of, is_first, skipped_said, own_start}
 unfoldable pub use Rattle.patch_start.specs.Start.{start}
 
@@ -45,141 +36,6 @@ pub record Story : Type 0 where
 pub data Ending : Type 0 where
   ended : Story → Ending
   stopped : List ℕ → OpenFault → Ending
-
--- ---- what came of the hunks
-
--- no reject file is written: of a script, or as the options ask
-abbrev pub is_unrejected : PlainOptions → PlainChange → Bool
-is_unrejected o change = o.no_rejects || is_script change
-
--- its file is to be taken away: without a hunk as its git header says, else where a hunk was placed
-abbrev pub is_taken_away : PlainTurn → Tried → Bool
-is_taken_away t x = takes_files t.options && (if is_bare t.item.patch then acts_deleted x.side t.item.patch else deletes x.side t.item.patch && some_placed x.verdicts)
-
--- a file that was to be deleted has bytes left
-abbrev pub is_kept : PlainTurn → Tried → Bool
-is_kept t x = is_taken_away t x && not (is_nothing x.text)
-
-abbrev pub kept_said : PlainTurn → Target → Tried → List ℕ
-kept_said t w x = if is_kept t x then not_deleting_line (shown w) else []
-
--- the file of the rejects is named where it is written
-abbrev pub named_reject : PlainTurn → Target → Option (List ℕ)
-named_reject t w = if t.options.dry_run || is_unrejected t.options t.item.patch.change then None else Some (shown_reject w)
-
-abbrev pub failures_said : PlainTurn → Target → Tried → List ℕ
-failures_said t w x = if some_failed x.verdicts then failures_line (failed x.verdicts) (total t) (named_reject t w) else []
-
--- what is said once the hunks were tried
-unfoldable pub tried_said : PlainTurn → Target → Tried → List ℕ
-tried_said t w x = change_said t.options x.side t.item.patch.change x.verdicts ++ (kept_said t w x ++ failures_said t w x)
-
--- ---- marks
-
--- rejects are unified for a unified patch, else context, unless the options say
-abbrev pub own_reject_form : Form → Form
-own_reject_form Unified = Unified
-own_reject_form Context = Context
-own_reject_form Normal = Context
-own_reject_form Ed = Context
-
-abbrev pub reject_form : PlainTurn → Form
-reject_form t = unwrap_or t.options.reject_form (own_reject_form t.item.patch.header.form)
-
-abbrev pub has_rejects : PlainTurn → List Verdict → Bool
-has_rejects t vs = some_failed vs && not (is_unrejected t.options t.item.patch.change)
-
-abbrev pub own_reject : PlainTurn → Target → Side → List Verdict → List ℕ
-own_reject t w side vs = reject_text (hunks_in t.item.patch.change) vs side (shown w) (reject_form t)
-
--- the mark of a file patch, by its row and its verdicts; in a dry run nothing is written
-unfoldable pub mark_of : PlainTurn → Row → List Verdict → Mark
-mark_of t r vs = record {
-  written = if r.wrote then option_map (λ w. w.name) (written_by t r) else None;
-  renamed = if r.wrote then option_map (λ w. w.name) (renamed_by t r) else None;
-  rejected = if has_rejects t vs && not t.options.dry_run then option_map (λ w. (w.reject, own_reject t w r.side vs)) (written_by t r) else None;
-}
-
-abbrev pub is_name : List ℕ → Option (List ℕ) → Bool
-is_name name None = false
-is_name name (Some other) = bytes_eq name other
-
--- it made or took away this name, as its target or from a file that it renamed
-abbrev pub has_name : List ℕ → Mark → Bool
-has_name name m = is_name name m.written || is_name name m.renamed
-
--- so did an earlier file patch
-abbrev pub was_written : List Mark → List ℕ → Bool
-was_written past name = list_any (has_name name) past
-
-abbrev pub text_if : List ℕ → Option (List ℕ × List ℕ) → List ℕ
-text_if name None = []
-text_if name (Some r) = if bytes_eq name r.0 then r.1 else []
-
--- the reject texts so far of this name
-unfoldable pub rejected_before : List Mark → List ℕ → List ℕ
-rejected_before past name = flat_map (λ m. text_if name m.rejected) past
-
--- ---- the effects
-
--- with `-b` always, else where a hunk failed or stands elsewhere than it says (GNU patch manual, "Backups")
-abbrev pub is_backup_asked : PlainTurn → List Verdict → Bool
-is_backup_asked t vs = t.options.backup || (t.options.mismatch_backup && is_none t.options.output && list_any is_inexact vs)
-
--- the backup's name is none of those that the file patch writes or takes away; beside the target's own name that is the other one of a rename
-abbrev pub is_backup_apart : PlainTurn → Target → Target → Bool
-is_backup_apart t w other = not (bytes_eq w.backup w.name) && not (renames t.item.patch && bytes_eq w.backup other.name)
-
--- once for each name
-abbrev pub is_backup_due : PlainTurn → Target → Target → List Verdict → Bool
-is_backup_due t w other vs = not (was_written t.past w.name) && is_backup_apart t w other && is_backup_asked t vs
-
--- without a hunk the target is written where a file is made, renamed or copied, or an empty one is taken away
-abbrev pub is_made_bare : PlainTurn → Tried → Bool
-is_made_bare t x = acts_new x.side t.item.patch || moves t.item.patch || (is_taken_away t x && is_nothing x.text)
-
--- and with hunks where one was placed
-abbrev pub is_written : PlainTurn → Tried → Bool
-is_written t x = some_placed x.verdicts || (is_bare t.item.patch && is_made_bare t x)
-
--- a file without a byte is to go: the file patch deletes its file, or `-E` was given (GNU patch manual, "Creating and Removing Files")
-abbrev pub is_unwanted : PlainTurn → Side → Bool
-is_unwanted t side = t.options.remove_empty || (takes_files t.options && deletes side t.item.patch)
-
--- an output of the options is put, and so is one with conditions, and a file that is renamed or copied
-abbrev pub is_always_put : PlainTurn → Bool
-is_always_put t = is_some t.options.output || is_some t.options.define || moves t.item.patch
-
--- any other output without a byte takes the target away, where that is to go
-abbrev pub is_removal : PlainTurn → Tried → Bool
-is_removal t x = is_nothing x.text && not (is_always_put t) && is_unwanted t x.side
-
--- the source of a rename goes, which is there and isn't the target itself
-abbrev pub is_moving : PlainTurn → Files → Target → Target → Bool
-is_moving t files s w = renames t.item.patch && not (bytes_eq s.name w.name) && is_some (get files s.name)
-
--- of a source and a target: a rename takes the source away once the target is put, both being backed up before
-abbrev pub made_effects : PlainTurn → Files → Target → Target → Tried → List Effect
-made_effects t files s w x = if is_moving t files s w
-    then moved_effects (is_backup_due t w s x.verdicts) (is_backup_due t s w x.verdicts) files s w x.output
-    else backup_effects (is_backup_due t w s x.verdicts) files w ++ target_effects (is_removal t x) files w x.output
-
-abbrev pub written_effects : PlainTurn → Files → Target → Target → Tried → List Effect
-written_effects t files s w x = if is_written t x then made_effects t files s w x else []
-
-abbrev pub rejects_text : PlainTurn → Target → Side → List Verdict → List ℕ
-rejects_text t w side vs = rejected_before t.past w.reject ++ own_reject t w side vs
-
-abbrev pub reject_effects : PlainTurn → Target → Tried → List Effect
-reject_effects t w x = put_if (has_rejects t x.verdicts) w.reject (rejects_text t w x.side x.verdicts)
-
--- in a dry run there is none
-unfoldable pub effects_of : PlainTurn → Files → Target → Target → Tried → List Effect
-effects_of t files s w x = if t.options.dry_run then [] else written_effects t files s w x ++ reject_effects t w x
-
--- the target was made or taken away
-unfoldable pub wrote : PlainTurn → Files → Target → Tried → Bool
-wrote t files w x = not t.options.dry_run && is_written t x && (not (is_removal t x) || is_some (get files w.name))
 
 -- ---- the whole story
 

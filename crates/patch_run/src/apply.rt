@@ -12,24 +12,24 @@ ghost use Rattle.hunk_apply.specs.Change.{change_verdicts};
 ghost use Rattle.hunk_apply.specs.Session.{IsTried};
 ghost use Rattle.file_patch.specs.PlainPatch.{row_count};
 ghost use Rattle.patch_run.specs.OnePatch.{Tried, ignored_said, bytes_of, lines_in, effects_of, tried_said, some_failed, is_kept, finished_at, ending};
-ghost use Rattle.patch_run.specs.Trying.{IsSession, IsBegun};
+ghost use Rattle.patch_task.specs.Outputs.{IsSession};
+ghost use Rattle.patch_attempt.specs.Trying.{IsBegun};
 ghost use Rattle.patch_run.specs.Doing.{Does, Stays, QuietAfter, IsDone, IsPartOf, IsDeviceFault, HasEndCause, IsOutcome, IsMadeWhole, IsOrdered};
 ghost use Rattle.patch_effects.specs.Making.{IsGone, IsTidy, TidyAfter};
 ghost use Rattle.patch_start.specs.Devices.{Told};
 ghost use Rattle.patch_effects.specs.Named.{IsNamed};
-ghost use Rattle.patch_run.specs.TurnView.{plain_turn, IsTurn};
+ghost use Rattle.patch_outcome.specs.TurnView.{plain_turn, IsTurn};
 
-use crate::effects::make_effects;
-use crate::fill::{Attempt, try_hunks};
-use crate::tell::{is_kept, tell};
-use crate::turn::Turn;
 use hunk_apply::Session;
 use hunk_core::{Side, Verdict};
 use line_store::{LineStore, Plan};
 use outside::{Failed, Sink, Tree};
+use patch_attempt::{Attempt, try_hunks};
 use patch_effects::{Made, RunFault};
+use patch_outcome::{Turn, is_kept, make_effects, tell};
 use patch_set::Row;
-use patch_start::{Decision, chosen, is_bare, start, written};
+use patch_start::{Decision, start};
+use patch_task::{chosen, is_bare, written};
 use say_text::say_ignored;
 use target_names::Target;
 
@@ -143,7 +143,7 @@ fn try_at<P: LineStore, T: Tree, O: Sink>(
 {
     let source = chosen(&turn.task, place);
     let target = written(&turn.task, place);
-    let attempt = try_hunks(turn, &target.temp, side, verdicts, plan, tree)?;
+    let attempt = try_hunks(&turn.task, &target.temp, side, verdicts, plan, tree)?;
     let session = attempt.session;
     let made = tell_and_make(turn, source, target, side, attempt, verdicts, tree, out)?;
     Ok(done_of(turn, place, side, &session, made))

@@ -13,7 +13,7 @@ ghost use Rattle.name_choice.specs.declared.Choice.TheVariants.{Nothing};
 ghost use Rattle.line_list.specs.Lines.{lines};
 ghost use Rattle.hunk_core.specs.declared.Side.{Side};
 ghost use Rattle.hunk_core.specs.declared.Verdict.{Verdict};
-ghost use Rattle.patch_start.specs.Asking.{is_bare, renames};
+ghost use Rattle.patch_task.specs.Asking.{is_bare, renames};
 ghost use Rattle.target_names.specs.declared.derived.Target.{Target};
 ghost use Rattle.patch_run.specs.OnePatch.{Item, PlainTurn, Tried, choice_of, tried, start, ending, target_at, written, output_on, wrote, was_written, rejected_before, is_backup_due, is_moving, is_written, written_effects};
 ghost use Rattle.patch_run.specs.Run.{run_of, turn_of};

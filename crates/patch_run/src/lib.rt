@@ -3,16 +3,8 @@
 
 mod applied;
 mod apply;
-mod discard;
-mod effects;
-mod fill;
 mod laws;
-mod past;
-mod rejects;
 mod set;
-mod tell;
-mod turn;
-mod written;
 
 pub use applied::Applied;
 pub use laws::{effect_laws, name_laws, run_laws};

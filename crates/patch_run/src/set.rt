@@ -11,26 +11,25 @@ ghost use Rattle.patch_options.specs.PlainJob.{plain_options, IsLawful};
 ghost use Rattle.patch_set.specs.Room.{HaveRoom};
 ghost use Rattle.patch_set.specs.SetView.{IsRead, hunks_in};
 ghost use Rattle.patch_run.specs.Run.{items_of, set_run};
-ghost use Rattle.patch_run.specs.Ready.{IsReady, AreNumbered, AreWritten, marks, rows_in, turn_at};
+ghost use Rattle.patch_outcome.specs.Ready.{IsReady, AreNumbered, AreWritten, marks, rows_in, turn_at};
 ghost use Rattle.patch_run.specs.OnePatch.{ending};
 ghost use Rattle.patch_run.specs.Doing.{Does, Runs, IsReceipt, IsCutAt, NoneFailed, EndsSo, StaysSet, IsPlacedOn, IsPlacedLast};
 ghost use Rattle.patch_start.specs.Devices.{Told};
-ghost use Rattle.patch_run.specs.TurnView.{IsTurn, plain_turn};
+ghost use Rattle.patch_outcome.specs.TurnView.{IsTurn, plain_turn};
 ghost use Rattle.hunk_core.specs.declared.Verdict.TheVariants.{Ignored};
 ghost use Rattle.hunk_apply.specs.Change.{change_verdicts};
 
 use crate::applied::Applied;
 use crate::apply::{Done, apply_one};
-use crate::turn::Turn;
-use crate::written::with_row;
 use hunk_core::Verdict;
 use line_store::Plan;
 use name_marks::NameMarks;
 use outside::{Sink, Tree};
 use patch_effects::RunFault;
 use patch_options::Options;
+use patch_outcome::{Turn, with_row};
 use patch_set::PatchSet;
-use patch_start::Task;
+use patch_task::Task;
 
 /// Carries out the file patches of a set one after another, each on the files that those before it left: what is said
 /// goes to `out`, and the effects are made on the tree. The plan holds the lines of one file at a time. Afterwards the set

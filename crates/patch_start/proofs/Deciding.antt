@@ -15,7 +15,7 @@ use Rattle.patch_effects.specs.declared.fault.RunFault.{RunFault}
 use Rattle.patch_effects.specs.declared.fault.RunFault.TheVariants.{Tree, Write, Scratch, LongLine, FileTooLong, Disagree, Memory}
 use Rattle.patch_start.specs.declared.starting.Decision.{Decision}
 use Rattle.patch_effects.specs.Faults.{of_line}
-use Rattle.patch_start.specs.Turns.{PlainTurn}
+use Rattle.patch_task.specs.Turns.{PlainTurn}
 use Rattle.patch_start.specs.Start.{Start, skips, refuses, tries, said_first, skips_at, on_direction, on_prereq, prereq_said, lacks_word, lines_in, first_hunk, is_reversed, turns_round}
 use Rattle.patch_start.specs.Starting.{said_in, IsDecided, Holds, HasPlanCause, Weighs}
 use Rattle.patch_start.proofs.StartSteps.{said-first, decided-first, none_part}

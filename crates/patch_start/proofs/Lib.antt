@@ -1,4 +1,3 @@
-mod Getting
 mod Runs
 mod StartSteps
 mod StartTaken

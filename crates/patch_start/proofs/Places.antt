@@ -16,7 +16,7 @@ use Rattle.name_choice.specs.Better.{best_among}
 use Rattle.name_choice.specs.Choice.{is_there, needs_fewest, first_place, existing_or, created, existing, to_create, choice_among, existing_if, existing_at, source_place, choice, side_of, names_of, IsWithin}
 use Rattle.file_patch.specs.Actions.{is_moved}
 use Rattle.patch_set.specs.declared.set.Row.{Row}
-use Rattle.patch_start.specs.Turns.{PlainTurn, bytes_of}
+use Rattle.patch_task.specs.Turns.{PlainTurn, bytes_of}
 use Rattle.patch_start.specs.Start.{Start, skips, refuses, tries, said_first, refused_or, on_direction, on_prereq, on_taking, on_existing, on_creation, on_target, on_choice, choice_of, skipped_said, own_start, start, is_reversed, lines_in, first_hunk, turns_round, lacks_word, is_in_the_way}
 
 -- ---- choices

@@ -17,7 +17,7 @@ use Rattle.patch_effects.specs.declared.fault.RunFault.{RunFault}
 use Rattle.patch_effects.specs.declared.fault.RunFault.TheVariants.{Tree, Write, Scratch, LongLine, FileTooLong, Disagree, Memory}
 use Rattle.patch_start.specs.declared.starting.Decision.{Decision}
 use Rattle.patch_effects.specs.Faults.{of_open}
-use Rattle.patch_start.specs.Turns.{PlainTurn}
+use Rattle.patch_task.specs.Turns.{PlainTurn}
 use Rattle.patch_start.specs.Start.{Start, skips, refuses, tries, said_first, lines_in, refusal_of, refused_or, lacks_word, is_reversed, first_hunk, prereq_said, on_direction, on_prereq, turns_round, skips_at}
 use Rattle.patch_start.specs.Devices.{Told, HasRunCause, scratch_with}
 use Rattle.patch_start.specs.Starting.{Starts, Takes, Weighs, said_in, taken_in, IsDecided, IsBrokenOff, IsRefusal, HasPlanCause}

@@ -26,8 +26,8 @@ use Rattle.name_choice.specs.Choice.{choice, names_of, side_of}
 use Rattle.say_text.specs.Messages.{silenced, skipping_lines, patching_line, no_file_lines, prereq_line, reversed_line, exists_line}
 use Rattle.say_text.specs.Origins.{PlainOrigin}
 use Rattle.say_text.specs.Origins.PlainOrigin.{Itself, RenamedFrom, CopiedFrom}
-use Rattle.patch_start.specs.Asking.{moves}
-use Rattle.patch_start.specs.Turns.{Mark, PlainTurn, target_at, written, bytes_of, shown}
+use Rattle.patch_task.specs.Asking.{moves}
+use Rattle.patch_task.specs.Turns.{Mark, PlainTurn, target_at, written, bytes_of, shown}
 
 -- how a file patch is taken, once this was said: it is skipped, and what its row holds; or its file isn't taken; or its hunks are tried from a side
 pub data Start : Type 0 where

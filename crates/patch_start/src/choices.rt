@@ -3,10 +3,10 @@
 ghost use Rattle.std.specs.Prelude.{◌≡◌};
 ghost use Rattle.patch_options.specs.PlainJob.{plain_options};
 ghost use Rattle.patch_start.specs.Start.{turns, turns_round};
-ghost use Rattle.patch_start.specs.TaskView.{plain_task};
+ghost use Rattle.patch_task.specs.TaskView.{plain_task};
 
-use crate::task::Task;
 use patch_options::Options;
+use patch_task::Task;
 
 /// Whether this file patch is turned round where it doesn't suit its file; a rename or a copy never is.
 pub fn turns_round(task: &Task<'_>) -> bool

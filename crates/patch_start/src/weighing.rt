@@ -7,11 +7,10 @@ ghost use Rattle.hunk_core.specs.Turned.{IsLawful};
 ghost use Rattle.line_store.specs.Store.{Keeps, HasCause};
 ghost use Rattle.patch_start.specs.Start.{first_hunk, is_reversed, lacks_word, on_direction, on_prereq};
 ghost use Rattle.patch_start.specs.Starting.{Holds, Weighs, IsWithin};
-ghost use Rattle.patch_start.specs.TaskView.{plain_task, IsTask};
+ghost use Rattle.patch_task.specs.TaskView.{plain_task, IsTask};
 
 use crate::choices::turns_round;
 use crate::starting::{Decision, skip_at};
-use crate::task::Task;
 use crate::word::has_word;
 use file_patch::Change;
 use hunk_core::{Hunk, Side};
@@ -20,6 +19,7 @@ use line_store::{LineFault, LineStore};
 use outside::Sink;
 use patch_effects::RunFault;
 use patch_set::bytes_in;
+use patch_task::Task;
 use say_text::{say_prereq, say_reversed};
 
 /// Decides, the plan standing for the lines of the chosen file; `there` says that it is there.

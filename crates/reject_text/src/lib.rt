@@ -4,8 +4,6 @@
 mod header;
 mod moving;
 mod rejects;
-mod set;
 
 pub use moving::{nets_in_words, placed_growth};
 pub use rejects::put_reject;
-pub use set::put_rejects;

@@ -12,7 +12,7 @@ use Rattle.hunk_core.specs.declared.Verdict.{Verdict}
 use Rattle.patch_options.specs.PlainJob.{PlainOptions}
 use Rattle.target_names.specs.declared.derived.Target.{Target}
 use Rattle.patch_effects.specs.TargetEffects.{put_if, backup_effects, target_effects, moved_effects, moving_effects}
-use Rattle.patch_start.specs.Asking.{written_place}
+use Rattle.patch_task.specs.Asking.{written_place}
 use Rattle.patch_run.specs.OnePatch.{Item, PlainTurn, Start, skips, refuses, tries, Story, Ending, ended, stopped, Tried, no_target, target_at, written_at, written, tried, is_backup_due, is_backup_apart, is_backup_asked, was_written, is_removal, is_moving, is_written, made_effects, written_effects, has_rejects, rejects_text, reject_effects, effects_of, start, ending_of, ending, bytes_of, lines_in}
 use Rattle.patch_run.specs.Doing.{effects_in}
 use Rattle.patch_run.specs.Run.{Run, begun, turn_of, with_ending, if_going, with_item, run_on, run_of}

@@ -4,9 +4,9 @@ use Rattle.outside.proofs.Exits.{if_ok_none}
 use Rattle.outside.proofs.Views.{untouched_quiet}
 use Rattle.hunk_core.specs.declared.Verdict.TheVariants.{Ignored}
 use Rattle.patch_run.specs.OnePatch.{total}
-use Rattle.patch_run.specs.TurnView.{plain_turn}
+use Rattle.patch_outcome.specs.TurnView.{plain_turn}
 use Rattle.patch_run.proofs.First.{is-first}
-use Rattle.patch_run.proofs.Marks.{rows-counted}
+use Rattle.patch_outcome.proofs.Marks.{rows-counted}
 use Rattle.patch_run.proofs.Turning.{start_fails, lines_told, skip_does, try_does}
 use Rattle.patch_run.proofs.apply.apply_one.Goals as goal
 

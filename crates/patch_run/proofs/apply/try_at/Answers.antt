@@ -8,11 +8,13 @@ use Rattle.target_names.specs.declared.derived.Target.{Target}
 use Rattle.patch_effects.specs.declared.fault.RunFault.{RunFault}
 use Rattle.patch_run.specs.OnePatch.{bytes_of, lines_in, written, effects_of, tried, tried_said, finished, finished_at}
 use Rattle.patch_run.specs.Doing.{IsDone, IsPartOf, IsOrdered}
-use Rattle.patch_run.specs.TurnView.{plain_turn}
-use Rattle.patch_run.proofs.Applying.{on_err, if_err, if_any, works_made, unmade, part_worked, tried_breaks, tried_ordered, tried_done}
+use Rattle.patch_outcome.specs.TurnView.{plain_turn}
+use Rattle.patch_run.proofs.Applying.{on_err, if_err, if_any, unmade, part_worked, tried_breaks, tried_ordered, tried_done}
+use Rattle.patch_outcome.proofs.Moving.{works_made}
 use Rattle.patch_effects.specs.Making.{IsTidy}
 use Rattle.patch_effects.proofs.Tidy.{attempt_tidy, passed_tidy}
 use Rattle.patch_run.proofs.EndCause.{end_failed}
+use Rattle.outside.proofs.Exits.{if_ok_none}
 use Rattle.patch_run.proofs.apply.try_at.Goals as goal
 
 pub returns-in_err-attempt-clause-broken : goal.returns-in_err-attempt-clause-broken
@@ -172,3 +174,21 @@ pub returns-clause-placed : goal.returns-clause-placed
 returns-clause-placed g c lines told =
     c.in_ok-attempt.ensures.verdicts lines (sym c.in_ok-attempt.ensures.keeps.told ∙ told)
     ∙ ap (λ (r : Row). change_verdicts lines c.args.turn.now.task.options.now.fuzz c.args.turn.now.task.options.now.loose r.side (plain_turn c.args.turn.now).item.patch.change) (sym c.done_of.ensures.row)
+
+pub returns-in_err-attempt-clause-whole : goal.returns-in_err-attempt-clause-whole
+returns-in_err-attempt-clause-whole g c = if_ok_none _ _ c.from_residual.result c.from_residual.ensures.1
+
+pub returns-in_err-made-clause-whole : goal.returns-in_err-made-clause-whole
+returns-in_err-made-clause-whole g c = if_ok_none _ _ c.from_residual-in_err-made.result c.from_residual-in_err-made.ensures.1
+
+pub returns-in_err-attempt-clause-few : goal.returns-in_err-attempt-clause-few
+returns-in_err-attempt-clause-few g c = if_ok_none _ _ c.from_residual.result c.from_residual.ensures.1
+
+pub returns-in_err-made-clause-few : goal.returns-in_err-made-clause-few
+returns-in_err-made-clause-few g c = if_ok_none _ _ c.from_residual-in_err-made.result c.from_residual-in_err-made.ensures.1
+
+pub returns-in_err-attempt-clause-placed : goal.returns-in_err-attempt-clause-placed
+returns-in_err-attempt-clause-placed g c = if_ok_none _ _ c.from_residual.result c.from_residual.ensures.1
+
+pub returns-in_err-made-clause-placed : goal.returns-in_err-made-clause-placed
+returns-in_err-made-clause-placed g c = if_ok_none _ _ c.from_residual-in_err-made.result c.from_residual-in_err-made.ensures.1

@@ -2,14 +2,15 @@ use Rattle.std.proofs.Common.{◌≡◌, ◌+◌, ◌<◌, ◌||◌, List, [], �
 use Rattle.std.proofs.lemmas.List.{length-set}
 use Rattle.std.specs.Option.{ForSome}
 use Rattle.outside.specs.Calls.{untouched_none, untouched_both}
+use Rattle.outside.proofs.Exits.{if_ok_none, on_ok_none}
 use Rattle.file_patch.specs.declared.FilePatch.{FilePatch}
 use Rattle.patch_options.specs.PlainJob.{plain_options}
 use Rattle.patch_set.specs.Room.{HaveRoom}
 use Rattle.patch_set.specs.SetView.{SetView, hunks_in, with_row}
-use Rattle.patch_run.specs.Ready.{AreNumbered, AreWritten, marks, rows_in}
+use Rattle.patch_outcome.specs.Ready.{AreNumbered, AreWritten, marks, rows_in}
 use Rattle.patch_run.specs.Doing.{StaysSet}
 use Rattle.patch_run.specs.OnePatch.{Mark}
-use Rattle.patch_run.proofs.Marks.{patch-there, marks-none, marks-next, mark-alone}
+use Rattle.patch_outcome.proofs.Marks.{patch-there, marks-none, marks-next, mark-alone}
 use Rattle.patch_run.proofs.Ready.{ready, ready_still, numbered}
 use Rattle.patch_run.proofs.Going.{IsAt, IsNext, run_to, goes_none, goes_on, at_none, at_next}
 use Rattle.patch_run.proofs.RunEnds.{IsPlacedTo, cut_ends, runs_cut, runs_all, placed_none, placed_next}
@@ -172,3 +173,18 @@ returns-in_err-done-clause-rest g c = g.met.O.Sink.rest_both _ _ _ c.loop-k.inva
 
 pub returns-in_err-done-clause-set : goal.returns-in_err-done-clause-set
 returns-in_err-done-clause-set g c = c.loop-k.invariant.same
+
+pub returns-clause-verdicts : goal.returns-clause-verdicts
+returns-clause-verdicts g c = c.loop-k.invariant.long ∙ ap (λ (l : List FilePatch). hunks_in l) c.loop-k.invariant.same.patches ∙ sym c.requires.verdicts
+
+pub returns-in_err-done-clause-verdicts : goal.returns-in_err-done-clause-verdicts
+returns-in_err-done-clause-verdicts g c = c.in_err-done.ensures.verdicts ∙ c.loop-k.invariant.long ∙ ap (λ (l : List FilePatch). hunks_in l) c.loop-k.invariant.same.patches ∙ sym c.requires.verdicts
+
+pub returns-in_err-done-clause-receipt : goal.returns-in_err-done-clause-receipt
+returns-in_err-done-clause-receipt g c = if_ok_none _ _ c.from_residual.result c.from_residual.ensures.1
+
+pub returns-in_err-done-clause-done : goal.returns-in_err-done-clause-done
+returns-in_err-done-clause-done g c = if_ok_none _ _ c.from_residual.result c.from_residual.ensures.1
+
+pub returns-in_err-done-clause-placed : goal.returns-in_err-done-clause-placed
+returns-in_err-done-clause-placed g c = on_ok_none _ _ c.from_residual.result c.from_residual.ensures.1

@@ -7,7 +7,7 @@ use Rattle.patch_set.specs.Room.{HaveRoom}
 use Rattle.patch_set.specs.SetView.{hunks_in}
 use Rattle.patch_start.specs.Devices.{Told}
 use Rattle.patch_run.specs.Doing.{StaysSet}
-use Rattle.patch_run.specs.Ready.{AreWritten, marks}
+use Rattle.patch_outcome.specs.Ready.{AreWritten, marks}
 use Rattle.patch_run.proofs.Going.{Goes, IsAt, run_to}
 use Rattle.patch_run.proofs.RunEnds.{IsPlacedTo}
 use Rattle.patch_run.proofs.set.apply_all.Given as goal

@@ -11,8 +11,8 @@ use Rattle.patch_options.specs.PlainJob.{plain_options}
 use Rattle.patch_run.specs.Doing.{Does, IsPlacedOn}
 use Rattle.patch_run.specs.OnePatch.{Mark, PlainTurn, ending}
 use Rattle.patch_run.specs.Run.{item_of}
-use Rattle.patch_run.specs.Ready.{IsFit, AreWritten, marks, rows_in, turn_at}
-use Rattle.patch_run.proofs.Marks.{place-at, same-patch, all-first, marks-before, rows-last}
+use Rattle.patch_outcome.specs.Ready.{IsFit, AreWritten, marks, rows_in, turn_at}
+use Rattle.patch_outcome.proofs.Marks.{place-at, same-patch, all-first, marks-before, rows-last}
 use Rattle.patch_run.proofs.RunEnds.{placed_rows}
 use Rattle.patch_run.proofs.set.apply_at.Goals as goal
 

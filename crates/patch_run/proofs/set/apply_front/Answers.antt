@@ -6,8 +6,8 @@ use Rattle.hunk_apply.specs.Change.{change_verdicts}
 use Rattle.file_patch.specs.PlainPatch.{row_count}
 use Rattle.patch_run.specs.Doing.{Does}
 use Rattle.patch_run.specs.OnePatch.{ending}
-use Rattle.patch_run.specs.TurnView.{plain_turn}
-use Rattle.patch_run.proofs.Marks.{rows-counted}
+use Rattle.patch_outcome.specs.TurnView.{plain_turn}
+use Rattle.patch_outcome.proofs.Marks.{rows-counted}
 use Rattle.patch_run.proofs.set.apply_front.Goals as goal
 
 pub returns-clause-does : goal.returns-clause-does

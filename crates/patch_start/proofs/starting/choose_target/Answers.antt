@@ -6,7 +6,7 @@ use Rattle.target_names.specs.declared.derived.Target.{Target}
 use Rattle.name_choice.specs.Choice.{IsFound}
 use Rattle.name_choice.specs.declared.Choice.{Choice}
 use Rattle.name_choice.specs.declared.Choice.TheVariants.{Existing, Create, Nothing}
-use Rattle.patch_start.specs.Turns.{target_at, no_target}
+use Rattle.patch_task.specs.Turns.{target_at, no_target}
 use Rattle.patch_start.specs.Starting.{IsPresent}
 use Rattle.patch_start.proofs.starting.choose_target.Goals as goal
 

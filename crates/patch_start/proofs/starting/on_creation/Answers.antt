@@ -1,9 +1,9 @@
 use Rattle.std.proofs.Common.{◌≡◌, ℕ, Bool, true, false, not, ◌||◌, if◌then◌else◌, sym, ◌∙◌, ap}
 use Rattle.hunk_core.specs.declared.Side.{Side}
 use Rattle.outside.specs.Files.{Files}
-use Rattle.patch_start.specs.Turns.{PlainTurn, bytes_of}
+use Rattle.patch_task.specs.Turns.{PlainTurn, bytes_of}
 use Rattle.patch_start.specs.Start.{is_in_the_way, on_taking, on_existing, on_creation}
-use Rattle.patch_start.specs.TaskView.{plain_task}
+use Rattle.patch_task.specs.TaskView.{plain_task}
 use Rattle.patch_start.proofs.StartSteps.{starts_failed, starts_after, starts_is}
 use Rattle.patch_start.proofs.starting.on_creation.Goals as goal
 use Rattle.patch_start.proofs.starting.on_creation.Goals.{then-not-is_in_the_way, else-not-is_in_the_way}

@@ -1,7 +1,7 @@
 use Rattle.std.proofs.Common.{Ok, Err}
-use Rattle.patch_start.specs.Turns.{bytes_of}
+use Rattle.patch_task.specs.Turns.{bytes_of}
 use Rattle.patch_start.specs.Start.{on_prereq}
-use Rattle.patch_start.specs.TaskView.{plain_task}
+use Rattle.patch_task.specs.TaskView.{plain_task}
 use Rattle.patch_start.proofs.StartTaken.{starts_taken, starts_untaken, takes_at, prereq_about}
 use Rattle.patch_start.proofs.starting.on_taking.Goals as goal
 

@@ -3,10 +3,10 @@ use Rattle.outside.proofs.Writing.{writes_is}
 use Rattle.say_text.specs.Messages.{silenced, patching_line}
 use Rattle.say_text.specs.Origins.{PlainOrigin}
 use Rattle.target_names.specs.declared.derived.Target.{Target}
-use Rattle.patch_start.specs.Turns.{PlainTurn, shown}
+use Rattle.patch_task.specs.Turns.{PlainTurn, shown}
 use Rattle.patch_start.specs.Start.{patching_said, on_target, on_creation, named, origin_of}
 use Rattle.name_choice.specs.Choice.{side_of}
-use Rattle.patch_start.specs.TaskView.{plain_task}
+use Rattle.patch_task.specs.TaskView.{plain_task}
 use Rattle.patch_start.proofs.StartSteps.{starts_said, starts_unsaid, begins_first}
 use Rattle.patch_start.proofs.starting.on_target.Goals as goal
 

@@ -4,9 +4,9 @@ use Rattle.outside.proofs.Writing.{writes_is}
 use Rattle.name_choice.specs.declared.Choice.{Choice}
 use Rattle.name_choice.specs.declared.Choice.TheVariants.{Existing, Create, Nothing}
 use Rattle.say_text.specs.Messages.{skipping_lines}
-use Rattle.patch_start.specs.Turns.{Mark, PlainTurn}
+use Rattle.patch_task.specs.Turns.{Mark, PlainTurn}
 use Rattle.patch_start.specs.Start.{on_choice, choice_of, skipped_said, own_start, start}
-use Rattle.patch_start.specs.TaskView.{plain_task, with_past}
+use Rattle.patch_task.specs.TaskView.{plain_task, with_past}
 use Rattle.patch_start.proofs.StartSteps.{starts_said, starts_unsaid, starts_is, begins_first}
 use Rattle.patch_start.proofs.starting.start.Goals as goal
 

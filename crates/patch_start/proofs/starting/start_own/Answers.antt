@@ -2,9 +2,9 @@ use Rattle.std.proofs.Common.{◌≡◌, sym, ◌∙◌, ap}
 use Rattle.outside.specs.Files.{Files}
 use Rattle.name_choice.specs.declared.Choice.{Choice}
 use Rattle.name_choice.specs.declared.Choice.TheVariants.{Existing, Create, Nothing}
-use Rattle.patch_start.specs.Turns.{PlainTurn}
+use Rattle.patch_task.specs.Turns.{PlainTurn}
 use Rattle.patch_start.specs.Start.{on_choice, choice_of, own_start}
-use Rattle.patch_start.specs.TaskView.{plain_task}
+use Rattle.patch_task.specs.TaskView.{plain_task}
 use Rattle.patch_start.proofs.StartSteps.{starts_after, starts_is, starts_lost, starts_skips}
 use Rattle.patch_start.proofs.starting.start_own.Goals as goal
 

@@ -3,7 +3,7 @@ use Rattle.std.proofs.lemmas.List.{append-nil}
 use Rattle.patch_options.specs.PlainJob.{plain_options}
 use Rattle.say_text.specs.Messages.{silenced, reversed_line}
 use Rattle.patch_start.specs.Start.{on_direction, lines_in}
-use Rattle.patch_start.specs.TaskView.{plain_task}
+use Rattle.patch_task.specs.TaskView.{plain_task}
 use Rattle.patch_start.proofs.Deciding.{weighs_fails, weighs_stops, direction-said}
 use Rattle.outside.proofs.Exits.{if_ok_none}
 use Rattle.patch_start.proofs.weighing.direct.Goals as goal

@@ -4,7 +4,7 @@ use Rattle.outside.proofs.Writing.{received_none}
 use Rattle.patch_options.specs.PlainJob.{plain_options}
 use Rattle.say_text.specs.Messages.{silenced, prereq_line}
 use Rattle.patch_start.specs.Start.{on_direction, on_prereq, prereq_said}
-use Rattle.patch_start.specs.TaskView.{plain_task}
+use Rattle.patch_task.specs.TaskView.{plain_task}
 use Rattle.patch_start.proofs.Deciding.{weighs_fails, weighs_stops, weighs_after, prereq-suits, prereq-warns, prereq-speaks, behind_prereq}
 use Rattle.patch_start.proofs.weighing.weigh.Goals as goal
 

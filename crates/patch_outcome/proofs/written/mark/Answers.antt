@@ -1,0 +1,14 @@
+use Rattle.std.proofs.Common.{◌||◌, Option, option_map, sym, ◌∙◌, ap}
+use Rattle.std.specs.Option.{option_copied}
+use Rattle.name_marks.specs.Marked.{is_marked}
+use Rattle.target_names.specs.declared.derived.Target.{Target}
+use Rattle.patch_outcome.specs.Outcome.{is_name}
+use Rattle.patch_outcome.proofs.written.mark.Goals as goal
+
+pub returns-in-Some-clause-marked : goal.returns-in-Some-clause-marked
+returns-in-Some-clause-marked c q =
+    c.mark.ensures.marked (c.mark.ensures.room ∙ c.requires c.in-Some.target.now (ap option_copied c.in-Some.is)) q
+    ∙ ap (λ (x : Option Target). is_name q (option_map (λ w. w.name) x) || is_marked c.args.names.now q) (sym (ap option_copied c.in-Some.is))
+
+pub returns-in-Some-clause-rooms : goal.returns-in-Some-clause-rooms
+returns-in-Some-clause-rooms c = c.mark.ensures.rooms

@@ -1,0 +1,368 @@
+//! The effects of a file patch whose hunks were tried.
+
+ghost use Rattle.std.specs.Prelude.{◌≡◌, ◌≢◌, ◌≤◌, ◌||◌, ◌+◌, ◌&&◌, if◌then◌else◌, ℕ, List, true, false, not, length, count_by, bytes_eq, is_some, is_none, Some, IfOk, OnOk, OnErr};
+ghost use Rattle.std.specs.List.{list_any};
+ghost use Rattle.std.specs.FinMap.{get};
+ghost use Rattle.outside.specs.Files.{Files};
+ghost use Rattle.outside.specs.TreeView.{Rises};
+ghost use Rattle.outside.specs.Calls.{IsThere, IsUntouched};
+ghost use Rattle.outside.specs.Quiet.{IsQuiet, Holds};
+ghost use Rattle.hunk_core.specs.declared.Verdict.{Verdict};
+ghost use Rattle.hunk_apply.specs.Session.{is_failed, is_inexact};
+ghost use Rattle.hunk_apply.specs.Written.{is_nothing};
+ghost use Rattle.reject_text.specs.Rejects.{AreHunks};
+ghost use Rattle.file_patch.specs.PlainPatch.{row_count};
+ghost use Rattle.patch_task.specs.Asking.{renames};
+ghost use Rattle.patch_task.specs.Outputs.{Tried, IsSession};
+ghost use Rattle.patch_outcome.specs.Outcome.{is_backup_due, is_backup_apart, is_made_bare, is_written, is_unwanted, is_always_put, is_removal, is_moving, made_effects, written_effects, effects_of, wrote, has_rejects};
+ghost use Rattle.patch_effects.specs.Making.{Makes, GoesQuietly, IsGone, IsTidy};
+ghost use Rattle.patch_effects.specs.Named.{IsNamed};
+ghost use Rattle.patch_outcome.specs.TurnView.{plain_turn, IsTurn};
+
+use crate::past::{is_same, was_written};
+use crate::rejects::put_rejects;
+use crate::saying::{is_taken_away, is_unrejected};
+use crate::turn::Turn;
+use hunk_apply::Session;
+use hunk_core::{Side, Verdict};
+use outside::{Failed, Name, Tree};
+use patch_effects::{Made, RunFault, forget, write_moved, write_placed};
+use patch_options::Options;
+use patch_task::{acts_new, is_bare, renames, takes_files};
+use replace_file::Temp;
+use target_names::Target;
+
+/// Makes the effects in their order; the target's temporary holds the output, and is gone afterwards.
+pub fn make_effects<T: Tree>(
+    turn: &Turn<'_>,
+    source: &Target,
+    target: &Target,
+    side: Side,
+    session: &Session,
+    verdicts: &[Verdict],
+    temp: Temp<'_>,
+    tree: &mut T,
+) -> Result<Made, RunFault>
+    requires turn { IsTurn turn.now }
+    requires source { IsNamed source.now }
+    requires named { IsNamed target.now }
+    requires temp { temp.name.now ≡ target.now.temp }
+    requires rows { length verdicts.now ≡ row_count turn.now.task.patch.now.change }
+    requires wet { turn.now.task.options.now.dry_run ≡ false }
+    requires quiet { IsQuiet (T.view tree.old) }
+    requires there { IsThere (T.view tree.old) target.now.temp }
+    ensures goes { GoesQuietly (T.view tree.old) (T.view tree.new) result }
+    ensures makes { (x : Tried) → x.side ≡ side → x.verdicts ≡ verdicts.now → IsSession session.now x.verdicts x.text → Holds (T.view tree.old) target.now.temp x.output
+        → Makes (T.view tree.old) (T.view tree.new) result target.now.temp (λ f. effects_of (plain_turn turn.now) f source.now target.now x) }
+    ensures gone { OnOk result (IsGone (T.view tree.new) target.now.temp) }
+    ensures wrote { IfOk result (λ made. (f : Files) (x : Tried) → (T.view tree.old).told ≡ Some f → x.side ≡ side → x.verdicts ≡ verdicts.now → IsSession session.now x.verdicts x.text
+        → made.wrote ≡ wrote (plain_turn turn.now) f target.now x) }
+    ensures count { IfOk result (λ made. (f : Files) (x : Tried) → (T.view tree.old).told ≡ Some f → x.side ≡ side → x.verdicts ≡ verdicts.now → IsSession session.now x.verdicts x.text
+        → made.effects ≡ length (effects_of (plain_turn turn.now) f source.now target.now x)) }
+    ensures few { IfOk result (λ made. made.effects ≤ 5) }
+    ensures tidy { OnOk result (IsTidy (T.view tree.old) (T.view tree.new)) }
+{
+    let made = write_target(turn, source, target, side, session, temp, tree)?;
+    let rejected = is_rejected(turn, session);
+    put_rejects(turn, target, side, verdicts, rejected, tree)?;
+    Ok(with_reject(made, rejected))
+}
+
+/// Whether hunks were rejected.
+fn is_rejected(turn: &Turn<'_>, session: &Session) -> bool
+    ensures rejected { (vs : List Verdict) → session.now.failed ≡ count_by is_failed vs → result ≡ has_rejects (plain_turn turn.now) vs }
+    ensures hunks { result ≡ true → AreHunks turn.now.task.patch.now.change }
+{
+    session.failed > 0 && !is_unrejected(turn.task.options, &turn.task.patch.change)
+}
+
+/// What was done, with a reject file, if there is one.
+fn with_reject(made: Made, rejected: bool) -> Made
+    requires { made.effects ≤ 4 }
+    ensures wrote { result.wrote ≡ made.wrote }
+    ensures effects { result.effects ≡ made.effects + (if rejected then 1 else 0) }
+{
+    Made {
+        wrote: made.wrote,
+        effects: made.effects + u64::from(rejected),
+    }
+}
+
+/// Backs the target up and writes it, if it is written.
+fn write_target<T: Tree>(
+    turn: &Turn<'_>,
+    source: &Target,
+    target: &Target,
+    side: Side,
+    session: &Session,
+    temp: Temp<'_>,
+    tree: &mut T,
+) -> Result<Made, RunFault>
+    requires turn { IsTurn turn.now }
+    requires source { IsNamed source.now }
+    requires named { IsNamed target.now }
+    requires temp { temp.name.now ≡ target.now.temp }
+    requires quiet { IsQuiet (T.view tree.old) }
+    requires there { IsThere (T.view tree.old) target.now.temp }
+    ensures goes { GoesQuietly (T.view tree.old) (T.view tree.new) result }
+    ensures makes { (x : Tried) → x.side ≡ side → IsSession session.now x.verdicts x.text → Holds (T.view tree.old) target.now.temp x.output
+        → Makes (T.view tree.old) (T.view tree.new) result target.now.temp (λ f. written_effects (plain_turn turn.now) f source.now target.now x) }
+    ensures gone { OnOk result (IsGone (T.view tree.new) target.now.temp) }
+    ensures wrote { IfOk result (λ made. (f : Files) (x : Tried) → (T.view tree.old).told ≡ Some f → x.side ≡ side → IsSession session.now x.verdicts x.text
+        → made.wrote ≡ (is_written (plain_turn turn.now) x && (not (is_removal (plain_turn turn.now) x) || is_some (get f target.now.name)))) }
+    ensures count { IfOk result (λ made. (f : Files) (x : Tried) → (T.view tree.old).told ≡ Some f → x.side ≡ side → IsSession session.now x.verdicts x.text
+        → made.effects ≡ length (written_effects (plain_turn turn.now) f source.now target.now x)) }
+    ensures few { IfOk result (λ made. made.effects ≤ 4) }
+    ensures tidy { OnOk result (IsTidy (T.view tree.old) (T.view tree.new)) }
+{
+    if !is_written(turn, side, session) {
+        forget(temp, target, tree)?;
+        return Ok(Made {
+            wrote: false,
+            effects: 0,
+        });
+    }
+    write_made(turn, source, target, side, session, temp, tree)
+}
+
+/// Backs the target up and writes it; the source of a rename goes.
+fn write_made<T: Tree>(
+    turn: &Turn<'_>,
+    source: &Target,
+    target: &Target,
+    side: Side,
+    session: &Session,
+    temp: Temp<'_>,
+    tree: &mut T,
+) -> Result<Made, RunFault>
+    requires turn { IsTurn turn.now }
+    requires source { IsNamed source.now }
+    requires named { IsNamed target.now }
+    requires temp { temp.name.now ≡ target.now.temp }
+    requires quiet { IsQuiet (T.view tree.old) }
+    requires there { IsThere (T.view tree.old) target.now.temp }
+    ensures goes { GoesQuietly (T.view tree.old) (T.view tree.new) result }
+    ensures makes { (x : Tried) → x.side ≡ side → IsSession session.now x.verdicts x.text → Holds (T.view tree.old) target.now.temp x.output
+        → Makes (T.view tree.old) (T.view tree.new) result target.now.temp (λ f. made_effects (plain_turn turn.now) f source.now target.now x) }
+    ensures gone { OnOk result (IsGone (T.view tree.new) target.now.temp) }
+    ensures wrote { IfOk result (λ made. (f : Files) (x : Tried) → (T.view tree.old).told ≡ Some f → x.side ≡ side → IsSession session.now x.verdicts x.text
+        → made.wrote ≡ (not (is_removal (plain_turn turn.now) x) || is_some (get f target.now.name))) }
+    ensures count { IfOk result (λ made. (f : Files) (x : Tried) → (T.view tree.old).told ≡ Some f → x.side ≡ side → IsSession session.now x.verdicts x.text
+        → made.effects ≡ length (made_effects (plain_turn turn.now) f source.now target.now x)) }
+    ensures few { IfOk result (λ made. made.effects ≤ 4) }
+    ensures tidy { OnOk result (IsTidy (T.view tree.old) (T.view tree.new)) }
+{
+    let moving = match is_moving(turn, source, target, tree) {
+        Ok(moving) => moving,
+        Err(_) => return Err(RunFault::Tree),
+    };
+    if moving {
+        move_source(turn, source, target, session, temp, tree)
+    } else {
+        put_placed(turn, source, target, side, session, temp, tree)
+    }
+}
+
+/// Whether the source of a rename goes, which is there and isn't the target itself.
+fn is_moving<T: Tree>(
+    turn: &Turn<'_>,
+    source: &Target,
+    target: &Target,
+    tree: &mut T,
+) -> Result<bool, Failed>
+    ensures untouched { IsUntouched (T.view tree.old) (T.view tree.new) }
+    ensures cause { OnErr result (Rises (T.view tree.old) (T.view tree.new)) }
+    ensures moving { IfOk result (λ moving. (f : Files) → (T.view tree.old).told ≡ Some f → moving ≡ is_moving (plain_turn turn.now) f source.now target.now) }
+    ensures there { IfOk result (λ moving. moving ≡ true → IsThere (T.view tree.new) source.now.name) }
+    ensures apart { IfOk result (λ moving. moving ≡ true → target.now.name ≢ source.now.name) }
+    ensures renames { IfOk result (λ moving. moving ≡ true → renames (plain_turn turn.now).item.patch ≡ true) }
+{
+    if !is_renamed(turn, source, target) {
+        return Ok(false);
+    }
+    is_there(&source.name, tree)
+}
+
+/// Whether the file patch renames a file, and the names differ.
+fn is_renamed(turn: &Turn<'_>, source: &Target, target: &Target) -> bool
+    ensures renamed { result ≡ (renames (plain_turn turn.now).item.patch && not (bytes_eq source.now.name target.now.name)) }
+    ensures apart { result ≡ true → target.now.name ≢ source.now.name }
+    ensures renames { result ≡ true → renames (plain_turn turn.now).item.patch ≡ true }
+{
+    if !renames(turn.task.patch) {
+        return false;
+    }
+    !is_same(&source.name, &target.name)
+}
+
+/// Whether a file is there.
+fn is_there<T: Tree>(name: &Name, tree: &mut T) -> Result<bool, Failed>
+    ensures untouched { IsUntouched (T.view tree.old) (T.view tree.new) }
+    ensures cause { OnErr result (Rises (T.view tree.old) (T.view tree.new)) }
+    ensures there { IfOk result (λ there. (f : Files) → (T.view tree.old).told ≡ Some f → there ≡ is_some (get f name.now)) }
+{
+    match tree.size(name)? {
+        Some(_) => Ok(true),
+        None => Ok(false),
+    }
+}
+
+/// Backs the target up, and puts it or takes it away.
+fn put_placed<T: Tree>(
+    turn: &Turn<'_>,
+    source: &Target,
+    target: &Target,
+    side: Side,
+    session: &Session,
+    temp: Temp<'_>,
+    tree: &mut T,
+) -> Result<Made, RunFault>
+    requires turn { IsTurn turn.now }
+    requires source { IsNamed source.now }
+    requires named { IsNamed target.now }
+    requires stays { (f : Files) → (T.view tree.old).told ≡ Some f → is_moving (plain_turn turn.now) f source.now target.now ≡ false }
+    requires temp { temp.name.now ≡ target.now.temp }
+    requires quiet { IsQuiet (T.view tree.old) }
+    requires there { IsThere (T.view tree.old) target.now.temp }
+    ensures goes { GoesQuietly (T.view tree.old) (T.view tree.new) result }
+    ensures makes { (x : Tried) → x.side ≡ side → IsSession session.now x.verdicts x.text → Holds (T.view tree.old) target.now.temp x.output
+        → Makes (T.view tree.old) (T.view tree.new) result target.now.temp (λ f. made_effects (plain_turn turn.now) f source.now target.now x) }
+    ensures gone { OnOk result (IsGone (T.view tree.new) target.now.temp) }
+    ensures wrote { IfOk result (λ made. (f : Files) (x : Tried) → (T.view tree.old).told ≡ Some f → x.side ≡ side → IsSession session.now x.verdicts x.text
+        → made.wrote ≡ (not (is_removal (plain_turn turn.now) x) || is_some (get f target.now.name))) }
+    ensures count { IfOk result (λ made. (f : Files) (x : Tried) → (T.view tree.old).told ≡ Some f → x.side ≡ side → IsSession session.now x.verdicts x.text
+        → made.effects ≡ length (made_effects (plain_turn turn.now) f source.now target.now x)) }
+    ensures few { IfOk result (λ made. made.effects ≤ 4) }
+    ensures tidy { OnOk result (IsTidy (T.view tree.old) (T.view tree.new)) }
+{
+    let due = is_backup_due(turn, target, source, session);
+    let removal = is_removal(turn, side, session);
+    write_placed(target, due, removal, temp, tree)
+}
+
+/// Backs the target and the source up, puts the target, and takes the source away.
+fn move_source<T: Tree>(
+    turn: &Turn<'_>,
+    source: &Target,
+    target: &Target,
+    session: &Session,
+    temp: Temp<'_>,
+    tree: &mut T,
+) -> Result<Made, RunFault>
+    requires turn { IsTurn turn.now }
+    requires source { IsNamed source.now }
+    requires named { IsNamed target.now }
+    requires moves { (f : Files) → (T.view tree.old).told ≡ Some f → is_moving (plain_turn turn.now) f source.now target.now ≡ true }
+    requires renames { renames (plain_turn turn.now).item.patch ≡ true }
+    requires apart { target.now.name ≢ source.now.name }
+    requires source_there { IsThere (T.view tree.old) source.now.name }
+    requires temp { temp.name.now ≡ target.now.temp }
+    requires quiet { IsQuiet (T.view tree.old) }
+    requires there { IsThere (T.view tree.old) target.now.temp }
+    ensures goes { GoesQuietly (T.view tree.old) (T.view tree.new) result }
+    ensures makes { (x : Tried) → IsSession session.now x.verdicts x.text → Holds (T.view tree.old) target.now.temp x.output
+        → Makes (T.view tree.old) (T.view tree.new) result target.now.temp (λ f. made_effects (plain_turn turn.now) f source.now target.now x) }
+    ensures gone { OnOk result (IsGone (T.view tree.new) target.now.temp) }
+    ensures wrote { IfOk result (λ made. (f : Files) (x : Tried) → (T.view tree.old).told ≡ Some f → IsSession session.now x.verdicts x.text
+        → made.wrote ≡ (not (is_removal (plain_turn turn.now) x) || is_some (get f target.now.name))) }
+    ensures count { IfOk result (λ made. (f : Files) (x : Tried) → (T.view tree.old).told ≡ Some f → IsSession session.now x.verdicts x.text
+        → made.effects ≡ length (made_effects (plain_turn turn.now) f source.now target.now x)) }
+    ensures few { IfOk result (λ made. made.effects ≤ 4) }
+    ensures tidy { OnOk result (IsTidy (T.view tree.old) (T.view tree.new)) }
+{
+    let due = is_backup_due(turn, target, source, session);
+    let source_due = is_backup_due(turn, source, target, session);
+    write_moved(source, target, due, source_due, temp, tree)
+}
+
+/// Whether the target is written.
+fn is_written(turn: &Turn<'_>, side: Side, session: &Session) -> bool
+    requires turn { IsTurn turn.now }
+    ensures { (x : Tried) → x.side ≡ side → IsSession session.now x.verdicts x.text → result ≡ is_written (plain_turn turn.now) x }
+{
+    if session.applied > 0 {
+        return true;
+    }
+    is_bare(turn.task.patch) && is_made_bare(turn, side, session)
+}
+
+/// Whether the target of a file patch without hunks is written.
+fn is_made_bare(turn: &Turn<'_>, side: Side, session: &Session) -> bool
+    requires turn { IsTurn turn.now }
+    ensures { (x : Tried) → x.side ≡ side → IsSession session.now x.verdicts x.text → result ≡ is_made_bare (plain_turn turn.now) x }
+{
+    if acts_new(turn.task.patch, side) {
+        return true;
+    }
+    if turn.task.patch.is_moved() {
+        return true;
+    }
+    is_taken_away(turn, side, session) && session.output_empty
+}
+
+/// Whether a backup of a target is due; a rename has another target.
+fn is_backup_due(turn: &Turn<'_>, target: &Target, other: &Target, session: &Session) -> bool
+    requires turn { IsTurn turn.now }
+    ensures due { (vs : List Verdict) → session.now.inexact ≡ list_any is_inexact vs → result ≡ is_backup_due (plain_turn turn.now) target.now other.now vs }
+    ensures apart { result ≡ true → target.now.backup ≢ target.now.name }
+    ensures other { result ≡ true → renames (plain_turn turn.now).item.patch ≡ true → target.now.backup ≢ other.now.name }
+{
+    // (the file patches before this one are many, and asked last)
+    if !is_backup_asked(turn.task.options, session) || !is_backup_apart(turn, target, other) {
+        return false;
+    }
+    !was_written(turn, &target.name)
+}
+
+/// Whether the backup's name is none of those that the file patch writes or takes away.
+fn is_backup_apart(turn: &Turn<'_>, target: &Target, other: &Target) -> bool
+    ensures apart { result ≡ is_backup_apart (plain_turn turn.now) target.now other.now }
+    ensures own { result ≡ true → target.now.backup ≢ target.now.name }
+    ensures other { result ≡ true → renames (plain_turn turn.now).item.patch ≡ true → target.now.backup ≢ other.now.name }
+{
+    if is_same(&target.backup, &target.name) {
+        return false;
+    }
+    if renames(turn.task.patch) {
+        !is_same(&target.backup, &other.name)
+    } else {
+        true
+    }
+}
+
+/// Whether the options ask for a backup of the target.
+fn is_backup_asked(options: &Options, session: &Session) -> bool
+    ensures { result ≡ (options.now.backup || (options.now.mismatch_backup && is_none options.now.output && session.now.inexact)) }
+{
+    options.backup || (options.mismatch_backup && options.output.is_none() && session.inexact)
+}
+
+/// Whether an output without a byte takes the target away.
+fn is_removal(turn: &Turn<'_>, side: Side, session: &Session) -> bool
+    requires turn { IsTurn turn.now }
+    ensures { (x : Tried) → x.side ≡ side → session.now.output_empty ≡ is_nothing x.text → result ≡ is_removal (plain_turn turn.now) x }
+{
+    session.output_empty && !is_always_put(turn) && is_unwanted(turn, side)
+}
+
+/// Whether an output without a byte is put too.
+fn is_always_put(turn: &Turn<'_>) -> bool
+    ensures { result ≡ is_always_put (plain_turn turn.now) }
+{
+    let options = turn.task.options;
+    if options.output.is_some() || options.define.is_some() {
+        return true;
+    }
+    turn.task.patch.is_moved()
+}
+
+/// Whether a file without a byte is to be taken away.
+fn is_unwanted(turn: &Turn<'_>, side: Side) -> bool
+    requires turn { IsTurn turn.now }
+    ensures { result ≡ is_unwanted (plain_turn turn.now) side }
+{
+    if turn.task.options.remove_empty {
+        return true;
+    }
+    takes_files(turn.task.options) && turn.task.patch.deletes(side)
+}

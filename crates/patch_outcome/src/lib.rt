@@ -1,0 +1,14 @@
+//! What is said and written of a file patch whose hunks were tried: its target, backups and rejects.
+#![tactic(auto)]
+
+mod effects;
+mod past;
+mod rejects;
+mod saying;
+mod turn;
+mod written;
+
+pub use effects::make_effects;
+pub use saying::{is_kept, tell};
+pub use turn::Turn;
+pub use written::with_row;

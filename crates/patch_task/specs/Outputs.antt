@@ -1,0 +1,53 @@
+-- What comes of the hunks of a file patch.
+use Rattle.std.specs.Prelude.{ℕ, List, count_by, Bool, nat_lt, Option, None, Some, ◌≡◌}
+use Rattle.hunk_core.specs.declared.Side.{Side}
+use Rattle.hunk_core.specs.declared.Verdict.{Verdict}
+use Rattle.hunk_apply.specs.Change.{change_output, change_verdicts}
+use Rattle.hunk_apply.specs.Session.{is_placed, is_failed, is_inexact}
+use Rattle.ifdef_out.specs.Placed.{change_edits}
+use Rattle.ifdef_out.specs.Tagged.{ifdef_text}
+use Rattle.patch_task.specs.Turns.{PlainTurn}
+use Rattle.std.specs.List.{list_any}
+use Rattle.hunk_apply.specs.Written.{is_nothing}
+use Rattle.hunk_apply.specs.declared.Session.{Session}
+
+-- the new text of the file, and what is written of it
+pub record Tried : Type 0 where
+  pub side : Side
+  pub verdicts : List Verdict
+  pub text : List ℕ
+  pub output : List ℕ
+
+abbrev pub verdicts_on : PlainTurn → Side → List (List ℕ) → List Verdict
+verdicts_on t side ls = change_verdicts ls t.options.fuzz t.options.loose side t.item.patch.change
+
+abbrev pub text_of : PlainTurn → Side → List (List ℕ) → List ℕ
+text_of t side ls = change_output ls t.options.fuzz t.options.loose side t.item.patch.change
+
+-- the old and the new lines, parted by conditions
+abbrev pub parted_output : PlainTurn → Side → List (List ℕ) → List ℕ → List ℕ
+parted_output t side ls define = ifdef_text define ls (change_edits (verdicts_on t side ls) side t.item.patch.change)
+
+-- which are written with `-D`, and else the new text
+abbrev pub output_on : Option (List ℕ) → PlainTurn → Side → List (List ℕ) → List ℕ
+output_on None t side ls = text_of t side ls
+output_on (Some define) t side ls = parted_output t side ls define
+
+abbrev pub tried : PlainTurn → Side → List (List ℕ) → Tried
+tried t side ls = record { side = side; verdicts = verdicts_on t side ls; text = text_of t side ls; output = output_on t.options.define t side ls }
+
+abbrev pub failed : List Verdict → ℕ
+failed vs = count_by is_failed vs
+
+abbrev pub some_placed : List Verdict → Bool
+some_placed vs = nat_lt 0 (count_by is_placed vs)
+
+abbrev pub some_failed : List Verdict → Bool
+some_failed vs = nat_lt 0 (failed vs)
+
+-- the counts of verdicts and a new text
+pub record IsSession (s : Session) (vs : List Verdict) (text : List ℕ) : Type 0 where
+  pub applied : s.applied ≡ count_by is_placed vs
+  pub failed : s.failed ≡ count_by is_failed vs
+  pub inexact : s.inexact ≡ list_any is_inexact vs
+  pub empty : s.output_empty ≡ is_nothing text

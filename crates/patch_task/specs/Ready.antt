@@ -1,0 +1,34 @@
+-- What a file patch needs before it is taken.
+use Rattle.std.specs.Prelude.{◌≡◌, ℕ, ◌<◌, ◌^◌, List, [], length, All}
+use Rattle.std.specs.Option.{ForSome}
+use Rattle.patch_options.specs.PlainJob.{PlainOptions, HasContext, IsMacroName}
+use Rattle.file_patch.specs.declared.FilePatch.{FilePatch}
+use Rattle.file_patch.specs.PlainPatch.{patch_of, row_count}
+use Rattle.file_patch.specs.Absent.{IsLawfulPatch}
+use Rattle.patch_set.specs.SetView.{SetView}
+use Rattle.patch_effects.specs.Named.{IsNamed}
+use Rattle.patch_task.specs.Turns.{Item, PlainTurn}
+
+-- a file patch of a set, of whose text these lines are passed over
+abbrev pub item_of : List ℕ → List ℕ → FilePatch → Item
+item_of text skipped p = record { patch = patch_of text p; targets = p.targets.items; skipped = skipped }
+
+-- a file patch of a set, with its targets
+pub record IsFit (text : List ℕ) (p : FilePatch) : Type 0 where
+  pub lawful : IsLawfulPatch text p
+  pub few : length p.targets.items < 2 ^ 32
+  pub named : All IsNamed p.targets.items
+  pub hunks : row_count p.change < 2 ^ 32
+
+-- a set whose file patches are carried out with these options
+pub record IsReady (o : PlainOptions) (v : SetView) : Type 0 where
+  pub patches : All (IsFit v.text) v.patches
+  pub output : ForSome v.output IsNamed
+  pub reject_form : ForSome o.reject_form HasContext
+  pub define : ForSome o.define IsMacroName
+  pub rows : length v.rows ≡ length v.patches
+  pub count : length v.patches < 2 ^ 32
+
+-- the turn of a file patch without what was before it
+abbrev pub alone : PlainOptions → SetView → FilePatch → PlainTurn
+alone o v p = record { options = o; output = v.output; item = item_of v.text v.skipped p; past = [] }

@@ -1,0 +1,65 @@
+-- A file patch whose turn it is, and the names of its files.
+use Rattle.std.specs.Prelude.{ℕ, List, [], drop, slice_index_or, slice_get, if◌then◌else◌, Option, None, unwrap_or}
+use Rattle.std.specs.Option.{option_or, option_and_then}
+use Rattle.std.specs.FinMap.{get}
+use Rattle.outside.specs.Files.{Files}
+use Rattle.patch_options.specs.PlainJob.{PlainOptions}
+use Rattle.target_names.specs.declared.derived.Target.{Target}
+use Rattle.file_patch.specs.PlainPatch.{PlainPatch, hunk_count}
+use Rattle.patch_set.specs.declared.set.Row.{Row}
+use Rattle.patch_task.specs.Asking.{renames, written_place}
+
+-- a file patch, the files that it can be meant for, and the lines of the binary changes of its text that are passed over
+pub record Item : Type 0 where
+  pub patch : PlainPatch
+  pub targets : List Target
+  pub skipped : List ℕ
+
+-- what later file patches ask of one: the name that it made or took away as its target, the one that it took away from a file that it renamed, and its reject text with the name of that file
+pub record Mark : Type 0 where
+  pub written : Option (List ℕ)
+  pub renamed : Option (List ℕ)
+  pub rejected : Option (List ℕ × List ℕ)
+
+-- a file patch whose turn it is: the output of the options, if they name one, and the marks of the file patches in front of it
+pub record PlainTurn : Type 0 where
+  pub options : PlainOptions
+  pub output : Option Target
+  pub item : Item
+  pub past : List Mark
+
+abbrev pub no_target : Target
+no_target = record { number = 0; shown_from = 0; reject_shown_from = 0; name = []; temp = []; backup = []; backup_temp = []; reject = []; reject_temp = [] }
+
+abbrev pub target_at : List Target → ℕ → Target
+target_at targets k = slice_index_or targets k no_target
+
+-- the target that is written, where this one was chosen
+abbrev pub written_at : Item → ℕ → Option Target
+written_at i place = option_or (slice_get i.targets (written_place i.patch place)) (slice_get i.targets place)
+
+-- the target that is written: the output, or the chosen one, or the other one of a file that is renamed or copied
+abbrev pub written : PlainTurn → ℕ → Target
+written t place = unwrap_or t.output (unwrap_or (written_at t.item place) (target_at t.item.targets place))
+
+-- the same of a file patch whose turn was before, which may have chosen none
+abbrev pub written_by : PlainTurn → Row → Option Target
+written_by t r = option_or t.output (option_and_then (written_at t.item) r.target)
+
+-- the target whose file such a file patch renamed
+abbrev pub renamed_by : PlainTurn → Row → Option Target
+renamed_by t r = if renames t.item.patch then option_and_then (slice_get t.item.targets) r.target else None
+
+-- the bytes of the chosen file, where it is there
+abbrev pub bytes_of : PlainTurn → Files → ℕ → Option (List ℕ)
+bytes_of t files place = get files (target_at t.item.targets place).name
+
+-- a name as messages show it
+abbrev pub shown : Target → List ℕ
+shown t = drop t.shown_from t.name
+
+abbrev pub shown_reject : Target → List ℕ
+shown_reject t = drop t.reject_shown_from t.reject
+
+abbrev pub total : PlainTurn → ℕ
+total t = hunk_count t.item.patch.change
