@@ -117,12 +117,18 @@ fn is_command(text: &[u8]) -> bool {
     has_letter && is_number
 }
 
-/// Whether it may be a line of a hunk, and isn't more likely one of a header or that in front of a mail's signature.
+/// Whether it may be a line of a hunk, and isn't more likely one of a header, one between the sides of a normal hunk, or that in front
+/// of a mail's signature.
 fn is_of_hunk(text: &[u8]) -> bool {
     match text.first() {
-        Some(b' ' | b'-' | b'+' | b'!' | b'<' | b'>') => {
-            !text.starts_with(b"--- ") && !text.starts_with(b"*** ") && text != b"-- "
-        }
+        Some(b' ' | b'-' | b'+' | b'!' | b'<' | b'>') => !is_mark(text),
         _ => false,
+    }
+}
+
+fn is_mark(text: &[u8]) -> bool {
+    match text {
+        b"---" | b"-- " => true,
+        _ => text.starts_with(b"--- ") || text.starts_with(b"*** "),
     }
 }

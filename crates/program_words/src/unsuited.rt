@@ -39,31 +39,33 @@ fn put_place(lines: &mut Lines, front: &[String], word: &str) {
     }
 }
 
-/// The first word in front that excludes an option.
+/// The first word in front that excludes an option which can be taken alone.
 fn rival_of<'a>(lines: &mut Lines, front: &'a [String], word: &str) -> Option<&'a str> {
-    if !is_option(front, word) {
+    let tool = front.get(..1)?;
+    let mut alone = copied(lines, tool);
+    add(lines, &mut alone, word);
+    if !is_option(front, word) || !can_go_on(lines, &alone) {
         return None;
     }
-    for place in 1..front.len() {
-        if excludes(lines, front, place, word) {
-            return front.get(place).map(|rival| rival.as_str());
+    let earlier = front.get(1..)?;
+    for (place, rival) in earlier.iter().enumerate() {
+        if excludes(lines, front, place.saturating_add(1), word) {
+            return Some(rival.as_str());
         }
     }
     None
 }
 
-/// Whether either word can be taken alone, that at this place with its value, but not one behind the other.
+/// Whether the word at this place can be taken alone, with its value, but not with the other one behind it.
 fn excludes(lines: &mut Lines, front: &[String], place: usize, word: &str) -> bool {
     let tool = front.get(..1).unwrap_or(front);
     let rival = word_at(front, place);
-    let mut alone = copied(lines, tool);
-    add(lines, &mut alone, word);
     let mut both = copied(lines, tool);
     add(lines, &mut both, rival);
     if wants_value(lines, tool, rival) {
         add(lines, &mut both, word_at(front, place.saturating_add(1)));
     }
-    if !can_go_on(lines, &alone) || !can_go_on(lines, &both) {
+    if !can_go_on(lines, &both) {
         return false;
     }
     add(lines, &mut both, word);

@@ -156,7 +156,8 @@ fn is_long(form: WordForm) -> bool {
 
 /// Whether the letters behind the hyphen are those of options.
 fn has_letters(table: &'static [Group], word: &str) -> bool {
-    for letter in word.chars().skip(1) {
+    let letters = word.strip_prefix('-').unwrap_or(word);
+    for letter in letters.chars() {
         match form_of(table, letter) {
             Some(form) if is_valued(form) => return true,
             Some(_) => {}

@@ -131,7 +131,13 @@ fn is_patched(places: &Places, name: &str) -> bool {
 }
 
 /// Notes how the first line ends that was read of a file which may be patched.
-fn note_ends(ends: &mut LineEnds, is_front: bool, name: &str, read: &io::Result<usize>, buf: &[u8]) {
+fn note_ends(
+    ends: &mut LineEnds,
+    is_front: bool,
+    name: &str,
+    read: &io::Result<usize>,
+    buf: &[u8],
+) {
     if let (true, Ok(count)) = (is_front, read) {
         ends.note(name, buf.get(..*count).unwrap_or(&[]));
     }
