@@ -107,6 +107,7 @@ fn run_over<O: Write + Drop, E: Write + Drop>(
             let ended = Ended {
                 why: exit.why,
                 heard: out.heard(),
+                ends: tree.ends(),
             };
             if tree.passed().is_empty() {
                 put_texts(&mut lines, rt, tool, words, ended, input.passed());

@@ -4,6 +4,7 @@ use crate::lacking::{Lack, lack_of, put_operands};
 use crate::lines::Lines;
 use crate::mending::{put_malformed, put_misfit};
 use crate::unfit::{add, copied, unfit_place};
+use crate::unsuited::put_unsuited;
 use crate::wanted::{put_wanted, with_value};
 use real_devices::Trouble;
 use run_answers::Why;
@@ -50,7 +51,7 @@ fn put_unfit(lines: &mut Lines, tool: &str, words: &[String], place: usize) {
     }
 }
 
-fn word_at(words: &[String], place: usize) -> &str {
+pub fn word_at(words: &[String], place: usize) -> &str {
     match words.get(place) {
         Some(word) => word.as_str(),
         None => "",
@@ -63,17 +64,12 @@ fn put_word(lines: &mut Lines, tool: &str, front: &[String], word: &str) {
         Some((option, value)) if wants_value(lines, front, option) => {
             put_value(lines, tool, option, value)
         }
-        _ => {
-            lines.put(tool);
-            lines.put(": can't take ");
-            lines.put_quoted(word);
-            lines.put(" here\n");
-        }
+        _ => put_unsuited(lines, tool, front, word),
     }
 }
 
 /// Whether the option wants a value behind these words.
-fn wants_value(lines: &mut Lines, front: &[String], option: &str) -> bool {
+pub fn wants_value(lines: &mut Lines, front: &[String], option: &str) -> bool {
     let mut tried = copied(lines, front);
     add(lines, &mut tried, option);
     matches!(lack_of(lines, &tried), Some(Lack::Value(_)))

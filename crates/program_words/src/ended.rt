@@ -1,30 +1,32 @@
 //! The lines behind a run over a patch text that was taken.
 
 use crate::cut::put_cut;
+use crate::line_ends::put_line_ends;
 use crate::lines::Lines;
 use crate::modes::{Taking, put_modes};
 use crate::skipped::{put_skipped, put_stack_skipped};
 use patch_options::{Job, Options, read_words};
-use real_devices::{Heard, Passed};
+use real_devices::{Heard, LineEnds, Passed};
 use run_answers::Why;
 use std::rt::Files;
 
-/// What a run came to, and what it said.
+/// What a run came to, what it said, and how the lines of its files end.
 #[derive(Clone, Copy)]
-pub struct Ended {
+pub struct Ended<'a> {
     pub why: Why,
     pub heard: Heard,
+    pub ends: &'a LineEnds,
 }
 
-/// That the text is cut in its last line, which modes aren't carried out, and of what was left out why no file was found, and
-/// that a stack keeps no reject files. Nothing is said where the run was refused, but of a text of modes alone, which has no
+/// That the text is cut in its last line, which modes aren't carried out, and of what was left out that lines end otherwise than
+/// those of the patch, why no file was found, and that a stack keeps no reject files. Nothing is said where the run was refused, but of a text of modes alone, which has no
 /// file patch.
 pub fn put_texts<R: Files>(
     lines: &mut Lines,
     rt: &R,
     tool: &str,
     words: &[String],
-    ended: Ended,
+    ended: Ended<'_>,
     passed: &Passed,
 ) {
     match tool {
@@ -42,7 +44,7 @@ fn put_of_patch<R: Files>(
     lines: &mut Lines,
     rt: &R,
     options: &Options,
-    ended: Ended,
+    ended: Ended<'_>,
     passed: &Passed,
 ) {
     let taking = Taking {
@@ -53,10 +55,18 @@ fn put_of_patch<R: Files>(
         Why::Done => put_taken(lines, taking, passed),
         Why::Rejected => {
             put_taken(lines, taking, passed);
+            put_ends(lines, "patch", ended, passed);
             put_skipped(lines, rt, options, ended.heard, passed);
         }
         Why::Garbage => put_modes(lines, "patch", taking, passed),
         _ => {}
+    }
+}
+
+/// How lines end, where a hunk failed.
+fn put_ends(lines: &mut Lines, tool: &str, ended: Ended<'_>, passed: &Passed) {
+    if ended.heard.failed {
+        put_line_ends(lines, tool, ended.ends, passed.front());
     }
 }
 
@@ -65,11 +75,12 @@ fn put_taken(lines: &mut Lines, taking: Taking, passed: &Passed) {
     put_modes(lines, "patch", taking, passed);
 }
 
-fn put_of_stack(lines: &mut Lines, words: &[String], ended: Ended, passed: &Passed) {
+fn put_of_stack(lines: &mut Lines, words: &[String], ended: Ended<'_>, passed: &Passed) {
     match ended.why {
         Why::Done | Why::Garbage => put_pushed(lines, words, passed),
         Why::Rejected => {
             put_pushed(lines, words, passed);
+            put_ends(lines, "patchstack", ended, passed);
             put_stack_skipped(lines, ended.heard, passed);
         }
         _ => {}

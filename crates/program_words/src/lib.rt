@@ -9,6 +9,7 @@ mod cut;
 mod ended;
 mod help;
 mod lacking;
+mod line_ends;
 mod lines;
 mod mending;
 mod modes;
@@ -18,6 +19,7 @@ mod places;
 mod skipped;
 mod state;
 mod unfit;
+mod unsuited;
 mod wanted;
 mod which;
 

@@ -8,6 +8,9 @@ use std::alloc::{AllocError, Global};
 /// The tool of which the tree keeps saves.
 const STACK: &str = "patchstack";
 
+/// The tool that puts its parts beside its file, and so never reads standard input.
+const SPLIT: &str = "splitdiff";
+
 /// What the words say, where they are a command. Without memory they say nothing: the run will say so.
 pub fn places_of(alloc: Global, tool: &str, words: &[String]) -> Places {
     match read_words(alloc, words) {
@@ -16,6 +19,10 @@ pub fn places_of(alloc: Global, tool: &str, words: &[String]) -> Places {
             is_stack: tool == STACK,
             root: None,
             patch: None,
+            file: None,
+            output: None,
+            rejects: None,
+            has_input: tool != STACK && tool != SPLIT,
         },
     }
 }
@@ -24,7 +31,11 @@ fn places_in(alloc: Global, options: &Options) -> Places {
     Places {
         is_stack: false,
         root: text_of(alloc, &options.dir),
-        patch: patch_file(alloc, options).unwrap_or(None),
+        patch: patch_file(alloc, options),
+        file: named(alloc, options, &options.file),
+        output: named(alloc, options, &options.output),
+        rejects: named(alloc, options, &options.reject),
+        has_input: true,
     }
 }
 
@@ -43,10 +54,25 @@ fn copied(alloc: Global, text: &str) -> Option<String> {
 }
 
 /// The file of the patch text, below the directory.
-fn patch_file(alloc: Global, options: &Options) -> Result<Option<Name>, AllocError> {
+fn patch_file(alloc: Global, options: &Options) -> Option<Name> {
     match &options.input {
-        Input::File(file) => Ok(Some(below(alloc, options, file)?)),
-        Input::Standard => Ok(None),
+        Input::File(file) => placed(alloc, options, file),
+        Input::Standard => None,
+    }
+}
+
+/// A file that the words may name, below the directory.
+fn named(alloc: Global, options: &Options, name: &Option<Name>) -> Option<Name> {
+    match name {
+        Some(name) => placed(alloc, options, name),
+        None => None,
+    }
+}
+
+fn placed(alloc: Global, options: &Options, name: &Name) -> Option<Name> {
+    match below(alloc, options, name) {
+        Ok(name) => Some(name),
+        Err(_) => None,
     }
 }
 

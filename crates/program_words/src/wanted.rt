@@ -96,14 +96,22 @@ fn parts_behind(word: &str, place: usize) -> Option<(&str, &str)> {
 }
 
 fn takes_value(table: &'static [Group], letter: char) -> bool {
+    match form_of(table, letter) {
+        Some(form) => is_valued(form),
+        None => false,
+    }
+}
+
+/// The form of the option that has the letter.
+fn form_of(table: &'static [Group], letter: char) -> Option<WordForm> {
     for group in table {
         for word in group.words {
             if word.letter == Some(letter) {
-                return is_valued(word.form);
+                return Some(word.form);
             }
         }
     }
-    false
+    None
 }
 
 fn is_valued(form: WordForm) -> bool {
@@ -111,4 +119,50 @@ fn is_valued(form: WordForm) -> bool {
         WordForm::Value | WordForm::Values => true,
         WordForm::Switch | WordForm::Letter | WordForm::Operand => false,
     }
+}
+
+/// Whether the tool has the option of this word, or those of its letters up to the first that takes what follows as its value.
+pub fn is_known(tool: &str, word: &str) -> bool {
+    match word.strip_prefix("--") {
+        Some(name) => has_name(table_of(tool), in_front_of_sign(name)),
+        None => has_letters(table_of(tool), word),
+    }
+}
+
+fn in_front_of_sign(name: &str) -> &str {
+    match name.split_once('=') {
+        Some((name, _)) => name,
+        None => name,
+    }
+}
+
+fn has_name(table: &'static [Group], name: &str) -> bool {
+    for group in table {
+        for word in group.words {
+            if word.name == name && is_long(word.form) {
+                return true;
+            }
+        }
+    }
+    false
+}
+
+fn is_long(form: WordForm) -> bool {
+    match form {
+        WordForm::Switch | WordForm::Value | WordForm::Values => true,
+        WordForm::Letter | WordForm::Operand => false,
+    }
+}
+
+/// Whether the letters behind the hyphen are those of options.
+fn has_letters(table: &'static [Group], word: &str) -> bool {
+    let letters = word.strip_prefix('-').unwrap_or(word);
+    for letter in letters.chars() {
+        match form_of(table, letter) {
+            Some(form) if is_valued(form) => return true,
+            Some(_) => {}
+            None => return false,
+        }
+    }
+    true
 }

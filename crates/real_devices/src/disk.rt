@@ -2,6 +2,7 @@
 ghost use Rattle.outside.specs.Silent.{silent_tree};
 
 use crate::faults::Faults;
+use crate::line_ends::LineEnds;
 use crate::passed::Passed;
 use outside::{Failed, Name, Tree};
 use real_files::{OpenFiles, Path, Trouble};
@@ -22,6 +23,12 @@ pub struct Places {
     pub root: Option<String>,
     /// The file of its patch text, where that is one.
     pub patch: Option<Name>,
+    /// The file to be patched, the output and the reject file, where the words name them.
+    pub file: Option<Name>,
+    pub output: Option<Name>,
+    pub rejects: Option<Name>,
+    /// Whether a patch text may come from standard input.
+    pub has_input: bool,
 }
 
 /// The files, and the count of their faults. It tells no content.
@@ -31,17 +38,19 @@ pub struct Disk<'r, R: Files<File = File>> {
     faults: Faults,
     places: Places,
     passed: Passed,
+    ends: LineEnds,
 }
 
 impl<'r, R: Files<File = File>> Disk<'r, R> {
     /// The tree of a stack of patches has saves, whose rights have rules of their own. Where the operator gives the directory
-    /// that a run works in, nothing begins unless it is there.
+    /// that a run works in, nothing begins unless it is there, nor where a directory stands in place of a file that the words name.
     pub fn new(alloc: Global, rt: &'r R, places: Places) -> Disk<'r, R> {
         Disk {
             files: OpenFiles::new(alloc, rt, places.is_stack),
             faults: Faults::new(alloc),
             places,
             passed: Passed::new(alloc),
+            ends: LineEnds::new(alloc),
         }
     }
 
@@ -57,12 +66,17 @@ impl<'r, R: Files<File = File>> Disk<'r, R> {
 
     /// The name of the last file that was looked for and isn't there, and why, as `d/n: not found`.
     pub fn missing(&self) -> Result<Option<String>, AllocError> {
-        self.files.missing(self.places.is_stack)
+        self.files.missing(self.places.has_input)
     }
 
     /// What is kept of the patch text that was read last.
     pub fn passed(&self) -> &Passed {
         &self.passed
+    }
+
+    /// How the lines of the files end that were read to be patched.
+    pub fn ends(&self) -> &LineEnds {
+        &self.ends
     }
 
     /// A file of up to 1 MiB, where it is there. No fault is counted, so it is asked behind a run.
@@ -110,10 +124,60 @@ fn see(passed: &mut Passed, is_patch: bool, read: &io::Result<usize>, buf: &[u8]
     }
 }
 
+/// Whether the file may be one that is patched: it has no patch text, and keeps nothing of a stack.
+fn is_patched(places: &Places, name: &str) -> bool {
+    let is_kept = name.starts_with("patches/") || name.starts_with(".pc/");
+    !is_patch(places, name) && !(places.is_stack && is_kept)
+}
+
+/// Notes how the first line ends that was read of a file which may be patched.
+fn note_ends(
+    ends: &mut LineEnds,
+    is_front: bool,
+    name: &str,
+    read: &io::Result<usize>,
+    buf: &[u8],
+) {
+    if let (true, Ok(count)) = (is_front, read) {
+        ends.note(name, buf.get(..*count).unwrap_or(&[]));
+    }
+}
+
 fn text_of(root: &Option<String>) -> &str {
     match root {
         Some(root) => root.as_str(),
         None => ".",
+    }
+}
+
+/// Whether a run can begin, and the name that is meant: its directory is there, and no directory, pipe or device stands in place of
+/// a file that the words name. What stands in place of a reject file matters only once there are rejects, but for a directory.
+fn begun<'a, R: Files<File = File>>(
+    files: &OpenFiles<'_, R>,
+    places: &'a Places,
+) -> (&'a str, io::Result<()>) {
+    if let Err(error) = files.find_root(&places.root) {
+        return (text_of(&places.root), Err(error));
+    }
+    let file = found(files, &places.file, true);
+    if file.1.is_err() {
+        return file;
+    }
+    let output = found(files, &places.output, true);
+    if output.1.is_err() {
+        return output;
+    }
+    found(files, &places.rejects, false)
+}
+
+fn found<'a, R: Files<File = File>>(
+    files: &OpenFiles<'_, R>,
+    name: &'a Option<Name>,
+    is_needed: bool,
+) -> (&'a str, io::Result<()>) {
+    match name {
+        Some(name) => (name.text(), files.find_given(Path::of(name), is_needed)),
+        None => (".", Ok(())),
     }
 }
 
@@ -124,10 +188,11 @@ impl<'r, R: Files<File = File>> Tree for Disk<'r, R> {
 
     ghost told_may_stay = { λ d f is. absurd (none-some f is) };
 
-    /// That the tree is settled when a run begins is a premise over real files: all that is looked for is its directory.
+    /// That the tree is settled when a run begins is a premise over real files: all that is looked for is its directory, and what
+    /// stands at the names that the words give.
     fn settle(&mut self) -> Result<(), Failed> {
-        let done = self.files.find_root(&self.places.root);
-        self.faults.answer(text_of(&self.places.root), done)
+        let (name, done) = begun(&self.files, &self.places);
+        self.faults.answer(name, done)
     }
 
     fn size(&mut self, name: &Name) -> Result<Option<u64>, Failed> {
@@ -140,6 +205,8 @@ impl<'r, R: Files<File = File>> Tree for Disk<'r, R> {
         let done = self.files.read_at(Path::of(name), at, buf);
         let is_patch = at == 0 && is_patch(&self.places, name.text());
         see(&mut self.passed, is_patch, &done, buf);
+        let is_front = at == 0 && is_patched(&self.places, name.text());
+        note_ends(&mut self.ends, is_front, name.text(), &done, buf);
         self.faults.answer(name.text(), done)
     }
 

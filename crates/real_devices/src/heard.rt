@@ -8,6 +8,9 @@ const SKIPPED: &str = "\nSkipping patch.\n";
 /// What stands in front of the name of a reject file.
 const REJECTS: &[u8] = b" FAILED -- saving rejects to file ";
 
+/// How a line ends that tells of failed hunks and of no reject file.
+const FAILED: &[u8] = b" FAILED\n";
+
 /// None of these pieces has more bytes.
 const LONGEST: usize = 100;
 
@@ -17,6 +20,8 @@ pub struct Heard {
     pub no_file: Option<u64>,
     /// Whether a reject file was named.
     pub rejects: bool,
+    /// Whether a hunk failed.
+    pub failed: bool,
 }
 
 impl Heard {
@@ -24,6 +29,7 @@ impl Heard {
         Heard {
             no_file: None,
             rejects: false,
+            failed: false,
         }
     }
 
@@ -34,6 +40,10 @@ impl Heard {
         }
         if piece.ends_with(REJECTS) {
             self.rejects = true;
+            self.failed = true;
+        }
+        if piece.ends_with(FAILED) {
+            self.failed = true;
         }
         if self.no_file.is_none() {
             self.no_file = line_in(piece);

@@ -4,6 +4,7 @@
 mod disk;
 mod faults;
 mod heard;
+mod line_ends;
 mod modes;
 mod pages;
 mod passed;
@@ -11,6 +12,7 @@ mod streams;
 
 pub use disk::{Disk, Places};
 pub use heard::Heard;
+pub use line_ends::LineEnds;
 pub use pages::Pages;
 pub use passed::Passed;
 pub use real_files::{Trouble, missing_text};

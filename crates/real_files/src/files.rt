@@ -11,7 +11,7 @@ use crate::missing::Missing;
 use crate::origins::{Origin, origin_of, started, usual};
 use crate::paths::{
     Path, find_directory, first_parts, no_file, plain, replaceable, replaceable_here, target_of,
-    way_of,
+    usable, way_of,
 };
 use crate::reading::{Reading, Seen};
 use crate::rights::Rights;
@@ -62,6 +62,12 @@ impl<'r, R: Files<File = File>> OpenFiles<'r, R> {
         }
     }
 
+    /// Whether a run can begin to which the words give this file: a directory there is an error, and so is a pipe or a device
+    /// where the file is needed.
+    pub fn find_given(&self, name: Path<'_>, is_needed: bool) -> io::Result<()> {
+        usable(self.rt, name, is_needed)
+    }
+
     pub fn size(&mut self, name: Path<'_>) -> io::Result<Option<u64>> {
         self.writing.write_out(name.text)?;
         let found = self.look(name)?;
@@ -76,8 +82,8 @@ impl<'r, R: Files<File = File>> OpenFiles<'r, R> {
     }
 
     /// The name of the last file whose size was asked and that isn't there, and why.
-    pub fn missing(&self, is_stack: bool) -> Result<Option<String>, AllocError> {
-        self.missing.text(self.alloc, self.rt, is_stack)
+    pub fn missing(&self, has_input: bool) -> Result<Option<String>, AllocError> {
+        self.missing.text(self.alloc, self.rt, has_input)
     }
 
     pub fn read_at(&mut self, name: Path<'_>, at: u64, buf: &mut [u8]) -> io::Result<usize>

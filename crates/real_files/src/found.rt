@@ -41,6 +41,7 @@ pub struct Found {
     pub is_there: bool,
     pub is_file: bool,
     pub is_directory: bool,
+    pub is_link: bool,
     pub identity: Identity,
     pub rights: Rights,
     pub length: u64,
@@ -54,6 +55,7 @@ impl Found {
             is_there: false,
             is_file: false,
             is_directory: false,
+            is_link: false,
             identity: Identity::here(),
             rights: Rights::none(),
             length: 0,
@@ -66,11 +68,30 @@ impl Found {
             is_there: true,
             is_file: found.is_file(),
             is_directory: found.is_dir(),
+            is_link: found.is_symlink(),
             identity: Identity::of(found),
             rights: Rights::of(found),
             length: found.len(),
             within: Identity::here(),
         }
+    }
+
+    /// What is told of what stands there, where that is no regular file.
+    pub fn kind(self) -> &'static str {
+        if self.is_directory {
+            "is a directory"
+        } else if self.is_link {
+            "is a symbolic link"
+        } else if self.is_there {
+            "not a regular file"
+        } else {
+            "not found"
+        }
+    }
+
+    /// Whether it is a pipe or a device.
+    pub fn is_special(self) -> bool {
+        self.is_there && !self.is_file && !self.is_directory && !self.is_link
     }
 }
 

@@ -1,18 +1,18 @@
 //! The file that was looked for last and isn't there, for the line that says which it is.
 
 use crate::found::Found;
-use crate::paths::{Path, found_at};
+use crate::paths::{Path, found_at, way_of};
 use crate::trouble::Trouble;
 use outside::Name;
 use std::alloc::{AllocError, Global};
 use std::io;
 use std::rt::Files;
 
-/// What is told where something else than a regular file stands.
-const NO_FILE: &str = "not a regular file";
-
-/// The same where standard input may be read in its place.
+/// What is told of a pipe or a device, where standard input may be read in its place.
 const NO_PIPE: &str = "not a regular file; anything else is only read as standard input";
+
+/// What is told of a regular file that isn't reached through directories alone.
+const NO_WAY: &str = "a symbolic link is on the way to it, and isn't followed";
 
 #[derive(Drop)]
 pub struct Missing {
@@ -35,12 +35,12 @@ impl Missing {
         let _ = self.name.push_str(name.text);
     }
 
-    /// The name, and why no file is read there. The files of a stack are never read from standard input.
+    /// The name, and why no file is read there, of a tool that may read standard input in its place.
     pub fn text<R: Files>(
         &self,
         alloc: Global,
         rt: &R,
-        is_stack: bool,
+        has_input: bool,
     ) -> Result<Option<String>, AllocError> {
         if self.name.is_empty() {
             return Ok(None);
@@ -49,45 +49,54 @@ impl Missing {
             text: self.name.as_str(),
             given: self.given,
         };
-        text_at(alloc, rt, path, if is_stack { NO_FILE } else { NO_PIPE })
+        text_at(alloc, rt, path, has_input)
     }
 }
 
-/// A name, and why no file is read there, as `d/n: not found`: what stands there is no regular file, as a directory or a pipe;
-/// the system doesn't let it be looked at; or nothing is there. Where a regular file is there, it is nothing.
+/// A name, and why no file is read there, as `d/n: not found`: what stands there is no regular file, as a directory, a link or a
+/// pipe; a link is on the way; the system doesn't let it be looked at; or nothing is there. Where a regular file is there, it is
+/// nothing.
 pub fn missing_text<R: Files>(
     alloc: Global,
     rt: &R,
     name: &Name,
 ) -> Result<Option<String>, AllocError> {
-    text_at(alloc, rt, Path::of(name), NO_FILE)
+    text_at(alloc, rt, Path::of(name), false)
 }
 
 fn text_at<R: Files>(
     alloc: Global,
     rt: &R,
     path: Path<'_>,
-    no_pipe: &str,
+    has_input: bool,
 ) -> Result<Option<String>, AllocError> {
     let name = path.text;
     match found_at(rt, path) {
-        Ok(found) if found.is_file => Ok(None),
+        Ok(found) if found.is_file && is_open(rt, path) => Ok(None),
         Ok(found) => {
-            let what = kind_of(found, no_pipe);
+            let what = kind_of(found, has_input);
             Ok(Some(format!(in alloc; "{name}: {what}")?))
         }
         Err(error) => Ok(Some(trouble_text(alloc, name, error)?)),
     }
 }
 
-/// What stands there, where that is no regular file.
-fn kind_of(found: Found, no_pipe: &str) -> &str {
-    if found.is_directory {
-        NO_FILE
-    } else if found.is_there {
-        no_pipe
+/// Whether the path goes through directories alone.
+fn is_open<R: Files>(rt: &R, path: Path<'_>) -> bool {
+    match way_of(rt, path) {
+        Ok(way) => way.is_open,
+        Err(_) => false,
+    }
+}
+
+/// Why what stands there isn't read.
+fn kind_of(found: Found, has_input: bool) -> &'static str {
+    if found.is_file {
+        NO_WAY
+    } else if has_input && found.is_special() {
+        NO_PIPE
     } else {
-        "not found"
+        found.kind()
     }
 }
 

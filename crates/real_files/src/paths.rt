@@ -183,7 +183,26 @@ pub fn replaceable<R: Files>(rt: &R, path: Path<'_>) -> io::Result<()> {
 /// The same in a directory that was seen to be one.
 pub fn replaceable_here<R: Files>(rt: &R, path: Path<'_>) -> io::Result<()> {
     match found_itself(rt, path.text) {
-        Ok(found) if found.is_there && !found.is_file => Err(not_a_file()),
+        Ok(found) if found.is_there && !found.is_file => Err(not_a_file(found)),
+        Ok(_) => Ok(()),
+        Err(error) => Err(error),
+    }
+}
+
+/// Whether a run can begin to which the words give the file at this path. A directory there is an error, and so is a pipe or a
+/// device where the file is needed. A link isn't followed, so it counts as no file, and so does what can't be reached.
+pub fn usable<R: Files>(rt: &R, path: Path<'_>, is_needed: bool) -> io::Result<()> {
+    match found_itself(rt, path.text) {
+        Ok(found) if found.is_directory => Err(not_a_file(found)),
+        Ok(found) if is_needed && found.is_special() => Err(not_a_file(found)),
+        Ok(_) => Ok(()),
+        Err(error) => reachable(error),
+    }
+}
+
+/// The error, unless it says that something can't be reached.
+fn reachable(error: io::Error) -> io::Result<()> {
+    match out_of_reach(error) {
         Ok(_) => Ok(()),
         Err(error) => Err(error),
     }
@@ -202,9 +221,9 @@ pub fn no_file() -> io::Error {
     io::Error::new(ErrorKind::NotFound, "No such file or directory")
 }
 
-/// The answer where something else than a regular file would be replaced.
-fn not_a_file() -> io::Error {
-    io::Error::new(ErrorKind::AlreadyExists, "Not a regular file")
+/// The answer where this stands in place of a regular file.
+fn not_a_file(found: Found) -> io::Error {
+    io::Error::new(ErrorKind::AlreadyExists, found.kind())
 }
 
 /// The answer where something on the way is no directory.
