@@ -77,9 +77,9 @@ pub fn wants_value(lines: &mut Lines, front: &[String], option: &str) -> bool {
 
 fn put_value(lines: &mut Lines, tool: &str, option: &str, value: &str) {
     put_wants(lines, tool, option);
-    lines.put(", and ");
+    lines.put("; ");
     lines.put_quoted(value);
-    lines.put(" stands behind it\n");
+    lines.put(" isn't taken\n");
 }
 
 fn put_wants(lines: &mut Lines, tool: &str, option: &str) {

@@ -4,6 +4,8 @@ use crate::cut::put_cut;
 use crate::line_ends::put_line_ends;
 use crate::lines::Lines;
 use crate::modes::{Taking, put_modes};
+use crate::quotes::put_quotes;
+use crate::ranges::put_ranges;
 use crate::skipped::{put_skipped, put_stack_skipped};
 use patch_options::{Job, Options, read_words};
 use real_devices::{Heard, LineEnds, Passed};
@@ -18,9 +20,9 @@ pub struct Ended<'a> {
     pub ends: &'a LineEnds,
 }
 
-/// That the text is cut in its last line, which modes aren't carried out, and of what was left out that lines end otherwise than
-/// those of the patch, why no file was found, and that a stack keeps no reject files. Nothing is said where the run was refused, but of a text of modes alone, which has no
-/// file patch.
+/// That the text is cut in its last line, that a line of it opens no hunk though it looks so, that a name stands in quotes, and which
+/// modes aren't carried out; of what was left out, that lines end otherwise than those of the patch, why no file was found, and that a
+/// stack keeps no reject files. Where the run was refused, something is said only of a text without a file patch.
 pub fn put_texts<R: Files>(
     lines: &mut Lines,
     rt: &R,
@@ -58,7 +60,10 @@ fn put_of_patch<R: Files>(
             put_ends(lines, "patch", ended, passed);
             put_skipped(lines, rt, options, ended.heard, passed);
         }
-        Why::Garbage => put_modes(lines, "patch", taking, passed),
+        Why::Garbage => {
+            put_ranges(lines, "patch", passed.front());
+            put_modes(lines, "patch", taking, passed);
+        }
         _ => {}
     }
 }
@@ -72,6 +77,8 @@ fn put_ends(lines: &mut Lines, tool: &str, ended: Ended<'_>, passed: &Passed) {
 
 fn put_taken(lines: &mut Lines, taking: Taking, passed: &Passed) {
     put_cut(lines, passed);
+    put_ranges(lines, "patch", passed.front());
+    put_quotes(lines, "patch", passed.front());
     put_modes(lines, "patch", taking, passed);
 }
 
@@ -87,7 +94,7 @@ fn put_of_stack(lines: &mut Lines, words: &[String], ended: Ended<'_>, passed: &
     }
 }
 
-/// The modes of a stack's patches, which are taken as with `-p1`. It gives none where it pops.
+/// What is said of a stack's patches, which are taken as with `-p1`. Nothing is where it pops.
 fn put_pushed(lines: &mut Lines, words: &[String], passed: &Passed) {
     let taking = Taking {
         strip: Some(1),
@@ -95,6 +102,8 @@ fn put_pushed(lines: &mut Lines, words: &[String], passed: &Passed) {
     };
     match words {
         [_, operation] if operation.as_str() == "push" => {
+            put_ranges(lines, "patchstack", passed.front());
+            put_quotes(lines, "patchstack", passed.front());
             put_modes(lines, "patchstack", taking, passed)
         }
         _ => {}

@@ -16,6 +16,8 @@ mod modes;
 mod names;
 mod pattern;
 mod places;
+mod quotes;
+mod ranges;
 mod skipped;
 mod state;
 mod unfit;

@@ -91,3 +91,14 @@ impl Lines {
 pub fn is_feed(byte: &u8) -> bool {
     *byte == b'\n'
 }
+
+/// The number of the line, from 1, in front of which a line feed of the text stands.
+pub fn number_behind(text: &[u8], feed: usize) -> u64 {
+    let mut number = 2u64;
+    for byte in text.get(..feed).unwrap_or(text) {
+        if is_feed(byte) {
+            number = number.saturating_add(1);
+        }
+    }
+    number
+}

@@ -11,15 +11,25 @@ const NO_WAY_BACK: &str =
 const NO_COMMANDS: &str =
     "hunks out of order, or in the form of ed a last line without a line feed, can't be written so";
 
+const ORDER: &str = "the hunks of a file have to stand in the order of its lines";
+
+/// What helps where the numbers of a range line may be wrong, and what that does where they aren't.
+const COUNTS: &str = "if the numbers of its '@@' line are wrong, recountdiff mends them";
+
+const MARK: &str =
+    "if the numbers of its '@@' line are wrong, recountdiff mends them; if the line lost its mark (a space, '+' or '-'), mend it by hand";
+
+const END: &str =
+    "if the numbers of its '@@' line are wrong, recountdiff mends them; if the text is cut, its end is missing then too";
+
 /// What helps with a malformed text, where something does.
 pub fn put_malformed(lines: &mut Lines, tool: &str, kind: BadKind) {
     match kind {
         BadKind::Binary => put_binary(lines, tool),
-        BadKind::Mark | BadKind::Count | BadKind::ShortEnd if tool != "recountdiff" =>
-            lines.put_line(
-                tool,
-                "if the numbers of its '@@' line are wrong, recountdiff mends them",
-            ),
+        BadKind::HunkOrder => lines.put_line(tool, ORDER),
+        BadKind::Count if tool != "recountdiff" => lines.put_line(tool, COUNTS),
+        BadKind::Mark if tool != "recountdiff" => lines.put_line(tool, MARK),
+        BadKind::ShortEnd if tool != "recountdiff" => lines.put_line(tool, END),
         _ => {}
     }
 }
