@@ -23,13 +23,22 @@ use Rattle.target_names.specs.declared.derived.Target.{Target}
 use Rattle.patch_set.specs.declared.set.Row.{Row}
 use Rattle.patch_run.specs.declared.apply.Done.{Done}
 use Rattle.patch_effects.specs.declared.placed.Made.{Made}
-use Rattle.patch_run.specs.OnePatch.{PlainTurn, Tried, bytes_of, tried, some_failed, is_kept, finished, effects_of, tried_said, wrote}
+use Rattle.patch_task.specs.TaskView.{with_past}
+use Rattle.patch_run.specs.OnePatch.{Mark, PlainTurn, Tried, bytes_of, output_on, tried, some_failed, is_kept, finished, effects_of, tried_said, wrote}
 use Rattle.patch_run.specs.Run.{cleared}
 use Rattle.patch_effects.specs.Making.{IsGone, IsPart, Makes}
 use Rattle.patch_effects.specs.Named.{IsNamed}
 use Rattle.patch_run.specs.Doing.{IsPartOf, IsWholeOf, IsDone, IsOutcome, IsMadeWhole, IsOrdered}
 use Rattle.patch_outcome.proofs.Moving.{works_made}
 use Rattle.patch_effects.proofs.EffectLists.{after_all-at, made_both, leaves_after, tells_after}
+
+-- the marks of those before it don't change what is written of the hunks
+output_behind : (o : Option (List ℕ)) (past : List Mark) (t : PlainTurn) (side : Side) (ls : List (List ℕ)) → output_on o t side ls ≡ output_on o (with_past past t) side ls
+output_behind None past t side ls = refl
+output_behind (Some define) past t side ls = refl
+
+pub held_behind : (past : List Mark) (t : PlainTurn) (side : Side) (ls : List (List ℕ)) (u : TreeView) (temp : List ℕ) → Holds u temp (tried t side ls).output → Holds u temp (tried (with_past past t) side ls).output
+held_behind past t side ls u temp = subst (λ (b : List ℕ). Holds u temp b) (output_behind t.options.define past t side ls)
 
 effects-same : (t : PlainTurn) (f g : Files) (s w : Target) (x : Tried) → get g s.name ≡ get f s.name → get g w.name ≡ get f w.name → effects_of t g s w x ≡ effects_of t f s w x
 unfolding effects_of

@@ -8,8 +8,9 @@ use Rattle.target_names.specs.declared.derived.Target.{Target}
 use Rattle.patch_effects.specs.declared.fault.RunFault.{RunFault}
 use Rattle.patch_run.specs.OnePatch.{bytes_of, lines_in, written, effects_of, tried, tried_said, finished, finished_at}
 use Rattle.patch_run.specs.Doing.{IsDone, IsPartOf, IsOrdered}
+use Rattle.patch_task.specs.TaskView.{plain_task}
 use Rattle.patch_outcome.specs.TurnView.{plain_turn}
-use Rattle.patch_run.proofs.Applying.{on_err, if_err, if_any, unmade, part_worked, tried_breaks, tried_ordered, tried_done}
+use Rattle.patch_run.proofs.Applying.{held_behind, on_err, if_err, if_any, unmade, part_worked, tried_breaks, tried_ordered, tried_done}
 use Rattle.patch_outcome.proofs.Moving.{works_made}
 use Rattle.patch_effects.specs.Making.{IsTidy}
 use Rattle.patch_effects.proofs.Tidy.{attempt_tidy, passed_tidy}
@@ -46,7 +47,7 @@ returns-in_err-made-clause-broken g c =
     let x = tried t c.args.side ls in
     subst (λ (y : Target). IsPartOf u z d e (effects_of t f y (written t c.args.place) x) (tried_said t (written t c.args.place) x)) c.chosen-source.ensures.target
     (subst (λ (y : Target). IsPartOf u z d e (effects_of t f s y x) (tried_said t y x)) c.written-target.ensures.target
-    (tried_breaks t f s w c.args.side ls c.in_ok-attempt.attempt.session c.try_hunks.new.verdicts c.chosen-source.ensures.named c.written-target.ensures.named tries.works told (tries.verdicts ls plan) (tries.session ls plan) (tries.holds ls plan)
+    (tried_breaks t f s w c.args.side ls c.in_ok-attempt.attempt.session c.try_hunks.new.verdicts c.chosen-source.ensures.named c.written-target.ensures.named tries.works told (tries.verdicts ls plan) (tries.session ls plan) (λ wet. held_behind t.past (plain_task c.args.turn.now.task) c.args.side ls (g.T.Tree.view c.try_hunks.new.tree) w.temp (tries.holds ls plan wet))
     c.in_err-made.ensures.tree c.in_err-made.ensures.broken)))
 
 pub returns-clause-whole : goal.returns-clause-whole
@@ -64,7 +65,7 @@ returns-clause-whole g c f told plan =
     let same : (h : Files) → (g.T.Tree.view c.try_hunks.new.tree).told ≡ Some h → t.options.dry_run ≡ true → h ≡ f = λ h now dry. same_Some h f (sym now ∙ ap (λ s. (g.T.Tree.view s).told) (tries.dry dry) ∙ told) in
     subst (λ (y : Target). IsDone u z d e c.done_of.result c.try_hunks.new.verdicts f (finished t f [] c.args.place (bytes_of t f c.args.place) y (written t c.args.place) x)) c.chosen-source.ensures.target
     (subst (λ (y : Target). IsDone u z d e c.done_of.result c.try_hunks.new.verdicts f (finished t f [] c.args.place (bytes_of t f c.args.place) s y x)) c.written-target.ensures.target
-    (tried_done t f s w c.args.side ls c.in_ok-attempt.attempt.session c.try_hunks.new.verdicts c.chosen-source.ensures.named c.written-target.ensures.named tries.works told (tries.verdicts ls plan) (tries.session ls plan) (tries.holds ls plan)
+    (tried_done t f s w c.args.side ls c.in_ok-attempt.attempt.session c.try_hunks.new.verdicts c.chosen-source.ensures.named c.written-target.ensures.named tries.works told (tries.verdicts ls plan) (tries.session ls plan) (λ wet. held_behind t.past (plain_task c.args.turn.now.task) c.args.side ls (g.T.Tree.view c.try_hunks.new.tree) w.temp (tries.holds ls plan wet))
     c.args.place c.in_ok-made.made c.done_of.result same c.in_ok-made.ensures.whole c.done_of.ensures.row c.done_of.ensures.bad c.done_of.ensures.effects))
 
 pub returns-in_err-attempt-clause-dry : goal.returns-in_err-attempt-clause-dry
@@ -105,7 +106,7 @@ returns-in_err-made-clause-order g c =
     fault c.from_residual-in_err-made.result c.from_residual-in_err-made.ensures.1 (λ f told plan.
     let ls = lines_in (bytes_of t f c.args.place) in
     subst (λ (y : Target). IsOrdered fault u z d e (tried_said t y (tried t c.args.side ls))) c.written-target.ensures.target
-    (tried_ordered t f s w c.args.side ls c.in_ok-attempt.attempt.session c.try_hunks.new.verdicts c.chosen-source.ensures.named c.written-target.ensures.named tries.works told (tries.verdicts ls plan) (tries.session ls plan) (tries.holds ls plan)
+    (tried_ordered t f s w c.args.side ls c.in_ok-attempt.attempt.session c.try_hunks.new.verdicts c.chosen-source.ensures.named c.written-target.ensures.named tries.works told (tries.verdicts ls plan) (tries.session ls plan) (λ wet. held_behind t.past (plain_task c.args.turn.now.task) c.args.side ls (g.T.Tree.view c.try_hunks.new.tree) w.temp (tries.holds ls plan wet))
     d e fault c.in_err-made.ensures.tree c.in_err-made.ensures.order))
 
 pub returns-in_err-attempt-clause-tidy : goal.returns-in_err-attempt-clause-tidy
