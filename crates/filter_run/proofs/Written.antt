@@ -1,5 +1,5 @@
 -- From what was read, and what was written of it, to what a filter promises.
-use Rattle.std.proofs.Common.{◌≡◌, ◌≢◌, inl, inr, ℕ, Bool, true, false, List, [], ◌∷◌, Option, None, Some, Result, Ok, Err, IfErr, OnOk, OnErr, refl, sym, ◌∙◌}
+use Rattle.std.proofs.Common.{◌≡◌, ◌≢◌, inl, inr, ℕ, Bool, false, List, [], ◌∷◌, Option, None, Some, Result, Ok, Err, IfErr, OnOk, OnErr, refl, sym, ◌∙◌}
 use Rattle.std.specs.Prelude.{IfSome}
 use Rattle.std.proofs.lemmas.Bool.{false≢true}
 use Rattle.outside.specs.Files.{Files}
@@ -21,7 +21,7 @@ use Rattle.patch_filters.specs.Grepped.{HasGrepCause, grepped}
 use Rattle.filter_run.specs.Faults.{of_grep, of_search, of_sink}
 use Rattle.whole_filters.specs.Outcomes.{Outcome, given}
 use Rattle.filter_run.specs.Outcomes.{HasPatches, IsGrepped, grep_with}
-use Rattle.whole_filters.specs.Sifting.{AnswersFault, HasCause, HasTextCause, IsTold, Sifts, is_early, is_refusal}
+use Rattle.whole_filters.specs.Sifting.{HasCause, HasTextCause, IsTold, Sifts, is_early, is_refusal}
 use Rattle.whole_filters.specs.Opened.{IsGarbage, IsReadOf, IsRefused, IsSet, HasOpeningCause, Opens}
 use Rattle.whole_filters.proofs.Unwritten.{answers-none}
 use Rattle.filter_run.proofs.Coming.{Comes, ComesBy, grepped-is, some-there}

@@ -32,24 +32,8 @@ pub fn run_convert<T: Tree, I: Source, O: Sink>(
     ensures rest { O.same_rest out.old out.new }
 {
     let mut job = job;
-    convert_given(alloc, &mut job, form, tree, source, out)
-}
-
-/// The same for a job that gets the patterns of its files.
-fn convert_given<T: Tree, I: Source, O: Sink>(
-    alloc: Global,
-    job: &mut FilterJob,
-    form: Form,
-    tree: &mut T,
-    source: &mut I,
-    out: &mut O,
-) -> Result<(), FormFault>
-    ensures forms { Forms form (plain_filter_job job.old) (T.view tree.old) (T.view tree.new) (I.view source.old) (I.view source.new) (O.view out.old) (O.view out.new) result }
-    ensures unread { IsFile job.old.input → source.new ≡ source.old }
-    ensures rest { O.same_rest out.old out.new }
-{
     match open_text(alloc, &job.input, &mut job.select, tree, source) {
-        Ok(opened) => form_answer(put_converted(&opened, job, form, out)),
+        Ok(opened) => form_answer(put_converted(&opened, &job, form, out)),
         Err(fault) => Err(FormFault::Filter(fault)),
     }
 }
