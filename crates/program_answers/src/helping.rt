@@ -1,0 +1,68 @@
+//! The lines behind the line of a run's answer, which help whoever called the program.
+
+use program_words::{
+    Ended, Lines, put_behind, put_patch, put_pattern, put_state, put_texts, put_usage,
+};
+use real_devices::{Disk, Input, Output, Pages, Passed};
+use run_answers::Why;
+use std::alloc::AllocError;
+use std::fs::File;
+use std::io::{Read, Write};
+use std::rt::Files;
+
+/// Puts them. The devices are those of the run.
+pub fn put_help<R: Files<File = File>, I: Read + Drop, O: Write + Drop>(
+    lines: &mut Lines,
+    rt: &R,
+    tool: &str,
+    words: &[String],
+    why: Why,
+    tree: &mut Disk<'_, R>,
+    input: &Input<I>,
+    pages: &Pages<'_, R>,
+    out: &Output<O>,
+) {
+    put_patch(lines, tool, why, tree.passed());
+    match why {
+        Why::Done | Why::Rejected | Why::Garbage => {
+            let ended = Ended {
+                why,
+                heard: out.heard(),
+                ends: tree.ends(),
+            };
+            put_of_text(lines, rt, tool, words, ended, tree.passed(), input.passed());
+        }
+        Why::Usage => put_usage(lines, tool, words),
+        Why::NoPatchFile => put_missing(lines, tool, tree.missing()),
+        Why::BadPattern => put_pattern(lines, tool, words),
+        Why::BadState { file } => put_state(lines, tool, tree, file),
+        Why::TreeFault => put_behind(lines, tool, why, tree.trouble()),
+        Why::ScratchFault => put_behind(lines, tool, why, pages.trouble()),
+        Why::ReadFault => put_behind(lines, tool, why, input.trouble()),
+        _ => put_behind(lines, tool, why, out.trouble()),
+    }
+}
+
+/// The lines behind a run over a patch text that was taken, from a file or else from standard input.
+fn put_of_text<R: Files>(
+    lines: &mut Lines,
+    rt: &R,
+    tool: &str,
+    words: &[String],
+    ended: Ended<'_>,
+    of_file: &Passed,
+    of_input: &Passed,
+) {
+    if of_file.is_empty() {
+        put_texts(lines, rt, tool, words, ended, of_input);
+    } else {
+        put_texts(lines, rt, tool, words, ended, of_file);
+    }
+}
+
+/// Which file wasn't found that was to be read, and why.
+fn put_missing(lines: &mut Lines, tool: &str, text: Result<Option<String>, AllocError>) {
+    if let Ok(Some(text)) = text {
+        lines.put_line(tool, text.as_str());
+    }
+}

@@ -1,0 +1,13 @@
+//! From the words that the program was called with to its exit status: what was asked is told, or the words are carried out over real
+//! devices, and what helps is written behind the answer.
+#![tactic(auto)]
+
+mod asking;
+mod carrying;
+mod helping;
+mod outputs;
+mod refusing;
+mod runner;
+
+pub use asking::answer;
+pub use runner::Runner;
