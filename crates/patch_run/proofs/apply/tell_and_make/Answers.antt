@@ -1,5 +1,7 @@
 use Rattle.std.proofs.Common.{inl, Option, None, sym, ◌∙◌, subst}
 use Rattle.std.proofs.lemmas.Bool.{false≢true}
+use Rattle.std.proofs.lemmas.Result.{IfErr-weaker, on_ok_weaker}
+use Rattle.outside.specs.TreeView.{passes_none}
 use Rattle.outside.specs.Calls.{untouched_none}
 use Rattle.outside.proofs.Effects.{made_none}
 use Rattle.outside.proofs.Exits.{if_ok_none, on_ok_none}
@@ -8,7 +10,7 @@ use Rattle.patch_effects.specs.declared.fault.RunFault.{RunFault}
 use Rattle.patch_run.specs.OnePatch.{Tried, tried_said}
 use Rattle.patch_outcome.specs.TurnView.{plain_turn}
 use Rattle.patch_attempt.specs.Trying.{IsBegun}
-use Rattle.patch_run.specs.Doing.{IsOutcome, IsOrdered}
+use Rattle.patch_run.specs.Doing.{HasEndCause, IsOutcome, IsOrdered}
 use Rattle.patch_run.proofs.Applying.{on_err, if_any, is_wet, is_dry, unmade, tell_ordered, tell_fails, tell_dry, tell_made, tell_breaks}
 use Rattle.patch_effects.proofs.Tidy.{tidy_none}
 use Rattle.patch_run.proofs.apply.tell_and_make.Goals as goal
@@ -110,3 +112,35 @@ returns-in-None-clause-quiet g c = c.requires.quiet
 
 pub returns-in-None-clause-rest : goal.returns-in-None-clause-rest
 returns-in-None-clause-rest g c = c.in_ok-tell.ensures.rest
+
+pub returns-in_err-tell-clause-tree : goal.returns-in_err-tell-clause-tree
+returns-in_err-tell-clause-tree g c = passes_none (g.T.Tree.view c.args.tree.now)
+
+pub returns-in_err-tell-clause-sink : goal.returns-in_err-tell-clause-sink
+returns-in_err-tell-clause-sink g c = c.in_err-tell.ensures.call.passes
+
+pub returns-in-Some-clause-tree : goal.returns-in-Some-clause-tree
+returns-in-Some-clause-tree g c = c.make_effects.ensures.goes.passes
+
+pub returns-in-Some-clause-sink : goal.returns-in-Some-clause-sink
+returns-in-Some-clause-sink g c = c.in_ok-tell.ensures.call.passes
+
+pub returns-in-Some-clause-cause : goal.returns-in-Some-clause-cause
+returns-in-Some-clause-cause g c =
+    let u = g.T.Tree.view c.args.tree.now in
+    let w = g.T.Tree.view c.make_effects.new.tree in
+    IfErr-weaker c.make_effects.result _ _
+    (λ e is. subst (λ (x : RunFault). HasEndCause x u w (g.O.Sink.view c.args.out.now) (g.O.Sink.view c.tell.new.out)) (sym is.0) is.1)
+    c.make_effects.ensures.goes.cause
+
+pub returns-in-Some-clause-quiet : goal.returns-in-Some-clause-quiet
+returns-in-Some-clause-quiet g c = c.make_effects.ensures.goes.quiet
+
+pub returns-in-Some-clause-gone : goal.returns-in-Some-clause-gone
+returns-in-Some-clause-gone g c = on_ok_weaker c.make_effects.result (λ gone wet. gone) c.make_effects.ensures.gone
+
+pub returns-in-None-clause-tree : goal.returns-in-None-clause-tree
+returns-in-None-clause-tree g c = passes_none (g.T.Tree.view c.args.tree.now)
+
+pub returns-in-None-clause-sink : goal.returns-in-None-clause-sink
+returns-in-None-clause-sink g c = c.in_ok-tell.ensures.call.passes
