@@ -64,7 +64,8 @@ fn put_word(lines: &mut Lines, tool: &str, front: &[String], word: &str) {
         Some((option, value)) if wants_value(lines, front, option) => {
             put_value(lines, tool, option, value)
         }
-        _ => put_unsuited(lines, tool, front, word),
+        Some((option, _)) => put_unsuited(lines, tool, front, word, option),
+        None => put_unsuited(lines, tool, front, word, word),
     }
 }
 

@@ -34,8 +34,16 @@ fn row_of(table: &'static [Group], option: &str) -> Option<&'static Word> {
 /// Whether the option is this row's.
 fn is_meant(word: &Word, option: &str) -> bool {
     match option.strip_prefix("--") {
-        Some(name) => word.name == name,
+        Some(name) => word.name == name && is_long(word.form),
         None => ends_with(option, word.letter),
+    }
+}
+
+/// Whether it is given by its name too.
+fn is_long(form: WordForm) -> bool {
+    match form {
+        WordForm::Switch | WordForm::Value | WordForm::Values => true,
+        WordForm::Letter | WordForm::Operand => false,
     }
 }
 
@@ -121,48 +129,21 @@ fn is_valued(form: WordForm) -> bool {
     }
 }
 
-/// Whether the tool has the option of this word, or those of its letters up to the first that takes what follows as its value.
-pub fn is_known(tool: &str, word: &str) -> bool {
-    match word.strip_prefix("--") {
-        Some(name) => has_name(table_of(tool), in_front_of_sign(name)),
-        None => has_letters(table_of(tool), word),
+/// Whether the tool has the option, or all those of its letters.
+pub fn is_known(tool: &str, option: &str) -> bool {
+    let table = table_of(tool);
+    match option.strip_prefix("--") {
+        Some(_) => row_of(table, option).is_some(),
+        None => are_letters(table, option.strip_prefix('-').unwrap_or(option)),
     }
 }
 
-fn in_front_of_sign(name: &str) -> &str {
-    match name.split_once('=') {
-        Some((name, _)) => name,
-        None => name,
-    }
-}
-
-fn has_name(table: &'static [Group], name: &str) -> bool {
-    for group in table {
-        for word in group.words {
-            if word.name == name && is_long(word.form) {
-                return true;
-            }
-        }
-    }
-    false
-}
-
-fn is_long(form: WordForm) -> bool {
-    match form {
-        WordForm::Switch | WordForm::Value | WordForm::Values => true,
-        WordForm::Letter | WordForm::Operand => false,
-    }
-}
-
-/// Whether the letters behind the hyphen are those of options.
-fn has_letters(table: &'static [Group], word: &str) -> bool {
-    let letters = word.strip_prefix('-').unwrap_or(word);
+fn are_letters(table: &'static [Group], letters: &str) -> bool {
+    let mut are_all = true;
     for letter in letters.chars() {
-        match form_of(table, letter) {
-            Some(form) if is_valued(form) => return true,
-            Some(_) => {}
-            None => return false,
+        if form_of(table, letter).is_none() {
+            are_all = false;
         }
     }
-    true
+    are_all
 }
