@@ -6,8 +6,8 @@ use crate::names::has_target;
 use patch_header::Ways;
 use patch_options::{Input, Options, PlanKind};
 use patch_set::{PatchSet, read_set};
-use set_outline::{Outline, read_outline};
 use patch_text::read_patches;
+use set_outline::{Outline, read_outline};
 use std::alloc::{AllocError, Global};
 
 /// Whether a text was made, and is the wanted one.
