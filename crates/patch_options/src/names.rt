@@ -249,17 +249,25 @@ fn is_no_file(text: Option<&str>) -> bool
 }
 
 /// What may stand before a name: with `x` behind it, it is a name in normal form.
-#[tactic(auto, unfolding(crate::specs::Forms::is_prefix))]
 fn prefix_of(alloc: Global, text: &str) -> Result<String, WordFault>
     ensures prefix { IfOk result (λ prefix. string_bytes prefix ≡ text.now) }
     ensures lawful { IfOk result (λ prefix. is_prefix text.now ≡ true) }
     ensures refused { IfErr result (λ fault. (fault ≡ WordFault.Memory) ⊎ ((fault ≡ WordFault.Usage) × (is_prefix text.now ≡ false))) }
 {
-    let sample = sample_of(alloc, text)?;
-    if !is_normal(alloc, sample.as_str())? {
+    if !is_prefix(alloc, text)? {
         return Err(WordFault::Usage);
     }
     Ok(String::from_str(alloc, text)?)
+}
+
+/// Whether the text may stand before a name.
+#[tactic(auto, unfolding(crate::specs::Forms::is_prefix))]
+fn is_prefix(alloc: Global, text: &str) -> Result<bool, WordFault>
+    ensures is { IfOk result (λ is. is ≡ is_prefix text.now) }
+    ensures refused { IfErr result (λ fault. (fault ≡ WordFault.Memory) ⊎ ((fault ≡ WordFault.Usage) × (is_prefix text.now ≡ false))) }
+{
+    let sample = sample_of(alloc, text)?;
+    is_normal(alloc, sample.as_str())
 }
 
 fn sample_of(alloc: Global, text: &str) -> Result<String, AllocError>
