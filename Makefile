@@ -13,6 +13,8 @@ PREFIX ?= /usr/local
 DESTDIR ?=
 TOOLS = patch lsdiff filterdiff grepdiff splitdiff recountdiff reversediff patchgen patchstack
 BIN = build/bin
+# What README links to that tells what is promised, and where the tools differ from others.
+PAGES = CLAIMS DECISIONS DEFINITIONS TRUST
 
 .PHONY: all demo try test times deep install uninstall dist clean
 
@@ -53,11 +55,15 @@ install:
 	for tool in $(TOOLS); do ln -sf patchkit $(DESTDIR)$(PREFIX)/bin/$$tool || exit; done
 	for tool in patchkit $(TOOLS); do install -m 644 docs/man/$$tool.1 $(DESTDIR)$(PREFIX)/share/man/man1/$$tool.1 || exit; done
 	python3 docs/completions/make $(BIN)/patchkit $(DESTDIR)$(PREFIX)/share $(TOOLS)
+	mkdir -p $(DESTDIR)$(PREFIX)/share/doc/patchkit/docs
+	install -m 644 README.md $(DESTDIR)$(PREFIX)/share/doc/patchkit/README.md
+	for page in $(PAGES); do install -m 644 docs/$$page.md $(DESTDIR)$(PREFIX)/share/doc/patchkit/docs/$$page.md || exit; done
 
 # A program of a tool's name that isn't our link stays.
 uninstall:
 	cd $(DESTDIR)$(PREFIX)/bin && for tool in $(TOOLS); do [ "$$(readlink $$tool)" != patchkit ] || rm -f $$tool || exit; done && rm -f patchkit
 	cd $(DESTDIR)$(PREFIX)/share && for tool in patchkit $(TOOLS); do rm -f man/man1/$$tool.1 bash-completion/completions/$$tool zsh/site-functions/_$$tool fish/vendor_completions.d/$$tool.fish || exit; done
+	cd $(DESTDIR)$(PREFIX)/share && rm -f doc/patchkit/README.md && for page in $(PAGES); do rm -f doc/patchkit/docs/$$page.md || exit; done
 
 dist: all
 	@sh tests/dist $(RT) $(BIN) build $(TOOLS)
