@@ -3,8 +3,9 @@
 use crate::called::tool_of;
 use tool_words::{Tool, tool_named};
 
-/// The version, and what the program is proved with. `make dist` reads it here.
-const VERSION: &str = "patchkit 0.1.0, proved with rattle-kit-13f logic dac8208d650f15bf\n";
+/// The version, and what the program is proved with, but for the letter of the kit, which differs from machine to machine. `make dist`
+/// reads it here.
+const VERSION: &str = "patchkit 0.1.0, proved with rattle-kit-13 logic dac8208d650f15bf\n";
 
 /// The tools, one a line.
 const TOOLS: &str = "\
