@@ -2,8 +2,8 @@
 use Rattle.std.proofs.Common.{◌≡◌, ℕ, List, [], ◌++◌, Result, Ok, Err, refl, sym, ap, subst, ◌∙◌, append_assoc}
 use Rattle.std.proofs.lemmas.List.{append-nil}
 use Rattle.outside.specs.SinkView.{SinkView}
-use Rattle.hunk_core.specs.Writing.{Puts}
-use Rattle.hunk_core.proofs.SinkSteps.{GoesOn, HasPut, has-more, has-none, has-put, puts-done, puts-more, puts-stop}
+use Rattle.outside.specs.Puts.{Puts}
+use Rattle.outside.proofs.SinkSteps.{GoesOn, HasPut, has-more, has-none, has-put, puts-done, puts-more, puts-stop}
 
 pub record Written {O : Type 0} (view : O → SinkView) (same : O → O → Type 0) (old new : O) (all left : List ℕ) : Type 0 where
   pub done : List ℕ

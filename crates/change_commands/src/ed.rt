@@ -4,7 +4,7 @@ ghost use Rattle.std.specs.Prelude.{◌≡◌, ◌+◌, ◌-◌, ◌≤◌, ◌<
 ghost use Rattle.hunk_core.specs.PlainHunk.{bytes_at, body_of, hunk_of};
 ghost use Rattle.hunk_core.specs.Sides.{is_on_side};
 ghost use Rattle.hunk_core.specs.Turned.{LiesIn, base, is_keep};
-ghost use Rattle.hunk_core.specs.Writing.{Puts};
+ghost use Rattle.outside.specs.Puts.{Puts};
 ghost use Rattle.ed_form.specs.Texts.{is_dot};
 ghost use Rattle.change_commands.specs.Backward.{StandsBehind, closing, closing_if, first_text, grown};
 ghost use Rattle.change_commands.specs.Blocks.{blocks_of, body_edits, hunk_edits};

@@ -5,7 +5,7 @@ ghost use Rattle.std.specs.List.{flat_map};
 ghost use Rattle.hunk_core.specs.LineTests.{ends_line};
 ghost use Rattle.hunk_core.specs.PlainHunk.{bytes_at};
 ghost use Rattle.hunk_core.specs.Turned.{LiesIn};
-ghost use Rattle.hunk_core.specs.Writing.{Puts};
+ghost use Rattle.outside.specs.Puts.{Puts};
 ghost use Rattle.normal_form.specs.Canonical.{line_text};
 ghost use Rattle.hunk_core.specs.Writing.{no_newline};
 ghost use Rattle.normal_form.specs.Stretches.{marks};

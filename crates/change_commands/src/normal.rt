@@ -1,7 +1,7 @@
 //! Blocks as commands of the normal form.
 
 ghost use Rattle.std.specs.Prelude.{◌≡◌, ◌+◌, ◌≤◌, ◌^◌, ◌++◌, ◌∷◌, []};
-ghost use Rattle.hunk_core.specs.Writing.{Puts};
+ghost use Rattle.outside.specs.Puts.{Puts};
 ghost use Rattle.diff_command.specs.Letters.{letter};
 ghost use Rattle.normal_form.specs.Canonical.{action_for, command_text, divider_text};
 ghost use Rattle.diff_command.specs.Spans.{span_text};

@@ -2,7 +2,7 @@
 
 ghost use Rattle.std.specs.Prelude.{◌≡◌, ◌+◌, ◌-◌, ◌*◌, ◌≤◌, ◌<◌, ◌^◌, ℕ, List, not, nat_lt, ◌==◌, ◌||◌, length, IfOk, All};
 ghost use Rattle.hunk_core.specs.Turned.{LiesIn};
-ghost use Rattle.hunk_core.specs.Writing.{Puts};
+ghost use Rattle.outside.specs.Puts.{Puts};
 ghost use Rattle.ed_form.specs.PlainEdit.{IsLawfulScript, edit_of, edits_of, lines_of};
 ghost use Rattle.change_commands.specs.Backward.{first_text};
 ghost use Rattle.change_commands.specs.Blocks.{blocks_of, drop_count, is_change, script_edits};

@@ -3,7 +3,7 @@
 ghost use Rattle.std.specs.Prelude.{◌≡◌, ◌<◌, Some, List, length, not, ◌==◌, ◌^◌};
 ghost use Rattle.std.specs.Option.{ForSome};
 ghost use Rattle.hunk_core.specs.PlainHunk.{hunks_of};
-ghost use Rattle.hunk_core.specs.Writing.{Puts};
+ghost use Rattle.outside.specs.Puts.{Puts};
 ghost use Rattle.ed_form.specs.PlainEdit.{IsLawfulScript, edits_of};
 ghost use Rattle.file_patch.specs.PlainPatch.{change_of, hunks, patch_of, script};
 ghost use Rattle.file_patch.specs.declared.Change.TheVariants.{Hunks as HunksOf};

@@ -8,7 +8,7 @@ use Rattle.hunk_core.specs.PlainHunk.{PlainHunk}
 use Rattle.std.specs.Prelude.{is_some}
 use Rattle.hunk_core.specs.LineTests.{is_backslash, after_backslash}
 use Rattle.hunk_core.specs.Reading.{◌>>=◌, Fault, Ahead, ahead}
-use Rattle.hunk_core.proofs.ReadSteps.{chosen}
+use Rattle.line_list.proofs.Choices.{chosen}
 use Rattle.hunk_core.specs.FirstFault.{AgreeTo}
 use Rattle.hunk_core.proofs.FaultSteps.{failed, bind_err, add_err, short_or}
 use Rattle.hunk_core.proofs.Agreeing.{agree_head, agree_front}

@@ -13,7 +13,7 @@ use Rattle.hunk_core.specs.Turned.{is_keep, taken, taken_mark, taken_line, turne
 use Rattle.hunk_core.proofs.SideLemmas.{turned-lines, turned-others, lines-counted}
 use Rattle.hunk_core.proofs.TurnedLemmas.{turned-body}
 use Rattle.outside.specs.SinkView.{SinkView}
-use Rattle.hunk_core.proofs.SinkSteps.{HasPut}
+use Rattle.outside.proofs.SinkSteps.{HasPut}
 use Rattle.context_form.specs.Canonical.{stars_text, range_line_text, line_text, stretch_has, mixed, mixed_behind, part_text, canonical}
 
 -- ---- a stretch

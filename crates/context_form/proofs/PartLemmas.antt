@@ -12,7 +12,8 @@ use Rattle.hunk_core.specs.Sides.{is_on_side, own_mark}
 use Rattle.hunk_core.specs.PlainHunk.{Marked}
 use Rattle.hunk_core.specs.LineTests.{after, marked, is_backslash, after_backslash}
 use Rattle.hunk_core.specs.Reading.{◌>>=◌, Fault, Ahead, ahead}
-use Rattle.hunk_core.proofs.ReadSteps.{bind_ok, chosen, guard_ok, must_ok, ok_is}
+use Rattle.hunk_core.proofs.ReadSteps.{bind_ok, guard_ok, must_ok, ok_is}
+use Rattle.line_list.proofs.Choices.{chosen}
 use Rattle.hunk_core.proofs.Agreeing.{after_backslash-some}
 use Rattle.hunk_core.proofs.TextLemmas.{some-not}
 use Rattle.context_form.specs.Ranges.{before_range}

@@ -6,7 +6,7 @@ use Rattle.hunk_core.specs.declared.BadKind.TheVariants as kinds
 use Rattle.hunk_core.specs.declared.Side.{Side}
 use Rattle.hunk_core.specs.declared.Side.TheVariants.{Forward, Reversed}
 use Rattle.hunk_core.specs.LineTests.{after, is_backslash}
-use Rattle.hunk_core.proofs.ReadSteps.{chosen, some_is}
+use Rattle.line_list.proofs.Choices.{chosen, some_is}
 use Rattle.hunk_core.proofs.TextLemmas.{after-takes, after-again}
 use Rattle.num_text.specs.declared.range.NumberRange.{NumberRange}
 use Rattle.num_text.specs.Numbers.{number_at, NoDigitFirst}

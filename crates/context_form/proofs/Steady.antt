@@ -5,7 +5,7 @@ use Rattle.hunk_core.specs.declared.BadKind.TheVariants as kinds
 use Rattle.hunk_core.specs.LineTests.{after_backslash}
 use Rattle.hunk_core.specs.Reading.{Fault, fault, Ahead, ahead}
 use Rattle.hunk_core.specs.FirstFault.{AgreeTo}
-use Rattle.hunk_core.proofs.ReadSteps.{chosen}
+use Rattle.line_list.proofs.Choices.{chosen}
 use Rattle.hunk_core.proofs.FaultSteps.{failed, err_is}
 use Rattle.hunk_core.proofs.Agreeing.{agree_head}
 use Rattle.hunk_core.proofs.Steady.{Goes, SteadyTo, one_line, FailsHere, line-steady, peek_by, peek-steady}

@@ -3,7 +3,7 @@
 ghost use Rattle.std.specs.Prelude.{◌≡◌, ◌≤◌, ◌<◌, ◌+◌, ◌^◌, ℕ, List, Some, length, vec_len, drop, IfOk, IfSome, All, ◌++◌, count_by};
 ghost use Rattle.hunk_core.specs.PlainHunk.{Marked, body_of, marked_of, bytes_at};
 ghost use Rattle.hunk_core.specs.Turned.{LiesIn, is_keep};
-ghost use Rattle.hunk_core.specs.Reading.{Reads};
+ghost use Rattle.line_list.specs.Reader.{Reads};
 ghost use Rattle.context_form.specs.Parts.{plain_of};
 ghost use Rattle.context_form.specs.Merging.{agrees, before_kept, from_kept, merge, alone, joined, kept_count, size_beside};
 

@@ -9,7 +9,7 @@ ghost use Rattle.hunk_core.specs.Sides.{is_on_side};
 ghost use Rattle.hunk_core.specs.Turned.{LiesIn, IsLawful, is_keep, taken, taken_mark, taken_line};
 ghost use Rattle.hunk_core.specs.LineTests.{marked, after_backslash};
 ghost use Rattle.hunk_core.specs.Rules.{HasNoInnerFeed, first_broken};
-ghost use Rattle.hunk_core.specs.Writing.{Puts};
+ghost use Rattle.outside.specs.Puts.{Puts};
 ghost use Rattle.hunk_core.specs.declared.Side.{Side};
 ghost use Rattle.context_form.specs.Ranges.{before_range, behind_range};
 ghost use Rattle.context_form.specs.Presence.{begins_part};

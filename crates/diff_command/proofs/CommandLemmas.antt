@@ -1,7 +1,7 @@
 -- Commands that were read, and commands that are written.
 use Rattle.std.proofs.Common.{◌≡◌, ℕ, eqb, List, [], ◌∷◌, Some, refl, ap, ◌∙◌, inl, inr, ◌≢◌, true, subst, ◌+◌, ◌-◌, Bool, false, cond, ltb, ◌++◌}
 use Rattle.std.proofs.lemmas.Bool.{eqb-true}
-use Rattle.hunk_core.proofs.ReadSteps.{chosen, some_is}
+use Rattle.line_list.proofs.Choices.{chosen, some_is}
 use Rattle.diff_command.specs.declared.Action.{Action}
 use Rattle.diff_command.specs.declared.Action.TheVariants.{Add, Change, Delete}
 use Rattle.diff_command.specs.Letters.{action_at, letter}

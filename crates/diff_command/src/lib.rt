@@ -2,7 +2,7 @@
 #![tactic(auto)]
 
 ghost use Rattle.std.specs.Prelude.{◌≡◌};
-ghost use Rattle.hunk_core.specs.Reading.{Reads};
+ghost use Rattle.line_list.specs.Reader.{Reads};
 ghost use Rattle.diff_command.specs.Letters.{action_at, is_line_end, letter};
 
 /// What a command does: `a`, `c` or `d` (GNU diffutils manual, "Detailed Description of Normal

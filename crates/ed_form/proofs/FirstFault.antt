@@ -4,7 +4,7 @@ use Rattle.std.proofs.lemmas.Bool.{cases_lt}
 use Rattle.std.proofs.lemmas.List.{length-append}
 use Rattle.hunk_core.specs.declared.BadKind.TheVariants as kinds
 use Rattle.hunk_core.specs.Reading.{◌>>=◌, Fault, fault, Ahead, ahead}
-use Rattle.hunk_core.proofs.ReadSteps.{chosen}
+use Rattle.line_list.proofs.Choices.{chosen}
 use Rattle.hunk_core.specs.FirstFault.{AgreeTo}
 use Rattle.hunk_core.proofs.FaultSteps.{failed, err_is, bind_err}
 use Rattle.hunk_core.proofs.Agreeing.{agree_front}

@@ -4,7 +4,8 @@ use Rattle.std.proofs.lemmas.List.{append-nil}
 use Rattle.hunk_core.specs.declared.BadKind.{BadKind}
 use Rattle.hunk_core.specs.declared.BadKind.TheVariants as kinds
 use Rattle.hunk_core.specs.Reading.{◌>>=◌, Fault, fault, Ahead, ahead}
-use Rattle.hunk_core.proofs.ReadSteps.{chosen, ok_is}
+use Rattle.line_list.proofs.Choices.{chosen}
+use Rattle.hunk_core.proofs.ReadSteps.{ok_is}
 use Rattle.diff_command.specs.declared.Action.{Action}
 use Rattle.diff_command.specs.declared.Action.TheVariants.{Add, Change, Delete}
 use Rattle.hunk_core.specs.FirstFault.{AgreeTo}

@@ -8,7 +8,8 @@ use Rattle.hunk_core.specs.declared.BadKind.TheVariants as kinds
 use Rattle.hunk_core.specs.declared.fault.FormFault.{FormFault}
 use Rattle.hunk_core.specs.LineTests.{after}
 use Rattle.hunk_core.specs.Reading.{fault, Gives, ◌>>=◌, Ahead, ahead}
-use Rattle.hunk_core.proofs.ReadSteps.{bind_ok, chosen, guard_ok, ok_is}
+use Rattle.hunk_core.proofs.ReadSteps.{bind_ok, guard_ok, ok_is}
+use Rattle.line_list.proofs.Choices.{chosen}
 use Rattle.num_text.specs.NumberRanges.{range_at}
 use Rattle.ed_form.specs.declared.command.Heading.{Heading}
 use Rattle.ed_form.specs.Commands.{parts_at, is_command, begins_script, opening}

@@ -4,7 +4,8 @@ use Rattle.std.proofs.lemmas.List.{length-append, append-nil}
 use Rattle.hunk_core.specs.declared.BadKind.TheVariants as kinds
 use Rattle.hunk_core.specs.LineTests.{after}
 use Rattle.hunk_core.specs.Reading.{fault, Ahead, ahead}
-use Rattle.hunk_core.proofs.ReadSteps.{chosen, guard_ok, ok_is}
+use Rattle.line_list.proofs.Choices.{chosen}
+use Rattle.hunk_core.proofs.ReadSteps.{guard_ok, ok_is}
 use Rattle.hunk_core.proofs.TextLemmas.{after-again}
 use Rattle.diff_command.specs.declared.Action.{Action}
 use Rattle.diff_command.specs.declared.Action.TheVariants.{Add, Change, Delete}

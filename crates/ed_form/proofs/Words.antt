@@ -3,7 +3,7 @@ use Rattle.std.proofs.Common.{◌≡◌, ◌↔◌, ◌⊎◌, inl, inr, ℕ, Bo
 use Rattle.std.proofs.lemmas.Bool.{eqb-true}
 use Rattle.std.proofs.lemmas.List.{append-nil}
 use Rattle.hunk_core.specs.LineTests.{after}
-use Rattle.hunk_core.proofs.ReadSteps.{some_is}
+use Rattle.line_list.proofs.Choices.{some_is}
 use Rattle.hunk_core.proofs.TextLemmas.{has_some, after-takes, after-again}
 use Rattle.num_text.specs.Numbers.{number_at}
 use Rattle.num_text.specs.declared.range.NumberRange.{NumberRange}

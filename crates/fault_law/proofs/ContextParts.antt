@@ -11,7 +11,7 @@ use Rattle.hunk_core.specs.Sides.{is_on_side}
 use Rattle.hunk_core.specs.PlainHunk.{Marked}
 use Rattle.hunk_core.specs.LineTests.{after, is_backslash, after_backslash}
 use Rattle.hunk_core.specs.Reading.{◌>>=◌, Fault, fault, Ahead, ahead}
-use Rattle.hunk_core.proofs.ReadSteps.{chosen}
+use Rattle.line_list.proofs.Choices.{chosen}
 use Rattle.hunk_core.proofs.TextLemmas.{backslash-words}
 use Rattle.context_form.specs.Parts.{Shown, PlainBody, mark_at, must_be_marked, marked_at, room_at, cut, ended_by, first_line, line_at, is_done, with_line, body_at}
 use Rattle.context_form.specs.Grammar.{mark_byte, SpellsLine}

@@ -9,7 +9,8 @@ use Rattle.hunk_core.specs.declared.BadKind.TheVariants as kinds
 use Rattle.hunk_core.specs.PlainHunk.{Marked, PlainHunk}
 use Rattle.hunk_core.specs.LineTests.{after_backslash}
 use Rattle.hunk_core.specs.Reading.{◌>>=◌, Fault, fault, Ahead, ahead}
-use Rattle.hunk_core.proofs.ReadSteps.{bind_ok, chosen, ok_is}
+use Rattle.hunk_core.proofs.ReadSteps.{bind_ok, ok_is}
+use Rattle.line_list.proofs.Choices.{chosen}
 use Rattle.hunk_core.proofs.TextLemmas.{has_some}
 use Rattle.context_form.specs.declared.range.Stated.{Stated}
 use Rattle.context_form.specs.Openings.{begins_hunk}

@@ -9,7 +9,8 @@ use Rattle.hunk_core.specs.declared.BadKind.TheVariants as kinds
 use Rattle.hunk_core.specs.PlainHunk.{Marked, PlainHunk}
 use Rattle.hunk_core.specs.LineTests.{after, is_backslash, unended, after_backslash}
 use Rattle.hunk_core.specs.Reading.{◌>>=◌, Fault, fault, Ahead, ahead}
-use Rattle.hunk_core.proofs.ReadSteps.{chosen, ok_is}
+use Rattle.line_list.proofs.Choices.{chosen}
+use Rattle.hunk_core.proofs.ReadSteps.{ok_is}
 use Rattle.hunk_core.proofs.TextLemmas.{after-again}
 use Rattle.diff_command.specs.declared.Action.{Action}
 use Rattle.diff_command.specs.declared.Action.TheVariants.{Add, Change, Delete}

@@ -1,7 +1,7 @@
 -- One number or two that were read, whatever they are.
 use Rattle.std.proofs.Common.{◌≡◌, ℕ, Bool, true, false, cond, eqb, List, [], ◌∷◌, ◌++◌, Option, None, Some, refl, sym, ap, subst, ◌∙◌, append_assoc}
 use Rattle.std.proofs.lemmas.Bool.{eqb-true}
-use Rattle.hunk_core.proofs.ReadSteps.{some_is}
+use Rattle.line_list.proofs.Choices.{some_is}
 use Rattle.num_text.specs.Numbers.{number_at}
 use Rattle.num_text.specs.declared.range.NumberRange.{NumberRange}
 use Rattle.num_text.specs.NumberRanges.{one, two, with_second, behind_first, from_first, range_at, SpellsRange}

@@ -22,7 +22,7 @@ use Rattle.patch_header.specs.Openings.{opens, stops_binary, stops_bare, begins_
 use Rattle.patch_header.specs.GitHeaders.{git_header}
 use Rattle.patch_header.specs.GitRows.{led_by}
 use Rattle.patch_header.specs.Region.{Row, rows}
-use Rattle.patch_header.specs.declared.header.Header.{Header}
+use Rattle.header_record.specs.declared.Header.{Header}
 use Rattle.patch_header.specs.declared.openings.Stop.{Stop}
 use Rattle.patch_header.specs.declared.openings.Stop.TheVariants.{Opening, Binary, Bare}
 use Rattle.patch_header.specs.declared.ways.Ways.{Ways}

@@ -5,7 +5,7 @@ use Rattle.hunk_core.specs.declared.BadKind.{BadKind}
 use Rattle.hunk_core.specs.declared.BadKind.TheVariants as kinds
 use Rattle.hunk_core.specs.LineTests.{after}
 use Rattle.hunk_core.proofs.TextLemmas.{after-takes, after-again}
-use Rattle.hunk_core.proofs.ReadSteps.{chosen, some_is}
+use Rattle.line_list.proofs.Choices.{chosen, some_is}
 use Rattle.num_text.specs.Numbers.{number_at, IsNumeral, NoDigitFirst, BeginsWithNumeral}
 use Rattle.num_text.proofs.Runs.{number-takes, number-again}
 use Rattle.unified_form.specs.declared.range.Ranges.{Ranges}

@@ -6,7 +6,7 @@ use Rattle.hunk_core.specs.PlainHunk.{PlainHunk, lines_on}
 use Rattle.hunk_core.specs.Turned.{other_side}
 use Rattle.stamp.specs.declared.Stamp.{Stamp}
 use Rattle.stamp.specs.declared.Stamp.TheVariants.{Instant, Unknown}
-use Rattle.patch_header.specs.declared.git_lines.Action.{Action}
+use Rattle.header_record.specs.declared.Action.{Action}
 use Rattle.file_patch.specs.declared.FilePatch.{FilePatch}
 use Rattle.file_patch.specs.Actions.{is_new, is_deleted}
 use Rattle.file_patch.specs.PlainPatch.{PlainHeader, PlainChange, PlainPatch, hunks, script, patch_of, IsLawfulChange}

@@ -1,7 +1,7 @@
 -- What a git header says of a file, asked one by one (git-diff(1), "Generating patch text with -p").
 use Rattle.std.specs.Prelude.{Bool, true, false}
-use Rattle.patch_header.specs.declared.git_lines.Action.{Action}
-use Rattle.patch_header.specs.declared.git_lines.Action.TheVariants.{Plain, New, Deleted, Rename, Copy}
+use Rattle.header_record.specs.declared.Action.{Action}
+use Rattle.header_record.specs.declared.Action.TheVariants.{Plain, New, Deleted, Rename, Copy}
 
 -- the file is made
 abbrev pub is_new : Action → Bool

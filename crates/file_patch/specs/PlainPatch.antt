@@ -7,8 +7,8 @@ use Rattle.hunk_core.specs.PlainHunk.{PlainHunk, bytes_at, hunks_of}
 use Rattle.hunk_core.specs.Turned.{IsLawful}
 use Rattle.stamp.specs.declared.Stamp.{Stamp}
 use Rattle.ed_form.specs.PlainEdit.{PlainEdit, edits_of, IsLawfulScript}
-use Rattle.patch_header.specs.declared.git_lines.Action.{Action}
-use Rattle.patch_header.specs.declared.header.Header.{Header}
+use Rattle.header_record.specs.declared.Action.{Action}
+use Rattle.header_record.specs.declared.Header.{Header}
 use Rattle.file_patch.specs.declared.Change.{Change}
 use Rattle.file_patch.specs.declared.Change.TheVariants.{Hunks, Script}
 use Rattle.file_patch.specs.declared.FilePatch.{FilePatch}

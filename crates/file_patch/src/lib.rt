@@ -8,9 +8,9 @@ ghost use Rattle.file_patch.specs.Absent.{IsLawfulPatch, creates, deletes, told_
 ghost use Rattle.file_patch.specs.PlainPatch.{change_of, hunk_count, patch_of, row_count};
 
 use ed_form::EdScript;
+use header_record::{Action, Header};
 use hunk_core::{Hunk, Side};
 use line_list::Span;
-use patch_header::{Action, Header};
 use target_names::Target;
 
 /// What a file patch does to its file.

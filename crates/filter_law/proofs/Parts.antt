@@ -18,7 +18,7 @@ use Rattle.patch_header.specs.GitHeaders.{is_git_line, is_extended, extended_run
 use Rattle.patch_header.specs.Openings.{admits, takes_text, asks_dot, begins, begins_binary, opens, stop_at}
 use Rattle.patch_header.specs.Region.{rows}
 use Rattle.patch_header.specs.Steps.{AreQuiet, IsFirstOpening, region_of}
-use Rattle.patch_header.specs.declared.header.Header.{Header}
+use Rattle.header_record.specs.declared.Header.{Header}
 use Rattle.patch_header.specs.declared.openings.Stop.TheVariants.{Opening, Bare}
 use Rattle.patch_header.specs.declared.ways.Ways.{Ways}
 use Rattle.patch_header.proofs.Stands.{and_left, and_right, opening-words, bare-words, nothing-words, stop-end, stops-begins, stops-by}

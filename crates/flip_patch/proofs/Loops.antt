@@ -6,8 +6,8 @@ use Rattle.std.proofs.lemmas.List.{take-append-drop, drop_all, drop_more, flat_m
 use Rattle.std.proofs.lemmas.Grind.{flat_map-append}
 use Rattle.std.proofs.lemmas.Option.{get_or_from_slice_get}
 use Rattle.outside.specs.SinkView.{SinkView}
-use Rattle.hunk_core.specs.Writing.{Puts}
-use Rattle.hunk_core.proofs.SinkSteps.{HasPut, GoesOn, has-none, has-put, has-more, puts-more, puts-stop, puts-done}
+use Rattle.outside.specs.Puts.{Puts}
+use Rattle.outside.proofs.SinkSteps.{HasPut, GoesOn, has-none, has-put, has-more, puts-more, puts-stop, puts-done}
 
 module _ {A : Type 0} (f : A → List ℕ) (xs : List A) where
   -- what is written of the elements from one on

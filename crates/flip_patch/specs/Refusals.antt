@@ -2,7 +2,7 @@
 use Rattle.std.specs.Prelude.{◌≡◌, ℕ, Bool, false, nat_lt, ◌||◌, List, [], ◌∷◌, Option, None, Some, map, option_map, Result, Err, IfErr}
 use Rattle.std.specs.Option.{option_or}
 use Rattle.outside.specs.SinkView.{SinkView}
-use Rattle.hunk_core.specs.Writing.{Puts}
+use Rattle.outside.specs.Puts.{Puts}
 use Rattle.file_patch.specs.Actions.{is_moved}
 use Rattle.file_patch.specs.declared.Change.{Change}
 use Rattle.file_patch.specs.declared.Change.TheVariants.{Hunks, Script}

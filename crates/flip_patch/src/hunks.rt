@@ -4,7 +4,7 @@ ghost use Rattle.std.specs.Prelude.{◌≡◌, List, All, map, true};
 ghost use Rattle.std.specs.List.{flat_map};
 ghost use Rattle.hunk_core.specs.PlainHunk.{hunk_of, hunks_of};
 ghost use Rattle.hunk_core.specs.Turned.{IsLawful, swapped};
-ghost use Rattle.hunk_core.specs.Writing.{Puts};
+ghost use Rattle.outside.specs.Puts.{Puts};
 ghost use Rattle.flip_patch.specs.Flipped.{hunk_text};
 ghost use Rattle.flip_patch.specs.Ordered.{IsOrdered};
 

@@ -3,7 +3,7 @@
 ghost use Rattle.std.specs.Prelude.{◌≡◌, ◌<◌, Some, length};
 ghost use Rattle.std.specs.List.{flat_map};
 ghost use Rattle.std.specs.Option.{ForSome};
-ghost use Rattle.hunk_core.specs.Writing.{Puts};
+ghost use Rattle.outside.specs.Puts.{Puts};
 ghost use Rattle.file_patch.specs.Absent.{IsLawfulPatch};
 ghost use Rattle.file_patch.specs.PlainPatch.{change_of};
 ghost use Rattle.patch_set.specs.SetView.{patch_at};

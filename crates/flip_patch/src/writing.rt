@@ -1,7 +1,7 @@
 //! All file patches turned round and written.
 
 ghost use Rattle.std.specs.Prelude.{◌≡◌};
-ghost use Rattle.hunk_core.specs.Writing.{Puts};
+ghost use Rattle.outside.specs.Puts.{Puts};
 ghost use Rattle.patch_set.specs.SetView.{plain_patches};
 ghost use Rattle.flip_patch.specs.Flipped.{flipped};
 ghost use Rattle.flip_patch.specs.Refusals.{Answers, refused};

@@ -16,7 +16,7 @@ use Rattle.patch_header.specs.GitHeaders.{action_of}
 use Rattle.patch_header.specs.GitRows.{led_by, lines_of}
 use Rattle.patch_header.specs.Region.{Row, rows}
 use Rattle.patch_header.specs.Steps.{AreQuiet, header_with}
-use Rattle.patch_header.specs.declared.header.Header.{Header}
+use Rattle.header_record.specs.declared.Header.{Header}
 use Rattle.patch_header.specs.declared.openings.Stop.TheVariants.{Opening}
 use Rattle.patch_header.specs.declared.ways.Ways.{Ways}
 use Rattle.file_patch.specs.Actions.{is_moved}

@@ -12,8 +12,8 @@ use Rattle.stamp.specs.declared.Stamp.{Stamp}
 use Rattle.patch_header.specs.GitHeaders.{action_of, is_git_line, is_extended, starts}
 use Rattle.patch_header.specs.GitRows.{header_back, led_rows, lines_of, new_name_back, old_name_back, is_unified, to_by as git_to_by, with_row}
 use Rattle.patch_header.specs.Region.{Row, first_some, rows}
-use Rattle.patch_header.specs.declared.git_lines.Action.{Action}
-use Rattle.patch_header.specs.declared.git_lines.Action.TheVariants as actions
+use Rattle.header_record.specs.declared.Action.{Action}
+use Rattle.header_record.specs.declared.Action.TheVariants as actions
 use Rattle.patch_header.specs.declared.ways.Ways.{Ways}
 use Rattle.file_patch.specs.Actions.{is_moved}
 use Rattle.file_patch.specs.PlainPatch.{PlainHeader}

@@ -11,7 +11,7 @@ use Rattle.patch_header.specs.Steps.{first_stop, found_or, header_at, header_wit
 use Rattle.patch_header.specs.GitRows.{led_by}
 use Rattle.patch_header.specs.declared.openings.Stop.{Stop}
 use Rattle.patch_header.specs.declared.openings.Stop.TheVariants.{Opening, Binary, Bare}
-use Rattle.patch_header.specs.declared.header.Header.{Header}
+use Rattle.header_record.specs.declared.Header.{Header}
 use Rattle.patch_header.specs.declared.search.HeaderStep.{HeaderStep}
 use Rattle.patch_header.specs.declared.search.HeaderStep.TheVariants as steps
 use Rattle.patch_header.specs.declared.ways.Ways.{Ways}

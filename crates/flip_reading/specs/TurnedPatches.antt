@@ -6,7 +6,7 @@ use Rattle.hunk_core.specs.PlainHunk.{PlainHunk}
 use Rattle.hunk_core.specs.Turned.{swapped}
 use Rattle.context_form.specs.Canonical as context
 use Rattle.normal_form.specs.Canonical as normal
-use Rattle.patch_header.specs.declared.git_lines.Action.TheVariants.{Plain}
+use Rattle.header_record.specs.declared.Action.TheVariants.{Plain}
 use Rattle.file_patch.specs.PlainPatch.{PlainChange, PlainHeader, PlainPatch, hunks, script}
 use Rattle.patch_set.specs.SetView.{SetView, plain_patches}
 use Rattle.header_lines.specs.HeaderText.{needs_index}

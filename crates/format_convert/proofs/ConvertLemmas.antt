@@ -4,7 +4,7 @@ use Rattle.std.specs.Prelude.{option_map}
 use Rattle.std.specs.Option.{option_or}
 use Rattle.outside.specs.SinkView.{SinkView, sink_passes_none}
 use Rattle.outside.specs.declared.Failed.{Failed}
-use Rattle.hunk_core.specs.Writing.{Puts}
+use Rattle.outside.specs.Puts.{Puts}
 use Rattle.hunk_core.specs.declared.Form.{Form}
 use Rattle.file_patch.specs.PlainPatch.{PlainPatch, first_opening}
 use Rattle.format_convert.specs.declared.fault.ConvertFault.{ConvertFault}

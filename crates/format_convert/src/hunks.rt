@@ -7,7 +7,7 @@ ghost use Rattle.tool_words.specs.PlainJobs.{plain_filter_job};
 ghost use Rattle.std.specs.List.{flat_map, range_with_len, zip};
 ghost use Rattle.hunk_core.specs.PlainHunk.{hunk_of, hunks_of};
 ghost use Rattle.hunk_core.specs.Turned.{IsLawful};
-ghost use Rattle.hunk_core.specs.Writing.{Puts};
+ghost use Rattle.outside.specs.Puts.{Puts};
 ghost use Rattle.file_patch.specs.PlainPatch.{AreLawfulHunks, patch_of, row_count};
 ghost use Rattle.filter_choice.specs.Kept.{keeps};
 ghost use Rattle.change_commands.specs.Taken.{flags, kept_hunks, left_patch};

@@ -11,7 +11,7 @@ use Rattle.line_list.proofs.WholeLines.{NoFeed, no-feed-both}
 use Rattle.num_text.specs.Numbers.{IsNumeral, decimal}
 use Rattle.num_text.specs.NumberRanges.{SpellsRange, range_at}
 use Rattle.num_text.proofs.Decimal.{decimal-numeral}
-use Rattle.hunk_core.proofs.ReadSteps.{chosen}
+use Rattle.line_list.proofs.Choices.{chosen}
 use Rattle.hunk_core.specs.LineTests.{after}
 use Rattle.diff_command.specs.Letters.{is_line_end, letter}
 use Rattle.diff_command.specs.declared.Action.{Action}

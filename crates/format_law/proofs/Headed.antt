@@ -11,7 +11,7 @@ use Rattle.hunk_core.specs.declared.Form.TheVariants.{Unified, Context, Normal, 
 use Rattle.hunk_core.specs.declared.Side.TheVariants.{Forward}
 use Rattle.hunk_core.specs.LineTests.{after}
 use Rattle.patch_header.specs.Content.{content}
-use Rattle.patch_header.specs.declared.header.Header.{Header}
+use Rattle.header_record.specs.declared.Header.{Header}
 use Rattle.patch_header.specs.declared.openings.Stop.TheVariants.{Opening}
 use Rattle.patch_header.specs.declared.ways.Ways.{Ways}
 use Rattle.file_patch.specs.PlainPatch.{PlainHeader, bytes_in, header_of}

@@ -17,9 +17,9 @@ use Rattle.patch_header.specs.GitRows.{led_by, lines_of}
 use Rattle.patch_header.specs.Region.{Row, first_some, new_tail, old_tail, rows}
 use Rattle.patch_header.specs.Steps.{header_with}
 use Rattle.patch_header.specs.Values.{blanks, name_in, name_length, stamp_in, unblanked}
-use Rattle.patch_header.specs.declared.git_lines.Action.{Action}
-use Rattle.patch_header.specs.declared.git_lines.Action.TheVariants as actions
-use Rattle.patch_header.specs.declared.header.Header.{Header}
+use Rattle.header_record.specs.declared.Action.{Action}
+use Rattle.header_record.specs.declared.Action.TheVariants as actions
+use Rattle.header_record.specs.declared.Header.{Header}
 use Rattle.patch_header.specs.declared.ways.Ways.{Ways}
 use Rattle.file_patch.specs.Absent.{is_null}
 use Rattle.file_patch.specs.PlainPatch.{PlainHeader, bytes_in, header_of}

@@ -9,7 +9,7 @@ use Rattle.context_form.specs.Canonical as context
 use Rattle.normal_form.specs.Grammar.{on_side}
 use Rattle.stamp.specs.declared.Stamp.{Stamp}
 use Rattle.stamp.specs.declared.Stamp.TheVariants.{Unknown}
-use Rattle.patch_header.specs.declared.git_lines.Action.TheVariants.{Plain}
+use Rattle.header_record.specs.declared.Action.TheVariants.{Plain}
 use Rattle.file_patch.specs.PlainPatch.{PlainChange, PlainHeader, PlainPatch, hunks, script}
 use Rattle.patch_set.specs.PlainName.{plain_name}
 use Rattle.patch_set.specs.SetView.{SetView, plain_patches}

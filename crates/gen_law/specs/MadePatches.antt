@@ -6,7 +6,7 @@ use Rattle.hunk_core.specs.declared.Mark.TheVariants.{Keep, Drop, Add}
 use Rattle.hunk_core.specs.LineTests.{marked}
 use Rattle.hunk_core.specs.PlainHunk.{Marked, PlainHunk}
 use Rattle.stamp.specs.declared.Stamp.TheVariants.{Unknown}
-use Rattle.patch_header.specs.declared.git_lines.Action.TheVariants.{Plain}
+use Rattle.header_record.specs.declared.Action.TheVariants.{Plain}
 use Rattle.file_patch.specs.PlainPatch.{PlainHeader, PlainPatch, hunks}
 use Rattle.patch_gen.specs.Patches.{file_name, new_line}
 use Rattle.patch_gen.specs.Texts.{file_line}

@@ -7,9 +7,9 @@ ghost use Rattle.patch_set.specs.PlainName.{file_name};
 ghost use Rattle.header_lines.specs.HeaderText.{names_file, needs_index, rest_of_line, span_on};
 
 use crate::marks::shows_names;
+use header_record::Header;
 use hunk_core::{Form, Side};
 use line_list::{Span, next_line};
-use patch_header::Header;
 use patch_set::bytes_in;
 
 /// Whether there is a name, and it isn't `/dev/null`.

@@ -3,7 +3,7 @@
 ghost use Rattle.std.specs.Prelude.{◌≡◌, ◌<◌, ◌++◌, length};
 ghost use Rattle.std.specs.Option.{ForSome};
 ghost use Rattle.hunk_core.specs.Turned.{other_side};
-ghost use Rattle.hunk_core.specs.Writing.{Puts};
+ghost use Rattle.outside.specs.Puts.{Puts};
 ghost use Rattle.file_patch.specs.PlainPatch.{header_of};
 ghost use Rattle.patch_set.specs.PlainName.{plain_name};
 ghost use Rattle.patch_set.specs.SetView.{patch_at};
@@ -12,10 +12,10 @@ ghost use Rattle.patch_header.specs.Written.{new_mark, old_mark};
 
 use crate::marks::{name_end, new_mark, old_mark, shows_names};
 use crate::names::{needs_index, rest_of_line, span_on};
+use header_record::Header;
 use hunk_core::{Form, Side};
 use line_list::Span;
 use outside::{Failed, Sink, put_all};
-use patch_header::Header;
 use patch_set::PatchSet;
 
 fn put_piece<O: Sink>(out: &mut O, piece: &[u8]) -> Result<(), Failed>

@@ -4,7 +4,7 @@ use Rattle.std.specs.Prelude.{is_some}
 use Rattle.std.proofs.lemmas.Bool.{eqb-true}
 use Rattle.line_list.specs.Lines.{EndsLine, lines, with_first}
 use Rattle.hunk_core.specs.LineTests.{after, after_backslash, is_backslash}
-use Rattle.hunk_core.specs.Reading.{Reads}
+use Rattle.line_list.specs.Reader.{Reads}
 
 one : (b : ℕ) → lines (b ∷ []) ≡ (b ∷ []) ∷ []
 unfolding lines

@@ -10,7 +10,7 @@ use Rattle.hunk_core.specs.declared.Side.{Side}
 use Rattle.hunk_core.specs.Sides.{is_on_side}
 use Rattle.hunk_core.specs.PlainHunk.{Marked, lines_on}
 use Rattle.hunk_core.specs.Rules.{HasNoInnerFeed, lacks_inner_end}
-use Rattle.hunk_core.proofs.ReadSteps.{chosen}
+use Rattle.line_list.proofs.Choices.{chosen}
 use Rattle.hunk_core.specs.Writing.{no_newline}
 
 pub line-ends : (line : List ℕ) → IsLine line → ends_line line ≡ true

@@ -5,8 +5,8 @@ use Rattle.std.specs.Borrow.{Bor}
 use Rattle.std.proofs.lemmas.Bool.{eqb-true}
 use Rattle.std.proofs.lemmas.List.{length-take, length-drop, take-take, drop_more}
 use lib.Pointwise.{pointwise}
-use Rattle.hunk_core.proofs.ReadSteps.{some_is}
-use Rattle.hunk_core.specs.Reading.{Reads}
+use Rattle.line_list.proofs.Choices.{some_is}
+use Rattle.line_list.specs.Reader.{Reads}
 use Rattle.hunk_core.specs.LineTests.{after, is_backslash, ends_line}
 
 -- a prefix that stands there

@@ -3,7 +3,7 @@
 ghost use Rattle.std.specs.Prelude.{◌≡◌, ◌↔◌, ℕ, ◌+◌, List, [], ◌∷◌, ◌++◌, true, Some, ◌<◌, ◌≤◌, length, drop, IfSome, Option};
 ghost use Rattle.line_list.specs.Lines.{lines};
 ghost use Rattle.hunk_core.specs.PlainHunk.{marked_of};
-ghost use Rattle.hunk_core.specs.Reading.{Reads};
+ghost use Rattle.line_list.specs.Reader.{Reads};
 ghost use Rattle.hunk_core.specs.LineTests.{after, is_backslash, after_backslash, ends_line, unended};
 
 use crate::HunkLine;

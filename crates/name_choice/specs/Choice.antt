@@ -7,8 +7,8 @@ use Rattle.outside.specs.Files.{Files}
 use Rattle.outside.specs.Names.{components, directory_text}
 use Rattle.hunk_core.specs.declared.Side.{Side}
 use Rattle.hunk_core.specs.declared.Side.TheVariants.{Forward, Reversed}
-use Rattle.patch_header.specs.declared.git_lines.Action.{Action}
-use Rattle.patch_header.specs.declared.git_lines.Action.TheVariants.{Plain, New, Deleted, Rename, Copy}
+use Rattle.header_record.specs.declared.Action.{Action}
+use Rattle.header_record.specs.declared.Action.TheVariants.{Plain, New, Deleted, Rename, Copy}
 use Rattle.target_names.specs.declared.derived.Target.{Target}
 use Rattle.file_patch.specs.Actions.{is_moved}
 use Rattle.name_choice.specs.declared.Choice.{Choice}

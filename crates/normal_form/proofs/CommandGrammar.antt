@@ -3,7 +3,7 @@ use Rattle.std.proofs.Common.{◌≡◌, ℕ, ◌+◌, ◌^◌, ◌<◌, Bool, t
 use Rattle.std.proofs.lemmas.Bool.{eqb-true, eqb-false, ltb-false, le-ltb, ne_eqb, or_parts}
 use Rattle.hunk_core.specs.declared.BadKind.TheVariants as kinds
 use Rattle.hunk_core.specs.declared.Side.TheVariants.{Forward, Reversed}
-use Rattle.hunk_core.proofs.ReadSteps.{chosen, some_is}
+use Rattle.line_list.proofs.Choices.{chosen, some_is}
 use Rattle.num_text.specs.declared.range.NumberRange.{NumberRange}
 use Rattle.num_text.specs.NumberRanges.{range_at, SpellsRange}
 use Rattle.num_text.proofs.RangeGrammar.{range-takes, StopsRange, ranged, range-again, stops-nil, range-single}

@@ -10,7 +10,8 @@ use Rattle.hunk_core.specs.declared.Side.TheVariants.{Forward, Reversed}
 use Rattle.hunk_core.specs.PlainHunk.{Marked, PlainHunk}
 use Rattle.hunk_core.specs.LineTests.{after, is_backslash, after_backslash}
 use Rattle.hunk_core.specs.Reading.{Fault, Gives, ◌>>=◌, Ahead, ahead}
-use Rattle.hunk_core.proofs.ReadSteps.{bind_ok, chosen, guard_ok, must_ok, ok_is}
+use Rattle.hunk_core.proofs.ReadSteps.{bind_ok, guard_ok, must_ok, ok_is}
+use Rattle.line_list.proofs.Choices.{chosen}
 use Rattle.num_text.specs.NumberRanges.{range_at}
 use Rattle.diff_command.specs.declared.Action.{Action}
 use Rattle.diff_command.specs.declared.Action.TheVariants.{Add, Change, Delete}

@@ -7,7 +7,8 @@ use Rattle.hunk_core.specs.declared.Side.TheVariants.{Forward, Reversed}
 use Rattle.hunk_core.specs.PlainHunk.{Marked}
 use Rattle.hunk_core.specs.LineTests.{after, marked, unended, is_backslash, after_backslash}
 use Rattle.hunk_core.specs.Reading.{Ahead, ahead}
-use Rattle.hunk_core.proofs.ReadSteps.{bind_ok, chosen, must_ok, ok_is}
+use Rattle.hunk_core.proofs.ReadSteps.{bind_ok, must_ok, ok_is}
+use Rattle.line_list.proofs.Choices.{chosen}
 use Rattle.hunk_core.proofs.TextLemmas.{after-takes, after-again}
 use Rattle.hunk_core.specs.Sides.{own_mark}
 use Rattle.hunk_core.proofs.Agreeing.{after_backslash-some}

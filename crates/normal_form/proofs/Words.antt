@@ -5,7 +5,7 @@ use Rattle.std.proofs.lemmas.Bool.{eqb-true}
 use Rattle.hunk_core.specs.declared.Side.{Side}
 use Rattle.hunk_core.specs.declared.Side.TheVariants.{Forward, Reversed}
 use Rattle.hunk_core.specs.LineTests.{after}
-use Rattle.hunk_core.proofs.ReadSteps.{some_is}
+use Rattle.line_list.proofs.Choices.{some_is}
 use Rattle.hunk_core.proofs.TextLemmas.{after-takes, has_some}
 use Rattle.num_text.specs.Numbers.{number_at}
 use Rattle.num_text.specs.declared.range.NumberRange.{NumberRange}

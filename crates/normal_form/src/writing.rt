@@ -9,7 +9,7 @@ ghost use Rattle.hunk_core.specs.Sides.{is_on_side};
 ghost use Rattle.hunk_core.specs.Turned.{LiesIn, IsLawful, is_add, is_drop, taken};
 ghost use Rattle.hunk_core.specs.LineTests.{after_backslash};
 ghost use Rattle.hunk_core.specs.Rules.{HasNoInnerFeed, first_broken};
-ghost use Rattle.hunk_core.specs.Writing.{Puts};
+ghost use Rattle.outside.specs.Puts.{Puts};
 ghost use Rattle.normal_form.specs.Stretches.{marks};
 ghost use Rattle.normal_form.specs.Canonical.{are_added, drops_come_first, action_for, command_text, divider_text, line_text, canonical, in_order, SpellsFirst};
 ghost use Rattle.diff_command.specs.Spans.{span_text};

@@ -6,13 +6,13 @@ use Rattle.std.proofs.lemmas.List.{take_all}
 use Rattle.outside.specs.FinderView.{FinderView, FinderPasses}
 use Rattle.outside.specs.SinkView.{SinkView, SinkPasses, sink_passes_both, ReceivesPart}
 use Rattle.outside.proofs.Writing.{part_longer, part_after, received_both, received_none, received_part}
-use Rattle.hunk_core.specs.Writing.{Puts}
-use Rattle.hunk_core.proofs.SinkSteps.{HasPut, GoesOn, has-more, has-none}
+use Rattle.outside.specs.Puts.{Puts}
+use Rattle.outside.proofs.SinkSteps.{HasPut, GoesOn, has-more, has-none}
 use Rattle.patch_filters.specs.declared.fault.GrepFault.{GrepFault}
 use Rattle.patch_filters.specs.declared.fault.GrepFault.TheVariants.{Pattern, Write, Memory}
 use Rattle.patch_filters.specs.Grepped.{IsAsked, IsFindFault, IsPatternFault, HasGrepCause, Finds, test_by, test_of}
 use Rattle.patch_filters.proofs.Searching.{asked-none, asked-both, same-test}
-use Rattle.hunk_core.proofs.Loops.{up_to, one-more, both}
+use Rattle.outside.proofs.Loops.{up_to, one-more, both}
 
 -- what was asked and received so far, before a further call
 pub record HasFound {O : Type 0} (view : O → SinkView) (same : O → O → Type 0) (asked answered : FinderView) (old new : O) (bytes : List ℕ) : Type 0 where

@@ -24,7 +24,7 @@ use Rattle.patch_header.specs.Content.{content}
 use Rattle.patch_filters.specs.Filtered.{pieces, text_if}
 use Rattle.patch_filters.specs.Grepped.{IsFirst, contents, found_text, grepped, hits_of, is_found, text_if_found}
 use Rattle.filter_choice.proofs.Rows.{any-map, flat-if}
-use Rattle.hunk_core.proofs.Loops.{up_to, one-more, both}
+use Rattle.outside.proofs.Loops.{up_to, one-more, both}
 use Rattle.patch_filters.proofs.Flagged.{rows, rows-long, row-at}
 
 pub grepped-is : (hit : List ℕ → Bool) (j : PlainGrepJob) (v : SetView) → grepped hit j v ≡ flat_map (text_if_found hit j v.text) v.patches

@@ -4,7 +4,7 @@ ghost use Rattle.std.specs.Prelude.{◌≡◌, ◌+◌, ◌<◌, ◌≤◌, ◌^
 ghost use Rattle.std.specs.List.{list_any};
 ghost use Rattle.std.specs.Option.{ForSome};
 ghost use Rattle.outside.specs.SinkView.{Writes};
-ghost use Rattle.hunk_core.specs.Writing.{Puts};
+ghost use Rattle.outside.specs.Puts.{Puts};
 ghost use Rattle.file_patch.specs.PlainPatch.{header_of};
 ghost use Rattle.patch_text.specs.Changes.{AreCut};
 ghost use Rattle.patch_text.specs.Digests.{IsDigest};

@@ -14,9 +14,9 @@ use Rattle.patch_header.specs.Kept.{opening_said, bare_said}
 use Rattle.patch_header.specs.Region.{Row, row, rows, tail_of}
 use Rattle.patch_header.specs.Steps.{header_with, bare_with}
 use Rattle.patch_header.specs.declared.region.Tail.{Tail}
-use Rattle.patch_header.specs.declared.git_lines.Action.{Action}
+use Rattle.header_record.specs.declared.Action.{Action}
 use Rattle.patch_header.specs.declared.git_lines.GitLines.{GitLines}
-use Rattle.patch_header.specs.declared.header.Header.{Header}
+use Rattle.header_record.specs.declared.Header.{Header}
 use Rattle.patch_header.proofs.GitLemmas.{action-is, from-is, to-is}
 use Rattle.patch_header.proofs.Rows.{line_length}
 use Rattle.patch_header.proofs.Stands.{and_left}

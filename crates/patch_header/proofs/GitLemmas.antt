@@ -10,8 +10,8 @@ use Rattle.patch_header.specs.Region.{Row, rows, tail_of, first_some, last_tail}
 use Rattle.patch_header.specs.Said.{said_with, action_said, from_by_said, to_by_said, from_said, to_said, push_said, header_said, kept_if, trail_said, said_in, trail_back, trail_in, or_nothing, led_said}
 use Rattle.patch_header.specs.declared.region.Tail.{Tail}
 use Rattle.patch_header.specs.declared.ways.Ways.{Ways}
-use Rattle.patch_header.specs.declared.git_lines.Action.{Action}
-use Rattle.patch_header.specs.declared.git_lines.Action.TheVariants.{Plain, New, Deleted, Rename, Copy}
+use Rattle.header_record.specs.declared.Action.{Action}
+use Rattle.header_record.specs.declared.Action.TheVariants.{Plain, New, Deleted, Rename, Copy}
 use Rattle.patch_header.specs.declared.git_lines.GitLines.{GitLines}
 use Rattle.patch_header.specs.declared.git_trail.GitTrail.{GitTrail}
 

@@ -9,8 +9,8 @@ use Rattle.patch_header.specs.Content.{content}
 use Rattle.patch_header.specs.GitHeaders.{starts, is_git_line, is_extended, extended_run, behind_run, has_line, action_of, is_plain, has_names, begins_bare}
 use Rattle.patch_header.specs.GitRows.{half, are_alike, has_halves, header_back, old_name_back, new_name_back, led_rows}
 use Rattle.patch_header.specs.Region.{Row}
-use Rattle.patch_header.specs.declared.git_lines.Action.{Action}
-use Rattle.patch_header.specs.declared.git_lines.Action.TheVariants.{Plain, New, Deleted, Rename, Copy}
+use Rattle.header_record.specs.declared.Action.{Action}
+use Rattle.header_record.specs.declared.Action.TheVariants.{Plain, New, Deleted, Rename, Copy}
 use Rattle.patch_header.proofs.Stands.{and_left, and_right}
 use Rattle.patch_header.proofs.Meanings.{begins-words}
 use Rattle.patch_header.proofs.ScanLemmas.{run-more, behind-more, run-stops, behind-stops, run-none, behind-none}

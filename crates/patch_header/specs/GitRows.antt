@@ -9,8 +9,8 @@ use Rattle.patch_header.specs.Region.{Row, row, rows, tail_of, last_tail}
 use Rattle.patch_header.specs.Values.{span_at, bytes_of}
 use Rattle.patch_header.specs.declared.region.Tail.{Tail}
 use Rattle.patch_header.specs.declared.ways.Ways.{Ways}
-use Rattle.patch_header.specs.declared.git_lines.Action.{Action}
-use Rattle.patch_header.specs.declared.git_lines.Action.TheVariants.{Plain, New, Deleted, Rename, Copy}
+use Rattle.header_record.specs.declared.Action.{Action}
+use Rattle.header_record.specs.declared.Action.TheVariants.{Plain, New, Deleted, Rename, Copy}
 use Rattle.patch_header.specs.declared.git_lines.GitLines.{GitLines}
 
 -- the bytes of lines alone

@@ -10,7 +10,7 @@ use Rattle.patch_header.specs.Steps.{names_line}
 use Rattle.patch_header.specs.Values.{name_in, word_in, stamp_in}
 use Rattle.patch_header.specs.declared.region.Tail.{Tail}
 use Rattle.patch_header.specs.declared.git_lines.GitLines.{GitLines}
-use Rattle.patch_header.specs.declared.header.Header.{Header}
+use Rattle.header_record.specs.declared.Header.{Header}
 
 -- the header of an opening behind these lines, with what the git header says that leads it
 abbrev pub opening_said : List ℕ → Form → ℕ → ℕ → List Row → GitLines → Header

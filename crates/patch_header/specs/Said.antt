@@ -7,8 +7,8 @@ use Rattle.patch_header.specs.GitRows.{git_lines_in, whole_in, header_back, old_
 use Rattle.patch_header.specs.Region.{Row, tail_of, LiesIn}
 use Rattle.patch_header.specs.declared.region.Tail.{Tail}
 use Rattle.patch_header.specs.declared.ways.Ways.{Ways}
-use Rattle.patch_header.specs.declared.git_lines.Action.{Action}
-use Rattle.patch_header.specs.declared.git_lines.Action.TheVariants.{Plain, New, Deleted, Rename, Copy}
+use Rattle.header_record.specs.declared.Action.{Action}
+use Rattle.header_record.specs.declared.Action.TheVariants.{Plain, New, Deleted, Rename, Copy}
 use Rattle.patch_header.specs.declared.git_lines.GitLines.{GitLines}
 use Rattle.patch_header.specs.declared.git_trail.GitTrail.{GitTrail}
 

@@ -14,9 +14,9 @@ use Rattle.patch_header.specs.Values.{name_in, word_in, stamp_in, IsPieceOf}
 use Rattle.patch_header.specs.declared.openings.Stop.{Stop}
 use Rattle.patch_header.specs.declared.openings.Stop.TheVariants as stops
 use Rattle.patch_header.specs.declared.region.Tail.{Tail}
-use Rattle.patch_header.specs.declared.header.Header.{Header}
+use Rattle.header_record.specs.declared.Header.{Header}
 use Rattle.patch_header.specs.declared.ways.Ways.{Ways}
-use Rattle.patch_header.specs.declared.git_lines.Action.TheVariants.{Plain}
+use Rattle.header_record.specs.declared.Action.TheVariants.{Plain}
 use Rattle.patch_header.specs.declared.search.HeaderStep.{HeaderStep}
 use Rattle.patch_header.specs.declared.search.HeaderStep.TheVariants.{Found, Binary, End}
 

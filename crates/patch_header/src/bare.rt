@@ -18,10 +18,10 @@ use crate::git_lines::{
     GitLines, action_of, from_in, is_extended, is_git_line, is_plain, no_git_lines, starts, to_in,
     with_line,
 };
-use crate::header::Header;
 use crate::region::{Seen, Tail, tail_of};
 use crate::values::{name_in, span_at, word_in};
 use bstr::ByteSlice;
+use header_record::Header;
 use hunk_core::Form;
 use line_list::{Span, next_line};
 use stamp::Stamp;

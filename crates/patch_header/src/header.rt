@@ -8,40 +8,12 @@ ghost use Rattle.patch_header.specs.Said.{SaysWithin};
 ghost use Rattle.patch_header.specs.Steps.{names_line, HasPieces, IsUnled};
 ghost use Rattle.patch_header.specs.Kept.{opening_said};
 
-use crate::git_lines::{Action, GitLines, action_of, from_in, to_in};
+use crate::git_lines::{GitLines, action_of, from_in, to_in};
 use crate::region::{Seen, Tail};
 use crate::values::{name_in, stamp_in, word_in};
+use header_record::Header;
 use hunk_core::Form;
 use line_list::Span;
-use stamp::Stamp;
-
-/// The opening of a file patch or a bare git header, and what the lines in front of it say. Spans are places in the text.
-#[derive(Clone, Copy, Debug, PartialEq, Eq)]
-pub struct Header {
-    pub form: Form,
-    /// The place of the opening's line.
-    pub at: usize,
-    /// The number of the opening's line.
-    pub opening: u64,
-    /// The number of the old name's line, or of the opening where there is no old name.
-    pub names_line: u64,
-    pub old_name: Option<Span>,
-    pub new_name: Option<Span>,
-    /// The name of the last `Index:` line.
-    pub index: Option<Span>,
-    /// The word of the last `Prereq:` line.
-    pub prereq: Option<Span>,
-    pub old_stamp: Stamp,
-    pub new_stamp: Stamp,
-    /// What the git header says of the file: the bare one that this is, or the one that leads the opening.
-    pub action: Action,
-    /// Whether this is a bare git header, which no hunk follows. Its opening is its git line.
-    pub bare: bool,
-    /// The name that the file is renamed or copied from, up to the end of its line.
-    pub from: Option<Span>,
-    /// The name that the file is renamed or copied to, up to the end of its line.
-    pub to: Option<Span>,
-}
 
 fn names_line(tail: Option<Tail>, name: Option<Span>, opening: u64) -> u64
     ensures { result ≡ names_line tail name opening }

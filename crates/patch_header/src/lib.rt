@@ -15,8 +15,6 @@ mod words;
 
 pub use bare::bare_end;
 pub use content::is_binary;
-pub use git_lines::Action;
-pub use header::Header;
 pub use openings::{Stop, one_thing_stands};
 pub use search::{HeaderStep, header_from, next_header};
 pub use ways::{Ways, plainly};

@@ -9,15 +9,16 @@ ghost use Rattle.patch_header.specs.Searching.{HasPassed, IsLawful};
 ghost use Rattle.patch_header.specs.Said.{TrailsWithin};
 ghost use Rattle.patch_header.specs.Region.{AllLieIn};
 ghost use Rattle.patch_header.specs.Ways.{with_git};
-ghost use Rattle.patch_header.specs.declared.header.Header.{Header};
+ghost use Rattle.header_record.specs.declared.Header.{Header};
 ghost use Rattle.patch_header.specs.declared.ways.Ways.{Ways};
 
 use crate::bare::bare_of;
 use crate::git_trail::{GitTrail, led_by, no_trail, trail_behind};
-use crate::header::{Header, header_of};
+use crate::header::header_of;
 use crate::openings::{Stop, lacks_dot, stop_at};
 use crate::region::{Seen, nothing_seen, passed};
 use crate::ways::{Ways, with_git};
+use header_record::Header;
 use hunk_core::Form;
 use line_list::next_line;
 

@@ -10,7 +10,7 @@ ghost use Rattle.patch_header.specs.GitHeaders.{starts, is_git_line, is_extended
 ghost use Rattle.patch_header.specs.GitRows.{led_rows, are_alike, has_halves};
 ghost use Rattle.patch_header.specs.declared.region.Tail.{Tail};
 
-use crate::git_lines::Action;
+use header_record::Action;
 
 /// Lines that are told by all of them.
 pub fn whole_lines_in_words()

@@ -9,8 +9,8 @@ use mir.Val.{SFits}
 use Rattle.outside.specs.SinkView.{SinkView, Writes}
 use Rattle.outside.proofs.Writing.{writes_is}
 use Rattle.hunk_core.specs.declared.Verdict.{Verdict}
-use Rattle.hunk_core.specs.Writing.{Puts}
-use Rattle.hunk_core.proofs.SinkSteps.{HasPut, GoesOn, has-more, puts-more, puts-stop, puts-done}
+use Rattle.outside.specs.Puts.{Puts}
+use Rattle.outside.proofs.SinkSteps.{HasPut, GoesOn, has-more, puts-more, puts-stop, puts-done}
 use Rattle.reject_text.specs.Starts.{Row, net}
 use Rattle.hunk_apply.specs.Session.{IsTried}
 use Rattle.patch_options.specs.PlainJob.{PlainOptions}

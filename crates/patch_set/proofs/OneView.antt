@@ -5,7 +5,7 @@ use Rattle.hunk_core.specs.Pieces.{AreInTurn}
 use Rattle.hunk_core.specs.Reading.{Fault}
 use Rattle.file_patch.specs.declared.FilePatch.{FilePatch}
 use Rattle.file_patch.specs.PlainPatch.{PlainPatch, header_of, row_count}
-use Rattle.patch_header.specs.declared.header.Header.{Header}
+use Rattle.header_record.specs.declared.Header.{Header}
 use Rattle.patch_options.specs.PlainJob.{PlainOptions}
 use Rattle.target_names.specs.declared.derived.Target.{Target}
 use Rattle.patch_text.specs.Patches.{patches_of}

@@ -13,9 +13,9 @@ ghost use Rattle.patch_set.specs.Naming.{IsNamed, AreNamed};
 
 use crate::asked::is_posix;
 use file_patch::FilePatch;
+use header_record::{Action, Header};
 use line_list::Span;
 use outside::Name;
-use patch_header::{Action, Header};
 use patch_options::Options;
 use std::alloc::{AllocError, Global};
 use target_names::{Numbers, Target, candidates, moved_names};

@@ -8,7 +8,7 @@ use Rattle.std.proofs.lemmas.List.Quantifiers.{position-Some}
 use Rattle.outside.specs.Files.{Files}
 use Rattle.hunk_core.specs.declared.Side.{Side}
 use Rattle.line_store.specs.declared.fault.OpenFault.{OpenFault}
-use Rattle.patch_header.specs.declared.git_lines.Action.{Action}
+use Rattle.header_record.specs.declared.Action.{Action}
 use Rattle.target_names.specs.declared.derived.Target.{Target}
 use Rattle.name_choice.specs.declared.Choice.{Choice}
 use Rattle.name_choice.specs.declared.Choice.TheVariants.{Existing, Create, Nothing}

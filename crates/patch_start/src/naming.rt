@@ -6,7 +6,7 @@ ghost use Rattle.patch_effects.specs.Named.{IsNamed};
 ghost use Rattle.patch_start.specs.Start.{named, origin_of};
 ghost use Rattle.patch_task.specs.TaskView.{plain_task, IsTask};
 
-use patch_header::Action;
+use header_record::Action;
 use patch_task::{Task, chosen, shown, written};
 use say_text::Origin;
 use target_names::Target;

@@ -2,8 +2,8 @@
 use Rattle.std.specs.Prelude.{ℕ, Bool, true, false, not, ◌&&◌, ◌==◌, if◌then◌else◌, is_none}
 use Rattle.hunk_core.specs.declared.Side.{Side}
 use Rattle.hunk_core.specs.Turned.{other_side}
-use Rattle.patch_header.specs.declared.git_lines.Action.{Action}
-use Rattle.patch_header.specs.declared.git_lines.Action.TheVariants.{Plain, New, Deleted, Rename, Copy}
+use Rattle.header_record.specs.declared.Action.{Action}
+use Rattle.header_record.specs.declared.Action.TheVariants.{Plain, New, Deleted, Rename, Copy}
 use Rattle.patch_options.specs.PlainJob.{PlainOptions}
 use Rattle.file_patch.specs.Actions.{is_moved}
 use Rattle.file_patch.specs.Absent.{is_said_absent}

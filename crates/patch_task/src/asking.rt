@@ -7,8 +7,8 @@ ghost use Rattle.patch_options.specs.PlainJob.{plain_options};
 ghost use Rattle.patch_task.specs.Asking.{is_rename, renames, is_bare, acts_new, acts_deleted, other_place, written_place, takes_files};
 
 use file_patch::FilePatch;
+use header_record::Action;
 use hunk_core::Side;
-use patch_header::Action;
 use patch_options::Options;
 
 /// Whether its file is renamed.

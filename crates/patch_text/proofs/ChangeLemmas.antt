@@ -30,7 +30,7 @@ use Rattle.file_patch.specs.PlainPatch.{hunks, change_of, hunk_count, row_count}
 use Rattle.patch_text.specs.Patches.{begins_change}
 use Rattle.patch_text.specs.Regions.{piece_ends}
 use Rattle.patch_text.specs.Texts.{IsPiece}
-use Rattle.patch_header.specs.declared.header.Header.{Header}
+use Rattle.header_record.specs.declared.Header.{Header}
 use Rattle.patch_header.proofs.Fronts.{and_left}
 use Rattle.patch_text.specs.Changes.{Spells, IsChange, IsBareChange, IsBehind, hunks_read}
 use Rattle.patch_text.specs.declared.change.ReadChange.{ReadChange}

@@ -15,7 +15,7 @@ use Rattle.unified_form.specs.declared.skim.OldRange.{OldRange}
 use Rattle.unified_form.specs.Grammar.{SpellsHunk}
 use Rattle.unified_form.specs.Hunks.{begins_hunk, reading}
 use Rattle.unified_form.specs.Skimmed.{AreRows, old_range}
-use Rattle.patch_header.specs.declared.header.Header.{Header}
+use Rattle.header_record.specs.declared.Header.{Header}
 use Rattle.patch_header.specs.declared.search.HeaderStep.TheVariants.{Found}
 use Rattle.patch_header.specs.declared.ways.Ways.{Ways}
 use Rattle.patch_header.specs.Steps.{IsFirstOpening, next_step}

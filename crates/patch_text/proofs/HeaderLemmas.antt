@@ -17,7 +17,7 @@ use Rattle.patch_header.specs.GitRows.{led_by}
 use Rattle.patch_header.specs.declared.openings.Stop.{Stop}
 use Rattle.patch_header.specs.declared.openings.Stop.TheVariants.{Opening, Binary, Bare}
 use Rattle.patch_header.specs.declared.region.Tail.{Tail}
-use Rattle.patch_header.specs.declared.header.Header.{Header}
+use Rattle.header_record.specs.declared.Header.{Header}
 use Rattle.patch_text.specs.Reading.{IsHeaderFrom}
 use Rattle.patch_text.proofs.ChangeLemmas.{opens-change}
 

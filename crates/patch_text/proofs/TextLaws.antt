@@ -12,7 +12,7 @@ use Rattle.unified_form.proofs.Pieces as unified
 use Rattle.context_form.proofs.Pieces as context
 use Rattle.normal_form.proofs.Pieces as normal
 use Rattle.ed_form.proofs.Pieces as ed
-use Rattle.patch_header.specs.declared.header.Header.{Header}
+use Rattle.header_record.specs.declared.Header.{Header}
 use Rattle.patch_header.specs.declared.search.HeaderStep.TheVariants.{Found, End}
 use Rattle.patch_header.specs.declared.ways.Ways.{Ways}
 use Rattle.patch_header.specs.Steps.{IsEnd, next_step}

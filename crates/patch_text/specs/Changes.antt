@@ -16,7 +16,7 @@ use Rattle.ed_form.specs.Grammar as ed
 use Rattle.patch_header.specs.Content.{has_dot}
 use Rattle.file_patch.specs.PlainPatch.{PlainChange, hunks, script, change_of, row_count, IsLawfulChange}
 use Rattle.file_patch.specs.declared.Change.TheVariants as changes
-use Rattle.patch_header.specs.declared.header.Header.{Header}
+use Rattle.header_record.specs.declared.Header.{Header}
 use Rattle.patch_text.specs.Regions.{hunk_ends, piece_ends}
 use Rattle.patch_text.specs.Texts.{GoesUpTo, IsBare, IsPiece}
 use Rattle.patch_text.specs.declared.change.ReadChange.{ReadChange}

@@ -5,7 +5,7 @@ use Rattle.hunk_core.specs.Reading.{Fault, ◌>>=◌, Ahead, ahead}
 use Rattle.unified_form.specs.declared.skim.OldRange.{OldRange}
 use Rattle.unified_form.specs.Skimmed.{old_range}
 use Rattle.patch_header.specs.Content.{has_dot}
-use Rattle.patch_header.specs.declared.header.Header.{Header}
+use Rattle.header_record.specs.declared.Header.{Header}
 use Rattle.patch_header.specs.declared.ways.Ways.{Ways}
 use Rattle.file_patch.specs.declared.Change.{Change}
 use Rattle.file_patch.specs.declared.Change.TheVariants as changes

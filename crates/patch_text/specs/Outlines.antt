@@ -4,7 +4,7 @@ use Rattle.line_list.specs.Lines.{lines}
 use Rattle.hunk_core.specs.declared.Form.{Form}
 use Rattle.hunk_core.specs.Reading.{Fault, ◌>>=◌, Ahead, ahead}
 use Rattle.patch_header.specs.Content.{has_dot}
-use Rattle.patch_header.specs.declared.header.Header.{Header}
+use Rattle.header_record.specs.declared.Header.{Header}
 use Rattle.patch_header.specs.declared.ways.Ways.{Ways}
 use Rattle.file_patch.specs.PlainPatch.{PlainChange, PlainPatch, hunks, script, change_of, IsLawfulChange}
 use Rattle.patch_text.specs.Patches.{change_at, change_behind, patch_at, next_patch, patches_of}

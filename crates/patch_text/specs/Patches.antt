@@ -13,7 +13,7 @@ use Rattle.context_form.specs.Hunks as context
 use Rattle.normal_form.specs.Hunks as normal
 use Rattle.ed_form.specs.Commands as ed_commands
 use Rattle.ed_form.specs.Scripts as ed
-use Rattle.patch_header.specs.declared.header.Header.{Header}
+use Rattle.header_record.specs.declared.Header.{Header}
 use Rattle.patch_header.specs.declared.search.HeaderStep.{HeaderStep}
 use Rattle.patch_header.specs.declared.search.HeaderStep.TheVariants.{Found, Binary, End}
 use Rattle.patch_header.specs.declared.ways.Ways.{Ways}

@@ -4,7 +4,7 @@ use Rattle.line_list.specs.Lines.{lines}
 use Rattle.hunk_core.specs.Reading.{Ahead, ahead}
 use Rattle.patch_header.specs.Content.{has_dot}
 use Rattle.patch_header.specs.Steps.{HasPieces}
-use Rattle.patch_header.specs.declared.header.Header.{Header}
+use Rattle.header_record.specs.declared.Header.{Header}
 use Rattle.patch_text.specs.Patches.{begins_change}
 use Rattle.patch_text.specs.declared.patches.Progress.{Progress}
 

@@ -7,7 +7,7 @@ use Rattle.hunk_core.specs.Reading.{Fault, Ahead}
 use Rattle.unified_form.specs.Ranges.{is_opening}
 use Rattle.context_form.specs.Openings.{is_stars}
 use Rattle.normal_form.specs.Commands.{is_command}
-use Rattle.patch_header.specs.declared.header.Header.{Header}
+use Rattle.header_record.specs.declared.Header.{Header}
 use Rattle.patch_header.specs.declared.search.HeaderStep.{HeaderStep}
 use Rattle.patch_header.specs.declared.search.HeaderStep.TheVariants.{Found, Binary, End}
 use Rattle.patch_header.specs.declared.ways.Ways.{Ways}

@@ -10,7 +10,7 @@ use Rattle.unified_form.specs.Grammar as unified
 use Rattle.context_form.specs.Grammar as context
 use Rattle.normal_form.specs.Grammar as normal
 use Rattle.ed_form.specs.Grammar as ed
-use Rattle.patch_header.specs.declared.header.Header.{Header}
+use Rattle.header_record.specs.declared.Header.{Header}
 use Rattle.patch_header.specs.declared.ways.Ways.{Ways}
 use Rattle.patch_header.specs.Steps.{IsFirstOpening, IsFirstBinary, IsEnd}
 use Rattle.file_patch.specs.PlainPatch.{PlainChange, PlainPatch, hunks, script, header_of}

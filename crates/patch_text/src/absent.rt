@@ -10,9 +10,9 @@ ghost use Rattle.file_patch.specs.Actions.{is_new, is_deleted};
 ghost use Rattle.patch_text.specs.Patches.{patch_with};
 
 use file_patch::Change;
+use header_record::{Action, Header};
 use hunk_core::{Hunk, Side};
 use line_list::Span;
-use patch_header::{Action, Header};
 use stamp::Stamp;
 
 /// Whether a name is `/dev/null`.

@@ -8,9 +8,10 @@ ghost use Rattle.patch_text.specs.Patches.{bare_change, begins_change, change_at
 ghost use Rattle.patch_text.specs.Changes.{IsBareChange, IsBehind, IsChange, hunks_read, read_of};
 
 use file_patch::Change;
+use header_record::Header;
 use hunk_core::{Form, FormFault, Hunks};
 use line_list::Span;
-use patch_header::{Header, bare_end};
+use patch_header::bare_end;
 use std::alloc::Global;
 
 /// A change that was read, with the piece of the text that each hunk stands in.

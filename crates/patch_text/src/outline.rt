@@ -19,9 +19,10 @@ use crate::absent::is_absent;
 use crate::change::read_behind;
 use crate::patches::Progress;
 use file_patch::{Change, FilePatch};
+use header_record::Header;
 use hunk_core::{BadKind, Form, FormFault, Side, bad};
 use line_list::Span;
-use patch_header::{Header, HeaderStep, Ways, header_from};
+use patch_header::{HeaderStep, Ways, header_from};
 use std::alloc::{AllocError, Global};
 use unified_form::{Skim, skim_hunks};
 

@@ -18,9 +18,10 @@ ghost use Rattle.patch_text.specs.Texts.{ComesFault, IsFaulty, HasPatches};
 use crate::absent::is_absent;
 use crate::change::read_behind;
 use file_patch::FilePatch;
+use header_record::Header;
 use hunk_core::{BadKind, FormFault, Side, bad};
 use line_list::Span;
-use patch_header::{Header, HeaderStep, Ways, header_from};
+use patch_header::{HeaderStep, Ways, header_from};
 use std::alloc::Global;
 
 /// How far a text is read.

@@ -1,8 +1,9 @@
 //! What the lines in front of a file patch say, row by row; git headers are read in rows of `git`.
 
+use header_record::Header;
 use hunk_core::Form;
 use line_list::Span;
-use patch_header::{Header, HeaderStep, next_header};
+use patch_header::{HeaderStep, next_header};
 use std::alloc::{AllocError, Global};
 
 /// The form that is asked for, `-` or `git`; a text; and the form of the opening, its line and the line of the names; the old and

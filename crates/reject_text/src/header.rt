@@ -1,7 +1,7 @@
 //! The two lines in front of the hunks.
 
 ghost use Rattle.std.specs.Prelude.{◌≡◌, ◌++◌};
-ghost use Rattle.hunk_core.specs.Writing.{Puts};
+ghost use Rattle.outside.specs.Puts.{Puts};
 ghost use Rattle.reject_text.specs.Headers.{IsRejectForm, name_line, headers};
 ghost use Rattle.patch_header.specs.Written.{old_mark, new_mark, holds_space, name_end};
 

@@ -5,7 +5,7 @@ ghost use Rattle.std.specs.List.{flat_map};
 ghost use Rattle.outside.specs.SinkView.{Writes};
 ghost use Rattle.hunk_core.specs.PlainHunk.{hunk_of, hunks_of};
 ghost use Rattle.hunk_core.specs.Turned.{IsLawful, taken, turned};
-ghost use Rattle.hunk_core.specs.Writing.{Puts};
+ghost use Rattle.outside.specs.Puts.{Puts};
 ghost use Rattle.file_patch.specs.PlainPatch.{AreLawfulHunks, IsLawfulChange, change_of, row_count};
 ghost use Rattle.reject_text.specs.Headers.{IsRejectForm};
 ghost use Rattle.reject_text.specs.Starts.{moved};

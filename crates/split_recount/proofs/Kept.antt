@@ -15,7 +15,8 @@ use Rattle.hunk_core.specs.declared.fault.FormFault.{FormFault}
 use Rattle.hunk_core.specs.PlainHunk.{Marked, PlainHunk}
 use Rattle.hunk_core.specs.LineTests.{after}
 use Rattle.hunk_core.specs.Reading.{Fault, Gives}
-use Rattle.hunk_core.proofs.ReadSteps.{bind_ok, chosen}
+use Rattle.hunk_core.proofs.ReadSteps.{bind_ok}
+use Rattle.line_list.proofs.Choices.{chosen}
 use Rattle.unified_form.specs.declared.body.Left.{Left}
 use Rattle.unified_form.specs.Ranges.{is_opening}
 use Rattle.unified_form.specs.Canonical.{range_text}

@@ -10,7 +10,7 @@ use Rattle.num_text.proofs.Runs.{number-takes}
 use Rattle.hunk_core.specs.declared.BadKind.{BadKind}
 use Rattle.hunk_core.specs.LineTests.{after}
 use Rattle.hunk_core.proofs.TextLemmas.{after-takes}
-use Rattle.hunk_core.proofs.ReadSteps.{some_is, chosen}
+use Rattle.line_list.proofs.Choices.{some_is, chosen}
 use Rattle.unified_form.specs.declared.body.Left.{Left}
 use Rattle.unified_form.specs.declared.range.Ranges.{Ranges}
 use Rattle.unified_form.specs.Ranges.{capped, size_at, count_at, range_at, is_bad_range}

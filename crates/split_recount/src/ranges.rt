@@ -2,7 +2,7 @@
 
 ghost use Rattle.std.specs.Prelude.{◌≡◌, ◌<◌, ◌^◌, ◌++◌, ◌||◌, IfOk, OnOk, if◌then◌else◌};
 ghost use Rattle.num_text.specs.Numbers.{decimal};
-ghost use Rattle.hunk_core.specs.Reading.{Reads};
+ghost use Rattle.line_list.specs.Reader.{Reads};
 ghost use Rattle.unified_form.specs.Ranges.{range_at, is_bad_range};
 ghost use Rattle.hunk_core.specs.Rules.{is_too_large};
 ghost use Rattle.unified_form.specs.Canonical.{range_text};

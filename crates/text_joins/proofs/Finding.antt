@@ -19,7 +19,7 @@ use Rattle.ed_form.proofs.Pieces as ed_pieces
 use Rattle.patch_header.specs.Openings.{stop_at}
 use Rattle.patch_header.specs.Region.{rows}
 use Rattle.patch_header.specs.Steps.{AreQuiet, IsEnd, IsFirstOpening, header_at, region_of, first_stop, found_or, step_behind, next_step}
-use Rattle.patch_header.specs.declared.header.Header.{Header}
+use Rattle.header_record.specs.declared.Header.{Header}
 use Rattle.patch_header.specs.declared.openings.Stop.{Stop}
 use Rattle.patch_header.specs.declared.search.HeaderStep.TheVariants.{Found, End}
 use Rattle.patch_header.specs.declared.ways.Ways.{Ways}

@@ -14,8 +14,8 @@ use Rattle.patch_header.specs.GitHeaders.{action_of}
 use Rattle.patch_header.specs.GitRows as git
 use Rattle.patch_header.specs.Region.{Row, tail_of, first_some, last_tail, old_tail, new_tail}
 use Rattle.patch_header.specs.Values.{is_blank, is_white, first, blanks, unblanked, name_length, word_length, span_at, bytes_of, name_in, word_in, stamp_in}
-use Rattle.patch_header.specs.declared.git_lines.Action.{Action}
-use Rattle.patch_header.specs.declared.git_lines.Action.TheVariants.{Plain, New, Deleted, Rename, Copy}
+use Rattle.header_record.specs.declared.Action.{Action}
+use Rattle.header_record.specs.declared.Action.TheVariants.{Plain, New, Deleted, Rename, Copy}
 use Rattle.patch_header.specs.declared.region.Tail.{Tail}
 use Rattle.patch_header.proofs.Rows.{content_short}
 use Rattle.file_patch.specs.PlainPatch.{bytes_in}

@@ -14,8 +14,8 @@ use Rattle.patch_header.specs.Openings.{stop_at}
 use Rattle.patch_header.specs.Region.{row, rows, last_tail, old_tail, new_tail}
 use Rattle.patch_header.specs.Values.{span_at, bytes_of, name_in, word_in, stamp_in}
 use Rattle.patch_header.specs.Steps.{header_with, bare_with, header_at}
-use Rattle.patch_header.specs.declared.git_lines.Action.{Action}
-use Rattle.patch_header.specs.declared.header.Header.{Header}
+use Rattle.header_record.specs.declared.Action.{Action}
+use Rattle.header_record.specs.declared.Header.{Header}
 use Rattle.patch_header.specs.declared.openings.Stop.{Stop}
 use Rattle.patch_header.specs.declared.openings.Stop.TheVariants.{Opening, Binary, Bare}
 use Rattle.patch_header.specs.declared.region.Tail.{Tail}

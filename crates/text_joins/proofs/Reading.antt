@@ -11,7 +11,7 @@ use Rattle.patch_header.specs.GitRows.{led_by}
 use Rattle.patch_header.specs.Openings.{admits, begins, stop_at}
 use Rattle.patch_header.specs.Region.{Row, rows}
 use Rattle.patch_header.specs.Steps.{IsEnd, IsFirstOpening, header_with, bare_with, header_at, next_step}
-use Rattle.patch_header.specs.declared.header.Header.{Header}
+use Rattle.header_record.specs.declared.Header.{Header}
 use Rattle.patch_header.specs.declared.openings.Stop.{Stop}
 use Rattle.patch_header.specs.declared.openings.Stop.TheVariants.{Opening, Binary, Bare}
 use Rattle.patch_header.specs.declared.search.HeaderStep.{HeaderStep}

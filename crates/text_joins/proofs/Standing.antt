@@ -13,7 +13,7 @@ use Rattle.patch_header.specs.GitRows.{led_by}
 use Rattle.patch_header.specs.Openings.{stop_at}
 use Rattle.patch_header.specs.Region.{Row, rows}
 use Rattle.patch_header.specs.Steps.{AreQuiet, IsRegion, IsEnd, header_with, bare_with, header_at}
-use Rattle.patch_header.specs.declared.header.Header.{Header}
+use Rattle.header_record.specs.declared.Header.{Header}
 use Rattle.patch_header.specs.declared.openings.Stop.{Stop}
 use Rattle.patch_header.specs.declared.openings.Stop.TheVariants.{Opening, Binary, Bare}
 use Rattle.patch_header.specs.declared.ways.Ways.{Ways}

@@ -13,7 +13,8 @@ use Rattle.unified_form.specs.Bodies.{mark_at, is_last_line, must_be_marked, mar
 use Rattle.hunk_core.specs.LineTests.{marked, is_backslash, after_backslash, unended}
 use Rattle.unified_form.specs.Grammar.{mark_byte, IsEmptyLine, Shows, one_more, counts_of, SpellsLine, SpellsBody}
 use Rattle.unified_form.proofs.Loops.{body_empty}
-use Rattle.hunk_core.proofs.ReadSteps.{bind_ok, chosen, guard_ok, must_ok, ok_is}
+use Rattle.hunk_core.proofs.ReadSteps.{bind_ok, guard_ok, must_ok, ok_is}
+use Rattle.line_list.proofs.Choices.{chosen}
 
 -- ---- one line
 

@@ -6,7 +6,8 @@ use Rattle.hunk_core.specs.declared.BadKind.TheVariants as kinds
 use Rattle.hunk_core.specs.PlainHunk.{Marked}
 use Rattle.hunk_core.specs.LineTests.{is_backslash, after_backslash, unended}
 use Rattle.hunk_core.specs.Reading.{◌>>=◌, Fault, fault, Ahead, ahead}
-use Rattle.hunk_core.proofs.ReadSteps.{bind_ok, chosen, must_ok, ok_is}
+use Rattle.hunk_core.proofs.ReadSteps.{bind_ok, must_ok, ok_is}
+use Rattle.line_list.proofs.Choices.{chosen}
 use Rattle.hunk_core.specs.FirstFault.{AgreeTo}
 use Rattle.hunk_core.proofs.FaultSteps.{failed, err_is, bind_err, guard_err, add}
 use Rattle.hunk_core.proofs.Agreeing.{agree_head}

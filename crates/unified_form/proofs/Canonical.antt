@@ -21,7 +21,7 @@ use Rattle.unified_form.specs.Grammar.{mark_byte, counts_of, SpellsLine, SpellsB
 use Rattle.unified_form.specs.Canonical.{range_text, range_line_text, line_text, canonical}
 use Rattle.hunk_core.specs.LineTests.{ends_line}
 use Rattle.num_text.proofs.Decimal.{decimal-numeral}
-use Rattle.hunk_core.proofs.ReadSteps.{chosen}
+use Rattle.line_list.proofs.Choices.{chosen}
 
 abbrev pub line_lines : Marked → List (List ℕ)
 line_lines m = cond (ends_line m.line) ((mark_byte m.mark ∷ m.line) ∷ []) ((mark_byte m.mark ∷ (m.line ++ 10 ∷ [])) ∷ no_newline ∷ [])

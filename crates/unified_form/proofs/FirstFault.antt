@@ -7,7 +7,8 @@ use Rattle.hunk_core.specs.PlainHunk.{Marked, PlainHunk}
 use Rattle.hunk_core.specs.LineTests.{after_backslash}
 use Rattle.hunk_core.specs.Reading.{◌>>=◌, Fault, fault, Ahead, ahead}
 use Rattle.hunk_core.proofs.TextLemmas.{has_some}
-use Rattle.hunk_core.proofs.ReadSteps.{bind_ok, chosen, guard_ok}
+use Rattle.hunk_core.proofs.ReadSteps.{bind_ok, guard_ok}
+use Rattle.line_list.proofs.Choices.{chosen}
 use Rattle.hunk_core.specs.Refusals.{settled}
 use Rattle.hunk_core.specs.FirstFault.{AgreeTo}
 use Rattle.hunk_core.proofs.FaultSteps.{failed, err_is, bind_err, short_or}

@@ -8,7 +8,7 @@ use Rattle.hunk_core.specs.declared.BadKind.TheVariants as kinds
 use Rattle.hunk_core.specs.PlainHunk.{Marked, PlainHunk}
 use Rattle.hunk_core.specs.LineTests.{marked, after_backslash}
 use Rattle.hunk_core.specs.Reading.{Fault, fault, Ahead, ahead}
-use Rattle.hunk_core.proofs.ReadSteps.{chosen}
+use Rattle.line_list.proofs.Choices.{chosen}
 use Rattle.hunk_core.proofs.TextLemmas.{has_some}
 use Rattle.hunk_core.specs.Refusals.{settled}
 use Rattle.hunk_core.proofs.FaultSteps.{failed, bind_err, short_or}

@@ -20,7 +20,8 @@ use Rattle.hunk_core.specs.LineTests.{is_backslash, after_backslash}
 use Rattle.unified_form.specs.Hunks.{at_line, left_of, change, first_hunk, hunk_at, begins_hunk, hunks_at, reading}
 use Rattle.unified_form.specs.Grammar.{counts_of, ranges_of, SpellsHunk, SpellsHunks, EndsPiece, IsPiece}
 use Rattle.unified_form.proofs.Steps.{hunk-shrinks}
-use Rattle.hunk_core.proofs.ReadSteps.{bind_ok, chosen, guard_ok, ok_is}
+use Rattle.hunk_core.proofs.ReadSteps.{bind_ok, guard_ok, ok_is}
+use Rattle.line_list.proofs.Choices.{chosen}
 use Rattle.unified_form.proofs.RangeGrammar.{opening-takes, opening-again, made}
 use Rattle.unified_form.proofs.Bodies.{body_takes, body_again}
 

@@ -1,7 +1,8 @@
 -- A step that did not fail, and how many lines it leaves.
 use Rattle.std.proofs.Common.{◌≡◌, ℕ, zero, suc, ◌+◌, ◌≤◌, ◌<◌, Bool, true, false, cond, eqb, List, [], ◌∷◌, length, Option, None, Some, Ok, refl, arith, inl, inr}
 use Rattle.hunk_core.specs.PlainHunk.{Marked, PlainHunk}
-use Rattle.hunk_core.proofs.ReadSteps.{bind_ok, chosen, guard_ok, must_ok, ok_is}
+use Rattle.hunk_core.proofs.ReadSteps.{bind_ok, guard_ok, must_ok, ok_is}
+use Rattle.line_list.proofs.Choices.{chosen}
 use Rattle.hunk_core.specs.Reading.{◌>>=◌, Ahead, ahead}
 use Rattle.hunk_core.specs.Refusals.{settled}
 use Rattle.unified_form.specs.declared.body.Left.{Left}

@@ -6,7 +6,7 @@ ghost use Rattle.line_list.specs.Lines.{lines, IsLineAt};
 ghost use Rattle.hunk_core.specs.PlainHunk.{marked_of, body_of};
 ghost use Rattle.hunk_core.specs.Turned.{LiesIn};
 ghost use Rattle.hunk_core.specs.Reading.{Gives, IsPlace, ahead_of};
-ghost use Rattle.hunk_core.specs.Reading.{Reads};
+ghost use Rattle.line_list.specs.Reader.{Reads};
 ghost use Rattle.unified_form.specs.Bodies.{mark_at, marked_at, room_at, is_last_line, line_at, body_at};
 ghost use Rattle.hunk_core.specs.LineTests.{unended, is_backslash, after_backslash};
 

@@ -8,7 +8,7 @@ ghost use Rattle.hunk_core.specs.PlainHunk.{hunk_of, marked_of, body_of, bytes_a
 ghost use Rattle.hunk_core.specs.Turned.{LiesIn, IsLawful, taken, taken_mark, taken_line};
 ghost use Rattle.hunk_core.specs.LineTests.{after_backslash};
 ghost use Rattle.hunk_core.specs.Rules.{HasNoInnerFeed, first_broken};
-ghost use Rattle.hunk_core.specs.Writing.{Puts};
+ghost use Rattle.outside.specs.Puts.{Puts};
 ghost use Rattle.unified_form.specs.Grammar.{mark_byte};
 ghost use Rattle.unified_form.specs.Canonical.{range_text, range_line_text, line_text, canonical, SpellsFirst};
 

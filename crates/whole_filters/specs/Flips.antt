@@ -3,7 +3,7 @@ use Rattle.std.specs.Prelude.{◌≡◌, ◌⊎◌, ℕ, false, List, ◌++◌, 
 use Rattle.std.specs.List.{flat_map}
 use Rattle.line_list.specs.Completed.{completed}
 use Rattle.hunk_core.specs.declared.Side.TheVariants.{Reversed}
-use Rattle.hunk_core.specs.Writing.{Puts}
+use Rattle.outside.specs.Puts.{Puts}
 use Rattle.outside.specs.Files.{Files}
 use Rattle.outside.specs.TreeView.{TreeView}
 use Rattle.outside.specs.SourceView.{SourceView}

@@ -7,8 +7,8 @@ use Rattle.hunk_core.specs.declared.Side.TheVariants.{Forward}
 use Rattle.hunk_core.specs.PlainHunk.{body_of, bytes_at, hunk_of}
 use Rattle.hunk_core.specs.Sides.{is_on_side, taken_count}
 use Rattle.hunk_core.specs.Turned.{base, is_keep}
-use Rattle.hunk_core.specs.Writing.{Puts}
-use Rattle.hunk_core.proofs.SinkSteps.{HasPut, has-more, has-none, has-put, puts-done, puts-more, puts-stop}
+use Rattle.outside.specs.Puts.{Puts}
+use Rattle.outside.proofs.SinkSteps.{HasPut, has-more, has-none, has-put, puts-done, puts-more, puts-stop}
 use Rattle.hunk_core.proofs.TurnedLemmas.{turned-base}
 use Rattle.change_commands.specs.Backward.{closing_if, grown}
 use Rattle.change_commands.specs.Blocks.{Edit, body_edits}

@@ -3,7 +3,7 @@ use Rattle.hunk_core.specs.declared.Side.TheVariants.{Forward}
 use Rattle.hunk_core.specs.PlainHunk.{body_of, hunk_of}
 use Rattle.hunk_core.specs.Sides.{taken_count}
 use Rattle.hunk_core.specs.Turned.{base}
-use Rattle.hunk_core.proofs.SinkSteps.{HasPut}
+use Rattle.outside.proofs.SinkSteps.{HasPut}
 use Rattle.change_commands.specs.Backward.{grown}
 use Rattle.change_commands.specs.Blocks.{body_edits}
 use Rattle.change_commands.specs.Walk.{edits_left, edits_of, pairs}

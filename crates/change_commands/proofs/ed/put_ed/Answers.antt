@@ -2,8 +2,8 @@ use Rattle.std.proofs.Common.{◌≡◌, ◌+◌, ◌-◌, ◌<◌, ◌++◌, �
 use Rattle.std.proofs.lemmas.List.{take-append-drop}
 use Rattle.std.proofs.lemmas.Grind.{flat_map-append}
 use Rattle.std.proofs.lemmas.Result.{err_from_is_err_and}
-use Rattle.hunk_core.specs.Writing.{Puts}
-use Rattle.hunk_core.proofs.SinkSteps.{HasPut, has-more, has-none, has-put, puts-done, puts-more, puts-stop}
+use Rattle.outside.specs.Puts.{Puts}
+use Rattle.outside.proofs.SinkSteps.{HasPut, has-more, has-none, has-put, puts-done, puts-more, puts-stop}
 use Rattle.change_commands.specs.Backward.{first_text, grown, text_behind}
 use Rattle.change_commands.specs.Blocks.{Edit, blocks_of, hunk_edits}
 use Rattle.change_commands.specs.Commands.{ed_text}

@@ -1,5 +1,5 @@
 use Rattle.std.proofs.Common.{◌≡◌, ◌++◌, drop}
-use Rattle.hunk_core.proofs.SinkSteps.{HasPut}
+use Rattle.outside.proofs.SinkSteps.{HasPut}
 use Rattle.change_commands.specs.Backward.{StandsBehind, text_behind}
 use Rattle.change_commands.specs.Blocks.{blocks_of}
 use Rattle.change_commands.specs.Walk.{edits_of, pairs}

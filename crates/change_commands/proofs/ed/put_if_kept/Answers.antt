@@ -3,8 +3,8 @@ use Rattle.std.proofs.lemmas.Result.{IfOk-weaker}
 use Rattle.hunk_core.specs.declared.Hunk.{Hunk}
 use Rattle.hunk_core.specs.PlainHunk.{body_of, hunk_of}
 use Rattle.hunk_core.specs.Turned.{base}
-use Rattle.hunk_core.specs.Writing.{Puts}
-use Rattle.hunk_core.proofs.SinkSteps.{HasPut, has-none, puts-done}
+use Rattle.outside.specs.Puts.{Puts}
+use Rattle.outside.proofs.SinkSteps.{HasPut, has-none, puts-done}
 use Rattle.change_commands.specs.Backward.{StandsBehind, grown}
 use Rattle.change_commands.specs.Blocks.{Edit, body_edits}
 use Rattle.change_commands.specs.Walk.{edits_left, edits_of, kept_flags, pair_left, pairs}

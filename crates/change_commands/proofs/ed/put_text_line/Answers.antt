@@ -1,6 +1,6 @@
 use Rattle.std.proofs.Common.{◌≡◌, ◌++◌, ℕ, List, [], Bool, cond, true, sym, ap, subst, ◌∙◌}
 use Rattle.std.specs.Prelude.{codes}
-use Rattle.hunk_core.specs.Writing.{Puts}
+use Rattle.outside.specs.Puts.{Puts}
 use Rattle.ed_form.specs.Texts.{is_dot}
 use Rattle.change_commands.proofs.ed.put_text_line.Goals as goal
 

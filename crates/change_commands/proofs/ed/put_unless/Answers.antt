@@ -1,6 +1,6 @@
 use Rattle.std.proofs.Common.{◌≡◌, ℕ, List, [], Bool, cond, true, false, sym, ap, subst, ◌∙◌}
-use Rattle.hunk_core.specs.Writing.{Puts}
-use Rattle.hunk_core.proofs.SinkSteps.{HasPut, has-none, puts-done}
+use Rattle.outside.specs.Puts.{Puts}
+use Rattle.outside.proofs.SinkSteps.{HasPut, has-none, puts-done}
 use Rattle.change_commands.specs.Backward.{first_text}
 use Rattle.change_commands.specs.Blocks.{blocks_of}
 use Rattle.change_commands.specs.Fronts.{begins_at}

@@ -1,6 +1,6 @@
 use Rattle.std.proofs.Common.{◌≡◌, ◌++◌, ◌≤◌, ◌^◌, ℕ, List, length}
 use Rattle.std.specs.List.{flat_map}
-use Rattle.hunk_core.proofs.SinkSteps.{HasPut}
+use Rattle.outside.proofs.SinkSteps.{HasPut}
 use Rattle.normal_form.specs.Canonical.{line_text}
 use Rattle.change_commands.specs.Fronts.{front}
 use Rattle.change_commands.specs.Walk.{edits_left}

@@ -2,8 +2,8 @@ use Rattle.std.proofs.Common.{◌++◌, ℕ, List, Err, subst}
 use Rattle.std.specs.List.{flat_map}
 use Rattle.std.proofs.lemmas.Result.{err_from_is_err_and}
 use Rattle.hunk_core.specs.declared.Side.TheVariants.{Forward, Reversed}
-use Rattle.hunk_core.specs.Writing.{Puts}
-use Rattle.hunk_core.proofs.SinkSteps.{has-put, puts-more, puts-stop}
+use Rattle.outside.specs.Puts.{Puts}
+use Rattle.outside.proofs.SinkSteps.{has-put, puts-more, puts-stop}
 use Rattle.normal_form.specs.Canonical.{action_for, divider_text, line_text}
 use Rattle.change_commands.specs.Fronts.{front}
 use Rattle.change_commands.specs.Walk.{edits_left}

@@ -1,5 +1,5 @@
 use Rattle.std.proofs.Common.{◌≡◌, ◌++◌, ◌∷◌, ℕ, List, [], ap, subst, ◌∙◌}
-use Rattle.hunk_core.specs.Writing.{Puts}
+use Rattle.outside.specs.Puts.{Puts}
 use Rattle.change_commands.specs.Commands.{range_start}
 use Rattle.change_commands.specs.Walk.{new_start}
 use Rattle.change_commands.proofs.NormalLemmas.{command-is}

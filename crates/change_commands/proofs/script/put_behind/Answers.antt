@@ -4,8 +4,8 @@ use Rattle.std.proofs.lemmas.List.{append-nil, length-map}
 use Rattle.std.proofs.lemmas.Result.{err_from_is_err_and}
 use Rattle.outside.specs.SinkView.{SinkView}
 use Rattle.hunk_core.specs.PlainHunk.{bytes_at}
-use Rattle.hunk_core.specs.Writing.{Puts}
-use Rattle.hunk_core.proofs.SinkSteps.{HasPut, has-none, has-put, puts-done, puts-stop}
+use Rattle.outside.specs.Puts.{Puts}
+use Rattle.outside.proofs.SinkSteps.{HasPut, has-none, has-put, puts-done, puts-stop}
 use Rattle.ed_form.specs.declared.script.EdEdit.{EdEdit}
 use Rattle.ed_form.specs.PlainEdit.{PlainEdit, IsLawfulEdit, IsLawfulScript, edit_of, edits_of}
 use Rattle.change_commands.specs.Backward.{first_text}

@@ -1,7 +1,7 @@
 use Rattle.std.proofs.Common.{◌≡◌, ◌+◌, ◌-◌, ◌++◌, ◌||◌, ◌≤◌, ℕ, List, [], Bool, true, false, cond, not, eqb, sym, ap, subst, ◌∙◌, arith}
 use Rattle.std.proofs.lemmas.Result.{err_from_is_err_and}
-use Rattle.hunk_core.specs.Writing.{Puts}
-use Rattle.hunk_core.proofs.SinkSteps.{HasPut, has-none, has-put, puts-done, puts-more, puts-stop}
+use Rattle.outside.specs.Puts.{Puts}
+use Rattle.outside.proofs.SinkSteps.{HasPut, has-none, has-put, puts-done, puts-more, puts-stop}
 use Rattle.ed_form.specs.PlainEdit.{PlainEdit, edits_of}
 use Rattle.change_commands.specs.Backward.{first_text}
 use Rattle.change_commands.specs.Blocks.{blocks_of}

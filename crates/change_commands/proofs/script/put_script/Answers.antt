@@ -1,8 +1,8 @@
 use Rattle.std.proofs.Common.{◌≡◌, ◌+◌, ◌++◌, ◌<◌, ◌≤◌, ℕ, List, [], length, drop, sym, ap, subst, ◌∙◌, append_assoc, arith, rules}
 use Rattle.std.proofs.lemmas.List.{length-map}
 use Rattle.std.proofs.lemmas.Result.{err_from_is_err_and}
-use Rattle.hunk_core.specs.Writing.{Puts}
-use Rattle.hunk_core.proofs.SinkSteps.{HasPut, has-more, has-none, has-put, puts-more, puts-stop}
+use Rattle.outside.specs.Puts.{Puts}
+use Rattle.outside.proofs.SinkSteps.{HasPut, has-more, has-none, has-put, puts-more, puts-stop}
 use Rattle.ed_form.specs.PlainEdit.{edit_of, edits_of}
 use Rattle.change_commands.specs.Backward.{first_text, grown, text_behind}
 use Rattle.change_commands.specs.Blocks.{blocks_of, script_edits}

@@ -1,4 +1,4 @@
-use Rattle.hunk_core.proofs.SinkSteps.{HasPut}
+use Rattle.outside.proofs.SinkSteps.{HasPut}
 use Rattle.ed_form.specs.PlainEdit.{edits_of}
 use Rattle.change_commands.specs.Backward.{text_behind}
 use Rattle.change_commands.specs.Blocks.{blocks_of}

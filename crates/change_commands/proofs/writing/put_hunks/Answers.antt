@@ -1,7 +1,7 @@
 use Rattle.std.proofs.Common.{ℕ, List, [], sym, ap, subst}
 use Rattle.hunk_core.specs.declared.Form.{Form}
-use Rattle.hunk_core.specs.Writing.{Puts}
-use Rattle.hunk_core.proofs.SinkSteps.{HasPut, has-none, puts-done}
+use Rattle.outside.specs.Puts.{Puts}
+use Rattle.outside.proofs.SinkSteps.{HasPut, has-none, puts-done}
 use Rattle.file_patch.specs.PlainPatch.{hunks}
 use Rattle.change_commands.specs.Commands.{command_text}
 use Rattle.change_commands.specs.Walk.{left_hunks}

@@ -4,8 +4,9 @@ use Rattle.std.proofs.lemmas.List.{append-nil}
 use Rattle.hunk_core.specs.PlainHunk.{bytes_at, marked_of}
 use Rattle.hunk_core.specs.Turned.{taken_mark, taken_line}
 use Rattle.hunk_core.specs.LineTests.{ends_line}
-use Rattle.hunk_core.specs.Writing.{Puts, no_newline}
-use Rattle.hunk_core.proofs.SinkSteps.{HasPut, has-put, puts-more, puts-stop, puts-done}
+use Rattle.outside.specs.Puts.{Puts}
+use Rattle.hunk_core.specs.Writing.{no_newline}
+use Rattle.outside.proofs.SinkSteps.{HasPut, has-put, puts-more, puts-stop, puts-done}
 use Rattle.context_form.specs.Grammar.{mark_byte}
 use Rattle.context_form.specs.Canonical.{line_text}
 use Rattle.context_form.proofs.writing.put_line.Goals as goal

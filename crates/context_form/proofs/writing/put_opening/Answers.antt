@@ -1,6 +1,6 @@
 use Rattle.std.proofs.Common.{◌≡◌, ◌++◌, List, ℕ, subst, ap, ◌∙◌}
 use Rattle.hunk_core.specs.declared.Side.TheVariants.{Forward}
-use Rattle.hunk_core.specs.Writing.{Puts}
+use Rattle.outside.specs.Puts.{Puts}
 use Rattle.context_form.specs.Canonical.{stars_text, range_line_text}
 use Rattle.context_form.proofs.writing.put_opening.Goals as goal
 

@@ -2,7 +2,7 @@ use Rattle.std.proofs.Common.{◌≡◌, ◌<◌, ◌≤◌, ◌+◌, ◌++◌, 
 use Rattle.std.proofs.lemmas.Result.{err_from_is_err_and}
 use Rattle.std.proofs.lemmas.List.{drop_all, append-nil}
 use Rattle.hunk_core.specs.PlainHunk.{body_of}
-use Rattle.hunk_core.proofs.SinkSteps.{HasPut, has-none, has-put, has-more, puts-more, puts-stop, puts-done}
+use Rattle.outside.proofs.SinkSteps.{HasPut, has-none, has-put, has-more, puts-more, puts-stop, puts-done}
 use Rattle.context_form.specs.Canonical.{mixed, mixed_behind, part_text}
 use Rattle.context_form.proofs.MixedLemmas.{taken_body, piece_of, mixed-taken, part-step, part-nil}
 use Rattle.context_form.proofs.writing.put_part.Goals as goal

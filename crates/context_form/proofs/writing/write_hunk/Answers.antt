@@ -3,8 +3,8 @@ use Rattle.std.proofs.lemmas.Result.{err_from_is_err_and}
 use Rattle.hunk_core.specs.declared.Side.TheVariants.{Forward, Reversed}
 use Rattle.hunk_core.specs.Sides.{taken_count}
 use Rattle.hunk_core.specs.Turned.{other_side}
-use Rattle.hunk_core.specs.Writing.{Puts}
-use Rattle.hunk_core.proofs.SinkSteps.{has-put, puts-more, puts-stop}
+use Rattle.outside.specs.Puts.{Puts}
+use Rattle.outside.proofs.SinkSteps.{has-put, puts-more, puts-stop}
 use Rattle.context_form.specs.Canonical.{range_line_text, mixed, part_text}
 use Rattle.context_form.proofs.MixedLemmas.{taken_body, whole-text}
 use Rattle.context_form.proofs.writing.write_hunk.Goals as goal

@@ -4,7 +4,7 @@ use Rattle.hunk_core.specs.PlainHunk.{hunk_of}
 use Rattle.hunk_core.specs.Turned.{swapped}
 use Rattle.line_list.proofs.Elements.{found}
 use Rattle.flip_patch.specs.Flipped.{hunk_text}
-use Rattle.hunk_core.proofs.Loops.{goes-on, stops, ends}
+use Rattle.outside.proofs.Loops.{goes-on, stops, ends}
 use Rattle.flip_patch.proofs.Placed.{flat-swapped}
 use Rattle.flip_patch.proofs.hunks.put_hunks.Goals as goal
 

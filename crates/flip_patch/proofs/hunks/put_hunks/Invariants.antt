@@ -1,8 +1,8 @@
 use Rattle.hunk_core.specs.PlainHunk.{hunk_of}
 use Rattle.hunk_core.specs.Turned.{swapped}
-use Rattle.hunk_core.proofs.SinkSteps.{HasPut}
+use Rattle.outside.proofs.SinkSteps.{HasPut}
 use Rattle.flip_patch.specs.Flipped.{hunk_text}
-use Rattle.hunk_core.proofs.Loops.{up_to}
+use Rattle.outside.proofs.Loops.{up_to}
 use Rattle.flip_patch.proofs.hunks.put_hunks.Given as goal
 
 abbrev pub invariant-loop-i : goal.invariant-loop-i

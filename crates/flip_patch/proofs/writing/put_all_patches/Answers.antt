@@ -1,6 +1,6 @@
 use Rattle.std.proofs.Common.{◌≡◌, ◌+◌, ◌-◌, ◌<◌, length, ap, subst, arith}
 use Rattle.std.proofs.lemmas.Result.{err_from_is_err_and}
-use Rattle.hunk_core.proofs.SinkSteps.{HasPut}
+use Rattle.outside.proofs.SinkSteps.{HasPut}
 use Rattle.line_list.proofs.Elements.{there-is}
 use Rattle.flip_patch.specs.Flipped.{flipped_patch}
 use Rattle.flip_patch.proofs.Loops.{back_to, goes-back, stops-back, ends-back}

@@ -1,4 +1,4 @@
-use Rattle.hunk_core.proofs.SinkSteps.{HasPut}
+use Rattle.outside.proofs.SinkSteps.{HasPut}
 use Rattle.flip_patch.specs.Flipped.{flipped_patch}
 use Rattle.flip_patch.proofs.Loops.{back_to}
 use Rattle.flip_patch.proofs.writing.put_all_patches.Given as goal

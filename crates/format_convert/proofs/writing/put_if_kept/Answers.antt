@@ -1,8 +1,8 @@
 use Rattle.std.proofs.Common.{◌≡◌, ◌++◌, ◌||◌, ℕ, List, [], Bool, cond, true, false, sym, ap, subst, ◌∙◌}
 use Rattle.std.proofs.lemmas.Result.{err_from_is_err_and}
 use Rattle.hunk_core.specs.declared.Side.TheVariants.{Forward}
-use Rattle.hunk_core.specs.Writing.{Puts}
-use Rattle.hunk_core.proofs.SinkSteps.{HasPut, has-none, has-put, puts-done, puts-more, puts-stop}
+use Rattle.outside.specs.Puts.{Puts}
+use Rattle.outside.proofs.SinkSteps.{HasPut, has-none, has-put, puts-done, puts-more, puts-stop}
 use Rattle.file_patch.specs.PlainPatch.{patch_of}
 use Rattle.header_lines.specs.HeaderText.{header_text}
 use Rattle.tool_words.specs.PlainJobs.{plain_filter_job}

@@ -1,6 +1,6 @@
 use Rattle.std.proofs.lemmas.Result.{err_from_is_err_and}
 use Rattle.hunk_core.specs.Turned.{other_side}
-use Rattle.hunk_core.proofs.SinkSteps.{has-put, puts-more, puts-stop}
+use Rattle.outside.proofs.SinkSteps.{has-put, puts-more, puts-stop}
 use Rattle.patch_header.specs.Written.{new_mark}
 use Rattle.header_lines.specs.HeaderText.{named_line, span_on}
 use Rattle.header_lines.proofs.writing.put_names.Goals as goal

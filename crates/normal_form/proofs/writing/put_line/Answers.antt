@@ -3,8 +3,9 @@ use Rattle.std.proofs.lemmas.Result.{err_from_is_err_and}
 use Rattle.std.proofs.lemmas.List.{append-nil}
 use Rattle.hunk_core.specs.PlainHunk.{bytes_at}
 use Rattle.hunk_core.specs.LineTests.{ends_line}
-use Rattle.hunk_core.specs.Writing.{Puts, no_newline}
-use Rattle.hunk_core.proofs.SinkSteps.{HasPut, has-put, has-more, puts-more, puts-stop, puts-done}
+use Rattle.outside.specs.Puts.{Puts}
+use Rattle.hunk_core.specs.Writing.{no_newline}
+use Rattle.outside.proofs.SinkSteps.{HasPut, has-put, has-more, puts-more, puts-stop, puts-done}
 use Rattle.normal_form.specs.Stretches.{marks}
 use Rattle.normal_form.specs.Canonical.{line_text}
 use Rattle.normal_form.proofs.writing.put_line.Goals as goal

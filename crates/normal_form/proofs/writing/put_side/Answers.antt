@@ -1,7 +1,7 @@
 use Rattle.std.proofs.Common.{◌<◌, ◌≤◌, ◌+◌, drop, length, subst, rules}
 use Rattle.std.proofs.lemmas.Result.{err_from_is_err_and}
 use Rattle.std.proofs.lemmas.List.{take_all}
-use Rattle.hunk_core.proofs.SinkSteps.{HasPut, has-none, has-put, has-more, puts-more, puts-stop, puts-done}
+use Rattle.outside.proofs.SinkSteps.{HasPut, has-none, has-put, has-more, puts-more, puts-stop, puts-done}
 use Rattle.normal_form.proofs.WritingLemmas.{written, put-more, cut-off}
 use Rattle.normal_form.proofs.writing.put_side.Goals as goal
 

@@ -1,5 +1,5 @@
 use Rattle.std.proofs.Common.{take}
-use Rattle.hunk_core.proofs.SinkSteps.{HasPut}
+use Rattle.outside.proofs.SinkSteps.{HasPut}
 use Rattle.normal_form.proofs.WritingLemmas.{written}
 use Rattle.normal_form.proofs.writing.put_side.Given as goal
 

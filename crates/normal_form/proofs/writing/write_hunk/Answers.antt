@@ -1,5 +1,5 @@
 use Rattle.std.proofs.lemmas.Result.{err_from_is_err_and}
-use Rattle.hunk_core.proofs.SinkSteps.{has-put, puts-more, puts-stop}
+use Rattle.outside.proofs.SinkSteps.{has-put, puts-more, puts-stop}
 use Rattle.normal_form.proofs.WritingLemmas.{whole}
 use Rattle.normal_form.proofs.writing.write_hunk.Goals as goal
 

@@ -3,7 +3,7 @@ use Rattle.std.proofs.lemmas.Result.{err_from_is_err_and}
 use Rattle.tool_words.specs.PlainJobs.{plain_filter_job}
 use Rattle.patch_filters.specs.Digested.{digest_kept}
 use Rattle.patch_filters.specs.Filtered.{text_if}
-use Rattle.hunk_core.proofs.Loops.{goes-on, stops, ends}
+use Rattle.outside.proofs.Loops.{goes-on, stops, ends}
 use Rattle.patch_filters.proofs.Flagged.{rows, rows-long, row-at}
 use Rattle.patch_filters.proofs.Digesting.{digest-long}
 use Rattle.patch_filters.proofs.filter.put_chosen.Goals as goal

@@ -1,6 +1,6 @@
 use Rattle.std.specs.List.{zip}
-use Rattle.hunk_core.proofs.SinkSteps.{HasPut}
-use Rattle.hunk_core.proofs.Loops.{up_to}
+use Rattle.outside.proofs.SinkSteps.{HasPut}
+use Rattle.outside.proofs.Loops.{up_to}
 use Rattle.tool_words.specs.PlainJobs.{plain_filter_job}
 use Rattle.filter_choice.specs.Selected.{numbered}
 use Rattle.patch_filters.specs.Digested.{digest_if_taken}

@@ -1,6 +1,6 @@
 use Rattle.std.proofs.Common.{◌≡◌, suc, true, sym, ap, subst, ◌∙◌, rules}
 use Rattle.std.proofs.lemmas.Option.{same_Some}
-use Rattle.hunk_core.specs.Writing.{Puts}
+use Rattle.outside.specs.Puts.{Puts}
 use Rattle.patch_text.specs.Digests.{IsDigest}
 use Rattle.tool_words.specs.PlainJobs.{plain_filter_job}
 use Rattle.patch_filters.specs.Filtered.{is_taken_of}

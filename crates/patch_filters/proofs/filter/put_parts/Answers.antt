@@ -1,5 +1,5 @@
 use Rattle.std.proofs.lemmas.Result.{err_from_is_err_and}
-use Rattle.hunk_core.proofs.SinkSteps.{has-put, puts-more, puts-stop}
+use Rattle.outside.proofs.SinkSteps.{has-put, puts-more, puts-stop}
 use Rattle.tool_words.specs.PlainJobs.{plain_filter_job}
 use Rattle.patch_filters.specs.Digested.{digest_kept}
 use Rattle.patch_filters.specs.Filtered.{chosen, pieces}

@@ -1,8 +1,8 @@
 use Rattle.std.proofs.Common.{◌≡◌, ◌++◌, codes, Ok, Err, sym, ap, subst, ◌∙◌, arith}
 use Rattle.std.proofs.lemmas.Option.{same_Some}
 use Rattle.hunk_core.specs.PlainHunk.{bytes_at}
-use Rattle.hunk_core.specs.Writing.{Puts}
-use Rattle.hunk_core.proofs.SinkSteps.{has-put}
+use Rattle.outside.specs.Puts.{Puts}
+use Rattle.outside.proofs.SinkSteps.{has-put}
 use Rattle.file_patch.specs.declared.FilePatch.{FilePatch}
 use Rattle.tool_words.specs.declared.jobs.GrepOut.TheVariants.{Hunks}
 use Rattle.patch_filters.specs.declared.fault.GrepFault.TheVariants.{Write}

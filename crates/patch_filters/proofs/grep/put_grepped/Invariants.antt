@@ -1,7 +1,7 @@
 use Rattle.tool_words.specs.PlainJobs.{plain_grep_job}
 use Rattle.patch_filters.specs.Grepped.{test_of, text_if_found}
 use Rattle.patch_filters.proofs.Finding.{HasFound}
-use Rattle.hunk_core.proofs.Loops.{up_to}
+use Rattle.outside.proofs.Loops.{up_to}
 use Rattle.patch_filters.proofs.grep.put_grepped.Given as goal
 
 abbrev pub invariant-loop-patch : goal.invariant-loop-patch

@@ -1,6 +1,6 @@
 use Rattle.std.proofs.Common.{◌≡◌, ◌+◌, ◌<◌, false, [], length, get_or, drop, Err, subst, arith}
 use Rattle.std.specs.List.{flat_map}
-use Rattle.hunk_core.proofs.SinkSteps.{HasPut, has-put}
+use Rattle.outside.proofs.SinkSteps.{HasPut, has-put}
 use Rattle.file_patch.specs.PlainPatch.{change_of, row_count}
 use Rattle.patch_set.proofs.Named.{rows-counted}
 use Rattle.patch_filters.specs.declared.fault.GrepFault.TheVariants.{Write}

@@ -3,7 +3,7 @@ use Rattle.file_patch.specs.PlainPatch.{change_of}
 use Rattle.patch_filters.specs.Filtered.{pieces, text_if}
 use Rattle.patch_filters.specs.Grepped.{hits_of, test_of}
 use Rattle.patch_filters.proofs.Finding.{HasFound}
-use Rattle.hunk_core.proofs.Loops.{up_to}
+use Rattle.outside.proofs.Loops.{up_to}
 use Rattle.patch_filters.proofs.grep.put_hits.Given as goal
 
 abbrev pub invariant-loop-hunk : goal.invariant-loop-hunk

@@ -1,6 +1,6 @@
 use Rattle.std.proofs.Common.{◌≡◌, true, false, [], get_or, sym, ◌∙◌}
 use Rattle.file_patch.specs.PlainPatch.{change_of}
-use Rattle.hunk_core.proofs.SinkSteps.{has-put}
+use Rattle.outside.proofs.SinkSteps.{has-put}
 use Rattle.patch_filters.specs.declared.fault.GrepFault.TheVariants.{Write, Memory}
 use Rattle.patch_filters.specs.Filtered.{pieces, text_if}
 use Rattle.patch_filters.specs.Grepped.{hits_of, test_of}

@@ -1,4 +1,4 @@
-use Rattle.hunk_core.proofs.SinkSteps.{has-put}
+use Rattle.outside.proofs.SinkSteps.{has-put}
 use Rattle.file_patch.specs.PlainPatch.{change_of}
 use Rattle.patch_filters.specs.declared.fault.GrepFault.TheVariants.{Write}
 use Rattle.patch_filters.specs.Filtered.{chosen, pieces}

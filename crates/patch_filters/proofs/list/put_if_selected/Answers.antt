@@ -1,5 +1,5 @@
 use Rattle.std.proofs.Common.{◌≡◌, false, sym, ap, ◌∙◌, rules}
-use Rattle.hunk_core.proofs.SinkSteps.{has-none, puts-done}
+use Rattle.outside.proofs.SinkSteps.{has-none, puts-done}
 use Rattle.file_patch.specs.PlainPatch.{patch_of}
 use Rattle.tool_words.specs.PlainJobs.{plain_list_job}
 use Rattle.filter_choice.specs.Selected.{is_selected}

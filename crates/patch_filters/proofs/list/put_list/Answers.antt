@@ -7,7 +7,7 @@ use Rattle.file_patch.specs.PlainPatch.{patch_of}
 use Rattle.tool_words.specs.PlainJobs.{plain_list_job}
 use Rattle.line_list.proofs.Elements.{there-is}
 use Rattle.patch_filters.specs.Listed.{line_if_selected}
-use Rattle.hunk_core.proofs.Loops.{goes-on, stops, ends}
+use Rattle.outside.proofs.Loops.{goes-on, stops, ends}
 use Rattle.patch_filters.proofs.Rows.{listed-is}
 use Rattle.patch_filters.proofs.list.put_list.Goals as goal
 

@@ -1,8 +1,8 @@
-use Rattle.hunk_core.proofs.SinkSteps.{HasPut}
+use Rattle.outside.proofs.SinkSteps.{HasPut}
 use Rattle.set_outline.specs.Outlined.{outlined}
 use Rattle.tool_words.specs.PlainJobs.{plain_list_job}
 use Rattle.patch_filters.specs.Listed.{line_if_selected}
-use Rattle.hunk_core.proofs.Loops.{up_to}
+use Rattle.outside.proofs.Loops.{up_to}
 use Rattle.patch_filters.proofs.list.put_list.Given as goal
 
 abbrev pub invariant-loop-patch : goal.invariant-loop-patch

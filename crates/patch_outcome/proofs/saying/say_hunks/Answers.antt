@@ -8,7 +8,7 @@ use Rattle.hunk_core.specs.declared.Hunk.{Hunk}
 use Rattle.hunk_core.specs.declared.Verdict.TheVariants.{Untried}
 use Rattle.hunk_core.specs.PlainHunk.{hunk_of, hunks_of}
 use Rattle.hunk_core.specs.Turned.{turned}
-use Rattle.hunk_core.proofs.SinkSteps.{has-none, has-put}
+use Rattle.outside.proofs.SinkSteps.{has-none, has-put}
 use Rattle.outside.specs.declared.Failed.{Failed}
 use Rattle.patch_options.specs.PlainJob.{plain_options}
 use Rattle.reject_text.specs.Starts.{Row, net, placed_adds, placed_drops}

@@ -1,5 +1,5 @@
 use Rattle.std.proofs.lemmas.Result.{err_from_is_err_and}
-use Rattle.hunk_core.proofs.SinkSteps.{has-put, puts-more, puts-stop}
+use Rattle.outside.proofs.SinkSteps.{has-put, puts-more, puts-stop}
 use Rattle.patch_header.specs.Written.{new_mark}
 use Rattle.reject_text.specs.Headers.{name_line}
 use Rattle.reject_text.proofs.header.put_headers.Goals as goal

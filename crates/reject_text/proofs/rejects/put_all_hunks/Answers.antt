@@ -1,7 +1,7 @@
 use Rattle.std.specs.List.{flat_map}
 use Rattle.std.proofs.lemmas.Result.{err_from_is_err_and}
 use Rattle.hunk_core.specs.PlainHunk.{hunks_of}
-use Rattle.hunk_core.proofs.SinkSteps.{has-put, puts-more, puts-stop}
+use Rattle.outside.proofs.SinkSteps.{has-put, puts-more, puts-stop}
 use Rattle.patch_header.specs.Written.{hunk_text}
 use Rattle.reject_text.specs.Rejects.{rows_of, rejects}
 use Rattle.reject_text.proofs.rejects.put_all_hunks.Goals as goal

@@ -10,8 +10,8 @@ use Rattle.hunk_core.specs.declared.Hunk.{Hunk}
 use Rattle.hunk_core.specs.declared.Verdict.TheVariants.{Untried}
 use Rattle.hunk_core.specs.PlainHunk.{hunk_of, hunks_of}
 use Rattle.hunk_core.specs.Turned.{turned}
-use Rattle.hunk_core.specs.Writing.{Puts}
-use Rattle.hunk_core.proofs.SinkSteps.{HasPut, has-none, has-put, has-more, puts-more, puts-stop, puts-done}
+use Rattle.outside.specs.Puts.{Puts}
+use Rattle.outside.proofs.SinkSteps.{HasPut, has-none, has-put, has-more, puts-more, puts-stop, puts-done}
 use Rattle.patch_header.specs.Written.{hunk_text}
 use Rattle.reject_text.specs.Starts.{Row, net, placed_adds, placed_drops}
 use Rattle.reject_text.specs.Rejects.{rows_of, reject_of, rejects}

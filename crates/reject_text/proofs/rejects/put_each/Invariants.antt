@@ -2,7 +2,7 @@ use Rattle.std.proofs.Common.{◌≡◌, ◌<◌, ◌^◌, length, take}
 use Rattle.std.specs.Prelude.{pos, ◌≤ℤ◌, ◌-ℤ◌, sum_by}
 use Rattle.hunk_core.specs.declared.Hunk.{Hunk}
 use Rattle.hunk_core.specs.PlainHunk.{hunks_of}
-use Rattle.hunk_core.proofs.SinkSteps.{HasPut}
+use Rattle.outside.proofs.SinkSteps.{HasPut}
 use Rattle.reject_text.specs.Starts.{net}
 use Rattle.reject_text.specs.Rejects.{rows_of}
 use Rattle.reject_text.proofs.Rows.{text_to}

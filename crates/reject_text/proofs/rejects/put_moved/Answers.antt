@@ -2,7 +2,7 @@ use Rattle.std.proofs.Common.{◌≡◌, ap, subst, ◌∙◌}
 use Rattle.hunk_core.specs.PlainHunk.{hunk_of}
 use Rattle.hunk_core.specs.Sides.{start_of, taken_count}
 use Rattle.hunk_core.specs.Turned.{taken, turned, other_side}
-use Rattle.hunk_core.specs.Writing.{Puts}
+use Rattle.outside.specs.Puts.{Puts}
 use Rattle.patch_header.specs.Written.{hunk_text}
 use Rattle.reject_text.specs.Starts.{moved}
 use Rattle.reject_text.proofs.Moved.{start-is, moved-is}

@@ -1,5 +1,5 @@
 use Rattle.std.proofs.Common.{◌≡◌, List, ℕ, rules, subst, ◌∙◌}
-use Rattle.hunk_core.specs.Writing.{Puts}
+use Rattle.outside.specs.Puts.{Puts}
 use Rattle.say_text.specs.Messages.{skipping_line}
 use Rattle.say_text.proofs.skipping.put_line.Goals as goal
 

@@ -2,7 +2,7 @@ use Rattle.std.proofs.Common.{◌≡◌, ◌<◌, length, ap, ◌∙◌, rules, 
 use Rattle.std.proofs.lemmas.Result.{err_from_is_err_and}
 use Rattle.say_text.specs.Messages.{skipping_line, skipping_lines}
 use Rattle.std.proofs.lemmas.Option.{slice_get-get_or}
-use Rattle.hunk_core.proofs.Loops.{goes-on, stops, ends}
+use Rattle.outside.proofs.Loops.{goes-on, stops, ends}
 use Rattle.say_text.proofs.skipping.put_lines.Goals as goal
 
 pub returns-in_err-put_line : goal.returns-in_err-put_line

@@ -1,6 +1,6 @@
-use Rattle.hunk_core.proofs.SinkSteps.{HasPut}
+use Rattle.outside.proofs.SinkSteps.{HasPut}
 use Rattle.say_text.specs.Messages.{skipping_line}
-use Rattle.hunk_core.proofs.Loops.{up_to}
+use Rattle.outside.proofs.Loops.{up_to}
 use Rattle.say_text.proofs.skipping.put_lines.Given as goal
 
 abbrev pub invariant-loop-line : goal.invariant-loop-line

@@ -1,5 +1,5 @@
 use Rattle.std.proofs.Common.{take}
-use Rattle.hunk_core.proofs.SinkSteps.{HasPut}
+use Rattle.outside.proofs.SinkSteps.{HasPut}
 use Rattle.unified_form.proofs.WritingLemmas.{written}
 use Rattle.unified_form.proofs.writing.put_body.Given as goal
 

@@ -3,8 +3,9 @@ use Rattle.std.proofs.lemmas.Result.{err_from_is_err_and}
 use Rattle.std.proofs.lemmas.List.{append-nil}
 use Rattle.hunk_core.specs.PlainHunk.{Marked, marked_of}
 use Rattle.hunk_core.specs.Turned.{taken_line}
-use Rattle.hunk_core.specs.Writing.{Puts, no_newline}
-use Rattle.hunk_core.proofs.SinkSteps.{HasPut, has-put, puts-more, puts-stop, puts-done}
+use Rattle.outside.specs.Puts.{Puts}
+use Rattle.hunk_core.specs.Writing.{no_newline}
+use Rattle.outside.proofs.SinkSteps.{HasPut, has-put, puts-more, puts-stop, puts-done}
 use Rattle.unified_form.specs.Grammar.{mark_byte}
 use Rattle.unified_form.specs.Canonical.{line_text}
 use Rattle.unified_form.proofs.WritingLemmas.{line-written}

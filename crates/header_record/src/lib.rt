@@ -1,0 +1,49 @@
+//! A header as a record: what the lines in front of the opening of a file patch say.
+#![tactic(auto)]
+
+use hunk_core::Form;
+use line_list::Span;
+use stamp::Stamp;
+
+/// What a git header says of a file.
+#[derive(Clone, Copy, Debug, PartialEq, Eq)]
+pub enum Action {
+    /// Nothing but its lines changes.
+    Plain,
+    /// It is made.
+    New,
+    /// It is taken away.
+    Deleted,
+    /// It gets another name.
+    Rename,
+    /// It is copied to another name.
+    Copy,
+}
+
+/// The opening of a file patch or a bare git header, and what the lines in front of it say. Spans are places in the text.
+#[derive(Clone, Copy, Debug, PartialEq, Eq)]
+pub struct Header {
+    pub form: Form,
+    /// The place of the opening's line.
+    pub at: usize,
+    /// The number of the opening's line.
+    pub opening: u64,
+    /// The number of the old name's line, or of the opening where there is no old name.
+    pub names_line: u64,
+    pub old_name: Option<Span>,
+    pub new_name: Option<Span>,
+    /// The name of the last `Index:` line.
+    pub index: Option<Span>,
+    /// The word of the last `Prereq:` line.
+    pub prereq: Option<Span>,
+    pub old_stamp: Stamp,
+    pub new_stamp: Stamp,
+    /// What the git header says of the file: the bare one that this is, or the one that leads the opening.
+    pub action: Action,
+    /// Whether this is a bare git header, which no hunk follows. Its opening is its git line.
+    pub bare: bool,
+    /// The name that the file is renamed or copied from, up to the end of its line.
+    pub from: Option<Span>,
+    /// The name that the file is renamed or copied to, up to the end of its line.
+    pub to: Option<Span>,
+}
