@@ -10,8 +10,10 @@ use real_devices::{Disk, Input, Pages};
 use run_answers::Why;
 use std::io;
 
-/// The tool that may apply a patch text from standard input.
+/// The tools that may read a patch text from standard input of which something is said behind the run.
 const PATCH: &str = "patch";
+
+const RECOUNT: &str = "recountdiff";
 
 /// Has the words carried out over the real devices, and answers the exit status.
 pub fn carry_out<X: Runner>(
@@ -39,7 +41,7 @@ fn run_over<X: Runner>(
 ) -> Why {
     let alloc = rt.alloc();
     let mut tree = Disk::new(alloc, rt, places_of(alloc, tool, words));
-    let mut input = Input::new(alloc, rt.stdin(), tool == PATCH);
+    let mut input = Input::new(alloc, rt.stdin(), tool == PATCH || tool == RECOUNT);
     let mut finder = RegexFinder::new();
     let scratch = Pages::new(alloc, rt);
     let (out, err) = (&mut outputs.out, &mut outputs.err);

@@ -1,7 +1,7 @@
 //! The lines behind the line of a run's answer, which help whoever called the program.
 
 use program_words::{
-    Ended, Lines, put_behind, put_patch, put_pattern, put_state, put_texts, put_usage,
+    Ended, Lines, put_behind, put_long, put_patch, put_pattern, put_state, put_texts, put_usage,
 };
 use real_devices::{Disk, Input, Output, Pages, Passed};
 use run_answers::Why;
@@ -32,6 +32,7 @@ pub fn put_help<R: Files<File = File>, I: Read + Drop, O: Write + Drop>(
             };
             put_of_text(lines, rt, tool, words, ended, tree.passed(), input.passed());
         }
+        Why::LongLine { length, .. } => put_long(lines, tool, tree.ends().last(), length),
         Why::Usage => put_usage(lines, tool, words),
         Why::NoPatchFile => put_missing(lines, tool, tree.missing()),
         Why::BadPattern => put_pattern(lines, tool, words),

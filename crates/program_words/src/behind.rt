@@ -19,7 +19,6 @@ const BESIDE_LINE: u64 = 4;
 /// have none.
 pub fn put_behind(lines: &mut Lines, tool: &str, why: Why, trouble: Option<&Trouble>) {
     match why {
-        Why::LongLine { length, .. } => put_buffer(lines, tool, length),
         Why::Malformed { kind, .. } => put_malformed(lines, tool, kind),
         Why::Unfit { .. } => put_misfit(lines, tool),
         Why::ReadFault | Why::WriteFault | Why::TreeFault | Why::ScratchFault => {
@@ -107,15 +106,18 @@ fn put_lacking(lines: &mut Lines, tool: &str, words: &[String]) {
     }
 }
 
-/// The smallest buffer that holds a line of so many bytes, where the tool has the word.
-fn put_buffer(lines: &mut Lines, tool: &str, length: u64) {
+/// In which file a line of so many bytes is, and the smallest buffer that holds it, where the tool has the word.
+pub fn put_long(lines: &mut Lines, tool: &str, file: &str, length: u64) {
+    lines.put(tool);
+    lines.put(": the line is in ");
+    lines.put_quoted(file);
     let least = length.saturating_add(BESIDE_LINE);
     if least <= LARGEST_BUFFER && tool != "patchstack" {
-        lines.put(tool);
-        lines.put(": --buffer=");
+        lines.put("; --buffer=");
         lines.put_number(least);
-        lines.put(" would hold it\n");
+        lines.put(" would hold it");
     }
+    lines.put("\n");
 }
 
 fn put_trouble(lines: &mut Lines, tool: &str, trouble: Option<&Trouble>) {

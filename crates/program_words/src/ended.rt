@@ -1,6 +1,7 @@
 //! The lines behind a run over a patch text that was taken.
 
 use crate::cut::put_cut;
+use crate::emptied::put_emptied;
 use crate::line_ends::put_line_ends;
 use crate::lines::Lines;
 use crate::modes::{Taking, put_modes};
@@ -22,7 +23,8 @@ pub struct Ended<'a> {
 
 /// That the text is cut in its last line, that a line of it opens no hunk though it looks so, that a name stands in quotes, and which
 /// modes aren't carried out; of what was left out, that lines end otherwise than those of the patch, why no file was found, and that a
-/// stack keeps no reject files. Where the run was refused, something is said only of a text without a file patch.
+/// stack keeps no reject files; of `recountdiff`, that an empty line ends a hunk. Where the run was refused, something is said only of a
+/// text without a file patch.
 pub fn put_texts<R: Files>(
     lines: &mut Lines,
     rt: &R,
@@ -38,6 +40,7 @@ pub fn put_texts<R: Files>(
             }
         }
         "patchstack" => put_of_stack(lines, words, ended, passed),
+        "recountdiff" => put_emptied(lines, passed.front()),
         _ => {}
     }
 }

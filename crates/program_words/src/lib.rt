@@ -6,6 +6,7 @@ mod behind;
 mod called;
 mod count;
 mod cut;
+mod emptied;
 mod ended;
 mod help;
 mod lacking;
@@ -25,7 +26,7 @@ mod unsuited;
 mod wanted;
 mod which;
 
-pub use behind::{put_behind, put_usage};
+pub use behind::{put_behind, put_long, put_usage};
 pub use called::{called_tool, tool_of, words_of};
 pub use ended::{Ended, put_texts};
 pub use help::{Telling, told};

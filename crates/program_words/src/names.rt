@@ -7,6 +7,10 @@ use outside::Name;
 use std::alloc::{AllocError, Global};
 use target_names::{candidates, moved_names};
 
+/// Why a file isn't made.
+const NO_SIGN: &str =
+    "its hunk fills an empty file, but neither /dev/null, a stamp of 1970-01-01 00:00:00 UTC nor git says that the file is new";
+
 /// Names as the lines have them.
 #[derive(Clone, Copy)]
 struct Given<'a> {
@@ -14,6 +18,8 @@ struct Given<'a> {
     new: Option<&'a [u8]>,
     /// Whether a rename or a copy without hunks gives them.
     is_moved: bool,
+    /// The line of the opening, where the text has it.
+    opening: &'a [u8],
 }
 
 /// How a run reads names.
@@ -33,6 +39,26 @@ pub fn put_names(lines: &mut Lines, tool: &str, reading: Reading, front: &[u8], 
         let left = left_names(lines.alloc, given, reading);
         put_both(lines, tool, reading.strip, &written, &left);
     }
+    if given.opening.starts_with(b"@@ -0,0 +") {
+        lines.put_line(tool, NO_SIGN);
+    }
+}
+
+/// Whether the opening is that of a hunk behind which no names are looked for, since none stand in front of it.
+pub fn is_nameless(front: &[u8], opening: u64) -> bool {
+    let given = given_in(front, opening);
+    let is_hunk = given.opening.starts_with(b"@@ -") || given.opening.starts_with(b"***");
+    is_hunk && given.old.is_none() && given.new.is_none()
+}
+
+/// What such a hunk is.
+pub fn put_nameless(lines: &mut Lines, tool: &str, opening: u64) {
+    lines.put(tool);
+    lines.put(": the hunk at input line ");
+    lines.put_number(opening);
+    lines.put(
+        " has no header lines right in front of it: an empty line, or text, ended the file patch above\n",
+    );
 }
 
 fn put_both(lines: &mut Lines, tool: &str, strip: Option<u32>, written: &Lines, left: &Lines) {
@@ -63,6 +89,7 @@ fn given_in(front: &[u8], opening: u64) -> Given<'_> {
         old: None,
         new: None,
         is_moved: false,
+        opening: &[],
     };
     let mut number = 0u64;
     for line in front.split(is_feed) {
@@ -97,6 +124,7 @@ fn with_line<'a>(given: Given<'a>, line: &'a [u8], number: u64, opening: u64) ->
             given.new = first_of(whole_name(line, b" to "), given.new);
         }
     } else if number == opening {
+        given.opening = line;
         if let Some(names) = line.strip_prefix(b"diff --git ") {
             let (old, new) = both_names(names);
             given.old = Some(old);

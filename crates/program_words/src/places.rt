@@ -8,6 +8,9 @@ use std::alloc::{AllocError, Global};
 /// The tool of which the tree keeps saves.
 const STACK: &str = "patchstack";
 
+/// The tool that reads no file but its patch text, of which something is said behind its run.
+const RECOUNT: &str = "recountdiff";
+
 /// The tool that puts its parts beside its file, and so never reads standard input.
 const SPLIT: &str = "splitdiff";
 
@@ -17,6 +20,7 @@ pub fn places_of(alloc: Global, tool: &str, words: &[String]) -> Places {
         Ok(Job::Patch(options)) => places_in(alloc, &options),
         Err(_) => Places {
             is_stack: tool == STACK,
+            is_text: tool == RECOUNT,
             root: None,
             patch: None,
             file: None,
@@ -30,6 +34,7 @@ pub fn places_of(alloc: Global, tool: &str, words: &[String]) -> Places {
 fn places_in(alloc: Global, options: &Options) -> Places {
     Places {
         is_stack: false,
+        is_text: false,
         root: text_of(alloc, &options.dir),
         patch: patch_file(alloc, options),
         file: named(alloc, options, &options.file),

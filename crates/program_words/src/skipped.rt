@@ -1,7 +1,7 @@
 //! The lines behind a run that left something out, where what was said leaves a question open.
 
 use crate::lines::Lines;
-use crate::names::{Reading, put_names};
+use crate::names::{Reading, is_nameless, put_nameless, put_names};
 use crate::places::below;
 use outside::Name;
 use patch_options::Options;
@@ -23,9 +23,17 @@ pub fn put_stack_skipped(lines: &mut Lines, heard: Heard, passed: &Passed) {
 }
 
 fn put_stack_names(lines: &mut Lines, passed: &Passed, line: u64) {
-    lines.put("patchstack: no file here suits the names of the file patch at input line ");
+    if is_nameless(passed.front(), line) {
+        put_nameless(lines, "patchstack", line);
+    } else {
+        put_stack_unfound(lines, passed, line);
+    }
+}
+
+fn put_stack_unfound(lines: &mut Lines, passed: &Passed, line: u64) {
+    lines.put("patchstack: the file patch at input line ");
     lines.put_number(line);
-    lines.put("; they are taken as with -p1\n");
+    lines.put(" names no regular file here (a link doesn't count); names are taken as with -p1\n");
     let reading = Reading {
         strip: Some(1),
         is_posix: false,
@@ -43,6 +51,9 @@ pub fn put_skipped<R: Files>(
 ) {
     match (&options.file, heard.no_file) {
         (Some(file), _) => put_operand(lines, rt, options, file),
+        (None, Some(line)) if is_nameless(passed.front(), line) => {
+            put_nameless(lines, "patch", line)
+        }
         (None, Some(line)) => put_unfound(lines, options, passed, line),
         (None, None) => {}
     }
@@ -64,10 +75,10 @@ fn put_missing<R: Files>(lines: &mut Lines, rt: &R, name: &Name) {
 }
 
 fn put_unfound(lines: &mut Lines, options: &Options, passed: &Passed, line: u64) {
-    lines.put("patch: no file ");
-    put_place(lines, options);
-    lines.put(" suits the names of the file patch at input line ");
+    lines.put("patch: the file patch at input line ");
     lines.put_number(line);
+    lines.put(" names no regular file ");
+    put_place(lines, options);
     put_question(lines, options.strip);
     let reading = Reading {
         strip: options.strip,
@@ -91,10 +102,10 @@ fn put_place(lines: &mut Lines, options: &Options) {
 fn put_question(lines: &mut Lines, strip: Option<u32>) {
     match strip {
         Some(strip) => {
-            lines.put("; is it there, no link, and -p");
+            lines.put(" (a link doesn't count); is -p");
             lines.put_number(u64::from(strip));
             lines.put(" right?\n");
         }
-        None => lines.put("; is it there, no link, or is -p1 missing, or the file's name?\n"),
+        None => lines.put(" (a link doesn't count); is -p1 missing, or the file's name?\n"),
     }
 }

@@ -19,6 +19,8 @@ const LARGEST_TEXT: u64 = 1_048_576;
 pub struct Places {
     /// Whether it is that of a stack of patches.
     pub is_stack: bool,
+    /// Whether each file that is read has a patch text.
+    pub is_text: bool,
     /// The directory that the run works in, where the operator gives one.
     pub root: Option<String>,
     /// The file of its patch text, where that is one.
@@ -102,12 +104,16 @@ impl<'r, R: Files<File = File>> Disk<'r, R> {
     }
 }
 
-/// Whether the file has a patch text that is applied.
+/// Whether the file has a patch text of which something is said behind the run.
 fn is_patch(places: &Places, name: &str) -> bool {
     match &places.patch {
         Some(patch) => patch.text() == name,
-        None => places.is_stack && name.starts_with("patches/") && name != "patches/series",
+        None => places.is_text || is_of_series(places, name),
     }
+}
+
+fn is_of_series(places: &Places, name: &str) -> bool {
+    places.is_stack && name.starts_with("patches/") && name != "patches/series"
 }
 
 /// Keeps which file has the patch text.

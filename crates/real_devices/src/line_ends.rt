@@ -3,11 +3,12 @@
 use memchr::memchr;
 use std::alloc::Global;
 
-/// The first file of either kind, as its first line has it.
+/// The first file of either kind, as its first line has it, and the last file.
 #[derive(Drop)]
 pub struct LineEnds {
     returned: String,
     plain: String,
+    last: String,
 }
 
 impl LineEnds {
@@ -15,6 +16,7 @@ impl LineEnds {
         LineEnds {
             returned: String::new(alloc),
             plain: String::new(alloc),
+            last: String::new(alloc),
         }
     }
 
@@ -28,8 +30,15 @@ impl LineEnds {
         self.plain.as_str()
     }
 
+    /// The file that was read last, or nothing.
+    pub fn last(&self) -> &str {
+        self.last.as_str()
+    }
+
     /// A file is read from its front.
     pub fn note(&mut self, name: &str, front: &[u8]) {
+        self.last.clear();
+        let _ = self.last.push_str(name);
         match is_returned(front) {
             Some(true) => keep(&mut self.returned, name),
             Some(false) => keep(&mut self.plain, name),
