@@ -15,8 +15,8 @@ class Watch:
 
     def __init__(self, rt):
         self.rt, self.seconds, self.of, self.ended, self.seeds = rt, {}, {}, set(), set()
-        # the programs that the first of two compilers has built, and that the second one builds
-        self.built = set()
+        # the programs that are proved, which a compiler builds; and those that the first of two compilers has built, and the second one builds
+        self.proved, self.built = set(), set()
 
     def look(self):
         """Looks once, and returns the checks that are seen for the first time, as crate and kind."""
@@ -59,6 +59,8 @@ class Watch:
         if "--crate-name" not in words:
             return None
         name = words[words.index("--crate-name") + 1]
+        if "--crate-checked" in words:
+            self.proved.add(name)
         if "--backend" in words and words[words.index("--backend") + 1] == "rattle":
             self.built.add(name)
         if not place.startswith("rt-edit-"):

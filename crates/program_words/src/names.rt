@@ -39,8 +39,16 @@ pub fn put_names(lines: &mut Lines, tool: &str, reading: Reading, front: &[u8], 
         let left = left_names(lines.alloc, given, reading);
         put_both(lines, tool, reading.strip, &written, &left);
     }
-    if given.opening.starts_with(b"@@ -0,0 +") {
+    if given.opening.starts_with(b"@@ -0,0 +") && is_looked_for(lines.alloc, given, reading) {
         lines.put_line(tool, NO_SIGN);
+    }
+}
+
+/// Whether some name counts.
+fn is_looked_for(alloc: Global, given: Given<'_>, reading: Reading) -> bool {
+    match looked_for(alloc, given, reading) {
+        Ok(names) => !names.is_empty(),
+        Err(_) => false,
     }
 }
 
@@ -57,7 +65,7 @@ pub fn put_nameless(lines: &mut Lines, tool: &str, opening: u64) {
     lines.put(": the hunk at input line ");
     lines.put_number(opening);
     lines.put(
-        " has no header lines right in front of it: an empty line, or text, ended the file patch above\n",
+        " has no header lines right in front of it (an empty line or text ends the file patch above)\n",
     );
 }
 
