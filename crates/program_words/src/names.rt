@@ -11,6 +11,8 @@ use target_names::{candidates, moved_names};
 const NO_SIGN: &str =
     "its hunk fills an empty file, but neither /dev/null, a stamp of 1970-01-01 00:00:00 UTC nor git says that the file is new";
 
+const POSIX: &str = "with --posix only a file that the command line names is made";
+
 /// Names as the lines have them.
 #[derive(Clone, Copy)]
 struct Given<'a> {
@@ -28,6 +30,7 @@ pub struct Reading {
     /// What `-p` says.
     pub strip: Option<u32>,
     pub is_posix: bool,
+    pub is_reversed: bool,
 }
 
 /// Which names the file patch gives whose opening is this line of the text, and what `-p` leaves of them. Nothing is said where
@@ -39,8 +42,15 @@ pub fn put_names(lines: &mut Lines, tool: &str, reading: Reading, front: &[u8], 
         let left = left_names(lines.alloc, given, reading);
         put_both(lines, tool, reading.strip, &written, &left);
     }
-    if given.opening.starts_with(b"@@ -0,0 +") && is_looked_for(lines.alloc, given, reading) {
-        lines.put_line(tool, NO_SIGN);
+    if given.opening.starts_with(b"@@ -0,0 +") && !reading.is_reversed {
+        put_unmade(lines, tool, given, reading);
+    }
+}
+
+/// Why the file of a hunk that fills an empty one isn't made, where a name counts.
+fn put_unmade(lines: &mut Lines, tool: &str, given: Given<'_>, reading: Reading) {
+    if is_looked_for(lines.alloc, given, reading) {
+        lines.put_line(tool, if reading.is_posix { POSIX } else { NO_SIGN });
     }
 }
 

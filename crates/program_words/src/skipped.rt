@@ -37,6 +37,7 @@ fn put_stack_unfound(lines: &mut Lines, passed: &Passed, line: u64) {
     let reading = Reading {
         strip: Some(1),
         is_posix: false,
+        is_reversed: false,
     };
     put_names(lines, "patchstack", reading, passed.front(), line);
 }
@@ -83,6 +84,7 @@ fn put_unfound(lines: &mut Lines, options: &Options, passed: &Passed, line: u64)
     let reading = Reading {
         strip: options.strip,
         is_posix: options.posix,
+        is_reversed: options.reverse,
     };
     put_names(lines, "patch", reading, passed.front(), line);
 }
