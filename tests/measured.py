@@ -15,18 +15,21 @@ class Watch:
 
     def __init__(self, rt):
         self.rt, self.seconds, self.of, self.ended, self.seeds = rt, {}, {}, set(), set()
-        # the programs that are proved, which a compiler builds; and those that the first of two compilers has built, and the second one builds
+        # the crates that are proved, which a compiler builds; and the programs that the first of two compilers has built, and the second one builds
         self.proved, self.built = set(), set()
 
     def look(self):
         """Looks once, and returns the checks that are seen for the first time, as crate and kind."""
-        parents, ticks, begun, new = {}, {}, {}, []
+        parents, ticks, begun, compilers, new = {}, {}, {}, set(), []
         for pid in filter(str.isdigit, os.listdir("/proc")):
             try:
                 with open(f"/proc/{pid}/stat", encoding="utf-8", errors="replace") as file:
-                    said = file.read().rpartition(")")[2].split()
+                    name, _, said = file.read().rpartition(")")
             except OSError:
                 continue
+            said = said.split()
+            if "(clang" in name:
+                compilers.add(int(pid))
             parents[int(pid)] = int(said[1])
             # (with the children that have ended)
             ticks[int(pid)], begun[int(pid)] = sum(map(int, said[11:15])), said[19]
@@ -39,6 +42,8 @@ class Watch:
                 # (a number alone may come again)
                 key = top, begun[top]
                 taken[key] = taken.get(key, 0) + ticks[pid] / TICKS
+                if pid in compilers and key in self.of:
+                    self.proved.add(self.of[key][0])
         for key, seconds in taken.items():
             told = None if key in self.of else self.tell(key[0])
             if told:
