@@ -137,17 +137,35 @@ def clock(seconds):
     return f"{int(seconds) // 60}:{int(seconds) % 60:02}" if seconds else "-"
 
 
+def all_below():
+    """Returns, by name, what each crate's line in crates.txt names."""
+    with open("crates.txt", encoding="utf-8") as file:
+        return {name: below.split() for name, below in re.findall(r"(?m)^\s*(\w+)[^#\n]*:([^#\n]*)", file.read())}
+
+
+def longest(below, proofs):
+    """Returns the seconds of the longest chain of crates, each of which stands on the one in front of it, and the crates."""
+    found = {}
+
+    def up_to(name):
+        if name not in found:
+            seconds, chain = max((up_to(it) for it in below[name] if it in below), default=(0, []))
+            found[name] = seconds + proofs.get(name, 0), [*chain, name]
+        return found[name]
+
+    return max(map(up_to, below))
+
+
 def times():
     """Prints the ledger."""
     ledger = read_ledger()
     if not ledger["crates"]:
         print("no times are noted yet: make test and make note them, of what they prove")
         return 1
-    with open("crates.txt", encoding="utf-8") as file:
-        listed = re.findall(r"(?m)^\s*(\w+)[^#\n]*:", file.read())
+    below = all_below()
     table = {}
     for name, kinds in ledger["crates"].items():
-        if name in listed:
+        if name in below:
             of_edits = [kinds.get(it, (0, 0)) for it in ("seed", "edit", "last")]
             table[name] = [kinds.get(it, (0, 0))[0] for it in ("proof", "tests")] + [seconds for seconds, _ in of_edits] + [of_edits[1][1]]
     print("Processor time in minutes and seconds, as each was proved last; * is above what docs/PROOFS.md allows.\n")
@@ -160,6 +178,8 @@ def times():
         tried = f"    {clock(row[2])}  {clock(row[3])} ({row[5]})  {clock(row[4])}" if sum(row[2:5]) else ""
         print(f"{name:20}{line}{clock(sum(row[:5])):>8}{tried}")
     print(f"{'all':20}{clock(total[0]):>7} {clock(total[1]):>7} {clock(sum(total[2:])):>7} {clock(sum(total)):>8}")
+    seconds, chain = longest(below, {name: row[0] for name, row in table.items()})
+    print(f"\nThe longest chain of crates, each proved behind the one in front of it, {clock(seconds)}: {' '.join(chain)}")
     run = ledger["run"]
     print(f"\nThe last run ({run['at']}): {run['minutes']:.0f} minutes, {run['processor']:.0f} processor minutes, of which {run['noted']:.0f} for checks.")
     return 0
