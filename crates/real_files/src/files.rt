@@ -4,7 +4,7 @@
 //! through one, is no file here, and nothing is written below it. What is written is never a link itself.
 ghost use Rattle.std.specs.Prelude.{◌≤◌, length, IfOk};
 
-use crate::found::{Found, Identity, found_itself, found_open};
+use crate::found::{Found, found_itself, found_open};
 use crate::fresh::{make_anew, open_to_append, rights_due, take_away};
 use crate::looks::Looks;
 use crate::missing::Missing;
@@ -70,15 +70,21 @@ impl<'r, R: Files<File = File>> OpenFiles<'r, R> {
 
     pub fn size(&mut self, name: Path<'_>) -> io::Result<Option<u64>> {
         self.writing.write_out(name.text)?;
-        let found = self.look(name)?;
+        // While nothing is being filled, the file whose bytes were read is looked at anew.
+        if self.temporaries.is_empty() {
+            self.looks.forget_read();
+        }
+        let found = match self.looks.file(self.rt, name) {
+            Ok(found) => found,
+            Err(error) => return Err(error),
+        };
         self.saves.look(name.text, found);
         self.saw(found, false);
         if found.is_file {
-            Ok(Some(found.length))
-        } else {
-            self.missing.note(name);
-            Ok(None)
+            return Ok(Some(found.length));
         }
+        self.missing.note(name);
+        Ok(None)
     }
 
     /// The name of the last file whose size was asked and that isn't there, and why.
@@ -90,9 +96,13 @@ impl<'r, R: Files<File = File>> OpenFiles<'r, R> {
         ensures { IfOk result (λ n. n ≤ length buf.old) }
     {
         self.writing.write_out(name.text)?;
-        self.open_for_reading(name)?;
-        self.note_read();
-        self.reading.read_at(at, buf)
+        match self.open_for_reading(name) {
+            Ok(()) => {
+                self.note_read();
+                self.reading.read_at(at, buf)
+            }
+            Err(error) => Err(error),
+        }
     }
 
     /// Whether the first components of the name are a directory.
@@ -117,26 +127,26 @@ impl<'r, R: Files<File = File>> OpenFiles<'r, R> {
     fn started(&mut self, temp: Path<'_>) -> io::Result<()> {
         self.leave(temp.text);
         self.writing.finish()?;
-        self.enter_new(temp)?;
-        self.start_here(temp)
-    }
-
-    /// The same in a directory that is there.
-    fn start_here(&mut self, temp: Path<'_>) -> io::Result<()> {
-        let rights = self.due_rights(temp)?;
-        self.make(temp)?;
-        self.begin(temp, rights)
-    }
-
-    fn make(&mut self, temp: Path<'_>) -> io::Result<()> {
-        match make_anew(self.rt, temp.text, 0o600) {
-            Ok(file) => self.writing.open(self.alloc, temp.text, file),
+        self.enter(temp, true)?;
+        let target = target_of(temp).text;
+        let old = match found_itself(self.rt, target) {
+            Ok(old) => old,
+            Err(error) => return Err(error),
+        };
+        let due = self.saves.due(target, old, usual(self.origin, old));
+        match rights_due(self.rt, temp.text, due) {
+            Ok(rights) => self.make(temp, rights),
             Err(error) => Err(error),
         }
     }
 
-    /// Keeps the rights of a temporary that was made.
-    fn begin(&mut self, temp: Path<'_>, rights: Rights) -> io::Result<()> {
+    /// Makes a temporary, and keeps the rights that it is to get once it is sealed.
+    fn make(&mut self, temp: Path<'_>, rights: Rights) -> io::Result<()> {
+        let file = match make_anew(self.rt, temp.text, 0o600) {
+            Ok(file) => file,
+            Err(error) => return Err(error),
+        };
+        self.writing.open(self.alloc, temp.text, file)?;
         self.origin = started(self.origin);
         self.saves.start(target_of(temp).text);
         self.temporaries.begin(self.alloc, temp, rights)?;
@@ -145,29 +155,22 @@ impl<'r, R: Files<File = File>> OpenFiles<'r, R> {
 
     /// Gathers a piece, and writes what was gathered where there is no room for it. Where that fails, the file is taken away.
     pub fn append(&mut self, temp: Path<'_>, piece: &[u8]) -> io::Result<()> {
-        let done = self.appended(temp, piece);
-        self.give_up(temp, done.is_err());
-        done
-    }
-
-    fn appended(&mut self, temp: Path<'_>, piece: &[u8]) -> io::Result<()> {
-        match self.resume_writing(temp) {
+        let done = match self.resume_writing(temp) {
             Ok(()) => self.writing.append(piece),
             Err(error) => Err(error),
-        }
+        };
+        self.give_up(temp, done.is_err());
+        done
     }
 
     /// Writes what was gathered, gives the file its rights, and syncs it. Where that fails, the file is taken away.
     pub fn seal(&mut self, temp: Path<'_>) -> io::Result<()> {
-        let done = self.sealed(temp);
+        let done = match self.resume_writing(temp) {
+            Ok(()) => self.writing.seal(self.temporaries.end(temp.text)),
+            Err(error) => Err(error),
+        };
         self.give_up(temp, done.is_err());
         done
-    }
-
-    fn sealed(&mut self, temp: Path<'_>) -> io::Result<()> {
-        self.resume_writing(temp)?;
-        let rights = self.temporaries.end(temp.text);
-        self.writing.seal(rights)
     }
 
     /// Renames the temporary. Nothing but a regular file is ever replaced, and no name changes while another temporary is being
@@ -176,8 +179,14 @@ impl<'r, R: Files<File = File>> OpenFiles<'r, R> {
         self.close(temp)?;
         self.close(to)?;
         self.check_filled()?;
-        self.enter(to)?;
-        self.rename(temp, to)
+        self.enter(to, false)?;
+        if temp.parent() != to.parent() {
+            self.enter(temp, false)?;
+        }
+        match replaceable_here(self.rt, to) {
+            Ok(()) => fs::rename(self.rt, temp.text, to.text),
+            Err(error) => Err(error),
+        }
     }
 
     /// Whether the temporary that is being filled, if there is one, can take its name.
@@ -188,29 +197,12 @@ impl<'r, R: Files<File = File>> OpenFiles<'r, R> {
         }
     }
 
-    fn rename(&mut self, temp: Path<'_>, to: Path<'_>) -> io::Result<()> {
-        if temp.parent() != to.parent() {
-            self.enter(temp)?;
-        }
-        replaceable_here(self.rt, to)?;
-        fs::rename(self.rt, temp.text, to.text)
-    }
-
     /// The name that stands in the way of a swap that failed: one that a temporary which is being filled can't take, else the one
     /// given.
     pub fn blamed<'a>(&'a self, name: Path<'a>, failed: bool) -> Path<'a> {
-        if failed {
-            self.blocked().unwrap_or(name)
-        } else {
-            name
-        }
-    }
-
-    /// The name that the temporary which is being filled can't take.
-    fn blocked(&self) -> Option<Path<'_>> {
         match self.temporaries.last() {
-            Some(temp) if replaceable(self.rt, target_of(temp)).is_err() => Some(target_of(temp)),
-            _ => None,
+            Some(filled) if failed && self.check_filled().is_err() => target_of(filled),
+            _ => name,
         }
     }
 
@@ -240,18 +232,16 @@ impl<'r, R: Files<File = File>> OpenFiles<'r, R> {
     pub fn remove(&mut self, name: Path<'_>) -> io::Result<()> {
         self.close(name)?;
         self.temporaries.end(name.text);
-        self.enter(name)?;
-        self.remove_here(name)
-    }
-
-    /// The same in a directory that is there.
-    fn remove_here(&mut self, name: Path<'_>) -> io::Result<()> {
-        let found = found_itself(self.rt, name.text)?;
-        if !found.is_file {
-            return Err(no_file());
+        self.enter(name, false)?;
+        let found = match found_itself(self.rt, name.text) {
+            Ok(found) if found.is_file => found,
+            Ok(_) => return Err(no_file()),
+            Err(error) => return Err(error),
+        };
+        match self.saves.take_away(name.text, found) {
+            Ok(()) => fs::remove_file(self.rt, name.text),
+            Err(error) => Err(error.into()),
         }
-        self.saves.take_away(name.text, found)?;
-        fs::remove_file(self.rt, name.text)
     }
 
     /// Syncs each directory in which a name was made, moved or taken away.
@@ -263,22 +253,6 @@ impl<'r, R: Files<File = File>> OpenFiles<'r, R> {
     /// A directory that isn't synced yet.
     pub fn unsynced(&self) -> &str {
         self.directories.first()
-    }
-
-    /// The rights that a temporary is to get once it is sealed.
-    fn due_rights(&self, temp: Path<'_>) -> io::Result<Rights> {
-        let target = target_of(temp).text;
-        let old = found_itself(self.rt, target)?;
-        let due = self.saves.due(target, old, usual(self.origin, old));
-        rights_due(self.rt, temp.text, due)
-    }
-
-    /// What stands at a name. While nothing is being filled, the file whose bytes were read is looked at anew.
-    fn look(&mut self, name: Path<'_>) -> io::Result<Found> {
-        if self.temporaries.is_empty() {
-            self.looks.forget_read();
-        }
-        self.looks.file(self.rt, name)
     }
 
     /// Keeps a file that was looked at, or that none is there. While temporaries are being filled it is what the last of them
@@ -306,25 +280,18 @@ impl<'r, R: Files<File = File>> OpenFiles<'r, R> {
         self.writing.close(name.text)
     }
 
+    /// Opens the file that was looked at last where it is still that, else the name is looked at anew.
     fn open_for_reading(&mut self, name: Path<'_>) -> io::Result<()> {
         if self.reading.is_at(name.text) {
             return Ok(());
         }
-        match self.looks.kept(name) {
-            Some(file) => self.open_again(name, file),
-            None => self.open_anew(name),
-        }
-    }
-
-    /// Opens the file that was looked at last where it is still that, else the name is looked at anew.
-    fn open_again(&mut self, name: Path<'_>, meant: Identity) -> io::Result<()> {
-        match File::open(self.rt, name.text) {
-            Ok(file) => self.keep_meant(name, file, meant),
-            Err(error) => Err(error),
-        }
-    }
-
-    fn keep_meant(&mut self, name: Path<'_>, file: File, meant: Identity) -> io::Result<()> {
+        let Some(meant) = self.looks.kept(name) else {
+            return self.open_anew(name);
+        };
+        let file = match File::open(self.rt, name.text) {
+            Ok(file) => file,
+            Err(error) => return Err(error),
+        };
         match found_open(&file) {
             Ok(found) if found.identity.is_same(meant) => self.keep_open(name, file, found),
             Ok(_) => self.open_anew(name),
@@ -333,10 +300,11 @@ impl<'r, R: Files<File = File>> OpenFiles<'r, R> {
     }
 
     fn open_anew(&mut self, name: Path<'_>) -> io::Result<()> {
-        let found = self.looks.file_anew(self.rt, name)?;
-        if !found.is_file {
-            return Err(no_file());
-        }
+        let found = match self.looks.file_anew(self.rt, name) {
+            Ok(found) if found.is_file => found,
+            Ok(_) => return Err(no_file()),
+            Err(error) => return Err(error),
+        };
         match File::open(self.rt, name.text) {
             Ok(file) => self.keep_open(name, file, found),
             Err(error) => Err(error),
@@ -358,28 +326,17 @@ impl<'r, R: Files<File = File>> OpenFiles<'r, R> {
         if self.writing.is_at(name.text) {
             return Ok(());
         }
-        match self.writing.finish() {
-            Ok(()) => self.write_on(name),
-            Err(error) => Err(error),
-        }
-    }
-
-    fn write_on(&mut self, name: Path<'_>) -> io::Result<()> {
+        self.writing.finish()?;
         match open_to_append(self.rt, name) {
             Ok(file) => self.writing.open(self.alloc, name.text, file),
             Err(error) => Err(error),
         }
     }
 
-    /// Has the directory that a name stands in open, to be synced. The name goes through directories alone.
-    fn enter(&mut self, name: Path<'_>) -> io::Result<()> {
+    /// Has the directory that a name stands in open, to be synced. The name goes through directories alone; those that are
+    /// missing are made where `makes_way`.
+    fn enter(&mut self, name: Path<'_>, makes_way: bool) -> io::Result<()> {
         let known = self.looks.directory(name);
-        self.directories.enter(self.rt, name, known)
-    }
-
-    /// The same, and makes the directories of the name that are missing.
-    fn enter_new(&mut self, name: Path<'_>) -> io::Result<()> {
-        let known = self.looks.directory(name);
-        self.directories.enter_new(self.rt, name, known)
+        self.directories.enter(self.rt, name, known, makes_way)
     }
 }

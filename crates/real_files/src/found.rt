@@ -110,17 +110,13 @@ pub fn found_open(file: &File) -> io::Result<Found> {
     told(file.metadata())
 }
 
+/// What the system answered: nothing, where the error says so.
 fn told(answer: io::Result<Metadata>) -> io::Result<Found> {
     match answer {
         Ok(found) => Ok(Found::of(&found)),
-        Err(error) => missing(error),
-    }
-}
-
-/// Nothing, where the error says so.
-fn missing(error: io::Error) -> io::Result<Found> {
-    match error.kind() {
-        ErrorKind::NotFound | ErrorKind::NotADirectory => Ok(Found::nothing()),
-        _ => Err(error),
+        Err(error) => match error.kind() {
+            ErrorKind::NotFound | ErrorKind::NotADirectory => Ok(Found::nothing()),
+            _ => Err(error),
+        },
     }
 }

@@ -1,8 +1,7 @@
-//! New files and directories, never through a link.
+//! New files, never through a link.
 
-use crate::found::Identity;
 use crate::origins::Due;
-use crate::paths::{Path, found_at, no_file, not_a_directory, plain};
+use crate::paths::{Path, no_file, plain};
 use crate::rights::{Rights, rights_of};
 use std::fs::{File, OpenFile, OpenOptions};
 use std::io::ErrorKind;
@@ -13,14 +12,13 @@ use std::{fs, io};
 /// A new file, never through a link. What an earlier run left there is taken away.
 pub fn make_anew<R: Files>(rt: &R, name: &str, mode: u32) -> io::Result<R::File> {
     match make_new(rt, name, mode) {
-        Err(error) if error.kind() == ErrorKind::AlreadyExists => make_over(rt, name, mode),
-        done => done,
+        Err(error) if matches!(error.kind(), ErrorKind::AlreadyExists) => {}
+        done => return done,
     }
-}
-
-fn make_over<R: Files>(rt: &R, name: &str, mode: u32) -> io::Result<R::File> {
-    fs::remove_file(rt, name)?;
-    make_new(rt, name, mode)
+    match fs::remove_file(rt, name) {
+        Ok(()) => make_new(rt, name, mode),
+        Err(error) => Err(error),
+    }
 }
 
 fn make_new<R: Files>(rt: &R, name: &str, mode: u32) -> io::Result<R::File> {
@@ -34,25 +32,26 @@ fn make_new<R: Files>(rt: &R, name: &str, mode: u32) -> io::Result<R::File> {
 
 /// The rights that a temporary is to get once it is sealed. No file stands there now.
 pub fn rights_due<R: Files<File = File>>(rt: &R, name: &str, due: Due) -> io::Result<Rights> {
-    match due {
-        Due::Exactly(rights) => Ok(rights),
-        Due::AtMost(most) => Ok(rights_of_new(rt, name)?.limited(most).owned_as(most)),
-        Due::ShownTo(most) => Ok(rights_of_new(rt, name)?.shown_to(most)),
-        Due::New => rights_of_new(rt, name),
+    if let Due::Exactly(rights) = due {
+        return Ok(rights);
+    }
+    match rights_of_new(rt, name) {
+        Ok(new) => Ok(due.of_new(new)),
+        Err(error) => Err(error),
     }
 }
 
 /// The rights that the system gives to a new file here, as one that is taken away at once tells. Nothing tells the mask of
 /// permission bits without a change of it.
 fn rights_of_new<R: Files<File = File>>(rt: &R, name: &str) -> io::Result<Rights> {
-    let rights = rights_of_made(rt, name);
-    fs::remove_file(rt, name)?;
-    rights
-}
-
-fn rights_of_made<R: Files<File = File>>(rt: &R, name: &str) -> io::Result<Rights> {
-    let file = make_anew(rt, name, 0o666)?;
-    rights_of(&file)
+    let rights = match make_anew(rt, name, 0o666) {
+        Ok(file) => rights_of(&file),
+        Err(error) => Err(error),
+    };
+    match fs::remove_file(rt, name) {
+        Ok(()) => rights,
+        Err(error) => Err(error),
+    }
 }
 
 /// Takes a file away, if it is a regular one that is reached through directories alone, as far as the system lets it.
@@ -70,16 +69,6 @@ pub fn open_to_append<R: Files<File = File>>(rt: &R, path: Path<'_>) -> io::Resu
     match plain(rt, path) {
         Ok(found) if found.is_file => OpenOptions::new().append(true).open(rt, path.text),
         Ok(_) => Err(no_file()),
-        Err(error) => Err(error),
-    }
-}
-
-/// Makes a directory, and tells which it is.
-pub fn make_directory<R: Files>(rt: &R, directory: Path<'_>) -> io::Result<Identity> {
-    fs::create_dir(rt, directory.text)?;
-    match found_at(rt, directory) {
-        Ok(found) if found.is_directory => Ok(found.identity),
-        Ok(_) => Err(not_a_directory()),
         Err(error) => Err(error),
     }
 }

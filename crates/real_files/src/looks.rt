@@ -30,28 +30,39 @@ impl Looks {
         Looks { alloc, last: None }
     }
 
-    /// What stands at a path that goes through directories alone.
+    /// What stands at a path that goes through directories alone: the file that was looked at last, where the path still leads
+    /// to it.
     pub fn file<R: Files>(&mut self, rt: &R, path: Path<'_>) -> io::Result<Found> {
-        match self.same_file(rt, path) {
-            Some(found) => Ok(found),
-            None => self.file_anew(rt, path),
+        let Some(meant) = self.kept(path) else {
+            return self.file_anew(rt, path);
+        };
+        match found_at(rt, path) {
+            Ok(found) if found.is_file && found.identity.is_same(meant) => Ok(found),
+            _ => self.file_anew(rt, path),
         }
     }
 
     /// The same, with each directory on the way looked at.
     pub fn file_anew<R: Files>(&mut self, rt: &R, path: Path<'_>) -> io::Result<Found> {
         self.last = None;
-        let found = plain(rt, path)?;
-        self.last = made(self.alloc, path, found);
-        Ok(found)
-    }
-
-    /// The file that was looked at last, where the path still leads to it.
-    fn same_file<R: Files>(&self, rt: &R, path: Path<'_>) -> Option<Found> {
-        match self.kept(path) {
-            Some(file) => still(rt, path, file),
-            None => None,
+        let found = match plain(rt, path) {
+            Ok(found) => found,
+            Err(error) => return Err(error),
+        };
+        if !found.is_file {
+            return Ok(found);
         }
+        // Without memory nothing is kept.
+        if let Ok(name) = String::from_str(self.alloc, path.text) {
+            self.last = Some(Look {
+                name,
+                given: path.given,
+                file: found.identity,
+                directory: found.within,
+                was_read: false,
+            });
+        }
+        Ok(found)
     }
 
     /// Which file the path led to when it was looked at last.
@@ -97,30 +108,5 @@ impl Look {
             text: self.name.as_str(),
             given: self.given,
         }
-    }
-}
-
-/// What is kept of a file. Without memory that is nothing.
-fn made(alloc: Global, path: Path<'_>, found: Found) -> Option<Look> {
-    if !found.is_file {
-        return None;
-    }
-    match String::from_str(alloc, path.text) {
-        Ok(name) => Some(Look {
-            name,
-            given: path.given,
-            file: found.identity,
-            directory: found.within,
-            was_read: false,
-        }),
-        Err(_) => None,
-    }
-}
-
-/// The file at a path, if it is the one that is meant.
-fn still<R: Files>(rt: &R, path: Path<'_>, meant: Identity) -> Option<Found> {
-    match found_at(rt, path) {
-        Ok(found) if found.is_file && found.identity.is_same(meant) => Some(found),
-        _ => None,
     }
 }

@@ -70,14 +70,10 @@ fn text_at<R: Files>(
     path: Path<'_>,
     has_input: bool,
 ) -> Result<Option<String>, AllocError> {
-    let name = path.text;
     match found_at(rt, path) {
         Ok(found) if found.is_file && is_open(rt, path) => Ok(None),
-        Ok(found) => {
-            let what = kind_of(found, has_input);
-            Ok(Some(format!(in alloc; "{name}: {what}")?))
-        }
-        Err(error) => Ok(Some(trouble_text(alloc, name, error)?)),
+        Ok(found) => found_text(alloc, path.text, kind_of(found, has_input)),
+        Err(error) => trouble_text(alloc, path.text, error),
     }
 }
 
@@ -100,7 +96,18 @@ fn kind_of(found: Found, has_input: bool) -> &'static str {
     }
 }
 
-fn trouble_text(alloc: Global, name: &str, error: io::Error) -> Result<String, AllocError> {
+fn found_text(alloc: Global, name: &str, what: &str) -> Result<Option<String>, AllocError> {
+    match format!(in alloc; "{name}: {what}") {
+        Ok(text) => Ok(Some(text)),
+        Err(error) => Err(error),
+    }
+}
+
+fn trouble_text(alloc: Global, name: &str, error: io::Error) -> Result<Option<String>, AllocError> {
     let name = String::from_str(alloc, name)?;
-    Trouble { name, error }.text(alloc)
+    let trouble = Trouble { name, error };
+    match trouble.text(alloc) {
+        Ok(text) => Ok(Some(text)),
+        Err(error) => Err(error),
+    }
 }

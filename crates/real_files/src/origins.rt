@@ -28,6 +28,18 @@ pub enum Due {
     New,
 }
 
+impl Due {
+    /// The rights that are due where the system gives these to a new file.
+    pub fn of_new(self, new: Rights) -> Rights {
+        match self {
+            Due::Exactly(rights) => rights,
+            Due::AtMost(most) => new.limited(most).owned_as(most),
+            Due::ShownTo(most) => new.shown_to(most),
+            Due::New => new,
+        }
+    }
+}
+
 /// What was looked at, or that nothing is there.
 pub fn origin_of(found: Found, was_read: bool) -> Option<Origin> {
     if found.is_file {
@@ -45,26 +57,12 @@ pub fn started(origin: Option<Origin>) -> Option<Origin> {
     }
 }
 
-/// The rights of a temporary that is started now, to stand where `old` stands, if anything does.
+/// The rights of a temporary that is started now, to stand where `old` stands, if anything does. What was filled from a file's
+/// bytes gets its rights, and so does a file's own successor; anything else, as rejects, no more than them.
 pub fn usual(origin: Option<Origin>, old: Found) -> Due {
-    match origin {
-        Some(origin) => due_from(origin, old),
-        None => own(old),
-    }
-}
-
-/// The same as what stands there has, if anything does.
-pub fn own(old: Found) -> Due {
-    if old.is_file {
-        Due::Exactly(old.rights)
-    } else {
-        Due::New
-    }
-}
-
-/// What was filled from a file's bytes gets its rights, and so does a file's own successor; anything else, as rejects, no more
-/// than them.
-fn due_from(origin: Origin, old: Found) -> Due {
+    let Some(origin) = origin else {
+        return own(old);
+    };
     let rights = origin.found.rights;
     if origin.was_read {
         return Due::Exactly(rights);
@@ -76,5 +74,14 @@ fn due_from(origin: Origin, old: Found) -> Due {
         Due::Exactly(rights)
     } else {
         Due::AtMost(rights.limited(old.rights))
+    }
+}
+
+/// The same as what stands there has, if anything does.
+pub fn own(old: Found) -> Due {
+    if old.is_file {
+        Due::Exactly(old.rights)
+    } else {
+        Due::New
     }
 }

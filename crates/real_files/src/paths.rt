@@ -93,7 +93,10 @@ impl Way {
 pub fn way_of<R: Files>(rt: &R, path: Path<'_>) -> io::Result<Way> {
     let mut way = Way::here();
     for (slash, _) in path.text.match_indices('/') {
-        way = way.through(found_at(rt, path.directory(slash))?);
+        match found_at(rt, path.directory(slash)) {
+            Ok(found) => way = way.through(found),
+            Err(error) => return Err(error),
+        }
         if !way.is_open {
             break;
         }
@@ -122,33 +125,20 @@ pub fn find_directory<R: Files>(rt: &R, path: &str) -> io::Result<()> {
 
 /// Whether the directory that a path's last component stands in is still this one.
 pub fn leads_to<R: Files>(rt: &R, path: Path<'_>, directory: Identity) -> bool {
-    let parent = path.parent();
-    if parent == "." {
-        return true;
-    }
-    match found_behind(rt, parent) {
-        Ok(found) => found.identity.is_same(directory),
-        Err(_) => false,
+    match path.parent() {
+        "." => true,
+        parent =>
+            matches!(found_behind(rt, parent), Ok(found) if found.identity.is_same(directory)),
     }
 }
 
 /// What stands at a path that goes through directories alone. One that can't be reached has nothing: a name longer than the
 /// system takes, or one behind a directory that can't be searched.
 pub fn plain<R: Files>(rt: &R, path: Path<'_>) -> io::Result<Found> {
-    match reached(rt, path) {
-        Err(error) => out_of_reach(error),
-        done => done,
-    }
-}
-
-fn reached<R: Files>(rt: &R, path: Path<'_>) -> io::Result<Found> {
-    match way_of(rt, path) {
-        Ok(way) => found_behind_way(rt, path, way),
-        Err(error) => Err(error),
-    }
-}
-
-fn found_behind_way<R: Files>(rt: &R, path: Path<'_>, way: Way) -> io::Result<Found> {
+    let way = match way_of(rt, path) {
+        Ok(way) => way,
+        Err(error) => return out_of_reach(error),
+    };
     if !way.is_open {
         return Ok(Found::nothing());
     }
@@ -157,7 +147,7 @@ fn found_behind_way<R: Files>(rt: &R, path: Path<'_>, way: Way) -> io::Result<Fo
             within: way.directory,
             ..found
         }),
-        Err(error) => Err(error),
+        Err(error) => out_of_reach(error),
     }
 }
 
@@ -196,15 +186,10 @@ pub fn usable<R: Files>(rt: &R, path: Path<'_>, is_needed: bool) -> io::Result<(
         Ok(found) if found.is_directory => Err(not_a_file(found)),
         Ok(found) if is_needed && found.is_special() => Err(not_a_file(found)),
         Ok(_) => Ok(()),
-        Err(error) => reachable(error),
-    }
-}
-
-/// The error, unless it says that something can't be reached.
-fn reachable(error: io::Error) -> io::Result<()> {
-    match out_of_reach(error) {
-        Ok(_) => Ok(()),
-        Err(error) => Err(error),
+        Err(error) => match out_of_reach(error) {
+            Ok(_) => Ok(()),
+            Err(error) => Err(error),
+        },
     }
 }
 
@@ -233,12 +218,11 @@ pub fn not_a_directory() -> io::Error {
 
 /// The directory that the first components of a path are, or the path itself where it has no more than these.
 pub fn first_parts(path: Path<'_>, parts: u64) -> Path<'_> {
-    let mut count = 0u64;
-    for (slash, _) in path.text.match_indices('/') {
-        count = count.saturating_add(1);
-        if count == parts {
-            return path.directory(slash);
-        }
+    let Some(last) = parts.checked_sub(1) else {
+        return path;
+    };
+    match path.text.match_indices('/').nth(last as usize) {
+        Some((slash, _)) => path.directory(slash),
+        None => path,
     }
-    path
 }

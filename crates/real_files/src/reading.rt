@@ -38,8 +38,13 @@ impl Reading {
 
     /// Keeps a file open that has this name.
     pub fn open(&mut self, alloc: Global, name: &str, file: File, seen: Seen) -> io::Result<()> {
-        self.open = Some(opened(alloc, name, file, seen)?);
-        Ok(())
+        match String::from_str(alloc, name) {
+            Ok(name) => {
+                self.open = Some(Open { name, file, seen });
+                Ok(())
+            }
+            Err(error) => Err(error.into()),
+        }
     }
 
     pub fn is_at(&self, name: &str) -> bool {
@@ -73,11 +78,6 @@ impl Reading {
             None => Err(no_file()),
         }
     }
-}
-
-fn opened(alloc: Global, name: &str, file: File, seen: Seen) -> io::Result<Open> {
-    let name = String::from_str(alloc, name)?;
-    Ok(Open { name, file, seen })
 }
 
 /// Reads all that is there from a place on, up to the buffer's length.

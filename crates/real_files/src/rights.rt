@@ -104,18 +104,13 @@ pub fn give(file: &File, wanted: Rights) -> io::Result<()> {
     file.set_permissions(Permissions::from_mode(bits))
 }
 
-/// Gives a file the owner and the group, if it has others, and tells what it has then.
+/// Gives a file the owner and the group, or the group alone, or neither, whichever the system allows, if it has others, and
+/// tells what it has then.
 fn owned(file: &File, wanted: Rights) -> io::Result<Rights> {
     let old = rights_of(file)?;
     if old.has_owner_of(wanted) {
-        Ok(old)
-    } else {
-        give_owner(file, wanted)
+        return Ok(old);
     }
-}
-
-/// Gives a file the owner and the group, or the group alone, or neither, whichever the system allows, and tells what it has.
-fn give_owner(file: &File, wanted: Rights) -> io::Result<Rights> {
     if fchown(file, Some(wanted.owner), Some(wanted.group)).is_err() {
         let _ = fchown(file, None, Some(wanted.group));
     }

@@ -66,16 +66,12 @@ impl Saves {
 
     /// A file is taken away.
     pub fn take_away(&mut self, name: &str, found: Found) -> Result<(), AllocError> {
-        if self.is_stack {
-            self.keep_gone(name, found.rights)
-        } else {
-            Ok(())
+        if !self.is_stack {
+            return Ok(());
         }
-    }
-
-    fn keep_gone(&mut self, name: &str, rights: Rights) -> Result<(), AllocError> {
-        let gone = taken(self.alloc, name, rights)?;
-        self.gone.push(gone)?;
+        let name = String::from_str(self.alloc, name)?;
+        let rights = found.rights;
+        self.gone.push(Gone { name, rights })?;
         Ok(())
     }
 
@@ -91,11 +87,6 @@ impl Saves {
         if name.starts_with(OWN) {
             return own(old);
         }
-        self.due_of_tree(name, old, other)
-    }
-
-    /// The same of a file that isn't the stack's.
-    fn due_of_tree(&self, name: &str, old: Found, other: Due) -> Due {
         match self.source {
             Some(source) => self.due_back(name, old, source),
             None => self.due_made(name, old, other),
@@ -149,13 +140,6 @@ fn within(due: Due, most: Rights) -> Due {
         Due::AtMost(rights) => Due::AtMost(rights.met(most)),
         Due::ShownTo(rights) => Due::ShownTo(rights.met(most)),
         Due::New => Due::AtMost(most),
-    }
-}
-
-fn taken(alloc: Global, name: &str, rights: Rights) -> Result<Gone, AllocError> {
-    match String::from_str(alloc, name) {
-        Ok(name) => Ok(Gone { name, rights }),
-        Err(error) => Err(error),
     }
 }
 

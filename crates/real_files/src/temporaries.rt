@@ -42,8 +42,13 @@ impl Temporaries {
         rights: Rights,
     ) -> Result<(), AllocError> {
         self.end(temp.text);
-        let begun = begun(alloc, temp, rights)?;
-        self.all.push(begun)?;
+        let name = String::from_str(alloc, temp.text)?;
+        let given = temp.given;
+        self.all.push(Temporary {
+            name,
+            given,
+            rights,
+        })?;
         Ok(())
     }
 
@@ -80,16 +85,11 @@ impl Temporaries {
     fn place_of(&self, name: &str) -> Option<usize>
         ensures { IfSome result (λ place. place < length self.now.all.items) }
     {
-        self.all
-            .iter()
-            .position(|temporary| temporary.name.as_str() == name)
+        for place in 0..self.all.len() {
+            if self.all[place].name.as_str() == name {
+                return Some(place);
+            }
+        }
+        None
     }
-}
-
-fn begun(alloc: Global, temp: Path<'_>, rights: Rights) -> Result<Temporary, AllocError> {
-    Ok(Temporary {
-        name: String::from_str(alloc, temp.text)?,
-        given: temp.given,
-        rights,
-    })
 }

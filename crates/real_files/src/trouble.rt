@@ -24,7 +24,7 @@ pub fn trouble_of(alloc: Global, name: &str, error: io::Error) -> Option<Trouble
 
 /// A temporary is shown as the file that it is for, unless a directory stands at its own name; and what is to be told of that.
 fn shown(name: &str, kind: ErrorKind) -> (&str, &'static str) {
-    if kind == ErrorKind::IsADirectory {
+    if matches!(kind, ErrorKind::IsADirectory) {
         return (name, "");
     }
     match name.strip_suffix(".ptmp") {
@@ -34,10 +34,9 @@ fn shown(name: &str, kind: ErrorKind) -> (&str, &'static str) {
 }
 
 fn beside(kind: ErrorKind) -> &'static str {
-    if kind == ErrorKind::PermissionDenied {
-        BESIDE
-    } else {
-        ""
+    match kind {
+        ErrorKind::PermissionDenied => BESIDE,
+        _ => "",
     }
 }
 

@@ -2,12 +2,11 @@
 //! next name in them, until another one is opened.
 
 use crate::found::Identity;
-use crate::fresh::make_directory;
 use crate::paths::{Path, directory_of, found_at, leads_to, not_a_directory};
 use std::alloc::Global;
 use std::fs::{File, OpenFile};
-use std::io;
 use std::rt::Files;
+use std::{fs, io};
 
 #[derive(Drop)]
 struct Noted {
@@ -32,39 +31,43 @@ impl Directories {
     }
 
     /// Has the directory that a name stands in open, to be synced. The name goes through directories alone; it is `known` where
-    /// it led to before.
+    /// it led to before. Directories that are missing are made where `makes_way`.
     pub fn enter<R: Files<File = File>>(
         &mut self,
         rt: &R,
         name: Path<'_>,
         known: Option<Identity>,
+        makes_way: bool,
     ) -> io::Result<()> {
-        let directory = match still_there(rt, name, known) {
-            Some(directory) => directory,
-            None => directory_of(rt, name)?,
-        };
-        self.note(rt, name.parent(), directory)
+        match self.directory_for(rt, name, known, makes_way) {
+            Ok(directory) => self.note(rt, name.parent(), directory),
+            Err(error) => Err(error),
+        }
     }
 
-    /// The same, and makes the directories of the name that are missing.
-    pub fn enter_new<R: Files<File = File>>(
+    /// The directory that a name stands in: the one that is known, where the name still leads there.
+    fn directory_for<R: Files<File = File>>(
         &mut self,
         rt: &R,
         name: Path<'_>,
         known: Option<Identity>,
-    ) -> io::Result<()> {
-        let directory = match still_there(rt, name, known) {
-            Some(directory) => directory,
-            None => self.make_way(rt, name)?,
-        };
-        self.note(rt, name.parent(), directory)
+        makes_way: bool,
+    ) -> io::Result<Identity> {
+        match known {
+            Some(directory) if leads_to(rt, name, directory) => Ok(directory),
+            _ if makes_way => self.make_way(rt, name),
+            _ => directory_of(rt, name),
+        }
     }
 
     /// Makes the directories of a name that are missing, and tells the last one.
     fn make_way<R: Files<File = File>>(&mut self, rt: &R, name: Path<'_>) -> io::Result<Identity> {
         let mut last = Identity::here();
         for (slash, _) in name.text.match_indices('/') {
-            last = self.reach(rt, name.directory(slash), last)?;
+            match self.reach(rt, name.directory(slash), last) {
+                Ok(directory) => last = directory,
+                Err(error) => return Err(error),
+            }
         }
         Ok(last)
     }
@@ -77,21 +80,16 @@ impl Directories {
         within: Identity,
     ) -> io::Result<Identity> {
         match found_at(rt, directory) {
-            Ok(found) if found.is_directory => Ok(found.identity),
-            Ok(found) if found.is_there => Err(not_a_directory()),
-            Ok(_) => self.make(rt, directory, within),
-            Err(error) => Err(error),
+            Ok(found) if found.is_directory => return Ok(found.identity),
+            Ok(found) if found.is_there => return Err(not_a_directory()),
+            Ok(_) => {}
+            Err(error) => return Err(error),
         }
-    }
-
-    fn make<R: Files<File = File>>(
-        &mut self,
-        rt: &R,
-        directory: Path<'_>,
-        within: Identity,
-    ) -> io::Result<Identity> {
-        match self.note(rt, directory.parent(), within) {
-            Ok(()) => make_directory(rt, directory),
+        self.note(rt, directory.parent(), within)?;
+        fs::create_dir(rt, directory.text)?;
+        match found_at(rt, directory) {
+            Ok(found) if found.is_directory => Ok(found.identity),
+            Ok(_) => Err(not_a_directory()),
             Err(error) => Err(error),
         }
     }
@@ -108,21 +106,24 @@ impl Directories {
             return Ok(());
         }
         self.noted.retain(|noted| !noted.is_synced);
-        match opened(self.alloc, rt, path, identity) {
-            Ok(noted) => self.keep(noted),
-            Err(error) => Err(error),
-        }
-    }
-
-    fn keep(&mut self, noted: Noted) -> io::Result<()> {
-        self.noted.push(noted)?;
+        let directory = match File::open(rt, path) {
+            Ok(directory) => directory,
+            Err(error) => return Err(error),
+        };
+        let name = String::from_str(self.alloc, path)?;
+        self.noted.push(Noted {
+            name,
+            identity,
+            directory,
+            is_synced: false,
+        })?;
         Ok(())
     }
 
     /// Keeps a directory to be synced, if it is open.
     fn note_open(&mut self, path: &str, identity: Identity) -> bool {
         for noted in self.noted.iter_mut() {
-            if noted.is_at(path, identity) {
+            if noted.name.as_str() == path && noted.identity.is_same(identity) {
                 noted.is_synced = false;
                 return true;
             }
@@ -143,48 +144,11 @@ impl Directories {
     /// Syncs each of them.
     pub fn sync(&mut self) -> io::Result<()> {
         for noted in self.noted.iter_mut() {
-            noted.sync()?;
+            if !noted.is_synced {
+                noted.directory.sync_all()?;
+                noted.is_synced = true;
+            }
         }
         Ok(())
-    }
-}
-
-impl Noted {
-    fn is_at(&self, path: &str, identity: Identity) -> bool {
-        self.name.as_str() == path && self.identity.is_same(identity)
-    }
-
-    fn sync(&mut self) -> io::Result<()> {
-        if self.is_synced {
-            return Ok(());
-        }
-        self.directory.sync_all()?;
-        self.is_synced = true;
-        Ok(())
-    }
-}
-
-/// Opens a directory.
-fn opened<R: Files<File = File>>(
-    alloc: Global,
-    rt: &R,
-    path: &str,
-    identity: Identity,
-) -> io::Result<Noted> {
-    let directory = File::open(rt, path)?;
-    let name = String::from_str(alloc, path)?;
-    Ok(Noted {
-        name,
-        identity,
-        directory,
-        is_synced: false,
-    })
-}
-
-/// The directory that a name stands in, where it is known and the name still leads there.
-fn still_there<R: Files>(rt: &R, name: Path<'_>, known: Option<Identity>) -> Option<Identity> {
-    match known {
-        Some(directory) if leads_to(rt, name, directory) => Some(directory),
-        _ => None,
     }
 }

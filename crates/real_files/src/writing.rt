@@ -29,8 +29,17 @@ impl Writing {
 
     /// Opens a file that has this name.
     pub fn open(&mut self, alloc: Global, name: &str, file: File) -> io::Result<()> {
-        self.open = Some(opened(alloc, name, file)?);
-        Ok(())
+        let writer = match BufWriter::with_capacity(alloc, PIECE, file) {
+            Ok(writer) => writer,
+            Err(error) => return Err(error.into()),
+        };
+        match String::from_str(alloc, name) {
+            Ok(name) => {
+                self.open = Some(Open { name, writer });
+                Ok(())
+            }
+            Err(error) => Err(error.into()),
+        }
     }
 
     pub fn is_at(&self, name: &str) -> bool {
@@ -95,35 +104,22 @@ impl Writing {
 
     /// Writes what was gathered, gives the file these rights, syncs it, and closes it.
     pub fn seal(&mut self, rights: Option<Rights>) -> io::Result<()> {
-        self.sync(rights)?;
+        match &mut self.open {
+            Some(open) => open.sync(rights)?,
+            None => return Err(no_file()),
+        }
         self.open = None;
         Ok(())
-    }
-
-    fn sync(&mut self, rights: Option<Rights>) -> io::Result<()> {
-        match &mut self.open {
-            Some(open) => open.sync(rights),
-            None => Err(no_file()),
-        }
     }
 }
 
 impl Open {
     fn sync(&mut self, rights: Option<Rights>) -> io::Result<()> {
         self.writer.flush()?;
-        sync_file(self.writer.get_ref(), rights)
+        let file = self.writer.get_ref();
+        if let Some(rights) = rights {
+            give(file, rights)?;
+        }
+        file.sync_all()
     }
-}
-
-fn opened(alloc: Global, name: &str, file: File) -> io::Result<Open> {
-    let writer = BufWriter::with_capacity(alloc, PIECE, file)?;
-    let name = String::from_str(alloc, name)?;
-    Ok(Open { name, writer })
-}
-
-fn sync_file(file: &File, rights: Option<Rights>) -> io::Result<()> {
-    if let Some(rights) = rights {
-        give(file, rights)?;
-    }
-    file.sync_all()
 }
