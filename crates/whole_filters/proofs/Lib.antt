@@ -7,5 +7,6 @@ mod Recounting
 mod TurnedText
 mod PartNames
 mod Parting
+mod OnePart
 mod SplitRun
 mod DryReading

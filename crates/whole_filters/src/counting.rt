@@ -27,9 +27,15 @@ pub fn run_recount<T: Tree, I: Source, O: Sink>(
     let text = read_input(alloc, input, None, tree, source)?;
     let counted = match recount(alloc, &text) {
         Ok(counted) => counted,
-        Err(fault) => return Err(FilterFault::Set(SetFault::from(fault))),
+        Err(fault) => {
+            drop(text);
+            return Err(FilterFault::Set(SetFault::from(fault)));
+        }
     };
-    match put_all(out, &counted) {
+    let written = put_all(out, &counted);
+    drop(counted);
+    drop(text);
+    match written {
         Ok(()) => Ok(()),
         Err(_) => Err(FilterFault::Write),
     }

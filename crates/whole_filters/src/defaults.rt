@@ -18,7 +18,10 @@ pub fn read_plain(alloc: Global, text: Vec<u8>, skip_binary: bool) -> Result<Pat
     ensures whole { IfOk result IsWhole }
     ensures refused { Meets (refusal (defaults skip_binary) text.items) result }
 {
-    read_set(alloc, text, &default_options(skip_binary))
+    let options = default_options(skip_binary);
+    let set = read_set(alloc, text, &options);
+    drop(options);
+    set
 }
 
 /// The same without hunks.
@@ -26,7 +29,10 @@ pub fn outline_plain(alloc: Global, text: Vec<u8>, skip_binary: bool) -> Result<
     ensures outline { IfOk result (IsOutline (defaults skip_binary) text.items) }
     ensures refused { Meets (refusal (defaults skip_binary) text.items) result }
 {
-    read_outline(alloc, text, &default_options(skip_binary))
+    let options = default_options(skip_binary);
+    let outline = read_outline(alloc, text, &options);
+    drop(options);
+    outline
 }
 
 /// The same without hunks, with the piece and the old lines of each.
@@ -34,7 +40,10 @@ pub fn digest_plain(alloc: Global, text: Vec<u8>, skip_binary: bool) -> Result<D
     ensures digest { IfOk result (IsDigestOf (defaults skip_binary) text.items) }
     ensures refused { Meets (refusal (defaults skip_binary) text.items) result }
 {
-    read_digest(alloc, text, &default_options(skip_binary))
+    let options = default_options(skip_binary);
+    let digest = read_digest(alloc, text, &options);
+    drop(options);
+    digest
 }
 
 /// What `patch` alone asks for, or with `--skip-binary`, in a dry run: the set is the same, without the room that a run needs

@@ -34,8 +34,14 @@ pub fn run_flip<T: Tree, I: Source, O: Sink>(
     ensures unread { IsFile input.now → source.new ≡ source.old }
     ensures rest { O.same_rest out.old out.new }
 {
-    let set = read_whole(alloc, input, tree, source)?;
-    put_turned(&set, out)
+    match read_whole(alloc, input, tree, source) {
+        Ok(set) => {
+            let answer = put_turned(&set, out);
+            drop(set);
+            answer
+        }
+        Err(fault) => Err(fault),
+    }
 }
 
 /// The set of the text that is given, read as `patch` reads it without options.

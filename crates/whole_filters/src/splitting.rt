@@ -39,7 +39,11 @@ pub fn run_split<T: Tree, O: Sink>(
     ensures rest { O.same_rest out.old out.new }
 {
     match read_split(alloc, job, tree) {
-        Ok(set) => put_set(alloc, &job.input, &set, job.every, tree, out),
+        Ok(set) => {
+            let answer = put_set(alloc, &job.input, &set, job.every, tree, out);
+            drop(set);
+            answer
+        }
         Err(fault) => Err(fault),
     }
 }

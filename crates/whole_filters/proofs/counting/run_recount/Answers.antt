@@ -28,26 +28,38 @@ returns-in-Err-clause-sifts g c =
 pub returns-in-Err-clause-rest : goal.returns-in-Err-clause-rest
 returns-in-Err-clause-rest g c = g.met.O.Sink.rest_none c.args.out.now
 
-pub returns-in-Ok-put_all-clause-sifts : goal.returns-in-Ok-put_all-clause-sifts
-returns-in-Ok-put_all-clause-sifts g c =
+pub returns-in-Ok-written-clause-sifts : goal.returns-in-Ok-written-clause-sifts
+returns-in-Ok-written-clause-sifts g c =
     let i = c.args.input.now in
     let t = g.T.Tree.view c.args.tree.now in
     let a = g.I.Source.view c.args.source.now in
     let is = subst (λ (l : List ℕ). IsAnswer (Ok l) i None t a) (sym c.deref.ensures.value) c.in_ok-text.ensures.text in
     counts-written i t _ a _ c.read_input.ensures.untouched c.read_input.ensures.passes c.read_input.ensures.taken _ c.deref.result.now is
-    c.deref-2.result.now (c.in-Ok.ensures.exact ∙ ap (λ (l : List ℕ). Ok l) (sym c.deref-2.ensures.value)) _ c.in_ok-text.ensures.end c.in-Ok-put_all.ensures.call c.in-Ok-put_all.ensures.received
+    c.deref-2.result.now (c.in-Ok.ensures.exact ∙ ap (λ (l : List ℕ). Ok l) (sym c.deref-2.ensures.value)) _ c.in_ok-text.ensures.end c.in-Ok-written.ensures.call c.in-Ok-written.ensures.received
 
-pub returns-in-Ok-put_all-clause-rest : goal.returns-in-Ok-put_all-clause-rest
-returns-in-Ok-put_all-clause-rest g c = c.put_all.ensures.rest
+pub returns-in-Ok-written-clause-rest : goal.returns-in-Ok-written-clause-rest
+returns-in-Ok-written-clause-rest g c = c.put_all-written.ensures.rest
 
-pub returns-clause-sifts : goal.returns-clause-sifts
-returns-clause-sifts g c =
+pub returns-in-Err-written-clause-sifts : goal.returns-in-Err-written-clause-sifts
+returns-in-Err-written-clause-sifts g c =
     let i = c.args.input.now in
     let t = g.T.Tree.view c.args.tree.now in
     let a = g.I.Source.view c.args.source.now in
     let is = subst (λ (l : List ℕ). IsAnswer (Ok l) i None t a) (sym c.deref.ensures.value) c.in_ok-text.ensures.text in
     counts-cut i t _ a _ c.read_input.ensures.untouched c.read_input.ensures.passes c.read_input.ensures.taken _ c.deref.result.now is
-    c.deref-2.result.now (c.in-Ok.ensures.exact ∙ ap (λ (l : List ℕ). Ok l) (sym c.deref-2.ensures.value)) _ c.in-Err-put_all.field-0 c.in-Err-put_all.ensures.call c.in-Err-put_all.ensures.failed
+    c.deref-2.result.now (c.in-Ok.ensures.exact ∙ ap (λ (l : List ℕ). Ok l) (sym c.deref-2.ensures.value)) _ c.in-Err-written.field-0 c.in-Err-written.ensures.call c.in-Err-written.ensures.failed
 
-pub returns-clause-rest : goal.returns-clause-rest
-returns-clause-rest g c = c.put_all.ensures.rest
+pub returns-in-Err-written-clause-rest : goal.returns-in-Err-written-clause-rest
+returns-in-Err-written-clause-rest g c = c.put_all-written.ensures.rest
+
+pub returns-in_err-text-clause-unread : goal.returns-in_err-text-clause-unread
+returns-in_err-text-clause-unread g c = c.read_input.ensures.source
+
+pub returns-in-Err-clause-unread : goal.returns-in-Err-clause-unread
+returns-in-Err-clause-unread g c = c.read_input.ensures.source
+
+pub returns-in-Ok-written-clause-unread : goal.returns-in-Ok-written-clause-unread
+returns-in-Ok-written-clause-unread g c = c.read_input.ensures.source
+
+pub returns-in-Err-written-clause-unread : goal.returns-in-Err-written-clause-unread
+returns-in-Err-written-clause-unread g c = c.read_input.ensures.source

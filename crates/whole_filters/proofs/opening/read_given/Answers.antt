@@ -1,3 +1,4 @@
+use Rattle.outside.proofs.Exits.{if_ok_none, on_ok_none}
 use Rattle.tool_words.specs.PlainJobs.{plain_select}
 use Rattle.outside.specs.Calls.{untouched_both}
 use Rattle.whole_filters.proofs.Gathering.{fault-is}
@@ -47,3 +48,54 @@ returns-clause-given g c =
     let u = g.T.Tree.view c.read_input.new.tree in
     let a = g.I.Source.view c.args.source.now in
     given-is c.args.input.now (plain_select c.args.select.now) t u a c.read_input.ensures.untouched c.in_ok-text.text.items c.in_ok-text.ensures.text (plain_select c.add_patterns.new.select) c.in_ok-add_patterns.ensures.selection
+
+pub returns-in_err-text-clause-untouched : goal.returns-in_err-text-clause-untouched
+returns-in_err-text-clause-untouched g c = c.read_input.ensures.untouched
+
+pub returns-in_err-text-clause-source : goal.returns-in_err-text-clause-source
+returns-in_err-text-clause-source g c = c.read_input.ensures.passes
+
+pub returns-in_err-text-clause-unread : goal.returns-in_err-text-clause-unread
+returns-in_err-text-clause-unread g c = c.read_input.ensures.source
+
+pub returns-in_err-text-clause-read : goal.returns-in_err-text-clause-read
+returns-in_err-text-clause-read g c = on_ok_none _ _ c.from_residual.result c.from_residual.ensures.1
+
+pub returns-in_err-text-clause-taken : goal.returns-in_err-text-clause-taken
+returns-in_err-text-clause-taken g c = c.read_input.ensures.taken
+
+pub returns-in_err-text-clause-given : goal.returns-in_err-text-clause-given
+returns-in_err-text-clause-given g c = if_ok_none _ _ c.from_residual.result c.from_residual.ensures.1
+
+pub returns-in_err-add_patterns-clause-source : goal.returns-in_err-add_patterns-clause-source
+returns-in_err-add_patterns-clause-source g c = c.read_input.ensures.passes
+
+pub returns-in_err-add_patterns-clause-unread : goal.returns-in_err-add_patterns-clause-unread
+returns-in_err-add_patterns-clause-unread g c = c.read_input.ensures.source
+
+pub returns-in_err-add_patterns-clause-read : goal.returns-in_err-add_patterns-clause-read
+returns-in_err-add_patterns-clause-read g c = on_ok_none _ _ c.from_residual-in_err-add_patterns.result c.from_residual-in_err-add_patterns.ensures.1
+
+pub returns-in_err-add_patterns-clause-taken : goal.returns-in_err-add_patterns-clause-taken
+returns-in_err-add_patterns-clause-taken g c = c.read_input.ensures.taken
+
+pub returns-in_err-add_patterns-clause-given : goal.returns-in_err-add_patterns-clause-given
+returns-in_err-add_patterns-clause-given g c = if_ok_none _ _ c.from_residual-in_err-add_patterns.result c.from_residual-in_err-add_patterns.ensures.1
+
+pub returns-clause-source : goal.returns-clause-source
+returns-clause-source g c = c.read_input.ensures.passes
+
+pub returns-clause-unread : goal.returns-clause-unread
+returns-clause-unread g c = c.read_input.ensures.source
+
+pub returns-clause-read : goal.returns-clause-read
+returns-clause-read g c = c.in_ok-text.ensures.end
+
+pub returns-clause-taken : goal.returns-clause-taken
+returns-clause-taken g c = c.read_input.ensures.taken
+
+pub returns-clause-refused : goal.returns-clause-refused
+returns-clause-refused g c = tt
+
+pub returns-clause-cause : goal.returns-clause-cause
+returns-clause-cause g c = tt

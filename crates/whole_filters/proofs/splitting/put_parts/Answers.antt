@@ -42,3 +42,12 @@ pub returns-clause-puts : goal.returns-clause-puts
 returns-clause-puts g c =
     subst (λ rows. PutsParts c.args.file.now c.args.text.now rows (g.T.Tree.view c.args.tree.now) (g.T.Tree.view c.loop-index.tree) (g.O.Sink.view c.args.out.now) (g.O.Sink.view c.loop-index.out) (Ok tt))
     (rows-end c.args.parts.now c.loop-index.index c.loop-index-test.false) c.loop-index.invariant.puts
+
+pub put_part-requires : goal.put_part-requires
+put_part-requires g c = record { quiet = c.loop-index.invariant.puts.quiet }
+
+pub returns-in_err-put_part-clause-rest : goal.returns-in_err-put_part-clause-rest
+returns-in_err-put_part-clause-rest g c = g.met.O.Sink.rest_both _ _ _ c.loop-index.invariant.rest c.in_err-put_part.ensures.rest
+
+pub returns-clause-rest : goal.returns-clause-rest
+returns-clause-rest g c = c.loop-index.invariant.rest
