@@ -33,8 +33,16 @@ pub fn run_convert<T: Tree, I: Source, O: Sink>(
 {
     let mut job = job;
     match open_text(alloc, &job.input, &mut job.select, tree, source) {
-        Ok(opened) => form_answer(put_converted(&opened, &job, form, out)),
-        Err(fault) => Err(FormFault::Filter(fault)),
+        Ok(opened) => {
+            let answer = form_answer(put_converted(&opened, &job, form, out));
+            drop(opened);
+            drop(job);
+            answer
+        }
+        Err(fault) => {
+            drop(job);
+            Err(FormFault::Filter(fault))
+        }
     }
 }
 

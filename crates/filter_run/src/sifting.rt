@@ -45,9 +45,13 @@ pub fn run_list<T: Tree, I: Source, O: Sink>(
         Ok(opened) => {
             let answer = sink_answer(put_listed(&opened, &job, out));
             leave(opened);
+            drop(job);
             answer
         }
-        Err(fault) => Err(fault),
+        Err(fault) => {
+            drop(job);
+            Err(fault)
+        }
     }
 }
 
@@ -70,9 +74,13 @@ pub fn run_filter<T: Tree, I: Source, O: Sink>(
         Ok(opened) => {
             let answer = sink_answer(put_filtered(&opened, &job, out));
             leave(opened);
+            drop(job);
             answer
         }
-        Err(fault) => Err(fault),
+        Err(fault) => {
+            drop(job);
+            Err(fault)
+        }
     }
 }
 
@@ -103,9 +111,13 @@ pub fn run_grep<T: Tree, F: Finder, I: Source, O: Sink>(
         Ok(opened) => {
             let answer = search_answer(put_grepped(alloc, &opened, &job, finder, out));
             leave(opened);
+            drop(job);
             answer
         }
-        Err(fault) => Err(fault),
+        Err(fault) => {
+            drop(job);
+            Err(fault)
+        }
     }
 }
 

@@ -2,18 +2,18 @@ use Rattle.tool_words.specs.PlainJobs.{plain_filter_job, plain_select}
 use Rattle.filter_run.proofs.InForm.{forms-unopened, forms-over}
 use Rattle.filter_run.proofs.converting.run_convert.Goals as goal
 
-pub returns-clause-forms : goal.returns-clause-forms
-returns-clause-forms g c = forms-unopened c.args.form (plain_filter_job c.args.job) (plain_select c.open_text.new.select) _ _ _ _ c.in-Err.fault _ c.in-Err.ensures.opens
+pub returns-in-Err-clause-forms : goal.returns-in-Err-clause-forms
+returns-in-Err-clause-forms g c = forms-unopened c.args.form (plain_filter_job c.args.job) (plain_select c.open_text.new.select) _ _ _ _ c.in-Err.fault _ c.in-Err.ensures.opens
 
-pub returns-clause-unread : goal.returns-clause-unread
-returns-clause-unread g c = c.open_text.ensures.unread
+pub returns-in-Err-clause-unread : goal.returns-in-Err-clause-unread
+returns-in-Err-clause-unread g c = c.open_text.ensures.unread
 
-pub returns-clause-rest : goal.returns-clause-rest
-returns-clause-rest g c = g.met.O.Sink.rest_none c.args.out.now
+pub returns-in-Err-clause-rest : goal.returns-in-Err-clause-rest
+returns-in-Err-clause-rest g c = g.met.O.Sink.rest_none c.args.out.now
 
 pub returns-in-Ok-clause-forms : goal.returns-in-Ok-clause-forms
 returns-in-Ok-clause-forms g c =
-    rw c.form_answer.ensures
+    rw c.form_answer-answer.ensures
     (forms-over c.args.form (plain_filter_job c.args.job) (plain_select c.open_text.new.select) _ _ _ _
     g.O.Sink.view g.O.Sink.same_rest c.args.out.now c.put_converted.new.out c.in-Ok.opened c.put_converted.result c.in-Ok.ensures.opens c.in-Ok.ensures.read c.put_converted.ensures.converts c.put_converted.ensures.none)
 

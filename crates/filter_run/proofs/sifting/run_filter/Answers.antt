@@ -7,16 +7,16 @@ use Rattle.filter_run.proofs.Coming.{filtered-is}
 use Rattle.filter_run.proofs.Written.{sifts-unopened, sifts-over}
 use Rattle.filter_run.proofs.sifting.run_filter.Goals as goal
 
-pub returns-clause-sifts : goal.returns-clause-sifts
-returns-clause-sifts g c =
+pub returns-in-Err-clause-sifts : goal.returns-in-Err-clause-sifts
+returns-in-Err-clause-sifts g c =
     let j = plain_filter_job c.args.job in
     sifts-unopened IsDigestIn j.input j.select (plain_select c.open_digest.new.select) ⊥ (λ s v. filtered_digest (filter_with j s) v) (IsOutcomeOf (filter_outcome j)) (filtered-is j) _ _ _ _ c.in-Err.fault _ c.in-Err.ensures.opens
 
-pub returns-clause-unread : goal.returns-clause-unread
-returns-clause-unread g c = c.open_digest.ensures.unread
+pub returns-in-Err-clause-unread : goal.returns-in-Err-clause-unread
+returns-in-Err-clause-unread g c = c.open_digest.ensures.unread
 
-pub returns-clause-rest : goal.returns-clause-rest
-returns-clause-rest g c = g.met.O.Sink.rest_none c.args.out.now
+pub returns-in-Err-clause-rest : goal.returns-in-Err-clause-rest
+returns-in-Err-clause-rest g c = g.met.O.Sink.rest_none c.args.out.now
 
 pub returns-in-Ok-clause-sifts : goal.returns-in-Ok-clause-sifts
 returns-in-Ok-clause-sifts g c =

@@ -4,21 +4,21 @@ use Rattle.outside.specs.FinderView.{finder_passes_none}
 use Rattle.filter_run.proofs.Written.{searched-unopened, searched-over, searched-untold}
 use Rattle.filter_run.proofs.sifting.run_grep.Goals as goal
 
-pub returns-clause-sifts : goal.returns-clause-sifts
-returns-clause-sifts g c =
+pub returns-in-Err-clause-sifts : goal.returns-in-Err-clause-sifts
+returns-in-Err-clause-sifts g c =
     searched-unopened (plain_select c.open_text.new.select) (g.F.Finder.view c.args.finder.now) (plain_grep_job c.args.job) _ _ _ _ c.in-Err.fault _ c.in-Err.ensures.opens
 
-pub returns-clause-unread : goal.returns-clause-unread
-returns-clause-unread g c = c.open_text.ensures.unread
+pub returns-in-Err-clause-unread : goal.returns-in-Err-clause-unread
+returns-in-Err-clause-unread g c = c.open_text.ensures.unread
 
-pub returns-clause-rest : goal.returns-clause-rest
-returns-clause-rest g c = g.met.O.Sink.rest_none c.args.out.now
+pub returns-in-Err-clause-rest : goal.returns-in-Err-clause-rest
+returns-in-Err-clause-rest g c = g.met.O.Sink.rest_none c.args.out.now
 
-pub returns-clause-finder : goal.returns-clause-finder
-returns-clause-finder g c = finder_passes_none _
+pub returns-in-Err-clause-finder : goal.returns-in-Err-clause-finder
+returns-in-Err-clause-finder g c = finder_passes_none _
 
-pub returns-clause-unasked : goal.returns-clause-unasked
-returns-clause-unasked g c = λ f left told none. refl
+pub returns-in-Err-clause-unasked : goal.returns-in-Err-clause-unasked
+returns-in-Err-clause-unasked g c = λ f left told none. refl
 
 pub returns-in-Ok-clause-sifts : goal.returns-in-Ok-clause-sifts
 returns-in-Ok-clause-sifts g c =

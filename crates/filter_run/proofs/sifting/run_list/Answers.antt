@@ -8,16 +8,16 @@ use Rattle.filter_run.proofs.Coming.{listed-is}
 use Rattle.filter_run.proofs.Written.{sifts-unopened, sifts-over}
 use Rattle.filter_run.proofs.sifting.run_list.Goals as goal
 
-pub returns-clause-sifts : goal.returns-clause-sifts
-returns-clause-sifts g c =
+pub returns-in-Err-clause-sifts : goal.returns-in-Err-clause-sifts
+returns-in-Err-clause-sifts g c =
     let j = plain_list_job c.args.job in
     sifts-unopened IsOutlineOf j.input j.select (plain_select c.open_outline.new.select) ⊥ (λ s v. listed (list_with j s) (outlined v)) (IsOutcomeOf (list_outcome j)) (listed-is j) _ _ _ _ c.in-Err.fault _ c.in-Err.ensures.opens
 
-pub returns-clause-unread : goal.returns-clause-unread
-returns-clause-unread g c = c.open_outline.ensures.unread
+pub returns-in-Err-clause-unread : goal.returns-in-Err-clause-unread
+returns-in-Err-clause-unread g c = c.open_outline.ensures.unread
 
-pub returns-clause-rest : goal.returns-clause-rest
-returns-clause-rest g c = g.met.O.Sink.rest_none c.args.out.now
+pub returns-in-Err-clause-rest : goal.returns-in-Err-clause-rest
+returns-in-Err-clause-rest g c = g.met.O.Sink.rest_none c.args.out.now
 
 pub returns-in-Ok-clause-sifts : goal.returns-in-Ok-clause-sifts
 returns-in-Ok-clause-sifts g c =
