@@ -1,6 +1,8 @@
-use Rattle.std.proofs.Common.{◌≡◌, ◌∙◌, List, [], length, Some, OnOk, OnErr, sym, ap, subst}
+use Rattle.std.proofs.Common.{◌≡◌, ◌∙◌, List, [], length, Some, OnOk, OnErr, refl, sym, ap, subst}
+use Rattle.outside.proofs.Exits.{on_ok_none}
+use Rattle.outside.specs.FinderView.{finder_passes_both, finder_passes_none}
 use Rattle.std.specs.Prelude.{◌==◌, is_some, string_bytes}
-use Rattle.outside.specs.SinkView.{Receives, ReceivesPart}
+use Rattle.outside.specs.SinkView.{Receives, ReceivesPart, sink_passes_none}
 use Rattle.outside.proofs.Writing.{received_none}
 use Rattle.file_patch.specs.declared.FilePatch.{FilePatch}
 use Rattle.tool_words.specs.PlainJobs.{plain_grep_job}
@@ -50,3 +52,39 @@ returns-then-is_empty-clause-received g c =
     let v = c.args.set.now in
     let none : v.patches ≡ [] = is-empty v.patches (sym (c.is_empty.ensures ∙ ap (λ (l : List FilePatch). length l == 0) c.patches.ensures.patches) ∙ c.if-is_empty.true) in
     subst (Receives (g.O.Sink.view c.args.out.now) (g.O.Sink.view c.args.out.now)) (grepped-none ((g.F.Finder.view c.args.finder.now).hit (string_bytes c.args.job.now.pattern)) (plain_grep_job c.args.job.now) v none) (received_none (g.O.Sink.view c.args.out.now))
+
+pub returns-in_err-keep_pattern-clause-finder : goal.returns-in_err-keep_pattern-clause-finder
+returns-in_err-keep_pattern-clause-finder g c = c.keep_pattern.ensures.passes
+
+pub returns-in_err-keep_pattern-clause-passes : goal.returns-in_err-keep_pattern-clause-passes
+returns-in_err-keep_pattern-clause-passes g c = sink_passes_none (g.O.Sink.view c.args.out.now)
+
+pub returns-in_err-keep_pattern-clause-rest : goal.returns-in_err-keep_pattern-clause-rest
+returns-in_err-keep_pattern-clause-rest g c = g.met.O.Sink.rest_none c.args.out.now
+
+pub returns-in_err-keep_pattern-clause-received : goal.returns-in_err-keep_pattern-clause-received
+returns-in_err-keep_pattern-clause-received g c = on_ok_none _ _ c.from_residual.result c.from_residual.ensures.1
+
+pub returns-then-is_empty-clause-finder : goal.returns-then-is_empty-clause-finder
+returns-then-is_empty-clause-finder g c = finder_passes_none (g.F.Finder.view c.args.finder.now)
+
+pub returns-then-is_empty-clause-passes : goal.returns-then-is_empty-clause-passes
+returns-then-is_empty-clause-passes g c = sink_passes_none (g.O.Sink.view c.args.out.now)
+
+pub returns-then-is_empty-clause-rest : goal.returns-then-is_empty-clause-rest
+returns-then-is_empty-clause-rest g c = g.met.O.Sink.rest_none c.args.out.now
+
+pub returns-then-is_empty-clause-failed : goal.returns-then-is_empty-clause-failed
+returns-then-is_empty-clause-failed g c = tt
+
+pub returns-then-is_empty-clause-cause : goal.returns-then-is_empty-clause-cause
+returns-then-is_empty-clause-cause g c = tt
+
+pub returns-then-is_empty-clause-unasked : goal.returns-then-is_empty-clause-unasked
+returns-then-is_empty-clause-unasked g c = λ none. (refl, refl, refl)
+
+pub returns-clause-passes : goal.returns-clause-passes
+returns-clause-passes g c = c.put_grepped.ensures.passes
+
+pub returns-clause-rest : goal.returns-clause-rest
+returns-clause-rest g c = c.put_grepped.ensures.rest

@@ -1,14 +1,34 @@
-use Rattle.std.proofs.Common.{◌≡◌, false, sym, ap, ◌∙◌, rules}
+use Rattle.std.proofs.Common.{◌≡◌, List, ℕ, get_or, false, Some, sym, ap, subst, ◌∙◌}
+use Rattle.std.specs.Prelude.{slice_get}
+use Rattle.std.proofs.lemmas.Option.{get_or_from_slice_get, same_Some}
+use Rattle.std.proofs.lemmas.List.Elements.{All-get_or}
+use Rattle.line_list.proofs.Elements.{found}
+use Rattle.outside.specs.Puts.{Puts}
 use Rattle.outside.proofs.SinkSteps.{has-none, puts-done}
+use Rattle.file_patch.specs.declared.FilePatch.{FilePatch}
+use Rattle.file_patch.specs.Absent.{IsLawfulPatch}
 use Rattle.file_patch.specs.PlainPatch.{patch_of}
 use Rattle.tool_words.specs.PlainJobs.{plain_list_job}
 use Rattle.filter_choice.specs.Selected.{is_selected}
-use Rattle.patch_filters.specs.Listed.{is_listed}
+use Rattle.patch_filters.specs.Listed.{front, is_listed}
+use Rattle.patch_filters.proofs.Rows.{line-listed}
 use Rattle.patch_filters.proofs.list.put_if_selected.Goals as goal
 
 pub returns-then-not-is_selected : goal.returns-then-not-is_selected
 returns-then-not-is_selected g c = λ p is.
     let j = plain_list_job c.args.job.now in
-    let none : c.is_selected.result ≡ false = search rules in
+    let none = c.if-not-is_selected.true in
     let left_out : is_listed j (patch_of c.args.outline.now.text p) ≡ false = sym (c.is_selected.ensures ∙ ap (is_selected j.select) (c.plain_name-name.ensures p is)) ∙ none in
     rw left_out (puts-done _ (has-none g.met.O.Sink.rest_none c.args.out.now))
+
+pub returns : goal.returns
+returns g c = λ p is.
+    let v = c.args.outline.now in
+    let i = c.args.patch in
+    let q = c.index-patches-patch.result in
+    let here : slice_get v.patches i ≡ Some q = found v.patches i q c.requires (subst (λ (l : List FilePatch). q ≡ get_or l i q) c.patches.ensures.patches c.index-patches-patch.is) in
+    let lawful : IsLawfulPatch v.text q = subst (IsLawfulPatch v.text) (get_or_from_slice_get v.patches i q q here) (All-get_or (IsLawfulPatch v.text) v.patches i q c.requires c.patches.ensures.lawful) in
+    let fronted = c.as_slice.ensures.value ∙ c.front-front.ensures v.text lawful ∙ ap (λ (x : FilePatch). front (plain_list_job c.args.job.now) (patch_of v.text x)) (same_Some q p (sym here ∙ is)) in
+    subst (Puts g.O.Sink.view g.O.Sink.same_rest c.args.out.now c.put_name.new.out c.put_name.result)
+    (line-listed (plain_list_job c.args.job.now) v.text p c.as_slice.result.now c.shortened.result.now c.plain_name-name.result.now fronted c.shortened.ensures (c.plain_name-name.ensures p is) (sym c.is_selected.ensures ∙ c.if-not-is_selected.false))
+    c.put_name.ensures
