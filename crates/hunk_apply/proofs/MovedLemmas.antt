@@ -1,5 +1,5 @@
 -- The state behind a hunk.
-use Rattle.std.proofs.Common.{◌≡◌, ℕ, ◌+◌, ◌-◌, ◌<◌, ◌≤◌, ◌^◌, List, [], ◌++◌, length, reverse, count_by, Bool, true, false, cond, ◌&&◌, refl, sym, ap, subst, ◌∙◌, arith, to_z, of_z, w64, Option, Some, None}
+use Rattle.std.proofs.Common.{◌≡◌, ℕ, ◌+◌, ◌-◌, ◌<◌, ◌≤◌, ◌^◌, List, [], ◌++◌, length, reverse, count_by, Bool, true, false, cond, ◌&&◌, refl, sym, ap, subst, ◌∙◌, arith, to_z, of_z, w64, Option, Some, None, SFits}
 use Rattle.std.specs.Prelude.{ℤ, pos, negsuc, ◌+ℤ◌, ◌-ℤ◌, ◌≤ℤ◌, ◌==◌}
 use Rattle.std.specs.List.{prefix_len}
 use Rattle.std.proofs.lemmas.Int.{ints}
@@ -28,6 +28,12 @@ use Rattle.hunk_apply.proofs.WrittenLemmas.{wrote-none, wrote-same}
 
 pub net-is : (n : ℤ) (a d : ℕ) → a < 2 ^ 32 → d < 2 ^ 32 → negsuc (2 ^ 33) ≤ℤ n → n ≤ℤ pos (2 ^ 33) → to_z w64 (of_z w64 (to_z w64 (of_z w64 n) +ℤ to_z w64 (of_z w64 (to_z w64 a -ℤ to_z w64 d)))) ≡ n +ℤ (pos a -ℤ pos d)
 net-is n a d high_a high_d low high = omega (arith, ints)
+
+pub difference-fits : (a d : ℕ) → a < 2 ^ 32 → d < 2 ^ 32 → SFits w64 (to_z w64 a -ℤ to_z w64 d)
+difference-fits a d high_a high_d = omega (arith, ints)
+
+pub net-fits : (n : ℤ) (a d : ℕ) → a < 2 ^ 32 → d < 2 ^ 32 → negsuc (2 ^ 33) ≤ℤ n → n ≤ℤ pos (2 ^ 33) → SFits w64 (to_z w64 (of_z w64 n) +ℤ to_z w64 (of_z w64 (to_z w64 a -ℤ to_z w64 d)))
+net-fits n a d high_a high_d low high = omega (arith, ints)
 
 moved-is : (c : PlainHunk) (s : PlaceState) (line : ℕ) (offset : ℤ) (k : ℕ) (o n : ℤ) → k ≡ cond ((adds c == 0) && (drops c == 0)) s.consumed ((line - 1 + length (old_lines c.body)) - trailing c.body) → o ≡ offset → n ≡ s.net +ℤ (pos (adds c) -ℤ pos (drops c))
     → let p : PlaceState = record { consumed = k; offset = o; net = n } in p ≡ moved_state c s line offset

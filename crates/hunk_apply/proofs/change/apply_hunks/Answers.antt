@@ -1,4 +1,4 @@
-use Rattle.std.proofs.Common.{◌≡◌, ℕ, List, Some, sym, ap, subst, ◌∙◌}
+use Rattle.std.proofs.Common.{◌≡◌, ℕ, List, [], ◌∷◌, length, Some, sym, ap, subst, ◌∙◌}
 use Rattle.std.proofs.lemmas.Result.{on_ok_weaker, on_err_weaker}
 use Rattle.outside.specs.SinkView.{Receives, ReceivesPart}
 use Rattle.line_list.specs.Join.{join}
@@ -6,11 +6,11 @@ use Rattle.hunk_core.specs.declared.Hunk.{Hunk}
 use Rattle.hunk_core.specs.PlainHunk.{hunks_of}
 use Rattle.hunk_place.specs.Verdicts.{verdicts, at_start}
 use Rattle.ed_form.specs.PlainEdit.{edits_of}
-use Rattle.file_patch.specs.PlainPatch.{hunks, change_of}
+use Rattle.file_patch.specs.PlainPatch.{PlainChange, hunks, change_of, row_count, IsLawfulChange, AreLawfulHunks}
 use Rattle.hunk_apply.specs.declared.Session.{Session}
 use Rattle.hunk_apply.specs.Applied.{taken_all, applied}
-use Rattle.hunk_apply.specs.Change.{change_output}
-use Rattle.hunk_apply.specs.Script.{script_lines}
+use Rattle.hunk_apply.specs.Change.{change_output, change_verdicts}
+use Rattle.hunk_apply.specs.Script.{script_lines, script_verdict}
 use Rattle.hunk_apply.specs.Written.{is_nothing}
 use Rattle.hunk_apply.proofs.ChangeLemmas.{hunks-verdicts, hunks-output, script-output}
 use Rattle.hunk_apply.proofs.FaultLemmas.{if-ok-map}
@@ -127,3 +127,59 @@ returns-in-Script-clause-rest g c = c.apply_script.ensures.rest
 
 pub returns-in-Script-clause-cause : goal.returns-in-Script-clause-cause
 returns-in-Script-clause-cause g c = c.apply_script.ensures.cause
+
+pub apply_each-requires-clause-lawful : goal.apply_each-requires-clause-lawful
+apply_each-requires-clause-lawful g c =
+    let are : AreLawfulHunks c.args.text.now c.deref.result.now = subst (AreLawfulHunks c.args.text.now) (sym c.deref.ensures.value) (subst (IsLawfulChange c.args.text.now) c.in-Hunks.is c.requires.lawful) in
+    are.lawful
+
+pub apply_each-requires-clause-few : goal.apply_each-requires-clause-few
+apply_each-requires-clause-few g c =
+    let are : AreLawfulHunks c.args.text.now c.deref.result.now = subst (AreLawfulHunks c.args.text.now) (sym c.deref.ensures.value) (subst (IsLawfulChange c.args.text.now) c.in-Hunks.is c.requires.lawful) in
+    are.count
+
+pub apply_each-requires-clause-short : goal.apply_each-requires-clause-short
+apply_each-requires-clause-short g c =
+    let are : AreLawfulHunks c.args.text.now c.deref.result.now = subst (AreLawfulHunks c.args.text.now) (sym c.deref.ensures.value) (subst (IsLawfulChange c.args.text.now) c.in-Hunks.is c.requires.lawful) in
+    are.few
+
+pub apply_each-requires-clause-rows : goal.apply_each-requires-clause-rows
+apply_each-requires-clause-rows g c = c.requires.rows ∙ ap row_count c.in-Hunks.is ∙ ap (λ (hs : List Hunk). length hs) (sym c.deref.ensures.value)
+
+pub apply_script-requires-clause-lawful : goal.apply_script-requires-clause-lawful
+apply_script-requires-clause-lawful g c = subst (IsLawfulChange c.args.text.now) c.in-Script.is c.requires.lawful
+
+pub apply_script-requires-clause-rows : goal.apply_script-requires-clause-rows
+apply_script-requires-clause-rows g c = c.requires.rows ∙ ap row_count c.in-Script.is
+
+pub returns-in-Script-clause-placed : goal.returns-in-Script-clause-placed
+returns-in-Script-clause-placed g c =
+    let text = c.args.text.now in
+    let change = change_of text c.args.patch.now.change in
+    let es = edits_of text c.in-Script.script.edits.items in
+    on_ok_weaker {P = (lines : List (List ℕ)) → (g.S.LineStore.seen c.args.store.now).told ≡ Some lines → c.apply_script.new.verdicts ≡ script_verdict (length lines) es ∷ []}
+    c.apply_script.result
+    (λ h lines told. h lines told ∙ sym (ap (λ (x : PlainChange). change_verdicts lines c.args.fuzz c.args.loose c.args.side x) (ap (change_of text) c.in-Script.is)))
+    c.apply_script.ensures.placed
+
+pub returns-in-Script-clause-received : goal.returns-in-Script-clause-received
+returns-in-Script-clause-received g c =
+    let view = g.O.Sink.view in
+    let text = c.args.text.now in
+    let change = change_of text c.args.patch.now.change in
+    let es = edits_of text c.in-Script.script.edits.items in
+    on_ok_weaker {P = (lines : List (List ℕ)) → (g.S.LineStore.seen c.args.store.now).told ≡ Some lines → Receives (view c.args.out.now) (view c.apply_script.new.out) (join (script_lines lines es))}
+    c.apply_script.result
+    (λ h lines told. subst (λ (bytes : List ℕ). Receives (view c.args.out.now) (view c.apply_script.new.out) bytes) (script-output lines c.args.fuzz c.args.loose c.args.side es change (ap (change_of text) c.in-Script.is)) (h lines told))
+    c.apply_script.ensures.received
+
+pub returns-in-Script-clause-output_empty : goal.returns-in-Script-clause-output_empty
+returns-in-Script-clause-output_empty g c =
+    let text = c.args.text.now in
+    let change = change_of text c.args.patch.now.change in
+    let es = edits_of text c.in-Script.script.edits.items in
+    if-ok-map c.apply_script.result
+    (λ (session : Session). (lines : List (List ℕ)) → (g.S.LineStore.seen c.args.store.now).told ≡ Some lines → session.output_empty ≡ is_nothing (join (script_lines lines es)))
+    (λ (session : Session). (lines : List (List ℕ)) → (g.S.LineStore.seen c.args.store.now).told ≡ Some lines → session.output_empty ≡ is_nothing (change_output lines c.args.fuzz c.args.loose c.args.side change))
+    (λ session h lines told. h lines told ∙ ap is_nothing (script-output lines c.args.fuzz c.args.loose c.args.side es change (ap (change_of text) c.in-Script.is)))
+    c.apply_script.ensures.output_empty

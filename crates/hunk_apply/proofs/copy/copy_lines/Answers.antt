@@ -1,9 +1,11 @@
 use Rattle.std.proofs.Common.{◌≡◌, ◌+◌, ◌-◌, ◌≤◌, ◌++◌, ℕ, List, Some, refl, sym, subst, ◌∙◌, arith}
 use Rattle.line_store.proofs.StoreLemmas.{keeps-same, keeps-more}
 use Rattle.outside.specs.SinkView.{sink_passes_none, sink_passes_both, ReceivesPart}
-use Rattle.hunk_apply.specs.Written.{lines_between, join_behind}
+use Rattle.outside.proofs.Exits.{if_ok_none}
+use Rattle.hunk_apply.specs.Faults.{HasApplyCause}
+use Rattle.hunk_apply.specs.Written.{lines_between, join_behind, Wrote}
 use Rattle.hunk_apply.proofs.CopyLemmas.{none-between, meet-between}
-use Rattle.hunk_apply.proofs.FaultLemmas.{on-err, counted-still}
+use Rattle.hunk_apply.proofs.FaultLemmas.{on-err, if-err-still, apply-cause-more, counted-still}
 use Rattle.hunk_apply.proofs.WrittenLemmas.{wrote-none, wrote-both, wrote-same, part-after, part-same}
 use Rattle.hunk_apply.proofs.copy.copy_lines.Goals as goal
 
@@ -60,3 +62,46 @@ loop-q-preserved g c =
           (c.loop-q.invariant.written lines told left)
           (c.in_ok-copied.ensures.written lines (c.loop-q.invariant.keeps.told ∙ told) more));
     }
+
+pub returns-in_err-copied-clause-written : goal.returns-in_err-copied-clause-written
+returns-in_err-copied-clause-written g c = if_ok_none _ _ c.from_residual.result c.from_residual.ensures.1
+
+pub returns-in_err-copied-clause-keeps : goal.returns-in_err-copied-clause-keeps
+returns-in_err-copied-clause-keeps g c = keeps-more _ _ _ c.loop-q.invariant.keeps c.in_err-copied.ensures.keeps
+
+pub returns-in_err-copied-clause-sink : goal.returns-in_err-copied-clause-sink
+returns-in_err-copied-clause-sink g c = sink_passes_both c.loop-q.invariant.sink c.in_err-copied.ensures.sink
+
+pub returns-in_err-copied-clause-rest : goal.returns-in_err-copied-clause-rest
+returns-in_err-copied-clause-rest g c = g.met.O.Sink.rest_both _ _ _ c.loop-q.invariant.rest c.in_err-copied.ensures.rest
+
+pub returns-in_err-copied-clause-cause : goal.returns-in_err-copied-clause-cause
+returns-in_err-copied-clause-cause g c =
+    let a = g.S.LineStore.seen c.args.store.now in
+    let b = g.S.LineStore.seen c.loop-q.store in
+    let d = g.S.LineStore.seen c.copy_some.new.store in
+    let u = g.O.Sink.view c.args.out.now in
+    let v = g.O.Sink.view c.loop-q.out in
+    let w = g.O.Sink.view c.copy_some.new.out in
+    let fault = c.in_err-copied.field-0.0 in
+    if-err-still (λ e. HasApplyCause e a d u w) fault c.from_residual.result c.from_residual.ensures.1 (apply-cause-more fault a b d u v w c.loop-q.invariant.keeps c.loop-q.invariant.sink c.in_err-copied.ensures.cause)
+
+pub returns-clause-written : goal.returns-clause-written
+returns-clause-written g c lines told more =
+    let there : c.loop-q.q ≡ c.args.to = omega (arith, c.loop-q.invariant.high) in
+    subst (λ q. Wrote (g.O.Sink.view c.args.out.now) (g.O.Sink.view c.loop-q.out) c.args.tail c.loop-q.now (lines_between lines c.args.from q ++ more) more) there (c.loop-q.invariant.written lines told more)
+
+pub returns-clause-part : goal.returns-clause-part
+returns-clause-part g c = tt
+
+pub returns-clause-cause : goal.returns-clause-cause
+returns-clause-cause g c = tt
+
+pub returns-clause-keeps : goal.returns-clause-keeps
+returns-clause-keeps g c = c.loop-q.invariant.keeps
+
+pub returns-clause-sink : goal.returns-clause-sink
+returns-clause-sink g c = c.loop-q.invariant.sink
+
+pub returns-clause-rest : goal.returns-clause-rest
+returns-clause-rest g c = c.loop-q.invariant.rest

@@ -1,11 +1,14 @@
-use Rattle.std.proofs.Common.{◌≡◌, ◌+◌, ◌-◌, ◌<◌, ◌≤◌, ◌++◌, ℕ, List, Some, length, take, drop, sym, ap, subst, ◌∙◌, arith}
+use Rattle.std.proofs.Common.{◌≡◌, ◌+◌, ◌-◌, ◌<◌, ◌≤◌, ◌++◌, ℕ, List, Some, length, take, drop, refl, sym, ap, subst, ◌∙◌, arith}
 use Rattle.std.proofs.lemmas.List.{length-take-le, length-drop}
 use Rattle.line_list.specs.Join.{join, lacks_feed, ends_open}
-use Rattle.outside.specs.SinkView.{ReceivesPart}
+use Rattle.outside.specs.SinkView.{sink_passes_none, ReceivesPart}
+use Rattle.outside.proofs.Exits.{if_ok_none}
+use Rattle.hunk_apply.specs.declared.ApplyFault.TheVariants.{Line, Write}
+use Rattle.hunk_apply.specs.Faults.{HasApplyCause}
 use Rattle.hunk_apply.specs.Written.{lines_between, join_behind, Wrote}
 use Rattle.hunk_apply.proofs.CopyLemmas.{between-take, meet-between}
-use Rattle.hunk_apply.proofs.FaultLemmas.{on-err}
-use Rattle.hunk_apply.proofs.WrittenLemmas.{wrote-range, part-range, part-same}
+use Rattle.hunk_apply.proofs.FaultLemmas.{on-err, if-err-still}
+use Rattle.hunk_apply.proofs.WrittenLemmas.{part-none, wrote-range, part-range, part-same}
 use Rattle.hunk_apply.proofs.copy.copy_stretch.Goals as goal
 
 some-taken : (lines : List (List ℕ)) (q n most : ℕ) → 1 ≤ q → 1 ≤ n → n ≤ most → q + most ≤ length lines + 1 → 0 < length (take n (drop (q - 1) lines))
@@ -44,3 +47,74 @@ returns-clause-written g c lines told more =
     (wrote-range (view c.args.out.now) (view c.put_line.new.out) c.args.tail c.in_ok-now.now (take n (drop (c.args.q - 1) lines)) more c.stretch-lent.result.bytes.now
     (some-taken lines c.args.q n c.args.most c.requires.low c.stretch-lent.ensures.low c.stretch-lent.ensures.high (omega (arith, c.requires.high, count)))
     bytes end c.in_ok-now.ensures.received c.in_ok-now.ensures.end c.in_ok-now.ensures.nothing)
+
+pub returns-in_err-load-clause-some : goal.returns-in_err-load-clause-some
+returns-in_err-load-clause-some g c = if_ok_none _ _ c.from_residual.result c.from_residual.ensures.1
+
+pub returns-in_err-load-clause-most : goal.returns-in_err-load-clause-most
+returns-in_err-load-clause-most g c = if_ok_none _ _ c.from_residual.result c.from_residual.ensures.1
+
+pub returns-in_err-load-clause-written : goal.returns-in_err-load-clause-written
+returns-in_err-load-clause-written g c = if_ok_none _ _ c.from_residual.result c.from_residual.ensures.1
+
+pub returns-in_err-load-clause-part : goal.returns-in_err-load-clause-part
+returns-in_err-load-clause-part g c =
+    on-err _ ((lines : List (List ℕ)) → (g.S.LineStore.seen c.args.store.now).told ≡ Some lines → (more : List (List ℕ)) → ReceivesPart (g.O.Sink.view c.args.out.now) (g.O.Sink.view c.args.out.now) (join_behind c.args.tail.is_open (lines_between lines c.args.q (c.args.q + c.args.most) ++ more)))
+    (λ lines told more. part-none (g.O.Sink.view c.args.out.now) (join_behind c.args.tail.is_open (lines_between lines c.args.q (c.args.q + c.args.most) ++ more)))
+
+pub returns-in_err-load-clause-keeps : goal.returns-in_err-load-clause-keeps
+returns-in_err-load-clause-keeps g c = c.in_err-load.ensures.keeps
+
+pub returns-in_err-load-clause-sink : goal.returns-in_err-load-clause-sink
+returns-in_err-load-clause-sink g c = sink_passes_none _
+
+pub returns-in_err-load-clause-rest : goal.returns-in_err-load-clause-rest
+returns-in_err-load-clause-rest g c = g.met.O.Sink.rest_none _
+
+pub returns-in_err-load-clause-cause : goal.returns-in_err-load-clause-cause
+returns-in_err-load-clause-cause g c =
+    let u = g.O.Sink.view c.args.out.now in
+    if-err-still (λ e. HasApplyCause e (g.S.LineStore.seen c.args.store.now) (g.S.LineStore.seen c.load.new.self) u u) (Line c.in_err-load.field-0.0) c.from_residual.result c.from_residual.ensures.1 c.in_err-load.ensures.cause
+
+pub returns-in_err-now-clause-some : goal.returns-in_err-now-clause-some
+returns-in_err-now-clause-some g c = if_ok_none _ _ c.from_residual-in_err-now.result c.from_residual-in_err-now.ensures.1
+
+pub returns-in_err-now-clause-most : goal.returns-in_err-now-clause-most
+returns-in_err-now-clause-most g c = if_ok_none _ _ c.from_residual-in_err-now.result c.from_residual-in_err-now.ensures.1
+
+pub returns-in_err-now-clause-written : goal.returns-in_err-now-clause-written
+returns-in_err-now-clause-written g c = if_ok_none _ _ c.from_residual-in_err-now.result c.from_residual-in_err-now.ensures.1
+
+pub returns-in_err-now-clause-keeps : goal.returns-in_err-now-clause-keeps
+returns-in_err-now-clause-keeps g c = c.in_ok-load.ensures.keeps
+
+pub returns-in_err-now-clause-sink : goal.returns-in_err-now-clause-sink
+returns-in_err-now-clause-sink g c = c.in_err-now.ensures.call.passes
+
+pub returns-in_err-now-clause-rest : goal.returns-in_err-now-clause-rest
+returns-in_err-now-clause-rest g c = c.in_err-now.ensures.rest
+
+pub returns-in_err-now-clause-cause : goal.returns-in_err-now-clause-cause
+returns-in_err-now-clause-cause g c =
+    if-err-still (λ e. HasApplyCause e (g.S.LineStore.seen c.args.store.now) (g.S.LineStore.seen c.load.new.self) (g.O.Sink.view c.args.out.now) (g.O.Sink.view c.put_line.new.out)) Write c.from_residual-in_err-now.result c.from_residual-in_err-now.ensures.1 (c.in_err-now.ensures.call.cause refl)
+
+pub returns-clause-some : goal.returns-clause-some
+returns-clause-some g c = c.stretch-lent.ensures.low
+
+pub returns-clause-most : goal.returns-clause-most
+returns-clause-most g c = c.stretch-lent.ensures.high
+
+pub returns-clause-part : goal.returns-clause-part
+returns-clause-part g c = tt
+
+pub returns-clause-cause : goal.returns-clause-cause
+returns-clause-cause g c = tt
+
+pub returns-clause-keeps : goal.returns-clause-keeps
+returns-clause-keeps g c = c.in_ok-load.ensures.keeps
+
+pub returns-clause-sink : goal.returns-clause-sink
+returns-clause-sink g c = c.in_ok-now.ensures.call.passes
+
+pub returns-clause-rest : goal.returns-clause-rest
+returns-clause-rest g c = c.in_ok-now.ensures.rest

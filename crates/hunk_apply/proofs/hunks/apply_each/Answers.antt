@@ -2,11 +2,12 @@ use Rattle.std.proofs.Common.{◌≡◌, ℕ, ◌+◌, ◌≤◌, List, [], ◌+
 use Rattle.std.specs.List.{All}
 use Rattle.std.proofs.lemmas.Int.{ints}
 use Rattle.std.proofs.lemmas.List.{take_all}
-use Rattle.std.proofs.lemmas.List.Sums.{sum_by_more}
+use Rattle.std.proofs.lemmas.List.Sums.{sum_by_more, sum_by-take-le}
 use Rattle.line_store.proofs.StoreLemmas.{keeps-same, keeps-more}
 use Rattle.outside.specs.SinkView.{sink_passes_none, sink_passes_both, Receives, ReceivesPart}
 use Rattle.outside.proofs.Exits.{if_ok_none, on_ok_none}
 use Rattle.hunk_core.specs.declared.Hunk.{Hunk}
+use Rattle.hunk_core.specs.Turned.{IsLawful}
 use Rattle.hunk_place.specs.Taken.{taken}
 use Rattle.hunk_place.specs.Verdicts.{spots, spot, after_hunk, at_start}
 use Rattle.hunk_apply.specs.declared.put.Tail.{Tail}
@@ -297,3 +298,42 @@ returns-in_err-step-clause-filled g c = on-err _ (FillsFirst c.args.verdicts.now
 
 pub returns-in_err-end-clause-filled : goal.returns-in_err-end-clause-filled
 returns-in_err-end-clause-filled g c = on-err _ (FillsFirst c.args.verdicts.now c.loop-j.verdicts) (record { count = c.loop-j.j; tried = c.loop-j.invariant.tried; others = c.loop-j.invariant.others })
+
+pub apply_hunk-requires-clause-lawful : goal.apply_hunk-requires-clause-lawful
+apply_hunk-requires-clause-lawful g c = subst (IsLawful c.args.text.now) (sym c.index-hunks-j.is) (c.requires.lawful c.loop-j.j c.index-hunks-j.result (omega arith))
+
+pub apply_hunk-requires-clause-consumed : goal.apply_hunk-requires-clause-consumed
+apply_hunk-requires-clause-consumed g c = subst (λ n. c.loop-j.state.consumed ≤ n) (sym c.loop-j.invariant.keeps.count) c.loop-j.invariant.within
+
+pub apply_hunk-requires-clause-far_back : goal.apply_hunk-requires-clause-far_back
+apply_hunk-requires-clause-far_back g c = c.loop-j.invariant.far_back
+
+pub apply_hunk-requires-clause-far_on : goal.apply_hunk-requires-clause-far_on
+apply_hunk-requires-clause-far_on g c = c.loop-j.invariant.far_on
+
+pub apply_hunk-requires-clause-few_dropped : goal.apply_hunk-requires-clause-few_dropped
+apply_hunk-requires-clause-few_dropped g c =
+    let part : body_lines (take c.loop-j.j c.args.hunks.now) ≤ body_lines c.args.hunks.now = sum_by-take-le (λ (h : Hunk). length h.body.items) c.args.hunks.now c.loop-j.j in
+    omega (arith, ints, part, c.requires.short, c.loop-j.invariant.net_above)
+
+pub apply_hunk-requires-clause-few_added : goal.apply_hunk-requires-clause-few_added
+apply_hunk-requires-clause-few_added g c =
+    let part : body_lines (take c.loop-j.j c.args.hunks.now) ≤ body_lines c.args.hunks.now = sum_by-take-le (λ (h : Hunk). length h.body.items) c.args.hunks.now c.loop-j.j in
+    omega (arith, ints, part, c.requires.short, c.loop-j.invariant.net_below)
+
+pub copy_lines-requires-clause-counted : goal.copy_lines-requires-clause-counted
+copy_lines-requires-clause-counted g c lines told =
+    let keeps = c.loop-j.invariant.keeps in
+    keeps.count ∙ (c.count-count.ensures.told lines (sym keeps.told ∙ told)).count
+
+pub copy_lines-requires-clause-order : goal.copy_lines-requires-clause-order
+copy_lines-requires-clause-order g c = omega (arith, c.loop-j.invariant.within, c.count-count.ensures.is)
+
+pub copy_lines-requires-clause-high : goal.copy_lines-requires-clause-high
+copy_lines-requires-clause-high g c = omega (arith, c.loop-j.invariant.keeps.count, c.count-count.ensures.is)
+
+pub copy_lines-requires-clause-low : goal.copy_lines-requires-clause-low
+copy_lines-requires-clause-low g c = omega arith
+
+pub session_of-requires : goal.session_of-requires
+session_of-requires g c = omega (arith, c.loop-j.auto.verdicts, c.requires.rows, c.requires.few)

@@ -1,13 +1,16 @@
-use Rattle.std.proofs.Common.{◌≡◌, ℕ, List, [], ◌∷◌, Some, length, true, false, refl, ap, ◌∙◌, arith}
+use Rattle.std.proofs.Common.{◌≡◌, ℕ, List, [], ◌∷◌, Some, length, true, false, take, set, refl, ap, subst, ◌∙◌, arith}
+use Rattle.std.specs.List.{All}
+use Rattle.std.proofs.lemmas.List.{take_all, length-set}
 use Rattle.outside.specs.SinkView.{ReceivesPart}
 use Rattle.outside.proofs.Exits.{if_ok_none, on_ok_none}
 use Rattle.line_list.specs.Join.{join}
 use Rattle.ed_form.specs.PlainEdit.{edits_of}
 use Rattle.hunk_apply.specs.declared.put.Tail.{Tail}
 use Rattle.hunk_apply.specs.Faults.{HasApplyCause}
-use Rattle.hunk_apply.specs.Session.{FillsFirst}
+use Rattle.hunk_apply.specs.Session.{IsTried, FillsFirst}
 use Rattle.hunk_apply.specs.Script.{reaches_behind, script_lines}
 use Rattle.hunk_apply.proofs.FaultLemmas.{on-err, if-err-still}
+use Rattle.hunk_apply.proofs.RowLemmas.{tried-more}
 use Rattle.hunk_apply.proofs.ScriptLemmas.{behind-is, one-row}
 use Rattle.hunk_apply.proofs.WrittenLemmas.{wrote-whole, wrote-nothing, part-whole}
 use Rattle.hunk_apply.proofs.script.apply_script.Goals as goal
@@ -110,3 +113,18 @@ returns-clause-filled g c = tt
 
 pub returns-clause-cause : goal.returns-clause-cause
 returns-clause-cause g c = tt
+
+pub returns-clause-tried : goal.returns-clause-tried
+returns-clause-tried g c =
+    let vs = c.args.verdicts.now in
+    let none : All IsTried (take 0 vs) = λ k d lt. absurd (omega arith) in
+    subst (All IsTried) (take_all 1 (set vs 0 c.verdict_of.result) (omega (arith, length-set vs 0 c.verdict_of.result, c.requires.rows))) (tried-more vs 0 c.verdict_of.result (omega (arith, c.requires.rows)) none c.verdict_of.ensures.tried)
+
+pub session_of-requires : goal.session_of-requires
+session_of-requires g c = omega (arith, length-set c.args.verdicts.now 0 c.verdict_of.result, c.requires.rows)
+
+pub put_script-requires-clause-counted : goal.put_script-requires-clause-counted
+put_script-requires-clause-counted g c lines told = (c.count-count.ensures.told lines told).count
+
+pub verdict_of-requires : goal.verdict_of-requires
+verdict_of-requires g c = record { some = c.requires.lawful.some }

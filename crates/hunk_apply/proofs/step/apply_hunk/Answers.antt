@@ -243,3 +243,24 @@ returns-in-Nowhere-clause-sink g c = sink_passes_none (g.O.Sink.view c.args.out.
 
 pub returns-in-Nowhere-clause-rest : goal.returns-in-Nowhere-clause-rest
 returns-in-Nowhere-clause-rest g c = g.met.O.Sink.rest_none _
+
+pub apply_at-requires-clause-lawful : goal.apply_at-requires-clause-lawful
+apply_at-requires-clause-lawful g c = c.requires.lawful
+
+pub apply_at-requires-clause-consumed : goal.apply_at-requires-clause-consumed
+apply_at-requires-clause-consumed g c = subst (λ n. c.args.state.now.consumed ≤ n) (sym c.in_ok-verdict.ensures.keeps.count) c.requires.consumed
+
+pub apply_at-requires-clause-behind : goal.apply_at-requires-clause-behind
+apply_at-requires-clause-behind g c =
+    (subst (IsPlaced (g.S.LineStore.seen c.args.store.now).count c.args.state.now.consumed (taken_count c.args.side c.args.hunk.now.body.items) (post_count c.args.hunk.now)) c.in-At.is c.in_ok-verdict.ensures.placed).0
+
+pub apply_at-requires-clause-room : goal.apply_at-requires-clause-room
+apply_at-requires-clause-room g c =
+    subst (λ n. c.in-At.line + taken_count c.args.side c.args.hunk.now.body.items ≤ n + 1 + post_count c.args.hunk.now) (sym c.in_ok-verdict.ensures.keeps.count)
+    (subst (IsPlaced (g.S.LineStore.seen c.args.store.now).count c.args.state.now.consumed (taken_count c.args.side c.args.hunk.now.body.items) (post_count c.args.hunk.now)) c.in-At.is c.in_ok-verdict.ensures.placed).1
+
+pub apply_at-requires-clause-few_dropped : goal.apply_at-requires-clause-few_dropped
+apply_at-requires-clause-few_dropped g c = c.requires.few_dropped
+
+pub apply_at-requires-clause-few_added : goal.apply_at-requires-clause-few_added
+apply_at-requires-clause-few_added g c = c.requires.few_added
