@@ -118,6 +118,10 @@ pub is_wet : (dry : Bool) (name : List ℕ) (begun : Temp) → IsBegun dry (Some
 is_wet true name begun is = absurd is
 is_wet false name begun is = refl
 
+pub begun_name : (dry : Bool) (name : List ℕ) (begun : Temp) → IsBegun dry (Some begun) name → begun.name.now ≡ name
+begun_name true name begun is = absurd is
+begun_name false name begun is = is
+
 -- a fault that is passed on, and any fault
 pub if_err : {R E : Type 0} (P : E → Type 0) (e : E) (r : Result R E) → IsErrAnd r (λ y. y ≡ e) → P e → IfErr r P
 if_err P e (Ok x) is p = tt

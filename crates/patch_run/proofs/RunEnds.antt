@@ -1,6 +1,6 @@
 -- The ends of a run over the file patches of a set.
 use Rattle.std.proofs.Common.{◌≡◌, ◌⊎◌, ℕ, ◌+◌, ◌<◌, List, [], ◌∷◌, ◌++◌, length, take, get_or, replicate, Bool, Option, Result, Ok, Err, IfErr, sym, ◌∙◌, ap, subst, arith, length-append}
-use Rattle.std.proofs.lemmas.List.{take_more, take_more_set, same_from_push}
+use Rattle.std.proofs.lemmas.List.{take_more, take_more_set, take_all, same_from_push}
 use Rattle.std.specs.Result.{IsErrAnd}
 use Rattle.outside.specs.Files.{Files}
 use Rattle.outside.specs.TreeView.{TreeView, passes_both}
@@ -13,16 +13,17 @@ use Rattle.file_patch.specs.PlainPatch.{change_of, row_count}
 use Rattle.line_store.specs.Store.{Seen}
 use Rattle.patch_options.specs.PlainJob.{PlainOptions}
 use Rattle.patch_set.specs.declared.set.Row.{Row}
-use Rattle.patch_set.specs.SetView.{SetView, with_row}
+use Rattle.patch_set.specs.SetView.{SetView, with_row, hunks_in}
 use Rattle.target_names.specs.declared.derived.Target.{Target}
 use Rattle.patch_effects.specs.declared.fault.RunFault.{RunFault}
 use Rattle.patch_effects.specs.declared.fault.RunFault.TheVariants.{Tree, Write, Scratch, LongLine, FileTooLong, Disagree, Memory}
+use Rattle.patch_run.specs.Applied.{Receipt}
 use Rattle.patch_run.specs.declared.apply.Done.{Done}
 use Rattle.patch_start.specs.Devices.{Told}
 use Rattle.patch_run.specs.OnePatch.{Item, ending}
 use Rattle.patch_run.specs.Run.{Run, items_of, set_run}
 use Rattle.patch_outcome.specs.Ready.{rows_in, turn_at}
-use Rattle.patch_run.specs.Doing.{QuietAfter, Does, IsCutOff, IsCutAt, Runs, NoneFailed, EndsSo, StaysSet, IsPlacedOn}
+use Rattle.patch_run.specs.Doing.{QuietAfter, Does, IsCutOff, IsCutAt, Runs, NoneFailed, EndsSo, IsReceipt, StaysSet, IsPlacedOn, IsPlacedLast}
 use Rattle.patch_effects.proofs.Tidy.{tidy_both, unless_then}
 use Rattle.patch_run.proofs.Folding.{cut_moments}
 use Rattle.patch_outcome.proofs.Marks.{rows-last}
@@ -92,6 +93,18 @@ module _ {u w : TreeView} {a b : Seen} {c d : SinkView} {scratch_after : ℕ →
     moments = λ f told. (at_all f told).far.made.since;
   }
 
+  pub receipt_all : (done : ℕ) (given : Receipt) → length vs ≡ hunks_in v.patches → length v.rows ≡ length v.patches → given ≡ record { is_bad = is_bad; done = done; effects = count } → done ≡ length old.patches
+      → (f : Files) → Told u a f → IsReceipt (set_run o old f) given (length old.patches) vs v.rows
+  receipt_all done given long rows is whole f told =
+      let come = at_all f told in
+      let receipt : Bool → ℕ → ℕ → Receipt = λ bad n m. record { is_bad = bad; done = n; effects = m } in
+      let front : hunks_in (take k v.patches) ≡ length vs = ap (λ (l : List FilePatch). hunks_in l) (take_all k v.patches (omega (arith, all))) ∙ sym long in
+      record {
+        receipt = is ∙ ap (λ b. receipt b done count) come.bad ∙ ap (λ n. receipt (set_run o old f).is_bad n count) whole ∙ ap (λ m. receipt (set_run o old f).is_bad (length old.patches) m) come.effects;
+        verdicts = sym (come.verdicts ∙ take_all (hunks_in (take k v.patches)) vs (omega (arith, front)));
+        rows = sym (come.rows ∙ take_all k v.rows (omega (arith, all, rows)));
+      }
+
 -- where no device has failed, the answer is how the run ends
 pub ends_so : {R : Type 0} {u w : TreeView} {a b : Seen} {c d : SinkView} {scratch_after : ℕ → List ℕ → Option (List ℕ) → Option (List ℕ)} {run : Files → Run} (r : Result R RunFault) → Runs u w a b c d scratch_after r run
     → (f : Files) → Told u a f → NoneFailed u w a b c d → EndsSo r a (run f).stop
@@ -121,6 +134,10 @@ placed_next o v k p row ws lines lt at long placed q r front rows patches was =
     let one : q ≡ p = (same_from_push front (take k v.patches) q p (sym patches ∙ take_more v.patches k p lt ∙ ap (λ (x : FilePatch). take k v.patches ++ x ∷ []) (sym at))).1 in
     let other : r ≡ row = (same_from_push rows (take k v.rows) r row (sym was ∙ take_more_set v.rows k row (omega (arith, lt, long)))).1 in
     subst (λ (x : FilePatch). IsPlacedOn o v.text x ws r lines) (sym one) (subst (λ (x : Row). IsPlacedOn o v.text p ws x lines) (sym other) placed)
+
+pub placed_all : (o : PlainOptions) (v : SetView) (k : ℕ) (ws : List Verdict) (lines : List (List ℕ)) → k ≡ length v.patches → length v.rows ≡ length v.patches → IsPlacedTo o v k ws lines → IsPlacedLast o v ws lines
+placed_all o v k ws lines all long placed p r front rows patches was =
+    placed p r front rows (take_all k v.patches (omega (arith, all)) ∙ patches) (take_all k v.rows (omega (arith, all, long)) ∙ was)
 
 pub placed_rows : (o : PlainOptions) (text : List ℕ) (front rest : List Verdict) (p : FilePatch) (r : Row) (lines : List (List ℕ)) → length front ≡ p.first_verdict
     → (take (row_count p.change) rest ≡ replicate (row_count p.change) Ignored) ⊎ (take (row_count p.change) rest ≡ change_verdicts lines o.fuzz o.loose r.side (change_of text p.change))

@@ -1,8 +1,15 @@
-use Rattle.std.proofs.Common.{◌≡◌, length, replicate, sym, ◌∙◌, ap}
+use Rattle.std.proofs.Common.{◌≡◌, ◌⊎◌, inl, inr, ◌≤◌, ℕ, List, Some, true, refl, length, replicate, sym, ◌∙◌, ap, subst, arith}
+use Rattle.std.proofs.lemmas.List.{length-replicate}
+use Rattle.std.proofs.lemmas.Result.{IfOk-weaker}
 use Rattle.outside.specs.Calls.{untouched_both}
 use Rattle.outside.proofs.Exits.{if_ok_none}
 use Rattle.outside.proofs.Views.{untouched_quiet}
+use Rattle.hunk_core.specs.declared.Verdict.{Verdict}
 use Rattle.hunk_core.specs.declared.Verdict.TheVariants.{Ignored}
+use Rattle.hunk_apply.specs.Change.{change_verdicts}
+use Rattle.patch_start.specs.declared.starting.Decision.{Decision}
+use Rattle.patch_start.specs.Starting.{IsWithin}
+use Rattle.patch_run.specs.declared.apply.Done.{Done}
 use Rattle.patch_run.specs.OnePatch.{total}
 use Rattle.patch_outcome.specs.TurnView.{plain_turn}
 use Rattle.patch_run.proofs.First.{is-first}
@@ -65,3 +72,35 @@ returns-in-Try-clause-rows g c = c.try_at.ensures.rows
 
 pub returns-in-Try-clause-few : goal.returns-in-Try-clause-few
 returns-in-Try-clause-few g c = c.try_at.ensures.few
+
+pub try_at-requires-clause-within : goal.try_at-requires-clause-within
+try_at-requires-clause-within g c = subst (λ (d : Decision). IsWithin (length c.args.turn.now.task.patch.now.targets.items) d) c.in-Try.is c.in_ok-row.ensures.within
+
+pub returns-in_err-row-clause-rows : goal.returns-in_err-row-clause-rows
+returns-in_err-row-clause-rows g c = refl
+
+pub returns-in-Skip-clause-placed : goal.returns-in-Skip-clause-placed
+returns-in-Skip-clause-placed g c =
+    IfOk-weaker c.skip.result (λ (done : Done). done ≡ record { row = c.in-Skip.row; is_bad = true; effects = 0 })
+    (λ (done : Done). (lines : List (List ℕ)) → (g.P.LineStore.seen c.start.new.plan).told ≡ Some lines
+    → (c.skip.new.verdicts ≡ replicate (length c.args.verdicts.now) Ignored)
+    ⊎ (c.skip.new.verdicts ≡ change_verdicts lines c.args.turn.now.task.options.now.fuzz c.args.turn.now.task.options.now.loose done.row.side (plain_turn c.args.turn.now).item.patch.change))
+    (λ done is lines told. inl c.skip.ensures.ignored) c.skip.ensures.done
+
+pub returns-in-Skip-clause-few : goal.returns-in-Skip-clause-few
+returns-in-Skip-clause-few g c =
+    IfOk-weaker c.skip.result (λ (done : Done). done ≡ record { row = c.in-Skip.row; is_bad = true; effects = 0 }) (λ (done : Done). done.effects ≤ 5)
+    (λ done is. omega (arith, ap (λ (d : Done). d.effects) is)) c.skip.ensures.done
+
+pub returns-in-Skip-clause-rows : goal.returns-in-Skip-clause-rows
+returns-in-Skip-clause-rows g c = ap (λ (l : List Verdict). length l) c.skip.ensures.ignored ∙ length-replicate (length c.args.verdicts.now) Ignored
+
+pub returns-in-Try-clause-placed : goal.returns-in-Try-clause-placed
+returns-in-Try-clause-placed g c =
+    IfOk-weaker c.try_at.result
+    (λ (done : Done). (lines : List (List ℕ)) → (g.P.LineStore.seen c.try_at.new.plan).told ≡ Some lines
+    → c.try_at.new.verdicts ≡ change_verdicts lines c.args.turn.now.task.options.now.fuzz c.args.turn.now.task.options.now.loose done.row.side (plain_turn c.args.turn.now).item.patch.change)
+    (λ (done : Done). (lines : List (List ℕ)) → (g.P.LineStore.seen c.try_at.new.plan).told ≡ Some lines
+    → (c.try_at.new.verdicts ≡ replicate (length c.args.verdicts.now) Ignored)
+    ⊎ (c.try_at.new.verdicts ≡ change_verdicts lines c.args.turn.now.task.options.now.fuzz c.args.turn.now.task.options.now.loose done.row.side (plain_turn c.args.turn.now).item.patch.change))
+    (λ done placed lines told. inr (placed lines told)) c.try_at.ensures.placed

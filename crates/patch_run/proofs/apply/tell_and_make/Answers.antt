@@ -1,4 +1,4 @@
-use Rattle.std.proofs.Common.{inl, Option, None, sym, ◌∙◌, subst}
+use Rattle.std.proofs.Common.{inl, Option, None, refl, sym, ◌∙◌, subst}
 use Rattle.std.proofs.lemmas.Bool.{false≢true}
 use Rattle.std.proofs.lemmas.Result.{IfErr-weaker, on_ok_weaker}
 use Rattle.outside.specs.TreeView.{passes_none}
@@ -7,11 +7,12 @@ use Rattle.outside.proofs.Effects.{made_none}
 use Rattle.outside.proofs.Exits.{if_ok_none, on_ok_none}
 use Rattle.replace_file.specs.declared.temp.Temp.{Temp}
 use Rattle.patch_effects.specs.declared.fault.RunFault.{RunFault}
+use Rattle.patch_effects.specs.declared.fault.RunFault.TheVariants.{Write}
 use Rattle.patch_run.specs.OnePatch.{Tried, tried_said}
 use Rattle.patch_outcome.specs.TurnView.{plain_turn}
 use Rattle.patch_attempt.specs.Trying.{IsBegun}
 use Rattle.patch_run.specs.Doing.{HasEndCause, IsOutcome, IsOrdered}
-use Rattle.patch_run.proofs.Applying.{on_err, if_any, is_wet, is_dry, unmade, tell_ordered, tell_fails, tell_dry, tell_made, tell_breaks}
+use Rattle.patch_run.proofs.Applying.{on_err, if_err, if_any, is_wet, begun_name, is_dry, unmade, tell_ordered, tell_fails, tell_dry, tell_made, tell_breaks}
 use Rattle.patch_effects.proofs.Tidy.{tidy_none}
 use Rattle.patch_run.proofs.apply.tell_and_make.Goals as goal
 
@@ -144,3 +145,20 @@ returns-in-None-clause-tree g c = passes_none (g.T.Tree.view c.args.tree.now)
 
 pub returns-in-None-clause-sink : goal.returns-in-None-clause-sink
 returns-in-None-clause-sink g c = c.in_ok-tell.ensures.call.passes
+
+pub returns-in_err-tell-clause-cause : goal.returns-in_err-tell-clause-cause
+returns-in_err-tell-clause-cause g c =
+    let u = g.T.Tree.view c.args.tree.now in
+    if_err (λ (x : RunFault). HasEndCause x u u (g.O.Sink.view c.args.out.now) (g.O.Sink.view c.tell.new.out)) Write c.from_residual.result c.from_residual.ensures.1 (c.in_err-tell.ensures.call.cause refl)
+
+pub make_effects-requires-clause-temp : goal.make_effects-requires-clause-temp
+make_effects-requires-clause-temp g c =
+    begun_name c.args.turn.now.task.options.now.dry_run c.args.target.now.temp c.in-Some.temp (subst (λ (o : Option Temp). IsBegun c.args.turn.now.task.options.now.dry_run o c.args.target.now.temp) c.in-Some.is c.requires.begun)
+
+pub make_effects-requires-clause-wet : goal.make_effects-requires-clause-wet
+make_effects-requires-clause-wet g c =
+    is_wet c.args.turn.now.task.options.now.dry_run c.args.target.now.temp c.in-Some.temp (subst (λ (o : Option Temp). IsBegun c.args.turn.now.task.options.now.dry_run o c.args.target.now.temp) c.in-Some.is c.requires.begun)
+
+pub make_effects-requires-clause-there : goal.make_effects-requires-clause-there
+make_effects-requires-clause-there g c =
+    c.requires.there (is_wet c.args.turn.now.task.options.now.dry_run c.args.target.now.temp c.in-Some.temp (subst (λ (o : Option Temp). IsBegun c.args.turn.now.task.options.now.dry_run o c.args.target.now.temp) c.in-Some.is c.requires.begun))

@@ -1,20 +1,21 @@
 use Rattle.std.proofs.Common.{◌≡◌, inl, [], Some, true, sym, ◌∙◌, ap, subst, arith}
 use Rattle.std.proofs.lemmas.Option.{same_Some}
 use Rattle.outside.specs.Files.{Files}
+use Rattle.outside.specs.TreeView.{passes_both}
 use Rattle.outside.specs.Calls.{IsUntouched, untouched_none}
 use Rattle.hunk_apply.specs.Change.{change_verdicts}
 use Rattle.patch_set.specs.declared.set.Row.{Row}
 use Rattle.target_names.specs.declared.derived.Target.{Target}
 use Rattle.patch_effects.specs.declared.fault.RunFault.{RunFault}
 use Rattle.patch_run.specs.OnePatch.{bytes_of, lines_in, written, effects_of, tried, tried_said, finished, finished_at}
-use Rattle.patch_run.specs.Doing.{IsDone, IsPartOf, IsOrdered}
+use Rattle.patch_run.specs.Doing.{IsDone, IsPartOf, IsOrdered, IsDeviceFault}
 use Rattle.patch_task.specs.TaskView.{plain_task}
 use Rattle.patch_outcome.specs.TurnView.{plain_turn}
 use Rattle.patch_run.proofs.Applying.{held_behind, on_err, if_err, if_any, unmade, part_worked, tried_breaks, tried_ordered, tried_done}
 use Rattle.patch_outcome.proofs.Moving.{works_made}
 use Rattle.patch_effects.specs.Making.{IsTidy}
 use Rattle.patch_effects.proofs.Tidy.{attempt_tidy, passed_tidy}
-use Rattle.patch_run.proofs.EndCause.{end_failed}
+use Rattle.patch_run.proofs.EndCause.{end_failed, end_device, try_device, quiet_passed, kept_plan, try_stays, end_stays}
 use Rattle.outside.proofs.Exits.{if_ok_none}
 use Rattle.patch_run.proofs.apply.try_at.Goals as goal
 
@@ -193,3 +194,79 @@ returns-in_err-attempt-clause-placed g c = if_ok_none _ _ c.from_residual.result
 
 pub returns-in_err-made-clause-placed : goal.returns-in_err-made-clause-placed
 returns-in_err-made-clause-placed g c = if_ok_none _ _ c.from_residual-in_err-made.result c.from_residual-in_err-made.ensures.1
+
+pub try_hunks-requires-clause-temp : goal.try_hunks-requires-clause-temp
+try_hunks-requires-clause-temp g c = c.written-target.ensures.named.temps.own
+
+pub tell_and_make-requires-clause-rows : goal.tell_and_make-requires-clause-rows
+tell_and_make-requires-clause-rows g c = c.in_ok-attempt.ensures.rows ∙ c.requires.rows
+
+pub tell_and_make-requires-clause-tried : goal.tell_and_make-requires-clause-tried
+tell_and_make-requires-clause-tried g c = c.in_ok-attempt.ensures.tried
+
+pub tell_and_make-requires-clause-begun : goal.tell_and_make-requires-clause-begun
+tell_and_make-requires-clause-begun g c = c.in_ok-attempt.ensures.begun
+
+pub tell_and_make-requires-clause-quiet : goal.tell_and_make-requires-clause-quiet
+tell_and_make-requires-clause-quiet g c = c.in_ok-attempt.ensures.works.quiet
+
+pub tell_and_make-requires-clause-there : goal.tell_and_make-requires-clause-there
+tell_and_make-requires-clause-there g c = c.in_ok-attempt.ensures.there
+
+pub returns-in_err-attempt-clause-stays : goal.returns-in_err-attempt-clause-stays
+returns-in_err-attempt-clause-stays g c =
+    try_stays (g.T.Tree.view c.args.tree.now) (g.T.Tree.view c.try_hunks.new.tree) (g.P.LineStore.seen c.args.plan.now) (g.P.LineStore.seen c.try_hunks.new.plan) (g.O.Sink.view c.args.out.now) c.in_err-attempt.field-0.0 c.from_residual.result c.from_residual.ensures.1
+    c.in_err-attempt.ensures.works.passes c.in_err-attempt.ensures.keeps c.requires.told c.in_err-attempt.ensures.cause
+
+pub returns-in_err-attempt-clause-quiet : goal.returns-in_err-attempt-clause-quiet
+returns-in_err-attempt-clause-quiet g c =
+    let fault = c.in_err-attempt.field-0.0 in
+    quiet_passed (g.T.Tree.view c.try_hunks.new.tree) fault c.from_residual.result c.from_residual.ensures.1
+    (try_device (g.T.Tree.view c.args.tree.now) (g.T.Tree.view c.try_hunks.new.tree) (g.P.LineStore.seen c.args.plan.now) (g.P.LineStore.seen c.try_hunks.new.plan) fault c.in_err-attempt.ensures.cause)
+
+pub returns-in_err-attempt-clause-cause : goal.returns-in_err-attempt-clause-cause
+returns-in_err-attempt-clause-cause g c =
+    let fault = c.in_err-attempt.field-0.0 in
+    if_err (λ (x : RunFault). IsDeviceFault x) fault c.from_residual.result c.from_residual.ensures.1
+    (try_device (g.T.Tree.view c.args.tree.now) (g.T.Tree.view c.try_hunks.new.tree) (g.P.LineStore.seen c.args.plan.now) (g.P.LineStore.seen c.try_hunks.new.plan) fault c.in_err-attempt.ensures.cause)
+
+pub returns-in_err-made-clause-stays : goal.returns-in_err-made-clause-stays
+returns-in_err-made-clause-stays g c =
+    let made = c.in_err-made.ensures in
+    end_stays (g.T.Tree.view c.args.tree.now) (g.T.Tree.view c.try_hunks.new.tree) (g.T.Tree.view c.tell_and_make.new.tree) (g.P.LineStore.seen c.args.plan.now) (g.P.LineStore.seen c.try_hunks.new.plan) (g.O.Sink.view c.args.out.now) (g.O.Sink.view c.tell_and_make.new.out)
+    c.in_err-made.field-0.0 c.from_residual-in_err-made.result c.from_residual-in_err-made.ensures.1 c.in_ok-attempt.ensures.works.passes made.tree c.in_ok-attempt.ensures.keeps made.sink made.cause
+
+pub returns-in_err-made-clause-quiet : goal.returns-in_err-made-clause-quiet
+returns-in_err-made-clause-quiet g c =
+    let fault = c.in_err-made.field-0.0 in
+    quiet_passed (g.T.Tree.view c.tell_and_make.new.tree) fault c.from_residual-in_err-made.result c.from_residual-in_err-made.ensures.1
+    (end_device (g.T.Tree.view c.try_hunks.new.tree) (g.T.Tree.view c.tell_and_make.new.tree) (g.O.Sink.view c.args.out.now) (g.O.Sink.view c.tell_and_make.new.out) fault c.in_err-made.ensures.cause)
+
+pub returns-in_err-made-clause-cause : goal.returns-in_err-made-clause-cause
+returns-in_err-made-clause-cause g c =
+    let fault = c.in_err-made.field-0.0 in
+    if_err (λ (x : RunFault). IsDeviceFault x) fault c.from_residual-in_err-made.result c.from_residual-in_err-made.ensures.1
+    (end_device (g.T.Tree.view c.try_hunks.new.tree) (g.T.Tree.view c.tell_and_make.new.tree) (g.O.Sink.view c.args.out.now) (g.O.Sink.view c.tell_and_make.new.out) fault c.in_err-made.ensures.cause)
+
+pub returns-clause-stays : goal.returns-clause-stays
+returns-clause-stays g c = record {
+  tree = passes_both c.in_ok-attempt.ensures.works.passes c.in_ok-made.ensures.tree;
+  plan = kept_plan (g.P.LineStore.seen c.args.plan.now) (g.P.LineStore.seen c.try_hunks.new.plan) c.in_ok-attempt.ensures.keeps;
+  sink = c.in_ok-made.ensures.sink;
+  cause = tt;
+}
+
+pub chosen-source-requires-clause-task : goal.chosen-source-requires-clause-task
+chosen-source-requires-clause-task g c = c.requires.turn.task
+
+pub written-target-requires-clause-task : goal.written-target-requires-clause-task
+written-target-requires-clause-task g c = c.requires.turn.task
+
+pub try_hunks-requires-clause-task : goal.try_hunks-requires-clause-task
+try_hunks-requires-clause-task g c = c.requires.turn.task
+
+pub tell_and_make-requires-clause-source : goal.tell_and_make-requires-clause-source
+tell_and_make-requires-clause-source g c = c.chosen-source.ensures.named
+
+pub tell_and_make-requires-clause-named : goal.tell_and_make-requires-clause-named
+tell_and_make-requires-clause-named g c = c.written-target.ensures.named

@@ -9,11 +9,12 @@ use Rattle.patch_set.specs.Room.{HaveRoom}
 use Rattle.patch_set.specs.SetView.{SetView, hunks_in, with_row}
 use Rattle.patch_outcome.specs.Ready.{AreNumbered, AreWritten, marks, rows_in}
 use Rattle.patch_run.specs.Doing.{StaysSet}
+use Rattle.patch_run.specs.Applied.{Receipt}
 use Rattle.patch_run.specs.OnePatch.{Mark}
 use Rattle.patch_outcome.proofs.Marks.{patch-there, marks-none, marks-next, mark-alone}
 use Rattle.patch_run.proofs.Ready.{ready, ready_still, numbered}
 use Rattle.patch_run.proofs.Going.{IsAt, IsNext, run_to, goes_none, goes_on, at_none, at_next}
-use Rattle.patch_run.proofs.RunEnds.{IsPlacedTo, cut_ends, runs_cut, runs_all, placed_none, placed_next}
+use Rattle.patch_run.proofs.RunEnds.{IsPlacedTo, cut_ends, runs_cut, runs_all, receipt_all, placed_none, placed_next, placed_all}
 use Rattle.patch_run.proofs.set.apply_all.Goals as goal
 
 pub loop-k-init : goal.loop-k-init
@@ -188,3 +189,47 @@ returns-in_err-done-clause-done g c = if_ok_none _ _ c.from_residual.result c.fr
 
 pub returns-in_err-done-clause-placed : goal.returns-in_err-done-clause-placed
 returns-in_err-done-clause-placed g c = on_ok_none _ _ c.from_residual.result c.from_residual.ensures.1
+
+pub apply_at-requires-clause-within : goal.apply_at-requires-clause-within
+apply_at-requires-clause-within g c =
+    let same : length c.loop-k.set.patches ≡ length c.args.set.now.patches = ap (λ (l : List FilePatch). length l) c.loop-k.invariant.same.patches in
+    omega (arith, c.loop-k-test.true, same, ap (λ (l : List FilePatch). length l) c.patches.ensures.patches)
+
+pub apply_at-requires-clause-verdicts : goal.apply_at-requires-clause-verdicts
+apply_at-requires-clause-verdicts g c = c.loop-k.invariant.long
+
+pub apply_at-requires-clause-written : goal.apply_at-requires-clause-written
+apply_at-requires-clause-written g c = c.loop-k.invariant.written
+
+pub apply_at-requires-clause-size : goal.apply_at-requires-clause-size
+apply_at-requires-clause-size g c = c.loop-k.invariant.goes.plan.size ∙ c.requires.size
+
+pub apply_at-requires-clause-quiet : goal.apply_at-requires-clause-quiet
+apply_at-requires-clause-quiet g c = c.loop-k.invariant.goes.quiet
+
+pub with_row-written-requires-clause-within : goal.with_row-written-requires-clause-within
+with_row-written-requires-clause-within g c =
+    let same : length c.loop-k.set.patches ≡ length c.args.set.now.patches = ap (λ (l : List FilePatch). length l) c.loop-k.invariant.same.patches in
+    omega (arith, c.loop-k-test.true, same, ap (λ (l : List FilePatch). length l) c.patches.ensures.patches)
+
+pub note-requires : goal.note-requires
+note-requires g c =
+    let same : length c.loop-k.set.patches ≡ length c.args.set.now.patches = ap (λ (l : List FilePatch). length l) c.loop-k.invariant.same.patches in
+    omega (arith, c.loop-k-test.true, same, ap (λ (l : List FilePatch). length l) c.patches.ensures.patches)
+
+pub returns-clause-receipt : goal.returns-clause-receipt
+returns-clause-receipt g c =
+    let inv = c.loop-k.invariant in
+    let same : length c.loop-k.set.patches ≡ length c.args.set.now.patches = ap (λ (l : List FilePatch). length l) inv.same.patches in
+    let all : c.loop-k.k ≡ length c.loop-k.set.patches = omega (arith, c.loop-k-test.false, same, ap (λ (l : List FilePatch). length l) c.patches.ensures.patches) in
+    receipt_all (plain_options c.args.options.now) c.args.set.now c.loop-k.set c.loop-k.k c.loop-k.verdicts all inv.same inv.at _ c.new.result inv.long inv.rows c.new.ensures (ap (λ (l : List FilePatch). length l) c.patches.ensures.patches)
+
+pub returns-clause-done : goal.returns-clause-done
+returns-clause-done g c = ap (λ (r : Receipt). r.done) c.new.ensures ∙ ap (λ (l : List FilePatch). length l) c.patches.ensures.patches
+
+pub returns-clause-placed : goal.returns-clause-placed
+returns-clause-placed g c lines told =
+    let inv = c.loop-k.invariant in
+    let same : length c.loop-k.set.patches ≡ length c.args.set.now.patches = ap (λ (l : List FilePatch). length l) inv.same.patches in
+    let all : c.loop-k.k ≡ length c.loop-k.set.patches = omega (arith, c.loop-k-test.false, same, ap (λ (l : List FilePatch). length l) c.patches.ensures.patches) in
+    placed_all (plain_options c.args.options.now) c.loop-k.set c.loop-k.k c.loop-k.verdicts lines all inv.rows (inv.placed lines told)

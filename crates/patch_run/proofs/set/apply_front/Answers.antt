@@ -56,3 +56,9 @@ returns-clause-placed g c =
     → (l ≡ replicate m Ignored) ⊎ (l ≡ change_verdicts lines o.fuzz o.loose done.row.side (plain_turn c.args.turn.now).item.patch.change)) in
     subst (λ (l : List Verdict). placed l n) (sym (take_at ws (drop count c.args.verdicts.now) n (c.apply_one.ensures.rows ∙ own)))
     (subst (λ (m : ℕ). placed ws m) own c.apply_one.ensures.placed)
+
+pub apply_one-requires-clause-rows : goal.apply_one-requires-clause-rows
+apply_one-requires-clause-rows g c =
+    let n = row_count c.args.turn.now.task.patch.now.change in
+    let is : c.hunks-count.result ≡ n = c.hunks-count.ensures [] ∙ rows-counted [] c.args.turn.now.task.patch.now.change in
+    omega (arith, length-take c.hunks-count.result c.args.verdicts.now, is, c.requires.rows)

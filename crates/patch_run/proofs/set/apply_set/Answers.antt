@@ -3,9 +3,10 @@ use Rattle.std.specs.Option.{ForSome}
 use Rattle.std.proofs.lemmas.Grind.{common_steps}
 use Rattle.hunk_core.specs.declared.Verdict.{Verdict}
 use Rattle.outside.specs.Files.{Files}
+use Rattle.file_patch.specs.declared.FilePatch.{FilePatch}
 use Rattle.patch_options.specs.PlainJob.{plain_options}
 use Rattle.patch_set.specs.Room.{HaveRoom}
-use Rattle.patch_set.specs.SetView.{SetView, IsRead, without_marks}
+use Rattle.patch_set.specs.SetView.{SetView, IsRead, without_marks, hunks_in}
 use Rattle.patch_effects.specs.declared.fault.RunFault.{RunFault}
 use Rattle.patch_start.specs.Devices.{Told}
 use Rattle.patch_run.specs.Run.{items_of, set_run}
@@ -91,3 +92,29 @@ returns-clause-placed g c =
     (subst (λ (l : List Verdict). OnOk c.apply_all-applied.result ((lines : List (List ℕ)) → (g.P.LineStore.seen new.plan).told ≡ Some lines → IsPlacedLast o new.set l lines))
     (sym same)
     c.apply_all-applied.ensures.placed)
+
+pub apply_all-applied-requires-clause-verdicts : goal.apply_all-applied-requires-clause-verdicts
+apply_all-applied-requires-clause-verdicts g c =
+    ap (λ (l : List Verdict). length l) (c.as_mut_slice.ensures.value ∙ c.take_verdicts-verdicts.ensures.taken) ∙ c.requires.verdicts ∙ ap (λ (s : SetView). hunks_in s.patches) (sym (c.take_marks-written.ensures.left ∙ ap without_marks c.take_verdicts-verdicts.ensures.left))
+
+pub give_verdicts-requires : goal.give_verdicts-requires
+give_verdicts-requires g c =
+    let vec = c.take_verdicts-verdicts.result in
+    let new = c.apply_all-applied.new in
+    let same : take vec.len (new.verdicts ++ drop (length new.verdicts) vec.items) ≡ new.verdicts = grind (arith, common_steps) in
+    ap (λ (l : List Verdict). length l) same
+    ∙ c.apply_all-applied.ensures.verdicts
+    ∙ ap (λ (l : List Verdict). length l) (c.as_mut_slice.ensures.value ∙ c.take_verdicts-verdicts.ensures.taken)
+    ∙ c.requires.verdicts
+    ∙ ap (λ (s : SetView). hunks_in s.patches) (sym (c.take_marks-written.ensures.left ∙ ap without_marks c.take_verdicts-verdicts.ensures.left))
+    ∙ ap (λ (l : List FilePatch). hunks_in l) (sym c.apply_all-applied.ensures.set.patches)
+
+pub returns-clause-verdicts : goal.returns-clause-verdicts
+returns-clause-verdicts g c =
+    let vec = c.take_verdicts-verdicts.result in
+    let new = c.apply_all-applied.new in
+    let same : take vec.len (new.verdicts ++ drop (length new.verdicts) vec.items) ≡ new.verdicts = grind (arith, common_steps) in
+    ap (λ (s : SetView). length s.verdicts) c.give_verdicts.ensures
+    ∙ ap (λ (l : List Verdict). length l) same
+    ∙ c.apply_all-applied.ensures.verdicts
+    ∙ ap (λ (l : List Verdict). length l) (c.as_mut_slice.ensures.value ∙ c.take_verdicts-verdicts.ensures.taken)
