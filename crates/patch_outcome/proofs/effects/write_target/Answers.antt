@@ -1,7 +1,7 @@
-use Rattle.std.proofs.Common.{◌&&◌, ◌||◌, not, is_some, sym, length, ◌∙◌, ap}
+use Rattle.std.proofs.Common.{◌&&◌, ◌||◌, [], if◌then◌else◌, not, is_some, sym, length, ◌∙◌, ap}
 use Rattle.std.proofs.lemmas.Result.{IfOk-weaker}
 use Rattle.std.specs.FinMap.{get}
-use Rattle.patch_outcome.specs.Outcome.{is_removal}
+use Rattle.patch_outcome.specs.Outcome.{is_removal, made_effects}
 use Rattle.patch_outcome.specs.TurnView.{plain_turn}
 use Rattle.patch_effects.proofs.Making.{makes_is}
 use Rattle.patch_outcome.proofs.Writing.{written_as}
@@ -53,3 +53,11 @@ returns-in_err-forget-clause-gone g c = on_ok_none _ _ c.from_residual.result c.
 
 pub returns-in_err-forget-clause-tidy : goal.returns-in_err-forget-clause-tidy
 returns-in_err-forget-clause-tidy g c = on_ok_none _ _ c.from_residual.result c.from_residual.ensures.1
+
+pub returns-then-not-is_written-clause-wrote : goal.returns-then-not-is_written-clause-wrote
+returns-then-not-is_written-clause-wrote g c f x told side session =
+    sym (ap (λ b. b && (not (is_removal (plain_turn c.args.turn.now) x) || is_some (get f c.args.target.now.name))) (sym (c.is_written.ensures x side session) ∙ c.if-not-is_written.true))
+
+pub returns-then-not-is_written-clause-count : goal.returns-then-not-is_written-clause-count
+returns-then-not-is_written-clause-count g c f x told side session =
+    sym (ap (λ b. length (if b then made_effects (plain_turn c.args.turn.now) f c.args.source.now c.args.target.now x else [])) (sym (c.is_written.ensures x side session) ∙ c.if-not-is_written.true))
