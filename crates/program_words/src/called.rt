@@ -1,6 +1,9 @@
 //! How the program was called: by a tool's name, as through a link, or by its own with the tool as the first word.
 
-use std::env::Env;
+use crate::behind::word_at;
+use crate::unfit::added;
+use std::alloc::{AllocError, Global};
+use std::env::{Args, Env};
 use std::{env, io};
 
 /// The program's own name, where there is no tool's.
@@ -22,25 +25,33 @@ fn tool_named(word: &str) -> Option<&'static str> {
 
 /// The words of the run: the tool, if there is one, and the words behind it.
 pub fn words_of<R: Env + AllocGlobal>(rt: &R) -> io::Result<Vec<String>> {
+    let called = env::args(rt)?;
     let mut words = Vec::new(rt.alloc());
-    let mut called = env::args(rt)?;
-    if let Some(path) = called.next() {
-        if let Some(tool) = tool_named(last_component(path.as_str())) {
-            words.push(String::from_str(rt.alloc(), tool)?)?;
-        }
+    match add_called(rt.alloc(), &mut words, called) {
+        Ok(()) => Ok(words),
+        Err(error) => Err(io::Error::from(error)),
     }
-    for word in called {
-        words.push(word)?;
+}
+
+/// Adds the words, the first of which is a path: of that the tool that it names, if it does.
+fn add_called(alloc: Global, words: &mut Vec<String>, called: Args) -> Result<(), AllocError> {
+    let mut called = called;
+    let path = called.next().unwrap_or(String::new(alloc));
+    add_tool(alloc, words, path.as_str())?;
+    words.extend(called)
+}
+
+/// Adds the tool that the path names, if it does.
+fn add_tool(alloc: Global, words: &mut Vec<String>, path: &str) -> Result<(), AllocError> {
+    match tool_named(last_component(path)) {
+        Some(tool) => added(alloc, words, tool),
+        None => Ok(()),
     }
-    Ok(words)
 }
 
 /// The tool for a message, or the program's own name where the first word is no tool.
 pub fn tool_of(words: &[String]) -> &'static str {
-    match words.first() {
-        Some(word) => tool_named(word.as_str()).unwrap_or(KIT),
-        None => KIT,
-    }
+    tool_named(word_at(words, 0)).unwrap_or(KIT)
 }
 
 /// The same where the words can't be had.

@@ -34,14 +34,23 @@ pub fn put_texts<R: Files>(
     passed: &Passed,
 ) {
     match tool {
-        "patch" => {
-            if let Ok(Job::Patch(options)) = read_words(lines.alloc, words) {
-                put_of_patch(lines, rt, &options, ended, passed);
-            }
-        }
+        "patch" => put_of_words(lines, rt, words, ended, passed),
         "patchstack" => put_of_stack(lines, words, ended, passed),
         "recountdiff" => put_emptied(lines, passed.front()),
         _ => {}
+    }
+}
+
+fn put_of_words<R: Files>(
+    lines: &mut Lines,
+    rt: &R,
+    words: &[String],
+    ended: Ended<'_>,
+    passed: &Passed,
+) {
+    if let Ok(Job::Patch(options)) = read_words(lines.alloc, words) {
+        put_of_patch(lines, rt, &options, ended, passed);
+        drop(options);
     }
 }
 

@@ -49,8 +49,8 @@ fn shown_in(front: &[u8]) -> Option<bool> {
         has_returned: false,
         has_plain: false,
     };
-    let whole = front.get(..memrchr(b'\n', front)?)?;
-    for line in whole.split(is_feed) {
+    let end = memrchr(b'\n', front)?;
+    for line in front.get(..end).unwrap_or(front).split(is_feed) {
         shown = with_line(shown, line);
     }
     let shown = with_last(shown);

@@ -27,10 +27,17 @@ pub fn put_malformed(lines: &mut Lines, tool: &str, kind: BadKind) {
     match kind {
         BadKind::Binary => put_binary(lines, tool),
         BadKind::HunkOrder => lines.put_line(tool, ORDER),
-        BadKind::Count if tool != "recountdiff" => lines.put_line(tool, COUNTS),
-        BadKind::Mark if tool != "recountdiff" => lines.put_line(tool, MARK),
-        BadKind::ShortEnd if tool != "recountdiff" => lines.put_line(tool, END),
+        BadKind::Count => put_recount(lines, tool, COUNTS),
+        BadKind::Mark => put_recount(lines, tool, MARK),
+        BadKind::ShortEnd => put_recount(lines, tool, END),
         _ => {}
+    }
+}
+
+/// What `recountdiff` mends, unless it is the tool.
+fn put_recount(lines: &mut Lines, tool: &str, said: &str) {
+    if tool != "recountdiff" {
+        lines.put_line(tool, said);
     }
 }
 

@@ -67,8 +67,12 @@ fn mode_in(line: &[u8], is_reversed: bool) -> Option<&[u8]> {
 /// The name that the file then has, as `-p` leaves it.
 fn name_in(header: &[u8], taking: Taking) -> &[u8] {
     let (old, new) = both_names(header);
-    let name = if taking.is_reversed { old } else { new };
-    match taking.strip {
+    left_of(taking.strip, if taking.is_reversed { old } else { new })
+}
+
+/// What `-p` leaves of a name.
+pub fn left_of(strip: Option<u32>, name: &[u8]) -> &[u8] {
+    match strip {
         Some(count) => shortened(count, name),
         None => last_component(name),
     }

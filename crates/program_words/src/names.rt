@@ -1,6 +1,6 @@
 //! The names in the lines of a file patch for which no file was found.
 
-use crate::barred::put_none;
+use crate::barred::{NOTHING, put_none};
 use crate::lines::{Lines, is_feed};
 use memchr::{memchr, memmem, memrchr};
 use outside::Name;
@@ -49,16 +49,11 @@ pub fn put_names(lines: &mut Lines, tool: &str, reading: Reading, front: &[u8], 
 
 /// Why the file of a hunk that fills an empty one isn't made, where a name counts.
 fn put_unmade(lines: &mut Lines, tool: &str, given: Given<'_>, reading: Reading) {
-    if is_looked_for(lines.alloc, given, reading) {
-        lines.put_line(tool, if reading.is_posix { POSIX } else { NO_SIGN });
-    }
-}
-
-/// Whether some name counts.
-fn is_looked_for(alloc: Global, given: Given<'_>, reading: Reading) -> bool {
-    match looked_for(alloc, given, reading) {
-        Ok(names) => !names.is_empty(),
-        Err(_) => false,
+    match looked_for(lines.alloc, given, reading) {
+        Ok(names) if !names.is_empty() => {
+            lines.put_line(tool, if reading.is_posix { POSIX } else { NO_SIGN })
+        }
+        _ => {}
     }
 }
 
@@ -138,8 +133,8 @@ fn with_line<'a>(given: Given<'a>, line: &'a [u8], number: u64, opening: u64) ->
     if number > opening {
         if is_moving(line) {
             given.is_moved = true;
-            given.old = first_of(whole_name(line, b" from "), given.old);
-            given.new = first_of(whole_name(line, b" to "), given.new);
+            given.old = whole_name(line, b" from ").or(given.old);
+            given.new = whole_name(line, b" to ").or(given.new);
         }
     } else if number == opening {
         given.opening = line;
@@ -154,13 +149,6 @@ fn with_line<'a>(given: Given<'a>, line: &'a [u8], number: u64, opening: u64) ->
         given.new = name_of(line, [b"+++ ", b"--- ", b"Index: "]);
     }
     given
-}
-
-fn first_of<'a>(one: Option<&'a [u8]>, other: Option<&'a [u8]>) -> Option<&'a [u8]> {
-    match one {
-        Some(_) => one,
-        None => other,
-    }
 }
 
 /// Both names of a git header's first line, behind its mark: where they are as long as each other the space between them is in
@@ -222,12 +210,12 @@ fn written_names(alloc: Global, given: Given<'_>) -> Lines {
 
 fn add_given(text: &mut Lines, name: Option<&[u8]>) {
     match name {
-        Some(b"/dev/null") | None => {}
-        Some(name) => {
+        Some(name) if name != NOTHING => {
             let mut quoted = Lines::new(text.alloc);
             quoted.put_bytes_quoted(name);
             add_name(text, &quoted);
         }
+        _ => {}
     }
 }
 

@@ -8,6 +8,7 @@ use tool_words::{ToolJob, read_tool_words};
 pub fn put_pattern(lines: &mut Lines, tool: &str, words: &[String]) {
     if let Ok(job) = read_tool_words(lines.alloc, words) {
         put_of(lines, tool, &job);
+        drop(job);
     }
 }
 
@@ -28,10 +29,10 @@ fn put_reading(lines: &mut Lines, pattern: &str) {
         utf8: false,
         ..Config::default()
     };
-    match parse(lines.alloc, pattern, &config) {
-        Ok(_) => lines.put(" takes more than 10 MiB once it is compiled\n"),
-        Err(error) if error.kind == ErrorKind::OutOfMemory => lines.cut(),
-        Err(error) => put_error(lines, error),
+    match parse(lines.alloc, pattern, &config).err() {
+        None => lines.put(" takes more than 10 MiB once it is compiled\n"),
+        Some(error) if error.kind == ErrorKind::OutOfMemory => lines.cut(),
+        Some(error) => put_error(lines, error),
     }
 }
 

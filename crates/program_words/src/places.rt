@@ -17,7 +17,11 @@ const SPLIT: &str = "splitdiff";
 /// What the words say, where they are a command. Without memory they say nothing: the run will say so.
 pub fn places_of(alloc: Global, tool: &str, words: &[String]) -> Places {
     match read_words(alloc, words) {
-        Ok(Job::Patch(options)) => places_in(alloc, &options),
+        Ok(Job::Patch(options)) => {
+            let places = places_in(alloc, &options);
+            drop(options);
+            places
+        }
         Err(_) => Places {
             is_stack: tool == STACK,
             is_text: tool == RECOUNT,
@@ -46,22 +50,15 @@ fn places_in(alloc: Global, options: &Options) -> Places {
 
 fn text_of(alloc: Global, dir: &Option<Name>) -> Option<String> {
     match dir {
-        Some(dir) => copied(alloc, dir.text()),
+        Some(dir) => String::from_str(alloc, dir.text()).ok(),
         None => None,
-    }
-}
-
-fn copied(alloc: Global, text: &str) -> Option<String> {
-    match String::from_str(alloc, text) {
-        Ok(text) => Some(text),
-        Err(_) => None,
     }
 }
 
 /// The file of the patch text, below the directory.
 fn patch_file(alloc: Global, options: &Options) -> Option<Name> {
     match &options.input {
-        Input::File(file) => placed(alloc, options, file),
+        Input::File(file) => below(alloc, options, file).ok(),
         Input::Standard => None,
     }
 }
@@ -69,15 +66,8 @@ fn patch_file(alloc: Global, options: &Options) -> Option<Name> {
 /// A file that the words may name, below the directory.
 fn named(alloc: Global, options: &Options, name: &Option<Name>) -> Option<Name> {
     match name {
-        Some(name) => placed(alloc, options, name),
+        Some(name) => below(alloc, options, name).ok(),
         None => None,
-    }
-}
-
-fn placed(alloc: Global, options: &Options, name: &Name) -> Option<Name> {
-    match below(alloc, options, name) {
-        Ok(name) => Some(name),
-        Err(_) => None,
     }
 }
 

@@ -29,31 +29,27 @@ pub fn put_state<R: Files<File = File>>(
 
 fn put_series<R: Files<File = File>>(lines: &mut Lines, tool: &str, tree: &mut Disk<'_, R>) {
     let text = text_at(lines, tree, SERIES);
-    put_series_of(lines, tool, text);
+    lines.put(tool);
+    lines.put(": patches/series: ");
+    put_fault(lines, &text);
+    lines.put("each line must be a name below patches/\n");
 }
 
-/// The text of a file of the stack, if it can be read.
+/// The text of a file of the stack, or nothing where it can't be read.
 pub fn text_at<R: Files<File = File>>(
     lines: &mut Lines,
     tree: &mut Disk<'_, R>,
     name: &str,
-) -> Option<Vec<u8>> {
+) -> Vec<u8> {
     match Name::new(lines.alloc, name.as_bytes()) {
-        Ok(name) => tree.text(lines.alloc, &name),
+        Ok(name) => tree
+            .text(lines.alloc, &name)
+            .unwrap_or(Vec::new(lines.alloc)),
         Err(_) => {
             lines.cut();
-            None
+            Vec::new(lines.alloc)
         }
     }
-}
-
-fn put_series_of(lines: &mut Lines, tool: &str, text: Option<Vec<u8>>) {
-    lines.put(tool);
-    lines.put(": patches/series: ");
-    if let Some(text) = text {
-        put_fault(lines, &text);
-    }
-    lines.put("each line must be a name below patches/\n");
 }
 
 /// The first line that isn't taken, and why. Empty lines and those that begin with `#` are passed over.
@@ -84,10 +80,15 @@ fn fault_of(lines: &mut Lines, line: &[u8], count: u64) -> Option<&'static str> 
     if count > MOST {
         return Some("is one more than the 9999 that there may be");
     }
-    match Name::new(lines.alloc, line) {
-        Ok(_) => None,
-        Err(NameFault::Refused { rule }) => Some(broken(rule)),
-        Err(NameFault::Memory) => {
+    broken_by(lines, line)
+}
+
+/// What breaks the rule of names, if it does.
+pub fn broken_by(lines: &mut Lines, name: &[u8]) -> Option<&'static str> {
+    match Name::new(lines.alloc, name).err() {
+        None => None,
+        Some(NameFault::Refused { rule }) => Some(broken(rule)),
+        Some(NameFault::Memory) => {
             lines.cut();
             None
         }
@@ -95,7 +96,7 @@ fn fault_of(lines: &mut Lines, line: &[u8], count: u64) -> Option<&'static str> 
 }
 
 /// What breaks the rule, behind the name that does.
-pub fn broken(rule: NameRule) -> &'static str {
+fn broken(rule: NameRule) -> &'static str {
     match rule {
         NameRule::Empty => "names no file",
         NameRule::Absolute => "begins with a slash",

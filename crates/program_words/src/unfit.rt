@@ -83,21 +83,14 @@ pub fn add(lines: &mut Lines, words: &mut Vec<String>, word: &str) {
     }
 }
 
-fn added(alloc: Global, words: &mut Vec<String>, word: &str) -> Result<(), AllocError> {
+/// Adds a word, if memory is there for it.
+pub fn added(alloc: Global, words: &mut Vec<String>, word: &str) -> Result<(), AllocError> {
     let word = String::from_str(alloc, word)?;
     words.push(word)?;
     Ok(())
 }
 
+/// Whether the words give a command. What it is goes in `err`, and so isn't owned here.
 pub fn is_command(alloc: Global, words: &[String]) -> bool {
-    is_of_patch(alloc, words) || is_of_tool(alloc, words)
-}
-
-fn is_of_patch(alloc: Global, words: &[String]) -> bool {
-    read_words(alloc, words).is_ok()
-}
-
-fn is_of_tool(alloc: Global, words: &[String]) -> bool {
-    let read = read_tool_words(alloc, words);
-    read.is_ok()
+    read_words(alloc, words).err().is_none() || read_tool_words(alloc, words).err().is_none()
 }

@@ -83,67 +83,47 @@ pub fn with_value<'a>(tool: &str, word: &'a str) -> Option<(&'a str, &'a str)> {
     if word.starts_with("--") {
         return word.split_once('=');
     }
-    let letters = word.strip_prefix('-')?;
-    for (place, letter) in letters.char_indices() {
-        if takes_value(table_of(tool), letter) {
-            return parts_behind(
-                word,
-                place.saturating_add(letter.len_utf8()).saturating_add(1),
-            );
-        }
-    }
-    None
+    word.split_at_checked(valued_end(table_of(tool), word)?)
 }
 
-/// The two parts of a word, where both have a letter.
-fn parts_behind(word: &str, place: usize) -> Option<(&str, &str)> {
-    match (word.get(..place), word.get(place..)) {
-        (Some(option), Some(value)) if !value.is_empty() => Some((option, value)),
-        _ => None,
-    }
-}
-
-fn takes_value(table: &'static [Group], letter: char) -> bool {
-    match form_of(table, letter) {
-        Some(form) => is_valued(form),
-        None => false,
-    }
-}
-
-/// The form of the option that has the letter.
-fn form_of(table: &'static [Group], letter: char) -> Option<WordForm> {
-    for group in table {
-        for word in group.words {
-            if word.letter == Some(letter) {
-                return Some(word.form);
+/// The end of the first letter of a word that takes a value, where something stands behind it.
+fn valued_end(table: &'static [Group], word: &str) -> Option<usize> {
+    if word.starts_with('-') {
+        for end in 2..word.len() {
+            if takes_value(table, word.get(..end).unwrap_or("")) {
+                return Some(end);
             }
         }
     }
     None
 }
 
-fn is_valued(form: WordForm) -> bool {
-    match form {
-        WordForm::Value | WordForm::Values => true,
-        WordForm::Switch | WordForm::Letter | WordForm::Operand => false,
+/// Whether the option, or the last of its letters, takes a value.
+fn takes_value(table: &'static [Group], option: &str) -> bool {
+    match row_of(table, option) {
+        Some(row) => matches!(row.form, WordForm::Value | WordForm::Values),
+        None => false,
     }
 }
 
 /// Whether the tool has the option, or all those of its letters.
 pub fn is_known(tool: &str, option: &str) -> bool {
     let table = table_of(tool);
-    match option.strip_prefix("--") {
-        Some(_) => row_of(table, option).is_some(),
-        None => are_letters(table, option.strip_prefix('-').unwrap_or(option)),
+    if option.starts_with("--") {
+        row_of(table, option).is_some()
+    } else {
+        are_letters(table, option)
     }
 }
 
-fn are_letters(table: &'static [Group], letters: &str) -> bool {
-    let mut are_all = true;
-    for letter in letters.chars() {
-        if form_of(table, letter).is_none() {
-            are_all = false;
+/// Whether each letter behind the sign is that of an option.
+fn are_letters(table: &'static [Group], option: &str) -> bool {
+    for end in 2..=option.len() {
+        if let Some(front) = option.get(..end) {
+            if row_of(table, front).is_none() {
+                return false;
+            }
         }
     }
-    are_all
+    true
 }
