@@ -1,4 +1,5 @@
-use Rattle.std.proofs.Common.{◌≡◌, ◌≢◌, ⊎_elim, ℕ, List, Ok, Err, sym, subst}
+use Rattle.std.proofs.Common.{◌≡◌, ◌≢◌, ⊎_elim, ℕ, List, Ok, Err, refl, sym, subst}
+use Rattle.outside.specs.TreeView.{passes_none}
 use Rattle.outside.proofs.Names.{apart, equal_or_not}
 use Rattle.patch_effects.specs.TargetEffects.{put_if}
 use Rattle.patch_outcome.specs.Outcome.{rejects_text}
@@ -50,3 +51,18 @@ returns-in-Ok-clause-tidy g c =
 
 pub returns-then-not-rejected-clause-tidy : goal.returns-then-not-rejected-clause-tidy
 returns-then-not-rejected-clause-tidy g c = tidy_none (g.T.Tree.view c.args.tree.now)
+
+pub returns-then-not-rejected-clause-goes : goal.returns-then-not-rejected-clause-goes
+returns-then-not-rejected-clause-goes g c = record { passes = passes_none (g.T.Tree.view c.args.tree.now); cause = tt; quiet = c.requires.quiet }
+
+pub returns-then-not-rejected-clause-gone : goal.returns-then-not-rejected-clause-gone
+returns-then-not-rejected-clause-gone g c = c.requires.gone
+
+pub returns-in-Err-clause-goes : goal.returns-in-Err-clause-goes
+returns-in-Err-clause-goes g c = record { passes = c.in-Err.ensures.run.passes; cause = (refl, c.in-Err.ensures.run.cause refl); quiet = tt }
+
+pub returns-in-Err-clause-gone : goal.returns-in-Err-clause-gone
+returns-in-Err-clause-gone g c = tt
+
+pub returns-in-Err-clause-tidy : goal.returns-in-Err-clause-tidy
+returns-in-Err-clause-tidy g c = tt
