@@ -11,7 +11,6 @@ ghost use Rattle.gen_cli.specs.Jobs.{options_for};
 ghost use Rattle.gen_cli.specs.Summary.{summary_of};
 ghost use Rattle.gen_cli.specs.Preparing.{ArePlaces, AreMade, IsMadeSet};
 ghost use Rattle.gen_cli.specs.Telling.{TellsOf};
-ghost use Rattle.gen_cli.specs.Ending.{Ends};
 ghost use Rattle.gen_cli.specs.Carries.{Carries};
 
 use crate::places::Place;
@@ -27,7 +26,8 @@ use run_answers::Why;
 use std::alloc::Global;
 use tool_words::GenJob;
 
-/// Carries out what was made ready, on a settled tree. The scratch comes back.
+/// Carries out what was made ready, on a settled tree: the files are put, the patch is applied to these, and it is told what came
+/// of it. The scratch comes back.
 pub fn carry_out<T: Tree, C: Scratch, O: Sink>(
     alloc: Global,
     job: GenJob,
@@ -46,29 +46,10 @@ pub fn carry_out<T: Tree, C: Scratch, O: Sink>(
     ensures rest { O.same_rest out.old out.new }
 {
     match put_files(job, &work.places, &work.files, tree) {
-        Ok(()) => apply_made(alloc, job, work, scratch, tree, out),
-        Err(_) => (Err(Why::TreeFault), scratch),
+        Ok(()) => {}
+        Err(_) => return (Err(Why::TreeFault), scratch),
     }
-}
-
-/// Lets the bytes of the files go, which were put, applies the patch to these, and tells what came of it.
-fn apply_made<T: Tree, C: Scratch, O: Sink>(
-    alloc: Global,
-    job: GenJob,
-    work: &mut Work,
-    scratch: C,
-    tree: &mut T,
-    out: &mut O,
-) -> (Result<Applied, Why>, C)
-    requires options { plain_options work.old.options ≡ options_for (plain_gen_job job) }
-    requires set { IsMadeSet (plain_gen_job job) work.old.set }
-    requires places { ArePlaces work.old.places.items job.files }
-    requires hunks { work.old.hunks ≡ (made job.seed job.files job.lines).hunks }
-    requires quiet { IsQuiet (T.view tree.old) }
-    ensures ends { Ends (plain_gen_job job) work.old.set (T.view tree.old) (T.view tree.new) (C.view scratch) (C.view result.1) (O.view out.old) (O.view out.new) result.0 }
-    ensures scratch { has_scratch job.plan ≡ false → result.1 ≡ scratch }
-    ensures rest { O.same_rest out.old out.new }
-{
+    // The bytes of the files, which were put, are let go before the patch is applied to these.
     work.files.clear();
     let (applied, scratch) = apply(alloc, &work.options, &mut work.set, scratch, tree, out);
     match applied {

@@ -2,7 +2,7 @@
 ghost use Rattle.std.specs.Prelude.{◌≡◌};
 ghost use Rattle.num_text.specs.Numbers.{decimal};
 ghost use Rattle.outside.specs.SinkView.{Writes};
-ghost use Rattle.gen_cli.specs.Summary.{field, line_of, behind_files, behind_hunks, behind_applied, behind_moved, behind_bytes};
+ghost use Rattle.gen_cli.specs.Summary.{field, line_of};
 
 use num_text::put_number;
 use outside::{Failed, Sink, put_all};
@@ -27,45 +27,10 @@ pub fn put_summary<O: Sink>(out: &mut O, s: Summary) -> Result<(), Failed>
     ensures rest { O.same_rest out.old out.new }
 {
     put_field(out, b"files ", s.files)?;
-    put_behind_files(out, s)
-}
-
-fn put_behind_files<O: Sink>(out: &mut O, s: Summary) -> Result<(), Failed>
-    ensures writes { Writes (O.view out.old) (O.view out.new) result (behind_files s.hunks s.applied s.moved s.bytes s.status) }
-    ensures rest { O.same_rest out.old out.new }
-{
     put_field(out, b" hunks ", s.hunks)?;
-    put_behind_hunks(out, s)
-}
-
-fn put_behind_hunks<O: Sink>(out: &mut O, s: Summary) -> Result<(), Failed>
-    ensures writes { Writes (O.view out.old) (O.view out.new) result (behind_hunks s.applied s.moved s.bytes s.status) }
-    ensures rest { O.same_rest out.old out.new }
-{
     put_field(out, b" applied ", s.applied)?;
-    put_behind_applied(out, s)
-}
-
-fn put_behind_applied<O: Sink>(out: &mut O, s: Summary) -> Result<(), Failed>
-    ensures writes { Writes (O.view out.old) (O.view out.new) result (behind_applied s.moved s.bytes s.status) }
-    ensures rest { O.same_rest out.old out.new }
-{
     put_field(out, b" moved ", s.moved)?;
-    put_behind_moved(out, s)
-}
-
-fn put_behind_moved<O: Sink>(out: &mut O, s: Summary) -> Result<(), Failed>
-    ensures writes { Writes (O.view out.old) (O.view out.new) result (behind_moved s.bytes s.status) }
-    ensures rest { O.same_rest out.old out.new }
-{
     put_field(out, b" bytes ", s.bytes)?;
-    put_behind_bytes(out, s)
-}
-
-fn put_behind_bytes<O: Sink>(out: &mut O, s: Summary) -> Result<(), Failed>
-    ensures writes { Writes (O.view out.old) (O.view out.new) result (behind_bytes s.status) }
-    ensures rest { O.same_rest out.old out.new }
-{
     put_field(out, b" status ", s.status)?;
     put_all(out, b"\n")
 }

@@ -1,9 +1,0 @@
-use Rattle.outside.proofs.Writing.{writes_stop, writes_then}
-use Rattle.gen_cli.specs.Summary.{behind_applied}
-use Rattle.gen_cli.proofs.telling.put_behind_hunks.Goals as goal
-
-pub returns-in_err-put_field-clause-writes : goal.returns-in_err-put_field-clause-writes
-returns-in_err-put_field-clause-writes g c = writes_stop c.in_err-put_field.field-0.0 c.from_residual.result (behind_applied c.args.s.moved c.args.s.bytes c.args.s.status) c.from_residual.ensures.0 c.in_err-put_field.ensures.writes
-
-pub returns-clause-writes : goal.returns-clause-writes
-returns-clause-writes g c = writes_then c.in_ok-put_field.field-0 c.put_behind_applied.result c.in_ok-put_field.ensures.writes c.put_behind_applied.ensures.writes
