@@ -63,7 +63,11 @@ fn run_job<T: Tree, F: Finder, I: Source, O: Sink>(
 {
     match settle(tree) {
         Ok(()) => run_settled(alloc, job, tree, finder, source, out),
-        Err(why) => why,
+        Err(why) => {
+            // (let go here, and not at the exit, where it would be proved field by field beside the devices)
+            drop(job);
+            why
+        }
     }
 }
 

@@ -15,9 +15,10 @@ pub fn read_job(alloc: Global, words: &[String]) -> Result<ToolJob, Why>
     ensures filter { IfOk result (λ job. is_filter (plain_tool_job job) ≡ true) }
     ensures refused { IfErr result (λ why. (why ≡ Why.Memory) ⊎ ((fault : WordFault) × (why ≡ of_words fault) × (job_of (map string_bytes words.now) ≡ Err fault))) }
 {
-    let job = read_tool_words(alloc, words)?;
-    let job = filter_of(job)?;
-    Ok(job)
+    match read_tool_words(alloc, words) {
+        Ok(job) => filter_of(job),
+        Err(fault) => Err(Why::from(fault)),
+    }
 }
 
 fn filter_of(job: ToolJob) -> Result<ToolJob, Why>
@@ -28,6 +29,7 @@ fn filter_of(job: ToolJob) -> Result<ToolJob, Why>
     if is_filter(&job) {
         Ok(job)
     } else {
+        drop(job);
         Err(Why::Usage)
     }
 }

@@ -1,4 +1,4 @@
-use Rattle.std.proofs.Common.{Ok, ◌∙◌}
+use Rattle.std.proofs.Common.{Ok, refl, ◌∙◌}
 use Rattle.tool_words.specs.PlainJobs.{plain_tool_job}
 use Rattle.filter_cli.proofs.Behind.{carries_behind}
 use Rattle.filter_cli.proofs.Early.{settle_carry}
@@ -12,3 +12,18 @@ returns-in-Ok-clause-unasked g c f left told none = c.run_settled.ensures.unaske
 
 pub returns-in-Err-clause-carries : goal.returns-in-Err-clause-carries
 returns-in-Err-clause-carries g c = settle_carry (Ok (plain_tool_job c.args.job)) _ _ _ _ _ c.in-Err.why c.settle.ensures.opens c.in-Err.ensures.cause.0 c.in-Err.ensures.cause.1
+
+pub returns-in-Ok-clause-unread : goal.returns-in-Ok-clause-unread
+returns-in-Ok-clause-unread g c = c.run_settled.ensures.unread
+
+pub returns-in-Ok-clause-no_pattern : goal.returns-in-Ok-clause-no_pattern
+returns-in-Ok-clause-no_pattern g c = c.run_settled.ensures.no_pattern
+
+pub returns-in-Err-clause-unread : goal.returns-in-Err-clause-unread
+returns-in-Err-clause-unread g c never = refl
+
+pub returns-in-Err-clause-unasked : goal.returns-in-Err-clause-unasked
+returns-in-Err-clause-unasked g c f left told none = refl
+
+pub returns-in-Err-clause-no_pattern : goal.returns-in-Err-clause-no_pattern
+returns-in-Err-clause-no_pattern g c never = refl
