@@ -1,3 +1,5 @@
+use Rattle.std.proofs.Common.{refl}
+use Rattle.filter_cli.proofs.Sifters.{file-unless}
 use Rattle.filter_cli.proofs.carrying.run_settled.Goals as goal
 
 pub returns-in-List-clause-carries : goal.returns-in-List-clause-carries
@@ -20,3 +22,54 @@ returns-in-Recount-clause-carries g c = rw c.in-Recount.is (c.recountdiff.ensure
 
 pub returns-in-Flip-clause-carries : goal.returns-in-Flip-clause-carries
 returns-in-Flip-clause-carries g c = rw c.in-Flip.is (c.reversediff.ensures.carries (g.F.Finder.view c.args.finder.now))
+
+pub returns-in-List-clause-unread : goal.returns-in-List-clause-unread
+returns-in-List-clause-unread g c never = c.lsdiff.ensures.unread (file-unless c.in-List.job.input (rw c.in-List.is at never))
+
+pub returns-in-List-clause-unasked : goal.returns-in-List-clause-unasked
+returns-in-List-clause-unasked g c f left told none = refl
+
+pub returns-in-List-clause-no_pattern : goal.returns-in-List-clause-no_pattern
+returns-in-List-clause-no_pattern g c never = refl
+
+pub returns-in-Filter-clause-unread : goal.returns-in-Filter-clause-unread
+returns-in-Filter-clause-unread g c never = c.filterdiff.ensures.unread (file-unless c.in-Filter.job.input (rw c.in-Filter.is at never))
+
+pub returns-in-Filter-clause-unasked : goal.returns-in-Filter-clause-unasked
+returns-in-Filter-clause-unasked g c f left told none = refl
+
+pub returns-in-Filter-clause-no_pattern : goal.returns-in-Filter-clause-no_pattern
+returns-in-Filter-clause-no_pattern g c never = refl
+
+pub returns-in-Grep-clause-unread : goal.returns-in-Grep-clause-unread
+returns-in-Grep-clause-unread g c never = c.grepdiff.ensures.unread (file-unless c.in-Grep.job.input (rw c.in-Grep.is at never))
+
+pub returns-in-Recount-clause-unread : goal.returns-in-Recount-clause-unread
+returns-in-Recount-clause-unread g c never = c.recountdiff.ensures.unread (file-unless c.in-Recount.input (rw c.in-Recount.is at never))
+
+pub returns-in-Recount-clause-unasked : goal.returns-in-Recount-clause-unasked
+returns-in-Recount-clause-unasked g c f left told none = refl
+
+pub returns-in-Recount-clause-no_pattern : goal.returns-in-Recount-clause-no_pattern
+returns-in-Recount-clause-no_pattern g c never = refl
+
+pub returns-in-Flip-clause-unread : goal.returns-in-Flip-clause-unread
+returns-in-Flip-clause-unread g c never = c.reversediff.ensures.unread (file-unless c.in-Flip.input (rw c.in-Flip.is at never))
+
+pub returns-in-Flip-clause-unasked : goal.returns-in-Flip-clause-unasked
+returns-in-Flip-clause-unasked g c f left told none = refl
+
+pub returns-in-Flip-clause-no_pattern : goal.returns-in-Flip-clause-no_pattern
+returns-in-Flip-clause-no_pattern g c never = refl
+
+pub returns-in-Grep-clause-no_pattern : goal.returns-in-Grep-clause-no_pattern
+returns-in-Grep-clause-no_pattern g c never = absurd ((rw c.in-Grep.is at never) tt)
+
+pub returns-in-Split-clause-unread : goal.returns-in-Split-clause-unread
+returns-in-Split-clause-unread g c never = refl
+
+pub returns-in-Split-clause-unasked : goal.returns-in-Split-clause-unasked
+returns-in-Split-clause-unasked g c f left told none = refl
+
+pub returns-in-Split-clause-no_pattern : goal.returns-in-Split-clause-no_pattern
+returns-in-Split-clause-no_pattern g c never = refl
