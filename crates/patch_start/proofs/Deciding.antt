@@ -100,6 +100,45 @@ weighs_after {a = a} {b = b} {k = k} {c = c} {d = d} {x = x} there (Err e) p res
       (subst (λ (l : List ℕ). ReceivesPart c x l) (sym (said-first p (rest bytes))) (part_after c d x p (said_in (rest bytes)) said (later.broken bytes (holds_on there bytes keeps holds))));
 }
 
+-- the decision is made, and a text was said that its start says
+pub weighs_decides : {a b : Seen} {c d : SinkView} (there : Bool) (v : Decision) (p : List ℕ) (start is : Option (List ℕ) → Start) → Keeps a b → SinkPasses c d → Receives c d p → ((bytes : Option (List ℕ)) → said_in (is bytes) ≡ p)
+    → ((bytes : Option (List ℕ)) → Holds b there bytes → IsDecided v b (λ place. bytes) (is bytes)) → ((bytes : Option (List ℕ)) → Holds a there bytes → start bytes ≡ is bytes) → Weighs a b c d there (Ok v) start
+weighs_decides {a = a} {b = b} {c = c} {d = d} there v p start is keeps passes received says decides same = record {
+  plan = keeps;
+  sink = passes;
+  cause = tt;
+  said = λ bytes holds. subst (λ (s : Start). Receives c d (said_in s)) (sym (same bytes holds)) (subst (λ (l : List ℕ). Receives c d l) (sym (says bytes)) received);
+  decided = λ bytes holds. subst (λ (s : Start). IsDecided v b (λ place. bytes) s) (sym (same bytes holds)) (decides bytes (holds_on there bytes keeps holds));
+  broken = tt;
+}
+
+kept-where : (force was rev : Bool) (kept other : Start) → rev ≡ false → (if force || was || not rev then kept else other) ≡ kept
+kept-where true was rev kept other is = refl
+kept-where false true rev kept other is = refl
+kept-where false false false kept other is = refl
+kept-where false false true kept other is = absurd (cc)
+
+other-where : (force was rev : Bool) (kept other : Start) → force ≡ false → was ≡ false → rev ≡ true → (if force || was || not rev then kept else other) ≡ other
+other-where false false true kept other calm first is = refl
+other-where false false false kept other calm first is = absurd (cc)
+other-where false true rev kept other calm first is = absurd (cc)
+other-where true was rev kept other calm first is = absurd (cc)
+
+module _ (t : PlainTurn) (place : ℕ) (bytes : Option (List ℕ)) (was_turned : Bool) (side : Side) where
+  abbrev over : Start
+  over = if turns_round t then tries (silenced t.options (reversed_line true)) place (other_side side) else skips_at (silenced t.options (reversed_line false)) place side bytes
+
+  -- the first hunk doesn't look reversed
+  pub direction-kept : is_reversed t.options (lines_in bytes) side (first_hunk t.item.patch.change) ≡ false → on_direction t place bytes was_turned side ≡ tries [] place side
+  direction-kept is = kept-where t.options.force was_turned (is_reversed t.options (lines_in bytes) side (first_hunk t.item.patch.change)) (tries [] place side) over is
+
+  -- it does, and the file patch is turned round or skipped
+  pub direction-over : (turned : Bool) → turns_round t ≡ turned → t.options.force ≡ false → was_turned ≡ false → is_reversed t.options (lines_in bytes) side (first_hunk t.item.patch.change) ≡ true
+      → on_direction t place bytes was_turned side ≡ (if turned then tries (silenced t.options (reversed_line true)) place (other_side side) else skips_at (silenced t.options (reversed_line false)) place side bytes)
+  direction-over turned turns calm first is =
+      other-where t.options.force was_turned (is_reversed t.options (lines_in bytes) side (first_hunk t.item.patch.change)) (tries [] place side) over calm first is
+      ∙ ap (λ (x : Bool). if x then tries (silenced t.options (reversed_line true)) place (other_side side) else skips_at (silenced t.options (reversed_line false)) place side bytes) turns
+
 nothing-first : (s : Start) → said_first [] s ≡ s
 nothing-first (skips said row taken) = refl
 nothing-first (refuses said fault) = refl
@@ -111,6 +150,9 @@ module _ (lacks force : Bool) (p : List ℕ) (go stop : Start) where
 
   warns : lacks ≡ true → force ≡ true → said_first p go ≡ (if not lacks then go else if force then said_first p go else stop)
   warns is forced = sym (ap (λ b. if not b then go else if force then said_first p go else stop) is ∙ ap (λ b. if b then said_first p go else stop) forced)
+
+  stops : lacks ≡ true → force ≡ false → (if not lacks then go else if force then said_first p go else stop) ≡ stop
+  stops is calm = ap (λ b. if not b then go else if force then said_first p go else stop) is ∙ ap (λ b. if b then said_first p go else stop) calm
 
   speaks : lacks ≡ true → said_in stop ≡ p → said_in (if not lacks then go else if force then said_first p go else stop) ≡ p ++ (if force then said_in go else [])
   speaks is own = ap (λ b. said_in (if not b then go else if force then said_first p go else stop)) is ∙ either force
@@ -125,6 +167,9 @@ module _ (t : PlainTurn) (place : ℕ) (bytes : Option (List ℕ)) (was_turned :
 
   pub prereq-warns : lacks_word t.item.patch.header.prereq bytes ≡ true → t.options.force ≡ true → said_first (prereq_said t) (on_direction t place bytes was_turned side) ≡ on_prereq t place bytes was_turned side
   prereq-warns is forced = warns (lacks_word t.item.patch.header.prereq bytes) t.options.force (prereq_said t) (on_direction t place bytes was_turned side) (skips_at (prereq_said t) place side bytes) is forced
+
+  pub prereq-stops : lacks_word t.item.patch.header.prereq bytes ≡ true → t.options.force ≡ false → on_prereq t place bytes was_turned side ≡ skips_at (prereq_said t) place side bytes
+  prereq-stops is calm = stops (lacks_word t.item.patch.header.prereq bytes) t.options.force (prereq_said t) (on_direction t place bytes was_turned side) (skips_at (prereq_said t) place side bytes) is calm
 
   -- what is said behind the line on the word
   abbrev pub behind_prereq : List ℕ

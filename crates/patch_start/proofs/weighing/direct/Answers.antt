@@ -1,11 +1,15 @@
-use Rattle.std.proofs.Common.{◌∙◌, [], sym, ap}
+use Rattle.std.proofs.Common.{◌∙◌, [], true, false, refl, sym, ap}
 use Rattle.std.proofs.lemmas.List.{append-nil}
+use Rattle.outside.specs.SinkView.{sink_passes_none}
+use Rattle.outside.proofs.Writing.{received_none}
+use Rattle.hunk_core.specs.Turned.{other_side}
 use Rattle.patch_options.specs.PlainJob.{plain_options}
 use Rattle.say_text.specs.Messages.{silenced, reversed_line}
-use Rattle.patch_start.specs.Start.{on_direction, lines_in}
+use Rattle.patch_start.specs.Start.{tries, skips_at, on_direction, lines_in}
 use Rattle.patch_task.specs.TaskView.{plain_task}
-use Rattle.patch_start.proofs.Deciding.{weighs_fails, weighs_stops, direction-said}
+use Rattle.patch_start.proofs.Deciding.{weighs_fails, weighs_stops, weighs_decides, direction-said, direction-kept, direction-over}
 use Rattle.outside.proofs.Exits.{if_ok_none}
+use Rattle.patch_start.specs.declared.starting.Decision.TheVariants.{Skip, Try}
 use Rattle.patch_start.proofs.weighing.direct.Goals as goal
 
 pub returns-in_err-say_reversed-clause-weighs : goal.returns-in_err-say_reversed-clause-weighs
@@ -56,3 +60,30 @@ returns-then-task-clause-rest g c = g.met.O.Sink.rest_none _
 
 pub returns-then-task-clause-within : goal.returns-then-task-clause-within
 returns-then-task-clause-within g c = c.requires.within
+
+pub returns-then-not-branch-clause-weighs : goal.returns-then-not-branch-clause-weighs
+returns-then-not-branch-clause-weighs g c =
+    let t = plain_task c.args.task.now in
+    weighs_decides c.args.there (Try c.args.place c.args.side) [] (λ bytes. on_direction t c.args.place bytes c.args.was_turned c.args.side) (λ bytes. tries [] c.args.place c.args.side)
+    c.in_ok-is_reversed.ensures.keeps (sink_passes_none (g.O.Sink.view c.args.out.now)) (received_none (g.O.Sink.view c.args.out.now)) (λ bytes. refl) (λ bytes holds. (refl, holds.0))
+    (λ bytes holds. direction-kept t c.args.place bytes c.args.was_turned c.args.side (sym (c.in_ok-is_reversed.ensures.value (lines_in bytes) holds.0) ∙ c.if-not-branch.true))
+
+pub returns-then-is_turned-clause-weighs : goal.returns-then-is_turned-clause-weighs
+returns-then-is_turned-clause-weighs g c =
+    let t = plain_task c.args.task.now in
+    let options = plain_options c.args.task.now.options.now in
+    weighs_decides c.args.there (Try c.args.place c.other-side.result) (silenced options (reversed_line c.turns_round-is_turned.result)) (λ bytes. on_direction t c.args.place bytes c.args.was_turned c.args.side)
+    (λ bytes. tries (silenced options (reversed_line true)) c.args.place (other_side c.args.side))
+    c.in_ok-is_reversed.ensures.keeps c.in_ok-say_reversed.ensures.writes.call.passes c.in_ok-say_reversed.ensures.writes.received (λ bytes. ap (λ turned. silenced options (reversed_line turned)) (sym c.if-is_turned.true))
+    (λ bytes holds. (ap (Try c.args.place) c.other-side.ensures, holds.0))
+    (λ bytes holds. direction-over t c.args.place bytes c.args.was_turned c.args.side true (sym c.turns_round-is_turned.ensures ∙ c.if-is_turned.true) c.if-task.false c.if-was_turned.false (sym (c.in_ok-is_reversed.ensures.value (lines_in bytes) holds.0) ∙ c.if-not-branch.false))
+
+pub returns-else-is_turned-clause-weighs : goal.returns-else-is_turned-clause-weighs
+returns-else-is_turned-clause-weighs g c =
+    let t = plain_task c.args.task.now in
+    let options = plain_options c.args.task.now.options.now in
+    weighs_decides c.args.there c.skip_at.result (silenced options (reversed_line c.turns_round-is_turned.result)) (λ bytes. on_direction t c.args.place bytes c.args.was_turned c.args.side)
+    (λ bytes. skips_at (silenced options (reversed_line false)) c.args.place c.args.side bytes)
+    c.in_ok-is_reversed.ensures.keeps c.in_ok-say_reversed.ensures.writes.call.passes c.in_ok-say_reversed.ensures.writes.received (λ bytes. ap (λ turned. silenced options (reversed_line turned)) (sym c.if-is_turned.false))
+    (λ bytes holds. c.skip_at.ensures)
+    (λ bytes holds. direction-over t c.args.place bytes c.args.was_turned c.args.side false (sym c.turns_round-is_turned.ensures ∙ c.if-is_turned.false) c.if-task.false c.if-was_turned.false (sym (c.in_ok-is_reversed.ensures.value (lines_in bytes) holds.0) ∙ c.if-not-branch.false))

@@ -1,11 +1,11 @@
-use Rattle.std.proofs.Common.{◌∙◌, ◌++◌, List, ℕ, [], sym, ap, subst}
+use Rattle.std.proofs.Common.{◌∙◌, ◌++◌, List, ℕ, [], refl, sym, ap, subst}
 use Rattle.outside.specs.SinkView.{sink_passes_none, Receives}
 use Rattle.outside.proofs.Writing.{received_none}
 use Rattle.patch_options.specs.PlainJob.{plain_options}
 use Rattle.say_text.specs.Messages.{silenced, prereq_line}
-use Rattle.patch_start.specs.Start.{on_direction, on_prereq, prereq_said}
+use Rattle.patch_start.specs.Start.{skips_at, on_direction, on_prereq, prereq_said}
 use Rattle.patch_task.specs.TaskView.{plain_task}
-use Rattle.patch_start.proofs.Deciding.{weighs_fails, weighs_stops, weighs_after, prereq-suits, prereq-warns, prereq-speaks, behind_prereq}
+use Rattle.patch_start.proofs.Deciding.{weighs_fails, weighs_stops, weighs_after, weighs_decides, prereq-stops, prereq-suits, prereq-warns, prereq-speaks, behind_prereq}
 use Rattle.patch_start.proofs.weighing.weigh.Goals as goal
 
 pub returns-in_err-lacks_word-clause-weighs : goal.returns-in_err-lacks_word-clause-weighs
@@ -56,3 +56,12 @@ returns-then-task-clause-rest g c = g.met.O.Sink.rest_both _ _ _ c.in_ok-say_pre
 
 pub returns-then-task-clause-within : goal.returns-then-task-clause-within
 returns-then-task-clause-within g c = c.direct-then-task.ensures.within
+
+pub returns-else-task-clause-weighs : goal.returns-else-task-clause-weighs
+returns-else-task-clause-weighs g c =
+    let t = plain_task c.args.task.now in
+    weighs_decides c.args.there c.skip_at.result (prereq_said t) (λ bytes. on_prereq t c.args.place bytes c.args.was_turned c.args.side) (λ bytes. skips_at (prereq_said t) c.args.place c.args.side bytes)
+    c.in_ok-lacks_word.ensures.keeps c.in_ok-say_prereq.ensures.writes.call.passes
+    (subst (λ (word : List ℕ). Receives (g.O.Sink.view c.args.out.now) (g.O.Sink.view c.say_prereq.new.out) (silenced (plain_options c.args.task.now.options.now) (prereq_line c.args.task.now.options.now.force word))) c.prereq_word.ensures c.in_ok-say_prereq.ensures.writes.received)
+    (λ bytes. refl) (λ bytes holds. c.skip_at.ensures)
+    (λ bytes holds. prereq-stops t c.args.place bytes c.args.was_turned c.args.side (sym (c.in_ok-lacks_word.ensures.value bytes holds) ∙ c.if-not-branch.false) c.if-task.false)
