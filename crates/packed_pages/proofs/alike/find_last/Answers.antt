@@ -56,3 +56,9 @@ returns-clause-within g c = tt
 
 pub returns-clause-cause : goal.returns-clause-cause
 returns-clause-cause g c = tt
+
+pub last_between-requires-clause-held : goal.last_between-requires-clause-held
+last_between-requires-clause-held g c = c.loop-end.invariant.held
+
+pub last_between-requires-clause-marked : goal.last_between-requires-clause-marked
+last_between-requires-clause-marked g c = c.loop-end.invariant.marked

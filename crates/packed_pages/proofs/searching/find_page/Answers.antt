@@ -1,3 +1,4 @@
+use Rattle.outside.proofs.Exits.{if_ok_none}
 use Rattle.std.proofs.Common.{◌-◌, refl, ◌∙◌, arith}
 use Rattle.outside.specs.ScratchView.{scratch_passes_none, scratch_passes_both}
 use Rattle.packed_pages.proofs.Spans.{span-all, reads-half}
@@ -22,3 +23,39 @@ loop-span-preserved g c =
       span = c.in_ok-span.ensures.span;
       entries = λ b told. c.in_ok-span.ensures.entries b (c.loop-span.invariant.told ∙ told);
     }
+
+pub returns-in_err-span-clause-passes : goal.returns-in_err-span-clause-passes
+returns-in_err-span-clause-passes g c = scratch_passes_both c.loop-span.invariant.passes c.in_err-span.ensures.passes
+
+pub returns-in_err-span-clause-told : goal.returns-in_err-span-clause-told
+returns-in_err-span-clause-told g c = c.in_err-span.ensures.told ∙ c.loop-span.invariant.told
+
+pub returns-in_err-span-clause-span : goal.returns-in_err-span-clause-span
+returns-in_err-span-clause-span g c = if_ok_none _ _ c.from_residual.result c.from_residual.ensures.1
+
+pub returns-in_err-span-clause-one : goal.returns-in_err-span-clause-one
+returns-in_err-span-clause-one g c = if_ok_none _ _ c.from_residual.result c.from_residual.ensures.1
+
+pub returns-in_err-span-clause-entries : goal.returns-in_err-span-clause-entries
+returns-in_err-span-clause-entries g c = if_ok_none _ _ c.from_residual.result c.from_residual.ensures.1
+
+pub returns-clause-passes : goal.returns-clause-passes
+returns-clause-passes g c = c.loop-span.invariant.passes
+
+pub returns-clause-told : goal.returns-clause-told
+returns-clause-told g c = c.loop-span.invariant.told
+
+pub returns-clause-span : goal.returns-clause-span
+returns-clause-span g c = c.loop-span.invariant.span
+
+pub returns-clause-entries : goal.returns-clause-entries
+returns-clause-entries g c = c.loop-span.invariant.entries
+
+pub returns-clause-cause : goal.returns-clause-cause
+returns-clause-cause g c = tt
+
+pub halve-requires-clause-layout : goal.halve-requires-clause-layout
+halve-requires-clause-layout g c = c.requires.layout
+
+pub halve-requires-clause-span : goal.halve-requires-clause-span
+halve-requires-clause-span g c = c.loop-span.invariant.span
