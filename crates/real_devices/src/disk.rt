@@ -38,6 +38,12 @@ pub struct Places {
 pub struct Disk<'r, R: Files<File = File>> {
     files: OpenFiles<'r, R>,
     faults: Faults,
+    seen: Seen,
+}
+
+/// What is kept of the files that are read, for the lines behind a run.
+#[derive(Drop)]
+struct Seen {
     places: Places,
     passed: Passed,
     ends: LineEnds,
@@ -50,9 +56,11 @@ impl<'r, R: Files<File = File>> Disk<'r, R> {
         Disk {
             files: OpenFiles::new(alloc, rt, places.is_stack),
             faults: Faults::new(alloc),
-            places,
-            passed: Passed::new(alloc),
-            ends: LineEnds::new(alloc),
+            seen: Seen {
+                places,
+                passed: Passed::new(alloc),
+                ends: LineEnds::new(alloc),
+            },
         }
     }
 
@@ -68,17 +76,17 @@ impl<'r, R: Files<File = File>> Disk<'r, R> {
 
     /// The name of the last file that was looked for and isn't there, and why, as `d/n: not found`.
     pub fn missing(&self) -> Result<Option<String>, AllocError> {
-        self.files.missing(self.places.has_input)
+        self.files.missing(self.seen.places.has_input)
     }
 
     /// What is kept of the patch text that was read last.
     pub fn passed(&self) -> &Passed {
-        &self.passed
+        &self.seen.passed
     }
 
     /// How the lines of the files end that were read to be patched.
     pub fn ends(&self) -> &LineEnds {
-        &self.ends
+        &self.seen.ends
     }
 
     /// A file of up to 1 MiB, where it is there. No fault is counted, so it is asked behind a run.
@@ -104,49 +112,44 @@ impl<'r, R: Files<File = File>> Disk<'r, R> {
     }
 }
 
+impl Seen {
+    /// Keeps which file has the patch text.
+    fn note_file(&mut self, name: &str) {
+        if is_patch(&self.places, name) {
+            self.passed.name(name);
+        }
+    }
+
+    /// Looks at what was read, where that is the front of a file.
+    fn see(&mut self, name: &str, at: u64, read: &io::Result<usize>, buf: &[u8]) {
+        if let (0, Ok(count)) = (at, read) {
+            self.see_front(name, buf.get(..*count).unwrap_or(&[]));
+        }
+    }
+
+    /// Lets a patch text go by, which is read at once, or notes how the first line ends of a file that may be patched: it has no
+    /// patch text, and keeps nothing of a stack.
+    fn see_front(&mut self, name: &str, front: &[u8]) {
+        if is_patch(&self.places, name) {
+            self.passed.whole(front);
+        } else if !is_kept(&self.places, name) {
+            self.ends.note(name, front);
+        }
+    }
+}
+
 /// Whether the file has a patch text of which something is said behind the run.
 fn is_patch(places: &Places, name: &str) -> bool {
     match &places.patch {
         Some(patch) => patch.text() == name,
-        None => places.is_text || is_of_series(places, name),
+        None if places.is_text => true,
+        None => places.is_stack && name.starts_with("patches/") && name != "patches/series",
     }
 }
 
-fn is_of_series(places: &Places, name: &str) -> bool {
-    places.is_stack && name.starts_with("patches/") && name != "patches/series"
-}
-
-/// Keeps which file has the patch text.
-fn note_file(passed: &mut Passed, places: &Places, name: &str) {
-    if is_patch(places, name) {
-        passed.name(name);
-    }
-}
-
-/// Lets what was read of a patch text go by, which is read at once.
-fn see(passed: &mut Passed, is_patch: bool, read: &io::Result<usize>, buf: &[u8]) {
-    if let (true, Ok(count)) = (is_patch, read) {
-        passed.whole(buf.get(..*count).unwrap_or(&[]));
-    }
-}
-
-/// Whether the file may be one that is patched: it has no patch text, and keeps nothing of a stack.
-fn is_patched(places: &Places, name: &str) -> bool {
-    let is_kept = name.starts_with("patches/") || name.starts_with(".pc/");
-    !is_patch(places, name) && !(places.is_stack && is_kept)
-}
-
-/// Notes how the first line ends that was read of a file which may be patched.
-fn note_ends(
-    ends: &mut LineEnds,
-    is_front: bool,
-    name: &str,
-    read: &io::Result<usize>,
-    buf: &[u8],
-) {
-    if let (true, Ok(count)) = (is_front, read) {
-        ends.note(name, buf.get(..*count).unwrap_or(&[]));
-    }
+/// Whether the file keeps something of a stack.
+fn is_kept(places: &Places, name: &str) -> bool {
+    places.is_stack && (name.starts_with("patches/") || name.starts_with(".pc/"))
 }
 
 fn text_of(root: &Option<String>) -> &str {
@@ -197,23 +200,22 @@ impl<'r, R: Files<File = File>> Tree for Disk<'r, R> {
     /// That the tree is settled when a run begins is a premise over real files: all that is looked for is its directory, and what
     /// stands at the names that the words give.
     fn settle(&mut self) -> Result<(), Failed> {
-        let (name, done) = begun(&self.files, &self.places);
+        let (name, done) = begun(&self.files, &self.seen.places);
         self.faults.answer(name, done)
     }
 
     fn size(&mut self, name: &Name) -> Result<Option<u64>, Failed> {
-        let done = self.files.size(Path::of(name));
-        note_file(&mut self.passed, &self.places, name.text());
-        self.faults.answer(name.text(), done)
+        let path = Path::of(name);
+        let done = self.files.size(path);
+        self.seen.note_file(path.text);
+        self.faults.answer(path.text, done)
     }
 
     fn read_at(&mut self, name: &Name, at: u64, buf: &mut [u8]) -> Result<usize, Failed> {
-        let done = self.files.read_at(Path::of(name), at, buf);
-        let is_patch = at == 0 && is_patch(&self.places, name.text());
-        see(&mut self.passed, is_patch, &done, buf);
-        let is_front = at == 0 && is_patched(&self.places, name.text());
-        note_ends(&mut self.ends, is_front, name.text(), &done, buf);
-        self.faults.answer(name.text(), done)
+        let path = Path::of(name);
+        let done = self.files.read_at(path, at, buf);
+        self.seen.see(path.text, at, &done, buf);
+        self.faults.answer(path.text, done)
     }
 
     fn has_dir(&mut self, name: &Name, parts: u64) -> Result<bool, Failed> {

@@ -1,9 +1,9 @@
 //! What was said that a line behind the answer tells more of. The texts are those of `say_text`, and each is written as one piece.
 
 /// What stands around the number of a line, where no file was found for a file patch.
-const NO_FILE: &str = "can't find file to patch at input line ";
+const NO_FILE: &[u8] = b"can't find file to patch at input line ";
 
-const SKIPPED: &str = "\nSkipping patch.\n";
+const SKIPPED: &[u8] = b"\nSkipping patch.\n";
 
 /// What stands in front of the name of a reject file.
 const REJECTS: &[u8] = b" FAILED -- saving rejects to file ";
@@ -53,19 +53,9 @@ impl Heard {
 
 /// The line at which no file was found, where the piece says so. No name is taken for that, since none has a line feed.
 fn line_in(piece: &[u8]) -> Option<u64> {
-    if !piece.starts_with(NO_FILE.as_bytes()) {
-        return None;
-    }
-    match std::str::from_utf8(piece) {
-        Ok(text) => line_of(text),
-        Err(_) => None,
-    }
-}
-
-fn line_of(text: &str) -> Option<u64> {
-    let number = text.strip_prefix(NO_FILE)?.strip_suffix(SKIPPED)?;
-    match number.parse::<u64>() {
-        Ok(line) => Some(line),
+    let number = piece.strip_prefix(NO_FILE)?.strip_suffix(SKIPPED)?;
+    match std::str::from_utf8(number) {
+        Ok(number) => number.parse::<u64>().ok(),
         Err(_) => None,
     }
 }

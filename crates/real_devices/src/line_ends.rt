@@ -39,18 +39,14 @@ impl LineEnds {
     pub fn note(&mut self, name: &str, front: &[u8]) {
         self.last.clear();
         let _ = self.last.push_str(name);
-        match is_returned(front) {
-            Some(true) => keep(&mut self.returned, name),
-            Some(false) => keep(&mut self.plain, name),
-            None => {}
+        if let Some(length) = memchr(b'\n', front) {
+            if front.get(..length).unwrap_or(&[]).ends_with(b"\r") {
+                keep(&mut self.returned, name);
+            } else {
+                keep(&mut self.plain, name);
+            }
         }
     }
-}
-
-/// Whether the first line ends in carriage return and line feed, where it is whole.
-fn is_returned(front: &[u8]) -> Option<bool> {
-    let line = front.get(..memchr(b'\n', front)?)?;
-    Some(line.ends_with(b"\r"))
 }
 
 /// Keeps the first name. Without memory that is nothing.

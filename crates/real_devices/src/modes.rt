@@ -34,7 +34,7 @@ impl Modes {
     pub fn whole(&mut self, text: &[u8]) {
         self.lines.clear();
         if text.starts_with(b"diff --git ") {
-            keep(&mut self.lines, text);
+            let _ = is_open(&mut self.lines, text, 0);
         }
         take_headers(&mut self.lines, text);
     }
@@ -53,45 +53,58 @@ impl Modes {
 /// Keeps the lines of the headers that begin behind a line feed of the text, and answers from where on what follows may belong
 /// to one.
 fn take_headers(lines: &mut Vec<u8>, text: &[u8]) -> usize {
+    let mut taken = text.len().saturating_sub(MARK.len() - 1);
     for place in memmem::find_iter(text, MARK) {
-        let header = text.get(place.saturating_add(1)..).unwrap_or(&[]);
-        if !keep(lines, header) && header.len() < LONGEST {
-            return place;
+        if is_open(lines, text, place.saturating_add(1)) {
+            taken = place;
+            break;
         }
     }
-    text.len().saturating_sub(MARK.len() - 1)
+    taken
 }
 
-/// Keeps the lines of the header that say of a mode, and answers whether they end in the text.
-fn keep(lines: &mut Vec<u8>, header: &[u8]) -> bool {
-    match mode_lines(header) {
-        Some(said) => {
-            let _ = lines.extend_from_slice(said);
-            true
+/// Keeps the lines of the header that begins here which say of a mode, and answers whether its end is waited for.
+fn is_open(lines: &mut Vec<u8>, text: &[u8], begin: usize) -> bool {
+    let header = text.get(begin..).unwrap_or(&[]);
+    match modes_end(header) {
+        Some(end) => {
+            let _ = lines.extend_from_slice(header.get(..end).unwrap_or(&[]));
+            false
         }
-        None => false,
+        None => header.len() < LONGEST,
     }
 }
 
-/// The first line of the header and those of the modes behind it, none of them where there are no modes. Where the text ends
-/// first there is no answer.
-fn mode_lines(header: &[u8]) -> Option<&[u8]> {
+/// Where the lines of the modes end behind the first line of the header, or 0 where there are no modes. Where the text ends first
+/// there is no answer.
+fn modes_end(header: &[u8]) -> Option<usize> {
     let first = line_end(header, 0)?;
     let second = line_end(header, first)?;
-    let said = header.get(first..second)?;
-    if said.starts_with(b"new file mode ") || said.starts_with(b"deleted file mode ") {
-        return header.get(..second);
+    match modes_of(header.get(first..second).unwrap_or(&[])) {
+        0 => Some(0),
+        1 => Some(second),
+        _ => line_end(header, second),
     }
-    if !said.starts_with(b"old mode ") {
-        return header.get(..0);
+}
+
+/// How many lines say of a mode where this is the first one.
+fn modes_of(line: &[u8]) -> usize {
+    if line.starts_with(b"old mode ") {
+        return 2;
     }
-    header.get(..line_end(header, second)?)
+    if line.starts_with(b"new file mode ") || line.starts_with(b"deleted file mode ") {
+        1
+    } else {
+        0
+    }
 }
 
 /// Where the line ends that begins here.
 fn line_end(text: &[u8], begin: usize) -> Option<usize> {
-    let length = memchr(b'\n', text.get(begin..)?)?;
-    Some(begin.saturating_add(length).saturating_add(1))
+    match memchr(b'\n', text.get(begin..).unwrap_or(&[])) {
+        Some(length) => Some(begin.saturating_add(length).saturating_add(1)),
+        None => None,
+    }
 }
 
 /// Lets what stands in front of a place go.

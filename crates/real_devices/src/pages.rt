@@ -62,21 +62,19 @@ impl<'r, R: Files<File = File>> Pages<'r, R> {
     }
 }
 
-/// Takes away what the file holds, and makes it where there is none.
+/// Takes away what the file holds, or makes a new one in place of an old one of that name, so that a planted link is never
+/// followed. Only its owner reads it, since it holds the lines of files that may be private.
 fn empty<R: Files<File = File>>(rt: &R, kept: &mut Option<File>) -> io::Result<()> {
     match kept {
         Some(file) => file.set_len(0),
-        None => {
-            *kept = Some(make_scratch(rt)?);
-            Ok(())
-        }
+        None => match make_anew(rt, NAME, 0o600) {
+            Ok(file) => {
+                *kept = Some(file);
+                Ok(())
+            }
+            Err(error) => Err(error),
+        },
     }
-}
-
-/// A new file in place of an old one of that name, so that a planted link is never followed. Only its owner reads it, since
-/// it holds the lines of files that may be private.
-fn make_scratch<R: Files>(rt: &R) -> io::Result<R::File> {
-    make_anew(rt, NAME, 0o600)
 }
 
 impl<'r, R: Files<File = File>> Scratch for Pages<'r, R> {
