@@ -3,7 +3,7 @@ ghost use Rattle.std.specs.Prelude.{◌≡◌, ◌++◌, ◌∷◌, [], ℕ, Lis
 ghost use Rattle.std.specs.Option.{option_copied};
 ghost use Rattle.outside.specs.SinkView.{Writes};
 ghost use Rattle.run_answers.specs.Answers.{is_ended};
-ghost use Rattle.run_answers.specs.Reasons.{refusal_line, is_tool, tool_of, reason_of, kind_text, decimal_if, text_of, behind_front, behind_first, behind_middle};
+ghost use Rattle.run_answers.specs.Reasons.{refusal_line, is_tool, tool_of, reason_of, kind_text, decimal_if, text_of, behind_first};
 ghost use Rattle.run_answers.specs.declared.why.Why.TheVariants.{Malformed};
 
 use crate::why::Why;
@@ -70,13 +70,6 @@ fn put_behind_tool<E: Sink>(err: &mut E, why: Why) -> Result<(), Failed>
     ensures rest { E.same_rest err.old err.new }
 {
     put_all(err, b": **** ")?;
-    put_to_end(err, why)
-}
-
-fn put_to_end<E: Sink>(err: &mut E, why: Why) -> Result<(), Failed>
-    ensures writes { Writes (E.view err.old) (E.view err.new) result (reason_of why ++ 10 ∷ []) }
-    ensures rest { E.same_rest err.old err.new }
-{
     put_reason(err, &reason_of(why))?;
     put_all(err, b"\n")
 }
@@ -198,13 +191,6 @@ fn put_reason<E: Sink>(err: &mut E, reason: &Reason) -> Result<(), Failed>
     ensures rest { E.same_rest err.old err.new }
 {
     put_all(err, reason.front)?;
-    put_behind_front(err, reason)
-}
-
-fn put_behind_front<E: Sink>(err: &mut E, reason: &Reason) -> Result<(), Failed>
-    ensures writes { Writes (E.view err.old) (E.view err.new) result (behind_front reason.now) }
-    ensures rest { E.same_rest err.old err.new }
-{
     put_decimal(err, reason.first)?;
     put_behind_first(err, reason)
 }
@@ -214,13 +200,6 @@ fn put_behind_first<E: Sink>(err: &mut E, reason: &Reason) -> Result<(), Failed>
     ensures rest { E.same_rest err.old err.new }
 {
     put_all(err, reason.middle)?;
-    put_behind_middle(err, reason)
-}
-
-fn put_behind_middle<E: Sink>(err: &mut E, reason: &Reason) -> Result<(), Failed>
-    ensures writes { Writes (E.view err.old) (E.view err.new) result (behind_middle reason.now) }
-    ensures rest { E.same_rest err.old err.new }
-{
     put_decimal(err, reason.second)?;
     put_all(err, reason.end)
 }
