@@ -41,6 +41,28 @@ first-told test told text same (p ∷ ps) =
     by true again = refl
     by false again = again
 
+-- ---- the first file patch that is found
+
+-- the opening of the first file patch that the test takes
+abbrev pub first_line : (FilePatch → Bool) → List FilePatch → Option ℕ
+first_line test ps = option_map (λ p. p.header.opening) (find test ps)
+
+first-next : (test : FilePatch → Bool) (ps : List FilePatch) (i : ℕ) (p : FilePatch) (b : Bool) → i < length ps → p ≡ get_or ps i p → b ≡ test p → first_line test (drop i ps) ≡ option_map (λ q. q.header.opening) (cond b (Some p) (find test (drop (i + 1) ps)))
+first-next test ps i p b lt is same =
+    ap (first_line test) (drop_more ps i p lt ∙ ap (λ q. q ∷ drop (i + 1) ps) (sym is))
+    ∙ ap (λ t. option_map (λ q. q.header.opening) (cond t (Some p) (find test (drop (i + 1) ps)))) (sym same)
+
+pub first-here : (test : FilePatch → Bool) (ps : List FilePatch) (i : ℕ) (p : FilePatch) (b : Bool) → i < length ps → p ≡ get_or ps i p → b ≡ test p → b ≡ true → first_line test (drop i ps) ≡ Some p.header.opening
+first-here test ps i p b lt is same here =
+    first-next test ps i p b lt is same ∙ ap (λ t. option_map (λ q. q.header.opening) (cond t (Some p) (find test (drop (i + 1) ps)))) here
+
+pub first-on : (test : FilePatch → Bool) (ps : List FilePatch) (i : ℕ) (p : FilePatch) (b : Bool) → i < length ps → p ≡ get_or ps i p → b ≡ test p → b ≡ false → first_line test (drop i ps) ≡ first_line test (drop (i + 1) ps)
+first-on test ps i p b lt is same on =
+    first-next test ps i p b lt is same ∙ ap (λ t. option_map (λ q. q.header.opening) (cond t (Some p) (find test (drop (i + 1) ps)))) on
+
+pub first-end : (test : FilePatch → Bool) (ps : List FilePatch) (i : ℕ) → length ps ≤ i → first_line test (drop i ps) ≡ None
+first-end test ps i all = ap (first_line test) (drop_all i ps all)
+
 -- the refusal, by the first ed script and the first file patch that doesn't fit
 refused-is : (text : List ℕ) (ps : List FilePatch) → refused (map (patch_of text) ps) ≡ option_or (option_map EdReverse (option_map (λ p. p.header.opening) (find (λ p. is_script_change p.change) ps))) (option_map Unfit (option_map (λ p. p.header.opening) (find told_unfit ps)))
 refused-is text ps =

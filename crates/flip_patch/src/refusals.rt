@@ -55,16 +55,26 @@ fn is_unfit(patch: &FilePatch) -> bool
 fn first_script(patches: &[FilePatch]) -> Option<u64>
     ensures { result ≡ option_map (λ p. p.header.opening) (find (λ p. is_script_change p.change) patches.now) }
 {
-    let patch = patches.iter().find(|patch| is_script(patch))?;
-    Some(patch.header.opening)
+    for i in 0..patches.len() {
+        let patch = &patches[i];
+        if is_script(patch) {
+            return Some(patch.header.opening);
+        }
+    }
+    None
 }
 
 /// The opening of the first file patch that doesn't fit.
 fn first_unfit(patches: &[FilePatch]) -> Option<u64>
     ensures { result ≡ option_map (λ p. p.header.opening) (find told_unfit patches.now) }
 {
-    let patch = patches.iter().find(|patch| is_unfit(patch))?;
-    Some(patch.header.opening)
+    for i in 0..patches.len() {
+        let patch = &patches[i];
+        if is_unfit(patch) {
+            return Some(patch.header.opening);
+        }
+    }
+    None
 }
 
 /// Why file patches aren't turned round.
