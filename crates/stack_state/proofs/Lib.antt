@@ -1,3 +1,4 @@
 mod Named
 mod Counting
 mod Stacking
+mod Saving
