@@ -24,8 +24,13 @@ fn begin<'a>(alloc: Global, start: u32, name: &'a [u8]) -> Result<Part<'a>, Allo
     ensures names { IfOk result (λ part. AreNames (name.now ∷ []) part.names) }
 {
     let mut names = BTreeSet::new(alloc);
-    names.insert(name)?;
-    Ok(Part { start, names })
+    match names.insert(name) {
+        Ok(_) => Ok(Part { start, names }),
+        Err(_) => {
+            drop(names);
+            Err(AllocError)
+        }
+    }
 }
 
 /// Whether a file patch with this name begins the next part.
@@ -58,8 +63,10 @@ fn take<'a>(
         let next = begin(alloc, end, name)?;
         return Ok(next);
     }
-    part.names.insert(name)?;
-    Ok(part)
+    match part.names.insert(name) {
+        Ok(_) => Ok(part),
+        Err(_) => Err(AllocError),
+    }
 }
 
 fn cut(alloc: Global, set: &PatchSet, every: bool, end: u32) -> Result<Vec<Span>, AllocError>
@@ -68,15 +75,14 @@ fn cut(alloc: Global, set: &PatchSet, every: bool, end: u32) -> Result<Vec<Span>
     requires end { end ≡ length set.now.text }
     ensures { IfOk result (λ spans. spans.items ≡ parts every set.now) }
 {
-    let mut parts = Vec::new(alloc);
     let mut part = begin(alloc, 0, set.plain_name(0))?;
+    let mut parts = Vec::new(alloc);
     for patch in 1..set.patches().len() {
         part = take(alloc, set, patch as u32, every, part, &mut parts)?;
     }
-    parts.push(Span {
-        start: part.start,
-        end,
-    })?;
+    let start = part.start;
+    drop(part);
+    parts.push(Span { start, end })?;
     Ok(parts)
 }
 

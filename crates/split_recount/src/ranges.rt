@@ -44,11 +44,21 @@ fn range_of(bytes: &[u8]) -> Option<(Range, &[u8])>
 fn parts_of(line: &[u8]) -> Option<(Range, Range, &[u8])>
     ensures { Reads (λ x. (both_ranges x.0 x.1, x.2.now)) result (range_parts line.now) }
 {
-    let rest = after_prefix(line, b"@@ -")?;
-    let (old, rest) = range_of(rest)?;
-    let rest = after_prefix(rest, b" +")?;
-    let (new, rest) = range_of(rest)?;
-    let rest = after_prefix(rest, b" @@")?;
+    let Some(rest) = after_prefix(line, b"@@ -") else {
+        return None;
+    };
+    let Some((old, rest)) = range_of(rest) else {
+        return None;
+    };
+    let Some(rest) = after_prefix(rest, b" +") else {
+        return None;
+    };
+    let Some((new, rest)) = range_of(rest) else {
+        return None;
+    };
+    let Some(rest) = after_prefix(rest, b" @@") else {
+        return None;
+    };
     Some((old, new, rest))
 }
 

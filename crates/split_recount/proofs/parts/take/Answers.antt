@@ -13,8 +13,8 @@ returns-then-begins c = λ p is.
     goes-cut c.args.every (row_of v.text p) c.args.part c.args.parts.now.items c.in_ok-next.next c.push.new.self.items c.plain_name-name.result.now _
     (c.plain_name-name.ensures p is) at (sym c.begins.ensures ∙ c.if-begins.true) c.in_ok-push.ensures.items c.in_ok-next.ensures.start c.in_ok-next.ensures.names
 
-pub returns : goal.returns
-returns c = λ p is.
+pub returns-in-Ok : goal.returns-in-Ok
+returns-in-Ok c = λ p is.
     let v = c.args.set.now in
     goes-in c.args.every (row_of v.text p) c.args.part c.args.parts.now.items _ c.plain_name-name.result
-    (c.plain_name-name.ensures p is) (sym c.begins.ensures ∙ c.if-begins.false) refl c.in_ok-insert.ensures.updates
+    (c.plain_name-name.ensures p is) (sym c.begins.ensures ∙ c.if-begins.false) refl c.in-Ok.ensures.updates
