@@ -39,7 +39,7 @@ pub fn new_mark(form: Form) -> &'static [u8]
 fn has_space(name: &[u8]) -> bool
     ensures { result ≡ holds_space name.now }
 {
-    name.iter().any(|b| *b == b' ')
+    name.contains(&b' ')
 }
 
 /// A tab keeps a name with a space in one piece.
