@@ -1,6 +1,6 @@
 -- A text that is refused, and a file that is missing, give no patch.
 use Rattle.std.proofs.Common.{◌≡◌, ◌⊎◌, inl, inr, ℕ, List, length, Bool, true, false, Option, None, Some, refl, sym, ◌∙◌, ap, subst, arith, if◌then◌else◌}
-use Rattle.std.specs.Prelude.{Result, Ok, Err, IfOk, nat_le, nat_lt}
+use Rattle.std.specs.Prelude.{Result, Ok, Err, IfOk, IfErr, nat_le, nat_lt}
 use Rattle.std.specs.FinMap.{get}
 use Rattle.std.proofs.lemmas.Bool.Decides.{nat_tests}
 use Rattle.outside.specs.Files.{Files}
@@ -21,7 +21,7 @@ use Rattle.stack_reader.proofs.Sets.{set_read}
 use Rattle.stack_reader.proofs.Lawful.{options_lawful}
 use Rattle.stack_patch.specs.declared.PushFault.{PushFault}
 use Rattle.stack_patch.specs.declared.PushFault.TheVariants.{Input, Set}
-use Rattle.stack_patch.specs.Causes.{IsRefusedSo, IsRefusal, RefusesSome}
+use Rattle.stack_patch.specs.Causes.{HasCause, IsRefusedSo, IsRefusal, RefusesSome}
 use Rattle.stack_patch.specs.Pushes.{IsPush}
 
 pub lawful_as : (o : PlainOptions) → o ≡ push_options → IsLawful o
@@ -83,3 +83,16 @@ pushed u name text (Err e) held read patch = tt
 pub some_refused : (o : PlainOptions) (text : List ℕ) (fault : SetFault) → o ≡ push_options → (fault ≡ faults.Memory) ⊎ (refusal o text ≡ Some fault) → RefusesSome (Set fault)
 some_refused o text fault same (inl memory) = (text, inl memory)
 some_refused o text fault same (inr refused) = (text, inr (ap (λ (x : PlainOptions). refusal x text) (sym same) ∙ refused))
+
+-- ---- what is refused of the text is refused of the file that holds it
+
+module _ {R : Type 0} (u w : TreeView) (name text : List ℕ) (held : (f : Files) → u.told ≡ Some f → get f name ≡ Some text) where
+  pub cause_of : (r : Result R PushFault) → IfErr r (λ e. IsRefusedSo e text) → IfErr r (λ e. HasCause e u w name)
+  cause_of (Ok set) is = tt
+  cause_of (Err (Input fault)) is = absurd is
+  cause_of (Err (Set fault)) (inl memory) = inl memory
+  cause_of (Err (Set fault)) (inr refused) = inr (λ f told. (text, (held f told, refused)))
+
+  pub none_of : (r : Result R PushFault) → IfErr r (λ e. IsRefusal e → read_patch (Some text) ≡ None) → IfErr r (λ e. IsRefusal e → (f : Files) → u.told ≡ Some f → read_patch (get f name) ≡ None)
+  none_of (Ok set) none = tt
+  none_of (Err e) none = λ is f told. ap read_patch (held f told) ∙ none is

@@ -1,4 +1,4 @@
-use Rattle.stack_patch.proofs.Refusing.{file_none, pushed}
+use Rattle.stack_patch.proofs.Refusing.{cause_of, file_none, none_of, pushed}
 use Rattle.stack_patch.proofs.read_push.Goals as goal
 
 pub returns-in-Err-clause-none : goal.returns-in-Err-clause-none
@@ -6,3 +6,9 @@ returns-in-Err-clause-none g c = file_none c.in-Err.fault (g.T.Tree.view c.args.
 
 pub returns-in-Ok-clause-push : goal.returns-in-Ok-clause-push
 returns-in-Ok-clause-push g c = pushed (g.T.Tree.view c.args.tree.now) c.args.name.now c.in-Ok.text.items c.read_text.result c.in-Ok.ensures.text c.read_text.ensures.read c.read_text.ensures.patch
+
+pub returns-in-Ok-clause-cause : goal.returns-in-Ok-clause-cause
+returns-in-Ok-clause-cause g c = cause_of (g.T.Tree.view c.args.tree.now) (g.T.Tree.view c.read_file.new.tree) c.args.name.now c.in-Ok.text.items c.in-Ok.ensures.text c.read_text.result c.read_text.ensures.cause
+
+pub returns-in-Ok-clause-none : goal.returns-in-Ok-clause-none
+returns-in-Ok-clause-none g c = none_of (g.T.Tree.view c.args.tree.now) (g.T.Tree.view c.read_file.new.tree) c.args.name.now c.in-Ok.text.items c.in-Ok.ensures.text c.read_text.result c.read_text.ensures.none
