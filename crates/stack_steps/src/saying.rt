@@ -51,7 +51,9 @@ pub fn say_tally<O: Sink>(out: &mut O, applied: u32, all: u32) -> Result<(), Fai
     ensures rest { O.same_rest out.old out.new }
 {
     put_all(out, b"applied ")?;
-    put_counts(out, applied, all)
+    put_digits(out, applied)?;
+    put_all(out, b" of ")?;
+    put_number_line(out, all)
 }
 
 /// The patch with this name isn't applied, and so many of so many are.
@@ -60,39 +62,9 @@ pub fn say_rejected<O: Sink>(out: &mut O, name: &Name, applied: u32, all: u32) -
     ensures rest { O.same_rest out.old out.new }
 {
     put_all(out, b"Patch ")?;
-    put_behind_patch(out, name, applied, all)
-}
-
-fn put_behind_patch<O: Sink>(out: &mut O, name: &Name, applied: u32, all: u32) -> Result<(), Failed>
-    ensures writes { Writes (O.view out.old) (O.view out.new) result (name.now ++ (codes " does not apply" ++ 10 ∷ tally applied all)) }
-    ensures rest { O.same_rest out.old out.new }
-{
     put_all(out, name.text().as_bytes())?;
-    put_behind_name(out, applied, all)
-}
-
-fn put_behind_name<O: Sink>(out: &mut O, applied: u32, all: u32) -> Result<(), Failed>
-    ensures writes { Writes (O.view out.old) (O.view out.new) result (codes " does not apply" ++ 10 ∷ tally applied all) }
-    ensures rest { O.same_rest out.old out.new }
-{
     put_all(out, b" does not apply\n")?;
     say_tally(out, applied, all)
-}
-
-fn put_counts<O: Sink>(out: &mut O, applied: u32, all: u32) -> Result<(), Failed>
-    ensures writes { Writes (O.view out.old) (O.view out.new) result (decimal applied ++ (codes " of " ++ (decimal all ++ 10 ∷ []))) }
-    ensures rest { O.same_rest out.old out.new }
-{
-    put_digits(out, applied)?;
-    put_of(out, all)
-}
-
-fn put_of<O: Sink>(out: &mut O, all: u32) -> Result<(), Failed>
-    ensures writes { Writes (O.view out.old) (O.view out.new) result (codes " of " ++ (decimal all ++ 10 ∷ [])) }
-    ensures rest { O.same_rest out.old out.new }
-{
-    put_all(out, b" of ")?;
-    put_number_line(out, all)
 }
 
 fn put_number_line<O: Sink>(out: &mut O, number: u32) -> Result<(), Failed>
@@ -118,13 +90,6 @@ fn say<O: Sink>(out: &mut O, words: &[u8], text: &[u8]) -> Result<(), Failed>
     ensures rest { O.same_rest out.old out.new }
 {
     put_all(out, words)?;
-    put_line(out, text)
-}
-
-fn put_line<O: Sink>(out: &mut O, text: &[u8]) -> Result<(), Failed>
-    ensures writes { Writes (O.view out.old) (O.view out.new) result (text.now ++ 10 ∷ []) }
-    ensures rest { O.same_rest out.old out.new }
-{
     put_all(out, text)?;
     put_end(out)
 }

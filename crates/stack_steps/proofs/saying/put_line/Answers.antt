@@ -1,9 +1,0 @@
-use Rattle.std.proofs.Common.{[], ◌∷◌}
-use Rattle.outside.proofs.Writing.{stop_all, then_all}
-use Rattle.stack_steps.proofs.saying.put_line.Goals as goal
-
-pub returns-in_err-put_all-clause-writes : goal.returns-in_err-put_all-clause-writes
-returns-in_err-put_all-clause-writes g c = stop_all c.in_err-put_all.field-0.0 c.from_residual.result (c.args.text.now) (10 ∷ []) c.from_residual.ensures.0 c.in_err-put_all.ensures.call c.in_err-put_all.ensures.failed
-
-pub returns-clause-writes : goal.returns-clause-writes
-returns-clause-writes g c = then_all c.in_ok-put_all.field-0 c.put_end.result (c.args.text.now) (10 ∷ []) c.in_ok-put_all.ensures.call c.in_ok-put_all.ensures.received c.put_end.ensures.writes
