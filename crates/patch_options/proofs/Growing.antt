@@ -28,14 +28,16 @@ pub told_if : {E : Type 0} (r : Result (Unit {0}) E) (old : List ℕ) {new text 
 told_if (Ok u) old is f = f is
 told_if (Err e) old is f = tt
 
-pub two_told : (old a b : List ℕ) {e new : List ℕ} → e ≡ old ++ a → new ≡ e ++ b → new ≡ old ++ (a ++ b)
+two_told : (old a b : List ℕ) {e new : List ℕ} → e ≡ old ++ a → new ≡ e ++ b → new ≡ old ++ (a ++ b)
 two_told old a b is-e is-new = rw (is-new, is-e) (append_assoc old a b)
 
 pub three_told : (old a b c : List ℕ) {e f new : List ℕ} → e ≡ old ++ a → f ≡ e ++ b → new ≡ f ++ c → new ≡ old ++ (a ++ (b ++ c))
 three_told old a b c is-e is-f is-new = rw (is-new, is-f, is-e) (simp append_assoc)
 
-pub four_told : (old a b c d : List ℕ) {e f g new : List ℕ} → e ≡ old ++ a → f ≡ e ++ b → g ≡ f ++ c → new ≡ g ++ d → new ≡ old ++ (a ++ (b ++ (c ++ d)))
-four_told old a b c d is-e is-f is-g is-new = rw (is-new, is-g, is-f, is-e) (simp append_assoc)
+pub five_told : (old a b c d l : List ℕ) {e f g h new : List ℕ} → e ≡ old ++ a → f ≡ e ++ b → g ≡ f ++ c → h ≡ g ++ d → new ≡ h ++ l → new ≡ old ++ (a ++ (b ++ (c ++ (d ++ l))))
+five_told old a b c d l is-e is-f is-g is-h is-new =
+    two_told old (a ++ (b ++ c)) (d ++ l) (three_told old a b c is-e is-f is-g) (two_told _ d l is-h is-new)
+    ∙ ap (λ t. old ++ t) (append_assoc a (b ++ c) (d ++ l) ∙ ap (λ t. a ++ t) (append_assoc b c (d ++ l)))
 
 -- ---- spaces
 

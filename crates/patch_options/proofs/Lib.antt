@@ -1,5 +1,6 @@
 pub mod Matching
 pub mod Numbers
+pub mod Passing
 pub mod ByTable
 pub mod Refusing
 pub mod Singles

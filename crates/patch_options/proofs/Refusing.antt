@@ -1,19 +1,20 @@
 -- Why switches and values have words refused.
-use Rattle.std.proofs.Common.{◌≡◌, ◌⊎◌, ◌∙◌, ◌&&◌, not, Bool, true, false, List, Option, codes, ap, refl, sym, inl, inr}
+use Rattle.std.proofs.Common.{◌≡◌, ◌⊎◌, ◌∙◌, ◌&&◌, not, Bool, true, false, List, Option, Some, None, codes, option_map, option_and_then, ap, refl, sym, inl, inr}
 use Rattle.clap.specs.Words.{Row, Text}
+use Rattle.outside.specs.Names.{given_form}
 use Rattle.patch_options.specs.Forms.{is_output, is_reject_file, is_prefix, is_directory, is_lasting_name}
-use Rattle.patch_options.specs.Table.{value_of, has_form, inputs_agree, names_agree, outputs_agree}
+use Rattle.patch_options.specs.Table.{value_of, has_form, is_no_file, reject_of, inputs_agree, names_agree, outputs_agree}
 use Rattle.patch_options.specs.declared.options.WordFault.{WordFault}
 use Rattle.patch_options.specs.declared.options.WordFault.TheVariants.{Usage, Memory}
 
-no_left : (a b : Bool) → a ≡ false → (a && b) ≡ false
+pub no_left : (a b : Bool) → a ≡ false → (a && b) ≡ false
 no_left a b none = ap (λ t. t && b) none
 
-no_right : (a b : Bool) → b ≡ false → (a && b) ≡ false
+pub no_right : (a b : Bool) → b ≡ false → (a && b) ≡ false
 no_right true b none = none
 no_right false b none = refl
 
-all_yes : (a b : Bool) → a ≡ true → b ≡ true → (a && b) ≡ true
+pub all_yes : (a b : Bool) → a ≡ true → b ≡ true → (a && b) ≡ true
 all_yes a b holds more = ap (λ t. t && b) holds ∙ more
 
 -- ---- switches that exclude each other
@@ -29,7 +30,7 @@ neither_is a b c x first second last = rw (first, second, last) refl
 
 -- ---- faults
 
-refused_as : (fault : WordFault) (a b : Bool) → (a ≡ false → b ≡ false) → (fault ≡ Memory) ⊎ ((fault ≡ Usage) × (a ≡ false)) → (fault ≡ Memory) ⊎ ((fault ≡ Usage) × (b ≡ false))
+pub refused_as : (fault : WordFault) (a b : Bool) → (a ≡ false → b ≡ false) → (fault ≡ Memory) ⊎ ((fault ≡ Usage) × (a ≡ false)) → (fault ≡ Memory) ⊎ ((fault ≡ Usage) × (b ≡ false))
 refused_as fault a b none (inl memory) = inl memory
 refused_as fault a b none (inr usage) = inr (usage.0, none usage.1)
 
@@ -38,6 +39,29 @@ has_value form value same is = ap (has_form form) (sym same) ∙ is
 
 inputs_same : {input operand other another : Option Text} {is : Bool} → input ≡ other → operand ≡ another → inputs_agree input operand ≡ is → inputs_agree other another ≡ is
 inputs_same {input} {operand} {other} {another} same_input same_operand is = ap (λ i. inputs_agree i another) (sym same_input) ∙ (ap (inputs_agree input) (sym same_operand) ∙ is)
+
+-- ---- `-` in place of a name that is written
+
+pub output_dash : (value : Option Text) → is_no_file value ≡ true → has_form is_output value ≡ false
+unfolding is_output
+output_dash None is = sym is
+output_dash (Some text) is = rw is refl
+
+pub output_name : (value : Option Text) → is_no_file value ≡ false → has_form is_lasting_name value ≡ has_form is_output value
+unfolding is_output
+output_name None none = refl
+output_name (Some text) none = rw none refl
+
+pub reject_dash : (value : Option Text) → is_no_file value ≡ true → (None ≡ option_and_then reject_of value) × (has_form is_reject_file value ≡ true)
+unfolding is_reject_file
+reject_dash None is = (refl, refl)
+reject_dash (Some text) is = (rw is refl, rw is refl)
+
+pub reject_name : (value : Option Text) → is_no_file value ≡ false
+    → (option_map given_form value ≡ option_and_then reject_of value) × (has_form is_lasting_name value ≡ has_form is_reject_file value)
+unfolding is_reject_file
+reject_name None none = (refl, refl)
+reject_name (Some text) none = (rw none refl, rw none refl)
 
 -- ---- names that are written
 

@@ -191,54 +191,31 @@ fn read_lasting_name(alloc: Global, text: Option<&str>) -> Result<Option<Name>, 
 }
 
 /// The file that the result is written to. `-` isn't standard output.
-#[tactic(auto, unfolding(crate::specs::Forms::is_output))]
-fn output_of(alloc: Global, text: &str) -> Result<Name, WordFault>
-    ensures name { IfOk result (λ name. name ≡ given_form text.now) }
-    ensures lawful { IfOk result (λ name. is_output text.now ≡ true) }
-    ensures refused { IfErr result (λ fault. (fault ≡ WordFault.Memory) ⊎ ((fault ≡ WordFault.Usage) × (is_output text.now ≡ false))) }
-{
-    if text == "-" {
-        return Err(WordFault::Usage);
-    }
-    lasting_name_of(alloc, text)
-}
-
 fn read_output(alloc: Global, text: Option<&str>) -> Result<Option<Name>, WordFault>
     ensures name { IfOk result (λ given. given ≡ option_map given_form (text_of text.entry)) }
     ensures lawful { IfOk result (λ given. has_form is_output (text_of text.entry) ≡ true) }
     ensures refused { IfErr result (λ fault. (fault ≡ WordFault.Memory) ⊎ ((fault ≡ WordFault.Usage) × (has_form is_output (text_of text.entry) ≡ false))) }
 {
-    match text {
-        Some(text) => Ok(Some(output_of(alloc, text)?)),
-        None => Ok(None),
+    if is_no_file(text) {
+        return Err(WordFault::Usage);
     }
+    read_lasting_name(alloc, text)
 }
 
 /// The reject file, none for `-`.
-#[tactic(auto, unfolding(crate::specs::Forms::is_reject_file))]
-fn reject_of(alloc: Global, text: &str) -> Result<Option<Name>, WordFault>
-    ensures name { IfOk result (λ given. given ≡ reject_of text.now) }
-    ensures lawful { IfOk result (λ given. is_reject_file text.now ≡ true) }
-    ensures refused { IfErr result (λ fault. (fault ≡ WordFault.Memory) ⊎ ((fault ≡ WordFault.Usage) × (is_reject_file text.now ≡ false))) }
-{
-    if text == "-" {
-        return Ok(None);
-    }
-    Ok(Some(lasting_name_of(alloc, text)?))
-}
-
 fn read_reject(alloc: Global, text: Option<&str>) -> Result<Option<Name>, WordFault>
     ensures name { IfOk result (λ given. given ≡ option_and_then reject_of (text_of text.entry)) }
     ensures lawful { IfOk result (λ given. has_form is_reject_file (text_of text.entry) ≡ true) }
     ensures refused { IfErr result (λ fault. (fault ≡ WordFault.Memory) ⊎ ((fault ≡ WordFault.Usage) × (has_form is_reject_file (text_of text.entry) ≡ false))) }
 {
-    match text {
-        Some(text) => reject_of(alloc, text),
-        None => Ok(None),
+    if is_no_file(text) {
+        Ok(None)
+    } else {
+        read_lasting_name(alloc, text)
     }
 }
 
-/// Whether the value says that no file is written.
+/// Whether the value is `-`. As a reject file it says that none is written.
 fn is_no_file(text: Option<&str>) -> bool
     ensures { result ≡ is_no_file (text_of text.entry) }
 {

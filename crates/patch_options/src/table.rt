@@ -11,8 +11,8 @@ use crate::forms::{
     buffer_of, is_backup_kind, is_get, is_macro_name, is_suffix, number_of, plan_of, reject_form_of,
 };
 use crate::groups::patch_table;
-use crate::names::{Names, Outputs, read_names};
-use crate::{Group, Options, PlanKind, Word, WordFault, WordForm};
+use crate::names::{Names, read_names};
+use crate::{Options, PlanKind, Word, WordFault, WordForm};
 use clap::ArgMatches;
 use hunk_core::Form;
 use std::alloc::{AllocError, Global};
@@ -39,19 +39,7 @@ fn options_of(matches: &ArgMatches<'_>, names: Names, texts: Texts) -> Options
     requires define { option_map string_bytes texts.define ≡ value_of (rows_in matches.now) (codes "ifdef") }
     ensures { plain_options result ≡ options_of (rows_in matches.now) }
 {
-    let Names {
-        dir,
-        file,
-        input,
-        outputs,
-    } = names;
-    let Outputs {
-        output,
-        reject,
-        no_rejects,
-        prefix,
-    } = outputs;
-    let Texts { suffix, define } = texts;
+    let outputs = names.outputs;
     Options {
         only: only_form(matches),
         strip: number_in(matches, "strip"),
@@ -64,16 +52,16 @@ fn options_of(matches: &ArgMatches<'_>, names: Names, texts: Texts) -> Options
         remove_empty: is_used(matches, "remove-empty-files"),
         backup: is_used(matches, "backup"),
         mismatch_backup: mismatch_backup(matches),
-        suffix,
-        prefix,
-        dir,
-        file,
-        input,
-        output,
-        reject,
-        no_rejects,
+        suffix: texts.suffix,
+        prefix: outputs.prefix,
+        dir: names.dir,
+        file: names.file,
+        input: names.input,
+        output: outputs.output,
+        reject: outputs.reject,
+        no_rejects: outputs.no_rejects,
         reject_form: reject_form_in(matches),
-        define,
+        define: texts.define,
         posix: is_used(matches, "posix"),
         skip_binary: is_used(matches, "skip-binary"),
         dry_run: is_used(matches, "dry-run"),
@@ -131,19 +119,24 @@ fn switches_agree(matches: &ArgMatches<'_>) -> bool
 fn are_single(matches: &ArgMatches<'_>) -> bool
     ensures { result ≡ are_single (rows_in matches.now) }
 {
-    each_group_single(matches, patch_table())
-}
-
-fn each_group_single(matches: &ArgMatches<'_>, groups: &[Group]) -> bool
-    ensures { result ≡ list_all (λ g. list_all (λ w. is_given_once (rows_in matches.now) (plain_word w)) g.words.now) groups.now }
-{
-    groups.iter().all(|group| each_single(matches, group.words))
+    let groups = patch_table();
+    for group in groups {
+        if !each_single(matches, group.words) {
+            return false;
+        }
+    }
+    true
 }
 
 fn each_single(matches: &ArgMatches<'_>, words: &[Word]) -> bool
     ensures { result ≡ list_all (λ w. is_given_once (rows_in matches.now) (plain_word w)) words.now }
 {
-    words.iter().all(|word| is_given_once(matches, word))
+    for word in words {
+        if !is_given_once(matches, word) {
+            return false;
+        }
+    }
+    true
 }
 
 /// Whether the word is no switch, or was given once at most.
@@ -310,13 +303,19 @@ fn mismatch_backup(matches: &ArgMatches<'_>) -> bool
 pub fn number_in(matches: &ArgMatches<'_>, name: &str) -> Option<u32>
     ensures { result ≡ option_and_then number_of (value_of (rows_in matches.now) name.now) }
 {
-    number_of(value_of(matches, name)?)
+    match value_of(matches, name) {
+        Some(text) => number_of(text),
+        None => None,
+    }
 }
 
 fn reject_form_in(matches: &ArgMatches<'_>) -> Option<Form>
     ensures { result ≡ option_and_then reject_form_of (value_of (rows_in matches.now) (codes "reject-format")) }
 {
-    reject_form_of(value_of(matches, "reject-format")?)
+    match value_of(matches, "reject-format") {
+        Some(text) => reject_form_of(text),
+        None => None,
+    }
 }
 
 /// The plan that `--plan` names.

@@ -1,5 +1,5 @@
 //! The text that tells the words of a tool, made of its table.
-ghost use Rattle.std.specs.Prelude.{◌≡◌, ◌++◌, ◌∷◌, [], flat_map, replicate, string_bytes, IfOk, OnOk};
+ghost use Rattle.std.specs.Prelude.{◌≡◌, ◌++◌, flat_map, replicate, string_bytes, IfOk, OnOk};
 ghost use Rattle.patch_options.specs.Groups.{patch_table};
 ghost use Rattle.patch_options.specs.Usage.{Tells, gap, group_text, row_text, usage_text};
 
@@ -75,7 +75,8 @@ fn put_row(text: &mut String, word: &Word) -> Result<(), AllocError>
     text.push_str("  ")?;
     text.push_str(word.shown)?;
     put_gap(text, word.shown.len())?;
-    put_line(text, word.help)
+    text.push_str(word.help)?;
+    text.push_str("\n")
 }
 
 /// What brings the text to that column behind a word of this width, in the next line where the word is too wide.
@@ -95,11 +96,4 @@ fn put_spaces(text: &mut String, count: usize) -> Result<(), AllocError>
         text.push_str(" ")?;
     }
     Ok(())
-}
-
-fn put_line(text: &mut String, line: &str) -> Result<(), AllocError>
-    ensures { OnOk result (string_bytes text.new ≡ string_bytes text.old ++ (line.now ++ 10 ∷ [])) }
-{
-    text.push_str(line)?;
-    text.push_str("\n")
 }

@@ -32,9 +32,10 @@ fn read_patch(alloc: Global, words: &[String]) -> Result<Job, WordFault>
         Ok(matches) => matches,
         Err(fault) => return Err(fault),
     };
-    let options = match read_options(alloc, &matches) {
-        Ok(options) => options,
-        Err(fault) => return Err(fault),
-    };
-    Ok(Job::Patch(options))
+    let read = read_options(alloc, &matches);
+    drop(matches);
+    match read {
+        Ok(options) => Ok(Job::Patch(options)),
+        Err(fault) => Err(fault),
+    }
 }
