@@ -1,16 +1,18 @@
 -- What words ask of a tool, by what was matched in them.
-use Rattle.std.proofs.Common.{◌≡◌, ◌⊎◌, ◌∙◌, ◌&&◌, Bool, true, false, List, Result, Ok, Err, IsErrAnd, IfErr, ap, refl, sym, inl, inr, if◌then◌else◌}
+use Rattle.std.proofs.Common.{◌≡◌, ◌⊎◌, ◌∙◌, ◌&&◌, Bool, true, false, List, Result, Ok, Err, IsErrAnd, IfOk, IfErr, ap, refl, subst, sym, inl, inr, if◌then◌else◌}
 use Rattle.clap.specs.Words.{App, Row, Text, is_simple_and_free}
 use Rattle.clap.proofs.TakesLemmas.{passed_up}
 use Rattle.patch_options.specs.Simple.{PlainWord, simple_command, takes, rows_by}
 use Rattle.patch_options.specs.declared.options.WordFault.{WordFault}
 use Rattle.patch_options.specs.declared.options.WordFault.TheVariants.{Usage, Memory}
 use Rattle.tool_words.specs.Asked.{is_lawful, asked}
-use Rattle.tool_words.specs.PlainJobs.{PlainToolJob}
+use Rattle.tool_words.specs.PlainJobs.{PlainToolJob, IsLawfulToolJob, plain_tool_job}
 use Rattle.tool_words.specs.Tools.{command_of, name_of, table_of}
 use Rattle.tool_words.specs.Words.{job_by}
+use Rattle.tool_words.specs.declared.jobs.ToolJob.{ToolJob}
 use Rattle.tool_words.specs.declared.tools.Tool.{Tool}
 use Rattle.tool_words.proofs.Free.{command_is_free}
+use Rattle.tool_words.proofs.Lawful.{lawful_job}
 
 if_both : {X : Type 0} (a b : Bool) (x y : X) → a ≡ true → b ≡ true → (if a && b then x else y) ≡ x
 if_both true true x y h k = refl
@@ -51,21 +53,27 @@ module _ (tool : Tool) (name : Text) (table : List PlainWord) (words : List Text
     all = rows-are ∙ ap (λ (a : App). rows_by a words) command-is
 
     -- a refusal of what was matched
-    table_refused : (fault : WordFault) → (fault ≡ Memory) ⊎ ((fault ≡ Usage) × (is_lawful tool rows ≡ false)) → (fault ≡ Memory) ⊎ (job_by tool words ≡ Err fault)
+    pub table_refused : (fault : WordFault) → (fault ≡ Memory) ⊎ ((fault ≡ Usage) × (is_lawful tool rows ≡ false)) → (fault ≡ Memory) ⊎ (job_by tool words ≡ Err fault)
     unfolding job_by
     table_refused fault (inl memory) = inl memory
     table_refused fault (inr usage) =
         let unlawful : is_lawful tool (rows_by (command_of tool) words) ≡ false = ap (is_lawful tool) (sym all) ∙ usage.1 in
         inr (if_not_second (takes (command_of tool) words) (is_lawful tool (rows_by (command_of tool) words)) (Ok (asked tool (rows_by (command_of tool) words))) (Err Usage) unlawful ∙ ap (λ (f : WordFault). Err f) (sym usage.0))
 
-    pub table_passed : {T : Type 0} (fault : WordFault) (answer : Result T WordFault) → (fault ≡ Memory) ⊎ ((fault ≡ Usage) × (is_lawful tool rows ≡ false))
-        → IsErrAnd answer (λ f. f ≡ fault) → IfErr answer (λ f. (f ≡ Memory) ⊎ (job_by tool words ≡ Err f))
-    table_passed fault answer refused passes = passed_up answer fault _ passes (table_refused fault refused)
-
-    pub job_is : (value : PlainToolJob) → takes (simple_command name table) words ≡ true → is_lawful tool rows ≡ true → value ≡ asked tool rows → job_by tool words ≡ Ok value
+    job_is : (value : PlainToolJob) → takes (simple_command name table) words ≡ true → is_lawful tool rows ≡ true → value ≡ asked tool rows → job_by tool words ≡ Ok value
     unfolding job_by
     job_is value takes_them lawful value-is =
         let taken : takes (command_of tool) words ≡ true = ap (λ (a : App). takes a words) (sym command-is) ∙ takes_them in
         let is_one : is_lawful tool (rows_by (command_of tool) words) ≡ true = ap (is_lawful tool) (sym all) ∙ lawful in
         let same : asked tool (rows_by (command_of tool) words) ≡ value = ap (asked tool) (sym all) ∙ sym value-is in
         if_both (takes (command_of tool) words) (is_lawful tool (rows_by (command_of tool) words)) (Ok (asked tool (rows_by (command_of tool) words))) (Err Usage) taken is_one ∙ ap (λ v. Ok v) same
+
+    pub jobs_are : (r : Result ToolJob WordFault) → takes (simple_command name table) words ≡ true → IfOk r (λ job. plain_tool_job job ≡ asked tool rows) → IfOk r (λ job. is_lawful tool rows ≡ true)
+        → IfOk r (λ job. job_by tool words ≡ Ok (plain_tool_job job))
+    jobs_are (Ok job) takes_them is lawful = job_is (plain_tool_job job) takes_them lawful is
+    jobs_are (Err fault) takes_them is lawful = tt
+
+pub jobs_lawful : (tool : Tool) (rows : List Row) (r : Result ToolJob WordFault) → IfOk r (λ job. plain_tool_job job ≡ asked tool rows) → IfOk r (λ job. is_lawful tool rows ≡ true)
+    → IfOk r (λ job. IsLawfulToolJob (plain_tool_job job))
+jobs_lawful tool rows (Ok job) is lawful = subst IsLawfulToolJob (sym is) (lawful_job tool rows lawful)
+jobs_lawful tool rows (Err fault) is lawful = tt

@@ -48,14 +48,16 @@ fn list_of(alloc: Global, matches: &ArgMatches<'_>) -> Result<ToolJob, WordFault
     if !are_list_words(matches) {
         return Err(WordFault::Usage);
     }
-    let (input, select) = read_subject(alloc, matches)?;
-    Ok(ToolJob::List(ListJob {
-        input,
-        select,
-        status: is_used(matches, "status"),
-        numbers: is_used(matches, "line-number"),
-        shown_strip: number_or_0(matches, "strip"),
-    }))
+    match read_subject(alloc, matches) {
+        Ok((input, select)) => Ok(ToolJob::List(ListJob {
+            input,
+            select,
+            status: is_used(matches, "status"),
+            numbers: is_used(matches, "line-number"),
+            shown_strip: number_or_0(matches, "strip"),
+        })),
+        Err(fault) => Err(fault),
+    }
 }
 
 #[tactic(auto, unfolding(crate::specs::Asked::are_list_words))]
@@ -68,6 +70,7 @@ fn are_list_words(matches: &ArgMatches<'_>) -> bool
 }
 
 /// The ranges of the hunks, of the lines and of the file patches that are meant.
+#[derive(Drop)]
 struct AllRanges {
     hunks: Option<Ranges>,
     lines: Option<Ranges>,
@@ -82,20 +85,21 @@ fn filter_of(alloc: Global, matches: &ArgMatches<'_>) -> Result<ToolJob, WordFau
     if !is_form(value_of(matches, "format")) {
         return Err(WordFault::Usage);
     }
-    let AllRanges {
-        hunks,
-        lines,
-        files,
-    } = ranges_in(alloc, matches)?;
-    let (input, select) = read_subject(alloc, matches)?;
-    Ok(ToolJob::Filter(FilterJob {
-        input,
-        select,
-        hunks,
-        lines,
-        files,
-        format: form_in(matches),
-    }))
+    let ranges = ranges_in(alloc, matches)?;
+    match read_subject(alloc, matches) {
+        Ok((input, select)) => Ok(ToolJob::Filter(FilterJob {
+            input,
+            select,
+            hunks: ranges.hunks,
+            lines: ranges.lines,
+            files: ranges.files,
+            format: form_in(matches),
+        })),
+        Err(fault) => {
+            drop(ranges);
+            Err(fault)
+        }
+    }
 }
 
 fn ranges_in(alloc: Global, matches: &ArgMatches<'_>) -> Result<AllRanges, WordFault>
@@ -105,11 +109,26 @@ fn ranges_in(alloc: Global, matches: &ArgMatches<'_>) -> Result<AllRanges, WordF
     ensures lawful { IfOk result (λ all. are_ranges (rows_in matches.now) ≡ true) }
     ensures refused { IfErr result (λ fault. (fault ≡ WordFault.Memory) ⊎ ((fault ≡ WordFault.Usage) × (are_ranges (rows_in matches.now) ≡ false))) }
 {
-    Ok(AllRanges {
-        hunks: read_ranges(alloc, value_of(matches, "hunks"))?,
-        lines: read_ranges(alloc, value_of(matches, "lines"))?,
-        files: read_ranges(alloc, value_of(matches, "files"))?,
-    })
+    let hunks = read_ranges(alloc, value_of(matches, "hunks"))?;
+    let lines = match read_ranges(alloc, value_of(matches, "lines")) {
+        Ok(lines) => lines,
+        Err(fault) => {
+            drop(hunks);
+            return Err(fault);
+        }
+    };
+    match read_ranges(alloc, value_of(matches, "files")) {
+        Ok(files) => Ok(AllRanges {
+            hunks,
+            lines,
+            files,
+        }),
+        Err(fault) => {
+            drop(hunks);
+            drop(lines);
+            Err(fault)
+        }
+    }
 }
 
 fn is_form(text: Option<&str>) -> bool
@@ -124,7 +143,10 @@ fn is_form(text: Option<&str>) -> bool
 fn form_in(matches: &ArgMatches<'_>) -> Option<Form>
     ensures { result ≡ option_and_then form_of (value_of (rows_in matches.now) (codes "format")) }
 {
-    form_of(value_of(matches, "format")?)
+    match value_of(matches, "format") {
+        Some(text) => form_of(text),
+        None => None,
+    }
 }
 
 /// The form that the text names.
@@ -155,13 +177,16 @@ fn grep_of(alloc: Global, matches: &ArgMatches<'_>) -> Result<ToolJob, WordFault
     let Some(output) = output_in(matches) else {
         return Err(WordFault::Usage);
     };
-    let (input, select) = read_subject(alloc, matches)?;
-    Ok(ToolJob::Grep(GrepJob {
-        input,
-        select,
-        pattern: String::from_str(alloc, pattern)?,
-        output,
-    }))
+    let pattern = String::from_str(alloc, pattern)?;
+    match read_subject(alloc, matches) {
+        Ok((input, select)) => Ok(ToolJob::Grep(GrepJob {
+            input,
+            select,
+            pattern,
+            output,
+        })),
+        Err(fault) => Err(fault),
+    }
 }
 
 /// What is written, if the word for it is lawful; names where there is no word.
@@ -197,11 +222,14 @@ fn split_of(alloc: Global, matches: &ArgMatches<'_>) -> Result<ToolJob, WordFaul
     let Some(text) = value_of(matches, "file") else {
         return Err(WordFault::Usage);
     };
-    Ok(ToolJob::Split(SplitJob {
-        input: split_file(alloc, text)?,
-        every: is_used(matches, "every"),
-        skip_binary: is_used(matches, "skip-binary"),
-    }))
+    match split_file(alloc, text) {
+        Ok(input) => Ok(ToolJob::Split(SplitJob {
+            input,
+            every: is_used(matches, "every"),
+            skip_binary: is_used(matches, "skip-binary"),
+        })),
+        Err(fault) => Err(fault),
+    }
 }
 
 /// The file by whose name the parts are named.
@@ -285,7 +313,10 @@ fn stack_of(matches: &ArgMatches<'_>) -> Result<ToolJob, WordFault>
 fn stack_op_in(matches: &ArgMatches<'_>) -> Option<StackOp>
     ensures { result ≡ stack_op_in (rows_in matches.now) }
 {
-    stack_op_of(value_of(matches, "operation")?)
+    match value_of(matches, "operation") {
+        Some(text) => stack_op_of(text),
+        None => None,
+    }
 }
 
 #[tactic(auto, unfolding(crate::specs::Asked::stack_op_of))]

@@ -23,9 +23,14 @@ pub fn read_subject(alloc: Global, matches: &ArgMatches<'_>) -> Result<(Input, S
     if !is_single(matches, "skip-binary") {
         return Err(WordFault::Usage);
     }
-    let select = read_select(alloc, matches)?;
     let input = read_operand(alloc, matches)?;
-    Ok((input, select))
+    match read_select(alloc, matches) {
+        Ok(select) => Ok((input, select)),
+        Err(fault) => {
+            drop(input);
+            Err(fault)
+        }
+    }
 }
 
 /// Whether the switch was given once at most.
@@ -46,18 +51,38 @@ fn read_select(alloc: Global, matches: &ArgMatches<'_>) -> Result<Select, WordFa
         return Err(WordFault::Usage);
     }
     let include_file = read_name(alloc, value_of(matches, "include-from-file"))?;
-    let exclude_file = read_name(alloc, value_of(matches, "exclude-from-file"))?;
-    let include = patterns(alloc, matches, "include")?;
-    let exclude = patterns(alloc, matches, "exclude")?;
-    Ok(Select {
-        strip: number_or_0(matches, "strip-match"),
-        include,
-        exclude,
-        include_file,
-        exclude_file,
-        only_included: is_one_given(matches, "include", "include-from-file"),
-        skip_binary: is_used(matches, "skip-binary"),
-    })
+    let exclude_file = match read_name(alloc, value_of(matches, "exclude-from-file")) {
+        Ok(file) => file,
+        Err(fault) => {
+            drop(include_file);
+            return Err(fault);
+        }
+    };
+    let include = match patterns(alloc, matches, "include") {
+        Ok(list) => list,
+        Err(_) => {
+            drop(include_file);
+            drop(exclude_file);
+            return Err(WordFault::Memory);
+        }
+    };
+    match patterns(alloc, matches, "exclude") {
+        Ok(exclude) => Ok(Select {
+            strip: number_or_0(matches, "strip-match"),
+            include,
+            exclude,
+            include_file,
+            exclude_file,
+            only_included: is_one_given(matches, "include", "include-from-file"),
+            skip_binary: is_used(matches, "skip-binary"),
+        }),
+        Err(_) => {
+            drop(include);
+            drop(include_file);
+            drop(exclude_file);
+            Err(WordFault::Memory)
+        }
+    }
 }
 
 /// The number that an option gives, or 0.

@@ -30,6 +30,5 @@ fn read_by(alloc: Global, tool: Tool, words: &[String]) -> Result<ToolJob, WordF
     ensures refused { IfErr result (λ fault. (fault ≡ WordFault.Memory) ⊎ (job_by tool (map string_bytes words.now) ≡ Err fault)) }
 {
     let matches = matched_by(alloc, tool.name(), tool.table(), words)?;
-    let job = job_of(alloc, tool, &matches)?;
-    Ok(job)
+    job_of(alloc, tool, &matches)
 }

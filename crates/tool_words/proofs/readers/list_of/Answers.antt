@@ -1,11 +1,22 @@
-use Rattle.std.proofs.Common.{rules}
-use Rattle.patch_options.specs.Simple.{rows_in}
-use Rattle.tool_words.proofs.Listing.{list_is, list_is_lawful}
+use Rattle.std.proofs.Common.{◌∙◌, inr, refl, sym}
+use Rattle.patch_options.proofs.Refusing.{refused_as, no_left, no_right, all_yes}
+use Rattle.tool_words.specs.PlainJobs.PlainToolJob.{list_job}
 use Rattle.tool_words.proofs.readers.list_of.Goals as goal
 
-pub returns-clause-job : goal.returns-clause-job
-returns-clause-job c =
-    list_is (rows_in c.args.matches.now) c.in_ok-input.ensures.input c.in_ok-input.ensures.select c.is_used.ensures c.is_used-2.ensures c.number_or_0.ensures
+pub returns-then-not-are_list_words-clause-refused : goal.returns-then-not-are_list_words-clause-refused
+returns-then-not-are_list_words-clause-refused c = inr (refl, no_left _ _ (sym c.are_list_words.ensures ∙ c.if-not-are_list_words.true))
 
-pub returns-clause-lawful : goal.returns-clause-lawful
-returns-clause-lawful c = list_is_lawful (rows_in c.args.matches.now) (search rules) c.in_ok-input.ensures.lawful
+pub returns-in-Err-clause-refused : goal.returns-in-Err-clause-refused
+returns-in-Err-clause-refused c = refused_as c.in-Err.fault _ _ (λ none. no_right _ _ none) c.in-Err.ensures.refused
+
+pub returns-in-Ok-clause-job : goal.returns-in-Ok-clause-job
+returns-in-Ok-clause-job c = λ i. list_job (record {
+  input = c.in-Ok.ensures.input i;
+  select = c.in-Ok.ensures.select i;
+  status = c.is_used.ensures i;
+  numbers = c.is_used-in-Ok.ensures i;
+  shown_strip = c.number_or_0.ensures i;
+})
+
+pub returns-in-Ok-clause-lawful : goal.returns-in-Ok-clause-lawful
+returns-in-Ok-clause-lawful c = all_yes _ _ (sym c.are_list_words.ensures ∙ c.if-not-are_list_words.false) c.in-Ok.ensures.lawful

@@ -1,33 +1,46 @@
-use Rattle.std.proofs.Common.{rules, ◌≡◌, ◌∙◌, true, codes, option_map, ap, sym}
+use Rattle.std.proofs.Common.{◌∙◌, ap, inr, option_map, refl, sym}
 use Rattle.clap.proofs.TakesLemmas.{passed_up}
+use Rattle.outside.proofs.Exits.{if_ok_none}
 use Rattle.patch_options.specs.Simple.{rows_in}
 use Rattle.patch_options.specs.Forms.{is_name}
-use Rattle.patch_options.specs.Table.{value_of, has_form}
-use Rattle.tool_words.specs.Selecting.{is_number, name_in}
-use Rattle.tool_words.proofs.Selection.{select_is_lawful, exclude_refused, select_is}
+use Rattle.patch_options.specs.Table.{has_form}
+use Rattle.tool_words.specs.Selecting.{is_number, name_in, select_of}
+use Rattle.tool_words.proofs.Selection.{select_is_lawful, strip_refused, include_refused, exclude_refused}
 use Rattle.tool_words.proofs.selecting.read_select.Goals as goal
 
-pub returns-in_err-exclude_file-clause-refused : goal.returns-in_err-exclude_file-clause-refused
-returns-in_err-exclude_file-clause-refused c =
-    let fault = c.in_err-exclude_file.field-0.0 in
-    let given = exclude_refused (rows_in c.args.matches.now) fault (rw c.value_of-3.ensures at c.in_err-exclude_file.ensures.refused) in
-    passed_up c.from_residual-in_err-exclude_file.result fault _ c.from_residual-in_err-exclude_file.ensures.1 given
+pub returns-then-not-is_number-clause-refused : goal.returns-then-not-is_number-clause-refused
+returns-then-not-is_number-clause-refused c =
+    inr (refl, strip_refused (rows_in c.args.matches.now) (ap (has_form is_number) (sym c.value_of.ensures) ∙ (sym c.is_number.ensures ∙ c.if-not-is_number.true)))
 
-pub returns-clause-select : goal.returns-clause-select
-returns-clause-select c = select_is (rows_in c.args.matches.now)
-    c.number_or_0.ensures
-    c.in_ok-include.ensures
-    c.in_ok-exclude.ensures
-    (c.in_ok-include_file.ensures.name ∙ ap (λ t. option_map name_in t) c.value_of-2.ensures)
-    (c.in_ok-exclude_file.ensures.name ∙ ap (λ t. option_map name_in t) c.value_of-3.ensures)
-    c.is_one_given.ensures
-    c.is_used.ensures
+pub returns-in_err-include_file-clause-select : goal.returns-in_err-include_file-clause-select
+returns-in_err-include_file-clause-select c = if_ok_none _ _ c.from_residual.result c.from_residual.ensures.1
 
-pub returns-clause-lawful : goal.returns-clause-lawful
-unfolding value_of
-returns-clause-lawful c =
-    let rows = rows_in c.args.matches.now in
-    let strip : has_form is_number (value_of rows (codes "strip-match")) ≡ true = search rules in
-    select_is_lawful rows strip
+pub returns-in_err-include_file-clause-lawful : goal.returns-in_err-include_file-clause-lawful
+returns-in_err-include_file-clause-lawful c = if_ok_none _ _ c.from_residual.result c.from_residual.ensures.1
+
+pub returns-in_err-include_file-clause-refused : goal.returns-in_err-include_file-clause-refused
+returns-in_err-include_file-clause-refused c =
+    let fault = c.in_err-include_file.field-0.0 in
+    passed_up c.from_residual.result fault _ c.from_residual.ensures.1 (include_refused (rows_in c.args.matches.now) fault c.value_of-2.ensures c.in_err-include_file.ensures.refused)
+
+pub returns-in-Err-clause-refused : goal.returns-in-Err-clause-refused
+returns-in-Err-clause-refused c = exclude_refused (rows_in c.args.matches.now) c.in-Err.fault c.value_of-3.ensures c.in-Err.ensures.refused
+
+pub returns-in-Ok-patterns-2-clause-select : goal.returns-in-Ok-patterns-2-clause-select
+unfolding select_of
+returns-in-Ok-patterns-2-clause-select c = λ i. record {
+  strip = c.number_or_0.ensures i;
+  include = c.in-Ok-patterns.ensures i;
+  exclude = c.in-Ok-patterns-2.ensures i;
+  include_file = (c.in_ok-include_file.ensures.name ∙ ap (λ t. option_map name_in t) c.value_of-2.ensures) i;
+  exclude_file = (c.in-Ok.ensures.name ∙ ap (λ t. option_map name_in t) c.value_of-3.ensures) i;
+  only_included = c.is_one_given.ensures i;
+  skip_binary = c.is_used.ensures i;
+}
+
+pub returns-in-Ok-patterns-2-clause-lawful : goal.returns-in-Ok-patterns-2-clause-lawful
+returns-in-Ok-patterns-2-clause-lawful c =
+    select_is_lawful (rows_in c.args.matches.now)
+    (ap (has_form is_number) (sym c.value_of.ensures) ∙ (sym c.is_number.ensures ∙ c.if-not-is_number.false))
     (ap (has_form is_name) (sym c.value_of-2.ensures) ∙ c.in_ok-include_file.ensures.lawful)
-    (ap (has_form is_name) (sym c.value_of-3.ensures) ∙ c.in_ok-exclude_file.ensures.lawful)
+    (ap (has_form is_name) (sym c.value_of-3.ensures) ∙ c.in-Ok.ensures.lawful)
