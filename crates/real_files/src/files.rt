@@ -4,33 +4,30 @@
 //! through one, is no file here, and nothing is written below it. What is written is never a link itself.
 ghost use Rattle.std.specs.Prelude.{◌≤◌, length, IfOk};
 
-use crate::found::{Found, found_itself, found_open};
-use crate::fresh::{make_anew, open_to_append, rights_due, take_away};
+use crate::found::{found_behind, found_itself};
+use crate::fresh::{rights_due, take_away};
 use crate::looks::Looks;
 use crate::missing::Missing;
-use crate::origins::{Origin, origin_of, started, usual};
+use crate::origins::usual;
 use crate::paths::{
-    Path, find_directory, first_parts, no_file, plain, replaceable, replaceable_here, target_of,
-    usable, way_of,
+    Path, directory_of, no_file, not_a_directory, not_a_file, out_of_reach, plain, regular,
+    replaceable, target_of,
 };
-use crate::reading::{Reading, Seen};
-use crate::rights::Rights;
+use crate::reading::Reading;
 use crate::saves::Saves;
 use crate::temporaries::Temporaries;
 use crate::unsynced::Directories;
 use crate::writing::Writing;
 use std::alloc::{AllocError, Global};
-use std::fs::{File, OpenFile};
+use std::fs::File;
 use std::rt::Files;
 use std::{fs, io};
 
 #[derive(Drop)]
 pub struct OpenFiles<'r, R: Files<File = File>> {
     rt: &'r R,
-    alloc: Global,
     reading: Reading,
     writing: Writing,
-    origin: Option<Origin>,
     saves: Saves,
     temporaries: Temporaries,
     looks: Looks,
@@ -42,10 +39,8 @@ impl<'r, R: Files<File = File>> OpenFiles<'r, R> {
     pub fn new(alloc: Global, rt: &'r R, is_stack: bool) -> OpenFiles<'r, R> {
         OpenFiles {
             rt,
-            alloc,
-            reading: Reading::new(),
-            writing: Writing::new(),
-            origin: None,
+            reading: Reading::new(alloc, is_stack),
+            writing: Writing::new(alloc),
             saves: Saves::new(alloc, is_stack),
             temporaries: Temporaries::new(alloc),
             looks: Looks::new(alloc),
@@ -56,30 +51,47 @@ impl<'r, R: Files<File = File>> OpenFiles<'r, R> {
 
     /// Whether the directory is there that a run works in, if one is given.
     pub fn find_root(&self, root: &Option<String>) -> io::Result<()> {
-        match root {
-            Some(root) => find_directory(self.rt, root.as_str()),
-            None => Ok(()),
+        let Some(root) = root else {
+            return Ok(());
+        };
+        let found = match found_behind(self.rt, root.as_str()) {
+            Ok(found) => found,
+            Err(error) => return Err(error),
+        };
+        if found.is_directory {
+            return Ok(());
+        }
+        if found.is_there {
+            Err(not_a_directory())
+        } else {
+            Err(no_file())
         }
     }
 
     /// Whether a run can begin to which the words give this file: a directory there is an error, and so is a pipe or a device
-    /// where the file is needed.
+    /// where the file is needed. A link isn't followed, so it counts as no file, and so does what can't be reached.
     pub fn find_given(&self, name: Path<'_>, is_needed: bool) -> io::Result<()> {
-        usable(self.rt, name, is_needed)
+        match found_itself(self.rt, name.text) {
+            Ok(found) if found.is_directory || is_needed && found.is_special() => {
+                Err(not_a_file(found))
+            }
+            Ok(_) => Ok(()),
+            Err(error) => match out_of_reach(error) {
+                Ok(_) => Ok(()),
+                Err(error) => Err(error),
+            },
+        }
     }
 
     pub fn size(&mut self, name: Path<'_>) -> io::Result<Option<u64>> {
         self.writing.write_out(name.text)?;
-        // While nothing is being filled, the file whose bytes were read is looked at anew.
-        if self.temporaries.is_empty() {
-            self.looks.forget_read();
-        }
-        let found = match self.looks.file(self.rt, name) {
+        let is_idle = self.temporaries.all.is_empty();
+        let found = match self.looks.file(self.rt, name, is_idle) {
             Ok(found) => found,
             Err(error) => return Err(error),
         };
         self.saves.look(name.text, found);
-        self.saw(found, false);
+        self.temporaries.saw(found, false);
         if found.is_file {
             return Ok(Some(found.length));
         }
@@ -89,16 +101,18 @@ impl<'r, R: Files<File = File>> OpenFiles<'r, R> {
 
     /// The name of the last file whose size was asked and that isn't there, and why.
     pub fn missing(&self, has_input: bool) -> Result<Option<String>, AllocError> {
-        self.missing.text(self.alloc, self.rt, has_input)
+        self.missing.text(self.rt, has_input)
     }
 
     pub fn read_at(&mut self, name: Path<'_>, at: u64, buf: &mut [u8]) -> io::Result<usize>
         ensures { IfOk result (λ n. n ≤ length buf.old) }
     {
         self.writing.write_out(name.text)?;
-        match self.open_for_reading(name) {
-            Ok(()) => {
-                self.note_read();
+        match self.reading.open(self.rt, &mut self.looks, name) {
+            Ok(seen) => {
+                self.temporaries.saw(seen.found, true);
+                self.looks.was_read = true;
+                self.saves.read(seen.audience);
                 self.reading.read_at(at, buf)
             }
             Err(error) => Err(error),
@@ -107,10 +121,14 @@ impl<'r, R: Files<File = File>> OpenFiles<'r, R> {
 
     /// Whether the first components of the name are a directory.
     pub fn has_dir(&mut self, name: Path<'_>, parts: u64) -> io::Result<bool> {
-        if parts == 0 {
+        let Some(last) = parts.checked_sub(1) else {
             return Ok(true);
-        }
-        match plain(self.rt, first_parts(name, parts)) {
+        };
+        let directory = match name.text.match_indices('/').nth(last as usize) {
+            Some((slash, _)) => name.directory(slash),
+            None => name,
+        };
+        match plain(self.rt, directory) {
             Ok(found) => Ok(found.is_directory),
             Err(error) => Err(error),
         }
@@ -133,42 +151,29 @@ impl<'r, R: Files<File = File>> OpenFiles<'r, R> {
             Ok(old) => old,
             Err(error) => return Err(error),
         };
-        let due = self.saves.due(target, old, usual(self.origin, old));
-        match rights_due(self.rt, temp.text, due) {
-            Ok(rights) => self.make(temp, rights),
-            Err(error) => Err(error),
-        }
-    }
-
-    /// Makes a temporary, and keeps the rights that it is to get once it is sealed.
-    fn make(&mut self, temp: Path<'_>, rights: Rights) -> io::Result<()> {
-        let file = match make_anew(self.rt, temp.text, 0o600) {
-            Ok(file) => file,
+        let due = self
+            .saves
+            .due(target, old, usual(self.temporaries.origin, old));
+        let rights = match rights_due(self.rt, temp.text, due) {
+            Ok(rights) => rights,
             Err(error) => return Err(error),
         };
-        self.writing.open(self.alloc, temp.text, file)?;
-        self.origin = started(self.origin);
-        self.saves.start(target_of(temp).text);
-        self.temporaries.begin(self.alloc, temp, rights)?;
-        Ok(())
+        self.writing.make(self.rt, temp)?;
+        self.saves.start(target);
+        self.temporaries.begin(temp, rights)
     }
 
     /// Gathers a piece, and writes what was gathered where there is no room for it. Where that fails, the file is taken away.
     pub fn append(&mut self, temp: Path<'_>, piece: &[u8]) -> io::Result<()> {
-        let done = match self.resume_writing(temp) {
-            Ok(()) => self.writing.append(piece),
-            Err(error) => Err(error),
-        };
+        let done = self.writing.append(self.rt, temp, piece);
         self.give_up(temp, done.is_err());
         done
     }
 
     /// Writes what was gathered, gives the file its rights, and syncs it. Where that fails, the file is taken away.
     pub fn seal(&mut self, temp: Path<'_>) -> io::Result<()> {
-        let done = match self.resume_writing(temp) {
-            Ok(()) => self.writing.seal(self.temporaries.end(temp.text)),
-            Err(error) => Err(error),
-        };
+        let rights = self.temporaries.end(temp.text);
+        let done = self.writing.seal(self.rt, temp, rights);
         self.give_up(temp, done.is_err());
         done
     }
@@ -183,7 +188,7 @@ impl<'r, R: Files<File = File>> OpenFiles<'r, R> {
         if temp.parent() != to.parent() {
             self.enter(temp, false)?;
         }
-        match replaceable_here(self.rt, to) {
+        match replaceable(self.rt, to.text) {
             Ok(()) => fs::rename(self.rt, temp.text, to.text),
             Err(error) => Err(error),
         }
@@ -191,18 +196,22 @@ impl<'r, R: Files<File = File>> OpenFiles<'r, R> {
 
     /// Whether the temporary that is being filled, if there is one, can take its name.
     fn check_filled(&self) -> io::Result<()> {
-        match self.temporaries.last() {
-            Some(filled) => replaceable(self.rt, target_of(filled)),
-            None => Ok(()),
+        let Some(target) = self.temporaries.last_target() else {
+            return Ok(());
+        };
+        match directory_of(self.rt, target) {
+            Ok(_) => replaceable(self.rt, target.text),
+            Err(error) => Err(error),
         }
     }
 
     /// The name that stands in the way of a swap that failed: one that a temporary which is being filled can't take, else the one
     /// given.
     pub fn blamed<'a>(&'a self, name: Path<'a>, failed: bool) -> Path<'a> {
-        match self.temporaries.last() {
-            Some(filled) if failed && self.check_filled().is_err() => target_of(filled),
-            _ => name,
+        if failed && self.check_filled().is_err() {
+            self.temporaries.last_target().unwrap_or(name)
+        } else {
+            name
         }
     }
 
@@ -224,7 +233,7 @@ impl<'r, R: Files<File = File>> OpenFiles<'r, R> {
     /// Takes away what is still being filled, as far as the system lets it.
     pub fn give_up_all(&mut self) {
         self.writing.leave_all();
-        for temporary in self.temporaries.all() {
+        for temporary in &self.temporaries.all {
             take_away(self.rt, temporary.path());
         }
     }
@@ -233,14 +242,13 @@ impl<'r, R: Files<File = File>> OpenFiles<'r, R> {
         self.close(name)?;
         self.temporaries.end(name.text);
         self.enter(name, false)?;
-        let found = match found_itself(self.rt, name.text) {
-            Ok(found) if found.is_file => found,
-            Ok(_) => return Err(no_file()),
+        let found = match regular(found_itself(self.rt, name.text)) {
+            Ok(found) => found,
             Err(error) => return Err(error),
         };
-        match self.saves.take_away(name.text, found) {
+        match self.saves.take_away(name.text, found.rights) {
             Ok(()) => fs::remove_file(self.rt, name.text),
-            Err(error) => Err(error.into()),
+            Err(error) => Err(error),
         }
     }
 
@@ -255,82 +263,10 @@ impl<'r, R: Files<File = File>> OpenFiles<'r, R> {
         self.directories.first()
     }
 
-    /// Keeps a file that was looked at, or that none is there. While temporaries are being filled it is what the last of them
-    /// is filled from.
-    fn saw(&mut self, found: Found, was_read: bool) {
-        if self.temporaries.is_empty() {
-            self.origin = origin_of(found, was_read);
-        } else if found.is_file {
-            self.temporaries.fill(found.rights);
-        }
-    }
-
-    /// Keeps that the open file is read.
-    fn note_read(&mut self) {
-        if let Some(seen) = self.reading.seen() {
-            self.saw(seen.found, true);
-            self.looks.read();
-            self.saves.read(seen);
-        }
-    }
-
     /// Closes what is open of the name.
     fn close(&mut self, name: Path<'_>) -> io::Result<()> {
         self.reading.close(name.text);
         self.writing.close(name.text)
-    }
-
-    /// Opens the file that was looked at last where it is still that, else the name is looked at anew.
-    fn open_for_reading(&mut self, name: Path<'_>) -> io::Result<()> {
-        if self.reading.is_at(name.text) {
-            return Ok(());
-        }
-        let Some(meant) = self.looks.kept(name) else {
-            return self.open_anew(name);
-        };
-        let file = match File::open(self.rt, name.text) {
-            Ok(file) => file,
-            Err(error) => return Err(error),
-        };
-        match found_open(&file) {
-            Ok(found) if found.identity.is_same(meant) => self.keep_open(name, file, found),
-            Ok(_) => self.open_anew(name),
-            Err(error) => Err(error),
-        }
-    }
-
-    fn open_anew(&mut self, name: Path<'_>) -> io::Result<()> {
-        let found = match self.looks.file_anew(self.rt, name) {
-            Ok(found) if found.is_file => found,
-            Ok(_) => return Err(no_file()),
-            Err(error) => return Err(error),
-        };
-        match File::open(self.rt, name.text) {
-            Ok(file) => self.keep_open(name, file, found),
-            Err(error) => Err(error),
-        }
-    }
-
-    /// Keeps a file open. Who can come to it is asked for the saves of a stack alone.
-    fn keep_open(&mut self, name: Path<'_>, file: File, found: Found) -> io::Result<()> {
-        let mut audience = found.rights;
-        if self.saves.is_stack {
-            audience = way_of(self.rt, name)?.inside.met(audience);
-        }
-        let seen = Seen { found, audience };
-        self.reading.open(self.alloc, name.text, file, seen)
-    }
-
-    /// Opens a temporary that was started, for what is to stand behind its bytes.
-    fn resume_writing(&mut self, name: Path<'_>) -> io::Result<()> {
-        if self.writing.is_at(name.text) {
-            return Ok(());
-        }
-        self.writing.finish()?;
-        match open_to_append(self.rt, name) {
-            Ok(file) => self.writing.open(self.alloc, name.text, file),
-            Err(error) => Err(error),
-        }
     }
 
     /// Has the directory that a name stands in open, to be synced. The name goes through directories alone; those that are

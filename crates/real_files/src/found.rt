@@ -1,7 +1,7 @@
 //! What stands at a name, as the system tells it.
 
 use crate::rights::Rights;
-use std::fs::{File, Metadata};
+use std::fs::Metadata;
 use std::io::ErrorKind;
 use std::os::unix::fs::MetadataExt;
 use std::rt::Files;
@@ -16,19 +16,10 @@ pub struct Identity {
 
 impl Identity {
     /// The working directory, to which no name leads: it is never another one.
-    pub fn here() -> Identity {
-        Identity {
-            device: 0,
-            number: 0,
-        }
-    }
-
-    fn of(found: &Metadata) -> Identity {
-        Identity {
-            device: found.dev(),
-            number: found.ino(),
-        }
-    }
+    pub const HERE: Identity = Identity {
+        device: 0,
+        number: 0,
+    };
 
     pub fn is_same(self, other: Identity) -> bool {
         self.device == other.device && self.number == other.number
@@ -50,31 +41,16 @@ pub struct Found {
 }
 
 impl Found {
-    pub fn nothing() -> Found {
-        Found {
-            is_there: false,
-            is_file: false,
-            is_directory: false,
-            is_link: false,
-            identity: Identity::here(),
-            rights: Rights::none(),
-            length: 0,
-            within: Identity::here(),
-        }
-    }
-
-    fn of(found: &Metadata) -> Found {
-        Found {
-            is_there: true,
-            is_file: found.is_file(),
-            is_directory: found.is_dir(),
-            is_link: found.is_symlink(),
-            identity: Identity::of(found),
-            rights: Rights::of(found),
-            length: found.len(),
-            within: Identity::here(),
-        }
-    }
+    pub const NOTHING: Found = Found {
+        is_there: false,
+        is_file: false,
+        is_directory: false,
+        is_link: false,
+        identity: Identity::HERE,
+        rights: Rights::NONE,
+        length: 0,
+        within: Identity::HERE,
+    };
 
     /// What is told of what stands there, where that is no regular file.
     pub fn kind(self) -> &'static str {
@@ -105,17 +81,24 @@ pub fn found_itself<R: Files>(rt: &R, path: &str) -> io::Result<Found> {
     told(fs::symlink_metadata(rt, path))
 }
 
-/// What an open file is.
-pub fn found_open(file: &File) -> io::Result<Found> {
-    told(file.metadata())
-}
-
 /// What the system answered: nothing, where the error says so.
-fn told(answer: io::Result<Metadata>) -> io::Result<Found> {
+pub fn told(answer: io::Result<Metadata>) -> io::Result<Found> {
     match answer {
-        Ok(found) => Ok(Found::of(&found)),
+        Ok(found) => Ok(Found {
+            is_there: true,
+            is_file: found.is_file(),
+            is_directory: found.is_dir(),
+            is_link: found.is_symlink(),
+            identity: Identity {
+                device: found.dev(),
+                number: found.ino(),
+            },
+            rights: Rights::of(&found),
+            length: found.len(),
+            within: Identity::HERE,
+        }),
         Err(error) => match error.kind() {
-            ErrorKind::NotFound | ErrorKind::NotADirectory => Ok(Found::nothing()),
+            ErrorKind::NotFound | ErrorKind::NotADirectory => Ok(Found::NOTHING),
             _ => Err(error),
         },
     }

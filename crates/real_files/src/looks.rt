@@ -16,35 +16,45 @@ struct Look {
     given: usize,
     file: Identity,
     directory: Identity,
-    was_read: bool,
 }
 
 #[derive(Drop)]
 pub struct Looks {
     alloc: Global,
     last: Option<Look>,
+    /// The bytes of the file were read.
+    pub was_read: bool,
 }
 
 impl Looks {
     pub fn new(alloc: Global) -> Looks {
-        Looks { alloc, last: None }
+        Looks {
+            alloc,
+            last: None,
+            was_read: false,
+        }
     }
 
     /// What stands at a path that goes through directories alone: the file that was looked at last, where the path still leads
-    /// to it.
-    pub fn file<R: Files>(&mut self, rt: &R, path: Path<'_>) -> io::Result<Found> {
-        let Some(meant) = self.kept(path) else {
+    /// to it. Where no temporary is being filled (`is_idle`), one whose bytes were read is looked at anew: the next look may be
+    /// for another file patch.
+    pub fn file<R: Files>(&mut self, rt: &R, path: Path<'_>, is_idle: bool) -> io::Result<Found> {
+        if is_idle && self.was_read {
             return self.file_anew(rt, path);
-        };
-        match found_at(rt, path) {
-            Ok(found) if found.is_file && found.identity.is_same(meant) => Ok(found),
-            _ => self.file_anew(rt, path),
         }
+        if let Some(meant) = self.kept(path) {
+            if let Ok(found) = found_at(rt, path) {
+                if found.is_file && found.identity.is_same(meant) {
+                    return Ok(found);
+                }
+            }
+        }
+        self.file_anew(rt, path)
     }
 
     /// The same, with each directory on the way looked at.
     pub fn file_anew<R: Files>(&mut self, rt: &R, path: Path<'_>) -> io::Result<Found> {
-        self.last = None;
+        self.forget();
         let found = match plain(rt, path) {
             Ok(found) => found,
             Err(error) => return Err(error),
@@ -59,7 +69,6 @@ impl Looks {
                 given: path.given,
                 file: found.identity,
                 directory: found.within,
-                was_read: false,
             });
         }
         Ok(found)
@@ -68,7 +77,7 @@ impl Looks {
     /// Which file the path led to when it was looked at last.
     pub fn kept(&self, path: Path<'_>) -> Option<Identity> {
         match &self.last {
-            Some(look) if look.name.as_str() == path.text && look.given == path.given => {
+            Some(look) if look.given == path.given && look.name.as_str() == path.text => {
                 Some(look.file)
             }
             _ => None,
@@ -77,36 +86,22 @@ impl Looks {
 
     /// Which directory a path's last component stands in, where the last look led into it.
     pub fn directory(&self, path: Path<'_>) -> Option<Identity> {
-        match &self.last {
-            Some(look) if look.path().is_beside(path) => Some(look.directory),
-            _ => None,
-        }
-    }
-
-    /// The bytes of the file are read.
-    pub fn read(&mut self) {
-        if let Some(look) = &mut self.last {
-            look.was_read = true;
-        }
-    }
-
-    /// Forgets the file once its bytes were read: the next look may be for another file patch.
-    pub fn forget_read(&mut self) {
-        if matches!(&self.last, Some(look) if look.was_read) {
-            self.last = None;
+        let Some(look) = &self.last else {
+            return None;
+        };
+        let last = Path {
+            text: look.name.as_str(),
+            given: look.given,
+        };
+        if last.is_beside(path) {
+            Some(look.directory)
+        } else {
+            None
         }
     }
 
     pub fn forget(&mut self) {
         self.last = None;
-    }
-}
-
-impl Look {
-    fn path(&self) -> Path<'_> {
-        Path {
-            text: self.name.as_str(),
-            given: self.given,
-        }
+        self.was_read = false;
     }
 }

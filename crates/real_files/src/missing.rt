@@ -1,7 +1,6 @@
 //! The file that was looked for last and isn't there, for the line that says which it is.
 
-use crate::found::Found;
-use crate::paths::{Path, found_at, way_of};
+use crate::paths::{Path, directory_of, found_at};
 use crate::trouble::Trouble;
 use outside::Name;
 use std::alloc::{AllocError, Global};
@@ -16,6 +15,7 @@ const NO_WAY: &str = "a symbolic link is on the way to it, and isn't followed";
 
 #[derive(Drop)]
 pub struct Missing {
+    alloc: Global,
     name: String,
     given: usize,
 }
@@ -23,6 +23,7 @@ pub struct Missing {
 impl Missing {
     pub fn new(alloc: Global) -> Missing {
         Missing {
+            alloc,
             name: String::new(alloc),
             given: 0,
         }
@@ -36,12 +37,7 @@ impl Missing {
     }
 
     /// The name, and why no file is read there, of a tool that may read standard input in its place.
-    pub fn text<R: Files>(
-        &self,
-        alloc: Global,
-        rt: &R,
-        has_input: bool,
-    ) -> Result<Option<String>, AllocError> {
+    pub fn text<R: Files>(&self, rt: &R, has_input: bool) -> Result<Option<String>, AllocError> {
         if self.name.is_empty() {
             return Ok(None);
         }
@@ -49,7 +45,7 @@ impl Missing {
             text: self.name.as_str(),
             given: self.given,
         };
-        text_at(alloc, rt, path, has_input)
+        text_at(self.alloc, rt, path, has_input)
     }
 }
 
@@ -70,33 +66,21 @@ fn text_at<R: Files>(
     path: Path<'_>,
     has_input: bool,
 ) -> Result<Option<String>, AllocError> {
-    match found_at(rt, path) {
-        Ok(found) if found.is_file && is_open(rt, path) => Ok(None),
-        Ok(found) => found_text(alloc, path.text, kind_of(found, has_input)),
-        Err(error) => trouble_text(alloc, path.text, error),
+    let found = match found_at(rt, path) {
+        Ok(found) => found,
+        Err(error) => return trouble_text(alloc, path.text, error),
+    };
+    if found.is_file && directory_of(rt, path).is_ok() {
+        return Ok(None);
     }
-}
-
-/// Whether the path goes through directories alone.
-fn is_open<R: Files>(rt: &R, path: Path<'_>) -> bool {
-    match way_of(rt, path) {
-        Ok(way) => way.is_open,
-        Err(_) => false,
-    }
-}
-
-/// Why what stands there isn't read.
-fn kind_of(found: Found, has_input: bool) -> &'static str {
-    if found.is_file {
+    let name = path.text;
+    let what = if found.is_file {
         NO_WAY
     } else if has_input && found.is_special() {
         NO_PIPE
     } else {
         found.kind()
-    }
-}
-
-fn found_text(alloc: Global, name: &str, what: &str) -> Result<Option<String>, AllocError> {
+    };
     match format!(in alloc; "{name}: {what}") {
         Ok(text) => Ok(Some(text)),
         Err(error) => Err(error),

@@ -7,12 +7,12 @@
 use crate::found::Found;
 use crate::rights::Rights;
 
-/// The file that was looked at last while no temporary was being filled.
+/// The regular file that was looked at last while no temporary was being filled.
 #[derive(Clone, Copy)]
 pub struct Origin {
-    found: Found,
+    pub found: Found,
     /// Its bytes were read, and no temporary was started since.
-    was_read: bool,
+    pub was_read: bool,
 }
 
 /// The rights that a temporary is to get.
@@ -33,27 +33,10 @@ impl Due {
     pub fn of_new(self, new: Rights) -> Rights {
         match self {
             Due::Exactly(rights) => rights,
-            Due::AtMost(most) => new.limited(most).owned_as(most),
+            Due::AtMost(most) => most.limited(new),
             Due::ShownTo(most) => new.shown_to(most),
             Due::New => new,
         }
-    }
-}
-
-/// What was looked at, or that nothing is there.
-pub fn origin_of(found: Found, was_read: bool) -> Option<Origin> {
-    if found.is_file {
-        Some(Origin { found, was_read })
-    } else {
-        None
-    }
-}
-
-/// The same, behind the start of a temporary.
-pub fn started(origin: Option<Origin>) -> Option<Origin> {
-    match origin {
-        Some(origin) => origin_of(origin.found, false),
-        None => None,
     }
 }
 

@@ -72,31 +72,26 @@ pub struct Way {
 
 impl Way {
     /// The way to what stands in the working directory.
-    fn here() -> Way {
-        Way {
-            is_open: true,
-            directory: Identity::here(),
-            inside: Rights::all(),
-        }
-    }
-
-    fn through(self, found: Found) -> Way {
-        Way {
-            is_open: found.is_directory,
-            directory: found.identity,
-            inside: self.inside.met(found.rights.inside()),
-        }
-    }
+    const HERE: Way = Way {
+        is_open: true,
+        directory: Identity::HERE,
+        inside: Rights::ALL,
+    };
 }
 
 /// The way that a path goes, up to the first component that is no directory.
 pub fn way_of<R: Files>(rt: &R, path: Path<'_>) -> io::Result<Way> {
-    let mut way = Way::here();
+    let mut way = Way::HERE;
     for (slash, _) in path.text.match_indices('/') {
-        match found_at(rt, path.directory(slash)) {
-            Ok(found) => way = way.through(found),
+        let found = match found_at(rt, path.directory(slash)) {
+            Ok(found) => found,
             Err(error) => return Err(error),
-        }
+        };
+        way = Way {
+            is_open: found.is_directory,
+            directory: found.identity,
+            inside: way.inside.met(found.rights.inside()),
+        };
         if !way.is_open {
             break;
         }
@@ -106,20 +101,14 @@ pub fn way_of<R: Files>(rt: &R, path: Path<'_>) -> io::Result<Way> {
 
 /// The directory that a path's last component stands in, or the error where the path goes through anything else.
 pub fn directory_of<R: Files>(rt: &R, path: Path<'_>) -> io::Result<Identity> {
-    match way_of(rt, path) {
-        Ok(way) if way.is_open => Ok(way.directory),
-        Ok(_) => Err(not_a_directory()),
-        Err(error) => Err(error),
-    }
-}
-
-/// The error, unless a directory is there, links followed.
-pub fn find_directory<R: Files>(rt: &R, path: &str) -> io::Result<()> {
-    match found_behind(rt, path) {
-        Ok(found) if found.is_directory => Ok(()),
-        Ok(found) if found.is_there => Err(not_a_directory()),
-        Ok(_) => Err(no_file()),
-        Err(error) => Err(error),
+    let way = match way_of(rt, path) {
+        Ok(way) => way,
+        Err(error) => return Err(error),
+    };
+    if way.is_open {
+        Ok(way.directory)
+    } else {
+        Err(not_a_directory())
     }
 }
 
@@ -140,7 +129,7 @@ pub fn plain<R: Files>(rt: &R, path: Path<'_>) -> io::Result<Found> {
         Err(error) => return out_of_reach(error),
     };
     if !way.is_open {
-        return Ok(Found::nothing());
+        return Ok(Found::NOTHING);
     }
     match found_at(rt, path) {
         Ok(found) => Ok(Found {
@@ -152,44 +141,39 @@ pub fn plain<R: Files>(rt: &R, path: Path<'_>) -> io::Result<Found> {
 }
 
 /// Nothing, where the error says that it can't be reached.
-fn out_of_reach(error: io::Error) -> io::Result<Found> {
+pub fn out_of_reach(error: io::Error) -> io::Result<Found> {
     match error.kind() {
         ErrorKind::InvalidFilename | ErrorKind::PermissionDenied | ErrorKind::FilesystemLoop => {
-            Ok(Found::nothing())
+            Ok(Found::NOTHING)
         }
         _ => Err(error),
     }
 }
 
-/// Whether the file at a path may be replaced: where anything but a regular file stands there, a link too, or on the way, that is
+/// Whether the file at a path in a directory may be replaced: where anything but a regular file stands there, a link too, that is
 /// an error.
-pub fn replaceable<R: Files>(rt: &R, path: Path<'_>) -> io::Result<()> {
-    match directory_of(rt, path) {
-        Ok(_) => replaceable_here(rt, path),
-        Err(error) => Err(error),
+pub fn replaceable<R: Files>(rt: &R, path: &str) -> io::Result<()> {
+    let found = match found_itself(rt, path) {
+        Ok(found) => found,
+        Err(error) => return Err(error),
+    };
+    if found.is_there && !found.is_file {
+        Err(not_a_file(found))
+    } else {
+        Ok(())
     }
 }
 
-/// The same in a directory that was seen to be one.
-pub fn replaceable_here<R: Files>(rt: &R, path: Path<'_>) -> io::Result<()> {
-    match found_itself(rt, path.text) {
-        Ok(found) if found.is_there && !found.is_file => Err(not_a_file(found)),
-        Ok(_) => Ok(()),
-        Err(error) => Err(error),
-    }
-}
-
-/// Whether a run can begin to which the words give the file at this path. A directory there is an error, and so is a pipe or a
-/// device where the file is needed. A link isn't followed, so it counts as no file, and so does what can't be reached.
-pub fn usable<R: Files>(rt: &R, path: Path<'_>, is_needed: bool) -> io::Result<()> {
-    match found_itself(rt, path.text) {
-        Ok(found) if found.is_directory => Err(not_a_file(found)),
-        Ok(found) if is_needed && found.is_special() => Err(not_a_file(found)),
-        Ok(_) => Ok(()),
-        Err(error) => match out_of_reach(error) {
-            Ok(_) => Ok(()),
-            Err(error) => Err(error),
-        },
+/// What was found, or the error where that is no regular file.
+pub fn regular(found: io::Result<Found>) -> io::Result<Found> {
+    let found = match found {
+        Ok(found) => found,
+        Err(error) => return Err(error),
+    };
+    if found.is_file {
+        Ok(found)
+    } else {
+        Err(no_file())
     }
 }
 
@@ -207,22 +191,11 @@ pub fn no_file() -> io::Error {
 }
 
 /// The answer where this stands in place of a regular file.
-fn not_a_file(found: Found) -> io::Error {
+pub fn not_a_file(found: Found) -> io::Error {
     io::Error::new(ErrorKind::AlreadyExists, found.kind())
 }
 
 /// The answer where something on the way is no directory.
 pub fn not_a_directory() -> io::Error {
     io::Error::new(ErrorKind::NotADirectory, "Not a directory")
-}
-
-/// The directory that the first components of a path are, or the path itself where it has no more than these.
-pub fn first_parts(path: Path<'_>, parts: u64) -> Path<'_> {
-    let Some(last) = parts.checked_sub(1) else {
-        return path;
-    };
-    match path.text.match_indices('/').nth(last as usize) {
-        Some((slash, _)) => path.directory(slash),
-        None => path,
-    }
 }

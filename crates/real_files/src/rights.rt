@@ -17,29 +17,25 @@ pub struct Rights {
 }
 
 impl Rights {
+    /// That all may do all, whoever owns it.
+    pub const ALL: Rights = Rights {
+        owner: 0,
+        group: 0,
+        bits: PERMISSION_BITS,
+    };
+
+    /// Those of nothing.
+    pub const NONE: Rights = Rights {
+        owner: 0,
+        group: 0,
+        bits: 0,
+    };
+
     pub fn of(found: &Metadata) -> Rights {
         Rights {
             owner: found.uid(),
             group: found.gid(),
             bits: found.mode() & PERMISSION_BITS,
-        }
-    }
-
-    /// That all may do all, whoever owns it.
-    pub fn all() -> Rights {
-        Rights {
-            owner: 0,
-            group: 0,
-            bits: PERMISSION_BITS,
-        }
-    }
-
-    /// Those of nothing.
-    pub fn none() -> Rights {
-        Rights {
-            owner: 0,
-            group: 0,
-            bits: 0,
         }
     }
 
@@ -49,15 +45,6 @@ impl Rights {
             owner: self.owner,
             group: self.group,
             bits: self.bits & most.bits,
-        }
-    }
-
-    /// The same bits, for the owner and the group of the other file.
-    pub fn owned_as(self, other: Rights) -> Rights {
-        Rights {
-            owner: other.owner,
-            group: other.group,
-            bits: self.bits,
         }
     }
 
@@ -87,34 +74,24 @@ impl Rights {
             bits: (self.bits & 0o111) * 7,
         }
     }
-
-    fn has_owner_of(self, other: Rights) -> bool {
-        self.owner == other.owner && self.group == other.group
-    }
 }
 
-/// Gives a file these rights: the owner and the group first, as far as the process may, and then the bits. It is called while
-/// the file is its owner's alone, so that no bit ever speaks of another owner or group than it was meant for.
+/// Gives a file these rights: the owner and the group first, or the group alone, or neither, whichever the system allows, and
+/// then the bits. It is called while the file is its owner's alone, so that no bit ever speaks of another owner or group than it
+/// was meant for.
 pub fn give(file: &File, wanted: Rights) -> io::Result<()> {
-    let now = owned(file, wanted)?;
+    let mut now = rights_of(file)?;
+    if now.owner != wanted.owner || now.group != wanted.group {
+        if fchown(file, Some(wanted.owner), Some(wanted.group)).is_err() {
+            let _ = fchown(file, None, Some(wanted.group));
+        }
+        now = rights_of(file)?;
+    }
     let bits = bits_for(wanted, now);
     if now.bits == bits {
         return Ok(());
     }
     file.set_permissions(Permissions::from_mode(bits))
-}
-
-/// Gives a file the owner and the group, or the group alone, or neither, whichever the system allows, if it has others, and
-/// tells what it has then.
-fn owned(file: &File, wanted: Rights) -> io::Result<Rights> {
-    let old = rights_of(file)?;
-    if old.has_owner_of(wanted) {
-        return Ok(old);
-    }
-    if fchown(file, Some(wanted.owner), Some(wanted.group)).is_err() {
-        let _ = fchown(file, None, Some(wanted.group));
-    }
-    rights_of(file)
 }
 
 pub fn rights_of(file: &File) -> io::Result<Rights> {

@@ -6,9 +6,9 @@
 
 use crate::found::Found;
 use crate::origins::{Due, own};
-use crate::reading::Seen;
 use crate::rights::Rights;
-use std::alloc::{AllocError, Global};
+use std::alloc::Global;
+use std::io;
 
 /// What the names of the stack's files begin with.
 const OWN: &str = ".pc/";
@@ -25,7 +25,7 @@ struct Gone {
 pub struct Saves {
     alloc: Global,
     /// Whether the tree is a stack's at all.
-    pub is_stack: bool,
+    is_stack: bool,
     /// What all files let others do that were read since a temporary was started last.
     audience: Option<Rights>,
     /// The rights of the save that was looked at last: what is put is from it, until another save is started.
@@ -51,9 +51,13 @@ impl Saves {
         }
     }
 
-    /// The bytes of a file were read.
-    pub fn read(&mut self, seen: Seen) {
-        self.audience = Some(met(self.audience, seen.audience));
+    /// The bytes of a file were read. This is what those may do with it who can come to it.
+    pub fn read(&mut self, audience: Rights) {
+        let all = match self.audience {
+            Some(others) => others.met(audience),
+            None => audience,
+        };
+        self.audience = Some(all);
     }
 
     /// The temporary of this name was started.
@@ -64,15 +68,18 @@ impl Saves {
         }
     }
 
-    /// A file is taken away.
-    pub fn take_away(&mut self, name: &str, found: Found) -> Result<(), AllocError> {
+    /// A file with these rights is taken away.
+    pub fn take_away(&mut self, name: &str, rights: Rights) -> io::Result<()> {
         if !self.is_stack {
             return Ok(());
         }
-        let name = String::from_str(self.alloc, name)?;
-        let rights = found.rights;
-        self.gone.push(Gone { name, rights })?;
-        Ok(())
+        match String::from_str(self.alloc, name) {
+            Ok(name) => {
+                self.gone.push(Gone { name, rights })?;
+                Ok(())
+            }
+            Err(error) => Err(error.into()),
+        }
     }
 
     /// The rights that are due where `old` stands, if anything does: `other` where no stack has a say.
@@ -81,37 +88,28 @@ impl Saves {
             return other;
         }
         if is_save(name) {
-            return shown_to(self.audience);
+            return match self.audience {
+                Some(audience) => Due::ShownTo(audience),
+                None => Due::New,
+            };
         }
         // What else the stack keeps holds nothing of others.
         if name.starts_with(OWN) {
             return own(old);
         }
-        match self.source {
-            Some(source) => self.due_back(name, old, source),
-            None => self.due_made(name, old, other),
-        }
-    }
-
-    /// Of a file that is put back from a save.
-    fn due_back(&self, name: &str, old: Found, source: Rights) -> Due {
         if old.is_file {
-            return Due::Exactly(old.rights);
+            return match self.source {
+                Some(_) => Due::Exactly(old.rights),
+                None => other,
+            };
         }
-        match self.rights_gone(name) {
-            Some(gone) => Due::Exactly(gone),
-            None => Due::AtMost(source),
-        }
-    }
-
-    /// Of a file that a patch makes: where one was taken away, no more than it had, since its bytes may come over this one.
-    fn due_made(&self, name: &str, old: Found, other: Due) -> Due {
-        if old.is_file {
-            return other;
-        }
-        match self.rights_gone(name) {
-            Some(gone) => within(other, gone),
-            None => other,
+        match (self.source, self.rights_gone(name)) {
+            // It is put back from a save.
+            (Some(_), Some(gone)) => Due::Exactly(gone),
+            (Some(source), None) => Due::AtMost(source),
+            // A patch makes it: no more than what was taken away had, since its bytes may come over this one.
+            (None, Some(gone)) => within(other, gone),
+            (None, None) => other,
         }
     }
 
@@ -126,13 +124,6 @@ impl Saves {
     }
 }
 
-fn shown_to(audience: Option<Rights>) -> Due {
-    match audience {
-        Some(audience) => Due::ShownTo(audience),
-        None => Due::New,
-    }
-}
-
 /// No more than these rights.
 fn within(due: Due, most: Rights) -> Due {
     match due {
@@ -140,13 +131,6 @@ fn within(due: Due, most: Rights) -> Due {
         Due::AtMost(rights) => Due::AtMost(rights.met(most)),
         Due::ShownTo(rights) => Due::ShownTo(rights.met(most)),
         Due::New => Due::AtMost(most),
-    }
-}
-
-fn met(audience: Option<Rights>, more: Rights) -> Rights {
-    match audience {
-        Some(audience) => audience.met(more),
-        None => more,
     }
 }
 

@@ -1,9 +1,12 @@
-//! The temporaries that are being filled, and the rights that each gets once it is sealed.
-ghost use Rattle.std.specs.Prelude.{◌<◌, length, IfSome};
+//! The temporaries that are being filled, the rights that each gets once it is sealed, and the file that the next one is filled
+//! from.
 
-use crate::paths::Path;
+use crate::found::Found;
+use crate::origins::Origin;
+use crate::paths::{Path, target_of};
 use crate::rights::Rights;
-use std::alloc::{AllocError, Global};
+use std::alloc::Global;
+use std::io;
 
 #[derive(Drop)]
 pub struct Temporary {
@@ -21,73 +24,71 @@ impl Temporary {
     }
 }
 
-/// In the order in which they were started.
 #[derive(Drop)]
 pub struct Temporaries {
-    all: Vec<Temporary>,
+    alloc: Global,
+    /// In the order in which they were started.
+    pub all: Vec<Temporary>,
+    pub origin: Option<Origin>,
 }
 
 impl Temporaries {
     pub fn new(alloc: Global) -> Temporaries {
         Temporaries {
+            alloc,
             all: Vec::new(alloc),
+            origin: None,
         }
     }
 
     /// Keeps one that was started, and its rights.
-    pub fn begin(
-        &mut self,
-        alloc: Global,
-        temp: Path<'_>,
-        rights: Rights,
-    ) -> Result<(), AllocError> {
+    pub fn begin(&mut self, temp: Path<'_>, rights: Rights) -> io::Result<()> {
+        if let Some(origin) = &mut self.origin {
+            origin.was_read = false;
+        }
         self.end(temp.text);
-        let name = String::from_str(alloc, temp.text)?;
-        let given = temp.given;
-        self.all.push(Temporary {
-            name,
-            given,
-            rights,
-        })?;
-        Ok(())
+        match String::from_str(self.alloc, temp.text) {
+            Ok(name) => {
+                let given = temp.given;
+                self.all.push(Temporary {
+                    name,
+                    given,
+                    rights,
+                })?;
+                Ok(())
+            }
+            Err(error) => Err(error.into()),
+        }
     }
 
-    pub fn is_empty(&self) -> bool {
-        self.all.is_empty()
-    }
-
-    /// The one that was started last.
-    pub fn last(&self) -> Option<Path<'_>> {
+    /// The name that the one is for which was started last.
+    pub fn last_target(&self) -> Option<Path<'_>> {
         match self.all.last() {
-            Some(last) => Some(last.path()),
+            Some(last) => Some(target_of(last.path())),
             None => None,
         }
     }
 
-    /// The one that was started last is filled from a file with these rights.
-    pub fn fill(&mut self, rights: Rights) {
-        if let Some(last) = self.all.last_mut() {
-            last.rights = rights;
+    /// Keeps a file that was looked at, or that none is there. While temporaries are being filled it is what the last of them
+    /// is filled from.
+    pub fn saw(&mut self, found: Found, was_read: bool) {
+        match self.all.last_mut() {
+            Some(last) => {
+                if found.is_file {
+                    last.rights = found.rights;
+                }
+            }
+            None if found.is_file => self.origin = Some(Origin { found, was_read }),
+            None => self.origin = None,
         }
-    }
-
-    pub fn all(&self) -> &[Temporary] {
-        &self.all
     }
 
     /// Forgets one, and tells its rights.
     pub fn end(&mut self, name: &str) -> Option<Rights> {
-        let place = self.place_of(name)?;
-        let gone = self.all.remove(place);
-        Some(gone.rights)
-    }
-
-    fn place_of(&self, name: &str) -> Option<usize>
-        ensures { IfSome result (λ place. place < length self.now.all.items) }
-    {
         for place in 0..self.all.len() {
             if self.all[place].name.as_str() == name {
-                return Some(place);
+                let gone = self.all.remove(place);
+                return Some(gone.rights);
             }
         }
         None

@@ -24,19 +24,16 @@ pub fn trouble_of(alloc: Global, name: &str, error: io::Error) -> Option<Trouble
 
 /// A temporary is shown as the file that it is for, unless a directory stands at its own name; and what is to be told of that.
 fn shown(name: &str, kind: ErrorKind) -> (&str, &'static str) {
-    if matches!(kind, ErrorKind::IsADirectory) {
+    let Some(target) = name.strip_suffix(".ptmp") else {
+        return (name, "");
+    };
+    if matches!(kind, ErrorKind::IsADirectory) || target.is_empty() || target.ends_with('/') {
         return (name, "");
     }
-    match name.strip_suffix(".ptmp") {
-        Some(target) if !target.is_empty() && !target.ends_with('/') => (target, beside(kind)),
-        _ => (name, ""),
-    }
-}
-
-fn beside(kind: ErrorKind) -> &'static str {
-    match kind {
-        ErrorKind::PermissionDenied => BESIDE,
-        _ => "",
+    if matches!(kind, ErrorKind::PermissionDenied) {
+        (target, BESIDE)
+    } else {
+        (target, "")
     }
 }
 

@@ -39,30 +39,20 @@ impl Directories {
         known: Option<Identity>,
         makes_way: bool,
     ) -> io::Result<()> {
-        match self.directory_for(rt, name, known, makes_way) {
+        let found = match known {
+            Some(directory) if leads_to(rt, name, directory) => Ok(directory),
+            _ if makes_way => self.make_way(rt, name),
+            _ => directory_of(rt, name),
+        };
+        match found {
             Ok(directory) => self.note(rt, name.parent(), directory),
             Err(error) => Err(error),
         }
     }
 
-    /// The directory that a name stands in: the one that is known, where the name still leads there.
-    fn directory_for<R: Files<File = File>>(
-        &mut self,
-        rt: &R,
-        name: Path<'_>,
-        known: Option<Identity>,
-        makes_way: bool,
-    ) -> io::Result<Identity> {
-        match known {
-            Some(directory) if leads_to(rt, name, directory) => Ok(directory),
-            _ if makes_way => self.make_way(rt, name),
-            _ => directory_of(rt, name),
-        }
-    }
-
     /// Makes the directories of a name that are missing, and tells the last one.
     fn make_way<R: Files<File = File>>(&mut self, rt: &R, name: Path<'_>) -> io::Result<Identity> {
-        let mut last = Identity::here();
+        let mut last = Identity::HERE;
         for (slash, _) in name.text.match_indices('/') {
             match self.reach(rt, name.directory(slash), last) {
                 Ok(directory) => last = directory,
@@ -79,18 +69,16 @@ impl Directories {
         directory: Path<'_>,
         within: Identity,
     ) -> io::Result<Identity> {
-        match found_at(rt, directory) {
-            Ok(found) if found.is_directory => return Ok(found.identity),
-            Ok(found) if found.is_there => return Err(not_a_directory()),
-            Ok(_) => {}
-            Err(error) => return Err(error),
+        let mut found = found_at(rt, directory)?;
+        if !found.is_there {
+            self.note(rt, directory.parent(), within)?;
+            fs::create_dir(rt, directory.text)?;
+            found = found_at(rt, directory)?;
         }
-        self.note(rt, directory.parent(), within)?;
-        fs::create_dir(rt, directory.text)?;
-        match found_at(rt, directory) {
-            Ok(found) if found.is_directory => Ok(found.identity),
-            Ok(_) => Err(not_a_directory()),
-            Err(error) => Err(error),
+        if found.is_directory {
+            Ok(found.identity)
+        } else {
+            Err(not_a_directory())
         }
     }
 

@@ -1,11 +1,13 @@
 //! The temporary that is being written. What is put into it is gathered, and written in large pieces.
 
-use crate::paths::no_file;
+use crate::fresh::make_anew;
+use crate::paths::{Path, no_file, plain, regular};
 use crate::rights::{Rights, give};
 use std::alloc::Global;
-use std::fs::File;
+use std::fs::{File, OpenFile, OpenOptions};
 use std::io;
 use std::io::{BufWriter, Write};
+use std::rt::Files;
 
 /// How many bytes are gathered before they are written.
 const PIECE: usize = 65_536;
@@ -19,21 +21,82 @@ struct Open {
 /// The file that is open to be written, if there is one.
 #[derive(Drop)]
 pub struct Writing {
+    alloc: Global,
     open: Option<Open>,
 }
 
 impl Writing {
-    pub fn new() -> Writing {
-        Writing { open: None }
+    pub fn new(alloc: Global) -> Writing {
+        Writing { alloc, open: None }
     }
 
-    /// Opens a file that has this name.
-    pub fn open(&mut self, alloc: Global, name: &str, file: File) -> io::Result<()> {
-        let writer = match BufWriter::with_capacity(alloc, PIECE, file) {
+    /// Makes a new file, and opens it. Only its owner reads it.
+    pub fn make<R: Files<File = File>>(&mut self, rt: &R, temp: Path<'_>) -> io::Result<()> {
+        match make_anew(rt, temp.text, 0o600) {
+            Ok(file) => self.keep(temp.text, file),
+            Err(error) => Err(error),
+        }
+    }
+
+    /// Gathers a piece, and writes what was gathered where there is no room for it.
+    pub fn append<R: Files<File = File>>(
+        &mut self,
+        rt: &R,
+        temp: Path<'_>,
+        piece: &[u8],
+    ) -> io::Result<()> {
+        match self.resume(rt, temp) {
+            Ok(()) => match &mut self.open {
+                Some(open) => open.writer.write_all(piece),
+                None => Err(no_file()),
+            },
+            Err(error) => Err(error),
+        }
+    }
+
+    /// Writes what was gathered, gives the file these rights, syncs it, and closes it.
+    pub fn seal<R: Files<File = File>>(
+        &mut self,
+        rt: &R,
+        temp: Path<'_>,
+        rights: Option<Rights>,
+    ) -> io::Result<()> {
+        self.resume(rt, temp)?;
+        let Some(open) = &mut self.open else {
+            return Err(no_file());
+        };
+        open.writer.flush()?;
+        let file = open.writer.get_ref();
+        if let Some(rights) = rights {
+            give(file, rights)?;
+        }
+        file.sync_all()?;
+        self.leave_all();
+        Ok(())
+    }
+
+    /// Opens a temporary that was started, for what is to stand behind its bytes.
+    fn resume<R: Files<File = File>>(&mut self, rt: &R, temp: Path<'_>) -> io::Result<()> {
+        if self.is_at(temp.text) {
+            return Ok(());
+        }
+        self.finish()?;
+        if let Err(error) = regular(plain(rt, temp)) {
+            return Err(error);
+        }
+        match OpenOptions::new().append(true).open(rt, temp.text) {
+            Ok(file) => self.keep(temp.text, file),
+            Err(error) => Err(error),
+        }
+    }
+
+    /// Keeps a file open that has this name.
+    fn keep(&mut self, name: &str, file: File) -> io::Result<()> {
+        let writer = match BufWriter::with_capacity(self.alloc, PIECE, file) {
             Ok(writer) => writer,
             Err(error) => return Err(error.into()),
         };
-        match String::from_str(alloc, name) {
+        match String::from_str(self.alloc, name) {
             Ok(name) => {
                 self.open = Some(Open { name, writer });
                 Ok(())
@@ -42,18 +105,10 @@ impl Writing {
         }
     }
 
-    pub fn is_at(&self, name: &str) -> bool {
+    fn is_at(&self, name: &str) -> bool {
         match &self.open {
             Some(open) => open.name.as_str() == name,
             None => false,
-        }
-    }
-
-    /// Gathers a piece, and writes what was gathered where there is no room for it.
-    pub fn append(&mut self, piece: &[u8]) -> io::Result<()> {
-        match &mut self.open {
-            Some(open) => open.writer.write_all(piece),
-            None => Err(no_file()),
         }
     }
 
@@ -77,7 +132,7 @@ impl Writing {
     /// Writes what was gathered, and closes the file.
     pub fn finish(&mut self) -> io::Result<()> {
         self.flush()?;
-        self.open = None;
+        self.leave_all();
         Ok(())
     }
 
@@ -93,33 +148,12 @@ impl Writing {
     /// Closes the file, if it has this name, and lets go what was gathered.
     pub fn leave(&mut self, name: &str) {
         if self.is_at(name) {
-            self.open = None;
+            self.leave_all();
         }
     }
 
     /// Closes the file, and lets go what was gathered.
     pub fn leave_all(&mut self) {
         self.open = None;
-    }
-
-    /// Writes what was gathered, gives the file these rights, syncs it, and closes it.
-    pub fn seal(&mut self, rights: Option<Rights>) -> io::Result<()> {
-        match &mut self.open {
-            Some(open) => open.sync(rights)?,
-            None => return Err(no_file()),
-        }
-        self.open = None;
-        Ok(())
-    }
-}
-
-impl Open {
-    fn sync(&mut self, rights: Option<Rights>) -> io::Result<()> {
-        self.writer.flush()?;
-        let file = self.writer.get_ref();
-        if let Some(rights) = rights {
-            give(file, rights)?;
-        }
-        file.sync_all()
     }
 }
