@@ -71,7 +71,7 @@ impl<'r, R: Files<File = File>> Disk<'r, R> {
 
     /// What failed last.
     pub fn trouble(&self) -> Option<&Trouble> {
-        self.faults.trouble()
+        self.faults.trouble.as_ref()
     }
 
     /// The name of the last file that was looked for and isn't there, and why, as `d/n: not found`.
@@ -91,18 +91,16 @@ impl<'r, R: Files<File = File>> Disk<'r, R> {
 
     /// A file of up to 1 MiB, where it is there. No fault is counted, so it is asked behind a run.
     pub fn text(&mut self, alloc: Global, name: &Name) -> Option<Vec<u8>> {
-        match self.files.size(Path::of(name)) {
-            Ok(Some(size)) if size <= LARGEST_TEXT => self.read_text(alloc, name, size as usize),
-            _ => None,
-        }
-    }
-
-    fn read_text(&mut self, alloc: Global, name: &Name, size: usize) -> Option<Vec<u8>> {
+        let path = Path::of(name);
+        let size = match self.files.size(path) {
+            Ok(Some(size)) if size <= LARGEST_TEXT => size as usize,
+            _ => return None,
+        };
         let mut text = match vec![in alloc; 0u8; size] {
             Ok(text) => text,
             Err(_) => return None,
         };
-        match self.files.read_at(Path::of(name), 0, &mut text) {
+        match self.files.read_at(path, 0, &mut text) {
             Ok(count) => {
                 text.truncate(count);
                 Some(text)
@@ -120,21 +118,21 @@ impl Seen {
         }
     }
 
-    /// Looks at what was read, where that is the front of a file.
+    /// Looks at what was read, where that is the front of a file: lets a patch text go by, which is read at once, or notes how the
+    /// first line ends of a file that may be patched, which has no patch text and keeps nothing of a stack.
     fn see(&mut self, name: &str, at: u64, read: &io::Result<usize>, buf: &[u8]) {
-        if let (0, Ok(count)) = (at, read) {
-            self.see_front(name, buf.get(..*count).unwrap_or(&[]));
-        }
-    }
-
-    /// Lets a patch text go by, which is read at once, or notes how the first line ends of a file that may be patched: it has no
-    /// patch text, and keeps nothing of a stack.
-    fn see_front(&mut self, name: &str, front: &[u8]) {
+        let (0, Ok(count)) = (at, read) else {
+            return;
+        };
+        let front = buf.get(..*count).unwrap_or(&[]);
         if is_patch(&self.places, name) {
             self.passed.whole(front);
-        } else if !is_kept(&self.places, name) {
-            self.ends.note(name, front);
+            return;
         }
+        if self.places.is_stack && (name.starts_with("patches/") || name.starts_with(".pc/")) {
+            return;
+        }
+        self.ends.note(name, front);
     }
 }
 
@@ -147,26 +145,16 @@ fn is_patch(places: &Places, name: &str) -> bool {
     }
 }
 
-/// Whether the file keeps something of a stack.
-fn is_kept(places: &Places, name: &str) -> bool {
-    places.is_stack && (name.starts_with("patches/") || name.starts_with(".pc/"))
-}
-
-fn text_of(root: &Option<String>) -> &str {
-    match root {
-        Some(root) => root.as_str(),
-        None => ".",
-    }
-}
-
 /// Whether a run can begin, and the name that is meant: its directory is there, and no directory, pipe or device stands in place of
 /// a file that the words name. What stands in place of a reject file matters only once there are rejects, but for a directory.
 fn begun<'a, R: Files<File = File>>(
     files: &OpenFiles<'_, R>,
     places: &'a Places,
 ) -> (&'a str, io::Result<()>) {
-    if let Err(error) = files.find_root(&places.root) {
-        return (text_of(&places.root), Err(error));
+    if let Some(root) = &places.root {
+        if let Err(error) = files.find_root(&places.root) {
+            return (root.as_str(), Err(error));
+        }
     }
     let file = found(files, &places.file, true);
     if file.1.is_err() {

@@ -10,7 +10,8 @@ use std::io;
 #[derive(Drop)]
 pub struct Faults {
     alloc: Global,
-    trouble: Option<Trouble>,
+    /// What failed last.
+    pub trouble: Option<Trouble>,
     pub count: u64,
 }
 
@@ -21,11 +22,6 @@ impl Faults {
             trouble: None,
             count: 0,
         }
-    }
-
-    /// What failed last.
-    pub fn trouble(&self) -> Option<&Trouble> {
-        self.trouble.as_ref()
     }
 
     /// The answer of a call on the device or the file of this name. A fault is counted where the system answered one.

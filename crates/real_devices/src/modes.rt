@@ -12,7 +12,8 @@ const LONGEST: usize = 8_192;
 /// The first line of each such header, and directly behind it those of the modes.
 #[derive(Drop)]
 pub struct Modes {
-    lines: Vec<u8>,
+    /// The lines that were found.
+    pub lines: Vec<u8>,
     /// The end of what was looked through, in which a header may begin.
     open: Vec<u8>,
 }
@@ -23,11 +24,6 @@ impl Modes {
             lines: Vec::new(alloc),
             open: Vec::new(alloc),
         }
-    }
-
-    /// The lines that were found.
-    pub fn lines(&self) -> &[u8] {
-        &self.lines
     }
 
     /// Looks through a whole text. What was found before goes.
@@ -46,7 +42,11 @@ impl Modes {
         }
         let _ = self.open.extend_from_slice(piece);
         let taken = take_headers(&mut self.lines, &self.open);
-        leave_from(&mut self.open, taken);
+        let length = self.open.len();
+        if taken <= length {
+            self.open.copy_within(taken.., 0);
+            self.open.truncate(length - taken);
+        }
     }
 }
 
@@ -80,22 +80,14 @@ fn is_open(lines: &mut Vec<u8>, text: &[u8], begin: usize) -> bool {
 fn modes_end(header: &[u8]) -> Option<usize> {
     let first = line_end(header, 0)?;
     let second = line_end(header, first)?;
-    match modes_of(header.get(first..second).unwrap_or(&[])) {
-        0 => Some(0),
-        1 => Some(second),
-        _ => line_end(header, second),
-    }
-}
-
-/// How many lines say of a mode where this is the first one.
-fn modes_of(line: &[u8]) -> usize {
+    let line = header.get(first..second).unwrap_or(&[]);
     if line.starts_with(b"old mode ") {
-        return 2;
+        return line_end(header, second);
     }
     if line.starts_with(b"new file mode ") || line.starts_with(b"deleted file mode ") {
-        1
+        Some(second)
     } else {
-        0
+        Some(0)
     }
 }
 
@@ -104,14 +96,5 @@ fn line_end(text: &[u8], begin: usize) -> Option<usize> {
     match memchr(b'\n', text.get(begin..).unwrap_or(&[])) {
         Some(length) => Some(begin.saturating_add(length).saturating_add(1)),
         None => None,
-    }
-}
-
-/// Lets what stands in front of a place go.
-fn leave_from(text: &mut Vec<u8>, place: usize) {
-    let length = text.len();
-    if place <= length {
-        text.copy_within(place.., 0);
-        text.truncate(length - place);
     }
 }

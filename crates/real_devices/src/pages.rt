@@ -42,7 +42,7 @@ impl<'r, R: Files<File = File>> Pages<'r, R> {
 
     /// What failed last.
     pub fn trouble(&self) -> Option<&Trouble> {
-        self.faults.trouble()
+        self.faults.trouble.as_ref()
     }
 
     fn write(&self, at: u64, piece: &[u8]) -> io::Result<()> {

@@ -50,7 +50,7 @@ impl Passed {
     /// The lines in which git headers say of a mode: of each header the first line, and behind it its lines `old mode` and
     /// `new mode`, `new file mode`, or `deleted file mode`.
     pub fn mode_lines(&self) -> &[u8] {
-        self.modes.lines()
+        &self.modes.lines
     }
 
     /// The text that goes by is in the file of this name.

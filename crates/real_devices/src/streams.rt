@@ -41,7 +41,7 @@ impl<R: Read + Drop> Input<R> {
 
     /// What failed last.
     pub fn trouble(&self) -> Option<&Trouble> {
-        self.faults.trouble()
+        self.faults.trouble.as_ref()
     }
 }
 
@@ -105,7 +105,7 @@ impl<W: Write + Drop> Output<W> {
 
     /// What failed last.
     pub fn trouble(&self) -> Option<&Trouble> {
-        self.faults.trouble()
+        self.faults.trouble.as_ref()
     }
 
     /// What was said that more is told of.
