@@ -1,6 +1,7 @@
 -- Places reached from another one of the same page.
 use Rattle.std.proofs.Common.{◌≡◌, ℕ, ◌+◌, ◌-◌, ◌<◌, ◌≤◌, List, length, Bool, true, false, Option, Some, None, IfSome, inl, inr, refl, sym, ap, subst, ◌∙◌, arith}
-use Rattle.std.specs.Option.{option_map}
+use Rattle.std.specs.Option.{option_map, option_or}
+use Rattle.std.specs.Prelude.{unwrap_or}
 use Rattle.std.proofs.lemmas.Bool.{cases_lt}
 use Rattle.outside.specs.ScratchView.{ScratchView}
 use Rattle.line_store.specs.declared.Half.{Half}
@@ -154,8 +155,36 @@ moved-page pair l places v h o k at x b held is reaches low most e told =
     subst (λ n. IsPageOf l b n x.page) (moved-number o k at x e)
     (page-plain l b x.line x.page x.first x.next held.layout (held.packs (omega arith) b told) on.page page.first page.next on.low on.high)
 
--- the line behind the one that is held, where its record is whole
-pub reaches-next : (page : List ℕ) (p : Place) (k at : ℕ) (o : Option ℕ) → IsWhole page p → k ≡ p.line + 1 → k < p.next → at ≡ p.at + 4 + stated page p.at → IfSome o (λ n. (n ≡ at) × (at + 4 + stated page at ≤ length page)) → IfReaches page (Some p) k o
-reaches-next page p k at None whole line lt place fits = tt
-reaches-next page p k at (Some n) whole line lt place fits =
-    follows-next page p (moved k n p) whole (omega arith) line refl refl refl (fits.0 ∙ place) (subst (λ m. m + 4 + stated page m ≤ length page) (sym fits.0) fits.1)
+-- the line that is held itself, and the one behind it
+pub near-self : (page : List ℕ) (held : Option Place) (p : Place) (k : ℕ) → held ≡ Some p → IsWhole page p → p.line < p.next → p.line ≡ k → IfNear page held k (Some p)
+near-self page held p k is whole lt same = subst (λ h. IfNear page h k (Some p)) (sym is) (follows-self page p whole lt, same)
+
+pub near-next : (page : List ℕ) (held : Option Place) (p : Place) (k : ℕ) (o : Option Place) → held ≡ Some p → k ≡ p.line + 1 → IfSome o (λ q. Follows page p q) → IfSome o (λ q. q.line ≡ p.line + 1) → IfNear page held k o
+near-next page held p k None is line follows next = tt
+near-next page held p k (Some q) is line follows next = subst (λ h. IfNear page h k (Some q)) (sym is) (follows, next ∙ sym line)
+
+-- the line behind one, where its record is whole
+pub reaches-next : (page : List ℕ) (p : Place) (k at : ℕ) → IsWhole page p → k ≡ p.line + 1 → k < p.next → at ≡ p.at + 4 + stated page p.at → at + 4 + stated page at ≤ length page → IfReaches page (Some p) k (Some at)
+reaches-next page p k at whole line lt place fits = follows-next page p (moved k at p) whole (omega arith) line refl refl refl place fits
+
+-- the place of a pass's last line that is alike, or else of the last one that it looked at
+pub place-after : (page : List ℕ) (start last : Place) (line : List ℕ) (alike : Option Place) → Follows page start last → IfLast page start line (last.line + 1) alike → Follows page start (unwrap_or alike last) × ((unwrap_or alike last).line ≤ last.line)
+place-after page start last line None follows is = (follows, omega arith)
+place-after page start last line (Some p) follows is = (is.follows, let before : p.line < last.line + 1 = is.before in omega arith)
+
+pub none-both : (lines : List (List ℕ)) (line : List ℕ) (from middle to : ℕ) → NoneAlike lines line from middle → NoneAlike lines line middle to → NoneAlike lines line from to
+none-both lines line from middle to before behind = λ k low high. elim (cases_lt k middle) [
+  | inl lt ↦ before k low lt
+  | inr ge ↦ behind k ge high
+]
+
+-- of two lines that are alike, if there are any, the later one
+pub later-alike : (lines : List (List ℕ)) (line : List ℕ) (from middle to : ℕ) (before behind : Option ℕ) → IsLastAlike lines line from middle before → IsLastAlike lines line middle to behind → IsLastAlike lines line from to (option_or behind before)
+later-alike lines line from middle to before (Some k) a b = b
+later-alike lines line from middle to None None a b = none-both lines line from middle to a b
+later-alike lines line from middle to (Some k) None a b = (a.0, none-both lines line (k + 1) middle to a.1 b)
+
+pub later-within : (from middle to : ℕ) (before behind : Option ℕ) → from ≤ middle → middle ≤ to → IfSome before (λ k. (from ≤ k) × (k < middle)) → IfSome behind (λ k. (middle ≤ k) × (k < to)) → IfSome (option_or behind before) (λ k. (from ≤ k) × (k < to))
+later-within from middle to before (Some k) low high a b = (omega (arith, b.0), b.1)
+later-within from middle to None None low high a b = tt
+later-within from middle to (Some k) None low high a b = (a.0, omega (arith, a.1))

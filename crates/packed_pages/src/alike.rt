@@ -5,7 +5,6 @@ ghost use Rattle.line_store.specs.declared.Half.{Half};
 ghost use Rattle.line_store.specs.Store.{Keeps, HasCause, NoneAlike, IsFirstAlike, IsLastAlike};
 ghost use Rattle.std.specs.Option.{option_map};
 ghost use Rattle.packed_pages.specs.declared.places.Place.{Place};
-ghost use Rattle.packed_pages.specs.Steps.{Follows, IfLast};
 ghost use Rattle.page_pair.specs.Pair.{page_of};
 ghost use Rattle.packed_pages.specs.Marks.{AreMarked};
 ghost use Rattle.packed_pages.specs.Layout.{lines_told};
@@ -16,7 +15,7 @@ use crate::layout::Layout;
 use crate::loading::load_line;
 use crate::marks::Marks;
 use crate::places::{Place, Places};
-use crate::stepping::{LastPass, Pass, first_pass, last_pass};
+use crate::stepping::{Pass, first_pass, last_pass};
 use line_store::{Half, LineFault};
 use outside::Scratch;
 use page_pair::PagePair;
@@ -106,28 +105,8 @@ struct Reached {
     alike: Option<u64>,
 }
 
-/// Of two lines that are alike, if there are any, the later one.
-fn later_of(before: Option<u64>, behind: Option<u64>) -> Option<u64>
-    ensures last { (lines : List (List ℕ)) → (line : List ℕ) → (from middle to : ℕ) → IsLastAlike lines line from middle before → IsLastAlike lines line middle to behind → IsLastAlike lines line from to result }
-    ensures within { (from middle to : ℕ) → from ≤ middle → middle ≤ to → IfSome before (λ k. (from ≤ k) × (k < middle)) → IfSome behind (λ k. (middle ≤ k) × (k < to)) → IfSome result (λ k. (from ≤ k) × (k < to)) }
-{
-    match behind {
-        Some(k) => Some(k),
-        None => before,
-    }
-}
-
-/// The place where a half goes on: at the line that is alike, or else at the last one that was looked at.
-fn place_after(pass: LastPass) -> Place
-    ensures { (page : List ℕ) → (start : Place) → (line : List ℕ) → Follows page start pass.place → IfLast page start line (pass.place.line + 1) pass.alike → Follows page start result × (result.line ≤ pass.place.line) }
-{
-    match pass.alike {
-        Some(place) => place,
-        None => pass.place,
-    }
-}
-
-/// Looks at the lines from line `k` on, at most up to before line `to` and to the end of the page of line `k`.
+/// Looks at the lines from line `k` on, at most up to before line `to` and to the end of the page of line `k`. The half goes on at
+/// the line that is alike, or else at the last one that was looked at.
 fn last_on_page<C: Scratch>(
     pair: &mut PagePair,
     scratch: &mut C,
@@ -159,7 +138,7 @@ fn last_on_page<C: Scratch>(
         Err(fault) => return Err(fault),
     };
     let pass = last_pass(pair.page(half), start, to, line);
-    places.set(half, Some(place_after(pass)));
+    places.set(half, Some(pass.alike.unwrap_or(pass.place)));
     Ok(Reached {
         line: pass.place.line,
         alike: number_of(pass.alike),
@@ -208,26 +187,14 @@ fn last_between<C: Scratch>(
             Ok(reached) => reached,
             Err(fault) => return Err(fault),
         };
-        found = later_of(found, reached.alike);
+        found = reached.alike.or(found);
         k = reached.line + 1;
     }
     Ok(found)
 }
 
-/// Where a search goes back to from before line `end`: at most `most` lines, on the page of the place.
-fn back_on(place: Place, from: u64, end: u64, most: u64) -> u64
-    requires order { from < end }
-    requires some { 1 ≤ most }
-    ensures low { from ≤ result }
-    ensures high { result < end }
-{
-    if end <= place.first || end > place.next {
-        return end - 1;
-    }
-    u64::max(u64::max(from, place.first), end.saturating_sub(most))
-}
-
-/// Where a search goes back to: where a half holds another page, by one line.
+/// Where a search goes back to from before line `end`: at most `most` lines on the page that a half holds, and by one line where
+/// that is another page.
 fn back_from(held: Option<Place>, from: u64, end: u64, most: u64) -> u64
     requires order { from < end }
     requires some { 1 ≤ most }
@@ -235,8 +202,10 @@ fn back_from(held: Option<Place>, from: u64, end: u64, most: u64) -> u64
     ensures high { result < end }
 {
     match held {
-        Some(place) => back_on(place, from, end, most),
-        None => end - 1,
+        Some(place) if place.first < end && end <= place.next => {
+            u64::max(u64::max(from, place.first), end.saturating_sub(most))
+        }
+        _ => end - 1,
     }
 }
 
@@ -269,12 +238,10 @@ pub fn find_last<C: Scratch>(
     let mut most = FEWEST;
     while from < end {
         let k = back_from(places.get(half), from, end, most);
-        let found = match last_between(pair, scratch, places, marks, layout, k, end, line, half) {
-            Ok(found) => found,
+        match last_between(pair, scratch, places, marks, layout, k, end, line, half) {
+            Ok(None) => {}
+            Ok(Some(w)) => return Ok(Some(w)),
             Err(fault) => return Err(fault),
-        };
-        if let Some(w) = found {
-            return Ok(Some(w));
         }
         end = k;
         most = u64::min(2 * most, MOST);

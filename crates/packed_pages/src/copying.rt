@@ -15,6 +15,7 @@ ghost use Rattle.packed_pages.specs.Copying.{Copies, IsLineFault, IsCopyFault, I
 
 use crate::filling::{Filling, flush, put_record, write_entry};
 use crate::layout::Layout;
+use file_pieces::paging::restart;
 use file_pieces::reading::{read_piece, whole_line};
 use file_pieces::room::Room;
 use line_store::{Half, OpenFault};
@@ -131,7 +132,10 @@ fn copy_piece<T: Tree, C: Scratch>(
     ensures copied { IfOk result (λ now. IsCopied layout (C.view scratch.new).told (page_of pair.new Second) now.at now.filling (told_file (T.view tree.old) name.now)) }
     ensures cause { IfErr result (λ e. IsTakeFault e (C.view scratch.old) (C.view scratch.new) (T.view tree.old) (T.view tree.new)) }
 {
-    let got = read_piece(pair, tree, name, copied.at, length)?;
+    let got = match read_piece(pair, tree, name, copied.at, length) {
+        Ok(got) => got,
+        Err(fault) => return Err(fault),
+    };
     let is_last = copied.at + got as u64 == length;
     let now = match copy_lines(pair, scratch, layout, copied.filling, got, is_last) {
         Ok(now) => now,
@@ -247,8 +251,8 @@ fn copy_pages<T: Tree, C: Scratch>(
     }
 }
 
-/// Copies a file of `length` bytes that was measured, into a scratch that holds nothing.
-pub fn copy_file<T: Tree, C: Scratch>(
+/// Copies a file that was measured, over what the scratch held.
+pub fn copy_anew<T: Tree, C: Scratch>(
     pair: &mut PagePair,
     scratch: &mut C,
     tree: &mut T,
@@ -261,7 +265,6 @@ pub fn copy_file<T: Tree, C: Scratch>(
     requires measured { (text : List ℕ) → told_file (T.view tree.old) name.now ≡ Some text → IsMeasuredAs layout (lines text) }
     requires layout { IsLayout layout }
     requires size { layout.size ≡ pair.old.size }
-    requires empty { (b : List ℕ) → (C.view scratch.old).told ≡ Some b → b ≡ [] }
     requires short { length < 2 ^ 40 }
     ensures untouched { IsUntouched (T.view tree.old) (T.view tree.new) }
     ensures size { pair.new.size ≡ pair.old.size }
@@ -269,6 +272,10 @@ pub fn copy_file<T: Tree, C: Scratch>(
     ensures written { OnOk result (IsWritten layout (C.view scratch.new).told (told_file (T.view tree.old) name.now)) }
     ensures cause { IfErr result (λ e. IsTakeFault e (C.view scratch.old) (C.view scratch.new) (T.view tree.old) (T.view tree.new)) }
 {
+    match restart(scratch) {
+        Ok(()) => {}
+        Err(fault) => return Err(fault),
+    }
     match lay_entries(scratch, layout.pages) {
         Ok(()) => {}
         Err(fault) => return Err(fault),

@@ -77,33 +77,32 @@ fn open_page<C: Scratch>(
     ensures reads { ReadsByDigits layout.pages 1 (C.view scratch.old) (C.view scratch.new) }
     ensures cause { IfErr result (λ e. HasPageCause e (C.view scratch.old) (C.view scratch.new)) }
 {
-    let span = find_page(scratch, layout, k)?;
-    read_page(pair, scratch, layout, half, span.low)?;
-    Ok(Place {
-        line: span.first,
-        at: 0,
-        first: span.first,
-        next: span.next,
-        page: span.low,
-    })
+    let span = match find_page(scratch, layout, k) {
+        Ok(span) => span,
+        Err(fault) => return Err(fault),
+    };
+    match read_page(pair, scratch, layout, half, span.low) {
+        Ok(()) => Ok(Place {
+            line: span.first,
+            at: 0,
+            first: span.first,
+            next: span.next,
+            page: span.low,
+        }),
+        Err(fault) => Err(fault),
+    }
 }
 
-/// A place from which line `k` is found on the page that a half holds, if that is its page.
+/// A place from which line `k` is found on the page that a half holds, if that is its page: the one that the half holds, or a
+/// marked one where line `k` stands before that.
 fn held_start(places: Places, marks: &mut Marks, half: Half, k: u64) -> Option<Place>
     ensures start { IfStart (place_of places half) (marks_of marks.old half) k result }
     ensures marked { (pair : Pair) → AreMarked pair marks.old → AreMarked pair marks.new }
 {
-    match places.get(half) {
-        Some(place) => start_on(place, marks, half, k),
-        None => None,
-    }
-}
-
-/// The place itself, or a marked one of its page where line `k` stands before it.
-fn start_on(place: Place, marks: &mut Marks, half: Half, k: u64) -> Option<Place>
-    ensures start { IfStart (Some place) (marks_of marks.old half) k result }
-    ensures marked { (pair : Pair) → AreMarked pair marks.old → AreMarked pair marks.new }
-{
+    let place = match places.get(half) {
+        Some(place) => place,
+        None => return None,
+    };
     if k < place.first || k >= place.next {
         return None;
     }
@@ -165,12 +164,14 @@ fn walk(
         before: start.line - start.first,
         at: start.at,
     };
-    let at = find_in(pair.page(half), marks, half, mark, k - start.first)?;
-    Ok(Place {
-        line: k,
-        at,
-        ..start
-    })
+    match find_in(pair.page(half), marks, half, mark, k - start.first) {
+        Ok(at) => Ok(Place {
+            line: k,
+            at,
+            ..start
+        }),
+        Err(fault) => Err(fault),
+    }
 }
 
 /// A place from which line `k` is found, on the page that a half holds or on one that is read into it.
@@ -233,7 +234,10 @@ fn find_line<C: Scratch>(
     ensures still { HasPageOf places half k → (C.view scratch.new).reads ≡ (C.view scratch.old).reads }
     ensures cause { IfErr result (λ e. HasPageCause e (C.view scratch.old) (C.view scratch.new)) }
 {
-    let start = reach(pair, scratch, places, marks, layout, k, half)?;
+    let start = match reach(pair, scratch, places, marks, layout, k, half) {
+        Ok(start) => start,
+        Err(fault) => return Err(fault),
+    };
     match walk(pair, marks, half, start, k) {
         Ok(place) => Ok(place),
         Err(fault) => Err(fault),

@@ -87,27 +87,18 @@ fn last_within(marks: &mut ArrayVec<Mark, MOST>, before: u64) -> Option<Mark>
     None
 }
 
-/// The last far mark that is left, or the page's first record.
-fn far_within(marks: &mut ArrayVec<Mark, MOST>, before: u64) -> Mark
-    ensures order { result.before ≤ before }
-    ensures is { (page : List ℕ) → All (IsMark page) marks.old.items → IsMark page result }
-    ensures kept { (page : List ℕ) → All (IsMark page) marks.old.items → All (IsMark page) marks.new.items }
-{
-    match last_within(marks, before) {
-        Some(mark) => mark,
-        None => Mark { before: 0, at: 0 },
-    }
-}
-
 /// The last mark that is left, near or far, or the page's first record.
 fn within(marks: &mut PageMarks, before: u64) -> Mark
     ensures order { result.before ≤ before }
     ensures is { (page : List ℕ) → AreMarks page marks.old → IsMark page result }
     ensures kept { (page : List ℕ) → AreMarks page marks.old → AreMarks page marks.new }
 {
-    match last_within(&mut marks.near, before) {
+    if let Some(mark) = last_within(&mut marks.near, before) {
+        return mark;
+    }
+    match last_within(&mut marks.far, before) {
         Some(mark) => mark,
-        None => far_within(&mut marks.far, before),
+        None => Mark { before: 0, at: 0 },
     }
 }
 

@@ -57,7 +57,10 @@ fn halve<C: Scratch>(scratch: &mut C, layout: Layout, k: u64, span: Span) -> Res
     ensures cause { IfErr result (λ e. HasPageCause e (C.view scratch.old) (C.view scratch.new)) }
 {
     let middle = span.low + (span.high - span.low) / 2;
-    let first = read_entry(scratch, layout, middle)?;
+    let first = match read_entry(scratch, layout, middle) {
+        Ok(first) => first,
+        Err(fault) => return Err(fault),
+    };
     if first <= k {
         return Ok(Span {
             low: middle,

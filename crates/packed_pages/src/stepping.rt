@@ -50,22 +50,6 @@ pub fn next_on(page: &[u8], place: Place) -> Option<Place>
     None
 }
 
-/// The place of line `k`, where it is the line of this place or the one behind it on the same page.
-fn near_place(page: &[u8], place: Place, k: u64) -> Option<Place>
-    requires small { length page.now ≤ 2 ^ 20 }
-    requires whole { IsWhole page.now place }
-    requires within { place.line < place.next }
-    ensures { IfNear page.now (Some place) k result }
-{
-    if k == place.line {
-        return Some(place);
-    }
-    if k != place.line + 1 || k >= place.next {
-        return None;
-    }
-    next_on(page, place)
-}
-
 /// The place of line `k`, where a half holds it or the line before it on the same page.
 pub fn near(page: &[u8], held: Option<Place>, k: u64) -> Option<Place>
     requires small { length page.now ≤ 2 ^ 20 }
@@ -73,22 +57,17 @@ pub fn near(page: &[u8], held: Option<Place>, k: u64) -> Option<Place>
     requires within { (p : Place) → held ≡ Some p → p.line < p.next }
     ensures { IfNear page.now held k result }
 {
-    match held {
-        Some(place) => near_place(page, place, k),
-        None => None,
+    let place = match held {
+        Some(place) => place,
+        None => return None,
+    };
+    if k == place.line {
+        return Some(place);
     }
-}
-
-/// The place of a record, if it is whole.
-fn if_whole(page: &[u8], at: usize) -> Option<usize>
-    requires small { length page.now ≤ 2 ^ 20 }
-    requires within { at ≤ length page.now }
-    ensures { IfSome result (λ n. (n ≡ at) × (at + 4 + stated page.now at ≤ length page.now)) }
-{
-    if is_whole(page, at) {
-        return Some(at);
+    if k != place.line + 1 || k >= place.next {
+        return None;
     }
-    None
+    next_on(page, place)
 }
 
 /// Where line `k` stands, if it is the line of a place or the one behind it on the same page.
@@ -104,7 +83,11 @@ fn reach_from(page: &[u8], place: &Place, k: u64) -> Option<usize>
     if k != place.line + 1 || k >= place.next {
         return None;
     }
-    if_whole(page, place.at + 4 + stated_length(page, place.at) as usize)
+    let at = place.at + 4 + stated_length(page, place.at) as usize;
+    if is_whole(page, at) {
+        return Some(at);
+    }
+    None
 }
 
 /// The same for a place that may be none.

@@ -1,20 +1,19 @@
 //! A file taken into a scratch: it is measured, and then copied.
 
-ghost use Rattle.std.specs.Prelude.{◌≡◌, ◌≤◌, ◌<◌, ◌+◌, ◌^◌, ℕ, List, [], length, None, Some, IfOk, IfErr, OnOk};
+ghost use Rattle.std.specs.Prelude.{◌≡◌, ◌≤◌, ◌<◌, ◌+◌, ◌^◌, ℕ, List, [], length, None, Some, IfOk, IfErr};
 ghost use Rattle.line_list.specs.Lines.{lines};
 ghost use Rattle.line_store.specs.Taking.{HasOpenCause};
 ghost use Rattle.outside.specs.Calls.{IsThere, IsUntouched};
 ghost use Rattle.outside.specs.ScratchView.{ScratchPasses};
-ghost use Rattle.file_pieces.specs.Reading.{told_file, HasLength, IsMeasureFault, IsTakeFault};
+ghost use Rattle.file_pieces.specs.Reading.{told_file, HasLength, IsMeasureFault};
 ghost use Rattle.packed_pages.specs.Layout.{IsLayout};
 ghost use Rattle.file_pieces.specs.Held.{bare};
 ghost use Rattle.packed_pages.specs.Filling.{IsMeasuredAs};
 ghost use Rattle.packed_pages.specs.Copying.{IsWritten};
 
-use crate::copying::copy_file;
+use crate::copying::copy_anew;
 use crate::layout::Layout;
 use file_pieces::measuring::measure;
-use file_pieces::paging::restart;
 use file_pieces::reading::size_of;
 use line_store::OpenFault;
 use outside::{Name, Scratch, Tree};
@@ -41,41 +40,12 @@ fn measure_layout<T: Tree>(
     ensures cause { IfErr result (λ e. IsMeasureFault e pair.old.size (T.view tree.old) (T.view tree.new) name.now) }
 {
     let size = pair.size() as u64;
-    let now = measure(pair, tree, name, length)?;
-    Ok(Layout {
-        size,
-        pages: now.room.page_count(),
-        count: now.count,
-    })
-}
-
-/// Copies a file that was measured, over what the scratch held.
-fn copy_anew<T: Tree, C: Scratch>(
-    pair: &mut PagePair,
-    scratch: &mut C,
-    tree: &mut T,
-    name: &Name,
-    layout: Layout,
-    length: u64,
-) -> Result<(), OpenFault>
-    requires there { IsThere (T.view tree.old) name.now }
-    requires stated { HasLength (told_file (T.view tree.old) name.now) length }
-    requires measured { (text : List ℕ) → told_file (T.view tree.old) name.now ≡ Some text → IsMeasuredAs layout (lines text) }
-    requires layout { IsLayout layout }
-    requires size { layout.size ≡ pair.old.size }
-    requires short { length < 2 ^ 40 }
-    ensures untouched { IsUntouched (T.view tree.old) (T.view tree.new) }
-    ensures size { pair.new.size ≡ pair.old.size }
-    ensures passes { ScratchPasses (C.view scratch.old) (C.view scratch.new) }
-    ensures written { OnOk result (IsWritten layout (C.view scratch.new).told (told_file (T.view tree.old) name.now)) }
-    ensures cause { IfErr result (λ e. IsTakeFault e (C.view scratch.old) (C.view scratch.new) (T.view tree.old) (T.view tree.new)) }
-{
-    match restart(scratch) {
-        Ok(()) => {}
-        Err(fault) => return Err(fault),
-    }
-    match copy_file(pair, scratch, tree, name, layout, length) {
-        Ok(()) => Ok(()),
+    match measure(pair, tree, name, length) {
+        Ok(now) => Ok(Layout {
+            size,
+            pages: now.room.page_count(),
+            count: now.count,
+        }),
         Err(fault) => Err(fault),
     }
 }

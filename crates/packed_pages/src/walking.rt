@@ -61,6 +61,8 @@ pub fn find_record(
         };
         keep(page, marks, now);
     }
-    record_end(page, now.at)?;
-    Ok(now.at)
+    match record_end(page, now.at) {
+        Ok(_) => Ok(now.at),
+        Err(fault) => Err(fault),
+    }
 }

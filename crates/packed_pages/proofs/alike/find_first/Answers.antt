@@ -1,6 +1,8 @@
-use Rattle.std.proofs.Common.{◌∙◌}
-use Rattle.line_store.proofs.StoreLemmas.{keeps-more, cause-more}
+use Rattle.std.proofs.Common.{◌∙◌, arith, refl, subst, ◌+◌}
+use Rattle.line_store.proofs.StoreLemmas.{keeps-more, cause-more, keeps-same}
 use Rattle.packed_pages.specs.Held.{seen_of}
+use Rattle.file_pieces.specs.Alike.{FindsFirst}
+use Rattle.packed_pages.proofs.Steps.{none-both}
 use Rattle.packed_pages.proofs.alike.find_first.Goals as goal
 
 pub returns-in-Err-clause-held : goal.returns-in-Err-clause-held
@@ -56,3 +58,40 @@ returns-clause-within g c = tt
 
 pub returns-clause-cause : goal.returns-clause-cause
 returns-clause-cause g c = tt
+
+pub first_on_page-requires-clause-held : goal.first_on_page-requires-clause-held
+first_on_page-requires-clause-held g c = c.loop-k.invariant.held
+
+pub first_on_page-requires-clause-marked : goal.first_on_page-requires-clause-marked
+first_on_page-requires-clause-marked g c = c.loop-k.invariant.marked
+
+pub first_on_page-requires-clause-high : goal.first_on_page-requires-clause-high
+first_on_page-requires-clause-high g c = c.requires.high
+
+pub returns-then-pass-clause-within : goal.returns-then-pass-clause-within
+returns-then-pass-clause-within g c = (omega (arith, c.in-Ok.ensures.on), c.in-Ok.ensures.within)
+
+pub returns-clause-value : goal.returns-clause-value
+returns-clause-value g c lines told k low high = c.loop-k.invariant.none lines told k low (omega arith)
+
+pub loop-k-init : goal.loop-k-init
+loop-k-init g c = record {
+  held = c.requires.held;
+  marked = c.requires.marked;
+  from = omega arith;
+  none = λ lines told k low high. absurd (omega arith);
+  other = λ h ne. refl;
+  keeps = keeps-same _;
+}
+
+pub loop-k-preserved : goal.loop-k-preserved
+loop-k-preserved g c = record {
+  held = c.in-Ok.ensures.held;
+  marked = c.in-Ok.ensures.marked;
+  from = omega (arith, c.in-Ok.ensures.on);
+  none = λ lines told.
+      none-both lines c.args.line.now c.args.from c.loop-k.k (c.in-Ok.pass.place.line + 1) (c.loop-k.invariant.none lines told)
+      (subst (FindsFirst lines c.args.line.now c.loop-k.k c.in-Ok.pass.place.line) c.if-pass.false (c.in-Ok.ensures.value lines (c.loop-k.invariant.keeps.told ∙ told)));
+  other = λ h ne. c.in-Ok.ensures.other h ne ∙ c.loop-k.invariant.other h ne;
+  keeps = keeps-more (seen_of c.args.layout c.args.places.now (g.C.Scratch.view c.args.scratch.now)) (seen_of c.args.layout c.loop-k.places (g.C.Scratch.view c.loop-k.scratch)) (seen_of c.args.layout c.first_on_page.new.places (g.C.Scratch.view c.first_on_page.new.scratch)) c.loop-k.invariant.keeps c.in-Ok.ensures.keeps;
+}

@@ -1,6 +1,8 @@
-use Rattle.std.proofs.Common.{◌∙◌}
-use Rattle.line_store.proofs.StoreLemmas.{keeps-more, cause-more}
+use Rattle.std.proofs.Common.{◌∙◌, refl, subst, arith, ◌+◌}
+use Rattle.line_store.proofs.StoreLemmas.{keeps-more, cause-more, keeps-same}
 use Rattle.packed_pages.specs.Held.{seen_of}
+use Rattle.line_store.specs.Store.{IsLastAlike}
+use Rattle.packed_pages.proofs.Steps.{none-both}
 use Rattle.packed_pages.proofs.alike.find_last.Goals as goal
 
 pub returns-in-Err-clause-held : goal.returns-in-Err-clause-held
@@ -24,20 +26,20 @@ returns-in-Err-clause-keeps g c = keeps-more (seen_of c.args.layout c.args.place
 pub returns-in-Err-clause-cause : goal.returns-in-Err-clause-cause
 returns-in-Err-clause-cause g c = cause-more c.in-Err.fault (seen_of c.args.layout c.args.places.now (g.C.Scratch.view c.args.scratch.now)) (seen_of c.args.layout c.loop-end.places (g.C.Scratch.view c.loop-end.scratch)) (seen_of c.args.layout c.last_between.new.places (g.C.Scratch.view c.last_between.new.scratch)) c.loop-end.invariant.keeps c.in-Err.ensures.cause
 
-pub returns-in-Some-clause-held : goal.returns-in-Some-clause-held
-returns-in-Some-clause-held g c = c.in-Ok.ensures.held
+pub returns-in-Ok-Some-clause-held : goal.returns-in-Ok-Some-clause-held
+returns-in-Ok-Some-clause-held g c = c.in-Ok-Some.ensures.held
 
-pub returns-in-Some-clause-marked : goal.returns-in-Some-clause-marked
-returns-in-Some-clause-marked g c = c.in-Ok.ensures.marked
+pub returns-in-Ok-Some-clause-marked : goal.returns-in-Ok-Some-clause-marked
+returns-in-Ok-Some-clause-marked g c = c.in-Ok-Some.ensures.marked
 
-pub returns-in-Some-clause-other : goal.returns-in-Some-clause-other
-returns-in-Some-clause-other g c h ne = c.in-Ok.ensures.other h ne ∙ c.loop-end.invariant.other h ne
+pub returns-in-Ok-Some-clause-other : goal.returns-in-Ok-Some-clause-other
+returns-in-Ok-Some-clause-other g c h ne = c.in-Ok-Some.ensures.other h ne ∙ c.loop-end.invariant.other h ne
 
-pub returns-in-Some-clause-keeps : goal.returns-in-Some-clause-keeps
-returns-in-Some-clause-keeps g c = keeps-more (seen_of c.args.layout c.args.places.now (g.C.Scratch.view c.args.scratch.now)) (seen_of c.args.layout c.loop-end.places (g.C.Scratch.view c.loop-end.scratch)) (seen_of c.args.layout c.last_between.new.places (g.C.Scratch.view c.last_between.new.scratch)) c.loop-end.invariant.keeps c.in-Ok.ensures.keeps
+pub returns-in-Ok-Some-clause-keeps : goal.returns-in-Ok-Some-clause-keeps
+returns-in-Ok-Some-clause-keeps g c = keeps-more (seen_of c.args.layout c.args.places.now (g.C.Scratch.view c.args.scratch.now)) (seen_of c.args.layout c.loop-end.places (g.C.Scratch.view c.loop-end.scratch)) (seen_of c.args.layout c.last_between.new.places (g.C.Scratch.view c.last_between.new.scratch)) c.loop-end.invariant.keeps c.in-Ok-Some.ensures.keeps
 
-pub returns-in-Some-clause-cause : goal.returns-in-Some-clause-cause
-returns-in-Some-clause-cause g c = tt
+pub returns-in-Ok-Some-clause-cause : goal.returns-in-Ok-Some-clause-cause
+returns-in-Ok-Some-clause-cause g c = tt
 
 pub returns-clause-held : goal.returns-clause-held
 returns-clause-held g c = c.loop-end.invariant.held
@@ -62,3 +64,40 @@ last_between-requires-clause-held g c = c.loop-end.invariant.held
 
 pub last_between-requires-clause-marked : goal.last_between-requires-clause-marked
 last_between-requires-clause-marked g c = c.loop-end.invariant.marked
+
+pub returns-clause-value : goal.returns-clause-value
+returns-clause-value g c lines told k low high = c.loop-end.invariant.none lines told k (omega arith) high
+
+pub returns-in-Ok-Some-clause-within : goal.returns-in-Ok-Some-clause-within
+returns-in-Ok-Some-clause-within g c = (let h = rw c.in-Ok-Some.field-0-is at c.in-Ok-Some.ensures.within in (omega (arith, h.0), omega (arith, h.1, c.loop-end.invariant.to)))
+
+pub returns-in-Ok-Some-clause-value : goal.returns-in-Ok-Some-clause-value
+returns-in-Ok-Some-clause-value g c lines told = let h = rw c.in-Ok-Some.field-0-is at (c.in-Ok-Some.ensures.value lines (c.loop-end.invariant.keeps.told ∙ told)) in
+    (h.0, none-both lines c.args.line.now (c.in-Ok-Some.w + 1) c.loop-end.end c.args.to h.1 (c.loop-end.invariant.none lines told))
+
+pub loop-end-init : goal.loop-end-init
+loop-end-init g c = record {
+  held = c.requires.held;
+  marked = c.requires.marked;
+  to = omega arith;
+  some = omega arith;
+  few = omega arith;
+  none = λ lines told k low high. absurd (omega arith);
+  other = λ h ne. refl;
+  keeps = keeps-same _;
+}
+
+pub loop-end-preserved : goal.loop-end-preserved
+loop-end-preserved g c = record {
+  held = c.in-Ok-None.ensures.held;
+  marked = c.in-Ok-None.ensures.marked;
+  to = omega (arith, c.loop-end.invariant.to);
+  some = omega (arith, c.loop-end.invariant.some);
+  few = omega arith;
+  none = λ lines told.
+      none-both lines c.args.line.now c.back_from-k.result c.loop-end.end c.args.to
+      (subst (IsLastAlike lines c.args.line.now c.back_from-k.result c.loop-end.end) c.in-Ok-None.field-0-is (c.in-Ok-None.ensures.value lines (c.loop-end.invariant.keeps.told ∙ told)))
+      (c.loop-end.invariant.none lines told);
+  other = λ h ne. c.in-Ok-None.ensures.other h ne ∙ c.loop-end.invariant.other h ne;
+  keeps = keeps-more (seen_of c.args.layout c.args.places.now (g.C.Scratch.view c.args.scratch.now)) (seen_of c.args.layout c.loop-end.places (g.C.Scratch.view c.loop-end.scratch)) (seen_of c.args.layout c.last_between.new.places (g.C.Scratch.view c.last_between.new.scratch)) c.loop-end.invariant.keeps c.in-Ok-None.ensures.keeps;
+}

@@ -61,3 +61,24 @@ returns-clause-marked g c = c.in-Ok.ensures.marked
 
 pub returns-clause-cause : goal.returns-clause-cause
 returns-clause-cause g c = tt
+
+pub returns-clause-on : goal.returns-clause-on
+returns-clause-on g c = omega (arith, c.first_pass-pass.ensures.follows.order, c.in-Ok.ensures.line)
+
+pub returns-clause-within : goal.returns-clause-within
+returns-clause-within g c = c.first_pass-pass.ensures.before
+
+pub returns-clause-other : goal.returns-clause-other
+returns-clause-other g c h ne = c.set.ensures.other h ne ∙ c.in-Ok.ensures.other h ne
+
+pub returns-clause-keeps : goal.returns-clause-keeps
+returns-clause-keeps g c = (let k = c.in-Ok.ensures.keeps in record { told = k.told; count = k.count; faults = k.faults; scratch = k.scratch; size = k.size; needs_memory = k.needs_memory })
+
+pub load_line-requires-clause-held : goal.load_line-requires-clause-held
+load_line-requires-clause-held g c = c.requires.held
+
+pub load_line-requires-clause-marked : goal.load_line-requires-clause-marked
+load_line-requires-clause-marked g c = c.requires.marked
+
+pub load_line-requires-clause-low : goal.load_line-requires-clause-low
+load_line-requires-clause-low g c = c.requires.low

@@ -1,6 +1,8 @@
-use Rattle.std.proofs.Common.{◌≤◌, ◌<◌, ◌+◌, ◌∙◌, arith}
+use Rattle.std.proofs.Common.{◌≤◌, ◌<◌, ◌+◌, IfSome, sym, subst, ◌∙◌, arith}
+use Rattle.line_store.specs.Store.{IsLastAlike}
 use Rattle.line_store.proofs.StoreLemmas.{keeps-more, cause-more}
 use Rattle.packed_pages.specs.Held.{seen_of}
+use Rattle.packed_pages.proofs.Steps.{later-alike, later-within}
 use Rattle.packed_pages.proofs.alike.last_between.Goals as goal
 
 pub loop-k-preserved : goal.loop-k-preserved
@@ -16,8 +18,8 @@ loop-k-preserved g c =
       held = now.held;
       marked = now.marked;
       from = omega arith;
-      none = λ lines told. c.later_of-found.ensures.last lines c.args.line.now c.args.from c.loop-k.k (c.in-Ok.reached.line + 1) (was.none lines told) (now.value lines (was.keeps.told ∙ told));
-      within = c.later_of-found.ensures.within c.args.from c.loop-k.k (c.in-Ok.reached.line + 1) a (omega arith) was.within now.between;
+      none = λ lines told. subst (IsLastAlike lines c.args.line.now c.args.from (c.in-Ok.reached.line + 1)) (sym c.or-found.ensures) (later-alike lines c.args.line.now c.args.from c.loop-k.k (c.in-Ok.reached.line + 1) c.loop-k.found c.in-Ok.reached.alike (was.none lines told) (now.value lines (was.keeps.told ∙ told)));
+      within = subst (λ o. IfSome o (λ k. (c.args.from ≤ k) × (k < c.in-Ok.reached.line + 1))) (sym c.or-found.ensures) (later-within c.args.from c.loop-k.k (c.in-Ok.reached.line + 1) c.loop-k.found c.in-Ok.reached.alike a (omega arith) was.within now.between);
       high = omega arith;
       other = λ h ne. now.other h ne ∙ was.other h ne;
       keeps = keeps-more (seen_of c.args.layout c.args.places.now (view c.args.scratch.now)) (seen_of c.args.layout c.loop-k.places (view c.loop-k.scratch)) (seen_of c.args.layout c.last_on_page.new.places (view c.last_on_page.new.scratch)) was.keeps now.keeps;

@@ -3,7 +3,7 @@ use Rattle.line_store.specs.Store.{IsLastAlike}
 use Rattle.packed_pages.specs.Held.{IsLoaded}
 use Rattle.packed_pages.specs.Steps.{IsWhole, Follows}
 use Rattle.packed_pages.proofs.HeldLemmas.{held-more}
-use Rattle.packed_pages.proofs.Steps.{loaded-whole, follows-loaded, finds-last}
+use Rattle.packed_pages.proofs.Steps.{loaded-whole, follows-loaded, finds-last, place-after}
 use Rattle.packed_pages.proofs.alike.last_on_page.Goals as goal
 
 pub last_pass-pass-requires-clause-whole : goal.last_pass-pass-requires-clause-whole
@@ -18,14 +18,14 @@ pub returns-clause-held : goal.returns-clause-held
 returns-clause-held g c =
     let view = g.C.Scratch.view in
     let before : c.last_pass-pass.result.place.line < c.args.to = c.last_pass-pass.ensures.before in
-    let after = c.place_after.ensures c.page.result.now c.in-Ok.place c.args.line.now c.last_pass-pass.ensures.follows c.last_pass-pass.ensures.last in
-    let most : c.place_after.result.line ≤ c.last_pass-pass.result.place.line = after.1 in
+    let after = subst (λ q. Follows c.page.result.now c.in-Ok.place q × (q.line ≤ c.last_pass-pass.result.place.line)) (sym c.unwrap_or.ensures) (place-after c.page.result.now c.in-Ok.place c.last_pass-pass.result.place c.args.line.now c.last_pass-pass.result.alike c.last_pass-pass.ensures.follows c.last_pass-pass.ensures.last) in
+    let most : c.unwrap_or.result.line ≤ c.last_pass-pass.result.place.line = after.1 in
     held-more c.load_line.new.pair c.load_line.new.pair c.args.layout c.load_line.new.places c.set.new.self (view c.load_line.new.scratch) (view c.load_line.new.scratch) c.args.half
     c.in-Ok.ensures.held refl refl (λ h ne. refl) c.set.ensures.other
-    (λ x is. let e : c.place_after.result ≡ x = (let f : Some c.place_after.result ≡ Some x = sym c.set.ensures.held ∙ is in cc) in
+    (λ x is. let e : c.unwrap_or.result ≡ x = (let f : Some c.unwrap_or.result ≡ Some x = sym c.set.ensures.held ∙ is in cc) in
     subst (IsLoaded c.load_line.new.pair c.args.layout (view c.load_line.new.scratch) c.args.half) e
-    (follows-loaded c.load_line.new.pair c.args.layout (view c.load_line.new.scratch) c.args.half c.in-Ok.place c.place_after.result (c.in-Ok.ensures.held.loaded c.args.half c.in-Ok.place c.in-Ok.ensures.place)
-    (subst (λ page. Follows page c.in-Ok.place c.place_after.result) c.page.ensures.is after.0) (omega arith)))
+    (follows-loaded c.load_line.new.pair c.args.layout (view c.load_line.new.scratch) c.args.half c.in-Ok.place c.unwrap_or.result (c.in-Ok.ensures.held.loaded c.args.half c.in-Ok.place c.in-Ok.ensures.place)
+    (subst (λ page. Follows page c.in-Ok.place c.unwrap_or.result) c.page.ensures.is after.0) (omega arith)))
 
 pub returns-clause-value : goal.returns-clause-value
 returns-clause-value g c lines told =
@@ -69,3 +69,24 @@ returns-clause-marked g c = c.in-Ok.ensures.marked
 
 pub returns-clause-cause : goal.returns-clause-cause
 returns-clause-cause g c = tt
+
+pub returns-clause-on : goal.returns-clause-on
+returns-clause-on g c = omega (arith, c.last_pass-pass.ensures.follows.order, c.in-Ok.ensures.line)
+
+pub returns-clause-within : goal.returns-clause-within
+returns-clause-within g c = c.last_pass-pass.ensures.before
+
+pub returns-clause-other : goal.returns-clause-other
+returns-clause-other g c h ne = c.set.ensures.other h ne ∙ c.in-Ok.ensures.other h ne
+
+pub returns-clause-keeps : goal.returns-clause-keeps
+returns-clause-keeps g c = (let k = c.in-Ok.ensures.keeps in record { told = k.told; count = k.count; faults = k.faults; scratch = k.scratch; size = k.size; needs_memory = k.needs_memory })
+
+pub load_line-requires-clause-held : goal.load_line-requires-clause-held
+load_line-requires-clause-held g c = c.requires.held
+
+pub load_line-requires-clause-marked : goal.load_line-requires-clause-marked
+load_line-requires-clause-marked g c = c.requires.marked
+
+pub load_line-requires-clause-low : goal.load_line-requires-clause-low
+load_line-requires-clause-low g c = c.requires.low

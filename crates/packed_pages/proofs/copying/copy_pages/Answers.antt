@@ -1,4 +1,4 @@
-use Rattle.std.proofs.Common.{◌≡◌, ◌≤◌, length, Some, refl, subst, ◌∙◌, arith}
+use Rattle.std.proofs.Common.{◌≡◌, ◌≤◌, length, Some, refl, subst, ◌∙◌, arith, sym}
 use Rattle.line_store.specs.declared.Half.TheVariants.{Second}
 use Rattle.outside.specs.Files.{bytes_at}
 use Rattle.outside.specs.ScratchView.{scratch_passes_none, scratch_passes_both}
@@ -10,6 +10,7 @@ use Rattle.file_pieces.proofs.Windows.{none-unless}
 use Rattle.file_pieces.proofs.Readings.{told-same}
 use Rattle.packed_pages.specs.Copying.{IsCopied}
 use Rattle.packed_pages.proofs.Copyings.{ready-none, copied-none, written-all, end-fault, copied-count}
+use Rattle.outside.proofs.Exits.{on_ok_none}
 use Rattle.packed_pages.proofs.copying.copy_pages.Goals as goal
 
 pub loop-copied-init : goal.loop-copied-init
@@ -87,3 +88,33 @@ returns-in_err-copied-clause-size g c = c.in_err-copied.ensures.size ∙ c.loop-
 
 pub returns-in_err-copied-clause-passes : goal.returns-in_err-copied-clause-passes
 returns-in_err-copied-clause-passes g c = scratch_passes_both c.loop-copied.invariant.passes c.in_err-copied.ensures.passes
+
+pub returns-in_err-copied-clause-written : goal.returns-in_err-copied-clause-written
+returns-in_err-copied-clause-written g c = on_ok_none _ _ c.from_residual.result c.from_residual.ensures.1
+
+pub copy_piece-requires-clause-layout : goal.copy_piece-requires-clause-layout
+copy_piece-requires-clause-layout g c = c.requires.layout
+
+pub copy_piece-requires-clause-ready : goal.copy_piece-requires-clause-ready
+copy_piece-requires-clause-ready g c = c.loop-copied.invariant.ready
+
+pub copy_piece-requires-clause-few : goal.copy_piece-requires-clause-few
+copy_piece-requires-clause-few g c = c.loop-copied.invariant.few
+
+pub copy_piece-requires-clause-short : goal.copy_piece-requires-clause-short
+copy_piece-requires-clause-short g c = c.requires.short
+
+pub finish-requires-clause-layout : goal.finish-requires-clause-layout
+finish-requires-clause-layout g c = c.requires.layout
+
+pub finish-requires-clause-ready : goal.finish-requires-clause-ready
+finish-requires-clause-ready g c = c.loop-copied.invariant.ready
+
+pub copy_piece-requires-clause-stated : goal.copy_piece-requires-clause-stated
+copy_piece-requires-clause-stated g c text told = c.requires.stated text (sym (told-same c.args.name.now c.loop-copied.invariant.untouched) ∙ told)
+
+pub copy_piece-requires-clause-measured : goal.copy_piece-requires-clause-measured
+copy_piece-requires-clause-measured g c text told = c.requires.measured text (sym (told-same c.args.name.now c.loop-copied.invariant.untouched) ∙ told)
+
+pub copy_piece-requires-clause-copied : goal.copy_piece-requires-clause-copied
+copy_piece-requires-clause-copied g c = subst (IsCopied c.args.layout (g.C.Scratch.view c.loop-copied.scratch).told (page_of c.loop-copied.pair Second) c.loop-copied.copied.at c.loop-copied.copied.filling) (sym (told-same c.args.name.now c.loop-copied.invariant.untouched)) c.loop-copied.invariant.copied

@@ -1,5 +1,6 @@
-use Rattle.std.proofs.Common.{◌<◌, ◌*◌, ◌+◌, arith}
+use Rattle.std.proofs.Common.{◌<◌, ◌*◌, ◌+◌, arith, refl}
 use Rattle.packed_pages.proofs.Fillings.{behind-kept}
+use Rattle.outside.specs.ScratchView.{scratch_passes_both}
 use Rattle.packed_pages.proofs.filling.flush.Goals as goal
 
 pub write_page-requires-clause-behind : goal.write_page-requires-clause-behind
@@ -7,3 +8,42 @@ write_page-requires-clause-behind g c =
     let view = g.C.Scratch.view in
     let lt : c.args.filling.room.pages < c.args.layout.pages = c.requires.there in
     behind-kept (view c.args.scratch.now).told (view c.write_entry.new.scratch).told (c.args.filling.room.pages * 8) (8 * c.args.layout.pages + c.args.filling.room.pages * c.args.layout.size) c.args.filling.first c.write_entry.ensures.passes.telling c.requires.ready.behind (omega arith) c.in-Ok.ensures.written
+
+pub returns-in-Err-clause-size : goal.returns-in-Err-clause-size
+returns-in-Err-clause-size g c = refl
+
+pub returns-in-Err-clause-first : goal.returns-in-Err-clause-first
+returns-in-Err-clause-first g c = refl
+
+pub returns-in-Err-clause-passes : goal.returns-in-Err-clause-passes
+returns-in-Err-clause-passes g c = c.in-Err.ensures.passes
+
+pub returns-in-Err-clause-written : goal.returns-in-Err-clause-written
+returns-in-Err-clause-written g c = tt
+
+pub returns-in-Err-clause-cause : goal.returns-in-Err-clause-cause
+returns-in-Err-clause-cause g c = c.in-Err.ensures.cause
+
+pub returns-in-Ok-write_page-clause-size : goal.returns-in-Ok-write_page-clause-size
+returns-in-Ok-write_page-clause-size g c = c.write_page.ensures.size
+
+pub returns-in-Ok-write_page-clause-first : goal.returns-in-Ok-write_page-clause-first
+returns-in-Ok-write_page-clause-first g c = c.write_page.ensures.first
+
+pub returns-in-Ok-write_page-clause-passes : goal.returns-in-Ok-write_page-clause-passes
+returns-in-Ok-write_page-clause-passes g c = scratch_passes_both c.write_entry.ensures.passes c.write_page.ensures.passes
+
+pub returns-in-Ok-write_page-clause-cause : goal.returns-in-Ok-write_page-clause-cause
+returns-in-Ok-write_page-clause-cause g c = tt
+
+pub returns-in-Err-write_page-clause-size : goal.returns-in-Err-write_page-clause-size
+returns-in-Err-write_page-clause-size g c = c.write_page.ensures.size
+
+pub returns-in-Err-write_page-clause-first : goal.returns-in-Err-write_page-clause-first
+returns-in-Err-write_page-clause-first g c = c.write_page.ensures.first
+
+pub returns-in-Err-write_page-clause-passes : goal.returns-in-Err-write_page-clause-passes
+returns-in-Err-write_page-clause-passes g c = scratch_passes_both c.write_entry.ensures.passes c.write_page.ensures.passes
+
+pub returns-in-Err-write_page-clause-written : goal.returns-in-Err-write_page-clause-written
+returns-in-Err-write_page-clause-written g c = tt

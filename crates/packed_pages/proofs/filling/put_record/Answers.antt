@@ -1,8 +1,9 @@
-use Rattle.std.proofs.Common.{◌≡◌, ◌+◌, ◌≤◌, length, take, drop, refl, sym, ap, subst, arith}
+use Rattle.std.proofs.Common.{◌≡◌, ◌+◌, ◌≤◌, length, take, drop, refl, sym, ap, subst, arith, ◌∙◌}
 use Rattle.line_store.specs.declared.Half.TheVariants.{First, Second}
 use Rattle.page_pair.specs.Pair.{page_of}
 use Rattle.file_pieces.specs.Records.{Extends, record_of}
 use Rattle.packed_pages.proofs.Fillings.{filled-fits, filled-next, ready-next, line-length}
+use Rattle.outside.specs.ScratchView.{scratch_passes_none}
 use Rattle.packed_pages.proofs.filling.put_record.Goals as goal
 
 pub returns-then-filled-bytes-clause-filled : goal.returns-then-filled-bytes-clause-filled
@@ -57,3 +58,66 @@ returns-in-Err-clause-room g c = tt
 
 pub returns-in-Err-clause-filled : goal.returns-in-Err-clause-filled
 returns-in-Err-clause-filled g c = tt
+
+pub returns-then-filled-bytes-clause-size : goal.returns-then-filled-bytes-clause-size
+returns-then-filled-bytes-clause-size g c = c.make_record.ensures.size
+
+pub returns-then-filled-bytes-clause-first : goal.returns-then-filled-bytes-clause-first
+returns-then-filled-bytes-clause-first g c = c.make_record.ensures.first
+
+pub returns-then-filled-bytes-clause-passes : goal.returns-then-filled-bytes-clause-passes
+returns-then-filled-bytes-clause-passes g c = scratch_passes_none _
+
+pub returns-then-filled-bytes-clause-count : goal.returns-then-filled-bytes-clause-count
+returns-then-filled-bytes-clause-count g c = refl
+
+pub returns-then-filled-bytes-clause-cause : goal.returns-then-filled-bytes-clause-cause
+returns-then-filled-bytes-clause-cause g c = tt
+
+pub returns-clause-size : goal.returns-clause-size
+returns-clause-size g c = c.make_record-2.ensures.size ∙ c.flush.ensures.size
+
+pub returns-clause-first : goal.returns-clause-first
+returns-clause-first g c = c.make_record-2.ensures.first ∙ c.flush.ensures.first
+
+pub returns-clause-passes : goal.returns-clause-passes
+returns-clause-passes g c = c.in-Ok.ensures.passes
+
+pub returns-clause-count : goal.returns-clause-count
+returns-clause-count g c = refl
+
+pub returns-clause-cause : goal.returns-clause-cause
+returns-clause-cause g c = tt
+
+pub returns-then-pages-layout-clause-size : goal.returns-then-pages-layout-clause-size
+returns-then-pages-layout-clause-size g c = refl
+
+pub returns-then-pages-layout-clause-first : goal.returns-then-pages-layout-clause-first
+returns-then-pages-layout-clause-first g c = refl
+
+pub returns-then-pages-layout-clause-passes : goal.returns-then-pages-layout-clause-passes
+returns-then-pages-layout-clause-passes g c = scratch_passes_none _
+
+pub returns-then-pages-layout-clause-ready : goal.returns-then-pages-layout-clause-ready
+returns-then-pages-layout-clause-ready g c = tt
+
+pub returns-then-pages-layout-clause-count : goal.returns-then-pages-layout-clause-count
+returns-then-pages-layout-clause-count g c = tt
+
+pub returns-then-pages-layout-clause-room : goal.returns-then-pages-layout-clause-room
+returns-then-pages-layout-clause-room g c = tt
+
+pub returns-then-pages-layout-clause-filled : goal.returns-then-pages-layout-clause-filled
+returns-then-pages-layout-clause-filled g c = tt
+
+pub flush-requires-clause-layout : goal.flush-requires-clause-layout
+flush-requires-clause-layout g c = c.requires.layout
+
+pub flush-requires-clause-size : goal.flush-requires-clause-size
+flush-requires-clause-size g c = c.requires.size
+
+pub flush-requires-clause-ready : goal.flush-requires-clause-ready
+flush-requires-clause-ready g c = c.requires.ready
+
+pub make_record-requires-clause-read : goal.make_record-requires-clause-read
+make_record-requires-clause-read g c = c.requires.read

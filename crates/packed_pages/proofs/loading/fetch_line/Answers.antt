@@ -1,6 +1,7 @@
-use Rattle.std.proofs.Common.{◌∙◌, sym, Some, subst}
+use Rattle.std.proofs.Common.{◌∙◌, sym, Some, subst, refl, arith}
 use Rattle.packed_pages.specs.Steps.{IsWhole, IfNear}
 use Rattle.packed_pages.proofs.Steps.{loaded-whole, near-loaded, near-line}
+use Rattle.outside.specs.ScratchView.{scratch_passes_none}
 use Rattle.packed_pages.proofs.loading.fetch_line.Goals as goal
 
 pub near-requires-clause-whole : goal.near-requires-clause-whole
@@ -52,3 +53,33 @@ returns-in-Some-clause-marked g c = c.requires.marked
 
 pub returns-in-Some-clause-cause : goal.returns-in-Some-clause-cause
 returns-in-Some-clause-cause g c = tt
+
+pub returns-in-Some-clause-size : goal.returns-in-Some-clause-size
+returns-in-Some-clause-size g c = refl
+
+pub returns-in-Some-clause-other : goal.returns-in-Some-clause-other
+returns-in-Some-clause-other g c h ne = refl
+
+pub returns-in-Some-clause-passes : goal.returns-in-Some-clause-passes
+returns-in-Some-clause-passes g c = scratch_passes_none _
+
+pub returns-in-Some-clause-told : goal.returns-in-Some-clause-told
+returns-in-Some-clause-told g c = refl
+
+pub returns-in-Some-clause-reads : goal.returns-in-Some-clause-reads
+returns-in-Some-clause-reads g c digits lt = omega arith
+
+pub returns-in-Some-clause-still : goal.returns-in-Some-clause-still
+returns-in-Some-clause-still g c has = refl
+
+pub find_line-requires-clause-held : goal.find_line-requires-clause-held
+find_line-requires-clause-held g c = c.requires.held
+
+pub find_line-requires-clause-marked : goal.find_line-requires-clause-marked
+find_line-requires-clause-marked g c = c.requires.marked
+
+pub find_line-requires-clause-low : goal.find_line-requires-clause-low
+find_line-requires-clause-low g c = c.requires.low
+
+pub find_line-requires-clause-high : goal.find_line-requires-clause-high
+find_line-requires-clause-high g c = c.requires.high

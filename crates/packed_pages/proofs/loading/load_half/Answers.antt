@@ -1,4 +1,4 @@
-use Rattle.std.proofs.Common.{refl, sym, ap, subst, Some, ◌∙◌}
+use Rattle.std.proofs.Common.{refl, sym, ap, subst, Some, ◌∙◌, arith}
 use Rattle.std.specs.Option.{option_map}
 use Rattle.packed_pages.specs.Held.{place_of}
 use Rattle.packed_pages.specs.Steps.{IsWhole, IfReaches}
@@ -40,3 +40,93 @@ returns-in-Some-clause-cause g c = tt
 
 pub returns-in-Some-clause-other : goal.returns-in-Some-clause-other
 returns-in-Some-clause-other g c = c.go_to.ensures.other
+
+pub returns-in-Ok-clause-held : goal.returns-in-Ok-clause-held
+returns-in-Ok-clause-held g c = c.in-Ok.ensures.held
+
+pub returns-in-Ok-clause-marked : goal.returns-in-Ok-clause-marked
+returns-in-Ok-clause-marked g c = c.in-Ok.ensures.marked
+
+pub returns-in-Ok-clause-loaded : goal.returns-in-Ok-clause-loaded
+returns-in-Ok-clause-loaded g c = c.in-Ok.ensures.loaded
+
+pub returns-in-Ok-clause-page : goal.returns-in-Ok-clause-page
+returns-in-Ok-clause-page g c = c.in-Ok.ensures.page
+
+pub returns-in-Ok-clause-dropped : goal.returns-in-Ok-clause-dropped
+returns-in-Ok-clause-dropped g c = tt
+
+pub returns-in-Ok-clause-other : goal.returns-in-Ok-clause-other
+returns-in-Ok-clause-other g c = c.in-Ok.ensures.other
+
+pub returns-in-Ok-clause-other_page : goal.returns-in-Ok-clause-other_page
+returns-in-Ok-clause-other_page g c = c.in-Ok.ensures.other_page
+
+pub returns-in-Ok-clause-keeps : goal.returns-in-Ok-clause-keeps
+returns-in-Ok-clause-keeps g c = c.in-Ok.ensures.keeps
+
+pub returns-in-Ok-clause-cause : goal.returns-in-Ok-clause-cause
+returns-in-Ok-clause-cause g c = tt
+
+pub returns-in-Ok-clause-reads : goal.returns-in-Ok-clause-reads
+returns-in-Ok-clause-reads g c = c.in-Ok.ensures.reads
+
+pub returns-in-Ok-clause-still : goal.returns-in-Ok-clause-still
+returns-in-Ok-clause-still g c = c.in-Ok.ensures.still
+
+pub returns-in-Err-clause-held : goal.returns-in-Err-clause-held
+returns-in-Err-clause-held g c = c.in-Err.ensures.held
+
+pub returns-in-Err-clause-marked : goal.returns-in-Err-clause-marked
+returns-in-Err-clause-marked g c = c.in-Err.ensures.marked
+
+pub returns-in-Err-clause-loaded : goal.returns-in-Err-clause-loaded
+returns-in-Err-clause-loaded g c = tt
+
+pub returns-in-Err-clause-page : goal.returns-in-Err-clause-page
+returns-in-Err-clause-page g c = tt
+
+pub returns-in-Err-clause-dropped : goal.returns-in-Err-clause-dropped
+returns-in-Err-clause-dropped g c = c.in-Err.ensures.dropped
+
+pub returns-in-Err-clause-other : goal.returns-in-Err-clause-other
+returns-in-Err-clause-other g c = c.in-Err.ensures.other
+
+pub returns-in-Err-clause-other_page : goal.returns-in-Err-clause-other_page
+returns-in-Err-clause-other_page g c = c.in-Err.ensures.other_page
+
+pub returns-in-Err-clause-keeps : goal.returns-in-Err-clause-keeps
+returns-in-Err-clause-keeps g c = c.in-Err.ensures.keeps
+
+pub returns-in-Err-clause-cause : goal.returns-in-Err-clause-cause
+returns-in-Err-clause-cause g c = c.in-Err.ensures.cause
+
+pub returns-in-Err-clause-reads : goal.returns-in-Err-clause-reads
+returns-in-Err-clause-reads g c = c.in-Err.ensures.reads
+
+pub returns-in-Err-clause-still : goal.returns-in-Err-clause-still
+returns-in-Err-clause-still g c = c.in-Err.ensures.still
+
+pub returns-in-Some-clause-other_page : goal.returns-in-Some-clause-other_page
+returns-in-Some-clause-other_page g c h ne = refl
+
+pub returns-in-Some-clause-reads : goal.returns-in-Some-clause-reads
+returns-in-Some-clause-reads g c digits lt = omega arith
+
+pub returns-in-Some-clause-still : goal.returns-in-Some-clause-still
+returns-in-Some-clause-still g c has = refl
+
+pub load_line-requires-clause-held : goal.load_line-requires-clause-held
+load_line-requires-clause-held g c = c.requires.held
+
+pub load_line-requires-clause-marked : goal.load_line-requires-clause-marked
+load_line-requires-clause-marked g c = c.requires.marked
+
+pub load_line-requires-clause-low : goal.load_line-requires-clause-low
+load_line-requires-clause-low g c = c.requires.low
+
+pub load_line-requires-clause-high : goal.load_line-requires-clause-high
+load_line-requires-clause-high g c = c.requires.high
+
+pub returns-in-Some-clause-keeps : goal.returns-in-Some-clause-keeps
+returns-in-Some-clause-keeps g c = record { told = refl; count = refl; faults = omega arith; scratch = refl; size = refl; needs_memory = refl }

@@ -1,7 +1,7 @@
-use Rattle.std.proofs.Common.{◌≡◌, Some, sym, subst, ◌∙◌, arith}
+use Rattle.std.proofs.Common.{◌≡◌, Some, sym, subst, ◌∙◌, arith, refl, ap}
 use Rattle.std.proofs.lemmas.Option.{none-some}
 use Rattle.packed_pages.specs.declared.places.Place.{Place}
-use Rattle.packed_pages.specs.Layout.{IsPageOf}
+use Rattle.packed_pages.specs.Layout.{IsPageOf, lines_told}
 use Rattle.packed_pages.specs.Held.{IsLoaded}
 use Rattle.packed_pages.proofs.HeldLemmas.{held-more, load-cause}
 use Rattle.packed_pages.proofs.Spans.{page-plain}
@@ -87,3 +87,21 @@ returns-in-Ok-clause-reads g c = c.fetch_line.ensures.reads
 
 pub returns-in-Ok-clause-still : goal.returns-in-Ok-clause-still
 returns-in-Ok-clause-still g c = c.fetch_line.ensures.still
+
+pub returns-in-Ok-clause-keeps : goal.returns-in-Ok-clause-keeps
+returns-in-Ok-clause-keeps g c = record { told = ap (lines_told c.args.layout) c.fetch_line.ensures.told; count = refl; faults = c.fetch_line.ensures.passes.counts; scratch = c.fetch_line.ensures.told; size = refl; needs_memory = refl }
+
+pub returns-in-Err-clause-keeps : goal.returns-in-Err-clause-keeps
+returns-in-Err-clause-keeps g c = record { told = ap (lines_told c.args.layout) c.fetch_line.ensures.told; count = refl; faults = c.fetch_line.ensures.passes.counts; scratch = c.fetch_line.ensures.told; size = refl; needs_memory = refl }
+
+pub fetch_line-requires-clause-held : goal.fetch_line-requires-clause-held
+fetch_line-requires-clause-held g c = c.requires.held
+
+pub fetch_line-requires-clause-marked : goal.fetch_line-requires-clause-marked
+fetch_line-requires-clause-marked g c = c.requires.marked
+
+pub fetch_line-requires-clause-low : goal.fetch_line-requires-clause-low
+fetch_line-requires-clause-low g c = c.requires.low
+
+pub fetch_line-requires-clause-high : goal.fetch_line-requires-clause-high
+fetch_line-requires-clause-high g c = c.requires.high

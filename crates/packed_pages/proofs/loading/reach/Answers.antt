@@ -1,7 +1,8 @@
-use Rattle.std.proofs.Common.{arith}
+use Rattle.std.proofs.Common.{arith, refl}
 use Rattle.page_pair.specs.Pair.{page_of}
 use Rattle.packed_pages.specs.Marks.{marks_of}
 use Rattle.packed_pages.proofs.HeldLemmas.{start-held, marked-more}
+use Rattle.outside.specs.ScratchView.{scratch_passes_none}
 use Rattle.packed_pages.proofs.loading.reach.Goals as goal
 
 pub returns-in-Some-clause-place : goal.returns-in-Some-clause-place
@@ -15,3 +16,63 @@ returns-in-None-clause-marked g c = marked-more c.args.pair.now c.open_page.new.
 
 pub open_page-requires-clause-packs : goal.open_page-requires-clause-packs
 open_page-requires-clause-packs g c b told = c.requires.held.packs (omega arith) b told
+
+pub returns-in-Some-clause-size : goal.returns-in-Some-clause-size
+returns-in-Some-clause-size g c = refl
+
+pub returns-in-Some-clause-other : goal.returns-in-Some-clause-other
+returns-in-Some-clause-other g c h ne = refl
+
+pub returns-in-Some-clause-passes : goal.returns-in-Some-clause-passes
+returns-in-Some-clause-passes g c = scratch_passes_none _
+
+pub returns-in-Some-clause-told : goal.returns-in-Some-clause-told
+returns-in-Some-clause-told g c = refl
+
+pub returns-in-Some-clause-reads : goal.returns-in-Some-clause-reads
+returns-in-Some-clause-reads g c digits lt = omega arith
+
+pub returns-in-Some-clause-still : goal.returns-in-Some-clause-still
+returns-in-Some-clause-still g c has = refl
+
+pub returns-in-Some-clause-cause : goal.returns-in-Some-clause-cause
+returns-in-Some-clause-cause g c = tt
+
+pub returns-in-None-clause-size : goal.returns-in-None-clause-size
+returns-in-None-clause-size g c = c.open_page.ensures.size
+
+pub returns-in-None-clause-other : goal.returns-in-None-clause-other
+returns-in-None-clause-other g c = c.open_page.ensures.other
+
+pub returns-in-None-clause-place : goal.returns-in-None-clause-place
+returns-in-None-clause-place g c = c.open_page.ensures.place
+
+pub returns-in-None-clause-low : goal.returns-in-None-clause-low
+returns-in-None-clause-low g c = c.open_page.ensures.low
+
+pub returns-in-None-clause-high : goal.returns-in-None-clause-high
+returns-in-None-clause-high g c = c.open_page.ensures.high
+
+pub returns-in-None-clause-passes : goal.returns-in-None-clause-passes
+returns-in-None-clause-passes g c = c.open_page.ensures.passes
+
+pub returns-in-None-clause-told : goal.returns-in-None-clause-told
+returns-in-None-clause-told g c = c.open_page.ensures.told
+
+pub returns-in-None-clause-reads : goal.returns-in-None-clause-reads
+returns-in-None-clause-reads g c = c.open_page.ensures.reads
+
+pub returns-in-None-clause-cause : goal.returns-in-None-clause-cause
+returns-in-None-clause-cause g c = c.open_page.ensures.cause
+
+pub open_page-requires-clause-layout : goal.open_page-requires-clause-layout
+open_page-requires-clause-layout g c = c.requires.held.layout
+
+pub open_page-requires-clause-size : goal.open_page-requires-clause-size
+open_page-requires-clause-size g c = c.requires.held.size
+
+pub open_page-requires-clause-low : goal.open_page-requires-clause-low
+open_page-requires-clause-low g c = c.requires.low
+
+pub open_page-requires-clause-high : goal.open_page-requires-clause-high
+open_page-requires-clause-high g c = c.requires.high

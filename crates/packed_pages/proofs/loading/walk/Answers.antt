@@ -6,8 +6,8 @@ use Rattle.packed_pages.proofs.loading.walk.Goals as goal
 pub find_in-requires-clause-marks : goal.find_in-requires-clause-marks
 find_in-requires-clause-marks c = subst (λ page. AreMarks page (marks_of c.args.marks.now c.args.half)) (sym c.page.ensures.is) (c.requires.marked c.args.half)
 
-pub returns-in_err-at-clause-marked : goal.returns-in_err-at-clause-marked
-returns-in_err-at-clause-marked c = marked-more c.args.pair.now c.args.pair.now c.args.marks.now c.find_in.new.marks c.args.half c.requires.marked (λ h other. refl) c.find_in.ensures.other (subst (λ page. AreMarks page (marks_of c.find_in.new.marks c.args.half)) c.page.ensures.is c.find_in.ensures.marks)
+pub returns-in-Err-clause-marked : goal.returns-in-Err-clause-marked
+returns-in-Err-clause-marked c = marked-more c.args.pair.now c.args.pair.now c.args.marks.now c.find_in.new.marks c.args.half c.requires.marked (λ h other. refl) c.find_in.ensures.other (subst (λ page. AreMarks page (marks_of c.find_in.new.marks c.args.half)) c.page.ensures.is c.find_in.ensures.marks)
 
-pub returns-clause-marked : goal.returns-clause-marked
-returns-clause-marked c = marked-more c.args.pair.now c.args.pair.now c.args.marks.now c.find_in.new.marks c.args.half c.requires.marked (λ h other. refl) c.find_in.ensures.other (subst (λ page. AreMarks page (marks_of c.find_in.new.marks c.args.half)) c.page.ensures.is c.find_in.ensures.marks)
+pub returns-in-Ok-clause-marked : goal.returns-in-Ok-clause-marked
+returns-in-Ok-clause-marked c = marked-more c.args.pair.now c.args.pair.now c.args.marks.now c.find_in.new.marks c.args.half c.requires.marked (λ h other. refl) c.find_in.ensures.other (subst (λ page. AreMarks page (marks_of c.find_in.new.marks c.args.half)) c.page.ensures.is c.find_in.ensures.marks)

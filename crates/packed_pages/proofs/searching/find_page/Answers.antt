@@ -1,5 +1,5 @@
 use Rattle.outside.proofs.Exits.{if_ok_none}
-use Rattle.std.proofs.Common.{◌-◌, refl, ◌∙◌, arith}
+use Rattle.std.proofs.Common.{◌-◌, refl, ◌∙◌, arith, sym}
 use Rattle.outside.specs.ScratchView.{scratch_passes_none, scratch_passes_both}
 use Rattle.packed_pages.proofs.Spans.{span-all, reads-half}
 use Rattle.packed_pages.proofs.searching.find_page.Goals as goal
@@ -59,3 +59,6 @@ halve-requires-clause-layout g c = c.requires.layout
 
 pub halve-requires-clause-span : goal.halve-requires-clause-span
 halve-requires-clause-span g c = c.loop-span.invariant.span
+
+pub halve-requires-clause-packs : goal.halve-requires-clause-packs
+halve-requires-clause-packs g c b told = c.requires.packs b (sym c.loop-span.invariant.told ∙ told)

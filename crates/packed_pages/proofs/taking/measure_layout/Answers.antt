@@ -7,34 +7,34 @@ use Rattle.file_pieces.proofs.Measures.{measured-all}
 use Rattle.file_pieces.proofs.Rooms.{room-all}
 use Rattle.packed_pages.proofs.taking.measure_layout.Goals as goal
 
-pub returns-clause-lines : goal.returns-clause-lines
-returns-clause-lines g c text told =
-    let now = c.in_ok-now.now in
+pub returns-in-Ok-clause-lines : goal.returns-in-Ok-clause-lines
+returns-in-Ok-clause-lines g c text told =
+    let now = c.in-Ok.now in
     let len : length text ≡ c.args.length = c.requires.stated text told in
-    let end : c.in_ok-now.now.at ≡ c.args.length = c.in_ok-now.ensures.end in
-    let short : c.in_ok-now.now.longest ≤ c.args.pair.now.size - 4 = c.in_ok-now.ensures.sound.short in
+    let end : c.in-Ok.now.at ≡ c.args.length = c.in-Ok.ensures.end in
+    let short : c.in-Ok.now.longest ≤ c.args.pair.now.size - 4 = c.in-Ok.ensures.sound.short in
     let size : c.size-size.result ≡ c.args.pair.now.size = c.size-size.ensures.size in
     let sized : 512 ≤ c.args.pair.now.size = c.size-size.ensures.pair.sized.0 in
-    let all = measured-all text c.in_ok-now.now.at c.in_ok-now.now.count c.in_ok-now.now.longest (c.in_ok-now.ensures.measured text told) (omega arith) in
-    let widest : c.in_ok-now.now.longest ≡ longest (lines text) = all.1 in
+    let all = measured-all text c.in-Ok.now.at c.in-Ok.now.count c.in-Ok.now.longest (c.in-Ok.ensures.measured text told) (omega arith) in
+    let widest : c.in-Ok.now.longest ≡ longest (lines text) = all.1 in
     record {
       counted = all.0;
-      pages = c.page_count.ensures ∙ ap page_count (sym (room-all c.args.pair.now.size text c.in_ok-now.now.at c.in_ok-now.now.room (c.in_ok-now.ensures.room text told) (omega arith))) ∙ ap (λ n. page_count (room_from n no_room (lines text))) (sym size);
+      pages = c.page_count.ensures ∙ ap page_count (sym (room-all c.args.pair.now.size text c.in-Ok.now.at c.in-Ok.now.room (c.in-Ok.ensures.room text told) (omega arith))) ∙ ap (λ n. page_count (room_from n no_room (lines text))) (sym size);
       short = omega arith;
     }
 
-pub returns-clause-layout : goal.returns-clause-layout
-returns-clause-layout g c =
-    let now = c.in_ok-now.now in
-    let sound = c.in_ok-now.ensures.sound in
-    let pages : c.page_count.result ≡ c.in_ok-now.now.room.pages + min 1 c.in_ok-now.now.room.filled = c.page_count.ensures in
-    let paged : c.in_ok-now.now.room.pages + min 1 c.in_ok-now.now.room.filled ≤ c.in_ok-now.now.count = sound.paged in
-    let counted : c.in_ok-now.now.count ≤ c.in_ok-now.now.at = sound.counted in
-    let end : c.in_ok-now.now.at ≡ c.args.length = c.in_ok-now.ensures.end in
+pub returns-in-Ok-clause-layout : goal.returns-in-Ok-clause-layout
+returns-in-Ok-clause-layout g c =
+    let now = c.in-Ok.now in
+    let sound = c.in-Ok.ensures.sound in
+    let pages : c.page_count.result ≡ c.in-Ok.now.room.pages + min 1 c.in-Ok.now.room.filled = c.page_count.ensures in
+    let paged : c.in-Ok.now.room.pages + min 1 c.in-Ok.now.room.filled ≤ c.in-Ok.now.count = sound.paged in
+    let counted : c.in-Ok.now.count ≤ c.in-Ok.now.at = sound.counted in
+    let end : c.in-Ok.now.at ≡ c.args.length = c.in-Ok.ensures.end in
     let size : c.size-size.result ≡ c.args.pair.now.size = c.size-size.ensures.size in
     record {
       sized = subst IsSize (sym size) c.size-size.ensures.pair.sized;
       few = omega arith;
       pages = omega arith;
-      some = λ lt. (let begun : 0 < c.in_ok-now.now.room.filled = sound.begun lt in omega arith);
+      some = λ lt. (let begun : 0 < c.in-Ok.now.room.filled = sound.begun lt in omega arith);
     }

@@ -1,0 +1,90 @@
+use Rattle.std.proofs.Common.{refl, sym, ◌∙◌}
+use Rattle.outside.specs.ScratchView.{scratch_passes_both}
+use Rattle.packed_pages.proofs.loading.open_page.Goals as goal
+
+pub returns-in-Err-clause-size : goal.returns-in-Err-clause-size
+returns-in-Err-clause-size g c = refl
+
+pub returns-in-Err-clause-other : goal.returns-in-Err-clause-other
+returns-in-Err-clause-other g c h ne = refl
+
+pub returns-in-Err-clause-place : goal.returns-in-Err-clause-place
+returns-in-Err-clause-place g c = tt
+
+pub returns-in-Err-clause-low : goal.returns-in-Err-clause-low
+returns-in-Err-clause-low g c = tt
+
+pub returns-in-Err-clause-high : goal.returns-in-Err-clause-high
+returns-in-Err-clause-high g c = tt
+
+pub returns-in-Err-clause-passes : goal.returns-in-Err-clause-passes
+returns-in-Err-clause-passes g c = c.in-Err.ensures.passes
+
+pub returns-in-Err-clause-told : goal.returns-in-Err-clause-told
+returns-in-Err-clause-told g c = c.in-Err.ensures.told
+
+pub returns-in-Err-clause-cause : goal.returns-in-Err-clause-cause
+returns-in-Err-clause-cause g c = c.in-Err.ensures.cause
+
+pub returns-in-Ok-read_page-clause-size : goal.returns-in-Ok-read_page-clause-size
+returns-in-Ok-read_page-clause-size g c = c.read_page.ensures.size
+
+pub returns-in-Ok-read_page-clause-other : goal.returns-in-Ok-read_page-clause-other
+returns-in-Ok-read_page-clause-other g c = c.read_page.ensures.other
+
+pub returns-in-Ok-read_page-clause-low : goal.returns-in-Ok-read_page-clause-low
+returns-in-Ok-read_page-clause-low g c = c.in-Ok.ensures.span.first
+
+pub returns-in-Ok-read_page-clause-high : goal.returns-in-Ok-read_page-clause-high
+returns-in-Ok-read_page-clause-high g c = c.in-Ok.ensures.span.next
+
+pub returns-in-Ok-read_page-clause-passes : goal.returns-in-Ok-read_page-clause-passes
+returns-in-Ok-read_page-clause-passes g c = scratch_passes_both c.find_page.ensures.passes c.read_page.ensures.passes
+
+pub returns-in-Ok-read_page-clause-told : goal.returns-in-Ok-read_page-clause-told
+returns-in-Ok-read_page-clause-told g c = c.read_page.ensures.told ∙ c.find_page.ensures.told
+
+pub returns-in-Ok-read_page-clause-cause : goal.returns-in-Ok-read_page-clause-cause
+returns-in-Ok-read_page-clause-cause g c = tt
+
+pub returns-in-Err-read_page-clause-size : goal.returns-in-Err-read_page-clause-size
+returns-in-Err-read_page-clause-size g c = c.read_page.ensures.size
+
+pub returns-in-Err-read_page-clause-other : goal.returns-in-Err-read_page-clause-other
+returns-in-Err-read_page-clause-other g c = c.read_page.ensures.other
+
+pub returns-in-Err-read_page-clause-place : goal.returns-in-Err-read_page-clause-place
+returns-in-Err-read_page-clause-place g c = tt
+
+pub returns-in-Err-read_page-clause-low : goal.returns-in-Err-read_page-clause-low
+returns-in-Err-read_page-clause-low g c = tt
+
+pub returns-in-Err-read_page-clause-high : goal.returns-in-Err-read_page-clause-high
+returns-in-Err-read_page-clause-high g c = tt
+
+pub returns-in-Err-read_page-clause-passes : goal.returns-in-Err-read_page-clause-passes
+returns-in-Err-read_page-clause-passes g c = scratch_passes_both c.find_page.ensures.passes c.read_page.ensures.passes
+
+pub returns-in-Err-read_page-clause-told : goal.returns-in-Err-read_page-clause-told
+returns-in-Err-read_page-clause-told g c = c.read_page.ensures.told ∙ c.find_page.ensures.told
+
+pub find_page-requires-clause-layout : goal.find_page-requires-clause-layout
+find_page-requires-clause-layout g c = c.requires.layout
+
+pub find_page-requires-clause-packs : goal.find_page-requires-clause-packs
+find_page-requires-clause-packs g c = c.requires.packs
+
+pub find_page-requires-clause-low : goal.find_page-requires-clause-low
+find_page-requires-clause-low g c = c.requires.low
+
+pub find_page-requires-clause-high : goal.find_page-requires-clause-high
+find_page-requires-clause-high g c = c.requires.high
+
+pub read_page-requires-clause-layout : goal.read_page-requires-clause-layout
+read_page-requires-clause-layout g c = c.requires.layout
+
+pub read_page-requires-clause-packs : goal.read_page-requires-clause-packs
+read_page-requires-clause-packs g c b told = c.requires.packs b (sym c.find_page.ensures.told ∙ told)
+
+pub read_page-requires-clause-size : goal.read_page-requires-clause-size
+read_page-requires-clause-size g c = c.requires.size
