@@ -37,6 +37,13 @@ div-more a d q lt =
 pub at-spot : (l : Layout) (k : ℕ) (s : Spot) → IsSpot l k s → s.at ≡ place_on_page l (k - 1)
 at-spot l k s spot = spot.place ∙ ap (λ n. n * l.width) spot.index_
 
+-- what isn't among lines up to one, nor among those from it on
+pub none-both : (lines : List (List ℕ)) (line : List ℕ) (from middle to : ℕ) → NoneAlike lines line from middle → NoneAlike lines line middle to → NoneAlike lines line from to
+none-both lines line from middle to before behind = λ k low high. elim (cases_lt k middle) [
+  | inl lt ↦ before k low lt
+  | inr ge ↦ behind k ge high
+]
+
 first-tells : (lines : List (List ℕ)) (line page : List ℕ) (at from k : ℕ) (is : Bool) → line_in page at ≡ line_at lines k → NoneAlike lines line from k → TellsAlike page line at is → FindsFirst lines line from k is
 first-tells lines line page at from k true same none t = (sym same ∙ t, none)
 first-tells lines line page at from k false same none t = λ i low high. elim (cases_lt i k) [

@@ -16,7 +16,7 @@ ghost use Rattle.file_pieces.specs.Reading.{IsTakeFault};
 
 use crate::filling::{Filling, put_record};
 use crate::layout::Layout;
-use file_pieces::paging::write_page;
+use file_pieces::paging::{restart, write_page};
 use file_pieces::reading::{read_piece, whole_line};
 use line_store::{Half, OpenFault};
 use outside::{Name, Scratch, Tree};
@@ -131,7 +131,10 @@ fn copy_piece<T: Tree, C: Scratch>(
     ensures copied { IfOk result (λ now. IsCopied layout (C.view scratch.new).told (page_of pair.new Second) now.at now.filling (told_file (T.view tree.old) name.now)) }
     ensures cause { IfErr result (λ e. IsTakeFault e (C.view scratch.old) (C.view scratch.new) (T.view tree.old) (T.view tree.new)) }
 {
-    let got = read_piece(pair, tree, name, copied.at, length)?;
+    let got = match read_piece(pair, tree, name, copied.at, length) {
+        Ok(got) => got,
+        Err(fault) => return Err(fault),
+    };
     let is_last = copied.at + got as u64 == length;
     let now = match copy_lines(pair, scratch, layout, copied.filling, got, is_last) {
         Ok(now) => now,
@@ -176,12 +179,14 @@ fn finish<C: Scratch>(
         return Ok(());
     }
     let filled = filling.records * layout.width;
-    write_page(pair, scratch, filled as usize, filling.pages * layout.size)?;
-    Ok(())
+    match write_page(pair, scratch, filled as usize, filling.pages * layout.size) {
+        Ok(()) => Ok(()),
+        Err(fault) => Err(fault),
+    }
 }
 
-/// Copies the lines of a file of `length` bytes that was measured, into a scratch that holds nothing.
-pub fn copy_file<T: Tree, C: Scratch>(
+/// Copies a file that was measured, over what the scratch held.
+pub fn copy_anew<T: Tree, C: Scratch>(
     pair: &mut PagePair,
     scratch: &mut C,
     tree: &mut T,
@@ -194,7 +199,6 @@ pub fn copy_file<T: Tree, C: Scratch>(
     requires measured { (text : List ℕ) → told_file (T.view tree.old) name.now ≡ Some text → IsMeasuredAs layout (lines text) }
     requires layout { IsLayout layout }
     requires size { layout.size ≡ pair.old.size }
-    requires empty { (bytes : List ℕ) → (C.view scratch.old).told ≡ Some bytes → bytes ≡ [] }
     requires short { length < 2 ^ 40 }
     ensures untouched { IsUntouched (T.view tree.old) (T.view tree.new) }
     ensures size { pair.new.size ≡ pair.old.size }
@@ -202,6 +206,10 @@ pub fn copy_file<T: Tree, C: Scratch>(
     ensures written { OnOk result (IsWritten layout (C.view scratch.new).told (told_file (T.view tree.old) name.now)) }
     ensures cause { IfErr result (λ e. IsTakeFault e (C.view scratch.old) (C.view scratch.new) (T.view tree.old) (T.view tree.new)) }
 {
+    match restart(scratch) {
+        Ok(()) => {}
+        Err(fault) => return Err(fault),
+    }
     let mut copied = Copied {
         at: 0,
         filling: Filling {
@@ -210,7 +218,10 @@ pub fn copy_file<T: Tree, C: Scratch>(
         },
     };
     while copied.at < length {
-        copied = copy_piece(pair, scratch, tree, name, layout, copied, length)?;
+        copied = match copy_piece(pair, scratch, tree, name, layout, copied, length) {
+            Ok(next) => next,
+            Err(fault) => return Err(fault),
+        };
     }
     match finish(pair, scratch, layout, copied.filling) {
         Ok(()) => Ok(()),

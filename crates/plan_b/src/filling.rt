@@ -58,14 +58,16 @@ pub fn put_record<C: Scratch>(
     if records < layout.per_page {
         return Ok(Filling { pages, records });
     }
-    write_page(
+    match write_page(
         pair,
         scratch,
         (records * layout.width) as usize,
         pages * layout.size,
-    )?;
-    Ok(Filling {
-        pages: pages + 1,
-        records: 0,
-    })
+    ) {
+        Ok(()) => Ok(Filling {
+            pages: pages + 1,
+            records: 0,
+        }),
+        Err(fault) => Err(fault),
+    }
 }

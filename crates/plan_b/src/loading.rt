@@ -111,7 +111,10 @@ fn find_line<C: Scratch>(
     ensures still { page_held layout halves half ≡ Some (page_number layout (k - 1)) → (C.view scratch.new).reads ≡ (C.view scratch.old).reads }
     ensures cause { IfErr result (λ e. HasPageCause e (C.view scratch.old) (C.view scratch.new)) }
 {
-    fetch_page(pair, scratch, halves, layout, k, half)?;
+    match fetch_page(pair, scratch, halves, layout, k, half) {
+        Ok(()) => {}
+        Err(fault) => return Err(fault),
+    }
     let most = layout.width - 4;
     let length = stated_length(pair.page(half), layout.place_on_page(k - 1));
     if length > most {

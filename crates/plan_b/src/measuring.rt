@@ -31,6 +31,8 @@ pub fn measure_layout<T: Tree>(
     ensures cause { IfErr result (λ e. IsMeasureFault e pair.old.size (T.view tree.old) (T.view tree.new) name.now) }
 {
     let size = pair.size();
-    let now = measure(pair, tree, name, length)?;
-    Ok(Layout::new(size, now.longest, now.count))
+    match measure(pair, tree, name, length) {
+        Ok(now) => Ok(Layout::new(size, now.longest, now.count)),
+        Err(fault) => Err(fault),
+    }
 }

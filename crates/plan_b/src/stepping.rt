@@ -64,14 +64,18 @@ fn spot_before(page: &[u8], layout: Layout, k: u64, spot: Spot) -> Option<Spot>
     if_fits(page, layout, before)
 }
 
-/// The record of line `k`, where that is line `j`, or the one behind or before it on the same page.
-fn near_line(page: &[u8], layout: Layout, j: u64, spot: Spot, k: u64) -> Option<Spot>
+/// The record of line `k`, where a half holds it, or the one before or behind it on the same page.
+pub fn near(page: &[u8], layout: Layout, held: Option<u64>, spot: Spot, k: u64) -> Option<Spot>
     requires layout { IsLayout layout }
     requires size { length page.now ≡ layout.size }
-    requires is { IsRecord page.now layout j spot }
-    requires few { j ≤ 2 ^ 40 }
-    ensures { IfNear page.now layout (Some j) k result }
+    requires is { (j : ℕ) → held ≡ Some j → IsRecord page.now layout j spot }
+    requires few { (j : ℕ) → held ≡ Some j → j ≤ 2 ^ 40 }
+    ensures { IfNear page.now layout held k result }
 {
+    let j = match held {
+        Some(j) => j,
+        None => return None,
+    };
     if k == j + 1 {
         return next_on(page, layout, j, spot);
     }
@@ -82,20 +86,6 @@ fn near_line(page: &[u8], layout: Layout, j: u64, spot: Spot, k: u64) -> Option<
         return spot_before(page, layout, j, spot);
     }
     None
-}
-
-/// The record of line `k`, where a half holds it, or the one before or behind it on the same page.
-pub fn near(page: &[u8], layout: Layout, held: Option<u64>, spot: Spot, k: u64) -> Option<Spot>
-    requires layout { IsLayout layout }
-    requires size { length page.now ≡ layout.size }
-    requires is { (j : ℕ) → held ≡ Some j → IsRecord page.now layout j spot }
-    requires few { (j : ℕ) → held ≡ Some j → j ≤ 2 ^ 40 }
-    ensures { IfNear page.now layout held k result }
-{
-    match held {
-        Some(j) => near_line(page, layout, j, spot, k),
-        None => None,
-    }
 }
 
 /// Whether two lines are equal. Most others differ in their lengths, or in their last byte before the line feed.

@@ -1,6 +1,6 @@
 //! A file taken into a scratch: it is measured, and then copied.
 
-ghost use Rattle.std.specs.Prelude.{◌≡◌, ◌≤◌, ◌<◌, ◌^◌, ℕ, List, [], length, None, Some, IfOk, IfErr, OnOk};
+ghost use Rattle.std.specs.Prelude.{◌≡◌, ◌≤◌, ◌<◌, ◌^◌, ℕ, List, [], length, None, Some, IfOk, IfErr};
 ghost use Rattle.line_list.specs.Lines.{lines};
 ghost use Rattle.line_store.specs.Taking.{refusal, HasOpenCause};
 ghost use Rattle.outside.specs.Calls.{IsThere, IsUntouched};
@@ -8,15 +8,13 @@ ghost use Rattle.outside.specs.ScratchView.{ScratchPasses};
 ghost use Rattle.plan_b.specs.Layout.{IsLayout};
 ghost use Rattle.file_pieces.specs.Held.{bare};
 ghost use Rattle.file_pieces.specs.Records.{IsWriteFault};
-ghost use Rattle.file_pieces.specs.Reading.{told_file, HasLength};
-ghost use Rattle.file_pieces.specs.Reading.{IsTakeFault};
+ghost use Rattle.file_pieces.specs.Reading.{told_file};
 ghost use Rattle.plan_b.specs.Copying.{IsWritten};
 ghost use Rattle.plan_b.specs.Measuring.{IsMeasuredAs};
 
-use crate::copying::copy_file;
+use crate::copying::copy_anew;
 use crate::layout::Layout;
 use crate::measuring::measure_layout;
-use file_pieces::paging::restart;
 use file_pieces::reading::size_of;
 use line_store::OpenFault;
 use outside::{Name, Scratch, Tree};
@@ -24,37 +22,6 @@ use page_pair::PagePair;
 
 /// The least number of bytes that is too many.
 const TOO_LONG: u64 = 1 << 40;
-
-/// Copies a file that was measured, over what the scratch held.
-fn copy_anew<T: Tree, C: Scratch>(
-    pair: &mut PagePair,
-    scratch: &mut C,
-    tree: &mut T,
-    name: &Name,
-    layout: Layout,
-    length: u64,
-) -> Result<(), OpenFault>
-    requires there { IsThere (T.view tree.old) name.now }
-    requires stated { HasLength (told_file (T.view tree.old) name.now) length }
-    requires measured { (text : List ℕ) → told_file (T.view tree.old) name.now ≡ Some text → IsMeasuredAs layout (lines text) }
-    requires layout { IsLayout layout }
-    requires size { layout.size ≡ pair.old.size }
-    requires short { length < 2 ^ 40 }
-    ensures untouched { IsUntouched (T.view tree.old) (T.view tree.new) }
-    ensures size { pair.new.size ≡ pair.old.size }
-    ensures passes { ScratchPasses (C.view scratch.old) (C.view scratch.new) }
-    ensures written { OnOk result (IsWritten layout (C.view scratch.new).told (told_file (T.view tree.old) name.now)) }
-    ensures cause { IfErr result (λ e. IsTakeFault e (C.view scratch.old) (C.view scratch.new) (T.view tree.old) (T.view tree.new)) }
-{
-    match restart(scratch) {
-        Ok(()) => {}
-        Err(fault) => return Err(fault),
-    }
-    match copy_file(pair, scratch, tree, name, layout, length) {
-        Ok(()) => Ok(()),
-        Err(fault) => Err(fault),
-    }
-}
 
 /// Takes a file into the scratch, which holds its padded pages then.
 pub fn take_pages<T: Tree, C: Scratch>(

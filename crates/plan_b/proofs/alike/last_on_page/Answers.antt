@@ -33,3 +33,36 @@ returns-clause-value g c lines told =
     let before : c.last_pass-pass.result.line ≤ c.args.to - 1 = c.last_pass-pass.ensures.order in
     finds-last c.load_line.new.pair c.args.layout (view c.load_line.new.scratch) c.args.half (c.args.to - 1) c.last_pass-pass.result.line c.args.to c.last_pass-pass.result.spot c.page.result.now lines c.args.line.now c.last_pass-pass.result.is_alike
     c.in-Ok.ensures.held.layout c.in-Ok.ensures.held.records (c.in-Ok.ensures.held.loaded c.args.half (c.args.to - 1) c.in-Ok.ensures.loaded) c.page.ensures.is c.last_pass-pass.ensures.follows c.last_pass-pass.ensures.order (omega arith) (c.in-Ok.ensures.keeps.told ∙ told) c.last_pass-pass.ensures.misses c.last_pass-pass.ensures.tells
+
+pub returns-in-Err-clause-held : goal.returns-in-Err-clause-held
+returns-in-Err-clause-held g c = c.in-Err.ensures.held
+
+pub returns-in-Err-clause-spots : goal.returns-in-Err-clause-spots
+returns-in-Err-clause-spots g c = c.in-Err.ensures.spots
+
+pub returns-in-Err-clause-low : goal.returns-in-Err-clause-low
+returns-in-Err-clause-low g c = tt
+
+pub returns-in-Err-clause-within : goal.returns-in-Err-clause-within
+returns-in-Err-clause-within g c = tt
+
+pub returns-in-Err-clause-value : goal.returns-in-Err-clause-value
+returns-in-Err-clause-value g c = tt
+
+pub returns-in-Err-clause-other : goal.returns-in-Err-clause-other
+returns-in-Err-clause-other g c = c.in-Err.ensures.other
+
+pub returns-in-Err-clause-keeps : goal.returns-in-Err-clause-keeps
+returns-in-Err-clause-keeps g c = c.in-Err.ensures.keeps
+
+pub returns-in-Err-clause-cause : goal.returns-in-Err-clause-cause
+returns-in-Err-clause-cause g c = c.in-Err.ensures.cause
+
+pub returns-clause-cause : goal.returns-clause-cause
+returns-clause-cause g c = tt
+
+pub load_line-requires-clause-held : goal.load_line-requires-clause-held
+load_line-requires-clause-held g c = c.requires.held
+
+pub load_line-requires-clause-spots : goal.load_line-requires-clause-spots
+load_line-requires-clause-spots g c = c.requires.spots

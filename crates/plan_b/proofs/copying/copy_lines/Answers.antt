@@ -52,3 +52,54 @@ loop-end-preserved g c =
           (part-of-front (c.in-Some.end - c.loop-end.at) c.loop-end.at c.args.got (page_of c.args.pair.now First) (omega arith) ∙ ap (λ p. take (c.in-Some.end - c.loop-end.at) (drop c.loop-end.at p)) (sym c.loop-end.invariant.first))
           c.in-Ok.ensures.filled;
     }
+
+pub returns-in-Err-clause-size : goal.returns-in-Err-clause-size
+returns-in-Err-clause-size g c = c.in-Err.ensures.size ∙ c.loop-end.invariant.size
+
+pub returns-in-Err-clause-passes : goal.returns-in-Err-clause-passes
+returns-in-Err-clause-passes g c = scratch_passes_both c.loop-end.invariant.passes c.in-Err.ensures.passes
+
+pub returns-in-Err-clause-ready : goal.returns-in-Err-clause-ready
+returns-in-Err-clause-ready g c = tt
+
+pub returns-in-Err-clause-count : goal.returns-in-Err-clause-count
+returns-in-Err-clause-count g c = tt
+
+pub returns-in-Err-clause-within : goal.returns-in-Err-clause-within
+returns-in-Err-clause-within g c = tt
+
+pub returns-in-Err-clause-left : goal.returns-in-Err-clause-left
+returns-in-Err-clause-left g c = tt
+
+pub returns-in-Err-clause-copies : goal.returns-in-Err-clause-copies
+returns-in-Err-clause-copies g c = tt
+
+pub returns-clause-size : goal.returns-clause-size
+returns-clause-size g c = c.loop-end.invariant.size
+
+pub returns-clause-passes : goal.returns-clause-passes
+returns-clause-passes g c = c.loop-end.invariant.passes
+
+pub returns-clause-ready : goal.returns-clause-ready
+returns-clause-ready g c = c.loop-end.invariant.ready
+
+pub returns-clause-count : goal.returns-clause-count
+returns-clause-count g c = c.loop-end.invariant.count
+
+pub returns-clause-within : goal.returns-clause-within
+returns-clause-within g c = c.loop-end.invariant.within
+
+pub returns-clause-copies : goal.returns-clause-copies
+returns-clause-copies g c = c.loop-end.invariant.copies
+
+pub returns-clause-cause : goal.returns-clause-cause
+returns-clause-cause g c = tt
+
+pub copy_line-requires-clause-layout : goal.copy_line-requires-clause-layout
+copy_line-requires-clause-layout g c = c.requires.layout
+
+pub copy_line-requires-clause-size : goal.copy_line-requires-clause-size
+copy_line-requires-clause-size g c = c.requires.size ∙ sym c.loop-end.invariant.size
+
+pub copy_line-requires-clause-ready : goal.copy_line-requires-clause-ready
+copy_line-requires-clause-ready g c = c.loop-end.invariant.ready

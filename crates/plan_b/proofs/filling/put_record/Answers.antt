@@ -5,6 +5,7 @@ use Rattle.page_pair.specs.Pair.{page_of}
 use Rattle.file_pieces.specs.Records.{padded}
 use Rattle.plan_b.proofs.Fillings.{filled-more, filled-full, ready-full}
 use Rattle.plan_b.proofs.Layouts.{rows-fit}
+use Rattle.outside.specs.ScratchView.{scratch_passes_none}
 use Rattle.plan_b.proofs.filling.put_record.Goals as goal
 
 pub returns-then-records-layout-clause-filled : goal.returns-then-records-layout-clause-filled
@@ -14,8 +15,8 @@ returns-then-records-layout-clause-filled g c ls was =
     filled-more c.args.layout (g.C.Scratch.view c.args.scratch.now).told (page_of c.args.pair.now Second) (page_of c.make_record.new.pair Second) (take c.args.count (drop c.args.from (page_of c.args.pair.now First))) c.args.filling (record { pages = c.args.filling.pages; records = c.args.filling.records + 1 }) ls
     refl refl (omega arith) c.make_record.ensures.made was
 
-pub returns-clause-ready : goal.returns-clause-ready
-returns-clause-ready g c =
+pub returns-in-Ok-clause-ready : goal.returns-in-Ok-clause-ready
+returns-in-Ok-clause-ready g c =
     let view = g.C.Scratch.view in
     let l = c.args.layout in
     let some : c.args.filling.records < l.per_page = c.requires.ready.some in
@@ -23,11 +24,11 @@ returns-clause-ready g c =
     let size : c.make_record.new.pair.size ≡ l.size = c.make_record.ensures.size ∙ sym c.requires.size in
     ready-full l (view c.args.scratch.now).told (view c.write_page.new.scratch).told (page_of c.make_record.new.pair Second) ((c.args.filling.records + 1) * l.width) c.args.filling (record { pages = c.args.filling.pages + 1; records = 0 })
     (rows-fit l (c.args.filling.records + 1) c.requires.layout (omega arith)) (omega arith) refl refl full c.requires.few c.write_page.ensures.passes.telling
-    (λ b told. c.in_ok-write_page.ensures.written b told ∙ ap (λ n. Some (b ++ padded n (take ((c.args.filling.records + 1) * l.width) (page_of c.make_record.new.pair Second)))) size)
+    (λ b told. c.in-Ok.ensures.written b told ∙ ap (λ n. Some (b ++ padded n (take ((c.args.filling.records + 1) * l.width) (page_of c.make_record.new.pair Second)))) size)
     c.requires.ready
 
-pub returns-clause-filled : goal.returns-clause-filled
-returns-clause-filled g c ls was =
+pub returns-in-Ok-clause-filled : goal.returns-in-Ok-clause-filled
+returns-in-Ok-clause-filled g c ls was =
     let view = g.C.Scratch.view in
     let l = c.args.layout in
     let line : List ℕ = take c.args.count (drop c.args.from (page_of c.args.pair.now First)) in
@@ -37,6 +38,51 @@ returns-clause-filled g c ls was =
     let short : length (take c.args.count (drop c.args.from (page_of c.args.pair.now First))) ≡ min c.args.count (length (drop c.args.from (page_of c.args.pair.now First))) = length-take c.args.count (drop c.args.from (page_of c.args.pair.now First)) in
     filled-full l (view c.args.scratch.now).told (view c.write_page.new.scratch).told (page_of c.make_record.new.pair Second) (page_of c.write_page.new.pair Second) (record { pages = c.args.filling.pages; records = c.args.filling.records + 1 }) (record { pages = c.args.filling.pages + 1; records = 0 }) (ls ++ take c.args.count (drop c.args.from (page_of c.args.pair.now First)) ∷ [])
     full refl refl c.write_page.ensures.passes.telling
-    (λ b told. c.in_ok-write_page.ensures.written b told ∙ ap (λ n. Some (b ++ padded n (take ((c.args.filling.records + 1) * l.width) (page_of c.make_record.new.pair Second)))) size)
+    (λ b told. c.in-Ok.ensures.written b told ∙ ap (λ n. Some (b ++ padded n (take ((c.args.filling.records + 1) * l.width) (page_of c.make_record.new.pair Second)))) size)
     (filled-more l (view c.args.scratch.now).told (page_of c.args.pair.now Second) (page_of c.make_record.new.pair Second) (take c.args.count (drop c.args.from (page_of c.args.pair.now First))) c.args.filling (record { pages = c.args.filling.pages; records = c.args.filling.records + 1 }) ls
     refl refl (omega arith) c.make_record.ensures.made was)
+
+pub returns-then-records-layout-clause-size : goal.returns-then-records-layout-clause-size
+returns-then-records-layout-clause-size g c = c.make_record.ensures.size
+
+pub returns-then-records-layout-clause-first : goal.returns-then-records-layout-clause-first
+returns-then-records-layout-clause-first g c = c.make_record.ensures.first
+
+pub returns-then-records-layout-clause-passes : goal.returns-then-records-layout-clause-passes
+returns-then-records-layout-clause-passes g c = scratch_passes_none _
+
+pub returns-then-records-layout-clause-cause : goal.returns-then-records-layout-clause-cause
+returns-then-records-layout-clause-cause g c = tt
+
+pub returns-in-Ok-clause-size : goal.returns-in-Ok-clause-size
+returns-in-Ok-clause-size g c = c.write_page.ensures.size ∙ c.make_record.ensures.size
+
+pub returns-in-Ok-clause-first : goal.returns-in-Ok-clause-first
+returns-in-Ok-clause-first g c = c.write_page.ensures.first ∙ c.make_record.ensures.first
+
+pub returns-in-Ok-clause-passes : goal.returns-in-Ok-clause-passes
+returns-in-Ok-clause-passes g c = c.write_page.ensures.passes
+
+pub returns-in-Ok-clause-cause : goal.returns-in-Ok-clause-cause
+returns-in-Ok-clause-cause g c = tt
+
+pub returns-in-Err-clause-size : goal.returns-in-Err-clause-size
+returns-in-Err-clause-size g c = c.write_page.ensures.size ∙ c.make_record.ensures.size
+
+pub returns-in-Err-clause-first : goal.returns-in-Err-clause-first
+returns-in-Err-clause-first g c = c.write_page.ensures.first ∙ c.make_record.ensures.first
+
+pub returns-in-Err-clause-passes : goal.returns-in-Err-clause-passes
+returns-in-Err-clause-passes g c = c.write_page.ensures.passes
+
+pub returns-in-Err-clause-ready : goal.returns-in-Err-clause-ready
+returns-in-Err-clause-ready g c = tt
+
+pub returns-in-Err-clause-count : goal.returns-in-Err-clause-count
+returns-in-Err-clause-count g c = tt
+
+pub returns-in-Err-clause-filled : goal.returns-in-Err-clause-filled
+returns-in-Err-clause-filled g c = tt
+
+pub returns-in-Err-clause-cause : goal.returns-in-Err-clause-cause
+returns-in-Err-clause-cause g c = c.in-Err.ensures.cause

@@ -1,5 +1,6 @@
-use Rattle.std.proofs.Common.{◌+◌, ◌-◌, ◌*◌, ◌≤◌, length, sym, subst, arith}
+use Rattle.std.proofs.Common.{◌+◌, ◌-◌, ◌*◌, ◌≤◌, length, sym, subst, arith, refl, inl, inr}
 use Rattle.plan_b.proofs.HeldLemmas.{page-kept}
+use Rattle.outside.specs.ScratchView.{scratch_passes_none}
 use Rattle.plan_b.proofs.loading.fetch_page.Goals as goal
 
 pub holds_page-requires-clause-low : goal.holds_page-requires-clause-low
@@ -13,3 +14,45 @@ pub read_page-requires-clause-whole : goal.read_page-requires-clause-whole
 read_page-requires-clause-whole g c b told =
     let w = (c.requires.held.records b told).whole (c.args.k - 1) (omega arith) in
     subst (λ n. n * c.args.layout.size + c.args.layout.size ≤ length b) (sym c.page_number-page.ensures.is) w
+
+pub returns-then-holds_page-clause-size : goal.returns-then-holds_page-clause-size
+returns-then-holds_page-clause-size g c = refl
+
+pub returns-then-holds_page-clause-other : goal.returns-then-holds_page-clause-other
+returns-then-holds_page-clause-other g c h ne = refl
+
+pub returns-then-holds_page-clause-passes : goal.returns-then-holds_page-clause-passes
+returns-then-holds_page-clause-passes g c = scratch_passes_none _
+
+pub returns-then-holds_page-clause-told : goal.returns-then-holds_page-clause-told
+returns-then-holds_page-clause-told g c = refl
+
+pub returns-then-holds_page-clause-reads : goal.returns-then-holds_page-clause-reads
+returns-then-holds_page-clause-reads g c = inl refl
+
+pub returns-then-holds_page-clause-still : goal.returns-then-holds_page-clause-still
+returns-then-holds_page-clause-still g c has = refl
+
+pub returns-then-holds_page-clause-cause : goal.returns-then-holds_page-clause-cause
+returns-then-holds_page-clause-cause g c = tt
+
+pub returns-clause-reads : goal.returns-clause-reads
+returns-clause-reads g c = inr c.read_page.ensures.reads
+
+pub returns-clause-size : goal.returns-clause-size
+returns-clause-size g c = c.read_page.ensures.size
+
+pub returns-clause-other : goal.returns-clause-other
+returns-clause-other g c = c.read_page.ensures.other
+
+pub returns-clause-passes : goal.returns-clause-passes
+returns-clause-passes g c = c.read_page.ensures.passes
+
+pub returns-clause-told : goal.returns-clause-told
+returns-clause-told g c = c.read_page.ensures.told
+
+pub returns-clause-cause : goal.returns-clause-cause
+returns-clause-cause g c = c.read_page.ensures.cause
+
+pub read_page-requires-clause-size : goal.read_page-requires-clause-size
+read_page-requires-clause-size g c = c.requires.held.size

@@ -18,7 +18,82 @@ returns-then-length-most-clause-cause g c = (
       let same : c.stated_length-length.result ≡ stated b (place_of l (c.args.k - 1)) =
       c.stated_length-length.ensures
       ∙ ap (λ n. stated c.page.result.now n) c.place_on_page.ensures.is
-      ∙ ap (λ p. stated p (place_on_page l (c.args.k - 1))) (c.page.ensures.is ∙ c.in_ok-fetch_page.ensures.page b (c.fetch_page.ensures.told ∙ told))
+      ∙ ap (λ p. stated p (place_on_page l (c.args.k - 1))) (c.page.ensures.is ∙ c.in-Ok.ensures.page b (c.fetch_page.ensures.told ∙ told))
       ∙ stated-on-page l.size (page_number l (c.args.k - 1) * l.size) (place_on_page l (c.args.k - 1)) b (omega arith) in
       omega arith),
 )
+
+pub returns-in-Err-clause-loaded : goal.returns-in-Err-clause-loaded
+returns-in-Err-clause-loaded g c = tt
+
+pub returns-in-Err-clause-cause : goal.returns-in-Err-clause-cause
+returns-in-Err-clause-cause g c = c.in-Err.ensures.cause
+
+pub returns-in-Err-clause-size : goal.returns-in-Err-clause-size
+returns-in-Err-clause-size g c = c.fetch_page.ensures.size
+
+pub returns-in-Err-clause-other : goal.returns-in-Err-clause-other
+returns-in-Err-clause-other g c = c.fetch_page.ensures.other
+
+pub returns-in-Err-clause-passes : goal.returns-in-Err-clause-passes
+returns-in-Err-clause-passes g c = c.fetch_page.ensures.passes
+
+pub returns-in-Err-clause-told : goal.returns-in-Err-clause-told
+returns-in-Err-clause-told g c = c.fetch_page.ensures.told
+
+pub returns-in-Err-clause-reads : goal.returns-in-Err-clause-reads
+returns-in-Err-clause-reads g c = c.fetch_page.ensures.reads
+
+pub returns-in-Err-clause-still : goal.returns-in-Err-clause-still
+returns-in-Err-clause-still g c = c.fetch_page.ensures.still
+
+pub returns-then-length-most-clause-loaded : goal.returns-then-length-most-clause-loaded
+returns-then-length-most-clause-loaded g c = tt
+
+pub returns-then-length-most-clause-size : goal.returns-then-length-most-clause-size
+returns-then-length-most-clause-size g c = c.fetch_page.ensures.size
+
+pub returns-then-length-most-clause-other : goal.returns-then-length-most-clause-other
+returns-then-length-most-clause-other g c = c.fetch_page.ensures.other
+
+pub returns-then-length-most-clause-passes : goal.returns-then-length-most-clause-passes
+returns-then-length-most-clause-passes g c = c.fetch_page.ensures.passes
+
+pub returns-then-length-most-clause-told : goal.returns-then-length-most-clause-told
+returns-then-length-most-clause-told g c = c.fetch_page.ensures.told
+
+pub returns-then-length-most-clause-reads : goal.returns-then-length-most-clause-reads
+returns-then-length-most-clause-reads g c = c.fetch_page.ensures.reads
+
+pub returns-then-length-most-clause-still : goal.returns-then-length-most-clause-still
+returns-then-length-most-clause-still g c = c.fetch_page.ensures.still
+
+pub returns-clause-cause : goal.returns-clause-cause
+returns-clause-cause g c = tt
+
+pub returns-clause-size : goal.returns-clause-size
+returns-clause-size g c = c.fetch_page.ensures.size
+
+pub returns-clause-other : goal.returns-clause-other
+returns-clause-other g c = c.fetch_page.ensures.other
+
+pub returns-clause-passes : goal.returns-clause-passes
+returns-clause-passes g c = c.fetch_page.ensures.passes
+
+pub returns-clause-told : goal.returns-clause-told
+returns-clause-told g c = c.fetch_page.ensures.told
+
+pub returns-clause-reads : goal.returns-clause-reads
+returns-clause-reads g c = c.fetch_page.ensures.reads
+
+pub returns-clause-still : goal.returns-clause-still
+returns-clause-still g c = c.fetch_page.ensures.still
+
+pub fetch_page-requires-clause-held : goal.fetch_page-requires-clause-held
+fetch_page-requires-clause-held g c = c.requires.held
+
+pub fetch_page-requires-clause-low : goal.fetch_page-requires-clause-low
+fetch_page-requires-clause-low g c = c.requires.low
+
+pub fetch_page-requires-clause-high : goal.fetch_page-requires-clause-high
+fetch_page-requires-clause-high g c = c.requires.high

@@ -34,3 +34,66 @@ pub returns-in-Err-clause-spots : goal.returns-in-Err-clause-spots
 returns-in-Err-clause-spots g c =
     spots-more c.args.layout c.args.halves.now c.set-in-Err.new.self c.args.spots.now c.args.spots.now c.args.half c.requires.spots c.set-in-Err.ensures.other (λ h ne. refl)
     (λ k is. absurd (none-some k (sym c.set-in-Err.ensures.held ∙ is)))
+
+pub returns-in-Ok-clause-spot : goal.returns-in-Ok-clause-spot
+returns-in-Ok-clause-spot g c = c.in-Ok.ensures.spot
+
+pub returns-in-Ok-clause-loaded : goal.returns-in-Ok-clause-loaded
+returns-in-Ok-clause-loaded g c = c.set.ensures.held
+
+pub returns-in-Ok-clause-page : goal.returns-in-Ok-clause-page
+returns-in-Ok-clause-page g c = c.in-Ok.ensures.loaded.page
+
+pub returns-in-Ok-clause-dropped : goal.returns-in-Ok-clause-dropped
+returns-in-Ok-clause-dropped g c = tt
+
+pub returns-in-Ok-clause-other : goal.returns-in-Ok-clause-other
+returns-in-Ok-clause-other g c = c.set.ensures.other
+
+pub returns-in-Ok-clause-other_page : goal.returns-in-Ok-clause-other_page
+returns-in-Ok-clause-other_page g c = c.fetch_line.ensures.other
+
+pub returns-in-Ok-clause-cause : goal.returns-in-Ok-clause-cause
+returns-in-Ok-clause-cause g c = tt
+
+pub returns-in-Ok-clause-reads : goal.returns-in-Ok-clause-reads
+returns-in-Ok-clause-reads g c = c.fetch_line.ensures.reads
+
+pub returns-in-Ok-clause-still : goal.returns-in-Ok-clause-still
+returns-in-Ok-clause-still g c = c.fetch_line.ensures.still
+
+pub returns-in-Err-clause-spot : goal.returns-in-Err-clause-spot
+returns-in-Err-clause-spot g c = tt
+
+pub returns-in-Err-clause-loaded : goal.returns-in-Err-clause-loaded
+returns-in-Err-clause-loaded g c = tt
+
+pub returns-in-Err-clause-page : goal.returns-in-Err-clause-page
+returns-in-Err-clause-page g c = tt
+
+pub returns-in-Err-clause-dropped : goal.returns-in-Err-clause-dropped
+returns-in-Err-clause-dropped g c = c.set-in-Err.ensures.held
+
+pub returns-in-Err-clause-other : goal.returns-in-Err-clause-other
+returns-in-Err-clause-other g c = c.set-in-Err.ensures.other
+
+pub returns-in-Err-clause-other_page : goal.returns-in-Err-clause-other_page
+returns-in-Err-clause-other_page g c = c.fetch_line.ensures.other
+
+pub returns-in-Err-clause-reads : goal.returns-in-Err-clause-reads
+returns-in-Err-clause-reads g c = c.fetch_line.ensures.reads
+
+pub returns-in-Err-clause-still : goal.returns-in-Err-clause-still
+returns-in-Err-clause-still g c = c.fetch_line.ensures.still
+
+pub fetch_line-requires-clause-held : goal.fetch_line-requires-clause-held
+fetch_line-requires-clause-held g c = c.requires.held
+
+pub fetch_line-requires-clause-spots : goal.fetch_line-requires-clause-spots
+fetch_line-requires-clause-spots g c = c.requires.spots
+
+pub fetch_line-requires-clause-low : goal.fetch_line-requires-clause-low
+fetch_line-requires-clause-low g c = c.requires.low
+
+pub fetch_line-requires-clause-high : goal.fetch_line-requires-clause-high
+fetch_line-requires-clause-high g c = c.requires.high

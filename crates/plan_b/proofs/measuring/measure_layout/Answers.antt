@@ -6,14 +6,14 @@ use Rattle.file_pieces.proofs.LongLines.{none-long}
 use Rattle.file_pieces.proofs.Measures.{measured-all}
 use Rattle.plan_b.proofs.measuring.measure_layout.Goals as goal
 
-pub returns-clause-lines : goal.returns-clause-lines
-returns-clause-lines g c text told =
-    let now = c.in_ok-now.now in
+pub returns-in-Ok-clause-lines : goal.returns-in-Ok-clause-lines
+returns-in-Ok-clause-lines g c text told =
+    let now = c.in-Ok.now in
     let len : length text ≡ c.args.length = c.requires.stated text told in
-    let end : now.at ≡ c.args.length = c.in_ok-now.ensures.end in
-    let short : now.longest ≤ c.args.pair.now.size - 4 = c.in_ok-now.ensures.sound.short in
+    let end : now.at ≡ c.args.length = c.in-Ok.ensures.end in
+    let short : now.longest ≤ c.args.pair.now.size - 4 = c.in-Ok.ensures.sound.short in
     let page : c.new.result.size ≡ c.args.pair.now.size = c.new.ensures.size ∙ c.size-size.ensures.size in
-    let all = measured-all text now.at now.count now.longest (c.in_ok-now.ensures.measured text told) (omega arith) in
+    let all = measured-all text now.at now.count now.longest (c.in-Ok.ensures.measured text told) (omega arith) in
     let widest : now.longest ≡ longest (lines text) = all.1 in
     record {
       counted = c.new.ensures.count ∙ all.0;

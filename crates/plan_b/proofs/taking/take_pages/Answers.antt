@@ -1,4 +1,8 @@
 use Rattle.outside.proofs.Views.{untouched_both}
+use Rattle.std.proofs.Common.{refl, ◌∙◌, sym, subst, arith}
+use Rattle.outside.specs.ScratchView.{scratch_passes_none}
+use Rattle.file_pieces.proofs.Readings.{told-same}
+use Rattle.plan_b.specs.Copying.{IsWritten}
 use Rattle.plan_b.proofs.taking.take_pages.Goals as goal
 
 pub returns-in-Err-measure_layout-clause-untouched : goal.returns-in-Err-measure_layout-clause-untouched
@@ -9,3 +13,144 @@ returns-in-Ok-copy_anew-clause-untouched g c = untouched_both c.in-Ok.ensures.un
 
 pub returns-in-Err-copy_anew-clause-untouched : goal.returns-in-Err-copy_anew-clause-untouched
 returns-in-Err-copy_anew-clause-untouched g c = untouched_both c.in-Ok.ensures.untouched (untouched_both c.measure_layout.ensures.untouched c.copy_anew.ensures.untouched)
+
+pub returns-in-Err-measure_layout-clause-layout : goal.returns-in-Err-measure_layout-clause-layout
+returns-in-Err-measure_layout-clause-layout g c = tt
+
+pub returns-in-Err-measure_layout-clause-page : goal.returns-in-Err-measure_layout-clause-page
+returns-in-Err-measure_layout-clause-page g c = tt
+
+pub returns-in-Err-measure_layout-clause-written : goal.returns-in-Err-measure_layout-clause-written
+returns-in-Err-measure_layout-clause-written g c = tt
+
+pub returns-in-Err-measure_layout-clause-measured : goal.returns-in-Err-measure_layout-clause-measured
+returns-in-Err-measure_layout-clause-measured g c = tt
+
+pub returns-in-Err-measure_layout-clause-short : goal.returns-in-Err-measure_layout-clause-short
+returns-in-Err-measure_layout-clause-short g c = tt
+
+pub returns-in-Err-measure_layout-clause-size : goal.returns-in-Err-measure_layout-clause-size
+returns-in-Err-measure_layout-clause-size g c = c.measure_layout.ensures.size
+
+pub returns-in-Err-measure_layout-clause-passes : goal.returns-in-Err-measure_layout-clause-passes
+returns-in-Err-measure_layout-clause-passes g c = scratch_passes_none _
+
+pub returns-in-Err-copy_anew-clause-layout : goal.returns-in-Err-copy_anew-clause-layout
+returns-in-Err-copy_anew-clause-layout g c = tt
+
+pub returns-in-Err-copy_anew-clause-page : goal.returns-in-Err-copy_anew-clause-page
+returns-in-Err-copy_anew-clause-page g c = tt
+
+pub returns-in-Err-copy_anew-clause-written : goal.returns-in-Err-copy_anew-clause-written
+returns-in-Err-copy_anew-clause-written g c = tt
+
+pub returns-in-Err-copy_anew-clause-measured : goal.returns-in-Err-copy_anew-clause-measured
+returns-in-Err-copy_anew-clause-measured g c = tt
+
+pub returns-in-Err-copy_anew-clause-short : goal.returns-in-Err-copy_anew-clause-short
+returns-in-Err-copy_anew-clause-short g c = tt
+
+pub returns-in-Err-copy_anew-clause-size : goal.returns-in-Err-copy_anew-clause-size
+returns-in-Err-copy_anew-clause-size g c = c.copy_anew.ensures.size ∙ c.measure_layout.ensures.size
+
+pub returns-in-Err-copy_anew-clause-passes : goal.returns-in-Err-copy_anew-clause-passes
+returns-in-Err-copy_anew-clause-passes g c = c.copy_anew.ensures.passes
+
+pub returns-in-Ok-copy_anew-clause-size : goal.returns-in-Ok-copy_anew-clause-size
+returns-in-Ok-copy_anew-clause-size g c = c.copy_anew.ensures.size ∙ c.measure_layout.ensures.size
+
+pub returns-in-Ok-copy_anew-clause-passes : goal.returns-in-Ok-copy_anew-clause-passes
+returns-in-Ok-copy_anew-clause-passes g c = c.copy_anew.ensures.passes
+
+pub returns-in-Ok-copy_anew-clause-cause : goal.returns-in-Ok-copy_anew-clause-cause
+returns-in-Ok-copy_anew-clause-cause g c = tt
+
+pub returns-in-Ok-copy_anew-clause-layout : goal.returns-in-Ok-copy_anew-clause-layout
+returns-in-Ok-copy_anew-clause-layout g c = c.in-Ok-measure_layout.ensures.layout
+
+pub returns-in-Ok-copy_anew-clause-page : goal.returns-in-Ok-copy_anew-clause-page
+returns-in-Ok-copy_anew-clause-page g c = c.in-Ok-measure_layout.ensures.page
+
+pub returns-in-Err-clause-layout : goal.returns-in-Err-clause-layout
+returns-in-Err-clause-layout g c = tt
+
+pub returns-in-Err-clause-page : goal.returns-in-Err-clause-page
+returns-in-Err-clause-page g c = tt
+
+pub returns-in-Err-clause-written : goal.returns-in-Err-clause-written
+returns-in-Err-clause-written g c = tt
+
+pub returns-in-Err-clause-measured : goal.returns-in-Err-clause-measured
+returns-in-Err-clause-measured g c = tt
+
+pub returns-in-Err-clause-short : goal.returns-in-Err-clause-short
+returns-in-Err-clause-short g c = tt
+
+pub returns-in-Err-clause-size : goal.returns-in-Err-clause-size
+returns-in-Err-clause-size g c = refl
+
+pub returns-in-Err-clause-untouched : goal.returns-in-Err-clause-untouched
+returns-in-Err-clause-untouched g c = c.size_of.ensures.untouched
+
+pub returns-in-Err-clause-passes : goal.returns-in-Err-clause-passes
+returns-in-Err-clause-passes g c = scratch_passes_none _
+
+pub returns-then-total-ge-TOO_LONG-clause-untouched : goal.returns-then-total-ge-TOO_LONG-clause-untouched
+returns-then-total-ge-TOO_LONG-clause-untouched g c = c.in-Ok.ensures.untouched
+
+pub returns-then-total-ge-TOO_LONG-clause-size : goal.returns-then-total-ge-TOO_LONG-clause-size
+returns-then-total-ge-TOO_LONG-clause-size g c = refl
+
+pub returns-then-total-ge-TOO_LONG-clause-passes : goal.returns-then-total-ge-TOO_LONG-clause-passes
+returns-then-total-ge-TOO_LONG-clause-passes g c = scratch_passes_none _
+
+pub returns-then-total-ge-TOO_LONG-clause-layout : goal.returns-then-total-ge-TOO_LONG-clause-layout
+returns-then-total-ge-TOO_LONG-clause-layout g c = tt
+
+pub returns-then-total-ge-TOO_LONG-clause-page : goal.returns-then-total-ge-TOO_LONG-clause-page
+returns-then-total-ge-TOO_LONG-clause-page g c = tt
+
+pub returns-then-total-ge-TOO_LONG-clause-written : goal.returns-then-total-ge-TOO_LONG-clause-written
+returns-then-total-ge-TOO_LONG-clause-written g c = tt
+
+pub returns-then-total-ge-TOO_LONG-clause-measured : goal.returns-then-total-ge-TOO_LONG-clause-measured
+returns-then-total-ge-TOO_LONG-clause-measured g c = tt
+
+pub returns-then-total-ge-TOO_LONG-clause-short : goal.returns-then-total-ge-TOO_LONG-clause-short
+returns-then-total-ge-TOO_LONG-clause-short g c = tt
+
+pub returns-in-Ok-copy_anew-clause-written : goal.returns-in-Ok-copy_anew-clause-written
+returns-in-Ok-copy_anew-clause-written g c = subst (IsWritten c.in-Ok-measure_layout.layout (g.C.Scratch.view c.copy_anew.new.scratch).told) (told-same c.args.name.now (untouched_both c.in-Ok.ensures.untouched c.measure_layout.ensures.untouched)) c.in-Ok-copy_anew.ensures.written
+
+pub returns-in-Ok-copy_anew-clause-measured : goal.returns-in-Ok-copy_anew-clause-measured
+returns-in-Ok-copy_anew-clause-measured g c text told = c.in-Ok-measure_layout.ensures.lines text (told-same c.args.name.now c.in-Ok.ensures.untouched ∙ told)
+
+pub returns-in-Ok-copy_anew-clause-short : goal.returns-in-Ok-copy_anew-clause-short
+returns-in-Ok-copy_anew-clause-short g c text told = omega (arith, c.in-Ok.ensures.size text told)
+
+pub copy_anew-requires-clause-there : goal.copy_anew-requires-clause-there
+copy_anew-requires-clause-there g c f told = c.requires f (sym c.in-Ok.ensures.untouched.told ∙ (sym c.measure_layout.ensures.untouched.told ∙ told))
+
+pub copy_anew-requires-clause-stated : goal.copy_anew-requires-clause-stated
+copy_anew-requires-clause-stated g c text told = c.in-Ok.ensures.size text (sym (told-same c.args.name.now (untouched_both c.in-Ok.ensures.untouched c.measure_layout.ensures.untouched)) ∙ told)
+
+pub copy_anew-requires-clause-measured : goal.copy_anew-requires-clause-measured
+copy_anew-requires-clause-measured g c text told = c.in-Ok-measure_layout.ensures.lines text (sym (told-same c.args.name.now c.measure_layout.ensures.untouched) ∙ told)
+
+pub copy_anew-requires-clause-layout : goal.copy_anew-requires-clause-layout
+copy_anew-requires-clause-layout g c = c.in-Ok-measure_layout.ensures.layout
+
+pub copy_anew-requires-clause-short : goal.copy_anew-requires-clause-short
+copy_anew-requires-clause-short g c = omega arith
+
+pub copy_anew-requires-clause-size : goal.copy_anew-requires-clause-size
+copy_anew-requires-clause-size g c = c.in-Ok-measure_layout.ensures.page ∙ sym c.measure_layout.ensures.size
+
+pub measure_layout-requires-clause-there : goal.measure_layout-requires-clause-there
+measure_layout-requires-clause-there g c f told = c.requires f (sym c.in-Ok.ensures.untouched.told ∙ told)
+
+pub measure_layout-requires-clause-few : goal.measure_layout-requires-clause-few
+measure_layout-requires-clause-few g c = omega arith
+
+pub measure_layout-requires-clause-stated : goal.measure_layout-requires-clause-stated
+measure_layout-requires-clause-stated g c text told = c.in-Ok.ensures.size text (sym (told-same c.args.name.now c.in-Ok.ensures.untouched) ∙ told)

@@ -6,7 +6,7 @@ use Rattle.page_pair.specs.Pair.{page_of}
 use Rattle.file_pieces.specs.Reading.{told_file}
 use Rattle.plan_b.specs.Filling.{IsReady}
 use Rattle.plan_b.specs.Copying.{IsCopied}
-use Rattle.plan_b.proofs.copying.copy_file.Given as goal
+use Rattle.plan_b.proofs.copying.copy_anew.Given as goal
 
 abbrev pub invariant-loop-copied : goal.invariant-loop-copied
 invariant-loop-copied g l =
