@@ -5,6 +5,7 @@ use Rattle.hunk_place.specs.Passing.{NonePasses, SkipsTo}
 use Rattle.hunk_place.specs.Placing.{fits}
 use Rattle.hunk_place.specs.Taken.{taken_lines}
 use Rattle.hunk_place.proofs.PassLemmas.{none-join, step-up}
+use Rattle.std.proofs.lemmas.Result.{IfOk-from_err}
 use Rattle.hunk_place.proofs.passing.first_between.Goals as goal
 
 pub returns-then-branch-clause-value : goal.returns-then-branch-clause-value
@@ -33,3 +34,45 @@ returns-in-None-clause-value g c lines told back last =
     let f : ℕ → Bool = fits lines (taken_lines c.args.pattern.now.text.now c.args.pattern.now.side c.args.pattern.now.hunk.now) c.args.pattern.now.loose c.args.pattern.now.front back in
     none-join f c.args.from c.loop-at.at c.args.to (c.loop-at.invariant.none lines told back last)
     (subst (SkipsTo f c.loop-at.at c.args.to) c.in-None.is (c.in_ok-w.ensures.value lines (c.loop-at.invariant.keeps.told ∙ told) back last))
+
+pub returns-in_err-w-clause-value : goal.returns-in_err-w-clause-value
+returns-in_err-w-clause-value g c = IfOk-from_err c.from_residual.result _ c.from_residual.ensures.0
+
+pub returns-in_err-w-clause-within : goal.returns-in_err-w-clause-within
+returns-in_err-w-clause-within g c = IfOk-from_err c.from_residual.result _ c.from_residual.ensures.0
+
+pub returns-in_err-w-clause-keeps : goal.returns-in_err-w-clause-keeps
+returns-in_err-w-clause-keeps g c = keeps-more _ _ _ c.loop-at.invariant.keeps c.in_err-w.ensures.keeps
+
+pub returns-in_err-fits_at-in-Some-clause-value : goal.returns-in_err-fits_at-in-Some-clause-value
+returns-in_err-fits_at-in-Some-clause-value g c = IfOk-from_err c.from_residual-in_err-fits_at-in-Some.result _ c.from_residual-in_err-fits_at-in-Some.ensures.0
+
+pub returns-in_err-fits_at-in-Some-clause-within : goal.returns-in_err-fits_at-in-Some-clause-within
+returns-in_err-fits_at-in-Some-clause-within g c = IfOk-from_err c.from_residual-in_err-fits_at-in-Some.result _ c.from_residual-in_err-fits_at-in-Some.ensures.0
+
+pub returns-in_err-fits_at-in-Some-clause-keeps : goal.returns-in_err-fits_at-in-Some-clause-keeps
+returns-in_err-fits_at-in-Some-clause-keeps g c = keeps-more _ _ _ (keeps-more _ _ _ c.loop-at.invariant.keeps c.in_ok-w.ensures.keeps) c.in_err-fits_at-in-Some.ensures.keeps
+
+pub returns-clause-within : goal.returns-clause-within
+returns-clause-within g c = tt
+
+pub returns-clause-keeps : goal.returns-clause-keeps
+returns-clause-keeps g c = c.loop-at.invariant.keeps
+
+pub returns-clause-cause : goal.returns-clause-cause
+returns-clause-cause g c = tt
+
+pub returns-in-None-clause-within : goal.returns-in-None-clause-within
+returns-in-None-clause-within g c = tt
+
+pub returns-in-None-clause-keeps : goal.returns-in-None-clause-keeps
+returns-in-None-clause-keeps g c = keeps-more _ _ _ c.loop-at.invariant.keeps c.in_ok-w.ensures.keeps
+
+pub returns-in-None-clause-cause : goal.returns-in-None-clause-cause
+returns-in-None-clause-cause g c = tt
+
+pub returns-then-branch-clause-keeps : goal.returns-then-branch-clause-keeps
+returns-then-branch-clause-keeps g c = keeps-more _ _ _ (keeps-more _ _ _ c.loop-at.invariant.keeps c.in_ok-w.ensures.keeps) c.in_ok-fits_at-in-Some.ensures.keeps
+
+pub returns-then-branch-clause-cause : goal.returns-then-branch-clause-cause
+returns-then-branch-clause-cause g c = tt

@@ -5,6 +5,7 @@ use Rattle.hunk_place.specs.Passing.{NonePasses, SkipsBack}
 use Rattle.hunk_place.specs.Placing.{fits}
 use Rattle.hunk_place.specs.Taken.{taken_lines}
 use Rattle.hunk_place.proofs.PassLemmas.{none-join, step-down}
+use Rattle.std.proofs.lemmas.Result.{IfOk-from_err}
 use Rattle.hunk_place.proofs.passing.last_between.Goals as goal
 
 pub returns-then-branch-clause-value : goal.returns-then-branch-clause-value
@@ -34,3 +35,45 @@ returns-in-None-clause-value g c lines told back last =
     none-join f c.args.from c.loop-end.end c.args.to
     (subst (SkipsBack f c.args.from c.loop-end.end) c.in-None.is (c.in_ok-w.ensures.value lines (c.loop-end.invariant.keeps.told ∙ told) back last))
     (c.loop-end.invariant.none lines told back last)
+
+pub returns-in_err-w-clause-value : goal.returns-in_err-w-clause-value
+returns-in_err-w-clause-value g c = IfOk-from_err c.from_residual.result _ c.from_residual.ensures.0
+
+pub returns-in_err-w-clause-within : goal.returns-in_err-w-clause-within
+returns-in_err-w-clause-within g c = IfOk-from_err c.from_residual.result _ c.from_residual.ensures.0
+
+pub returns-in_err-w-clause-keeps : goal.returns-in_err-w-clause-keeps
+returns-in_err-w-clause-keeps g c = keeps-more _ _ _ c.loop-end.invariant.keeps c.in_err-w.ensures.keeps
+
+pub returns-in_err-fits_at-in-Some-clause-value : goal.returns-in_err-fits_at-in-Some-clause-value
+returns-in_err-fits_at-in-Some-clause-value g c = IfOk-from_err c.from_residual-in_err-fits_at-in-Some.result _ c.from_residual-in_err-fits_at-in-Some.ensures.0
+
+pub returns-in_err-fits_at-in-Some-clause-within : goal.returns-in_err-fits_at-in-Some-clause-within
+returns-in_err-fits_at-in-Some-clause-within g c = IfOk-from_err c.from_residual-in_err-fits_at-in-Some.result _ c.from_residual-in_err-fits_at-in-Some.ensures.0
+
+pub returns-in_err-fits_at-in-Some-clause-keeps : goal.returns-in_err-fits_at-in-Some-clause-keeps
+returns-in_err-fits_at-in-Some-clause-keeps g c = keeps-more _ _ _ (keeps-more _ _ _ c.loop-end.invariant.keeps c.in_ok-w.ensures.keeps) c.in_err-fits_at-in-Some.ensures.keeps
+
+pub returns-clause-within : goal.returns-clause-within
+returns-clause-within g c = tt
+
+pub returns-clause-keeps : goal.returns-clause-keeps
+returns-clause-keeps g c = c.loop-end.invariant.keeps
+
+pub returns-clause-cause : goal.returns-clause-cause
+returns-clause-cause g c = tt
+
+pub returns-in-None-clause-within : goal.returns-in-None-clause-within
+returns-in-None-clause-within g c = tt
+
+pub returns-in-None-clause-keeps : goal.returns-in-None-clause-keeps
+returns-in-None-clause-keeps g c = keeps-more _ _ _ c.loop-end.invariant.keeps c.in_ok-w.ensures.keeps
+
+pub returns-in-None-clause-cause : goal.returns-in-None-clause-cause
+returns-in-None-clause-cause g c = tt
+
+pub returns-then-branch-clause-keeps : goal.returns-then-branch-clause-keeps
+returns-then-branch-clause-keeps g c = keeps-more _ _ _ (keeps-more _ _ _ c.loop-end.invariant.keeps c.in_ok-w.ensures.keeps) c.in_ok-fits_at-in-Some.ensures.keeps
+
+pub returns-then-branch-clause-cause : goal.returns-then-branch-clause-cause
+returns-then-branch-clause-cause g c = tt

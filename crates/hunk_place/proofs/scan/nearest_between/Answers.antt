@@ -4,6 +4,8 @@ use Rattle.hunk_place.specs.Passing.{IsLastPass, IsNearest}
 use Rattle.hunk_place.specs.Placing.{fits}
 use Rattle.hunk_place.specs.Taken.{taken_lines}
 use Rattle.hunk_place.proofs.PassLemmas.{window}
+use Rattle.std.proofs.lemmas.Result.{IfOk-from_err}
+use Rattle.line_store.proofs.StoreLemmas.{keeps-more}
 use Rattle.hunk_place.proofs.scan.nearest_between.Goals as goal
 
 pub returns-clause-value : goal.returns-clause-value
@@ -17,3 +19,27 @@ returns-clause-value g c lines told back last scanned =
     (c.in_ok-above.ensures.value lines told back last)
     (subst (λ e. IsLastPass f c.max-bottom.result e c.in_ok-below.below) c.saturating_sub-2.ensures (c.in_ok-below.ensures.value lines (c.in_ok-above.ensures.keeps.told ∙ told) back last))
     scanned)
+
+pub returns-in_err-above-clause-value : goal.returns-in_err-above-clause-value
+returns-in_err-above-clause-value g c = IfOk-from_err c.from_residual.result _ c.from_residual.ensures.0
+
+pub returns-in_err-above-clause-within : goal.returns-in_err-above-clause-within
+returns-in_err-above-clause-within g c = IfOk-from_err c.from_residual.result _ c.from_residual.ensures.0
+
+pub returns-in_err-above-clause-keeps : goal.returns-in_err-above-clause-keeps
+returns-in_err-above-clause-keeps g c = c.in_err-above.ensures.keeps
+
+pub returns-in_err-below-clause-value : goal.returns-in_err-below-clause-value
+returns-in_err-below-clause-value g c = IfOk-from_err c.from_residual-in_err-below.result _ c.from_residual-in_err-below.ensures.0
+
+pub returns-in_err-below-clause-within : goal.returns-in_err-below-clause-within
+returns-in_err-below-clause-within g c = IfOk-from_err c.from_residual-in_err-below.result _ c.from_residual-in_err-below.ensures.0
+
+pub returns-in_err-below-clause-keeps : goal.returns-in_err-below-clause-keeps
+returns-in_err-below-clause-keeps g c = keeps-more _ _ _ c.in_ok-above.ensures.keeps c.in_err-below.ensures.keeps
+
+pub returns-clause-keeps : goal.returns-clause-keeps
+returns-clause-keeps g c = keeps-more _ _ _ c.in_ok-above.ensures.keeps c.in_ok-below.ensures.keeps
+
+pub returns-clause-cause : goal.returns-clause-cause
+returns-clause-cause g c = tt

@@ -3,6 +3,7 @@ use Rattle.line_store.specs.Store.{NoneAlike, IsFirstAlike}
 use Rattle.hunk_core.specs.Sides.{taken_count}
 use Rattle.hunk_place.proofs.PassLemmas.{none-of}
 use Rattle.hunk_place.proofs.ShortLemmas.{hopeless, pattern-search}
+use Rattle.std.proofs.lemmas.Result.{IfOk-from_err}
 use Rattle.hunk_place.proofs.shortcuts.fits_nowhere.Goals as goal
 
 pub returns-in_ok-found-in-Some-clause-value : goal.returns-in_ok-found-in-Some-clause-value
@@ -20,3 +21,9 @@ returns-in_ok-found-in-Some-clause-value g c missed lines told k le =
     (c.new-pattern.ensures.same_last ∙ ap (λ m. taken_count c.new-pattern.result.side c.new-pattern.result.hunk.now.body.items - m) back)
     (omega (arith, front, c.middle_of-middle.ensures, c.new-pattern.ensures.front))
     none le
+
+pub returns-in_err-found-in-Some-clause-value : goal.returns-in_err-found-in-Some-clause-value
+returns-in_err-found-in-Some-clause-value g c = IfOk-from_err c.from_residual.result _ c.from_residual.ensures.0
+
+pub returns-in_err-found-in-Some-clause-keeps : goal.returns-in_err-found-in-Some-clause-keeps
+returns-in_err-found-in-Some-clause-keeps g c = c.in_err-found-in-Some.ensures.keeps

@@ -8,6 +8,7 @@ use Rattle.line_list.proofs.Elements.{front-rest}
 use Rattle.hunk_place.specs.Loose.{same_line}
 use Rattle.hunk_place.specs.Taken.{side_lines}
 use Rattle.hunk_place.proofs.FitLemmas.{side-length, side-skip, side-take, fits-so, fits-not, one-more, same-at, none-left, nothing}
+use Rattle.std.proofs.lemmas.Result.{IfOk-from_err}
 use Rattle.hunk_place.proofs.pattern.Pattern.fits_at.Goals as goal
 use Rattle.hunk_place.proofs.pattern.Pattern.fits_at.Goals.{then-is_taken+in_ok-is_line+else-not-branch, else-is_taken}
 
@@ -61,3 +62,21 @@ returns-clause-value g c lines told back last =
     let none : side_lines c.args.self.now.text.now c.args.self.now.side [] ≡ [] = nothing c.args.self.now.text.now c.args.self.now.side in
     let n : length old ≤ c.loop-k.i = none-left old c.loop-k.i (sym (ap (side_lines c.args.self.now.text.now c.args.self.now.side) gone ∙ none) ∙ c.loop-k.invariant.rest) in
     fits-so c.args.self.now.text.now c.args.self.now.side c.args.self.now.hunk.now lines c.args.self.now.loose c.args.self.now.front back c.args.at c.loop-k.i (c.loop-k.invariant.same lines told) (omega arith)
+
+pub returns-in_err-is_line-clause-value : goal.returns-in_err-is_line-clause-value
+returns-in_err-is_line-clause-value g c = IfOk-from_err c.from_residual.result _ c.from_residual.ensures.0
+
+pub returns-then-i-self-clause-keeps : goal.returns-then-i-self-clause-keeps
+returns-then-i-self-clause-keeps g c = c.loop-k.invariant.keeps
+
+pub returns-then-i-self-clause-cause : goal.returns-then-i-self-clause-cause
+returns-then-i-self-clause-cause g c = tt
+
+pub returns-then-not-branch-clause-cause : goal.returns-then-not-branch-clause-cause
+returns-then-not-branch-clause-cause g c = tt
+
+pub returns-clause-keeps : goal.returns-clause-keeps
+returns-clause-keeps g c = c.loop-k.invariant.keeps
+
+pub returns-clause-cause : goal.returns-clause-cause
+returns-clause-cause g c = tt
