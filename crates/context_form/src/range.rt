@@ -42,8 +42,10 @@ fn numbers_of(line: &[u8], side: Side) -> Option<NumberRange>
 {
     let rest = after_prefix(line, before(side))?;
     let (range, rest) = read_range(rest)?;
-    let rest = after_prefix(rest, behind(side))?;
-    if ends_here(rest) { Some(range) } else { None }
+    match after_prefix(rest, behind(side)) {
+        Some(rest) if ends_here(rest) => Some(range),
+        _ => None,
+    }
 }
 
 /// Whether two numbers are turned round, or speak of lines from 0 on.

@@ -5,6 +5,7 @@ use Rattle.hunk_core.specs.PlainHunk.{body_of}
 use Rattle.hunk_core.specs.Turned.{LiesIn}
 use Rattle.hunk_core.specs.Turned.{is_keep}
 use Rattle.context_form.proofs.MergeLemmas.{nothing, taken-step, left-step, stopped}
+use Rattle.std.proofs.lemmas.Result.{err_from_is_err_and}
 use Rattle.context_form.proofs.merging.take_changes.Goals as goal
 
 pub loop-place-preserved : goal.loop-place-preserved
@@ -34,3 +35,32 @@ returns-then-keeps-clause-taken c = λ text.
 
 pub returns-then-keeps-clause-rest : goal.returns-then-keeps-clause-rest
 returns-then-keeps-clause-rest c = λ text. sym (stopped text c.args.part.now c.loop-place.place (λ lt. sym c.if-keeps.ensures)).1 ∙ c.loop-place.invariant.rest text
+
+pub returns-in_err-push : goal.returns-in_err-push
+returns-in_err-push c =
+    let p = err_from_is_err_and c.from_residual.result c.from_residual.ensures.1 in
+    rw p.1 (record { low = tt; high = tt; few = tt; lies = λ text. tt; taken = tt; rest = tt })
+
+pub returns-after-loop-place-clause-low : goal.returns-after-loop-place-clause-low
+returns-after-loop-place-clause-low c = c.loop-place.invariant.low
+
+pub returns-after-loop-place-clause-high : goal.returns-after-loop-place-clause-high
+returns-after-loop-place-clause-high c = c.loop-place.invariant.high
+
+pub returns-after-loop-place-clause-few : goal.returns-after-loop-place-clause-few
+returns-after-loop-place-clause-few c = c.loop-place.invariant.few
+
+pub returns-after-loop-place-clause-lies : goal.returns-after-loop-place-clause-lies
+returns-after-loop-place-clause-lies c = c.loop-place.invariant.lies
+
+pub returns-then-keeps-clause-low : goal.returns-then-keeps-clause-low
+returns-then-keeps-clause-low c = c.loop-place.invariant.low
+
+pub returns-then-keeps-clause-high : goal.returns-then-keeps-clause-high
+returns-then-keeps-clause-high c = c.loop-place.invariant.high
+
+pub returns-then-keeps-clause-few : goal.returns-then-keeps-clause-few
+returns-then-keeps-clause-few c = c.loop-place.invariant.few
+
+pub returns-then-keeps-clause-lies : goal.returns-then-keeps-clause-lies
+returns-then-keeps-clause-lies c = c.loop-place.invariant.lies

@@ -1,0 +1,63 @@
+use Rattle.std.proofs.Common.{arith}
+use Rattle.outside.proofs.Exits.{if_ok_none}
+use Rattle.context_form.proofs.hunks.read_old.Goals as goal
+
+pub read_range_line-requires : goal.read_range_line-requires
+read_range_line-requires c = c.requires
+
+pub returns-in_err-stated-clause-place : goal.returns-in_err-stated-clause-place
+returns-in_err-stated-clause-place c = if_ok_none _ _ c.from_residual.result c.from_residual.ensures.1
+
+pub returns-in_err-stated-clause-few : goal.returns-in_err-stated-clause-few
+returns-in_err-stated-clause-few c = if_ok_none _ _ c.from_residual.result c.from_residual.ensures.1
+
+pub returns-in_err-stated-clause-lies : goal.returns-in_err-stated-clause-lies
+returns-in_err-stated-clause-lies c = if_ok_none _ _ c.from_residual.result c.from_residual.ensures.1
+
+pub returns-in_err-stated-clause-fits : goal.returns-in_err-stated-clause-fits
+returns-in_err-stated-clause-fits c = if_ok_none _ _ c.from_residual.result c.from_residual.ensures.1
+
+pub at_old_part-requires : goal.at_old_part-requires
+at_old_part-requires c = c.in_ok-stated.ensures.place.0.within
+
+pub fits_part-requires : goal.fits_part-requires
+fits_part-requires c = c.in_ok-stated.ensures.fits
+
+pub returns-in_err-fits_part-clause-place : goal.returns-in_err-fits_part-clause-place
+returns-in_err-fits_part-clause-place c = if_ok_none _ _ c.from_residual-in_err-fits_part.result c.from_residual-in_err-fits_part.ensures.1
+
+pub returns-in_err-fits_part-clause-few : goal.returns-in_err-fits_part-clause-few
+returns-in_err-fits_part-clause-few c = if_ok_none _ _ c.from_residual-in_err-fits_part.result c.from_residual-in_err-fits_part.ensures.1
+
+pub returns-in_err-fits_part-clause-lies : goal.returns-in_err-fits_part-clause-lies
+returns-in_err-fits_part-clause-lies c = if_ok_none _ _ c.from_residual-in_err-fits_part.result c.from_residual-in_err-fits_part.ensures.1
+
+pub returns-in_err-fits_part-clause-fits : goal.returns-in_err-fits_part-clause-fits
+returns-in_err-fits_part-clause-fits c = if_ok_none _ _ c.from_residual-in_err-fits_part.result c.from_residual-in_err-fits_part.ensures.1
+
+pub read_body-requires : goal.read_body-requires
+read_body-requires c = c.in_ok-stated.ensures.place.0
+
+pub returns-in_err-body-clause-place : goal.returns-in_err-body-clause-place
+returns-in_err-body-clause-place c = if_ok_none _ _ c.from_residual-in_err-body.result c.from_residual-in_err-body.ensures.1
+
+pub returns-in_err-body-clause-few : goal.returns-in_err-body-clause-few
+returns-in_err-body-clause-few c = if_ok_none _ _ c.from_residual-in_err-body.result c.from_residual-in_err-body.ensures.1
+
+pub returns-in_err-body-clause-lies : goal.returns-in_err-body-clause-lies
+returns-in_err-body-clause-lies c = if_ok_none _ _ c.from_residual-in_err-body.result c.from_residual-in_err-body.ensures.1
+
+pub returns-in_err-body-clause-fits : goal.returns-in_err-body-clause-fits
+returns-in_err-body-clause-fits c = if_ok_none _ _ c.from_residual-in_err-body.result c.from_residual-in_err-body.ensures.1
+
+pub returns-clause-place : goal.returns-clause-place
+returns-clause-place c = (c.in_ok-body.ensures.place.0, omega (arith, c.in_ok-stated.ensures.place.1, c.in_ok-body.ensures.place.1))
+
+pub returns-clause-few : goal.returns-clause-few
+returns-clause-few c = omega (arith, c.in_ok-stated.ensures.place.1, c.in_ok-body.ensures.few)
+
+pub returns-clause-lies : goal.returns-clause-lies
+returns-clause-lies c = c.in_ok-body.ensures.lies
+
+pub returns-clause-fits : goal.returns-clause-fits
+returns-clause-fits c = c.in_ok-stated.ensures.fits
