@@ -85,3 +85,8 @@ whole text side other h a b old new is count count2 =
     let olds : old ≡ length (lines_on side (body_of text h.body.items)) = count ∙ sym (lines-counted text side h.body.items) in
     let news : new ≡ length (lines_on other (body_of text h.body.items)) = count2 ∙ sym (lines-counted text other h.body.items) in
     rw (olds, news) (ap (λ ls. lines_text a b ls (lines_on other (body_of text h.body.items))) one ∙ ap (λ ls. lines_text a b (old_lines (turned side (hunk_of text h)).body) ls) two)
+
+-- ---- the command, piece by piece
+
+pub pieces-text : (t0 t1 t2 t3 t4 old new : List ℕ) (l : ℕ) → t0 ≡ [] → t1 ≡ t0 ++ old → t2 ≡ t1 ++ l ∷ [] → t3 ≡ t2 ++ new → t4 ≡ t3 ++ 10 ∷ [] → t4 ≡ old ++ (l ∷ (new ++ 10 ∷ []))
+pieces-text t0 t1 t2 t3 t4 old new l none first letter second feed = rw (feed, second, letter, first, none) (simp append_assoc)

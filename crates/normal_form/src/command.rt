@@ -34,11 +34,9 @@ fn parts_of(line: &[u8]) -> Option<Parts>
 {
     let (old, rest) = read_range(line)?;
     let (action, rest) = action_of(rest)?;
-    let (new, rest) = read_range(rest)?;
-    if ends_here(rest) {
-        Some(Parts { old, action, new })
-    } else {
-        None
+    match read_range(rest) {
+        Some((new, rest)) if ends_here(rest) => Some(Parts { old, action, new }),
+        _ => None,
     }
 }
 

@@ -1,4 +1,4 @@
-use Rattle.std.proofs.Common.{◌≡◌, ◌++◌, ◌∷◌, [], sym, true, false, drop, length, length-append, arith}
+use Rattle.std.proofs.Common.{◌≡◌, ◌++◌, ◌∷◌, [], sym, true, false, drop, length, length-append, arith, refl}
 use Rattle.std.proofs.lemmas.Result.{err_from_is_err_and}
 use Rattle.std.proofs.lemmas.List.{map_push}
 use Rattle.std.proofs.lemmas.List.Sums.{sum_by-append}
@@ -10,10 +10,11 @@ use Rattle.hunk_core.specs.Turned.{IsLawful}
 use Rattle.hunk_core.specs.Rules.{first_broken}
 use Rattle.hunk_core.proofs.PieceLemmas.{spans_go_on}
 use Rattle.normal_form.specs.Grammar.{SpellsHunk}
-use Rattle.hunk_core.specs.Reading.{ahead_of}
+use Rattle.hunk_core.specs.Reading.{ahead_of, ahead}
 use Rattle.normal_form.specs.Hunks.{reading, begins_hunk}
-use Rattle.normal_form.proofs.HunkLoops.{hunks_go_on, hunks_fail, hunks_done}
+use Rattle.normal_form.proofs.HunkLoops.{hunks_go_on, hunks_fail, hunks_done, hunks_begin}
 use Rattle.hunk_core.specs.declared.Hunk.{Hunk}
+use Rattle.outside.proofs.Exits.{if_ok_none}
 use Rattle.normal_form.proofs.hunks.read_all.Goals as goal
 
 pub returns-in_err-hunk-clause-exact : goal.returns-in_err-hunk-clause-exact
@@ -40,3 +41,60 @@ pub returns-clause-exact : goal.returns-clause-exact
 returns-clause-exact c =
     let none : begins_hunk (lines (drop c.hunks.place.at c.args.text.now)) ≡ false = sym c.hunks-test.ensures in
     hunks_done (hunks_of c.args.text.now c.hunks.items.items) c.hunks.least (ahead_of c.args.text.now c.hunks.place) _ none c.hunks.invariant.so_far
+
+pub hunks-init : goal.hunks-init
+hunks-init c = rw (c.new-spans.ensures.items, c.new-items.ensures.items) (record {
+  place = record { short = c.requires.short; within = c.requires.within; small = omega (arith, c.requires.small) };
+  spans = record { turn = refl; whole = tt; pieces = tt; last = refl };
+  count = omega arith;
+  few = omega arith;
+  lawful = λ k d l. absurd (omega (arith, l));
+  unbroken = λ k d l. absurd (omega (arith, l));
+  so_far = hunks_begin 0 (ahead c.args.line (lines (drop c.args.at c.args.text.now)));
+})
+
+pub at_opening-requires : goal.at_opening-requires
+at_opening-requires c = c.hunks.invariant.place.within
+
+pub read_hunk-requires : goal.read_hunk-requires
+read_hunk-requires c = c.hunks.invariant.place
+
+pub returns-in_err-hunk-clause-within : goal.returns-in_err-hunk-clause-within
+returns-in_err-hunk-clause-within c = if_ok_none _ _ c.from_residual.result c.from_residual.ensures.1
+
+pub returns-in_err-hunk-clause-turn : goal.returns-in_err-hunk-clause-turn
+returns-in_err-hunk-clause-turn c = if_ok_none _ _ c.from_residual.result c.from_residual.ensures.1
+
+pub returns-in_err-hunk-clause-whole : goal.returns-in_err-hunk-clause-whole
+returns-in_err-hunk-clause-whole c = if_ok_none _ _ c.from_residual.result c.from_residual.ensures.1
+
+pub returns-in_err-hunk-clause-pieces : goal.returns-in_err-hunk-clause-pieces
+returns-in_err-hunk-clause-pieces c = if_ok_none _ _ c.from_residual.result c.from_residual.ensures.1
+
+pub returns-in_err-hunk-clause-sound : goal.returns-in_err-hunk-clause-sound
+returns-in_err-hunk-clause-sound c = if_ok_none _ _ c.from_residual.result c.from_residual.ensures.1
+
+pub returns-in_err-push : goal.returns-in_err-push
+returns-in_err-push c =
+    let p = err_from_is_err_and c.from_residual-in_err-push.result c.from_residual-in_err-push.ensures.1 in
+    rw (p.1, p.2) (record { within = tt; turn = tt; whole = tt; pieces = tt; sound = tt; exact = tt })
+
+pub returns-in_err-push-2 : goal.returns-in_err-push-2
+returns-in_err-push-2 c =
+    let p = err_from_is_err_and c.from_residual-in_err-push-2.result c.from_residual-in_err-push-2.ensures.1 in
+    rw (p.1, p.2) (record { within = tt; turn = tt; whole = tt; pieces = tt; sound = tt; exact = tt })
+
+pub returns-clause-within : goal.returns-clause-within
+returns-clause-within c = c.hunks.invariant.place.within
+
+pub returns-clause-turn : goal.returns-clause-turn
+returns-clause-turn c = c.hunks.invariant.spans.turn
+
+pub returns-clause-whole : goal.returns-clause-whole
+returns-clause-whole c = c.hunks.invariant.spans.whole
+
+pub returns-clause-pieces : goal.returns-clause-pieces
+returns-clause-pieces c = c.hunks.invariant.spans.pieces
+
+pub returns-clause-sound : goal.returns-clause-sound
+returns-clause-sound c = record { count = omega (arith, c.hunks.invariant.count, c.hunks.invariant.place.within, c.requires.short); few = omega (arith, c.hunks.invariant.few, c.hunks.invariant.place.within, c.requires.short); lawful = c.hunks.invariant.lawful; unbroken = c.hunks.invariant.unbroken }

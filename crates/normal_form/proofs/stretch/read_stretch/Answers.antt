@@ -7,6 +7,7 @@ use Rattle.hunk_core.specs.PlainHunk.{marked_of, body_of}
 use Rattle.hunk_core.specs.Reading.{ahead_of}
 use Rattle.normal_form.specs.Stretches.{stretch_at}
 use Rattle.normal_form.proofs.Loops.{stretch_goes_on, stretch_fails, stretch_none}
+use Rattle.outside.proofs.Exits.{if_ok_none}
 use Rattle.normal_form.proofs.stretch.read_stretch.Goals as goal
 
 pub returns-in_err-line-clause-exact : goal.returns-in_err-line-clause-exact
@@ -29,3 +30,26 @@ pub returns-clause-exact : goal.returns-clause-exact
 returns-clause-exact c =
     let none : c.loop-left.left ≡ 0 = omega arith in
     sym c.loop-left.invariant.same ∙ ap (λ k. stretch_at c.args.side k (body_of c.args.text.now c.loop-left.lines.items) (ahead_of c.args.text.now c.loop-left.place)) none ∙ stretch_none c.args.side (body_of c.args.text.now c.loop-left.lines.items) (ahead_of c.args.text.now c.loop-left.place)
+
+pub line_of-requires : goal.line_of-requires
+line_of-requires c = c.loop-left.invariant.place
+
+pub returns-in_err-line-clause-place : goal.returns-in_err-line-clause-place
+returns-in_err-line-clause-place c = if_ok_none _ _ c.from_residual.result c.from_residual.ensures.1
+
+pub returns-in_err-line-clause-few : goal.returns-in_err-line-clause-few
+returns-in_err-line-clause-few c = if_ok_none _ _ c.from_residual.result c.from_residual.ensures.1
+
+pub returns-in_err-line-clause-lies : goal.returns-in_err-line-clause-lies
+returns-in_err-line-clause-lies c = if_ok_none _ _ c.from_residual.result c.from_residual.ensures.1
+
+pub returns-in_err-push : goal.returns-in_err-push
+returns-in_err-push c =
+    let p = err_from_is_err_and c.from_residual-in_err-push.result c.from_residual-in_err-push.ensures.1 in
+    rw (p.1, p.2) (record { place = tt; few = tt; lies = tt; exact = tt })
+
+pub returns-clause-place : goal.returns-clause-place
+returns-clause-place c = (c.loop-left.invariant.place, c.loop-left.invariant.later)
+
+pub returns-clause-lies : goal.returns-clause-lies
+returns-clause-lies c = c.loop-left.invariant.lies
