@@ -1,5 +1,5 @@
 -- Writing a hunk line by line.
-use Rattle.std.proofs.Common.{◌≡◌, Bool, cond, ℕ, ◌+◌, ◌≤◌, ◌<◌, List, [], ◌∷◌, ◌++◌, length, get_or, take, drop, map, slice_range, sym, ap, ◌∙◌}
+use Rattle.std.proofs.Common.{◌≡◌, Bool, cond, ℕ, ◌+◌, ◌≤◌, ◌<◌, List, [], ◌∷◌, ◌++◌, length, get_or, take, drop, map, slice_range, sym, ap, ◌∙◌, append_assoc}
 use Rattle.std.specs.List.{flat_map}
 use Rattle.std.proofs.lemmas.List.{take_more, map_push, map-append, flat_map_more, take-append-drop}
 use Rattle.std.proofs.lemmas.List.Concat.{flat_map-append}
@@ -59,3 +59,8 @@ cut-off text side xs i x lt is =
     ap (λ bs. bs ++ written text side (drop (i + 1) xs)) (put-more text side xs i x lt is)
     ∙ written-both text side (take (i + 1) xs) (drop (i + 1) xs)
     ∙ ap (written text side) (take-append-drop (i + 1) xs)
+
+-- the range line, piece by piece
+pub range-pieces : (t0 t1 t2 t3 t4 t5 old new : List ℕ) → t0 ≡ [] → t1 ≡ t0 ++ (64 ∷ 64 ∷ 32 ∷ 45 ∷ []) → t2 ≡ t1 ++ old → t3 ≡ t2 ++ (32 ∷ 43 ∷ []) → t4 ≡ t3 ++ new → t5 ≡ t4 ++ (32 ∷ 64 ∷ 64 ∷ 10 ∷ [])
+    → t5 ≡ (64 ∷ 64 ∷ 32 ∷ 45 ∷ []) ++ (old ++ ((32 ∷ 43 ∷ []) ++ (new ++ ((32 ∷ 64 ∷ 64 ∷ []) ++ 10 ∷ []))))
+range-pieces t0 t1 t2 t3 t4 t5 old new none before first between second behind = rw (behind, second, between, first, before, none) (simp append_assoc)

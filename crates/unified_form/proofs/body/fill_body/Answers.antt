@@ -7,6 +7,7 @@ use Rattle.hunk_core.specs.PlainHunk.{marked_of, body_of}
 use Rattle.hunk_core.specs.Reading.{ahead_of}
 use Rattle.unified_form.specs.Bodies.{body_at}
 use Rattle.unified_form.proofs.Loops.{body_goes_on, body_fails, body_done}
+use Rattle.outside.proofs.Exits.{if_ok_none}
 use Rattle.unified_form.proofs.body.fill_body.Goals as goal
 use Rattle.unified_form.proofs.body.fill_body.Goals.{then-left-gt0, else-left-gt0+then-left-gt0-2}
 
@@ -31,3 +32,35 @@ loop-left-preserved c =
 
 pub returns-clause-exact : goal.returns-clause-exact
 returns-clause-exact c = body_done (body_of c.args.text.now c.loop-left.lines.items) c.loop-left.left (ahead_of c.args.text.now c.loop-left.place) _ (omega arith) c.loop-left.invariant.so_far
+
+pub line_of-requires-clause-place : goal.line_of-requires-clause-place
+line_of-requires-clause-place c = c.loop-left.invariant.place
+
+pub returns-in_err-line-clause-place : goal.returns-in_err-line-clause-place
+returns-in_err-line-clause-place c = if_ok_none _ _ c.from_residual.result c.from_residual.ensures.1
+
+pub returns-in_err-line-clause-few : goal.returns-in_err-line-clause-few
+returns-in_err-line-clause-few c = if_ok_none _ _ c.from_residual.result c.from_residual.ensures.1
+
+pub returns-in_err-line-clause-lies : goal.returns-in_err-line-clause-lies
+returns-in_err-line-clause-lies c = if_ok_none _ _ c.from_residual.result c.from_residual.ensures.1
+
+pub returns-in_err-push-clause-place : goal.returns-in_err-push-clause-place
+returns-in_err-push-clause-place c = if_ok_none _ _ c.from_residual-in_err-push.result c.from_residual-in_err-push.ensures.1
+
+pub returns-in_err-push-clause-few : goal.returns-in_err-push-clause-few
+returns-in_err-push-clause-few c = if_ok_none _ _ c.from_residual-in_err-push.result c.from_residual-in_err-push.ensures.1
+
+pub returns-in_err-push-clause-lies : goal.returns-in_err-push-clause-lies
+returns-in_err-push-clause-lies c = if_ok_none _ _ c.from_residual-in_err-push.result c.from_residual-in_err-push.ensures.1
+
+pub returns-in_err-push-clause-exact : goal.returns-in_err-push-clause-exact
+returns-in_err-push-clause-exact c =
+    let p = err_from_is_err_and c.from_residual-in_err-push.result c.from_residual-in_err-push.ensures.1 in
+    rw (p.1, p.2) tt
+
+pub returns-clause-place : goal.returns-clause-place
+returns-clause-place c = (c.loop-left.invariant.place, c.loop-left.invariant.later)
+
+pub returns-clause-lies : goal.returns-clause-lies
+returns-clause-lies c = c.loop-left.invariant.lies

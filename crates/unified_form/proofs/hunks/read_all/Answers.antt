@@ -14,6 +14,7 @@ use Rattle.unified_form.specs.Grammar.{SpellsHunk}
 use Rattle.hunk_core.specs.Reading.{ahead, ahead_of}
 use Rattle.unified_form.specs.Hunks.{reading, begins_hunk}
 use Rattle.unified_form.proofs.HunkLoops.{hunks_begin, hunks_go_on, hunks_fail, hunks_done}
+use Rattle.outside.proofs.Exits.{if_ok_none}
 use Rattle.unified_form.proofs.hunks.read_all.Goals as goal
 
 pub hunks-init : goal.hunks-init
@@ -53,3 +54,49 @@ pub returns-clause-exact : goal.returns-clause-exact
 returns-clause-exact c =
     let none : begins_hunk (lines (drop c.hunks.place.at c.args.text.now)) ≡ false = sym c.hunks-test.ensures.opens in
     hunks_done (hunks_of c.args.text.now c.hunks.items.items) c.hunks.least (ahead_of c.args.text.now c.hunks.place) _ none c.hunks.invariant.so_far
+
+pub read_hunk-requires-clause-place : goal.read_hunk-requires-clause-place
+read_hunk-requires-clause-place c = c.hunks.invariant.place
+
+pub opens_by-requires-clause-within : goal.opens_by-requires-clause-within
+opens_by-requires-clause-within c = c.hunks.invariant.place.within
+
+pub returns-in_err-hunk-clause-within : goal.returns-in_err-hunk-clause-within
+returns-in_err-hunk-clause-within c = if_ok_none _ _ c.from_residual.result c.from_residual.ensures.1
+
+pub returns-in_err-hunk-clause-turn : goal.returns-in_err-hunk-clause-turn
+returns-in_err-hunk-clause-turn c = if_ok_none _ _ c.from_residual.result c.from_residual.ensures.1
+
+pub returns-in_err-hunk-clause-whole : goal.returns-in_err-hunk-clause-whole
+returns-in_err-hunk-clause-whole c = if_ok_none _ _ c.from_residual.result c.from_residual.ensures.1
+
+pub returns-in_err-hunk-clause-pieces : goal.returns-in_err-hunk-clause-pieces
+returns-in_err-hunk-clause-pieces c = if_ok_none _ _ c.from_residual.result c.from_residual.ensures.1
+
+pub returns-in_err-hunk-clause-sound : goal.returns-in_err-hunk-clause-sound
+returns-in_err-hunk-clause-sound c = if_ok_none _ _ c.from_residual.result c.from_residual.ensures.1
+
+pub returns-in_err-push : goal.returns-in_err-push
+returns-in_err-push c =
+    let p = err_from_is_err_and c.from_residual-in_err-push.result c.from_residual-in_err-push.ensures.1 in
+    rw (p.1, p.2) (record { within = tt; turn = tt; whole = tt; pieces = tt; sound = tt; exact = tt })
+
+pub returns-in_err-push-2 : goal.returns-in_err-push-2
+returns-in_err-push-2 c =
+    let p = err_from_is_err_and c.from_residual-in_err-push-2.result c.from_residual-in_err-push-2.ensures.1 in
+    rw (p.1, p.2) (record { within = tt; turn = tt; whole = tt; pieces = tt; sound = tt; exact = tt })
+
+pub returns-clause-within : goal.returns-clause-within
+returns-clause-within c = c.hunks.invariant.place.within
+
+pub returns-clause-turn : goal.returns-clause-turn
+returns-clause-turn c = c.hunks.invariant.spans.turn
+
+pub returns-clause-whole : goal.returns-clause-whole
+returns-clause-whole c = c.hunks.invariant.spans.whole
+
+pub returns-clause-pieces : goal.returns-clause-pieces
+returns-clause-pieces c = c.hunks.invariant.spans.pieces
+
+pub returns-clause-sound : goal.returns-clause-sound
+returns-clause-sound c = record { count = omega (arith, c.hunks.invariant.count, c.hunks.invariant.place.within, c.requires.short); few = omega (arith, c.hunks.invariant.few, c.hunks.invariant.place.within, c.requires.short); lawful = c.hunks.invariant.lawful; unbroken = c.hunks.invariant.unbroken }

@@ -6,6 +6,7 @@ use Rattle.unified_form.specs.Hunks.{begins_hunk}
 use Rattle.unified_form.proofs.HunkLoops.{hunks_begin, hunks_done}
 use Rattle.unified_form.proofs.Pieces.{reading_finds}
 use Rattle.unified_form.proofs.Rowing.{rows_go_on, rows_fail}
+use Rattle.outside.proofs.Exits.{if_ok_none}
 use Rattle.unified_form.proofs.rows.read_rows.Goals as goal
 
 pub hunks-init : goal.hunks-init
@@ -55,3 +56,34 @@ returns-clause-read c =
       read = read;
       piece = reading_finds c.args.line (lines (drop c.args.at text)) (s.hunks, ahead_of text c.hunks.place) c.requires.opens read;
     }
+
+pub read_row-requires-clause-place : goal.read_row-requires-clause-place
+read_row-requires-clause-place c = c.hunks.invariant.place
+
+pub opens_by-requires-clause-within : goal.opens_by-requires-clause-within
+opens_by-requires-clause-within c = c.hunks.invariant.place.within
+
+pub returns-in_err-old-clause-within : goal.returns-in_err-old-clause-within
+returns-in_err-old-clause-within c = if_ok_none _ _ c.from_residual.result c.from_residual.ensures.1
+
+pub returns-in_err-old-clause-turn : goal.returns-in_err-old-clause-turn
+returns-in_err-old-clause-turn c = if_ok_none _ _ c.from_residual.result c.from_residual.ensures.1
+
+pub returns-in_err-old-clause-whole : goal.returns-in_err-old-clause-whole
+returns-in_err-old-clause-whole c = if_ok_none _ _ c.from_residual.result c.from_residual.ensures.1
+
+pub returns-in_err-old-clause-read : goal.returns-in_err-old-clause-read
+returns-in_err-old-clause-read c = if_ok_none _ _ c.from_residual.result c.from_residual.ensures.1
+
+pub returns-in_err-push : goal.returns-in_err-push
+returns-in_err-push c =
+    let p = err_from_is_err_and c.from_residual-in_err-push.result c.from_residual-in_err-push.ensures.1 in
+    rw (p.1, p.2) (record { within = tt; turn = tt; whole = tt; read = tt; fails = tt })
+
+pub returns-in_err-push-2 : goal.returns-in_err-push-2
+returns-in_err-push-2 c =
+    let p = err_from_is_err_and c.from_residual-in_err-push-2.result c.from_residual-in_err-push-2.ensures.1 in
+    rw (p.1, p.2) (record { within = tt; turn = tt; whole = tt; read = tt; fails = tt })
+
+pub returns-clause-within : goal.returns-clause-within
+returns-clause-within c = c.hunks.invariant.place.within

@@ -8,6 +8,7 @@ use Rattle.unified_form.specs.Hunks.{reading}
 use Rattle.unified_form.proofs.HunkLoops.{hunks_begin, hunks_go_on, hunks_fail}
 use Rattle.unified_form.proofs.Pieces.{is_found}
 use Rattle.unified_form.proofs.Skimming.{skims, skim_fails}
+use Rattle.outside.proofs.Exits.{if_ok_none}
 use Rattle.unified_form.proofs.skim.skim_hunks.Goals as goal
 
 pub read_hunk-requires-clause-feeds : goal.read_hunk-requires-clause-feeds
@@ -44,3 +45,27 @@ returns-clause-read c =
       read = s.is;
       piece = is_found (λ (x : List PlainHunk × Ahead). x) all.number all.rest (Ok (h ∷ s.others, q)) c.requires.opens s.is;
     }
+
+pub returns-in_err-first-clause-within : goal.returns-in_err-first-clause-within
+returns-in_err-first-clause-within c = if_ok_none _ _ c.from_residual.result c.from_residual.ensures.1
+
+pub returns-in_err-first-clause-lawful : goal.returns-in_err-first-clause-lawful
+returns-in_err-first-clause-lawful c = if_ok_none _ _ c.from_residual.result c.from_residual.ensures.1
+
+pub returns-in_err-first-clause-few : goal.returns-in_err-first-clause-few
+returns-in_err-first-clause-few c = if_ok_none _ _ c.from_residual.result c.from_residual.ensures.1
+
+pub returns-in_err-first-clause-read : goal.returns-in_err-first-clause-read
+returns-in_err-first-clause-read c = if_ok_none _ _ c.from_residual.result c.from_residual.ensures.1
+
+pub returns-in_err-end-clause-within : goal.returns-in_err-end-clause-within
+returns-in_err-end-clause-within c = if_ok_none _ _ c.from_residual-in_err-end.result c.from_residual-in_err-end.ensures.1
+
+pub returns-in_err-end-clause-lawful : goal.returns-in_err-end-clause-lawful
+returns-in_err-end-clause-lawful c = if_ok_none _ _ c.from_residual-in_err-end.result c.from_residual-in_err-end.ensures.1
+
+pub returns-in_err-end-clause-few : goal.returns-in_err-end-clause-few
+returns-in_err-end-clause-few c = if_ok_none _ _ c.from_residual-in_err-end.result c.from_residual-in_err-end.ensures.1
+
+pub returns-in_err-end-clause-read : goal.returns-in_err-end-clause-read
+returns-in_err-end-clause-read c = if_ok_none _ _ c.from_residual-in_err-end.result c.from_residual-in_err-end.ensures.1
