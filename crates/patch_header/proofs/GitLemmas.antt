@@ -35,7 +35,7 @@ pub has-push : (mark : List ℕ) (rs : List Row) (r : Row) → has_line mark (li
 has-push mark [] r = or_false (starts mark r.line)
 has-push mark (x ∷ rs) r = ap (λ v. starts mark x.line || v) (has-push mark rs r) ∙ or-assoc (starts mark x.line) (has_line mark (lines_of rs)) (starts mark r.line)
 
-tail-push : (mark : List ℕ) (rs : List Row) (r : Row) → last_tail mark (rs ++ r ∷ []) ≡ cond (is_some (tail_of mark r)) (tail_of mark r) (last_tail mark rs)
+pub tail-push : (mark : List ℕ) (rs : List Row) (r : Row) → last_tail mark (rs ++ r ∷ []) ≡ cond (is_some (tail_of mark r)) (tail_of mark r) (last_tail mark rs)
 tail-push mark rs r = ap (first_some (tail_of mark)) (reverse-append rs (r ∷ []))
 
 abbrev made : Bool → Bool → Option Tail → Option Tail → Option Tail → Option Tail → GitLines

@@ -1,4 +1,5 @@
-use Rattle.std.proofs.Common.{◌≡◌, ◌+◌, ◌<◌, ◌≤◌, ◌∙◌, Some, true, false, length, drop, sym, ap, arith}
+use Rattle.std.proofs.Common.{◌≡◌, ◌+◌, ◌<◌, ◌≤◌, ◌∙◌, Some, true, false, length, drop, sym, ap}
+use Rattle.std.proofs.lemmas.Bool.{false≢true}
 use Rattle.line_list.specs.Lines.{lines}
 use Rattle.patch_header.specs.GitRows.{git_lines_in, led_by}
 use Rattle.patch_header.specs.Kept.{opening_said}
@@ -47,14 +48,14 @@ returns-in-Opening-clause-lies c = λ at line h s.
     let form : c.header_of.result.form ≡ c.in-Opening.form = c.header_of.ensures.form in
     let bare : c.header_of.result.bare ≡ false = c.header_of.ensures.bare in
     record {
-      low = omega (arith, place, low);
-      high = omega (arith, place, high);
-      numbers = omega (arith, place, number, count);
+      low = rw place low;
+      high = rw place high;
+      numbers = rw (number, place) count;
       opening = λ e. record {
         admitted = ap (admits ways.only) form ∙ and_left (admits ways.only c.in-Opening.form) _ shown;
         begins = ap (λ f. begins ways.only f (lines (drop c.header_of.result.at text))) form ∙ ap (λ p. begins ways.only c.in-Opening.form (lines (drop p text))) place ∙ and_right (admits ways.only c.in-Opening.form) _ shown;
       };
-      git = λ e. absurd cc;
+      git = λ e. absurd (false≢true (sym bare ∙ e));
       plain = λ e. c.header_of.ensures.plain (c.led_by-led.ensures.is ∙ no-led ways c.in-Opening.form here.trail e);
       pieces = c.header_of.ensures.pieces;
     }
@@ -88,11 +89,11 @@ returns-in-Bare-clause-lies c = λ at line h s.
     let git : ways.git ≡ true = and_left ways.git _ shown in
     let bare : c.bare_of.result.bare ≡ true = c.bare_of.ensures.bare in
     record {
-      low = omega (arith, place, low);
-      high = omega (arith, place, high);
-      numbers = omega (arith, place, number, count);
-      opening = λ e. absurd cc;
+      low = rw place low;
+      high = rw place high;
+      numbers = rw (number, place) count;
+      opening = λ e. absurd (false≢true (sym e ∙ bare));
       git = λ e. record { git = git; form = c.bare_of.ensures.form; begins = bare-begins text here.at c.bare_of.result.at place (stops-begins ways (lines (drop here.at text)) shown) };
-      plain = λ e. absurd cc;
+      plain = λ e. absurd (false≢true (sym e ∙ git));
       pieces = c.bare_of.ensures.pieces;
     }

@@ -1,0 +1,28 @@
+-- The last line of each kind, with one line more.
+use Rattle.std.proofs.Common.{◌≡◌, Option, None, Some, cond, List, [], ◌∷◌, ◌++◌, refl}
+use Rattle.std.specs.Prelude.{IfSome, codes, is_some}
+use Rattle.patch_header.specs.Region.{Row, tail_of, seen_in}
+use Rattle.patch_header.specs.declared.region.Tail.{Tail}
+use Rattle.patch_header.specs.declared.region.Seen.{Seen}
+use Rattle.patch_header.proofs.GitLemmas.{tail-push}
+
+-- the new one where it is there, else the last
+abbrev pub later : Option Tail → Option Tail → Option Tail
+later last new = cond (is_some new) new last
+
+pub later-lies : (P : Tail → Type 0) (last new found : Option Tail) → found ≡ later last new → IfSome last P → IfSome new P → IfSome found P
+later-lies P last None found is old fresh = rw is old
+later-lies P last (Some t) found is old fresh = rw is fresh
+
+abbrev pub seen_with : Seen → Row → Seen
+seen_with seen r = record {
+  minus = later seen.minus (tail_of (codes "--- ") r);
+  plus = later seen.plus (tail_of (codes "+++ ") r);
+  stars = later seen.stars (tail_of (codes "*** ") r);
+  index = later seen.index (tail_of (codes "Index:") r);
+  prereq = later seen.prereq (tail_of (codes "Prereq:") r);
+}
+
+pub seen-push : (seen : Seen) (rs : List Row) (r : Row) → seen ≡ seen_in rs → seen_with seen r ≡ seen_in (rs ++ r ∷ [])
+seen-push seen rs r is =
+    rw (is, tail-push (codes "--- ") rs r, tail-push (codes "+++ ") rs r, tail-push (codes "*** ") rs r, tail-push (codes "Index:") rs r, tail-push (codes "Prereq:") rs r) refl

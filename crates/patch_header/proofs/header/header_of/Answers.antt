@@ -1,0 +1,28 @@
+use Rattle.patch_header.proofs.header.header_of.Goals as goal
+
+pub name_in-old_name-requires-clause-lies : goal.name_in-old_name-requires-clause-lies
+name_in-old_name-requires-clause-lies c = c.old_tail-old.ensures.lies c.args.text.now c.requires.lies
+
+pub name_in-requires-clause-lies : goal.name_in-requires-clause-lies
+name_in-requires-clause-lies c = c.new_tail-new.ensures.lies c.args.text.now c.requires.lies
+
+pub name_in-requires-2-clause-lies : goal.name_in-requires-2-clause-lies
+name_in-requires-2-clause-lies c = c.requires.lies.index
+
+pub word_in-requires-clause-lies : goal.word_in-requires-clause-lies
+word_in-requires-clause-lies c = c.requires.lies.prereq
+
+pub stamp_in-requires : goal.stamp_in-requires
+stamp_in-requires c = c.old_tail-old.ensures.lies c.args.text.now c.requires.lies
+
+pub stamp_in-requires-2 : goal.stamp_in-requires-2
+stamp_in-requires-2 c = c.new_tail-new.ensures.lies c.args.text.now c.requires.lies
+
+pub from_in-requires-clause-lies : goal.from_in-requires-clause-lies
+from_in-requires-clause-lies c = c.requires.led
+
+pub to_in-requires-clause-lies : goal.to_in-requires-clause-lies
+to_in-requires-clause-lies c = c.requires.led
+
+pub returns-clause-pieces : goal.returns-clause-pieces
+returns-clause-pieces c = record { old_name = c.name_in-old_name.ensures.piece; new_name = c.name_in.ensures.piece; index = c.name_in-2.ensures.piece; prereq = c.word_in.ensures.piece; from = c.from_in.ensures.piece; to = c.to_in.ensures.piece }

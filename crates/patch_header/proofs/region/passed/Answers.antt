@@ -1,0 +1,17 @@
+use Rattle.std.proofs.Common.{slice_range}
+use Rattle.patch_header.specs.Region.{row, LiesIn}
+use Rattle.patch_header.proofs.SeenLemmas.{later-lies, seen-push}
+use Rattle.patch_header.proofs.region.passed.Goals as goal
+
+pub returns-clause-lies : goal.returns-clause-lies
+returns-clause-lies c = record {
+  minus = later-lies (LiesIn c.args.text.now) c.args.seen.minus _ _ c.later.ensures c.requires.lies.minus c.tail_of.ensures.lies;
+  plus = later-lies (LiesIn c.args.text.now) c.args.seen.plus _ _ c.later-2.ensures c.requires.lies.plus c.tail_of-2.ensures.lies;
+  stars = later-lies (LiesIn c.args.text.now) c.args.seen.stars _ _ c.later-3.ensures c.requires.lies.stars c.tail_of-3.ensures.lies;
+  index = later-lies (LiesIn c.args.text.now) c.args.seen.index _ _ c.later-4.ensures c.requires.lies.index c.tail_of-4.ensures.lies;
+  prereq = later-lies (LiesIn c.args.text.now) c.args.seen.prereq _ _ c.later-5.ensures c.requires.lies.prereq c.tail_of-5.ensures.lies;
+}
+
+pub returns-clause-is : goal.returns-clause-is
+returns-clause-is c = λ rs is.
+    rw (c.later.ensures, c.tail_of.ensures.is, c.later-2.ensures, c.tail_of-2.ensures.is, c.later-3.ensures, c.tail_of-3.ensures.is, c.later-4.ensures, c.tail_of-4.ensures.is, c.later-5.ensures, c.tail_of-5.ensures.is) (seen-push c.args.seen rs (row c.args.number c.args.at (slice_range c.args.text.now c.args.at c.args.end)) is)
