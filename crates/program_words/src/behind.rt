@@ -1,11 +1,11 @@
 //! The line behind the line of an answer: what helps whoever reads it.
 
 use crate::lacking::{Lack, lack_of, put_operands};
-use crate::lines::Lines;
-use crate::mending::{put_malformed, put_misfit};
+use crate::lines::{Lines, Part};
+use crate::mending::help_with;
 use crate::unfit::{add, copied, unfit_place};
 use crate::unsuited::put_unsuited;
-use crate::wanted::{put_wanted, with_value};
+use crate::wanted::{wanted_by, with_value};
 use real_devices::Trouble;
 use run_answers::Why;
 
@@ -15,16 +15,23 @@ const LARGEST_BUFFER: u64 = 1_048_576;
 /// How many bytes of a buffer a line may not use.
 const BESIDE_LINE: u64 = 4;
 
+/// What is said of a value that an option doesn't take.
+const NOT_TAKEN: &str = "#: # wants ##; # isn't taken\n";
+
 /// The line behind that of an answer: where a fault was and the system's words, or what to do about a refusal. Most answers
 /// have none.
 pub fn put_behind(lines: &mut Lines, tool: &str, why: Why, trouble: Option<&Trouble>) {
     match why {
-        Why::Malformed { kind, .. } => put_malformed(lines, tool, kind),
-        Why::Unfit { .. } => put_misfit(lines, tool),
         Why::ReadFault | Why::WriteFault | Why::TreeFault | Why::ScratchFault => {
             put_trouble(lines, tool, trouble)
         }
-        _ => {}
+        _ => put_help(lines, tool, help_with(tool, why)),
+    }
+}
+
+fn put_help(lines: &mut Lines, tool: &str, said: &str) {
+    if !said.is_empty() {
+        lines.put_line(tool, said);
     }
 }
 
@@ -35,18 +42,26 @@ pub fn put_usage(lines: &mut Lines, tool: &str, words: &[String]) {
         Some(place) => put_unfit(lines, tool, words, place),
         None => put_lacking(lines, tool, words),
     }
-    lines.put("Try '");
-    lines.put(tool);
-    lines.put(" --help' for more information.\n");
+    lines.put_parts(
+        "Try '# --help' for more information.\n",
+        &[Part::Text(tool)],
+    );
 }
 
-/// The line of the word at this place, which can't be taken: where an option takes it as its value, what that should be.
+/// The line of the word at this place, which can't be taken: where an option takes it as its value, or holds its value, what that
+/// should be.
 fn put_unfit(lines: &mut Lines, tool: &str, words: &[String], place: usize) {
     let front = words.get(..place).unwrap_or(words);
     let word = word_at(words, place);
-    match lack_of(lines, front) {
-        Some(Lack::Value(option)) => put_value(lines, tool, option, word),
-        _ => put_word(lines, tool, front, word),
+    if let Some(Lack::Value) = lack_of(lines, front) {
+        put_wants(lines, tool, NOT_TAKEN, last_of(front), word);
+    } else {
+        let (option, value) = with_value(tool, word).unwrap_or((word, ""));
+        if wants_value(lines, front, option) {
+            put_wants(lines, tool, NOT_TAKEN, option, value);
+        } else {
+            put_unsuited(lines, tool, front, word, option);
+        }
     }
 }
 
@@ -57,48 +72,36 @@ pub fn word_at(words: &[String], place: usize) -> &str {
     }
 }
 
-/// The line of a word that isn't an option's value, but may hold one.
-fn put_word(lines: &mut Lines, tool: &str, front: &[String], word: &str) {
-    match with_value(tool, word) {
-        Some((option, value)) if wants_value(lines, front, option) => {
-            put_value(lines, tool, option, value)
-        }
-        Some((option, _)) => put_unsuited(lines, tool, front, word, option),
-        None => put_unsuited(lines, tool, front, word, word),
-    }
+pub fn last_of(words: &[String]) -> &str {
+    word_at(words, words.len().saturating_sub(1))
 }
 
 /// Whether the option wants a value behind these words.
 pub fn wants_value(lines: &mut Lines, front: &[String], option: &str) -> bool {
     let mut tried = copied(lines, front);
     add(lines, &mut tried, option);
-    matches!(lack_of(lines, &tried), Some(Lack::Value(_)))
+    matches!(lack_of(lines, &tried), Some(Lack::Value))
 }
 
-fn put_value(lines: &mut Lines, tool: &str, option: &str, value: &str) {
-    put_wants(lines, tool, option);
-    lines.put("; ");
-    lines.put_quoted(value);
-    lines.put(" isn't taken\n");
+/// The line of an option that takes a value, and of a value that it doesn't take, where one is given.
+fn put_wants(lines: &mut Lines, tool: &str, said: &str, option: &str, value: &str) {
+    let (article, noun) = wanted_by(tool, option);
+    let parts = [
+        Part::Text(tool),
+        Part::Quoted(option),
+        Part::Text(article),
+        Part::Text(noun),
+        Part::Quoted(value),
+    ];
+    lines.put_parts(said, &parts);
 }
 
-fn put_wants(lines: &mut Lines, tool: &str, option: &str) {
-    lines.put(tool);
-    lines.put(": ");
-    lines.put_quoted(option);
-    lines.put(" wants ");
-    put_wanted(lines, tool, option);
-}
-
+/// The line of what is missing behind the last word.
 fn put_lacking(lines: &mut Lines, tool: &str, words: &[String]) {
     match lack_of(lines, words) {
-        Some(Lack::Value(option)) => {
-            put_wants(lines, tool, option);
-            lines.put("\n");
-        }
+        Some(Lack::Value) => put_wants(lines, tool, "#: # wants ##\n", last_of(words), ""),
         Some(Lack::Operands(count)) => {
-            lines.put(tool);
-            lines.put(": missing at the end:");
+            lines.put_parts("#: missing at the end:", &[Part::Text(tool)]);
             put_operands(lines, tool, count);
             lines.put("\n");
         }
@@ -108,16 +111,14 @@ fn put_lacking(lines: &mut Lines, tool: &str, words: &[String]) {
 
 /// In which file a line of so many bytes is, and the smallest buffer that holds it, where the tool has the word.
 pub fn put_long(lines: &mut Lines, tool: &str, file: &str, length: u64) {
-    lines.put(tool);
-    lines.put(": the line is in ");
-    lines.put_quoted(file);
     let least = length.saturating_add(BESIDE_LINE);
-    if least <= LARGEST_BUFFER && tool != "patchstack" {
-        lines.put("; --buffer=");
-        lines.put_number(least);
-        lines.put(" would hold it");
-    }
-    lines.put("\n");
+    let said = if least <= LARGEST_BUFFER && !matches!(tool, "patchstack") {
+        ": the line is in #; --buffer=# would hold it\n"
+    } else {
+        ": the line is in #\n"
+    };
+    lines.put(tool);
+    lines.put_parts(said, &[Part::Quoted(file), Part::Number(least)]);
 }
 
 fn put_trouble(lines: &mut Lines, tool: &str, trouble: Option<&Trouble>) {

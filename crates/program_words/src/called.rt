@@ -14,39 +14,31 @@ const LONGEST: usize = 4_096;
 
 /// The tool of this name.
 fn tool_named(word: &str) -> Option<&'static str> {
-    if word == "patch" {
-        return Some("patch");
-    }
     match tool_words::tool_named(word) {
         Some(tool) => Some(tool.name()),
+        None if matches!(word, "patch") => Some("patch"),
         None => None,
     }
 }
 
 /// The words of the run: the tool, if there is one, and the words behind it.
 pub fn words_of<R: Env + AllocGlobal>(rt: &R) -> io::Result<Vec<String>> {
-    let called = env::args(rt)?;
-    let mut words = Vec::new(rt.alloc());
-    match add_called(rt.alloc(), &mut words, called) {
-        Ok(()) => Ok(words),
+    match words_in(rt.alloc(), env::args(rt)?) {
+        Ok(words) => Ok(words),
         Err(error) => Err(io::Error::from(error)),
     }
 }
 
-/// Adds the words, the first of which is a path: of that the tool that it names, if it does.
-fn add_called(alloc: Global, words: &mut Vec<String>, called: Args) -> Result<(), AllocError> {
+/// The words. The first is a path, of which just the tool is taken that it names, if it does.
+fn words_in(alloc: Global, called: Args) -> Result<Vec<String>, AllocError> {
     let mut called = called;
+    let mut words = Vec::new(alloc);
     let path = called.next().unwrap_or(String::new(alloc));
-    add_tool(alloc, words, path.as_str())?;
-    words.extend(called)
-}
-
-/// Adds the tool that the path names, if it does.
-fn add_tool(alloc: Global, words: &mut Vec<String>, path: &str) -> Result<(), AllocError> {
-    match tool_named(last_component(path)) {
-        Some(tool) => added(alloc, words, tool),
-        None => Ok(()),
+    if let Some(tool) = tool_named(last_component(path.as_str())) {
+        added(alloc, &mut words, tool)?;
     }
+    words.extend(called)?;
+    Ok(words)
 }
 
 /// The tool for a message, or the program's own name where the first word is no tool.

@@ -1,34 +1,18 @@
 //! What is wrong with the count of a stack's applied patches.
 
-use crate::lines::{Lines, is_feed};
-use crate::state::{SERIES, text_at};
-use real_devices::Disk;
-use std::fs::File;
-use std::rt::Files;
-
-const APPLIED: &str = ".pc/applied";
+use crate::lines::{Lines, Part, is_feed};
 
 /// That the count is more than there are patches, or what the file should say.
-pub fn put_count<R: Files<File = File>>(lines: &mut Lines, tool: &str, tree: &mut Disk<'_, R>) {
-    let said = number_of(&text_at(lines, tree, APPLIED));
-    let listed = patches_in(&text_at(lines, tree, SERIES));
-    if said <= listed {
-        lines.put_line(
-            tool,
-            ".pc/applied: must say how many of the patches are applied",
-        );
+pub fn put_count(lines: &mut Lines, tool: &str, applied: &[u8], series: &[u8]) {
+    let said = number_of(applied);
+    let listed = patches_in(series);
+    let text = if said <= listed {
+        "#: .pc/applied: must say how many of the patches are applied\n"
     } else {
-        put_more(lines, tool, said, listed);
-    }
-}
-
-fn put_more(lines: &mut Lines, tool: &str, said: u64, listed: u64) {
-    lines.put(tool);
-    lines.put(": .pc/applied says ");
-    lines.put_number(said);
-    lines.put(", and patches/series lists ");
-    lines.put_number(listed);
-    lines.put("\n");
+        "#: .pc/applied says #, and patches/series lists #\n"
+    };
+    let parts = [Part::Text(tool), Part::Number(said), Part::Number(listed)];
+    lines.put_parts(text, &parts);
 }
 
 /// The number that the text is, or 0.

@@ -66,11 +66,9 @@ fn put_of_patch<R: Files>(
         is_reversed: options.reverse,
     };
     match ended.why {
-        Why::Done => put_taken(lines, taking, passed),
-        Why::Rejected => {
-            put_taken(lines, taking, passed);
-            put_ends(lines, "patch", ended, passed);
-            put_skipped(lines, rt, options, ended.heard, passed);
+        Why::Done | Why::Rejected => {
+            put_cut(lines, passed);
+            put_taken(lines, "patch", taking, passed);
         }
         Why::Garbage => {
             put_ranges(lines, "patch", passed.front());
@@ -78,20 +76,17 @@ fn put_of_patch<R: Files>(
         }
         _ => {}
     }
-}
-
-/// How lines end, where a hunk failed.
-fn put_ends(lines: &mut Lines, tool: &str, ended: Ended<'_>, passed: &Passed) {
-    if ended.heard.failed {
-        put_line_ends(lines, tool, ended.ends, passed.front());
+    if let Why::Rejected = ended.why {
+        put_line_ends(lines, "patch", ended, passed.front());
+        put_skipped(lines, rt, options, ended.heard, passed);
     }
 }
 
-fn put_taken(lines: &mut Lines, taking: Taking, passed: &Passed) {
-    put_cut(lines, passed);
-    put_ranges(lines, "patch", passed.front());
-    put_quotes(lines, "patch", passed.front());
-    put_modes(lines, "patch", taking, passed);
+/// What is said of the lines of a text.
+fn put_taken(lines: &mut Lines, tool: &str, taking: Taking, passed: &Passed) {
+    put_ranges(lines, tool, passed.front());
+    put_quotes(lines, tool, passed.front());
+    put_modes(lines, tool, taking, passed);
 }
 
 fn put_of_stack(lines: &mut Lines, words: &[String], ended: Ended<'_>, passed: &Passed) {
@@ -99,7 +94,7 @@ fn put_of_stack(lines: &mut Lines, words: &[String], ended: Ended<'_>, passed: &
         Why::Done | Why::Garbage => put_pushed(lines, words, passed),
         Why::Rejected => {
             put_pushed(lines, words, passed);
-            put_ends(lines, "patchstack", ended, passed);
+            put_line_ends(lines, "patchstack", ended, passed.front());
             put_stack_skipped(lines, ended.heard, passed);
         }
         _ => {}
@@ -113,10 +108,8 @@ fn put_pushed(lines: &mut Lines, words: &[String], passed: &Passed) {
         is_reversed: false,
     };
     match words {
-        [_, operation] if operation.as_str() == "push" => {
-            put_ranges(lines, "patchstack", passed.front());
-            put_quotes(lines, "patchstack", passed.front());
-            put_modes(lines, "patchstack", taking, passed)
+        [_, operation] if matches!(operation.as_str(), "push") => {
+            put_taken(lines, "patchstack", taking, passed)
         }
         _ => {}
     }

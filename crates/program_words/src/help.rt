@@ -35,24 +35,15 @@ pub enum Telling {
     Words(Tool),
 }
 
-/// What `--help`, `--version` or no word at all asks for. No command has these words in front of a `--`.
+/// What no word at all asks for, or the first `--help` or `--version` in front of a `--`. No command has these words there.
 pub fn told(words: &[String]) -> Option<Telling> {
     if words.is_empty() {
         return Some(Telling::Text(TOOLS));
     }
-    match asked(words) {
-        Some("--version") => Some(Telling::Text(VERSION)),
-        Some(_) => help_of(tool_of(words)),
-        None => None,
-    }
-}
-
-/// The first word that asks for help or the version, in front of a `--`.
-fn asked(words: &[String]) -> Option<&str> {
     for word in words {
         match word.as_str() {
-            "--help" => return Some("--help"),
-            "--version" => return Some("--version"),
+            "--help" => return Some(help_of(tool_of(words))),
+            "--version" => return Some(Telling::Text(VERSION)),
             "--" => return None,
             _ => {}
         }
@@ -60,18 +51,11 @@ fn asked(words: &[String]) -> Option<&str> {
     None
 }
 
-/// The words of a tool.
-fn help_of(tool: &str) -> Option<Telling> {
-    match tool {
-        "patch" => Some(Telling::Patch),
-        "patchkit" => Some(Telling::Text(TOOLS)),
-        _ => words_of(tool_named(tool)),
-    }
-}
-
-fn words_of(tool: Option<Tool>) -> Option<Telling> {
-    match tool {
-        Some(tool) => Some(Telling::Words(tool)),
-        None => None,
+/// The words of a tool, or the tools.
+fn help_of(tool: &str) -> Telling {
+    match tool_named(tool) {
+        Some(tool) => Telling::Words(tool),
+        None if matches!(tool, "patch") => Telling::Patch,
+        None => Telling::Text(TOOLS),
     }
 }

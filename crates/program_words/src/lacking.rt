@@ -1,5 +1,6 @@
 //! What is missing behind words that could go on, for the line behind a refusal.
 
+use crate::behind::last_of;
 use crate::lines::Lines;
 use crate::unfit::{OPERAND, add, copied, is_command, missing_words};
 use crate::wanted::table_of;
@@ -7,29 +8,29 @@ use patch_options::{Group, Word, WordForm};
 
 /// What is missing behind the last word.
 #[derive(Clone, Copy)]
-pub enum Lack<'a> {
-    /// The value of this option.
-    Value(&'a str),
+pub enum Lack {
+    /// The value of the last word, which is an option.
+    Value,
     /// The last operands that the tool must have, so many of them.
     Operands(usize),
 }
 
 /// What is missing behind words that give no command, if further words would give one.
-pub fn lack_of<'a>(lines: &mut Lines, words: &'a [String]) -> Option<Lack<'a>> {
-    let count = missing_words(lines, words)?;
-    match words.split_last() {
-        Some((last, front)) if wants_value(lines, front, last.as_str(), count) => {
-            Some(Lack::Value(last.as_str()))
-        }
-        _ => Some(Lack::Operands(count)),
+pub fn lack_of(lines: &mut Lines, words: &[String]) -> Option<Lack> {
+    match missing_words(lines, words) {
+        Some(count) if wants_value(lines, words, count) => Some(Lack::Value),
+        Some(count) => Some(Lack::Operands(count)),
+        None => None,
     }
 }
 
 /// Whether the last word is an option without its value: then so many operands in front of it give no command.
-fn wants_value(lines: &mut Lines, front: &[String], last: &str, count: usize) -> bool {
-    if last == "--" || !last.starts_with('-') {
+fn wants_value(lines: &mut Lines, words: &[String], count: usize) -> bool {
+    let last = last_of(words);
+    if matches!(last, "--") || !last.starts_with('-') {
         return false;
     }
+    let front = words.get(..words.len().saturating_sub(1)).unwrap_or(words);
     let mut tried = copied(lines, front);
     for _ in 0..count {
         add(lines, &mut tried, OPERAND);
@@ -69,8 +70,5 @@ fn needed_in(table: &'static [Group]) -> usize {
 }
 
 fn is_needed(word: &Word) -> bool {
-    match word.form {
-        WordForm::Operand => !word.shown.starts_with('['),
-        _ => false,
-    }
+    matches!(word.form, WordForm::Operand) && !word.shown.starts_with('[')
 }

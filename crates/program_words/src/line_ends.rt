@@ -1,8 +1,13 @@
 //! The line behind a run in which hunks failed, where the lines of the patch end otherwise than those of a file.
 
-use crate::lines::{Lines, is_feed};
+use crate::ended::Ended;
+use crate::lines::{Lines, Part, is_feed};
 use memchr::memrchr;
-use real_devices::LineEnds;
+
+const RETURNED: &str =
+    "the lines of # end in carriage return and line feed, those of the patch don't";
+
+const PLAIN: &str = "the lines of the patch end in carriage return and line feed, those of # don't";
 
 /// How the lines end that the hunks of a patch text show, up to a line of it.
 #[derive(Clone, Copy)]
@@ -14,30 +19,17 @@ struct Shown {
     has_plain: bool,
 }
 
-/// The line, where all lines that the hunks show end in carriage return and line feed and the first line of a file doesn't, or none
-/// of them does and the first line of a file does.
-pub fn put_line_ends(lines: &mut Lines, tool: &str, ends: &LineEnds, front: &[u8]) {
-    match shown_in(front) {
-        Some(false) if !ends.returned().is_empty() => {
-            put_returned(lines, tool, ends.returned());
-        }
-        Some(true) if !ends.plain().is_empty() => put_plain(lines, tool, ends.plain()),
-        _ => {}
+/// The line, where a hunk failed, and all lines that the hunks show end in carriage return and line feed and the first line of a file
+/// doesn't, or none of them does and the first line of a file does.
+pub fn put_line_ends(lines: &mut Lines, tool: &str, ended: Ended<'_>, front: &[u8]) {
+    let (said, name) = match shown_in(front) {
+        Some(false) => (RETURNED, ended.ends.returned()),
+        Some(true) => (PLAIN, ended.ends.plain()),
+        None => ("", ""),
+    };
+    if ended.heard.failed && !name.is_empty() {
+        lines.put_said(tool, said, Part::Quoted(name));
     }
-}
-
-fn put_returned(lines: &mut Lines, tool: &str, name: &str) {
-    lines.put(tool);
-    lines.put(": the lines of ");
-    lines.put_quoted(name);
-    lines.put(" end in carriage return and line feed, those of the patch don't\n");
-}
-
-fn put_plain(lines: &mut Lines, tool: &str, name: &str) {
-    lines.put(tool);
-    lines.put(": the lines of the patch end in carriage return and line feed, those of ");
-    lines.put_quoted(name);
-    lines.put(" don't\n");
 }
 
 /// Whether the lines that the hunks in this front of the text show end in carriage return and line feed. There is no answer where
@@ -49,7 +41,10 @@ fn shown_in(front: &[u8]) -> Option<bool> {
         has_returned: false,
         has_plain: false,
     };
-    let end = memrchr(b'\n', front)?;
+    let end = match memrchr(b'\n', front) {
+        Some(end) => end,
+        None => return None,
+    };
     for line in front.get(..end).unwrap_or(front).split(is_feed) {
         shown = with_line(shown, line);
     }
@@ -129,6 +124,6 @@ fn is_of_hunk(text: &[u8]) -> bool {
 fn is_mark(text: &[u8]) -> bool {
     match text {
         b"---" | b"-- " => true,
-        _ => text.starts_with(b"--- ") || text.starts_with(b"*** "),
+        _ => text.starts_with(b"--- "),
     }
 }

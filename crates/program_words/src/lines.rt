@@ -3,6 +3,18 @@
 use std::alloc::Global;
 use std::fmt::Write;
 
+/// What stands in a line in the place of a `#` of its text.
+#[derive(Clone, Copy)]
+pub enum Part<'a> {
+    Text(&'a str),
+    Number(u64),
+    /// A word in quotes.
+    Quoted(&'a str),
+    Bytes(&'a [u8]),
+    /// Bytes in quotes.
+    Name(&'a [u8]),
+}
+
 /// Where memory is missing once, none of the lines is told: so what is put behind that doesn't matter.
 #[derive(Drop)]
 pub struct Lines {
@@ -78,6 +90,36 @@ impl Lines {
         }
     }
 
+    /// Puts a text, with a part in the place of each `#`. A part behind those isn't put.
+    pub fn put_parts(&mut self, said: &str, parts: &[Part<'_>]) {
+        let mut pieces = said.split('#');
+        self.put(pieces.next().unwrap_or(""));
+        for part in parts {
+            if let Some(piece) = pieces.next() {
+                self.put_part(*part);
+                self.put(piece);
+            }
+        }
+    }
+
+    fn put_part(&mut self, part: Part<'_>) {
+        match part {
+            Part::Text(text) => self.put(text),
+            Part::Number(number) => self.put_number(number),
+            Part::Quoted(word) => self.put_quoted(word),
+            Part::Bytes(bytes) => self.put_bytes(bytes),
+            Part::Name(bytes) => self.put_bytes_quoted(bytes),
+        }
+    }
+
+    /// Puts a line of the tool's, with a part in the place of its `#`.
+    pub fn put_said(&mut self, tool: &str, said: &str, part: Part<'_>) {
+        self.put(tool);
+        self.put(": ");
+        self.put_parts(said, &[part]);
+        self.put("\n");
+    }
+
     /// Puts a line of the tool's.
     pub fn put_line(&mut self, tool: &str, said: &str) {
         self.put(tool);
@@ -90,15 +132,4 @@ impl Lines {
 /// Whether a line ends with this byte.
 pub fn is_feed(byte: &u8) -> bool {
     *byte == b'\n'
-}
-
-/// The number of the line, from 1, in front of which a line feed of the text stands.
-pub fn number_behind(text: &[u8], feed: usize) -> u64 {
-    let mut number = 2u64;
-    for byte in text.get(..feed).unwrap_or(text) {
-        if is_feed(byte) {
-            number = number.saturating_add(1);
-        }
-    }
-    number
 }

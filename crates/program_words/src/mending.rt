@@ -1,7 +1,11 @@
 //! What to do about a patch text that is refused.
 
-use crate::lines::Lines;
+use crate::wanted::is_known;
 use hunk_core::BadKind;
+use run_answers::Why;
+
+/// What passes over binary changes.
+const BINARY: &str = "--skip-binary passes over binary changes";
 
 /// What `reversediff` can't turn round.
 const NO_WAY_BACK: &str =
@@ -22,40 +26,38 @@ const MARK: &str =
 const END: &str =
     "if the numbers of its '@@' line are wrong, recountdiff mends them; if the text is cut, its end is missing then too";
 
-/// What helps with a malformed text, where something does.
-pub fn put_malformed(lines: &mut Lines, tool: &str, kind: BadKind) {
+/// What helps with a text that is malformed, or can't be turned round or written in another form, or nothing.
+pub fn help_with(tool: &str, why: Why) -> &'static str {
+    match why {
+        Why::Malformed { kind, .. } => help_with_kind(tool, kind),
+        Why::Unfit { .. } => match tool {
+            "reversediff" => NO_WAY_BACK,
+            _ => NO_COMMANDS,
+        },
+        _ => "",
+    }
+}
+
+/// What the tool has for a malformed text, or else what `recountdiff` mends, unless it is the tool.
+fn help_with_kind(tool: &str, kind: BadKind) -> &'static str {
     match kind {
-        BadKind::Binary => put_binary(lines, tool),
-        BadKind::HunkOrder => lines.put_line(tool, ORDER),
-        BadKind::Count => put_recount(lines, tool, COUNTS),
-        BadKind::Mark => put_recount(lines, tool, MARK),
-        BadKind::ShortEnd => put_recount(lines, tool, END),
-        _ => {}
+        BadKind::HunkOrder => ORDER,
+        BadKind::Binary => match is_known(tool, "--skip-binary") {
+            true => BINARY,
+            false => "",
+        },
+        _ => match tool {
+            "recountdiff" => "",
+            _ => recount_of(kind),
+        },
     }
 }
 
-/// What `recountdiff` mends, unless it is the tool.
-fn put_recount(lines: &mut Lines, tool: &str, said: &str) {
-    if tool != "recountdiff" {
-        lines.put_line(tool, said);
-    }
-}
-
-/// What passes over binary changes, where the tool has it.
-fn put_binary(lines: &mut Lines, tool: &str) {
-    match tool {
-        "patch" | "lsdiff" | "filterdiff" | "grepdiff" | "splitdiff" => {
-            lines.put_line(tool, "--skip-binary passes over binary changes")
-        }
-        _ => {}
-    }
-}
-
-/// What can't be turned round, or written in another form.
-pub fn put_misfit(lines: &mut Lines, tool: &str) {
-    if tool == "reversediff" {
-        lines.put_line(tool, NO_WAY_BACK);
-    } else {
-        lines.put_line(tool, NO_COMMANDS);
+fn recount_of(kind: BadKind) -> &'static str {
+    match kind {
+        BadKind::Count => COUNTS,
+        BadKind::Mark => MARK,
+        BadKind::ShortEnd => END,
+        _ => "",
     }
 }

@@ -1,6 +1,6 @@
 //! The lines behind a run over a patch text in which git gives files modes: none is carried out.
 
-use crate::lines::{Lines, is_feed};
+use crate::lines::{Lines, Part, is_feed};
 use crate::names::both_names;
 use real_devices::Passed;
 use target_names::{last_component, shortened};
@@ -10,6 +10,9 @@ const USUAL: &[u8] = b"100644";
 
 /// The mode of a symbolic link.
 const LINK: &[u8] = b"120000";
+
+/// What becomes of one.
+const AS_FILE: &str = "# is a symbolic link in the patch: a regular file holds its text";
 
 /// How a run takes names and lines.
 #[derive(Clone, Copy)]
@@ -31,22 +34,13 @@ pub fn put_modes(lines: &mut Lines, tool: &str, taking: Taking, passed: &Passed)
 
 fn put_mode(lines: &mut Lines, tool: &str, taking: Taking, header: &[u8], line: &[u8]) {
     if let Some(mode) = mode_in(line, taking.is_reversed) {
-        lines.put(tool);
-        put_of(lines, mode, name_in(header, taking));
-    }
-}
-
-fn put_of(lines: &mut Lines, mode: &[u8], name: &[u8]) {
-    if mode == LINK {
-        lines.put(": ");
-        lines.put_bytes_quoted(name);
-        lines.put(" is a symbolic link in the patch: a regular file holds its text\n");
-    } else {
-        lines.put(": mode ");
-        lines.put_bytes(mode);
-        lines.put(" of ");
-        lines.put_bytes_quoted(name);
-        lines.put(" isn't carried out\n");
+        let name = Part::Name(name_in(header, taking));
+        if mode == LINK {
+            lines.put_said(tool, AS_FILE, name);
+        } else {
+            let parts = [Part::Text(tool), Part::Bytes(mode), name];
+            lines.put_parts("#: mode # of # isn't carried out\n", &parts);
+        }
     }
 }
 

@@ -1,7 +1,7 @@
 //! The names in the lines of a file patch for which no file was found.
 
 use crate::barred::{NOTHING, put_none};
-use crate::lines::{Lines, is_feed};
+use crate::lines::{Lines, Part, is_feed};
 use memchr::{memchr, memmem, memrchr};
 use outside::Name;
 use std::alloc::{AllocError, Global};
@@ -66,34 +66,26 @@ pub fn is_nameless(front: &[u8], opening: u64) -> bool {
 
 /// What such a hunk is.
 pub fn put_nameless(lines: &mut Lines, tool: &str, opening: u64) {
-    lines.put(tool);
-    lines.put(": the hunk at input line ");
-    lines.put_number(opening);
-    lines.put(
-        " has no header lines right in front of it (an empty line or text ends the file patch above)\n",
+    lines.put_said(
+        tool,
+        "the hunk at input line # has no header lines right in front of it (an empty line or text ends the file patch above)",
+        Part::Number(opening),
     );
 }
 
 fn put_both(lines: &mut Lines, tool: &str, strip: Option<u32>, written: &Lines, left: &Lines) {
-    lines.put(tool);
-    lines.put(": the patch names ");
-    lines.put_made(written);
+    lines.put_parts(
+        "#: the patch names #",
+        &[Part::Text(tool), Part::Text(written.text())],
+    );
     if !left.is_same(written) {
-        put_strip(lines, strip);
+        match strip {
+            Some(strip) => lines.put_parts(", with -p# ", &[Part::Number(u64::from(strip))]),
+            None => lines.put(", without -p "),
+        }
         lines.put_made(left);
     }
     lines.put("\n");
-}
-
-fn put_strip(lines: &mut Lines, strip: Option<u32>) {
-    match strip {
-        Some(strip) => {
-            lines.put(", with -p");
-            lines.put_number(u64::from(strip));
-            lines.put(" ");
-        }
-        None => lines.put(", without -p "),
-    }
 }
 
 /// The names in the two lines in front of the opening, or in it and behind it where it is that of a bare git header.
@@ -133,8 +125,8 @@ fn with_line<'a>(given: Given<'a>, line: &'a [u8], number: u64, opening: u64) ->
     if number > opening {
         if is_moving(line) {
             given.is_moved = true;
-            given.old = whole_name(line, b" from ").or(given.old);
-            given.new = whole_name(line, b" to ").or(given.new);
+            given.old = behind(line, b"rename from ", b"copy from ").or(given.old);
+            given.new = behind(line, b"rename to ", b"copy to ").or(given.new);
         }
     } else if number == opening {
         given.opening = line;
@@ -144,9 +136,9 @@ fn with_line<'a>(given: Given<'a>, line: &'a [u8], number: u64, opening: u64) ->
             given.new = Some(new);
         }
     } else if number.saturating_add(2) == opening {
-        given.old = name_of(line, [b"--- ", b"*** ", b"Index: "]);
+        given.old = name_of(line, b"--- ", b"*** ");
     } else if number.saturating_add(1) == opening {
-        given.new = name_of(line, [b"+++ ", b"--- ", b"Index: "]);
+        given.new = name_of(line, b"+++ ", b"--- ");
     }
     given
 }
@@ -155,36 +147,25 @@ fn with_line<'a>(given: Given<'a>, line: &'a [u8], number: u64, opening: u64) ->
 /// the middle, else it stands in front of `b/`, else it is the last one.
 pub fn both_names(names: &[u8]) -> (&[u8], &[u8]) {
     let half = names.len() / 2;
-    if names.len() % 2 == 1 && names.get(half) == Some(&b' ') {
-        return parts_at(names, half);
-    }
-    match memmem::rfind(names, b" b/") {
-        Some(space) => parts_at(names, space),
-        None => parts_at(names, memrchr(b' ', names).unwrap_or(0)),
-    }
-}
-
-fn parts_at(names: &[u8], space: usize) -> (&[u8], &[u8]) {
+    let space = if names.len() % 2 == 1 && matches!(names.get(half), Some(b' ')) {
+        half
+    } else {
+        memmem::rfind(names, b" b/")
+            .or(memrchr(b' ', names))
+            .unwrap_or(0)
+    };
     (
         names.get(..space).unwrap_or(names),
         names.get(space.saturating_add(1)..).unwrap_or(names),
     )
 }
 
-/// The name behind the mark that the line begins with.
-fn name_of<'a>(line: &'a [u8], marks: [&[u8]; 3]) -> Option<&'a [u8]> {
-    for mark in marks {
-        if let Some(name) = name_behind(line, mark) {
-            return Some(name);
-        }
+/// The name behind one of the marks at the line's front, or that of an index line: up to a tab, else up to a space.
+fn name_of<'a>(line: &'a [u8], mark: &[u8], other: &[u8]) -> Option<&'a [u8]> {
+    match behind(line, mark, other).or(line.strip_prefix(b"Index: ")) {
+        Some(rest) => rest.get(..name_end(rest)),
+        None => None,
     }
-    None
-}
-
-/// The name behind a mark at the line's front: up to a tab, else up to a space.
-fn name_behind<'a>(line: &'a [u8], mark: &[u8]) -> Option<&'a [u8]> {
-    let rest = line.strip_prefix(mark)?;
-    rest.get(..name_end(rest))
 }
 
 fn name_end(rest: &[u8]) -> usize {
@@ -194,10 +175,9 @@ fn name_end(rest: &[u8]) -> usize {
     }
 }
 
-/// The name behind a mark that stands behind the line's first word.
-fn whole_name<'a>(line: &'a [u8], mark: &[u8]) -> Option<&'a [u8]> {
-    let space = memchr(b' ', line)?;
-    line.get(space..)?.strip_prefix(mark)
+/// What stands behind one of the marks at the line's front.
+fn behind<'a>(line: &'a [u8], mark: &[u8], other: &[u8]) -> Option<&'a [u8]> {
+    line.strip_prefix(mark).or(line.strip_prefix(other))
 }
 
 /// The names as they are written.
@@ -210,11 +190,7 @@ fn written_names(alloc: Global, given: Given<'_>) -> Lines {
 
 fn add_given(text: &mut Lines, name: Option<&[u8]>) {
     match name {
-        Some(name) if name != NOTHING => {
-            let mut quoted = Lines::new(text.alloc);
-            quoted.put_bytes_quoted(name);
-            add_name(text, &quoted);
-        }
+        Some(name) if name != NOTHING => add_name(text, name),
         _ => {}
     }
 }
@@ -247,18 +223,18 @@ fn looked_for(alloc: Global, given: Given<'_>, reading: Reading) -> Result<Vec<N
 
 fn add_names(text: &mut Lines, names: &[Name]) {
     for name in names {
-        let mut quoted = Lines::new(text.alloc);
-        quoted.put_quoted(name.text());
-        add_name(text, &quoted);
+        add_name(text, name.text().as_bytes());
     }
 }
 
-/// Adds a name, unless it is the one that is there.
-fn add_name(text: &mut Lines, name: &Lines) {
-    if !text.is_same(name) {
+/// Adds a name in quotes, unless it is the one that is there.
+fn add_name(text: &mut Lines, name: &[u8]) {
+    let mut quoted = Lines::new(text.alloc);
+    quoted.put_bytes_quoted(name);
+    if !text.is_same(&quoted) {
         if !text.text().is_empty() {
             text.put(" and ");
         }
-        text.put_made(name);
+        text.put_made(&quoted);
     }
 }

@@ -1,6 +1,6 @@
 //! Why a pattern isn't taken, for the line behind its refusal.
 
-use crate::lines::Lines;
+use crate::lines::{Lines, Part};
 use regex_syntax::{Config, Error, ErrorKind, parse};
 use tool_words::{ToolJob, read_tool_words};
 
@@ -14,12 +14,10 @@ pub fn put_pattern(lines: &mut Lines, tool: &str, words: &[String]) {
 
 fn put_of(lines: &mut Lines, tool: &str, job: &ToolJob) {
     if let ToolJob::Grep(job) = job {
-        lines.put(tool);
-        lines.put(": the pattern ");
-        lines.put("\"");
-        lines.put(job.pattern.as_str());
-        lines.put("\"");
-        put_reading(lines, job.pattern.as_str());
+        let pattern = job.pattern.as_str();
+        let parts = [Part::Text(tool), Part::Text(pattern)];
+        lines.put_parts("#: the pattern \"#\"", &parts);
+        put_reading(lines, pattern);
     }
 }
 
@@ -38,9 +36,6 @@ fn put_reading(lines: &mut Lines, pattern: &str) {
 
 fn put_error(lines: &mut Lines, error: Error) {
     let place = error.span.start.saturating_add(1);
-    lines.put(", at byte ");
-    lines.put_number(place as u64);
-    lines.put(": ");
-    lines.put(error.kind.message());
-    lines.put("\n");
+    let parts = [Part::Number(place as u64), Part::Text(error.kind.message())];
+    lines.put_parts(", at byte #: #\n", &parts);
 }

@@ -16,6 +16,7 @@ const SPLIT: &str = "splitdiff";
 
 /// What the words say, where they are a command. Without memory they say nothing: the run will say so.
 pub fn places_of(alloc: Global, tool: &str, words: &[String]) -> Places {
+    let is_stack = matches!(tool, STACK);
     match read_words(alloc, words) {
         Ok(Job::Patch(options)) => {
             let places = places_in(alloc, &options);
@@ -23,14 +24,14 @@ pub fn places_of(alloc: Global, tool: &str, words: &[String]) -> Places {
             places
         }
         Err(_) => Places {
-            is_stack: tool == STACK,
-            is_text: tool == RECOUNT,
+            is_stack,
+            is_text: matches!(tool, RECOUNT),
             root: None,
             patch: None,
             file: None,
             output: None,
             rejects: None,
-            has_input: tool != STACK && tool != SPLIT,
+            has_input: !is_stack && !matches!(tool, SPLIT),
         },
     }
 }

@@ -1,68 +1,39 @@
 //! The line behind a run over a patch text that names a file in double quotes, as git and `diff` write some names.
 
-use crate::lines::{Lines, number_behind};
-use memchr::{memchr, memmem, memrchr};
+use crate::lines::{Lines, Part, is_feed};
+use memchr::memmem;
 
-/// What stands in front of such a name, behind the line's mark.
-const MARK: &[u8] = b" \"";
-
-/// The marks of header lines.
-const DASHES: &[u8] = b"---";
-
-const PLUSES: &[u8] = b"+++";
-
-const STARS: &[u8] = b"***";
+const QUOTED: &str = "line # names a file in double quotes, which count as part of the name";
 
 /// A line for the first header line of the text with such a name.
 pub fn put_quotes(lines: &mut Lines, tool: &str, text: &[u8]) {
-    for place in memmem::find_iter(text, MARK) {
-        if is_named(text, place) {
-            put_quote(lines, tool, number_behind(text, place).saturating_sub(1));
+    let (mut number, mut before) = (0u64, b"".as_slice());
+    for line in text.split(is_feed) {
+        let is_header = is_header(before, line);
+        if is_header && is_quoted(before) {
+            lines.put_said(tool, QUOTED, Part::Number(number));
             break;
         }
+        number = number.saturating_add(1);
+        if (is_header && is_quoted(line)) || is_quoted_by_git(line) {
+            lines.put_said(tool, QUOTED, Part::Number(number));
+            break;
+        }
+        before = line;
     }
 }
 
-/// Whether the line with this place gives a name: it begins as the line of a header, and the one beside it in the header as that.
-fn is_named(text: &[u8], place: usize) -> bool {
-    let front = text.get(..place).unwrap_or(text);
-    let mark = last_line(front);
-    if mark == DASHES {
-        next_line(text, place).starts_with(b"+++ ") || line_in_front(front).starts_with(b"*** ")
-    } else if mark == PLUSES {
-        line_in_front(front).starts_with(b"--- ")
-    } else if mark == STARS {
-        next_line(text, place).starts_with(b"--- ")
-    } else {
-        mark.starts_with(b"diff --git")
-    }
+/// Whether the lines are both of a header.
+fn is_header(first: &[u8], second: &[u8]) -> bool {
+    (first.starts_with(b"--- ") && second.starts_with(b"+++ "))
+        || (first.starts_with(b"*** ") && second.starts_with(b"--- "))
 }
 
-fn last_line(text: &[u8]) -> &[u8] {
-    match memrchr(b'\n', text) {
-        Some(feed) => text.get(feed.saturating_add(1)..).unwrap_or(&[]),
-        None => text,
-    }
+/// Whether the name of such a line begins with a quote.
+fn is_quoted(line: &[u8]) -> bool {
+    matches!(line.get(4), Some(b'"'))
 }
 
-fn line_in_front(text: &[u8]) -> &[u8] {
-    match memrchr(b'\n', text) {
-        Some(feed) => last_line(text.get(..feed).unwrap_or(text)),
-        None => &[],
-    }
-}
-
-fn next_line(text: &[u8], place: usize) -> &[u8] {
-    let behind = text.get(place..).unwrap_or(&[]);
-    match memchr(b'\n', behind) {
-        Some(feed) => behind.get(feed.saturating_add(1)..).unwrap_or(&[]),
-        None => &[],
-    }
-}
-
-fn put_quote(lines: &mut Lines, tool: &str, number: u64) {
-    lines.put(tool);
-    lines.put(": line ");
-    lines.put_number(number);
-    lines.put(" names a file in double quotes, which count as part of the name\n");
+fn is_quoted_by_git(line: &[u8]) -> bool {
+    line.starts_with(b"diff --git") && memmem::find(line, b" \"").is_some()
 }

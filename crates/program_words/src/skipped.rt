@@ -1,6 +1,6 @@
 //! The lines behind a run that left something out, where what was said leaves a question open.
 
-use crate::lines::Lines;
+use crate::lines::{Lines, Part};
 use crate::names::{Reading, is_nameless, put_nameless, put_names};
 use crate::places::below;
 use outside::Name;
@@ -8,37 +8,33 @@ use patch_options::Options;
 use real_devices::{Heard, Passed, missing_text};
 use std::rt::Files;
 
+/// Where the names stand for which no file was found, for a patch of a stack.
+const NO_FILE: &str =
+    "the file patch at input line # names no regular file here (a link doesn't count); names are taken as with -p1";
+
+/// What becomes of its rejects.
+const NO_REJECTS: &str =
+    "nothing of the patch stays, not even its reject files; 'patch -p1 -i #' leaves them";
+
 /// Why no file was found for a patch of a stack, and that it keeps no reject files.
 pub fn put_stack_skipped(lines: &mut Lines, heard: Heard, passed: &Passed) {
-    if let Some(line) = heard.no_file {
-        put_stack_names(lines, passed, line);
+    match heard.no_file {
+        Some(line) if is_nameless(passed.front(), line) => put_nameless(lines, "patchstack", line),
+        Some(line) => put_stack_unfound(lines, passed, line),
+        None => {}
     }
     if heard.rejects {
-        lines.put(
-            "patchstack: nothing of the patch stays, not even its reject files; 'patch -p1 -i ",
-        );
-        lines.put(passed.file());
-        lines.put("' leaves them\n");
-    }
-}
-
-fn put_stack_names(lines: &mut Lines, passed: &Passed, line: u64) {
-    if is_nameless(passed.front(), line) {
-        put_nameless(lines, "patchstack", line);
-    } else {
-        put_stack_unfound(lines, passed, line);
+        lines.put_said("patchstack", NO_REJECTS, Part::Text(passed.file()));
     }
 }
 
 fn put_stack_unfound(lines: &mut Lines, passed: &Passed, line: u64) {
-    lines.put("patchstack: the file patch at input line ");
-    lines.put_number(line);
-    lines.put(" names no regular file here (a link doesn't count); names are taken as with -p1\n");
     let reading = Reading {
         strip: Some(1),
         is_posix: false,
         is_reversed: false,
     };
+    lines.put_said("patchstack", NO_FILE, Part::Number(line));
     put_names(lines, "patchstack", reading, passed.front(), line);
 }
 
@@ -75,39 +71,24 @@ fn put_missing<R: Files>(lines: &mut Lines, rt: &R, name: &Name) {
     }
 }
 
+/// Where the files are in which none was found, and what may be wrong with the file, or with the words.
 fn put_unfound(lines: &mut Lines, options: &Options, passed: &Passed, line: u64) {
-    lines.put("patch: the file patch at input line ");
-    lines.put_number(line);
-    lines.put(" names no regular file ");
-    put_place(lines, options);
-    put_question(lines, options.strip);
+    let (before, place) = match &options.dir {
+        Some(dir) => ("in ", dir.text()),
+        None => ("", "here"),
+    };
+    lines.put_parts(
+        "patch: the file patch at input line # names no regular file ## (a link doesn't count); ",
+        &[Part::Number(line), Part::Text(before), Part::Text(place)],
+    );
+    match options.strip {
+        Some(strip) => lines.put_parts("is -p# right?\n", &[Part::Number(u64::from(strip))]),
+        None => lines.put("is -p1 missing, or the file's name?\n"),
+    }
     let reading = Reading {
         strip: options.strip,
         is_posix: options.posix,
         is_reversed: options.reverse,
     };
     put_names(lines, "patch", reading, passed.front(), line);
-}
-
-/// Where the files are.
-fn put_place(lines: &mut Lines, options: &Options) {
-    match &options.dir {
-        Some(dir) => {
-            lines.put("in ");
-            lines.put(dir.text());
-        }
-        None => lines.put("here"),
-    }
-}
-
-/// What may be wrong with the file, or with the words.
-fn put_question(lines: &mut Lines, strip: Option<u32>) {
-    match strip {
-        Some(strip) => {
-            lines.put(" (a link doesn't count); is -p");
-            lines.put_number(u64::from(strip));
-            lines.put(" right?\n");
-        }
-        None => lines.put(" (a link doesn't count); is -p1 missing, or the file's name?\n"),
-    }
 }

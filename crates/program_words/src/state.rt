@@ -1,14 +1,16 @@
 //! What is wrong with a file of a stack, for the line behind a refusal.
 
 use crate::count::put_count;
-use crate::lines::{Lines, is_feed};
+use crate::lines::{Lines, Part, is_feed};
 use outside::{Name, NameFault, NameRule};
 use real_devices::Disk;
 use series_stack::StateFile;
 use std::fs::File;
 use std::rt::Files;
 
-pub const SERIES: &str = "patches/series";
+const SERIES: &str = "patches/series";
+
+const APPLIED: &str = ".pc/applied";
 
 /// The most patches that a stack may have.
 const MOST: u64 = 9_999;
@@ -21,22 +23,27 @@ pub fn put_state<R: Files<File = File>>(
     file: StateFile,
 ) {
     match file {
-        StateFile::Series => put_series(lines, tool, tree),
-        StateFile::Count => put_count(lines, tool, tree),
+        StateFile::Series => {
+            let series = text_at(lines, tree, SERIES);
+            put_series(lines, tool, &series);
+        }
+        StateFile::Count => {
+            let applied = text_at(lines, tree, APPLIED);
+            let series = text_at(lines, tree, SERIES);
+            put_count(lines, tool, &applied, &series);
+        }
         StateFile::Save => { lines.put_line(tool, ".pc: a save is missing or isn't of its form") }
     }
 }
 
-fn put_series<R: Files<File = File>>(lines: &mut Lines, tool: &str, tree: &mut Disk<'_, R>) {
-    let text = text_at(lines, tree, SERIES);
-    lines.put(tool);
-    lines.put(": patches/series: ");
-    put_fault(lines, &text);
+fn put_series(lines: &mut Lines, tool: &str, series: &[u8]) {
+    lines.put_parts("#: patches/series: ", &[Part::Text(tool)]);
+    put_fault(lines, series);
     lines.put("each line must be a name below patches/\n");
 }
 
 /// The text of a file of the stack, or nothing where it can't be read.
-pub fn text_at<R: Files<File = File>>(
+fn text_at<R: Files<File = File>>(
     lines: &mut Lines,
     tree: &mut Disk<'_, R>,
     name: &str,
@@ -60,19 +67,11 @@ fn put_fault(lines: &mut Lines, text: &[u8]) {
         if !line.is_empty() && !line.starts_with(b"#") {
             count = count.saturating_add(1);
             if let Some(what) = fault_of(lines, line, count) {
-                put_line(lines, number, what);
+                lines.put_parts("line # #; ", &[Part::Number(number), Part::Text(what)]);
                 break;
             }
         }
     }
-}
-
-fn put_line(lines: &mut Lines, number: u64, what: &str) {
-    lines.put("line ");
-    lines.put_number(number);
-    lines.put(" ");
-    lines.put(what);
-    lines.put("; ");
 }
 
 /// What is wrong with the line, which is that of the patch with this number.

@@ -5,8 +5,8 @@ use patch_options::read_words;
 use std::alloc::{AllocError, Global};
 use tool_words::read_tool_words;
 
-/// Values that options take.
-const VALUES: [&str; 7] = ["512", "0", "a", "context", "simple", "push", "hunk"];
+/// Values that options take, with none first.
+const VALUES: [&str; 8] = ["", "512", "0", "a", "context", "simple", "push", "hunk"];
 
 /// An operand that each tool takes, unless it wants a value from above.
 pub const OPERAND: &str = "20";
@@ -24,7 +24,8 @@ pub fn unfit_place(lines: &mut Lines, words: &[String]) -> Option<usize> {
             break;
         }
         let middle = fits + (end - fits) / 2;
-        if can_go_on(lines, words, middle) {
+        let front = words.get(..middle + 1).unwrap_or(words);
+        if missing_words(lines, front).is_some() {
             fits = middle + 1;
         } else {
             end = middle;
@@ -33,35 +34,27 @@ pub fn unfit_place(lines: &mut Lines, words: &[String]) -> Option<usize> {
     if fits < words.len() { Some(fits) } else { None }
 }
 
-/// Whether the words up to this place give a command, by themselves or with a value and operands behind them.
-fn can_go_on(lines: &mut Lines, words: &[String], last: usize) -> bool {
-    let front = words.get(..last.saturating_add(1)).unwrap_or(words);
-    missing_words(lines, front).is_some()
-}
-
 /// How many words are missing behind these, at least as the values and operands from above go on with them. There is no
 /// number where none of these gives a command.
 pub fn missing_words(lines: &mut Lines, words: &[String]) -> Option<usize> {
-    if let Some(operands) = missing_behind(lines, words, None) {
-        return Some(operands);
-    }
     for value in VALUES.iter() {
-        if let Some(operands) = missing_behind(lines, words, Some(value)) {
-            return Some(operands.saturating_add(1));
+        let missing = missing_behind(lines, words, value);
+        if missing.is_some() {
+            return missing;
         }
     }
     None
 }
 
-/// How many operands are missing behind these words and this value, where there is one.
-fn missing_behind(lines: &mut Lines, words: &[String], value: Option<&str>) -> Option<usize> {
+/// The same, where this value goes on with them, and then operands.
+fn missing_behind(lines: &mut Lines, words: &[String], value: &str) -> Option<usize> {
     let mut tried = copied(lines, words);
-    if let Some(value) = value {
+    if !value.is_empty() {
         add(lines, &mut tried, value);
     }
-    for operands in 0..COUNTS {
+    for _ in 0..COUNTS {
         if is_command(lines.alloc, &tried) {
-            return Some(operands);
+            return Some(tried.len().saturating_sub(words.len()));
         }
         add(lines, &mut tried, OPERAND);
     }

@@ -1,49 +1,39 @@
 //! Why a word can't be taken that isn't an option's value: the tool has no such option, or a word in front excludes it.
 
 use crate::behind::{wants_value, word_at};
-use crate::lines::Lines;
+use crate::lines::{Lines, Part};
 use crate::unfit::{add, copied, missing_words};
 use crate::wanted::is_known;
 
-/// The line of a word that can't be taken behind these. Where it stands for an option, that is given without its value too.
+/// The line of a word that can't be taken behind these: beside which word, where that is found for an option. Where it stands for
+/// one, that is given without its value too.
 pub fn put_unsuited(lines: &mut Lines, tool: &str, front: &[String], word: &str, option: &str) {
-    let is_option = is_option(front, word);
-    lines.put(tool);
-    if is_option && !is_known(tool, option) {
-        lines.put(": there is no option ");
-        lines.put_quoted(word);
+    let (said, rival) = if !is_option(front, word) {
+        ("#: can't take # here\n", 0)
+    } else if !is_known(tool, option) {
+        ("#: there is no option #\n", 0)
     } else {
-        lines.put(": can't take ");
-        lines.put_quoted(word);
-        put_place(lines, front, word, is_option);
-    }
-    lines.put("\n");
+        match rival_of(lines, front, word) {
+            0 => ("#: can't take # here\n", 0),
+            rival => ("#: can't take # beside #\n", rival),
+        }
+    };
+    let parts = [
+        Part::Text(tool),
+        Part::Quoted(word),
+        Part::Quoted(word_at(front, rival)),
+    ];
+    lines.put_parts(said, &parts);
 }
 
 /// Whether the word stands for an option, behind the name of a tool.
 fn is_option(front: &[String], word: &str) -> bool {
-    let mut is_other = front.is_empty() || word.len() < 2 || word == "--";
     for before in front {
-        if before.as_str() == "--" {
-            is_other = true;
+        if matches!(before.as_str(), "--") {
+            return false;
         }
     }
-    !is_other && word.starts_with('-')
-}
-
-/// Beside which word it can't stand, where that is found for an option.
-fn put_place(lines: &mut Lines, front: &[String], word: &str, is_option: bool) {
-    let rival = if is_option {
-        rival_of(lines, front, word)
-    } else {
-        0
-    };
-    if rival == 0 {
-        lines.put(" here");
-    } else {
-        lines.put(" beside ");
-        lines.put_quoted(word_at(front, rival));
-    }
+    !front.is_empty() && word.starts_with('-') && !matches!(word, "-" | "--")
 }
 
 /// The place of the first word in front that excludes an option which can be taken alone, or 0.

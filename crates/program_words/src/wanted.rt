@@ -1,14 +1,13 @@
 //! What an option wants that takes a value, for the line behind a refusal.
 
-use crate::lines::Lines;
 use patch_options::{Group, Word, WordForm, patch_table};
 use tool_words::tool_named;
 
-/// What the option's value is, as `a number`. The option is as it is given, the last of its letters the one that is meant.
-pub fn put_wanted(lines: &mut Lines, tool: &str, option: &str) {
+/// What the option's value is, as `a ` and `number`. The option is as it is given, the last of its letters the one that is meant.
+pub fn wanted_by(tool: &str, option: &str) -> (&'static str, &'static str) {
     match row_of(table_of(tool), option) {
-        Some(row) => put_value_of(lines, row),
-        None => lines.put("a value"),
+        Some(row) => value_of(row),
+        None => ("a ", "value"),
     }
 }
 
@@ -31,50 +30,42 @@ fn row_of(table: &'static [Group], option: &str) -> Option<&'static Word> {
     None
 }
 
-/// Whether the option is this row's.
+/// Whether the option is this row's. A switch and what takes values are given by their names too.
 fn is_meant(word: &Word, option: &str) -> bool {
-    match option.strip_prefix("--") {
-        Some(name) => word.name == name && is_long(word.form),
-        None => ends_with(option, word.letter),
-    }
-}
-
-/// Whether it is given by its name too.
-fn is_long(form: WordForm) -> bool {
-    match form {
-        WordForm::Switch | WordForm::Value | WordForm::Values => true,
-        WordForm::Letter | WordForm::Operand => false,
-    }
-}
-
-fn ends_with(option: &str, letter: Option<char>) -> bool {
-    match letter {
-        Some(letter) => option.ends_with(letter),
-        None => false,
+    match (option.strip_prefix("--"), word.form, word.letter) {
+        (Some(name), WordForm::Switch | WordForm::Value | WordForm::Values, _) => {
+            *word.name == *name
+        }
+        (None, _, Some(letter)) => option.ends_with(letter),
+        _ => false,
     }
 }
 
 /// What stands for the value in the text that tells the words, in words of its own where that is a letter or a name.
-fn put_value_of(lines: &mut Lines, row: &Word) {
-    match behind_sign(row.shown) {
-        "N" => lines.put("a number"),
-        "FILE" => lines.put("a file"),
-        "DIR" => lines.put("a directory"),
-        "NAME" => lines.put("a name"),
-        "PAT" => lines.put("a pattern"),
-        "RANGE" => lines.put("a range"),
-        "S" => {
-            lines.put("a ");
-            lines.put(row.name);
-        }
-        shown => lines.put(shown),
+fn value_of(row: &'static Word) -> (&'static str, &'static str) {
+    let shown = match row.shown.rsplit_once('=') {
+        Some((_, value)) => value,
+        None => row.shown,
+    };
+    let noun = noun_of(shown, row.name);
+    if noun.is_empty() {
+        ("", shown)
+    } else {
+        ("a ", noun)
     }
 }
 
-fn behind_sign(shown: &str) -> &str {
-    match shown.rsplit_once('=') {
-        Some((_, value)) => value,
-        None => shown,
+/// The noun for a sign in that text, or nothing. A sign for any text stands for what the option is called.
+fn noun_of(shown: &str, name: &'static str) -> &'static str {
+    match shown {
+        "N" => "number",
+        "FILE" => "file",
+        "DIR" => "directory",
+        "NAME" => "name",
+        "PAT" => "pattern",
+        "RANGE" => "range",
+        "S" => name,
+        _ => "",
     }
 }
 
@@ -83,47 +74,36 @@ pub fn with_value<'a>(tool: &str, word: &'a str) -> Option<(&'a str, &'a str)> {
     if word.starts_with("--") {
         return word.split_once('=');
     }
-    word.split_at_checked(valued_end(table_of(tool), word)?)
+    match valued_end(table_of(tool), word) {
+        Some(end) => word.split_at_checked(end),
+        None => None,
+    }
 }
 
 /// The end of the first letter of a word that takes a value, where something stands behind it.
 fn valued_end(table: &'static [Group], word: &str) -> Option<usize> {
     if word.starts_with('-') {
         for end in 2..word.len() {
-            if takes_value(table, word.get(..end).unwrap_or("")) {
-                return Some(end);
+            match row_of(table, word.get(..end).unwrap_or("")) {
+                Some(row) if matches!(row.form, WordForm::Value | WordForm::Values) => {
+                    return Some(end);
+                }
+                _ => {}
             }
         }
     }
     None
 }
 
-/// Whether the option, or the last of its letters, takes a value.
-fn takes_value(table: &'static [Group], option: &str) -> bool {
-    match row_of(table, option) {
-        Some(row) => matches!(row.form, WordForm::Value | WordForm::Values),
-        None => false,
-    }
-}
-
 /// Whether the tool has the option, or all those of its letters.
 pub fn is_known(tool: &str, option: &str) -> bool {
     let table = table_of(tool);
-    if option.starts_with("--") {
-        row_of(table, option).is_some()
-    } else {
-        are_letters(table, option)
-    }
-}
-
-/// Whether each letter behind the sign is that of an option.
-fn are_letters(table: &'static [Group], option: &str) -> bool {
-    for end in 2..=option.len() {
-        if let Some(front) = option.get(..end) {
-            if row_of(table, front).is_none() {
+    if !option.starts_with("--") {
+        for end in 2..option.len() {
+            if row_of(table, option.get(..end).unwrap_or(option)).is_none() {
                 return false;
             }
         }
     }
-    true
+    row_of(table, option).is_some()
 }

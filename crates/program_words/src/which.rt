@@ -1,16 +1,14 @@
 //! Which patch of a stack is meant, for the line behind its refusal.
 
-use crate::lines::Lines;
+use crate::lines::{Lines, Part};
 use real_devices::Passed;
 use run_answers::Why;
 
 /// The patch that a push was refused for. The other tools have one patch text alone.
 pub fn put_patch(lines: &mut Lines, tool: &str, why: Why, passed: &Passed) {
     let file = passed.file();
-    if tool == "patchstack" && !file.is_empty() && is_refused(why) {
-        lines.put("patchstack: that is ");
-        lines.put(file);
-        lines.put("\n");
+    if matches!(tool, "patchstack") && !file.is_empty() && is_refused(why) {
+        lines.put_said(tool, "that is #", Part::Text(file));
     }
 }
 
