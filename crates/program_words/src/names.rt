@@ -74,10 +74,8 @@ pub fn put_nameless(lines: &mut Lines, tool: &str, opening: u64) {
 }
 
 fn put_both(lines: &mut Lines, tool: &str, strip: Option<u32>, written: &Lines, left: &Lines) {
-    lines.put_parts(
-        "#: the patch names #",
-        &[Part::Text(tool), Part::Text(written.text())],
-    );
+    lines.put_parts("#: the patch names ", &[Part::Text(tool)]);
+    lines.put_made(written);
     if !left.is_same(written) {
         match strip {
             Some(strip) => lines.put_parts(", with -p# ", &[Part::Number(u64::from(strip))]),
