@@ -6,6 +6,7 @@ use memchr::{memchr, memmem, memrchr};
 use outside::Name;
 use std::alloc::{AllocError, Global};
 use target_names::{candidates, moved_names};
+use unified_form::at_opening;
 
 /// Why a file isn't made.
 const NO_SIGN: &str =
@@ -55,6 +56,28 @@ fn put_unmade(lines: &mut Lines, tool: &str, given: Given<'_>, reading: Reading)
         }
         _ => {}
     }
+}
+
+/// Whether git says of the file patch with this opening that it copies a file.
+pub fn is_copy(front: &[u8], opening: u64) -> bool {
+    let (mut number, mut is_copy) = (0u64, false);
+    for line in front.split(is_feed) {
+        number = number.saturating_add(1);
+        if number > opening && !is_of_header(line) {
+            break;
+        }
+        is_copy = line.starts_with(b"copy from ") || (is_copy && goes_on(line));
+    }
+    is_copy
+}
+
+/// Whether the line can stand behind that of a copy, up to the first hunk.
+fn goes_on(line: &[u8]) -> bool {
+    is_of_header(line)
+        || line.starts_with(b"index ")
+        || line.starts_with(b"--- ")
+        || line.starts_with(b"+++ ")
+        || at_opening(line, 0)
 }
 
 /// Whether the opening is that of a hunk behind which no names are looked for, since none stand in front of it.

@@ -1,7 +1,7 @@
 //! The lines behind a run that left something out, where what was said leaves a question open.
 
 use crate::lines::{Lines, Part};
-use crate::names::{Reading, is_nameless, put_nameless, put_names};
+use crate::names::{Reading, is_copy, is_nameless, put_nameless, put_names};
 use crate::places::below;
 use outside::Name;
 use patch_options::Options;
@@ -15,6 +15,10 @@ const NO_FILE: &str =
 /// What becomes of its rejects.
 const NO_REJECTS: &str =
     "nothing of the patch stays, not even its reject files; 'patch -p1 -i #' leaves them";
+
+/// Why a copy isn't undone.
+const NO_WAY_BACK: &str =
+    "the file patch at input line # is a copy, and -R takes none back: what it made can't be told from a file that was there";
 
 /// Why no file was found for a patch of a stack, and that it keeps no reject files.
 pub fn put_stack_skipped(lines: &mut Lines, heard: Heard, passed: &Passed) {
@@ -38,7 +42,8 @@ fn put_stack_unfound(lines: &mut Lines, passed: &Passed, line: u64) {
     put_names(lines, "patchstack", reading, passed.front(), line);
 }
 
-/// Why no file was found: the one that the words name isn't there, or none has a name that the patch gives.
+/// Why no file was found: the one that the words name isn't there, a copy is to be taken back, or no file has a name that the patch
+/// gives.
 pub fn put_skipped<R: Files>(
     lines: &mut Lines,
     rt: &R,
@@ -50,6 +55,9 @@ pub fn put_skipped<R: Files>(
         (Some(file), _) => put_operand(lines, rt, options, file),
         (None, Some(line)) if is_nameless(passed.front(), line) => {
             put_nameless(lines, "patch", line)
+        }
+        (None, Some(line)) if options.reverse && is_copy(passed.front(), line) => {
+            lines.put_said("patch", NO_WAY_BACK, Part::Number(line))
         }
         (None, Some(line)) => put_unfound(lines, options, passed, line),
         (None, None) => {}
