@@ -82,11 +82,13 @@ impl Kept {
         ensures source { IfOk result (λ kept. kept.source.now ≡ regex_source regex) }
     {
         let regex = keep(alloc, regex)?;
-        let matcher = regex.matcher(alloc)?;
-        Ok(Kept {
-            source: regex.as_str(),
-            matcher,
-        })
+        match regex.matcher(alloc) {
+            Ok(matcher) => Ok(Kept {
+                source: regex.as_str(),
+                matcher,
+            }),
+            Err(_) => Err(AllocError),
+        }
     }
 
     /// Whether the pattern matches somewhere in the line.

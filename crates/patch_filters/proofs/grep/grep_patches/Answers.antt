@@ -1,6 +1,6 @@
 use Rattle.std.proofs.Common.{◌≡◌, ◌∙◌, List, [], length, Some, OnOk, OnErr, refl, sym, ap, subst}
 use Rattle.outside.proofs.Exits.{on_ok_none}
-use Rattle.outside.specs.FinderView.{finder_passes_both, finder_passes_none}
+use Rattle.outside.specs.FinderView.{finder_passes_none}
 use Rattle.std.specs.Prelude.{◌==◌, is_some, string_bytes}
 use Rattle.outside.specs.SinkView.{Receives, ReceivesPart, sink_passes_none}
 use Rattle.outside.proofs.Writing.{received_none}

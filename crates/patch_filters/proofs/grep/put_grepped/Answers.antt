@@ -1,4 +1,5 @@
-use Rattle.std.proofs.Common.{◌≡◌, ◌<◌, length, rules}
+use Rattle.std.proofs.Common.{◌≡◌, ◌<◌, List, length, subst, arith}
+use Rattle.file_patch.specs.declared.FilePatch.{FilePatch}
 use Rattle.tool_words.specs.PlainJobs.{plain_grep_job}
 use Rattle.line_list.proofs.Elements.{there-is}
 use Rattle.patch_filters.specs.Grepped.{test_of, text_if_found}
@@ -19,7 +20,7 @@ loop-patch-preserved g c =
     let v = c.args.set.now in
     let hit = test_of (g.F.Finder.view c.args.finder.now) in
     let i = c.loop-patch.patch in
-    let lt : i < length v.patches = search rules in
+    let lt : i < length v.patches = subst (λ (ps : List FilePatch). i < length ps) c.patches-patch-end.ensures.patches (omega (arith, c.loop-patch-test.true)) in
     let p = there-is v.patches i lt in
     let put = by-first (λ hit. text_if_found hit j v.text p.0) c.loop-patch.invariant.finder (c.in_ok-put_if_found.ensures p.0 p.1) in
     found-goes-on (text_if_found hit j v.text) v.patches g.met.O.Sink.rest_both i p.0 c.in_ok-put_if_found.field-0 lt p.1 c.loop-patch.invariant put
@@ -30,7 +31,7 @@ returns-in_err-put_if_found g c =
     let v = c.args.set.now in
     let hit = test_of (g.F.Finder.view c.args.finder.now) in
     let i = c.loop-patch.patch in
-    let lt : i < length v.patches = search rules in
+    let lt : i < length v.patches = subst (λ (ps : List FilePatch). i < length ps) c.patches-patch-end.ensures.patches (omega (arith, c.loop-patch-test.true)) in
     let p = there-is v.patches i lt in
     let put = by-first (λ hit. text_if_found hit j v.text p.0) c.loop-patch.invariant.finder (c.in_err-put_if_found.ensures p.0 p.1) in
     rw (grepped-is hit j v) (ends-in c.from_residual.result c.in_err-put_if_found.field-0.0 c.from_residual.ensures.1
@@ -41,5 +42,6 @@ returns g c =
     let j = plain_grep_job c.args.job.now in
     let v = c.args.set.now in
     let hit = test_of (g.F.Finder.view c.args.finder.now) in
-    let all : c.loop-patch.patch ≡ length v.patches = search rules in
-    rw (grepped-is hit j v) (found-ends (text_if_found hit j v.text) v.patches g.met.O.Sink.rest_both c.loop-patch.patch tt all c.loop-patch.invariant)
+    let i = c.loop-patch.patch in
+    let all : i ≡ length v.patches = subst (λ (ps : List FilePatch). i ≡ length ps) c.patches-patch-end.ensures.patches (omega (arith, c.loop-patch-test.false, c.loop-patch.auto.patch-end)) in
+    rw (grepped-is hit j v) (found-ends (text_if_found hit j v.text) v.patches g.met.O.Sink.rest_both i tt all c.loop-patch.invariant)

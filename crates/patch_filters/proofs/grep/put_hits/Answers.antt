@@ -99,3 +99,12 @@ returns g c =
     let first = first-hunk flags text p at long c.args.first c.requires.first in
     let end : c.loop-hunk.hunk ≡ length xs = omega (arith, c.loop-hunk-test.false, c.loop-hunk.auto.hunk-end, c.hunks-hunk-end.ensures text, rows-counted text p.change, rows-long flags text p (row_count p.change) at.each long, first) in
     found-ends text_if xs g.met.O.Sink.rest_both c.loop-hunk.hunk tt end c.loop-hunk.invariant
+
+pub put_hunk-requires-clause-placed : goal.put_hunk-requires-clause-placed
+put_hunk-requires-clause-placed g c = c.requires.placed
+
+pub put_if_hit-requires-clause-lawful : goal.put_if_hit-requires-clause-lawful
+put_if_hit-requires-clause-lawful g c = c.requires.lawful
+
+pub put_if_hit-requires-clause-placed : goal.put_if_hit-requires-clause-placed
+put_if_hit-requires-clause-placed g c = c.requires.placed

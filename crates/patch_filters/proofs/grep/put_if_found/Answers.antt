@@ -1,4 +1,4 @@
-use Rattle.std.proofs.Common.{◌≡◌, true, false, ◌&&◌, Some, sym, ap, subst, ◌∙◌, rules}
+use Rattle.std.proofs.Common.{◌≡◌, true, false, ◌&&◌, Some, sym, ap, subst, ◌∙◌}
 use Rattle.std.specs.List.{list_any}
 use Rattle.std.proofs.lemmas.Option.{same_Some}
 use Rattle.file_patch.specs.PlainPatch.{change_of, header_of, patch_of}
@@ -32,9 +32,8 @@ returns-then-not-is_selected g c = λ p is.
     let v = c.args.set.now in
     let j = plain_grep_job c.args.job.now in
     let hit = test_of (g.F.Finder.view c.args.finder.now) in
-    let none : c.is_selected.result ≡ false = search rules in
     let left_out : is_found hit j (patch_of v.text p) ≡ false =
-    ap (λ b. b && list_any (λ is. is) (hits_of hit (change_of v.text p.change))) (sym (c.is_selected.ensures ∙ ap (is_selected j.select) (c.plain_name.ensures p is)) ∙ none) in
+    ap (λ b. b && list_any (λ is. is) (hits_of hit (change_of v.text p.change))) (sym (c.is_selected.ensures ∙ ap (is_selected j.select) (c.plain_name.ensures p is)) ∙ c.if-not-is_selected.true) in
     rw left_out (finds-done tt (found-none g.met.O.Sink.rest_none (g.F.Finder.view c.args.finder.now) c.args.out.now))
 
 pub returns-in_err-first : goal.returns-in_err-first
@@ -53,8 +52,7 @@ returns-in_default g c = λ p is.
     let moved = hits-same hit c.text.result.now v.text found p c.text.ensures same in
     let no_hit : list_any (λ is. is) (hits_of hit (change_of v.text p.change)) ≡ false =
     subst (λ fs. list_any (λ is. is) fs ≡ false) moved (subst (IsFirst flags) (c.in_default.is) c.in_ok-first.ensures.first) in
-    let met : c.is_selected.result ≡ true = search rules in
-    let selected : is_selected j.select (plain_name (header_of v.text p.header)) ≡ true = sym (c.is_selected.ensures ∙ ap (is_selected j.select) (c.plain_name.ensures p is)) ∙ met in
+    let selected : is_selected j.select (plain_name (header_of v.text p.header)) ≡ true = sym (c.is_selected.ensures ∙ ap (is_selected j.select) (c.plain_name.ensures p is)) ∙ c.if-not-is_selected.false in
     let left_out : is_found hit j (patch_of v.text p) ≡ false = ap (λ b. b && list_any (λ is. is) (hits_of hit (change_of v.text p.change))) selected ∙ no_hit in
     rw left_out (finds-done tt (found-asked (found-none g.met.O.Sink.rest_none (g.F.Finder.view c.args.finder.now) c.args.out.now) c.in_ok-first.ensures.asked))
 
@@ -69,9 +67,14 @@ returns g c = λ p is.
     let moved = hits-same hit c.text.result.now v.text found p c.text.ensures same in
     let some : list_any (λ is. is) (hits_of hit (change_of v.text p.change)) ≡ true =
     subst (λ fs. list_any (λ is. is) fs ≡ true) moved (first-some flags c.in-Some.first (subst (IsFirst flags) c.in-Some.is c.in_ok-first.ensures.first)) in
-    let met : c.is_selected.result ≡ true = search rules in
-    let selected : is_selected j.select (plain_name (header_of v.text p.header)) ≡ true = sym (c.is_selected.ensures ∙ ap (is_selected j.select) (c.plain_name.ensures p is)) ∙ met in
+    let selected : is_selected j.select (plain_name (header_of v.text p.header)) ≡ true = sym (c.is_selected.ensures ∙ ap (is_selected j.select) (c.plain_name.ensures p is)) ∙ c.if-not-is_selected.false in
     let taken : is_found hit j (patch_of v.text p) ≡ true = ap (λ b. b && list_any (λ is. is) (hits_of hit (change_of v.text p.change))) selected ∙ some in
     rw taken (finds-more c.put_found.result g.met.O.Sink.rest_both
     (found-asked (found-none g.met.O.Sink.rest_none (g.F.Finder.view c.args.finder.now) c.args.out.now) c.in_ok-first.ensures.asked)
     (by-first (λ hit. found_text hit j.output v.text p) c.in_ok-first.ensures.asked (c.put_found.ensures p is)))
+
+pub first_hit-requires-clause-kept : goal.first_hit-requires-clause-kept
+first_hit-requires-clause-kept g c = c.requires.kept
+
+pub put_found-requires-clause-within : goal.put_found-requires-clause-within
+put_found-requires-clause-within g c = c.requires.within

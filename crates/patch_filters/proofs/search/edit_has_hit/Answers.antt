@@ -1,8 +1,9 @@
-use Rattle.std.proofs.Common.{◌≡◌, ◌<◌, true, false, length, sym, ap, ◌∙◌, arith, rules}
+use Rattle.std.proofs.Common.{◌≡◌, ◌<◌, true, false, length, sym, ap, ◌∙◌, arith, refl}
 use Rattle.line_list.proofs.Elements.{found}
+use Rattle.outside.proofs.Exits.{if_ok_none}
 use Rattle.patch_header.specs.Content.{content}
 use Rattle.patch_filters.specs.Grepped.{test_of}
-use Rattle.patch_filters.proofs.Searching.{none-more, none-there, some-here}
+use Rattle.patch_filters.proofs.Searching.{asked-both, asked-none, none-more, none-there, some-here, still-kept}
 use Rattle.patch_filters.proofs.Hits.{span-count, span-flag, span_flags, spans-any}
 use Rattle.patch_filters.proofs.search.edit_has_hit.Goals as goal
 
@@ -12,9 +13,8 @@ returns-then-branch-clause-hit g c =
     let items = c.args.edit.now.added.items in
     let i = c.loop-i.i in
     let mid = test_of (g.F.Finder.view c.loop-i.finder) in
-    let lt : i < length items = search rules in
-    let met : c.in_ok-has_hit.field-0 ≡ true = search rules in
-    some-here (span_flags text items) i c.loop-i.invariant (span-flag text items mid i c.index-span.result.now true (found items i c.index-span.result.now lt c.index-span.ensures) (sym met ∙ (c.in_ok-has_hit.ensures.hit ∙ ap (λ l. mid (content l)) c.bytes_at.ensures)))
+    let lt : i < length items = omega (arith, c.loop-i-test.true) in
+    some-here (span_flags text items) i c.loop-i.invariant (span-flag text items mid i c.index-span.result.now true (found items i c.index-span.result.now lt c.index-span.ensures) (sym c.if-branch.true ∙ (c.in_ok-has_hit.ensures.hit ∙ ap (λ l. mid (content l)) c.bytes_at.ensures)))
     ∙ spans-any text items (test_of (g.F.Finder.view c.args.finder.now))
 
 pub loop-i-preserved : goal.loop-i-preserved
@@ -23,15 +23,32 @@ loop-i-preserved g c =
     let items = c.args.edit.now.added.items in
     let i = c.loop-i.i in
     let mid = test_of (g.F.Finder.view c.loop-i.finder) in
-    let lt : i < length items = search rules in
-    let none : c.in_ok-has_hit.field-0 ≡ false = search rules in
-    none-more (span_flags text items) i c.loop-i.invariant c.in_ok-has_hit.ensures.asked (span-flag text items mid i c.index-span.result.now false (found items i c.index-span.result.now lt c.index-span.ensures) (sym none ∙ (c.in_ok-has_hit.ensures.hit ∙ ap (λ l. mid (content l)) c.bytes_at.ensures)))
+    let lt : i < length items = omega (arith, c.loop-i-test.true) in
+    none-more (span_flags text items) i c.loop-i.invariant c.in_ok-has_hit.ensures.asked (span-flag text items mid i c.index-span.result.now false (found items i c.index-span.result.now lt c.index-span.ensures) (sym c.if-branch.false ∙ (c.in_ok-has_hit.ensures.hit ∙ ap (λ l. mid (content l)) c.bytes_at.ensures)))
 
 pub returns-clause-hit : goal.returns-clause-hit
 returns-clause-hit g c =
     let text = c.args.text.now in
     let items = c.args.edit.now.added.items in
     let i = c.loop-i.i in
-    let all : i ≡ length items = search rules in
+    let all : i ≡ length items = omega (arith, c.loop-i-test.false, c.loop-i.auto.i-end) in
     let hit = test_of (g.F.Finder.view c.args.finder.now) in
     sym (none-there (span_flags text items) i c.loop-i.invariant (omega (arith, all, span-count text items hit))) ∙ spans-any text items hit
+
+pub loop-i-init : goal.loop-i-init
+loop-i-init g c = record { asked = asked-none (g.F.Finder.view c.args.finder.now); none = refl }
+
+pub has_hit-requires : goal.has_hit-requires
+has_hit-requires g c = still-kept c.loop-i.invariant.asked c.requires.kept
+
+pub returns-then-branch-clause-asked : goal.returns-then-branch-clause-asked
+returns-then-branch-clause-asked g c = asked-both c.loop-i.invariant.asked c.in_ok-has_hit.ensures.asked
+
+pub returns-in_err-has_hit-clause-hit : goal.returns-in_err-has_hit-clause-hit
+returns-in_err-has_hit-clause-hit g c = if_ok_none _ _ c.from_residual.result c.from_residual.ensures.1
+
+pub returns-in_err-has_hit-clause-asked : goal.returns-in_err-has_hit-clause-asked
+returns-in_err-has_hit-clause-asked g c = asked-both c.loop-i.invariant.asked c.in_err-has_hit.ensures.asked
+
+pub returns-clause-asked : goal.returns-clause-asked
+returns-clause-asked g c = c.loop-i.invariant.asked

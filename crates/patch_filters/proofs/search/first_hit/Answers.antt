@@ -1,10 +1,10 @@
-use Rattle.std.proofs.Common.{◌<◌, false, length, Some, ap, sym, ◌∙◌, arith}
+use Rattle.std.proofs.Common.{◌<◌, false, length, Some, refl, ap, sym, ◌∙◌, arith}
 use Rattle.std.proofs.lemmas.Option.{slice_get-get_or}
 use Rattle.outside.proofs.Exits.{if_ok_none}
 use Rattle.file_patch.specs.PlainPatch.{change_of}
 use Rattle.patch_set.proofs.Named.{rows-counted}
 use Rattle.patch_filters.specs.Grepped.{hits_of, test_of}
-use Rattle.patch_filters.proofs.Searching.{asked-both, flag-of, none-more, none-there}
+use Rattle.patch_filters.proofs.Searching.{asked-both, asked-none, flag-of, none-more, none-there, still-kept}
 use Rattle.patch_filters.proofs.Hits.{hits-long}
 use Rattle.patch_filters.proofs.search.first_hit.Goals as goal
 
@@ -47,3 +47,18 @@ returns-clause-first g c =
 
 pub returns-clause-asked : goal.returns-clause-asked
 returns-clause-asked g c = c.loop-hunk.invariant.asked
+
+pub hunks-hunk-end-requires : goal.hunks-hunk-end-requires
+hunks-hunk-end-requires g c = c.requires.few
+
+pub loop-hunk-init : goal.loop-hunk-init
+loop-hunk-init g c = record { asked = asked-none (g.F.Finder.view c.args.finder.now); none = refl }
+
+pub is_hit-requires-clause-kept : goal.is_hit-requires-clause-kept
+is_hit-requires-clause-kept g c = still-kept c.loop-hunk.invariant.asked c.requires.kept
+
+pub is_hit-requires-clause-lawful : goal.is_hit-requires-clause-lawful
+is_hit-requires-clause-lawful g c = c.requires.lawful
+
+pub is_hit-requires-clause-within : goal.is_hit-requires-clause-within
+is_hit-requires-clause-within g c = omega (arith, c.loop-hunk-test.true, c.hunks-hunk-end.ensures c.args.text.now, rows-counted c.args.text.now c.args.patch.now.change)

@@ -12,3 +12,15 @@ returns-in-Hunks-clause-hit g c =
     let h = c.index.result.now in
     let within = subst (λ x. i < row_count x) c.in-Hunks.is c.requires.within in
     rw c.in-Hunks.is (subst (λ flag. IfOk c.hunk_has_hit.result (λ b. b ≡ flag)) (sym (hunk-hits c.args.text.now (test_of (g.F.Finder.view c.args.finder.now)) hs i h (found hs i h within c.index.ensures))) c.hunk_has_hit.ensures.hit)
+
+pub hunk_has_hit-requires-clause-kept : goal.hunk_has_hit-requires-clause-kept
+hunk_has_hit-requires-clause-kept g c = c.requires.kept
+
+pub script_has_hit-requires-clause-kept : goal.script_has_hit-requires-clause-kept
+script_has_hit-requires-clause-kept g c = c.requires.kept
+
+pub returns-in-Hunks-clause-asked : goal.returns-in-Hunks-clause-asked
+returns-in-Hunks-clause-asked g c = c.hunk_has_hit.ensures.asked
+
+pub returns-in-Script-clause-asked : goal.returns-in-Script-clause-asked
+returns-in-Script-clause-asked g c = c.script_has_hit.ensures.asked
