@@ -1,5 +1,5 @@
 -- A body, tagged line by line.
-use Rattle.std.proofs.Common.{◌≡◌, ◌⊎◌, inl, inr, ℕ, zero, suc, ◌+◌, ◌-◌, ◌<◌, ◌≤◌, ◌||◌, List, [], ◌∷◌, ◌++◌, length, map, true, refl, sym, ap, subst, ◌∙◌, arith, append_assoc}
+use Rattle.std.proofs.Common.{◌≡◌, ◌⊎◌, inl, inr, ℕ, zero, suc, ◌+◌, ◌-◌, ◌<◌, ◌≤◌, ◌||◌, List, [], ◌∷◌, ◌++◌, length, map, true, false, refl, sym, ap, subst, ◌∙◌, arith, append_assoc}
 use Rattle.std.proofs.lemmas.List.{append-nil, map-append}
 use Rattle.std.proofs.lemmas.Bool.{cases_lt}
 use Rattle.line_store.specs.Store.{line_at}
@@ -97,6 +97,10 @@ kept-to name lines es from to low order high h =
 pub else-one : (ns : List (List ℕ)) → is_some_line ns ≡ true → texts (else_mark ns) ≡ else_line ∷ []
 else-one [] some = cc
 else-one (a ∷ ns) some = refl
+
+pub else-none : (ns : List (List ℕ)) → is_some_line ns ≡ false → texts (else_mark ns) ≡ []
+else-none [] none = refl
+else-none (a ∷ ns) none = cc
 
 pub opening-some : (name : List ℕ) (ds ns more : List (List ℕ)) → is_some_line ds ≡ true → texts (opening name ds ns) ++ more ≡ ifndef_line name ∷ (ds ++ (texts (else_mark ns) ++ more))
 opening-some name [] ns more some = cc

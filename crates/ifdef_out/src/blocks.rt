@@ -47,6 +47,5 @@ pub fn put_blocks<S: LineStore, O: Sink>(
         next = block.end;
         place = block.behind;
     }
-    let end = copy_within(store, out, now, next, count + 1)?;
-    Ok(end)
+    copy_within(store, out, now, next, count + 1)
 }

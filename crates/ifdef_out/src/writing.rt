@@ -1,15 +1,15 @@
 //! A block written with its conditions.
 
-ghost use Rattle.std.specs.Prelude.{◌≡◌, ◌+◌, ◌≤◌, ◌++◌, ℕ, List, ◌∷◌, length, option_map, IfOk, OnErr, IfErr};
+ghost use Rattle.std.specs.Prelude.{◌+◌, ◌≤◌, length, option_map, IfOk, OnErr, IfErr};
 ghost use Rattle.line_store.specs.Store.{Keeps};
-ghost use Rattle.outside.specs.SinkView.{IsSinkCall, SinkPasses, ReceivesPart};
+ghost use Rattle.outside.specs.SinkView.{IsSinkCall, SinkPasses};
 ghost use Rattle.hunk_core.specs.PlainHunk.{bytes_at};
 ghost use Rattle.hunk_apply.specs.Faults.{HasApplyCause};
 ghost use Rattle.hunk_apply.specs.Splice.{added_line};
-ghost use Rattle.hunk_apply.specs.Written.{WhereTold, Wrote, WroteFront, BrokeOff, join_behind};
-ghost use Rattle.ifdef_out.specs.Chain.{block_added, is_some_line};
+ghost use Rattle.hunk_apply.specs.Written.{WhereTold, WroteFront, BrokeOff};
+ghost use Rattle.ifdef_out.specs.Chain.{block_added};
 ghost use Rattle.ifdef_out.specs.Places.{AreEdits, IsBlock, Lies, WhereDropped, WhereHad, edits_left};
-ghost use Rattle.ifdef_out.specs.Tagged.{block_lines, else_mark, endif_line, ifndef_line, opening, texts};
+ghost use Rattle.ifdef_out.specs.Tagged.{block_lines, opening, texts};
 
 use crate::block::{Block, gap_behind};
 use crate::edits::Edits;
@@ -41,11 +41,13 @@ pub fn put_block<S: LineStore, O: Sink>(
     ensures cause { IfErr result (λ e. HasApplyCause e (S.seen store.old) (S.seen store.new) (O.view out.old) (O.view out.new)) }
 {
     let opened = put_opening(store, out, tail, first, block, define)?;
-    let end = put_rest(out, opened, edits, place, first)?;
+    let added = put_added(out, opened, edits, place, first)?;
+    let end = put_line(out, added, b"#endif\n")?;
     Ok(end)
 }
 
-/// Writes what stands in front of a block's added lines.
+/// Writes what stands in front of a block's added lines: a condition, and behind it the lines that the block drops, if it
+/// drops any, and what parts them from the added ones.
 fn put_opening<S: LineStore, O: Sink>(
     store: &mut S,
     out: &mut O,
@@ -65,62 +67,13 @@ fn put_opening<S: LineStore, O: Sink>(
         let end = put_condition(out, tail, b"#ifdef ", define)?;
         return Ok(end);
     }
-    let end = put_dropped(store, out, tail, first, block, define)?;
-    Ok(end)
-}
-
-/// Writes the lines that a block drops, of which there are some, behind their condition.
-fn put_dropped<S: LineStore, O: Sink>(
-    store: &mut S,
-    out: &mut O,
-    tail: Tail,
-    first: u64,
-    block: Block,
-    define: &str,
-) -> Result<Tail, ApplyFault>
-    ensures written { IfOk result (λ now. WhereDropped (S.seen store.old) first block (λ dropped added. (more : List (List ℕ)) → Wrote (O.view out.old) (O.view out.new) tail now (ifndef_line define.now ∷ (dropped ++ (texts (else_mark added) ++ more))) more)) }
-    ensures part { OnErr result (WhereDropped (S.seen store.old) first block (λ dropped added. (more : List (List ℕ)) → ReceivesPart (O.view out.old) (O.view out.new) (join_behind tail.is_open (ifndef_line define.now ∷ (dropped ++ (texts (else_mark added) ++ more)))))) }
-    ensures keeps { Keeps (S.seen store.old) (S.seen store.new) }
-    ensures sink { SinkPasses (O.view out.old) (O.view out.new) }
-    ensures rest { O.same_rest out.old out.new }
-    ensures cause { IfErr result (λ e. HasApplyCause e (S.seen store.old) (S.seen store.new) (O.view out.old) (O.view out.new)) }
-{
     let opened = put_condition(out, tail, b"#ifndef ", define)?;
     let dropped = copy_within(store, out, opened, first, block.end)?;
-    let end = put_else(out, dropped, block.is_adding)?;
-    Ok(end)
-}
-
-fn put_else<O: Sink>(out: &mut O, tail: Tail, is_adding: bool) -> Result<Tail, Failed>
-    ensures call { IsSinkCall (O.view out.old) (O.view out.new) result }
-    ensures rest { O.same_rest out.old out.new }
-    ensures written { IfOk result (λ now. (added : List (List ℕ)) → is_adding ≡ is_some_line added → WroteFront (O.view out.old) (O.view out.new) tail now (texts (else_mark added))) }
-    ensures part { OnErr result ((added : List (List ℕ)) → is_adding ≡ is_some_line added → BrokeOff (O.view out.old) (O.view out.new) tail (texts (else_mark added))) }
-{
-    if is_adding {
-        let end = put_line(out, tail, b"#else\n")?;
+    if block.is_adding {
+        let end = put_line(out, dropped, b"#else\n")?;
         return Ok(end);
     }
-    Ok(tail)
-}
-
-/// Writes the lines that a block adds, and its end.
-fn put_rest<O: Sink>(
-    out: &mut O,
-    tail: Tail,
-    edits: Edits,
-    place: Place,
-    first: u64,
-) -> Result<Tail, Failed>
-    requires { AreEdits edits }
-    ensures call { IsSinkCall (O.view out.old) (O.view out.new) result }
-    ensures rest { O.same_rest out.old out.new }
-    ensures written { IfOk result (λ now. (more : List (List ℕ)) → Wrote (O.view out.old) (O.view out.new) tail now (block_added first (edits_left edits.entry place) ++ (endif_line ∷ more)) more) }
-    ensures part { OnErr result ((more : List (List ℕ)) → ReceivesPart (O.view out.old) (O.view out.new) (join_behind tail.is_open (block_added first (edits_left edits.entry place) ++ (endif_line ∷ more)))) }
-{
-    let added = put_added(out, tail, edits, place, first)?;
-    let end = put_line(out, added, b"#endif\n")?;
-    Ok(end)
+    Ok(dropped)
 }
 
 /// Writes the lines that a block adds.
@@ -185,6 +138,5 @@ pub fn copy_within<S: LineStore, O: Sink>(
     if from < 1 || from > to || to > count + 1 {
         return Ok(tail);
     }
-    let end = copy_lines(store, out, tail, from, to)?;
-    Ok(end)
+    copy_lines(store, out, tail, from, to)
 }

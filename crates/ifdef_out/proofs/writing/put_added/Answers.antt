@@ -1,6 +1,7 @@
 use Rattle.std.proofs.Common.{◌≡◌, ◌++◌, ℕ, List, [], length, refl, sym, ap, ◌∙◌, arith, append_assoc}
 use Rattle.std.specs.Prelude.{option_map}
 use Rattle.outside.specs.SinkView.{sink_passes_none, sink_passes_both, ReceivesPart}
+use Rattle.outside.proofs.Exits.{if_ok_none}
 use Rattle.hunk_core.specs.PlainHunk.{bytes_at}
 use Rattle.hunk_apply.specs.Splice.{Edit, added_line}
 use Rattle.hunk_apply.specs.Written.{join_behind}
@@ -112,3 +113,18 @@ returns-clause-written g c more =
     let none : block_added q left ≡ [] = ap (block_added q) over ∙ added-none q in
     wrote-same (view c.args.out.now) (view c.loop-found.out) c.args.tail c.loop-found.now (all ++ more) (all ++ more) (block_added q left ++ more) more refl (ap (λ ls. ls ++ more) none)
     (c.loop-found.invariant.written more)
+
+pub returns-in_err-now-clause-written : goal.returns-in_err-now-clause-written
+returns-in_err-now-clause-written g c = if_ok_none _ _ c.from_residual.result c.from_residual.ensures.1
+
+pub returns-then-found-next-clause-part : goal.returns-then-found-next-clause-part
+returns-then-found-next-clause-part g c = tt
+
+pub returns-then-found-next-clause-rest : goal.returns-then-found-next-clause-rest
+returns-then-found-next-clause-rest g c = c.loop-found.invariant.rest
+
+pub returns-clause-part : goal.returns-clause-part
+returns-clause-part g c = tt
+
+pub returns-clause-rest : goal.returns-clause-rest
+returns-clause-rest g c = c.loop-found.invariant.rest
