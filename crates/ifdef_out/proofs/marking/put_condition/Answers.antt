@@ -1,4 +1,5 @@
 use Rattle.std.proofs.Common.{ℕ, List, ◌∷◌, true, refl, subst, arith}
+use Rattle.std.proofs.lemmas.Bool.{false≢true}
 use Rattle.outside.specs.SinkView.{sink_passes_both, Receives, ReceivesPart}
 use Rattle.outside.proofs.Exits.{if_ok_none}
 use Rattle.hunk_apply.specs.Written.{join_behind}
@@ -70,7 +71,7 @@ returns-in_err-put_all-2-clause-rest g c = g.met.O.Sink.rest_both _ _ _ (g.met.O
 pub returns-clause-call : goal.returns-clause-call
 returns-clause-call g c = record {
   passes = sink_passes_both (sink_passes_both c.in_ok-put_line.ensures.call.passes c.in_ok-put_all.ensures.call.passes) c.in_ok-put_all-2.ensures.call.passes;
-  cause = λ err. absurd (cc);
+  cause = λ err. absurd (false≢true err);
 }
 
 pub returns-clause-rest : goal.returns-clause-rest

@@ -1,4 +1,5 @@
-use Rattle.std.proofs.Common.{◌≡◌, ◌++◌, ℕ, List, [], length, refl, sym, ap, ◌∙◌, arith, append_assoc}
+use Rattle.std.proofs.Common.{◌≡◌, ◌++◌, ℕ, List, [], length, true, refl, sym, ap, ◌∙◌, arith, append_assoc}
+use Rattle.std.proofs.lemmas.Bool.{false≢true}
 use Rattle.std.specs.Prelude.{option_map}
 use Rattle.outside.specs.SinkView.{sink_passes_none, sink_passes_both, ReceivesPart}
 use Rattle.outside.proofs.Exits.{if_ok_none}
@@ -80,14 +81,14 @@ returns-in_err-now-clause-part g c =
 pub returns-in_err-now-clause-call : goal.returns-in_err-now-clause-call
 returns-in_err-now-clause-call g c = record {
   passes = sink_passes_both c.loop-found.invariant.sink c.in_err-now.ensures.call.passes;
-  cause = λ err small. omega (arith, c.in_err-now.ensures.call.cause refl small, c.loop-found.invariant.sink.counts);
+  cause = λ err small. omega (arith, c.in_err-now.ensures.call.cause (refl {a = true}) small, c.loop-found.invariant.sink.counts);
 }
 
 pub returns-in_err-now-clause-rest : goal.returns-in_err-now-clause-rest
 returns-in_err-now-clause-rest g c = g.met.O.Sink.rest_both _ _ _ c.loop-found.invariant.rest c.in_err-now.ensures.rest
 
 pub returns-then-found-next-clause-call : goal.returns-then-found-next-clause-call
-returns-then-found-next-clause-call g c = record { passes = c.loop-found.invariant.sink; cause = λ err. absurd (cc) }
+returns-then-found-next-clause-call g c = record { passes = c.loop-found.invariant.sink; cause = λ err. absurd (false≢true err) }
 
 pub returns-then-found-next-clause-written : goal.returns-then-found-next-clause-written
 returns-then-found-next-clause-written g c more =
@@ -101,7 +102,7 @@ returns-then-found-next-clause-written g c more =
     (c.loop-found.invariant.written more)
 
 pub returns-clause-call : goal.returns-clause-call
-returns-clause-call g c = record { passes = c.loop-found.invariant.sink; cause = λ err. absurd (cc) }
+returns-clause-call g c = record { passes = c.loop-found.invariant.sink; cause = λ err. absurd (false≢true err) }
 
 pub returns-clause-written : goal.returns-clause-written
 returns-clause-written g c more =

@@ -1,4 +1,5 @@
 use Rattle.std.proofs.Common.{◌++◌, ℕ, List, true, refl, ap, Option}
+use Rattle.std.proofs.lemmas.Bool.{false≢true}
 use Rattle.std.specs.Prelude.{option_map}
 use Rattle.line_list.specs.declared.Span.{Span}
 use Rattle.outside.specs.SinkView.{sink_passes_none, ReceivesPart}
@@ -36,7 +37,7 @@ pub returns-in_err-now-clause-written : goal.returns-in_err-now-clause-written
 returns-in_err-now-clause-written g c = if_ok_none _ _ c.from_residual.result c.from_residual.ensures.1
 
 pub returns-in-Some-clause-call : goal.returns-in-Some-clause-call
-returns-in-Some-clause-call g c = record { passes = c.in_ok-now.ensures.call.passes; cause = λ err. absurd (cc) }
+returns-in-Some-clause-call g c = record { passes = c.in_ok-now.ensures.call.passes; cause = λ err. absurd (false≢true err) }
 
 pub returns-in-Some-clause-rest : goal.returns-in-Some-clause-rest
 returns-in-Some-clause-rest g c = c.in_ok-now.ensures.rest
@@ -45,7 +46,7 @@ pub returns-in-Some-clause-part : goal.returns-in-Some-clause-part
 returns-in-Some-clause-part g c = tt
 
 pub returns-clause-call : goal.returns-clause-call
-returns-clause-call g c = record { passes = sink_passes_none _; cause = λ err. absurd (cc) }
+returns-clause-call g c = record { passes = sink_passes_none _; cause = λ err. absurd (false≢true err) }
 
 pub returns-clause-rest : goal.returns-clause-rest
 returns-clause-rest g c = g.met.O.Sink.rest_none _
