@@ -1,6 +1,6 @@
-use Rattle.std.proofs.Common.{◌≡◌, ◌≤◌, ◌<◌, ◌^◌, ◌+◌, cond, length, sym, ◌∙◌, arith, rules}
+use Rattle.std.proofs.Common.{◌≡◌, ◌≤◌, ◌<◌, ◌^◌, ◌+◌, ◌++◌, ℕ, cond, length, sym, ap, ◌∙◌, arith, rules}
 use Rattle.hunk_core.specs.Sides.{is_on_side}
-use Rattle.ifdef_out.specs.Places.{hunks_at}
+use Rattle.ifdef_out.specs.Places.{hunks_at, step_edit}
 use Rattle.ifdef_out.proofs.HunkSteps.{none-ahead, hunk-over, line-ahead, line-lies, body-short}
 use Rattle.ifdef_out.proofs.hunks.hunk_step.Goals as goal
 
@@ -31,11 +31,13 @@ returns c =
     let l = c.index.result.now in
     let p = c.args.place in
     let within : c.args.place.line < length c.index-hunks-place.result.body.items = search rules in
-    let at = hunks_at text side c.args.verdicts.now c.args.hunks.now p.row in
+    let s = c.line_step.result in
     record {
       left = line-ahead text side c.args.verdicts.now c.args.hunks.now p.row p.line p.next h l c.if-place-hunks.false c.index-hunks-place.is within c.index.ensures
           ∙ c.line_step.ensures.edit text (hunks_at text side c.args.verdicts.now c.args.hunks.now p.row (p.line + 1) (p.next + cond (is_on_side side l.mark) 1 0))
-          ∙ cc;
+          ∙ ap (λ (k : ℕ). step_edit text s.edit ++ hunks_at text side c.args.verdicts.now c.args.hunks.now k (p.line + 1) (p.next + cond (is_on_side side l.mark) 1 0)) (sym c.line_step.ensures.row)
+          ∙ ap (λ (k : ℕ). step_edit text s.edit ++ hunks_at text side c.args.verdicts.now c.args.hunks.now s.behind.row k (p.next + cond (is_on_side side l.mark) 1 0)) (sym c.line_step.ensures.line)
+          ∙ ap (λ (k : ℕ). step_edit text s.edit ++ hunks_at text side c.args.verdicts.now c.args.hunks.now s.behind.row s.behind.line k) (sym c.line_step.ensures.next);
       shorter = (let row : c.line_step.result.behind.row ≡ c.args.place.row = c.line_step.ensures.row in let line : c.line_step.result.behind.line ≡ c.args.place.line + 1 = c.line_step.ensures.line in omega arith);
       lies = c.line_step.ensures.lies text (line-lies text c.args.hunks.now p.row p.line h l c.requires.lawful c.if-place-hunks.false c.index-hunks-place.is within c.index.ensures);
     }
