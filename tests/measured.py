@@ -1,7 +1,13 @@
-"""The processor time of the checks that rt starts, by samples of /proc, since `rt ci` prints none; and the ledger that keeps it, build/times.json."""
+"""The processor time of the checks that rt starts, by samples of /proc, since `rt ci` prints none; the ledger that keeps it, build/times.json; and
+the words of one check."""
+import functools
+import importlib.machinery
+import importlib.util
 import json
 import os
 import re
+import shutil
+import sys
 import time
 
 LEDGER = "build/times.json"
@@ -183,3 +189,14 @@ def times():
     run = ledger["run"]
     print(f"\nThe last run ({run['at']}): {run['minutes']:.0f} minutes, {run['processor']:.0f} processor minutes, of which {run['noted']:.0f} for checks.")
     return 0
+
+
+def words_of(top, name):
+    """Returns the prover, and the words of a check of a crate from nothing, as rt has them."""
+    path = os.path.join(os.path.dirname(os.path.realpath(shutil.which("rt"))), "rtlib.py")
+    spec = importlib.util.spec_from_loader("rtlib", importlib.machinery.SourceFileLoader("rtlib", path))
+    rtlib = sys.modules["rtlib"] = importlib.util.module_from_spec(spec)
+    spec.loader.exec_module(rtlib)
+    # (rt makes this list anew for each way to a crate)
+    rtlib.Crate.below = functools.cache(rtlib.Crate.below)
+    return rtlib.RATTLE, rtlib.Crate(f"{top}/crates/{name}", top, {}).words(["--jobs", "1"], keeps=False)
