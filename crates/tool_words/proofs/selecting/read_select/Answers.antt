@@ -1,4 +1,4 @@
-use Rattle.std.proofs.Common.{◌∙◌, ap, inr, option_map, refl, sym}
+use Rattle.std.proofs.Common.{◌∙◌, ap, inl, inr, option_map, refl, sym}
 use Rattle.clap.proofs.TakesLemmas.{passed_up}
 use Rattle.outside.proofs.Exits.{if_ok_none}
 use Rattle.patch_options.specs.Simple.{rows_in}
@@ -44,3 +44,36 @@ returns-in-Ok-patterns-2-clause-lawful c =
     (ap (has_form is_number) (sym c.value_of.ensures) ∙ (sym c.is_number.ensures ∙ c.if-not-is_number.false))
     (ap (has_form is_name) (sym c.value_of-2.ensures) ∙ c.in_ok-include_file.ensures.lawful)
     (ap (has_form is_name) (sym c.value_of-3.ensures) ∙ c.in-Ok.ensures.lawful)
+
+pub returns-in-Err-patterns-2-clause-refused : goal.returns-in-Err-patterns-2-clause-refused
+returns-in-Err-patterns-2-clause-refused c = inl refl
+
+pub returns-in-Err-patterns-clause-refused : goal.returns-in-Err-patterns-clause-refused
+returns-in-Err-patterns-clause-refused c = inl refl
+
+pub returns-in-Err-patterns-2-clause-select : goal.returns-in-Err-patterns-2-clause-select
+returns-in-Err-patterns-2-clause-select c = tt
+
+pub returns-in-Err-patterns-2-clause-lawful : goal.returns-in-Err-patterns-2-clause-lawful
+returns-in-Err-patterns-2-clause-lawful c = tt
+
+pub returns-in-Err-patterns-clause-select : goal.returns-in-Err-patterns-clause-select
+returns-in-Err-patterns-clause-select c = tt
+
+pub returns-in-Err-patterns-clause-lawful : goal.returns-in-Err-patterns-clause-lawful
+returns-in-Err-patterns-clause-lawful c = tt
+
+pub returns-in-Err-clause-select : goal.returns-in-Err-clause-select
+returns-in-Err-clause-select c = tt
+
+pub returns-in-Err-clause-lawful : goal.returns-in-Err-clause-lawful
+returns-in-Err-clause-lawful c = tt
+
+pub returns-then-not-is_number-clause-select : goal.returns-then-not-is_number-clause-select
+returns-then-not-is_number-clause-select c = tt
+
+pub returns-then-not-is_number-clause-lawful : goal.returns-then-not-is_number-clause-lawful
+returns-then-not-is_number-clause-lawful c = tt
+
+pub returns-in-Ok-patterns-2-clause-refused : goal.returns-in-Ok-patterns-2-clause-refused
+returns-in-Ok-patterns-2-clause-refused c = tt
