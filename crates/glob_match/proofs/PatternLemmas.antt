@@ -1,8 +1,8 @@
 -- Reading a pattern element by element.
-use Rattle.std.proofs.Common.{◌≡◌, ◌≢◌, ℕ, zero, suc, ◌+◌, ◌-◌, ◌<◌, ◌≤◌, ⊎_elim, Bool, true, false, cond, eqb, List, [], ◌∷◌, length, get_or, take, drop, Option, None, Some, refl, subst, sym, ap, ◌∙◌, arith, length-drop, length-take}
+use Rattle.std.proofs.Common.{◌≡◌, ◌≢◌, ℕ, zero, suc, ◌+◌, ◌-◌, ◌<◌, ◌≤◌, ⊎_elim, ◌||◌, Bool, true, false, cond, eqb, ltb, List, [], ◌∷◌, length, get_or, take, drop, Option, None, Some, refl, subst, sym, ap, ◌∙◌, arith, length-drop, length-take}
 use Rattle.std.specs.Prelude.{option_map, slice_range}
 use Rattle.std.proofs.lemmas.List.{drop_all, drop_more, drop-drop}
-use Rattle.std.proofs.lemmas.Bool.{cases_lt, eq-eqb, false≢true}
+use Rattle.std.proofs.lemmas.Bool.{cases_lt, eq-eqb, false≢true, le-ltb, ne_eqb}
 use Rattle.glob_match.specs.Walking.{IsFront}
 use Rattle.glob_match.specs.declared.Piece.TheVariants.{OneOf as OneOfPiece}
 use Rattle.glob_match.specs.Pattern.{Byte, before_bracket, members_of, set_front, is_sign, after_open, front_of, elements_after, elements}
@@ -94,3 +94,15 @@ backslash-front pattern at is lt = rw (is, drop_more pattern (at + 1) 0 lt) refl
 pub backslash-last : (pattern : List ℕ) (at : ℕ) → get_or pattern at 0 ≡ 92 → length pattern ≤ at + 1 → front_of (get_or pattern at 0) (drop (at + 1) pattern) ≡ record { element = Byte 92; size = 1 }
 unfolding front_of
 backslash-last pattern at is le = rw (is, drop_all (at + 1) pattern le) refl
+
+-- whether a sign stands at a place, by the tests of its byte
+pub sign-past : (pattern : List ℕ) (k : ℕ) → length pattern ≤ k → ltb k (length pattern) ≡ is_sign (drop k pattern)
+sign-past pattern k le = le-ltb k (length pattern) le ∙ sym (ap is_sign (drop_all k pattern le))
+
+pub sign-first : (pattern : List ℕ) (k : ℕ) → k < length pattern → get_or pattern k 0 ≡ 33 → eqb (get_or pattern k 0) 33 ≡ is_sign (drop k pattern)
+sign-first pattern k lt is =
+    let same = eq-eqb (get_or pattern k 0) 33 is in
+    same ∙ sym (ap is_sign (drop_more pattern k 0 lt) ∙ ap (λ t. t || eqb (get_or pattern k 0) 94) same)
+
+pub sign-second : (pattern : List ℕ) (k : ℕ) → k < length pattern → get_or pattern k 0 ≢ 33 → eqb (get_or pattern k 0) 94 ≡ is_sign (drop k pattern)
+sign-second pattern k lt other = sym (ap is_sign (drop_more pattern k 0 lt) ∙ ap (λ t. t || eqb (get_or pattern k 0) 94) (ne_eqb (get_or pattern k 0) 33 other))

@@ -46,3 +46,12 @@ returns-else-place-name-2 c = λ m.
     let whole = sym c.loop-at.invariant.same ∙ walk-none c.args.pattern.now c.loop-at.at (drop c.loop-at.place c.args.name.now) c.loop-at-test.false in
     let none = (done-match (elements (drop c.args.start c.args.pattern.now)) (drop c.args.from c.args.name.now) (drop c.loop-at.place c.args.name.now) whole).0 m in
     omega (arith, ap length none, length-drop c.loop-at.place c.args.name.now)
+
+pub loop-at-smaller : goal.loop-at-smaller
+loop-at-smaller c = omega (arith, c.read_at-read.ensures.low, c.read_at-read.ensures.high)
+
+pub takes-requires : goal.takes-requires
+takes-requires c = c.read_at-read.ensures.lies
+
+pub bounds-name-place : goal.bounds-name-place
+bounds-name-place c = let within = c.loop-at.invariant.within in omega arith
