@@ -2,10 +2,10 @@
 use Rattle.std.proofs.Common.{◌≡◌, ℕ, zero, suc, ◌+◌, ◌<◌, ◌≤◌, Bool, true, false, ◌||◌, List, [], ◌∷◌, length, drop, refl, sym, subst, arith}
 use Rattle.std.proofs.Common.{inl, inr}
 use Rattle.std.proofs.lemmas.Bool.{cases_lt, and_from, and_parts, or_left, or_right}
-use Rattle.std.specs.Prelude.{◌↔◌, IsTrue, ◌==◌}
+use Rattle.std.specs.Prelude.{◌↔◌, IsTrue}
 use Rattle.std.specs.List.{list_any, range_with_len}
 use Rattle.glob_match.specs.Pattern.{Element, Run, Any, Byte, OneOf, elements}
-use Rattle.glob_match.specs.Matching.{takes, fits, does_match, Match, Matches}
+use Rattle.glob_match.specs.Matching.{fits, does_match, Match, Matches}
 
 -- ---- one of the numbers in a row passes a test
 

@@ -1,9 +1,11 @@
 -- Reading a pattern element by element.
-use Rattle.std.proofs.Common.{◌≡◌, ◌≢◌, ℕ, zero, suc, ◌+◌, ◌-◌, ◌<◌, true, false, cond, eqb, List, [], ◌∷◌, length, get_or, take, drop, None, Some, refl, sym, ap, ◌∙◌, arith}
+use Rattle.std.proofs.Common.{◌≡◌, ◌≢◌, ℕ, zero, suc, ◌+◌, ◌-◌, ◌<◌, ◌≤◌, ⊎_elim, ◌||◌, Bool, true, false, cond, eqb, ltb, List, [], ◌∷◌, length, get_or, take, drop, Option, None, Some, refl, subst, sym, ap, ◌∙◌, arith, length-drop, length-take}
 use Rattle.std.specs.Prelude.{option_map, slice_range}
-use Rattle.std.proofs.lemmas.List.{drop_more, drop-drop}
-use Rattle.std.proofs.lemmas.Bool.{eq-eqb}
-use Rattle.glob_match.specs.Pattern.{before_bracket, members_of, set_front, is_sign, after_open, front_of, elements_after, elements}
+use Rattle.std.proofs.lemmas.List.{drop_all, drop_more, drop-drop}
+use Rattle.std.proofs.lemmas.Bool.{cases_lt, eq-eqb, false≢true, le-ltb, ne_eqb}
+use Rattle.glob_match.specs.Walking.{IsFront}
+use Rattle.glob_match.specs.declared.Piece.TheVariants.{OneOf as OneOfPiece}
+use Rattle.glob_match.specs.Pattern.{Byte, before_bracket, members_of, set_front, is_sign, after_open, front_of, elements_after, elements}
 
 skipped : (skip : ℕ) (bs : List ℕ) → elements_after skip bs ≡ elements_after 0 (drop skip bs)
 unfolding elements_after
@@ -64,3 +66,43 @@ pub sign-open : (pattern : List ℕ) (at : ℕ) → true ≡ is_sign (drop (at +
 sign-open pattern at e =
     ap (λ v. cond v (set_front true 1 (members_of (drop 1 (drop (at + 1) pattern)))) (set_front false 0 (members_of (drop (at + 1) pattern)))) (sym e)
     ∙ ap (λ r. set_front true 1 (members_of r)) (drop-drop 1 (at + 1) pattern)
+
+pub sign-shut : (pattern : List ℕ) (at k : ℕ) → k ≡ at + 1 → false ≡ is_sign (drop (at + 1) pattern) → after_open (drop (at + 1) pattern) ≡ set_front false 0 (members_of (drop k pattern))
+sign-shut pattern at k same e =
+    ap (λ v. cond v (set_front true 1 (members_of (drop 1 (drop (at + 1) pattern)))) (set_front false 0 (members_of (drop (at + 1) pattern)))) (sym e)
+    ∙ ap (λ n. set_front false 0 (members_of (drop n pattern))) (sym same)
+
+pub sign-there : (pattern : List ℕ) (k : ℕ) → true ≡ is_sign (drop k pattern) → k < length pattern
+sign-there pattern k is = ⊎_elim (λ lt. lt) (λ le. absurd (false≢true (sym (is ∙ ap is_sign (drop_all k pattern le))))) (cases_lt k (length pattern))
+
+-- a set that has an end
+pub set-is : (pattern : List ℕ) (at sign start end : ℕ) (is_opposite : Bool) (o : Option (List ℕ)) → start ≡ at + sign + 1 → start < end → end < length pattern → o ≡ Some (slice_range pattern start end)
+    → IsFront pattern at (set_front is_opposite sign o) (record { piece = OneOfPiece is_opposite start end; next = end + 1 })
+set-is pattern at sign start end is_opposite o begins low high is =
+    subst (λ m. IsFront pattern at (set_front is_opposite sign m) (record { piece = OneOfPiece is_opposite start end; next = end + 1 })) (sym is) (record {
+      element = refl;
+      next = omega (arith, begins, low, high, length-take (end - start) (drop start pattern), length-drop start pattern);
+      low = omega (arith, begins, low);
+      high = omega (arith, high);
+      lies = (omega (arith, low), omega (arith, high));
+    })
+
+pub backslash-front : (pattern : List ℕ) (at : ℕ) → get_or pattern at 0 ≡ 92 → at + 1 < length pattern → front_of (get_or pattern at 0) (drop (at + 1) pattern) ≡ record { element = Byte (get_or pattern (at + 1) 0); size = 2 }
+unfolding front_of
+backslash-front pattern at is lt = rw (is, drop_more pattern (at + 1) 0 lt) refl
+
+pub backslash-last : (pattern : List ℕ) (at : ℕ) → get_or pattern at 0 ≡ 92 → length pattern ≤ at + 1 → front_of (get_or pattern at 0) (drop (at + 1) pattern) ≡ record { element = Byte 92; size = 1 }
+unfolding front_of
+backslash-last pattern at is le = rw (is, drop_all (at + 1) pattern le) refl
+
+-- whether a sign stands at a place, by the tests of its byte
+pub sign-past : (pattern : List ℕ) (k : ℕ) → length pattern ≤ k → ltb k (length pattern) ≡ is_sign (drop k pattern)
+sign-past pattern k le = le-ltb k (length pattern) le ∙ sym (ap is_sign (drop_all k pattern le))
+
+pub sign-first : (pattern : List ℕ) (k : ℕ) → k < length pattern → get_or pattern k 0 ≡ 33 → eqb (get_or pattern k 0) 33 ≡ is_sign (drop k pattern)
+sign-first pattern k lt is =
+    let same = eq-eqb (get_or pattern k 0) 33 is in
+    same ∙ sym (ap is_sign (drop_more pattern k 0 lt) ∙ ap (λ t. t || eqb (get_or pattern k 0) 94) same)
+
+pub sign-second : (pattern : List ℕ) (k : ℕ) → k < length pattern → get_or pattern k 0 ≢ 33 → eqb (get_or pattern k 0) 94 ≡ is_sign (drop k pattern)
+sign-second pattern k lt other = sym (ap is_sign (drop_more pattern k 0 lt) ∙ ap (λ t. t || eqb (get_or pattern k 0) 94) (ne_eqb (get_or pattern k 0) 33 other))

@@ -1,10 +1,9 @@
 -- Whether a chosen target is in the tree.
-use Rattle.std.proofs.Common.{◌≡◌, ℕ, zero, suc, ◌<◌, List, [], ◌∷◌, length, get_or, slice_get, option_map, Bool, true, false, cond, ltb, Option, None, Some, Result, Ok, Err, refl, sym, ap, subst, ◌∙◌, arith}
+use Rattle.std.proofs.Common.{◌≡◌, ℕ, zero, suc, ◌<◌, ◌≤◌, List, [], ◌∷◌, length, get_or, slice_get, Bool, true, false, cond, ltb, Option, None, Some, Result, Ok, Err, refl, sym, ap, subst, ◌∙◌, arith}
 use Rattle.std.specs.Prelude.{IfSome, IfOk}
 use Rattle.std.specs.List.{position, position_or_len}
 use Rattle.std.specs.Option.{option_map_or}
 use Rattle.std.proofs.lemmas.Bool.{ltb-false}
-use Rattle.std.proofs.lemmas.Option.{slice_get-map}
 use Rattle.std.proofs.lemmas.List.Quantifiers.{position-Some}
 use Rattle.std.proofs.lemmas.List.Sums.{fails_before_first}
 use Rattle.outside.specs.Files.{Files}
@@ -23,6 +22,11 @@ get-there : (names : List (List ℕ)) (k : ℕ) → k < length names → slice_g
 get-there [] k lt = absurd (omega (arith, lt))
 get-there (n ∷ names) zero lt = refl
 get-there (n ∷ names) (suc k) lt = get-there names k (omega (arith, lt))
+
+get-none : (names : List (List ℕ)) (k : ℕ) → length names ≤ k → slice_get names k ≡ None
+get-none [] k past = refl
+get-none (n ∷ names) zero past = absurd (omega (arith, past))
+get-none (n ∷ names) (suc k) past = get-none names k (omega (arith, past))
 
 -- where no name passes a test, each fails it
 none-passes : (test : List ℕ → Bool) (names : List (List ℕ)) → position test names ≡ None → (j : ℕ) → j < length names → test (name_at names j) ≡ false
@@ -113,8 +117,10 @@ moved-after u v targets k false same is lt files told = tt
 moved-after u v targets k true same is lt files told = moved-found targets files k true (is files (sym same ∙ told)) (lt refl)
 
 -- the name at a place, by the target there
-pub there-at : (files : Files) (targets : List Target) (k : ℕ) (t : Target) (b : Bool) → slice_get targets k ≡ Some t → b ≡ is_there files t.name → b ≡ is_there_at files (names_of targets) k
-there-at files targets k t b at is = is ∙ sym (ap (λ o. option_map_or (is_there files) o false) (slice_get-map (λ x. x.name) targets k ∙ ap (option_map (λ x. x.name)) at))
+pub there-at : (files : Files) (targets : List Target) (k : ℕ) (t : Target) (b : Bool) → k < length targets → t ≡ get_or targets k t → b ≡ is_there files t.name → b ≡ is_there_at files (names_of targets) k
+there-at files targets k t b lt at is =
+    let here : slice_get (names_of targets) k ≡ Some (name_at (names_of targets) k) = get-there (names_of targets) k (let e = names-count targets in omega (arith, lt, e)) in
+    is ∙ ap (is_there files) (named-at targets k t lt at) ∙ sym (ap (λ o. option_map_or (is_there files) o false) here)
 
-pub nowhere-at : (files : Files) (targets : List Target) (k : ℕ) → slice_get targets k ≡ None → false ≡ is_there_at files (names_of targets) k
-nowhere-at files targets k at = sym (ap (λ o. option_map_or (is_there files) o false) (slice_get-map (λ x. x.name) targets k ∙ ap (option_map (λ x. x.name)) at))
+pub nowhere-at : (files : Files) (targets : List Target) (k : ℕ) → length targets ≤ k → false ≡ is_there_at files (names_of targets) k
+nowhere-at files targets k past = sym (ap (λ o. option_map_or (is_there files) o false) (get-none (names_of targets) k (let e = names-count targets in omega (arith, past, e))))

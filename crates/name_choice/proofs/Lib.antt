@@ -3,6 +3,7 @@ pub mod Fewest
 pub mod Walked
 pub mod Counted
 pub mod Found
+pub mod Chosen
 pub mod Front
 pub mod Directories
 pub mod First

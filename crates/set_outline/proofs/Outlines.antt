@@ -1,5 +1,5 @@
 -- File patches without their hunks are refused as they are with them.
-use Rattle.std.proofs.Common.{◌≡◌, ℕ, Bool, true, false, cond, not, ◌&&◌, if◌then◌else◌, List, [], ◌∷◌, ◌++◌, length, map, None, Some, Ok, refl, sym, ap, ◌∙◌, option_map}
+use Rattle.std.proofs.Common.{◌≡◌, ℕ, Bool, true, false, cond, not, ◌&&◌, if◌then◌else◌, List, [], ◌∷◌, ◌++◌, length, map, None, Some, Result, Ok, Err, IfOk, refl, subst, sym, ap, ◌∙◌, option_map}
 use Rattle.std.specs.Prelude.{◌==◌, ◌||◌, is_some, nat_lt}
 use Rattle.std.specs.List.{find, list_any}
 use Rattle.std.specs.Option.{option_to_list}
@@ -7,19 +7,22 @@ use Rattle.std.proofs.lemmas.List.{length-map}
 use Rattle.line_list.specs.Completed.{completed}
 use Rattle.hunk_core.proofs.ReadSteps.{bind_ok, ok_is}
 use Rattle.unified_form.specs.declared.skim.OldRange.{OldRange}
-use Rattle.file_patch.specs.PlainPatch.{PlainChange, PlainHeader, PlainPatch, hunks, script, is_script}
+use Rattle.file_patch.specs.PlainPatch.{PlainChange, PlainHeader, PlainPatch, hunks, patch_of, script, is_script}
 use Rattle.patch_options.specs.PlainJob.{PlainOptions}
 use Rattle.target_names.specs.Numbered.{distinct}
 use Rattle.target_names.specs.Targets.{is_reserved}
 use Rattle.patch_text.specs.Patches.{patches_of}
-use Rattle.patch_text.specs.Digests.{digest, digested_all, digests_of, no_hunks}
+use Rattle.patch_text.specs.Digests.{AreDigests, digest, digested_all, digests_of, no_hunks}
 use Rattle.patch_text.specs.Outlines.{only_hunk, outline, outlined_all, outlines_of}
+use Rattle.patch_text.specs.Regions.{region_of, regions_of}
 use Rattle.patch_set.specs.declared.fault.SetFault.{SetFault}
 use Rattle.patch_set.specs.declared.fault.SetFault.TheVariants as faults
 use Rattle.patch_set.specs.Asked.{ways_of}
 use Rattle.patch_set.specs.Named.{names_of, known_names, patch_names, targets_of}
 use Rattle.patch_set.specs.Refusals.{first_of, garbage, out_many, ed_reverse, has_reserved, reserves_output, reserved, is_too_long, refusal, refusal_of}
 use Rattle.patch_set.proofs.Completing.{read-refusal}
+use Rattle.set_outline.specs.Digested.{DigestView, IsDigestOf}
+use Rattle.set_outline.specs.Outlined.{OutlineView, IsOutline}
 
 same-script : (c : PlainChange) → is_script (only_hunk c) ≡ is_script c
 same-script (hunks []) = refl
@@ -79,3 +82,27 @@ digest-refusal o text whole qs olds short is read =
     let a = bind_ok (patches_of (ways_of o) whole) digested_all (qs, olds) read in
     let same : map digest a.0 ≡ qs = ap (λ (x : List PlainPatch × List (List OldRange)). x.0) (ok_is _ _ a.2) in
     ap (λ (rs : List PlainPatch). refusal_of o whole (Ok rs)) (sym same) ∙ same-refusal digest (λ p. refl) (λ p. bare-script p.change) o whole a.0 ∙ read-refusal o text whole a.0 short is a.1
+
+-- what is given is the outline of the text, where its text and its file patches are those that were read
+pub is-outline : (o : PlainOptions) (given text : List ℕ) (ps : List PlainPatch) (r : Result OutlineView SetFault) → text ≡ completed given → outlines_of (ways_of o) text ≡ Ok ps
+    → IfOk r (λ v. v.text ≡ text) → IfOk r (λ v. map (patch_of text) v.patches ≡ ps) → IfOk r (IsOutline o given)
+is-outline o given text ps (Ok v) whole read same plain = record {
+  text = same ∙ whole;
+  patches = subst (λ t. outlines_of (ways_of o) t ≡ Ok (map (patch_of t) v.patches)) (sym same) (read ∙ ap (λ (qs : List PlainPatch). Ok qs) (sym plain));
+}
+is-outline o given text ps (Err e) whole read same plain = tt
+
+pub is-digest : (o : PlainOptions) (given text : List ℕ) (ps : List PlainPatch) (olds : List (List OldRange)) (r : Result DigestView SetFault) → text ≡ completed given → digests_of (ways_of o) text ≡ Ok (ps, olds)
+    → IfOk r (λ v. v.text ≡ text) → IfOk r (λ v. map (patch_of text) v.patches ≡ ps) → IfOk r (λ v. v.olds ≡ olds) → IfOk r (λ v. map region_of v.patches ≡ regions_of (ways_of o) text)
+    → IfOk r (λ v. AreDigests text v.patches v.olds) → IfOk r (IsDigestOf o given)
+is-digest o given text ps olds (Ok v) whole read same plain ranges regions are = record {
+  text = same ∙ whole;
+  patches = subst (λ t. digests_of (ways_of o) t ≡ Ok (map (patch_of t) v.patches, v.olds)) (sym same) (read ∙ (ap (λ (qs : List PlainPatch). Ok (qs, olds)) (sym plain) ∙ ap (λ (os : List (List OldRange)). Ok (map (patch_of text) v.patches, os)) (sym ranges)));
+  regions = subst (λ t. map region_of v.patches ≡ regions_of (ways_of o) t) (sym same) regions;
+  are = subst (λ t. AreDigests t v.patches v.olds) (sym same) are;
+}
+is-digest o given text ps olds (Err e) whole read same plain ranges regions are = tt
+
+-- want of memory that is passed on
+pub memory-of : {R S P : Type 0} (fault : SetFault) → (◌≡◌ {A = Result R SetFault} (Err fault) (Err faults.Memory) → P) → ◌≡◌ {A = Result S SetFault} (Err fault) (Err faults.Memory) → P
+memory-of fault law is = law (let same : fault ≡ faults.Memory = cc in ap (λ (e : SetFault). Err e) same)

@@ -1,7 +1,7 @@
 -- What is gathered of the file patches of a set are the names that its patch saves.
-use Rattle.std.proofs.Common.{◌≡◌, ℕ, suc, ◌<◌, append_assoc, List, [], ◌∷◌, ◌++◌, map, length, Bool, true, false, ◌||◌, nat_lt, Option, None, Some, refl, sym, ◌∙◌, ap, subst, arith, if◌then◌else◌}
+use Rattle.std.proofs.Common.{◌≡◌, ℕ, suc, append_assoc, List, [], ◌∷◌, ◌++◌, map, length, Bool, true, false, ◌||◌, Option, None, Some, refl, sym, ◌∙◌, ap, subst, arith, if◌then◌else◌}
 use Rattle.std.specs.Prelude.{bytes_eq}
-use Rattle.std.specs.List.{AllByRecursion, fold, find, flat_map, list_any}
+use Rattle.std.specs.List.{AllByRecursion, fold, find, list_any}
 use Rattle.std.specs.Option.{option_or, option_map_or, option_to_list}
 use Rattle.std.proofs.lemmas.Bool.{lt-ltb, le-ltb}
 use Rattle.std.proofs.lemmas.List.{append-nil, map-append}

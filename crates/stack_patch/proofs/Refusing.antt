@@ -84,6 +84,9 @@ pub some_refused : (o : PlainOptions) (text : List ℕ) (fault : SetFault) → o
 some_refused o text fault same (inl memory) = (text, inl memory)
 some_refused o text fault same (inr refused) = (text, inr (ap (λ (x : PlainOptions). refusal x text) (sym same) ∙ refused))
 
+pub text_refused : (o : PlainOptions) (text : List ℕ) (fault : SetFault) → o ≡ push_options → (fault ≡ faults.Memory) ⊎ (refusal o text ≡ Some fault) → IsRefusedSo (Set fault) text
+text_refused o text fault same refused = subst (λ (x : PlainOptions). (fault ≡ faults.Memory) ⊎ (refusal x text ≡ Some fault)) same refused
+
 -- ---- what is refused of the text is refused of the file that holds it
 
 module _ {R : Type 0} (u w : TreeView) (name text : List ℕ) (held : (f : Files) → u.told ≡ Some f → get f name ≡ Some text) where

@@ -2,4 +2,5 @@ pub mod Free
 pub mod Items
 pub mod Selection
 pub mod Lawful
+pub mod Making
 pub mod Reading

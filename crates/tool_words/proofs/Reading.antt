@@ -1,5 +1,6 @@
 -- What words ask of a tool, by what was matched in them.
-use Rattle.std.proofs.Common.{◌≡◌, ◌⊎◌, ◌∙◌, ◌&&◌, Bool, true, false, List, Result, Ok, Err, IsErrAnd, IfOk, IfErr, ap, refl, subst, sym, inl, inr, if◌then◌else◌}
+use Rattle.std.proofs.Common.{◌≡◌, ◌⊎◌, ◌∙◌, ◌&&◌, ◌<◌, ◌≤◌, Bool, true, false, List, [], ◌∷◌, Option, Result, Ok, Err, IsErrAnd, IfOk, IfErr, ap, arith, refl, subst, sym, inl, inr, get_or, length, map, if◌then◌else◌}
+use Rattle.std.specs.Option.{option_map_or}
 use Rattle.clap.specs.Words.{App, Row, Text, is_simple_and_free}
 use Rattle.clap.proofs.TakesLemmas.{passed_up}
 use Rattle.patch_options.specs.Simple.{PlainWord, simple_command, takes, rows_by}
@@ -7,8 +8,8 @@ use Rattle.patch_options.specs.declared.options.WordFault.{WordFault}
 use Rattle.patch_options.specs.declared.options.WordFault.TheVariants.{Usage, Memory}
 use Rattle.tool_words.specs.Asked.{is_lawful, asked}
 use Rattle.tool_words.specs.PlainJobs.{PlainToolJob, IsLawfulToolJob, plain_tool_job}
-use Rattle.tool_words.specs.Tools.{command_of, name_of, table_of}
-use Rattle.tool_words.specs.Words.{job_by}
+use Rattle.tool_words.specs.Tools.{command_of, name_of, table_of, tool_named}
+use Rattle.tool_words.specs.Words.{job_by, tool_job}
 use Rattle.tool_words.specs.declared.jobs.ToolJob.{ToolJob}
 use Rattle.tool_words.specs.declared.tools.Tool.{Tool}
 use Rattle.tool_words.proofs.Free.{command_is_free}
@@ -77,3 +78,20 @@ pub jobs_lawful : (tool : Tool) (rows : List Row) (r : Result ToolJob WordFault)
     → IfOk r (λ job. IsLawfulToolJob (plain_tool_job job))
 jobs_lawful tool rows (Ok job) is lawful = subst IsLawfulToolJob (sym is) (lawful_job tool rows lawful)
 jobs_lawful tool rows (Err fault) is lawful = tt
+
+-- ---- the tool that the first word names
+
+module _ {S : Type 0} (text : S → Text) where
+  pub job_by_name : (words : List S) (first : S) (name : Text) → 1 ≤ length words → first ≡ get_or words 0 first → name ≡ text first
+      → (found : Option Tool) → found ≡ tool_named name → tool_job (map text words) ≡ option_map_or (λ tool. job_by tool (map text words)) found (Err Usage)
+  job_by_name [] first name some at name-is found is = absurd (omega (arith, some))
+  job_by_name (word ∷ words) first name some at name-is found is =
+      ap (λ (t : Option Tool). option_map_or (λ tool. job_by tool (map text (word ∷ words))) t (Err Usage)) (ap (λ (w : S). tool_named (text w)) (sym at) ∙ (ap tool_named (sym name-is) ∙ sym is))
+
+  pub no_job : (words : List S) → length words < 1 → tool_job (map text words) ≡ Err Usage
+  no_job [] none = refl
+  no_job (word ∷ words) none = absurd (omega (arith, none))
+
+pub refused_so : {job other : Result PlainToolJob WordFault} (fault : WordFault) → job ≡ other → (fault ≡ Memory) ⊎ (other ≡ Err fault) → (fault ≡ Memory) ⊎ (job ≡ Err fault)
+refused_so fault is (inl memory) = inl memory
+refused_so fault is (inr refused) = inr (is ∙ refused)

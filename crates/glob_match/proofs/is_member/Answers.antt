@@ -38,3 +38,12 @@ loop-at-preserved c =
 
 pub returns : goal.returns
 returns c = sym (sym c.loop-at.invariant.same ∙ none-at c.args.members.now c.loop-at.at c.args.byte c.loop-at-test.false)
+
+pub bounds-members-at-then-members-at : goal.bounds-members-at-then-members-at
+bounds-members-at-then-members-at c = omega arith
+
+pub bounds-members-at-then-members-at-eq45 : goal.bounds-members-at-then-members-at-eq45
+bounds-members-at-then-members-at-eq45 c = omega arith
+
+pub loop-at-smaller-then-members-at-eq45 : goal.loop-at-smaller-then-members-at-eq45
+loop-at-smaller-then-members-at-eq45 c = omega arith

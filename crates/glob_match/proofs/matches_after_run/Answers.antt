@@ -1,4 +1,5 @@
 use Rattle.std.proofs.Common.{drop, refl, arith}
+use Rattle.std.proofs.lemmas.Bool.{false≢true}
 use Rattle.std.proofs.lemmas.List.{drop_all}
 use Rattle.glob_match.specs.Pattern.{elements}
 use Rattle.glob_match.proofs.MatchLemmas.{run-met, run-on-at, run-end-at, run-whole}
@@ -15,7 +16,7 @@ loop-next-preserved-in-Run c =
 
 pub returns-then-place-name : goal.returns-then-place-name
 returns-then-place-name c =
-    (λ h. absurd cc, λ m. absurd (run-end-at (elements (drop c.loop-next.at c.args.pattern.now)) (drop c.loop-next.place c.args.name.now) (drop_all c.loop-next.place c.args.name.now (omega arith)) c.in-Mismatch.ensures (c.loop-next.invariant.forth m)))
+    (λ h. absurd (false≢true h), λ m. absurd (run-end-at (elements (drop c.loop-next.at c.args.pattern.now)) (drop c.loop-next.place c.args.name.now) (drop_all c.loop-next.place c.args.name.now (omega arith)) c.in-Mismatch.ensures (c.loop-next.invariant.forth m)))
 
 pub loop-next-preserved : goal.loop-next-preserved
 loop-next-preserved c =

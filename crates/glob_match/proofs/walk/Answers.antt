@@ -1,5 +1,6 @@
-use Rattle.std.proofs.Common.{◌≡◌, length, drop, true, sym, ap, ◌∙◌, arith, length-drop}
+use Rattle.std.proofs.Common.{◌≡◌, length, drop, sym, ap, ◌∙◌, arith, length-drop}
 use Rattle.glob_match.specs.declared.Piece.TheVariants.{Run as RunPiece}
+use Rattle.std.proofs.lemmas.Bool.{false≢true}
 use Rattle.std.proofs.lemmas.List.{drop_all}
 use Rattle.glob_match.specs.Pattern.{elements}
 use Rattle.glob_match.proofs.MatchLemmas.{stop-fails, done-match}
@@ -15,17 +16,17 @@ returns-then-is_run c =
 
 pub returns-then-place-name : goal.returns-then-place-name
 returns-then-place-name c =
-    let ne : c.read_at-read.result.piece ≡ RunPiece → ⊥ = λ e. (let t : c.is_run.result ≡ true = c.is_run.ensures.1 e in let f = c.if-is_run.false in cc) in
+    let ne : c.read_at-read.result.piece ≡ RunPiece → ⊥ = λ e. false≢true (sym c.if-is_run.false ∙ c.is_run.ensures.1 e) in
     stop-fails (elements (drop c.args.start c.args.pattern.now)) (drop c.args.from c.args.name.now) (sym c.loop-at.invariant.same ∙ walk-end c.args.pattern.now c.loop-at.at c.read_at-read.result c.loop-at-test.true c.read_at-read.ensures c.args.name.now c.loop-at.place ne (omega arith))
 
 pub returns-then-not-takes : goal.returns-then-not-takes
 returns-then-not-takes c =
-    let ne : c.read_at-read.result.piece ≡ RunPiece → ⊥ = λ e. (let t : c.is_run.result ≡ true = c.is_run.ensures.1 e in let f = c.if-is_run.false in cc) in
+    let ne : c.read_at-read.result.piece ≡ RunPiece → ⊥ = λ e. false≢true (sym c.if-is_run.false ∙ c.is_run.ensures.1 e) in
     stop-fails (elements (drop c.args.start c.args.pattern.now)) (drop c.args.from c.args.name.now) (sym c.loop-at.invariant.same ∙ walk-other c.args.pattern.now c.loop-at.at c.read_at-read.result c.loop-at-test.true c.read_at-read.ensures c.args.name.now c.loop-at.place ne (omega arith) (sym c.takes.ensures ∙ c.if-not-takes.true))
 
 pub loop-at-preserved : goal.loop-at-preserved
 loop-at-preserved c =
-    let ne : c.read_at-read.result.piece ≡ RunPiece → ⊥ = λ e. (let t : c.is_run.result ≡ true = c.is_run.ensures.1 e in let f = c.if-is_run.false in cc) in
+    let ne : c.read_at-read.result.piece ≡ RunPiece → ⊥ = λ e. false≢true (sym c.if-is_run.false ∙ c.is_run.ensures.1 e) in
     let i = c.loop-at.invariant in
     let r = c.read_at-read.ensures in record {
       low = omega (arith, r.low);
@@ -45,3 +46,12 @@ returns-else-place-name-2 c = λ m.
     let whole = sym c.loop-at.invariant.same ∙ walk-none c.args.pattern.now c.loop-at.at (drop c.loop-at.place c.args.name.now) c.loop-at-test.false in
     let none = (done-match (elements (drop c.args.start c.args.pattern.now)) (drop c.args.from c.args.name.now) (drop c.loop-at.place c.args.name.now) whole).0 m in
     omega (arith, ap length none, length-drop c.loop-at.place c.args.name.now)
+
+pub loop-at-smaller : goal.loop-at-smaller
+loop-at-smaller c = omega (arith, c.read_at-read.ensures.low, c.read_at-read.ensures.high)
+
+pub takes-requires : goal.takes-requires
+takes-requires c = c.read_at-read.ensures.lies
+
+pub bounds-name-place : goal.bounds-name-place
+bounds-name-place c = let within = c.loop-at.invariant.within in omega arith

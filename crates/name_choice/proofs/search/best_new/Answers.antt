@@ -1,7 +1,10 @@
-use Rattle.std.proofs.Common.{length, true, refl, ◌≡◌, ◌∙◌, arith}
+use Rattle.std.proofs.Common.{length, true, refl, ◌≡◌, ◌∙◌, ◌<◌, arith, subst}
+use Rattle.std.specs.Prelude.{IfSome}
+use Rattle.name_choice.specs.Rank.{place_of}
 use Rattle.outside.proofs.Views.{untouched_both}
 use Rattle.name_choice.specs.Choice.{new_directories, names_of}
-use Rattle.name_choice.proofs.Walked.{walk-more, named-at, names-count, new-end}
+use Rattle.name_choice.proofs.Chosen.{late_cause}
+use Rattle.name_choice.proofs.Walked.{walk-more, named-at, names-count, place-within, walk-start, new-end}
 use Rattle.name_choice.proofs.search.best_new.Goals as goal
 
 pub returns-in_err-missing-clause-untouched : goal.returns-in_err-missing-clause-untouched
@@ -17,3 +20,18 @@ loop-place-preserved g c =
 
 pub returns-clause-best : goal.returns-clause-best
 returns-clause-best g c = λ files told. c.place_of.ensures ∙ new-end _ _ (names_of c.args.targets.now) c.loop-place.place c.loop-place.best c.loop-place.invariant (let a : c.loop-place.place ≡ length c.args.targets.now = omega arith in a ∙ names-count c.args.targets.now) files told
+
+pub returns-in_err-missing-clause-cause : goal.returns-in_err-missing-clause-cause
+returns-in_err-missing-clause-cause g c =
+    late_cause (g.T.Tree.view c.args.tree.now) (g.T.Tree.view c.loop-place.tree) (g.T.Tree.view c.new_directories.new.tree) c.from_residual.result c.loop-place.invariant.untouched c.in_err-missing.ensures.cause
+
+pub returns-clause-untouched : goal.returns-clause-untouched
+returns-clause-untouched g c = c.loop-place.invariant.untouched
+
+pub returns-clause-within : goal.returns-clause-within
+returns-clause-within g c =
+    let all : c.loop-place.place ≡ length c.args.targets.now = omega arith in
+    rw c.place_of.ensures (subst (λ n. IfSome (place_of c.loop-place.best) (λ k. k < n)) all (place-within c.loop-place.place c.loop-place.best c.loop-place.invariant.within))
+
+pub loop-place-init : goal.loop-place-init
+loop-place-init g c = walk-start _ (λ files name. true) new_directories _

@@ -2,6 +2,7 @@ use Rattle.std.proofs.Common.{length, ◌≡◌, ◌∙◌, ◌<◌, arith}
 use Rattle.outside.proofs.Views.{untouched_both}
 use Rattle.name_choice.specs.Choice.{names_of}
 use Rattle.name_choice.proofs.First.{sought-start, sought-more, first-here, first-none}
+use Rattle.name_choice.proofs.Chosen.{late_cause}
 use Rattle.name_choice.proofs.Walked.{named-at, names-count}
 use Rattle.name_choice.proofs.search.first_existing.Goals as goal
 
@@ -29,3 +30,7 @@ loop-place-preserved g c =
 
 pub returns-clause-first : goal.returns-clause-first
 returns-clause-first g c = λ files told. first-none _ _ (names_of c.args.targets.now) c.loop-place.place c.loop-place.invariant (let a : c.loop-place.place ≡ length c.args.targets.now = omega arith in a ∙ names-count c.args.targets.now) files told
+
+pub returns-in_err-there-clause-cause : goal.returns-in_err-there-clause-cause
+returns-in_err-there-clause-cause g c =
+    late_cause (g.T.Tree.view c.args.tree.now) (g.T.Tree.view c.loop-place.tree) (g.T.Tree.view c.is_there.new.tree) c.from_residual.result c.loop-place.invariant.untouched c.in_err-there.ensures.cause

@@ -20,3 +20,18 @@ returns-in-Ok-clause-job c = λ i. list_job (record {
 
 pub returns-in-Ok-clause-lawful : goal.returns-in-Ok-clause-lawful
 returns-in-Ok-clause-lawful c = all_yes _ _ (sym c.are_list_words.ensures ∙ c.if-not-are_list_words.false) c.in-Ok.ensures.lawful
+
+pub returns-in-Ok-clause-refused : goal.returns-in-Ok-clause-refused
+returns-in-Ok-clause-refused c = tt
+
+pub returns-in-Err-clause-job : goal.returns-in-Err-clause-job
+returns-in-Err-clause-job c = tt
+
+pub returns-in-Err-clause-lawful : goal.returns-in-Err-clause-lawful
+returns-in-Err-clause-lawful c = tt
+
+pub returns-then-not-are_list_words-clause-job : goal.returns-then-not-are_list_words-clause-job
+returns-then-not-are_list_words-clause-job c = tt
+
+pub returns-then-not-are_list_words-clause-lawful : goal.returns-then-not-are_list_words-clause-lawful
+returns-then-not-are_list_words-clause-lawful c = tt

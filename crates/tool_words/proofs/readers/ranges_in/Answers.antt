@@ -47,3 +47,30 @@ returns-in-Ok-read_ranges-clause-lawful c =
     all_yes _ _ (ap (has_form is_ranges) (sym c.value_of.ensures) ∙ c.in_ok-hunks.ensures.lawful)
     (all_yes _ _ (ap (has_form is_ranges) (sym c.value_of-2.ensures) ∙ c.in-Ok.ensures.lawful)
     (ap (has_form is_ranges) (sym c.value_of-3.ensures) ∙ c.in-Ok-read_ranges.ensures.lawful))
+
+pub returns-in-Ok-read_ranges-clause-refused : goal.returns-in-Ok-read_ranges-clause-refused
+returns-in-Ok-read_ranges-clause-refused c = tt
+
+pub returns-in-Err-clause-hunks : goal.returns-in-Err-clause-hunks
+returns-in-Err-clause-hunks c = tt
+
+pub returns-in-Err-clause-lines : goal.returns-in-Err-clause-lines
+returns-in-Err-clause-lines c = tt
+
+pub returns-in-Err-clause-files : goal.returns-in-Err-clause-files
+returns-in-Err-clause-files c = tt
+
+pub returns-in-Err-clause-lawful : goal.returns-in-Err-clause-lawful
+returns-in-Err-clause-lawful c = tt
+
+pub returns-in-Err-read_ranges-clause-hunks : goal.returns-in-Err-read_ranges-clause-hunks
+returns-in-Err-read_ranges-clause-hunks c = tt
+
+pub returns-in-Err-read_ranges-clause-lines : goal.returns-in-Err-read_ranges-clause-lines
+returns-in-Err-read_ranges-clause-lines c = tt
+
+pub returns-in-Err-read_ranges-clause-files : goal.returns-in-Err-read_ranges-clause-files
+returns-in-Err-read_ranges-clause-files c = tt
+
+pub returns-in-Err-read_ranges-clause-lawful : goal.returns-in-Err-read_ranges-clause-lawful
+returns-in-Err-read_ranges-clause-lawful c = tt

@@ -1,11 +1,14 @@
-use Rattle.std.proofs.Common.{◌∙◌, [], Option, false, ap, inr, refl, sym}
+use Rattle.std.proofs.Common.{◌∙◌, ◌&&◌, [], Option, false, ap, codes, inr, refl, sym}
 use Rattle.std.specs.Option.{option_map_or}
 use Rattle.clap.specs.Words.{Text}
-use Rattle.patch_options.proofs.Refusing.{refused_as, no_right, all_yes}
+use Rattle.patch_options.specs.Simple.{rows_in}
+use Rattle.patch_options.specs.Table.{is_single, value_of}
+use Rattle.patch_options.proofs.Refusing.{refused_as, no_left, no_right, all_yes}
 use Rattle.tool_words.specs.Asked.{is_split_file}
 use Rattle.tool_words.specs.PlainJobs.PlainToolJob.{split_job}
 use Rattle.tool_words.specs.Selecting.{name_in}
 use Rattle.tool_words.proofs.readers.split_of.Goals as goal
+use Rattle.tool_words.proofs.readers.split_of.Goals.{then-not-is_single-via-then-not-is_single, then-not-is_single-via-else-not-is_single+then-not-is_single-2}
 
 pub returns-in_default-clause-refused : goal.returns-in_default-clause-refused
 returns-in_default-clause-refused c = inr (refl, no_right _ _ (ap (λ (text : Option Text). option_map_or is_split_file text false) (sym c.in_default.ensures)))
@@ -26,3 +29,37 @@ returns-in-Ok-clause-lawful c =
     all_yes _ _
     (all_yes _ _ (sym c.is_single.ensures ∙ c.if-not-is_single.false) (sym c.is_single-else-not-is_single.ensures ∙ c.if-not-is_single-2.false))
     (ap (λ (text : Option Text). option_map_or is_split_file text false) (sym c.in-Some.ensures) ∙ c.in-Ok.ensures.lawful)
+
+pub returns-then-not-is_single-clause-refused : goal.returns-then-not-is_single-clause-refused
+returns-then-not-is_single-clause-refused c =
+    let rows = rows_in c.args.matches.now in
+    let every = is_single rows (codes "every") in
+    let skips = is_single rows (codes "skip-binary") in
+    inr (
+      refl,
+      no_left (every && skips) (option_map_or is_split_file (value_of rows (codes "file")) false) (elim c.then-not-is_single.branch [
+        | then-not-is_single-via-then-not-is_single w ↦ no_left every skips (sym c.is_single.ensures ∙ w.if-not-is_single.true)
+        | then-not-is_single-via-else-not-is_single+then-not-is_single-2 w ↦ no_right every skips (sym w.is_single-else-not-is_single.ensures ∙ w.if-not-is_single-2.true)
+      ]),
+    )
+
+pub returns-in-Ok-clause-refused : goal.returns-in-Ok-clause-refused
+returns-in-Ok-clause-refused c = tt
+
+pub returns-in-Err-clause-job : goal.returns-in-Err-clause-job
+returns-in-Err-clause-job c = tt
+
+pub returns-in-Err-clause-lawful : goal.returns-in-Err-clause-lawful
+returns-in-Err-clause-lawful c = tt
+
+pub returns-in_default-clause-job : goal.returns-in_default-clause-job
+returns-in_default-clause-job c = tt
+
+pub returns-in_default-clause-lawful : goal.returns-in_default-clause-lawful
+returns-in_default-clause-lawful c = tt
+
+pub returns-then-not-is_single-clause-job : goal.returns-then-not-is_single-clause-job
+returns-then-not-is_single-clause-job c = tt
+
+pub returns-then-not-is_single-clause-lawful : goal.returns-then-not-is_single-clause-lawful
+returns-then-not-is_single-clause-lawful c = tt

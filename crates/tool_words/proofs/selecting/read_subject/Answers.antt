@@ -1,5 +1,6 @@
 use Rattle.std.proofs.Common.{◌∙◌, inr, refl, sym}
 use Rattle.clap.proofs.TakesLemmas.{passed_up}
+use Rattle.outside.proofs.Exits.{if_ok_none}
 use Rattle.patch_options.proofs.Refusing.{refused_as, no_left, no_right, all_yes}
 use Rattle.tool_words.proofs.selecting.read_subject.Goals as goal
 
@@ -22,3 +23,33 @@ returns-in-Ok-clause-select c = c.in-Ok.ensures.select
 
 pub returns-in-Ok-clause-lawful : goal.returns-in-Ok-clause-lawful
 returns-in-Ok-clause-lawful c = all_yes _ _ (sym c.is_single.ensures ∙ c.if-not-is_single.false) (all_yes _ _ c.in-Ok.ensures.lawful c.in_ok-input.ensures.lawful)
+
+pub returns-in-Ok-clause-refused : goal.returns-in-Ok-clause-refused
+returns-in-Ok-clause-refused c = tt
+
+pub returns-in-Err-clause-input : goal.returns-in-Err-clause-input
+returns-in-Err-clause-input c = tt
+
+pub returns-in-Err-clause-select : goal.returns-in-Err-clause-select
+returns-in-Err-clause-select c = tt
+
+pub returns-in-Err-clause-lawful : goal.returns-in-Err-clause-lawful
+returns-in-Err-clause-lawful c = tt
+
+pub returns-then-not-is_single-clause-input : goal.returns-then-not-is_single-clause-input
+returns-then-not-is_single-clause-input c = tt
+
+pub returns-then-not-is_single-clause-select : goal.returns-then-not-is_single-clause-select
+returns-then-not-is_single-clause-select c = tt
+
+pub returns-then-not-is_single-clause-lawful : goal.returns-then-not-is_single-clause-lawful
+returns-then-not-is_single-clause-lawful c = tt
+
+pub returns-in_err-input-clause-input : goal.returns-in_err-input-clause-input
+returns-in_err-input-clause-input c = if_ok_none _ _ c.from_residual.result c.from_residual.ensures.1
+
+pub returns-in_err-input-clause-select : goal.returns-in_err-input-clause-select
+returns-in_err-input-clause-select c = if_ok_none _ _ c.from_residual.result c.from_residual.ensures.1
+
+pub returns-in_err-input-clause-lawful : goal.returns-in_err-input-clause-lawful
+returns-in_err-input-clause-lawful c = if_ok_none _ _ c.from_residual.result c.from_residual.ensures.1
