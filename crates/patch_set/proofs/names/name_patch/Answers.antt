@@ -27,3 +27,6 @@ returns-clause-named c = λ others.
       few = omega (arith, ap length targets, length-map (names_of o h) (target_in o known), names-few o h);
       temps = c.in_ok-patch.ensures.temps;
     }
+
+pub returns-clause-known : goal.returns-clause-known
+returns-clause-known c = c.in_ok-patch.ensures.known ∙ ap (joined_by c.args.numbers.now) (c.deref.ensures.value ∙ c.in_ok-names.ensures.names)

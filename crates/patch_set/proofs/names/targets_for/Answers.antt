@@ -1,12 +1,12 @@
-use Rattle.std.proofs.Common.{◌≡◌, ◌+◌, ◌∷◌, ◌++◌, [], List, take, All, sym, ap, subst, ◌∙◌, arith}
-use Rattle.std.proofs.lemmas.List.{take_more}
+use Rattle.std.proofs.Common.{◌≡◌, ◌+◌, ◌∷◌, ◌++◌, [], List, take, All, sym, ap, subst, ◌∙◌, arith, map}
+use Rattle.std.proofs.lemmas.List.{take_more, take_all}
 use Rattle.std.proofs.lemmas.List.Elements.{All-push}
 use Rattle.patch_options.specs.PlainJob.{plain_options}
 use Rattle.target_names.specs.declared.derived.Target.{Target}
-use Rattle.target_names.specs.Numbered.{with_name}
+use Rattle.target_names.specs.Numbered.{with_name, joined_by}
 use Rattle.target_names.specs.Targets.{HasTemps}
 use Rattle.patch_set.specs.Named.{target_in}
-use Rattle.patch_set.proofs.Joined.{joined-nil, known-more, targets-more}
+use Rattle.patch_set.proofs.Joined.{AreTargets, joined-nil, known-more, targets-more}
 use Rattle.patch_set.proofs.names.targets_for.Goals as goal
 
 none-yet : (ts : List Target) → ts ≡ [] → All HasTemps ts
@@ -32,6 +32,21 @@ loop-name-preserved c =
     let is : t ≡ target_in o (with_name c.loop-name.numbers name) name = c.in_ok-target.ensures.target ∙ ap (λ k. target_in o k name) one in
     record {
       known = known-more c.args.numbers.now c.args.names.now i name c.loop-name.numbers c.target.new.numbers c.loop-name.invariant.known one more;
-      targets = rw (more, pushed, one) (targets-more o c.loop-name.numbers (take i c.args.names.now) c.loop-name.targets.items name t c.loop-name.invariant.targets is);
+      targets = subst (λ l. AreTargets o c.target.new.numbers l c.push.new.self.items) (sym more)
+          (subst (λ ts. AreTargets o c.target.new.numbers (take i c.args.names.now ++ name ∷ []) ts) (sym pushed)
+          (subst (λ k. AreTargets o k (take i c.args.names.now ++ name ∷ []) (c.loop-name.targets.items ++ t ∷ [])) (sym one)
+          (targets-more o c.loop-name.numbers (take i c.args.names.now) c.loop-name.targets.items name t c.loop-name.invariant.targets is)));
       temps = subst (λ l. All HasTemps l) (sym pushed) (All-push HasTemps c.loop-name.targets.items t c.loop-name.invariant.temps c.in_ok-target.ensures.temps);
     }
+
+pub returns-clause-known : goal.returns-clause-known
+returns-clause-known c =
+    c.loop-name.invariant.known ∙ ap (joined_by c.args.numbers.now) (take_all c.loop-name.name-index c.args.names.now c.loop-name-test.false)
+
+pub returns-clause-targets : goal.returns-clause-targets
+returns-clause-targets c = λ others.
+    c.loop-name.invariant.targets.are others
+    ∙ ap (map (target_in (plain_options c.args.options.now) (joined_by c.loop-name.numbers others))) (take_all c.loop-name.name-index c.args.names.now c.loop-name-test.false)
+
+pub returns-clause-temps : goal.returns-clause-temps
+returns-clause-temps c = c.loop-name.invariant.temps
