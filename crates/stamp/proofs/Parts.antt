@@ -306,3 +306,18 @@ module _ (text : List ℕ) (at end : ℕ) (high : end ≤ length text) (low : at
       by : (v : Bool) → is_digit (get_or (drop at text) 1 0) ≡ v → drop at text ≡ cond (stands (drop at text) 0 46 && is_digit (get_or (drop at text) 1 0)) (after_digits (drop 1 (drop at text))) (drop at text)
       by false e = let none : (stands (drop at text) 0 46 && is_digit (get_or (drop at text) 1 0)) ≡ false = and_right _ _ e in rw none refl
       by true e = absurd (omega (arith, longs, after-shorter (drop (at + 1) text) (ap is_digit (sym second) ∙ e), length-drop (at + 1) text))
+
+-- where no dot stands there is no fraction
+pub fraction-plain : (text : List ℕ) (at : ℕ) → stands text at 46 ≡ false → drop at text ≡ after_fraction (drop at text)
+unfolding after_fraction
+fraction-plain text at none = rw first refl
+  where
+    plain : (k : ℕ) → k + 0 ≡ k
+    plain k = omega arith
+
+    first : stands (drop at text) 0 46 ≡ false
+    first = ap (λ b. eqb b 46) (get_or-drop at text 0 0 ∙ ap (λ k. get_or text k 0) (plain at)) ∙ none
+
+-- a byte that stands in a text is within it
+pub stands-within : (text : List ℕ) (at byte : ℕ) → stands text at byte ≡ true → 0 < byte → at + 1 ≤ length text
+stands-within text at byte is some = omega (arith, ap length (byte-piece text at byte is some), length-drop at text)
