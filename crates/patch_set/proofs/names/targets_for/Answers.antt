@@ -7,6 +7,7 @@ use Rattle.target_names.specs.Numbered.{with_name, joined_by}
 use Rattle.target_names.specs.Targets.{HasTemps}
 use Rattle.patch_set.specs.Named.{target_in}
 use Rattle.patch_set.proofs.Joined.{AreTargets, joined-nil, known-more, targets-more}
+use Rattle.outside.proofs.Exits.{if_ok_none, on_ok_none}
 use Rattle.patch_set.proofs.names.targets_for.Goals as goal
 
 none-yet : (ts : List Target) → ts ≡ [] → All HasTemps ts
@@ -50,3 +51,24 @@ returns-clause-targets c = λ others.
 
 pub returns-clause-temps : goal.returns-clause-temps
 returns-clause-temps c = c.loop-name.invariant.temps
+
+pub returns-in_err-push-clause-known : goal.returns-in_err-push-clause-known
+returns-in_err-push-clause-known c = on_ok_none _ _ c.from_residual-in_err-push.result c.from_residual-in_err-push.ensures.1
+
+pub returns-in_err-push-clause-targets : goal.returns-in_err-push-clause-targets
+returns-in_err-push-clause-targets c = if_ok_none _ _ c.from_residual-in_err-push.result c.from_residual-in_err-push.ensures.1
+
+pub returns-in_err-push-clause-temps : goal.returns-in_err-push-clause-temps
+returns-in_err-push-clause-temps c = if_ok_none _ _ c.from_residual-in_err-push.result c.from_residual-in_err-push.ensures.1
+
+pub returns-in_err-target-clause-known : goal.returns-in_err-target-clause-known
+returns-in_err-target-clause-known c = on_ok_none _ _ c.from_residual-in_err-target.result c.from_residual-in_err-target.ensures.1
+
+pub returns-in_err-target-clause-targets : goal.returns-in_err-target-clause-targets
+returns-in_err-target-clause-targets c = if_ok_none _ _ c.from_residual-in_err-target.result c.from_residual-in_err-target.ensures.1
+
+pub returns-in_err-target-clause-temps : goal.returns-in_err-target-clause-temps
+returns-in_err-target-clause-temps c = if_ok_none _ _ c.from_residual-in_err-target.result c.from_residual-in_err-target.ensures.1
+
+pub bounds-names-name-index : goal.bounds-names-name-index
+bounds-names-name-index c = c.loop-name-test.true
