@@ -1,15 +1,8 @@
-use Rattle.outside.proofs.Exits.{if_ok_none}
 use Rattle.std.proofs.Common.{◌≡◌, ap, ◌∙◌}
 use Rattle.std.proofs.lemmas.Result.{IfOk-weaker}
 use Rattle.std.specs.Option.{option_copied}
 use Rattle.target_names.specs.Moved.{moved_name, moved_names, two_names}
 use Rattle.target_names.proofs.moved.moved_names.Goals as goal
-
-pub returns-in_err-one : goal.returns-in_err-one
-returns-in_err-one c = if_ok_none _ _ c.from_residual.result c.from_residual.ensures.1
-
-pub returns-in_err-other : goal.returns-in_err-other
-returns-in_err-other c = if_ok_none _ _ c.from_residual-in_err-other.result c.from_residual-in_err-other.ensures.1
 
 pub returns : goal.returns
 returns c =

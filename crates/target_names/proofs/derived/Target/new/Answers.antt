@@ -5,12 +5,6 @@ use Rattle.patch_options.specs.PlainJob.{PlainOptions, plain_options}
 use Rattle.target_names.specs.Targets.{backup_name, below, reject_name, shown_from, target_of}
 use Rattle.target_names.proofs.derived.Target.new.Goals as goal
 
-pub returns-in_err-own-clause-names : goal.returns-in_err-own-clause-names
-returns-in_err-own-clause-names c = if_ok_none _ _ c.from_residual.result c.from_residual.ensures.1
-
-pub returns-in_err-own-clause-temps : goal.returns-in_err-own-clause-temps
-returns-in_err-own-clause-temps c = if_ok_none _ _ c.from_residual.result c.from_residual.ensures.1
-
 pub returns-in_err-backup-clause-names : goal.returns-in_err-backup-clause-names
 returns-in_err-backup-clause-names c = if_ok_none _ _ c.from_residual-in_err-backup.result c.from_residual-in_err-backup.ensures.1
 
