@@ -1,5 +1,5 @@
 -- Days, instants and offsets that fit 64 bits.
-use Rattle.std.proofs.Common.{◌≡◌, ℕ, ◌*◌, ◌+◌, ◌<◌, ◌≤◌, sym, subst, arith, w64}
+use Rattle.std.proofs.Common.{◌≡◌, ℕ, ◌*◌, ◌+◌, ◌<◌, ◌≤◌, sym, subst, ◌∙◌, arith, w64}
 use Rattle.std.specs.Prelude.{ℤ, pos, neg_ℤ, ◌+ℤ◌, ◌-ℤ◌, ◌*ℤ◌}
 use Rattle.std.proofs.lemmas.Int.{ints, to_z-of_z}
 use Rattle.jiff_core.specs.Calendar.{IsBetween}
@@ -66,6 +66,9 @@ module _ (hours minutes : ℕ) (h : hours ≤ 23) (m : minutes ≤ 59) (z : ℤ)
 
   wide-west : IsBetween (neg_ℤ (pos 2000000000000)) (pos 2000000000000) (pos 0 -ℤ z)
   wide-west = rw e (omega (arith, ints), omega (arith, ints))
+
+  pub east-stays : to_z w64 (of_z w64 z) ≡ pos (hours * 3600 + minutes * 60)
+  east-stays = stays z wide-east ∙ e
 
   pub east-bounds : IsBetween (neg_ℤ (pos 86400)) (pos 86400) (to_z w64 (of_z w64 z))
   east-bounds = same-bounds _ _ z (to_z w64 (of_z w64 z)) (stays z wide-east) east

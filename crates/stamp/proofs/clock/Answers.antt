@@ -13,3 +13,15 @@ returns-in_err-second-clause-bound c = none-if _ c.from_residual-in_err-second.r
 
 pub returns-then-second-le59-clause-bound : goal.returns-then-second-le59-clause-bound
 returns-then-second-le59-clause-bound c = omega arith
+
+pub overflow_add-result-then-second-le59 : goal.overflow_add-result-then-second-le59
+overflow_add-result-then-second-le59 c = omega arith
+
+pub overflow_add-result : goal.overflow_add-result
+overflow_add-result c = omega arith
+
+pub overflow_mul-result-then-second-le59 : goal.overflow_mul-result-then-second-le59
+overflow_mul-result-then-second-le59 c = omega arith
+
+pub overflow_mul-result : goal.overflow_mul-result
+overflow_mul-result c = omega arith
