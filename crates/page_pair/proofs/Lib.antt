@@ -1,3 +1,4 @@
 pub mod Bytes
 pub mod Owners
 pub mod Walking
+pub mod Halves

@@ -1,5 +1,5 @@
 -- The refusal of a text, and of the file patches of the completed text.
-use Rattle.std.proofs.Common.{◌≡◌, ℕ, ◌+◌, ◌≤◌, Bool, true, false, not, ◌&&◌, ◌⊎◌, inl, inr, if◌then◌else◌, List, [], ◌∷◌, ◌++◌, length, Option, None, Some, Ok, refl, sym, ap, ◌∙◌, arith, length-append}
+use Rattle.std.proofs.Common.{◌≡◌, ℕ, ◌+◌, ◌≤◌, Bool, true, false, not, ◌&&◌, ◌⊎◌, inl, inr, if◌then◌else◌, List, [], ◌∷◌, ◌++◌, length, Option, None, Some, Result, Ok, Err, refl, sym, ap, ◌∙◌, arith, length-append}
 use Rattle.std.specs.Prelude.{◌==◌}
 use Rattle.std.proofs.Math.Dec.{eqb-suc-zero}
 use Rattle.line_list.specs.Lines.{lines}
@@ -11,6 +11,8 @@ use Rattle.patch_text.specs.Patches.{patches_of}
 use Rattle.patch_set.specs.Asked.{ways_of}
 use Rattle.patch_set.specs.declared.fault.SetFault.{SetFault}
 use Rattle.patch_set.specs.declared.fault.SetFault.TheVariants as faults
+use Rattle.std.specs.Result.{IsErrAnd}
+use Rattle.patch_set.specs.SetView.{SetView, Meets, IsRead, IsSetOf}
 use Rattle.patch_set.specs.Refusals.{first_of, out_many, ed_reverse, reserved, is_too_long, too_long, refusal, refusal_of}
 
 one-byte : (v : Bool) → length (feed_if v) ≤ 1
@@ -47,3 +49,21 @@ long-first false r e is = absurd cc
 pub long-refusal : (o : PlainOptions) (text : List ℕ) (e : SetFault) → (e ≡ faults.Memory) ⊎ (too_long text ≡ Some e) → (e ≡ faults.Memory) ⊎ (refusal o text ≡ Some e)
 long-refusal o text e (inl memory) = inl memory
 long-refusal o text e (inr is) = inr (long-first (is_too_long text) (refusal_of o text (patches_of (ways_of o) (completed text))) e is)
+
+-- the set of the file patches of a whole text is read from the text
+pub is-read : (o : PlainOptions) (given whole : List ℕ) (ps : List PlainPatch) → whole ≡ completed given → patches_of (ways_of o) whole ≡ Ok ps
+    → (v : SetView) → IsSetOf o whole ps v → IsRead o given v
+is-read o given whole ps is read v set = record {
+  text = set.text ∙ is;
+  ways = set.ways;
+  patches = ap (patches_of (ways_of o)) set.text ∙ read ∙ ap Ok (sym set.plain);
+  regions = set.regions;
+  spans = set.spans;
+  skipped = set.skipped;
+  names = set.names;
+}
+
+-- want of memory is told whatever else is refused
+pub meets-memory : {X : Type 0} (refused : Option SetFault) (r : Result X SetFault) → IsErrAnd r (λ e. e ≡ faults.Memory) → Meets refused r
+meets-memory refused (Ok x) is = absurd is
+meets-memory refused (Err e) is = inl is

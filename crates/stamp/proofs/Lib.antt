@@ -1,4 +1,5 @@
 pub mod OptionLemmas
+pub mod Signed
 pub mod Digits
 pub mod Parts
 pub mod NumericLemmas

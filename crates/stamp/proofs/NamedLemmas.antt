@@ -190,6 +190,20 @@ pub named_day-no_month : (text : List ℕ) (w : ℕ) → place_among weekdays (s
 unfolding named_day
 named_day-no_month text w e n = rw (e, n) refl
 
+pub named_day-no_day : (text : List ℕ) (w m : ℕ) → place_among weekdays (slice_range text 0 3) ≡ Some w → place_among months (slice_range text 4 7) ≡ Some m → day_of text ≡ None → named_day text ≡ None
+unfolding named_day
+named_day-no_day text w m e f n = rw (e, f, n) refl
+
+pub named_day-no_year : (text : List ℕ) (w m d : ℕ) → place_among weekdays (slice_range text 0 3) ≡ Some w → place_among months (slice_range text 4 7) ≡ Some m → day_of text ≡ Some d → four_at text 20 ≡ None
+    → named_day text ≡ None
+unfolding named_day
+named_day-no_year text w m d e f g n = rw (e, f, g, n) refl
+
+pub named_day-other : (text : List ℕ) (w m d y : ℕ) → place_among weekdays (slice_range text 0 3) ≡ Some w → place_among months (slice_range text 4 7) ≡ Some m → day_of text ≡ Some d → four_at text 20 ≡ Some y
+    → (stands text 3 32 && stands text 7 32 && stands text 10 32 && stands text 19 32) ≡ false → named_day text ≡ None
+unfolding named_day
+named_day-other text w m d y ew em ed ey n = rw (ew, em, ed, ey, n) refl
+
 pub named_day-of : (text : List ℕ) (w m d y : ℕ) → place_among weekdays (slice_range text 0 3) ≡ Some w → place_among months (slice_range text 4 7) ≡ Some m → day_of text ≡ Some d → four_at text 20 ≡ Some y
     → stands text 3 32 ≡ true → stands text 7 32 ≡ true → stands text 10 32 ≡ true → stands text 19 32 ≡ true → named_day text ≡ day_number y (m + 1) d
 unfolding named_day

@@ -1,5 +1,5 @@
 -- A numeric stamp is read as its instant, and nothing else is.
-use Rattle.std.proofs.Common.{◌≡◌, ℕ, ◌+◌, ◌*◌, List, ◌∷◌, ◌++◌, drop, Some, refl, sym, ap, ◌∙◌}
+use Rattle.std.proofs.Common.{◌≡◌, ℕ, ◌+◌, ◌*◌, List, ◌∷◌, ◌++◌, drop, None, Some, refl, sym, ap, ◌∙◌}
 use Rattle.std.specs.Prelude.{ℤ, pos, ◌+ℤ◌, ◌-ℤ◌, ◌*ℤ◌}
 use Rattle.std.proofs.lemmas.Option.{option_and_then_some}
 use Rattle.jiff_core.specs.Calendar.{days_from_civil}
@@ -47,3 +47,7 @@ pub numeric-of : (text : List ℕ) (day zone start : ℤ) (clock : ℕ) → nume
     → numeric_of text ≡ Some (start -ℤ zone)
 unfolding numeric_of
 numeric-of text day zone start clock d c o e = rw (d, c, o, e) refl
+
+pub numeric-no_zone : (text : List ℕ) (day : ℤ) (clock : ℕ) → numeric_day text ≡ Some day → clock_of text ≡ Some clock → zone_of (after_fraction (drop 19 text)) ≡ None → numeric_of text ≡ None
+unfolding numeric_of
+numeric-no_zone text day clock d c o = rw (d, c, o) refl

@@ -127,6 +127,18 @@ numeric_day-some text z e =
               ∙ ap (λ r. 45 ∷ r) (two-piece text 8 day d ∙ ap (λ r. two day ++ r) (byte-piece text 10 32 a.1 (omega arith))))));
         }
 
+pub numeric_day-of : (text : List ℕ) (year month day : ℕ) → four_at text 0 ≡ Some year → two_at text 5 ≡ Some month → two_at text 8 ≡ Some day
+    → stands text 4 45 ≡ true → stands text 7 45 ≡ true → stands text 10 32 ≡ true → numeric_day text ≡ day_number year month day
+unfolding numeric_day
+numeric_day-of text year month day y m d a b c =
+    let test : (stands text 4 45 && stands text 7 45 && stands text 10 32) ≡ true = and_from _ _ (and_from _ _ a b) c in
+    rw (y, m, d, test) refl
+
+pub numeric_day-other : (text : List ℕ) (year month day : ℕ) → four_at text 0 ≡ Some year → two_at text 5 ≡ Some month → two_at text 8 ≡ Some day
+    → (stands text 4 45 && stands text 7 45 && stands text 10 32) ≡ false → numeric_day text ≡ None
+unfolding numeric_day
+numeric_day-other text year month day y m d none = rw (y, m, d, none) refl
+
 month-small : (year month day : ℕ) → IsDay year month day → (month < 100) × (year < 10000)
 month-small year month day d = (omega (arith, d.months.1), omega (arith, d.years.1))
 
@@ -192,6 +204,13 @@ zone-some rest z e =
     let b = and_parts _ _ a.0 in
     let c = and_parts _ _ b.0 in
     zone-by rest z hours minutes h m (eqb-true _ _ c.0) c.1 (leb-true _ _ b.1) (leb-true _ _ a.1) (stands rest 1 43) (stands rest 1 45) refl refl found.1))
+
+pub zone-east : (rest : List ℕ) (hours minutes : ℕ) → two_at rest 2 ≡ Some hours → two_at rest 4 ≡ Some minutes → length rest ≡ 6 → stands rest 0 32 ≡ true → hours ≤ 23 → minutes ≤ 59
+    → get_or rest 1 0 ≡ 43 → zone_of rest ≡ Some (pos (hours * 3600 + minutes * 60))
+unfolding zone_of
+zone-east rest hours minutes h m long space hl ml is =
+    let test : (eqb (length rest) 6 && stands rest 0 32 && leb hours 23 && leb minutes 59) ≡ true = and_from _ _ (and_from _ _ (and_from _ _ (eq-eqb _ _ long) space) (le-leb _ _ hl)) (le-leb _ _ ml) in
+    rw (h, m, test, eq-eqb _ _ is) refl
 
 zone-read-by : (east : Bool) (hours minutes : ℕ) → hours ≤ 23 → minutes ≤ 59 → zone_of (32 ∷ offset_text (record { is_east = east; hours = hours; minutes = minutes })) ≡ Some (offset_seconds (record { is_east = east; hours = hours; minutes = minutes }))
 unfolding zone_of
@@ -306,3 +325,18 @@ module _ (text : List ℕ) (at end : ℕ) (high : end ≤ length text) (low : at
       by : (v : Bool) → is_digit (get_or (drop at text) 1 0) ≡ v → drop at text ≡ cond (stands (drop at text) 0 46 && is_digit (get_or (drop at text) 1 0)) (after_digits (drop 1 (drop at text))) (drop at text)
       by false e = let none : (stands (drop at text) 0 46 && is_digit (get_or (drop at text) 1 0)) ≡ false = and_right _ _ e in rw none refl
       by true e = absurd (omega (arith, longs, after-shorter (drop (at + 1) text) (ap is_digit (sym second) ∙ e), length-drop (at + 1) text))
+
+-- where no dot stands there is no fraction
+pub fraction-plain : (text : List ℕ) (at : ℕ) → stands text at 46 ≡ false → drop at text ≡ after_fraction (drop at text)
+unfolding after_fraction
+fraction-plain text at none = rw first refl
+  where
+    plain : (k : ℕ) → k + 0 ≡ k
+    plain k = omega arith
+
+    first : stands (drop at text) 0 46 ≡ false
+    first = ap (λ b. eqb b 46) (get_or-drop at text 0 0 ∙ ap (λ k. get_or text k 0) (plain at)) ∙ none
+
+-- a byte that stands in a text is within it
+pub stands-within : (text : List ℕ) (at byte : ℕ) → stands text at byte ≡ true → 0 < byte → at + 1 ≤ length text
+stands-within text at byte is some = omega (arith, ap length (byte-piece text at byte is some), length-drop at text)

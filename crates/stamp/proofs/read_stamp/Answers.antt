@@ -20,6 +20,9 @@ one text z y r e is only = (λ h. (let k : z ≡ y = cc in subst (IsStamp text) 
 known : (text : List ℕ) (z r : ℤ) → IsStamp text z → (Instant r ≡ Unknown → (y : ℤ) → IsStamp text y → ⊥) × (((y : ℤ) → IsStamp text y → ⊥) → Instant r ≡ Unknown)
 known text z r is = (λ h. absurd cc, λ none. absurd (none z is))
 
+unknown-apart : {A : Type 0} (y : ℤ) → Unknown ≡ Instant y → A
+unknown-apart y is = absurd cc
+
 pub returns-in-Some-clause-instant : goal.returns-in-Some-clause-instant
 returns-in-Some-clause-instant c = λ y.
     let e : numeric_of c.args.text.now ≡ Some c.in-Some.instant = sym c.in-Some.ensures.value in
@@ -41,7 +44,7 @@ returns-in-Some-named-clause-unknown c =
 
 pub returns-in-None-named-clause-instant : goal.returns-in-None-named-clause-instant
 returns-in-None-named-clause-instant c = λ y.
-    (λ h. absurd cc, λ s. absurd (no-stamp c.args.text.now (sym c.in-None.ensures.value) (sym c.in-None-named.ensures.value) y s))
+    (unknown-apart y, λ s. absurd (no-stamp c.args.text.now (sym c.in-None.ensures.value) (sym c.in-None-named.ensures.value) y s))
 
 pub returns-in-None-named-clause-unknown : goal.returns-in-None-named-clause-unknown
 returns-in-None-named-clause-unknown c =

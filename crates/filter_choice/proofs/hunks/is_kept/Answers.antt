@@ -24,3 +24,9 @@ returns-else-is_meant c = λ text lawful.
     let meant = sym (c.is_meant.ensures ∙ ap (is_meant j.hunks) n) ∙ c.if-is_meant.false in
     c.if-is_meant.false
     ∙ sym (flag-at j change c.args.hunk olds (olds-there text c.args.change.now c.args.hunk c.requires.within) ∙ ap (λ b. b && is_one_meant j.lines olds) meant)
+
+pub lines_of-requires-clause-within : goal.lines_of-requires-clause-within
+lines_of-requires-clause-within c = c.requires.within
+
+pub lines_of-requires-clause-counted : goal.lines_of-requires-clause-counted
+lines_of-requires-clause-counted c = c.requires.counted

@@ -1,4 +1,5 @@
 use Rattle.std.proofs.Common.{◌≡◌, ◌++◌, ◌∷◌, [], List, ℕ, Option, None, Some, true, false, Bool, cond, ap, sym, ◌∙◌, append_assoc}
+use Rattle.std.proofs.lemmas.Bool.{false≢true}
 use Rattle.std.proofs.lemmas.List.{append_cancel_left}
 use Rattle.std.specs.Option.{option_to_list}
 use Rattle.outside.specs.Names.{is_absolute}
@@ -14,8 +15,8 @@ same-below (Some directory) one other alike is = by (is_absolute one) (is_absolu
   where
     by : (a b : Bool) → a ≡ b → cond a one (directory ++ 47 ∷ one) ≡ cond b other (directory ++ 47 ∷ other) → one ≡ other
     by true true e h = h
-    by true false e h = cc (e)
-    by false true e h = cc (e)
+    by true false e h = absurd (false≢true (sym e))
+    by false true e h = absurd (false≢true e)
     by false false e h = append_cancel_left (directory ++ 47 ∷ []) one other (append_assoc directory (47 ∷ []) one ∙ h ∙ sym (append_assoc directory (47 ∷ []) other))
 
 pub returns-clause-names : goal.returns-clause-names

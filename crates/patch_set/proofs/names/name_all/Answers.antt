@@ -7,6 +7,7 @@ use Rattle.patch_set.specs.Named.{known_names, output_of, patch_names}
 use Rattle.patch_set.specs.Naming.{AreNamed}
 use Rattle.patch_set.proofs.Joined.{known-all}
 use Rattle.patch_set.proofs.Walked.{all-back}
+use Rattle.outside.proofs.Exits.{if_ok_none}
 use Rattle.patch_set.proofs.names.name_all.Goals as goal
 
 known-last : (c : goal.After-drop-numbers-inside-2) → joined_by c.name_patches.new.numbers (option_to_list (plain_options c.args.options.now).output) ≡ known_names (plain_options c.args.options.now) (map (patch_of c.args.text.now) c.args.patches.items)
@@ -28,3 +29,27 @@ returns-clause-patches c =
 pub returns-clause-output : goal.returns-clause-output
 returns-clause-output c =
     c.in_ok-output.ensures.output ∙ ap (output_of (plain_options c.args.options.now)) (known-last c)
+
+pub returns-in_err-name_patches-clause-patches : goal.returns-in_err-name_patches-clause-patches
+returns-in_err-name_patches-clause-patches c = if_ok_none _ _ c.from_residual.result c.from_residual.ensures.1
+
+pub returns-in_err-name_patches-clause-output : goal.returns-in_err-name_patches-clause-output
+returns-in_err-name_patches-clause-output c = if_ok_none _ _ c.from_residual.result c.from_residual.ensures.1
+
+pub returns-in_err-name_patches-clause-temps : goal.returns-in_err-name_patches-clause-temps
+returns-in_err-name_patches-clause-temps c = if_ok_none _ _ c.from_residual.result c.from_residual.ensures.1
+
+pub returns-in_err-output-clause-patches : goal.returns-in_err-output-clause-patches
+returns-in_err-output-clause-patches c = if_ok_none _ _ c.from_residual-in_err-output.result c.from_residual-in_err-output.ensures.1
+
+pub returns-in_err-output-clause-output : goal.returns-in_err-output-clause-output
+returns-in_err-output-clause-output c = if_ok_none _ _ c.from_residual-in_err-output.result c.from_residual-in_err-output.ensures.1
+
+pub returns-in_err-output-clause-temps : goal.returns-in_err-output-clause-temps
+returns-in_err-output-clause-temps c = if_ok_none _ _ c.from_residual-in_err-output.result c.from_residual-in_err-output.ensures.1
+
+pub returns-clause-temps : goal.returns-clause-temps
+returns-clause-temps c = c.in_ok-output.ensures.temps
+
+pub name_output-requires : goal.name_output-requires
+name_output-requires c = c.requires

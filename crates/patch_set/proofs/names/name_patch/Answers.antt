@@ -5,6 +5,7 @@ use Rattle.patch_options.specs.PlainJob.{plain_options}
 use Rattle.target_names.specs.Numbered.{joined_by}
 use Rattle.patch_set.specs.Named.{names_of, targets_of, target_in}
 use Rattle.patch_set.proofs.Joined.{names-few}
+use Rattle.outside.proofs.Exits.{on_ok_none}
 use Rattle.patch_set.proofs.names.name_patch.Goals as goal
 
 pub returns-clause-named : goal.returns-clause-named
@@ -27,3 +28,12 @@ returns-clause-named c = λ others.
       few = omega (arith, ap length targets, length-map (names_of o h) (target_in o known), names-few o h);
       temps = c.in_ok-patch.ensures.temps;
     }
+
+pub returns-clause-known : goal.returns-clause-known
+returns-clause-known c = c.in_ok-patch.ensures.known ∙ ap (joined_by c.args.numbers.now) (c.deref.ensures.value ∙ c.in_ok-names.ensures.names)
+
+pub returns-in_err-patch-clause-known : goal.returns-in_err-patch-clause-known
+returns-in_err-patch-clause-known c = on_ok_none _ _ c.from_residual-in_err-patch.result c.from_residual-in_err-patch.ensures.1
+
+pub returns-in_err-patch-clause-named : goal.returns-in_err-patch-clause-named
+returns-in_err-patch-clause-named c = on_ok_none _ _ c.from_residual-in_err-patch.result c.from_residual-in_err-patch.ensures.1

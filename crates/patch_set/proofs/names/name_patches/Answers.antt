@@ -1,7 +1,14 @@
-use Rattle.std.proofs.Common.{refl, sym, ap, get_or, arith}
+use Rattle.std.proofs.Common.{refl, sym, ap, get_or, arith, ◌∙◌, List, map, take, subst}
 use Rattle.patch_options.specs.PlainJob.{plain_options}
 use Rattle.patch_set.proofs.Joined.{joined-nil}
 use Rattle.patch_set.proofs.Walked.{walked-more}
+use Rattle.std.proofs.lemmas.List.{take_all}
+use Rattle.file_patch.specs.declared.FilePatch.{FilePatch}
+use Rattle.file_patch.specs.PlainPatch.{patch_of}
+use Rattle.target_names.specs.Numbered.{joined_by}
+use Rattle.patch_set.specs.Named.{patch_names}
+use Rattle.patch_set.specs.Naming.{AreNamed}
+use Rattle.outside.proofs.Exits.{on_ok_none}
 use Rattle.patch_set.proofs.names.name_patches.Goals as goal
 
 pub loop-patch-init : goal.loop-patch-init
@@ -19,3 +26,23 @@ loop-patch-preserved c =
     walked-more (plain_options c.args.options.now) c.args.text.now c.args.numbers.now c.loop-patch.numbers c.name_patch.new.numbers
     i c.args.patches.now qs (get_or qs i r) c.name_patch.new.patch
     c.loop-patch.invariant (omega arith) (omega arith) (ap (λ x. get_or qs i x) c.patch-item.is) c.in_ok-name_patch.ensures.known c.in_ok-name_patch.ensures.named
+
+pub returns-clause-named : goal.returns-clause-named
+returns-clause-named c = λ others.
+    let o = plain_options c.args.options.now in
+    let known = joined_by c.loop-patch.numbers others in
+    let ps = c.args.patches.now in
+    let i = c.loop-patch.patch-index in
+    subst (λ (l : List FilePatch). AreNamed o c.args.text.now known l c.loop-patch.patches) (take_all i ps c.loop-patch-test.false)
+    (subst (λ (l : List FilePatch). AreNamed o c.args.text.now known (take i ps) l) (take_all i c.loop-patch.patches (omega arith)) (c.loop-patch.invariant.named.are others))
+
+pub returns-clause-known : goal.returns-clause-known
+returns-clause-known c =
+    c.loop-patch.invariant.joined
+    ∙ ap (λ (l : List FilePatch). joined_by c.args.numbers.now (patch_names (plain_options c.args.options.now) (map (patch_of c.args.text.now) l))) (take_all c.loop-patch.patch-index c.args.patches.now c.loop-patch-test.false)
+
+pub returns-in_err-name_patch-clause-named : goal.returns-in_err-name_patch-clause-named
+returns-in_err-name_patch-clause-named c = on_ok_none _ _ c.from_residual.result c.from_residual.ensures.1
+
+pub returns-in_err-name_patch-clause-known : goal.returns-in_err-name_patch-clause-known
+returns-in_err-name_patch-clause-known c = on_ok_none _ _ c.from_residual.result c.from_residual.ensures.1

@@ -1,12 +1,13 @@
-use Rattle.std.proofs.Common.{◌≡◌, ◌+◌, ◌∷◌, ◌++◌, [], List, take, All, sym, ap, subst, ◌∙◌, arith}
-use Rattle.std.proofs.lemmas.List.{take_more}
+use Rattle.std.proofs.Common.{◌≡◌, ◌+◌, ◌∷◌, ◌++◌, [], List, take, All, sym, ap, subst, ◌∙◌, arith, map}
+use Rattle.std.proofs.lemmas.List.{take_more, take_all}
 use Rattle.std.proofs.lemmas.List.Elements.{All-push}
 use Rattle.patch_options.specs.PlainJob.{plain_options}
 use Rattle.target_names.specs.declared.derived.Target.{Target}
-use Rattle.target_names.specs.Numbered.{with_name}
+use Rattle.target_names.specs.Numbered.{with_name, joined_by}
 use Rattle.target_names.specs.Targets.{HasTemps}
 use Rattle.patch_set.specs.Named.{target_in}
-use Rattle.patch_set.proofs.Joined.{joined-nil, known-more, targets-more}
+use Rattle.patch_set.proofs.Joined.{AreTargets, joined-nil, known-more, targets-more}
+use Rattle.outside.proofs.Exits.{if_ok_none, on_ok_none}
 use Rattle.patch_set.proofs.names.targets_for.Goals as goal
 
 none-yet : (ts : List Target) → ts ≡ [] → All HasTemps ts
@@ -32,6 +33,42 @@ loop-name-preserved c =
     let is : t ≡ target_in o (with_name c.loop-name.numbers name) name = c.in_ok-target.ensures.target ∙ ap (λ k. target_in o k name) one in
     record {
       known = known-more c.args.numbers.now c.args.names.now i name c.loop-name.numbers c.target.new.numbers c.loop-name.invariant.known one more;
-      targets = rw (more, pushed, one) (targets-more o c.loop-name.numbers (take i c.args.names.now) c.loop-name.targets.items name t c.loop-name.invariant.targets is);
+      targets = subst (λ l. AreTargets o c.target.new.numbers l c.push.new.self.items) (sym more)
+          (subst (λ ts. AreTargets o c.target.new.numbers (take i c.args.names.now ++ name ∷ []) ts) (sym pushed)
+          (subst (λ k. AreTargets o k (take i c.args.names.now ++ name ∷ []) (c.loop-name.targets.items ++ t ∷ [])) (sym one)
+          (targets-more o c.loop-name.numbers (take i c.args.names.now) c.loop-name.targets.items name t c.loop-name.invariant.targets is)));
       temps = subst (λ l. All HasTemps l) (sym pushed) (All-push HasTemps c.loop-name.targets.items t c.loop-name.invariant.temps c.in_ok-target.ensures.temps);
     }
+
+pub returns-clause-known : goal.returns-clause-known
+returns-clause-known c =
+    c.loop-name.invariant.known ∙ ap (joined_by c.args.numbers.now) (take_all c.loop-name.name-index c.args.names.now c.loop-name-test.false)
+
+pub returns-clause-targets : goal.returns-clause-targets
+returns-clause-targets c = λ others.
+    c.loop-name.invariant.targets.are others
+    ∙ ap (map (target_in (plain_options c.args.options.now) (joined_by c.loop-name.numbers others))) (take_all c.loop-name.name-index c.args.names.now c.loop-name-test.false)
+
+pub returns-clause-temps : goal.returns-clause-temps
+returns-clause-temps c = c.loop-name.invariant.temps
+
+pub returns-in_err-push-clause-known : goal.returns-in_err-push-clause-known
+returns-in_err-push-clause-known c = on_ok_none _ _ c.from_residual-in_err-push.result c.from_residual-in_err-push.ensures.1
+
+pub returns-in_err-push-clause-targets : goal.returns-in_err-push-clause-targets
+returns-in_err-push-clause-targets c = if_ok_none _ _ c.from_residual-in_err-push.result c.from_residual-in_err-push.ensures.1
+
+pub returns-in_err-push-clause-temps : goal.returns-in_err-push-clause-temps
+returns-in_err-push-clause-temps c = if_ok_none _ _ c.from_residual-in_err-push.result c.from_residual-in_err-push.ensures.1
+
+pub returns-in_err-target-clause-known : goal.returns-in_err-target-clause-known
+returns-in_err-target-clause-known c = on_ok_none _ _ c.from_residual-in_err-target.result c.from_residual-in_err-target.ensures.1
+
+pub returns-in_err-target-clause-targets : goal.returns-in_err-target-clause-targets
+returns-in_err-target-clause-targets c = if_ok_none _ _ c.from_residual-in_err-target.result c.from_residual-in_err-target.ensures.1
+
+pub returns-in_err-target-clause-temps : goal.returns-in_err-target-clause-temps
+returns-in_err-target-clause-temps c = if_ok_none _ _ c.from_residual-in_err-target.result c.from_residual-in_err-target.ensures.1
+
+pub bounds-names-name-index : goal.bounds-names-name-index
+bounds-names-name-index c = c.loop-name-test.true

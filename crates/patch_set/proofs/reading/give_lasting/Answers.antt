@@ -2,6 +2,8 @@ use Rattle.std.proofs.Common.{None, Some, inr}
 use Rattle.patch_options.specs.PlainJob.{plain_options}
 use Rattle.patch_set.specs.Naming.{HaveTargets}
 use Rattle.patch_set.proofs.Made.{none-found, told-reserved}
+use Rattle.outside.proofs.Exits.{if_ok_none}
+use Rattle.patch_set.proofs.Completing.{meets-memory}
 use Rattle.patch_set.proofs.reading.give_lasting.Goals as goal
 
 pub returns-in-Some-clause-refused : goal.returns-in-Some-clause-refused
@@ -21,3 +23,18 @@ returns-in-None-clause-targets c = record { are = c.in_ok-named.ensures.patches;
 
 pub returns-in-None-clause-lasting : goal.returns-in-None-clause-lasting
 returns-in-None-clause-lasting c = none-found _ c.in-None.ensures
+
+pub returns-in-Some-clause-targets : goal.returns-in-Some-clause-targets
+returns-in-Some-clause-targets c = tt
+
+pub returns-in-Some-clause-lasting : goal.returns-in-Some-clause-lasting
+returns-in-Some-clause-lasting c = tt
+
+pub returns-in_err-named-clause-targets : goal.returns-in_err-named-clause-targets
+returns-in_err-named-clause-targets c = if_ok_none _ _ c.from_residual.result c.from_residual.ensures.1
+
+pub returns-in_err-named-clause-lasting : goal.returns-in_err-named-clause-lasting
+returns-in_err-named-clause-lasting c = if_ok_none _ _ c.from_residual.result c.from_residual.ensures.1
+
+pub returns-in_err-named-clause-refused : goal.returns-in_err-named-clause-refused
+returns-in_err-named-clause-refused c = meets-memory _ c.from_residual.result c.from_residual.ensures.1

@@ -6,11 +6,17 @@ use Rattle.patch_options.specs.PlainJob.{plain_options}
 use Rattle.patch_text.specs.Patches.{patches_of}
 use Rattle.patch_text.specs.Regions.{region_of, regions_of}
 use Rattle.patch_set.specs.Asked.{ways_of}
-use Rattle.patch_set.specs.SetView.{Meets}
+use Rattle.patch_set.specs.SetView.{Meets, IsRead, IsSetOf}
 use Rattle.patch_set.specs.Spans.{ArePlaced}
 use Rattle.patch_set.proofs.InTurn.{are-placed}
-use Rattle.patch_set.proofs.Completing.{completed-length, long-refusal, read-refusal}
+use Rattle.patch_set.proofs.Completing.{completed-length, long-refusal, read-refusal, is-read}
+use Rattle.std.proofs.lemmas.Result.{IfOk-weaker}
 use Rattle.patch_set.proofs.reading.read_set.Goals as goal
+
+read : (c : goal.After-set_of) → patches_of (ways_of (plain_options c.args.options.now)) c.in-Ok.text.items ≡ Ok (map (patch_of c.in-Ok.text.items) c.in_ok-patches.patches.items)
+read c =
+    subst (λ w. patches_of w c.in-Ok.text.items ≡ Ok (map (patch_of c.in-Ok.text.items) c.in_ok-patches.patches.items)) c.ways_of.ensures
+    (subst (λ t. patches_of c.ways_of.result t ≡ Ok (map (patch_of t) c.in_ok-patches.patches.items)) c.deref.ensures.value c.in_ok-patches.ensures.exact)
 
 pub read_patches-requires : goal.read_patches-requires
 read_patches-requires c = omega (arith, completed-length c.args.text.items, ap length c.deref.ensures.value, ap length c.in-Ok.ensures.whole, c.in-Ok.ensures.short)
@@ -20,11 +26,8 @@ returns-clause-refused c =
     let text = c.in-Ok.text.items in
     let o = plain_options c.args.options.now in
     let ps = map (patch_of text) c.in_ok-patches.patches.items in
-    let read : patches_of (ways_of o) text ≡ Ok ps =
-    subst (λ w. patches_of w text ≡ Ok ps) c.ways_of.ensures
-    (subst (λ t. patches_of c.ways_of.result t ≡ Ok (map (patch_of t) c.in_ok-patches.patches.items)) c.deref.ensures.value c.in_ok-patches.ensures.exact) in
     subst (λ r. Meets r c.set_of.result)
-    (read-refusal o c.args.text.items text ps (le-ltb 268435456 (length c.args.text.items) c.in-Ok.ensures.short) c.in-Ok.ensures.whole read) c.set_of.ensures.refused
+    (read-refusal o c.args.text.items text ps (le-ltb 268435456 (length c.args.text.items) c.in-Ok.ensures.short) c.in-Ok.ensures.whole (read c)) c.set_of.ensures.refused
 
 pub returns-in-Err-clause-refused : goal.returns-in-Err-clause-refused
 returns-in-Err-clause-refused c = long-refusal (plain_options c.args.options.now) c.args.text.items c.in-Err.fault c.in-Err.ensures.refused
@@ -40,3 +43,22 @@ set_of-requires-clause-whole c =
       count = c.in_ok-patches.ensures.count;
       hunks = c.in_ok-patches.ensures.hunks;
     }
+
+pub returns-clause-read : goal.returns-clause-read
+returns-clause-read c =
+    let o = plain_options c.args.options.now in
+    let text = c.in-Ok.text.items in
+    let ps = map (patch_of text) c.in_ok-patches.patches.items in
+    IfOk-weaker c.set_of.result (IsSetOf o text ps) (IsRead o c.args.text.items) (is-read o c.args.text.items text ps c.in-Ok.ensures.whole (read c)) c.set_of.ensures.set
+
+pub returns-clause-fresh : goal.returns-clause-fresh
+returns-clause-fresh c = c.set_of.ensures.fresh
+
+pub returns-clause-whole : goal.returns-clause-whole
+returns-clause-whole c = c.set_of.ensures.whole
+
+pub returns-clause-marks : goal.returns-clause-marks
+returns-clause-marks c = c.set_of.ensures.marks
+
+pub returns-clause-memory : goal.returns-clause-memory
+returns-clause-memory c = λ _. c.in-Ok.ensures.short

@@ -7,6 +7,8 @@ use Rattle.patch_set.specs.Naming.{HaveTargets}
 use Rattle.patch_set.specs.Refusals.{refusal_of}
 use Rattle.patch_set.specs.Skipped.{skipped_lines}
 use Rattle.patch_set.proofs.Made.{kept, made-set}
+use Rattle.outside.proofs.Exits.{if_ok_none}
+use Rattle.patch_set.proofs.Completing.{meets-memory}
 use Rattle.patch_set.proofs.reading.set_of.Goals as goal
 
 pub untried-requires : goal.untried-requires
@@ -41,3 +43,39 @@ returns-in_ok-untried-in-Ok-clause-fresh c = c.in_ok-untried-in-Ok.ensures.untri
 
 pub returns-in_ok-untried-in-Ok-clause-whole : goal.returns-in_ok-untried-in-Ok-clause-whole
 returns-in_ok-untried-in-Ok-clause-whole c = c.in_ok-untried-in-Ok.ensures.untried.whole
+
+pub returns-in_ok-untried-in-Ok-clause-marks : goal.returns-in_ok-untried-in-Ok-clause-marks
+returns-in_ok-untried-in-Ok-clause-marks c = c.in_ok-untried-in-Ok.ensures.marks ∙ c.are_asked.ensures
+
+pub returns-in-Err-clause-set : goal.returns-in-Err-clause-set
+returns-in-Err-clause-set c = tt
+
+pub returns-in-Err-clause-fresh : goal.returns-in-Err-clause-fresh
+returns-in-Err-clause-fresh c = tt
+
+pub returns-in-Err-clause-whole : goal.returns-in-Err-clause-whole
+returns-in-Err-clause-whole c = tt
+
+pub returns-in-Err-clause-marks : goal.returns-in-Err-clause-marks
+returns-in-Err-clause-marks c = tt
+
+pub returns-in_err-untried-in-Ok-clause-set : goal.returns-in_err-untried-in-Ok-clause-set
+returns-in_err-untried-in-Ok-clause-set c = if_ok_none _ _ c.from_residual.result c.from_residual.ensures.1
+
+pub returns-in_err-untried-in-Ok-clause-fresh : goal.returns-in_err-untried-in-Ok-clause-fresh
+returns-in_err-untried-in-Ok-clause-fresh c = if_ok_none _ _ c.from_residual.result c.from_residual.ensures.1
+
+pub returns-in_err-untried-in-Ok-clause-whole : goal.returns-in_err-untried-in-Ok-clause-whole
+returns-in_err-untried-in-Ok-clause-whole c = if_ok_none _ _ c.from_residual.result c.from_residual.ensures.1
+
+pub returns-in_err-untried-in-Ok-clause-marks : goal.returns-in_err-untried-in-Ok-clause-marks
+returns-in_err-untried-in-Ok-clause-marks c = if_ok_none _ _ c.from_residual.result c.from_residual.ensures.1
+
+pub returns-in_err-untried-in-Ok-clause-refused : goal.returns-in_err-untried-in-Ok-clause-refused
+returns-in_err-untried-in-Ok-clause-refused c = meets-memory _ c.from_residual.result c.from_residual.ensures.1
+
+pub give_targets-requires-clause-options : goal.give_targets-requires-clause-options
+give_targets-requires-clause-options c = c.requires.options
+
+pub give_targets-requires-clause-count : goal.give_targets-requires-clause-count
+give_targets-requires-clause-count c = c.requires.whole.count

@@ -28,3 +28,18 @@ returns-clause-outside c = past-all c.args.patches.now c.args.first c.regions.ne
 
 pub returns-clause-behind : goal.returns-clause-behind
 returns-clause-behind c = c.regions.invariant.behind
+
+pub bounds-patches-next : goal.bounds-patches-next
+bounds-patches-next c = c.regions-test.true
+
+pub regions-smaller : goal.regions-smaller
+regions-smaller c = omega (arith, c.regions-test.true)
+
+pub returns-then-at-patch-clause-within : goal.returns-then-at-patch-clause-within
+returns-then-at-patch-clause-within c = c.regions.invariant.within
+
+pub returns-then-at-patch-2-clause-within : goal.returns-then-at-patch-2-clause-within
+returns-then-at-patch-2-clause-within c = c.regions.invariant.within
+
+pub returns-clause-within : goal.returns-clause-within
+returns-clause-within c = c.regions.invariant.within

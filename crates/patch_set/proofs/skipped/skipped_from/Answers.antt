@@ -1,3 +1,4 @@
+use Rattle.std.proofs.Common.{arith}
 use Rattle.patch_set.proofs.Skipping.{looked-none, looked-more, looked-all}
 use Rattle.patch_set.proofs.skipped.skipped_from.Goals as goal
 
@@ -16,3 +17,21 @@ lines-preserved c =
 
 pub returns : goal.returns
 returns c = looked-all c.args.text.now c.args.patches.now c.lines.found.items c.lines.here.at c.lines.here.number c.lines.here.next c.lines.invariant c.in_default.ensures.1
+
+pub overflow_add-here : goal.overflow_add-here
+overflow_add-here c = omega arith
+
+pub lines-smaller : goal.lines-smaller
+lines-smaller c = omega (arith, c.in-Some.ensures.low, c.in-Some.ensures.high)
+
+pub next_line-requires : goal.next_line-requires
+next_line-requires c = c.lines.invariant.within
+
+pub slice_bounds-is_skipped-end : goal.slice_bounds-is_skipped-end
+slice_bounds-is_skipped-end c = c.in-Some.ensures.high
+
+pub slice_bounds-is_skipped-start : goal.slice_bounds-is_skipped-start
+slice_bounds-is_skipped-start c = omega (arith, c.in-Some.ensures.low)
+
+pub slice_bounds-is_skipped-count : goal.slice_bounds-is_skipped-count
+slice_bounds-is_skipped-count c = omega (arith, c.in-Some.ensures.low)

@@ -1,4 +1,5 @@
 use Rattle.std.proofs.Common.{◌≡◌, ◌∷◌, ◌++◌, [], List, ℕ, Option, None, Some, Bool, true, false, cond, sym, ◌∙◌, append_assoc}
+use Rattle.std.proofs.lemmas.Bool.{false≢true}
 use Rattle.std.proofs.lemmas.List.{append_cancel_left}
 use Rattle.outside.specs.Names.{is_absolute}
 use Rattle.target_names.specs.Targets.{below}
@@ -10,8 +11,8 @@ same (Some directory) one other alike is = by (is_absolute one) (is_absolute oth
   where
     by : (a b : Bool) → a ≡ b → cond a one (directory ++ 47 ∷ one) ≡ cond b other (directory ++ 47 ∷ other) → one ≡ other
     by true true e h = h
-    by true false e h = cc (e)
-    by false true e h = cc (e)
+    by true false e h = absurd (false≢true (sym e))
+    by false true e h = absurd (false≢true e)
     by false false e h = append_cancel_left (directory ++ 47 ∷ []) one other (append_assoc directory (47 ∷ []) one ∙ h ∙ sym (append_assoc directory (47 ∷ []) other))
 
 pub returns : goal.returns

@@ -1,7 +1,8 @@
-use Rattle.std.proofs.Common.{◌≡◌, List, ℕ, Some, sym, ap, subst, ◌∙◌, arith, OnErr, Ok, Err}
+use Rattle.std.proofs.Common.{◌≡◌, List, ℕ, Some, sym, ap, subst, ◌∙◌, arith, OnErr, Ok, Err, refl}
 use Rattle.std.specs.BTreeMap.{get_by_text}
 use Rattle.target_names.specs.Numbered.{number_in, with_name, texts}
 use Rattle.target_names.proofs.Maps.{found-texts, found-number, same-texts, same-numbered, Adds, adds}
+use Rattle.outside.proofs.Exits.{if_ok_none}
 use Rattle.target_names.proofs.numbering.Numbers.number.Goals as goal
 
 found : (c : goal.After-row_known-1) → get_by_text c.self.inside.numbers c.args.name.now ≡ Some c.in-Some.number.now
@@ -47,3 +48,36 @@ returns-clause-names c = (added c).names ∙ ap (λ (l : List (List ℕ)). with_
 
 pub returns-clause-number : goal.returns-clause-number
 returns-clause-number c = (added c).number
+
+pub returns-in_err-text-clause-names : goal.returns-in_err-text-clause-names
+returns-in_err-text-clause-names c = if_ok_none _ _ c.from_residual.result c.from_residual.ensures.1
+
+pub returns-in_err-text-clause-number : goal.returns-in_err-text-clause-number
+returns-in_err-text-clause-number c = if_ok_none _ _ c.from_residual.result c.from_residual.ensures.1
+
+pub returns-in_err-insert-clause-names : goal.returns-in_err-insert-clause-names
+returns-in_err-insert-clause-names c = if_ok_none _ _ c.from_residual-in_err-insert.result c.from_residual-in_err-insert.ensures.1
+
+pub returns-in_err-insert-clause-number : goal.returns-in_err-insert-clause-number
+returns-in_err-insert-clause-number c = if_ok_none _ _ c.from_residual-in_err-insert.result c.from_residual-in_err-insert.ensures.1
+
+pub returns-in_default-try_from-clause-names : goal.returns-in_default-try_from-clause-names
+returns-in_default-try_from-clause-names c = tt
+
+pub returns-in_default-try_from-clause-number : goal.returns-in_default-try_from-clause-number
+returns-in_default-try_from-clause-number c = tt
+
+pub returns-clause-err : goal.returns-clause-err
+returns-clause-err c = tt
+
+pub returns-in-Some-clause-err : goal.returns-in-Some-clause-err
+returns-in-Some-clause-err c = tt
+
+pub returns-in_err-text-clause-err : goal.returns-in_err-text-clause-err
+returns-in_err-text-clause-err c = elim c.from_residual.result as (λ r. OnErr r (c.args.self.now ≡ c.args.self.now)) [
+  | Ok v ↦ tt
+  | Err e ↦ refl
+]
+
+pub returns-in_default-try_from-clause-err : goal.returns-in_default-try_from-clause-err
+returns-in_default-try_from-clause-err c = refl
