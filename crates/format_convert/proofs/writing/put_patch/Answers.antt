@@ -1,14 +1,9 @@
-use Rattle.std.proofs.Common.{◌≡◌, ◌++◌, ◌||◌, ℕ, List, [], Bool, cond, true, false, sym, ap, subst, ◌∙◌}
 use Rattle.std.proofs.lemmas.Result.{err_from_is_err_and}
-use Rattle.hunk_core.specs.declared.Side.TheVariants.{Forward}
-use Rattle.outside.specs.Puts.{Puts}
-use Rattle.outside.proofs.SinkSteps.{HasPut, has-none, has-put, puts-done, puts-more, puts-stop}
+use Rattle.outside.proofs.SinkSteps.{has-put, puts-more, puts-stop}
 use Rattle.file_patch.specs.PlainPatch.{patch_of}
-use Rattle.header_lines.specs.HeaderText.{header_text}
 use Rattle.tool_words.specs.PlainJobs.{plain_filter_job}
-use Rattle.change_commands.specs.Taken.{has_kept, left_patch}
-use Rattle.format_convert.specs.Converted.{change_text, is_written, written}
-use Rattle.format_convert.proofs.RowLemmas.{by-commands, by-context}
+use Rattle.change_commands.specs.Taken.{left_patch}
+use Rattle.format_convert.specs.Converted.{change_text}
 use Rattle.format_convert.proofs.writing.put_patch.Goals as goal
 
 pub returns-in_err-put_header_lines : goal.returns-in_err-put_header_lines
@@ -18,3 +13,9 @@ returns-in_err-put_header_lines g c = λ x at.
 
 pub returns : goal.returns
 returns g c = λ x at. puts-more g.met.O.Sink.rest_both (has-put c.in_ok-put_header_lines.field-0 (c.in_ok-put_header_lines.ensures x at)) (c.put_change.ensures x at)
+
+pub put_change-requires : goal.put_change-requires
+put_change-requires g c = c.requires
+
+pub put_header_lines-requires : goal.put_header_lines-requires
+put_header_lines-requires g c = c.requires
