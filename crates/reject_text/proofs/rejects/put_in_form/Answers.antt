@@ -7,11 +7,5 @@ returns-in-Context g c = rw c.in-Context.is c.put_hunk-in-Context.ensures.put
 pub returns-in-Unified : goal.returns-in-Unified
 returns-in-Unified g c = rw c.in-Unified.is c.put_hunk.ensures.put
 
-pub put_hunk-requires-in-Context : goal.put_hunk-requires-in-Context
-put_hunk-requires-in-Context g c = c.requires.lawful
-
-pub put_hunk-requires : goal.put_hunk-requires
-put_hunk-requires g c = c.requires.lawful
-
 pub unreachable-requires : goal.unreachable-requires
 unreachable-requires g c = no-form c.args.form c.requires.form c.in-Normal.is

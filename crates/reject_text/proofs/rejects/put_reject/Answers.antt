@@ -32,11 +32,5 @@ put_all_hunks-requires-clause-rows g c = c.requires.rows ∙ ap (λ (ch : Change
 pub put_all_hunks-requires-clause-lawful : goal.put_all_hunks-requires-clause-lawful
 put_all_hunks-requires-clause-lawful g c = subst (AreLawfulHunks c.args.text.now) (sym c.deref.ensures.value) (subst (IsLawfulChange c.args.text.now) c.in-Hunks.is c.requires.lawful)
 
-pub returns-clause-rest : goal.returns-clause-rest
-returns-clause-rest g c = c.put_all_hunks.ensures.rest
-
-pub put_all_hunks-requires-clause-form : goal.put_all_hunks-requires-clause-form
-put_all_hunks-requires-clause-form g c = c.requires.form
-
 pub unreachable-requires : goal.unreachable-requires
 unreachable-requires g c = subst AreHunks c.in-Script.is c.requires.hunks
