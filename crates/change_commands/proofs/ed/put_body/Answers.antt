@@ -16,8 +16,7 @@ use Rattle.change_commands.specs.declared.place.Place.{Place}
 use Rattle.change_commands.proofs.EdLemmas.{ahead, count-next, front-is, grown-more, grown-none, grown-rest, one-more, one-on, Back, back}
 use Rattle.change_commands.proofs.Steps.{edits-none, hunk-ahead}
 use Rattle.std.specs.Prelude.{vec_len}
-use Rattle.outside.proofs.Exits.{if_ok_none}
-use Rattle.change_commands.proofs.Bounds.{body-short, falls, le-same, line-place, some-left, taken-few, under, word-fits, body-long, down-up, from-end, lt-le, over-end, under-end, whole-next}
+use Rattle.change_commands.proofs.Bounds.{body-short, falls, le-same, line-place, some-left, taken-few, word-fits, body-long, down-up, from-end, lt-le, over-end, under-end, whole-next}
 use Rattle.change_commands.proofs.ed.put_body.Goals as goal
 
 pub loop-line-init : goal.loop-line-init
@@ -128,17 +127,8 @@ base-requires g c = subst (λ (h : Hunk). vec_len h.body < 4294967296) (sym c.re
 pub loop-line-smaller : goal.loop-line-smaller
 loop-line-smaller g c = falls c.loop-line.line 0 c.loop-line-test.true
 
-pub index-requires : goal.index-requires
-index-requires g c = under c.loop-line.line 0 c.len-line.result _ c.loop-line-test.true c.loop-line.auto.line (le-same _ _ c.len-line.ensures)
-
 pub overflow_step-line : goal.overflow_step-line
 overflow_step-line g c = some-left c.loop-line.line 0 c.loop-line-test.true
-
-pub returns-in_err-front-clause-place : goal.returns-in_err-front-clause-place
-returns-in_err-front-clause-place g c = if_ok_none _ _ c.from_residual.result c.from_residual.ensures.1
-
-pub put_behind-requires : goal.put_behind-requires
-put_behind-requires g c = c.requires.kept
 
 pub overflow_add-next : goal.overflow_add-next
 overflow_add-next g c = word-fits c.base.result c.count.result c.from.result c.base.ensures.small c.count.type_inv c.from.ensures

@@ -9,7 +9,7 @@ use Rattle.ed_form.specs.declared.script.EdEdit.{EdEdit}
 use Rattle.ed_form.specs.PlainEdit.{IsLawfulEdit, IsLawfulScript, edit_of, edits_of}
 use Rattle.change_commands.proofs.RunLemmas.{grown-by, grown-still, run-grown, run-own, run-still}
 use Rattle.change_commands.proofs.ScriptLemmas.{each-few, edit-at, lawful-at}
-use Rattle.change_commands.proofs.Bounds.{edits-long, lt-le}
+use Rattle.change_commands.proofs.Bounds.{lt-le}
 use Rattle.change_commands.proofs.script.put_behind.Goals as goal
 
 puts-again : {O R S E F : Type 0} {view : O → SinkView} {same : O → O → Type 0} {old new : O} {bytes : List ℕ} (e : E) (f : F) → Puts {R = R} view same old new (Err e) bytes → Puts {R = S} view same old new (Err f) bytes
@@ -110,6 +110,3 @@ put_run-requires-clause-run g c = c.requires.run
 
 pub put_run-requires-clause-lawful : goal.put_run-requires-clause-lawful
 put_run-requires-clause-lawful g c = c.requires.lawful
-
-pub index-edit-requires : goal.index-edit-requires
-index-edit-requires g c = subst (λ (n : ℕ). c.args.at < n) (sym (edits-long c.args.script.now)) c.requires.within

@@ -61,6 +61,3 @@ returns g c =
 
 pub overflow_add-i : goal.overflow_add-i
 overflow_add-i g c = next-fits c.loop-i.i _ c.loop-i-test.true c.len-count.type_inv
-
-pub index-requires : goal.index-requires
-index-requires g c = subst (λ (n : ℕ). c.loop-i.i < n) c.len-count.ensures c.loop-i-test.true

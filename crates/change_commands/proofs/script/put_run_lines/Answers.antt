@@ -11,7 +11,7 @@ use Rattle.change_commands.specs.Runs.{run_adds, text_lines}
 use Rattle.change_commands.proofs.Parts.{written-all, written-more, written-none, written-stop}
 use Rattle.change_commands.proofs.EdLemmas.{lines-none}
 use Rattle.change_commands.proofs.ScriptLemmas.{adds-more, adds-none, edit-at, lines-both}
-use Rattle.change_commands.proofs.Bounds.{edits-long, falls, some-left, under}
+use Rattle.change_commands.proofs.Bounds.{falls, some-left, under}
 use Rattle.change_commands.proofs.script.put_run_lines.Goals as goal
 
 -- a command more, from the last one
@@ -94,9 +94,6 @@ put_lines-requires g c = subst (λ (e : EdEdit). All (LiesIn c.args.text.now) e.
 
 pub loop-i-smaller : goal.loop-i-smaller
 loop-i-smaller g c = falls c.loop-i.i c.args.run.from c.loop-i-test.true
-
-pub index-edit-requires : goal.index-edit-requires
-index-edit-requires g c = subst (λ (n : ℕ). c.loop-i.i - 1 < n) (sym (edits-long c.args.script.now)) (under c.loop-i.i c.args.run.from c.args.end _ c.loop-i-test.true c.loop-i.auto.i c.requires.within)
 
 pub overflow_step-i : goal.overflow_step-i
 overflow_step-i g c = some-left c.loop-i.i c.args.run.from c.loop-i-test.true
