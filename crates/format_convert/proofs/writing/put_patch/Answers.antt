@@ -13,9 +13,3 @@ returns-in_err-put_header_lines g c = λ x at.
 
 pub returns : goal.returns
 returns g c = λ x at. puts-more g.met.O.Sink.rest_both (has-put c.in_ok-put_header_lines.field-0 (c.in_ok-put_header_lines.ensures x at)) (c.put_change.ensures x at)
-
-pub put_change-requires : goal.put_change-requires
-put_change-requires g c = c.requires
-
-pub put_header_lines-requires : goal.put_header_lines-requires
-put_header_lines-requires g c = c.requires
