@@ -34,8 +34,5 @@ put_change-requires-clause-placed g c = subst (λ (t : List ℕ). IsPlaced t c.p
 pub put_change-requires-clause-lawful : goal.put_change-requires-clause-lawful
 put_change-requires-clause-lawful g c = subst (λ (t : List ℕ). IsLawfulPatch t c.patch_at-one.result.now) (sym c.text.ensures) c.patch_at-one.ensures.lawful
 
-pub put_header_lines-requires : goal.put_header_lines-requires
-put_header_lines-requires g c = c.requires
-
 pub patch_at-one-requires : goal.patch_at-one-requires
 patch_at-one-requires g c = c.requires
