@@ -1,5 +1,5 @@
 -- Commands of an ed script, written while edits come in front of others.
-use Rattle.std.proofs.Common.{◌≡◌, ℕ, zero, suc, ◌+◌, ◌-◌, ◌<◌, ◌≤◌, Bool, true, false, cond, eqb, not, List, [], ◌∷◌, ◌++◌, length, get_or, take, drop, map, refl, sym, ap, ◌∙◌, append_assoc, arith}
+use Rattle.std.proofs.Common.{◌≡◌, ◌⊎◌, inl, inr, ℕ, zero, suc, ◌+◌, ◌-◌, ◌<◌, ◌≤◌, Bool, true, false, cond, eqb, List, [], ◌∷◌, ◌++◌, length, get_or, take, drop, refl, sym, ap, ◌∙◌, append_assoc, arith}
 use Rattle.std.specs.Prelude.{nat_lt, reverse}
 use Rattle.std.specs.List.{flat_map}
 use Rattle.std.proofs.lemmas.Bool.Decides.{nat_tests}
@@ -185,6 +185,19 @@ count-next items n i l at lt is =
     ap (λ k. taken_count Forward (take k items)) at
     ∙ count-to items i l (is_on_side Forward l.mark) lt (ap (λ (x : HunkLine). is_on_side Forward x.mark) (sym is))
 
+-- one line back in a body
+pub record Back (own : ℕ) (items : List HunkLine) (i : ℕ) (l : HunkLine) (next q : ℕ) : Type 0 where
+  pub wide : next ≡ q + cond (is_on_side Forward l.mark) 1 0
+  pub stands : q ≡ own + taken_count Forward (take i items)
+
+back-to : (own taken less one next q : ℕ) → next ≡ own + taken → taken ≡ less + one → q ≡ next - one → (next ≡ q + one) × (q ≡ own + less)
+back-to own taken less one next q is more less-is = (omega arith, omega arith)
+
+pub back : (own : ℕ) (items : List HunkLine) (n i : ℕ) (l : HunkLine) (next q : ℕ) → n ≡ i + 1 → i < length items → l ≡ get_or items i l → next ≡ own + taken_count Forward (take n items) → q ≡ next - cond (is_on_side Forward l.mark) 1 0 → Back own items i l next q
+back own items n i l next q at lt is ahead before =
+    let b = back-to own _ (taken_count Forward (take i items)) _ next q ahead (count-next items n i l at lt is) before in
+    record { wide = b.0; stands = b.1 }
+
 pub one-on : (b : Bool) (n q : ℕ) → n ≡ q + cond b 1 0 → b ≡ true → 1 ≤ n
 one-on true n q e yes-is = omega (arith, e)
 one-on false n q e yes-is = absurd cc
@@ -230,3 +243,8 @@ text-rest es left =
     sym (text-ends (blocks_of (es ++ left)))
     ∙ ap (λ t. t ++ first_text (blocks_of (es ++ left))) (grown-is es left)
     ∙ append_assoc (text_behind (blocks_of left)) (grown es left) (first_text (blocks_of (es ++ left)))
+
+-- a line that isn't kept
+pub not-keep : (m : Mark) → (m ≡ Drop) ⊎ (m ≡ Add) → is_keep m ≡ false
+not-keep m (inl e) = ap is_keep e
+not-keep m (inr e) = ap is_keep e

@@ -1,13 +1,11 @@
 -- Lines without their line feed, hunks that fall back and commands that are too large, seen one by one.
-use Rattle.std.proofs.Common.{◌≡◌, ℕ, zero, suc, ◌+◌, ◌-◌, ◌<◌, ◌≤◌, Bool, true, false, not, ◌||◌, ◌&&◌, cond, List, [], ◌∷◌, ◌++◌, length, get_or, take, drop, map, refl, sym, ap, ◌∙◌, append_assoc, arith}
+use Rattle.std.proofs.Common.{◌≡◌, ℕ, ◌+◌, ◌-◌, Bool, true, false, not, ◌||◌, ◌&&◌, cond, List, [], ◌∷◌, ◌++◌, length, map, refl, sym, ap, ◌∙◌, append_assoc}
 use Rattle.std.specs.Prelude.{filter, nat_lt}
 use Rattle.std.specs.List.{flat_map, list_any, zip}
-use Rattle.std.proofs.lemmas.List.{append-nil, map-append}
 use Rattle.std.proofs.lemmas.List.Concat.{flat_map-cons}
 use Rattle.hunk_core.specs.declared.Form.{Form}
 use Rattle.hunk_core.specs.declared.Form.TheVariants.{Unified, Context, Normal, Ed}
 use Rattle.hunk_core.specs.declared.Hunk.{Hunk}
-use Rattle.hunk_core.specs.declared.Mark.{Mark}
 use Rattle.hunk_core.specs.declared.Side.{Side}
 use Rattle.hunk_core.specs.LineTests.{ends_line}
 use Rattle.hunk_core.specs.PlainHunk.{Marked, PlainHunk, hunk_of, hunks_of, old_lines}
@@ -15,7 +13,7 @@ use Rattle.hunk_core.specs.Rules.{lacks_inner_end, is_too_large}
 use Rattle.hunk_core.specs.Turned.{base}
 use Rattle.change_commands.specs.Taken.{hunk_if, kept_hunks}
 use Rattle.change_commands.specs.Blocks.{Block}
-use Rattle.change_commands.specs.Fitting.{changed_lines, falls_behind, has_large_command, has_large_normal, has_open, is_large_ed, is_large_normal, is_own, own_lines}
+use Rattle.change_commands.specs.Fitting.{falls_behind, has_large_command, has_large_normal, has_open, is_large_ed, is_large_normal, is_own, own_lines}
 use Rattle.change_commands.specs.Commands.{range_start}
 use Rattle.change_commands.specs.Seeing.{ends_open, is_over_ed, is_large as large_of}
 use Rattle.change_commands.specs.declared.block.Block.{Block as Size}
@@ -28,6 +26,9 @@ use Rattle.change_commands.specs.declared.kept.Kept.{Kept}
 or-false : (b : Bool) → (b || false) ≡ b
 or-false true = refl
 or-false false = refl
+
+pub or-last : (r a b d : Bool) → a ≡ false → b ≡ false → r ≡ d → r ≡ (a || (b || d))
+or-last r a b d first second is = is ∙ sym (ap (λ x. x || (b || d)) first ∙ ap (λ x. x || d) second)
 
 or-more : (a b c : Bool) → (a || (b || c)) ≡ ((a || b) || c)
 or-more true b c = refl

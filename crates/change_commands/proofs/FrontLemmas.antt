@@ -4,7 +4,7 @@ use Rattle.std.specs.Prelude.{MatchOption, is_some}
 use Rattle.std.proofs.lemmas.Bool.Decides.{nat_tests}
 use Rattle.hunk_core.specs.declared.Side.{Side}
 use Rattle.hunk_core.specs.declared.Side.TheVariants.{Forward, Reversed}
-use Rattle.change_commands.specs.Blocks.{Edit, Block, added_by, behind, block_of, blocks_of, dropped_by, in_front}
+use Rattle.change_commands.specs.Blocks.{Edit, Block, behind, block_of, blocks_of, dropped_by, in_front}
 use Rattle.change_commands.specs.Fronts.{begins_at, front, front_block, front_rest, is_on, line_on}
 
 pub front-none : (side : Side) (q : ℕ) → front side q [] ≡ []
@@ -204,3 +204,18 @@ block-some left es e is = sym (ap (λ xs. not (eqb (length (blocks_of xs)) 0)) i
 pub has-block : {A : Type 0} (o : Option A) (left : List Edit) (P : A → Type 0) → ((x : A) → P x → (e : Edit) × (es : List Edit) × (left ≡ e ∷ es)) → MatchOption o (left ≡ []) P → is_some o ≡ not (eqb (length (blocks_of left)) 0)
 has-block None left P some none = sym (ap (λ xs. not (eqb (length (blocks_of xs)) 0)) none ∙ ap (λ bs. not (eqb (length bs) 0)) blocks-none)
 has-block (Some x) left P some found = let s = some x found in block-some left s.1 s.0 s.2
+
+-- ---- whether edits begin in a gap
+
+at-other : (gap : ℕ) (e : Edit) → e.at ≢ gap → eqb e.at gap ≡ false
+at-other gap e away = grind (arith, nat_tests)
+
+at-here : (gap : ℕ) (e : Edit) → e.at ≡ gap → eqb e.at gap ≡ true
+at-here gap e here = grind (arith, nat_tests)
+
+pub begins-not : (gap : ℕ) (left : List Edit) (e : Edit) (es : List Edit) → left ≡ e ∷ es → e.at ≢ gap → begins_at gap left ≡ false
+begins-not gap left e es is away = ap (begins_at gap) is ∙ at-other gap e away
+
+pub begins-some : {F : Type 0} (o : Option F) (gap : ℕ) (left : List Edit) (P : F → Type 0) → ((f : F) → P f → (e : Edit) × (es : List Edit) × (left ≡ e ∷ es) × (e.at ≡ gap)) → MatchOption o (begins_at gap left ≡ false) P → is_some o ≡ begins_at gap left
+begins-some None gap left P own is = sym is
+begins-some (Some f) gap left P own is = let x = own f is in sym (ap (begins_at gap) x.2 ∙ at-here gap x.0 x.3)

@@ -8,3 +8,4 @@ pub mod FitLemmas
 pub mod ScriptLemmas
 pub mod RunLemmas
 pub mod SmallLemmas
+pub mod Bounds

@@ -1,6 +1,8 @@
 -- A text that is written part by part: what was written, and what is left of it.
-use Rattle.std.proofs.Common.{◌≡◌, ℕ, List, [], ◌++◌, Result, Ok, Err, refl, sym, ap, subst, ◌∙◌, append_assoc}
+use Rattle.std.proofs.Common.{◌≡◌, ℕ, List, [], ◌∷◌, ◌++◌, Ok, Err, refl, sym, ap, subst, ◌∙◌, append_assoc}
+use Rattle.std.specs.List.{flat_map}
 use Rattle.std.proofs.lemmas.List.{append-nil}
+use Rattle.std.proofs.lemmas.List.Concat.{flat_map-cons}
 use Rattle.outside.specs.SinkView.{SinkView}
 use Rattle.outside.specs.Puts.{Puts}
 use Rattle.outside.proofs.SinkSteps.{GoesOn, HasPut, has-more, has-none, has-put, puts-done, puts-more, puts-stop}
@@ -29,3 +31,7 @@ module _ {O : Type 0} {view : O → SinkView} {same : O → O → Type 0} (on : 
 pub written-all : {O R E : Type 0} {view : O → SinkView} {same : O → O → Type 0} {old new : O} {all left : List ℕ} (r : R) → Written view same old new all left → left ≡ [] → Puts {E = E} view same old new (Ok r) all
 written-all {view = view} {same = same} r w none =
     puts-done r (subst (HasPut view same _ _) (sym (append-nil w.done) ∙ ap (λ x. w.done ++ x) (sym none) ∙ w.whole) w.put)
+
+-- the text of one thing alone
+pub text-of-one : {A : Type 0} (f : A → List ℕ) (x : A) → flat_map f (x ∷ []) ≡ f x
+text-of-one f x = flat_map-cons f x [] ∙ append-nil (f x)

@@ -1,14 +1,11 @@
 -- The flags of hunks, and the hunks beside them.
-use Rattle.std.proofs.Common.{◌≡◌, ℕ, zero, suc, ◌+◌, ◌<◌, ◌≤◌, Bool, true, false, ◌||◌, cond, List, [], ◌∷◌, ◌++◌, length, get_or, drop, map, Some, refl, sym, ap, subst, ◌∙◌, arith}
-use Rattle.std.specs.Prelude.{slice_get}
-use Rattle.std.specs.List.{flat_map, list_any, zip}
+use Rattle.std.proofs.Common.{◌≡◌, ℕ, zero, suc, ◌+◌, ◌<◌, ◌^◌, ◌≤◌, Bool, true, false, ◌||◌, List, [], ◌∷◌, length, get_or, drop, Some, refl, sym, ap, subst, ◌∙◌, arith}
+use Rattle.std.specs.List.{list_any}
 use Rattle.std.proofs.lemmas.List.{at_drop_more, drop_all}
-use Rattle.std.proofs.lemmas.List.Concat.{flat_map-cons}
 use Rattle.std.proofs.lemmas.List.FromFn.{get_or-map-range_with_len, length-map-range_with_len}
 use Rattle.std.proofs.lemmas.Option.{get_or_from_slice_get, slice_get-get_or}
 use Rattle.hunk_core.specs.declared.Hunk.{Hunk}
-use Rattle.hunk_core.specs.PlainHunk.{PlainHunk, body_of, hunk_of, hunks_of}
-use Rattle.hunk_core.specs.Turned.{base}
+use Rattle.hunk_core.specs.PlainHunk.{hunks_of}
 use Rattle.std.proofs.lemmas.Option.{same_Some}
 use Rattle.file_patch.specs.declared.Change.{Change}
 use Rattle.file_patch.specs.declared.Change.TheVariants.{Hunks, Script}
@@ -21,9 +18,8 @@ use Rattle.filter_choice.specs.Kept.{keeps}
 use Rattle.filter_choice.proofs.Rows.{zip-at, zip-count}
 use Rattle.tool_words.specs.PlainJobs.{PlainFilterJob, plain_filter_job}
 use Rattle.line_list.proofs.Elements.{found}
-use Rattle.change_commands.specs.Taken.{flags, hunk_if, kept_hunks, left_change, left_patch}
-use Rattle.change_commands.specs.Blocks.{Edit, body_edits, hunk_edits}
-use Rattle.change_commands.specs.Walk.{IsHunks, IsKept, edits_if, edits_of, kept_flags, left_hunks, pairs}
+use Rattle.change_commands.specs.Taken.{flags, left_change, left_patch}
+use Rattle.change_commands.specs.Walk.{IsHunks, IsKept, kept_flags, left_hunks, pairs}
 use Rattle.change_commands.specs.declared.kept.Kept.{Kept}
 
 pub flag-at : (j : PlainFilterJob) (n : ℕ) (p : PlainPatch) (i : ℕ) (d : Bool) → i < hunk_count p.change → get_or (flags j n p) i d ≡ keeps j n p i
@@ -93,3 +89,7 @@ are-made text (Hunks hs) own is lawful = record {
   count = ap length is;
 }
 are-made text (Script s) own is lawful = absurd is
+
+pub few-rows : (text : List ℕ) (ch : Change) → IsLawfulChange text ch → row_count ch < 2 ^ 32
+few-rows text (Hunks hs) lawful = lawful.count
+few-rows text (Script s) lawful = omega arith

@@ -1,21 +1,27 @@
 -- Ends before the job is begun: by the words, or by a tree that couldn't be settled.
-use Rattle.std.proofs.Common.{◌≡◌, ◌⊎◌, inl, inr, ⊎_elim, ℕ, List, Result, Ok, Err, refl, sym, ◌∙◌, ap, subst}
+use Rattle.std.proofs.Common.{◌≡◌, true, ◌⊎◌, inl, inr, ⊎_elim, Result, Ok, Err, refl, sym, ◌∙◌, ap, subst}
 use Rattle.std.proofs.lemmas.Bool.{false≢true}
-use Rattle.outside.specs.Files.{Files}
 use Rattle.outside.specs.TreeView.{TreeView, Rises}
 use Rattle.outside.specs.FinderView.{FinderView}
 use Rattle.outside.specs.SourceView.{SourceView}
 use Rattle.outside.specs.SinkView.{SinkView}
 use Rattle.patch_options.specs.declared.options.WordFault.{WordFault}
 use Rattle.patch_options.specs.declared.options.WordFault.TheVariants.{Usage, Memory}
-use Rattle.tool_words.specs.PlainJobs.{PlainToolJob}
+use Rattle.tool_words.specs.PlainJobs.{PlainToolJob, plain_tool_job}
+use Rattle.tool_words.specs.declared.jobs.FilterJob.{FilterJob}
+use Rattle.tool_words.specs.declared.jobs.GrepJob.{GrepJob}
+use Rattle.tool_words.specs.declared.jobs.ListJob.{ListJob}
+use Rattle.tool_words.specs.declared.jobs.SplitJob.{SplitJob}
+use Rattle.tool_words.specs.declared.jobs.ToolJob.{ToolJob}
+use Rattle.tool_words.specs.declared.jobs.ToolJob.TheVariants.{List as Listing, Filter, Grep, Split, Recount, Flip, Gen, Stack}
+use Rattle.patch_options.specs.declared.options.Input.{Input}
 use Rattle.run_answers.specs.declared.why.Why.{Why}
 use Rattle.run_answers.specs.declared.why.Why.TheVariants as whys
-use Rattle.run_answers.specs.Answers.{is_own, of_words}
+use Rattle.run_answers.specs.Answers.{of_words}
 use Rattle.run_answers.specs.Moments.{Opens}
-use Rattle.run_answers.specs.Outcomes.{Outcome, refused}
 use Rattle.run_answers.proofs.Opens.{opens_none}
 use Rattle.filter_cli.specs.Command.{command}
+use Rattle.filter_cli.specs.Jobs.{is_filter}
 use Rattle.filter_cli.specs.Worlds.{World, world}
 use Rattle.filter_cli.specs.Causes.{HasCause}
 use Rattle.filter_cli.specs.Carries.{Carries}
@@ -61,3 +67,15 @@ words_not job j fault is not = let never : Ok j ≡ Err fault = sym is ∙ not i
 
 pub carries_words : (job : Result PlainToolJob WordFault) (j : PlainToolJob) → job ≡ Ok j → {u w : World} {why : Why} → Carries (Ok j) u w why → Carries job u w why
 carries_words job j is {u = u} {w = w} {why = why} c = subst (λ (x : Result PlainToolJob WordFault). Carries x u w why) (sym is) c
+
+-- the job of a filter is of one of the filters
+pub no_other : (job : ToolJob) → is_filter (plain_tool_job job) ≡ true
+    → ((x : ListJob) → job ≡ Listing x → ⊥) → ((x : FilterJob) → job ≡ Filter x → ⊥) → ((x : GrepJob) → job ≡ Grep x → ⊥) → ((x : SplitJob) → job ≡ Split x → ⊥) → ((x : Input) → job ≡ Recount x → ⊥) → ((x : Input) → job ≡ Flip x → ⊥) → ⊥
+no_other (Listing x) is a b c d e f = a x refl
+no_other (Filter x) is a b c d e f = b x refl
+no_other (Grep x) is a b c d e f = c x refl
+no_other (Split x) is a b c d e f = d x refl
+no_other (Recount x) is a b c d e f = e x refl
+no_other (Flip x) is a b c d e f = f x refl
+no_other (Gen x) is a b c d e f = false≢true is
+no_other (Stack x) is a b c d e f = false≢true is

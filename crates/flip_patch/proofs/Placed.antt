@@ -1,5 +1,5 @@
 -- One file patch of a set.
-use Rattle.std.proofs.Common.{◌≡◌, ℕ, zero, suc, ◌+◌, List, [], ◌∷◌, ◌++◌, map, reverse, refl, sym, ap, subst, ◌∙◌, Some}
+use Rattle.std.proofs.Common.{◌≡◌, ℕ, zero, suc, ◌+◌, ◌-◌, ◌*◌, ◌^◌, ◌<◌, ◌≤◌, length, Fits, w32, w64, arith, List, [], ◌∷◌, ◌++◌, map, reverse, refl, sym, ap, subst, ◌∙◌, Some}
 use Rattle.std.specs.Prelude.{slice_get}
 use Rattle.std.specs.List.{flat_map}
 use Rattle.std.proofs.lemmas.List.Concat.{flat_map-cons}
@@ -33,3 +33,26 @@ flat-swapped text form (h ∷ hs) =
 pub flipped-is : (v : SetView) → flipped v ≡ flat_map (flipped_patch v.text) (reverse v.patches)
 unfolding flipped
 flipped-is v = refl
+
+-- ---- numbers of file patches, from the last one
+
+pub patch-fits : (i n : ℕ) → i < n → n < 2 ^ 32 → Fits w64 (i * 264)
+patch-fits i n lt few = omega arith
+
+pub number-fits : (i n : ℕ) → i < n → n < 2 ^ 32 → Fits w32 i
+number-fits i n lt few = omega arith
+
+pub long-enough : (ps qs : List FilePatch) → ps ≡ qs → length qs ≤ length ps
+long-enough ps qs is = omega (arith, ap length is)
+
+pub under-end : (i : ℕ) (ps qs : List FilePatch) → 0 < i → i ≤ length ps → ps ≡ qs → i - 1 < length qs
+under-end i ps qs lt le is = omega (arith, ap length is)
+
+pub down-up : (i : ℕ) → 0 < i → i ≡ i - 1 + 1
+down-up i lt = omega arith
+
+pub falls : (i : ℕ) → 0 < i → i - 1 - 0 < i - 0
+falls i lt = omega arith
+
+pub some-left : (i : ℕ) → 0 < i → 1 ≤ i
+some-left i lt = omega arith

@@ -1,5 +1,5 @@
 -- The file patches of a set with their numbers, from 0.
-use Rattle.std.proofs.Common.{map, ◌≡◌, ℕ, zero, suc, ◌+◌, ◌<◌, ◌≤◌, Bool, true, false, ◌&&◌, cond, List, [], ◌∷◌, ◌++◌, length, get_or, drop, Option, None, Some, refl, sym, ap, subst, ◌∙◌, arith}
+use Rattle.std.proofs.Common.{map, ◌⊎◌, inl, inr, ◌*◌, ◌^◌, not, Fits, w32, w64, ◌≡◌, ℕ, zero, suc, ◌+◌, ◌<◌, ◌≤◌, Bool, true, false, ◌&&◌, cond, List, [], ◌∷◌, ◌++◌, length, get_or, drop, Option, None, Some, refl, sym, ap, subst, ◌∙◌, arith}
 use Rattle.std.specs.Prelude.{find, option_map}
 use Rattle.std.specs.List.{flat_map, range_with_len, zip}
 use Rattle.std.specs.Option.{option_or}
@@ -13,13 +13,13 @@ use Rattle.hunk_core.specs.PlainHunk.{PlainHunk, hunk_of, hunks_of}
 use Rattle.file_patch.specs.declared.FilePatch.{FilePatch}
 use Rattle.file_patch.specs.declared.Change.{Change}
 use Rattle.file_patch.specs.declared.Change.TheVariants.{Hunks, Script}
-use Rattle.file_patch.specs.PlainPatch.{AreLawfulHunks, IsLawfulChange, PlainChange, PlainPatch, hunks, script, patch_of, change_of, hunk_count, row_count, first_opening}
+use Rattle.file_patch.specs.PlainPatch.{AreLawfulHunks, IsLawfulChange, PlainChange, PlainPatch, hunks, script, patch_of, hunk_count, row_count, first_opening}
 use Rattle.patch_set.specs.SetView.{SetView, patch_at, plain_patches}
 use Rattle.patch_set.proofs.Named.{rows-counted}
 use Rattle.filter_choice.specs.Kept.{keeps}
 use Rattle.filter_choice.proofs.Rows.{zip-at, zip-count}
 use Rattle.tool_words.specs.PlainJobs.{PlainFilterJob}
-use Rattle.change_commands.specs.Taken.{flags, has_kept, hunk_if, kept_hunks, left_change, left_patch, left_patches, patch_if}
+use Rattle.change_commands.specs.Taken.{flags, has_kept, hunk_if, left_change, left_patch, left_patches, patch_if}
 use Rattle.change_commands.specs.Walk.{IsHunks}
 use Rattle.change_commands.proofs.Rows.{flag-at, flags-long}
 use Rattle.line_list.proofs.Elements.{found, behind, numbered-from, numbered-long}
@@ -28,7 +28,6 @@ use Rattle.format_convert.specs.Converted.{change_text, converted, hunk_texts, r
 use Rattle.change_commands.specs.Commands.{command_text}
 use Rattle.hunk_core.specs.declared.Form.TheVariants.{Unified, Context, Normal, Ed}
 use Rattle.format_convert.specs.Refusals.{change_lacks, is_unfit, lacks_context, no_context, refusal, shows_context, unfit}
-use Rattle.format_convert.specs.declared.fault.ConvertFault.{ConvertFault}
 
 pub rows-long : (v : SetView) → length (rows v) ≡ length v.patches
 rows-long v = numbered-long 0 v.patches
@@ -170,3 +169,44 @@ module _ (j : PlainFilterJob) (n : ℕ) (text : List ℕ) (p : FilePatch) (own :
 pub are-lawful : (text : List ℕ) (ch : Change) (own : List Hunk) → IsHunks ch own → IsLawfulChange text ch → AreLawfulHunks text own
 are-lawful text (Hunks hs) own is lawful = subst (AreLawfulHunks text) is lawful
 are-lawful text (Script s) own is lawful = absurd is
+
+-- ---- numbers that fit
+
+pub patch-in : (ps qs : List FilePatch) (i : ℕ) → i < length ps → ps ≡ qs → i < length qs
+patch-in ps qs i lt is = subst (λ (xs : List FilePatch). i < length xs) is lt
+
+pub patch-out : (ps qs : List FilePatch) (i : ℕ) → length ps ≤ i → ps ≡ qs → length qs ≤ i
+patch-out ps qs i le is = subst (λ (xs : List FilePatch). length xs ≤ i) is le
+
+pub number-fits : (i n : ℕ) → i < n → n < 2 ^ 32 → Fits w32 i
+number-fits i n lt few = omega arith
+
+pub patch-fits : (ps qs : List FilePatch) (i : ℕ) → i < length ps → ps ≡ qs → length qs < 2 ^ 32 → Fits w32 i
+patch-fits ps qs i lt is few = number-fits i (length qs) (patch-in ps qs i lt is) few
+
+pub offset-fits : (i n : ℕ) → i < n → n < 2 ^ 32 → Fits w64 (i * 32)
+offset-fits i n lt few = omega arith
+
+-- ---- tests of a file patch
+
+pub and-some : (r k l : Bool) → r ≡ k → l ≡ true → r ≡ (k && l)
+and-some r true l is some = is ∙ sym some
+and-some r false l is some = is
+
+pub and-none : (k l : Bool) → l ≡ false → false ≡ (k && l)
+and-none true l none = sym none
+and-none false l none = refl
+
+pub none-kept : (k l : Bool) → k ≡ false → false ≡ (k && l)
+none-kept k l none = sym (ap (λ x. x && l) none)
+
+pub misfit : (r k s u : Bool) → k ≡ true → s ≡ false → r ≡ u → r ≡ (k && (not s && u))
+misfit r k s u kept hidden is = is ∙ sym (ap (λ x. x && (not s && u)) kept ∙ ap (λ x. not x && u) hidden)
+
+pub none-misfit : (k s u : Bool) → s ≡ true → false ≡ (k && (not s && u))
+none-misfit k s u shown = and-none k (not s && u) (ap (λ x. not x && u) shown)
+
+-- the forms of commands have no text of a hunk
+pub no-text : (form : Form) (h : PlainHunk) → (form ≡ Normal) ⊎ (form ≡ Ed) → hunk_text form h ≡ []
+no-text form h (inl is) = ap (λ (f : Form). hunk_text f h) is
+no-text form h (inr is) = ap (λ (f : Form). hunk_text f h) is

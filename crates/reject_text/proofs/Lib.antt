@@ -4,3 +4,4 @@ pub mod Moved
 pub mod Nets
 pub mod Rows
 pub mod Unbroken
+pub mod Signed

@@ -1,8 +1,9 @@
-use Rattle.std.proofs.Common.{◌≡◌, ◌∷◌, ◌≤◌, ◌^◌, ℕ, sym, ap, subst, ◌∙◌, arith}
-use Rattle.change_commands.specs.Blocks.{blocks_of}
-use Rattle.change_commands.specs.Fronts.{front_block, front_rest}
-use Rattle.change_commands.specs.Walk.{IsBlock, IsFound, edit_at, edits_left}
+use Rattle.std.proofs.Common.{◌≡◌, ℕ, sym, ap, subst, ◌∙◌, []}
+use Rattle.change_commands.specs.Fronts.{front_rest}
+use Rattle.change_commands.specs.Walk.{IsBlock, IsFound, edit_at, edits_left, IsNextBlock}
 use Rattle.change_commands.proofs.FrontLemmas.{blocks-next, fewer}
+use Rattle.std.specs.Prelude.{Option, MatchOption}
+use Rattle.change_commands.specs.declared.block.Block.{Block}
 use Rattle.change_commands.proofs.block.next_block.Goals as goal
 
 pub block_in-requires-clause-near : goal.block_in-requires-clause-near
@@ -22,3 +23,6 @@ returns c =
       left = blocks-next (edits_left k c.args.place) (edit_at k.set.now.text c.in_ok-found.found.edit) (edits_left k c.in_ok-found.found.behind) (edits_left k b.behind) b.first f.left first
           (own.behind ∙ ap (λ (q : ℕ). front_rest q (edits_left k c.args.place)) (sym first));
     }
+
+pub returns-in_err-found : goal.returns-in_err-found
+returns-in_err-found c = subst (λ (o : Option Block). MatchOption o (edits_left c.args.kept c.args.place ≡ []) (IsNextBlock c.args.kept c.args.place)) (sym c.from_residual.ensures) c.in_err-found.ensures

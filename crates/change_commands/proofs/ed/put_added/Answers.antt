@@ -1,4 +1,4 @@
-use Rattle.std.proofs.Common.{◌≡◌, ◌++◌, ◌∷◌, ℕ, List, [], cond, length, sym, ap, subst, ◌∙◌, refl, arith}
+use Rattle.std.proofs.Common.{◌++◌, ℕ, List, [], cond, length, sym, ap, subst, ◌∙◌, refl, arith}
 use Rattle.std.specs.Prelude.{nat_lt}
 use Rattle.std.proofs.lemmas.Result.{err_from_is_err_and}
 use Rattle.hunk_core.specs.declared.Side.TheVariants.{Reversed}
@@ -83,3 +83,6 @@ returns-in_err-put_if_added g c =
 pub returns : goal.returns
 returns g c =
     written-all _ c.loop-found.invariant.written (ap ed_lines (front-stop Reversed c.loop-found.gap (edits_left c.args.kept c.loop-found.at) c.in_default.ensures) ∙ lines-none)
+
+pub edit_in-requires : goal.edit_in-requires
+edit_in-requires g c = c.requires.kept

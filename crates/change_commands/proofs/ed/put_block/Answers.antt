@@ -7,6 +7,7 @@ use Rattle.change_commands.specs.Fronts.{front}
 use Rattle.change_commands.specs.Walk.{edits_left}
 use Rattle.change_commands.proofs.EdLemmas.{counted-is}
 use Rattle.change_commands.proofs.Steps.{few-left}
+use Rattle.change_commands.proofs.Bounds.{near-low}
 use Rattle.change_commands.proofs.ed.put_block.Goals as goal
 
 pub put_head-requires-clause-drops : goal.put_head-requires-clause-drops
@@ -25,3 +26,12 @@ returns g c =
     let b = c.args.block in
     rw (← counted-is b.first (edits_left c.args.kept c.args.place) b.drops b.adds c.requires.block.drops c.requires.block.adds)
     (puts-more g.met.O.Sink.rest_both (has-put c.in_ok-put_head.field-0 c.in_ok-put_head.ensures) c.put_added.ensures)
+
+pub put_added-requires-clause-block : goal.put_added-requires-clause-block
+put_added-requires-clause-block g c = c.requires.block
+
+pub put_added-requires-clause-kept : goal.put_added-requires-clause-kept
+put_added-requires-clause-kept g c = c.requires.kept
+
+pub put_head-requires-clause-first : goal.put_head-requires-clause-first
+put_head-requires-clause-first g c = near-low c.args.block.first c.requires.block.near

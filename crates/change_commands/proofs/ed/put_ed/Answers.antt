@@ -1,17 +1,17 @@
-use Rattle.std.proofs.Common.{◌≡◌, ◌+◌, ◌-◌, ◌<◌, ◌++◌, ℕ, List, [], Err, drop, take, length, refl, sym, ap, subst, ◌∙◌, append_assoc, arith}
+use Rattle.std.proofs.Common.{◌≡◌, ◌+◌, ◌-◌, ◌<◌, ◌++◌, ℕ, List, drop, take, length, sym, ap, subst, ◌∙◌, arith}
 use Rattle.std.proofs.lemmas.List.{take-append-drop}
 use Rattle.std.proofs.lemmas.Grind.{flat_map-append}
 use Rattle.std.proofs.lemmas.Result.{err_from_is_err_and}
 use Rattle.outside.specs.Puts.{Puts}
-use Rattle.outside.proofs.SinkSteps.{HasPut, has-more, has-none, has-put, puts-done, puts-more, puts-stop}
-use Rattle.change_commands.specs.Backward.{first_text, grown, text_behind}
+use Rattle.outside.proofs.SinkSteps.{HasPut, has-more, has-none, has-put, puts-more, puts-stop}
+use Rattle.change_commands.specs.Backward.{first_text, grown, text_behind, StandsBehind}
 use Rattle.change_commands.specs.Blocks.{Edit, blocks_of, hunk_edits}
 use Rattle.change_commands.specs.Commands.{ed_text}
 use Rattle.change_commands.specs.Walk.{edits_if, edits_left, edits_of, left_hunks, pair_left, pairs}
-use Rattle.change_commands.specs.declared.place.Place.{Place}
 use Rattle.change_commands.proofs.EdLemmas.{grown-is, text-ends, text-rest}
 use Rattle.change_commands.proofs.FrontLemmas.{blocks-none}
 use Rattle.change_commands.proofs.Steps.{edits-are, is-there, none-whole, whole-is}
+use Rattle.change_commands.proofs.Bounds.{down-up, falls, some-left, under-end}
 use Rattle.change_commands.proofs.ed.put_ed.Goals as goal
 
 pub loop-hunk-init : goal.loop-hunk-init
@@ -68,3 +68,18 @@ returns g c =
     let last = subst (λ (es : List Edit). Puts g.O.Sink.view g.O.Sink.same_rest c.loop-hunk.out c.put_next.new.out c.put_next.result (first_text (blocks_of es))) here c.put_next.ensures in
     rw (ap (λ (es : List Edit). ed_text (blocks_of es)) (edits-are k) ∙ sym (text-ends (blocks_of (edits_of text (pairs k)))))
     (puts-more g.met.O.Sink.rest_both before last)
+
+pub put_if_kept-requires-clause-front : goal.put_if_kept-requires-clause-front
+put_if_kept-requires-clause-front g c = subst (λ (n : ℕ). StandsBehind c.args.kept n c.loop-hunk.front) (down-up c.loop-hunk.hunk c.loop-hunk-test.true) c.loop-hunk.invariant.stands
+
+pub put_if_kept-requires-clause-within : goal.put_if_kept-requires-clause-within
+put_if_kept-requires-clause-within g c = under-end c.loop-hunk.hunk _ c.loop-hunk-test.true c.loop-hunk.auto.hunk
+
+pub loop-hunk-smaller : goal.loop-hunk-smaller
+loop-hunk-smaller g c = falls c.loop-hunk.hunk 0 c.loop-hunk-test.true
+
+pub put_if_kept-requires-clause-kept : goal.put_if_kept-requires-clause-kept
+put_if_kept-requires-clause-kept g c = c.requires
+
+pub overflow_step-hunk : goal.overflow_step-hunk
+overflow_step-hunk g c = some-left c.loop-hunk.hunk 0 c.loop-hunk-test.true

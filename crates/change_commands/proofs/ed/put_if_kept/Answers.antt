@@ -1,4 +1,4 @@
-use Rattle.std.proofs.Common.{◌≡◌, ◌+◌, ◌++◌, ℕ, List, [], Bool, true, false, drop, get_or, length, refl, sym, ap, subst, ◌∙◌, arith}
+use Rattle.std.proofs.Common.{◌≡◌, ◌+◌, ◌++◌, ℕ, List, [], false, drop, get_or, sym, ap, subst, ◌∙◌}
 use Rattle.std.proofs.lemmas.Result.{IfOk-weaker}
 use Rattle.hunk_core.specs.declared.Hunk.{Hunk}
 use Rattle.hunk_core.specs.PlainHunk.{body_of, hunk_of}
@@ -7,10 +7,10 @@ use Rattle.outside.specs.Puts.{Puts}
 use Rattle.outside.proofs.SinkSteps.{HasPut, has-none, puts-done}
 use Rattle.change_commands.specs.Backward.{StandsBehind, grown}
 use Rattle.change_commands.specs.Blocks.{Edit, body_edits}
-use Rattle.change_commands.specs.Walk.{edits_left, edits_of, kept_flags, pair_left, pairs}
-use Rattle.change_commands.specs.declared.place.Place.{Place}
+use Rattle.change_commands.specs.Walk.{edits_of, kept_flags, pair_left, pairs}
 use Rattle.change_commands.proofs.EdLemmas.{grown-none}
 use Rattle.change_commands.proofs.Steps.{if-kept, if-not, is-there, pair-is, whole-is}
+use Rattle.change_commands.proofs.Bounds.{offset-fits}
 use Rattle.change_commands.proofs.ed.put_if_kept.Goals as goal
 
 pub returns-then-not-is_kept-clause-put : goal.returns-then-not-is_kept-clause-put
@@ -52,3 +52,24 @@ returns-clause-place g c =
     IfOk-weaker c.put_body.result _ (StandsBehind k c.args.hunk)
     (λ p at. at ∙ ap (λ (es : List Edit). es ++ left) (sym (same ∙ ap (λ (x : Hunk). body_edits (base (hunk_of text x)) (body_of text x.body.items)) c.index-kept-hunk.is)) ∙ sym (whole-is k c.requires.kept c.args.hunk h c.requires.within c.index-kept-hunk.is))
     c.put_body.ensures.place
+
+pub put_body-requires-clause-within : goal.put_body-requires-clause-within
+put_body-requires-clause-within g c = c.requires.within
+
+pub bounds-kept-hunk : goal.bounds-kept-hunk
+bounds-kept-hunk g c = c.requires.within
+
+pub offset_bounds-kept-hunk : goal.offset_bounds-kept-hunk
+offset_bounds-kept-hunk g c = offset-fits c.args.hunk _ c.requires.within c.requires.kept.lawful.count
+
+pub is_kept-requires-clause-within : goal.is_kept-requires-clause-within
+is_kept-requires-clause-within g c = c.requires.within
+
+pub put_body-requires-clause-front : goal.put_body-requires-clause-front
+put_body-requires-clause-front g c = c.requires.front
+
+pub put_body-requires-clause-kept : goal.put_body-requires-clause-kept
+put_body-requires-clause-kept g c = c.requires.kept
+
+pub put_body-requires-clause-own : goal.put_body-requires-clause-own
+put_body-requires-clause-own g c = ap (λ (h : Hunk). get_or c.args.kept.hunks.now c.args.hunk h) c.index-kept-hunk.is

@@ -19,3 +19,6 @@ pub returns-in-None : goal.returns-in-None
 returns-in-None g c =
     let none : edits_left c.args.kept c.args.place ≡ [] = c.in-None.ensures in
     puts-done _ (subst (λ (bs : List ℕ). HasPut g.O.Sink.view g.O.Sink.same_rest c.args.out.now c.args.out.now bs) (sym (ap first_text (ap blocks_of none ∙ blocks-none))) (has-none g.met.O.Sink.rest_none c.args.out.now))
+
+pub put_block-requires-clause-kept : goal.put_block-requires-clause-kept
+put_block-requires-clause-kept g c = c.requires

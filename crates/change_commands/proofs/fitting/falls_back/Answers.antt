@@ -1,12 +1,10 @@
-use Rattle.std.proofs.Common.{◌≡◌, ◌+◌, ◌++◌, ◌∷◌, ◌||◌, ◌&&◌, ◌<◌, ℕ, Bool, false, true, cond, drop, get_or, length, sym, ap, ◌∙◌, arith}
+use Rattle.std.proofs.Common.{◌≡◌, ◌+◌, ◌∷◌, ◌||◌, ◌&&◌, ◌<◌, ℕ, Bool, false, cond, drop, get_or, length, sym, ap, ◌∙◌, arith}
 use Rattle.std.specs.Prelude.{nat_lt}
 use Rattle.std.specs.List.{flat_map}
 use Rattle.std.proofs.lemmas.List.Concat.{flat_map-cons}
-use Rattle.hunk_core.specs.declared.Hunk.{Hunk}
-use Rattle.hunk_core.specs.PlainHunk.{PlainHunk, body_of, hunk_of, old_lines}
-use Rattle.hunk_core.specs.Turned.{base}
+use Rattle.hunk_core.specs.PlainHunk.{hunk_of}
 use Rattle.change_commands.specs.Fitting.{falls_behind}
-use Rattle.change_commands.specs.Walk.{first_base, first_count, kept_flags, left_hunks, own_base, own_count, pairs}
+use Rattle.change_commands.specs.Walk.{first_base, first_count, kept_flags, own_base, own_count, pairs}
 use Rattle.change_commands.specs.declared.kept.Kept.{Kept}
 use Rattle.change_commands.specs.Walk.{IsKept}
 use Rattle.change_commands.proofs.FitLemmas.{falls-none, falls-row, hunks_if, left-are}
@@ -55,3 +53,9 @@ returns c =
     sym (c.loop-hunk.invariant
     ∙ ap (λ rows. falls_behind c.loop-hunk.end (flat_map (hunks_if c.args.kept.set.now.text) rows)) (none-behind c.args.kept c.requires c.loop-hunk.hunk (omega (arith, c.loop-hunk-test.false)))
     ∙ falls-none c.loop-hunk.end)
+
+pub end_behind-end-requires-clause-within : goal.end_behind-end-requires-clause-within
+end_behind-end-requires-clause-within c = c.loop-hunk-test.true
+
+pub stands_before-requires-clause-within : goal.stands_before-requires-clause-within
+stands_before-requires-clause-within c = c.loop-hunk-test.true

@@ -1,5 +1,4 @@
-use Rattle.std.proofs.Common.{◌≡◌, ◌++◌, ◌∷◌, ℕ, List, [], Bool, false, get_or, sym, ap, subst, ◌∙◌}
-use Rattle.std.specs.List.{flat_map}
+use Rattle.std.proofs.Common.{◌≡◌, ◌++◌, ◌∷◌, ℕ, List, [], Bool, get_or, sym, ap, subst, ◌∙◌}
 use Rattle.std.proofs.lemmas.List.{append-nil}
 use Rattle.std.proofs.lemmas.List.Concat.{flat_map-cons}
 use Rattle.hunk_core.specs.declared.Hunk.{Hunk}
@@ -8,9 +7,10 @@ use Rattle.hunk_core.specs.Turned.{IsLawful}
 use Rattle.change_commands.specs.Taken.{hunk_if}
 use Rattle.change_commands.specs.Fitting.{changed_lines, own_lines}
 use Rattle.change_commands.specs.Seeing.{Sees}
-use Rattle.change_commands.specs.Walk.{first_hunk, hunk_at, kept_flags}
+use Rattle.change_commands.specs.Walk.{first_hunk, hunk_at}
 use Rattle.change_commands.proofs.Rows.{pair-at}
 use Rattle.change_commands.proofs.Steps.{is-there, own}
+use Rattle.change_commands.proofs.Bounds.{offset-fits}
 use Rattle.change_commands.proofs.fitting.seen_if_kept.Goals as goal
 
 pub returns-then-not-is_kept : goal.returns-then-not-is_kept
@@ -40,3 +40,12 @@ returns c = λ before sees.
     (ap (λ (t : List ℕ). own_lines c.args.side (body_of t (get_or k.hunks.now c.args.hunk h).body.items)) c.text.ensures
     ∙ ap (λ (x : Hunk). own_lines c.args.side (body_of text x.body.items)) (sym c.index-kept-hunk.is) ∙ sym lines)
     (c.seen_hunk.ensures before sees)
+
+pub bounds-kept-hunk : goal.bounds-kept-hunk
+bounds-kept-hunk c = c.requires.within
+
+pub offset_bounds-kept-hunk : goal.offset_bounds-kept-hunk
+offset_bounds-kept-hunk c = offset-fits c.args.hunk _ c.requires.within c.requires.kept.lawful.count
+
+pub is_kept-requires-clause-within : goal.is_kept-requires-clause-within
+is_kept-requires-clause-within c = c.requires.within

@@ -1,13 +1,13 @@
-use Rattle.std.proofs.Common.{◌≡◌, ◌+◌, ◌++◌, ◌∷◌, ◌<◌, ℕ, List, [], Bool, false, drop, get_or, length, take, refl, sym, ap, subst, ◌∙◌, arith}
+use Rattle.std.proofs.Common.{◌≡◌, ◌+◌, ◌++◌, ◌∷◌, ◌<◌, [], Bool, false, get_or, length, take, refl, sym, ap, subst, ◌∙◌, arith}
 use Rattle.std.specs.List.{flat_map}
 use Rattle.std.proofs.lemmas.Grind.{flat_map-append}
 use Rattle.std.proofs.lemmas.List.{append-nil, take_all, take_more}
 use Rattle.std.proofs.lemmas.List.Concat.{flat_map-cons}
 use Rattle.hunk_core.specs.declared.Hunk.{Hunk}
-use Rattle.hunk_core.specs.PlainHunk.{PlainHunk, hunk_of}
+use Rattle.hunk_core.specs.PlainHunk.{PlainHunk}
 use Rattle.change_commands.specs.Fitting.{changed_lines, own_lines}
 use Rattle.change_commands.specs.Seeing.{Sees}
-use Rattle.change_commands.specs.Walk.{first_hunk, hunk_at, kept_flags, left_hunks, pairs}
+use Rattle.change_commands.specs.Walk.{first_hunk, hunk_at, kept_flags, pairs}
 use Rattle.change_commands.proofs.FitLemmas.{hunks_if, left-are}
 use Rattle.change_commands.proofs.Rows.{pair-at, pair-get, pairs-long}
 use Rattle.change_commands.proofs.Steps.{is-there}
@@ -38,3 +38,6 @@ pub returns : goal.returns
 returns c =
     let k = c.args.kept in
     subst (λ rows. Sees c.loop-hunk.seen (changed_lines c.args.side rows)) (ap (λ xs. flat_map (hunks_if k.set.now.text) xs) (take_all c.loop-hunk.hunk (pairs k) (omega (arith, c.loop-hunk-test.false, pairs-long k c.requires))) ∙ sym (left-are k)) c.loop-hunk.invariant
+
+pub seen_if_kept-seen-requires-clause-within : goal.seen_if_kept-seen-requires-clause-within
+seen_if_kept-seen-requires-clause-within c = c.loop-hunk-test.true

@@ -1,13 +1,14 @@
-use Rattle.std.proofs.Common.{◌≡◌, ◌<◌, ◌||◌, false, true, get_or, length, take, sym, ap, ◌∙◌, arith}
+use Rattle.std.proofs.Common.{◌≡◌, ◌<◌, ◌||◌, false, get_or, sym, ap, ◌∙◌, arith, subst, ℕ}
 use Rattle.std.specs.List.{list_any}
 use Rattle.std.proofs.lemmas.List.{take_all}
 use Rattle.std.proofs.lemmas.List.Folds.{list_any_more}
 use Rattle.std.proofs.lemmas.Option.{same_Some}
-use Rattle.file_patch.specs.PlainPatch.{change_of, hunk_count, patch_of}
+use Rattle.file_patch.specs.PlainPatch.{change_of, hunk_count, patch_of, row_count}
 use Rattle.file_patch.specs.declared.FilePatch.{FilePatch}
 use Rattle.tool_words.specs.PlainJobs.{plain_filter_job}
 use Rattle.change_commands.specs.Taken.{flags}
-use Rattle.change_commands.proofs.Rows.{any-at, flag-at, flags-long}
+use Rattle.change_commands.proofs.Rows.{any-at, flag-at, flags-long, few-rows}
+use Rattle.patch_set.proofs.Named.{rows-counted}
 use Rattle.change_commands.proofs.kept.has_kept.Goals as goal
 
 pub returns-then-keeps : goal.returns-then-keeps
@@ -41,3 +42,11 @@ returns c = λ p is.
     let same = same_Some _ p (sym c.patch_at.ensures.is ∙ is) in
     let count : hunk_count plain.change ≡ c.hunks-hunk-end.result = ap (λ (x : FilePatch). hunk_count (change_of c.args.set.now.text x.change)) (sym same) ∙ sym (c.hunks-hunk-end.ensures c.args.set.now.text) in
     sym (ap (list_any (λ is. is)) (sym (take_all c.loop-hunk.hunk (flags j n plain) (omega (arith, count, flags-long j n plain, c.loop-hunk-test.false, c.loop-hunk.auto.hunk-end)))) ∙ c.loop-hunk.invariant p is)
+
+pub keeps-requires-clause-hunk : goal.keeps-requires-clause-hunk
+keeps-requires-clause-hunk c = λ x at.
+    subst (λ (p : FilePatch). c.loop-hunk.hunk < row_count p.change) (same_Some c.patch_at.result.now x (sym c.patch_at.ensures.is ∙ at))
+    (subst (λ (n : ℕ). c.loop-hunk.hunk < n) (c.hunks-hunk-end.ensures c.args.set.now.text ∙ rows-counted c.args.set.now.text c.patch_at.result.now.change) c.loop-hunk-test.true)
+
+pub hunks-hunk-end-requires : goal.hunks-hunk-end-requires
+hunks-hunk-end-requires c = few-rows c.args.set.now.text c.patch_at.result.now.change c.patch_at.ensures.lawful.change

@@ -69,3 +69,6 @@ returns-in_err-put_if g c =
 pub returns : goal.returns
 returns g c =
     written-all _ c.loop-found.invariant.written (ap (flat_map (line_text c.args.side)) (front-stop c.args.side c.loop-found.gap (edits_left c.args.kept c.loop-found.at) c.in_default.ensures))
+
+pub edit_in-requires : goal.edit_in-requires
+edit_in-requires g c = c.requires.kept

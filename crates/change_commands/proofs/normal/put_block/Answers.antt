@@ -1,8 +1,7 @@
-use Rattle.std.proofs.Common.{◌++◌, ℕ, List, Err, subst}
+use Rattle.std.proofs.Common.{◌++◌}
 use Rattle.std.specs.List.{flat_map}
 use Rattle.std.proofs.lemmas.Result.{err_from_is_err_and}
 use Rattle.hunk_core.specs.declared.Side.TheVariants.{Forward, Reversed}
-use Rattle.outside.specs.Puts.{Puts}
 use Rattle.outside.proofs.SinkSteps.{has-put, puts-more, puts-stop}
 use Rattle.normal_form.specs.Canonical.{action_for, divider_text, line_text}
 use Rattle.change_commands.specs.Fronts.{front}
@@ -23,3 +22,9 @@ returns g c =
     let b = c.args.block in
     rw (← counted-is c.args.net.adds c.args.net.drops b.first (edits_left c.args.kept c.args.place) b.drops b.adds c.requires.block.drops c.requires.block.adds)
     (puts-more g.met.O.Sink.rest_both (has-put c.in_ok-put_head.field-0 c.in_ok-put_head.ensures) c.put_lines.ensures)
+
+pub put_lines-requires-clause-near : goal.put_lines-requires-clause-near
+put_lines-requires-clause-near g c = c.requires.small.first
+
+pub put_lines-requires-clause-kept : goal.put_lines-requires-clause-kept
+put_lines-requires-clause-kept g c = c.requires.kept

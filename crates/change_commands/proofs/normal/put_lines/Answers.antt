@@ -9,3 +9,12 @@ returns-in_err-put_side g c =
 
 pub returns : goal.returns
 returns g c = (puts-more g.met.O.Sink.rest_both (has-put c.in_ok-put_side.field-0 c.in_ok-put_side.ensures) c.put_news.ensures)
+
+pub put_news-requires-clause-near : goal.put_news-requires-clause-near
+put_news-requires-clause-near g c = c.requires.near
+
+pub put_news-requires-clause-kept : goal.put_news-requires-clause-kept
+put_news-requires-clause-kept g c = c.requires.kept
+
+pub put_side-requires-clause-near : goal.put_side-requires-clause-near
+put_side-requires-clause-near g c = c.requires.near

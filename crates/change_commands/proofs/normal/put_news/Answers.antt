@@ -9,3 +9,9 @@ returns-in_err-put_piece g c =
 
 pub returns : goal.returns
 returns g c = rw (← c.divider.ensures) (puts-more g.met.O.Sink.rest_both (has-put c.in_ok-put_piece.field-0 c.in_ok-put_piece.ensures) c.put_side.ensures)
+
+pub put_side-requires-clause-near : goal.put_side-requires-clause-near
+put_side-requires-clause-near g c = c.requires.near
+
+pub put_side-requires-clause-kept : goal.put_side-requires-clause-kept
+put_side-requires-clause-kept g c = c.requires.kept

@@ -1,9 +1,9 @@
-use Rattle.std.proofs.Common.{◌≡◌, ◌+◌, ◌++◌, ◌∷◌, ℕ, List, [], length, drop, sym, ap, subst, ◌∙◌, arith}
+use Rattle.std.proofs.Common.{◌≡◌, ◌+◌, ◌++◌, ℕ, List, [], length, sym, ap, subst, ◌∙◌, arith}
 use Rattle.std.proofs.lemmas.Result.{err_from_is_err_and}
 use Rattle.change_commands.specs.Blocks.{Edit, blocks_of, hunk_edits}
 use Rattle.change_commands.specs.Commands.{normal_behind, normal_command, normal_text}
 use Rattle.change_commands.specs.Fronts.{front_block}
-use Rattle.change_commands.specs.Walk.{IsNextBlock, edits_left, edits_of, left_hunks, pairs}
+use Rattle.change_commands.specs.Walk.{IsNextBlock, edits_left, left_hunks}
 use Rattle.change_commands.proofs.FrontLemmas.{blocks-none}
 use Rattle.change_commands.proofs.NormalLemmas.{behind-cons, behind-none}
 use Rattle.change_commands.proofs.Parts.{Written, written-all, written-more, written-none, written-stop}
@@ -79,3 +79,6 @@ returns g c =
     let none : edits_left c.args.kept c.loop-block.place ≡ [] = c.in_default.ensures in
     written-all _ c.loop-block.invariant.written
     (ap (λ (es : List Edit). normal_behind c.loop-block.net.adds c.loop-block.net.drops (blocks_of es)) none ∙ ap (normal_behind c.loop-block.net.adds c.loop-block.net.drops) blocks-none ∙ behind-none c.loop-block.net.adds c.loop-block.net.drops)
+
+pub put_block-requires-clause-kept : goal.put_block-requires-clause-kept
+put_block-requires-clause-kept g c = c.requires

@@ -1,5 +1,4 @@
-use Rattle.std.proofs.Common.{◌≡◌, ◌+◌, ◌<◌, ◌^◌, ℕ, List, [], Bool, true, false, cond, eqb, Err, length, get_or, sym, ap, subst, ◌∙◌, arith}
-use Rattle.std.specs.Prelude.{sum_by}
+use Rattle.std.proofs.Common.{◌≡◌, ◌+◌, ◌<◌, ◌^◌, ℕ, List, [], true, false, Err, length, get_or, sym, subst, ◌∙◌, arith}
 use Rattle.std.proofs.lemmas.List.{append-nil, length-map}
 use Rattle.std.proofs.lemmas.Result.{err_from_is_err_and}
 use Rattle.outside.specs.SinkView.{SinkView}
@@ -7,12 +6,10 @@ use Rattle.hunk_core.specs.PlainHunk.{bytes_at}
 use Rattle.outside.specs.Puts.{Puts}
 use Rattle.outside.proofs.SinkSteps.{HasPut, has-none, has-put, puts-done, puts-stop}
 use Rattle.ed_form.specs.declared.script.EdEdit.{EdEdit}
-use Rattle.ed_form.specs.PlainEdit.{PlainEdit, IsLawfulEdit, IsLawfulScript, edit_of, edits_of}
-use Rattle.change_commands.specs.Backward.{first_text}
-use Rattle.change_commands.specs.Blocks.{blocks_of}
-use Rattle.change_commands.specs.Runs.{edits_before}
+use Rattle.ed_form.specs.PlainEdit.{IsLawfulEdit, IsLawfulScript, edit_of, edits_of}
 use Rattle.change_commands.proofs.RunLemmas.{grown-by, grown-still, run-grown, run-own, run-still}
 use Rattle.change_commands.proofs.ScriptLemmas.{each-few, edit-at, lawful-at}
+use Rattle.change_commands.proofs.Bounds.{lt-le}
 use Rattle.change_commands.proofs.script.put_behind.Goals as goal
 
 puts-again : {O R S E F : Type 0} {view : O → SinkView} {same : O → O → Type 0} {old new : O} {bytes : List ℕ} (e : E) (f : F) → Puts {R = R} view same old new (Err e) bytes → Puts {R = S} view same old new (Err f) bytes
@@ -104,3 +101,12 @@ returns-clause-run g c =
     let n = next text c.args.script.now c.args.at e c.requires.lawful c.requires.within c.index-edit.ensures in
     run-own (edits_of text c.args.script.now.edits.items) c.args.at (edit_of text e) n.within n.is n.lawful (sym (c.is_change.ensures text) ∙ c.if-not-is_change.false) c.args.run c.requires.run c.run_of.result (length e.added.items) c.run_of.ensures.first n.count n.few
     (sym c.is_beside.ensures ∙ c.if-is_beside.false) c.run_of.ensures.from c.run_of.ensures.end c.run_of.ensures.adds c.run_of.ensures.near
+
+pub put_run-requires-clause-within : goal.put_run-requires-clause-within
+put_run-requires-clause-within g c = lt-le c.args.at _ c.requires.within
+
+pub put_run-requires-clause-run : goal.put_run-requires-clause-run
+put_run-requires-clause-run g c = c.requires.run
+
+pub put_run-requires-clause-lawful : goal.put_run-requires-clause-lawful
+put_run-requires-clause-lawful g c = c.requires.lawful

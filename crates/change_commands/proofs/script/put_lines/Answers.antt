@@ -1,4 +1,4 @@
-use Rattle.std.proofs.Common.{◌≡◌, ◌+◌, ◌++◌, ◌<◌, ◌≤◌, ◌||◌, ℕ, List, [], Bool, not, eqb, drop, get_or, length, sym, ap, subst, ◌∙◌, arith, rules}
+use Rattle.std.proofs.Common.{◌≡◌, ◌+◌, ◌++◌, ◌<◌, ◌≤◌, ◌||◌, ℕ, List, Bool, not, eqb, drop, get_or, length, sym, ap, subst, ◌∙◌, arith, rules}
 use Rattle.std.specs.Prelude.{nat_lt}
 use Rattle.std.proofs.lemmas.Result.{err_from_is_err_and}
 use Rattle.line_list.specs.declared.Span.{Span}
@@ -9,6 +9,7 @@ use Rattle.change_commands.specs.Commands.{ed_line}
 use Rattle.change_commands.specs.Runs.{text_lines}
 use Rattle.change_commands.proofs.Parts.{written-all, written-more, written-none, written-stop}
 use Rattle.change_commands.proofs.ScriptLemmas.{line-last, line-next}
+use Rattle.change_commands.proofs.Bounds.{next-fits}
 use Rattle.change_commands.proofs.script.put_lines.Goals as goal
 
 -- the next line as it is written
@@ -57,3 +58,6 @@ returns g c =
     let count : c.len-count.result ≡ length c.args.edit.now.added.items = search rules in
     let end : length c.args.edit.now.added.items ≤ c.loop-i.i = omega (arith, c.loop-i-test.false, count) in
     written-all _ c.loop-i.invariant (line-last c.args.text.now c.args.behind c.args.edit.now.added.items c.loop-i.i end)
+
+pub overflow_add-i : goal.overflow_add-i
+overflow_add-i g c = next-fits c.loop-i.i _ c.loop-i-test.true c.len-count.type_inv

@@ -1,6 +1,5 @@
-use Rattle.std.proofs.Common.{◌≡◌, ◌+◌, ◌-◌, ◌++◌, ◌||◌, ◌≤◌, ℕ, List, [], Bool, true, false, cond, not, eqb, sym, ap, subst, ◌∙◌, arith}
+use Rattle.std.proofs.Common.{◌≡◌, ◌-◌, ◌++◌, ◌||◌, ℕ, List, [], Bool, true, false, cond, not, eqb, sym, ap, subst, ◌∙◌, arith}
 use Rattle.std.proofs.lemmas.Result.{err_from_is_err_and}
-use Rattle.outside.specs.Puts.{Puts}
 use Rattle.outside.proofs.SinkSteps.{HasPut, has-none, has-put, puts-done, puts-more, puts-stop}
 use Rattle.ed_form.specs.PlainEdit.{PlainEdit, edits_of}
 use Rattle.change_commands.specs.Backward.{first_text}
@@ -10,6 +9,7 @@ use Rattle.change_commands.specs.Fronts.{front_block}
 use Rattle.change_commands.specs.Runs.{IsRun, edits_before, run_adds}
 use Rattle.change_commands.specs.declared.script.Run.{Run}
 use Rattle.change_commands.proofs.RunLemmas.{run-command, run-order, run-text}
+use Rattle.change_commands.proofs.Bounds.{end-low, run-low}
 use Rattle.change_commands.proofs.script.put_run.Goals as goal
 
 none : (es : List PlainEdit) (i : ℕ) (r : Run) → IsRun es i r → (b : Bool) → b ≡ (not (eqb (r.end - r.first) 0) || not (eqb r.adds 0)) → b ≡ false → first_text (blocks_of (edits_before es i)) ≡ []
@@ -42,3 +42,24 @@ returns g c =
     let es = edits_of c.args.text.now c.args.script.now.edits.items in
     rw (some es c.args.end c.args.run c.requires.run c.is_some.result c.is_some.ensures c.if-not-is_some.false)
     (puts-more g.met.O.Sink.rest_both (has-put c.in_ok-put_head.field-0 c.in_ok-put_head.ensures) c.put_run_lines.ensures)
+
+pub put_run_lines-requires-clause-from : goal.put_run_lines-requires-clause-from
+put_run_lines-requires-clause-from g c = c.requires.run.from
+
+pub put_run_lines-requires-clause-within : goal.put_run_lines-requires-clause-within
+put_run_lines-requires-clause-within g c = c.requires.within
+
+pub put_head-requires-clause-first : goal.put_head-requires-clause-first
+put_head-requires-clause-first g c = run-low c.args.run.first c.args.run.end (run-order (edits_of c.args.text.now c.args.script.now.edits.items) c.args.end c.args.run c.requires.run) c.requires.run.near
+
+pub put_head-requires-clause-drops : goal.put_head-requires-clause-drops
+put_head-requires-clause-drops g c = end-low c.args.run.first c.args.run.end c.requires.run.near
+
+pub put_run_lines-requires-clause-adds : goal.put_run_lines-requires-clause-adds
+put_run_lines-requires-clause-adds g c = c.requires.run.adds
+
+pub put_run_lines-requires-clause-lawful : goal.put_run_lines-requires-clause-lawful
+put_run_lines-requires-clause-lawful g c = c.requires.lawful
+
+pub overflow_sub-run-2 : goal.overflow_sub-run-2
+overflow_sub-run-2 g c = run-order (edits_of c.args.text.now c.args.script.now.edits.items) c.args.end c.args.run c.requires.run

@@ -1,4 +1,4 @@
-use Rattle.std.proofs.Common.{◌≡◌, ◌+◌, ◌-◌, ◌++◌, ◌<◌, ◌≤◌, ℕ, List, [], drop, get_or, length, map, take, sym, ap, subst, ◌∙◌, arith, rules}
+use Rattle.std.proofs.Common.{◌≡◌, ◌+◌, ◌-◌, ◌++◌, ◌<◌, ◌≤◌, ℕ, List, get_or, length, sym, ap, subst, ◌∙◌, arith, rules}
 use Rattle.std.specs.List.{All}
 use Rattle.std.proofs.lemmas.List.{length-append, length-map}
 use Rattle.std.proofs.lemmas.Result.{err_from_is_err_and}
@@ -8,9 +8,10 @@ use Rattle.ed_form.specs.declared.script.EdEdit.{EdEdit}
 use Rattle.ed_form.specs.PlainEdit.{edit_of, edits_of, lines_of}
 use Rattle.change_commands.specs.Commands.{ed_lines}
 use Rattle.change_commands.specs.Runs.{run_adds, text_lines}
-use Rattle.change_commands.proofs.Parts.{Written, written-all, written-more, written-none, written-stop}
+use Rattle.change_commands.proofs.Parts.{written-all, written-more, written-none, written-stop}
 use Rattle.change_commands.proofs.EdLemmas.{lines-none}
 use Rattle.change_commands.proofs.ScriptLemmas.{adds-more, adds-none, edit-at, lines-both}
+use Rattle.change_commands.proofs.Bounds.{falls, some-left, under}
 use Rattle.change_commands.proofs.script.put_run_lines.Goals as goal
 
 -- a command more, from the last one
@@ -87,3 +88,12 @@ returns g c =
     let es = edits_of c.args.text.now c.args.script.now.edits.items in
     let same : c.loop-i.i ≡ c.args.run.from = omega (arith, c.loop-i-test.false, c.loop-i.invariant.from) in
     written-all _ c.loop-i.invariant.put (ap (λ (n : ℕ). ed_lines (run_adds es c.args.run.from n)) same ∙ ap ed_lines (adds-none es c.args.run.from) ∙ lines-none)
+
+pub put_lines-requires : goal.put_lines-requires
+put_lines-requires g c = subst (λ (e : EdEdit). All (LiesIn c.args.text.now) e.added.items) (sym c.index-edit.ensures) (c.requires.lawful.within (c.loop-i.i - 1) c.index-edit.result.now (under c.loop-i.i c.args.run.from c.args.end _ c.loop-i-test.true c.loop-i.auto.i c.requires.within))
+
+pub loop-i-smaller : goal.loop-i-smaller
+loop-i-smaller g c = falls c.loop-i.i c.args.run.from c.loop-i-test.true
+
+pub overflow_step-i : goal.overflow_step-i
+overflow_step-i g c = some-left c.loop-i.i c.args.run.from c.loop-i-test.true

@@ -1,14 +1,15 @@
-use Rattle.std.proofs.Common.{◌≡◌, ◌+◌, ◌++◌, ◌<◌, ◌≤◌, ℕ, List, [], length, drop, sym, ap, subst, ◌∙◌, append_assoc, arith, rules}
+use Rattle.std.proofs.Common.{◌≡◌, ◌+◌, ◌++◌, ◌<◌, ◌≤◌, ℕ, List, length, drop, sym, ap, subst, ◌∙◌, arith, rules}
 use Rattle.std.proofs.lemmas.List.{length-map}
 use Rattle.std.proofs.lemmas.Result.{err_from_is_err_and}
 use Rattle.outside.specs.Puts.{Puts}
 use Rattle.outside.proofs.SinkSteps.{HasPut, has-more, has-none, has-put, puts-more, puts-stop}
 use Rattle.ed_form.specs.PlainEdit.{edit_of, edits_of}
-use Rattle.change_commands.specs.Backward.{first_text, grown, text_behind}
+use Rattle.change_commands.specs.Backward.{first_text, grown}
 use Rattle.change_commands.specs.Blocks.{blocks_of, script_edits}
-use Rattle.change_commands.specs.Runs.{edits_before}
+use Rattle.change_commands.specs.Runs.{edits_before, IsRun}
 use Rattle.change_commands.proofs.RunLemmas.{behind-more, run-none, script-ends, script-none, script-rest}
 use Rattle.change_commands.proofs.ScriptLemmas.{edit-at, edit-there}
+use Rattle.change_commands.proofs.Bounds.{edits-long, le-same, len-same}
 use Rattle.change_commands.proofs.script.put_script.Goals as goal
 
 pub loop-at-init : goal.loop-at-init
@@ -56,3 +57,21 @@ returns g c =
     let last = subst (λ (n : ℕ). Puts g.O.Sink.view g.O.Sink.same_rest c.loop-at.out c.put_run.new.out c.put_run.result (first_text (blocks_of (edits_before es n)))) same c.put_run.ensures in
     rw (← script-ends es c.loop-at.at (omega (arith, count, length-map items (edit_of c.args.text.now))))
     (puts-more g.met.O.Sink.rest_both c.loop-at.invariant.put last)
+
+pub put_run-requires-clause-run : goal.put_run-requires-clause-run
+put_run-requires-clause-run g c = subst (λ (n : ℕ). IsRun (edits_of c.args.text.now c.args.script.now.edits.items) n c.loop-at.run) (len-same c.loop-at.at c.len-at-end.result c.len.result _ c.len-at-end.ensures c.len.ensures c.loop-at.auto.at-end c.loop-at-test.false) c.loop-at.invariant.run
+
+pub put_behind-requires-clause-within : goal.put_behind-requires-clause-within
+put_behind-requires-clause-within g c = subst (λ (n : ℕ). c.loop-at.at < n) (c.len-at-end.ensures ∙ edits-long c.args.script.now) c.loop-at-test.true
+
+pub put_run-requires-clause-within : goal.put_run-requires-clause-within
+put_run-requires-clause-within g c = le-same _ _ (c.len.ensures ∙ edits-long c.args.script.now)
+
+pub put_run-requires-clause-lawful : goal.put_run-requires-clause-lawful
+put_run-requires-clause-lawful g c = c.requires
+
+pub put_behind-requires-clause-run : goal.put_behind-requires-clause-run
+put_behind-requires-clause-run g c = c.loop-at.invariant.run
+
+pub put_behind-requires-clause-lawful : goal.put_behind-requires-clause-lawful
+put_behind-requires-clause-lawful g c = c.requires

@@ -1,4 +1,4 @@
-use Rattle.std.proofs.Common.{◌≡◌, Bool, not, eqb, length, sym, ap, ◌∙◌}
+use Rattle.std.proofs.Common.{not, eqb, length, sym, ap, ◌∙◌, subst}
 use Rattle.std.proofs.lemmas.Option.{same_Some}
 use Rattle.file_patch.specs.declared.Change.{Change}
 use Rattle.file_patch.specs.declared.FilePatch.{FilePatch}
@@ -7,6 +7,7 @@ use Rattle.tool_words.specs.PlainJobs.{plain_filter_job}
 use Rattle.change_commands.specs.Blocks.{blocks_in}
 use Rattle.change_commands.specs.Taken.{flags, left_change}
 use Rattle.change_commands.proofs.Rows.{left-of}
+use Rattle.change_commands.specs.Walk.{IsHunks}
 use Rattle.change_commands.proofs.writing.has_blocks.Goals as goal
 
 pub returns-in-Hunks : goal.returns-in-Hunks
@@ -21,3 +22,6 @@ returns-in-Script c = λ x at.
     let same = same_Some c.patch_at.result.now x (sym c.patch_at.ensures.is ∙ at) in
     c.changes.ensures text
     ∙ ap (λ (ch : Change). not (eqb (length (blocks_in (left_change are (change_of text ch)))) 0)) (sym (ap (λ (y : FilePatch). y.change) (sym same) ∙ c.in-Script.is))
+
+pub kept_of-requires-clause-hunks : goal.kept_of-requires-clause-hunks
+kept_of-requires-clause-hunks c = λ x at. subst (λ (ch : Change). IsHunks ch c.deref.result.now) (sym c.in-Hunks.is ∙ ap (λ (p : FilePatch). p.change) (same_Some c.patch_at.result.now x (sym c.patch_at.ensures.is ∙ at))) (sym c.deref.ensures.value)

@@ -6,12 +6,13 @@ use Rattle.file_patch.specs.declared.Change.TheVariants.{Script}
 use Rattle.std.proofs.lemmas.Option.{same_Some}
 use Rattle.file_patch.specs.declared.Change.{Change}
 use Rattle.file_patch.specs.declared.FilePatch.{FilePatch}
-use Rattle.file_patch.specs.PlainPatch.{IsLawfulChange, PlainChange, change_of, patch_of}
+use Rattle.file_patch.specs.PlainPatch.{IsLawfulChange, change_of, patch_of}
 use Rattle.tool_words.specs.PlainJobs.{plain_filter_job}
 use Rattle.change_commands.specs.Fitting.{is_ed, is_unfit}
 use Rattle.change_commands.proofs.SmallLemmas.{script-small}
 use Rattle.change_commands.specs.Taken.{flags, left_change}
 use Rattle.change_commands.proofs.Rows.{left-of}
+use Rattle.change_commands.specs.Walk.{IsHunks}
 use Rattle.change_commands.proofs.writing.is_unfit.Goals as goal
 
 pub returns-in-Hunks : goal.returns-in-Hunks
@@ -38,3 +39,6 @@ returns-in-Script c = λ x at.
     let same = same_Some c.patch_at.result.now x (sym c.patch_at.ensures.is ∙ at) in
     script-fits text c.args.form are c.patch_at.result.now.change _ c.in-Script.is c.patch_at.ensures.lawful.change
     ∙ ap (λ (y : FilePatch). is_unfit c.args.form (left_change are (change_of text y.change))) same
+
+pub kept_of-requires-clause-hunks : goal.kept_of-requires-clause-hunks
+kept_of-requires-clause-hunks c = λ x at. subst (λ (ch : Change). IsHunks ch c.deref.result.now) (sym c.in-Hunks.is ∙ ap (λ (p : FilePatch). p.change) (same_Some c.patch_at.result.now x (sym c.patch_at.ensures.is ∙ at))) (sym c.deref.ensures.value)

@@ -1,14 +1,15 @@
-use Rattle.std.proofs.Common.{◌≡◌, ℕ, List, sym, ap, subst, ◌∙◌}
+use Rattle.std.proofs.Common.{ℕ, List, sym, ap, subst, ◌∙◌}
 use Rattle.std.proofs.lemmas.Option.{same_Some}
 use Rattle.outside.specs.Puts.{Puts}
-use Rattle.ed_form.specs.PlainEdit.{edits_of}
+use Rattle.ed_form.specs.PlainEdit.{edits_of, IsLawfulScript}
 use Rattle.file_patch.specs.declared.Change.{Change}
 use Rattle.file_patch.specs.declared.FilePatch.{FilePatch}
-use Rattle.file_patch.specs.PlainPatch.{PlainChange, change_of, patch_of, script}
+use Rattle.file_patch.specs.PlainPatch.{PlainChange, change_of, patch_of, script, IsLawfulChange}
 use Rattle.tool_words.specs.PlainJobs.{plain_filter_job}
 use Rattle.change_commands.specs.Commands.{command_text}
 use Rattle.change_commands.specs.Taken.{flags, left_change}
 use Rattle.change_commands.proofs.Rows.{left-of}
+use Rattle.change_commands.specs.Walk.{IsHunks}
 use Rattle.change_commands.proofs.writing.put_commands.Goals as goal
 
 pub returns-in-Hunks : goal.returns-in-Hunks
@@ -25,3 +26,15 @@ returns-in-Script g c = λ x at.
     let there = ap (λ (ch : Change). left_change are (change_of text ch)) (sym (ap (λ (y : FilePatch). y.change) (sym same) ∙ c.in-Script.is)) in
     subst (λ (ch : PlainChange). Puts g.O.Sink.view g.O.Sink.same_rest c.args.out.now c.put_again.new.out c.put_again.result (command_text c.args.form ch)) there
     (subst (λ (t : List ℕ). Puts g.O.Sink.view g.O.Sink.same_rest c.args.out.now c.put_again.new.out c.put_again.result (command_text c.args.form (script (edits_of t c.in-Script.script.edits.items)))) c.text.ensures c.put_again.ensures)
+
+pub put_again-requires : goal.put_again-requires
+put_again-requires g c = subst (λ (t : List ℕ). IsLawfulScript t c.in-Script.script) (sym c.text.ensures) (subst (IsLawfulChange c.args.set.now.text) c.in-Script.is c.patch_at.ensures.lawful.change)
+
+pub kept_of-requires-clause-hunks : goal.kept_of-requires-clause-hunks
+kept_of-requires-clause-hunks g c = λ x at. subst (λ (ch : Change). IsHunks ch c.deref.result.now) (sym c.in-Hunks.is ∙ ap (λ (p : FilePatch). p.change) (same_Some c.patch_at.result.now x (sym c.patch_at.ensures.is ∙ at))) (sym c.deref.ensures.value)
+
+pub kept_of-requires-clause-within : goal.kept_of-requires-clause-within
+kept_of-requires-clause-within g c = c.requires
+
+pub patch_at-requires : goal.patch_at-requires
+patch_at-requires g c = c.requires

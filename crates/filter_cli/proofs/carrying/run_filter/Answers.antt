@@ -1,6 +1,6 @@
 use Rattle.std.proofs.Common.{map, refl, string_bytes}
 use Rattle.filter_cli.specs.Jobs.{job_of}
-use Rattle.filter_cli.proofs.Early.{words_carry, words_say}
+use Rattle.filter_cli.proofs.Early.{words_carry, words_say, words_not}
 use Rattle.filter_cli.proofs.carrying.run_filter.Goals as goal
 
 pub returns-in-Err-clause-carries : goal.returns-in-Err-clause-carries
@@ -35,3 +35,18 @@ returns-in-Err-clause-still g c fault is = refl
 
 pub returns-in-Err-clause-silent : goal.returns-in-Err-clause-silent
 returns-in-Err-clause-silent g c fault is = refl
+
+pub returns-in-Ok-clause-silent : goal.returns-in-Ok-clause-silent
+returns-in-Ok-clause-silent g c = λ fault is. absurd (words_not (job_of (map string_bytes c.args.words.now)) _ fault c.in-Ok.ensures.job is)
+
+pub returns-in-Ok-clause-still : goal.returns-in-Ok-clause-still
+returns-in-Ok-clause-still g c = λ fault is. absurd (words_not (job_of (map string_bytes c.args.words.now)) _ fault c.in-Ok.ensures.job is)
+
+pub returns-in-Ok-clause-words : goal.returns-in-Ok-clause-words
+returns-in-Ok-clause-words g c = λ fault is. absurd (words_not (job_of (map string_bytes c.args.words.now)) _ fault c.in-Ok.ensures.job is)
+
+pub returns-in-Err-clause-rest : goal.returns-in-Err-clause-rest
+returns-in-Err-clause-rest g c = g.met.O.Sink.rest_none c.args.out.now
+
+pub returns-in-Ok-clause-rest : goal.returns-in-Ok-clause-rest
+returns-in-Ok-clause-rest g c = c.run_job.ensures.rest

@@ -27,3 +27,15 @@ returns-in-Err-clause-unasked g c f left told none = refl
 
 pub returns-in-Err-clause-no_pattern : goal.returns-in-Err-clause-no_pattern
 returns-in-Err-clause-no_pattern g c never = refl
+
+pub returns-in-Err-clause-rest : goal.returns-in-Err-clause-rest
+returns-in-Err-clause-rest g c = g.met.O.Sink.rest_none c.args.out.now
+
+pub returns-in-Ok-clause-rest : goal.returns-in-Ok-clause-rest
+returns-in-Ok-clause-rest g c = c.run_settled.ensures.rest
+
+pub run_settled-requires-clause-filter : goal.run_settled-requires-clause-filter
+run_settled-requires-clause-filter g c = c.requires.filter
+
+pub run_settled-requires-clause-quiet : goal.run_settled-requires-clause-quiet
+run_settled-requires-clause-quiet g c = c.in-Ok.ensures.quiet

@@ -1,5 +1,6 @@
 use Rattle.std.proofs.Common.{refl}
 use Rattle.filter_cli.proofs.Sifters.{file-unless}
+use Rattle.filter_cli.proofs.Early.{no_other}
 use Rattle.filter_cli.proofs.carrying.run_settled.Goals as goal
 
 pub returns-in-List-clause-carries : goal.returns-in-List-clause-carries
@@ -73,3 +74,27 @@ returns-in-Split-clause-unasked g c f left told none = refl
 
 pub returns-in-Split-clause-no_pattern : goal.returns-in-Split-clause-no_pattern
 returns-in-Split-clause-no_pattern g c never = refl
+
+pub returns-in_default-clause-carries : goal.returns-in_default-clause-carries
+returns-in_default-clause-carries g c = absurd (no_other c.args.job c.requires.filter c.in_default.not-List c.in_default.not-Filter c.in_default.not-Grep c.in_default.not-Split c.in_default.not-Recount c.in_default.not-Flip)
+
+pub returns-in_default-clause-rest : goal.returns-in_default-clause-rest
+returns-in_default-clause-rest g c = g.met.O.Sink.rest_none c.args.out.now
+
+pub returns-in-Grep-clause-rest : goal.returns-in-Grep-clause-rest
+returns-in-Grep-clause-rest g c = c.grepdiff.ensures.rest
+
+pub returns-in-Split-clause-rest : goal.returns-in-Split-clause-rest
+returns-in-Split-clause-rest g c = c.splitdiff.ensures.rest
+
+pub returns-in-Flip-clause-rest : goal.returns-in-Flip-clause-rest
+returns-in-Flip-clause-rest g c = c.reversediff.ensures.rest
+
+pub returns-in-Recount-clause-rest : goal.returns-in-Recount-clause-rest
+returns-in-Recount-clause-rest g c = c.recountdiff.ensures.rest
+
+pub returns-in-Filter-clause-rest : goal.returns-in-Filter-clause-rest
+returns-in-Filter-clause-rest g c = c.filterdiff.ensures.rest
+
+pub returns-in-List-clause-rest : goal.returns-in-List-clause-rest
+returns-in-List-clause-rest g c = c.lsdiff.ensures.rest

@@ -1,4 +1,4 @@
-use Rattle.std.proofs.Common.{Ok, ap, false, ◌≡◌}
+use Rattle.std.proofs.Common.{ap, false, ◌≡◌}
 use Rattle.tool_words.specs.PlainJobs.{plain_grep_job}
 use Rattle.tool_words.specs.PlainJobs.PlainToolJob.{grep_job}
 use Rattle.filter_run.specs.Outcomes.{IsGrepped}
@@ -22,3 +22,9 @@ returns-clause-carries g c =
 
 pub returns-clause-unasked : goal.returns-clause-unasked
 returns-clause-unasked g c v f left told none = c.run_grep.ensures.unasked f left (record { files = told.files; left = told.source }) none
+
+pub returns-clause-unread : goal.returns-clause-unread
+returns-clause-unread g c = c.run_grep.ensures.unread
+
+pub returns-clause-rest : goal.returns-clause-rest
+returns-clause-rest g c = c.run_grep.ensures.rest

@@ -16,3 +16,9 @@ returns-clause-carries g c v =
     carries_is c.form_answer.result (why_formed c.run_convert.result) c.form_answer.ensures
     (forms_carry c.args.form j u w c.requires.format (finder_passes_none v) c.requires.quiet
     (λ never. ap (λ x. g.I.Source.view x) (c.run_convert.ensures.unread (file-unless j.input never))) c.run_convert.result c.run_convert.ensures.forms)
+
+pub returns-clause-unread : goal.returns-clause-unread
+returns-clause-unread g c = c.run_convert.ensures.unread
+
+pub returns-clause-rest : goal.returns-clause-rest
+returns-clause-rest g c = c.run_convert.ensures.rest

@@ -1,4 +1,4 @@
-use Rattle.std.proofs.Common.{Ok, ap}
+use Rattle.std.proofs.Common.{ap}
 use Rattle.outside.specs.FinderView.{finder_passes_none}
 use Rattle.tool_words.specs.PlainJobs.{plain_list_job}
 use Rattle.tool_words.specs.PlainJobs.PlainToolJob.{list_job}
@@ -20,3 +20,9 @@ returns-clause-carries g c v =
     carries_is c.answer.result (why_by c.run_list.result) c.answer.ensures
     (sifts_carry (list_job j) j.input j.select (HasTextCause j.select.skip_binary) ⊥ (IsOutcomeOf (list_outcome j)) u w (lists j v) (finder_passes_none v) c.requires.quiet
     (λ never. ap (λ x. g.I.Source.view x) (c.run_list.ensures.unread (file-unless j.input never))) c.run_list.result c.run_list.ensures.sifts)
+
+pub returns-clause-unread : goal.returns-clause-unread
+returns-clause-unread g c = c.run_list.ensures.unread
+
+pub returns-clause-rest : goal.returns-clause-rest
+returns-clause-rest g c = c.run_list.ensures.rest

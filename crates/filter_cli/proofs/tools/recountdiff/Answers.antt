@@ -1,4 +1,4 @@
-use Rattle.std.proofs.Common.{Ok, ap}
+use Rattle.std.proofs.Common.{ap}
 use Rattle.outside.specs.FinderView.{finder_passes_none}
 use Rattle.tool_words.specs.PlainJobs.PlainToolJob.{recount_job}
 use Rattle.whole_filters.specs.Outcomes.{IsOutcomeOf, no_selection, recount_outcome}
@@ -18,3 +18,9 @@ returns-clause-carries g c v =
     carries_is c.answer.result (why_by c.run_recount.result) c.answer.ensures
     (sifts_carry (recount_job j) j no_selection HasCountCause ⊥ (IsOutcomeOf (recount_outcome j)) u w (recounts j v) (finder_passes_none v) c.requires.quiet
     (λ never. ap (λ x. g.I.Source.view x) (c.run_recount.ensures.unread (file-unless j never))) c.run_recount.result c.run_recount.ensures.sifts)
+
+pub returns-clause-unread : goal.returns-clause-unread
+returns-clause-unread g c = c.run_recount.ensures.unread
+
+pub returns-clause-rest : goal.returns-clause-rest
+returns-clause-rest g c = c.run_recount.ensures.rest

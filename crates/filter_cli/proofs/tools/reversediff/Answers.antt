@@ -1,4 +1,4 @@
-use Rattle.std.proofs.Common.{Ok, ap}
+use Rattle.std.proofs.Common.{ap}
 use Rattle.outside.specs.FinderView.{finder_passes_none}
 use Rattle.tool_words.specs.PlainJobs.PlainToolJob.{flip_job}
 use Rattle.whole_filters.specs.Outcomes.{IsOutcomeOf, no_selection}
@@ -18,3 +18,9 @@ returns-clause-carries g c v =
     carries_is c.answer.result (why_by c.run_flip.result) c.answer.ensures
     (sifts_carry (flip_job j) j no_selection HasFlipCause ⊥ (IsOutcomeOf (flip_outcome j)) u w (flips j v) (finder_passes_none v) c.requires.quiet
     (λ never. ap (λ x. g.I.Source.view x) (c.run_flip.ensures.unread (file-unless j never))) c.run_flip.result c.run_flip.ensures.sifts)
+
+pub returns-clause-unread : goal.returns-clause-unread
+returns-clause-unread g c = c.run_flip.ensures.unread
+
+pub returns-clause-rest : goal.returns-clause-rest
+returns-clause-rest g c = c.run_flip.ensures.rest

@@ -1,4 +1,4 @@
-use Rattle.std.proofs.Common.{◌≡◌, ℕ, List, sym, ap, subst, ◌∙◌}
+use Rattle.std.proofs.Common.{ℕ, List, sym, ap, subst, ◌∙◌}
 use Rattle.std.specs.List.{flat_map}
 use Rattle.std.proofs.lemmas.Option.{same_Some}
 use Rattle.hunk_core.specs.declared.Hunk.{Hunk}
@@ -11,6 +11,9 @@ use Rattle.tool_words.specs.PlainJobs.{plain_filter_job}
 use Rattle.change_commands.specs.Taken.{flags, kept_hunks, left_change}
 use Rattle.patch_header.specs.Written.{hunk_text}
 use Rattle.format_convert.specs.Converted.{hunk_texts}
+use Rattle.outside.proofs.SinkSteps.{HasPut, has-none, puts-done}
+use Rattle.change_commands.specs.Walk.{IsHunks}
+use Rattle.format_convert.proofs.RowLemmas.{are-lawful}
 use Rattle.format_convert.proofs.hunks.put_hunks.Goals as goal
 
 pub returns-in-Hunks : goal.returns-in-Hunks
@@ -23,3 +26,24 @@ returns-in-Hunks g c = λ x at.
     (ap (λ (hs : List Hunk). flat_map (hunk_text c.args.form) (kept_hunks are (hunks_of text hs))) c.deref.ensures.value
     ∙ sym (ap (λ (ch : Change). hunk_texts (hunk_text c.args.form) (left_change are (change_of text ch))) row))
     (c.put_each.ensures x at)
+
+pub returns-in-Script : goal.returns-in-Script
+returns-in-Script g c = λ x at.
+    let text = c.args.set.now.text in
+    let are = flags (plain_filter_job c.args.job.now) c.args.patch (patch_of text x) in
+    let row = ap (λ (y : FilePatch). y.change) (sym (same_Some c.patch_at.result.now x (sym c.patch_at.ensures.is ∙ at))) ∙ c.in-Script.is in
+    puts-done _ (subst (λ (bs : List ℕ). HasPut g.O.Sink.view g.O.Sink.same_rest c.args.out.now c.args.out.now bs)
+    (sym (ap (λ (ch : Change). hunk_texts (hunk_text c.args.form) (left_change are (change_of text ch))) row))
+    (has-none g.met.O.Sink.rest_none c.args.out.now))
+
+pub put_each-requires-clause-hunks : goal.put_each-requires-clause-hunks
+put_each-requires-clause-hunks g c = λ x at. subst (λ (ch : Change). IsHunks ch c.deref.result.now) (sym c.in-Hunks.is ∙ ap (λ (p : FilePatch). p.change) (same_Some c.patch_at.result.now x (sym c.patch_at.ensures.is ∙ at))) (sym c.deref.ensures.value)
+
+pub put_each-requires-clause-lawful : goal.put_each-requires-clause-lawful
+put_each-requires-clause-lawful g c = are-lawful c.args.set.now.text c.patch_at.result.now.change c.deref.result.now (subst (λ (ch : Change). IsHunks ch c.deref.result.now) (sym c.in-Hunks.is) (sym c.deref.ensures.value)) c.patch_at.ensures.lawful.change
+
+pub put_each-requires-clause-within : goal.put_each-requires-clause-within
+put_each-requires-clause-within g c = c.requires
+
+pub patch_at-requires : goal.patch_at-requires
+patch_at-requires g c = c.requires

@@ -1,13 +1,8 @@
-use Rattle.std.proofs.Common.{◌≡◌, ◌++◌, ◌||◌, ℕ, List, [], Bool, cond, true, false, sym, ap, subst, ◌∙◌}
-use Rattle.std.proofs.lemmas.Result.{err_from_is_err_and}
-use Rattle.hunk_core.specs.declared.Side.TheVariants.{Forward}
+use Rattle.std.proofs.Common.{ℕ, List, sym, subst, ◌∙◌}
 use Rattle.outside.specs.Puts.{Puts}
-use Rattle.outside.proofs.SinkSteps.{HasPut, has-none, has-put, puts-done, puts-more, puts-stop}
 use Rattle.file_patch.specs.PlainPatch.{patch_of}
-use Rattle.header_lines.specs.HeaderText.{header_text}
 use Rattle.tool_words.specs.PlainJobs.{plain_filter_job}
-use Rattle.change_commands.specs.Taken.{has_kept, left_patch}
-use Rattle.format_convert.specs.Converted.{change_text, is_written, written}
+use Rattle.change_commands.specs.Taken.{left_patch}
 use Rattle.format_convert.proofs.RowLemmas.{by-commands, by-context}
 use Rattle.format_convert.proofs.writing.put_change.Goals as goal
 
@@ -18,3 +13,9 @@ returns-then-shows_context g c = λ x at.
 pub returns-else-shows_context : goal.returns-else-shows_context
 returns-else-shows_context g c = λ x at.
     subst (λ (bs : List ℕ). Puts g.O.Sink.view g.O.Sink.same_rest c.args.out.now c.put_commands.new.out c.put_commands.result bs) (by-commands c.args.form (left_patch (plain_filter_job c.args.job.now) c.args.patch (patch_of c.args.set.now.text x)).change (sym c.shows_context.ensures ∙ c.if-shows_context.false)) (c.put_commands.ensures x at)
+
+pub put_commands-requires : goal.put_commands-requires
+put_commands-requires g c = c.requires
+
+pub put_hunks-requires : goal.put_hunks-requires
+put_hunks-requires g c = c.requires

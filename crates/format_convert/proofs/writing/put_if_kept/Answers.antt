@@ -1,14 +1,10 @@
-use Rattle.std.proofs.Common.{◌≡◌, ◌++◌, ◌||◌, ℕ, List, [], Bool, cond, true, false, sym, ap, subst, ◌∙◌}
-use Rattle.std.proofs.lemmas.Result.{err_from_is_err_and}
-use Rattle.hunk_core.specs.declared.Side.TheVariants.{Forward}
+use Rattle.std.proofs.Common.{ℕ, List, [], Bool, cond, sym, ap, subst, ◌∙◌}
 use Rattle.outside.specs.Puts.{Puts}
-use Rattle.outside.proofs.SinkSteps.{HasPut, has-none, has-put, puts-done, puts-more, puts-stop}
+use Rattle.outside.proofs.SinkSteps.{HasPut, has-none, puts-done}
 use Rattle.file_patch.specs.PlainPatch.{patch_of}
-use Rattle.header_lines.specs.HeaderText.{header_text}
 use Rattle.tool_words.specs.PlainJobs.{plain_filter_job}
-use Rattle.change_commands.specs.Taken.{has_kept, left_patch}
-use Rattle.format_convert.specs.Converted.{change_text, is_written, written}
-use Rattle.format_convert.proofs.RowLemmas.{by-commands, by-context}
+use Rattle.change_commands.specs.Taken.{left_patch}
+use Rattle.format_convert.specs.Converted.{written}
 use Rattle.format_convert.proofs.writing.put_if_kept.Goals as goal
 
 pub returns-then-not-has_kept : goal.returns-then-not-has_kept
@@ -20,3 +16,9 @@ pub returns : goal.returns
 returns g c = λ x at.
     let text = written c.args.form c.args.set.now.text x.header (left_patch (plain_filter_job c.args.job.now) c.args.patch (patch_of c.args.set.now.text x)).change in
     subst (λ (bs : List ℕ). Puts g.O.Sink.view g.O.Sink.same_rest c.args.out.now c.put_if_written.new.out c.put_if_written.result bs) (ap (λ (b : Bool). cond b text []) (sym (sym (c.has_kept.ensures x at) ∙ c.if-not-has_kept.false))) (c.put_if_written.ensures x at)
+
+pub put_if_written-requires : goal.put_if_written-requires
+put_if_written-requires g c = c.requires
+
+pub has_kept-requires : goal.has_kept-requires
+has_kept-requires g c = c.requires

@@ -1,14 +1,9 @@
-use Rattle.std.proofs.Common.{◌≡◌, ◌++◌, ◌||◌, ℕ, List, [], Bool, cond, true, false, sym, ap, subst, ◌∙◌}
 use Rattle.std.proofs.lemmas.Result.{err_from_is_err_and}
-use Rattle.hunk_core.specs.declared.Side.TheVariants.{Forward}
-use Rattle.outside.specs.Puts.{Puts}
-use Rattle.outside.proofs.SinkSteps.{HasPut, has-none, has-put, puts-done, puts-more, puts-stop}
+use Rattle.outside.proofs.SinkSteps.{has-put, puts-more, puts-stop}
 use Rattle.file_patch.specs.PlainPatch.{patch_of}
-use Rattle.header_lines.specs.HeaderText.{header_text}
 use Rattle.tool_words.specs.PlainJobs.{plain_filter_job}
-use Rattle.change_commands.specs.Taken.{has_kept, left_patch}
-use Rattle.format_convert.specs.Converted.{change_text, is_written, written}
-use Rattle.format_convert.proofs.RowLemmas.{by-commands, by-context}
+use Rattle.change_commands.specs.Taken.{left_patch}
+use Rattle.format_convert.specs.Converted.{change_text}
 use Rattle.format_convert.proofs.writing.put_patch.Goals as goal
 
 pub returns-in_err-put_header_lines : goal.returns-in_err-put_header_lines

@@ -13,3 +13,12 @@ returns-in_err-put_headers g c =
 
 pub returns : goal.returns
 returns g c = puts-more g.met.O.Sink.rest_both (has-put c.in_ok-put_headers.field-0 c.in_ok-put_headers.ensures) c.put_each.ensures
+
+pub put_each-requires-clause-lawful : goal.put_each-requires-clause-lawful
+put_each-requires-clause-lawful g c = c.requires.lawful
+
+pub put_each-requires-clause-rows : goal.put_each-requires-clause-rows
+put_each-requires-clause-rows g c = c.requires.rows
+
+pub put_each-requires-clause-form : goal.put_each-requires-clause-form
+put_each-requires-clause-form g c = c.requires.form
