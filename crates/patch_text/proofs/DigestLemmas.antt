@@ -22,7 +22,7 @@ use Rattle.patch_header.specs.Steps.{IsFirstOpening, next_step}
 use Rattle.patch_header.proofs.StepLemmas.{one-step}
 use Rattle.file_patch.specs.declared.Change.{Change}
 use Rattle.file_patch.specs.declared.Change.TheVariants.{Hunks, Script}
-use Rattle.file_patch.specs.PlainPatch.{PlainPatch, hunks, change_of, row_count, IsLawfulChange}
+use Rattle.file_patch.specs.PlainPatch.{PlainPatch, hunks, change_of, row_count, AreLawfulHunks, IsLawfulChange}
 use Rattle.patch_text.specs.Patches.{change_at, change_behind, patch_at, patch_with, place_before}
 use Rattle.patch_text.specs.Regions.{Region, region_up_to, region_with, region_by, next_region}
 use Rattle.patch_text.specs.Digests.{AreShort, IsDigested, behind_digested, digested_patch, no_hunks, old_ranges, patch_digested, rows_in}
@@ -86,6 +86,9 @@ pub ranges-all : (text : List ℕ) (hs : List Hunk) (k : ℕ) (olds : List OldRa
 ranges-all text hs k olds enough so_far =
     let long : length (map old_range (map (hunk_of text) hs)) ≡ length hs = length-map (map (hunk_of text) hs) old_range ∙ length-map hs (hunk_of text) in
     so_far ∙ take_all k (map old_range (map (hunk_of text) hs)) (omega (arith, long, enough))
+
+pub no-lawful : (text : List ℕ) (hs : List Hunk) → hs ≡ [] → AreLawfulHunks text hs
+no-lawful text hs e = rw e (record { count = omega arith; few = omega arith; lawful = λ k d lt. absurd (omega (arith, lt)) })
 
 pub short-change : (text : List ℕ) (c : Change) → IsLawfulChange text c → AreShort c
 short-change text (Hunks hs) lawful = λ i d lt. (lawful.lawful i d lt).few

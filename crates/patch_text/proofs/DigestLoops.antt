@@ -26,8 +26,11 @@ pub record DigestsSoFar (ways : Ways) (text : List ℕ) (seen : List PlainPatch)
   pub ranges : olds ≡ map ranges_in front
   pub so_far : PatchesSoFar ways text front at number
 
-pub digests_begin : (ways : Ways) (text : List ℕ) → DigestsSoFar ways text [] [] 0 1
-digests_begin ways text = record { front = []; same = refl; ranges = refl; so_far = patches_begin ways text }
+pub digests_begin : (ways : Ways) (text : List ℕ) (seen : List PlainPatch) (olds : List (List OldRange)) → seen ≡ [] → olds ≡ [] → DigestsSoFar ways text seen olds 0 1
+digests_begin ways text seen olds none no_olds = record { front = []; same = none; ranges = no_olds; so_far = patches_begin ways text }
+
+pub digests-none : (text : List ℕ) (ps : List FilePatch) (olds : List (List OldRange)) → ps ≡ [] → olds ≡ [] → AreDigests text ps olds
+digests-none text ps olds none no_olds = rw (none, no_olds) tt
 
 -- a file patch so, with what is ahead behind it
 abbrev Step : Type 0

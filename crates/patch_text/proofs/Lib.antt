@@ -8,3 +8,4 @@ pub mod DigestLemmas
 pub mod DigestLoops
 pub mod TextLaws
 pub mod RegionLaws
+pub mod Passed

@@ -3,7 +3,8 @@ use Rattle.std.proofs.Common.{◌≡◌, ℕ, zero, suc, ◌<◌, ◌≤◌, ◌
 use Rattle.std.specs.Prelude.{option_map, is_none}
 use Rattle.std.specs.List.{AllByRecursion, list_any}
 use Rattle.std.proofs.lemmas.List.{take-append-drop, length-take-le}
-use Rattle.std.proofs.lemmas.Bool.{eqb-true}
+use Rattle.std.proofs.lemmas.Bool.{eqb-true, false≢true}
+use Rattle.std.proofs.lemmas.Option.{same_Some}
 use Rattle.std.proofs.lemmas.Bool.Decides.{nat_tests}
 use Rattle.std.proofs.Math.Seq.{take-append_seam}
 use Rattle.outside.specs.Names.{is_control, broken_rule, normal_form}
@@ -121,19 +122,21 @@ pub record Lawful (name : List ℕ) : Type 0 where
   pub lasting : is_temp name ≡ false
   pub apart : is_of_stack name ≡ false
 
-pub lawful : (name : List ℕ) → is_saved name ≡ true → Lawful name
-lawful name e = by (is_none (broken_rule name)) refl (bytes_eq (normal_form name) name) refl (is_temp name) refl (is_of_stack name) refl e
-  where
-    none : {A : Type 0} (o : Option A) → is_none o ≡ true → o ≡ None
-    none None e = refl
-    none (Some a) e = absurd cc
+all-four : (a b c d : Bool) → (a && (b && (not c && not d))) ≡ true → (a ≡ true) × ((b ≡ true) × ((c ≡ false) × (d ≡ false)))
+all-four true true false false h = (refl, (refl, (refl, refl)))
+all-four true true false true h = absurd (false≢true h)
+all-four true true true d h = absurd (false≢true h)
+all-four true false c d h = absurd (false≢true h)
+all-four false b c d h = absurd (false≢true h)
 
-    by : (a : Bool) → is_none (broken_rule name) ≡ a → (b : Bool) → bytes_eq (normal_form name) name ≡ b → (c : Bool) → is_temp name ≡ c → (d : Bool) → is_of_stack name ≡ d → (a && (b && (not c && not d))) ≡ true → Lawful name
-    by true p true q false r false s h = record { obeys = none (broken_rule name) p; normal = same_bytes (normal_form name) name q; lasting = r; apart = s }
-    by true p true q false r true s h = absurd cc
-    by true p true q true r d s h = absurd cc
-    by true p false q c r d s h = absurd cc
-    by false p b q c r d s h = absurd cc
+none-broken : {A : Type 0} (o : Option A) → is_none o ≡ true → o ≡ None
+none-broken None e = refl
+none-broken (Some a) e = absurd (false≢true e)
+
+pub lawful : (name : List ℕ) → is_saved name ≡ true → Lawful name
+lawful name e =
+    let p = all-four (is_none (broken_rule name)) (bytes_eq (normal_form name) name) (is_temp name) (is_of_stack name) e in
+    record { obeys = none-broken (broken_rule name) p.0; normal = same_bytes (normal_form name) name p.1.0; lasting = p.1.1.0; apart = p.1.1.1 }
 
 name-free : (name : List ℕ) → is_saved name ≡ true → FreeOfFeeds name
 name-free name is = each_free name (obeys name (lawful name is).obeys).control
@@ -174,13 +177,15 @@ first-again (Missing name) more s = ap (λ o. if_saved o) (missing-again name mo
 first-again (Held name bytes) more s = ap (λ o. if_saved o) (held-again name bytes more s.name s.short) ∙ rw s.name refl
 
 -- ---- all of them
+some-where : {A : Type 0} (v : Bool) (y x : A) → cond v (Some y) None ≡ Some x → (v ≡ true) × (y ≡ x)
+some-where true y x h = (refl, same_Some y x h)
+some-where false y x h = absurd cc
+
 saved-sound : (o : Option (Entry × List ℕ)) (x : Entry × List ℕ) → if_saved o ≡ Some x → (o ≡ Some x) × (is_saved (name_of x.0) ≡ true)
 saved-sound None x e = absurd cc
-saved-sound (Some y) x e = by (is_saved (name_of y.0)) refl e
-  where
-    by : (v : Bool) → is_saved (name_of y.0) ≡ v → cond v (Some y) None ≡ Some x → (◌≡◌ {A = Option (Entry × List ℕ)} (Some y) (Some x)) × (is_saved (name_of x.0) ≡ true)
-    by true is h = let same : y ≡ x = cc in (h, ap (λ (z : Entry × List ℕ). is_saved (name_of z.0)) (sym same) ∙ is)
-    by false is h = absurd cc
+saved-sound (Some y) x e =
+    let p = some-where (is_saved (name_of y.0)) y x e in
+    (ap Some p.1, ap (λ (z : Entry × List ℕ). is_saved (name_of z.0)) (sym p.1) ∙ p.0)
 
 some_text : (e : Entry) → 0 < length (entry_text e)
 some_text (Missing name) = omega arith

@@ -1,12 +1,15 @@
 -- Whether a name may be saved, and a save that is read entry by entry.
-use Rattle.std.proofs.Common.{◌≡◌, ◌≢◌, ℕ, suc, List, [], ◌∷◌, length, Bool, true, false, not, ◌==◌, ◌&&◌, bytes_eq, is_some, IsSome, Option, Some, None, refl, sym, ◌∙◌, ap, subst, arith}
+use Rattle.std.proofs.Common.{◌≡◌, ◌≢◌, ℕ, suc, List, [], ◌∷◌, length, Bool, true, false, not, ◌==◌, ◌&&◌, bytes_eq, is_some, IsSome, Option, Some, None, inl, inr, refl, sym, ◌∙◌, ap, subst, arith}
 use Rattle.std.specs.Prelude.{option_map, IsSomeAnd}
-use Rattle.std.proofs.lemmas.Bool.{eqb-true}
+use Rattle.std.proofs.lemmas.Bool.{eqb-true, false≢true}
 use Rattle.outside.specs.declared.name.NameRule.{NameRule}
 use Rattle.outside.specs.Names.{broken_rule, normal_form}
 use Rattle.outside.specs.Files.{is_temp}
 use Rattle.series_stack.specs.Saves.{Entry, is_saved, is_of_stack, first_entry, if_saved, and_more, entries_of, name_of}
 use Rattle.series_stack.specs.Found.{entry_with}
+use Rattle.series_stack.specs.Causes.{IsBadOr}
+use Rattle.series_stack.specs.declared.fault.StackFault.{StackFault}
+use Rattle.series_stack.specs.declared.fault.StateFile.{StateFile}
 use Rattle.series_stack.proofs.Fronts.{same_bytes}
 use Rattle.series_stack.proofs.Entries.{entries-nil, entries-cons}
 
@@ -97,3 +100,26 @@ some_is (Some a) is = refl
 
 pub saved-end : (text rest : List ℕ) → is_some (entries_of text) ≡ is_some (entries_of rest) → (length rest == 0) ≡ true → IsSome (entries_of text)
 saved-end text rest same end = some_is (entries_of text) (same ∙ ap (λ (l : List ℕ). is_some (entries_of l)) (nothing_left rest end) ∙ ap is_some entries-nil)
+
+-- ---- whether a name may be saved, test by test
+pub not-same : (same x : Bool) → true ≡ not same → false ≡ (same && x)
+not-same true x e = absurd (false≢true (sym e))
+not-same false x e = refl
+
+pub not-lasting : (same temp x : Bool) → true ≡ temp → false ≡ (same && (not temp && x))
+not-lasting same true x e = by same
+  where
+    by : (v : Bool) → false ≡ (v && false)
+    by true = refl
+    by false = refl
+not-lasting same false x e = absurd (false≢true (sym e))
+
+pub is-apart : (same temp x r : Bool) → false ≡ not same → false ≡ temp → r ≡ x → not r ≡ (same && (not temp && not x))
+is-apart true false x r e f is = ap not is
+is-apart true true x r e f is = absurd (false≢true f)
+is-apart false temp x r e f is = absurd (false≢true e)
+
+-- what is bad of a part is bad of the whole
+pub bad_then : {A B : Type 0} {file : StateFile} (e : StackFault) → (A → B) → IsBadOr e file A → IsBadOr e file B
+bad_then e f (inl memory) = inl memory
+bad_then e f (inr bad) = inr (bad.0, f bad.1)

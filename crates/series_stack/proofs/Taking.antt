@@ -1,9 +1,10 @@
 -- A save that is taken name by name.
 use Rattle.std.proofs.Common.{◌≡◌, ℕ, suc, get_or, ◌<◌, ◌≤◌, ◌^◌, List, [], ◌∷◌, ◌++◌, length, take, drop, drop-cons, min, map, Bool, true, false, cond, ltb, Option, Some, None, is_some, IsSome, unwrap_or, Result, Ok, Err, IfErr, OnOk, codes, append_assoc, refl, sym, ◌∙◌, ap, subst, arith}
 use Rattle.std.specs.Prelude.{option_map}
+use Rattle.std.specs.Result.{IsErrAnd}
 use Rattle.std.proofs.lemmas.Bool.{ltb-true, lt-ltb}
 use Rattle.std.proofs.lemmas.Grind.{flat_map-append}
-use Rattle.std.proofs.lemmas.List.{length-take, append-nil, map-append, take-append-drop}
+use Rattle.std.proofs.lemmas.List.{length-take, append-nil, map-append, take-append-drop, take_all}
 use Rattle.std.proofs.lemmas.Option.{same_Some}
 use Rattle.std.specs.List.{AllByRecursion}
 use Rattle.std.specs.FinMap.{get}
@@ -79,7 +80,7 @@ pub save-read : (f : Files) (names : List (List ℕ)) → AreSaved names → too
 save-read f names saved short = entries-read (entries_at f names) names (names-entries f names) (short-all (entries_at f names) short) saved
 
 -- a file's entry from its head and its bytes
-entry_joined : (old name bytes : List ℕ) (size : ℕ) → length bytes ≡ size → (old ++ (codes "file " ++ (decimal size ++ 32 ∷ (name ++ 10 ∷ [])))) ++ (bytes ++ 10 ∷ []) ≡ old ++ entry_text (Held name bytes)
+pub entry_joined : (old name bytes : List ℕ) (size : ℕ) → length bytes ≡ size → (old ++ (codes "file " ++ (decimal size ++ 32 ∷ (name ++ 10 ∷ [])))) ++ (bytes ++ 10 ∷ []) ≡ old ++ entry_text (Held name bytes)
 entry_joined old name bytes size is =
     subst (λ (n : ℕ). (old ++ (codes "file " ++ (decimal n ++ 32 ∷ (name ++ 10 ∷ [])))) ++ (bytes ++ 10 ∷ []) ≡ old ++ entry_text (Held name bytes)) is (simp append_assoc)
 
@@ -175,3 +176,59 @@ fewer_untold u name buf new n fewer same long came = elim u.told as (λ o. u.tol
       let count : min n (length new) ≡ min (length buf) (length (bytes_at f name)) = sym (length-take n new) ∙ ap length (came f some) ∙ length-take (length buf) (bytes_at f name) in
       absurd (omega (arith, all, count, fewer, same))
 ] refl
+
+pub whole-came : (old new bytes : List ℕ) (n : ℕ) → length new ≡ length old → length old ≤ n → length old ≡ length bytes → take n new ≡ take (length old) (drop 0 bytes) → new ≡ bytes
+whole-came old new bytes n same enough long came = sym (take_all n new (omega (arith, same, enough))) ∙ came ∙ take_all (length old) bytes (omega (arith, long))
+
+-- ---- texts that are added piece by piece
+pub line-added : (old name piece a b : List ℕ) → piece ≡ name → a ≡ old ++ piece → b ≡ a ++ 10 ∷ [] → b ≡ old ++ (name ++ 10 ∷ [])
+line-added old name piece a b is first second =
+    second ∙ ap (λ (l : List ℕ). l ++ 10 ∷ []) (first ∙ ap (λ (l : List ℕ). old ++ l) is) ∙ append_assoc old name (10 ∷ [])
+
+pub missing-added : (old name piece a b d : List ℕ) → a ≡ old ++ codes "none " → piece ≡ name → b ≡ a ++ piece → d ≡ b ++ 10 ∷ [] → d ≡ old ++ entry_text (Missing name)
+missing-added old name piece a b d word is first second =
+    line-added a name piece b d is first second ∙ ap (λ (l : List ℕ). l ++ (name ++ 10 ∷ [])) word ∙ append_assoc old (codes "none ") (name ++ 10 ∷ [])
+
+pub head-added : (old name : List ℕ) (n : ℕ) (digits a b d e : List ℕ) → a ≡ old ++ codes "file " → digits ≡ decimal n → b ≡ a ++ digits → d ≡ b ++ 32 ∷ [] → e ≡ d ++ (name ++ 10 ∷ []) → e ≡ old ++ (codes "file " ++ (decimal n ++ 32 ∷ (name ++ 10 ∷ [])))
+head-added old name n digits a b d e word is first second third =
+    let line : List ℕ = name ++ 10 ∷ [] in
+    third
+    ∙ ap (λ (l : List ℕ). l ++ line) second
+    ∙ append_assoc b (32 ∷ []) line
+    ∙ ap (λ (l : List ℕ). l ++ 32 ∷ line) (first ∙ ap (λ (l : List ℕ). a ++ l) is)
+    ∙ append_assoc a (decimal n) (32 ∷ line)
+    ∙ ap (λ (l : List ℕ). l ++ (decimal n ++ 32 ∷ line)) word
+    ∙ append_assoc old (codes "file ") (decimal n ++ 32 ∷ line)
+
+-- ---- what a name stands for, by the size that a tree tells
+pub held_there : (o : Option (List ℕ)) (n : ℕ) → Some n ≡ option_map length o → o ≡ Some (unwrap_or o [])
+held_there None n e = absurd cc
+held_there (Some bytes) n e = refl
+
+pub held_long : (o : Option (List ℕ)) (n : ℕ) → Some n ≡ option_map length o → n ≡ length (unwrap_or o [])
+held_long None n e = absurd cc
+held_long (Some bytes) n e = same_Some _ _ e
+
+pub none_there : (o : Option (List ℕ)) → None ≡ option_map length o → None ≡ o
+none_there None e = refl
+none_there (Some bytes) e = absurd cc
+
+pub none_short : (o : Option (List ℕ)) → None ≡ option_map length o → length (unwrap_or o []) < 2 ^ 32
+none_short None e = omega arith
+none_short (Some bytes) e = absurd cc
+
+-- ---- a fault that is passed on
+pub fault_kept : {R E : Type 0} (P : E → Type 0) (r : Result R E) (e : E) → IsErrAnd r (λ d. d ≡ e) → P e → IfErr r P
+fault_kept P (Ok x) e is h = tt
+fault_kept P (Err d) e is h = subst P (sym is) h
+
+pub on_ok_all : {R E P : Type 0} (r : Result R E) → P → OnOk r P
+on_ok_all (Ok x) p = p
+on_ok_all (Err e) p = tt
+
+pub cause_first : (u v w : TreeView) (name : List ℕ) (e : StackFault) → IsUntouched u v → HasEntryCause e v w name → HasEntryCause e u w name
+cause_first u v w name (BadState file) same cause = cause
+cause_first u v w name (FileTooLong size) same cause = (cause.0, λ f told. cause.1 f (same.told ∙ told))
+cause_first u v w name Tree same cause = rises_then u v w same.passes cause
+cause_first u v w name (Disagree want got) same cause = (cause.0, sym same.told ∙ cause.1)
+cause_first u v w name Memory same cause = cause

@@ -4,7 +4,7 @@ use Rattle.std.specs.Prelude.{nat_le}
 use Rattle.std.specs.List.{list_all, slice_split}
 use Rattle.std.proofs.lemmas.Bool.Decides.{nat_tests}
 use Rattle.outside.specs.Names.{normal_form}
-use Rattle.series_stack.specs.Series.{is_feed, is_lawful, named_lines, names_written, series_of}
+use Rattle.series_stack.specs.Series.{is_feed, is_lawful, named_lines, series_of}
 use Rattle.series_stack.specs.Count.{counted, count_of}
 use Rattle.series_stack.specs.Texts.{first_number}
 

@@ -2,3 +2,4 @@ mod Named
 mod Counting
 mod Stacking
 mod Saving
+mod Held

@@ -1,14 +1,14 @@
 -- The names of a stack's files are names.
-use Rattle.std.proofs.Common.{◌≡◌, ℕ, zero, suc, ◌<◌, List, [], ◌∷◌, ◌++◌, codes, length, Bool, true, false, ◌&&◌, ◌||◌, not, nat_eq, bytes_eq, refl, sym, ◌∙◌, ap, subst, arith}
-use Rattle.std.specs.Prelude.{nat_lt, nat_le}
+use Rattle.std.proofs.Common.{◌≡◌, ℕ, zero, suc, ◌<◌, List, [], ◌∷◌, ◌++◌, codes, length, Bool, true, false, ◌&&◌, ◌||◌, not, nat_eq, bytes_eq, refl, sym, ap, subst, arith}
+use Rattle.std.specs.Prelude.{nat_lt}
 use Rattle.std.specs.List.{list_any}
 use Rattle.std.specs.Str.{IsUtf8, IsAscii}
 use Rattle.std.proofs.lemmas.Bool.Decides.{nat_tests}
 use Rattle.std.proofs.lemmas.Str.{IsUtf8-from_ascii, IsUtf8-append}
 use Rattle.std.proofs.lemmas.Str.Ascii.{IsAscii-nil}
-use Rattle.num_text.specs.Numbers.{decimal, is_digit, AllDigits, IsNumeral}
+use Rattle.num_text.specs.Numbers.{decimal, is_digit, AllDigits}
 use Rattle.num_text.proofs.Decimal.{decimal-numeral}
-use Rattle.outside.specs.Names.{is_slash, is_control, is_absolute, is_kept, components, IsPatchName, IsEnding}
+use Rattle.outside.specs.Names.{is_slash, is_control, is_absolute, is_kept, IsPatchName, IsEnding}
 use Rattle.outside.proofs.Components.{Each, Free, neither, either_free, components_one}
 use Rattle.outside.proofs.Lawful.{is_parent, patch_made, patch_below, patch_behind}
 use Rattle.stack_law.specs.Stack.{series_name, count_name, save_name}

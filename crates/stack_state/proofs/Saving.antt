@@ -1,5 +1,5 @@
 -- From the saves that are looked at to what a command takes of them.
-use Rattle.std.proofs.Common.{◌≡◌, ◌⊎◌, ⊎_elim, ℕ, suc, ◌+◌, List, Bool, true, false, ◌||◌, Option, None, Some, Result, Ok, Err, IfErr, subst, sym, ◌∙◌, ap, arith}
+use Rattle.std.proofs.Common.{◌≡◌, ◌⊎◌, ⊎_elim, ℕ, suc, ◌+◌, List, Bool, true, ◌||◌, Option, Some, Result, Ok, Err, IfErr, subst, sym, ◌∙◌, ap, arith}
 use Rattle.std.specs.Prelude.{is_some, if◌then◌else◌}
 use Rattle.std.specs.FinMap.{get}
 use Rattle.std.specs.Result.{IsErrAnd}

@@ -1,27 +1,24 @@
 -- A save that is restored, as a step.
-use Rattle.std.proofs.Common.{◌≡◌, ◌⊎◌, inl, inr, ⊎_elim, ℕ, suc, List, [], ◌∷◌, ◌++◌, Bool, true, false, bytes_eq, cond, is_some, IsSome, Option, Some, None, Result, Ok, Err, OnOk, refl, sym, ◌∙◌, ap, subst, arith}
+use Rattle.std.proofs.Common.{◌≡◌, ⊎_elim, ℕ, List, [], ◌∷◌, ◌++◌, Bool, true, false, cond, is_some, IsSome, Option, Some, None, Ok, Err, refl, sym, ◌∙◌, ap, subst}
 use Rattle.std.specs.List.{AllByRecursion}
 use Rattle.std.specs.FinMap.{get}
 use Rattle.outside.specs.Files.{Files, is_temp}
-use Rattle.outside.specs.TreeView.{TreeView, Passes, Rises, told_on}
+use Rattle.outside.specs.TreeView.{TreeView, Passes, Rises}
 use Rattle.outside.specs.SinkView.{SinkView, sink_passes_none}
 use Rattle.outside.specs.Calls.{Becomes, IsThere}
-use Rattle.outside.specs.Quiet.{IsQuiet, Effect, after, after_all, HasMade, TellsPrefix, LeavesPrefix}
+use Rattle.outside.specs.Quiet.{IsQuiet, Effect, after, after_all, TellsPrefix, LeavesPrefix}
 use Rattle.outside.specs.Quiet.Effect.{Put, Remove}
 use Rattle.outside.proofs.Views.{told_back}
 use Rattle.outside.proofs.Writing.{received_none, received_part}
 use Rattle.series_stack.specs.declared.fault.StackFault.{StackFault}
 use Rattle.series_stack.specs.declared.fault.StackFault.TheVariants as stack
 use Rattle.series_stack.specs.Causes.{HasFailed}
-use Rattle.series_stack.specs.Saves.{Entry, IsSaved, name_of, entries_of, is_of_stack, is_saved}
+use Rattle.series_stack.specs.Saves.{Entry, IsSaved, name_of, entries_of, is_of_stack}
 use Rattle.series_stack.specs.Saves.Entry.{Missing, Held}
-use Rattle.series_stack.specs.Restoring.{effects_of, restoring, restored, saved_at}
-use Rattle.series_stack.specs.Undoing.{is_one_of}
-use Rattle.series_stack.proofs.EffectLists.{after_all-append}
+use Rattle.series_stack.specs.Restoring.{effects_of, restoring, restored}
 use Rattle.series_stack.proofs.Entries.{entries-sound}
 use Rattle.series_stack.proofs.Fronts.{bytes_same}
 use Rattle.series_stack.proofs.Meaning.{put-at}
-use Rattle.series_stack.proofs.Steps.{restoring-cons}
 use Rattle.stack_law.proofs.Names.{save-lasting, save-own, saved-lasting}
 use Rattle.patch_effects.specs.declared.fault.RunFault.{RunFault}
 use Rattle.patch_effects.specs.declared.fault.RunFault.TheVariants.{Tree, Memory}

@@ -1,15 +1,14 @@
 -- How steps go on from one another.
-use Rattle.std.proofs.Common.{◌≡◌, inl, inr, ⊎_elim, ℕ, zero, suc, ◌+◌, List, [], ◌∷◌, ◌++◌, true, false, None, Some, Result, Ok, Err, refl, sym, ◌∙◌, ap, subst, arith}
+use Rattle.std.proofs.Common.{◌≡◌, inl, inr, ⊎_elim, ℕ, suc, ◌+◌, List, [], ◌∷◌, ◌++◌, false, None, Some, Result, Ok, Err, refl, sym, ◌∙◌, ap, subst, arith}
 use Rattle.std.proofs.lemmas.List.{append-nil}
 use Rattle.std.specs.FinMap.{get, insert}
-use Rattle.std.specs.Result.{IsErrAnd}
 use Rattle.outside.specs.Files.{Files, is_temp, temp_of}
 use Rattle.outside.specs.TreeView.{TreeView, Passes, passes_none, passes_both}
 use Rattle.outside.specs.TreeView as tree
-use Rattle.outside.specs.SinkView.{SinkView, SinkPasses, sink_passes_none, sink_passes_both, Receives, ReceivesPart, Writes}
+use Rattle.outside.specs.SinkView.{SinkView, SinkPasses, sink_passes_none, sink_passes_both, Writes}
 use Rattle.outside.specs.SinkView as sink
 use Rattle.outside.specs.Calls.{Becomes, IsUntouched}
-use Rattle.outside.specs.Quiet.{IsQuiet, Effect, after, after_all, HasMade, MakesEffect}
+use Rattle.outside.specs.Quiet.{IsQuiet, Effect, after, after_all, MakesEffect}
 use Rattle.outside.specs.Quiet.Effect.{Put, Remove}
 use Rattle.outside.proofs.Effects.{made_none, made_more, made_since, made_tells, made_tells_all, since_longer, tells_longer}
 use Rattle.outside.proofs.Names.{equal_or_not, get-gone, get-gone_other, get-put_other, apart}

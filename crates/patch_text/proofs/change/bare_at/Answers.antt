@@ -1,4 +1,5 @@
 use Rattle.std.proofs.Common.{refl, arith}
+use Rattle.patch_text.proofs.Passed.{below}
 use Rattle.patch_text.proofs.change.bare_at.Goals as goal
 
 pub returns-clause-is : goal.returns-clause-is
@@ -15,3 +16,9 @@ returns-clause-is c =
       numbers = behind.count;
       dots = behind.dots;
     }
+
+pub bare_end-end-requires-clause-short : goal.bare_end-end-requires-clause-short
+bare_end-end-requires-clause-short c = c.requires.short
+
+pub bare_end-end-requires-clause-within : goal.bare_end-end-requires-clause-within
+bare_end-end-requires-clause-within c = below _ _ c.requires.within

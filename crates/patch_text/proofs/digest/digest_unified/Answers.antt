@@ -1,9 +1,9 @@
-use Rattle.std.proofs.Common.{refl, arith}
+use Rattle.std.proofs.Common.{refl}
 use Rattle.std.proofs.lemmas.Result.{err_from_is_err_and}
 use Rattle.hunk_core.specs.Reading.{ahead}
 use Rattle.line_list.specs.Lines.{lines}
 use Rattle.std.specs.Prelude.{drop}
-use Rattle.patch_text.proofs.DigestLemmas.{rows-digested, unified-digest-fails, unified-digests}
+use Rattle.patch_text.proofs.DigestLemmas.{rows-digested, unified-digest-fails, unified-digests, no-lawful}
 use Rattle.patch_text.proofs.digest.digest_unified.Goals as goal
 
 pub returns-in_err-rows-clause-exact : goal.returns-in_err-rows-clause-exact
@@ -14,9 +14,8 @@ returns-in_err-rows-clause-exact c =
 pub returns-clause-is : goal.returns-clause-is
 returns-clause-is c =
     let given = c.in_ok-rows.ensures in
-    let none = c.new-none.ensures.items in
     rows-digested c.args.text.now c.args.header c.in_ok-rows.rows _ c.requires.some c.requires.form c.requires.opens given.within given.turn given.whole given.read
-    (rw none (record { count = omega arith; few = omega arith; lawful = λ k d lt. absurd (omega (arith, lt)) })) refl refl refl refl
+    (no-lawful c.args.text.now _ c.new-none.ensures.items) refl refl refl refl
 
 pub returns-clause-exact : goal.returns-clause-exact
 returns-clause-exact c =
@@ -24,3 +23,9 @@ returns-clause-exact c =
     let rows = c.in_ok-rows.rows in
     let read = c.in_ok-rows.ensures.read in
     rw (c.new-none.ensures.items, read.olds) (unified-digests text c.args.header read.hunks (ahead rows.next (lines (drop rows.end text))) c.requires.some c.requires.form read.read)
+
+pub read_rows-requires-clause-short : goal.read_rows-requires-clause-short
+read_rows-requires-clause-short c = c.requires.short
+
+pub read_rows-requires-clause-small : goal.read_rows-requires-clause-small
+read_rows-requires-clause-small c = c.requires.small

@@ -2,6 +2,9 @@ use Rattle.patch_text.proofs.DigestLemmas.{short-change, each-digested, behind-d
 use Rattle.hunk_core.specs.Reading.{ahead}
 use Rattle.line_list.specs.Lines.{lines}
 use Rattle.std.specs.Prelude.{drop}
+use Rattle.hunk_core.specs.declared.fault.FormFault.TheVariants.{Memory}
+use Rattle.patch_text.specs.Digests.{digested_change}
+use Rattle.patch_text.proofs.Passed.{fails-on, fault-given, nothing-said}
 use Rattle.patch_text.proofs.digest.digest_whole.Goals as goal
 
 pub old_ranges-requires : goal.old_ranges-requires
@@ -27,3 +30,24 @@ returns-clause-exact c =
     let text = c.args.text.now in
     let read = c.in_ok-read.read in
     behind-digests text c.args.header read.change c.no_hunks.result c.in_ok-olds.olds.items (ahead read.next (lines (drop read.end text))) (c.no_hunks.ensures.is text) (c.in_ok-olds.ensures text) c.in_ok-read.ensures.exact
+
+pub returns-in_err-read-clause-exact : goal.returns-in_err-read-clause-exact
+returns-in_err-read-clause-exact c = fault-given _ c.in_err-read.field-0.0 c.from_residual.result _ c.from_residual.ensures.1 (fails-on c.in_err-read.field-0.0 _ digested_change c.in_err-read.ensures.exact)
+
+pub read_behind-requires-clause-within : goal.read_behind-requires-clause-within
+read_behind-requires-clause-within c = c.requires.within
+
+pub read_behind-requires-clause-small : goal.read_behind-requires-clause-small
+read_behind-requires-clause-small c = c.requires.small
+
+pub returns-in_err-olds-clause-exact : goal.returns-in_err-olds-clause-exact
+returns-in_err-olds-clause-exact c = fault-given _ Memory c.from_residual-in_err-olds.result _ c.from_residual-in_err-olds.ensures.1 tt
+
+pub read_behind-requires-clause-opens : goal.read_behind-requires-clause-opens
+read_behind-requires-clause-opens c = c.requires.opens
+
+pub read_behind-requires-clause-short : goal.read_behind-requires-clause-short
+read_behind-requires-clause-short c = c.requires.short
+
+pub returns-in_err-olds-clause-is : goal.returns-in_err-olds-clause-is
+returns-in_err-olds-clause-is c = nothing-said _ _ c.from_residual-in_err-olds.result c.from_residual-in_err-olds.ensures.1

@@ -1,21 +1,27 @@
-use Rattle.std.proofs.Common.{◌≡◌, ◌<◌, ◌∷◌, [], None, Some, Ok, map, arith, length-append}
+use Rattle.std.proofs.Common.{◌≡◌, ◌<◌, None, Some, Ok, map, ap, subst, sym}
 use Rattle.std.proofs.lemmas.Result.{err_from_is_err_and}
 use Rattle.std.proofs.lemmas.List.{map_push}
 use Rattle.file_patch.specs.PlainPatch.{patch_of}
 use Rattle.patch_text.specs.Reading.{IsProgress, ahead_of}
 use Rattle.patch_text.specs.Digests.{IsDigest, next_digested}
 use Rattle.patch_text.specs.Regions.{next_region, region_of}
-use Rattle.patch_text.proofs.DigestLoops.{digests_begin, digests_go_on, digests_fail, digests_done, digests-push, regions_begin, regions_go_on, regions_done}
+use Rattle.patch_text.proofs.DigestLoops.{digests_begin, digests_go_on, digests_fail, digests_done, digests-push, regions_begin, regions_go_on, regions_done, RegionsSoFar, digests-none}
+use Rattle.hunk_core.specs.declared.fault.FormFault.TheVariants.{Memory}
+use Rattle.patch_text.proofs.Passed.{comes-near, count-fits, fault-given, none-yet, nothing-said, one-more, progress-begins}
 use Rattle.patch_text.proofs.digest.read_digests.Goals as goal
 
 pub patches-init : goal.patches-init
-patches-init c = rw (c.new-patches.ensures.items, c.new-olds.ensures.items) (record {
-  progress = record { within = omega arith; numbers = omega arith; few = omega arith; known = λ e. absurd cc };
-  count = omega arith;
-  are = tt;
-  regions = regions_begin c.args.ways c.args.text.now;
-  so_far = digests_begin c.args.ways c.args.text.now;
-})
+patches-init c =
+    let none = c.new-patches.ensures.items in
+    let no_olds = ap (λ os. map (λ ranges. ranges.items) os) c.new-olds.ensures.items in
+    let text = c.args.text.now in
+    record {
+      progress = progress-begins text;
+      count = none-yet c.new-patches.result.items 0 none;
+      are = digests-none text c.new-patches.result.items _ none no_olds;
+      regions = subst (λ ps. RegionsSoFar c.args.ways text (map region_of ps) 0 1) (sym none) (regions_begin c.args.ways text);
+      so_far = digests_begin c.args.ways text _ _ (ap (map (patch_of text)) none) no_olds;
+    }
 
 pub returns-in_err-patch-clause-exact : goal.returns-in_err-patch-clause-exact
 returns-in_err-patch-clause-exact c =
@@ -41,7 +47,7 @@ patches-preserved c =
     let next : next_digested c.args.ways text here.at here.number ≡ Ok (Some (patch_of text p, own.items, ahead_of text behind)) = rw c.in-Some.is at c.in_ok-patch.ensures.exact in
     rw (c.in_ok-push.ensures.items, c.in_ok-push-2.ensures.items, map_push (λ os. os.items) os own) (record {
       progress = progress;
-      count = omega (arith, length-append ps (p ∷ []), was.count, after);
+      count = one-more ps p here.at behind.at was.count after;
       are = digests-push text ps (map (λ os. os.items) os) p own.items was.are is;
       regions = rw (map_push region_of ps p) (regions_go_on c.args.ways text (map region_of ps) here.at here.number behind.at behind.number (region_of p) after progress.within region was.regions);
       so_far = rw (map_push (patch_of text) ps p) (digests_go_on c.args.ways text (map (patch_of text) ps) (map (λ os. os.items) os) here.at here.number behind.at behind.number (patch_of text p) own.items after progress.within next was.so_far);
@@ -60,3 +66,51 @@ returns-clause-regions c =
     let here = c.patches.here in
     let none : next_region c.args.ways text here.at here.number ≡ None = rw c.in_default.is at c.in_ok-patch.ensures.region in
     regions_done c.args.ways text (map region_of c.patches.patches.items) here.at here.number none c.patches.invariant.regions
+
+pub patches-smaller : goal.patches-smaller
+patches-smaller c =
+    let after : c.patches.here.at < c.in-Some.behind.at = rw c.in-Some.is at c.in_ok-patch.ensures.behind in
+    let progress : IsProgress c.args.text.now c.in-Some.behind = rw c.in-Some.is at c.in_ok-patch.ensures.progress in
+    comes-near _ c.patches.here.at c.in-Some.behind.at after progress.within
+
+pub returns-clause-count : goal.returns-clause-count
+returns-clause-count c = count-fits _ c.patches.here.at _ c.patches.invariant.count c.patches.invariant.progress.within c.requires
+
+pub returns-in_err-push-2-clause-exact : goal.returns-in_err-push-2-clause-exact
+returns-in_err-push-2-clause-exact c = fault-given _ Memory c.from_residual-in_err-push-2.result _ c.from_residual-in_err-push-2.ensures.1 tt
+
+pub returns-clause-are : goal.returns-clause-are
+returns-clause-are c = c.patches.invariant.are
+
+pub returns-in_err-push-clause-exact : goal.returns-in_err-push-clause-exact
+returns-in_err-push-clause-exact c = fault-given _ Memory c.from_residual-in_err-push.result _ c.from_residual-in_err-push.ensures.1 tt
+
+pub returns-in_err-push-2-clause-regions : goal.returns-in_err-push-2-clause-regions
+returns-in_err-push-2-clause-regions c = nothing-said _ _ c.from_residual-in_err-push-2.result c.from_residual-in_err-push-2.ensures.1
+
+pub returns-in_err-push-2-clause-are : goal.returns-in_err-push-2-clause-are
+returns-in_err-push-2-clause-are c = nothing-said _ _ c.from_residual-in_err-push-2.result c.from_residual-in_err-push-2.ensures.1
+
+pub returns-in_err-push-2-clause-count : goal.returns-in_err-push-2-clause-count
+returns-in_err-push-2-clause-count c = nothing-said _ _ c.from_residual-in_err-push-2.result c.from_residual-in_err-push-2.ensures.1
+
+pub returns-in_err-push-clause-regions : goal.returns-in_err-push-clause-regions
+returns-in_err-push-clause-regions c = nothing-said _ _ c.from_residual-in_err-push.result c.from_residual-in_err-push.ensures.1
+
+pub returns-in_err-push-clause-are : goal.returns-in_err-push-clause-are
+returns-in_err-push-clause-are c = nothing-said _ _ c.from_residual-in_err-push.result c.from_residual-in_err-push.ensures.1
+
+pub returns-in_err-push-clause-count : goal.returns-in_err-push-clause-count
+returns-in_err-push-clause-count c = nothing-said _ _ c.from_residual-in_err-push.result c.from_residual-in_err-push.ensures.1
+
+pub next_digest-requires-clause-progress : goal.next_digest-requires-clause-progress
+next_digest-requires-clause-progress c = c.patches.invariant.progress
+
+pub returns-in_err-patch-clause-regions : goal.returns-in_err-patch-clause-regions
+returns-in_err-patch-clause-regions c = nothing-said _ _ c.from_residual.result c.from_residual.ensures.1
+
+pub returns-in_err-patch-clause-are : goal.returns-in_err-patch-clause-are
+returns-in_err-patch-clause-are c = nothing-said _ _ c.from_residual.result c.from_residual.ensures.1
+
+pub returns-in_err-patch-clause-count : goal.returns-in_err-patch-clause-count
+returns-in_err-patch-clause-count c = nothing-said _ _ c.from_residual.result c.from_residual.ensures.1

@@ -33,3 +33,15 @@ returns-clause-exact c =
     let skim = c.in_ok-skim.skim in
     let read = c.in_ok-skim.ensures.read in
     rw (c.in_ok-change.ensures.only text read.others read.more) (unified-reads c.args.line (lines (drop c.args.at text)) (hunk_of text skim.first ∷ read.others) (ahead skim.next (lines (drop skim.end text))) read.read)
+
+pub skim_hunks-requires-clause-short : goal.skim_hunks-requires-clause-short
+skim_hunks-requires-clause-short c = c.requires.short
+
+pub skim_hunks-requires-clause-small : goal.skim_hunks-requires-clause-small
+skim_hunks-requires-clause-small c = c.requires.small
+
+pub skim_hunks-requires-clause-within : goal.skim_hunks-requires-clause-within
+skim_hunks-requires-clause-within c = c.requires.within
+
+pub skim_hunks-requires-clause-opens : goal.skim_hunks-requires-clause-opens
+skim_hunks-requires-clause-opens c = c.requires.opens

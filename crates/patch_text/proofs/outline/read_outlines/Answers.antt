@@ -1,4 +1,4 @@
-use Rattle.std.proofs.Common.{◌≡◌, ◌<◌, ◌∷◌, [], None, Some, Ok, map, arith, length-append}
+use Rattle.std.proofs.Common.{◌≡◌, ◌<◌, None, Some, Ok, map, subst, sym}
 use Rattle.std.proofs.lemmas.Result.{err_from_is_err_and}
 use Rattle.std.proofs.lemmas.List.{map_push}
 use Rattle.std.proofs.lemmas.List.Elements.{All-push}
@@ -6,16 +6,21 @@ use Rattle.file_patch.specs.PlainPatch.{patch_of}
 use Rattle.file_patch.specs.Absent.{IsLawfulPatch}
 use Rattle.patch_text.specs.Reading.{IsProgress, ahead_of}
 use Rattle.patch_text.specs.Outlines.{next_outlined}
-use Rattle.patch_text.proofs.OutlineLoops.{outlines_begin, outlines_go_on, outlines_fail, outlines_done}
+use Rattle.patch_text.proofs.OutlineLoops.{outlines_begin, outlines_go_on, outlines_fail, outlines_done, OutlinesSoFar}
+use Rattle.hunk_core.specs.declared.fault.FormFault.TheVariants.{Memory}
+use Rattle.patch_text.proofs.Passed.{all-of-none, comes-near, count-fits, fault-given, none-yet, nothing-said, one-more, progress-begins}
 use Rattle.patch_text.proofs.outline.read_outlines.Goals as goal
 
 pub patches-init : goal.patches-init
-patches-init c = rw c.new-patches.ensures.items (record {
-  progress = record { within = omega arith; numbers = omega arith; few = omega arith; known = λ e. absurd cc };
-  lawful = λ k d lt. absurd (omega (arith, lt));
-  count = omega arith;
-  so_far = outlines_begin c.args.ways c.args.text.now;
-})
+patches-init c =
+    let none = c.new-patches.ensures.items in
+    let text = c.args.text.now in
+    record {
+      progress = progress-begins text;
+      lawful = all-of-none (IsLawfulPatch text) c.new-patches.result.items none;
+      count = none-yet c.new-patches.result.items 0 none;
+      so_far = subst (λ ps. OutlinesSoFar c.args.ways text (map (patch_of text) ps) 0 1) (sym none) (outlines_begin c.args.ways text);
+    }
 
 pub returns-in_err-patch-clause-exact : goal.returns-in_err-patch-clause-exact
 returns-in_err-patch-clause-exact c =
@@ -39,7 +44,7 @@ patches-preserved c =
     rw c.in_ok-push.ensures.items (record {
       progress = progress;
       lawful = All-push (IsLawfulPatch text) ps p was.lawful lawful;
-      count = omega (arith, length-append ps (p ∷ []), was.count, after);
+      count = one-more ps p here.at behind.at was.count after;
       so_far = rw (map_push (patch_of text) ps p) (outlines_go_on c.args.ways text (map (patch_of text) ps) here.at here.number behind.at behind.number (patch_of text p) after progress.within next was.so_far);
     })
 
@@ -49,3 +54,27 @@ returns-clause-exact c =
     let here = c.patches.here in
     let none : next_outlined c.args.ways text here.at here.number ≡ Ok None = rw c.in_default.is at c.in_ok-patch.ensures.exact in
     outlines_done c.args.ways text (map (patch_of text) c.patches.patches.items) here.at here.number none c.patches.invariant.so_far
+
+pub patches-smaller : goal.patches-smaller
+patches-smaller c =
+    let after : c.patches.here.at < c.in-Some.behind.at = rw c.in-Some.is at c.in_ok-patch.ensures.behind in
+    let progress : IsProgress c.args.text.now c.in-Some.behind = rw c.in-Some.is at c.in_ok-patch.ensures.progress in
+    comes-near _ c.patches.here.at c.in-Some.behind.at after progress.within
+
+pub returns-clause-count : goal.returns-clause-count
+returns-clause-count c = count-fits _ c.patches.here.at _ c.patches.invariant.count c.patches.invariant.progress.within c.requires
+
+pub returns-clause-lawful : goal.returns-clause-lawful
+returns-clause-lawful c = c.patches.invariant.lawful
+
+pub returns-in_err-push-clause-exact : goal.returns-in_err-push-clause-exact
+returns-in_err-push-clause-exact c = fault-given _ Memory c.from_residual-in_err-push.result _ c.from_residual-in_err-push.ensures.1 tt
+
+pub returns-in_err-push-clause-lawful : goal.returns-in_err-push-clause-lawful
+returns-in_err-push-clause-lawful c = nothing-said _ _ c.from_residual-in_err-push.result c.from_residual-in_err-push.ensures.1
+
+pub returns-in_err-push-clause-count : goal.returns-in_err-push-clause-count
+returns-in_err-push-clause-count c = nothing-said _ _ c.from_residual-in_err-push.result c.from_residual-in_err-push.ensures.1
+
+pub next_outline-requires-clause-progress : goal.next_outline-requires-clause-progress
+next_outline-requires-clause-progress c = c.patches.invariant.progress

@@ -1,4 +1,4 @@
-use Rattle.std.proofs.Common.{◌≡◌, ◌+◌, ◌<◌, ◌∷◌, [], None, Some, Ok, Err, map, refl, ap, arith, length-append}
+use Rattle.std.proofs.Common.{◌≡◌, ◌+◌, ◌<◌, None, Some, Ok, Err, map, refl, ap, arith, subst, sym}
 use Rattle.std.proofs.lemmas.Result.{err_from_is_err_and}
 use Rattle.std.proofs.lemmas.List.{map_push}
 use Rattle.std.proofs.lemmas.List.Elements.{All-push}
@@ -6,22 +6,26 @@ use Rattle.file_patch.specs.PlainPatch.{patch_of, row_count}
 use Rattle.file_patch.specs.Absent.{IsLawfulPatch}
 use Rattle.patch_text.specs.Patches.{next_patch}
 use Rattle.patch_text.specs.Reading.{IsProgress, ahead_of}
-use Rattle.patch_text.specs.Spans.{IsPatch}
+use Rattle.patch_text.specs.Spans.{IsPatch, LieInTurn}
 use Rattle.patch_header.specs.Steps.{IsFirstOpening}
-use Rattle.patch_text.proofs.TextLoops.{patches_begin, patches_go_on, patches_fail, patches_done, turn-push, count-push, rows_of}
-use Rattle.hunk_core.specs.declared.fault.FormFault.TheVariants.{Malformed}
+use Rattle.patch_text.proofs.TextLoops.{patches_begin, patches_go_on, patches_fail, patches_done, turn-push, count-push, rows_of, PatchesSoFar}
+use Rattle.hunk_core.specs.declared.fault.FormFault.TheVariants.{Malformed, Memory}
 use Rattle.patch_text.proofs.TextLaws.{turn-stands, err-of}
+use Rattle.patch_text.proofs.Passed.{all-of-none, comes-near, count-fits, fault-given, memory-isnt, none-yet, nothing-said, one-more, progress-begins, rows-fit, value-isnt}
 use Rattle.patch_text.proofs.patches.read_all.Goals as goal
 
 pub patches-init : goal.patches-init
-patches-init c = rw c.new-patches.ensures.items (record {
-  progress = record { within = omega arith; numbers = omega arith; few = omega arith; known = λ e. absurd cc };
-  lawful = λ k d lt. absurd (omega (arith, lt));
-  turn = (refl, refl);
-  rows = refl;
-  count = omega arith;
-  so_far = patches_begin c.args.ways c.args.text.now;
-})
+patches-init c =
+    let none = c.new-patches.ensures.items in
+    let text = c.args.text.now in
+    record {
+      progress = progress-begins text;
+      lawful = all-of-none (IsLawfulPatch text) c.new-patches.result.items none;
+      turn = subst (λ ps. LieInTurn c.args.ways text 0 1 0 ps 0 1) (sym none) (refl, refl);
+      rows = ap rows_of none;
+      count = none-yet c.new-patches.result.items 0 none;
+      so_far = subst (λ ps. PatchesSoFar c.args.ways text (map (patch_of text) ps) 0 1) (sym none) (patches_begin c.args.ways text);
+    }
 
 pub returns-in_err-patch-clause-exact : goal.returns-in_err-patch-clause-exact
 returns-in_err-patch-clause-exact c =
@@ -49,7 +53,7 @@ patches-preserved c =
       lawful = All-push (IsLawfulPatch text) ps p was.lawful is.lawful;
       turn = rw after.1 (turn-push c.args.ways text 0 1 0 ps p here.at here.number here.hunks behind.number was.turn rows opens is);
       rows = omega (arith, count-push ps p, was.rows, after.2);
-      count = omega (arith, length-append ps (p ∷ []), was.count, after.0);
+      count = one-more ps p here.at behind.at was.count after.0;
       so_far = rw (map_push (patch_of text) ps p) (patches_go_on c.args.ways text (map (patch_of text) ps) here.at here.number behind.at behind.number (patch_of text p) after.0 progress.within next was.so_far);
     })
 
@@ -74,3 +78,45 @@ returns-in_err-patch-clause-malformed c = λ line kind e.
       stand = turn-stands c.args.ways text 0 1 0 ps here.at here.number c.patches.invariant.turn;
       comes = c.in_err-patch.ensures.malformed line kind (ap Err same);
     }
+
+pub returns-clause-are : goal.returns-clause-are
+returns-clause-are c = record { end = c.patches.here.at; next = c.patches.here.number; turn = c.patches.invariant.turn; ends = c.in_ok-patch.ensures.ends c.in_default.is }
+
+pub patches-smaller : goal.patches-smaller
+patches-smaller c =
+    let after : (c.patches.here.at < c.in-Some.behind.at) × (c.in-Some.behind.at ≡ c.in-Some.patch.span.end) × (c.in-Some.behind.hunks ≡ c.patches.here.hunks + row_count c.in-Some.patch.change) = rw c.in-Some.is at c.in_ok-patch.ensures.behind in
+    let progress : IsProgress c.args.text.now c.in-Some.behind = rw c.in-Some.is at c.in_ok-patch.ensures.progress in
+    comes-near _ c.patches.here.at c.in-Some.behind.at after.0 progress.within
+
+pub returns-clause-malformed : goal.returns-clause-malformed
+returns-clause-malformed c = λ line kind e. absurd (value-isnt _ _ _ refl e)
+
+pub returns-in_err-push-clause-malformed : goal.returns-in_err-push-clause-malformed
+returns-in_err-push-clause-malformed c = λ line kind e. absurd (memory-isnt c.from_residual-in_err-push.result line kind c.from_residual-in_err-push.ensures.1 e)
+
+pub returns-clause-hunks : goal.returns-clause-hunks
+returns-clause-hunks c = rows-fit _ c.patches.here.hunks c.patches.here.at _ c.patches.invariant.rows c.patches.invariant.progress.few c.patches.invariant.progress.within c.requires
+
+pub returns-clause-count : goal.returns-clause-count
+returns-clause-count c = count-fits _ c.patches.here.at _ c.patches.invariant.count c.patches.invariant.progress.within c.requires
+
+pub returns-clause-lawful : goal.returns-clause-lawful
+returns-clause-lawful c = c.patches.invariant.lawful
+
+pub returns-in_err-push-clause-exact : goal.returns-in_err-push-clause-exact
+returns-in_err-push-clause-exact c = fault-given _ Memory c.from_residual-in_err-push.result _ c.from_residual-in_err-push.ensures.1 tt
+
+pub returns-in_err-push-clause-are : goal.returns-in_err-push-clause-are
+returns-in_err-push-clause-are c = nothing-said _ _ c.from_residual-in_err-push.result c.from_residual-in_err-push.ensures.1
+
+pub returns-in_err-push-clause-lawful : goal.returns-in_err-push-clause-lawful
+returns-in_err-push-clause-lawful c = nothing-said _ _ c.from_residual-in_err-push.result c.from_residual-in_err-push.ensures.1
+
+pub returns-in_err-push-clause-hunks : goal.returns-in_err-push-clause-hunks
+returns-in_err-push-clause-hunks c = nothing-said _ _ c.from_residual-in_err-push.result c.from_residual-in_err-push.ensures.1
+
+pub returns-in_err-push-clause-count : goal.returns-in_err-push-clause-count
+returns-in_err-push-clause-count c = nothing-said _ _ c.from_residual-in_err-push.result c.from_residual-in_err-push.ensures.1
+
+pub next_patch-requires-clause-progress : goal.next_patch-requires-clause-progress
+next_patch-requires-clause-progress c = c.patches.invariant.progress

@@ -16,3 +16,12 @@ returns-clause-writes g c = then_all c.in_ok-put_all.field-0 c.put_all-2.result 
     (writes_then c.in_ok-put_reason.field-0 c.put_all-2.result
     (writes_is _ (reason_of c.args.why) c.in_ok-put_reason.ensures.writes c.reason_of.ensures)
     (record { call = c.put_all-2.ensures.call; received = c.put_all-2.ensures.received; failed = c.put_all-2.ensures.failed }))
+
+pub returns-in_err-put_all-clause-rest : goal.returns-in_err-put_all-clause-rest
+returns-in_err-put_all-clause-rest g c = c.in_err-put_all.ensures.rest
+
+pub returns-in_err-put_reason-clause-rest : goal.returns-in_err-put_reason-clause-rest
+returns-in_err-put_reason-clause-rest g c = g.met.E.Sink.rest_both _ _ _ c.in_ok-put_all.ensures.rest c.in_err-put_reason.ensures.rest
+
+pub returns-clause-rest : goal.returns-clause-rest
+returns-clause-rest g c = g.met.E.Sink.rest_both _ _ _ c.in_ok-put_all.ensures.rest (g.met.E.Sink.rest_both _ _ _ c.in_ok-put_reason.ensures.rest c.put_all-2.ensures.rest)

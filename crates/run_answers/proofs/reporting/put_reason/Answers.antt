@@ -12,3 +12,12 @@ returns-in_err-put_decimal-clause-writes g c = then_all c.in_ok-put_all.field-0 
 pub returns-clause-writes : goal.returns-clause-writes
 returns-clause-writes g c = then_all c.in_ok-put_all.field-0 c.put_behind_first.result c.args.reason.now.front.now (behind_front c.args.reason.now) c.in_ok-put_all.ensures.call c.in_ok-put_all.ensures.received
     (writes_then c.in_ok-put_decimal.field-0 c.put_behind_first.result c.in_ok-put_decimal.ensures.writes c.put_behind_first.ensures.writes)
+
+pub returns-in_err-put_all-clause-rest : goal.returns-in_err-put_all-clause-rest
+returns-in_err-put_all-clause-rest g c = c.in_err-put_all.ensures.rest
+
+pub returns-in_err-put_decimal-clause-rest : goal.returns-in_err-put_decimal-clause-rest
+returns-in_err-put_decimal-clause-rest g c = g.met.E.Sink.rest_both _ _ _ c.in_ok-put_all.ensures.rest c.in_err-put_decimal.ensures.rest
+
+pub returns-clause-rest : goal.returns-clause-rest
+returns-clause-rest g c = g.met.E.Sink.rest_both _ _ _ c.in_ok-put_all.ensures.rest (g.met.E.Sink.rest_both _ _ _ c.in_ok-put_decimal.ensures.rest c.put_behind_first.ensures.rest)

@@ -1,4 +1,4 @@
-use Rattle.std.proofs.Common.{List, ℕ, refl, subst}
+use Rattle.std.proofs.Common.{List, ℕ, refl, subst, inr}
 use Rattle.std.specs.FinMap.{insert, remove}
 use Rattle.outside.specs.Calls.{Becomes}
 use Rattle.outside.specs.Quiet.Effect.{Put}
@@ -18,3 +18,6 @@ returns-in-Err-clause-makes g c =
     let name = c.args.name.now in
     let bytes = c.args.bytes.now in
     effect_part (Held name bytes) (Put name bytes) c.requires.quiet (λ f told. refl) c.in-Err.field-0 _ c.in-Err.ensures.makes
+
+pub returns-in-Err-clause-cause : goal.returns-in-Err-clause-cause
+returns-in-Err-clause-cause g c = inr (refl, c.in-Err.ensures.run.cause refl)

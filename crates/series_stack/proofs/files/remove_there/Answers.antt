@@ -1,4 +1,4 @@
-use Rattle.std.proofs.Common.{Bool, [], ◌∷◌, cond, ap}
+use Rattle.std.proofs.Common.{Bool, [], ◌∷◌, cond, ap, inr, refl}
 use Rattle.outside.specs.Quiet.Effect.{Remove}
 use Rattle.series_stack.specs.Saves.Entry.{Missing}
 use Rattle.series_stack.proofs.Steps.{effect_whole, effect_part}
@@ -13,3 +13,6 @@ pub returns-in-Err-clause-makes : goal.returns-in-Err-clause-makes
 returns-in-Err-clause-makes g c =
     let name = c.args.name.now in
     effect_part (Missing name) (Remove name) c.requires.quiet (λ f told. ap (λ (t : Bool). cond t (Remove name ∷ []) []) (c.requires.there f told)) c.in-Err.field-0 _ c.in-Err.ensures.makes
+
+pub returns-in-Err-clause-cause : goal.returns-in-Err-clause-cause
+returns-in-Err-clause-cause g c = inr (refl, c.in-Err.ensures.run.cause refl)

@@ -1,4 +1,4 @@
-use Rattle.std.proofs.Common.{inr, refl, sym, ◌∙◌}
+use Rattle.std.proofs.Common.{inr, refl, sym, ◌∙◌, inl}
 use Rattle.series_stack.proofs.Saving.{saved-is, unlawful}
 use Rattle.series_stack.proofs.save.check_name.Goals as goal
 
@@ -14,3 +14,6 @@ returns-in-Err-Refused-clause-cause c =
 pub returns-in-Ok-clause-cause : goal.returns-in-Ok-clause-cause
 returns-in-Ok-clause-cause c =
     inr (refl, saved-is c.in-Ok.name c.args.text.now c.in-Ok.ensures.lawful c.in-Ok.ensures.text ∙ sym c.may_be_saved.ensures ∙ c.if-may_be_saved.false)
+
+pub returns-clause-cause : goal.returns-clause-cause
+returns-clause-cause c = inl refl

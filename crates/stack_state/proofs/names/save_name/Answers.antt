@@ -1,6 +1,5 @@
-use Rattle.std.proofs.Common.{◌≡◌, ℕ, List, sym, ◌∙◌, subst}
+use Rattle.std.proofs.Common.{ℕ, List, sym, ◌∙◌, subst}
 use Rattle.outside.specs.Names.{IsPatchName}
-use Rattle.stack_law.specs.Stack.{save_name}
 use Rattle.stack_state.proofs.Named.{save_named, save_is}
 use Rattle.stack_state.proofs.names.save_name.Goals as goal
 

@@ -61,3 +61,9 @@ pub returns-clause-save : goal.returns-clause-save
 returns-clause-save g c = λ f told.
     next-is c.args.applied f (option_map vec_items c.in_ok-held.held) c.in_ok-behind.behind _ (c.in_ok-held.ensures.save f told) (c.in_ok-behind.ensures.there f (c.read_save.ensures.untouched.told ∙ told)) c.in_ok-held-2.ensures.good
     ∙ ap (λ h. save_if false (option_map vec_items h)) (sym c.in_ok-held-2.ensures.same)
+
+pub returns-clause-good : goal.returns-clause-good
+returns-clause-good g c = c.in_ok-held-2.ensures.fine
+
+pub returns-clause-cause : goal.returns-clause-cause
+returns-clause-cause g c = tt

@@ -1,5 +1,8 @@
-use Rattle.std.proofs.Common.{arith}
+use Rattle.std.proofs.Common.{arith, length, refl, subst, sym, ◌≤◌}
 use Rattle.series_stack.proofs.Taking.{fewer_untold}
+use Rattle.stack_state.specs.Causes.{HasSize}
+use Rattle.outside.specs.Files.{bytes_at}
+use Rattle.stack_state.proofs.Held.{whole-came}
 use Rattle.stack_state.proofs.whole.read_into.Goals as goal
 
 pub returns-in-Err-came-clause-cause : goal.returns-in-Err-came-clause-cause
@@ -9,3 +12,24 @@ returns-in-Err-came-clause-cause g c =
       omega (arith, fewer.1),
       fewer_untold (g.T.Tree.view c.args.tree.now) c.args.name.now c.args.buf.now c.read_at.new.buf c.in-Ok.count (omega (arith, fewer.1)) c.read_at.auto.buf c.requires.long c.in-Ok.ensures.bytes,
     )
+
+pub returns-in-Ok-came-clause-bytes : goal.returns-in-Ok-came-clause-bytes
+returns-in-Ok-came-clause-bytes g c = λ f told. whole-came c.args.buf.now c.read_at.new.buf (bytes_at f c.args.name.now) c.in-Ok.count c.read_at.auto.buf (subst (λ n. n ≤ c.in-Ok.count) c.read_at.auto.buf c.in-Ok-came.ensures.whole) (c.requires.long f told) (c.in-Ok.ensures.bytes f told)
+
+pub returns-in-Err-clause-cause : goal.returns-in-Err-clause-cause
+returns-in-Err-clause-cause g c = c.in-Err.ensures.call.cause refl
+
+pub returns-in-Err-came-clause-size : goal.returns-in-Err-came-clause-size
+returns-in-Err-came-clause-size g c = subst (HasSize (length c.args.buf.now)) (sym c.in-Err-came.ensures.fewer.0) c.read_at.auto.buf
+
+pub returns-in-Err-came-clause-untouched : goal.returns-in-Err-came-clause-untouched
+returns-in-Err-came-clause-untouched g c = c.in-Ok.ensures.untouched
+
+pub returns-in-Ok-came-clause-untouched : goal.returns-in-Ok-came-clause-untouched
+returns-in-Ok-came-clause-untouched g c = c.in-Ok.ensures.untouched
+
+pub returns-in-Err-clause-untouched : goal.returns-in-Err-clause-untouched
+returns-in-Err-clause-untouched g c = c.in-Err.ensures.untouched
+
+pub returns-in-Err-came-clause-bytes : goal.returns-in-Err-came-clause-bytes
+returns-in-Err-came-clause-bytes g c = tt

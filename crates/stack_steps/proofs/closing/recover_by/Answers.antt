@@ -26,3 +26,15 @@ returns-in-Err-clause-steps g c =
     (λ f told. held-undone (suc n) c.args.save.now f c.requires.save (c.requires.held f told))
     (λ f told. recovered-is n (suc n) c.args.save.now f c.requires.save (c.requires.held f told))
     (one_more (λ k. Steps {R = Unit {0}} (g.T.Tree.view c.args.tree.now) (g.T.Tree.view c.undo.new.tree) (g.O.Sink.view c.args.out.now) (g.O.Sink.view c.args.out.now) (Err c.in-Err.fault) (undone_by (save_name k) (entries_of c.args.save.now)) (λ f. text)) n (unsaid {S = Unit {0}} c.in-Err.fault text (c.in-Err.ensures (g.O.Sink.view c.args.out.now))))
+
+pub returns-in-Err-clause-rest : goal.returns-in-Err-clause-rest
+returns-in-Err-clause-rest g c = g.met.O.Sink.rest_none c.args.out.now
+
+pub returns-in-Ok-clause-rest : goal.returns-in-Ok-clause-rest
+returns-in-Ok-clause-rest g c = c.say_restored.ensures.rest
+
+pub undo-requires-clause-save : goal.undo-requires-clause-save
+undo-requires-clause-save g c = c.requires.save
+
+pub undo-requires-clause-quiet : goal.undo-requires-clause-quiet
+undo-requires-clause-quiet g c = c.requires.quiet

@@ -21,3 +21,15 @@ returns-in-Err-clause-steps g c =
     let save = c.args.save.now in
     steps_is {R = Unit {0}} (Err c.in-Err.fault) (undoing_by (save_name n) (entries_of save)) (λ f. tally c.args.before c.args.all) (λ f told. sym (undone-there save n f c.requires.save (c.requires.there f told))) (λ f told. refl)
     (one_more (λ k. Steps {R = Unit {0}} (g.T.Tree.view c.args.tree.now) (g.T.Tree.view c.undo.new.tree) (g.O.Sink.view c.args.out.now) (g.O.Sink.view c.args.out.now) (Err c.in-Err.fault) (undone_by (save_name k) (entries_of save)) (λ f. tally c.args.before c.args.all)) c.args.before (unsaid {S = Unit {0}} c.in-Err.fault (tally c.args.before c.args.all) (c.in-Err.ensures (g.O.Sink.view c.args.out.now))))
+
+pub returns-in-Err-clause-rest : goal.returns-in-Err-clause-rest
+returns-in-Err-clause-rest g c = g.met.O.Sink.rest_none c.args.out.now
+
+pub returns-in-Ok-clause-rest : goal.returns-in-Ok-clause-rest
+returns-in-Ok-clause-rest g c = c.say_tally.ensures.rest
+
+pub undo-requires-clause-save : goal.undo-requires-clause-save
+undo-requires-clause-save g c = c.requires.save
+
+pub undo-requires-clause-quiet : goal.undo-requires-clause-quiet
+undo-requires-clause-quiet g c = c.requires.quiet

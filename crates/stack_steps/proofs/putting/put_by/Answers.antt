@@ -15,3 +15,12 @@ returns-in-Ok g c s =
 
 pub returns-in-Err : goal.returns-in-Err
 returns-in-Err g c s = effect_failed s c.in-Err.field-0 (Put c.args.name.now c.args.bytes.now) c.requires.quiet c.in-Err.ensures.makes
+
+pub put_whole-requires-clause-lasting : goal.put_whole-requires-clause-lasting
+put_whole-requires-clause-lasting g c = c.requires.lasting
+
+pub put_whole-requires-clause-temporary : goal.put_whole-requires-clause-temporary
+put_whole-requires-clause-temporary g c = c.requires.temporary
+
+pub put_whole-requires-clause-quiet : goal.put_whole-requires-clause-quiet
+put_whole-requires-clause-quiet g c = c.requires.quiet

@@ -4,6 +4,8 @@ use Rattle.outside.specs.Quiet.Effect.{Put}
 use Rattle.series_stack.specs.Count.{count_text}
 use Rattle.stack_law.proofs.Names.{count-lasting}
 use Rattle.stack_steps.specs.Steps.{Steps}
+use Rattle.stack_law.specs.Stack.{count_name}
+use Rattle.stack_steps.proofs.Stepping.{steps_starved}
 use Rattle.stack_steps.proofs.putting.put_count.Goals as goal
 
 pub put_file-requires-clause-lasting : goal.put_file-requires-clause-lasting
@@ -14,3 +16,12 @@ returns g c s =
     subst (λ (l : List ℕ). Steps (g.T.Tree.view c.args.tree.now) (g.T.Tree.view c.put_file.new.tree) s s c.put_file.result (λ f. Put l (count_text c.args.count) ∷ []) (λ f. [])) c.in-Ok.ensures
     (subst (λ (l : List ℕ). Steps (g.T.Tree.view c.args.tree.now) (g.T.Tree.view c.put_file.new.tree) s s c.put_file.result (λ f. Put c.in-Ok.name l ∷ []) (λ f. [])) (c.deref.ensures.value ∙ c.in-Ok-count_text.ensures)
     (c.put_file.ensures s))
+
+pub returns-in_default : goal.returns-in_default
+returns-in_default g c s = steps_starved (g.T.Tree.view c.args.tree.now) s (λ f. Put count_name (count_text c.args.count) ∷ []) (λ f. []) c.requires.quiet
+
+pub returns-in_default-count_text : goal.returns-in_default-count_text
+returns-in_default-count_text g c s = steps_starved (g.T.Tree.view c.args.tree.now) s (λ f. Put count_name (count_text c.args.count) ∷ []) (λ f. []) c.requires.quiet
+
+pub put_file-requires-clause-quiet : goal.put_file-requires-clause-quiet
+put_file-requires-clause-quiet g c = c.requires.quiet

@@ -7,3 +7,6 @@ returns-in_err-put_digits-clause-writes g c = writes_stop c.in_err-put_digits.fi
 
 pub returns-clause-writes : goal.returns-clause-writes
 returns-clause-writes g c = writes_then c.in_ok-put_digits.field-0 c.put_end.result c.in_ok-put_digits.ensures.writes c.put_end.ensures.writes
+
+pub returns-clause-rest : goal.returns-clause-rest
+returns-clause-rest g c = g.met.O.Sink.rest_both _ _ _ c.in_ok-put_digits.ensures.rest c.put_end.ensures.rest

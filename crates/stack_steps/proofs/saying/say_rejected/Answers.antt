@@ -45,3 +45,6 @@ returns-clause-writes g c =
 
 pub returns-clause-rest : goal.returns-clause-rest
 returns-clause-rest g c = g.met.O.Sink.rest_both _ _ _ c.in_ok-put_all.ensures.rest (g.met.O.Sink.rest_both _ _ _ c.in_ok-put_all-2.ensures.rest (g.met.O.Sink.rest_both _ _ _ c.in_ok-put_all-3.ensures.rest c.say_tally.ensures.rest))
+
+pub returns-in_err-put_all-clause-rest : goal.returns-in_err-put_all-clause-rest
+returns-in_err-put_all-clause-rest g c = c.in_err-put_all.ensures.rest

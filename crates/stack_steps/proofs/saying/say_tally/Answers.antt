@@ -33,3 +33,6 @@ returns-clause-writes g c =
 
 pub returns-clause-rest : goal.returns-clause-rest
 returns-clause-rest g c = g.met.O.Sink.rest_both _ _ _ c.in_ok-put_all.ensures.rest (g.met.O.Sink.rest_both _ _ _ c.in_ok-put_digits.ensures.rest (g.met.O.Sink.rest_both _ _ _ c.in_ok-put_all-2.ensures.rest c.put_number_line.ensures.rest))
+
+pub returns-in_err-put_all-clause-rest : goal.returns-in_err-put_all-clause-rest
+returns-in_err-put_all-clause-rest g c = c.in_err-put_all.ensures.rest

@@ -16,3 +16,12 @@ returns-in-Err g c s =
     let name = c.args.name.now in
     steps_is _ (taken_away name) (λ f. []) (λ f told. taken-there name f (c.requires.there f told)) (λ f told. refl)
     (effect_failed s c.in-Err.field-0 (Remove name) c.requires.quiet c.in-Err.ensures.makes)
+
+pub remove_name-requires-clause-lasting : goal.remove_name-requires-clause-lasting
+remove_name-requires-clause-lasting g c = c.requires.lasting
+
+pub remove_name-requires-clause-quiet : goal.remove_name-requires-clause-quiet
+remove_name-requires-clause-quiet g c = c.requires.quiet
+
+pub remove_name-requires-clause-there : goal.remove_name-requires-clause-there
+remove_name-requires-clause-there g c = c.requires.there

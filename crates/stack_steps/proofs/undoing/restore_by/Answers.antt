@@ -1,4 +1,3 @@
-use Rattle.outside.specs.TreeView.{TreeView}
 use Rattle.patch_effects.specs.declared.fault.RunFault.TheVariants.{Tree, Memory}
 use Rattle.stack_steps.proofs.Restoring.{restored_whole, restored_part, tree_failed}
 use Rattle.stack_steps.proofs.undoing.restore_by.Goals as goal
@@ -11,3 +10,9 @@ returns-in-Err-Tree g c s = restored_part (g.T.Tree.view c.args.tree.now) (g.T.T
 
 pub returns-in-Err : goal.returns-in-Err
 returns-in-Err g c s = restored_part (g.T.Tree.view c.args.tree.now) (g.T.Tree.view c.restore.new.tree) s c.args.save.now c.requires.save c.restore.ensures.passes c.restore.ensures.leaves Memory tt c.restore.ensures.tells
+
+pub restore-requires-clause-save : goal.restore-requires-clause-save
+restore-requires-clause-save g c = c.requires.save
+
+pub restore-requires-clause-quiet : goal.restore-requires-clause-quiet
+restore-requires-clause-quiet g c = c.requires.quiet

@@ -22,3 +22,6 @@ returns-in-Ok-None g c s =
 
 pub returns-in-Err : goal.returns-in-Err
 returns-in-Err g c s = untouched_fails s (taken_away c.args.name.now) c.in-Err.ensures.untouched (c.in-Err.ensures.call.cause refl) c.requires.quiet
+
+pub remove_there-requires-clause-lasting : goal.remove_there-requires-clause-lasting
+remove_there-requires-clause-lasting g c = c.requires.lasting
