@@ -3,6 +3,7 @@ pub mod Cuts
 pub mod Measures
 pub mod LongLines
 pub mod Opens
+mod Pieces
 pub mod Readings
 pub mod Records
 pub mod Rooms

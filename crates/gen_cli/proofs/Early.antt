@@ -94,3 +94,7 @@ words_not job j fault is not = let never : Ok j ≡ Err fault = sym is ∙ not i
 
 pub carries_words : (job : Result PlainGenJob WordFault) (j : PlainGenJob) → job ≡ Ok j → {u w : World} {why : Why} {given : Option Receipt} → Carries (Ok j) u w why given → Carries job u w why given
 carries_words job j is {u = u} {w = w} {why = why} {given = given} c = subst (λ (x : Result PlainGenJob WordFault). Carries x u w why given) (sym is) c
+
+-- words that ask for a job aren't refused
+pub asks_both : {job : Result PlainGenJob WordFault} {j : PlainGenJob} {fault : WordFault} → job ≡ Ok j → job ≡ Err fault → ⊥
+asks_both asks refused = cc

@@ -1,5 +1,5 @@
 -- How long a patch is.
-use Rattle.std.proofs.Common.{◌≡◌, ℕ, zero, suc, ◌+◌, ◌-◌, ◌*◌, ◌/◌, List, [], ◌∷◌, ◌++◌, length, codes, ap, arith, length-append}
+use Rattle.std.proofs.Common.{◌≡◌, ℕ, zero, suc, ◌+◌, ◌-◌, ◌*◌, ◌/◌, ◌^◌, ◌<◌, ◌≤◌, List, [], ◌∷◌, ◌++◌, length, codes, ap, arith, length-append}
 use Rattle.std.specs.List.{flat_map, range_with_len}
 use Rattle.num_text.specs.Numbers.{decimal}
 use Rattle.patch_gen.specs.Patches.{file_name, header_lines, range_line, kept_lines, hunk_text, new_line}
@@ -35,3 +35,14 @@ whole seed lines each a (suc n) h =
     let hunks = flat_map (hunk_text (file_line x)) (range_with_len 1 (lines / 20)) in
     let on : suc n * each ≡ each + n * each = grind arith in
     omega (arith, length-append (header_lines a ++ hunks) (flat_map (made_patch seed lines) (range_with_len (a + 1) n)), length-append (header_lines a) hunks, length-append (header_lines a) (flat_map header_lines (range_with_len (a + 1) n)), h x, whole seed lines each (a + 1) n h)
+
+times-le : (n a b : ℕ) → a ≤ b → n * a ≤ n * b
+times-le zero a b le = omega arith
+times-le (suc n) a b le =
+    let few : suc n * a ≡ a + n * a = grind arith in
+    let most : suc n * b ≡ b + n * b = grind arith in
+    omega (arith, few, most, le, times-le n a b le)
+
+-- how many hunks there are
+pub hunks-fit : (files lines : ℕ) → files * lines ≤ 10000000 → files * (lines / 20) < 2 ^ 32
+hunks-fit files lines few = omega (arith, few, times-le files (lines / 20) lines (omega arith))

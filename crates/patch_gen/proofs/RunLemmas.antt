@@ -1,5 +1,6 @@
 -- Texts made by a run of numbers, and the states of a run of draws.
-use Rattle.std.proofs.Common.{◌≡◌, ℕ, zero, suc, ◌+◌, ◌*◌, List, ◌++◌, refl, sym, ap, ◌∙◌, arith, append_assoc}
+use Rattle.std.proofs.Common.{◌≡◌, ℕ, zero, suc, ◌+◌, ◌*◌, List, ◌++◌, refl, sym, ap, ◌∙◌, arith, append_assoc, Result, Ok, Err, OnOk}
+use Rattle.std.specs.Result.{IsErrAnd}
 use Rattle.std.specs.List.{flat_map, range_with_len}
 use Rattle.std.proofs.lemmas.List.{append-nil}
 use Rattle.patch_gen.specs.Draws.{next_state, state_after}
@@ -45,3 +46,8 @@ state-files seed n m x new e is =
 
 pub state-first : (seed m : ℕ) → state_after seed (0 * m) ≡ seed
 state-first seed m = let none : 0 * m ≡ 0 = omega arith in ap (state_after seed) none ∙ state-start seed
+
+-- a fault that is passed on: what is said behind an end says nothing
+pub on_ok_none : {R E : Type 0} (P : Type 0) (Q : E → Type 0) (r : Result R E) → IsErrAnd r Q → OnOk r P
+on_ok_none P Q (Ok x) is = absurd is
+on_ok_none P Q (Err e) is = tt

@@ -15,6 +15,10 @@ by_one r p q call received failed is = writes_is r q (record { call = call; rece
 pub heard : {R E : Type 0} {a b : SinkView} (o : PlainOptions) (r : Result R E) (p : List ℕ) → o.silent ≡ false → Writes a b r p → Writes a b r (silenced o p)
 heard {a = a} {b = b} o r p loud w = subst (λ (is_silent : Bool). Writes a b r (if is_silent then [] else p)) (sym loud) w
 
+-- and with `-s` nothing is
+pub silent : {R E : Type 0} (a : SinkView) (o : PlainOptions) (x : R) (p : List ℕ) → o.silent ≡ true → Writes {E = E} a a (Ok x) (silenced o p)
+silent {E = E} a o x p is = subst (λ (is_silent : Bool). Writes {E = E} a a (Ok x) (if is_silent then [] else p)) (sym is) (writes_none a x)
+
 -- a text that is written where a test holds, but with `-s`
 pub told : {R E : Type 0} {a b : SinkView} (o : PlainOptions) (test : Bool) (r : Result R E) (p : List ℕ) → (not o.silent && test) ≡ true → Writes a b r p → Writes a b r (silenced o (if test then p else []))
 told {a = a} {b = b} o test r p is w = subst (λ (l : List ℕ). Writes a b r l) (sym (whole o.silent test is)) w

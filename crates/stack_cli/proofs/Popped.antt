@@ -1,5 +1,5 @@
 -- What the commands come to that apply no patch.
-use Rattle.std.proofs.Common.{◌≡◌, ℕ, zero, suc, ◌≤◌, nat_lt, get_or, List, [], ◌∷◌, ◌++◌, codes, drop, length, Bool, true, false, is_some, is_none, IsSome, Option, Some, None, Ok, Err, refl, sym, ◌∙◌, ap, subst, arith}
+use Rattle.std.proofs.Common.{◌≡◌, ℕ, zero, suc, ◌<◌, ◌≤◌, nat_lt, get_or, List, [], ◌∷◌, ◌++◌, codes, drop, length, Bool, true, false, is_some, is_none, IsSome, Option, Some, None, Ok, Err, refl, sym, ◌∙◌, ap, subst, arith, drop-cons}
 use Rattle.std.proofs.lemmas.Bool.{false≢true}
 use Rattle.std.proofs.lemmas.Bool.Decides.{nat_tests}
 use Rattle.std.specs.FinMap.{get}
@@ -164,6 +164,10 @@ last_there [] n k is few = absurd (let no : ⊥ = omega (arith, is, few) in no)
 last_there (m ∷ names) zero k is few = ap (λ (j : ℕ). m ∷ drop j (m ∷ names)) (sym is)
 last_there (m ∷ names) (suc n) zero is few = absurd (let no : ⊥ = omega (arith, is) in no)
 last_there (m ∷ names) (suc n) (suc k) is few = last_there names n k (omega (arith, is)) (omega (arith, few))
+
+-- a name of the list stands in front of those behind it
+pub stands_before : (names : List (List ℕ)) (n k : ℕ) (name : List ℕ) → k ≡ suc n → n < length names → name ≡ get_or names n name → drop n names ≡ name ∷ drop k names
+stands_before names n k name is few at = drop-cons names n name few ∙ ap (λ (m : List ℕ). m ∷ drop (suc n) names) (sym at) ∙ ap (λ (j : ℕ). name ∷ drop j names) (sym is)
 
 pub there_after : {R : Type 0} {u w : TreeView} {c d : SinkView} (s : State) (n : ℕ) (some : s.stack.applied ≡ suc n) (name : List ℕ) (more : List (List ℕ)) → drop n s.stack.patches.items ≡ name ∷ more → (save : List ℕ) (x : R)
     → IsState u s → ((f : Files) → u.told ≡ Some f → last_save s.stack.applied f ≡ Ok save)

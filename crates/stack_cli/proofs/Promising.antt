@@ -264,3 +264,7 @@ module _ (job : Result StackOp WordFault) (t v : TreeView) (a : ScratchView) (c 
 pub settle_carry : (job : Result StackOp WordFault) (t v : TreeView) (a : ScratchView) (c : SinkView) (why : Why) → Opens t v → why ≡ TreeFault → Rises t v → Carries job (world t a c) (world v a c) why
 settle_carry job t v a c why opens is rises =
     subst (λ (x : Why). Carries job (world t a c) (world v a c) x) (sym is) (carries_entry job t v a c TreeFault opens rises (λ same. absurd (false≢true same)) (λ own. absurd (false≢true own)))
+
+-- words that ask for an operation aren't refused
+pub asks_both : {job : Result StackOp WordFault} {op : StackOp} {fault : WordFault} → job ≡ Ok op → job ≡ Err fault → ⊥
+asks_both asks refused = cc

@@ -6,6 +6,7 @@ use Rattle.patch_gen.specs.Texts.{file_line, file_text}
 use Rattle.patch_gen.specs.Patches.{file_patch}
 use Rattle.patch_gen.specs.Tree.{file_state, made_file, made_patch, made}
 use Rattle.patch_gen.proofs.RunLemmas.{run-more, state-first, state-files}
+use Rattle.patch_gen.proofs.RoomLemmas.{hunks-fit}
 use Rattle.patch_gen.proofs.generate.Goals as goal
 
 here : (seed lines n x : ℕ) → x ≡ state_after seed (n * (1 + lines)) → x ≡ file_state seed lines (n + 1)
@@ -42,3 +43,6 @@ unfolding made
 returns-clause-patch c =
     let all : c.loop-done.done ≡ c.args.files = omega arith in
     c.loop-done.invariant.patch ∙ ap (λ n. flat_map (made_patch c.args.seed c.args.lines) (range_with_len 1 n)) all
+
+pub overflow_mul-result : goal.overflow_mul-result
+overflow_mul-result c = record { fits = hunks-fit c.args.files c.args.lines c.requires.all }

@@ -1,4 +1,4 @@
-use Rattle.std.proofs.Common.{◌+◌, map, sym, ap, subst, ◌∙◌, arith, Ok}
+use Rattle.std.proofs.Common.{◌+◌, map, sym, ap, subst, ◌∙◌, arith, Ok, ◌≡◌, ℕ}
 use Rattle.std.specs.List.{range_with_len}
 use Rattle.outside.specs.Files.{is_temp, temp_of}
 use Rattle.outside.specs.declared.Failed.{Failed}
@@ -45,3 +45,9 @@ loop-done-preserved g c =
     subst (λ es. PutsAll {R = Unit {0}} {E = Failed} es (g.T.Tree.view c.args.tree.now) (g.T.Tree.view c.put_file.new.tree) (Ok tt)) (files_more j n)
     (puts_more (map (file_put j) (range_with_len 1 n)) (g.T.Tree.view c.args.tree.now) (g.T.Tree.view c.loop-done.tree) (g.T.Tree.view c.put_file.new.tree) c.loop-done.invariant (file_put j (n + 1))
     c.in_ok-put_file.field-0 (same_put j (n + 1) _ _ name bytes c.in_ok-put_file.ensures))
+
+pub returns : goal.returns
+returns g c = let all : c.loop-done.done ≡ c.args.job.files = omega (arith, c.loop-done-test.false, c.loop-done.auto.done-end) in subst (λ (n : ℕ). PutsAll {R = Unit {0}} {E = Failed} (map (file_put (plain_gen_job c.args.job)) (range_with_len 1 n)) (g.T.Tree.view c.args.tree.now) (g.T.Tree.view c.loop-done.tree) (Ok tt)) all c.loop-done.invariant
+
+pub put_file-requires-clause-quiet : goal.put_file-requires-clause-quiet
+put_file-requires-clause-quiet g c = c.loop-done.invariant.quiet

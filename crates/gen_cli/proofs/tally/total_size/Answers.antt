@@ -1,11 +1,18 @@
-use Rattle.std.proofs.Common.{ap, ◌∙◌}
-use Rattle.outside.specs.Calls.{untouched_both}
+use Rattle.std.proofs.Common.{ap, ◌∙◌, refl}
+use Rattle.outside.specs.Calls.{untouched_both, untouched_none}
 use Rattle.gen_cli.specs.Summary.{capped}
 use Rattle.gen_cli.proofs.Sizes.{sizes_more, sizes_all}
+use Rattle.std.proofs.lemmas.Bool.{false≢true}
+use Rattle.outside.proofs.Exits.{if_ok_none}
+use Rattle.outside.proofs.Views.{rises_then}
 use Rattle.gen_cli.proofs.tally.total_size.Goals as goal
 
-pub returns-in_err-size-clause-untouched : goal.returns-in_err-size-clause-untouched
-returns-in_err-size-clause-untouched g c = untouched_both c.loop-k.invariant.untouched c.in_err-size.ensures.untouched
+pub returns-in_err-size : goal.returns-in_err-size
+returns-in_err-size g c = record {
+  untouched = untouched_both c.loop-k.invariant.untouched c.in_err-size.ensures.untouched;
+  cause = λ is. rises_then (g.T.Tree.view c.args.tree.now) (g.T.Tree.view c.loop-k.tree) (g.T.Tree.view c.size_at.new.tree) c.loop-k.invariant.untouched.passes (c.in_err-size.ensures.cause refl);
+  size = if_ok_none _ _ c.from_residual.result c.from_residual.ensures.1;
+}
 
 pub loop-k-preserved : goal.loop-k-preserved
 loop-k-preserved g c = record {
@@ -14,5 +21,12 @@ loop-k-preserved g c = record {
       ∙ sizes_more f c.args.places.now c.loop-k.k c.loop-k.total c.in_ok-size.size c.index-places-k.result c.loop-k-test.true (c.loop-k.invariant.size f told) (c.in_ok-size.ensures.size f (c.loop-k.invariant.untouched.told ∙ told));
 }
 
-pub returns-clause-size : goal.returns-clause-size
-returns-clause-size g c f count told are = c.loop-k.invariant.size f told ∙ ap capped (sizes_all f c.args.places.now count c.loop-k.k c.loop-k-test.false are)
+pub returns : goal.returns
+returns g c = record {
+  size = λ f count told are. c.loop-k.invariant.size f told ∙ ap capped (sizes_all f c.args.places.now count c.loop-k.k c.loop-k-test.false are);
+  cause = λ is. absurd (false≢true is);
+  untouched = c.loop-k.invariant.untouched;
+}
+
+pub loop-k-init : goal.loop-k-init
+loop-k-init g c = record { untouched = untouched_none (g.T.Tree.view c.args.tree.now); size = λ f told. refl }

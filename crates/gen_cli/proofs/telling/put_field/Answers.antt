@@ -2,8 +2,14 @@ use Rattle.num_text.specs.Numbers.{decimal}
 use Rattle.outside.proofs.Writing.{stop_all, then_all}
 use Rattle.gen_cli.proofs.telling.put_field.Goals as goal
 
-pub returns-in_err-put_all-clause-writes : goal.returns-in_err-put_all-clause-writes
-returns-in_err-put_all-clause-writes g c = stop_all c.in_err-put_all.field-0.0 c.from_residual.result c.args.label.now (decimal c.args.number) c.from_residual.ensures.0 c.in_err-put_all.ensures.call c.in_err-put_all.ensures.failed
+pub returns-in_err-put_all : goal.returns-in_err-put_all
+returns-in_err-put_all g c = record {
+  writes = stop_all c.in_err-put_all.field-0.0 c.from_residual.result c.args.label.now (decimal c.args.number) c.from_residual.ensures.0 c.in_err-put_all.ensures.call c.in_err-put_all.ensures.failed;
+  rest = c.put_all.ensures.rest;
+}
 
-pub returns-clause-writes : goal.returns-clause-writes
-returns-clause-writes g c = then_all c.in_ok-put_all.field-0 c.put_decimal.result c.args.label.now (decimal c.args.number) c.in_ok-put_all.ensures.call c.in_ok-put_all.ensures.received c.put_decimal.ensures.writes
+pub returns : goal.returns
+returns g c = record {
+  writes = then_all c.in_ok-put_all.field-0 c.put_decimal.result c.args.label.now (decimal c.args.number) c.in_ok-put_all.ensures.call c.in_ok-put_all.ensures.received c.put_decimal.ensures.writes;
+  rest = g.met.O.Sink.rest_both _ _ _ c.put_all.ensures.rest c.put_decimal.ensures.rest;
+}

@@ -5,16 +5,26 @@ use Rattle.say_text.specs.Origins.{plain_origin}
 use Rattle.say_text.specs.declared.origin.Origin.{Origin}
 use Rattle.say_text.proofs.files.put_patched.Goals as goal
 
-pub returns-in-Renamed-clause-writes : goal.returns-in-Renamed-clause-writes
-returns-in-Renamed-clause-writes g c =
-    let line = λ (l : List ℕ). c.args.doing.now ++ (c.args.name.now ++ l) in
-    writes_is c.put_from.result (line (behind_name (plain_origin c.args.origin))) c.put_from.ensures.writes
-    (ap (λ (l : List ℕ). line (codes " (renamed from " ++ (l ++ codes ")\n"))) c.as_bytes.ensures.value
-    ∙ ap (λ (o : Origin). line (behind_name (plain_origin o))) (sym c.in-Renamed.is))
+pub returns-in-Renamed : goal.returns-in-Renamed
+returns-in-Renamed g c = record {
+  writes = let line = λ (l : List ℕ). c.args.doing.now ++ (c.args.name.now ++ l) in
+      writes_is c.put_from.result (line (behind_name (plain_origin c.args.origin))) c.put_from.ensures.writes
+      (ap (λ (l : List ℕ). line (codes " (renamed from " ++ (l ++ codes ")\n"))) c.as_bytes.ensures.value
+      ∙ ap (λ (o : Origin). line (behind_name (plain_origin o))) (sym c.in-Renamed.is));
+  rest = c.put_from.ensures.rest;
+}
 
-pub returns-in-Copied-clause-writes : goal.returns-in-Copied-clause-writes
-returns-in-Copied-clause-writes g c =
-    let line = λ (l : List ℕ). c.args.doing.now ++ (c.args.name.now ++ l) in
-    writes_is c.put_from-in-Copied.result (line (behind_name (plain_origin c.args.origin))) c.put_from-in-Copied.ensures.writes
-    (ap (λ (l : List ℕ). line (codes " (copied from " ++ (l ++ codes ")\n"))) c.as_bytes-in-Copied.ensures.value
-    ∙ ap (λ (o : Origin). line (behind_name (plain_origin o))) (sym c.in-Copied.is))
+pub returns-in-Copied : goal.returns-in-Copied
+returns-in-Copied g c = record {
+  writes = let line = λ (l : List ℕ). c.args.doing.now ++ (c.args.name.now ++ l) in
+      writes_is c.put_from-in-Copied.result (line (behind_name (plain_origin c.args.origin))) c.put_from-in-Copied.ensures.writes
+      (ap (λ (l : List ℕ). line (codes " (copied from " ++ (l ++ codes ")\n"))) c.as_bytes-in-Copied.ensures.value
+      ∙ ap (λ (o : Origin). line (behind_name (plain_origin o))) (sym c.in-Copied.is));
+  rest = c.put_from-in-Copied.ensures.rest;
+}
+
+pub returns-in-Same : goal.returns-in-Same
+returns-in-Same g c = record {
+  writes = writes_is c.put_around.result (c.args.doing.now ++ (c.args.name.now ++ behind_name (plain_origin c.args.origin))) c.put_around.ensures.writes (ap (λ (o : Origin). c.args.doing.now ++ (c.args.name.now ++ behind_name (plain_origin o))) (sym c.in-Same.is));
+  rest = c.put_around.ensures.rest;
+}

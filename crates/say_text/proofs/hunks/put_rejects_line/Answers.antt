@@ -3,9 +3,11 @@ use Rattle.outside.proofs.Writing.{writes_is}
 use Rattle.say_text.specs.Messages.{share}
 use Rattle.say_text.proofs.hunks.put_rejects_line.Goals as goal
 
-pub returns-clause-writes : goal.returns-clause-writes
-returns-clause-writes g c =
-    let rest = c.args.reject.now ++ codes "\n" in
-    let some = share c.args.failed c.args.hunks in
-    writes_is c.put_around.result (some ++ (codes " FAILED -- saving rejects to file " ++ rest)) c.put_around.ensures.writes
-    (ap (λ (l : List ℕ). l ++ rest) (c.as_slice.ensures.value ∙ c.share_line-line.ensures) ∙ append_assoc some (codes " FAILED -- saving rejects to file ") rest)
+pub returns : goal.returns
+returns g c = record {
+  writes = let rest = c.args.reject.now ++ codes "\n" in
+      let some = share c.args.failed c.args.hunks in
+      writes_is c.put_around.result (some ++ (codes " FAILED -- saving rejects to file " ++ rest)) c.put_around.ensures.writes
+      (ap (λ (l : List ℕ). l ++ rest) (c.as_slice.ensures.value ∙ c.share_line-line.ensures) ∙ append_assoc some (codes " FAILED -- saving rejects to file ") rest);
+  rest = c.put_around.ensures.rest;
+}

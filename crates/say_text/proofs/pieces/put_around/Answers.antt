@@ -2,8 +2,14 @@ use Rattle.std.proofs.Common.{◌++◌}
 use Rattle.outside.proofs.Writing.{stop_all, then_all}
 use Rattle.say_text.proofs.pieces.put_around.Goals as goal
 
-pub returns-in_err-put_all-clause-writes : goal.returns-in_err-put_all-clause-writes
-returns-in_err-put_all-clause-writes g c = stop_all c.in_err-put_all.field-0.0 c.from_residual.result c.args.before.now (c.args.name.now ++ c.args.behind.now) c.from_residual.ensures.0 c.in_err-put_all.ensures.call c.in_err-put_all.ensures.failed
+pub returns-in_err-put_all : goal.returns-in_err-put_all
+returns-in_err-put_all g c = record {
+  writes = stop_all c.in_err-put_all.field-0.0 c.from_residual.result c.args.before.now (c.args.name.now ++ c.args.behind.now) c.from_residual.ensures.0 c.in_err-put_all.ensures.call c.in_err-put_all.ensures.failed;
+  rest = c.put_all.ensures.rest;
+}
 
-pub returns-clause-writes : goal.returns-clause-writes
-returns-clause-writes g c = then_all c.in_ok-put_all.field-0 c.put_both.result c.args.before.now (c.args.name.now ++ c.args.behind.now) c.in_ok-put_all.ensures.call c.in_ok-put_all.ensures.received c.put_both.ensures.writes
+pub returns : goal.returns
+returns g c = record {
+  writes = then_all c.in_ok-put_all.field-0 c.put_both.result c.args.before.now (c.args.name.now ++ c.args.behind.now) c.in_ok-put_all.ensures.call c.in_ok-put_all.ensures.received c.put_both.ensures.writes;
+  rest = g.met.O.Sink.rest_both _ _ _ c.put_all.ensures.rest c.put_both.ensures.rest;
+}

@@ -1,4 +1,4 @@
-use Rattle.std.proofs.Common.{◌≡◌, List, ℕ, rules, subst, ◌∙◌}
+use Rattle.std.proofs.Common.{◌≡◌, List, ℕ, subst, ◌∙◌}
 use Rattle.outside.specs.Puts.{Puts}
 use Rattle.say_text.specs.Messages.{skipping_line}
 use Rattle.say_text.proofs.skipping.put_line.Goals as goal

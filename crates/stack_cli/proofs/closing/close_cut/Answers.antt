@@ -14,3 +14,9 @@ returns-then-is_cut g c a b s same = rw (sym c.is_cut.ensures ∙ c.if-is_cut.tr
 
 pub returns-else-is_cut : goal.returns-else-is_cut
 returns-else-is_cut g c a b s same = rw (sym c.is_cut.ensures ∙ c.if-is_cut.false) (record { is = c.from.ensures; tree = untouched_none (g.T.Tree.view c.args.tree.now); out = refl })
+
+pub undo_cut-requires-clause-applied : goal.undo_cut-requires-clause-applied
+undo_cut-requires-clause-applied g c = c.requires.applied
+
+pub undo_cut-requires-clause-save : goal.undo_cut-requires-clause-save
+undo_cut-requires-clause-save g c = c.requires.save

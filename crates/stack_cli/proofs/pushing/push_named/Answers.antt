@@ -16,8 +16,23 @@ push_next-ended-requires-clause-next g c = next_on c.read_next.ensures.untouched
 pub push_next-ended-requires-clause-quiet : goal.push_next-ended-requires-clause-quiet
 push_next-ended-requires-clause-quiet g c = untouched_quiet c.read_next.ensures.untouched c.requires.quiet
 
-pub returns-in-Ok-clause-carries : goal.returns-in-Ok-clause-carries
-returns-in-Ok-clause-carries g c = carries_behind (Ok Push) _ _ _ _ (opens_untouched c.read_next.ensures.untouched) _ _ (carries_late Push _ _ _ (λ never. absurd (never tt)) c.push_next-ended.ensures.comes)
+pub returns-in-Ok : goal.returns-in-Ok
+returns-in-Ok g c = record {
+  carries = carries_behind (Ok Push) _ _ _ _ (opens_untouched c.read_next.ensures.untouched) _ _ (carries_late Push _ _ _ (λ never. absurd (never tt)) c.push_next-ended.ensures.comes);
+  rest = c.push_next-ended.ensures.rest;
+}
 
-pub returns-in-Err-clause-carries : goal.returns-in-Err-clause-carries
-returns-in-Err-clause-carries g c = carries_early Push _ _ _ _ c.in-Err.why (opens_untouched c.read_next.ensures.untouched) (c.in-Err.ensures.refused _ _)
+pub returns-in-Err : goal.returns-in-Err
+returns-in-Err g c = record {
+  carries = carries_early Push _ _ _ _ c.in-Err.why (opens_untouched c.read_next.ensures.untouched) (c.in-Err.ensures.refused _ _);
+  rest = g.met.O.Sink.rest_none c.args.out.now;
+}
+
+pub push_next-ended-requires-clause-name : goal.push_next-ended-requires-clause-name
+push_next-ended-requires-clause-name g c = c.requires.name
+
+pub read_next-requires-clause-state : goal.read_next-requires-clause-state
+read_next-requires-clause-state g c = c.requires.state
+
+pub read_next-requires-clause-name : goal.read_next-requires-clause-name
+read_next-requires-clause-name g c = c.requires.name

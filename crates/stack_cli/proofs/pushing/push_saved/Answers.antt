@@ -19,13 +19,27 @@ close-requires-clause-cut g c =
     has_cut {u = u} {v = v} c.args.set.now c.apply-ended.result.0
     (subst (λ (o : PlainOptions). Finishes o c.args.set.now u.tree v.tree u.scratch v.scratch u.out v.out c.apply-ended.result.0) c.push_options-options.ensures c.apply-ended.ensures.finishes)
 
-pub returns-clause-comes : goal.returns-clause-comes
-returns-clause-comes g c =
-    let s = stage_of c.args.state.now c.args.name.now in
-    let u = world (g.T.Tree.view c.args.tree.now) (g.C.Scratch.view c.args.scratch) (g.O.Sink.view c.args.out.now) in
-    let v = world (g.T.Tree.view c.apply-ended.new.tree) (g.C.Scratch.view c.apply-ended.result.1) (g.O.Sink.view c.apply-ended.new.out) in
-    let w = world (g.T.Tree.view c.close.new.tree) (g.C.Scratch.view c.apply-ended.result.1) (g.O.Sink.view c.close.new.out) in
-    run_closes {u = u} {v = v} {w = w} c.args.set.now s c.args.save.now c.close.result c.apply-ended.result.0 c.requires.save
-    (λ f told far. still_saved u v c.args.set.now s c.requires.can c.requires.there f told.files far)
-    (subst (λ (o : PlainOptions). Finishes o c.args.set.now u.tree v.tree u.scratch v.scratch u.out v.out c.apply-ended.result.0) c.push_options-options.ensures c.apply-ended.ensures.finishes)
-    refl (c.close.ensures.closes (g.C.Scratch.view c.apply-ended.result.1))
+pub returns : goal.returns
+returns g c = record {
+  comes = let s = stage_of c.args.state.now c.args.name.now in
+      let u = world (g.T.Tree.view c.args.tree.now) (g.C.Scratch.view c.args.scratch) (g.O.Sink.view c.args.out.now) in
+      let v = world (g.T.Tree.view c.apply-ended.new.tree) (g.C.Scratch.view c.apply-ended.result.1) (g.O.Sink.view c.apply-ended.new.out) in
+      let w = world (g.T.Tree.view c.close.new.tree) (g.C.Scratch.view c.apply-ended.result.1) (g.O.Sink.view c.close.new.out) in
+      run_closes {u = u} {v = v} {w = w} c.args.set.now s c.args.save.now c.close.result c.apply-ended.result.0 c.requires.save
+      (λ f told far. still_saved u v c.args.set.now s c.requires.can c.requires.there f told.files far)
+      (subst (λ (o : PlainOptions). Finishes o c.args.set.now u.tree v.tree u.scratch v.scratch u.out v.out c.apply-ended.result.0) c.push_options-options.ensures c.apply-ended.ensures.finishes)
+      refl (c.close.ensures.closes (g.C.Scratch.view c.apply-ended.result.1));
+  rest = g.met.O.Sink.rest_both _ _ _ c.apply-ended.ensures.rest c.close.ensures.rest;
+}
+
+pub close-requires-clause-few : goal.close-requires-clause-few
+close-requires-clause-few g c = c.requires.few
+
+pub close-requires-clause-applied : goal.close-requires-clause-applied
+close-requires-clause-applied g c = c.requires.applied
+
+pub close-requires-clause-save : goal.close-requires-clause-save
+close-requires-clause-save g c = c.requires.save
+
+pub apply-ended-requires-clause-quiet : goal.apply-ended-requires-clause-quiet
+apply-ended-requires-clause-quiet g c = c.requires.quiet

@@ -6,12 +6,20 @@ use Rattle.stack_cli.proofs.pushing.read_from.Goals as goal
 pub with_names-requires : goal.with_names-requires
 with_names-requires g c = (c.in-Ok.ensures.push.given, c.in-Ok.ensures.push.is.read)
 
-pub returns-in-Ok-clause-next : goal.returns-in-Ok-clause-next
-returns-in-Ok-clause-next g c = names_next c.args.state.now c.args.name.now c.args.file.now c.in-Ok.set c.requires.state c.requires.name c.requires.file c.in-Ok.ensures.push c.in-Ok.ensures.fresh c.with_names.result c.with_names.ensures.set c.with_names.ensures.names c.with_names.ensures.own
+pub returns-in-Ok : goal.returns-in-Ok
+returns-in-Ok g c = record {
+  next = names_next c.args.state.now c.args.name.now c.args.file.now c.in-Ok.set c.requires.state c.requires.name c.requires.file c.in-Ok.ensures.push c.in-Ok.ensures.fresh c.with_names.result c.with_names.ensures.set c.with_names.ensures.names c.with_names.ensures.own;
+  refused = names_stop (g.T.Tree.view c.args.tree.now) (g.T.Tree.view c.read_push.new.tree) c.args.state.now c.args.name.now c.args.file.now c.in-Ok.set c.requires.state c.requires.name c.requires.file c.in-Ok.ensures.push c.with_names.result c.with_names.ensures.refused;
+  untouched = c.read_push.ensures.untouched;
+}
 
-pub returns-in-Ok-clause-refused : goal.returns-in-Ok-clause-refused
-returns-in-Ok-clause-refused g c = names_stop (g.T.Tree.view c.args.tree.now) (g.T.Tree.view c.read_push.new.tree) c.args.state.now c.args.name.now c.args.file.now c.in-Ok.set c.requires.state c.requires.name c.requires.file c.in-Ok.ensures.push c.with_names.result c.with_names.ensures.refused
+pub returns-in-Err : goal.returns-in-Err
+returns-in-Err g c = record {
+  refused = λ a b. stops_as c.of_push.result (of_push c.in-Err.fault) c.of_push.ensures
+      (push_stops (g.T.Tree.view c.args.tree.now) (g.T.Tree.view c.read_push.new.tree) a b c.args.state.now c.args.name.now c.args.file.now c.requires.state c.requires.name c.requires.file c.in-Err.fault c.in-Err.ensures.cause c.in-Err.ensures.some c.in-Err.ensures.none);
+  untouched = c.read_push.ensures.untouched;
+  next = tt;
+}
 
-pub returns-in-Err-clause-refused : goal.returns-in-Err-clause-refused
-returns-in-Err-clause-refused g c a b = stops_as c.of_push.result (of_push c.in-Err.fault) c.of_push.ensures
-    (push_stops (g.T.Tree.view c.args.tree.now) (g.T.Tree.view c.read_push.new.tree) a b c.args.state.now c.args.name.now c.args.file.now c.requires.state c.requires.name c.requires.file c.in-Err.fault c.in-Err.ensures.cause c.in-Err.ensures.some c.in-Err.ensures.none)
+pub read_push-requires : goal.read_push-requires
+read_push-requires g c = c.push_options-options.ensures

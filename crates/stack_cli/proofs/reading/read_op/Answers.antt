@@ -5,11 +5,11 @@ use Rattle.run_answers.specs.Answers.{of_words}
 use Rattle.stack_cli.specs.Jobs.{stack_op}
 use Rattle.stack_cli.proofs.reading.read_op.Goals as goal
 
-pub returns-in-Ok-clause-job : goal.returns-in-Ok-clause-job
-returns-in-Ok-clause-job c = IfOk-weaker c.supported-op.result _ _ (λ op is. ap stack_op c.in-Ok.ensures.job ∙ is) c.supported-op.ensures.job
-
-pub returns-in-Ok-clause-refused : goal.returns-in-Ok-clause-refused
-returns-in-Ok-clause-refused c = IfErr-weaker c.supported-op.result _ _ (λ why is. inr (Usage, is.0, ap stack_op c.in-Ok.ensures.job ∙ is.1)) c.supported-op.ensures.refused
+pub returns-in-Ok : goal.returns-in-Ok
+returns-in-Ok c = record {
+  job = IfOk-weaker c.supported-op.result _ _ (λ op is. ap stack_op c.in-Ok.ensures.job ∙ is) c.supported-op.ensures.job;
+  refused = IfErr-weaker c.supported-op.result _ _ (λ why is. inr (Usage, is.0, ap stack_op c.in-Ok.ensures.job ∙ is.1)) c.supported-op.ensures.refused;
+}
 
 pub returns-in-Err-clause-refused : goal.returns-in-Err-clause-refused
 returns-in-Err-clause-refused c = ⊎_elim (λ is. inl (c.from.ensures ∙ ap of_words is)) (λ is. inr (c.in-Err.fault, c.from.ensures, ap stack_op is)) c.in-Err.ensures.refused
