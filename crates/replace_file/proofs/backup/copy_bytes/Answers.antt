@@ -1,4 +1,4 @@
-use Rattle.std.proofs.Common.{◌∙◌, ◌+◌, ◌≤◌, subst, rules, refl, sym}
+use Rattle.std.proofs.Common.{◌∙◌, ◌+◌, ◌≤◌, subst, arith, refl, sym}
 use Rattle.std.proofs.lemmas.Result.{IfOk-from_err}
 use Rattle.std.proofs.lemmas.List.{length-take}
 use Rattle.outside.specs.Calls.{SealsStay, IsThere}
@@ -36,7 +36,7 @@ returns-then-count-eq0-clause-copies g c =
     let w = g.T.Tree.view c.copy_piece.new.tree in
     let there : IsThere w begun.name.now = subst (λ n. IsThere w n) c.pieces.invariant.0 c.in_ok-count.ensures.copies.there in
     copied_early (g.T.Tree.view c.args.tree.now) (g.T.Tree.view c.pieces.tree) w begun.name.now c.args.from.now c.pieces.at c.in_ok-count.count c.args.size begun.temporary c.requires.lasting c.pieces-test.true c.pieces.invariant.1 there c.requires.size
-    (λ f told. c.in_ok-count.ensures.end c.if-count-eq0.true (search (rules, length-take, c)) f told)
+    (λ f told. c.in_ok-count.ensures.end c.if-count-eq0.true (omega (arith, length-take c.piece_length-wanted.result c.pieces.buffer, c.piece_length-wanted.ensures, c.pieces-test.true)) f told)
 
 pub pieces-preserved : goal.pieces-preserved
 pieces-preserved g c =

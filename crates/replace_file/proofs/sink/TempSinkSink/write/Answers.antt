@@ -1,4 +1,4 @@
-use Rattle.std.proofs.Common.{[], ◌∙◌, refl, sym, subst, ℕ, List, length, take}
+use Rattle.std.proofs.Common.{inl, [], ◌∙◌, refl, sym, subst, ℕ, List, length, take}
 use Rattle.std.proofs.lemmas.Bool.{false≢true}
 use Rattle.std.proofs.lemmas.Result.{IfOk-from_err}
 use Rattle.outside.specs.SinkView.{Receives}
@@ -140,3 +140,6 @@ invariant_of-self-in-Err g c = record {
   there = λ whole. absurd (false≢true (sym whole));
   breaks = λ broken. refl;
 }
+
+pub returns-in-Err-clause-failed : goal.returns-in-Err-clause-failed
+returns-in-Err-clause-failed g c = λ b held. inl refl
