@@ -90,3 +90,6 @@ not-over n most le e = omega (arith, le, e)
 
 pub tens-fit : (n : ℕ) → n < 2 ^ 32 → Fits w64 (n * 10)
 tens-fit n small = omega (arith, small)
+
+pub one-less : (n : ℕ) → 0 < n → n - 1 < n
+one-less n some = omega (arith, some)
