@@ -1,7 +1,9 @@
 pub mod Lasts
+pub mod Bounds
 pub mod TextLoops
 pub mod Counts
 pub mod EditLoops
+pub mod CommandReading
 pub mod CommandGrammar
 pub mod TextGrammar
 pub mod Pieces

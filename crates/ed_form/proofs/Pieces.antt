@@ -1,7 +1,7 @@
 -- Edits that are read are spelled so, and what is spelled so is read.
 use Rattle.std.proofs.Common.{◌≡◌, ℕ, zero, suc, ◌+◌, ◌≤◌, ◌<◌, ◌^◌, true, false, eqb, List, [], ◌∷◌, ◌++◌, length, Result, Ok, Err, refl, sym, ap, subst, ◌∙◌, append_assoc, arith, inl, inr}
 use Rattle.std.specs.Prelude.{IfOk}
-use Rattle.std.proofs.lemmas.Bool.{eqb-true}
+use Rattle.std.proofs.lemmas.Bool.{eqb-true, false≢true}
 use Rattle.std.proofs.lemmas.List.{length-append}
 use Rattle.hunk_core.specs.declared.BadKind.{BadKind}
 use Rattle.hunk_core.specs.declared.BadKind.TheVariants as kinds
@@ -70,13 +70,17 @@ edit_lines : (below : ℕ) (own others : List (List ℕ)) (e : PlainEdit) → Sp
 edit_lines below [] others e s = absurd s
 edit_lines below (line ∷ lines) others e s = omega arith
 
+letter-none : (bytes : List ℕ) → is_command (115 ∷ bytes) ≡ false
+unfolding parts_at range_at
+letter-none bytes = refl
+
 -- a command is no substitution
 command-clean : (line : List ℕ) → is_command line ≡ true → is_substitution line ≡ false
-unfolding parts_at range_at after
+unfolding after
 command-clean [] e = refl
 command-clean (b ∷ bytes) e =
     elim (chosen (eqb b 115) true false _ refl) [
-      | inl letter ↦ absurd (let is : b ≡ 115 = eqb-true b 115 letter.0 in let bad : is_command (115 ∷ bytes) ≡ true = subst (λ k. is_command (k ∷ bytes) ≡ true) is e in cc)
+      | inl letter ↦ absurd (false≢true (sym (letter-none bytes) ∙ subst (λ k. is_command (k ∷ bytes) ≡ true) (eqb-true b 115 letter.0) e))
       | inr other ↦ rw other.0 refl
     ]
 

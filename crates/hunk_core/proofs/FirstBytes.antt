@@ -1,6 +1,6 @@
 -- Whether a text begins with a backslash line is seen by its first bytes.
-use Rattle.std.proofs.Common.{◌≡◌, ℕ, Bool, true, false, cond, eqb, List, [], ◌∷◌, get_or, drop, slice_range, Option, None, Some, refl, sym, ap, ◌∙◌}
-use Rattle.std.specs.Prelude.{is_some}
+use Rattle.std.proofs.Common.{◌≡◌, ℕ, ◌<◌, ◌≤◌, length, Bool, true, false, cond, eqb, List, [], ◌∷◌, get_or, drop, slice_range, Option, None, Some, refl, sym, ap, ◌∙◌}
+use Rattle.std.specs.Prelude.{is_some, IfSome}
 use Rattle.std.proofs.lemmas.Bool.{eqb-true}
 use Rattle.line_list.specs.Lines.{EndsLine, lines, with_first}
 use Rattle.hunk_core.specs.LineTests.{after, after_backslash, is_backslash}
@@ -56,11 +56,11 @@ alike (b ∷ c ∷ bs) line rest e = by (eqb b 10) refl e
     by : (v : Bool) → eqb b 10 ≡ v → cond v ((b ∷ []) ∷ lines (c ∷ bs)) (with_first b (lines (c ∷ bs))) ≡ line ∷ rest → is_backslash line ≡ is_backslash (b ∷ c ∷ bs)
     by true is h =
         let ten : b ≡ 10 = eqb-true b 10 is in
-        let same : line ≡ b ∷ [] = cc in
+        let same : line ≡ b ∷ [] = ap (λ ls. get_or ls 0 []) (sym h) in
         ap is_backslash same ∙ alone b ∙ sym (ap (λ n. is_backslash (n ∷ c ∷ bs)) ten ∙ fed (c ∷ bs))
     by false is h =
         let found = heads c bs in
-        let same : line ≡ b ∷ c ∷ found.0 = cc in
+        let same : line ≡ b ∷ c ∷ found.0 = ap (λ ls. get_or ls 0 []) (sym h ∙ ap (with_first b) found.2) in
         ap is_backslash same ∙ two b c found.0 bs
 
 pub no-backslash : (bs : List ℕ) → is_backslash bs ≡ false → after_backslash (lines bs) ≡ None
@@ -76,3 +76,7 @@ a-backslash bs line rest has e = let here : is_backslash line ≡ true = alike b
 pub a-line : (text : List ℕ) (at : ℕ) (r : Option ℕ) → EndsLine text at r → is_backslash (drop at text) ≡ true → Reads (λ e. lines (drop e text)) r (after_backslash (lines (drop at text)))
 a-line text at None h has = ap after_backslash h.1
 a-line text at (Some e) h has = a-backslash (drop at text) (slice_range text at e) (lines (drop e text)) has h.first
+
+pub line-range : (text : List ℕ) (at : ℕ) (r : Option ℕ) → EndsLine text at r → IfSome r (λ e. (at < e) × (e ≤ length text))
+line-range text at None h = tt
+line-range text at (Some e) h = (h.low, h.high)

@@ -61,7 +61,7 @@ lines-counted text side ls =
 abbrev pub rest_on : List ℕ → Side → List HunkLine → ℕ → List (List ℕ)
 rest_on text side ls i = lines_on side (body_of text (drop i ls))
 
-from-here : (ls : List HunkLine) (i : ℕ) (x : HunkLine) → i < length ls → x ≡ get_or ls i x → drop i ls ≡ x ∷ drop (i + 1) ls
+pub from-here : (ls : List HunkLine) (i : ℕ) (x : HunkLine) → i < length ls → x ≡ get_or ls i x → drop i ls ≡ x ∷ drop (i + 1) ls
 from-here ls i x lt is = drop_more ls i x lt ∙ ap (λ y. y ∷ drop (i + 1) ls) (sym is)
 
 -- ---- inner ends

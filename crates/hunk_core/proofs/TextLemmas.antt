@@ -2,7 +2,7 @@
 use Rattle.std.proofs.Common.{◌≡◌, ◌↔◌, ℕ, suc, ◌+◌, ◌-◌, ◌≤◌, ◌<◌, Bool, true, false, cond, ◌&&◌, eqb, List, [], ◌∷◌, ◌++◌, length, get_or, take, drop, slice_range, Option, None, Some, refl, sym, ap, arith}
 use Rattle.std.specs.Prelude.{MatchOption, is_some}
 use Rattle.std.specs.Borrow.{Bor}
-use Rattle.std.proofs.lemmas.Bool.{eqb-true}
+use Rattle.std.proofs.lemmas.Bool.{eqb-true, false≢true}
 use Rattle.std.proofs.lemmas.List.{length-take, length-drop, take-take, drop_more}
 use lib.Pointwise.{pointwise}
 use Rattle.line_list.proofs.Choices.{some_is}
@@ -13,11 +13,11 @@ use Rattle.hunk_core.specs.LineTests.{after, is_backslash, ends_line}
 after-some : (prefix bytes : List ℕ) → pointwise eqb (take (length prefix) bytes) prefix ≡ true → after prefix bytes ≡ Some (drop (length prefix) bytes)
 unfolding after
 after-some [] bytes h = refl
-after-some (p ∷ prefix) [] h = absurd cc
+after-some (p ∷ prefix) [] h = absurd (false≢true h)
 after-some (p ∷ prefix) (b ∷ bytes) h =
     elim (eqb b p) as (λ v. (v && pointwise eqb (take (length prefix) bytes) prefix) ≡ true → cond v (after prefix bytes) None ≡ Some (drop (length prefix) bytes)) [
       | true ↦ λ same. after-some prefix bytes same
-      | false ↦ λ same. absurd cc
+      | false ↦ λ same. absurd (false≢true same)
     ] h
 
 -- a prefix that doesn't

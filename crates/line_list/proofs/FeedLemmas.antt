@@ -1,5 +1,5 @@
 -- Bits that tell which bytes are line feeds.
-use Rattle.std.proofs.Common.{◌≡◌, ◌↔◌, ℕ, ◌+◌, ◌-◌, ◌*◌, ◌/◌, ◌%◌, ◌^◌, ◌<◌, ◌≤◌, Bool, true, false, cond, eqb, List, get_or, length, map, take, drop, refl, sym, ap, subst, ◌∙◌, arith, w64, pow_mono, eq-eqb, set, ⊎_elim}
+use Rattle.std.proofs.Common.{◌≡◌, ◌↔◌, ℕ, ◌+◌, ◌-◌, ◌*◌, ◌/◌, ◌%◌, ◌^◌, ◌<◌, ◌≤◌, Bool, true, false, cond, eqb, List, get_or, length, map, take, drop, refl, sym, ap, subst, ◌∙◌, arith, Fits, w64, pow_mono, eq-eqb, set, ⊎_elim}
 use Rattle.std.specs.Int.{bit_at, trailing_zeros}
 use Rattle.std.specs.Simd.Lanes.{mask_l}
 use Rattle.std.proofs.lemmas.Bool.{cases_lt, eqb-true, eqb-false}
@@ -109,3 +109,21 @@ marks-more text at words word m high done marks w below =
     let same : word ≡ w = omega arith in
     subst (λ n. AreMarks text (at + 64 * n) (get_or (set words word m) n 0)) same (subst (AreMarks text (at + 64 * word)) (sym (get_or-set_same words word m 0 high)) marks))
     (cases_lt w word)
+
+-- ---- places by them
+
+-- the word of marks at a place, and its bits, stand within the text
+pub mark-fits : {text : List ℕ} {base m : ℕ} (k : ℕ) → AreMarks text base m → length text < 2 ^ 64 → 0 + k < 64 → (Fits w64 base) × (Fits w64 (base + k)) × (Fits w64 (base + k + 1))
+mark-fits k marks long small = (omega (arith, marks.within, long), omega (arith, marks.within, long, small), omega (arith, marks.within, long, small))
+
+pub word-below : (w count : ℕ) → w < count → count ≤ 8 → w < 8
+word-below w count lt few = omega (arith, lt, few)
+
+pub word-fits : (w : ℕ) → w < 8 → (Fits w64 (w * 8)) × (Fits w64 (64 * w)) × (Fits w64 (w + 1))
+word-fits w lt = (omega (arith, lt), omega (arith, lt), omega (arith, lt))
+
+pub next-word : (at base : ℕ) → base ≤ at → at ≤ base + 64 * ((at - base) / 64 + 1)
+next-word at base le = omega (arith, le)
+
+pub within-word : (n : ℕ) → n % 64 < 64
+within-word n = omega arith

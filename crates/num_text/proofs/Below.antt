@@ -27,7 +27,7 @@ digits-inside (b ∷ bs) (suc e) k le same lt = by (is_digit b) refl (λ is j le
     by true is more = inner is (more is) k lt
     by false is more = absurd (no-run b bs e (omega arith) (same ∙ rest-stop b bs is))
 
-digit-low : (b : ℕ) → is_digit b ≡ true → 48 ≤ b
+pub digit-low : (b : ℕ) → is_digit b ≡ true → 48 ≤ b
 digit-low b is = leb-true 48 b (and_parts _ _ is).0
 
 digit-high : (b : ℕ) → is_digit b ≡ true → b ≤ 57

@@ -1,5 +1,5 @@
 -- A file that is copied piece by piece.
-use Rattle.std.proofs.Common.{◌≡◌, ◌++◌, ◌+◌, ◌<◌, ◌≤◌, ℕ, List, [], true, false, Some, None, IsSome, Option, unwrap_or, length, take, drop, min, Result, refl, sym, ◌∙◌, ap, ap₂, subst, arith, append-nil, append_assoc, take-add, take-take}
+use Rattle.std.proofs.Common.{◌≡◌, ◌++◌, ◌+◌, ◌<◌, ◌≤◌, ℕ, List, [], true, false, Some, None, IsSome, Option, unwrap_or, length, take, drop, min, Result, refl, sym, ◌∙◌, ap, ap₂, subst, arith, append-nil, append_assoc, take-add, take-take, ◌-◌, ◌^◌, Fits, w64}
 use Rattle.std.proofs.lemmas.List.{length-take, length-take-le, length-drop}
 use Rattle.std.proofs.lemmas.Option.{same_Some}
 use Rattle.std.specs.Option.{option_map}
@@ -71,6 +71,13 @@ copies_piece u v w temp from at n piece same there gives added = record {
   there = there;
   bytes = λ f h told now. bytes_put v w temp (λ x. bytes_at x temp ++ piece) added f h (same ∙ told) now ∙ ap (λ (l : List ℕ). bytes_at f temp ++ l) (gives f told);
 }
+
+-- ---- a piece of what is left
+pub within-size : (at count wanted size most : ℕ) (buffer : List ℕ) → count ≤ length (take wanted buffer) → wanted ≡ min (size - at) most → at < size → at + count ≤ size
+within-size at count wanted size most buffer le is lt = omega (arith, le, is, lt, length-take wanted buffer)
+
+pub fits-within : (n size : ℕ) → size < 2 ^ 64 → n ≤ size → Fits w64 n
+fits-within n size fits le = omega (arith, fits, le)
 
 -- ---- the loop
 pub copied_none : (u : TreeView) (temp from : List ℕ) (size : ℕ) → IsQuiet u → IsThere u temp → HasCopied u u temp from 0 size

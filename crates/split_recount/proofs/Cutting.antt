@@ -1,5 +1,5 @@
 -- A text that is cut between its file patches.
-use Rattle.std.proofs.Common.{◌≡◌, ℕ, zero, suc, ◌+◌, ◌<◌, ◌≤◌, Bool, true, false, ◌||◌, cond, eqb, List, [], ◌∷◌, ◌++◌, length, drop, Some, Bor, Ordering, refl, sym, ap, subst, ◌∙◌, arith}
+use Rattle.std.proofs.Common.{◌≡◌, ℕ, zero, suc, ◌+◌, ◌<◌, ◌≤◌, Bool, true, false, ◌||◌, cond, eqb, List, [], ◌∷◌, ◌++◌, length, map, drop, Some, Bor, Ordering, refl, sym, ap, subst, ◌∙◌, arith}
 use Rattle.std.specs.Prelude.{slice_get, option_map}
 use Rattle.std.specs.BTreeMap.{is_at}
 use Rattle.std.specs.BTreeSet.{BTreeSet, IsEmpty, Updates}
@@ -129,3 +129,16 @@ pub parts-are : (every : Bool) (v : SetView) → 0 < length v.text → parts eve
 parts-are every v some =
     let e : eqb (length v.text) 0 ≡ false = false_from_ne_true (eqb (length v.text) 0) (λ t. omega (arith, some, eqb-true (length v.text) 0 t)) in
     rw e refl
+
+-- ---- a text without file patches, and one without bytes
+
+pub none-parts : (every : Bool) (v : SetView) (end : ℕ) → end ≡ length v.text → end ≡ 0 → [] ≡ parts every v
+none-parts every v end is none =
+    let e : length v.text ≡ 0 = sym is ∙ none in
+    rw e refl
+
+pub one-part : (every : Bool) (v : SetView) (end : ℕ) (patches : List FilePatch) → end ≡ length v.text → (end ≡ 0 → ⊥) → true ≡ eqb (length patches) 0 → patches ≡ v.patches → between 0 [] end ≡ parts every v
+one-part every v end [] is some none same =
+    let long : 0 < length v.text = omega (arith, is, some) in
+    ap (between 0 []) is ∙ ap (λ ps. between 0 (cuts_behind every (map (row_of v.text) ps)) (length v.text)) same ∙ sym (parts-are every v long)
+one-part every v end (p ∷ ps) is some none same = absurd (omega (arith, eqb-true (length (p ∷ ps)) 0 (sym none)))

@@ -1,6 +1,8 @@
 -- Where a body ends, line by line.
-use Rattle.std.proofs.Common.{◌≡◌, ℕ, Bool, true, false, not, eqb, ◌||◌, List, [], ◌∷◌, refl, sym, ap, ◌∙◌}
+use Rattle.std.proofs.Common.{◌≡◌, ℕ, Bool, true, false, not, eqb, ◌||◌, List, [], ◌∷◌, Option, Some, None, Bor, refl, sym, ap, ◌∙◌}
+use Rattle.std.specs.Prelude.{is_some, bytes_eq}
 use Rattle.std.proofs.lemmas.Bool.{eqb-true}
+use Rattle.line_list.specs.Reader.{Reads}
 use Rattle.hunk_core.specs.LineTests.{after}
 use Rattle.unified_form.specs.Ranges.{is_opening}
 use Rattle.unified_form.proofs.Words.{opening-words}
@@ -70,3 +72,50 @@ no-end false b d e = absurd cc
 -- what a body goes on over begins as the lines of a body do
 pub goes_body : (line : List ℕ) (rest : List (List ℕ)) → ends_body line rest ≡ false → is_body_line line ≡ true
 goes_body line rest e = no-end (is_body_line line) (is_signature line) (begins_header line rest) (sym (ends_so line rest) ∙ e)
+
+header-alone : (b s h : Bool) → true ≡ b → false ≡ s → (not b || s || h) ≡ h
+header-alone b s h p q = rw (sym p, sym q) refl
+
+signed-alone : (b s h : Bool) → true ≡ b → true ≡ s → true ≡ (not b || s || h)
+signed-alone b s h p q = rw (sym p, sym q) refl
+
+other-alone : (b s h : Bool) → false ≡ b → true ≡ (not b || s || h)
+other-alone b s h p = rw (sym p) refl
+
+module _ (line : List ℕ) (rest : List (List ℕ)) where
+  pub ends-header : (found : Bool) (word : List ℕ) → true ≡ is_body_line line → word ≡ 45 ∷ 45 ∷ 32 ∷ 10 ∷ [] → false ≡ bytes_eq line word → found ≡ begins_header line rest → found ≡ ends_body line rest
+  ends-header found word body w signed e =
+      e ∙ sym (ends_so line rest ∙ header-alone (is_body_line line) (is_signature line) (begins_header line rest) body (signed ∙ ap (bytes_eq line) w))
+
+  pub ends-signed : (word : List ℕ) → true ≡ is_body_line line → word ≡ 45 ∷ 45 ∷ 32 ∷ 10 ∷ [] → true ≡ bytes_eq line word → true ≡ ends_body line rest
+  ends-signed word body w signed =
+      signed-alone (is_body_line line) (is_signature line) (begins_header line rest) body (signed ∙ ap (bytes_eq line) w) ∙ sym (ends_so line rest)
+
+  pub ends-other : false ≡ is_body_line line → true ≡ ends_body line rest
+  ends-other body = other-alone (is_body_line line) (is_signature line) (begins_header line rest) body ∙ sym (ends_so line rest)
+
+-- ---- the lines of a header
+
+abbrev dashes : List ℕ
+dashes = 45 ∷ 45 ∷ 45 ∷ 32 ∷ []
+
+abbrev pluses : List ℕ
+pluses = 43 ∷ 43 ∷ 43 ∷ 32 ∷ []
+
+found-if : (r : Option (Bor (List ℕ))) (o : Option (List ℕ)) → Reads (λ x. x.now) r o → is_some o ≡ is_some r
+found-if (Some x) o e = ap is_some e
+found-if None o e = ap is_some e
+
+module _ (line : List ℕ) (ls : List (List ℕ)) (dash : Option (Bor (List ℕ))) (first : Reads (λ x. x.now) dash (after dashes line)) where
+  pub header-none : is_some dash ≡ false → false ≡ begins_header line ls
+  header-none e = by ls
+    where
+      by : (rest : List (List ℕ)) → false ≡ begins_header line rest
+      by [] = refl
+      by (next ∷ rest) = rw (found-if dash (after dashes line) first ∙ e) refl
+
+  pub header-two : (next : List ℕ) (rest : List (List ℕ)) (plus : Option (Bor (List ℕ))) (found : Bool) → is_some dash ≡ true → ls ≡ next ∷ rest → Reads (λ x. x.now) plus (after pluses next) → found ≡ is_some plus → found ≡ begins_header line ls
+  header-two next rest plus found e ahead second is = rw (ahead, found-if dash (after dashes line) first ∙ e, found-if plus (after pluses next) second) is
+
+pub header-last : (line : List ℕ) (ls : List (List ℕ)) → ls ≡ [] → false ≡ begins_header line ls
+header-last line ls e = rw e refl

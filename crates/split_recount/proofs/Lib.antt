@@ -1,10 +1,14 @@
 pub mod Ends
 pub mod Measuring
 pub mod Misplaced
+pub mod Bounds
+pub mod Put
 pub mod Alike
+pub mod Stated
 pub mod Numbers
 pub mod Walking
 pub mod WholeLines
+pub mod WholeText
 pub mod Spelled
 pub mod Kept
 pub mod Cutting

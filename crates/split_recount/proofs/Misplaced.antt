@@ -1,15 +1,18 @@
 -- The first misplaced backslash line of a body, line by line.
-use Rattle.std.proofs.Common.{◌≡◌, ℕ, ◌+◌, ◌≤◌, ◌<◌, ◌^◌, Bool, true, false, not, eqb, ◌&&◌, List, [], ◌∷◌, length, slice_range, Option, None, Some, refl, sym, ap, ◌∙◌, arith}
+use Rattle.std.proofs.Common.{◌≡◌, ℕ, ◌+◌, ◌≤◌, ◌<◌, ◌^◌, Bool, true, false, not, eqb, ◌&&◌, List, [], ◌∷◌, length, slice_range, Option, None, Some, Ok, Err, refl, sym, ap, ◌∙◌, arith}
 use Rattle.std.specs.List.{list_any}
 use Rattle.std.proofs.lemmas.Bool.{or_parts}
 use Rattle.line_list.specs.Lines.{IsLineAt}
+use Rattle.hunk_core.specs.declared.BadKind.TheVariants as kinds
 use Rattle.hunk_core.specs.declared.Mark.{Mark}
 use Rattle.hunk_core.specs.LineTests.{is_backslash}
+use Rattle.hunk_core.specs.Reading.{fault}
 use Rattle.unified_form.specs.declared.body.Left.{Left}
+use Rattle.split_recount.specs.declared.body.Body.{Body}
 use Rattle.split_recount.specs.declared.body.Sides.{Sides}
 use Rattle.split_recount.specs.Bodies.{mark_in, may_stand, misplaced, marked_lines}
 use Rattle.split_recount.specs.Recounted.{sound_body, unless_misplaced}
-use Rattle.split_recount.specs.Measured.{left_of, with_mark, body_at, GoesOn}
+use Rattle.split_recount.specs.Measured.{left_of, with_mark, body_at, GoesOn, IsMeasured}
 use Rattle.split_recount.proofs.Measuring.{sides_of, sides-more}
 
 -- the body was searched up to a place, and what is ahead gives the whole
@@ -77,3 +80,19 @@ pub sound_if : (number : ℕ) (body : List (List ℕ)) (found : Option ℕ) → 
 sound_if number body found some e =
     let more : eqb (length body) 0 ≡ false = grind arith in
     rw (more, e) refl
+
+not-false : (seen : Bool) → not seen ≡ true → seen ≡ false
+not-false true e = absurd cc
+not-false false e = refl
+
+module _ {text : List ℕ} {at : ℕ} {b : Body} (number : ℕ) (m : IsMeasured text at b) where
+  pub check-none : b.lines ≡ 0 → sound_body number (body_at text at) ≡ Err (fault number kinds.Count)
+  check-none e =
+      let no : length (body_at text at) ≡ 0 = m.lines ∙ e in
+      rw no refl
+
+  pub check-found : (found : Option ℕ) → (b.lines ≡ 0 → ⊥) → misplaced None (number + 1) (body_at text at) ≡ found → sound_body number (body_at text at) ≡ unless_misplaced (marked_lines (body_at text at)) found
+  check-found found some is = sound_if number (body_at text at) found (omega (arith, m.lines, some)) is
+
+  pub check-plain : (b.lines ≡ 0 → ⊥) → not b.has_backslash ≡ true → sound_body number (body_at text at) ≡ Ok (marked_lines (body_at text at))
+  check-plain some plain = check-found None some (none_misplaced None (number + 1) (body_at text at) (m.backslash ∙ not-false b.has_backslash plain))

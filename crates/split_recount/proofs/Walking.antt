@@ -165,6 +165,13 @@ step-hunk text from end b line old is place opens m e =
           ∙ ap (λ (bs : List ℕ). behind ((old ++ line) ++ bs) (ahead_of text to)) m.bytes,
     )
 
+-- the same of what was written piece by piece
+pub step-put : (text : List ℕ) (from : Reached) (end : ℕ) (b : Body) (line old middle new : List ℕ) → new ≡ middle ++ slice_range text end b.end → middle ≡ old ++ line
+    → IsReached text from → IsLineAt text from.at end → is_opening (slice_range text from.at end) ≡ true → IsMeasured text end b
+    → recounted_line from.number (left_of from.earlier) (slice_range text from.at end) (body_at text end) ≡ Ok line
+    → Steps text old new from (Ok (record { at = b.end; number = from.number + 1 + b.lines; earlier = record { old = from.earlier.old + b.sides.old; new = from.earlier.new + b.sides.new } }))
+step-put text from end b line old middle new p q is place opens m e = rw (p, q) (step-hunk text from end b line old is place opens m e)
+
 -- ---- the whole text
 
 -- so many bytes were written, and the rest gives the whole

@@ -1,6 +1,7 @@
 -- A range line that is written ends with a line feed where the one that was read does.
 use Rattle.std.proofs.Common.{◌≡◌, ◌≢◌, ℕ, ◌^◌, min, Bool, true, false, cond, eqb, ◌||◌, List, [], ◌∷◌, ◌++◌, Option, None, Some, Result, Ok, refl, sym, ap, subst, append_assoc, arith, inl, inr}
 use Rattle.std.specs.List.{AllByRecursion}
+use Rattle.std.proofs.lemmas.Option.{same_Some}
 use Rattle.line_list.specs.Lines.{IsLine, ArePieces}
 use Rattle.line_list.specs.Join.{ends_open, lacks_feed}
 use Rattle.line_list.proofs.JoinLemmas.{line-has, open-lacks}
@@ -16,6 +17,7 @@ use Rattle.unified_form.specs.declared.range.Ranges.{Ranges}
 use Rattle.unified_form.specs.Ranges.{capped, size_at, count_at, range_at, is_bad_range}
 use Rattle.unified_form.specs.Canonical.{range_text}
 use Rattle.hunk_core.specs.Rules.{is_too_large}
+use Rattle.hunk_core.specs.OptionSteps.{◌>>=◌}
 use Rattle.hunk_core.proofs.OptionLemmas.{some_step}
 use Rattle.line_list.proofs.Pieces.{longer}
 use Rattle.split_recount.specs.RangeLines.{range_parts, stated_by, stated, line_with}
@@ -78,20 +80,34 @@ range-line bytes x h e =
     let same : found ≡ x = some_is found x (Some found) refl b.2 in
     subst IsLine (ap (λ (p : (ℕ × ℕ) × List ℕ). p.1) same) (count-line a.0.1 b.0 (size-line bytes a.0 h a.1) b.1)
 
+same-line : {A : Type 0} (found x : A × List ℕ) → Some found ≡ Some x → IsLine found.1 → IsLine x.1
+same-line found x e h = subst (λ p. IsLine p.1) (same_Some found x e) h
+
+-- from each step of the reading on, what is left is a line
+module _ (x : Ranges × List ℕ) where
+  end-line : (r : Ranges) (bytes : List ℕ) → IsLine bytes → (after (32 ∷ 64 ∷ 64 ∷ []) bytes >>= λ rest. Some (r, rest)) ≡ Some x → IsLine x.1
+  end-line r bytes h e =
+      let g = some_step (after (32 ∷ 64 ∷ 64 ∷ []) bytes) _ x e in
+      same-line (r, g.0) x g.2 (after-line (32 ∷ 64 ∷ 64 ∷ []) bytes g.0 (omega arith, (omega arith, (omega arith, tt))) h g.1)
+
+  new-line : (old : ℕ × ℕ) (bytes : List ℕ) → IsLine bytes
+      → (range_at bytes >>= λ new. after (32 ∷ 64 ∷ 64 ∷ []) new.1 >>= λ rest. Some (record { old_start = old.0; old_count = old.1; new_start = new.0.0; new_count = new.0.1 }, rest)) ≡ Some x → IsLine x.1
+  new-line old bytes h e =
+      let f = some_step (range_at bytes) _ x e in
+      end-line (record { old_start = old.0; old_count = old.1; new_start = f.0.0.0; new_count = f.0.0.1 }) f.0.1 (range-line bytes f.0 h f.1) f.2
+
+  plus-line : (old : ℕ × ℕ) (bytes : List ℕ) → IsLine bytes
+      → (after (32 ∷ 43 ∷ []) bytes >>= λ second. range_at second >>= λ new. after (32 ∷ 64 ∷ 64 ∷ []) new.1 >>= λ rest. Some (record { old_start = old.0; old_count = old.1; new_start = new.0.0; new_count = new.0.1 }, rest)) ≡ Some x → IsLine x.1
+  plus-line old bytes h e =
+      let d = some_step (after (32 ∷ 43 ∷ []) bytes) _ x e in
+      new-line old d.0 (after-line (32 ∷ 43 ∷ []) bytes d.0 (omega arith, (omega arith, tt)) h d.1) d.2
+
 parts-line : (line : List ℕ) (x : Ranges × List ℕ) → IsLine line → range_parts line ≡ Some x → IsLine x.1
 unfolding range_parts
 parts-line line x h e =
     let a = some_step (after (64 ∷ 64 ∷ 32 ∷ 45 ∷ []) line) _ x e in
     let b = some_step (range_at a.0) _ x a.2 in
-    let d = some_step (after (32 ∷ 43 ∷ []) b.0.1) _ x b.2 in
-    let f = some_step (range_at d.0) _ x d.2 in
-    let g = some_step (after (32 ∷ 64 ∷ 64 ∷ []) f.0.1) _ x f.2 in
-    let first : IsLine a.0 = after-line (64 ∷ 64 ∷ 32 ∷ 45 ∷ []) line a.0 (omega arith, (omega arith, (omega arith, (omega arith, tt)))) h a.1 in
-    let second : IsLine d.0 = after-line (32 ∷ 43 ∷ []) b.0.1 d.0 (omega arith, (omega arith, tt)) (range-line a.0 b.0 first b.1) d.1 in
-    let third : IsLine g.0 = after-line (32 ∷ 64 ∷ 64 ∷ []) f.0.1 g.0 (omega arith, (omega arith, (omega arith, tt))) (range-line d.0 f.0 second f.1) g.1 in
-    let found : Ranges × List ℕ = (record { old_start = b.0.0.0; old_count = b.0.0.1; new_start = f.0.0.0; new_count = f.0.0.1 }, g.0) in
-    let same : found ≡ x = some_is found x (Some found) refl g.2 in
-    subst IsLine (ap (λ (p : Ranges × List ℕ). p.1) same) third
+    plus-line x b.0.0 b.0.1 (range-line a.0 b.0 (after-line (64 ∷ 64 ∷ 32 ∷ 45 ∷ []) line a.0 (omega arith, (omega arith, (omega arith, (omega arith, tt)))) h a.1) b.1) b.2
 
 ok_is : (x y : ℕ × List ℕ) (r : Result (ℕ × List ℕ) BadKind) → r ≡ Ok x → r ≡ Ok y → x ≡ y
 ok_is x y r e f = cc

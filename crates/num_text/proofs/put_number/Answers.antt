@@ -1,5 +1,5 @@
-use Rattle.std.proofs.Common.{◌≡◌, ℕ, List, ◌<◌, ◌^◌, ◌++◌, length, take, ap, ◌∙◌, arith}
-use Rattle.std.proofs.lemmas.List.{take-append-le, take_all}
+use Rattle.std.proofs.Common.{◌≡◌, ℕ, List, ◌<◌, ◌^◌, ◌++◌, length, take, drop, refl, ap, ◌∙◌, arith}
+use Rattle.std.proofs.lemmas.List.{take-append-le, take_all, drop-append-le, drop_all}
 use Rattle.num_text.specs.Numbers.{decimal}
 use Rattle.num_text.proofs.Decimal.{decimal-numeral, written-decimal, length-decimal}
 use Rattle.num_text.proofs.put_number.Goals as goal
@@ -22,3 +22,9 @@ pub returns-clause-digits : goal.returns-clause-digits
 returns-clause-digits c =
     front c.copy_from_slice.new.self c.as_bytes-digits.result.now _ c.copy_from_slice.ensures.after
     ∙ c.copy_from_slice.ensures.after ∙ c.as_bytes-digits.ensures.value ∙ c.format.ensures.text ∙ written-decimal c.args.value c.ranges.value.fits
+
+behind : (ds other rest : List ℕ) → ds ≡ other → drop (length other) (ds ++ rest) ≡ rest
+behind ds other rest e = rw (← e, drop-append-le (length ds) ds rest (omega arith), drop_all (length ds) ds (omega arith)) refl
+
+pub returns-clause-rest : goal.returns-clause-rest
+returns-clause-rest c = behind c.copy_from_slice.new.self c.as_bytes-digits.result.now _ c.copy_from_slice.ensures.after

@@ -1,4 +1,5 @@
 use Rattle.std.proofs.Common.{Some, arith}
+use Rattle.std.proofs.lemmas.Result.{IfOk-from_err}
 use Rattle.std.proofs.lemmas.List.Elements.{All-push, All-pop}
 use Rattle.hunk_core.specs.Turned.{LiesIn}
 use Rattle.ed_form.proofs.Lasts.{last-long, corrects, later}
@@ -23,3 +24,18 @@ returns-in_ok-push-clause-exact c =
     let items = c.args.added.now.items in
     let both = All-pop (LiesIn c.args.text.now) items c.pop.new.self.items (Some c.in-Some.last) c.in-Some.ensures.items c.requires.lies in
     corrects c.args.text.now items c.pop.new.self.items c.push.new.self.items c.in-Some.last c.in-Some.ensures.items c.in_ok-push.ensures.items both.1 c.requires.double
+
+pub returns-in_err-push-clause-lies : goal.returns-in_err-push-clause-lies
+returns-in_err-push-clause-lies c = IfOk-from_err c.from_residual.result _ c.from_residual.ensures.0
+
+pub returns-in_err-push-clause-len : goal.returns-in_err-push-clause-len
+returns-in_err-push-clause-len c = IfOk-from_err c.from_residual.result _ c.from_residual.ensures.0
+
+pub returns-in_err-push-clause-exact : goal.returns-in_err-push-clause-exact
+returns-in_err-push-clause-exact c = IfOk-from_err c.from_residual.result _ c.from_residual.ensures.0
+
+pub returns-in_ok-push-clause-memory : goal.returns-in_ok-push-clause-memory
+returns-in_ok-push-clause-memory c = tt
+
+pub returns-in_default-clause-memory : goal.returns-in_default-clause-memory
+returns-in_default-clause-memory c = tt

@@ -1,5 +1,6 @@
 use Rattle.std.proofs.Common.{subst, sym, arith, rules, ◌≡◌}
 use Rattle.num_text.proofs.Below.{RunsTo, Agree, agree-on, agree-whole, decided}
+use Rattle.num_text.proofs.Ranges.{one-less}
 use Rattle.num_text.proofs.range.is_below.Goals as goal
 
 pub returns-then-digit-other : goal.returns-then-digit-other
@@ -20,3 +21,21 @@ returns c =
     let others : RunsTo c.args.others.now c.digits_end-other_end.result = record { high = c.digits_end-other_end.ensures.high; rest = c.digits_end-other_end.ensures.rest } in
     let done : c.loop-far.far ≡ 0 = omega arith in
     sym (agree-whole c.args.bytes.now c.args.others.now c.digits_end-end.result c.digits_end-other_end.result runs others (subst (Agree c.args.bytes.now c.args.others.now c.digits_end-end.result c.digits_end-other_end.result) done c.loop-far.invariant))
+
+pub digit_before-digit-requires-clause-high : goal.digit_before-digit-requires-clause-high
+digit_before-digit-requires-clause-high c = c.digits_end-end.ensures.high
+
+pub digit_before-digit-requires-clause-some : goal.digit_before-digit-requires-clause-some
+digit_before-digit-requires-clause-some c = c.loop-far-test.true
+
+pub digit_before-other-requires-clause-high : goal.digit_before-other-requires-clause-high
+digit_before-other-requires-clause-high c = c.digits_end-other_end.ensures.high
+
+pub digit_before-other-requires-clause-some : goal.digit_before-other-requires-clause-some
+digit_before-other-requires-clause-some c = c.loop-far-test.true
+
+pub overflow_sub-far : goal.overflow_sub-far
+overflow_sub-far c = c.loop-far-test.true
+
+pub loop-far-smaller : goal.loop-far-smaller
+loop-far-smaller c = one-less c.loop-far.far c.loop-far-test.true

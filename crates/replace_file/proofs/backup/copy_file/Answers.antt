@@ -1,8 +1,11 @@
-use Rattle.std.proofs.Common.{◌++◌, ◌∙◌, ℕ, List, sym, ap, arith, take_all}
-use Rattle.std.proofs.lemmas.Result.{on_ok_weaker}
+use Rattle.std.proofs.Common.{◌++◌, ◌∙◌, ℕ, List, sym, ap, arith, take_all, refl}
+use Rattle.std.proofs.lemmas.Result.{on_ok_weaker, IfOk-from_err}
 use Rattle.outside.specs.Files.{bytes_at}
 use Rattle.outside.proofs.Quiet.{works_both}
-use Rattle.replace_file.proofs.Copying.{reads_works, size_bytes}
+use Rattle.replace_file.proofs.Copying.{reads_works, size_bytes, reads_seals, there_told}
+use Rattle.outside.proofs.Views.{untouched_quiet}
+use Rattle.replace_file.proofs.Work.{stays_both}
+use Rattle.replace_file.proofs.Runs.{run_ok, run_first, run_then}
 use Rattle.replace_file.proofs.backup.copy_file.Goals as goal
 
 pub returns-in_err-size-clause-works : goal.returns-in_err-size-clause-works
@@ -24,3 +27,57 @@ returns-in-Some-clause-bytes g c =
     on_ok_weaker c.copy_bytes.result (λ copies f h told now.
     let sized = size_bytes f from c.in-Some.size (sym c.in-Some.is ∙ c.in_ok-size.ensures.size f told) in
     copies.bytes f h (c.size.ensures.untouched.told ∙ told) now ∙ ap (λ (l : List ℕ). bytes_at f c.args.begun.now.name.now ++ l) (take_all c.in-Some.size (bytes_at f from) (omega (arith, sized.1)))) c.copy_bytes.ensures.copies
+
+pub returns-in_err-size-clause-name : goal.returns-in_err-size-clause-name
+returns-in_err-size-clause-name g c = refl
+
+pub returns-in_err-size-clause-run : goal.returns-in_err-size-clause-run
+returns-in_err-size-clause-run g c = run_first c.size.ensures.call.passes (c.in_err-size.ensures.call.cause refl)
+
+pub returns-in_err-size-clause-seals : goal.returns-in_err-size-clause-seals
+returns-in_err-size-clause-seals g c = reads_seals (g.T.Tree.view c.args.tree.now) (g.T.Tree.view c.size.new.self) c.args.begun.now.name.now c.size.ensures.untouched
+
+pub returns-in_err-size-clause-there : goal.returns-in_err-size-clause-there
+returns-in_err-size-clause-there g c = IfOk-from_err c.from_residual.result _ c.from_residual.ensures.0
+
+pub returns-in_err-size-clause-bytes : goal.returns-in_err-size-clause-bytes
+returns-in_err-size-clause-bytes g c = IfOk-from_err c.from_residual.result _ c.from_residual.ensures.0
+
+pub copy_bytes-requires-clause-quiet : goal.copy_bytes-requires-clause-quiet
+copy_bytes-requires-clause-quiet g c = untouched_quiet c.size.ensures.untouched c.requires.quiet
+
+pub copy_bytes-requires-clause-lasting : goal.copy_bytes-requires-clause-lasting
+copy_bytes-requires-clause-lasting g c = c.requires.lasting
+
+pub copy_bytes-requires-clause-there : goal.copy_bytes-requires-clause-there
+copy_bytes-requires-clause-there g c = λ f told. (size_bytes f c.args.from.now c.in-Some.size (sym c.in-Some.is ∙ c.in_ok-size.ensures.size f (sym c.size.ensures.untouched.told ∙ told))).0
+
+pub copy_bytes-requires-clause-begun : goal.copy_bytes-requires-clause-begun
+copy_bytes-requires-clause-begun g c = there_told (g.T.Tree.view c.args.tree.now) (g.T.Tree.view c.size.new.self) c.args.begun.now.name.now c.size.ensures.untouched.told c.requires.begun
+
+pub copy_bytes-requires-clause-size : goal.copy_bytes-requires-clause-size
+copy_bytes-requires-clause-size g c = λ f told. (size_bytes f c.args.from.now c.in-Some.size (sym c.in-Some.is ∙ c.in_ok-size.ensures.size f (sym c.size.ensures.untouched.told ∙ told))).1
+
+pub returns-in-None-clause-name : goal.returns-in-None-clause-name
+returns-in-None-clause-name g c = refl
+
+pub returns-in-None-clause-run : goal.returns-in-None-clause-run
+returns-in-None-clause-run g c = run_ok c.size.ensures.call.passes
+
+pub returns-in-None-clause-seals : goal.returns-in-None-clause-seals
+returns-in-None-clause-seals g c = reads_seals (g.T.Tree.view c.args.tree.now) (g.T.Tree.view c.size.new.self) c.args.begun.now.name.now c.size.ensures.untouched
+
+pub returns-in-None-clause-there : goal.returns-in-None-clause-there
+returns-in-None-clause-there g c = there_told (g.T.Tree.view c.args.tree.now) (g.T.Tree.view c.size.new.self) c.args.begun.now.name.now c.size.ensures.untouched.told c.requires.begun
+
+pub returns-in-Some-clause-name : goal.returns-in-Some-clause-name
+returns-in-Some-clause-name g c = c.copy_bytes.ensures.name
+
+pub returns-in-Some-clause-run : goal.returns-in-Some-clause-run
+returns-in-Some-clause-run g c = run_then c.size.ensures.call.passes c.copy_bytes.ensures.run
+
+pub returns-in-Some-clause-seals : goal.returns-in-Some-clause-seals
+returns-in-Some-clause-seals g c = stays_both (g.T.Tree.view c.args.tree.now) (g.T.Tree.view c.size.new.self) (g.T.Tree.view c.copy_bytes.new.tree) c.args.begun.now.name.now (reads_seals (g.T.Tree.view c.args.tree.now) (g.T.Tree.view c.size.new.self) c.args.begun.now.name.now c.size.ensures.untouched) c.copy_bytes.ensures.seals
+
+pub returns-in-Some-clause-there : goal.returns-in-Some-clause-there
+returns-in-Some-clause-there g c = on_ok_weaker c.copy_bytes.result (λ copies. copies.there) c.copy_bytes.ensures.copies

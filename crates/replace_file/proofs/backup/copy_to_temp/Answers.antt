@@ -1,6 +1,6 @@
-use Rattle.std.proofs.Common.{◌≡◌, ◌++◌, ◌∙◌, ℕ, List, Some, refl, subst}
+use Rattle.std.proofs.Common.{◌≡◌, ◌++◌, ◌∙◌, ℕ, List, Some, refl, subst, sym}
 use Rattle.outside.specs.Files.{Files, bytes_at}
-use Rattle.outside.specs.Calls.{SealsStay}
+use Rattle.outside.specs.Calls.{SealsStay, IsThere}
 use Rattle.outside.specs.Quiet.{WorksOn}
 use Rattle.outside.proofs.Views.{rises_then}
 use Rattle.outside.proofs.Quiet.{works_both}
@@ -42,3 +42,24 @@ returns g c =
     subst (λ (n : List ℕ). (f h : Files) → v.told ≡ Some f → w.told ≡ Some h → bytes_at h n ≡ bytes_at f n ++ bytes_at f from) named c.in_ok-copy_file.ensures.bytes in
     let puts : Puts w x c.put_begun.result temp to (λ f. bytes_at f temp) = subst (λ (n : List ℕ). Puts w x c.put_begun.result n to (λ f. bytes_at f n)) (c.copy_file.ensures.name ∙ named) c.put_begun.ensures in
     puts_after u w temp is (works_both u v w temp is begins adds) (stays_both u v w temp c.begin_temp.ensures.seals stays) c.put_begun.result x to (λ f. bytes_at f from) (bytes_copied u v w temp from is c.requires.lasting_from begins c.in_ok-begun.ensures.ok added) puts
+
+pub begin_temp-requires : goal.begin_temp-requires
+begin_temp-requires g c = c.requires.temporary
+
+pub copy_file-requires-clause-quiet : goal.copy_file-requires-clause-quiet
+copy_file-requires-clause-quiet g c = (c.begin_temp.ensures.works c.requires.quiet).quiet
+
+pub copy_file-requires-clause-lasting : goal.copy_file-requires-clause-lasting
+copy_file-requires-clause-lasting g c = c.requires.lasting_from
+
+pub copy_file-requires-clause-begun : goal.copy_file-requires-clause-begun
+copy_file-requires-clause-begun g c = subst (λ n. IsThere (g.T.Tree.view c.begin_temp.new.tree) n) (sym c.in_ok-begun.ensures.name) c.in_ok-begun.ensures.there
+
+pub put_begun-requires-clause-there : goal.put_begun-requires-clause-there
+put_begun-requires-clause-there g c = subst (λ n. IsThere (g.T.Tree.view c.copy_file.new.tree) n) (sym c.copy_file.ensures.name) c.in_ok-copy_file.ensures.there
+
+pub put_begun-requires-clause-lasting : goal.put_begun-requires-clause-lasting
+put_begun-requires-clause-lasting g c = c.requires.lasting
+
+pub put_begun-requires-clause-quiet : goal.put_begun-requires-clause-quiet
+put_begun-requires-clause-quiet g c = c.copy_file.ensures.works.quiet

@@ -1,7 +1,7 @@
-use Rattle.std.proofs.Common.{◌≡◌, ◌++◌, ◌∙◌, ℕ, List, refl, subst}
+use Rattle.std.proofs.Common.{◌≡◌, ◌++◌, ◌∙◌, ℕ, List, refl, subst, sym}
 use Rattle.std.specs.FinMap.{insert}
 use Rattle.outside.specs.Files.{bytes_at}
-use Rattle.outside.specs.Calls.{Becomes, SealsStay}
+use Rattle.outside.specs.Calls.{Becomes, SealsStay, IsThere}
 use Rattle.outside.specs.Quiet.{WorksOn}
 use Rattle.outside.proofs.Views.{rises_then}
 use Rattle.outside.proofs.Quiet.{works_both}
@@ -41,3 +41,18 @@ returns g c =
     let added : Becomes v w (λ f. insert f temp (bytes_at f temp ++ bytes)) = subst (λ (n : List ℕ). Becomes v w (λ f. insert f n (bytes_at f n ++ bytes))) named c.in_ok-put.ensures.ok in
     let puts : Puts w x c.put_begun.result temp to (λ f. bytes_at f temp) = subst (λ (n : List ℕ). Puts w x c.put_begun.result n to (λ f. bytes_at f n)) (c.put.ensures.name ∙ named) c.put_begun.ensures in
     puts_after u w temp is (works_both u v w temp is begins adds) (stays_both u v w temp c.begin_temp.ensures.seals stays) c.put_begun.result x to (λ f. bytes) (bytes_begun u v w temp bytes begins.passes c.in_ok-begun.ensures.ok added) puts
+
+pub begin_temp-requires : goal.begin_temp-requires
+begin_temp-requires g c = c.requires.temporary
+
+pub put-requires : goal.put-requires
+put-requires g c = subst (λ n. IsThere (g.T.Tree.view c.begin_temp.new.tree) n) (sym c.in_ok-begun.ensures.name) c.in_ok-begun.ensures.there
+
+pub put_begun-requires-clause-there : goal.put_begun-requires-clause-there
+put_begun-requires-clause-there g c = subst (λ n. IsThere (g.T.Tree.view c.put.new.tree) n) (sym c.put.ensures.name) c.in_ok-put.ensures.there
+
+pub put_begun-requires-clause-lasting : goal.put_begun-requires-clause-lasting
+put_begun-requires-clause-lasting g c = c.requires.lasting
+
+pub put_begun-requires-clause-quiet : goal.put_begun-requires-clause-quiet
+put_begun-requires-clause-quiet g c = (c.put.ensures.works (c.begin_temp.ensures.works c.requires.quiet).quiet).quiet

@@ -16,3 +16,15 @@ returns-in-Err c = rewrites_fail c.args.text.now c.lines.out.items c.take_next.n
 
 pub returns : goal.returns
 returns c = rewrites_done c.args.text.now c.lines.out.items c.lines.reached c.lines.invariant c.in_default.ensures.1
+
+pub next_line-requires : goal.next_line-requires
+next_line-requires c = c.lines.invariant.is.within
+
+pub take_next-requires-clause-short : goal.take_next-requires-clause-short
+take_next-requires-clause-short c = c.requires
+
+pub take_next-requires-clause-reached : goal.take_next-requires-clause-reached
+take_next-requires-clause-reached c = c.lines.invariant.is
+
+pub take_next-requires-clause-line : goal.take_next-requires-clause-line
+take_next-requires-clause-line c = c.in-Some.ensures

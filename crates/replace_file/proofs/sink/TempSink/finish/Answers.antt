@@ -1,5 +1,7 @@
 use Rattle.std.proofs.Common.{refl}
+use Rattle.std.proofs.lemmas.Result.{IfOk-from_err}
 use Rattle.replace_file.proofs.Sinking.{works_around}
+use Rattle.replace_file.proofs.Runs.{run_ok, run_first}
 use Rattle.replace_file.proofs.sink.TempSink.finish.Goals as goal
 
 pub returns-in_err-mend-clause-rest : goal.returns-in_err-mend-clause-rest
@@ -19,3 +21,42 @@ returns-clause-rest g c =
       refl,
       works_around (g.T.Tree.view self.tree.now) (g.T.Tree.view c.mend.new.tree) self.temp.name.now self.temp.temporary self.quiet (stands self.tree.now) (stands c.mend.new.tree) c.mend.ensures.works c.mend.ensures.seals,
     )
+
+pub mend-requires-clause-quiet : goal.mend-requires-clause-quiet
+mend-requires-clause-quiet g c = c.args.self.now.quiet
+
+pub mend-requires-clause-there : goal.mend-requires-clause-there
+mend-requires-clause-there g c = c.args.self.now.there
+
+pub returns-in_err-mend-clause-run : goal.returns-in_err-mend-clause-run
+returns-in_err-mend-clause-run g c = run_first c.mend.ensures.run.passes (c.in_err-mend.ensures.run.cause refl)
+
+pub returns-in_err-mend-clause-there : goal.returns-in_err-mend-clause-there
+returns-in_err-mend-clause-there g c = IfOk-from_err c.from_residual.result _ c.from_residual.ensures.0
+
+pub returns-in_err-mend-clause-told : goal.returns-in_err-mend-clause-told
+returns-in_err-mend-clause-told g c = IfOk-from_err c.from_residual.result _ c.from_residual.ensures.0
+
+pub returns-in_err-mend-clause-mended : goal.returns-in_err-mend-clause-mended
+returns-in_err-mend-clause-mended g c = IfOk-from_err c.from_residual.result _ c.from_residual.ensures.0
+
+pub returns-in_err-mend-clause-anew : goal.returns-in_err-mend-clause-anew
+returns-in_err-mend-clause-anew g c = IfOk-from_err c.from_residual.result _ c.from_residual.ensures.0
+
+pub returns-in_err-mend-clause-stays : goal.returns-in_err-mend-clause-stays
+returns-in_err-mend-clause-stays g c = IfOk-from_err c.from_residual.result _ c.from_residual.ensures.0
+
+pub returns-clause-run : goal.returns-clause-run
+returns-clause-run g c = run_ok c.mend.ensures.run.passes
+
+pub returns-clause-there : goal.returns-clause-there
+returns-clause-there g c = c.in_ok-mend.ensures.there
+
+pub returns-clause-mended : goal.returns-clause-mended
+returns-clause-mended g c = refl
+
+pub returns-clause-anew : goal.returns-clause-anew
+returns-clause-anew g c = c.in_ok-mend.ensures.anew
+
+pub returns-clause-stays : goal.returns-clause-stays
+returns-clause-stays g c = c.mend.ensures.same

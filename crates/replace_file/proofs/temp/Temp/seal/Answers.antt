@@ -1,5 +1,8 @@
+use Rattle.std.proofs.Common.{refl}
+use Rattle.std.proofs.lemmas.Result.{IfOk-from_err}
 use Rattle.outside.proofs.Quiet.{only_same, only_spoils, quiet_kept}
 use Rattle.replace_file.proofs.Work.{worked, there_same}
+use Rattle.replace_file.proofs.Runs.{run_ok, run_first, on_err_from}
 use Rattle.replace_file.proofs.temp.Temp.seal.Goals as goal
 
 pub returns-in_err-seal-clause-works : goal.returns-in_err-seal-clause-works
@@ -18,3 +21,42 @@ returns-clause-works g c =
 
 pub returns-clause-there : goal.returns-clause-there
 returns-clause-there g c = there_same (g.T.Tree.view c.args.tree.now) (g.T.Tree.view c.seal.new.self) c.args.self.name.now c.seal.ensures.call.passes c.in_ok-seal.ensures.ok c.requires
+
+pub returns-in_err-seal-clause-run : goal.returns-in_err-seal-clause-run
+returns-in_err-seal-clause-run g c = run_first c.seal.ensures.call.passes (c.in_err-seal.ensures.call.cause refl)
+
+pub returns-in_err-seal-clause-name : goal.returns-in_err-seal-clause-name
+returns-in_err-seal-clause-name g c = IfOk-from_err c.from_residual.result _ c.from_residual.ensures.0
+
+pub returns-in_err-seal-clause-ok : goal.returns-in_err-seal-clause-ok
+returns-in_err-seal-clause-ok g c = IfOk-from_err c.from_residual.result _ c.from_residual.ensures.0
+
+pub returns-in_err-seal-clause-there : goal.returns-in_err-seal-clause-there
+returns-in_err-seal-clause-there g c = IfOk-from_err c.from_residual.result _ c.from_residual.ensures.0
+
+pub returns-in_err-seal-clause-err : goal.returns-in_err-seal-clause-err
+returns-in_err-seal-clause-err g c = on_err_from c.from_residual.result c.in_err-seal.ensures.err
+
+pub returns-in_err-seal-clause-seals : goal.returns-in_err-seal-clause-seals
+returns-in_err-seal-clause-seals g c = c.seal.ensures.seals
+
+pub returns-clause-run : goal.returns-clause-run
+returns-clause-run g c = run_ok c.seal.ensures.call.passes
+
+pub returns-clause-name : goal.returns-clause-name
+returns-clause-name g c = refl
+
+pub returns-clause-ok : goal.returns-clause-ok
+returns-clause-ok g c = c.in_ok-seal.ensures.ok
+
+pub returns-clause-err : goal.returns-clause-err
+returns-clause-err g c = tt
+
+pub returns-clause-seals : goal.returns-clause-seals
+returns-clause-seals g c = c.seal.ensures.seals
+
+pub seal-requires : goal.seal-requires
+seal-requires g c = c.requires
+
+pub returns-in_err-seal-clause-sealed : goal.returns-in_err-seal-clause-sealed
+returns-in_err-seal-clause-sealed g c = IfOk-from_err c.from_residual.result _ c.from_residual.ensures.0

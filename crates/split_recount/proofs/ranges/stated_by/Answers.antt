@@ -1,0 +1,22 @@
+use Rattle.std.proofs.Common.{sym}
+use Rattle.split_recount.proofs.Bounds.{start-small}
+use Rattle.split_recount.proofs.Stated.{stated-fits, stated-large}
+use Rattle.split_recount.proofs.ranges.stated_by.Goals as goal
+
+pub returns-in_default-clause-small : goal.returns-in_default-clause-small
+returns-in_default-clause-small c = tt
+
+pub returns-then-is_bad-clause-small : goal.returns-then-is_bad-clause-small
+returns-then-is_bad-clause-small c = tt
+
+pub returns-then-are_large-clause-small : goal.returns-then-are_large-clause-small
+returns-then-are_large-clause-small c = tt
+
+pub returns-then-are_large-clause-exact : goal.returns-then-are_large-clause-exact
+returns-then-are_large-clause-exact c = stated-large c.args.line.now c.in-Some.old c.in-Some.new c.in-Some.rest.now c.in-Some.ensures c.if-is_bad.ensures c.if-is_bad-2.ensures c.if-are_large.ensures
+
+pub returns-clause-exact : goal.returns-clause-exact
+returns-clause-exact c = stated-fits c.args.line.now c.in-Some.old c.in-Some.new c.in-Some.rest.now c.in-Some.ensures c.if-is_bad.ensures c.if-is_bad-2.ensures c.if-are_large.ensures
+
+pub returns-clause-small : goal.returns-clause-small
+returns-clause-small c = start-small c.in-Some.old.start c.in-Some.old.count c.in-Some.new.start c.in-Some.new.count (sym c.if-are_large.ensures)
