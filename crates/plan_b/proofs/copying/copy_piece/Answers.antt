@@ -184,3 +184,18 @@ returns-in-Err-clause-within g c = tt
 
 pub returns-in-Err-clause-copied : goal.returns-in-Err-clause-copied
 returns-in-Err-clause-copied g c = tt
+
+pub overflow_sub-result : goal.overflow_sub-result
+overflow_sub-result g c = c.requires.layout.low
+
+pub overflow_add-result : goal.overflow_add-result
+overflow_add-result g c = omega (arith, c.in-Ok-copy_lines.ensures.within, c.in-Ok.ensures.count, c.requires.short, c.requires.within)
+
+pub copy_lines-requires-clause-few : goal.copy_lines-requires-clause-few
+copy_lines-requires-clause-few g c = omega (arith, c.requires.few, c.in-Ok.ensures.count, c.requires.short, c.requires.within)
+
+pub copy_lines-requires-clause-within : goal.copy_lines-requires-clause-within
+copy_lines-requires-clause-within g c = omega (arith, c.in-Ok.ensures.count, c.in-Ok.ensures.size)
+
+pub overflow_add-is_last : goal.overflow_add-is_last
+overflow_add-is_last g c = omega (arith, c.in-Ok.ensures.count, c.requires.short, c.requires.within)

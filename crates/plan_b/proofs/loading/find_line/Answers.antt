@@ -1,8 +1,9 @@
-use Rattle.std.proofs.Common.{◌≡◌, ◌+◌, ◌-◌, ◌*◌, ◌≤◌, ℕ, ap, ◌∙◌, arith}
+use Rattle.std.proofs.Common.{◌≡◌, ◌+◌, ◌-◌, ◌*◌, ◌≤◌, ℕ, ap, ◌∙◌, arith, length}
 use Rattle.plan_b.specs.Layout.{place_on_page, place_of, page_number}
 use Rattle.file_pieces.specs.Records.{stated}
 use Rattle.plan_b.proofs.HeldLemmas.{stated-on-page}
 use Rattle.file_pieces.proofs.Windows.{none-unless}
+use Rattle.plan_b.proofs.Reached.{page-length}
 use Rattle.plan_b.proofs.loading.find_line.Goals as goal
 
 pub returns-then-length-most-clause-cause : goal.returns-then-length-most-clause-cause
@@ -97,3 +98,6 @@ fetch_page-requires-clause-low g c = c.requires.low
 
 pub fetch_page-requires-clause-high : goal.fetch_page-requires-clause-high
 fetch_page-requires-clause-high g c = c.requires.high
+
+pub stated_length-length-requires : goal.stated_length-length-requires
+stated_length-length-requires g c = omega (arith, c.place_on_page.ensures.within, c.requires.held.layout.low, c.requires.held.size, c.in-Ok.ensures.size, ap length c.page.ensures.is, page-length c.fetch_page.new.pair c.args.half c.page.ensures.pair)
