@@ -180,3 +180,18 @@ returns-clause-on g c = omega arith
 
 pub returns-clause-within : goal.returns-clause-within
 returns-clause-within g c = omega (arith, c.in-Ok-copy_lines.ensures.within, c.in-Ok.ensures.count)
+
+pub overflow_sub-result : goal.overflow_sub-result
+overflow_sub-result g c = omega (arith, c.requires.layout.sized.0)
+
+pub overflow_add-result : goal.overflow_add-result
+overflow_add-result g c = omega (arith, c.in-Ok-copy_lines.ensures.within, c.in-Ok.ensures.count, c.requires.short, c.requires.within)
+
+pub copy_lines-requires-clause-few : goal.copy_lines-requires-clause-few
+copy_lines-requires-clause-few g c = omega (arith, c.requires.few, c.in-Ok.ensures.count, c.requires.short, c.requires.within)
+
+pub copy_lines-requires-clause-within : goal.copy_lines-requires-clause-within
+copy_lines-requires-clause-within g c = omega (arith, c.in-Ok.ensures.count, c.in-Ok.ensures.size)
+
+pub overflow_add-is_last : goal.overflow_add-is_last
+overflow_add-is_last g c = omega (arith, c.in-Ok.ensures.count, c.requires.short, c.requires.within)
