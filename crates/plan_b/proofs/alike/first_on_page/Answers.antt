@@ -88,3 +88,9 @@ returns-clause-on g c = c.first_pass-pass.ensures.order
 
 pub returns-clause-keeps : goal.returns-clause-keeps
 returns-clause-keeps g c = let k = c.in-Ok.ensures.keeps in record { told = k.told; count = k.count; faults = k.faults; scratch = k.scratch; size = k.size; needs_memory = k.needs_memory }
+
+pub load_line-requires-clause-low : goal.load_line-requires-clause-low
+load_line-requires-clause-low g c = c.requires.low
+
+pub load_line-requires-clause-high : goal.load_line-requires-clause-high
+load_line-requires-clause-high g c = omega (arith, c.requires.order, c.requires.high)

@@ -91,3 +91,6 @@ returns-clause-keeps g c = let k = c.in-Ok.ensures.keeps in record { told = k.to
 
 pub overflow_sub-to-2 : goal.overflow_sub-to-2
 overflow_sub-to-2 g c = omega (arith, c.requires.order)
+
+pub load_line-requires-clause-high : goal.load_line-requires-clause-high
+load_line-requires-clause-high g c = omega (arith, c.requires.order, c.requires.high)

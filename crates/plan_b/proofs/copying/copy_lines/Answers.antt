@@ -119,3 +119,6 @@ copy_line-requires-clause-few g c = omega (arith, c.in-Some.ensures.low, c.in-So
 
 pub whole_line-requires : goal.whole_line-requires
 whole_line-requires g c = omega (arith, c.loop-end.invariant.within, length-take c.args.got c.page.result.now, c.requires.within, c.loop-end.invariant.size, ap length c.page.ensures.is, page-length c.loop-end.pair First c.page.ensures.pair)
+
+pub loop-end-smaller : goal.loop-end-smaller
+loop-end-smaller g c = omega (arith, c.in-Some.ensures.low, c.in-Some.ensures.high, length-take c.args.got c.page.result.now)

@@ -38,3 +38,24 @@ returns-then-now-to-clause-order c = c.loop-layout.invariant.order
 
 pub next_on-requires-clause-size : goal.next_on-requires-clause-size
 next_on-requires-clause-size c = c.requires.size
+
+pub returns-in-None-clause-follows : goal.returns-in-None-clause-follows
+returns-in-None-clause-follows c = c.loop-layout.invariant.follows
+
+pub returns-then-now-to-clause-follows : goal.returns-then-now-to-clause-follows
+returns-then-now-to-clause-follows c = c.loop-layout.invariant.follows
+
+pub returns-clause-follows : goal.returns-clause-follows
+returns-clause-follows c = c.loop-layout.invariant.follows
+
+pub returns-clause-before : goal.returns-clause-before
+returns-clause-before c = c.loop-layout.invariant.before
+
+pub returns-clause-order : goal.returns-clause-order
+returns-clause-order c = c.loop-layout.invariant.order
+
+pub next_on-requires-clause-layout : goal.next_on-requires-clause-layout
+next_on-requires-clause-layout c = c.requires.layout
+
+pub next_on-requires-clause-is : goal.next_on-requires-clause-is
+next_on-requires-clause-is c = c.loop-layout.invariant.follows.is

@@ -29,3 +29,18 @@ spot_before-requires-clause-size c = c.requires.size
 
 pub overflow_sub-now : goal.overflow_sub-now
 overflow_sub-now c = c.loop-layout.invariant.follows.is.low
+
+pub returns-in-None-clause-follows : goal.returns-in-None-clause-follows
+returns-in-None-clause-follows c = c.loop-layout.invariant.follows
+
+pub returns-then-now-from-clause-follows : goal.returns-then-now-from-clause-follows
+returns-then-now-from-clause-follows c = c.loop-layout.invariant.follows
+
+pub returns-clause-follows : goal.returns-clause-follows
+returns-clause-follows c = c.loop-layout.invariant.follows
+
+pub spot_before-requires-clause-layout : goal.spot_before-requires-clause-layout
+spot_before-requires-clause-layout c = c.requires.layout
+
+pub spot_before-requires-clause-is : goal.spot_before-requires-clause-is
+spot_before-requires-clause-is c = c.loop-layout.invariant.follows.is
