@@ -1,5 +1,4 @@
 use Rattle.std.proofs.Common.{◌≡◌, ◌+◌, ◌-◌, ◌∙◌, Some, sym, subst, refl, inl, inr, arith}
-use Rattle.packed_pages.specs.declared.marks.Mark.{Mark}
 use Rattle.packed_pages.specs.Marks.{IsMark, marks_of}
 use Rattle.packed_pages.specs.Held.{IfStart}
 use Rattle.packed_pages.proofs.loading.held_start.Goals as goal
