@@ -1,3 +1,4 @@
+use Rattle.std.proofs.Common.{refl}
 use Rattle.plan_a.proofs.text.read_bytes.Goals as goal
 
 pub returns-clause-untouched : goal.returns-clause-untouched
@@ -11,3 +12,6 @@ returns-then-got-length-clause-untouched g c = c.read_at.ensures.untouched
 
 pub returns-then-got-length-clause-passes : goal.returns-then-got-length-clause-passes
 returns-then-got-length-clause-passes g c = c.read_at.ensures.untouched.passes
+
+pub returns-then-got-length-clause-wanted : goal.returns-then-got-length-clause-wanted
+returns-then-got-length-clause-wanted g c = (refl, c.if-got-length.true)
