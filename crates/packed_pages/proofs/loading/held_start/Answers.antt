@@ -8,7 +8,7 @@ returns-clause-marked c = c.back_to-mark.ensures.marked
 
 pub returns-then-place-k-clause-start : goal.returns-then-place-k-clause-start
 returns-then-place-k-clause-start c = subst (λ o. IfStart o (marks_of c.args.marks.now c.args.half) c.args.k (Some c.in-Some.place)) (sym (sym c.get.ensures ∙ c.in-Some.is))
-    (record { first = refl; next = refl; page = refl; low = c.if-place-k.true; high = c.if-k-place-2.false; place = inl refl })
+    (record { first = refl; next = refl; page = refl; low = c.if-place-k.true; high = omega arith; place = inl refl })
 
 pub returns-clause-start : goal.returns-clause-start
 returns-clause-start c =
@@ -21,7 +21,7 @@ returns-clause-start c =
       next = refl;
       page = refl;
       low = omega (arith, c.back_to-mark.ensures.order, c.if-k-place.false);
-      high = c.if-k-place-2.false;
+      high = omega arith;
       place = inr (record {
         low = omega arith;
         is = λ page marks. subst (λ n. IsMark page (record { before = n; at = c.back_to-mark.result.at })) (sym low) (c.back_to-mark.ensures.is page marks);
