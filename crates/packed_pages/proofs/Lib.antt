@@ -7,3 +7,4 @@ pub mod Copyings
 pub mod Takings
 pub mod Packings
 pub mod Worked
+pub mod Sizes

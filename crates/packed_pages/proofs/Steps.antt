@@ -188,3 +188,8 @@ pub later-within : (from middle to : ℕ) (before behind : Option ℕ) → from 
 later-within from middle to before (Some k) low high a b = (omega (arith, b.0), b.1)
 later-within from middle to None None low high a b = tt
 later-within from middle to (Some k) None low high a b = (a.0, omega (arith, a.1))
+
+-- the last line that is alike, from the start's line on
+pub last-between : (page : List ℕ) (start : Place) (line : List ℕ) (k to : ℕ) (alike : Option Place) → start.line ≡ k → IfLast page start line to alike → IfSome (option_map (λ (p : Place). p.line) alike) (λ w. (k ≤ w) × (w < to))
+last-between page start line k to None e is = tt
+last-between page start line k to (Some p) e is = (omega (arith, e, is.follows.order), is.before)

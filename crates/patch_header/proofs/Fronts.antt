@@ -2,7 +2,7 @@
 use Rattle.std.proofs.Common.{◌≡◌, ◌⊎◌, inl, inr, ℕ, suc, ◌-◌, Bool, true, false, cond, ◌&&◌, ◌||◌, eqb, List, [], ◌∷◌, length, take, Option, None, Some, refl, subst, arith}
 use Rattle.std.specs.Prelude.{is_some, codes, nat_eq, bytes_eq}
 use Rattle.std.specs.List.{ends_with}
-use Rattle.std.proofs.lemmas.Bool.{eqb-true}
+use Rattle.std.proofs.lemmas.Bool.{eqb-true, false≢true}
 use Rattle.hunk_core.specs.LineTests.{after, ends_line}
 use Rattle.num_text.specs.Numbers.{is_digit, value_after, after_digits}
 use Rattle.num_text.specs.NumberRanges.{range_at, from_first}
@@ -58,7 +58,7 @@ range-front (b ∷ bytes) h = by (is_digit b) h
   where
     by : (v : Bool) → is_some (from_first (cond v (Some (value_after 0 (b ∷ bytes), after_digits bytes)) None)) ≡ true → v ≡ true
     by true k = refl
-    by false k = absurd cc
+    by false k = absurd (false≢true k)
 
 bind-some : {A B : Type 0} (o : Option A) (f : A → Option B) → is_some (o >>= f) ≡ true → is_some o ≡ true
 bind-some None f h = absurd cc

@@ -4,7 +4,8 @@ ghost use Rattle.std.specs.Prelude.{◌≡◌, ◌≤◌, length, drop};
 ghost use Rattle.line_list.specs.Lines.{lines};
 ghost use Rattle.patch_header.specs.Content.{content, is_binary, is_dot, has_dot};
 
-use hunk_core::{after_prefix, has_feed};
+use crate::git_lines::starts;
+use hunk_core::has_feed;
 use line_list::next_line;
 
 /// The line without its line feed.
@@ -24,7 +25,7 @@ pub fn is_binary(line: &[u8]) -> bool
 {
     let bytes = content(line);
     bytes == b"GIT binary patch".as_slice()
-        || (after_prefix(bytes, b"Binary files ").is_some() && bytes.ends_with(b" differ"))
+        || (starts(line, b"Binary files ") && bytes.ends_with(b" differ"))
 }
 
 /// Whether a line ends the text of an ed command.

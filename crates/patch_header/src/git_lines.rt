@@ -62,8 +62,7 @@ fn is_index_line(line: &[u8]) -> bool
     ensures { result ≡ is_index_line line.now }
 {
     starts(line, b"similarity index ")
-        || starts(line, b"dissimilarity index ")
-        || starts(line, b"index ")
+        || (starts(line, b"dissimilarity index ") || starts(line, b"index "))
 }
 
 /// Whether a line goes on with a git header.

@@ -84,3 +84,7 @@ cut-end text ends at c e = record {
   few = omega (arith, c.read.few, c.read.within);
   each = c.each;
 }
+
+pub lines-none : lines [] ≡ []
+unfolding lines
+lines-none = refl

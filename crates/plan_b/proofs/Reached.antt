@@ -1,6 +1,6 @@
 -- Records reached from others of the same page.
 use Rattle.std.proofs.Common.{◌≡◌, ◌≢◌, ℕ, ◌+◌, ◌-◌, ◌*◌, ◌/◌, ◌%◌, ◌<◌, ◌≤◌, List, length, take, drop, Bool, true, false, Option, None, Some, IfSome, inl, inr, refl, sym, ap, subst, ◌∙◌, arith}
-use Rattle.std.proofs.lemmas.Bool.{cases_lt}
+use Rattle.std.proofs.lemmas.Bool.{cases_lt, cases_eq}
 use Rattle.std.proofs.lemmas.Nat.{div-add-mod', mod-mul-add, div-mul-add}
 use Rattle.std.proofs.Math.Nat.{mod-lt}
 use Rattle.outside.specs.ScratchView.{ScratchView}
@@ -9,7 +9,7 @@ use Rattle.line_store.specs.declared.Half.TheVariants.{First, Second}
 use Rattle.line_store.specs.declared.halves.Halves.{Halves}
 use Rattle.line_store.specs.Halves.{half_of}
 use Rattle.line_store.specs.Store.{line_at, NoneAlike}
-use Rattle.page_pair.specs.Pair.{Pair, page_of}
+use Rattle.page_pair.specs.Pair.{Pair, page_of, IsPair}
 use Rattle.file_pieces.specs.Records.{stated, line_in}
 use Rattle.file_pieces.specs.Alike.{TellsAlike, FindsFirst}
 use Rattle.plan_b.specs.declared.layout.Layout.{Layout}
@@ -18,7 +18,7 @@ use Rattle.plan_b.specs.declared.spots.Spots.{Spots}
 use Rattle.plan_b.specs.Layout.{IsLayout, page_number, place_on_page, lines_told}
 use Rattle.plan_b.specs.Held.{HoldsPage, HoldsRecords, IsLoaded, IsHeld}
 use Rattle.plan_b.specs.Spots.{spot_of, IsSpot, AreSpots, IsRecord, Follows, IfNear, Misses, FindsLast}
-use Rattle.plan_b.proofs.Layouts.{some-fit, place-fits}
+use Rattle.plan_b.proofs.Layouts.{some-fit, place-fits, row-fits-two}
 use Rattle.plan_b.proofs.HeldLemmas.{line-there}
 
 -- a number that is so much greater, where that stays below the divisor
@@ -206,3 +206,27 @@ record-within page l k s is record_ size =
     let place : s.at ≡ place_on_page l (k - 1) = at-spot l k s record_.spot in
     let fits : stated page s.at + 4 ≤ l.width = record_.fits in
     omega arith
+
+pub page-length : (p : Pair) (h : Half) → IsPair p → length (page_of p h) ≡ p.size
+page-length p First is = is.first
+page-length p Second is = is.second
+
+-- a record stands whole on its page, and so does the one behind it
+pub spot-fits : (l : Layout) (k : ℕ) (s : Spot) → IsLayout l → IsSpot l k s → s.at + l.width ≤ l.size
+spot-fits l k s is spot = omega (arith, at-spot l k s spot, place-fits l (k - 1) is)
+
+pub next-spot-fits : (l : Layout) (k : ℕ) (s : Spot) → IsLayout l → IsSpot l k s → s.index + 1 < l.per_page → (s.at + l.width) + l.width ≤ l.size
+next-spot-fits l k s is spot lt = omega (arith, spot.place, row-fits-two l s.index is lt)
+
+-- one more record that isn't this line, behind or before the others
+pub misses-more : (page : List ℕ) (l : Layout) (line : List ℕ) (from now : ℕ) (s : Spot) → IsSpot l now s → line_in page s.at ≢ line → Misses page l line from now → Misses page l line from (now + 1)
+misses-more page l line from now s spot other was i low high e = elim (cases_eq i now) [
+  | inl same ↦ other (ap (line_in page) (at-spot l now s spot ∙ ap (λ k. place_on_page l (k - 1)) (sym same)) ∙ e)
+  | inr ne ↦ was i low (omega (arith, high, ne)) e
+]
+
+pub misses-back : (page : List ℕ) (l : Layout) (line : List ℕ) (now to : ℕ) (s : Spot) → IsSpot l now s → line_in page s.at ≢ line → 1 ≤ now → Misses page l line (now + 1) to → Misses page l line (now - 1 + 1) to
+misses-back page l line now to s spot other some was i low high e = elim (cases_eq i now) [
+  | inl same ↦ other (ap (line_in page) (at-spot l now s spot ∙ ap (λ k. place_on_page l (k - 1)) (sym same)) ∙ e)
+  | inr ne ↦ was i (omega (arith, low, ne, some)) high e
+]

@@ -95,3 +95,9 @@ loop-k-preserved g c = record {
   other = λ h ne. c.in-Ok.ensures.other h ne ∙ c.loop-k.invariant.other h ne;
   keeps = keeps-more (seen_of c.args.layout c.args.places.now (g.C.Scratch.view c.args.scratch.now)) (seen_of c.args.layout c.loop-k.places (g.C.Scratch.view c.loop-k.scratch)) (seen_of c.args.layout c.first_on_page.new.places (g.C.Scratch.view c.first_on_page.new.scratch)) c.loop-k.invariant.keeps c.in-Ok.ensures.keeps;
 }
+
+pub overflow_add-k : goal.overflow_add-k
+overflow_add-k g c = omega (arith, c.in-Ok.ensures.within, c.ranges.to.fits)
+
+pub loop-k-smaller : goal.loop-k-smaller
+loop-k-smaller g c = omega (arith, c.loop-k-test.true, c.in-Ok.ensures.on)

@@ -101,3 +101,9 @@ loop-end-preserved g c = record {
   other = λ h ne. c.in-Ok-None.ensures.other h ne ∙ c.loop-end.invariant.other h ne;
   keeps = keeps-more (seen_of c.args.layout c.args.places.now (g.C.Scratch.view c.args.scratch.now)) (seen_of c.args.layout c.loop-end.places (g.C.Scratch.view c.loop-end.scratch)) (seen_of c.args.layout c.last_between.new.places (g.C.Scratch.view c.last_between.new.scratch)) c.loop-end.invariant.keeps c.in-Ok-None.ensures.keeps;
 }
+
+pub overflow_mul-most : goal.overflow_mul-most
+overflow_mul-most g c = omega (arith, c.loop-end.invariant.few)
+
+pub loop-end-smaller : goal.loop-end-smaller
+loop-end-smaller g c = omega (arith, c.back_from-k.ensures.low, c.back_from-k.ensures.high)

@@ -1,8 +1,10 @@
-use Rattle.std.proofs.Common.{◌≡◌, Some, sym, subst, ◌∙◌, refl, arith, ◌<◌}
+use Rattle.std.proofs.Common.{sym, subst, ◌∙◌, refl, arith, ◌<◌, ap, length}
 use Rattle.packed_pages.specs.Held.{IsLoaded}
 use Rattle.packed_pages.specs.Steps.{IsWhole, Follows}
 use Rattle.packed_pages.proofs.HeldLemmas.{held-more}
 use Rattle.packed_pages.proofs.Steps.{loaded-whole, follows-loaded, finds-first}
+use Rattle.std.proofs.lemmas.Option.{same_Some}
+use Rattle.packed_pages.proofs.Sizes.{page-small}
 use Rattle.packed_pages.proofs.alike.first_on_page.Goals as goal
 
 pub first_pass-pass-requires-clause-whole : goal.first_pass-pass-requires-clause-whole
@@ -19,10 +21,10 @@ returns-clause-held g c =
     let before : c.first_pass-pass.result.place.line < c.args.to = c.first_pass-pass.ensures.before in
     held-more c.load_line.new.pair c.load_line.new.pair c.args.layout c.load_line.new.places c.set.new.self (view c.load_line.new.scratch) (view c.load_line.new.scratch) c.args.half
     c.in-Ok.ensures.held refl refl (λ h ne. refl) c.set.ensures.other
-    (λ x is. let e : c.first_pass-pass.result.place ≡ x = (let f : Some c.first_pass-pass.result.place ≡ Some x = sym c.set.ensures.held ∙ is in cc) in
+    (λ x is. let e = same_Some c.first_pass-pass.result.place x (sym c.set.ensures.held ∙ is) in
     subst (IsLoaded c.load_line.new.pair c.args.layout (view c.load_line.new.scratch) c.args.half) e
     (follows-loaded c.load_line.new.pair c.args.layout (view c.load_line.new.scratch) c.args.half c.in-Ok.place c.first_pass-pass.result.place (c.in-Ok.ensures.held.loaded c.args.half c.in-Ok.place c.in-Ok.ensures.place)
-    (subst (λ page. Follows page c.in-Ok.place c.first_pass-pass.result.place) c.page.ensures.is c.first_pass-pass.ensures.follows) (omega arith)))
+    (subst (λ page. Follows page c.in-Ok.place c.first_pass-pass.result.place) c.page.ensures.is c.first_pass-pass.ensures.follows) (omega (arith, before, c.requires.high))))
 
 pub returns-clause-value : goal.returns-clause-value
 returns-clause-value g c lines told =
@@ -82,3 +84,12 @@ load_line-requires-clause-marked g c = c.requires.marked
 
 pub load_line-requires-clause-low : goal.load_line-requires-clause-low
 load_line-requires-clause-low g c = c.requires.low
+
+pub first_pass-pass-requires-clause-small : goal.first_pass-pass-requires-clause-small
+first_pass-pass-requires-clause-small g c = omega (arith, ap length c.page.ensures.is, page-small c.load_line.new.pair c.args.half c.page.ensures.pair)
+
+pub first_pass-pass-requires-clause-before : goal.first_pass-pass-requires-clause-before
+first_pass-pass-requires-clause-before g c = omega (arith, c.in-Ok.ensures.line, c.requires.order)
+
+pub load_line-requires-clause-high : goal.load_line-requires-clause-high
+load_line-requires-clause-high g c = omega (arith, c.requires.order, c.requires.high)

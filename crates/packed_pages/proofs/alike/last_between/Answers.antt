@@ -60,3 +60,9 @@ returns-clause-keeps g c = c.loop-k.invariant.keeps
 
 pub returns-clause-cause : goal.returns-clause-cause
 returns-clause-cause g c = tt
+
+pub overflow_add-k : goal.overflow_add-k
+overflow_add-k g c = omega (arith, c.in-Ok.ensures.within, c.ranges.to.fits)
+
+pub loop-k-smaller : goal.loop-k-smaller
+loop-k-smaller g c = omega (arith, c.loop-k-test.true, c.in-Ok.ensures.on)

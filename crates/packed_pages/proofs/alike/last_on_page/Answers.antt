@@ -1,9 +1,12 @@
-use Rattle.std.proofs.Common.{◌≡◌, Some, sym, subst, ◌∙◌, refl, arith, ◌+◌, ◌≤◌, ◌<◌}
+use Rattle.std.proofs.Common.{sym, subst, ◌∙◌, refl, arith, ◌+◌, ◌≤◌, ◌<◌, ap, length}
 use Rattle.line_store.specs.Store.{IsLastAlike}
 use Rattle.packed_pages.specs.Held.{IsLoaded}
 use Rattle.packed_pages.specs.Steps.{IsWhole, Follows}
 use Rattle.packed_pages.proofs.HeldLemmas.{held-more}
-use Rattle.packed_pages.proofs.Steps.{loaded-whole, follows-loaded, finds-last, place-after}
+use Rattle.packed_pages.proofs.Steps.{loaded-whole, follows-loaded, finds-last, place-after, last-between}
+use Rattle.std.proofs.lemmas.Option.{same_Some}
+use Rattle.packed_pages.proofs.Sizes.{page-small}
+use Rattle.std.specs.Prelude.{IfSome}
 use Rattle.packed_pages.proofs.alike.last_on_page.Goals as goal
 
 pub last_pass-pass-requires-clause-whole : goal.last_pass-pass-requires-clause-whole
@@ -22,10 +25,10 @@ returns-clause-held g c =
     let most : c.unwrap_or.result.line ≤ c.last_pass-pass.result.place.line = after.1 in
     held-more c.load_line.new.pair c.load_line.new.pair c.args.layout c.load_line.new.places c.set.new.self (view c.load_line.new.scratch) (view c.load_line.new.scratch) c.args.half
     c.in-Ok.ensures.held refl refl (λ h ne. refl) c.set.ensures.other
-    (λ x is. let e : c.unwrap_or.result ≡ x = (let f : Some c.unwrap_or.result ≡ Some x = sym c.set.ensures.held ∙ is in cc) in
+    (λ x is. let e = same_Some c.unwrap_or.result x (sym c.set.ensures.held ∙ is) in
     subst (IsLoaded c.load_line.new.pair c.args.layout (view c.load_line.new.scratch) c.args.half) e
     (follows-loaded c.load_line.new.pair c.args.layout (view c.load_line.new.scratch) c.args.half c.in-Ok.place c.unwrap_or.result (c.in-Ok.ensures.held.loaded c.args.half c.in-Ok.place c.in-Ok.ensures.place)
-    (subst (λ page. Follows page c.in-Ok.place c.unwrap_or.result) c.page.ensures.is after.0) (omega arith)))
+    (subst (λ page. Follows page c.in-Ok.place c.unwrap_or.result) c.page.ensures.is after.0) (omega (arith, before, most, c.requires.high))))
 
 pub returns-clause-value : goal.returns-clause-value
 returns-clause-value g c lines told =
@@ -90,3 +93,16 @@ load_line-requires-clause-marked g c = c.requires.marked
 
 pub load_line-requires-clause-low : goal.load_line-requires-clause-low
 load_line-requires-clause-low g c = c.requires.low
+
+pub last_pass-pass-requires-clause-small : goal.last_pass-pass-requires-clause-small
+last_pass-pass-requires-clause-small g c = omega (arith, ap length c.page.ensures.is, page-small c.load_line.new.pair c.args.half c.page.ensures.pair)
+
+pub last_pass-pass-requires-clause-before : goal.last_pass-pass-requires-clause-before
+last_pass-pass-requires-clause-before g c = omega (arith, c.in-Ok.ensures.line, c.requires.order)
+
+pub load_line-requires-clause-high : goal.load_line-requires-clause-high
+load_line-requires-clause-high g c = omega (arith, c.requires.order, c.requires.high)
+
+pub returns-clause-between : goal.returns-clause-between
+returns-clause-between g c = subst (λ o. IfSome o (λ w. (c.args.k ≤ w) × (w < c.last_pass-pass.result.place.line + 1))) (sym c.number_of.ensures)
+    (last-between c.page.result.now c.in-Ok.place c.args.line.now c.args.k (c.last_pass-pass.result.place.line + 1) c.last_pass-pass.result.alike c.in-Ok.ensures.line c.last_pass-pass.ensures.last)

@@ -1,4 +1,4 @@
-use Rattle.std.proofs.Common.{◌≡◌, ◌+◌, ◌-◌, ◌<◌, ◌≤◌, length, min, take, drop, refl, sym, ap, subst, ◌∙◌, arith}
+use Rattle.std.proofs.Common.{◌≡◌, ◌+◌, ◌-◌, ◌<◌, ◌≤◌, length, min, take, drop, refl, sym, ap, subst, ◌∙◌, arith, length-take}
 use Rattle.std.proofs.lemmas.List.{length-take}
 use Rattle.line_store.specs.declared.Half.TheVariants.{First, Second}
 use Rattle.outside.specs.ScratchView.{scratch_passes_none, scratch_passes_both}
@@ -6,6 +6,7 @@ use Rattle.page_pair.specs.Pair.{page_of}
 use Rattle.file_pieces.specs.Reading.{IsWhole}
 use Rattle.file_pieces.proofs.Windows.{part-of-front}
 use Rattle.packed_pages.proofs.Copyings.{copies-none, copies-more, copies-misfit, copy-fault}
+use Rattle.packed_pages.proofs.Sizes.{page-length}
 use Rattle.packed_pages.proofs.copying.copy_lines.Goals as goal
 
 pub loop-end-init : goal.loop-end-init
@@ -102,3 +103,21 @@ copy_line-requires-clause-size g c = c.requires.size ∙ sym c.loop-end.invarian
 
 pub copy_line-requires-clause-ready : goal.copy_line-requires-clause-ready
 copy_line-requires-clause-ready g c = c.loop-end.invariant.ready
+
+pub loop-end-smaller : goal.loop-end-smaller
+loop-end-smaller g c = omega (arith, c.in-Some.ensures.low, c.in-Some.ensures.high, length-take c.args.got c.page.result.now)
+
+pub slice_bounds-whole_line-end : goal.slice_bounds-whole_line-end
+slice_bounds-whole_line-end g c = omega (arith, length-take c.args.got c.page.result.now, c.requires.within, c.loop-end.invariant.size, ap length c.page.ensures.is, page-length c.loop-end.pair First c.page.ensures.pair)
+
+pub copy_line-requires-clause-low : goal.copy_line-requires-clause-low
+copy_line-requires-clause-low g c = omega (arith, c.in-Some.ensures.low)
+
+pub copy_line-requires-clause-high : goal.copy_line-requires-clause-high
+copy_line-requires-clause-high g c = omega (arith, c.in-Some.ensures.high, length-take c.args.got c.page.result.now, c.requires.within, c.loop-end.invariant.size)
+
+pub copy_line-requires-clause-few : goal.copy_line-requires-clause-few
+copy_line-requires-clause-few g c = omega (arith, c.in-Some.ensures.low, c.in-Some.ensures.high, length-take c.args.got c.page.result.now, c.requires.few, c.loop-end.invariant.count)
+
+pub whole_line-requires : goal.whole_line-requires
+whole_line-requires g c = omega (arith, c.loop-end.invariant.within, length-take c.args.got c.page.result.now, c.requires.within, c.loop-end.invariant.size, ap length c.page.ensures.is, page-length c.loop-end.pair First c.page.ensures.pair)

@@ -1,6 +1,7 @@
 use Rattle.std.proofs.Common.{◌<◌, ◌*◌, ◌+◌, arith, refl}
 use Rattle.packed_pages.proofs.Fillings.{behind-kept}
 use Rattle.outside.specs.ScratchView.{scratch_passes_both}
+use Rattle.packed_pages.proofs.Sizes.{pages-fit}
 use Rattle.packed_pages.proofs.filling.flush.Goals as goal
 
 pub write_page-requires-clause-behind : goal.write_page-requires-clause-behind
@@ -47,3 +48,12 @@ returns-in-Err-write_page-clause-passes g c = scratch_passes_both c.write_entry.
 
 pub returns-in-Err-write_page-clause-written : goal.returns-in-Err-write_page-clause-written
 returns-in-Err-write_page-clause-written g c = tt
+
+pub overflow_add-at : goal.overflow_add-at
+overflow_add-at g c = omega (arith, c.requires.layout.pages, c.requires.layout.few, pages-fit c.args.layout c.args.filling.room.pages c.requires.layout c.requires.ready.pages)
+
+pub overflow_mul-at-2 : goal.overflow_mul-at-2
+overflow_mul-at-2 g c = omega (arith, pages-fit c.args.layout c.args.filling.room.pages c.requires.layout c.requires.ready.pages)
+
+pub write_page-requires-clause-filled : goal.write_page-requires-clause-filled
+write_page-requires-clause-filled g c = omega (arith, c.requires.ready.filled, c.requires.size)

@@ -121,3 +121,6 @@ flush-requires-clause-ready g c = c.requires.ready
 
 pub make_record-requires-clause-read : goal.make_record-requires-clause-read
 make_record-requires-clause-read g c = c.requires.read
+
+pub returns-then-filled-bytes-clause-ready : goal.returns-then-filled-bytes-clause-ready
+returns-then-filled-bytes-clause-ready g c = record { filled = c.if-filled-bytes.true; pages = c.requires.ready.pages; few = omega (arith, c.requires.few); behind = c.requires.ready.behind }

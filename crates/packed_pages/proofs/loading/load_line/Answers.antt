@@ -1,5 +1,5 @@
-use Rattle.std.proofs.Common.{◌≡◌, Some, sym, subst, ◌∙◌, arith, refl, ap}
-use Rattle.std.proofs.lemmas.Option.{none-some}
+use Rattle.std.proofs.Common.{sym, subst, ◌∙◌, arith, refl, ap}
+use Rattle.std.proofs.lemmas.Option.{none-some, same_Some}
 use Rattle.packed_pages.specs.declared.places.Place.{Place}
 use Rattle.packed_pages.specs.Layout.{IsPageOf, lines_told}
 use Rattle.packed_pages.specs.Held.{IsLoaded}
@@ -12,12 +12,12 @@ returns-in-Ok-clause-held g c =
     let view = g.C.Scratch.view in
     held-more c.args.pair.now c.fetch_line.new.pair c.args.layout c.args.places.now c.set.new.self (view c.args.scratch.now) (view c.fetch_line.new.scratch) c.args.half
     c.requires.held c.fetch_line.ensures.size c.fetch_line.ensures.told c.fetch_line.ensures.other c.set.ensures.other
-    (λ x is. let e : c.in-Ok.place ≡ x = (let f : Some c.in-Ok.place ≡ Some x = sym c.set.ensures.held ∙ is in cc) in
+    (λ x is. let e = same_Some c.in-Ok.place x (sym c.set.ensures.held ∙ is) in
     subst (IsLoaded c.fetch_line.new.pair c.args.layout (view c.fetch_line.new.scratch) c.args.half) e c.in-Ok.ensures.loaded)
 
 pub returns-in-Ok-clause-page : goal.returns-in-Ok-clause-page
 returns-in-Ok-clause-page g c x is b told =
-    let e : c.in-Ok.place ≡ x = (let f : Some c.in-Ok.place ≡ Some x = sym c.set.ensures.held ∙ is in cc) in
+    let e = same_Some c.in-Ok.place x (sym c.set.ensures.held ∙ is) in
     let on = c.in-Ok.ensures.loaded.on in
     let page = on.told b told in
     subst (λ (p : Place). IsPageOf c.args.layout b c.args.k p.page) e

@@ -1,4 +1,4 @@
-use Rattle.std.proofs.Common.{refl, sym, ◌∙◌}
+use Rattle.std.proofs.Common.{refl, sym, ◌∙◌, arith}
 use Rattle.outside.specs.ScratchView.{scratch_passes_both}
 use Rattle.packed_pages.proofs.loading.open_page.Goals as goal
 
@@ -88,3 +88,12 @@ read_page-requires-clause-packs g c b told = c.requires.packs b (sym c.find_page
 
 pub read_page-requires-clause-size : goal.read_page-requires-clause-size
 read_page-requires-clause-size g c = c.requires.size
+
+pub returns-in-Err-clause-reads : goal.returns-in-Err-clause-reads
+returns-in-Err-clause-reads g c = λ digits wide. omega (arith, c.find_page.ensures.reads digits wide)
+
+pub returns-in-Err-read_page-clause-reads : goal.returns-in-Err-read_page-clause-reads
+returns-in-Err-read_page-clause-reads g c = λ digits wide. omega (arith, c.find_page.ensures.reads digits wide, c.read_page.ensures.reads)
+
+pub returns-in-Ok-read_page-clause-reads : goal.returns-in-Ok-read_page-clause-reads
+returns-in-Ok-read_page-clause-reads g c = λ digits wide. omega (arith, c.find_page.ensures.reads digits wide, c.read_page.ensures.reads)

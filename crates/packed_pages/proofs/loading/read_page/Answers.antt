@@ -4,6 +4,7 @@ use Rattle.packed_pages.proofs.Spans.{page-there}
 use Rattle.line_store.specs.declared.Half.{Half}
 use Rattle.line_store.specs.declared.Half.TheVariants.{First, Second}
 use Rattle.page_pair.specs.Pair.{Pair, page_of, with_page}
+use Rattle.packed_pages.proofs.Sizes.{pages-fit}
 use Rattle.packed_pages.proofs.loading.read_page.Goals as goal
 
 -- a page that is lent leaves the size and the other page
@@ -72,3 +73,9 @@ returns-in-Err-clause-told g c = c.read_at.ensures.same
 
 pub returns-in-Err-clause-page : goal.returns-in-Err-clause-page
 returns-in-Err-clause-page g c = tt
+
+pub overflow_add-layout : goal.overflow_add-layout
+overflow_add-layout g c = omega (arith, c.requires.there, c.requires.layout.pages, c.requires.layout.few, pages-fit c.args.layout c.args.page c.requires.layout (omega (arith, c.requires.there)))
+
+pub overflow_mul-page : goal.overflow_mul-page
+overflow_mul-page g c = omega (arith, pages-fit c.args.layout c.args.page c.requires.layout (omega (arith, c.requires.there)))

@@ -38,3 +38,6 @@ returns-in-Ok-clause-layout g c =
       pages = omega arith;
       some = λ lt. (let begun : 0 < c.in-Ok.now.room.filled = sound.begun lt in omega arith);
     }
+
+pub measure-requires-clause-stated : goal.measure-requires-clause-stated
+measure-requires-clause-stated g c = c.requires.stated

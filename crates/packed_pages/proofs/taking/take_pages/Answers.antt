@@ -1,8 +1,9 @@
 use Rattle.outside.specs.ScratchView.{scratch_passes_none}
 use Rattle.std.proofs.Common.{◌∙◌, refl, sym, subst, arith}
 use Rattle.outside.proofs.Views.{untouched_both}
-use Rattle.file_pieces.proofs.Readings.{told-same}
+use Rattle.file_pieces.proofs.Readings.{told-same, take-later}
 use Rattle.packed_pages.specs.Copying.{IsWritten}
+use Rattle.packed_pages.proofs.Takings.{open-cause}
 use Rattle.packed_pages.proofs.taking.take_pages.Goals as goal
 
 pub returns-in-Err-measure_layout-clause-untouched : goal.returns-in-Err-measure_layout-clause-untouched
@@ -154,3 +155,10 @@ copy_anew-requires-clause-stated g c text told = c.in-Ok.ensures.size text (sym 
 
 pub measure_layout-requires-clause-stated : goal.measure_layout-requires-clause-stated
 measure_layout-requires-clause-stated g c text told = c.in-Ok.ensures.size text (sym (told-same c.args.name.now c.in-Ok.ensures.untouched) ∙ told)
+
+pub returns-in-Err-copy_anew-clause-cause : goal.returns-in-Err-copy_anew-clause-cause
+returns-in-Err-copy_anew-clause-cause g c =
+    let scratch = g.C.Scratch.view in
+    let tree = g.T.Tree.view in
+    open-cause c.in-Err-copy_anew.fault c.args.pair.now.size (scratch c.args.scratch.now) (scratch c.copy_anew.new.scratch) (tree c.args.tree.now) (tree c.copy_anew.new.tree) c.args.name.now
+    (take-later c.in-Err-copy_anew.fault (scratch c.args.scratch.now) (scratch c.args.scratch.now) (scratch c.copy_anew.new.scratch) (tree c.args.tree.now) (tree c.measure_layout.new.tree) (tree c.copy_anew.new.tree) (scratch_passes_none _) (untouched_both c.size_of.ensures.untouched c.measure_layout.ensures.untouched) c.in-Err-copy_anew.ensures.cause)

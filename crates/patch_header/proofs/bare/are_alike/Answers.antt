@@ -1,6 +1,6 @@
-use Rattle.std.proofs.Common.{◌≡◌, ◌+◌, length, drop, slice_range, sym, ap, ◌∙◌}
+use Rattle.std.proofs.Common.{◌≡◌, ◌+◌, length, drop, slice_range, sym, ap, ◌∙◌, subst, arith}
 use Rattle.std.specs.Prelude.{bytes_eq}
-use Rattle.bstr.specs.Find.{is_byte}
+use Rattle.bstr.specs.Find.{is_byte, IsFirstByte}
 use Rattle.patch_header.proofs.Bytes.{is_position}
 use Rattle.patch_header.proofs.BareLemmas.{alike-none, alike-one, alike-both, rest-all}
 use Rattle.patch_header.proofs.bare.are_alike.Goals as goal
@@ -24,3 +24,9 @@ returns-in-Some-find_byte c =
     same ∙ sym (alike-both old new k l
     (sym (is_position (is_byte 47) old c.find_byte.result c.find_byte.ensures) ∙ c.in-Some.is)
     (sym (is_position (is_byte 47) new c.find_byte-in-Some.result c.find_byte-in-Some.ensures) ∙ c.in-Some-find_byte.is))
+
+pub slice_bounds-old_rest-count : goal.slice_bounds-old_rest-count
+slice_bounds-old_rest-count c = omega (arith, (subst (IsFirstByte (is_byte 47) c.args.old.now) c.in-Some.is c.find_byte.ensures).0.high)
+
+pub slice_bounds-new_rest-count : goal.slice_bounds-new_rest-count
+slice_bounds-new_rest-count c = omega (arith, (subst (IsFirstByte (is_byte 47) c.args.new.now) c.in-Some-find_byte.is c.find_byte-in-Some.ensures).0.high)

@@ -41,3 +41,24 @@ returns-in-Some-clause-rest c = header-split c.args.text.now c.args.at c.in-Some
 
 pub returns-in-Some-clause-dots : goal.returns-in-Some-clause-dots
 returns-in-Some-clause-dots c = header-dots c.args.text.now c.args.at c.in-Some.end (c.args.line + 1) c.extended_from-block.result c.in-Some.ensures c.extended_from-block.ensures
+
+pub returns-in-Some-clause-on : goal.returns-in-Some-clause-on
+returns-in-Some-clause-on c = λ more. omega (arith, c.in-Some.ensures.low, c.extended_from-block.ensures.low)
+
+pub returns-in-Some-clause-within : goal.returns-in-Some-clause-within
+returns-in-Some-clause-within c = c.extended_from-block.ensures.within
+
+pub returns-in-Some-clause-count : goal.returns-in-Some-clause-count
+returns-in-Some-clause-count c = omega (arith, c.in-Some.ensures.low, c.extended_from-block.ensures.count)
+
+pub extended_from-block-requires-clause-short : goal.extended_from-block-requires-clause-short
+extended_from-block-requires-clause-short c = c.requires.short
+
+pub extended_from-block-requires-clause-small : goal.extended_from-block-requires-clause-small
+extended_from-block-requires-clause-small c = omega (arith, c.requires.small, c.in-Some.ensures.low)
+
+pub extended_from-block-requires-clause-within : goal.extended_from-block-requires-clause-within
+extended_from-block-requires-clause-within c = c.in-Some.ensures.high
+
+pub returns-in-None-clause-within : goal.returns-in-None-clause-within
+returns-in-None-clause-within c = c.requires.within

@@ -19,3 +19,9 @@ returns-then-not-is_extended c = scan-stops c.args.text.now c.args.at c.args.num
 
 pub returns : goal.returns
 returns c = scan-ends c.args.text.now c.args.at c.args.number c.lines.here c.lines.invariant c.in_default.ensures.1
+
+pub lines-preserved : goal.lines-preserved
+lines-preserved c = c.block_passed-here.ensures.scanned c.args.at c.args.number c.lines.invariant
+
+pub block_passed-here-requires-clause-lies : goal.block_passed-here-requires-clause-lies
+block_passed-here-requires-clause-lies c = c.lines.invariant.lies

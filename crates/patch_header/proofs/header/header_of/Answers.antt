@@ -1,3 +1,4 @@
+use Rattle.std.proofs.Common.{refl}
 use Rattle.patch_header.proofs.header.header_of.Goals as goal
 
 pub name_in-old_name-requires-clause-lies : goal.name_in-old_name-requires-clause-lies
@@ -26,3 +27,30 @@ to_in-requires-clause-lies c = c.requires.led
 
 pub returns-clause-pieces : goal.returns-clause-pieces
 returns-clause-pieces c = record { old_name = c.name_in-old_name.ensures.piece; new_name = c.name_in.ensures.piece; index = c.name_in-2.ensures.piece; prereq = c.word_in.ensures.piece; from = c.from_in.ensures.piece; to = c.to_in.ensures.piece }
+
+pub to_in-requires-clause-short : goal.to_in-requires-clause-short
+to_in-requires-clause-short c = c.requires.short
+
+pub from_in-requires-clause-short : goal.from_in-requires-clause-short
+from_in-requires-clause-short c = c.requires.short
+
+pub word_in-requires-clause-short : goal.word_in-requires-clause-short
+word_in-requires-clause-short c = c.requires.short
+
+pub name_in-requires-2-clause-short : goal.name_in-requires-2-clause-short
+name_in-requires-2-clause-short c = c.requires.short
+
+pub name_in-requires-clause-short : goal.name_in-requires-clause-short
+name_in-requires-clause-short c = c.requires.short
+
+pub name_in-old_name-requires-clause-short : goal.name_in-old_name-requires-clause-short
+name_in-old_name-requires-clause-short c = c.requires.short
+
+pub returns-clause-opening : goal.returns-clause-opening
+returns-clause-opening c = refl
+
+pub returns-clause-form : goal.returns-clause-form
+returns-clause-form c = refl
+
+pub returns-clause-at : goal.returns-clause-at
+returns-clause-at c = refl

@@ -1,4 +1,4 @@
-use Rattle.std.proofs.Common.{◌≡◌, true, not, drop, sym, rules}
+use Rattle.std.proofs.Common.{◌≡◌, true, not, drop, sym, rules, arith}
 use Rattle.std.proofs.lemmas.Bool.{and_from}
 use Rattle.line_list.specs.Lines.{lines}
 use Rattle.hunk_core.specs.declared.Form.TheVariants.{Unified, Context, Normal}
@@ -21,3 +21,24 @@ returns-then-is_binary c =
 
 pub returns-then-stops_bare : goal.returns-then-stops_bare
 returns-then-stops_bare c = sym ((bare-words c.args.ways (lines (drop c.args.at c.args.text.now))).1 (sym c.if-stops_bare.ensures))
+
+pub at_opening-requires : goal.at_opening-requires
+at_opening-requires c = omega (arith, c.requires.line.low, c.requires.line.high)
+
+pub at_opening-requires-then-admits-2 : goal.at_opening-requires-then-admits-2
+at_opening-requires-then-admits-2 c = omega (arith, c.requires.line.low, c.requires.line.high)
+
+pub at_opening-requires-then-admits-3 : goal.at_opening-requires-then-admits-3
+at_opening-requires-then-admits-3 c = omega (arith, c.requires.line.low, c.requires.line.high)
+
+pub slice_bounds-opens_script-count : goal.slice_bounds-opens_script-count
+slice_bounds-opens_script-count c = omega (arith, c.requires.line.low)
+
+pub slice_bounds-is_binary-count : goal.slice_bounds-is_binary-count
+slice_bounds-is_binary-count c = omega (arith, c.requires.line.low)
+
+pub stops_bare-requires-clause-short : goal.stops_bare-requires-clause-short
+stops_bare-requires-clause-short c = c.requires.short
+
+pub stops_bare-requires-clause-line : goal.stops_bare-requires-clause-line
+stops_bare-requires-clause-line c = c.requires.line

@@ -1,6 +1,6 @@
-use Rattle.std.proofs.Common.{slice_range}
+use Rattle.std.proofs.Common.{slice_range, ◌∙◌, ap}
 use Rattle.patch_header.specs.Region.{row, LiesIn}
-use Rattle.patch_header.proofs.SeenLemmas.{later-lies, seen-push}
+use Rattle.patch_header.proofs.SeenLemmas.{later-lies, seen-push, later, seen-made}
 use Rattle.patch_header.proofs.region.passed.Goals as goal
 
 pub returns-clause-lies : goal.returns-clause-lies
@@ -14,4 +14,27 @@ returns-clause-lies c = record {
 
 pub returns-clause-is : goal.returns-clause-is
 returns-clause-is c = λ rs is.
-    rw (c.later.ensures, c.tail_of.ensures.is, c.later-2.ensures, c.tail_of-2.ensures.is, c.later-3.ensures, c.tail_of-3.ensures.is, c.later-4.ensures, c.tail_of-4.ensures.is, c.later-5.ensures, c.tail_of-5.ensures.is) (seen-push c.args.seen rs (row c.args.number c.args.at (slice_range c.args.text.now c.args.at c.args.end)) is)
+    let seen = c.args.seen in
+    let line = row c.args.number c.args.at (slice_range c.args.text.now c.args.at c.args.end) in
+    seen-made seen line _
+    (c.later.ensures ∙ ap (later seen.minus) c.tail_of.ensures.is)
+    (c.later-2.ensures ∙ ap (later seen.plus) c.tail_of-2.ensures.is)
+    (c.later-3.ensures ∙ ap (later seen.stars) c.tail_of-3.ensures.is)
+    (c.later-4.ensures ∙ ap (later seen.index) c.tail_of-4.ensures.is)
+    (c.later-5.ensures ∙ ap (later seen.prereq) c.tail_of-5.ensures.is)
+    ∙ seen-push seen rs line is
+
+pub tail_of-requires : goal.tail_of-requires
+tail_of-requires c = c.requires.line
+
+pub tail_of-requires-2 : goal.tail_of-requires-2
+tail_of-requires-2 c = c.requires.line
+
+pub tail_of-requires-3 : goal.tail_of-requires-3
+tail_of-requires-3 c = c.requires.line
+
+pub tail_of-requires-4 : goal.tail_of-requires-4
+tail_of-requires-4 c = c.requires.line
+
+pub tail_of-requires-5 : goal.tail_of-requires-5
+tail_of-requires-5 c = c.requires.line

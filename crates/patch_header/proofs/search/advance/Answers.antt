@@ -29,3 +29,23 @@ returns-clause-passed c = λ ways at line git h none.
       low = omega (arith, low, far);
       count = omega (arith, count, far);
     }
+
+pub returns-clause-lawful : goal.returns-clause-lawful
+returns-clause-lawful c = record {
+  within = c.requires.line.high;
+  small = omega (arith, c.requires.line.low, c.requires.lawful.small);
+  lies = c.passed.ensures.lies;
+  trails = c.trail_behind.ensures.lies;
+}
+
+pub trail_behind-requires-clause-lies : goal.trail_behind-requires-clause-lies
+trail_behind-requires-clause-lies c = c.requires.lawful.trails
+
+pub trail_behind-requires-clause-line : goal.trail_behind-requires-clause-line
+trail_behind-requires-clause-line c = c.requires.line
+
+pub passed-requires-clause-lies : goal.passed-requires-clause-lies
+passed-requires-clause-lies c = c.requires.lawful.lies
+
+pub passed-requires-clause-line : goal.passed-requires-clause-line
+passed-requires-clause-line c = c.requires.line

@@ -80,3 +80,18 @@ pub returns-clause-comes : goal.returns-clause-comes
 returns-clause-comes c =
     let passed = c.lines.invariant.passed in
     quiet-end c.args.ways c.args.text.now c.args.at passed.region c.lines.here.at passed.is_region c.in_default.ensures.1
+
+pub step_of-requires-clause-short : goal.step_of-requires-clause-short
+step_of-requires-clause-short c = c.requires.short
+
+pub advance-here-requires-clause-short : goal.advance-here-requires-clause-short
+advance-here-requires-clause-short c = c.requires.short
+
+pub stop_at-requires-clause-short : goal.stop_at-requires-clause-short
+stop_at-requires-clause-short c = c.requires.short
+
+pub returns-clause-known : goal.returns-clause-known
+returns-clause-known c = λ e. tt
+
+pub returns-clause-lies : goal.returns-clause-lies
+returns-clause-lies c = tt

@@ -12,6 +12,7 @@ use Rattle.patch_header.proofs.GitLemmas.{led-is, no-led}
 use Rattle.patch_header.proofs.Stands.{and_left, and_right, stop-opens, bare-words, stops-begins}
 use Rattle.patch_header.proofs.StepLemmas.{bare-begins}
 use Rattle.patch_header.proofs.Rows.{stands-within}
+use Rattle.patch_header.specs.Content.{has_dot}
 use Rattle.patch_header.proofs.search.step_of.Goals as goal
 
 pub returns-in-Opening-clause-comes : goal.returns-in-Opening-clause-comes
@@ -97,3 +98,39 @@ returns-in-Bare-clause-lies c = λ at line h s.
       plain = λ e. absurd (false≢true (sym e ∙ git));
       pieces = c.bare_of.ensures.pieces;
     }
+
+pub returns-in-Binary-clause-comes : goal.returns-in-Binary-clause-comes
+returns-in-Binary-clause-comes c = λ at line h s. record { region = h.region; place = c.args.here.at; is_region = h.is_region; stands = s ∙ ap Some c.in-Binary.is; counted = h.number }
+
+pub header_of-requires-clause-led : goal.header_of-requires-clause-led
+header_of-requires-clause-led c = c.led_by-led.ensures.lies c.args.text.now c.requires.lawful.trails
+
+pub returns-in-Opening-clause-dots : goal.returns-in-Opening-clause-dots
+returns-in-Opening-clause-dots c = λ e. ap (λ p. has_dot (lines (drop p c.args.text.now))) c.header_of.ensures.at ∙ e
+
+pub returns-in-Bare-clause-dots : goal.returns-in-Bare-clause-dots
+returns-in-Bare-clause-dots c = λ e. ap (λ p. has_dot (lines (drop p c.args.text.now))) c.bare_of.ensures.at ∙ e
+
+pub returns-in-Binary-clause-lies : goal.returns-in-Binary-clause-lies
+returns-in-Binary-clause-lies c = λ at line h s. tt
+
+pub returns-in-Binary-clause-dots : goal.returns-in-Binary-clause-dots
+returns-in-Binary-clause-dots c = λ e. tt
+
+pub header_of-requires-clause-short : goal.header_of-requires-clause-short
+header_of-requires-clause-short c = c.requires.short
+
+pub header_of-requires-clause-lies : goal.header_of-requires-clause-lies
+header_of-requires-clause-lies c = c.requires.lawful.lies
+
+pub bare_of-requires-clause-short : goal.bare_of-requires-clause-short
+bare_of-requires-clause-short c = c.requires.short
+
+pub bare_of-requires-clause-lies : goal.bare_of-requires-clause-lies
+bare_of-requires-clause-lies c = c.requires.lawful.lies
+
+pub bare_of-requires-clause-small : goal.bare_of-requires-clause-small
+bare_of-requires-clause-small c = c.requires.lawful.small
+
+pub bare_of-requires-clause-line : goal.bare_of-requires-clause-line
+bare_of-requires-clause-line c = c.requires.line

@@ -3,7 +3,7 @@ use Rattle.line_list.specs.Lines.{lines}
 use Rattle.plan_a.specs.Cut.{IsFirstLong}
 use Rattle.plan_a.specs.Places.{places_of}
 use Rattle.plan_a.proofs.PlaceLemmas.{takes-less}
-use Rattle.plan_a.proofs.Reading.{IsCutSo, cut-start, cut-more, read-within, read-piece, read-length, read-end}
+use Rattle.plan_a.proofs.Reading.{IsCutSo, cut-start, cut-more, read-within, read-piece, read-length, read-end, cut-end}
 use Rattle.plan_a.proofs.FirstLong.{NoneLong, none-start, none-more, none-here, none-end, refused}
 use Rattle.plan_a.proofs.cut.ends_of.Goals as goal
 
@@ -42,3 +42,9 @@ returns-clause-short c = none-end c.args.size (lines c.args.text.now) (length (p
 
 pub push-requires : goal.push-requires
 push-requires c = takes-less c.loop-end.ends c.in-Some.end (length c.args.text.now) c.in-Some.ensures.end.high c.loop-end.invariant.takes
+
+pub returns-clause-cut : goal.returns-clause-cut
+returns-clause-cut c = cut-end c.args.text.now (places_of c.loop-end.ends) c.loop-end.at c.loop-end.invariant.cut c.in_default.ensures.end
+
+pub next_line_by-requires-clause-feeds : goal.next_line_by-requires-clause-feeds
+next_line_by-requires-clause-feeds c = c.loop-end.invariant.feeds

@@ -89,3 +89,12 @@ loop-k-preserved g c = record {
   other = λ h ne. c.in-Ok.ensures.other h ne ∙ c.loop-k.invariant.other h ne;
   keeps = keeps-more (seen_of c.args.layout c.args.halves.now (g.C.Scratch.view c.args.scratch.now)) (seen_of c.args.layout c.loop-k.halves (g.C.Scratch.view c.loop-k.scratch)) (seen_of c.args.layout c.first_on_page.new.halves (g.C.Scratch.view c.first_on_page.new.scratch)) c.loop-k.invariant.keeps c.in-Ok.ensures.keeps;
 }
+
+pub overflow_add-k : goal.overflow_add-k
+overflow_add-k g c = omega (arith, c.in-Ok.ensures.within, c.ranges.to.fits)
+
+pub returns-then-pass-clause-within : goal.returns-then-pass-clause-within
+returns-then-pass-clause-within g c = (omega (arith, c.loop-k.invariant.from, c.in-Ok.ensures.on), c.in-Ok.ensures.within)
+
+pub loop-k-smaller : goal.loop-k-smaller
+loop-k-smaller g c = omega (arith, c.loop-k-test.true, c.in-Ok.ensures.on)

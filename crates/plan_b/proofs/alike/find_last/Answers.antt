@@ -90,3 +90,9 @@ loop-end-preserved g c = record {
   other = λ h ne. c.in-Ok.ensures.other h ne ∙ c.loop-end.invariant.other h ne;
   keeps = keeps-more (seen_of c.args.layout c.args.halves.now (g.C.Scratch.view c.args.scratch.now)) (seen_of c.args.layout c.loop-end.halves (g.C.Scratch.view c.loop-end.scratch)) (seen_of c.args.layout c.last_on_page.new.halves (g.C.Scratch.view c.last_on_page.new.scratch)) c.loop-end.invariant.keeps c.in-Ok.ensures.keeps;
 }
+
+pub returns-then-pass-clause-within : goal.returns-then-pass-clause-within
+returns-then-pass-clause-within g c = (c.in-Ok.ensures.low, omega (arith, c.in-Ok.ensures.within, c.loop-end.invariant.to))
+
+pub loop-end-smaller : goal.loop-end-smaller
+loop-end-smaller g c = omega (arith, c.in-Ok.ensures.within, c.in-Ok.ensures.low)

@@ -8,7 +8,7 @@ use Rattle.file_pieces.specs.Reading.{told_file}
 use Rattle.plan_b.specs.Copying.{IsCopied}
 use Rattle.file_pieces.proofs.Windows.{none-unless}
 use Rattle.plan_b.proofs.Layouts.{some-fit}
-use Rattle.file_pieces.proofs.Readings.{told-same}
+use Rattle.file_pieces.proofs.Readings.{told-same, take-later}
 use Rattle.plan_b.proofs.Copyings.{ready-none, copied-none, written-all, end-fault, copied-count}
 use Rattle.plan_b.proofs.copying.copy_anew.Goals as goal
 
@@ -130,3 +130,15 @@ returns-in-Err-clause-written g c = tt
 
 pub copy_piece-requires-clause-fits : goal.copy_piece-requires-clause-fits
 copy_piece-requires-clause-fits g c text told = (c.requires.measured text (sym (told-same c.args.name.now c.loop-copied.invariant.untouched) ∙ told)).fits
+
+pub loop-copied-smaller : goal.loop-copied-smaller
+loop-copied-smaller g c = omega (arith, c.in-Ok-copy_piece.ensures.on, c.loop-copied-test.true)
+
+pub copy_piece-requires-clause-within : goal.copy_piece-requires-clause-within
+copy_piece-requires-clause-within g c = c.loop-copied-test.true
+
+pub returns-in-Err-copy_piece-clause-cause : goal.returns-in-Err-copy_piece-clause-cause
+returns-in-Err-copy_piece-clause-cause g c =
+    let scratch = g.C.Scratch.view in
+    let tree = g.T.Tree.view in
+    take-later c.in-Err-copy_piece.fault (scratch c.args.scratch.now) (scratch c.loop-copied.scratch) (scratch c.copy_piece.new.scratch) (tree c.args.tree.now) (tree c.loop-copied.tree) (tree c.copy_piece.new.tree) c.loop-copied.invariant.passes c.loop-copied.invariant.untouched c.in-Err-copy_piece.ensures.cause

@@ -45,10 +45,10 @@ returns-then-now-eq0-clause-cause g c =
     let piece : length (take c.in-Ok.got (page_of c.read_piece.new.pair First)) ≡ min c.in-Ok.got (length (page_of c.read_piece.new.pair First)) = length-take c.in-Ok.got (page_of c.read_piece.new.pair First) in
     let none : c.in-Ok-copy_lines.now.at ≡ 0 = c.if-now-eq0.true in
     let full : c.in-Ok.got ≡ c.args.layout.size = elim (cases_eq (c.args.copied.at + c.in-Ok.got) c.args.length) [
-      | inl e ↦ absurd (let last : c.in-Ok-copy_lines.now.at ≡ length (take c.in-Ok.got (page_of c.read_piece.new.pair First)) = c.in-Ok-copy_lines.ensures.left.last (eq-eqb _ _ e) in omega arith)
-      | inr ne ↦ omega arith
+      | inl e ↦ absurd (let last : c.in-Ok-copy_lines.now.at ≡ length (take c.in-Ok.got (page_of c.read_piece.new.pair First)) = c.in-Ok-copy_lines.ensures.left.last (eq-eqb _ _ e) in omega (arith, last, none, piece, page, n, size, sized, c.requires.within))
+      | inr ne ↦ omega (arith, ne, n, size, c.requires.within)
     ] in (
-      (λ e. omega arith),
+      (λ e. omega (arith, e, full, high, low, sized)),
       none-unless _ (λ f told.
           let file : told_file (tree c.args.tree.now) c.args.name.now ≡ Some (bytes_at f c.args.name.now) = rw told refl in
           let len : length (bytes_at f c.args.name.now) ≡ c.args.length = c.requires.stated (bytes_at f c.args.name.now) file in
@@ -58,7 +58,7 @@ returns-then-now-eq0-clause-cause g c =
           (subst (λ k. HasNoFeed (drop k (take c.in-Ok.got (page_of c.read_piece.new.pair First)))) none c.in-Ok-copy_lines.ensures.left.open_)) in
           let fits : c.args.layout.width ≡ 4 + longest (lines (bytes_at f c.args.name.now)) = c.requires.fits (bytes_at f c.args.name.now) file in
           let short : longest (lines (drop c.args.copied.at (bytes_at f c.args.name.now))) ≤ longest (lines (bytes_at f c.args.name.now)) = copied-short c.args.layout _ _ _ c.args.copied.at c.args.copied.filling (bytes_at f c.args.name.now) c.requires.copied file in
-          omega arith),
+          omega (arith, wide, fits, short, full, high, low)),
     )
 
 pub returns-clause-copied : goal.returns-clause-copied
@@ -184,3 +184,18 @@ returns-in-Err-clause-within g c = tt
 
 pub returns-in-Err-clause-copied : goal.returns-in-Err-clause-copied
 returns-in-Err-clause-copied g c = tt
+
+pub overflow_sub-result : goal.overflow_sub-result
+overflow_sub-result g c = c.requires.layout.low
+
+pub overflow_add-result : goal.overflow_add-result
+overflow_add-result g c = omega (arith, c.in-Ok-copy_lines.ensures.within, c.in-Ok.ensures.count, c.requires.short, c.requires.within)
+
+pub copy_lines-requires-clause-few : goal.copy_lines-requires-clause-few
+copy_lines-requires-clause-few g c = omega (arith, c.requires.few, c.in-Ok.ensures.count, c.requires.short, c.requires.within)
+
+pub copy_lines-requires-clause-within : goal.copy_lines-requires-clause-within
+copy_lines-requires-clause-within g c = omega (arith, c.in-Ok.ensures.count, c.in-Ok.ensures.size)
+
+pub overflow_add-is_last : goal.overflow_add-is_last
+overflow_add-is_last g c = omega (arith, c.in-Ok.ensures.count, c.requires.short, c.requires.within)

@@ -5,6 +5,7 @@ use Rattle.file_pieces.specs.Records.{padded}
 use Rattle.plan_b.proofs.Fillings.{page-flushed}
 use Rattle.plan_b.proofs.Copyings.{pages-more, pages-all}
 use Rattle.outside.specs.ScratchView.{scratch_passes_none}
+use Rattle.plan_b.proofs.Layouts.{rows-fit, pages-few, pages-fit}
 use Rattle.plan_b.proofs.copying.finish.Goals as goal
 
 pub returns-then-filling-eq0-clause-pages : goal.returns-then-filling-eq0-clause-pages
@@ -60,3 +61,17 @@ returns-in-Err-clause-count g c = tt
 
 pub returns-in-Err-clause-pages : goal.returns-in-Err-clause-pages
 returns-in-Err-clause-pages g c = tt
+
+pub overflow_mul-filling : goal.overflow_mul-filling
+overflow_mul-filling g c =
+    let few = pages-few c.args.layout c.args.filling.pages c.args.filling.records c.requires.layout c.requires.ready.few in
+    omega (arith, pages-fit c.args.layout c.args.filling.pages c.requires.layout few)
+
+pub write_page-requires-clause-filled : goal.write_page-requires-clause-filled
+write_page-requires-clause-filled g c = omega (arith, rows-fit c.args.layout c.args.filling.records c.requires.layout (omega (arith, c.requires.ready.some)), c.requires.size)
+
+pub write_page-requires-clause-behind : goal.write_page-requires-clause-behind
+write_page-requires-clause-behind g c = c.requires.ready.behind
+
+pub overflow_mul-filled : goal.overflow_mul-filled
+overflow_mul-filled g c = omega (arith, rows-fit c.args.layout c.args.filling.records c.requires.layout (omega (arith, c.requires.ready.some)), c.requires.layout.sized.1)

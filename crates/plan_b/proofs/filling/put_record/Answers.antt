@@ -4,7 +4,7 @@ use Rattle.line_store.specs.declared.Half.TheVariants.{First, Second}
 use Rattle.page_pair.specs.Pair.{page_of}
 use Rattle.file_pieces.specs.Records.{padded}
 use Rattle.plan_b.proofs.Fillings.{filled-more, filled-full, ready-full}
-use Rattle.plan_b.proofs.Layouts.{rows-fit}
+use Rattle.plan_b.proofs.Layouts.{rows-fit, row-fits, pages-few, pages-fit}
 use Rattle.outside.specs.ScratchView.{scratch_passes_none}
 use Rattle.plan_b.proofs.filling.put_record.Goals as goal
 
@@ -86,3 +86,26 @@ returns-in-Err-clause-filled g c = tt
 
 pub returns-in-Err-clause-cause : goal.returns-in-Err-clause-cause
 returns-in-Err-clause-cause g c = c.in-Err.ensures.cause
+
+pub overflow_mul-pages : goal.overflow_mul-pages
+overflow_mul-pages g c =
+    let few = pages-few c.args.layout c.args.filling.pages c.args.filling.records c.requires.layout c.requires.ready.few in
+    omega (arith, pages-fit c.args.layout c.args.filling.pages c.requires.layout few)
+
+pub overflow_add-result : goal.overflow_add-result
+overflow_add-result g c = omega (arith, pages-few c.args.layout c.args.filling.pages c.args.filling.records c.requires.layout c.requires.ready.few)
+
+pub write_page-requires-clause-filled : goal.write_page-requires-clause-filled
+write_page-requires-clause-filled g c = omega (arith, rows-fit c.args.layout (c.args.filling.records + 1) c.requires.layout (omega (arith, c.requires.ready.some)), c.requires.size, c.make_record.ensures.size)
+
+pub write_page-requires-clause-behind : goal.write_page-requires-clause-behind
+write_page-requires-clause-behind g c = c.requires.ready.behind
+
+pub make_record-requires-clause-within : goal.make_record-requires-clause-within
+make_record-requires-clause-within g c = omega (arith, row-fits c.args.layout c.args.filling.records c.requires.layout c.requires.ready.some, c.requires.size)
+
+pub overflow_mul-records-2 : goal.overflow_mul-records-2
+overflow_mul-records-2 g c = omega (arith, rows-fit c.args.layout (c.args.filling.records + 1) c.requires.layout (omega (arith, c.requires.ready.some)), c.requires.layout.sized.1)
+
+pub overflow_mul-records : goal.overflow_mul-records
+overflow_mul-records g c = omega (arith, row-fits c.args.layout c.args.filling.records c.requires.layout c.requires.ready.some, c.requires.layout.sized.1)

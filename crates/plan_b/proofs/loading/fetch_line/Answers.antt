@@ -1,6 +1,6 @@
-use Rattle.std.proofs.Common.{◌≤◌, ◌^◌, Some, sym, subst, ◌∙◌, arith, refl}
+use Rattle.std.proofs.Common.{◌≤◌, ◌^◌, Some, sym, subst, ◌∙◌, arith, refl, ◌≡◌, ◌-◌, ◌+◌, ap, length, inl}
 use Rattle.plan_b.specs.Spots.{IsSpot, IsRecord, IfNear}
-use Rattle.plan_b.proofs.Reached.{held-record, near-loaded}
+use Rattle.plan_b.proofs.Reached.{held-record, near-loaded, page-length, near-spot}
 use Rattle.outside.specs.ScratchView.{scratch_passes_none}
 use Rattle.plan_b.proofs.loading.fetch_line.Goals as goal
 
@@ -98,3 +98,20 @@ find_line-requires-clause-low g c = c.requires.low
 
 pub find_line-requires-clause-high : goal.find_line-requires-clause-high
 find_line-requires-clause-high g c = c.requires.high
+
+pub returns-in-Ok-clause-spot : goal.returns-in-Ok-clause-spot
+returns-in-Ok-clause-spot g c =
+    let same : c.args.k - 1 + 1 ≡ c.args.k = omega (arith, c.requires.low) in
+    subst (λ k. IsSpot c.args.layout k c.spot.result) same c.spot.ensures
+
+pub near-requires-clause-size : goal.near-requires-clause-size
+near-requires-clause-size g c = ap length c.page.ensures.is ∙ page-length c.args.pair.now c.args.half c.page.ensures.pair ∙ sym c.requires.held.size
+
+pub returns-in-Some-clause-spot : goal.returns-in-Some-clause-spot
+returns-in-Some-clause-spot g c = near-spot c.page.result.now c.args.layout c.get.result c.args.k c.in-Some.spot c.in-Some.ensures
+
+pub returns-in-Some-clause-reads : goal.returns-in-Some-clause-reads
+returns-in-Some-clause-reads g c = inl refl
+
+pub overflow_sub-k : goal.overflow_sub-k
+overflow_sub-k g c = c.requires.low

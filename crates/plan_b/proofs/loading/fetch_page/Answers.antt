@@ -1,6 +1,10 @@
-use Rattle.std.proofs.Common.{◌+◌, ◌-◌, ◌*◌, ◌≤◌, length, sym, subst, arith, refl, inl, inr}
+use Rattle.std.proofs.Common.{◌+◌, ◌-◌, ◌*◌, ◌≤◌, length, sym, subst, arith, refl, inl, inr, ◌∙◌, ◌^◌, ◌<◌, Some, ap}
 use Rattle.plan_b.proofs.HeldLemmas.{page-kept}
 use Rattle.outside.specs.ScratchView.{scratch_passes_none}
+use Rattle.std.specs.Prelude.{OnOk}
+use Rattle.std.proofs.lemmas.Bool.{false≢true}
+use Rattle.plan_b.specs.Held.{HoldsPage}
+use Rattle.plan_b.proofs.Layouts.{number-fits}
 use Rattle.plan_b.proofs.loading.fetch_page.Goals as goal
 
 pub holds_page-requires-clause-low : goal.holds_page-requires-clause-low
@@ -56,3 +60,12 @@ returns-clause-cause g c = c.read_page.ensures.cause
 
 pub read_page-requires-clause-size : goal.read_page-requires-clause-size
 read_page-requires-clause-size g c = c.requires.held.size
+
+pub read_page-requires-clause-fits : goal.read_page-requires-clause-fits
+read_page-requires-clause-fits g c = subst (λ n. n * c.args.layout.size + c.args.layout.size < 2 ^ 63) (sym c.page_number-page.ensures.is) (number-fits c.args.layout (c.args.k - 1) c.requires.held.layout (omega (arith, c.requires.low, c.requires.high)))
+
+pub returns-clause-page : goal.returns-clause-page
+returns-clause-page g c = subst (λ j. OnOk c.read_page.result (HoldsPage c.read_page.new.pair c.args.layout (g.C.Scratch.view c.read_page.new.scratch) c.args.half j)) c.page_number-page.ensures.is c.read_page.ensures.page
+
+pub returns-clause-still : goal.returns-clause-still
+returns-clause-still g c = λ e. absurd (false≢true (sym c.if-holds_page.false ∙ c.holds_page.ensures.1 (e ∙ ap Some (sym c.page_number-page.ensures.is))))
