@@ -71,11 +71,17 @@ same-edits text side h at a d b ea ed eb t =
     let z : (adds (taken text side h) ≡ 0) × (drops (taken text side h) ≡ 0) = both-zero (adds (taken text side h)) (drops (taken text side h)) (test-is text side h a d b ea ed eb ∙ t) in
     no-edits (taken text side h).body at z.0 z.1
 
+more-below : (n : ℤ) (a d len : ℕ) → a ≤ len → (n +ℤ (pos a -ℤ pos d)) ≤ℤ (n +ℤ pos len)
+more-below n a d len few = omega (arith, ints)
+
+more-above : (n : ℤ) (a d len : ℕ) → d ≤ len → (n -ℤ pos len) ≤ℤ (n +ℤ (pos a -ℤ pos d))
+more-above n a d len few = omega (arith, ints)
+
 pub net-below : (n : ℤ) (a d len : ℕ) → a < 2 ^ 32 → d < 2 ^ 32 → negsuc (2 ^ 33) ≤ℤ n → n ≤ℤ pos (2 ^ 33) → a ≤ len → to_z w64 (of_z w64 (to_z w64 (of_z w64 n) +ℤ to_z w64 (of_z w64 (to_z w64 a -ℤ to_z w64 d)))) ≤ℤ (n +ℤ pos len)
-net-below n a d len high_a high_d low high few = omega (arith, ints)
+net-below n a d len high_a high_d low high few = subst (λ m. m ≤ℤ (n +ℤ pos len)) (sym (net-is n a d high_a high_d low high)) (more-below n a d len few)
 
 pub net-above : (n : ℤ) (a d len : ℕ) → a < 2 ^ 32 → d < 2 ^ 32 → negsuc (2 ^ 33) ≤ℤ n → n ≤ℤ pos (2 ^ 33) → d ≤ len → (n -ℤ pos len) ≤ℤ to_z w64 (of_z w64 (to_z w64 (of_z w64 n) +ℤ to_z w64 (of_z w64 (to_z w64 a -ℤ to_z w64 d))))
-net-above n a d len high_a high_d low high few = omega (arith, ints)
+net-above n a d len high_a high_d low high few = subst (λ m. (n -ℤ pos len) ≤ℤ m) (sym (net-is n a d high_a high_d low high)) (more-above n a d len few)
 
 -- a hunk that changes nothing consumes nothing
 pub consumed-none : (text : List ℕ) (side : Side) (h : Hunk) (s : PlaceState) (line : ℕ) (offset : ℤ) (a d : ℕ) (b : Bool) → a ≡ count_by (λ l. is_add (taken_mark side l.mark)) h.body.items → d ≡ count_by (λ l. is_drop (taken_mark side l.mark)) h.body.items → b ≡ ((a == 0) && (d == 0)) → b ≡ true → (moved_state (taken text side h) s line offset).consumed ≡ s.consumed
@@ -148,3 +154,16 @@ offset-is o low high = omega (arith, ints)
 -- the last line that is consumed is one of the file's
 pub kept-within : (last line old post count : ℕ) → last + post + 1 ≡ line + old → line + old ≤ count + 1 + post → last ≤ count
 kept-within last line old post count exact room = omega arith
+
+-- the net count moves by no more than the lines of a hunk, and all hunks have few
+pub net-over : (all part len : ℕ) (n m : ℤ) → all ≡ part + len → (pos 0 -ℤ pos part) ≤ℤ n → (n -ℤ pos len) ≤ℤ m → (pos 0 -ℤ pos all) ≤ℤ m
+net-over all part len n m sum over moved = omega (arith, ints)
+
+pub net-under : (all part len : ℕ) (n m : ℤ) → all ≡ part + len → n ≤ℤ pos part → m ≤ℤ (n +ℤ pos len) → m ≤ℤ pos all
+net-under all part len n m sum under moved = omega (arith, ints)
+
+pub few-over : (all part : ℕ) (n : ℤ) → part ≤ all → all < 2 ^ 32 → (pos 0 -ℤ pos part) ≤ℤ n → negsuc (2 ^ 33) ≤ℤ n
+few-over all part n le few over = omega (arith, ints)
+
+pub few-under : (all part : ℕ) (n : ℤ) → part ≤ all → all < 2 ^ 32 → n ≤ℤ pos part → n ≤ℤ pos (2 ^ 33)
+few-under all part n le few under = omega (arith, ints)

@@ -1,21 +1,22 @@
 -- How parts of a run that make effects go on from one another.
-use Rattle.std.proofs.Common.{◌≡◌, ◌≢◌, ℕ, zero, List, [], ◌∷◌, ◌++◌, true, Option, Some, IsSome, Result, Ok, Err, OnOk, sym, ◌∙◌, ap, subst, arith}
+use Rattle.std.proofs.Common.{◌≡◌, ◌≢◌, ℕ, zero, List, [], ◌∷◌, ◌++◌, true, Option, Some, IsSome, Result, Ok, Err, OnOk, refl, sym, ◌∙◌, ap, subst, arith}
 use Rattle.std.specs.Result.{IsErrAnd}
 use Rattle.std.proofs.lemmas.Option.{same_Some}
+use Rattle.std.proofs.lemmas.Result.{IfErr-weaker}
 use Rattle.std.specs.FinMap.{get, insert, remove}
 use Rattle.outside.specs.Files.{Files, is_temp, temp_of, bytes_at}
-use Rattle.outside.specs.TreeView.{TreeView, Passes, told_on}
+use Rattle.outside.specs.TreeView.{TreeView, Passes, passes_both, told_on}
 use Rattle.outside.specs.Calls.{Becomes, IsThere, IsUntouched}
 use Rattle.outside.specs.Quiet.{IsQuiet, Effect, Holds, WorksOn, MakesEffect, HasMade, after, after_all}
 use Rattle.outside.specs.Quiet.Effect.{Put}
 use Rattle.outside.proofs.Names.{get-gone, get-gone_other, get-put_other}
-use Rattle.outside.proofs.Views.{told_back, untouched_quiet}
+use Rattle.outside.proofs.Views.{told_back, rises_then, untouched_quiet}
 use Rattle.outside.proofs.Quiet.{lasting-only, works_none}
-use Rattle.outside.proofs.Effects.{made_none, made_more, made_since, made_tells, since_longer, tells_longer}
+use Rattle.outside.proofs.Effects.{made_none, made_more, made_since, made_tells, made_tells_all, since_longer, tells_longer}
 use Rattle.replace_file.specs.Puts.{Puts}
 use Rattle.replace_file.proofs.Putting.{puts_makes, bytes_same}
 use Rattle.patch_effects.specs.declared.fault.RunFault.{RunFault}
-use Rattle.patch_effects.specs.Making.{IsMade, IsPart, Makes, KeepsAt, IsGone}
+use Rattle.patch_effects.specs.Making.{IsMade, IsPart, Makes, GoesQuietly, KeepsAt, IsGone}
 use Rattle.patch_effects.proofs.EffectLists.{after_all-append, after_all-at, leaves_after, tells_after, made_both}
 
 -- ---- one part after another
@@ -85,6 +86,13 @@ module _ {u w : TreeView} (temp : List ℕ) (is : is_temp temp ≡ true) (works 
 
   pub makes_works : {R : Type 0} (x : R) → Makes u w (Ok x) temp (λ f. [])
   makes_works x = record { ok = λ f told. record { made = works_made; exact = works.others }; err = tt }
+
+  -- of other effects a first part, where a call failed
+  pub works_fails : {R : Type 0} (e : RunFault) (es : Files → List Effect) → Makes {R = R} u w (Err e) temp es
+  works_fails e es = record { ok = tt; err = λ f told. record { tells = tells_longer u w [] (es f) (es f) refl (made_tells_all u w [] works_made); leaves = since_longer u w [] (es f) (es f) refl works_made.since } }
+
+pub makes_nothing : {R : Type 0} (u : TreeView) (temp : List ℕ) (x : R) → IsQuiet u → Makes u u (Ok x) temp (λ f. [])
+makes_nothing u temp x quiet = record { ok = λ f told. record { made = made_none u quiet; exact = λ g h was now q ne. ap (λ (z : Files). get z q) (same_Some h g (sym now ∙ was)) }; err = tt }
 
 pub untouched_works : {u w : TreeView} (temp : List ℕ) → IsUntouched u w → IsQuiet u → WorksOn u w temp
 untouched_works {u = u} {w = w} temp same quiet = record {
@@ -175,3 +183,18 @@ module _ {u w : TreeView} (q : List ℕ) (passes : Passes u w) (keeps : KeepsAt 
 pub gone_behind : {R : Type 0} {u w : TreeView} (r : Result R RunFault) (n q : List ℕ) → OnOk r ((p : List ℕ) → p ≢ n → KeepsAt u w p) → Passes u w → q ≢ n → IsGone u q → OnOk r (IsGone w q)
 gone_behind (Ok x) n q keeps passes ne gone = gone_kept q passes (keeps q ne) gone
 gone_behind (Err e) n q keeps passes ne gone = tt
+
+-- ---- what goes quietly, call after call
+pub goes_both : {R S : Type 0} {u v w : TreeView} (x : R) (r : Result S RunFault) → GoesQuietly u v (Ok x) → GoesQuietly v w r → GoesQuietly u w r
+goes_both {u = u} {v = v} {w = w} x r first second = record {
+  passes = passes_both first.passes second.passes;
+  cause = IfErr-weaker r _ _ (λ e is. (is.0, rises_then u v w first.passes is.1)) second.cause;
+  quiet = second.quiet;
+}
+
+pub goes_value : {R S : Type 0} {u w : TreeView} (x : R) (y : S) → GoesQuietly u w (Ok x) → GoesQuietly u w (Ok y)
+goes_value x y goes = record { passes = goes.passes; cause = tt; quiet = goes.quiet }
+
+pub goes_fault : {R S : Type 0} {u w : TreeView} (e : RunFault) (r : Result S RunFault) → IsErrAnd r (λ d. d ≡ e) → GoesQuietly {R = R} u w (Err e) → GoesQuietly u w r
+goes_fault e (Ok x) is goes = absurd is
+goes_fault e (Err d) is goes = record { passes = goes.passes; cause = (is ∙ goes.cause.0, goes.cause.1); quiet = tt }

@@ -1,5 +1,5 @@
 -- The effects on a target, and where its temporaries stand.
-use Rattle.std.proofs.Common.{◌≡◌, ◌≢◌, ◌∷◌, ◌++◌, ◌+◌, ◌||◌, ◌∙◌, [], ℕ, arith, length-append, codes, List, Bool, true, false, not, if◌then◌else◌, length, Option, None, Some, is_some, unwrap_or, refl, sym, ap}
+use Rattle.std.proofs.Common.{◌≡◌, ◌≢◌, ◌≤◌, ◌∷◌, ◌++◌, ◌+◌, ◌||◌, ◌∙◌, [], ℕ, arith, length-append, codes, List, Bool, true, false, not, if◌then◌else◌, length, Option, None, Some, is_some, unwrap_or, refl, sym, ap}
 use Rattle.std.proofs.lemmas.List.{append_cancel_right}
 use Rattle.std.proofs.lemmas.Option.{none-some}
 use Rattle.std.specs.Option.{option_map}
@@ -16,6 +16,10 @@ pub sized_there : (o : Option (List ℕ)) (n : ℕ) → Some n ≡ option_map le
 sized_there None n e = absurd (none-some n (sym e))
 sized_there (Some b) n e = refl
 
+pub sized_none : (o : Option (List ℕ)) → None ≡ option_map length o → is_some o ≡ false
+sized_none None e = refl
+sized_none (Some b) e = absurd (none-some (length b) e)
+
 -- what is done to the target depends on nothing but the target
 pub target_same : (removal : Bool) (w : Target) (output : List ℕ) (f g : Files) → get g w.name ≡ get f w.name → target_effects removal f w output ≡ target_effects removal g w output
 target_same true w output f g same = ap (λ (o : Option (List ℕ)). if is_some o then Remove w.name ∷ [] else []) (sym same)
@@ -23,6 +27,9 @@ target_same false w output f g same = refl
 
 pub removes : (w : Target) (output : List ℕ) (f : Files) → is_some (get f w.name) ≡ true → target_effects true f w output ≡ Remove w.name ∷ []
 removes w output f there = ap (λ (b : Bool). if b then Remove w.name ∷ [] else []) there
+
+pub stays : (w : Target) (output : List ℕ) (f : Files) → is_some (get f w.name) ≡ false → target_effects true f w output ≡ []
+stays w output f absent = ap (λ (b : Bool). if b then Remove w.name ∷ [] else []) absent
 
 -- ---- how many effects there are
 abbrev pub one_if : Bool → ℕ
@@ -81,3 +88,14 @@ moved_count due source_due f source w output = omega (
   put_count due w.backup (bytes_at f w.name),
   put_count source_due source.backup (bytes_at f source.name),
 )
+
+-- a backup or two and what was done to the target are few effects
+one_most : (b : Bool) → (if b then 1 else 0) ≤ 1
+one_most true = omega arith
+one_most false = omega arith
+
+pub two_most : (due wrote : Bool) (all : ℕ) → all ≡ (if due then 1 else 0) + (if wrote then 1 else 0) → all ≤ 2
+two_most due wrote all is = omega (arith, is, one_most due, one_most wrote)
+
+pub four_most : (due source_due : Bool) (all : ℕ) → all ≡ (if due then 1 else 0) + (if source_due then 1 else 0) + 2 → all ≤ 4
+four_most due source_due all is = omega (arith, is, one_most due, one_most source_due)

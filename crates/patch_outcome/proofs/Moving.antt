@@ -1,7 +1,8 @@
 -- Effects behind a look at the tree.
-use Rattle.std.proofs.Common.{◌≡◌, ℕ, zero, List, [], true, false, Result, Ok, Err, OnOk, refl, sym, ◌∙◌, ap, arith}
+use Rattle.std.proofs.Common.{◌≡◌, ℕ, zero, List, [], Bool, true, false, ◌+◌, ◌≤◌, if◌then◌else◌, Result, Ok, Err, OnOk, refl, sym, ◌∙◌, ap, arith}
 use Rattle.std.proofs.lemmas.Option.{same_Some}
 use Rattle.std.proofs.lemmas.Result.{IfErr-weaker}
+use Rattle.std.specs.Result.{IsErrAnd}
 use Rattle.outside.specs.Files.{Files, is_temp}
 use Rattle.outside.specs.TreeView.{TreeView, Passes, passes_both}
 use Rattle.outside.specs.Calls.{IsUntouched}
@@ -50,3 +51,26 @@ module _ {R : Type 0} {u v : TreeView} {t : Target} (named : IsNamed t) (same : 
   makes_none e =
       let made = works_made t.temp named.temps.own (untouched_works t.temp same quiet) in
       record { ok = tt; err = λ f told. record { tells = tells_longer u v [] (es f) (es f) refl (made_tells_all u v [] made); leaves = since_longer u v [] (es f) (es f) refl made.since } }
+
+-- ---- what goes quietly, call after call
+
+pub goes_both : {R S : Type 0} {u v w : TreeView} (x : R) (r : Result S RunFault) → GoesQuietly u v (Ok x) → GoesQuietly v w r → GoesQuietly u w r
+goes_both {u = u} {v = v} {w = w} x r first second = record {
+  passes = passes_both first.passes second.passes;
+  cause = IfErr-weaker r _ _ (λ e is. (is.0, rises_then u v w first.passes is.1)) second.cause;
+  quiet = second.quiet;
+}
+
+pub goes_value : {R S : Type 0} {u w : TreeView} (x : R) (y : S) → GoesQuietly u w (Ok x) → GoesQuietly u w (Ok y)
+goes_value x y goes = record { passes = goes.passes; cause = tt; quiet = goes.quiet }
+
+pub goes_fault : {R S : Type 0} {u w : TreeView} (e : RunFault) (r : Result S RunFault) → IsErrAnd r (λ d. d ≡ e) → GoesQuietly {R = R} u w (Err e) → GoesQuietly u w r
+goes_fault e (Ok x) is goes = absurd is
+goes_fault e (Err d) is goes = record { passes = goes.passes; cause = (is ∙ goes.cause.0, goes.cause.1); quiet = tt }
+
+pub five_most : (rejected : Bool) (all made : ℕ) → all ≡ made + (if rejected then 1 else 0) → made ≤ 4 → all ≤ 5
+five_most true all made is few = omega arith
+five_most false all made is few = omega arith
+
+pub two_four : (n : ℕ) → n ≤ 2 → n ≤ 4
+two_four n few = omega arith

@@ -12,7 +12,7 @@ use Rattle.patch_options.specs.PlainJob.{PlainOptions}
 use Rattle.patch_set.specs.declared.set.Row.{Row}
 use Rattle.patch_set.specs.SetView.{SetView}
 use Rattle.patch_task.specs.Turns.{Mark}
-use Rattle.patch_outcome.specs.Ready.{HasVerdicts, mark_in, marks}
+use Rattle.patch_outcome.specs.Ready.{HasVerdicts, IsFit, IsReady, mark_in, marks}
 
 module _ (o : PlainOptions) (v : SetView) (count : ℕ) (verdicts : List Verdict) (within : count ≤ length v.patches) where
   -- the verdicts of one of the first file patches are there
@@ -60,3 +60,10 @@ any_more p xs i d lt before here = list_any_more p xs i d lt ∙ ap (λ b. b || 
 
 pub any_all : (p : Mark → Bool) (xs : List Mark) (n : ℕ) → length xs ≡ n → list_any p (take n xs) ≡ false → list_any p xs ≡ false
 any_all p xs n is none = ap (list_any p) (sym (take_all n xs (omega arith))) ∙ none
+
+pub in_set : (k count n : ℕ) → k < count → count ≤ n → k < n
+in_set k count n lt le = omega arith
+
+-- a file patch of a set that is ready
+pub fit_at : (o : PlainOptions) (v : SetView) (count k : ℕ) (p : FilePatch) → IsReady o v → count ≤ length v.patches → k < count → p ≡ get_or v.patches k p → IsFit v.text p
+fit_at o v count k p ready within low is = subst (IsFit v.text) (sym is) (ready.patches k p (in_set k count (length v.patches) low within))

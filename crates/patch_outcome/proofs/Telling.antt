@@ -1,12 +1,12 @@
 -- What is said once the hunks were tried.
 use Rattle.std.proofs.Common.{◌≡◌, ◌<◌, ◌≤◌, ◌^◌, ◌+◌, ℕ, List, [], ◌∷◌, ◌++◌, Bool, true, Result, Ok, Err, Some, Option, Bor, length, take, drop, get_or, append_assoc, refl, sym, ap, subst, ◌∙◌, arith, to_z, of_z, w64}
-use Rattle.std.specs.Prelude.{ℤ, pos, negsuc, ◌+ℤ◌, ◌≤ℤ◌, if◌then◌else◌, slice_get}
+use Rattle.std.specs.Prelude.{ℤ, pos, negsuc, ◌+ℤ◌, ◌-ℤ◌, ◌≤ℤ◌, if◌then◌else◌, slice_get}
 use Rattle.std.proofs.lemmas.Int.{to_z-of_z, ints}
 use Rattle.std.specs.List.{All}
 use Rattle.std.specs.Option.{option_copied}
 use Rattle.std.proofs.lemmas.List.{append-nil, drop_more, drop_all, take_more, length-take-le}
 use mir.Val.{SFits}
-use Rattle.outside.specs.SinkView.{SinkView, Writes}
+use Rattle.outside.specs.SinkView.{SinkView, SinkPasses, IsSinkCall, Writes, sink_passes_both}
 use Rattle.outside.proofs.Writing.{writes_is}
 use Rattle.hunk_core.specs.declared.Verdict.{Verdict}
 use Rattle.outside.specs.Puts.{Puts}
@@ -20,6 +20,12 @@ use Rattle.patch_outcome.specs.HunksSaid.{hunk_said, hunks_said, script_said}
 -- ---- one hunk, or a script
 
 -- a line that is told of behind hunks with this net
+pub line-fits : (line : ℕ) → line ≤ 2 ^ 41 → SFits w64 (pos line)
+line-fits line small = omega (arith, ints)
+
+pub moved-fits : (line : ℕ) (net : ℤ) → line ≤ 2 ^ 41 → negsuc (2 ^ 40) ≤ℤ net → net ≤ℤ pos (2 ^ 40) → SFits w64 (to_z w64 line +ℤ to_z w64 (of_z w64 net))
+moved-fits line net small low high = omega (arith, ints)
+
 pub moved-line : (line : ℕ) (net : ℤ) → line ≤ 2 ^ 41 → negsuc (2 ^ 40) ≤ℤ net → net ≤ℤ pos (2 ^ 40) → to_z w64 (of_z w64 (to_z w64 line +ℤ to_z w64 (of_z w64 net))) ≡ pos line +ℤ net
 moved-line line net small low high = omega (arith, ints)
 
@@ -94,3 +100,43 @@ said-end o rows i end = ap (hunks_said o (take i rows)) (drop_all i rows end)
 -- where a test holds the text that stands on it is the whole
 pub where_true : {R E : Type 0} {a b : SinkView} (r : Result R E) (test : Bool) (p : List ℕ) → test ≡ true → Writes a b r p → Writes a b r (if test then p else [])
 where_true r test p is w = writes_is r (if test then p else []) w (rw is refl)
+
+-- calls go on from calls
+pub call_then : {R E : Type 0} {u v w : SinkView} → SinkPasses u v → (r : Result R E) → IsSinkCall v w r → IsSinkCall u w r
+call_then passes r call = record { passes = sink_passes_both passes call.passes; cause = λ err small. omega (arith, call.cause err small, passes.counts) }
+
+pub call_fault : {R S E F : Type 0} {u w : SinkView} (e : E) (r : Result S F) → IsSinkCall {R = R} u w (Err e) → IsSinkCall u w r
+call_fault e r call = record { passes = call.passes; cause = λ err. call.cause refl }
+
+-- ---- lines that hunks add
+
+module _ (n g : ℤ) (part len all : ℕ) (sum : all ≡ part + len) (few : all < 2 ^ 32) (high : n ≤ℤ pos part) (low : (pos 0 -ℤ pos part) ≤ℤ n) (most : g ≤ℤ pos len) (least : (pos 0 -ℤ pos len) ≤ℤ g) where
+  pub grown-is : to_z w64 (of_z w64 (n +ℤ to_z w64 (of_z w64 g))) ≡ n +ℤ g
+  grown-is = omega (arith, ints)
+
+  pub grown-fits : SFits w64 (n +ℤ to_z w64 (of_z w64 g))
+  grown-fits = omega (arith, ints)
+
+  over : (n +ℤ g) ≤ℤ pos all
+  over = omega (arith, ints)
+
+  under : (pos 0 -ℤ pos all) ≤ℤ (n +ℤ g)
+  under = omega (arith, ints)
+
+  pub grown-high : to_z w64 (of_z w64 (n +ℤ to_z w64 (of_z w64 g))) ≤ℤ pos all
+  grown-high = subst (λ m. m ≤ℤ pos all) (sym grown-is) over
+
+  pub grown-low : (pos 0 -ℤ pos all) ≤ℤ to_z w64 (of_z w64 (n +ℤ to_z w64 (of_z w64 g)))
+  grown-low = subst (λ m. (pos 0 -ℤ pos all) ≤ℤ m) (sym grown-is) under
+
+pub few-high : (n : ℤ) (part : ℕ) → part < 2 ^ 32 → n ≤ℤ pos part → n ≤ℤ pos (2 ^ 40)
+few-high n part few high = omega (arith, ints)
+
+pub few-low : (n : ℤ) (part : ℕ) → part < 2 ^ 32 → (pos 0 -ℤ pos part) ≤ℤ n → negsuc (2 ^ 40) ≤ℤ n
+few-low n part few low = omega (arith, ints)
+
+pub part-few : (part len all whole : ℕ) → all ≡ part + len → all ≤ whole → whole < 2 ^ 32 → len < 2 ^ 32
+part-few part len all whole sum most few = omega arith
+
+pub all-few : (all whole : ℕ) → all ≤ whole → whole < 2 ^ 32 → all < 2 ^ 32
+all-few all whole most few = omega arith

@@ -1,5 +1,6 @@
 -- How the start of a file patch goes on from step to step.
 use Rattle.std.proofs.Common.{◌≡◌, ℕ, List, [], ◌++◌, Option, None, Result, Ok, Err, IfOk, IfErr, IsErrAnd, refl, sym, ◌∙◌, ap, subst, arith}
+use Rattle.std.proofs.lemmas.Bool.{false≢true}
 use Rattle.std.proofs.lemmas.List.{append-nil}
 use Rattle.outside.specs.Files.{Files}
 use Rattle.outside.specs.TreeView.{TreeView}
@@ -230,3 +231,7 @@ module _ {sa : ℕ → List ℕ → Option (List ℕ) → Option (List ℕ)} {by
     scratch = tt;
     broken = λ f told. none_part c (said_in (start f));
   }
+
+-- what was said, of another value
+pub writes_value : {R S E F : Type 0} {c d : SinkView} {p : List ℕ} (x : R) (y : S) → Writes {E = E} c d (Ok x) p → Writes {E = F} c d (Ok y) p
+writes_value x y first = record { call = record { passes = first.call.passes; cause = λ err. absurd (false≢true err) }; received = first.received; failed = tt }

@@ -1,80 +1,71 @@
-use Rattle.std.proofs.Common.{◌∙◌}
+use Rattle.std.proofs.Common.{◌∙◌, sym}
 use Rattle.outside.specs.SinkView.{sink_passes_none}
 use Rattle.outside.proofs.Exits.{if_ok_none, on_ok_none}
 use Rattle.line_store.proofs.StoreLemmas.{keeps-more}
+use Rattle.hunk_apply.specs.declared.ApplyFault.TheVariants.{Line}
+use Rattle.hunk_apply.specs.Faults.{HasApplyCause}
+use Rattle.hunk_apply.proofs.FaultLemmas.{if-err-still, apply-cause-more}
 use Rattle.patch_attempt.proofs.fill.try_parted.Goals as goal
 
-pub returns-in_err-session-clause-keeps : goal.returns-in_err-session-clause-keeps
-returns-in_err-session-clause-keeps g c = c.in_err-session.ensures.keeps
+pub returns : goal.returns
+returns g c = record {
+  keeps = keeps-more _ _ _ c.in_ok-session.ensures.keeps c.in_ok-put_parted.ensures.keeps;
+  sink = c.in_ok-put_parted.ensures.sink;
+  rest = c.in_ok-put_parted.ensures.rest;
+  cause = tt;
+  received = λ lines told. c.in_ok-put_parted.ensures.received lines (c.in_ok-session.ensures.keeps.told ∙ told);
+  session = c.in_ok-session.ensures.session;
+  verdicts = c.in_ok-session.ensures.verdicts;
+  tried = c.in_ok-session.ensures.tried;
+  rows = c.in_ok-session.ensures.rows;
+}
 
-pub returns-in_err-session-clause-sink : goal.returns-in_err-session-clause-sink
-returns-in_err-session-clause-sink g c = sink_passes_none _
+pub returns-in_err-session : goal.returns-in_err-session
+returns-in_err-session g c = record {
+  keeps = c.in_err-session.ensures.keeps;
+  sink = sink_passes_none _;
+  rest = g.met.O.Sink.rest_none _;
+  session = if_ok_none _ _ c.from_residual.result c.from_residual.ensures.1;
+  rows = c.in_err-session.ensures.rows;
+  received = on_ok_none _ _ c.from_residual.result c.from_residual.ensures.1;
+  verdicts = on_ok_none _ _ c.from_residual.result c.from_residual.ensures.1;
+  tried = on_ok_none _ _ c.from_residual.result c.from_residual.ensures.1;
+  cause = if-err-still (λ e. HasApplyCause e (g.P.LineStore.seen c.args.plan.now) (g.P.LineStore.seen c.try_nowhere.new.plan) (g.O.Sink.view c.args.out.now) (g.O.Sink.view c.args.out.now)) (Line c.in_err-session.field-0.0) c.from_residual.result c.from_residual.ensures.1 c.in_err-session.ensures.cause;
+}
 
-pub returns-in_err-session-clause-rest : goal.returns-in_err-session-clause-rest
-returns-in_err-session-clause-rest g c = g.met.O.Sink.rest_none _
+pub returns-in_err-put_parted : goal.returns-in_err-put_parted
+returns-in_err-put_parted g c = record {
+  keeps = keeps-more _ _ _ c.in_ok-session.ensures.keeps c.in_err-put_parted.ensures.keeps;
+  sink = c.in_err-put_parted.ensures.sink;
+  rest = c.in_err-put_parted.ensures.rest;
+  session = if_ok_none _ _ c.from_residual-in_err-put_parted.result c.from_residual-in_err-put_parted.ensures.1;
+  rows = c.in_ok-session.ensures.rows;
+  received = on_ok_none _ _ c.from_residual-in_err-put_parted.result c.from_residual-in_err-put_parted.ensures.1;
+  verdicts = on_ok_none _ _ c.from_residual-in_err-put_parted.result c.from_residual-in_err-put_parted.ensures.1;
+  tried = on_ok_none _ _ c.from_residual-in_err-put_parted.result c.from_residual-in_err-put_parted.ensures.1;
+  cause = (
+      let fault = c.in_err-put_parted.field-0.0 in
+      if-err-still (λ e. HasApplyCause e (g.P.LineStore.seen c.args.plan.now) (g.P.LineStore.seen c.put_parted.new.plan) (g.O.Sink.view c.args.out.now) (g.O.Sink.view c.put_parted.new.out)) fault c.from_residual-in_err-put_parted.result c.from_residual-in_err-put_parted.ensures.1
+      (apply-cause-more fault (g.P.LineStore.seen c.args.plan.now) (g.P.LineStore.seen c.try_nowhere.new.plan) (g.P.LineStore.seen c.put_parted.new.plan) (g.O.Sink.view c.args.out.now) (g.O.Sink.view c.args.out.now) (g.O.Sink.view c.put_parted.new.out) c.in_ok-session.ensures.keeps (sink_passes_none (g.O.Sink.view c.args.out.now)) c.in_err-put_parted.ensures.cause));
+}
 
-pub returns-in_err-session-clause-session : goal.returns-in_err-session-clause-session
-returns-in_err-session-clause-session g c = if_ok_none _ _ c.from_residual.result c.from_residual.ensures.1
+pub try_nowhere-requires-clause-task : goal.try_nowhere-requires-clause-task
+try_nowhere-requires-clause-task g c = c.requires.task
 
-pub returns-in_err-session-clause-rows : goal.returns-in_err-session-clause-rows
-returns-in_err-session-clause-rows g c = c.in_err-session.ensures.rows
+pub try_nowhere-requires-clause-rows : goal.try_nowhere-requires-clause-rows
+try_nowhere-requires-clause-rows g c = c.requires.rows
 
-pub returns-in_err-session-clause-received : goal.returns-in_err-session-clause-received
-returns-in_err-session-clause-received g c = on_ok_none _ _ c.from_residual.result c.from_residual.ensures.1
+pub put_parted-requires-clause-task : goal.put_parted-requires-clause-task
+put_parted-requires-clause-task g c = c.requires.task
 
-pub returns-in_err-session-clause-verdicts : goal.returns-in_err-session-clause-verdicts
-returns-in_err-session-clause-verdicts g c = on_ok_none _ _ c.from_residual.result c.from_residual.ensures.1
+pub put_parted-requires-clause-define : goal.put_parted-requires-clause-define
+put_parted-requires-clause-define g c = c.requires.define
 
-pub returns-in_err-session-clause-tried : goal.returns-in_err-session-clause-tried
-returns-in_err-session-clause-tried g c = on_ok_none _ _ c.from_residual.result c.from_residual.ensures.1
+pub put_parted-requires-clause-tried : goal.put_parted-requires-clause-tried
+put_parted-requires-clause-tried g c = c.in_ok-session.ensures.tried
 
-pub returns-in_err-put_parted-clause-keeps : goal.returns-in_err-put_parted-clause-keeps
-returns-in_err-put_parted-clause-keeps g c = keeps-more _ _ _ c.in_ok-session.ensures.keeps c.in_err-put_parted.ensures.keeps
+pub put_parted-requires-clause-rows : goal.put_parted-requires-clause-rows
+put_parted-requires-clause-rows g c = c.in_ok-session.ensures.rows ∙ c.requires.rows
 
-pub returns-in_err-put_parted-clause-sink : goal.returns-in_err-put_parted-clause-sink
-returns-in_err-put_parted-clause-sink g c = c.in_err-put_parted.ensures.sink
-
-pub returns-in_err-put_parted-clause-rest : goal.returns-in_err-put_parted-clause-rest
-returns-in_err-put_parted-clause-rest g c = c.in_err-put_parted.ensures.rest
-
-pub returns-in_err-put_parted-clause-session : goal.returns-in_err-put_parted-clause-session
-returns-in_err-put_parted-clause-session g c = if_ok_none _ _ c.from_residual-in_err-put_parted.result c.from_residual-in_err-put_parted.ensures.1
-
-pub returns-in_err-put_parted-clause-rows : goal.returns-in_err-put_parted-clause-rows
-returns-in_err-put_parted-clause-rows g c = c.in_ok-session.ensures.rows
-
-pub returns-in_err-put_parted-clause-received : goal.returns-in_err-put_parted-clause-received
-returns-in_err-put_parted-clause-received g c = on_ok_none _ _ c.from_residual-in_err-put_parted.result c.from_residual-in_err-put_parted.ensures.1
-
-pub returns-in_err-put_parted-clause-verdicts : goal.returns-in_err-put_parted-clause-verdicts
-returns-in_err-put_parted-clause-verdicts g c = on_ok_none _ _ c.from_residual-in_err-put_parted.result c.from_residual-in_err-put_parted.ensures.1
-
-pub returns-in_err-put_parted-clause-tried : goal.returns-in_err-put_parted-clause-tried
-returns-in_err-put_parted-clause-tried g c = on_ok_none _ _ c.from_residual-in_err-put_parted.result c.from_residual-in_err-put_parted.ensures.1
-
-pub returns-clause-keeps : goal.returns-clause-keeps
-returns-clause-keeps g c = keeps-more _ _ _ c.in_ok-session.ensures.keeps c.in_ok-put_parted.ensures.keeps
-
-pub returns-clause-sink : goal.returns-clause-sink
-returns-clause-sink g c = c.in_ok-put_parted.ensures.sink
-
-pub returns-clause-rest : goal.returns-clause-rest
-returns-clause-rest g c = c.in_ok-put_parted.ensures.rest
-
-pub returns-clause-cause : goal.returns-clause-cause
-returns-clause-cause g c = tt
-
-pub returns-clause-received : goal.returns-clause-received
-returns-clause-received g c lines told = c.in_ok-put_parted.ensures.received lines (c.in_ok-session.ensures.keeps.told ∙ told)
-
-pub returns-clause-session : goal.returns-clause-session
-returns-clause-session g c = c.in_ok-session.ensures.session
-
-pub returns-clause-verdicts : goal.returns-clause-verdicts
-returns-clause-verdicts g c = c.in_ok-session.ensures.verdicts
-
-pub returns-clause-tried : goal.returns-clause-tried
-returns-clause-tried g c = c.in_ok-session.ensures.tried
-
-pub returns-clause-rows : goal.returns-clause-rows
-returns-clause-rows g c = c.in_ok-session.ensures.rows
+pub put_parted-requires-clause-placed : goal.put_parted-requires-clause-placed
+put_parted-requires-clause-placed g c = λ lines told. c.in_ok-session.ensures.verdicts lines (sym c.in_ok-session.ensures.keeps.told ∙ told)

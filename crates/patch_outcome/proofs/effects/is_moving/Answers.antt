@@ -19,50 +19,39 @@ moves-some true true d is = refl
 moves-some true false d is = absurd (false≢true is)
 moves-some false b d is = absurd (false≢true is)
 
-pub returns-then-not-is_renamed-clause-untouched : goal.returns-then-not-is_renamed-clause-untouched
-returns-then-not-is_renamed-clause-untouched g c = untouched_none (g.T.Tree.view c.args.tree.now)
+pub returns-then-not-is_renamed : goal.returns-then-not-is_renamed
+returns-then-not-is_renamed g c = record {
+  untouched = untouched_none (g.T.Tree.view c.args.tree.now);
+  moving = λ f told. moves-none (renames (plain_turn c.args.turn.now).item.patch) (not (bytes_eq c.args.source.now.name c.args.target.now.name)) (is_some (get f c.args.source.now.name)) (sym c.is_renamed.ensures.renamed ∙ c.if-not-is_renamed.true);
+  there = λ is. absurd (false≢true is);
+  apart = λ is. absurd (false≢true is);
+  renames = λ is. absurd (false≢true is);
+  cause = tt;
+}
 
-pub returns-then-not-is_renamed-clause-moving : goal.returns-then-not-is_renamed-clause-moving
-returns-then-not-is_renamed-clause-moving g c f told =
-    moves-none (renames (plain_turn c.args.turn.now).item.patch) (not (bytes_eq c.args.source.now.name c.args.target.now.name)) (is_some (get f c.args.source.now.name)) (sym c.is_renamed.ensures.renamed ∙ c.if-not-is_renamed.true)
-
-pub returns-then-not-is_renamed-clause-there : goal.returns-then-not-is_renamed-clause-there
-returns-then-not-is_renamed-clause-there g c is = absurd (false≢true is)
-
-pub returns-then-not-is_renamed-clause-apart : goal.returns-then-not-is_renamed-clause-apart
-returns-then-not-is_renamed-clause-apart g c is = absurd (false≢true is)
-
-pub returns-then-not-is_renamed-clause-renames : goal.returns-then-not-is_renamed-clause-renames
-returns-then-not-is_renamed-clause-renames g c is = absurd (false≢true is)
-
-pub returns-clause-untouched : goal.returns-clause-untouched
-returns-clause-untouched g c = c.is_there.ensures.untouched
-
-pub returns-clause-moving : goal.returns-clause-moving
-returns-clause-moving g c =
-    IfOk-weaker c.is_there.result
-    (λ there. (f : Files) → (g.T.Tree.view c.args.tree.now).told ≡ Some f → there ≡ is_some (get f c.args.source.now.name))
-    (λ moving. (f : Files) → (g.T.Tree.view c.args.tree.now).told ≡ Some f → moving ≡ is_moving (plain_turn c.args.turn.now) f c.args.source.now c.args.target.now)
-    (λ there h f told. h f told ∙ moves-some (renames (plain_turn c.args.turn.now).item.patch) (not (bytes_eq c.args.source.now.name c.args.target.now.name)) (is_some (get f c.args.source.now.name)) (sym c.is_renamed.ensures.renamed ∙ c.if-not-is_renamed.false))
-    c.is_there.ensures.there
-
-pub returns-clause-there : goal.returns-clause-there
-returns-clause-there g c =
-    IfOk-weaker c.is_there.result
-    (λ there. (f : Files) → (g.T.Tree.view c.args.tree.now).told ≡ Some f → there ≡ is_some (get f c.args.source.now.name))
-    (λ moving. moving ≡ true → IsThere (g.T.Tree.view c.is_there.new.tree) c.args.source.now.name)
-    (λ there h is f now. sym (h f (sym c.is_there.ensures.untouched.told ∙ now)) ∙ is) c.is_there.ensures.there
-
-pub returns-clause-apart : goal.returns-clause-apart
-returns-clause-apart g c =
-    IfOk-weaker c.is_there.result
-    (λ there. (f : Files) → (g.T.Tree.view c.args.tree.now).told ≡ Some f → there ≡ is_some (get f c.args.source.now.name))
-    (λ moving. moving ≡ true → c.args.target.now.name ≢ c.args.source.now.name)
-    (λ there h is. c.is_renamed.ensures.apart c.if-not-is_renamed.false) c.is_there.ensures.there
-
-pub returns-clause-renames : goal.returns-clause-renames
-returns-clause-renames g c =
-    IfOk-weaker c.is_there.result
-    (λ there. (f : Files) → (g.T.Tree.view c.args.tree.now).told ≡ Some f → there ≡ is_some (get f c.args.source.now.name))
-    (λ moving. moving ≡ true → renames (plain_turn c.args.turn.now).item.patch ≡ true)
-    (λ there h is. c.is_renamed.ensures.renames c.if-not-is_renamed.false) c.is_there.ensures.there
+pub returns : goal.returns
+returns g c = record {
+  untouched = c.is_there.ensures.untouched;
+  moving = (
+      IfOk-weaker c.is_there.result
+      (λ there. (f : Files) → (g.T.Tree.view c.args.tree.now).told ≡ Some f → there ≡ is_some (get f c.args.source.now.name))
+      (λ moving. (f : Files) → (g.T.Tree.view c.args.tree.now).told ≡ Some f → moving ≡ is_moving (plain_turn c.args.turn.now) f c.args.source.now c.args.target.now)
+      (λ there h f told. h f told ∙ moves-some (renames (plain_turn c.args.turn.now).item.patch) (not (bytes_eq c.args.source.now.name c.args.target.now.name)) (is_some (get f c.args.source.now.name)) (sym c.is_renamed.ensures.renamed ∙ c.if-not-is_renamed.false))
+      c.is_there.ensures.there);
+  there = (
+      IfOk-weaker c.is_there.result
+      (λ there. (f : Files) → (g.T.Tree.view c.args.tree.now).told ≡ Some f → there ≡ is_some (get f c.args.source.now.name))
+      (λ moving. moving ≡ true → IsThere (g.T.Tree.view c.is_there.new.tree) c.args.source.now.name)
+      (λ there h is f now. sym (h f (sym c.is_there.ensures.untouched.told ∙ now)) ∙ is) c.is_there.ensures.there);
+  apart = (
+      IfOk-weaker c.is_there.result
+      (λ there. (f : Files) → (g.T.Tree.view c.args.tree.now).told ≡ Some f → there ≡ is_some (get f c.args.source.now.name))
+      (λ moving. moving ≡ true → c.args.target.now.name ≢ c.args.source.now.name)
+      (λ there h is. c.is_renamed.ensures.apart c.if-not-is_renamed.false) c.is_there.ensures.there);
+  renames = (
+      IfOk-weaker c.is_there.result
+      (λ there. (f : Files) → (g.T.Tree.view c.args.tree.now).told ≡ Some f → there ≡ is_some (get f c.args.source.now.name))
+      (λ moving. moving ≡ true → renames (plain_turn c.args.turn.now).item.patch ≡ true)
+      (λ there h is. c.is_renamed.ensures.renames c.if-not-is_renamed.false) c.is_there.ensures.there);
+  cause = c.is_there.ensures.cause;
+}

@@ -4,6 +4,7 @@ use Rattle.patch_effects.specs.declared.fault.RunFault.TheVariants.{Tree}
 use Rattle.patch_outcome.specs.Outcome.{made_effects}
 use Rattle.patch_outcome.specs.TurnView.{plain_turn}
 use Rattle.patch_outcome.proofs.Moving.{makes_after, makes_none, goes_after, tidy_after}
+use Rattle.patch_effects.proofs.Making.{untouched_works}
 use Rattle.patch_outcome.proofs.effects.write_made.Goals as goal
 
 pub move_source-requires-clause-moves : goal.move_source-requires-clause-moves
@@ -12,69 +13,84 @@ move_source-requires-clause-moves g c f told = sym (c.in-Ok.ensures.moving f (sy
 pub put_placed-requires-clause-stays : goal.put_placed-requires-clause-stays
 put_placed-requires-clause-stays g c f told = sym (c.in-Ok.ensures.moving f (sym c.is_moving.ensures.untouched.told ∙ told)) ∙ c.if-moving.false
 
-pub returns-in-Err-clause-makes : goal.returns-in-Err-clause-makes
-returns-in-Err-clause-makes g c x side session holds = makes_none c.requires.named c.is_moving.ensures.untouched c.requires.quiet (λ f. made_effects (plain_turn c.args.turn.now) f c.args.source.now c.args.target.now x) Tree
+pub returns-in-Err : goal.returns-in-Err
+returns-in-Err g c = record {
+  makes = λ x side session holds. makes_none c.requires.named c.is_moving.ensures.untouched c.requires.quiet (λ f. made_effects (plain_turn c.args.turn.now) f c.args.source.now c.args.target.now x) Tree;
+  gone = tt;
+  wrote = tt;
+  count = tt;
+  few = tt;
+  tidy = tt;
+  goes = record { passes = c.is_moving.ensures.untouched.passes; cause = (refl, c.in-Err.ensures.cause); quiet = tt };
+}
 
-pub returns-then-moving-clause-makes : goal.returns-then-moving-clause-makes
-returns-then-moving-clause-makes g c x side session holds =
-    makes_after c.requires.named c.is_moving.ensures.untouched c.requires.quiet (λ f. made_effects (plain_turn c.args.turn.now) f c.args.source.now c.args.target.now x) c.move_source.result c.move_source.ensures.goes.passes
-    (c.move_source.ensures.makes x session (λ f now. holds f (sym c.is_moving.ensures.untouched.told ∙ now)))
+pub returns-then-moving : goal.returns-then-moving
+returns-then-moving g c = record {
+  makes = λ x side session holds.
+      makes_after c.requires.named c.is_moving.ensures.untouched c.requires.quiet (λ f. made_effects (plain_turn c.args.turn.now) f c.args.source.now c.args.target.now x) c.move_source.result c.move_source.ensures.goes.passes
+      (c.move_source.ensures.makes x session (λ f now. holds f (sym c.is_moving.ensures.untouched.told ∙ now)));
+  wrote = IfOk-weaker c.move_source.result _ _ (λ made is f x told side session. is f x (c.is_moving.ensures.untouched.told ∙ told) session) c.move_source.ensures.wrote;
+  count = IfOk-weaker c.move_source.result _ _ (λ made is f x told side session. is f x (c.is_moving.ensures.untouched.told ∙ told) session) c.move_source.ensures.count;
+  goes = goes_after c.is_moving.ensures.untouched c.move_source.result c.move_source.ensures.goes;
+  gone = c.move_source.ensures.gone;
+  few = c.move_source.ensures.few;
+  tidy = tidy_after c.is_moving.ensures.untouched c.move_source.result c.move_source.ensures.goes.passes c.move_source.ensures.tidy;
+}
 
-pub returns-else-moving-clause-makes : goal.returns-else-moving-clause-makes
-returns-else-moving-clause-makes g c x side session holds =
-    makes_after c.requires.named c.is_moving.ensures.untouched c.requires.quiet (λ f. made_effects (plain_turn c.args.turn.now) f c.args.source.now c.args.target.now x) c.put_placed.result c.put_placed.ensures.goes.passes
-    (c.put_placed.ensures.makes x side session (λ f now. holds f (sym c.is_moving.ensures.untouched.told ∙ now)))
+pub returns-else-moving : goal.returns-else-moving
+returns-else-moving g c = record {
+  makes = λ x side session holds.
+      makes_after c.requires.named c.is_moving.ensures.untouched c.requires.quiet (λ f. made_effects (plain_turn c.args.turn.now) f c.args.source.now c.args.target.now x) c.put_placed.result c.put_placed.ensures.goes.passes
+      (c.put_placed.ensures.makes x side session (λ f now. holds f (sym c.is_moving.ensures.untouched.told ∙ now)));
+  wrote = IfOk-weaker c.put_placed.result _ _ (λ made is f x told side session. is f x (c.is_moving.ensures.untouched.told ∙ told) side session) c.put_placed.ensures.wrote;
+  count = IfOk-weaker c.put_placed.result _ _ (λ made is f x told side session. is f x (c.is_moving.ensures.untouched.told ∙ told) side session) c.put_placed.ensures.count;
+  goes = goes_after c.is_moving.ensures.untouched c.put_placed.result c.put_placed.ensures.goes;
+  gone = c.put_placed.ensures.gone;
+  few = c.put_placed.ensures.few;
+  tidy = tidy_after c.is_moving.ensures.untouched c.put_placed.result c.put_placed.ensures.goes.passes c.put_placed.ensures.tidy;
+}
 
-pub returns-then-moving-clause-wrote : goal.returns-then-moving-clause-wrote
-returns-then-moving-clause-wrote g c = IfOk-weaker c.move_source.result _ _ (λ made is f x told side session. is f x (c.is_moving.ensures.untouched.told ∙ told) session) c.move_source.ensures.wrote
+pub move_source-requires-clause-turn : goal.move_source-requires-clause-turn
+move_source-requires-clause-turn g c = c.requires.turn
 
-pub returns-else-moving-clause-wrote : goal.returns-else-moving-clause-wrote
-returns-else-moving-clause-wrote g c = IfOk-weaker c.put_placed.result _ _ (λ made is f x told side session. is f x (c.is_moving.ensures.untouched.told ∙ told) side session) c.put_placed.ensures.wrote
+pub move_source-requires-clause-temp : goal.move_source-requires-clause-temp
+move_source-requires-clause-temp g c = c.requires.temp
 
-pub returns-then-moving-clause-count : goal.returns-then-moving-clause-count
-returns-then-moving-clause-count g c = IfOk-weaker c.move_source.result _ _ (λ made is f x told side session. is f x (c.is_moving.ensures.untouched.told ∙ told) session) c.move_source.ensures.count
+pub move_source-requires-clause-named : goal.move_source-requires-clause-named
+move_source-requires-clause-named g c = c.requires.named
 
-pub returns-else-moving-clause-count : goal.returns-else-moving-clause-count
-returns-else-moving-clause-count g c = IfOk-weaker c.put_placed.result _ _ (λ made is f x told side session. is f x (c.is_moving.ensures.untouched.told ∙ told) side session) c.put_placed.ensures.count
+pub move_source-requires-clause-source : goal.move_source-requires-clause-source
+move_source-requires-clause-source g c = c.requires.source
 
-pub returns-in-Err-clause-gone : goal.returns-in-Err-clause-gone
-returns-in-Err-clause-gone g c = tt
+pub move_source-requires-clause-quiet : goal.move_source-requires-clause-quiet
+move_source-requires-clause-quiet g c = (untouched_works c.args.target.now.temp c.is_moving.ensures.untouched c.requires.quiet).quiet
 
-pub returns-in-Err-clause-wrote : goal.returns-in-Err-clause-wrote
-returns-in-Err-clause-wrote g c = tt
+pub move_source-requires-clause-there : goal.move_source-requires-clause-there
+move_source-requires-clause-there g c = λ f now. c.requires.there f (sym c.is_moving.ensures.untouched.told ∙ now)
 
-pub returns-in-Err-clause-count : goal.returns-in-Err-clause-count
-returns-in-Err-clause-count g c = tt
+pub put_placed-requires-clause-turn : goal.put_placed-requires-clause-turn
+put_placed-requires-clause-turn g c = c.requires.turn
 
-pub returns-in-Err-clause-few : goal.returns-in-Err-clause-few
-returns-in-Err-clause-few g c = tt
+pub put_placed-requires-clause-temp : goal.put_placed-requires-clause-temp
+put_placed-requires-clause-temp g c = c.requires.temp
 
-pub returns-in-Err-clause-tidy : goal.returns-in-Err-clause-tidy
-returns-in-Err-clause-tidy g c = tt
+pub put_placed-requires-clause-named : goal.put_placed-requires-clause-named
+put_placed-requires-clause-named g c = c.requires.named
 
-pub returns-in-Err-clause-goes : goal.returns-in-Err-clause-goes
-returns-in-Err-clause-goes g c = record { passes = c.is_moving.ensures.untouched.passes; cause = (refl, c.in-Err.ensures.cause); quiet = tt }
+pub put_placed-requires-clause-source : goal.put_placed-requires-clause-source
+put_placed-requires-clause-source g c = c.requires.source
 
-pub returns-then-moving-clause-goes : goal.returns-then-moving-clause-goes
-returns-then-moving-clause-goes g c = goes_after c.is_moving.ensures.untouched c.move_source.result c.move_source.ensures.goes
+pub put_placed-requires-clause-quiet : goal.put_placed-requires-clause-quiet
+put_placed-requires-clause-quiet g c = (untouched_works c.args.target.now.temp c.is_moving.ensures.untouched c.requires.quiet).quiet
 
-pub returns-then-moving-clause-gone : goal.returns-then-moving-clause-gone
-returns-then-moving-clause-gone g c = c.move_source.ensures.gone
+pub put_placed-requires-clause-there : goal.put_placed-requires-clause-there
+put_placed-requires-clause-there g c = λ f now. c.requires.there f (sym c.is_moving.ensures.untouched.told ∙ now)
 
-pub returns-then-moving-clause-few : goal.returns-then-moving-clause-few
-returns-then-moving-clause-few g c = c.move_source.ensures.few
+pub move_source-requires-clause-apart : goal.move_source-requires-clause-apart
+move_source-requires-clause-apart g c = c.in-Ok.ensures.apart c.if-moving.true
 
-pub returns-then-moving-clause-tidy : goal.returns-then-moving-clause-tidy
-returns-then-moving-clause-tidy g c = tidy_after c.is_moving.ensures.untouched c.move_source.result c.move_source.ensures.goes.passes c.move_source.ensures.tidy
+pub move_source-requires-clause-source_there : goal.move_source-requires-clause-source_there
+move_source-requires-clause-source_there g c = c.in-Ok.ensures.there c.if-moving.true
 
-pub returns-else-moving-clause-goes : goal.returns-else-moving-clause-goes
-returns-else-moving-clause-goes g c = goes_after c.is_moving.ensures.untouched c.put_placed.result c.put_placed.ensures.goes
-
-pub returns-else-moving-clause-gone : goal.returns-else-moving-clause-gone
-returns-else-moving-clause-gone g c = c.put_placed.ensures.gone
-
-pub returns-else-moving-clause-few : goal.returns-else-moving-clause-few
-returns-else-moving-clause-few g c = c.put_placed.ensures.few
-
-pub returns-else-moving-clause-tidy : goal.returns-else-moving-clause-tidy
-returns-else-moving-clause-tidy g c = tidy_after c.is_moving.ensures.untouched c.put_placed.result c.put_placed.ensures.goes.passes c.put_placed.ensures.tidy
+pub move_source-requires-clause-renames : goal.move_source-requires-clause-renames
+move_source-requires-clause-renames g c = c.in-Ok.ensures.renames c.if-moving.true

@@ -1,6 +1,8 @@
-use Rattle.std.proofs.Common.{rules, ℕ, List, [], Option, IsSome, refl, sym, subst}
+use Rattle.std.proofs.Common.{rules, ℕ, List, [], Option, IsSome, refl, sym, subst, ◌∙◌}
 use Rattle.replace_file.specs.TempSink.{sink_view}
 use Rattle.patch_effects.proofs.Filling.{around_works, around_is, received_holds, holds_is}
+use Rattle.outside.proofs.Exits.{if_ok_none, on_ok_none}
+use Rattle.std.proofs.lemmas.Bool.{false≢true}
 use Rattle.patch_outcome.proofs.rejects.fill_rejects.Goals as goal
 
 pub returns-in_err-put_texts-clause-works : goal.returns-in_err-put_texts-clause-works
@@ -30,3 +32,36 @@ returns-clause-holds g c =
 
 pub returns-clause-there : goal.returns-clause-there
 returns-clause-there g c f now = subst (λ (o : Option (List ℕ)). IsSome o) (sym (returns-clause-holds g c f now)) refl
+
+pub put_texts-requires-clause-rows : goal.put_texts-requires-clause-rows
+put_texts-requires-clause-rows g c = c.requires.rows
+
+pub put_texts-requires-clause-turn : goal.put_texts-requires-clause-turn
+put_texts-requires-clause-turn g c = c.requires.turn
+
+pub put_texts-requires-clause-hunks : goal.put_texts-requires-clause-hunks
+put_texts-requires-clause-hunks g c = c.requires.hunks
+
+pub put_texts-requires-clause-named : goal.put_texts-requires-clause-named
+put_texts-requires-clause-named g c = c.requires.named
+
+pub new-sink-requires-clause-there : goal.new-sink-requires-clause-there
+new-sink-requires-clause-there g c = c.requires.there
+
+pub new-sink-requires-clause-quiet : goal.new-sink-requires-clause-quiet
+new-sink-requires-clause-quiet g c = c.requires.quiet
+
+pub returns-in_err-put_texts-clause-holds : goal.returns-in_err-put_texts-clause-holds
+returns-in_err-put_texts-clause-holds g c = on_ok_none _ _ c.from_residual.result c.from_residual.ensures.1
+
+pub returns-in_err-put_texts-clause-there : goal.returns-in_err-put_texts-clause-there
+returns-in_err-put_texts-clause-there g c = on_ok_none _ _ c.from_residual.result c.from_residual.ensures.1
+
+pub returns-in_err-put_texts-clause-name : goal.returns-in_err-put_texts-clause-name
+returns-in_err-put_texts-clause-name g c = if_ok_none _ _ c.from_residual.result c.from_residual.ensures.1
+
+pub returns-clause-run : goal.returns-clause-run
+returns-clause-run g c = record { passes = (returns-clause-works g c).passes; cause = λ err. absurd (false≢true err) }
+
+pub returns-clause-name : goal.returns-clause-name
+returns-clause-name g c = c.into_temp.ensures.name ∙ c.put_texts.ensures.rest.1 ∙ c.new-sink.ensures.name

@@ -15,18 +15,6 @@ loop-k-init g c = record {
   rest = g.met.O.Sink.rest_none c.args.out.now;
 }
 
-pub returns-in_err-put_if_to-clause-writes : goal.returns-in_err-put_if_to-clause-writes
-returns-in_err-put_if_to-clause-writes g c =
-    let t = c.args.turn.now in
-    let past = (plain_turn t).past in
-    let n = c.args.name.now in
-    let k = c.loop-k.k in
-    let all : length past ≡ t.count = marks-length (plain_options t.task.options.now) t.task.set.now t.count t.verdicts.now c.requires.turn.within c.requires.turn.task.ready.rows in
-    let mark = c.earlier_patch.ensures.mark no_mark in
-    let stop = writes_is c.from_residual.result _ (writes_stop c.in_err-put_if_to.field-0.0 c.from_residual.result (rejected_before (drop (k + 1) past) n) c.from_residual.ensures.0
-    (writes_then tt (Err c.in_err-put_if_to.field-0.0) c.loop-k.invariant.writes (writes_is (Err c.in_err-put_if_to.field-0.0) _ c.in_err-put_if_to.ensures.writes (ap (λ (m : Mark). text_if n m.rejected) (sym mark))))) in
-    stop (ap (λ (l : List ℕ). l ++ rejected_before (drop (k + 1) past) n) (rejected-more past k no_mark n (omega arith)) ∙ rejected-split past (k + 1) n)
-
 pub loop-k-preserved : goal.loop-k-preserved
 loop-k-preserved g c =
     let t = c.args.turn.now in
@@ -40,9 +28,42 @@ loop-k-preserved g c =
       rest = g.met.O.Sink.rest_both _ _ _ c.loop-k.invariant.rest c.put_if_to.ensures.rest;
     }
 
-pub returns-clause-writes : goal.returns-clause-writes
-returns-clause-writes g c =
-    let t = c.args.turn.now in
-    let past = (plain_turn t).past in
-    let all : length past ≡ t.count = marks-length (plain_options t.task.options.now) t.task.set.now t.count t.verdicts.now c.requires.turn.within c.requires.turn.task.ready.rows in
-    writes_is (Ok tt) _ c.loop-k.invariant.writes (ap (λ (l : List Mark). rejected_before l c.args.name.now) (take_all c.loop-k.k past (omega arith)))
+pub returns-in_err-put_if_to : goal.returns-in_err-put_if_to
+returns-in_err-put_if_to g c = record {
+  writes = (
+      let t = c.args.turn.now in
+      let past = (plain_turn t).past in
+      let n = c.args.name.now in
+      let k = c.loop-k.k in
+      let all : length past ≡ t.count = marks-length (plain_options t.task.options.now) t.task.set.now t.count t.verdicts.now c.requires.turn.within c.requires.turn.task.ready.rows in
+      let mark = c.earlier_patch.ensures.mark no_mark in
+      let stop = writes_is c.from_residual.result _ (writes_stop c.in_err-put_if_to.field-0.0 c.from_residual.result (rejected_before (drop (k + 1) past) n) c.from_residual.ensures.0
+      (writes_then tt (Err c.in_err-put_if_to.field-0.0) c.loop-k.invariant.writes (writes_is (Err c.in_err-put_if_to.field-0.0) _ c.in_err-put_if_to.ensures.writes (ap (λ (m : Mark). text_if n m.rejected) (sym mark))))) in
+      stop (ap (λ (l : List ℕ). l ++ rejected_before (drop (k + 1) past) n) (rejected-more past k no_mark n (omega arith)) ∙ rejected-split past (k + 1) n));
+  rest = g.met.O.Sink.rest_both _ _ _ c.loop-k.invariant.rest c.in_err-put_if_to.ensures.rest;
+}
+
+pub returns : goal.returns
+returns g c = record {
+  writes = (
+      let t = c.args.turn.now in
+      let past = (plain_turn t).past in
+      let all : length past ≡ t.count = marks-length (plain_options t.task.options.now) t.task.set.now t.count t.verdicts.now c.requires.turn.within c.requires.turn.task.ready.rows in
+      writes_is (Ok tt) _ c.loop-k.invariant.writes (ap (λ (l : List Mark). rejected_before l c.args.name.now) (take_all c.loop-k.k past (omega arith))));
+  rest = c.loop-k.invariant.rest;
+}
+
+pub put_if_to-requires-clause-fit : goal.put_if_to-requires-clause-fit
+put_if_to-requires-clause-fit g c = c.earlier_patch.ensures.fit
+
+pub put_if_to-requires-clause-rows : goal.put_if_to-requires-clause-rows
+put_if_to-requires-clause-rows g c = c.earlier_patch.ensures.rows
+
+pub put_if_to-requires-clause-turn : goal.put_if_to-requires-clause-turn
+put_if_to-requires-clause-turn g c = c.requires.turn
+
+pub earlier_patch-requires-clause-low : goal.earlier_patch-requires-clause-low
+earlier_patch-requires-clause-low g c = c.loop-k-test.true
+
+pub earlier_patch-requires-clause-turn : goal.earlier_patch-requires-clause-turn
+earlier_patch-requires-clause-turn g c = c.requires.turn

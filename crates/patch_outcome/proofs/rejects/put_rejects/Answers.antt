@@ -6,8 +6,9 @@ use Rattle.patch_outcome.specs.Outcome.{rejects_text}
 use Rattle.patch_outcome.specs.TurnView.{plain_turn}
 use Rattle.patch_effects.specs.Making.{Makes, IsGone}
 use Rattle.patch_effects.specs.declared.fault.RunFault.TheVariants.{Tree}
-use Rattle.patch_effects.proofs.Making.{puts_made, puts_part, put_keeps, put_gone, gone_kept}
+use Rattle.patch_effects.proofs.Making.{puts_made, puts_part, put_keeps, put_gone, gone_kept, makes_works}
 use Rattle.patch_effects.proofs.Tidy.{put_if_tidy, makes_tidy, tidy_none}
+use Rattle.outside.proofs.Quiet.{works_none}
 use Rattle.patch_outcome.proofs.rejects.put_rejects.Goals as goal
 
 pub returns-in-Ok-clause-makes : goal.returns-in-Ok-clause-makes
@@ -33,15 +34,6 @@ returns-in-Ok-clause-gone g c =
     (λ (ne : t.temp ≢ t.reject_temp). gone_kept t.temp puts.run.passes (put_keeps u w t.reject_temp t.reject (λ f. text) puts.ok t.temp (λ eq. apart t.reject t.temp named.lasting.reject named.temps.own (sym eq)) ne) c.requires.gone)
     (equal_or_not t.temp t.reject_temp)
 
-pub returns-in-Err-clause-makes : goal.returns-in-Err-clause-makes
-returns-in-Err-clause-makes g c =
-    let u = g.T.Tree.view c.args.tree.now in
-    let w = g.T.Tree.view c.swap_rejects.new.tree in
-    let t = c.args.target.now in
-    let text = rejects_text (plain_turn c.args.turn.now) t c.args.side c.args.verdicts.now in
-    subst (λ b. Makes {R = Unit {0}} u w (Err Tree) t.temp (λ f. put_if b t.reject text)) (sym c.if-not-rejected.false)
-    (puts_part t.reject_temp t.reject (λ f. text) c.requires.named.temps.reject c.requires.quiet _ Tree t.temp c.in-Err.ensures)
-
 pub returns-in-Ok-clause-tidy : goal.returns-in-Ok-clause-tidy
 returns-in-Ok-clause-tidy g c =
     let t = c.args.target.now in
@@ -49,20 +41,44 @@ returns-in-Ok-clause-tidy g c =
     makes_tidy {R = Unit {0}} tt t.temp (λ f. put_if c.args.rejected t.reject text) (λ f told. returns-in-Ok-clause-makes g c) (returns-in-Ok-clause-gone g c)
     (λ f. put_if_tidy c.args.rejected t.reject text c.requires.named.lasting.reject)
 
-pub returns-then-not-rejected-clause-tidy : goal.returns-then-not-rejected-clause-tidy
-returns-then-not-rejected-clause-tidy g c = tidy_none (g.T.Tree.view c.args.tree.now)
+pub returns-in-Err : goal.returns-in-Err
+returns-in-Err g c = record {
+  makes = (
+      let u = g.T.Tree.view c.args.tree.now in
+      let w = g.T.Tree.view c.swap_rejects.new.tree in
+      let t = c.args.target.now in
+      let text = rejects_text (plain_turn c.args.turn.now) t c.args.side c.args.verdicts.now in
+      subst (λ b. Makes {R = Unit {0}} u w (Err Tree) t.temp (λ f. put_if b t.reject text)) (sym c.if-not-rejected.false)
+      (puts_part t.reject_temp t.reject (λ f. text) c.requires.named.temps.reject c.requires.quiet _ Tree t.temp c.in-Err.ensures));
+  goes = record { passes = c.in-Err.ensures.run.passes; cause = (refl, c.in-Err.ensures.run.cause refl); quiet = tt };
+  gone = tt;
+  tidy = tt;
+}
 
-pub returns-then-not-rejected-clause-goes : goal.returns-then-not-rejected-clause-goes
-returns-then-not-rejected-clause-goes g c = record { passes = passes_none (g.T.Tree.view c.args.tree.now); cause = tt; quiet = c.requires.quiet }
+pub returns-then-not-rejected : goal.returns-then-not-rejected
+returns-then-not-rejected g c = record {
+  tidy = tidy_none (g.T.Tree.view c.args.tree.now);
+  goes = record { passes = passes_none (g.T.Tree.view c.args.tree.now); cause = tt; quiet = c.requires.quiet };
+  gone = c.requires.gone;
+  makes = (
+      let u = g.T.Tree.view c.args.tree.now in
+      let t = c.args.target.now in
+      let text = rejects_text (plain_turn c.args.turn.now) t c.args.side c.args.verdicts.now in
+      subst (λ b. Makes {R = Unit {0}} u u (Ok tt) t.temp (λ f. put_if b t.reject text)) (sym c.if-not-rejected.true)
+      (makes_works t.temp c.requires.named.temps.own (works_none u t.temp c.requires.quiet) tt));
+}
 
-pub returns-then-not-rejected-clause-gone : goal.returns-then-not-rejected-clause-gone
-returns-then-not-rejected-clause-gone g c = c.requires.gone
+pub swap_rejects-requires-clause-hunks : goal.swap_rejects-requires-clause-hunks
+swap_rejects-requires-clause-hunks g c = c.requires.hunks c.if-not-rejected.false
 
-pub returns-in-Err-clause-goes : goal.returns-in-Err-clause-goes
-returns-in-Err-clause-goes g c = record { passes = c.in-Err.ensures.run.passes; cause = (refl, c.in-Err.ensures.run.cause refl); quiet = tt }
+pub swap_rejects-requires-clause-rows : goal.swap_rejects-requires-clause-rows
+swap_rejects-requires-clause-rows g c = c.requires.rows
 
-pub returns-in-Err-clause-gone : goal.returns-in-Err-clause-gone
-returns-in-Err-clause-gone g c = tt
+pub swap_rejects-requires-clause-turn : goal.swap_rejects-requires-clause-turn
+swap_rejects-requires-clause-turn g c = c.requires.turn
 
-pub returns-in-Err-clause-tidy : goal.returns-in-Err-clause-tidy
-returns-in-Err-clause-tidy g c = tt
+pub swap_rejects-requires-clause-named : goal.swap_rejects-requires-clause-named
+swap_rejects-requires-clause-named g c = c.requires.named
+
+pub swap_rejects-requires-clause-quiet : goal.swap_rejects-requires-clause-quiet
+swap_rejects-requires-clause-quiet g c = c.requires.quiet

@@ -1,4 +1,4 @@
-use Rattle.std.proofs.Common.{ℕ, List, [], unwrap_or, Option, refl, sym, ◌∙◌, ap, subst}
+use Rattle.std.proofs.Common.{ℕ, List, [], unwrap_or, Option, refl, sym, ◌∙◌, ap, subst, IsSome, is_err}
 use Rattle.outside.specs.Files.{bytes_at}
 use Rattle.outside.specs.Quiet.{WorksOn, Holds}
 use Rattle.outside.proofs.Views.{rises_then}
@@ -7,6 +7,7 @@ use Rattle.replace_file.specs.Puts.{Puts}
 use Rattle.replace_file.proofs.Putting.{puts_failed, puts_after}
 use Rattle.patch_outcome.specs.Outcome.{rejects_text}
 use Rattle.patch_outcome.specs.TurnView.{plain_turn}
+use Rattle.outside.specs.Calls.{IsThere}
 use Rattle.patch_outcome.proofs.rejects.swap_rejects.Goals as goal
 
 pub fill_rejects-requires-clause-empty : goal.fill_rejects-requires-clause-empty
@@ -44,3 +45,40 @@ returns g c =
     let holds : Holds w t.reject_temp text = subst (λ n. Holds w n text) named c.in_ok-filled.ensures.holds in
     let puts : Puts w x c.put_begun.result t.reject_temp t.reject (λ f. bytes_at f t.reject_temp) = subst (λ (n : List ℕ). Puts w x c.put_begun.result n t.reject (λ f. bytes_at f n)) (c.in_ok-filled.ensures.name ∙ named) c.put_begun.ensures in
     puts_after u w t.reject_temp is works works.seals c.put_begun.result x t.reject (λ f. text) (λ f g told now. ap (λ (o : Option (List ℕ)). unwrap_or o []) (holds g now)) puts
+
+pub fill_rejects-requires-clause-rows : goal.fill_rejects-requires-clause-rows
+fill_rejects-requires-clause-rows g c = c.requires.rows
+
+pub fill_rejects-requires-clause-turn : goal.fill_rejects-requires-clause-turn
+fill_rejects-requires-clause-turn g c = c.requires.turn
+
+pub fill_rejects-requires-clause-hunks : goal.fill_rejects-requires-clause-hunks
+fill_rejects-requires-clause-hunks g c = c.requires.hunks
+
+pub fill_rejects-requires-clause-named : goal.fill_rejects-requires-clause-named
+fill_rejects-requires-clause-named g c = c.requires.named
+
+pub fill_rejects-requires-clause-there : goal.fill_rejects-requires-clause-there
+fill_rejects-requires-clause-there g c f now = subst (λ (o : Option (List ℕ)). IsSome o) (sym (fill_rejects-requires-clause-empty g c f now)) refl
+
+pub fill_rejects-requires-clause-quiet : goal.fill_rejects-requires-clause-quiet
+fill_rejects-requires-clause-quiet g c = (c.begin_temp.ensures.works c.requires.quiet).quiet
+
+pub put_begun-requires-clause-there : goal.put_begun-requires-clause-there
+put_begun-requires-clause-there g c = subst (λ n. IsThere (g.T.Tree.view c.fill_rejects.new.tree) n) (sym c.in_ok-filled.ensures.name) c.in_ok-filled.ensures.there
+
+pub put_begun-requires-clause-lasting : goal.put_begun-requires-clause-lasting
+put_begun-requires-clause-lasting g c = c.requires.named.lasting.reject
+
+pub put_begun-requires-clause-quiet : goal.put_begun-requires-clause-quiet
+put_begun-requires-clause-quiet g c = c.fill_rejects.ensures.works.quiet
+
+pub returns-in_err-begun : goal.returns-in_err-begun
+returns-in_err-begun g c =
+    let t = c.args.target.now in
+    let works = c.begin_temp.ensures.works c.requires.quiet in
+    puts_failed (g.T.Tree.view c.args.tree.now) (g.T.Tree.view c.begin_temp.new.tree) t.reject_temp c.requires.named.temps.reject works works.seals c.from_residual.result t.reject (λ f. rejects_text (plain_turn c.args.turn.now) t c.args.side c.args.verdicts.now) c.from_residual.ensures.0
+    (c.begin_temp.ensures.run.cause (ap is_err c.in_err-begun.was))
+
+pub begin_temp-requires : goal.begin_temp-requires
+begin_temp-requires g c = c.requires.named.temps.reject

@@ -1,13 +1,26 @@
-use Rattle.std.proofs.Common.{sym, ap}
+use Rattle.std.proofs.Common.{sym, ap, Ok, [], if◌then◌else◌}
 use Rattle.say_text.specs.Messages.{not_deleting_line}
-use Rattle.outside.proofs.Writing.{writes_is}
+use Rattle.outside.proofs.Writing.{writes_is, writes_none}
 use Rattle.patch_outcome.specs.Outcome.{is_kept}
 use Rattle.patch_task.specs.Turns.{shown}
 use Rattle.patch_outcome.specs.TurnView.{plain_turn}
 use Rattle.patch_outcome.proofs.Telling.{where_true}
+use Rattle.outside.specs.SinkView.{sink_passes_none}
+use Rattle.std.proofs.lemmas.Bool.{false≢true}
 use Rattle.patch_outcome.proofs.saying.say_kept.Goals as goal
 
-pub returns-then-is_kept-clause-writes : goal.returns-then-is_kept-clause-writes
-returns-then-is_kept-clause-writes g c x side is =
-    where_true c.say_not_deleting.result (is_kept (plain_turn c.args.turn.now) x) (not_deleting_line (shown c.args.target.now)) (sym (c.if-is_kept.ensures x side is))
-    (writes_is c.say_not_deleting.result (not_deleting_line (shown c.args.target.now)) c.say_not_deleting.ensures.writes (ap not_deleting_line c.shown.ensures))
+pub returns-then-is_kept : goal.returns-then-is_kept
+returns-then-is_kept g c = record {
+  writes = λ x side is.
+      where_true c.say_not_deleting.result (is_kept (plain_turn c.args.turn.now) x) (not_deleting_line (shown c.args.target.now)) (sym (c.if-is_kept.ensures x side is))
+      (writes_is c.say_not_deleting.result (not_deleting_line (shown c.args.target.now)) c.say_not_deleting.ensures.writes (ap not_deleting_line c.shown.ensures));
+  rest = c.say_not_deleting.ensures.rest;
+  call = c.say_not_deleting.ensures.writes.call;
+}
+
+pub returns-else-is_kept : goal.returns-else-is_kept
+returns-else-is_kept g c = record {
+  rest = g.met.O.Sink.rest_none _;
+  call = record { passes = sink_passes_none _; cause = λ err. absurd (false≢true err) };
+  writes = λ x side is. writes_is (Ok tt) _ (writes_none (g.O.Sink.view c.args.out.now) tt) (sym (ap (λ b. if b then not_deleting_line (shown c.args.target.now) else []) (sym (c.if-is_kept.ensures x side is))));
+}

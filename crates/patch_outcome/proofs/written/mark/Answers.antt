@@ -5,10 +5,10 @@ use Rattle.target_names.specs.declared.derived.Target.{Target}
 use Rattle.patch_outcome.specs.Outcome.{is_name}
 use Rattle.patch_outcome.proofs.written.mark.Goals as goal
 
-pub returns-in-Some-clause-marked : goal.returns-in-Some-clause-marked
-returns-in-Some-clause-marked c q =
-    c.mark.ensures.marked (c.mark.ensures.room ∙ c.requires c.in-Some.target.now (ap option_copied c.in-Some.is)) q
-    ∙ ap (λ (x : Option Target). is_name q (option_map (λ w. w.name) x) || is_marked c.args.names.now q) (sym (ap option_copied c.in-Some.is))
-
-pub returns-in-Some-clause-rooms : goal.returns-in-Some-clause-rooms
-returns-in-Some-clause-rooms c = c.mark.ensures.rooms
+pub returns-in-Some : goal.returns-in-Some
+returns-in-Some c = record {
+  marked = λ q.
+      c.mark.ensures.marked (c.mark.ensures.room ∙ c.requires c.in-Some.target.now (ap option_copied c.in-Some.is)) q
+      ∙ ap (λ (x : Option Target). is_name q (option_map (λ w. w.name) x) || is_marked c.args.names.now q) (sym (ap option_copied c.in-Some.is));
+  rooms = c.mark.ensures.rooms;
+}

@@ -28,13 +28,13 @@ mark-requires-2 c =
     subst (λ (x : Option Target). ForSome x (HasRoom m)) (sym (c.renamed_by.ensures.target any c.args.set.now))
     (renamed-roomy m (alone any c.args.set.now c.args.patch.now) c.args.row (still-roomy n m c.mark.ensures.rooms c.args.patch.now.targets.items c.requires.targets))
 
-pub returns-clause-marked : goal.returns-clause-marked
-returns-clause-marked c o q =
-    c.mark-2.ensures.marked q
-    ∙ ap (λ (x : Option Target). is_name q (option_map (λ w. w.name) x) || is_marked c.mark.new.names q) (c.renamed_by.ensures.target o c.args.set.now)
-    ∙ ap (λ b. is_name q (option_map (λ (w : Target). w.name) (renamed_by (alone o c.args.set.now c.args.patch.now) c.args.row)) || b)
-    (c.mark.ensures.marked q
-    ∙ ap (λ (x : Option Target). is_name q (option_map (λ w. w.name) x) || is_marked c.args.names.now q) (c.written_by.ensures.target o))
-
-pub returns-clause-rooms : goal.returns-clause-rooms
-returns-clause-rooms c q = c.mark-2.ensures.rooms q ∙ c.mark.ensures.rooms q
+pub returns : goal.returns
+returns c = record {
+  marked = λ o q.
+      c.mark-2.ensures.marked q
+      ∙ ap (λ (x : Option Target). is_name q (option_map (λ w. w.name) x) || is_marked c.mark.new.names q) (c.renamed_by.ensures.target o c.args.set.now)
+      ∙ ap (λ b. is_name q (option_map (λ (w : Target). w.name) (renamed_by (alone o c.args.set.now c.args.patch.now) c.args.row)) || b)
+      (c.mark.ensures.marked q
+      ∙ ap (λ (x : Option Target). is_name q (option_map (λ w. w.name) x) || is_marked c.args.names.now q) (c.written_by.ensures.target o));
+  rooms = λ q. c.mark-2.ensures.rooms q ∙ c.mark.ensures.rooms q;
+}

@@ -51,53 +51,6 @@ pub apply_at-requires-clause-numbered : goal.apply_at-requires-clause-numbered
 apply_at-requires-clause-numbered g c =
     subst (λ (l : List FilePatch). AreNumbered 0 l) (sym c.loop-k.invariant.same.patches) (numbered c.args.set.now.text 0 0 c.args.set.now.patches c.requires.read.1.spans)
 
-pub returns-in_err-done-clause-runs : goal.returns-in_err-done-clause-runs
-returns-in_err-done-clause-runs g c =
-    let u = g.T.Tree.view c.args.tree.now in
-    let x = g.T.Tree.view c.loop-k.tree in
-    let w = g.T.Tree.view c.apply_at.new.tree in
-    let a = g.P.LineStore.seen c.args.plan.now in
-    let b = g.P.LineStore.seen c.loop-k.plan in
-    let b' = g.P.LineStore.seen c.apply_at.new.plan in
-    let d = g.O.Sink.view c.args.out.now in
-    let e = g.O.Sink.view c.loop-k.out in
-    let h = g.O.Sink.view c.apply_at.new.out in
-    let o = plain_options c.args.options.now in
-    let v = c.loop-k.set in
-    let k = c.loop-k.k in
-    let inv = c.loop-k.invariant in
-    let same : length v.patches ≡ length c.args.set.now.patches = ap (λ (l : List FilePatch). length l) inv.same.patches in
-    let lt : k < length v.patches = omega (arith, c.loop-k-test.true, same, ap (λ (l : List FilePatch). length l) c.patches.ensures.patches) in
-    let p = patch-there v.patches k lt in
-    let places : AreNumbered 0 v.patches = subst (λ (l : List FilePatch). AreNumbered 0 l) (sym inv.same.patches) (numbered c.args.set.now.text 0 0 c.args.set.now.patches c.requires.read.1.spans) in
-    let next : IsNext v k p.0 c.loop-k.verdicts c.apply_at.new.verdicts = record { within = lt; at = p.1; numbered = places; rows = inv.rows; before = c.in_err-done.ensures.before p.0 p.1 } in
-    runs_cut u x w a b b' d e h o c.args.set.now v k p.0 c.loop-k.verdicts c.apply_at.new.verdicts next inv.same inv.goes inv.at c.in_err-done.field-0.0 c.from_residual.result c.from_residual.ensures.1 (c.in_err-done.ensures.does p.0 p.1)
-
-pub returns-in_err-done-clause-cut : goal.returns-in_err-done-clause-cut
-returns-in_err-done-clause-cut g c =
-    let u = g.T.Tree.view c.args.tree.now in
-    let x = g.T.Tree.view c.loop-k.tree in
-    let w = g.T.Tree.view c.apply_at.new.tree in
-    let a = g.P.LineStore.seen c.args.plan.now in
-    let b = g.P.LineStore.seen c.loop-k.plan in
-    let b' = g.P.LineStore.seen c.apply_at.new.plan in
-    let d = g.O.Sink.view c.args.out.now in
-    let e = g.O.Sink.view c.loop-k.out in
-    let h = g.O.Sink.view c.apply_at.new.out in
-    let o = plain_options c.args.options.now in
-    let v = c.loop-k.set in
-    let k = c.loop-k.k in
-    let inv = c.loop-k.invariant in
-    let same : length v.patches ≡ length c.args.set.now.patches = ap (λ (l : List FilePatch). length l) inv.same.patches in
-    let lt : k < length v.patches = omega (arith, c.loop-k-test.true, same, ap (λ (l : List FilePatch). length l) c.patches.ensures.patches) in
-    let p = patch-there v.patches k lt in
-    let places : AreNumbered 0 v.patches = subst (λ (l : List FilePatch). AreNumbered 0 l) (sym inv.same.patches) (numbered c.args.set.now.text 0 0 c.args.set.now.patches c.requires.read.1.spans) in
-    let next : IsNext v k p.0 c.loop-k.verdicts c.apply_at.new.verdicts = record { within = lt; at = p.1; numbered = places; rows = inv.rows; before = c.in_err-done.ensures.before p.0 p.1 } in
-    cut_ends u x w a b b' d e h o c.args.set.now v k p.0 c.loop-k.verdicts c.apply_at.new.verdicts next inv.same inv.goes inv.at c.in_err-done.field-0.0 c.from_residual.result c.from_residual.ensures.1 (c.in_err-done.ensures.does p.0 p.1)
-
-pub returns-in_err-done-clause-dry : goal.returns-in_err-done-clause-dry
-returns-in_err-done-clause-dry g c dry = untouched_both (c.loop-k.invariant.dry dry) (c.in_err-done.ensures.dry dry)
-
 pub loop-k-preserved : goal.loop-k-preserved
 loop-k-preserved g c =
     let u = g.T.Tree.view c.args.tree.now in
@@ -149,46 +102,56 @@ loop-k-preserved g c =
           (placed_next o v k p.0 done.row ws lines lt p.1 inv.rows (c.in_ok-done.ensures.placed p.0 lines p.1 told));
     }
 
-pub returns-clause-runs : goal.returns-clause-runs
-returns-clause-runs g c =
-    let u = g.T.Tree.view c.args.tree.now in
-    let inv = c.loop-k.invariant in
-    let same : length c.loop-k.set.patches ≡ length c.args.set.now.patches = ap (λ (l : List FilePatch). length l) inv.same.patches in
-    let all : c.loop-k.k ≡ length c.loop-k.set.patches = omega (arith, c.loop-k-test.false, same, ap (λ (l : List FilePatch). length l) c.patches.ensures.patches) in
-    runs_all (plain_options c.args.options.now) c.args.set.now c.loop-k.set c.loop-k.k c.loop-k.verdicts all inv.same inv.at c.new.result inv.goes
-
-pub returns-clause-cut : goal.returns-clause-cut
-returns-clause-cut g c = tt
-
-pub returns-clause-rest : goal.returns-clause-rest
-returns-clause-rest g c = c.loop-k.invariant.rest
-
-pub returns-clause-dry : goal.returns-clause-dry
-returns-clause-dry g c = c.loop-k.invariant.dry
-
-pub returns-clause-set : goal.returns-clause-set
-returns-clause-set g c = c.loop-k.invariant.same
-
-pub returns-in_err-done-clause-rest : goal.returns-in_err-done-clause-rest
-returns-in_err-done-clause-rest g c = g.met.O.Sink.rest_both _ _ _ c.loop-k.invariant.rest c.in_err-done.ensures.rest
-
-pub returns-in_err-done-clause-set : goal.returns-in_err-done-clause-set
-returns-in_err-done-clause-set g c = c.loop-k.invariant.same
-
-pub returns-clause-verdicts : goal.returns-clause-verdicts
-returns-clause-verdicts g c = c.loop-k.invariant.long ∙ ap (λ (l : List FilePatch). hunks_in l) c.loop-k.invariant.same.patches ∙ sym c.requires.verdicts
-
-pub returns-in_err-done-clause-verdicts : goal.returns-in_err-done-clause-verdicts
-returns-in_err-done-clause-verdicts g c = c.in_err-done.ensures.verdicts ∙ c.loop-k.invariant.long ∙ ap (λ (l : List FilePatch). hunks_in l) c.loop-k.invariant.same.patches ∙ sym c.requires.verdicts
-
-pub returns-in_err-done-clause-receipt : goal.returns-in_err-done-clause-receipt
-returns-in_err-done-clause-receipt g c = if_ok_none _ _ c.from_residual.result c.from_residual.ensures.1
-
-pub returns-in_err-done-clause-done : goal.returns-in_err-done-clause-done
-returns-in_err-done-clause-done g c = if_ok_none _ _ c.from_residual.result c.from_residual.ensures.1
-
-pub returns-in_err-done-clause-placed : goal.returns-in_err-done-clause-placed
-returns-in_err-done-clause-placed g c = on_ok_none _ _ c.from_residual.result c.from_residual.ensures.1
+pub returns-in_err-done : goal.returns-in_err-done
+returns-in_err-done g c = record {
+  runs = (
+      let u = g.T.Tree.view c.args.tree.now in
+      let x = g.T.Tree.view c.loop-k.tree in
+      let w = g.T.Tree.view c.apply_at.new.tree in
+      let a = g.P.LineStore.seen c.args.plan.now in
+      let b = g.P.LineStore.seen c.loop-k.plan in
+      let b' = g.P.LineStore.seen c.apply_at.new.plan in
+      let d = g.O.Sink.view c.args.out.now in
+      let e = g.O.Sink.view c.loop-k.out in
+      let h = g.O.Sink.view c.apply_at.new.out in
+      let o = plain_options c.args.options.now in
+      let v = c.loop-k.set in
+      let k = c.loop-k.k in
+      let inv = c.loop-k.invariant in
+      let same : length v.patches ≡ length c.args.set.now.patches = ap (λ (l : List FilePatch). length l) inv.same.patches in
+      let lt : k < length v.patches = omega (arith, c.loop-k-test.true, same, ap (λ (l : List FilePatch). length l) c.patches.ensures.patches) in
+      let p = patch-there v.patches k lt in
+      let places : AreNumbered 0 v.patches = subst (λ (l : List FilePatch). AreNumbered 0 l) (sym inv.same.patches) (numbered c.args.set.now.text 0 0 c.args.set.now.patches c.requires.read.1.spans) in
+      let next : IsNext v k p.0 c.loop-k.verdicts c.apply_at.new.verdicts = record { within = lt; at = p.1; numbered = places; rows = inv.rows; before = c.in_err-done.ensures.before p.0 p.1 } in
+      runs_cut u x w a b b' d e h o c.args.set.now v k p.0 c.loop-k.verdicts c.apply_at.new.verdicts next inv.same inv.goes inv.at c.in_err-done.field-0.0 c.from_residual.result c.from_residual.ensures.1 (c.in_err-done.ensures.does p.0 p.1));
+  cut = (
+      let u = g.T.Tree.view c.args.tree.now in
+      let x = g.T.Tree.view c.loop-k.tree in
+      let w = g.T.Tree.view c.apply_at.new.tree in
+      let a = g.P.LineStore.seen c.args.plan.now in
+      let b = g.P.LineStore.seen c.loop-k.plan in
+      let b' = g.P.LineStore.seen c.apply_at.new.plan in
+      let d = g.O.Sink.view c.args.out.now in
+      let e = g.O.Sink.view c.loop-k.out in
+      let h = g.O.Sink.view c.apply_at.new.out in
+      let o = plain_options c.args.options.now in
+      let v = c.loop-k.set in
+      let k = c.loop-k.k in
+      let inv = c.loop-k.invariant in
+      let same : length v.patches ≡ length c.args.set.now.patches = ap (λ (l : List FilePatch). length l) inv.same.patches in
+      let lt : k < length v.patches = omega (arith, c.loop-k-test.true, same, ap (λ (l : List FilePatch). length l) c.patches.ensures.patches) in
+      let p = patch-there v.patches k lt in
+      let places : AreNumbered 0 v.patches = subst (λ (l : List FilePatch). AreNumbered 0 l) (sym inv.same.patches) (numbered c.args.set.now.text 0 0 c.args.set.now.patches c.requires.read.1.spans) in
+      let next : IsNext v k p.0 c.loop-k.verdicts c.apply_at.new.verdicts = record { within = lt; at = p.1; numbered = places; rows = inv.rows; before = c.in_err-done.ensures.before p.0 p.1 } in
+      cut_ends u x w a b b' d e h o c.args.set.now v k p.0 c.loop-k.verdicts c.apply_at.new.verdicts next inv.same inv.goes inv.at c.in_err-done.field-0.0 c.from_residual.result c.from_residual.ensures.1 (c.in_err-done.ensures.does p.0 p.1));
+  dry = λ dry. untouched_both (c.loop-k.invariant.dry dry) (c.in_err-done.ensures.dry dry);
+  rest = g.met.O.Sink.rest_both _ _ _ c.loop-k.invariant.rest c.in_err-done.ensures.rest;
+  set = c.loop-k.invariant.same;
+  verdicts = c.in_err-done.ensures.verdicts ∙ c.loop-k.invariant.long ∙ ap (λ (l : List FilePatch). hunks_in l) c.loop-k.invariant.same.patches ∙ sym c.requires.verdicts;
+  receipt = if_ok_none _ _ c.from_residual.result c.from_residual.ensures.1;
+  done = if_ok_none _ _ c.from_residual.result c.from_residual.ensures.1;
+  placed = on_ok_none _ _ c.from_residual.result c.from_residual.ensures.1;
+}
 
 pub apply_at-requires-clause-within : goal.apply_at-requires-clause-within
 apply_at-requires-clause-within g c =
@@ -217,19 +180,28 @@ note-requires g c =
     let same : length c.loop-k.set.patches ≡ length c.args.set.now.patches = ap (λ (l : List FilePatch). length l) c.loop-k.invariant.same.patches in
     omega (arith, c.loop-k-test.true, same, ap (λ (l : List FilePatch). length l) c.patches.ensures.patches)
 
-pub returns-clause-receipt : goal.returns-clause-receipt
-returns-clause-receipt g c =
-    let inv = c.loop-k.invariant in
-    let same : length c.loop-k.set.patches ≡ length c.args.set.now.patches = ap (λ (l : List FilePatch). length l) inv.same.patches in
-    let all : c.loop-k.k ≡ length c.loop-k.set.patches = omega (arith, c.loop-k-test.false, same, ap (λ (l : List FilePatch). length l) c.patches.ensures.patches) in
-    receipt_all (plain_options c.args.options.now) c.args.set.now c.loop-k.set c.loop-k.k c.loop-k.verdicts all inv.same inv.at _ c.new.result inv.long inv.rows c.new.ensures (ap (λ (l : List FilePatch). length l) c.patches.ensures.patches)
-
-pub returns-clause-done : goal.returns-clause-done
-returns-clause-done g c = ap (λ (r : Receipt). r.done) c.new.ensures ∙ ap (λ (l : List FilePatch). length l) c.patches.ensures.patches
-
-pub returns-clause-placed : goal.returns-clause-placed
-returns-clause-placed g c lines told =
-    let inv = c.loop-k.invariant in
-    let same : length c.loop-k.set.patches ≡ length c.args.set.now.patches = ap (λ (l : List FilePatch). length l) inv.same.patches in
-    let all : c.loop-k.k ≡ length c.loop-k.set.patches = omega (arith, c.loop-k-test.false, same, ap (λ (l : List FilePatch). length l) c.patches.ensures.patches) in
-    placed_all (plain_options c.args.options.now) c.loop-k.set c.loop-k.k c.loop-k.verdicts lines all inv.rows (inv.placed lines told)
+pub returns : goal.returns
+returns g c = record {
+  runs = (
+      let u = g.T.Tree.view c.args.tree.now in
+      let inv = c.loop-k.invariant in
+      let same : length c.loop-k.set.patches ≡ length c.args.set.now.patches = ap (λ (l : List FilePatch). length l) inv.same.patches in
+      let all : c.loop-k.k ≡ length c.loop-k.set.patches = omega (arith, c.loop-k-test.false, same, ap (λ (l : List FilePatch). length l) c.patches.ensures.patches) in
+      runs_all (plain_options c.args.options.now) c.args.set.now c.loop-k.set c.loop-k.k c.loop-k.verdicts all inv.same inv.at c.new.result inv.goes);
+  cut = tt;
+  rest = c.loop-k.invariant.rest;
+  dry = c.loop-k.invariant.dry;
+  set = c.loop-k.invariant.same;
+  verdicts = c.loop-k.invariant.long ∙ ap (λ (l : List FilePatch). hunks_in l) c.loop-k.invariant.same.patches ∙ sym c.requires.verdicts;
+  receipt = (
+      let inv = c.loop-k.invariant in
+      let same : length c.loop-k.set.patches ≡ length c.args.set.now.patches = ap (λ (l : List FilePatch). length l) inv.same.patches in
+      let all : c.loop-k.k ≡ length c.loop-k.set.patches = omega (arith, c.loop-k-test.false, same, ap (λ (l : List FilePatch). length l) c.patches.ensures.patches) in
+      receipt_all (plain_options c.args.options.now) c.args.set.now c.loop-k.set c.loop-k.k c.loop-k.verdicts all inv.same inv.at _ c.new.result inv.long inv.rows c.new.ensures (ap (λ (l : List FilePatch). length l) c.patches.ensures.patches));
+  done = ap (λ (r : Receipt). r.done) c.new.ensures ∙ ap (λ (l : List FilePatch). length l) c.patches.ensures.patches;
+  placed = λ lines told.
+      let inv = c.loop-k.invariant in
+      let same : length c.loop-k.set.patches ≡ length c.args.set.now.patches = ap (λ (l : List FilePatch). length l) inv.same.patches in
+      let all : c.loop-k.k ≡ length c.loop-k.set.patches = omega (arith, c.loop-k-test.false, same, ap (λ (l : List FilePatch). length l) c.patches.ensures.patches) in
+      placed_all (plain_options c.args.options.now) c.loop-k.set c.loop-k.k c.loop-k.verdicts lines all inv.rows (inv.placed lines told);
+}

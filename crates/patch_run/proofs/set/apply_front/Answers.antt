@@ -1,5 +1,5 @@
-use Rattle.std.proofs.Common.{◌≡◌, ◌⊎◌, ℕ, List, [], length, take, drop, replicate, Some, IfOk, sym, ◌∙◌, ap, subst, arith, length-append, length-drop}
-use Rattle.std.proofs.lemmas.List.{take_at, drop_at, length-take}
+use Rattle.std.proofs.Common.{◌≡◌, ◌⊎◌, ℕ, List, [], length, take, drop, replicate, Some, IfOk, sym, ◌∙◌, ap, subst, arith, length-append, length-drop, ◌≤◌}
+use Rattle.std.proofs.lemmas.List.{take_at, drop_at, length-take, length-take-le}
 use Rattle.hunk_core.specs.declared.Verdict.{Verdict}
 use Rattle.hunk_core.specs.declared.Verdict.TheVariants.{Ignored}
 use Rattle.hunk_apply.specs.Change.{change_verdicts}
@@ -10,55 +10,63 @@ use Rattle.patch_outcome.specs.TurnView.{plain_turn}
 use Rattle.patch_outcome.proofs.Marks.{rows-counted}
 use Rattle.patch_run.proofs.set.apply_front.Goals as goal
 
-pub returns-clause-does : goal.returns-clause-does
-returns-clause-does g c =
-    let n = row_count c.args.turn.now.task.patch.now.change in
-    let is : c.hunks-count.result ≡ n = c.hunks-count.ensures [] ∙ rows-counted [] c.args.turn.now.task.patch.now.change in
-    let ws = c.apply_one.new.verdicts in
-    let long : length ws ≡ n = omega (arith, c.apply_one.ensures.rows, length-take c.hunks-count.result c.args.verdicts.now, is, c.requires.rows) in
-    subst (λ (l : List Verdict). Does (g.T.Tree.view c.args.tree.now) (g.T.Tree.view c.apply_one.new.tree) (g.P.LineStore.seen c.args.plan.now) (g.P.LineStore.seen c.apply_one.new.plan) (g.O.Sink.view c.args.out.now) (g.O.Sink.view c.apply_one.new.out) g.P.Plan.scratch_after c.apply_one.result l (ending (plain_turn c.args.turn.now)))
-    (sym (take_at ws (drop c.hunks-count.result c.args.verdicts.now) n long))
-    c.apply_one.ensures.does
-
-pub returns-clause-behind : goal.returns-clause-behind
-returns-clause-behind g c =
-    let n = row_count c.args.turn.now.task.patch.now.change in
-    let is : c.hunks-count.result ≡ n = c.hunks-count.ensures [] ∙ rows-counted [] c.args.turn.now.task.patch.now.change in
-    let ws = c.apply_one.new.verdicts in
-    let long : length ws ≡ n = omega (arith, c.apply_one.ensures.rows, length-take c.hunks-count.result c.args.verdicts.now, is, c.requires.rows) in
-    drop_at ws (drop c.hunks-count.result c.args.verdicts.now) n long ∙ ap (λ k. drop k c.args.verdicts.now) is
-
-pub returns-clause-verdicts : goal.returns-clause-verdicts
-returns-clause-verdicts g c =
-    let n = row_count c.args.turn.now.task.patch.now.change in
-    let is : c.hunks-count.result ≡ n = c.hunks-count.ensures [] ∙ rows-counted [] c.args.turn.now.task.patch.now.change in
-    let rest = drop c.hunks-count.result c.args.verdicts.now in
-    omega (arith, length-append c.apply_one.new.verdicts rest, length-drop c.hunks-count.result c.args.verdicts.now, c.apply_one.ensures.rows, length-take c.hunks-count.result c.args.verdicts.now, is, c.requires.rows)
-
-pub returns-clause-rest : goal.returns-clause-rest
-returns-clause-rest g c = c.apply_one.ensures.rest
-
-pub returns-clause-dry : goal.returns-clause-dry
-returns-clause-dry g c = c.apply_one.ensures.dry
-
-pub returns-clause-few : goal.returns-clause-few
-returns-clause-few g c = c.apply_one.ensures.few
-
-pub returns-clause-placed : goal.returns-clause-placed
-returns-clause-placed g c =
-    let n = row_count c.args.turn.now.task.patch.now.change in
-    let count = c.hunks-count.result in
-    let is : count ≡ n = c.hunks-count.ensures [] ∙ rows-counted [] c.args.turn.now.task.patch.now.change in
-    let ws = c.apply_one.new.verdicts in
-    let own : length (take count c.args.verdicts.now) ≡ n = omega (arith, length-take count c.args.verdicts.now, is, c.requires.rows) in
-    let o = c.args.turn.now.task.options.now in
-    let placed : List Verdict → ℕ → Type 0 = λ l m. IfOk c.apply_one.result (λ done. (lines : List (List ℕ)) → (g.P.LineStore.seen c.apply_one.new.plan).told ≡ Some lines
-    → (l ≡ replicate m Ignored) ⊎ (l ≡ change_verdicts lines o.fuzz o.loose done.row.side (plain_turn c.args.turn.now).item.patch.change)) in
-    subst (λ (l : List Verdict). placed l n) (sym (take_at ws (drop count c.args.verdicts.now) n (c.apply_one.ensures.rows ∙ own)))
-    (subst (λ (m : ℕ). placed ws m) own c.apply_one.ensures.placed)
+pub returns : goal.returns
+returns g c = record {
+  does = (
+      let n = row_count c.args.turn.now.task.patch.now.change in
+      let is : c.hunks-count.result ≡ n = c.hunks-count.ensures [] ∙ rows-counted [] c.args.turn.now.task.patch.now.change in
+      let ws = c.apply_one.new.verdicts in
+      let long : length ws ≡ n = omega (arith, c.apply_one.ensures.rows, length-take c.hunks-count.result c.args.verdicts.now, is, c.requires.rows) in
+      subst (λ (l : List Verdict). Does (g.T.Tree.view c.args.tree.now) (g.T.Tree.view c.apply_one.new.tree) (g.P.LineStore.seen c.args.plan.now) (g.P.LineStore.seen c.apply_one.new.plan) (g.O.Sink.view c.args.out.now) (g.O.Sink.view c.apply_one.new.out) g.P.Plan.scratch_after c.apply_one.result l (ending (plain_turn c.args.turn.now)))
+      (sym (take_at ws (drop c.hunks-count.result c.args.verdicts.now) n long))
+      c.apply_one.ensures.does);
+  behind = (
+      let n = row_count c.args.turn.now.task.patch.now.change in
+      let is : c.hunks-count.result ≡ n = c.hunks-count.ensures [] ∙ rows-counted [] c.args.turn.now.task.patch.now.change in
+      let ws = c.apply_one.new.verdicts in
+      let long : length ws ≡ n = omega (arith, c.apply_one.ensures.rows, length-take c.hunks-count.result c.args.verdicts.now, is, c.requires.rows) in
+      drop_at ws (drop c.hunks-count.result c.args.verdicts.now) n long ∙ ap (λ k. drop k c.args.verdicts.now) is);
+  verdicts = (
+      let n = row_count c.args.turn.now.task.patch.now.change in
+      let is : c.hunks-count.result ≡ n = c.hunks-count.ensures [] ∙ rows-counted [] c.args.turn.now.task.patch.now.change in
+      let rest = drop c.hunks-count.result c.args.verdicts.now in
+      omega (arith, length-append c.apply_one.new.verdicts rest, length-drop c.hunks-count.result c.args.verdicts.now, c.apply_one.ensures.rows, length-take c.hunks-count.result c.args.verdicts.now, is, c.requires.rows));
+  rest = c.apply_one.ensures.rest;
+  dry = c.apply_one.ensures.dry;
+  few = c.apply_one.ensures.few;
+  placed = (
+      let n = row_count c.args.turn.now.task.patch.now.change in
+      let count = c.hunks-count.result in
+      let is : count ≡ n = c.hunks-count.ensures [] ∙ rows-counted [] c.args.turn.now.task.patch.now.change in
+      let ws = c.apply_one.new.verdicts in
+      let own : length (take count c.args.verdicts.now) ≡ n = omega (arith, length-take count c.args.verdicts.now, is, c.requires.rows) in
+      let o = c.args.turn.now.task.options.now in
+      let placed : List Verdict → ℕ → Type 0 = λ l m. IfOk c.apply_one.result (λ done. (lines : List (List ℕ)) → (g.P.LineStore.seen c.apply_one.new.plan).told ≡ Some lines
+      → (l ≡ replicate m Ignored) ⊎ (l ≡ change_verdicts lines o.fuzz o.loose done.row.side (plain_turn c.args.turn.now).item.patch.change)) in
+      subst (λ (l : List Verdict). placed l n) (sym (take_at ws (drop count c.args.verdicts.now) n (c.apply_one.ensures.rows ∙ own)))
+      (subst (λ (m : ℕ). placed ws m) own c.apply_one.ensures.placed));
+}
 
 pub apply_one-requires-clause-rows : goal.apply_one-requires-clause-rows
 apply_one-requires-clause-rows g c =
     let n = row_count c.args.turn.now.task.patch.now.change in
     let is : c.hunks-count.result ≡ n = c.hunks-count.ensures [] ∙ rows-counted [] c.args.turn.now.task.patch.now.change in
     omega (arith, length-take c.hunks-count.result c.args.verdicts.now, is, c.requires.rows)
+
+pub slice_bounds-own-end-2 : goal.slice_bounds-own-end-2
+slice_bounds-own-end-2 g c = sym (length-take-le c.hunks-count.result c.args.verdicts.now (subst (λ n. n ≤ length c.args.verdicts.now) (sym (c.hunks-count.ensures [] ∙ rows-counted [] c.args.turn.now.task.patch.now.change)) c.requires.rows))
+
+pub slice_bounds-own-end : goal.slice_bounds-own-end
+slice_bounds-own-end g c = subst (λ n. n ≤ length c.args.verdicts.now) (sym (c.hunks-count.ensures [] ∙ rows-counted [] c.args.turn.now.task.patch.now.change)) c.requires.rows
+
+pub apply_one-requires-clause-turn : goal.apply_one-requires-clause-turn
+apply_one-requires-clause-turn g c = c.requires.turn
+
+pub apply_one-requires-clause-quiet : goal.apply_one-requires-clause-quiet
+apply_one-requires-clause-quiet g c = c.requires.quiet
+
+pub apply_one-requires-clause-size : goal.apply_one-requires-clause-size
+apply_one-requires-clause-size g c = c.requires.size
+
+pub hunks-count-requires : goal.hunks-count-requires
+hunks-count-requires g c = c.requires.turn.task.fit.hunks

@@ -1,4 +1,4 @@
-use Rattle.std.proofs.Common.{◌≡◌, Bool, true, false, List, ℕ, Option, None, Result, Ok, Err, if◌then◌else◌, sym, ◌∙◌, ap}
+use Rattle.std.proofs.Common.{◌≡◌, Bool, true, false, List, ℕ, Option, None, Result, Ok, Err, if◌then◌else◌, sym, ◌∙◌, ap, Some, subst, length}
 use Rattle.outside.specs.SinkView.{SinkView, Writes}
 use Rattle.outside.proofs.Writing.{writes_is}
 use Rattle.outside.proofs.Exits.{if_ok_none}
@@ -9,7 +9,8 @@ use Rattle.target_names.specs.declared.derived.Target.{Target}
 use Rattle.patch_task.specs.Turns.{PlainTurn, bytes_of, shown, written}
 use Rattle.patch_start.specs.Start.{Start, exists_said, said_first, skips_at, on_taking, on_existing, turns_round}
 use Rattle.patch_task.specs.TaskView.{plain_task}
-use Rattle.patch_start.proofs.StartSteps.{Begins, begins_first, begins_skips, starts_said, starts_unsaid, starts_is}
+use Rattle.patch_start.proofs.StartSteps.{Begins, begins_first, begins_skips, starts_said, starts_unsaid, starts_is, starts_skips, writes_value}
+use Rattle.patch_start.specs.Starting.{IsWithin}
 use Rattle.patch_start.proofs.starting.on_existing.Goals as goal
 
 -- the line that says so
@@ -30,35 +31,60 @@ module _ (t : PlainTurn) (place : ℕ) (bytes : Option (List ℕ)) (side : Side)
   chosen : (b : Bool) → turns_round t ≡ b → (if b then said_first (exists_said t place true) (on_taking t place bytes true (other_side side)) else skips_at (exists_said t place false) place side None) ≡ on_existing t place bytes side
   chosen b is = sym (ap (λ (x : Bool). if x then said_first (exists_said t place true) (on_taking t place bytes true (other_side side)) else skips_at (exists_said t place false) place side None) is)
 
-pub returns-in_err-say_exists-clause-starts : goal.returns-in_err-say_exists-clause-starts
-returns-in_err-say_exists-clause-starts g c =
-    let t = plain_task c.args.task.now in
-    let place = c.args.place in
-    starts_unsaid _ _ c.in_err-say_exists.field-0.0 c.from_residual.result (λ f. on_existing t place (bytes_of t f place) c.args.side) c.from_residual.ensures.1
-    (said (Err c.in_err-say_exists.field-0.0) t place c.shown.result.now c.written.result.now c.turns_round-is_turned.result (turns_round t) c.in_err-say_exists.ensures.writes c.shown.ensures c.written.ensures.target c.turns_round-is_turned.ensures)
-    (λ f. begins t place (bytes_of t f place) c.args.side)
+pub returns-in_err-say_exists : goal.returns-in_err-say_exists
+returns-in_err-say_exists g c = record {
+  starts = (
+      let t = plain_task c.args.task.now in
+      let place = c.args.place in
+      starts_unsaid _ _ c.in_err-say_exists.field-0.0 c.from_residual.result (λ f. on_existing t place (bytes_of t f place) c.args.side) c.from_residual.ensures.1
+      (said (Err c.in_err-say_exists.field-0.0) t place c.shown.result.now c.written.result.now c.turns_round-is_turned.result (turns_round t) c.in_err-say_exists.ensures.writes c.shown.ensures c.written.ensures.target c.turns_round-is_turned.ensures)
+      (λ f. begins t place (bytes_of t f place) c.args.side));
+  rest = c.in_err-say_exists.ensures.rest;
+  within = if_ok_none _ _ c.from_residual.result c.from_residual.ensures.1;
+}
 
-pub returns-then-is_turned-clause-starts : goal.returns-then-is_turned-clause-starts
-returns-then-is_turned-clause-starts g c =
-    let t = plain_task c.args.task.now in
-    let place = c.args.place in
-    starts_is c.on_taking.result (λ f. on_existing t place (bytes_of t f place) c.args.side)
-    (starts_said _ c.on_taking.result
-    (said (Ok c.in_ok-say_exists.field-0) t place c.shown.result.now c.written.result.now c.turns_round-is_turned.result true c.in_ok-say_exists.ensures.writes c.shown.ensures c.written.ensures.target c.if-is_turned.true)
-    (rw c.other.ensures at c.on_taking.ensures.starts))
-    (λ f told. chosen t place (bytes_of t f place) c.args.side true (sym c.if-is_turned.ensures))
+pub returns-then-is_turned : goal.returns-then-is_turned
+returns-then-is_turned g c = record {
+  starts = (
+      let t = plain_task c.args.task.now in
+      let place = c.args.place in
+      starts_is c.on_taking.result (λ f. on_existing t place (bytes_of t f place) c.args.side)
+      (starts_said _ c.on_taking.result
+      (said (Ok c.in_ok-say_exists.field-0) t place c.shown.result.now c.written.result.now c.turns_round-is_turned.result true c.in_ok-say_exists.ensures.writes c.shown.ensures c.written.ensures.target c.if-is_turned.true)
+      (starts_is c.on_taking.result (λ f. on_taking t place (bytes_of t f place) true (other_side c.args.side)) c.on_taking.ensures.starts (λ f told. ap (λ (s : Side). on_taking t place (bytes_of t f place) true s) c.other.ensures)))
+      (λ f told. chosen t place (bytes_of t f place) c.args.side true (sym c.if-is_turned.ensures)));
+  rest = g.met.O.Sink.rest_both _ _ _ c.in_ok-say_exists.ensures.rest c.on_taking.ensures.rest;
+  within = c.on_taking.ensures.within;
+}
 
-pub returns-in_err-say_exists-clause-rest : goal.returns-in_err-say_exists-clause-rest
-returns-in_err-say_exists-clause-rest g c = c.in_err-say_exists.ensures.rest
+pub returns-else-is_turned : goal.returns-else-is_turned
+returns-else-is_turned g c = record {
+  rest = c.in_ok-say_exists.ensures.rest;
+  starts = (
+      let t = plain_task c.args.task.now in
+      let place = c.args.place in
+      starts_is (Ok c.skip_at.result) (λ f. on_existing t place (bytes_of t f place) c.args.side)
+      (starts_skips _ _ (Ok c.skip_at.result) (record { side = c.args.side; target = Some place; wrote = false })
+      (writes_value c.in_ok-say_exists.field-0 c.skip_at.result (said (Ok c.in_ok-say_exists.field-0) t place c.shown.result.now c.written.result.now c.turns_round-is_turned.result false c.in_ok-say_exists.ensures.writes c.shown.ensures c.written.ensures.target c.if-is_turned.false))
+      tt c.skip_at.ensures)
+      (λ f told. chosen t place (bytes_of t f place) c.args.side false (sym c.if-is_turned.ensures)));
+  within = subst (IsWithin (length c.args.task.now.patch.now.targets.items)) (sym c.skip_at.ensures) tt;
+}
 
-pub returns-in_err-say_exists-clause-within : goal.returns-in_err-say_exists-clause-within
-returns-in_err-say_exists-clause-within g c = if_ok_none _ _ c.from_residual.result c.from_residual.ensures.1
+pub on_taking-requires-clause-within : goal.on_taking-requires-clause-within
+on_taking-requires-clause-within g c = c.requires.within
 
-pub returns-then-is_turned-clause-rest : goal.returns-then-is_turned-clause-rest
-returns-then-is_turned-clause-rest g c = g.met.O.Sink.rest_both _ _ _ c.in_ok-say_exists.ensures.rest c.on_taking.ensures.rest
+pub on_taking-requires-clause-task : goal.on_taking-requires-clause-task
+on_taking-requires-clause-task g c = c.requires.task
 
-pub returns-then-is_turned-clause-within : goal.returns-then-is_turned-clause-within
-returns-then-is_turned-clause-within g c = c.on_taking.ensures.within
+pub on_taking-requires-clause-there : goal.on_taking-requires-clause-there
+on_taking-requires-clause-there g c = c.requires.there
 
-pub returns-else-is_turned-clause-rest : goal.returns-else-is_turned-clause-rest
-returns-else-is_turned-clause-rest g c = c.in_ok-say_exists.ensures.rest
+pub on_taking-requires-clause-size : goal.on_taking-requires-clause-size
+on_taking-requires-clause-size g c = c.requires.size
+
+pub written-requires-clause-within : goal.written-requires-clause-within
+written-requires-clause-within g c = c.requires.within
+
+pub written-requires-clause-task : goal.written-requires-clause-task
+written-requires-clause-task g c = c.requires.task

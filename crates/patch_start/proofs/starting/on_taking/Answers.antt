@@ -3,15 +3,36 @@ use Rattle.patch_task.specs.Turns.{bytes_of}
 use Rattle.patch_start.specs.Start.{on_prereq}
 use Rattle.patch_task.specs.TaskView.{plain_task}
 use Rattle.patch_start.proofs.StartTaken.{starts_taken, starts_untaken, takes_at, prereq_about}
+use Rattle.outside.proofs.Exits.{if_ok_none}
 use Rattle.patch_start.proofs.starting.on_taking.Goals as goal
 
-pub returns-in_err-take-clause-starts : goal.returns-in_err-take-clause-starts
-returns-in_err-take-clause-starts g c =
-    let t = plain_task c.args.task.now in
-    starts_untaken (bytes_of t) c.args.place (λ bytes. on_prereq t c.args.place bytes c.args.was_turned c.args.side) _ c.in_err-take.field-0.0 c.from_residual.result c.requires.size c.from_residual.ensures.1 (takes_at {r = Err c.in_err-take.field-0.0} c.chosen.ensures.target c.in_err-take.ensures)
+pub returns-in_err-take : goal.returns-in_err-take
+returns-in_err-take g c = record {
+  starts = (
+      let t = plain_task c.args.task.now in
+      starts_untaken (bytes_of t) c.args.place (λ bytes. on_prereq t c.args.place bytes c.args.was_turned c.args.side) _ c.in_err-take.field-0.0 c.from_residual.result c.requires.size c.from_residual.ensures.1 (takes_at {r = Err c.in_err-take.field-0.0} c.chosen.ensures.target c.in_err-take.ensures));
+  rest = g.met.O.Sink.rest_none _;
+  within = if_ok_none _ _ c.from_residual.result c.from_residual.ensures.1;
+}
 
-pub returns-clause-starts : goal.returns-clause-starts
-returns-clause-starts g c =
-    let t = plain_task c.args.task.now in
-    starts_taken (bytes_of t) c.args.place (λ bytes. on_prereq t c.args.place bytes c.args.was_turned c.args.side) c.weigh.result c.requires.size (takes_at {r = Ok tt} c.chosen.ensures.target c.in_ok-take.ensures) c.weigh.ensures.weighs c.requires.there
-    (λ f. prereq_about t c.args.place (bytes_of t f c.args.place) c.args.was_turned c.args.side)
+pub returns : goal.returns
+returns g c = record {
+  starts = (
+      let t = plain_task c.args.task.now in
+      starts_taken (bytes_of t) c.args.place (λ bytes. on_prereq t c.args.place bytes c.args.was_turned c.args.side) c.weigh.result c.requires.size (takes_at {r = Ok tt} c.chosen.ensures.target c.in_ok-take.ensures) c.weigh.ensures.weighs c.requires.there
+      (λ f. prereq_about t c.args.place (bytes_of t f c.args.place) c.args.was_turned c.args.side));
+  rest = c.weigh.ensures.rest;
+  within = c.weigh.ensures.within;
+}
+
+pub weigh-requires-clause-within : goal.weigh-requires-clause-within
+weigh-requires-clause-within g c = c.requires.within
+
+pub weigh-requires-clause-task : goal.weigh-requires-clause-task
+weigh-requires-clause-task g c = c.requires.task
+
+pub chosen-requires-clause-within : goal.chosen-requires-clause-within
+chosen-requires-clause-within g c = c.requires.within
+
+pub chosen-requires-clause-task : goal.chosen-requires-clause-task
+chosen-requires-clause-task g c = c.requires.task

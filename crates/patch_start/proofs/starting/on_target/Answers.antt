@@ -7,7 +7,9 @@ use Rattle.patch_task.specs.Turns.{PlainTurn, shown}
 use Rattle.patch_start.specs.Start.{patching_said, on_target, on_creation, named, origin_of}
 use Rattle.name_choice.specs.Choice.{side_of}
 use Rattle.patch_task.specs.TaskView.{plain_task}
-use Rattle.patch_start.proofs.StartSteps.{starts_said, starts_unsaid, begins_first}
+use Rattle.patch_start.proofs.StartSteps.{starts_said, starts_unsaid, begins_first, starts_is}
+use Rattle.outside.proofs.Exits.{if_ok_none}
+use Rattle.hunk_core.specs.declared.Side.{Side}
 use Rattle.patch_start.proofs.starting.on_target.Goals as goal
 
 line : (t : PlainTurn) (place : ℕ) (name : List ℕ) (origin : PlainOrigin) (target : Target) → name ≡ shown target → target ≡ named t place → origin ≡ origin_of t place
@@ -16,14 +18,46 @@ line t place name origin target shows is from =
     ap (λ (n : List ℕ). silenced t.options (patching_line t.options.dry_run t.options.output n origin)) (shows ∙ ap shown is)
     ∙ ap (λ (x : PlainOrigin). silenced t.options (patching_line t.options.dry_run t.options.output (shown (named t place)) x)) from
 
-pub returns-in_err-say_patching-clause-starts : goal.returns-in_err-say_patching-clause-starts
-returns-in_err-say_patching-clause-starts g c =
-    let t = plain_task c.args.task.now in
-    starts_unsaid _ _ c.in_err-say_patching.field-0.0 c.from_residual.result (λ f. on_target t f c.args.place) c.from_residual.ensures.1
-    (writes_is _ _ (c.in_err-say_patching.ensures.writes) (line t c.args.place _ _ _ c.shown.ensures c.named.ensures.target c.origin.ensures.origin))
-    (λ f. begins_first (patching_said t c.args.place) (on_creation t f c.args.place (side_of t.options.reverse)))
+pub returns : goal.returns
+returns g c = record {
+  starts = (
+      let t = plain_task c.args.task.now in
+      starts_said c.in_ok-say_patching.field-0 c.on_creation.result (writes_is _ _ (c.in_ok-say_patching.ensures.writes) (line t c.args.place _ _ _ c.shown.ensures c.named.ensures.target c.origin.ensures.origin)) (starts_is c.on_creation.result (λ f. on_creation t f c.args.place (side_of t.options.reverse)) c.on_creation.ensures.starts (λ f told. ap (λ (s : Side). on_creation t f c.args.place s) c.own_side.ensures)));
+  rest = g.met.O.Sink.rest_both _ _ _ c.in_ok-say_patching.ensures.rest c.on_creation.ensures.rest;
+  within = c.on_creation.ensures.within;
+}
 
-pub returns-clause-starts : goal.returns-clause-starts
-returns-clause-starts g c =
-    let t = plain_task c.args.task.now in
-    starts_said c.in_ok-say_patching.field-0 c.on_creation.result (writes_is _ _ (c.in_ok-say_patching.ensures.writes) (line t c.args.place _ _ _ c.shown.ensures c.named.ensures.target c.origin.ensures.origin)) (rw c.own_side.ensures at c.on_creation.ensures.starts)
+pub returns-in_err-say_patching : goal.returns-in_err-say_patching
+returns-in_err-say_patching g c = record {
+  starts = (
+      let t = plain_task c.args.task.now in
+      starts_unsaid _ _ c.in_err-say_patching.field-0.0 c.from_residual.result (λ f. on_target t f c.args.place) c.from_residual.ensures.1
+      (writes_is _ _ (c.in_err-say_patching.ensures.writes) (line t c.args.place _ _ _ c.shown.ensures c.named.ensures.target c.origin.ensures.origin))
+      (λ f. begins_first (patching_said t c.args.place) (on_creation t f c.args.place (side_of t.options.reverse))));
+  rest = c.in_err-say_patching.ensures.rest;
+  within = if_ok_none _ _ c.from_residual.result c.from_residual.ensures.1;
+}
+
+pub on_creation-requires-clause-within : goal.on_creation-requires-clause-within
+on_creation-requires-clause-within g c = c.requires.within
+
+pub on_creation-requires-clause-task : goal.on_creation-requires-clause-task
+on_creation-requires-clause-task g c = c.requires.task
+
+pub on_creation-requires-clause-there : goal.on_creation-requires-clause-there
+on_creation-requires-clause-there g c = c.requires.there
+
+pub on_creation-requires-clause-size : goal.on_creation-requires-clause-size
+on_creation-requires-clause-size g c = c.requires.size
+
+pub origin-requires-clause-within : goal.origin-requires-clause-within
+origin-requires-clause-within g c = c.requires.within
+
+pub origin-requires-clause-task : goal.origin-requires-clause-task
+origin-requires-clause-task g c = c.requires.task
+
+pub named-requires-clause-within : goal.named-requires-clause-within
+named-requires-clause-within g c = c.requires.within
+
+pub named-requires-clause-task : goal.named-requires-clause-task
+named-requires-clause-task g c = c.requires.task

@@ -8,6 +8,7 @@ use Rattle.patch_task.specs.Turns.{Mark, PlainTurn}
 use Rattle.patch_start.specs.Start.{on_choice, choice_of, skipped_said, own_start, start}
 use Rattle.patch_task.specs.TaskView.{plain_task, with_past}
 use Rattle.patch_start.proofs.StartSteps.{starts_said, starts_unsaid, starts_is, begins_first}
+use Rattle.outside.proofs.Exits.{if_ok_none}
 use Rattle.patch_start.proofs.starting.start.Goals as goal
 
 -- once its first words are said, a file patch is taken alike whatever was before it
@@ -23,17 +24,31 @@ module _ (past : List Mark) (t : PlainTurn) (f : Files) where
 said_if : (t : PlainTurn) (first other : Bool) → first ≡ other → (if other then skipping_lines t.item.skipped else []) ≡ (if first then skipping_lines t.item.skipped else [])
 said_if t first other is = ap (λ (b : Bool). if b then skipping_lines t.item.skipped else []) (sym is)
 
-pub returns-in_err-tell_skipped-clause-starts : goal.returns-in_err-tell_skipped-clause-starts
+pub returns : goal.returns
 unfolding start
-returns-in_err-tell_skipped-clause-starts g c past first =
-    let t = plain_task c.args.task.now in
-    starts_unsaid _ _ c.in_err-tell_skipped.field-0.0 c.from_residual.result (λ f. start (with_past past t) f) c.from_residual.ensures.1
-    (writes_is _ _ c.in_err-tell_skipped.ensures.writes (said_if t _ _ first))
-    (λ f. begins_first (skipped_said (with_past past t)) (own_start (with_past past t) f))
+returns g c = record {
+  starts = λ past first.
+      let t = plain_task c.args.task.now in
+      starts_said c.in_ok-tell_skipped.field-0 c.start_own.result (writes_is _ _ c.in_ok-tell_skipped.ensures.writes (said_if t _ _ first))
+      (starts_is c.start_own.result (λ f. own_start (with_past past t) f) c.start_own.ensures.starts (λ f told. own_same past t f));
+  rest = g.met.O.Sink.rest_both _ _ _ c.in_ok-tell_skipped.ensures.rest c.start_own.ensures.rest;
+  within = c.start_own.ensures.within;
+}
 
-pub returns-clause-starts : goal.returns-clause-starts
+pub returns-in_err-tell_skipped : goal.returns-in_err-tell_skipped
 unfolding start
-returns-clause-starts g c past first =
-    let t = plain_task c.args.task.now in
-    starts_said c.in_ok-tell_skipped.field-0 c.start_own.result (writes_is _ _ c.in_ok-tell_skipped.ensures.writes (said_if t _ _ first))
-    (starts_is c.start_own.result (λ f. own_start (with_past past t) f) c.start_own.ensures.starts (λ f told. own_same past t f))
+returns-in_err-tell_skipped g c = record {
+  starts = λ past first.
+      let t = plain_task c.args.task.now in
+      starts_unsaid _ _ c.in_err-tell_skipped.field-0.0 c.from_residual.result (λ f. start (with_past past t) f) c.from_residual.ensures.1
+      (writes_is _ _ c.in_err-tell_skipped.ensures.writes (said_if t _ _ first))
+      (λ f. begins_first (skipped_said (with_past past t)) (own_start (with_past past t) f));
+  rest = c.in_err-tell_skipped.ensures.rest;
+  within = if_ok_none _ _ c.from_residual.result c.from_residual.ensures.1;
+}
+
+pub start_own-requires-clause-task : goal.start_own-requires-clause-task
+start_own-requires-clause-task g c = c.requires.task
+
+pub start_own-requires-clause-size : goal.start_own-requires-clause-size
+start_own-requires-clause-size g c = c.requires.size
