@@ -2,7 +2,6 @@
 use Rattle.std.proofs.Common.{◌≡◌, ℕ, zero, List, [], Bool, true, false, ◌+◌, ◌≤◌, if◌then◌else◌, Result, Ok, Err, OnOk, refl, sym, ◌∙◌, ap, arith}
 use Rattle.std.proofs.lemmas.Option.{same_Some}
 use Rattle.std.proofs.lemmas.Result.{IfErr-weaker}
-use Rattle.std.specs.Result.{IsErrAnd}
 use Rattle.outside.specs.Files.{Files, is_temp}
 use Rattle.outside.specs.TreeView.{TreeView, Passes, passes_both}
 use Rattle.outside.specs.Calls.{IsUntouched}
@@ -15,6 +14,7 @@ use Rattle.patch_effects.specs.declared.fault.RunFault.{RunFault}
 use Rattle.patch_effects.specs.Named.{IsNamed}
 use Rattle.patch_effects.specs.Making.{Makes, GoesQuietly, IsTidy}
 use Rattle.patch_effects.proofs.Making.{makes_both, makes_works, untouched_works}
+pub use Rattle.patch_effects.proofs.Making.{goes_both, goes_value, goes_fault}
 use Rattle.patch_effects.proofs.Tidy.{tidy_both, untouched_tidy}
 
 -- work on a temporary alone has no effect
@@ -51,22 +51,6 @@ module _ {R : Type 0} {u v : TreeView} {t : Target} (named : IsNamed t) (same : 
   makes_none e =
       let made = works_made t.temp named.temps.own (untouched_works t.temp same quiet) in
       record { ok = tt; err = λ f told. record { tells = tells_longer u v [] (es f) (es f) refl (made_tells_all u v [] made); leaves = since_longer u v [] (es f) (es f) refl made.since } }
-
--- ---- what goes quietly, call after call
-
-pub goes_both : {R S : Type 0} {u v w : TreeView} (x : R) (r : Result S RunFault) → GoesQuietly u v (Ok x) → GoesQuietly v w r → GoesQuietly u w r
-goes_both {u = u} {v = v} {w = w} x r first second = record {
-  passes = passes_both first.passes second.passes;
-  cause = IfErr-weaker r _ _ (λ e is. (is.0, rises_then u v w first.passes is.1)) second.cause;
-  quiet = second.quiet;
-}
-
-pub goes_value : {R S : Type 0} {u w : TreeView} (x : R) (y : S) → GoesQuietly u w (Ok x) → GoesQuietly u w (Ok y)
-goes_value x y goes = record { passes = goes.passes; cause = tt; quiet = goes.quiet }
-
-pub goes_fault : {R S : Type 0} {u w : TreeView} (e : RunFault) (r : Result S RunFault) → IsErrAnd r (λ d. d ≡ e) → GoesQuietly {R = R} u w (Err e) → GoesQuietly u w r
-goes_fault e (Ok x) is goes = absurd is
-goes_fault e (Err d) is goes = record { passes = goes.passes; cause = (is ∙ goes.cause.0, goes.cause.1); quiet = tt }
 
 pub five_most : (rejected : Bool) (all made : ℕ) → all ≡ made + (if rejected then 1 else 0) → made ≤ 4 → all ≤ 5
 five_most true all made is few = omega arith

@@ -1,8 +1,6 @@
 -- A file that is read whole, and what a text that was read says of the files.
-use Rattle.std.proofs.Common.{◌≡◌, ◌⊎◌, inl, inr, ℕ, ◌≤◌, List, [], ◌++◌, codes, length, take, drop, Option, None, Some, Result, Ok, Err, IfOk, is_some, unwrap_or, sym, ◌∙◌, ap, subst, arith, append_assoc, refl}
+use Rattle.std.proofs.Common.{◌≡◌, ◌⊎◌, inl, inr, ℕ, List, [], ◌++◌, codes, length, take, drop, Option, None, Some, Result, Ok, Err, IfOk, is_some, sym, ◌∙◌, ap, subst, append_assoc, refl}
 use Rattle.std.specs.Prelude.{option_map}
-use Rattle.std.proofs.lemmas.List.{take_all}
-use Rattle.std.proofs.lemmas.Option.{same_Some}
 use Rattle.std.proofs.Math.Seq.{take-append_seam}
 use Rattle.std.specs.FinMap.{get}
 use Rattle.num_text.specs.Numbers.{decimal}
@@ -10,6 +8,7 @@ use Rattle.outside.specs.Files.{Files}
 use Rattle.outside.specs.TreeView.{TreeView}
 use Rattle.outside.specs.Calls.{IsUntouched}
 use Rattle.outside.proofs.Views.{rises_then}
+pub use Rattle.series_stack.proofs.Taking.{whole-came, held_there, held_long}
 use Rattle.series_stack.specs.declared.fault.StateFile.{StateFile}
 use Rattle.series_stack.specs.declared.fault.StateFile.TheVariants.{Save}
 use Rattle.stack_law.specs.Stack.{Refusal, save_name, saved_in}
@@ -20,9 +19,6 @@ use Rattle.stack_state.specs.Reading.{last_save, whole_save}
 use Rattle.stack_state.specs.Causes.{HasCause, HasReadCause}
 
 -- ---- bytes that came
-pub whole-came : (old new bytes : List ℕ) (n : ℕ) → length new ≡ length old → length old ≤ n → length old ≡ length bytes → take n new ≡ take (length old) (drop 0 bytes) → new ≡ bytes
-whole-came old new bytes n same enough long came = sym (take_all n new (omega (arith, same, enough))) ∙ came ∙ take_all (length old) bytes (omega (arith, long))
-
 pub buffer-whole : (buf items bytes : List ℕ) (n : ℕ) → length buf ≡ n → buf ≡ bytes → take n (buf ++ drop (length buf) items) ≡ bytes
 buffer-whole buf items bytes n same is = ap (λ k. take k (buf ++ drop (length buf) items)) (sym same) ∙ take-append_seam buf (drop (length buf) items) ∙ is
 
@@ -34,14 +30,6 @@ text-made n none digits a b d empty first is second third =
     ∙ ap (λ (l : List ℕ). l ++ (decimal n ++ codes ".save")) (first ∙ ap (λ (l : List ℕ). l ++ codes ".pc/") empty)
 
 -- ---- what a name stands for, by the size that a tree tells
-pub held_there : (o : Option (List ℕ)) (n : ℕ) → Some n ≡ option_map length o → o ≡ Some (unwrap_or o [])
-held_there None n e = absurd cc
-held_there (Some bytes) n e = refl
-
-pub held_long : (o : Option (List ℕ)) (n : ℕ) → Some n ≡ option_map length o → n ≡ length (unwrap_or o [])
-held_long None n e = absurd cc
-held_long (Some bytes) n e = same_Some _ _ e
-
 pub none_there : (o : Option (List ℕ)) → None ≡ option_map length o → o ≡ None
 none_there None e = refl
 none_there (Some bytes) e = absurd cc
