@@ -6,17 +6,12 @@ use Rattle.std.proofs.lemmas.Bool.{false≢true, cases_eq}
 use Rattle.std.proofs.lemmas.List.{nil_from_length}
 use Rattle.std.proofs.lemmas.Option.{none-some}
 use Rattle.line_list.specs.Lines.{lines}
-use Rattle.outside.specs.TreeView.{TreeView}
 use Rattle.outside.specs.ScratchView.{ScratchView}
 use Rattle.line_store.specs.declared.Half.{Half}
 use Rattle.line_store.specs.declared.halves.Halves.{Halves}
 use Rattle.line_store.specs.Halves.{half_of}
 use Rattle.line_store.specs.Store.{Seen}
-use Rattle.line_store.specs.declared.fault.OpenFault.{OpenFault}
-use Rattle.line_store.specs.declared.fault.OpenFault.TheVariants.{Tree, Scratch, LongLine, FileTooLong, Disagree, Memory}
-use Rattle.line_store.specs.Taking.{first_long, Takes, IsEmpty, HasOpenCause}
-use Rattle.file_pieces.specs.Held.{bare}
-use Rattle.file_pieces.specs.Reading.{IsTakeFault}
+use Rattle.line_store.specs.Taking.{first_long, Takes, IsEmpty}
 use Rattle.page_pair.specs.Pair.{Pair}
 use Rattle.file_pieces.proofs.Told.{told-something, admitted-is}
 use Rattle.plan_b.specs.declared.layout.Layout.{Layout}
@@ -66,12 +61,3 @@ written-scratch l (Some a) None file text size e telling was known m = absurd (f
 written-scratch l (Some a) (Some b) file text size e telling was known m =
     let all : b ≡ pages_of_width l.size l.width was.all = was.pages b refl in
     ap Some (all ∙ ap (pages_of_width l.size l.width) (sym (was.lines_ text known)) ∙ ap (λ w. pages_of_width l.size w (lines text)) m.fits ∙ ap (λ s. pages_of_width s (width_of (lines text)) (lines text)) e)
-
--- why a file that was measured was not copied is why none was taken
-pub open-cause : (e : OpenFault) (size : ℕ) (v w : ScratchView) (t x : TreeView) (name : List ℕ) → IsTakeFault e v w t x → HasOpenCause e (bare size v) (bare size w) t x name
-open-cause Tree size v w t x name h = h
-open-cause Scratch size v w t x name h = h
-open-cause (LongLine line length) size v w t x name h = absurd h
-open-cause (FileTooLong length) size v w t x name h = absurd h
-open-cause (Disagree want got) size v w t x name h = (h.0, λ some. h.1)
-open-cause Memory size v w t x name h = absurd h

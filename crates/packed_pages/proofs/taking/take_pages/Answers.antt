@@ -3,7 +3,7 @@ use Rattle.std.proofs.Common.{◌∙◌, refl, sym, subst, arith}
 use Rattle.outside.proofs.Views.{untouched_both}
 use Rattle.file_pieces.proofs.Readings.{told-same, take-later}
 use Rattle.packed_pages.specs.Copying.{IsWritten}
-use Rattle.packed_pages.proofs.Takings.{open-cause}
+use Rattle.file_pieces.proofs.Told.{open-cause}
 use Rattle.packed_pages.proofs.taking.take_pages.Goals as goal
 
 pub returns-in-Err-measure_layout-clause-untouched : goal.returns-in-Err-measure_layout-clause-untouched
