@@ -1,8 +1,8 @@
 -- What one step of a function says of the definitions, on plain variables.
-use Rattle.std.proofs.Common.{◌≡◌, ℕ, suc, zero, ◌+◌, ◌≤◌, ◌<◌, ◌^◌, Bool, true, false, cond, eqb, not, List, [], ◌∷◌, length, count_by, drop, get_or, Option, None, Some, Result, Ok, Err, refl, sym, ap, subst, ◌∙◌, arith, Vec, Global, IfOk}
+use Rattle.std.proofs.Common.{◌≡◌, ℕ, suc, zero, ◌+◌, ◌≤◌, ◌<◌, ◌^◌, Bool, true, false, cond, eqb, ltb, not, List, [], ◌∷◌, ◌++◌, length, count_by, drop, get_or, Option, None, Some, Result, Ok, Err, refl, sym, ap, subst, ◌∙◌, append_assoc, arith, Vec, Global, IfOk}
 use Rattle.std.specs.Prelude.{All, IfSome, vec_len, is_some}
 use Rattle.std.specs.Str.{bytes_eq}
-use Rattle.std.proofs.lemmas.Bool.{false≢true, eqb-true}
+use Rattle.std.proofs.lemmas.Bool.{false≢true, eqb-true, ltb-false}
 use Rattle.std.proofs.lemmas.List.Recursion.{is_count_by}
 use Rattle.line_list.specs.Reader.{Reads}
 use Rattle.hunk_core.specs.declared.BadKind.TheVariants as kinds
@@ -18,7 +18,7 @@ use Rattle.hunk_core.specs.Reading.{Fails, fault, Ahead, ahead}
 use Rattle.context_form.specs.declared.part.Body.{Body}
 use Rattle.context_form.specs.declared.range.Stated.{Stated}
 use Rattle.context_form.specs.Ranges.{before_range, behind_range, most, is_count, FitsBy, Fits}
-use Rattle.context_form.specs.Parts.{PlainBody, plain_of, no_body, body_at}
+use Rattle.context_form.specs.Parts.{Shown, marked_at, first_line, PlainBody, plain_of, no_body, body_at}
 use Rattle.context_form.specs.Merging.{agrees, merge, alone, joined_by, joined, kept_count, size_by}
 use Rattle.context_form.specs.Hunks.{PlainPart, fitting, range_here, old_part, too_few, enough, new_part, sized, whole, parts_at, first_hunk}
 use Rattle.context_form.specs.Presence.{is_there, begins_old_part}
@@ -33,6 +33,20 @@ is-none n e = eqb-true n 0 (sym e)
 pub is-some : (n : ℕ) → false ≡ eqb n 0 → 0 < n
 is-some zero e = absurd (false≢true e)
 is-some (suc n) e = omega arith
+
+is-more : (n : ℕ) → 0 < n → eqb n 0 ≡ false
+is-more n some = by (eqb n 0) refl
+  where
+    by : (v : Bool) → eqb n 0 ≡ v → v ≡ false
+    by false e = refl
+    by true e = absurd (omega (arith, some, eqb-true n 0 e))
+
+pub is-above : (a b : ℕ) → a < b → ltb a b ≡ true
+is-above a b less = by (ltb a b) refl
+  where
+    by : (v : Bool) → ltb a b ≡ v → v ≡ true
+    by true e = refl
+    by false e = absurd (omega (arith, less, ltb-false a b e))
 
 pub if-yes : (b : Bool) (x y : List ℕ) → b ≡ true → x ≡ cond b x y
 if-yes true x y e = refl
@@ -145,6 +159,9 @@ too-few text s (l ∷ ls) n e some off = ap (λ k. not (is_count s k)) (body-len
 pub size-wrong : (part partner : PlainPart) (n : ℕ) → size_by part.body.lines partner.body.lines ≡ n → is_count part.stated n ≡ false → sized part partner ≡ Err (fault part.number kinds.Count)
 size-wrong part partner n e off = rw (e, off) refl
 
+pub size-large : (part partner : PlainPart) (n : ℕ) → size_by part.body.lines partner.body.lines ≡ n → is_count part.stated n ≡ true → 4294967295 < part.stated.start + n → sized part partner ≡ Err (fault part.number kinds.NumberTooLarge)
+size-large part partner n e on big = rw (e, on, is-above 4294967295 (part.stated.start + n) big) refl
+
 pub whole-second : (e : FormFault) (old new : PlainPart) → sized old new ≡ Ok tt → Fails e (sized new old) → Fails e (whole old new)
 unfolding whole
 whole-second errors.Memory old new a h = tt
@@ -215,3 +232,21 @@ before-length Reversed = refl
 pub behind-length : (side : Side) → length (behind_range side) ≡ 5
 behind-length Forward = refl
 behind-length Reversed = refl
+
+pub four-pieces : (z p q r s a b c d : List ℕ) → a ≡ z ++ p → b ≡ a ++ q → c ≡ b ++ r → d ≡ c ++ s → d ≡ z ++ (p ++ (q ++ (r ++ s)))
+four-pieces z p q r s a b c d e f g h =
+    h
+    ∙ ap (λ (l : List ℕ). l ++ s) (g ∙ ap (λ (l : List ℕ). l ++ r) (f ∙ ap (λ (l : List ℕ). l ++ q) e))
+    ∙ append_assoc ((z ++ p) ++ q) r s
+    ∙ append_assoc (z ++ p) q (r ++ s)
+    ∙ append_assoc z p (q ++ (r ++ s))
+
+-- ---- a line of a part
+
+pub line-unwanted : (side : Side) (left number : ℕ) (rest more : List (List ℕ)) (line : List ℕ) (m : Shown) → rest ≡ line ∷ more → marked_at number side line ≡ Ok m → left ≡ 0 → first_line side left number rest ≡ Err (fault number kinds.Count)
+unfolding first_line
+line-unwanted side left number rest more line m e a none = rw (e, a, none) refl
+
+pub line-read : (side : Side) (left number : ℕ) (rest more : List (List ℕ)) (line : List ℕ) (m : Shown) → rest ≡ line ∷ more → marked_at number side line ≡ Ok m → 0 < left → after_backslash more ≡ None → first_line side left number rest ≡ Ok (m, ahead (number + 1) more)
+unfolding first_line
+line-read side left number rest more line m e a some none = rw (e, a, is-more left some, none) refl
