@@ -1,9 +1,11 @@
 -- What one step of a function says of the definitions, on plain variables.
-use Rattle.std.proofs.Common.{◌≡◌, ℕ, suc, zero, ◌+◌, ◌≤◌, ◌<◌, ◌^◌, Bool, true, false, cond, eqb, ltb, not, List, [], ◌∷◌, ◌++◌, length, count_by, drop, get_or, Option, None, Some, Result, Ok, Err, refl, sym, ap, subst, ◌∙◌, append_assoc, arith, Vec, Global, IfOk}
+use Rattle.std.proofs.Common.{◌≡◌, ℕ, suc, zero, ◌+◌, ◌-◌, ◌≤◌, ◌<◌, ◌^◌, Bool, true, false, cond, eqb, ltb, not, List, [], ◌∷◌, ◌++◌, length, count_by, drop, get_or, Option, None, Some, Result, Ok, Err, refl, sym, ap, subst, ◌∙◌, append_assoc, arith, Vec, Global, IfOk}
 use Rattle.std.specs.Prelude.{All, IfSome, vec_len, is_some}
 use Rattle.std.specs.Str.{bytes_eq}
 use Rattle.std.proofs.lemmas.Bool.{false≢true, eqb-true, ltb-false}
 use Rattle.std.proofs.lemmas.List.Recursion.{is_count_by}
+use Rattle.num_text.specs.Numbers.{decimal}
+use Rattle.diff_command.specs.Spans.{span_text}
 use Rattle.line_list.specs.Reader.{Reads}
 use Rattle.hunk_core.specs.declared.BadKind.TheVariants as kinds
 use Rattle.hunk_core.specs.declared.Side.{Side}
@@ -13,7 +15,7 @@ use Rattle.hunk_core.specs.declared.fault.FormFault.{FormFault}
 use Rattle.hunk_core.specs.declared.fault.FormFault.TheVariants as errors
 use Rattle.hunk_core.specs.PlainHunk.{Marked, PlainHunk, marked_of, body_of, bytes_at}
 use Rattle.hunk_core.specs.Turned.{LiesIn, is_keep}
-use Rattle.hunk_core.specs.LineTests.{after_backslash}
+use Rattle.hunk_core.specs.LineTests.{after_backslash, unended}
 use Rattle.hunk_core.specs.Reading.{Fails, fault, Ahead, ahead}
 use Rattle.context_form.specs.declared.part.Body.{Body}
 use Rattle.context_form.specs.declared.range.Stated.{Stated}
@@ -241,11 +243,34 @@ four-pieces z p q r s a b c d e f g h =
     ∙ append_assoc (z ++ p) q (r ++ s)
     ∙ append_assoc z p (q ++ (r ++ s))
 
+pub span-pieces : (z : List ℕ) (start count r s t : ℕ) (a b c : List ℕ) → 1 < count → r ≡ start → s ≡ start → t ≡ count → a ≡ z ++ decimal r → b ≡ a ++ 44 ∷ [] → c ≡ b ++ decimal (s + t - 1) → c ≡ z ++ span_text start count
+span-pieces z start count r s t a b c many er es et e f g =
+    let last = decimal (start + count - 1) in
+    let same : s + t - 1 ≡ start + count - 1 = omega (arith, es, et) in
+    g
+    ∙ ap (λ n. b ++ decimal n) same
+    ∙ ap (λ (l : List ℕ). l ++ last) (f ∙ ap (λ (l : List ℕ). l ++ 44 ∷ []) (e ∙ ap (λ n. z ++ decimal n) er))
+    ∙ append_assoc (z ++ decimal start) (44 ∷ []) last
+    ∙ append_assoc z (decimal start) (44 ∷ last)
+    ∙ ap (λ v. z ++ cond v (decimal start ++ 44 ∷ last) (decimal start)) (sym (is-above 1 count many))
+
 -- ---- a line of a part
 
 pub line-unwanted : (side : Side) (left number : ℕ) (rest more : List (List ℕ)) (line : List ℕ) (m : Shown) → rest ≡ line ∷ more → marked_at number side line ≡ Ok m → left ≡ 0 → first_line side left number rest ≡ Err (fault number kinds.Count)
 unfolding first_line
 line-unwanted side left number rest more line m e a none = rw (e, a, none) refl
+
+pub line-cut : (side : Side) (left number : ℕ) (rest more : List (List ℕ)) (line : List ℕ) (m : Shown) (behind : List (List ℕ)) (w : Marked) → rest ≡ line ∷ more → marked_at number side line ≡ Ok m → left ≡ 1 → after_backslash more ≡ Some behind → w ≡ unended m.0 → first_line side left number rest ≡ Ok ((w, m.1), ahead (number + 1 + 1) behind)
+unfolding first_line
+line-cut side left number rest more line m behind w e a one h is = rw (e, a, one, h, is) refl
+
+pub line-misplaced : (side : Side) (left number : ℕ) (rest more : List (List ℕ)) (line : List ℕ) (m : Shown) (behind : List (List ℕ)) → rest ≡ line ∷ more → marked_at number side line ≡ Ok m → 1 < left → after_backslash more ≡ Some behind → first_line side left number rest ≡ Err (fault (number + 1) kinds.MisplacedBackslash)
+unfolding first_line
+line-misplaced side left number rest more line m behind e a many h = rw (e, a, is-more left (omega (arith, many)), h, by (eqb left 1) refl) refl
+  where
+    by : (v : Bool) → eqb left 1 ≡ v → v ≡ false
+    by false e = refl
+    by true e = absurd (omega (arith, many, eqb-true left 1 e))
 
 pub line-read : (side : Side) (left number : ℕ) (rest more : List (List ℕ)) (line : List ℕ) (m : Shown) → rest ≡ line ∷ more → marked_at number side line ≡ Ok m → 0 < left → after_backslash more ≡ None → first_line side left number rest ≡ Ok (m, ahead (number + 1) more)
 unfolding first_line
