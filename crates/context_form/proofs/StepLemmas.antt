@@ -1,11 +1,9 @@
 -- What one step of a function says of the definitions, on plain variables.
-use Rattle.std.proofs.Common.{◌≡◌, ℕ, suc, zero, ◌+◌, ◌-◌, ◌≤◌, ◌<◌, ◌^◌, Bool, true, false, cond, eqb, ltb, not, List, [], ◌∷◌, ◌++◌, length, count_by, drop, get_or, Option, None, Some, Result, Ok, Err, refl, sym, ap, subst, ◌∙◌, append_assoc, arith, Vec, Global, IfOk}
+use Rattle.std.proofs.Common.{◌≡◌, ℕ, suc, zero, ◌+◌, ◌≤◌, ◌<◌, ◌^◌, Bool, true, false, cond, eqb, ltb, not, List, [], ◌∷◌, ◌++◌, length, count_by, drop, get_or, Option, None, Some, Result, Ok, Err, refl, sym, ap, subst, ◌∙◌, append_assoc, arith, Vec, Global, IfOk}
 use Rattle.std.specs.Prelude.{All, IfSome, vec_len, is_some}
 use Rattle.std.specs.Str.{bytes_eq}
 use Rattle.std.proofs.lemmas.Bool.{false≢true, eqb-true, ltb-false}
 use Rattle.std.proofs.lemmas.List.Recursion.{is_count_by}
-use Rattle.num_text.specs.Numbers.{decimal}
-use Rattle.diff_command.specs.Spans.{span_text}
 use Rattle.line_list.specs.Reader.{Reads}
 use Rattle.hunk_core.specs.declared.BadKind.TheVariants as kinds
 use Rattle.hunk_core.specs.declared.Side.{Side}
@@ -242,17 +240,6 @@ four-pieces z p q r s a b c d e f g h =
     ∙ append_assoc ((z ++ p) ++ q) r s
     ∙ append_assoc (z ++ p) q (r ++ s)
     ∙ append_assoc z p (q ++ (r ++ s))
-
-pub span-pieces : (z : List ℕ) (start count r s t : ℕ) (a b c : List ℕ) → 1 < count → r ≡ start → s ≡ start → t ≡ count → a ≡ z ++ decimal r → b ≡ a ++ 44 ∷ [] → c ≡ b ++ decimal (s + t - 1) → c ≡ z ++ span_text start count
-span-pieces z start count r s t a b c many er es et e f g =
-    let last = decimal (start + count - 1) in
-    let same : s + t - 1 ≡ start + count - 1 = omega (arith, es, et) in
-    g
-    ∙ ap (λ n. b ++ decimal n) same
-    ∙ ap (λ (l : List ℕ). l ++ last) (f ∙ ap (λ (l : List ℕ). l ++ 44 ∷ []) (e ∙ ap (λ n. z ++ decimal n) er))
-    ∙ append_assoc (z ++ decimal start) (44 ∷ []) last
-    ∙ append_assoc z (decimal start) (44 ∷ last)
-    ∙ ap (λ v. z ++ cond v (decimal start ++ 44 ∷ last) (decimal start)) (sym (is-above 1 count many))
 
 -- ---- a line of a part
 
