@@ -181,7 +181,7 @@ new-again number at old_line old_single old_start line single start old new body
 sized-step : (part partner : PlainPart) (n : ℕ) → size_by part.body.lines partner.body.lines ≡ n → is_count part.stated n ≡ true → ltb 4294967295 (part.stated.start + n) ≡ false → sized part partner ≡ Ok tt
 sized-step part partner n e c f = rw (e, c, f) refl
 
-whole-step : (old new : PlainPart) (body : List Marked) → sized old new ≡ Ok tt → sized new old ≡ Ok tt → joined old.body new.body ≡ Some body → whole old new ≡ Ok (record { old_start = old.stated.start; new_start = new.stated.start; body = body })
+pub whole-step : (old new : PlainPart) (body : List Marked) → sized old new ≡ Ok tt → sized new old ≡ Ok tt → joined old.body new.body ≡ Some body → whole old new ≡ Ok (record { old_start = old.stated.start; new_start = new.stated.start; body = body })
 unfolding whole
 whole-step old new body e1 e2 e3 = rw (e1, e2, e3) refl
 

@@ -26,7 +26,7 @@ counted (m ∷ part) = cond (is_keep m.mark) (1 + counted part) (counted part)
 counted-is : (part : List Marked) → counted part ≡ kept_count part
 counted-is part = is_count_by counted (λ m. is_keep m.mark) refl (λ x xs. refl) part
 
-kept-cons : (m : Marked) (part : List Marked) → kept_count (m ∷ part) ≡ cond (is_keep m.mark) (1 + kept_count part) (kept_count part)
+pub kept-cons : (m : Marked) (part : List Marked) → kept_count (m ∷ part) ≡ cond (is_keep m.mark) (1 + kept_count part) (kept_count part)
 kept-cons m part = sym (counted-is (m ∷ part)) ∙ ap (λ n. cond (is_keep m.mark) (1 + n) n) (counted-is part)
 
 pub kept-first : (m : Marked) (part : List Marked) → is_keep m.mark ≡ true → 0 < kept_count (m ∷ part)

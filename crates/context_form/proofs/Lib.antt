@@ -15,6 +15,7 @@ pub mod SpansLemmas
 pub mod MixedLemmas
 pub mod Canonical
 pub mod Again
+mod StepLemmas
 pub mod Steady
 pub mod SteadyParts
 pub mod HunkFaults

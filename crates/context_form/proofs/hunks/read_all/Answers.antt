@@ -102,3 +102,12 @@ returns-clause-pieces c = c.hunks.invariant.spans.pieces
 
 pub returns-clause-sound : goal.returns-clause-sound
 returns-clause-sound c = record { count = omega (arith, c.hunks.invariant.count, c.hunks.invariant.place.within, c.requires.short); few = omega (arith, c.hunks.invariant.few, c.hunks.invariant.place.within, c.requires.short); lawful = c.hunks.invariant.lawful; unbroken = c.hunks.invariant.unbroken }
+
+pub overflow_cast-place : goal.overflow_cast-place
+overflow_cast-place c = omega (arith, c.hunks.invariant.place.within, c.requires.short)
+
+pub overflow_cast-next : goal.overflow_cast-next
+overflow_cast-next c = omega (arith, c.in_ok-hunk.ensures.place.0.within, c.requires.short)
+
+pub hunks-smaller : goal.hunks-smaller
+hunks-smaller c = omega (arith, c.in_ok-hunk.ensures.place.1, c.in_ok-hunk.ensures.place.0.within)

@@ -1,5 +1,9 @@
 use Rattle.std.proofs.Common.{arith}
 use Rattle.outside.proofs.Exits.{if_ok_none}
+use Rattle.std.proofs.lemmas.Result.{err_from_is_err_and}
+use Rattle.hunk_core.specs.Reading.{ahead_of}
+use Rattle.context_form.specs.Parts.{plain_of}
+use Rattle.context_form.proofs.StepLemmas.{old-fits-fails, old-body-fails, old-read}
 use Rattle.context_form.proofs.hunks.read_old.Goals as goal
 
 pub read_range_line-requires : goal.read_range_line-requires
@@ -61,3 +65,16 @@ returns-clause-lies c = c.in_ok-body.ensures.lies
 
 pub returns-clause-fits : goal.returns-clause-fits
 returns-clause-fits c = c.in_ok-stated.ensures.fits
+
+pub returns-clause-exact : goal.returns-clause-exact
+returns-clause-exact c = old-read c.args.least (ahead_of c.args.text.now c.args.place) (c.in_ok-stated.stated, ahead_of c.args.text.now c.in_ok-stated.place) (plain_of c.args.text.now c.in_ok-body.body, ahead_of c.args.text.now c.in_ok-body.place) c.at_old_part.result c.most.result c.in_ok-stated.ensures.exact c.at_old_part.ensures c.in_ok-fits_part.ensures c.most.ensures c.in_ok-body.ensures.exact
+
+pub returns-in_err-body-clause-exact : goal.returns-in_err-body-clause-exact
+returns-in_err-body-clause-exact c =
+    let p = err_from_is_err_and c.from_residual-in_err-body.result c.from_residual-in_err-body.ensures.1 in
+    rw (p.1, p.2) (old-body-fails c.in_err-body.field-0.0 c.args.least (ahead_of c.args.text.now c.args.place) (c.in_ok-stated.stated, ahead_of c.args.text.now c.in_ok-stated.place) c.at_old_part.result c.most.result c.in_ok-stated.ensures.exact c.at_old_part.ensures c.in_ok-fits_part.ensures c.most.ensures c.in_err-body.ensures.exact)
+
+pub returns-in_err-fits_part-clause-exact : goal.returns-in_err-fits_part-clause-exact
+returns-in_err-fits_part-clause-exact c =
+    let p = err_from_is_err_and c.from_residual-in_err-fits_part.result c.from_residual-in_err-fits_part.ensures.1 in
+    rw (p.1, p.2) (old-fits-fails c.in_err-fits_part.field-0.0 c.args.least (ahead_of c.args.text.now c.args.place) (c.in_ok-stated.stated, ahead_of c.args.text.now c.in_ok-stated.place) c.at_old_part.result c.in_ok-stated.ensures.exact c.at_old_part.ensures c.in_err-fits_part.ensures)

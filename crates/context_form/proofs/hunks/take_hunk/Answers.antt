@@ -1,5 +1,11 @@
-use Rattle.std.proofs.Common.{arith}
+use Rattle.std.proofs.Common.{drop, sym, ◌∙◌, arith}
 use Rattle.outside.proofs.Exits.{if_ok_none}
+use Rattle.std.proofs.lemmas.Result.{err_from_is_err_and}
+use Rattle.hunk_core.specs.Reading.{ahead_of}
+use Rattle.hunk_core.specs.PlainHunk.{hunk_of}
+use Rattle.context_form.specs.Hunks.{part_over}
+use Rattle.context_form.proofs.StepLemmas.{hunk-fails, hunk-unquiet, hunk-read, some-as}
+use Rattle.line_list.specs.Lines.{lines}
 use Rattle.context_form.proofs.hunks.take_hunk.Goals as goal
 
 pub next_line-requires : goal.next_line-requires
@@ -55,3 +61,14 @@ returns-clause-few c = omega (arith, c.in_ok-hunk.ensures.few, c.in_ok-old.ensur
 
 pub returns-clause-lawful : goal.returns-clause-lawful
 returns-clause-lawful c = c.in_ok-hunk.ensures.lawful
+
+pub returns-in_err-hunk-clause-exact : goal.returns-in_err-hunk-clause-exact
+returns-in_err-hunk-clause-exact c =
+    let p = err_from_is_err_and c.from_residual-in_err-hunk.result c.from_residual-in_err-hunk.ensures.1 in
+    rw (p.1, p.2) (hunk-fails c.in_err-hunk.field-0.0 c.args.least c.args.place.number _ _ _ ((part_over c.args.text.now c.in_ok-old.old, part_over c.args.text.now c.in_ok-old.new), ahead_of c.args.text.now c.in_ok-old.next) c.in-Some.ensures.first c.in_ok-old.ensures.exact c.in_err-hunk.ensures.exact)
+
+pub returns-then-is_some-clause-exact : goal.returns-then-is_some-clause-exact
+returns-then-is_some-clause-exact c = rw c.bad-then-is_some.ensures (hunk-unquiet c.args.least c.args.place.number _ _ _ ((part_over c.args.text.now c.in_ok-old.old, part_over c.args.text.now c.in_ok-old.new), ahead_of c.args.text.now c.in_ok-old.next) (hunk_of c.args.text.now c.in_ok-hunk.hunk) c.in-Some.ensures.first c.in_ok-old.ensures.exact c.in_ok-hunk.ensures.exact (some-as (λ e. lines (drop e c.args.text.now)) _ _ c.backslash_end.ensures.exact ∙ sym c.if-is_some.ensures))
+
+pub returns-clause-exact : goal.returns-clause-exact
+returns-clause-exact c = hunk-read c.args.least c.args.place.number _ _ _ ((part_over c.args.text.now c.in_ok-old.old, part_over c.args.text.now c.in_ok-old.new), ahead_of c.args.text.now c.in_ok-old.next) (hunk_of c.args.text.now c.in_ok-hunk.hunk) c.in-Some.ensures.first c.in_ok-old.ensures.exact c.in_ok-hunk.ensures.exact (some-as (λ e. lines (drop e c.args.text.now)) _ _ c.backslash_end.ensures.exact ∙ sym c.if-is_some.ensures)

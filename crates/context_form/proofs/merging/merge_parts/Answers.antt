@@ -84,3 +84,6 @@ returns-then-end-news-clause-few c = omega (arith, c.in_ok-end.ensures.few, c.lo
 
 pub returns-then-end-news-clause-lies : goal.returns-then-end-news-clause-lies
 returns-then-end-news-clause-lies c = c.in_ok-end.ensures.lies c.args.text.now c.loop-old.invariant.lies c.requires.news_within
+
+pub overflow_add-place : goal.overflow_add-place
+overflow_add-place c = omega (arith, c.in_ok-kept.ensures.high, c.requires.few)

@@ -67,3 +67,12 @@ returns-clause-place c = (c.body.invariant.place, c.body.invariant.later)
 
 pub returns-clause-lies : goal.returns-clause-lies
 returns-clause-lies c = c.body.invariant.lies
+
+pub overflow_sub-left : goal.overflow_sub-left
+overflow_sub-left c = omega (arith, c.in_ok-line.ensures.some)
+
+pub body-smaller : goal.body-smaller
+body-smaller c = omega (arith, c.in_ok-line.ensures.place.1, c.in_ok-line.ensures.place.0.within)
+
+pub returns-clause-few : goal.returns-clause-few
+returns-clause-few c = omega (arith, c.body.invariant.few, c.body.lines.ok.0)

@@ -31,3 +31,6 @@ returns g c =
     puts-more g.met.O.Sink.rest_both
     (has-put c.in_ok-put_all.field-0 (record { call = ens.call; rest = ens.rest; received = ens.received; failed = ens.failed }))
     (record { call = c.put_all-3.ensures.call; rest = c.put_all-3.ensures.rest; received = c.put_all-3.ensures.received; failed = c.put_all-3.ensures.failed })
+
+pub overflow_sub-start : goal.overflow_sub-start
+overflow_sub-start g c = let s = c.stands_before.ensures c.if-stands_before.true in omega (arith, s.1)

@@ -1,7 +1,8 @@
-use Rattle.std.proofs.Common.{◌≡◌, ◌<◌, ◌≤◌, ◌+◌, ◌++◌, [], List, ℕ, drop, length, subst, sym, ap, ◌∙◌, append_assoc, rules}
+use Rattle.std.proofs.Common.{◌≡◌, ◌<◌, ◌≤◌, ◌+◌, ◌++◌, [], List, ℕ, drop, length, subst, sym, ap, ◌∙◌, append_assoc, arith, rules}
 use Rattle.std.proofs.lemmas.Result.{err_from_is_err_and}
 use Rattle.std.proofs.lemmas.List.{drop_all, append-nil}
 use Rattle.hunk_core.specs.PlainHunk.{body_of}
+use Rattle.hunk_core.specs.Turned.{LiesIn}
 use Rattle.outside.proofs.SinkSteps.{HasPut, has-none, has-put, has-more, puts-more, puts-stop, puts-done}
 use Rattle.context_form.specs.Canonical.{mixed, mixed_behind, part_text}
 use Rattle.context_form.proofs.MixedLemmas.{taken_body, piece_of, mixed-taken, part-step, part-nil}
@@ -38,6 +39,9 @@ loop-i-preserved g c =
       put = has-more g.met.O.Sink.rest_both c.loop-i.invariant.put (has-put c.in_ok-put_if.field-0 c.in_ok-put_if.ensures);
       whole = ap (λ b. (c.loop-i.invariant.done ++ piece) ++ part_text c.args.part b (taken_body c.args.text.now c.args.side (drop (c.loop-i.i + 1) items))) (c.is_mixed_behind-changed.ensures c.args.text.now) ∙ e;
     }
+
+pub put_if-requires : goal.put_if-requires
+put_if-requires g c = subst (λ l. LiesIn c.args.text.now l.span) (sym c.index-line.ensures) (c.requires.within c.loop-i.i c.index-line.result.now (omega (arith, c.loop-i-test.true, c.len-i-end.ensures, c.args.hunk.now.body.ok.0)))
 
 pub returns : goal.returns
 returns g c =

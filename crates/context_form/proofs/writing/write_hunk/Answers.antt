@@ -45,3 +45,9 @@ returns g c =
     (puts-more g.met.O.Sink.rest_both (has-put c.in_ok-put_opening.field-0 c.in_ok-put_opening.ensures)
     (puts-more g.met.O.Sink.rest_both (has-put c.in_ok-put_part.field-0 c.in_ok-put_part.ensures)
     (puts-more g.met.O.Sink.rest_both (has-put c.in_ok-put_middle.field-0 c.in_ok-put_middle.ensures) c.put_part-2.ensures)))
+
+pub put_part-requires : goal.put_part-requires
+put_part-requires g c = c.requires
+
+pub put_part-requires-2 : goal.put_part-requires-2
+put_part-requires-2 g c = c.requires
