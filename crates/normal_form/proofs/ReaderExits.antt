@@ -1,19 +1,24 @@
 -- What the exits of the readers of a line and of a hunk owe, over plain values.
-use Rattle.std.proofs.Common.{◌≡◌, ℕ, ◌+◌, ◌<◌, Bool, false, true, eqb, List, [], ◌∷◌, Option, None, Some, Result, Ok, Err, refl, sym, arith}
+use Rattle.std.proofs.Common.{◌≡◌, ℕ, ◌+◌, ◌<◌, ◌≤◌, Bool, false, true, eqb, List, [], ◌∷◌, ◌++◌, length, length-append, sum_by, Option, None, Some, Result, Ok, Err, refl, sym, arith}
 use Rattle.std.specs.Prelude.{is_some}
+use Rattle.std.proofs.lemmas.List.Sums.{sum_by-append}
 use Rattle.line_list.specs.Reader.{Reads}
 use Rattle.hunk_core.specs.declared.BadKind.{BadKind}
 use Rattle.hunk_core.specs.declared.BadKind.TheVariants as kinds
+use Rattle.hunk_core.specs.declared.Hunk.{Hunk}
 use Rattle.hunk_core.specs.declared.Side.{Side}
 use Rattle.hunk_core.specs.declared.Side.TheVariants.{Forward, Reversed}
 use Rattle.hunk_core.specs.declared.fault.FormFault.{FormFault}
 use Rattle.hunk_core.specs.declared.fault.FormFault.TheVariants as errors
+use Rattle.hunk_core.specs.Refusals.{unmarked}
+use Rattle.diff_command.specs.declared.Action.{Action}
+use Rattle.diff_command.specs.declared.Action.TheVariants.{Change}
 use Rattle.hunk_core.specs.LineTests.{unended, after_backslash}
 use Rattle.hunk_core.specs.PlainHunk.{Marked}
 use Rattle.hunk_core.specs.Reading.{Fault, fault, Fails, Ahead, ahead}
 use Rattle.normal_form.specs.declared.command.Command.{Command}
 use Rattle.normal_form.specs.Commands.{opening}
-use Rattle.normal_form.specs.Stretches.{marked_at, first_line, stretch_at, divider_at}
+use Rattle.normal_form.specs.Stretches.{marked_at, first_line, stretch_at, is_divider, first_divider, divider_at}
 use Rattle.normal_form.specs.Hunks.{body_at, change, first_hunk}
 
 -- a fault that is told where it is met
@@ -48,6 +53,20 @@ unfolding first_line
 line_refused side left number all rest more line m parts marks some others =
     let no : eqb left 0 ≡ false = grind arith in
     rw (parts, marks, some, no) refl
+
+-- ---- the line between the sides of a change
+
+pub divider_none : (a : Action) (p : Ahead) → a ≡ Change → p.rest ≡ [] → divider_at a p ≡ Err (fault p.number kinds.ShortEnd)
+unfolding first_divider
+divider_none a p is none = rw (is, none) refl
+
+pub divider_refused : (a : Action) (p : Ahead) (rest : List (List ℕ)) (line : List ℕ) (kind : BadKind) → a ≡ Change → p.rest ≡ line ∷ rest → false ≡ is_divider line → kind ≡ unmarked line → divider_at a p ≡ Err (fault p.number kind)
+unfolding first_divider
+divider_refused a p rest line kind is parts fails why = rw (is, parts, sym fails, why) refl
+
+pub divider_found : (a : Action) (p : Ahead) (rest : List (List ℕ)) (line : List ℕ) → a ≡ Change → p.rest ≡ line ∷ rest → true ≡ is_divider line → divider_at a p ≡ Ok (tt, ahead (p.number + 1) rest)
+unfolding first_divider
+divider_found a p rest line is parts divides = rw (is, parts, sym divides) refl
 
 -- ---- a hunk
 
@@ -90,3 +109,10 @@ hunk_whole least number all rest c body p h read none = rw (h.parts, sym h.opens
 pub body_left : (c : Command) (p behind middle : Ahead) (old : List Marked) → stretch_at Forward c.old_count [] p ≡ Ok (old, behind) → divider_at c.action behind ≡ Ok (tt, middle) → body_at c p ≡ stretch_at Reversed c.new_count old middle
 unfolding body_at
 body_left c p behind middle old read divided = rw (read, divided) refl
+
+-- what is counted of the hunks that were read, with one more
+pub count_push : (hs more : List Hunk) (h : Hunk) (at from to : ℕ) → more ≡ hs ++ h ∷ [] → from < to → at + length hs ≤ from → at + length more ≤ to
+count_push hs more h at from to is goes few = rw (is, length-append hs (h ∷ [])) (omega (arith, goes, few))
+
+pub few_push : (hs more : List Hunk) (h : Hunk) (at from to : ℕ) → more ≡ hs ++ h ∷ [] → from + length h.body.items ≤ to → at + sum_by (λ (x : Hunk). length x.body.items) hs ≤ from → at + sum_by (λ (x : Hunk). length x.body.items) more ≤ to
+few_push hs more h at from to is goes few = rw (is, sum_by-append (λ (x : Hunk). length x.body.items) hs (h ∷ [])) (omega (arith, goes, few))
