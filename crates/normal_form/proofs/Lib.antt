@@ -14,3 +14,4 @@ pub mod WritingLemmas
 pub mod Canonical
 pub mod Again
 pub mod Words
+pub mod ReaderExits

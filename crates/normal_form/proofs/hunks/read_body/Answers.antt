@@ -1,3 +1,8 @@
+use Rattle.hunk_core.specs.PlainHunk.{body_of}
+use Rattle.hunk_core.specs.Reading.{ahead_of}
+use Rattle.normal_form.proofs.ReaderExits.{body_left}
+use Rattle.std.proofs.Common.{arith}
+use Rattle.std.proofs.lemmas.Result.{IfOk-weaker}
 use Rattle.outside.proofs.Exits.{if_ok_none}
 use Rattle.normal_form.proofs.hunks.read_body.Goals as goal
 
@@ -42,3 +47,20 @@ read_stretch-requires-2-clause-place c = c.in_ok-middle.ensures.place.0
 
 pub read_stretch-requires-2-clause-lies : goal.read_stretch-requires-2-clause-lies
 read_stretch-requires-2-clause-lies c = c.in_ok-old.ensures.lies
+
+pub returns-clause-place : goal.returns-clause-place
+returns-clause-place c = IfOk-weaker c.read_stretch-2.result _ _ (λ x is. (is.0, omega (arith, is.1, c.in_ok-middle.ensures.place.1, c.in_ok-old.ensures.place.1))) c.read_stretch-2.ensures.place
+
+pub returns-clause-few : goal.returns-clause-few
+returns-clause-few c = IfOk-weaker c.read_stretch-2.result _ _ (λ x is. omega (arith, is, c.in_ok-old.ensures.few, c.in_ok-none.ensures.len, c.in_ok-middle.ensures.place.1)) c.read_stretch-2.ensures.few
+
+pub returns-clause-exact : goal.returns-clause-exact
+returns-clause-exact c =
+    let text = c.args.text.now in
+    rw (body_left c.args.command (ahead_of text c.args.place) (ahead_of text c.in_ok-old.behind) (ahead_of text c.in_ok-middle.middle) (body_of text c.in_ok-old.old.items) (rw c.in_ok-none.ensures.items at c.in_ok-old.ensures.exact) c.in_ok-middle.ensures.exact) c.read_stretch-2.ensures.exact
+
+pub returns-clause-lies : goal.returns-clause-lies
+returns-clause-lies c = c.read_stretch-2.ensures.lies
+
+pub read_stretch-requires-2-clause-few : goal.read_stretch-requires-2-clause-few
+read_stretch-requires-2-clause-few c = omega (arith, c.in_ok-old.ensures.few, c.in_ok-none.ensures.len, c.in_ok-middle.ensures.place.1)

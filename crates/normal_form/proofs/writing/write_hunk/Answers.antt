@@ -30,3 +30,9 @@ returns g c =
     (puts-more g.met.O.Sink.rest_both (has-put c.in_ok-put_command.field-0 c.in_ok-put_command.ensures)
     (puts-more g.met.O.Sink.rest_both (has-put c.in_ok-put_side.field-0 c.in_ok-put_side.ensures)
     (puts-more g.met.O.Sink.rest_both (has-put c.in_ok-put_divider.field-0 (rw c.action_for.ensures at c.in_ok-put_divider.ensures)) c.put_side-2.ensures)))
+
+pub put_side-requires-2 : goal.put_side-requires-2
+put_side-requires-2 g c = c.requires
+
+pub put_side-requires : goal.put_side-requires
+put_side-requires g c = c.requires

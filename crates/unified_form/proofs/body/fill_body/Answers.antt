@@ -6,8 +6,9 @@ use Rattle.hunk_core.specs.Turned.{LiesIn}
 use Rattle.hunk_core.specs.PlainHunk.{marked_of, body_of}
 use Rattle.hunk_core.specs.Reading.{ahead_of}
 use Rattle.unified_form.specs.Bodies.{body_at}
-use Rattle.unified_form.proofs.Loops.{body_goes_on, body_fails, body_done}
+use Rattle.unified_form.proofs.Loops.{body_begins, body_goes_on, body_fails, body_done}
 use Rattle.outside.proofs.Exits.{if_ok_none}
+use Rattle.unified_form.proofs.ReaderExits.{at_most, with_none}
 use Rattle.unified_form.proofs.body.fill_body.Goals as goal
 use Rattle.unified_form.proofs.body.fill_body.Goals.{then-left-gt0, else-left-gt0+then-left-gt0-2}
 
@@ -64,3 +65,28 @@ returns-clause-place c = (c.loop-left.invariant.place, c.loop-left.invariant.lat
 
 pub returns-clause-lies : goal.returns-clause-lies
 returns-clause-lies c = c.loop-left.invariant.lies
+
+pub loop-left-init : goal.loop-left-init
+loop-left-init c = rw c.clear.ensures.items (record {
+  feeds = c.requires.feeds;
+  place = c.requires.place;
+  later = at_most c.args.place.at;
+  few = with_none c.args.place.at;
+  lies = λ k d l. absurd (omega (arith, l));
+  so_far = body_begins c.args.left (ahead_of c.args.text.now c.args.place);
+})
+
+pub returns-clause-feeds : goal.returns-clause-feeds
+returns-clause-feeds c = c.loop-left.invariant.feeds
+
+pub loop-left-smaller : goal.loop-left-smaller
+loop-left-smaller c = c.in_ok-line.ensures.less
+
+pub line_of-requires-clause-feeds : goal.line_of-requires-clause-feeds
+line_of-requires-clause-feeds c = c.loop-left.invariant.feeds
+
+pub returns-in_err-push-clause-feeds : goal.returns-in_err-push-clause-feeds
+returns-in_err-push-clause-feeds c = c.line_of.ensures.feeds
+
+pub returns-in_err-line-clause-feeds : goal.returns-in_err-line-clause-feeds
+returns-in_err-line-clause-feeds c = c.line_of.ensures.feeds

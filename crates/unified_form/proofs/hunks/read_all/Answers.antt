@@ -1,9 +1,9 @@
-use Rattle.std.proofs.Common.{◌≡◌, ◌++◌, ◌∷◌, [], refl, sym, true, false, drop, length, length-append, arith}
+use Rattle.unified_form.proofs.ReaderExits.{closer, count_push, few_push}
+use Rattle.std.proofs.Common.{◌≡◌, ◌++◌, ◌∷◌, [], refl, sym, ap, subst, ◌∙◌, true, false, drop, arith}
+use Rattle.std.specs.Prelude.{All}
 use Rattle.std.proofs.lemmas.Result.{err_from_is_err_and}
 use Rattle.std.proofs.lemmas.List.{map_push}
-use Rattle.std.proofs.lemmas.List.Sums.{sum_by-append}
 use Rattle.line_list.specs.Lines.{lines}
-use Rattle.hunk_core.specs.declared.Hunk.{Hunk}
 use Rattle.hunk_core.specs.PlainHunk.{hunk_of, hunks_of}
 use Rattle.std.proofs.Common.{None}
 use Rattle.std.proofs.lemmas.List.Elements.{All-push}
@@ -38,15 +38,15 @@ returns-in_err-hunk-clause-exact c =
 pub hunks-preserved : goal.hunks-preserved
 hunks-preserved c =
     let opens : begins_hunk (lines (drop c.hunks.place.at c.args.text.now)) ≡ true = sym c.hunks-test.ensures.opens in
-    let e : hunks_of c.args.text.now c.push-in-hunks.new.self.items ≡ hunks_of c.args.text.now c.hunks.items.items ++ hunk_of c.args.text.now c.in_ok-hunk.hunk ∷ [] = rw c.in_ok-push-2.ensures.items (map_push _ c.hunks.items.items c.in_ok-hunk.hunk) in
+    let e : hunks_of c.args.text.now c.push-in-hunks.new.self.items ≡ hunks_of c.args.text.now c.hunks.items.items ++ hunk_of c.args.text.now c.in_ok-hunk.hunk ∷ [] = ap (hunks_of c.args.text.now) c.in_ok-push-2.ensures.items ∙ map_push (hunk_of c.args.text.now) c.hunks.items.items c.in_ok-hunk.hunk in
     record {
       feeds = c.read_hunk.ensures.feeds;
       place = c.in_ok-hunk.ensures.place.0;
       spans = rw (e, c.in_ok-push.ensures.items, c.from-least.ensures) (spans_go_on SpellsHunk c.args.text.now c.args.at c.hunks.spans.items (hunks_of c.args.text.now c.hunks.items.items) c.hunks.place.at c.in_ok-hunk.next.at c.hunks.least (hunk_of c.args.text.now c.in_ok-hunk.hunk) c.hunks.invariant.spans c.in_ok-hunk.ensures.place.1 c.in_ok-hunk.ensures.whole c.in_ok-hunk.ensures.piece);
-      count = rw c.in_ok-push-2.ensures.items (simp length-append (omega (arith, c.in_ok-hunk.ensures.place.1, c.hunks.invariant.count)));
-      few = rw (c.in_ok-push-2.ensures.items, sum_by-append (λ (x : Hunk). length x.body.items) c.hunks.items.items (c.in_ok-hunk.hunk ∷ [])) (omega (arith, c.in_ok-hunk.ensures.few, c.hunks.invariant.few));
-      lawful = rw c.in_ok-push-2.ensures.items (All-push (IsLawful c.args.text.now) c.hunks.items.items c.in_ok-hunk.hunk c.hunks.invariant.lawful c.in_ok-hunk.ensures.lawful);
-      unbroken = rw c.in_ok-push-2.ensures.items (All-push (λ x. first_broken (hunk_of c.args.text.now x) ≡ None) c.hunks.items.items c.in_ok-hunk.hunk c.hunks.invariant.unbroken c.in_ok-hunk.ensures.unbroken);
+      count = count_push c.hunks.items.items _ c.in_ok-hunk.hunk _ _ _ c.in_ok-push-2.ensures.items c.in_ok-hunk.ensures.place.1 c.hunks.invariant.count;
+      few = few_push c.hunks.items.items _ c.in_ok-hunk.hunk _ _ _ c.in_ok-push-2.ensures.items (omega (arith, c.in_ok-hunk.ensures.few)) c.hunks.invariant.few;
+      lawful = subst (All (IsLawful c.args.text.now)) (sym c.in_ok-push-2.ensures.items) (All-push (IsLawful c.args.text.now) c.hunks.items.items c.in_ok-hunk.hunk c.hunks.invariant.lawful c.in_ok-hunk.ensures.lawful);
+      unbroken = subst (All (λ x. first_broken (hunk_of c.args.text.now x) ≡ None)) (sym c.in_ok-push-2.ensures.items) (All-push (λ x. first_broken (hunk_of c.args.text.now x) ≡ None) c.hunks.items.items c.in_ok-hunk.hunk c.hunks.invariant.unbroken c.in_ok-hunk.ensures.unbroken);
       so_far = rw (e, c.from-least.ensures) (hunks_go_on (hunks_of c.args.text.now c.hunks.items.items) c.hunks.least (ahead_of c.args.text.now c.hunks.place) (hunk_of c.args.text.now c.in_ok-hunk.hunk, ahead_of c.args.text.now c.in_ok-hunk.next) (reading c.args.line (lines (drop c.args.at c.args.text.now))) opens c.in_ok-hunk.ensures.exact c.hunks.invariant.so_far);
     }
 
@@ -100,3 +100,18 @@ returns-clause-pieces c = c.hunks.invariant.spans.pieces
 
 pub returns-clause-sound : goal.returns-clause-sound
 returns-clause-sound c = record { count = omega (arith, c.hunks.invariant.count, c.hunks.invariant.place.within, c.requires.short); few = omega (arith, c.hunks.invariant.few, c.hunks.invariant.place.within, c.requires.short); lawful = c.hunks.invariant.lawful; unbroken = c.hunks.invariant.unbroken }
+
+pub hunks-smaller : goal.hunks-smaller
+hunks-smaller c = closer _ _ _ c.in_ok-hunk.ensures.place.1 c.in_ok-hunk.ensures.place.0.within
+
+pub read_hunk-requires-clause-feeds : goal.read_hunk-requires-clause-feeds
+read_hunk-requires-clause-feeds c = c.hunks-test.ensures.feeds
+
+pub overflow_cast-place : goal.overflow_cast-place
+overflow_cast-place c = omega (arith, c.hunks.invariant.place.within, c.requires.short)
+
+pub overflow_cast-next : goal.overflow_cast-next
+overflow_cast-next c = omega (arith, c.in_ok-hunk.ensures.place.0.within, c.requires.short)
+
+pub opens_by-requires-clause-feeds : goal.opens_by-requires-clause-feeds
+opens_by-requires-clause-feeds c = c.hunks.invariant.feeds

@@ -1,3 +1,4 @@
+use Rattle.unified_form.proofs.ReaderExits.{closer}
 use Rattle.std.proofs.Common.{◌≡◌, [], sym, refl, true, false, drop, arith}
 use Rattle.std.proofs.lemmas.Result.{err_from_is_err_and}
 use Rattle.line_list.specs.Lines.{lines}
@@ -87,3 +88,18 @@ returns-in_err-push-2 c =
 
 pub returns-clause-within : goal.returns-clause-within
 returns-clause-within c = c.hunks.invariant.place.within
+
+pub hunks-smaller : goal.hunks-smaller
+hunks-smaller c = closer _ _ _ c.in_ok-old.ensures.place.1 c.in_ok-old.ensures.place.0.within
+
+pub read_row-requires-clause-feeds : goal.read_row-requires-clause-feeds
+read_row-requires-clause-feeds c = c.hunks-test.ensures.feeds
+
+pub overflow_cast-place : goal.overflow_cast-place
+overflow_cast-place c = omega (arith, c.hunks.invariant.place.within, c.requires.short)
+
+pub overflow_cast-next : goal.overflow_cast-next
+overflow_cast-next c = omega (arith, c.in_ok-old.ensures.place.0.within, c.requires.short)
+
+pub opens_by-requires-clause-feeds : goal.opens_by-requires-clause-feeds
+opens_by-requires-clause-feeds c = c.hunks.invariant.feeds

@@ -1,7 +1,8 @@
+use Rattle.unified_form.proofs.ReaderExits.{at_most}
 use Rattle.std.proofs.Common.{◌+◌, ◌<◌, arith}
 use Rattle.std.proofs.lemmas.Result.{err_from_is_err_and}
 use Rattle.hunk_core.specs.Reading.{ahead_of}
-use Rattle.unified_form.proofs.Skimming.{body_past_goes_on, body_past_fails, body_past_done}
+use Rattle.unified_form.proofs.Skimming.{body_past_begins, body_past_goes_on, body_past_fails, body_past_done}
 use Rattle.unified_form.proofs.skim.pass_body.Goals as goal
 use Rattle.unified_form.proofs.skim.pass_body.Goals.{then-left-gt0, else-left-gt0+then-left-gt0-2}
 
@@ -24,3 +25,18 @@ loop-left-preserved c =
 
 pub returns-clause-exact : goal.returns-clause-exact
 returns-clause-exact c = body_past_done c.loop-left.left (ahead_of c.args.text.now c.loop-left.place) _ (omega arith) c.loop-left.invariant.so_far
+
+pub loop-left-init : goal.loop-left-init
+loop-left-init c = record { feeds = c.requires.feeds; place = c.requires.place; later = at_most c.args.place.at; so_far = body_past_begins c.args.left (ahead_of c.args.text.now c.args.place) }
+
+pub pass_line-requires-clause-feeds : goal.pass_line-requires-clause-feeds
+pass_line-requires-clause-feeds c = c.loop-left.invariant.feeds
+
+pub loop-left-smaller : goal.loop-left-smaller
+loop-left-smaller c = c.in_ok-behind.ensures.less
+
+pub returns-clause-feeds : goal.returns-clause-feeds
+returns-clause-feeds c = c.loop-left.invariant.feeds
+
+pub returns-clause-place : goal.returns-clause-place
+returns-clause-place c = (c.loop-left.invariant.place, c.loop-left.invariant.later)

@@ -1,3 +1,4 @@
+use Rattle.unified_form.proofs.ReaderExits.{closer}
 use Rattle.std.proofs.Common.{◌≡◌, true, false, sym, drop, arith}
 use Rattle.std.proofs.lemmas.Result.{err_from_is_err_and}
 use Rattle.line_list.specs.Lines.{lines}
@@ -34,3 +35,12 @@ pub returns-clause-exact : goal.returns-clause-exact
 returns-clause-exact c = λ most enough.
     let none : begins_hunk (lines (drop c.hunks.place.at c.args.text.now)) ≡ false = sym c.hunks-test.ensures.opens in
     hunks_past_done c.hunks.least (ahead_of c.args.text.now c.hunks.place) _ none (c.hunks.invariant.so_far most enough)
+
+pub opens_by-requires-clause-feeds : goal.opens_by-requires-clause-feeds
+opens_by-requires-clause-feeds c = c.hunks.invariant.feeds
+
+pub pass_hunk-requires-clause-feeds : goal.pass_hunk-requires-clause-feeds
+pass_hunk-requires-clause-feeds c = c.hunks-test.ensures.feeds
+
+pub hunks-smaller : goal.hunks-smaller
+hunks-smaller c = closer _ _ _ c.in_ok-old.ensures.place.1 c.in_ok-old.ensures.place.0.within

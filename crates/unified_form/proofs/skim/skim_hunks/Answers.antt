@@ -1,3 +1,4 @@
+use Rattle.std.proofs.Common.{arith}
 use Rattle.std.proofs.Common.{◌∷◌, [], List, drop}
 use Rattle.std.proofs.lemmas.Result.{err_from_is_err_and}
 use Rattle.line_list.specs.Lines.{lines}
@@ -69,3 +70,24 @@ returns-in_err-end-clause-few c = if_ok_none _ _ c.from_residual-in_err-end.resu
 
 pub returns-in_err-end-clause-read : goal.returns-in_err-end-clause-read
 returns-in_err-end-clause-read c = if_ok_none _ _ c.from_residual-in_err-end.result c.from_residual-in_err-end.ensures.1
+
+pub returns-clause-lawful : goal.returns-clause-lawful
+returns-clause-lawful c = c.in_ok-first.ensures.lawful
+
+pub pass_hunks-requires-clause-feeds : goal.pass_hunks-requires-clause-feeds
+pass_hunks-requires-clause-feeds c = c.read_hunk.ensures.feeds
+
+pub returns-clause-few : goal.returns-clause-few
+returns-clause-few c = c.in_ok-first.ensures.lawful.few
+
+pub returns-clause-within : goal.returns-clause-within
+returns-clause-within c = (omega (arith, c.in_ok-first.ensures.place.1, c.in_ok-end.ensures.place.1), c.in_ok-end.ensures.place.0.within)
+
+pub at_opening-more-requires : goal.at_opening-more-requires
+at_opening-more-requires c = c.in_ok-first.ensures.place.0.within
+
+pub pass_hunks-requires-clause-place : goal.pass_hunks-requires-clause-place
+pass_hunks-requires-clause-place c = c.in_ok-first.ensures.place.0
+
+pub returns-clause-fails : goal.returns-clause-fails
+returns-clause-fails c = tt

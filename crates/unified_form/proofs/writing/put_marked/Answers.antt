@@ -31,3 +31,24 @@ returns g c =
     rw (← c.byte_of-byte.ensures) (puts-more g.met.O.Sink.rest_both
     (has-put c.in_ok-put_all.field-0 (record { call = ens.call; rest = ens.rest; received = ens.received; failed = ens.failed }))
     (record { call = c.put_all-3.ensures.call; rest = c.put_all-3.ensures.rest; received = c.put_all-3.ensures.received; failed = c.put_all-3.ensures.failed }))
+
+pub overflow_sub-start : goal.overflow_sub-start
+overflow_sub-start g c = omega (arith, (c.stands_before.ensures c.if-stands_before.true).1)
+
+pub slice_bounds-put_all-end-3 : goal.slice_bounds-put_all-end-3
+slice_bounds-put_all-end-3 g c = c.requires.1
+
+pub slice_bounds-put_all-count-2 : goal.slice_bounds-put_all-count-2
+slice_bounds-put_all-count-2 g c = c.requires.0
+
+pub slice_bounds-put_all-start-2 : goal.slice_bounds-put_all-start-2
+slice_bounds-put_all-start-2 g c = omega (arith, c.requires.0, c.requires.1)
+
+pub slice_bounds-put_all-end : goal.slice_bounds-put_all-end
+slice_bounds-put_all-end g c = c.requires.1
+
+pub slice_bounds-put_all-count : goal.slice_bounds-put_all-count
+slice_bounds-put_all-count g c = omega (arith, c.requires.0)
+
+pub slice_bounds-put_all-start : goal.slice_bounds-put_all-start
+slice_bounds-put_all-start g c = omega (arith, c.requires.0, c.requires.1)
