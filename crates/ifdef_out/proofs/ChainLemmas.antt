@@ -81,5 +81,6 @@ fewer e es left is =
     let all : length (behind_block e.at left) ≡ length (behind_block (next_gap e.at e.added) es) = ap length (ap (behind_block e.at) is ∙ behind-more e.at e es refl) in
     omega (arith, shorter (next_gap e.at e.added) es, ap length is)
 
+-- behind a block fewer edits are left
 pub less-left : (e : Edit) (es left behind : List Edit) → left ≡ e ∷ es → behind ≡ behind_block e.at left → length behind < length left
 less-left e es left behind is same = subst (λ (l : List Edit). length l < length left) (sym same) (fewer e es left is)

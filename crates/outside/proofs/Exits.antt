@@ -10,6 +10,7 @@ pub on_ok_none : {R E : Type 0} (P : Type 0) (Q : E → Type 0) (r : Result R E)
 on_ok_none P Q (Ok x) is = absurd is
 on_ok_none P Q (Err e) is = tt
 
+-- where an exit may be either, what is said of a fault is said of it
 pub on_err_told : {R E : Type 0} (P : Type 0) (r : Result R E) → P → OnErr r P
 on_err_told P (Ok x) p = tt
 on_err_told P (Err e) p = p

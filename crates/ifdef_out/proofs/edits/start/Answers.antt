@@ -1,4 +1,4 @@
-use Rattle.std.proofs.Common.{◌≡◌, ℕ, List, ◌∷◌, [], cond, length, reverse, drop, flat_map, sym, ap, ◌∙◌}
+use Rattle.std.proofs.Common.{◌≡◌, ℕ, List, ◌∷◌, [], cond, length, reverse, drop, flat_map, sym, ap, ◌∙◌, arith}
 use Rattle.hunk_core.specs.declared.Hunk.{Hunk}
 use Rattle.hunk_core.specs.declared.Verdict.{Verdict}
 use Rattle.hunk_core.specs.PlainHunk.{hunks_of}
@@ -47,3 +47,6 @@ hunk_start-requires-clause-rows c = c.requires.rows ∙ ap row_count c.in-Hunks.
 
 pub hunk_start-requires-clause-tried : goal.hunk_start-requires-clause-tried
 hunk_start-requires-clause-tried c = c.requires.tried
+
+pub first_row-requires : goal.first_row-requires
+first_row-requires c = let one : length c.args.edits.verdicts.now ≡ 1 = c.requires.rows ∙ ap row_count c.in-Script.is in omega (arith, one)

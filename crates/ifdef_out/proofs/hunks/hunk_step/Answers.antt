@@ -47,3 +47,6 @@ hunk_start-requires-clause-rows c = c.requires.rows
 
 pub hunk_start-requires-clause-tried : goal.hunk_start-requires-clause-tried
 hunk_start-requires-clause-tried c = c.requires.tried
+
+pub index-requires : goal.index-requires
+index-requires c = subst (λ n. c.args.place.line < n) c.len.ensures c.if-place-len.false

@@ -1,10 +1,10 @@
-use Rattle.std.proofs.Common.{ℕ, List, ◌∷◌, true, refl, subst, arith}
+use Rattle.std.proofs.Common.{ℕ, List, ◌∷◌, true, refl, subst}
 use Rattle.std.proofs.lemmas.Bool.{false≢true}
 use Rattle.outside.specs.SinkView.{sink_passes_both, Receives, ReceivesPart}
 use Rattle.outside.proofs.Exits.{if_ok_none}
 use Rattle.hunk_apply.specs.Written.{join_behind}
 use Rattle.hunk_apply.proofs.FaultLemmas.{on-err}
-use Rattle.ifdef_out.proofs.MarkLemmas.{condition, part-word, part-name, part-feed, wrote-all}
+use Rattle.ifdef_out.proofs.MarkLemmas.{still, condition, part-word, part-name, part-feed, wrote-all}
 use Rattle.ifdef_out.proofs.marking.put_condition.Goals as goal
 
 pub returns-in_err-put_line : goal.returns-in_err-put_line
@@ -23,7 +23,7 @@ returns-in_err-put_all g c = record {
   call =
       record {
         passes = sink_passes_both c.in_ok-put_line.ensures.call.passes c.in_err-put_all.ensures.call.passes;
-        cause = λ err small. omega (arith, c.in_err-put_all.ensures.call.cause (refl {a = true}) small, c.in_ok-put_line.ensures.call.passes.counts);
+        cause = λ err small. still c.in_ok-put_line.ensures.call.passes.counts (c.in_err-put_all.ensures.call.cause (refl {a = true}) small);
       };
   rest = g.met.O.Sink.rest_both _ _ _ c.in_ok-put_line.ensures.rest c.in_err-put_all.ensures.rest;
   written = if_ok_none _ _ c.from_residual-in_err-put_all.result c.from_residual-in_err-put_all.ensures.1;
@@ -39,7 +39,7 @@ returns-in_err-put_all-2 g c = record {
   call =
       record {
         passes = sink_passes_both (sink_passes_both c.in_ok-put_line.ensures.call.passes c.in_ok-put_all.ensures.call.passes) c.in_err-put_all-2.ensures.call.passes;
-        cause = λ err small. omega (arith, c.in_err-put_all-2.ensures.call.cause (refl {a = true}) small, c.in_ok-put_line.ensures.call.passes.counts, c.in_ok-put_all.ensures.call.passes.counts);
+        cause = λ err small. still c.in_ok-put_line.ensures.call.passes.counts (still c.in_ok-put_all.ensures.call.passes.counts (c.in_err-put_all-2.ensures.call.cause (refl {a = true}) small));
       };
   rest = g.met.O.Sink.rest_both _ _ _ (g.met.O.Sink.rest_both _ _ _ c.in_ok-put_line.ensures.rest c.in_ok-put_all.ensures.rest) c.in_err-put_all-2.ensures.rest;
   written = if_ok_none _ _ c.from_residual-in_err-put_all-2.result c.from_residual-in_err-put_all-2.ensures.1;

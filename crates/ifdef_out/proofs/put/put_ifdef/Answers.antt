@@ -33,6 +33,3 @@ returns-in-Err-Write g c = record {
   rest = c.in-Err-Write.ensures.rest;
   cause = subst (λ (f : ApplyFault). HasApplyCause f (g.S.LineStore.seen c.args.store.now) (g.S.LineStore.seen c.put_blocks.new.store) (g.O.Sink.view c.args.out.now) (g.O.Sink.view c.put_blocks.new.out)) c.in-Err-Write.field-0-is c.in-Err-Write.ensures.cause;
 }
-
-pub put_blocks-requires : goal.put_blocks-requires
-put_blocks-requires g c = record { lawful = c.requires.lawful; rows = c.requires.rows; tried = c.requires.tried }

@@ -58,3 +58,12 @@ returns c =
       shorter = omega arith;
       lies = c.add_step.ensures.lies c.args.text.now (span-lies c.args.text.now es _ p.line c.index-edit.result.now c.index.result.now c.requires.lawful.within (omega arith) is within c.index.ensures);
     }
+
+pub overflow_add-place : goal.overflow_add-place
+overflow_add-place c = omega (arith, c.if-place-len.false, c.len.type_inv)
+
+pub add_step-requires : goal.add_step-requires
+add_step-requires c = omega (arith, c.if-place-len-2.false, c.len-3.type_inv)
+
+pub index-requires : goal.index-requires
+index-requires c = subst (λ n. c.args.place.line < n) c.len-3.ensures c.if-place-len-2.false

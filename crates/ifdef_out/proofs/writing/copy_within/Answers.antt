@@ -1,4 +1,4 @@
-use Rattle.std.proofs.Common.{◌≡◌, ◌≤◌, ◌+◌, ◌++◌, ℕ, List, Some, length, arith}
+use Rattle.std.proofs.Common.{◌≡◌, ◌≤◌, ◌+◌, ◌++◌, ℕ, List, Some, length, subst, arith}
 use Rattle.line_store.proofs.StoreLemmas.{keeps-same}
 use Rattle.outside.specs.SinkView.{ReceivesPart, sink_passes_none}
 use Rattle.hunk_apply.specs.Written.{Wrote, lines_between, join_behind}
@@ -52,3 +52,6 @@ returns-then-from-lt1 g c = record {
 
 pub copy_lines-requires-clause-order : goal.copy_lines-requires-clause-order
 copy_lines-requires-clause-order g c = c.if-from-to.false
+
+pub copy_lines-requires-clause-high : goal.copy_lines-requires-clause-high
+copy_lines-requires-clause-high g c = subst (λ n. c.args.to ≤ n + 1) c.count-count.ensures.is c.if-to-count.false

@@ -11,6 +11,7 @@ use Rattle.hunk_apply.proofs.WrittenLemmas.{wrote-none, wrote-both, wrote-same, 
 use Rattle.ifdef_out.specs.Chain.{next_gap, block_added}
 use Rattle.ifdef_out.specs.Places.{IsFound, edits_left, edit_at}
 use Rattle.ifdef_out.proofs.ChainLemmas.{added-none, added-stop, added-next}
+use Rattle.ifdef_out.proofs.MarkLemmas.{still}
 use Rattle.ifdef_out.proofs.writing.put_added.Goals as goal
 
 pub loop-found-init : goal.loop-found-init
@@ -61,7 +62,7 @@ returns-in_err-now g c = record {
   call =
       record {
         passes = sink_passes_both c.loop-found.invariant.sink c.in_err-now.ensures.call.passes;
-        cause = λ err small. omega (arith, c.in_err-now.ensures.call.cause (refl {a = true}) small, c.loop-found.invariant.sink.counts);
+        cause = λ err small. still c.loop-found.invariant.sink.counts (c.in_err-now.ensures.call.cause (refl {a = true}) small);
       };
   rest = g.met.O.Sink.rest_both _ _ _ c.loop-found.invariant.rest c.in_err-now.ensures.rest;
   written = if_ok_none _ _ c.from_residual.result c.from_residual.ensures.1;

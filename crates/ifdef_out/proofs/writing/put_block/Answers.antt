@@ -122,6 +122,3 @@ returns g c = record {
   rest = g.met.O.Sink.rest_both _ _ _ (g.met.O.Sink.rest_both _ _ _ c.in_ok-opened.ensures.rest c.in_ok-added.ensures.rest) c.in_ok-end.ensures.rest;
   cause = tt;
 }
-
-pub put_added-requires : goal.put_added-requires
-put_added-requires g c = c.requires.edits

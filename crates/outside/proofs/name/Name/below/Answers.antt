@@ -27,14 +27,15 @@ pub invariant_of-result : goal.invariant_of-result
 invariant_of-result c = subst (λ (l : List ℕ). IsName l) (sym (has c))
     (name_below (string_bytes c.directory.inside.text) (string_bytes c.self.inside.text) c.directory.invariant c.self.invariant (ap (λ (l : List ℕ). is_absolute l) c.self.view_is ∙ relative c) (utf8 c))
 
-pub returns-clause-text : goal.returns-clause-text
-returns-clause-text c =
-    has c ∙ ap (λ (l : List ℕ). l ++ 47 ∷ string_bytes c.self.inside.text) c.directory.view_is ∙ ap (λ (l : List ℕ). c.args.directory.now ++ 47 ∷ l) c.self.view_is
-    ∙ ap (λ b. cond b c.args.self.now (c.args.directory.now ++ 47 ∷ c.args.self.now)) (sym (relative c))
-
-pub returns-clause-patch : goal.returns-clause-patch
-returns-clause-patch c = λ above own. subst (λ (l : List ℕ). IsPatchName l) (sym (has c))
-    (patch_below (string_bytes c.directory.inside.text) (string_bytes c.self.inside.text) (subst (λ (l : List ℕ). IsPatchName l) (sym c.directory.view_is) above) (subst (λ (l : List ℕ). IsPatchName l) (sym c.self.view_is) own) (utf8 c))
+pub returns : goal.returns
+returns c = record {
+  text =
+      has c ∙ ap (λ (l : List ℕ). l ++ 47 ∷ string_bytes c.self.inside.text) c.directory.view_is ∙ ap (λ (l : List ℕ). c.args.directory.now ++ 47 ∷ l) c.self.view_is
+      ∙ ap (λ b. cond b c.args.self.now (c.args.directory.now ++ 47 ∷ c.args.self.now)) (sym (relative c));
+  patch =
+      λ above own. subst (λ (l : List ℕ). IsPatchName l) (sym (has c))
+      (patch_below (string_bytes c.directory.inside.text) (string_bytes c.self.inside.text) (subst (λ (l : List ℕ). IsPatchName l) (sym c.directory.view_is) above) (subst (λ (l : List ℕ). IsPatchName l) (sym c.self.view_is) own) (utf8 c));
+}
 
 pub returns-then-is_absolute : goal.returns-then-is_absolute
 returns-then-is_absolute c =
