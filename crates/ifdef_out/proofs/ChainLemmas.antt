@@ -1,5 +1,5 @@
 -- The block that edits begin with, edit by edit.
-use Rattle.std.proofs.Common.{◌≡◌, ◌≢◌, ℕ, ◌<◌, ◌≤◌, ◌||◌, List, [], ◌∷◌, ◌++◌, length, Bool, true, false, eqb, refl, sym, ap, ◌∙◌, arith, Option, Some, None}
+use Rattle.std.proofs.Common.{◌≡◌, ◌≢◌, ℕ, ◌<◌, ◌≤◌, ◌||◌, List, [], ◌∷◌, ◌++◌, length, Bool, true, false, eqb, refl, sym, ap, subst, ◌∙◌, arith, Option, Some, None}
 use Rattle.std.specs.Prelude.{is_some, option_map}
 use Rattle.std.proofs.lemmas.Bool.Decides.{nat_tests}
 use Rattle.line_list.specs.declared.Span.{Span}
@@ -80,3 +80,7 @@ pub fewer : (e : Edit) (es left : List Edit) → left ≡ e ∷ es → length (b
 fewer e es left is =
     let all : length (behind_block e.at left) ≡ length (behind_block (next_gap e.at e.added) es) = ap length (ap (behind_block e.at) is ∙ behind-more e.at e es refl) in
     omega (arith, shorter (next_gap e.at e.added) es, ap length is)
+
+-- behind a block fewer edits are left
+pub less-left : (e : Edit) (es left behind : List Edit) → left ≡ e ∷ es → behind ≡ behind_block e.at left → length behind < length left
+less-left e es left behind is same = subst (λ (l : List Edit). length l < length left) (sym same) (fewer e es left is)

@@ -4,6 +4,9 @@ use Rattle.std.specs.Prelude.{ℤ}
 use Rattle.std.specs.List.{All}
 use Rattle.std.proofs.lemmas.List.{at_drop_more, drop_all}
 use Rattle.hunk_core.specs.declared.Side.{Side}
+use Rattle.hunk_core.specs.declared.Side.TheVariants.{Forward, Reversed}
+use Rattle.hunk_core.specs.declared.Mark.{Mark}
+use Rattle.hunk_core.specs.declared.Mark.TheVariants.{Keep, Drop, Add}
 use Rattle.hunk_core.specs.declared.Hunk.{Hunk}
 use Rattle.hunk_core.specs.declared.HunkLine.{HunkLine}
 use Rattle.hunk_core.specs.declared.Verdict.{Verdict}
@@ -34,6 +37,26 @@ no-edits Untried h other = refl
 no-edits Ignored h other = refl
 no-edits Nowhere h other = refl
 no-edits (At line fuzz offset) h other = absurd (other line fuzz offset refl)
+
+-- how far a line of a hunk moves on in the old lines
+abbrev pub counted : Mark → ℕ
+counted Keep = 1
+counted Drop = 1
+counted Add = 0
+
+pub on-side : (side : Side) (mark : Mark) → cond (is_on_side side mark) 1 0 ≡ counted (taken_mark side mark)
+on-side Forward Keep = refl
+on-side Forward Drop = refl
+on-side Forward Add = refl
+on-side Reversed Keep = refl
+on-side Reversed Drop = refl
+on-side Reversed Add = refl
+
+pub stays : (n k : ℕ) → k ≡ 0 → n ≡ n + k
+stays n k is = omega (arith, is)
+
+pub moves : (n k : ℕ) → k ≡ 1 → n + 1 ≡ n + k
+moves n k is = omega (arith, is)
 
 module _ (text : List ℕ) (side : Side) (vs : List Verdict) (hs : List Hunk) (row : ℕ) where
   -- behind all hunks nothing is left

@@ -1,11 +1,15 @@
 -- A line that is written in three pieces.
-use Rattle.std.proofs.Common.{◌≡◌, ℕ, List, [], ◌∷◌, ◌++◌, ◌&&◌, Bool, true, false, refl, sym, ap, subst, ◌∙◌, arith, append_assoc}
+use Rattle.std.proofs.Common.{◌≡◌, ◌≤◌, ◌<◌, ℕ, List, [], ◌∷◌, ◌++◌, ◌&&◌, Bool, true, false, refl, sym, ap, subst, ◌∙◌, arith, append_assoc}
 use Rattle.line_list.specs.Join.{lacks_feed, feed_if}
 use Rattle.line_list.proofs.JoinLemmas.{lacks-append}
 use Rattle.outside.specs.SinkView.{SinkView, Receives, ReceivesPart}
 use Rattle.hunk_apply.specs.declared.put.Tail.{Tail}
 use Rattle.hunk_apply.specs.Written.{Wrote, is_nothing, join_behind}
 use Rattle.hunk_apply.proofs.WrittenLemmas.{part-front, part-behind, part-line, receives-both, wrote-line}
+
+-- what rose over the last call rose over all
+pub still : {a b n : ℕ} → a ≤ b → b < n → a < n
+still le lt = omega (arith, le, lt)
 
 -- a word and a name as a line
 abbrev pub condition : List ℕ → List ℕ → List ℕ

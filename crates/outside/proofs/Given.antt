@@ -231,7 +231,14 @@ patch_name n name =
       normal = ap (λ b. cond b (47 ∷ normal_form n) (normal_form n)) rules.absolute ∙ name.normal;
     }
 
+-- what a slash is put before
+pub rooted : (text kept whole : List ℕ) → kept ≡ normal_form text → is_absolute text ≡ true → whole ≡ 47 ∷ kept → whole ≡ given_form text
+rooted text kept whole has absolute is = is ∙ ap (λ (l : List ℕ). 47 ∷ l) has ∙ ap (λ b. cond b (47 ∷ normal_form text) (normal_form text)) (sym absolute)
+
 -- ---- each rule, where those before it are kept
+pub given_utf8 : (text : List ℕ) → (utf8_valid_len text == length text) ≡ false → Some NotUtf8 ≡ broken_given text
+given_utf8 text a = rw a refl
+
 pub given_control : (text : List ℕ) → IsUtf8 text → list_any is_control text ≡ true → Some Control ≡ broken_given text
 given_control text utf8 b = let a = utf8_whole text utf8 in rw (a, b) refl
 

@@ -1,14 +1,18 @@
 -- Lawful texts of patches, their normal forms, and what may stand before and behind a name that a patch gives.
-use Rattle.std.proofs.Common.{◌≡◌, ℕ, ◌+◌, ◌<◌, List, [], ◌∷◌, ◌++◌, length, take, get_or, codes, Bool, true, false, cond, not, ◌&&◌, ◌||◌, ◌==◌, nat_eq, bytes_eq, filter, Option, Some, None, refl, sym, ◌∙◌, ap, subst, arith, append_assoc, eq-eqb}
+use Rattle.std.proofs.Common.{◌≡◌, ℕ, ◌+◌, ◌<◌, List, [], ◌∷◌, ◌++◌, length, take, get_or, codes, Bool, true, false, cond, not, ◌&&◌, ◌||◌, ◌==◌, nat_eq, bytes_eq, filter, Option, Some, None, Result, Ok, Err, ◌↔◌, refl, sym, ◌∙◌, ap, subst, arith, append_assoc, eq-eqb, ne_eqb}
 use Rattle.std.proofs.lemmas.List.{append-nil}
+use Rattle.std.proofs.lemmas.Bool.{false≢true}
 use Rattle.std.proofs.lemmas.Bool.Decides.{nat_tests}
 use Rattle.std.proofs.lemmas.List.Elements.{filter_more}
-use Rattle.std.proofs.lemmas.Str.{utf8_valid_len-IsUtf8}
+use Rattle.std.proofs.lemmas.Str.{utf8_valid_len-IsUtf8, utf8_valid_len-IsValidUpTo}
 use Rattle.std.specs.List.{list_any, join_with_byte}
-use Rattle.std.specs.Str.{IsUtf8}
+use Rattle.std.specs.Str.{IsUtf8, IsValidUpTo}
 use Rattle.std.specs.Str.Lossy.{utf8_valid_len}
 use Rattle.outside.specs.declared.name.NameRule.{NameRule}
 use Rattle.outside.specs.declared.name.NameRule.TheVariants.{NotUtf8, Control, Absolute, Parent, Empty}
+use Rattle.outside.specs.declared.name.NameFault.{NameFault}
+use Rattle.outside.specs.declared.name.NameFault.TheVariants.{Refused, Memory}
+use Rattle.std.specs.Result.{IsErrAnd}
 use Rattle.outside.specs.Names.{is_slash, is_control, is_absolute, is_empty, is_kept, components, kept, normal_form, broken_rule, with_component, IsPatchName, IsEnding}
 use Rattle.outside.proofs.Components.{Each, Free, neither, either_free, append_free, components_free, slash_free, components_some, components_joined, joined, join_free, components_behind, each_last, components_ahead, components_slash, each_append, each_ahead, front_free}
 
@@ -238,7 +242,34 @@ patch_ahead f n front name utf8 =
     (each_ahead IsPart (components f) (components n) (codes "x") (λ c d part. (kept_ahead c d part.0, parent_ahead c d part.0 part.1)) (components_some n)
     (subst (λ (l : List (List ℕ)). Each IsPart l) (components_ahead f (codes "x")) (patch_parts (f ++ codes "x") front)) (patch_parts n name)))
 
+-- ---- one component
+pub empty_component : (c : List ℕ) (b : Bool) → b ≡ true → b ≡ (length c == 0) → not b ≡ is_kept c
+empty_component [] true is e = refl
+empty_component (x ∷ xs) true is e = absurd (false≢true (sym (ne_eqb (length (x ∷ xs)) 0 (λ z. omega (arith, z))) ∙ sym e))
+empty_component c false is e = cc
+
+pub some_component : (c : List ℕ) → (length c == 0) ≡ false → not (bytes_eq c (codes ".")) ≡ is_kept c
+some_component [] e = cc
+some_component (x ∷ xs) e = refl
+
+-- ---- what is refused
+pub refused_rule : {X : Type 0} (r : NameRule) (o : Option NameRule) → Some r ≡ o → (rule : NameRule) → (◌≡◌ {A = Result X NameFault} (Err (Refused r)) (Err (Refused rule))) ↔ (o ≡ Some rule)
+refused_rule r o e rule = (λ is. cc, λ is. cc)
+
+pub refused_none : {X : Type 0} (x : X) (o : Option NameRule) → o ≡ None → (rule : NameRule) → (◌≡◌ {A = Result X NameFault} (Ok x) (Err (Refused rule))) ↔ (o ≡ Some rule)
+refused_none x o e rule = (λ is. absurd cc, λ is. absurd cc)
+
+pub refused_memory : {X : Type 0} (r : Result X NameFault) (o : Option NameRule) → o ≡ None → IsErrAnd r (λ e. e ≡ Memory) → (rule : NameRule) → (r ≡ Err (Refused rule)) ↔ (o ≡ Some rule)
+refused_memory (Ok x) o e is rule = absurd is
+refused_memory (Err y) o e is rule = (λ same. absurd cc, λ same. absurd cc)
+
 -- ---- each rule, where those before it are kept
+pub not_utf8 : (text : List ℕ) (n : ℕ) → IsValidUpTo text n → (utf8_valid_len text == length text) ≡ false
+not_utf8 text n is = ap (λ m. m == length text) (utf8_valid_len-IsValidUpTo text n is) ∙ ne_eqb n (length text) (λ e. omega (arith, e, is.short))
+
+pub rule_utf8 : (text : List ℕ) → (utf8_valid_len text == length text) ≡ false → Some NotUtf8 ≡ broken_rule text
+rule_utf8 text a = rw a refl
+
 pub kept_any : (cs : List (List ℕ)) → is_empty (filter is_kept cs) ≡ not (list_any is_kept cs)
 kept_any [] = refl
 kept_any (c ∷ cs) = elim (is_kept c) as (λ b. is_empty (cond b (c ∷ filter is_kept cs) (filter is_kept cs)) ≡ not (b || list_any is_kept cs)) [

@@ -1,7 +1,7 @@
 -- How writes to a sink go on from one another.
-use Rattle.std.proofs.Common.{◌≡◌, inl, inr, ⊎_elim, ◌+◌, ◌<◌, ◌≤◌, ℕ, suc, List, [], ◌∷◌, ◌++◌, length, take, Some, Result, Ok, Err, IsErr, refl, sym, ◌∙◌, ap, subst, arith, append_assoc, zero-add}
+use Rattle.std.proofs.Common.{◌≡◌, inl, inr, ⊎_elim, ◌+◌, ◌<◌, ◌≤◌, ℕ, suc, List, [], ◌∷◌, ◌++◌, length, take, drop, Some, Result, Ok, Err, IsErr, refl, sym, ◌∙◌, ap, subst, arith, append_assoc, zero-add}
 use Rattle.std.proofs.lemmas.Bool.{cases_lt}
-use Rattle.std.proofs.lemmas.List.{take-append-le, take_all, append-nil}
+use Rattle.std.proofs.lemmas.List.{take-append-le, take-append-drop, take_all, append-nil}
 use Rattle.outside.specs.SinkView.{SinkView, sink_passes_none, sink_passes_both, Receives, ReceivesPart, Writes, IsSinkCall}
 
 take-over : {A : Type 0} (xs ys : List A) (n : ℕ) → take (length xs + n) (xs ++ ys) ≡ xs ++ take n ys
@@ -73,3 +73,8 @@ stop_all e s p q is call failed = writes_stop e s q is (record { call = call; re
 -- a first call, and what follows it
 pub then_all : {R S E D : Type 0} {a b c : SinkView} (x : R) (r : Result S D) (p q : List ℕ) → IsSinkCall {E = E} a b (Ok x) → Receives a b p → Writes b c r q → Writes a c r (p ++ q)
 then_all x r p q call received more = writes_then x r (record { call = call; received = received; failed = tt }) more
+
+-- a call that took nothing, behind a first part of a piece
+pub broken_off : (a b c : SinkView) (piece : List ℕ) (at : ℕ) → Receives a b (take at piece) → ReceivesPart b c [] → ReceivesPart a c piece
+broken_off a b c piece at first second = subst (ReceivesPart a c) (take-append-drop at piece)
+    (part_longer a c (take at piece) (drop at piece) (subst (ReceivesPart a c) (append-nil (take at piece)) (part_after a b c (take at piece) [] first second)))

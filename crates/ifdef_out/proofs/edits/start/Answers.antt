@@ -1,4 +1,4 @@
-use Rattle.std.proofs.Common.{◌≡◌, ℕ, List, ◌∷◌, [], cond, length, reverse, drop, flat_map, sym, ap, ◌∙◌, rules}
+use Rattle.std.proofs.Common.{◌≡◌, ℕ, List, ◌∷◌, [], cond, length, reverse, drop, flat_map, sym, ap, ◌∙◌, arith}
 use Rattle.hunk_core.specs.declared.Hunk.{Hunk}
 use Rattle.hunk_core.specs.declared.Verdict.{Verdict}
 use Rattle.hunk_core.specs.PlainHunk.{hunks_of}
@@ -33,7 +33,7 @@ returns-in-Script c =
     let es = c.in-Script.script.edits.items in
     let one : length c.args.edits.verdicts.now ≡ 1 = c.requires.rows ∙ ap row_count c.in-Script.is in
     let l : (v : Verdict) × (c.args.edits.verdicts.now ≡ v ∷ []) = lone c.args.edits.verdicts.now one in
-    let count : c.len.result ≡ length c.in-Script.script.edits.items = search rules in
+    let count : c.len.result ≡ length c.in-Script.script.edits.items = c.len.ensures ∙ c.in-Script.script.edits.ok.0 in
     ap (λ (ch : Change). left_of text side vs ch p.row p.line p.next) c.in-Script.is
     ∙ c.script_start.ensures.left text
     ∙ ap (λ (n : ℕ). flat_map command_edits (edits_of text (drop n (reverse es)))) (c.first_row.ensures l.0 [] l.1)
@@ -41,3 +41,12 @@ returns-in-Script c =
     ∙ script-start text es l.0
     ∙ ap (λ (ws : List Verdict). change_edits ws side (script (edits_of text es))) (sym l.1)
     ∙ ap (λ (ch : Change). change_edits vs side (change_of text ch)) (sym c.in-Script.is)
+
+pub hunk_start-requires-clause-rows : goal.hunk_start-requires-clause-rows
+hunk_start-requires-clause-rows c = c.requires.rows ∙ ap row_count c.in-Hunks.is ∙ ap length (sym c.deref.ensures.value)
+
+pub hunk_start-requires-clause-tried : goal.hunk_start-requires-clause-tried
+hunk_start-requires-clause-tried c = c.requires.tried
+
+pub first_row-requires : goal.first_row-requires
+first_row-requires c = let one : length c.args.edits.verdicts.now ≡ 1 = c.requires.rows ∙ ap row_count c.in-Script.is in omega (arith, one)

@@ -1,4 +1,4 @@
-use Rattle.std.proofs.Common.{◌≡◌, ◌≤◌, ◌<◌, ◌^◌, ◌+◌, ◌++◌, ℕ, cond, length, sym, ap, ◌∙◌, arith, rules}
+use Rattle.std.proofs.Common.{◌≡◌, ◌≤◌, ◌<◌, ◌^◌, ◌+◌, ◌++◌, ℕ, cond, length, sym, ap, ◌∙◌, subst, arith}
 use Rattle.hunk_core.specs.Sides.{is_on_side}
 use Rattle.ifdef_out.specs.Places.{hunks_at, step_edit}
 use Rattle.ifdef_out.proofs.HunkSteps.{none-ahead, hunk-over, line-ahead, line-lies, body-short}
@@ -9,7 +9,7 @@ returns-then-place-hunks c = none-ahead c.args.text.now c.args.side c.args.verdi
 
 pub returns-then-place-len : goal.returns-then-place-len
 returns-then-place-len c =
-    let over : length c.index-hunks-place.result.body.items ≤ c.args.place.line = search rules in
+    let over : length c.index-hunks-place.result.body.items ≤ c.args.place.line = subst (λ n. n ≤ c.args.place.line) (c.len.ensures ∙ c.index-hunks-place.result.body.ok.0) c.if-place-len.true in
     record {
       left = hunk-over c.args.text.now c.args.side c.args.verdicts.now c.args.hunks.now c.args.place.row c.args.place.line c.args.place.next c.index-hunks-place.result c.if-place-hunks.false c.index-hunks-place.is over
           ∙ sym (c.hunk_start.ensures.left c.args.text.now c.args.side);
@@ -20,7 +20,7 @@ returns-then-place-len c =
 pub line_step-requires : goal.line_step-requires
 line_step-requires c =
     let short : length c.index-hunks-place.result.body.items < 2 ^ 32 = body-short c.args.text.now c.args.hunks.now c.args.place.row c.index-hunks-place.result c.requires.lawful c.if-place-hunks.false c.index-hunks-place.is in
-    let within : c.args.place.line < length c.index-hunks-place.result.body.items = search rules in
+    let within : c.args.place.line < length c.index-hunks-place.result.body.items = subst (λ n. c.args.place.line < n) (c.len.ensures ∙ c.index-hunks-place.result.body.ok.0) c.if-place-len.false in
     omega arith
 
 pub returns : goal.returns
@@ -30,7 +30,7 @@ returns c =
     let h = c.index-hunks-place.result in
     let l = c.index.result.now in
     let p = c.args.place in
-    let within : c.args.place.line < length c.index-hunks-place.result.body.items = search rules in
+    let within : c.args.place.line < length c.index-hunks-place.result.body.items = subst (λ n. c.args.place.line < n) (c.len.ensures ∙ c.index-hunks-place.result.body.ok.0) c.if-place-len.false in
     let s = c.line_step.result in
     record {
       left = line-ahead text side c.args.verdicts.now c.args.hunks.now p.row p.line p.next h l c.if-place-hunks.false c.index-hunks-place.is within c.index.ensures
@@ -41,3 +41,12 @@ returns c =
       shorter = (let row : c.line_step.result.behind.row ≡ c.args.place.row = c.line_step.ensures.row in let line : c.line_step.result.behind.line ≡ c.args.place.line + 1 = c.line_step.ensures.line in omega arith);
       lies = c.line_step.ensures.lies text (line-lies text c.args.hunks.now p.row p.line h l c.requires.lawful c.if-place-hunks.false c.index-hunks-place.is within c.index.ensures);
     }
+
+pub hunk_start-requires-clause-rows : goal.hunk_start-requires-clause-rows
+hunk_start-requires-clause-rows c = c.requires.rows
+
+pub hunk_start-requires-clause-tried : goal.hunk_start-requires-clause-tried
+hunk_start-requires-clause-tried c = c.requires.tried
+
+pub index-requires : goal.index-requires
+index-requires c = subst (λ n. c.args.place.line < n) c.len.ensures c.if-place-len.false

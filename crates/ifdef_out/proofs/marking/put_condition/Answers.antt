@@ -1,81 +1,68 @@
-use Rattle.std.proofs.Common.{ℕ, List, ◌∷◌, true, refl, subst, arith}
+use Rattle.std.proofs.Common.{ℕ, List, ◌∷◌, true, refl, subst}
 use Rattle.std.proofs.lemmas.Bool.{false≢true}
 use Rattle.outside.specs.SinkView.{sink_passes_both, Receives, ReceivesPart}
 use Rattle.outside.proofs.Exits.{if_ok_none}
 use Rattle.hunk_apply.specs.Written.{join_behind}
 use Rattle.hunk_apply.proofs.FaultLemmas.{on-err}
-use Rattle.ifdef_out.proofs.MarkLemmas.{condition, part-word, part-name, part-feed, wrote-all}
+use Rattle.ifdef_out.proofs.MarkLemmas.{still, condition, part-word, part-name, part-feed, wrote-all}
 use Rattle.ifdef_out.proofs.marking.put_condition.Goals as goal
 
-pub returns-in_err-put_line-clause-part : goal.returns-in_err-put_line-clause-part
-returns-in_err-put_line-clause-part g c =
-    let view = g.O.Sink.view in
-    on-err _ ((more : List (List ℕ)) → ReceivesPart (view c.args.out.now) (view c.put_line.new.out) (join_behind c.args.tail.is_open (condition c.args.word.now c.args.name.now ∷ more)))
-    (part-word (view c.args.out.now) (view c.put_line.new.out) c.args.tail c.args.word.now c.args.name.now c.in_err-put_line.ensures.failed)
-
-pub returns-in_err-put_all-clause-part : goal.returns-in_err-put_all-clause-part
-returns-in_err-put_all-clause-part g c =
-    let view = g.O.Sink.view in
-    on-err _ ((more : List (List ℕ)) → ReceivesPart (view c.args.out.now) (view c.put_all.new.out) (join_behind c.args.tail.is_open (condition c.args.word.now c.args.name.now ∷ more)))
-    (part-name (view c.args.out.now) (view c.put_line.new.out) c.args.tail c.args.word.now c.args.name.now (view c.put_all.new.out) c.in_ok-put_line.ensures.received
-    (subst (ReceivesPart (view c.put_line.new.out) (view c.put_all.new.out)) c.as_bytes.ensures.value c.in_err-put_all.ensures.failed))
-
-pub returns-in_err-put_all-2-clause-part : goal.returns-in_err-put_all-2-clause-part
-returns-in_err-put_all-2-clause-part g c =
-    let view = g.O.Sink.view in
-    on-err _ ((more : List (List ℕ)) → ReceivesPart (view c.args.out.now) (view c.put_all-2.new.out) (join_behind c.args.tail.is_open (condition c.args.word.now c.args.name.now ∷ more)))
-    (part-feed (view c.args.out.now) (view c.put_line.new.out) c.args.tail c.args.word.now c.args.name.now (view c.put_all.new.out) c.in_ok-put_line.ensures.received (view c.put_all-2.new.out)
-    (subst (Receives (view c.put_line.new.out) (view c.put_all.new.out)) c.as_bytes.ensures.value c.in_ok-put_all.ensures.received)
-    c.in_err-put_all-2.ensures.failed)
-
-pub returns-clause-written : goal.returns-clause-written
-returns-clause-written g c =
-    let view = g.O.Sink.view in
-    wrote-all (view c.args.out.now) (view c.put_line.new.out) c.args.tail c.args.word.now c.args.name.now (view c.put_all.new.out) c.in_ok-put_line.ensures.received (view c.put_all-2.new.out)
-    (subst (Receives (view c.put_line.new.out) (view c.put_all.new.out)) c.as_bytes.ensures.value c.in_ok-put_all.ensures.received)
-    _ refl refl c.in_ok-put_all-2.ensures.received
-
-pub returns-in_err-put_line-clause-written : goal.returns-in_err-put_line-clause-written
-returns-in_err-put_line-clause-written g c = if_ok_none _ _ c.from_residual.result c.from_residual.ensures.1
-
-pub returns-in_err-put_all-clause-written : goal.returns-in_err-put_all-clause-written
-returns-in_err-put_all-clause-written g c = if_ok_none _ _ c.from_residual-in_err-put_all.result c.from_residual-in_err-put_all.ensures.1
-
-pub returns-in_err-put_all-2-clause-written : goal.returns-in_err-put_all-2-clause-written
-returns-in_err-put_all-2-clause-written g c = if_ok_none _ _ c.from_residual-in_err-put_all-2.result c.from_residual-in_err-put_all-2.ensures.1
-
-pub returns-in_err-put_line-clause-call : goal.returns-in_err-put_line-clause-call
-returns-in_err-put_line-clause-call g c = record { passes = c.in_err-put_line.ensures.call.passes; cause = λ err. c.in_err-put_line.ensures.call.cause (refl {a = true}) }
-
-pub returns-in_err-put_line-clause-rest : goal.returns-in_err-put_line-clause-rest
-returns-in_err-put_line-clause-rest g c = c.in_err-put_line.ensures.rest
-
-pub returns-in_err-put_all-clause-call : goal.returns-in_err-put_all-clause-call
-returns-in_err-put_all-clause-call g c = record {
-  passes = sink_passes_both c.in_ok-put_line.ensures.call.passes c.in_err-put_all.ensures.call.passes;
-  cause = λ err small. omega (arith, c.in_err-put_all.ensures.call.cause (refl {a = true}) small, c.in_ok-put_line.ensures.call.passes.counts);
+pub returns-in_err-put_line : goal.returns-in_err-put_line
+returns-in_err-put_line g c = record {
+  call = record { passes = c.in_err-put_line.ensures.call.passes; cause = λ err. c.in_err-put_line.ensures.call.cause (refl {a = true}) };
+  rest = c.in_err-put_line.ensures.rest;
+  written = if_ok_none _ _ c.from_residual.result c.from_residual.ensures.1;
+  part =
+      let view = g.O.Sink.view in
+      on-err _ ((more : List (List ℕ)) → ReceivesPart (view c.args.out.now) (view c.put_line.new.out) (join_behind c.args.tail.is_open (condition c.args.word.now c.args.name.now ∷ more)))
+      (part-word (view c.args.out.now) (view c.put_line.new.out) c.args.tail c.args.word.now c.args.name.now c.in_err-put_line.ensures.failed);
 }
 
-pub returns-in_err-put_all-clause-rest : goal.returns-in_err-put_all-clause-rest
-returns-in_err-put_all-clause-rest g c = g.met.O.Sink.rest_both _ _ _ c.in_ok-put_line.ensures.rest c.in_err-put_all.ensures.rest
-
-pub returns-in_err-put_all-2-clause-call : goal.returns-in_err-put_all-2-clause-call
-returns-in_err-put_all-2-clause-call g c = record {
-  passes = sink_passes_both (sink_passes_both c.in_ok-put_line.ensures.call.passes c.in_ok-put_all.ensures.call.passes) c.in_err-put_all-2.ensures.call.passes;
-  cause = λ err small. omega (arith, c.in_err-put_all-2.ensures.call.cause (refl {a = true}) small, c.in_ok-put_line.ensures.call.passes.counts, c.in_ok-put_all.ensures.call.passes.counts);
+pub returns-in_err-put_all : goal.returns-in_err-put_all
+returns-in_err-put_all g c = record {
+  call =
+      record {
+        passes = sink_passes_both c.in_ok-put_line.ensures.call.passes c.in_err-put_all.ensures.call.passes;
+        cause = λ err small. still c.in_ok-put_line.ensures.call.passes.counts (c.in_err-put_all.ensures.call.cause (refl {a = true}) small);
+      };
+  rest = g.met.O.Sink.rest_both _ _ _ c.in_ok-put_line.ensures.rest c.in_err-put_all.ensures.rest;
+  written = if_ok_none _ _ c.from_residual-in_err-put_all.result c.from_residual-in_err-put_all.ensures.1;
+  part =
+      let view = g.O.Sink.view in
+      on-err _ ((more : List (List ℕ)) → ReceivesPart (view c.args.out.now) (view c.put_all.new.out) (join_behind c.args.tail.is_open (condition c.args.word.now c.args.name.now ∷ more)))
+      (part-name (view c.args.out.now) (view c.put_line.new.out) c.args.tail c.args.word.now c.args.name.now (view c.put_all.new.out) c.in_ok-put_line.ensures.received
+      (subst (ReceivesPart (view c.put_line.new.out) (view c.put_all.new.out)) c.as_bytes.ensures.value c.in_err-put_all.ensures.failed));
 }
 
-pub returns-in_err-put_all-2-clause-rest : goal.returns-in_err-put_all-2-clause-rest
-returns-in_err-put_all-2-clause-rest g c = g.met.O.Sink.rest_both _ _ _ (g.met.O.Sink.rest_both _ _ _ c.in_ok-put_line.ensures.rest c.in_ok-put_all.ensures.rest) c.in_err-put_all-2.ensures.rest
-
-pub returns-clause-call : goal.returns-clause-call
-returns-clause-call g c = record {
-  passes = sink_passes_both (sink_passes_both c.in_ok-put_line.ensures.call.passes c.in_ok-put_all.ensures.call.passes) c.in_ok-put_all-2.ensures.call.passes;
-  cause = λ err. absurd (false≢true err);
+pub returns-in_err-put_all-2 : goal.returns-in_err-put_all-2
+returns-in_err-put_all-2 g c = record {
+  call =
+      record {
+        passes = sink_passes_both (sink_passes_both c.in_ok-put_line.ensures.call.passes c.in_ok-put_all.ensures.call.passes) c.in_err-put_all-2.ensures.call.passes;
+        cause = λ err small. still c.in_ok-put_line.ensures.call.passes.counts (still c.in_ok-put_all.ensures.call.passes.counts (c.in_err-put_all-2.ensures.call.cause (refl {a = true}) small));
+      };
+  rest = g.met.O.Sink.rest_both _ _ _ (g.met.O.Sink.rest_both _ _ _ c.in_ok-put_line.ensures.rest c.in_ok-put_all.ensures.rest) c.in_err-put_all-2.ensures.rest;
+  written = if_ok_none _ _ c.from_residual-in_err-put_all-2.result c.from_residual-in_err-put_all-2.ensures.1;
+  part =
+      let view = g.O.Sink.view in
+      on-err _ ((more : List (List ℕ)) → ReceivesPart (view c.args.out.now) (view c.put_all-2.new.out) (join_behind c.args.tail.is_open (condition c.args.word.now c.args.name.now ∷ more)))
+      (part-feed (view c.args.out.now) (view c.put_line.new.out) c.args.tail c.args.word.now c.args.name.now (view c.put_all.new.out) c.in_ok-put_line.ensures.received (view c.put_all-2.new.out)
+      (subst (Receives (view c.put_line.new.out) (view c.put_all.new.out)) c.as_bytes.ensures.value c.in_ok-put_all.ensures.received)
+      c.in_err-put_all-2.ensures.failed);
 }
 
-pub returns-clause-rest : goal.returns-clause-rest
-returns-clause-rest g c = g.met.O.Sink.rest_both _ _ _ (g.met.O.Sink.rest_both _ _ _ c.in_ok-put_line.ensures.rest c.in_ok-put_all.ensures.rest) c.in_ok-put_all-2.ensures.rest
-
-pub returns-clause-part : goal.returns-clause-part
-returns-clause-part g c = tt
+pub returns : goal.returns
+returns g c = record {
+  call =
+      record {
+        passes = sink_passes_both (sink_passes_both c.in_ok-put_line.ensures.call.passes c.in_ok-put_all.ensures.call.passes) c.in_ok-put_all-2.ensures.call.passes;
+        cause = λ err. absurd (false≢true err);
+      };
+  rest = g.met.O.Sink.rest_both _ _ _ (g.met.O.Sink.rest_both _ _ _ c.in_ok-put_line.ensures.rest c.in_ok-put_all.ensures.rest) c.in_ok-put_all-2.ensures.rest;
+  written =
+      let view = g.O.Sink.view in
+      wrote-all (view c.args.out.now) (view c.put_line.new.out) c.args.tail c.args.word.now c.args.name.now (view c.put_all.new.out) c.in_ok-put_line.ensures.received (view c.put_all-2.new.out)
+      (subst (Receives (view c.put_line.new.out) (view c.put_all.new.out)) c.as_bytes.ensures.value c.in_ok-put_all.ensures.received)
+      _ refl refl c.in_ok-put_all-2.ensures.received;
+  part = tt;
+}

@@ -11,6 +11,7 @@ use Rattle.hunk_apply.proofs.WrittenLemmas.{wrote-none, wrote-both, wrote-same, 
 use Rattle.ifdef_out.specs.Chain.{next_gap, block_added}
 use Rattle.ifdef_out.specs.Places.{IsFound, edits_left, edit_at}
 use Rattle.ifdef_out.proofs.ChainLemmas.{added-none, added-stop, added-next}
+use Rattle.ifdef_out.proofs.MarkLemmas.{still}
 use Rattle.ifdef_out.proofs.writing.put_added.Goals as goal
 
 pub loop-found-init : goal.loop-found-init
@@ -56,76 +57,65 @@ loop-found-preserved g c =
           (c.in_ok-now.ensures.written after));
     }
 
-pub returns-in_err-now-clause-part : goal.returns-in_err-now-clause-part
-returns-in_err-now-clause-part g c =
-    let view = g.O.Sink.view in
-    let f : IsFound c.args.edits c.loop-found.at c.in-Some.found = c.in-Some.ensures in
-    let text = c.args.edits.text.now in
-    let q = c.loop-found.next in
-    let left = edits_left c.args.edits c.loop-found.at in
-    let es = edits_left c.args.edits c.in-Some.found.behind in
-    let e : Edit = edit_at c.args.edits.text.now c.in-Some.found.edit in
-    let own = added_line (option_map (bytes_at text) c.in-Some.found.edit.added) in
-    let all = block_added c.args.first (edits_left c.args.edits c.args.place) in
-    let to : ℕ = next_gap q e.added in
-    let next : block_added q left ≡ own ++ block_added to es = added-next q left e es to f.left c.if-found-next.false refl in
-    on-err _ ((more : List (List ℕ)) → ReceivesPart (view c.args.out.now) (view c.put_edit.new.out) (join_behind c.args.tail.is_open (all ++ more)))
-    (λ more.
-    let after : List (List ℕ) = block_added to es ++ more in
-    part-after (view c.args.out.now) (view c.loop-found.out) (view c.put_edit.new.out) c.args.tail c.loop-found.now (all ++ more) (block_added q left ++ more)
-    (c.loop-found.invariant.written more)
-    (part-same (view c.loop-found.out) (view c.put_edit.new.out) c.loop-found.now.is_open (own ++ after) (block_added q left ++ more)
-    (sym (ap (λ ls. ls ++ more) next ∙ append_assoc own (block_added to es) more))
-    (c.in_err-now.ensures.part after)))
-
-pub returns-in_err-now-clause-call : goal.returns-in_err-now-clause-call
-returns-in_err-now-clause-call g c = record {
-  passes = sink_passes_both c.loop-found.invariant.sink c.in_err-now.ensures.call.passes;
-  cause = λ err small. omega (arith, c.in_err-now.ensures.call.cause (refl {a = true}) small, c.loop-found.invariant.sink.counts);
+pub returns-in_err-now : goal.returns-in_err-now
+returns-in_err-now g c = record {
+  call =
+      record {
+        passes = sink_passes_both c.loop-found.invariant.sink c.in_err-now.ensures.call.passes;
+        cause = λ err small. still c.loop-found.invariant.sink.counts (c.in_err-now.ensures.call.cause (refl {a = true}) small);
+      };
+  rest = g.met.O.Sink.rest_both _ _ _ c.loop-found.invariant.rest c.in_err-now.ensures.rest;
+  written = if_ok_none _ _ c.from_residual.result c.from_residual.ensures.1;
+  part =
+      let view = g.O.Sink.view in
+      let f : IsFound c.args.edits c.loop-found.at c.in-Some.found = c.in-Some.ensures in
+      let text = c.args.edits.text.now in
+      let q = c.loop-found.next in
+      let left = edits_left c.args.edits c.loop-found.at in
+      let es = edits_left c.args.edits c.in-Some.found.behind in
+      let e : Edit = edit_at c.args.edits.text.now c.in-Some.found.edit in
+      let own = added_line (option_map (bytes_at text) c.in-Some.found.edit.added) in
+      let all = block_added c.args.first (edits_left c.args.edits c.args.place) in
+      let to : ℕ = next_gap q e.added in
+      let next : block_added q left ≡ own ++ block_added to es = added-next q left e es to f.left c.if-found-next.false refl in
+      on-err _ ((more : List (List ℕ)) → ReceivesPart (view c.args.out.now) (view c.put_edit.new.out) (join_behind c.args.tail.is_open (all ++ more)))
+      (λ more.
+      let after : List (List ℕ) = block_added to es ++ more in
+      part-after (view c.args.out.now) (view c.loop-found.out) (view c.put_edit.new.out) c.args.tail c.loop-found.now (all ++ more) (block_added q left ++ more)
+      (c.loop-found.invariant.written more)
+      (part-same (view c.loop-found.out) (view c.put_edit.new.out) c.loop-found.now.is_open (own ++ after) (block_added q left ++ more)
+      (sym (ap (λ ls. ls ++ more) next ∙ append_assoc own (block_added to es) more))
+      (c.in_err-now.ensures.part after)));
 }
 
-pub returns-in_err-now-clause-rest : goal.returns-in_err-now-clause-rest
-returns-in_err-now-clause-rest g c = g.met.O.Sink.rest_both _ _ _ c.loop-found.invariant.rest c.in_err-now.ensures.rest
+pub returns-then-found-next : goal.returns-then-found-next
+returns-then-found-next g c = record {
+  call = record { passes = c.loop-found.invariant.sink; cause = λ err. absurd (false≢true err) };
+  rest = c.loop-found.invariant.rest;
+  written = λ more.
+      let view = g.O.Sink.view in
+      let f : IsFound c.args.edits c.loop-found.at c.in-Some.found = c.in-Some.ensures in
+      let q = c.loop-found.next in
+      let left = edits_left c.args.edits c.loop-found.at in
+      let all = block_added c.args.first (edits_left c.args.edits c.args.place) in
+      let none : block_added q left ≡ [] = ap (block_added q) f.left ∙ added-stop q (edit_at c.args.edits.text.now c.in-Some.found.edit) (edits_left c.args.edits c.in-Some.found.behind) c.if-found-next.true in
+      wrote-same (view c.args.out.now) (view c.loop-found.out) c.args.tail c.loop-found.now (all ++ more) (all ++ more) (block_added q left ++ more) more refl (ap (λ ls. ls ++ more) none)
+      (c.loop-found.invariant.written more);
+  part = tt;
+}
 
-pub returns-then-found-next-clause-call : goal.returns-then-found-next-clause-call
-returns-then-found-next-clause-call g c = record { passes = c.loop-found.invariant.sink; cause = λ err. absurd (false≢true err) }
-
-pub returns-then-found-next-clause-written : goal.returns-then-found-next-clause-written
-returns-then-found-next-clause-written g c more =
-    let view = g.O.Sink.view in
-    let f : IsFound c.args.edits c.loop-found.at c.in-Some.found = c.in-Some.ensures in
-    let q = c.loop-found.next in
-    let left = edits_left c.args.edits c.loop-found.at in
-    let all = block_added c.args.first (edits_left c.args.edits c.args.place) in
-    let none : block_added q left ≡ [] = ap (block_added q) f.left ∙ added-stop q (edit_at c.args.edits.text.now c.in-Some.found.edit) (edits_left c.args.edits c.in-Some.found.behind) c.if-found-next.true in
-    wrote-same (view c.args.out.now) (view c.loop-found.out) c.args.tail c.loop-found.now (all ++ more) (all ++ more) (block_added q left ++ more) more refl (ap (λ ls. ls ++ more) none)
-    (c.loop-found.invariant.written more)
-
-pub returns-clause-call : goal.returns-clause-call
-returns-clause-call g c = record { passes = c.loop-found.invariant.sink; cause = λ err. absurd (false≢true err) }
-
-pub returns-clause-written : goal.returns-clause-written
-returns-clause-written g c more =
-    let view = g.O.Sink.view in
-    let q = c.loop-found.next in
-    let left = edits_left c.args.edits c.loop-found.at in
-    let all = block_added c.args.first (edits_left c.args.edits c.args.place) in
-    let over : edits_left c.args.edits c.loop-found.at ≡ [] = c.in_default.ensures in
-    let none : block_added q left ≡ [] = ap (block_added q) over ∙ added-none q in
-    wrote-same (view c.args.out.now) (view c.loop-found.out) c.args.tail c.loop-found.now (all ++ more) (all ++ more) (block_added q left ++ more) more refl (ap (λ ls. ls ++ more) none)
-    (c.loop-found.invariant.written more)
-
-pub returns-in_err-now-clause-written : goal.returns-in_err-now-clause-written
-returns-in_err-now-clause-written g c = if_ok_none _ _ c.from_residual.result c.from_residual.ensures.1
-
-pub returns-then-found-next-clause-part : goal.returns-then-found-next-clause-part
-returns-then-found-next-clause-part g c = tt
-
-pub returns-then-found-next-clause-rest : goal.returns-then-found-next-clause-rest
-returns-then-found-next-clause-rest g c = c.loop-found.invariant.rest
-
-pub returns-clause-part : goal.returns-clause-part
-returns-clause-part g c = tt
-
-pub returns-clause-rest : goal.returns-clause-rest
-returns-clause-rest g c = c.loop-found.invariant.rest
+pub returns : goal.returns
+returns g c = record {
+  call = record { passes = c.loop-found.invariant.sink; cause = λ err. absurd (false≢true err) };
+  rest = c.loop-found.invariant.rest;
+  written = λ more.
+      let view = g.O.Sink.view in
+      let q = c.loop-found.next in
+      let left = edits_left c.args.edits c.loop-found.at in
+      let all = block_added c.args.first (edits_left c.args.edits c.args.place) in
+      let over : edits_left c.args.edits c.loop-found.at ≡ [] = c.in_default.ensures in
+      let none : block_added q left ≡ [] = ap (block_added q) over ∙ added-none q in
+      wrote-same (view c.args.out.now) (view c.loop-found.out) c.args.tail c.loop-found.now (all ++ more) (all ++ more) (block_added q left ++ more) more refl (ap (λ ls. ls ++ more) none)
+      (c.loop-found.invariant.written more);
+  part = tt;
+}

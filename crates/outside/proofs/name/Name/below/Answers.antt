@@ -1,7 +1,9 @@
-use Rattle.std.proofs.Common.{◌≡◌, List, ℕ, [], ◌∷◌, ◌++◌, false, cond, string_bytes, sym, ◌∙◌, ap, subst, append_assoc, lit<}
+use Rattle.std.proofs.Common.{◌≡◌, List, ℕ, [], ◌∷◌, ◌++◌, true, false, cond, string_bytes, sym, ◌∙◌, ap, subst, append_assoc, lit<}
 use Rattle.std.proofs.lemmas.Str.{IsUtf8-string_bytes, encode_ascii}
+use Rattle.std.proofs.lemmas.Result.{IfOk-weaker}
 use Rattle.std.specs.Str.{IsUtf8}
-use Rattle.outside.specs.Names.{is_absolute, IsName, IsPatchName}
+use Rattle.outside.specs.Names.{is_absolute, placed, IsName, IsPatchName}
+use Rattle.outside.proofs.Exits.{if_ok_none}
 use Rattle.outside.proofs.Given.{name_below}
 use Rattle.outside.proofs.Lawful.{patch_below}
 use Rattle.outside.proofs.name.Name.below.Goals as goal
@@ -25,11 +27,30 @@ pub invariant_of-result : goal.invariant_of-result
 invariant_of-result c = subst (λ (l : List ℕ). IsName l) (sym (has c))
     (name_below (string_bytes c.directory.inside.text) (string_bytes c.self.inside.text) c.directory.invariant c.self.invariant (ap (λ (l : List ℕ). is_absolute l) c.self.view_is ∙ relative c) (utf8 c))
 
-pub returns-clause-text : goal.returns-clause-text
-returns-clause-text c =
-    has c ∙ ap (λ (l : List ℕ). l ++ 47 ∷ string_bytes c.self.inside.text) c.directory.view_is ∙ ap (λ (l : List ℕ). c.args.directory.now ++ 47 ∷ l) c.self.view_is
-    ∙ ap (λ b. cond b c.args.self.now (c.args.directory.now ++ 47 ∷ c.args.self.now)) (sym (relative c))
+pub returns : goal.returns
+returns c = record {
+  text =
+      has c ∙ ap (λ (l : List ℕ). l ++ 47 ∷ string_bytes c.self.inside.text) c.directory.view_is ∙ ap (λ (l : List ℕ). c.args.directory.now ++ 47 ∷ l) c.self.view_is
+      ∙ ap (λ b. cond b c.args.self.now (c.args.directory.now ++ 47 ∷ c.args.self.now)) (sym (relative c));
+  patch =
+      λ above own. subst (λ (l : List ℕ). IsPatchName l) (sym (has c))
+      (patch_below (string_bytes c.directory.inside.text) (string_bytes c.self.inside.text) (subst (λ (l : List ℕ). IsPatchName l) (sym c.directory.view_is) above) (subst (λ (l : List ℕ). IsPatchName l) (sym c.self.view_is) own) (utf8 c));
+}
 
-pub returns-clause-patch : goal.returns-clause-patch
-returns-clause-patch c = λ above own. subst (λ (l : List ℕ). IsPatchName l) (sym (has c))
-    (patch_below (string_bytes c.directory.inside.text) (string_bytes c.self.inside.text) (subst (λ (l : List ℕ). IsPatchName l) (sym c.directory.view_is) above) (subst (λ (l : List ℕ). IsPatchName l) (sym c.self.view_is) own) (utf8 c))
+pub returns-then-is_absolute : goal.returns-then-is_absolute
+returns-then-is_absolute c =
+    let own = c.args.self.now in
+    let whole : is_absolute c.args.self.now ≡ true = sym c.is_absolute.ensures ∙ c.if-is_absolute.true in
+    record {
+      text = IfOk-weaker c.copy.result (λ name. name ≡ own) (λ name. name ≡ placed c.args.directory.now own) (λ name is. is ∙ ap (λ b. cond b own (c.args.directory.now ++ 47 ∷ own)) (sym whole)) c.copy.ensures;
+      patch = λ above is. IfOk-weaker c.copy.result (λ name. name ≡ own) IsPatchName (λ name same. subst (λ (l : List ℕ). IsPatchName l) (sym same) is) c.copy.ensures;
+    }
+
+pub returns-in_err-push_str : goal.returns-in_err-push_str
+returns-in_err-push_str c = record { text = if_ok_none _ _ c.from_residual-in_err-push_str.result c.from_residual-in_err-push_str.ensures.1; patch = λ above own. if_ok_none _ _ c.from_residual-in_err-push_str.result c.from_residual-in_err-push_str.ensures.1 }
+
+pub returns-in_err-text : goal.returns-in_err-text
+returns-in_err-text c = record { text = if_ok_none _ _ c.from_residual.result c.from_residual.ensures.1; patch = λ above own. if_ok_none _ _ c.from_residual.result c.from_residual.ensures.1 }
+
+pub returns-in_err-push : goal.returns-in_err-push
+returns-in_err-push c = record { text = if_ok_none _ _ c.from_residual-in_err-push.result c.from_residual-in_err-push.ensures.1; patch = λ above own. if_ok_none _ _ c.from_residual-in_err-push.result c.from_residual-in_err-push.ensures.1 }

@@ -2,6 +2,7 @@ use Rattle.std.proofs.Common.{◌≡◌, List, ℕ, ◌++◌, string_bytes, sym,
 use Rattle.std.proofs.lemmas.Str.{IsUtf8-string_bytes}
 use Rattle.std.specs.Str.{IsUtf8}
 use Rattle.outside.specs.Names.{IsName, IsPatchName}
+use Rattle.outside.proofs.Exits.{if_ok_none}
 use Rattle.outside.proofs.Given.{name_behind}
 use Rattle.outside.proofs.Lawful.{patch_behind}
 use Rattle.outside.proofs.name.Name.followed_by.Goals as goal
@@ -15,6 +16,16 @@ utf8 c = subst (λ (l : List ℕ). IsUtf8 l) (has c) (IsUtf8-string_bytes c.push
 pub invariant_of-result : goal.invariant_of-result
 invariant_of-result c = subst (λ (l : List ℕ). IsName l) (sym (has c)) (name_behind (string_bytes c.self.inside.text) c.args.end.now c.self.invariant c.requires (utf8 c))
 
-pub returns-clause-patch : goal.returns-clause-patch
-returns-clause-patch c = λ own. subst (λ (l : List ℕ). IsPatchName l) (sym (has c))
-    (patch_behind (string_bytes c.self.inside.text) c.args.end.now (subst (λ (l : List ℕ). IsPatchName l) (sym c.self.view_is) own) c.requires (utf8 c))
+pub returns : goal.returns
+returns c = record {
+  text = has c ∙ ap (λ (l : List ℕ). l ++ c.args.end.now) c.self.view_is;
+  patch =
+      λ own. subst (λ (l : List ℕ). IsPatchName l) (sym (has c))
+      (patch_behind (string_bytes c.self.inside.text) c.args.end.now (subst (λ (l : List ℕ). IsPatchName l) (sym c.self.view_is) own) c.requires (utf8 c));
+}
+
+pub returns-in_err-text : goal.returns-in_err-text
+returns-in_err-text c = record { text = if_ok_none _ _ c.from_residual.result c.from_residual.ensures.1; patch = λ own. if_ok_none _ _ c.from_residual.result c.from_residual.ensures.1 }
+
+pub returns-in_err-push_str : goal.returns-in_err-push_str
+returns-in_err-push_str c = record { text = if_ok_none _ _ c.from_residual-in_err-push_str.result c.from_residual-in_err-push_str.ensures.1; patch = λ own. if_ok_none _ _ c.from_residual-in_err-push_str.result c.from_residual-in_err-push_str.ensures.1 }

@@ -8,7 +8,7 @@ use Rattle.outside.proofs.name.Name.parts.Goals as goal
 
 pub returns-clause-count : goal.returns-clause-count
 returns-clause-count c =
-    count_from_yields_List c.split.result c.count.result c.count.ensures.ran (YieldsList-from_str_split 47 (string_bytes c.self.inside.text) (lit< tt) (cc) (cc) (cc))
+    count_from_yields_List c.split.result c.count.result c.count.ensures.ran (YieldsList-from_str_split 47 (string_bytes c.self.inside.text) (lit< tt) (c.split.ensures.text ∙ c.deref.ensures) c.split.ensures.has_more c.split.ensures.pattern)
     ∙ ap (λ (l : List ℕ). length (components l)) c.self.view_is
 
 pub returns-clause-joined : goal.returns-clause-joined
