@@ -43,3 +43,9 @@ returns-clause-keeps g c = keeps-more _ _ _ c.in_ok-above.ensures.keeps c.in_ok-
 
 pub returns-clause-cause : goal.returns-clause-cause
 returns-clause-cause g c = tt
+
+pub last_between-requires-clause-pattern : goal.last_between-requires-clause-pattern
+last_between-requires-clause-pattern g c = c.requires.pattern
+
+pub first_between-requires-clause-pattern : goal.first_between-requires-clause-pattern
+first_between-requires-clause-pattern g c = c.requires.pattern

@@ -47,3 +47,9 @@ returns-clause-keeps g c = c.in_ok-fits_at.ensures.keeps
 
 pub returns-clause-cause : goal.returns-clause-cause
 returns-clause-cause g c = tt
+
+pub new-pattern-requires : goal.new-pattern-requires
+new-pattern-requires g c = c.requires.lawful
+
+pub fits_at-requires-clause-pattern : goal.fits_at-requires-clause-pattern
+fits_at-requires-clause-pattern g c = c.new-pattern.ensures.is

@@ -9,6 +9,7 @@ use Rattle.hunk_place.specs.Loose.{same_line}
 use Rattle.hunk_place.specs.Taken.{side_lines}
 use Rattle.hunk_place.proofs.FitLemmas.{side-length, side-skip, side-take, fits-so, fits-not, one-more, same-at, none-left, nothing}
 use Rattle.std.proofs.lemmas.Result.{IfOk-from_err}
+use Rattle.hunk_place.proofs.NumberLemmas.{line-low, line-high}
 use Rattle.hunk_place.proofs.pattern.Pattern.fits_at.Goals as goal
 use Rattle.hunk_place.proofs.pattern.Pattern.fits_at.Goals.{then-is_taken+in_ok-is_line+else-not-branch, else-is_taken}
 
@@ -80,3 +81,9 @@ returns-clause-keeps g c = c.loop-k.invariant.keeps
 
 pub returns-clause-cause : goal.returns-clause-cause
 returns-clause-cause g c = tt
+
+pub is_line-requires-clause-low : goal.is_line-requires-clause-low
+is_line-requires-clause-low g c = line-low c.args.at c.args.self.now.front c.loop-k.i c.loop-k.invariant.low (c.requires.within (omega (arith, c.loop-k.invariant.low, c.if-i-self.false))).0
+
+pub is_line-requires-clause-high : goal.is_line-requires-clause-high
+is_line-requires-clause-high g c = line-high c.args.at c.args.self.now.last c.loop-k.i (g.S.LineStore.seen c.args.store.now).count _ c.if-i-self.false (c.requires.within (omega (arith, c.loop-k.invariant.low, c.if-i-self.false))).1 c.loop-k.invariant.keeps.count
