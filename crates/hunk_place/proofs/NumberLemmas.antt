@@ -1,8 +1,12 @@
 -- Sums and bounds of a search, over plain numbers.
-use Rattle.std.proofs.Common.{◌≡◌, ℕ, ◌+◌, ◌-◌, ◌<◌, ◌≤◌, ◌^◌, max, sym, subst, arith, to_z, of_z, w64, pos, negsuc, ◌+ℤ◌, ◌-ℤ◌, ◌≤ℤ◌, ℤ, Option, Some, None, Result, Ok, Err}
-use mir.Val.{SFits}
+use Rattle.std.proofs.Common.{◌≡◌, ℕ, ◌+◌, ◌-◌, ◌<◌, ◌≤◌, ◌^◌, max, sym, subst, arith, to_z, of_z, w32, w64, pos, negsuc, ◌+ℤ◌, ◌-ℤ◌, ◌≤ℤ◌, ℤ, Option, Some, None, Result, Ok, Err}
+use mir.Val.{Fits, SFits}
 use Rattle.std.proofs.lemmas.Int.{ints}
-use Rattle.std.specs.Prelude.{IfOk, IfErr, IfSome}
+use Rattle.std.proofs.lemmas.Bool.Decides.{nat_tests}
+use Rattle.std.specs.Prelude.{IfOk, IfErr, IfSome, IsErrAnd, Bool, true, false, nat_lt, nat_le, min, if◌then◌else◌}
+use Rattle.std.specs.Option.{option_map}
+use Rattle.hunk_place.specs.Passing.{nearer}
+use Rattle.hunk_place.specs.declared.Spot.{Spot}
 use Rattle.line_store.specs.Store.{Seen, Keeps, HasCause}
 use Rattle.line_store.specs.declared.fault.LineFault.{LineFault}
 use Rattle.line_store.proofs.StoreLemmas.{cause-more}
@@ -65,6 +69,88 @@ line-low at front i low first = omega arith
 pub line-high : (at last i count now : ℕ) → i < last → at + last ≤ count + 1 → now ≡ count → at + i ≤ now
 line-high at last i count now lt le e = omega arith
 
-pub if-cause : {R : Type 0} (a b c : Seen) (r : Result R LineFault) → Keeps a b → IfErr r (λ e. HasCause e b c) → IfErr r (λ e. HasCause e a c)
-if-cause a b c (Ok x) k h = tt
-if-cause a b c (Err e) k h = cause-more e a b c k h
+pub high-is : (high back count lines n old fuzz : ℕ) → high ≡ count + 1 + back - n → count ≡ lines → n ≡ old → back ≡ fuzz → high ≡ lines + 1 + fuzz - old
+high-is high back count lines n old fuzz eh el en eb = omega arith
+
+pub end-is : (end count lines n old : ℕ) → end ≡ count + 1 - n → count ≡ lines → n ≡ old → end ≡ lines + 1 - old
+end-is end count lines n old ee el en = omega arith
+
+pub is-below : (k m context post : ℕ) → m ≡ context → k < m - post → nat_lt k (context - post) ≡ true
+is-below k m context post e lt = let below : k < context - post = omega arith in grind (arith, nat_tests)
+
+pub is-not-below : (k m context post : ℕ) → m ≡ context → m - post ≤ k → nat_lt k (context - post) ≡ false
+is-not-below k m context post e le = let above : context - post ≤ k = omega arith in grind (arith, nat_tests)
+
+pub one-up : (front i : ℕ) → front ≤ i → front ≤ i + 1
+one-up front i low = omega arith
+
+pub is-behind : (front i : ℕ) → front ≤ i → front < i + 1
+is-behind front i low = omega arith
+
+pub room-left : (i last n back m : ℕ) → i < last → last ≡ n - back → m ≡ n → i + 1 + back ≤ m
+room-left i last n back m lt el em = omega arith
+
+-- the window of a search
+pub some-weaker : (P Q : ℕ → Type 0) (o : Option ℕ) → ((w : ℕ) → P w → Q w) → IfSome o P → IfSome o Q
+some-weaker P Q None f h = tt
+some-weaker P Q (Some w) f h = f w h
+
+pub from-centre : (centre from top : ℕ) (above : Option ℕ) → IfSome above (λ u. (centre + from ≤ u) × (u < top)) → IfSome above (λ u. centre ≤ u)
+from-centre centre from top above h = some-weaker (λ u. (centre + from ≤ u) × (u < top)) (λ u. centre ≤ u) above (λ u b. omega (arith, b.0)) h
+
+pub to-centre : (centre from bottom end : ℕ) (below : Option ℕ) → end ≡ centre + 1 - from → IfSome below (λ w. (bottom ≤ w) × (w < end)) → IfSome below (λ w. w ≤ centre)
+to-centre centre from bottom end below e h = some-weaker (λ w. (bottom ≤ w) × (w < end)) (λ w. w ≤ centre) below (λ w b. omega (arith, b.1)) h
+
+pub nearer-within : (low high centre from to top bottom end sat : ℕ) (above below : Option ℕ) → low ≤ centre → centre ≤ high → top ≡ min (centre + to) (high + 1) → bottom ≡ max low sat → end ≡ centre + 1 - from
+    → IfSome above (λ u. (centre + from ≤ u) × (u < top)) → IfSome below (λ w. (bottom ≤ w) × (w < end)) → IfSome (nearer centre above below) (λ w. (low ≤ w) × (w ≤ high))
+nearer-within low high centre from to top bottom end sat None below in_low in_high et eb ee a b =
+    some-weaker (λ w. (bottom ≤ w) × (w < end)) (λ w. (low ≤ w) × (w ≤ high)) below (λ w h. (omega (arith, h.0), omega (arith, h.1))) b
+nearer-within low high centre from to top bottom end sat (Some u) None in_low in_high et eb ee a b = (omega (arith, a.0), omega (arith, a.1))
+nearer-within low high centre from to top bottom end sat (Some u) (Some w) in_low in_high et eb ee a b =
+    by (nat_le (u - centre) (centre - w)) (omega (arith, a.0), omega (arith, a.1)) (omega (arith, b.0), omega (arith, b.1))
+  where
+    by : (v : Bool) → (low ≤ u) × (u ≤ high) → (low ≤ w) × (w ≤ high) → IfSome (if v then Some u else Some w) (λ x. (low ≤ x) × (x ≤ high))
+    by true x y = x
+    by false x y = y
+
+pub top-room : (high centre to top last count : ℕ) → top ≡ min (centre + to) (high + 1) → high + last ≤ count + 1 → top + last ≤ count + 2
+top-room high centre to top last count e le = omega arith
+
+pub end-room : (high centre from end last count now : ℕ) → centre ≤ high → end ≡ centre + 1 - from → now ≡ count → high + last ≤ count + 1 → end + last ≤ now + 2
+end-room high centre from end last count now in_high e en le = omega arith
+
+-- fuzzes up to the most
+pub most-within : (most fuzz context pre post : ℕ) → most ≡ min fuzz context → context ≡ max pre post → most ≤ max pre post
+most-within most fuzz context pre post em ec = omega arith
+
+pub fuzz-within : (k most fuzz context pre post : ℕ) → k < most + 1 → most ≡ min fuzz context → context ≡ max pre post → k ≤ max pre post
+fuzz-within k most fuzz context pre post lt em ec = omega arith
+
+pub fuzz-fits : (k most fuzz context : ℕ) → k < most + 1 → most ≡ min fuzz context → fuzz < 2 ^ 32 → Fits w32 k
+fuzz-fits k most fuzz context lt em few = omega arith
+
+pub with-context : (consumed line n count post : ℕ) → (consumed < line) × (line + n ≤ count + 1) → (consumed < line) × (line + n ≤ count + 1 + post)
+with-context consumed line n count post h = (h.0, omega (arith, h.1))
+
+pub guess-within : (consumed n count lines post : ℕ) (o : Option Spot) → n ≡ 0 → count ≡ lines → IfSome o (λ s. (consumed + 1 ≤ s.line) × (s.line ≤ count + 1)) → IfSome o (λ s. (consumed < s.line) × (s.line + n ≤ lines + 1 + post))
+guess-within consumed n count lines post None en el h = tt
+guess-within consumed n count lines post (Some s) en el h = let a : consumed + 1 ≤ s.line = h.0 in let b : s.line ≤ count + 1 = h.1 in (omega arith, omega arith)
+
+pub guess-small : (consumed count : ℕ) (o : Option Spot) → count ≤ 2 ^ 40 → IfSome o (λ s. (consumed + 1 ≤ s.line) × (s.line ≤ count + 1)) → IfSome o (λ s. s.line ≤ 2 ^ 41)
+guess-small consumed count None most h = tt
+guess-small consumed count (Some s) most h = let b : s.line ≤ count + 1 = h.1 in omega arith
+
+pub moved-within : (from to front : ℕ) (o : Option ℕ) → IfSome o (λ k. (from + front ≤ k) × (k < to + front)) → IfSome (option_map (λ k. k - front) o) (λ w. (from ≤ w) × (w < to))
+moved-within from to front None h = tt
+moved-within from to front (Some k) h = (omega (arith, h.0), omega (arith, h.0, h.1))
+
+pub behind-front : (from to front : ℕ) (o : Option ℕ) → IfSome o (λ k. (from + front ≤ k) × (k < to + front)) → IfSome o (λ k. front ≤ k)
+behind-front from to front o h = some-weaker (λ k. (from + front ≤ k) × (k < to + front)) (λ k. front ≤ k) o (λ k b. omega (arith, b.0)) h
+
+pub wider-low : (from at w to : ℕ) → from ≤ at → (at ≤ w) × (w < to) → (from ≤ w) × (w < to)
+wider-low from at w to low h = (omega (arith, h.0), h.1)
+
+-- a fault that is passed on has its cause since the first call
+pub cause-on : {R : Type 0} (a b c : Seen) (e : LineFault) (r : Result R LineFault) → IsErrAnd r (λ x. x ≡ e) → Keeps a b → HasCause e b c → IfErr r (λ x. HasCause x a c)
+cause-on a b c e (Ok x) is k h = absurd is
+cause-on a b c e (Err x) is k h = subst (λ y. HasCause y a c) (sym is) (cause-more e a b c k h)

@@ -6,6 +6,7 @@ use Rattle.hunk_place.specs.Taken.{taken_lines}
 use Rattle.hunk_place.proofs.PassLemmas.{window}
 use Rattle.std.proofs.lemmas.Result.{IfOk-from_err}
 use Rattle.line_store.proofs.StoreLemmas.{keeps-more}
+use Rattle.hunk_place.proofs.NumberLemmas.{from-centre, to-centre, nearer-within, top-room, end-room, cause-on}
 use Rattle.hunk_place.proofs.scan.nearest_between.Goals as goal
 
 pub returns-clause-value : goal.returns-clause-value
@@ -49,3 +50,23 @@ last_between-requires-clause-pattern g c = c.requires.pattern
 
 pub first_between-requires-clause-pattern : goal.first_between-requires-clause-pattern
 first_between-requires-clause-pattern g c = c.requires.pattern
+
+pub returns-clause-within : goal.returns-clause-within
+returns-clause-within g c =
+    subst (λ o. IfSome o (λ w. (c.args.low ≤ w) × (w ≤ c.args.high))) (sym c.nearer.ensures)
+    (nearer-within c.args.low c.args.high c.args.centre c.args.from c.args.to c.min-top.result c.max-bottom.result c.saturating_sub-2.result c.saturating_sub.result c.in_ok-above.above c.in_ok-below.below c.requires.in_low c.requires.in_high c.min-top.ensures c.max-bottom.ensures c.saturating_sub-2.ensures c.in_ok-above.ensures.within c.in_ok-below.ensures.within)
+
+pub nearer-requires-clause-above : goal.nearer-requires-clause-above
+nearer-requires-clause-above g c = from-centre c.args.centre c.args.from c.min-top.result c.in_ok-above.above c.in_ok-above.ensures.within
+
+pub nearer-requires-clause-below : goal.nearer-requires-clause-below
+nearer-requires-clause-below g c = to-centre c.args.centre c.args.from c.max-bottom.result c.saturating_sub-2.result c.in_ok-below.below c.saturating_sub-2.ensures c.in_ok-below.ensures.within
+
+pub first_between-requires-clause-last : goal.first_between-requires-clause-last
+first_between-requires-clause-last g c some = top-room c.args.high c.args.centre c.args.to c.min-top.result c.args.pattern.now.last _ c.min-top.ensures (c.requires.last some)
+
+pub last_between-requires-clause-last : goal.last_between-requires-clause-last
+last_between-requires-clause-last g c some = end-room c.args.high c.args.centre c.args.from c.saturating_sub-2.result c.args.pattern.now.last (g.S.LineStore.seen c.args.store.now).count _ c.requires.in_high c.saturating_sub-2.ensures c.in_ok-above.ensures.keeps.count (c.requires.last some)
+
+pub returns-in_err-below-clause-cause : goal.returns-in_err-below-clause-cause
+returns-in_err-below-clause-cause g c = cause-on _ _ _ _ _ c.from_residual-in_err-below.ensures.1 c.in_ok-above.ensures.keeps c.in_err-below.ensures.cause
