@@ -1,4 +1,4 @@
-use Rattle.std.proofs.Common.{◌≡◌, ◌<◌, ◌≤◌, ◌+◌, ◌-◌, ℕ, List, [], ◌∷◌, length, true, false, refl, sym, ap, ◌∙◌, subst, arith, rules, Some, drop}
+use Rattle.std.proofs.Common.{◌≡◌, ◌<◌, ◌≤◌, ◌+◌, ◌-◌, ℕ, List, [], ◌∷◌, length, true, false, sym, ap, ◌∙◌, subst, arith, rules, drop}
 use Rattle.std.proofs.lemmas.List.{drop_all}
 use Rattle.line_store.specs.Store.{Keeps, line_at}
 use Rattle.line_store.proofs.StoreLemmas.{keeps-more}
