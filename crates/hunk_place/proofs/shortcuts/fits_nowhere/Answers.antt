@@ -1,4 +1,4 @@
-use Rattle.std.proofs.Common.{◌≡◌, ◌+◌, ◌-◌, ◌≤◌, ℕ, not, max, None, length, sym, ap, subst, ◌∙◌, arith}
+use Rattle.std.proofs.Common.{◌≡◌, ◌+◌, ◌-◌, not, max, None, length, sym, ap, subst, ◌∙◌, arith}
 use Rattle.line_store.specs.Store.{NoneAlike, IsFirstAlike}
 use Rattle.hunk_core.specs.Sides.{taken_count}
 use Rattle.hunk_place.proofs.PassLemmas.{none-of}

@@ -1,4 +1,4 @@
-use Rattle.std.proofs.Common.{◌≡◌, ℕ, true, length, sym, ◌∙◌, arith, rules, pos, to_z, of_z, w64}
+use Rattle.std.proofs.Common.{◌≡◌, true, length, sym, ◌∙◌, arith, rules, pos, w64}
 use mir.Val.{SFits}
 use Rattle.std.proofs.lemmas.Int.{to_z-of_z}
 use Rattle.hunk_core.specs.Sides.{taken_count}
