@@ -150,6 +150,24 @@ behind-front from to front o h = some-weaker (λ k. (from + front ≤ k) × (k <
 pub wider-low : (from at w to : ℕ) → from ≤ at → (at ≤ w) × (w < to) → (from ≤ w) × (w < to)
 wider-low from at w to low h = (omega (arith, h.0), h.1)
 
+pub wider-high : (from w end to : ℕ) → end ≤ to → (from ≤ w) × (w < end) → (from ≤ w) × (w < to)
+wider-high from w end to high h = (h.0, omega (arith, h.1))
+
+pub next-fits : (w to : ℕ) → w < to → to ≤ 2 ^ 62 → Fits w64 (w + 1)
+next-fits w to lt small = omega arith
+
+-- the lines of a place that lies in a range
+pub lies-in : (from w to front last count now : ℕ) → 1 ≤ from → (from ≤ w) × (w < to) → to + last ≤ count + 2 → now ≡ count → (1 ≤ w + front) × (w + last ≤ now + 1)
+lies-in from w to front last count now first h le e = let a : from ≤ w = h.0 in let b : w < to = h.1 in (omega arith, omega arith)
+
+pub most-fits : (most fuzz context : ℕ) → most ≡ min fuzz context → fuzz < 2 ^ 32 → Fits w64 (most + 1)
+most-fits most fuzz context e few = omega arith
+
+-- where the window of a search begins and ends
+pub window-of : (low high centre from to top bottom sat : ℕ) → from < to → top ≡ min (centre + to) (high + 1) → sat ≡ centre + 1 - to → bottom ≡ max low sat
+    → (top ≤ high + 1) × (top ≤ centre + to) × ((v : ℕ) → v ≤ high → v < centre + to → v < top) × (low ≤ bottom) × (centre < bottom + to) × ((v : ℕ) → low ≤ v → centre < v + to → bottom ≤ v)
+window-of low high centre from to top bottom sat lt et es eb = (omega arith, omega arith, λ v a b. omega arith, omega arith, omega arith, λ v a b. omega arith)
+
 -- a fault that is passed on has its cause since the first call
 pub cause-on : {R : Type 0} (a b c : Seen) (e : LineFault) (r : Result R LineFault) → IsErrAnd r (λ x. x ≡ e) → Keeps a b → HasCause e b c → IfErr r (λ x. HasCause x a c)
 cause-on a b c e (Ok x) is k h = absurd is

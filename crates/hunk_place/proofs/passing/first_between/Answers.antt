@@ -6,7 +6,7 @@ use Rattle.hunk_place.specs.Placing.{fits}
 use Rattle.hunk_place.specs.Taken.{taken_lines}
 use Rattle.hunk_place.proofs.PassLemmas.{none-join, step-up}
 use Rattle.std.proofs.lemmas.Result.{IfOk-from_err}
-use Rattle.hunk_place.proofs.NumberLemmas.{cause-on, wider-low}
+use Rattle.hunk_place.proofs.NumberLemmas.{cause-on, wider-low, lies-in, next-fits}
 use Rattle.hunk_place.proofs.passing.first_between.Goals as goal
 
 pub returns-then-branch-clause-value : goal.returns-then-branch-clause-value
@@ -86,3 +86,9 @@ returns-in_err-fits_at-in-Some-clause-cause g c = cause-on _ _ _ _ _ c.from_resi
 
 pub returns-then-branch-clause-within : goal.returns-then-branch-clause-within
 returns-then-branch-clause-within g c = wider-low c.args.from c.loop-at.at c.in-Some.w c.args.to c.loop-at.invariant.low (subst (λ o. IfSome o (λ w. (c.loop-at.at ≤ w) × (w < c.args.to))) c.in-Some.is c.in_ok-w.ensures.within)
+
+pub fits_at-requires-clause-within : goal.fits_at-requires-clause-within
+fits_at-requires-clause-within g c some = lies-in c.args.from c.in-Some.w c.args.to c.args.pattern.now.front c.args.pattern.now.last (g.S.LineStore.seen c.args.store.now).count _ c.requires.first (wider-low c.args.from c.loop-at.at c.in-Some.w c.args.to c.loop-at.invariant.low (subst (λ o. IfSome o (λ w. (c.loop-at.at ≤ w) × (w < c.args.to))) c.in-Some.is c.in_ok-w.ensures.within)) (c.requires.last some) (keeps-more _ _ _ c.loop-at.invariant.keeps c.in_ok-w.ensures.keeps).count
+
+pub overflow_add-at : goal.overflow_add-at
+overflow_add-at g c = next-fits c.in-Some.w c.args.to (subst (λ o. IfSome o (λ w. (c.loop-at.at ≤ w) × (w < c.args.to))) c.in-Some.is c.in_ok-w.ensures.within).1 c.requires.small

@@ -90,3 +90,9 @@ is_line-requires-clause-high g c = line-high c.args.at c.args.self.now.last c.lo
 
 pub returns-in_err-is_line-clause-cause : goal.returns-in_err-is_line-clause-cause
 returns-in_err-is_line-clause-cause g c = cause-on _ _ _ _ _ c.from_residual.ensures.1 c.loop-k.invariant.keeps c.in_err-is_line.ensures.cause
+
+pub returns-then-not-branch-clause-keeps : goal.returns-then-not-branch-clause-keeps
+returns-then-not-branch-clause-keeps g c = keeps-more _ _ _ c.loop-k.invariant.keeps c.in_ok-is_line.ensures.keeps
+
+pub returns-in_err-is_line-clause-keeps : goal.returns-in_err-is_line-clause-keeps
+returns-in_err-is_line-clause-keeps g c = keeps-more _ _ _ c.loop-k.invariant.keeps c.in_err-is_line.ensures.keeps
