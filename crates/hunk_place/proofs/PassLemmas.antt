@@ -1,5 +1,5 @@
 -- Places that are passed over, and the nearest of those that are left.
-use Rattle.std.proofs.Common.{◌≡◌, ◌≢◌, ℕ, ◌+◌, ◌-◌, ◌<◌, ◌≤◌, Bool, true, false, List, length, refl, sym, ap, subst, ◌∙◌, arith, inl, inr, Option, Some, None}
+use Rattle.std.proofs.Common.{◌≡◌, ◌≢◌, ℕ, ◌+◌, ◌-◌, ◌<◌, ◌≤◌, Bool, true, false, List, [], length, get_or, drop, refl, sym, ap, subst, ◌∙◌, arith, inl, inr, Option, Some, None}
 use Rattle.std.specs.Prelude.{bytes_eq, nat_le, is_some, IfSome}
 use Rattle.std.specs.Option.{option_map}
 use Rattle.std.proofs.lemmas.Bool.{cases_lt}
@@ -12,8 +12,24 @@ use Rattle.hunk_place.specs.Placing.{fits}
 use Rattle.hunk_place.specs.Passing.{NonePasses, IsFirstPass, IsLastPass, SkipsTo, SkipsBack, IsScanned, IsNearest, IsFirstLine, nearer}
 use Rattle.hunk_place.specs.Taken.{taken_lines, side_lines}
 use Rattle.hunk_place.specs.declared.pattern.Pattern.{Pattern}
-use Rattle.hunk_place.proofs.FitLemmas.{fits-not, side-length}
+use Rattle.hunk_core.specs.declared.HunkLine.{HunkLine}
+use Rattle.hunk_core.specs.PlainHunk.{bytes_at}
+use Rattle.hunk_core.specs.Sides.{is_on_side}
+use Rattle.line_list.proofs.Elements.{front-is}
+use Rattle.hunk_place.specs.Pattern.{IsPattern}
+use Rattle.hunk_place.proofs.FitLemmas.{fits-not, side-length, side-take}
 use Rattle.hunk_place.proofs.ScanLemmas.{found-above, found-below}
+
+-- the body's line where the pattern begins, if it is taken
+pub first-is : (p : Pattern) (l : HunkLine) → IsPattern p → p.loose ≡ false → p.front < p.last → p.from < length p.hunk.now.body.items → l ≡ get_or p.hunk.now.body.items p.from l → is_on_side p.side l.mark ≡ true → IsFirstLine p (bytes_at p.text.now l.span)
+first-is p l is exact some lt at on = record {
+  exact = exact;
+  some = some;
+  is =
+      let n : p.front + 1 - 1 ≡ p.front = omega arith in
+      ap (λ k. get_or (side_lines p.text.now p.side p.hunk.now.body.items) k []) n
+      ∙ front-is (side_lines p.text.now p.side p.hunk.now.body.items) (side_lines p.text.now p.side (drop (p.from + 1) p.hunk.now.body.items)) (bytes_at p.text.now l.span) [] p.front (side-take p.text.now p.side p.hunk.now.body.items p.from p.front l lt at on is.from);
+}
 
 other_bytes : (a b : List ℕ) → b ≢ a → bytes_eq a b ≡ false
 other_bytes a b ne = by (bytes_eq a b) refl

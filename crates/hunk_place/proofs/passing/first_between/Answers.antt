@@ -6,6 +6,7 @@ use Rattle.hunk_place.specs.Placing.{fits}
 use Rattle.hunk_place.specs.Taken.{taken_lines}
 use Rattle.hunk_place.proofs.PassLemmas.{none-join, step-up}
 use Rattle.std.proofs.lemmas.Result.{IfOk-from_err}
+use Rattle.hunk_place.proofs.NumberLemmas.{cause-on, wider-low, lies-in, next-fits}
 use Rattle.hunk_place.proofs.passing.first_between.Goals as goal
 
 pub returns-then-branch-clause-value : goal.returns-then-branch-clause-value
@@ -76,3 +77,18 @@ returns-then-branch-clause-keeps g c = keeps-more _ _ _ (keeps-more _ _ _ c.loop
 
 pub returns-then-branch-clause-cause : goal.returns-then-branch-clause-cause
 returns-then-branch-clause-cause g c = tt
+
+pub returns-in_err-w-clause-cause : goal.returns-in_err-w-clause-cause
+returns-in_err-w-clause-cause g c = cause-on _ _ _ _ _ c.from_residual.ensures.1 c.loop-at.invariant.keeps c.in_err-w.ensures.cause
+
+pub returns-in_err-fits_at-in-Some-clause-cause : goal.returns-in_err-fits_at-in-Some-clause-cause
+returns-in_err-fits_at-in-Some-clause-cause g c = cause-on _ _ _ _ _ c.from_residual-in_err-fits_at-in-Some.ensures.1 (keeps-more _ _ _ c.loop-at.invariant.keeps c.in_ok-w.ensures.keeps) c.in_err-fits_at-in-Some.ensures.cause
+
+pub returns-then-branch-clause-within : goal.returns-then-branch-clause-within
+returns-then-branch-clause-within g c = wider-low c.args.from c.loop-at.at c.in-Some.w c.args.to c.loop-at.invariant.low (subst (λ o. IfSome o (λ w. (c.loop-at.at ≤ w) × (w < c.args.to))) c.in-Some.is c.in_ok-w.ensures.within)
+
+pub fits_at-requires-clause-within : goal.fits_at-requires-clause-within
+fits_at-requires-clause-within g c some = lies-in c.args.from c.in-Some.w c.args.to c.args.pattern.now.front c.args.pattern.now.last (g.S.LineStore.seen c.args.store.now).count _ c.requires.first (wider-low c.args.from c.loop-at.at c.in-Some.w c.args.to c.loop-at.invariant.low (subst (λ o. IfSome o (λ w. (c.loop-at.at ≤ w) × (w < c.args.to))) c.in-Some.is c.in_ok-w.ensures.within)) (c.requires.last some) (keeps-more _ _ _ c.loop-at.invariant.keeps c.in_ok-w.ensures.keeps).count
+
+pub overflow_add-at : goal.overflow_add-at
+overflow_add-at g c = next-fits c.in-Some.w c.args.to (subst (λ o. IfSome o (λ w. (c.loop-at.at ≤ w) × (w < c.args.to))) c.in-Some.is c.in_ok-w.ensures.within).1 c.requires.small

@@ -6,6 +6,7 @@ use Rattle.hunk_place.specs.Placing.{fits}
 use Rattle.hunk_place.specs.Taken.{taken_lines}
 use Rattle.hunk_place.proofs.PassLemmas.{none-join, step-down}
 use Rattle.std.proofs.lemmas.Result.{IfOk-from_err}
+use Rattle.hunk_place.proofs.NumberLemmas.{cause-on, lies-in, wider-high}
 use Rattle.hunk_place.proofs.passing.last_between.Goals as goal
 
 pub returns-then-branch-clause-value : goal.returns-then-branch-clause-value
@@ -77,3 +78,15 @@ returns-then-branch-clause-keeps g c = keeps-more _ _ _ (keeps-more _ _ _ c.loop
 
 pub returns-then-branch-clause-cause : goal.returns-then-branch-clause-cause
 returns-then-branch-clause-cause g c = tt
+
+pub returns-in_err-w-clause-cause : goal.returns-in_err-w-clause-cause
+returns-in_err-w-clause-cause g c = cause-on _ _ _ _ _ c.from_residual.ensures.1 c.loop-end.invariant.keeps c.in_err-w.ensures.cause
+
+pub returns-in_err-fits_at-in-Some-clause-cause : goal.returns-in_err-fits_at-in-Some-clause-cause
+returns-in_err-fits_at-in-Some-clause-cause g c = cause-on _ _ _ _ _ c.from_residual-in_err-fits_at-in-Some.ensures.1 (keeps-more _ _ _ c.loop-end.invariant.keeps c.in_ok-w.ensures.keeps) c.in_err-fits_at-in-Some.ensures.cause
+
+pub fits_at-requires-clause-within : goal.fits_at-requires-clause-within
+fits_at-requires-clause-within g c some = lies-in c.args.from c.in-Some.w c.args.to c.args.pattern.now.front c.args.pattern.now.last (g.S.LineStore.seen c.args.store.now).count _ c.requires.first (wider-high c.args.from c.in-Some.w c.loop-end.end c.args.to c.loop-end.invariant.high (subst (λ o. IfSome o (λ w. (c.args.from ≤ w) × (w < c.loop-end.end))) c.in-Some.is c.in_ok-w.ensures.within)) (c.requires.last some) (keeps-more _ _ _ c.loop-end.invariant.keeps c.in_ok-w.ensures.keeps).count
+
+pub returns-then-branch-clause-within : goal.returns-then-branch-clause-within
+returns-then-branch-clause-within g c = wider-high c.args.from c.in-Some.w c.loop-end.end c.args.to c.loop-end.invariant.high (subst (λ o. IfSome o (λ w. (c.args.from ≤ w) × (w < c.loop-end.end))) c.in-Some.is c.in_ok-w.ensures.within)

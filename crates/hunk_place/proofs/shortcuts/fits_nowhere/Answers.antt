@@ -1,4 +1,4 @@
-use Rattle.std.proofs.Common.{◌≡◌, ◌+◌, ◌-◌, ◌≤◌, ℕ, not, max, None, length, sym, ap, subst, ◌∙◌, arith}
+use Rattle.std.proofs.Common.{◌≡◌, ◌+◌, ◌-◌, not, max, None, length, sym, ap, subst, ◌∙◌, arith}
 use Rattle.line_store.specs.Store.{NoneAlike, IsFirstAlike}
 use Rattle.hunk_core.specs.Sides.{taken_count}
 use Rattle.hunk_place.proofs.PassLemmas.{none-of}
@@ -27,3 +27,9 @@ returns-in_err-found-in-Some-clause-value g c = IfOk-from_err c.from_residual.re
 
 pub returns-in_err-found-in-Some-clause-keeps : goal.returns-in_err-found-in-Some-clause-keeps
 returns-in_err-found-in-Some-clause-keeps g c = c.in_err-found-in-Some.ensures.keeps
+
+pub new-pattern-requires : goal.new-pattern-requires
+new-pattern-requires g c = c.requires.lawful
+
+pub first_line-requires : goal.first_line-requires
+first_line-requires g c = c.new-pattern.ensures.is

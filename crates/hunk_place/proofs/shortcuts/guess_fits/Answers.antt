@@ -1,4 +1,4 @@
-use Rattle.std.proofs.Common.{◌≡◌, ℕ, true, length, sym, ◌∙◌, arith, rules, pos, to_z, of_z, w64}
+use Rattle.std.proofs.Common.{◌≡◌, true, length, sym, ◌∙◌, arith, rules, pos, w64}
 use mir.Val.{SFits}
 use Rattle.std.proofs.lemmas.Int.{to_z-of_z}
 use Rattle.hunk_core.specs.Sides.{taken_count}
@@ -47,3 +47,9 @@ returns-clause-keeps g c = c.in_ok-fits_at.ensures.keeps
 
 pub returns-clause-cause : goal.returns-clause-cause
 returns-clause-cause g c = tt
+
+pub new-pattern-requires : goal.new-pattern-requires
+new-pattern-requires g c = c.requires.lawful
+
+pub fits_at-requires-clause-pattern : goal.fits_at-requires-clause-pattern
+fits_at-requires-clause-pattern g c = c.new-pattern.ensures.is
