@@ -1,6 +1,8 @@
 -- The argument of `clap` that a row describes.
-use Rattle.std.proofs.Common.{◌≡◌, ◌∙◌, ℕ, Option, Some, None, ap, sym}
+use Rattle.std.proofs.Common.{◌≡◌, ◌∙◌, ℕ, false, Option, Some, None, ap, sym}
+use Rattle.std.specs.Borrow.{Bor}
 use Rattle.clap.specs.Words.{Rule, Text, new_rule, rule_of}
+use Rattle.clap.specs.declared.builder.action.ArgAction.{ArgAction}
 use Rattle.clap.specs.declared.builder.action.ArgAction.TheVariants.{Count, Append}
 use Rattle.clap.specs.declared.builder.arg.Arg.{Arg}
 use Rattle.patch_options.specs.Simple.{plain_word, word_rule, with_form}
@@ -36,3 +38,13 @@ module _ (w : Word) (plain : Arg) (rule : rule_of plain ≡ with_letter w.name.n
 
   pub operand_rule : w.form ≡ Operand → rule_of plain ≡ word_rule (plain_word w)
   operand_rule is = rule ∙ ap (λ (f : WordForm). with_form f w.name.now (with_letter w.name.now w.letter)) (sym is)
+
+module _ (plain arg : Arg) where
+  pub short_local : (letter : ℕ) → arg ≡ record plain { short = Some letter } → plain.global ≡ false → arg.global ≡ false
+  short_local letter is local = ap (λ (a : Arg). a.global) is ∙ local
+
+  pub long_local : (name : Bor Text) → arg ≡ record plain { long = Some name } → plain.global ≡ false → arg.global ≡ false
+  long_local name is local = ap (λ (a : Arg). a.global) is ∙ local
+
+  pub action_local : (action : ArgAction) → arg ≡ record plain { action = Some action } → plain.global ≡ false → arg.global ≡ false
+  action_local action is local = ap (λ (a : Arg). a.global) is ∙ local

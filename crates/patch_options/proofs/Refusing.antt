@@ -1,5 +1,5 @@
 -- Why switches and values have words refused.
-use Rattle.std.proofs.Common.{◌≡◌, ◌⊎◌, ◌∙◌, ◌&&◌, not, Bool, true, false, ℕ, List, Option, Some, None, codes, option_map, option_and_then, ap, refl, sym, inl, inr}
+use Rattle.std.proofs.Common.{◌≡◌, ◌⊎◌, ◌∙◌, ◌&&◌, ◌++◌, not, Bool, true, false, ℕ, List, bytes_eq, Result, Ok, Err, IfOk, IfErr, Option, Some, None, codes, option_map, option_and_then, ap, refl, sym, inl, inr}
 use Rattle.clap.specs.Words.{Row, Text}
 use Rattle.std.specs.Borrow.{Bor}
 use Rattle.outside.specs.Files.{is_temp}
@@ -68,6 +68,19 @@ module _ (text name : List ℕ) (is : name ≡ given_form text) where
   pub lasting_lawful : is_name text ≡ true → is_temp name ≡ false → is_lasting_name text ≡ true
   unfolding is_lasting_name
   lasting_lawful lawful lasting = all_yes (is_name text) _ lawful (ap (λ n. not (is_temp n)) (sym is) ∙ ap not lasting)
+
+-- ---- what may stand before a name, by a sample of one
+
+module _ (text sample : List ℕ) (is : sample ≡ text ++ codes "x") where
+  pub prefix_told : (r : Result Bool WordFault) → IfOk r (λ b. b ≡ bytes_eq (given_form sample) sample) → IfOk r (λ b. is_name sample ≡ true) → IfOk r (λ b. b ≡ is_prefix text)
+  unfolding is_prefix
+  prefix_told (Ok b) normal lawful = normal ∙ (ap (λ t. t && bytes_eq (given_form sample) sample) (sym lawful) ∙ ap (λ s. is_name s && bytes_eq (given_form s) s) is)
+  prefix_told (Err fault) normal lawful = tt
+
+  pub no_prefix : (r : Result Bool WordFault) → IfErr r (λ fault. (fault ≡ Memory) ⊎ ((fault ≡ Usage) × (is_name sample ≡ false))) → IfErr r (λ fault. (fault ≡ Memory) ⊎ ((fault ≡ Usage) × (is_prefix text ≡ false)))
+  unfolding is_prefix
+  no_prefix (Ok b) why = tt
+  no_prefix (Err fault) why = refused_as fault _ _ (λ none. no_left _ _ (ap is_name (sym is) ∙ none)) why
 
 -- ---- `-` in place of a name that is written
 
