@@ -1,9 +1,6 @@
 -- What was matched agrees, tested value by value.
-use Rattle.std.proofs.Common.{◌≡◌, ◌∙◌, ◌&&◌, ◌≤◌, ◌-◌, ℕ, Bool, true, false, List, [], ◌∷◌, get_or, length, take, drop, ap, sym, arith}
+use Rattle.std.proofs.Common.{◌≡◌, ◌∙◌, ◌&&◌, Bool, true, false, ap, sym}
 use Rattle.std.proofs.lemmas.Bool.{false≢true}
-use Rattle.std.proofs.lemmas.List.{take_all}
-use Rattle.std.specs.List.{list_all}
-use Rattle.patch_options.specs.Forms.{begins_name, goes_on_name, is_macro_name}
 
 -- ---- one more test behind those before it
 
@@ -24,10 +21,3 @@ pub four_else : (a b c d joined : Bool) → joined ≡ ((a && b) && c) → joine
 four_else true true c d joined is none = none ∙ ap (λ t. t && d) (sym none ∙ is)
 four_else true false c d joined is none = is
 four_else false b c d joined is none = is
-
--- ---- the name that conditions test
-
-pub name_goes_on : (bytes text : List ℕ) {rest : Bool} → bytes ≡ text → 1 ≤ length bytes → begins_name (get_or bytes 0 0) ≡ true → rest ≡ list_all goes_on_name (take (length bytes - 1) (drop 1 bytes)) → rest ≡ is_macro_name text
-name_goes_on [] text same some begins is = let bad : ⊥ = omega arith in absurd bad
-name_goes_on (b ∷ bs) text same some begins is =
-    is ∙ (ap (list_all goes_on_name) (take_all (length (b ∷ bs) - 1) bs (omega arith)) ∙ (ap (λ t. t && list_all goes_on_name bs) (sym begins) ∙ ap is_macro_name same))
