@@ -60,14 +60,9 @@ module _ (input operand : Option (Bor Text)) where
 
 -- ---- a temporary's name
 
-module _ (text name : List ℕ) (is : name ≡ given_form text) where
-  pub temp_refused : is_temp name ≡ true → is_lasting_name text ≡ false
-  unfolding is_lasting_name
-  temp_refused temp = no_right (is_name text) _ (ap (λ n. not (is_temp n)) (sym is) ∙ ap not temp)
-
-  pub lasting_lawful : is_name text ≡ true → is_temp name ≡ false → is_lasting_name text ≡ true
-  unfolding is_lasting_name
-  lasting_lawful lawful lasting = all_yes (is_name text) _ lawful (ap (λ n. not (is_temp n)) (sym is) ∙ ap not lasting)
+pub temp_refused : (text name : List ℕ) → name ≡ given_form text → is_temp name ≡ true → is_lasting_name text ≡ false
+unfolding is_lasting_name
+temp_refused text name is temp = no_right (is_name text) _ (ap (λ n. not (is_temp n)) (sym is) ∙ ap not temp)
 
 -- ---- what may stand before a name, by a sample of one
 

@@ -1,4 +1,4 @@
-use Rattle.std.proofs.Common.{inl, inr, refl, ap, sym, ◌∙◌, Err, is_none}
+use Rattle.std.proofs.Common.{inr, refl, ap, sym, ◌∙◌, Err, is_none}
 use Rattle.outside.specs.Names.{broken_given}
 use Rattle.patch_options.specs.Forms.{is_name}
 use Rattle.patch_options.proofs.names.name_of.Goals as goal
@@ -10,21 +10,3 @@ returns-in-Err-Refused-clause-refused c = inr (
   ap (λ t. is_none (broken_given t)) (sym c.as_bytes.ensures.value)
       ∙ ap (λ r. is_none r) ((c.given.ensures.refused c.in-Err-Refused.field-0-0).0 (c.in-Err-Refused.is ∙ ap (λ e. Err e) c.in-Err-Refused.field-0-is)),
 )
-
-pub returns-in-Err-Refused-clause-name : goal.returns-in-Err-Refused-clause-name
-returns-in-Err-Refused-clause-name c = tt
-
-pub returns-in-Err-Refused-clause-lawful : goal.returns-in-Err-Refused-clause-lawful
-returns-in-Err-Refused-clause-lawful c = tt
-
-pub returns-in-Err-Memory-clause-name : goal.returns-in-Err-Memory-clause-name
-returns-in-Err-Memory-clause-name c = tt
-
-pub returns-in-Err-Memory-clause-lawful : goal.returns-in-Err-Memory-clause-lawful
-returns-in-Err-Memory-clause-lawful c = tt
-
-pub returns-in-Err-Memory-clause-refused : goal.returns-in-Err-Memory-clause-refused
-returns-in-Err-Memory-clause-refused c = inl refl
-
-pub returns-in-Ok-clause-refused : goal.returns-in-Ok-clause-refused
-returns-in-Ok-clause-refused c = tt

@@ -1,4 +1,4 @@
-use Rattle.std.proofs.Common.{map, string_bytes, inl, refl}
+use Rattle.std.proofs.Common.{map, string_bytes}
 use Rattle.clap.specs.Words.{app_of}
 use Rattle.patch_options.specs.Simple.{plain_table, simple_command}
 use Rattle.patch_options.proofs.ByTable.{rows_are, are_taken, why_is}
@@ -15,21 +15,3 @@ returns-in-Ok-try_get_matches_from-clause-rows c =
 pub returns-in-Err-try_get_matches_from-clause-refused : goal.returns-in-Err-try_get_matches_from-clause-refused
 returns-in-Err-try_get_matches_from-clause-refused c =
     why_is (app_of c.in-Ok.command) (simple_command c.args.name.now (plain_table c.args.table.now)) (map string_bytes c.args.words.now) c.in-Ok.ensures c.requires c.in-Err-try_get_matches_from.error c.why_refused.result c.in-Err-try_get_matches_from.ensures.kinds c.why_refused.ensures
-
-pub returns-in-Err-clause-refused : goal.returns-in-Err-clause-refused
-returns-in-Err-clause-refused c = inl refl
-
-pub returns-in-Err-clause-taken : goal.returns-in-Err-clause-taken
-returns-in-Err-clause-taken c = tt
-
-pub returns-in-Err-clause-rows : goal.returns-in-Err-clause-rows
-returns-in-Err-clause-rows c = tt
-
-pub returns-in-Ok-try_get_matches_from-clause-refused : goal.returns-in-Ok-try_get_matches_from-clause-refused
-returns-in-Ok-try_get_matches_from-clause-refused c = tt
-
-pub returns-in-Err-try_get_matches_from-clause-taken : goal.returns-in-Err-try_get_matches_from-clause-taken
-returns-in-Err-try_get_matches_from-clause-taken c = tt
-
-pub returns-in-Err-try_get_matches_from-clause-rows : goal.returns-in-Err-try_get_matches_from-clause-rows
-returns-in-Err-try_get_matches_from-clause-rows c = tt
