@@ -1,20 +1,20 @@
 -- What the words of `patch` ask for, by what was matched in them.
-use Rattle.std.proofs.Common.{◌≡◌, ◌⊎◌, ◌∙◌, Bool, true, false, List, Ok, Err, ap, refl, sym, subst, inl, inr, if◌then◌else◌}
+use Rattle.std.proofs.Common.{◌≡◌, ◌⊎◌, ◌∙◌, ◌<◌, ◌≤◌, Bool, true, false, List, [], ◌∷◌, get_or, length, map, Ok, Err, codes, bytes_eq, ap, refl, sym, subst, inl, inr, if◌then◌else◌, arith}
 use Rattle.clap.specs.Words.{Row, Text}
 use Rattle.patch_options.specs.Simple.{takes, rows_by}
 use Rattle.patch_options.specs.PlainJob.{PlainOptions, IsLawfulJob}
 use Rattle.patch_options.specs.PlainJob.PlainJob.{patch}
 use Rattle.patch_options.specs.Table.{is_command, options_of}
-use Rattle.patch_options.specs.Words.{patch_command, patch_job, matched_job}
+use Rattle.patch_options.specs.Words.{patch_command, patch_job, matched_job, job_of}
 use Rattle.patch_options.specs.declared.options.WordFault.{WordFault}
 use Rattle.patch_options.specs.declared.options.WordFault.TheVariants.{Usage, Memory}
 use Rattle.patch_options.proofs.Lawful.{lawful_options}
 
-if_true : {X : Type 0} (b : Bool) (x y : X) → b ≡ true → (if b then x else y) ≡ x
+pub if_true : {X : Type 0} (b : Bool) (x y : X) → b ≡ true → (if b then x else y) ≡ x
 if_true true x y h = refl
 if_true false x y h = cc
 
-if_false : {X : Type 0} (b : Bool) (x y : X) → b ≡ false → (if b then x else y) ≡ y
+pub if_false : {X : Type 0} (b : Bool) (x y : X) → b ≡ false → (if b then x else y) ≡ y
 if_false true x y h = cc
 if_false false x y h = refl
 
@@ -40,3 +40,17 @@ job_is words rows o taken are command is = matched_is words rows taken are ∙ (
 
 pub lawful_job : (rows : List Row) (o : PlainOptions) → is_command rows ≡ true → o ≡ options_of rows → IsLawfulJob (patch o)
 lawful_job rows o command is = subst (λ (p : PlainOptions). IsLawfulJob (patch p)) (sym is) (lawful_options rows command)
+
+-- ---- by the first word
+
+pub by_patch : {X : Type 0} (f : X → Text) (words : List X) (tool : X) → tool ≡ get_or words 0 tool → bytes_eq (f tool) (codes "patch") ≡ true → 1 ≤ length words → job_of (map f words) ≡ patch_job (map f words)
+by_patch f [] tool is same some = let bad : ⊥ = omega arith in absurd bad
+by_patch f (w ∷ ws) tool is same some = if_true (bytes_eq (f w) (codes "patch")) (patch_job (f w ∷ map f ws)) (Err Usage) (ap (λ t. bytes_eq (f t) (codes "patch")) (sym is) ∙ same)
+
+pub by_other : {X : Type 0} (f : X → Text) (words : List X) (tool : X) → tool ≡ get_or words 0 tool → bytes_eq (f tool) (codes "patch") ≡ false → 1 ≤ length words → job_of (map f words) ≡ Err Usage
+by_other f [] tool is other some = refl
+by_other f (w ∷ ws) tool is other some = if_false (bytes_eq (f w) (codes "patch")) (patch_job (f w ∷ map f ws)) (Err Usage) (ap (λ t. bytes_eq (f t) (codes "patch")) (sym is) ∙ other)
+
+pub no_words : {X : Type 0} (f : X → Text) (words : List X) → length words < 1 → job_of (map f words) ≡ Err Usage
+no_words f [] none = refl
+no_words f (w ∷ ws) none = let bad : ⊥ = omega arith in absurd bad

@@ -7,3 +7,5 @@ pub mod Singles
 pub mod Lawful
 pub mod Jobs
 pub mod Growing
+pub mod Agreeing
+pub mod Arguments

@@ -1,9 +1,11 @@
 -- Why switches and values have words refused.
-use Rattle.std.proofs.Common.{◌≡◌, ◌⊎◌, ◌∙◌, ◌&&◌, not, Bool, true, false, List, Option, Some, None, codes, option_map, option_and_then, ap, refl, sym, inl, inr}
+use Rattle.std.proofs.Common.{◌≡◌, ◌⊎◌, ◌∙◌, ◌&&◌, ◌++◌, not, Bool, true, false, ℕ, List, bytes_eq, Result, Ok, Err, IfOk, IfErr, Option, Some, None, codes, option_map, option_and_then, ap, refl, sym, inl, inr}
 use Rattle.clap.specs.Words.{Row, Text}
+use Rattle.std.specs.Borrow.{Bor}
+use Rattle.outside.specs.Files.{is_temp}
 use Rattle.outside.specs.Names.{given_form}
-use Rattle.patch_options.specs.Forms.{is_output, is_reject_file, is_prefix, is_directory, is_lasting_name}
-use Rattle.patch_options.specs.Table.{value_of, has_form, is_no_file, reject_of, inputs_agree, names_agree, outputs_agree}
+use Rattle.patch_options.specs.Forms.{is_name, is_output, is_reject_file, is_prefix, is_directory, is_lasting_name, is_patch_file}
+use Rattle.patch_options.specs.Table.{value_of, text_of, has_form, is_no_file, reject_of, first_given, inputs_agree, switches_agree, values_agree, names_agree, outputs_agree, is_command}
 use Rattle.patch_options.specs.declared.options.WordFault.{WordFault}
 use Rattle.patch_options.specs.declared.options.WordFault.TheVariants.{Usage, Memory}
 
@@ -39,6 +41,41 @@ has_value form value same is = ap (has_form form) (sym same) ∙ is
 
 inputs_same : {input operand other another : Option Text} {is : Bool} → input ≡ other → operand ≡ another → inputs_agree input operand ≡ is → inputs_agree other another ≡ is
 inputs_same {input} {operand} {other} {another} same_input same_operand is = ap (λ i. inputs_agree i another) (sym same_input) ∙ (ap (inputs_agree input) (sym same_operand) ∙ is)
+
+-- ---- the patch file, given by one name, or by two
+
+and_yes : (a : Bool) → a ≡ (a && true)
+and_yes true = refl
+and_yes false = refl
+
+module _ (input operand : Option (Bor Text)) where
+  pub input_alone : (text : Bor Text) → input ≡ Some text → operand ≡ None → (Some text.now ≡ first_given (text_of input) (text_of operand)) × (is_patch_file text.now ≡ inputs_agree (text_of input) (text_of operand))
+  input_alone text is none = rw (is, none) (refl, and_yes (is_patch_file text.now))
+
+  pub operand_alone : (text : Bor Text) → input ≡ None → operand ≡ Some text → (Some text.now ≡ first_given (text_of input) (text_of operand)) × (is_patch_file text.now ≡ inputs_agree (text_of input) (text_of operand))
+  operand_alone text none is = rw (none, is) (refl, refl)
+
+  pub both_given : (one other : Bor Text) → input ≡ Some one → operand ≡ Some other → inputs_agree (text_of input) (text_of operand) ≡ false
+  both_given one other is also = rw (is, also) refl
+
+-- ---- a temporary's name
+
+pub temp_refused : (text name : List ℕ) → name ≡ given_form text → is_temp name ≡ true → is_lasting_name text ≡ false
+unfolding is_lasting_name
+temp_refused text name is temp = no_right (is_name text) _ (ap (λ n. not (is_temp n)) (sym is) ∙ ap not temp)
+
+-- ---- what may stand before a name, by a sample of one
+
+module _ (text sample : List ℕ) (is : sample ≡ text ++ codes "x") where
+  pub prefix_told : (r : Result Bool WordFault) → IfOk r (λ b. b ≡ bytes_eq (given_form sample) sample) → IfOk r (λ b. is_name sample ≡ true) → IfOk r (λ b. b ≡ is_prefix text)
+  unfolding is_prefix
+  prefix_told (Ok b) normal lawful = normal ∙ (ap (λ t. t && bytes_eq (given_form sample) sample) (sym lawful) ∙ ap (λ s. is_name s && bytes_eq (given_form s) s) is)
+  prefix_told (Err fault) normal lawful = tt
+
+  pub no_prefix : (r : Result Bool WordFault) → IfErr r (λ fault. (fault ≡ Memory) ⊎ ((fault ≡ Usage) × (is_name sample ≡ false))) → IfErr r (λ fault. (fault ≡ Memory) ⊎ ((fault ≡ Usage) × (is_prefix text ≡ false)))
+  unfolding is_prefix
+  no_prefix (Ok b) why = tt
+  no_prefix (Err fault) why = refused_as fault _ _ (λ none. no_left _ _ (ap is_name (sym is) ∙ none)) why
 
 -- ---- `-` in place of a name that is written
 
@@ -107,3 +144,6 @@ pub names_lawful : (rows : List Row) {input operand dir file : Option Text} → 
     → dir ≡ value_of rows (codes "directory") → has_form is_directory dir ≡ true → file ≡ value_of rows (codes "file") → has_form is_lasting_name file ≡ true → outputs_agree rows ≡ true → names_agree rows ≡ true
 names_lawful rows same_input same_operand inputs same_dir dir same_file file outputs =
     all_yes _ _ (inputs_same same_input same_operand inputs) (all_yes _ _ (has_value is_directory _ same_dir dir) (all_yes _ _ (has_value is_lasting_name _ same_file file) outputs))
+
+pub names_refused : (rows : List Row) (fault : WordFault) → (fault ≡ Memory) ⊎ ((fault ≡ Usage) × (names_agree rows ≡ false)) → (fault ≡ Memory) ⊎ ((fault ≡ Usage) × (is_command rows ≡ false))
+names_refused rows fault = refused_as fault (names_agree rows) (is_command rows) (λ none. no_right (switches_agree rows) _ (no_right (values_agree rows) (names_agree rows) none))
