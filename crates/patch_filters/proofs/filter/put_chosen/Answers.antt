@@ -6,6 +6,7 @@ use Rattle.patch_filters.specs.Filtered.{text_if}
 use Rattle.outside.proofs.Loops.{goes-on, stops, ends}
 use Rattle.patch_filters.proofs.Flagged.{rows, rows-long, row-at}
 use Rattle.patch_filters.proofs.Digesting.{digest-long}
+use Rattle.outside.proofs.SinkSteps.{has-none}
 use Rattle.patch_filters.proofs.filter.put_chosen.Goals as goal
 
 pub returns-in_err-put_if_kept : goal.returns-in_err-put_if_kept
@@ -46,3 +47,12 @@ returns g c =
     let xs = rows flags text p count refl long in
     let end : c.loop-hunk.hunk ≡ length xs = omega (arith, c.loop-hunk-test.false, c.loop-hunk.auto.hunk-end, rows-long flags text p count refl long) in
     ends text_if xs g.met.O.Sink.rest_both c.loop-hunk.hunk _ end c.loop-hunk.invariant
+
+pub loop-hunk-init : goal.loop-hunk-init
+loop-hunk-init g c = has-none g.met.O.Sink.rest_none c.args.out.now
+
+pub put_if_kept-requires-clause-within : goal.put_if_kept-requires-clause-within
+put_if_kept-requires-clause-within g c = omega (arith, c.loop-hunk-test.true)
+
+pub put_if_kept-requires-clause-digest : goal.put_if_kept-requires-clause-digest
+put_if_kept-requires-clause-digest g c = c.requires

@@ -10,6 +10,7 @@ use Rattle.filter_choice.specs.Selected.{numbered}
 use Rattle.patch_filters.specs.Digested.{digest_if_taken}
 use Rattle.patch_filters.proofs.Digesting.{filtered-digest-is}
 use Rattle.filter_choice.proofs.Rows.{numbered-at, numbered-count, zip-at, zip-count}
+use Rattle.outside.proofs.SinkSteps.{has-none}
 use Rattle.patch_filters.proofs.filter.put_filtered.Goals as goal
 
 pub put_if_taken-requires-clause-few : goal.put_if_taken-requires-clause-few
@@ -56,3 +57,9 @@ returns g c =
     let count = zip-count v.patches v.olds (sym same) in
     let all : i ≡ length v.patches = subst (λ (ps : List FilePatch). i ≡ length ps) c.patches-patch-end.ensures.patches (omega (arith, c.loop-patch-test.false, c.loop-patch.auto.patch-end)) in
     rw (filtered-digest-is j v) (ends (digest_if_taken j v.text) (numbered xs) g.met.O.Sink.rest_both i _ (omega (arith, all, same, count, numbered-count xs)) c.loop-patch.invariant)
+
+pub loop-patch-init : goal.loop-patch-init
+loop-patch-init g c = has-none g.met.O.Sink.rest_none c.args.out.now
+
+pub put_if_taken-requires-clause-within : goal.put_if_taken-requires-clause-within
+put_if_taken-requires-clause-within g c = subst (λ (ps : List FilePatch). c.loop-patch.patch < length ps) c.patches-patch-end.ensures.patches (omega (arith, c.loop-patch-test.true))
