@@ -1,4 +1,4 @@
-use Rattle.std.proofs.Common.{◌≡◌, ◌<◌, List, length, sym, subst, arith}
+use Rattle.std.proofs.Common.{◌≡◌, suc, ◌<◌, List, length, sym, subst, arith}
 use Rattle.std.specs.List.{zip}
 use Rattle.std.proofs.lemmas.Result.{err_from_is_err_and}
 use Rattle.file_patch.specs.declared.FilePatch.{FilePatch}
@@ -30,7 +30,7 @@ returns-in_err-put_if_taken g c =
     let row = numbered-at xs i (p.0, own.0) (zip-at v.patches v.olds i p.0 own.0 p.1 own.1) in
     let within : i < length (numbered xs) = omega (arith, lt, same, count, numbered-count xs) in
     let q = err_from_is_err_and c.from_residual.result c.from_residual.ensures.1 in
-    rw (q.1, filtered-digest-is j v) (stops (digest_if_taken j v.text) (numbered xs) g.met.O.Sink.rest_both i _ c.in_err-put_if_taken.field-0.0 q.0 within row c.loop-patch.invariant (c.in_err-put_if_taken.ensures p.0 p.1 own.0 own.1))
+    rw (q.1, filtered-digest-is j v) (stops (digest_if_taken j v.text) (numbered xs) g.met.O.Sink.rest_both i (suc i, (p.0, own.0)) c.in_err-put_if_taken.field-0.0 q.0 within row c.loop-patch.invariant (c.in_err-put_if_taken.ensures p.0 p.1 own.0 own.1))
 
 pub loop-patch-preserved : goal.loop-patch-preserved
 loop-patch-preserved g c =
@@ -45,7 +45,7 @@ loop-patch-preserved g c =
     let own = there-is v.olds i (omega (arith, lt, same)) in
     let row = numbered-at xs i (p.0, own.0) (zip-at v.patches v.olds i p.0 own.0 p.1 own.1) in
     let within : i < length (numbered xs) = omega (arith, lt, same, count, numbered-count xs) in
-    goes-on (digest_if_taken j v.text) (numbered xs) g.met.O.Sink.rest_both i _ c.in_ok-put_if_taken.field-0 within row c.loop-patch.invariant (c.in_ok-put_if_taken.ensures p.0 p.1 own.0 own.1)
+    goes-on (digest_if_taken j v.text) (numbered xs) g.met.O.Sink.rest_both i (suc i, (p.0, own.0)) c.in_ok-put_if_taken.field-0 within row c.loop-patch.invariant (c.in_ok-put_if_taken.ensures p.0 p.1 own.0 own.1)
 
 pub returns : goal.returns
 returns g c =

@@ -1,4 +1,4 @@
-use Rattle.std.proofs.Common.{◌≡◌, true, false, ◌&&◌, Some, sym, ap, subst, ◌∙◌}
+use Rattle.std.proofs.Common.{◌≡◌, true, false, ◌&&◌, Some, sym, ap, subst, ◌∙◌, arith}
 use Rattle.std.specs.List.{list_any}
 use Rattle.std.proofs.lemmas.Option.{same_Some}
 use Rattle.file_patch.specs.PlainPatch.{change_of, header_of, patch_of}
@@ -89,4 +89,4 @@ pub patch_at-requires : goal.patch_at-requires
 patch_at-requires g c = c.requires.within
 
 pub plain_name-requires : goal.plain_name-requires
-plain_name-requires g c = c.requires.within
+plain_name-requires g c = omega (arith, c.requires.within)

@@ -1,4 +1,4 @@
-use Rattle.std.proofs.Common.{◌≡◌, true, false, [], get_or, sym, ◌∙◌}
+use Rattle.std.proofs.Common.{◌≡◌, true, false, [], get_or, sym, ◌∙◌, arith}
 use Rattle.file_patch.specs.PlainPatch.{change_of}
 use Rattle.outside.proofs.SinkSteps.{has-put}
 use Rattle.patch_filters.specs.declared.fault.GrepFault.TheVariants.{Write, Memory}
@@ -38,7 +38,7 @@ pub put_hunk-requires-clause-placed : goal.put_hunk-requires-clause-placed
 put_hunk-requires-clause-placed g c = c.requires.placed
 
 pub is_hit-requires-clause-within : goal.is_hit-requires-clause-within
-is_hit-requires-clause-within g c = c.requires.within
+is_hit-requires-clause-within g c = omega (arith, c.requires.within)
 
 pub is_hit-requires-clause-lawful : goal.is_hit-requires-clause-lawful
 is_hit-requires-clause-lawful g c = c.requires.lawful

@@ -13,9 +13,3 @@ returns-in-Ok-clause-refused c = λ is. taken _ _ is
 
 pub returns-in-Ok-clause-source : goal.returns-in-Ok-clause-source
 returns-in-Ok-clause-source c = c.in-Ok.ensures.source
-
-pub returns-in-Err-clause-source : goal.returns-in-Err-clause-source
-returns-in-Err-clause-source c = tt
-
-pub returns-in-Err-clause-as_written : goal.returns-in-Err-clause-as_written
-returns-in-Err-clause-as_written c = tt

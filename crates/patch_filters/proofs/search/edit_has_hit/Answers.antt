@@ -59,6 +59,3 @@ bytes_at-requires-clause-within g c = (all-at (LiesIn c.args.text.now) c.args.ed
 
 pub bytes_at-requires-clause-order : goal.bytes_at-requires-clause-order
 bytes_at-requires-clause-order g c = (all-at (LiesIn c.args.text.now) c.args.edit.now.added.items c.loop-i.i c.index-span.result.now c.requires.within (omega (arith, c.loop-i-test.true)) c.index-span.ensures).0
-
-pub index-span-requires : goal.index-span-requires
-index-span-requires g c = omega (arith, c.loop-i-test.true)

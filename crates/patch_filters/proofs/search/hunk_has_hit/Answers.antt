@@ -60,6 +60,3 @@ bytes_at-requires-clause-within g c = (all-at (λ (l : HunkLine). LiesIn c.args.
 
 pub bytes_at-requires-clause-order : goal.bytes_at-requires-clause-order
 bytes_at-requires-clause-order g c = (all-at (λ (l : HunkLine). LiesIn c.args.text.now l.span) c.args.hunk.now.body.items c.loop-i.i c.index-line.result.now c.requires.lawful.within (omega (arith, c.loop-i-test.true)) c.index-line.ensures).0
-
-pub index-line-requires : goal.index-line-requires
-index-line-requires g c = omega (arith, c.loop-i-test.true)

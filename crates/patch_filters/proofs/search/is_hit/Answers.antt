@@ -1,4 +1,4 @@
-use Rattle.std.proofs.Common.{◌≡◌, ◌<◌, IfOk, sym, subst, length, arith}
+use Rattle.std.proofs.Common.{◌≡◌, ◌<◌, IfOk, sym, subst}
 use Rattle.file_patch.specs.PlainPatch.{row_count, IsLawfulChange}
 use Rattle.line_list.proofs.Elements.{found}
 use Rattle.patch_filters.specs.Grepped.{test_of}
@@ -30,11 +30,6 @@ pub returns-in-Script-clause-hit : goal.returns-in-Script-clause-hit
 returns-in-Script-clause-hit g c =
     let lt = subst (λ x. c.args.hunk < row_count x) c.in-Script.is c.requires.within in
     rw c.in-Script.is (subst (λ flag. IfOk c.script_has_hit.result (λ b. b ≡ flag)) (script-hit c.args.text.now (test_of (g.F.Finder.view c.args.finder.now)) c.in-Script.script c.args.hunk lt) c.script_has_hit.ensures.hit)
-
-pub index-requires : goal.index-requires
-index-requires g c =
-    let lt : c.args.hunk < length c.in-Hunks.hunks.items = subst (λ x. c.args.hunk < row_count x) c.in-Hunks.is c.requires.within in
-    omega (arith, lt)
 
 pub script_has_hit-requires-clause-within : goal.script_has_hit-requires-clause-within
 script_has_hit-requires-clause-within g c = (subst (λ x. IsLawfulChange c.args.text.now x) c.in-Script.is c.requires.lawful).within

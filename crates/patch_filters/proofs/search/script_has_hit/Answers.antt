@@ -57,6 +57,3 @@ returns-clause-asked g c = c.loop-i.invariant.asked
 
 pub edit_has_hit-requires-clause-within : goal.edit_has_hit-requires-clause-within
 edit_has_hit-requires-clause-within g c = all-at (λ (e : EdEdit). All (LiesIn c.args.text.now) e.added.items) c.args.script.now.edits.items c.loop-i.i c.index-edit.result.now c.requires.within (omega (arith, c.loop-i-test.true)) c.index-edit.ensures
-
-pub index-edit-requires : goal.index-edit-requires
-index-edit-requires g c = omega (arith, c.loop-i-test.true)

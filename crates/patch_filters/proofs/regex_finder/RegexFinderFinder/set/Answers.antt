@@ -24,11 +24,5 @@ returns-in-Err-clause-passes c = record { takes = refl; hit = refl }
 pub returns-in-Ok-clause-passes : goal.returns-in-Ok-clause-passes
 returns-in-Ok-clause-passes c = record { takes = refl; hit = refl }
 
-pub returns-in_err-regex-clause-passes : goal.returns-in_err-regex-clause-passes
-returns-in_err-regex-clause-passes c = record { takes = refl; hit = refl }
-
 pub new-requires : goal.new-requires
 new-requires c = record { as_written = c.in_ok-regex.ensures.as_written }
-
-pub returns-in-Err-clause-set : goal.returns-in-Err-clause-set
-returns-in-Err-clause-set c = tt
