@@ -1,6 +1,7 @@
 -- Calls that ask a finder and write to a sink, one after the other.
-use Rattle.std.proofs.Common.{◌≡◌, ℕ, ◌+◌, ◌<◌, Bool, List, [], ◌++◌, length, drop, Some, Result, Ok, Err, IsErrAnd, IfErr, OnErr, refl, sym, ap, subst, ◌∙◌, arith}
-use Rattle.std.specs.Prelude.{slice_get}
+use Rattle.std.proofs.Common.{◌≡◌, ℕ, ◌+◌, ◌<◌, Bool, true, false, List, [], ◌++◌, length, drop, Some, Result, Ok, Err, IsErrAnd, IfErr, OnErr, refl, sym, ap, subst, ◌∙◌, arith}
+use Rattle.std.specs.Prelude.{slice_get, if◌then◌else◌}
+use Rattle.std.proofs.lemmas.Bool.{false≢true}
 use Rattle.std.specs.List.{flat_map}
 use Rattle.std.proofs.lemmas.List.{take_all}
 use Rattle.outside.specs.FinderView.{FinderView, FinderPasses}
@@ -10,7 +11,9 @@ use Rattle.outside.specs.Puts.{Puts}
 use Rattle.outside.proofs.SinkSteps.{HasPut, GoesOn, has-more, has-none}
 use Rattle.patch_filters.specs.declared.fault.GrepFault.{GrepFault}
 use Rattle.patch_filters.specs.declared.fault.GrepFault.TheVariants.{Pattern, Write, Memory}
-use Rattle.patch_filters.specs.Grepped.{IsAsked, IsFindFault, IsPatternFault, HasGrepCause, Finds, test_by, test_of}
+use Rattle.file_patch.specs.declared.FilePatch.{FilePatch}
+use Rattle.tool_words.specs.declared.jobs.GrepOut.{GrepOut}
+use Rattle.patch_filters.specs.Grepped.{IsAsked, IsFindFault, IsPatternFault, HasGrepCause, Finds, found_text, test_by, test_of}
 use Rattle.patch_filters.proofs.Searching.{asked-none, asked-both, same-test}
 use Rattle.outside.proofs.Loops.{up_to, one-more, both}
 
@@ -90,6 +93,18 @@ module _ {O : Type 0} {view : O → SinkView} {same : O → O → Type 0} where
   pub ends-in : {a n : FinderView} {old new : O} {bytes : List ℕ} {R : Type 0} (r : Result R GrepFault) (e : GrepFault) → IsErrAnd r (λ d. d ≡ e) → Finds {R = R} view same a n old new (Err e) bytes → Finds view same a n old new r bytes
   ends-in (Ok x) e is p = absurd is
   ends-in {a = a} {n = n} {old = old} {new = new} {bytes = bytes} {R = R} (Err d) e is p = subst (λ f. Finds {R = R} view same a n old new (Err f) bytes) (sym is) p
+
+  -- what is written where a test holds, or doesn't, and for one kind of output
+  pub if-set : {a n : FinderView} {old new : O} {R : Type 0} {r : Result R GrepFault} (b : Bool) (x : List ℕ) → b ≡ true → Finds view same a n old new r x → Finds view same a n old new r (if b then x else [])
+  if-set true x is p = p
+  if-set false x is p = absurd (false≢true is)
+
+  pub if-unset : {a n : FinderView} {old new : O} {R : Type 0} {r : Result R GrepFault} (b : Bool) (x : List ℕ) → b ≡ false → Finds view same a n old new r [] → Finds view same a n old new r (if b then x else [])
+  if-unset true x is p = absurd (false≢true (sym is))
+  if-unset false x is p = p
+
+  pub by-output : {a n : FinderView} {old new : O} {R : Type 0} {r : Result R GrepFault} (hit : List ℕ → Bool) (text : List ℕ) (q : FilePatch) (asked kind : GrepOut) → asked ≡ kind → Finds view same a n old new r (found_text hit kind text q) → Finds view same a n old new r (found_text hit asked text q)
+  by-output {a = a} {n = n} {old = old} {new = new} {r = r} hit text q asked kind is p = subst (λ o. Finds view same a n old new r (found_text hit o text q)) (sym is) p
 
   -- what depends on the finder's test is the same before and after it was asked
   pub by-first : {a m n : FinderView} {mid new : O} {R : Type 0} {r : Result R GrepFault} (bytes : (List ℕ → Bool) → List ℕ) → IsAsked a m → Finds view same m n mid new r (bytes (test_of m)) → Finds view same m n mid new r (bytes (test_of a))

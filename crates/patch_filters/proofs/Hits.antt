@@ -1,21 +1,24 @@
 -- Which hunks have a hit, and what is written of them.
-use Rattle.std.proofs.Common.{◌≡◌, ℕ, zero, suc, ◌+◌, ◌<◌, Bool, true, false, ◌||◌, List, [], ◌∷◌, ◌++◌, length, get_or, map, take, drop, Some, refl, sym, ap, ◌∙◌, arith}
-use Rattle.std.specs.Prelude.{slice_get, option_map, ◌==◌}
+use Rattle.std.proofs.Common.{◌≡◌, ℕ, zero, suc, ◌+◌, ◌<◌, Bool, true, false, ◌||◌, List, [], ◌∷◌, ◌++◌, length, get_or, map, take, drop, Some, refl, sym, ap, subst, ◌∙◌, arith}
+use Rattle.std.specs.Prelude.{slice_get, option_map, ◌==◌, ◌^◌, All}
 use Rattle.std.specs.List.{flat_map, list_any, zip}
 use Rattle.std.proofs.lemmas.Bool.{eqb-true}
 use Rattle.std.proofs.lemmas.List.{length-map}
 use Rattle.std.proofs.lemmas.List.Concat.{flat_map-cons}
 use Rattle.std.proofs.lemmas.List.Folds.{list_any_at, list_any-append}
 use Rattle.std.proofs.lemmas.Option.{get_or_from_slice_get, slice_get_within, slice_get-map}
+use Rattle.std.proofs.lemmas.List.Elements.{All-get_or}
 use Rattle.line_list.specs.declared.Span.{Span}
 use Rattle.hunk_core.specs.declared.Hunk.{Hunk}
 use Rattle.hunk_core.specs.declared.HunkLine.{HunkLine}
 use Rattle.hunk_core.specs.PlainHunk.{Marked, bytes_at, marked_of, body_of, hunk_of, hunks_of}
 use Rattle.ed_form.specs.declared.script.EdEdit.{EdEdit}
 use Rattle.ed_form.specs.PlainEdit.{PlainEdit, edit_of, edits_of, lines_of}
+use Rattle.ed_form.specs.declared.script.EdScript.{EdScript}
 use Rattle.file_patch.specs.declared.Change.{Change}
+use Rattle.file_patch.specs.declared.Change.TheVariants.{Hunks, Script}
 use Rattle.file_patch.specs.declared.FilePatch.{FilePatch}
-use Rattle.file_patch.specs.PlainPatch.{PlainChange, hunks, script, change_of, hunk_count, row_count, patch_of}
+use Rattle.file_patch.specs.PlainPatch.{IsLawfulChange, PlainChange, hunks, script, change_of, hunk_count, row_count, patch_of}
 use Rattle.patch_set.specs.SetView.{SetView}
 use Rattle.patch_set.specs.Spans.{IsPlaced}
 use Rattle.patch_set.proofs.Named.{rows-counted}
@@ -153,3 +156,17 @@ module _ (flags : List Bool) (text : List ℕ) (p : FilePatch) (at : IsPlaced te
 
   pub first-whole : piece ++ flat_map text_if (drop (first + 1) (rows flags text p (row_count p.change) at.each long)) ≡ flat_map text_if (rows flags text p (row_count p.change) at.each long)
   first-whole = ap (λ t. t ++ flat_map text_if (drop (first + 1) (rows flags text p (row_count p.change) at.each long))) first-piece ∙ both text_if (rows flags text p (row_count p.change) at.each long) (first + 1)
+
+-- ---- what is lawful
+
+pub few-rows : (text : List ℕ) (c : Change) → IsLawfulChange text c → row_count c < 2 ^ 32
+few-rows text (Hunks hs) is = is.count
+few-rows text (Script s) is = omega arith
+
+pub all-at : {A : Type 0} (P : A → Type 0) (xs : List A) (i : ℕ) (x : A) → All P xs → i < length xs → x ≡ get_or xs i x → P x
+all-at P xs i x all lt is = subst P (sym is) (All-get_or P xs i x lt all)
+
+pub script-hit : (text : List ℕ) (hit : List ℕ → Bool) (s : EdScript) (i : ℕ) → i < 1
+    → list_any hit (flat_map (λ e. map content e.added) (edits_of text s.edits.items)) ≡ get_or (hits_of hit (change_of text (Script s))) i false
+script-hit text hit s zero lt = refl
+script-hit text hit s (suc i) lt = absurd (omega (arith, lt))

@@ -2,6 +2,7 @@ pub mod Rows
 mod Flagged
 mod Whole
 mod AsWritten
+mod Refusals
 mod Searching
 mod Finding
 mod Hits

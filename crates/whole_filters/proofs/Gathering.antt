@@ -107,3 +107,12 @@ module _ {V : Type 0} (Is : Bool → List ℕ → V → Type 0) (i : Input) (old
       refused = tt;
       cause = tt;
     }
+
+-- what was read is read of some text, and the refusal of a text without file patches
+pub some-read : {V : Type 0} (P : List ℕ → V → Type 0) (Q : Type 0) (text : List ℕ) (o : Option V) → IfSome o (λ v. P text v × Q) → IfSome o (λ v. (text : List ℕ) × P text v)
+some-read P Q text None is = tt
+some-read P Q text (Some v) is = (text, is.0)
+
+pub garbage-told : (o : Option SetFault) (e : SetFault) → e ≡ Garbage → (e ≡ Memory) ⊎ (o ≡ Some e) → o ≡ Some Garbage
+garbage-told o e is (inl memory) = let never = sym is ∙ memory in absurd cc
+garbage-told o e is (inr told) = told ∙ ap (λ f. Some f) is

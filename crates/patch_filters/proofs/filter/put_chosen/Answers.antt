@@ -1,11 +1,12 @@
-use Rattle.std.proofs.Common.{◌≡◌, ◌<◌, length, refl, arith}
+use Rattle.std.proofs.Common.{◌≡◌, ◌<◌, false, [], length, get_or, refl, arith}
 use Rattle.std.proofs.lemmas.Result.{err_from_is_err_and}
 use Rattle.tool_words.specs.PlainJobs.{plain_filter_job}
 use Rattle.patch_filters.specs.Digested.{digest_kept}
-use Rattle.patch_filters.specs.Filtered.{text_if}
+use Rattle.patch_filters.specs.Filtered.{pieces, text_if}
 use Rattle.outside.proofs.Loops.{goes-on, stops, ends}
 use Rattle.patch_filters.proofs.Flagged.{rows, rows-long, row-at}
 use Rattle.patch_filters.proofs.Digesting.{digest-long}
+use Rattle.outside.proofs.SinkSteps.{has-none}
 use Rattle.patch_filters.proofs.filter.put_chosen.Goals as goal
 
 pub returns-in_err-put_if_kept : goal.returns-in_err-put_if_kept
@@ -19,7 +20,7 @@ returns-in_err-put_if_kept g c =
     let xs = rows flags text p count refl long in
     let lt : c.loop-hunk.hunk < count = omega (arith, c.loop-hunk-test.true) in
     let q = err_from_is_err_and c.from_residual.result c.from_residual.ensures.1 in
-    rw q.1 (stops text_if xs g.met.O.Sink.rest_both c.loop-hunk.hunk _ c.in_err-put_if_kept.field-0.0 q.0
+    rw q.1 (stops text_if xs g.met.O.Sink.rest_both c.loop-hunk.hunk (get_or flags c.loop-hunk.hunk false, get_or (pieces text p) c.loop-hunk.hunk []) c.in_err-put_if_kept.field-0.0 q.0
     (omega (arith, lt, rows-long flags text p count refl long)) (row-at flags text p count refl long c.loop-hunk.hunk lt) c.loop-hunk.invariant c.in_err-put_if_kept.ensures)
 
 pub loop-hunk-preserved : goal.loop-hunk-preserved
@@ -32,7 +33,7 @@ loop-hunk-preserved g c =
     let long = digest-long j text p c.args.olds.now c.requires in
     let xs = rows flags text p count refl long in
     let lt : c.loop-hunk.hunk < count = omega (arith, c.loop-hunk-test.true) in
-    goes-on text_if xs g.met.O.Sink.rest_both c.loop-hunk.hunk _ c.in_ok-put_if_kept.field-0
+    goes-on text_if xs g.met.O.Sink.rest_both c.loop-hunk.hunk (get_or flags c.loop-hunk.hunk false, get_or (pieces text p) c.loop-hunk.hunk []) c.in_ok-put_if_kept.field-0
     (omega (arith, lt, rows-long flags text p count refl long)) (row-at flags text p count refl long c.loop-hunk.hunk lt) c.loop-hunk.invariant c.in_ok-put_if_kept.ensures
 
 pub returns : goal.returns
@@ -46,3 +47,12 @@ returns g c =
     let xs = rows flags text p count refl long in
     let end : c.loop-hunk.hunk ≡ length xs = omega (arith, c.loop-hunk-test.false, c.loop-hunk.auto.hunk-end, rows-long flags text p count refl long) in
     ends text_if xs g.met.O.Sink.rest_both c.loop-hunk.hunk _ end c.loop-hunk.invariant
+
+pub loop-hunk-init : goal.loop-hunk-init
+loop-hunk-init g c = has-none g.met.O.Sink.rest_none c.args.out.now
+
+pub put_if_kept-requires-clause-within : goal.put_if_kept-requires-clause-within
+put_if_kept-requires-clause-within g c = omega (arith, c.loop-hunk-test.true)
+
+pub put_if_kept-requires-clause-digest : goal.put_if_kept-requires-clause-digest
+put_if_kept-requires-clause-digest g c = c.requires

@@ -1,4 +1,4 @@
-use Rattle.std.proofs.Common.{◌≡◌, ◌<◌, List, length, sym, subst, arith}
+use Rattle.std.proofs.Common.{◌≡◌, suc, ◌<◌, List, length, sym, subst, arith}
 use Rattle.std.specs.List.{zip}
 use Rattle.std.proofs.lemmas.Result.{err_from_is_err_and}
 use Rattle.file_patch.specs.declared.FilePatch.{FilePatch}
@@ -10,6 +10,7 @@ use Rattle.filter_choice.specs.Selected.{numbered}
 use Rattle.patch_filters.specs.Digested.{digest_if_taken}
 use Rattle.patch_filters.proofs.Digesting.{filtered-digest-is}
 use Rattle.filter_choice.proofs.Rows.{numbered-at, numbered-count, zip-at, zip-count}
+use Rattle.outside.proofs.SinkSteps.{has-none}
 use Rattle.patch_filters.proofs.filter.put_filtered.Goals as goal
 
 pub put_if_taken-requires-clause-few : goal.put_if_taken-requires-clause-few
@@ -29,7 +30,7 @@ returns-in_err-put_if_taken g c =
     let row = numbered-at xs i (p.0, own.0) (zip-at v.patches v.olds i p.0 own.0 p.1 own.1) in
     let within : i < length (numbered xs) = omega (arith, lt, same, count, numbered-count xs) in
     let q = err_from_is_err_and c.from_residual.result c.from_residual.ensures.1 in
-    rw (q.1, filtered-digest-is j v) (stops (digest_if_taken j v.text) (numbered xs) g.met.O.Sink.rest_both i _ c.in_err-put_if_taken.field-0.0 q.0 within row c.loop-patch.invariant (c.in_err-put_if_taken.ensures p.0 p.1 own.0 own.1))
+    rw (q.1, filtered-digest-is j v) (stops (digest_if_taken j v.text) (numbered xs) g.met.O.Sink.rest_both i (suc i, (p.0, own.0)) c.in_err-put_if_taken.field-0.0 q.0 within row c.loop-patch.invariant (c.in_err-put_if_taken.ensures p.0 p.1 own.0 own.1))
 
 pub loop-patch-preserved : goal.loop-patch-preserved
 loop-patch-preserved g c =
@@ -44,7 +45,7 @@ loop-patch-preserved g c =
     let own = there-is v.olds i (omega (arith, lt, same)) in
     let row = numbered-at xs i (p.0, own.0) (zip-at v.patches v.olds i p.0 own.0 p.1 own.1) in
     let within : i < length (numbered xs) = omega (arith, lt, same, count, numbered-count xs) in
-    goes-on (digest_if_taken j v.text) (numbered xs) g.met.O.Sink.rest_both i _ c.in_ok-put_if_taken.field-0 within row c.loop-patch.invariant (c.in_ok-put_if_taken.ensures p.0 p.1 own.0 own.1)
+    goes-on (digest_if_taken j v.text) (numbered xs) g.met.O.Sink.rest_both i (suc i, (p.0, own.0)) c.in_ok-put_if_taken.field-0 within row c.loop-patch.invariant (c.in_ok-put_if_taken.ensures p.0 p.1 own.0 own.1)
 
 pub returns : goal.returns
 returns g c =
@@ -56,3 +57,9 @@ returns g c =
     let count = zip-count v.patches v.olds (sym same) in
     let all : i ≡ length v.patches = subst (λ (ps : List FilePatch). i ≡ length ps) c.patches-patch-end.ensures.patches (omega (arith, c.loop-patch-test.false, c.loop-patch.auto.patch-end)) in
     rw (filtered-digest-is j v) (ends (digest_if_taken j v.text) (numbered xs) g.met.O.Sink.rest_both i _ (omega (arith, all, same, count, numbered-count xs)) c.loop-patch.invariant)
+
+pub loop-patch-init : goal.loop-patch-init
+loop-patch-init g c = has-none g.met.O.Sink.rest_none c.args.out.now
+
+pub put_if_taken-requires-clause-within : goal.put_if_taken-requires-clause-within
+put_if_taken-requires-clause-within g c = subst (λ (ps : List FilePatch). c.loop-patch.patch < length ps) c.patches-patch-end.ensures.patches (omega (arith, c.loop-patch-test.true))

@@ -34,3 +34,6 @@ is_taken-requires-clause-few g c = c.requires.few
 
 pub patch_at-requires : goal.patch_at-requires
 patch_at-requires g c = c.requires.within
+
+pub olds-requires : goal.olds-requires
+olds-requires g c = c.requires.within

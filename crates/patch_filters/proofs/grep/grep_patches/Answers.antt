@@ -1,6 +1,6 @@
 use Rattle.std.proofs.Common.{◌≡◌, ◌∙◌, List, [], length, Some, OnOk, OnErr, refl, sym, ap, subst}
 use Rattle.outside.proofs.Exits.{on_ok_none}
-use Rattle.outside.specs.FinderView.{finder_passes_none}
+use Rattle.outside.specs.FinderView.{finder_passes_none, finder_passes_both}
 use Rattle.std.specs.Prelude.{◌==◌, is_some, string_bytes}
 use Rattle.outside.specs.SinkView.{Receives, ReceivesPart, sink_passes_none}
 use Rattle.outside.proofs.Writing.{received_none}
@@ -88,3 +88,6 @@ returns-clause-passes g c = c.put_grepped.ensures.passes
 
 pub returns-clause-rest : goal.returns-clause-rest
 returns-clause-rest g c = c.put_grepped.ensures.rest
+
+pub returns-clause-finder : goal.returns-clause-finder
+returns-clause-finder g c = finder_passes_both c.keep_pattern.ensures.passes c.put_grepped.ensures.finder.passes

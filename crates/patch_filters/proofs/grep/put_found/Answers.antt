@@ -4,11 +4,11 @@ use Rattle.hunk_core.specs.PlainHunk.{bytes_at}
 use Rattle.outside.specs.Puts.{Puts}
 use Rattle.outside.proofs.SinkSteps.{has-put}
 use Rattle.file_patch.specs.declared.FilePatch.{FilePatch}
-use Rattle.tool_words.specs.declared.jobs.GrepOut.TheVariants.{Hunks}
+use Rattle.tool_words.specs.declared.jobs.GrepOut.TheVariants.{Names, Hunks, Files}
 use Rattle.patch_filters.specs.declared.fault.GrepFault.TheVariants.{Write}
 use Rattle.patch_filters.specs.Grepped.{Finds, found_text, test_of}
 use Rattle.patch_filters.proofs.Searching.{asked-none}
-use Rattle.patch_filters.proofs.Finding.{ends-in, finds-put, finds-write}
+use Rattle.patch_filters.proofs.Finding.{ends-in, finds-put, finds-write, by-output}
 use Rattle.patch_filters.proofs.grep.put_found.Goals as goal
 
 pub bytes_at-requires-clause-order : goal.bytes_at-requires-clause-order
@@ -26,13 +26,13 @@ pub returns-in_err-put_line-in-Names : goal.returns-in_err-put_line-in-Names
 returns-in_err-put_line-in-Names g c = λ p is.
     let w = g.F.Finder.view c.args.finder.now in
     let is_text = ap (λ name. name ++ codes "\n") (c.plain_name.ensures p is) in
-    rw c.in-Names.is (ends-in c.from_residual.result Write c.from_residual.ensures.1 (finds-write c.in_err-put_line-in-Names.field-0.0 (asked-none w) (subst (Puts g.O.Sink.view g.O.Sink.same_rest c.args.out.now c.put_line.new.out (Err c.in_err-put_line-in-Names.field-0.0)) is_text c.in_err-put_line-in-Names.ensures)))
+    by-output (test_of w) c.args.set.now.text p c.args.job.now.output Names c.in-Names.is (ends-in c.from_residual.result Write c.from_residual.ensures.1 (finds-write c.in_err-put_line-in-Names.field-0.0 (asked-none w) (subst (Puts g.O.Sink.view g.O.Sink.same_rest c.args.out.now c.put_line.new.out (Err c.in_err-put_line-in-Names.field-0.0)) is_text c.in_err-put_line-in-Names.ensures)))
 
 pub returns-in_ok-put_line-in-Names : goal.returns-in_ok-put_line-in-Names
 returns-in_ok-put_line-in-Names g c = λ p is.
     let w = g.F.Finder.view c.args.finder.now in
     let is_text = ap (λ name. name ++ codes "\n") (c.plain_name.ensures p is) in
-    rw c.in-Names.is (finds-put tt (asked-none w) (has-put c.in_ok-put_line-in-Names.field-0 (subst (Puts g.O.Sink.view g.O.Sink.same_rest c.args.out.now c.put_line.new.out (Ok c.in_ok-put_line-in-Names.field-0)) is_text c.in_ok-put_line-in-Names.ensures)))
+    by-output (test_of w) c.args.set.now.text p c.args.job.now.output Names c.in-Names.is (finds-put tt (asked-none w) (has-put c.in_ok-put_line-in-Names.field-0 (subst (Puts g.O.Sink.view g.O.Sink.same_rest c.args.out.now c.put_line.new.out (Ok c.in_ok-put_line-in-Names.field-0)) is_text c.in_ok-put_line-in-Names.ensures)))
 
 pub returns-in_err-put_piece-in-Files : goal.returns-in_err-put_piece-in-Files
 returns-in_err-put_piece-in-Files g c = λ p is.
@@ -40,7 +40,7 @@ returns-in_err-put_piece-in-Files g c = λ p is.
     let found = c.patch_at-found.result.now in
     let same : found ≡ p = same_Some found p (sym c.patch_at-found.ensures.is ∙ is) in
     let is_text = c.bytes_at.ensures ∙ (ap (λ t. bytes_at t found.span) c.text-text.ensures ∙ ap (λ (q : FilePatch). bytes_at c.args.set.now.text q.span) same) in
-    rw c.in-Files.is (ends-in c.from_residual-in_err-put_piece-in-Files.result Write c.from_residual-in_err-put_piece-in-Files.ensures.1 (finds-write c.in_err-put_piece-in-Files.field-0.0 (asked-none w) (subst (Puts g.O.Sink.view g.O.Sink.same_rest c.args.out.now c.put_piece.new.out (Err c.in_err-put_piece-in-Files.field-0.0)) is_text c.in_err-put_piece-in-Files.ensures)))
+    by-output (test_of w) c.args.set.now.text p c.args.job.now.output Files c.in-Files.is (ends-in c.from_residual-in_err-put_piece-in-Files.result Write c.from_residual-in_err-put_piece-in-Files.ensures.1 (finds-write c.in_err-put_piece-in-Files.field-0.0 (asked-none w) (subst (Puts g.O.Sink.view g.O.Sink.same_rest c.args.out.now c.put_piece.new.out (Err c.in_err-put_piece-in-Files.field-0.0)) is_text c.in_err-put_piece-in-Files.ensures)))
 
 pub returns-in_ok-put_piece-in-Files : goal.returns-in_ok-put_piece-in-Files
 returns-in_ok-put_piece-in-Files g c = λ p is.
@@ -48,7 +48,7 @@ returns-in_ok-put_piece-in-Files g c = λ p is.
     let found = c.patch_at-found.result.now in
     let same : found ≡ p = same_Some found p (sym c.patch_at-found.ensures.is ∙ is) in
     let is_text = c.bytes_at.ensures ∙ (ap (λ t. bytes_at t found.span) c.text-text.ensures ∙ ap (λ (q : FilePatch). bytes_at c.args.set.now.text q.span) same) in
-    rw c.in-Files.is (finds-put tt (asked-none w) (has-put c.in_ok-put_piece-in-Files.field-0 (subst (Puts g.O.Sink.view g.O.Sink.same_rest c.args.out.now c.put_piece.new.out (Ok c.in_ok-put_piece-in-Files.field-0)) is_text c.in_ok-put_piece-in-Files.ensures)))
+    by-output (test_of w) c.args.set.now.text p c.args.job.now.output Files c.in-Files.is (finds-put tt (asked-none w) (has-put c.in_ok-put_piece-in-Files.field-0 (subst (Puts g.O.Sink.view g.O.Sink.same_rest c.args.out.now c.put_piece.new.out (Ok c.in_ok-put_piece-in-Files.field-0)) is_text c.in_ok-put_piece-in-Files.ensures)))
 
 pub returns-in-Hunks : goal.returns-in-Hunks
 returns-in-Hunks g c = λ p is.
@@ -56,5 +56,20 @@ returns-in-Hunks g c = λ p is.
     let found = c.patch_at-found.result.now in
     let hit = test_of (g.F.Finder.view c.args.finder.now) in
     let same : found ≡ p = same_Some found p (sym c.patch_at-found.ensures.is ∙ is) in
-    rw c.in-Hunks.is (subst (Finds g.O.Sink.view g.O.Sink.same_rest (g.F.Finder.view c.args.finder.now) (g.F.Finder.view c.put_parts.new.finder) c.args.out.now c.put_parts.new.out c.put_parts.result)
+    by-output hit v.text p c.args.job.now.output Hunks c.in-Hunks.is (subst (Finds g.O.Sink.view g.O.Sink.same_rest (g.F.Finder.view c.args.finder.now) (g.F.Finder.view c.put_parts.new.finder) c.args.out.now c.put_parts.new.out c.put_parts.result)
     (ap (λ t. found_text hit Hunks t found) c.text-text.ensures ∙ ap (found_text hit Hunks v.text) same) c.put_parts.ensures)
+
+pub put_parts-requires-clause-placed : goal.put_parts-requires-clause-placed
+put_parts-requires-clause-placed g c = rw c.text-text.ensures c.patch_at-found.ensures.placed
+
+pub put_parts-requires-clause-lawful : goal.put_parts-requires-clause-lawful
+put_parts-requires-clause-lawful g c = rw c.text-text.ensures c.patch_at-found.ensures.lawful.change
+
+pub plain_name-requires : goal.plain_name-requires
+plain_name-requires g c = c.requires.within
+
+pub put_parts-requires-clause-kept : goal.put_parts-requires-clause-kept
+put_parts-requires-clause-kept g c = c.requires.kept
+
+pub patch_at-found-requires : goal.patch_at-found-requires
+patch_at-found-requires g c = c.requires.within

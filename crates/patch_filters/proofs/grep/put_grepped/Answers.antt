@@ -45,3 +45,11 @@ returns g c =
     let i = c.loop-patch.patch in
     let all : i ≡ length v.patches = subst (λ (ps : List FilePatch). i ≡ length ps) c.patches-patch-end.ensures.patches (omega (arith, c.loop-patch-test.false, c.loop-patch.auto.patch-end)) in
     rw (grepped-is hit j v) (found-ends (text_if_found hit j v.text) v.patches g.met.O.Sink.rest_both i tt all c.loop-patch.invariant)
+
+pub put_if_found-requires-clause-within : goal.put_if_found-requires-clause-within
+put_if_found-requires-clause-within g c = subst (λ (ps : List FilePatch). c.loop-patch.patch < length ps) c.patches-patch-end.ensures.patches (omega (arith, c.loop-patch-test.true))
+
+pub overflow_cast-patch : goal.overflow_cast-patch
+overflow_cast-patch g c =
+    let lt = subst (λ (ps : List FilePatch). c.loop-patch.patch < length ps) c.patches-patch-end.ensures.patches (omega (arith, c.loop-patch-test.true)) in
+    omega (arith, lt, c.patches-patch-end.ensures.whole.count)

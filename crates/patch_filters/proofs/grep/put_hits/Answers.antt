@@ -9,7 +9,7 @@ use Rattle.patch_filters.specs.Grepped.{Finds, hits_of, test_of}
 use Rattle.patch_filters.proofs.Searching.{asked-none, still-kept}
 use Rattle.patch_filters.proofs.Flagged.{rows, rows-long, row-at}
 use Rattle.patch_filters.proofs.Finding.{by-first, ends-in, finds-stop, finds-write, found-ends, found-goes-on, found-stops}
-use Rattle.patch_filters.proofs.Hits.{first-hunk, first-piece, first-whole, hits-long}
+use Rattle.patch_filters.proofs.Hits.{first-hunk, first-piece, first-whole, hits-long, few-rows}
 use Rattle.patch_filters.proofs.grep.put_hits.Goals as goal
 
 pub put_hunk-requires-clause-within : goal.put_hunk-requires-clause-within
@@ -108,3 +108,14 @@ put_if_hit-requires-clause-lawful g c = c.requires.lawful
 
 pub put_if_hit-requires-clause-placed : goal.put_if_hit-requires-clause-placed
 put_if_hit-requires-clause-placed g c = c.requires.placed
+
+pub overflow_step-hunk : goal.overflow_step-hunk
+overflow_step-hunk g c =
+    let v = g.F.Finder.view c.args.finder.now in
+    let text = c.args.text.now in
+    let p = c.args.patch.now in
+    let flags = hits_of (test_of v) (change_of text p.change) in
+    omega (arith, first-hunk flags text p c.requires.placed (hits-long (test_of v) text p.change) c.args.first c.requires.first, few-rows text p.change c.requires.lawful)
+
+pub hunks-hunk-end-requires : goal.hunks-hunk-end-requires
+hunks-hunk-end-requires g c = few-rows c.args.text.now c.args.patch.now.change c.requires.lawful

@@ -1,4 +1,4 @@
-use Rattle.std.proofs.Common.{◌≡◌, true, false, ◌&&◌, Some, sym, ap, subst, ◌∙◌}
+use Rattle.std.proofs.Common.{◌≡◌, true, false, ◌&&◌, Some, sym, ap, subst, ◌∙◌, arith}
 use Rattle.std.specs.List.{list_any}
 use Rattle.std.proofs.lemmas.Option.{same_Some}
 use Rattle.file_patch.specs.PlainPatch.{change_of, header_of, patch_of}
@@ -8,8 +8,8 @@ use Rattle.patch_filters.specs.declared.fault.GrepFault.TheVariants.{Memory}
 use Rattle.filter_choice.specs.Selected.{is_selected}
 use Rattle.patch_filters.specs.Grepped.{IsFirst, found_text, hits_of, is_found, test_of, text_if_found}
 use Rattle.patch_filters.proofs.Searching.{same-test, still-kept}
-use Rattle.patch_filters.proofs.Finding.{by-first, ends-in, finds-done, finds-memory, finds-more, found-asked, found-none}
-use Rattle.patch_filters.proofs.Hits.{first-some, hits-same}
+use Rattle.patch_filters.proofs.Finding.{by-first, ends-in, finds-done, finds-memory, finds-more, found-asked, found-none, if-set, if-unset}
+use Rattle.patch_filters.proofs.Hits.{first-some, hits-same, few-rows}
 use Rattle.patch_filters.proofs.grep.put_if_found.Goals as goal
 
 pub put_found-requires-clause-kept : goal.put_found-requires-clause-kept
@@ -34,7 +34,7 @@ returns-then-not-is_selected g c = λ p is.
     let hit = test_of (g.F.Finder.view c.args.finder.now) in
     let left_out : is_found hit j (patch_of v.text p) ≡ false =
     ap (λ b. b && list_any (λ is. is) (hits_of hit (change_of v.text p.change))) (sym (c.is_selected.ensures ∙ ap (is_selected j.select) (c.plain_name.ensures p is)) ∙ c.if-not-is_selected.true) in
-    rw left_out (finds-done tt (found-none g.met.O.Sink.rest_none (g.F.Finder.view c.args.finder.now) c.args.out.now))
+    if-unset (is_found hit j (patch_of v.text p)) (found_text hit j.output v.text p) left_out (finds-done tt (found-none g.met.O.Sink.rest_none (g.F.Finder.view c.args.finder.now) c.args.out.now))
 
 pub returns-in_err-first : goal.returns-in_err-first
 returns-in_err-first g c = λ p is.
@@ -54,7 +54,7 @@ returns-in_default g c = λ p is.
     subst (λ fs. list_any (λ is. is) fs ≡ false) moved (subst (IsFirst flags) (c.in_default.is) c.in_ok-first.ensures.first) in
     let selected : is_selected j.select (plain_name (header_of v.text p.header)) ≡ true = sym (c.is_selected.ensures ∙ ap (is_selected j.select) (c.plain_name.ensures p is)) ∙ c.if-not-is_selected.false in
     let left_out : is_found hit j (patch_of v.text p) ≡ false = ap (λ b. b && list_any (λ is. is) (hits_of hit (change_of v.text p.change))) selected ∙ no_hit in
-    rw left_out (finds-done tt (found-asked (found-none g.met.O.Sink.rest_none (g.F.Finder.view c.args.finder.now) c.args.out.now) c.in_ok-first.ensures.asked))
+    if-unset (is_found hit j (patch_of v.text p)) (found_text hit j.output v.text p) left_out (finds-done tt (found-asked (found-none g.met.O.Sink.rest_none (g.F.Finder.view c.args.finder.now) c.args.out.now) c.in_ok-first.ensures.asked))
 
 pub returns : goal.returns
 returns g c = λ p is.
@@ -69,7 +69,7 @@ returns g c = λ p is.
     subst (λ fs. list_any (λ is. is) fs ≡ true) moved (first-some flags c.in-Some.first (subst (IsFirst flags) c.in-Some.is c.in_ok-first.ensures.first)) in
     let selected : is_selected j.select (plain_name (header_of v.text p.header)) ≡ true = sym (c.is_selected.ensures ∙ ap (is_selected j.select) (c.plain_name.ensures p is)) ∙ c.if-not-is_selected.false in
     let taken : is_found hit j (patch_of v.text p) ≡ true = ap (λ b. b && list_any (λ is. is) (hits_of hit (change_of v.text p.change))) selected ∙ some in
-    rw taken (finds-more c.put_found.result g.met.O.Sink.rest_both
+    if-set (is_found hit j (patch_of v.text p)) (found_text hit j.output v.text p) taken (finds-more c.put_found.result g.met.O.Sink.rest_both
     (found-asked (found-none g.met.O.Sink.rest_none (g.F.Finder.view c.args.finder.now) c.args.out.now) c.in_ok-first.ensures.asked)
     (by-first (λ hit. found_text hit j.output v.text p) c.in_ok-first.ensures.asked (c.put_found.ensures p is)))
 
@@ -78,3 +78,15 @@ first_hit-requires-clause-kept g c = c.requires.kept
 
 pub put_found-requires-clause-within : goal.put_found-requires-clause-within
 put_found-requires-clause-within g c = c.requires.within
+
+pub first_hit-requires-clause-few : goal.first_hit-requires-clause-few
+first_hit-requires-clause-few g c = few-rows c.args.set.now.text c.patch_at.result.now.change c.patch_at.ensures.lawful.change
+
+pub first_hit-requires-clause-lawful : goal.first_hit-requires-clause-lawful
+first_hit-requires-clause-lawful g c = rw c.text.ensures c.patch_at.ensures.lawful.change
+
+pub patch_at-requires : goal.patch_at-requires
+patch_at-requires g c = c.requires.within
+
+pub plain_name-requires : goal.plain_name-requires
+plain_name-requires g c = omega (arith, c.requires.within)

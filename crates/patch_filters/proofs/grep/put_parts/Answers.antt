@@ -17,3 +17,18 @@ pub returns : goal.returns
 returns g c =
     let v = g.F.Finder.view c.args.finder.now in
     finds-more c.put_hits.result g.met.O.Sink.rest_both (record { finder = asked-none v; put = has-put c.in_ok-put_region.field-0 c.in_ok-put_region.ensures }) c.put_hits.ensures
+
+pub put_hits-requires-clause-lawful : goal.put_hits-requires-clause-lawful
+put_hits-requires-clause-lawful g c = c.requires.lawful
+
+pub put_hits-requires-clause-placed : goal.put_hits-requires-clause-placed
+put_hits-requires-clause-placed g c = c.requires.placed
+
+pub put_hits-requires-clause-first : goal.put_hits-requires-clause-first
+put_hits-requires-clause-first g c = c.requires.first
+
+pub put_hits-requires-clause-kept : goal.put_hits-requires-clause-kept
+put_hits-requires-clause-kept g c = c.requires.kept
+
+pub put_region-requires : goal.put_region-requires
+put_region-requires g c = c.requires.placed

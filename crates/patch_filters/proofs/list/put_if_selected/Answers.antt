@@ -1,4 +1,4 @@
-use Rattle.std.proofs.Common.{◌≡◌, List, get_or, false, Some, sym, ap, subst, ◌∙◌}
+use Rattle.std.proofs.Common.{◌≡◌, List, get_or, false, Some, sym, ap, subst, ◌∙◌, ◌<◌, length, arith}
 use Rattle.std.specs.Prelude.{slice_get}
 use Rattle.std.proofs.lemmas.Option.{get_or_from_slice_get, same_Some}
 use Rattle.std.proofs.lemmas.List.Elements.{All-get_or}
@@ -32,3 +32,14 @@ returns g c = λ p is.
     subst (Puts g.O.Sink.view g.O.Sink.same_rest c.args.out.now c.put_name.new.out c.put_name.result)
     (line-listed (plain_list_job c.args.job.now) v.text p c.as_slice.result.now c.shortened.result.now c.plain_name-name.result.now fronted c.shortened.ensures (c.plain_name-name.ensures p is) (sym c.is_selected.ensures ∙ c.if-not-is_selected.false))
     c.put_name.ensures
+
+pub bounds-patches-patch : goal.bounds-patches-patch
+bounds-patches-patch g c = subst (λ (l : List FilePatch). c.args.patch < length l) (sym c.patches.ensures.patches) c.requires
+
+pub offset_bounds-patches-patch : goal.offset_bounds-patches-patch
+offset_bounds-patches-patch g c =
+    let lt = subst (λ (l : List FilePatch). c.args.patch < length l) (sym c.patches.ensures.patches) c.requires in
+    omega (arith, lt, c.patches.type_inv.0)
+
+pub plain_name-name-requires : goal.plain_name-name-requires
+plain_name-name-requires g c = c.requires

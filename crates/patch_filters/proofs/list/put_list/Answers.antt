@@ -1,4 +1,4 @@
-use Rattle.std.proofs.Common.{◌≡◌, ◌<◌, length, map, ap, ◌∙◌, rules, arith}
+use Rattle.std.proofs.Common.{◌≡◌, ◌<◌, length, map, ap, ◌∙◌, arith, List, subst}
 use Rattle.std.proofs.lemmas.Result.{err_from_is_err_and}
 use Rattle.std.specs.Prelude.{option_map}
 use Rattle.std.proofs.lemmas.List.{length-map}
@@ -9,6 +9,8 @@ use Rattle.line_list.proofs.Elements.{there-is}
 use Rattle.patch_filters.specs.Listed.{line_if_selected}
 use Rattle.outside.proofs.Loops.{goes-on, stops, ends}
 use Rattle.patch_filters.proofs.Rows.{listed-is}
+use Rattle.outside.proofs.SinkSteps.{has-none}
+use Rattle.file_patch.specs.declared.FilePatch.{FilePatch}
 use Rattle.patch_filters.proofs.list.put_list.Goals as goal
 
 pub returns-in_err-put_if_selected : goal.returns-in_err-put_if_selected
@@ -17,10 +19,10 @@ returns-in_err-put_if_selected g c =
     let text = c.args.outline.now.text in
     let ps = c.args.outline.now.patches in
     let i = c.loop-patch.patch in
-    let lt : i < length ps = search rules in
+    let lt : i < length ps = subst (λ (l : List FilePatch). i < length l) c.patches-patch-end.ensures.patches (omega (arith, c.loop-patch-test.true)) in
     let p = there-is ps i lt in
     let q = err_from_is_err_and c.from_residual.result c.from_residual.ensures.1 in
-    rw (q.1, listed-is j (map (patch_of text) ps)) (stops (line_if_selected j) (map (patch_of text) ps) g.met.O.Sink.rest_both i _ c.in_err-put_if_selected.field-0.0 q.0 (omega (arith, lt, length-map ps (patch_of text))) (slice_get-map (patch_of text) ps i ∙ ap (option_map (patch_of text)) p.1) c.loop-patch.invariant (c.in_err-put_if_selected.ensures p.0 p.1))
+    rw (q.1, listed-is j (map (patch_of text) ps)) (stops (line_if_selected j) (map (patch_of text) ps) g.met.O.Sink.rest_both i (patch_of text p.0) c.in_err-put_if_selected.field-0.0 q.0 (omega (arith, lt, length-map ps (patch_of text))) (slice_get-map (patch_of text) ps i ∙ ap (option_map (patch_of text)) p.1) c.loop-patch.invariant (c.in_err-put_if_selected.ensures p.0 p.1))
 
 pub loop-patch-preserved : goal.loop-patch-preserved
 loop-patch-preserved g c =
@@ -28,9 +30,9 @@ loop-patch-preserved g c =
     let text = c.args.outline.now.text in
     let ps = c.args.outline.now.patches in
     let i = c.loop-patch.patch in
-    let lt : i < length ps = search rules in
+    let lt : i < length ps = subst (λ (l : List FilePatch). i < length l) c.patches-patch-end.ensures.patches (omega (arith, c.loop-patch-test.true)) in
     let p = there-is ps i lt in
-    goes-on (line_if_selected j) (map (patch_of text) ps) g.met.O.Sink.rest_both i _ c.in_ok-put_if_selected.field-0 (omega (arith, lt, length-map ps (patch_of text))) (slice_get-map (patch_of text) ps i ∙ ap (option_map (patch_of text)) p.1) c.loop-patch.invariant (c.in_ok-put_if_selected.ensures p.0 p.1)
+    goes-on (line_if_selected j) (map (patch_of text) ps) g.met.O.Sink.rest_both i (patch_of text p.0) c.in_ok-put_if_selected.field-0 (omega (arith, lt, length-map ps (patch_of text))) (slice_get-map (patch_of text) ps i ∙ ap (option_map (patch_of text)) p.1) c.loop-patch.invariant (c.in_ok-put_if_selected.ensures p.0 p.1)
 
 pub returns : goal.returns
 returns g c =
@@ -38,5 +40,11 @@ returns g c =
     let text = c.args.outline.now.text in
     let ps = c.args.outline.now.patches in
     let i = c.loop-patch.patch in
-    let all : i ≡ length ps = search rules in
+    let all : i ≡ length ps = subst (λ (l : List FilePatch). i ≡ length l) c.patches-patch-end.ensures.patches (omega (arith, c.loop-patch-test.false, c.loop-patch.auto.patch-end)) in
     rw (listed-is j (map (patch_of text) ps)) (ends (line_if_selected j) (map (patch_of text) ps) g.met.O.Sink.rest_both i _ (omega (arith, all, length-map ps (patch_of text))) c.loop-patch.invariant)
+
+pub loop-patch-init : goal.loop-patch-init
+loop-patch-init g c = has-none g.met.O.Sink.rest_none c.args.out.now
+
+pub put_if_selected-requires : goal.put_if_selected-requires
+put_if_selected-requires g c = subst (λ (ps : List FilePatch). c.loop-patch.patch < length ps) c.patches-patch-end.ensures.patches (omega (arith, c.loop-patch-test.true))

@@ -4,7 +4,9 @@ use Rattle.outside.proofs.Exits.{if_ok_none}
 use Rattle.patch_header.specs.Content.{content}
 use Rattle.patch_filters.specs.Grepped.{test_of}
 use Rattle.patch_filters.proofs.Searching.{asked-both, asked-none, none-more, none-there, some-here, still-kept}
-use Rattle.patch_filters.proofs.Hits.{line-count, line-flag, line_flags, lines-any}
+use Rattle.patch_filters.proofs.Hits.{line-count, line-flag, line_flags, lines-any, all-at}
+use Rattle.hunk_core.specs.Turned.{LiesIn}
+use Rattle.hunk_core.specs.declared.HunkLine.{HunkLine}
 use Rattle.patch_filters.proofs.search.hunk_has_hit.Goals as goal
 
 pub returns-then-branch-clause-hit : goal.returns-then-branch-clause-hit
@@ -52,3 +54,9 @@ returns-in_err-has_hit-clause-asked g c = asked-both c.loop-i.invariant.asked c.
 
 pub returns-clause-asked : goal.returns-clause-asked
 returns-clause-asked g c = c.loop-i.invariant.asked
+
+pub bytes_at-requires-clause-within : goal.bytes_at-requires-clause-within
+bytes_at-requires-clause-within g c = (all-at (λ (l : HunkLine). LiesIn c.args.text.now l.span) c.args.hunk.now.body.items c.loop-i.i c.index-line.result.now c.requires.lawful.within (omega (arith, c.loop-i-test.true)) c.index-line.ensures).1
+
+pub bytes_at-requires-clause-order : goal.bytes_at-requires-clause-order
+bytes_at-requires-clause-order g c = (all-at (λ (l : HunkLine). LiesIn c.args.text.now l.span) c.args.hunk.now.body.items c.loop-i.i c.index-line.result.now c.requires.lawful.within (omega (arith, c.loop-i-test.true)) c.index-line.ensures).0

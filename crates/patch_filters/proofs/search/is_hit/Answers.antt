@@ -1,8 +1,9 @@
 use Rattle.std.proofs.Common.{◌≡◌, ◌<◌, IfOk, sym, subst}
-use Rattle.file_patch.specs.PlainPatch.{row_count}
+use Rattle.file_patch.specs.PlainPatch.{row_count, IsLawfulChange}
 use Rattle.line_list.proofs.Elements.{found}
 use Rattle.patch_filters.specs.Grepped.{test_of}
-use Rattle.patch_filters.proofs.Hits.{hunk-hits}
+use Rattle.patch_filters.proofs.Hits.{hunk-hits, all-at, script-hit}
+use Rattle.hunk_core.specs.Turned.{IsLawful}
 use Rattle.patch_filters.proofs.search.is_hit.Goals as goal
 
 pub returns-in-Hunks-clause-hit : goal.returns-in-Hunks-clause-hit
@@ -24,3 +25,14 @@ returns-in-Hunks-clause-asked g c = c.hunk_has_hit.ensures.asked
 
 pub returns-in-Script-clause-asked : goal.returns-in-Script-clause-asked
 returns-in-Script-clause-asked g c = c.script_has_hit.ensures.asked
+
+pub returns-in-Script-clause-hit : goal.returns-in-Script-clause-hit
+returns-in-Script-clause-hit g c =
+    let lt = subst (λ x. c.args.hunk < row_count x) c.in-Script.is c.requires.within in
+    rw c.in-Script.is (subst (λ flag. IfOk c.script_has_hit.result (λ b. b ≡ flag)) (script-hit c.args.text.now (test_of (g.F.Finder.view c.args.finder.now)) c.in-Script.script c.args.hunk lt) c.script_has_hit.ensures.hit)
+
+pub script_has_hit-requires-clause-within : goal.script_has_hit-requires-clause-within
+script_has_hit-requires-clause-within g c = (subst (λ x. IsLawfulChange c.args.text.now x) c.in-Script.is c.requires.lawful).within
+
+pub hunk_has_hit-requires-clause-lawful : goal.hunk_has_hit-requires-clause-lawful
+hunk_has_hit-requires-clause-lawful g c = all-at (IsLawful c.args.text.now) c.in-Hunks.hunks.items c.args.hunk c.index.result.now (subst (λ x. IsLawfulChange c.args.text.now x) c.in-Hunks.is c.requires.lawful).lawful (subst (λ x. c.args.hunk < row_count x) c.in-Hunks.is c.requires.within) c.index.ensures

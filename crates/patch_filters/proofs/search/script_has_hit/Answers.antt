@@ -3,7 +3,10 @@ use Rattle.line_list.proofs.Elements.{found}
 use Rattle.outside.proofs.Exits.{if_ok_none}
 use Rattle.patch_filters.specs.Grepped.{test_of}
 use Rattle.patch_filters.proofs.Searching.{asked-both, asked-none, none-more, none-there, some-here, still-kept}
-use Rattle.patch_filters.proofs.Hits.{edit-count, edit-flag, edit_flags, edits-any}
+use Rattle.patch_filters.proofs.Hits.{edit-count, edit-flag, edit_flags, edits-any, all-at}
+use Rattle.std.specs.Prelude.{All}
+use Rattle.hunk_core.specs.Turned.{LiesIn}
+use Rattle.ed_form.specs.declared.script.EdEdit.{EdEdit}
 use Rattle.patch_filters.proofs.search.script_has_hit.Goals as goal
 
 pub returns-then-branch-clause-hit : goal.returns-then-branch-clause-hit
@@ -51,3 +54,6 @@ returns-in_err-edit_has_hit-clause-asked g c = asked-both c.loop-i.invariant.ask
 
 pub returns-clause-asked : goal.returns-clause-asked
 returns-clause-asked g c = c.loop-i.invariant.asked
+
+pub edit_has_hit-requires-clause-within : goal.edit_has_hit-requires-clause-within
+edit_has_hit-requires-clause-within g c = all-at (λ (e : EdEdit). All (LiesIn c.args.text.now) e.added.items) c.args.script.now.edits.items c.loop-i.i c.index-edit.result.now c.requires.within (omega (arith, c.loop-i-test.true)) c.index-edit.ensures

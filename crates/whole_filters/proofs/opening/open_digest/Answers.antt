@@ -23,3 +23,12 @@ returns-clause-opens g c =
     let new = plain_select c.read_given.new.select in
     opens-read IsDigestIn c.args.input.now old new _ _ _ _ c.read_given.ensures.untouched c.read_given.ensures.source c.read_given.ensures.taken
     c.in_ok-text.text.items c.in_ok-text.ensures.given c.in_ok-digest.digest c.in_ok-text.ensures.read c.in_ok-digest.ensures.digest c.in_ok-digest.ensures.none
+
+pub returns-in_err-text-clause-unread : goal.returns-in_err-text-clause-unread
+returns-in_err-text-clause-unread g c = c.read_given.ensures.unread
+
+pub returns-in_err-digest-clause-unread : goal.returns-in_err-digest-clause-unread
+returns-in_err-digest-clause-unread g c = c.read_given.ensures.unread
+
+pub returns-clause-unread : goal.returns-clause-unread
+returns-clause-unread g c = c.read_given.ensures.unread

@@ -1,6 +1,10 @@
 use Rattle.tool_words.specs.PlainJobs.{plain_select}
 use Rattle.whole_filters.specs.Opened.{IsSet}
-use Rattle.whole_filters.proofs.Gathering.{opens-ungiven, opens-unread, opens-read}
+use Rattle.whole_filters.proofs.Gathering.{opens-ungiven, opens-unread, opens-read, some-read}
+use Rattle.std.proofs.Common.{◌≡◌, None}
+use Rattle.patch_set.specs.Refusals.{refusal}
+use Rattle.patch_set.specs.SetView.{IsRead}
+use Rattle.whole_filters.specs.Texts.{defaults}
 use Rattle.whole_filters.proofs.opening.open_text.Goals as goal
 
 pub returns-in_err-text-clause-opens : goal.returns-in_err-text-clause-opens
@@ -23,3 +27,18 @@ returns-clause-opens g c =
     let new = plain_select c.read_given.new.select in
     opens-read IsSet c.args.input.now old new _ _ _ _ c.read_given.ensures.untouched c.read_given.ensures.source c.read_given.ensures.taken
     c.in_ok-text.text.items c.in_ok-text.ensures.given c.in_ok-set.set c.in_ok-text.ensures.read c.in_ok-set.ensures.set c.in_ok-set.ensures.none
+
+pub returns-in_err-text-clause-unread : goal.returns-in_err-text-clause-unread
+returns-in_err-text-clause-unread g c = c.read_given.ensures.unread
+
+pub returns-in_err-set-clause-unread : goal.returns-in_err-set-clause-unread
+returns-in_err-set-clause-unread g c = c.read_given.ensures.unread
+
+pub returns-clause-unread : goal.returns-clause-unread
+returns-clause-unread g c = c.read_given.ensures.unread
+
+pub returns-clause-read : goal.returns-clause-read
+returns-clause-read g c = some-read (IsRead (defaults c.read_given.new.select.skip_binary)) (refusal (defaults c.read_given.new.select.skip_binary) c.in_ok-text.text.items ≡ None) c.in_ok-text.text.items c.in_ok-set.set c.in_ok-set.ensures.set
+
+pub returns-clause-whole : goal.returns-clause-whole
+returns-clause-whole g c = c.in_ok-set.ensures.whole

@@ -99,3 +99,6 @@ returns-clause-refused g c = tt
 
 pub returns-clause-cause : goal.returns-clause-cause
 returns-clause-cause g c = tt
+
+pub returns-clause-skips : goal.returns-clause-skips
+returns-clause-skips g c = c.add_patterns.ensures.skips

@@ -1,17 +1,14 @@
-use Rattle.std.proofs.Common.{◌≡◌, inl, inr, ⊎_elim}
-use Rattle.patch_set.specs.declared.fault.SetFault.TheVariants as set
+use Rattle.std.proofs.Common.{inl, inr, ⊎_elim}
+use Rattle.whole_filters.proofs.Gathering.{garbage-told}
+use Rattle.patch_set.specs.Refusals.{refusal}
+use Rattle.whole_filters.specs.Texts.{defaults}
 use Rattle.whole_filters.proofs.opening.read_patches.Goals as goal
 
 pub returns-in-Ok-clause-set : goal.returns-in-Ok-clause-set
 returns-in-Ok-clause-set c = (c.in-Ok.ensures.read, c.in-Ok.ensures.refused)
 
 pub returns-in-Garbage-clause-none : goal.returns-in-Garbage-clause-none
-returns-in-Garbage-clause-none c = λ none.
-    let refused = rw c.in-Garbage.is at c.in-Err.ensures.refused in
-    ⊎_elim
-    (λ (never : set.Garbage ≡ set.Memory). absurd (cc))
-    (λ is. is)
-    refused
+returns-in-Garbage-clause-none c = λ none. garbage-told (refusal (defaults c.args.skip_binary) c.args.text.items) _ c.in-Garbage.is c.in-Err.ensures.refused
 
 pub returns-in_default : goal.returns-in_default
 returns-in_default c = record {

@@ -14,3 +14,6 @@ pub returns-clause-added : goal.returns-clause-added
 returns-clause-added g c = λ f told.
     let text = c.in_ok-text.text.items in
     (patterns_in text, patterns-read f c.args.name.now text (c.in_ok-text.ensures.text f (told (λ none. none-some c.args.name.now (sym none)))) c.in_ok-text.ensures.short, c.in_ok-add_lines.ensures ∙ ap (λ bytes. map (λ (p : Vec ℕ Global). p.items) c.args.patterns.now.items ++ patterns_in bytes) c.deref.ensures.value)
+
+pub returns-clause-untouched : goal.returns-clause-untouched
+returns-clause-untouched g c = c.read_file.ensures.untouched

@@ -42,3 +42,9 @@ returns-clause-set g c f told =
     let text = c.in_ok-text.text.items in
     split-into j f text c.in_ok-text.ensures.short (c.in_ok-text.ensures.text f told) c.in_ok-set.set
     c.in_ok-set.ensures.refused c.in_ok-set.ensures.read
+
+pub returns-clause-untouched : goal.returns-clause-untouched
+returns-clause-untouched g c = c.read_file.ensures.untouched
+
+pub returns-clause-whole : goal.returns-clause-whole
+returns-clause-whole g c = c.in_ok-set.ensures.whole
