@@ -15,11 +15,11 @@ use Rattle.hunk_core.specs.Sides.{is_on_side}
 use Rattle.hunk_core.specs.PlainHunk.{Marked, PlainHunk, old_lines, new_lines}
 use Rattle.hunk_core.specs.Turned.{is_keep, other_side}
 use Rattle.hunk_core.specs.LineTests.{after, marked, ends_line}
-use Rattle.diff_command.specs.Spans.{span_text}
+use Rattle.hunk_core.specs.Spans.{span_text}
 use Rattle.hunk_core.specs.Writing.{no_newline}
 use Rattle.line_list.proofs.WholeLines.{NoFeed, shorter, closes, line-prefix, LinesFit, AreLines, lines-both, lines-whole}
 use Rattle.hunk_core.proofs.LineEnds.{line-ends, no-end, clean, backslash, no-newline-line}
-use Rattle.diff_command.proofs.CommandLemmas.{span-clean}
+use Rattle.hunk_core.proofs.CommandLemmas.{span-clean}
 use Rattle.context_form.specs.Openings.{is_stars}
 use Rattle.context_form.specs.Ranges.{before_range, behind_range}
 use Rattle.context_form.specs.Merging.{part_of}

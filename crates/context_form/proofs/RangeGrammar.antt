@@ -14,7 +14,7 @@ use Rattle.num_text.proofs.Runs.{number-again}
 use Rattle.num_text.specs.NumberRanges.{range_at}
 use Rattle.num_text.specs.NumberRanges as ranges
 use Rattle.num_text.proofs.RangeGrammar.{range-takes, StopsRange, ranged, range-again, range-single}
-use Rattle.diff_command.specs.Letters.{is_line_end}
+use Rattle.hunk_core.specs.Letters.{is_line_end}
 use Rattle.hunk_core.proofs.OptionLemmas.{some_step}
 use Rattle.hunk_core.proofs.FaultSteps.{pass}
 use Rattle.context_form.specs.declared.range.Stated.{Stated}

@@ -9,7 +9,7 @@ use Rattle.hunk_core.specs.PlainHunk.{Marked, PlainHunk, old_lines, new_lines}
 use Rattle.hunk_core.specs.Turned.{is_keep, is_drop}
 use Rattle.hunk_core.specs.LineTests.{ends_line}
 use Rattle.hunk_core.specs.Writing.{no_newline}
-use Rattle.diff_command.specs.Spans.{span_text}
+use Rattle.hunk_core.specs.Spans.{span_text}
 use Rattle.context_form.specs.Ranges.{before_range, behind_range}
 use Rattle.context_form.specs.Grammar.{mark_byte, SpellsHunk, IsPiece}
 

@@ -8,7 +8,7 @@ use Rattle.hunk_core.specs.declared.Side.TheVariants.{Forward, Reversed}
 use Rattle.hunk_core.specs.PlainHunk.{Marked, PlainHunk}
 use Rattle.hunk_core.specs.LineTests.{after, unended, is_backslash, after_backslash}
 use Rattle.num_text.specs.Numbers.{IsNumeral}
-use Rattle.diff_command.specs.Letters.{is_line_end}
+use Rattle.hunk_core.specs.Letters.{is_line_end}
 use Rattle.context_form.specs.declared.range.Stated.{Stated}
 use Rattle.context_form.specs.Openings.{is_stars, begins_hunk}
 use Rattle.context_form.specs.Ranges.{before_range, behind_range}

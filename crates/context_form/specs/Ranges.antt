@@ -7,7 +7,7 @@ use Rattle.hunk_core.specs.declared.Side.TheVariants.{Forward, Reversed}
 use Rattle.hunk_core.specs.LineTests.{after}
 use Rattle.num_text.specs.declared.range.NumberRange.{NumberRange}
 use Rattle.num_text.specs.NumberRanges.{range_at}
-use Rattle.diff_command.specs.Letters.{is_line_end}
+use Rattle.hunk_core.specs.Letters.{is_line_end}
 use Rattle.hunk_core.specs.OptionSteps.{◌>>=◌}
 use Rattle.context_form.specs.declared.range.Stated.{Stated}
 

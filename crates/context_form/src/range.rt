@@ -4,8 +4,7 @@ ghost use Rattle.std.specs.Prelude.{◌≡◌, ◌<◌, ◌≤◌, ◌^◌, IfOk
 ghost use Rattle.num_text.specs.NumberRanges.{HasSmallEnds};
 ghost use Rattle.context_form.specs.Ranges.{before_range, behind_range, numbers_at, is_bad_range, is_too_large, stated, checked, range_line, most, is_count, Fits};
 
-use diff_command::ends_here;
-use hunk_core::{BadKind, Side, after_prefix};
+use hunk_core::{BadKind, Side, after_prefix, ends_here};
 use num_text::{NumberRange, read_range};
 
 /// What a range line states: a start, and how many lines there are. Without a count the part has one

@@ -15,7 +15,7 @@ ghost use Rattle.context_form.specs.Ranges.{before_range, behind_range};
 ghost use Rattle.context_form.specs.Presence.{begins_part};
 ghost use Rattle.context_form.specs.Grammar.{mark_byte};
 ghost use Rattle.context_form.specs.Canonical.{stars_text, range_line_text, line_text, stretch_has, mixed, mixed_behind, part_text, canonical, in_order, SpellsFirst};
-ghost use Rattle.diff_command.specs.Spans.{span_text};
+ghost use Rattle.hunk_core.specs.Spans.{span_text};
 
 use crate::merging::keeps;
 use crate::range::{before, behind};

@@ -7,12 +7,12 @@ use Rattle.line_list.proofs.Choices.{chosen, some_is}
 use Rattle.num_text.specs.declared.range.NumberRange.{NumberRange}
 use Rattle.num_text.specs.NumberRanges.{range_at, SpellsRange}
 use Rattle.num_text.proofs.RangeGrammar.{range-takes, ranged, range-again, range-single}
-use Rattle.diff_command.specs.declared.Action.{Action}
-use Rattle.diff_command.specs.declared.Action.TheVariants.{Add, Change, Delete}
-use Rattle.diff_command.specs.Letters.{action_at, is_line_end, letter}
+use Rattle.hunk_core.specs.declared.command.Action.{Action}
+use Rattle.hunk_core.specs.declared.command.Action.TheVariants.{Add, Change, Delete}
+use Rattle.hunk_core.specs.Letters.{action_at, is_line_end, letter}
 use Rattle.hunk_core.proofs.OptionLemmas.{some_step}
 use Rattle.hunk_core.proofs.FaultSteps.{pass}
-use Rattle.diff_command.proofs.CommandLemmas.{action-takes, action-again, stops-letter}
+use Rattle.hunk_core.proofs.CommandLemmas.{action-takes, action-again, stops-letter}
 use Rattle.ed_form.specs.declared.command.Command.{Command}
 use Rattle.ed_form.specs.declared.command.Heading.{Heading}
 use Rattle.ed_form.specs.Commands.{whole, parts_at, is_command, is_bad_range, start, heading, is_too_large, placed, checked, from_parts, opening}

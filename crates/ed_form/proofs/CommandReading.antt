@@ -1,7 +1,7 @@
 -- The command of a line, as far as it is read.
 use Rattle.std.proofs.Common.{◌≡◌, ℕ, true, false, List, None, Some, refl, sym}
-use Rattle.diff_command.specs.declared.Action.{Action}
-use Rattle.diff_command.specs.Letters.{action_at, is_line_end}
+use Rattle.hunk_core.specs.declared.command.Action.{Action}
+use Rattle.hunk_core.specs.Letters.{action_at, is_line_end}
 use Rattle.num_text.specs.declared.range.NumberRange.{NumberRange}
 use Rattle.num_text.specs.NumberRanges.{range_at}
 use Rattle.ed_form.specs.Commands.{parts_at}

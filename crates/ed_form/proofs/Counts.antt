@@ -4,8 +4,8 @@ use Rattle.hunk_core.specs.declared.BadKind.TheVariants as kinds
 use Rattle.hunk_core.specs.Reading.{◌>>=◌, fault, Ahead, ahead}
 use Rattle.hunk_core.proofs.ReadSteps.{bind_ok, guard_ok, ok_is}
 use Rattle.line_list.proofs.Choices.{chosen}
-use Rattle.diff_command.specs.declared.Action.{Action}
-use Rattle.diff_command.specs.declared.Action.TheVariants.{Add, Change, Delete}
+use Rattle.hunk_core.specs.declared.command.Action.{Action}
+use Rattle.hunk_core.specs.declared.command.Action.TheVariants.{Add, Change, Delete}
 use Rattle.ed_form.specs.declared.added.Part.{Part}
 use Rattle.ed_form.specs.declared.added.Part.TheVariants.{Text}
 use Rattle.ed_form.specs.declared.command.Heading.{Heading}

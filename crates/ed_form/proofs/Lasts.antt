@@ -6,7 +6,7 @@ use Rattle.hunk_core.specs.LineTests.{after}
 use Rattle.hunk_core.specs.PlainHunk.{bytes_at}
 use Rattle.hunk_core.specs.Turned.{LiesIn}
 use Rattle.hunk_core.proofs.TextLemmas.{after-takes, after-again, slice-first, slice-length}
-use Rattle.diff_command.specs.Letters.{is_line_end}
+use Rattle.hunk_core.specs.Letters.{is_line_end}
 use Rattle.ed_form.specs.PlainEdit.{lines_of}
 use Rattle.ed_form.specs.Texts.{is_over, is_word, is_double, ends_double, undoubled}
 

@@ -10,8 +10,8 @@ use Rattle.hunk_core.specs.PlainHunk.{bytes_at}
 use Rattle.hunk_core.specs.Reading.{Gives}
 use Rattle.hunk_core.specs.Turned.{LiesIn}
 use Rattle.hunk_core.proofs.PieceLemmas.{pieces-last, piece-lines}
-use Rattle.diff_command.specs.declared.Action.{Action}
-use Rattle.diff_command.specs.declared.Action.TheVariants.{Add, Change, Delete}
+use Rattle.hunk_core.specs.declared.command.Action.{Action}
+use Rattle.hunk_core.specs.declared.command.Action.TheVariants.{Add, Change, Delete}
 use Rattle.line_list.proofs.WholeLines.{AreLines, lines-both}
 use Rattle.ed_form.specs.declared.script.EdScript.{EdScript}
 use Rattle.ed_form.specs.Commands.{begins_script}

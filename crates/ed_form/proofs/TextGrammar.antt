@@ -7,9 +7,9 @@ use Rattle.hunk_core.specs.Reading.{fault, Ahead, ahead}
 use Rattle.line_list.proofs.Choices.{chosen}
 use Rattle.hunk_core.proofs.ReadSteps.{guard_ok, ok_is}
 use Rattle.hunk_core.proofs.TextLemmas.{after-again}
-use Rattle.diff_command.specs.declared.Action.{Action}
-use Rattle.diff_command.specs.declared.Action.TheVariants.{Add, Change, Delete}
-use Rattle.diff_command.specs.Letters.{is_line_end}
+use Rattle.hunk_core.specs.declared.command.Action.{Action}
+use Rattle.hunk_core.specs.declared.command.Action.TheVariants.{Add, Change, Delete}
+use Rattle.hunk_core.specs.Letters.{is_line_end}
 use Rattle.std.proofs.lemmas.Bool.{cases_Bool, and_parts}
 use Rattle.ed_form.specs.declared.added.Part.{Part}
 use Rattle.ed_form.specs.declared.added.Part.TheVariants.{Text, Ended, Corrected}

@@ -3,9 +3,9 @@ use Rattle.std.specs.Prelude.{◌≡◌, ◌⊎◌, ℕ, zero, suc, ◌+◌, ◌
 use Rattle.std.specs.List.{AllByRecursion}
 use Rattle.num_text.specs.Numbers.{IsNumeral}
 use Rattle.num_text.specs.NumberRanges.{SpellsRange}
-use Rattle.diff_command.specs.declared.Action.{Action}
-use Rattle.diff_command.specs.declared.Action.TheVariants.{Add, Change, Delete}
-use Rattle.diff_command.specs.Letters.{letter, is_line_end}
+use Rattle.hunk_core.specs.declared.command.Action.{Action}
+use Rattle.hunk_core.specs.declared.command.Action.TheVariants.{Add, Change, Delete}
+use Rattle.hunk_core.specs.Letters.{letter, is_line_end}
 use Rattle.ed_form.specs.PlainEdit.{PlainEdit, lowest}
 use Rattle.ed_form.specs.Commands.{begins_script}
 use Rattle.ed_form.specs.Texts.{is_dot, is_correction, is_append}

@@ -9,8 +9,7 @@ ghost use Rattle.ed_form.specs.PlainEdit.{lines_of};
 ghost use Rattle.ed_form.specs.Texts.{is_word, is_substitution, ends_double, undoubled, is_taken, step, is_open, goes_on, text_at};
 ghost use Rattle.ed_form.specs.Scripts.{added_at};
 
-use diff_command::{Action, ends_here};
-use hunk_core::{BadKind, FormFault, Place, after_prefix, bad};
+use hunk_core::{Action, BadKind, FormFault, Place, after_prefix, bad, ends_here};
 use line_list::{Span, next_line};
 use std::alloc::Global;
 

@@ -4,8 +4,7 @@ ghost use Rattle.std.specs.Prelude.{◌≡◌, IfOk, IfSome};
 ghost use Rattle.num_text.specs.NumberRanges.{HasSmallEnds};
 ghost use Rattle.ed_form.specs.Commands.{Fits, parts_at, is_command, is_bad_range, start, heading, is_too_large, checked, opening};
 
-use diff_command::{Action, action_of, ends_here};
-use hunk_core::BadKind;
+use hunk_core::{Action, BadKind, action_of, ends_here};
 use num_text::{NumberRange, read_range};
 
 /// A command as it is written: one address or two, and a letter.

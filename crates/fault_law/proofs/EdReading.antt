@@ -8,9 +8,9 @@ use Rattle.hunk_core.specs.Reading.{◌>>=◌, Fault, fault, Ahead, ahead}
 use Rattle.line_list.proofs.Choices.{chosen}
 use Rattle.num_text.specs.declared.range.NumberRange.{NumberRange}
 use Rattle.num_text.specs.NumberRanges.{range_at, SpellsRange}
-use Rattle.diff_command.specs.declared.Action.{Action}
-use Rattle.diff_command.specs.declared.Action.TheVariants.{Add, Change, Delete}
-use Rattle.diff_command.specs.Letters.{action_at}
+use Rattle.hunk_core.specs.declared.command.Action.{Action}
+use Rattle.hunk_core.specs.declared.command.Action.TheVariants.{Add, Change, Delete}
+use Rattle.hunk_core.specs.Letters.{action_at}
 use Rattle.ed_form.specs.declared.command.Command.{Command}
 use Rattle.ed_form.specs.declared.command.Heading.{Heading}
 use Rattle.ed_form.specs.declared.added.Part.{Part}
@@ -23,7 +23,7 @@ use Rattle.ed_form.specs.Grammar.{IsCommand, SpellsEdit}
 use Rattle.ed_form.proofs.CommandGrammar.{whole-ok, made}
 use Rattle.ed_form.proofs.Pieces.{TakesEdit, edit_takes}
 use Rattle.hunk_core.proofs.OptionLemmas.{some_step}
-use Rattle.diff_command.proofs.CommandLemmas.{action-takes}
+use Rattle.hunk_core.proofs.CommandLemmas.{action-takes}
 use Rattle.hunk_core.proofs.FaultSteps.{failed, err_is, bind_err}
 use Rattle.fault_law.specs.NamedLines.{NamesLine}
 use Rattle.fault_law.specs.EdFaults.{AreBad, AreTooLarge, EndsOpen, HaveNoEnd, Breaks, IsAtFault}

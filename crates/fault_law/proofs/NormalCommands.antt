@@ -6,7 +6,7 @@ use Rattle.hunk_core.specs.declared.BadKind.{BadKind}
 use Rattle.hunk_core.specs.declared.BadKind.TheVariants as kinds
 use Rattle.hunk_core.specs.declared.Side.TheVariants.{Forward, Reversed}
 use Rattle.num_text.specs.NumberRanges.{range_at, SpellsRange}
-use Rattle.diff_command.specs.Letters.{action_at, letter}
+use Rattle.hunk_core.specs.Letters.{action_at, letter}
 use Rattle.normal_form.specs.declared.command.Command.{Command}
 use Rattle.normal_form.specs.declared.command.Parts.{Parts}
 use Rattle.normal_form.specs.Commands.{parts_at, is_command, takes_lines, is_bad_range, size, command, checked, from_parts, opening}
@@ -15,7 +15,7 @@ use Rattle.normal_form.proofs.CommandGrammar.{whole-ok, join_parts, made}
 use Rattle.normal_form.proofs.Words.{end-found}
 use Rattle.hunk_core.specs.Rules.{is_too_large}
 use Rattle.hunk_core.proofs.OptionLemmas.{some_step}
-use Rattle.diff_command.proofs.CommandLemmas.{action-takes}
+use Rattle.hunk_core.proofs.CommandLemmas.{action-takes}
 use Rattle.fault_law.specs.NormalFaults.{IsBadSpan, IsLargeSpan, Breaks}
 use Rattle.fault_law.proofs.NumberForms.{read_as, range_form}
 use Rattle.fault_law.proofs.FailedTests.{kind_is}

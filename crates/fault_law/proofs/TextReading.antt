@@ -30,8 +30,8 @@ use Rattle.patch_header.specs.Steps.{header_with, bare_with, header_at, IsFirstO
 use Rattle.file_patch.specs.PlainPatch.{PlainChange, PlainPatch}
 use Rattle.patch_text.specs.Patches.{as_hunks, as_script, change_at, bare_change, change_behind}
 use Rattle.patch_text.specs.Texts.{GoesUpTo, Stand, ComesFault, IsFaulty}
-use Rattle.text_joins.proofs.Places.{skip-lines}
-use Rattle.text_joins.proofs.Standing.{placed, behind_header, header-split}
+use Rattle.reading_law.proofs.Places.{skip-lines}
+use Rattle.reading_law.proofs.Standing.{placed, behind_header, header-split}
 use Rattle.hunk_core.proofs.FaultSteps.{bind_err}
 use Rattle.fault_law.specs.NamedLines.{NamesLine}
 use Rattle.fault_law.specs.TextFaults.{IsAtFaultIn, IsAtFault}

@@ -10,7 +10,7 @@ use Rattle.hunk_core.specs.Sides.{is_on_side}
 use Rattle.hunk_core.specs.PlainHunk.{PlainHunk}
 use Rattle.hunk_core.specs.LineTests.{after, is_backslash}
 use Rattle.num_text.specs.NumberRanges as numbers
-use Rattle.diff_command.specs.Letters.{is_line_end}
+use Rattle.hunk_core.specs.Letters.{is_line_end}
 use Rattle.context_form.specs.Ranges.{before_range, behind_range}
 use Rattle.context_form.specs.Grammar.{mark_byte, SpellsRange, SpellsHunks}
 use Rattle.hunk_core.specs.Pieces.{last_start}

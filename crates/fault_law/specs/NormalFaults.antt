@@ -6,8 +6,8 @@ use Rattle.hunk_core.specs.declared.Side.{Side}
 use Rattle.hunk_core.specs.declared.Side.TheVariants.{Forward, Reversed}
 use Rattle.hunk_core.specs.PlainHunk.{PlainHunk}
 use Rattle.hunk_core.specs.LineTests.{is_backslash}
-use Rattle.diff_command.specs.declared.Action.{Action}
-use Rattle.diff_command.specs.declared.Action.TheVariants.{Add, Change, Delete}
+use Rattle.hunk_core.specs.declared.command.Action.{Action}
+use Rattle.hunk_core.specs.declared.command.Action.TheVariants.{Add, Change, Delete}
 use Rattle.normal_form.specs.declared.command.Command.{Command}
 use Rattle.normal_form.specs.Commands.{takes_lines}
 use Rattle.normal_form.specs.Stretches.{marks, is_divider}

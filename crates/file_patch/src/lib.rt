@@ -1,4 +1,5 @@
-//! One file patch of a patch text.
+//! One file patch of a patch text, the names of the files that it can be meant for, and the names that a run can need for each
+//! of them.
 #![tactic(auto)]
 
 ghost use Rattle.std.specs.Prelude.{◌≡◌, ◌<◌, ◌^◌, ℕ, List};
@@ -7,11 +8,26 @@ ghost use Rattle.file_patch.specs.Actions.{is_moved};
 ghost use Rattle.file_patch.specs.Absent.{IsLawfulPatch, creates, deletes, told_absent};
 ghost use Rattle.file_patch.specs.PlainPatch.{change_of, hunk_count, patch_of, row_count};
 
+mod derived;
+mod header_names;
+mod laws;
+mod moved;
+mod numbering;
+mod strip;
+
+pub use derived::Target;
 use ed_form::EdScript;
+pub use header_names::candidates;
 use header_record::{Action, Header};
 use hunk_core::{Hunk, Side};
+pub use laws::{
+    numbers_come_in_order, numbers_tell_names_apart, stripped_fronts_hold_the_slashes,
+    targets_tell_names_apart,
+};
 use line_list::Span;
-use target_names::Target;
+pub use moved::moved_names;
+pub use numbering::Numbers;
+pub use strip::{last_component, shortened};
 
 /// What a file patch does to its file.
 #[derive(Drop, Debug)]

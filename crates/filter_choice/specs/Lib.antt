@@ -1,3 +1,5 @@
 pub mod Selected
 pub mod OldLines
 pub mod Kept
+pub mod Outlined
+pub mod Digested

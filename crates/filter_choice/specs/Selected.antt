@@ -2,7 +2,7 @@
 use Rattle.std.specs.Prelude.{ℕ, Bool, true, not, nat_le, ◌&&◌, ◌||◌, List, length, Option, None, Some}
 use Rattle.std.specs.List.{list_any, range_with_len, zip}
 use Rattle.glob_match.specs.Matching.{does_match}
-use Rattle.target_names.specs.Stripped.{shortened}
+use Rattle.file_patch.specs.Stripped.{shortened}
 use Rattle.tool_words.specs.PlainJobs.{PlainSelect, PlainRanges}
 
 -- some of the patterns matches the whole name

@@ -1,12 +1,17 @@
-//! Which file patches and which hunks the words of a filter mean, by names, numbers and old lines.
+//! Which file patches and which hunks the words of a filter mean, by names, numbers and old lines; and the file patches of a
+//! patch text without their hunks: outlines for who lists them, digests for who leaves some out.
 #![tactic(auto)]
 
+mod digest;
 mod hunks;
 mod kept;
 mod numbers;
+mod outline;
 mod set;
 
+pub use digest::{Digest, read_digest};
 pub use hunks::{addressed, at_least_one};
 pub use kept::keeps;
 pub use numbers::{Lines, is_meant, is_one_meant, is_selected};
+pub use outline::{Outline, read_outline};
 pub use set::patch_at;

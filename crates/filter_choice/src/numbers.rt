@@ -6,8 +6,8 @@ ghost use Rattle.tool_words.specs.PlainJobs.{plain_ranges, plain_select};
 ghost use Rattle.filter_choice.specs.Selected.{is_in, is_meant, is_one_meant, is_selected, matches_any};
 ghost use Rattle.filter_choice.specs.OldLines.{numbers_of};
 
+use file_patch::shortened;
 use glob_match::matches;
-use target_names::shortened;
 use tool_words::{Ranges, Select};
 
 /// The numbers from a first to a last.

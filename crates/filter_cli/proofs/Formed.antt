@@ -6,14 +6,14 @@ use Rattle.outside.specs.FinderView.{FinderView, FinderPasses}
 use Rattle.outside.specs.SinkView.{SinkView, SinkPasses, sink_passes_none}
 use Rattle.outside.specs.Quiet.{IsQuiet}
 use Rattle.patch_options.specs.declared.options.WordFault.{WordFault}
-use Rattle.patch_input.specs.Input.{IsStandard}
+use Rattle.run_answers.specs.Input.{IsStandard}
 use Rattle.tool_words.specs.PlainJobs.{PlainFilterJob, PlainToolJob}
 use Rattle.tool_words.specs.PlainJobs.PlainToolJob.{filter_job}
 use Rattle.format_convert.specs.declared.fault.ConvertFault.{ConvertFault}
 use Rattle.format_convert.specs.declared.fault.ConvertFault.TheVariants as convert
-use Rattle.filter_run.specs.declared.form_fault.FormFault.{FormFault}
-use Rattle.filter_run.specs.declared.form_fault.FormFault.TheVariants.{Filter, NoContext, Unfit}
-use Rattle.filter_run.specs.Converting.{FormOutcome, Forms, IsConverted, Refuses, as_form, convert_outcome, of_convert}
+use Rattle.filter_cli.specs.declared.form_fault.FormFault.{FormFault}
+use Rattle.filter_cli.specs.declared.form_fault.FormFault.TheVariants.{Filter, NoContext, Unfit}
+use Rattle.filter_cli.specs.Converting.{FormOutcome, Forms, IsConverted, Refuses, as_form, convert_outcome, of_convert}
 use Rattle.whole_filters.specs.Outcomes as outcomes
 use Rattle.whole_filters.specs.Sifting.{HasTextCause}
 use Rattle.run_answers.specs.declared.why.Why.{Why}

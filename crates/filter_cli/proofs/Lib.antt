@@ -5,3 +5,7 @@ pub mod Sifted
 pub mod Sifters
 pub mod Split
 pub mod Formed
+mod ByText
+mod Coming
+mod Written
+mod InForm

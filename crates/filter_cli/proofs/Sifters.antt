@@ -6,12 +6,12 @@ use Rattle.outside.specs.FinderView.{FinderView}
 use Rattle.outside.specs.Quiet.{Effect}
 use Rattle.patch_options.specs.declared.options.Input.{Input}
 use Rattle.patch_options.specs.declared.options.Input.TheVariants.{Standard, File}
-use Rattle.patch_input.specs.Input.{IsFile, IsStandard}
+use Rattle.run_answers.specs.Input.{IsFile, IsStandard}
 use Rattle.tool_words.specs.PlainJobs.{PlainListJob, PlainFilterJob, PlainGrepJob}
 use Rattle.tool_words.specs.PlainJobs.PlainToolJob.{list_job, filter_job, grep_job, recount_job, flip_job}
 use Rattle.whole_filters.specs.declared.fault.FilterFault.{FilterFault}
 use Rattle.whole_filters.specs.Outcomes.{IsOutcomeOf, recount_outcome, no_selection}
-use Rattle.filter_run.specs.Outcomes.{IsGrepped, list_outcome, filter_outcome, grep_outcome}
+use Rattle.filter_cli.specs.Outcomes.{IsGrepped, list_outcome, filter_outcome, grep_outcome}
 use Rattle.whole_filters.specs.Flips.{HasFlipCause, flip_outcome}
 use Rattle.whole_filters.specs.Sifting.{HasTextCause, HasCountCause}
 use Rattle.filter_cli.specs.Command.{in_form, written}

@@ -15,9 +15,9 @@ use Rattle.outside.specs.Quiet.{IsQuiet, TellsPrefix, after_all}
 use Rattle.outside.proofs.Writing.{part_longer}
 use Rattle.tool_words.specs.PlainJobs.{PlainSplitJob}
 use Rattle.tool_words.specs.PlainJobs.PlainToolJob.{split_job}
-use Rattle.patch_input.specs.declared.fault.InputFault.TheVariants as input
+use Rattle.run_answers.specs.declared.fault.InputFault.TheVariants as input
 use Rattle.patch_set.specs.declared.fault.SetFault.TheVariants as set
-use Rattle.patch_effects.specs.Making.{IsTidy}
+use Rattle.patch_task.specs.Making.{IsTidy}
 use Rattle.filter_choice.specs.Selected.{numbered}
 use Rattle.whole_filters.specs.declared.fault.FilterFault.{FilterFault}
 use Rattle.whole_filters.specs.declared.fault.FilterFault.TheVariants as faults

@@ -12,8 +12,8 @@ use Rattle.outside.specs.Quiet.{IsQuiet}
 use Rattle.patch_options.specs.declared.options.WordFault.{WordFault}
 use Rattle.tool_words.specs.PlainJobs.{PlainToolJob}
 use Rattle.tool_words.specs.PlainJobs.PlainToolJob.{list_job, filter_job, grep_job, split_job, recount_job, gen_job, flip_job, stack_job}
-use Rattle.patch_input.specs.Input.{TakesAtMost}
-use Rattle.patch_effects.specs.Making.{IsTidy}
+use Rattle.run_answers.specs.Input.{TakesAtMost}
+use Rattle.patch_task.specs.Making.{IsTidy}
 use Rattle.run_answers.specs.declared.why.Why.{Why}
 use Rattle.run_answers.specs.declared.why.Why.TheVariants.{Done, Rejected, Usage, Malformed, Garbage, EdReverse, OutMany, Reserved, NoPatchFile, TooLong, LongLine, FileTooLong, BadPattern, NoContext, Unfit, BadState, StackEnd, StackName, ReadFault, WriteFault, TreeFault, ScratchFault, Disagree, Memory}
 use Rattle.run_answers.specs.Answers.{is_fault, is_own, is_early}

@@ -11,8 +11,8 @@ use Rattle.outside.specs.Quiet.{IsQuiet, after_all}
 use Rattle.patch_options.specs.declared.options.WordFault.{WordFault}
 use Rattle.tool_words.specs.PlainJobs.{PlainToolJob}
 use Rattle.tool_words.specs.PlainJobs.PlainToolJob.{list_job, filter_job, grep_job, split_job, recount_job, gen_job, flip_job, stack_job}
-use Rattle.patch_input.specs.Input.{TakesAtMost}
-use Rattle.patch_effects.specs.Making.{IsTidy}
+use Rattle.run_answers.specs.Input.{TakesAtMost}
+use Rattle.patch_task.specs.Making.{IsTidy}
 use Rattle.filter_choice.specs.Selected.{numbered}
 use Rattle.whole_filters.specs.Parting.{ReceivesFirst, part_lines, part_puts}
 use Rattle.whole_filters.specs.Splits.{Cut, split_outcome}

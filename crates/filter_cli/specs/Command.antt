@@ -9,10 +9,10 @@ use Rattle.tool_words.specs.PlainJobs.PlainToolJob.{list_job, filter_job, grep_j
 use Rattle.filter_choice.specs.Selected.{numbered}
 use Rattle.whole_filters.specs.declared.fault.FilterFault.{FilterFault}
 use Rattle.whole_filters.specs.declared.fault.FilterFault.TheVariants as faults
-use Rattle.filter_run.specs.declared.form_fault.FormFault.{FormFault}
-use Rattle.filter_run.specs.declared.form_fault.FormFault.TheVariants as forms
-use Rattle.filter_run.specs.Converting.{convert_outcome}
-use Rattle.filter_run.specs.Outcomes.{HasPatches, list_outcome, filter_outcome, grep_outcome}
+use Rattle.filter_cli.specs.declared.form_fault.FormFault.{FormFault}
+use Rattle.filter_cli.specs.declared.form_fault.FormFault.TheVariants as forms
+use Rattle.filter_cli.specs.Converting.{convert_outcome}
+use Rattle.filter_cli.specs.Outcomes.{HasPatches, list_outcome, filter_outcome, grep_outcome}
 use Rattle.whole_filters.specs.Outcomes.{given, recount_outcome}
 use Rattle.whole_filters.specs.Flips.{flip_outcome}
 use Rattle.whole_filters.specs.Parting.{part_lines, part_puts}

@@ -7,10 +7,10 @@ use Rattle.patch_options.specs.declared.options.WordFault.TheVariants.{Usage}
 use Rattle.tool_words.specs.PlainJobs.{PlainToolJob}
 use Rattle.tool_words.specs.PlainJobs.PlainToolJob.{list_job, filter_job, grep_job, split_job, recount_job, gen_job, flip_job, stack_job}
 use Rattle.tool_words.specs.Words.{tool_job}
-use Rattle.patch_input.specs.Input.{IsStandard}
+use Rattle.run_answers.specs.Input.{IsStandard}
 use Rattle.whole_filters.specs.declared.fault.FilterFault.{FilterFault}
 use Rattle.format_convert.specs.declared.fault.ConvertFault.{ConvertFault}
-use Rattle.filter_run.specs.Converting.{HasFormCause}
+use Rattle.filter_cli.specs.Converting.{HasFormCause}
 use Rattle.whole_filters.specs.Outcomes.{no_selection}
 use Rattle.whole_filters.specs.Sifting.{HasRefusal, HasTextCause, HasCountCause}
 use Rattle.whole_filters.specs.Sifting as sifting

@@ -3,3 +3,8 @@ pub mod Command
 pub mod Worlds
 pub mod Causes
 pub mod Carries
+pub mod Faults
+pub mod Texts
+pub mod Outcomes
+pub mod Sifting
+pub mod Converting

@@ -2,7 +2,7 @@
 ghost use Rattle.std.specs.Prelude.{◌≡◌};
 ghost use Rattle.filter_cli.specs.Command.{of_filter, why_by, why_formed};
 
-use filter_run::FormFault;
+use crate::FormFault;
 use run_answers::Why;
 use whole_filters::FilterFault;
 

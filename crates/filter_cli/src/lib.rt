@@ -1,9 +1,15 @@
-//! All that a filter does with its words, over any tree, finder, source and sink.
+//! The filters: what one does with its words, over any tree, finder, source and sink, and how those that choose file patches come
+//! from the text to what is written.
 #![tactic(auto)]
 
 mod carrying;
+pub mod converting;
 mod fault;
+mod form_fault;
 mod reading;
+pub mod sifting;
 mod tools;
 
 pub use carrying::run_filter;
+pub use form_fault::FormFault;
+pub use sifting::digests_are_filtered_as_sets;

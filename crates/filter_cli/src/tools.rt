@@ -4,15 +4,16 @@ ghost use Rattle.outside.specs.Files.{Files};
 ghost use Rattle.outside.specs.FinderView.{FinderView};
 ghost use Rattle.outside.specs.Quiet.{IsQuiet};
 ghost use Rattle.outside.specs.SourceView.{SourceView};
-ghost use Rattle.patch_input.specs.Input.{IsFile};
+ghost use Rattle.run_answers.specs.Input.{IsFile};
 ghost use Rattle.tool_words.specs.PlainJobs.{plain_filter_job, plain_grep_job, plain_list_job, plain_split_job};
 ghost use Rattle.tool_words.specs.PlainJobs.PlainToolJob.{list_job, filter_job, grep_job, split_job, recount_job, flip_job};
 ghost use Rattle.filter_cli.specs.Carries.{Carries};
 ghost use Rattle.filter_cli.specs.Command.{Searches};
 ghost use Rattle.filter_cli.specs.Worlds.{world, Tells};
 
+use crate::converting::run_convert;
 use crate::fault::{answer, form_answer};
-use filter_run::{run_convert, run_filter, run_grep, run_list};
+use crate::sifting::{run_filter, run_grep, run_list};
 use hunk_core::Form;
 use outside::{Finder, Sink, Source, Tree};
 use patch_options::Input;

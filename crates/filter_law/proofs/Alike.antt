@@ -11,8 +11,8 @@ use Rattle.context_form.specs.Openings.{is_stars, has_number, opens_old}
 use Rattle.normal_form.specs.Hunks.{is_marked}
 use Rattle.patch_header.specs.Openings.{begins}
 use Rattle.patch_header.proofs.Fronts.{front, and_left, or_cases, after-front, unified-front, context-front, range-front, normal-range, ed-range}
-use Rattle.text_joins.proofs.Quiet.{LookAlike}
-use Rattle.text_joins.proofs.Solid.{digit-low, form-front, front-solid, solid-shows, solid-alike}
+use Rattle.reading_law.proofs.Quiet.{LookAlike}
+use Rattle.reading_law.proofs.Solid.{digit-low, form-front, front-solid, solid-shows, solid-alike}
 use Rattle.patch_header.specs.GitRows.{is_unified}
 
 no-number : (o : Option (List ℕ)) → (is_some o ≡ true → ⊥) → has_number o ≡ false

@@ -27,10 +27,10 @@ use Rattle.tool_words.specs.PlainJobs.{PlainFilterJob}
 use Rattle.patch_filters.specs.Filtered.{filtered, written, written_bare, written_hunks, region, pieces, chosen, is_taken_of, asks_no_hunk}
 use Rattle.filter_choice.specs.Kept.{kept}
 use Rattle.whole_filters.specs.Texts.{defaults, Spot, read_patches, regions_in, spots_in, front_of, pieces_of, all_of}
-use Rattle.filter_run.specs.Texts.{spot_written, spot_hunks, spot_bare, is_spot_taken, filtered_in}
-use Rattle.text_joins.specs.Unnumbered.{unnumbered}
-use Rattle.text_joins.specs.Joins.{read_unnumbered}
-use Rattle.text_joins.proofs.Reading.{goes-of, text-found}
+use Rattle.filter_cli.specs.Texts.{spot_written, spot_hunks, spot_bare, is_spot_taken, filtered_in}
+use Rattle.reading_law.specs.Unnumbered.{unnumbered}
+use Rattle.reading_law.specs.Joins.{read_unnumbered}
+use Rattle.reading_law.proofs.Reading.{goes-of, text-found}
 use Rattle.patch_text.proofs.RegionLaws.{regions-step, regions-zero}
 use Rattle.filter_law.specs.LeftPatches.{is_some_kept, kept_patch, left_patches, spot_left, left_in}
 use Rattle.filter_law.specs.CleanJoins.{AreCleanJoins, AreCleanJoinsIn}

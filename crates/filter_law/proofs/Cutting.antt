@@ -10,7 +10,7 @@ use Rattle.hunk_core.specs.PlainHunk.{bytes_at}
 use Rattle.hunk_core.specs.Pieces.{AreInTurn, AreWhole}
 use Rattle.patch_header.specs.Content.{is_dot, has_dot}
 use Rattle.patch_filters.specs.Filtered.{text_if, chosen}
-use Rattle.text_joins.proofs.Quiet.{or-left_no, or-right_no}
+use Rattle.reading_law.proofs.Quiet.{or-left_no, or-right_no}
 use Rattle.filter_law.specs.LeftPatches.{those}
 
 -- ---- the lines of each piece

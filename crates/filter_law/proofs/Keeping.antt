@@ -22,7 +22,7 @@ use Rattle.context_form.proofs.Pieces as context_pieces
 use Rattle.normal_form.specs.Grammar as normal
 use Rattle.normal_form.specs.Hunks as normal_hunks
 use Rattle.normal_form.proofs.Pieces as normal_pieces
-use Rattle.text_joins.proofs.Spelling.{not-there, hunk-told}
+use Rattle.reading_law.proofs.Spelling.{not-there, hunk-told}
 use Rattle.filter_law.specs.LeftPatches.{those}
 use Rattle.filter_law.proofs.Cutting.{owns_of, flat}
 

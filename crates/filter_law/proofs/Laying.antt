@@ -22,9 +22,9 @@ use Rattle.patch_text.specs.Texts.{IsPiece}
 use Rattle.patch_text.specs.Changes.{Spells, SpellChange}
 use Rattle.patch_text.proofs.ChangeLemmas.{lines-sum}
 use Rattle.patch_text.proofs.EndsLemmas.{spans-end, script-end}
-use Rattle.text_joins.proofs.Places.{skip-lines, lines-within}
-use Rattle.text_joins.proofs.Spelling.{hunk-told, not-there}
-use Rattle.text_joins.proofs.Standing.{some-bytes}
+use Rattle.reading_law.proofs.Places.{skip-lines, lines-within}
+use Rattle.reading_law.proofs.Spelling.{hunk-told, not-there}
+use Rattle.reading_law.proofs.Standing.{some-bytes}
 use Rattle.filter_law.proofs.Keeping.{Relation}
 
 -- these lines are these hunks, one behind the other

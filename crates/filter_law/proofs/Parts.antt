@@ -33,23 +33,23 @@ use Rattle.patch_set.proofs.InBytes.{cut-bytes}
 use Rattle.tool_words.specs.PlainJobs.{PlainFilterJob}
 use Rattle.patch_filters.specs.Filtered.{chosen, asks_no_hunk}
 use Rattle.filter_choice.specs.Kept.{kept}
-use Rattle.text_joins.specs.Unnumbered.{unnumbered_header, unnumbered}
-use Rattle.text_joins.specs.Said.{header_said}
-use Rattle.text_joins.specs.Following.{IsFilePatch}
-use Rattle.text_joins.proofs.Headers.{said-alone}
-use Rattle.text_joins.proofs.Places.{skip-lines}
-use Rattle.text_joins.proofs.Quiet.{LookAlike, quiet-alike}
-use Rattle.text_joins.proofs.Solid.{git-solid, solid-shows, solid-alike}
-use Rattle.text_joins.proofs.Joining.{region-is}
-use Rattle.text_joins.proofs.Standing.{behind_header, header-split}
+use Rattle.reading_law.specs.Unnumbered.{unnumbered_header, unnumbered}
+use Rattle.reading_law.specs.Said.{header_said}
+use Rattle.reading_law.specs.Following.{IsFilePatch}
+use Rattle.reading_law.proofs.Headers.{said-alone}
+use Rattle.reading_law.proofs.Places.{skip-lines}
+use Rattle.reading_law.proofs.Quiet.{LookAlike, quiet-alike}
+use Rattle.reading_law.proofs.Solid.{git-solid, solid-shows, solid-alike}
+use Rattle.reading_law.proofs.Joining.{region-is}
+use Rattle.reading_law.proofs.Standing.{behind_header, header-split}
 use Rattle.filter_law.specs.LeftPatches.{those, kept_change, spot_left}
 use Rattle.filter_law.proofs.Alike.{form-alike}
 use Rattle.filter_law.proofs.Cutting.{owns_of, flat, pieces-have, chosen-lines, dots-both, dots-join, all-both}
 use Rattle.filter_law.proofs.Pieces.{kept-piece}
 use Rattle.filter_law.proofs.Laying.{Laid, laid}
 use Rattle.whole_filters.specs.Texts.{Spot}
-use Rattle.filter_run.specs.Texts.{spot_written, spot_hunks, spot_bare}
-use Rattle.text_joins.proofs.Reading.{stands-so}
+use Rattle.filter_cli.specs.Texts.{spot_written, spot_hunks, spot_bare}
+use Rattle.reading_law.proofs.Reading.{stands-so}
 
 -- ---- what a file patch that is left is alone
 

@@ -22,12 +22,12 @@ use Rattle.tool_words.specs.PlainJobs.{PlainFilterJob}
 use Rattle.filter_choice.specs.Kept.{kept, is_kept}
 use Rattle.filter_choice.specs.OldLines.{old_numbers, old_of_each, addressed}
 use Rattle.filter_choice.specs.Selected.{numbered}
-use Rattle.text_joins.specs.Joins.{BeginCleanly}
-use Rattle.text_joins.proofs.Spelling.{edits-joined}
+use Rattle.reading_law.specs.Joins.{BeginCleanly}
+use Rattle.reading_law.proofs.Spelling.{edits-joined}
 use Rattle.filter_law.specs.LeftPatches.{those, kept_change}
 use Rattle.filter_law.proofs.Cutting.{owns_of, flat}
 use Rattle.filter_law.proofs.Keeping.{unified-kept, normal-kept, context-kept}
-use Rattle.text_joins.proofs.Scripts.{script-begins}
+use Rattle.reading_law.proofs.Scripts.{script-begins}
 
 -- ---- as many flags as hunks
 

@@ -11,11 +11,11 @@ use Rattle.patch_header.specs.declared.ways.Ways.{Ways}
 use Rattle.patch_header.proofs.Stands.{and_right}
 use Rattle.file_patch.specs.PlainPatch.{PlainPatch}
 use Rattle.filter_choice.specs.Selected.{numbered}
-use Rattle.text_joins.specs.Unnumbered.{unnumbered}
-use Rattle.text_joins.specs.Following.{IsFilePatch}
-use Rattle.text_joins.specs.Joins as joins
-use Rattle.text_joins.specs.Joins.{AddNoDot, BeginCleanly, begin_with_git, Part, all_lines, FitTogether, read_unnumbered}
-use Rattle.text_joins.proofs.Standing.{parts-read}
+use Rattle.reading_law.specs.Unnumbered.{unnumbered}
+use Rattle.reading_law.specs.Following.{IsFilePatch}
+use Rattle.reading_law.specs.Joins as joins
+use Rattle.reading_law.specs.Joins.{AddNoDot, BeginCleanly, begin_with_git, Part, all_lines, FitTogether, read_unnumbered}
+use Rattle.reading_law.proofs.Standing.{parts-read}
 use Rattle.filter_law.specs.CleanJoins.{Text, all_bytes, FollowCleanly}
 use Rattle.filter_law.proofs.Cutting.{all-both, dots-join}
 use Rattle.filter_law.proofs.Parts.{Known}

@@ -10,9 +10,9 @@ use Rattle.patch_set.specs.SetView.{SetView, IsRead}
 use Rattle.tool_words.specs.PlainJobs.{PlainFilterJob}
 use Rattle.patch_filters.specs.Filtered.{written, filtered}
 use Rattle.whole_filters.specs.Texts.{defaults, Spot}
-use Rattle.filter_run.specs.Texts.{spot_written, filtered_in}
-use Rattle.text_joins.specs.Unnumbered.{unnumbered}
-use Rattle.text_joins.specs.Joins.{BeginCleanly, begin_with_git, read_unnumbered}
+use Rattle.filter_cli.specs.Texts.{spot_written, filtered_in}
+use Rattle.reading_law.specs.Unnumbered.{unnumbered}
+use Rattle.reading_law.specs.Joins.{BeginCleanly, begin_with_git, read_unnumbered}
 use Rattle.filter_law.specs.LeftPatches.{left_of, left_patches, left_spots, left_in}
 
 -- what is written of a file patch, and whether that is a bare git header

@@ -9,7 +9,7 @@ use Rattle.patch_filters.specs.Filtered.{asks_no_hunk, is_taken_of}
 use Rattle.filter_choice.specs.Kept.{kept}
 use Rattle.filter_choice.specs.Selected.{numbered}
 use Rattle.whole_filters.specs.Texts.{Spot, spots_in}
-use Rattle.filter_run.specs.Texts.{is_spot_taken}
+use Rattle.filter_cli.specs.Texts.{is_spot_taken}
 
 -- the elements whose flag is set
 abbrev pub those : {A : Type 0} → List Bool → List A → List A

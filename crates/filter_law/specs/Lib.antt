@@ -1,2 +1,4 @@
 pub mod LeftPatches
 pub mod CleanJoins
+pub mod ReadAgain
+pub mod Turnable

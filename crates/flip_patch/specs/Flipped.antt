@@ -12,7 +12,7 @@ use Rattle.normal_form.specs.Canonical as normal
 use Rattle.file_patch.specs.declared.FilePatch.{FilePatch}
 use Rattle.file_patch.specs.PlainPatch.{PlainChange, hunks, script, change_of}
 use Rattle.patch_set.specs.SetView.{SetView}
-use Rattle.header_lines.specs.HeaderText.{header_text}
+use Rattle.flip_patch.specs.HeaderText.{header_text}
 
 -- a hunk in the canonical text of a form
 abbrev pub hunk_text : Form → PlainHunk → List ℕ

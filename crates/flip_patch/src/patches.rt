@@ -11,8 +11,8 @@ ghost use Rattle.patch_set.specs.Spans.{IsPlaced};
 ghost use Rattle.flip_patch.specs.Flipped.{flipped_patch, hunk_text, swapped_hunks};
 
 use crate::hunks::put_hunks;
+use crate::put_header_lines;
 use file_patch::{Change, FilePatch};
-use header_lines::put_header_lines;
 use hunk_core::Side;
 use outside::{Failed, Sink};
 use patch_set::PatchSet;

@@ -1,2 +1,13 @@
 pub mod RowLemmas
 pub mod ConvertLemmas
+pub mod Rows
+pub mod Steps
+pub mod FrontLemmas
+pub mod Parts
+pub mod NormalLemmas
+pub mod EdLemmas
+pub mod FitLemmas
+pub mod ScriptLemmas
+pub mod RunLemmas
+pub mod SmallLemmas
+pub mod Bounds

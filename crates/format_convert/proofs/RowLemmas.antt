@@ -19,13 +19,13 @@ use Rattle.patch_set.proofs.Named.{rows-counted}
 use Rattle.filter_choice.specs.Kept.{keeps}
 use Rattle.filter_choice.proofs.Rows.{zip-at, zip-count}
 use Rattle.tool_words.specs.PlainJobs.{PlainFilterJob}
-use Rattle.change_commands.specs.Taken.{flags, has_kept, hunk_if, left_change, left_patch, left_patches, patch_if}
-use Rattle.change_commands.specs.Walk.{IsHunks}
-use Rattle.change_commands.proofs.Rows.{flag-at, flags-long}
+use Rattle.format_convert.specs.Taken.{flags, has_kept, hunk_if, left_change, left_patch, left_patches, patch_if}
+use Rattle.format_convert.specs.Walk.{IsHunks}
+use Rattle.format_convert.proofs.Rows.{flag-at, flags-long}
 use Rattle.line_list.proofs.Elements.{found, behind, numbered-from, numbered-long}
 use Rattle.patch_header.specs.Written.{hunk_text}
 use Rattle.format_convert.specs.Converted.{change_text, converted, hunk_texts, rows, written_if}
-use Rattle.change_commands.specs.Commands.{command_text}
+use Rattle.format_convert.specs.Commands.{command_text}
 use Rattle.hunk_core.specs.declared.Form.TheVariants.{Unified, Context, Normal, Ed}
 use Rattle.format_convert.specs.Refusals.{change_lacks, is_unfit, lacks_context, no_context, refusal, shows_context, unfit}
 

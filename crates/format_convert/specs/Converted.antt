@@ -10,14 +10,14 @@ use Rattle.header_record.specs.declared.Header.{Header}
 use Rattle.file_patch.specs.declared.FilePatch.{FilePatch}
 use Rattle.file_patch.specs.PlainPatch.{PlainChange, PlainPatch, hunks, script, patch_of}
 use Rattle.patch_set.specs.SetView.{SetView}
-use Rattle.header_lines.specs.HeaderText.{header_text}
+use Rattle.flip_patch.specs.HeaderText.{header_text}
 use Rattle.tool_words.specs.PlainJobs.{PlainFilterJob}
 use Rattle.patch_header.specs.Written.{hunk_text}
 use Rattle.format_convert.specs.declared.fault.ConvertFault.{ConvertFault}
 use Rattle.format_convert.specs.declared.fault.ConvertFault.TheVariants.{NoContext, Unfit, Write}
-use Rattle.change_commands.specs.Taken.{has_kept, left_patch}
-use Rattle.change_commands.specs.Blocks.{blocks_in}
-use Rattle.change_commands.specs.Commands.{command_text}
+use Rattle.format_convert.specs.Taken.{has_kept, left_patch}
+use Rattle.format_convert.specs.Blocks.{blocks_in}
+use Rattle.format_convert.specs.Commands.{command_text}
 use Rattle.format_convert.specs.Refusals.{shows_context}
 
 -- the hunks of a change in their canonical texts; a script has none

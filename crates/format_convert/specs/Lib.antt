@@ -1,2 +1,11 @@
 pub mod Refusals
 pub mod Converted
+pub mod Taken
+pub mod Blocks
+pub mod Commands
+pub mod Fitting
+pub mod Walk
+pub mod Fronts
+pub mod Backward
+pub mod Seeing
+pub mod Runs

@@ -2,7 +2,7 @@
 
 ghost use Rattle.patch_set.specs.SetView.{plain_patches};
 ghost use Rattle.tool_words.specs.PlainJobs.{plain_filter_job};
-ghost use Rattle.change_commands.specs.Taken.{left_patches};
+ghost use Rattle.format_convert.specs.Taken.{left_patches};
 ghost use Rattle.format_convert.specs.Refusals.{refusal};
 ghost use Rattle.format_convert.specs.Converted.{Converts, converted};
 

@@ -1,7 +1,7 @@
 //! What forms show.
 
 ghost use Rattle.std.specs.Prelude.{◌≡◌};
-ghost use Rattle.change_commands.specs.Fitting.{is_ed};
+ghost use Rattle.format_convert.specs.Fitting.{is_ed};
 ghost use Rattle.format_convert.specs.Refusals.{is_normal, shows_context};
 
 use hunk_core::Form;

@@ -10,12 +10,12 @@ ghost use Rattle.hunk_core.specs.Turned.{IsLawful};
 ghost use Rattle.outside.specs.Puts.{Puts};
 ghost use Rattle.file_patch.specs.PlainPatch.{AreLawfulHunks, patch_of, row_count};
 ghost use Rattle.filter_choice.specs.Kept.{keeps};
-ghost use Rattle.change_commands.specs.Taken.{flags, kept_hunks, left_patch};
-ghost use Rattle.change_commands.specs.Walk.{IsHunks};
+ghost use Rattle.format_convert.specs.Taken.{flags, kept_hunks, left_patch};
+ghost use Rattle.format_convert.specs.Walk.{IsHunks};
 ghost use Rattle.format_convert.specs.Converted.{hunk_texts};
 ghost use Rattle.patch_header.specs.Written.{hunk_text};
 
-use change_commands::patch_at;
+use crate::patch_at;
 use file_patch::{Change, FilePatch};
 use filter_choice::keeps;
 use hunk_core::{Form, Hunk, Side};

@@ -5,12 +5,12 @@ ghost use Rattle.std.specs.Option.{ForSome};
 ghost use Rattle.patch_set.specs.SetView.{patch_at, plain_patches};
 ghost use Rattle.tool_words.specs.PlainJobs.{plain_filter_job};
 ghost use Rattle.file_patch.specs.PlainPatch.{patch_of, first_opening};
-ghost use Rattle.change_commands.specs.Taken.{has_kept, left_patch, left_patches};
+ghost use Rattle.format_convert.specs.Taken.{has_kept, left_patch, left_patches};
 ghost use Rattle.format_convert.specs.Refusals.{is_unfit, lacks_context, refusal};
 
 use crate::fault::ConvertFault;
 use crate::forms::{is_ed, is_normal, shows_context};
-use change_commands::{has_kept, is_unfit, patch_at};
+use crate::{has_kept, is_unfit, patch_at};
 use file_patch::{Change, FilePatch};
 use hunk_core::Form;
 use patch_set::PatchSet;

@@ -6,14 +6,14 @@ ghost use Rattle.patch_set.specs.SetView.{patch_at};
 ghost use Rattle.tool_words.specs.PlainJobs.{plain_filter_job};
 ghost use Rattle.outside.specs.Puts.{Puts};
 ghost use Rattle.file_patch.specs.PlainPatch.{patch_of};
-ghost use Rattle.header_lines.specs.HeaderText.{header_text};
-ghost use Rattle.change_commands.specs.Taken.{left_patch};
+ghost use Rattle.flip_patch.specs.HeaderText.{header_text};
+ghost use Rattle.format_convert.specs.Taken.{left_patch};
 ghost use Rattle.format_convert.specs.Converted.{change_text, converted, is_written, written, written_if};
 
 use crate::forms::shows_context;
 use crate::hunks::put_hunks;
-use change_commands::{has_blocks, has_kept, put_commands};
-use header_lines::put_header_lines;
+use crate::{has_blocks, has_kept, put_commands};
+use flip_patch::put_header_lines;
 use hunk_core::{Form, Side};
 use outside::{Failed, Sink};
 use patch_set::PatchSet;

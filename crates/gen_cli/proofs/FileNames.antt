@@ -5,7 +5,7 @@ use Rattle.std.proofs.lemmas.List.FromFn.{map-range_with_len_more, get_or-map-ra
 use Rattle.std.specs.List.{range_with_len}
 use Rattle.outside.specs.Files.{is_temp, temp_of}
 use Rattle.patch_gen.specs.Patches.{file_name}
-use Rattle.gen_law.proofs.Targets.{file_lasting}
+use Rattle.reading_law.proofs.Targets.{file_lasting}
 use Rattle.gen_cli.specs.declared.places.Place.{Place}
 use Rattle.gen_cli.specs.Preparing.{ArePlaces}
 

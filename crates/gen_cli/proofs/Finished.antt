@@ -17,11 +17,11 @@ use Rattle.line_store.specs.declared.fault.OpenFault.{OpenFault}
 use Rattle.line_store.specs.declared.fault.OpenFault.TheVariants as open_fault
 use Rattle.patch_gen.specs.Tree.{made}
 use Rattle.patch_options.specs.PlainJob.{PlainOptions}
-use Rattle.patch_effects.specs.Making.{IsTidy, TidyAfter}
-use Rattle.patch_effects.specs.declared.fault.RunFault.{RunFault}
-use Rattle.patch_effects.specs.declared.fault.RunFault.TheVariants as runs
-use Rattle.patch_effects.proofs.EffectLists.{made_both}
-use Rattle.patch_effects.proofs.Tidy.{tidy_both, untouched_tidy}
+use Rattle.patch_task.specs.Making.{IsTidy, TidyAfter}
+use Rattle.patch_task.specs.declared.fault.RunFault.{RunFault}
+use Rattle.patch_task.specs.declared.fault.RunFault.TheVariants as runs
+use Rattle.patch_task.proofs.EffectLists.{made_both}
+use Rattle.patch_task.proofs.Tidy.{tidy_both, untouched_tidy}
 use Rattle.patch_set.specs.SetView.{SetView}
 use Rattle.patch_run.specs.Applied.{Receipt}
 use Rattle.patch_run.specs.Run.{Run}
@@ -30,8 +30,8 @@ use Rattle.tool_words.specs.PlainJobs.{PlainGenJob}
 use Rattle.run_answers.specs.declared.why.Why.{Why}
 use Rattle.run_answers.specs.declared.why.Why.TheVariants.{Done, Rejected, LongLine, FileTooLong, WriteFault, TreeFault, Memory}
 use Rattle.run_answers.specs.Answers.{is_fault, is_own, of_run, is_through}
-use Rattle.run_outcome.specs.Outcome.{end_of, receipt_if}
-use Rattle.run_outcome.proofs.Receipts.{receipt_end, receipt_fault}
+use Rattle.planned_run.specs.Outcome.{end_of, receipt_if}
+use Rattle.planned_run.proofs.Receipts.{receipt_end, receipt_fault}
 use Rattle.planned_run.specs.Finishes.{IsToldTo, HasPlanCause, LeavesVerdicts, Finishes, verdicts_of}
 use Rattle.planned_run.specs.Finishes as finishes
 use Rattle.gen_cli.specs.Jobs.{options_for}

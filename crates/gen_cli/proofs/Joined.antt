@@ -11,14 +11,14 @@ use Rattle.outside.specs.Quiet.{Effect, HasMade, after_all}
 use Rattle.outside.proofs.Views.{rises_then}
 use Rattle.outside.proofs.Effects.{since_longer, tells_longer}
 use Rattle.file_patch.specs.PlainPatch.{PlainPatch, patch_of}
-use Rattle.patch_effects.proofs.EffectLists.{leaves_after, made_both, tells_after}
-use Rattle.patch_effects.proofs.Tidy.{tidy_both}
+use Rattle.patch_task.proofs.EffectLists.{leaves_after, made_both, tells_after}
+use Rattle.patch_task.proofs.Tidy.{tidy_both}
 use Rattle.patch_text.specs.Patches.{patches_of}
 use Rattle.patch_set.specs.Asked.{ways_of}
 use Rattle.patch_set.specs.Named.{known_names, output_of}
 use Rattle.patch_set.specs.SetView.{SetView, plain_patches}
 use Rattle.patch_set.specs.declared.fault.SetFault.{SetFault}
-use Rattle.patch_effects.specs.declared.fault.RunFault.{RunFault}
+use Rattle.patch_task.specs.declared.fault.RunFault.{RunFault}
 use Rattle.patch_run.specs.Applied.{Receipt}
 use Rattle.patch_run.specs.Run.{Run, items_of}
 use Rattle.patch_run.specs.Doing.{IsCutAt}
@@ -29,10 +29,10 @@ use Rattle.run_answers.specs.Answers.{is_ended, is_own, is_early, of_run}
 use Rattle.run_answers.specs.Moments.{FirstPart, LeavesAllowed}
 use Rattle.run_answers.specs.Worlds.{world}
 use Rattle.planned_run.specs.Scratches.{scratch_behind_all}
-use Rattle.run_outcome.specs.Outcome.{Outcome, items_for, run_for}
-use Rattle.run_outcome.specs.Answer.{HasReceipt, why_of, receipt_of}
-use Rattle.run_outcome.proofs.Matching.{cut-match, run-match}
-use Rattle.run_outcome.proofs.Receipts.{memory_end}
+use Rattle.planned_run.specs.Outcome.{Outcome, items_for, run_for}
+use Rattle.planned_run.specs.Answer.{HasReceipt, why_of, receipt_of}
+use Rattle.planned_run.proofs.Matching.{cut-match, run-match}
+use Rattle.planned_run.proofs.Receipts.{memory_end}
 use Rattle.planned_run.specs.Finishes.{IsNotBegun, IsToldTo}
 use Rattle.gen_cli.specs.Jobs.{options_for}
 use Rattle.gen_cli.specs.Command.{command, file_puts, patch_text, on_patches, on_refusal, run_over, told_of}

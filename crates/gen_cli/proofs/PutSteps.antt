@@ -13,8 +13,8 @@ use Rattle.outside.specs.Quiet.Effect.{Put}
 use Rattle.outside.proofs.Names.{lasting-same}
 use Rattle.outside.proofs.Views.{rises_then}
 use Rattle.outside.proofs.Effects.{after_all-push, made_none, made_since, made_tells, made_tells_all, since_longer, tells_longer}
-use Rattle.patch_effects.specs.Making.{IsTidy}
-use Rattle.patch_effects.proofs.Tidy.{tidy_none, tidy_both, put_if_tidy}
+use Rattle.patch_task.specs.Making.{IsTidy}
+use Rattle.patch_task.proofs.Tidy.{tidy_none, tidy_both, put_if_tidy}
 use Rattle.tool_words.specs.PlainJobs.{PlainGenJob}
 use Rattle.patch_gen.specs.Patches.{file_name}
 use Rattle.patch_gen.specs.Tree.{made_file}

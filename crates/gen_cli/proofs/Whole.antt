@@ -8,7 +8,7 @@ use Rattle.outside.specs.ScratchView.{ScratchView, ScratchPasses, scratch_passes
 use Rattle.outside.specs.Quiet.{IsQuiet}
 use Rattle.patch_options.specs.declared.options.WordFault.{WordFault}
 use Rattle.tool_words.specs.PlainJobs.{PlainGenJob}
-use Rattle.patch_effects.specs.Making.{IsTidy}
+use Rattle.patch_task.specs.Making.{IsTidy}
 use Rattle.patch_run.specs.Applied.{Receipt}
 use Rattle.run_answers.specs.declared.why.Why.{Why}
 use Rattle.run_answers.specs.declared.why.Why.TheVariants.{Done, Rejected, Usage, Malformed, Garbage, EdReverse, OutMany, Reserved, NoPatchFile, TooLong, LongLine, FileTooLong, BadPattern, NoContext, Unfit, BadState, StackEnd, StackName, ReadFault, WriteFault, TreeFault, ScratchFault, Disagree, Memory}
@@ -18,9 +18,9 @@ use Rattle.run_answers.specs.Worlds.{World, world, NoneFailed}
 use Rattle.run_answers.proofs.Names.{old_or_new}
 use Rattle.run_answers.proofs.Opens.{tidy_same}
 use Rattle.planned_run.specs.Scratches.{scratch_behind_all}
-use Rattle.run_outcome.specs.Outcome.{Outcome, refused}
-use Rattle.run_outcome.specs.Answer.{HasReceipt, IsAnswer}
-use Rattle.run_outcome.proofs.Entry.{nothing_yet, refused_so}
+use Rattle.planned_run.specs.Outcome.{Outcome, refused}
+use Rattle.planned_run.specs.Answer.{HasReceipt, IsAnswer}
+use Rattle.planned_run.proofs.Entry.{nothing_yet, refused_so}
 use Rattle.gen_cli.specs.Jobs.{AsksFor, options_for}
 use Rattle.gen_cli.specs.Command.{command}
 use Rattle.gen_cli.specs.Worlds.{Tells}

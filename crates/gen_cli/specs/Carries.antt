@@ -12,8 +12,8 @@ use Rattle.tool_words.specs.PlainJobs.{PlainGenJob}
 use Rattle.patch_text.specs.Patches.{patches_of}
 use Rattle.patch_set.specs.Asked.{ways_of}
 use Rattle.patch_set.specs.Named.{known_names, output_of}
-use Rattle.patch_effects.specs.Making.{IsTidy}
-use Rattle.patch_effects.specs.declared.fault.RunFault.{RunFault}
+use Rattle.patch_task.specs.Making.{IsTidy}
+use Rattle.patch_task.specs.declared.fault.RunFault.{RunFault}
 use Rattle.patch_run.specs.Applied.{Receipt}
 use Rattle.patch_run.specs.Run.{Run}
 use Rattle.patch_run.specs.Doing.{IsCutAt, ReceivesBehind}
@@ -23,8 +23,8 @@ use Rattle.run_answers.specs.Answers.{of_run, is_early, is_ended, is_fault, is_o
 use Rattle.run_answers.specs.Moments.{FirstPart, IsAsAtEntry, LeavesAllowed, LeavesOldOrNew}
 use Rattle.run_answers.specs.Worlds.{World, NoneFailed}
 use Rattle.planned_run.specs.Scratches.{is_paged, scratch_behind_all}
-use Rattle.run_outcome.specs.Outcome.{Outcome, items_for}
-use Rattle.run_outcome.specs.Answer.{HasReceipt, IsAnswer}
+use Rattle.planned_run.specs.Outcome.{Outcome, items_for}
+use Rattle.planned_run.specs.Answer.{HasReceipt, IsAnswer}
 use Rattle.gen_cli.specs.Jobs.{AsksFor, options_for}
 use Rattle.gen_cli.specs.Command.{command, file_puts, patch_text, run_over, summary}
 use Rattle.gen_cli.specs.Worlds.{Tells}

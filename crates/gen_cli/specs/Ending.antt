@@ -10,8 +10,8 @@ use Rattle.outside.specs.ScratchView.{ScratchView, ScratchPasses}
 use Rattle.outside.specs.Quiet.{IsQuiet, TellsPrefix, LeavesPrefix}
 use Rattle.tool_words.specs.PlainJobs.{PlainGenJob}
 use Rattle.patch_set.specs.SetView.{SetView}
-use Rattle.patch_effects.specs.Making.{IsTidy}
-use Rattle.patch_effects.specs.declared.fault.RunFault.{RunFault}
+use Rattle.patch_task.specs.Making.{IsTidy}
+use Rattle.patch_task.specs.declared.fault.RunFault.{RunFault}
 use Rattle.patch_run.specs.Applied.{Receipt}
 use Rattle.patch_run.specs.Run.{Run, items_of, set_run}
 use Rattle.patch_run.specs.Doing.{IsCutAt, IsWholeOf}
@@ -19,8 +19,8 @@ use Rattle.run_answers.specs.declared.why.Why.{Why}
 use Rattle.run_answers.specs.declared.why.Why.TheVariants.{Done, Rejected, Usage, Malformed, Garbage, EdReverse, OutMany, Reserved, NoPatchFile, TooLong, LongLine, FileTooLong, BadPattern, NoContext, Unfit, BadState, StackEnd, StackName, ReadFault, WriteFault, TreeFault, ScratchFault, Disagree, Memory}
 use Rattle.run_answers.specs.Answers.{is_fault, is_own, is_through, of_run}
 use Rattle.planned_run.specs.Scratches.{is_paged, scratch_behind_all}
-use Rattle.run_outcome.specs.Outcome.{Outcome}
-use Rattle.run_outcome.specs.Answer.{HasReceipt, why_of, receipt_of}
+use Rattle.planned_run.specs.Outcome.{Outcome}
+use Rattle.planned_run.specs.Answer.{HasReceipt, why_of, receipt_of}
 use Rattle.planned_run.specs.Finishes.{IsNotBegun, IsToldTo}
 use Rattle.gen_cli.specs.Jobs.{options_for}
 use Rattle.gen_cli.specs.Command.{told_of}

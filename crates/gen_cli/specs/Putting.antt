@@ -3,7 +3,7 @@ use Rattle.std.specs.Prelude.{List, Result, IsErr, OnOk}
 use Rattle.outside.specs.TreeView.{TreeView, Passes, Rises}
 use Rattle.outside.specs.Calls.{Becomes}
 use Rattle.outside.specs.Quiet.{Effect, IsQuiet, TellsEither, TellsPrefix, LeavesEitherSince, LeavesPrefix, after, after_all}
-use Rattle.patch_effects.specs.Making.{IsTidy}
+use Rattle.patch_task.specs.Making.{IsTidy}
 
 -- one effect over a quiet tree
 pub record PutsOne {R E : Type 0} (e : Effect) (t u : TreeView) (result : Result R E) : Type 0 where

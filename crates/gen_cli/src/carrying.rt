@@ -5,7 +5,7 @@ ghost use Rattle.patch_gen.specs.Tree.{made};
 ghost use Rattle.patch_options.specs.PlainJob.{plain_options};
 ghost use Rattle.tool_words.specs.PlainJobs.{plain_gen_job};
 ghost use Rattle.run_answers.specs.Worlds.{world};
-ghost use Rattle.run_outcome.specs.Answer.{why_of, receipt_of};
+ghost use Rattle.planned_run.specs.Answer.{why_of, receipt_of};
 ghost use Rattle.planned_run.specs.Scratches.{has_scratch};
 ghost use Rattle.gen_cli.specs.Jobs.{options_for};
 ghost use Rattle.gen_cli.specs.Summary.{summary_of};

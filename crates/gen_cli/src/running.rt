@@ -5,7 +5,7 @@ ghost use Rattle.patch_options.specs.declared.options.WordFault.{WordFault};
 ghost use Rattle.tool_words.specs.PlainJobs.{plain_gen_job, IsSize};
 ghost use Rattle.run_answers.specs.Answers.{exit_status, of_words};
 ghost use Rattle.run_answers.specs.Worlds.{world};
-ghost use Rattle.run_outcome.specs.Answer.{why_of, receipt_of};
+ghost use Rattle.planned_run.specs.Answer.{why_of, receipt_of};
 ghost use Rattle.planned_run.specs.Scratches.{has_scratch};
 ghost use Rattle.gen_cli.specs.Jobs.{job_of, uses_scratch};
 ghost use Rattle.gen_cli.specs.Carries.{Carries};
@@ -15,8 +15,8 @@ use crate::reading::read_job;
 use crate::ready::make_ready;
 use outside::{Scratch, Sink, Tree};
 use patch_run::Applied;
+use planned_run::{Exit, exit_of};
 use run_answers::{Why, settle};
-use run_outcome::{Exit, exit_of};
 use std::alloc::Global;
 use tool_words::GenJob;
 

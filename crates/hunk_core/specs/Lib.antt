@@ -9,3 +9,5 @@ pub mod Writing
 pub mod FirstFault
 pub mod OptionSteps
 pub mod Refusals
+pub mod Letters
+pub mod Spans

@@ -7,7 +7,7 @@ use Rattle.outside.specs.Calls.{IsUntouched}
 use Rattle.outside.proofs.Views.{rises_then}
 use Rattle.hunk_core.specs.declared.Side.{Side}
 use Rattle.header_record.specs.declared.Action.{Action}
-use Rattle.target_names.specs.declared.derived.Target.{Target}
+use Rattle.file_patch.specs.declared.derived.Target.{Target}
 use Rattle.file_patch.specs.Actions.{is_moved}
 use Rattle.name_choice.specs.declared.Choice.{Choice}
 use Rattle.name_choice.specs.declared.Choice.TheVariants.{Existing}

@@ -8,10 +8,9 @@ ghost use Rattle.name_choice.specs.Choice.{choice_among, created, existing, firs
 
 use crate::Choice;
 use crate::search::{best_existing, best_new, first_existing};
-use file_patch::FilePatch;
+use file_patch::{FilePatch, Target};
 use hunk_core::Side;
 use outside::{Failed, Tree};
-use target_names::Target;
 
 /// Chooses where the file patch is taken from this side.
 pub fn choose_among<T: Tree>(

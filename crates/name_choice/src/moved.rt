@@ -7,10 +7,10 @@ ghost use Rattle.name_choice.specs.Choice.{existing_at, existing_if, is_there_at
 
 use crate::Choice;
 use crate::search::is_there;
+use file_patch::Target;
 use header_record::Action;
 use hunk_core::Side;
 use outside::{Failed, Tree};
-use target_names::Target;
 
 /// Chooses the name that the file has, where the rename or the copy is taken from this side.
 pub fn choose_moved<T: Tree>(

@@ -11,17 +11,17 @@ use Rattle.hunk_core.specs.declared.Side.{Side}
 use Rattle.hunk_core.specs.declared.Side.TheVariants.{Forward, Reversed}
 use Rattle.hunk_core.specs.PlainHunk.{PlainHunk}
 use Rattle.hunk_core.specs.LineTests.{after, ends_line}
-use Rattle.diff_command.specs.declared.Action.{Action}
-use Rattle.diff_command.specs.declared.Action.TheVariants.{Add, Change, Delete}
-use Rattle.diff_command.specs.Spans.{span_text}
+use Rattle.hunk_core.specs.declared.command.Action.{Action}
+use Rattle.hunk_core.specs.declared.command.Action.TheVariants.{Add, Change, Delete}
+use Rattle.hunk_core.specs.Spans.{span_text}
 use Rattle.hunk_core.specs.Writing.{no_newline}
 use Rattle.line_list.proofs.Pieces.{longer}
 use Rattle.line_list.proofs.WholeLines.{NoFeed, shorter, closes, line-prefix, LinesFit, AreLines, lines-both, lines-whole}
 use Rattle.hunk_core.proofs.LineEnds.{line-ends, no-end, clean, backslash, no-newline-line}
 use Rattle.hunk_core.proofs.TextLemmas.{some-not}
-use Rattle.diff_command.proofs.CommandLemmas.{letter-clean, span-clean}
+use Rattle.hunk_core.proofs.CommandLemmas.{letter-clean, span-clean}
 use Rattle.normal_form.specs.Stretches.{marks, is_divider}
-use Rattle.diff_command.specs.Letters.{letter}
+use Rattle.hunk_core.specs.Letters.{letter}
 use Rattle.normal_form.specs.Grammar.{SpellsLine, SpellsStretch, SpellsBody, SpellsSpan, SpellsCommand, command_of}
 use Rattle.normal_form.specs.Canonical.{action_for, command_text, divider_text, line_text, lines_text}
 

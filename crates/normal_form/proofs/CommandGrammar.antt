@@ -7,16 +7,16 @@ use Rattle.line_list.proofs.Choices.{chosen, some_is}
 use Rattle.num_text.specs.declared.range.NumberRange.{NumberRange}
 use Rattle.num_text.specs.NumberRanges.{range_at, SpellsRange}
 use Rattle.num_text.proofs.RangeGrammar.{range-takes, StopsRange, ranged, range-again, stops-nil, range-single}
-use Rattle.diff_command.specs.declared.Action.{Action}
+use Rattle.hunk_core.specs.declared.command.Action.{Action}
 use Rattle.hunk_core.specs.Rules.{is_too_large}
 use Rattle.hunk_core.proofs.OptionLemmas.{some_step}
 use Rattle.hunk_core.proofs.FaultSteps.{pass}
-use Rattle.diff_command.proofs.CommandLemmas.{action-takes, action-again, stops-letter}
+use Rattle.hunk_core.proofs.CommandLemmas.{action-takes, action-again, stops-letter}
 use Rattle.normal_form.specs.declared.command.Parts.{Parts}
 use Rattle.normal_form.specs.declared.command.Command.{Command}
-use Rattle.diff_command.specs.Letters.{action_at, is_line_end}
+use Rattle.hunk_core.specs.Letters.{action_at, is_line_end}
 use Rattle.normal_form.specs.Commands.{whole, parts_at, takes_lines, is_bad_range, size, command, placed, checked, from_parts, opening}
-use Rattle.diff_command.specs.Letters.{letter}
+use Rattle.hunk_core.specs.Letters.{letter}
 use Rattle.normal_form.specs.Grammar.{SpellsSpan, SpellsCommand, AreFair}
 
 -- ---- steps

@@ -12,8 +12,8 @@ use Rattle.hunk_core.specs.LineTests.{after, unended, after_backslash}
 use Rattle.hunk_core.specs.Reading.{◌>>=◌, Fault, fault, Ahead, ahead}
 use Rattle.hunk_core.proofs.ReadSteps.{ok_is}
 use Rattle.hunk_core.proofs.TextLemmas.{after-takes}
-use Rattle.diff_command.specs.declared.Action.{Action}
-use Rattle.diff_command.specs.declared.Action.TheVariants.{Add, Change, Delete}
+use Rattle.hunk_core.specs.declared.command.Action.{Action}
+use Rattle.hunk_core.specs.declared.command.Action.TheVariants.{Add, Change, Delete}
 use Rattle.hunk_core.specs.Refusals.{unmarked}
 use Rattle.hunk_core.proofs.FaultSteps.{failed, bind_err, err_is}
 use Rattle.hunk_core.proofs.Filling.{IsInside, none_in_front, front_with, first_inside, past_inside, none_inside}

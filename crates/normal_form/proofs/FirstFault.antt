@@ -19,8 +19,8 @@ use Rattle.hunk_core.proofs.FaultSteps.{failed, bind_err, with_rest, err_is, put
 use Rattle.hunk_core.proofs.Agreeing.{agree_head, agree_less, agree_front}
 use Rattle.hunk_core.proofs.Steady.{one_line, FailsHere, peek_by}
 use Rattle.normal_form.specs.FirstFault.{CanGoOn}
-use Rattle.diff_command.specs.declared.Action.{Action}
-use Rattle.diff_command.specs.declared.Action.TheVariants.{Add, Change, Delete}
+use Rattle.hunk_core.specs.declared.command.Action.{Action}
+use Rattle.hunk_core.specs.declared.command.Action.TheVariants.{Add, Change, Delete}
 use Rattle.normal_form.specs.declared.command.Command.{Command}
 use Rattle.normal_form.specs.declared.command.Parts.{Parts}
 use Rattle.normal_form.specs.Commands.{takes_lines, is_bad_range, command, placed, from_parts, parts_at, opening, is_command}

@@ -13,8 +13,8 @@ use Rattle.hunk_core.specs.Reading.{Fault, Gives, ◌>>=◌, Ahead, ahead}
 use Rattle.hunk_core.proofs.ReadSteps.{bind_ok, guard_ok, must_ok, ok_is}
 use Rattle.line_list.proofs.Choices.{chosen}
 use Rattle.num_text.specs.NumberRanges.{range_at}
-use Rattle.diff_command.specs.declared.Action.{Action}
-use Rattle.diff_command.specs.declared.Action.TheVariants.{Add, Change, Delete}
+use Rattle.hunk_core.specs.declared.command.Action.{Action}
+use Rattle.hunk_core.specs.declared.command.Action.TheVariants.{Add, Change, Delete}
 use Rattle.hunk_core.specs.Refusals.{settled}
 use Rattle.hunk_core.proofs.OptionLemmas.{is_none}
 use Rattle.hunk_core.proofs.SideLemmas.{hunk_is}

@@ -11,8 +11,8 @@ use Rattle.hunk_core.specs.declared.Side.TheVariants.{Forward, Reversed}
 use Rattle.hunk_core.specs.declared.fault.FormFault.{FormFault}
 use Rattle.hunk_core.specs.declared.fault.FormFault.TheVariants as errors
 use Rattle.hunk_core.specs.Refusals.{unmarked}
-use Rattle.diff_command.specs.declared.Action.{Action}
-use Rattle.diff_command.specs.declared.Action.TheVariants.{Change}
+use Rattle.hunk_core.specs.declared.command.Action.{Action}
+use Rattle.hunk_core.specs.declared.command.Action.TheVariants.{Change}
 use Rattle.hunk_core.specs.LineTests.{unended, after_backslash}
 use Rattle.hunk_core.specs.PlainHunk.{Marked}
 use Rattle.hunk_core.specs.Reading.{Fault, fault, Fails, Ahead, ahead}

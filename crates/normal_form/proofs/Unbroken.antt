@@ -8,8 +8,8 @@ use Rattle.hunk_core.specs.PlainHunk.{Marked, PlainHunk, old_lines, new_lines}
 use Rattle.hunk_core.specs.LineTests.{ends_line}
 use Rattle.hunk_core.specs.Rules.{starts_at_zero, runs_over, lacks_inner_end, first_broken}
 use Rattle.hunk_core.proofs.PieceLemmas.{pieces-first, pieces-last}
-use Rattle.diff_command.specs.declared.Action.{Action}
-use Rattle.diff_command.specs.declared.Action.TheVariants.{Add, Change, Delete}
+use Rattle.hunk_core.specs.declared.command.Action.{Action}
+use Rattle.hunk_core.specs.declared.command.Action.TheVariants.{Add, Change, Delete}
 use Rattle.line_list.proofs.WholeLines.{whole-before}
 use Rattle.hunk_core.proofs.RuleLemmas.{no-rule, zero-start, no-run}
 use Rattle.hunk_core.proofs.LineEnds.{line-ends, lacks-step}

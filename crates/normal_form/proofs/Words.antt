@@ -12,9 +12,9 @@ use Rattle.num_text.specs.declared.range.NumberRange.{NumberRange}
 use Rattle.num_text.specs.NumberRanges.{one, two, with_second, behind_first, from_first, range_at, SpellsRange}
 use Rattle.num_text.proofs.Runs.{number-takes, number-again}
 use Rattle.num_text.proofs.RangeGrammar.{StopsRange, range-first}
-use Rattle.diff_command.specs.Letters.{letter, action_at, is_line_end}
+use Rattle.hunk_core.specs.Letters.{letter, action_at, is_line_end}
 use Rattle.hunk_core.proofs.OptionLemmas.{some_step}
-use Rattle.diff_command.proofs.CommandLemmas.{action-takes, action-again, stops-letter}
+use Rattle.hunk_core.proofs.CommandLemmas.{action-takes, action-again, stops-letter}
 use Rattle.normal_form.specs.declared.command.Parts.{Parts}
 use Rattle.normal_form.specs.Commands.{parts_at, is_command}
 use Rattle.normal_form.specs.Stretches.{marks, ends_divider, is_divider}

@@ -8,12 +8,12 @@ use Rattle.hunk_core.specs.declared.Side.TheVariants.{Forward, Reversed}
 use Rattle.hunk_core.specs.PlainHunk.{PlainHunk, old_lines, new_lines}
 use Rattle.hunk_core.specs.Turned.{is_drop, is_add}
 use Rattle.hunk_core.specs.LineTests.{ends_line}
-use Rattle.diff_command.specs.declared.Action.{Action}
-use Rattle.diff_command.specs.declared.Action.TheVariants.{Add, Change, Delete}
+use Rattle.hunk_core.specs.declared.command.Action.{Action}
+use Rattle.hunk_core.specs.declared.command.Action.TheVariants.{Add, Change, Delete}
 use Rattle.hunk_core.specs.Writing.{no_newline}
-use Rattle.diff_command.specs.Spans.{span_text}
+use Rattle.hunk_core.specs.Spans.{span_text}
 use Rattle.normal_form.specs.Stretches.{marks}
-use Rattle.diff_command.specs.Letters.{letter}
+use Rattle.hunk_core.specs.Letters.{letter}
 use Rattle.normal_form.specs.Grammar.{on_side, SpellsHunk, IsPiece}
 
 -- each of these lines is added

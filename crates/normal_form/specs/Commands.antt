@@ -4,11 +4,11 @@ use Rattle.hunk_core.specs.declared.BadKind.{BadKind}
 use Rattle.hunk_core.specs.declared.BadKind.TheVariants as kinds
 use Rattle.hunk_core.specs.declared.Side.{Side}
 use Rattle.hunk_core.specs.declared.Side.TheVariants.{Forward, Reversed}
-use Rattle.diff_command.specs.Letters.{action_at, is_line_end}
+use Rattle.hunk_core.specs.Letters.{action_at, is_line_end}
 use Rattle.num_text.specs.declared.range.NumberRange.{NumberRange}
 use Rattle.num_text.specs.NumberRanges.{range_at, HasSmallEnds}
-use Rattle.diff_command.specs.declared.Action.{Action}
-use Rattle.diff_command.specs.declared.Action.TheVariants.{Add, Change, Delete}
+use Rattle.hunk_core.specs.declared.command.Action.{Action}
+use Rattle.hunk_core.specs.declared.command.Action.TheVariants.{Add, Change, Delete}
 use Rattle.hunk_core.specs.Rules.{is_too_large}
 use Rattle.hunk_core.specs.OptionSteps.{◌>>=◌}
 use Rattle.normal_form.specs.declared.command.Parts.{Parts}

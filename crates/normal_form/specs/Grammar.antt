@@ -6,11 +6,11 @@ use Rattle.hunk_core.specs.PlainHunk.{Marked, PlainHunk}
 use Rattle.hunk_core.specs.LineTests.{marked, is_backslash, after_backslash}
 use Rattle.num_text.specs.Numbers.{IsNumeral}
 use Rattle.num_text.specs.NumberRanges.{SpellsRange}
-use Rattle.diff_command.specs.declared.Action.{Action}
-use Rattle.diff_command.specs.declared.Action.TheVariants.{Add, Change, Delete}
+use Rattle.hunk_core.specs.declared.command.Action.{Action}
+use Rattle.hunk_core.specs.declared.command.Action.TheVariants.{Add, Change, Delete}
 use Rattle.hunk_core.specs.Sides.{own_mark}
 use Rattle.normal_form.specs.declared.command.Command.{Command}
-use Rattle.diff_command.specs.Letters.{letter, is_line_end}
+use Rattle.hunk_core.specs.Letters.{letter, is_line_end}
 use Rattle.normal_form.specs.Commands.{takes_lines, Fits}
 use Rattle.normal_form.specs.Stretches.{marks, is_divider}
 use Rattle.normal_form.specs.Hunks.{begins_hunk}

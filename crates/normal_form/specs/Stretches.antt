@@ -6,9 +6,9 @@ use Rattle.hunk_core.specs.declared.BadKind.TheVariants as kinds
 use Rattle.hunk_core.specs.PlainHunk.{Marked}
 use Rattle.hunk_core.specs.LineTests.{after, marked, unended, after_backslash}
 use Rattle.hunk_core.specs.Reading.{Fault, fault, ◌>>=◌, Ahead, ahead}
-use Rattle.diff_command.specs.declared.Action.{Action}
-use Rattle.diff_command.specs.declared.Action.TheVariants.{Add, Change, Delete}
-use Rattle.diff_command.specs.Letters.{is_line_end}
+use Rattle.hunk_core.specs.declared.command.Action.{Action}
+use Rattle.hunk_core.specs.declared.command.Action.TheVariants.{Add, Change, Delete}
+use Rattle.hunk_core.specs.Letters.{is_line_end}
 use Rattle.hunk_core.specs.Sides.{own_mark}
 use Rattle.hunk_core.specs.Refusals.{unmarked}
 

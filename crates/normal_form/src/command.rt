@@ -5,8 +5,7 @@ ghost use Rattle.num_text.specs.NumberRanges.{HasSmallEnds};
 ghost use Rattle.normal_form.specs.Commands.{Fits, HaveSmallEnds, IsSmall, parts_at, takes_lines, is_bad_range, size, command, checked, opening, is_command};
 ghost use Rattle.hunk_core.specs.Rules.{is_too_large};
 
-use diff_command::{Action, action_of, ends_here};
-use hunk_core::{BadKind, Side};
+use hunk_core::{Action, BadKind, Side, action_of, ends_here};
 use num_text::{NumberRange, read_range};
 
 /// A command as it is written.

@@ -5,15 +5,14 @@ ghost use Rattle.hunk_core.specs.PlainHunk.{marked_of, body_of};
 ghost use Rattle.hunk_core.specs.Turned.{LiesIn};
 ghost use Rattle.hunk_core.specs.Reading.{Gives, IsPlace, ahead_of};
 ghost use Rattle.hunk_core.specs.LineTests.{after, is_backslash};
-ghost use Rattle.diff_command.specs.declared.Action.{Action};
+ghost use Rattle.hunk_core.specs.declared.command.Action.{Action};
 ghost use Rattle.normal_form.specs.Stretches.{marks, marked_at, line_at, stretch_at, divider_at, is_divider};
 ghost use Rattle.hunk_core.specs.Sides.{own_mark};
 ghost use Rattle.hunk_core.specs.Refusals.{unmarked};
 
-use diff_command::{Action, ends_here};
 use hunk_core::{
-    BadKind, FormFault, HunkLine, Mark, Place, Side, after_prefix, backslash_end, bad,
-    begins_backslash, without_feed,
+    Action, BadKind, FormFault, HunkLine, Mark, Place, Side, after_prefix, backslash_end, bad,
+    begins_backslash, ends_here, without_feed,
 };
 use line_list::{Span, next_line};
 

@@ -12,11 +12,10 @@ ghost use Rattle.hunk_core.specs.Rules.{HasNoInnerFeed, first_broken};
 ghost use Rattle.outside.specs.Puts.{Puts};
 ghost use Rattle.normal_form.specs.Stretches.{marks};
 ghost use Rattle.normal_form.specs.Canonical.{are_added, drops_come_first, action_for, command_text, divider_text, line_text, canonical, in_order, SpellsFirst};
-ghost use Rattle.diff_command.specs.Spans.{span_text};
+ghost use Rattle.hunk_core.specs.Spans.{span_text};
 
 use arrayvec::ArrayVec;
-use diff_command::{Action, letter_of};
-use hunk_core::{Hunk, HunkLine, Mark, Side, add_piece, has_feed, is_taken};
+use hunk_core::{Action, Hunk, HunkLine, Mark, Side, add_piece, has_feed, is_taken, letter_of};
 use line_list::Span;
 use num_text::put_number;
 use outside::{Failed, Sink, put_all};

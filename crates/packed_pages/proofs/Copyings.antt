@@ -11,15 +11,15 @@ use Rattle.line_store.specs.declared.fault.OpenFault.{OpenFault}
 use Rattle.line_store.specs.declared.fault.OpenFault.TheVariants.{Tree, Scratch, LongLine, FileTooLong, Disagree, Memory}
 use Rattle.outside.specs.TreeView.{TreeView}
 use Rattle.outside.specs.ScratchView.{ScratchView, ScratchPasses, overwritten}
-use Rattle.file_pieces.specs.declared.room.Room.{Room}
-use Rattle.file_pieces.specs.Records.{longest, padded}
-use Rattle.file_pieces.specs.Reading.{IsPart, IsWhole, IsTakeFault}
-use Rattle.file_pieces.specs.Room.{no_room, room_with, room_from, page_count, HasRoom}
-use Rattle.file_pieces.proofs.Cuts.{part-line, slice-length}
-use Rattle.file_pieces.proofs.LongLines.{longest-behind}
-use Rattle.file_pieces.proofs.Records.{over-end}
-use Rattle.file_pieces.proofs.Rooms.{room-append, rooms-up}
-use Rattle.file_pieces.proofs.Windows.{told-before}
+use Rattle.page_pair.specs.declared.room.Room.{Room}
+use Rattle.page_pair.specs.Records.{longest, padded}
+use Rattle.page_pair.specs.Reading.{IsPart, IsWhole, IsTakeFault}
+use Rattle.page_pair.specs.Room.{no_room, room_with, room_from, page_count, HasRoom}
+use Rattle.page_pair.proofs.Cuts.{part-line, slice-length}
+use Rattle.page_pair.proofs.LongLines.{longest-behind}
+use Rattle.page_pair.proofs.Records.{over-end}
+use Rattle.page_pair.proofs.Rooms.{room-append, rooms-up}
+use Rattle.page_pair.proofs.Windows.{told-before}
 use Rattle.packed_pages.specs.declared.layout.Layout.{Layout}
 use Rattle.packed_pages.specs.declared.filling.Filling.{Filling}
 use Rattle.packed_pages.specs.Packs.{packed_record, records, joined, begun, page_with, entries_from, bytes_of, pages_of}

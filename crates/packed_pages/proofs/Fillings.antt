@@ -10,12 +10,12 @@ use Rattle.std.proofs.Math.Seq.{take-append_seam, drop-append-add, get_or-append
 use Rattle.std.specs.List.{flat_map}
 use Rattle.std.specs.Int.{w32, w64, to_le_bytes}
 use Rattle.outside.specs.ScratchView.{overwritten}
-use Rattle.file_pieces.specs.declared.room.Room.{Room}
-use Rattle.file_pieces.specs.Room.{no_room, room_with}
-use Rattle.file_pieces.specs.Records.{padded, record_of, Extends}
-use Rattle.file_pieces.proofs.Records.{over-length, padded-length}
-use Rattle.file_pieces.proofs.Rooms.{room-fits, room-next, room-append}
-use Rattle.file_pieces.proofs.Windows.{told-before}
+use Rattle.page_pair.specs.declared.room.Room.{Room}
+use Rattle.page_pair.specs.Room.{no_room, room_with}
+use Rattle.page_pair.specs.Records.{padded, record_of, Extends}
+use Rattle.page_pair.proofs.Records.{over-length, padded-length}
+use Rattle.page_pair.proofs.Rooms.{room-fits, room-next, room-append}
+use Rattle.page_pair.proofs.Windows.{told-before}
 use Rattle.packed_pages.specs.declared.layout.Layout.{Layout}
 use Rattle.packed_pages.specs.declared.filling.Filling.{Filling}
 use Rattle.packed_pages.specs.Packs.{packed_record, records, joined, page_with, entries_from, pages_of, pages_from}

@@ -12,9 +12,9 @@ use Rattle.outside.specs.ScratchView.{ScratchView}
 use Rattle.line_store.specs.declared.Half.{Half}
 use Rattle.line_store.specs.declared.Half.TheVariants.{First, Second}
 use Rattle.page_pair.specs.Pair.{Pair, page_of}
-use Rattle.file_pieces.specs.Records.{stated, line_in}
-use Rattle.file_pieces.specs.Held.{HasPageCause}
-use Rattle.file_pieces.proofs.Told.{mapped-lines}
+use Rattle.page_pair.specs.Records.{stated, line_in}
+use Rattle.page_pair.specs.Held.{HasPageCause}
+use Rattle.page_pair.proofs.Told.{mapped-lines}
 use Rattle.packed_pages.specs.declared.layout.Layout.{Layout}
 use Rattle.packed_pages.specs.declared.marks.PageMarks.{PageMarks}
 use Rattle.packed_pages.specs.declared.marks.Marks.{Marks}

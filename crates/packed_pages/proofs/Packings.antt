@@ -4,7 +4,7 @@ use Rattle.std.specs.Prelude.{nat_le}
 use Rattle.std.proofs.lemmas.Bool.{cases_lt}
 use Rattle.std.proofs.lemmas.Bool.Decides.{nat_tests}
 use Rattle.std.proofs.lemmas.List.{append-nil}
-use Rattle.file_pieces.specs.Records.{longest}
+use Rattle.page_pair.specs.Records.{longest}
 use Rattle.packed_pages.specs.Packs.{packed_record, records, joined, begun, pages_of, pages_from}
 use Rattle.packed_pages.specs.Packing.{IsFull, ArePacked}
 use Rattle.packed_pages.proofs.Pages.{record-length}

@@ -12,9 +12,9 @@ use Rattle.std.proofs.lemmas.List.FromFn.{length-map-range_with_len}
 use Rattle.std.proofs.lemmas.List.Folds.{length-flat_map-take}
 use Rattle.std.proofs.lemmas.Nat.{from_le_bytes-to_le_bytes_4, from_le_bytes-to_le_bytes_8}
 use Rattle.std.proofs.Math.Seq.{take-append_seam, drop-append-add, take-suc}
-use Rattle.file_pieces.specs.Records.{stated, line_in}
-use Rattle.file_pieces.proofs.Records.{padded-length}
-use Rattle.file_pieces.proofs.Windows.{uniform-length, uniform-at}
+use Rattle.page_pair.specs.Records.{stated, line_in}
+use Rattle.page_pair.proofs.Records.{padded-length}
+use Rattle.page_pair.proofs.Windows.{uniform-length, uniform-at}
 use Rattle.packed_pages.specs.declared.layout.Layout.{Layout}
 use Rattle.packed_pages.specs.declared.marks.Mark.{Mark}
 use Rattle.packed_pages.specs.Packs.{packed_record, records, joined, page_with, entries_from, bytes_of}

@@ -7,8 +7,8 @@ use Rattle.outside.specs.ScratchView.{ScratchView}
 use Rattle.line_store.specs.declared.Half.{Half}
 use Rattle.line_store.specs.Store.{line_at, NoneAlike, IsLastAlike}
 use Rattle.page_pair.specs.Pair.{Pair, page_of}
-use Rattle.file_pieces.specs.Records.{stated, line_in}
-use Rattle.file_pieces.specs.Alike.{TellsAlike, FindsFirst}
+use Rattle.page_pair.specs.Records.{stated, line_in}
+use Rattle.page_pair.specs.Alike.{TellsAlike, FindsFirst}
 use Rattle.packed_pages.specs.declared.layout.Layout.{Layout}
 use Rattle.packed_pages.specs.declared.places.Place.{Place}
 use Rattle.packed_pages.specs.declared.places.Places.{Places}

@@ -10,8 +10,8 @@ use Rattle.line_store.specs.declared.Half.{Half}
 use Rattle.line_store.specs.Store.{Seen}
 use Rattle.line_store.specs.Taking.{Takes}
 use Rattle.page_pair.specs.Pair.{Pair}
-use Rattle.file_pieces.proofs.LongLines.{none-long}
-use Rattle.file_pieces.proofs.Told.{told-something, admitted-is}
+use Rattle.page_pair.proofs.LongLines.{none-long}
+use Rattle.page_pair.proofs.Told.{told-something, admitted-is}
 use Rattle.packed_pages.specs.declared.layout.Layout.{Layout}
 use Rattle.packed_pages.specs.declared.places.Places.{Places}
 use Rattle.packed_pages.specs.Packs.{joined, bytes_of, packs}

@@ -1,6 +1,6 @@
 -- The format at the lines `a` and `bcd`, each with its line feed.
 use Rattle.std.proofs.Common.{◌≡◌, [], ◌∷◌, length, take, refl}
-use Rattle.file_pieces.proofs.Told.{two_lines}
+use Rattle.page_pair.proofs.Told.{two_lines}
 use Rattle.packed_pages.specs.Packs.{pages_of, bytes_of, packs, page_with, packed_record}
 
 pub pages_worked : pages_of 512 two_lines ≡ two_lines ∷ []

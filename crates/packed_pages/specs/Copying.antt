@@ -5,9 +5,9 @@ use Rattle.outside.specs.ScratchView.{ScratchView}
 use Rattle.line_list.specs.Lines.{lines}
 use Rattle.line_store.specs.declared.fault.OpenFault.{OpenFault}
 use Rattle.line_store.specs.declared.fault.OpenFault.TheVariants.{Tree, Scratch, LongLine, FileTooLong, Disagree, Memory}
-use Rattle.file_pieces.specs.Records.{longest}
-use Rattle.file_pieces.specs.Reading.{IsPart}
-use Rattle.file_pieces.specs.Room.{no_room, room_with, room_from, page_count, HasRoom}
+use Rattle.page_pair.specs.Records.{longest}
+use Rattle.page_pair.specs.Reading.{IsPart}
+use Rattle.page_pair.specs.Room.{no_room, room_with, room_from, page_count, HasRoom}
 use Rattle.packed_pages.specs.declared.layout.Layout.{Layout}
 use Rattle.packed_pages.specs.declared.filling.Filling.{Filling}
 use Rattle.packed_pages.specs.Filling.{IsFilled, IsPacked}

@@ -1,8 +1,8 @@
 -- Records made on a page, and pages written with their entries.
 use Rattle.std.specs.Prelude.{◌≡◌, ℕ, ◌+◌, ◌-◌, ◌*◌, ◌^◌, ◌<◌, ◌≤◌, List, [], ◌++◌, length, take, replicate, slice_index_or, Option, Some}
 use Rattle.std.specs.List.{flat_map}
-use Rattle.file_pieces.specs.Room.{no_room, room_from, page_count}
-use Rattle.file_pieces.specs.Records.{longest}
+use Rattle.page_pair.specs.Room.{no_room, room_from, page_count}
+use Rattle.page_pair.specs.Records.{longest}
 use Rattle.packed_pages.specs.declared.layout.Layout.{Layout}
 use Rattle.packed_pages.specs.declared.filling.Filling.{Filling}
 use Rattle.packed_pages.specs.Packs.{records, joined, page_with, entries_from, bytes_of, pages_of, pages_from}

@@ -8,7 +8,7 @@ use Rattle.std.specs.Option.{option_map}
 use Rattle.std.specs.List.{range_with_len}
 use Rattle.std.specs.Int.{w64, from_le_bytes}
 use Rattle.line_store.specs.Taking.{IsSize}
-use Rattle.file_pieces.specs.Records.{stated, line_in}
+use Rattle.page_pair.specs.Records.{stated, line_in}
 use Rattle.packed_pages.specs.declared.layout.Layout.{Layout}
 use Rattle.packed_pages.specs.Packs.{records, joined, bytes_of}
 

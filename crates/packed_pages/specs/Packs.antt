@@ -3,7 +3,7 @@
 use Rattle.std.specs.Prelude.{ℕ, ◌+◌, List, [], ◌∷◌, ◌++◌, length, nat_le, if◌then◌else◌}
 use Rattle.std.specs.List.{flat_map}
 use Rattle.std.specs.Int.{w32, w64, to_le_bytes}
-use Rattle.file_pieces.specs.Records.{padded}
+use Rattle.page_pair.specs.Records.{padded}
 
 -- a record: the line's length as 4 bytes, the lowest first, and the line
 unfoldable pub packed_record : List ℕ → List ℕ

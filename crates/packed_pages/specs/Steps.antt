@@ -1,6 +1,6 @@
 -- Places reached from another one of the same page without a search.
 use Rattle.std.specs.Prelude.{◌≡◌, ◌≢◌, ⊤, ℕ, ◌+◌, ◌-◌, ◌<◌, ◌≤◌, List, length, Option, Some, None}
-use Rattle.file_pieces.specs.Records.{stated, line_in}
+use Rattle.page_pair.specs.Records.{stated, line_in}
 use Rattle.packed_pages.specs.declared.places.Place.{Place}
 use Rattle.packed_pages.specs.Layout.{place_in}
 

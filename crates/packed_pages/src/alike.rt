@@ -9,7 +9,7 @@ ghost use Rattle.page_pair.specs.Pair.{page_of};
 ghost use Rattle.packed_pages.specs.Marks.{AreMarked};
 ghost use Rattle.packed_pages.specs.Layout.{lines_told};
 ghost use Rattle.packed_pages.specs.Held.{seen_of, place_of, IsHeld};
-ghost use Rattle.file_pieces.specs.Alike.{FindsFirst};
+ghost use Rattle.page_pair.specs.Alike.{FindsFirst};
 
 use crate::layout::Layout;
 use crate::loading::load_line;

@@ -6,21 +6,21 @@ ghost use Rattle.line_store.specs.declared.Half.TheVariants.{First, Second};
 ghost use Rattle.outside.specs.Calls.{IsThere, IsUntouched};
 ghost use Rattle.outside.specs.ScratchView.{ScratchPasses};
 ghost use Rattle.page_pair.specs.Pair.{page_of};
-ghost use Rattle.file_pieces.specs.Reading.{told_file, HasLength, IsNoneWhole, IsTakeFault};
-ghost use Rattle.file_pieces.specs.Records.{IsWriteFault};
-ghost use Rattle.file_pieces.specs.Room.{room_with};
+ghost use Rattle.page_pair.specs.Reading.{told_file, HasLength, IsNoneWhole, IsTakeFault};
+ghost use Rattle.page_pair.specs.Records.{IsWriteFault};
+ghost use Rattle.page_pair.specs.Room.{room_with};
 ghost use Rattle.packed_pages.specs.Layout.{IsLayout};
 ghost use Rattle.packed_pages.specs.Filling.{IsReady, IsFilled, IsPacked, IsMeasuredAs};
 ghost use Rattle.packed_pages.specs.Copying.{Copies, IsLineFault, IsCopyFault, IsCopied, IsEndFault, IsWritten};
 
 use crate::filling::{Filling, flush, put_record, write_entry};
 use crate::layout::Layout;
-use file_pieces::paging::restart;
-use file_pieces::reading::{read_piece, whole_line};
-use file_pieces::room::Room;
 use line_store::{Half, OpenFault};
 use outside::{Name, Scratch, Tree};
 use page_pair::PagePair;
+use page_pair::paging::restart;
+use page_pair::reading::{read_piece, whole_line};
+use page_pair::room::Room;
 
 /// The lines before a place are filled in.
 #[derive(Clone, Copy)]

@@ -5,18 +5,18 @@ ghost use Rattle.std.specs.Int.{w64, to_le_bytes};
 ghost use Rattle.line_store.specs.declared.Half.TheVariants.{First, Second};
 ghost use Rattle.outside.specs.ScratchView.{ScratchPasses, ReachesTo, overwritten};
 ghost use Rattle.page_pair.specs.Pair.{page_of};
-ghost use Rattle.file_pieces.specs.Records.{padded, IsWriteFault};
-ghost use Rattle.file_pieces.specs.Room.{room_with};
+ghost use Rattle.page_pair.specs.Records.{padded, IsWriteFault};
+ghost use Rattle.page_pair.specs.Room.{room_with};
 ghost use Rattle.packed_pages.specs.Layout.{IsLayout};
 ghost use Rattle.packed_pages.specs.Filling.{IsReady, IsFilled};
 ghost use Rattle.packed_pages.specs.Copying.{IsLineFault};
 
 use crate::layout::Layout;
-use file_pieces::paging::{make_record, write_page};
-use file_pieces::room::Room;
 use line_store::OpenFault;
 use outside::Scratch;
 use page_pair::PagePair;
+use page_pair::paging::{make_record, write_page};
+use page_pair::room::Room;
 
 /// So many lines, the room that they take, and the number of the first line of the page that is begun.
 #[derive(Clone, Copy)]

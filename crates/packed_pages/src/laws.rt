@@ -1,7 +1,7 @@
 //! What the definition of packed pages says, in words of its own.
 
 ghost use Rattle.std.specs.Prelude.{◌≡◌, ◌≤◌, ◌+◌, ℕ, List};
-ghost use Rattle.file_pieces.specs.Records.{longest};
+ghost use Rattle.page_pair.specs.Records.{longest};
 ghost use Rattle.packed_pages.specs.Packs.{pages_of, joined};
 ghost use Rattle.packed_pages.specs.Packing.{ArePacked};
 

@@ -27,11 +27,11 @@ use crate::loading::load_half;
 use crate::marks::Marks;
 use crate::places::Places;
 use crate::taking::take_pages;
-use file_pieces::record::line_of;
 pub use laws::packing_laws;
 use line_store::{Half, LineFault, LineStore, OpenFault, Plan};
 use outside::{Name, Scratch, Tree};
 use page_pair::PagePair;
+use page_pair::record::line_of;
 
 /// The lines of a file as records on packed pages of a scratch, behind an index. Each half of the pair holds one of the pages.
 #[derive(Drop)]

@@ -5,12 +5,12 @@ ghost use Rattle.outside.specs.ScratchView.{ScratchPasses};
 ghost use Rattle.line_store.specs.declared.Half.{Half};
 ghost use Rattle.line_store.specs.Store.{Keeps, HasCause};
 ghost use Rattle.page_pair.specs.Pair.{Pair, page_of};
-ghost use Rattle.file_pieces.specs.Records.{stated};
+ghost use Rattle.page_pair.specs.Records.{stated};
 ghost use Rattle.packed_pages.specs.declared.places.Place.{Place};
 ghost use Rattle.packed_pages.specs.Layout.{IsLayout, page_in, place_in};
 ghost use Rattle.packed_pages.specs.Marks.{IsMark, AreMarks, AreMarked, marks_of};
 ghost use Rattle.packed_pages.specs.Held.{seen_of, place_of, line_held, IsHeld, IsOnPage, IsLoaded, HoldsPage, HoldsPacks, HoldsPageOf, HasPageOf, IsRecordFault, IfStart, ReadsAtMost, ReadsByDigits};
-ghost use Rattle.file_pieces.specs.Held.{HasPageCause};
+ghost use Rattle.page_pair.specs.Held.{HasPageCause};
 
 use crate::layout::Layout;
 use crate::marks::{Mark, Marks};

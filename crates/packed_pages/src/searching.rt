@@ -4,7 +4,7 @@ ghost use Rattle.std.specs.Prelude.{◌≡◌, ◌<◌, ◌≤◌, ◌+◌, ◌-
 ghost use Rattle.outside.specs.ScratchView.{ScratchPasses};
 ghost use Rattle.packed_pages.specs.Layout.{IsLayout, first_line};
 ghost use Rattle.packed_pages.specs.Held.{HoldsPacks, IsSpan, IsSpanTold, ReadsAtMost, ReadsByDigits};
-ghost use Rattle.file_pieces.specs.Held.{HasPageCause};
+ghost use Rattle.page_pair.specs.Held.{HasPageCause};
 
 use crate::layout::Layout;
 use line_store::LineFault;

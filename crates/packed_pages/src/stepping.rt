@@ -1,15 +1,15 @@
 //! Places reached from the one that a half holds, record by record.
 
 ghost use Rattle.std.specs.Prelude.{◌≡◌, ◌≤◌, ◌<◌, ◌+◌, ◌^◌, IsTrue, ◌↔◌, ℕ, List, length, None, Some, IfSome};
-ghost use Rattle.file_pieces.specs.Records.{stated, line_in};
+ghost use Rattle.page_pair.specs.Records.{stated, line_in};
 ghost use Rattle.packed_pages.specs.declared.places.Place.{Place};
 ghost use Rattle.packed_pages.specs.Steps.{IsWhole, Follows, IfNear, Misses, IfLast, IfReaches};
-ghost use Rattle.file_pieces.specs.Alike.{TellsAlike};
+ghost use Rattle.page_pair.specs.Alike.{TellsAlike};
 ghost use Rattle.packed_pages.specs.Held.{place_of};
 
 use crate::places::{Place, Places};
-use file_pieces::record::{line_of, stated_length};
 use line_store::Half;
+use page_pair::record::{line_of, stated_length};
 
 /// The records of a page up to one that is alike, or to the last that was looked at.
 #[derive(Clone, Copy)]

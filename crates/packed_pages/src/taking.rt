@@ -5,19 +5,19 @@ ghost use Rattle.line_list.specs.Lines.{lines};
 ghost use Rattle.line_store.specs.Taking.{HasOpenCause};
 ghost use Rattle.outside.specs.Calls.{IsThere, IsUntouched};
 ghost use Rattle.outside.specs.ScratchView.{ScratchPasses};
-ghost use Rattle.file_pieces.specs.Reading.{told_file, HasLength, IsMeasureFault};
+ghost use Rattle.page_pair.specs.Reading.{told_file, HasLength, IsMeasureFault};
 ghost use Rattle.packed_pages.specs.Layout.{IsLayout};
-ghost use Rattle.file_pieces.specs.Held.{bare};
+ghost use Rattle.page_pair.specs.Held.{bare};
 ghost use Rattle.packed_pages.specs.Filling.{IsMeasuredAs};
 ghost use Rattle.packed_pages.specs.Copying.{IsWritten};
 
 use crate::copying::copy_anew;
 use crate::layout::Layout;
-use file_pieces::measuring::measure;
-use file_pieces::reading::size_of;
 use line_store::OpenFault;
 use outside::{Name, Scratch, Tree};
 use page_pair::PagePair;
+use page_pair::measuring::measure;
+use page_pair::reading::size_of;
 
 /// The least number of bytes that is too many.
 const TOO_LONG: u64 = 1 << 40;

@@ -1,14 +1,14 @@
 //! A record found on its page, by the lengths of those before it.
 
 ghost use Rattle.std.specs.Prelude.{◌≡◌, ◌≤◌, ◌<◌, ◌+◌, ◌^◌, length, IfOk, IfErr};
-ghost use Rattle.file_pieces.specs.Records.{stated};
+ghost use Rattle.page_pair.specs.Records.{stated};
 ghost use Rattle.packed_pages.specs.Layout.{place_in};
 ghost use Rattle.packed_pages.specs.Marks.{IsMark, AreMarks};
 ghost use Rattle.packed_pages.specs.Held.{IsRecordFault, IsPastEnd};
 
 use crate::marks::{Mark, PageMarks, keep};
-use file_pieces::record::stated_length;
 use line_store::LineFault;
+use page_pair::record::stated_length;
 
 /// The place behind the record at a place of a page, which it may not reach past.
 fn record_end(page: &[u8], at: usize) -> Result<usize, LineFault>

@@ -3,3 +3,9 @@ pub mod Lending
 pub mod Block
 pub mod PageLending
 pub mod Halves
+pub mod Records
+pub mod Room
+pub mod Reading
+pub mod Measuring
+pub mod Held
+pub mod Alike

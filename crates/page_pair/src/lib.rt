@@ -1,4 +1,4 @@
-//! Two pages of bytes, lent apart.
+//! Two pages of bytes, lent apart; a file read in pieces as large as a page, and the records of its lines made on another page.
 #![tactic(auto)]
 
 ghost use Rattle.std.specs.Prelude.{◌≡◌, ◌+◌, ◌≤◌, ℕ, length, take, drop, replicate, IfOk};
@@ -10,6 +10,12 @@ ghost use Rattle.page_pair.specs.Pair.{Pair, IsPair, page_of, other_half};
 ghost use Rattle.page_pair.specs.Lending.{LendsPage, LendsOther};
 
 mod block;
+pub mod long;
+pub mod measuring;
+pub mod paging;
+pub mod reading;
+pub mod record;
+pub mod room;
 
 use block::{Page, Room, Title};
 use line_store::Half;

@@ -15,8 +15,8 @@ use Rattle.patch_options.specs.PlainJob.PlainJob.{patch}
 use Rattle.patch_options.specs.declared.options.Input.{Input}
 use Rattle.patch_options.specs.declared.options.Input.TheVariants.{Standard, File}
 use Rattle.patch_options.specs.declared.options.WordFault.{WordFault}
-use Rattle.patch_input.specs.Input as input
-use Rattle.patch_input.specs.declared.fault.InputFault.{InputFault}
+use Rattle.run_answers.specs.Input as input
+use Rattle.run_answers.specs.declared.fault.InputFault.{InputFault}
 use Rattle.patch_text.specs.Patches.{patches_of}
 use Rattle.patch_set.specs.Asked.{ways_of}
 use Rattle.patch_set.specs.Refusals.{refusal}
@@ -24,8 +24,8 @@ use Rattle.patch_set.specs.SetView.{SetView, plain_patches, hunks_in, IsRead, Is
 use Rattle.patch_run.specs.Run.{Run, set_run}
 use Rattle.run_answers.specs.declared.why.Why.{Why}
 use Rattle.run_answers.specs.declared.why.Why.TheVariants.{Done, Rejected, Usage, Malformed, Garbage, EdReverse, OutMany, Reserved, NoPatchFile, TooLong, LongLine, FileTooLong, BadPattern, NoContext, Unfit, BadState, StackEnd, StackName, ReadFault, WriteFault, TreeFault, ScratchFault, Disagree, Memory}
-use Rattle.run_outcome.specs.Outcome.{run_for, carried_out}
-use Rattle.run_outcome.proofs.Matching.{run-match}
+use Rattle.planned_run.specs.Outcome.{run_for, carried_out}
+use Rattle.planned_run.proofs.Matching.{run-match}
 use Rattle.patch_cli.specs.Command.{Reads, on_patches, on_refusal, on_input, on_job}
 use Rattle.patch_cli.specs.Worlds.{World, world, TellsFiles, TellsLeft, TellsInput, is_standard}
 use Rattle.planned_run.specs.Finishes.{CanApply}

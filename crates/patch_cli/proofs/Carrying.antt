@@ -13,22 +13,22 @@ use Rattle.patch_options.specs.PlainJob.PlainJob.{patch}
 use Rattle.patch_options.specs.Words.{job_of}
 use Rattle.patch_options.specs.declared.options.WordFault.{WordFault}
 use Rattle.patch_set.specs.SetView.{SetView, plain_patches}
-use Rattle.patch_input.specs.Input.{TakesAtMost}
+use Rattle.run_answers.specs.Input.{TakesAtMost}
 use Rattle.patch_run.specs.Applied.{Receipt}
 use Rattle.patch_run.specs.Run.{Run, items_of, set_run}
 use Rattle.patch_run.specs.Doing as doing
-use Rattle.patch_effects.specs.Faults.{of_open}
-use Rattle.patch_effects.specs.Making.{IsTidy, UnlessFailed}
-use Rattle.patch_effects.specs.declared.fault.RunFault.{RunFault}
-use Rattle.patch_effects.specs.declared.fault.RunFault.TheVariants as runs
+use Rattle.patch_task.specs.Faults.{of_open}
+use Rattle.patch_task.specs.Making.{IsTidy, UnlessFailed}
+use Rattle.patch_task.specs.declared.fault.RunFault.{RunFault}
+use Rattle.patch_task.specs.declared.fault.RunFault.TheVariants as runs
 use Rattle.run_answers.specs.declared.why.Why.{Why}
 use Rattle.run_answers.specs.declared.why.Why.TheVariants.{Done, Rejected, Usage, Malformed, Garbage, EdReverse, OutMany, Reserved, NoPatchFile, TooLong, LongLine, FileTooLong, BadPattern, NoContext, Unfit, BadState, StackEnd, StackName, ReadFault, WriteFault, TreeFault, ScratchFault, Disagree, Memory}
 use Rattle.run_answers.specs.Answers.{is_fault, of_run}
 use Rattle.run_answers.specs.Moments.{FirstPart, IsAsAtEntry, LeavesAllowed, Opens}
-use Rattle.run_outcome.specs.Outcome.{Outcome, carried_out, end_of, receipt_if}
-use Rattle.run_outcome.specs.Answer.{IsAnswer}
-use Rattle.run_outcome.proofs.Matching.{cut-match}
-use Rattle.run_outcome.proofs.Receipts.{memory_end, receipt_end, receipt_fault}
+use Rattle.planned_run.specs.Outcome.{Outcome, carried_out, end_of, receipt_if}
+use Rattle.planned_run.specs.Answer.{IsAnswer}
+use Rattle.planned_run.proofs.Matching.{cut-match}
+use Rattle.planned_run.proofs.Receipts.{memory_end, receipt_end, receipt_fault}
 use Rattle.patch_cli.specs.Answers.{Sort, sort_of, IsEarly}
 use Rattle.patch_cli.specs.Answers.Sort.{ended}
 use Rattle.patch_cli.specs.Command.{Reads, command, on_job}

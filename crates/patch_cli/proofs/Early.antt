@@ -7,13 +7,13 @@ use Rattle.outside.specs.ScratchView.{ScratchView, ScratchPasses, scratch_passes
 use Rattle.patch_options.specs.PlainJob.{PlainJob}
 use Rattle.patch_options.specs.Words.{job_of}
 use Rattle.patch_options.specs.declared.options.WordFault.{WordFault}
-use Rattle.patch_input.specs.Input.{TakesAtMost}
+use Rattle.run_answers.specs.Input.{TakesAtMost}
 use Rattle.run_answers.specs.declared.why.Why.{Why}
 use Rattle.run_answers.specs.declared.why.Why.TheVariants.{Done, Rejected, Usage, Malformed, Garbage, EdReverse, OutMany, Reserved, NoPatchFile, TooLong, LongLine, FileTooLong, BadPattern, NoContext, Unfit, BadState, StackEnd, StackName, ReadFault, WriteFault, TreeFault, ScratchFault, Disagree, Memory}
 use Rattle.run_answers.specs.Moments.{IsAsAtEntry, Opens}
-use Rattle.run_outcome.specs.Outcome.{Outcome}
-use Rattle.run_outcome.specs.Answer.{HasReceipt, IsAnswer}
-use Rattle.run_outcome.proofs.Entry.{nothing_yet, refused_so}
+use Rattle.planned_run.specs.Outcome.{Outcome}
+use Rattle.planned_run.specs.Answer.{HasReceipt, IsAnswer}
+use Rattle.planned_run.proofs.Entry.{nothing_yet, refused_so}
 use Rattle.patch_cli.specs.Answers.{Sort, sort_of}
 use Rattle.patch_cli.specs.Answers.Sort.{ended, halted, refusal, unread, broken, starved}
 use Rattle.patch_cli.specs.Command.{on_job}

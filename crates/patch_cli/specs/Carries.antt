@@ -12,11 +12,11 @@ use Rattle.patch_options.specs.PlainJob.{PlainOptions, PlainJob}
 use Rattle.patch_options.specs.Words.{job_of}
 use Rattle.patch_options.specs.declared.options.WordFault.{WordFault}
 use Rattle.patch_set.specs.Named.{known_names, output_of}
-use Rattle.patch_input.specs.Input.{TakesAtMost}
+use Rattle.run_answers.specs.Input.{TakesAtMost}
 use Rattle.patch_run.specs.Applied.{Receipt}
 use Rattle.patch_run.specs.Doing.{IsCutAt}
-use Rattle.patch_effects.specs.Making.{IsTidy}
-use Rattle.patch_effects.specs.declared.fault.RunFault.{RunFault}
+use Rattle.patch_task.specs.Making.{IsTidy}
+use Rattle.patch_task.specs.declared.fault.RunFault.{RunFault}
 use Rattle.run_answers.specs.declared.why.Why.{Why}
 use Rattle.run_answers.specs.declared.why.Why.TheVariants.{Memory}
 use Rattle.run_answers.specs.Answers.{of_run, is_fault}
@@ -24,8 +24,8 @@ use Rattle.run_answers.specs.Moments.{FirstPart, IsAsAtEntry, LeavesAllowed, Ope
 use Rattle.patch_cli.specs.Answers.{Sort, sort_of}
 use Rattle.patch_cli.specs.Answers.Sort.{ended, halted, refusal, unread, broken, starved}
 use Rattle.planned_run.specs.Scratches.{scratch_behind_all}
-use Rattle.run_outcome.specs.Outcome.{Outcome, refused, items_for}
-use Rattle.run_outcome.specs.Answer.{HasReceipt, IsAnswer}
+use Rattle.planned_run.specs.Outcome.{Outcome, refused, items_for}
+use Rattle.planned_run.specs.Answer.{HasReceipt, IsAnswer}
 use Rattle.patch_cli.specs.Command.{Reads, on_job, command}
 use Rattle.patch_cli.specs.Worlds.{World, TellsFiles, TellsLeft, TellsInput, AsksFor, reads_source, pages_all}
 use Rattle.patch_cli.specs.Causes.{HasCause}

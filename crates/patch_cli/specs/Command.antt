@@ -8,15 +8,15 @@ use Rattle.patch_options.specs.PlainJob.{PlainOptions, PlainJob}
 use Rattle.patch_options.specs.PlainJob.PlainJob.{patch}
 use Rattle.patch_options.specs.Words.{job_of}
 use Rattle.patch_options.specs.declared.options.WordFault.{WordFault}
-use Rattle.patch_input.specs.declared.fault.InputFault.{InputFault}
-use Rattle.patch_input.specs.Input.{input_bytes, answer_of}
+use Rattle.run_answers.specs.declared.fault.InputFault.{InputFault}
+use Rattle.run_answers.specs.Input.{input_bytes, answer_of}
 use Rattle.patch_text.specs.Patches.{patches_of}
 use Rattle.patch_set.specs.Asked.{ways_of}
 use Rattle.patch_set.specs.declared.fault.SetFault.{SetFault}
 use Rattle.patch_set.specs.Refusals.{refusal}
 use Rattle.run_answers.specs.declared.why.Why.TheVariants.{Malformed}
 use Rattle.run_answers.specs.Answers.{of_words, of_input, of_set}
-use Rattle.run_outcome.specs.Outcome.{Outcome, refused, run_for, carried_out}
+use Rattle.planned_run.specs.Outcome.{Outcome, refused, run_for, carried_out}
 
 -- a text that isn't refused has file patches, or is empty
 abbrev pub on_patches : PlainOptions → List ℕ → Result (List PlainPatch) Fault → Files → Outcome

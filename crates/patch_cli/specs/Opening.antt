@@ -8,7 +8,7 @@ use Rattle.patch_set.specs.SetView.{SetView, plain_patches}
 use Rattle.run_answers.specs.declared.why.Why.{Why}
 use Rattle.patch_cli.specs.Answers.{Sort, sort_of}
 use Rattle.patch_cli.specs.Answers.Sort.{ended, halted, refusal, unread, broken, starved}
-use Rattle.run_outcome.specs.Outcome.{refused}
+use Rattle.planned_run.specs.Outcome.{refused}
 use Rattle.patch_cli.specs.Command.{Reads, on_job}
 use Rattle.patch_cli.specs.Worlds.{World, TellsInput}
 use Rattle.patch_cli.specs.Causes.{HasCause}

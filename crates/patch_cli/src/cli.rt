@@ -10,15 +10,14 @@ ghost use Rattle.patch_cli.specs.Answers.{sort_of, IsEarly};
 ghost use Rattle.patch_cli.specs.Command.{command};
 ghost use Rattle.run_answers.specs.Reasons.{refusal_line};
 ghost use Rattle.patch_cli.specs.Worlds.{world, TellsFiles, TellsLeft, reads_source, uses_scratch};
-ghost use Rattle.run_outcome.specs.Answer.{why_of, receipt_of};
+ghost use Rattle.planned_run.specs.Answer.{why_of, receipt_of};
 ghost use Rattle.patch_cli.specs.Carries.{Carries, NoneFailed, IsComplete};
 
 use crate::opening::open;
 use outside::{Scratch, Sink, Source, Tree};
 use patch_run::Applied;
-use planned_run::apply;
+use planned_run::{Exit, apply, exit_of};
 use run_answers::{Why, report};
-use run_outcome::{Exit, exit_of};
 use std::alloc::Global;
 
 /// Does all that the program does. `words[0]` is the tool.

@@ -8,5 +8,5 @@ mod opening;
 pub use cli::run;
 pub use laws::command_laws;
 pub use patch_run::Applied;
+pub use planned_run::Exit;
 pub use run_answers::Why;
-pub use run_outcome::Exit;

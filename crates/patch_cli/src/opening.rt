@@ -10,17 +10,16 @@ ghost use Rattle.patch_options.specs.PlainJob.{plain_options, IsLawful};
 ghost use Rattle.patch_options.specs.PlainJob.PlainJob.{patch};
 ghost use Rattle.patch_options.specs.Words.{job_of};
 ghost use Rattle.patch_options.specs.declared.options.WordFault.{WordFault as TheFault};
-ghost use Rattle.patch_input.specs.Input.{TakesAtMost};
+ghost use Rattle.run_answers.specs.Input.{TakesAtMost};
 ghost use Rattle.run_answers.specs.Answers.{of_words};
 ghost use Rattle.patch_cli.specs.Worlds.{world, is_standard, reads_source};
 ghost use Rattle.run_answers.specs.Moments.{Opens};
 ghost use Rattle.patch_cli.specs.Opening.{IsAsked, StopsEarly};
 
 use outside::{Source, Tree};
-use patch_input::read_input;
 use patch_options::{Job, Options, read_words};
 use patch_set::{PatchSet, read_set};
-use run_answers::{Why, settle};
+use run_answers::{Why, read_input, settle};
 use std::alloc::Global;
 
 /// The options, and the file patches that are to be carried out with them.

@@ -12,7 +12,7 @@ use Rattle.file_patch.specs.declared.FilePatch.{FilePatch}
 use Rattle.file_patch.specs.PlainPatch.{PlainChange, hunks, script, change_of}
 use Rattle.hunk_core.specs.PlainHunk.{PlainHunk}
 use Rattle.patch_text.specs.Digests.{AreDigests, IsDigest, no_hunks, old_ranges, rows_in}
-use Rattle.set_outline.specs.Digested.{DigestView}
+use Rattle.filter_choice.specs.Digested.{DigestView}
 use Rattle.tool_words.specs.PlainJobs.{PlainFilterJob}
 use Rattle.patch_filters.specs.Digested.{digest_kept, digest_if_taken, filtered_digest, olds_by, range_numbers}
 use Rattle.filter_choice.specs.OldLines.{from_to, old_numbers, old_of_each}

@@ -7,7 +7,7 @@ use Rattle.hunk_core.specs.declared.Side.TheVariants.{Forward, Reversed}
 use Rattle.file_patch.specs.PlainPatch.{PlainChange, PlainPatch, hunks, script}
 use Rattle.file_patch.specs.Actions.{is_moved}
 use Rattle.file_patch.specs.Absent.{is_absent, is_empty_on, is_epoch, is_null, is_said_absent, name_on, stamp_on}
-use Rattle.target_names.specs.Stripped.{shortened}
+use Rattle.file_patch.specs.Stripped.{shortened}
 use Rattle.patch_text.specs.Outlines.{only_hunk, outline}
 use Rattle.patch_set.specs.PlainName.{plain_name}
 use Rattle.tool_words.specs.PlainJobs.{PlainListJob}

@@ -1,7 +1,7 @@
 -- What is listed and written, one file patch behind the other.
 use Rattle.std.proofs.Common.{◌≡◌, ℕ, true, List, ◌++◌, codes, sym, ap, ◌∙◌}
 use Rattle.std.specs.List.{flat_map}
-use Rattle.target_names.specs.Stripped.{shortened}
+use Rattle.file_patch.specs.Stripped.{shortened}
 use Rattle.file_patch.specs.declared.FilePatch.{FilePatch}
 use Rattle.file_patch.specs.PlainPatch.{PlainPatch, header_of, patch_of}
 use Rattle.patch_set.specs.PlainName.{plain_name}

@@ -4,7 +4,7 @@ use Rattle.std.specs.List.{flat_map, list_any, range_with_len, zip}
 use Rattle.unified_form.specs.declared.skim.OldRange.{OldRange}
 use Rattle.file_patch.specs.declared.FilePatch.{FilePatch}
 use Rattle.file_patch.specs.PlainPatch.{PlainChange, hunks, script, change_of}
-use Rattle.set_outline.specs.Digested.{DigestView}
+use Rattle.filter_choice.specs.Digested.{DigestView}
 use Rattle.tool_words.specs.PlainJobs.{PlainFilterJob}
 use Rattle.filter_choice.specs.Selected.{numbered}
 use Rattle.filter_choice.specs.OldLines.{addressed}

@@ -3,7 +3,7 @@ use Rattle.std.specs.Prelude.{ℕ, Bool, filter, List, [], ◌++◌, codes, if�
 use Rattle.std.specs.List.{flat_map}
 use Rattle.num_text.specs.Numbers.{decimal}
 use Rattle.hunk_core.specs.declared.Side.TheVariants.{Forward, Reversed}
-use Rattle.target_names.specs.Stripped.{shortened}
+use Rattle.file_patch.specs.Stripped.{shortened}
 use Rattle.file_patch.specs.PlainPatch.{PlainPatch}
 use Rattle.file_patch.specs.Actions.{is_moved}
 use Rattle.file_patch.specs.Absent.{is_absent}

@@ -16,9 +16,8 @@ ghost use Rattle.patch_filters.specs.Digested.{digest_hunks, digest_if_taken, di
 use crate::hunks::is_row_kept;
 use crate::pieces::{bytes_at, put_piece};
 use file_patch::FilePatch;
-use filter_choice::{is_meant, is_selected};
+use filter_choice::{Digest, is_meant, is_selected};
 use outside::{Failed, Sink};
-use set_outline::Digest;
 use tool_words::FilterJob;
 use unified_form::OldRange;
 

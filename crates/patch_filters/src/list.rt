@@ -6,19 +6,17 @@ ghost use Rattle.outside.specs.SinkView.{Writes};
 ghost use Rattle.outside.specs.Puts.{Puts};
 ghost use Rattle.file_patch.specs.PlainPatch.{patch_of};
 ghost use Rattle.file_patch.specs.Absent.{IsLawfulPatch};
-ghost use Rattle.set_outline.specs.Outlined.{outlined};
+ghost use Rattle.filter_choice.specs.Outlined.{outlined};
 ghost use Rattle.tool_words.specs.PlainJobs.{plain_list_job};
 ghost use Rattle.patch_filters.specs.Listed.{front, line_if_selected, listed, number_text, sign, sign_text};
 
 use crate::pieces::put_piece;
 use arrayvec::ArrayVec;
-use file_patch::FilePatch;
-use filter_choice::is_selected;
+use file_patch::{FilePatch, shortened};
+use filter_choice::{Outline, is_selected};
 use hunk_core::{Side, add_piece};
 use num_text::put_number;
 use outside::{Failed, Sink};
-use set_outline::Outline;
-use target_names::shortened;
 use tool_words::ListJob;
 
 /// A number of 20 digits at most, a tab, and a sign with its space.

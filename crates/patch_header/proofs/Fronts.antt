@@ -7,8 +7,8 @@ use Rattle.hunk_core.specs.LineTests.{after, ends_line}
 use Rattle.num_text.specs.Numbers.{is_digit, value_after, after_digits}
 use Rattle.num_text.specs.NumberRanges.{range_at, from_first}
 use Rattle.num_text.specs.declared.range.NumberRange.{NumberRange}
-use Rattle.diff_command.specs.Letters.{action_at, is_line_end}
-use Rattle.diff_command.specs.declared.Action.{Action}
+use Rattle.hunk_core.specs.Letters.{action_at, is_line_end}
+use Rattle.hunk_core.specs.declared.command.Action.{Action}
 use Rattle.ed_form.specs.Commands as ed
 use Rattle.ed_form.specs.declared.command.Command.{Command}
 use Rattle.unified_form.specs.Ranges as range_line

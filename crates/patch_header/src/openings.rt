@@ -12,9 +12,8 @@ ghost use Rattle.patch_header.specs.declared.ways.Ways.{Ways};
 use crate::bare::{is_bare, tells_binary};
 use crate::content::{has_dot, is_binary};
 use crate::ways::Ways;
-use diff_command::Action;
 use ed_form::{Command, command_at, is_command_line};
-use hunk_core::Form;
+use hunk_core::{Action, Form};
 
 /// What ends the lines in front of a file patch.
 #[derive(Clone, Copy, Debug, PartialEq, Eq)]

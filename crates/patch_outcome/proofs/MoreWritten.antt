@@ -2,10 +2,10 @@
 use Rattle.std.proofs.Common.{◌≡◌, ℕ, List, [], ◌∷◌, ◌++◌, Bool, true, false, not, ◌||◌, if◌then◌else◌, None, Some, option_map, refl, sym, ◌∙◌, ap, subst}
 use Rattle.std.proofs.lemmas.List.Folds.{list_any-append}
 use Rattle.hunk_core.specs.declared.Verdict.{Verdict}
-use Rattle.name_marks.specs.Marked.{is_marked}
-use Rattle.name_marks.specs.declared.marks.NameMarks.{NameMarks}
+use Rattle.outside.specs.Marked.{is_marked}
+use Rattle.outside.specs.declared.marks.NameMarks.{NameMarks}
 use Rattle.patch_set.specs.declared.set.Row.{Row}
-use Rattle.target_names.specs.declared.derived.Target.{Target}
+use Rattle.file_patch.specs.declared.derived.Target.{Target}
 use Rattle.patch_task.specs.Turns.{Mark, PlainTurn, written_by, renamed_by}
 use Rattle.patch_outcome.specs.Outcome.{mark_of, is_name, has_name, was_written}
 use Rattle.patch_outcome.specs.Ready.{AreWritten}

@@ -9,13 +9,13 @@ use Rattle.outside.specs.Quiet.{IsQuiet, Effect, HasMade, WorksOn}
 use Rattle.outside.proofs.Views.{rises_then}
 use Rattle.outside.proofs.Quiet.{lasting-only}
 use Rattle.outside.proofs.Effects.{made_tells_all, since_longer, tells_longer}
-use Rattle.target_names.specs.declared.derived.Target.{Target}
-use Rattle.patch_effects.specs.declared.fault.RunFault.{RunFault}
-use Rattle.patch_effects.specs.Named.{IsNamed}
-use Rattle.patch_effects.specs.Making.{Makes, GoesQuietly, IsTidy}
-use Rattle.patch_effects.proofs.Making.{makes_both, makes_works, untouched_works}
-pub use Rattle.patch_effects.proofs.Making.{goes_both, goes_value, goes_fault}
-use Rattle.patch_effects.proofs.Tidy.{tidy_both, untouched_tidy}
+use Rattle.file_patch.specs.declared.derived.Target.{Target}
+use Rattle.patch_task.specs.declared.fault.RunFault.{RunFault}
+use Rattle.patch_task.specs.Named.{IsNamed}
+use Rattle.patch_task.specs.Making.{Makes, GoesQuietly, IsTidy}
+use Rattle.patch_task.proofs.Making.{makes_both, makes_works, untouched_works}
+pub use Rattle.patch_task.proofs.Making.{goes_both, goes_value, goes_fault}
+use Rattle.patch_task.proofs.Tidy.{tidy_both, untouched_tidy}
 
 -- work on a temporary alone has no effect
 pub works_made : {u v : TreeView} (temp : List ℕ) → is_temp temp ≡ true → WorksOn u v temp → HasMade u v []

@@ -13,7 +13,7 @@ use Rattle.file_patch.specs.PlainPatch.{change_of}
 use Rattle.patch_set.specs.declared.set.Row.{Row}
 use Rattle.reject_text.specs.Rejects.{AreHunks}
 use Rattle.patch_options.specs.PlainJob.{PlainOptions}
-use Rattle.target_names.specs.declared.derived.Target.{Target}
+use Rattle.file_patch.specs.declared.derived.Target.{Target}
 use Rattle.patch_task.specs.Turns.{Mark, PlainTurn, written_by}
 use Rattle.patch_outcome.specs.Outcome.{mark_of, has_rejects, is_unrejected, own_reject, text_if, rejected_before}
 use Rattle.patch_outcome.proofs.Writing.{rejected_are_hunks}

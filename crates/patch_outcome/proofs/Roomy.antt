@@ -5,9 +5,9 @@ use Rattle.std.proofs.lemmas.Option.{none-some, same_Some, get_or_from_slice_get
 use Rattle.std.specs.Prelude.{slice_get}
 use Rattle.std.specs.Option.{ForSome, option_or, option_and_then}
 use Rattle.file_patch.specs.declared.FilePatch.{FilePatch}
-use Rattle.name_marks.specs.Marked.{has_room}
-use Rattle.name_marks.specs.declared.marks.NameMarks.{NameMarks}
-use Rattle.target_names.specs.declared.derived.Target.{Target}
+use Rattle.outside.specs.Marked.{has_room}
+use Rattle.outside.specs.declared.marks.NameMarks.{NameMarks}
+use Rattle.file_patch.specs.declared.derived.Target.{Target}
 use Rattle.patch_set.specs.declared.set.Row.{Row}
 use Rattle.patch_set.specs.Room.{HasRoom, HaveRoom}
 use Rattle.patch_task.specs.Asking.{renames, written_place}

@@ -3,7 +3,7 @@ use Rattle.std.proofs.Common.{◌≡◌, Bool, true, false, not, ◌&&◌, ◌||
 use Rattle.hunk_apply.specs.Written.{is_nothing}
 use Rattle.hunk_core.specs.declared.Side.{Side}
 use Rattle.file_patch.specs.Absent.{deletes}
-use Rattle.target_names.specs.declared.derived.Target.{Target}
+use Rattle.file_patch.specs.declared.derived.Target.{Target}
 use Rattle.patch_task.specs.Asking.{moves, renames, is_bare, acts_new, acts_deleted, takes_files}
 use Rattle.patch_task.specs.Turns.{PlainTurn}
 use Rattle.patch_task.specs.Outputs.{Tried, some_placed}

@@ -6,7 +6,7 @@ use Rattle.outside.specs.Files.{Files}
 use Rattle.hunk_core.specs.declared.Side.{Side}
 use Rattle.hunk_core.specs.declared.Verdict.{Verdict}
 use Rattle.patch_options.specs.PlainJob.{PlainOptions}
-use Rattle.target_names.specs.declared.derived.Target.{Target}
+use Rattle.file_patch.specs.declared.derived.Target.{Target}
 use Rattle.file_patch.specs.declared.Change.{Change}
 use Rattle.file_patch.specs.declared.Change.TheVariants.{Hunks, Script}
 use Rattle.file_patch.specs.PlainPatch.{change_of, is_script}
@@ -14,11 +14,11 @@ use Rattle.reject_text.specs.Rejects.{AreHunks}
 use Rattle.header_record.specs.declared.Action.{Action}
 use Rattle.header_record.specs.declared.Action.TheVariants.{Plain, New, Deleted, Rename, Copy}
 use Rattle.file_patch.specs.Actions.{is_moved}
-use Rattle.patch_effects.specs.TargetEffects.{put_if, backup_effects, target_effects, moved_effects}
+use Rattle.patch_task.specs.TargetEffects.{put_if, backup_effects, target_effects, moved_effects}
 use Rattle.outside.specs.Quiet.{Effect}
 use Rattle.hunk_apply.specs.Written.{is_nothing}
 use Rattle.patch_task.specs.Asking.{is_rename, renames}
-use Rattle.patch_effects.proofs.Placing.{put_count}
+use Rattle.patch_task.proofs.Placing.{put_count}
 use Rattle.patch_task.specs.Turns.{PlainTurn}
 use Rattle.patch_task.specs.Outputs.{Tried}
 use Rattle.patch_outcome.specs.Outcome.{has_rejects, is_backup_due, is_moving, is_unwanted, is_removal, is_written, made_effects, written_effects, rejects_text, reject_effects, effects_of, wrote, is_unrejected}

@@ -9,7 +9,7 @@ use Rattle.hunk_core.specs.declared.Form.TheVariants.{Unified, Context, Normal, 
 use Rattle.hunk_core.specs.declared.Side.{Side}
 use Rattle.hunk_core.specs.declared.Verdict.{Verdict}
 use Rattle.patch_options.specs.PlainJob.{PlainOptions}
-use Rattle.target_names.specs.declared.derived.Target.{Target}
+use Rattle.file_patch.specs.declared.derived.Target.{Target}
 use Rattle.patch_set.specs.declared.set.Row.{Row}
 use Rattle.file_patch.specs.PlainPatch.{PlainChange, is_script}
 use Rattle.file_patch.specs.Absent.{deletes}
@@ -17,7 +17,7 @@ use Rattle.hunk_apply.specs.Session.{is_inexact}
 use Rattle.hunk_apply.specs.Written.{is_nothing}
 use Rattle.reject_text.specs.Rejects.{reject_text, hunks_in}
 use Rattle.say_text.specs.Messages.{not_deleting_line, failures_line}
-use Rattle.patch_effects.specs.TargetEffects.{put_if, backup_effects, target_effects, moved_effects}
+use Rattle.patch_task.specs.TargetEffects.{put_if, backup_effects, target_effects, moved_effects}
 use Rattle.patch_task.specs.Asking.{moves, renames, is_bare, acts_new, acts_deleted, takes_files}
 use Rattle.patch_task.specs.Turns.{Mark, PlainTurn, written, written_by, renamed_by, shown, shown_reject, total}
 use Rattle.patch_task.specs.Outputs.{Tried, failed, some_placed, some_failed}

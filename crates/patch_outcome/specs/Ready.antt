@@ -3,8 +3,8 @@ use Rattle.std.specs.Prelude.{◌≡◌, ℕ, ◌+◌, ◌≤◌, List, [], ◌�
 use Rattle.std.specs.List.{zip}
 use Rattle.std.specs.Option.{ForSome}
 use Rattle.hunk_core.specs.declared.Verdict.{Verdict}
-use Rattle.name_marks.specs.Marked.{is_marked}
-use Rattle.name_marks.specs.declared.marks.NameMarks.{NameMarks}
+use Rattle.outside.specs.Marked.{is_marked}
+use Rattle.outside.specs.declared.marks.NameMarks.{NameMarks}
 use Rattle.patch_options.specs.PlainJob.{PlainOptions}
 use Rattle.file_patch.specs.declared.FilePatch.{FilePatch}
 use Rattle.file_patch.specs.PlainPatch.{row_count}

@@ -15,22 +15,23 @@ ghost use Rattle.file_patch.specs.PlainPatch.{row_count};
 ghost use Rattle.patch_task.specs.Asking.{renames};
 ghost use Rattle.patch_task.specs.Outputs.{Tried, IsSession};
 ghost use Rattle.patch_outcome.specs.Outcome.{is_backup_due, is_backup_apart, is_made_bare, is_written, is_unwanted, is_always_put, is_removal, is_moving, made_effects, written_effects, effects_of, wrote, has_rejects};
-ghost use Rattle.patch_effects.specs.Making.{Makes, GoesQuietly, IsGone, IsTidy};
-ghost use Rattle.patch_effects.specs.Named.{IsNamed};
+ghost use Rattle.patch_task.specs.Making.{Makes, GoesQuietly, IsGone, IsTidy};
+ghost use Rattle.patch_task.specs.Named.{IsNamed};
 ghost use Rattle.patch_outcome.specs.TurnView.{plain_turn, IsTurn};
 
 use crate::past::{is_same, was_written};
 use crate::rejects::put_rejects;
 use crate::saying::{is_taken_away, is_unrejected};
 use crate::turn::Turn;
+use file_patch::Target;
 use hunk_apply::Session;
 use hunk_core::{Side, Verdict};
 use outside::{Failed, Name, Tree};
-use patch_effects::{Made, RunFault, forget, write_moved, write_placed};
 use patch_options::Options;
-use patch_task::{acts_new, is_bare, renames, takes_files};
+use patch_task::{
+    Made, RunFault, acts_new, forget, is_bare, renames, takes_files, write_moved, write_placed,
+};
 use replace_file::Temp;
-use target_names::Target;
 
 /// Makes the effects in their order; the target's temporary holds the output, and is gone afterwards.
 pub fn make_effects<T: Tree>(

@@ -5,7 +5,7 @@ ghost use Rattle.std.specs.Option.{ForSome, option_copied};
 ghost use Rattle.file_patch.specs.PlainPatch.{row_count};
 ghost use Rattle.patch_task.specs.Turns.{Mark, written_by, renamed_by};
 ghost use Rattle.patch_outcome.specs.Outcome.{mark_of, has_name, is_name, was_written};
-ghost use Rattle.patch_effects.specs.Named.{IsNamed};
+ghost use Rattle.patch_task.specs.Named.{IsNamed};
 ghost use Rattle.patch_options.specs.PlainJob.{PlainOptions};
 ghost use Rattle.patch_task.specs.Ready.{IsFit, alone};
 ghost use Rattle.patch_outcome.specs.Ready.{rows_in};
@@ -13,12 +13,11 @@ ghost use Rattle.patch_set.specs.SetView.{SetView};
 ghost use Rattle.patch_outcome.specs.TurnView.{plain_turn, IsTurn};
 
 use crate::turn::Turn;
-use file_patch::FilePatch;
+use file_patch::{FilePatch, Target};
 use hunk_core::Verdict;
 use outside::Name;
 use patch_set::{PatchSet, Row};
 use patch_task::{renames, target_in, written_at};
-use target_names::Target;
 
 /// A file patch before one, and what was done with it.
 #[derive(Drop)]

@@ -12,26 +12,24 @@ ghost use Rattle.replace_file.specs.Puts.{Puts};
 ghost use Rattle.reject_text.specs.Headers.{IsRejectForm};
 ghost use Rattle.reject_text.specs.Rejects.{AreHunks};
 ghost use Rattle.patch_options.specs.PlainJob.{plain_options};
-ghost use Rattle.patch_effects.specs.TargetEffects.{put_if};
+ghost use Rattle.patch_task.specs.TargetEffects.{put_if};
 ghost use Rattle.patch_task.specs.Turns.{PlainTurn};
 ghost use Rattle.patch_outcome.specs.Outcome.{mark_of, own_reject, own_reject_form, reject_form, rejected_before, rejects_text, text_if, has_rejects};
-ghost use Rattle.patch_effects.specs.Making.{Makes, GoesQuietly, IsGone, IsTidy};
-ghost use Rattle.patch_effects.specs.Named.{IsNamed};
+ghost use Rattle.patch_task.specs.Making.{Makes, GoesQuietly, IsGone, IsTidy};
+ghost use Rattle.patch_task.specs.Named.{IsNamed};
 ghost use Rattle.patch_task.specs.Ready.{IsFit, alone};
 ghost use Rattle.patch_outcome.specs.TurnView.{plain_turn, IsTurn};
 
 use crate::past::{Earlier, earlier_patch, is_same, written_by};
 use crate::saying::is_unrejected;
 use crate::turn::Turn;
-use file_patch::FilePatch;
+use file_patch::{FilePatch, Target};
 use hunk_core::{Form, Side, Verdict};
 use outside::{Failed, Name, Sink, Tree};
-use patch_effects::RunFault;
 use patch_options::Options;
-use patch_task::shown;
+use patch_task::{RunFault, shown};
 use reject_text::put_reject;
 use replace_file::{Temp, TempSink, begin_temp, put_begun};
-use target_names::Target;
 
 /// Puts the reject texts so far of the target's reject file, and its own, where hunks were rejected.
 pub fn put_rejects<T: Tree>(

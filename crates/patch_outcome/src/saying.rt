@@ -14,12 +14,12 @@ ghost use Rattle.patch_options.specs.PlainJob.{plain_options};
 ghost use Rattle.patch_task.specs.Outputs.{Tried, IsSession};
 ghost use Rattle.patch_outcome.specs.HunksSaid.{change_said, hunks_said, hunk_said, script_said};
 ghost use Rattle.patch_outcome.specs.Outcome.{kept_said, failures_said, tried_said, is_kept, is_taken_away, is_unrejected, named_reject};
-ghost use Rattle.patch_effects.specs.Named.{IsNamed};
+ghost use Rattle.patch_task.specs.Named.{IsNamed};
 ghost use Rattle.patch_outcome.specs.TurnView.{plain_turn, IsTurn};
 
 use crate::turn::Turn;
 use ed_form::EdScript;
-use file_patch::Change;
+use file_patch::{Change, Target};
 use hunk_apply::Session;
 use hunk_core::{Hunk, Side, Verdict};
 use outside::{Failed, Sink};
@@ -27,7 +27,6 @@ use patch_options::Options;
 use patch_task::{acts_deleted, is_bare, shown, shown_reject, takes_files};
 use reject_text::placed_growth;
 use say_text::{say_failed, say_failures, say_not_deleting, say_placed};
-use target_names::Target;
 
 /// Says what came of the hunks.
 pub fn tell<O: Sink>(

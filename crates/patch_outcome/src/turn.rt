@@ -1,7 +1,7 @@
 //! A file patch whose turn it is.
 
 use hunk_core::Verdict;
-use name_marks::NameMarks;
+use outside::NameMarks;
 use patch_task::Task;
 
 /// A file patch of a set whose turn it is, and what the run knows of those before it.

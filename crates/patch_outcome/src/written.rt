@@ -4,7 +4,7 @@ ghost use Rattle.std.specs.Prelude.{◌≡◌, ◌<◌, ◌||◌, ◌++◌, [], 
 ghost use Rattle.std.specs.Option.{ForSome, option_copied};
 ghost use Rattle.hunk_core.specs.declared.Verdict.{Verdict};
 ghost use Rattle.file_patch.specs.declared.FilePatch.{FilePatch as ThePatch};
-ghost use Rattle.name_marks.specs.Marked.{has_room, is_marked};
+ghost use Rattle.outside.specs.Marked.{has_room, is_marked};
 ghost use Rattle.patch_options.specs.PlainJob.{PlainOptions};
 ghost use Rattle.patch_set.specs.Room.{HasRoom, HaveRoom};
 ghost use Rattle.patch_task.specs.Turns.{Mark, written_by, renamed_by};
@@ -13,10 +13,9 @@ ghost use Rattle.patch_outcome.specs.Ready.{AreWritten};
 ghost use Rattle.patch_task.specs.Ready.{alone};
 
 use crate::past::{renamed_by, written_by};
-use file_patch::FilePatch;
-use name_marks::NameMarks;
+use file_patch::{FilePatch, Target};
+use outside::NameMarks;
 use patch_set::{PatchSet, Row};
-use target_names::Target;
 
 /// The names with those of a file patch more, counted from 0, that has this row.
 pub fn with_row(names: Option<NameMarks>, set: &PatchSet, patch: u32, row: Row) -> Option<NameMarks>

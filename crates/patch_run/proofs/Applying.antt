@@ -15,22 +15,22 @@ use Rattle.hunk_core.specs.declared.Side.{Side}
 use Rattle.hunk_core.specs.declared.Verdict.{Verdict}
 use Rattle.hunk_apply.specs.declared.Session.{Session}
 use Rattle.replace_file.specs.declared.temp.Temp.{Temp}
-use Rattle.patch_effects.specs.declared.fault.RunFault.{RunFault}
-use Rattle.patch_effects.specs.declared.fault.RunFault.TheVariants.{Tree}
+use Rattle.patch_task.specs.declared.fault.RunFault.{RunFault}
+use Rattle.patch_task.specs.declared.fault.RunFault.TheVariants.{Tree}
 use Rattle.patch_task.specs.Outputs.{IsSession}
-use Rattle.patch_attempt.specs.Trying.{IsBegun}
-use Rattle.target_names.specs.declared.derived.Target.{Target}
+use Rattle.patch_start.specs.Trying.{IsBegun}
+use Rattle.file_patch.specs.declared.derived.Target.{Target}
 use Rattle.patch_set.specs.declared.set.Row.{Row}
 use Rattle.patch_run.specs.declared.apply.Done.{Done}
-use Rattle.patch_effects.specs.declared.placed.Made.{Made}
+use Rattle.patch_task.specs.declared.placed.Made.{Made}
 use Rattle.patch_task.specs.TaskView.{with_past}
 use Rattle.patch_run.specs.OnePatch.{Mark, PlainTurn, Tried, bytes_of, output_on, tried, some_failed, is_kept, finished, effects_of, tried_said, wrote}
 use Rattle.patch_run.specs.Run.{cleared}
-use Rattle.patch_effects.specs.Making.{IsGone, IsPart, Makes}
-use Rattle.patch_effects.specs.Named.{IsNamed}
+use Rattle.patch_task.specs.Making.{IsGone, IsPart, Makes}
+use Rattle.patch_task.specs.Named.{IsNamed}
 use Rattle.patch_run.specs.Doing.{IsPartOf, IsWholeOf, IsDone, IsOutcome, IsMadeWhole, IsOrdered}
 use Rattle.patch_outcome.proofs.Moving.{works_made}
-use Rattle.patch_effects.proofs.EffectLists.{after_all-at, made_both, leaves_after, tells_after}
+use Rattle.patch_task.proofs.EffectLists.{after_all-at, made_both, leaves_after, tells_after}
 
 -- the marks of those before it don't change what is written of the hunks
 output_behind : (o : Option (List ℕ)) (past : List Mark) (t : PlainTurn) (side : Side) (ls : List (List ℕ)) → output_on o t side ls ≡ output_on o (with_past past t) side ls

@@ -7,7 +7,7 @@ use Rattle.std.proofs.Math.Bool.{or-true}
 use Rattle.outside.specs.Files.{Files}
 use Rattle.hunk_core.specs.declared.Verdict.{Verdict}
 use Rattle.patch_options.specs.PlainJob.{PlainOptions}
-use Rattle.target_names.specs.declared.derived.Target.{Target}
+use Rattle.file_patch.specs.declared.derived.Target.{Target}
 use Rattle.patch_set.specs.declared.set.Row.{Row}
 use Rattle.patch_run.specs.OnePatch.{Item, Mark, PlainTurn, Ending, ended, stopped, written_by, renamed_by, mark_of, is_name, has_name, was_written, is_backup_apart, is_backup_asked, is_backup_due, ending}
 use Rattle.patch_run.specs.Run.{Run, turn_of, with_ending, if_going, with_item, run_on, run_of}

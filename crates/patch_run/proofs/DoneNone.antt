@@ -7,7 +7,7 @@ use Rattle.outside.specs.Quiet.{Effect, after_all}
 use Rattle.hunk_core.specs.declared.Verdict.{Verdict}
 use Rattle.hunk_core.specs.declared.Verdict.TheVariants.{Ignored}
 use Rattle.patch_options.specs.PlainJob.{PlainOptions}
-use Rattle.target_names.specs.declared.derived.Target.{Target}
+use Rattle.file_patch.specs.declared.derived.Target.{Target}
 use Rattle.patch_run.specs.OnePatch.{Item, PlainTurn, Start, skips, refuses, tries, Ending, ended, stopped, total, bytes_of, lines_in, target_at, written, tried, start, ending_of, ending}
 use Rattle.patch_run.specs.Run.{Run, begun, turn_of, with_ending, if_going, with_item, run_on, run_of, cleared}
 use Rattle.patch_run.specs.Laws.{IsSkip, IsIgnored}

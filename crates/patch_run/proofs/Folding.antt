@@ -11,15 +11,15 @@ use Rattle.hunk_core.specs.declared.Verdict.{Verdict}
 use Rattle.line_store.specs.declared.fault.OpenFault.{OpenFault}
 use Rattle.line_store.specs.declared.fault.OpenFault.TheVariants as open_fault
 use Rattle.patch_options.specs.PlainJob.{PlainOptions}
-use Rattle.target_names.specs.declared.derived.Target.{Target}
-use Rattle.patch_effects.specs.declared.fault.RunFault.{RunFault}
-use Rattle.patch_effects.specs.declared.fault.RunFault.TheVariants.{Tree, Write, Scratch, LongLine, FileTooLong, Disagree, Memory}
+use Rattle.file_patch.specs.declared.derived.Target.{Target}
+use Rattle.patch_task.specs.declared.fault.RunFault.{RunFault}
+use Rattle.patch_task.specs.declared.fault.RunFault.TheVariants.{Tree, Write, Scratch, LongLine, FileTooLong, Disagree, Memory}
 use Rattle.patch_run.specs.declared.apply.Done.{Done}
 use Rattle.patch_run.specs.OnePatch.{Item, PlainTurn, Story, Ending, ended, stopped, ending}
 use Rattle.patch_run.specs.Run.{Run, begun, turn_of, with_story, with_stop, with_ending, if_going, with_item, run_on, run_of}
-use Rattle.patch_effects.specs.Making.{IsPart, UnlessFailed}
+use Rattle.patch_task.specs.Making.{IsPart, UnlessFailed}
 use Rattle.patch_run.specs.Doing.{IsPartOf, IsWholeOf, IsDone, IsStopped, IsBroken, IsFar, IsHalted, IsCutOff, IsOrdered, IsAmid, IsCutIn, IsCutAt, effects_in, said_of}
-use Rattle.patch_effects.proofs.EffectLists.{made_both, leaves_after, tells_after}
+use Rattle.patch_task.proofs.EffectLists.{made_both, leaves_after, tells_after}
 
 run-both : (o : PlainOptions) (output : Option Target) (xs ys : List Item) (r : Run) → run_on o output (xs ++ ys) r ≡ run_on o output ys (run_on o output xs r)
 unfolding run_on

@@ -16,19 +16,19 @@ use Rattle.file_patch.specs.declared.FilePatch.{FilePatch}
 use Rattle.line_store.specs.Store.{Seen}
 use Rattle.line_store.specs.Taking.{KeepsPlan}
 use Rattle.patch_options.specs.PlainJob.{PlainOptions}
-use Rattle.target_names.specs.declared.derived.Target.{Target}
+use Rattle.file_patch.specs.declared.derived.Target.{Target}
 use Rattle.patch_set.specs.declared.set.Row.{Row}
 use Rattle.patch_set.specs.SetView.{SetView, hunks_in, with_row}
-use Rattle.patch_effects.specs.declared.fault.RunFault.{RunFault}
-use Rattle.patch_effects.specs.declared.fault.RunFault.TheVariants.{Tree, Write, Scratch, LongLine, FileTooLong, Disagree, Memory}
+use Rattle.patch_task.specs.declared.fault.RunFault.{RunFault}
+use Rattle.patch_task.specs.declared.fault.RunFault.TheVariants.{Tree, Write, Scratch, LongLine, FileTooLong, Disagree, Memory}
 use Rattle.patch_run.specs.declared.apply.Done.{Done}
 use Rattle.patch_start.specs.Devices.{Told, HasRunCause, scratch_with}
 use Rattle.patch_run.specs.OnePatch.{Item, Mark, PlainTurn, Story, Ending, ending, mark_of}
 use Rattle.patch_run.specs.Run.{Run, run_on, turn_of, with_story, with_ending, run_of, item_of, items_of, set_run}
 use Rattle.patch_outcome.specs.Ready.{AreNumbered, marks, rows_in, turn_at}
-use Rattle.patch_effects.specs.Making.{IsTidy, UnlessFailed}
+use Rattle.patch_task.specs.Making.{IsTidy, UnlessFailed}
 use Rattle.patch_run.specs.Doing.{Stays, IsDone, IsEnded, IsBroken, IsFar, IsCutOff, IsOrdered, IsCutAt, said_of, scratch_behind, StaysSet}
-use Rattle.patch_effects.proofs.Tidy.{tidy_none, tidy_both}
+use Rattle.patch_task.proofs.Tidy.{tidy_none, tidy_both}
 use Rattle.patch_run.proofs.Folding.{run-next, cut_off, cut_here, far_on}
 use Rattle.patch_outcome.proofs.Marks.{verdicts-next, marks-next}
 

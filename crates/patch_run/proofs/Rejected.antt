@@ -18,10 +18,10 @@ use Rattle.hunk_core.specs.declared.Verdict.{Verdict}
 use Rattle.hunk_core.specs.declared.Verdict.TheVariants.{Ignored}
 use Rattle.hunk_apply.specs.Session.{is_failed}
 use Rattle.patch_options.specs.PlainJob.{PlainOptions}
-use Rattle.target_names.specs.declared.derived.Target.{Target}
+use Rattle.file_patch.specs.declared.derived.Target.{Target}
 use Rattle.patch_set.specs.declared.set.Row.{Row}
-use Rattle.patch_effects.specs.TargetEffects.{put_if}
-use Rattle.patch_effects.proofs.EffectLists.{after_all-append}
+use Rattle.patch_task.specs.TargetEffects.{put_if}
+use Rattle.patch_task.proofs.EffectLists.{after_all-append}
 use Rattle.patch_run.specs.OnePatch.{Item, Mark, PlainTurn, Start, skips, refuses, tries, Ending, ended, stopped, Tried, total, bytes_of, lines_in, target_at, written, written_by, tried, failed, written_effects, effects_of, finished_at, is_unrejected, has_rejects, own_reject, mark_of, is_name, text_if, rejected_before, start, ending_of, ending}
 use Rattle.patch_run.specs.Run.{Run, begun, files_after, turn_of, with_ending, if_going, with_item, run_on, run_of}
 use Rattle.patch_run.specs.Laws.{targets_in, is_kept_for, rejects_to}

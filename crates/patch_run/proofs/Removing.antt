@@ -9,8 +9,8 @@ use Rattle.outside.specs.Quiet.Effect.{Put, Remove}
 use Rattle.hunk_apply.specs.Written.{is_nothing}
 use Rattle.file_patch.specs.Absent.{deletes}
 use Rattle.patch_options.specs.PlainJob.{PlainOptions}
-use Rattle.target_names.specs.declared.derived.Target.{Target}
-use Rattle.patch_effects.specs.TargetEffects.{put_if, backup_effects, target_effects, moving_effects, moved_effects}
+use Rattle.file_patch.specs.declared.derived.Target.{Target}
+use Rattle.patch_task.specs.TargetEffects.{put_if, backup_effects, target_effects, moving_effects, moved_effects}
 use Rattle.patch_task.specs.Asking.{moves, renames}
 use Rattle.patch_run.specs.OnePatch.{Item, PlainTurn, Start, skips, refuses, tries, Ending, ended, stopped, Tried, bytes_of, lines_in, target_at, written, tried, is_backup_due, is_removal, is_moving, is_written, made_effects, written_effects, has_rejects, rejects_text, reject_effects, effects_of, finished_at, start, ending_of, ending}
 use Rattle.patch_run.specs.Run.{Run, begun, turn_of, with_ending, if_going, with_item, run_on, run_of}

@@ -7,10 +7,10 @@ use Rattle.outside.specs.Files.{Files, temp_of}
 use Rattle.outside.specs.Quiet.{Effect, after_all}
 use Rattle.outside.specs.Quiet.Effect.{Put, Remove}
 use Rattle.outside.proofs.Names.{apart, get-put, get-gone, get-gone_other}
-use Rattle.target_names.specs.declared.derived.Target.{Target}
-use Rattle.patch_effects.specs.Named.{IsNamed}
-use Rattle.patch_effects.specs.TargetEffects.{backup_effects}
-use Rattle.patch_effects.proofs.EffectLists.{after_all-append}
+use Rattle.file_patch.specs.declared.derived.Target.{Target}
+use Rattle.patch_task.specs.Named.{IsNamed}
+use Rattle.patch_task.specs.TargetEffects.{backup_effects}
+use Rattle.patch_task.proofs.EffectLists.{after_all-append}
 use Rattle.patch_run.specs.OnePatch.{PlainTurn, Tried, is_backup_due, is_moving, is_written, written_effects}
 use Rattle.patch_task.specs.Asking.{renames}
 use Rattle.patch_run.specs.Laws.{IsRenamed}

@@ -14,9 +14,9 @@ use Rattle.line_store.specs.Store.{Seen}
 use Rattle.patch_options.specs.PlainJob.{PlainOptions}
 use Rattle.patch_set.specs.declared.set.Row.{Row}
 use Rattle.patch_set.specs.SetView.{SetView, with_row, hunks_in}
-use Rattle.target_names.specs.declared.derived.Target.{Target}
-use Rattle.patch_effects.specs.declared.fault.RunFault.{RunFault}
-use Rattle.patch_effects.specs.declared.fault.RunFault.TheVariants.{Tree, Write, Scratch, LongLine, FileTooLong, Disagree, Memory}
+use Rattle.file_patch.specs.declared.derived.Target.{Target}
+use Rattle.patch_task.specs.declared.fault.RunFault.{RunFault}
+use Rattle.patch_task.specs.declared.fault.RunFault.TheVariants.{Tree, Write, Scratch, LongLine, FileTooLong, Disagree, Memory}
 use Rattle.patch_run.specs.Applied.{Receipt}
 use Rattle.patch_run.specs.declared.apply.Done.{Done}
 use Rattle.patch_start.specs.Devices.{Told}
@@ -24,7 +24,7 @@ use Rattle.patch_run.specs.OnePatch.{Item, ending}
 use Rattle.patch_run.specs.Run.{Run, items_of, set_run}
 use Rattle.patch_outcome.specs.Ready.{rows_in, turn_at}
 use Rattle.patch_run.specs.Doing.{QuietAfter, Does, IsCutOff, IsCutAt, Runs, NoneFailed, EndsSo, IsReceipt, StaysSet, IsPlacedOn, IsPlacedLast}
-use Rattle.patch_effects.proofs.Tidy.{tidy_both, unless_then}
+use Rattle.patch_task.proofs.Tidy.{tidy_both, unless_then}
 use Rattle.patch_run.proofs.Folding.{cut_moments}
 use Rattle.patch_outcome.proofs.Marks.{rows-last}
 use Rattle.patch_run.proofs.Going.{Goes, IsAt, IsNext, run_to, same-items, same-run, all-run, plan_both, cause_then, at_fault, at_cut}

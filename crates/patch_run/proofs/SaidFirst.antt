@@ -3,7 +3,7 @@ use Rattle.std.proofs.Common.{◌≡◌, List, ◌∷◌, ◌++◌, ℕ, Option,
 use Rattle.outside.specs.Files.{Files}
 use Rattle.patch_options.specs.PlainJob.{PlainOptions}
 use Rattle.say_text.specs.Messages.{skipping_lines}
-use Rattle.target_names.specs.declared.derived.Target.{Target}
+use Rattle.file_patch.specs.declared.derived.Target.{Target}
 use Rattle.patch_run.specs.OnePatch.{Item, PlainTurn, Start, skips, refuses, tries, said_first, lines_in, bytes_of, written, tried, tried_said, ignored_said, Ending, ended, stopped, ending_of, own_start, start, ending}
 use Rattle.patch_run.specs.Run.{begun, turn_of, with_ending, with_item, run_on, run_of}
 use Rattle.patch_run.specs.Doing.{said_of}

@@ -7,8 +7,8 @@ use Rattle.outside.specs.Files.{Files, is_temp, temp_of, bytes_at}
 use Rattle.outside.specs.Quiet.{Effect, after, after_all}
 use Rattle.outside.specs.Quiet.Effect.{Put, Remove}
 use Rattle.outside.proofs.Names.{apart, temp_of_is_temp, get-put_other, get-gone_other}
-use Rattle.target_names.specs.declared.derived.Target.{Target}
-use Rattle.patch_effects.specs.TargetEffects.{put_if, backup_effects, target_effects, moving_effects, moved_effects}
+use Rattle.file_patch.specs.declared.derived.Target.{Target}
+use Rattle.patch_task.specs.TargetEffects.{put_if, backup_effects, target_effects, moving_effects, moved_effects}
 use Rattle.patch_task.specs.Asking.{renames}
 use Rattle.patch_run.specs.OnePatch.{PlainTurn, Tried, is_backup_due, is_removal, is_moving, is_written, made_effects, written_effects, has_rejects, rejects_text, reject_effects, effects_of, wrote}
 use Rattle.patch_run.specs.Run.{cleared}

@@ -7,9 +7,9 @@ use Rattle.outside.specs.Files.{Files}
 use Rattle.outside.specs.Quiet.{Effect, after_all}
 use Rattle.hunk_core.specs.declared.Side.{Side}
 use Rattle.line_list.specs.Lines.{lines}
-use Rattle.target_names.specs.declared.derived.Target.{Target}
-use Rattle.patch_effects.specs.Named.{IsNamed}
-use Rattle.patch_effects.proofs.EffectLists.{after_all-append}
+use Rattle.file_patch.specs.declared.derived.Target.{Target}
+use Rattle.patch_task.specs.Named.{IsNamed}
+use Rattle.patch_task.proofs.EffectLists.{after_all-append}
 use Rattle.patch_task.specs.Asking.{renames}
 use Rattle.patch_run.specs.OnePatch.{PlainTurn, Tried, bytes_of, lines_in, target_at, written, tried, output_on, is_written, is_removal, written_effects, reject_effects, effects_of, has_rejects, rejects_text, wrote, finished_at}
 use Rattle.patch_run.specs.Run.{cleared}

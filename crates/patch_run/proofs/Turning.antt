@@ -17,18 +17,18 @@ use Rattle.line_store.specs.Store.{Seen, Keeps}
 use Rattle.line_store.specs.declared.fault.OpenFault.{OpenFault}
 use Rattle.line_store.specs.declared.fault.OpenFault.TheVariants as open_fault
 use Rattle.patch_set.specs.declared.set.Row.{Row}
-use Rattle.patch_effects.specs.declared.fault.RunFault.{RunFault}
-use Rattle.patch_effects.specs.declared.fault.RunFault.TheVariants.{Tree, Write, Scratch, LongLine, FileTooLong, Disagree, Memory}
+use Rattle.patch_task.specs.declared.fault.RunFault.{RunFault}
+use Rattle.patch_task.specs.declared.fault.RunFault.TheVariants.{Tree, Write, Scratch, LongLine, FileTooLong, Disagree, Memory}
 use Rattle.patch_start.specs.declared.starting.Decision.{Decision}
 use Rattle.patch_start.specs.declared.starting.Decision.TheVariants.{Skip, Try}
 use Rattle.patch_run.specs.declared.apply.Done.{Done}
 use Rattle.patch_run.specs.OnePatch.{PlainTurn, Start, skips, refuses, tries, total, ignored_said, bytes_of, lines_in, start, skipped, finished_at, ending_of, ending}
 use Rattle.patch_start.specs.Devices.{Told, HasRunCause, scratch_with}
 use Rattle.patch_start.specs.Starting.{Starts, IsDecided, IsBrokenOff, said_in, taken_in}
-use Rattle.patch_effects.specs.Making.{TidyAfter, UnlessFailed}
+use Rattle.patch_task.specs.Making.{TidyAfter, UnlessFailed}
 use Rattle.patch_run.specs.Doing.{Stays, QuietAfter, IsPartOf, IsWholeOf, IsDone, IsEnded, IsStopped, IsBroken, IsDeviceFault, IsOrdered, Does, effects_in, said_of}
-use Rattle.patch_effects.proofs.EffectLists.{made_both, leaves_after, tells_after}
-use Rattle.patch_effects.proofs.Tidy.{tidy_both, untouched_tidy, unless_held, unless_then}
+use Rattle.patch_task.proofs.EffectLists.{made_both, leaves_after, tells_after}
+use Rattle.patch_task.proofs.Tidy.{tidy_both, untouched_tidy, unless_held, unless_then}
 use Rattle.patch_run.proofs.Applying.{unmade, ordered_after, ordered_behind}
 use Rattle.patch_run.proofs.Going.{Goes, plan_both, cause_then, told_then}
 

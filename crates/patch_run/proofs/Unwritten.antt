@@ -12,8 +12,8 @@ use Rattle.outside.specs.Quiet.Effect.{Put}
 use Rattle.hunk_core.specs.declared.Side.{Side}
 use Rattle.hunk_core.specs.declared.Verdict.{Verdict}
 use Rattle.patch_options.specs.PlainJob.{PlainOptions}
-use Rattle.target_names.specs.declared.derived.Target.{Target}
-use Rattle.patch_effects.specs.TargetEffects.{put_if, backup_effects}
+use Rattle.file_patch.specs.declared.derived.Target.{Target}
+use Rattle.patch_task.specs.TargetEffects.{put_if, backup_effects}
 use Rattle.patch_task.specs.Asking.{renames}
 use Rattle.patch_run.specs.OnePatch.{Item, PlainTurn, Start, skips, refuses, tries, Ending, ended, stopped, bytes_of, lines_in, target_at, written, tried, wrote, finished_at, mark_of, has_name, was_written, is_backup_apart, is_backup_asked, is_backup_due, start, ending_of, ending}
 use Rattle.patch_run.specs.Run.{Run, begun, files_after, turn_of, with_ending, if_going, with_item, run_on, run_of}

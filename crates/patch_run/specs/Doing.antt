@@ -10,8 +10,8 @@ use Rattle.line_store.specs.Store.{Seen}
 use Rattle.line_store.specs.Taking.{KeepsPlan}
 use Rattle.line_store.specs.declared.fault.OpenFault.{OpenFault}
 use Rattle.line_store.specs.declared.fault.OpenFault.TheVariants as open_fault
-use Rattle.patch_effects.specs.declared.fault.RunFault.{RunFault}
-use Rattle.patch_effects.specs.declared.fault.RunFault.TheVariants.{Tree, Write, Scratch, LongLine, FileTooLong, Disagree, Memory}
+use Rattle.patch_task.specs.declared.fault.RunFault.{RunFault}
+use Rattle.patch_task.specs.declared.fault.RunFault.TheVariants.{Tree, Write, Scratch, LongLine, FileTooLong, Disagree, Memory}
 use Rattle.std.specs.FinMap.{get}
 use Rattle.outside.specs.TreeView as tree
 use Rattle.outside.specs.SinkView as sink
@@ -19,11 +19,11 @@ use Rattle.line_store.specs.Store as store
 use Rattle.outside.specs.Quiet.{Holds, after_all}
 use Rattle.hunk_core.specs.declared.Side.{Side}
 use Rattle.hunk_apply.specs.declared.Session.{Session}
-use Rattle.target_names.specs.declared.derived.Target.{Target}
+use Rattle.file_patch.specs.declared.derived.Target.{Target}
 use Rattle.patch_run.specs.declared.apply.Done.{Done}
-use Rattle.patch_effects.specs.declared.placed.Made.{Made}
+use Rattle.patch_task.specs.declared.placed.Made.{Made}
 use Rattle.patch_task.specs.Outputs.{IsSession}
-use Rattle.patch_effects.specs.Making.{IsGone, IsPart, TidyAfter, UnlessFailed}
+use Rattle.patch_task.specs.Making.{IsGone, IsPart, TidyAfter, UnlessFailed}
 use Rattle.patch_run.specs.OnePatch.{Item, PlainTurn, Tried, Story, Ending, ended, stopped, effects_of, tried_said, wrote, ending}
 use Rattle.hunk_core.specs.declared.Verdict.TheVariants.{Ignored}
 use Rattle.hunk_apply.specs.Change.{change_verdicts}

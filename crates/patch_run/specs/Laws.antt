@@ -12,7 +12,7 @@ use Rattle.patch_options.specs.PlainJob.{PlainOptions}
 use Rattle.name_choice.specs.Choice.{side_of}
 use Rattle.name_choice.specs.declared.Choice.{Choice}
 use Rattle.name_choice.specs.declared.Choice.TheVariants.{Existing, Create, Nothing}
-use Rattle.target_names.specs.declared.derived.Target.{Target}
+use Rattle.file_patch.specs.declared.derived.Target.{Target}
 use Rattle.patch_set.specs.declared.set.Row.{Row}
 use Rattle.patch_task.specs.Asking.{renames}
 use Rattle.patch_run.specs.OnePatch.{Item, Mark, PlainTurn, Start, skips, refuses, tries, Ending, ended, stopped, target_at, written_by, renamed_by, bytes_of, lines_in, first_hunk, is_reversed, turns_round, lacks_word, refusal_of, is_in_the_way, is_name, finished_at}

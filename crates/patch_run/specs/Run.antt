@@ -6,7 +6,7 @@ use Rattle.outside.specs.Files.{Files, temp_of}
 use Rattle.outside.specs.Quiet.{Effect, after_all}
 use Rattle.line_store.specs.declared.fault.OpenFault.{OpenFault}
 use Rattle.patch_options.specs.PlainJob.{PlainOptions}
-use Rattle.target_names.specs.declared.derived.Target.{Target}
+use Rattle.file_patch.specs.declared.derived.Target.{Target}
 use Rattle.patch_set.specs.SetView.{SetView}
 pub use Rattle.patch_task.specs.Ready.{item_of}
 use Rattle.patch_run.specs.OnePatch.{Item, Mark, PlainTurn, Story, Ending, ended, stopped, mark_of, ending}

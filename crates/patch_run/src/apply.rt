@@ -13,25 +13,23 @@ ghost use Rattle.hunk_apply.specs.Session.{IsTried};
 ghost use Rattle.file_patch.specs.PlainPatch.{row_count};
 ghost use Rattle.patch_run.specs.OnePatch.{Tried, ignored_said, bytes_of, lines_in, effects_of, tried_said, some_failed, is_kept, finished_at, ending};
 ghost use Rattle.patch_task.specs.Outputs.{IsSession};
-ghost use Rattle.patch_attempt.specs.Trying.{IsBegun};
+ghost use Rattle.patch_start.specs.Trying.{IsBegun};
 ghost use Rattle.patch_run.specs.Doing.{Does, Stays, QuietAfter, IsDone, IsPartOf, IsDeviceFault, HasEndCause, IsOutcome, IsMadeWhole, IsOrdered};
-ghost use Rattle.patch_effects.specs.Making.{IsGone, IsTidy, TidyAfter};
+ghost use Rattle.patch_task.specs.Making.{IsGone, IsTidy, TidyAfter};
 ghost use Rattle.patch_start.specs.Devices.{Told};
-ghost use Rattle.patch_effects.specs.Named.{IsNamed};
+ghost use Rattle.patch_task.specs.Named.{IsNamed};
 ghost use Rattle.patch_outcome.specs.TurnView.{plain_turn, IsTurn};
 
+use file_patch::Target;
 use hunk_apply::Session;
 use hunk_core::{Side, Verdict};
 use line_store::{LineStore, Plan};
 use outside::{Failed, Sink, Tree};
-use patch_attempt::{Attempt, try_hunks};
-use patch_effects::{Made, RunFault};
 use patch_outcome::{Turn, is_kept, make_effects, tell};
 use patch_set::Row;
-use patch_start::{Decision, start};
-use patch_task::{chosen, is_bare, written};
+use patch_start::{Attempt, Decision, start, try_hunks};
+use patch_task::{Made, RunFault, chosen, is_bare, written};
 use say_text::say_ignored;
-use target_names::Target;
 
 /// What became of a file patch.
 #[derive(Clone, Copy, Debug, PartialEq, Eq)]

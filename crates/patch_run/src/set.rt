@@ -23,13 +23,11 @@ use crate::applied::Applied;
 use crate::apply::{Done, apply_one};
 use hunk_core::Verdict;
 use line_store::Plan;
-use name_marks::NameMarks;
-use outside::{Sink, Tree};
-use patch_effects::RunFault;
+use outside::{NameMarks, Sink, Tree};
 use patch_options::Options;
 use patch_outcome::{Turn, with_row};
 use patch_set::PatchSet;
-use patch_task::Task;
+use patch_task::{RunFault, Task};
 
 /// Carries out the file patches of a set one after another, each on the files that those before it left: what is said
 /// goes to `out`, and the effects are made on the tree. The plan holds the lines of one file at a time. Afterwards the set

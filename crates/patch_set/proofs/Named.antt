@@ -13,7 +13,7 @@ use Rattle.file_patch.specs.declared.FilePatch.{FilePatch}
 use Rattle.file_patch.specs.PlainPatch.{header_of, change_of, patch_of, hunk_count, row_count, IsLawfulChange}
 use Rattle.file_patch.specs.Absent.{told_absent, is_absent, IsLawfulPatch}
 use Rattle.patch_options.specs.PlainJob.{PlainOptions}
-use Rattle.target_names.specs.Numbered.{joined_by}
+use Rattle.file_patch.specs.Numbered.{joined_by}
 use Rattle.patch_set.specs.Named.{names_of, targets_of}
 use Rattle.patch_set.specs.Naming.{IsNamed, AreNamed}
 use Rattle.patch_set.specs.SetView.{hunks_in}

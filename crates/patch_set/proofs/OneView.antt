@@ -7,7 +7,7 @@ use Rattle.file_patch.specs.declared.FilePatch.{FilePatch}
 use Rattle.file_patch.specs.PlainPatch.{PlainPatch, header_of, row_count}
 use Rattle.header_record.specs.declared.Header.{Header}
 use Rattle.patch_options.specs.PlainJob.{PlainOptions}
-use Rattle.target_names.specs.declared.derived.Target.{Target}
+use Rattle.file_patch.specs.declared.derived.Target.{Target}
 use Rattle.patch_text.specs.Patches.{patches_of}
 use Rattle.patch_text.specs.Regions.{region_of, regions_of}
 use Rattle.patch_text.specs.Changes.{AreCut}

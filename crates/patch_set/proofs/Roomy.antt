@@ -5,9 +5,9 @@ use Rattle.std.proofs.lemmas.List.Elements.{All-weaker}
 use Rattle.std.proofs.lemmas.Option.{none-some, same_Some}
 use Rattle.std.proofs.lemmas.Slice.Eq.{bytes_eq-Decides}
 use Rattle.file_patch.specs.declared.FilePatch.{FilePatch}
-use Rattle.name_marks.specs.Marked.{has_room, is_marked}
-use Rattle.name_marks.specs.declared.marks.NameMarks.{NameMarks}
-use Rattle.target_names.specs.declared.derived.Target.{Target}
+use Rattle.outside.specs.Marked.{has_room, is_marked}
+use Rattle.outside.specs.declared.marks.NameMarks.{NameMarks}
+use Rattle.file_patch.specs.declared.derived.Target.{Target}
 use Rattle.patch_set.specs.Room.{AreBlank, AreUnmarked, GivesRoom, HasRoom, HaveRoom}
 use Rattle.patch_set.specs.SetView.{SetView, IsWhole}
 

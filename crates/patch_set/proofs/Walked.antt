@@ -5,7 +5,7 @@ use Rattle.std.proofs.Math.Seq.{drop-length}
 use Rattle.file_patch.specs.declared.FilePatch.{FilePatch}
 use Rattle.file_patch.specs.PlainPatch.{patch_of, header_of}
 use Rattle.patch_options.specs.PlainJob.{PlainOptions}
-use Rattle.target_names.specs.Numbered.{joined_by}
+use Rattle.file_patch.specs.Numbered.{joined_by}
 use Rattle.patch_set.specs.Named.{patch_names, names_of}
 use Rattle.patch_set.specs.Naming.{IsNamed}
 use Rattle.patch_set.proofs.Joined.{joined-append}

@@ -7,7 +7,7 @@ use Rattle.patch_header.specs.declared.ways.Ways.{Ways}
 use Rattle.patch_text.specs.Regions.{region_of, regions_of}
 use Rattle.patch_set.specs.declared.names.NamedPatches.{NamedPatches}
 use Rattle.patch_set.specs.declared.set.Notes.{Notes}
-use Rattle.target_names.specs.declared.derived.Target.{Target}
+use Rattle.file_patch.specs.declared.derived.Target.{Target}
 use Rattle.patch_set.specs.Room.{AreBlank}
 use Rattle.patch_set.specs.SetView.{SetView, IsFresh, IsWhole, first_row, hunks_in}
 use Rattle.patch_set.specs.Skipped.{skipped_lines}

@@ -5,8 +5,8 @@ use Rattle.std.specs.Option.{option_map_or}
 use Rattle.file_patch.specs.declared.Change.{Change}
 use Rattle.file_patch.specs.declared.Change.TheVariants.{Hunks, Script}
 use Rattle.file_patch.specs.declared.FilePatch.{FilePatch}
-use Rattle.target_names.specs.declared.derived.Target.{Target}
-use Rattle.target_names.specs.Targets.{is_reserved}
+use Rattle.file_patch.specs.declared.derived.Target.{Target}
+use Rattle.file_patch.specs.Targets.{is_reserved}
 
 -- the change is an ed script
 abbrev pub is_script_change : Change → Bool

@@ -4,13 +4,13 @@ use Rattle.std.specs.List.{flat_map}
 use Rattle.std.specs.Option.{option_to_list}
 use Rattle.file_patch.specs.PlainPatch.{PlainHeader, PlainPatch}
 use Rattle.patch_options.specs.PlainJob.{PlainOptions}
-use Rattle.target_names.specs.declared.derived.Target.{Target}
-use Rattle.target_names.specs.Candidates.{candidates}
-use Rattle.target_names.specs.Moved.{moved_names}
+use Rattle.file_patch.specs.declared.derived.Target.{Target}
+use Rattle.file_patch.specs.Candidates.{candidates}
+use Rattle.file_patch.specs.Moved.{moved_names}
 use Rattle.file_patch.specs.Actions.{is_moved}
 use Rattle.patch_set.specs.Asked.{is_posix}
-use Rattle.target_names.specs.Numbered.{number_in, distinct}
-use Rattle.target_names.specs.Targets.{target_of}
+use Rattle.file_patch.specs.Numbered.{number_in, distinct}
+use Rattle.file_patch.specs.Targets.{target_of}
 
 -- the file operand alone, where there is one
 abbrev pub operand_or : Option (List ℕ) → List (List ℕ) → List (List ℕ)

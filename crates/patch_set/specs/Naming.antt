@@ -4,8 +4,8 @@ use Rattle.std.specs.Option.{ForSome}
 use Rattle.file_patch.specs.declared.FilePatch.{FilePatch}
 use Rattle.file_patch.specs.PlainPatch.{header_of, patch_of}
 use Rattle.patch_options.specs.PlainJob.{PlainOptions}
-use Rattle.target_names.specs.declared.derived.Target.{Target}
-use Rattle.target_names.specs.Targets.{HasTemps}
+use Rattle.file_patch.specs.declared.derived.Target.{Target}
+use Rattle.file_patch.specs.Targets.{HasTemps}
 use Rattle.patch_set.specs.Named.{known_names, output_of, targets_of}
 
 -- a file patch and what it is with its targets

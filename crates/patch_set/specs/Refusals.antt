@@ -8,7 +8,7 @@ use Rattle.hunk_core.specs.declared.fault.FormFault.TheVariants as forms
 use Rattle.hunk_core.specs.Reading.{Fault}
 use Rattle.file_patch.specs.PlainPatch.{PlainPatch, is_script}
 use Rattle.patch_options.specs.PlainJob.{PlainOptions}
-use Rattle.target_names.specs.Targets.{is_reserved}
+use Rattle.file_patch.specs.Targets.{is_reserved}
 use Rattle.patch_text.specs.Patches.{patches_of}
 use Rattle.patch_set.specs.declared.fault.SetFault.{SetFault}
 use Rattle.patch_set.specs.declared.fault.SetFault.TheVariants as faults

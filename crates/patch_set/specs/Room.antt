@@ -1,11 +1,11 @@
 -- Room for marks at the names that a run can make or take away.
 use Rattle.std.specs.Prelude.{◌≡◌, ℕ, List, All, Bool, true, false, not, ◌&&◌, ◌||◌, Option}
 use Rattle.std.specs.Option.{ForSome}
-use Rattle.name_marks.specs.Marked.{has_room, is_marked}
-use Rattle.name_marks.specs.declared.marks.NameMarks.{NameMarks}
+use Rattle.outside.specs.Marked.{has_room, is_marked}
+use Rattle.outside.specs.declared.marks.NameMarks.{NameMarks}
 use Rattle.file_patch.specs.declared.FilePatch.{FilePatch}
 use Rattle.patch_options.specs.PlainJob.{PlainOptions}
-use Rattle.target_names.specs.declared.derived.Target.{Target}
+use Rattle.file_patch.specs.declared.derived.Target.{Target}
 
 -- a run with these options can ask for a backup of a file, and then whether the run itself made or took it away
 abbrev pub are_asked : PlainOptions → Bool

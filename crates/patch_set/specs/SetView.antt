@@ -9,8 +9,8 @@ use Rattle.file_patch.specs.declared.FilePatch.{FilePatch}
 use Rattle.file_patch.specs.PlainPatch.{PlainPatch, header_of, patch_of, row_count}
 use Rattle.file_patch.specs.Absent.{IsLawfulPatch}
 use Rattle.patch_options.specs.PlainJob.{PlainOptions}
-use Rattle.target_names.specs.declared.derived.Target.{Target}
-use Rattle.target_names.specs.Targets.{HasTemps, IsLasting}
+use Rattle.file_patch.specs.declared.derived.Target.{Target}
+use Rattle.file_patch.specs.Targets.{HasTemps, IsLasting}
 use Rattle.patch_header.specs.declared.ways.Ways.{Ways}
 use Rattle.patch_text.specs.Patches.{patches_of}
 use Rattle.patch_text.specs.Regions.{region_of, regions_of}

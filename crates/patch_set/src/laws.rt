@@ -6,7 +6,7 @@ ghost use Rattle.hunk_core.specs.declared.Verdict.{Verdict};
 ghost use Rattle.file_patch.specs.PlainPatch.{PlainPatch, row_count};
 ghost use Rattle.outside.specs.Names.{is_absolute};
 ghost use Rattle.patch_options.specs.PlainJob.{PlainOptions};
-ghost use Rattle.target_names.specs.Numbered.{is_among};
+ghost use Rattle.file_patch.specs.Numbered.{is_among};
 ghost use Rattle.patch_set.specs.declared.set.Row.{Row};
 ghost use Rattle.patch_set.specs.Named.{known_names, patch_names, target_in};
 ghost use Rattle.patch_set.specs.OneView.{AreOne};

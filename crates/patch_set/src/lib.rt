@@ -14,7 +14,7 @@ mod skipped;
 
 pub use asked::{is_posix, ways_of};
 pub use fault::SetFault;
-pub use file_patch::{Change, FilePatch};
+pub use file_patch::{Change, FilePatch, Target};
 pub use header_name::plain_name;
 pub use laws::{
     a_set_in_bytes, bare_headers_have_no_hunk, numbers_tell_targets_apart, one_view,
@@ -23,4 +23,3 @@ pub use laws::{
 pub use names::{NamedPatches, bytes_in};
 pub use reading::{give_targets, read_set, whole_text};
 pub use set::{PatchSet, Row};
-pub use target_names::Target;

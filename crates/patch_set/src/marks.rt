@@ -4,11 +4,10 @@ ghost use Rattle.std.specs.Option.{ForSome};
 ghost use Rattle.patch_options.specs.PlainJob.{plain_options};
 ghost use Rattle.patch_set.specs.Room.{are_asked, AreBlank, AreUnmarked, GivesRoom, HasRoom, HaveRoom};
 
-use file_patch::FilePatch;
-use name_marks::NameMarks;
+use file_patch::{FilePatch, Target};
+use outside::NameMarks;
 use patch_options::Options;
 use std::alloc::{AllocError, Global};
-use target_names::Target;
 
 /// Whether a run can ask for a backup, of which it has to know whether it made or took away the file itself.
 pub fn are_asked(options: &Options) -> bool

@@ -3,22 +3,21 @@ ghost use Rattle.std.specs.Prelude.{◌≡◌, ◌++◌, ℕ, List, [], IfOk, On
 ghost use Rattle.std.specs.Option.{ForSome, option_copied, option_to_list};
 ghost use Rattle.file_patch.specs.PlainPatch.{bytes_in, header_of, patch_of};
 ghost use Rattle.patch_options.specs.PlainJob.{plain_options, IsLawful};
-ghost use Rattle.target_names.specs.Candidates.{candidates};
-ghost use Rattle.target_names.specs.Moved.{moved_names};
+ghost use Rattle.file_patch.specs.Candidates.{candidates};
+ghost use Rattle.file_patch.specs.Moved.{moved_names};
 ghost use Rattle.file_patch.specs.Actions.{is_moved};
-ghost use Rattle.target_names.specs.Numbered.{number_in, with_name, joined_by};
-ghost use Rattle.target_names.specs.Targets.{target_of, HasTemps};
+ghost use Rattle.file_patch.specs.Numbered.{number_in, with_name, joined_by};
+ghost use Rattle.file_patch.specs.Targets.{target_of, HasTemps};
 ghost use Rattle.patch_set.specs.Named.{known_names, names_of, output_of, own_names, patch_names, target_in};
 ghost use Rattle.patch_set.specs.Naming.{IsNamed, AreNamed};
 
 use crate::asked::is_posix;
-use file_patch::FilePatch;
+use file_patch::{FilePatch, Numbers, Target, candidates, moved_names};
 use header_record::{Action, Header};
 use line_list::Span;
 use outside::Name;
 use patch_options::Options;
 use std::alloc::{AllocError, Global};
-use target_names::{Numbers, Target, candidates, moved_names};
 
 /// File patches with their targets, and the output's target.
 #[derive(Drop)]

@@ -14,13 +14,12 @@ use crate::header_name::plain_name;
 use crate::marks::room_if;
 use crate::names::NamedPatches;
 use crate::skipped::skipped_lines;
-use file_patch::FilePatch;
+use file_patch::{FilePatch, Target};
 use hunk_core::{Side, Verdict};
-use name_marks::NameMarks;
+use outside::NameMarks;
 use patch_header::Ways;
 use std::alloc::{AllocError, Global};
 use std::marker::Model;
-use target_names::Target;
 
 /// What was done with a file patch.
 #[derive(Clone, Copy, Debug, PartialEq, Eq)]

@@ -11,10 +11,10 @@ use Rattle.line_store.specs.declared.fault.LineFault.TheVariants as line_fault
 use Rattle.line_store.specs.Store.{Seen, Keeps, HasCause}
 use Rattle.line_store.proofs.StoreLemmas.{keeps-more}
 use Rattle.say_text.specs.Messages.{silenced, reversed_line}
-use Rattle.patch_effects.specs.declared.fault.RunFault.{RunFault}
-use Rattle.patch_effects.specs.declared.fault.RunFault.TheVariants.{Tree, Write, Scratch, LongLine, FileTooLong, Disagree, Memory}
+use Rattle.patch_task.specs.declared.fault.RunFault.{RunFault}
+use Rattle.patch_task.specs.declared.fault.RunFault.TheVariants.{Tree, Write, Scratch, LongLine, FileTooLong, Disagree, Memory}
 use Rattle.patch_start.specs.declared.starting.Decision.{Decision}
-use Rattle.patch_effects.specs.Faults.{of_line}
+use Rattle.patch_task.specs.Faults.{of_line}
 use Rattle.patch_task.specs.Turns.{PlainTurn}
 use Rattle.patch_start.specs.Start.{Start, skips, refuses, tries, said_first, skips_at, on_direction, on_prereq, prereq_said, lacks_word, lines_in, first_hunk, is_reversed, turns_round}
 use Rattle.patch_start.specs.Starting.{said_in, IsDecided, Holds, HasPlanCause, Weighs}

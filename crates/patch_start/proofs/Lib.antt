@@ -3,3 +3,5 @@ mod StartSteps
 mod StartTaken
 mod Deciding
 pub mod Places
+mod Parting
+mod Trying

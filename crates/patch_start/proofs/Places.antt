@@ -9,7 +9,7 @@ use Rattle.outside.specs.Files.{Files}
 use Rattle.hunk_core.specs.declared.Side.{Side}
 use Rattle.line_store.specs.declared.fault.OpenFault.{OpenFault}
 use Rattle.header_record.specs.declared.Action.{Action}
-use Rattle.target_names.specs.declared.derived.Target.{Target}
+use Rattle.file_patch.specs.declared.derived.Target.{Target}
 use Rattle.name_choice.specs.declared.Choice.{Choice}
 use Rattle.name_choice.specs.declared.Choice.TheVariants.{Existing, Create, Nothing}
 use Rattle.name_choice.specs.Better.{best_among}

@@ -14,8 +14,8 @@ use Rattle.line_store.specs.Taking.{KeepsPlan}
 use Rattle.line_store.specs.declared.fault.OpenFault.{OpenFault}
 use Rattle.line_store.specs.declared.fault.OpenFault.TheVariants as open_fault
 use Rattle.patch_set.specs.declared.set.Row.{Row}
-use Rattle.patch_effects.specs.declared.fault.RunFault.{RunFault}
-use Rattle.patch_effects.specs.declared.fault.RunFault.TheVariants.{Tree, Write, Scratch, LongLine, FileTooLong, Disagree, Memory}
+use Rattle.patch_task.specs.declared.fault.RunFault.{RunFault}
+use Rattle.patch_task.specs.declared.fault.RunFault.TheVariants.{Tree, Write, Scratch, LongLine, FileTooLong, Disagree, Memory}
 use Rattle.patch_start.specs.declared.starting.Decision.{Decision}
 use Rattle.patch_start.specs.declared.starting.Decision.TheVariants.{Skip}
 use Rattle.patch_start.specs.Start.{Start, skips, refuses, tries, said_first}

@@ -7,8 +7,8 @@ use Rattle.outside.specs.SinkView.{SinkView}
 use Rattle.outside.specs.SinkView as sink
 use Rattle.line_store.specs.Store.{Seen}
 use Rattle.line_store.specs.Store as store
-use Rattle.patch_effects.specs.declared.fault.RunFault.{RunFault}
-use Rattle.patch_effects.specs.declared.fault.RunFault.TheVariants.{Tree, Write, Scratch, LongLine, FileTooLong, Disagree, Memory}
+use Rattle.patch_task.specs.declared.fault.RunFault.{RunFault}
+use Rattle.patch_task.specs.declared.fault.RunFault.TheVariants.{Tree, Write, Scratch, LongLine, FileTooLong, Disagree, Memory}
 
 -- the tree tells these files, and the plan's scratch its bytes
 abbrev pub Told : TreeView → Seen → Files → Type 0

@@ -1,3 +1,4 @@
 pub mod Start
 pub mod Devices
 pub mod Starting
+pub mod Trying

@@ -15,7 +15,7 @@ use Rattle.patch_header.specs.Values.{is_white}
 use Rattle.header_record.specs.declared.Action.{Action}
 use Rattle.header_record.specs.declared.Action.TheVariants.{Plain, New, Deleted, Rename, Copy}
 use Rattle.patch_options.specs.PlainJob.{PlainOptions}
-use Rattle.target_names.specs.declared.derived.Target.{Target}
+use Rattle.file_patch.specs.declared.derived.Target.{Target}
 use Rattle.patch_set.specs.declared.set.Row.{Row}
 use Rattle.file_patch.specs.PlainPatch.{PlainChange, hunks, script}
 use Rattle.file_patch.specs.Absent.{creates}

@@ -12,11 +12,11 @@ use Rattle.line_store.specs.Store as store
 use Rattle.line_store.specs.Taking.{KeepsPlan}
 use Rattle.line_store.specs.declared.fault.OpenFault.{OpenFault}
 use Rattle.line_store.specs.declared.fault.OpenFault.TheVariants as open_fault
-use Rattle.patch_effects.specs.declared.fault.RunFault.{RunFault}
-use Rattle.patch_effects.specs.declared.fault.RunFault.TheVariants.{Tree, Write, Scratch, LongLine, FileTooLong, Disagree, Memory}
+use Rattle.patch_task.specs.declared.fault.RunFault.{RunFault}
+use Rattle.patch_task.specs.declared.fault.RunFault.TheVariants.{Tree, Write, Scratch, LongLine, FileTooLong, Disagree, Memory}
 use Rattle.patch_start.specs.declared.starting.Decision.{Decision}
 use Rattle.patch_start.specs.declared.starting.Decision.TheVariants.{Skip, Try}
-use Rattle.patch_effects.specs.Faults.{of_open}
+use Rattle.patch_task.specs.Faults.{of_open}
 use Rattle.patch_start.specs.Start.{Start, skips, refuses, tries, lines_in, refusal_of}
 use Rattle.patch_start.specs.Devices.{Told, HasRunCause, scratch_with}
 

@@ -1,10 +1,14 @@
-//! How a file patch is taken: which file it is meant for, whether its hunks are tried on that, and from which side.
+//! How a file patch is taken: which file it is meant for, whether its hunks are tried on that, and from which side; and how they
+//! are tried, and its output written to a temporary.
 #![tactic(auto)]
 
 mod choices;
+mod discard;
+mod fill;
 mod naming;
 mod starting;
 mod weighing;
 mod word;
 
+pub use fill::{Attempt, try_hunks};
 pub use starting::{Decision, start};

@@ -2,14 +2,14 @@
 
 ghost use Rattle.std.specs.Prelude.{◌≡◌, ◌<◌, length};
 ghost use Rattle.say_text.specs.Origins.{plain_origin};
-ghost use Rattle.patch_effects.specs.Named.{IsNamed};
+ghost use Rattle.patch_task.specs.Named.{IsNamed};
 ghost use Rattle.patch_start.specs.Start.{named, origin_of};
 ghost use Rattle.patch_task.specs.TaskView.{plain_task, IsTask};
 
+use file_patch::Target;
 use header_record::Action;
 use patch_task::{Task, chosen, shown, written};
 use say_text::Origin;
-use target_names::Target;
 
 /// The target that is named first.
 pub fn named<'a>(task: &Task<'a>, place: u32) -> &'a Target

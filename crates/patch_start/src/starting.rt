@@ -8,7 +8,7 @@ ghost use Rattle.outside.specs.Calls.{IsUntouched};
 ghost use Rattle.outside.specs.SinkView.{Writes};
 ghost use Rattle.name_choice.specs.Choice.{IsWithin as IsAmong, side_of};
 ghost use Rattle.say_text.specs.Messages.{no_file_lines, skipping_lines};
-ghost use Rattle.patch_effects.specs.declared.fault.RunFault.TheVariants.{Write};
+ghost use Rattle.patch_task.specs.declared.fault.RunFault.TheVariants.{Write};
 ghost use Rattle.patch_task.specs.Turns.{Mark, bytes_of};
 ghost use Rattle.patch_start.specs.Start.{has_bytes, is_in_the_way, start, own_start, is_first, choice_of, on_target, on_creation, on_existing, on_taking};
 ghost use Rattle.patch_start.specs.Starting.{Starts, Takes, IsPresent, IsWithin};
@@ -21,9 +21,8 @@ use hunk_core::Side;
 use line_store::{OpenFault, Plan};
 use name_choice::{Choice, choose};
 use outside::{Failed, Name, Sink, Tree};
-use patch_effects::RunFault;
 use patch_set::{Row, is_posix};
-use patch_task::{Task, chosen, shown, written};
+use patch_task::{RunFault, Task, chosen, shown, written};
 use say_text::{say_exists, say_no_file, say_patching, say_skipped};
 
 /// What becomes of a file patch.

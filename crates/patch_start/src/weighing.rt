@@ -17,9 +17,8 @@ use hunk_core::{Hunk, Side};
 use hunk_place::looks_reversed;
 use line_store::{LineFault, LineStore};
 use outside::Sink;
-use patch_effects::RunFault;
 use patch_set::bytes_in;
-use patch_task::Task;
+use patch_task::{RunFault, Task};
 use say_text::{say_prereq, say_reversed};
 
 /// Decides, the plan standing for the lines of the chosen file; `there` says that it is there.

@@ -3,7 +3,7 @@ use Rattle.std.proofs.Common.{◌≡◌, ◌<◌, ◌≤◌, ℕ, List, length, 
 use Rattle.std.specs.List.{slice_get, HoldsAt}
 use Rattle.std.specs.Option.{IfSome, MatchOption, option_copied}
 use Rattle.std.proofs.lemmas.Option.{slice_get_past, slice_get_read}
-use Rattle.target_names.specs.declared.derived.Target.{Target}
+use Rattle.file_patch.specs.declared.derived.Target.{Target}
 
 pub got : (r : Option (Bor Target)) (xs : List Target) (i : ℕ) → IfSome r (λ x. x.now ≡ get_or xs i x.now) → MatchOption r (length xs ≤ i) (λ x. (i < length xs) × HoldsAt (λ y. x.now ≡ y) xs i) → option_copied r ≡ slice_get xs i
 got None xs i here h = sym (slice_get_past xs i h)

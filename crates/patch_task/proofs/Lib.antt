@@ -1,1 +1,6 @@
 mod Getting
+pub mod EffectLists
+pub mod Filling
+pub mod Making
+pub mod Placing
+pub mod Tidy

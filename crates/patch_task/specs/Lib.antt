@@ -3,3 +3,7 @@ pub mod Turns
 pub mod Ready
 pub mod TaskView
 pub mod Outputs
+pub mod Faults
+pub mod Making
+pub mod Named
+pub mod TargetEffects

@@ -6,7 +6,7 @@ use Rattle.file_patch.specs.declared.FilePatch.{FilePatch}
 use Rattle.file_patch.specs.PlainPatch.{patch_of, row_count}
 use Rattle.file_patch.specs.Absent.{IsLawfulPatch}
 use Rattle.patch_set.specs.SetView.{SetView}
-use Rattle.patch_effects.specs.Named.{IsNamed}
+use Rattle.patch_task.specs.Named.{IsNamed}
 use Rattle.patch_task.specs.Turns.{Item, PlainTurn}
 
 -- a file patch of a set, of whose text these lines are passed over

@@ -4,7 +4,7 @@ use Rattle.std.specs.Option.{option_or, option_and_then}
 use Rattle.std.specs.FinMap.{get}
 use Rattle.outside.specs.Files.{Files}
 use Rattle.patch_options.specs.PlainJob.{PlainOptions}
-use Rattle.target_names.specs.declared.derived.Target.{Target}
+use Rattle.file_patch.specs.declared.derived.Target.{Target}
 use Rattle.file_patch.specs.PlainPatch.{PlainPatch, hunk_count}
 use Rattle.patch_set.specs.declared.set.Row.{Row}
 use Rattle.patch_task.specs.Asking.{renames, written_place}

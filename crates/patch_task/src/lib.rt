@@ -1,10 +1,17 @@
-//! A file patch that is carried out: what it asks for, the names of its files, and what comes of its hunks.
+//! A file patch that is carried out: what it asks for, the names of its files, what comes of its hunks, the effects on its target
+//! in their order, and why a run doesn't come to its end.
 #![tactic(auto)]
 
 mod asking;
+mod fault;
+mod moved;
 mod names;
+mod placed;
 mod task;
 
 pub use asking::{acts_deleted, acts_new, is_bare, renames, takes_files};
+pub use fault::RunFault;
+pub use moved::write_moved;
 pub use names::{chosen, shown, shown_reject, target_in, written, written_at};
+pub use placed::{Made, forget, write_placed};
 pub use task::Task;

@@ -4,14 +4,13 @@ ghost use Rattle.std.specs.Prelude.{◌≡◌, ◌<◌, ℕ, List, length, drop,
 ghost use Rattle.std.specs.Option.{ForSome, option_copied};
 ghost use Rattle.patch_task.specs.Turns.{shown, shown_reject, written, written_at, target_at};
 ghost use Rattle.patch_task.specs.Ready.{item_of};
-ghost use Rattle.patch_effects.specs.Named.{BeginsComponent, IsNamed};
+ghost use Rattle.patch_task.specs.Named.{BeginsComponent, IsNamed};
 ghost use Rattle.patch_task.specs.TaskView.{plain_task, IsTask};
 
 use crate::asking::written_place;
 use crate::task::Task;
-use file_patch::FilePatch;
+use file_patch::{FilePatch, Target};
 use outside::Name;
-use target_names::Target;
 
 /// The name as messages show it.
 pub fn shown(target: &Target) -> &str

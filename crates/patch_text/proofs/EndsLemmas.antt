@@ -17,8 +17,8 @@ use Rattle.hunk_core.specs.PlainHunk.{Marked, PlainHunk, bytes_at, hunks_of}
 use Rattle.hunk_core.specs.declared.hunks.Hunks as read
 use Rattle.hunk_core.specs.Pieces.{AreInTurn, AreSound, AreWhole, SpellInTurn}
 use Rattle.hunk_core.proofs.PieceLemmas.{piece-lines}
-use Rattle.diff_command.specs.declared.Action.{Action}
-use Rattle.diff_command.specs.declared.Action.TheVariants as actions
+use Rattle.hunk_core.specs.declared.command.Action.{Action}
+use Rattle.hunk_core.specs.declared.command.Action.TheVariants as actions
 use Rattle.unified_form.specs.Ranges.{is_opening}
 use Rattle.unified_form.specs.Grammar as unified
 use Rattle.unified_form.proofs.Pieces as unified_pieces

@@ -1,14 +1,16 @@
-//! A plan that holds the whole file in memory.
+//! A plan that holds the whole file in memory, and one that is chosen by the size of each file.
 #![tactic(auto)]
 
 ghost use Rattle.std.specs.Prelude.{◌≡◌, ◌≤◌, true};
 ghost use Rattle.line_store.specs.Taking.{IsSize, IsReset, IsEmpty};
 
+mod auto;
 mod cut;
 mod places;
 mod text;
 
 use crate::text::{Text, take_text};
+pub use auto::AutoPlan;
 use line_store::{Half, Halves, LineFault, LineStore, OpenFault, Plan, Stretch};
 use outside::{Name, Tree};
 use std::alloc::Global;

@@ -10,20 +10,20 @@ use Rattle.std.specs.Int.{div_ceil}
 use Rattle.std.proofs.lemmas.Nat.{div-mul-add, mod-mul-add}
 use Rattle.outside.specs.TreeView.{TreeView}
 use Rattle.line_list.specs.Lines.{lines, with_first}
-use Rattle.file_pieces.proofs.LongLines.{longest-behind}
+use Rattle.page_pair.proofs.LongLines.{longest-behind}
 use Rattle.plan_b.specs.declared.layout.Layout.{Layout}
 use Rattle.plan_b.specs.declared.filling.Filling.{Filling}
-use Rattle.file_pieces.specs.Records.{longest, record_of}
+use Rattle.page_pair.specs.Records.{longest, record_of}
 use Rattle.plan_b.specs.Pages.{front_pages, pages_of_width}
-use Rattle.file_pieces.specs.Reading.{IsPart, IsWhole, IsOpen}
+use Rattle.page_pair.specs.Reading.{IsPart, IsWhole, IsOpen}
 use Rattle.plan_b.specs.Filling.{IsFilled, IsReady}
 use Rattle.plan_b.specs.Layout.{IsLayout}
 use Rattle.plan_b.specs.Copying.{Copies, IsLineFault, IsCopyFault, IsCopied, IsWritten, IsEndFault}
-use Rattle.file_pieces.specs.Reading.{IsTakeFault}
+use Rattle.page_pair.specs.Reading.{IsTakeFault}
 use Rattle.outside.specs.ScratchView.{ScratchView, ScratchPasses}
 use Rattle.line_store.specs.declared.fault.OpenFault.{OpenFault}
 use Rattle.line_store.specs.declared.fault.OpenFault.TheVariants.{Tree, Scratch, LongLine, FileTooLong, Disagree, Memory}
-use Rattle.file_pieces.proofs.Cuts.{part-line, slice-length}
+use Rattle.page_pair.proofs.Cuts.{part-line, slice-length}
 
 pub copies-none : (l : Layout) (told : Option (List ℕ)) (page : List ℕ) (f : Filling) (piece : List ℕ) (last : Bool) → Copies l told told page page f f piece last 0
 copies-none l told page f piece last = record {

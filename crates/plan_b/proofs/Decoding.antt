@@ -9,14 +9,14 @@ use Rattle.std.proofs.lemmas.List.FromFn.{length-range_with_len, get_or-range_wi
 use Rattle.std.specs.List.{flat_map, range_with_len}
 use Rattle.std.specs.Int.{w32, to_le_bytes, from_le_bytes, div_ceil}
 use Rattle.plan_b.specs.declared.layout.Layout.{Layout}
-use Rattle.file_pieces.specs.Records.{longest, record_of}
+use Rattle.page_pair.specs.Records.{longest, record_of}
 use Rattle.plan_b.specs.Pages.{page_with, lines_on, front_pages}
 use Rattle.plan_b.specs.Layout.{IsLayout, HasRecords, place_of, decoded}
-use Rattle.file_pieces.specs.Records.{stated, line_in}
-use Rattle.file_pieces.proofs.LongLines.{longest-at}
-use Rattle.file_pieces.proofs.Records.{record-length, padded-length}
+use Rattle.page_pair.specs.Records.{stated, line_in}
+use Rattle.page_pair.proofs.LongLines.{longest-at}
+use Rattle.page_pair.proofs.Records.{record-length, padded-length}
 use Rattle.plan_b.proofs.Layouts.{rows-fit, some-fit}
-use Rattle.file_pieces.proofs.Windows.{window, part-at, uniform-length, uniform-at}
+use Rattle.page_pair.proofs.Windows.{window, part-at, uniform-length, uniform-at}
 
 -- the lines of a page are lines
 on-at : (q : ℕ) (ls : List (List ℕ)) (j i : ℕ) → i < length (lines_on q ls j) → get_or (lines_on q ls j) i [] ≡ get_or ls (j * q + i) []

@@ -4,15 +4,15 @@ use Rattle.std.proofs.lemmas.Bool.{false≢true}
 use Rattle.std.proofs.lemmas.List.{append-nil, take_all, drop_all, take-append-le, drop-append-le, length-take}
 use Rattle.std.proofs.lemmas.List.Concat.{flat_map-append}
 use Rattle.std.specs.List.{flat_map, range_with_len}
-use Rattle.file_pieces.proofs.Windows.{told-before}
+use Rattle.page_pair.proofs.Windows.{told-before}
 use Rattle.plan_b.specs.declared.layout.Layout.{Layout}
 use Rattle.plan_b.specs.declared.filling.Filling.{Filling}
-use Rattle.file_pieces.specs.Records.{longest, padded, record_of}
+use Rattle.page_pair.specs.Records.{longest, padded, record_of}
 use Rattle.plan_b.specs.Pages.{page_with, lines_on, front_pages}
-use Rattle.file_pieces.specs.Records.{Extends}
+use Rattle.page_pair.specs.Records.{Extends}
 use Rattle.plan_b.specs.Filling.{IsReady, IsFilled}
-use Rattle.file_pieces.proofs.LongLines.{longest-more}
-use Rattle.file_pieces.proofs.Records.{record-length, padded-length}
+use Rattle.page_pair.proofs.LongLines.{longest-more}
+use Rattle.page_pair.proofs.Records.{record-length, padded-length}
 
 pub once-more : (a q : ℕ) → (a + 1) * q ≡ a * q + q
 once-more a q = grind arith

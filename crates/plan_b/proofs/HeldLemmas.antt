@@ -11,13 +11,13 @@ use Rattle.line_store.specs.declared.Half.TheVariants.{First, Second}
 use Rattle.line_store.specs.declared.halves.Halves.{Halves}
 use Rattle.line_store.specs.Halves.{half_of}
 use Rattle.page_pair.specs.Pair.{Pair, page_of}
-use Rattle.file_pieces.specs.Held.{HasPageCause}
-use Rattle.file_pieces.proofs.Told.{mapped-lines}
+use Rattle.page_pair.specs.Held.{HasPageCause}
+use Rattle.page_pair.proofs.Told.{mapped-lines}
 use Rattle.plan_b.specs.declared.layout.Layout.{Layout}
 use Rattle.plan_b.specs.Layout.{IsLayout, page_number, place_on_page, place_of, decoded, lines_told, told-some}
-use Rattle.file_pieces.specs.Records.{stated, line_in}
+use Rattle.page_pair.specs.Records.{stated, line_in}
 use Rattle.plan_b.specs.Held.{seen_of, HoldsPage, HoldsRecords, IsLoaded, IsHeld, page_held}
-use Rattle.file_pieces.proofs.Windows.{window}
+use Rattle.page_pair.proofs.Windows.{window}
 use Rattle.plan_b.proofs.Layouts.{place-fits}
 
 mapped-some : (f : ℕ → ℕ) (o : Option ℕ) (j : ℕ) → option_map f o ≡ Some j → (k : ℕ) × ((o ≡ Some k) × (f k ≡ j))

@@ -10,8 +10,8 @@ use Rattle.line_store.specs.declared.halves.Halves.{Halves}
 use Rattle.line_store.specs.Halves.{half_of}
 use Rattle.line_store.specs.Store.{line_at, NoneAlike}
 use Rattle.page_pair.specs.Pair.{Pair, page_of, IsPair}
-use Rattle.file_pieces.specs.Records.{stated, line_in}
-use Rattle.file_pieces.specs.Alike.{TellsAlike, FindsFirst}
+use Rattle.page_pair.specs.Records.{stated, line_in}
+use Rattle.page_pair.specs.Alike.{TellsAlike, FindsFirst}
 use Rattle.plan_b.specs.declared.layout.Layout.{Layout}
 use Rattle.plan_b.specs.declared.spots.Spot.{Spot}
 use Rattle.plan_b.specs.declared.spots.Spots.{Spots}

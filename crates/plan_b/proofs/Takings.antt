@@ -13,7 +13,7 @@ use Rattle.line_store.specs.Halves.{half_of}
 use Rattle.line_store.specs.Store.{Seen}
 use Rattle.line_store.specs.Taking.{first_long, Takes, IsEmpty}
 use Rattle.page_pair.specs.Pair.{Pair}
-use Rattle.file_pieces.proofs.Told.{told-something, admitted-is}
+use Rattle.page_pair.proofs.Told.{told-something, admitted-is}
 use Rattle.plan_b.specs.declared.layout.Layout.{Layout}
 use Rattle.plan_b.specs.Pages.{width_of, pages, pages_of_width, front_pages}
 use Rattle.plan_b.specs.Layout.{IsLayout, decoded, lines_told, told-none, told-some}

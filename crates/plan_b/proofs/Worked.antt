@@ -1,8 +1,8 @@
 -- The format at the lines `a` and `bcd`, each with its line feed.
 use Rattle.std.proofs.Common.{◌≡◌, [], ◌∷◌, refl}
-use Rattle.file_pieces.proofs.Told.{two_lines}
+use Rattle.page_pair.proofs.Told.{two_lines}
 use Rattle.plan_b.specs.Pages.{width_of}
-use Rattle.file_pieces.specs.Records.{record_of}
+use Rattle.page_pair.specs.Records.{record_of}
 
 pub width_worked : width_of two_lines ≡ 8
 width_worked = refl

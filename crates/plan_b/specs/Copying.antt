@@ -8,9 +8,9 @@ use Rattle.line_store.specs.declared.fault.OpenFault.{OpenFault}
 use Rattle.line_store.specs.declared.fault.OpenFault.TheVariants.{Tree, Scratch, LongLine, FileTooLong, Disagree, Memory}
 use Rattle.plan_b.specs.declared.layout.Layout.{Layout}
 use Rattle.plan_b.specs.declared.filling.Filling.{Filling}
-use Rattle.file_pieces.specs.Records.{longest}
+use Rattle.page_pair.specs.Records.{longest}
 use Rattle.plan_b.specs.Pages.{pages_of_width}
-use Rattle.file_pieces.specs.Reading.{IsPart}
+use Rattle.page_pair.specs.Reading.{IsPart}
 use Rattle.plan_b.specs.Filling.{IsFilled}
 
 -- whole lines of a piece were filled in, up to a place of it

@@ -3,7 +3,7 @@ use Rattle.std.specs.Prelude.{◌≡◌, ℕ, ◌+◌, ◌*◌, ◌^◌, ◌<◌
 use Rattle.std.specs.List.{flat_map}
 use Rattle.plan_b.specs.declared.layout.Layout.{Layout}
 use Rattle.plan_b.specs.declared.filling.Filling.{Filling}
-use Rattle.file_pieces.specs.Records.{longest, record_of}
+use Rattle.page_pair.specs.Records.{longest, record_of}
 use Rattle.plan_b.specs.Pages.{front_pages}
 
 -- where the next record goes: behind whole pages, on a page that isn't full

@@ -9,7 +9,7 @@ use Rattle.line_store.specs.Store.{Seen}
 use Rattle.page_pair.specs.Pair.{Pair, page_of}
 use Rattle.plan_b.specs.declared.layout.Layout.{Layout}
 use Rattle.plan_b.specs.Layout.{IsLayout, HasRecords, page_number, place_on_page, lines_told}
-use Rattle.file_pieces.specs.Records.{stated}
+use Rattle.page_pair.specs.Records.{stated}
 
 -- a plan stands for the lines that its scratch holds
 abbrev pub seen_of : Layout → Halves → ScratchView → Seen

@@ -6,7 +6,7 @@ use Rattle.std.proofs.lemmas.Bool.Decides.{nat_tests}
 use Rattle.std.proofs.lemmas.List.FromFn.{length-map-range_with_len}
 use Rattle.std.specs.Option.{option_map}
 use Rattle.std.specs.List.{range_with_len}
-use Rattle.file_pieces.specs.Records.{stated, line_in}
+use Rattle.page_pair.specs.Records.{stated, line_in}
 use Rattle.line_store.specs.Taking.{IsSize}
 use Rattle.plan_b.specs.declared.layout.Layout.{Layout}
 

@@ -2,7 +2,7 @@
 use Rattle.std.specs.Prelude.{ℕ, ◌+◌, ◌*◌, ◌/◌, List, length, take, drop}
 use Rattle.std.specs.List.{flat_map, range_with_len}
 use Rattle.std.specs.Int.{div_ceil}
-use Rattle.file_pieces.specs.Records.{longest, padded, record_of}
+use Rattle.page_pair.specs.Records.{longest, padded, record_of}
 
 -- the width of a record: 4 bytes, and the longest line
 abbrev pub width_of : List (List ℕ) → ℕ

@@ -5,7 +5,7 @@ use Rattle.line_store.specs.declared.Half.TheVariants.{First, Second}
 use Rattle.line_store.specs.declared.halves.Halves.{Halves}
 use Rattle.line_store.specs.Halves.{half_of}
 use Rattle.line_store.specs.Store.{NoneAlike, line_at}
-use Rattle.file_pieces.specs.Records.{stated, line_in}
+use Rattle.page_pair.specs.Records.{stated, line_in}
 use Rattle.plan_b.specs.declared.layout.Layout.{Layout}
 use Rattle.plan_b.specs.declared.spots.Spot.{Spot}
 use Rattle.plan_b.specs.declared.spots.Spots.{Spots}

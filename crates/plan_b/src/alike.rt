@@ -7,7 +7,7 @@ ghost use Rattle.line_store.specs.Store.{Keeps, HasCause, IsFirstAlike, IsLastAl
 ghost use Rattle.plan_b.specs.Layout.{lines_told};
 ghost use Rattle.plan_b.specs.Held.{seen_of, IsHeld};
 ghost use Rattle.plan_b.specs.Spots.{AreSpots, FindsLast};
-ghost use Rattle.file_pieces.specs.Alike.{FindsFirst};
+ghost use Rattle.page_pair.specs.Alike.{FindsFirst};
 
 use crate::layout::Layout;
 use crate::loading::load_line;

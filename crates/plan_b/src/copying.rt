@@ -9,18 +9,18 @@ ghost use Rattle.page_pair.specs.Pair.{page_of};
 ghost use Rattle.plan_b.specs.Layout.{IsLayout};
 ghost use Rattle.plan_b.specs.Pages.{width_of, pages_of_width};
 ghost use Rattle.plan_b.specs.Filling.{IsReady, IsFilled};
-ghost use Rattle.file_pieces.specs.Reading.{told_file, HasLength, IsNoneWhole};
+ghost use Rattle.page_pair.specs.Reading.{told_file, HasLength, IsNoneWhole};
 ghost use Rattle.plan_b.specs.Measuring.{IsMeasuredAs};
 ghost use Rattle.plan_b.specs.Copying.{Copies, IsLineFault, IsCopyFault, IsCopied, IsEndFault, IsWritten};
-ghost use Rattle.file_pieces.specs.Reading.{IsTakeFault};
+ghost use Rattle.page_pair.specs.Reading.{IsTakeFault};
 
 use crate::filling::{Filling, put_record};
 use crate::layout::Layout;
-use file_pieces::paging::{restart, write_page};
-use file_pieces::reading::{read_piece, whole_line};
 use line_store::{Half, OpenFault};
 use outside::{Name, Scratch, Tree};
 use page_pair::PagePair;
+use page_pair::paging::{restart, write_page};
+use page_pair::reading::{read_piece, whole_line};
 
 /// The lines before a place are filled in.
 #[derive(Clone, Copy)]

@@ -6,15 +6,15 @@ ghost use Rattle.line_store.specs.declared.Half.TheVariants.{First, Second};
 ghost use Rattle.outside.specs.ScratchView.{ScratchPasses, overwritten};
 ghost use Rattle.page_pair.specs.Pair.{page_of};
 ghost use Rattle.plan_b.specs.Layout.{IsLayout};
-ghost use Rattle.file_pieces.specs.Records.{padded, record_of};
-ghost use Rattle.file_pieces.specs.Records.{Extends, IsWriteFault};
+ghost use Rattle.page_pair.specs.Records.{padded, record_of};
+ghost use Rattle.page_pair.specs.Records.{Extends, IsWriteFault};
 ghost use Rattle.plan_b.specs.Filling.{IsReady, IsFilled};
 
 use crate::layout::Layout;
-use file_pieces::paging::{make_record, write_page};
 use line_store::OpenFault;
 use outside::Scratch;
 use page_pair::PagePair;
+use page_pair::paging::{make_record, write_page};
 
 /// So many whole pages are written, and so many records made on the next one.
 #[derive(Clone, Copy)]

@@ -23,10 +23,10 @@ use crate::layout::Layout;
 use crate::loading::load_line;
 use crate::spots::Spots;
 use crate::taking::take_pages;
-use file_pieces::record::line_of;
 use line_store::{Half, Halves, LineFault, LineStore, OpenFault, Plan};
 use outside::{Name, Scratch, Tree};
 use page_pair::PagePair;
+use page_pair::record::line_of;
 
 /// The lines of a file as records on padded pages of a scratch. Each half of the pair holds one of the pages.
 #[derive(Drop)]

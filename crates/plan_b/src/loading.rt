@@ -7,18 +7,18 @@ ghost use Rattle.line_store.specs.Halves.{half_of};
 ghost use Rattle.line_store.specs.Store.{Keeps, HasCause};
 ghost use Rattle.page_pair.specs.Pair.{page_of};
 ghost use Rattle.plan_b.specs.Layout.{IsLayout, HasRecords, page_number, place_on_page};
-ghost use Rattle.file_pieces.specs.Records.{stated};
+ghost use Rattle.page_pair.specs.Records.{stated};
 ghost use Rattle.plan_b.specs.Spots.{IsSpot, AreSpots};
 ghost use Rattle.plan_b.specs.Held.{seen_of, IsHeld, IsLoaded, HoldsPage, HoldsRecords, page_held, ReadsOnceAtMost};
-ghost use Rattle.file_pieces.specs.Held.{HasPageCause};
+ghost use Rattle.page_pair.specs.Held.{HasPageCause};
 
 use crate::layout::Layout;
 use crate::spots::{Spot, Spots};
 use crate::stepping::near;
-use file_pieces::record::stated_length;
 use line_store::{Half, Halves, LineFault};
 use outside::Scratch;
 use page_pair::PagePair;
+use page_pair::record::stated_length;
 
 /// Reads a page of the scratch into a half.
 pub fn read_page<C: Scratch>(

@@ -3,15 +3,15 @@
 ghost use Rattle.std.specs.Prelude.{◌≡◌, ◌<◌, ◌^◌, ℕ, List, Some, IfOk, IfErr};
 ghost use Rattle.line_list.specs.Lines.{lines};
 ghost use Rattle.outside.specs.Calls.{IsThere, IsUntouched};
-ghost use Rattle.file_pieces.specs.Reading.{told_file, HasLength, IsMeasureFault};
+ghost use Rattle.page_pair.specs.Reading.{told_file, HasLength, IsMeasureFault};
 ghost use Rattle.plan_b.specs.Layout.{IsLayout};
 ghost use Rattle.plan_b.specs.Measuring.{IsMeasuredAs};
 
 use crate::layout::Layout;
-use file_pieces::measuring::measure;
 use line_store::OpenFault;
 use outside::{Name, Tree};
 use page_pair::PagePair;
+use page_pair::measuring::measure;
 
 /// The layout of the lines of a file of `length` bytes.
 pub fn measure_layout<T: Tree>(

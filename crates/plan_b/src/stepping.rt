@@ -1,14 +1,14 @@
 //! Records reached from that of the line that a half holds, on the same page.
 
 ghost use Rattle.std.specs.Prelude.{◌≡◌, ◌≤◌, ◌<◌, ◌+◌, ◌-◌, ◌^◌, IsTrue, ◌↔◌, ℕ, List, length, None, Some, IfSome};
-ghost use Rattle.file_pieces.specs.Records.{stated, line_in};
+ghost use Rattle.page_pair.specs.Records.{stated, line_in};
 ghost use Rattle.plan_b.specs.Layout.{IsLayout};
 ghost use Rattle.plan_b.specs.Spots.{IsRecord, Follows, IfNear, Misses};
-ghost use Rattle.file_pieces.specs.Alike.{TellsAlike};
+ghost use Rattle.page_pair.specs.Alike.{TellsAlike};
 
 use crate::layout::Layout;
 use crate::spots::Spot;
-use file_pieces::record::{line_of, stated_length};
+use page_pair::record::{line_of, stated_length};
 
 /// The line that a pass over a page came to, its record, and whether it is alike.
 #[derive(Clone, Copy)]

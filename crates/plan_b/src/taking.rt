@@ -6,19 +6,19 @@ ghost use Rattle.line_store.specs.Taking.{refusal, HasOpenCause};
 ghost use Rattle.outside.specs.Calls.{IsThere, IsUntouched};
 ghost use Rattle.outside.specs.ScratchView.{ScratchPasses};
 ghost use Rattle.plan_b.specs.Layout.{IsLayout};
-ghost use Rattle.file_pieces.specs.Held.{bare};
-ghost use Rattle.file_pieces.specs.Records.{IsWriteFault};
-ghost use Rattle.file_pieces.specs.Reading.{told_file};
+ghost use Rattle.page_pair.specs.Held.{bare};
+ghost use Rattle.page_pair.specs.Records.{IsWriteFault};
+ghost use Rattle.page_pair.specs.Reading.{told_file};
 ghost use Rattle.plan_b.specs.Copying.{IsWritten};
 ghost use Rattle.plan_b.specs.Measuring.{IsMeasuredAs};
 
 use crate::copying::copy_anew;
 use crate::layout::Layout;
 use crate::measuring::measure_layout;
-use file_pieces::reading::size_of;
 use line_store::OpenFault;
 use outside::{Name, Scratch, Tree};
 use page_pair::PagePair;
+use page_pair::reading::size_of;
 
 /// The least number of bytes that is too many.
 const TOO_LONG: u64 = 1 << 40;

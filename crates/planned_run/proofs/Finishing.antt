@@ -25,8 +25,8 @@ use Rattle.patch_run.specs.Applied.{Receipt}
 use Rattle.patch_start.specs.Devices.{Told, HasRunCause}
 use Rattle.patch_run.specs.Doing.{Runs, IsReceipt, IsPartOf, IsCutAt, scratch_behind}
 use Rattle.patch_run.specs.Run.{Run, items_of, set_run}
-use Rattle.patch_effects.specs.declared.fault.RunFault.{RunFault}
-use Rattle.patch_effects.specs.declared.fault.RunFault.TheVariants.{Tree, Write, Scratch, LongLine, FileTooLong, Disagree, Memory}
+use Rattle.patch_task.specs.declared.fault.RunFault.{RunFault}
+use Rattle.patch_task.specs.declared.fault.RunFault.TheVariants.{Tree, Write, Scratch, LongLine, FileTooLong, Disagree, Memory}
 use Rattle.planned_run.specs.Scratches.{has_scratch, is_paged, goes_there, pages_of, pages_or, scratch_behind_all}
 use Rattle.planned_run.specs.Finishes.{IsToldTo, HasPlanCause, IsNotBegun, LeavesVerdicts, LeavesRows, Finishes}
 

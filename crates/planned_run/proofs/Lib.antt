@@ -1,1 +1,6 @@
 mod Finishing
+pub mod SamePlan
+pub mod Matching
+pub mod Receipts
+pub mod Entry
+pub mod Written

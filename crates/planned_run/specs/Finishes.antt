@@ -17,9 +17,9 @@ use Rattle.patch_set.specs.SetView.{SetView, IsRead, HasVerdicts}
 use Rattle.patch_run.specs.Applied.{Receipt}
 use Rattle.patch_run.specs.Run.{Run, items_of, set_run}
 use Rattle.patch_run.specs.Doing.{QuietAfter, IsFar, IsCutOff, IsCutAt}
-use Rattle.patch_effects.specs.Making.{TidyAfter}
-use Rattle.patch_effects.specs.declared.fault.RunFault.{RunFault}
-use Rattle.patch_effects.specs.declared.fault.RunFault.TheVariants.{Tree, Write, Scratch, LongLine, FileTooLong, Disagree, Memory}
+use Rattle.patch_task.specs.Making.{TidyAfter}
+use Rattle.patch_task.specs.declared.fault.RunFault.{RunFault}
+use Rattle.patch_task.specs.declared.fault.RunFault.TheVariants.{Tree, Write, Scratch, LongLine, FileTooLong, Disagree, Memory}
 use Rattle.planned_run.specs.Scratches.{has_scratch, is_paged, scratch_behind_all}
 
 -- a set that was read with these options

@@ -1,2 +1,4 @@
 pub mod Scratches
 pub mod Finishes
+pub mod Outcome
+pub mod Answer

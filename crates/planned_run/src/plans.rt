@@ -8,15 +8,14 @@ ghost use Rattle.patch_options.specs.declared.options.PlanKind.TheVariants.{Whol
 ghost use Rattle.planned_run.specs.Scratches.{has_scratch};
 ghost use Rattle.planned_run.specs.Finishes.{CanApply, Finishes, LeavesVerdicts, LeavesRows};
 
-use auto_plan::AutoPlan;
 use outside::{Scratch, Sink, Tree};
 use packed_pages::PackedB;
 use page_pair::PagePair;
-use patch_effects::RunFault;
 use patch_options::{Options, PlanKind};
 use patch_run::{Applied, apply_set};
 use patch_set::PatchSet;
-use plan_a::PlanA;
+use patch_task::RunFault;
+use plan_a::{AutoPlan, PlanA};
 use plan_b::PlanB;
 use std::alloc::Global;
 

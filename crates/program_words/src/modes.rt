@@ -2,8 +2,8 @@
 
 use crate::lines::{Lines, Part, is_feed};
 use crate::names::both_names;
+use file_patch::{last_component, shortened};
 use real_devices::Passed;
-use target_names::{last_component, shortened};
 
 /// The mode that a file gets without being given one.
 const USUAL: &[u8] = b"100644";

@@ -2,10 +2,10 @@
 
 use crate::barred::{NOTHING, put_none};
 use crate::lines::{Lines, Part, is_feed};
+use file_patch::{candidates, moved_names};
 use memchr::{memchr, memmem, memrchr};
 use outside::Name;
 use std::alloc::{AllocError, Global};
-use target_names::{candidates, moved_names};
 use unified_form::at_opening;
 
 /// Why a file isn't made.

@@ -1,9 +1,11 @@
-//! The text of a reject file: the hunks of a file patch that have no place, in the unified or the context form.
+//! The text of a reject file, of a file patch or of one of a set: the hunks that have no place, in the unified or the context form.
 #![tactic(auto)]
 
 mod header;
 mod moving;
 mod rejects;
+mod set;
 
 pub use moving::{nets_in_words, placed_growth};
 pub use rejects::put_reject;
+pub use set::put_rejects;

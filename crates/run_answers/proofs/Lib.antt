@@ -1,3 +1,5 @@
 pub mod Opens
 pub mod Names
 pub mod Writes
+pub mod Disagreeing
+pub mod Taking

@@ -6,7 +6,7 @@ use Rattle.outside.specs.Files.{Files}
 use Rattle.outside.specs.TreeView.{TreeView, IsCall, MayLeave, LeftSince, passes_none, passes_both}
 use Rattle.outside.specs.Calls.{IsUntouched, LeavesNoMore}
 use Rattle.outside.proofs.Views.{since_call, since_split}
-use Rattle.patch_effects.specs.Making.{IsTidy}
+use Rattle.patch_task.specs.Making.{IsTidy}
 use Rattle.run_answers.specs.Moments.{Opens}
 
 at_now : (u : TreeView) (c : Files) → LeftSince u u.moment c → MayLeave u c

@@ -3,3 +3,4 @@ pub mod Reasons
 pub mod Moments
 pub mod Worlds
 pub mod Outcomes
+pub mod Input

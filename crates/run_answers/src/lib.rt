@@ -1,10 +1,18 @@
-//! How a run ends, for every tool: its answer and status, the line on standard error, and what stands at each moment before.
+//! How a run's patch text is read, from a file of the tree or from the source, and how a run ends, for every tool: its answer and
+//! status, the line on standard error, and what stands at each moment before.
 #![tactic(auto)]
 
+mod fault;
+mod file;
+mod input;
 mod reporting;
 mod settling;
+mod stream;
 mod why;
 
+pub use fault::InputFault;
+pub use file::read_file;
+pub use input::read_input;
 pub use reporting::report;
 pub use settling::settle;
 pub use why::Why;

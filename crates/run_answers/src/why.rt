@@ -3,11 +3,11 @@
 ghost use Rattle.std.specs.Prelude.{◌≡◌};
 ghost use Rattle.run_answers.specs.Answers.{exit_status, is_ended, of_words, of_input, of_set, of_run};
 
+use crate::InputFault;
 use hunk_core::BadKind;
-use patch_effects::RunFault;
-use patch_input::InputFault;
 use patch_options::WordFault;
 use patch_set::SetFault;
+use patch_task::RunFault;
 use series_stack::StateFile;
 
 /// Why a run ends. Lines are numbered from 1, and lengths are in bytes.

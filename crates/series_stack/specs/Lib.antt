@@ -7,3 +7,7 @@ pub mod Restoring
 pub mod Causes
 pub mod Undoing
 pub mod Taking
+pub mod Stack
+pub mod Commands
+pub mod Outcomes
+pub mod Laws

@@ -3,10 +3,10 @@
 ghost use Rattle.patch_options.specs.PlainJob.{plain_options, IsLawful};
 
 use crate::sets::is_told;
+use file_patch::{Numbers, Target, candidates, moved_names};
 use outside::Name;
 use patch_options::Options;
 use std::alloc::{AllocError, Global};
-use target_names::{Numbers, Target, candidates, moved_names};
 
 fn candidates_told(alloc: Global) -> Result<String, AllocError> {
     let found = candidates(

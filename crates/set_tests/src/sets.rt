@@ -3,11 +3,11 @@
 ghost use Rattle.patch_options.specs.PlainJob.{plain_options, IsLawful};
 
 use crate::names::has_target;
+use filter_choice::{Outline, read_outline};
 use patch_header::Ways;
 use patch_options::{Input, Options, PlanKind};
 use patch_set::{PatchSet, read_set};
 use patch_text::read_patches;
-use set_outline::{Outline, read_outline};
 use std::alloc::{AllocError, Global};
 
 /// Whether a text was made, and is the wanted one.

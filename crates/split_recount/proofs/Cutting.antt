@@ -12,8 +12,8 @@ use Rattle.std.proofs.lemmas.List.{append_assoc, drop_all}
 use Rattle.std.proofs.lemmas.Map.Text.{is_eq-slice_cmp}
 use Rattle.std.proofs.lemmas.Option.{same_Some, slice_get-map}
 use Rattle.line_list.specs.declared.Span.{Span}
-use Rattle.target_names.specs.Numbered.{is_among}
-use Rattle.target_names.proofs.Names.{are-same}
+use Rattle.file_patch.specs.Numbered.{is_among}
+use Rattle.file_patch.proofs.Names.{are-same}
 use Rattle.file_patch.specs.declared.FilePatch.{FilePatch}
 use Rattle.patch_set.specs.SetView.{SetView, patch_at}
 use Rattle.split_recount.specs.declared.parts.Part.{Part}

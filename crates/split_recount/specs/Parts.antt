@@ -3,7 +3,7 @@ use Rattle.std.specs.Prelude.{ℕ, Bool, ◌||◌, ◌==◌, List, [], ◌∷◌
 use Rattle.line_list.specs.declared.Span.{Span}
 use Rattle.file_patch.specs.declared.FilePatch.{FilePatch}
 use Rattle.file_patch.specs.PlainPatch.{header_of}
-use Rattle.target_names.specs.Numbered.{is_among}
+use Rattle.file_patch.specs.Numbered.{is_among}
 use Rattle.patch_set.specs.PlainName.{plain_name}
 use Rattle.patch_set.specs.SetView.{SetView}
 

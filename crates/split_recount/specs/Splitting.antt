@@ -5,7 +5,7 @@ use Rattle.std.specs.Cmp.Lexicographic.{slice_cmp}
 use Rattle.std.specs.Borrow.{Bor}
 use Rattle.std.specs.Ordering.{nat_cmp}
 use Rattle.line_list.specs.declared.Span.{Span}
-use Rattle.target_names.specs.Numbered.{is_among}
+use Rattle.file_patch.specs.Numbered.{is_among}
 use Rattle.split_recount.specs.declared.parts.Part.{Part}
 use Rattle.split_recount.specs.Parts.{cuts, between}
 

@@ -12,17 +12,17 @@ use Rattle.outside.specs.Calls.{IsUntouched}
 use Rattle.outside.specs.Quiet.{IsQuiet, Effect, after_all, LeavesPrefix}
 use Rattle.outside.proofs.Effects.{made_tells_all, since_longer, tells_longer}
 use Rattle.series_stack.proofs.Steps.{untouched_made}
-use Rattle.stack_steps.proofs.Stepping.{steps_untouched}
+use Rattle.stack_state.proofs.Stepping.{steps_untouched}
 use Rattle.outside.proofs.Views.{rises_then}
 use Rattle.outside.proofs.Writing.{received_both, received_none, received_part, part_after, part_longer}
 use Rattle.series_stack.proofs.EffectLists.{after_all-append, leaves_after, tells_after}
-use Rattle.patch_effects.specs.declared.fault.RunFault.{RunFault}
-use Rattle.patch_effects.specs.declared.fault.RunFault.TheVariants as runs
-use Rattle.patch_effects.specs.Making.{IsTidy}
-use Rattle.patch_effects.proofs.Tidy.{tidy_both}
+use Rattle.patch_task.specs.declared.fault.RunFault.{RunFault}
+use Rattle.patch_task.specs.declared.fault.RunFault.TheVariants as runs
+use Rattle.patch_task.specs.Making.{IsTidy}
+use Rattle.patch_task.proofs.Tidy.{tidy_both}
 use Rattle.patch_options.specs.declared.options.WordFault.{WordFault}
 use Rattle.tool_words.specs.declared.jobs.StackOp.{StackOp}
-use Rattle.stack_steps.specs.Steps.{IsWhole, HasStepCause, Steps}
+use Rattle.stack_state.specs.Steps.{IsWhole, HasStepCause, Steps}
 use Rattle.run_answers.specs.declared.why.Why.{Why}
 use Rattle.run_answers.specs.declared.why.Why.TheVariants.{Done, Rejected, Usage, Malformed, Garbage, EdReverse, OutMany, Reserved, NoPatchFile, TooLong, LongLine, FileTooLong, BadPattern, NoContext, Unfit, BadState, StackEnd, StackName, ReadFault, WriteFault, TreeFault, ScratchFault, Disagree, Memory}
 use Rattle.run_answers.specs.Answers.{is_own, of_run, is_early}

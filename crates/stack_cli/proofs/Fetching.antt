@@ -25,20 +25,20 @@ use Rattle.patch_set.specs.declared.fault.SetFault.{SetFault}
 use Rattle.patch_set.specs.declared.fault.SetFault.TheVariants as set
 use Rattle.patch_set.specs.Refusals.{refusal, refusal_of}
 use Rattle.patch_set.specs.SetView.{SetView, IsRead, IsFresh, hunks_in, plain_patches}
-use Rattle.patch_input.specs.declared.fault.InputFault.{InputFault}
-use Rattle.patch_input.specs.declared.fault.InputFault.TheVariants as input
-use Rattle.patch_input.specs.Input.{answer_of}
+use Rattle.run_answers.specs.declared.fault.InputFault.{InputFault}
+use Rattle.run_answers.specs.declared.fault.InputFault.TheVariants as input
+use Rattle.run_answers.specs.Input.{answer_of}
 use Rattle.patch_run.specs.Run.{Run, set_run}
 use Rattle.planned_run.specs.Finishes.{CanApply}
 use Rattle.series_stack.specs.Series.{is_feed, is_lawful, named_lines, series_of}
-use Rattle.stack_law.specs.Stack.{patch_name}
-use Rattle.stack_law.specs.Commands.{IsPatch, names_of, own_line}
-use Rattle.stack_law.proofs.States.{stack-read}
-use Rattle.stack_law.proofs.Works.{targets-saved}
-use Rattle.stack_reader.specs.Reading.{push_options, patch_of_set, read_patch, targets_for}
-use Rattle.stack_reader.proofs.Lawful.{options_lawful}
-use Rattle.stack_reader.proofs.Reader.{reads}
-use Rattle.stack_reader.proofs.Sets.{same_run}
+use Rattle.series_stack.specs.Stack.{patch_name}
+use Rattle.series_stack.specs.Commands.{IsPatch, names_of, own_line}
+use Rattle.series_stack.proofs.States.{stack-read}
+use Rattle.series_stack.proofs.Works.{targets-saved}
+use Rattle.stack_patch.specs.Reading.{push_options, patch_of_set, read_patch, targets_for}
+use Rattle.stack_patch.proofs.Lawful.{options_lawful}
+use Rattle.stack_patch.proofs.Reader.{reads}
+use Rattle.stack_patch.proofs.Sets.{same_run}
 use Rattle.stack_patch.specs.declared.PushFault.{PushFault}
 use Rattle.stack_patch.specs.declared.PushFault.TheVariants.{Input, Set}
 use Rattle.stack_patch.specs.Causes as causes

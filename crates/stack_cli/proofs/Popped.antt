@@ -10,26 +10,26 @@ use Rattle.outside.specs.SinkView.{SinkView}
 use Rattle.outside.specs.Calls.{IsThere, IsUntouched}
 use Rattle.outside.proofs.Views.{told_back}
 use Rattle.std.proofs.lemmas.Option.{same_Some}
-use Rattle.stack_steps.specs.Steps.{Steps}
+use Rattle.stack_state.specs.Steps.{Steps}
 use Rattle.outside.specs.Quiet.{Effect, after, after_all}
 use Rattle.tool_words.specs.declared.jobs.StackOp.TheVariants.{Pop, Applied}
 use Rattle.series_stack.specs.declared.fault.StateFile.TheVariants.{Save}
 use Rattle.series_stack.specs.Saves.{Entry, entries_of}
-use Rattle.stack_law.specs.Stack.{Refusal, save_name, saved_in, undoing, undoing_by, recover}
-use Rattle.stack_law.specs.Stack.Refusal.{NoSeries, Bad, AtEnd}
-use Rattle.stack_law.specs.Commands.{work_by, popping, popped}
-use Rattle.stack_law.specs.Commands.Work.{Popping, Telling}
-use Rattle.stack_law.specs.Outcomes.{lowering, recovered_text, said, tally}
-use Rattle.stack_law.proofs.Popping.{count_apart}
-use Rattle.stack_law.proofs.Recovering.{IsReady, recovering-is, recover-by}
-use Rattle.stack_law.proofs.Recovery.{recovery}
-use Rattle.stack_law.proofs.Works.{work-ready}
-use Rattle.stack_reader.specs.Reading.{read_patch}
+use Rattle.series_stack.specs.Stack.{Refusal, save_name, saved_in, undoing, undoing_by, recover}
+use Rattle.series_stack.specs.Stack.Refusal.{NoSeries, Bad, AtEnd}
+use Rattle.series_stack.specs.Commands.{work_by, popping, popped}
+use Rattle.series_stack.specs.Commands.Work.{Popping, Telling}
+use Rattle.series_stack.specs.Outcomes.{lowering, recovered_text, said, tally}
+use Rattle.series_stack.proofs.Popping.{count_apart}
+use Rattle.series_stack.proofs.Recovering.{IsReady, recovering-is, recover-by}
+use Rattle.series_stack.proofs.Recovery.{recovery}
+use Rattle.series_stack.proofs.Works.{work-ready}
+use Rattle.stack_patch.specs.Reading.{read_patch}
 use Rattle.stack_state.specs.Reading.{last_save, whole_save}
 use Rattle.stack_state.specs.declared.fault.StateFault.{StateFault}
 use Rattle.stack_state.specs.declared.fault.StateFault.TheVariants as state
 use Rattle.stack_state.specs.Causes as causes
-use Rattle.stack_steps.proofs.Restoring.{undone-is}
+use Rattle.stack_state.proofs.Restoring.{undone-is}
 use Rattle.run_answers.specs.declared.why.Why.TheVariants.{Done, StackEnd, BadState}
 use Rattle.run_answers.specs.Worlds.{world}
 use Rattle.run_answers.specs.Outcomes.{refused}

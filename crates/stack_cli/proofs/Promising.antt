@@ -11,9 +11,9 @@ use Rattle.outside.proofs.Views.{since_split}
 use Rattle.patch_options.specs.declared.options.WordFault.{WordFault}
 use Rattle.patch_options.specs.declared.options.WordFault.TheVariants as words
 use Rattle.tool_words.specs.declared.jobs.StackOp.{StackOp}
-use Rattle.stack_law.specs.Laws.{Recovers, files_after}
-use Rattle.stack_reader.specs.Reading.{read_patch}
-use Rattle.stack_reader.proofs.Lawful.{keeps}
+use Rattle.series_stack.specs.Laws.{Recovers, files_after}
+use Rattle.stack_patch.specs.Reading.{read_patch}
+use Rattle.stack_patch.proofs.Lawful.{keeps}
 use Rattle.run_answers.specs.declared.why.Why.{Why}
 use Rattle.run_answers.specs.declared.why.Why.TheVariants.{Done, Rejected, Usage, Malformed, Garbage, EdReverse, OutMany, Reserved, NoPatchFile, TooLong, LongLine, FileTooLong, BadPattern, NoContext, Unfit, BadState, StackEnd, StackName, ReadFault, WriteFault, TreeFault, ScratchFault, Disagree, Memory}
 use Rattle.run_answers.specs.Answers.{is_own, of_words, is_through, is_early}

@@ -19,16 +19,16 @@ use Rattle.series_stack.specs.Taking.{AreSaved, HasTakeCause, too_long}
 use Rattle.series_stack.proofs.Taking.{save-read}
 use Rattle.patch_set.specs.SetView.{SetView, plain_patches}
 use Rattle.patch_run.specs.Run.{set_run}
-use Rattle.stack_law.specs.Stack.{Stack, patch_name, save_name, undoing, undoing_by, recover}
-use Rattle.stack_law.specs.Stack.Refusal.{AtEnd, NoPatch, OwnName}
-use Rattle.stack_law.specs.Commands.{Application, Ending, Patch, checked, names_of, own_line, pushing, push_work, work_by}
-use Rattle.stack_law.specs.Commands.{Ending as endings}
-use Rattle.stack_law.specs.Commands.Work.{Pushing}
-use Rattle.stack_law.specs.Outcomes.{closing, ending_text, recovered_text, run_effects, said, saving}
-use Rattle.stack_law.specs.Outcomes.Answer.{Ended}
-use Rattle.stack_law.specs.Outcomes as law
-use Rattle.stack_law.proofs.Recovering.{recovering-is, recover-by}
-use Rattle.stack_reader.specs.Reading.{push_options, application_of, patch_of_set, read_patch, targets_for}
+use Rattle.series_stack.specs.Stack.{Stack, patch_name, save_name, undoing, undoing_by, recover}
+use Rattle.series_stack.specs.Stack.Refusal.{AtEnd, NoPatch, OwnName}
+use Rattle.series_stack.specs.Commands.{Application, Ending, Patch, checked, names_of, own_line, pushing, push_work, work_by}
+use Rattle.series_stack.specs.Commands.{Ending as endings}
+use Rattle.series_stack.specs.Commands.Work.{Pushing}
+use Rattle.series_stack.specs.Outcomes.{closing, ending_text, recovered_text, run_effects, said, saving}
+use Rattle.series_stack.specs.Outcomes.Answer.{Ended}
+use Rattle.series_stack.specs.Outcomes as law
+use Rattle.series_stack.proofs.Recovering.{recovering-is, recover-by}
+use Rattle.stack_patch.specs.Reading.{push_options, application_of, patch_of_set, read_patch, targets_for}
 use Rattle.tool_words.specs.declared.jobs.StackOp.TheVariants.{Push}
 use Rattle.run_answers.specs.declared.why.Why.{Why}
 use Rattle.run_answers.specs.Answers.{is_own, is_early}
@@ -43,7 +43,7 @@ use Rattle.stack_cli.specs.Stages.{IsNext, Stage, closed, ended, on_recovered, o
 use Rattle.stack_cli.specs.States.{IsNamed, IsState, plain_stack, stage_of}
 use Rattle.stack_cli.specs.declared.reading.State.{State}
 use Rattle.stack_cli.specs.Faults.{of_save}
-use Rattle.stack_steps.proofs.Stepping.{steps_untouched}
+use Rattle.stack_state.proofs.Stepping.{steps_untouched}
 use Rattle.stack_cli.proofs.Coming.{comes_end, comes_is, comes_nothing}
 use Rattle.stack_cli.proofs.Standing.{refusing, stands, working}
 

@@ -22,32 +22,32 @@ use Rattle.series_stack.specs.Taking.{AreSaved}
 use Rattle.series_stack.proofs.EffectLists.{after_all-append, leaves_after, tells_after}
 use Rattle.series_stack.proofs.Entries.{entries-sound}
 use Rattle.series_stack.proofs.Steps.{restoring-cons, restoring-nil}
-use Rattle.stack_law.specs.Stack.{save_name, undoing_by}
-use Rattle.stack_law.specs.Commands.{Ending}
-use Rattle.stack_law.specs.Commands.{Ending as endings}
+use Rattle.series_stack.specs.Stack.{save_name, undoing_by}
+use Rattle.series_stack.specs.Commands.{Ending}
+use Rattle.series_stack.specs.Commands.{Ending as endings}
 use Rattle.series_stack.specs.Undoing.{SameBeside}
-use Rattle.stack_law.specs.Commands.{names_of}
-use Rattle.stack_law.proofs.Every.{every-last}
-use Rattle.stack_law.proofs.Names.{save-lasting, save-own, saved-lasting}
-use Rattle.stack_law.proofs.Touching.{beside-same, entries-saved, every-beside, own_apart}
+use Rattle.series_stack.specs.Commands.{names_of}
+use Rattle.series_stack.proofs.Every.{every-last}
+use Rattle.series_stack.proofs.Names.{save-lasting, save-own, saved-lasting}
+use Rattle.series_stack.proofs.Touching.{beside-same, entries-saved, every-beside, own_apart}
 use Rattle.line_store.specs.declared.fault.OpenFault.{OpenFault}
 use Rattle.line_store.specs.declared.fault.OpenFault.TheVariants as open_fault
-use Rattle.patch_effects.specs.Faults.{of_open}
-use Rattle.patch_effects.specs.declared.fault.RunFault.{RunFault}
-use Rattle.patch_effects.specs.declared.fault.RunFault.TheVariants as runs
-use Rattle.patch_effects.proofs.EffectLists.{after_all-at}
-use Rattle.patch_effects.specs.Making.{IsTidy}
-use Rattle.patch_effects.proofs.Tidy.{tidy_both}
-use Rattle.stack_steps.proofs.Restoring.{undone-there}
-use Rattle.stack_steps.proofs.Stepping.{one_more}
+use Rattle.patch_task.specs.Faults.{of_open}
+use Rattle.patch_task.specs.declared.fault.RunFault.{RunFault}
+use Rattle.patch_task.specs.declared.fault.RunFault.TheVariants as runs
+use Rattle.patch_task.proofs.EffectLists.{after_all-at}
+use Rattle.patch_task.specs.Making.{IsTidy}
+use Rattle.patch_task.proofs.Tidy.{tidy_both}
+use Rattle.stack_state.proofs.Restoring.{undone-there}
+use Rattle.stack_state.proofs.Stepping.{one_more}
 use Rattle.patch_run.specs.Applied.{Receipt}
 use Rattle.patch_run.specs.Run.{set_run}
 use Rattle.patch_run.specs.Doing.{IsFar, IsPartOf, QuietAfter}
 use Rattle.patch_set.specs.SetView.{SetView, plain_patches}
 use Rattle.planned_run.specs.Finishes.{Finishes, IsToldTo}
-use Rattle.stack_reader.specs.Reading.{push_options, ending_by, targets_for}
-use Rattle.stack_steps.specs.Steps.{Steps}
-use Rattle.stack_steps.specs.Undoing.{undone_by}
+use Rattle.stack_patch.specs.Reading.{push_options, ending_by, targets_for}
+use Rattle.stack_state.specs.Steps.{Steps}
+use Rattle.stack_state.specs.Undoing.{undone_by}
 use Rattle.tool_words.specs.declared.jobs.StackOp.TheVariants.{Push}
 use Rattle.run_answers.specs.declared.why.Why.{Why}
 use Rattle.run_answers.specs.declared.why.Why.TheVariants.{Done}

@@ -11,13 +11,13 @@ use Rattle.outside.specs.Calls.{IsUntouched}
 use Rattle.outside.specs.Quiet.{Effect}
 use Rattle.tool_words.specs.declared.jobs.StackOp.{StackOp}
 use Rattle.series_stack.specs.declared.fault.StateFile.TheVariants.{Save}
-use Rattle.stack_law.specs.Stack.{Stack, Refusal, save_name, stack_of, undoing, recover}
-use Rattle.stack_law.specs.Stack.Refusal.{NoSeries, Bad}
-use Rattle.stack_law.specs.Commands.{Work, has_bad_save, work_of, work_by}
-use Rattle.stack_law.specs.Outcomes as law
-use Rattle.stack_law.proofs.Answering.{command-is, command-work}
-use Rattle.stack_law.proofs.Recovering.{recovering-is}
-use Rattle.stack_reader.specs.Reading.{read_patch}
+use Rattle.series_stack.specs.Stack.{Stack, Refusal, save_name, stack_of, undoing, recover}
+use Rattle.series_stack.specs.Stack.Refusal.{NoSeries, Bad}
+use Rattle.series_stack.specs.Commands.{Work, has_bad_save, work_of, work_by}
+use Rattle.series_stack.specs.Outcomes as law
+use Rattle.series_stack.proofs.Answering.{command-is, command-work}
+use Rattle.series_stack.proofs.Recovering.{recovering-is}
+use Rattle.stack_patch.specs.Reading.{read_patch}
 use Rattle.stack_state.specs.Reading.{next_save}
 use Rattle.stack_state.specs.declared.fault.StateFault.{StateFault}
 use Rattle.stack_state.specs.declared.fault.StateFault.TheVariants as state

@@ -6,9 +6,9 @@ use Rattle.outside.specs.SinkView.{SinkPasses, Receives}
 use Rattle.outside.specs.ScratchView.{ScratchPasses}
 use Rattle.outside.specs.Quiet.{IsQuiet, after_all}
 use Rattle.patch_options.specs.declared.options.WordFault.{WordFault}
-use Rattle.patch_effects.specs.Making.{IsTidy}
-use Rattle.stack_law.specs.Laws.{Recovers, files_after}
-use Rattle.stack_reader.specs.Reading.{read_patch}
+use Rattle.patch_task.specs.Making.{IsTidy}
+use Rattle.series_stack.specs.Laws.{Recovers, files_after}
+use Rattle.stack_patch.specs.Reading.{read_patch}
 use Rattle.tool_words.specs.declared.jobs.StackOp.{StackOp}
 use Rattle.run_answers.specs.declared.why.Why.{Why}
 use Rattle.run_answers.specs.declared.why.Why.TheVariants.{Memory}

@@ -9,7 +9,7 @@ use Rattle.patch_options.specs.declared.options.WordFault.TheVariants as words
 use Rattle.patch_set.specs.declared.fault.SetFault.{SetFault}
 use Rattle.patch_set.specs.declared.fault.SetFault.TheVariants as set
 use Rattle.patch_set.specs.Refusals.{refusal}
-use Rattle.stack_reader.specs.Reading.{push_options}
+use Rattle.stack_patch.specs.Reading.{push_options}
 use Rattle.tool_words.specs.declared.jobs.StackOp.{StackOp}
 use Rattle.tool_words.specs.declared.jobs.StackOp.TheVariants.{Push, Pop, Applied}
 use Rattle.run_answers.specs.declared.why.Why.{Why}

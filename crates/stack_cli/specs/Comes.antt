@@ -5,7 +5,7 @@ use Rattle.outside.specs.TreeView.{Passes}
 use Rattle.outside.specs.SinkView.{SinkPasses}
 use Rattle.outside.specs.ScratchView.{ScratchPasses}
 use Rattle.outside.specs.Quiet.{IsQuiet, LeavesPrefix}
-use Rattle.patch_effects.specs.Making.{IsTidy}
+use Rattle.patch_task.specs.Making.{IsTidy}
 use Rattle.tool_words.specs.declared.jobs.StackOp.{StackOp}
 use Rattle.run_answers.specs.declared.why.Why.{Why}
 use Rattle.run_answers.specs.Answers.{is_own, is_early}

@@ -12,19 +12,19 @@ use Rattle.patch_text.specs.Patches.{patches_of}
 use Rattle.patch_set.specs.Asked.{ways_of}
 use Rattle.patch_set.specs.declared.fault.SetFault.{SetFault}
 use Rattle.patch_set.specs.Refusals.{refusal}
-use Rattle.patch_input.specs.declared.fault.InputFault.{InputFault}
-use Rattle.patch_input.specs.Input.{answer_of}
-use Rattle.patch_effects.specs.Faults.{of_open}
+use Rattle.run_answers.specs.declared.fault.InputFault.{InputFault}
+use Rattle.run_answers.specs.Input.{answer_of}
+use Rattle.patch_task.specs.Faults.{of_open}
 use Rattle.patch_run.specs.Run.{run_of}
 use Rattle.series_stack.specs.Undoing.{entries_at}
-use Rattle.stack_law.specs.Stack.{Stack, Refusal, patch_name, stack_of, recover}
-use Rattle.stack_law.specs.Stack.Refusal.{NoSeries, Bad, AtEnd, NoPatch, OwnName}
-use Rattle.stack_law.specs.Commands.{Ending, Patch, names_of}
-use Rattle.stack_law.specs.Commands.{Ending as endings}
-use Rattle.stack_law.specs.Outcomes.{Answer, saving}
-use Rattle.stack_law.specs.Outcomes.{Answer as answers}
-use Rattle.stack_law.specs.Outcomes as law
-use Rattle.stack_reader.specs.Reading.{push_options, items_for, read_patch}
+use Rattle.series_stack.specs.Stack.{Stack, Refusal, patch_name, stack_of, recover}
+use Rattle.series_stack.specs.Stack.Refusal.{NoSeries, Bad, AtEnd, NoPatch, OwnName}
+use Rattle.series_stack.specs.Commands.{Ending, Patch, names_of}
+use Rattle.series_stack.specs.Commands.{Ending as endings}
+use Rattle.series_stack.specs.Outcomes.{Answer, saving}
+use Rattle.series_stack.specs.Outcomes.{Answer as answers}
+use Rattle.series_stack.specs.Outcomes as law
+use Rattle.stack_patch.specs.Reading.{push_options, items_for, read_patch}
 use Rattle.tool_words.specs.declared.jobs.StackOp.{StackOp}
 use Rattle.run_answers.specs.declared.why.Why.{Why}
 use Rattle.run_answers.specs.declared.why.Why.TheVariants.{Done, Rejected, NoPatchFile, FileTooLong, BadState, StackEnd, StackName}

@@ -7,8 +7,8 @@ use Rattle.tool_words.specs.PlainJobs.PlainToolJob.{list_job, filter_job, grep_j
 use Rattle.tool_words.specs.Words.{tool_job}
 use Rattle.tool_words.specs.declared.jobs.StackOp.{StackOp}
 use Rattle.tool_words.specs.declared.jobs.StackOp.TheVariants.{Push, Pop, Applied}
-use Rattle.stack_law.specs.Commands.{StackOp as Operation}
-use Rattle.stack_law.specs.Commands.{StackOp as operations}
+use Rattle.series_stack.specs.Commands.{StackOp as Operation}
+use Rattle.series_stack.specs.Commands.{StackOp as operations}
 
 -- the same operation, as the law of stacks names it
 abbrev pub operation : StackOp → Operation

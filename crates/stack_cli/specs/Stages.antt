@@ -9,24 +9,24 @@ use Rattle.patch_set.specs.SetView.{SetView, plain_patches}
 use Rattle.patch_run.specs.Applied.{Receipt}
 use Rattle.patch_run.specs.Doing.{QuietAfter}
 use Rattle.patch_run.specs.Run.{set_run}
-use Rattle.patch_effects.specs.declared.fault.RunFault.{RunFault}
-use Rattle.patch_effects.specs.declared.fault.RunFault.TheVariants as runs
+use Rattle.patch_task.specs.declared.fault.RunFault.{RunFault}
+use Rattle.patch_task.specs.declared.fault.RunFault.TheVariants as runs
 use Rattle.planned_run.specs.Finishes.{CanApply}
 use Rattle.series_stack.specs.Saves.{Entry}
 use Rattle.series_stack.specs.Undoing.{entries_at}
 use Rattle.series_stack.specs.Taking.{AreSaved, too_long}
-use Rattle.stack_law.specs.Stack.{patch_name, save_name, undoing_by}
-use Rattle.stack_law.specs.Commands.{Ending, Application, IsPatch, names_of, own_line}
-use Rattle.stack_law.specs.Commands.{Ending as endings}
-use Rattle.stack_law.specs.Outcomes.{ending_text, raising, said, saving}
-use Rattle.stack_reader.specs.Reading.{push_options, targets_for, application_of, patch_of_set, read_patch}
+use Rattle.series_stack.specs.Stack.{patch_name, save_name, undoing_by}
+use Rattle.series_stack.specs.Commands.{Ending, Application, IsPatch, names_of, own_line}
+use Rattle.series_stack.specs.Commands.{Ending as endings}
+use Rattle.series_stack.specs.Outcomes.{ending_text, raising, said, saving}
+use Rattle.stack_patch.specs.Reading.{push_options, targets_for, application_of, patch_of_set, read_patch}
 use Rattle.tool_words.specs.declared.jobs.StackOp.TheVariants.{Push}
 use Rattle.run_answers.specs.declared.why.Why.{Why}
 use Rattle.run_answers.specs.declared.why.Why.TheVariants.{Done, Rejected, FileTooLong}
 use Rattle.run_answers.specs.Answers.{of_run}
 use Rattle.run_answers.specs.Worlds.{World}
 use Rattle.run_answers.specs.Outcomes.{Outcome}
-use Rattle.stack_steps.specs.Undoing.{undone_by}
+use Rattle.stack_state.specs.Undoing.{undone_by}
 use Rattle.stack_cli.specs.Command.{behind, stop_in, stop_why}
 use Rattle.stack_cli.specs.Comes.{Comes}
 

@@ -2,8 +2,8 @@
 use Rattle.std.specs.Prelude.{◌≡◌, ℕ, ◌≤◌, List, ◌∷◌, drop, false, length, Some, Ok, option_map, vec_items}
 use Rattle.outside.specs.Files.{Files}
 use Rattle.outside.specs.TreeView.{TreeView}
-use Rattle.stack_law.specs.Stack.{Stack, stack_of}
-use Rattle.stack_law.specs.Commands.{is_bad}
+use Rattle.series_stack.specs.Stack.{Stack, stack_of}
+use Rattle.series_stack.specs.Commands.{is_bad}
 use Rattle.stack_state.specs.Reading.{next_save}
 use Rattle.stack_state.specs.declared.state.Standing.{Standing}
 use Rattle.stack_cli.specs.declared.reading.State.{State}

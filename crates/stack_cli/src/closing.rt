@@ -6,8 +6,8 @@ ghost use Rattle.outside.specs.ScratchView.{ScratchView};
 ghost use Rattle.outside.specs.SinkView.{SinkView};
 ghost use Rattle.patch_run.specs.Doing.{QuietAfter};
 ghost use Rattle.series_stack.specs.Saves.{entries_of};
-ghost use Rattle.stack_law.specs.Commands.Ending.{CutOff};
-ghost use Rattle.stack_law.specs.Commands.{Ending as endings};
+ghost use Rattle.series_stack.specs.Commands.Ending.{CutOff};
+ghost use Rattle.series_stack.specs.Commands.{Ending as endings};
 ghost use Rattle.tool_words.specs.declared.jobs.StackOp.TheVariants.{Push};
 ghost use Rattle.run_answers.specs.Answers.{of_run};
 ghost use Rattle.run_answers.specs.declared.why.Why.TheVariants.{Done, Rejected};
@@ -20,10 +20,10 @@ use crate::fault::done;
 use crate::reading::State;
 use crate::taking::count;
 use outside::{Name, Sink, Tree};
-use patch_effects::RunFault;
 use patch_run::Applied;
+use patch_task::RunFault;
 use run_answers::Why;
-use stack_steps::{keep, reject, undo};
+use stack_state::{keep, reject, undo};
 use std::alloc::Global;
 
 /// Keeps a patch that was applied whole, and undoes one of which a part isn't applied, or that was cut off by a file that

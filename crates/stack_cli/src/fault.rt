@@ -1,12 +1,12 @@
 //! The answers that the faults of a stack's parts are.
 ghost use Rattle.std.specs.Prelude.{◌≡◌};
 ghost use Rattle.run_answers.specs.declared.why.Why.TheVariants.{Done};
-ghost use Rattle.stack_steps.specs.Steps.{said_by};
+ghost use Rattle.stack_state.specs.Steps.{said_by};
 ghost use Rattle.stack_cli.specs.Faults.{of_push, of_save, of_state};
 ghost use Rattle.stack_cli.specs.Stages.{why_by};
 
 use outside::Failed;
-use patch_effects::RunFault;
+use patch_task::RunFault;
 use run_answers::Why;
 use series_stack::StackFault;
 use stack_patch::PushFault;

@@ -5,10 +5,10 @@ ghost use Rattle.outside.specs.Quiet.{IsQuiet, after};
 ghost use Rattle.outside.specs.ScratchView.{ScratchView};
 ghost use Rattle.outside.specs.SinkView.{SinkView};
 ghost use Rattle.series_stack.specs.Saves.{entries_of};
-ghost use Rattle.stack_law.specs.Stack.{patch_name, save_name};
-ghost use Rattle.stack_reader.specs.Reading.{push_options, targets_for};
+ghost use Rattle.series_stack.specs.Stack.{patch_name, save_name};
+ghost use Rattle.stack_patch.specs.Reading.{push_options, targets_for};
 ghost use Rattle.patch_set.specs.SetView.{IsRead, plain_patches};
-ghost use Rattle.stack_law.specs.Commands.{names_of, own_line};
+ghost use Rattle.series_stack.specs.Commands.{names_of, own_line};
 ghost use Rattle.outside.specs.Names.{is_absolute};
 ghost use Rattle.outside.specs.Quiet.Effect.{Put};
 ghost use Rattle.stack_cli.specs.Command.{behind, on_op};
@@ -28,8 +28,7 @@ use planned_run::apply;
 use run_answers::Why;
 use series_stack::take_names;
 use stack_patch::{Saved, push_options, read_push, saved_names};
-use stack_state::Standing;
-use stack_steps::{put_save, recover, say_applying};
+use stack_state::{Standing, put_save, recover, say_applying};
 use std::alloc::{AllocError, Global};
 
 /// Applies the next patch, or undoes what was done of it. The scratch comes back.

@@ -9,7 +9,7 @@ ghost use Rattle.tool_words.specs.PlainJobs.{plain_tool_job};
 ghost use Rattle.tool_words.specs.declared.jobs.StackOp.{StackOp as Op};
 ghost use Rattle.run_answers.specs.Answers.{of_words};
 ghost use Rattle.run_answers.specs.Worlds.{world};
-ghost use Rattle.stack_law.specs.Stack.{stack_of};
+ghost use Rattle.series_stack.specs.Stack.{stack_of};
 ghost use Rattle.stack_state.specs.Reading.{next_save};
 ghost use Rattle.stack_cli.specs.Jobs.{job_of, op_in, stack_op};
 ghost use Rattle.stack_cli.specs.Comes.{StopsEarly};

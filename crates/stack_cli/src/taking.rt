@@ -17,8 +17,7 @@ use crate::fault::{done, of_state, told};
 use crate::reading::State;
 use outside::{Name, Sink, Tree};
 use run_answers::Why;
-use stack_state::{Standing, read_last_save};
-use stack_steps::{recover, say_tally, take_back};
+use stack_state::{Standing, read_last_save, recover, say_tally, take_back};
 use std::alloc::Global;
 
 /// Tells how many patches of how many are applied.

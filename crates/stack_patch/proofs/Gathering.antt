@@ -10,17 +10,17 @@ use Rattle.std.proofs.lemmas.List.Folds.{find-append, list_any-append}
 use Rattle.outside.proofs.Components.{neither}
 use Rattle.file_patch.specs.declared.FilePatch.{FilePatch}
 use Rattle.file_patch.specs.PlainPatch.{PlainPatch, header_of, patch_of}
-use Rattle.target_names.specs.declared.derived.Target.{Target}
-use Rattle.target_names.specs.Numbered.{is_among, with_name, joined_by, distinct, number_in}
-use Rattle.target_names.proofs.Names.{all-join, numbers-below, numbers-next, numbers-stay, same-is, with-among, with-new, with-there}
+use Rattle.file_patch.specs.declared.derived.Target.{Target}
+use Rattle.file_patch.specs.Numbered.{is_among, with_name, joined_by, distinct, number_in}
+use Rattle.file_patch.proofs.Names.{all-join, numbers-below, numbers-next, numbers-stay, same-is, with-among, with-new, with-there}
 use Rattle.series_stack.specs.Saves.{is_of_stack}
 use Rattle.patch_set.specs.Named.{names_of, patch_names, known_names, target_in, targets_of}
 use Rattle.patch_set.specs.SetView.{SetView, IsRead, plain_patches}
 use Rattle.patch_set.proofs.Joined.{joined-first, joined-nil}
-use Rattle.stack_law.specs.Commands.{own_line}
-use Rattle.stack_law.specs.Commands.{Target as Saves}
-use Rattle.stack_law.specs.Commands as stack
-use Rattle.stack_reader.specs.Reading.{push_options, is_meant_for, line_of, target_for, targets_for}
+use Rattle.series_stack.specs.Commands.{own_line}
+use Rattle.series_stack.specs.Commands.{Target as Saves}
+use Rattle.series_stack.specs.Commands as stack
+use Rattle.stack_patch.specs.Reading.{push_options, is_meant_for, line_of, target_for, targets_for}
 use Rattle.stack_patch.specs.Gathering.{Gathered, nothing, own_here, with_names, with_target, with_patch}
 
 -- ---- names that join

@@ -11,14 +11,14 @@ use Rattle.patch_text.specs.Patches.{patches_of}
 use Rattle.patch_set.specs.declared.fault.SetFault.{SetFault}
 use Rattle.patch_set.specs.declared.fault.SetFault.TheVariants as faults
 use Rattle.patch_set.specs.Asked.{ways_of}
-use Rattle.patch_input.specs.declared.fault.InputFault.{InputFault}
-use Rattle.patch_input.specs.declared.fault.InputFault.TheVariants as inputs
-use Rattle.patch_input.specs.Input.{HasFileCause, answer_of}
+use Rattle.run_answers.specs.declared.fault.InputFault.{InputFault}
+use Rattle.run_answers.specs.declared.fault.InputFault.TheVariants as inputs
+use Rattle.run_answers.specs.Input.{HasFileCause, answer_of}
 use Rattle.patch_set.specs.Refusals.{refusal, refusal_of}
 use Rattle.patch_set.specs.SetView.{SetView, IsRead}
-use Rattle.stack_reader.specs.Reading.{push_options, patch_of_set, patch_in, unless_refused, read_patch}
-use Rattle.stack_reader.proofs.Sets.{set_read}
-use Rattle.stack_reader.proofs.Lawful.{options_lawful}
+use Rattle.stack_patch.specs.Reading.{push_options, patch_of_set, patch_in, unless_refused, read_patch}
+use Rattle.stack_patch.proofs.Sets.{set_read}
+use Rattle.stack_patch.proofs.Lawful.{options_lawful}
 use Rattle.stack_patch.specs.declared.PushFault.{PushFault}
 use Rattle.stack_patch.specs.declared.PushFault.TheVariants.{Input, Set}
 use Rattle.stack_patch.specs.Causes.{HasCause, IsRefusedSo, IsRefusal, RefusesSome}

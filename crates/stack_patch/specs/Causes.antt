@@ -3,12 +3,12 @@ use Rattle.std.specs.Prelude.{◌≡◌, ◌⊎◌, List, ℕ, Some}
 use Rattle.std.specs.FinMap.{get}
 use Rattle.outside.specs.Files.{Files}
 use Rattle.outside.specs.TreeView.{TreeView}
-use Rattle.patch_input.specs.declared.fault.InputFault.TheVariants.{NoPatchFile, TooLong, Source, Tree, Disagree}
-use Rattle.patch_input.specs.declared.fault.InputFault.TheVariants as inputs
-use Rattle.patch_input.specs.Input.{HasFileCause}
+use Rattle.run_answers.specs.declared.fault.InputFault.TheVariants.{NoPatchFile, TooLong, Source, Tree, Disagree}
+use Rattle.run_answers.specs.declared.fault.InputFault.TheVariants as inputs
+use Rattle.run_answers.specs.Input.{HasFileCause}
 use Rattle.patch_set.specs.declared.fault.SetFault.TheVariants as faults
 use Rattle.patch_set.specs.Refusals.{refusal}
-use Rattle.stack_reader.specs.Reading.{push_options}
+use Rattle.stack_patch.specs.Reading.{push_options}
 use Rattle.stack_patch.specs.declared.PushFault.{PushFault}
 use Rattle.stack_patch.specs.declared.PushFault.TheVariants.{Input, Set}
 

@@ -1,3 +1,6 @@
 pub mod Causes
 pub mod Gathering
 pub mod Pushes
+pub mod Changed
+pub mod Reading
+pub mod Keeping

@@ -4,7 +4,7 @@ use Rattle.std.specs.FinMap.{get}
 use Rattle.outside.specs.Files.{Files}
 use Rattle.outside.specs.TreeView.{TreeView}
 use Rattle.patch_set.specs.SetView.{SetView, IsRead}
-use Rattle.stack_reader.specs.Reading.{push_options, patch_of_set, read_patch}
+use Rattle.stack_patch.specs.Reading.{push_options, patch_of_set, read_patch}
 
 -- the set is read from this text, and does what the patch of the text does
 pub record IsPushed (given : List ℕ) (v : SetView) : Type 0 where

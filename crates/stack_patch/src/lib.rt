@@ -1,4 +1,7 @@
-//! The patch that a push applies, read from its file.
+//! The patch that `push` applies to a stack's files: how its text is read from its file, and what it can change.
+//!
+//! It is read as by `patch -p1 --no-backup-if-mismatch`. With that it changes only the names of its targets and of their
+//! reject files, so a stack that saves these can take it back.
 #![tactic(auto)]
 
 ghost use Rattle.std.specs.Prelude.{◌≡◌, None, Some, IfOk, IfErr};
@@ -7,17 +10,19 @@ ghost use Rattle.outside.specs.Files.{Files};
 ghost use Rattle.outside.specs.Calls.{IsUntouched};
 ghost use Rattle.patch_options.specs.PlainJob.{plain_options};
 ghost use Rattle.patch_set.specs.SetView.{IsRead, IsFresh, IsWhole};
-ghost use Rattle.stack_reader.specs.Reading.{push_options, patch_of_set, read_patch};
+ghost use Rattle.stack_patch.specs.Reading.{push_options, patch_of_set, read_patch};
 ghost use Rattle.stack_patch.specs.Causes.{HasCause, IsRefusedSo, IsRefusal, RefusesSome};
 ghost use Rattle.stack_patch.specs.Pushes.{IsPush};
 
+mod laws;
 mod names;
 
+pub use laws::{names_of_a_run, patches_of_a_stack};
 pub use names::{Saved, saved_names};
 use outside::{Name, Tree};
-use patch_input::{InputFault, read_file};
 use patch_options::{Input, Options, PlanKind};
 use patch_set::{PatchSet, SetFault, read_set};
+use run_answers::{InputFault, read_file};
 use std::alloc::Global;
 
 /// Why the patch isn't read.
@@ -30,7 +35,7 @@ pub enum PushFault {
 }
 
 /// The options of `patch -p1 --no-backup-if-mismatch`.
-#[tactic(auto, unfolding(stack_reader::specs::Reading::push_options))]
+#[tactic(auto, unfolding(crate::specs::Reading::push_options))]
 pub fn push_options() -> Options
     ensures { plain_options result ≡ push_options }
 {

@@ -3,8 +3,8 @@ ghost use Rattle.std.specs.Prelude.{◌≡◌, ◌<◌, ◌^◌, ◌||◌, ◌++
 ghost use Rattle.std.specs.List.{fold};
 ghost use Rattle.series_stack.specs.Saves.{is_of_stack};
 ghost use Rattle.patch_set.specs.SetView.{IsRead, plain_patches};
-ghost use Rattle.stack_law.specs.Commands.{names_of, own_line};
-ghost use Rattle.stack_reader.specs.Reading.{push_options, targets_for};
+ghost use Rattle.series_stack.specs.Commands.{names_of, own_line};
+ghost use Rattle.stack_patch.specs.Reading.{push_options, targets_for};
 ghost use Rattle.stack_patch.specs.Gathering.{gathered, with_names, with_patch, with_target};
 
 use outside::Name;

@@ -11,8 +11,8 @@ use Rattle.outside.proofs.Views.{rises_then}
 pub use Rattle.series_stack.proofs.Taking.{whole-came, held_there, held_long}
 use Rattle.series_stack.specs.declared.fault.StateFile.{StateFile}
 use Rattle.series_stack.specs.declared.fault.StateFile.TheVariants.{Save}
-use Rattle.stack_law.specs.Stack.{Refusal, save_name, saved_in}
-use Rattle.stack_law.specs.Stack.Refusal.{Bad as Broken}
+use Rattle.series_stack.specs.Stack.{Refusal, save_name, saved_in}
+use Rattle.series_stack.specs.Stack.Refusal.{Bad as Broken}
 use Rattle.stack_state.specs.declared.fault.StateFault.{StateFault}
 use Rattle.stack_state.specs.declared.fault.StateFault.TheVariants.{NoSeries, Bad, Tree, Disagree, Memory}
 use Rattle.stack_state.specs.Reading.{last_save, whole_save}

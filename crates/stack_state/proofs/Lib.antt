@@ -3,3 +3,5 @@ mod Counting
 mod Stacking
 mod Saving
 mod Held
+pub mod Stepping
+pub mod Restoring

@@ -11,7 +11,7 @@ use Rattle.num_text.proofs.Decimal.{decimal-numeral}
 use Rattle.outside.specs.Names.{is_slash, is_control, is_absolute, is_kept, IsPatchName, IsEnding}
 use Rattle.outside.proofs.Components.{Each, Free, neither, either_free, components_one}
 use Rattle.outside.proofs.Lawful.{is_parent, patch_made, patch_below, patch_behind}
-use Rattle.stack_law.specs.Stack.{series_name, count_name, save_name}
+use Rattle.series_stack.specs.Stack.{series_name, count_name, save_name}
 
 -- ---- texts of ASCII
 

@@ -8,9 +8,9 @@ use Rattle.outside.specs.TreeView.{TreeView}
 use Rattle.outside.specs.Calls.{IsUntouched}
 use Rattle.outside.proofs.Views.{rises_then}
 use Rattle.series_stack.specs.declared.fault.StateFile.TheVariants.{Save}
-use Rattle.stack_law.specs.Stack.{Refusal, save_name}
-use Rattle.stack_law.specs.Stack.Refusal.{Bad as Broken}
-use Rattle.stack_law.specs.Commands.{is_bad}
+use Rattle.series_stack.specs.Stack.{Refusal, save_name}
+use Rattle.series_stack.specs.Stack.Refusal.{Bad as Broken}
+use Rattle.series_stack.specs.Commands.{is_bad}
 use Rattle.stack_state.specs.declared.fault.StateFault.{StateFault}
 use Rattle.stack_state.specs.declared.fault.StateFault.TheVariants.{NoSeries, Bad, Tree, Disagree, Memory}
 use Rattle.stack_state.specs.Reading.{next_save}

@@ -5,7 +5,7 @@ use Rattle.std.specs.FinMap.{get}
 use Rattle.outside.specs.Files.{Files}
 use Rattle.outside.specs.TreeView.{TreeView}
 use Rattle.series_stack.specs.Series.{series_of}
-use Rattle.stack_law.specs.Stack.{Stack, Refusal, series_name, count_name, count_in, counted, listed, stack_in, stack_of}
+use Rattle.series_stack.specs.Stack.{Stack, Refusal, series_name, count_name, count_in, counted, listed, stack_in, stack_of}
 use Rattle.stack_state.specs.declared.fault.StateFault.{StateFault}
 use Rattle.stack_state.specs.declared.fault.StateFault.TheVariants.{NoSeries, Bad, Tree, Disagree, Memory}
 use Rattle.stack_state.specs.Reading.{listed_in, patches_in, numbered_in, applied_in}

@@ -4,8 +4,8 @@ use Rattle.outside.specs.Files.{Files}
 use Rattle.outside.specs.TreeView.{TreeView, Rises}
 use Rattle.series_stack.specs.declared.fault.StackFault.{StackFault}
 use Rattle.series_stack.specs.declared.fault.StackFault.TheVariants as stack
-use Rattle.stack_law.specs.Stack.{Refusal}
-use Rattle.stack_law.specs.Stack.Refusal.{NoSeries as Unlisted, Bad as Broken}
+use Rattle.series_stack.specs.Stack.{Refusal}
+use Rattle.series_stack.specs.Stack.Refusal.{NoSeries as Unlisted, Bad as Broken}
 use Rattle.stack_state.specs.declared.fault.StateFault.{StateFault}
 use Rattle.stack_state.specs.declared.fault.StateFault.TheVariants.{NoSeries, Bad, Tree, Disagree, Memory}
 

@@ -1,2 +1,4 @@
 pub mod Reading
 pub mod Causes
+pub mod Steps
+pub mod Undoing

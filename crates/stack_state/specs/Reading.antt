@@ -5,9 +5,9 @@ use Rattle.outside.specs.Files.{Files}
 use Rattle.series_stack.specs.declared.fault.StateFile.TheVariants.{Series, Count, Save}
 use Rattle.series_stack.specs.Series.{series_of}
 use Rattle.series_stack.specs.Saves.{Entry}
-use Rattle.stack_law.specs.Stack.{Stack, Refusal, save_name, count_in, saved_in}
-use Rattle.stack_law.specs.Stack.Refusal.{NoSeries, Bad}
-use Rattle.stack_law.specs.Commands.{has_bad_save}
+use Rattle.series_stack.specs.Stack.{Stack, Refusal, save_name, count_in, saved_in}
+use Rattle.series_stack.specs.Stack.Refusal.{NoSeries, Bad}
+use Rattle.series_stack.specs.Commands.{has_bad_save}
 
 abbrev pub listed_in : Option (List (List ℕ)) → Result (List (List ℕ)) Refusal
 listed_in None = Err (Bad Series)

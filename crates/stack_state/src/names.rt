@@ -2,7 +2,7 @@
 ghost use Rattle.std.specs.Prelude.{◌≡◌, ◌++◌, codes, IfOk, OnOk};
 ghost use Rattle.num_text.specs.Numbers.{decimal};
 ghost use Rattle.outside.specs.Names.{IsPatchName};
-ghost use Rattle.stack_law.specs.Stack.{series_name, count_name, save_name};
+ghost use Rattle.series_stack.specs.Stack.{series_name, count_name, save_name};
 
 use num_text::put_number;
 use outside::Name;

@@ -4,9 +4,9 @@ ghost use Rattle.std.specs.FinMap.{get};
 ghost use Rattle.outside.specs.Files.{Files};
 ghost use Rattle.outside.specs.Calls.{IsUntouched};
 ghost use Rattle.series_stack.specs.Saves.{entries_of};
-ghost use Rattle.stack_law.specs.Stack.{save_name, saved_in};
-ghost use Rattle.stack_law.specs.Stack.Refusal.{Bad};
-ghost use Rattle.stack_law.specs.Commands.{is_bad};
+ghost use Rattle.series_stack.specs.Stack.{save_name, saved_in};
+ghost use Rattle.series_stack.specs.Stack.Refusal.{Bad};
+ghost use Rattle.series_stack.specs.Commands.{is_bad};
 ghost use Rattle.stack_state.specs.Reading.{next_save, last_save, whole_save};
 ghost use Rattle.stack_state.specs.Causes.{HasCause, HasReadCause};
 

@@ -4,7 +4,7 @@ ghost use Rattle.std.specs.FinMap.{get};
 ghost use Rattle.outside.specs.Files.{Files};
 ghost use Rattle.outside.specs.Calls.{IsUntouched};
 ghost use Rattle.series_stack.specs.Series.{series_of};
-ghost use Rattle.stack_law.specs.Stack.{series_name, count_name, count_in, stack_of};
+ghost use Rattle.series_stack.specs.Stack.{series_name, count_name, count_in, stack_of};
 ghost use Rattle.stack_state.specs.Reading.{patches_in, applied_in};
 ghost use Rattle.stack_state.specs.Causes.{HasCause, of_stack};
 

@@ -14,7 +14,7 @@ use Rattle.run_answers.specs.declared.why.Why.TheVariants.{Memory}
 use Rattle.run_answers.specs.Answers.{of_words}
 use Rattle.run_answers.specs.Moments.{LeavesOldOrNew}
 use Rattle.run_answers.specs.Worlds as worlds
-use Rattle.run_outcome.specs.declared.exit.Exit.{Exit}
+use Rattle.planned_run.specs.declared.exit.Exit.{Exit}
 use Rattle.patch_cli.specs.Answers.{IsEarly, sort_of}
 use Rattle.patch_cli.specs.Command.{command}
 use Rattle.patch_cli.specs.Worlds.{World, TellsFiles, TellsLeft, reads_source, uses_scratch}

@@ -5,6 +5,6 @@ mod kind;
 mod run_tool;
 
 pub use patch_run::Applied;
+pub use planned_run::Exit;
 pub use run_answers::Why;
-pub use run_outcome::Exit;
 pub use run_tool::run;

@@ -17,8 +17,8 @@ use crate::kind::{Kind, kind_of};
 use filter_cli::run_filter;
 use gen_cli::run_words;
 use outside::{Finder, Scratch, Sink, Source, Tree};
+use planned_run::Exit;
 use run_answers::{Why, report};
-use run_outcome::Exit;
 use stack_cli::run_stack;
 use std::alloc::Global;
 

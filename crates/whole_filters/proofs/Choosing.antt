@@ -18,9 +18,9 @@ use Rattle.outside.specs.Calls.{IsUntouched}
 use Rattle.outside.proofs.Views.{rises_then}
 use Rattle.tool_words.specs.PlainJobs.{PlainSelect}
 use Rattle.patch_options.specs.Forms.{is_empty}
-use Rattle.patch_input.specs.declared.fault.InputFault.{InputFault}
-use Rattle.patch_input.specs.declared.fault.InputFault.TheVariants.{NoPatchFile, TooLong, Source, Tree, Disagree, Memory}
-use Rattle.patch_input.specs.Input.{answer_of, HasFileCause}
+use Rattle.run_answers.specs.declared.fault.InputFault.{InputFault}
+use Rattle.run_answers.specs.declared.fault.InputFault.TheVariants.{NoPatchFile, TooLong, Source, Tree, Disagree, Memory}
+use Rattle.run_answers.specs.Input.{answer_of, HasFileCause}
 use Rattle.patch_header.specs.Content.{content}
 use Rattle.whole_filters.specs.Outcomes.{pattern_of, patterns_by, patterns_of, patterns_in, selection, with_patterns}
 use Rattle.whole_filters.specs.Sifting.{NamesPatterns}

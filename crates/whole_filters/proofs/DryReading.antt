@@ -4,8 +4,8 @@ use Rattle.hunk_core.specs.Reading.{Fault}
 use Rattle.line_list.specs.Completed.{completed}
 use Rattle.file_patch.specs.PlainPatch.{PlainPatch}
 use Rattle.patch_set.specs.Asked.{ways_of}
-use Rattle.set_outline.specs.Digested.{DigestView, IsDigestOf}
-use Rattle.set_outline.specs.Outlined.{IsOutline, OutlineView}
+use Rattle.filter_choice.specs.Digested.{DigestView, IsDigestOf}
+use Rattle.filter_choice.specs.Outlined.{IsOutline, OutlineView}
 use Rattle.patch_set.specs.Refusals.{is_too_long, refusal, refusal_of}
 use Rattle.patch_set.specs.SetView.{SetView, IsRead}
 use Rattle.patch_set.specs.declared.fault.SetFault.TheVariants as faults

@@ -8,8 +8,8 @@ use Rattle.outside.specs.Calls.{IsUntouched}
 use Rattle.outside.specs.SourceView.{SourceView, SourcePasses}
 use Rattle.patch_options.specs.declared.options.Input.{Input}
 use Rattle.tool_words.specs.PlainJobs.{PlainSelect}
-use Rattle.patch_input.specs.declared.fault.InputFault.{InputFault}
-use Rattle.patch_input.specs.Input.{IsStandard, TakesAtMost}
+use Rattle.run_answers.specs.declared.fault.InputFault.{InputFault}
+use Rattle.run_answers.specs.Input.{IsStandard, TakesAtMost}
 use Rattle.patch_set.specs.declared.fault.SetFault.{SetFault}
 use Rattle.patch_set.specs.declared.fault.SetFault.TheVariants.{Malformed, Garbage, TooLong, OutMany, EdReverse, Reserved, Memory}
 use Rattle.patch_set.specs.Refusals.{refusal}

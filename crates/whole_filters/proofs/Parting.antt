@@ -22,8 +22,8 @@ use Rattle.outside.proofs.Effects.{after_all-push, made_none, made_since, since_
 use Rattle.outside.proofs.Writing.{received_none, received_part, received_both, part_after}
 use Rattle.filter_choice.specs.Selected.{numbered}
 use Rattle.filter_choice.proofs.Rows.{numbered-at, numbered-count}
-use Rattle.patch_effects.specs.Making.{IsTidy}
-use Rattle.patch_effects.proofs.Tidy.{tidy_none, tidy_both, untouched_tidy, put_if_tidy}
+use Rattle.patch_task.specs.Making.{IsTidy}
+use Rattle.patch_task.proofs.Tidy.{tidy_none, tidy_both, untouched_tidy, put_if_tidy}
 use Rattle.filter_choice.proofs.Placed.{turn-end}
 use Rattle.whole_filters.specs.declared.fault.FilterFault.{FilterFault}
 use Rattle.whole_filters.specs.declared.fault.FilterFault.TheVariants as faults

@@ -10,8 +10,8 @@ use Rattle.hunk_core.specs.declared.fault.FormFault.{FormFault}
 use Rattle.hunk_core.specs.declared.fault.FormFault.TheVariants as forms
 use Rattle.hunk_core.specs.Reading.{Fails}
 use Rattle.patch_options.specs.declared.options.Input.{Input}
-use Rattle.patch_input.specs.declared.fault.InputFault.{InputFault}
-use Rattle.patch_input.specs.Input.{HasCause, IsAnswer, IsStandard, TakesAtMost}
+use Rattle.run_answers.specs.declared.fault.InputFault.{InputFault}
+use Rattle.run_answers.specs.Input.{HasCause, IsAnswer, IsStandard, TakesAtMost}
 use Rattle.patch_set.specs.Refusals.{of_form}
 use Rattle.split_recount.specs.Recounted.{recounted}
 use Rattle.whole_filters.specs.Outcomes.{IsOutcomeOf, no_selection, recount_outcome, recounted_as, recounted_from}

@@ -12,12 +12,12 @@ use Rattle.outside.specs.SinkView.{SinkView, sink_passes_none}
 use Rattle.outside.specs.Quiet.{Effect, IsQuiet, LeavesPrefix}
 use Rattle.outside.proofs.Views.{rises_then, since_split}
 use Rattle.outside.proofs.Quiet.{works_none}
-use Rattle.patch_effects.specs.Making.{IsTidy}
-use Rattle.patch_effects.proofs.Tidy.{untouched_tidy}
+use Rattle.patch_task.specs.Making.{IsTidy}
+use Rattle.patch_task.proofs.Tidy.{untouched_tidy}
 use Rattle.tool_words.specs.PlainJobs.{PlainSplitJob}
-use Rattle.patch_input.specs.declared.fault.InputFault.{InputFault}
-use Rattle.patch_input.specs.declared.fault.InputFault.TheVariants as input
-use Rattle.patch_input.specs.Input.{answer_of, HasFileCause}
+use Rattle.run_answers.specs.declared.fault.InputFault.{InputFault}
+use Rattle.run_answers.specs.declared.fault.InputFault.TheVariants as input
+use Rattle.run_answers.specs.Input.{answer_of, HasFileCause}
 use Rattle.patch_set.specs.declared.fault.SetFault.{SetFault}
 use Rattle.patch_set.specs.declared.fault.SetFault.TheVariants as set
 use Rattle.patch_set.specs.Refusals.{refusal}

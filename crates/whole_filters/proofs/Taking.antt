@@ -8,10 +8,10 @@ use Rattle.outside.proofs.Views.{rises_then}
 use Rattle.patch_options.specs.declared.options.Input.{Input}
 use Rattle.patch_options.specs.declared.options.Input.TheVariants.{Standard, File}
 use Rattle.tool_words.specs.PlainJobs.{PlainSelect}
-use Rattle.patch_input.specs.declared.fault.InputFault.{InputFault}
-use Rattle.patch_input.specs.declared.fault.InputFault.TheVariants.{NoPatchFile, TooLong, Source, Tree, Disagree, Memory}
-use Rattle.patch_input.specs.Input.{answer_of, input_bytes, IsStandard, IsFile, HasCause, IsAnswer}
-use Rattle.patch_input.specs.Input as texts
+use Rattle.run_answers.specs.declared.fault.InputFault.{InputFault}
+use Rattle.run_answers.specs.declared.fault.InputFault.TheVariants.{NoPatchFile, TooLong, Source, Tree, Disagree, Memory}
+use Rattle.run_answers.specs.Input.{answer_of, input_bytes, IsStandard, IsFile, HasCause, IsAnswer}
+use Rattle.run_answers.specs.Input as texts
 use Rattle.whole_filters.specs.Outcomes.{given, selection}
 use Rattle.whole_filters.specs.Patterns.{HasSelectionCause}
 use Rattle.whole_filters.specs.Sifting.{IsTold, NamesFile, NamesPatterns, HasInputCause, is_refusal}

@@ -14,7 +14,7 @@ use Rattle.flip_patch.specs.declared.fault.FlipFault.TheVariants as flip
 use Rattle.flip_patch.specs.Flipped.{flipped}
 use Rattle.flip_patch.specs.Refusals.{Answers, is_script, is_unfit, refused}
 use Rattle.patch_options.specs.declared.options.Input.{Input}
-use Rattle.patch_input.specs.Input.{IsStandard, TakesAtMost}
+use Rattle.run_answers.specs.Input.{IsStandard, TakesAtMost}
 use Rattle.patch_set.specs.declared.fault.SetFault.{SetFault}
 use Rattle.patch_set.specs.declared.fault.SetFault.TheVariants as set
 use Rattle.patch_set.specs.Refusals.{refusal}

@@ -8,14 +8,14 @@ use Rattle.outside.specs.Files.{Files}
 use Rattle.outside.specs.TreeView.{TreeView}
 use Rattle.outside.specs.SourceView.{SourceView}
 use Rattle.outside.specs.SinkView.{SinkView}
-use Rattle.header_lines.specs.HeaderText.{header_text}
+use Rattle.flip_patch.specs.HeaderText.{header_text}
 use Rattle.flip_patch.specs.declared.fault.FlipFault.{FlipFault}
 use Rattle.flip_patch.specs.Flipped.{hunk_text, swapped_hunks}
 use Rattle.flip_patch.specs.Refusals.{refused}
 use Rattle.patch_options.specs.declared.options.Input.{Input}
-use Rattle.patch_input.specs.declared.fault.InputFault.{InputFault}
-use Rattle.patch_input.specs.Input.{IsAnswer, answer_of, input_bytes}
-use Rattle.patch_input.specs.Input as texts
+use Rattle.run_answers.specs.declared.fault.InputFault.{InputFault}
+use Rattle.run_answers.specs.Input.{IsAnswer, answer_of, input_bytes}
+use Rattle.run_answers.specs.Input as texts
 use Rattle.patch_set.specs.declared.fault.SetFault.{SetFault}
 use Rattle.patch_set.specs.declared.fault.SetFault.TheVariants as set
 use Rattle.patch_set.specs.Refusals.{refusal}

@@ -6,14 +6,14 @@ use Rattle.outside.specs.Calls.{IsUntouched}
 use Rattle.outside.specs.SourceView.{SourceView, SourcePasses}
 use Rattle.patch_options.specs.declared.options.Input.{Input}
 use Rattle.tool_words.specs.PlainJobs.{PlainSelect}
-use Rattle.patch_input.specs.declared.fault.InputFault.{InputFault}
-use Rattle.patch_input.specs.Input.{IsStandard, TakesAtMost}
+use Rattle.run_answers.specs.declared.fault.InputFault.{InputFault}
+use Rattle.run_answers.specs.Input.{IsStandard, TakesAtMost}
 use Rattle.patch_set.specs.declared.fault.SetFault.{SetFault}
 use Rattle.patch_set.specs.declared.fault.SetFault.TheVariants.{Garbage}
 use Rattle.patch_set.specs.Refusals.{refusal}
 use Rattle.patch_set.specs.SetView.{SetView, IsRead}
-use Rattle.set_outline.specs.Digested.{DigestView, IsDigestOf}
-use Rattle.set_outline.specs.Outlined.{IsOutline, OutlineView}
+use Rattle.filter_choice.specs.Digested.{DigestView, IsDigestOf}
+use Rattle.filter_choice.specs.Outlined.{IsOutline, OutlineView}
 use Rattle.whole_filters.specs.Texts.{defaults}
 use Rattle.whole_filters.specs.Outcomes.{given}
 use Rattle.whole_filters.specs.Sifting.{IsTold, is_refusal, HasInputCause, HasTextCause}

@@ -9,8 +9,8 @@ use Rattle.outside.specs.Files.{Files}
 use Rattle.patch_options.specs.declared.options.Input.{Input}
 use Rattle.tool_words.specs.PlainJobs.{PlainSelect}
 use Rattle.patch_options.specs.Forms.{is_empty}
-use Rattle.patch_input.specs.declared.fault.InputFault.{InputFault}
-use Rattle.patch_input.specs.Input.{input_bytes, answer_of}
+use Rattle.run_answers.specs.declared.fault.InputFault.{InputFault}
+use Rattle.run_answers.specs.Input.{input_bytes, answer_of}
 use Rattle.patch_header.specs.Content.{content}
 use Rattle.patch_set.specs.declared.fault.SetFault.TheVariants.{Malformed}
 use Rattle.split_recount.specs.Recounted.{recounted}

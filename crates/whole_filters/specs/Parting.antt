@@ -11,7 +11,7 @@ use Rattle.outside.specs.SinkView.{SinkView, SinkPasses, Receives, ReceivesPart}
 use Rattle.outside.specs.SinkView as sink
 use Rattle.outside.specs.Quiet.{Effect, IsQuiet, TellsEither, LeavesEitherSince, LeavesPrefix, after, after_all}
 use Rattle.outside.specs.Quiet.Effect.{Put}
-use Rattle.patch_effects.specs.Making.{IsTidy}
+use Rattle.patch_task.specs.Making.{IsTidy}
 use Rattle.whole_filters.specs.declared.fault.FilterFault.{FilterFault}
 use Rattle.whole_filters.specs.declared.fault.FilterFault.TheVariants as faults
 

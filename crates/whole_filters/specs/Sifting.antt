@@ -9,9 +9,9 @@ use Rattle.outside.specs.SinkView.{SinkView, SinkPasses, Receives, ReceivesPart}
 use Rattle.outside.specs.SinkView as sink
 use Rattle.patch_options.specs.declared.options.Input.{Input}
 use Rattle.tool_words.specs.PlainJobs.{PlainSelect}
-use Rattle.patch_input.specs.declared.fault.InputFault.{InputFault}
-use Rattle.patch_input.specs.declared.fault.InputFault.TheVariants as input
-use Rattle.patch_input.specs.Input.{IsStandard, TakesAtMost}
+use Rattle.run_answers.specs.declared.fault.InputFault.{InputFault}
+use Rattle.run_answers.specs.declared.fault.InputFault.TheVariants as input
+use Rattle.run_answers.specs.Input.{IsStandard, TakesAtMost}
 use Rattle.patch_set.specs.declared.fault.SetFault.{SetFault}
 use Rattle.patch_set.specs.declared.fault.SetFault.TheVariants as set
 use Rattle.patch_set.specs.Refusals.{refusal}

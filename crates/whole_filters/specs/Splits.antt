@@ -9,9 +9,9 @@ use Rattle.outside.specs.SinkView.{SinkView, SinkPasses}
 use Rattle.outside.specs.SinkView as sink
 use Rattle.outside.specs.Quiet.{IsQuiet}
 use Rattle.tool_words.specs.PlainJobs.{PlainSplitJob}
-use Rattle.patch_input.specs.declared.fault.InputFault.{InputFault}
-use Rattle.patch_input.specs.declared.fault.InputFault.TheVariants as input
-use Rattle.patch_input.specs.Input.{answer_of}
+use Rattle.run_answers.specs.declared.fault.InputFault.{InputFault}
+use Rattle.run_answers.specs.declared.fault.InputFault.TheVariants as input
+use Rattle.run_answers.specs.Input.{answer_of}
 use Rattle.patch_set.specs.declared.fault.SetFault.{SetFault}
 use Rattle.patch_set.specs.Refusals.{refusal}
 use Rattle.patch_set.specs.SetView.{SetView, IsRead}

@@ -1,14 +1,14 @@
 //! A text with true counts.
 ghost use Rattle.std.specs.Prelude.{◌≡◌};
-ghost use Rattle.patch_input.specs.Input.{IsFile};
+ghost use Rattle.run_answers.specs.Input.{IsFile};
 ghost use Rattle.whole_filters.specs.Outcomes.{IsOutcomeOf, no_selection, recount_outcome};
 ghost use Rattle.whole_filters.specs.Sifting.{HasCountCause, Sifts};
 
 use crate::fault::FilterFault;
 use outside::{Sink, Source, Tree, put_all};
-use patch_input::read_input;
 use patch_options::Input;
 use patch_set::SetFault;
+use run_answers::read_input;
 use split_recount::recount;
 use std::alloc::Global;
 

@@ -1,15 +1,15 @@
 //! How a filter reads a text: as `patch` does without options, but perhaps for `--skip-binary`.
 ghost use Rattle.std.specs.Prelude.{◌≡◌, IfOk};
 ghost use Rattle.patch_options.specs.PlainJob.{plain_options, IsLawful};
-ghost use Rattle.set_outline.specs.Digested.{IsDigestOf};
-ghost use Rattle.set_outline.specs.Outlined.{IsOutline};
+ghost use Rattle.filter_choice.specs.Digested.{IsDigestOf};
+ghost use Rattle.filter_choice.specs.Outlined.{IsOutline};
 ghost use Rattle.patch_set.specs.Refusals.{refusal};
 ghost use Rattle.patch_set.specs.SetView.{IsRead, IsWhole, Meets};
 ghost use Rattle.whole_filters.specs.Texts.{defaults, dry_defaults};
 
+use filter_choice::{Digest, Outline, read_digest, read_outline};
 use patch_options::{Input, Options, PlanKind};
 use patch_set::{PatchSet, SetFault, read_set};
-use set_outline::{Digest, Outline, read_digest, read_outline};
 use std::alloc::Global;
 
 /// The set of a text, of which binary changes are passed over or not.

@@ -4,8 +4,8 @@ ghost use Rattle.whole_filters.specs.Faults.{of_flip};
 ghost use Rattle.whole_filters.specs.declared.fault.FilterFault.TheVariants as faults;
 
 use flip_patch::FlipFault;
-use patch_input::InputFault;
 use patch_set::SetFault;
+use run_answers::InputFault;
 use std::alloc::AllocError;
 
 /// Why a filter ends early.

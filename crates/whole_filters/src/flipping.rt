@@ -2,7 +2,7 @@
 ghost use Rattle.std.specs.Prelude.{◌≡◌, ℕ, false, List, [], None, Some, IfOk, IfErr, OnOk};
 ghost use Rattle.outside.specs.Calls.{IsUntouched};
 ghost use Rattle.outside.specs.SourceView.{SourcePasses};
-ghost use Rattle.patch_input.specs.Input.{IsFile, IsStandard, TakesAtMost};
+ghost use Rattle.run_answers.specs.Input.{IsFile, IsStandard, TakesAtMost};
 ghost use Rattle.patch_set.specs.Refusals.{refusal};
 ghost use Rattle.patch_set.specs.SetView.{SetView, IsRead, plain_patches};
 ghost use Rattle.flip_patch.specs.Flipped.{flipped};
@@ -16,9 +16,9 @@ use crate::defaults::read_plain;
 use crate::fault::FilterFault;
 use flip_patch::flip_patches;
 use outside::{Sink, Source, Tree};
-use patch_input::read_input;
 use patch_options::Input;
 use patch_set::PatchSet;
+use run_answers::read_input;
 use std::alloc::Global;
 
 /// Carries out a command of `reversediff`: the file patches of the text from the last to the first, each turned round. A text

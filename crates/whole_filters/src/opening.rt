@@ -4,9 +4,9 @@ ghost use Rattle.outside.specs.Files.{Files};
 ghost use Rattle.outside.specs.Calls.{IsUntouched};
 ghost use Rattle.outside.specs.SourceView.{SourcePasses};
 ghost use Rattle.tool_words.specs.PlainJobs.{plain_select};
-ghost use Rattle.patch_input.specs.Input.{IsFile, IsStandard, TakesAtMost};
-ghost use Rattle.set_outline.specs.Digested.{IsDigestOf};
-ghost use Rattle.set_outline.specs.Outlined.{IsOutline};
+ghost use Rattle.run_answers.specs.Input.{IsFile, IsStandard, TakesAtMost};
+ghost use Rattle.filter_choice.specs.Digested.{IsDigestOf};
+ghost use Rattle.filter_choice.specs.Outlined.{IsOutline};
 ghost use Rattle.patch_set.specs.SetView.{IsRead, IsWhole};
 ghost use Rattle.patch_set.specs.Refusals.{refusal};
 ghost use Rattle.patch_set.specs.declared.fault.SetFault.{SetFault as TheFault};
@@ -19,11 +19,11 @@ ghost use Rattle.whole_filters.specs.declared.fault.FilterFault.TheVariants as f
 use crate::defaults::{digest_plain, outline_plain, read_plain};
 use crate::fault::FilterFault;
 use crate::patterns::add_patterns;
+use filter_choice::{Digest, Outline};
 use outside::{Source, Tree};
-use patch_input::{InputFault, read_input};
 use patch_options::Input;
 use patch_set::{PatchSet, SetFault};
-use set_outline::{Digest, Outline};
+use run_answers::{InputFault, read_input};
 use std::alloc::Global;
 use tool_words::Select;
 

@@ -11,7 +11,7 @@ ghost use Rattle.whole_filters.specs.Patterns.{Adds, HasPatternCause, HasSelecti
 
 use line_list::lines_of;
 use outside::{Name, Tree};
-use patch_input::{InputFault, read_file};
+use run_answers::{InputFault, read_file};
 use std::alloc::{AllocError, Global};
 use tool_words::Select;
 

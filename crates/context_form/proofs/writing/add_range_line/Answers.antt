@@ -1,6 +1,6 @@
 use Rattle.std.proofs.Common.{[], ◌∷◌, ◌++◌, length, length-append, ap, ◌∙◌, arith}
 use Rattle.context_form.proofs.StepLemmas.{before-length, behind-length, four-pieces}
-use Rattle.diff_command.specs.Spans.{span_text}
+use Rattle.hunk_core.specs.Spans.{span_text}
 use Rattle.context_form.specs.Ranges.{before_range, behind_range}
 use Rattle.context_form.proofs.writing.add_range_line.Goals as goal
 

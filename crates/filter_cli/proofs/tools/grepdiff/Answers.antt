@@ -1,7 +1,7 @@
 use Rattle.std.proofs.Common.{ap, false, ◌≡◌}
 use Rattle.tool_words.specs.PlainJobs.{plain_grep_job}
 use Rattle.tool_words.specs.PlainJobs.PlainToolJob.{grep_job}
-use Rattle.filter_run.specs.Outcomes.{IsGrepped}
+use Rattle.filter_cli.specs.Outcomes.{IsGrepped}
 use Rattle.whole_filters.specs.Sifting.{HasTextCause}
 use Rattle.filter_cli.specs.Command.{why_by}
 use Rattle.filter_cli.specs.Worlds.{world}

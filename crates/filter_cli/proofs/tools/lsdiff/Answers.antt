@@ -3,7 +3,7 @@ use Rattle.outside.specs.FinderView.{finder_passes_none}
 use Rattle.tool_words.specs.PlainJobs.{plain_list_job}
 use Rattle.tool_words.specs.PlainJobs.PlainToolJob.{list_job}
 use Rattle.whole_filters.specs.Outcomes.{IsOutcomeOf}
-use Rattle.filter_run.specs.Outcomes.{list_outcome}
+use Rattle.filter_cli.specs.Outcomes.{list_outcome}
 use Rattle.whole_filters.specs.Sifting.{HasTextCause}
 use Rattle.filter_cli.specs.Command.{why_by}
 use Rattle.filter_cli.specs.Worlds.{world}

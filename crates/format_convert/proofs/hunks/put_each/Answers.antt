@@ -6,8 +6,8 @@ use Rattle.hunk_core.specs.Turned.{IsLawful}
 use Rattle.file_patch.specs.PlainPatch.{patch_of}
 use Rattle.filter_choice.specs.Kept.{keeps}
 use Rattle.tool_words.specs.PlainJobs.{plain_filter_job}
-use Rattle.change_commands.specs.Taken.{flags}
-use Rattle.change_commands.proofs.Parts.{written-all, written-more, written-none, written-stop}
+use Rattle.format_convert.specs.Taken.{flags}
+use Rattle.format_convert.proofs.Parts.{written-all, written-more, written-none, written-stop}
 use Rattle.patch_header.specs.Written.{hunk_text}
 use Rattle.format_convert.proofs.RowLemmas.{kept_from, last-hunk, next-hunk, rows-of, number-fits, offset-fits}
 use Rattle.format_convert.proofs.hunks.put_each.Goals as goal

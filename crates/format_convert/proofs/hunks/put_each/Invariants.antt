@@ -4,8 +4,8 @@ use Rattle.file_patch.specs.declared.FilePatch.{FilePatch}
 use Rattle.file_patch.specs.PlainPatch.{patch_of}
 use Rattle.patch_set.specs.SetView.{patch_at}
 use Rattle.tool_words.specs.PlainJobs.{plain_filter_job}
-use Rattle.change_commands.specs.Taken.{flags}
-use Rattle.change_commands.proofs.Parts.{Written}
+use Rattle.format_convert.specs.Taken.{flags}
+use Rattle.format_convert.proofs.Parts.{Written}
 use Rattle.patch_header.specs.Written.{hunk_text}
 use Rattle.format_convert.proofs.RowLemmas.{kept_from}
 use Rattle.format_convert.proofs.hunks.put_each.Given as goal

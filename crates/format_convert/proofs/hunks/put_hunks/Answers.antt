@@ -8,11 +8,11 @@ use Rattle.file_patch.specs.declared.Change.{Change}
 use Rattle.file_patch.specs.declared.FilePatch.{FilePatch}
 use Rattle.file_patch.specs.PlainPatch.{change_of, patch_of}
 use Rattle.tool_words.specs.PlainJobs.{plain_filter_job}
-use Rattle.change_commands.specs.Taken.{flags, kept_hunks, left_change}
+use Rattle.format_convert.specs.Taken.{flags, kept_hunks, left_change}
 use Rattle.patch_header.specs.Written.{hunk_text}
 use Rattle.format_convert.specs.Converted.{hunk_texts}
 use Rattle.outside.proofs.SinkSteps.{HasPut, has-none, puts-done}
-use Rattle.change_commands.specs.Walk.{IsHunks}
+use Rattle.format_convert.specs.Walk.{IsHunks}
 use Rattle.format_convert.proofs.RowLemmas.{are-lawful}
 use Rattle.format_convert.proofs.hunks.put_hunks.Goals as goal
 

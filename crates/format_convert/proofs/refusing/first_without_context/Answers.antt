@@ -2,7 +2,7 @@ use Rattle.std.proofs.Common.{◌+◌, ◌<◌, ◌≤◌, ◌&&◌, ℕ, Bool, 
 use Rattle.std.specs.List.{flat_map}
 use Rattle.file_patch.specs.PlainPatch.{patch_of, first_opening}
 use Rattle.tool_words.specs.PlainJobs.{plain_filter_job}
-use Rattle.change_commands.specs.Taken.{has_kept}
+use Rattle.format_convert.specs.Taken.{has_kept}
 use Rattle.line_list.proofs.Elements.{there-is}
 use Rattle.format_convert.specs.Converted.{rows}
 use Rattle.format_convert.specs.Refusals.{lacks_context}

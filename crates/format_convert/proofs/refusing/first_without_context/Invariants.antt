@@ -2,7 +2,7 @@ use Rattle.std.proofs.Common.{◌≡◌, drop}
 use Rattle.std.specs.List.{flat_map}
 use Rattle.tool_words.specs.PlainJobs.{plain_filter_job}
 use Rattle.patch_set.specs.SetView.{plain_patches}
-use Rattle.change_commands.specs.Taken.{left_patches}
+use Rattle.format_convert.specs.Taken.{left_patches}
 use Rattle.format_convert.specs.Converted.{rows}
 use Rattle.format_convert.proofs.RowLemmas.{row_if}
 use Rattle.format_convert.specs.Refusals.{lacks_context}

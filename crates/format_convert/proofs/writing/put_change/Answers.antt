@@ -2,7 +2,7 @@ use Rattle.std.proofs.Common.{ℕ, List, sym, subst, ◌∙◌}
 use Rattle.outside.specs.Puts.{Puts}
 use Rattle.file_patch.specs.PlainPatch.{patch_of}
 use Rattle.tool_words.specs.PlainJobs.{plain_filter_job}
-use Rattle.change_commands.specs.Taken.{left_patch}
+use Rattle.format_convert.specs.Taken.{left_patch}
 use Rattle.format_convert.proofs.RowLemmas.{by-commands, by-context}
 use Rattle.format_convert.proofs.writing.put_change.Goals as goal
 

@@ -2,7 +2,7 @@ use Rattle.std.proofs.Common.{◌+◌, ◌<◌, ◌≤◌, ℕ, List, drop, leng
 use Rattle.std.specs.List.{flat_map}
 use Rattle.std.proofs.lemmas.Result.{err_from_is_err_and}
 use Rattle.tool_words.specs.PlainJobs.{plain_filter_job}
-use Rattle.change_commands.proofs.Parts.{Written, written-all, written-more, written-none, written-stop}
+use Rattle.format_convert.proofs.Parts.{Written, written-all, written-more, written-none, written-stop}
 use Rattle.line_list.proofs.Elements.{there-is}
 use Rattle.format_convert.specs.Converted.{converted, rows, written_if}
 use Rattle.format_convert.proofs.RowLemmas.{converted-is, next-text, rows-end, patch-fits, patch-in, patch-out}

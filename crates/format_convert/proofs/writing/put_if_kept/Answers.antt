@@ -3,7 +3,7 @@ use Rattle.outside.specs.Puts.{Puts}
 use Rattle.outside.proofs.SinkSteps.{HasPut, has-none, puts-done}
 use Rattle.file_patch.specs.PlainPatch.{patch_of}
 use Rattle.tool_words.specs.PlainJobs.{plain_filter_job}
-use Rattle.change_commands.specs.Taken.{left_patch}
+use Rattle.format_convert.specs.Taken.{left_patch}
 use Rattle.format_convert.specs.Converted.{written}
 use Rattle.format_convert.proofs.writing.put_if_kept.Goals as goal
 

@@ -3,9 +3,9 @@ use Rattle.hunk_core.specs.declared.Side.TheVariants.{Forward}
 use Rattle.outside.specs.Puts.{Puts}
 use Rattle.outside.proofs.SinkSteps.{HasPut, has-none, puts-done}
 use Rattle.file_patch.specs.PlainPatch.{patch_of}
-use Rattle.header_lines.specs.HeaderText.{header_text}
+use Rattle.flip_patch.specs.HeaderText.{header_text}
 use Rattle.tool_words.specs.PlainJobs.{plain_filter_job}
-use Rattle.change_commands.specs.Taken.{left_patch}
+use Rattle.format_convert.specs.Taken.{left_patch}
 use Rattle.format_convert.specs.Converted.{change_text}
 use Rattle.format_convert.proofs.writing.put_if_written.Goals as goal
 

@@ -2,7 +2,7 @@ use Rattle.std.proofs.lemmas.Result.{err_from_is_err_and}
 use Rattle.outside.proofs.SinkSteps.{has-put, puts-more, puts-stop}
 use Rattle.file_patch.specs.PlainPatch.{patch_of}
 use Rattle.tool_words.specs.PlainJobs.{plain_filter_job}
-use Rattle.change_commands.specs.Taken.{left_patch}
+use Rattle.format_convert.specs.Taken.{left_patch}
 use Rattle.format_convert.specs.Converted.{change_text}
 use Rattle.format_convert.proofs.writing.put_patch.Goals as goal
 

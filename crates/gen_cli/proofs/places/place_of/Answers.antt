@@ -1,7 +1,7 @@
 use Rattle.std.proofs.Common.{◌<◌, ◌^◌, ◌++◌, List, ℕ, codes, sym, ap, subst, ◌∙◌, arith}
 use Rattle.num_text.proofs.Decimal.{written-decimal}
 use Rattle.outside.specs.Names.{IsEnding}
-use Rattle.gen_law.proofs.Targets.{number_ending}
+use Rattle.reading_law.proofs.Targets.{number_ending}
 use Rattle.outside.proofs.Exits.{if_ok_none}
 use Rattle.gen_cli.proofs.places.place_of.Goals as goal
 

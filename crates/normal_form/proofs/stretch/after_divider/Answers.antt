@@ -1,6 +1,6 @@
 use Rattle.std.proofs.Common.{◌≡◌, rules, tests}
 use Rattle.hunk_core.specs.Reading.{ahead_of}
-use Rattle.diff_command.specs.declared.Action.TheVariants.{Change}
+use Rattle.hunk_core.specs.declared.command.Action.TheVariants.{Change}
 use Rattle.normal_form.proofs.ReaderExits.{met, divider_none, divider_refused, divider_found}
 use Rattle.normal_form.proofs.stretch.after_divider.Goals as goal
 

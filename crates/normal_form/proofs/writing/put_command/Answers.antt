@@ -1,7 +1,7 @@
 use Rattle.std.proofs.Common.{◌≡◌, ◌++◌, ◌∷◌, [], List, ℕ, length, subst, ap, ◌∙◌, arith, length-append}
 use Rattle.outside.specs.Puts.{Puts}
-use Rattle.diff_command.specs.Letters.{letter}
-use Rattle.diff_command.specs.Spans.{span_text}
+use Rattle.hunk_core.specs.Letters.{letter}
+use Rattle.hunk_core.specs.Spans.{span_text}
 use Rattle.normal_form.specs.Canonical.{command_text}
 use Rattle.normal_form.proofs.WritingLemmas.{pieces-text}
 use Rattle.normal_form.proofs.writing.put_command.Goals as goal

@@ -1,5 +1,5 @@
 use Rattle.std.proofs.Common.{ap, ◌∙◌, sym}
-use Rattle.file_pieces.specs.Records.{line_in}
+use Rattle.page_pair.specs.Records.{line_in}
 use Rattle.packed_pages.proofs.HeldLemmas.{line-lent}
 use Rattle.packed_pages.proofs.PackedBLineStore.line.Goals as goal
 

@@ -1,7 +1,7 @@
 use Rattle.std.proofs.Common.{◌≡◌, Some, is_some, sym, ap, ◌∙◌}
 use Rattle.std.specs.Option.{option_map}
 use Rattle.outside.specs.Files.{bytes_at}
-use Rattle.file_pieces.specs.Reading.{told_file}
+use Rattle.page_pair.specs.Reading.{told_file}
 use Rattle.packed_pages.proofs.HeldLemmas.{empty-seen, empty-held, no-place}
 use Rattle.packed_pages.proofs.Takings.{written-held, written-takes, written-scratch}
 use Rattle.packed_pages.proofs.PackedBPlan.take_file.Goals as goal

@@ -1,7 +1,7 @@
 use Rattle.std.proofs.Common.{◌∙◌, arith, refl, subst, ◌+◌}
 use Rattle.line_store.proofs.StoreLemmas.{keeps-more, cause-more, keeps-same}
 use Rattle.packed_pages.specs.Held.{seen_of}
-use Rattle.file_pieces.specs.Alike.{FindsFirst}
+use Rattle.page_pair.specs.Alike.{FindsFirst}
 use Rattle.packed_pages.proofs.Steps.{none-both}
 use Rattle.packed_pages.proofs.alike.find_first.Goals as goal
 

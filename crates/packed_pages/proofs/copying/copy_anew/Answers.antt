@@ -1,7 +1,7 @@
 use Rattle.std.proofs.Common.{refl}
 use Rattle.outside.specs.ScratchView.{scratch_passes_both}
 use Rattle.outside.proofs.Views.{untouched_none}
-use Rattle.file_pieces.proofs.Readings.{take-later}
+use Rattle.page_pair.proofs.Readings.{take-later}
 use Rattle.packed_pages.proofs.copying.copy_anew.Goals as goal
 
 pub returns-in-Err-clause-untouched : goal.returns-in-Err-clause-untouched

@@ -3,8 +3,8 @@ use Rattle.std.proofs.lemmas.List.{length-take}
 use Rattle.line_store.specs.declared.Half.TheVariants.{First, Second}
 use Rattle.outside.specs.ScratchView.{scratch_passes_none, scratch_passes_both}
 use Rattle.page_pair.specs.Pair.{page_of}
-use Rattle.file_pieces.specs.Reading.{IsWhole}
-use Rattle.file_pieces.proofs.Windows.{part-of-front}
+use Rattle.page_pair.specs.Reading.{IsWhole}
+use Rattle.page_pair.proofs.Windows.{part-of-front}
 use Rattle.packed_pages.proofs.Copyings.{copies-none, copies-more, copies-misfit, copy-fault}
 use Rattle.packed_pages.proofs.Sizes.{page-length}
 use Rattle.packed_pages.proofs.copying.copy_lines.Goals as goal

@@ -4,10 +4,10 @@ use Rattle.outside.specs.Files.{bytes_at}
 use Rattle.outside.specs.ScratchView.{scratch_passes_none, scratch_passes_both}
 use Rattle.outside.proofs.Views.{untouched_none, untouched_both}
 use Rattle.page_pair.specs.Pair.{page_of}
-use Rattle.file_pieces.specs.Reading.{told_file}
-use Rattle.file_pieces.specs.Room.{no_room}
-use Rattle.file_pieces.proofs.Windows.{none-unless}
-use Rattle.file_pieces.proofs.Readings.{told-same}
+use Rattle.page_pair.specs.Reading.{told_file}
+use Rattle.page_pair.specs.Room.{no_room}
+use Rattle.page_pair.proofs.Windows.{none-unless}
+use Rattle.page_pair.proofs.Readings.{told-same}
 use Rattle.packed_pages.specs.Copying.{IsCopied}
 use Rattle.packed_pages.proofs.Copyings.{ready-none, copied-none, written-all, end-fault, copied-count}
 use Rattle.outside.proofs.Exits.{on_ok_none}

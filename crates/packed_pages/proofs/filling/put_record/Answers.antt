@@ -1,7 +1,7 @@
 use Rattle.std.proofs.Common.{◌≡◌, ◌+◌, ◌≤◌, length, take, drop, refl, sym, ap, subst, arith, ◌∙◌}
 use Rattle.line_store.specs.declared.Half.TheVariants.{First, Second}
 use Rattle.page_pair.specs.Pair.{page_of}
-use Rattle.file_pieces.specs.Records.{Extends, record_of}
+use Rattle.page_pair.specs.Records.{Extends, record_of}
 use Rattle.packed_pages.proofs.Fillings.{filled-fits, filled-next, ready-next, line-length}
 use Rattle.outside.specs.ScratchView.{scratch_passes_none}
 use Rattle.packed_pages.proofs.filling.put_record.Goals as goal

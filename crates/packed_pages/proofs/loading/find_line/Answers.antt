@@ -1,6 +1,6 @@
 use Rattle.std.proofs.Common.{◌≤◌, ◌-◌, ◌∙◌, arith, ap}
 use Rattle.page_pair.specs.Pair.{page_of}
-use Rattle.file_pieces.proofs.Windows.{none-unless}
+use Rattle.page_pair.proofs.Windows.{none-unless}
 use Rattle.packed_pages.proofs.HeldLemmas.{no-overrun, record-cause}
 use Rattle.packed_pages.proofs.loading.find_line.Goals as goal
 

@@ -1,5 +1,5 @@
 use Rattle.std.proofs.Common.{◌≡◌, ◌≤◌, ◌+◌, ◌-◌, ◌*◌, ℕ, length, sym, arith, length-drop, drop, ap, ◌∙◌, ◌≢◌, List, refl}
-use Rattle.file_pieces.proofs.Windows.{none-unless, came-whole, page-length}
+use Rattle.page_pair.proofs.Windows.{none-unless, came-whole, page-length}
 use Rattle.packed_pages.proofs.Spans.{page-there}
 use Rattle.line_store.specs.declared.Half.{Half}
 use Rattle.line_store.specs.declared.Half.TheVariants.{First, Second}

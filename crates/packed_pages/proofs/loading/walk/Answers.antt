@@ -1,7 +1,7 @@
 use Rattle.std.proofs.Common.{refl, subst, sym, ◌≡◌, ◌≤◌, ◌+◌, ◌-◌, length}
 use Rattle.packed_pages.specs.Marks.{AreMarks, marks_of}
 use Rattle.packed_pages.proofs.HeldLemmas.{marked-more}
-use Rattle.file_pieces.specs.Records.{stated}
+use Rattle.page_pair.specs.Records.{stated}
 use Rattle.packed_pages.specs.Layout.{place_in}
 use Rattle.packed_pages.specs.Held.{IsRecordFault}
 use Rattle.packed_pages.proofs.loading.walk.Goals as goal

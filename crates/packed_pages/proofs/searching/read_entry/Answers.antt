@@ -1,5 +1,5 @@
 use Rattle.std.proofs.Common.{◌≤◌, length, sym, ap, ◌∙◌, take, drop, ◌*◌}
-use Rattle.file_pieces.proofs.Windows.{none-unless, came-whole}
+use Rattle.page_pair.proofs.Windows.{none-unless, came-whole}
 use Rattle.packed_pages.proofs.Spans.{entry-states, entry-there}
 use Rattle.packed_pages.proofs.searching.read_entry.Goals as goal
 

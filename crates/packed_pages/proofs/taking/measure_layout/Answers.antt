@@ -1,10 +1,10 @@
 use Rattle.std.proofs.Common.{◌≡◌, ◌+◌, ◌-◌, ◌≤◌, ◌<◌, length, min, sym, ap, subst, ◌∙◌, arith}
 use Rattle.line_list.specs.Lines.{lines}
 use Rattle.line_store.specs.Taking.{IsSize}
-use Rattle.file_pieces.specs.Records.{longest}
-use Rattle.file_pieces.specs.Room.{no_room, room_from, page_count}
-use Rattle.file_pieces.proofs.Measures.{measured-all}
-use Rattle.file_pieces.proofs.Rooms.{room-all}
+use Rattle.page_pair.specs.Records.{longest}
+use Rattle.page_pair.specs.Room.{no_room, room_from, page_count}
+use Rattle.page_pair.proofs.Measures.{measured-all}
+use Rattle.page_pair.proofs.Rooms.{room-all}
 use Rattle.packed_pages.proofs.taking.measure_layout.Goals as goal
 
 pub returns-in-Ok-clause-lines : goal.returns-in-Ok-clause-lines

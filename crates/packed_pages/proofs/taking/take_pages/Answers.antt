@@ -1,9 +1,9 @@
 use Rattle.outside.specs.ScratchView.{scratch_passes_none}
 use Rattle.std.proofs.Common.{◌∙◌, refl, sym, subst, arith}
 use Rattle.outside.proofs.Views.{untouched_both}
-use Rattle.file_pieces.proofs.Readings.{told-same, take-later}
+use Rattle.page_pair.proofs.Readings.{told-same, take-later}
 use Rattle.packed_pages.specs.Copying.{IsWritten}
-use Rattle.file_pieces.proofs.Told.{open-cause}
+use Rattle.page_pair.proofs.Told.{open-cause}
 use Rattle.packed_pages.proofs.taking.take_pages.Goals as goal
 
 pub returns-in-Err-measure_layout-clause-untouched : goal.returns-in-Err-measure_layout-clause-untouched

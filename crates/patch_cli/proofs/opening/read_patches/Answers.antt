@@ -1,6 +1,6 @@
 use Rattle.std.proofs.Common.{Option, List, ℕ, Ok, subst}
 use Rattle.patch_options.specs.PlainJob.{plain_options}
-use Rattle.patch_input.specs.Input.{IsAnswer}
+use Rattle.run_answers.specs.Input.{IsAnswer}
 use Rattle.patch_cli.proofs.Asked.{asked_so}
 use Rattle.patch_cli.proofs.opening.read_patches.Goals as goal
 

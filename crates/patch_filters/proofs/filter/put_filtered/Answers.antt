@@ -5,7 +5,7 @@ use Rattle.file_patch.specs.declared.FilePatch.{FilePatch}
 use Rattle.tool_words.specs.PlainJobs.{plain_filter_job}
 use Rattle.line_list.proofs.Elements.{there-is}
 use Rattle.outside.proofs.Loops.{goes-on, stops, ends}
-use Rattle.set_outline.proofs.Digests.{digests-count}
+use Rattle.filter_choice.proofs.Digests.{digests-count}
 use Rattle.filter_choice.specs.Selected.{numbered}
 use Rattle.patch_filters.specs.Digested.{digest_if_taken}
 use Rattle.patch_filters.proofs.Digesting.{filtered-digest-is}

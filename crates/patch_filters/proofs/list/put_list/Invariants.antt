@@ -1,5 +1,5 @@
 use Rattle.outside.proofs.SinkSteps.{HasPut}
-use Rattle.set_outline.specs.Outlined.{outlined}
+use Rattle.filter_choice.specs.Outlined.{outlined}
 use Rattle.tool_words.specs.PlainJobs.{plain_list_job}
 use Rattle.patch_filters.specs.Listed.{line_if_selected}
 use Rattle.outside.proofs.Loops.{up_to}

@@ -1,9 +1,9 @@
 use Rattle.std.proofs.Common.{Ok, Err, sym, ◌∙◌}
 use Rattle.patch_outcome.specs.Outcome.{effects_of, reject_effects}
 use Rattle.patch_outcome.specs.TurnView.{plain_turn}
-use Rattle.patch_effects.proofs.Making.{makes_both, makes_stops, makes_fault, makes_value}
+use Rattle.patch_task.proofs.Making.{makes_both, makes_stops, makes_fault, makes_value}
 use Rattle.patch_outcome.proofs.Writing.{effects_split, effects_on, effects_count, wrote_as}
-use Rattle.patch_effects.proofs.Tidy.{tidy_both}
+use Rattle.patch_task.proofs.Tidy.{tidy_both}
 use Rattle.outside.proofs.Exits.{if_ok_none, on_ok_none}
 use Rattle.patch_outcome.proofs.Moving.{goes_both, goes_value, goes_fault, five_most}
 use Rattle.patch_outcome.proofs.effects.make_effects.Goals as goal

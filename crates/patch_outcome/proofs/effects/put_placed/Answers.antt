@@ -2,7 +2,7 @@ use Rattle.std.proofs.Common.{sym, length, ◌∙◌, ap, not, ◌||◌, is_some
 use Rattle.std.proofs.lemmas.Result.{IfOk-weaker}
 use Rattle.std.specs.FinMap.{get}
 use Rattle.patch_outcome.specs.TurnView.{plain_turn}
-use Rattle.patch_effects.proofs.Making.{makes_is}
+use Rattle.patch_task.proofs.Making.{makes_is}
 use Rattle.patch_outcome.proofs.Writing.{put_as}
 use Rattle.patch_outcome.proofs.Moving.{two_four}
 use Rattle.patch_outcome.proofs.effects.put_placed.Goals as goal

@@ -1,10 +1,10 @@
 use Rattle.std.proofs.Common.{refl, sym, ◌∙◌}
 use Rattle.std.proofs.lemmas.Result.{IfOk-weaker}
-use Rattle.patch_effects.specs.declared.fault.RunFault.TheVariants.{Tree}
+use Rattle.patch_task.specs.declared.fault.RunFault.TheVariants.{Tree}
 use Rattle.patch_outcome.specs.Outcome.{made_effects}
 use Rattle.patch_outcome.specs.TurnView.{plain_turn}
 use Rattle.patch_outcome.proofs.Moving.{makes_after, makes_none, goes_after, tidy_after}
-use Rattle.patch_effects.proofs.Making.{untouched_works}
+use Rattle.patch_task.proofs.Making.{untouched_works}
 use Rattle.patch_outcome.proofs.effects.write_made.Goals as goal
 
 pub move_source-requires-clause-moves : goal.move_source-requires-clause-moves

@@ -3,10 +3,10 @@ use Rattle.std.proofs.lemmas.Result.{IfOk-weaker}
 use Rattle.std.specs.FinMap.{get}
 use Rattle.patch_outcome.specs.Outcome.{is_removal, made_effects, written_effects}
 use Rattle.patch_outcome.specs.TurnView.{plain_turn}
-use Rattle.patch_effects.proofs.Making.{makes_is, makes_value, makes_stops}
+use Rattle.patch_task.proofs.Making.{makes_is, makes_value, makes_stops}
 use Rattle.patch_outcome.proofs.Writing.{written_as}
 use Rattle.outside.proofs.Exits.{if_ok_none, on_ok_none}
-use Rattle.patch_effects.proofs.Tidy.{makes_tidy}
+use Rattle.patch_task.proofs.Tidy.{makes_tidy}
 use Rattle.patch_outcome.proofs.Moving.{goes_value, goes_fault}
 use Rattle.outside.specs.Files.{Files}
 use Rattle.patch_outcome.proofs.effects.write_target.Goals as goal

@@ -1,6 +1,6 @@
 use Rattle.std.proofs.Common.{◌||◌, Option, option_map, sym, ◌∙◌, ap}
 use Rattle.patch_options.specs.PlainJob.{plain_options}
-use Rattle.target_names.specs.declared.derived.Target.{Target}
+use Rattle.file_patch.specs.declared.derived.Target.{Target}
 use Rattle.patch_task.specs.Turns.{PlainTurn, renamed_by}
 use Rattle.patch_outcome.specs.Outcome.{is_name}
 use Rattle.patch_task.specs.Ready.{alone}

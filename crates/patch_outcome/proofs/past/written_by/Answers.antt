@@ -1,6 +1,6 @@
 use Rattle.std.proofs.Common.{◌≡◌, Option, None, sym, ◌∙◌, ap}
 use Rattle.std.specs.Option.{option_or, option_and_then, option_copied}
-use Rattle.target_names.specs.declared.derived.Target.{Target}
+use Rattle.file_patch.specs.declared.derived.Target.{Target}
 use Rattle.patch_task.specs.Turns.{written_at}
 use Rattle.patch_task.specs.Ready.{item_of}
 use Rattle.patch_outcome.proofs.past.written_by.Goals as goal

@@ -1,6 +1,6 @@
 use Rattle.std.proofs.Common.{rules, ℕ, List, [], Option, IsSome, refl, sym, subst, ◌∙◌}
 use Rattle.replace_file.specs.TempSink.{sink_view}
-use Rattle.patch_effects.proofs.Filling.{around_works, around_is, received_holds, holds_is}
+use Rattle.patch_task.proofs.Filling.{around_works, around_is, received_holds, holds_is}
 use Rattle.outside.proofs.Exits.{if_ok_none, on_ok_none}
 use Rattle.std.proofs.lemmas.Bool.{false≢true}
 use Rattle.patch_outcome.proofs.rejects.fill_rejects.Goals as goal

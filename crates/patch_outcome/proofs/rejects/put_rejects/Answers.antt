@@ -1,13 +1,13 @@
 use Rattle.std.proofs.Common.{◌≡◌, ◌≢◌, ⊎_elim, ℕ, List, Ok, Err, refl, sym, subst}
 use Rattle.outside.specs.TreeView.{passes_none}
 use Rattle.outside.proofs.Names.{apart, equal_or_not}
-use Rattle.patch_effects.specs.TargetEffects.{put_if}
+use Rattle.patch_task.specs.TargetEffects.{put_if}
 use Rattle.patch_outcome.specs.Outcome.{rejects_text}
 use Rattle.patch_outcome.specs.TurnView.{plain_turn}
-use Rattle.patch_effects.specs.Making.{Makes, IsGone}
-use Rattle.patch_effects.specs.declared.fault.RunFault.TheVariants.{Tree}
-use Rattle.patch_effects.proofs.Making.{puts_made, puts_part, put_keeps, put_gone, gone_kept, makes_works}
-use Rattle.patch_effects.proofs.Tidy.{put_if_tidy, makes_tidy, tidy_none}
+use Rattle.patch_task.specs.Making.{Makes, IsGone}
+use Rattle.patch_task.specs.declared.fault.RunFault.TheVariants.{Tree}
+use Rattle.patch_task.proofs.Making.{puts_made, puts_part, put_keeps, put_gone, gone_kept, makes_works}
+use Rattle.patch_task.proofs.Tidy.{put_if_tidy, makes_tidy, tidy_none}
 use Rattle.outside.proofs.Quiet.{works_none}
 use Rattle.patch_outcome.proofs.rejects.put_rejects.Goals as goal
 

@@ -1,7 +1,7 @@
 use Rattle.std.proofs.Common.{◌||◌, Option, option_map, sym, ◌∙◌, ap}
 use Rattle.std.specs.Option.{option_copied}
-use Rattle.name_marks.specs.Marked.{is_marked}
-use Rattle.target_names.specs.declared.derived.Target.{Target}
+use Rattle.outside.specs.Marked.{is_marked}
+use Rattle.file_patch.specs.declared.derived.Target.{Target}
 use Rattle.patch_outcome.specs.Outcome.{is_name}
 use Rattle.patch_outcome.proofs.written.mark.Goals as goal
 

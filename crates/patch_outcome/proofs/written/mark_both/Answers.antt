@@ -1,7 +1,7 @@
 use Rattle.std.proofs.Common.{◌||◌, [], Option, option_map, sym, ◌∙◌, ap, subst}
 use Rattle.std.specs.Option.{ForSome}
-use Rattle.target_names.specs.declared.derived.Target.{Target}
-use Rattle.name_marks.specs.Marked.{is_marked}
+use Rattle.file_patch.specs.declared.derived.Target.{Target}
+use Rattle.outside.specs.Marked.{is_marked}
 use Rattle.patch_options.specs.PlainJob.{PlainOptions}
 use Rattle.patch_options.specs.Table.{options_of}
 use Rattle.patch_set.specs.Room.{HasRoom}

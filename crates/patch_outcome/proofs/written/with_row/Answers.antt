@@ -1,7 +1,7 @@
 use Rattle.std.proofs.Common.{◌≡◌, List, [], ◌∷◌, ◌++◌, All, get_or, Some, sym, ◌∙◌, ap, subst}
 use Rattle.std.proofs.lemmas.List.Elements.{All-get_or}
 use Rattle.file_patch.specs.declared.FilePatch.{FilePatch}
-use Rattle.name_marks.specs.Marked.{is_marked}
+use Rattle.outside.specs.Marked.{is_marked}
 use Rattle.patch_set.specs.Room.{HasRoom}
 use Rattle.patch_outcome.specs.Outcome.{mark_of}
 use Rattle.patch_outcome.specs.Ready.{AreWritten}

@@ -6,14 +6,14 @@ use Rattle.outside.specs.Calls.{untouched_none}
 use Rattle.outside.proofs.Effects.{made_none}
 use Rattle.outside.proofs.Exits.{if_ok_none, on_ok_none}
 use Rattle.replace_file.specs.declared.temp.Temp.{Temp}
-use Rattle.patch_effects.specs.declared.fault.RunFault.{RunFault}
-use Rattle.patch_effects.specs.declared.fault.RunFault.TheVariants.{Write}
+use Rattle.patch_task.specs.declared.fault.RunFault.{RunFault}
+use Rattle.patch_task.specs.declared.fault.RunFault.TheVariants.{Write}
 use Rattle.patch_run.specs.OnePatch.{Tried, tried_said}
 use Rattle.patch_outcome.specs.TurnView.{plain_turn}
-use Rattle.patch_attempt.specs.Trying.{IsBegun}
+use Rattle.patch_start.specs.Trying.{IsBegun}
 use Rattle.patch_run.specs.Doing.{HasEndCause, IsOutcome, IsOrdered}
 use Rattle.patch_run.proofs.Applying.{on_err, if_err, if_any, is_wet, begun_name, is_dry, unmade, tell_ordered, tell_fails, tell_dry, tell_made, tell_breaks}
-use Rattle.patch_effects.proofs.Tidy.{tidy_none}
+use Rattle.patch_task.proofs.Tidy.{tidy_none}
 use Rattle.patch_run.proofs.apply.tell_and_make.Goals as goal
 
 pub returns-in-Some : goal.returns-in-Some

@@ -5,16 +5,16 @@ use Rattle.outside.specs.TreeView.{passes_both}
 use Rattle.outside.specs.Calls.{IsUntouched, untouched_none}
 use Rattle.hunk_apply.specs.Change.{change_verdicts}
 use Rattle.patch_set.specs.declared.set.Row.{Row}
-use Rattle.target_names.specs.declared.derived.Target.{Target}
-use Rattle.patch_effects.specs.declared.fault.RunFault.{RunFault}
+use Rattle.file_patch.specs.declared.derived.Target.{Target}
+use Rattle.patch_task.specs.declared.fault.RunFault.{RunFault}
 use Rattle.patch_run.specs.OnePatch.{bytes_of, lines_in, written, effects_of, tried, tried_said, finished, finished_at}
 use Rattle.patch_run.specs.Doing.{IsDone, IsPartOf, IsOrdered, IsDeviceFault}
 use Rattle.patch_task.specs.TaskView.{plain_task}
 use Rattle.patch_outcome.specs.TurnView.{plain_turn}
 use Rattle.patch_run.proofs.Applying.{held_behind, on_err, if_err, if_any, unmade, part_worked, tried_breaks, tried_ordered, tried_done}
 use Rattle.patch_outcome.proofs.Moving.{works_made}
-use Rattle.patch_effects.specs.Making.{IsTidy}
-use Rattle.patch_effects.proofs.Tidy.{attempt_tidy, passed_tidy}
+use Rattle.patch_task.specs.Making.{IsTidy}
+use Rattle.patch_task.proofs.Tidy.{attempt_tidy, passed_tidy}
 use Rattle.patch_run.proofs.EndCause.{end_failed, end_device, try_device, quiet_passed, kept_plan, try_stays, end_stays}
 use Rattle.outside.proofs.Exits.{if_ok_none}
 use Rattle.patch_run.proofs.apply.try_at.Goals as goal

@@ -7,7 +7,7 @@ use Rattle.file_patch.specs.declared.FilePatch.{FilePatch}
 use Rattle.patch_options.specs.PlainJob.{plain_options}
 use Rattle.patch_set.specs.Room.{HaveRoom}
 use Rattle.patch_set.specs.SetView.{SetView, IsRead, without_marks, hunks_in}
-use Rattle.patch_effects.specs.declared.fault.RunFault.{RunFault}
+use Rattle.patch_task.specs.declared.fault.RunFault.{RunFault}
 use Rattle.patch_start.specs.Devices.{Told}
 use Rattle.patch_run.specs.Run.{items_of, set_run}
 use Rattle.patch_run.specs.Doing.{Runs, IsCutAt, IsReceipt, IsPlacedLast}

@@ -1,7 +1,7 @@
 use Rattle.std.proofs.Common.{◌≡◌, ◌||◌, ℕ, List, bytes_eq, refl}
 use Rattle.std.specs.Option.{ForSome}
 use Rattle.std.proofs.lemmas.Result.{IfOk-weaker}
-use Rattle.name_marks.specs.Marked.{has_room}
+use Rattle.outside.specs.Marked.{has_room}
 use Rattle.patch_set.specs.Room.{GivesRoom, HasRoom}
 use Rattle.patch_set.proofs.Roomy.{gives-none, gives-name, has-output, no-output}
 use Rattle.patch_set.proofs.marks.add_output.Goals as goal

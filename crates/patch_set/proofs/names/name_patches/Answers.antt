@@ -5,7 +5,7 @@ use Rattle.patch_set.proofs.Walked.{walked-more}
 use Rattle.std.proofs.lemmas.List.{take_all}
 use Rattle.file_patch.specs.declared.FilePatch.{FilePatch}
 use Rattle.file_patch.specs.PlainPatch.{patch_of}
-use Rattle.target_names.specs.Numbered.{joined_by}
+use Rattle.file_patch.specs.Numbered.{joined_by}
 use Rattle.patch_set.specs.Named.{patch_names}
 use Rattle.patch_set.specs.Naming.{AreNamed}
 use Rattle.outside.proofs.Exits.{on_ok_none}

@@ -6,8 +6,8 @@ use Rattle.header_record.specs.declared.Action.TheVariants.{Plain, New, Deleted,
 use Rattle.file_patch.specs.Actions.{is_moved}
 use Rattle.file_patch.specs.PlainPatch.{PlainHeader, header_of}
 use Rattle.patch_options.specs.PlainJob.{PlainOptions, plain_options}
-use Rattle.target_names.specs.Candidates.{candidates}
-use Rattle.target_names.specs.Moved.{moved_names}
+use Rattle.file_patch.specs.Candidates.{candidates}
+use Rattle.file_patch.specs.Moved.{moved_names}
 use Rattle.patch_set.specs.Asked.{is_posix}
 use Rattle.patch_set.specs.Named.{own_names}
 use Rattle.patch_set.proofs.names.own_names.Goals as goal

@@ -2,7 +2,7 @@ use Rattle.std.proofs.Common.{◌&&◌, ◌∙◌, Bool, if◌then◌else◌, ap
 use Rattle.std.proofs.lemmas.Result.{IfOk-weaker}
 use Rattle.std.specs.FinMap.{get}
 use Rattle.outside.specs.Calls.{untouched_none}
-use Rattle.target_names.specs.declared.derived.Target.{Target}
+use Rattle.file_patch.specs.declared.derived.Target.{Target}
 use Rattle.file_patch.specs.Absent.{creates}
 use Rattle.patch_task.specs.Turns.{written, bytes_of}
 use Rattle.patch_task.specs.TaskView.{plain_task}

@@ -5,7 +5,7 @@ use Rattle.outside.proofs.Exits.{if_ok_none}
 use Rattle.hunk_core.specs.declared.Side.{Side}
 use Rattle.hunk_core.specs.Turned.{other_side}
 use Rattle.say_text.specs.Messages.{silenced, exists_line}
-use Rattle.target_names.specs.declared.derived.Target.{Target}
+use Rattle.file_patch.specs.declared.derived.Target.{Target}
 use Rattle.patch_task.specs.Turns.{PlainTurn, bytes_of, shown, written}
 use Rattle.patch_start.specs.Start.{Start, exists_said, said_first, skips_at, on_taking, on_existing, turns_round}
 use Rattle.patch_task.specs.TaskView.{plain_task}

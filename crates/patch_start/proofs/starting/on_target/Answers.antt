@@ -2,7 +2,7 @@ use Rattle.std.proofs.Common.{◌≡◌, List, ℕ, ◌∙◌, ap}
 use Rattle.outside.proofs.Writing.{writes_is}
 use Rattle.say_text.specs.Messages.{silenced, patching_line}
 use Rattle.say_text.specs.Origins.{PlainOrigin}
-use Rattle.target_names.specs.declared.derived.Target.{Target}
+use Rattle.file_patch.specs.declared.derived.Target.{Target}
 use Rattle.patch_task.specs.Turns.{PlainTurn, shown}
 use Rattle.patch_start.specs.Start.{patching_said, on_target, on_creation, named, origin_of}
 use Rattle.name_choice.specs.Choice.{side_of}

@@ -1,7 +1,7 @@
 use Rattle.std.proofs.Common.{◌≡◌, ◌<◌, ℕ, List, ⊎_elim, arith, subst}
 use Rattle.std.specs.Str.{IsUtf8, IsCharBoundary}
 use Rattle.std.proofs.lemmas.Str.{IsCharBoundary-after_ascii}
-use Rattle.patch_effects.specs.Named.{BeginsComponent}
+use Rattle.patch_task.specs.Named.{BeginsComponent}
 use Rattle.patch_task.proofs.names.shown_from.Goals as goal
 
 -- a component begins at a character

@@ -1,6 +1,6 @@
 use Rattle.std.proofs.Common.{List, ◌∙◌, ap}
 use Rattle.std.specs.Prelude.{slice_get}
-use Rattle.target_names.specs.declared.derived.Target.{Target}
+use Rattle.file_patch.specs.declared.derived.Target.{Target}
 use Rattle.patch_task.proofs.Getting.{got}
 use Rattle.patch_task.proofs.names.target_in.Goals as goal
 

@@ -1,6 +1,6 @@
 use Rattle.std.proofs.Common.{◌-◌, length, sym, ap, subst, ◌∙◌}
-use Rattle.file_pieces.specs.Records.{line_in}
-use Rattle.file_pieces.proofs.Windows.{page-length}
+use Rattle.page_pair.specs.Records.{line_in}
+use Rattle.page_pair.proofs.Windows.{page-length}
 use Rattle.plan_b.specs.Layout.{place_on_page}
 use Rattle.plan_b.specs.Spots.{IsSpot, IsRecord}
 use Rattle.plan_b.proofs.HeldLemmas.{line-there}

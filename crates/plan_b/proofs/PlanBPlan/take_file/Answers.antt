@@ -2,7 +2,7 @@ use Rattle.std.proofs.Common.{◌≡◌, Some, is_some, sym, ap, ◌∙◌}
 use Rattle.std.specs.Option.{option_map}
 use Rattle.std.proofs.lemmas.Option.{none-some}
 use Rattle.outside.specs.Files.{bytes_at}
-use Rattle.file_pieces.specs.Reading.{told_file}
+use Rattle.page_pair.specs.Reading.{told_file}
 use Rattle.plan_b.proofs.Takings.{empty-seen, written-held, written-takes, written-scratch}
 use Rattle.plan_b.proofs.PlanBPlan.take_file.Goals as goal
 

@@ -1,7 +1,7 @@
 use Rattle.std.proofs.Common.{◌∙◌, refl, subst, ◌+◌, arith}
 use Rattle.line_store.proofs.StoreLemmas.{keeps-more, cause-more, keeps-same}
 use Rattle.plan_b.specs.Held.{seen_of}
-use Rattle.file_pieces.specs.Alike.{FindsFirst}
+use Rattle.page_pair.specs.Alike.{FindsFirst}
 use Rattle.plan_b.proofs.Reached.{none-both}
 use Rattle.plan_b.proofs.alike.find_first.Goals as goal
 

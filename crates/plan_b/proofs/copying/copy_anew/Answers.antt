@@ -4,11 +4,11 @@ use Rattle.outside.specs.Files.{bytes_at}
 use Rattle.outside.specs.ScratchView.{scratch_passes_both}
 use Rattle.outside.proofs.Views.{untouched_none, untouched_both}
 use Rattle.page_pair.specs.Pair.{page_of}
-use Rattle.file_pieces.specs.Reading.{told_file}
+use Rattle.page_pair.specs.Reading.{told_file}
 use Rattle.plan_b.specs.Copying.{IsCopied}
-use Rattle.file_pieces.proofs.Windows.{none-unless}
+use Rattle.page_pair.proofs.Windows.{none-unless}
 use Rattle.plan_b.proofs.Layouts.{some-fit}
-use Rattle.file_pieces.proofs.Readings.{told-same, take-later}
+use Rattle.page_pair.proofs.Readings.{told-same, take-later}
 use Rattle.plan_b.proofs.Copyings.{ready-none, copied-none, written-all, end-fault, copied-count}
 use Rattle.plan_b.proofs.copying.copy_anew.Goals as goal
 

@@ -3,7 +3,7 @@ use Rattle.line_store.specs.declared.Half.TheVariants.{Second}
 use Rattle.outside.specs.Calls.{IsUntouched}
 use Rattle.outside.specs.ScratchView.{ScratchPasses}
 use Rattle.page_pair.specs.Pair.{page_of}
-use Rattle.file_pieces.specs.Reading.{told_file}
+use Rattle.page_pair.specs.Reading.{told_file}
 use Rattle.plan_b.specs.Filling.{IsReady}
 use Rattle.plan_b.specs.Copying.{IsCopied}
 use Rattle.plan_b.proofs.copying.copy_anew.Given as goal

@@ -3,9 +3,9 @@ use Rattle.std.proofs.lemmas.List.{length-take}
 use Rattle.line_store.specs.declared.Half.TheVariants.{First, Second}
 use Rattle.outside.specs.ScratchView.{scratch_passes_none, scratch_passes_both}
 use Rattle.page_pair.specs.Pair.{page_of}
-use Rattle.file_pieces.specs.Reading.{IsWhole}
+use Rattle.page_pair.specs.Reading.{IsWhole}
 use Rattle.plan_b.proofs.Copyings.{copies-none, copies-more, copies-wide, copy-fault}
-use Rattle.file_pieces.proofs.Windows.{part-of-front}
+use Rattle.page_pair.proofs.Windows.{part-of-front}
 use Rattle.plan_b.proofs.Reached.{page-length}
 use Rattle.plan_b.proofs.copying.copy_lines.Goals as goal
 

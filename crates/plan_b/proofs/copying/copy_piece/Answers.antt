@@ -5,13 +5,13 @@ use Rattle.line_list.specs.Lines.{lines}
 use Rattle.line_store.specs.declared.Half.TheVariants.{First, Second}
 use Rattle.outside.specs.Files.{bytes_at}
 use Rattle.page_pair.specs.Pair.{page_of}
-use Rattle.file_pieces.specs.Records.{longest}
-use Rattle.file_pieces.specs.Reading.{told_file, IsPart, HasNoFeed}
+use Rattle.page_pair.specs.Records.{longest}
+use Rattle.page_pair.specs.Reading.{told_file, IsPart, HasNoFeed}
 use Rattle.plan_b.specs.Copying.{IsCopied}
-use Rattle.file_pieces.proofs.Windows.{none-unless}
-use Rattle.file_pieces.proofs.Readings.{part-made, open-made}
+use Rattle.page_pair.proofs.Windows.{none-unless}
+use Rattle.page_pair.proofs.Readings.{part-made, open-made}
 use Rattle.plan_b.proofs.Copyings.{take-fault, copied-more, copied-short}
-use Rattle.file_pieces.proofs.Opens.{open-wide}
+use Rattle.page_pair.proofs.Opens.{open-wide}
 use Rattle.outside.specs.ScratchView.{scratch_passes_none}
 use Rattle.plan_b.proofs.copying.copy_piece.Goals as goal
 

@@ -1,7 +1,7 @@
 use Rattle.std.proofs.Common.{◌*◌, ◌<◌, ◌++◌, take, Some, sym, ap, ◌∙◌, arith, refl}
 use Rattle.line_store.specs.declared.Half.TheVariants.{Second}
 use Rattle.page_pair.specs.Pair.{page_of}
-use Rattle.file_pieces.specs.Records.{padded}
+use Rattle.page_pair.specs.Records.{padded}
 use Rattle.plan_b.proofs.Fillings.{page-flushed}
 use Rattle.plan_b.proofs.Copyings.{pages-more, pages-all}
 use Rattle.outside.specs.ScratchView.{scratch_passes_none}

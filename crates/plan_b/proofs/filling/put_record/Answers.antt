@@ -2,7 +2,7 @@ use Rattle.std.proofs.Common.{◌≡◌, ◌+◌, ◌*◌, ◌<◌, ℕ, List, �
 use Rattle.std.proofs.lemmas.List.{length-take}
 use Rattle.line_store.specs.declared.Half.TheVariants.{First, Second}
 use Rattle.page_pair.specs.Pair.{page_of}
-use Rattle.file_pieces.specs.Records.{padded}
+use Rattle.page_pair.specs.Records.{padded}
 use Rattle.plan_b.proofs.Fillings.{filled-more, filled-full, ready-full}
 use Rattle.plan_b.proofs.Layouts.{rows-fit, row-fits, pages-few, pages-fit}
 use Rattle.outside.specs.ScratchView.{scratch_passes_none}

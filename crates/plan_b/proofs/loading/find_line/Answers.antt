@@ -1,8 +1,8 @@
 use Rattle.std.proofs.Common.{◌≡◌, ◌+◌, ◌-◌, ◌*◌, ◌≤◌, ℕ, ap, ◌∙◌, arith, length}
 use Rattle.plan_b.specs.Layout.{place_on_page, place_of, page_number}
-use Rattle.file_pieces.specs.Records.{stated}
+use Rattle.page_pair.specs.Records.{stated}
 use Rattle.plan_b.proofs.HeldLemmas.{stated-on-page}
-use Rattle.file_pieces.proofs.Windows.{none-unless}
+use Rattle.page_pair.proofs.Windows.{none-unless}
 use Rattle.plan_b.proofs.Reached.{page-length}
 use Rattle.plan_b.proofs.loading.find_line.Goals as goal
 

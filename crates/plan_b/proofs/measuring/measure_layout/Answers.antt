@@ -1,9 +1,9 @@
 use Rattle.std.proofs.Common.{◌≡◌, ◌+◌, ◌-◌, ◌≤◌, length, None, sym, ap, subst, ◌∙◌, arith}
 use Rattle.line_list.specs.Lines.{lines}
 use Rattle.line_store.specs.Taking.{first_long}
-use Rattle.file_pieces.specs.Records.{longest}
-use Rattle.file_pieces.proofs.LongLines.{none-long}
-use Rattle.file_pieces.proofs.Measures.{measured-all}
+use Rattle.page_pair.specs.Records.{longest}
+use Rattle.page_pair.proofs.LongLines.{none-long}
+use Rattle.page_pair.proofs.Measures.{measured-all}
 use Rattle.plan_b.proofs.measuring.measure_layout.Goals as goal
 
 pub returns-in-Ok-clause-lines : goal.returns-in-Ok-clause-lines

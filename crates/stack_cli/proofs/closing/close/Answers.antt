@@ -1,5 +1,5 @@
 use Rattle.std.proofs.Common.{Result, refl, subst}
-use Rattle.patch_effects.specs.declared.fault.RunFault.{RunFault}
+use Rattle.patch_task.specs.declared.fault.RunFault.{RunFault}
 use Rattle.patch_run.specs.Applied.{Receipt}
 use Rattle.patch_run.specs.Doing.{QuietAfter}
 use Rattle.stack_cli.specs.Stages.{HasCut}

@@ -1,8 +1,8 @@
 use Rattle.std.proofs.Common.{sym, ◌∙◌}
 use Rattle.series_stack.specs.Saves.{entries_of}
-use Rattle.stack_law.specs.Stack.{save_name}
+use Rattle.series_stack.specs.Stack.{save_name}
 use Rattle.std.proofs.Common.{suc}
-use Rattle.stack_steps.specs.Undoing.{undone_by}
+use Rattle.stack_state.specs.Undoing.{undone_by}
 use Rattle.stack_cli.specs.States.{stage_of}
 use Rattle.stack_cli.proofs.Running.{ended-bad, ended-whole}
 use Rattle.stack_cli.proofs.closing.close_ended.Goals as goal

@@ -1,10 +1,10 @@
 use Rattle.std.proofs.Common.{ℕ, List, length, suc, refl, sym, ap}
 use Rattle.run_answers.specs.declared.why.Why.TheVariants.{Rejected}
 use Rattle.series_stack.specs.Saves.{entries_of}
-use Rattle.stack_law.specs.Commands.{Ending as endings}
-use Rattle.stack_law.specs.Stack.{save_name}
-use Rattle.stack_law.specs.Outcomes.{ending_text}
-use Rattle.stack_steps.specs.Undoing.{undone_by}
+use Rattle.series_stack.specs.Commands.{Ending as endings}
+use Rattle.series_stack.specs.Stack.{save_name}
+use Rattle.series_stack.specs.Outcomes.{ending_text}
+use Rattle.stack_state.specs.Undoing.{undone_by}
 use Rattle.outside.specs.Files.{Files}
 use Rattle.outside.specs.Quiet.{Effect}
 use Rattle.stack_cli.specs.Stages.{ended, why_by}

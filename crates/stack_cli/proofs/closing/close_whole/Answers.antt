@@ -1,6 +1,6 @@
 use Rattle.std.proofs.Common.{ℕ, [], ◌∷◌, length, suc, refl, sym, ap}
 use Rattle.run_answers.specs.declared.why.Why.TheVariants.{Done}
-use Rattle.stack_law.specs.Outcomes.{raising, tally}
+use Rattle.series_stack.specs.Outcomes.{raising, tally}
 use Rattle.stack_cli.specs.Stages.{ended, why_by}
 use Rattle.stack_cli.proofs.Coming.{comes_by, comes_is, comes_why}
 use Rattle.stack_cli.proofs.closing.close_whole.Goals as goal

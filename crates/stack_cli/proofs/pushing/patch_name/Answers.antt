@@ -1,7 +1,7 @@
 use Rattle.std.proofs.Common.{◌≡◌, ℕ, List, ◌∷◌, ◌++◌, Bool, false, ◌∙◌, ap, if◌then◌else◌}
 use Rattle.std.proofs.lemmas.Result.{IfOk-weaker}
 use Rattle.outside.specs.Names.{is_absolute, placed}
-use Rattle.stack_law.specs.Stack.{patch_name}
+use Rattle.series_stack.specs.Stack.{patch_name}
 use Rattle.stack_cli.proofs.pushing.patch_name.Goals as goal
 
 pub returns : goal.returns

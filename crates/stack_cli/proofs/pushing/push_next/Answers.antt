@@ -1,7 +1,7 @@
 use Rattle.std.proofs.Common.{suc, refl, arith}
 use Rattle.outside.specs.Quiet.{after_all}
 use Rattle.run_answers.specs.Answers.{of_run}
-use Rattle.stack_law.specs.Stack.{undoing}
+use Rattle.series_stack.specs.Stack.{undoing}
 use Rattle.tool_words.specs.declared.jobs.StackOp.TheVariants.{Push}
 use Rattle.stack_cli.specs.Command.{on_op}
 use Rattle.stack_cli.specs.Stages.{on_recovered}

@@ -1,9 +1,9 @@
 use Rattle.std.proofs.Common.{codes, refl}
-use Rattle.patch_effects.specs.declared.fault.RunFault.TheVariants.{Write}
-use Rattle.stack_law.specs.Outcomes.{said}
+use Rattle.patch_task.specs.declared.fault.RunFault.TheVariants.{Write}
+use Rattle.series_stack.specs.Outcomes.{said}
 use Rattle.stack_cli.specs.Stages.{on_said}
 use Rattle.stack_cli.specs.States.{stage_of}
-use Rattle.stack_steps.proofs.Stepping.{says, says_not}
+use Rattle.stack_state.proofs.Stepping.{says, says_not}
 use Rattle.stack_cli.proofs.Coming.{comes_stop, comes_then}
 use Rattle.stack_cli.proofs.pushing.push_recovered.Goals as goal
 

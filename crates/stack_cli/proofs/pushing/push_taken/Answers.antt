@@ -3,12 +3,12 @@ use Rattle.outside.specs.Quiet.{after}
 use Rattle.outside.specs.Quiet.Effect.{Put}
 use Rattle.run_answers.specs.Answers.{of_run}
 use Rattle.series_stack.specs.Saves.{entries_of}
-use Rattle.stack_law.specs.Stack.{save_name}
-use Rattle.stack_steps.specs.Steps.{Steps}
+use Rattle.series_stack.specs.Stack.{save_name}
+use Rattle.stack_state.specs.Steps.{Steps}
 use Rattle.stack_cli.specs.Stages.{on_saved}
 use Rattle.stack_cli.specs.States.{stage_of}
-use Rattle.stack_steps.proofs.Restoring.{put_there}
-use Rattle.stack_steps.proofs.Stepping.{one_more}
+use Rattle.stack_state.proofs.Restoring.{put_there}
+use Rattle.stack_state.proofs.Stepping.{one_more}
 use Rattle.stack_cli.proofs.Coming.{comes_stop, comes_then, comes_why}
 use Rattle.stack_cli.proofs.pushing.push_taken.Goals as goal
 

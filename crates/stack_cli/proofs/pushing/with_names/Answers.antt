@@ -1,7 +1,7 @@
-use Rattle.stack_law.specs.Commands.{own_line}
-use Rattle.stack_reader.specs.Reading.{push_options, targets_for}
+use Rattle.series_stack.specs.Commands.{own_line}
+use Rattle.stack_patch.specs.Reading.{push_options, targets_for}
 use Rattle.patch_set.specs.SetView.{plain_patches}
-use Rattle.stack_law.specs.Commands.{names_of}
+use Rattle.series_stack.specs.Commands.{names_of}
 use Rattle.stack_cli.proofs.Fetching.{names_as, own_as, refused_as}
 use Rattle.std.proofs.Common.{inl, refl}
 use Rattle.stack_cli.proofs.pushing.with_names.Goals as goal

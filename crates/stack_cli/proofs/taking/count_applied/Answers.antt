@@ -3,10 +3,10 @@ use Rattle.tool_words.specs.declared.jobs.StackOp.TheVariants.{Applied}
 use Rattle.run_answers.specs.declared.why.Why.TheVariants.{Done}
 use Rattle.run_answers.specs.Answers.{of_run}
 use Rattle.run_answers.specs.Worlds.{world}
-use Rattle.stack_law.specs.Stack.{undoing}
-use Rattle.stack_law.specs.Outcomes.{recovered_text, tally}
-use Rattle.stack_steps.specs.Steps.{said_by}
-use Rattle.stack_steps.proofs.Stepping.{says_by}
+use Rattle.series_stack.specs.Stack.{undoing}
+use Rattle.series_stack.specs.Outcomes.{recovered_text, tally}
+use Rattle.stack_state.specs.Steps.{said_by}
+use Rattle.stack_state.proofs.Stepping.{says_by}
 use Rattle.stack_cli.specs.Command.{behind, on_op}
 use Rattle.stack_cli.specs.Stages.{ended, why_by}
 use Rattle.stack_cli.proofs.Coming.{comes_by, comes_is, comes_stop, comes_then, comes_why}

@@ -5,8 +5,8 @@ use Rattle.run_answers.specs.declared.why.Why.TheVariants.{Done}
 use Rattle.run_answers.specs.Answers.{of_run}
 use Rattle.run_answers.specs.Worlds.{world}
 use Rattle.series_stack.specs.Saves.{entries_of}
-use Rattle.stack_law.specs.Stack.{save_name, undoing, undoing_by}
-use Rattle.stack_law.specs.Outcomes.{lowering, recovered_text, said, tally}
+use Rattle.series_stack.specs.Stack.{save_name, undoing, undoing_by}
+use Rattle.series_stack.specs.Outcomes.{lowering, recovered_text, said, tally}
 use Rattle.stack_cli.specs.Command.{behind, on_op}
 use Rattle.stack_cli.specs.Stages.{ended, why_by}
 use Rattle.stack_cli.proofs.Coming.{comes_by, comes_is, comes_stop, comes_then, comes_why}

@@ -3,7 +3,7 @@ use Rattle.std.proofs.Common.{ap, option_map, vec_items, ◌∙◌}
 use Rattle.stack_state.proofs.Saving.{err-still, read-cause}
 use Rattle.stack_state.proofs.Held.{last_cause}
 use Rattle.stack_state.specs.Reading.{last_save, whole_save}
-use Rattle.stack_law.specs.Stack.{saved_in}
+use Rattle.series_stack.specs.Stack.{saved_in}
 use Rattle.stack_state.proofs.saves.read_last_save.Goals as goal
 
 pub returns-clause-save : goal.returns-clause-save

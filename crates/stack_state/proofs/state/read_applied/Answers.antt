@@ -5,7 +5,7 @@ use Rattle.stack_state.specs.Causes.{HasCause}
 use Rattle.std.proofs.lemmas.Result.{IfErr-weaker, IfOk-weaker}
 use Rattle.std.proofs.Common.{List, None, Ok, Some, ap, inr, option_map, sym, vec_items, ℕ, ◌∙◌, ◌≡◌}
 use Rattle.stack_state.specs.Reading.{applied_in, numbered_in}
-use Rattle.stack_law.specs.Stack.{count_in, count_name}
+use Rattle.series_stack.specs.Stack.{count_in, count_name}
 use Rattle.stack_state.proofs.Saving.{err-still, read-cause}
 use Rattle.std.specs.FinMap.{get}
 use Rattle.stack_state.proofs.Held.{text_cause}

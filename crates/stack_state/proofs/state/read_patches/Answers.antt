@@ -7,7 +7,7 @@ use Rattle.series_stack.specs.declared.fault.StateFile.TheVariants.{Series}
 use Rattle.stack_state.proofs.Saving.{err-still, read-cause}
 use Rattle.std.specs.FinMap.{get}
 use Rattle.stack_state.specs.Reading.{listed_in, patches_in}
-use Rattle.stack_law.specs.Stack.{series_name}
+use Rattle.series_stack.specs.Stack.{series_name}
 use Rattle.series_stack.specs.Series.{series_of}
 use Rattle.stack_state.proofs.Held.{text_cause}
 use Rattle.stack_state.proofs.state.read_patches.Goals as goal

@@ -3,7 +3,7 @@ use Rattle.stack_state.proofs.Stacking.{series_cause}
 use Rattle.stack_state.specs.Causes.{HasCause}
 use Rattle.std.proofs.lemmas.Result.{IfErr-weaker}
 use Rattle.stack_state.proofs.Held.{cause_first, told_first}
-use Rattle.stack_law.specs.Stack.{stack_of}
+use Rattle.series_stack.specs.Stack.{stack_of}
 use Rattle.std.proofs.Common.{sym, ◌∙◌}
 use Rattle.stack_state.proofs.state.read_stack.Goals as goal
 

@@ -2,7 +2,7 @@ use Rattle.std.proofs.Common.{refl, map, string_bytes}
 use Rattle.run_answers.specs.Reasons.{refusal_line}
 use Rattle.run_answers.proofs.Writes.{writes_part}
 use Rattle.tool_run.proofs.Ends.{runs_as}
-use Rattle.run_outcome.proofs.Written.{writes_whole}
+use Rattle.planned_run.proofs.Written.{writes_whole}
 use Rattle.tool_run.proofs.run_tool.run_sifting.Goals as goal
 
 pub returns-clause-runs : goal.returns-clause-runs

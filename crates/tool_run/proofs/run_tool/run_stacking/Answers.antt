@@ -1,5 +1,5 @@
 use Rattle.run_answers.proofs.Writes.{writes_part}
-use Rattle.run_outcome.proofs.Written.{writes_whole}
+use Rattle.planned_run.proofs.Written.{writes_whole}
 use Rattle.tool_run.proofs.run_tool.run_stacking.Goals as goal
 
 pub returns-clause-err_part : goal.returns-clause-err_part

@@ -1,5 +1,5 @@
 use Rattle.std.proofs.Common.{◌≤◌, ℕ, List, length, None, Ok, sym, subst, ap, ◌∙◌}
-use Rattle.patch_input.specs.Input.{IsAnswer}
+use Rattle.run_answers.specs.Input.{IsAnswer}
 use Rattle.whole_filters.specs.declared.fault.FilterFault.TheVariants as faults
 use Rattle.whole_filters.proofs.Gathering.{fault-is}
 use Rattle.whole_filters.proofs.Recounting.{counts-unread, counts-refused, counts-written, counts-cut}

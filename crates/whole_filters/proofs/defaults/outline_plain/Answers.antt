@@ -2,7 +2,7 @@ use Rattle.std.proofs.Common.{◌∙◌, IfOk, ap, subst}
 use Rattle.std.proofs.lemmas.Result.{IfOk-weaker}
 use Rattle.patch_options.specs.PlainJob.{PlainOptions}
 use Rattle.patch_set.specs.declared.fault.SetFault.{SetFault}
-use Rattle.set_outline.specs.Outlined.{IsOutline}
+use Rattle.filter_choice.specs.Outlined.{IsOutline}
 use Rattle.patch_set.specs.Refusals.{refusal}
 use Rattle.patch_set.specs.SetView.{Meets}
 use Rattle.std.specs.Prelude.{Option}

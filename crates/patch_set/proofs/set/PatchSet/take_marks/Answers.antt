@@ -1,6 +1,6 @@
 use Rattle.std.proofs.Common.{Option, is_some, sym, subst, ap, ◌∙◌}
 use Rattle.std.specs.Option.{ForSome}
-use Rattle.name_marks.specs.declared.marks.NameMarks.{NameMarks}
+use Rattle.outside.specs.declared.marks.NameMarks.{NameMarks}
 use Rattle.patch_set.specs.Room.{AreUnmarked, HaveRoom}
 use Rattle.patch_set.specs.SetView.{SetView, without_marks}
 use Rattle.patch_set.proofs.Roomy.{none-blank, whole-still}

@@ -1,9 +1,0 @@
-use Rattle.std.proofs.Common.{refl}
-use Rattle.file_pieces.proofs.paging.restart.Goals as goal
-
-pub returns-in-Err : goal.returns-in-Err
-returns-in-Err g c = record {
-  passes = c.restart.ensures.call.passes;
-  empty = tt;
-  cause = c.in-Err.ensures.call.cause refl;
-}

@@ -1,0 +1,176 @@
+-- What is written of a set is told by its text.
+use Rattle.std.proofs.Common.{◌≡◌, ℕ, ◌+◌, Bool, cond, List, [], ◌∷◌, ◌++◌, length, map, refl, sym, ap, subst, ◌∙◌}
+use Rattle.std.specs.Prelude.{filter, if◌then◌else◌}
+use Rattle.std.specs.List.{flat_map, list_any, range_with_len, zip}
+use Rattle.std.proofs.lemmas.List.Concat.{flat_map-cons}
+use Rattle.hunk_core.specs.declared.Form.{Form}
+use Rattle.hunk_core.proofs.ReadSteps.{bind_ok, ok_is}
+use Rattle.unified_form.specs.declared.skim.OldRange.{OldRange}
+use Rattle.file_patch.specs.declared.FilePatch.{FilePatch}
+use Rattle.file_patch.specs.PlainPatch.{PlainHeader, PlainPatch, change_of, header_of, patch_of, row_count}
+use Rattle.patch_text.specs.Patches.{patches_of}
+use Rattle.patch_text.specs.Digests.{AreDigests, IsDigest, digest, digested_all, ranges_in}
+use Rattle.patch_text.specs.Outlines.{outlined_all}
+use Rattle.patch_text.specs.Regions.{Region, region_of, regions_of}
+use Rattle.patch_set.specs.Asked.{ways_of}
+use Rattle.patch_set.specs.SetView.{SetView, IsRead, plain_patches}
+use Rattle.filter_choice.specs.Digested.{DigestView, IsDigestOf, digested}
+use Rattle.filter_choice.specs.Outlined.{OutlineView, outlined}
+use Rattle.patch_set.specs.Spans.{IsPlaced, ArePlaced}
+use Rattle.patch_set.proofs.InBytes.{cut-bytes}
+use Rattle.patch_filters.specs.Digested.{digest_if_taken, digest_written, filtered_digest, olds_by}
+use Rattle.patch_filters.specs.Filtered.{chosen, filtered, pieces, region, written, written_bare, written_if_taken, is_taken_of}
+use Rattle.patch_filters.specs.Grepped.{found_text, grepped, hits_of, is_found}
+use Rattle.filter_choice.specs.Kept.{is_kept, is_taken, kept}
+use Rattle.patch_filters.specs.Listed.{listed}
+use Rattle.filter_choice.specs.OldLines.{old_of_each}
+use Rattle.filter_choice.specs.Selected.{numbered}
+use Rattle.patch_filters.proofs.Digesting.{filtered-digest-is, olds-same}
+use Rattle.patch_filters.proofs.Outlined.{outlines-listed}
+use Rattle.filter_choice.proofs.Rows.{flat-if}
+use Rattle.patch_filters.proofs.Rows.{filtered-is}
+use Rattle.format_convert.specs.Taken.{left_patches}
+use Rattle.format_convert.specs.Converted.{converted, written_if}
+use Rattle.format_convert.specs.Refusals.{refusal as form_refusal}
+use Rattle.format_convert.proofs.RowLemmas.{converted-is}
+use Rattle.tool_words.specs.PlainJobs.{PlainFilterJob, PlainGrepJob, PlainListJob}
+use Rattle.tool_words.specs.declared.jobs.GrepOut.{GrepOut}
+use Rattle.tool_words.specs.declared.jobs.GrepOut.TheVariants.{Names, Hunks, Files}
+use Rattle.whole_filters.specs.Opened.{IsOutlineOf}
+use Rattle.filter_cli.specs.Converting.{converted_in, form_refused, spot_converted}
+use Rattle.whole_filters.specs.Texts.{defaults, read_patches, patches_in, regions_in, Spot, spots_in}
+use Rattle.filter_cli.specs.Texts.{spot_written, is_spot_taken, filtered_in, spot_found, grepped_in}
+use Rattle.whole_filters.proofs.ByText.{spot, patches-by, spots-by}
+
+-- ---- a list
+
+pub listed-by : (j : PlainListJob) (skip : Bool) (text : List ℕ) (v : OutlineView) → IsOutlineOf skip text v → listed j (outlined v) ≡ listed j (patches_in skip text)
+listed-by j skip text v read =
+    let ways = ways_of (defaults skip) in
+    let a = bind_ok (patches_of ways v.text) outlined_all (outlined v) read.patches in
+    ap (listed j) (sym (ok_is _ _ a.2)) ∙ outlines-listed j a.0 ∙ ap (listed j) (sym (ap read_patches (ap (patches_of ways) (sym read.text) ∙ a.1)))
+
+-- ---- lists side by side
+
+module _ (text : List ℕ) (f : ℕ × FilePatch → List ℕ) (g : ℕ × Spot → List ℕ) (same : (n start before : ℕ) (p : FilePatch) → IsPlaced text start before p → f (n, p) ≡ g (n, spot text p)) where
+  numbered-same : (k start before : ℕ) (ps : List FilePatch) → ArePlaced text start before ps
+      → flat_map f (zip (range_with_len k (length ps)) ps) ≡ flat_map g (zip (range_with_len k (length (map (spot text) ps))) (map (spot text) ps))
+  numbered-same k start before [] at = refl
+  numbered-same k start before (p ∷ ps) at =
+      flat_map-cons f (k, p) (zip (range_with_len (k + 1) (length ps)) ps)
+      ∙ ap (λ (t : List ℕ). t ++ flat_map f (zip (range_with_len (k + 1) (length ps)) ps)) (same k start before p at.0)
+      ∙ ap (λ (t : List ℕ). g (k, spot text p) ++ t) (numbered-same (k + 1) p.span.end (before + row_count p.change) ps at.1)
+      ∙ sym (flat_map-cons g (k, spot text p) (zip (range_with_len (k + 1) (length (map (spot text) ps))) (map (spot text) ps)))
+
+module _ (text : List ℕ) (f : FilePatch → List ℕ) (g : Spot → List ℕ) (same : (start before : ℕ) (p : FilePatch) → IsPlaced text start before p → f p ≡ g (spot text p)) where
+  all-same : (start before : ℕ) (ps : List FilePatch) → ArePlaced text start before ps → flat_map f ps ≡ flat_map g (map (spot text) ps)
+  all-same start before [] at = refl
+  all-same start before (p ∷ ps) at =
+      flat_map-cons f p ps
+      ∙ ap (λ (t : List ℕ). t ++ flat_map f ps) (same start before p at.0)
+      ∙ ap (λ (t : List ℕ). g (spot text p) ++ t) (all-same p.span.end (before + row_count p.change) ps at.1)
+      ∙ sym (flat_map-cons g (spot text p) (map (spot text) ps))
+
+first-same : (p q : PlainPatch) (ps qs : List PlainPatch) → p ∷ ps ≡ q ∷ qs → p ≡ q
+first-same p q ps qs e = cc
+
+rest-same : (p q : PlainPatch) (ps qs : List PlainPatch) → p ∷ ps ≡ q ∷ qs → ps ≡ qs
+rest-same p q ps qs e = cc
+
+-- ---- one file patch
+
+module _ (text : List ℕ) (start before : ℕ) (p : FilePatch) (at : IsPlaced text start before p) where
+  written-same : (j : PlainFilterJob) → written j text p ≡ spot_written j text (spot text p)
+  written-same j = ap (λ (ts : List (List ℕ)). if p.header.bare then written_bare j text p else (if list_any (λ is. is) (kept j (change_of text p.change)) then region text p ++ chosen (kept j (change_of text p.change)) ts else []))
+      (cut-bytes text p.header p.hunk_spans.items p.span.end at.cut)
+
+  found-same : (hit : List ℕ → Bool) (out : GrepOut) → found_text hit out text p ≡ spot_found hit out text (spot text p)
+  found-same hit Names = refl
+  found-same hit Hunks = ap (λ (ts : List (List ℕ)). region text p ++ chosen (hits_of hit (change_of text p.change)) ts) (cut-bytes text p.header p.hunk_spans.items p.span.end at.cut)
+  found-same hit Files = refl
+
+-- ---- what each filter writes of it
+
+pub filtered-by : (j : PlainFilterJob) (text : List ℕ) (v : SetView) → IsRead (defaults j.select.skip_binary) text v → filtered j v ≡ filtered_in j text
+unfolding filtered_in
+filtered-by j text v read =
+    filtered-is j v
+    ∙ numbered-same v.text (written_if_taken j v.text) (λ n. cond (is_spot_taken j n) (spot_written j v.text n.1) [])
+    (λ n start before p at. ap (λ (t : List ℕ). cond (is_taken_of j v.text (n, p)) t []) (written-same v.text start before p at j)) 1 0 0 v.patches read.spans
+    ∙ sym (flat-if (is_spot_taken j) (λ n. spot_written j v.text n.1) (numbered (map (spot v.text) v.patches)))
+    ∙ ap (λ (ss : List Spot). flat_map (λ n. spot_written j v.text n.1) (filter (is_spot_taken j) (numbered ss))) (sym (spots-by j.select.skip_binary text v read))
+    ∙ ap (λ (t : List ℕ). flat_map (λ n. spot_written j t n.1) (filter (is_spot_taken j) (numbered (spots_in j.select.skip_binary text)))) read.text
+
+-- the same of a digest
+module _ (j : PlainFilterJob) (text : List ℕ) where
+  -- what is written of a file patch, by the old lines of its hunks and their texts
+  abbrev written_of : FilePatch → List (List ℕ) → List (List ℕ) → List ℕ
+  written_of q each ts = if q.header.bare then written_bare j text q else (if list_any (λ is. is) (map (λ h. is_kept j h.0 h.1) (numbered each)) then region text q ++ chosen (map (λ h. is_kept j h.0 h.1) (numbered each)) ts else [])
+
+  digest-row : (n : ℕ) (q : FilePatch) (p : PlainPatch) → digest p ≡ patch_of text q → IsDigest text q (ranges_in p) → digest_if_taken j text (n, (q, ranges_in p)) ≡ cond (is_spot_taken j (n, (region_of q, p))) (spot_written j text (region_of q, p)) []
+  digest-row n q p same is =
+      let head : header_of text q.header ≡ p.header = ap (λ (x : PlainPatch). x.header) (sym same) in
+      let olds : olds_by (change_of text q.change) (ranges_in p) ≡ old_of_each p.change = ap (λ (x : PlainPatch). olds_by x.change (ranges_in p)) (sym same) ∙ olds-same p.change in
+      ap (λ (h : PlainHeader). cond (is_taken j n h) (digest_written j text q (ranges_in p)) []) head
+      ∙ ap (λ (each : List (List ℕ)). cond (is_taken j n p.header) (written_of q each (pieces text q)) []) olds
+      ∙ ap (λ (ts : List (List ℕ)). cond (is_taken j n p.header) (written_of q (old_of_each p.change) ts) []) (cut-bytes text q.header q.hunk_spans.items q.span.end is.cut)
+
+  digest-rows : (k : ℕ) (qs : List FilePatch) (ps : List PlainPatch) → map digest ps ≡ map (patch_of text) qs → AreDigests text qs (map ranges_in ps)
+      → flat_map (digest_if_taken j text) (zip (range_with_len k (length (zip qs (map ranges_in ps)))) (zip qs (map ranges_in ps)))
+      ≡ flat_map (λ n. cond (is_spot_taken j n) (spot_written j text n.1) []) (zip (range_with_len k (length (zip (map region_of qs) ps))) (zip (map region_of qs) ps))
+  digest-rows k [] [] same are = refl
+  digest-rows k [] (p ∷ ps) same are = absurd are
+  digest-rows k (q ∷ qs) [] same are = absurd are
+  digest-rows k (q ∷ qs) (p ∷ ps) same are =
+      let first : digest p ≡ patch_of text q = first-same (digest p) (patch_of text q) (map digest ps) (map (patch_of text) qs) same in
+      let others : map digest ps ≡ map (patch_of text) qs = rest-same (digest p) (patch_of text q) (map digest ps) (map (patch_of text) qs) same in
+      let olds = zip qs (map ranges_in ps) in
+      let spots = zip (map region_of qs) ps in
+      let f = digest_if_taken j text in
+      let g : ℕ × Spot → List ℕ = λ n. cond (is_spot_taken j n) (spot_written j text n.1) [] in
+      flat_map-cons f (k, (q, ranges_in p)) (zip (range_with_len (k + 1) (length olds)) olds)
+      ∙ ap (λ (t : List ℕ). t ++ flat_map f (zip (range_with_len (k + 1) (length olds)) olds)) (digest-row k q p first are.0)
+      ∙ ap (λ (t : List ℕ). g (k, (region_of q, p)) ++ t) (digest-rows (k + 1) qs ps others are.1)
+      ∙ sym (flat_map-cons g (k, (region_of q, p)) (zip (range_with_len (k + 1) (length spots)) spots))
+
+pub digested-by : (j : PlainFilterJob) (text : List ℕ) (v : DigestView) → IsDigestOf (defaults j.select.skip_binary) text v → filtered_digest j v ≡ filtered_in j text
+unfolding filtered_in
+digested-by j text v read =
+    let skip = j.select.skip_binary in
+    let ways = ways_of (defaults skip) in
+    let a = bind_ok (patches_of ways v.text) digested_all (digested v, v.olds) read.patches in
+    let ps = a.0 in
+    let both : (map digest ps, map ranges_in ps) ≡ (digested v, v.olds) = ok_is _ _ a.2 in
+    let plain : map digest ps ≡ map (patch_of v.text) v.patches = ap (λ (x : List PlainPatch × List (List OldRange)). x.0) both in
+    let olds : map ranges_in ps ≡ v.olds = ap (λ (x : List PlainPatch × List (List OldRange)). x.1) both in
+    let are : AreDigests v.text v.patches (map ranges_in ps) = subst (AreDigests v.text v.patches) (sym olds) read.are in
+    let there : patches_in skip text ≡ ps = ap read_patches (ap (patches_of ways) (sym read.text) ∙ a.1) in
+    let lie : regions_in skip text ≡ map region_of v.patches = ap (regions_of ways) (sym read.text) ∙ sym read.regions in
+    let spots : spots_in skip text ≡ zip (map region_of v.patches) ps = ap (λ (rs : List Region). zip rs (patches_in skip text)) lie ∙ ap (zip (map region_of v.patches)) there in
+    filtered-digest-is j v
+    ∙ ap (λ (os : List (List OldRange)). flat_map (digest_if_taken j v.text) (numbered (zip v.patches os))) (sym olds)
+    ∙ digest-rows j v.text 1 v.patches ps plain are
+    ∙ sym (flat-if (is_spot_taken j) (λ n. spot_written j v.text n.1) (numbered (zip (map region_of v.patches) ps)))
+    ∙ ap (λ (ss : List Spot). flat_map (λ n. spot_written j v.text n.1) (filter (is_spot_taken j) (numbered ss))) (sym spots)
+    ∙ ap (λ (t : List ℕ). flat_map (λ n. spot_written j t n.1) (filter (is_spot_taken j) (numbered (spots_in skip text)))) read.text
+
+pub grepped-by : (hit : List ℕ → Bool) (j : PlainGrepJob) (text : List ℕ) (v : SetView) → IsRead (defaults j.select.skip_binary) text v → grepped hit j v ≡ grepped_in hit j text
+unfolding grepped grepped_in
+grepped-by hit j text v read =
+    flat-if (λ p. is_found hit j (patch_of v.text p)) (found_text hit j.output v.text) v.patches
+    ∙ all-same v.text (λ p. cond (is_found hit j (patch_of v.text p)) (found_text hit j.output v.text p) []) (λ s. cond (is_found hit j s.1) (spot_found hit j.output v.text s) [])
+    (λ start before p at. ap (λ (t : List ℕ). cond (is_found hit j (patch_of v.text p)) t []) (found-same v.text start before p at hit j.output)) 0 0 v.patches read.spans
+    ∙ sym (flat-if (λ (s : Spot). is_found hit j s.1) (spot_found hit j.output v.text) (map (spot v.text) v.patches))
+    ∙ ap (λ (ss : List Spot). flat_map (spot_found hit j.output v.text) (filter (λ s. is_found hit j s.1) ss)) (sym (spots-by j.select.skip_binary text v read))
+    ∙ ap (λ (t : List ℕ). flat_map (spot_found hit j.output t) (filter (λ s. is_found hit j s.1) (spots_in j.select.skip_binary text))) read.text
+
+pub form-by : (form : Form) (j : PlainFilterJob) (text : List ℕ) (v : SetView) → IsRead (defaults j.select.skip_binary) text v → form_refusal form (left_patches j (plain_patches v)) ≡ form_refused form j text
+form-by form j text v read = ap (λ (ps : List PlainPatch). form_refusal form (left_patches j ps)) (sym (patches-by j.select.skip_binary text v read))
+
+pub converted-by : (form : Form) (j : PlainFilterJob) (text : List ℕ) (v : SetView) → IsRead (defaults j.select.skip_binary) text v → converted form j v ≡ converted_in form j text
+unfolding converted_in
+converted-by form j text v read =
+    converted-is form j v
+    ∙ numbered-same v.text (written_if form j v.text) (spot_converted form j v.text) (λ n start before p at. refl) 0 0 0 v.patches read.spans
+    ∙ ap (λ (ss : List Spot). flat_map (spot_converted form j v.text) (zip (range_with_len 0 (length ss)) ss)) (sym (spots-by j.select.skip_binary text v read))
+    ∙ ap (λ (t : List ℕ). flat_map (spot_converted form j t) (zip (range_with_len 0 (length (spots_in j.select.skip_binary text))) (spots_in j.select.skip_binary text))) read.text

@@ -1,4 +1,0 @@
-mod ByText
-mod Coming
-mod Written
-mod InForm

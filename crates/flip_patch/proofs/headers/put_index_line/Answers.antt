@@ -1,0 +1,13 @@
+use Rattle.std.proofs.Common.{◌++◌}
+use Rattle.std.proofs.lemmas.Result.{err_from_is_err_and}
+use Rattle.outside.proofs.SinkSteps.{has-put, puts-more, puts-stop}
+use Rattle.patch_header.specs.Written.{name_end}
+use Rattle.flip_patch.proofs.headers.put_index_line.Goals as goal
+
+pub returns-in_err-put_piece : goal.returns-in_err-put_piece
+returns-in_err-put_piece g c =
+    let p = err_from_is_err_and c.from_residual.result c.from_residual.ensures.1 in
+    rw p.1 (puts-stop c.in_err-put_piece.field-0.0 p.0 (c.args.name.now ++ name_end c.args.name.now) c.in_err-put_piece.ensures)
+
+pub returns : goal.returns
+returns g c = rw (← c.name_end.ensures) (puts-more g.met.O.Sink.rest_both (has-put c.in_ok-put_piece.field-0 c.in_ok-put_piece.ensures) c.put_both.ensures)

@@ -1,2 +1,0 @@
-pub mod TurnedPatches
-pub mod AsShown

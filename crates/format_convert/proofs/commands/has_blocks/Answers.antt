@@ -1,0 +1,27 @@
+use Rattle.std.proofs.Common.{not, eqb, length, sym, ap, ◌∙◌, subst}
+use Rattle.std.proofs.lemmas.Option.{same_Some}
+use Rattle.file_patch.specs.declared.Change.{Change}
+use Rattle.file_patch.specs.declared.FilePatch.{FilePatch}
+use Rattle.file_patch.specs.PlainPatch.{PlainChange, change_of, patch_of}
+use Rattle.tool_words.specs.PlainJobs.{plain_filter_job}
+use Rattle.format_convert.specs.Blocks.{blocks_in}
+use Rattle.format_convert.specs.Taken.{flags, left_change}
+use Rattle.format_convert.proofs.Rows.{left-of}
+use Rattle.format_convert.specs.Walk.{IsHunks}
+use Rattle.format_convert.proofs.commands.has_blocks.Goals as goal
+
+pub returns-in-Hunks : goal.returns-in-Hunks
+returns-in-Hunks c = λ x at.
+    c.has_edit.ensures
+    ∙ ap (λ (ch : PlainChange). not (eqb (length (blocks_in ch)) 0)) (left-of c.kept_of.result c.kept_of.ensures.kept c.args.set.now c.args.job.now c.args.patch x c.kept_of.ensures.set c.kept_of.ensures.job c.kept_of.ensures.patch at)
+
+pub returns-in-Script : goal.returns-in-Script
+returns-in-Script c = λ x at.
+    let text = c.args.set.now.text in
+    let are = flags (plain_filter_job c.args.job.now) c.args.patch (patch_of text x) in
+    let same = same_Some c.patch_at.result.now x (sym c.patch_at.ensures.is ∙ at) in
+    c.changes.ensures text
+    ∙ ap (λ (ch : Change). not (eqb (length (blocks_in (left_change are (change_of text ch)))) 0)) (sym (ap (λ (y : FilePatch). y.change) (sym same) ∙ c.in-Script.is))
+
+pub kept_of-requires-clause-hunks : goal.kept_of-requires-clause-hunks
+kept_of-requires-clause-hunks c = λ x at. subst (λ (ch : Change). IsHunks ch c.deref.result.now) (sym c.in-Hunks.is ∙ ap (λ (p : FilePatch). p.change) (same_Some c.patch_at.result.now x (sym c.patch_at.ensures.is ∙ at))) (sym c.deref.ensures.value)

@@ -1,0 +1,43 @@
+use Rattle.std.proofs.Common.{ℕ, List, [], sym, ap, subst, ◌∙◌, cond, ◌≡◌, Bool, Err, false}
+use Rattle.hunk_core.specs.declared.Mark.{Mark}
+use Rattle.hunk_core.specs.Turned.{is_keep}
+use Rattle.outside.specs.Puts.{Puts}
+use Rattle.outside.proofs.SinkSteps.{HasPut, has-none, puts-done, has-put, puts-stop}
+use Rattle.format_convert.specs.Backward.{closing_if, closing}
+use Rattle.format_convert.specs.Walk.{edits_left}
+use Rattle.std.proofs.lemmas.List.{append-nil}
+use Rattle.std.proofs.lemmas.Result.{err_from_is_err_and}
+use Rattle.outside.proofs.Exits.{if_ok_none}
+use Rattle.format_convert.specs.declared.place.Place.{Place}
+use Rattle.format_convert.proofs.EdLemmas.{not-keep}
+use Rattle.format_convert.proofs.ed.put_behind.Goals as goal
+
+pub returns-in_err-put_unless-in-Drop : goal.returns-in_err-put_unless-in-Drop
+returns-in_err-put_unless-in-Drop g c =
+    let p = err_from_is_err_and c.from_residual.result c.from_residual.ensures.1 in
+    let changes : is_keep c.args.mark ≡ false = not-keep c.args.mark c.in-Drop.is in
+    let text = closing c.args.next (edits_left c.args.kept c.args.front) in
+    record {
+      put = rw p.1 (subst (λ (bs : List ℕ). Puts {R = Place} g.O.Sink.view g.O.Sink.same_rest c.args.out.now c.put_unless.new.out (Err p.0) bs)
+          (append-nil text ∙ ap (λ (b : Bool). cond b [] text) (sym changes))
+          (puts-stop c.in_err-put_unless-in-Drop.field-0.0 p.0 [] c.in_err-put_unless-in-Drop.ensures));
+      place = if_ok_none _ _ c.from_residual.result c.from_residual.ensures.1;
+    }
+
+pub returns-in_ok-put_unless-in-Drop : goal.returns-in_ok-put_unless-in-Drop
+returns-in_ok-put_unless-in-Drop g c =
+    let changes : is_keep c.args.mark ≡ false = not-keep c.args.mark c.in-Drop.is in
+    record {
+      put = puts-done c.args.place (subst (λ (bs : List ℕ). HasPut g.O.Sink.view g.O.Sink.same_rest c.args.out.now c.put_unless.new.out bs)
+          (ap (λ (b : Bool). cond b [] (closing c.args.next (edits_left c.args.kept c.args.front))) (sym changes))
+          (has-put c.in_ok-put_unless-in-Drop.field-0 c.in_ok-put_unless-in-Drop.ensures));
+      place = ap (λ (b : Bool). cond b c.args.front c.args.place) (sym changes);
+    }
+
+pub returns-in-Keep-clause-put : goal.returns-in-Keep-clause-put
+returns-in-Keep-clause-put g c = puts-done _ (subst (λ (bs : List ℕ). HasPut g.O.Sink.view g.O.Sink.same_rest c.args.out.now c.args.out.now bs)
+    (sym (ap (λ (m : Mark). closing_if m c.args.next (edits_left c.args.kept c.args.front)) c.in-Keep.is))
+    (has-none g.met.O.Sink.rest_none c.args.out.now))
+
+pub returns-in-Keep-clause-place : goal.returns-in-Keep-clause-place
+returns-in-Keep-clause-place g c = ap (λ (m : Mark). cond (is_keep m) c.args.front c.args.place) (sym c.in-Keep.is)

@@ -1,0 +1,18 @@
+use Rattle.std.proofs.Common.{ℕ, Bool, ◌&&◌, sym, ap, ◌∙◌}
+use Rattle.std.specs.Prelude.{nat_lt}
+use Rattle.format_convert.specs.Walk.{own_base}
+use Rattle.format_convert.proofs.fitting.stands_before.Goals as goal
+
+pub returns-then-not-is_kept : goal.returns-then-not-is_kept
+returns-then-not-is_kept c = ap (λ (b : Bool). b && nat_lt (own_base c.args.kept c.args.hunk) c.args.end) (sym (sym c.is_kept.ensures ∙ c.if-not-is_kept.true))
+
+pub returns : goal.returns
+returns c =
+    ap (λ (q : ℕ). nat_lt q c.args.end) c.base_of.ensures.is
+    ∙ ap (λ (b : Bool). b && nat_lt (own_base c.args.kept c.args.hunk) c.args.end) (sym (sym c.is_kept.ensures ∙ c.if-not-is_kept.false))
+
+pub base_of-requires-clause-within : goal.base_of-requires-clause-within
+base_of-requires-clause-within c = c.requires.within
+
+pub is_kept-requires-clause-within : goal.is_kept-requires-clause-within
+is_kept-requires-clause-within c = c.requires.within

@@ -1,5 +1,0 @@
-mod Names
-mod Hunks
-mod Reading
-pub mod Targets
-pub mod Free

@@ -1,2 +1,0 @@
-pub mod MadePatches
-pub mod Plain

@@ -1,6 +1,0 @@
-//! Names of which some are marked.
-#![tactic(auto)]
-
-mod marks;
-
-pub use marks::NameMarks;

@@ -1,5 +1,0 @@
-pub mod EffectLists
-pub mod Filling
-pub mod Making
-pub mod Placing
-pub mod Tidy

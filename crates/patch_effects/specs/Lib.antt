@@ -1,4 +1,0 @@
-pub mod Faults
-pub mod Making
-pub mod Named
-pub mod TargetEffects

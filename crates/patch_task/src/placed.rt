@@ -1,0 +1,200 @@
+//! The effects on the target of a file patch: its backup, and then the target itself.
+
+ghost use Rattle.std.specs.Prelude.{◌≡◌, ◌≢◌, ◌≤◌, ◌++◌, ◌||◌, ◌+◌, if◌then◌else◌, [], ◌∷◌, ℕ, List, true, false, not, length, is_some, Some, IfOk, OnOk};
+ghost use Rattle.std.specs.FinMap.{get};
+ghost use Rattle.outside.specs.Files.{Files};
+ghost use Rattle.outside.specs.Calls.{IsThere};
+ghost use Rattle.outside.specs.Quiet.{IsQuiet, Effect, Holds};
+ghost use Rattle.patch_task.specs.Making.{Makes, GoesQuietly, KeepsAt, IsGone, IsTidy};
+ghost use Rattle.patch_task.specs.Named.{IsBeside, IsNamed};
+ghost use Rattle.patch_task.specs.TargetEffects.{backup_effects, target_effects};
+
+use crate::fault::RunFault;
+use file_patch::Target;
+use outside::Tree;
+use replace_file::{Temp, copy_backup, put_begun, remove_name};
+
+/// What was done to the tree.
+#[derive(Clone, Copy, Debug, PartialEq, Eq)]
+pub struct Made {
+    /// The target was made or taken away.
+    pub wrote: bool,
+    /// How many effects there were.
+    pub effects: u64,
+}
+
+/// Backs the target up, where that is due, and puts it or takes it away.
+pub fn write_placed<T: Tree>(
+    target: &Target,
+    due: bool,
+    removal: bool,
+    temp: Temp<'_>,
+    tree: &mut T,
+) -> Result<Made, RunFault>
+    requires named { IsNamed target.now }
+    requires temp { temp.name.now ≡ target.now.temp }
+    requires apart { due ≡ true → target.now.backup ≢ target.now.name }
+    requires quiet { IsQuiet (T.view tree.old) }
+    requires there { IsThere (T.view tree.old) target.now.temp }
+    ensures goes { GoesQuietly (T.view tree.old) (T.view tree.new) result }
+    ensures makes { (output : List ℕ) → Holds (T.view tree.old) target.now.temp output
+        → Makes (T.view tree.old) (T.view tree.new) result target.now.temp (λ f. backup_effects due f target.now ++ target_effects removal f target.now output) }
+    ensures gone { OnOk result (IsGone (T.view tree.new) target.now.temp) }
+    ensures wrote { IfOk result (λ made. (f : Files) → (T.view tree.old).told ≡ Some f → made.wrote ≡ (not removal || is_some (get f target.now.name))) }
+    ensures count { IfOk result (λ made. (f : Files) (output : List ℕ) → (T.view tree.old).told ≡ Some f
+        → made.effects ≡ length (backup_effects due f target.now ++ target_effects removal f target.now output)) }
+    ensures few { IfOk result (λ made. made.effects ≤ 2) }
+    ensures tidy { OnOk result (IsTidy (T.view tree.old) (T.view tree.new)) }
+{
+    put_backup(target, due, tree)?;
+    let wrote = put_target(temp, target, removal, tree)?;
+    Ok(with_backup(due, wrote))
+}
+
+/// A backup, if it was due, and what was done to the target.
+fn with_backup(due: bool, wrote: bool) -> Made
+    ensures wrote { result.wrote ≡ wrote }
+    ensures effects { result.effects ≡ (if due then 1 else 0) + (if wrote then 1 else 0) }
+{
+    Made {
+        wrote,
+        effects: u64::from(due) + u64::from(wrote),
+    }
+}
+
+/// Puts the present bytes at the backup's name, where that is due.
+pub fn put_backup<T: Tree>(target: &Target, due: bool, tree: &mut T) -> Result<(), RunFault>
+    requires named { IsNamed target.now }
+    requires quiet { IsQuiet (T.view tree.old) }
+    ensures goes { GoesQuietly (T.view tree.old) (T.view tree.new) result }
+    ensures makes { (temp : List ℕ) → Makes (T.view tree.old) (T.view tree.new) result temp (λ f. backup_effects due f target.now) }
+    ensures keeps { OnOk result ((q : List ℕ) → IsBeside due target.now q → KeepsAt (T.view tree.old) (T.view tree.new) q) }
+{
+    if !due {
+        return Ok(());
+    }
+    match copy_backup(tree, &target.name, &target.backup_temp, &target.backup) {
+        Ok(()) => Ok(()),
+        Err(_) => Err(RunFault::Tree),
+    }
+}
+
+/// Puts or takes away the target, and says whether there was an effect.
+fn put_target<T: Tree>(
+    temp: Temp<'_>,
+    target: &Target,
+    removal: bool,
+    tree: &mut T,
+) -> Result<bool, RunFault>
+    requires named { IsNamed target.now }
+    requires temp { temp.name.now ≡ target.now.temp }
+    requires quiet { IsQuiet (T.view tree.old) }
+    requires there { IsThere (T.view tree.old) target.now.temp }
+    ensures goes { GoesQuietly (T.view tree.old) (T.view tree.new) result }
+    ensures makes { (output : List ℕ) → Holds (T.view tree.old) target.now.temp output → Makes (T.view tree.old) (T.view tree.new) result target.now.temp (λ f. target_effects removal f target.now output) }
+    ensures gone { OnOk result (IsGone (T.view tree.new) target.now.temp) }
+    ensures wrote { IfOk result (λ wrote. (f : Files) → (T.view tree.old).told ≡ Some f → wrote ≡ (not removal || is_some (get f target.now.name))) }
+{
+    if removal {
+        erase(temp, target, tree)
+    } else {
+        swap_in(temp, target, tree)
+    }
+}
+
+/// Takes the temporary away, and the target, if it is there.
+fn erase<T: Tree>(temp: Temp<'_>, target: &Target, tree: &mut T) -> Result<bool, RunFault>
+    requires named { IsNamed target.now }
+    requires temp { temp.name.now ≡ target.now.temp }
+    requires quiet { IsQuiet (T.view tree.old) }
+    requires there { IsThere (T.view tree.old) target.now.temp }
+    ensures goes { GoesQuietly (T.view tree.old) (T.view tree.new) result }
+    ensures makes { (output : List ℕ) → Makes (T.view tree.old) (T.view tree.new) result target.now.temp (λ f. target_effects true f target.now output) }
+    ensures gone { OnOk result (IsGone (T.view tree.new) target.now.temp) }
+    ensures wrote { IfOk result (λ wrote. (f : Files) → (T.view tree.old).told ≡ Some f → wrote ≡ is_some (get f target.now.name)) }
+{
+    forget(temp, target, tree)?;
+    remove_if_there(target, tree)
+}
+
+/// Takes the temporary away.
+pub fn forget<T: Tree>(temp: Temp<'_>, target: &Target, tree: &mut T) -> Result<(), RunFault>
+    requires named { IsNamed target.now }
+    requires temp { temp.name.now ≡ target.now.temp }
+    requires quiet { IsQuiet (T.view tree.old) }
+    requires there { IsThere (T.view tree.old) target.now.temp }
+    ensures goes { GoesQuietly (T.view tree.old) (T.view tree.new) result }
+    ensures makes { Makes (T.view tree.old) (T.view tree.new) result target.now.temp (λ f. []) }
+    ensures gone { OnOk result (IsGone (T.view tree.new) target.now.temp) }
+    ensures name { OnOk result (KeepsAt (T.view tree.old) (T.view tree.new) target.now.name) }
+{
+    match temp.forget(tree) {
+        Ok(()) => Ok(()),
+        Err(_) => Err(RunFault::Tree),
+    }
+}
+
+/// Takes the target away, if it is there.
+fn remove_if_there<T: Tree>(target: &Target, tree: &mut T) -> Result<bool, RunFault>
+    requires named { IsNamed target.now }
+    requires quiet { IsQuiet (T.view tree.old) }
+    requires gone { IsGone (T.view tree.old) target.now.temp }
+    ensures goes { GoesQuietly (T.view tree.old) (T.view tree.new) result }
+    ensures makes { (output : List ℕ) → Makes (T.view tree.old) (T.view tree.new) result target.now.temp (λ f. target_effects true f target.now output) }
+    ensures gone { OnOk result (IsGone (T.view tree.new) target.now.temp) }
+    ensures wrote { IfOk result (λ wrote. (f : Files) → (T.view tree.old).told ≡ Some f → wrote ≡ is_some (get f target.now.name)) }
+{
+    match tree.size(&target.name) {
+        Ok(Some(_)) => remove(target, tree),
+        Ok(None) => Ok(false),
+        Err(_) => Err(RunFault::Tree),
+    }
+}
+
+/// Takes the target away, which is there, and says that there was an effect.
+fn remove<T: Tree>(target: &Target, tree: &mut T) -> Result<bool, RunFault>
+    requires named { IsNamed target.now }
+    requires quiet { IsQuiet (T.view tree.old) }
+    requires there { IsThere (T.view tree.old) target.now.name }
+    requires gone { IsGone (T.view tree.old) target.now.temp }
+    ensures goes { GoesQuietly (T.view tree.old) (T.view tree.new) result }
+    ensures makes { Makes (T.view tree.old) (T.view tree.new) result target.now.temp (λ f. Effect.Remove target.now.name ∷ []) }
+    ensures gone { OnOk result (IsGone (T.view tree.new) target.now.temp) }
+    ensures wrote { IfOk result (λ wrote. wrote ≡ true) }
+{
+    take_away(target, tree)?;
+    Ok(true)
+}
+
+/// Takes the target away, which is there.
+pub fn take_away<T: Tree>(target: &Target, tree: &mut T) -> Result<(), RunFault>
+    requires named { IsNamed target.now }
+    requires quiet { IsQuiet (T.view tree.old) }
+    requires there { IsThere (T.view tree.old) target.now.name }
+    ensures goes { GoesQuietly (T.view tree.old) (T.view tree.new) result }
+    ensures makes { (temp : List ℕ) → Makes (T.view tree.old) (T.view tree.new) result temp (λ f. Effect.Remove target.now.name ∷ []) }
+    ensures keeps { OnOk result ((q : List ℕ) → q ≢ target.now.name → KeepsAt (T.view tree.old) (T.view tree.new) q) }
+{
+    match remove_name(tree, &target.name) {
+        Ok(()) => Ok(()),
+        Err(_) => Err(RunFault::Tree),
+    }
+}
+
+/// Puts the temporary at the target.
+pub fn swap_in<T: Tree>(temp: Temp<'_>, target: &Target, tree: &mut T) -> Result<bool, RunFault>
+    requires named { IsNamed target.now }
+    requires temp { temp.name.now ≡ target.now.temp }
+    requires quiet { IsQuiet (T.view tree.old) }
+    requires there { IsThere (T.view tree.old) target.now.temp }
+    ensures goes { GoesQuietly (T.view tree.old) (T.view tree.new) result }
+    ensures makes { (output : List ℕ) → Holds (T.view tree.old) target.now.temp output → Makes (T.view tree.old) (T.view tree.new) result target.now.temp (λ f. target_effects false f target.now output) }
+    ensures gone { OnOk result (IsGone (T.view tree.new) target.now.temp) }
+    ensures keeps { OnOk result ((q : List ℕ) → q ≢ target.now.name → q ≢ target.now.temp → KeepsAt (T.view tree.old) (T.view tree.new) q) }
+    ensures wrote { IfOk result (λ wrote. wrote ≡ true) }
+{
+    match put_begun(tree, temp, &target.name) {
+        Ok(()) => Ok(true),
+        Err(_) => Err(RunFault::Tree),
+    }
+}

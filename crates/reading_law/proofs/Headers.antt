@@ -1,0 +1,151 @@
+-- The header that a text has is the one that its lines say.
+use Rattle.std.proofs.Common.{◌≡◌, ◌+◌, ◌-◌, ◌≤◌, ℕ, Bool, true, false, cond, List, [], ◌∷◌, ◌++◌, length, drop, Option, None, Some, refl, sym, ap, ◌∙◌, arith}
+use Rattle.std.specs.Prelude.{codes, option_map}
+use Rattle.std.specs.List.{AllByRecursion}
+use Rattle.std.proofs.lemmas.List.{length-take}
+use Rattle.std.proofs.lemmas.Option.{same_Some}
+use Rattle.line_list.specs.Lines.{lines}
+use Rattle.hunk_core.specs.declared.Form.{Form}
+use Rattle.hunk_core.specs.declared.Form.TheVariants.{Unified}
+use Rattle.stamp.specs.declared.Stamp.{Stamp}
+use Rattle.patch_header.specs.GitHeaders.{extended_run, behind_run, git_header, action_of}
+use Rattle.patch_header.specs.GitRows as git
+use Rattle.patch_header.specs.Openings.{stop_at}
+use Rattle.patch_header.specs.Region.{row, rows, last_tail, old_tail, new_tail}
+use Rattle.patch_header.specs.Values.{span_at, bytes_of, name_in, word_in, stamp_in}
+use Rattle.patch_header.specs.Steps.{header_with, bare_with, header_at}
+use Rattle.header_record.specs.declared.Action.{Action}
+use Rattle.header_record.specs.declared.Header.{Header}
+use Rattle.patch_header.specs.declared.openings.Stop.{Stop}
+use Rattle.patch_header.specs.declared.openings.Stop.TheVariants.{Opening, Binary, Bare}
+use Rattle.patch_header.specs.declared.region.Tail.{Tail}
+use Rattle.patch_header.specs.declared.ways.Ways.{Ways}
+use Rattle.patch_header.proofs.GitLemmas.{lines-back}
+use Rattle.patch_header.proofs.Stands.{stop-end}
+use Rattle.patch_header.proofs.BareLemmas.{odd-half}
+use Rattle.patch_header.proofs.ScanLemmas.{run-split}
+use Rattle.file_patch.specs.PlainPatch.{PlainHeader, bytes_in, header_of}
+use Rattle.reading_law.specs.Unnumbered.{unnumbered_header}
+use Rattle.reading_law.specs.Said as said
+use Rattle.reading_law.specs.Said.{behind, last_behind, name_said, word_said, stamp_said, old_line, new_line, from_by, to_by, led_lines, old_beside, new_beside, header_behind, bare_header, header_said}
+use Rattle.reading_law.proofs.Places.{StandsAt, first-bytes, rows-stand, skip-line}
+use Rattle.reading_law.proofs.HeaderLines.{span-bytes, tail-bytes, name-said, word-said, old-name, new-name, old-stamp, new-stamp, from-said, to-said}
+use Rattle.reading_law.proofs.LedLines.{led-is, led-all}
+use Rattle.reading_law.proofs.Joining.{no-header, run-tail}
+
+abbrev plain : Form → Bool → Option (List ℕ) → Option (List ℕ) → Option (List ℕ) → Option (List ℕ) → Stamp → Stamp → Action → Option (List ℕ) → Option (List ℕ) → PlainHeader
+plain form bare old new index prereq old_stamp new_stamp action from to = record {
+  form = form;
+  opening = 0;
+  names_line = 0;
+  old_name = old;
+  new_name = new;
+  index = index;
+  prereq = prereq;
+  old_stamp = old_stamp;
+  new_stamp = new_stamp;
+  action = action;
+  bare = bare;
+  from = from;
+  to = to;
+}
+
+same-parts : (form : Form) (bare : Bool) (a a' b b' c c' d d' : Option (List ℕ)) (s s' t t' : Stamp) (x x' : Action) (f f' g g' : Option (List ℕ)) → a ≡ a' → b ≡ b' → c ≡ c' → d ≡ d' → s ≡ s' → t ≡ t' → x ≡ x' → f ≡ f' → g ≡ g'
+    → plain form bare a b c d s t x f g ≡ plain form bare a' b' c' d' s' t' x' f' g'
+same-parts form bare a a' b b' c c' d d' s s' t t' x x' f f' g g' ea eb ec ed es et ex ef eg = cc
+
+-- ---- an opening
+
+opening-said : (text : List ℕ) (ways : Ways) (form : Form) (place opening line at : ℕ) (region : List (List ℕ)) → AllByRecursion (StandsAt text) (rows line at region)
+    → unnumbered_header (header_of text (header_with text form place opening (rows line at region) (git.led_by ways form (rows line at region)))) ≡ header_behind form region (led_lines ways form region)
+opening-said text ways form place opening line at region all =
+    let rs = rows line at region in
+    let gs = git.led_by ways form rs in
+    let ls : git.lines_of rs ≡ region = lines-back line at region in
+    let led : git.lines_of gs ≡ led_lines ways form region = led-is ways form line at region in
+    let those : AllByRecursion (StandsAt text) gs = led-all (StandsAt text) ways form rs all in
+    let old : bytes_in text (name_in text (old_tail form rs)) ≡ name_said (old_line form region) = old-name text rs all form ∙ ap (λ l. name_said (old_line form l)) ls in
+    let new : bytes_in text (name_in text (new_tail form rs)) ≡ name_said (new_line form region) = new-name text rs all form ∙ ap (λ l. name_said (new_line form l)) ls in
+    let index : bytes_in text (name_in text (last_tail (codes "Index:") rs)) ≡ name_said (last_behind (codes "Index:") region) = name-said text rs all (codes "Index:") ∙ ap (λ l. name_said (last_behind (codes "Index:") l)) ls in
+    let prereq : bytes_in text (word_in text (last_tail (codes "Prereq:") rs)) ≡ word_said (last_behind (codes "Prereq:") region) = word-said text rs all (codes "Prereq:") ∙ ap (λ l. word_said (last_behind (codes "Prereq:") l)) ls in
+    let old_at : stamp_in text (old_tail form rs) ≡ stamp_said (old_line form region) = old-stamp text rs all form ∙ ap (λ l. stamp_said (old_line form l)) ls in
+    let new_at : stamp_in text (new_tail form rs) ≡ stamp_said (new_line form region) = new-stamp text rs all form ∙ ap (λ l. stamp_said (new_line form l)) ls in
+    let from : bytes_in text (git.from_in gs) ≡ from_by (action_of (led_lines ways form region)) (led_lines ways form region) = from-said text gs those ∙ ap (λ l. from_by (action_of l) l) led in
+    let to : bytes_in text (git.to_in gs) ≡ to_by (action_of (led_lines ways form region)) (led_lines ways form region) = to-said text gs those ∙ ap (λ l. to_by (action_of l) l) led in
+    same-parts form false _ _ _ _ _ _ _ _ _ _ _ _ _ _ _ _ _ _ old new index prereq old_at new_at (ap action_of led) from to
+
+-- ---- a bare git header
+
+middle-odd : (bytes : List ℕ) (m : ℕ) → git.middle_of bytes ≡ Some m → m + m + 1 ≡ length bytes
+middle-odd bytes m h = by (git.has_halves bytes) refl h
+  where
+    by : (v : Bool) → git.has_halves bytes ≡ v → cond v (Some (git.half bytes)) None ≡ Some m → m + m + 1 ≡ length bytes
+    by true e k = let is : git.half bytes ≡ m = cc in let odd : git.half bytes + git.half bytes + 1 ≡ length bytes = odd-half bytes e in omega (arith, is, odd)
+    by false e k = absurd cc
+
+tail-width : (text : List ℕ) (t : Tail) → length (bytes_of text t) ≤ t.end - t.start
+tail-width text t = omega (arith, length-take (t.end - t.start) (drop t.start text))
+
+old-side : (text : List ℕ) (t : Tail) (o : Option ℕ) → git.middle_of (bytes_of text t) ≡ o → bytes_in text (git.old_beside t o) ≡ old_beside (bytes_of text t) o
+old-side text t None e = refl
+old-side text t (Some m) e =
+    let start : t.start + 0 ≡ t.start = omega arith in
+    ap (λ k. bytes_in text (span_at k m)) (sym start)
+    ∙ span-bytes text (bytes_of text t) t.start (t.end - t.start) 0 m refl (omega (arith, middle-odd (bytes_of text t) m e, tail-width text t))
+
+new-side : (text : List ℕ) (t : Tail) (o : Option ℕ) → git.middle_of (bytes_of text t) ≡ o → bytes_in text (git.new_beside t o) ≡ new_beside (bytes_of text t) o
+new-side text t None e = refl
+new-side text t (Some m) e = span-bytes text (bytes_of text t) t.start (t.end - t.start) (m + 1) m refl (omega (arith, middle-odd (bytes_of text t) m e, tail-width text t))
+
+old-half : (text : List ℕ) (o : Option Tail) → bytes_in text (git.old_half text o) ≡ said.old_half (option_map (bytes_of text) o)
+old-half text None = refl
+old-half text (Some t) = old-side text t (git.middle_of (bytes_of text t)) refl
+
+new-half : (text : List ℕ) (o : Option Tail) → bytes_in text (git.new_half text o) ≡ said.new_half (option_map (bytes_of text) o)
+new-half text None = refl
+new-half text (Some t) = new-side text t (git.middle_of (bytes_of text t)) refl
+
+-- the rest of a git line
+git-bytes : (text : List ℕ) (number place : ℕ) (line : List ℕ) (more : List (List ℕ)) → lines (drop place text) ≡ line ∷ more → option_map (bytes_of text) (git.git_rest number place (line ∷ more)) ≡ behind (codes "diff --git ") line
+git-bytes text number place line more e = tail-bytes text (codes "diff --git ") (row number place line) (record { bytes = first-bytes text place line more e })
+
+bare-said : (text : List ℕ) (place number line at : ℕ) (region : List (List ℕ)) (git_line : List ℕ) (more : List (List ℕ)) → AllByRecursion (StandsAt text) (rows line at region) → lines (drop place text) ≡ git_line ∷ more
+    → unnumbered_header (header_of text (bare_with text place number (rows line at region))) ≡ bare_header region git_line (extended_run more)
+bare-said text place number line at region git_line more all e =
+    let rs = rows line at region in
+    let ls : git.lines_of rs ≡ region = lines-back line at region in
+    let es = rows (number + 1) (place + length git_line) (extended_run more) in
+    let ahead : lines (drop (place + length git_line) text) ≡ extended_run more ++ behind_run more = skip-line text place git_line more e ∙ run-split more in
+    let those : AllByRecursion (StandsAt text) es = rows-stand text (number + 1) (place + length git_line) (extended_run more) (behind_run more) ahead in
+    let lines_are : git.lines_of es ≡ extended_run more = lines-back (number + 1) (place + length git_line) (extended_run more) in
+    let rest : git.git_rest number place (lines (drop place text)) ≡ git.git_rest number place (git_line ∷ more) = ap (git.git_rest number place) e in
+    let extended : git.extended_rows number place (lines (drop place text)) ≡ es = ap (git.extended_rows number place) e in
+    let old : bytes_in text (git.old_half text (git.git_rest number place (lines (drop place text)))) ≡ said.old_half (behind (codes "diff --git ") git_line) =
+    ap (λ o. bytes_in text (git.old_half text o)) rest ∙ old-half text (git.git_rest number place (git_line ∷ more)) ∙ ap said.old_half (git-bytes text number place git_line more e) in
+    let new : bytes_in text (git.new_half text (git.git_rest number place (lines (drop place text)))) ≡ said.new_half (behind (codes "diff --git ") git_line) =
+    ap (λ o. bytes_in text (git.new_half text o)) rest ∙ new-half text (git.git_rest number place (git_line ∷ more)) ∙ ap said.new_half (git-bytes text number place git_line more e) in
+    let index : bytes_in text (name_in text (last_tail (codes "Index:") rs)) ≡ name_said (last_behind (codes "Index:") region) = name-said text rs all (codes "Index:") ∙ ap (λ l. name_said (last_behind (codes "Index:") l)) ls in
+    let prereq : bytes_in text (word_in text (last_tail (codes "Prereq:") rs)) ≡ word_said (last_behind (codes "Prereq:") region) = word-said text rs all (codes "Prereq:") ∙ ap (λ l. word_said (last_behind (codes "Prereq:") l)) ls in
+    let action : action_of (git.lines_of (git.extended_rows number place (lines (drop place text)))) ≡ action_of (extended_run more) = ap (λ r. action_of (git.lines_of r)) extended ∙ ap action_of lines_are in
+    let from : bytes_in text (git.from_in (git.extended_rows number place (lines (drop place text)))) ≡ from_by (action_of (extended_run more)) (extended_run more) =
+    ap (λ r. bytes_in text (git.from_in r)) extended ∙ from-said text es those ∙ ap (λ l. from_by (action_of l) l) lines_are in
+    let to : bytes_in text (git.to_in (git.extended_rows number place (lines (drop place text)))) ≡ to_by (action_of (extended_run more)) (extended_run more) =
+    ap (λ r. bytes_in text (git.to_in r)) extended ∙ to-said text es those ∙ ap (λ l. to_by (action_of l) l) lines_are in
+    same-parts Unified true _ _ _ _ _ _ _ _ _ _ _ _ _ _ _ _ _ _ old new index prereq refl refl action from to
+
+-- ---- both
+
+-- what stands behind a region says the same of lines alone
+pub said-alone : (ways : Ways) (text : List ℕ) (at line place number : ℕ) (region body rest others : List (List ℕ)) (stop : Stop) (h : Header) → lines (drop at text) ≡ region ++ rest → lines (drop place text) ≡ body ++ others
+    → (stop ≡ Bare → body ≡ git_header (body ++ others)) → stop_at ways (body ++ others) ≡ Some stop → header_at ways text place number (rows line at region) stop ≡ Some h → header_said ways region body stop ≡ Some (unnumbered_header (header_of text h))
+said-alone ways text at line place number region body rest others (Opening form) h e b bare stands says =
+    let all : AllByRecursion (StandsAt text) (rows line at region) = rows-stand text line at region rest e in
+    let is : header_with text form place number (rows line at region) (git.led_by ways form (rows line at region)) ≡ h = same_Some _ h says in
+    ap Some (sym (opening-said text ways form place number line at region all) ∙ ap (λ x. unnumbered_header (header_of text x)) is)
+said-alone ways text at line place number region [] rest others Bare h e b bare stands says = absurd (let none : stop_at ways others ≡ None = ap (stop_at ways) (no-header others (bare refl)) ∙ stop-end ways in cc)
+said-alone ways text at line place number region (git_line ∷ extended) rest others Bare h e b bare stands says =
+    let all : AllByRecursion (StandsAt text) (rows line at region) = rows-stand text line at region rest e in
+    let is : bare_with text place number (rows line at region) ≡ h = same_Some _ h says in
+    let run : extended ≡ extended_run (extended ++ others) = run-tail git_line extended (extended_run (extended ++ others)) (bare refl) in
+    ap Some (ap (bare_header region git_line) run ∙ sym (bare-said text place number line at region git_line (extended ++ others) all b) ∙ ap (λ x. unnumbered_header (header_of text x)) is)
+said-alone ways text at line place number region body rest others Binary h e b bare stands says = absurd cc

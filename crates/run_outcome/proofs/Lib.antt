@@ -1,5 +1,0 @@
-pub mod SamePlan
-pub mod Matching
-pub mod Receipts
-pub mod Entry
-pub mod Written

@@ -1,2 +1,0 @@
-mod Outlines
-pub mod Digests

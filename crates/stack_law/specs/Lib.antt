@@ -1,4 +1,0 @@
-pub mod Stack
-pub mod Commands
-pub mod Outcomes
-pub mod Laws

@@ -1,7 +1,0 @@
-mod Utf8
-mod Changing
-mod Written
-mod Names
-pub mod Reader
-pub mod Sets
-pub mod Lawful

@@ -1,3 +1,0 @@
-pub mod Changed
-pub mod Reading
-pub mod Keeping

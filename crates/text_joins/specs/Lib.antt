@@ -1,4 +1,0 @@
-pub mod Unnumbered
-pub mod Said
-pub mod Following
-pub mod Joins
