@@ -21,8 +21,8 @@ class Watch:
 
     def __init__(self, rt):
         self.rt, self.seconds, self.of, self.ended, self.seeds = rt, {}, {}, set(), set()
-        # the crates that are proved, which a compiler builds; and the programs that the first of two compilers has built, and the second one builds
-        self.proved, self.built = set(), set()
+        # the crates that are proved, which compilers build
+        self.proved = set()
 
     def look(self):
         """Looks once, and returns the checks that are seen for the first time, as crate and kind."""
@@ -72,8 +72,6 @@ class Watch:
         name = words[words.index("--crate-name") + 1]
         if "--crate-checked" in words:
             self.proved.add(name)
-        if "--backend" in words and words[words.index("--backend") + 1] == "rattle":
-            self.built.add(name)
         if not place.startswith("rt-edit-"):
             return name, "tests" if "--test" in words else "proof"
         over = words[words.index("--incremental") + 1] if "--incremental" in words else ""
