@@ -1,6 +1,5 @@
 # make          proves and builds the program: build/bin/patchkit, and a link for each tool beside it; says how far it is
-# make demo     the same, with the program of whichever compiler is done first, then applies a patch to a copy of examples/tree and shows
-#               the result
+# make demo     the same, then applies a patch to a copy of examples/tree and shows the result, as soon as either compiler has built it
 # make try      runs that patch before any proof
 # make test     runs the gate (rt ci), then the checks and the worked rows on real files
 # make times    prints what each crate's proof, tests and edits took, slowest crate first, as make and make test noted it
