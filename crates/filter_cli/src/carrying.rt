@@ -1,6 +1,5 @@
 //! A run of a filter, from its words to its answer.
 ghost use Rattle.std.specs.Prelude.{◌≡◌, ◌⊎◌, map, true, Ok, Err, string_bytes};
-ghost use Rattle.outside.specs.Quiet.{IsQuiet};
 ghost use Rattle.patch_options.specs.declared.options.WordFault.{WordFault};
 ghost use Rattle.tool_words.specs.PlainJobs.{plain_tool_job};
 ghost use Rattle.run_answers.specs.Answers.{of_words};
@@ -62,39 +61,35 @@ fn run_job<T: Tree, F: Finder, I: Source, O: Sink>(
     ensures rest { O.same_rest out.old out.new }
 {
     match settle(tree) {
-        Ok(()) => run_settled(alloc, job, tree, finder, source, out),
+        Ok(()) => {}
         Err(why) => {
             // (let go here, and not at the exit, where it would be proved field by field beside the devices)
             drop(job);
-            why
+            return why;
         }
     }
-}
-
-/// Carries the job out on a settled tree.
-fn run_settled<T: Tree, F: Finder, I: Source, O: Sink>(
-    alloc: Global,
-    job: ToolJob,
-    tree: &mut T,
-    finder: &mut F,
-    source: &mut I,
-    out: &mut O,
-) -> Why
-    requires filter { is_filter (plain_tool_job job) ≡ true }
-    requires quiet { IsQuiet (T.view tree.old) }
-    ensures carries { Carries (Ok (plain_tool_job job)) (world (T.view tree.old) (F.view finder.old) (I.view source.old) (O.view out.old)) (world (T.view tree.new) (F.view finder.new) (I.view source.new) (O.view out.new)) result }
-    ensures unread { (ReadsSource (Ok (plain_tool_job job)) → ⊥) → source.new ≡ source.old }
-    ensures unasked { UnlessSearched (Ok (plain_tool_job job)) (world (T.view tree.old) (F.view finder.old) (I.view source.old) (O.view out.old)) (finder.new ≡ finder.old) }
-    ensures no_pattern { (AsksFor (Ok (plain_tool_job job)) HasPattern → ⊥) → finder.new ≡ finder.old }
-    ensures rest { O.same_rest out.old out.new }
-{
     match job {
         ToolJob::List(job) => lsdiff(alloc, job, tree, source, out),
         ToolJob::Filter(job) => filterdiff(alloc, job, tree, source, out),
         ToolJob::Grep(job) => grepdiff(alloc, job, tree, finder, source, out),
-        ToolJob::Split(job) => splitdiff(alloc, &job, tree, out),
-        ToolJob::Recount(input) => recountdiff(alloc, &input, tree, source, out),
-        ToolJob::Flip(input) => reversediff(alloc, &input, tree, source, out),
-        _ => Why::Usage,
+        ToolJob::Split(job) => {
+            let why = splitdiff(alloc, &job, tree, out);
+            drop(job);
+            why
+        }
+        ToolJob::Recount(input) => {
+            let why = recountdiff(alloc, &input, tree, source, out);
+            drop(input);
+            why
+        }
+        ToolJob::Flip(input) => {
+            let why = reversediff(alloc, &input, tree, source, out);
+            drop(input);
+            why
+        }
+        _ => {
+            drop(job);
+            Why::Usage
+        }
     }
 }

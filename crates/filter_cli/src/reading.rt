@@ -1,9 +1,9 @@
 //! The words of a filter.
-ghost use Rattle.std.specs.Prelude.{◌≡◌, ◌⊎◌, map, false, true, Ok, Err, IfOk, IfErr, string_bytes};
+ghost use Rattle.std.specs.Prelude.{◌≡◌, ◌⊎◌, map, true, Ok, Err, IfOk, IfErr, string_bytes};
 ghost use Rattle.patch_options.specs.declared.options.WordFault.{WordFault};
 ghost use Rattle.tool_words.specs.PlainJobs.{plain_tool_job};
 ghost use Rattle.run_answers.specs.Answers.{of_words};
-ghost use Rattle.filter_cli.specs.Jobs.{filter_of, is_filter, job_of};
+ghost use Rattle.filter_cli.specs.Jobs.{is_filter, job_of};
 
 use run_answers::Why;
 use std::alloc::Global;
@@ -16,21 +16,15 @@ pub fn read_job(alloc: Global, words: &[String]) -> Result<ToolJob, Why>
     ensures refused { IfErr result (λ why. (why ≡ Why.Memory) ⊎ ((fault : WordFault) × (why ≡ of_words fault) × (job_of (map string_bytes words.now) ≡ Err fault))) }
 {
     match read_tool_words(alloc, words) {
-        Ok(job) => filter_of(job),
+        Ok(job) => {
+            if is_filter(&job) {
+                Ok(job)
+            } else {
+                drop(job);
+                Err(Why::Usage)
+            }
+        }
         Err(fault) => Err(Why::from(fault)),
-    }
-}
-
-fn filter_of(job: ToolJob) -> Result<ToolJob, Why>
-    ensures job { IfOk result (λ same. same ≡ job) }
-    ensures filter { IfOk result (λ same. is_filter (plain_tool_job job) ≡ true) }
-    ensures refused { IfErr result (λ why. (why ≡ Why.Usage) × (is_filter (plain_tool_job job) ≡ false)) }
-{
-    if is_filter(&job) {
-        Ok(job)
-    } else {
-        drop(job);
-        Err(Why::Usage)
     }
 }
 

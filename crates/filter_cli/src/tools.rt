@@ -14,7 +14,6 @@ ghost use Rattle.filter_cli.specs.Worlds.{world, Tells};
 use crate::converting::run_convert;
 use crate::fault::{answer, form_answer};
 use crate::sifting::{run_filter, run_grep, run_list};
-use hunk_core::Form;
 use outside::{Finder, Sink, Source, Tree};
 use patch_options::Input;
 use run_answers::Why;
@@ -50,44 +49,9 @@ pub fn filterdiff<T: Tree, I: Source, O: Sink>(
     ensures rest { O.same_rest out.old out.new }
 {
     match job.format {
-        None => as_it_is(alloc, job, tree, source, out),
-        Some(form) => in_form(alloc, job, form, tree, source, out),
+        None => answer(run_filter(alloc, job, tree, source, out)),
+        Some(form) => form_answer(run_convert(alloc, job, form, tree, source, out)),
     }
-}
-
-/// `filterdiff` without a form.
-fn as_it_is<T: Tree, I: Source, O: Sink>(
-    alloc: Global,
-    job: FilterJob,
-    tree: &mut T,
-    source: &mut I,
-    out: &mut O,
-) -> Why
-    requires format { job.format ≡ None }
-    requires quiet { IsQuiet (T.view tree.old) }
-    ensures carries { (v : FinderView) → Carries (Ok (filter_job (plain_filter_job job))) (world (T.view tree.old) v (I.view source.old) (O.view out.old)) (world (T.view tree.new) v (I.view source.new) (O.view out.new)) result }
-    ensures unread { IsFile job.input → source.new ≡ source.old }
-    ensures rest { O.same_rest out.old out.new }
-{
-    answer(run_filter(alloc, job, tree, source, out))
-}
-
-/// `filterdiff` with this form.
-fn in_form<T: Tree, I: Source, O: Sink>(
-    alloc: Global,
-    job: FilterJob,
-    form: Form,
-    tree: &mut T,
-    source: &mut I,
-    out: &mut O,
-) -> Why
-    requires format { job.format ≡ Some form }
-    requires quiet { IsQuiet (T.view tree.old) }
-    ensures carries { (v : FinderView) → Carries (Ok (filter_job (plain_filter_job job))) (world (T.view tree.old) v (I.view source.old) (O.view out.old)) (world (T.view tree.new) v (I.view source.new) (O.view out.new)) result }
-    ensures unread { IsFile job.input → source.new ≡ source.old }
-    ensures rest { O.same_rest out.old out.new }
-{
-    form_answer(run_convert(alloc, job, form, tree, source, out))
 }
 
 pub fn grepdiff<T: Tree, F: Finder, I: Source, O: Sink>(

@@ -2,13 +2,11 @@
 
 ghost use Rattle.std.specs.Prelude.{◌≡◌, ◌<◌, ◌++◌, length};
 ghost use Rattle.std.specs.Option.{ForSome};
-ghost use Rattle.hunk_core.specs.Turned.{other_side};
 ghost use Rattle.outside.specs.Puts.{Puts};
 ghost use Rattle.file_patch.specs.PlainPatch.{header_of};
 ghost use Rattle.patch_set.specs.PlainName.{plain_name};
 ghost use Rattle.patch_set.specs.SetView.{patch_at};
-ghost use Rattle.flip_patch.specs.HeaderText.{header_text, index_if, index_line, name_lines, named_line, span_on};
-ghost use Rattle.patch_header.specs.Written.{new_mark, old_mark};
+ghost use Rattle.flip_patch.specs.HeaderText.{header_text, index_if, named_line};
 
 use crate::marks::{name_end, new_mark, old_mark, shows_names};
 use crate::names::{needs_index, rest_of_line, span_on};
@@ -31,13 +29,6 @@ fn put_both<O: Sink>(out: &mut O, first: &[u8], second: &[u8]) -> Result<(), Fai
     put_piece(out, second)
 }
 
-fn put_index_line<O: Sink>(out: &mut O, name: &[u8]) -> Result<(), Failed>
-    ensures { Puts O.view O.same_rest out.old out.new result (index_line name.now) }
-{
-    put_piece(out, b"Index: ")?;
-    put_both(out, name, name_end(name))
-}
-
 /// The line that says which file is meant, where no other one does; `name` is the name of the file patch for the filters.
 fn put_index_if<O: Sink>(
     text: &[u8],
@@ -49,11 +40,11 @@ fn put_index_if<O: Sink>(
     requires { name.now ≡ plain_name (header_of text.now header.now) }
     ensures { Puts O.view O.same_rest out.old out.new result (index_if form (header_of text.now header.now)) }
 {
-    if needs_index(text, form, header) {
-        put_index_line(out, name)
-    } else {
-        Ok(())
+    if !needs_index(text, form, header) {
+        return Ok(());
     }
+    put_piece(out, b"Index: ")?;
+    put_both(out, name, name_end(name))
 }
 
 fn put_named_line<O: Sink>(
@@ -70,35 +61,6 @@ fn put_named_line<O: Sink>(
     }
 }
 
-fn put_names<O: Sink>(
-    text: &[u8],
-    header: &Header,
-    form: Form,
-    side: Side,
-    out: &mut O,
-) -> Result<(), Failed>
-    ensures { Puts O.view O.same_rest out.old out.new result (named_line text.now (old_mark form) (span_on side header.now) ++ named_line text.now (new_mark form) (span_on (other_side side) header.now)) }
-{
-    put_named_line(text, old_mark(form), span_on(header, side), out)?;
-    put_named_line(text, new_mark(form), span_on(header, side.other()), out)
-}
-
-fn put_name_lines<O: Sink>(
-    text: &[u8],
-    header: &Header,
-    form: Form,
-    side: Side,
-    out: &mut O,
-) -> Result<(), Failed>
-    ensures { Puts O.view O.same_rest out.old out.new result (name_lines text.now form side header.now) }
-{
-    if shows_names(form) {
-        put_names(text, header, form, side, out)
-    } else {
-        Ok(())
-    }
-}
-
 fn put_lines<O: Sink>(
     text: &[u8],
     header: &Header,
@@ -111,7 +73,11 @@ fn put_lines<O: Sink>(
     ensures { Puts O.view O.same_rest out.old out.new result (header_text text.now form side header.now) }
 {
     put_index_if(text, header, form, name, out)?;
-    put_name_lines(text, header, form, side, out)
+    if !shows_names(form) {
+        return Ok(());
+    }
+    put_named_line(text, old_mark(form), span_on(header, side), out)?;
+    put_named_line(text, new_mark(form), span_on(header, side.other()), out)
 }
 
 /// Writes the header lines of a file patch, counted from 0, as it is taken from a side. A form with lines of names has the

@@ -24,9 +24,6 @@ use Rattle.format_convert.specs.declared.place.Place.{Place}
 pub offset-fits : (i n : ℕ) → i < n → n < 2 ^ 32 → Fits w64 (i * 32)
 offset-fits i n lt few = omega arith
 
-pub patch-fits : (i n : ℕ) → i < n → n < 2 ^ 32 → Fits w64 (i * 264)
-patch-fits i n lt few = omega arith
-
 pub next-fits : (i n : ℕ) → i < n → n < 2 ^ 64 → Fits w64 (i + 1)
 next-fits i n lt few = omega arith
 

@@ -1,12 +1,16 @@
 -- Lines without their line feed, hunks that fall back and commands that are too large, seen one by one.
-use Rattle.std.proofs.Common.{◌≡◌, ℕ, ◌+◌, ◌-◌, Bool, true, false, not, ◌||◌, ◌&&◌, cond, List, [], ◌∷◌, ◌++◌, length, map, refl, sym, ap, ◌∙◌, append_assoc}
-use Rattle.std.specs.Prelude.{filter, nat_lt}
+use Rattle.std.proofs.Common.{◌≡◌, ◌<◌, ℕ, ◌+◌, ◌-◌, Bool, true, false, not, ◌||◌, ◌&&◌, cond, List, [], ◌∷◌, ◌++◌, get_or, length, map, refl, sym, ap, ◌∙◌, append_assoc}
+use Rattle.std.specs.Prelude.{◌==◌, filter, nat_lt, if◌then◌else◌}
 use Rattle.std.specs.List.{flat_map, list_any, zip}
 use Rattle.std.proofs.lemmas.List.Concat.{flat_map-cons}
 use Rattle.hunk_core.specs.declared.Form.{Form}
 use Rattle.hunk_core.specs.declared.Form.TheVariants.{Unified, Context, Normal, Ed}
 use Rattle.hunk_core.specs.declared.Hunk.{Hunk}
 use Rattle.hunk_core.specs.declared.Side.{Side}
+use Rattle.hunk_core.specs.declared.Side.TheVariants.{Forward}
+use Rattle.hunk_core.specs.Sides.{start_of, taken_count}
+use Rattle.hunk_core.proofs.SideLemmas.{lines-counted}
+use Rattle.hunk_core.proofs.TurnedLemmas.{turned-base}
 use Rattle.hunk_core.specs.LineTests.{ends_line}
 use Rattle.hunk_core.specs.PlainHunk.{Marked, PlainHunk, hunk_of, hunks_of, old_lines}
 use Rattle.hunk_core.specs.Rules.{lacks_inner_end, is_too_large}
@@ -18,8 +22,9 @@ use Rattle.format_convert.specs.Commands.{range_start}
 use Rattle.format_convert.specs.Seeing.{ends_open, is_over_ed, is_large as large_of}
 use Rattle.format_convert.specs.declared.block.Block.{Block as Size}
 use Rattle.format_convert.specs.declared.normal.Net.{Net}
-use Rattle.format_convert.specs.Walk.{kept_flags, left_hunks, pairs}
+use Rattle.format_convert.specs.Walk.{IsKept, first_base, first_count, kept_flags, left_hunks, own_base, own_count, pairs}
 use Rattle.format_convert.specs.declared.kept.Kept.{Kept}
+use Rattle.format_convert.proofs.Rows.{pair-at}
 
 -- ---- lines
 
@@ -93,6 +98,16 @@ rows-are text (b ∷ fs) (h ∷ hs) =
 
 pub left-are : (k : Kept) → left_hunks k ≡ flat_map (hunks_if k.set.now.text) (pairs k)
 left-are k = rows-are k.set.now.text (kept_flags k) k.hunks.now
+
+abbrev base_on : Side → Hunk → ℕ
+base_on side h = if taken_count side h.body.items == 0 then start_of side h + 1 else start_of side h
+
+-- where a hunk stands, and how many old lines it has
+pub base-at : (k : Kept) (is : IsKept k) (i : ℕ) (h : Hunk) → i < length k.hunks.now → h ≡ get_or k.hunks.now i h → base_on Forward (get_or k.hunks.now i h) ≡ own_base k i
+base-at k is i h lt at = ap (base_on Forward) (sym at) ∙ sym (turned-base k.set.now.text Forward h) ∙ sym (ap (first_base k.set.now.text) (pair-at k is i h lt at))
+
+pub count-at : (k : Kept) (is : IsKept k) (i : ℕ) (h : Hunk) → i < length k.hunks.now → h ≡ get_or k.hunks.now i h → taken_count Forward (get_or k.hunks.now i h).body.items ≡ own_count k i
+count-at k is i h lt at = ap (λ (x : Hunk). taken_count Forward x.body.items) (sym at) ∙ sym (lines-counted k.set.now.text Forward h.body.items) ∙ sym (ap (first_count k.set.now.text) (pair-at k is i h lt at))
 
 pub falls-none : (end : ℕ) → falls_behind end [] ≡ false
 unfolding falls_behind

@@ -210,3 +210,7 @@ none-misfit k s u shown = and-none k (not s && u) (ap (λ x. not x && u) shown)
 pub no-text : (form : Form) (h : PlainHunk) → (form ≡ Normal) ⊎ (form ≡ Ed) → hunk_text form h ≡ []
 no-text form h (inl is) = ap (λ (f : Form). hunk_text f h) is
 no-text form h (inr is) = ap (λ (f : Form). hunk_text f h) is
+
+-- what is written where both hold
+pub both-hold : (a b : Bool) (text : List ℕ) → a ≡ true → b ≡ true → text ≡ cond a (cond b text []) []
+both-hold a b text kept written = ap (λ (x : Bool). cond x text []) (sym written) ∙ ap (λ (x : Bool). cond x (cond b text []) []) (sym kept)

@@ -3,7 +3,7 @@
 ghost use Rattle.std.specs.Prelude.{◌≡◌, ◌≤◌, ◌<◌, ◌+◌, ◌^◌, ℕ, List, [], false, length, MatchOption, if◌then◌else◌};
 ghost use Rattle.format_convert.specs.Blocks.{behind};
 ghost use Rattle.format_convert.specs.Fronts.{begins_at, front};
-ghost use Rattle.format_convert.specs.Walk.{IsBlock, IsFoundIn, IsKept, IsNextBlock, edit_at, edits_left};
+ghost use Rattle.format_convert.specs.Walk.{IsFoundIn, IsKept, IsNextBlock, edit_at, edits_left};
 
 use crate::edits::next_edit;
 use crate::kept::Kept;
@@ -65,14 +65,14 @@ fn with_edit(block: Block, found: Found) -> Block
     }
 }
 
-/// The block that begins in this gap.
-fn block_in(kept: Kept, place: Place, first: u64) -> Block
-    requires kept { IsKept kept }
-    requires near { first ≤ 2 ^ 43 }
-    ensures { IsBlock kept.entry place first result }
+/// The next block, unless no edit is left.
+pub fn next_block(kept: Kept, place: Place) -> Option<Block>
+    requires { IsKept kept }
+    ensures { MatchOption result (edits_left kept.entry place ≡ []) (IsNextBlock kept.entry place) }
 {
+    let next = next_edit(kept, place)?;
     let mut block = Block {
-        first,
+        first: next.edit.at,
         drops: 0,
         adds: 0,
         behind: place,
@@ -80,14 +80,5 @@ fn block_in(kept: Kept, place: Place, first: u64) -> Block
     while let Some(found) = edit_in(kept, block.behind, block.first + block.drops) {
         block = with_edit(block, found);
     }
-    block
-}
-
-/// The next block, unless no edit is left.
-pub fn next_block(kept: Kept, place: Place) -> Option<Block>
-    requires { IsKept kept }
-    ensures { MatchOption result (edits_left kept.entry place ≡ []) (IsNextBlock kept.entry place) }
-{
-    let found = next_edit(kept, place)?;
-    Some(block_in(kept, place, found.edit.at))
+    Some(block)
 }

@@ -4,8 +4,7 @@ ghost use Rattle.std.specs.Prelude.{◌≡◌, ◌<◌, Some, List, length, not,
 ghost use Rattle.std.specs.Option.{ForSome};
 ghost use Rattle.hunk_core.specs.PlainHunk.{hunks_of};
 ghost use Rattle.outside.specs.Puts.{Puts};
-ghost use Rattle.ed_form.specs.PlainEdit.{IsLawfulScript, edits_of};
-ghost use Rattle.file_patch.specs.PlainPatch.{change_of, hunks, patch_of, script};
+ghost use Rattle.file_patch.specs.PlainPatch.{change_of, hunks, patch_of};
 ghost use Rattle.file_patch.specs.declared.Change.TheVariants.{Hunks as HunksOf};
 ghost use Rattle.patch_set.specs.SetView.{patch_at};
 ghost use Rattle.tool_words.specs.PlainJobs.{plain_filter_job};
@@ -18,11 +17,11 @@ ghost use Rattle.format_convert.specs.Walk.{IsHunks, IsKept, left_hunks};
 use crate::ed::put_ed;
 use crate::edits::{hunk_start, next_edit};
 use crate::fitting::are_unfit;
-use crate::kept::{Kept, patch_at};
+use crate::kept::Kept;
 use crate::normal::put_normal;
 use crate::script::{changes, put_script};
-use ed_form::EdScript;
 use file_patch::Change;
+use filter_choice::patch_at;
 use hunk_core::{Form, Hunk};
 use outside::{Failed, Sink};
 use patch_set::PatchSet;
@@ -56,20 +55,16 @@ pub fn is_unfit(set: &PatchSet, job: &FilterJob, patch: u32, form: Form) -> bool
     }
 }
 
-fn has_edit(kept: Kept) -> bool
-    requires { IsKept kept }
-    ensures { result ≡ not (length (blocks_in (hunks (left_hunks kept.entry))) == 0) }
-{
-    next_edit(kept, hunk_start(kept, 0)).is_some()
-}
-
 /// Whether the kept hunks of a file patch, counted from 0, drop or add a line; an ed script is kept whole.
 pub fn has_blocks(set: &PatchSet, job: &FilterJob, patch: u32) -> bool
     requires { patch < length set.now.patches }
     ensures { ForSome (patch_at set.now patch) (λ p. result ≡ not (length (blocks_in (left_patch (plain_filter_job job.now) patch (patch_of set.now.text p)).change) == 0)) }
 {
     match &patch_at(set, patch).change {
-        Change::Hunks(hunks) => has_edit(kept_of(set, job, patch, hunks)),
+        Change::Hunks(hunks) => {
+            let kept = kept_of(set, job, patch, hunks);
+            next_edit(kept, hunk_start(kept, 0)).is_some()
+        }
         Change::Script(script) => changes(script),
     }
 }
@@ -83,18 +78,6 @@ fn put_hunks<O: Sink>(kept: Kept, form: Form, out: &mut O) -> Result<(), Failed>
         Form::Context => Ok(()),
         Form::Normal => put_normal(kept, out),
         Form::Ed => put_ed(kept, out),
-    }
-}
-
-fn put_again<O: Sink>(text: &[u8], again: &EdScript, form: Form, out: &mut O) -> Result<(), Failed>
-    requires { IsLawfulScript text.now again.now }
-    ensures { Puts O.view O.same_rest out.old out.new result (command_text form (script (edits_of text.now again.now.edits.items))) }
-{
-    match form {
-        Form::Unified => Ok(()),
-        Form::Context => Ok(()),
-        Form::Normal => Ok(()),
-        Form::Ed => put_script(text, again, out),
     }
 }
 
@@ -112,6 +95,11 @@ pub fn put_commands<O: Sink>(
 {
     match &patch_at(set, patch).change {
         Change::Hunks(hunks) => put_hunks(kept_of(set, job, patch, hunks), form, out),
-        Change::Script(script) => put_again(set.text(), script, form, out),
+        Change::Script(script) => match form {
+            Form::Unified => Ok(()),
+            Form::Context => Ok(()),
+            Form::Normal => Ok(()),
+            Form::Ed => put_script(set.text(), script, out),
+        },
     }
 }

@@ -6,10 +6,10 @@ ghost use Rattle.hunk_core.specs.Sides.{is_on_side};
 ghost use Rattle.hunk_core.specs.Turned.{LiesIn, base, is_keep};
 ghost use Rattle.outside.specs.Puts.{Puts};
 ghost use Rattle.ed_form.specs.Texts.{is_dot};
-ghost use Rattle.format_convert.specs.Backward.{StandsBehind, closing, closing_if, first_text, grown};
+ghost use Rattle.format_convert.specs.Backward.{StandsBehind, closing_if, first_text, grown};
 ghost use Rattle.format_convert.specs.Blocks.{blocks_of, body_edits, hunk_edits};
-ghost use Rattle.format_convert.specs.Commands.{ed_command, ed_head, ed_line, ed_lines, ed_text};
-ghost use Rattle.format_convert.specs.Fronts.{begins_at, front, front_block};
+ghost use Rattle.format_convert.specs.Commands.{ed_head, ed_line, ed_lines, ed_text};
+ghost use Rattle.format_convert.specs.Fronts.{front};
 ghost use Rattle.format_convert.specs.Walk.{IsBlock, IsKept, edits_if, edits_left, edits_of, left_hunks, pair_left, pairs};
 
 use crate::block::{Block, edit_in, gap_behind, next_block};
@@ -110,46 +110,22 @@ fn put_added<O: Sink>(kept: Kept, place: Place, block: Block, out: &mut O) -> Re
     Ok(())
 }
 
-fn put_block<O: Sink>(kept: Kept, place: Place, block: Block, out: &mut O) -> Result<(), Failed>
-    requires kept { IsKept kept }
-    requires block { IsBlock kept place block.first block }
-    ensures { Puts O.view O.same_rest out.old out.new result (ed_command (front_block block.first (edits_left kept.entry place))) }
-{
-    put_head(block.first, block.drops, block.adds, out)?;
-    put_added(kept, place, block, out)
-}
-
 /// The first block behind a place, if there is one.
 fn put_next<O: Sink>(kept: Kept, place: Place, out: &mut O) -> Result<(), Failed>
     requires { IsKept kept }
     ensures { Puts O.view O.same_rest out.old out.new result (first_text (blocks_of (edits_left kept.entry place))) }
 {
     match next_block(kept, place) {
-        Some(block) => put_block(kept, place, block, out),
+        Some(block) => {
+            put_head(block.first, block.drops, block.adds, out)?;
+            put_added(kept, place, block, out)
+        }
         None => Ok(()),
     }
 }
 
-/// Whether the first edit behind a place stands in this gap, or is of the line behind it.
-fn begins_in(kept: Kept, place: Place, gap: u64) -> bool
-    requires { IsKept kept }
-    ensures { result ≡ begins_at gap (edits_left kept.entry place) }
-{
-    edit_in(kept, place, gap).is_some()
-}
-
-/// Writes the first block behind a place, unless an edit in front, behind which this gap is, belongs to it.
-fn put_unless<O: Sink>(kept: Kept, front: Place, gap: u64, out: &mut O) -> Result<(), Failed>
-    requires { IsKept kept }
-    ensures { Puts O.view O.same_rest out.old out.new result (closing gap (edits_left kept.entry front)) }
-{
-    if begins_in(kept, front, gap) {
-        return Ok(());
-    }
-    put_next(kept, front, out)
-}
-
-/// Goes back over a line of a kept hunk, in front of which `place` is, while `next` is the line of the file behind it.
+/// Goes back over a line of a kept hunk, in front of which `place` is, while `next` is the line of the file behind it. A changed
+/// line closes the first block behind `front`, which is written, unless it belongs to that one.
 fn put_behind<O: Sink>(
     kept: Kept,
     front: Place,
@@ -165,7 +141,10 @@ fn put_behind<O: Sink>(
     match mark {
         Mark::Keep => Ok(front),
         Mark::Drop | Mark::Add => {
-            put_unless(kept, front, next, out)?;
+            if edit_in(kept, front, next).is_some() {
+                return Ok(place);
+            }
+            put_next(kept, front, out)?;
             Ok(place)
         }
     }

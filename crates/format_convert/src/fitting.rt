@@ -8,35 +8,18 @@ ghost use Rattle.file_patch.specs.PlainPatch.{hunks};
 ghost use Rattle.hunk_core.specs.Rules.{is_too_large};
 ghost use Rattle.format_convert.specs.Blocks.{blocks_of, hunk_edits};
 ghost use Rattle.format_convert.specs.Commands.{range_start};
-ghost use Rattle.format_convert.specs.Fitting.{changed_lines, falls_back, has_open, has_large_command, has_open_line, is_ed, is_own, is_unfit, own_lines};
+ghost use Rattle.format_convert.specs.Fitting.{changed_lines, falls_back, has_open, has_large_command, has_open_line, is_own, is_unfit, own_lines};
 ghost use Rattle.format_convert.specs.Seeing.{Sees, is_large, is_over_ed};
 ghost use Rattle.format_convert.specs.Walk.{IsKept, IsSmall, hunk_at, kept_flags, left_hunks, new_start, own_base, own_count};
 
 use crate::block::{Block, next_block};
 use crate::edits::hunk_start;
+use crate::forms::is_ed;
 use crate::kept::{Kept, is_kept};
 use crate::lines::line_at;
 use crate::normal::{Net, net_behind, new_first, no_net};
 use crate::numbers::range_start;
 use hunk_core::{Form, Hunk, HunkLine, Mark, Side, has_feed};
-
-fn base_of(kept: Kept, hunk: usize) -> u64
-    requires kept { IsKept kept }
-    requires within { hunk < length kept.hunks.now }
-    ensures is { result ≡ own_base kept.entry hunk }
-    ensures small { result ≤ 2 ^ 32 }
-{
-    kept.hunks[hunk].base(Side::Forward)
-}
-
-fn old_count(kept: Kept, hunk: usize) -> u64
-    requires kept { IsKept kept }
-    requires within { hunk < length kept.hunks.now }
-    ensures is { result ≡ own_count kept.entry hunk }
-    ensures small { result < 2 ^ 32 }
-{
-    u64::from(kept.hunks[hunk].count(Side::Forward))
-}
 
 /// Whether a hunk is kept and stands before line `end`.
 fn stands_before(kept: Kept, hunk: usize, end: u64) -> bool
@@ -47,7 +30,8 @@ fn stands_before(kept: Kept, hunk: usize, end: u64) -> bool
     if !is_kept(kept, hunk) {
         return false;
     }
-    base_of(kept, hunk) < end
+    let own = &kept.hunks[hunk];
+    own.base(Side::Forward) < end
 }
 
 /// The line behind a hunk where it is kept, else the one that was there before.
@@ -59,7 +43,8 @@ fn end_behind(kept: Kept, hunk: usize, end: u64) -> u64
     if !is_kept(kept, hunk) {
         return end;
     }
-    base_of(kept, hunk) + old_count(kept, hunk)
+    let own = &kept.hunks[hunk];
+    own.base(Side::Forward) + u64::from(own.count(Side::Forward))
 }
 
 /// Whether a kept hunk stands before the end of the old lines of the kept hunk in front of it.
@@ -168,15 +153,6 @@ fn either_open(adds: Seen, drops: Seen, to_script: bool) -> bool
     ensures { result ≡ ((to_script && adds.open_end) || (drops.open_inside || adds.open_inside)) }
 {
     (to_script && adds.open_end) || (drops.open_inside || adds.open_inside)
-}
-
-fn is_ed(form: Form) -> bool
-    ensures { result ≡ is_ed form }
-{
-    match form {
-        Form::Unified | Form::Context | Form::Normal => false,
-        Form::Ed => true,
-    }
 }
 
 fn is_over(start: u64, count: u64) -> bool

@@ -15,28 +15,14 @@ ghost use Rattle.format_convert.specs.Walk.{IsHunks};
 ghost use Rattle.format_convert.specs.Converted.{hunk_texts};
 ghost use Rattle.patch_header.specs.Written.{hunk_text};
 
-use crate::patch_at;
 use file_patch::{Change, FilePatch};
-use filter_choice::keeps;
+use filter_choice::{keeps, patch_at};
 use hunk_core::{Form, Hunk, Side};
 use outside::{Failed, Sink};
 use patch_set::PatchSet;
 use tool_words::FilterJob;
 
-/// A hunk in its canonical text; the forms of commands have none.
-fn put_in_form<O: Sink>(text: &[u8], hunk: &Hunk, form: Form, out: &mut O) -> Result<(), Failed>
-    requires { IsLawful text.now hunk.now }
-    ensures { Puts O.view O.same_rest out.old out.new result (hunk_text form (hunk_of text.now hunk.now)) }
-{
-    let starts = (hunk.old_start, hunk.new_start);
-    match form {
-        Form::Unified => unified_form::put_hunk(hunk, text, Side::Forward, starts, out),
-        Form::Context => context_form::put_hunk(hunk, text, Side::Forward, starts, out),
-        Form::Normal | Form::Ed => Ok(()),
-    }
-}
-
-/// A hunk of a file patch, both counted from 0, if it is kept.
+/// A hunk of a file patch, both counted from 0, in its canonical text if it is kept; the forms of commands have none.
 fn put_if_kept<O: Sink>(
     set: &PatchSet,
     job: &FilterJob,
@@ -54,7 +40,13 @@ fn put_if_kept<O: Sink>(
     if !keeps(set, job, patch, number) {
         return Ok(());
     }
-    put_in_form(set.text(), hunk, form, out)
+    let text = set.text();
+    let starts = (hunk.old_start, hunk.new_start);
+    match form {
+        Form::Unified => unified_form::put_hunk(hunk, text, Side::Forward, starts, out),
+        Form::Context => context_form::put_hunk(hunk, text, Side::Forward, starts, out),
+        Form::Normal | Form::Ed => Ok(()),
+    }
 }
 
 fn put_each<O: Sink>(

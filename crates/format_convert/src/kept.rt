@@ -1,8 +1,7 @@
 //! Which hunks of a file patch are kept.
 
-ghost use Rattle.std.specs.Prelude.{◌≡◌, ◌<◌, Some, false, length, slice_index_or};
+ghost use Rattle.std.specs.Prelude.{◌≡◌, ◌<◌, false, length, slice_index_or};
 ghost use Rattle.std.specs.Option.{ForSome};
-ghost use Rattle.file_patch.specs.Absent.{IsLawfulPatch};
 ghost use Rattle.file_patch.specs.PlainPatch.{patch_of};
 ghost use Rattle.patch_set.specs.SetView.{patch_at};
 ghost use Rattle.tool_words.specs.PlainJobs.{plain_filter_job};
@@ -10,7 +9,7 @@ ghost use Rattle.format_convert.specs.Taken.{has_kept};
 ghost use Rattle.format_convert.specs.Walk.{IsKept, kept_flags};
 
 use file_patch::FilePatch;
-use filter_choice::keeps;
+use filter_choice::{keeps, patch_at};
 use hunk_core::Hunk;
 use patch_set::PatchSet;
 use tool_words::FilterJob;
@@ -23,15 +22,6 @@ pub struct Kept<'a> {
     pub patch: u32,
     pub row: &'a FilePatch,
     pub hunks: &'a [Hunk],
-}
-
-/// A file patch, counted from 0.
-pub fn patch_at(set: &PatchSet, patch: u32) -> &FilePatch
-    requires { patch < length set.now.patches }
-    ensures is { patch_at set.now patch ≡ Some result.now }
-    ensures lawful { IsLawfulPatch set.now.text result.now }
-{
-    &set.patches()[patch as usize]
 }
 
 /// Whether a hunk of a file patch is kept, both counted from 0.

@@ -26,4 +26,4 @@ mod writing;
 pub use commands::{has_blocks, is_unfit, put_commands};
 pub use convert::convert_patches;
 pub use fault::ConvertFault;
-pub use kept::{has_kept, patch_at};
+pub use kept::has_kept;

@@ -58,24 +58,17 @@ fn ending(line: &[u8]) -> &'static [u8]
     if has_feed(line) { b"" } else { NO_NEWLINE }
 }
 
-/// A line behind the mark of this side.
-fn put_marked<O: Sink>(out: &mut O, line: &[u8], side: Side) -> Result<(), Failed>
-    ensures { Puts O.view O.same_rest out.old out.new result (line_text side line.now) }
-{
-    put_piece(out, marks_of(side))?;
-    put_both(out, line, ending(line))
-}
-
-/// The line of an edit if it is of this side.
+/// The line of an edit behind the mark of this side, if it is of it.
 fn put_if<O: Sink>(out: &mut O, text: &[u8], edit: LineEdit, side: Side) -> Result<(), Failed>
     requires { LiesIn text.now edit.span }
     ensures { Puts O.view O.same_rest out.old out.new result (flat_map (line_text side) (line_on side (edit_at text.now edit))) }
 {
-    if is_on(edit, side) {
-        put_marked(out, line_at(text, edit.span), side)
-    } else {
-        Ok(())
+    if !is_on(edit, side) {
+        return Ok(());
     }
+    let line = line_at(text, edit.span);
+    put_piece(out, marks_of(side))?;
+    put_both(out, line, ending(line))
 }
 
 /// Whether an edit drops a line, or of the other side whether it adds one.

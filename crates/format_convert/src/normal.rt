@@ -6,7 +6,7 @@ ghost use Rattle.hunk_core.specs.Letters.{letter};
 ghost use Rattle.normal_form.specs.Canonical.{action_for, command_text, divider_text};
 ghost use Rattle.hunk_core.specs.Spans.{span_text};
 ghost use Rattle.format_convert.specs.Blocks.{blocks_of, hunk_edits};
-ghost use Rattle.format_convert.specs.Commands.{normal_command, normal_text, range_start, side_text};
+ghost use Rattle.format_convert.specs.Commands.{normal_command, normal_text, range_start};
 ghost use Rattle.format_convert.specs.Fronts.{front_block};
 ghost use Rattle.format_convert.specs.Walk.{IsBlock, IsKept, IsSmall, edits_left, left_hunks, new_start};
 
@@ -93,26 +93,6 @@ fn put_head<O: Sink>(net: Net, block: Block, out: &mut O) -> Result<(), Failed>
     put_both(out, command_of(net, block).as_slice(), b"\n")
 }
 
-/// What stands behind the old lines of a block's command.
-fn put_news<O: Sink>(kept: Kept, place: Place, block: Block, out: &mut O) -> Result<(), Failed>
-    requires kept { IsKept kept }
-    requires near { block.first ≤ 2 ^ 43 }
-    ensures { Puts O.view O.same_rest out.old out.new result (divider_text (action_for block.drops block.adds) ++ side_text Side.Reversed block.first (edits_left kept.entry place)) }
-{
-    put_piece(out, divider(block))?;
-    put_side(kept, place, block.first, Side::Reversed, out)
-}
-
-/// What stands behind the numbers of a block's command.
-fn put_lines<O: Sink>(kept: Kept, place: Place, block: Block, out: &mut O) -> Result<(), Failed>
-    requires kept { IsKept kept }
-    requires near { block.first ≤ 2 ^ 43 }
-    ensures { Puts O.view O.same_rest out.old out.new result (side_text Side.Forward block.first (edits_left kept.entry place) ++ (divider_text (action_for block.drops block.adds) ++ side_text Side.Reversed block.first (edits_left kept.entry place))) }
-{
-    put_side(kept, place, block.first, Side::Forward, out)?;
-    put_news(kept, place, block, out)
-}
-
 /// The command of a block with its lines.
 fn put_block<O: Sink>(
     kept: Kept,
@@ -127,7 +107,9 @@ fn put_block<O: Sink>(
     ensures { Puts O.view O.same_rest out.old out.new result (normal_command net.adds net.drops (front_block block.first (edits_left kept.entry place))) }
 {
     put_head(net, block, out)?;
-    put_lines(kept, place, block, out)
+    put_side(kept, place, block.first, Side::Forward, out)?;
+    put_piece(out, divider(block))?;
+    put_side(kept, place, block.first, Side::Reversed, out)
 }
 
 /// A command for each block of the kept hunks.

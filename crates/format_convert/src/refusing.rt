@@ -10,8 +10,9 @@ ghost use Rattle.format_convert.specs.Refusals.{is_unfit, lacks_context, refusal
 
 use crate::fault::ConvertFault;
 use crate::forms::{is_ed, is_normal, shows_context};
-use crate::{has_kept, is_unfit, patch_at};
+use crate::{has_kept, is_unfit};
 use file_patch::{Change, FilePatch};
+use filter_choice::patch_at;
 use hunk_core::Form;
 use patch_set::PatchSet;
 use tool_words::FilterJob;

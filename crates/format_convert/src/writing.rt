@@ -1,14 +1,13 @@
 //! The file patches of a set, written in a form.
 
-ghost use Rattle.std.specs.Prelude.{◌≡◌, ◌<◌, ◌++◌, length};
+ghost use Rattle.std.specs.Prelude.{◌≡◌, ◌<◌, length};
 ghost use Rattle.std.specs.Option.{ForSome};
 ghost use Rattle.patch_set.specs.SetView.{patch_at};
 ghost use Rattle.tool_words.specs.PlainJobs.{plain_filter_job};
 ghost use Rattle.outside.specs.Puts.{Puts};
 ghost use Rattle.file_patch.specs.PlainPatch.{patch_of};
-ghost use Rattle.flip_patch.specs.HeaderText.{header_text};
 ghost use Rattle.format_convert.specs.Taken.{left_patch};
-ghost use Rattle.format_convert.specs.Converted.{change_text, converted, is_written, written, written_if};
+ghost use Rattle.format_convert.specs.Converted.{converted, is_written, written_if};
 
 use crate::forms::shows_context;
 use crate::hunks::put_hunks;
@@ -19,59 +18,12 @@ use outside::{Failed, Sink};
 use patch_set::PatchSet;
 use tool_words::FilterJob;
 
-fn put_change<O: Sink>(
-    set: &PatchSet,
-    job: &FilterJob,
-    patch: u32,
-    form: Form,
-    out: &mut O,
-) -> Result<(), Failed>
-    requires { patch < length set.now.patches }
-    ensures { ForSome (patch_at set.now patch) (λ p. Puts O.view O.same_rest out.old out.new result (change_text form (left_patch (plain_filter_job job.now) patch (patch_of set.now.text p)).change)) }
-{
-    if shows_context(form) {
-        put_hunks(set, job, patch, form, out)
-    } else {
-        put_commands(set, job, patch, form, out)
-    }
-}
-
-fn put_patch<O: Sink>(
-    set: &PatchSet,
-    job: &FilterJob,
-    patch: u32,
-    form: Form,
-    out: &mut O,
-) -> Result<(), Failed>
-    requires { patch < length set.now.patches }
-    ensures { ForSome (patch_at set.now patch) (λ p. Puts O.view O.same_rest out.old out.new result (header_text set.now.text form Side.Forward p.header ++ change_text form (left_patch (plain_filter_job job.now) patch (patch_of set.now.text p)).change)) }
-{
-    put_header_lines(set, patch, form, Side::Forward, out)?;
-    put_change(set, job, patch, form, out)
-}
-
 /// Whether anything is written of a file patch of which a hunk is kept.
 fn is_written(set: &PatchSet, job: &FilterJob, patch: u32, form: Form) -> bool
     requires { patch < length set.now.patches }
     ensures { ForSome (patch_at set.now patch) (λ p. result ≡ is_written form (left_patch (plain_filter_job job.now) patch (patch_of set.now.text p)).change) }
 {
     shows_context(form) || has_blocks(set, job, patch)
-}
-
-fn put_if_written<O: Sink>(
-    set: &PatchSet,
-    job: &FilterJob,
-    patch: u32,
-    form: Form,
-    out: &mut O,
-) -> Result<(), Failed>
-    requires { patch < length set.now.patches }
-    ensures { ForSome (patch_at set.now patch) (λ p. Puts O.view O.same_rest out.old out.new result (written form set.now.text p.header (left_patch (plain_filter_job job.now) patch (patch_of set.now.text p)).change)) }
-{
-    if !is_written(set, job, patch, form) {
-        return Ok(());
-    }
-    put_patch(set, job, patch, form, out)
 }
 
 /// What is written of a file patch, counted from 0, if a hunk is kept.
@@ -88,7 +40,15 @@ fn put_if_kept<O: Sink>(
     if !has_kept(set, job, patch) {
         return Ok(());
     }
-    put_if_written(set, job, patch, form, out)
+    if !is_written(set, job, patch, form) {
+        return Ok(());
+    }
+    put_header_lines(set, patch, form, Side::Forward, out)?;
+    if shows_context(form) {
+        put_hunks(set, job, patch, form, out)
+    } else {
+        put_commands(set, job, patch, form, out)
+    }
 }
 
 /// What is written of all file patches.

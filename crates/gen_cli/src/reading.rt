@@ -16,7 +16,11 @@ pub fn read_job(alloc: Global, words: &[String]) -> Result<GenJob, Why>
     ensures refused { IfErr result (λ why. (why ≡ Why.Memory) ⊎ ((fault : WordFault) × (why ≡ of_words fault) × (job_of (map string_bytes words.now) ≡ Err fault))) }
 {
     match read_tool_words(alloc, words) {
-        Ok(job) => made_by(&job),
+        Ok(job) => {
+            let made = made_by(&job);
+            drop(job);
+            made
+        }
         Err(fault) => Err(Why::from(fault)),
     }
 }

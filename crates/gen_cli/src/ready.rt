@@ -1,6 +1,6 @@
 //! What is made ready before the first file is put.
 ghost use Rattle.std.specs.Prelude.{◌≡◌, ◌⊎◌, map, Some, IfOk, IfErr};
-ghost use Rattle.patch_options.specs.PlainJob.{plain_options, IsLawful};
+ghost use Rattle.patch_options.specs.PlainJob.{plain_options};
 ghost use Rattle.patch_gen.specs.Tree.{made};
 ghost use Rattle.patch_set.specs.Refusals.{refusal};
 ghost use Rattle.patch_set.specs.declared.fault.SetFault.{SetFault as TheFault};
@@ -47,7 +47,7 @@ pub fn make_ready(alloc: Global, job: GenJob) -> Result<Work, Why>
         return Err(Why::Memory);
     };
     let options = options_for(job);
-    match read_made(alloc, made.patch, job, &options) {
+    match read_set(alloc, made.patch, &options) {
         Ok(set) => Ok(Work {
             options,
             set,
@@ -55,23 +55,11 @@ pub fn make_ready(alloc: Global, job: GenJob) -> Result<Work, Why>
             files: made.files,
             hunks: made.hunks,
         }),
-        Err(why) => {
+        Err(fault) => {
             drop(options);
             drop(places);
             drop(made.files);
-            Err(why)
+            Err(Why::from(fault))
         }
     }
-}
-
-/// The set of the made patch.
-fn read_made(alloc: Global, patch: Vec<u8>, job: GenJob, options: &Options) -> Result<PatchSet, Why>
-    requires lawful { IsLawful (plain_options options.now) }
-    requires options { plain_options options.now ≡ options_for (plain_gen_job job) }
-    requires patch { patch.items ≡ patch_text (plain_gen_job job) }
-    ensures set { IfOk result (IsMadeSet (plain_gen_job job)) }
-    ensures refused { IfErr result (λ why. (why ≡ Why.Memory) ⊎ ((fault : TheFault) × (why ≡ of_set fault) × (refusal (options_for (plain_gen_job job)) (patch_text (plain_gen_job job)) ≡ Some fault))) }
-{
-    let set = read_set(alloc, patch, options)?;
-    Ok(set)
 }

@@ -1,6 +1,5 @@
 //! A run of `patchgen`, from its words or its job to its answer.
 ghost use Rattle.std.specs.Prelude.{◌≡◌, ◌⊎◌, map, false, Ok, Err, string_bytes};
-ghost use Rattle.outside.specs.Quiet.{IsQuiet};
 ghost use Rattle.patch_options.specs.declared.options.WordFault.{WordFault};
 ghost use Rattle.tool_words.specs.PlainJobs.{plain_gen_job, IsSize};
 ghost use Rattle.run_answers.specs.Answers.{exit_status, of_words};
@@ -80,25 +79,9 @@ fn run_job<T: Tree, C: Scratch, O: Sink>(
     ensures rest { O.same_rest out.old out.new }
 {
     match settle(tree) {
-        Ok(()) => run_settled(alloc, job, tree, scratch, out),
-        Err(why) => (Err(why), scratch),
+        Ok(()) => {}
+        Err(why) => return (Err(why), scratch),
     }
-}
-
-/// Carries the job out on a settled tree.
-fn run_settled<T: Tree, C: Scratch, O: Sink>(
-    alloc: Global,
-    job: GenJob,
-    tree: &mut T,
-    scratch: C,
-    out: &mut O,
-) -> (Result<Applied, Why>, C)
-    requires size { IsSize (plain_gen_job job) }
-    requires quiet { IsQuiet (T.view tree.old) }
-    ensures carries { Carries (Ok (plain_gen_job job)) (world (T.view tree.old) (C.view scratch) (O.view out.old)) (world (T.view tree.new) (C.view result.1) (O.view out.new)) (why_of result.0) (receipt_of result.0) }
-    ensures scratch { has_scratch job.plan ≡ false → result.1 ≡ scratch }
-    ensures rest { O.same_rest out.old out.new }
-{
     match make_ready(alloc, job) {
         Ok(mut work) => {
             let ended = carry_out(alloc, job, &mut work, tree, scratch, out);

@@ -1,6 +1,6 @@
 //! What the verdicts and the files behind a run come to.
-ghost use Rattle.std.specs.Prelude.{◌≡◌, ℕ, length, count_by, Some, IfOk, IsErr};
-ghost use Rattle.outside.specs.Files.{Files, bytes_at};
+ghost use Rattle.std.specs.Prelude.{◌≡◌, ℕ, count_by, Some, IfOk, IsErr};
+ghost use Rattle.outside.specs.Files.{Files};
 ghost use Rattle.outside.specs.TreeView.{Rises};
 ghost use Rattle.outside.specs.Calls.{IsUntouched};
 ghost use Rattle.hunk_apply.specs.Session.{is_placed};
@@ -9,7 +9,7 @@ ghost use Rattle.gen_cli.specs.Summary.{is_moved, bytes_in, capped};
 
 use crate::places::Place;
 use hunk_core::Verdict;
-use outside::{Failed, Name, Tree};
+use outside::{Failed, Tree};
 
 /// How many hunks were placed.
 pub fn count_placed(verdicts: &[Verdict]) -> u64
@@ -40,7 +40,7 @@ fn has_moved(verdict: Verdict) -> bool
     }
 }
 
-/// The bytes of all files at these places, up to the greatest number.
+/// The bytes of all files at these places, up to the greatest number. One that is missing has none.
 pub fn total_size<T: Tree>(places: &[Place], tree: &mut T) -> Result<u64, Failed>
     ensures untouched { IsUntouched (T.view tree.old) (T.view tree.new) }
     ensures cause { IsErr result → Rises (T.view tree.old) (T.view tree.new) }
@@ -48,18 +48,8 @@ pub fn total_size<T: Tree>(places: &[Place], tree: &mut T) -> Result<u64, Failed
 {
     let mut total: u64 = 0;
     for k in 0..places.len() {
-        let size = size_at(&places[k].name, tree)?;
-        total = total.saturating_add(size);
+        let size = tree.size(&places[k].name)?;
+        total = total.saturating_add(size.unwrap_or(0));
     }
     Ok(total)
-}
-
-/// The bytes of a file; one that is missing has none.
-fn size_at<T: Tree>(name: &Name, tree: &mut T) -> Result<u64, Failed>
-    ensures untouched { IsUntouched (T.view tree.old) (T.view tree.new) }
-    ensures cause { IsErr result → Rises (T.view tree.old) (T.view tree.new) }
-    ensures size { IfOk result (λ size. (f : Files) → (T.view tree.old).told ≡ Some f → size ≡ length (bytes_at f name.now)) }
-{
-    let size = tree.size(name)?;
-    Ok(size.unwrap_or(0))
 }

@@ -1,6 +1,4 @@
 //! The line that tells what became of the made files.
-ghost use Rattle.std.specs.Prelude.{◌≡◌};
-ghost use Rattle.num_text.specs.Numbers.{decimal};
 ghost use Rattle.outside.specs.SinkView.{Writes};
 ghost use Rattle.gen_cli.specs.Summary.{field, line_of};
 
@@ -41,13 +39,6 @@ fn put_field<O: Sink>(out: &mut O, label: &[u8], number: u64) -> Result<(), Fail
     ensures rest { O.same_rest out.old out.new }
 {
     put_all(out, label)?;
-    put_decimal(out, number)
-}
-
-fn put_decimal<O: Sink>(out: &mut O, number: u64) -> Result<(), Failed>
-    ensures writes { Writes (O.view out.old) (O.view out.new) result (decimal number) }
-    ensures rest { O.same_rest out.old out.new }
-{
     let mut digits = [0; 20];
     let count = put_number(number, &mut digits);
     put_all(out, &digits[..count])

@@ -5,7 +5,7 @@ ghost use Rattle.line_store.specs.Taking.{IsSize};
 ghost use Rattle.packed_pages.specs.Layout.{IsLayout};
 
 /// So many lines on so many pages of one size in bytes.
-#[derive(Clone, Copy, Debug, PartialEq, Eq)]
+#[derive(Clone, Copy)]
 pub struct Layout {
     pub size: u64,
     pub pages: u64,

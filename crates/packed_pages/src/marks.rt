@@ -13,7 +13,7 @@ use line_store::Half;
 const MOST: usize = 64;
 
 /// A record of a page: how many stand before it, and its place.
-#[derive(Clone, Copy, Debug, Default, PartialEq, Eq)]
+#[derive(Clone, Copy, Default)]
 pub struct Mark {
     pub before: u64,
     pub at: usize,

@@ -9,7 +9,7 @@ ghost use Rattle.std.specs.Option.{option_map};
 use line_store::Half;
 
 /// A line and the place of its record on a page, whose lines go from `first` up to before `next`.
-#[derive(Clone, Copy, Debug, PartialEq, Eq)]
+#[derive(Clone, Copy)]
 pub struct Place {
     pub line: u64,
     pub at: usize,
@@ -19,7 +19,7 @@ pub struct Place {
 }
 
 /// The place of the line that each half holds.
-#[derive(Clone, Copy, Debug, PartialEq, Eq)]
+#[derive(Clone, Copy)]
 pub struct Places {
     pub first: Option<Place>,
     pub second: Option<Place>,

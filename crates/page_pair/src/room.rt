@@ -4,7 +4,7 @@ ghost use Rattle.std.specs.Prelude.{◌≡◌, ◌≤◌, ◌+◌, ◌^◌, min}
 ghost use Rattle.page_pair.specs.Room.{room_with, page_count};
 
 /// So many whole pages, and so many bytes of the next one.
-#[derive(Clone, Copy, Debug, PartialEq, Eq)]
+#[derive(Clone, Copy)]
 pub struct Room {
     pub pages: u64,
     pub filled: u64,

@@ -1,5 +1,5 @@
 -- Calls that ask a finder and write to a sink, one after the other.
-use Rattle.std.proofs.Common.{◌≡◌, ℕ, ◌+◌, ◌<◌, Bool, true, false, List, [], ◌++◌, length, drop, Some, Result, Ok, Err, IsErrAnd, IfErr, OnErr, refl, sym, ap, subst, ◌∙◌, arith}
+use Rattle.std.proofs.Common.{◌≡◌, ℕ, ◌+◌, ◌<◌, Bool, true, false, List, [], ◌++◌, length, drop, Some, Result, Ok, Err, IsErrAnd, IfErr, OnErr, refl, sym, ap, subst, ◌∙◌, append_assoc, arith}
 use Rattle.std.specs.Prelude.{slice_get, if◌then◌else◌}
 use Rattle.std.proofs.lemmas.Bool.{false≢true}
 use Rattle.std.specs.List.{flat_map}
@@ -26,6 +26,10 @@ fault-more : (e : GrepFault) (u v w : SinkView) → SinkPasses u v → IsFindFau
 fault-more Pattern u v w pass cause = cause
 fault-more Write u v w pass cause = λ small. omega (arith, cause small, pass.counts)
 fault-more Memory u v w pass cause = tt
+
+-- a text for one element more of a list, behind what stands in front of them all
+longer : {A : Type 0} (f : A → List ℕ) (xs : List A) (front : List ℕ) (i : ℕ) (x : A) → i < length xs → slice_get xs i ≡ Some x → (front ++ up_to f xs i) ++ f x ≡ front ++ up_to f xs (i + 1)
+longer f xs front i x lt is = append_assoc front (up_to f xs i) (f x) ∙ ap (λ t. front ++ t) (one-more f xs i x lt is)
 
 module _ {O : Type 0} {view : O → SinkView} {same : O → O → Type 0} where
   pub found-none : ((x : O) → same x x) → (v : FinderView) (old : O) → HasFound view same v v old old []
@@ -110,24 +114,24 @@ module _ {O : Type 0} {view : O → SinkView} {same : O → O → Type 0} where
   pub by-first : {a m n : FinderView} {mid new : O} {R : Type 0} {r : Result R GrepFault} (bytes : (List ℕ → Bool) → List ℕ) → IsAsked a m → Finds view same m n mid new r (bytes (test_of m)) → Finds view same m n mid new r (bytes (test_of a))
   by-first bytes asked p = subst (Finds view same _ _ _ _ _) (ap bytes (same-test asked)) p
 
-  -- ---- a loop that writes a text for each element of a list
+  -- ---- a loop that writes a text for each element of a list, behind what was written in front of it
 
-  module _ {A : Type 0} (f : A → List ℕ) (xs : List A) (on : GoesOn same) where
+  module _ {A : Type 0} (f : A → List ℕ) (xs : List A) (on : GoesOn same) (front : List ℕ) where
     pub found-goes-on : {a m n : FinderView} {old mid new : O} (i : ℕ) (x : A) {R : Type 0} (r : R) → i < length xs → slice_get xs i ≡ Some x
-        → HasFound view same a m old mid (up_to f xs i) → Finds view same m n mid new (Ok r) (f x) → HasFound view same a n old new (up_to f xs (i + 1))
+        → HasFound view same a m old mid (front ++ up_to f xs i) → Finds view same m n mid new (Ok r) (f x) → HasFound view same a n old new (front ++ up_to f xs (i + 1))
     found-goes-on i x r lt is before step =
         let after = has-found r step in
-        record { finder = asked-both before.finder after.finder; put = subst (HasPut view same _ _) (one-more f xs i x lt is) (has-more on before.put after.put) }
+        record { finder = asked-both before.finder after.finder; put = subst (HasPut view same _ _) (longer f xs front i x lt is) (has-more on before.put after.put) }
 
     pub found-stops : {a m n : FinderView} {old mid new : O} (i : ℕ) (x : A) {R S : Type 0} (e : GrepFault) → i < length xs → slice_get xs i ≡ Some x
-        → HasFound view same a m old mid (up_to f xs i) → Finds {R = R} view same m n mid new (Err e) (f x) → Finds {R = S} view same a n old new (Err e) (flat_map f xs)
+        → HasFound view same a m old mid (front ++ up_to f xs i) → Finds {R = R} view same m n mid new (Err e) (f x) → Finds {R = S} view same a n old new (Err e) (front ++ flat_map f xs)
     found-stops i x {R = R} {S = S} e lt is before step =
         let rest = flat_map f (drop (i + 1) xs) in
-        let whole : (up_to f xs i ++ f x) ++ rest ≡ flat_map f xs = ap (λ t. t ++ rest) (one-more f xs i x lt is) ∙ both f xs (i + 1) in
+        let whole : ((front ++ up_to f xs i) ++ f x) ++ rest ≡ front ++ flat_map f xs = ap (λ t. t ++ rest) (longer f xs front i x lt is) ∙ append_assoc front (up_to f xs (i + 1)) rest ∙ ap (λ t. front ++ t) (both f xs (i + 1)) in
         subst (Finds {R = S} view same _ _ _ _ (Err e)) whole (finds-stop e rest (finds-more {R = R} (Err e) on before step))
 
-    pub found-ends : {a n : FinderView} {old new : O} (i : ℕ) {R : Type 0} (r : R) → i ≡ length xs → HasFound view same a n old new (up_to f xs i) → Finds view same a n old new (Ok r) (flat_map f xs)
-    found-ends i r end before = subst (Finds view same _ _ _ _ (Ok r)) (ap (flat_map f) (take_all i xs (omega (arith, end)))) (finds-done r before)
+    pub found-ends : {a n : FinderView} {old new : O} (i : ℕ) {R : Type 0} (r : R) → i ≡ length xs → HasFound view same a n old new (front ++ up_to f xs i) → Finds view same a n old new (Ok r) (front ++ flat_map f xs)
+    found-ends i r end before = subst (Finds view same _ _ _ _ (Ok r)) (ap (λ t. front ++ flat_map f t) (take_all i xs (omega (arith, end)))) (finds-done r before)
 
 -- ---- the whole
 

@@ -1,17 +1,16 @@
 //! The text of a digest with file patches and hunks left out.
 
-ghost use Rattle.std.specs.Prelude.{◌≡◌, ◌+◌, ◌<◌, ◌≤◌, ◌^◌, ◌++◌, [], Some, false, length, slice_get, slice_index_or, suc};
+ghost use Rattle.std.specs.Prelude.{◌≡◌, ◌+◌, ◌<◌, ◌^◌, ◌++◌, [], Some, false, length, slice_get, slice_index_or, suc};
 ghost use Rattle.std.specs.List.{list_any};
 ghost use Rattle.std.specs.Option.{ForSome};
 ghost use Rattle.outside.specs.SinkView.{Writes};
 ghost use Rattle.outside.specs.Puts.{Puts};
 ghost use Rattle.file_patch.specs.PlainPatch.{header_of};
-ghost use Rattle.patch_text.specs.Changes.{AreCut};
 ghost use Rattle.patch_text.specs.Digests.{IsDigest};
 ghost use Rattle.tool_words.specs.PlainJobs.{plain_filter_job};
 ghost use Rattle.filter_choice.specs.Kept.{is_taken};
-ghost use Rattle.patch_filters.specs.Filtered.{asks_no_hunk, chosen, pieces, region, text_if, written_bare};
-ghost use Rattle.patch_filters.specs.Digested.{digest_hunks, digest_if_taken, digest_kept, digest_written, filtered_digest};
+ghost use Rattle.patch_filters.specs.Filtered.{asks_no_hunk, chosen, pieces, region, text_if};
+ghost use Rattle.patch_filters.specs.Digested.{digest_if_taken, digest_kept, digest_written, filtered_digest};
 
 use crate::hunks::is_row_kept;
 use crate::pieces::{bytes_at, put_piece};
@@ -58,34 +57,8 @@ fn put_if_kept<O: Sink>(
     if !is_row_kept(text, job, patch, olds, hunk) {
         return Ok(());
     }
-    put_span(text, patch, hunk, out)
-}
-
-/// Writes a hunk, counted from 0.
-fn put_span<O: Sink>(text: &[u8], patch: &FilePatch, hunk: usize, out: &mut O) -> Result<(), Failed>
-    requires cut { AreCut patch.now.header patch.now.hunk_spans.items patch.now.span.end }
-    requires high { patch.now.span.end ≤ length text.now }
-    requires within { hunk < length patch.now.hunk_spans.items }
-    ensures { Puts O.view O.same_rest out.old out.new result (slice_index_or (pieces text.now patch.now) hunk []) }
-{
     let span = patch.hunk_spans[hunk];
     put_piece(out, bytes_at(text, span))
-}
-
-fn put_chosen<O: Sink>(
-    text: &[u8],
-    job: &FilterJob,
-    patch: &FilePatch,
-    olds: &[OldRange],
-    out: &mut O,
-) -> Result<(), Failed>
-    requires { IsDigest text.now patch.now olds.now }
-    ensures { Puts O.view O.same_rest out.old out.new result (chosen (digest_kept (plain_filter_job job.now) text.now patch.now olds.now) (pieces text.now patch.now)) }
-{
-    for hunk in 0..patch.hunk_spans.len() {
-        put_if_kept(text, job, patch, olds, hunk, out)?;
-    }
-    Ok(())
 }
 
 /// Writes the region and the kept hunks.
@@ -100,46 +73,16 @@ fn put_parts<O: Sink>(
     ensures { Puts O.view O.same_rest out.old out.new result (region text.now patch.now ++ chosen (digest_kept (plain_filter_job job.now) text.now patch.now olds.now) (pieces text.now patch.now)) }
 {
     put_piece(out, &text[patch.span.start as usize..patch.header.at])?;
-    put_chosen(text, job, patch, olds, out)
-}
-
-fn put_hunks<O: Sink>(
-    text: &[u8],
-    job: &FilterJob,
-    patch: &FilePatch,
-    olds: &[OldRange],
-    out: &mut O,
-) -> Result<(), Failed>
-    requires { IsDigest text.now patch.now olds.now }
-    ensures { Puts O.view O.same_rest out.old out.new result (digest_hunks (plain_filter_job job.now) text.now patch.now olds.now) }
-{
-    if !has_kept(text, job, patch, olds) {
-        return Ok(());
+    for hunk in 0..patch.hunk_spans.len() {
+        put_if_kept(text, job, patch, olds, hunk, out)?;
     }
-    put_parts(text, job, patch, olds, out)
+    Ok(())
 }
 
 fn asks_no_hunk(job: &FilterJob) -> bool
     ensures { result ≡ asks_no_hunk (plain_filter_job job.now) }
 {
     job.hunks.is_none() && job.lines.is_none()
-}
-
-fn put_bare<O: Sink>(
-    text: &[u8],
-    job: &FilterJob,
-    patch: &FilePatch,
-    out: &mut O,
-) -> Result<(), Failed>
-    requires region { patch.now.span.start ≤ patch.now.header.at }
-    requires some { patch.now.header.at < patch.now.span.end }
-    requires high { patch.now.span.end ≤ length text.now }
-    ensures { Puts O.view O.same_rest out.old out.new result (written_bare (plain_filter_job job.now) text.now patch.now) }
-{
-    if !asks_no_hunk(job) {
-        return Ok(());
-    }
-    put_piece(out, bytes_at(text, patch.span))
 }
 
 fn put_written<O: Sink>(
@@ -153,10 +96,15 @@ fn put_written<O: Sink>(
     ensures { Puts O.view O.same_rest out.old out.new result (digest_written (plain_filter_job job.now) text.now patch.now olds.now) }
 {
     if patch.header.bare {
-        put_bare(text, job, patch, out)
-    } else {
-        put_hunks(text, job, patch, olds, out)
+        if !asks_no_hunk(job) {
+            return Ok(());
+        }
+        return put_piece(out, bytes_at(text, patch.span));
     }
+    if !has_kept(text, job, patch, olds) {
+        return Ok(());
+    }
+    put_parts(text, job, patch, olds, out)
 }
 
 /// A file patch, counted from 0.
@@ -197,12 +145,6 @@ fn put_if_taken<O: Sink>(
 pub fn filter_patches<O: Sink>(digest: &Digest, job: &FilterJob, out: &mut O) -> Result<(), Failed>
     ensures writes { Writes (O.view out.old) (O.view out.new) result (filtered_digest (plain_filter_job job.now) digest.now) }
     ensures rest { O.same_rest out.old out.new }
-{
-    put_filtered(digest, job, out)
-}
-
-fn put_filtered<O: Sink>(digest: &Digest, job: &FilterJob, out: &mut O) -> Result<(), Failed>
-    ensures { Puts O.view O.same_rest out.old out.new result (filtered_digest (plain_filter_job job.now) digest.now) }
 {
     for patch in 0..digest.patches().len() {
         put_if_taken(digest, job, patch, out)?;

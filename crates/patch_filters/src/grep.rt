@@ -43,28 +43,8 @@ fn put_if_hit<F: Finder, O: Sink>(
     Ok(put_hunk(text, patch, hunk, out)?)
 }
 
-/// Writes the hunks that have a hit, of which this is the first; those behind it are searched one by one.
-fn put_hits<F: Finder, O: Sink>(
-    alloc: Global,
-    text: &[u8],
-    patch: &FilePatch,
-    first: u32,
-    finder: &mut F,
-    out: &mut O,
-) -> Result<(), GrepFault>
-    requires kept { IsSome (F.view finder.old).kept }
-    requires lawful { IsLawfulChange text.now patch.now.change }
-    requires placed { IsPlaced text.now patch.now.span.start patch.now.first_verdict patch.now }
-    requires first { IsFirst (hits_of (test_of (F.view finder.old)) (change_of text.now patch.now.change)) (Some first) }
-    ensures { Finds O.view O.same_rest (F.view finder.old) (F.view finder.new) out.old out.new result (chosen (hits_of (test_of (F.view finder.old)) (change_of text.now patch.now.change)) (pieces text.now patch.now)) }
-{
-    put_hunk(text, patch, first, out)?;
-    for hunk in first + 1..patch.hunks() {
-        put_if_hit(alloc, text, patch, hunk, finder, out)?;
-    }
-    Ok(())
-}
-
+/// Writes the lines in front of the first hunk, and the hunks that have a hit, of which this is the first; those behind it are
+/// searched one by one.
 fn put_parts<F: Finder, O: Sink>(
     alloc: Global,
     text: &[u8],
@@ -80,7 +60,11 @@ fn put_parts<F: Finder, O: Sink>(
     ensures { Finds O.view O.same_rest (F.view finder.old) (F.view finder.new) out.old out.new result (region text.now patch.now ++ chosen (hits_of (test_of (F.view finder.old)) (change_of text.now patch.now.change)) (pieces text.now patch.now)) }
 {
     put_region(text, patch, out)?;
-    put_hits(alloc, text, patch, first, finder, out)
+    put_hunk(text, patch, first, out)?;
+    for hunk in first + 1..patch.hunks() {
+        put_if_hit(alloc, text, patch, hunk, finder, out)?;
+    }
+    Ok(())
 }
 
 /// Writes what is asked for of a file patch, counted from 0, whose first hunk with a hit is this.

@@ -69,13 +69,6 @@ fn front(job: &ListJob, patch: &FilePatch) -> Front
     front
 }
 
-fn put_name<O: Sink>(out: &mut O, front: &[u8], name: &[u8]) -> Result<(), Failed>
-    ensures { Puts O.view O.same_rest out.old out.new result (front.now ++ (name.now ++ codes "\n")) }
-{
-    put_piece(out, front)?;
-    put_line(out, name)
-}
-
 /// Writes a name, and a line feed.
 pub fn put_line<O: Sink>(out: &mut O, name: &[u8]) -> Result<(), Failed>
     ensures { Puts O.view O.same_rest out.old out.new result (name.now ++ codes "\n") }
@@ -99,7 +92,9 @@ fn put_if_selected<O: Sink>(
         return Ok(());
     }
     let front = front(job, &outline.patches()[patch]);
-    put_name(out, front.as_slice(), shortened(job.shown_strip, name))
+    let shown = shortened(job.shown_strip, name);
+    put_piece(out, front.as_slice())?;
+    put_line(out, shown)
 }
 
 /// Writes a line for each file patch whose name is selected: the number of the line of its names, if it is asked for, and
@@ -107,12 +102,6 @@ fn put_if_selected<O: Sink>(
 pub fn list_patches<O: Sink>(outline: &Outline, job: &ListJob, out: &mut O) -> Result<(), Failed>
     ensures writes { Writes (O.view out.old) (O.view out.new) result (listed (plain_list_job job.now) (outlined outline.now)) }
     ensures rest { O.same_rest out.old out.new }
-{
-    put_list(outline, job, out)
-}
-
-fn put_list<O: Sink>(outline: &Outline, job: &ListJob, out: &mut O) -> Result<(), Failed>
-    ensures { Puts O.view O.same_rest out.old out.new result (listed (plain_list_job job.now) (outlined outline.now)) }
 {
     for patch in 0..outline.patches().len() {
         put_if_selected(outline, job, patch, out)?;

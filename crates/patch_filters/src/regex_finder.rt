@@ -53,13 +53,12 @@ impl Finder for RegexFinder {
         ensures refused { result ≡ Err FindFault.Refused → IsNoPattern pattern.now }
     {
         self.kept = None;
-        let regex = read(alloc, pattern)?;
-        match Kept::new(alloc, regex) {
+        match Kept::new(alloc, pattern) {
             Ok(kept) => {
                 self.kept = Some(kept);
                 Ok(())
             }
-            Err(_) => Err(FindFault::Memory),
+            Err(fault) => Err(fault),
         }
     }
 
@@ -77,17 +76,17 @@ impl Finder for RegexFinder {
 }
 
 impl Kept {
-    fn new(alloc: Global, regex: Regex) -> Result<Kept, AllocError>
-        requires as_written { IsAsWritten (regex_source regex) (regex_pattern regex) }
-        ensures source { IfOk result (λ kept. kept.source.now ≡ regex_source regex) }
+    fn new(alloc: Global, pattern: &str) -> Result<Kept, FindFault>
+        ensures source { IfOk result (λ kept. kept.source.now ≡ pattern.now) }
+        ensures refused { result ≡ Err FindFault.Refused → IsNoPattern pattern.now }
     {
-        let regex = keep(alloc, regex)?;
+        let regex = read(alloc, pattern)?;
         match regex.matcher(alloc) {
             Ok(matcher) => Ok(Kept {
                 source: regex.as_str(),
                 matcher,
             }),
-            Err(_) => Err(AllocError),
+            Err(_) => Err(FindFault::Memory),
         }
     }
 
@@ -100,25 +99,18 @@ impl Kept {
     }
 }
 
-/// The text as a pattern.
-fn read(alloc: Global, pattern: &str) -> Result<Regex, FindFault>
-    ensures source { IfOk result (λ r. regex_source r ≡ pattern.now) }
-    ensures as_written { IfOk result (λ r. IsAsWritten (regex_source r) (regex_pattern r)) }
+/// The text as a pattern, which stays where it is until the program ends, so that a matcher may stand beside it.
+fn read(alloc: Global, pattern: &str) -> Result<&'static Regex, FindFault>
+    ensures source { IfOk result (λ r. regex_source r.now ≡ pattern.now) }
+    ensures as_written { IfOk result (λ r. IsAsWritten (regex_source r.now) (regex_pattern r.now)) }
     ensures refused { result ≡ Err FindFault.Refused → IsNoPattern pattern.now }
 {
     match Regex::new(alloc, pattern) {
-        Ok(regex) => Ok(regex),
+        Ok(regex) => match Box::new(alloc, regex) {
+            Ok(place) => Ok(Box::leak(place)),
+            Err(_) => Err(FindFault::Memory),
+        },
         Err(error) => Err(fault_of(error)),
-    }
-}
-
-/// Puts it where it stays until the program ends, so that a matcher may stand beside it.
-fn keep(alloc: Global, regex: Regex) -> Result<&'static Regex, AllocError>
-    ensures { IfOk result (λ r. r.now ≡ regex) }
-{
-    match Box::new(alloc, regex) {
-        Ok(place) => Ok(Box::leak(place)),
-        Err(_) => Err(AllocError),
     }
 }
 

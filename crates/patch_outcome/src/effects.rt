@@ -14,7 +14,7 @@ ghost use Rattle.reject_text.specs.Rejects.{AreHunks};
 ghost use Rattle.file_patch.specs.PlainPatch.{row_count};
 ghost use Rattle.patch_task.specs.Asking.{renames};
 ghost use Rattle.patch_task.specs.Outputs.{Tried, IsSession};
-ghost use Rattle.patch_outcome.specs.Outcome.{is_backup_due, is_backup_apart, is_made_bare, is_written, is_unwanted, is_always_put, is_removal, is_moving, made_effects, written_effects, effects_of, wrote, has_rejects};
+ghost use Rattle.patch_outcome.specs.Outcome.{is_backup_due, is_backup_apart, is_made_bare, is_written, is_unwanted, is_always_put, is_removal, is_moving, written_effects, effects_of, wrote, has_rejects};
 ghost use Rattle.patch_task.specs.Making.{Makes, GoesQuietly, IsGone, IsTidy};
 ghost use Rattle.patch_task.specs.Named.{IsNamed};
 ghost use Rattle.patch_outcome.specs.TurnView.{plain_turn, IsTurn};
@@ -26,7 +26,7 @@ use crate::turn::Turn;
 use file_patch::Target;
 use hunk_apply::Session;
 use hunk_core::{Side, Verdict};
-use outside::{Failed, Name, Tree};
+use outside::{Failed, Tree};
 use patch_options::Options;
 use patch_task::{
     Made, RunFault, acts_new, forget, is_bare, renames, takes_files, write_moved, write_placed,
@@ -89,7 +89,7 @@ fn with_reject(made: Made, rejected: bool) -> Made
     }
 }
 
-/// Backs the target up and writes it, if it is written.
+/// If the target is written, backs it up, and puts it or takes it away; the source of a rename goes, and is backed up too.
 fn write_target<T: Tree>(
     turn: &Turn<'_>,
     source: &Target,
@@ -123,45 +123,17 @@ fn write_target<T: Tree>(
             effects: 0,
         });
     }
-    write_made(turn, source, target, side, session, temp, tree)
-}
-
-/// Backs the target up and writes it; the source of a rename goes.
-fn write_made<T: Tree>(
-    turn: &Turn<'_>,
-    source: &Target,
-    target: &Target,
-    side: Side,
-    session: &Session,
-    temp: Temp<'_>,
-    tree: &mut T,
-) -> Result<Made, RunFault>
-    requires turn { IsTurn turn.now }
-    requires source { IsNamed source.now }
-    requires named { IsNamed target.now }
-    requires temp { temp.name.now ≡ target.now.temp }
-    requires quiet { IsQuiet (T.view tree.old) }
-    requires there { IsThere (T.view tree.old) target.now.temp }
-    ensures goes { GoesQuietly (T.view tree.old) (T.view tree.new) result }
-    ensures makes { (x : Tried) → x.side ≡ side → IsSession session.now x.verdicts x.text → Holds (T.view tree.old) target.now.temp x.output
-        → Makes (T.view tree.old) (T.view tree.new) result target.now.temp (λ f. made_effects (plain_turn turn.now) f source.now target.now x) }
-    ensures gone { OnOk result (IsGone (T.view tree.new) target.now.temp) }
-    ensures wrote { IfOk result (λ made. (f : Files) (x : Tried) → (T.view tree.old).told ≡ Some f → x.side ≡ side → IsSession session.now x.verdicts x.text
-        → made.wrote ≡ (not (is_removal (plain_turn turn.now) x) || is_some (get f target.now.name))) }
-    ensures count { IfOk result (λ made. (f : Files) (x : Tried) → (T.view tree.old).told ≡ Some f → x.side ≡ side → IsSession session.now x.verdicts x.text
-        → made.effects ≡ length (made_effects (plain_turn turn.now) f source.now target.now x)) }
-    ensures few { IfOk result (λ made. made.effects ≤ 4) }
-    ensures tidy { OnOk result (IsTidy (T.view tree.old) (T.view tree.new)) }
-{
     let moving = match is_moving(turn, source, target, tree) {
         Ok(moving) => moving,
         Err(_) => return Err(RunFault::Tree),
     };
-    if moving {
-        move_source(turn, source, target, session, temp, tree)
-    } else {
-        put_placed(turn, source, target, side, session, temp, tree)
+    let due = is_backup_due(turn, target, source, session);
+    if !moving {
+        let removal = is_removal(turn, side, session);
+        return write_placed(target, due, removal, temp, tree);
     }
+    let source_due = is_backup_due(turn, source, target, session);
+    write_moved(source, target, due, source_due, temp, tree)
 }
 
 /// Whether the source of a rename goes, which is there and isn't the target itself.
@@ -181,7 +153,10 @@ fn is_moving<T: Tree>(
     if !is_renamed(turn, source, target) {
         return Ok(false);
     }
-    is_there(&source.name, tree)
+    match tree.size(&source.name) {
+        Ok(size) => Ok(size.is_some()),
+        Err(failed) => Err(failed),
+    }
 }
 
 /// Whether the file patch renames a file, and the names differ.
@@ -194,86 +169,6 @@ fn is_renamed(turn: &Turn<'_>, source: &Target, target: &Target) -> bool
         return false;
     }
     !is_same(&source.name, &target.name)
-}
-
-/// Whether a file is there.
-fn is_there<T: Tree>(name: &Name, tree: &mut T) -> Result<bool, Failed>
-    ensures untouched { IsUntouched (T.view tree.old) (T.view tree.new) }
-    ensures cause { OnErr result (Rises (T.view tree.old) (T.view tree.new)) }
-    ensures there { IfOk result (λ there. (f : Files) → (T.view tree.old).told ≡ Some f → there ≡ is_some (get f name.now)) }
-{
-    match tree.size(name)? {
-        Some(_) => Ok(true),
-        None => Ok(false),
-    }
-}
-
-/// Backs the target up, and puts it or takes it away.
-fn put_placed<T: Tree>(
-    turn: &Turn<'_>,
-    source: &Target,
-    target: &Target,
-    side: Side,
-    session: &Session,
-    temp: Temp<'_>,
-    tree: &mut T,
-) -> Result<Made, RunFault>
-    requires turn { IsTurn turn.now }
-    requires source { IsNamed source.now }
-    requires named { IsNamed target.now }
-    requires stays { (f : Files) → (T.view tree.old).told ≡ Some f → is_moving (plain_turn turn.now) f source.now target.now ≡ false }
-    requires temp { temp.name.now ≡ target.now.temp }
-    requires quiet { IsQuiet (T.view tree.old) }
-    requires there { IsThere (T.view tree.old) target.now.temp }
-    ensures goes { GoesQuietly (T.view tree.old) (T.view tree.new) result }
-    ensures makes { (x : Tried) → x.side ≡ side → IsSession session.now x.verdicts x.text → Holds (T.view tree.old) target.now.temp x.output
-        → Makes (T.view tree.old) (T.view tree.new) result target.now.temp (λ f. made_effects (plain_turn turn.now) f source.now target.now x) }
-    ensures gone { OnOk result (IsGone (T.view tree.new) target.now.temp) }
-    ensures wrote { IfOk result (λ made. (f : Files) (x : Tried) → (T.view tree.old).told ≡ Some f → x.side ≡ side → IsSession session.now x.verdicts x.text
-        → made.wrote ≡ (not (is_removal (plain_turn turn.now) x) || is_some (get f target.now.name))) }
-    ensures count { IfOk result (λ made. (f : Files) (x : Tried) → (T.view tree.old).told ≡ Some f → x.side ≡ side → IsSession session.now x.verdicts x.text
-        → made.effects ≡ length (made_effects (plain_turn turn.now) f source.now target.now x)) }
-    ensures few { IfOk result (λ made. made.effects ≤ 4) }
-    ensures tidy { OnOk result (IsTidy (T.view tree.old) (T.view tree.new)) }
-{
-    let due = is_backup_due(turn, target, source, session);
-    let removal = is_removal(turn, side, session);
-    write_placed(target, due, removal, temp, tree)
-}
-
-/// Backs the target and the source up, puts the target, and takes the source away.
-fn move_source<T: Tree>(
-    turn: &Turn<'_>,
-    source: &Target,
-    target: &Target,
-    session: &Session,
-    temp: Temp<'_>,
-    tree: &mut T,
-) -> Result<Made, RunFault>
-    requires turn { IsTurn turn.now }
-    requires source { IsNamed source.now }
-    requires named { IsNamed target.now }
-    requires moves { (f : Files) → (T.view tree.old).told ≡ Some f → is_moving (plain_turn turn.now) f source.now target.now ≡ true }
-    requires renames { renames (plain_turn turn.now).item.patch ≡ true }
-    requires apart { target.now.name ≢ source.now.name }
-    requires source_there { IsThere (T.view tree.old) source.now.name }
-    requires temp { temp.name.now ≡ target.now.temp }
-    requires quiet { IsQuiet (T.view tree.old) }
-    requires there { IsThere (T.view tree.old) target.now.temp }
-    ensures goes { GoesQuietly (T.view tree.old) (T.view tree.new) result }
-    ensures makes { (x : Tried) → IsSession session.now x.verdicts x.text → Holds (T.view tree.old) target.now.temp x.output
-        → Makes (T.view tree.old) (T.view tree.new) result target.now.temp (λ f. made_effects (plain_turn turn.now) f source.now target.now x) }
-    ensures gone { OnOk result (IsGone (T.view tree.new) target.now.temp) }
-    ensures wrote { IfOk result (λ made. (f : Files) (x : Tried) → (T.view tree.old).told ≡ Some f → IsSession session.now x.verdicts x.text
-        → made.wrote ≡ (not (is_removal (plain_turn turn.now) x) || is_some (get f target.now.name))) }
-    ensures count { IfOk result (λ made. (f : Files) (x : Tried) → (T.view tree.old).told ≡ Some f → IsSession session.now x.verdicts x.text
-        → made.effects ≡ length (made_effects (plain_turn turn.now) f source.now target.now x)) }
-    ensures few { IfOk result (λ made. made.effects ≤ 4) }
-    ensures tidy { OnOk result (IsTidy (T.view tree.old) (T.view tree.new)) }
-{
-    let due = is_backup_due(turn, target, source, session);
-    let source_due = is_backup_due(turn, source, target, session);
-    write_moved(source, target, due, source_due, temp, tree)
 }
 
 /// Whether the target is written.

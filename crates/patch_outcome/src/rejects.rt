@@ -14,7 +14,7 @@ ghost use Rattle.reject_text.specs.Rejects.{AreHunks};
 ghost use Rattle.patch_options.specs.PlainJob.{plain_options};
 ghost use Rattle.patch_task.specs.TargetEffects.{put_if};
 ghost use Rattle.patch_task.specs.Turns.{PlainTurn};
-ghost use Rattle.patch_outcome.specs.Outcome.{mark_of, own_reject, own_reject_form, reject_form, rejected_before, rejects_text, text_if, has_rejects};
+ghost use Rattle.patch_outcome.specs.Outcome.{mark_of, own_reject, reject_form, rejected_before, rejects_text, text_if, has_rejects};
 ghost use Rattle.patch_task.specs.Making.{Makes, GoesQuietly, IsGone, IsTidy};
 ghost use Rattle.patch_task.specs.Named.{IsNamed};
 ghost use Rattle.patch_task.specs.Ready.{IsFit, alone};
@@ -182,7 +182,12 @@ fn has_rejects(options: &Options, earlier: &Earlier<'_>) -> bool
 fn some_failed(verdicts: &[Verdict]) -> bool
     ensures { result ≡ list_any is_failed verdicts.now }
 {
-    verdicts.iter().any(|verdict| is_failed(*verdict))
+    for i in 0..verdicts.len() {
+        if is_failed(verdicts[i]) {
+            return true;
+        }
+    }
+    false
 }
 
 fn is_failed(verdict: Verdict) -> bool
@@ -228,16 +233,9 @@ fn reject_form(turn: &Turn<'_>, patch: &FilePatch) -> Form
 {
     match turn.task.options.reject_form {
         Some(form) => form,
-        None => own_reject_form(patch.header.form),
-    }
-}
-
-fn own_reject_form(form: Form) -> Form
-    ensures form { result ≡ own_reject_form form }
-    ensures fits { IsRejectForm result }
-{
-    match form {
-        Form::Unified => Form::Unified,
-        Form::Context | Form::Normal | Form::Ed => Form::Context,
+        None => match patch.header.form {
+            Form::Unified => Form::Unified,
+            Form::Context | Form::Normal | Form::Ed => Form::Context,
+        },
     }
 }

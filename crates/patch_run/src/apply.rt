@@ -32,7 +32,7 @@ use patch_task::{Made, RunFault, chosen, is_bare, written};
 use say_text::say_ignored;
 
 /// What became of a file patch.
-#[derive(Clone, Copy, Debug, PartialEq, Eq)]
+#[derive(Clone, Copy)]
 pub struct Done {
     pub row: Row,
     /// A hunk failed, the file patch was skipped, also one without hunks, or a file that was to be deleted wasn't.

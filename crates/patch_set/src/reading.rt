@@ -127,7 +127,10 @@ fn give_lasting(
 {
     let named = name_all(alloc, text, options, patches)?;
     match reserved(&named) {
-        Some(line) => Err(SetFault::Reserved { line }),
+        Some(line) => {
+            drop(named);
+            Err(SetFault::Reserved { line })
+        }
         None => Ok(named),
     }
 }

@@ -189,7 +189,10 @@ pub fn untried(
         marks_asked,
     ) {
         Ok(notes) => Ok(noted(text, ways, named, notes)),
-        Err(error) => Err(error),
+        Err(error) => {
+            drop(named);
+            Err(error)
+        }
     }
 }
 

@@ -26,7 +26,7 @@ use patch_task::{RunFault, Task, chosen, shown, written};
 use say_text::{say_exists, say_no_file, say_patching, say_skipped};
 
 /// What becomes of a file patch.
-#[derive(Clone, Copy, Debug, PartialEq, Eq)]
+#[derive(Clone, Copy)]
 pub enum Decision {
     /// All its hunks are ignored.
     Skip(Row),

@@ -15,7 +15,7 @@ use outside::Tree;
 use replace_file::{Temp, copy_backup, put_begun, remove_name};
 
 /// What was done to the tree.
-#[derive(Clone, Copy, Debug, PartialEq, Eq)]
+#[derive(Clone, Copy)]
 pub struct Made {
     /// The target was made or taken away.
     pub wrote: bool,

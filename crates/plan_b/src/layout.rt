@@ -8,7 +8,7 @@ ghost use Rattle.line_store.specs.Taking.{IsSize};
 use crate::spots::Spot;
 
 /// The records of so many lines, each of one width in bytes, on pages of one size.
-#[derive(Clone, Copy, Debug, PartialEq, Eq)]
+#[derive(Clone, Copy)]
 pub struct Layout {
     pub size: u64,
     pub width: u64,

@@ -7,14 +7,14 @@ ghost use Rattle.plan_b.specs.Spots.{spot_of};
 use line_store::Half;
 
 /// A record: how many stand before it on its page, and its place there.
-#[derive(Clone, Copy, Debug, PartialEq, Eq)]
+#[derive(Clone, Copy)]
 pub struct Spot {
     pub index: u64,
     pub at: usize,
 }
 
 /// The record of the line that each half holds, if it holds one.
-#[derive(Clone, Copy, Debug, PartialEq, Eq)]
+#[derive(Clone, Copy)]
 pub struct Spots {
     pub first: Spot,
     pub second: Spot,

@@ -8,31 +8,14 @@ use patch_filters::RegexFinder;
 use program_words::{Lines, places_of};
 use real_devices::{Disk, Input, Pages};
 use run_answers::Why;
-use std::io;
 
 /// The tools that may read a patch text from standard input of which something is said behind the run.
 const PATCH: &str = "patch";
 
 const RECOUNT: &str = "recountdiff";
 
-/// Has the words carried out over the real devices, and answers the exit status.
-pub fn carry_out<X: Runner>(
-    rt: &HostRuntime,
-    runner: &X,
-    tool: &str,
-    words: &[String],
-) -> io::Result<u8> {
-    match Outputs::new(rt) {
-        Ok(mut outputs) => {
-            let why = run_over(rt, runner, tool, words, &mut outputs);
-            Ok(outputs.end(rt.alloc(), tool, why))
-        }
-        Err(error) => Err(error),
-    }
-}
-
 /// The run over the real files and standard input, and the lines behind its answer's.
-fn run_over<X: Runner>(
+pub fn run_over<X: Runner>(
     rt: &HostRuntime,
     runner: &X,
     tool: &str,
@@ -40,20 +23,19 @@ fn run_over<X: Runner>(
     outputs: &mut Outputs,
 ) -> Why {
     let alloc = rt.alloc();
+    let is_patch = matches!(tool, PATCH | RECOUNT);
     let mut tree = Disk::new(alloc, rt, places_of(alloc, tool, words));
-    let mut input = Input::new(alloc, rt.stdin(), tool == PATCH || tool == RECOUNT);
+    let mut input = Input::new(alloc, rt.stdin(), is_patch);
     let mut finder = RegexFinder::new();
-    let scratch = Pages::new(alloc, rt);
-    let (out, err) = (&mut outputs.out, &mut outputs.err);
     let (why, pages) = runner.run(
         alloc,
         words,
         &mut tree,
-        scratch,
+        Pages::new(alloc, rt),
         &mut finder,
         &mut input,
-        out,
-        err,
+        &mut outputs.out,
+        &mut outputs.err,
     );
     tree.end();
     pages.end();

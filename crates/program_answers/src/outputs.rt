@@ -16,12 +16,16 @@ pub struct Outputs {
 }
 
 impl Outputs {
+    /// Nothing but memory can be missing.
     pub fn new(rt: &HostRuntime) -> io::Result<Outputs> {
         let alloc = rt.alloc();
-        Ok(Outputs {
-            out: Output::new(alloc, rt.stdout())?,
-            err: Output::new(alloc, rt.stderr())?,
-        })
+        match Output::new(alloc, rt.stdout()) {
+            Ok(out) => match Output::new(alloc, rt.stderr()) {
+                Ok(err) => Ok(Outputs { out, err }),
+                Err(error) => Err(error),
+            },
+            Err(error) => Err(error),
+        }
     }
 
     /// Writes out what both have gathered, and answers the exit status. What was said last may not reach its reader, whatever the
@@ -34,6 +38,9 @@ impl Outputs {
         let _ = self.err.flush();
         if is_written { why.status() } else { REFUSED }
     }
+
+    /// Lets both go, which is proved with less work where nothing else is at hand.
+    pub fn let_go(self) {}
 }
 
 /// Writes that a write failed, and what helps, as far as memory and the device allow.

@@ -10,7 +10,7 @@ pub const REFUSED: u8 = 2;
 pub fn refused(rt: &HostRuntime, tool: &str, kind: ErrorKind) -> u8 {
     let mut err = rt.stderr();
     let _ = err.write_all(tool.as_bytes());
-    if kind == ErrorKind::OutOfMemory {
+    if matches!(kind, ErrorKind::OutOfMemory) {
         let _ = err.write_all(b": **** out of memory\n");
         return REFUSED;
     }

@@ -16,11 +16,13 @@ const POSIX: &str = "with --posix only a file that the command line names is mad
 
 /// Names as the lines have them.
 #[derive(Clone, Copy)]
-struct Given<'a> {
+pub struct Given<'a> {
     old: Option<&'a [u8]>,
     new: Option<&'a [u8]>,
     /// Whether a rename or a copy without hunks gives them.
     is_moved: bool,
+    /// Whether git says that the file patch copies a file.
+    pub is_copy: bool,
     /// The line of the opening, where the text has it.
     opening: &'a [u8],
 }
@@ -34,10 +36,8 @@ pub struct Reading {
     pub is_reversed: bool,
 }
 
-/// Which names the file patch gives whose opening is this line of the text, and what `-p` leaves of them. Nothing is said where
-/// its lines aren't in this front of the text.
-pub fn put_names(lines: &mut Lines, tool: &str, reading: Reading, front: &[u8], opening: u64) {
-    let given = given_in(front, opening);
+/// Which names a file patch gives, and what `-p` leaves of them. Nothing is said where its lines aren't in the front of the text.
+pub fn put_names(lines: &mut Lines, tool: &str, reading: Reading, given: Given<'_>) {
     let written = written_names(lines.alloc, given);
     if !written.text().is_empty() {
         let left = left_names(lines.alloc, given, reading);
@@ -50,25 +50,11 @@ pub fn put_names(lines: &mut Lines, tool: &str, reading: Reading, front: &[u8], 
 
 /// Why the file of a hunk that fills an empty one isn't made, where a name counts.
 fn put_unmade(lines: &mut Lines, tool: &str, given: Given<'_>, reading: Reading) {
-    match looked_for(lines.alloc, given, reading) {
-        Ok(names) if !names.is_empty() => {
-            lines.put_line(tool, if reading.is_posix { POSIX } else { NO_SIGN })
+    if let Ok(names) = looked_for(lines.alloc, given, reading) {
+        if !names.is_empty() {
+            lines.put_line(tool, if reading.is_posix { POSIX } else { NO_SIGN });
         }
-        _ => {}
     }
-}
-
-/// Whether git says of the file patch with this opening that it copies a file.
-pub fn is_copy(front: &[u8], opening: u64) -> bool {
-    let (mut number, mut is_copy) = (0u64, false);
-    for line in front.split(is_feed) {
-        number = number.saturating_add(1);
-        if number > opening && !is_of_header(line) {
-            break;
-        }
-        is_copy = line.starts_with(b"copy from ") || (is_copy && goes_on(line));
-    }
-    is_copy
 }
 
 /// Whether the line can stand behind that of a copy, up to the first hunk.
@@ -81,10 +67,10 @@ fn goes_on(line: &[u8]) -> bool {
 }
 
 /// Whether the opening is that of a hunk behind which no names are looked for, since none stand in front of it.
-pub fn is_nameless(front: &[u8], opening: u64) -> bool {
-    let given = given_in(front, opening);
-    let is_hunk = given.opening.starts_with(b"@@ -") || given.opening.starts_with(b"***");
-    is_hunk && given.old.is_none() && given.new.is_none()
+pub fn is_nameless(given: Given<'_>) -> bool {
+    given.old.is_none()
+        && given.new.is_none()
+        && (given.opening.starts_with(b"@@ -") || given.opening.starts_with(b"***"))
 }
 
 /// What such a hunk is.
@@ -109,12 +95,14 @@ fn put_both(lines: &mut Lines, tool: &str, strip: Option<u32>, written: &Lines, 
     lines.put("\n");
 }
 
-/// The names in the two lines in front of the opening, or in it and behind it where it is that of a bare git header.
-fn given_in(front: &[u8], opening: u64) -> Given<'_> {
+/// The names of the file patch whose opening is this line of the text, where this front has its lines: those in the two lines in front
+/// of the opening, or in it and behind it where it is that of a bare git header.
+pub fn given_in(front: &[u8], opening: u64) -> Given<'_> {
     let mut given = Given {
         old: None,
         new: None,
         is_moved: false,
+        is_copy: false,
         opening: &[],
     };
     let mut number = 0u64;
@@ -124,6 +112,7 @@ fn given_in(front: &[u8], opening: u64) -> Given<'_> {
             break;
         }
         given = with_line(given, line, number, opening);
+        given.is_copy = line.starts_with(b"copy from ") || (given.is_copy && goes_on(line));
     }
     given
 }
@@ -184,15 +173,13 @@ pub fn both_names(names: &[u8]) -> (&[u8], &[u8]) {
 /// The name behind one of the marks at the line's front, or that of an index line: up to a tab, else up to a space.
 fn name_of<'a>(line: &'a [u8], mark: &[u8], other: &[u8]) -> Option<&'a [u8]> {
     match behind(line, mark, other).or(line.strip_prefix(b"Index: ")) {
-        Some(rest) => rest.get(..name_end(rest)),
+        Some(rest) => {
+            let end = memchr(b'\t', rest)
+                .or(memchr(b' ', rest))
+                .unwrap_or(rest.len());
+            rest.get(..end)
+        }
         None => None,
-    }
-}
-
-fn name_end(rest: &[u8]) -> usize {
-    match memchr(b'\t', rest) {
-        Some(tab) => tab,
-        None => memchr(b' ', rest).unwrap_or(rest.len()),
     }
 }
 
@@ -220,8 +207,13 @@ fn add_given(text: &mut Lines, name: Option<&[u8]>) {
 fn left_names(alloc: Global, given: Given<'_>, reading: Reading) -> Lines {
     let mut text = Lines::new(alloc);
     match looked_for(alloc, given, reading) {
-        Ok(names) if names.is_empty() => put_none(&mut text, reading.strip, given.old, given.new),
-        Ok(names) => add_names(&mut text, &names),
+        Ok(names) => {
+            if names.is_empty() {
+                put_none(&mut text, reading.strip, given.old, given.new);
+            } else {
+                add_names(&mut text, &names);
+            }
+        }
         Err(_) => text.cut(),
     }
     text

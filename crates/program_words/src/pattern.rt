@@ -1,7 +1,7 @@
 //! Why a pattern isn't taken, for the line behind its refusal.
 
 use crate::lines::{Lines, Part};
-use regex_syntax::{Config, Error, ErrorKind, parse};
+use regex_syntax::{Config, ErrorKind, parse};
 use tool_words::{ToolJob, read_tool_words};
 
 /// The pattern of the words and what is wrong with it. It was refused: so one that can be read is too big.
@@ -29,13 +29,11 @@ fn put_reading(lines: &mut Lines, pattern: &str) {
     };
     match parse(lines.alloc, pattern, &config).err() {
         None => lines.put(" takes more than 10 MiB once it is compiled\n"),
-        Some(error) if error.kind == ErrorKind::OutOfMemory => lines.cut(),
-        Some(error) => put_error(lines, error),
+        Some(error) if matches!(error.kind, ErrorKind::OutOfMemory) => lines.cut(),
+        Some(error) => {
+            let place = error.span.start.saturating_add(1);
+            let parts = [Part::Number(place as u64), Part::Text(error.kind.message())];
+            lines.put_parts(", at byte #: #\n", &parts);
+        }
     }
-}
-
-fn put_error(lines: &mut Lines, error: Error) {
-    let place = error.span.start.saturating_add(1);
-    let parts = [Part::Number(place as u64), Part::Text(error.kind.message())];
-    lines.put_parts(", at byte #: #\n", &parts);
 }

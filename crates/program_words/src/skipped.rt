@@ -1,7 +1,7 @@
 //! The lines behind a run that left something out, where what was said leaves a question open.
 
 use crate::lines::{Lines, Part};
-use crate::names::{Reading, is_copy, is_nameless, put_nameless, put_names};
+use crate::names::{Reading, given_in, is_nameless, put_nameless, put_names};
 use crate::places::below;
 use outside::Name;
 use patch_options::Options;
@@ -22,24 +22,27 @@ const NO_WAY_BACK: &str =
 
 /// Why no file was found for a patch of a stack, and that it keeps no reject files.
 pub fn put_stack_skipped(lines: &mut Lines, heard: Heard, passed: &Passed) {
-    match heard.no_file {
-        Some(line) if is_nameless(passed.front(), line) => put_nameless(lines, "patchstack", line),
-        Some(line) => put_stack_unfound(lines, passed, line),
-        None => {}
+    if let Some(line) = heard.no_file {
+        put_stack_unfound(lines, passed.front(), line);
     }
     if heard.rejects {
         lines.put_said("patchstack", NO_REJECTS, Part::Text(passed.file()));
     }
 }
 
-fn put_stack_unfound(lines: &mut Lines, passed: &Passed, line: u64) {
-    let reading = Reading {
-        strip: Some(1),
-        is_posix: false,
-        is_reversed: false,
-    };
-    lines.put_said("patchstack", NO_FILE, Part::Number(line));
-    put_names(lines, "patchstack", reading, passed.front(), line);
+fn put_stack_unfound(lines: &mut Lines, front: &[u8], line: u64) {
+    let given = given_in(front, line);
+    if is_nameless(given) {
+        put_nameless(lines, "patchstack", line);
+    } else {
+        let reading = Reading {
+            strip: Some(1),
+            is_posix: false,
+            is_reversed: false,
+        };
+        lines.put_said("patchstack", NO_FILE, Part::Number(line));
+        put_names(lines, "patchstack", reading, given);
+    }
 }
 
 /// Why no file was found: the one that the words name isn't there, a copy is to be taken back, or no file has a name that the patch
@@ -51,16 +54,28 @@ pub fn put_skipped<R: Files>(
     heard: Heard,
     passed: &Passed,
 ) {
-    match (&options.file, heard.no_file) {
-        (Some(file), _) => put_operand(lines, rt, options, file),
-        (None, Some(line)) if is_nameless(passed.front(), line) => {
-            put_nameless(lines, "patch", line)
-        }
-        (None, Some(line)) if options.reverse && is_copy(passed.front(), line) => {
-            lines.put_said("patch", NO_WAY_BACK, Part::Number(line))
-        }
-        (None, Some(line)) => put_unfound(lines, options, passed, line),
-        (None, None) => {}
+    if let Some(file) = &options.file {
+        put_operand(lines, rt, options, file);
+    } else if let Some(line) = heard.no_file {
+        put_unfound(lines, options, passed.front(), line);
+    }
+}
+
+/// Why none was found for the file patch whose opening is this line.
+fn put_unfound(lines: &mut Lines, options: &Options, front: &[u8], line: u64) {
+    let given = given_in(front, line);
+    if is_nameless(given) {
+        put_nameless(lines, "patch", line);
+    } else if options.reverse && given.is_copy {
+        lines.put_said("patch", NO_WAY_BACK, Part::Number(line));
+    } else {
+        let reading = Reading {
+            strip: options.strip,
+            is_posix: options.posix,
+            is_reversed: options.reverse,
+        };
+        put_unnamed(lines, options, line);
+        put_names(lines, "patch", reading, given);
     }
 }
 
@@ -80,7 +95,7 @@ fn put_missing<R: Files>(lines: &mut Lines, rt: &R, name: &Name) {
 }
 
 /// Where the files are in which none was found, and what may be wrong with the file, or with the words.
-fn put_unfound(lines: &mut Lines, options: &Options, passed: &Passed, line: u64) {
+fn put_unnamed(lines: &mut Lines, options: &Options, line: u64) {
     let (before, place) = match &options.dir {
         Some(dir) => ("in ", dir.text()),
         None => ("", "here"),
@@ -93,10 +108,4 @@ fn put_unfound(lines: &mut Lines, options: &Options, passed: &Passed, line: u64)
         Some(strip) => lines.put_parts("is -p# right?\n", &[Part::Number(u64::from(strip))]),
         None => lines.put("is -p1 missing, or the file's name?\n"),
     }
-    let reading = Reading {
-        strip: options.strip,
-        is_posix: options.posix,
-        is_reversed: options.reverse,
-    };
-    put_names(lines, "patch", reading, passed.front(), line);
 }

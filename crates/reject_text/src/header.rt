@@ -1,6 +1,6 @@
 //! The two lines in front of the hunks.
 
-ghost use Rattle.std.specs.Prelude.{◌≡◌, ◌++◌};
+ghost use Rattle.std.specs.Prelude.{◌≡◌};
 ghost use Rattle.outside.specs.Puts.{Puts};
 ghost use Rattle.reject_text.specs.Headers.{IsRejectForm, name_line, headers};
 ghost use Rattle.patch_header.specs.Written.{old_mark, new_mark, holds_space, name_end};
@@ -31,7 +31,7 @@ fn new_mark(form: Form) -> &'static [u8]
 fn has_space(name: &[u8]) -> bool
     ensures { result ≡ holds_space name.now }
 {
-    name.iter().any(|b| *b == b' ')
+    name.contains(&b' ')
 }
 
 fn name_end(name: &[u8]) -> &'static [u8]
@@ -40,18 +40,12 @@ fn name_end(name: &[u8]) -> &'static [u8]
     if has_space(name) { b"\t\n" } else { b"\n" }
 }
 
-fn put_both<O: Sink>(out: &mut O, first: &[u8], second: &[u8]) -> Result<(), Failed>
-    ensures { Puts O.view O.same_rest out.old out.new result (first.now ++ second.now) }
-{
-    put_all(out, first)?;
-    put_all(out, second)
-}
-
 fn put_name_line<O: Sink>(out: &mut O, mark: &[u8], name: &[u8]) -> Result<(), Failed>
     ensures { Puts O.view O.same_rest out.old out.new result (name_line mark.now name.now) }
 {
     put_all(out, mark)?;
-    put_both(out, name, name_end(name))
+    put_all(out, name)?;
+    put_all(out, name_end(name))
 }
 
 /// The name is the same on both sides.

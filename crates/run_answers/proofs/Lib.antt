@@ -3,3 +3,4 @@ pub mod Names
 pub mod Writes
 pub mod Disagreeing
 pub mod Taking
+pub mod Answering

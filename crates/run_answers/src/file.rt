@@ -25,8 +25,7 @@ pub fn read_below<T: Tree>(
     ensures cause { IfErr result (λ e. HasFileCause e (T.view tree.old) (T.view tree.new) (below (option_copied dir.entry) name.now)) }
 {
     let placed = below(alloc, dir, name)?;
-    let text = read_file(alloc, &placed, tree)?;
-    Ok(text)
+    read_file(alloc, &placed, tree)
 }
 
 /// The name below the directory.

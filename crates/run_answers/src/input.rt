@@ -36,10 +36,7 @@ pub fn read_input<T: Tree, I: Source>(
     ensures cause { IfErr result (λ e. HasCause e input.now (option_copied dir.entry) (T.view tree.old) (T.view tree.new) (I.view source.old) (I.view source.new)) }
 {
     match input {
-        Input::Standard => {
-            let text = read_source(alloc, source)?;
-            Ok(text)
-        }
+        Input::Standard => read_source(alloc, source),
         Input::File(name) => {
             let text = read_below(alloc, dir, name, tree)?;
             Ok(text)

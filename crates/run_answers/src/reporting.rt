@@ -1,9 +1,9 @@
 //! The line of a refusal or a fault on standard error.
-ghost use Rattle.std.specs.Prelude.{◌≡◌, ◌++◌, ◌∷◌, [], ℕ, List, true, map, codes, string_bytes};
+ghost use Rattle.std.specs.Prelude.{◌≡◌, ◌++◌, ◌∷◌, [], ℕ, List, true, map, string_bytes};
 ghost use Rattle.std.specs.Option.{option_copied};
 ghost use Rattle.outside.specs.SinkView.{Writes};
 ghost use Rattle.run_answers.specs.Answers.{is_ended};
-ghost use Rattle.run_answers.specs.Reasons.{refusal_line, is_tool, tool_of, reason_of, kind_text, decimal_if, text_of, behind_first};
+ghost use Rattle.run_answers.specs.Reasons.{refusal_line, is_tool, tool_of, reason_of, kind_text, decimal_if, text_of};
 ghost use Rattle.run_answers.specs.declared.why.Why.TheVariants.{Malformed};
 
 use crate::why::Why;
@@ -32,7 +32,9 @@ pub fn report<E: Sink>(err: &mut E, words: &[String], why: Why) -> Result<(), Fa
         return Ok(());
     }
     put_all(err, tool_of(words))?;
-    put_behind_tool(err, why)
+    put_all(err, b": **** ")?;
+    put_reason(err, &reason_of(why))?;
+    put_all(err, b"\n")
 }
 
 /// The tool's name in a message.
@@ -63,15 +65,6 @@ fn is_tool(word: &str) -> bool
         return true;
     }
     tool_named(word).is_some()
-}
-
-fn put_behind_tool<E: Sink>(err: &mut E, why: Why) -> Result<(), Failed>
-    ensures writes { Writes (E.view err.old) (E.view err.new) result (codes ": **** " ++ (reason_of why ++ 10 ∷ [])) }
-    ensures rest { E.same_rest err.old err.new }
-{
-    put_all(err, b": **** ")?;
-    put_reason(err, &reason_of(why))?;
-    put_all(err, b"\n")
 }
 
 fn reason_of(why: Why) -> Reason
@@ -192,13 +185,6 @@ fn put_reason<E: Sink>(err: &mut E, reason: &Reason) -> Result<(), Failed>
 {
     put_all(err, reason.front)?;
     put_decimal(err, reason.first)?;
-    put_behind_first(err, reason)
-}
-
-fn put_behind_first<E: Sink>(err: &mut E, reason: &Reason) -> Result<(), Failed>
-    ensures writes { Writes (E.view err.old) (E.view err.new) result (behind_first reason.now) }
-    ensures rest { E.same_rest err.old err.new }
-{
     put_all(err, reason.middle)?;
     put_decimal(err, reason.second)?;
     put_all(err, reason.end)

@@ -1,17 +1,15 @@
 -- The patch of a push as it is read from its file.
-use Rattle.std.proofs.Common.{Vec, Global, ◌≡◌, ◌⊎◌, inr, ⊎_elim, ℕ, zero, suc, List, [], ◌∷◌, map, drop, length, Bool, true, false, ◌&&◌, Option, None, Some, Result, Ok, Err, refl, sym, ◌∙◌, ap, subst, arith, if◌then◌else◌}
+use Rattle.std.proofs.Common.{◌≡◌, ◌⊎◌, ⊎_elim, ℕ, zero, suc, List, [], ◌∷◌, map, drop, length, Bool, true, false, ◌&&◌, Option, None, Some, Result, Ok, Err, refl, sym, ◌∙◌, ap, subst, arith, if◌then◌else◌}
 use Rattle.std.specs.Prelude.{nat_le, nat_lt}
 use Rattle.std.proofs.lemmas.Bool.Decides.{nat_tests}
 use Rattle.std.specs.List.{AllByRecursion, list_all, slice_split}
 use Rattle.std.proofs.lemmas.Bool.{false≢true}
-use Rattle.std.proofs.lemmas.Result.{IfErr-weaker, IfOk-weaker, on_ok_weaker}
 use Rattle.std.proofs.lemmas.List.{drop_all, length-replicate}
 use Rattle.std.specs.FinMap.{get}
 use Rattle.outside.specs.Files.{Files}
 use Rattle.outside.specs.TreeView.{TreeView}
 use Rattle.outside.specs.ScratchView.{ScratchView}
 use Rattle.outside.specs.SinkView.{SinkView}
-use Rattle.outside.specs.declared.name.Name.{Name}
 use Rattle.outside.specs.Names.{is_absolute, is_kept, is_slash, components, kept, normal_form}
 use Rattle.outside.proofs.Components.{Free, slash_free}
 use Rattle.outside.proofs.Lawful.{begins, each_filter, filter_kept}
@@ -206,14 +204,3 @@ names_stop u w s name file v is named same push (Err why) refused = λ a c. ⊎_
     (λ (line, says, own). stops_as why (StackName line) says (own_stops u w a c s name (patch_of_set v) line is named (λ f told.
     ap (λ (n : List ℕ). read_patch (get f n)) (sym (file_is s name file is named same f told)) ∙ ap read_patch (push.held f told) ∙ push.is.patch) own))
     refused
-
--- what was gathered, once it is looked at
-pub names_as : (r : Result Next Why) (names : Vec Name Global) (list : List (List ℕ)) → names.items ≡ list → IfOk r (λ next. next.names ≡ names) → IfOk r (λ next. next.names.items ≡ list)
-names_as r names list is = IfOk-weaker r (λ next. next.names ≡ names) (λ next. next.names.items ≡ list) (λ next same. ap (λ (v : Vec Name Global). v.items) same ∙ is)
-
-pub own_as : (r : Result Next Why) (o p : Option ℕ) → o ≡ p → OnOk r (o ≡ None) → OnOk r (p ≡ None)
-own_as r o p is = on_ok_weaker r (λ none. sym is ∙ none)
-
-pub refused_as : (r : Result Next Why) (o p : Option ℕ) → o ≡ p → IfErr r (λ why. (line : ℕ) × (why ≡ StackName line) × (o ≡ Some line)) → IfErr r (λ why. (why ≡ Memory) ⊎ ((line : ℕ) × (why ≡ StackName line) × (p ≡ Some line)))
-refused_as r o p is = IfErr-weaker r (λ why. (line : ℕ) × (why ≡ StackName line) × (o ≡ Some line)) (λ why. (why ≡ Memory) ⊎ ((line : ℕ) × (why ≡ StackName line) × (p ≡ Some line)))
-    (λ why (line, says, own). inr (line, says, sym is ∙ own))

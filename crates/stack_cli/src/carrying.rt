@@ -42,7 +42,7 @@ pub fn run_stack<T: Tree, C: Scratch, O: Sink>(
     }
 }
 
-/// Settles the tree, and carries the operation out.
+/// Settles the tree, and carries the operation out over what its files tell.
 fn run_op<T: Tree, C: Scratch, O: Sink>(
     alloc: Global,
     op: StackOp,
@@ -55,26 +55,15 @@ fn run_op<T: Tree, C: Scratch, O: Sink>(
     ensures rest { O.same_rest out.old out.new }
 {
     match settle(tree) {
-        Ok(()) => run_settled(alloc, op, tree, scratch, out),
-        Err(why) => (why, scratch),
+        Ok(()) => {}
+        Err(why) => return (why, scratch),
     }
-}
-
-/// Carries the operation out on a settled tree.
-fn run_settled<T: Tree, C: Scratch, O: Sink>(
-    alloc: Global,
-    op: StackOp,
-    tree: &mut T,
-    scratch: C,
-    out: &mut O,
-) -> (Why, C)
-    requires quiet { IsQuiet (T.view tree.old) }
-    ensures carries { Carries (Ok op) (world (T.view tree.old) (C.view scratch) (O.view out.old)) (world (T.view tree.new) (C.view result.1) (O.view out.new)) result.0 }
-    ensures scratch { (IsPushing op → ⊥) → result.1 ≡ scratch }
-    ensures rest { O.same_rest out.old out.new }
-{
     match read_state(alloc, tree) {
-        Ok(state) => run_state(alloc, op, &state, tree, scratch, out),
+        Ok(state) => {
+            let ended = run_state(alloc, op, &state, tree, scratch, out);
+            drop(state);
+            ended
+        }
         Err(why) => (why, scratch),
     }
 }

@@ -1,19 +1,12 @@
 //! What a push does behind its patch.
-ghost use Rattle.std.specs.Prelude.{◌≡◌, ◌≤◌, ℕ, List, length, not, Err, IsSome};
-ghost use Rattle.outside.specs.Files.{Files};
-ghost use Rattle.outside.specs.Quiet.{IsQuiet, Effect};
+ghost use Rattle.std.specs.Prelude.{◌≡◌, ◌≤◌, length, not, Err, IsSome};
 ghost use Rattle.outside.specs.ScratchView.{ScratchView};
 ghost use Rattle.outside.specs.SinkView.{SinkView};
 ghost use Rattle.patch_run.specs.Doing.{QuietAfter};
 ghost use Rattle.series_stack.specs.Saves.{entries_of};
-ghost use Rattle.series_stack.specs.Commands.Ending.{CutOff};
-ghost use Rattle.series_stack.specs.Commands.{Ending as endings};
-ghost use Rattle.tool_words.specs.declared.jobs.StackOp.TheVariants.{Push};
-ghost use Rattle.run_answers.specs.Answers.{of_run};
-ghost use Rattle.run_answers.specs.declared.why.Why.TheVariants.{Done, Rejected};
+ghost use Rattle.run_answers.specs.declared.why.Why.TheVariants.{Rejected};
 ghost use Rattle.run_answers.specs.Worlds.{world};
-ghost use Rattle.stack_cli.specs.Comes.{Comes};
-ghost use Rattle.stack_cli.specs.Stages.{Closes, HasCut, IsCut, QuietBy, Stage, is_cut, closed, closed_over, ending_if, why_by};
+ghost use Rattle.stack_cli.specs.Stages.{Closes, HasCut, QuietBy, Stage, is_cut, why_by};
 ghost use Rattle.stack_cli.specs.States.{stage_of};
 
 use crate::fault::done;
@@ -46,32 +39,16 @@ pub fn close<T: Tree, O: Sink>(
     ensures rest { O.same_rest out.old out.new }
 {
     match ended {
-        Ok(applied) => close_ended(alloc, state, name, save, applied, tree, out),
+        Ok(applied) => {
+            let stack = &state.stack;
+            let patches = count(stack);
+            if is_whole(&applied) {
+                done(keep(alloc, stack.applied, patches, tree, out))
+            } else {
+                rejected(reject(alloc, name, stack.applied, save, patches, tree, out))
+            }
+        }
         Err(fault) => close_cut(alloc, state.stack.applied, save, fault, tree),
-    }
-}
-
-/// Behind a run over all file patches.
-fn close_ended<T: Tree, O: Sink>(
-    alloc: Global,
-    state: &State,
-    name: &Name,
-    save: &[u8],
-    applied: Applied,
-    tree: &mut T,
-    out: &mut O,
-) -> Why
-    requires few { length state.now.stack.patches.items ≤ 9999 }
-    requires applied { state.now.stack.applied ≤ 9999 }
-    requires save { IsSome (entries_of save.now) }
-    requires quiet { IsQuiet (T.view tree.old) }
-    ensures comes { (a : ScratchView) → Comes Push (world (T.view tree.old) a (O.view out.old)) (world (T.view tree.new) a (O.view out.new)) result (λ f. closed_over (ending_if applied.is_bad) Done (stage_of state.now name.now) (entries_of save.now) f) }
-    ensures rest { O.same_rest out.old out.new }
-{
-    if is_whole(&applied) {
-        close_whole(alloc, state, tree, out)
-    } else {
-        close_rejected(alloc, state, name, save, tree, out)
     }
 }
 
@@ -79,36 +56,6 @@ fn is_whole(applied: &Applied) -> bool
     ensures { result ≡ not applied.now.is_bad }
 {
     applied.status() == 0
-}
-
-fn close_whole<T: Tree, O: Sink>(alloc: Global, state: &State, tree: &mut T, out: &mut O) -> Why
-    requires few { length state.now.stack.patches.items ≤ 9999 }
-    requires applied { state.now.stack.applied ≤ 9999 }
-    requires quiet { IsQuiet (T.view tree.old) }
-    ensures comes { (a : ScratchView) (name : List ℕ) (undoing : Files → List Effect) → Comes Push (world (T.view tree.old) a (O.view out.old)) (world (T.view tree.new) a (O.view out.new)) result (λ f. closed endings.Done Done (stage_of state.now name) (undoing f)) }
-    ensures rest { O.same_rest out.old out.new }
-{
-    let stack = &state.stack;
-    done(keep(alloc, stack.applied, count(stack), tree, out))
-}
-
-fn close_rejected<T: Tree, O: Sink>(
-    alloc: Global,
-    state: &State,
-    name: &Name,
-    save: &[u8],
-    tree: &mut T,
-    out: &mut O,
-) -> Why
-    requires few { length state.now.stack.patches.items ≤ 9999 }
-    requires applied { state.now.stack.applied ≤ 9999 }
-    requires save { IsSome (entries_of save.now) }
-    requires quiet { IsQuiet (T.view tree.old) }
-    ensures comes { (a : ScratchView) → Comes Push (world (T.view tree.old) a (O.view out.old)) (world (T.view tree.new) a (O.view out.new)) result (λ f. closed_over endings.Rejected Done (stage_of state.now name.now) (entries_of save.now) f) }
-    ensures rest { O.same_rest out.old out.new }
-{
-    let stack = &state.stack;
-    rejected(reject(alloc, name, stack.applied, save, count(stack), tree, out))
 }
 
 fn rejected(done: Result<(), RunFault>) -> Why
@@ -120,7 +67,7 @@ fn rejected(done: Result<(), RunFault>) -> Why
     }
 }
 
-/// Behind a run that came to no end.
+/// Behind a run that came to no end. A patch that was cut off is undone.
 fn close_cut<T: Tree>(alloc: Global, applied: u32, save: &[u8], cut: RunFault, tree: &mut T) -> Why
     requires applied { applied ≤ 9999 }
     requires save { IsSome (entries_of save.now) }
@@ -129,7 +76,10 @@ fn close_cut<T: Tree>(alloc: Global, applied: u32, save: &[u8], cut: RunFault, t
     ensures { (a : ScratchView) (c : SinkView) (s : Stage) → s.applied ≡ applied → Closes (Err cut) (world (T.view tree.old) a c) (world (T.view tree.new) a c) result s (entries_of save.now) }
 {
     if is_cut(cut) {
-        undo_cut(alloc, applied, save, cut, tree)
+        match undo(alloc, applied + 1, save, tree) {
+            Ok(()) => Why::from(cut),
+            Err(fault) => Why::from(fault),
+        }
     } else {
         Why::from(cut)
     }
@@ -142,19 +92,5 @@ fn is_cut(fault: RunFault) -> bool
         RunFault::LongLine { .. } => true,
         RunFault::FileTooLong { .. } => true,
         _ => false,
-    }
-}
-
-/// Undoes the patch, and answers what cut it off.
-fn undo_cut<T: Tree>(alloc: Global, applied: u32, save: &[u8], cut: RunFault, tree: &mut T) -> Why
-    requires applied { applied ≤ 9999 }
-    requires save { IsSome (entries_of save.now) }
-    requires quiet { IsQuiet (T.view tree.old) }
-    requires cut { IsCut cut }
-    ensures { (a : ScratchView) (c : SinkView) (s : Stage) → s.applied ≡ applied → Comes Push (world (T.view tree.old) a c) (world (T.view tree.new) a c) result (λ f. closed_over CutOff (of_run cut) s (entries_of save.now) f) }
-{
-    match undo(alloc, applied + 1, save, tree) {
-        Ok(()) => Why::from(cut),
-        Err(fault) => Why::from(fault),
     }
 }

@@ -1,22 +1,20 @@
 //! The next patch of a stack is applied.
-ghost use Rattle.std.specs.Prelude.{◌≡◌, ◌<◌, ◌≤◌, ◌∷◌, [], ℕ, List, drop, nat_lt, suc, length, false, ◌⊎◌, None, Some, Ok, IsSome, IfOk, IfErr, OnOk};
-ghost use Rattle.outside.specs.Calls.{IsUntouched, IsThere};
-ghost use Rattle.outside.specs.Quiet.{IsQuiet, after};
+ghost use Rattle.std.specs.Prelude.{◌≡◌, ◌<◌, ◌≤◌, ◌∷◌, ℕ, List, drop, nat_lt, suc, length, false, ◌⊎◌, None, Some, Ok, IfOk, IfErr, OnOk};
+ghost use Rattle.outside.specs.Calls.{IsUntouched};
+ghost use Rattle.outside.specs.Quiet.{IsQuiet};
 ghost use Rattle.outside.specs.ScratchView.{ScratchView};
 ghost use Rattle.outside.specs.SinkView.{SinkView};
-ghost use Rattle.series_stack.specs.Saves.{entries_of};
-ghost use Rattle.series_stack.specs.Stack.{patch_name, save_name};
+ghost use Rattle.series_stack.specs.Stack.{patch_name};
 ghost use Rattle.stack_patch.specs.Reading.{push_options, targets_for};
 ghost use Rattle.patch_set.specs.SetView.{IsRead, plain_patches};
 ghost use Rattle.series_stack.specs.Commands.{names_of, own_line};
 ghost use Rattle.outside.specs.Names.{is_absolute};
-ghost use Rattle.outside.specs.Quiet.Effect.{Put};
-ghost use Rattle.stack_cli.specs.Command.{behind, on_op};
+ghost use Rattle.stack_cli.specs.Command.{on_op};
 ghost use Rattle.tool_words.specs.declared.jobs.StackOp.TheVariants.{Push};
 ghost use Rattle.run_answers.specs.Worlds.{world};
 ghost use Rattle.stack_cli.specs.Carries.{Carries};
 ghost use Rattle.stack_cli.specs.Comes.{Comes, StopsEarly};
-ghost use Rattle.stack_cli.specs.Stages.{CanPush, IsNext, on_recovered, on_said, on_saved};
+ghost use Rattle.stack_cli.specs.Stages.{CanPush, IsNext, on_said};
 ghost use Rattle.stack_cli.specs.States.{IsNamed, IsState, stage_of};
 
 use crate::closing::close;
@@ -27,7 +25,7 @@ use patch_set::PatchSet;
 use planned_run::apply;
 use run_answers::Why;
 use series_stack::take_names;
-use stack_patch::{Saved, push_options, read_push, saved_names};
+use stack_patch::{push_options, read_push, saved_names};
 use stack_state::{Standing, put_save, recover, say_applying};
 use std::alloc::{AllocError, Global};
 
@@ -45,7 +43,15 @@ pub fn apply_next<T: Tree, C: Scratch, O: Sink>(
     ensures rest { O.same_rest out.old out.new }
 {
     if has_next(&state.stack) {
-        push_named(alloc, state, next_name(&state.stack), tree, scratch, out)
+        let name = next_name(&state.stack);
+        match read_next(alloc, state, name, tree) {
+            Ok(mut next) => {
+                let ended = push_next(alloc, state, name, &mut next, tree, scratch, out);
+                drop(next);
+                ended
+            }
+            Err(why) => (why, scratch),
+        }
     } else {
         let applied = state.stack.applied;
         (Why::StackEnd { applied }, scratch)
@@ -64,31 +70,6 @@ fn next_name(stack: &Standing) -> &Name
     ensures { drop stack.now.applied stack.now.patches.items ≡ result.now ∷ drop (suc stack.now.applied) stack.now.patches.items }
 {
     &stack.patches[stack.applied as usize]
-}
-
-/// Applies the patch with this name, which is the next one.
-fn push_named<T: Tree, C: Scratch, O: Sink>(
-    alloc: Global,
-    state: &State,
-    name: &Name,
-    tree: &mut T,
-    scratch: C,
-    out: &mut O,
-) -> (Why, C)
-    requires state { IsState (T.view tree.old) state.now }
-    requires name { IsNamed state.now name.now }
-    requires quiet { IsQuiet (T.view tree.old) }
-    ensures carries { Carries (Ok Push) (world (T.view tree.old) (C.view scratch) (O.view out.old)) (world (T.view tree.new) (C.view result.1) (O.view out.new)) result.0 }
-    ensures rest { O.same_rest out.old out.new }
-{
-    match read_next(alloc, state, name, tree) {
-        Ok(mut next) => {
-            let ended = push_next(alloc, state, name, &mut next, tree, scratch, out);
-            drop(next);
-            ended
-        }
-        Err(why) => (why, scratch),
-    }
 }
 
 /// A patch, and the names whose files it can change.
@@ -149,30 +130,21 @@ fn with_names(alloc: Global, set: PatchSet) -> Result<Next, Why>
     ensures refused { IfErr result (λ why. (why ≡ Why.Memory) ⊎ ((line : ℕ) × (why ≡ Why.StackName line) × (own_line (targets_for push_options (plain_patches set)) ≡ Some line))) }
 {
     match saved_names(alloc, &set) {
-        Ok(saved) => checked(set, saved),
+        Ok(saved) => match saved.own {
+            Some(line) => {
+                drop(set);
+                drop(saved.names);
+                Err(Why::StackName { line })
+            }
+            None => Ok(Next {
+                set,
+                names: saved.names,
+            }),
+        },
         Err(_) => {
             drop(set);
             Err(Why::Memory)
         }
-    }
-}
-
-fn checked(set: PatchSet, saved: Saved) -> Result<Next, Why>
-    ensures set { IfOk result (λ next. next.set ≡ set) }
-    ensures names { IfOk result (λ next. next.names ≡ saved.names) }
-    ensures own { OnOk result (saved.own ≡ None) }
-    ensures refused { IfErr result (λ why. (line : ℕ) × (why ≡ Why.StackName line) × (saved.own ≡ Some line)) }
-{
-    match saved.own {
-        Some(line) => {
-            drop(set);
-            drop(saved.names);
-            Err(Why::StackName { line })
-        }
-        None => Ok(Next {
-            set,
-            names: saved.names,
-        }),
     }
 }
 
@@ -206,34 +178,16 @@ fn push_next<T: Tree, C: Scratch, O: Sink>(
     ensures rest { O.same_rest out.old out.new }
 {
     match recover(alloc, state.stack.applied, &state.next, tree, out) {
-        Ok(()) => push_recovered(alloc, state, name, next, tree, scratch, out),
-        Err(fault) => (Why::from(fault), scratch),
+        Ok(()) => {}
+        Err(fault) => return (Why::from(fault), scratch),
     }
-}
-
-fn push_recovered<T: Tree, C: Scratch, O: Sink>(
-    alloc: Global,
-    state: &State,
-    name: &Name,
-    next: &mut Next,
-    tree: &mut T,
-    scratch: C,
-    out: &mut O,
-) -> (Why, C)
-    requires few { length state.now.stack.patches.items ≤ 9999 }
-    requires applied { state.now.stack.applied ≤ 9999 }
-    requires can { CanPush next.old.set }
-    requires names { next.old.names.items ≡ names_of (targets_for push_options (plain_patches next.old.set)) }
-    requires quiet { IsQuiet (T.view tree.old) }
-    ensures comes { Comes Push (world (T.view tree.old) (C.view scratch) (O.view out.old)) (world (T.view tree.new) (C.view result.1) (O.view out.new)) result.0 (on_recovered next.old.set (stage_of state.now name.now)) }
-    ensures rest { O.same_rest out.old out.new }
-{
     match say_applying(out, name) {
         Ok(()) => push_said(alloc, state, name, next, tree, scratch, out),
         Err(_) => (Why::WriteFault, scratch),
     }
 }
 
+/// Puts the save, applies the patch, and keeps it or undoes it.
 fn push_said<T: Tree, C: Scratch, O: Sink>(
     alloc: Global,
     state: &State,
@@ -251,60 +205,17 @@ fn push_said<T: Tree, C: Scratch, O: Sink>(
     ensures comes { Comes Push (world (T.view tree.old) (C.view scratch) (O.view out.old)) (world (T.view tree.new) (C.view result.1) (O.view out.new)) result.0 (on_said next.old.set (stage_of state.now name.now)) }
     ensures rest { O.same_rest out.old out.new }
 {
-    match take_names(alloc, &next.names, tree) {
-        Ok(save) => push_taken(alloc, state, name, &mut next.set, &save, tree, scratch, out),
-        Err(fault) => (of_save(fault), scratch),
-    }
-}
-
-/// Puts the save, and applies the patch.
-fn push_taken<T: Tree, C: Scratch, O: Sink>(
-    alloc: Global,
-    state: &State,
-    name: &Name,
-    set: &mut PatchSet,
-    save: &[u8],
-    tree: &mut T,
-    scratch: C,
-    out: &mut O,
-) -> (Why, C)
-    requires few { length state.now.stack.patches.items ≤ 9999 }
-    requires applied { state.now.stack.applied ≤ 9999 }
-    requires can { CanPush set.old }
-    requires save { IsSome (entries_of save.now) }
-    requires quiet { IsQuiet (T.view tree.old) }
-    ensures comes { Comes Push (world (T.view tree.old) (C.view scratch) (O.view out.old)) (world (T.view tree.new) (C.view result.1) (O.view out.new)) result.0
-        (λ f. behind (Put (save_name (suc state.now.stack.applied)) save.now ∷ []) [] (on_saved set.old (stage_of state.now name.now) (entries_of save.now) (after (Put (save_name (suc state.now.stack.applied)) save.now) f))) }
-    ensures rest { O.same_rest out.old out.new }
-{
+    let taken = match take_names(alloc, &next.names, tree) {
+        Ok(taken) => taken,
+        Err(fault) => return (of_save(fault), scratch),
+    };
+    let save = taken.as_slice();
     match put_save(alloc, state.stack.applied + 1, save, tree) {
-        Ok(()) => push_saved(alloc, state, name, set, save, tree, scratch, out),
-        Err(fault) => (Why::from(fault), scratch),
+        Ok(()) => {}
+        Err(fault) => return (Why::from(fault), scratch),
     }
-}
-
-/// Applies the patch, and keeps it or undoes it.
-fn push_saved<T: Tree, C: Scratch, O: Sink>(
-    alloc: Global,
-    state: &State,
-    name: &Name,
-    set: &mut PatchSet,
-    save: &[u8],
-    tree: &mut T,
-    scratch: C,
-    out: &mut O,
-) -> (Why, C)
-    requires few { length state.now.stack.patches.items ≤ 9999 }
-    requires applied { state.now.stack.applied ≤ 9999 }
-    requires can { CanPush set.old }
-    requires save { IsSome (entries_of save.now) }
-    requires there { IsThere (T.view tree.old) (save_name (suc state.now.stack.applied)) }
-    requires quiet { IsQuiet (T.view tree.old) }
-    ensures comes { Comes Push (world (T.view tree.old) (C.view scratch) (O.view out.old)) (world (T.view tree.new) (C.view result.1) (O.view out.new)) result.0 (on_saved set.old (stage_of state.now name.now) (entries_of save.now)) }
-    ensures rest { O.same_rest out.old out.new }
-{
     let options = push_options();
-    let (ended, scratch) = apply(alloc, &options, set, scratch, tree, out);
+    let (ended, scratch) = apply(alloc, &options, &mut next.set, scratch, tree, out);
     drop(options);
     (close(alloc, state, name, save, ended, tree, out), scratch)
 }

@@ -1,6 +1,5 @@
 //! What comes before the first effect: the words, and the stack with the saves at which each command looks.
-ghost use Rattle.std.specs.Prelude.{◌≡◌, ◌≤◌, ◌⊎◌, map, string_bytes, length, Some, Ok, Err, IfOk, IfErr, option_map, vec_items};
-ghost use Rattle.outside.specs.Files.{Files};
+ghost use Rattle.std.specs.Prelude.{◌≡◌, ◌⊎◌, map, string_bytes, Ok, Err, IfOk, IfErr};
 ghost use Rattle.outside.specs.Calls.{IsUntouched};
 ghost use Rattle.outside.specs.ScratchView.{ScratchView};
 ghost use Rattle.outside.specs.SinkView.{SinkView};
@@ -9,11 +8,9 @@ ghost use Rattle.tool_words.specs.PlainJobs.{plain_tool_job};
 ghost use Rattle.tool_words.specs.declared.jobs.StackOp.{StackOp as Op};
 ghost use Rattle.run_answers.specs.Answers.{of_words};
 ghost use Rattle.run_answers.specs.Worlds.{world};
-ghost use Rattle.series_stack.specs.Stack.{stack_of};
-ghost use Rattle.stack_state.specs.Reading.{next_save};
-ghost use Rattle.stack_cli.specs.Jobs.{job_of, op_in, stack_op};
+ghost use Rattle.stack_cli.specs.Jobs.{job_of, stack_op};
 ghost use Rattle.stack_cli.specs.Comes.{StopsEarly};
-ghost use Rattle.stack_cli.specs.States.{IsState, IsStack};
+ghost use Rattle.stack_cli.specs.States.{IsState};
 
 use crate::fault::of_state;
 use outside::Tree;
@@ -42,18 +39,9 @@ fn supported(job: &ToolJob) -> Result<StackOp, Why>
     ensures job { IfOk result (λ op. stack_op (Ok (plain_tool_job job.now)) ≡ Ok op) }
     ensures refused { IfErr result (λ why. (why ≡ Why.Usage) × (stack_op (Ok (plain_tool_job job.now)) ≡ Err WordFault.Usage)) }
 {
-    match op_in(job) {
-        Some(op) => Ok(op),
-        None => Err(Why::Usage),
-    }
-}
-
-fn op_in(job: &ToolJob) -> Option<StackOp>
-    ensures { result ≡ op_in (plain_tool_job job.now) }
-{
     match job {
-        ToolJob::Stack(op) => Some(*op),
-        _ => None,
+        ToolJob::Stack(op) => Ok(*op),
+        _ => Err(Why::Usage),
     }
 }
 
@@ -71,19 +59,13 @@ pub fn read_state<T: Tree>(alloc: Global, tree: &mut T) -> Result<State, Why>
     ensures refused { IfErr result (λ why. (op : Op) (a : ScratchView) (c : SinkView) → StopsEarly why op (world (T.view tree.old) a c) (world (T.view tree.new) a c)) }
 {
     match read_stack(alloc, tree) {
-        Ok(stack) => with_save(alloc, stack, tree),
-        Err(fault) => Err(of_state(fault)),
-    }
-}
-
-fn with_save<T: Tree>(alloc: Global, stack: Standing, tree: &mut T) -> Result<State, Why>
-    requires stack { IsStack (T.view tree.old) stack }
-    ensures untouched { IsUntouched (T.view tree.old) (T.view tree.new) }
-    ensures state { IfOk result (IsState (T.view tree.old)) }
-    ensures refused { IfErr result (λ why. (op : Op) (a : ScratchView) (c : SinkView) → StopsEarly why op (world (T.view tree.old) a c) (world (T.view tree.new) a c)) }
-{
-    match read_next_save(alloc, stack.applied, tree) {
-        Ok(next) => Ok(State { stack, next }),
+        Ok(stack) => match read_next_save(alloc, stack.applied, tree) {
+            Ok(next) => Ok(State { stack, next }),
+            Err(fault) => {
+                drop(stack);
+                Err(of_state(fault))
+            }
+        },
         Err(fault) => Err(of_state(fault)),
     }
 }

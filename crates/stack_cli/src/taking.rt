@@ -1,11 +1,7 @@
 //! The commands that apply no patch: the last one is taken back, or they are counted.
-ghost use Rattle.std.specs.Prelude.{◌≡◌, ◌<◌, ◌≤◌, ◌-◌, ◌∷◌, drop, length, nat_lt, Some, Ok, IsSome};
-ghost use Rattle.outside.specs.Files.{Files};
+ghost use Rattle.std.specs.Prelude.{◌≡◌, ◌<◌, ◌≤◌, ◌-◌, ◌∷◌, drop, length, nat_lt, Ok};
 ghost use Rattle.outside.specs.Quiet.{IsQuiet};
 ghost use Rattle.outside.specs.ScratchView.{ScratchView};
-ghost use Rattle.outside.specs.SinkView.{SinkView};
-ghost use Rattle.series_stack.specs.Saves.{entries_of};
-ghost use Rattle.stack_state.specs.Reading.{last_save};
 ghost use Rattle.tool_words.specs.declared.jobs.StackOp.TheVariants.{Pop, Applied};
 ghost use Rattle.run_answers.specs.Worlds.{world};
 ghost use Rattle.stack_cli.specs.Command.{on_op};
@@ -59,7 +55,7 @@ fn has_applied(stack: &Standing) -> bool
     0 < stack.applied
 }
 
-/// Takes it back by its save.
+/// Undoes what an interrupted command did, and takes the last patch back by its save.
 fn take_saved<T: Tree, O: Sink>(alloc: Global, state: &State, tree: &mut T, out: &mut O) -> Why
     requires state { IsState (T.view tree.old) state.now }
     requires some { 0 < state.now.stack.applied }
@@ -67,35 +63,17 @@ fn take_saved<T: Tree, O: Sink>(alloc: Global, state: &State, tree: &mut T, out:
     ensures carries { (a : ScratchView) → Carries (Ok Pop) (world (T.view tree.old) a (O.view out.old)) (world (T.view tree.new) a (O.view out.new)) result }
     ensures rest { O.same_rest out.old out.new }
 {
-    match read_last_save(alloc, state.stack.applied, tree) {
-        Ok(save) => take_by(alloc, state, &save, tree, out),
-        Err(fault) => of_state(fault),
-    }
-}
-
-/// Undoes what an interrupted command did, and then the last patch.
-fn take_by<T: Tree, O: Sink>(
-    alloc: Global,
-    state: &State,
-    save: &[u8],
-    tree: &mut T,
-    out: &mut O,
-) -> Why
-    requires state { IsState (T.view tree.old) state.now }
-    requires some { 0 < state.now.stack.applied }
-    requires saved { IsSome (entries_of save.now) }
-    requires last { (f : Files) → (T.view tree.old).told ≡ Some f → last_save state.now.stack.applied f ≡ Ok save.now }
-    requires quiet { IsQuiet (T.view tree.old) }
-    ensures comes { (a : ScratchView) → Comes Pop (world (T.view tree.old) a (O.view out.old)) (world (T.view tree.new) a (O.view out.new)) result (on_op Pop) }
-    ensures rest { O.same_rest out.old out.new }
-{
     let stack = &state.stack;
+    let save = match read_last_save(alloc, stack.applied, tree) {
+        Ok(save) => save,
+        Err(fault) => return of_state(fault),
+    };
     match recover(alloc, stack.applied, &state.next, tree, out) {
         Ok(()) => done(take_back(
             alloc,
             last_name(stack),
             stack.applied - 1,
-            save,
+            &save,
             count(stack),
             tree,
             out,

@@ -87,26 +87,33 @@ module _ {V : Type 0} (Is : Bool → List ℕ → V → Type 0) (i : Input) (old
       cause = subst (λ (skip : Bool). HasTextCause skip (faults.Set e)) skips (unread-cause new.skip_binary text e unread);
     }
 
-    pub opens-read : (set : Option V) → (IsStandard i → (left : List ℕ) → a.told ≡ Some left → b.told ≡ Some []) → IfSome set (λ v. Is new.skip_binary text v × (refusal (defaults new.skip_binary) text ≡ None)) → (set ≡ None → refusal (defaults new.skip_binary) text ≡ Some Garbage)
-        → Opens Is i old new t u a b (Ok set)
-    opens-read None end some none = record {
-      untouched = same;
-      source = source;
-      read = end;
-      taken = taken;
-      opened = garbage-opened i old new t a text are (none refl);
-      refused = tt;
-      cause = tt;
-    }
-    opens-read (Some v) end some none = record {
-      untouched = same;
-      source = source;
-      read = end;
-      taken = taken;
-      opened = read-opened Is i old new t a text are v some.0 some.1;
-      refused = tt;
-      cause = tt;
-    }
+    module _ (end : IsStandard i → (left : List ℕ) → a.told ≡ Some left → b.told ≡ Some []) where
+      pub opens-some : (v : V) → Is new.skip_binary text v → refusal (defaults new.skip_binary) text ≡ None → Opens Is i old new t u a b (Ok (Some v))
+      opens-some v read free = record {
+        untouched = same;
+        source = source;
+        read = end;
+        taken = taken;
+        opened = read-opened Is i old new t a text are v read free;
+        refused = tt;
+        cause = tt;
+      }
+
+      pub opens-none : refusal (defaults new.skip_binary) text ≡ Some Garbage → Opens Is i old new t u a b (Ok None)
+      opens-none garbage = record {
+        untouched = same;
+        source = source;
+        read = end;
+        taken = taken;
+        opened = garbage-opened i old new t a text are garbage;
+        refused = tt;
+        cause = tt;
+      }
+
+      pub opens-read : (set : Option V) → IfSome set (λ v. Is new.skip_binary text v × (refusal (defaults new.skip_binary) text ≡ None)) → (set ≡ None → refusal (defaults new.skip_binary) text ≡ Some Garbage)
+          → Opens Is i old new t u a b (Ok set)
+      opens-read None some none = opens-none (none refl)
+      opens-read (Some v) some none = opens-some v some.0 some.1
 
 -- what was read is read of some text, and the refusal of a text without file patches
 pub some-read : {V : Type 0} (P : List ℕ → V → Type 0) (Q : Type 0) (text : List ℕ) (o : Option V) → IfSome o (λ v. P text v × Q) → IfSome o (λ v. (text : List ℕ) × P text v)

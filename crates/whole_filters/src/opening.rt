@@ -5,8 +5,6 @@ ghost use Rattle.outside.specs.Calls.{IsUntouched};
 ghost use Rattle.outside.specs.SourceView.{SourcePasses};
 ghost use Rattle.tool_words.specs.PlainJobs.{plain_select};
 ghost use Rattle.run_answers.specs.Input.{IsFile, IsStandard, TakesAtMost};
-ghost use Rattle.filter_choice.specs.Digested.{IsDigestOf};
-ghost use Rattle.filter_choice.specs.Outlined.{IsOutline};
 ghost use Rattle.patch_set.specs.SetView.{IsRead, IsWhole};
 ghost use Rattle.patch_set.specs.Refusals.{refusal};
 ghost use Rattle.patch_set.specs.declared.fault.SetFault.{SetFault as TheFault};
@@ -70,44 +68,6 @@ fn read_patches(
     }
 }
 
-/// The same without their hunks.
-fn outline_patches(
-    alloc: Global,
-    text: Vec<u8>,
-    skip_binary: bool,
-) -> Result<Option<Outline>, SetFault>
-    ensures outline { IfOk result (λ given. IfSome given (λ v. IsOutline (defaults skip_binary) text.items v × (refusal (defaults skip_binary) text.items ≡ None))) }
-    ensures none { IfOk result (λ given. given ≡ None → refusal (defaults skip_binary) text.items ≡ Some TheFault.Garbage) }
-    ensures refused { IfErr result (λ e. (e ≡ TheFault.Memory) ⊎ ((e ≢ TheFault.Garbage) × (refusal (defaults skip_binary) text.items ≡ Some e))) }
-{
-    match outline_plain(alloc, text, skip_binary) {
-        Ok(outline) => Ok(Some(outline)),
-        Err(fault) => match fault {
-            SetFault::Garbage => Ok(None),
-            _ => Err(fault),
-        },
-    }
-}
-
-/// The same without their hunks, with the piece and the old lines of each.
-fn digest_patches(
-    alloc: Global,
-    text: Vec<u8>,
-    skip_binary: bool,
-) -> Result<Option<Digest>, SetFault>
-    ensures digest { IfOk result (λ given. IfSome given (λ v. IsDigestOf (defaults skip_binary) text.items v × (refusal (defaults skip_binary) text.items ≡ None))) }
-    ensures none { IfOk result (λ given. given ≡ None → refusal (defaults skip_binary) text.items ≡ Some TheFault.Garbage) }
-    ensures refused { IfErr result (λ e. (e ≡ TheFault.Memory) ⊎ ((e ≢ TheFault.Garbage) × (refusal (defaults skip_binary) text.items ≡ Some e))) }
-{
-    match digest_plain(alloc, text, skip_binary) {
-        Ok(digest) => Ok(Some(digest)),
-        Err(fault) => match fault {
-            SetFault::Garbage => Ok(None),
-            _ => Err(fault),
-        },
-    }
-}
-
 /// The file patches that a filter reads, and its selection with the patterns of its files; none where the text has none.
 pub fn open_text<T: Tree, I: Source>(
     alloc: Global,
@@ -138,8 +98,13 @@ pub fn open_outline<T: Tree, I: Source>(
     ensures unread { IsFile input.now → source.new ≡ source.old }
 {
     let text = read_given(alloc, input, select, tree, source)?;
-    let outline = outline_patches(alloc, text, select.skip_binary)?;
-    Ok(outline)
+    match outline_plain(alloc, text, select.skip_binary) {
+        Ok(outline) => Ok(Some(outline)),
+        Err(fault) => match fault {
+            SetFault::Garbage => Ok(None),
+            _ => Err(FilterFault::Set(fault)),
+        },
+    }
 }
 
 /// The same without their hunks, for a filter that leaves file patches and hunks out.
@@ -154,6 +119,11 @@ pub fn open_digest<T: Tree, I: Source>(
     ensures unread { IsFile input.now → source.new ≡ source.old }
 {
     let text = read_given(alloc, input, select, tree, source)?;
-    let digest = digest_patches(alloc, text, select.skip_binary)?;
-    Ok(digest)
+    match digest_plain(alloc, text, select.skip_binary) {
+        Ok(digest) => Ok(Some(digest)),
+        Err(fault) => match fault {
+            SetFault::Garbage => Ok(None),
+            _ => Err(FilterFault::Set(fault)),
+        },
+    }
 }

@@ -37,8 +37,7 @@ pub fn add_patterns<T: Tree>(
         select.exclude_file.as_ref(),
         &mut select.exclude,
         tree,
-    )?;
-    Ok(())
+    )
 }
 
 /// Adds the patterns of a file, where one is named.

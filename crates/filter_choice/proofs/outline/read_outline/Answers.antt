@@ -14,16 +14,27 @@ use Rattle.filter_choice.proofs.outline.read_outline.Goals as goal
 pub read_outlines-requires : goal.read_outlines-requires
 read_outlines-requires c = omega (arith, completed-length c.args.text.items, ap length c.deref.ensures.value, ap length c.in-Ok.ensures.whole, c.in-Ok.ensures.short)
 
-pub returns-clause-refused : goal.returns-clause-refused
-returns-clause-refused c =
-    let text = c.in-Ok.text.items in
-    let o = plain_options c.args.options.now in
-    let ps = map (patch_of text) c.in_ok-patches.patches.items in
-    let read : outlines_of (ways_of o) text ≡ Ok ps =
-    subst (λ w. outlines_of w text ≡ Ok ps) c.ways_of.ensures
-    (subst (λ t. outlines_of c.ways_of.result t ≡ Ok (map (patch_of t) c.in_ok-patches.patches.items)) c.deref.ensures.value c.in_ok-patches.ensures.exact) in
-    subst (λ r. Meets r c.outline_of.result)
-    (outline-refusal o c.args.text.items text ps (le-ltb 268435456 (length c.args.text.items) c.in-Ok.ensures.short) c.in-Ok.ensures.whole read) c.outline_of.ensures.refused
+pub returns : goal.returns
+returns c = record {
+  outline = (
+      let text = c.in-Ok.text.items in
+      let o = plain_options c.args.options.now in
+      let ps = map (patch_of text) c.in_ok-patches.patches.items in
+      let read : outlines_of (ways_of o) text ≡ Ok ps =
+      subst (λ w. outlines_of w text ≡ Ok ps) c.ways_of.ensures
+      (subst (λ t. outlines_of c.ways_of.result t ≡ Ok (map (patch_of t) c.in_ok-patches.patches.items)) c.deref.ensures.value c.in_ok-patches.ensures.exact) in
+      is-outline o c.args.text.items text ps c.outline_of.result c.in-Ok.ensures.whole read c.outline_of.ensures.text c.outline_of.ensures.plain);
+  refused = (
+      let text = c.in-Ok.text.items in
+      let o = plain_options c.args.options.now in
+      let ps = map (patch_of text) c.in_ok-patches.patches.items in
+      let read : outlines_of (ways_of o) text ≡ Ok ps =
+      subst (λ w. outlines_of w text ≡ Ok ps) c.ways_of.ensures
+      (subst (λ t. outlines_of c.ways_of.result t ≡ Ok (map (patch_of t) c.in_ok-patches.patches.items)) c.deref.ensures.value c.in_ok-patches.ensures.exact) in
+      subst (λ r. Meets r c.outline_of.result)
+      (outline-refusal o c.args.text.items text ps (le-ltb 268435456 (length c.args.text.items) c.in-Ok.ensures.short) c.in-Ok.ensures.whole read) c.outline_of.ensures.refused);
+  memory = λ is. c.in-Ok.ensures.short;
+}
 
 pub returns-in-Err-clause-refused : goal.returns-in-Err-clause-refused
 returns-in-Err-clause-refused c = long-refusal (plain_options c.args.options.now) c.args.text.items c.in-Err.fault c.in-Err.ensures.refused
@@ -34,18 +45,5 @@ outline_of-requires-clause-lawful c = subst (λ t. All (IsLawfulPatch t) c.in_ok
 pub outline_of-requires-clause-count : goal.outline_of-requires-clause-count
 outline_of-requires-clause-count c = c.in_ok-patches.ensures.count
 
-pub returns-clause-outline : goal.returns-clause-outline
-returns-clause-outline c =
-    let text = c.in-Ok.text.items in
-    let o = plain_options c.args.options.now in
-    let ps = map (patch_of text) c.in_ok-patches.patches.items in
-    let read : outlines_of (ways_of o) text ≡ Ok ps =
-    subst (λ w. outlines_of w text ≡ Ok ps) c.ways_of.ensures
-    (subst (λ t. outlines_of c.ways_of.result t ≡ Ok (map (patch_of t) c.in_ok-patches.patches.items)) c.deref.ensures.value c.in_ok-patches.ensures.exact) in
-    is-outline o c.args.text.items text ps c.outline_of.result c.in-Ok.ensures.whole read c.outline_of.ensures.text c.outline_of.ensures.plain
-
 pub returns-in-Err-clause-memory : goal.returns-in-Err-clause-memory
 returns-in-Err-clause-memory c = memory-of c.in-Err.fault c.in-Err.ensures.memory
-
-pub returns-clause-memory : goal.returns-clause-memory
-returns-clause-memory c = λ is. c.in-Ok.ensures.short

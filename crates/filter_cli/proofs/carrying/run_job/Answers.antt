@@ -1,41 +1,96 @@
 use Rattle.std.proofs.Common.{Ok, refl, ◌∙◌}
 use Rattle.tool_words.specs.PlainJobs.{plain_tool_job}
 use Rattle.filter_cli.proofs.Behind.{carries_behind}
-use Rattle.filter_cli.proofs.Early.{settle_carry}
+use Rattle.filter_cli.proofs.Sifters.{file-unless}
+use Rattle.filter_cli.proofs.Early.{no_other, settle_carry}
 use Rattle.filter_cli.proofs.carrying.run_job.Goals as goal
 
-pub returns-in-Ok-clause-carries : goal.returns-in-Ok-clause-carries
-returns-in-Ok-clause-carries g c = carries_behind (Ok (plain_tool_job c.args.job)) _ _ _ _ _ c.settle.ensures.opens _ _ c.run_settled.ensures.carries
+pub returns-in-List : goal.returns-in-List
+returns-in-List g c = record {
+  carries = rw c.in-List.is (carries_behind _ _ _ _ _ _ c.settle.ensures.opens _ _ (c.lsdiff.ensures.carries (g.F.Finder.view c.args.finder.now)));
+  unread = λ never. c.lsdiff.ensures.unread (file-unless c.in-List.job.input (rw c.in-List.is at never));
+  unasked = λ f left told none. refl;
+  no_pattern = λ never. refl;
+  rest = c.lsdiff.ensures.rest;
+}
 
-pub returns-in-Ok-clause-unasked : goal.returns-in-Ok-clause-unasked
-returns-in-Ok-clause-unasked g c f left told none = c.run_settled.ensures.unasked f left (record { files = λ named. c.settle.ensures.opens.told ∙ told.files named; source = told.source }) none
+pub returns-in-Filter : goal.returns-in-Filter
+returns-in-Filter g c = record {
+  carries = rw c.in-Filter.is (carries_behind _ _ _ _ _ _ c.settle.ensures.opens _ _ (c.filterdiff.ensures.carries (g.F.Finder.view c.args.finder.now)));
+  unread = λ never. c.filterdiff.ensures.unread (file-unless c.in-Filter.job.input (rw c.in-Filter.is at never));
+  unasked = λ f left told none. refl;
+  no_pattern = λ never. refl;
+  rest = c.filterdiff.ensures.rest;
+}
 
-pub returns-in-Err-clause-carries : goal.returns-in-Err-clause-carries
-returns-in-Err-clause-carries g c = settle_carry (Ok (plain_tool_job c.args.job)) _ _ _ _ _ c.in-Err.why c.settle.ensures.opens c.in-Err.ensures.cause.0 c.in-Err.ensures.cause.1
+pub returns-in-Grep : goal.returns-in-Grep
+returns-in-Grep g c = record {
+  carries = rw c.in-Grep.is (carries_behind _ _ _ _ _ _ c.settle.ensures.opens _ _ c.grepdiff.ensures.carries);
+  unread = λ never. c.grepdiff.ensures.unread (file-unless c.in-Grep.job.input (rw c.in-Grep.is at never));
+  unasked = λ f left told none. c.grepdiff.ensures.unasked (g.F.Finder.view c.args.finder.now) f left (record { files = λ named. c.settle.ensures.opens.told ∙ (rw c.in-Grep.is at told).files named; source = (rw c.in-Grep.is at told).source }) (rw c.in-Grep.is at none);
+  no_pattern = λ never. absurd ((rw c.in-Grep.is at never) tt);
+  rest = c.grepdiff.ensures.rest;
+}
 
-pub returns-in-Ok-clause-unread : goal.returns-in-Ok-clause-unread
-returns-in-Ok-clause-unread g c = c.run_settled.ensures.unread
+pub returns-in-Split : goal.returns-in-Split
+returns-in-Split g c = record {
+  carries = rw c.in-Split.is (carries_behind _ _ _ _ _ _ c.settle.ensures.opens _ _ (c.splitdiff-why.ensures.carries (g.F.Finder.view c.args.finder.now) (g.I.Source.view c.args.source.now)));
+  unread = λ never. refl;
+  unasked = λ f left told none. refl;
+  no_pattern = λ never. refl;
+  rest = c.splitdiff-why.ensures.rest;
+}
 
-pub returns-in-Ok-clause-no_pattern : goal.returns-in-Ok-clause-no_pattern
-returns-in-Ok-clause-no_pattern g c = c.run_settled.ensures.no_pattern
+pub returns-in-Recount : goal.returns-in-Recount
+returns-in-Recount g c = record {
+  carries = rw c.in-Recount.is (carries_behind _ _ _ _ _ _ c.settle.ensures.opens _ _ (c.recountdiff-why.ensures.carries (g.F.Finder.view c.args.finder.now)));
+  unread = λ never. c.recountdiff-why.ensures.unread (file-unless c.in-Recount.input (rw c.in-Recount.is at never));
+  unasked = λ f left told none. refl;
+  no_pattern = λ never. refl;
+  rest = c.recountdiff-why.ensures.rest;
+}
 
-pub returns-in-Err-clause-unread : goal.returns-in-Err-clause-unread
-returns-in-Err-clause-unread g c never = refl
+pub returns-in-Flip : goal.returns-in-Flip
+returns-in-Flip g c = record {
+  carries = rw c.in-Flip.is (carries_behind _ _ _ _ _ _ c.settle.ensures.opens _ _ (c.reversediff-why.ensures.carries (g.F.Finder.view c.args.finder.now)));
+  unread = λ never. c.reversediff-why.ensures.unread (file-unless c.in-Flip.input (rw c.in-Flip.is at never));
+  unasked = λ f left told none. refl;
+  no_pattern = λ never. refl;
+  rest = c.reversediff-why.ensures.rest;
+}
 
-pub returns-in-Err-clause-unasked : goal.returns-in-Err-clause-unasked
-returns-in-Err-clause-unasked g c f left told none = refl
+pub returns-in_default : goal.returns-in_default
+returns-in_default g c = record {
+  carries = absurd (no_other c.args.job c.requires.filter c.in_default.not-List c.in_default.not-Filter c.in_default.not-Grep c.in_default.not-Split c.in_default.not-Recount c.in_default.not-Flip);
+  unread = λ never. refl;
+  unasked = λ f left told none. refl;
+  no_pattern = λ never. refl;
+  rest = g.met.O.Sink.rest_none c.args.out.now;
+}
 
-pub returns-in-Err-clause-no_pattern : goal.returns-in-Err-clause-no_pattern
-returns-in-Err-clause-no_pattern g c never = refl
+pub lsdiff-requires : goal.lsdiff-requires
+lsdiff-requires g c = record { quiet = c.in-Ok.ensures.quiet }
 
-pub returns-in-Err-clause-rest : goal.returns-in-Err-clause-rest
-returns-in-Err-clause-rest g c = g.met.O.Sink.rest_none c.args.out.now
+pub filterdiff-requires : goal.filterdiff-requires
+filterdiff-requires g c = record { quiet = c.in-Ok.ensures.quiet }
 
-pub returns-in-Ok-clause-rest : goal.returns-in-Ok-clause-rest
-returns-in-Ok-clause-rest g c = c.run_settled.ensures.rest
+pub grepdiff-requires : goal.grepdiff-requires
+grepdiff-requires g c = record { quiet = c.in-Ok.ensures.quiet }
 
-pub run_settled-requires-clause-filter : goal.run_settled-requires-clause-filter
-run_settled-requires-clause-filter g c = c.requires.filter
+pub splitdiff-why-requires : goal.splitdiff-why-requires
+splitdiff-why-requires g c = record { quiet = c.in-Ok.ensures.quiet }
 
-pub run_settled-requires-clause-quiet : goal.run_settled-requires-clause-quiet
-run_settled-requires-clause-quiet g c = c.in-Ok.ensures.quiet
+pub recountdiff-why-requires : goal.recountdiff-why-requires
+recountdiff-why-requires g c = record { quiet = c.in-Ok.ensures.quiet }
+
+pub reversediff-why-requires : goal.reversediff-why-requires
+reversediff-why-requires g c = record { quiet = c.in-Ok.ensures.quiet }
+
+pub returns-in-Err : goal.returns-in-Err
+returns-in-Err g c = record {
+  carries = settle_carry (Ok (plain_tool_job c.args.job)) _ _ _ _ _ c.in-Err.why c.settle.ensures.opens c.in-Err.ensures.cause.0 c.in-Err.ensures.cause.1;
+  unread = λ never. refl;
+  unasked = λ f left told none. refl;
+  no_pattern = λ never. refl;
+  rest = g.met.O.Sink.rest_none c.args.out.now;
+}

@@ -1,14 +1,17 @@
 use Rattle.std.proofs.Common.{refl, sym, ◌∙◌}
+use Rattle.std.proofs.lemmas.Option.{none-some}
 use Rattle.filter_cli.proofs.converting.put_converted.Goals as goal
 
-pub returns-in-Some-clause-converts : goal.returns-in-Some-clause-converts
-returns-in-Some-clause-converts g c = rw c.in-Some.is c.convert_patches.ensures
+pub returns-in-Some : goal.returns-in-Some
+returns-in-Some g c = record {
+  converts = rw c.in-Some.is c.convert_patches.ensures;
+  none = λ none. absurd (none-some _ (sym none ∙ c.in-Some.is));
+  rest = c.convert_patches.ensures.rest;
+}
 
-pub returns-in-None-clause-converts : goal.returns-in-None-clause-converts
-returns-in-None-clause-converts g c = rw c.in-None.is tt
-
-pub returns-in-Some-clause-none : goal.returns-in-Some-clause-none
-returns-in-Some-clause-none g c = λ none. let never = sym c.in-Some.is ∙ none in absurd (cc)
-
-pub returns-in-None-clause-none : goal.returns-in-None-clause-none
-returns-in-None-clause-none g c = λ none. (refl, refl)
+pub returns-in-None : goal.returns-in-None
+returns-in-None g c = record {
+  converts = rw c.in-None.is tt;
+  none = λ none. (refl, refl);
+  rest = g.met.O.Sink.rest_none c.args.out.now;
+}

@@ -1,14 +1,17 @@
 use Rattle.std.proofs.Common.{refl, sym, ◌∙◌}
+use Rattle.std.proofs.lemmas.Option.{none-some}
 use Rattle.filter_cli.proofs.sifting.put_filtered.Goals as goal
 
-pub returns-in-Some-clause-writes : goal.returns-in-Some-clause-writes
-returns-in-Some-clause-writes g c = rw c.in-Some.is c.filter_patches.ensures.writes
+pub returns-in-Some : goal.returns-in-Some
+returns-in-Some g c = record {
+  writes = rw c.in-Some.is c.filter_patches.ensures.writes;
+  none = λ none. absurd (none-some _ (sym none ∙ c.in-Some.is));
+  rest = c.filter_patches.ensures.rest;
+}
 
-pub returns-in-None-clause-writes : goal.returns-in-None-clause-writes
-returns-in-None-clause-writes g c = rw c.in-None.is tt
-
-pub returns-in-Some-clause-none : goal.returns-in-Some-clause-none
-returns-in-Some-clause-none g c = λ none. let never = sym c.in-Some.is ∙ none in absurd (cc)
-
-pub returns-in-None-clause-none : goal.returns-in-None-clause-none
-returns-in-None-clause-none g c = λ none. (refl, refl)
+pub returns-in-None : goal.returns-in-None
+returns-in-None g c = record {
+  writes = rw c.in-None.is tt;
+  none = λ none. (refl, refl);
+  rest = g.met.O.Sink.rest_none c.args.out.now;
+}

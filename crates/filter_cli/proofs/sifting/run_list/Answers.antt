@@ -8,26 +8,20 @@ use Rattle.filter_cli.proofs.Coming.{listed-is}
 use Rattle.filter_cli.proofs.Written.{sifts-unopened, sifts-over}
 use Rattle.filter_cli.proofs.sifting.run_list.Goals as goal
 
-pub returns-in-Err-clause-sifts : goal.returns-in-Err-clause-sifts
-returns-in-Err-clause-sifts g c =
-    let j = plain_list_job c.args.job in
-    sifts-unopened IsOutlineOf j.input j.select (plain_select c.open_outline.new.select) ⊥ (λ s v. listed (list_with j s) (outlined v)) (IsOutcomeOf (list_outcome j)) (listed-is j) _ _ _ _ c.in-Err.fault _ c.in-Err.ensures.opens
+pub returns-in-Err : goal.returns-in-Err
+returns-in-Err g c = record {
+  sifts = let j = plain_list_job c.args.job in
+      sifts-unopened IsOutlineOf j.input j.select (plain_select c.open_outline.new.select) ⊥ (λ s v. listed (list_with j s) (outlined v)) (IsOutcomeOf (list_outcome j)) (listed-is j) _ _ _ _ c.in-Err.fault _ c.in-Err.ensures.opens;
+  unread = c.open_outline.ensures.unread;
+  rest = g.met.O.Sink.rest_none c.args.out.now;
+}
 
-pub returns-in-Err-clause-unread : goal.returns-in-Err-clause-unread
-returns-in-Err-clause-unread g c = c.open_outline.ensures.unread
-
-pub returns-in-Err-clause-rest : goal.returns-in-Err-clause-rest
-returns-in-Err-clause-rest g c = g.met.O.Sink.rest_none c.args.out.now
-
-pub returns-in-Ok-clause-sifts : goal.returns-in-Ok-clause-sifts
-returns-in-Ok-clause-sifts g c =
-    let j = plain_list_job c.args.job in
-    rw c.sink_answer-answer.ensures
-    (sifts-over IsOutlineOf j.input j.select (plain_select c.open_outline.new.select) ⊥ (λ s v. listed (list_with j s) (outlined v)) (IsOutcomeOf (list_outcome j)) (listed-is j) _ _ _ _
-    g.O.Sink.view c.args.out.now c.put_listed.new.out c.in-Ok.opened c.put_listed.result c.in-Ok.ensures.opens c.put_listed.ensures.writes c.put_listed.ensures.none)
-
-pub returns-in-Ok-clause-unread : goal.returns-in-Ok-clause-unread
-returns-in-Ok-clause-unread g c = c.open_outline.ensures.unread
-
-pub returns-in-Ok-clause-rest : goal.returns-in-Ok-clause-rest
-returns-in-Ok-clause-rest g c = c.put_listed.ensures.rest
+pub returns-in-Ok : goal.returns-in-Ok
+returns-in-Ok g c = record {
+  sifts = let j = plain_list_job c.args.job in
+      rw c.sink_answer-answer.ensures
+      (sifts-over IsOutlineOf j.input j.select (plain_select c.open_outline.new.select) ⊥ (λ s v. listed (list_with j s) (outlined v)) (IsOutcomeOf (list_outcome j)) (listed-is j) _ _ _ _
+      g.O.Sink.view c.args.out.now c.put_listed.new.out c.in-Ok.opened c.put_listed.result c.in-Ok.ensures.opens c.put_listed.ensures.writes c.put_listed.ensures.none);
+  unread = c.open_outline.ensures.unread;
+  rest = c.put_listed.ensures.rest;
+}

@@ -1,22 +1,41 @@
+use Rattle.std.proofs.Common.{ap}
+use Rattle.outside.specs.FinderView.{finder_passes_none}
+use Rattle.tool_words.specs.PlainJobs.{plain_filter_job}
+use Rattle.tool_words.specs.PlainJobs.PlainToolJob.{filter_job}
+use Rattle.whole_filters.specs.Outcomes.{IsOutcomeOf}
+use Rattle.filter_cli.specs.Outcomes.{filter_outcome}
+use Rattle.whole_filters.specs.Sifting.{HasTextCause}
+use Rattle.filter_cli.specs.Command.{why_by, why_formed}
+use Rattle.filter_cli.specs.Worlds.{world}
+use Rattle.filter_cli.proofs.Whole.{carries_is}
+use Rattle.filter_cli.proofs.Formed.{forms_carry}
+use Rattle.filter_cli.proofs.Sifted.{sifts_carry}
+use Rattle.filter_cli.proofs.Sifters.{filters, file-unless}
 use Rattle.filter_cli.proofs.tools.filterdiff.Goals as goal
 
-pub returns-in-Some-clause-unread : goal.returns-in-Some-clause-unread
-returns-in-Some-clause-unread g c = c.in_form.ensures.unread
+pub run_filter-requires : goal.run_filter-requires
+run_filter-requires g c = c.in-None.is
 
-pub returns-in-None-clause-unread : goal.returns-in-None-clause-unread
-returns-in-None-clause-unread g c = c.as_it_is.ensures.unread
+pub returns-in-None : goal.returns-in-None
+returns-in-None g c = record {
+  carries = λ v. let j = plain_filter_job c.args.job in
+      let u = world (g.T.Tree.view c.args.tree.now) v (g.I.Source.view c.args.source.now) (g.O.Sink.view c.args.out.now) in
+      let w = world (g.T.Tree.view c.run_filter.new.tree) v (g.I.Source.view c.run_filter.new.source) (g.O.Sink.view c.run_filter.new.out) in
+      carries_is c.answer.result (why_by c.run_filter.result) c.answer.ensures
+      (sifts_carry (filter_job j) j.input j.select (HasTextCause j.select.skip_binary) ⊥ (IsOutcomeOf (filter_outcome j)) u w (filters j v c.in-None.is) (finder_passes_none v) c.requires.quiet
+      (λ never. ap (λ x. g.I.Source.view x) (c.run_filter.ensures.unread (file-unless j.input never))) c.run_filter.result c.run_filter.ensures.sifts);
+  unread = c.run_filter.ensures.unread;
+  rest = c.run_filter.ensures.rest;
+}
 
-pub returns-in-Some-clause-carries : goal.returns-in-Some-clause-carries
-returns-in-Some-clause-carries g c = c.in_form.ensures.carries
-
-pub returns-in-None-clause-carries : goal.returns-in-None-clause-carries
-returns-in-None-clause-carries g c = c.as_it_is.ensures.carries
-
-pub returns-in-Some-clause-rest : goal.returns-in-Some-clause-rest
-returns-in-Some-clause-rest g c = c.in_form.ensures.rest
-
-pub returns-in-None-clause-rest : goal.returns-in-None-clause-rest
-returns-in-None-clause-rest g c = c.as_it_is.ensures.rest
-
-pub in_form-requires-clause-format : goal.in_form-requires-clause-format
-in_form-requires-clause-format g c = c.in-Some.is
+pub returns-in-Some : goal.returns-in-Some
+returns-in-Some g c = record {
+  carries = λ v. let j = plain_filter_job c.args.job in
+      let u = world (g.T.Tree.view c.args.tree.now) v (g.I.Source.view c.args.source.now) (g.O.Sink.view c.args.out.now) in
+      let w = world (g.T.Tree.view c.run_convert.new.tree) v (g.I.Source.view c.run_convert.new.source) (g.O.Sink.view c.run_convert.new.out) in
+      carries_is c.form_answer.result (why_formed c.run_convert.result) c.form_answer.ensures
+      (forms_carry c.in-Some.form j u w c.in-Some.is (finder_passes_none v) c.requires.quiet
+      (λ never. ap (λ x. g.I.Source.view x) (c.run_convert.ensures.unread (file-unless j.input never))) c.run_convert.result c.run_convert.ensures.forms);
+  unread = c.run_convert.ensures.unread;
+  rest = c.run_convert.ensures.rest;
+}

@@ -10,21 +10,16 @@ use Rattle.filter_cli.proofs.Sifted.{sifts_carry}
 use Rattle.filter_cli.proofs.Sifters.{greps, file-unless}
 use Rattle.filter_cli.proofs.tools.grepdiff.Goals as goal
 
-pub returns-clause-carries : goal.returns-clause-carries
-returns-clause-carries g c =
-    let j = plain_grep_job c.args.job in
-    let v = g.F.Finder.view c.args.finder.now in
-    let u = world (g.T.Tree.view c.args.tree.now) v (g.I.Source.view c.args.source.now) (g.O.Sink.view c.args.out.now) in
-    let w = world (g.T.Tree.view c.run_grep.new.tree) (g.F.Finder.view c.run_grep.new.finder) (g.I.Source.view c.run_grep.new.source) (g.O.Sink.view c.run_grep.new.out) in
-    carries_is c.answer.result (why_by c.run_grep.result) c.answer.ensures
-    (sifts_carry (grep_job j) j.input j.select (HasTextCause j.select.skip_binary) (v.takes j.pattern ≡ false) (IsGrepped v.takes v.hit j) u w (greps j v) c.run_grep.ensures.finder c.requires.quiet
-    (λ never. ap (λ x. g.I.Source.view x) (c.run_grep.ensures.unread (file-unless j.input never))) c.run_grep.result c.run_grep.ensures.sifts)
-
-pub returns-clause-unasked : goal.returns-clause-unasked
-returns-clause-unasked g c v f left told none = c.run_grep.ensures.unasked f left (record { files = told.files; left = told.source }) none
-
-pub returns-clause-unread : goal.returns-clause-unread
-returns-clause-unread g c = c.run_grep.ensures.unread
-
-pub returns-clause-rest : goal.returns-clause-rest
-returns-clause-rest g c = c.run_grep.ensures.rest
+pub returns : goal.returns
+returns g c = record {
+  carries = let j = plain_grep_job c.args.job in
+      let v = g.F.Finder.view c.args.finder.now in
+      let u = world (g.T.Tree.view c.args.tree.now) v (g.I.Source.view c.args.source.now) (g.O.Sink.view c.args.out.now) in
+      let w = world (g.T.Tree.view c.run_grep.new.tree) (g.F.Finder.view c.run_grep.new.finder) (g.I.Source.view c.run_grep.new.source) (g.O.Sink.view c.run_grep.new.out) in
+      carries_is c.answer.result (why_by c.run_grep.result) c.answer.ensures
+      (sifts_carry (grep_job j) j.input j.select (HasTextCause j.select.skip_binary) (v.takes j.pattern ≡ false) (IsGrepped v.takes v.hit j) u w (greps j v) c.run_grep.ensures.finder c.requires.quiet
+      (λ never. ap (λ x. g.I.Source.view x) (c.run_grep.ensures.unread (file-unless j.input never))) c.run_grep.result c.run_grep.ensures.sifts);
+  unread = c.run_grep.ensures.unread;
+  unasked = λ v f left told none. c.run_grep.ensures.unasked f left (record { files = told.files; left = told.source }) none;
+  rest = c.run_grep.ensures.rest;
+}

@@ -10,17 +10,14 @@ use Rattle.filter_cli.proofs.Sifted.{sifts_carry}
 use Rattle.filter_cli.proofs.Sifters.{recounts, file-unless}
 use Rattle.filter_cli.proofs.tools.recountdiff.Goals as goal
 
-pub returns-clause-carries : goal.returns-clause-carries
-returns-clause-carries g c v =
-    let j = c.args.input.now in
-    let u = world (g.T.Tree.view c.args.tree.now) v (g.I.Source.view c.args.source.now) (g.O.Sink.view c.args.out.now) in
-    let w = world (g.T.Tree.view c.run_recount.new.tree) v (g.I.Source.view c.run_recount.new.source) (g.O.Sink.view c.run_recount.new.out) in
-    carries_is c.answer.result (why_by c.run_recount.result) c.answer.ensures
-    (sifts_carry (recount_job j) j no_selection HasCountCause ⊥ (IsOutcomeOf (recount_outcome j)) u w (recounts j v) (finder_passes_none v) c.requires.quiet
-    (λ never. ap (λ x. g.I.Source.view x) (c.run_recount.ensures.unread (file-unless j never))) c.run_recount.result c.run_recount.ensures.sifts)
-
-pub returns-clause-unread : goal.returns-clause-unread
-returns-clause-unread g c = c.run_recount.ensures.unread
-
-pub returns-clause-rest : goal.returns-clause-rest
-returns-clause-rest g c = c.run_recount.ensures.rest
+pub returns : goal.returns
+returns g c = record {
+  carries = λ v. let j = c.args.input.now in
+      let u = world (g.T.Tree.view c.args.tree.now) v (g.I.Source.view c.args.source.now) (g.O.Sink.view c.args.out.now) in
+      let w = world (g.T.Tree.view c.run_recount.new.tree) v (g.I.Source.view c.run_recount.new.source) (g.O.Sink.view c.run_recount.new.out) in
+      carries_is c.answer.result (why_by c.run_recount.result) c.answer.ensures
+      (sifts_carry (recount_job j) j no_selection HasCountCause ⊥ (IsOutcomeOf (recount_outcome j)) u w (recounts j v) (finder_passes_none v) c.requires.quiet
+      (λ never. ap (λ x. g.I.Source.view x) (c.run_recount.ensures.unread (file-unless j never))) c.run_recount.result c.run_recount.ensures.sifts);
+  unread = c.run_recount.ensures.unread;
+  rest = c.run_recount.ensures.rest;
+}

@@ -4,6 +4,9 @@ use Rattle.filter_cli.proofs.Whole.{carries_is}
 use Rattle.filter_cli.proofs.Split.{split_carry}
 use Rattle.filter_cli.proofs.tools.splitdiff.Goals as goal
 
-pub returns-clause-carries : goal.returns-clause-carries
-returns-clause-carries g c v s = carries_is c.answer.result (why_by c.run_split.result) c.answer.ensures
-    (split_carry (plain_split_job c.args.job.now) v s (g.T.Tree.view c.args.tree.now) (g.T.Tree.view c.run_split.new.tree) (g.O.Sink.view c.args.out.now) (g.O.Sink.view c.run_split.new.out) c.run_split.result c.run_split.ensures.splits)
+pub returns : goal.returns
+returns g c = record {
+  carries = λ v s. carries_is c.answer.result (why_by c.run_split.result) c.answer.ensures
+      (split_carry (plain_split_job c.args.job.now) v s (g.T.Tree.view c.args.tree.now) (g.T.Tree.view c.run_split.new.tree) (g.O.Sink.view c.args.out.now) (g.O.Sink.view c.run_split.new.out) c.run_split.result c.run_split.ensures.splits);
+  rest = c.run_split.ensures.rest;
+}

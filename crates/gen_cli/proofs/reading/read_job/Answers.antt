@@ -6,9 +6,9 @@ use Rattle.gen_cli.proofs.reading.read_job.Goals as goal
 
 pub returns-in-Ok : goal.returns-in-Ok
 returns-in-Ok c = record {
-  job = IfOk-weaker c.made_by.result _ _ (λ gen is. ap made_of c.in-Ok.ensures.job ∙ is) c.made_by.ensures.job;
-  refused = IfErr-weaker c.made_by.result _ _ (λ why is. inr (is.0, is.1, ap made_of c.in-Ok.ensures.job ∙ is.2)) c.made_by.ensures.refused;
-  size = c.made_by.ensures.size;
+  job = IfOk-weaker c.made_by-made.result _ _ (λ gen is. ap made_of c.in-Ok.ensures.job ∙ is) c.made_by-made.ensures.job;
+  refused = IfErr-weaker c.made_by-made.result _ _ (λ why is. inr (is.0, is.1, ap made_of c.in-Ok.ensures.job ∙ is.2)) c.made_by-made.ensures.refused;
+  size = c.made_by-made.ensures.size;
 }
 
 pub returns-in-Err : goal.returns-in-Err

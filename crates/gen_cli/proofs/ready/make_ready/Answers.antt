@@ -1,17 +1,24 @@
-use Rattle.std.proofs.Common.{◌≡◌, ℕ, map, refl, ◌∙◌, inl}
+use Rattle.std.proofs.Common.{◌≡◌, ℕ, List, map, refl, sym, ap, ◌∙◌, inl, inr, ⊎_elim}
 use Rattle.std.specs.List.{range_with_len}
 use Rattle.patch_gen.specs.Tree.{made, made_file}
+use Rattle.patch_options.specs.PlainJob.{PlainOptions, plain_options}
+use Rattle.patch_set.specs.Refusals.{refusal}
+use Rattle.run_answers.specs.Answers.{of_set}
+use Rattle.tool_words.specs.PlainJobs.{plain_gen_job}
+use Rattle.gen_cli.specs.Jobs.{options_for}
+use Rattle.gen_cli.proofs.Made.{made_set}
 use Rattle.gen_cli.proofs.ready.make_ready.Goals as goal
 
 files_are : (seed files lines : ℕ) → (made seed files lines).files ≡ map (made_file seed lines) (range_with_len 1 files)
 unfolding made
 files_are seed files lines = refl
 
-pub returns-in-Ok-read_made : goal.returns-in-Ok-read_made
-returns-in-Ok-read_made c = record {
+pub returns-in-Ok-read_set : goal.returns-in-Ok-read_set
+returns-in-Ok-read_set c = record {
   made = record { named = c.in-Ok-places_of.ensures; bytes = c.in-Ok.ensures.files ∙ files_are c.args.job.seed c.args.job.files c.args.job.lines };
   options = c.options_for-options.ensures.options;
-  set = c.in-Ok-read_made.ensures.set;
+  set = made_set (plain_gen_job c.args.job) (plain_options c.options_for-options.result) c.in-Ok.made.patch.items c.in-Ok-read_set.set c.options_for-options.ensures.options c.in-Ok.ensures.patch c.options_for-options.ensures.lawful
+      c.in-Ok-read_set.ensures.read c.in-Ok-read_set.ensures.fresh c.in-Ok-read_set.ensures.refused;
   hunks = c.in-Ok.ensures.hunks;
   refused = tt;
 }
@@ -40,14 +47,10 @@ returns-in-Err c = record {
   made = tt;
   set = tt;
   hunks = tt;
-  refused = c.in-Err.ensures.refused;
+  refused =
+      let is = ap (λ (o : PlainOptions). refusal o c.in-Ok.made.patch.items) c.options_for-options.ensures.options ∙ ap (λ (l : List ℕ). refusal (options_for (plain_gen_job c.args.job)) l) c.in-Ok.ensures.patch in
+      ⊎_elim (λ memory. inl (c.from.ensures ∙ ap of_set memory)) (λ refused. inr (c.in-Err.fault, c.from.ensures, sym is ∙ refused)) c.in-Err.ensures.refused;
 }
 
-pub read_made-requires-clause-options : goal.read_made-requires-clause-options
-read_made-requires-clause-options c = c.options_for-options.ensures.options
-
-pub read_made-requires-clause-lawful : goal.read_made-requires-clause-lawful
-read_made-requires-clause-lawful c = c.options_for-options.ensures.lawful
-
-pub read_made-requires-clause-patch : goal.read_made-requires-clause-patch
-read_made-requires-clause-patch c = c.in-Ok.ensures.patch
+pub read_set-requires : goal.read_set-requires
+read_set-requires c = c.options_for-options.ensures.lawful

@@ -5,75 +5,46 @@ use Rattle.line_store.specs.Store.{IsLastAlike}
 use Rattle.packed_pages.proofs.Steps.{none-both}
 use Rattle.packed_pages.proofs.alike.find_last.Goals as goal
 
-pub returns-in-Err-clause-held : goal.returns-in-Err-clause-held
-returns-in-Err-clause-held g c = c.in-Err.ensures.held
+pub returns-in-Err : goal.returns-in-Err
+returns-in-Err g c = record {
+  held = c.in-Err.ensures.held;
+  marked = c.in-Err.ensures.marked;
+  within = tt;
+  value = tt;
+  other = λ h ne. c.in-Err.ensures.other h ne ∙ c.loop-end.invariant.other h ne;
+  keeps = keeps-more (seen_of c.args.layout c.args.places.now (g.C.Scratch.view c.args.scratch.now)) (seen_of c.args.layout c.loop-end.places (g.C.Scratch.view c.loop-end.scratch)) (seen_of c.args.layout c.last_between.new.places (g.C.Scratch.view c.last_between.new.scratch)) c.loop-end.invariant.keeps c.in-Err.ensures.keeps;
+  cause = cause-more c.in-Err.fault (seen_of c.args.layout c.args.places.now (g.C.Scratch.view c.args.scratch.now)) (seen_of c.args.layout c.loop-end.places (g.C.Scratch.view c.loop-end.scratch)) (seen_of c.args.layout c.last_between.new.places (g.C.Scratch.view c.last_between.new.scratch)) c.loop-end.invariant.keeps c.in-Err.ensures.cause;
+}
 
-pub returns-in-Err-clause-marked : goal.returns-in-Err-clause-marked
-returns-in-Err-clause-marked g c = c.in-Err.ensures.marked
+pub returns-in-Ok-Some : goal.returns-in-Ok-Some
+returns-in-Ok-Some g c = record {
+  held = c.in-Ok-Some.ensures.held;
+  marked = c.in-Ok-Some.ensures.marked;
+  within = (let h = rw c.in-Ok-Some.field-0-is at c.in-Ok-Some.ensures.within in (omega (arith, h.0), omega (arith, h.1, c.loop-end.invariant.to)));
+  value = λ lines told. (
+      let h = rw c.in-Ok-Some.field-0-is at (c.in-Ok-Some.ensures.value lines (c.loop-end.invariant.keeps.told ∙ told)) in
+      (h.0, none-both lines c.args.line.now (c.in-Ok-Some.w + 1) c.loop-end.end c.args.to h.1 (c.loop-end.invariant.none lines told)));
+  other = λ h ne. c.in-Ok-Some.ensures.other h ne ∙ c.loop-end.invariant.other h ne;
+  keeps = keeps-more (seen_of c.args.layout c.args.places.now (g.C.Scratch.view c.args.scratch.now)) (seen_of c.args.layout c.loop-end.places (g.C.Scratch.view c.loop-end.scratch)) (seen_of c.args.layout c.last_between.new.places (g.C.Scratch.view c.last_between.new.scratch)) c.loop-end.invariant.keeps c.in-Ok-Some.ensures.keeps;
+  cause = tt;
+}
 
-pub returns-in-Err-clause-within : goal.returns-in-Err-clause-within
-returns-in-Err-clause-within g c = tt
-
-pub returns-in-Err-clause-value : goal.returns-in-Err-clause-value
-returns-in-Err-clause-value g c = tt
-
-pub returns-in-Err-clause-other : goal.returns-in-Err-clause-other
-returns-in-Err-clause-other g c h ne = c.in-Err.ensures.other h ne ∙ c.loop-end.invariant.other h ne
-
-pub returns-in-Err-clause-keeps : goal.returns-in-Err-clause-keeps
-returns-in-Err-clause-keeps g c = keeps-more (seen_of c.args.layout c.args.places.now (g.C.Scratch.view c.args.scratch.now)) (seen_of c.args.layout c.loop-end.places (g.C.Scratch.view c.loop-end.scratch)) (seen_of c.args.layout c.last_between.new.places (g.C.Scratch.view c.last_between.new.scratch)) c.loop-end.invariant.keeps c.in-Err.ensures.keeps
-
-pub returns-in-Err-clause-cause : goal.returns-in-Err-clause-cause
-returns-in-Err-clause-cause g c = cause-more c.in-Err.fault (seen_of c.args.layout c.args.places.now (g.C.Scratch.view c.args.scratch.now)) (seen_of c.args.layout c.loop-end.places (g.C.Scratch.view c.loop-end.scratch)) (seen_of c.args.layout c.last_between.new.places (g.C.Scratch.view c.last_between.new.scratch)) c.loop-end.invariant.keeps c.in-Err.ensures.cause
-
-pub returns-in-Ok-Some-clause-held : goal.returns-in-Ok-Some-clause-held
-returns-in-Ok-Some-clause-held g c = c.in-Ok-Some.ensures.held
-
-pub returns-in-Ok-Some-clause-marked : goal.returns-in-Ok-Some-clause-marked
-returns-in-Ok-Some-clause-marked g c = c.in-Ok-Some.ensures.marked
-
-pub returns-in-Ok-Some-clause-other : goal.returns-in-Ok-Some-clause-other
-returns-in-Ok-Some-clause-other g c h ne = c.in-Ok-Some.ensures.other h ne ∙ c.loop-end.invariant.other h ne
-
-pub returns-in-Ok-Some-clause-keeps : goal.returns-in-Ok-Some-clause-keeps
-returns-in-Ok-Some-clause-keeps g c = keeps-more (seen_of c.args.layout c.args.places.now (g.C.Scratch.view c.args.scratch.now)) (seen_of c.args.layout c.loop-end.places (g.C.Scratch.view c.loop-end.scratch)) (seen_of c.args.layout c.last_between.new.places (g.C.Scratch.view c.last_between.new.scratch)) c.loop-end.invariant.keeps c.in-Ok-Some.ensures.keeps
-
-pub returns-in-Ok-Some-clause-cause : goal.returns-in-Ok-Some-clause-cause
-returns-in-Ok-Some-clause-cause g c = tt
-
-pub returns-clause-held : goal.returns-clause-held
-returns-clause-held g c = c.loop-end.invariant.held
-
-pub returns-clause-marked : goal.returns-clause-marked
-returns-clause-marked g c = c.loop-end.invariant.marked
-
-pub returns-clause-other : goal.returns-clause-other
-returns-clause-other g c = c.loop-end.invariant.other
-
-pub returns-clause-keeps : goal.returns-clause-keeps
-returns-clause-keeps g c = c.loop-end.invariant.keeps
-
-pub returns-clause-within : goal.returns-clause-within
-returns-clause-within g c = tt
-
-pub returns-clause-cause : goal.returns-clause-cause
-returns-clause-cause g c = tt
+pub returns : goal.returns
+returns g c = record {
+  held = c.loop-end.invariant.held;
+  marked = c.loop-end.invariant.marked;
+  within = tt;
+  value = λ lines told k low high. c.loop-end.invariant.none lines told k (omega arith) high;
+  other = c.loop-end.invariant.other;
+  keeps = c.loop-end.invariant.keeps;
+  cause = tt;
+}
 
 pub last_between-requires-clause-held : goal.last_between-requires-clause-held
 last_between-requires-clause-held g c = c.loop-end.invariant.held
 
 pub last_between-requires-clause-marked : goal.last_between-requires-clause-marked
 last_between-requires-clause-marked g c = c.loop-end.invariant.marked
-
-pub returns-clause-value : goal.returns-clause-value
-returns-clause-value g c lines told k low high = c.loop-end.invariant.none lines told k (omega arith) high
-
-pub returns-in-Ok-Some-clause-within : goal.returns-in-Ok-Some-clause-within
-returns-in-Ok-Some-clause-within g c = (let h = rw c.in-Ok-Some.field-0-is at c.in-Ok-Some.ensures.within in (omega (arith, h.0), omega (arith, h.1, c.loop-end.invariant.to)))
-
-pub returns-in-Ok-Some-clause-value : goal.returns-in-Ok-Some-clause-value
-returns-in-Ok-Some-clause-value g c lines told = let h = rw c.in-Ok-Some.field-0-is at (c.in-Ok-Some.ensures.value lines (c.loop-end.invariant.keeps.told ∙ told)) in
-    (h.0, none-both lines c.args.line.now (c.in-Ok-Some.w + 1) c.loop-end.end c.args.to h.1 (c.loop-end.invariant.none lines told))
 
 pub loop-end-init : goal.loop-end-init
 loop-end-init g c = record {

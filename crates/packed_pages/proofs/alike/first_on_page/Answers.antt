@@ -15,66 +15,42 @@ first_pass-pass-requires-clause-whole g c =
 pub first_pass-pass-requires-clause-within : goal.first_pass-pass-requires-clause-within
 first_pass-pass-requires-clause-within g c = (c.in-Ok.ensures.held.loaded c.args.half c.in-Ok.place c.in-Ok.ensures.place).on.high
 
-pub returns-clause-held : goal.returns-clause-held
-returns-clause-held g c =
-    let view = g.C.Scratch.view in
-    let before : c.first_pass-pass.result.place.line < c.args.to = c.first_pass-pass.ensures.before in
-    held-more c.load_line.new.pair c.load_line.new.pair c.args.layout c.load_line.new.places c.set.new.self (view c.load_line.new.scratch) (view c.load_line.new.scratch) c.args.half
-    c.in-Ok.ensures.held refl refl (λ h ne. refl) c.set.ensures.other
-    (λ x is. let e = same_Some c.first_pass-pass.result.place x (sym c.set.ensures.held ∙ is) in
-    subst (IsLoaded c.load_line.new.pair c.args.layout (view c.load_line.new.scratch) c.args.half) e
-    (follows-loaded c.load_line.new.pair c.args.layout (view c.load_line.new.scratch) c.args.half c.in-Ok.place c.first_pass-pass.result.place (c.in-Ok.ensures.held.loaded c.args.half c.in-Ok.place c.in-Ok.ensures.place)
-    (subst (λ page. Follows page c.in-Ok.place c.first_pass-pass.result.place) c.page.ensures.is c.first_pass-pass.ensures.follows) (omega (arith, before, c.requires.high))))
+pub returns : goal.returns
+returns g c = record {
+  held = (
+      let view = g.C.Scratch.view in
+      let before : c.first_pass-pass.result.place.line < c.args.to = c.first_pass-pass.ensures.before in
+      held-more c.load_line.new.pair c.load_line.new.pair c.args.layout c.load_line.new.places c.set.new.self (view c.load_line.new.scratch) (view c.load_line.new.scratch) c.args.half
+      c.in-Ok.ensures.held refl refl (λ h ne. refl) c.set.ensures.other
+      (λ x is. let e = same_Some c.first_pass-pass.result.place x (sym c.set.ensures.held ∙ is) in
+      subst (IsLoaded c.load_line.new.pair c.args.layout (view c.load_line.new.scratch) c.args.half) e
+      (follows-loaded c.load_line.new.pair c.args.layout (view c.load_line.new.scratch) c.args.half c.in-Ok.place c.first_pass-pass.result.place (c.in-Ok.ensures.held.loaded c.args.half c.in-Ok.place c.in-Ok.ensures.place)
+      (subst (λ page. Follows page c.in-Ok.place c.first_pass-pass.result.place) c.page.ensures.is c.first_pass-pass.ensures.follows) (omega (arith, before, c.requires.high)))));
+  marked = c.in-Ok.ensures.marked;
+  on = omega (arith, c.first_pass-pass.ensures.follows.order, c.in-Ok.ensures.line);
+  within = c.first_pass-pass.ensures.before;
+  value = λ lines told. (
+      finds-first c.load_line.new.pair c.args.layout c.load_line.new.places (g.C.Scratch.view c.load_line.new.scratch) c.args.half c.in-Ok.place c.first_pass-pass.result.place (c.page.result.now) lines c.args.line.now c.args.k c.first_pass-pass.result.is_alike
+      c.in-Ok.ensures.held c.in-Ok.ensures.place c.page.ensures.is c.in-Ok.ensures.line
+      c.first_pass-pass.ensures.follows (omega arith)
+      (c.in-Ok.ensures.keeps.told ∙ told)
+      c.first_pass-pass.ensures.misses c.first_pass-pass.ensures.tells);
+  other = λ h ne. c.set.ensures.other h ne ∙ c.in-Ok.ensures.other h ne;
+  keeps = (let k = c.in-Ok.ensures.keeps in record { told = k.told; count = k.count; faults = k.faults; scratch = k.scratch; size = k.size; needs_memory = k.needs_memory });
+  cause = tt;
+}
 
-pub returns-clause-value : goal.returns-clause-value
-returns-clause-value g c lines told =
-    finds-first c.load_line.new.pair c.args.layout c.load_line.new.places (g.C.Scratch.view c.load_line.new.scratch) c.args.half c.in-Ok.place c.first_pass-pass.result.place (c.page.result.now) lines c.args.line.now c.args.k c.first_pass-pass.result.is_alike
-    c.in-Ok.ensures.held c.in-Ok.ensures.place c.page.ensures.is c.in-Ok.ensures.line
-    c.first_pass-pass.ensures.follows (omega arith)
-    (c.in-Ok.ensures.keeps.told ∙ told)
-    c.first_pass-pass.ensures.misses c.first_pass-pass.ensures.tells
-
-pub returns-in-Err-clause-held : goal.returns-in-Err-clause-held
-returns-in-Err-clause-held g c = c.in-Err.ensures.held
-
-pub returns-in-Err-clause-marked : goal.returns-in-Err-clause-marked
-returns-in-Err-clause-marked g c = c.in-Err.ensures.marked
-
-pub returns-in-Err-clause-other : goal.returns-in-Err-clause-other
-returns-in-Err-clause-other g c = c.in-Err.ensures.other
-
-pub returns-in-Err-clause-keeps : goal.returns-in-Err-clause-keeps
-returns-in-Err-clause-keeps g c = c.in-Err.ensures.keeps
-
-pub returns-in-Err-clause-cause : goal.returns-in-Err-clause-cause
-returns-in-Err-clause-cause g c = c.in-Err.ensures.cause
-
-pub returns-in-Err-clause-on : goal.returns-in-Err-clause-on
-returns-in-Err-clause-on g c = tt
-
-pub returns-in-Err-clause-within : goal.returns-in-Err-clause-within
-returns-in-Err-clause-within g c = tt
-
-pub returns-in-Err-clause-value : goal.returns-in-Err-clause-value
-returns-in-Err-clause-value g c = tt
-
-pub returns-clause-marked : goal.returns-clause-marked
-returns-clause-marked g c = c.in-Ok.ensures.marked
-
-pub returns-clause-cause : goal.returns-clause-cause
-returns-clause-cause g c = tt
-
-pub returns-clause-on : goal.returns-clause-on
-returns-clause-on g c = omega (arith, c.first_pass-pass.ensures.follows.order, c.in-Ok.ensures.line)
-
-pub returns-clause-within : goal.returns-clause-within
-returns-clause-within g c = c.first_pass-pass.ensures.before
-
-pub returns-clause-other : goal.returns-clause-other
-returns-clause-other g c h ne = c.set.ensures.other h ne ∙ c.in-Ok.ensures.other h ne
-
-pub returns-clause-keeps : goal.returns-clause-keeps
-returns-clause-keeps g c = (let k = c.in-Ok.ensures.keeps in record { told = k.told; count = k.count; faults = k.faults; scratch = k.scratch; size = k.size; needs_memory = k.needs_memory })
+pub returns-in-Err : goal.returns-in-Err
+returns-in-Err g c = record {
+  held = c.in-Err.ensures.held;
+  marked = c.in-Err.ensures.marked;
+  on = tt;
+  within = tt;
+  value = tt;
+  other = c.in-Err.ensures.other;
+  keeps = c.in-Err.ensures.keeps;
+  cause = c.in-Err.ensures.cause;
+}
 
 pub load_line-requires-clause-held : goal.load_line-requires-clause-held
 load_line-requires-clause-held g c = c.requires.held

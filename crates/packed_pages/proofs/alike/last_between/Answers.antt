@@ -25,26 +25,16 @@ loop-k-preserved g c =
       keeps = keeps-more (seen_of c.args.layout c.args.places.now (view c.args.scratch.now)) (seen_of c.args.layout c.loop-k.places (view c.loop-k.scratch)) (seen_of c.args.layout c.last_on_page.new.places (view c.last_on_page.new.scratch)) was.keeps now.keeps;
     }
 
-pub returns-in-Err-clause-held : goal.returns-in-Err-clause-held
-returns-in-Err-clause-held g c = c.in-Err.ensures.held
-
-pub returns-in-Err-clause-marked : goal.returns-in-Err-clause-marked
-returns-in-Err-clause-marked g c = c.in-Err.ensures.marked
-
-pub returns-in-Err-clause-within : goal.returns-in-Err-clause-within
-returns-in-Err-clause-within g c = tt
-
-pub returns-in-Err-clause-value : goal.returns-in-Err-clause-value
-returns-in-Err-clause-value g c = tt
-
-pub returns-in-Err-clause-other : goal.returns-in-Err-clause-other
-returns-in-Err-clause-other g c h ne = c.in-Err.ensures.other h ne ∙ c.loop-k.invariant.other h ne
-
-pub returns-in-Err-clause-keeps : goal.returns-in-Err-clause-keeps
-returns-in-Err-clause-keeps g c = keeps-more (seen_of c.args.layout c.args.places.now (g.C.Scratch.view c.args.scratch.now)) (seen_of c.args.layout c.loop-k.places (g.C.Scratch.view c.loop-k.scratch)) (seen_of c.args.layout c.last_on_page.new.places (g.C.Scratch.view c.last_on_page.new.scratch)) c.loop-k.invariant.keeps c.in-Err.ensures.keeps
-
-pub returns-in-Err-clause-cause : goal.returns-in-Err-clause-cause
-returns-in-Err-clause-cause g c = cause-more c.in-Err.fault (seen_of c.args.layout c.args.places.now (g.C.Scratch.view c.args.scratch.now)) (seen_of c.args.layout c.loop-k.places (g.C.Scratch.view c.loop-k.scratch)) (seen_of c.args.layout c.last_on_page.new.places (g.C.Scratch.view c.last_on_page.new.scratch)) c.loop-k.invariant.keeps c.in-Err.ensures.cause
+pub returns-in-Err : goal.returns-in-Err
+returns-in-Err g c = record {
+  held = c.in-Err.ensures.held;
+  marked = c.in-Err.ensures.marked;
+  within = tt;
+  value = tt;
+  other = λ h ne. c.in-Err.ensures.other h ne ∙ c.loop-k.invariant.other h ne;
+  keeps = keeps-more (seen_of c.args.layout c.args.places.now (g.C.Scratch.view c.args.scratch.now)) (seen_of c.args.layout c.loop-k.places (g.C.Scratch.view c.loop-k.scratch)) (seen_of c.args.layout c.last_on_page.new.places (g.C.Scratch.view c.last_on_page.new.scratch)) c.loop-k.invariant.keeps c.in-Err.ensures.keeps;
+  cause = cause-more c.in-Err.fault (seen_of c.args.layout c.args.places.now (g.C.Scratch.view c.args.scratch.now)) (seen_of c.args.layout c.loop-k.places (g.C.Scratch.view c.loop-k.scratch)) (seen_of c.args.layout c.last_on_page.new.places (g.C.Scratch.view c.last_on_page.new.scratch)) c.loop-k.invariant.keeps c.in-Err.ensures.cause;
+}
 
 pub returns-clause-held : goal.returns-clause-held
 returns-clause-held g c = c.loop-k.invariant.held

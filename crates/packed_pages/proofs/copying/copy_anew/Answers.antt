@@ -28,35 +28,23 @@ returns-in-Err-lay_entries-clause-passes g c = scratch_passes_both c.restart.ens
 pub returns-in-Err-lay_entries-clause-written : goal.returns-in-Err-lay_entries-clause-written
 returns-in-Err-lay_entries-clause-written g c = tt
 
-pub returns-in-Ok-copy_pages-clause-untouched : goal.returns-in-Ok-copy_pages-clause-untouched
-returns-in-Ok-copy_pages-clause-untouched g c = c.copy_pages.ensures.untouched
+pub returns-in-Ok-copy_pages : goal.returns-in-Ok-copy_pages
+returns-in-Ok-copy_pages g c = record {
+  untouched = c.copy_pages.ensures.untouched;
+  size = c.copy_pages.ensures.size;
+  passes = scratch_passes_both (scratch_passes_both c.restart.ensures.passes c.lay_entries.ensures.passes) c.copy_pages.ensures.passes;
+  written = c.in-Ok-copy_pages.ensures.written;
+  cause = tt;
+}
 
-pub returns-in-Ok-copy_pages-clause-size : goal.returns-in-Ok-copy_pages-clause-size
-returns-in-Ok-copy_pages-clause-size g c = c.copy_pages.ensures.size
-
-pub returns-in-Ok-copy_pages-clause-passes : goal.returns-in-Ok-copy_pages-clause-passes
-returns-in-Ok-copy_pages-clause-passes g c = scratch_passes_both (scratch_passes_both c.restart.ensures.passes c.lay_entries.ensures.passes) c.copy_pages.ensures.passes
-
-pub returns-in-Ok-copy_pages-clause-written : goal.returns-in-Ok-copy_pages-clause-written
-returns-in-Ok-copy_pages-clause-written g c = c.in-Ok-copy_pages.ensures.written
-
-pub returns-in-Ok-copy_pages-clause-cause : goal.returns-in-Ok-copy_pages-clause-cause
-returns-in-Ok-copy_pages-clause-cause g c = tt
-
-pub returns-in-Err-copy_pages-clause-untouched : goal.returns-in-Err-copy_pages-clause-untouched
-returns-in-Err-copy_pages-clause-untouched g c = c.copy_pages.ensures.untouched
-
-pub returns-in-Err-copy_pages-clause-size : goal.returns-in-Err-copy_pages-clause-size
-returns-in-Err-copy_pages-clause-size g c = c.copy_pages.ensures.size
-
-pub returns-in-Err-copy_pages-clause-passes : goal.returns-in-Err-copy_pages-clause-passes
-returns-in-Err-copy_pages-clause-passes g c = scratch_passes_both (scratch_passes_both c.restart.ensures.passes c.lay_entries.ensures.passes) c.copy_pages.ensures.passes
-
-pub returns-in-Err-copy_pages-clause-written : goal.returns-in-Err-copy_pages-clause-written
-returns-in-Err-copy_pages-clause-written g c = tt
-
-pub returns-in-Err-copy_pages-clause-cause : goal.returns-in-Err-copy_pages-clause-cause
-returns-in-Err-copy_pages-clause-cause g c = take-later c.in-Err-copy_pages.fault (g.C.Scratch.view c.args.scratch.now) (g.C.Scratch.view c.lay_entries.new.scratch) (g.C.Scratch.view c.copy_pages.new.scratch) (g.T.Tree.view c.args.tree.now) (g.T.Tree.view c.args.tree.now) (g.T.Tree.view c.copy_pages.new.tree) (scratch_passes_both c.restart.ensures.passes c.lay_entries.ensures.passes) (untouched_none _) c.in-Err-copy_pages.ensures.cause
+pub returns-in-Err-copy_pages : goal.returns-in-Err-copy_pages
+returns-in-Err-copy_pages g c = record {
+  untouched = c.copy_pages.ensures.untouched;
+  size = c.copy_pages.ensures.size;
+  passes = scratch_passes_both (scratch_passes_both c.restart.ensures.passes c.lay_entries.ensures.passes) c.copy_pages.ensures.passes;
+  written = tt;
+  cause = take-later c.in-Err-copy_pages.fault (g.C.Scratch.view c.args.scratch.now) (g.C.Scratch.view c.lay_entries.new.scratch) (g.C.Scratch.view c.copy_pages.new.scratch) (g.T.Tree.view c.args.tree.now) (g.T.Tree.view c.args.tree.now) (g.T.Tree.view c.copy_pages.new.tree) (scratch_passes_both c.restart.ensures.passes c.lay_entries.ensures.passes) (untouched_none _) c.in-Err-copy_pages.ensures.cause;
+}
 
 pub copy_pages-requires-clause-there : goal.copy_pages-requires-clause-there
 copy_pages-requires-clause-there g c = c.requires.there

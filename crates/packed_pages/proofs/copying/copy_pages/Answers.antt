@@ -40,48 +40,36 @@ loop-copied-preserved g c =
       copied = subst (λ file. IsCopied c.args.layout (view c.copy_piece.new.scratch).told (page_of c.copy_piece.new.pair Second) c.in_ok-copied.copied.at c.in_ok-copied.copied.filling file) (told-same c.args.name.now c.loop-copied.invariant.untouched) c.in_ok-copied.ensures.copied;
     }
 
-pub returns-in-Ok-clause-written : goal.returns-in-Ok-clause-written
-returns-in-Ok-clause-written g c =
-    let view = g.C.Scratch.view in
-    let within : c.loop-copied.copied.at ≤ c.args.length = c.loop-copied.invariant.within in
-    written-all c.args.layout (view c.loop-copied.scratch).told (view c.finish.new.scratch).told (told_file (g.T.Tree.view c.args.tree.now) c.args.name.now) (page_of c.loop-copied.pair Second) c.loop-copied.copied.at c.loop-copied.copied.filling
-    c.loop-copied.invariant.copied (λ text file. let len : length text ≡ c.args.length = c.requires.stated text file in omega arith) c.in-Ok.ensures.count c.in-Ok.ensures.pages
+pub returns-in-Ok : goal.returns-in-Ok
+returns-in-Ok g c = record {
+  untouched = c.loop-copied.invariant.untouched;
+  size = c.in-Ok.ensures.size ∙ c.loop-copied.invariant.size;
+  passes = scratch_passes_both c.loop-copied.invariant.passes c.in-Ok.ensures.passes;
+  written = (
+      let view = g.C.Scratch.view in
+      let within : c.loop-copied.copied.at ≤ c.args.length = c.loop-copied.invariant.within in
+      written-all c.args.layout (view c.loop-copied.scratch).told (view c.finish.new.scratch).told (told_file (g.T.Tree.view c.args.tree.now) c.args.name.now) (page_of c.loop-copied.pair Second) c.loop-copied.copied.at c.loop-copied.copied.filling
+      c.loop-copied.invariant.copied (λ text file. let len : length text ≡ c.args.length = c.requires.stated text file in omega arith) c.in-Ok.ensures.count c.in-Ok.ensures.pages);
+  cause = tt;
+}
 
-pub returns-in-Err-clause-cause : goal.returns-in-Err-clause-cause
-returns-in-Err-clause-cause g c =
-    let view = g.C.Scratch.view in
-    let tree = g.T.Tree.view in
-    let within : c.loop-copied.copied.at ≤ c.args.length = c.loop-copied.invariant.within in
-    end-fault c.in-Err.fault c.args.layout c.loop-copied.copied.filling (view c.args.scratch.now) (view c.loop-copied.scratch) (view c.finish.new.scratch) (tree c.args.tree.now) (tree c.loop-copied.tree)
-    c.loop-copied.invariant.passes c.in-Err.ensures.cause
-    (λ other. none-unless _ (λ f told.
-    let file : told_file (tree c.args.tree.now) c.args.name.now ≡ Some (bytes_at f c.args.name.now) = rw told refl in
-    let len : length (bytes_at f c.args.name.now) ≡ c.args.length = c.requires.stated (bytes_at f c.args.name.now) file in
-    copied-count c.args.layout (view c.loop-copied.scratch).told (told_file (tree c.args.tree.now) c.args.name.now) (page_of c.loop-copied.pair Second) (bytes_at f c.args.name.now) c.loop-copied.copied.at c.loop-copied.copied.filling c.loop-copied.invariant.copied file (omega arith) (c.requires.measured (bytes_at f c.args.name.now) file) other))
-
-pub returns-in-Ok-clause-untouched : goal.returns-in-Ok-clause-untouched
-returns-in-Ok-clause-untouched g c = c.loop-copied.invariant.untouched
-
-pub returns-in-Ok-clause-size : goal.returns-in-Ok-clause-size
-returns-in-Ok-clause-size g c = c.in-Ok.ensures.size ∙ c.loop-copied.invariant.size
-
-pub returns-in-Ok-clause-passes : goal.returns-in-Ok-clause-passes
-returns-in-Ok-clause-passes g c = scratch_passes_both c.loop-copied.invariant.passes c.in-Ok.ensures.passes
-
-pub returns-in-Err-clause-untouched : goal.returns-in-Err-clause-untouched
-returns-in-Err-clause-untouched g c = c.loop-copied.invariant.untouched
-
-pub returns-in-Err-clause-size : goal.returns-in-Err-clause-size
-returns-in-Err-clause-size g c = c.in-Err.ensures.size ∙ c.loop-copied.invariant.size
-
-pub returns-in-Err-clause-passes : goal.returns-in-Err-clause-passes
-returns-in-Err-clause-passes g c = scratch_passes_both c.loop-copied.invariant.passes c.in-Err.ensures.passes
-
-pub returns-in-Ok-clause-cause : goal.returns-in-Ok-clause-cause
-returns-in-Ok-clause-cause g c = tt
-
-pub returns-in-Err-clause-written : goal.returns-in-Err-clause-written
-returns-in-Err-clause-written g c = tt
+pub returns-in-Err : goal.returns-in-Err
+returns-in-Err g c = record {
+  untouched = c.loop-copied.invariant.untouched;
+  size = c.in-Err.ensures.size ∙ c.loop-copied.invariant.size;
+  passes = scratch_passes_both c.loop-copied.invariant.passes c.in-Err.ensures.passes;
+  written = tt;
+  cause = (
+      let view = g.C.Scratch.view in
+      let tree = g.T.Tree.view in
+      let within : c.loop-copied.copied.at ≤ c.args.length = c.loop-copied.invariant.within in
+      end-fault c.in-Err.fault c.args.layout c.loop-copied.copied.filling (view c.args.scratch.now) (view c.loop-copied.scratch) (view c.finish.new.scratch) (tree c.args.tree.now) (tree c.loop-copied.tree)
+      c.loop-copied.invariant.passes c.in-Err.ensures.cause
+      (λ other. none-unless _ (λ f told.
+      let file : told_file (tree c.args.tree.now) c.args.name.now ≡ Some (bytes_at f c.args.name.now) = rw told refl in
+      let len : length (bytes_at f c.args.name.now) ≡ c.args.length = c.requires.stated (bytes_at f c.args.name.now) file in
+      copied-count c.args.layout (view c.loop-copied.scratch).told (told_file (tree c.args.tree.now) c.args.name.now) (page_of c.loop-copied.pair Second) (bytes_at f c.args.name.now) c.loop-copied.copied.at c.loop-copied.copied.filling c.loop-copied.invariant.copied file (omega arith) (c.requires.measured (bytes_at f c.args.name.now) file) other)));
+}
 
 pub returns-in_err-copied-clause-size : goal.returns-in_err-copied-clause-size
 returns-in_err-copied-clause-size g c = c.in_err-copied.ensures.size ∙ c.loop-copied.invariant.size

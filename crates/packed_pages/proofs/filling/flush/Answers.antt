@@ -10,20 +10,14 @@ write_page-requires-clause-behind g c =
     let lt : c.args.filling.room.pages < c.args.layout.pages = c.requires.there in
     behind-kept (view c.args.scratch.now).told (view c.write_entry.new.scratch).told (c.args.filling.room.pages * 8) (8 * c.args.layout.pages + c.args.filling.room.pages * c.args.layout.size) c.args.filling.first c.write_entry.ensures.passes.telling c.requires.ready.behind (omega arith) c.in-Ok.ensures.written
 
-pub returns-in-Err-clause-size : goal.returns-in-Err-clause-size
-returns-in-Err-clause-size g c = refl
-
-pub returns-in-Err-clause-first : goal.returns-in-Err-clause-first
-returns-in-Err-clause-first g c = refl
-
-pub returns-in-Err-clause-passes : goal.returns-in-Err-clause-passes
-returns-in-Err-clause-passes g c = c.in-Err.ensures.passes
-
-pub returns-in-Err-clause-written : goal.returns-in-Err-clause-written
-returns-in-Err-clause-written g c = tt
-
-pub returns-in-Err-clause-cause : goal.returns-in-Err-clause-cause
-returns-in-Err-clause-cause g c = c.in-Err.ensures.cause
+pub returns-in-Err : goal.returns-in-Err
+returns-in-Err g c = record {
+  size = refl;
+  first = refl;
+  passes = c.in-Err.ensures.passes;
+  written = tt;
+  cause = c.in-Err.ensures.cause;
+}
 
 pub returns-in-Ok-write_page-clause-size : goal.returns-in-Ok-write_page-clause-size
 returns-in-Ok-write_page-clause-size g c = c.write_page.ensures.size

@@ -1,8 +1,8 @@
 use Rattle.packed_pages.proofs.Packings.{joined-pages, packed-pages}
 use Rattle.packed_pages.proofs.laws.packing_laws.Goals as goal
 
-pub returns-clause-order : goal.returns-clause-order
-returns-clause-order c size ls = joined-pages size ls
-
-pub returns-clause-packed : goal.returns-clause-packed
-returns-clause-packed c size ls short = packed-pages size ls short
+pub returns : goal.returns
+returns c = record {
+  order = λ size ls. joined-pages size ls;
+  packed = λ size ls short. packed-pages size ls short;
+}

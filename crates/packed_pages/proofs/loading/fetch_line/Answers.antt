@@ -10,67 +10,35 @@ near-requires-clause-whole g c p is = subst (λ page. IsWhole page p) (sym c.pag
 pub near-requires-clause-within : goal.near-requires-clause-within
 near-requires-clause-within g c p is = (c.requires.held.loaded c.args.half p (sym c.get.ensures ∙ is)).on.high
 
-pub returns-in-Some-clause-loaded : goal.returns-in-Some-clause-loaded
-returns-in-Some-clause-loaded g c =
-    near-loaded c.args.pair.now c.args.layout c.args.places (g.C.Scratch.view c.args.scratch.now) c.args.half c.get.result c.args.k c.in-Some.place c.requires.held (sym c.get.ensures)
-    (subst (λ page. IfNear page c.get.result c.args.k (Some c.in-Some.place)) c.page.ensures.is c.in-Some.ensures) c.requires.high
+pub returns-in-Some : goal.returns-in-Some
+returns-in-Some g c = record {
+  size = refl;
+  other = λ h ne. refl;
+  marked = c.requires.marked;
+  loaded = (
+      near-loaded c.args.pair.now c.args.layout c.args.places (g.C.Scratch.view c.args.scratch.now) c.args.half c.get.result c.args.k c.in-Some.place c.requires.held (sym c.get.ensures)
+      (subst (λ page. IfNear page c.get.result c.args.k (Some c.in-Some.place)) c.page.ensures.is c.in-Some.ensures) c.requires.high);
+  line = near-line c.page.result.now c.get.result c.args.k c.in-Some.place c.in-Some.ensures;
+  passes = scratch_passes_none _;
+  told = refl;
+  reads = λ digits lt. omega arith;
+  still = λ has. refl;
+  cause = tt;
+}
 
-pub returns-in-Some-clause-line : goal.returns-in-Some-clause-line
-returns-in-Some-clause-line g c = near-line c.page.result.now c.get.result c.args.k c.in-Some.place c.in-Some.ensures
-
-pub returns-in-None-clause-size : goal.returns-in-None-clause-size
-returns-in-None-clause-size g c = c.find_line.ensures.size
-
-pub returns-in-None-clause-other : goal.returns-in-None-clause-other
-returns-in-None-clause-other g c = c.find_line.ensures.other
-
-pub returns-in-None-clause-marked : goal.returns-in-None-clause-marked
-returns-in-None-clause-marked g c = c.find_line.ensures.marked
-
-pub returns-in-None-clause-loaded : goal.returns-in-None-clause-loaded
-returns-in-None-clause-loaded g c = c.find_line.ensures.loaded
-
-pub returns-in-None-clause-line : goal.returns-in-None-clause-line
-returns-in-None-clause-line g c = c.find_line.ensures.line
-
-pub returns-in-None-clause-passes : goal.returns-in-None-clause-passes
-returns-in-None-clause-passes g c = c.find_line.ensures.passes
-
-pub returns-in-None-clause-told : goal.returns-in-None-clause-told
-returns-in-None-clause-told g c = c.find_line.ensures.told
-
-pub returns-in-None-clause-reads : goal.returns-in-None-clause-reads
-returns-in-None-clause-reads g c = c.find_line.ensures.reads
-
-pub returns-in-None-clause-still : goal.returns-in-None-clause-still
-returns-in-None-clause-still g c = c.find_line.ensures.still
-
-pub returns-in-None-clause-cause : goal.returns-in-None-clause-cause
-returns-in-None-clause-cause g c = c.find_line.ensures.cause
-
-pub returns-in-Some-clause-marked : goal.returns-in-Some-clause-marked
-returns-in-Some-clause-marked g c = c.requires.marked
-
-pub returns-in-Some-clause-cause : goal.returns-in-Some-clause-cause
-returns-in-Some-clause-cause g c = tt
-
-pub returns-in-Some-clause-size : goal.returns-in-Some-clause-size
-returns-in-Some-clause-size g c = refl
-
-pub returns-in-Some-clause-other : goal.returns-in-Some-clause-other
-returns-in-Some-clause-other g c h ne = refl
-
-pub returns-in-Some-clause-passes : goal.returns-in-Some-clause-passes
-returns-in-Some-clause-passes g c = scratch_passes_none _
-
-pub returns-in-Some-clause-told : goal.returns-in-Some-clause-told
-returns-in-Some-clause-told g c = refl
-
-pub returns-in-Some-clause-reads : goal.returns-in-Some-clause-reads
-returns-in-Some-clause-reads g c digits lt = omega arith
-
-pub returns-in-Some-clause-still : goal.returns-in-Some-clause-still
-returns-in-Some-clause-still g c has = refl
+pub returns-in-None : goal.returns-in-None
+returns-in-None g c = record {
+  size = c.find_line.ensures.size;
+  other = c.find_line.ensures.other;
+  marked = c.find_line.ensures.marked;
+  loaded = c.find_line.ensures.loaded;
+  line = c.find_line.ensures.line;
+  passes = c.find_line.ensures.passes;
+  told = c.find_line.ensures.told;
+  reads = c.find_line.ensures.reads;
+  still = c.find_line.ensures.still;
+  cause = c.find_line.ensures.cause;
+}
 
 pub find_line-requires-clause-held : goal.find_line-requires-clause-held
 find_line-requires-clause-held g c = c.requires.held

@@ -4,16 +4,27 @@ use Rattle.page_pair.proofs.Windows.{none-unless}
 use Rattle.packed_pages.proofs.HeldLemmas.{no-overrun, record-cause}
 use Rattle.packed_pages.proofs.loading.find_line.Goals as goal
 
-pub returns-in-Err-walk-clause-cause : goal.returns-in-Err-walk-clause-cause
-returns-in-Err-walk-clause-cause g c =
-    let view = g.C.Scratch.view in
-    let start = c.in-Ok.start in
-    let on = c.in-Ok.ensures.place in
-    let low : c.in-Ok.start.first ≤ c.in-Ok.start.line = on.low in
-    let order : c.in-Ok.start.line ≤ c.args.k = c.in-Ok.ensures.low in
-    record-cause c.in-Err-walk.fault (c.args.k - c.in-Ok.start.first) (page_of c.reach.new.pair c.args.half) (view c.args.scratch.now) (view c.reach.new.scratch) c.in-Err-walk.ensures.cause
-    (λ over. none-unless _ (λ b told.
-    no-overrun c.args.layout b c.in-Ok.start (page_of c.reach.new.pair c.args.half) c.args.k c.requires.held.layout (c.requires.held.packs (omega arith) b told) on.page (on.told b (c.reach.ensures.told ∙ told)) (omega arith) c.in-Ok.ensures.high over))
+pub returns-in-Err-walk : goal.returns-in-Err-walk
+returns-in-Err-walk g c = record {
+  size = c.reach.ensures.size;
+  other = c.reach.ensures.other;
+  marked = c.walk.ensures.marked;
+  loaded = tt;
+  line = tt;
+  passes = c.reach.ensures.passes;
+  told = c.reach.ensures.told;
+  reads = c.reach.ensures.reads;
+  still = c.reach.ensures.still;
+  cause = (
+      let view = g.C.Scratch.view in
+      let start = c.in-Ok.start in
+      let on = c.in-Ok.ensures.place in
+      let low : c.in-Ok.start.first ≤ c.in-Ok.start.line = on.low in
+      let order : c.in-Ok.start.line ≤ c.args.k = c.in-Ok.ensures.low in
+      record-cause c.in-Err-walk.fault (c.args.k - c.in-Ok.start.first) (page_of c.reach.new.pair c.args.half) (view c.args.scratch.now) (view c.reach.new.scratch) c.in-Err-walk.ensures.cause
+      (λ over. none-unless _ (λ b told.
+      no-overrun c.args.layout b c.in-Ok.start (page_of c.reach.new.pair c.args.half) c.args.k c.requires.held.layout (c.requires.held.packs (omega arith) b told) on.page (on.told b (c.reach.ensures.told ∙ told)) (omega arith) c.in-Ok.ensures.high over)));
+}
 
 pub returns-in-Ok-walk-clause-size : goal.returns-in-Ok-walk-clause-size
 returns-in-Ok-walk-clause-size g c = c.reach.ensures.size
@@ -36,35 +47,8 @@ returns-in-Ok-walk-clause-still g c = c.reach.ensures.still
 pub returns-in-Ok-walk-clause-marked : goal.returns-in-Ok-walk-clause-marked
 returns-in-Ok-walk-clause-marked g c = c.walk.ensures.marked
 
-pub returns-in-Err-walk-clause-size : goal.returns-in-Err-walk-clause-size
-returns-in-Err-walk-clause-size g c = c.reach.ensures.size
-
-pub returns-in-Err-walk-clause-other : goal.returns-in-Err-walk-clause-other
-returns-in-Err-walk-clause-other g c = c.reach.ensures.other
-
-pub returns-in-Err-walk-clause-passes : goal.returns-in-Err-walk-clause-passes
-returns-in-Err-walk-clause-passes g c = c.reach.ensures.passes
-
-pub returns-in-Err-walk-clause-told : goal.returns-in-Err-walk-clause-told
-returns-in-Err-walk-clause-told g c = c.reach.ensures.told
-
-pub returns-in-Err-walk-clause-reads : goal.returns-in-Err-walk-clause-reads
-returns-in-Err-walk-clause-reads g c = c.reach.ensures.reads
-
-pub returns-in-Err-walk-clause-still : goal.returns-in-Err-walk-clause-still
-returns-in-Err-walk-clause-still g c = c.reach.ensures.still
-
-pub returns-in-Err-walk-clause-marked : goal.returns-in-Err-walk-clause-marked
-returns-in-Err-walk-clause-marked g c = c.walk.ensures.marked
-
 pub returns-in-Ok-walk-clause-cause : goal.returns-in-Ok-walk-clause-cause
 returns-in-Ok-walk-clause-cause g c = tt
-
-pub returns-in-Err-walk-clause-loaded : goal.returns-in-Err-walk-clause-loaded
-returns-in-Err-walk-clause-loaded g c = tt
-
-pub returns-in-Err-walk-clause-line : goal.returns-in-Err-walk-clause-line
-returns-in-Err-walk-clause-line g c = tt
 
 pub returns-in-Err-clause-size : goal.returns-in-Err-clause-size
 returns-in-Err-clause-size g c = c.in-Err.ensures.size

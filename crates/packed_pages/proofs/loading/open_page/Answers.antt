@@ -2,29 +2,18 @@ use Rattle.std.proofs.Common.{refl, sym, ◌∙◌, arith}
 use Rattle.outside.specs.ScratchView.{scratch_passes_both}
 use Rattle.packed_pages.proofs.loading.open_page.Goals as goal
 
-pub returns-in-Err-clause-size : goal.returns-in-Err-clause-size
-returns-in-Err-clause-size g c = refl
-
-pub returns-in-Err-clause-other : goal.returns-in-Err-clause-other
-returns-in-Err-clause-other g c h ne = refl
-
-pub returns-in-Err-clause-place : goal.returns-in-Err-clause-place
-returns-in-Err-clause-place g c = tt
-
-pub returns-in-Err-clause-low : goal.returns-in-Err-clause-low
-returns-in-Err-clause-low g c = tt
-
-pub returns-in-Err-clause-high : goal.returns-in-Err-clause-high
-returns-in-Err-clause-high g c = tt
-
-pub returns-in-Err-clause-passes : goal.returns-in-Err-clause-passes
-returns-in-Err-clause-passes g c = c.in-Err.ensures.passes
-
-pub returns-in-Err-clause-told : goal.returns-in-Err-clause-told
-returns-in-Err-clause-told g c = c.in-Err.ensures.told
-
-pub returns-in-Err-clause-cause : goal.returns-in-Err-clause-cause
-returns-in-Err-clause-cause g c = c.in-Err.ensures.cause
+pub returns-in-Err : goal.returns-in-Err
+returns-in-Err g c = record {
+  size = refl;
+  other = λ h ne. refl;
+  place = tt;
+  low = tt;
+  high = tt;
+  passes = c.in-Err.ensures.passes;
+  told = c.in-Err.ensures.told;
+  reads = λ digits wide. omega (arith, c.find_page.ensures.reads digits wide);
+  cause = c.in-Err.ensures.cause;
+}
 
 pub returns-in-Ok-read_page-clause-size : goal.returns-in-Ok-read_page-clause-size
 returns-in-Ok-read_page-clause-size g c = c.read_page.ensures.size
@@ -88,9 +77,6 @@ read_page-requires-clause-packs g c b told = c.requires.packs b (sym c.find_page
 
 pub read_page-requires-clause-size : goal.read_page-requires-clause-size
 read_page-requires-clause-size g c = c.requires.size
-
-pub returns-in-Err-clause-reads : goal.returns-in-Err-clause-reads
-returns-in-Err-clause-reads g c = λ digits wide. omega (arith, c.find_page.ensures.reads digits wide)
 
 pub returns-in-Err-read_page-clause-reads : goal.returns-in-Err-read_page-clause-reads
 returns-in-Err-read_page-clause-reads g c = λ digits wide. omega (arith, c.find_page.ensures.reads digits wide, c.read_page.ensures.reads)

@@ -9,11 +9,35 @@ use Rattle.packed_pages.proofs.taking.take_pages.Goals as goal
 pub returns-in-Err-measure_layout-clause-untouched : goal.returns-in-Err-measure_layout-clause-untouched
 returns-in-Err-measure_layout-clause-untouched g c = untouched_both c.in-Ok.ensures.untouched c.measure_layout.ensures.untouched
 
-pub returns-in-Ok-copy_anew-clause-untouched : goal.returns-in-Ok-copy_anew-clause-untouched
-returns-in-Ok-copy_anew-clause-untouched g c = untouched_both c.in-Ok.ensures.untouched (untouched_both c.measure_layout.ensures.untouched c.copy_anew.ensures.untouched)
+pub returns-in-Ok-copy_anew : goal.returns-in-Ok-copy_anew
+returns-in-Ok-copy_anew g c = record {
+  untouched = untouched_both c.in-Ok.ensures.untouched (untouched_both c.measure_layout.ensures.untouched c.copy_anew.ensures.untouched);
+  size = c.copy_anew.ensures.size ∙ c.measure_layout.ensures.size;
+  passes = c.copy_anew.ensures.passes;
+  layout = c.in-Ok-measure_layout.ensures.layout;
+  page = c.in-Ok-measure_layout.ensures.page;
+  written = subst (IsWritten c.in-Ok-measure_layout.layout (g.C.Scratch.view c.copy_anew.new.scratch).told) (told-same c.args.name.now (untouched_both c.in-Ok.ensures.untouched c.measure_layout.ensures.untouched)) c.in-Ok-copy_anew.ensures.written;
+  measured = λ text told. c.in-Ok-measure_layout.ensures.lines text (told-same c.args.name.now c.in-Ok.ensures.untouched ∙ told);
+  short = λ text told. omega (arith, c.in-Ok.ensures.size text told);
+  cause = tt;
+}
 
-pub returns-in-Err-copy_anew-clause-untouched : goal.returns-in-Err-copy_anew-clause-untouched
-returns-in-Err-copy_anew-clause-untouched g c = untouched_both c.in-Ok.ensures.untouched (untouched_both c.measure_layout.ensures.untouched c.copy_anew.ensures.untouched)
+pub returns-in-Err-copy_anew : goal.returns-in-Err-copy_anew
+returns-in-Err-copy_anew g c = record {
+  untouched = untouched_both c.in-Ok.ensures.untouched (untouched_both c.measure_layout.ensures.untouched c.copy_anew.ensures.untouched);
+  size = c.copy_anew.ensures.size ∙ c.measure_layout.ensures.size;
+  passes = c.copy_anew.ensures.passes;
+  layout = tt;
+  page = tt;
+  written = tt;
+  measured = tt;
+  short = tt;
+  cause = (
+      let scratch = g.C.Scratch.view in
+      let tree = g.T.Tree.view in
+      open-cause c.in-Err-copy_anew.fault c.args.pair.now.size (scratch c.args.scratch.now) (scratch c.copy_anew.new.scratch) (tree c.args.tree.now) (tree c.copy_anew.new.tree) c.args.name.now
+      (take-later c.in-Err-copy_anew.fault (scratch c.args.scratch.now) (scratch c.args.scratch.now) (scratch c.copy_anew.new.scratch) (tree c.args.tree.now) (tree c.measure_layout.new.tree) (tree c.copy_anew.new.tree) (scratch_passes_none _) (untouched_both c.size_of.ensures.untouched c.measure_layout.ensures.untouched) c.in-Err-copy_anew.ensures.cause));
+}
 
 pub returns-in-Err-measure_layout-clause-layout : goal.returns-in-Err-measure_layout-clause-layout
 returns-in-Err-measure_layout-clause-layout g c = tt
@@ -30,38 +54,8 @@ returns-in-Err-measure_layout-clause-measured g c = tt
 pub returns-in-Err-measure_layout-clause-short : goal.returns-in-Err-measure_layout-clause-short
 returns-in-Err-measure_layout-clause-short g c = tt
 
-pub returns-in-Err-copy_anew-clause-layout : goal.returns-in-Err-copy_anew-clause-layout
-returns-in-Err-copy_anew-clause-layout g c = tt
-
-pub returns-in-Err-copy_anew-clause-page : goal.returns-in-Err-copy_anew-clause-page
-returns-in-Err-copy_anew-clause-page g c = tt
-
-pub returns-in-Err-copy_anew-clause-written : goal.returns-in-Err-copy_anew-clause-written
-returns-in-Err-copy_anew-clause-written g c = tt
-
-pub returns-in-Err-copy_anew-clause-measured : goal.returns-in-Err-copy_anew-clause-measured
-returns-in-Err-copy_anew-clause-measured g c = tt
-
-pub returns-in-Err-copy_anew-clause-short : goal.returns-in-Err-copy_anew-clause-short
-returns-in-Err-copy_anew-clause-short g c = tt
-
 pub returns-in-Err-measure_layout-clause-size : goal.returns-in-Err-measure_layout-clause-size
 returns-in-Err-measure_layout-clause-size g c = c.measure_layout.ensures.size
-
-pub returns-in-Err-copy_anew-clause-size : goal.returns-in-Err-copy_anew-clause-size
-returns-in-Err-copy_anew-clause-size g c = c.copy_anew.ensures.size ∙ c.measure_layout.ensures.size
-
-pub returns-in-Ok-copy_anew-clause-size : goal.returns-in-Ok-copy_anew-clause-size
-returns-in-Ok-copy_anew-clause-size g c = c.copy_anew.ensures.size ∙ c.measure_layout.ensures.size
-
-pub returns-in-Err-copy_anew-clause-passes : goal.returns-in-Err-copy_anew-clause-passes
-returns-in-Err-copy_anew-clause-passes g c = c.copy_anew.ensures.passes
-
-pub returns-in-Ok-copy_anew-clause-passes : goal.returns-in-Ok-copy_anew-clause-passes
-returns-in-Ok-copy_anew-clause-passes g c = c.copy_anew.ensures.passes
-
-pub returns-in-Ok-copy_anew-clause-cause : goal.returns-in-Ok-copy_anew-clause-cause
-returns-in-Ok-copy_anew-clause-cause g c = tt
 
 pub returns-in-Err-clause-layout : goal.returns-in-Err-clause-layout
 returns-in-Err-clause-layout g c = tt
@@ -90,12 +84,6 @@ returns-in-Err-clause-passes g c = scratch_passes_none _
 pub returns-in-Err-measure_layout-clause-passes : goal.returns-in-Err-measure_layout-clause-passes
 returns-in-Err-measure_layout-clause-passes g c = scratch_passes_none _
 
-pub returns-in-Ok-copy_anew-clause-layout : goal.returns-in-Ok-copy_anew-clause-layout
-returns-in-Ok-copy_anew-clause-layout g c = c.in-Ok-measure_layout.ensures.layout
-
-pub returns-in-Ok-copy_anew-clause-page : goal.returns-in-Ok-copy_anew-clause-page
-returns-in-Ok-copy_anew-clause-page g c = c.in-Ok-measure_layout.ensures.page
-
 pub returns-then-total-ge-TOO_LONG-clause-untouched : goal.returns-then-total-ge-TOO_LONG-clause-untouched
 returns-then-total-ge-TOO_LONG-clause-untouched g c = c.in-Ok.ensures.untouched
 
@@ -123,12 +111,6 @@ returns-then-total-ge-TOO_LONG-clause-short g c = tt
 pub copy_anew-requires-clause-layout : goal.copy_anew-requires-clause-layout
 copy_anew-requires-clause-layout g c = c.in-Ok-measure_layout.ensures.layout
 
-pub returns-in-Ok-copy_anew-clause-written : goal.returns-in-Ok-copy_anew-clause-written
-returns-in-Ok-copy_anew-clause-written g c = subst (IsWritten c.in-Ok-measure_layout.layout (g.C.Scratch.view c.copy_anew.new.scratch).told) (told-same c.args.name.now (untouched_both c.in-Ok.ensures.untouched c.measure_layout.ensures.untouched)) c.in-Ok-copy_anew.ensures.written
-
-pub returns-in-Ok-copy_anew-clause-measured : goal.returns-in-Ok-copy_anew-clause-measured
-returns-in-Ok-copy_anew-clause-measured g c text told = c.in-Ok-measure_layout.ensures.lines text (told-same c.args.name.now c.in-Ok.ensures.untouched ∙ told)
-
 pub copy_anew-requires-clause-there : goal.copy_anew-requires-clause-there
 copy_anew-requires-clause-there g c f told = c.requires f (sym c.in-Ok.ensures.untouched.told ∙ (sym c.measure_layout.ensures.untouched.told ∙ told))
 
@@ -147,18 +129,8 @@ measure_layout-requires-clause-there g c f told = c.requires f (sym c.in-Ok.ensu
 pub measure_layout-requires-clause-few : goal.measure_layout-requires-clause-few
 measure_layout-requires-clause-few g c = omega arith
 
-pub returns-in-Ok-copy_anew-clause-short : goal.returns-in-Ok-copy_anew-clause-short
-returns-in-Ok-copy_anew-clause-short g c text told = omega (arith, c.in-Ok.ensures.size text told)
-
 pub copy_anew-requires-clause-stated : goal.copy_anew-requires-clause-stated
 copy_anew-requires-clause-stated g c text told = c.in-Ok.ensures.size text (sym (told-same c.args.name.now (untouched_both c.in-Ok.ensures.untouched c.measure_layout.ensures.untouched)) ∙ told)
 
 pub measure_layout-requires-clause-stated : goal.measure_layout-requires-clause-stated
 measure_layout-requires-clause-stated g c text told = c.in-Ok.ensures.size text (sym (told-same c.args.name.now c.in-Ok.ensures.untouched) ∙ told)
-
-pub returns-in-Err-copy_anew-clause-cause : goal.returns-in-Err-copy_anew-clause-cause
-returns-in-Err-copy_anew-clause-cause g c =
-    let scratch = g.C.Scratch.view in
-    let tree = g.T.Tree.view in
-    open-cause c.in-Err-copy_anew.fault c.args.pair.now.size (scratch c.args.scratch.now) (scratch c.copy_anew.new.scratch) (tree c.args.tree.now) (tree c.copy_anew.new.tree) c.args.name.now
-    (take-later c.in-Err-copy_anew.fault (scratch c.args.scratch.now) (scratch c.args.scratch.now) (scratch c.copy_anew.new.scratch) (tree c.args.tree.now) (tree c.measure_layout.new.tree) (tree c.copy_anew.new.tree) (scratch_passes_none _) (untouched_both c.size_of.ensures.untouched c.measure_layout.ensures.untouched) c.in-Err-copy_anew.ensures.cause)

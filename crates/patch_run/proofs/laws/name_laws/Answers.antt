@@ -2,11 +2,9 @@ use Rattle.patch_run.proofs.Unwritten.{unwritten_stays, backed_before}
 use Rattle.patch_run.proofs.Rejected.{run_rejects}
 use Rattle.patch_run.proofs.laws.name_laws.Goals as goal
 
-pub returns-clause-unwritten : goal.returns-clause-unwritten
-returns-clause-unwritten c o output items files name lasting none unwritten = unwritten_stays name lasting o output items files none unwritten
-
-pub returns-clause-backed : goal.returns-clause-backed
-returns-clause-backed c o output items i files w other vs lasting none = backed_before o output items i files w other vs lasting none
-
-pub returns-clause-rejected : goal.returns-clause-rejected
-returns-clause-rejected c o output items files name lasting none any = run_rejects name lasting o output items files none any
+pub returns : goal.returns
+returns c = record {
+  unwritten = λ o output items files name lasting none unwritten. unwritten_stays name lasting o output items files none unwritten;
+  backed = λ o output items i files w other vs lasting none. backed_before o output items i files w other vs lasting none;
+  rejected = λ o output items files name lasting none any. run_rejects name lasting o output items files none any;
+}

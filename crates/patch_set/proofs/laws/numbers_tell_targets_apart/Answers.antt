@@ -19,9 +19,10 @@ same-below (Some directory) one other alike is = by (is_absolute one) (is_absolu
     by false true e h = absurd (false≢true e)
     by false false e h = append_cancel_left (directory ++ 47 ∷ []) one other (append_assoc directory (47 ∷ []) one ∙ h ∙ sym (append_assoc directory (47 ∷ []) other))
 
-pub returns-clause-names : goal.returns-clause-names
-returns-clause-names c = λ o ps one other among same.
-    ap (below o.dir) (numbers-apart (known_names o ps) one other (all-join [] (patch_names o ps ++ option_to_list o.output) one among) same)
-
-pub returns-clause-numbers : goal.returns-clause-numbers
-returns-clause-numbers c = λ o ps one other alike same. ap (number_in (known_names o ps)) (same-below o.dir one other alike same)
+pub returns : goal.returns
+returns c = record {
+  names = (
+      λ o ps one other among same.
+      ap (below o.dir) (numbers-apart (known_names o ps) one other (all-join [] (patch_names o ps ++ option_to_list o.output) one among) same));
+  numbers = λ o ps one other alike same. ap (number_in (known_names o ps)) (same-below o.dir one other alike same);
+}

@@ -23,9 +23,8 @@ loop-target-preserved c =
           (subst (λ (x : Target). HasRoom m x) c.target-item.is (has-name n m t.name c.in_ok-add.ensures.room));
     }
 
-pub returns-clause-gives : goal.returns-clause-gives
-returns-clause-gives c = c.loop-target.invariant.gives
-
-pub returns-clause-room : goal.returns-clause-room
-returns-clause-room c =
-    subst (λ (ts : List Target). All (HasRoom c.loop-target.names) ts) (take_all c.loop-target.target-index c.args.targets.now (omega arith)) c.loop-target.invariant.room
+pub returns : goal.returns
+returns c = record {
+  gives = c.loop-target.invariant.gives;
+  room = subst (λ (ts : List Target). All (HasRoom c.loop-target.names) ts) (take_all c.loop-target.target-index c.args.targets.now (omega arith)) c.loop-target.invariant.room;
+}

@@ -28,16 +28,16 @@ loop-patch-preserved c =
           (subst (λ (ts : List Target). All (HasRoom m) ts) c.deref.ensures.value c.in_ok-add_targets.ensures.room));
     }
 
-pub returns-clause-unmarked : goal.returns-clause-unmarked
-returns-clause-unmarked c = still-unmarked c.loop-patch.names c.add_output.new.names c.in_ok-add_output.ensures.gives c.loop-patch.invariant.unmarked
-
-pub returns-clause-room : goal.returns-clause-room
-returns-clause-room c =
-    let m = c.add_output.new.names in
-    let ps = c.args.patches.now in
-    let k = c.loop-patch.patch-index in
-    record {
-      targets = subst (λ (l : List FilePatch). All (λ (p : FilePatch). All (HasRoom m) p.targets.items) l) (take_all k ps (omega arith))
-          (all-roomy c.loop-patch.names m c.in_ok-add_output.ensures.gives (take k ps) c.loop-patch.invariant.room);
-      output = c.in_ok-add_output.ensures.room;
-    }
+pub returns : goal.returns
+returns c = record {
+  unmarked = still-unmarked c.loop-patch.names c.add_output.new.names c.in_ok-add_output.ensures.gives c.loop-patch.invariant.unmarked;
+  room = (
+      let m = c.add_output.new.names in
+      let ps = c.args.patches.now in
+      let k = c.loop-patch.patch-index in
+      record {
+        targets = subst (λ (l : List FilePatch). All (λ (p : FilePatch). All (HasRoom m) p.targets.items) l) (take_all k ps (omega arith))
+            (all-roomy c.loop-patch.names m c.in_ok-add_output.ensures.gives (take k ps) c.loop-patch.invariant.room);
+        output = c.in_ok-add_output.ensures.room;
+      });
+}

@@ -17,39 +17,32 @@ known-last c =
     (option_to_list o.output) c.new-numbers.ensures
     (subst (λ rs. c.name_patches.new.numbers ≡ joined_by c.new-numbers.result (patch_names o (map (patch_of c.args.text.now) rs))) c.as_mut_slice.ensures.value c.in_ok-name_patches.ensures.known)
 
-pub returns-clause-patches : goal.returns-clause-patches
-returns-clause-patches c =
-    let o = plain_options c.args.options.now in
-    let ps = c.args.patches.items in
-    let qs = c.name_patches.new.patches in
-    let last = option_to_list o.output in
-    subst (λ rs. AreNamed o c.args.text.now (known_names o (map (patch_of c.args.text.now) ps)) ps rs) (sym (all-back c.args.patches.len qs ps (omega arith) (omega arith)))
-    (subst (λ k. AreNamed o c.args.text.now k ps qs) (known-last c) (subst (λ rs. AreNamed o c.args.text.now (joined_by c.name_patches.new.numbers last) rs qs) c.as_mut_slice.ensures.value (c.in_ok-name_patches.ensures.named last)))
+pub returns : goal.returns
+returns c = record {
+  patches = (
+      let o = plain_options c.args.options.now in
+      let ps = c.args.patches.items in
+      let qs = c.name_patches.new.patches in
+      let last = option_to_list o.output in
+      subst (λ rs. AreNamed o c.args.text.now (known_names o (map (patch_of c.args.text.now) ps)) ps rs) (sym (all-back c.args.patches.len qs ps (omega arith) (omega arith)))
+      (subst (λ k. AreNamed o c.args.text.now k ps qs) (known-last c) (subst (λ rs. AreNamed o c.args.text.now (joined_by c.name_patches.new.numbers last) rs qs) c.as_mut_slice.ensures.value (c.in_ok-name_patches.ensures.named last))));
+  output = c.in_ok-output.ensures.output ∙ ap (output_of (plain_options c.args.options.now)) (known-last c);
+  temps = c.in_ok-output.ensures.temps;
+}
 
-pub returns-clause-output : goal.returns-clause-output
-returns-clause-output c =
-    c.in_ok-output.ensures.output ∙ ap (output_of (plain_options c.args.options.now)) (known-last c)
+pub returns-in_err-name_patches : goal.returns-in_err-name_patches
+returns-in_err-name_patches c = record {
+  patches = if_ok_none _ _ c.from_residual.result c.from_residual.ensures.1;
+  output = if_ok_none _ _ c.from_residual.result c.from_residual.ensures.1;
+  temps = if_ok_none _ _ c.from_residual.result c.from_residual.ensures.1;
+}
 
-pub returns-in_err-name_patches-clause-patches : goal.returns-in_err-name_patches-clause-patches
-returns-in_err-name_patches-clause-patches c = if_ok_none _ _ c.from_residual.result c.from_residual.ensures.1
-
-pub returns-in_err-name_patches-clause-output : goal.returns-in_err-name_patches-clause-output
-returns-in_err-name_patches-clause-output c = if_ok_none _ _ c.from_residual.result c.from_residual.ensures.1
-
-pub returns-in_err-name_patches-clause-temps : goal.returns-in_err-name_patches-clause-temps
-returns-in_err-name_patches-clause-temps c = if_ok_none _ _ c.from_residual.result c.from_residual.ensures.1
-
-pub returns-in_err-output-clause-patches : goal.returns-in_err-output-clause-patches
-returns-in_err-output-clause-patches c = if_ok_none _ _ c.from_residual-in_err-output.result c.from_residual-in_err-output.ensures.1
-
-pub returns-in_err-output-clause-output : goal.returns-in_err-output-clause-output
-returns-in_err-output-clause-output c = if_ok_none _ _ c.from_residual-in_err-output.result c.from_residual-in_err-output.ensures.1
-
-pub returns-in_err-output-clause-temps : goal.returns-in_err-output-clause-temps
-returns-in_err-output-clause-temps c = if_ok_none _ _ c.from_residual-in_err-output.result c.from_residual-in_err-output.ensures.1
-
-pub returns-clause-temps : goal.returns-clause-temps
-returns-clause-temps c = c.in_ok-output.ensures.temps
+pub returns-in_err-output : goal.returns-in_err-output
+returns-in_err-output c = record {
+  patches = if_ok_none _ _ c.from_residual-in_err-output.result c.from_residual-in_err-output.ensures.1;
+  output = if_ok_none _ _ c.from_residual-in_err-output.result c.from_residual-in_err-output.ensures.1;
+  temps = if_ok_none _ _ c.from_residual-in_err-output.result c.from_residual-in_err-output.ensures.1;
+}
 
 pub name_output-requires : goal.name_output-requires
 name_output-requires c = c.requires

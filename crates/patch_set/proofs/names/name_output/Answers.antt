@@ -5,10 +5,10 @@ use Rattle.std.proofs.lemmas.Option.{same_Some}
 use Rattle.file_patch.specs.Targets.{HasTemps}
 use Rattle.patch_set.proofs.names.name_output.Goals as goal
 
-pub returns-in_ok-target-in-Some-clause-output : goal.returns-in_ok-target-in-Some-clause-output
-returns-in_ok-target-in-Some-clause-output c =
-    output-last (plain_options c.args.options.now) c.args.numbers.now c.target.new.numbers c.in-Some.name c.in_ok-target-in-Some.field-0
-    c.in-Some.is c.in_ok-target-in-Some.ensures.known c.in_ok-target-in-Some.ensures.target
-
-pub returns-in_ok-target-in-Some-clause-temps : goal.returns-in_ok-target-in-Some-clause-temps
-returns-in_ok-target-in-Some-clause-temps c = λ t is. subst HasTemps (same_Some c.in_ok-target-in-Some.field-0 t is) c.in_ok-target-in-Some.ensures.temps
+pub returns-in_ok-target-in-Some : goal.returns-in_ok-target-in-Some
+returns-in_ok-target-in-Some c = record {
+  output = (
+      output-last (plain_options c.args.options.now) c.args.numbers.now c.target.new.numbers c.in-Some.name c.in_ok-target-in-Some.field-0
+      c.in-Some.is c.in_ok-target-in-Some.ensures.known c.in_ok-target-in-Some.ensures.target);
+  temps = λ t is. subst HasTemps (same_Some c.in_ok-target-in-Some.field-0 t is) c.in_ok-target-in-Some.ensures.temps;
+}

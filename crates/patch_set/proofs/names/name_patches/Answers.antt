@@ -27,22 +27,23 @@ loop-patch-preserved c =
     i c.args.patches.now qs (get_or qs i r) c.name_patch.new.patch
     c.loop-patch.invariant (omega arith) (omega arith) (ap (λ x. get_or qs i x) c.patch-item.is) c.in_ok-name_patch.ensures.known c.in_ok-name_patch.ensures.named
 
-pub returns-clause-named : goal.returns-clause-named
-returns-clause-named c = λ others.
-    let o = plain_options c.args.options.now in
-    let known = joined_by c.loop-patch.numbers others in
-    let ps = c.args.patches.now in
-    let i = c.loop-patch.patch-index in
-    subst (λ (l : List FilePatch). AreNamed o c.args.text.now known l c.loop-patch.patches) (take_all i ps c.loop-patch-test.false)
-    (subst (λ (l : List FilePatch). AreNamed o c.args.text.now known (take i ps) l) (take_all i c.loop-patch.patches (omega arith)) (c.loop-patch.invariant.named.are others))
+pub returns : goal.returns
+returns c = record {
+  known = (
+      c.loop-patch.invariant.joined
+      ∙ ap (λ (l : List FilePatch). joined_by c.args.numbers.now (patch_names (plain_options c.args.options.now) (map (patch_of c.args.text.now) l))) (take_all c.loop-patch.patch-index c.args.patches.now c.loop-patch-test.false));
+  named = (
+      λ others.
+      let o = plain_options c.args.options.now in
+      let known = joined_by c.loop-patch.numbers others in
+      let ps = c.args.patches.now in
+      let i = c.loop-patch.patch-index in
+      subst (λ (l : List FilePatch). AreNamed o c.args.text.now known l c.loop-patch.patches) (take_all i ps c.loop-patch-test.false)
+      (subst (λ (l : List FilePatch). AreNamed o c.args.text.now known (take i ps) l) (take_all i c.loop-patch.patches (omega arith)) (c.loop-patch.invariant.named.are others)));
+}
 
-pub returns-clause-known : goal.returns-clause-known
-returns-clause-known c =
-    c.loop-patch.invariant.joined
-    ∙ ap (λ (l : List FilePatch). joined_by c.args.numbers.now (patch_names (plain_options c.args.options.now) (map (patch_of c.args.text.now) l))) (take_all c.loop-patch.patch-index c.args.patches.now c.loop-patch-test.false)
-
-pub returns-in_err-name_patch-clause-named : goal.returns-in_err-name_patch-clause-named
-returns-in_err-name_patch-clause-named c = on_ok_none _ _ c.from_residual.result c.from_residual.ensures.1
-
-pub returns-in_err-name_patch-clause-known : goal.returns-in_err-name_patch-clause-known
-returns-in_err-name_patch-clause-known c = on_ok_none _ _ c.from_residual.result c.from_residual.ensures.1
+pub returns-in_err-name_patch : goal.returns-in_err-name_patch
+returns-in_err-name_patch c = record {
+  known = on_ok_none _ _ c.from_residual.result c.from_residual.ensures.1;
+  named = on_ok_none _ _ c.from_residual.result c.from_residual.ensures.1;
+}

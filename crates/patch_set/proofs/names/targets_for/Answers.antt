@@ -40,35 +40,29 @@ loop-name-preserved c =
       temps = subst (λ l. All HasTemps l) (sym pushed) (All-push HasTemps c.loop-name.targets.items t c.loop-name.invariant.temps c.in_ok-target.ensures.temps);
     }
 
-pub returns-clause-known : goal.returns-clause-known
-returns-clause-known c =
-    c.loop-name.invariant.known ∙ ap (joined_by c.args.numbers.now) (take_all c.loop-name.name-index c.args.names.now c.loop-name-test.false)
+pub returns : goal.returns
+returns c = record {
+  known = c.loop-name.invariant.known ∙ ap (joined_by c.args.numbers.now) (take_all c.loop-name.name-index c.args.names.now c.loop-name-test.false);
+  targets = (
+      λ others.
+      c.loop-name.invariant.targets.are others
+      ∙ ap (map (target_in (plain_options c.args.options.now) (joined_by c.loop-name.numbers others))) (take_all c.loop-name.name-index c.args.names.now c.loop-name-test.false));
+  temps = c.loop-name.invariant.temps;
+}
 
-pub returns-clause-targets : goal.returns-clause-targets
-returns-clause-targets c = λ others.
-    c.loop-name.invariant.targets.are others
-    ∙ ap (map (target_in (plain_options c.args.options.now) (joined_by c.loop-name.numbers others))) (take_all c.loop-name.name-index c.args.names.now c.loop-name-test.false)
+pub returns-in_err-push : goal.returns-in_err-push
+returns-in_err-push c = record {
+  known = on_ok_none _ _ c.from_residual-in_err-push.result c.from_residual-in_err-push.ensures.1;
+  targets = if_ok_none _ _ c.from_residual-in_err-push.result c.from_residual-in_err-push.ensures.1;
+  temps = if_ok_none _ _ c.from_residual-in_err-push.result c.from_residual-in_err-push.ensures.1;
+}
 
-pub returns-clause-temps : goal.returns-clause-temps
-returns-clause-temps c = c.loop-name.invariant.temps
-
-pub returns-in_err-push-clause-known : goal.returns-in_err-push-clause-known
-returns-in_err-push-clause-known c = on_ok_none _ _ c.from_residual-in_err-push.result c.from_residual-in_err-push.ensures.1
-
-pub returns-in_err-push-clause-targets : goal.returns-in_err-push-clause-targets
-returns-in_err-push-clause-targets c = if_ok_none _ _ c.from_residual-in_err-push.result c.from_residual-in_err-push.ensures.1
-
-pub returns-in_err-push-clause-temps : goal.returns-in_err-push-clause-temps
-returns-in_err-push-clause-temps c = if_ok_none _ _ c.from_residual-in_err-push.result c.from_residual-in_err-push.ensures.1
-
-pub returns-in_err-target-clause-known : goal.returns-in_err-target-clause-known
-returns-in_err-target-clause-known c = on_ok_none _ _ c.from_residual-in_err-target.result c.from_residual-in_err-target.ensures.1
-
-pub returns-in_err-target-clause-targets : goal.returns-in_err-target-clause-targets
-returns-in_err-target-clause-targets c = if_ok_none _ _ c.from_residual-in_err-target.result c.from_residual-in_err-target.ensures.1
-
-pub returns-in_err-target-clause-temps : goal.returns-in_err-target-clause-temps
-returns-in_err-target-clause-temps c = if_ok_none _ _ c.from_residual-in_err-target.result c.from_residual-in_err-target.ensures.1
+pub returns-in_err-target : goal.returns-in_err-target
+returns-in_err-target c = record {
+  known = on_ok_none _ _ c.from_residual-in_err-target.result c.from_residual-in_err-target.ensures.1;
+  targets = if_ok_none _ _ c.from_residual-in_err-target.result c.from_residual-in_err-target.ensures.1;
+  temps = if_ok_none _ _ c.from_residual-in_err-target.result c.from_residual-in_err-target.ensures.1;
+}
 
 pub bounds-names-name-index : goal.bounds-names-name-index
 bounds-names-name-index c = c.loop-name-test.true

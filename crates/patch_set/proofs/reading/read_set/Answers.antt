@@ -21,13 +21,24 @@ read c =
 pub read_patches-requires : goal.read_patches-requires
 read_patches-requires c = omega (arith, completed-length c.args.text.items, ap length c.deref.ensures.value, ap length c.in-Ok.ensures.whole, c.in-Ok.ensures.short)
 
-pub returns-clause-refused : goal.returns-clause-refused
-returns-clause-refused c =
-    let text = c.in-Ok.text.items in
-    let o = plain_options c.args.options.now in
-    let ps = map (patch_of text) c.in_ok-patches.patches.items in
-    subst (λ r. Meets r c.set_of.result)
-    (read-refusal o c.args.text.items text ps (le-ltb 268435456 (length c.args.text.items) c.in-Ok.ensures.short) c.in-Ok.ensures.whole (read c)) c.set_of.ensures.refused
+pub returns : goal.returns
+returns c = record {
+  read = (
+      let o = plain_options c.args.options.now in
+      let text = c.in-Ok.text.items in
+      let ps = map (patch_of text) c.in_ok-patches.patches.items in
+      IfOk-weaker c.set_of.result (IsSetOf o text ps) (IsRead o c.args.text.items) (is-read o c.args.text.items text ps c.in-Ok.ensures.whole (read c)) c.set_of.ensures.set);
+  fresh = c.set_of.ensures.fresh;
+  whole = c.set_of.ensures.whole;
+  marks = c.set_of.ensures.marks;
+  refused = (
+      let text = c.in-Ok.text.items in
+      let o = plain_options c.args.options.now in
+      let ps = map (patch_of text) c.in_ok-patches.patches.items in
+      subst (λ r. Meets r c.set_of.result)
+      (read-refusal o c.args.text.items text ps (le-ltb 268435456 (length c.args.text.items) c.in-Ok.ensures.short) c.in-Ok.ensures.whole (read c)) c.set_of.ensures.refused);
+  memory = λ _. c.in-Ok.ensures.short;
+}
 
 pub returns-in-Err-clause-refused : goal.returns-in-Err-clause-refused
 returns-in-Err-clause-refused c = long-refusal (plain_options c.args.options.now) c.args.text.items c.in-Err.fault c.in-Err.ensures.refused
@@ -43,22 +54,3 @@ set_of-requires-clause-whole c =
       count = c.in_ok-patches.ensures.count;
       hunks = c.in_ok-patches.ensures.hunks;
     }
-
-pub returns-clause-read : goal.returns-clause-read
-returns-clause-read c =
-    let o = plain_options c.args.options.now in
-    let text = c.in-Ok.text.items in
-    let ps = map (patch_of text) c.in_ok-patches.patches.items in
-    IfOk-weaker c.set_of.result (IsSetOf o text ps) (IsRead o c.args.text.items) (is-read o c.args.text.items text ps c.in-Ok.ensures.whole (read c)) c.set_of.ensures.set
-
-pub returns-clause-fresh : goal.returns-clause-fresh
-returns-clause-fresh c = c.set_of.ensures.fresh
-
-pub returns-clause-whole : goal.returns-clause-whole
-returns-clause-whole c = c.set_of.ensures.whole
-
-pub returns-clause-marks : goal.returns-clause-marks
-returns-clause-marks c = c.set_of.ensures.marks
-
-pub returns-clause-memory : goal.returns-clause-memory
-returns-clause-memory c = λ _. c.in-Ok.ensures.short

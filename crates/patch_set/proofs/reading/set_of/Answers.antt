@@ -19,60 +19,41 @@ untried-requires c =
     (kept o c.args.text.items c.args.patches.items named.patches.items named.output
     (subst (λ t. HaveTargets o t c.args.patches.items named.patches.items named.output) c.deref.ensures.value c.in-Ok.ensures.targets) c.requires.whole)
 
-pub returns-in-Err-clause-refused : goal.returns-in-Err-clause-refused
-returns-in-Err-clause-refused c =
-    subst (λ t. (c.in-Err.fault ≡ faults.Memory) ⊎ (refusal_of (plain_options c.args.options.now) t (Ok (map (patch_of t) c.args.patches.items)) ≡ Some c.in-Err.fault))
-    c.deref.ensures.value c.in-Err.ensures.refused
+pub returns-in-Err : goal.returns-in-Err
+returns-in-Err c = record {
+  set = tt;
+  fresh = tt;
+  whole = tt;
+  marks = tt;
+  refused = (
+      subst (λ t. (c.in-Err.fault ≡ faults.Memory) ⊎ (refusal_of (plain_options c.args.options.now) t (Ok (map (patch_of t) c.args.patches.items)) ≡ Some c.in-Err.fault))
+      c.deref.ensures.value c.in-Err.ensures.refused);
+}
 
-pub returns-in_ok-untried-in-Ok-clause-refused : goal.returns-in_ok-untried-in-Ok-clause-refused
-returns-in_ok-untried-in-Ok-clause-refused c =
-    subst (λ t. refusal_of (plain_options c.args.options.now) t (Ok (map (patch_of t) c.args.patches.items)) ≡ None) c.deref.ensures.value c.in-Ok.ensures.refused
+pub returns-in_ok-untried-in-Ok : goal.returns-in_ok-untried-in-Ok
+returns-in_ok-untried-in-Ok c = record {
+  set = (
+      let o = plain_options c.args.options.now in
+      let named = c.in-Ok.named in
+      let is = c.in_ok-untried-in-Ok.ensures.untried in
+      made-set o c.args.text.items c.args.patches.items named.patches.items named.output
+      c.in_ok-untried-in-Ok.field-0 is.text (is.ways ∙ c.ways_of.ensures) is.patches is.output
+      (subst (λ t. HaveTargets o t c.args.patches.items named.patches.items named.output) c.deref.ensures.value c.in-Ok.ensures.targets)
+      c.in-Ok.ensures.lasting c.requires.whole.regions c.requires.whole.placed (is.skipped ∙ ap (λ w. skipped_lines w c.args.text.items) c.ways_of.ensures));
+  fresh = c.in_ok-untried-in-Ok.ensures.untried.fresh;
+  whole = c.in_ok-untried-in-Ok.ensures.untried.whole;
+  marks = c.in_ok-untried-in-Ok.ensures.marks ∙ c.are_asked.ensures;
+  refused = subst (λ t. refusal_of (plain_options c.args.options.now) t (Ok (map (patch_of t) c.args.patches.items)) ≡ None) c.deref.ensures.value c.in-Ok.ensures.refused;
+}
 
-pub returns-in_ok-untried-in-Ok-clause-set : goal.returns-in_ok-untried-in-Ok-clause-set
-returns-in_ok-untried-in-Ok-clause-set c =
-    let o = plain_options c.args.options.now in
-    let named = c.in-Ok.named in
-    let is = c.in_ok-untried-in-Ok.ensures.untried in
-    made-set o c.args.text.items c.args.patches.items named.patches.items named.output
-    c.in_ok-untried-in-Ok.field-0 is.text (is.ways ∙ c.ways_of.ensures) is.patches is.output
-    (subst (λ t. HaveTargets o t c.args.patches.items named.patches.items named.output) c.deref.ensures.value c.in-Ok.ensures.targets)
-    c.in-Ok.ensures.lasting c.requires.whole.regions c.requires.whole.placed (is.skipped ∙ ap (λ w. skipped_lines w c.args.text.items) c.ways_of.ensures)
-
-pub returns-in_ok-untried-in-Ok-clause-fresh : goal.returns-in_ok-untried-in-Ok-clause-fresh
-returns-in_ok-untried-in-Ok-clause-fresh c = c.in_ok-untried-in-Ok.ensures.untried.fresh
-
-pub returns-in_ok-untried-in-Ok-clause-whole : goal.returns-in_ok-untried-in-Ok-clause-whole
-returns-in_ok-untried-in-Ok-clause-whole c = c.in_ok-untried-in-Ok.ensures.untried.whole
-
-pub returns-in_ok-untried-in-Ok-clause-marks : goal.returns-in_ok-untried-in-Ok-clause-marks
-returns-in_ok-untried-in-Ok-clause-marks c = c.in_ok-untried-in-Ok.ensures.marks ∙ c.are_asked.ensures
-
-pub returns-in-Err-clause-set : goal.returns-in-Err-clause-set
-returns-in-Err-clause-set c = tt
-
-pub returns-in-Err-clause-fresh : goal.returns-in-Err-clause-fresh
-returns-in-Err-clause-fresh c = tt
-
-pub returns-in-Err-clause-whole : goal.returns-in-Err-clause-whole
-returns-in-Err-clause-whole c = tt
-
-pub returns-in-Err-clause-marks : goal.returns-in-Err-clause-marks
-returns-in-Err-clause-marks c = tt
-
-pub returns-in_err-untried-in-Ok-clause-set : goal.returns-in_err-untried-in-Ok-clause-set
-returns-in_err-untried-in-Ok-clause-set c = if_ok_none _ _ c.from_residual.result c.from_residual.ensures.1
-
-pub returns-in_err-untried-in-Ok-clause-fresh : goal.returns-in_err-untried-in-Ok-clause-fresh
-returns-in_err-untried-in-Ok-clause-fresh c = if_ok_none _ _ c.from_residual.result c.from_residual.ensures.1
-
-pub returns-in_err-untried-in-Ok-clause-whole : goal.returns-in_err-untried-in-Ok-clause-whole
-returns-in_err-untried-in-Ok-clause-whole c = if_ok_none _ _ c.from_residual.result c.from_residual.ensures.1
-
-pub returns-in_err-untried-in-Ok-clause-marks : goal.returns-in_err-untried-in-Ok-clause-marks
-returns-in_err-untried-in-Ok-clause-marks c = if_ok_none _ _ c.from_residual.result c.from_residual.ensures.1
-
-pub returns-in_err-untried-in-Ok-clause-refused : goal.returns-in_err-untried-in-Ok-clause-refused
-returns-in_err-untried-in-Ok-clause-refused c = meets-memory _ c.from_residual.result c.from_residual.ensures.1
+pub returns-in_err-untried-in-Ok : goal.returns-in_err-untried-in-Ok
+returns-in_err-untried-in-Ok c = record {
+  set = if_ok_none _ _ c.from_residual.result c.from_residual.ensures.1;
+  fresh = if_ok_none _ _ c.from_residual.result c.from_residual.ensures.1;
+  whole = if_ok_none _ _ c.from_residual.result c.from_residual.ensures.1;
+  marks = if_ok_none _ _ c.from_residual.result c.from_residual.ensures.1;
+  refused = meets-memory _ c.from_residual.result c.from_residual.ensures.1;
+}
 
 pub give_targets-requires-clause-options : goal.give_targets-requires-clause-options
 give_targets-requires-clause-options c = c.requires.options

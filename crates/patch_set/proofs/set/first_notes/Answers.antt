@@ -14,29 +14,29 @@ returns-clause-first c = record {
 pub returns-clause-asked : goal.returns-clause-asked
 returns-clause-asked c = c.in_ok-marks.ensures.asked
 
-pub returns-in_err-skipped-clause-first : goal.returns-in_err-skipped-clause-first
-returns-in_err-skipped-clause-first c = if_ok_none _ _ c.from_residual.result c.from_residual.ensures.1
+pub returns-in_err-skipped : goal.returns-in_err-skipped
+returns-in_err-skipped c = record {
+  first = if_ok_none _ _ c.from_residual.result c.from_residual.ensures.1;
+  asked = if_ok_none _ _ c.from_residual.result c.from_residual.ensures.1;
+}
 
-pub returns-in_err-skipped-clause-asked : goal.returns-in_err-skipped-clause-asked
-returns-in_err-skipped-clause-asked c = if_ok_none _ _ c.from_residual.result c.from_residual.ensures.1
+pub returns-in_err-verdicts : goal.returns-in_err-verdicts
+returns-in_err-verdicts c = record {
+  first = if_ok_none _ _ c.from_residual-in_err-verdicts.result c.from_residual-in_err-verdicts.ensures.1;
+  asked = if_ok_none _ _ c.from_residual-in_err-verdicts.result c.from_residual-in_err-verdicts.ensures.1;
+}
 
-pub returns-in_err-verdicts-clause-first : goal.returns-in_err-verdicts-clause-first
-returns-in_err-verdicts-clause-first c = if_ok_none _ _ c.from_residual-in_err-verdicts.result c.from_residual-in_err-verdicts.ensures.1
+pub returns-in_err-rows : goal.returns-in_err-rows
+returns-in_err-rows c = record {
+  first = if_ok_none _ _ c.from_residual-in_err-rows.result c.from_residual-in_err-rows.ensures.1;
+  asked = if_ok_none _ _ c.from_residual-in_err-rows.result c.from_residual-in_err-rows.ensures.1;
+}
 
-pub returns-in_err-verdicts-clause-asked : goal.returns-in_err-verdicts-clause-asked
-returns-in_err-verdicts-clause-asked c = if_ok_none _ _ c.from_residual-in_err-verdicts.result c.from_residual-in_err-verdicts.ensures.1
-
-pub returns-in_err-rows-clause-first : goal.returns-in_err-rows-clause-first
-returns-in_err-rows-clause-first c = if_ok_none _ _ c.from_residual-in_err-rows.result c.from_residual-in_err-rows.ensures.1
-
-pub returns-in_err-rows-clause-asked : goal.returns-in_err-rows-clause-asked
-returns-in_err-rows-clause-asked c = if_ok_none _ _ c.from_residual-in_err-rows.result c.from_residual-in_err-rows.ensures.1
-
-pub returns-in_err-marks-clause-first : goal.returns-in_err-marks-clause-first
-returns-in_err-marks-clause-first c = if_ok_none _ _ c.from_residual-in_err-marks.result c.from_residual-in_err-marks.ensures.1
-
-pub returns-in_err-marks-clause-asked : goal.returns-in_err-marks-clause-asked
-returns-in_err-marks-clause-asked c = if_ok_none _ _ c.from_residual-in_err-marks.result c.from_residual-in_err-marks.ensures.1
+pub returns-in_err-marks : goal.returns-in_err-marks
+returns-in_err-marks c = record {
+  first = if_ok_none _ _ c.from_residual-in_err-marks.result c.from_residual-in_err-marks.ensures.1;
+  asked = if_ok_none _ _ c.from_residual-in_err-marks.result c.from_residual-in_err-marks.ensures.1;
+}
 
 pub hunks_in-requires : goal.hunks_in-requires
 hunks_in-requires c = c.requires.hunks

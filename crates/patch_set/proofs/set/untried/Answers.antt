@@ -17,14 +17,14 @@ noted-requires-clause-notes c =
 pub noted-requires-clause-whole : goal.noted-requires-clause-whole
 noted-requires-clause-whole c = c.requires
 
-pub returns-in-Ok-clause-marks : goal.returns-in-Ok-clause-marks
-returns-in-Ok-clause-marks c = c.noted.ensures.marks ∙ c.in-Ok.ensures.asked
+pub returns-in-Ok : goal.returns-in-Ok
+returns-in-Ok c = record {
+  untried = c.noted.ensures.untried;
+  marks = c.noted.ensures.marks ∙ c.in-Ok.ensures.asked;
+}
 
-pub returns-in-Ok-clause-untried : goal.returns-in-Ok-clause-untried
-returns-in-Ok-clause-untried c = c.noted.ensures.untried
-
-pub returns-in-Err-clause-untried : goal.returns-in-Err-clause-untried
-returns-in-Err-clause-untried c = tt
-
-pub returns-in-Err-clause-marks : goal.returns-in-Err-clause-marks
-returns-in-Err-clause-marks c = tt
+pub returns-in-Err : goal.returns-in-Err
+returns-in-Err c = record {
+  untried = tt;
+  marks = tt;
+}

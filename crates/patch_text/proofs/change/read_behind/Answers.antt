@@ -6,20 +6,20 @@ use Rattle.patch_text.proofs.Passed.{bare-is, behind-is, below}
 use Rattle.std.proofs.Common.{subst}
 use Rattle.patch_text.proofs.change.read_behind.Goals as goal
 
-pub returns-then-header-clause-is : goal.returns-then-header-clause-is
-returns-then-header-clause-is c = behind-bare c.args.text.now c.args.header c.bare_at.result c.if-header.true c.bare_at.ensures.is
+pub returns-then-header : goal.returns-then-header
+returns-then-header c = record {
+  is = behind-bare c.args.text.now c.args.header c.bare_at.result c.if-header.true c.bare_at.ensures.is;
+  exact = bare-is c.args.text.now c.args.header _ c.if-header.true c.bare_at.ensures.exact;
+}
 
-pub returns-clause-is : goal.returns-clause-is
-returns-clause-is c =
-    let text = c.args.text.now in
-    let h = c.args.header in
-    IfOk-weaker c.read_change.result (IsChange text h.form h.at h.opening) (IsBehind text h) (λ r is. behind-hunks text h r c.if-header.false is) c.read_change.ensures.is
-
-pub returns-clause-exact : goal.returns-clause-exact
-returns-clause-exact c = subst (Gives (read_of c.args.text.now) c.read_change.result) (behind-is c.args.text.now c.args.header c.if-header.false) c.read_change.ensures.exact
-
-pub returns-then-header-clause-exact : goal.returns-then-header-clause-exact
-returns-then-header-clause-exact c = bare-is c.args.text.now c.args.header _ c.if-header.true c.bare_at.ensures.exact
+pub returns : goal.returns
+returns c = record {
+  is = (
+      let text = c.args.text.now in
+      let h = c.args.header in
+      IfOk-weaker c.read_change.result (IsChange text h.form h.at h.opening) (IsBehind text h) (λ r is. behind-hunks text h r c.if-header.false is) c.read_change.ensures.is);
+  exact = subst (Gives (read_of c.args.text.now) c.read_change.result) (behind-is c.args.text.now c.args.header c.if-header.false) c.read_change.ensures.exact;
+}
 
 pub bare_at-requires-clause-short : goal.bare_at-requires-clause-short
 bare_at-requires-clause-short c = c.requires.short

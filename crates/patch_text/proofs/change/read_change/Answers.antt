@@ -6,29 +6,29 @@ use Rattle.std.proofs.Common.{drop, subst, sym, true, ◌≡◌}
 use Rattle.line_list.specs.Lines.{lines}
 use Rattle.patch_text.proofs.change.read_change.Goals as goal
 
-pub returns-in-Ed-clause-exact : goal.returns-in-Ed-clause-exact
-returns-in-Ed-clause-exact c = subst (λ f. Gives (read_of c.args.text.now) c.script_at.result (change_at f c.args.line (lines (drop c.args.at c.args.text.now)))) (sym c.in-Ed.is) c.script_at.ensures.exact
+pub returns-in-Ed : goal.returns-in-Ed
+returns-in-Ed c = record {
+  is = subst (λ f. IfOk c.script_at.result (IsChange c.args.text.now f c.args.at c.args.line)) (sym c.in-Ed.is) c.script_at.ensures.is;
+  exact = subst (λ f. Gives (read_of c.args.text.now) c.script_at.result (change_at f c.args.line (lines (drop c.args.at c.args.text.now)))) (sym c.in-Ed.is) c.script_at.ensures.exact;
+}
 
-pub returns-in-Normal-clause-exact : goal.returns-in-Normal-clause-exact
-returns-in-Normal-clause-exact c = subst (λ f. Gives (read_of c.args.text.now) c.normal_at.result (change_at f c.args.line (lines (drop c.args.at c.args.text.now)))) (sym c.in-Normal.is) c.normal_at.ensures.exact
+pub returns-in-Normal : goal.returns-in-Normal
+returns-in-Normal c = record {
+  is = subst (λ f. IfOk c.normal_at.result (IsChange c.args.text.now f c.args.at c.args.line)) (sym c.in-Normal.is) c.normal_at.ensures.is;
+  exact = subst (λ f. Gives (read_of c.args.text.now) c.normal_at.result (change_at f c.args.line (lines (drop c.args.at c.args.text.now)))) (sym c.in-Normal.is) c.normal_at.ensures.exact;
+}
 
-pub returns-in-Context-clause-exact : goal.returns-in-Context-clause-exact
-returns-in-Context-clause-exact c = subst (λ f. Gives (read_of c.args.text.now) c.context_at.result (change_at f c.args.line (lines (drop c.args.at c.args.text.now)))) (sym c.in-Context.is) c.context_at.ensures.exact
+pub returns-in-Context : goal.returns-in-Context
+returns-in-Context c = record {
+  is = subst (λ f. IfOk c.context_at.result (IsChange c.args.text.now f c.args.at c.args.line)) (sym c.in-Context.is) c.context_at.ensures.is;
+  exact = subst (λ f. Gives (read_of c.args.text.now) c.context_at.result (change_at f c.args.line (lines (drop c.args.at c.args.text.now)))) (sym c.in-Context.is) c.context_at.ensures.exact;
+}
 
-pub returns-in-Unified-clause-exact : goal.returns-in-Unified-clause-exact
-returns-in-Unified-clause-exact c = subst (λ f. Gives (read_of c.args.text.now) c.unified_at.result (change_at f c.args.line (lines (drop c.args.at c.args.text.now)))) (sym c.in-Unified.is) c.unified_at.ensures.exact
-
-pub returns-in-Ed-clause-is : goal.returns-in-Ed-clause-is
-returns-in-Ed-clause-is c = subst (λ f. IfOk c.script_at.result (IsChange c.args.text.now f c.args.at c.args.line)) (sym c.in-Ed.is) c.script_at.ensures.is
-
-pub returns-in-Normal-clause-is : goal.returns-in-Normal-clause-is
-returns-in-Normal-clause-is c = subst (λ f. IfOk c.normal_at.result (IsChange c.args.text.now f c.args.at c.args.line)) (sym c.in-Normal.is) c.normal_at.ensures.is
-
-pub returns-in-Context-clause-is : goal.returns-in-Context-clause-is
-returns-in-Context-clause-is c = subst (λ f. IfOk c.context_at.result (IsChange c.args.text.now f c.args.at c.args.line)) (sym c.in-Context.is) c.context_at.ensures.is
-
-pub returns-in-Unified-clause-is : goal.returns-in-Unified-clause-is
-returns-in-Unified-clause-is c = subst (λ f. IfOk c.unified_at.result (IsChange c.args.text.now f c.args.at c.args.line)) (sym c.in-Unified.is) c.unified_at.ensures.is
+pub returns-in-Unified : goal.returns-in-Unified
+returns-in-Unified c = record {
+  is = subst (λ f. IfOk c.unified_at.result (IsChange c.args.text.now f c.args.at c.args.line)) (sym c.in-Unified.is) c.unified_at.ensures.is;
+  exact = subst (λ f. Gives (read_of c.args.text.now) c.unified_at.result (change_at f c.args.line (lines (drop c.args.at c.args.text.now)))) (sym c.in-Unified.is) c.unified_at.ensures.exact;
+}
 
 pub script_at-requires-clause-small : goal.script_at-requires-clause-small
 script_at-requires-clause-small c = c.requires.small

@@ -30,17 +30,17 @@ digest_unified-requires-clause-some c = c.is_unified.ensures.bare c.if-is_unifie
 pub digest_unified-requires-clause-form : goal.digest_unified-requires-clause-form
 digest_unified-requires-clause-form c = c.is_unified.ensures.form c.if-is_unified.true
 
-pub returns-clause-exact : goal.returns-clause-exact
-returns-clause-exact c = c.digest_whole.ensures.exact
+pub returns : goal.returns
+returns c = record {
+  is = c.digest_whole.ensures.is;
+  exact = c.digest_whole.ensures.exact;
+}
 
-pub returns-then-is_unified-clause-exact : goal.returns-then-is_unified-clause-exact
-returns-then-is_unified-clause-exact c = c.digest_unified.ensures.exact
-
-pub returns-clause-is : goal.returns-clause-is
-returns-clause-is c = c.digest_whole.ensures.is
-
-pub returns-then-is_unified-clause-is : goal.returns-then-is_unified-clause-is
-returns-then-is_unified-clause-is c = c.digest_unified.ensures.is
+pub returns-then-is_unified : goal.returns-then-is_unified
+returns-then-is_unified c = record {
+  is = c.digest_unified.ensures.is;
+  exact = c.digest_unified.ensures.exact;
+}
 
 pub digest_whole-requires-clause-opens : goal.digest_whole-requires-clause-opens
 digest_whole-requires-clause-opens c = c.requires.opens

@@ -4,46 +4,46 @@ use Rattle.patch_text.specs.Patches.{change_behind}
 use Rattle.patch_text.proofs.Passed.{digests-with, end-fits, fails-on, fault-given, goes-far, lawful-patch, lies, not-below, nothing-said, number-on, opening-fits, start-fits, with_ranges}
 use Rattle.patch_text.proofs.digest.digest_patch.Goals as goal
 
-pub returns-clause-exact : goal.returns-clause-exact
-returns-clause-exact c =
-    let text = c.args.text.now in
-    let h = c.args.header in
-    digests-with text h (change_behind text h) ∙ ap (λ r. r >>= with_ranges text h) c.in_ok-read.ensures.exact
+pub returns : goal.returns
+returns c = record {
+  is = (
+      let is = c.in_ok-read.ensures.is in
+      record {
+        lawful = lawful-patch c.args.text.now _ is.lawful c.is_absent.ensures c.is_absent-2.ensures;
+        region = c.requires.header.low;
+        cut = is.cut;
+        each = is.each;
+        some = is.some;
+        high = is.high;
+      });
+  region = ap (lies c.args.here.at c.args.header c.in_ok-read.read.end) c.in_ok-read.ensures.is.ends;
+  progress = (
+      let is = c.in_ok-read.ensures.is in
+      record {
+        within = is.high;
+        numbers = number-on c.in_ok-read.read.next c.args.header.at c.args.header.opening c.in_ok-read.read.end c.args.here.at c.args.here.number is.numbers c.requires.header.numbers c.requires.numbers;
+        few = not-below c.in_ok-read.read.end;
+        known = λ e. is.dots (c.requires.known e);
+      });
+  behind = goes-far c.args.here.at c.args.header.at c.in_ok-read.read.end c.requires.header.low c.in_ok-read.ensures.is.some;
+  exact = (
+      let text = c.args.text.now in
+      let h = c.args.header in
+      digests-with text h (change_behind text h) ∙ ap (λ r. r >>= with_ranges text h) c.in_ok-read.ensures.exact);
+}
 
-pub returns-clause-is : goal.returns-clause-is
-returns-clause-is c =
-    let is = c.in_ok-read.ensures.is in
-    record {
-      lawful = lawful-patch c.args.text.now _ is.lawful c.is_absent.ensures c.is_absent-2.ensures;
-      region = c.requires.header.low;
-      cut = is.cut;
-      each = is.each;
-      some = is.some;
-      high = is.high;
-    }
-
-pub returns-clause-progress : goal.returns-clause-progress
-returns-clause-progress c =
-    let is = c.in_ok-read.ensures.is in
-    record {
-      within = is.high;
-      numbers = number-on c.in_ok-read.read.next c.args.header.at c.args.header.opening c.in_ok-read.read.end c.args.here.at c.args.here.number is.numbers c.requires.header.numbers c.requires.numbers;
-      few = not-below c.in_ok-read.read.end;
-      known = λ e. is.dots (c.requires.known e);
-    }
-
-pub returns-clause-behind : goal.returns-clause-behind
-returns-clause-behind c = goes-far c.args.here.at c.args.header.at c.in_ok-read.read.end c.requires.header.low c.in_ok-read.ensures.is.some
-
-pub returns-clause-region : goal.returns-clause-region
-returns-clause-region c = ap (lies c.args.here.at c.args.header c.in_ok-read.read.end) c.in_ok-read.ensures.is.ends
-
-pub returns-in_err-read-clause-exact : goal.returns-in_err-read-clause-exact
-returns-in_err-read-clause-exact c =
-    let text = c.args.text.now in
-    let h = c.args.header in
-    let e = c.in_err-read.field-0.0 in
-    fault-given _ e c.from_residual.result _ c.from_residual.ensures.1 (subst (Fails e) (sym (digests-with text h (change_behind text h))) (fails-on e _ (with_ranges text h) c.in_err-read.ensures.exact))
+pub returns-in_err-read : goal.returns-in_err-read
+returns-in_err-read c = record {
+  is = nothing-said _ _ c.from_residual.result c.from_residual.ensures.1;
+  region = nothing-said _ _ c.from_residual.result c.from_residual.ensures.1;
+  progress = nothing-said _ _ c.from_residual.result c.from_residual.ensures.1;
+  behind = nothing-said _ _ c.from_residual.result c.from_residual.ensures.1;
+  exact = (
+      let text = c.args.text.now in
+      let h = c.args.header in
+      let e = c.in_err-read.field-0.0 in
+      fault-given _ e c.from_residual.result _ c.from_residual.ensures.1 (subst (Fails e) (sym (digests-with text h (change_behind text h))) (fails-on e _ (with_ranges text h) c.in_err-read.ensures.exact)));
+}
 
 pub overflow_cast-patch : goal.overflow_cast-patch
 overflow_cast-patch c = omega (arith, start-fits c.args.here.at c.args.header.at _ c.requires.header.low c.requires.header.high c.requires.short)
@@ -74,15 +74,3 @@ digest_behind-requires-clause-small c = opening-fits c.args.header.opening c.arg
 
 pub digest_behind-requires-clause-short : goal.digest_behind-requires-clause-short
 digest_behind-requires-clause-short c = c.requires.short
-
-pub returns-in_err-read-clause-region : goal.returns-in_err-read-clause-region
-returns-in_err-read-clause-region c = nothing-said _ _ c.from_residual.result c.from_residual.ensures.1
-
-pub returns-in_err-read-clause-is : goal.returns-in_err-read-clause-is
-returns-in_err-read-clause-is c = nothing-said _ _ c.from_residual.result c.from_residual.ensures.1
-
-pub returns-in_err-read-clause-behind : goal.returns-in_err-read-clause-behind
-returns-in_err-read-clause-behind c = nothing-said _ _ c.from_residual.result c.from_residual.ensures.1
-
-pub returns-in_err-read-clause-progress : goal.returns-in_err-read-clause-progress
-returns-in_err-read-clause-progress c = nothing-said _ _ c.from_residual.result c.from_residual.ensures.1

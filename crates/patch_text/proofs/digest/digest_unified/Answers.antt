@@ -11,18 +11,18 @@ returns-in_err-rows-clause-exact c =
     let p = err_from_is_err_and c.from_residual.result c.from_residual.ensures.1 in
     rw (p.1, p.2) (unified-digest-fails c.in_err-rows.field-0.0 c.args.text.now c.args.header c.requires.some c.requires.form c.in_err-rows.ensures.fails)
 
-pub returns-clause-is : goal.returns-clause-is
-returns-clause-is c =
-    let given = c.in_ok-rows.ensures in
-    rows-digested c.args.text.now c.args.header c.in_ok-rows.rows _ c.requires.some c.requires.form c.requires.opens given.within given.turn given.whole given.read
-    (no-lawful c.args.text.now _ c.new-none.ensures.items) refl refl refl refl
-
-pub returns-clause-exact : goal.returns-clause-exact
-returns-clause-exact c =
-    let text = c.args.text.now in
-    let rows = c.in_ok-rows.rows in
-    let read = c.in_ok-rows.ensures.read in
-    rw (c.new-none.ensures.items, read.olds) (unified-digests text c.args.header read.hunks (ahead rows.next (lines (drop rows.end text))) c.requires.some c.requires.form read.read)
+pub returns : goal.returns
+returns c = record {
+  is = (
+      let given = c.in_ok-rows.ensures in
+      rows-digested c.args.text.now c.args.header c.in_ok-rows.rows _ c.requires.some c.requires.form c.requires.opens given.within given.turn given.whole given.read
+      (no-lawful c.args.text.now _ c.new-none.ensures.items) refl refl refl refl);
+  exact = (
+      let text = c.args.text.now in
+      let rows = c.in_ok-rows.rows in
+      let read = c.in_ok-rows.ensures.read in
+      rw (c.new-none.ensures.items, read.olds) (unified-digests text c.args.header read.hunks (ahead rows.next (lines (drop rows.end text))) c.requires.some c.requires.form read.read));
+}
 
 pub read_rows-requires-clause-short : goal.read_rows-requires-clause-short
 read_rows-requires-clause-short c = c.requires.short

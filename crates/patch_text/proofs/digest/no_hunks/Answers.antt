@@ -5,14 +5,14 @@ use Rattle.patch_text.proofs.DigestLemmas.{no-lawful}
 use Rattle.patch_text.specs.Digests.{no_hunks}
 use Rattle.patch_text.proofs.digest.no_hunks.Goals as goal
 
-pub returns-clause-lawful : goal.returns-clause-lawful
-returns-clause-lawful c = λ text lawful. subst (IsLawfulChange text) c.in-Script.is lawful
+pub returns : goal.returns
+returns c = record {
+  is = λ text. sym (ap (λ x. no_hunks (change_of text x)) c.in-Script.is);
+  lawful = λ text lawful. subst (IsLawfulChange text) c.in-Script.is lawful;
+}
 
-pub returns-in-Hunks-clause-lawful : goal.returns-in-Hunks-clause-lawful
-returns-in-Hunks-clause-lawful c = λ text lawful. no-lawful text _ c.new.ensures.items
-
-pub returns-clause-is : goal.returns-clause-is
-returns-clause-is c = λ text. sym (ap (λ x. no_hunks (change_of text x)) c.in-Script.is)
-
-pub returns-in-Hunks-clause-is : goal.returns-in-Hunks-clause-is
-returns-in-Hunks-clause-is c = λ text. ap (λ hs. hunks (hunks_of text hs)) c.new.ensures.items ∙ sym (ap (λ x. no_hunks (change_of text x)) c.in-Hunks.is)
+pub returns-in-Hunks : goal.returns-in-Hunks
+returns-in-Hunks c = record {
+  is = λ text. ap (λ hs. hunks (hunks_of text hs)) c.new.ensures.items ∙ sym (ap (λ x. no_hunks (change_of text x)) c.in-Hunks.is);
+  lawful = λ text lawful. no-lawful text _ c.new.ensures.items;
+}

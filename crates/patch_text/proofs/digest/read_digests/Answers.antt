@@ -23,12 +23,17 @@ patches-init c =
       so_far = digests_begin c.args.ways text _ _ (ap (map (patch_of text)) none) no_olds;
     }
 
-pub returns-in_err-patch-clause-exact : goal.returns-in_err-patch-clause-exact
-returns-in_err-patch-clause-exact c =
-    let p = err_from_is_err_and c.from_residual.result c.from_residual.ensures.1 in
-    let text = c.args.text.now in
-    let here = c.patches.here in
-    rw (p.1, p.2) (digests_fail c.in_err-patch.field-0.0 c.args.ways text (map (patch_of text) c.patches.patches.items) (map (λ os. os.items) c.patches.olds.items) here.at here.number c.patches.invariant.progress.within c.in_err-patch.ensures.exact c.patches.invariant.so_far)
+pub returns-in_err-patch : goal.returns-in_err-patch
+returns-in_err-patch c = record {
+  exact = (
+      let p = err_from_is_err_and c.from_residual.result c.from_residual.ensures.1 in
+      let text = c.args.text.now in
+      let here = c.patches.here in
+      rw (p.1, p.2) (digests_fail c.in_err-patch.field-0.0 c.args.ways text (map (patch_of text) c.patches.patches.items) (map (λ os. os.items) c.patches.olds.items) here.at here.number c.patches.invariant.progress.within c.in_err-patch.ensures.exact c.patches.invariant.so_far));
+  regions = nothing-said _ _ c.from_residual.result c.from_residual.ensures.1;
+  are = nothing-said _ _ c.from_residual.result c.from_residual.ensures.1;
+  count = nothing-said _ _ c.from_residual.result c.from_residual.ensures.1;
+}
 
 pub patches-preserved : goal.patches-preserved
 patches-preserved c =
@@ -53,19 +58,21 @@ patches-preserved c =
       so_far = rw (map_push (patch_of text) ps p) (digests_go_on c.args.ways text (map (patch_of text) ps) (map (λ os. os.items) os) here.at here.number behind.at behind.number (patch_of text p) own.items after progress.within next was.so_far);
     })
 
-pub returns-clause-exact : goal.returns-clause-exact
-returns-clause-exact c =
-    let text = c.args.text.now in
-    let here = c.patches.here in
-    let none : next_digested c.args.ways text here.at here.number ≡ Ok None = rw c.in_default.is at c.in_ok-patch.ensures.exact in
-    digests_done c.args.ways text (map (patch_of text) c.patches.patches.items) (map (λ os. os.items) c.patches.olds.items) here.at here.number none c.patches.invariant.so_far
-
-pub returns-clause-regions : goal.returns-clause-regions
-returns-clause-regions c =
-    let text = c.args.text.now in
-    let here = c.patches.here in
-    let none : next_region c.args.ways text here.at here.number ≡ None = rw c.in_default.is at c.in_ok-patch.ensures.region in
-    regions_done c.args.ways text (map region_of c.patches.patches.items) here.at here.number none c.patches.invariant.regions
+pub returns : goal.returns
+returns c = record {
+  exact = (
+      let text = c.args.text.now in
+      let here = c.patches.here in
+      let none : next_digested c.args.ways text here.at here.number ≡ Ok None = rw c.in_default.is at c.in_ok-patch.ensures.exact in
+      digests_done c.args.ways text (map (patch_of text) c.patches.patches.items) (map (λ os. os.items) c.patches.olds.items) here.at here.number none c.patches.invariant.so_far);
+  regions = (
+      let text = c.args.text.now in
+      let here = c.patches.here in
+      let none : next_region c.args.ways text here.at here.number ≡ None = rw c.in_default.is at c.in_ok-patch.ensures.region in
+      regions_done c.args.ways text (map region_of c.patches.patches.items) here.at here.number none c.patches.invariant.regions);
+  are = c.patches.invariant.are;
+  count = count-fits _ c.patches.here.at _ c.patches.invariant.count c.patches.invariant.progress.within c.requires;
+}
 
 pub patches-smaller : goal.patches-smaller
 patches-smaller c =
@@ -73,44 +80,21 @@ patches-smaller c =
     let progress : IsProgress c.args.text.now c.in-Some.behind = rw c.in-Some.is at c.in_ok-patch.ensures.progress in
     comes-near _ c.patches.here.at c.in-Some.behind.at after progress.within
 
-pub returns-clause-count : goal.returns-clause-count
-returns-clause-count c = count-fits _ c.patches.here.at _ c.patches.invariant.count c.patches.invariant.progress.within c.requires
+pub returns-in_err-push-2 : goal.returns-in_err-push-2
+returns-in_err-push-2 c = record {
+  exact = fault-given _ Memory c.from_residual-in_err-push-2.result _ c.from_residual-in_err-push-2.ensures.1 tt;
+  regions = nothing-said _ _ c.from_residual-in_err-push-2.result c.from_residual-in_err-push-2.ensures.1;
+  are = nothing-said _ _ c.from_residual-in_err-push-2.result c.from_residual-in_err-push-2.ensures.1;
+  count = nothing-said _ _ c.from_residual-in_err-push-2.result c.from_residual-in_err-push-2.ensures.1;
+}
 
-pub returns-in_err-push-2-clause-exact : goal.returns-in_err-push-2-clause-exact
-returns-in_err-push-2-clause-exact c = fault-given _ Memory c.from_residual-in_err-push-2.result _ c.from_residual-in_err-push-2.ensures.1 tt
-
-pub returns-clause-are : goal.returns-clause-are
-returns-clause-are c = c.patches.invariant.are
-
-pub returns-in_err-push-clause-exact : goal.returns-in_err-push-clause-exact
-returns-in_err-push-clause-exact c = fault-given _ Memory c.from_residual-in_err-push.result _ c.from_residual-in_err-push.ensures.1 tt
-
-pub returns-in_err-push-2-clause-regions : goal.returns-in_err-push-2-clause-regions
-returns-in_err-push-2-clause-regions c = nothing-said _ _ c.from_residual-in_err-push-2.result c.from_residual-in_err-push-2.ensures.1
-
-pub returns-in_err-push-2-clause-are : goal.returns-in_err-push-2-clause-are
-returns-in_err-push-2-clause-are c = nothing-said _ _ c.from_residual-in_err-push-2.result c.from_residual-in_err-push-2.ensures.1
-
-pub returns-in_err-push-2-clause-count : goal.returns-in_err-push-2-clause-count
-returns-in_err-push-2-clause-count c = nothing-said _ _ c.from_residual-in_err-push-2.result c.from_residual-in_err-push-2.ensures.1
-
-pub returns-in_err-push-clause-regions : goal.returns-in_err-push-clause-regions
-returns-in_err-push-clause-regions c = nothing-said _ _ c.from_residual-in_err-push.result c.from_residual-in_err-push.ensures.1
-
-pub returns-in_err-push-clause-are : goal.returns-in_err-push-clause-are
-returns-in_err-push-clause-are c = nothing-said _ _ c.from_residual-in_err-push.result c.from_residual-in_err-push.ensures.1
-
-pub returns-in_err-push-clause-count : goal.returns-in_err-push-clause-count
-returns-in_err-push-clause-count c = nothing-said _ _ c.from_residual-in_err-push.result c.from_residual-in_err-push.ensures.1
+pub returns-in_err-push : goal.returns-in_err-push
+returns-in_err-push c = record {
+  exact = fault-given _ Memory c.from_residual-in_err-push.result _ c.from_residual-in_err-push.ensures.1 tt;
+  regions = nothing-said _ _ c.from_residual-in_err-push.result c.from_residual-in_err-push.ensures.1;
+  are = nothing-said _ _ c.from_residual-in_err-push.result c.from_residual-in_err-push.ensures.1;
+  count = nothing-said _ _ c.from_residual-in_err-push.result c.from_residual-in_err-push.ensures.1;
+}
 
 pub next_digest-requires-clause-progress : goal.next_digest-requires-clause-progress
 next_digest-requires-clause-progress c = c.patches.invariant.progress
-
-pub returns-in_err-patch-clause-regions : goal.returns-in_err-patch-clause-regions
-returns-in_err-patch-clause-regions c = nothing-said _ _ c.from_residual.result c.from_residual.ensures.1
-
-pub returns-in_err-patch-clause-are : goal.returns-in_err-patch-clause-are
-returns-in_err-patch-clause-are c = nothing-said _ _ c.from_residual.result c.from_residual.ensures.1
-
-pub returns-in_err-patch-clause-count : goal.returns-in_err-patch-clause-count
-returns-in_err-patch-clause-count c = nothing-said _ _ c.from_residual.result c.from_residual.ensures.1

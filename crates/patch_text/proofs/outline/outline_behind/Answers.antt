@@ -6,8 +6,11 @@ use Rattle.patch_text.specs.Outlines.{outlined_of}
 use Rattle.patch_text.proofs.Passed.{unified-behind, below}
 use Rattle.patch_text.proofs.outline.outline_behind.Goals as goal
 
-pub returns-then-is_unified-clause-exact : goal.returns-then-is_unified-clause-exact
-returns-then-is_unified-clause-exact c = subst (Gives (outlined_of c.args.text.now) c.outline_unified.result) (unified-behind c.args.text.now c.args.header (c.is_unified.ensures.bare c.if-is_unified.true) (c.is_unified.ensures.form c.if-is_unified.true)) c.outline_unified.ensures.exact
+pub returns-then-is_unified : goal.returns-then-is_unified
+returns-then-is_unified c = record {
+  is = c.outline_unified.ensures.is;
+  exact = subst (Gives (outlined_of c.args.text.now) c.outline_unified.result) (unified-behind c.args.text.now c.args.header (c.is_unified.ensures.bare c.if-is_unified.true) (c.is_unified.ensures.form c.if-is_unified.true)) c.outline_unified.ensures.exact;
+}
 
 pub outline_whole-requires-clause-within : goal.outline_whole-requires-clause-within
 outline_whole-requires-clause-within c = c.requires.within
@@ -27,14 +30,11 @@ outline_whole-requires-clause-short c = c.requires.short
 pub outline_unified-requires-clause-opens : goal.outline_unified-requires-clause-opens
 outline_unified-requires-clause-opens c = subst (λ f. begins_change f (lines (drop c.args.header.at c.args.text.now)) ≡ true) (c.is_unified.ensures.form c.if-is_unified.true) (c.requires.opens (c.is_unified.ensures.bare c.if-is_unified.true))
 
-pub returns-clause-exact : goal.returns-clause-exact
-returns-clause-exact c = c.outline_whole.ensures.exact
-
-pub returns-clause-is : goal.returns-clause-is
-returns-clause-is c = c.outline_whole.ensures.is
-
-pub returns-then-is_unified-clause-is : goal.returns-then-is_unified-clause-is
-returns-then-is_unified-clause-is c = c.outline_unified.ensures.is
+pub returns : goal.returns
+returns c = record {
+  is = c.outline_whole.ensures.is;
+  exact = c.outline_whole.ensures.exact;
+}
 
 pub outline_whole-requires-clause-opens : goal.outline_whole-requires-clause-opens
 outline_whole-requires-clause-opens c = c.requires.opens

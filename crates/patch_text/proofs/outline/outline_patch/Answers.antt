@@ -4,34 +4,35 @@ use Rattle.patch_text.specs.Patches.{change_behind}
 use Rattle.patch_text.proofs.Passed.{end-fits, fails-on, fault-given, goes-far, lawful-patch, not-below, nothing-said, number-on, opening-fits, outlines-with, start-fits, with_header}
 use Rattle.patch_text.proofs.outline.outline_patch.Goals as goal
 
-pub returns-clause-lawful : goal.returns-clause-lawful
-returns-clause-lawful c = lawful-patch c.args.text.now _ c.in_ok-read.ensures.is.lawful c.is_absent.ensures c.is_absent-2.ensures
+pub returns : goal.returns
+returns c = record {
+  lawful = lawful-patch c.args.text.now _ c.in_ok-read.ensures.is.lawful c.is_absent.ensures c.is_absent-2.ensures;
+  progress = (
+      let is = c.in_ok-read.ensures.is in
+      record {
+        within = is.high;
+        numbers = number-on c.in_ok-read.read.next c.args.header.at c.args.header.opening c.in_ok-read.read.end c.args.here.at c.args.here.number is.numbers c.requires.header.numbers c.requires.numbers;
+        few = not-below c.in_ok-read.read.end;
+        known = λ e. is.dots (c.requires.known e);
+      });
+  behind = goes-far c.args.here.at c.args.header.at c.in_ok-read.read.end c.requires.header.low c.in_ok-read.ensures.is.some;
+  exact = (
+      let text = c.args.text.now in
+      let h = c.args.header in
+      outlines-with text h (change_behind text h) ∙ ap (λ r. r >>= with_header text h) c.in_ok-read.ensures.exact);
+}
 
-pub returns-clause-exact : goal.returns-clause-exact
-returns-clause-exact c =
-    let text = c.args.text.now in
-    let h = c.args.header in
-    outlines-with text h (change_behind text h) ∙ ap (λ r. r >>= with_header text h) c.in_ok-read.ensures.exact
-
-pub returns-clause-progress : goal.returns-clause-progress
-returns-clause-progress c =
-    let is = c.in_ok-read.ensures.is in
-    record {
-      within = is.high;
-      numbers = number-on c.in_ok-read.read.next c.args.header.at c.args.header.opening c.in_ok-read.read.end c.args.here.at c.args.here.number is.numbers c.requires.header.numbers c.requires.numbers;
-      few = not-below c.in_ok-read.read.end;
-      known = λ e. is.dots (c.requires.known e);
-    }
-
-pub returns-clause-behind : goal.returns-clause-behind
-returns-clause-behind c = goes-far c.args.here.at c.args.header.at c.in_ok-read.read.end c.requires.header.low c.in_ok-read.ensures.is.some
-
-pub returns-in_err-read-clause-exact : goal.returns-in_err-read-clause-exact
-returns-in_err-read-clause-exact c =
-    let text = c.args.text.now in
-    let h = c.args.header in
-    let e = c.in_err-read.field-0.0 in
-    fault-given _ e c.from_residual.result _ c.from_residual.ensures.1 (subst (Fails e) (sym (outlines-with text h (change_behind text h))) (fails-on e _ (with_header text h) c.in_err-read.ensures.exact))
+pub returns-in_err-read : goal.returns-in_err-read
+returns-in_err-read c = record {
+  lawful = nothing-said _ _ c.from_residual.result c.from_residual.ensures.1;
+  progress = nothing-said _ _ c.from_residual.result c.from_residual.ensures.1;
+  behind = nothing-said _ _ c.from_residual.result c.from_residual.ensures.1;
+  exact = (
+      let text = c.args.text.now in
+      let h = c.args.header in
+      let e = c.in_err-read.field-0.0 in
+      fault-given _ e c.from_residual.result _ c.from_residual.ensures.1 (subst (Fails e) (sym (outlines-with text h (change_behind text h))) (fails-on e _ (with_header text h) c.in_err-read.ensures.exact)));
+}
 
 pub overflow_cast-patch : goal.overflow_cast-patch
 overflow_cast-patch c = omega (arith, start-fits c.args.here.at c.args.header.at _ c.requires.header.low c.requires.header.high c.requires.short)
@@ -62,12 +63,3 @@ outline_behind-requires-clause-small c = opening-fits c.args.header.opening c.ar
 
 pub outline_behind-requires-clause-short : goal.outline_behind-requires-clause-short
 outline_behind-requires-clause-short c = c.requires.short
-
-pub returns-in_err-read-clause-behind : goal.returns-in_err-read-clause-behind
-returns-in_err-read-clause-behind c = nothing-said _ _ c.from_residual.result c.from_residual.ensures.1
-
-pub returns-in_err-read-clause-progress : goal.returns-in_err-read-clause-progress
-returns-in_err-read-clause-progress c = nothing-said _ _ c.from_residual.result c.from_residual.ensures.1
-
-pub returns-in_err-read-clause-lawful : goal.returns-in_err-read-clause-lawful
-returns-in_err-read-clause-lawful c = nothing-said _ _ c.from_residual.result c.from_residual.ensures.1

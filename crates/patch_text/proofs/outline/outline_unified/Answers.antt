@@ -12,27 +12,27 @@ returns-in_err-skim-clause-exact c =
     let p = err_from_is_err_and c.from_residual.result c.from_residual.ensures.1 in
     rw (p.1, p.2) (unified-fails c.in_err-skim.field-0.0 c.args.line (lines (drop c.args.at c.args.text.now)) c.in_err-skim.ensures.fails)
 
-pub returns-clause-is : goal.returns-clause-is
-returns-clause-is c =
-    let text = c.args.text.now in
-    let given = c.in_ok-skim.ensures in
-    let piece = given.read.piece in
-    let end = c.in_ok-skim.skim.end in
-    let low : c.args.at ≤ end = omega (arith, given.within.0) in
-    record {
-      lawful = c.in_ok-change.ensures.lawful text given.lawful given.few;
-      some = given.within.0;
-      high = given.within.1;
-      numbers = omega (arith, piece.counted, few-lines text c.args.at end piece.own low given.within.1 piece.parts);
-      dots = no-dot-behind piece.own (lines (drop end text)) (lines (drop c.args.at text)) piece.parts;
-    }
-
-pub returns-clause-exact : goal.returns-clause-exact
-returns-clause-exact c =
-    let text = c.args.text.now in
-    let skim = c.in_ok-skim.skim in
-    let read = c.in_ok-skim.ensures.read in
-    rw (c.in_ok-change.ensures.only text read.others read.more) (unified-reads c.args.line (lines (drop c.args.at text)) (hunk_of text skim.first ∷ read.others) (ahead skim.next (lines (drop skim.end text))) read.read)
+pub returns : goal.returns
+returns c = record {
+  is = (
+      let text = c.args.text.now in
+      let given = c.in_ok-skim.ensures in
+      let piece = given.read.piece in
+      let end = c.in_ok-skim.skim.end in
+      let low : c.args.at ≤ end = omega (arith, given.within.0) in
+      record {
+        lawful = c.in_ok-change.ensures.lawful text given.lawful given.few;
+        some = given.within.0;
+        high = given.within.1;
+        numbers = omega (arith, piece.counted, few-lines text c.args.at end piece.own low given.within.1 piece.parts);
+        dots = no-dot-behind piece.own (lines (drop end text)) (lines (drop c.args.at text)) piece.parts;
+      });
+  exact = (
+      let text = c.args.text.now in
+      let skim = c.in_ok-skim.skim in
+      let read = c.in_ok-skim.ensures.read in
+      rw (c.in_ok-change.ensures.only text read.others read.more) (unified-reads c.args.line (lines (drop c.args.at text)) (hunk_of text skim.first ∷ read.others) (ahead skim.next (lines (drop skim.end text))) read.read));
+}
 
 pub skim_hunks-requires-clause-short : goal.skim_hunks-requires-clause-short
 skim_hunks-requires-clause-short c = c.requires.short

@@ -48,12 +48,16 @@ patches-preserved c =
       so_far = rw (map_push (patch_of text) ps p) (outlines_go_on c.args.ways text (map (patch_of text) ps) here.at here.number behind.at behind.number (patch_of text p) after progress.within next was.so_far);
     })
 
-pub returns-clause-exact : goal.returns-clause-exact
-returns-clause-exact c =
-    let text = c.args.text.now in
-    let here = c.patches.here in
-    let none : next_outlined c.args.ways text here.at here.number ≡ Ok None = rw c.in_default.is at c.in_ok-patch.ensures.exact in
-    outlines_done c.args.ways text (map (patch_of text) c.patches.patches.items) here.at here.number none c.patches.invariant.so_far
+pub returns : goal.returns
+returns c = record {
+  exact = (
+      let text = c.args.text.now in
+      let here = c.patches.here in
+      let none : next_outlined c.args.ways text here.at here.number ≡ Ok None = rw c.in_default.is at c.in_ok-patch.ensures.exact in
+      outlines_done c.args.ways text (map (patch_of text) c.patches.patches.items) here.at here.number none c.patches.invariant.so_far);
+  lawful = c.patches.invariant.lawful;
+  count = count-fits _ c.patches.here.at _ c.patches.invariant.count c.patches.invariant.progress.within c.requires;
+}
 
 pub patches-smaller : goal.patches-smaller
 patches-smaller c =
@@ -61,20 +65,12 @@ patches-smaller c =
     let progress : IsProgress c.args.text.now c.in-Some.behind = rw c.in-Some.is at c.in_ok-patch.ensures.progress in
     comes-near _ c.patches.here.at c.in-Some.behind.at after progress.within
 
-pub returns-clause-count : goal.returns-clause-count
-returns-clause-count c = count-fits _ c.patches.here.at _ c.patches.invariant.count c.patches.invariant.progress.within c.requires
-
-pub returns-clause-lawful : goal.returns-clause-lawful
-returns-clause-lawful c = c.patches.invariant.lawful
-
-pub returns-in_err-push-clause-exact : goal.returns-in_err-push-clause-exact
-returns-in_err-push-clause-exact c = fault-given _ Memory c.from_residual-in_err-push.result _ c.from_residual-in_err-push.ensures.1 tt
-
-pub returns-in_err-push-clause-lawful : goal.returns-in_err-push-clause-lawful
-returns-in_err-push-clause-lawful c = nothing-said _ _ c.from_residual-in_err-push.result c.from_residual-in_err-push.ensures.1
-
-pub returns-in_err-push-clause-count : goal.returns-in_err-push-clause-count
-returns-in_err-push-clause-count c = nothing-said _ _ c.from_residual-in_err-push.result c.from_residual-in_err-push.ensures.1
+pub returns-in_err-push : goal.returns-in_err-push
+returns-in_err-push c = record {
+  exact = fault-given _ Memory c.from_residual-in_err-push.result _ c.from_residual-in_err-push.ensures.1 tt;
+  lawful = nothing-said _ _ c.from_residual-in_err-push.result c.from_residual-in_err-push.ensures.1;
+  count = nothing-said _ _ c.from_residual-in_err-push.result c.from_residual-in_err-push.ensures.1;
+}
 
 pub next_outline-requires-clause-progress : goal.next_outline-requires-clause-progress
 next_outline-requires-clause-progress c = c.patches.invariant.progress

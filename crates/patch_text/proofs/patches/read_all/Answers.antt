@@ -57,12 +57,19 @@ patches-preserved c =
       so_far = rw (map_push (patch_of text) ps p) (patches_go_on c.args.ways text (map (patch_of text) ps) here.at here.number behind.at behind.number (patch_of text p) after.0 progress.within next was.so_far);
     })
 
-pub returns-clause-exact : goal.returns-clause-exact
-returns-clause-exact c =
-    let text = c.args.text.now in
-    let here = c.patches.here in
-    let next : next_patch c.args.ways text here.at here.number ≡ Ok None = rw c.in_default.is at c.in_ok-patch.ensures.exact in
-    patches_done c.args.ways text (map (patch_of text) c.patches.patches.items) here.at here.number next c.patches.invariant.so_far
+pub returns : goal.returns
+returns c = record {
+  are = record { end = c.patches.here.at; next = c.patches.here.number; turn = c.patches.invariant.turn; ends = c.in_ok-patch.ensures.ends c.in_default.is };
+  lawful = c.patches.invariant.lawful;
+  count = count-fits _ c.patches.here.at _ c.patches.invariant.count c.patches.invariant.progress.within c.requires;
+  hunks = rows-fit _ c.patches.here.hunks c.patches.here.at _ c.patches.invariant.rows c.patches.invariant.progress.few c.patches.invariant.progress.within c.requires;
+  malformed = λ line kind e. absurd (value-isnt _ _ _ refl e);
+  exact = (
+      let text = c.args.text.now in
+      let here = c.patches.here in
+      let next : next_patch c.args.ways text here.at here.number ≡ Ok None = rw c.in_default.is at c.in_ok-patch.ensures.exact in
+      patches_done c.args.ways text (map (patch_of text) c.patches.patches.items) here.at here.number next c.patches.invariant.so_far);
+}
 
 pub returns-in_err-patch-clause-malformed : goal.returns-in_err-patch-clause-malformed
 returns-in_err-patch-clause-malformed c = λ line kind e.
@@ -79,44 +86,21 @@ returns-in_err-patch-clause-malformed c = λ line kind e.
       comes = c.in_err-patch.ensures.malformed line kind (ap Err same);
     }
 
-pub returns-clause-are : goal.returns-clause-are
-returns-clause-are c = record { end = c.patches.here.at; next = c.patches.here.number; turn = c.patches.invariant.turn; ends = c.in_ok-patch.ensures.ends c.in_default.is }
-
 pub patches-smaller : goal.patches-smaller
 patches-smaller c =
     let after : (c.patches.here.at < c.in-Some.behind.at) × (c.in-Some.behind.at ≡ c.in-Some.patch.span.end) × (c.in-Some.behind.hunks ≡ c.patches.here.hunks + row_count c.in-Some.patch.change) = rw c.in-Some.is at c.in_ok-patch.ensures.behind in
     let progress : IsProgress c.args.text.now c.in-Some.behind = rw c.in-Some.is at c.in_ok-patch.ensures.progress in
     comes-near _ c.patches.here.at c.in-Some.behind.at after.0 progress.within
 
-pub returns-clause-malformed : goal.returns-clause-malformed
-returns-clause-malformed c = λ line kind e. absurd (value-isnt _ _ _ refl e)
-
-pub returns-in_err-push-clause-malformed : goal.returns-in_err-push-clause-malformed
-returns-in_err-push-clause-malformed c = λ line kind e. absurd (memory-isnt c.from_residual-in_err-push.result line kind c.from_residual-in_err-push.ensures.1 e)
-
-pub returns-clause-hunks : goal.returns-clause-hunks
-returns-clause-hunks c = rows-fit _ c.patches.here.hunks c.patches.here.at _ c.patches.invariant.rows c.patches.invariant.progress.few c.patches.invariant.progress.within c.requires
-
-pub returns-clause-count : goal.returns-clause-count
-returns-clause-count c = count-fits _ c.patches.here.at _ c.patches.invariant.count c.patches.invariant.progress.within c.requires
-
-pub returns-clause-lawful : goal.returns-clause-lawful
-returns-clause-lawful c = c.patches.invariant.lawful
-
-pub returns-in_err-push-clause-exact : goal.returns-in_err-push-clause-exact
-returns-in_err-push-clause-exact c = fault-given _ Memory c.from_residual-in_err-push.result _ c.from_residual-in_err-push.ensures.1 tt
-
-pub returns-in_err-push-clause-are : goal.returns-in_err-push-clause-are
-returns-in_err-push-clause-are c = nothing-said _ _ c.from_residual-in_err-push.result c.from_residual-in_err-push.ensures.1
-
-pub returns-in_err-push-clause-lawful : goal.returns-in_err-push-clause-lawful
-returns-in_err-push-clause-lawful c = nothing-said _ _ c.from_residual-in_err-push.result c.from_residual-in_err-push.ensures.1
-
-pub returns-in_err-push-clause-hunks : goal.returns-in_err-push-clause-hunks
-returns-in_err-push-clause-hunks c = nothing-said _ _ c.from_residual-in_err-push.result c.from_residual-in_err-push.ensures.1
-
-pub returns-in_err-push-clause-count : goal.returns-in_err-push-clause-count
-returns-in_err-push-clause-count c = nothing-said _ _ c.from_residual-in_err-push.result c.from_residual-in_err-push.ensures.1
+pub returns-in_err-push : goal.returns-in_err-push
+returns-in_err-push c = record {
+  are = nothing-said _ _ c.from_residual-in_err-push.result c.from_residual-in_err-push.ensures.1;
+  lawful = nothing-said _ _ c.from_residual-in_err-push.result c.from_residual-in_err-push.ensures.1;
+  count = nothing-said _ _ c.from_residual-in_err-push.result c.from_residual-in_err-push.ensures.1;
+  hunks = nothing-said _ _ c.from_residual-in_err-push.result c.from_residual-in_err-push.ensures.1;
+  malformed = λ line kind e. absurd (memory-isnt c.from_residual-in_err-push.result line kind c.from_residual-in_err-push.ensures.1 e);
+  exact = fault-given _ Memory c.from_residual-in_err-push.result _ c.from_residual-in_err-push.ensures.1 tt;
+}
 
 pub next_patch-requires-clause-progress : goal.next_patch-requires-clause-progress
 next_patch-requires-clause-progress c = c.patches.invariant.progress

@@ -15,57 +15,49 @@ overflow_add-behind c =
     let within : c.args.header.at + row_count read.change ≤ read.end = rows-behind text c.args.header read c.in_ok-read.ensures.is in
     omega (arith, count, within, c.in_ok-read.ensures.is.high, c.requires.header.low, c.requires.few, c.requires.short)
 
-pub returns-clause-progress : goal.returns-clause-progress
-returns-clause-progress c =
-    let text = c.args.text.now in
-    let read = c.in_ok-read.read in
-    let is = c.in_ok-read.ensures.is in
-    let count : c.hunks.result ≡ row_count read.change = c.hunks.ensures text ∙ rows-counted text read.change in
-    let within : c.args.header.at + row_count read.change ≤ read.end = rows-behind text c.args.header read is in
-    record {
-      within = is.high;
-      numbers = omega (arith, is.numbers, c.requires.header.numbers, c.requires.numbers);
-      few = omega (arith, count, within, c.requires.header.low, c.requires.few);
-      known = λ e. is.dots (c.requires.known e);
-    }
-
-pub returns-clause-behind : goal.returns-clause-behind
-returns-clause-behind c = (goes-far c.args.here.at c.args.header.at c.in_ok-read.read.end c.requires.header.low c.in_ok-read.ensures.is.some, refl, ap (λ n. c.args.here.hunks + n) (c.hunks.ensures c.args.text.now ∙ rows-counted c.args.text.now c.in_ok-read.read.change))
-
-pub returns-clause-is : goal.returns-clause-is
-returns-clause-is c =
-    let is = c.in_ok-read.ensures.is in
-    let header = c.requires.header in
-    record {
-      lawful = lawful-patch c.args.text.now _ is.lawful c.is_absent.ensures c.is_absent-2.ensures;
-      begins = refl;
-      region = header.low;
-      goes = is.goes;
-      cut = is.cut;
-      ends = is.ends;
-      each = is.each;
-      pieces = is.pieces;
-      some = is.some;
-      rows = is.rows;
-      high = is.high;
-      names = header.pieces;
-      opening = opening-low c.args.header.opening c.args.here.at c.args.here.number c.args.header.at header.numbers c.requires.numbers;
-      names_line = header.names_line;
-      first = refl;
-      targets = c.new.ensures.items;
-    }
+pub returns : goal.returns
+returns c = record {
+  is = (
+      let is = c.in_ok-read.ensures.is in
+      let header = c.requires.header in
+      record {
+        lawful = lawful-patch c.args.text.now _ is.lawful c.is_absent.ensures c.is_absent-2.ensures;
+        begins = refl;
+        region = header.low;
+        goes = is.goes;
+        cut = is.cut;
+        ends = is.ends;
+        each = is.each;
+        pieces = is.pieces;
+        some = is.some;
+        rows = is.rows;
+        high = is.high;
+        names = header.pieces;
+        opening = opening-low c.args.header.opening c.args.here.at c.args.here.number c.args.header.at header.numbers c.requires.numbers;
+        names_line = header.names_line;
+        first = refl;
+        targets = c.new.ensures.items;
+      });
+  header = refl;
+  progress = (
+      let text = c.args.text.now in
+      let read = c.in_ok-read.read in
+      let is = c.in_ok-read.ensures.is in
+      let count : c.hunks.result ≡ row_count read.change = c.hunks.ensures text ∙ rows-counted text read.change in
+      let within : c.args.header.at + row_count read.change ≤ read.end = rows-behind text c.args.header read is in
+      record {
+        within = is.high;
+        numbers = omega (arith, is.numbers, c.requires.header.numbers, c.requires.numbers);
+        few = omega (arith, count, within, c.requires.header.low, c.requires.few);
+        known = λ e. is.dots (c.requires.known e);
+      });
+  behind = (goes-far c.args.here.at c.args.header.at c.in_ok-read.read.end c.requires.header.low c.in_ok-read.ensures.is.some, refl, ap (λ n. c.args.here.hunks + n) (c.hunks.ensures c.args.text.now ∙ rows-counted c.args.text.now c.in_ok-read.read.change));
+  exact = ap (λ r. r >>= with_header c.args.text.now c.args.header) c.in_ok-read.ensures.exact;
+  malformed = λ number kind e. absurd (value-isnt _ _ _ refl e);
+}
 
 pub hunks-requires : goal.hunks-requires
 hunks-requires c = behind-fits _ c.args.header.at c.in_ok-read.read.end _ (rows-behind c.args.text.now c.args.header c.in_ok-read.read c.in_ok-read.ensures.is) c.in_ok-read.ensures.is.high c.requires.short
-
-pub returns-clause-exact : goal.returns-clause-exact
-returns-clause-exact c = ap (λ r. r >>= with_header c.args.text.now c.args.header) c.in_ok-read.ensures.exact
-
-pub returns-clause-malformed : goal.returns-clause-malformed
-returns-clause-malformed c = λ number kind e. absurd (value-isnt _ _ _ refl e)
-
-pub returns-clause-header : goal.returns-clause-header
-returns-clause-header c = refl
 
 pub overflow_cast-patch : goal.overflow_cast-patch
 overflow_cast-patch c = omega (arith, start-fits c.args.here.at c.args.header.at _ c.requires.header.low c.requires.header.high c.requires.short)
@@ -82,14 +74,18 @@ is_absent-requires-2-clause-lawful c = c.in_ok-read.ensures.is.lawful
 pub is_absent-requires-clause-pieces : goal.is_absent-requires-clause-pieces
 is_absent-requires-clause-pieces c = c.requires.header.pieces
 
-pub returns-in_err-read-clause-exact : goal.returns-in_err-read-clause-exact
-returns-in_err-read-clause-exact c = fault-given _ c.in_err-read.field-0.0 c.from_residual.result _ c.from_residual.ensures.1 (fails-on c.in_err-read.field-0.0 _ (with_header c.args.text.now c.args.header) c.in_err-read.ensures.exact)
+pub returns-in_err-read : goal.returns-in_err-read
+returns-in_err-read c = record {
+  is = nothing-said _ _ c.from_residual.result c.from_residual.ensures.1;
+  header = nothing-said _ _ c.from_residual.result c.from_residual.ensures.1;
+  progress = nothing-said _ _ c.from_residual.result c.from_residual.ensures.1;
+  behind = nothing-said _ _ c.from_residual.result c.from_residual.ensures.1;
+  exact = fault-given _ c.in_err-read.field-0.0 c.from_residual.result _ c.from_residual.ensures.1 (fails-on c.in_err-read.field-0.0 _ (with_header c.args.text.now c.args.header) c.in_err-read.ensures.exact);
+  malformed = λ number kind e. subst (λ d. Fails d (change_behind c.args.text.now c.args.header)) (fault-same c.from_residual.result c.in_err-read.field-0.0 (Malformed number kind) c.from_residual.ensures.1 e) c.in_err-read.ensures.exact;
+}
 
 pub is_absent-requires-clause-lawful : goal.is_absent-requires-clause-lawful
 is_absent-requires-clause-lawful c = c.in_ok-read.ensures.is.lawful
-
-pub returns-in_err-read-clause-malformed : goal.returns-in_err-read-clause-malformed
-returns-in_err-read-clause-malformed c = λ number kind e. subst (λ d. Fails d (change_behind c.args.text.now c.args.header)) (fault-same c.from_residual.result c.in_err-read.field-0.0 (Malformed number kind) c.from_residual.ensures.1 e) c.in_err-read.ensures.exact
 
 pub read_behind-requires-clause-within : goal.read_behind-requires-clause-within
 read_behind-requires-clause-within c = c.requires.header.high
@@ -102,15 +98,3 @@ read_behind-requires-clause-small c = opening-fits c.args.header.opening c.args.
 
 pub read_behind-requires-clause-short : goal.read_behind-requires-clause-short
 read_behind-requires-clause-short c = c.requires.short
-
-pub returns-in_err-read-clause-behind : goal.returns-in_err-read-clause-behind
-returns-in_err-read-clause-behind c = nothing-said _ _ c.from_residual.result c.from_residual.ensures.1
-
-pub returns-in_err-read-clause-is : goal.returns-in_err-read-clause-is
-returns-in_err-read-clause-is c = nothing-said _ _ c.from_residual.result c.from_residual.ensures.1
-
-pub returns-in_err-read-clause-header : goal.returns-in_err-read-clause-header
-returns-in_err-read-clause-header c = nothing-said _ _ c.from_residual.result c.from_residual.ensures.1
-
-pub returns-in_err-read-clause-progress : goal.returns-in_err-read-clause-progress
-returns-in_err-read-clause-progress c = nothing-said _ _ c.from_residual.result c.from_residual.ensures.1

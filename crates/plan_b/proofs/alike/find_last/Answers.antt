@@ -5,26 +5,16 @@ use Rattle.plan_b.specs.Spots.{FindsLast}
 use Rattle.plan_b.proofs.Reached.{none-both}
 use Rattle.plan_b.proofs.alike.find_last.Goals as goal
 
-pub returns-in-Err-clause-held : goal.returns-in-Err-clause-held
-returns-in-Err-clause-held g c = c.in-Err.ensures.held
-
-pub returns-in-Err-clause-spots : goal.returns-in-Err-clause-spots
-returns-in-Err-clause-spots g c = c.in-Err.ensures.spots
-
-pub returns-in-Err-clause-within : goal.returns-in-Err-clause-within
-returns-in-Err-clause-within g c = tt
-
-pub returns-in-Err-clause-value : goal.returns-in-Err-clause-value
-returns-in-Err-clause-value g c = tt
-
-pub returns-in-Err-clause-other : goal.returns-in-Err-clause-other
-returns-in-Err-clause-other g c h ne = c.in-Err.ensures.other h ne ∙ c.loop-end.invariant.other h ne
-
-pub returns-in-Err-clause-keeps : goal.returns-in-Err-clause-keeps
-returns-in-Err-clause-keeps g c = keeps-more (seen_of c.args.layout c.args.halves.now (g.C.Scratch.view c.args.scratch.now)) (seen_of c.args.layout c.loop-end.halves (g.C.Scratch.view c.loop-end.scratch)) (seen_of c.args.layout c.last_on_page.new.halves (g.C.Scratch.view c.last_on_page.new.scratch)) c.loop-end.invariant.keeps c.in-Err.ensures.keeps
-
-pub returns-in-Err-clause-cause : goal.returns-in-Err-clause-cause
-returns-in-Err-clause-cause g c = cause-more c.in-Err.fault (seen_of c.args.layout c.args.halves.now (g.C.Scratch.view c.args.scratch.now)) (seen_of c.args.layout c.loop-end.halves (g.C.Scratch.view c.loop-end.scratch)) (seen_of c.args.layout c.last_on_page.new.halves (g.C.Scratch.view c.last_on_page.new.scratch)) c.loop-end.invariant.keeps c.in-Err.ensures.cause
+pub returns-in-Err : goal.returns-in-Err
+returns-in-Err g c = record {
+  held = c.in-Err.ensures.held;
+  spots = c.in-Err.ensures.spots;
+  within = tt;
+  value = tt;
+  other = λ h ne. c.in-Err.ensures.other h ne ∙ c.loop-end.invariant.other h ne;
+  keeps = keeps-more (seen_of c.args.layout c.args.halves.now (g.C.Scratch.view c.args.scratch.now)) (seen_of c.args.layout c.loop-end.halves (g.C.Scratch.view c.loop-end.scratch)) (seen_of c.args.layout c.last_on_page.new.halves (g.C.Scratch.view c.last_on_page.new.scratch)) c.loop-end.invariant.keeps c.in-Err.ensures.keeps;
+  cause = cause-more c.in-Err.fault (seen_of c.args.layout c.args.halves.now (g.C.Scratch.view c.args.scratch.now)) (seen_of c.args.layout c.loop-end.halves (g.C.Scratch.view c.loop-end.scratch)) (seen_of c.args.layout c.last_on_page.new.halves (g.C.Scratch.view c.last_on_page.new.scratch)) c.loop-end.invariant.keeps c.in-Err.ensures.cause;
+}
 
 pub returns-then-pass-clause-held : goal.returns-then-pass-clause-held
 returns-then-pass-clause-held g c = c.in-Ok.ensures.held
@@ -41,32 +31,22 @@ returns-then-pass-clause-keeps g c = keeps-more (seen_of c.args.layout c.args.ha
 pub returns-then-pass-clause-cause : goal.returns-then-pass-clause-cause
 returns-then-pass-clause-cause g c = tt
 
-pub returns-clause-held : goal.returns-clause-held
-returns-clause-held g c = c.loop-end.invariant.held
-
-pub returns-clause-spots : goal.returns-clause-spots
-returns-clause-spots g c = c.loop-end.invariant.spots
-
-pub returns-clause-within : goal.returns-clause-within
-returns-clause-within g c = tt
-
-pub returns-clause-other : goal.returns-clause-other
-returns-clause-other g c = c.loop-end.invariant.other
-
-pub returns-clause-keeps : goal.returns-clause-keeps
-returns-clause-keeps g c = c.loop-end.invariant.keeps
-
-pub returns-clause-cause : goal.returns-clause-cause
-returns-clause-cause g c = tt
+pub returns : goal.returns
+returns g c = record {
+  held = c.loop-end.invariant.held;
+  spots = c.loop-end.invariant.spots;
+  within = tt;
+  value = λ lines told k low high. c.loop-end.invariant.none lines told k (omega arith) high;
+  other = c.loop-end.invariant.other;
+  keeps = c.loop-end.invariant.keeps;
+  cause = tt;
+}
 
 pub last_on_page-requires-clause-held : goal.last_on_page-requires-clause-held
 last_on_page-requires-clause-held g c = c.loop-end.invariant.held
 
 pub last_on_page-requires-clause-spots : goal.last_on_page-requires-clause-spots
 last_on_page-requires-clause-spots g c = c.loop-end.invariant.spots
-
-pub returns-clause-value : goal.returns-clause-value
-returns-clause-value g c lines told k low high = c.loop-end.invariant.none lines told k (omega arith) high
 
 pub loop-end-init : goal.loop-end-init
 loop-end-init g c = record {

@@ -23,8 +23,17 @@ loop-copied-init g c = record {
   copied = copied-none c.args.layout (g.C.Scratch.view c.restart.new.scratch).told (told_file (g.T.Tree.view c.args.tree.now) c.args.name.now) (page_of c.args.pair.now Second) (record { pages = 0; records = 0 }) c.requires.layout refl refl c.in-Ok.ensures.empty;
 }
 
-pub returns-in-Err-copy_piece-clause-untouched : goal.returns-in-Err-copy_piece-clause-untouched
-returns-in-Err-copy_piece-clause-untouched g c = untouched_both c.loop-copied.invariant.untouched c.in-Err-copy_piece.ensures.untouched
+pub returns-in-Err-copy_piece : goal.returns-in-Err-copy_piece
+returns-in-Err-copy_piece g c = record {
+  untouched = untouched_both c.loop-copied.invariant.untouched c.in-Err-copy_piece.ensures.untouched;
+  size = c.in-Err-copy_piece.ensures.size ∙ c.loop-copied.invariant.size;
+  passes = scratch_passes_both c.loop-copied.invariant.passes c.in-Err-copy_piece.ensures.passes;
+  written = tt;
+  cause = (
+      let scratch = g.C.Scratch.view in
+      let tree = g.T.Tree.view in
+      take-later c.in-Err-copy_piece.fault (scratch c.args.scratch.now) (scratch c.loop-copied.scratch) (scratch c.copy_piece.new.scratch) (tree c.args.tree.now) (tree c.loop-copied.tree) (tree c.copy_piece.new.tree) c.loop-copied.invariant.passes c.loop-copied.invariant.untouched c.in-Err-copy_piece.ensures.cause);
+}
 
 pub loop-copied-preserved : goal.loop-copied-preserved
 loop-copied-preserved g c =
@@ -39,25 +48,37 @@ loop-copied-preserved g c =
       copied = subst (λ file. IsCopied c.args.layout (view c.copy_piece.new.scratch).told (page_of c.copy_piece.new.pair Second) c.in-Ok-copy_piece.next.at c.in-Ok-copy_piece.next.filling file) (told-same c.args.name.now c.loop-copied.invariant.untouched) c.in-Ok-copy_piece.ensures.copied;
     }
 
-pub returns-in-Ok-finish-clause-written : goal.returns-in-Ok-finish-clause-written
-returns-in-Ok-finish-clause-written g c =
-    let view = g.C.Scratch.view in
-    let within : c.loop-copied.copied.at ≤ c.args.length = c.loop-copied.invariant.within in
-    written-all c.args.layout (view c.loop-copied.scratch).told (view c.finish.new.scratch).told (told_file (g.T.Tree.view c.args.tree.now) c.args.name.now) (page_of c.loop-copied.pair Second) c.loop-copied.copied.at c.loop-copied.copied.filling
-    c.loop-copied.invariant.copied (λ text file. let len : length text ≡ c.args.length = c.requires.stated text file in omega arith) c.in-Ok-finish.ensures.count c.in-Ok-finish.ensures.pages
+pub returns-in-Ok-finish : goal.returns-in-Ok-finish
+returns-in-Ok-finish g c = record {
+  untouched = c.loop-copied.invariant.untouched;
+  size = c.in-Ok-finish.ensures.size ∙ c.loop-copied.invariant.size;
+  passes = scratch_passes_both c.loop-copied.invariant.passes c.in-Ok-finish.ensures.passes;
+  written = (
+      let view = g.C.Scratch.view in
+      let within : c.loop-copied.copied.at ≤ c.args.length = c.loop-copied.invariant.within in
+      written-all c.args.layout (view c.loop-copied.scratch).told (view c.finish.new.scratch).told (told_file (g.T.Tree.view c.args.tree.now) c.args.name.now) (page_of c.loop-copied.pair Second) c.loop-copied.copied.at c.loop-copied.copied.filling
+      c.loop-copied.invariant.copied (λ text file. let len : length text ≡ c.args.length = c.requires.stated text file in omega arith) c.in-Ok-finish.ensures.count c.in-Ok-finish.ensures.pages);
+  cause = tt;
+}
 
-pub returns-in-Err-finish-clause-cause : goal.returns-in-Err-finish-clause-cause
-returns-in-Err-finish-clause-cause g c =
-    let view = g.C.Scratch.view in
-    let tree = g.T.Tree.view in
-    let within : c.loop-copied.copied.at ≤ c.args.length = c.loop-copied.invariant.within in
-    end-fault c.in-Err-finish.fault c.args.layout c.loop-copied.copied.filling (view c.args.scratch.now) (view c.loop-copied.scratch) (view c.finish.new.scratch) (tree c.args.tree.now) (tree c.loop-copied.tree)
-    c.loop-copied.invariant.passes c.in-Err-finish.ensures.cause
-    (λ other. none-unless _ (λ f told.
-    let file : told_file (tree c.args.tree.now) c.args.name.now ≡ Some (bytes_at f c.args.name.now) = rw told refl in
-    let len : length (bytes_at f c.args.name.now) ≡ c.args.length = c.requires.stated (bytes_at f c.args.name.now) file in
-    other ((c.requires.measured (bytes_at f c.args.name.now) file).counted
-    ∙ copied-count c.args.layout (view c.loop-copied.scratch).told (told_file (tree c.args.tree.now) c.args.name.now) (page_of c.loop-copied.pair Second) (bytes_at f c.args.name.now) c.loop-copied.copied.at c.loop-copied.copied.filling c.loop-copied.invariant.copied file (omega arith))))
+pub returns-in-Err-finish : goal.returns-in-Err-finish
+returns-in-Err-finish g c = record {
+  untouched = c.loop-copied.invariant.untouched;
+  size = c.in-Err-finish.ensures.size ∙ c.loop-copied.invariant.size;
+  passes = scratch_passes_both c.loop-copied.invariant.passes c.in-Err-finish.ensures.passes;
+  written = tt;
+  cause = (
+      let view = g.C.Scratch.view in
+      let tree = g.T.Tree.view in
+      let within : c.loop-copied.copied.at ≤ c.args.length = c.loop-copied.invariant.within in
+      end-fault c.in-Err-finish.fault c.args.layout c.loop-copied.copied.filling (view c.args.scratch.now) (view c.loop-copied.scratch) (view c.finish.new.scratch) (tree c.args.tree.now) (tree c.loop-copied.tree)
+      c.loop-copied.invariant.passes c.in-Err-finish.ensures.cause
+      (λ other. none-unless _ (λ f told.
+      let file : told_file (tree c.args.tree.now) c.args.name.now ≡ Some (bytes_at f c.args.name.now) = rw told refl in
+      let len : length (bytes_at f c.args.name.now) ≡ c.args.length = c.requires.stated (bytes_at f c.args.name.now) file in
+      other ((c.requires.measured (bytes_at f c.args.name.now) file).counted
+      ∙ copied-count c.args.layout (view c.loop-copied.scratch).told (told_file (tree c.args.tree.now) c.args.name.now) (page_of c.loop-copied.pair Second) (bytes_at f c.args.name.now) c.loop-copied.copied.at c.loop-copied.copied.filling c.loop-copied.invariant.copied file (omega arith)))));
+}
 
 pub copy_piece-requires-clause-stated : goal.copy_piece-requires-clause-stated
 copy_piece-requires-clause-stated g c text told = c.requires.stated text (sym (told-same c.args.name.now c.loop-copied.invariant.untouched) ∙ told)
@@ -83,39 +104,6 @@ finish-requires-clause-layout g c = c.requires.layout
 pub finish-requires-clause-ready : goal.finish-requires-clause-ready
 finish-requires-clause-ready g c = c.loop-copied.invariant.ready
 
-pub returns-in-Err-copy_piece-clause-size : goal.returns-in-Err-copy_piece-clause-size
-returns-in-Err-copy_piece-clause-size g c = c.in-Err-copy_piece.ensures.size ∙ c.loop-copied.invariant.size
-
-pub returns-in-Err-copy_piece-clause-passes : goal.returns-in-Err-copy_piece-clause-passes
-returns-in-Err-copy_piece-clause-passes g c = scratch_passes_both c.loop-copied.invariant.passes c.in-Err-copy_piece.ensures.passes
-
-pub returns-in-Err-copy_piece-clause-written : goal.returns-in-Err-copy_piece-clause-written
-returns-in-Err-copy_piece-clause-written g c = tt
-
-pub returns-in-Ok-finish-clause-untouched : goal.returns-in-Ok-finish-clause-untouched
-returns-in-Ok-finish-clause-untouched g c = c.loop-copied.invariant.untouched
-
-pub returns-in-Ok-finish-clause-size : goal.returns-in-Ok-finish-clause-size
-returns-in-Ok-finish-clause-size g c = c.in-Ok-finish.ensures.size ∙ c.loop-copied.invariant.size
-
-pub returns-in-Ok-finish-clause-passes : goal.returns-in-Ok-finish-clause-passes
-returns-in-Ok-finish-clause-passes g c = scratch_passes_both c.loop-copied.invariant.passes c.in-Ok-finish.ensures.passes
-
-pub returns-in-Ok-finish-clause-cause : goal.returns-in-Ok-finish-clause-cause
-returns-in-Ok-finish-clause-cause g c = tt
-
-pub returns-in-Err-finish-clause-untouched : goal.returns-in-Err-finish-clause-untouched
-returns-in-Err-finish-clause-untouched g c = c.loop-copied.invariant.untouched
-
-pub returns-in-Err-finish-clause-size : goal.returns-in-Err-finish-clause-size
-returns-in-Err-finish-clause-size g c = c.in-Err-finish.ensures.size ∙ c.loop-copied.invariant.size
-
-pub returns-in-Err-finish-clause-passes : goal.returns-in-Err-finish-clause-passes
-returns-in-Err-finish-clause-passes g c = scratch_passes_both c.loop-copied.invariant.passes c.in-Err-finish.ensures.passes
-
-pub returns-in-Err-finish-clause-written : goal.returns-in-Err-finish-clause-written
-returns-in-Err-finish-clause-written g c = tt
-
 pub returns-in-Err-clause-untouched : goal.returns-in-Err-clause-untouched
 returns-in-Err-clause-untouched g c = untouched_none _
 
@@ -136,9 +124,3 @@ loop-copied-smaller g c = omega (arith, c.in-Ok-copy_piece.ensures.on, c.loop-co
 
 pub copy_piece-requires-clause-within : goal.copy_piece-requires-clause-within
 copy_piece-requires-clause-within g c = c.loop-copied-test.true
-
-pub returns-in-Err-copy_piece-clause-cause : goal.returns-in-Err-copy_piece-clause-cause
-returns-in-Err-copy_piece-clause-cause g c =
-    let scratch = g.C.Scratch.view in
-    let tree = g.T.Tree.view in
-    take-later c.in-Err-copy_piece.fault (scratch c.args.scratch.now) (scratch c.loop-copied.scratch) (scratch c.copy_piece.new.scratch) (tree c.args.tree.now) (tree c.loop-copied.tree) (tree c.copy_piece.new.tree) c.loop-copied.invariant.passes c.loop-copied.invariant.untouched c.in-Err-copy_piece.ensures.cause

@@ -20,15 +20,24 @@ loop-end-init g c = record {
   copies = copies-none c.args.layout (g.C.Scratch.view c.args.scratch.now).told (page_of c.args.pair.now Second) c.args.filling (take c.args.got (page_of c.args.pair.now First)) c.args.is_last;
 }
 
-pub returns-in-Err-clause-cause : goal.returns-in-Err-clause-cause
-returns-in-Err-clause-cause g c =
-    let view = g.C.Scratch.view in
-    let piece : List ℕ = take c.args.got (page_of c.args.pair.now First) in
-    let whole : IsWhole (take c.args.got (page_of c.args.pair.now First)) c.args.is_last c.loop-end.at c.in-Some.end =
-    subst (λ p. IsWhole (take c.args.got p) c.args.is_last c.loop-end.at c.in-Some.end) (c.page.ensures.is ∙ c.loop-end.invariant.first) c.in-Some.ensures in
-    copy-fault c.in-Err.fault c.args.layout (view c.args.scratch.now) (view c.loop-end.scratch) (view c.copy_line.new.scratch) (c.in-Some.end - c.loop-end.at) (take c.args.got (page_of c.args.pair.now First)) c.args.is_last
-    c.loop-end.invariant.passes c.in-Err.ensures.cause
-    (λ wide text start part. copies-wide c.args.layout _ _ _ _ _ _ (take c.args.got (page_of c.args.pair.now First)) c.args.is_last c.loop-end.at c.in-Some.end c.loop-end.invariant.copies whole wide text start part)
+pub returns-in-Err : goal.returns-in-Err
+returns-in-Err g c = record {
+  size = c.in-Err.ensures.size ∙ c.loop-end.invariant.size;
+  passes = scratch_passes_both c.loop-end.invariant.passes c.in-Err.ensures.passes;
+  ready = tt;
+  count = tt;
+  within = tt;
+  left = tt;
+  copies = tt;
+  cause = (
+      let view = g.C.Scratch.view in
+      let piece : List ℕ = take c.args.got (page_of c.args.pair.now First) in
+      let whole : IsWhole (take c.args.got (page_of c.args.pair.now First)) c.args.is_last c.loop-end.at c.in-Some.end =
+      subst (λ p. IsWhole (take c.args.got p) c.args.is_last c.loop-end.at c.in-Some.end) (c.page.ensures.is ∙ c.loop-end.invariant.first) c.in-Some.ensures in
+      copy-fault c.in-Err.fault c.args.layout (view c.args.scratch.now) (view c.loop-end.scratch) (view c.copy_line.new.scratch) (c.in-Some.end - c.loop-end.at) (take c.args.got (page_of c.args.pair.now First)) c.args.is_last
+      c.loop-end.invariant.passes c.in-Err.ensures.cause
+      (λ wide text start part. copies-wide c.args.layout _ _ _ _ _ _ (take c.args.got (page_of c.args.pair.now First)) c.args.is_last c.loop-end.at c.in-Some.end c.loop-end.invariant.copies whole wide text start part));
+}
 
 pub loop-end-preserved : goal.loop-end-preserved
 loop-end-preserved g c =
@@ -53,27 +62,6 @@ loop-end-preserved g c =
           (part-of-front (c.in-Some.end - c.loop-end.at) c.loop-end.at c.args.got (page_of c.args.pair.now First) (omega arith) ∙ ap (λ p. take (c.in-Some.end - c.loop-end.at) (drop c.loop-end.at p)) (sym c.loop-end.invariant.first))
           c.in-Ok.ensures.filled;
     }
-
-pub returns-in-Err-clause-size : goal.returns-in-Err-clause-size
-returns-in-Err-clause-size g c = c.in-Err.ensures.size ∙ c.loop-end.invariant.size
-
-pub returns-in-Err-clause-passes : goal.returns-in-Err-clause-passes
-returns-in-Err-clause-passes g c = scratch_passes_both c.loop-end.invariant.passes c.in-Err.ensures.passes
-
-pub returns-in-Err-clause-ready : goal.returns-in-Err-clause-ready
-returns-in-Err-clause-ready g c = tt
-
-pub returns-in-Err-clause-count : goal.returns-in-Err-clause-count
-returns-in-Err-clause-count g c = tt
-
-pub returns-in-Err-clause-within : goal.returns-in-Err-clause-within
-returns-in-Err-clause-within g c = tt
-
-pub returns-in-Err-clause-left : goal.returns-in-Err-clause-left
-returns-in-Err-clause-left g c = tt
-
-pub returns-in-Err-clause-copies : goal.returns-in-Err-clause-copies
-returns-in-Err-clause-copies g c = tt
 
 pub returns-clause-size : goal.returns-clause-size
 returns-clause-size g c = c.loop-end.invariant.size

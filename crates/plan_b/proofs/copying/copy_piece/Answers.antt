@@ -15,127 +15,94 @@ use Rattle.page_pair.proofs.Opens.{open-wide}
 use Rattle.outside.specs.ScratchView.{scratch_passes_none}
 use Rattle.plan_b.proofs.copying.copy_piece.Goals as goal
 
-pub returns-in-Err-copy_lines-clause-cause : goal.returns-in-Err-copy_lines-clause-cause
-returns-in-Err-copy_lines-clause-cause g c =
-    let view = g.C.Scratch.view in
-    let tree = g.T.Tree.view in
-    take-fault c.in-Err-copy_lines.fault c.args.layout (view c.args.scratch.now) (view c.copy_lines.new.scratch) (tree c.args.tree.now) (tree c.read_piece.new.tree) (take c.in-Ok.got (page_of c.read_piece.new.pair First)) (eqb (c.args.copied.at + c.in-Ok.got) c.args.length)
-    c.in-Err-copy_lines.ensures.cause
-    (λ wide. none-unless _ (λ f told.
-    let text : List ℕ = bytes_at f c.args.name.now in
-    let file : told_file (tree c.args.tree.now) c.args.name.now ≡ Some (bytes_at f c.args.name.now) = rw told refl in
-    let len : length (bytes_at f c.args.name.now) ≡ c.args.length = c.requires.stated (bytes_at f c.args.name.now) file in
-    let n : c.in-Ok.got ≡ min c.args.pair.now.size (c.args.length - c.args.copied.at) = c.in-Ok.ensures.count in
-    let part : IsPart (bytes_at f c.args.name.now) (take c.in-Ok.got (page_of c.read_piece.new.pair First)) c.args.copied.at (eqb (c.args.copied.at + c.in-Ok.got) c.args.length) =
-    part-made (bytes_at f c.args.name.now) (page_of c.read_piece.new.pair First) c.args.copied.at c.in-Ok.got (eqb (c.args.copied.at + c.in-Ok.got) c.args.length) (c.in-Ok.ensures.bytes (bytes_at f c.args.name.now) file) (omega arith) (λ is. eqb-true _ _ is ∙ sym len) in
-    let over : c.args.layout.width < 4 + longest (lines (drop c.args.copied.at (bytes_at f c.args.name.now))) = wide (bytes_at f c.args.name.now) c.args.copied.at part in
-    let fits : c.args.layout.width ≡ 4 + longest (lines (bytes_at f c.args.name.now)) = c.requires.fits (bytes_at f c.args.name.now) file in
-    let short : longest (lines (drop c.args.copied.at (bytes_at f c.args.name.now))) ≤ longest (lines (bytes_at f c.args.name.now)) = copied-short c.args.layout _ _ _ c.args.copied.at c.args.copied.filling (bytes_at f c.args.name.now) c.requires.copied file in
-    omega arith))
+pub returns-in-Err-copy_lines : goal.returns-in-Err-copy_lines
+returns-in-Err-copy_lines g c = record {
+  untouched = c.in-Ok.ensures.untouched;
+  size = c.copy_lines.ensures.size ∙ c.in-Ok.ensures.size;
+  passes = c.copy_lines.ensures.passes;
+  ready = tt;
+  few = tt;
+  on = tt;
+  within = tt;
+  copied = tt;
+  cause = (
+      let view = g.C.Scratch.view in
+      let tree = g.T.Tree.view in
+      take-fault c.in-Err-copy_lines.fault c.args.layout (view c.args.scratch.now) (view c.copy_lines.new.scratch) (tree c.args.tree.now) (tree c.read_piece.new.tree) (take c.in-Ok.got (page_of c.read_piece.new.pair First)) (eqb (c.args.copied.at + c.in-Ok.got) c.args.length)
+      c.in-Err-copy_lines.ensures.cause
+      (λ wide. none-unless _ (λ f told.
+      let text : List ℕ = bytes_at f c.args.name.now in
+      let file : told_file (tree c.args.tree.now) c.args.name.now ≡ Some (bytes_at f c.args.name.now) = rw told refl in
+      let len : length (bytes_at f c.args.name.now) ≡ c.args.length = c.requires.stated (bytes_at f c.args.name.now) file in
+      let n : c.in-Ok.got ≡ min c.args.pair.now.size (c.args.length - c.args.copied.at) = c.in-Ok.ensures.count in
+      let part : IsPart (bytes_at f c.args.name.now) (take c.in-Ok.got (page_of c.read_piece.new.pair First)) c.args.copied.at (eqb (c.args.copied.at + c.in-Ok.got) c.args.length) =
+      part-made (bytes_at f c.args.name.now) (page_of c.read_piece.new.pair First) c.args.copied.at c.in-Ok.got (eqb (c.args.copied.at + c.in-Ok.got) c.args.length) (c.in-Ok.ensures.bytes (bytes_at f c.args.name.now) file) (omega arith) (λ is. eqb-true _ _ is ∙ sym len) in
+      let over : c.args.layout.width < 4 + longest (lines (drop c.args.copied.at (bytes_at f c.args.name.now))) = wide (bytes_at f c.args.name.now) c.args.copied.at part in
+      let fits : c.args.layout.width ≡ 4 + longest (lines (bytes_at f c.args.name.now)) = c.requires.fits (bytes_at f c.args.name.now) file in
+      let short : longest (lines (drop c.args.copied.at (bytes_at f c.args.name.now))) ≤ longest (lines (bytes_at f c.args.name.now)) = copied-short c.args.layout _ _ _ c.args.copied.at c.args.copied.filling (bytes_at f c.args.name.now) c.requires.copied file in
+      omega arith)));
+}
 
-pub returns-then-now-eq0-clause-cause : goal.returns-then-now-eq0-clause-cause
-returns-then-now-eq0-clause-cause g c =
-    let tree = g.T.Tree.view in
-    let size : c.args.layout.size ≡ c.args.pair.now.size = c.requires.size in
-    let high : c.args.layout.width ≤ c.args.layout.size = c.requires.layout.high in
-    let sized : 512 ≤ c.args.layout.size = c.requires.layout.sized.0 in
-    let low : 4 ≤ c.args.layout.width = c.requires.layout.low in
-    let n : c.in-Ok.got ≡ min c.args.pair.now.size (c.args.length - c.args.copied.at) = c.in-Ok.ensures.count in
-    let page : length (page_of c.read_piece.new.pair First) ≡ c.args.pair.now.size = c.in-Ok.ensures.pair.first ∙ c.in-Ok.ensures.size in
-    let piece : length (take c.in-Ok.got (page_of c.read_piece.new.pair First)) ≡ min c.in-Ok.got (length (page_of c.read_piece.new.pair First)) = length-take c.in-Ok.got (page_of c.read_piece.new.pair First) in
-    let none : c.in-Ok-copy_lines.now.at ≡ 0 = c.if-now-eq0.true in
-    let full : c.in-Ok.got ≡ c.args.layout.size = elim (cases_eq (c.args.copied.at + c.in-Ok.got) c.args.length) [
-      | inl e ↦ absurd (let last : c.in-Ok-copy_lines.now.at ≡ length (take c.in-Ok.got (page_of c.read_piece.new.pair First)) = c.in-Ok-copy_lines.ensures.left.last (eq-eqb _ _ e) in omega (arith, last, none, piece, page, n, size, sized, c.requires.within))
-      | inr ne ↦ omega (arith, ne, n, size, c.requires.within)
-    ] in (
-      (λ e. omega (arith, e, full, high, low, sized)),
-      none-unless _ (λ f told.
-          let file : told_file (tree c.args.tree.now) c.args.name.now ≡ Some (bytes_at f c.args.name.now) = rw told refl in
-          let len : length (bytes_at f c.args.name.now) ≡ c.args.length = c.requires.stated (bytes_at f c.args.name.now) file in
-          let wide : c.in-Ok.got ≤ longest (lines (drop c.args.copied.at (bytes_at f c.args.name.now))) =
-          open-wide (bytes_at f c.args.name.now) c.args.copied.at c.in-Ok.got (omega arith)
-          (open-made (bytes_at f c.args.name.now) (page_of c.read_piece.new.pair First) c.args.copied.at c.in-Ok.got (c.in-Ok.ensures.bytes (bytes_at f c.args.name.now) file) (omega arith)
-          (subst (λ k. HasNoFeed (drop k (take c.in-Ok.got (page_of c.read_piece.new.pair First)))) none c.in-Ok-copy_lines.ensures.left.open_)) in
-          let fits : c.args.layout.width ≡ 4 + longest (lines (bytes_at f c.args.name.now)) = c.requires.fits (bytes_at f c.args.name.now) file in
-          let short : longest (lines (drop c.args.copied.at (bytes_at f c.args.name.now))) ≤ longest (lines (bytes_at f c.args.name.now)) = copied-short c.args.layout _ _ _ c.args.copied.at c.args.copied.filling (bytes_at f c.args.name.now) c.requires.copied file in
-          omega (arith, wide, fits, short, full, high, low)),
-    )
+pub returns-then-now-eq0 : goal.returns-then-now-eq0
+returns-then-now-eq0 g c = record {
+  untouched = c.in-Ok.ensures.untouched;
+  size = c.copy_lines.ensures.size ∙ c.in-Ok.ensures.size;
+  passes = c.copy_lines.ensures.passes;
+  ready = tt;
+  few = tt;
+  on = tt;
+  within = tt;
+  copied = tt;
+  cause = (
+      let tree = g.T.Tree.view in
+      let size : c.args.layout.size ≡ c.args.pair.now.size = c.requires.size in
+      let high : c.args.layout.width ≤ c.args.layout.size = c.requires.layout.high in
+      let sized : 512 ≤ c.args.layout.size = c.requires.layout.sized.0 in
+      let low : 4 ≤ c.args.layout.width = c.requires.layout.low in
+      let n : c.in-Ok.got ≡ min c.args.pair.now.size (c.args.length - c.args.copied.at) = c.in-Ok.ensures.count in
+      let page : length (page_of c.read_piece.new.pair First) ≡ c.args.pair.now.size = c.in-Ok.ensures.pair.first ∙ c.in-Ok.ensures.size in
+      let piece : length (take c.in-Ok.got (page_of c.read_piece.new.pair First)) ≡ min c.in-Ok.got (length (page_of c.read_piece.new.pair First)) = length-take c.in-Ok.got (page_of c.read_piece.new.pair First) in
+      let none : c.in-Ok-copy_lines.now.at ≡ 0 = c.if-now-eq0.true in
+      let full : c.in-Ok.got ≡ c.args.layout.size = elim (cases_eq (c.args.copied.at + c.in-Ok.got) c.args.length) [
+        | inl e ↦ absurd (let last : c.in-Ok-copy_lines.now.at ≡ length (take c.in-Ok.got (page_of c.read_piece.new.pair First)) = c.in-Ok-copy_lines.ensures.left.last (eq-eqb _ _ e) in omega (arith, last, none, piece, page, n, size, sized, c.requires.within))
+        | inr ne ↦ omega (arith, ne, n, size, c.requires.within)
+      ] in (
+        (λ e. omega (arith, e, full, high, low, sized)),
+        none-unless _ (λ f told.
+            let file : told_file (tree c.args.tree.now) c.args.name.now ≡ Some (bytes_at f c.args.name.now) = rw told refl in
+            let len : length (bytes_at f c.args.name.now) ≡ c.args.length = c.requires.stated (bytes_at f c.args.name.now) file in
+            let wide : c.in-Ok.got ≤ longest (lines (drop c.args.copied.at (bytes_at f c.args.name.now))) =
+            open-wide (bytes_at f c.args.name.now) c.args.copied.at c.in-Ok.got (omega arith)
+            (open-made (bytes_at f c.args.name.now) (page_of c.read_piece.new.pair First) c.args.copied.at c.in-Ok.got (c.in-Ok.ensures.bytes (bytes_at f c.args.name.now) file) (omega arith)
+            (subst (λ k. HasNoFeed (drop k (take c.in-Ok.got (page_of c.read_piece.new.pair First)))) none c.in-Ok-copy_lines.ensures.left.open_)) in
+            let fits : c.args.layout.width ≡ 4 + longest (lines (bytes_at f c.args.name.now)) = c.requires.fits (bytes_at f c.args.name.now) file in
+            let short : longest (lines (drop c.args.copied.at (bytes_at f c.args.name.now))) ≤ longest (lines (bytes_at f c.args.name.now)) = copied-short c.args.layout _ _ _ c.args.copied.at c.args.copied.filling (bytes_at f c.args.name.now) c.requires.copied file in
+            omega (arith, wide, fits, short, full, high, low)),
+      ));
+}
 
-pub returns-clause-copied : goal.returns-clause-copied
-returns-clause-copied g c =
-    let view = g.C.Scratch.view in
-    let tree = g.T.Tree.view in
-    let n : c.in-Ok.got ≡ min c.args.pair.now.size (c.args.length - c.args.copied.at) = c.in-Ok.ensures.count in
-    copied-more c.args.layout (view c.args.scratch.now).told (view c.copy_lines.new.scratch).told (told_file (tree c.args.tree.now) c.args.name.now) (page_of c.read_piece.new.pair Second) (page_of c.copy_lines.new.pair Second) c.args.copied.at c.in-Ok-copy_lines.now.at c.args.copied.filling c.in-Ok-copy_lines.now.filling
-    (take c.in-Ok.got (page_of c.read_piece.new.pair First)) (eqb (c.args.copied.at + c.in-Ok.got) c.args.length)
-    (subst (λ p. IsCopied c.args.layout (view c.args.scratch.now).told p c.args.copied.at c.args.copied.filling (told_file (tree c.args.tree.now) c.args.name.now)) (sym c.in-Ok.ensures.second) c.requires.copied)
-    c.in-Ok-copy_lines.ensures.copies
-    (λ text file.
-    let len : length text ≡ c.args.length = c.requires.stated text file in
-    part-made text (page_of c.read_piece.new.pair First) c.args.copied.at c.in-Ok.got (eqb (c.args.copied.at + c.in-Ok.got) c.args.length) (c.in-Ok.ensures.bytes text file) (omega arith) (λ is. eqb-true _ _ is ∙ sym len))
-
-pub returns-in-Err-copy_lines-clause-untouched : goal.returns-in-Err-copy_lines-clause-untouched
-returns-in-Err-copy_lines-clause-untouched g c = c.in-Ok.ensures.untouched
-
-pub returns-in-Err-copy_lines-clause-size : goal.returns-in-Err-copy_lines-clause-size
-returns-in-Err-copy_lines-clause-size g c = c.copy_lines.ensures.size ∙ c.in-Ok.ensures.size
-
-pub returns-in-Err-copy_lines-clause-passes : goal.returns-in-Err-copy_lines-clause-passes
-returns-in-Err-copy_lines-clause-passes g c = c.copy_lines.ensures.passes
-
-pub returns-in-Err-copy_lines-clause-ready : goal.returns-in-Err-copy_lines-clause-ready
-returns-in-Err-copy_lines-clause-ready g c = tt
-
-pub returns-in-Err-copy_lines-clause-few : goal.returns-in-Err-copy_lines-clause-few
-returns-in-Err-copy_lines-clause-few g c = tt
-
-pub returns-in-Err-copy_lines-clause-on : goal.returns-in-Err-copy_lines-clause-on
-returns-in-Err-copy_lines-clause-on g c = tt
-
-pub returns-in-Err-copy_lines-clause-within : goal.returns-in-Err-copy_lines-clause-within
-returns-in-Err-copy_lines-clause-within g c = tt
-
-pub returns-in-Err-copy_lines-clause-copied : goal.returns-in-Err-copy_lines-clause-copied
-returns-in-Err-copy_lines-clause-copied g c = tt
-
-pub returns-then-now-eq0-clause-untouched : goal.returns-then-now-eq0-clause-untouched
-returns-then-now-eq0-clause-untouched g c = c.in-Ok.ensures.untouched
-
-pub returns-then-now-eq0-clause-size : goal.returns-then-now-eq0-clause-size
-returns-then-now-eq0-clause-size g c = c.copy_lines.ensures.size ∙ c.in-Ok.ensures.size
-
-pub returns-then-now-eq0-clause-passes : goal.returns-then-now-eq0-clause-passes
-returns-then-now-eq0-clause-passes g c = c.copy_lines.ensures.passes
-
-pub returns-then-now-eq0-clause-ready : goal.returns-then-now-eq0-clause-ready
-returns-then-now-eq0-clause-ready g c = tt
-
-pub returns-then-now-eq0-clause-few : goal.returns-then-now-eq0-clause-few
-returns-then-now-eq0-clause-few g c = tt
-
-pub returns-then-now-eq0-clause-on : goal.returns-then-now-eq0-clause-on
-returns-then-now-eq0-clause-on g c = tt
-
-pub returns-then-now-eq0-clause-within : goal.returns-then-now-eq0-clause-within
-returns-then-now-eq0-clause-within g c = tt
-
-pub returns-then-now-eq0-clause-copied : goal.returns-then-now-eq0-clause-copied
-returns-then-now-eq0-clause-copied g c = tt
-
-pub returns-clause-untouched : goal.returns-clause-untouched
-returns-clause-untouched g c = c.in-Ok.ensures.untouched
-
-pub returns-clause-size : goal.returns-clause-size
-returns-clause-size g c = c.copy_lines.ensures.size ∙ c.in-Ok.ensures.size
-
-pub returns-clause-passes : goal.returns-clause-passes
-returns-clause-passes g c = c.copy_lines.ensures.passes
-
-pub returns-clause-ready : goal.returns-clause-ready
-returns-clause-ready g c = c.in-Ok-copy_lines.ensures.ready
-
-pub returns-clause-cause : goal.returns-clause-cause
-returns-clause-cause g c = tt
+pub returns : goal.returns
+returns g c = record {
+  untouched = c.in-Ok.ensures.untouched;
+  size = c.copy_lines.ensures.size ∙ c.in-Ok.ensures.size;
+  passes = c.copy_lines.ensures.passes;
+  ready = c.in-Ok-copy_lines.ensures.ready;
+  few = omega (arith, c.requires.few, c.in-Ok-copy_lines.ensures.count);
+  on = omega arith;
+  within = omega (arith, c.in-Ok-copy_lines.ensures.within, c.in-Ok.ensures.count);
+  copied = (
+      let view = g.C.Scratch.view in
+      let tree = g.T.Tree.view in
+      let n : c.in-Ok.got ≡ min c.args.pair.now.size (c.args.length - c.args.copied.at) = c.in-Ok.ensures.count in
+      copied-more c.args.layout (view c.args.scratch.now).told (view c.copy_lines.new.scratch).told (told_file (tree c.args.tree.now) c.args.name.now) (page_of c.read_piece.new.pair Second) (page_of c.copy_lines.new.pair Second) c.args.copied.at c.in-Ok-copy_lines.now.at c.args.copied.filling c.in-Ok-copy_lines.now.filling
+      (take c.in-Ok.got (page_of c.read_piece.new.pair First)) (eqb (c.args.copied.at + c.in-Ok.got) c.args.length)
+      (subst (λ p. IsCopied c.args.layout (view c.args.scratch.now).told p c.args.copied.at c.args.copied.filling (told_file (tree c.args.tree.now) c.args.name.now)) (sym c.in-Ok.ensures.second) c.requires.copied)
+      c.in-Ok-copy_lines.ensures.copies
+      (λ text file.
+      let len : length text ≡ c.args.length = c.requires.stated text file in
+      part-made text (page_of c.read_piece.new.pair First) c.args.copied.at c.in-Ok.got (eqb (c.args.copied.at + c.in-Ok.got) c.args.length) (c.in-Ok.ensures.bytes text file) (omega arith) (λ is. eqb-true _ _ is ∙ sym len)));
+  cause = tt;
+}
 
 pub copy_lines-requires-clause-layout : goal.copy_lines-requires-clause-layout
 copy_lines-requires-clause-layout g c = c.requires.layout
@@ -145,15 +112,6 @@ copy_lines-requires-clause-size g c = c.requires.size ∙ sym c.in-Ok.ensures.si
 
 pub copy_lines-requires-clause-ready : goal.copy_lines-requires-clause-ready
 copy_lines-requires-clause-ready g c = c.requires.ready
-
-pub returns-clause-few : goal.returns-clause-few
-returns-clause-few g c = omega (arith, c.requires.few, c.in-Ok-copy_lines.ensures.count)
-
-pub returns-clause-on : goal.returns-clause-on
-returns-clause-on g c = omega arith
-
-pub returns-clause-within : goal.returns-clause-within
-returns-clause-within g c = omega (arith, c.in-Ok-copy_lines.ensures.within, c.in-Ok.ensures.count)
 
 pub read_piece-requires-clause-there : goal.read_piece-requires-clause-there
 read_piece-requires-clause-there g c = c.requires.there

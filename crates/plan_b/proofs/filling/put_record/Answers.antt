@@ -66,26 +66,16 @@ returns-in-Ok-clause-passes g c = c.write_page.ensures.passes
 pub returns-in-Ok-clause-cause : goal.returns-in-Ok-clause-cause
 returns-in-Ok-clause-cause g c = tt
 
-pub returns-in-Err-clause-size : goal.returns-in-Err-clause-size
-returns-in-Err-clause-size g c = c.write_page.ensures.size ∙ c.make_record.ensures.size
-
-pub returns-in-Err-clause-first : goal.returns-in-Err-clause-first
-returns-in-Err-clause-first g c = c.write_page.ensures.first ∙ c.make_record.ensures.first
-
-pub returns-in-Err-clause-passes : goal.returns-in-Err-clause-passes
-returns-in-Err-clause-passes g c = c.write_page.ensures.passes
-
-pub returns-in-Err-clause-ready : goal.returns-in-Err-clause-ready
-returns-in-Err-clause-ready g c = tt
-
-pub returns-in-Err-clause-count : goal.returns-in-Err-clause-count
-returns-in-Err-clause-count g c = tt
-
-pub returns-in-Err-clause-filled : goal.returns-in-Err-clause-filled
-returns-in-Err-clause-filled g c = tt
-
-pub returns-in-Err-clause-cause : goal.returns-in-Err-clause-cause
-returns-in-Err-clause-cause g c = c.in-Err.ensures.cause
+pub returns-in-Err : goal.returns-in-Err
+returns-in-Err g c = record {
+  size = c.write_page.ensures.size ∙ c.make_record.ensures.size;
+  first = c.write_page.ensures.first ∙ c.make_record.ensures.first;
+  passes = c.write_page.ensures.passes;
+  ready = tt;
+  count = tt;
+  filled = tt;
+  cause = c.in-Err.ensures.cause;
+}
 
 pub overflow_mul-pages : goal.overflow_mul-pages
 overflow_mul-pages g c =

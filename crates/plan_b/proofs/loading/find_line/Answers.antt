@@ -24,29 +24,17 @@ returns-then-length-most-clause-cause g c = (
       omega (arith, fits, low, same, c.if-length-most.true)),
 )
 
-pub returns-in-Err-clause-loaded : goal.returns-in-Err-clause-loaded
-returns-in-Err-clause-loaded g c = tt
-
-pub returns-in-Err-clause-cause : goal.returns-in-Err-clause-cause
-returns-in-Err-clause-cause g c = c.in-Err.ensures.cause
-
-pub returns-in-Err-clause-size : goal.returns-in-Err-clause-size
-returns-in-Err-clause-size g c = c.fetch_page.ensures.size
-
-pub returns-in-Err-clause-other : goal.returns-in-Err-clause-other
-returns-in-Err-clause-other g c = c.fetch_page.ensures.other
-
-pub returns-in-Err-clause-passes : goal.returns-in-Err-clause-passes
-returns-in-Err-clause-passes g c = c.fetch_page.ensures.passes
-
-pub returns-in-Err-clause-told : goal.returns-in-Err-clause-told
-returns-in-Err-clause-told g c = c.fetch_page.ensures.told
-
-pub returns-in-Err-clause-reads : goal.returns-in-Err-clause-reads
-returns-in-Err-clause-reads g c = c.fetch_page.ensures.reads
-
-pub returns-in-Err-clause-still : goal.returns-in-Err-clause-still
-returns-in-Err-clause-still g c = c.fetch_page.ensures.still
+pub returns-in-Err : goal.returns-in-Err
+returns-in-Err g c = record {
+  size = c.fetch_page.ensures.size;
+  other = c.fetch_page.ensures.other;
+  loaded = tt;
+  passes = c.fetch_page.ensures.passes;
+  told = c.fetch_page.ensures.told;
+  reads = c.fetch_page.ensures.reads;
+  still = c.fetch_page.ensures.still;
+  cause = c.in-Err.ensures.cause;
+}
 
 pub returns-then-length-most-clause-loaded : goal.returns-then-length-most-clause-loaded
 returns-then-length-most-clause-loaded g c = tt

@@ -16,27 +16,36 @@ copy_piece-requires-clause-there g c =
     let begun = c.args.begun.now in
     there_works (g.T.Tree.view c.args.tree.now) (g.T.Tree.view c.pieces.tree) begun.name.now c.args.from.now begun.temporary c.requires.lasting c.pieces.invariant.1.works c.requires.there
 
-pub returns-in_err-count-clause-works : goal.returns-in_err-count-clause-works
-returns-in_err-count-clause-works g c =
-    let v = g.T.Tree.view c.pieces.tree in
-    let w = g.T.Tree.view c.copy_piece.new.tree in
-    let begun = c.args.begun.now in
-    works_both (g.T.Tree.view c.args.tree.now) v w begun.name.now begun.temporary c.pieces.invariant.1.works (subst (λ n. WorksOn v w n) c.pieces.invariant.0 c.copy_piece.ensures.works)
+pub returns-in_err-count : goal.returns-in_err-count
+returns-in_err-count g c = record {
+  name = c.copy_piece.ensures.name ∙ c.pieces.invariant.0;
+  run = run_late c.pieces.invariant.1.works.passes c.copy_piece.ensures.run.passes (c.in_err-count.ensures.run.cause refl);
+  works = (
+      let v = g.T.Tree.view c.pieces.tree in
+      let w = g.T.Tree.view c.copy_piece.new.tree in
+      let begun = c.args.begun.now in
+      works_both (g.T.Tree.view c.args.tree.now) v w begun.name.now begun.temporary c.pieces.invariant.1.works (subst (λ n. WorksOn v w n) c.pieces.invariant.0 c.copy_piece.ensures.works));
+  seals = stays_both (g.T.Tree.view c.args.tree.now) (g.T.Tree.view c.pieces.tree) (g.T.Tree.view c.copy_piece.new.tree) c.args.begun.now.name.now c.pieces.invariant.1.seals (subst (λ m. SealsStay (g.T.Tree.view c.pieces.tree) (g.T.Tree.view c.copy_piece.new.tree) m) c.pieces.invariant.0 c.copy_piece.ensures.seals);
+  copies = IfOk-from_err c.from_residual.result _ c.from_residual.ensures.0;
+}
 
-pub returns-then-count-eq0-clause-works : goal.returns-then-count-eq0-clause-works
-returns-then-count-eq0-clause-works g c =
-    let v = g.T.Tree.view c.pieces.tree in
-    let w = g.T.Tree.view c.copy_piece.new.tree in
-    let begun = c.args.begun.now in
-    works_both (g.T.Tree.view c.args.tree.now) v w begun.name.now begun.temporary c.pieces.invariant.1.works (subst (λ n. WorksOn v w n) c.pieces.invariant.0 c.copy_piece.ensures.works)
-
-pub returns-then-count-eq0-clause-copies : goal.returns-then-count-eq0-clause-copies
-returns-then-count-eq0-clause-copies g c =
-    let begun = c.args.begun.now in
-    let w = g.T.Tree.view c.copy_piece.new.tree in
-    let there : IsThere w begun.name.now = subst (λ n. IsThere w n) c.pieces.invariant.0 c.in_ok-count.ensures.copies.there in
-    copied_early (g.T.Tree.view c.args.tree.now) (g.T.Tree.view c.pieces.tree) w begun.name.now c.args.from.now c.pieces.at c.in_ok-count.count c.args.size begun.temporary c.requires.lasting c.pieces-test.true c.pieces.invariant.1 there c.requires.size
-    (λ f told. c.in_ok-count.ensures.end c.if-count-eq0.true (omega (arith, length-take c.piece_length-wanted.result c.pieces.buffer, c.piece_length-wanted.ensures, c.pieces-test.true)) f told)
+pub returns-then-count-eq0 : goal.returns-then-count-eq0
+returns-then-count-eq0 g c = record {
+  name = c.copy_piece.ensures.name ∙ c.pieces.invariant.0;
+  run = run_ok (passes_both c.pieces.invariant.1.works.passes c.copy_piece.ensures.run.passes);
+  works = (
+      let v = g.T.Tree.view c.pieces.tree in
+      let w = g.T.Tree.view c.copy_piece.new.tree in
+      let begun = c.args.begun.now in
+      works_both (g.T.Tree.view c.args.tree.now) v w begun.name.now begun.temporary c.pieces.invariant.1.works (subst (λ n. WorksOn v w n) c.pieces.invariant.0 c.copy_piece.ensures.works));
+  seals = stays_both (g.T.Tree.view c.args.tree.now) (g.T.Tree.view c.pieces.tree) (g.T.Tree.view c.copy_piece.new.tree) c.args.begun.now.name.now c.pieces.invariant.1.seals (subst (λ m. SealsStay (g.T.Tree.view c.pieces.tree) (g.T.Tree.view c.copy_piece.new.tree) m) c.pieces.invariant.0 c.copy_piece.ensures.seals);
+  copies = (
+      let begun = c.args.begun.now in
+      let w = g.T.Tree.view c.copy_piece.new.tree in
+      let there : IsThere w begun.name.now = subst (λ n. IsThere w n) c.pieces.invariant.0 c.in_ok-count.ensures.copies.there in
+      copied_early (g.T.Tree.view c.args.tree.now) (g.T.Tree.view c.pieces.tree) w begun.name.now c.args.from.now c.pieces.at c.in_ok-count.count c.args.size begun.temporary c.requires.lasting c.pieces-test.true c.pieces.invariant.1 there c.requires.size
+      (λ f told. c.in_ok-count.ensures.end c.if-count-eq0.true (omega (arith, length-take c.piece_length-wanted.result c.pieces.buffer, c.piece_length-wanted.ensures, c.pieces-test.true)) f told));
+}
 
 pub pieces-preserved : goal.pieces-preserved
 pieces-preserved g c =
@@ -68,41 +77,14 @@ copy_piece-requires-clause-lasting g c = c.requires.lasting
 pub copy_piece-requires-clause-begun : goal.copy_piece-requires-clause-begun
 copy_piece-requires-clause-begun g c = subst (λ m. IsThere (g.T.Tree.view c.pieces.tree) m) (sym c.pieces.invariant.0) c.pieces.invariant.1.copies.there
 
-pub returns-in_err-count-clause-name : goal.returns-in_err-count-clause-name
-returns-in_err-count-clause-name g c = c.copy_piece.ensures.name ∙ c.pieces.invariant.0
-
-pub returns-in_err-count-clause-run : goal.returns-in_err-count-clause-run
-returns-in_err-count-clause-run g c = run_late c.pieces.invariant.1.works.passes c.copy_piece.ensures.run.passes (c.in_err-count.ensures.run.cause refl)
-
-pub returns-in_err-count-clause-seals : goal.returns-in_err-count-clause-seals
-returns-in_err-count-clause-seals g c = stays_both (g.T.Tree.view c.args.tree.now) (g.T.Tree.view c.pieces.tree) (g.T.Tree.view c.copy_piece.new.tree) c.args.begun.now.name.now c.pieces.invariant.1.seals (subst (λ m. SealsStay (g.T.Tree.view c.pieces.tree) (g.T.Tree.view c.copy_piece.new.tree) m) c.pieces.invariant.0 c.copy_piece.ensures.seals)
-
-pub returns-in_err-count-clause-copies : goal.returns-in_err-count-clause-copies
-returns-in_err-count-clause-copies g c = IfOk-from_err c.from_residual.result _ c.from_residual.ensures.0
-
-pub returns-then-count-eq0-clause-name : goal.returns-then-count-eq0-clause-name
-returns-then-count-eq0-clause-name g c = c.copy_piece.ensures.name ∙ c.pieces.invariant.0
-
-pub returns-then-count-eq0-clause-run : goal.returns-then-count-eq0-clause-run
-returns-then-count-eq0-clause-run g c = run_ok (passes_both c.pieces.invariant.1.works.passes c.copy_piece.ensures.run.passes)
-
-pub returns-then-count-eq0-clause-seals : goal.returns-then-count-eq0-clause-seals
-returns-then-count-eq0-clause-seals g c = stays_both (g.T.Tree.view c.args.tree.now) (g.T.Tree.view c.pieces.tree) (g.T.Tree.view c.copy_piece.new.tree) c.args.begun.now.name.now c.pieces.invariant.1.seals (subst (λ m. SealsStay (g.T.Tree.view c.pieces.tree) (g.T.Tree.view c.copy_piece.new.tree) m) c.pieces.invariant.0 c.copy_piece.ensures.seals)
-
-pub returns-clause-name : goal.returns-clause-name
-returns-clause-name g c = c.pieces.invariant.0
-
-pub returns-clause-run : goal.returns-clause-run
-returns-clause-run g c = run_ok c.pieces.invariant.1.works.passes
-
-pub returns-clause-works : goal.returns-clause-works
-returns-clause-works g c = c.pieces.invariant.1.works
-
-pub returns-clause-seals : goal.returns-clause-seals
-returns-clause-seals g c = c.pieces.invariant.1.seals
-
-pub returns-clause-copies : goal.returns-clause-copies
-returns-clause-copies g c = copied_all (g.T.Tree.view c.args.tree.now) (g.T.Tree.view c.pieces.tree) c.args.begun.now.name.now c.args.from.now c.pieces.at c.args.size c.pieces-test.false c.pieces.invariant.1
+pub returns : goal.returns
+returns g c = record {
+  name = c.pieces.invariant.0;
+  run = run_ok c.pieces.invariant.1.works.passes;
+  works = c.pieces.invariant.1.works;
+  seals = c.pieces.invariant.1.seals;
+  copies = copied_all (g.T.Tree.view c.args.tree.now) (g.T.Tree.view c.pieces.tree) c.args.begun.now.name.now c.args.from.now c.pieces.at c.args.size c.pieces-test.false c.pieces.invariant.1;
+}
 
 pub overflow_add-at : goal.overflow_add-at
 overflow_add-at g c =

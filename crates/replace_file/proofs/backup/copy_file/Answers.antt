@@ -8,40 +8,36 @@ use Rattle.replace_file.proofs.Work.{stays_both}
 use Rattle.replace_file.proofs.Runs.{run_ok, run_first, run_then}
 use Rattle.replace_file.proofs.backup.copy_file.Goals as goal
 
-pub returns-in_err-size-clause-works : goal.returns-in_err-size-clause-works
-returns-in_err-size-clause-works g c = reads_works (g.T.Tree.view c.args.tree.now) (g.T.Tree.view c.size.new.self) c.size.result c.args.begun.now.name.now c.args.begun.now.temporary c.size.ensures.call c.size.ensures.untouched c.requires.quiet
+pub returns-in_err-size : goal.returns-in_err-size
+returns-in_err-size g c = record {
+  name = refl;
+  run = run_first c.size.ensures.call.passes (c.in_err-size.ensures.call.cause refl);
+  works = reads_works (g.T.Tree.view c.args.tree.now) (g.T.Tree.view c.size.new.self) c.size.result c.args.begun.now.name.now c.args.begun.now.temporary c.size.ensures.call c.size.ensures.untouched c.requires.quiet;
+  seals = reads_seals (g.T.Tree.view c.args.tree.now) (g.T.Tree.view c.size.new.self) c.args.begun.now.name.now c.size.ensures.untouched;
+  there = IfOk-from_err c.from_residual.result _ c.from_residual.ensures.0;
+  bytes = IfOk-from_err c.from_residual.result _ c.from_residual.ensures.0;
+}
 
 pub returns-in-None-clause-works : goal.returns-in-None-clause-works
 returns-in-None-clause-works g c = reads_works (g.T.Tree.view c.args.tree.now) (g.T.Tree.view c.size.new.self) c.size.result c.args.begun.now.name.now c.args.begun.now.temporary c.size.ensures.call c.size.ensures.untouched c.requires.quiet
 
-pub returns-in-Some-clause-works : goal.returns-in-Some-clause-works
-returns-in-Some-clause-works g c =
-    let u = g.T.Tree.view c.args.tree.now in
-    let v = g.T.Tree.view c.size.new.self in
-    let begun = c.args.begun.now in
-    works_both u v (g.T.Tree.view c.copy_bytes.new.tree) begun.name.now begun.temporary (reads_works u v c.size.result begun.name.now begun.temporary c.size.ensures.call c.size.ensures.untouched c.requires.quiet) c.copy_bytes.ensures.works
-
-pub returns-in-Some-clause-bytes : goal.returns-in-Some-clause-bytes
-returns-in-Some-clause-bytes g c =
-    let from = c.args.from.now in
-    on_ok_weaker c.copy_bytes.result (λ copies f h told now.
-    let sized = size_bytes f from c.in-Some.size (sym c.in-Some.is ∙ c.in_ok-size.ensures.size f told) in
-    copies.bytes f h (c.size.ensures.untouched.told ∙ told) now ∙ ap (λ (l : List ℕ). bytes_at f c.args.begun.now.name.now ++ l) (take_all c.in-Some.size (bytes_at f from) (omega (arith, sized.1)))) c.copy_bytes.ensures.copies
-
-pub returns-in_err-size-clause-name : goal.returns-in_err-size-clause-name
-returns-in_err-size-clause-name g c = refl
-
-pub returns-in_err-size-clause-run : goal.returns-in_err-size-clause-run
-returns-in_err-size-clause-run g c = run_first c.size.ensures.call.passes (c.in_err-size.ensures.call.cause refl)
-
-pub returns-in_err-size-clause-seals : goal.returns-in_err-size-clause-seals
-returns-in_err-size-clause-seals g c = reads_seals (g.T.Tree.view c.args.tree.now) (g.T.Tree.view c.size.new.self) c.args.begun.now.name.now c.size.ensures.untouched
-
-pub returns-in_err-size-clause-there : goal.returns-in_err-size-clause-there
-returns-in_err-size-clause-there g c = IfOk-from_err c.from_residual.result _ c.from_residual.ensures.0
-
-pub returns-in_err-size-clause-bytes : goal.returns-in_err-size-clause-bytes
-returns-in_err-size-clause-bytes g c = IfOk-from_err c.from_residual.result _ c.from_residual.ensures.0
+pub returns-in-Some : goal.returns-in-Some
+returns-in-Some g c = record {
+  name = c.copy_bytes.ensures.name;
+  run = run_then c.size.ensures.call.passes c.copy_bytes.ensures.run;
+  works = (
+      let u = g.T.Tree.view c.args.tree.now in
+      let v = g.T.Tree.view c.size.new.self in
+      let begun = c.args.begun.now in
+      works_both u v (g.T.Tree.view c.copy_bytes.new.tree) begun.name.now begun.temporary (reads_works u v c.size.result begun.name.now begun.temporary c.size.ensures.call c.size.ensures.untouched c.requires.quiet) c.copy_bytes.ensures.works);
+  seals = stays_both (g.T.Tree.view c.args.tree.now) (g.T.Tree.view c.size.new.self) (g.T.Tree.view c.copy_bytes.new.tree) c.args.begun.now.name.now (reads_seals (g.T.Tree.view c.args.tree.now) (g.T.Tree.view c.size.new.self) c.args.begun.now.name.now c.size.ensures.untouched) c.copy_bytes.ensures.seals;
+  there = on_ok_weaker c.copy_bytes.result (λ copies. copies.there) c.copy_bytes.ensures.copies;
+  bytes = (
+      let from = c.args.from.now in
+      on_ok_weaker c.copy_bytes.result (λ copies f h told now.
+      let sized = size_bytes f from c.in-Some.size (sym c.in-Some.is ∙ c.in_ok-size.ensures.size f told) in
+      copies.bytes f h (c.size.ensures.untouched.told ∙ told) now ∙ ap (λ (l : List ℕ). bytes_at f c.args.begun.now.name.now ++ l) (take_all c.in-Some.size (bytes_at f from) (omega (arith, sized.1)))) c.copy_bytes.ensures.copies);
+}
 
 pub copy_bytes-requires-clause-quiet : goal.copy_bytes-requires-clause-quiet
 copy_bytes-requires-clause-quiet g c = untouched_quiet c.size.ensures.untouched c.requires.quiet
@@ -69,15 +65,3 @@ returns-in-None-clause-seals g c = reads_seals (g.T.Tree.view c.args.tree.now) (
 
 pub returns-in-None-clause-there : goal.returns-in-None-clause-there
 returns-in-None-clause-there g c = there_told (g.T.Tree.view c.args.tree.now) (g.T.Tree.view c.size.new.self) c.args.begun.now.name.now c.size.ensures.untouched.told c.requires.begun
-
-pub returns-in-Some-clause-name : goal.returns-in-Some-clause-name
-returns-in-Some-clause-name g c = c.copy_bytes.ensures.name
-
-pub returns-in-Some-clause-run : goal.returns-in-Some-clause-run
-returns-in-Some-clause-run g c = run_then c.size.ensures.call.passes c.copy_bytes.ensures.run
-
-pub returns-in-Some-clause-seals : goal.returns-in-Some-clause-seals
-returns-in-Some-clause-seals g c = stays_both (g.T.Tree.view c.args.tree.now) (g.T.Tree.view c.size.new.self) (g.T.Tree.view c.copy_bytes.new.tree) c.args.begun.now.name.now (reads_seals (g.T.Tree.view c.args.tree.now) (g.T.Tree.view c.size.new.self) c.args.begun.now.name.now c.size.ensures.untouched) c.copy_bytes.ensures.seals
-
-pub returns-in-Some-clause-there : goal.returns-in-Some-clause-there
-returns-in-Some-clause-there g c = on_ok_weaker c.copy_bytes.result (λ copies. copies.there) c.copy_bytes.ensures.copies

@@ -13,11 +13,11 @@ returns-in-Ok-clause-makes g c =
     effect_whole (Held name bytes) (Put name bytes) c.requires.quiet (λ f told. refl) c.in-Ok.field-0 tt c.in-Ok.ensures.makes
     (subst (λ (t : List ℕ). Becomes (g.T.Tree.view c.args.tree.now) (g.T.Tree.view c.put_whole.new.tree) (λ f. remove (insert f name bytes) t)) c.requires.named c.in-Ok.ensures.ok)
 
-pub returns-in-Err-clause-makes : goal.returns-in-Err-clause-makes
-returns-in-Err-clause-makes g c =
-    let name = c.args.name.now in
-    let bytes = c.args.bytes.now in
-    effect_part (Held name bytes) (Put name bytes) c.requires.quiet (λ f told. refl) c.in-Err.field-0 _ c.in-Err.ensures.makes
-
-pub returns-in-Err-clause-cause : goal.returns-in-Err-clause-cause
-returns-in-Err-clause-cause g c = inr (refl, c.in-Err.ensures.run.cause refl)
+pub returns-in-Err : goal.returns-in-Err
+returns-in-Err g c = record {
+  makes = (
+      let name = c.args.name.now in
+      let bytes = c.args.bytes.now in
+      effect_part (Held name bytes) (Put name bytes) c.requires.quiet (λ f told. refl) c.in-Err.field-0 _ c.in-Err.ensures.makes);
+  cause = inr (refl, c.in-Err.ensures.run.cause refl);
+}

@@ -9,10 +9,10 @@ returns-in-Ok-clause-makes g c =
     let name = c.args.name.now in
     effect_whole (Missing name) (Remove name) c.requires.quiet (λ f told. ap (λ (t : Bool). cond t (Remove name ∷ []) []) (c.requires.there f told)) c.in-Ok.field-0 tt c.in-Ok.ensures.makes c.in-Ok.ensures.ok
 
-pub returns-in-Err-clause-makes : goal.returns-in-Err-clause-makes
-returns-in-Err-clause-makes g c =
-    let name = c.args.name.now in
-    effect_part (Missing name) (Remove name) c.requires.quiet (λ f told. ap (λ (t : Bool). cond t (Remove name ∷ []) []) (c.requires.there f told)) c.in-Err.field-0 _ c.in-Err.ensures.makes
-
-pub returns-in-Err-clause-cause : goal.returns-in-Err-clause-cause
-returns-in-Err-clause-cause g c = inr (refl, c.in-Err.ensures.run.cause refl)
+pub returns-in-Err : goal.returns-in-Err
+returns-in-Err g c = record {
+  makes = (
+      let name = c.args.name.now in
+      effect_part (Missing name) (Remove name) c.requires.quiet (λ f told. ap (λ (t : Bool). cond t (Remove name ∷ []) []) (c.requires.there f told)) c.in-Err.field-0 _ c.in-Err.ensures.makes);
+  cause = inr (refl, c.in-Err.ensures.run.cause refl);
+}

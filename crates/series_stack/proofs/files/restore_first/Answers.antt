@@ -25,28 +25,24 @@ returns-in-Ok g c =
       cause = tt;
     }
 
-pub returns-in-Err-clause-makes : goal.returns-in-Err-clause-makes
-returns-in-Err-clause-makes g c =
-    let x = c.in-Some.entry in
-    let o = first_entry c.args.text.now in
-    let first = saved-some o (found x) c.in-Some.ensures (found_saved o (found x) c.in-Some.ensures c.requires.saved) in
-    if_some (λ (y : Entry × List ℕ). Restores (g.T.Tree.view c.args.tree.now) (g.T.Tree.view c.restore_entry.new.tree) (Err c.in-Err.fault) (y.0 ∷ [])) (if_saved o) (found x) first
-    (restores_fault c.in-Err.fault c.in-Err.ensures.makes)
+pub returns-in-Err : goal.returns-in-Err
+returns-in-Err g c = record {
+  rest = tt;
+  makes = (
+      let x = c.in-Some.entry in
+      let o = first_entry c.args.text.now in
+      let first = saved-some o (found x) c.in-Some.ensures (found_saved o (found x) c.in-Some.ensures c.requires.saved) in
+      if_some (λ (y : Entry × List ℕ). Restores (g.T.Tree.view c.args.tree.now) (g.T.Tree.view c.restore_entry.new.tree) (Err c.in-Err.fault) (y.0 ∷ [])) (if_saved o) (found x) first
+      (restores_fault c.in-Err.fault c.in-Err.ensures.makes));
+  cause = c.in-Err.ensures.cause;
+}
 
-pub returns-in-None-clause-makes : goal.returns-in-None-clause-makes
-returns-in-None-clause-makes g c = absurd (found_none (first_entry c.args.text.now) c.in-None.ensures c.requires.saved)
-
-pub returns-in-None-clause-rest : goal.returns-in-None-clause-rest
-returns-in-None-clause-rest g c = absurd (found_none (first_entry c.args.text.now) c.in-None.ensures c.requires.saved)
-
-pub returns-in-Err-clause-cause : goal.returns-in-Err-clause-cause
-returns-in-Err-clause-cause g c = c.in-Err.ensures.cause
+pub returns-in-None : goal.returns-in-None
+returns-in-None g c = record {
+  rest = absurd (found_none (first_entry c.args.text.now) c.in-None.ensures c.requires.saved);
+  makes = absurd (found_none (first_entry c.args.text.now) c.in-None.ensures c.requires.saved);
+  cause = tt;
+}
 
 pub restore_entry-requires-clause-quiet : goal.restore_entry-requires-clause-quiet
 restore_entry-requires-clause-quiet g c = c.requires.quiet
-
-pub returns-in-Err-clause-rest : goal.returns-in-Err-clause-rest
-returns-in-Err-clause-rest g c = tt
-
-pub returns-in-None-clause-cause : goal.returns-in-None-clause-cause
-returns-in-None-clause-cause g c = tt

@@ -4,8 +4,14 @@ use Rattle.outside.proofs.Exits.{on_ok_none}
 use Rattle.outside.specs.Calls.{untouched_none}
 use Rattle.series_stack.proofs.take.add_bytes.Goals as goal
 
-pub returns-in-Err-clause-untouched : goal.returns-in-Err-clause-untouched
-returns-in-Err-clause-untouched g c = c.read_whole.ensures.untouched
+pub returns-in-Err : goal.returns-in-Err
+returns-in-Err g c = record {
+  untouched = c.read_whole.ensures.untouched;
+  bytes = tt;
+  form = tt;
+  cause = tt;
+  size = tt;
+}
 
 pub returns-in-Ok-clause-untouched : goal.returns-in-Ok-clause-untouched
 returns-in-Ok-clause-untouched g c = c.read_whole.ensures.untouched
@@ -27,18 +33,6 @@ returns-in_err-read_whole-clause-untouched g c = c.read_whole.ensures.untouched
 
 pub read_whole-requires-clause-there : goal.read_whole-requires-clause-there
 read_whole-requires-clause-there g c = c.requires.there
-
-pub returns-in-Err-clause-cause : goal.returns-in-Err-clause-cause
-returns-in-Err-clause-cause g c = tt
-
-pub returns-in-Err-clause-size : goal.returns-in-Err-clause-size
-returns-in-Err-clause-size g c = tt
-
-pub returns-in-Err-clause-bytes : goal.returns-in-Err-clause-bytes
-returns-in-Err-clause-bytes g c = tt
-
-pub returns-in-Err-clause-form : goal.returns-in-Err-clause-form
-returns-in-Err-clause-form g c = tt
 
 pub returns-in-Ok-clause-cause : goal.returns-in-Ok-clause-cause
 returns-in-Ok-clause-cause g c = tt

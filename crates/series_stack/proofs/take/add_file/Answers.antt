@@ -5,20 +5,20 @@ use Rattle.std.proofs.lemmas.Result.{on_ok_weaker}
 use Rattle.outside.specs.Calls.{untouched_none}
 use Rattle.series_stack.proofs.take.add_file.Goals as goal
 
-pub returns-in-Ok-clause-form : goal.returns-in-Ok-clause-form
-returns-in-Ok-clause-form g c =
-    held_form c.add_bytes.result c.args.text.now.items c.add_head.new.text.items c.add_bytes.new.text.items c.args.name.now c.args.size (omega (arith, c.if-size-gt-LONGEST.false)) c.in-Ok.ensures c.add_bytes.ensures.form
-
-pub returns-in-Ok-clause-entry : goal.returns-in-Ok-clause-entry
-returns-in-Ok-clause-entry g c =
-    let old = c.args.text.now.items in
-    let name = c.args.name.now in
-    on_ok_weaker c.add_bytes.result
-    (λ added f told. added f told ∙ ap (λ (l : List ℕ). l ++ (bytes_at f name ++ 10 ∷ [])) c.in-Ok.ensures ∙ entry_joined old name (bytes_at f name) c.args.size (sym (c.requires.long f told)))
-    c.add_bytes.ensures.bytes
-
-pub returns-in-Ok-clause-short : goal.returns-in-Ok-clause-short
-returns-in-Ok-clause-short g c = on_ok_all c.add_bytes.result (omega (arith, c.if-size-gt-LONGEST.false))
+pub returns-in-Ok : goal.returns-in-Ok
+returns-in-Ok g c = record {
+  untouched = c.add_bytes.ensures.untouched;
+  entry = (
+      let old = c.args.text.now.items in
+      let name = c.args.name.now in
+      on_ok_weaker c.add_bytes.result
+      (λ added f told. added f told ∙ ap (λ (l : List ℕ). l ++ (bytes_at f name ++ 10 ∷ [])) c.in-Ok.ensures ∙ entry_joined old name (bytes_at f name) c.args.size (sym (c.requires.long f told)))
+      c.add_bytes.ensures.bytes);
+  short = on_ok_all c.add_bytes.result (omega (arith, c.if-size-gt-LONGEST.false));
+  form = held_form c.add_bytes.result c.args.text.now.items c.add_head.new.text.items c.add_bytes.new.text.items c.args.name.now c.args.size (omega (arith, c.if-size-gt-LONGEST.false)) c.in-Ok.ensures c.add_bytes.ensures.form;
+  cause = c.add_bytes.ensures.cause;
+  size = c.add_bytes.ensures.size;
+}
 
 pub returns-in-Err-clause-untouched : goal.returns-in-Err-clause-untouched
 returns-in-Err-clause-untouched g c = untouched_none (g.T.Tree.view c.args.tree.now)
@@ -28,15 +28,6 @@ add_bytes-requires-clause-long g c = c.requires.long
 
 pub returns-then-size-gt-LONGEST-clause-untouched : goal.returns-then-size-gt-LONGEST-clause-untouched
 returns-then-size-gt-LONGEST-clause-untouched g c = untouched_none (g.T.Tree.view c.args.tree.now)
-
-pub returns-in-Ok-clause-cause : goal.returns-in-Ok-clause-cause
-returns-in-Ok-clause-cause g c = c.add_bytes.ensures.cause
-
-pub returns-in-Ok-clause-size : goal.returns-in-Ok-clause-size
-returns-in-Ok-clause-size g c = c.add_bytes.ensures.size
-
-pub returns-in-Ok-clause-untouched : goal.returns-in-Ok-clause-untouched
-returns-in-Ok-clause-untouched g c = c.add_bytes.ensures.untouched
 
 pub add_bytes-requires-clause-there : goal.add_bytes-requires-clause-there
 add_bytes-requires-clause-there g c = λ f told. ap is_some (c.requires.size f told)

@@ -9,14 +9,14 @@ returns-in_default-clause-small c = tt
 pub returns-then-is_bad-clause-small : goal.returns-then-is_bad-clause-small
 returns-then-is_bad-clause-small c = tt
 
-pub returns-then-are_large-clause-small : goal.returns-then-are_large-clause-small
-returns-then-are_large-clause-small c = tt
+pub returns-then-are_large : goal.returns-then-are_large
+returns-then-are_large c = record {
+  exact = stated-large c.args.line.now c.in-Some.old c.in-Some.new c.in-Some.rest.now c.in-Some.ensures c.if-is_bad.ensures c.if-is_bad-2.ensures c.if-are_large.ensures;
+  small = tt;
+}
 
-pub returns-then-are_large-clause-exact : goal.returns-then-are_large-clause-exact
-returns-then-are_large-clause-exact c = stated-large c.args.line.now c.in-Some.old c.in-Some.new c.in-Some.rest.now c.in-Some.ensures c.if-is_bad.ensures c.if-is_bad-2.ensures c.if-are_large.ensures
-
-pub returns-clause-exact : goal.returns-clause-exact
-returns-clause-exact c = stated-fits c.args.line.now c.in-Some.old c.in-Some.new c.in-Some.rest.now c.in-Some.ensures c.if-is_bad.ensures c.if-is_bad-2.ensures c.if-are_large.ensures
-
-pub returns-clause-small : goal.returns-clause-small
-returns-clause-small c = start-small c.in-Some.old.start c.in-Some.old.count c.in-Some.new.start c.in-Some.new.count (sym c.if-are_large.ensures)
+pub returns : goal.returns
+returns c = record {
+  exact = stated-fits c.args.line.now c.in-Some.old c.in-Some.new c.in-Some.rest.now c.in-Some.ensures c.if-is_bad.ensures c.if-is_bad-2.ensures c.if-are_large.ensures;
+  small = start-small c.in-Some.old.start c.in-Some.old.count c.in-Some.new.start c.in-Some.new.count (sym c.if-are_large.ensures);
+}

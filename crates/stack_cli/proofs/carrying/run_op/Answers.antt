@@ -1,12 +1,30 @@
 use Rattle.std.proofs.Common.{Ok, refl}
-use Rattle.stack_cli.proofs.Promising.{carries_behind, settle_carry}
+use Rattle.outside.proofs.Views.{untouched_quiet}
+use Rattle.run_answers.proofs.Opens.{opens_untouched}
+use Rattle.stack_cli.proofs.Promising.{carries_behind, carries_early, settle_carry}
+use Rattle.stack_cli.proofs.Standing.{state_on}
 use Rattle.stack_cli.proofs.carrying.run_op.Goals as goal
 
-pub returns-in-Ok : goal.returns-in-Ok
-returns-in-Ok g c = record {
-  carries = carries_behind (Ok c.args.op) _ _ _ _ c.settle.ensures.opens _ _ c.run_settled.ensures.carries;
-  rest = c.run_settled.ensures.rest;
-  scratch = c.run_settled.ensures.scratch;
+pub run_state-ended-requires-clause-state : goal.run_state-ended-requires-clause-state
+run_state-ended-requires-clause-state g c = state_on c.read_state.ensures.untouched c.in-Ok-read_state.ensures.state
+
+pub run_state-ended-requires-clause-quiet : goal.run_state-ended-requires-clause-quiet
+run_state-ended-requires-clause-quiet g c = untouched_quiet c.read_state.ensures.untouched c.in-Ok.ensures.quiet
+
+pub returns-in-Ok-read_state : goal.returns-in-Ok-read_state
+returns-in-Ok-read_state g c = record {
+  carries = carries_behind (Ok c.args.op) _ _ _ _ c.settle.ensures.opens _ _
+      (carries_behind (Ok c.args.op) _ _ _ _ (opens_untouched c.read_state.ensures.untouched) _ _ c.run_state-ended.ensures.carries);
+  scratch = c.run_state-ended.ensures.scratch;
+  rest = c.run_state-ended.ensures.rest;
+}
+
+pub returns-in-Err-read_state : goal.returns-in-Err-read_state
+returns-in-Err-read_state g c = record {
+  carries = carries_behind (Ok c.args.op) _ _ _ _ c.settle.ensures.opens _ _
+      (carries_early c.args.op _ _ _ _ c.in-Err-read_state.why (opens_untouched c.read_state.ensures.untouched) (c.in-Err-read_state.ensures.refused c.args.op _ _));
+  scratch = λ never. refl;
+  rest = g.met.O.Sink.rest_none c.args.out.now;
 }
 
 pub returns-in-Err : goal.returns-in-Err

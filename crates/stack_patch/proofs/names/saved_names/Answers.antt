@@ -21,16 +21,16 @@ loop-patch-preserved c =
     ∙ sym (fold-append with_patch nothing (take i ps) (p ∷ []))
     ∙ ap (λ (l : List FilePatch). fold with_patch nothing l) (sym more)
 
-pub returns-clause-names : goal.returns-clause-names
-returns-clause-names c =
-    ap (λ (g : Gathered). g.names)
-    (c.loop-patch.invariant
-    ∙ ap (λ (l : List FilePatch). fold with_patch nothing l) (take_all c.loop-patch.patch-index c.patches-patch-items.result.now (omega arith) ∙ c.patches-patch-items.ensures.patches)
-    ∙ saves c.requires.read.0 c.args.set.now c.requires.read.1)
-
-pub returns-clause-own : goal.returns-clause-own
-returns-clause-own c =
-    ap (λ (g : Gathered). g.own)
-    (c.loop-patch.invariant
-    ∙ ap (λ (l : List FilePatch). fold with_patch nothing l) (take_all c.loop-patch.patch-index c.patches-patch-items.result.now (omega arith) ∙ c.patches-patch-items.ensures.patches)
-    ∙ saves c.requires.read.0 c.args.set.now c.requires.read.1)
+pub returns : goal.returns
+returns c = record {
+  names = (
+      ap (λ (g : Gathered). g.names)
+      (c.loop-patch.invariant
+      ∙ ap (λ (l : List FilePatch). fold with_patch nothing l) (take_all c.loop-patch.patch-index c.patches-patch-items.result.now (omega arith) ∙ c.patches-patch-items.ensures.patches)
+      ∙ saves c.requires.read.0 c.args.set.now c.requires.read.1));
+  own = (
+      ap (λ (g : Gathered). g.own)
+      (c.loop-patch.invariant
+      ∙ ap (λ (l : List FilePatch). fold with_patch nothing l) (take_all c.loop-patch.patch-index c.patches-patch-items.result.now (omega arith) ∙ c.patches-patch-items.ensures.patches)
+      ∙ saves c.requires.read.0 c.args.set.now c.requires.read.1));
+}

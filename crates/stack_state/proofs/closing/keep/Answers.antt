@@ -7,19 +7,21 @@ use Rattle.stack_state.specs.Steps.{Steps}
 use Rattle.stack_state.proofs.Stepping.{one_more, then_said, unsaid}
 use Rattle.stack_state.proofs.closing.keep.Goals as goal
 
-pub returns-in-Ok-clause-steps : goal.returns-in-Ok-clause-steps
-returns-in-Ok-clause-steps g c = one_more (λ k. Steps {R = Unit {0}} (g.T.Tree.view c.args.tree.now) (g.T.Tree.view c.put_count.new.tree) (g.O.Sink.view c.args.out.now) (g.O.Sink.view c.say_tally.new.out) c.said.result (λ f. Put count_name (count_text k) ∷ []) (λ f. tally k c.args.all)) c.args.applied (
-    then_said c.in-Ok.field-0 (tally (c.args.applied + 1) c.args.all) c.say_tally.result c.said.result c.said.ensures (c.in-Ok.ensures (g.O.Sink.view c.args.out.now)) c.say_tally.ensures.writes)
+pub returns-in-Ok : goal.returns-in-Ok
+returns-in-Ok g c = record {
+  steps = (
+      one_more (λ k. Steps {R = Unit {0}} (g.T.Tree.view c.args.tree.now) (g.T.Tree.view c.put_count.new.tree) (g.O.Sink.view c.args.out.now) (g.O.Sink.view c.say_tally.new.out) c.said.result (λ f. Put count_name (count_text k) ∷ []) (λ f. tally k c.args.all)) c.args.applied (
+      then_said c.in-Ok.field-0 (tally (c.args.applied + 1) c.args.all) c.say_tally.result c.said.result c.said.ensures (c.in-Ok.ensures (g.O.Sink.view c.args.out.now)) c.say_tally.ensures.writes));
+  rest = c.say_tally.ensures.rest;
+}
 
-pub returns-in-Err-clause-steps : goal.returns-in-Err-clause-steps
-returns-in-Err-clause-steps g c = one_more (λ k. Steps {R = Unit {0}} (g.T.Tree.view c.args.tree.now) (g.T.Tree.view c.put_count.new.tree) (g.O.Sink.view c.args.out.now) (g.O.Sink.view c.args.out.now) (Err c.in-Err.fault) (λ f. Put count_name (count_text k) ∷ []) (λ f. tally k c.args.all)) c.args.applied (
-    unsaid {S = Unit {0}} c.in-Err.fault (tally (c.args.applied + 1) c.args.all) (c.in-Err.ensures (g.O.Sink.view c.args.out.now)))
-
-pub returns-in-Err-clause-rest : goal.returns-in-Err-clause-rest
-returns-in-Err-clause-rest g c = g.met.O.Sink.rest_none c.args.out.now
-
-pub returns-in-Ok-clause-rest : goal.returns-in-Ok-clause-rest
-returns-in-Ok-clause-rest g c = c.say_tally.ensures.rest
+pub returns-in-Err : goal.returns-in-Err
+returns-in-Err g c = record {
+  steps = (
+      one_more (λ k. Steps {R = Unit {0}} (g.T.Tree.view c.args.tree.now) (g.T.Tree.view c.put_count.new.tree) (g.O.Sink.view c.args.out.now) (g.O.Sink.view c.args.out.now) (Err c.in-Err.fault) (λ f. Put count_name (count_text k) ∷ []) (λ f. tally k c.args.all)) c.args.applied (
+      unsaid {S = Unit {0}} c.in-Err.fault (tally (c.args.applied + 1) c.args.all) (c.in-Err.ensures (g.O.Sink.view c.args.out.now))));
+  rest = g.met.O.Sink.rest_none c.args.out.now;
+}
 
 pub put_count-requires : goal.put_count-requires
 put_count-requires g c = record { quiet = c.requires.quiet }

@@ -13,17 +13,17 @@ undo_last-requires-clause-quiet g c = (c.in-Ok.ensures (g.O.Sink.view c.args.out
 pub undo_last-requires-clause-there : goal.undo_last-requires-clause-there
 undo_last-requires-clause-there g c = there_put c.in-Ok.field-0 c.args.before (suc c.args.before) c.requires.there (c.in-Ok.ensures (g.O.Sink.view c.args.out.now))
 
-pub returns-in-Ok-clause-steps : goal.returns-in-Ok-clause-steps
-returns-in-Ok-clause-steps g c = steps_then c.in-Ok.field-0 c.undo_last.result (c.in-Ok.ensures (g.O.Sink.view c.args.out.now)) c.undo_last.ensures.steps
+pub returns-in-Ok : goal.returns-in-Ok
+returns-in-Ok g c = record {
+  steps = steps_then c.in-Ok.field-0 c.undo_last.result (c.in-Ok.ensures (g.O.Sink.view c.args.out.now)) c.undo_last.ensures.steps;
+  rest = c.undo_last.ensures.rest;
+}
 
-pub returns-in-Err-clause-steps : goal.returns-in-Err-clause-steps
-returns-in-Err-clause-steps g c = steps_stop c.in-Err.fault (λ f. undoing_by (save_name (suc c.args.before)) (entries_of c.args.save.now) (after (lowering c.args.before) f)) (λ f. tally c.args.before c.args.all) (c.in-Err.ensures (g.O.Sink.view c.args.out.now))
-
-pub returns-in-Err-clause-rest : goal.returns-in-Err-clause-rest
-returns-in-Err-clause-rest g c = g.met.O.Sink.rest_none c.args.out.now
-
-pub returns-in-Ok-clause-rest : goal.returns-in-Ok-clause-rest
-returns-in-Ok-clause-rest g c = c.undo_last.ensures.rest
+pub returns-in-Err : goal.returns-in-Err
+returns-in-Err g c = record {
+  steps = steps_stop c.in-Err.fault (λ f. undoing_by (save_name (suc c.args.before)) (entries_of c.args.save.now) (after (lowering c.args.before) f)) (λ f. tally c.args.before c.args.all) (c.in-Err.ensures (g.O.Sink.view c.args.out.now));
+  rest = g.met.O.Sink.rest_none c.args.out.now;
+}
 
 pub undo_last-requires-clause-save : goal.undo_last-requires-clause-save
 undo_last-requires-clause-save g c = c.requires.save

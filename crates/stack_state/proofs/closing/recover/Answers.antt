@@ -7,22 +7,22 @@ use Rattle.stack_state.proofs.Stepping.{steps_is, steps_none}
 use Rattle.stack_state.proofs.Restoring.{none-undone}
 use Rattle.stack_state.proofs.closing.recover.Goals as goal
 
-pub returns-in-None-clause-steps : goal.returns-in-None-clause-steps
-returns-in-None-clause-steps g c =
-    let n = c.args.applied in
-    steps_is _ (undoing (suc n)) (λ f. recovered_text n (undoing (suc n) f))
-    (λ f told. none-undone (suc n) f (c.requires.held f told ∙ ap (λ o. option_map vec_items o) c.in-None.is))
-    (λ f told. ap (λ (es : List Effect). recovered_text n es) (none-undone (suc n) f (c.requires.held f told ∙ ap (λ o. option_map vec_items o) c.in-None.is)))
-    (steps_none (g.T.Tree.view c.args.tree.now) (g.O.Sink.view c.args.out.now) tt c.requires.quiet)
+pub returns-in-None : goal.returns-in-None
+returns-in-None g c = record {
+  steps = (
+      let n = c.args.applied in
+      steps_is _ (undoing (suc n)) (λ f. recovered_text n (undoing (suc n) f))
+      (λ f told. none-undone (suc n) f (c.requires.held f told ∙ ap (λ o. option_map vec_items o) c.in-None.is))
+      (λ f told. ap (λ (es : List Effect). recovered_text n es) (none-undone (suc n) f (c.requires.held f told ∙ ap (λ o. option_map vec_items o) c.in-None.is)))
+      (steps_none (g.T.Tree.view c.args.tree.now) (g.O.Sink.view c.args.out.now) tt c.requires.quiet));
+  rest = g.met.O.Sink.rest_none c.args.out.now;
+}
 
-pub returns-in-None-clause-rest : goal.returns-in-None-clause-rest
-returns-in-None-clause-rest g c = g.met.O.Sink.rest_none c.args.out.now
-
-pub returns-in-Some-clause-rest : goal.returns-in-Some-clause-rest
-returns-in-Some-clause-rest g c = c.recover_by.ensures.rest
-
-pub returns-in-Some-clause-steps : goal.returns-in-Some-clause-steps
-returns-in-Some-clause-steps g c = c.recover_by.ensures.steps
+pub returns-in-Some : goal.returns-in-Some
+returns-in-Some g c = record {
+  steps = c.recover_by.ensures.steps;
+  rest = c.recover_by.ensures.rest;
+}
 
 pub recover_by-requires-clause-few : goal.recover_by-requires-clause-few
 recover_by-requires-clause-few g c = c.requires.few

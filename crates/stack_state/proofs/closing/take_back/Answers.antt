@@ -6,19 +6,20 @@ use Rattle.series_stack.specs.Outcomes.{lowering, said, tally}
 use Rattle.stack_state.proofs.Stepping.{says, says_not, steps_stop, steps_then}
 use Rattle.stack_state.proofs.closing.take_back.Goals as goal
 
-pub returns-in-Ok-clause-steps : goal.returns-in-Ok-clause-steps
-returns-in-Ok-clause-steps g c = steps_then c.in-Ok.field-0 c.lower.result (says (g.T.Tree.view c.args.tree.now) c.in-Ok.field-0 c.in-Ok.field-0 (said (codes "Removing patch ") c.args.name.now) c.requires.quiet c.in-Ok.ensures.writes) c.lower.ensures.steps
+pub returns-in-Ok : goal.returns-in-Ok
+returns-in-Ok g c = record {
+  steps = steps_then c.in-Ok.field-0 c.lower.result (says (g.T.Tree.view c.args.tree.now) c.in-Ok.field-0 c.in-Ok.field-0 (said (codes "Removing patch ") c.args.name.now) c.requires.quiet c.in-Ok.ensures.writes) c.lower.ensures.steps;
+  rest = g.met.O.Sink.rest_both _ _ _ c.say_removing.ensures.rest c.lower.ensures.rest;
+}
 
-pub returns-in-Err-clause-steps : goal.returns-in-Err-clause-steps
-returns-in-Err-clause-steps g c = steps_stop {R = Unit {0}} _
-    (λ f. lowering c.args.before ∷ undoing_by (save_name (suc c.args.before)) (entries_of c.args.save.now) (after (lowering c.args.before) f)) (λ f. tally c.args.before c.args.all)
-    (says_not (g.T.Tree.view c.args.tree.now) c.in-Err.field-0 (said (codes "Removing patch ") c.args.name.now) c.requires.quiet c.in-Err.ensures.writes)
-
-pub returns-in-Ok-clause-rest : goal.returns-in-Ok-clause-rest
-returns-in-Ok-clause-rest g c = g.met.O.Sink.rest_both _ _ _ c.say_removing.ensures.rest c.lower.ensures.rest
-
-pub returns-in-Err-clause-rest : goal.returns-in-Err-clause-rest
-returns-in-Err-clause-rest g c = c.say_removing.ensures.rest
+pub returns-in-Err : goal.returns-in-Err
+returns-in-Err g c = record {
+  steps = (
+      steps_stop {R = Unit {0}} _
+      (λ f. lowering c.args.before ∷ undoing_by (save_name (suc c.args.before)) (entries_of c.args.save.now) (after (lowering c.args.before) f)) (λ f. tally c.args.before c.args.all)
+      (says_not (g.T.Tree.view c.args.tree.now) c.in-Err.field-0 (said (codes "Removing patch ") c.args.name.now) c.requires.quiet c.in-Err.ensures.writes));
+  rest = c.say_removing.ensures.rest;
+}
 
 pub lower-requires-clause-there : goal.lower-requires-clause-there
 lower-requires-clause-there g c = c.requires.there

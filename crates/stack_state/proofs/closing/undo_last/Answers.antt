@@ -8,25 +8,25 @@ use Rattle.stack_state.proofs.Stepping.{one_more, steps_is, then_said, unsaid}
 use Rattle.stack_state.proofs.Restoring.{undone-there}
 use Rattle.stack_state.proofs.closing.undo_last.Goals as goal
 
-pub returns-in-Ok-clause-steps : goal.returns-in-Ok-clause-steps
-returns-in-Ok-clause-steps g c =
-    let n = suc c.args.before in
-    let save = c.args.save.now in
-    steps_is c.said.result (undoing_by (save_name n) (entries_of save)) (λ f. tally c.args.before c.args.all) (λ f told. sym (undone-there save n f c.requires.save (c.requires.there f told))) (λ f told. refl)
-    (one_more (λ k. Steps {R = Unit {0}} (g.T.Tree.view c.args.tree.now) (g.T.Tree.view c.undo.new.tree) (g.O.Sink.view c.args.out.now) (g.O.Sink.view c.say_tally.new.out) c.said.result (undone_by (save_name k) (entries_of save)) (λ f. tally c.args.before c.args.all)) c.args.before (then_said c.in-Ok.field-0 (tally c.args.before c.args.all) c.say_tally.result c.said.result c.said.ensures (c.in-Ok.ensures (g.O.Sink.view c.args.out.now)) c.say_tally.ensures.writes))
+pub returns-in-Ok : goal.returns-in-Ok
+returns-in-Ok g c = record {
+  steps = (
+      let n = suc c.args.before in
+      let save = c.args.save.now in
+      steps_is c.said.result (undoing_by (save_name n) (entries_of save)) (λ f. tally c.args.before c.args.all) (λ f told. sym (undone-there save n f c.requires.save (c.requires.there f told))) (λ f told. refl)
+      (one_more (λ k. Steps {R = Unit {0}} (g.T.Tree.view c.args.tree.now) (g.T.Tree.view c.undo.new.tree) (g.O.Sink.view c.args.out.now) (g.O.Sink.view c.say_tally.new.out) c.said.result (undone_by (save_name k) (entries_of save)) (λ f. tally c.args.before c.args.all)) c.args.before (then_said c.in-Ok.field-0 (tally c.args.before c.args.all) c.say_tally.result c.said.result c.said.ensures (c.in-Ok.ensures (g.O.Sink.view c.args.out.now)) c.say_tally.ensures.writes)));
+  rest = c.say_tally.ensures.rest;
+}
 
-pub returns-in-Err-clause-steps : goal.returns-in-Err-clause-steps
-returns-in-Err-clause-steps g c =
-    let n = suc c.args.before in
-    let save = c.args.save.now in
-    steps_is {R = Unit {0}} (Err c.in-Err.fault) (undoing_by (save_name n) (entries_of save)) (λ f. tally c.args.before c.args.all) (λ f told. sym (undone-there save n f c.requires.save (c.requires.there f told))) (λ f told. refl)
-    (one_more (λ k. Steps {R = Unit {0}} (g.T.Tree.view c.args.tree.now) (g.T.Tree.view c.undo.new.tree) (g.O.Sink.view c.args.out.now) (g.O.Sink.view c.args.out.now) (Err c.in-Err.fault) (undone_by (save_name k) (entries_of save)) (λ f. tally c.args.before c.args.all)) c.args.before (unsaid {S = Unit {0}} c.in-Err.fault (tally c.args.before c.args.all) (c.in-Err.ensures (g.O.Sink.view c.args.out.now))))
-
-pub returns-in-Err-clause-rest : goal.returns-in-Err-clause-rest
-returns-in-Err-clause-rest g c = g.met.O.Sink.rest_none c.args.out.now
-
-pub returns-in-Ok-clause-rest : goal.returns-in-Ok-clause-rest
-returns-in-Ok-clause-rest g c = c.say_tally.ensures.rest
+pub returns-in-Err : goal.returns-in-Err
+returns-in-Err g c = record {
+  steps = (
+      let n = suc c.args.before in
+      let save = c.args.save.now in
+      steps_is {R = Unit {0}} (Err c.in-Err.fault) (undoing_by (save_name n) (entries_of save)) (λ f. tally c.args.before c.args.all) (λ f told. sym (undone-there save n f c.requires.save (c.requires.there f told))) (λ f told. refl)
+      (one_more (λ k. Steps {R = Unit {0}} (g.T.Tree.view c.args.tree.now) (g.T.Tree.view c.undo.new.tree) (g.O.Sink.view c.args.out.now) (g.O.Sink.view c.args.out.now) (Err c.in-Err.fault) (undone_by (save_name k) (entries_of save)) (λ f. tally c.args.before c.args.all)) c.args.before (unsaid {S = Unit {0}} c.in-Err.fault (tally c.args.before c.args.all) (c.in-Err.ensures (g.O.Sink.view c.args.out.now)))));
+  rest = g.met.O.Sink.rest_none c.args.out.now;
+}
 
 pub undo-requires-clause-save : goal.undo-requires-clause-save
 undo-requires-clause-save g c = c.requires.save

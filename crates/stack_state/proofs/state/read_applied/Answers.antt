@@ -11,30 +11,29 @@ use Rattle.std.specs.FinMap.{get}
 use Rattle.stack_state.proofs.Held.{text_cause}
 use Rattle.stack_state.proofs.state.read_applied.Goals as goal
 
-pub returns-in-Some-clause-cause : goal.returns-in-Some-clause-cause
-returns-in-Some-clause-cause g c =
-    let u = g.T.Tree.view c.args.tree.now in
-    let w = g.T.Tree.view c.read_whole.new.tree in
-    let text = c.deref.result.now in
-    IfErr-weaker c.counted.result (λ e. (e ≡ Bad Count) × (count_in c.args.most (Some text) ≡ None)) (λ e. HasCause e u w (λ f. applied_in c.args.most (get f count_name)))
-    (λ e bad. text_cause e Count u w (λ f. applied_in c.args.most (get f count_name))
-    (λ none f told. ap (applied_in c.args.most) (ap (λ (n : List ℕ). get f n) (sym c.in_ok-name.ensures) ∙ c.in_ok-text.ensures.bytes f told ∙ ap (option_map vec_items) c.in-Some.is ∙ ap Some (sym c.deref.ensures.value)) ∙ ap numbered_in none)
-    (inr bad))
-    c.counted.ensures.cause
-
-pub returns-in-Some-clause-applied : goal.returns-in-Some-clause-applied
-returns-in-Some-clause-applied g c =
-    let u = g.T.Tree.view c.args.tree.now in
-    let text = c.deref.result.now in
-    IfOk-weaker c.counted.result (λ n. count_in c.args.most (Some text) ≡ Some n) (λ n. (f : Files) → u.told ≡ Some f → applied_in c.args.most (get f count_name) ≡ Ok n)
-    (λ n is f told. ap (applied_in c.args.most) (ap (λ (n : List ℕ). get f n) (sym c.in_ok-name.ensures) ∙ c.in_ok-text.ensures.bytes f told ∙ ap (option_map vec_items) c.in-Some.is ∙ ap Some (sym c.deref.ensures.value)) ∙ ap numbered_in is)
-    c.counted.ensures.count
+pub returns-in-Some : goal.returns-in-Some
+returns-in-Some g c = record {
+  untouched = c.read_whole.ensures.untouched;
+  applied = (
+      let u = g.T.Tree.view c.args.tree.now in
+      let text = c.deref.result.now in
+      IfOk-weaker c.counted.result (λ n. count_in c.args.most (Some text) ≡ Some n) (λ n. (f : Files) → u.told ≡ Some f → applied_in c.args.most (get f count_name) ≡ Ok n)
+      (λ n is f told. ap (applied_in c.args.most) (ap (λ (n : List ℕ). get f n) (sym c.in_ok-name.ensures) ∙ c.in_ok-text.ensures.bytes f told ∙ ap (option_map vec_items) c.in-Some.is ∙ ap Some (sym c.deref.ensures.value)) ∙ ap numbered_in is)
+      c.counted.ensures.count);
+  few = c.counted.ensures.few;
+  cause = (
+      let u = g.T.Tree.view c.args.tree.now in
+      let w = g.T.Tree.view c.read_whole.new.tree in
+      let text = c.deref.result.now in
+      IfErr-weaker c.counted.result (λ e. (e ≡ Bad Count) × (count_in c.args.most (Some text) ≡ None)) (λ e. HasCause e u w (λ f. applied_in c.args.most (get f count_name)))
+      (λ e bad. text_cause e Count u w (λ f. applied_in c.args.most (get f count_name))
+      (λ none f told. ap (applied_in c.args.most) (ap (λ (n : List ℕ). get f n) (sym c.in_ok-name.ensures) ∙ c.in_ok-text.ensures.bytes f told ∙ ap (option_map vec_items) c.in-Some.is ∙ ap Some (sym c.deref.ensures.value)) ∙ ap numbered_in none)
+      (inr bad))
+      c.counted.ensures.cause);
+}
 
 pub returns-clause-applied : goal.returns-clause-applied
 returns-clause-applied g c = λ f told. ap (applied_in c.args.most) (ap (λ (n : List ℕ). get f n) (sym c.in_ok-name.ensures) ∙ c.in_ok-text.ensures.bytes f told ∙ ap (option_map vec_items) c.in-None.is)
-
-pub returns-in-Some-clause-few : goal.returns-in-Some-clause-few
-returns-in-Some-clause-few g c = c.counted.ensures.few
 
 pub returns-in_err-text-clause-cause : goal.returns-in_err-text-clause-cause
 returns-in_err-text-clause-cause g c =
@@ -42,9 +41,6 @@ returns-in_err-text-clause-cause g c =
     let w = g.T.Tree.view c.read_whole.new.tree in
     let e = c.in_err-text.field-0.0 in
     err-still (λ x. HasCause x u w (λ f. applied_in c.args.most (get f count_name))) e c.from_residual-in_err-text.result c.from_residual-in_err-text.ensures.1 (read-cause e u w (λ f. applied_in c.args.most (get f count_name)) c.in_err-text.ensures.cause)
-
-pub returns-in-Some-clause-untouched : goal.returns-in-Some-clause-untouched
-returns-in-Some-clause-untouched g c = c.read_whole.ensures.untouched
 
 pub returns-clause-untouched : goal.returns-clause-untouched
 returns-clause-untouched g c = c.read_whole.ensures.untouched

@@ -12,27 +12,34 @@ use Rattle.series_stack.specs.Series.{series_of}
 use Rattle.stack_state.proofs.Held.{text_cause}
 use Rattle.stack_state.proofs.state.read_patches.Goals as goal
 
-pub returns-in-Some-clause-cause : goal.returns-in-Some-clause-cause
-returns-in-Some-clause-cause g c =
-    let u = g.T.Tree.view c.args.tree.now in
-    let w = g.T.Tree.view c.read_whole.new.tree in
-    let text = c.deref.result.now in
-    IfErr-weaker c.listed.result (λ e. (e ≡ Memory) ⊎ ((e ≡ Bad Series) × (series_of text ≡ None))) (λ e. HasCause e u w (λ f. patches_in (get f series_name)))
-    (λ e bad. text_cause e Series u w (λ f. patches_in (get f series_name))
-    (λ none f told. ap patches_in (ap (λ (n : List ℕ). get f n) (sym c.in_ok-name.ensures) ∙ c.in_ok-text.ensures.bytes f told ∙ ap (option_map vec_items) c.in-Some.is ∙ ap Some (sym c.deref.ensures.value)) ∙ ap listed_in none)
-    bad)
-    c.listed.ensures.cause
+pub returns-in-Some : goal.returns-in-Some
+returns-in-Some g c = record {
+  untouched = c.read_whole.ensures.untouched;
+  patches = (
+      let u = g.T.Tree.view c.args.tree.now in
+      let text = c.deref.result.now in
+      IfOk-weaker c.listed.result (λ names. series_of text ≡ Some names.items) (λ names. (f : Files) → u.told ≡ Some f → patches_in (get f series_name) ≡ Ok names.items)
+      (λ names is f told. ap patches_in (ap (λ (n : List ℕ). get f n) (sym c.in_ok-name.ensures) ∙ c.in_ok-text.ensures.bytes f told ∙ ap (option_map vec_items) c.in-Some.is ∙ ap Some (sym c.deref.ensures.value)) ∙ ap listed_in is)
+      c.listed.ensures.patches);
+  few = c.listed.ensures.few;
+  cause = (
+      let u = g.T.Tree.view c.args.tree.now in
+      let w = g.T.Tree.view c.read_whole.new.tree in
+      let text = c.deref.result.now in
+      IfErr-weaker c.listed.result (λ e. (e ≡ Memory) ⊎ ((e ≡ Bad Series) × (series_of text ≡ None))) (λ e. HasCause e u w (λ f. patches_in (get f series_name)))
+      (λ e bad. text_cause e Series u w (λ f. patches_in (get f series_name))
+      (λ none f told. ap patches_in (ap (λ (n : List ℕ). get f n) (sym c.in_ok-name.ensures) ∙ c.in_ok-text.ensures.bytes f told ∙ ap (option_map vec_items) c.in-Some.is ∙ ap Some (sym c.deref.ensures.value)) ∙ ap listed_in none)
+      bad)
+      c.listed.ensures.cause);
+}
 
-pub returns-in-Some-clause-patches : goal.returns-in-Some-clause-patches
-returns-in-Some-clause-patches g c =
-    let u = g.T.Tree.view c.args.tree.now in
-    let text = c.deref.result.now in
-    IfOk-weaker c.listed.result (λ names. series_of text ≡ Some names.items) (λ names. (f : Files) → u.told ≡ Some f → patches_in (get f series_name) ≡ Ok names.items)
-    (λ names is f told. ap patches_in (ap (λ (n : List ℕ). get f n) (sym c.in_ok-name.ensures) ∙ c.in_ok-text.ensures.bytes f told ∙ ap (option_map vec_items) c.in-Some.is ∙ ap Some (sym c.deref.ensures.value)) ∙ ap listed_in is)
-    c.listed.ensures.patches
-
-pub returns-clause-cause : goal.returns-clause-cause
-returns-clause-cause g c = λ f told. ap patches_in (ap (λ (n : List ℕ). get f n) (sym c.in_ok-name.ensures) ∙ c.in_ok-text.ensures.bytes f told ∙ ap (option_map vec_items) c.in-None.is)
+pub returns : goal.returns
+returns g c = record {
+  untouched = c.read_whole.ensures.untouched;
+  patches = tt;
+  few = tt;
+  cause = λ f told. ap patches_in (ap (λ (n : List ℕ). get f n) (sym c.in_ok-name.ensures) ∙ c.in_ok-text.ensures.bytes f told ∙ ap (option_map vec_items) c.in-None.is);
+}
 
 pub returns-in_err-text-clause-cause : goal.returns-in_err-text-clause-cause
 returns-in_err-text-clause-cause g c =
@@ -41,20 +48,5 @@ returns-in_err-text-clause-cause g c =
     let e = c.in_err-text.field-0.0 in
     err-still (λ x. HasCause x u w (λ f. patches_in (get f series_name))) e c.from_residual-in_err-text.result c.from_residual-in_err-text.ensures.1 (read-cause e u w (λ f. patches_in (get f series_name)) c.in_err-text.ensures.cause)
 
-pub returns-in-Some-clause-untouched : goal.returns-in-Some-clause-untouched
-returns-in-Some-clause-untouched g c = c.read_whole.ensures.untouched
-
-pub returns-in-Some-clause-few : goal.returns-in-Some-clause-few
-returns-in-Some-clause-few g c = c.listed.ensures.few
-
-pub returns-clause-untouched : goal.returns-clause-untouched
-returns-clause-untouched g c = c.read_whole.ensures.untouched
-
 pub returns-in_err-text-clause-untouched : goal.returns-in_err-text-clause-untouched
 returns-in_err-text-clause-untouched g c = c.read_whole.ensures.untouched
-
-pub returns-clause-patches : goal.returns-clause-patches
-returns-clause-patches g c = tt
-
-pub returns-clause-few : goal.returns-clause-few
-returns-clause-few g c = tt

@@ -5,14 +5,16 @@ use Rattle.outside.specs.Files.{bytes_at}
 use Rattle.stack_state.proofs.Saving.{err-still}
 use Rattle.stack_state.proofs.whole.read_file.Goals as goal
 
-pub returns-clause-bytes : goal.returns-clause-bytes
-returns-clause-bytes g c = λ f told. c.requires.there f told ∙ ap Some (sym (buffer-whole c.read_into.new.buf c.in_ok-text.text.items (bytes_at f c.args.name.now) c.in_ok-text.text.len (c.read_into.auto.buf ∙ c.deref_mut.ensures.len) (c.in_ok-read_into.ensures.bytes f told)))
+pub returns : goal.returns
+returns g c = record {
+  untouched = c.read_into.ensures.untouched;
+  bytes = λ f told. c.requires.there f told ∙ ap Some (sym (buffer-whole c.read_into.new.buf c.in_ok-text.text.items (bytes_at f c.args.name.now) c.in_ok-text.text.len (c.read_into.auto.buf ∙ c.deref_mut.ensures.len) (c.in_ok-read_into.ensures.bytes f told)));
+  cause = tt;
+  size = tt;
+}
 
 pub read_into-requires-clause-long : goal.read_into-requires-clause-long
 read_into-requires-clause-long g c = λ f told. ap (λ (l : List ℕ). length l) c.deref_mut.ensures.value ∙ c.in_ok-text.ensures ∙ c.requires.long f told
-
-pub returns-clause-untouched : goal.returns-clause-untouched
-returns-clause-untouched g c = c.read_into.ensures.untouched
 
 pub read_into-requires-clause-there : goal.read_into-requires-clause-there
 read_into-requires-clause-there g c = λ f told. ap is_some (c.requires.there f told)
@@ -25,9 +27,3 @@ returns-in_err-read_into-clause-cause g c = err-still (λ e. HasReadCause e (g.T
 
 pub returns-in_err-read_into-clause-untouched : goal.returns-in_err-read_into-clause-untouched
 returns-in_err-read_into-clause-untouched g c = c.read_into.ensures.untouched
-
-pub returns-clause-cause : goal.returns-clause-cause
-returns-clause-cause g c = tt
-
-pub returns-clause-size : goal.returns-clause-size
-returns-clause-size g c = tt

@@ -5,13 +5,18 @@ use Rattle.outside.specs.Files.{bytes_at}
 use Rattle.stack_state.proofs.Held.{whole-came}
 use Rattle.stack_state.proofs.whole.read_into.Goals as goal
 
-pub returns-in-Err-came-clause-cause : goal.returns-in-Err-came-clause-cause
-returns-in-Err-came-clause-cause g c =
-    let fewer = c.in-Err-came.ensures.fewer in
-    rw fewer.0 (
-      omega (arith, fewer.1),
-      fewer_untold (g.T.Tree.view c.args.tree.now) c.args.name.now c.args.buf.now c.read_at.new.buf c.in-Ok.count (omega (arith, fewer.1)) c.read_at.auto.buf c.requires.long c.in-Ok.ensures.bytes,
-    )
+pub returns-in-Err-came : goal.returns-in-Err-came
+returns-in-Err-came g c = record {
+  untouched = c.in-Ok.ensures.untouched;
+  bytes = tt;
+  cause = (
+      let fewer = c.in-Err-came.ensures.fewer in
+      rw fewer.0 (
+        omega (arith, fewer.1),
+        fewer_untold (g.T.Tree.view c.args.tree.now) c.args.name.now c.args.buf.now c.read_at.new.buf c.in-Ok.count (omega (arith, fewer.1)) c.read_at.auto.buf c.requires.long c.in-Ok.ensures.bytes,
+      ));
+  size = subst (HasSize (length c.args.buf.now)) (sym c.in-Err-came.ensures.fewer.0) c.read_at.auto.buf;
+}
 
 pub returns-in-Ok-came-clause-bytes : goal.returns-in-Ok-came-clause-bytes
 returns-in-Ok-came-clause-bytes g c = λ f told. whole-came c.args.buf.now c.read_at.new.buf (bytes_at f c.args.name.now) c.in-Ok.count c.read_at.auto.buf (subst (λ n. n ≤ c.in-Ok.count) c.read_at.auto.buf c.in-Ok-came.ensures.whole) (c.requires.long f told) (c.in-Ok.ensures.bytes f told)
@@ -19,17 +24,8 @@ returns-in-Ok-came-clause-bytes g c = λ f told. whole-came c.args.buf.now c.rea
 pub returns-in-Err-clause-cause : goal.returns-in-Err-clause-cause
 returns-in-Err-clause-cause g c = c.in-Err.ensures.call.cause refl
 
-pub returns-in-Err-came-clause-size : goal.returns-in-Err-came-clause-size
-returns-in-Err-came-clause-size g c = subst (HasSize (length c.args.buf.now)) (sym c.in-Err-came.ensures.fewer.0) c.read_at.auto.buf
-
-pub returns-in-Err-came-clause-untouched : goal.returns-in-Err-came-clause-untouched
-returns-in-Err-came-clause-untouched g c = c.in-Ok.ensures.untouched
-
 pub returns-in-Ok-came-clause-untouched : goal.returns-in-Ok-came-clause-untouched
 returns-in-Ok-came-clause-untouched g c = c.in-Ok.ensures.untouched
 
 pub returns-in-Err-clause-untouched : goal.returns-in-Err-clause-untouched
 returns-in-Err-clause-untouched g c = c.in-Err.ensures.untouched
-
-pub returns-in-Err-came-clause-bytes : goal.returns-in-Err-came-clause-bytes
-returns-in-Err-came-clause-bytes g c = tt

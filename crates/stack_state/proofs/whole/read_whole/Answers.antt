@@ -6,21 +6,19 @@ use Rattle.stack_state.proofs.Held.{held_long, held_there, none_there, read_firs
 use Rattle.std.proofs.Common.{option_map, refl, sym, vec_items, ◌∙◌, ◌≡◌}
 use Rattle.stack_state.proofs.whole.read_whole.Goals as goal
 
-pub returns-in-Ok-Some-clause-untouched : goal.returns-in-Ok-Some-clause-untouched
-returns-in-Ok-Some-clause-untouched g c = untouched_both c.size.ensures.untouched c.read_file.ensures.untouched
-
-pub returns-in-Ok-Some-clause-cause : goal.returns-in-Ok-Some-clause-cause
-returns-in-Ok-Some-clause-cause g c =
-    let u = g.T.Tree.view c.args.tree.now in
-    let v = g.T.Tree.view c.size.new.self in
-    let w = g.T.Tree.view c.read_file.new.tree in
-    IfErr-weaker c.read_file.result (λ e. HasReadCause e v w) (λ e. HasReadCause e u w) (λ e h. read_first e u v w c.in-Ok-Some.ensures.untouched h) c.read_file.ensures.cause
+pub returns-in-Ok-Some : goal.returns-in-Ok-Some
+returns-in-Ok-Some g c = record {
+  untouched = untouched_both c.size.ensures.untouched c.read_file.ensures.untouched;
+  bytes = told_first c.read_file.result (g.T.Tree.view c.args.tree.now) (g.T.Tree.view c.size.new.self) (λ held f. get f c.args.name.now ≡ option_map vec_items held) c.in-Ok-Some.ensures.untouched c.read_file.ensures.bytes;
+  cause = (
+      let u = g.T.Tree.view c.args.tree.now in
+      let v = g.T.Tree.view c.size.new.self in
+      let w = g.T.Tree.view c.read_file.new.tree in
+      IfErr-weaker c.read_file.result (λ e. HasReadCause e v w) (λ e. HasReadCause e u w) (λ e h. read_first e u v w c.in-Ok-Some.ensures.untouched h) c.read_file.ensures.cause);
+}
 
 pub returns-in-Err-clause-cause : goal.returns-in-Err-clause-cause
 returns-in-Err-clause-cause g c = c.in-Err.ensures.call.cause refl
-
-pub returns-in-Ok-Some-clause-bytes : goal.returns-in-Ok-Some-clause-bytes
-returns-in-Ok-Some-clause-bytes g c = told_first c.read_file.result (g.T.Tree.view c.args.tree.now) (g.T.Tree.view c.size.new.self) (λ held f. get f c.args.name.now ≡ option_map vec_items held) c.in-Ok-Some.ensures.untouched c.read_file.ensures.bytes
 
 pub read_file-requires-clause-long : goal.read_file-requires-clause-long
 read_file-requires-clause-long g c = λ f told.

@@ -44,8 +44,8 @@ returns-clause-ranges c =
 pub returns-in-None-item_of-clause-ranges : goal.returns-in-None-item_of-clause-ranges
 returns-in-None-item_of-clause-ranges c = tt
 
-pub returns-in_err-push-in-Some-item_of-clause-ranges : goal.returns-in_err-push-in-Some-item_of-clause-ranges
-returns-in_err-push-in-Some-item_of-clause-ranges c = if_ok_none _ _ c.from_residual.result c.from_residual.ensures.1
-
-pub returns-in_err-push-in-Some-item_of-clause-refused : goal.returns-in_err-push-in-Some-item_of-clause-refused
-returns-in_err-push-in-Some-item_of-clause-refused c = passed_up c.from_residual.result Memory _ c.from_residual.ensures.1 (inl refl)
+pub returns-in_err-push-in-Some-item_of : goal.returns-in_err-push-in-Some-item_of
+returns-in_err-push-in-Some-item_of c = record {
+  ranges = if_ok_none _ _ c.from_residual.result c.from_residual.ensures.1;
+  refused = passed_up c.from_residual.result Memory _ c.from_residual.ensures.1 (inl refl);
+}

@@ -7,17 +7,33 @@ use Rattle.patch_options.proofs.Refusing.{refused_as, no_left, no_right, all_yes
 use Rattle.tool_words.specs.PlainJobs.PlainToolJob.{grep_job}
 use Rattle.tool_words.proofs.readers.grep_of.Goals as goal
 
-pub returns-then-not-is_single-clause-refused : goal.returns-then-not-is_single-clause-refused
-returns-then-not-is_single-clause-refused c = inr (refl, no_left _ _ (no_left _ _ (sym c.is_single.ensures ∙ c.if-not-is_single.true)))
+pub returns-then-not-is_single : goal.returns-then-not-is_single
+returns-then-not-is_single c = record {
+  job = tt;
+  lawful = tt;
+  refused = inr (refl, no_left _ _ (no_left _ _ (sym c.is_single.ensures ∙ c.if-not-is_single.true)));
+}
 
-pub returns-in_default-clause-refused : goal.returns-in_default-clause-refused
-returns-in_default-clause-refused c = inr (refl, no_left _ _ (no_right _ _ (ap (λ (text : Option Text). is_some text) (sym c.in_default.ensures))))
+pub returns-in_default : goal.returns-in_default
+returns-in_default c = record {
+  job = tt;
+  lawful = tt;
+  refused = inr (refl, no_left _ _ (no_right _ _ (ap (λ (text : Option Text). is_some text) (sym c.in_default.ensures))));
+}
 
-pub returns-in_default-output_in-clause-refused : goal.returns-in_default-output_in-clause-refused
-returns-in_default-output_in-clause-refused c = inr (refl, no_right _ _ (no_left _ _ (sym c.in_default-output_in.ensures.lawful)))
+pub returns-in_default-output_in : goal.returns-in_default-output_in
+returns-in_default-output_in c = record {
+  job = tt;
+  lawful = tt;
+  refused = inr (refl, no_right _ _ (no_left _ _ (sym c.in_default-output_in.ensures.lawful)));
+}
 
-pub returns-in-Err-clause-refused : goal.returns-in-Err-clause-refused
-returns-in-Err-clause-refused c = refused_as c.in-Err.fault _ _ (λ none. no_right _ _ (no_right _ _ none)) c.in-Err.ensures.refused
+pub returns-in-Err : goal.returns-in-Err
+returns-in-Err c = record {
+  job = tt;
+  lawful = tt;
+  refused = refused_as c.in-Err.fault _ _ (λ none. no_right _ _ (no_right _ _ none)) c.in-Err.ensures.refused;
+}
 
 pub returns-in-Ok-clause-job : goal.returns-in-Ok-clause-job
 returns-in-Ok-clause-job c = λ i. grep_job (record {
@@ -35,35 +51,9 @@ returns-in-Ok-clause-lawful c =
 pub returns-in-Ok-clause-refused : goal.returns-in-Ok-clause-refused
 returns-in-Ok-clause-refused c = tt
 
-pub returns-in_err-pattern-clause-job : goal.returns-in_err-pattern-clause-job
-returns-in_err-pattern-clause-job c = if_ok_none _ _ c.from_residual.result c.from_residual.ensures.1
-
-pub returns-in_err-pattern-clause-lawful : goal.returns-in_err-pattern-clause-lawful
-returns-in_err-pattern-clause-lawful c = if_ok_none _ _ c.from_residual.result c.from_residual.ensures.1
-
-pub returns-in_err-pattern-clause-refused : goal.returns-in_err-pattern-clause-refused
-returns-in_err-pattern-clause-refused c = passed_up c.from_residual.result Memory _ c.from_residual.ensures.1 (inl refl)
-
-pub returns-in-Err-clause-job : goal.returns-in-Err-clause-job
-returns-in-Err-clause-job c = tt
-
-pub returns-in-Err-clause-lawful : goal.returns-in-Err-clause-lawful
-returns-in-Err-clause-lawful c = tt
-
-pub returns-in_default-clause-job : goal.returns-in_default-clause-job
-returns-in_default-clause-job c = tt
-
-pub returns-in_default-clause-lawful : goal.returns-in_default-clause-lawful
-returns-in_default-clause-lawful c = tt
-
-pub returns-in_default-output_in-clause-job : goal.returns-in_default-output_in-clause-job
-returns-in_default-output_in-clause-job c = tt
-
-pub returns-in_default-output_in-clause-lawful : goal.returns-in_default-output_in-clause-lawful
-returns-in_default-output_in-clause-lawful c = tt
-
-pub returns-then-not-is_single-clause-job : goal.returns-then-not-is_single-clause-job
-returns-then-not-is_single-clause-job c = tt
-
-pub returns-then-not-is_single-clause-lawful : goal.returns-then-not-is_single-clause-lawful
-returns-then-not-is_single-clause-lawful c = tt
+pub returns-in_err-pattern : goal.returns-in_err-pattern
+returns-in_err-pattern c = record {
+  job = if_ok_none _ _ c.from_residual.result c.from_residual.ensures.1;
+  lawful = if_ok_none _ _ c.from_residual.result c.from_residual.ensures.1;
+  refused = passed_up c.from_residual.result Memory _ c.from_residual.ensures.1 (inl refl);
+}

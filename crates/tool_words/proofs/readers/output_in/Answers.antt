@@ -7,14 +7,14 @@ use Rattle.tool_words.specs.declared.jobs.GrepOut.TheVariants.{Names}
 use Rattle.tool_words.proofs.Making.{given_or}
 use Rattle.tool_words.proofs.readers.output_in.Goals as goal
 
-pub returns-in-Some-clause-output : goal.returns-in-Some-clause-output
-returns-in-Some-clause-output c = given_or c.grep_out_of.result _ Names (c.grep_out_of.ensures ∙ ap (option_and_then grep_out_of) c.in-Some.ensures)
+pub returns-in-Some : goal.returns-in-Some
+returns-in-Some c = record {
+  output = given_or c.grep_out_of.result _ Names (c.grep_out_of.ensures ∙ ap (option_and_then grep_out_of) c.in-Some.ensures);
+  lawful = ap (λ (o : Option GrepOut). is_some o) c.grep_out_of.ensures ∙ ap (has_form is_grep_out) c.in-Some.ensures;
+}
 
-pub returns-in-Some-clause-lawful : goal.returns-in-Some-clause-lawful
-returns-in-Some-clause-lawful c = ap (λ (o : Option GrepOut). is_some o) c.grep_out_of.ensures ∙ ap (has_form is_grep_out) c.in-Some.ensures
-
-pub returns-in-None-clause-output : goal.returns-in-None-clause-output
-returns-in-None-clause-output c = ap (λ (text : Option Text). unwrap_or (option_and_then grep_out_of text) Names) c.in-None.ensures
-
-pub returns-in-None-clause-lawful : goal.returns-in-None-clause-lawful
-returns-in-None-clause-lawful c = ap (has_form is_grep_out) c.in-None.ensures
+pub returns-in-None : goal.returns-in-None
+returns-in-None c = record {
+  output = ap (λ (text : Option Text). unwrap_or (option_and_then grep_out_of text) Names) c.in-None.ensures;
+  lawful = ap (has_form is_grep_out) c.in-None.ensures;
+}

@@ -10,12 +10,19 @@ use Rattle.tool_words.specs.Selecting.{name_in}
 use Rattle.tool_words.proofs.readers.split_of.Goals as goal
 use Rattle.tool_words.proofs.readers.split_of.Goals.{then-not-is_single-via-then-not-is_single, then-not-is_single-via-else-not-is_single+then-not-is_single-2}
 
-pub returns-in_default-clause-refused : goal.returns-in_default-clause-refused
-returns-in_default-clause-refused c = inr (refl, no_right _ _ (ap (λ (text : Option Text). option_map_or is_split_file text false) (sym c.in_default.ensures)))
+pub returns-in_default : goal.returns-in_default
+returns-in_default c = record {
+  job = tt;
+  lawful = tt;
+  refused = inr (refl, no_right _ _ (ap (λ (text : Option Text). option_map_or is_split_file text false) (sym c.in_default.ensures)));
+}
 
-pub returns-in-Err-clause-refused : goal.returns-in-Err-clause-refused
-returns-in-Err-clause-refused c =
-    refused_as c.in-Err.fault _ _ (λ none. no_right _ _ (ap (λ (text : Option Text). option_map_or is_split_file text false) (sym c.in-Some.ensures) ∙ none)) c.in-Err.ensures.refused
+pub returns-in-Err : goal.returns-in-Err
+returns-in-Err c = record {
+  job = tt;
+  lawful = tt;
+  refused = refused_as c.in-Err.fault _ _ (λ none. no_right _ _ (ap (λ (text : Option Text). option_map_or is_split_file text false) (sym c.in-Some.ensures) ∙ none)) c.in-Err.ensures.refused;
+}
 
 pub returns-in-Ok-clause-job : goal.returns-in-Ok-clause-job
 returns-in-Ok-clause-job c = λ i. split_job (record {
@@ -30,36 +37,22 @@ returns-in-Ok-clause-lawful c =
     (all_yes _ _ (sym c.is_single.ensures ∙ c.if-not-is_single.false) (sym c.is_single-else-not-is_single.ensures ∙ c.if-not-is_single-2.false))
     (ap (λ (text : Option Text). option_map_or is_split_file text false) (sym c.in-Some.ensures) ∙ c.in-Ok.ensures.lawful)
 
-pub returns-then-not-is_single-clause-refused : goal.returns-then-not-is_single-clause-refused
-returns-then-not-is_single-clause-refused c =
-    let rows = rows_in c.args.matches.now in
-    let every = is_single rows (codes "every") in
-    let skips = is_single rows (codes "skip-binary") in
-    inr (
-      refl,
-      no_left (every && skips) (option_map_or is_split_file (value_of rows (codes "file")) false) (elim c.then-not-is_single.branch [
-        | then-not-is_single-via-then-not-is_single w ↦ no_left every skips (sym c.is_single.ensures ∙ w.if-not-is_single.true)
-        | then-not-is_single-via-else-not-is_single+then-not-is_single-2 w ↦ no_right every skips (sym w.is_single-else-not-is_single.ensures ∙ w.if-not-is_single-2.true)
-      ]),
-    )
+pub returns-then-not-is_single : goal.returns-then-not-is_single
+returns-then-not-is_single c = record {
+  job = tt;
+  lawful = tt;
+  refused = (
+      let rows = rows_in c.args.matches.now in
+      let every = is_single rows (codes "every") in
+      let skips = is_single rows (codes "skip-binary") in
+      inr (
+        refl,
+        no_left (every && skips) (option_map_or is_split_file (value_of rows (codes "file")) false) (elim c.then-not-is_single.branch [
+          | then-not-is_single-via-then-not-is_single w ↦ no_left every skips (sym c.is_single.ensures ∙ w.if-not-is_single.true)
+          | then-not-is_single-via-else-not-is_single+then-not-is_single-2 w ↦ no_right every skips (sym w.is_single-else-not-is_single.ensures ∙ w.if-not-is_single-2.true)
+        ]),
+      ));
+}
 
 pub returns-in-Ok-clause-refused : goal.returns-in-Ok-clause-refused
 returns-in-Ok-clause-refused c = tt
-
-pub returns-in-Err-clause-job : goal.returns-in-Err-clause-job
-returns-in-Err-clause-job c = tt
-
-pub returns-in-Err-clause-lawful : goal.returns-in-Err-clause-lawful
-returns-in-Err-clause-lawful c = tt
-
-pub returns-in_default-clause-job : goal.returns-in_default-clause-job
-returns-in_default-clause-job c = tt
-
-pub returns-in_default-clause-lawful : goal.returns-in_default-clause-lawful
-returns-in_default-clause-lawful c = tt
-
-pub returns-then-not-is_single-clause-job : goal.returns-then-not-is_single-clause-job
-returns-then-not-is_single-clause-job c = tt
-
-pub returns-then-not-is_single-clause-lawful : goal.returns-then-not-is_single-clause-lawful
-returns-then-not-is_single-clause-lawful c = tt

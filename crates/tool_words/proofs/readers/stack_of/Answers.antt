@@ -4,20 +4,16 @@ use Rattle.tool_words.specs.declared.jobs.StackOp.{StackOp}
 use Rattle.tool_words.specs.declared.jobs.StackOp.TheVariants.{Applied}
 use Rattle.tool_words.proofs.readers.stack_of.Goals as goal
 
-pub returns-in-Some-clause-job : goal.returns-in-Some-clause-job
-returns-in-Some-clause-job c = ap (λ (o : Option StackOp). stack_job (unwrap_or o Applied)) c.in-Some.ensures
+pub returns-in-Some : goal.returns-in-Some
+returns-in-Some c = record {
+  job = ap (λ (o : Option StackOp). stack_job (unwrap_or o Applied)) c.in-Some.ensures;
+  lawful = ap (λ (o : Option StackOp). is_some o) (sym c.in-Some.ensures);
+  refused = tt;
+}
 
-pub returns-in-Some-clause-lawful : goal.returns-in-Some-clause-lawful
-returns-in-Some-clause-lawful c = ap (λ (o : Option StackOp). is_some o) (sym c.in-Some.ensures)
-
-pub returns-in-Some-clause-refused : goal.returns-in-Some-clause-refused
-returns-in-Some-clause-refused c = tt
-
-pub returns-in-None-clause-refused : goal.returns-in-None-clause-refused
-returns-in-None-clause-refused c = inr (refl, ap (λ (o : Option StackOp). is_some o) (sym c.in-None.ensures))
-
-pub returns-in-None-clause-job : goal.returns-in-None-clause-job
-returns-in-None-clause-job c = tt
-
-pub returns-in-None-clause-lawful : goal.returns-in-None-clause-lawful
-returns-in-None-clause-lawful c = tt
+pub returns-in-None : goal.returns-in-None
+returns-in-None c = record {
+  job = tt;
+  lawful = tt;
+  refused = inr (refl, ap (λ (o : Option StackOp). is_some o) (sym c.in-None.ensures));
+}

@@ -12,15 +12,13 @@ returns-in_err-matches-clause-refused c =
     words_passed c.args.tool c.name.result.now (plain_table c.table.result.now) (map string_bytes c.args.words.now) c.name.ensures c.table.ensures
     c.in_err-matches.field-0.0 c.from_residual.result c.in_err-matches.ensures.refused c.from_residual.ensures.1
 
-pub returns-clause-job : goal.returns-clause-job
-returns-clause-job c =
-    jobs_are c.args.tool c.name.result.now (plain_table c.table.result.now) (map string_bytes c.args.words.now) c.name.ensures c.table.ensures
-    (rows_in c.in_ok-matches.matches) c.in_ok-matches.ensures.rows c.job_of.result c.in_ok-matches.ensures.taken c.job_of.ensures.job c.job_of.ensures.lawful
-
-pub returns-clause-lawful : goal.returns-clause-lawful
-returns-clause-lawful c = jobs_lawful c.args.tool (rows_in c.in_ok-matches.matches) c.job_of.result c.job_of.ensures.job c.job_of.ensures.lawful
-
-pub returns-clause-refused : goal.returns-clause-refused
-returns-clause-refused c =
-    IfErr-weaker c.job_of.result _ _ (table_refused c.args.tool c.name.result.now (plain_table c.table.result.now) (map string_bytes c.args.words.now) c.name.ensures c.table.ensures
-    (rows_in c.in_ok-matches.matches) c.in_ok-matches.ensures.rows) c.job_of.ensures.refused
+pub returns : goal.returns
+returns c = record {
+  job = (
+      jobs_are c.args.tool c.name.result.now (plain_table c.table.result.now) (map string_bytes c.args.words.now) c.name.ensures c.table.ensures
+      (rows_in c.in_ok-matches.matches) c.in_ok-matches.ensures.rows c.job_of.result c.in_ok-matches.ensures.taken c.job_of.ensures.job c.job_of.ensures.lawful);
+  lawful = jobs_lawful c.args.tool (rows_in c.in_ok-matches.matches) c.job_of.result c.job_of.ensures.job c.job_of.ensures.lawful;
+  refused = (
+      IfErr-weaker c.job_of.result _ _ (table_refused c.args.tool c.name.result.now (plain_table c.table.result.now) (map string_bytes c.args.words.now) c.name.ensures c.table.ensures
+      (rows_in c.in_ok-matches.matches) c.in_ok-matches.ensures.rows) c.job_of.ensures.refused);
+}

@@ -5,61 +5,49 @@ use Rattle.whole_filters.proofs.Gathering.{fault-is}
 use Rattle.whole_filters.proofs.Recounting.{counts-unread, counts-refused, counts-written, counts-cut}
 use Rattle.whole_filters.proofs.counting.run_recount.Goals as goal
 
-pub returns-in_err-text-clause-sifts : goal.returns-in_err-text-clause-sifts
-returns-in_err-text-clause-sifts g c =
-    let e = c.in_err-text.field-0.0 in
-    rw (fault-is c.from_residual.result (faults.Input e) c.from_residual.ensures.1)
-    (counts-unread c.args.input.now _ _ _ _ c.read_input.ensures.untouched c.read_input.ensures.passes c.read_input.ensures.taken _ e c.in_err-text.ensures.cause)
-
-pub returns-in_err-text-clause-rest : goal.returns-in_err-text-clause-rest
-returns-in_err-text-clause-rest g c = g.met.O.Sink.rest_none c.args.out.now
+pub returns-in_err-text : goal.returns-in_err-text
+returns-in_err-text g c = record {
+  sifts = let e = c.in_err-text.field-0.0 in
+      rw (fault-is c.from_residual.result (faults.Input e) c.from_residual.ensures.1)
+      (counts-unread c.args.input.now _ _ _ _ c.read_input.ensures.untouched c.read_input.ensures.passes c.read_input.ensures.taken _ e c.in_err-text.ensures.cause);
+  unread = c.read_input.ensures.source;
+  rest = g.met.O.Sink.rest_none c.args.out.now;
+}
 
 pub recount-requires : goal.recount-requires
 recount-requires g c = subst (λ (l : List ℕ). length l ≤ 268435456) (sym c.deref.ensures.value) c.in_ok-text.ensures.short
 
-pub returns-in-Err-clause-sifts : goal.returns-in-Err-clause-sifts
-returns-in-Err-clause-sifts g c =
-    let i = c.args.input.now in
-    let t = g.T.Tree.view c.args.tree.now in
-    let a = g.I.Source.view c.args.source.now in
-    let is = subst (λ (l : List ℕ). IsAnswer (Ok l) i None t a) (sym c.deref.ensures.value) c.in_ok-text.ensures.text in
-    rw c.from.ensures (counts-refused i t _ a _ c.read_input.ensures.untouched c.read_input.ensures.passes c.read_input.ensures.taken _ c.deref.result.now is c.in-Err.fault c.in-Err.ensures.exact)
+pub returns-in-Err : goal.returns-in-Err
+returns-in-Err g c = record {
+  sifts = let i = c.args.input.now in
+      let t = g.T.Tree.view c.args.tree.now in
+      let a = g.I.Source.view c.args.source.now in
+      let is = subst (λ (l : List ℕ). IsAnswer (Ok l) i None t a) (sym c.deref.ensures.value) c.in_ok-text.ensures.text in
+      rw c.from.ensures (counts-refused i t _ a _ c.read_input.ensures.untouched c.read_input.ensures.passes c.read_input.ensures.taken _ c.deref.result.now is c.in-Err.fault c.in-Err.ensures.exact);
+  unread = c.read_input.ensures.source;
+  rest = g.met.O.Sink.rest_none c.args.out.now;
+}
 
-pub returns-in-Err-clause-rest : goal.returns-in-Err-clause-rest
-returns-in-Err-clause-rest g c = g.met.O.Sink.rest_none c.args.out.now
+pub returns-in-Ok-written : goal.returns-in-Ok-written
+returns-in-Ok-written g c = record {
+  sifts = let i = c.args.input.now in
+      let t = g.T.Tree.view c.args.tree.now in
+      let a = g.I.Source.view c.args.source.now in
+      let is = subst (λ (l : List ℕ). IsAnswer (Ok l) i None t a) (sym c.deref.ensures.value) c.in_ok-text.ensures.text in
+      counts-written i t _ a _ c.read_input.ensures.untouched c.read_input.ensures.passes c.read_input.ensures.taken _ c.deref.result.now is
+      c.deref-2.result.now (c.in-Ok.ensures.exact ∙ ap (λ (l : List ℕ). Ok l) (sym c.deref-2.ensures.value)) _ c.in_ok-text.ensures.end c.in-Ok-written.ensures.call c.in-Ok-written.ensures.received;
+  unread = c.read_input.ensures.source;
+  rest = c.put_all-written.ensures.rest;
+}
 
-pub returns-in-Ok-written-clause-sifts : goal.returns-in-Ok-written-clause-sifts
-returns-in-Ok-written-clause-sifts g c =
-    let i = c.args.input.now in
-    let t = g.T.Tree.view c.args.tree.now in
-    let a = g.I.Source.view c.args.source.now in
-    let is = subst (λ (l : List ℕ). IsAnswer (Ok l) i None t a) (sym c.deref.ensures.value) c.in_ok-text.ensures.text in
-    counts-written i t _ a _ c.read_input.ensures.untouched c.read_input.ensures.passes c.read_input.ensures.taken _ c.deref.result.now is
-    c.deref-2.result.now (c.in-Ok.ensures.exact ∙ ap (λ (l : List ℕ). Ok l) (sym c.deref-2.ensures.value)) _ c.in_ok-text.ensures.end c.in-Ok-written.ensures.call c.in-Ok-written.ensures.received
-
-pub returns-in-Ok-written-clause-rest : goal.returns-in-Ok-written-clause-rest
-returns-in-Ok-written-clause-rest g c = c.put_all-written.ensures.rest
-
-pub returns-in-Err-written-clause-sifts : goal.returns-in-Err-written-clause-sifts
-returns-in-Err-written-clause-sifts g c =
-    let i = c.args.input.now in
-    let t = g.T.Tree.view c.args.tree.now in
-    let a = g.I.Source.view c.args.source.now in
-    let is = subst (λ (l : List ℕ). IsAnswer (Ok l) i None t a) (sym c.deref.ensures.value) c.in_ok-text.ensures.text in
-    counts-cut i t _ a _ c.read_input.ensures.untouched c.read_input.ensures.passes c.read_input.ensures.taken _ c.deref.result.now is
-    c.deref-2.result.now (c.in-Ok.ensures.exact ∙ ap (λ (l : List ℕ). Ok l) (sym c.deref-2.ensures.value)) _ c.in-Err-written.field-0 c.in-Err-written.ensures.call c.in-Err-written.ensures.failed
-
-pub returns-in-Err-written-clause-rest : goal.returns-in-Err-written-clause-rest
-returns-in-Err-written-clause-rest g c = c.put_all-written.ensures.rest
-
-pub returns-in_err-text-clause-unread : goal.returns-in_err-text-clause-unread
-returns-in_err-text-clause-unread g c = c.read_input.ensures.source
-
-pub returns-in-Err-clause-unread : goal.returns-in-Err-clause-unread
-returns-in-Err-clause-unread g c = c.read_input.ensures.source
-
-pub returns-in-Ok-written-clause-unread : goal.returns-in-Ok-written-clause-unread
-returns-in-Ok-written-clause-unread g c = c.read_input.ensures.source
-
-pub returns-in-Err-written-clause-unread : goal.returns-in-Err-written-clause-unread
-returns-in-Err-written-clause-unread g c = c.read_input.ensures.source
+pub returns-in-Err-written : goal.returns-in-Err-written
+returns-in-Err-written g c = record {
+  sifts = let i = c.args.input.now in
+      let t = g.T.Tree.view c.args.tree.now in
+      let a = g.I.Source.view c.args.source.now in
+      let is = subst (λ (l : List ℕ). IsAnswer (Ok l) i None t a) (sym c.deref.ensures.value) c.in_ok-text.ensures.text in
+      counts-cut i t _ a _ c.read_input.ensures.untouched c.read_input.ensures.passes c.read_input.ensures.taken _ c.deref.result.now is
+      c.deref-2.result.now (c.in-Ok.ensures.exact ∙ ap (λ (l : List ℕ). Ok l) (sym c.deref-2.ensures.value)) _ c.in-Err-written.field-0 c.in-Err-written.ensures.call c.in-Err-written.ensures.failed;
+  unread = c.read_input.ensures.source;
+  rest = c.put_all-written.ensures.rest;
+}

@@ -13,11 +13,9 @@ use Rattle.whole_filters.proofs.defaults.digest_plain.Goals as goal
 pub read_digest-digest-requires : goal.read_digest-digest-requires
 read_digest-digest-requires c = c.default_options-options.ensures.lawful
 
-pub returns-clause-digest : goal.returns-clause-digest
-returns-clause-digest c =
-    IfOk-weaker c.read_digest-digest.result (IsDigestOf (dry_defaults c.args.skip_binary) c.args.text.items) (IsDigestOf (defaults c.args.skip_binary) c.args.text.items) (digested-alike c.args.skip_binary c.args.text.items)
-    (subst (λ (o : PlainOptions). IfOk c.read_digest-digest.result (IsDigestOf o c.args.text.items)) c.default_options-options.ensures.options c.read_digest-digest.ensures.digest)
-
-pub returns-clause-refused : goal.returns-clause-refused
-returns-clause-refused c =
-    subst (λ (r : Option SetFault). Meets r c.read_digest-digest.result) (ap (λ (o : PlainOptions). refusal o c.args.text.items) c.default_options-options.ensures.options ∙ refused-alike c.args.skip_binary c.args.text.items) c.read_digest-digest.ensures.refused
+pub returns : goal.returns
+returns c = record {
+  digest = IfOk-weaker c.read_digest-digest.result (IsDigestOf (dry_defaults c.args.skip_binary) c.args.text.items) (IsDigestOf (defaults c.args.skip_binary) c.args.text.items) (digested-alike c.args.skip_binary c.args.text.items)
+      (subst (λ (o : PlainOptions). IfOk c.read_digest-digest.result (IsDigestOf o c.args.text.items)) c.default_options-options.ensures.options c.read_digest-digest.ensures.digest);
+  refused = subst (λ (r : Option SetFault). Meets r c.read_digest-digest.result) (ap (λ (o : PlainOptions). refusal o c.args.text.items) c.default_options-options.ensures.options ∙ refused-alike c.args.skip_binary c.args.text.items) c.read_digest-digest.ensures.refused;
+}

@@ -13,11 +13,9 @@ use Rattle.whole_filters.proofs.defaults.outline_plain.Goals as goal
 pub read_outline-outline-requires : goal.read_outline-outline-requires
 read_outline-outline-requires c = c.default_options-options.ensures.lawful
 
-pub returns-clause-outline : goal.returns-clause-outline
-returns-clause-outline c =
-    IfOk-weaker c.read_outline-outline.result (IsOutline (dry_defaults c.args.skip_binary) c.args.text.items) (IsOutline (defaults c.args.skip_binary) c.args.text.items) (outlined-alike c.args.skip_binary c.args.text.items)
-    (subst (λ (o : PlainOptions). IfOk c.read_outline-outline.result (IsOutline o c.args.text.items)) c.default_options-options.ensures.options c.read_outline-outline.ensures.outline)
-
-pub returns-clause-refused : goal.returns-clause-refused
-returns-clause-refused c =
-    subst (λ (r : Option SetFault). Meets r c.read_outline-outline.result) (ap (λ (o : PlainOptions). refusal o c.args.text.items) c.default_options-options.ensures.options ∙ refused-alike c.args.skip_binary c.args.text.items) c.read_outline-outline.ensures.refused
+pub returns : goal.returns
+returns c = record {
+  outline = IfOk-weaker c.read_outline-outline.result (IsOutline (dry_defaults c.args.skip_binary) c.args.text.items) (IsOutline (defaults c.args.skip_binary) c.args.text.items) (outlined-alike c.args.skip_binary c.args.text.items)
+      (subst (λ (o : PlainOptions). IfOk c.read_outline-outline.result (IsOutline o c.args.text.items)) c.default_options-options.ensures.options c.read_outline-outline.ensures.outline);
+  refused = subst (λ (r : Option SetFault). Meets r c.read_outline-outline.result) (ap (λ (o : PlainOptions). refusal o c.args.text.items) c.default_options-options.ensures.options ∙ refused-alike c.args.skip_binary c.args.text.items) c.read_outline-outline.ensures.refused;
+}

@@ -12,11 +12,10 @@ use Rattle.whole_filters.proofs.defaults.read_plain.Goals as goal
 pub read_set-set-requires : goal.read_set-set-requires
 read_set-set-requires c = c.default_options-options.ensures.lawful
 
-pub returns-clause-read : goal.returns-clause-read
-returns-clause-read c =
-    IfOk-weaker c.read_set-set.result (IsRead (dry_defaults c.args.skip_binary) c.args.text.items) (IsRead (defaults c.args.skip_binary) c.args.text.items) (read-alike c.args.skip_binary c.args.text.items)
-    (subst (λ (o : PlainOptions). IfOk c.read_set-set.result (IsRead o c.args.text.items)) c.default_options-options.ensures.options c.read_set-set.ensures.read)
-
-pub returns-clause-refused : goal.returns-clause-refused
-returns-clause-refused c =
-    subst (λ (r : Option SetFault). Meets r c.read_set-set.result) (ap (λ (o : PlainOptions). refusal o c.args.text.items) c.default_options-options.ensures.options ∙ refused-alike c.args.skip_binary c.args.text.items) c.read_set-set.ensures.refused
+pub returns : goal.returns
+returns c = record {
+  read = IfOk-weaker c.read_set-set.result (IsRead (dry_defaults c.args.skip_binary) c.args.text.items) (IsRead (defaults c.args.skip_binary) c.args.text.items) (read-alike c.args.skip_binary c.args.text.items)
+      (subst (λ (o : PlainOptions). IfOk c.read_set-set.result (IsRead o c.args.text.items)) c.default_options-options.ensures.options c.read_set-set.ensures.read);
+  whole = c.read_set-set.ensures.whole;
+  refused = subst (λ (r : Option SetFault). Meets r c.read_set-set.result) (ap (λ (o : PlainOptions). refusal o c.args.text.items) c.default_options-options.ensures.options ∙ refused-alike c.args.skip_binary c.args.text.items) c.read_set-set.ensures.refused;
+}

@@ -10,18 +10,16 @@ pub followed_by-requires : goal.followed_by-requires
 followed_by-requires c =
     ending-written c.args.number c.as_str.result.now c.ranges.number.fits (c.as_str.ensures.value ∙ c.in_ok-ending.ensures.ok ∙ ap (λ s. codes ".part" ++ styled_decimal s c.args.number) c.laid_out.ensures)
 
-pub returns-clause-name : goal.returns-clause-name
-returns-clause-name c =
-    let end = c.as_str.result.now in
-    let ended : end ≡ codes ".part" ++ styled_decimal (format_spec 32 0 4 3 (2 ^ 64 - 1)) c.args.number = c.as_str.ensures.value ∙ c.in_ok-ending.ensures.ok ∙ ap (λ s. codes ".part" ++ styled_decimal s c.args.number) c.laid_out.ensures in
-    IfOk-weaker c.followed_by.result (λ name. name ≡ c.args.file.now ++ end) (λ name. name ≡ part_name c.args.file.now c.args.number)
-    (λ name is. name-written c.args.number end c.ranges.number.fits ended c.args.file.now name is)
-    c.followed_by.ensures.text
-
-pub returns-clause-lasting : goal.returns-clause-lasting
-returns-clause-lasting c =
-    let end = c.as_str.result.now in
-    let ended : end ≡ codes ".part" ++ styled_decimal (format_spec 32 0 4 3 (2 ^ 64 - 1)) c.args.number = c.as_str.ensures.value ∙ c.in_ok-ending.ensures.ok ∙ ap (λ s. codes ".part" ++ styled_decimal s c.args.number) c.laid_out.ensures in
-    IfOk-weaker c.followed_by.result (λ name. name ≡ c.args.file.now ++ end) (λ name. is_temp name ≡ false)
-    (λ name is. ap is_temp (name-written c.args.number end c.ranges.number.fits ended c.args.file.now name is) ∙ part-lasting c.args.file.now c.args.number)
-    c.followed_by.ensures.text
+pub returns : goal.returns
+returns c = record {
+  name = let end = c.as_str.result.now in
+      let ended : end ≡ codes ".part" ++ styled_decimal (format_spec 32 0 4 3 (2 ^ 64 - 1)) c.args.number = c.as_str.ensures.value ∙ c.in_ok-ending.ensures.ok ∙ ap (λ s. codes ".part" ++ styled_decimal s c.args.number) c.laid_out.ensures in
+      IfOk-weaker c.followed_by.result (λ name. name ≡ c.args.file.now ++ end) (λ name. name ≡ part_name c.args.file.now c.args.number)
+      (λ name is. name-written c.args.number end c.ranges.number.fits ended c.args.file.now name is)
+      c.followed_by.ensures.text;
+  lasting = let end = c.as_str.result.now in
+      let ended : end ≡ codes ".part" ++ styled_decimal (format_spec 32 0 4 3 (2 ^ 64 - 1)) c.args.number = c.as_str.ensures.value ∙ c.in_ok-ending.ensures.ok ∙ ap (λ s. codes ".part" ++ styled_decimal s c.args.number) c.laid_out.ensures in
+      IfOk-weaker c.followed_by.result (λ name. name ≡ c.args.file.now ++ end) (λ name. is_temp name ≡ false)
+      (λ name is. ap is_temp (name-written c.args.number end c.ranges.number.fits ended c.args.file.now name is) ∙ part-lasting c.args.file.now c.args.number)
+      c.followed_by.ensures.text;
+}

@@ -5,17 +5,17 @@ use Rattle.whole_filters.specs.Parting.{PutsPart, part_name}
 use Rattle.whole_filters.proofs.OnePart.{part-starved, part-failed, part-said, part-unsaid}
 use Rattle.whole_filters.proofs.splitting.put_part.Goals as goal
 
-pub returns-in_err-name-clause-puts : goal.returns-in_err-name-clause-puts
-returns-in_err-name-clause-puts g c = part-starved (part_name c.args.file.now c.args.number) c.args.bytes.now _ _ c.requires.quiet c.from_residual.result c.from_residual.ensures.1
+pub returns-in_err-name : goal.returns-in_err-name
+returns-in_err-name g c = record {
+  puts = part-starved (part_name c.args.file.now c.args.number) c.args.bytes.now _ _ c.requires.quiet c.from_residual.result c.from_residual.ensures.1;
+  rest = g.met.O.Sink.rest_none c.args.out.now;
+}
 
-pub returns-in_err-name-clause-rest : goal.returns-in_err-name-clause-rest
-returns-in_err-name-clause-rest g c = g.met.O.Sink.rest_none c.args.out.now
-
-pub returns-in_err-temp-clause-puts : goal.returns-in_err-temp-clause-puts
-returns-in_err-temp-clause-puts g c = part-starved (part_name c.args.file.now c.args.number) c.args.bytes.now _ _ c.requires.quiet c.from_residual-in_err-temp.result c.from_residual-in_err-temp.ensures.1
-
-pub returns-in_err-temp-clause-rest : goal.returns-in_err-temp-clause-rest
-returns-in_err-temp-clause-rest g c = g.met.O.Sink.rest_none c.args.out.now
+pub returns-in_err-temp : goal.returns-in_err-temp
+returns-in_err-temp g c = record {
+  puts = part-starved (part_name c.args.file.now c.args.number) c.args.bytes.now _ _ c.requires.quiet c.from_residual-in_err-temp.result c.from_residual-in_err-temp.ensures.1;
+  rest = g.met.O.Sink.rest_none c.args.out.now;
+}
 
 pub put_whole-requires-clause-temporary : goal.put_whole-requires-clause-temporary
 put_whole-requires-clause-temporary g c = c.in_ok-temp.ensures.temp
@@ -26,26 +26,23 @@ put_whole-requires-clause-lasting g c = c.in_ok-name.ensures.lasting
 pub put_whole-requires-clause-quiet : goal.put_whole-requires-clause-quiet
 put_whole-requires-clause-quiet g c = c.requires.quiet
 
-pub returns-in_default-clause-puts : goal.returns-in_default-clause-puts
-returns-in_default-clause-puts g c =
-    subst (λ (n : List ℕ). PutsPart (Put n c.args.bytes.now) (n ++ codes "\n") (g.T.Tree.view c.args.tree.now) (g.T.Tree.view c.put_whole.new.tree) (g.O.Sink.view c.args.out.now) (g.O.Sink.view c.args.out.now) (Err faults.Tree)) c.in_ok-name.ensures.name
-    (part-failed c.in_ok-name.name c.args.bytes.now _ c.in_default.ensures.makes)
+pub returns-in_default : goal.returns-in_default
+returns-in_default g c = record {
+  puts = subst (λ (n : List ℕ). PutsPart (Put n c.args.bytes.now) (n ++ codes "\n") (g.T.Tree.view c.args.tree.now) (g.T.Tree.view c.put_whole.new.tree) (g.O.Sink.view c.args.out.now) (g.O.Sink.view c.args.out.now) (Err faults.Tree)) c.in_ok-name.ensures.name
+      (part-failed c.in_ok-name.name c.args.bytes.now _ c.in_default.ensures.makes);
+  rest = g.met.O.Sink.rest_none c.args.out.now;
+}
 
-pub returns-in_default-clause-rest : goal.returns-in_default-clause-rest
-returns-in_default-clause-rest g c = g.met.O.Sink.rest_none c.args.out.now
+pub returns-in_default-put_line : goal.returns-in_default-put_line
+returns-in_default-put_line g c = record {
+  puts = subst (λ (n : List ℕ). PutsPart (Put n c.args.bytes.now) (n ++ codes "\n") (g.T.Tree.view c.args.tree.now) (g.T.Tree.view c.put_whole.new.tree) (g.O.Sink.view c.args.out.now) (g.O.Sink.view c.put_line.new.out) (Err faults.Write)) c.in_ok-name.ensures.name
+      (part-unsaid c.in_ok-name.name c.args.bytes.now c.in-Ok.ensures.makes c.in_ok-temp.temp c.in_ok-temp.ensures.text c.in-Ok.ensures.ok c.in_default-put_line.ensures);
+  rest = c.put_line.ensures.rest;
+}
 
-pub returns-in_default-put_line-clause-puts : goal.returns-in_default-put_line-clause-puts
-returns-in_default-put_line-clause-puts g c =
-    subst (λ (n : List ℕ). PutsPart (Put n c.args.bytes.now) (n ++ codes "\n") (g.T.Tree.view c.args.tree.now) (g.T.Tree.view c.put_whole.new.tree) (g.O.Sink.view c.args.out.now) (g.O.Sink.view c.put_line.new.out) (Err faults.Write)) c.in_ok-name.ensures.name
-    (part-unsaid c.in_ok-name.name c.args.bytes.now c.in-Ok.ensures.makes c.in_ok-temp.temp c.in_ok-temp.ensures.text c.in-Ok.ensures.ok c.in_default-put_line.ensures)
-
-pub returns-in_default-put_line-clause-rest : goal.returns-in_default-put_line-clause-rest
-returns-in_default-put_line-clause-rest g c = c.put_line.ensures.rest
-
-pub returns-clause-puts : goal.returns-clause-puts
-returns-clause-puts g c =
-    subst (λ (n : List ℕ). PutsPart (Put n c.args.bytes.now) (n ++ codes "\n") (g.T.Tree.view c.args.tree.now) (g.T.Tree.view c.put_whole.new.tree) (g.O.Sink.view c.args.out.now) (g.O.Sink.view c.put_line.new.out) (Ok tt)) c.in_ok-name.ensures.name
-    (part-said c.in_ok-name.name c.args.bytes.now c.in-Ok.ensures.makes c.in_ok-temp.temp c.in_ok-temp.ensures.text c.in-Ok.ensures.ok tt c.in-Ok-put_line.ensures)
-
-pub returns-clause-rest : goal.returns-clause-rest
-returns-clause-rest g c = c.put_line.ensures.rest
+pub returns : goal.returns
+returns g c = record {
+  puts = subst (λ (n : List ℕ). PutsPart (Put n c.args.bytes.now) (n ++ codes "\n") (g.T.Tree.view c.args.tree.now) (g.T.Tree.view c.put_whole.new.tree) (g.O.Sink.view c.args.out.now) (g.O.Sink.view c.put_line.new.out) (Ok tt)) c.in_ok-name.ensures.name
+      (part-said c.in_ok-name.name c.args.bytes.now c.in-Ok.ensures.makes c.in_ok-temp.temp c.in_ok-temp.ensures.text c.in-Ok.ensures.ok tt c.in-Ok-put_line.ensures);
+  rest = c.put_line.ensures.rest;
+}

@@ -30,24 +30,22 @@ loop-index-preserved g c =
       rest = g.met.O.Sink.rest_both _ _ _ c.loop-index.invariant.rest c.in_ok-put_part.ensures.rest;
     }
 
-pub returns-in_err-put_part-clause-puts : goal.returns-in_err-put_part-clause-puts
-returns-in_err-put_part-clause-puts g c =
-    let spans = c.args.parts.now in
-    let i = c.loop-index.index in
-    let span : Span = get_or spans i (record { start = 0; end = 0 }) in
-    stops c.args.file.now c.args.text.now spans i span c.bytes_of-bytes.result.now (slice_get-get_or spans i (record { start = 0; end = 0 }) c.loop-index-test.true) c.bytes_of-bytes.ensures
-    c.loop-index.invariant.puts (g.T.Tree.view c.put_part.new.tree) (g.O.Sink.view c.put_part.new.out) c.in_err-put_part.field-0.0 c.from_residual.result c.from_residual.ensures.1 c.in_err-put_part.ensures.puts
+pub returns-in_err-put_part : goal.returns-in_err-put_part
+returns-in_err-put_part g c = record {
+  puts = let spans = c.args.parts.now in
+      let i = c.loop-index.index in
+      let span : Span = get_or spans i (record { start = 0; end = 0 }) in
+      stops c.args.file.now c.args.text.now spans i span c.bytes_of-bytes.result.now (slice_get-get_or spans i (record { start = 0; end = 0 }) c.loop-index-test.true) c.bytes_of-bytes.ensures
+      c.loop-index.invariant.puts (g.T.Tree.view c.put_part.new.tree) (g.O.Sink.view c.put_part.new.out) c.in_err-put_part.field-0.0 c.from_residual.result c.from_residual.ensures.1 c.in_err-put_part.ensures.puts;
+  rest = g.met.O.Sink.rest_both _ _ _ c.loop-index.invariant.rest c.in_err-put_part.ensures.rest;
+}
 
-pub returns-clause-puts : goal.returns-clause-puts
-returns-clause-puts g c =
-    subst (λ rows. PutsParts c.args.file.now c.args.text.now rows (g.T.Tree.view c.args.tree.now) (g.T.Tree.view c.loop-index.tree) (g.O.Sink.view c.args.out.now) (g.O.Sink.view c.loop-index.out) (Ok tt))
-    (rows-end c.args.parts.now c.loop-index.index c.loop-index-test.false) c.loop-index.invariant.puts
+pub returns : goal.returns
+returns g c = record {
+  puts = subst (λ rows. PutsParts c.args.file.now c.args.text.now rows (g.T.Tree.view c.args.tree.now) (g.T.Tree.view c.loop-index.tree) (g.O.Sink.view c.args.out.now) (g.O.Sink.view c.loop-index.out) (Ok tt))
+      (rows-end c.args.parts.now c.loop-index.index c.loop-index-test.false) c.loop-index.invariant.puts;
+  rest = c.loop-index.invariant.rest;
+}
 
 pub put_part-requires : goal.put_part-requires
 put_part-requires g c = record { quiet = c.loop-index.invariant.puts.quiet }
-
-pub returns-in_err-put_part-clause-rest : goal.returns-in_err-put_part-clause-rest
-returns-in_err-put_part-clause-rest g c = g.met.O.Sink.rest_both _ _ _ c.loop-index.invariant.rest c.in_err-put_part.ensures.rest
-
-pub returns-clause-rest : goal.returns-clause-rest
-returns-clause-rest g c = c.loop-index.invariant.rest

@@ -14,22 +14,21 @@ put_parts-requires-clause-turn g c =
     let all : c.deref.result.now ≡ parts c.args.every v = c.deref.ensures.value ∙ c.in-Ok.ensures in
     subst (λ (l : List Span). AreInTurn 0 l (length c.text.result.now)) (sym all) (subst (λ (l : List ℕ). AreInTurn 0 (parts c.args.every v) (length l)) (sym c.text.ensures) (join-back c.args.every v c.requires.whole).0)
 
-pub returns-in-Ok-clause-puts : goal.returns-in-Ok-clause-puts
-returns-in-Ok-clause-puts g c =
-    let v = c.args.set.now in
-    let t = g.T.Tree.view c.args.tree.now in
-    let u = g.T.Tree.view c.put_parts.new.tree in
-    let a = g.O.Sink.view c.args.out.now in
-    let b = g.O.Sink.view c.put_parts.new.out in
-    let all : c.deref.result.now ≡ parts c.args.every v = c.deref.ensures.value ∙ c.in-Ok.ensures in
-    subst (λ (l : List ℕ). PutsParts c.args.file.now l (numbered (parts c.args.every v)) t u a b c.put_parts.result) c.text.ensures
-    (subst (λ (l : List Span). PutsParts c.args.file.now c.text.result.now (numbered l) t u a b c.put_parts.result) all c.put_parts.ensures.puts)
+pub returns-in-Ok : goal.returns-in-Ok
+returns-in-Ok g c = record {
+  puts = let v = c.args.set.now in
+      let t = g.T.Tree.view c.args.tree.now in
+      let u = g.T.Tree.view c.put_parts.new.tree in
+      let a = g.O.Sink.view c.args.out.now in
+      let b = g.O.Sink.view c.put_parts.new.out in
+      let all : c.deref.result.now ≡ parts c.args.every v = c.deref.ensures.value ∙ c.in-Ok.ensures in
+      subst (λ (l : List ℕ). PutsParts c.args.file.now l (numbered (parts c.args.every v)) t u a b c.put_parts.result) c.text.ensures
+      (subst (λ (l : List Span). PutsParts c.args.file.now c.text.result.now (numbered l) t u a b c.put_parts.result) all c.put_parts.ensures.puts);
+  rest = c.put_parts.ensures.rest;
+}
 
-pub returns-in-Ok-clause-rest : goal.returns-in-Ok-clause-rest
-returns-in-Ok-clause-rest g c = c.put_parts.ensures.rest
-
-pub returns-in-Err-clause-puts : goal.returns-in-Err-clause-puts
-returns-in-Err-clause-puts g c = puts-starved c.args.file.now c.args.set.now.text (numbered (parts c.args.every c.args.set.now)) (g.T.Tree.view c.args.tree.now) (g.O.Sink.view c.args.out.now) c.requires.quiet
-
-pub returns-in-Err-clause-rest : goal.returns-in-Err-clause-rest
-returns-in-Err-clause-rest g c = g.met.O.Sink.rest_none c.args.out.now
+pub returns-in-Err : goal.returns-in-Err
+returns-in-Err g c = record {
+  puts = puts-starved c.args.file.now c.args.set.now.text (numbered (parts c.args.every c.args.set.now)) (g.T.Tree.view c.args.tree.now) (g.O.Sink.view c.args.out.now) c.requires.quiet;
+  rest = g.met.O.Sink.rest_none c.args.out.now;
+}

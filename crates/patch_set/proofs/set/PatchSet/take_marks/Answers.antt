@@ -9,29 +9,25 @@ use Rattle.patch_set.proofs.set.PatchSet.take_marks.Goals as goal
 pub invariant_of-self : goal.invariant_of-self
 invariant_of-self c = (whole-still _ (is_some c.take.new.self) c.self.invariant.0, none-blank _ _ c.take.new.self c.take.ensures.after)
 
-pub returns-clause-unmarked : goal.returns-clause-unmarked
-returns-clause-unmarked c = subst (λ (x : Option NameMarks). ForSome x AreUnmarked) (sym c.take.ensures.value) c.self.invariant.1.unmarked
-
-pub returns-clause-room : goal.returns-clause-room
-returns-clause-room c =
-    let fields = c.self.inside in
-    subst (λ (s : SetView). ForSome c.take.result (HaveRoom s.patches s.output)) c.self.view_is
-    (subst (λ (x : Option NameMarks). ForSome x (HaveRoom fields.patches.items fields.output)) (sym c.take.ensures.value) c.self.invariant.1.room)
-
-pub returns-clause-handed : goal.returns-clause-handed
-returns-clause-handed c = ap is_some c.take.ensures.value ∙ ap (λ (s : SetView). s.has_marks) c.self.view_is
-
-pub returns-clause-left : goal.returns-clause-left
-returns-clause-left c =
-    let fields = c.self.inside in
-    let seen : Option NameMarks → SetView = λ marks. record {
-      text = fields.text.items;
-      ways = fields.ways;
-      patches = fields.patches.items;
-      output = fields.output;
-      skipped = fields.skipped.items;
-      verdicts = fields.verdicts.items;
-      rows = fields.rows.items;
-      has_marks = is_some marks;
-    } in
-    ap seen c.take.ensures.after ∙ ap without_marks c.self.view_is
+pub returns : goal.returns
+returns c = record {
+  unmarked = subst (λ (x : Option NameMarks). ForSome x AreUnmarked) (sym c.take.ensures.value) c.self.invariant.1.unmarked;
+  room = (
+      let fields = c.self.inside in
+      subst (λ (s : SetView). ForSome c.take.result (HaveRoom s.patches s.output)) c.self.view_is
+      (subst (λ (x : Option NameMarks). ForSome x (HaveRoom fields.patches.items fields.output)) (sym c.take.ensures.value) c.self.invariant.1.room));
+  handed = ap is_some c.take.ensures.value ∙ ap (λ (s : SetView). s.has_marks) c.self.view_is;
+  left = (
+      let fields = c.self.inside in
+      let seen : Option NameMarks → SetView = λ marks. record {
+        text = fields.text.items;
+        ways = fields.ways;
+        patches = fields.patches.items;
+        output = fields.output;
+        skipped = fields.skipped.items;
+        verdicts = fields.verdicts.items;
+        rows = fields.rows.items;
+        has_marks = is_some marks;
+      } in
+      ap seen c.take.ensures.after ∙ ap without_marks c.self.view_is);
+}

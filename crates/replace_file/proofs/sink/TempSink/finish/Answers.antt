@@ -4,14 +4,22 @@ use Rattle.replace_file.proofs.Sinking.{works_around}
 use Rattle.replace_file.proofs.Runs.{run_ok, run_first}
 use Rattle.replace_file.proofs.sink.TempSink.finish.Goals as goal
 
-pub returns-in_err-mend-clause-rest : goal.returns-in_err-mend-clause-rest
-returns-in_err-mend-clause-rest g c =
-    let self = c.args.self.now in
-    let stands = g.met.T.Tree.told_may_stay in (
-      refl,
-      refl,
-      works_around (g.T.Tree.view self.tree.now) (g.T.Tree.view c.mend.new.tree) self.temp.name.now self.temp.temporary self.quiet (stands self.tree.now) (stands c.mend.new.tree) c.mend.ensures.works c.mend.ensures.seals,
-    )
+pub returns-in_err-mend : goal.returns-in_err-mend
+returns-in_err-mend g c = record {
+  run = run_first c.mend.ensures.run.passes (c.in_err-mend.ensures.run.cause refl);
+  rest = (
+      let self = c.args.self.now in
+      let stands = g.met.T.Tree.told_may_stay in (
+        refl,
+        refl,
+        works_around (g.T.Tree.view self.tree.now) (g.T.Tree.view c.mend.new.tree) self.temp.name.now self.temp.temporary self.quiet (stands self.tree.now) (stands c.mend.new.tree) c.mend.ensures.works c.mend.ensures.seals,
+      ));
+  there = IfOk-from_err c.from_residual.result _ c.from_residual.ensures.0;
+  told = IfOk-from_err c.from_residual.result _ c.from_residual.ensures.0;
+  mended = IfOk-from_err c.from_residual.result _ c.from_residual.ensures.0;
+  anew = IfOk-from_err c.from_residual.result _ c.from_residual.ensures.0;
+  stays = IfOk-from_err c.from_residual.result _ c.from_residual.ensures.0;
+}
 
 pub returns-clause-rest : goal.returns-clause-rest
 returns-clause-rest g c =
@@ -27,24 +35,6 @@ mend-requires-clause-quiet g c = c.args.self.now.quiet
 
 pub mend-requires-clause-there : goal.mend-requires-clause-there
 mend-requires-clause-there g c = c.args.self.now.there
-
-pub returns-in_err-mend-clause-run : goal.returns-in_err-mend-clause-run
-returns-in_err-mend-clause-run g c = run_first c.mend.ensures.run.passes (c.in_err-mend.ensures.run.cause refl)
-
-pub returns-in_err-mend-clause-there : goal.returns-in_err-mend-clause-there
-returns-in_err-mend-clause-there g c = IfOk-from_err c.from_residual.result _ c.from_residual.ensures.0
-
-pub returns-in_err-mend-clause-told : goal.returns-in_err-mend-clause-told
-returns-in_err-mend-clause-told g c = IfOk-from_err c.from_residual.result _ c.from_residual.ensures.0
-
-pub returns-in_err-mend-clause-mended : goal.returns-in_err-mend-clause-mended
-returns-in_err-mend-clause-mended g c = IfOk-from_err c.from_residual.result _ c.from_residual.ensures.0
-
-pub returns-in_err-mend-clause-anew : goal.returns-in_err-mend-clause-anew
-returns-in_err-mend-clause-anew g c = IfOk-from_err c.from_residual.result _ c.from_residual.ensures.0
-
-pub returns-in_err-mend-clause-stays : goal.returns-in_err-mend-clause-stays
-returns-in_err-mend-clause-stays g c = IfOk-from_err c.from_residual.result _ c.from_residual.ensures.0
 
 pub returns-clause-run : goal.returns-clause-run
 returns-clause-run g c = run_ok c.mend.ensures.run.passes

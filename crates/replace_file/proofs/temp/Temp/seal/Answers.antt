@@ -5,12 +5,21 @@ use Rattle.replace_file.proofs.Work.{worked, there_same}
 use Rattle.replace_file.proofs.Runs.{run_ok, run_first, on_err_from}
 use Rattle.replace_file.proofs.temp.Temp.seal.Goals as goal
 
-pub returns-in_err-seal-clause-works : goal.returns-in_err-seal-clause-works
-returns-in_err-seal-clause-works g c =
-    let u = g.T.Tree.view c.args.tree.now in
-    let v = g.T.Tree.view c.seal.new.self in
-    let is = c.args.self.temporary in
-    worked u v c.seal.result c.args.self.name.now is c.seal.ensures.call (quiet_kept u v c.args.self.name.now is c.seal.ensures.quiet) c.seal.ensures.seals (only_spoils u v c.args.self.name.now c.in_err-seal.ensures.err)
+pub returns-in_err-seal : goal.returns-in_err-seal
+returns-in_err-seal g c = record {
+  name = IfOk-from_err c.from_residual.result _ c.from_residual.ensures.0;
+  run = run_first c.seal.ensures.call.passes (c.in_err-seal.ensures.call.cause refl);
+  ok = IfOk-from_err c.from_residual.result _ c.from_residual.ensures.0;
+  there = IfOk-from_err c.from_residual.result _ c.from_residual.ensures.0;
+  sealed = IfOk-from_err c.from_residual.result _ c.from_residual.ensures.0;
+  err = on_err_from c.from_residual.result c.in_err-seal.ensures.err;
+  seals = c.seal.ensures.seals;
+  works = (
+      let u = g.T.Tree.view c.args.tree.now in
+      let v = g.T.Tree.view c.seal.new.self in
+      let is = c.args.self.temporary in
+      worked u v c.seal.result c.args.self.name.now is c.seal.ensures.call (quiet_kept u v c.args.self.name.now is c.seal.ensures.quiet) c.seal.ensures.seals (only_spoils u v c.args.self.name.now c.in_err-seal.ensures.err));
+}
 
 pub returns-clause-works : goal.returns-clause-works
 returns-clause-works g c =
@@ -21,24 +30,6 @@ returns-clause-works g c =
 
 pub returns-clause-there : goal.returns-clause-there
 returns-clause-there g c = there_same (g.T.Tree.view c.args.tree.now) (g.T.Tree.view c.seal.new.self) c.args.self.name.now c.seal.ensures.call.passes c.in_ok-seal.ensures.ok c.requires
-
-pub returns-in_err-seal-clause-run : goal.returns-in_err-seal-clause-run
-returns-in_err-seal-clause-run g c = run_first c.seal.ensures.call.passes (c.in_err-seal.ensures.call.cause refl)
-
-pub returns-in_err-seal-clause-name : goal.returns-in_err-seal-clause-name
-returns-in_err-seal-clause-name g c = IfOk-from_err c.from_residual.result _ c.from_residual.ensures.0
-
-pub returns-in_err-seal-clause-ok : goal.returns-in_err-seal-clause-ok
-returns-in_err-seal-clause-ok g c = IfOk-from_err c.from_residual.result _ c.from_residual.ensures.0
-
-pub returns-in_err-seal-clause-there : goal.returns-in_err-seal-clause-there
-returns-in_err-seal-clause-there g c = IfOk-from_err c.from_residual.result _ c.from_residual.ensures.0
-
-pub returns-in_err-seal-clause-err : goal.returns-in_err-seal-clause-err
-returns-in_err-seal-clause-err g c = on_err_from c.from_residual.result c.in_err-seal.ensures.err
-
-pub returns-in_err-seal-clause-seals : goal.returns-in_err-seal-clause-seals
-returns-in_err-seal-clause-seals g c = c.seal.ensures.seals
 
 pub returns-clause-run : goal.returns-clause-run
 returns-clause-run g c = run_ok c.seal.ensures.call.passes
@@ -57,6 +48,3 @@ returns-clause-seals g c = c.seal.ensures.seals
 
 pub seal-requires : goal.seal-requires
 seal-requires g c = c.requires
-
-pub returns-in_err-seal-clause-sealed : goal.returns-in_err-seal-clause-sealed
-returns-in_err-seal-clause-sealed g c = IfOk-from_err c.from_residual.result _ c.from_residual.ensures.0
