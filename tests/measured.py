@@ -14,15 +14,19 @@ LEDGER = "build/times.json"
 # What a crate may cost, in seconds of one processor (docs/PROOFS.md).
 MOST = {"proof": 180, "tests": 90, "edits": 120}
 TICKS = os.sysconf("SC_CLK_TCK")
+# How many steps the loop has that tells how fast the machine is, of ten million, and how many looks come before it is run again.
+STEPS, LOOKS = 100_000, 20
 
 
 class Watch:
-    """The processes that rt has started: of which crate each check is, what for, and the processor time that it has taken."""
+    """The processes that rt has started: of which crate each check is, what for, and the processor time that it has taken. Beside them how
+    fast the machine was meanwhile, since a crate takes twice the time on one whose host has other work."""
 
     def __init__(self, rt):
         self.rt, self.seconds, self.of, self.ended, self.seeds = rt, {}, {}, set(), set()
         # the crates that are proved, which compilers build
         self.proved = set()
+        self.looks, self.loops, self.host = 0, [], host_time()
 
     def look(self):
         """Looks once, and returns the checks that are seen for the first time, as crate and kind."""
@@ -72,6 +76,7 @@ class Watch:
         name = words[words.index("--crate-name") + 1]
         if "--crate-checked" in words:
             self.proved.add(name)
+            return name, "built"
         if not place.startswith("rt-edit-"):
             return name, "tests" if "--test" in words else "proof"
         over = words[words.index("--incremental") + 1] if "--incremental" in words else ""
@@ -81,6 +86,19 @@ class Watch:
             self.seeds.add(room)
             return name, "edit"
         return name, "last" if room in self.seeds else "seed"
+
+    def feel(self):
+        """Runs the loop where it is due, and notes what ten million steps would have taken."""
+        if self.looks % LOOKS == 0:
+            before = time.thread_time()
+            sum(it & 7 for it in range(STEPS))
+            self.loops.append((time.thread_time() - before) * 10_000_000 / STEPS)
+        self.looks += 1
+
+    def speed(self):
+        """Returns what the loop took at its tenth, fifth and ninth tenth, and the part of the time that the host gave to others."""
+        loops, (taken, whole) = sorted(self.loops), (now - then for now, then in zip(host_time(), self.host))
+        return [loops[len(loops) * part // 10] for part in (1, 5, 9)], taken / max(whole, 1)
 
     def sums(self):
         """Returns, by crate and kind, the seconds of the checks that have ended, and how many they were."""
@@ -92,9 +110,17 @@ class Watch:
         return found
 
 
+def host_time():
+    """Returns the ticks that the host gave to others, and all ticks, of all processors."""
+    with open("/proc/stat", encoding="utf-8") as file:
+        ticks = [int(it) for it in file.readline().split()[1:9]]
+    return ticks[7], sum(ticks)
+
+
 def looked(watch, begins=lambda told: None):
     """Looks once. A look that fails costs nothing but times."""
     try:
+        watch.feel()
         for told in watch.look():
             begins(told)
     except (OSError, ValueError, IndexError, KeyError):
@@ -119,10 +145,11 @@ def note(watch, run, begun):
     for name, kinds in watch.sums().items():
         of = ledger["crates"].setdefault(name, {})
         if {"seed", "edit", "last"} & {*kinds}:
-            of = {kind: it for kind, it in of.items() if kind in ("proof", "tests")}
+            of = {kind: it for kind, it in of.items() if kind in ("proof", "tests", "built")}
         ledger["crates"][name] = {**of, **kinds}
     ledger["run"] = {"minutes": (time.time() - begun) / 60, "processor": (run.ru_utime + run.ru_stime) / 60, "at": time.strftime("%Y-%m-%d %H:%M")}
     ledger["run"]["noted"] = sum(watch.seconds[it] for it in watch.ended) / 60
+    ledger["run"]["loop"], ledger["run"]["host"] = watch.speed()
     os.makedirs("build", exist_ok=True)
     with open(f"{LEDGER}.new", "w", encoding="utf-8") as file:
         json.dump(ledger, file, indent=1)
@@ -170,22 +197,26 @@ def times():
     table = {}
     for name, kinds in ledger["crates"].items():
         if name in below:
-            of_edits = [kinds.get(it, (0, 0)) for it in ("seed", "edit", "last")]
-            table[name] = [kinds.get(it, (0, 0))[0] for it in ("proof", "tests")] + [seconds for seconds, _ in of_edits] + [of_edits[1][1]]
+            given = {it: kinds.get(it, (0, 0)) for it in ("proof", "tests", "seed", "edit", "last", "built")}
+            table[name] = [seconds for seconds, _ in given.values()] + [given["edit"][1]]
     print("Processor time in minutes and seconds, as each was proved last; * is above what docs/PROOFS.md allows.\n")
-    print(f"{'crate':20}{'proof':>8}{'tests':>8}{'edits':>8}{'sum':>9}    of the edits: before them, themselves, after them")
-    total = [0] * 5
-    for name, row in sorted(table.items(), key=lambda it: -sum(it[1][:5])):
+    print(f"{'crate':20}{'proof':>8}{'tests':>8}{'edits':>8}{'built':>8}{'sum':>9}    of the edits: before them, themselves, after them")
+    total = [0] * 6
+    for name, row in sorted(table.items(), key=lambda it: -sum(it[1][:6])):
         total = [one + other for one, other in zip(total, row)]
         costs = zip((row[0], row[1], sum(row[2:5])), MOST.values())
         line = "".join(f"{clock(cost):>7}{'*' if cost > most else ' '}" for cost, most in costs)
-        tried = f"    {clock(row[2])}  {clock(row[3])} ({row[5]})  {clock(row[4])}" if sum(row[2:5]) else ""
-        print(f"{name:20}{line}{clock(sum(row[:5])):>8}{tried}")
-    print(f"{'all':20}{clock(total[0]):>7} {clock(total[1]):>7} {clock(sum(total[2:])):>7} {clock(sum(total)):>8}")
+        tried = f"    {clock(row[2])}  {clock(row[3])} ({row[6]})  {clock(row[4])}" if sum(row[2:5]) else ""
+        print(f"{name:20}{line}{clock(row[5]):>7} {clock(sum(row[:6])):>8}{tried}")
+    print(f"{'all':20}{clock(total[0]):>7} {clock(total[1]):>7} {clock(sum(total[2:5])):>7} {clock(total[5]):>7} {clock(sum(total)):>8}")
     seconds, chain = longest(below, {name: row[0] for name, row in table.items()})
     print(f"\nThe longest chain of crates, each proved behind the one in front of it, {clock(seconds)}: {' '.join(chain)}")
     run = ledger["run"]
     print(f"\nThe last run ({run['at']}): {run['minutes']:.0f} minutes, {run['processor']:.0f} processor minutes, of which {run['noted']:.0f} for checks.")
+    if "loop" in run:
+        low, middle, high = run["loop"]
+        print(f"The machine: sum(it & 7 for it in range(10_000_000)) took Python {middle:.2f} seconds of processor time meanwhile (a tenth of the looks below {low:.2f}, a")
+        print(f"tenth above {high:.2f}), and the host gave {run['host']:.0%} of the time to others. Two ledgers can be compared where these are alike.")
     return 0
 
 
