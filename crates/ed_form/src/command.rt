@@ -8,7 +8,7 @@ use hunk_core::{Action, BadKind, action_of, ends_here};
 use num_text::{NumberRange, read_range};
 
 /// A command as it is written: one address or two, and a letter.
-#[derive(Clone, Copy, Debug, PartialEq, Eq)]
+#[derive(Clone, Copy)]
 pub struct Command {
     pub range: NumberRange,
     pub action: Action,

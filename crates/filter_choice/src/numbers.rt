@@ -11,7 +11,7 @@ use glob_match::matches;
 use tool_words::{Ranges, Select};
 
 /// The numbers from a first to a last.
-#[derive(Clone, Copy, Debug)]
+#[derive(Clone, Copy)]
 pub struct Lines {
     pub first: u64,
     pub last: u64,

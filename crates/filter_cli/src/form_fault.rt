@@ -7,7 +7,7 @@ use format_convert::ConvertFault;
 use whole_filters::FilterFault;
 
 /// Why `filterdiff` with a form ends early. A line is that of the opening of a file patch.
-#[derive(Clone, Copy, Debug, PartialEq, Eq)]
+#[derive(Clone, Copy)]
 pub enum FormFault {
     /// As without a form.
     Filter(FilterFault),

@@ -4,7 +4,7 @@ use outside::Failed;
 use thiserror::Error;
 
 /// Why a set of file patches wasn't turned round. Lines are those of openings, numbered from 1.
-#[derive(Clone, Copy, Debug, PartialEq, Eq, Error)]
+#[derive(Clone, Copy, Debug, Error)]
 pub enum FlipFault {
     /// An ed script doesn't tell the lines that it takes away.
     #[error("an ed script in line {line} can't be reversed")]

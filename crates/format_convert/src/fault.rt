@@ -1,7 +1,7 @@
 //! Why a set isn't written in another form.
 
 /// Why a set isn't written in another form. A line is that of the opening of a file patch.
-#[derive(Clone, Copy, Debug, PartialEq, Eq)]
+#[derive(Clone, Copy)]
 pub enum ConvertFault {
     /// The file patch lacks what the form shows.
     NoContext { line: u64 },

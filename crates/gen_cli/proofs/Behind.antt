@@ -14,7 +14,7 @@ use Rattle.run_answers.specs.Answers.{is_own}
 use Rattle.run_answers.specs.Moments.{Opens, IsAsAtEntry}
 use Rattle.run_answers.specs.Worlds.{World, world}
 use Rattle.run_answers.proofs.Opens.{opens_both, tidy_behind}
-use Rattle.planned_run.specs.Outcome.{Outcome}
+use Rattle.patch_run.specs.Outcome.{Outcome}
 use Rattle.gen_cli.specs.Command.{command}
 use Rattle.gen_cli.specs.Worlds.{Tells}
 use Rattle.gen_cli.specs.Causes.{HasCause}

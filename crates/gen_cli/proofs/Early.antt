@@ -19,7 +19,7 @@ use Rattle.run_answers.specs.Worlds.{World, world}
 use Rattle.run_answers.proofs.Opens.{opens_none}
 use Rattle.reading_law.specs.Plain.{TakesNames}
 use Rattle.reading_law.proofs.Free.{made-free}
-use Rattle.planned_run.specs.Answer.{HasReceipt}
+use Rattle.patch_run.specs.Answer.{HasReceipt}
 use Rattle.gen_cli.specs.Jobs.{options_for}
 use Rattle.gen_cli.specs.Command.{command, patch_text}
 use Rattle.gen_cli.specs.Causes.{HasCause}

@@ -30,10 +30,10 @@ use Rattle.tool_words.specs.PlainJobs.{PlainGenJob}
 use Rattle.run_answers.specs.declared.why.Why.{Why}
 use Rattle.run_answers.specs.declared.why.Why.TheVariants.{Done, Rejected, LongLine, FileTooLong, WriteFault, TreeFault, Memory}
 use Rattle.run_answers.specs.Answers.{is_fault, is_own, of_run, is_through}
-use Rattle.planned_run.specs.Outcome.{end_of, receipt_if}
-use Rattle.planned_run.proofs.Receipts.{receipt_end, receipt_fault}
-use Rattle.planned_run.specs.Finishes.{IsToldTo, HasPlanCause, LeavesVerdicts, Finishes, verdicts_of}
-use Rattle.planned_run.specs.Finishes as finishes
+use Rattle.patch_run.specs.Outcome.{end_of, receipt_if}
+use Rattle.patch_run.proofs.Receipts.{receipt_end, receipt_fault}
+use Rattle.patch_run.specs.Finishes.{IsToldTo, HasPlanCause, LeavesVerdicts, Finishes, verdicts_of}
+use Rattle.patch_run.specs.Finishes as finishes
 use Rattle.gen_cli.specs.Jobs.{options_for}
 use Rattle.gen_cli.specs.Summary.{summary_of}
 use Rattle.gen_cli.specs.Command.{summary, summary_if}

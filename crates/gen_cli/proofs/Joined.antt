@@ -28,12 +28,12 @@ use Rattle.run_answers.specs.declared.why.Why.TheVariants.{Done, Rejected, Usage
 use Rattle.run_answers.specs.Answers.{is_ended, is_own, is_early, of_run}
 use Rattle.run_answers.specs.Moments.{FirstPart, LeavesAllowed}
 use Rattle.run_answers.specs.Worlds.{world}
-use Rattle.planned_run.specs.Scratches.{scratch_behind_all}
-use Rattle.planned_run.specs.Outcome.{Outcome, items_for, run_for}
-use Rattle.planned_run.specs.Answer.{HasReceipt, why_of, receipt_of}
-use Rattle.planned_run.proofs.Matching.{cut-match, run-match}
-use Rattle.planned_run.proofs.Receipts.{memory_end}
-use Rattle.planned_run.specs.Finishes.{IsNotBegun, IsToldTo}
+use Rattle.patch_run.specs.Scratches.{scratch_behind_all}
+use Rattle.patch_run.specs.Outcome.{Outcome, items_for, run_for}
+use Rattle.patch_run.specs.Answer.{HasReceipt, why_of, receipt_of}
+use Rattle.patch_run.proofs.Matching.{cut-match, run-match}
+use Rattle.patch_run.proofs.Receipts.{memory_end}
+use Rattle.patch_run.specs.Finishes.{IsNotBegun, IsToldTo}
 use Rattle.gen_cli.specs.Jobs.{options_for}
 use Rattle.gen_cli.specs.Command.{command, file_puts, patch_text, on_patches, on_refusal, run_over, told_of}
 use Rattle.gen_cli.specs.Worlds.{Tells}

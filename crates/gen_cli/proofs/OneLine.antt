@@ -17,7 +17,7 @@ use Rattle.patch_run.specs.Run.{Run}
 use Rattle.tool_words.specs.PlainJobs.{PlainGenJob}
 use Rattle.run_answers.specs.declared.why.Why.TheVariants.{Done}
 use Rattle.run_answers.specs.Answers.{of_set}
-use Rattle.planned_run.specs.Outcome.{end_of}
+use Rattle.patch_run.specs.Outcome.{end_of}
 use Rattle.gen_cli.specs.Jobs.{options_for}
 use Rattle.gen_cli.specs.Command.{file_puts, patch_text, on_job, on_patches, on_refusal, run_over, summary, summary_if}
 use Rattle.gen_cli.proofs.Silent.{silent_for}

@@ -3,7 +3,7 @@ use Rattle.std.proofs.Common.{◌≡◌, arith}
 use Rattle.outside.specs.Files.{Files}
 use Rattle.patch_options.specs.declared.options.PlanKind.{PlanKind}
 use Rattle.tool_words.specs.PlainJobs.{PlainGenJob}
-use Rattle.planned_run.proofs.SamePlan.{refusal_same, run_same}
+use Rattle.patch_run.proofs.SamePlan.{refusal_same, run_same}
 use Rattle.gen_cli.specs.Jobs.{options_for, with_plan}
 use Rattle.gen_cli.specs.Command.{on_job}
 

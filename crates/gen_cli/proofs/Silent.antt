@@ -22,7 +22,7 @@ use Rattle.say_text.specs.Messages.{silenced, skipping_lines, reversed_line, not
 use Rattle.file_patch.specs.declared.derived.Target.{Target}
 use Rattle.patch_run.specs.OnePatch.{Item, PlainTurn, Tried, hunk_said, hunks_said, script_said, change_said, Start, skips, refuses, tries, Ending, ended, stopped, said_first, skips_at, lines_in, first_hunk, is_reversed, turns_round, on_direction, lacks_word, prereq_said, on_prereq, refusal_of, refused_or, on_taking, exists_said, on_existing, is_in_the_way, on_creation, patching_said, on_target, on_choice, choice_of, is_first, skipped_said, own_start, start, bytes_of, some_failed, failed, total, named_reject, is_kept, kept_said, failures_said, tried_said, shown, written, tried, ending_of, ending}
 use Rattle.patch_run.specs.Run.{Run, begun, turn_of, with_ending, if_going, with_item, run_on}
-use Rattle.planned_run.specs.Outcome.{item_for, run_for}
+use Rattle.patch_run.specs.Outcome.{item_for, run_for}
 
 or_false : (a b : Bool) → (a || b) ≡ false → (a ≡ false) × (b ≡ false)
 or_false true b is = absurd (false≢true (sym is))

@@ -17,10 +17,10 @@ use Rattle.run_answers.specs.Moments.{Opens, IsAsAtEntry, LeavesAllowed}
 use Rattle.run_answers.specs.Worlds.{World, world, NoneFailed}
 use Rattle.run_answers.proofs.Names.{old_or_new}
 use Rattle.run_answers.proofs.Opens.{tidy_same}
-use Rattle.planned_run.specs.Scratches.{scratch_behind_all}
-use Rattle.planned_run.specs.Outcome.{Outcome, refused}
-use Rattle.planned_run.specs.Answer.{HasReceipt, IsAnswer}
-use Rattle.planned_run.proofs.Entry.{nothing_yet, refused_so}
+use Rattle.patch_run.specs.Scratches.{scratch_behind_all}
+use Rattle.patch_run.specs.Outcome.{Outcome, refused}
+use Rattle.patch_run.specs.Answer.{HasReceipt, IsAnswer}
+use Rattle.patch_run.proofs.Entry.{nothing_yet, refused_so}
 use Rattle.gen_cli.specs.Jobs.{AsksFor, options_for}
 use Rattle.gen_cli.specs.Command.{command}
 use Rattle.gen_cli.specs.Worlds.{Tells}

@@ -22,9 +22,9 @@ use Rattle.run_answers.specs.declared.why.Why.TheVariants.{WriteFault, TreeFault
 use Rattle.run_answers.specs.Answers.{of_run, is_early, is_ended, is_fault, is_own, is_through}
 use Rattle.run_answers.specs.Moments.{FirstPart, IsAsAtEntry, LeavesAllowed, LeavesOldOrNew}
 use Rattle.run_answers.specs.Worlds.{World, NoneFailed}
-use Rattle.planned_run.specs.Scratches.{is_paged, scratch_behind_all}
-use Rattle.planned_run.specs.Outcome.{Outcome, items_for}
-use Rattle.planned_run.specs.Answer.{HasReceipt, IsAnswer}
+use Rattle.patch_run.specs.Scratches.{is_paged, scratch_behind_all}
+use Rattle.patch_run.specs.Outcome.{Outcome, items_for}
+use Rattle.patch_run.specs.Answer.{HasReceipt, IsAnswer}
 use Rattle.gen_cli.specs.Jobs.{AsksFor, options_for}
 use Rattle.gen_cli.specs.Command.{command, file_puts, patch_text, run_over, summary}
 use Rattle.gen_cli.specs.Worlds.{Tells}

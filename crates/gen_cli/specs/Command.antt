@@ -20,8 +20,8 @@ use Rattle.patch_set.specs.declared.fault.SetFault.{SetFault}
 use Rattle.patch_run.specs.Run.{Run}
 use Rattle.run_answers.specs.declared.why.Why.TheVariants.{Malformed}
 use Rattle.run_answers.specs.Answers.{of_set, of_words}
-use Rattle.planned_run.specs.Outcome.{Outcome, refused, run_for, end_of, receipt_if}
-use Rattle.planned_run.specs.Finishes.{verdicts_of}
+use Rattle.patch_run.specs.Outcome.{Outcome, refused, run_for, end_of, receipt_if}
+use Rattle.patch_run.specs.Finishes.{verdicts_of}
 use Rattle.gen_cli.specs.Jobs.{options_for}
 use Rattle.gen_cli.specs.Summary.{summary_of}
 

@@ -18,10 +18,10 @@ use Rattle.patch_run.specs.Doing.{IsCutAt, IsWholeOf}
 use Rattle.run_answers.specs.declared.why.Why.{Why}
 use Rattle.run_answers.specs.declared.why.Why.TheVariants.{Done, Rejected, Usage, Malformed, Garbage, EdReverse, OutMany, Reserved, NoPatchFile, TooLong, LongLine, FileTooLong, BadPattern, NoContext, Unfit, BadState, StackEnd, StackName, ReadFault, WriteFault, TreeFault, ScratchFault, Disagree, Memory}
 use Rattle.run_answers.specs.Answers.{is_fault, is_own, is_through, of_run}
-use Rattle.planned_run.specs.Scratches.{is_paged, scratch_behind_all}
-use Rattle.planned_run.specs.Outcome.{Outcome}
-use Rattle.planned_run.specs.Answer.{HasReceipt, why_of, receipt_of}
-use Rattle.planned_run.specs.Finishes.{IsNotBegun, IsToldTo}
+use Rattle.patch_run.specs.Scratches.{is_paged, scratch_behind_all}
+use Rattle.patch_run.specs.Outcome.{Outcome}
+use Rattle.patch_run.specs.Answer.{HasReceipt, why_of, receipt_of}
+use Rattle.patch_run.specs.Finishes.{IsNotBegun, IsToldTo}
 use Rattle.gen_cli.specs.Jobs.{options_for}
 use Rattle.gen_cli.specs.Command.{told_of}
 use Rattle.gen_cli.specs.Carries.{IsCutTelling}

@@ -8,7 +8,7 @@ use Rattle.patch_options.specs.declared.options.WordFault.TheVariants.{Usage}
 use Rattle.tool_words.specs.PlainJobs.{PlainToolJob, PlainGenJob}
 use Rattle.tool_words.specs.PlainJobs.PlainToolJob.{list_job, filter_job, grep_job, split_job, recount_job, gen_job, flip_job, stack_job}
 use Rattle.tool_words.specs.Words.{tool_job}
-use Rattle.planned_run.specs.Scratches.{has_scratch}
+use Rattle.patch_run.specs.Scratches.{has_scratch}
 
 -- words of other tools are no command here
 abbrev pub made_by : PlainToolJob → Result PlainGenJob WordFault

@@ -7,7 +7,7 @@ use Rattle.patch_gen.specs.Patches.{file_name}
 use Rattle.patch_gen.specs.Tree.{made_file}
 use Rattle.patch_set.specs.Refusals.{refusal}
 use Rattle.patch_set.specs.SetView.{SetView, IsRead}
-use Rattle.planned_run.specs.Finishes.{CanApply}
+use Rattle.patch_run.specs.Finishes.{CanApply}
 use Rattle.gen_cli.specs.declared.places.Place.{Place}
 use Rattle.gen_cli.specs.Jobs.{options_for}
 use Rattle.gen_cli.specs.Command.{patch_text}

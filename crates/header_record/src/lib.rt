@@ -6,7 +6,7 @@ use line_list::Span;
 use stamp::Stamp;
 
 /// What a git header says of a file.
-#[derive(Clone, Copy, Debug, PartialEq, Eq)]
+#[derive(Clone, Copy, Debug)]
 pub enum Action {
     /// Nothing but its lines changes.
     Plain,
@@ -21,7 +21,7 @@ pub enum Action {
 }
 
 /// The opening of a file patch or a bare git header, and what the lines in front of it say. Spans are places in the text.
-#[derive(Clone, Copy, Debug, PartialEq, Eq)]
+#[derive(Clone, Copy, Debug)]
 pub struct Header {
     pub form: Form,
     /// The place of the opening's line.

@@ -9,7 +9,7 @@ ghost use Rattle.hunk_core.specs.Rules.{IsSameHunk, breaks, first_broken, lacks_
 use crate::{Hunk, Side, has_feed, is_taken};
 
 /// The first rule that a hunk breaks.
-#[derive(Clone, Copy, Debug, PartialEq, Eq)]
+#[derive(Clone, Copy)]
 pub enum BadHunk {
     /// The body is empty.
     NoLines,

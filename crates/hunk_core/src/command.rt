@@ -5,7 +5,7 @@ ghost use Rattle.hunk_core.specs.Letters.{action_at, is_line_end, letter};
 
 /// What a command does: `a`, `c` or `d` (GNU diffutils manual, "Detailed Description of Normal
 /// Format" and "Detailed Description of ed Scripts").
-#[derive(Clone, Copy, Debug, PartialEq, Eq)]
+#[derive(Clone, Copy)]
 pub enum Action {
     Add,
     Change,

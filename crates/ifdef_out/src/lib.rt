@@ -19,7 +19,7 @@ use line_store::LineFault;
 pub use put::put_ifdef;
 
 /// Why the output isn't whole.
-#[derive(Clone, Copy, Debug, PartialEq, Eq)]
+#[derive(Clone, Copy)]
 pub enum IfdefFault {
     /// A line of the store couldn't be fetched.
     Line(LineFault),

@@ -15,7 +15,7 @@ const WIDTH: usize = 64;
 const WORDS: usize = 8;
 
 /// Which bytes of a part of a text are line feeds.
-#[derive(Clone, Copy, Debug)]
+#[derive(Clone, Copy)]
 pub struct Feeds {
     /// Where the part begins.
     pub at: usize,

@@ -6,7 +6,7 @@ ghost use Rattle.line_store.specs.declared.fault.OpenFault.TheVariants.{Tree, Me
 use outside::Failed;
 use std::alloc::{AllocError, AllocFailed};
 
-#[derive(Clone, Copy, Debug, PartialEq, Eq)]
+#[derive(Clone, Copy, Debug)]
 pub enum LineFault {
     /// The store's scratch failed.
     Scratch,
@@ -14,7 +14,7 @@ pub enum LineFault {
     Disagree { want: u64, got: u64 },
 }
 
-#[derive(Clone, Copy, Debug, PartialEq, Eq)]
+#[derive(Clone, Copy, Debug)]
 pub enum OpenFault {
     /// A call of the tree failed.
     Tree,

@@ -7,7 +7,7 @@ ghost use Rattle.line_store.specs.Halves.{half_of};
 use crate::Half;
 
 /// The number of the line that each half holds, counted from 1, for stores that need no more than that.
-#[derive(Clone, Copy, Debug, PartialEq, Eq)]
+#[derive(Clone, Copy)]
 pub struct Halves {
     pub first: Option<u64>,
     pub second: Option<u64>,

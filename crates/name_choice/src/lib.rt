@@ -23,7 +23,7 @@ use outside::{Failed, Tree};
 pub use rank::is_better;
 
 /// The name that was chosen, by its place among the targets, counted from 0.
-#[derive(Clone, Copy, Debug, PartialEq, Eq)]
+#[derive(Clone, Copy)]
 pub enum Choice {
     /// It is in the tree.
     Existing(u32),

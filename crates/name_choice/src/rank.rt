@@ -7,7 +7,7 @@ use file_patch::last_component;
 use outside::Name;
 
 /// How good a name is: the first count in which two names differ decides, and the smaller one is better.
-#[derive(Clone, Copy, Debug)]
+#[derive(Clone, Copy)]
 pub struct Rank {
     pub new_directories: u64,
     /// The number of components.
@@ -19,7 +19,7 @@ pub struct Rank {
 }
 
 /// The best name so far, by its place among the targets.
-#[derive(Clone, Copy, Debug)]
+#[derive(Clone, Copy)]
 pub struct Best {
     pub place: u32,
     pub rank: Rank,

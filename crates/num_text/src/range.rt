@@ -8,7 +8,7 @@ use crate::{Number, digits_end, read_number};
 
 /// Two numbers, or one that counts as both. A number above the greatest `u32` stands as one more
 /// than that.
-#[derive(Clone, Copy, Debug, PartialEq, Eq)]
+#[derive(Clone, Copy)]
 pub struct NumberRange {
     pub first: u64,
     pub last: u64,

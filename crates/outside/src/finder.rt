@@ -5,7 +5,7 @@ ghost use Rattle.outside.specs.FinderView.{FinderView, FinderPasses, IsSet};
 use std::alloc::{AllocError, Global};
 
 /// Why a finder doesn't keep a pattern.
-#[derive(Clone, Copy, Debug, PartialEq, Eq)]
+#[derive(Clone, Copy)]
 pub enum FindFault {
     /// It isn't a pattern that this finder takes.
     Refused,

@@ -24,11 +24,11 @@ use Rattle.patch_set.specs.SetView.{SetView, plain_patches, hunks_in, IsRead, Is
 use Rattle.patch_run.specs.Run.{Run, set_run}
 use Rattle.run_answers.specs.declared.why.Why.{Why}
 use Rattle.run_answers.specs.declared.why.Why.TheVariants.{Done, Rejected, Usage, Malformed, Garbage, EdReverse, OutMany, Reserved, NoPatchFile, TooLong, LongLine, FileTooLong, BadPattern, NoContext, Unfit, BadState, StackEnd, StackName, ReadFault, WriteFault, TreeFault, ScratchFault, Disagree, Memory}
-use Rattle.planned_run.specs.Outcome.{run_for, carried_out}
-use Rattle.planned_run.proofs.Matching.{run-match}
+use Rattle.patch_run.specs.Outcome.{run_for, carried_out}
+use Rattle.patch_run.proofs.Matching.{run-match}
 use Rattle.patch_cli.specs.Command.{Reads, on_patches, on_refusal, on_input, on_job}
 use Rattle.patch_cli.specs.Worlds.{World, world, TellsFiles, TellsLeft, TellsInput, is_standard}
-use Rattle.planned_run.specs.Finishes.{CanApply}
+use Rattle.patch_run.specs.Finishes.{CanApply}
 use Rattle.run_answers.specs.Moments.{Opens}
 use Rattle.patch_cli.specs.Opening.{IsAsked, EndsSo, StopsEarly}
 

@@ -25,18 +25,18 @@ use Rattle.run_answers.specs.declared.why.Why.{Why}
 use Rattle.run_answers.specs.declared.why.Why.TheVariants.{Done, Rejected, Usage, Malformed, Garbage, EdReverse, OutMany, Reserved, NoPatchFile, TooLong, LongLine, FileTooLong, BadPattern, NoContext, Unfit, BadState, StackEnd, StackName, ReadFault, WriteFault, TreeFault, ScratchFault, Disagree, Memory}
 use Rattle.run_answers.specs.Answers.{is_fault, of_run}
 use Rattle.run_answers.specs.Moments.{FirstPart, IsAsAtEntry, LeavesAllowed, Opens}
-use Rattle.planned_run.specs.Outcome.{Outcome, carried_out, end_of, receipt_if}
-use Rattle.planned_run.specs.Answer.{IsAnswer}
-use Rattle.planned_run.proofs.Matching.{cut-match}
-use Rattle.planned_run.proofs.Receipts.{memory_end, receipt_end, receipt_fault}
+use Rattle.patch_run.specs.Outcome.{Outcome, carried_out, end_of, receipt_if}
+use Rattle.patch_run.specs.Answer.{IsAnswer}
+use Rattle.patch_run.proofs.Matching.{cut-match}
+use Rattle.patch_run.proofs.Receipts.{memory_end, receipt_end, receipt_fault}
 use Rattle.patch_cli.specs.Answers.{Sort, sort_of, IsEarly}
 use Rattle.patch_cli.specs.Answers.Sort.{ended}
 use Rattle.patch_cli.specs.Command.{Reads, command, on_job}
 use Rattle.patch_cli.specs.Worlds.{World, TellsFiles, TellsLeft, TellsInput, AsksFor, reads_source, pages_all}
 use Rattle.patch_cli.specs.Causes.{HasCause}
-use Rattle.planned_run.specs.Scratches.{scratch_behind_all}
-use Rattle.planned_run.specs.Finishes.{IsToldTo, HasPlanCause, Finishes}
-use Rattle.planned_run.specs.Finishes as finishes
+use Rattle.patch_run.specs.Scratches.{scratch_behind_all}
+use Rattle.patch_run.specs.Finishes.{IsToldTo, HasPlanCause, Finishes}
+use Rattle.patch_run.specs.Finishes as finishes
 use Rattle.patch_cli.specs.Opening.{IsAsked}
 use Rattle.patch_cli.specs.Carries.{Answers, Untouched, QuietAfter, IsEnd, HasRead, Heeds, IsCut, BreaksOff, Carries, NoneFailed, IsComplete}
 use Rattle.run_answers.proofs.Opens.{opens_both, opens_untouched, tidy_behind}

@@ -11,9 +11,9 @@ use Rattle.run_answers.specs.Input.{TakesAtMost}
 use Rattle.run_answers.specs.declared.why.Why.{Why}
 use Rattle.run_answers.specs.declared.why.Why.TheVariants.{Done, Rejected, Usage, Malformed, Garbage, EdReverse, OutMany, Reserved, NoPatchFile, TooLong, LongLine, FileTooLong, BadPattern, NoContext, Unfit, BadState, StackEnd, StackName, ReadFault, WriteFault, TreeFault, ScratchFault, Disagree, Memory}
 use Rattle.run_answers.specs.Moments.{IsAsAtEntry, Opens}
-use Rattle.planned_run.specs.Outcome.{Outcome}
-use Rattle.planned_run.specs.Answer.{HasReceipt, IsAnswer}
-use Rattle.planned_run.proofs.Entry.{nothing_yet, refused_so}
+use Rattle.patch_run.specs.Outcome.{Outcome}
+use Rattle.patch_run.specs.Answer.{HasReceipt, IsAnswer}
+use Rattle.patch_run.proofs.Entry.{nothing_yet, refused_so}
 use Rattle.patch_cli.specs.Answers.{Sort, sort_of}
 use Rattle.patch_cli.specs.Answers.Sort.{ended, halted, refusal, unread, broken, starved}
 use Rattle.patch_cli.specs.Command.{on_job}

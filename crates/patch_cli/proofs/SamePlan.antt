@@ -4,8 +4,8 @@ use Rattle.outside.specs.Files.{Files}
 use Rattle.patch_options.specs.PlainJob.{PlainOptions}
 use Rattle.patch_options.specs.PlainJob.PlainJob.{patch}
 use Rattle.patch_options.specs.declared.options.PlanKind.{PlanKind}
-use Rattle.planned_run.specs.Outcome.{with_plan}
-use Rattle.planned_run.proofs.SamePlan.{refusal_same, run_same}
+use Rattle.patch_run.specs.Outcome.{with_plan}
+use Rattle.patch_run.proofs.SamePlan.{refusal_same, run_same}
 use Rattle.patch_cli.specs.Command.{on_job}
 
 pub job_same : (plan : PlanKind) (o : PlainOptions) (f : Files) (left : List ℕ) → on_job (Ok (patch (with_plan plan o))) f left ≡ on_job (Ok (patch o)) f left

@@ -23,9 +23,9 @@ use Rattle.run_answers.specs.Answers.{of_run, is_fault}
 use Rattle.run_answers.specs.Moments.{FirstPart, IsAsAtEntry, LeavesAllowed, Opens}
 use Rattle.patch_cli.specs.Answers.{Sort, sort_of}
 use Rattle.patch_cli.specs.Answers.Sort.{ended, halted, refusal, unread, broken, starved}
-use Rattle.planned_run.specs.Scratches.{scratch_behind_all}
-use Rattle.planned_run.specs.Outcome.{Outcome, refused, items_for}
-use Rattle.planned_run.specs.Answer.{HasReceipt, IsAnswer}
+use Rattle.patch_run.specs.Scratches.{scratch_behind_all}
+use Rattle.patch_run.specs.Outcome.{Outcome, refused, items_for}
+use Rattle.patch_run.specs.Answer.{HasReceipt, IsAnswer}
 use Rattle.patch_cli.specs.Command.{Reads, on_job, command}
 use Rattle.patch_cli.specs.Worlds.{World, TellsFiles, TellsLeft, TellsInput, AsksFor, reads_source, pages_all}
 use Rattle.patch_cli.specs.Causes.{HasCause}

@@ -16,7 +16,7 @@ use Rattle.patch_set.specs.declared.fault.SetFault.{SetFault}
 use Rattle.patch_set.specs.Refusals.{refusal}
 use Rattle.run_answers.specs.declared.why.Why.TheVariants.{Malformed}
 use Rattle.run_answers.specs.Answers.{of_words, of_input, of_set}
-use Rattle.planned_run.specs.Outcome.{Outcome, refused, run_for, carried_out}
+use Rattle.patch_run.specs.Outcome.{Outcome, refused, run_for, carried_out}
 
 -- a text that isn't refused has file patches, or is empty
 abbrev pub on_patches : PlainOptions → List ℕ → Result (List PlainPatch) Fault → Files → Outcome

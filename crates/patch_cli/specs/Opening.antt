@@ -8,11 +8,11 @@ use Rattle.patch_set.specs.SetView.{SetView, plain_patches}
 use Rattle.run_answers.specs.declared.why.Why.{Why}
 use Rattle.patch_cli.specs.Answers.{Sort, sort_of}
 use Rattle.patch_cli.specs.Answers.Sort.{ended, halted, refusal, unread, broken, starved}
-use Rattle.planned_run.specs.Outcome.{refused}
+use Rattle.patch_run.specs.Outcome.{refused}
 use Rattle.patch_cli.specs.Command.{Reads, on_job}
 use Rattle.patch_cli.specs.Worlds.{World, TellsInput}
 use Rattle.patch_cli.specs.Causes.{HasCause}
-use Rattle.planned_run.specs.Finishes.{CanApply}
+use Rattle.patch_run.specs.Finishes.{CanApply}
 
 -- where it is told what they read, the patch text that these options name is this set
 pub record IsAsked (o : PlainOptions) (v : SetView) (u : World) : Type 0 where

@@ -10,13 +10,12 @@ ghost use Rattle.patch_cli.specs.Answers.{sort_of, IsEarly};
 ghost use Rattle.patch_cli.specs.Command.{command};
 ghost use Rattle.run_answers.specs.Reasons.{refusal_line};
 ghost use Rattle.patch_cli.specs.Worlds.{world, TellsFiles, TellsLeft, reads_source, uses_scratch};
-ghost use Rattle.planned_run.specs.Answer.{why_of, receipt_of};
+ghost use Rattle.patch_run.specs.Answer.{why_of, receipt_of};
 ghost use Rattle.patch_cli.specs.Carries.{Carries, NoneFailed, IsComplete};
 
 use crate::opening::open;
 use outside::{Scratch, Sink, Source, Tree};
-use patch_run::Applied;
-use planned_run::{Exit, apply, exit_of};
+use patch_run::{Applied, Exit, apply, exit_of};
 use run_answers::{Why, report};
 use std::alloc::Global;
 

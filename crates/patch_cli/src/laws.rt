@@ -5,7 +5,7 @@ ghost use Rattle.outside.specs.Files.{Files};
 ghost use Rattle.patch_options.specs.PlainJob.{PlainOptions};
 ghost use Rattle.patch_options.specs.PlainJob.PlainJob.{patch};
 ghost use Rattle.patch_options.specs.declared.options.PlanKind.{PlanKind};
-ghost use Rattle.planned_run.specs.Outcome.{with_plan};
+ghost use Rattle.patch_run.specs.Outcome.{with_plan};
 ghost use Rattle.patch_cli.specs.Command.{on_job};
 
 /// What a command does is the same with each plan.

@@ -7,6 +7,5 @@ mod opening;
 
 pub use cli::run;
 pub use laws::command_laws;
-pub use patch_run::Applied;
-pub use planned_run::Exit;
+pub use patch_run::{Applied, Exit};
 pub use run_answers::Why;

@@ -7,7 +7,7 @@ use outside::Failed;
 use std::alloc::AllocError;
 
 /// Why a set wasn't searched to its end.
-#[derive(Clone, Copy, Debug, PartialEq, Eq)]
+#[derive(Clone, Copy)]
 pub enum GrepFault {
     /// The finder has refused the pattern; nothing is written.
     Pattern,

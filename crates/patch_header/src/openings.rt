@@ -16,7 +16,7 @@ use ed_form::{Command, command_at, is_command_line};
 use hunk_core::{Action, Form};
 
 /// What ends the lines in front of a file patch.
-#[derive(Clone, Copy, Debug, PartialEq, Eq)]
+#[derive(Clone, Copy)]
 pub enum Stop {
     /// The first hunk of a form, or an ed script.
     Opening(Form),

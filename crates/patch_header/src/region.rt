@@ -8,7 +8,7 @@ use crate::content::content;
 use hunk_core::after_prefix;
 
 /// What stands in a line behind the bytes that tell its kind, without the line feed.
-#[derive(Clone, Copy, Debug, PartialEq, Eq)]
+#[derive(Clone, Copy)]
 pub struct Tail {
     pub number: u64,
     pub start: usize,
@@ -16,7 +16,7 @@ pub struct Tail {
 }
 
 /// The last line of each kind so far: `--- `, `+++ `, `*** `, `Index:` and `Prereq:`.
-#[derive(Clone, Copy, Debug, PartialEq, Eq)]
+#[derive(Clone, Copy)]
 pub struct Seen {
     pub minus: Option<Tail>,
     pub plus: Option<Tail>,

@@ -23,7 +23,7 @@ use hunk_core::Form;
 use line_list::next_line;
 
 /// What comes next in a patch text outside hunks.
-#[derive(Clone, Copy, Debug, PartialEq, Eq)]
+#[derive(Clone, Copy, Debug)]
 pub enum HeaderStep {
     Found(Header),
     /// A binary line comes before the first opening or bare git header.

@@ -6,7 +6,7 @@ ghost use Rattle.patch_header.specs.Ways.{with_git, plainly};
 use hunk_core::Form;
 
 /// How a patch text is looked through for file patches.
-#[derive(Clone, Copy, Debug, PartialEq, Eq)]
+#[derive(Clone, Copy)]
 pub struct Ways {
     /// The one form whose openings count, or `None` where those of all forms do.
     pub only: Option<Form>,

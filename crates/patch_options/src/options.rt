@@ -13,7 +13,7 @@ pub enum Input {
 }
 
 /// How the lines of the file to be patched are held.
-#[derive(Clone, Copy, Debug, PartialEq, Eq)]
+#[derive(Clone, Copy, Debug)]
 pub enum PlanKind {
     /// The whole file, in memory.
     Whole,
@@ -81,7 +81,7 @@ pub enum Job {
 }
 
 /// Why words give no job. No message comes from its text.
-#[derive(Clone, Copy, Debug, PartialEq, Eq, Error)]
+#[derive(Clone, Copy, Debug, Error)]
 pub enum WordFault {
     #[error("the words are not a command")]
     Usage,

@@ -21,7 +21,7 @@ use Rattle.patch_task.specs.Outputs.{IsSession}
 use Rattle.patch_start.specs.Trying.{IsBegun}
 use Rattle.file_patch.specs.declared.derived.Target.{Target}
 use Rattle.patch_set.specs.declared.set.Row.{Row}
-use Rattle.patch_run.specs.declared.apply.Done.{Done}
+use Rattle.patch_run.specs.declared.one_patch.Done.{Done}
 use Rattle.patch_task.specs.declared.placed.Made.{Made}
 use Rattle.patch_task.specs.TaskView.{with_past}
 use Rattle.patch_run.specs.OnePatch.{Mark, PlainTurn, Tried, bytes_of, output_on, tried, some_failed, is_kept, finished, effects_of, tried_said, wrote}

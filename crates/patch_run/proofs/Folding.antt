@@ -14,7 +14,7 @@ use Rattle.patch_options.specs.PlainJob.{PlainOptions}
 use Rattle.file_patch.specs.declared.derived.Target.{Target}
 use Rattle.patch_task.specs.declared.fault.RunFault.{RunFault}
 use Rattle.patch_task.specs.declared.fault.RunFault.TheVariants.{Tree, Write, Scratch, LongLine, FileTooLong, Disagree, Memory}
-use Rattle.patch_run.specs.declared.apply.Done.{Done}
+use Rattle.patch_run.specs.declared.one_patch.Done.{Done}
 use Rattle.patch_run.specs.OnePatch.{Item, PlainTurn, Story, Ending, ended, stopped, ending}
 use Rattle.patch_run.specs.Run.{Run, begun, turn_of, with_story, with_stop, with_ending, if_going, with_item, run_on, run_of}
 use Rattle.patch_task.specs.Making.{IsPart, UnlessFailed}

@@ -21,7 +21,7 @@ use Rattle.patch_set.specs.declared.set.Row.{Row}
 use Rattle.patch_set.specs.SetView.{SetView, hunks_in, with_row}
 use Rattle.patch_task.specs.declared.fault.RunFault.{RunFault}
 use Rattle.patch_task.specs.declared.fault.RunFault.TheVariants.{Tree, Write, Scratch, LongLine, FileTooLong, Disagree, Memory}
-use Rattle.patch_run.specs.declared.apply.Done.{Done}
+use Rattle.patch_run.specs.declared.one_patch.Done.{Done}
 use Rattle.patch_start.specs.Devices.{Told, HasRunCause, scratch_with}
 use Rattle.patch_run.specs.OnePatch.{Item, Mark, PlainTurn, Story, Ending, ending, mark_of}
 use Rattle.patch_run.specs.Run.{Run, run_on, turn_of, with_story, with_ending, run_of, item_of, items_of, set_run}

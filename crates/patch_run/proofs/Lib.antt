@@ -19,3 +19,9 @@ mod Unwritten
 mod Removing
 mod TriedFiles
 mod Rejected
+mod Finishing
+pub mod SamePlan
+pub mod Matching
+pub mod Receipts
+pub mod Entry
+pub mod Written

@@ -18,7 +18,7 @@ use Rattle.file_patch.specs.declared.derived.Target.{Target}
 use Rattle.patch_task.specs.declared.fault.RunFault.{RunFault}
 use Rattle.patch_task.specs.declared.fault.RunFault.TheVariants.{Tree, Write, Scratch, LongLine, FileTooLong, Disagree, Memory}
 use Rattle.patch_run.specs.Applied.{Receipt}
-use Rattle.patch_run.specs.declared.apply.Done.{Done}
+use Rattle.patch_run.specs.declared.one_patch.Done.{Done}
 use Rattle.patch_start.specs.Devices.{Told}
 use Rattle.patch_run.specs.OnePatch.{Item, ending}
 use Rattle.patch_run.specs.Run.{Run, items_of, set_run}

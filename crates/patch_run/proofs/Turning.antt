@@ -21,7 +21,7 @@ use Rattle.patch_task.specs.declared.fault.RunFault.{RunFault}
 use Rattle.patch_task.specs.declared.fault.RunFault.TheVariants.{Tree, Write, Scratch, LongLine, FileTooLong, Disagree, Memory}
 use Rattle.patch_start.specs.declared.starting.Decision.{Decision}
 use Rattle.patch_start.specs.declared.starting.Decision.TheVariants.{Skip, Try}
-use Rattle.patch_run.specs.declared.apply.Done.{Done}
+use Rattle.patch_run.specs.declared.one_patch.Done.{Done}
 use Rattle.patch_run.specs.OnePatch.{PlainTurn, Start, skips, refuses, tries, total, ignored_said, bytes_of, lines_in, start, skipped, finished_at, ending_of, ending}
 use Rattle.patch_start.specs.Devices.{Told, HasRunCause, scratch_with}
 use Rattle.patch_start.specs.Starting.{Starts, IsDecided, IsBrokenOff, said_in, taken_in}

@@ -20,7 +20,7 @@ use Rattle.outside.specs.Quiet.{Holds, after_all}
 use Rattle.hunk_core.specs.declared.Side.{Side}
 use Rattle.hunk_apply.specs.declared.Session.{Session}
 use Rattle.file_patch.specs.declared.derived.Target.{Target}
-use Rattle.patch_run.specs.declared.apply.Done.{Done}
+use Rattle.patch_run.specs.declared.one_patch.Done.{Done}
 use Rattle.patch_task.specs.declared.placed.Made.{Made}
 use Rattle.patch_task.specs.Outputs.{IsSession}
 use Rattle.patch_task.specs.Making.{IsGone, IsPart, TidyAfter, UnlessFailed}

@@ -3,3 +3,7 @@ pub mod Run
 pub mod Applied
 pub mod Doing
 pub mod Laws
+pub mod Scratches
+pub mod Finishes
+pub mod Outcome
+pub mod Answer

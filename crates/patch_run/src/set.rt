@@ -20,7 +20,7 @@ ghost use Rattle.hunk_core.specs.declared.Verdict.TheVariants.{Ignored};
 ghost use Rattle.hunk_apply.specs.Change.{change_verdicts};
 
 use crate::applied::Applied;
-use crate::apply::{Done, apply_one};
+use crate::one_patch::{Done, apply_one};
 use hunk_core::Verdict;
 use line_store::Plan;
 use outside::{NameMarks, Sink, Tree};

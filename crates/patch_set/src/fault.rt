@@ -5,7 +5,7 @@ use std::alloc::{AllocError, AllocFailed};
 use thiserror::Error;
 
 /// Why a patch text makes no set. Lines are numbered from 1. No message comes from its text.
-#[derive(Clone, Copy, Debug, PartialEq, Eq, Error)]
+#[derive(Clone, Copy, Debug, Error)]
 pub enum SetFault {
     /// The first fault, line by line.
     #[error("malformed in line {line}")]

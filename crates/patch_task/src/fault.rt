@@ -9,7 +9,7 @@ use outside::Failed;
 use thiserror::Error;
 
 /// Why a run didn't come to its end. No message comes from its text.
-#[derive(Clone, Copy, Debug, PartialEq, Eq, Error)]
+#[derive(Clone, Copy, Debug, Error)]
 pub enum RunFault {
     /// A call of the tree failed.
     #[error("the tree has failed")]

@@ -1,12 +1,15 @@
 //! The program: all that its tools do, over real devices.
 #![tactic(auto)]
 
+mod kind;
+mod run_tool;
+
 use outside::{Finder, Scratch, Sink, Source, Tree};
 use program_answers::{Runner, answer};
 use run_answers::Why;
+use run_tool::run;
 use std::alloc::Global;
 use std::process::ExitCode;
-use tool_run::run;
 
 fn main(rt: HostRuntime) -> ExitCode {
     ExitCode::from(answer(&rt, &Tools))

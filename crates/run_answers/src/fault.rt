@@ -4,7 +4,7 @@ ghost use Rattle.run_answers.specs.declared.fault.InputFault.TheVariants.{Memory
 
 use std::alloc::AllocError;
 
-#[derive(Clone, Copy, Debug, PartialEq, Eq)]
+#[derive(Clone, Copy)]
 pub enum InputFault {
     /// The file isn't in the tree.
     NoPatchFile,

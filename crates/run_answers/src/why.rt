@@ -11,7 +11,7 @@ use patch_task::RunFault;
 use series_stack::StateFile;
 
 /// Why a run ends. Lines are numbered from 1, and lengths are in bytes.
-#[derive(Clone, Copy, Debug, PartialEq, Eq)]
+#[derive(Clone, Copy)]
 pub enum Why {
     /// All was carried out, and nothing was refused.
     Done,

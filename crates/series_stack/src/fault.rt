@@ -5,7 +5,7 @@ ghost use Rattle.series_stack.specs.declared.fault.StackFault.TheVariants.{Memor
 use std::alloc::AllocError;
 
 /// A file in which a stack keeps its state.
-#[derive(Clone, Copy, Debug, PartialEq, Eq)]
+#[derive(Clone, Copy)]
 pub enum StateFile {
     /// The list of its patches.
     Series,
@@ -15,7 +15,7 @@ pub enum StateFile {
     Save,
 }
 
-#[derive(Clone, Copy, Debug, PartialEq, Eq)]
+#[derive(Clone, Copy)]
 pub enum StackFault {
     /// The file isn't of its form.
     BadState { file: StateFile },

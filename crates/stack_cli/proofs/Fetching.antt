@@ -27,7 +27,7 @@ use Rattle.run_answers.specs.declared.fault.InputFault.{InputFault}
 use Rattle.run_answers.specs.declared.fault.InputFault.TheVariants as input
 use Rattle.run_answers.specs.Input.{answer_of}
 use Rattle.patch_run.specs.Run.{Run, set_run}
-use Rattle.planned_run.specs.Finishes.{CanApply}
+use Rattle.patch_run.specs.Finishes.{CanApply}
 use Rattle.series_stack.specs.Series.{is_feed, is_lawful, named_lines, series_of}
 use Rattle.series_stack.specs.Stack.{patch_name}
 use Rattle.series_stack.specs.Commands.{IsPatch, names_of, own_line}

@@ -44,7 +44,7 @@ use Rattle.patch_run.specs.Applied.{Receipt}
 use Rattle.patch_run.specs.Run.{set_run}
 use Rattle.patch_run.specs.Doing.{IsFar, IsPartOf, QuietAfter}
 use Rattle.patch_set.specs.SetView.{SetView, plain_patches}
-use Rattle.planned_run.specs.Finishes.{Finishes, IsToldTo}
+use Rattle.patch_run.specs.Finishes.{Finishes, IsToldTo}
 use Rattle.stack_patch.specs.Reading.{push_options, ending_by, targets_for}
 use Rattle.stack_state.specs.Steps.{Steps}
 use Rattle.stack_state.specs.Undoing.{undone_by}

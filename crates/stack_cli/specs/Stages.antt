@@ -11,7 +11,7 @@ use Rattle.patch_run.specs.Doing.{QuietAfter}
 use Rattle.patch_run.specs.Run.{set_run}
 use Rattle.patch_task.specs.declared.fault.RunFault.{RunFault}
 use Rattle.patch_task.specs.declared.fault.RunFault.TheVariants as runs
-use Rattle.planned_run.specs.Finishes.{CanApply}
+use Rattle.patch_run.specs.Finishes.{CanApply}
 use Rattle.series_stack.specs.Saves.{Entry}
 use Rattle.series_stack.specs.Undoing.{entries_at}
 use Rattle.series_stack.specs.Taking.{AreSaved, too_long}

@@ -26,7 +26,7 @@ use run_answers::{InputFault, read_file};
 use std::alloc::Global;
 
 /// Why the patch isn't read.
-#[derive(Clone, Copy, Debug, PartialEq, Eq)]
+#[derive(Clone, Copy)]
 pub enum PushFault {
     /// Its file isn't.
     Input(InputFault),

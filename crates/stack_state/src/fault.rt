@@ -5,7 +5,7 @@ ghost use Rattle.stack_state.specs.declared.fault.StateFault.TheVariants.{Memory
 use series_stack::StateFile;
 use std::alloc::AllocError;
 
-#[derive(Clone, Copy, Debug, PartialEq, Eq)]
+#[derive(Clone, Copy)]
 pub enum StateFault {
     /// No file lists the patches.
     NoSeries,

@@ -10,7 +10,7 @@ use jiff::civil::Date;
 use num_text::digits_end;
 
 /// What a stamp says: seconds since 1970-01-01 00:00:00 UTC, or nothing that is known.
-#[derive(Clone, Copy, Debug, PartialEq, Eq)]
+#[derive(Clone, Copy, Debug)]
 pub enum Stamp {
     Instant(i64),
     Unknown,

@@ -58,7 +58,7 @@ pub struct FilterJob {
 }
 
 /// What is written of the file patches that have a hit.
-#[derive(Clone, Copy, Debug, PartialEq, Eq)]
+#[derive(Clone, Copy, Debug)]
 pub enum GrepOut {
     /// Their names.
     Names,
@@ -90,7 +90,7 @@ pub struct SplitJob {
 }
 
 /// One command of `patchgen`.
-#[derive(Clone, Copy, Debug, PartialEq, Eq)]
+#[derive(Clone, Copy, Debug)]
 pub struct GenJob {
     pub seed: u32,
     /// From 1 to 1,000.
@@ -103,7 +103,7 @@ pub struct GenJob {
 }
 
 /// What is done with the patches of a stack.
-#[derive(Clone, Copy, Debug, PartialEq, Eq)]
+#[derive(Clone, Copy, Debug)]
 pub enum StackOp {
     /// The next patch is applied.
     Push,

@@ -15,7 +15,7 @@ use line_list::{Feeds, Span};
 use std::alloc::Global;
 
 /// Hunks without their lines.
-#[derive(Debug, Drop)]
+#[derive(Drop)]
 pub struct HunkRows {
     /// The piece of each.
     pub spans: Vec<Span>,

@@ -16,7 +16,7 @@ use line_list::{Feeds, next_line_by};
 use std::alloc::Global;
 
 /// Which lines of the old side a hunk is about.
-#[derive(Clone, Copy, Debug, PartialEq, Eq)]
+#[derive(Clone, Copy)]
 pub struct OldRange {
     /// The stated start.
     pub start: u32,
@@ -25,7 +25,7 @@ pub struct OldRange {
 }
 
 /// The first of the hunks that follow each other in a text.
-#[derive(Debug, Drop)]
+#[derive(Drop)]
 pub struct Skim {
     pub first: Hunk,
     /// Whether others follow.

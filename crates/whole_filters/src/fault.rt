@@ -9,7 +9,7 @@ use run_answers::InputFault;
 use std::alloc::AllocError;
 
 /// Why a filter ends early.
-#[derive(Clone, Copy, Debug, PartialEq, Eq)]
+#[derive(Clone, Copy)]
 pub enum FilterFault {
     /// There is no text, or no list of patterns.
     Input(InputFault),

@@ -3,8 +3,8 @@ use Rattle.tool_words.specs.PlainJobs.{plain_gen_job}
 use Rattle.gen_cli.proofs.Finished.{ends_of_cut, ends_of_run}
 use Rattle.gen_cli.proofs.Joined.{carries_run, carries_unput}
 use Rattle.std.proofs.Common.{refl, sym, ap, subst, ◌∙◌}
-use Rattle.planned_run.specs.Finishes.{CanApply}
-use Rattle.planned_run.specs.Scratches.{has_scratch}
+use Rattle.patch_run.specs.Finishes.{CanApply}
+use Rattle.patch_run.specs.Scratches.{has_scratch}
 use Rattle.gen_cli.proofs.carrying.carry_out.Goals as goal
 
 pub returns-in-Err : goal.returns-in-Err

@@ -3,7 +3,7 @@ use Rattle.patch_cli.specs.Command.{command}
 use Rattle.run_answers.specs.Reasons.{refusal_line}
 use Rattle.run_answers.proofs.Writes.{writes_part}
 use Rattle.run_answers.proofs.Names.{old_or_new}
-use Rattle.planned_run.proofs.Written.{writes_whole}
+use Rattle.patch_run.proofs.Written.{writes_whole}
 use Rattle.patch_cli.proofs.Carrying.{carries_as, is_complete}
 use Rattle.patch_cli.proofs.cli.run.Goals as goal
 

@@ -3,7 +3,7 @@ use Rattle.outside.specs.Quiet.{after}
 use Rattle.outside.specs.Quiet.Effect.{Put}
 use Rattle.outside.proofs.Views.{untouched_quiet}
 use Rattle.patch_options.specs.PlainJob.{PlainOptions}
-use Rattle.planned_run.specs.Finishes.{CanApply, Finishes}
+use Rattle.patch_run.specs.Finishes.{CanApply, Finishes}
 use Rattle.run_answers.specs.Answers.{of_run}
 use Rattle.run_answers.specs.Worlds.{world}
 use Rattle.series_stack.specs.Saves.{entries_of}

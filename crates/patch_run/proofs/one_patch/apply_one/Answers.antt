@@ -1,0 +1,100 @@
+use Rattle.std.proofs.Common.{◌≡◌, ◌⊎◌, inl, inr, ◌≤◌, ℕ, List, Some, true, refl, length, replicate, sym, ◌∙◌, ap, subst, arith}
+use Rattle.std.proofs.lemmas.List.{length-replicate}
+use Rattle.std.proofs.lemmas.Result.{IfOk-weaker}
+use Rattle.outside.specs.Calls.{untouched_both}
+use Rattle.outside.proofs.Exits.{if_ok_none}
+use Rattle.outside.proofs.Views.{untouched_quiet}
+use Rattle.hunk_core.specs.declared.Verdict.{Verdict}
+use Rattle.hunk_core.specs.declared.Verdict.TheVariants.{Ignored}
+use Rattle.hunk_apply.specs.Change.{change_verdicts}
+use Rattle.patch_start.specs.declared.starting.Decision.{Decision}
+use Rattle.patch_start.specs.Starting.{IsWithin}
+use Rattle.patch_run.specs.declared.one_patch.Done.{Done}
+use Rattle.patch_run.specs.OnePatch.{total}
+use Rattle.patch_outcome.specs.TurnView.{plain_turn}
+use Rattle.patch_run.proofs.First.{is-first}
+use Rattle.patch_outcome.proofs.Marks.{rows-counted}
+use Rattle.patch_run.proofs.Turning.{start_fails, lines_told, skip_does, try_does}
+use Rattle.patch_run.proofs.one_patch.apply_one.Goals as goal
+
+pub try_at-requires-clause-told : goal.try_at-requires-clause-told
+try_at-requires-clause-told g c =
+    lines_told (plain_turn c.args.turn.now) (g.T.Tree.view c.args.tree.now) (g.T.Tree.view c.start.new.tree) (g.P.LineStore.seen c.args.plan.now) (g.P.LineStore.seen c.start.new.plan) (g.O.Sink.view c.args.out.now) (g.O.Sink.view c.start.new.out) g.P.Plan.scratch_after c.requires.quiet
+    c.in_ok-row.field-0 (c.in_ok-row.ensures.starts (plain_turn c.args.turn.now).past (is-first c.args.turn.now c.requires.turn)) c.in-Try.place c.in-Try.side c.in-Try.is
+
+pub try_at-requires-clause-quiet : goal.try_at-requires-clause-quiet
+try_at-requires-clause-quiet g c = untouched_quiet (c.in_ok-row.ensures.starts (plain_turn c.args.turn.now).past (is-first c.args.turn.now c.requires.turn)).untouched c.requires.quiet
+
+pub try_at-requires-clause-within : goal.try_at-requires-clause-within
+try_at-requires-clause-within g c = subst (λ (d : Decision). IsWithin (length c.args.turn.now.task.patch.now.targets.items) d) c.in-Try.is c.in_ok-row.ensures.within
+
+pub returns-in_err-row : goal.returns-in_err-row
+returns-in_err-row g c = record {
+  does = (
+      start_fails (plain_turn c.args.turn.now) (g.T.Tree.view c.args.tree.now) (g.T.Tree.view c.start.new.tree) (g.P.LineStore.seen c.args.plan.now) (g.P.LineStore.seen c.start.new.plan) (g.O.Sink.view c.args.out.now) (g.O.Sink.view c.start.new.out) g.P.Plan.scratch_after c.requires.quiet
+      c.in_err-row.field-0.0 c.from_residual.result c.args.verdicts.now c.from_residual.ensures.1 (c.in_err-row.ensures.starts (plain_turn c.args.turn.now).past (is-first c.args.turn.now c.requires.turn)));
+  dry = λ dry. (c.in_err-row.ensures.starts (plain_turn c.args.turn.now).past (is-first c.args.turn.now c.requires.turn)).untouched;
+  few = if_ok_none _ _ c.from_residual.result c.from_residual.ensures.1;
+  placed = if_ok_none _ _ c.from_residual.result c.from_residual.ensures.1;
+  rest = c.in_err-row.ensures.rest;
+  rows = refl;
+}
+
+pub returns-in-Skip : goal.returns-in-Skip
+returns-in-Skip g c = record {
+  does = (
+      let t = plain_turn c.args.turn.now in
+      let count : length c.args.verdicts.now ≡ total t = c.requires.rows ∙ sym (rows-counted c.args.turn.now.task.set.now.text c.args.turn.now.task.patch.now.change) in
+      skip_does t (g.T.Tree.view c.args.tree.now) (g.T.Tree.view c.start.new.tree) (g.P.LineStore.seen c.args.plan.now) (g.P.LineStore.seen c.start.new.plan) (g.O.Sink.view c.args.out.now) (g.O.Sink.view c.start.new.out) g.P.Plan.scratch_after c.requires.quiet
+      c.in_ok-row.field-0 (c.in_ok-row.ensures.starts (plain_turn c.args.turn.now).past (is-first c.args.turn.now c.requires.turn)) c.in-Skip.row c.in-Skip.is (g.O.Sink.view c.skip.new.out) c.skip.new.verdicts (c.skip.ensures.ignored ∙ ap (λ n. replicate n Ignored) count) c.skip.result c.skip.ensures.writes c.skip.ensures.fault c.skip.ensures.done);
+  dry = λ dry. (c.in_ok-row.ensures.starts (plain_turn c.args.turn.now).past (is-first c.args.turn.now c.requires.turn)).untouched;
+  rest = g.met.O.Sink.rest_both _ _ _ c.in_ok-row.ensures.rest c.skip.ensures.rest;
+  placed = (
+      IfOk-weaker c.skip.result (λ (done : Done). done ≡ record { row = c.in-Skip.row; is_bad = true; effects = 0 })
+      (λ (done : Done). (lines : List (List ℕ)) → (g.P.LineStore.seen c.start.new.plan).told ≡ Some lines
+      → (c.skip.new.verdicts ≡ replicate (length c.args.verdicts.now) Ignored)
+      ⊎ (c.skip.new.verdicts ≡ change_verdicts lines c.args.turn.now.task.options.now.fuzz c.args.turn.now.task.options.now.loose done.row.side (plain_turn c.args.turn.now).item.patch.change))
+      (λ done is lines told. inl c.skip.ensures.ignored) c.skip.ensures.done);
+  few = (
+      IfOk-weaker c.skip.result (λ (done : Done). done ≡ record { row = c.in-Skip.row; is_bad = true; effects = 0 }) (λ (done : Done). done.effects ≤ 5)
+      (λ done is. omega (arith, ap (λ (d : Done). d.effects) is)) c.skip.ensures.done);
+  rows = ap (λ (l : List Verdict). length l) c.skip.ensures.ignored ∙ length-replicate (length c.args.verdicts.now) Ignored;
+}
+
+pub returns-in-Try : goal.returns-in-Try
+returns-in-Try g c = record {
+  does = (
+      try_does (plain_turn c.args.turn.now) (g.T.Tree.view c.args.tree.now) (g.T.Tree.view c.start.new.tree) (g.P.LineStore.seen c.args.plan.now) (g.P.LineStore.seen c.start.new.plan) (g.O.Sink.view c.args.out.now) (g.O.Sink.view c.start.new.out) g.P.Plan.scratch_after c.requires.quiet
+      c.in_ok-row.field-0 (c.in_ok-row.ensures.starts (plain_turn c.args.turn.now).past (is-first c.args.turn.now c.requires.turn)) c.in-Try.place c.in-Try.side c.in-Try.is (g.T.Tree.view c.try_at.new.tree) (g.P.LineStore.seen c.try_at.new.plan) (g.O.Sink.view c.try_at.new.out) c.try_at.new.verdicts c.try_at.ensures.keeps
+      c.try_at.result c.try_at.ensures.stays c.try_at.ensures.quiet c.try_at.ensures.tidy c.try_at.ensures.cause c.try_at.ensures.whole c.try_at.ensures.broken c.try_at.ensures.order);
+  dry = λ dry. untouched_both (c.in_ok-row.ensures.starts (plain_turn c.args.turn.now).past (is-first c.args.turn.now c.requires.turn)).untouched (c.try_at.ensures.dry dry);
+  rest = g.met.O.Sink.rest_both _ _ _ c.in_ok-row.ensures.rest c.try_at.ensures.rest;
+  rows = c.try_at.ensures.rows;
+  few = c.try_at.ensures.few;
+  placed = (
+      IfOk-weaker c.try_at.result
+      (λ (done : Done). (lines : List (List ℕ)) → (g.P.LineStore.seen c.try_at.new.plan).told ≡ Some lines
+      → c.try_at.new.verdicts ≡ change_verdicts lines c.args.turn.now.task.options.now.fuzz c.args.turn.now.task.options.now.loose done.row.side (plain_turn c.args.turn.now).item.patch.change)
+      (λ (done : Done). (lines : List (List ℕ)) → (g.P.LineStore.seen c.try_at.new.plan).told ≡ Some lines
+      → (c.try_at.new.verdicts ≡ replicate (length c.args.verdicts.now) Ignored)
+      ⊎ (c.try_at.new.verdicts ≡ change_verdicts lines c.args.turn.now.task.options.now.fuzz c.args.turn.now.task.options.now.loose done.row.side (plain_turn c.args.turn.now).item.patch.change))
+      (λ done placed lines told. inr (placed lines told)) c.try_at.ensures.placed);
+}
+
+pub try_at-requires-clause-rows : goal.try_at-requires-clause-rows
+try_at-requires-clause-rows g c = c.requires.rows
+
+pub try_at-requires-clause-turn : goal.try_at-requires-clause-turn
+try_at-requires-clause-turn g c = c.requires.turn
+
+pub skip-requires-clause-rows : goal.skip-requires-clause-rows
+skip-requires-clause-rows g c = c.requires.rows
+
+pub skip-requires-clause-turn : goal.skip-requires-clause-turn
+skip-requires-clause-turn g c = c.requires.turn
+
+pub start-requires-clause-task : goal.start-requires-clause-task
+start-requires-clause-task g c = c.requires.turn.task
+
+pub start-requires-clause-size : goal.start-requires-clause-size
+start-requires-clause-size g c = c.requires.size

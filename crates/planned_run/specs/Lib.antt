@@ -1,4 +1,0 @@
-pub mod Scratches
-pub mod Finishes
-pub mod Outcome
-pub mod Answer
