@@ -47,7 +47,7 @@ times:
 	@python3 tests/proofs times
 
 deep:
-	@sh tests/deep $(RT) $(CRATES)
+	@python3 tests/deep $(RT) $(CRATES)
 
 install:
 	@sh tests/build --there $(RT) $(BIN) $(TOOLS)

@@ -220,6 +220,18 @@ def times():
     return 0
 
 
+def seconds():
+    """Writes what each crate's proof took by the ledger into the table by which builds go."""
+    below = all_below()
+    proofs = {name: kinds["proof"][0] for name, kinds in read_ledger()["crates"].items() if name in below and "proof" in kinds}
+    if not proofs:
+        print("no times are noted yet: make test and make note them, of what they prove")
+        return 1
+    with open("tests/seconds", "w", encoding="utf-8") as file:
+        file.writelines(f"{name} {taken:.0f}\n" for name, taken in sorted(proofs.items(), key=lambda it: -it[1]))
+    return 0
+
+
 def words_of(top, name):
     """Returns the prover, and the words of a check of a crate from nothing, as rt has them."""
     path = os.path.join(os.path.dirname(os.path.realpath(shutil.which("rt"))), "rtlib.py")
