@@ -14,6 +14,8 @@ LEDGER = "build/times.json"
 # What a crate may cost, in seconds of one processor (docs/PROOFS.md).
 MOST = {"proof": 180, "tests": 90, "edits": 120}
 TICKS = os.sysconf("SC_CLK_TCK")
+# Low crates that hardly ever change. How often what they take goes into what all take says more of the sources than minutes do.
+YARDSTICK = ("glob_match", "line_list", "num_text")
 # How many steps the loop has that tells how fast the machine is, of ten million, and how many looks come before it is run again.
 STEPS, LOOKS = 100_000, 20
 
@@ -211,12 +213,19 @@ def times():
     print(f"{'all':20}{clock(total[0]):>7} {clock(total[1]):>7} {clock(sum(total[2:5])):>7} {clock(total[5]):>7} {clock(sum(total)):>8}")
     seconds, chain = longest(below, {name: row[0] for name, row in table.items()})
     print(f"\nThe longest chain of crates, each proved behind the one in front of it, {clock(seconds)}: {' '.join(chain)}")
+    program = ["patchkit"]
+    for name in program:
+        program += [it for it in below.get(name, []) if it in below and it not in program]
+    proofs = {name: table[name][0] if name in table else 0 for name in program}
+    yard = sum(proofs.get(it, 0) for it in YARDSTICK)
+    if yard and all(proofs.values()):
+        print(f"\nThe proofs of patchkit and of what it stands on took {sum(proofs.values()) / yard:.1f} times what those of {', '.join(YARDSTICK)} took.")
     run = ledger["run"]
     print(f"\nThe last run ({run['at']}): {run['minutes']:.0f} minutes, {run['processor']:.0f} processor minutes, of which {run['noted']:.0f} for checks.")
     if "loop" in run:
         low, middle, high = run["loop"]
         print(f"The machine: sum(it & 7 for it in range(10_000_000)) took Python {middle:.2f} seconds of processor time meanwhile (a tenth of the looks below {low:.2f}, a")
-        print(f"tenth above {high:.2f}), and the host gave {run['host']:.0%} of the time to others. Two ledgers can be compared where these are alike.")
+        print(f"tenth above {high:.2f}), and the host gave {run['host']:.0%} of the time to others.")
     return 0
 
 
