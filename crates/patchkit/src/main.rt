@@ -4,7 +4,8 @@
 mod kind;
 mod run_tool;
 
-use outside::{Finder, Scratch, Sink, Source, Tree};
+use outside::{Scratch, Sink, Source, Tree};
+use patch_filters::RegexFinder;
 use program_answers::{Runner, answer};
 use run_answers::Why;
 use run_tool::run;
@@ -19,18 +20,18 @@ fn main(rt: HostRuntime) -> ExitCode {
 struct Tools;
 
 impl Runner for Tools {
-    fn run<T: Tree, C: Scratch, F: Finder, I: Source, O: Sink, E: Sink>(
+    fn run<T: Tree, C: Scratch, I: Source, O: Sink, E: Sink>(
         &self,
         alloc: Global,
         words: &[String],
         tree: &mut T,
         scratch: C,
-        finder: &mut F,
         input: &mut I,
         out: &mut O,
         err: &mut E,
     ) -> (Why, C) {
-        let (exit, scratch) = run(alloc, words, tree, scratch, finder, input, out, err);
+        let mut finder = RegexFinder::new();
+        let (exit, scratch) = run(alloc, words, tree, scratch, &mut finder, input, out, err);
         (exit.why, scratch)
     }
 }

@@ -4,7 +4,6 @@ use crate::helping::put_help;
 use crate::outputs::Outputs;
 use crate::runner::Runner;
 use outside::put_all;
-use patch_filters::RegexFinder;
 use program_words::{Lines, places_of};
 use real_devices::{Disk, Input, Pages};
 use run_answers::Why;
@@ -26,13 +25,11 @@ pub fn run_over<X: Runner>(
     let is_patch = matches!(tool, PATCH | RECOUNT);
     let mut tree = Disk::new(alloc, rt, places_of(alloc, tool, words));
     let mut input = Input::new(alloc, rt.stdin(), is_patch);
-    let mut finder = RegexFinder::new();
     let (why, pages) = runner.run(
         alloc,
         words,
         &mut tree,
         Pages::new(alloc, rt),
-        &mut finder,
         &mut input,
         &mut outputs.out,
         &mut outputs.err,
