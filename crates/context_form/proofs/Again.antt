@@ -1,5 +1,5 @@
 -- The canonical text of a hunk that breaks no rule is read as that hunk.
-use Rattle.std.proofs.Common.{◌≡◌, ℕ, suc, ◌+◌, ◌-◌, ◌^◌, ◌<◌, Bool, true, false, cond, not, eqb, ltb, List, [], ◌∷◌, ◌++◌, length, Option, None, Some, Ok, refl, sym, ap, subst, ◌∙◌, arith}
+use Rattle.std.proofs.Common.{◌≡◌, ℕ, ◌+◌, ◌^◌, ◌<◌, Bool, true, false, cond, not, eqb, ltb, List, [], ◌∷◌, ◌++◌, length, Option, None, Some, refl, sym, ap, subst, ◌∙◌, arith}
 use Rattle.std.specs.List.{AllByRecursion}
 use Rattle.std.proofs.lemmas.Bool.{eqb-true}
 use Rattle.std.proofs.lemmas.List.{length-append, length-map}
@@ -11,21 +11,21 @@ use Rattle.hunk_core.specs.declared.Side.TheVariants.{Forward, Reversed}
 use Rattle.hunk_core.specs.PlainHunk.{Marked, PlainHunk, lines_on, old_lines, new_lines}
 use Rattle.hunk_core.specs.LineTests.{after_backslash, marked}
 use Rattle.hunk_core.specs.Rules.{starts_at_zero, first_broken, HasNoInnerFeed}
-use Rattle.hunk_core.specs.Reading.{◌>>=◌, Ahead, ahead}
-use Rattle.hunk_core.proofs.ReadSteps.{bind_ok, ok_is}
+use Rattle.hunk_core.specs.Reading.{ahead}
 use Rattle.line_list.proofs.WholeLines.{LinesFit}
+use Rattle.hunk_core.proofs.Grammars.{reads_first}
 use Rattle.hunk_core.proofs.RuleLemmas.{kept, fits-back}
 use Rattle.hunk_core.proofs.LineEnds.{clean-on, lines-fit}
 use Rattle.context_form.proofs.Sorting.{sorts}
 use Rattle.context_form.specs.Parts.{mark_at}
 use Rattle.context_form.specs.Merging.{part_of}
-use Rattle.context_form.specs.Hunks.{hunk_at, hunks_at}
+use Rattle.context_form.specs.Openings.{begins_hunk}
+use Rattle.context_form.specs.Hunks.{hunk_at}
 use Rattle.context_form.specs.Presence.{may_begin, begins_part, drops_alone, is_there}
 use Rattle.context_form.specs.Grammar.{SpellsPart, SpellsRange, stated_as, written, SpellsHunk, IsPiece}
 use Rattle.context_form.specs.Canonical.{stars_text, range_line_text, mixed, canonical, drops_before, in_order, SpellsFirst}
 use Rattle.context_form.proofs.JoinLemmas.{part-some}
-use Rattle.context_form.proofs.HunkLoops.{hunks_step}
-use Rattle.context_form.proofs.Pieces.{hunk_again, hunk_opens, reading_again}
+use Rattle.context_form.proofs.Pieces.{grammar, reading_again}
 use Rattle.context_form.proofs.Canonical.{lines_of, part_lines, hunk_lines, part-spelled, side-spelled, range-spelled, stars-are, text-lines}
 
 -- ---- the dropped lines first
@@ -59,19 +59,7 @@ not-there false start n olds rest e = e
 -- ---- whatever is spelled begins with the hunk
 
 begins-with : (h : PlainHunk) (own rest : List (List ℕ)) (number next : ℕ) (hs : List PlainHunk) (behind : List (List ℕ)) → SpellsHunk 0 own rest h → after_backslash rest ≡ None → IsPiece number (own ++ rest) hs next behind → (others : List PlainHunk) × (hs ≡ h ∷ others)
-begins-with h own rest number next hs behind s quiet piece =
-    let p : Ahead = ahead number (own ++ rest) in
-    let opens = hunk_opens 0 own rest rest h s in
-    let k : suc (length (own ++ rest) - 1) ≡ length (own ++ rest) = omega (arith, length-append own rest, ap length s.parts) in
-    let most = length (own ++ rest) - 1 in
-    let read : hunks_at (suc (length (own ++ rest) - 1)) 0 (ahead number (own ++ rest)) ≡ Ok (hs, ahead next behind) = ap (λ n. hunks_at n 0 (ahead number (own ++ rest))) k ∙ reading_again number (own ++ rest) hs next behind piece in
-    let one : hunk_at 0 (ahead number (own ++ rest)) ≡ Ok (h, ahead (number + length own) rest) = hunk_again h own rest 0 number s quiet in
-    let goes : (hunk_at 0 p >>= λ first. hunks_at most first.0.old_start first.1 >>= λ others. Ok (first.0 ∷ others.0, others.1)) ≡ Ok (hs, ahead next behind) = sym (hunks_step most 0 p opens) ∙ read in
-    let a = bind_ok (hunk_at 0 p) (λ first. hunks_at most first.0.old_start first.1 >>= λ others. Ok (first.0 ∷ others.0, others.1)) (hs, ahead next behind) goes in
-    let b = bind_ok (hunks_at most a.0.0.old_start a.0.1) (λ others. Ok (a.0.0 ∷ others.0, others.1)) (hs, ahead next behind) a.2 in
-    let same : a.0 ≡ (h, ahead (number + length own) rest) = ok_is _ _ (sym a.1 ∙ one) in
-    let got : hs ≡ a.0.0 ∷ b.0.0 = ap (λ (x : List PlainHunk × Ahead). x.0) (sym (ok_is _ _ b.2)) in
-    (b.0.0, got ∙ ap (λ (x : PlainHunk × Ahead). x.0 ∷ b.0.0) same)
+begins-with h own rest number next hs behind s quiet piece = reads_first begins_hunk hunk_at SpellsHunk grammar h own rest number (hs, ahead next behind) s quiet (reading_again number (own ++ rest) hs next behind piece)
 
 pub on-length : (side : Side) (body : List Marked) → length (lines_on side body) ≡ length (part_of side body)
 on-length side body = length-map (part_of side body) (λ (m : Marked). m.line)

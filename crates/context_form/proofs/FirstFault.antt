@@ -1,5 +1,5 @@
 -- A fault stays whatever lines come after the one that decides it.
-use Rattle.std.proofs.Common.{◌≡◌, ◌≢◌, inl, inr, ℕ, zero, suc, ◌+◌, ◌-◌, ◌≤◌, Bool, true, false, cond, List, [], ◌∷◌, ◌++◌, length, None, Some, Result, Ok, Err, refl, sym, ap, subst, ◌∙◌, arith}
+use Rattle.std.proofs.Common.{◌≡◌, ◌≢◌, inl, inr, ℕ, zero, suc, ◌+◌, ◌-◌, ◌≤◌, Bool, true, false, cond, List, [], ◌∷◌, ◌++◌, length, None, Some, Ok, Err, refl, sym, ap, subst, ◌∙◌, arith}
 use Rattle.std.proofs.lemmas.Bool.{cases_lt, and_parts}
 use Rattle.std.proofs.lemmas.List.{length-append}
 use Rattle.hunk_core.specs.declared.BadKind.{BadKind}
@@ -7,18 +7,20 @@ use Rattle.hunk_core.specs.declared.BadKind.TheVariants as kinds
 use Rattle.hunk_core.specs.PlainHunk.{PlainHunk}
 use Rattle.std.specs.Prelude.{is_some}
 use Rattle.hunk_core.specs.LineTests.{is_backslash, after_backslash}
-use Rattle.hunk_core.specs.Reading.{◌>>=◌, Fault, Ahead, ahead}
+use Rattle.hunk_core.specs.Reading.{Fault, Ahead, ahead}
 use Rattle.line_list.proofs.Choices.{chosen}
 use Rattle.hunk_core.specs.FirstFault.{AgreeTo}
 use Rattle.hunk_core.proofs.FaultSteps.{failed, bind_err, add_err, short_or}
 use Rattle.hunk_core.proofs.Agreeing.{agree_head, agree_front}
 use Rattle.context_form.specs.Openings.{is_stars, begins_old, begins_hunk}
 use Rattle.context_form.specs.Hunks.{PlainPart, whole, parts_at, hunk_at, hunks_at, reading}
-use Rattle.context_form.specs.Grammar.{IsPiece}
+use Rattle.context_form.specs.Grammar.{SpellsHunk, IsPiece}
 use Rattle.context_form.specs.FirstFault.{lines_behind, reach, behind_first, decided_at, decided_by}
 use Rattle.context_form.proofs.SteadyParts.{steady-parts}
-use Rattle.context_form.proofs.HunkLoops.{hunks_step, some_lines}
-use Rattle.context_form.proofs.Pieces.{hunk-shrinks, reading_again}
+use Rattle.hunk_core.specs.Following.{hunks_by}
+use Rattle.hunk_core.proofs.Following.{more_hunks, hunks_step}
+use Rattle.hunk_core.proofs.Grammars.{hunk-shrinks, some-lines}
+use Rattle.context_form.proofs.Pieces.{grammar, reading_again}
 use Rattle.context_form.proofs.HunkFaults.{whole-over, FailsBehind, FailsWhole, hunk-fails, ReadsWhole, hunk-reads, hunk-bad, hunk-over, hunk-good, hunk-loud}
 
 -- ---- which line decides
@@ -66,9 +68,6 @@ opens_too last number (line ∷ rest) others agree le e =
 behind-number : (number : ℕ) (rest : List (List ℕ)) → begins_hunk rest ≡ true → ((behind_first number rest).number ≡ number + 1) × ((number + 1) + length (behind_first number rest).rest ≡ number + length rest)
 behind-number number [] e = absurd cc
 behind-number number (line ∷ rest) e = (refl, omega arith)
-
-abbrev more_hunks : ℕ → PlainHunk × Ahead → Result (List PlainHunk × Ahead) Fault
-more_hunks most first = hunks_at most first.0.old_start first.1 >>= λ others. Ok (first.0 ∷ others.0, others.1)
 
 -- what a fault of hunks is
 pub record FaultIs (most least : ℕ) (p : Ahead) (e : Fault) : Type 0 where
@@ -126,11 +125,11 @@ fault-later most least p x e begins r f =
     record { later = omega (arith, d, n.0, u.0, here, f.later); short = λ k. omega (arith, f.short k, n.0, n.1, u.1, here, there); own = λ a b c. d ∙ f.own a b c }
 
 pub hunks-fault : (most least : ℕ) (p : Ahead) (e : Fault) → hunks_at most least p ≡ Err e → FaultIs most least p e
-unfolding hunks_at
+unfolding hunks_by
 hunks-fault zero least p e h = absurd cc
 hunks-fault (suc most) least p e h =
     elim (chosen (begins_hunk p.rest) _ _ (Err e) h) [
-      | inl some ↦ elim (bind_err (hunk_at least p) (more_hunks most) e some.1) [
+      | inl some ↦ elim (bind_err (hunk_at least p) (more_hunks begins_hunk hunk_at most) e some.1) [
         | inl bad ↦ elim (hunk-fails least p e some.0 bad) [
           | inl parts ↦ fault-parts most least p e some.0 parts
           | inr others ↦ elim others [
@@ -144,10 +143,10 @@ hunks-fault (suc most) least p e h =
     ]
 
 hunks_err : (most least : ℕ) (p : Ahead) (e : Fault) → begins_hunk p.rest ≡ true → hunk_at least p ≡ Err e → hunks_at (suc most) least p ≡ Err e
-hunks_err most least p e begins h = hunks_step most least p begins ∙ (rw h refl)
+hunks_err most least p e begins h = hunks_step begins_hunk hunk_at most least p begins ∙ (rw h refl)
 
 hunks_on : (most least : ℕ) (p : Ahead) (x : PlainHunk × Ahead) (e : Fault) → begins_hunk p.rest ≡ true → hunk_at least p ≡ Ok x → hunks_at most x.0.old_start x.1 ≡ Err e → hunks_at (suc most) least p ≡ Err e
-hunks_on most least p x e begins h more = hunks_step most least p begins ∙ (rw (h, more) refl)
+hunks_on most least p x e begins h more = hunks_step begins_hunk hunk_at most least p begins ∙ (rw (h, more) refl)
 
 -- the line behind a hunk is a backslash line over other lines too
 loud_too : (last number : ℕ) (rest others : List (List ℕ)) (v : Bool) → AgreeTo last number rest others → number ≤ last → is_some (after_backslash rest) ≡ v → is_some (after_backslash others) ≡ v
@@ -163,7 +162,7 @@ renumber : (q : Ahead) (n : ℕ) → q.number ≡ n → q ≡ ahead n q.rest
 renumber q n e = ap (λ k. ahead k q.rest) e
 
 pub hunks_stay : (most most2 least : ℕ) (p : Ahead) (others : List (List ℕ)) (e : Fault) → hunks_at most least p ≡ Err e → e.kind ≢ kinds.ShortEnd → AgreeTo (decided_at most least p) p.number p.rest others → length others ≤ most2 → hunks_at most2 least (ahead p.number others) ≡ Err e
-unfolding hunks_at
+unfolding hunks_by
 hunks_stay zero most2 least p others e h long agree enough = absurd cc
 hunks_stay (suc most) most2 least p others e h long agree enough =
     let f = hunks-fault (suc most) least p e h in
@@ -174,8 +173,8 @@ hunks_stay (suc most) most2 least p others e h long agree enough =
           let q = behind_first p.number p.rest in
           let q2 : behind_first p.number others ≡ ahead (behind_first p.number p.rest).number (behind_first p.number others).rest = renumber (behind_first p.number others) (behind_first p.number p.rest).number (o.number_is ∙ sym o.same) in
           let agree2 : AgreeTo (decided_at (suc most) least p) (behind_first p.number p.rest).number (behind_first p.number p.rest).rest (behind_first p.number others).rest = subst (λ n. AgreeTo (decided_at (suc most) least p) n (behind_first p.number p.rest).rest (behind_first p.number others).rest) (sym o.same) o.agree in
-          let k : most2 ≡ suc (most2 - 1) = omega (arith, enough, some_lines others o.begins) in
-          subst (λ n. hunks_at n least (ahead p.number others) ≡ Err e) (sym k) (elim (bind_err (hunk_at least p) (more_hunks most) e some.1) [
+          let k : most2 ≡ suc (most2 - 1) = omega (arith, enough, some-lines begins_hunk hunk_at SpellsHunk grammar others o.begins) in
+          subst (λ n. hunks_at n least (ahead p.number others) ≡ Err e) (sym k) (elim (bind_err (hunk_at least p) (more_hunks begins_hunk hunk_at most) e some.1) [
             | inl bad ↦ hunks_err (most2 - 1) least (ahead p.number others) e o.begins (elim (hunk-fails least p e some.0 bad) [
               | inl parts ↦ hunk-bad least (ahead p.number others) e o.begins (ap (parts_at least) q2 ∙ (steady-parts least).stays q (behind_first p.number others).rest e parts long (subst (λ n. AgreeTo n (behind_first p.number p.rest).number (behind_first p.number p.rest).rest (behind_first p.number others).rest) (decided-parts most least p e parts) agree2))
               | inr either ↦ elim either [
@@ -199,7 +198,7 @@ hunks_stay (suc most) most2 least p others e h long agree enough =
                 let go = (steady-parts least).goes last q (behind_first p.number others).rest r.parts r.read (omega (arith, d, there.later, here)) agree2 in
                 let read2 : hunk_at least (ahead p.number others) ≡ Ok (x.0, ahead x.1.number go.rest) = hunk-good least (ahead p.number others) (r.parts.0, ahead r.parts.1.number go.rest) x.0 o.begins (ap (parts_at least) q2 ∙ go.read) r.good (loud_too last r.parts.1.number r.parts.1.rest go.rest false go.agree (omega (arith, d, there.later, here)) r.silent) ∙ ap (λ n. Ok (x.0, ahead n go.rest)) here in
                 let agree3 : AgreeTo (decided_at most x.0.old_start x.1) x.1.number x.1.rest go.rest = subst (λ n. AgreeTo n x.1.number x.1.rest go.rest) d (subst (λ (y : Ahead). AgreeTo (decided_at (suc most) least p) y.number y.rest go.rest) r.same go.agree) in
-                let fewer : length go.rest ≤ most2 - 1 = omega (arith, enough, hunk-shrinks least p.number others (x.0, ahead x.1.number go.rest) o.begins read2) in
+                let fewer : length go.rest ≤ most2 - 1 = omega (arith, enough, hunk-shrinks begins_hunk hunk_at SpellsHunk grammar least (ahead p.number others) (x.0, ahead x.1.number go.rest) o.begins read2) in
                 hunks_on (most2 - 1) least (ahead p.number others) (x.0, ahead x.1.number go.rest) e o.begins read2 (hunks_stay most (most2 - 1) x.0.old_start x.1 go.rest e rest long agree3 fewer))
           ]))
       | inr none ↦ absurd (let bad : Ok ([], p) ≡ failed {A = List PlainHunk × Ahead} e = none.1 in cc)

@@ -9,9 +9,7 @@ pub mod JoinLemmas
 pub mod Halves
 pub mod HalvesAgain
 pub mod Pieces
-pub mod HunkLoops
 pub mod Unbroken
-pub mod SpansLemmas
 pub mod MixedLemmas
 pub mod Canonical
 pub mod Again

@@ -1,5 +1,5 @@
 -- Hunks that are read are spelled so, and what is spelled so is read.
-use Rattle.std.proofs.Common.{◌≡◌, ℕ, zero, suc, ◌+◌, ◌≤◌, ◌<◌, true, false, eqb, List, [], ◌∷◌, ◌++◌, length, None, Result, Ok, Err, refl, sym, ap, subst, ◌∙◌, append_assoc, arith, inl, inr}
+use Rattle.std.proofs.Common.{◌≡◌, ℕ, ◌+◌, true, false, eqb, List, [], ◌∷◌, ◌++◌, length, None, Result, Ok, Err, refl, sym, ap, subst, ◌∙◌, append_assoc, arith, inl, inr}
 use Rattle.std.specs.Prelude.{is_some, IfOk}
 use Rattle.std.proofs.lemmas.Bool.{eqb-true, and_parts}
 use Rattle.std.proofs.lemmas.List.{length-append}
@@ -11,12 +11,13 @@ use Rattle.hunk_core.specs.Reading.{Gives, ◌>>=◌, Ahead, ahead}
 use Rattle.hunk_core.proofs.ReadSteps.{bind_ok, guard_ok, ok_is}
 use Rattle.line_list.proofs.Choices.{chosen}
 use Rattle.hunk_core.proofs.OptionLemmas.{is_none}
+use Rattle.hunk_core.proofs.Grammars.{TakesHunk, IsGrammar, reading_takes, piece_reads}
 use Rattle.context_form.specs.Openings.{is_stars, opens_old, begins_hunk}
 use Rattle.context_form.specs.Parts.{begins_new}
 use Rattle.context_form.specs.Merging.{part_of, size_by}
-use Rattle.context_form.specs.Hunks.{PlainPart, old_part, new_part, quiet, parts_at, whole, first_hunk, hunk_at, hunks_at, reading}
+use Rattle.context_form.specs.Hunks.{PlainPart, old_part, new_part, quiet, parts_at, whole, first_hunk, hunk_at, reading}
 use Rattle.context_form.specs.Presence.{is_there}
-use Rattle.context_form.specs.Grammar.{SpellsRange, has_change, stated_as, written, SpellsHunk, SpellsHunks, EndsPiece, IsPiece}
+use Rattle.context_form.specs.Grammar.{SpellsRange, has_change, stated_as, written, SpellsHunk, IsPiece}
 use Rattle.context_form.proofs.RangeGrammar.{is_one, line-known, dashes-again, dashes-quiet, dashes-unmarked, stars-again}
 use Rattle.context_form.proofs.JoinLemmas.{join-takes}
 use Rattle.context_form.proofs.Halves.{TakesPart, TakesNew, TakesWhole, old-takes, new-takes, whole-takes}
@@ -24,14 +25,6 @@ use Rattle.context_form.proofs.HalvesAgain.{parted, old-again, new-again, whole-
 use Rattle.context_form.proofs.PartLemmas.{bodied}
 
 -- ---- one hunk that is read
-
-pub record TakesHunk (least : ℕ) (p : Ahead) (x : PlainHunk × Ahead) : Type 0 where
-  pub own : List (List ℕ)
-  pub parts : p.rest ≡ own ++ x.1.rest
-  pub number : x.1.number ≡ p.number + length own
-  pub some : 0 < length own
-  pub spelled : SpellsHunk least own x.1.rest x.0
-  pub silent : after_backslash x.1.rest ≡ None
 
 -- what and_parts parts took
 record TakesParts (least : ℕ) (p : Ahead) (x : (PlainPart × PlainPart) × Ahead) : Type 0 where
@@ -49,7 +42,7 @@ parts-take least p x h =
 join_lines : (stars : List ℕ) (rest : List (List ℕ)) (line : List ℕ) (old middle : List (List ℕ)) (line2 : List ℕ) (new behind : List (List ℕ)) → rest ≡ line ∷ (old ++ middle) → middle ≡ line2 ∷ (new ++ behind) → stars ∷ rest ≡ (stars ∷ line ∷ (old ++ line2 ∷ new)) ++ behind
 join_lines stars rest line old middle line2 new behind e1 e2 = rw (e1, e2) (ap (λ (ls : List (List ℕ)). stars ∷ line ∷ ls) (sym (append_assoc old (line2 ∷ new) behind)))
 
-hunk-from : (least number : ℕ) (stars : List ℕ) (rest : List (List ℕ)) (old new : PlainPart) (next : Ahead) (h : PlainHunk) → is_stars stars ≡ true → TakesParts least (ahead (number + 1) rest) ((old, new), next) → TakesWhole old new h → after_backslash next.rest ≡ None → TakesHunk least (ahead number (stars ∷ rest)) (h, next)
+hunk-from : (least number : ℕ) (stars : List ℕ) (rest : List (List ℕ)) (old new : PlainPart) (next : Ahead) (h : PlainHunk) → is_stars stars ≡ true → TakesParts least (ahead (number + 1) rest) ((old, new), next) → TakesWhole old new h → after_backslash next.rest ≡ None → TakesHunk SpellsHunk least (ahead number (stars ∷ rest)) (h, next)
 hunk-from least number stars rest old new next h opens t w silent =
     let o = t.old in
     let n = t.new.part in
@@ -66,7 +59,6 @@ hunk-from least number stars rest old new next h opens t w silent =
       own = stars ∷ o.line ∷ (o.own ++ n.line ∷ n.own);
       parts = join_lines stars rest o.line o.own t.middle.rest n.line n.own next.rest o.parts n.parts;
       number = omega (arith, o.number, n.number, count);
-      some = omega arith;
       spelled = record {
         stars = stars;
         old_line = o.line;
@@ -88,10 +80,10 @@ hunk-from least number stars rest old new next h opens t w silent =
         order = rw w.old_start ko.order;
         told = λ e. subst (λ (ls : List Marked). is_there (stated_as (is_one new.stated) h.new_start (length (part_of Reversed h.body))) ls next.rest ≡ false) j.is (subst (λ s. is_there s old.body.lines next.rest ≡ false) same (t.new.told e));
       };
-      silent = silent;
+      quiet = silent;
     }
 
-pub hunk_takes : (least number : ℕ) (rest : List (List ℕ)) (x : PlainHunk × Ahead) → begins_hunk rest ≡ true → first_hunk least number rest ≡ Ok x → TakesHunk least (ahead number rest) x
+pub hunk_takes : (least number : ℕ) (rest : List (List ℕ)) (x : PlainHunk × Ahead) → begins_hunk rest ≡ true → first_hunk least number rest ≡ Ok x → TakesHunk SpellsHunk least (ahead number rest) x
 unfolding first_hunk
 hunk_takes least number [] x opens h = absurd cc
 hunk_takes least number (stars ∷ rest) x opens h =
@@ -99,10 +91,7 @@ hunk_takes least number (stars ∷ rest) x opens h =
     let b = bind_ok (whole a.0.0.0 a.0.0.1) (λ g. quiet a.0.1 >>= λ done. Ok (g, a.0.1)) x a.2 in
     let c = bind_ok (quiet a.0.1) (λ done. Ok (b.0, a.0.1)) x b.2 in
     let g = guard_ok (is_some (after_backslash a.0.1.rest)) _ tt c.0 c.1 in
-    subst (TakesHunk least (ahead number (stars ∷ rest))) (ok_is _ _ c.2) (hunk-from least number stars rest a.0.0.0 a.0.0.1 a.0.1 b.0 (and_parts _ _ opens).0 (parts-take least (ahead (number + 1) rest) a.0 a.1) (whole-takes a.0.0.0 a.0.0.1 b.0 b.1) (is_none (after_backslash a.0.1.rest) g.0))
-
-pub hunk-shrinks : (least number : ℕ) (rest : List (List ℕ)) (x : PlainHunk × Ahead) → begins_hunk rest ≡ true → first_hunk least number rest ≡ Ok x → length x.1.rest < length rest
-hunk-shrinks least number rest x opens h = let t = hunk_takes least number rest x opens h in omega (arith, ap length t.parts, length-append t.own x.1.rest, t.some)
+    subst (TakesHunk SpellsHunk least (ahead number (stars ∷ rest))) (ok_is _ _ c.2) (hunk-from least number stars rest a.0.0.0 a.0.0.1 a.0.1 b.0 (and_parts _ _ opens).0 (parts-take least (ahead (number + 1) rest) a.0 a.1) (whole-takes a.0.0.0 a.0.0.1 b.0 b.1) (is_none (after_backslash a.0.1.rest) g.0))
 
 -- ---- one hunk that is spelled
 
@@ -157,88 +146,20 @@ opens-both stars line rest e f = rw (e, f) refl
 pub hunk_opens : (least : ℕ) (own behind tail : List (List ℕ)) (h : PlainHunk) → SpellsHunk least own behind h → begins_hunk (own ++ tail) ≡ true
 hunk_opens least own behind tail h s = rw s.parts (opens-both s.stars s.old_line ((s.old ++ s.new_line ∷ s.new) ++ tail) s.asterisks (stars-again s.old_line s.old_single h.old_start (length (part_of Forward h.body)) s.old_range))
 
-hunk_lines : (least : ℕ) (own behind : List (List ℕ)) (h : PlainHunk) → SpellsHunk least own behind h → 0 < length own
-hunk_lines least own behind h s = omega (arith, ap length s.parts)
-
-pub record TakesHunks (least : ℕ) (p : Ahead) (x : List PlainHunk × Ahead) : Type 0 where
-  pub own : List (List ℕ)
-  pub parts : p.rest ≡ own ++ x.1.rest
-  pub number : x.1.number ≡ p.number + length own
-  pub spelled : SpellsHunks least own x.1.rest x.0
-  pub stops : begins_hunk x.1.rest ≡ false
-  pub quiet : after_backslash p.rest ≡ None → after_backslash x.1.rest ≡ None
-
-hunks_none : (least : ℕ) (p : Ahead) → begins_hunk p.rest ≡ false → TakesHunks least p ([], p)
-hunks_none least p none = record { own = []; parts = refl; number = omega arith; spelled = refl; stops = none; quiet = λ h. h }
-
-hunks_more : (least : ℕ) (p : Ahead) (x : PlainHunk × Ahead) (y : List PlainHunk × Ahead) → TakesHunk least p x → TakesHunks x.0.old_start x.1 y → TakesHunks least p (x.0 ∷ y.0, y.1)
-hunks_more least p x y first others = record {
-  own = first.own ++ others.own;
-  parts = first.parts ∙ ap (λ (r : List (List ℕ)). first.own ++ r) others.parts ∙ sym (append_assoc first.own others.own y.1.rest);
-  number = omega (arith, first.number, others.number, length-append first.own others.own);
-  spelled = (first.own, others.own, refl, subst (λ (ls : List (List ℕ)). SpellsHunk least first.own ls x.0) others.parts first.spelled, others.spelled);
-  stops = others.stops;
-  quiet = λ _. others.quiet first.silent;
+pub grammar : IsGrammar begins_hunk hunk_at SpellsHunk
+grammar = record {
+  none = refl;
+  quiet = opening_quiet;
+  opens = hunk_opens;
+  takes = λ least p x opens h. hunk_takes least p.number p.rest x opens h;
+  again = hunk_again;
 }
 
-nothing_begins : (rest : List (List ℕ)) → length rest ≤ 0 → begins_hunk rest ≡ false
-nothing_begins [] le = refl
-nothing_begins (line ∷ rest) le = absurd (omega arith)
-
-pub hunks_take : (most least : ℕ) (p : Ahead) (x : List PlainHunk × Ahead) → length p.rest ≤ most → hunks_at most least p ≡ Ok x → TakesHunks least p x
-unfolding hunks_at
-hunks_take zero least p x enough h = subst (λ (y : List PlainHunk × Ahead). TakesHunks least p y) (ok_is _ _ h) (hunks_none least p (nothing_begins p.rest enough))
-hunks_take (suc most) least p x enough h =
-    elim (chosen (begins_hunk p.rest) _ _ (Ok x) h) [
-      | inl some ↦ (
-          let a = bind_ok (hunk_at least p) (λ first. hunks_at most first.0.old_start first.1 >>= λ others. Ok (first.0 ∷ others.0, others.1)) x some.1 in
-          let b = bind_ok (hunks_at most a.0.0.old_start a.0.1) (λ others. Ok (a.0.0 ∷ others.0, others.1)) x a.2 in
-          let first = hunk_takes least p.number p.rest a.0 some.0 a.1 in
-          let others = hunks_take most a.0.0.old_start a.0.1 b.0 (omega (arith, hunk-shrinks least p.number p.rest a.0 some.0 a.1)) b.1 in
-          subst (λ (y : List PlainHunk × Ahead). TakesHunks least p y) (ok_is _ _ b.2) (hunks_more least p a.0 b.0 first others))
-      | inr none ↦ subst (λ (y : List PlainHunk × Ahead). TakesHunks least p y) (ok_is _ _ none.1) (hunks_none least p none.0)
-    ]
-
-hunks_quiet : (hs : List PlainHunk) (least : ℕ) (own rest : List (List ℕ)) → SpellsHunks least own rest hs → after_backslash rest ≡ None → after_backslash (own ++ rest) ≡ None
-hunks_quiet [] least own rest s none = rw s none
-hunks_quiet (h ∷ hs) least own rest s none = rw (s.2, append_assoc s.0 s.1 rest) (opening_quiet (s.0 ++ (s.1 ++ rest)) (hunk_opens least s.0 (s.1 ++ rest) (s.1 ++ rest) h s.3))
-
-pub no_hunks : (most least : ℕ) (p : Ahead) → begins_hunk p.rest ≡ false → hunks_at most least p ≡ Ok ([], p)
-unfolding hunks_at
-no_hunks zero least p none = refl
-no_hunks (suc most) least p none = rw none refl
-
-pub hunks_again : (hs : List PlainHunk) (own rest : List (List ℕ)) (least number most : ℕ) → SpellsHunks least own rest hs → EndsPiece rest → length (own ++ rest) ≤ most
-    → hunks_at most least (ahead number (own ++ rest)) ≡ Ok (hs, ahead (number + length own) rest)
-unfolding hunks_at
-hunks_again [] own rest least number most s ends enough =
-    let same : number + 0 ≡ number = omega arith in
-    rw (s, same) (no_hunks most least (ahead number rest) ends.0)
-hunks_again (h ∷ hs) own rest least number zero s ends enough =
-    let some = hunk_lines least s.0 (s.1 ++ rest) h s.3 in
-    absurd (omega (arith, length-append own rest, length-append s.0 s.1, ap length s.2))
-hunks_again (h ∷ hs) own rest least number (suc most) s ends enough =
-    let mine = s.0 in
-    let more = s.1 in
-    let parts : own ++ rest ≡ mine ++ (more ++ rest) = ap (λ (p : List (List ℕ)). p ++ rest) s.2 ∙ append_assoc mine more rest in
-    let begins : begins_hunk (mine ++ (more ++ rest)) ≡ true = hunk_opens least mine (more ++ rest) (more ++ rest) h s.3 in
-    let one : first_hunk least number (mine ++ (more ++ rest)) ≡ Ok (h, ahead (number + length mine) (more ++ rest)) = hunk_again h mine (more ++ rest) least number s.3 (hunks_quiet hs h.old_start more rest s.4 ends.1) in
-    let fewer : length (more ++ rest) ≤ most = omega (arith, ap length parts, length-append mine (more ++ rest), hunk_lines least mine (more ++ rest) h s.3) in
-    let others : hunks_at most h.old_start (ahead (number + length mine) (more ++ rest)) ≡ Ok (hs, ahead (number + length mine + length more) rest) = hunks_again hs more rest h.old_start (number + length mine) most s.4 ends fewer in
-    let lines : number + length mine + length more ≡ number + length own = omega (arith, length-append mine more, ap length s.2) in
-    ap (λ (p : List (List ℕ)). hunks_at (suc most) least (ahead number p)) parts
-    ∙ rw (begins, one, others, lines) refl
-
--- ---- the whole piece
-
 pub reading_finds : (number : ℕ) (lines : List (List ℕ)) (x : List PlainHunk × Ahead) → begins_hunk lines ≡ true → reading number lines ≡ Ok x → IsPiece number lines x.0 x.1.number x.1.rest
-reading_finds number lines x opens h =
-    let t = hunks_take (length lines) 0 (ahead number lines) x (omega arith) h in
-    record { own = t.own; parts = t.parts; spelled = t.spelled; ends = (t.stops, t.quiet (opening_quiet lines opens)); counted = t.number }
+reading_finds number lines x opens h = reading_takes begins_hunk hunk_at SpellsHunk grammar number lines x h opens
 
 pub reading_again : (number : ℕ) (lines : List (List ℕ)) (hs : List PlainHunk) (next : ℕ) (rest : List (List ℕ)) → IsPiece number lines hs next rest → reading number lines ≡ Ok (hs, ahead next rest)
-reading_again number lines hs next rest p =
-    rw (p.parts, p.counted) (hunks_again hs p.own rest 0 number (length (p.own ++ rest)) p.spelled p.ends (omega arith))
+reading_again = piece_reads begins_hunk hunk_at SpellsHunk grammar
 
 pub is_found : {X : Type 0} (view : X → List PlainHunk × Ahead) (number : ℕ) (lines : List (List ℕ)) (r : Result X FormFault) → begins_hunk lines ≡ true → Gives view r (reading number lines) → IfOk r (λ h. IsPiece number lines (view h).0 (view h).1.number (view h).1.rest)
 is_found view number lines (Ok h) opens given = reading_finds number lines (view h) opens given

@@ -6,9 +6,10 @@ use Rattle.hunk_core.specs.declared.Mark.TheVariants.{Keep, Drop, Add}
 use Rattle.hunk_core.specs.declared.Side.{Side}
 use Rattle.hunk_core.specs.declared.Side.TheVariants.{Forward, Reversed}
 use Rattle.hunk_core.specs.PlainHunk.{Marked, PlainHunk}
-use Rattle.hunk_core.specs.LineTests.{after, unended, is_backslash, after_backslash}
+use Rattle.hunk_core.specs.LineTests.{after, unended, is_backslash}
 use Rattle.num_text.specs.Numbers.{IsNumeral}
 use Rattle.hunk_core.specs.Letters.{is_line_end}
+use Rattle.hunk_core.specs.Following.{SpellsEach, IsPieceOf}
 use Rattle.context_form.specs.declared.range.Stated.{Stated}
 use Rattle.context_form.specs.Openings.{is_stars, begins_hunk}
 use Rattle.context_form.specs.Ranges.{before_range, behind_range}
@@ -117,17 +118,8 @@ SpellsPiece least own h = SpellsHunk least own [] h
 
 -- these lines are these hunks, the first behind one that starts at least, before this rest
 abbrev pub SpellsHunks : ℕ → List (List ℕ) → List (List ℕ) → List PlainHunk → Type 0
-SpellsHunks least piece rest [] = piece ≡ []
-SpellsHunks least piece rest (h ∷ hs) = (own : List (List ℕ)) × (more : List (List ℕ)) × (piece ≡ own ++ more) × SpellsHunk least own (more ++ rest) h × SpellsHunks h.old_start more rest hs
+SpellsHunks least piece rest hs = SpellsEach SpellsHunk least piece rest hs
 
--- neither a hunk nor a backslash line follows
-abbrev pub EndsPiece : List (List ℕ) → Type 0
-EndsPiece rest = (begins_hunk rest ≡ false) × (after_backslash rest ≡ None)
-
--- the lines ahead are these hunks, and then this rest, whose first line has this number
-pub record IsPiece (number : ℕ) (lines : List (List ℕ)) (hs : List PlainHunk) (next : ℕ) (rest : List (List ℕ)) : Type 0 where
-  pub own : List (List ℕ)
-  pub parts : lines ≡ own ++ rest
-  pub spelled : SpellsHunks 0 own rest hs
-  pub ends : EndsPiece rest
-  pub counted : next ≡ number + length own
+-- the lines ahead are these hunks, and then this rest, whose first line has this number: neither a hunk nor a backslash line
+abbrev pub IsPiece : ℕ → List (List ℕ) → List PlainHunk → ℕ → List (List ℕ) → Type 0
+IsPiece number lines hs next rest = IsPieceOf begins_hunk (λ own behind hs. SpellsHunks 0 own behind hs) number lines hs next rest

@@ -19,8 +19,11 @@ use crate::merging::{joined, kept_lines};
 use crate::opening::at_opening;
 use crate::part::{Body, mark_of, read_body};
 use crate::range::{Stated, stated_of};
-use hunk_core::{BadKind, FormFault, Hunk, HunkLine, Hunks, Mark, Place, Side, backslash_end, bad};
-use line_list::{Span, next_line};
+use hunk_core::{
+    BadKind, FormFault, Hunk, HunkForm, HunkLine, Hunks, Mark, Place, Side, backslash_end, bad,
+    read_whole,
+};
+use line_list::next_line;
 use std::alloc::Global;
 
 /// A part with its range line, which has this number.
@@ -300,59 +303,32 @@ fn take_hunk(
     Ok((hunk, next))
 }
 
-/// The same, with what its piece of the text is.
-fn read_hunk(
-    alloc: Global,
-    text: &[u8],
-    least: u64,
-    place: Place,
-) -> Result<(Hunk, Place), FormFault>
-    requires place { IsPlace text.now place }
-    requires opens { begins_hunk (lines (drop place.at text.now)) ≡ true }
-    ensures place { IfOk result (λ x. IsPlace text.now x.1 × (place.at < x.1.at)) }
-    ensures whole { IfOk result (λ x. lines (drop place.at text.now) ≡ lines (slice_range text.now place.at x.1.at) ++ lines (drop x.1.at text.now)) }
-    ensures piece { IfOk result (λ x. SpellsPiece least (lines (slice_range text.now place.at x.1.at)) (hunk_of text.now x.0)) }
-    ensures few { IfOk result (λ x. place.at + vec_len x.0.body ≤ x.1.at) }
-    ensures lawful { IfOk result (λ x. IsLawful text.now x.0) }
-    ensures unbroken { IfOk result (λ x. first_broken (hunk_of text.now x.0) ≡ None) }
-    ensures exact { Gives (λ x. (hunk_of text.now x.0, ahead_of text.now x.1)) result (hunk_at least (ahead_of text.now place)) }
-{
-    take_hunk(alloc, text, least, place)
-}
+/// The context form, whose reading keeps nothing from hunk to hunk.
+#[derive(Drop)]
+struct Context {}
 
-/// The hunks that follow each other, by reading on.
-fn read_all(alloc: Global, text: &[u8], at: usize, line: u64) -> Result<Hunks, FormFault>
-    requires short { length text.now < 2 ^ 32 }
-    requires within { at ≤ length text.now }
-    requires small { line < 2 ^ 32 }
-    ensures within { IfOk result (λ h. h.end ≤ length text.now) }
-    ensures turn { IfOk result (λ h. AreInTurn at h.spans.items h.end) }
-    ensures whole { IfOk result (λ h. AreWhole text.now h.spans.items) }
-    ensures pieces { IfOk result (λ h. SpellInTurn SpellsPiece text.now 0 h.spans.items (hunks_of text.now h.items.items)) }
-    ensures sound { IfOk result (λ h. AreSound text.now h) }
-    ensures exact { Gives (read_of text.now) result
-        (reading line (lines (drop at text.now))) }
-{
-    let mut items = Vec::new(alloc);
-    let mut spans = Vec::new(alloc);
-    let mut place = Place { at, number: line };
-    let mut least: u64 = 0;
-    'hunks: while at_opening(text, place.at) {
-        let (hunk, next) = read_hunk(alloc, text, least, place)?;
-        spans.push(Span {
-            start: place.at as u32,
-            end: next.at as u32,
-        })?;
-        least = u64::from(hunk.old_start);
-        items.push(hunk)?;
-        place = next;
+impl HunkForm for Context {
+    ghost begins = { begins_hunk };
+
+    ghost hunk_at = { hunk_at };
+
+    ghost Spells = { SpellsPiece };
+
+    ghost IsReady = { λ text c. Unit {0} };
+
+    fn opens(&mut self, text: &[u8], at: usize) -> bool {
+        at_opening(text, at)
     }
-    Ok(Hunks {
-        items,
-        spans,
-        end: place.at,
-        next: place.number,
-    })
+
+    fn read_hunk(
+        &mut self,
+        alloc: Global,
+        text: &[u8],
+        least: u64,
+        place: Place,
+    ) -> Result<(Hunk, Place), FormFault> {
+        take_hunk(alloc, text, least, place)
+    }
 }
 
 /// The hunks that follow each other from `at` on, where the line has this number.
@@ -377,5 +353,5 @@ pub fn read_hunks(alloc: Global, text: &[u8], at: usize, line: u64) -> Result<Hu
     ensures exact { Gives (read_of text.now) result
         (reading line (lines (drop at text.now))) }
 {
-    read_all(alloc, text, at, line)
+    read_whole(Context {}, alloc, text, at, line)
 }

@@ -8,6 +8,8 @@ use Rattle.hunk_core.specs.declared.BadKind.{BadKind}
 use Rattle.hunk_core.specs.declared.BadKind.TheVariants as kinds
 use Rattle.hunk_core.specs.PlainHunk.{Marked, PlainHunk}
 use Rattle.hunk_core.specs.LineTests.{after_backslash}
+use Rattle.hunk_core.specs.Following.{hunks_by}
+use Rattle.hunk_core.proofs.Following.{more_hunks}
 use Rattle.hunk_core.specs.Reading.{◌>>=◌, Fault, fault, Ahead, ahead}
 use Rattle.hunk_core.proofs.ReadSteps.{bind_ok, ok_is}
 use Rattle.line_list.proofs.Choices.{chosen}
@@ -291,11 +293,11 @@ hunk_named least p e begins h long = by p.rest refl begins
 -- ---- hunks that follow each other
 
 hunks_named : (most least : ℕ) (p : Ahead) (e : Fault) → hunks_at most least p ≡ Err e → e.kind ≢ kinds.ShortEnd → NamesLine (IsAtFault least e.kind) p.number p.rest e.line
-unfolding hunks_at
+unfolding hunks_by
 hunks_named zero least p e h long = absurd cc
 hunks_named (suc most) least p e h long =
     elim (chosen (begins_hunk p.rest) _ _ (Err e) h) [
-      | inl some ↦ elim (bind_err (hunk_at least p) (λ first. hunks_at most first.0.old_start first.1 >>= λ others. Ok (first.0 ∷ others.0, others.1)) e some.1) [
+      | inl some ↦ elim (bind_err (hunk_at least p) (more_hunks begins_hunk hunk_at most) e some.1) [
         | inl bad ↦ named-past (OfHunk least e.kind) (IsAtFault least e.kind) [] p.number p.number p.rest p.rest e.line refl (omega arith) (λ front line behind same holds. ([], [], front, refl, refl, holds)) (hunk_named least p e some.0 bad long)
         | inr good ↦ (
             let x = good.0 in

@@ -8,6 +8,8 @@ use Rattle.hunk_core.specs.declared.BadKind.{BadKind}
 use Rattle.hunk_core.specs.declared.BadKind.TheVariants as kinds
 use Rattle.hunk_core.specs.PlainHunk.{Marked, PlainHunk}
 use Rattle.hunk_core.specs.LineTests.{after, is_backslash, unended, after_backslash}
+use Rattle.hunk_core.specs.Following.{hunks_by}
+use Rattle.hunk_core.proofs.Following.{more_hunks}
 use Rattle.hunk_core.specs.Reading.{◌>>=◌, Fault, fault, Ahead, ahead}
 use Rattle.line_list.proofs.Choices.{chosen}
 use Rattle.hunk_core.proofs.ReadSteps.{ok_is}
@@ -22,7 +24,7 @@ use Rattle.normal_form.specs.Grammar.{SpellsLine, SpellsStretch, SpellsCommand}
 use Rattle.normal_form.proofs.CommandGrammar.{opening-takes}
 use Rattle.normal_form.proofs.Stretches.{TakesLine, line_takes, TakesStretch, stretch_takes, none-left}
 use Rattle.normal_form.proofs.Pieces.{CountsNone, counts-none, no-lines, empty-piece, divider_takes, body_takes, at_line-ok, hunk_takes}
-use Rattle.normal_form.proofs.FirstFault.{with_body, more_hunks}
+use Rattle.normal_form.proofs.FirstFault.{with_body}
 use Rattle.hunk_core.specs.Refusals.{unmarked, settled}
 use Rattle.hunk_core.proofs.FaultSteps.{failed, err_is, bind_err}
 use Rattle.hunk_core.proofs.Agreeing.{after_backslash-some}
@@ -267,11 +269,11 @@ first_breaks least p e begins h long =
     subst (λ (ls : List (List ℕ)). NamesLine (OfHunk least e.kind) p.number ls e.line) (sym b.2) (hunk_breaks least p.number b.0 b.1 e b.3 (subst (λ (ls : List (List ℕ)). first_hunk least p.number ls ≡ Err e) b.2 h) long)
 
 hunks_break : (most least : ℕ) (p : Ahead) (e : Fault) → hunks_at most least p ≡ Err e → e.kind ≢ kinds.ShortEnd → NamesLine (IsAtFault least e.kind) p.number p.rest e.line
-unfolding hunks_at
+unfolding hunks_by
 hunks_break zero least p e h long = absurd cc
 hunks_break (suc most) least p e h long =
     elim (chosen (begins_hunk p.rest) _ _ (Err e) h) [
-      | inl some ↦ elim (bind_err (hunk_at least p) (more_hunks most) e some.1) [
+      | inl some ↦ elim (bind_err (hunk_at least p) (more_hunks begins_hunk hunk_at most) e some.1) [
         | inl bad ↦ named-past (OfHunk least e.kind) (IsAtFault least e.kind) [] p.number p.number p.rest p.rest e.line refl (omega arith) (λ front line behind same holds. ([], [], front, refl, refl, holds)) (first_breaks least p e some.0 bad long)
         | inr good ↦ (
             let x = good.0 in

@@ -6,6 +6,8 @@ use Rattle.hunk_core.specs.declared.BadKind.{BadKind}
 use Rattle.hunk_core.specs.declared.BadKind.TheVariants as kinds
 use Rattle.hunk_core.specs.PlainHunk.{Marked, PlainHunk}
 use Rattle.hunk_core.specs.LineTests.{is_backslash, after_backslash}
+use Rattle.hunk_core.specs.Following.{hunks_by}
+use Rattle.hunk_core.proofs.Following.{more_hunks}
 use Rattle.hunk_core.specs.Reading.{Fault, fault, Ahead, ahead}
 use Rattle.line_list.proofs.Choices.{chosen}
 use Rattle.hunk_core.proofs.TextLemmas.{has_some}
@@ -17,7 +19,7 @@ use Rattle.unified_form.specs.Hunks.{at_line, left_of, change, first_hunk, hunk_
 use Rattle.unified_form.specs.Grammar.{Shows}
 use Rattle.unified_form.proofs.Bodies.{shows-mark_at, mark_at-shows, marked-ok, line_takes, body_takes}
 use Rattle.unified_form.proofs.BodyFaults.{ended_low, rest_of_line, one_more_line}
-use Rattle.unified_form.proofs.FirstFault.{settled_err, with_body, more_hunks}
+use Rattle.unified_form.proofs.FirstFault.{settled_err, with_body}
 use Rattle.unified_form.proofs.Pieces.{hunk_takes}
 use Rattle.hunk_core.specs.Refusals.{settled}
 use Rattle.hunk_core.proofs.FaultSteps.{failed, err_is, bind_err, guard_err}
@@ -134,11 +136,11 @@ hunk_breaks least number (line ∷ rest) e h long =
 -- ---- hunks that follow each other
 
 hunks_break : (most least : ℕ) (p : Ahead) (e : Fault) → hunks_at most least p ≡ Err e → e.kind ≢ kinds.ShortEnd → NamesLine (IsAtFault least e.kind) p.number p.rest e.line
-unfolding hunks_at
+unfolding hunks_by
 hunks_break zero least p e h long = absurd cc
 hunks_break (suc most) least p e h long =
     elim (chosen (begins_hunk p.rest) _ _ (Err e) h) [
-      | inl some ↦ elim (bind_err (hunk_at least p) (more_hunks most) e some.1) [
+      | inl some ↦ elim (bind_err (hunk_at least p) (more_hunks begins_hunk hunk_at most) e some.1) [
         | inl bad ↦ named-past (InHunk least e.kind) (IsAtFault least e.kind) [] p.number p.number p.rest p.rest e.line refl (omega arith) (λ front line behind same holds. ([], [], front, refl, refl, holds)) (hunk_breaks least p.number p.rest e bad long)
         | inr good ↦ (
             let x = good.0 in

@@ -6,7 +6,7 @@ use Rattle.std.proofs.lemmas.List.Concat.{flat_map-append}
 use Rattle.line_list.specs.Lines.{lines, ArePieces}
 use Rattle.line_list.specs.declared.Span.{Span}
 use Rattle.hunk_core.specs.PlainHunk.{PlainHunk, bytes_at}
-use Rattle.hunk_core.specs.Pieces.{AreInTurn, AreWhole, SpellInTurn, last_start}
+use Rattle.hunk_core.specs.Pieces.{AreInTurn, AreWhole, SpellInTurn, SpansSoFar, last_start}
 use Rattle.line_list.proofs.Pieces.{joined, lines-joined, lines-pieces, pieces-only}
 
 -- the first of some pieces are pieces
@@ -59,12 +59,8 @@ last-push : (least : ℕ) (hs : List PlainHunk) (h : PlainHunk) → last_start l
 last-push least [] h = refl
 last-push least (x ∷ hs) h = last-push x.old_start hs h
 
--- the spans of the hunks that were read so far, with the start of the last
-pub record SpansSoFar (Spells : ℕ → List (List ℕ) → PlainHunk → Type 0) (text : List ℕ) (at : ℕ) (ss : List Span) (hs : List PlainHunk) (end least : ℕ) : Type 0 where
-  pub turn : AreInTurn at ss end
-  pub whole : AreWhole text ss
-  pub pieces : SpellInTurn Spells text 0 ss hs
-  pub last : last_start 0 hs ≡ least
+pub spans_begin : (Spells : ℕ → List (List ℕ) → PlainHunk → Type 0) (text : List ℕ) (at : ℕ) (ss : List Span) → ss ≡ [] → SpansSoFar Spells text at ss [] at 0
+spans_begin Spells text at ss none = rw none (record { turn = refl; whole = tt; pieces = tt; last = refl })
 
 pub spans_go_on : (Spells : ℕ → List (List ℕ) → PlainHunk → Type 0) (text : List ℕ) (at : ℕ) (ss : List Span) (hs : List PlainHunk) (start end least : ℕ) (h : PlainHunk)
     → SpansSoFar Spells text at ss hs start least → start < end → lines (drop start text) ≡ lines (slice_range text start end) ++ lines (drop end text) → Spells least (lines (slice_range text start end)) h

@@ -11,3 +11,4 @@ pub mod OptionSteps
 pub mod Refusals
 pub mod Letters
 pub mod Spans
+pub mod Following

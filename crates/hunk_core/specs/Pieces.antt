@@ -44,3 +44,10 @@ pub record AreSound (text : List ℕ) (h : Hunks) : Type 0 where
 abbrev pub last_start : ℕ → List PlainHunk → ℕ
 last_start least [] = least
 last_start least (h ∷ hs) = last_start h.old_start hs
+
+-- the spans of the hunks that were read so far, with the start of the last
+pub record SpansSoFar (Spells : ℕ → List (List ℕ) → PlainHunk → Type 0) (text : List ℕ) (at : ℕ) (ss : List Span) (hs : List PlainHunk) (end least : ℕ) : Type 0 where
+  pub turn : AreInTurn at ss end
+  pub whole : AreWhole text ss
+  pub pieces : SpellInTurn Spells text 0 ss hs
+  pub last : last_start 0 hs ≡ least

@@ -1,5 +1,5 @@
 -- The canonical text of a hunk that breaks no rule is read as that hunk.
-use Rattle.std.proofs.Common.{◌≡◌, ℕ, suc, ◌+◌, ◌<◌, Bool, true, false, cond, eqb, List, [], ◌∷◌, ◌++◌, length, map, None, Ok, refl, sym, ap, subst, ◌∙◌, arith}
+use Rattle.std.proofs.Common.{◌≡◌, ℕ, ◌+◌, ◌<◌, Bool, true, false, cond, eqb, List, [], ◌∷◌, ◌++◌, length, map, None, refl, subst, arith}
 use Rattle.std.specs.Prelude.{filter}
 use Rattle.std.specs.List.{AllByRecursion}
 use Rattle.std.proofs.lemmas.Bool.{eqb-true}
@@ -11,16 +11,15 @@ use Rattle.hunk_core.specs.Sides.{is_on_side}
 use Rattle.hunk_core.specs.PlainHunk.{Marked, PlainHunk, old_lines, new_lines}
 use Rattle.hunk_core.specs.LineTests.{after_backslash}
 use Rattle.hunk_core.specs.Rules.{starts_at_zero, first_broken, HasNoInnerFeed}
-use Rattle.hunk_core.specs.Reading.{◌>>=◌, Ahead, ahead}
-use Rattle.hunk_core.proofs.ReadSteps.{bind_ok, ok_is}
+use Rattle.hunk_core.specs.Reading.{ahead}
 use Rattle.line_list.proofs.WholeLines.{LinesFit}
+use Rattle.hunk_core.proofs.Grammars.{reads_first}
 use Rattle.hunk_core.proofs.RuleLemmas.{kept, fits-back}
 use Rattle.hunk_core.proofs.LineEnds.{clean-on, lines-fit}
-use Rattle.normal_form.specs.Hunks.{hunk_at, hunks_at}
+use Rattle.normal_form.specs.Hunks.{begins_hunk, hunk_at}
 use Rattle.normal_form.specs.Grammar.{command_of, AreFair, SpellsHunk, IsPiece}
 use Rattle.normal_form.specs.Canonical.{action_for, canonical, in_order, SpellsFirst}
-use Rattle.normal_form.proofs.HunkLoops.{hunks_step}
-use Rattle.normal_form.proofs.Pieces.{hunk_again, hunk_opens, reading_again}
+use Rattle.normal_form.proofs.Pieces.{SpellsIn, grammar, reading_again}
 use Rattle.normal_form.proofs.Canonical.{hunk_lines, body-spelled, Starts, command-spelled, text-lines}
 
 -- ---- no rule is broken
@@ -44,18 +43,7 @@ some-sides (m ∷ body) e = by m.mark
 -- ---- whatever is spelled begins with the hunk
 
 begins-with : (h : PlainHunk) (own rest : List (List ℕ)) (number next : ℕ) (hs : List PlainHunk) (behind : List (List ℕ)) → SpellsHunk 0 own h → after_backslash rest ≡ None → IsPiece number (own ++ rest) hs next behind → (others : List PlainHunk) × (hs ≡ h ∷ others)
-begins-with h [] rest number next hs behind s quiet piece = absurd s
-begins-with h (line ∷ own) rest number next hs behind s quiet piece =
-    let p : Ahead = ahead number ((line ∷ own) ++ rest) in
-    let most = length (own ++ rest) in
-    let read : hunks_at (suc most) 0 p ≡ Ok (hs, ahead next behind) = reading_again number ((line ∷ own) ++ rest) hs next behind piece in
-    let one : hunk_at 0 p ≡ Ok (h, ahead (number + length (line ∷ own)) rest) = hunk_again h (line ∷ own) rest 0 number s quiet in
-    let goes : (hunk_at 0 p >>= λ first. hunks_at most first.0.old_start first.1 >>= λ others. Ok (first.0 ∷ others.0, others.1)) ≡ Ok (hs, ahead next behind) = sym (hunks_step most 0 p (hunk_opens 0 (line ∷ own) rest h s)) ∙ read in
-    let a = bind_ok (hunk_at 0 p) (λ first. hunks_at most first.0.old_start first.1 >>= λ others. Ok (first.0 ∷ others.0, others.1)) (hs, ahead next behind) goes in
-    let b = bind_ok (hunks_at most a.0.0.old_start a.0.1) (λ others. Ok (a.0.0 ∷ others.0, others.1)) (hs, ahead next behind) a.2 in
-    let same : a.0 ≡ (h, ahead (number + length (line ∷ own)) rest) = ok_is _ _ (sym a.1 ∙ one) in
-    let got : hs ≡ a.0.0 ∷ b.0.0 = ap (λ (x : List PlainHunk × Ahead). x.0) (sym (ok_is _ _ b.2)) in
-    (b.0.0, got ∙ ap (λ (x : PlainHunk × Ahead). x.0 ∷ b.0.0) same)
+begins-with h own rest number next hs behind s quiet piece = reads_first begins_hunk hunk_at SpellsIn grammar h own rest number (hs, ahead next behind) s quiet (reading_again number (own ++ rest) hs next behind piece)
 
 pub spells-first : (h : PlainHunk) (rest : List ℕ) → first_broken h ≡ None → AllByRecursion HasNoInnerFeed h.body → after_backslash (lines rest) ≡ None → SpellsFirst (in_order h) (canonical h) rest
 spells-first h rest unbroken cleanly quiet =

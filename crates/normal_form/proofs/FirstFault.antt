@@ -16,7 +16,7 @@ use Rattle.hunk_core.specs.FirstFault.{AgreeTo}
 use Rattle.hunk_core.specs.Rules.{is_too_large}
 use Rattle.hunk_core.specs.Refusals.{unmarked, settled}
 use Rattle.hunk_core.proofs.FaultSteps.{failed, bind_err, with_rest, err_is, put_first, add_err, assoc, short_or, here-is, unmarked-kind}
-use Rattle.hunk_core.proofs.Agreeing.{agree_head, agree_less, agree_front}
+use Rattle.hunk_core.proofs.Agreeing.{agree_head, agree_front}
 use Rattle.hunk_core.proofs.Steady.{one_line, FailsHere, peek_by}
 use Rattle.normal_form.specs.FirstFault.{CanGoOn}
 use Rattle.hunk_core.specs.declared.command.Action.{Action}
@@ -29,8 +29,11 @@ use Rattle.normal_form.specs.Hunks.{at_line, body_at, change, first_hunk, hunk_a
 use Rattle.normal_form.specs.Grammar.{IsPiece}
 use Rattle.hunk_core.proofs.Steady.{steady-then, steady-value, steady-same}
 use Rattle.normal_form.proofs.Steady.{Steady, steady-line, steady-peek}
-use Rattle.normal_form.proofs.HunkLoops.{hunks_step, some_lines}
-use Rattle.normal_form.proofs.Pieces.{hunk-shrinks, no_hunks, reading_again}
+use Rattle.hunk_core.specs.Following.{hunks_by}
+use Rattle.hunk_core.proofs.Following.{more_hunks, hunks_step, no_hunks}
+use Rattle.hunk_core.proofs.Grammars.{hunk-shrinks, some-lines}
+use Rattle.hunk_core.proofs.Faults.{FillsHunks, IsSteady, hunks_low as low_of, hunks_fill as fill_of, stays, short, unread, late}
+use Rattle.normal_form.proofs.Pieces.{SpellsIn, grammar, reading_again}
 
 -- ---- lines
 pub marked-here : (side : Side) → FailsHere (λ number line. marked_at number side line)
@@ -176,87 +179,41 @@ marked_too last number (line ∷ rest) others agree le e = let a = agree_head la
 begins_again : (line : List ℕ) (rest : List (List ℕ)) → is_command line ≡ true → begins_marked rest ≡ true → begins_hunk (line ∷ rest) ≡ true
 begins_again line rest c m = rw (c, m) refl
 
-begins_too : (last number : ℕ) (rest others : List (List ℕ)) → AgreeTo last number rest others → number + 1 ≤ last → begins_hunk rest ≡ true → begins_hunk others ≡ true
+begins_too : (last number : ℕ) (rest others : List (List ℕ)) → AgreeTo (last + 1) number rest others → number ≤ last → begins_hunk rest ≡ true → begins_hunk others ≡ true
 begins_too last number [] others agree le e = absurd cc
 begins_too last number (line ∷ rest) others agree le e =
-    let a = agree_head last number line rest others agree (omega (arith, le)) in
+    let a = agree_head (last + 1) number line rest others agree (omega (arith, le)) in
     let b = and_parts (is_command line) (begins_marked rest) e in
-    ap begins_hunk a.1 ∙ begins_again line a.0 b.0 (marked_too last (number + 1) rest a.0 a.2 le b.1)
+    ap begins_hunk a.1 ∙ begins_again line a.0 b.0 (marked_too (last + 1) (number + 1) rest a.0 a.2 (omega (arith, le)) b.1)
 
-abbrev pub more_hunks : ℕ → PlainHunk × Ahead → Result (List PlainHunk × Ahead) Fault
-more_hunks most first = hunks_at most first.0.old_start first.1 >>= λ others. Ok (first.0 ∷ others.0, others.1)
+steady : IsSteady begins_hunk hunk_at SpellsIn (λ n. n + 1)
+steady = record { far = λ n. omega arith; opens = begins_too; one = steady-hunk }
 
 pub hunks_low : (most least : ℕ) (p : Ahead) (e : Fault) → hunks_at most least p ≡ Err e → (p.number ≤ e.line) × (e.kind ≡ kinds.ShortEnd → e.line ≡ p.number + length p.rest)
-unfolding hunks_at
-hunks_low zero least p e h = absurd cc
-hunks_low (suc most) least p e h =
-    elim (chosen (begins_hunk p.rest) _ _ (Err e) h) [
-      | inl some ↦ elim (bind_err (hunk_at least p) (more_hunks most) e some.1) [
-        | inl bad ↦ (steady-hunk least).low p e bad
-        | inr good ↦ (
-            let up = (steady-hunk least).up p good.0 good.1 in
-            let l = hunks_low most good.0.0.old_start good.0.1 e (add_err good.0.0 (hunks_at most good.0.0.old_start good.0.1) e good.2) in
-            (omega (arith, up.0, l.0), λ short. l.1 short ∙ up.1))
-      ]
-      | inr none ↦ absurd (let bad : Ok ([], p) ≡ failed {A = List PlainHunk × Ahead} e = none.1 in cc)
-    ]
+hunks_low = low_of begins_hunk hunk_at SpellsIn (λ n. n + 1) grammar steady
 
-hunks_err : (most least : ℕ) (p : Ahead) (e : Fault) → begins_hunk p.rest ≡ true → hunk_at least p ≡ Err e → hunks_at (suc most) least p ≡ Err e
-hunks_err most least p e begins h = hunks_step most least p begins ∙ (rw h refl)
-
-hunks_on : (most least : ℕ) (p : Ahead) (x : PlainHunk × Ahead) (e : Fault) → begins_hunk p.rest ≡ true → hunk_at least p ≡ Ok x → hunks_at most x.0.old_start x.1 ≡ Err e → hunks_at (suc most) least p ≡ Err e
-hunks_on most least p x e begins h more = hunks_step most least p begins ∙ (rw (h, more) refl)
-
-pub hunks_stay : (most most2 least : ℕ) (p : Ahead) (others : List (List ℕ)) (e : Fault) → hunks_at most least p ≡ Err e → e.kind ≢ kinds.ShortEnd → AgreeTo (e.line + 1) p.number p.rest others → length others ≤ most2 → hunks_at most2 least (ahead p.number others) ≡ Err e
-unfolding hunks_at
-hunks_stay zero most2 least p others e h long agree enough = absurd cc
-hunks_stay (suc most) most2 least p others e h long agree enough =
-    let low = hunks_low (suc most) least p e h in
-    elim (chosen (begins_hunk p.rest) _ _ (Err e) h) [
-      | inl some ↦ (
-          let begins = begins_too (e.line + 1) p.number p.rest others agree (omega (arith, low.0)) some.0 in
-          let k : most2 ≡ suc (most2 - 1) = omega (arith, enough, some_lines others begins) in
-          subst (λ n. hunks_at n least (ahead p.number others) ≡ Err e) (sym k) (elim (bind_err (hunk_at least p) (more_hunks most) e some.1) [
-            | inl bad ↦ hunks_err (most2 - 1) least (ahead p.number others) e begins ((steady-hunk least).stays p others e bad long (agree_less (e.line + 1) e.line p.number p.rest others (omega arith) agree))
-            | inr good ↦ (
-                let x = good.0 in
-                let rest : hunks_at most x.0.old_start x.1 ≡ Err e = add_err x.0 (hunks_at most x.0.old_start x.1) e good.2 in
-                let there = hunks_low most x.0.old_start x.1 e rest in
-                let go = (steady-hunk least).goes (e.line + 1) p others x good.1 (omega (arith, there.0)) agree in
-                let fewer : length go.rest ≤ most2 - 1 = omega (arith, enough, hunk-shrinks least p.number others (x.0, ahead x.1.number go.rest) go.read) in
-                hunks_on (most2 - 1) least (ahead p.number others) (x.0, ahead x.1.number go.rest) e begins go.read (hunks_stay most (most2 - 1) x.0.old_start x.1 go.rest e rest long go.agree fewer))
-          ]))
-      | inr none ↦ absurd (let bad : Ok ([], p) ≡ failed {A = List PlainHunk × Ahead} e = none.1 in cc)
-    ]
+-- the lines in front of a fault, with others, are hunks
+pub hunks_fill : ((least : ℕ) (p : Ahead) (e : Fault) → hunk_at least p ≡ Err e → FillsHunks SpellsIn least p e) → (most least : ℕ) (p : Ahead) (e : Fault) → hunks_at most least p ≡ Err e → FillsHunks SpellsIn least p e
+hunks_fill = fill_of begins_hunk hunk_at SpellsIn (λ n. n + 1) grammar steady (λ least own behind others h s. s)
 
 -- ---- the first fault
 
 pub fault-stays : (number : ℕ) (lines others : List (List ℕ)) (e : Fault) → reading number lines ≡ Err e → e.kind ≢ kinds.ShortEnd → AgreeTo (e.line + 1) number lines others → reading number others ≡ Err e
-fault-stays number lines others e h long agree = hunks_stay (length lines) (length others) 0 (ahead number lines) others e h long agree (omega arith)
+fault-stays = stays begins_hunk hunk_at SpellsIn (λ n. n + 1) grammar steady
 
 pub fault-short : (number : ℕ) (lines : List (List ℕ)) (e : Fault) → reading number lines ≡ Err e → e.kind ≡ kinds.ShortEnd → e.line ≡ number + length lines
-fault-short number lines e h short = (hunks_low (length lines) 0 (ahead number lines) e h).1 short
+fault-short = short begins_hunk hunk_at SpellsIn (λ n. n + 1) grammar steady
 
 pub fault-unspelled : (number : ℕ) (lines others : List (List ℕ)) (e : Fault) (hs : List PlainHunk) (next : ℕ) (rest : List (List ℕ)) → reading number lines ≡ Err e → e.kind ≢ kinds.ShortEnd → AgreeTo (e.line + 1) number lines others → IsPiece number others hs next rest → ⊥
-fault-unspelled number lines others e hs next rest h long agree piece =
-    let fails = fault-stays number lines others e h long agree in
-    let reads = reading_again number others hs next rest piece in
-    cc
+fault-unspelled number lines others e hs next rest h long agree piece = unread begins_hunk hunk_at SpellsIn (λ n. n + 1) grammar steady number lines others e (hs, ahead next rest) h long agree (reading_again number others hs next rest piece)
 
 pub fault-late : (number : ℕ) (front behind others : List (List ℕ)) (e : Fault) (hs : List PlainHunk) (next : ℕ) (rest : List (List ℕ)) → IsPiece number (front ++ others) hs next rest → reading number (front ++ behind) ≡ Err e → number + length front ≤ e.line + 1
-fault-late number front behind others e hs next rest piece h =
-    elim (cases_lt (e.line + 1) (number + length front)) [
-      | inl early ↦ elim (short_or e.kind) [
-        | inl short ↦ omega (arith, fault-short number (front ++ behind) e h short, length-append front behind)
-        | inr long ↦ absurd (fault-unspelled number (front ++ behind) (front ++ others) e hs next rest h long (agree_front (e.line + 1) number front behind others early) piece)
-      ]
-      | inr late ↦ late
-    ]
+fault-late number front behind others e hs next rest piece h = late begins_hunk hunk_at SpellsIn (λ n. n + 1) grammar steady number front behind others e (hs, ahead next rest) (reading_again number (front ++ others) hs next rest piece) h
 
 -- ---- lines that hunks are whole with
 
 nothing_begins : (most least : ℕ) (p : Ahead) (x : List PlainHunk × Ahead) → begins_hunk p.rest ≡ false → hunks_at most least p ≡ Ok x → x.1.rest ≡ p.rest
-nothing_begins most least p x none h = ap (λ (y : List PlainHunk × Ahead). y.1.rest) (ok_is x ([], p) (sym h ∙ no_hunks most least p none))
+nothing_begins most least p x none h = ap (λ (y : List PlainHunk × Ahead). y.1.rest) (ok_is x ([], p) (sym h ∙ no_hunks begins_hunk hunk_at most least p none))
 
 some_agree : (last number : ℕ) (lines : List (List ℕ)) → 0 < length lines → number ≤ last → AgreeTo last number lines [] → ⊥
 some_agree last number [] some le agree = omega (arith, some)
@@ -264,33 +221,33 @@ some_agree last number (line ∷ lines) some le agree = omega (arith, le, agree)
 
 -- over lines that are the same up to the fault, reading doesn't come to an end of all lines
 hunks_stop : (most most2 least : ℕ) (p : Ahead) (others : List (List ℕ)) (e : Fault) (x : List PlainHunk × Ahead) → hunks_at most least p ≡ Err e → e.kind ≢ kinds.ShortEnd → AgreeTo e.line p.number p.rest others → length others ≤ most2 → hunks_at most2 least (ahead p.number others) ≡ Ok x → x.1.rest ≡ [] → ⊥
-unfolding hunks_at
+unfolding hunks_by
 hunks_stop zero most2 least p others e x h long agree enough read none = absurd cc
 hunks_stop (suc most) most2 least p others e x h long agree enough read none =
     let low = hunks_low (suc most) least p e h in
     elim (chosen (begins_hunk p.rest) _ _ (Err e) h) [
       | inl some ↦ elim (chosen (begins_hunk others) true false _ refl) [
         | inl begins ↦ (
-            let k : most2 ≡ suc (most2 - 1) = omega (arith, enough, some_lines others begins.0) in
-            let on : (hunk_at least (ahead p.number others) >>= more_hunks (most2 - 1)) ≡ Ok x = sym (hunks_step (most2 - 1) least (ahead p.number others) begins.0) ∙ subst (λ n. hunks_at n least (ahead p.number others) ≡ Ok x) k read in
-            elim (bind_err (hunk_at least p) (more_hunks most) e some.1) [
-              | inl bad ↦ (let same : hunk_at least (ahead p.number others) ≡ Err e = (steady-hunk least).stays p others e bad long agree in let a = bind_ok (hunk_at least (ahead p.number others)) (more_hunks (most2 - 1)) x on in cc)
+            let k : most2 ≡ suc (most2 - 1) = omega (arith, enough, some-lines begins_hunk hunk_at SpellsIn grammar others begins.0) in
+            let on : (hunk_at least (ahead p.number others) >>= more_hunks begins_hunk hunk_at (most2 - 1)) ≡ Ok x = sym (hunks_step begins_hunk hunk_at (most2 - 1) least (ahead p.number others) begins.0) ∙ subst (λ n. hunks_at n least (ahead p.number others) ≡ Ok x) k read in
+            elim (bind_err (hunk_at least p) (more_hunks begins_hunk hunk_at most) e some.1) [
+              | inl bad ↦ (let same : hunk_at least (ahead p.number others) ≡ Err e = (steady-hunk least).stays p others e bad long agree in let a = bind_ok (hunk_at least (ahead p.number others)) (more_hunks begins_hunk hunk_at (most2 - 1)) x on in cc)
               | inr good ↦ (
                   let y = good.0 in
                   let rest : hunks_at most y.0.old_start y.1 ≡ Err e = add_err y.0 (hunks_at most y.0.old_start y.1) e good.2 in
                   let there = hunks_low most y.0.old_start y.1 e rest in
                   let go = (steady-hunk least).goes e.line p others y good.1 there.0 agree in
-                  let fewer : length go.rest ≤ most2 - 1 = omega (arith, enough, hunk-shrinks least p.number others (y.0, ahead y.1.number go.rest) go.read) in
-                  let a = bind_ok (hunk_at least (ahead p.number others)) (more_hunks (most2 - 1)) x on in
+                  let fewer : length go.rest ≤ most2 - 1 = omega (arith, enough, hunk-shrinks begins_hunk hunk_at SpellsIn grammar least (ahead p.number others) (y.0, ahead y.1.number go.rest) begins.0 go.read) in
+                  let a = bind_ok (hunk_at least (ahead p.number others)) (more_hunks begins_hunk hunk_at (most2 - 1)) x on in
                   let first : a.0 ≡ (y.0, ahead y.1.number go.rest) = ok_is _ _ (sym a.1 ∙ go.read) in
-                  let second : more_hunks (most2 - 1) (y.0, ahead y.1.number go.rest) ≡ Ok x = subst (λ z. more_hunks (most2 - 1) z ≡ Ok x) first a.2 in
+                  let second : more_hunks begins_hunk hunk_at (most2 - 1) (y.0, ahead y.1.number go.rest) ≡ Ok x = subst (λ z. more_hunks begins_hunk hunk_at (most2 - 1) z ≡ Ok x) first a.2 in
                   let b = bind_ok (hunks_at (most2 - 1) y.0.old_start (ahead y.1.number go.rest)) (put_first y.0) x second in
                   let end : b.0.1.rest ≡ [] = ap (λ (z : List PlainHunk × Ahead). z.1.rest) (ok_is _ _ b.2) ∙ none in
                   hunks_stop most (most2 - 1) y.0.old_start y.1 go.rest e b.0 rest long go.agree fewer b.1 end)
             ])
         | inr quiet ↦ (
             let left : others ≡ [] = sym (nothing_begins most2 least (ahead p.number others) x quiet.0 read) ∙ none in
-            some_agree e.line p.number p.rest (some_lines p.rest some.0) low.0 (subst (AgreeTo e.line p.number p.rest) left agree))
+            some_agree e.line p.number p.rest (some-lines begins_hunk hunk_at SpellsIn grammar p.rest some.0) low.0 (subst (AgreeTo e.line p.number p.rest) left agree))
       ]
       | inr other ↦ absurd (let bad : Ok ([], p) ≡ failed {A = List PlainHunk × Ahead} e = other.1 in cc)
     ]

@@ -1,49 +1,27 @@
 -- The lines in front of a fault can go on to a piece.
-use Rattle.std.proofs.Common.{◌≡◌, ℕ, zero, suc, ◌+◌, ◌-◌, ◌≤◌, cond, List, [], ◌∷◌, ◌++◌, length, take, Option, None, Some, Result, Ok, Err, refl, sym, ap, subst, ◌∙◌, arith, inl, inr, ◌↔◌, ◌<◌}
+use Rattle.std.proofs.Common.{◌≡◌, ℕ, ◌+◌, ◌-◌, ◌≤◌, cond, List, [], ◌∷◌, ◌++◌, length, take, Option, None, Some, Result, Ok, Err, refl, sym, ap, subst, ◌∙◌, arith, inl, inr, ◌↔◌, ◌<◌}
 use Rattle.std.specs.Prelude.{is_some}
-use Rattle.std.specs.List.{AllByRecursion}
 use Rattle.std.proofs.lemmas.List.{append-nil}
-use Rattle.line_list.specs.Lines.{IsLine}
 use Rattle.hunk_core.specs.declared.BadKind.TheVariants as kinds
 use Rattle.hunk_core.specs.declared.Side.TheVariants.{Forward, Reversed}
 use Rattle.hunk_core.specs.PlainHunk.{Marked, PlainHunk}
 use Rattle.hunk_core.specs.LineTests.{after_backslash}
 use Rattle.hunk_core.specs.Reading.{Fault, fault, Ahead, ahead}
-use Rattle.line_list.proofs.Choices.{chosen}
 use Rattle.hunk_core.specs.Refusals.{settled}
-use Rattle.hunk_core.proofs.FaultSteps.{failed, bind_err, short_or, add_err}
-use Rattle.hunk_core.proofs.Filling.{none_in_front, front_with, IsInside, first_inside, past_inside, whole_front, none_inside}
+use Rattle.hunk_core.proofs.FaultSteps.{bind_err, short_or}
+use Rattle.hunk_core.proofs.Faults.{FillsHunks, no_hunk}
+use Rattle.hunk_core.proofs.Filling.{front_with, first_inside, past_inside, whole_front, none_inside}
 use Rattle.normal_form.specs.declared.command.Command.{Command}
 use Rattle.normal_form.specs.Commands.{opening}
-use Rattle.normal_form.specs.Hunks.{at_line, body_at, change, first_hunk, hunk_at, begins_hunk, hunks_at, reading}
-use Rattle.normal_form.specs.Grammar.{on_side, SpellsBody, SpellsCommand, AreFair, command_of, SpellsHunk, SpellsHunks}
+use Rattle.normal_form.specs.Hunks.{at_line, body_at, change, first_hunk, reading}
+use Rattle.normal_form.specs.Grammar.{on_side, SpellsBody, SpellsCommand, AreFair, command_of, SpellsHunk}
 use Rattle.normal_form.specs.FirstFault.{CanGoOn}
 use Rattle.normal_form.proofs.CommandGrammar.{opening-takes}
-use Rattle.normal_form.proofs.Pieces.{counts-none, TakesBody, body_takes, at_line-ok, is_counted, TakesHunk, hunk_takes}
-use Rattle.normal_form.proofs.FirstFault.{fault-short, fault-not_sooner, steady-body, opening-here, with_body, more_hunks, hunks_low}
+use Rattle.normal_form.proofs.Pieces.{SpellsIn, counts-none, TakesBody, body_takes, at_line-ok, is_counted}
+use Rattle.normal_form.proofs.FirstFault.{fault-short, fault-not_sooner, steady-body, opening-here, with_body, hunks_fill}
 use Rattle.normal_form.proofs.Filling.{fault_at, front_to, some_loud, FillsBody, body_fills}
 
 -- ---- hunks
-
--- the lines in front of the fault, with others, are hunks
-record FillsHunks (least : ℕ) (p : Ahead) (e : Fault) : Type 0 where
-  others : List (List ℕ)
-  are_lines : AllByRecursion IsLine others
-  hs : List PlainHunk
-  spelled : SpellsHunks least (take (e.line - p.number) p.rest ++ others) hs
-  inside : IsInside p e
-
-no_hunk : (least : ℕ) (p : Ahead) (e : Fault) → e.line ≡ p.number → IsInside p e → FillsHunks least p e
-no_hunk least p e here inside = record { others = []; are_lines = tt; hs = []; spelled = rw (none_in_front e.line p.number p.rest here) refl; inside = inside }
-
-past_hunk : (least : ℕ) (p : Ahead) (e : Fault) (x : PlainHunk × Ahead) → TakesHunk least p x → x.1.number ≤ e.line → FillsHunks x.0.old_start x.1 e → FillsHunks least p e
-past_hunk least p e x t le more = record {
-  others = more.others;
-  are_lines = more.are_lines;
-  hs = x.0 ∷ more.hs;
-  spelled = (t.own, take (e.line - x.1.number) x.1.rest ++ more.others, front_with e.line p.number x.1.number p.rest t.own x.1.rest more.others t.parts t.number le, t.spelled, more.spelled);
-  inside = past_inside p x.1 e t.own t.parts t.number more.inside;
-}
 
 -- a command, and lines that are its lines
 hunk_spelled : (least : ℕ) (line : List ℕ) (lines olds news : List (List ℕ)) (c : Command) (body : List Marked) → SpellsCommand line c × AreFair least c → length olds ≡ c.old_count → length news ≡ c.new_count → body ≡ on_side Forward olds ++ on_side Reversed news → SpellsBody c.action lines olds news
@@ -53,7 +31,7 @@ hunk_spelled least line lines olds news c body s old new is spelled =
     (c.action, olds, news, is, subst (SpellsCommand line) stated s.0, subst (AreFair least) stated s.1, spelled)
 
 -- a hunk whose lines are filled up
-short_hunk : (least number : ℕ) (line : List ℕ) (rest : List (List ℕ)) (e : Fault) (c : Command) → SpellsCommand line c × AreFair least c → number + 1 ≤ e.line → FillsBody c.action c.old_count c.new_count (ahead (number + 1) rest) e → FillsHunks least (ahead number (line ∷ rest)) e
+short_hunk : (least number : ℕ) (line : List ℕ) (rest : List (List ℕ)) (e : Fault) (c : Command) → SpellsCommand line c × AreFair least c → number + 1 ≤ e.line → FillsBody c.action c.old_count c.new_count (ahead (number + 1) rest) e → FillsHunks SpellsIn least (ahead number (line ∷ rest)) e
 short_hunk least number line rest e c s le f =
     let lines = take (e.line - (number + 1)) rest ++ f.others in
     let body = on_side Forward f.olds ++ on_side Reversed f.news in
@@ -66,7 +44,7 @@ short_hunk least number line rest e c s le f =
     }
 
 -- a hunk that is whole
-whole_hunk : (least number : ℕ) (line : List ℕ) (rest : List (List ℕ)) (e : Fault) (c : Command) (body : List Marked × Ahead) → SpellsCommand line c × AreFair least c → TakesBody c.action c.old_count c.new_count (ahead (number + 1) rest) body → (e.line ≡ body.1.number) × (0 < length body.1.rest) → FillsHunks least (ahead number (line ∷ rest)) e
+whole_hunk : (least number : ℕ) (line : List ℕ) (rest : List (List ℕ)) (e : Fault) (c : Command) (body : List Marked × Ahead) → SpellsCommand line c × AreFair least c → TakesBody c.action c.old_count c.new_count (ahead (number + 1) rest) body → (e.line ≡ body.1.number) × (0 < length body.1.rest) → FillsHunks SpellsIn least (ahead number (line ∷ rest)) e
 whole_hunk least number line rest e c body s t late = record {
   others = [];
   are_lines = tt;
@@ -82,12 +60,12 @@ settled_at h p e is = by (after_backslash p.rest) refl is
     by None is h = absurd cc
     by (Some more) is h = (fault_at {A = PlainHunk × Ahead} p.number kinds.MisplacedBackslash e h, some_loud p.rest more is)
 
-hunk_fills : (least number : ℕ) (lines : List (List ℕ)) (e : Fault) → first_hunk least number lines ≡ Err e → FillsHunks least (ahead number lines) e
+hunk_fills : (least number : ℕ) (lines : List (List ℕ)) (e : Fault) → first_hunk least number lines ≡ Err e → FillsHunks SpellsIn least (ahead number lines) e
 unfolding first_hunk
-hunk_fills least number [] e h = no_hunk least (ahead number []) e (fault_at {A = PlainHunk × Ahead} number kinds.ShortEnd e h) (none_inside {A = PlainHunk × Ahead} number e h)
+hunk_fills least number [] e h = no_hunk SpellsIn least (ahead number []) e (fault_at {A = PlainHunk × Ahead} number kinds.ShortEnd e h) (none_inside {A = PlainHunk × Ahead} number e h)
 hunk_fills least number (line ∷ rest) e h =
     elim (bind_err (at_line number (opening least line)) (λ c. with_body c (ahead (number + 1) rest)) e h) [
-      | inl bad ↦ (let here = (opening-here least number line e bad).0 in no_hunk least (ahead number (line ∷ rest)) e here (first_inside number line rest e here))
+      | inl bad ↦ (let here = (opening-here least number line e bad).0 in no_hunk SpellsIn least (ahead number (line ∷ rest)) e here (first_inside number line rest e here))
       | inr good ↦ (
           let c = good.0 in
           let p : Ahead = ahead (number + 1) rest in
@@ -99,26 +77,11 @@ hunk_fills least number (line ∷ rest) e h =
           ])
     ]
 
-hunks_fill : (most least : ℕ) (p : Ahead) (e : Fault) → hunks_at most least p ≡ Err e → FillsHunks least p e
-unfolding hunks_at
-hunks_fill zero least p e h = absurd cc
-hunks_fill (suc most) least p e h =
-    elim (chosen (begins_hunk p.rest) _ _ (Err e) h) [
-      | inl some ↦ elim (bind_err (hunk_at least p) (more_hunks most) e some.1) [
-        | inl bad ↦ hunk_fills least p.number p.rest e bad
-        | inr good ↦ (
-            let x = good.0 in
-            let rest : hunks_at most x.0.old_start x.1 ≡ Err e = add_err x.0 (hunks_at most x.0.old_start x.1) e good.2 in
-            past_hunk least p e x (hunk_takes least p.number p.rest x good.1) (hunks_low most x.0.old_start x.1 e rest).0 (hunks_fill most x.0.old_start x.1 e rest))
-      ]
-      | inr none ↦ absurd (let bad : Ok ([], p) ≡ failed {A = List PlainHunk × Ahead} e = none.1 in cc)
-    ]
-
 -- ---- the first fault
 
 pub fault-goes_on : (number : ℕ) (lines : List (List ℕ)) (e : Fault) → reading number lines ≡ Err e → CanGoOn number (take (e.line - number) lines)
 fault-goes_on number lines e h =
-    let f = hunks_fill (length lines) 0 (ahead number lines) e h in
+    let f = hunks_fill (λ least p e h. hunk_fills least p.number p.rest e h) (length lines) 0 (ahead number lines) e h in
     let own = take (e.line - number) lines ++ f.others in
     record { others = f.others; are_lines = f.are_lines; hs = f.hs; next = number + length own; whole = record { own = own; parts = sym (append-nil own); spelled = f.spelled; ends = (refl, refl); counted = refl } }
 
@@ -129,7 +92,7 @@ fault-short_end number lines e h = (
     | inl short ↦ short
     | inr long ↦ (
         let late = fault-not_sooner number lines [] e g (subst (λ (ls : List (List ℕ)). reading number ls ≡ Err e) (sym (append-nil lines)) h) in
-        let inside = (hunks_fill (length lines) 0 (ahead number lines) e h).inside long in
+        let inside = (hunks_fill (λ least p e h. hunk_fills least p.number p.rest e h) (length lines) 0 (ahead number lines) e h).inside long in
         absurd (omega (arith, late, inside)))
   ],
 )

@@ -3,9 +3,7 @@ pub mod Loops
 pub mod CommandGrammar
 pub mod Stretches
 pub mod Pieces
-pub mod HunkLoops
 pub mod Unbroken
-pub mod SpansLemmas
 pub mod Steady
 pub mod FirstFault
 pub mod Filling

@@ -1,5 +1,5 @@
 -- Hunks that are read are spelled so, and what is spelled so is read.
-use Rattle.std.proofs.Common.{◌≡◌, ℕ, zero, suc, ◌+◌, ◌≤◌, ◌<◌, true, false, eqb, List, [], ◌∷◌, ◌++◌, length, None, Result, Ok, Err, refl, sym, ap, subst, ◌∙◌, append_assoc, arith, inl, inr}
+use Rattle.std.proofs.Common.{◌≡◌, ℕ, ◌+◌, ◌<◌, true, false, eqb, List, [], ◌∷◌, ◌++◌, length, None, Result, Ok, Err, refl, sym, ap, subst, ◌∙◌, append_assoc, arith, inl, inr}
 use Rattle.std.specs.Prelude.{IfOk}
 use Rattle.std.proofs.lemmas.Bool.{eqb-true, and_parts}
 use Rattle.std.proofs.lemmas.List.{length-append, append-nil}
@@ -18,11 +18,12 @@ use Rattle.hunk_core.specs.declared.command.Action.TheVariants.{Add, Change, Del
 use Rattle.hunk_core.specs.Refusals.{settled}
 use Rattle.hunk_core.proofs.OptionLemmas.{is_none}
 use Rattle.hunk_core.proofs.SideLemmas.{hunk_is}
+use Rattle.hunk_core.proofs.Grammars.{TakesHunk, IsGrammar, piece-alike, reading_takes, piece_reads}
 use Rattle.normal_form.specs.declared.command.Command.{Command}
 use Rattle.normal_form.specs.Commands.{takes_lines, parts_at, opening, is_command}
 use Rattle.normal_form.specs.Stretches.{marks, stretch_at, is_divider, first_divider, divider_at}
-use Rattle.normal_form.specs.Hunks.{at_line, body_at, change, first_hunk, hunk_at, is_marked, begins_marked, begins_hunk, hunks_at, reading}
-use Rattle.normal_form.specs.Grammar.{on_side, SpellsLine, SpellsStretch, SpellsBody, SpellsSpan, command_of, SpellsCommand, AreFair, SpellsHunk, SpellsHunks, EndsPiece, IsPiece}
+use Rattle.normal_form.specs.Hunks.{at_line, body_at, change, first_hunk, hunk_at, is_marked, begins_marked, begins_hunk, reading}
+use Rattle.normal_form.specs.Grammar.{on_side, SpellsLine, SpellsStretch, SpellsBody, SpellsSpan, command_of, SpellsCommand, AreFair, SpellsHunk, IsPiece}
 use Rattle.normal_form.proofs.CommandGrammar.{opening-takes, opening-again, opening-is, command_is}
 use Rattle.normal_form.proofs.Stretches.{TakesStretch, stretch_takes, stretch_again, divider-quiet, none-left}
 use Rattle.normal_form.proofs.Unbroken.{span-some}
@@ -183,13 +184,9 @@ command-quiet (b ∷ bytes) e =
 
 -- ---- one hunk
 
-pub record TakesHunk (least : ℕ) (p : Ahead) (x : PlainHunk × Ahead) : Type 0 where
-  pub own : List (List ℕ)
-  pub parts : p.rest ≡ own ++ x.1.rest
-  pub number : x.1.number ≡ p.number + length own
-  pub some : 0 < length own
-  pub spelled : SpellsHunk least own x.0
-  pub quiet : after_backslash x.1.rest ≡ None
+-- a hunk doesn't look at the lines behind it
+abbrev pub SpellsIn : ℕ → List (List ℕ) → List (List ℕ) → PlainHunk → Type 0
+SpellsIn least own behind h = SpellsHunk least own h
 
 pub at_line-ok : (number : ℕ) (o : Result Command BadKind) (c : Command) → at_line number o ≡ Ok c → o ≡ Ok c
 at_line-ok number (Ok q) c e = cc
@@ -198,7 +195,7 @@ at_line-ok number (Err kind) c e = absurd cc
 pub is_counted : (action : Action) (a b m n e f : ℕ) → e ≡ b → f ≡ n → command_is action a b m n ≡ command_is action a e m f
 is_counted action a b m n e f h k = rw (h, k) refl
 
-pub hunk_takes : (least number : ℕ) (rest : List (List ℕ)) (x : PlainHunk × Ahead) → first_hunk least number rest ≡ Ok x → TakesHunk least (ahead number rest) x
+pub hunk_takes : (least number : ℕ) (rest : List (List ℕ)) (x : PlainHunk × Ahead) → first_hunk least number rest ≡ Ok x → TakesHunk SpellsIn least (ahead number rest) x
 unfolding first_hunk
 hunk_takes least number [] x h = absurd cc
 hunk_takes least number (line ∷ rest) x h =
@@ -210,17 +207,13 @@ hunk_takes least number (line ∷ rest) x h =
     let none = counts-none c.action o.0.old o.0.new c.old_start c.old_count c.new_start c.new_count o.0.old_span o.0.new_span in
     let body = body_takes c (ahead (number + 1) rest) b.0 none b.1 in
     let stated : c ≡ command_of c.action (change c b.0.0) body.olds body.news = is_counted c.action c.old_start c.old_count c.new_start c.new_count (length body.olds) (length body.news) body.old_count body.new_count in
-    subst (TakesHunk least (ahead number (line ∷ rest))) g.1 (record {
+    subst (TakesHunk SpellsIn least (ahead number (line ∷ rest))) g.1 (record {
       own = line ∷ body.own;
       parts = ap (λ (r : List (List ℕ)). line ∷ r) body.parts;
       number = omega (arith, body.number);
-      some = omega arith;
       spelled = (c.action, body.olds, body.news, body.is, subst (SpellsCommand line) stated o.0, subst (AreFair least) stated o.1, body.spelled);
       quiet = is_none (after_backslash b.0.1.rest) g.0;
     })
-
-pub hunk-shrinks : (least number : ℕ) (rest : List (List ℕ)) (x : PlainHunk × Ahead) → first_hunk least number rest ≡ Ok x → length x.1.rest < length rest
-hunk-shrinks least number rest x h = let t = hunk_takes least number rest x h in omega (arith, ap length t.parts, length-append t.own x.1.rest, t.some)
 
 first-step : (least number : ℕ) (line : List ℕ) (rest more : List (List ℕ)) (c : Command) (body : List Marked) (after_number : ℕ) → opening least line ≡ Ok c → body_at c (ahead (number + 1) rest) ≡ Ok (body, ahead after_number more) → after_backslash more ≡ None → first_hunk least number (line ∷ rest) ≡ Ok (change c body, ahead after_number more)
 unfolding first_hunk
@@ -251,89 +244,20 @@ hunk_opens least (line ∷ lines) tail h s =
     let marked = body-first s.0 lines tail s.1 s.2 s.4.old s.4.new h.old_start h.new_start s.6 s.4.old_span s.4.new_span in
     rw (p.1, marked) refl
 
-hunk_lines : (least : ℕ) (own : List (List ℕ)) (h : PlainHunk) → SpellsHunk least own h → 0 < length own
-hunk_lines least [] h s = absurd s
-hunk_lines least (line ∷ lines) h s = omega arith
-
-pub record TakesHunks (least : ℕ) (p : Ahead) (x : List PlainHunk × Ahead) : Type 0 where
-  pub own : List (List ℕ)
-  pub parts : p.rest ≡ own ++ x.1.rest
-  pub number : x.1.number ≡ p.number + length own
-  pub spelled : SpellsHunks least own x.0
-  pub stops : begins_hunk x.1.rest ≡ false
-  pub quiet : after_backslash p.rest ≡ None → after_backslash x.1.rest ≡ None
-
-hunks_none : (least : ℕ) (p : Ahead) → begins_hunk p.rest ≡ false → TakesHunks least p ([], p)
-hunks_none least p none = record { own = []; parts = refl; number = omega arith; spelled = refl; stops = none; quiet = λ h. h }
-
-hunks_more : (least : ℕ) (p : Ahead) (x : PlainHunk × Ahead) (y : List PlainHunk × Ahead) → TakesHunk least p x → TakesHunks x.0.old_start x.1 y → TakesHunks least p (x.0 ∷ y.0, y.1)
-hunks_more least p x y first others = record {
-  own = first.own ++ others.own;
-  parts = first.parts ∙ ap (λ (r : List (List ℕ)). first.own ++ r) others.parts ∙ sym (append_assoc first.own others.own y.1.rest);
-  number = omega (arith, first.number, others.number, length-append first.own others.own);
-  spelled = (first.own, others.own, refl, first.spelled, others.spelled);
-  stops = others.stops;
-  quiet = λ _. others.quiet first.quiet;
+pub grammar : IsGrammar begins_hunk hunk_at SpellsIn
+grammar = record {
+  none = refl;
+  quiet = opening_quiet;
+  opens = λ least own behind tail h s. hunk_opens least own tail h s;
+  takes = λ least p x opens h. hunk_takes least p.number p.rest x h;
+  again = λ h own rest least number s none. hunk_again h own rest least number s none;
 }
 
-nothing_begins : (rest : List (List ℕ)) → length rest ≤ 0 → begins_hunk rest ≡ false
-nothing_begins [] le = refl
-nothing_begins (line ∷ rest) le = absurd (omega arith)
-
-pub hunks_take : (most least : ℕ) (p : Ahead) (x : List PlainHunk × Ahead) → length p.rest ≤ most → hunks_at most least p ≡ Ok x → TakesHunks least p x
-unfolding hunks_at
-hunks_take zero least p x enough h = subst (λ (y : List PlainHunk × Ahead). TakesHunks least p y) (ok_is _ _ h) (hunks_none least p (nothing_begins p.rest enough))
-hunks_take (suc most) least p x enough h =
-    elim (chosen (begins_hunk p.rest) _ _ (Ok x) h) [
-      | inl some ↦ (
-          let a = bind_ok (hunk_at least p) (λ first. hunks_at most first.0.old_start first.1 >>= λ others. Ok (first.0 ∷ others.0, others.1)) x some.1 in
-          let b = bind_ok (hunks_at most a.0.0.old_start a.0.1) (λ others. Ok (a.0.0 ∷ others.0, others.1)) x a.2 in
-          let first = hunk_takes least p.number p.rest a.0 a.1 in
-          let others = hunks_take most a.0.0.old_start a.0.1 b.0 (omega (arith, hunk-shrinks least p.number p.rest a.0 a.1)) b.1 in
-          subst (λ (y : List PlainHunk × Ahead). TakesHunks least p y) (ok_is _ _ b.2) (hunks_more least p a.0 b.0 first others))
-      | inr none ↦ subst (λ (y : List PlainHunk × Ahead). TakesHunks least p y) (ok_is _ _ none.1) (hunks_none least p none.0)
-    ]
-
-hunks_quiet : (hs : List PlainHunk) (least : ℕ) (own rest : List (List ℕ)) → SpellsHunks least own hs → after_backslash rest ≡ None → after_backslash (own ++ rest) ≡ None
-hunks_quiet [] least own rest s none = rw s none
-hunks_quiet (h ∷ hs) least own rest s none = rw (s.2, append_assoc s.0 s.1 rest) (opening_quiet (s.0 ++ (s.1 ++ rest)) (hunk_opens least s.0 (s.1 ++ rest) h s.3))
-
-pub no_hunks : (most least : ℕ) (p : Ahead) → begins_hunk p.rest ≡ false → hunks_at most least p ≡ Ok ([], p)
-unfolding hunks_at
-no_hunks zero least p none = refl
-no_hunks (suc most) least p none = rw none refl
-
-pub hunks_again : (hs : List PlainHunk) (own rest : List (List ℕ)) (least number most : ℕ) → SpellsHunks least own hs → EndsPiece rest → length (own ++ rest) ≤ most
-    → hunks_at most least (ahead number (own ++ rest)) ≡ Ok (hs, ahead (number + length own) rest)
-unfolding hunks_at
-hunks_again [] own rest least number most s ends enough =
-    let same : number + 0 ≡ number = omega arith in
-    rw (s, same) (no_hunks most least (ahead number rest) ends.0)
-hunks_again (h ∷ hs) own rest least number zero s ends enough =
-    let some = hunk_lines least s.0 h s.3 in
-    absurd (omega (arith, length-append own rest, length-append s.0 s.1, ap length s.2))
-hunks_again (h ∷ hs) own rest least number (suc most) s ends enough =
-    let mine = s.0 in
-    let more = s.1 in
-    let parts : own ++ rest ≡ mine ++ (more ++ rest) = ap (λ (p : List (List ℕ)). p ++ rest) s.2 ∙ append_assoc mine more rest in
-    let begins : begins_hunk (mine ++ (more ++ rest)) ≡ true = hunk_opens least mine (more ++ rest) h s.3 in
-    let one : first_hunk least number (mine ++ (more ++ rest)) ≡ Ok (h, ahead (number + length mine) (more ++ rest)) = hunk_again h mine (more ++ rest) least number s.3 (hunks_quiet hs h.old_start more rest s.4 ends.1) in
-    let fewer : length (more ++ rest) ≤ most = omega (arith, ap length parts, length-append mine (more ++ rest), hunk_lines least mine h s.3) in
-    let others : hunks_at most h.old_start (ahead (number + length mine) (more ++ rest)) ≡ Ok (hs, ahead (number + length mine + length more) rest) = hunks_again hs more rest h.old_start (number + length mine) most s.4 ends fewer in
-    let lines : number + length mine + length more ≡ number + length own = omega (arith, length-append mine more, ap length s.2) in
-    ap (λ (p : List (List ℕ)). hunks_at (suc most) least (ahead number p)) parts
-    ∙ rw (begins, one, others, lines) refl
-
--- ---- the whole piece
-
 pub reading_finds : (number : ℕ) (lines : List (List ℕ)) (x : List PlainHunk × Ahead) → begins_hunk lines ≡ true → reading number lines ≡ Ok x → IsPiece number lines x.0 x.1.number x.1.rest
-reading_finds number lines x opens h =
-    let t = hunks_take (length lines) 0 (ahead number lines) x (omega arith) h in
-    record { own = t.own; parts = t.parts; spelled = t.spelled; ends = (t.stops, t.quiet (opening_quiet lines opens)); counted = t.number }
+reading_finds number lines x opens h = piece-alike begins_hunk SpellsIn (λ ls. ls) (λ ls. []) (λ least own behind others h s. s) number lines x.0 x.1.number x.1.rest (reading_takes begins_hunk hunk_at SpellsIn grammar number lines x h opens)
 
 pub reading_again : (number : ℕ) (lines : List (List ℕ)) (hs : List PlainHunk) (next : ℕ) (rest : List (List ℕ)) → IsPiece number lines hs next rest → reading number lines ≡ Ok (hs, ahead next rest)
-reading_again number lines hs next rest p =
-    rw (p.parts, p.counted) (hunks_again hs p.own rest 0 number (length (p.own ++ rest)) p.spelled p.ends (omega arith))
+reading_again number lines hs next rest p = piece_reads begins_hunk hunk_at SpellsIn grammar number lines hs next rest (piece-alike begins_hunk SpellsIn (λ ls. []) (λ ls. ls) (λ least own behind others h s. s) number lines hs next rest p)
 
 pub is_found : {X : Type 0} (view : X → List PlainHunk × Ahead) (number : ℕ) (lines : List (List ℕ)) (r : Result X FormFault) → begins_hunk lines ≡ true → Gives view r (reading number lines) → IfOk r (λ h. IsPiece number lines (view h).0 (view h).1.number (view h).1.rest)
 is_found view number lines (Ok h) opens given = reading_finds number lines (view h) opens given

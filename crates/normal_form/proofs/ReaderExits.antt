@@ -1,11 +1,9 @@
 -- What the exits of the readers of a line and of a hunk owe, over plain values.
-use Rattle.std.proofs.Common.{◌≡◌, ℕ, ◌+◌, ◌<◌, ◌≤◌, Bool, false, true, eqb, List, [], ◌∷◌, ◌++◌, length, length-append, sum_by, Option, None, Some, Result, Ok, Err, refl, sym, arith}
+use Rattle.std.proofs.Common.{◌≡◌, ℕ, ◌+◌, ◌<◌, Bool, false, true, eqb, List, [], ◌∷◌, Option, None, Some, Result, Ok, Err, refl, sym, arith}
 use Rattle.std.specs.Prelude.{is_some}
-use Rattle.std.proofs.lemmas.List.Sums.{sum_by-append}
 use Rattle.line_list.specs.Reader.{Reads}
 use Rattle.hunk_core.specs.declared.BadKind.{BadKind}
 use Rattle.hunk_core.specs.declared.BadKind.TheVariants as kinds
-use Rattle.hunk_core.specs.declared.Hunk.{Hunk}
 use Rattle.hunk_core.specs.declared.Side.{Side}
 use Rattle.hunk_core.specs.declared.Side.TheVariants.{Forward, Reversed}
 use Rattle.hunk_core.specs.declared.fault.FormFault.{FormFault}
@@ -109,10 +107,3 @@ hunk_whole least number all rest c body p h read none = rw (h.parts, sym h.opens
 pub body_left : (c : Command) (p behind middle : Ahead) (old : List Marked) → stretch_at Forward c.old_count [] p ≡ Ok (old, behind) → divider_at c.action behind ≡ Ok (tt, middle) → body_at c p ≡ stretch_at Reversed c.new_count old middle
 unfolding body_at
 body_left c p behind middle old read divided = rw (read, divided) refl
-
--- what is counted of the hunks that were read, with one more
-pub count_push : (hs more : List Hunk) (h : Hunk) (at from to : ℕ) → more ≡ hs ++ h ∷ [] → from < to → at + length hs ≤ from → at + length more ≤ to
-count_push hs more h at from to is goes few = rw (is, length-append hs (h ∷ [])) (omega (arith, goes, few))
-
-pub few_push : (hs more : List Hunk) (h : Hunk) (at from to : ℕ) → more ≡ hs ++ h ∷ [] → from + length h.body.items ≤ to → at + sum_by (λ (x : Hunk). length x.body.items) hs ≤ from → at + sum_by (λ (x : Hunk). length x.body.items) more ≤ to
-few_push hs more h at from to is goes few = rw (is, sum_by-append (λ (x : Hunk). length x.body.items) hs (h ∷ [])) (omega (arith, goes, few))

@@ -1,9 +1,9 @@
 -- The grammar of the normal form, apart from any reading: which lines spell which hunks.
-use Rattle.std.specs.Prelude.{◌≡◌, ◌⊎◌, ℕ, ◌+◌, ◌-◌, ◌≤◌, Bool, true, false, List, [], ◌∷◌, ◌++◌, length, map, take, None}
+use Rattle.std.specs.Prelude.{◌≡◌, ◌⊎◌, ℕ, ◌+◌, ◌-◌, ◌≤◌, Bool, true, false, List, [], ◌∷◌, ◌++◌, length, map, take}
 use Rattle.hunk_core.specs.declared.Side.{Side}
 use Rattle.hunk_core.specs.declared.Side.TheVariants.{Forward, Reversed}
 use Rattle.hunk_core.specs.PlainHunk.{Marked, PlainHunk}
-use Rattle.hunk_core.specs.LineTests.{marked, is_backslash, after_backslash}
+use Rattle.hunk_core.specs.LineTests.{marked, is_backslash}
 use Rattle.num_text.specs.Numbers.{IsNumeral}
 use Rattle.num_text.specs.NumberRanges.{SpellsRange}
 use Rattle.hunk_core.specs.declared.command.Action.{Action}
@@ -13,6 +13,7 @@ use Rattle.normal_form.specs.declared.command.Command.{Command}
 use Rattle.hunk_core.specs.Letters.{letter, is_line_end}
 use Rattle.normal_form.specs.Commands.{takes_lines, Fits}
 use Rattle.normal_form.specs.Stretches.{marks, is_divider}
+use Rattle.hunk_core.specs.Following.{SpellsEach, IsPieceOf}
 use Rattle.normal_form.specs.Hunks.{begins_hunk}
 
 -- lines of a body that are on this side alone
@@ -69,20 +70,11 @@ SpellsHunk least (line ∷ rest) h = (action : Action) × (olds : List (List ℕ
 
 -- these lines are these hunks, the first behind one that starts at least
 abbrev pub SpellsHunks : ℕ → List (List ℕ) → List PlainHunk → Type 0
-SpellsHunks least piece [] = piece ≡ []
-SpellsHunks least piece (h ∷ hs) = (own : List (List ℕ)) × (rest : List (List ℕ)) × (piece ≡ own ++ rest) × SpellsHunk least own h × SpellsHunks h.old_start rest hs
+SpellsHunks least piece hs = SpellsEach (λ start own behind h. SpellsHunk start own h) least piece [] hs
 
--- neither a hunk nor a backslash line follows
-abbrev pub EndsPiece : List (List ℕ) → Type 0
-EndsPiece rest = (begins_hunk rest ≡ false) × (after_backslash rest ≡ None)
-
--- the lines ahead are these hunks, and then this rest, whose first line has this number
-pub record IsPiece (number : ℕ) (lines : List (List ℕ)) (hs : List PlainHunk) (next : ℕ) (rest : List (List ℕ)) : Type 0 where
-  pub own : List (List ℕ)
-  pub parts : lines ≡ own ++ rest
-  pub spelled : SpellsHunks 0 own hs
-  pub ends : EndsPiece rest
-  pub counted : next ≡ number + length own
+-- the lines ahead are these hunks, and then this rest, whose first line has this number: neither a hunk nor a backslash line
+abbrev pub IsPiece : ℕ → List (List ℕ) → List PlainHunk → ℕ → List (List ℕ) → Type 0
+IsPiece number lines hs next rest = IsPieceOf begins_hunk (λ own behind hs. SpellsHunks 0 own hs) number lines hs next rest
 
 -- a number, or two with a comma between them
 abbrev pub IsRange : List ℕ → Type 0

@@ -1,5 +1,5 @@
 -- Hunks that follow each other, read line by line.
-use Rattle.std.specs.Prelude.{ℕ, zero, suc, ◌+◌, Bool, false, ◌&&◌, ◌||◌, List, [], ◌∷◌, length, is_some, Result, Ok, Err, if◌then◌else◌}
+use Rattle.std.specs.Prelude.{ℕ, ◌+◌, Bool, false, ◌&&◌, ◌||◌, List, [], ◌∷◌, is_some, Result, Ok, Err}
 use Rattle.hunk_core.specs.declared.BadKind.{BadKind}
 use Rattle.hunk_core.specs.declared.BadKind.TheVariants as kinds
 use Rattle.hunk_core.specs.declared.Side.TheVariants.{Forward, Reversed}
@@ -7,6 +7,7 @@ use Rattle.hunk_core.specs.PlainHunk.{Marked, PlainHunk}
 use Rattle.hunk_core.specs.LineTests.{after}
 use Rattle.hunk_core.specs.Reading.{Fault, fault, ◌>>=◌, Ahead, ahead}
 use Rattle.hunk_core.specs.Refusals.{settled}
+use Rattle.hunk_core.specs.Following.{hunks_by, reading_by}
 use Rattle.normal_form.specs.declared.command.Command.{Command}
 use Rattle.normal_form.specs.Commands.{opening, is_command}
 use Rattle.normal_form.specs.Stretches.{marks, stretch_at, divider_at}
@@ -54,10 +55,9 @@ begins_hunk [] = false
 begins_hunk (line ∷ rest) = is_command line && begins_marked rest
 
 -- at most so many hunks that follow each other
-unfoldable pub hunks_at : ℕ → ℕ → Ahead → Result (List PlainHunk × Ahead) Fault
-hunks_at zero least p = Ok ([], p)
-hunks_at (suc most) least p = if begins_hunk p.rest then (hunk_at least p >>= λ first. hunks_at most first.0.old_start first.1 >>= λ others. Ok (first.0 ∷ others.0, others.1)) else Ok ([], p)
+abbrev pub hunks_at : ℕ → ℕ → Ahead → Result (List PlainHunk × Ahead) Fault
+hunks_at most least p = hunks_by begins_hunk hunk_at most least p
 
 -- the hunks at the front of these lines, and what stands behind them, or the first fault
 abbrev pub reading : ℕ → List (List ℕ) → Result (List PlainHunk × Ahead) Fault
-reading number rest = hunks_at (length rest) 0 (ahead number rest)
+reading number rest = reading_by begins_hunk hunk_at number rest

@@ -17,8 +17,11 @@ ghost use Rattle.normal_form.specs.Hunks.{body_at, hunk_at, is_marked, begins_ma
 
 use crate::command::{Command, is_command_line, opening_of};
 use crate::stretch::{after_divider, has_mark, lines_ahead, read_stretch};
-use hunk_core::{BadKind, FormFault, Hunk, HunkLine, Hunks, Place, Side, backslash_end, bad};
-use line_list::{Span, next_line};
+use hunk_core::{
+    BadKind, FormFault, Hunk, HunkForm, HunkLine, Hunks, Place, Side, backslash_end, bad,
+    read_whole,
+};
+use line_list::next_line;
 use std::alloc::Global;
 
 /// Whether a line with a mark stands at `at`.
@@ -108,58 +111,32 @@ fn take_hunk(
     Ok((hunk, next))
 }
 
-/// The same, with what its piece of the text is.
-fn read_hunk(
-    alloc: Global,
-    text: &[u8],
-    least: u64,
-    place: Place,
-) -> Result<(Hunk, Place), FormFault>
-    requires { IsPlace text.now place }
-    ensures place { IfOk result (λ x. IsPlace text.now x.1 × (place.at < x.1.at)) }
-    ensures whole { IfOk result (λ x. lines (drop place.at text.now) ≡ lines (slice_range text.now place.at x.1.at) ++ lines (drop x.1.at text.now)) }
-    ensures piece { IfOk result (λ x. SpellsHunk least (lines (slice_range text.now place.at x.1.at)) (hunk_of text.now x.0)) }
-    ensures few { IfOk result (λ x. place.at + vec_len x.0.body ≤ x.1.at) }
-    ensures lawful { IfOk result (λ x. IsLawful text.now x.0) }
-    ensures unbroken { IfOk result (λ x. first_broken (hunk_of text.now x.0) ≡ None) }
-    ensures exact { Gives (λ x. (hunk_of text.now x.0, ahead_of text.now x.1)) result (hunk_at least (ahead_of text.now place)) }
-{
-    take_hunk(alloc, text, least, place)
-}
+/// The normal form, whose reading keeps nothing from hunk to hunk.
+#[derive(Drop)]
+struct Normal {}
 
-/// The hunks that follow each other, by reading on.
-fn read_all(alloc: Global, text: &[u8], at: usize, line: u64) -> Result<Hunks, FormFault>
-    requires short { length text.now < 2 ^ 32 }
-    requires within { at ≤ length text.now }
-    requires small { line < 2 ^ 32 }
-    ensures within { IfOk result (λ h. h.end ≤ length text.now) }
-    ensures turn { IfOk result (λ h. AreInTurn at h.spans.items h.end) }
-    ensures whole { IfOk result (λ h. AreWhole text.now h.spans.items) }
-    ensures pieces { IfOk result (λ h. SpellInTurn SpellsHunk text.now 0 h.spans.items (hunks_of text.now h.items.items)) }
-    ensures sound { IfOk result (λ h. AreSound text.now h) }
-    ensures exact { Gives (read_of text.now) result
-        (reading line (lines (drop at text.now))) }
-{
-    let mut items = Vec::new(alloc);
-    let mut spans = Vec::new(alloc);
-    let mut place = Place { at, number: line };
-    let mut least: u64 = 0;
-    'hunks: while at_opening(text, place.at) {
-        let (hunk, next) = read_hunk(alloc, text, least, place)?;
-        spans.push(Span {
-            start: place.at as u32,
-            end: next.at as u32,
-        })?;
-        least = u64::from(hunk.old_start);
-        items.push(hunk)?;
-        place = next;
+impl HunkForm for Normal {
+    ghost begins = { begins_hunk };
+
+    ghost hunk_at = { hunk_at };
+
+    ghost Spells = { SpellsHunk };
+
+    ghost IsReady = { λ text n. Unit {0} };
+
+    fn opens(&mut self, text: &[u8], at: usize) -> bool {
+        at_opening(text, at)
     }
-    Ok(Hunks {
-        items,
-        spans,
-        end: place.at,
-        next: place.number,
-    })
+
+    fn read_hunk(
+        &mut self,
+        alloc: Global,
+        text: &[u8],
+        least: u64,
+        place: Place,
+    ) -> Result<(Hunk, Place), FormFault> {
+        take_hunk(alloc, text, least, place)
+    }
 }
 
 /// The hunks that follow each other from `at` on, where the line has this number.
@@ -184,7 +161,7 @@ pub fn read_hunks(alloc: Global, text: &[u8], at: usize, line: u64) -> Result<Hu
     ensures exact { Gives (read_of text.now) result
         (reading line (lines (drop at text.now))) }
 {
-    read_all(alloc, text, at, line)
+    read_whole(Normal {}, alloc, text, at, line)
 }
 
 /// What makes a fault the first one. Whether a line is a command of a hunk is told by the line behind

@@ -3,9 +3,9 @@ pub mod EndsLemmas
 pub mod HeaderLemmas
 pub mod TextLoops
 pub mod OutlineLemmas
-pub mod OutlineLoops
+pub mod Taking
 pub mod DigestLemmas
-pub mod DigestLoops
+pub mod Kept
 pub mod TextLaws
 pub mod RegionLaws
 pub mod Passed

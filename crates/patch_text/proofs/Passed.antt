@@ -1,6 +1,6 @@
 -- What the readers of file patches say of a fault that is passed on, of numbers that fit, and of what comes next.
 use Rattle.std.proofs.Common.{◌≡◌, ℕ, ◌+◌, ◌-◌, ◌<◌, ◌≤◌, ◌^◌, true, false, List, [], ◌∷◌, ◌++◌, length, drop, Option, None, Some, Result, Ok, Err, inl, refl, sym, ap, subst, ◌∙◌, arith, length-append}
-use Rattle.std.specs.Prelude.{All, option_map}
+use Rattle.std.specs.Prelude.{All}
 use Rattle.std.specs.Result.{IfOk, IsErrAnd}
 use Rattle.std.proofs.lemmas.Bool.{false≢true}
 use Rattle.line_list.specs.Lines.{lines}
@@ -38,14 +38,6 @@ nothing-said P Q (Err e) is = tt
 pub fault-given : {X Y : Type 0} (view : X → Y) (e : FormFault) (r : Result X FormFault) (read : Result Y Fault) → IsErrAnd r (λ d. d ≡ e) → Fails e read → Gives view r read
 fault-given view e (Ok x) read is h = absurd is
 fault-given view e (Err d) read is h = subst (λ f. Fails f read) (sym is) h
-
-pub fault-same : {T : Type 0} (r : Result T FormFault) (e f : FormFault) → IsErrAnd r (λ d. d ≡ e) → r ≡ Err f → e ≡ f
-fault-same (Ok x) e f is h = absurd is
-fault-same (Err d) e f is h = cc
-
-pub memory-isnt : {T : Type 0} (r : Result T FormFault) (line : ℕ) (kind : BadKind) → IsErrAnd r (λ d. d ≡ errors.Memory) → r ≡ Err (errors.Malformed line kind) → ⊥
-memory-isnt (Ok x) line kind is h = is
-memory-isnt (Err d) line kind is h = cc
 
 pub value-isnt : {T : Type 0} (r : Result T FormFault) (x : T) (f : FormFault) → r ≡ Ok x → r ≡ Err f → ⊥
 value-isnt r x f a b = cc
@@ -173,21 +165,3 @@ patch-comes ways text at number h v step read = ap (patch_by text) (sym step) �
 pub patch-fails : (e : FormFault) (ways : Ways) (text : List ℕ) (at number : ℕ) (h : Header) → Found h ≡ next_step ways text at number → Fails e (patch_at text h) → Fails e (next_patch ways text at number)
 patch-fails errors.Memory ways text at number h step read = tt
 patch-fails (errors.Malformed line kind) ways text at number h step read = ap (patch_by text) (sym step) ∙ ap (λ r. r >>= some_value) read
-
--- the same of a reading that keeps less
-abbrev pub kept : {T : Type 0} → (PlainPatch × Ahead → T) → PlainPatch × Ahead → Result T Fault
-kept keep x = Ok (keep x)
-
-abbrev pub kept_next : {T : Type 0} → (PlainPatch × Ahead → T) → Option (PlainPatch × Ahead) → Result (Option T) Fault
-kept_next keep o = Ok (option_map keep o)
-
-kept-is : {T : Type 0} (keep : PlainPatch × Ahead → T) (r : Result (PlainPatch × Ahead) Fault) → ((r >>= some_value) >>= kept_next keep) ≡ ((r >>= kept keep) >>= some_value)
-kept-is keep (Ok x) = refl
-kept-is keep (Err e) = refl
-
-pub kept-comes : {T : Type 0} (keep : PlainPatch × Ahead → T) (ways : Ways) (text : List ℕ) (at number : ℕ) (h : Header) (v : T) → Found h ≡ next_step ways text at number → (patch_at text h >>= kept keep) ≡ Ok v → (next_patch ways text at number >>= kept_next keep) ≡ Ok (Some v)
-kept-comes keep ways text at number h v step read = ap (λ s. patch_by text s >>= kept_next keep) (sym step) ∙ kept-is keep (patch_at text h) ∙ ap (λ r. r >>= some_value) read
-
-pub kept-fails : {T : Type 0} (e : FormFault) (keep : PlainPatch × Ahead → T) (ways : Ways) (text : List ℕ) (at number : ℕ) (h : Header) → Found h ≡ next_step ways text at number → Fails e (patch_at text h >>= kept keep) → Fails e (next_patch ways text at number >>= kept_next keep)
-kept-fails errors.Memory keep ways text at number h step read = tt
-kept-fails (errors.Malformed line kind) keep ways text at number h step read = ap (λ s. patch_by text s >>= kept_next keep) (sym step) ∙ kept-is keep (patch_at text h) ∙ ap (λ r. r >>= some_value) read

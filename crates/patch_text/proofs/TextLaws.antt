@@ -1,11 +1,9 @@
 -- What a text has by the grammars is what is read.
-use Rattle.std.proofs.Common.{◌≡◌, ℕ, ◌+◌, ◌<◌, Bool, true, false, cond, List, [], ◌∷◌, ◌++◌, length, drop, None, Some, Result, Ok, Err, refl, sym, ap, subst, ◌∙◌, append_assoc, arith, map, ◌<◌}
+use Rattle.std.proofs.Common.{◌≡◌, ℕ, ◌+◌, ◌<◌, Bool, true, false, cond, List, [], ◌∷◌, ◌++◌, length, drop, None, Some, Ok, refl, sym, ap, subst, ◌∙◌, append_assoc, arith, map, ◌<◌}
 use Rattle.std.proofs.lemmas.List.{append-nil}
-use Rattle.std.specs.Result.{IfOk}
 use Rattle.line_list.specs.Lines.{lines}
 use Rattle.line_list.proofs.LineLemmas.{lines-end}
 use Rattle.hunk_core.specs.declared.Form.{Form}
-use Rattle.hunk_core.specs.declared.fault.FormFault.{FormFault}
 use Rattle.hunk_core.specs.declared.Form.TheVariants.{Unified, Context, Normal, Ed}
 use Rattle.hunk_core.specs.Reading.{◌>>=◌, ahead}
 use Rattle.unified_form.proofs.Pieces as unified
@@ -85,12 +83,3 @@ turn-stands ways text start number before (p ∷ ps) end next h =
 
 pub patches-are : (ways : Ways) (text : List ℕ) (ps : List FilePatch) → ArePatches ways text ps → HasPatches ways text (map (patch_of text) ps)
 patches-are ways text ps h = record { end = h.end; next = h.next; stand = turn-stands ways text 0 1 0 ps h.end h.next h.turn; ends = h.ends }
-
--- what follows of a value
-pub if-so : {T E : Type 0} (r : Result T E) (P Q : T → Type 0) → ((x : T) → P x → Q x) → IfOk r P → IfOk r Q
-if-so (Ok x) P Q f h = f x h
-if-so (Err e) P Q f h = tt
-
--- which fault a refusal hands on
-pub err-of : {T : Type 0} (r : Result T FormFault) (x y z : FormFault) → r ≡ Err x → x ≡ y → r ≡ Err z → y ≡ z
-err-of r x y z a b c = cc

@@ -1,5 +1,5 @@
 -- File patches of which of each hunk only the piece and the old lines are kept: what a filter needs.
-use Rattle.std.specs.Prelude.{◌≡◌, ℕ, ◌+◌, ◌<◌, ◌≤◌, ◌^◌, false, List, [], ◌∷◌, All, length, drop, map, Option, option_map, Result, Ok}
+use Rattle.std.specs.Prelude.{◌≡◌, ℕ, ◌+◌, ◌<◌, ◌≤◌, ◌^◌, false, List, [], ◌∷◌, All, length, drop, map, Result, Ok}
 use Rattle.line_list.specs.Lines.{lines}
 use Rattle.hunk_core.specs.Reading.{Fault, ◌>>=◌, Ahead, ahead}
 use Rattle.unified_form.specs.declared.skim.OldRange.{OldRange}
@@ -13,7 +13,7 @@ use Rattle.file_patch.specs.declared.FilePatch.{FilePatch}
 use Rattle.file_patch.specs.PlainPatch.{PlainChange, PlainPatch, hunks, script, change_of, patch_of, IsLawfulChange}
 use Rattle.file_patch.specs.Absent.{IsLawfulPatch}
 use Rattle.patch_text.specs.Changes.{AreCut}
-use Rattle.patch_text.specs.Patches.{change_behind, patch_at, next_patch, patches_of}
+use Rattle.patch_text.specs.Patches.{change_behind, patch_at, patches_of}
 use Rattle.patch_text.specs.Regions.{hunk_ends}
 use Rattle.patch_text.specs.declared.digest.Digested.{Digested}
 use Rattle.patch_text.specs.declared.digest.Digests.{Digests}
@@ -46,23 +46,16 @@ digested_step x = (digest x.0, ranges_in x.0, x.1)
 abbrev pub digested_patch : PlainPatch × Ahead → Result (PlainPatch × List OldRange × Ahead) Fault
 digested_patch x = Ok (digested_step x)
 
--- one that comes next, if there is one
-abbrev pub digested_next : Option (PlainPatch × Ahead) → Result (Option (PlainPatch × List OldRange × Ahead)) Fault
-digested_next o = Ok (option_map digested_step o)
-
 -- those of a text
 abbrev pub digested_all : List PlainPatch → Result (List PlainPatch × List (List OldRange)) Fault
 digested_all ps = Ok (map digest ps, map ranges_in ps)
 
--- what is read in place of a change, of a file patch, of the next one and of all
+-- what is read in place of a change, of a file patch and of all
 abbrev pub behind_digested : List ℕ → Header → Result (PlainChange × List OldRange × Ahead) Fault
 behind_digested text h = change_behind text h >>= digested_change
 
 abbrev pub patch_digested : List ℕ → Header → Result (PlainPatch × List OldRange × Ahead) Fault
 patch_digested text h = patch_at text h >>= digested_patch
-
-abbrev pub next_digested : Ways → List ℕ → ℕ → ℕ → Result (Option (PlainPatch × List OldRange × Ahead)) Fault
-next_digested ways text at number = next_patch ways text at number >>= digested_next
 
 abbrev pub digests_of : Ways → List ℕ → Result (List PlainPatch × List (List OldRange)) Fault
 digests_of ways text = patches_of ways text >>= digested_all

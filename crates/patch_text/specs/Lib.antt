@@ -7,3 +7,4 @@ pub mod Regions
 pub mod Spelled
 pub mod Spans
 pub mod Reading
+pub mod Walked

@@ -1,5 +1,5 @@
 -- File patches without their hunks: what a list of them needs.
-use Rattle.std.specs.Prelude.{◌≡◌, ℕ, ◌+◌, ◌<◌, ◌≤◌, false, List, [], ◌∷◌, length, drop, map, Option, option_map, Result, Ok}
+use Rattle.std.specs.Prelude.{◌≡◌, ℕ, ◌+◌, ◌<◌, ◌≤◌, false, List, [], ◌∷◌, length, drop, map, Result, Ok}
 use Rattle.line_list.specs.Lines.{lines}
 use Rattle.hunk_core.specs.declared.Form.{Form}
 use Rattle.hunk_core.specs.Reading.{Fault, ◌>>=◌, Ahead, ahead}
@@ -7,7 +7,7 @@ use Rattle.patch_header.specs.Content.{has_dot}
 use Rattle.header_record.specs.declared.Header.{Header}
 use Rattle.patch_header.specs.declared.ways.Ways.{Ways}
 use Rattle.file_patch.specs.PlainPatch.{PlainChange, PlainPatch, hunks, script, change_of, IsLawfulChange}
-use Rattle.patch_text.specs.Patches.{change_at, change_behind, patch_at, next_patch, patches_of}
+use Rattle.patch_text.specs.Patches.{change_at, change_behind, patch_at, patches_of}
 use Rattle.patch_text.specs.declared.outline.Outlined.{Outlined}
 
 -- the change with its only hunk, or with none of several; a script stays
@@ -29,18 +29,15 @@ outlined_change x = Ok (only_hunk x.0, x.1)
 abbrev pub outlined_patch : PlainPatch × Ahead → Result (PlainPatch × Ahead) Fault
 outlined_patch x = Ok (outline x.0, x.1)
 
--- one that comes next, if there is one
+-- the file patch so, with what is ahead behind it
 abbrev pub outlined_step : PlainPatch × Ahead → PlainPatch × Ahead
 outlined_step x = (outline x.0, x.1)
-
-abbrev pub outlined_next : Option (PlainPatch × Ahead) → Result (Option (PlainPatch × Ahead)) Fault
-outlined_next o = Ok (option_map outlined_step o)
 
 -- those of a text
 abbrev pub outlined_all : List PlainPatch → Result (List PlainPatch) Fault
 outlined_all ps = Ok (map outline ps)
 
--- what is read in place of a change, of a file patch, of the next one and of all
+-- what is read in place of a change, of a file patch and of all
 abbrev pub change_outlined : Form → ℕ → List (List ℕ) → Result (PlainChange × Ahead) Fault
 change_outlined form number rest = change_at form number rest >>= outlined_change
 
@@ -49,9 +46,6 @@ behind_outlined text h = change_behind text h >>= outlined_change
 
 abbrev pub patch_outlined : List ℕ → Header → Result (PlainPatch × Ahead) Fault
 patch_outlined text h = patch_at text h >>= outlined_patch
-
-abbrev pub next_outlined : Ways → List ℕ → ℕ → ℕ → Result (Option (PlainPatch × Ahead)) Fault
-next_outlined ways text at number = next_patch ways text at number >>= outlined_next
 
 abbrev pub outlines_of : Ways → List ℕ → Result (List PlainPatch) Fault
 outlines_of ways text = patches_of ways text >>= outlined_all

@@ -1,7 +1,7 @@
 //! File patches of which of each hunk only the piece and the old lines are kept, for who leaves out file patches and hunks: the bodies are
 //! read, and a fault in any is answered.
 
-ghost use Rattle.std.specs.Prelude.{◌≡◌, ◌+◌, ◌<◌, ◌≤◌, ◌^◌, ℕ, List, [], true, false, None, All, length, drop, map, IfOk, IfSome, option_map};
+ghost use Rattle.std.specs.Prelude.{◌≡◌, ◌+◌, ◌<◌, ◌≤◌, ◌^◌, ℕ, List, [], true, false, All, length, drop, map, IfOk};
 ghost use Rattle.line_list.specs.Lines.{lines};
 ghost use Rattle.hunk_core.specs.declared.Form.{Form};
 ghost use Rattle.hunk_core.specs.PlainHunk.{hunk_of, hunks_of};
@@ -10,19 +10,21 @@ ghost use Rattle.unified_form.specs.Skimmed.{old_range};
 ghost use Rattle.patch_header.specs.Content.{has_dot};
 ghost use Rattle.file_patch.specs.PlainPatch.{patch_of, change_of, IsLawfulChange};
 ghost use Rattle.patch_text.specs.Patches.{begins_change};
-ghost use Rattle.patch_text.specs.Regions.{next_region, region_of, region_up_to, regions_of};
+ghost use Rattle.patch_text.specs.Regions.{region_of, region_up_to, regions_of};
 ghost use Rattle.patch_text.specs.Reading.{IsProgress, IsHeaderFrom, ahead_of};
-ghost use Rattle.patch_text.specs.Digests.{AreDigests, AreShort, IsDigest, IsDigested, behind_digested, digested_of, digests_of, next_digested, no_hunks, old_ranges, patch_digested, plain_digests};
+ghost use Rattle.patch_text.specs.Digests.{AreDigests, AreShort, IsDigest, IsDigested, behind_digested, digested_of, digests_of, no_hunks, old_ranges, patch_digested, plain_digests};
+ghost use Rattle.patch_text.specs.Walked.{HasDigests};
 
 use crate::absent::is_absent;
 use crate::change::read_behind;
 use crate::outline::is_unified;
 use crate::patches::Progress;
+use crate::walking::{PatchWalk, walk};
 use file_patch::{Change, FilePatch};
 use header_record::Header;
-use hunk_core::{BadKind, FormFault, Hunk, Side, bad};
+use hunk_core::{FormFault, Hunk, Side};
 use line_list::Span;
-use patch_header::{HeaderStep, Ways, header_from};
+use patch_header::Ways;
 use std::alloc::{AllocError, Global};
 use unified_form::{OldRange, read_rows};
 
@@ -186,33 +188,20 @@ fn digest_patch(
     Ok((patch, read.olds, behind))
 }
 
-/// The file patch that comes next, if there is one.
-fn next_digest(
-    alloc: Global,
-    text: &[u8],
-    ways: Ways,
-    here: Progress,
-) -> Result<Option<(FilePatch, Vec<OldRange>, Progress)>, FormFault>
-    requires short { length text.now < 2 ^ 32 }
-    requires progress { IsProgress text.now here }
-    ensures is { IfOk result (λ o. IfSome o (λ x. IsDigest text.now x.0 x.1.items)) }
-    ensures region { IfOk result (λ o. next_region ways text.now here.at here.number ≡ option_map (λ x. (region_of x.0, ahead_of text.now x.2)) o) }
-    ensures progress { IfOk result (λ o. IfSome o (λ x. IsProgress text.now x.2)) }
-    ensures behind { IfOk result (λ o. IfSome o (λ x. here.at < x.2.at)) }
-    ensures exact { Gives (option_map (λ x. (patch_of text.now x.0, x.1.items, ahead_of text.now x.2))) result (next_digested ways text.now here.at here.number) }
-{
-    if here.at == text.len() {
-        return Ok(None);
-    }
-    let (step, dotless) = header_from(text, here.at, here.number, ways, here.dotless);
-    match step {
-        HeaderStep::Found(header) => {
-            let here = Progress { dotless, ..here };
-            let found = digest_patch(alloc, text, header, here)?;
-            Ok(Some(found))
-        }
-        HeaderStep::Binary { line } => Err(bad(line, BadKind::Binary)),
-        HeaderStep::End => Ok(None),
+impl PatchWalk for Digests {
+    ghost Has = { λ ways text front at number hunks d. HasDigests ways text front at number d.patches.items (map (λ os. os.items) d.olds.items) };
+
+    fn take(
+        &mut self,
+        alloc: Global,
+        text: &[u8],
+        header: Header,
+        here: Progress,
+    ) -> Result<Progress, FormFault> {
+        let (patch, olds, behind) = digest_patch(alloc, text, header, here)?;
+        self.patches.push(patch)?;
+        self.olds.push(olds)?;
+        Ok(behind)
     }
 }
 
@@ -229,18 +218,10 @@ pub fn read_digests(alloc: Global, text: &[u8], ways: Ways) -> Result<Digests, F
     ensures are { IfOk result (λ d. AreDigests text.now d.patches.items (map (λ os. os.items) d.olds.items)) }
     ensures count { IfOk result (λ d. length d.patches.items < 2 ^ 32) }
 {
-    let mut patches = Vec::new(alloc);
-    let mut olds = Vec::new(alloc);
-    let mut here = Progress {
-        at: 0,
-        number: 1,
-        dotless: false,
-        hunks: 0,
+    let mut digests = Digests {
+        patches: Vec::new(alloc),
+        olds: Vec::new(alloc),
     };
-    'patches: while let Some((patch, own, behind)) = next_digest(alloc, text, ways, here)? {
-        patches.push(patch)?;
-        olds.push(own)?;
-        here = behind;
-    }
-    Ok(Digests { patches, olds })
+    walk(&mut digests, alloc, text, ways)?;
+    Ok(digests)
 }

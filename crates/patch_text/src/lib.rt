@@ -6,6 +6,7 @@ mod change;
 mod digest;
 mod outline;
 mod patches;
+mod walking;
 
 pub use digest::{Digests, read_digests};
 pub use outline::read_outlines;

@@ -1,7 +1,7 @@
 //! File patches without their hunks, for who wants no more of them than a list: the hunks are read, and a fault in any is answered, but none
 //! of several is kept.
 
-ghost use Rattle.std.specs.Prelude.{◌≡◌, ◌+◌, ◌<◌, ◌≤◌, ◌^◌, ℕ, List, [], ◌∷◌, true, false, None, length, drop, map, IfOk, IfErr, IfSome, All, option_map};
+ghost use Rattle.std.specs.Prelude.{◌≡◌, ◌+◌, ◌<◌, ◌≤◌, ◌^◌, ℕ, List, [], ◌∷◌, true, false, length, drop, map, IfOk, All};
 ghost use Rattle.line_list.specs.Lines.{lines};
 ghost use Rattle.hunk_core.specs.declared.Form.{Form};
 ghost use Rattle.hunk_core.specs.PlainHunk.{PlainHunk, hunk_of};
@@ -13,16 +13,18 @@ ghost use Rattle.file_patch.specs.PlainPatch.{patch_of, change_of, hunks, IsLawf
 ghost use Rattle.file_patch.specs.Absent.{IsLawfulPatch};
 ghost use Rattle.patch_text.specs.Patches.{begins_change};
 ghost use Rattle.patch_text.specs.Reading.{IsProgress, IsHeaderFrom, ahead_of};
-ghost use Rattle.patch_text.specs.Outlines.{IsOutlined, behind_outlined, change_outlined, next_outlined, only_hunk, outlined_of, outlines_of, patch_outlined};
+ghost use Rattle.patch_text.specs.Outlines.{IsOutlined, behind_outlined, change_outlined, only_hunk, outlined_of, outlines_of, patch_outlined};
+ghost use Rattle.patch_text.specs.Walked.{HasOutlines};
 
 use crate::absent::is_absent;
 use crate::change::read_behind;
 use crate::patches::Progress;
+use crate::walking::{PatchWalk, walk};
 use file_patch::{Change, FilePatch};
 use header_record::Header;
-use hunk_core::{BadKind, Form, FormFault, Side, bad};
+use hunk_core::{Form, FormFault, Side};
 use line_list::Span;
-use patch_header::{HeaderStep, Ways, header_from};
+use patch_header::Ways;
 use std::alloc::{AllocError, Global};
 use unified_form::{Skim, skim_hunks};
 
@@ -167,32 +169,25 @@ fn outline_patch(
     Ok((patch, behind))
 }
 
-/// The file patch that comes next, if there is one.
-fn next_outline(
-    alloc: Global,
-    text: &[u8],
-    ways: Ways,
-    here: Progress,
-) -> Result<Option<(FilePatch, Progress)>, FormFault>
-    requires short { length text.now < 2 ^ 32 }
-    requires progress { IsProgress text.now here }
-    ensures lawful { IfOk result (λ o. IfSome o (λ x. IsLawfulPatch text.now x.0)) }
-    ensures progress { IfOk result (λ o. IfSome o (λ x. IsProgress text.now x.1)) }
-    ensures behind { IfOk result (λ o. IfSome o (λ x. here.at < x.1.at)) }
-    ensures exact { Gives (option_map (λ x. (patch_of text.now x.0, ahead_of text.now x.1))) result (next_outlined ways text.now here.at here.number) }
-{
-    if here.at == text.len() {
-        return Ok(None);
-    }
-    let (step, dotless) = header_from(text, here.at, here.number, ways, here.dotless);
-    match step {
-        HeaderStep::Found(header) => {
-            let here = Progress { dotless, ..here };
-            let found = outline_patch(alloc, text, header, here)?;
-            Ok(Some(found))
-        }
-        HeaderStep::Binary { line } => Err(bad(line, BadKind::Binary)),
-        HeaderStep::End => Ok(None),
+/// The file patches that were read.
+#[derive(Drop)]
+struct Outlines {
+    patches: Vec<FilePatch>,
+}
+
+impl PatchWalk for Outlines {
+    ghost Has = { λ ways text front at number hunks o. HasOutlines text front at o.patches.items };
+
+    fn take(
+        &mut self,
+        alloc: Global,
+        text: &[u8],
+        header: Header,
+        here: Progress,
+    ) -> Result<Progress, FormFault> {
+        let (patch, behind) = outline_patch(alloc, text, header, here)?;
+        self.patches.push(patch)?;
+        Ok(behind)
     }
 }
 
@@ -207,16 +202,9 @@ pub fn read_outlines(alloc: Global, text: &[u8], ways: Ways) -> Result<Vec<FileP
     ensures lawful { IfOk result (λ ps. All (IsLawfulPatch text.now) ps.items) }
     ensures count { IfOk result (λ ps. length ps.items < 2 ^ 32) }
 {
-    let mut patches = Vec::new(alloc);
-    let mut here = Progress {
-        at: 0,
-        number: 1,
-        dotless: false,
-        hunks: 0,
+    let mut outlines = Outlines {
+        patches: Vec::new(alloc),
     };
-    'patches: while let Some((patch, behind)) = next_outline(alloc, text, ways, here)? {
-        patches.push(patch)?;
-        here = behind;
-    }
-    Ok(patches)
+    walk(&mut outlines, alloc, text, ways)?;
+    Ok(outlines.patches)
 }

@@ -1,27 +1,28 @@
 //! File patches that follow each other.
 
-ghost use Rattle.std.specs.Prelude.{◌≡◌, ◌<◌, ◌≤◌, ◌^◌, ◌+◌, ℕ, List, None, Ok, Err, true, false, length, drop, map, sum_by, IfOk, IfSome, All, option_map};
+ghost use Rattle.std.specs.Prelude.{◌≡◌, ◌<◌, ◌≤◌, ◌^◌, ◌+◌, ℕ, List, Ok, Err, true, false, length, drop, map, sum_by, IfOk, All};
 ghost use Rattle.line_list.specs.Lines.{lines};
 ghost use Rattle.hunk_core.specs.declared.BadKind.{BadKind};
 ghost use Rattle.hunk_core.specs.declared.fault.FormFault.{FormFault};
-ghost use Rattle.hunk_core.specs.Reading.{Gives, fault};
+ghost use Rattle.hunk_core.specs.Reading.{Gives};
 ghost use Rattle.patch_header.specs.Content.{has_dot};
-ghost use Rattle.patch_header.specs.Steps.{IsFirstOpening, IsEnd};
 ghost use Rattle.file_patch.specs.PlainPatch.{PlainPatch, patch_of, row_count};
 ghost use Rattle.file_patch.specs.Absent.{IsLawfulPatch};
-ghost use Rattle.patch_text.specs.Patches.{change_behind, patch_at, next_patch, patches_of};
+ghost use Rattle.patch_text.specs.Patches.{patch_at, patches_of};
 ghost use Rattle.patch_text.specs.Regions.{region_of, regions_of};
 ghost use Rattle.patch_text.specs.Reading.{IsProgress, IsHeaderFrom, ahead_of};
 ghost use Rattle.patch_text.specs.Spans.{IsPatch, ArePatches};
-ghost use Rattle.patch_text.specs.Texts.{ComesFault, IsFaulty, HasPatches};
+ghost use Rattle.patch_text.specs.Texts.{IsFaulty, HasPatches};
+ghost use Rattle.patch_text.specs.Walked.{HasWhole};
 
 use crate::absent::is_absent;
 use crate::change::read_behind;
+use crate::walking::{PatchWalk, walk};
 use file_patch::FilePatch;
 use header_record::Header;
-use hunk_core::{BadKind, FormFault, Side, bad};
+use hunk_core::{FormFault, Side};
 use line_list::Span;
-use patch_header::{HeaderStep, Ways, header_from};
+use patch_header::Ways;
 use std::alloc::Global;
 
 /// How far a text is read.
@@ -53,7 +54,6 @@ fn read_patch(
     ensures progress { IfOk result (λ x. IsProgress text.now x.1) }
     ensures behind { IfOk result (λ x. (here.at < x.1.at) × (x.1.at ≡ x.0.span.end) × (x.1.hunks ≡ here.hunks + row_count x.0.change)) }
     ensures exact { Gives (λ x. (patch_of text.now x.0, ahead_of text.now x.1)) result (patch_at text.now header) }
-    ensures malformed { (number : ℕ) (kind : BadKind) → result ≡ Err (FormFault.Malformed number kind) → change_behind text.now header ≡ Err (fault number kind) }
 {
     let read = read_behind(alloc, text, header)?;
     let patch = FilePatch {
@@ -78,60 +78,26 @@ fn read_patch(
     Ok((patch, behind))
 }
 
-/// The file patch that comes next, if there is one.
-fn next_patch(
-    alloc: Global,
-    text: &[u8],
-    ways: Ways,
-    here: Progress,
-) -> Result<Option<(FilePatch, Progress)>, FormFault>
-    requires short { length text.now < 2 ^ 32 }
-    requires progress { IsProgress text.now here }
-    ensures is { IfOk result (λ o. IfSome o (λ x. IsPatch text.now here.at here.hunks x.0 x.1.number)) }
-    ensures opens { IfOk result (λ o. IfSome o (λ x. IsFirstOpening ways text.now here.at here.number x.0.header)) }
-    ensures malformed { (number : ℕ) (kind : BadKind) → result ≡ Err (FormFault.Malformed number kind) → ComesFault ways text.now here.at here.number number kind }
-    ensures ends { IfOk result (λ o. o ≡ None → IsEnd ways text.now here.at) }
-    ensures progress { IfOk result (λ o. IfSome o (λ x. IsProgress text.now x.1)) }
-    ensures behind { IfOk result (λ o. IfSome o (λ x. (here.at < x.1.at) × (x.1.at ≡ x.0.span.end) × (x.1.hunks ≡ here.hunks + row_count x.0.change))) }
-    ensures exact { Gives (option_map (λ x. (patch_of text.now x.0, ahead_of text.now x.1))) result (next_patch ways text.now here.at here.number) }
-{
-    if here.at == text.len() {
-        return Ok(None);
-    }
-    let (step, dotless) = header_from(text, here.at, here.number, ways, here.dotless);
-    match step {
-        HeaderStep::Found(header) => {
-            let here = Progress { dotless, ..here };
-            let found = read_patch(alloc, text, header, here)?;
-            Ok(Some(found))
-        }
-        HeaderStep::Binary { line } => Err(bad(line, BadKind::Binary)),
-        HeaderStep::End => Ok(None),
-    }
+/// The file patches that were read.
+#[derive(Drop)]
+struct Whole {
+    patches: Vec<FilePatch>,
 }
 
-/// All file patches, by reading on.
-fn read_all(alloc: Global, text: &[u8], ways: Ways) -> Result<Vec<FilePatch>, FormFault>
-    requires { length text.now < 2 ^ 32 }
-    ensures are { IfOk result (λ ps. ArePatches ways text.now ps.items) }
-    ensures lawful { IfOk result (λ ps. All (IsLawfulPatch text.now) ps.items) }
-    ensures count { IfOk result (λ ps. length ps.items < 2 ^ 32) }
-    ensures hunks { IfOk result (λ ps. sum_by (λ p. row_count p.change) ps.items < 2 ^ 32) }
-    ensures malformed { (line : ℕ) (kind : BadKind) → result ≡ Err (FormFault.Malformed line kind) → IsFaulty ways text.now line kind }
-    ensures exact { Gives (λ ps. map (patch_of text.now) ps.items) result (patches_of ways text.now) }
-{
-    let mut patches = Vec::new(alloc);
-    let mut here = Progress {
-        at: 0,
-        number: 1,
-        dotless: false,
-        hunks: 0,
-    };
-    'patches: while let Some((patch, behind)) = next_patch(alloc, text, ways, here)? {
-        patches.push(patch)?;
-        here = behind;
+impl PatchWalk for Whole {
+    ghost Has = { λ ways text front at number hunks w. HasWhole ways text front at number hunks w.patches.items };
+
+    fn take(
+        &mut self,
+        alloc: Global,
+        text: &[u8],
+        header: Header,
+        here: Progress,
+    ) -> Result<Progress, FormFault> {
+        let (patch, behind) = read_patch(alloc, text, header, here)?;
+        self.patches.push(patch)?;
+        Ok(behind)
     }
-    Ok(patches)
 }
 
 /// The file patches of a text that is read in these ways, or the first fault. The text is meant to be
@@ -158,5 +124,9 @@ pub fn read_patches(alloc: Global, text: &[u8], ways: Ways) -> Result<Vec<FilePa
     ensures count { IfOk result (λ ps. length ps.items < 2 ^ 32) }
     ensures hunks { IfOk result (λ ps. sum_by (λ p. row_count p.change) ps.items < 2 ^ 32) }
 {
-    read_all(alloc, text, ways)
+    let mut whole = Whole {
+        patches: Vec::new(alloc),
+    };
+    walk(&mut whole, alloc, text, ways)?;
+    Ok(whole.patches)
 }

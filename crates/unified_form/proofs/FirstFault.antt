@@ -1,5 +1,5 @@
 -- A fault stays whatever lines come after its own.
-use Rattle.std.proofs.Common.{◌≡◌, ◌≢◌, inl, inr, ℕ, zero, suc, ◌+◌, ◌-◌, ◌≤◌, ◌<◌, Bool, true, false, cond, List, [], ◌∷◌, ◌++◌, length, Option, None, Some, Result, Ok, Err, refl, sym, ap, subst, ◌∙◌, arith}
+use Rattle.std.proofs.Common.{◌≡◌, ◌≢◌, inl, inr, ℕ, ◌+◌, ◌≤◌, ◌<◌, Bool, true, false, cond, List, [], ◌∷◌, ◌++◌, length, Option, None, Some, Result, Ok, Err, refl, sym, ap, subst, ◌∙◌, arith}
 use Rattle.std.specs.Prelude.{is_some}
 use Rattle.hunk_core.specs.declared.BadKind.{BadKind}
 use Rattle.hunk_core.specs.declared.BadKind.TheVariants as kinds
@@ -8,22 +8,19 @@ use Rattle.hunk_core.specs.LineTests.{after_backslash}
 use Rattle.hunk_core.specs.Reading.{◌>>=◌, Fault, fault, Ahead, ahead}
 use Rattle.hunk_core.proofs.TextLemmas.{has_some}
 use Rattle.hunk_core.proofs.ReadSteps.{bind_ok, guard_ok}
-use Rattle.line_list.proofs.Choices.{chosen}
 use Rattle.hunk_core.specs.Refusals.{settled}
 use Rattle.hunk_core.specs.FirstFault.{AgreeTo}
-use Rattle.hunk_core.proofs.FaultSteps.{failed, err_is, bind_err, short_or}
-use Rattle.hunk_core.proofs.Agreeing.{agree_head, agree_front}
+use Rattle.hunk_core.proofs.FaultSteps.{err_is, bind_err}
+use Rattle.hunk_core.proofs.Agreeing.{agree_head}
 use Rattle.unified_form.specs.declared.range.Ranges.{Ranges}
 use Rattle.unified_form.specs.Ranges.{range_line, from_ranges, opening}
 use Rattle.unified_form.specs.Bodies.{body_at}
 use Rattle.unified_form.specs.Hunks.{at_line, left_of, change, first_hunk, hunk_at, begins_hunk, hunks_at, reading}
 use Rattle.unified_form.specs.Grammar.{IsPiece}
-use Rattle.unified_form.proofs.Pieces.{reading_again}
-use Rattle.std.proofs.lemmas.Bool.{cases_lt}
-use Rattle.std.proofs.lemmas.List.{length-append}
-use Rattle.unified_form.proofs.HunkLoops.{hunks_step}
-use Rattle.unified_form.proofs.Steps.{hunk-shrinks}
-use Rattle.unified_form.proofs.BodyFaults.{agree_quiet, agree_loud, add_err, body_low, body_up, body_stays, body_goes}
+use Rattle.unified_form.proofs.Pieces.{SpellsIn, grammar, reading_again}
+use Rattle.hunk_core.proofs.Steady.{Goes}
+use Rattle.hunk_core.proofs.Faults.{FillsHunks, IsSteady, hunks_low as low_of, hunks_fill as fill_of, stays, short, unread, late}
+use Rattle.unified_form.proofs.BodyFaults.{agree_quiet, agree_loud, body_low, body_up, body_stays, body_goes}
 
 -- ---- a hunk
 
@@ -131,12 +128,7 @@ hunk_stays least number (line ∷ rest) others e h long agree =
       ]
     ]
 
-pub record HunkGoes (least last number : ℕ) (others : List (List ℕ)) (x : PlainHunk × Ahead) : Type 0 where
-  pub rest : List (List ℕ)
-  pub read : first_hunk least number others ≡ Ok (x.0, ahead x.1.number rest)
-  pub agree : AgreeTo last x.1.number x.1.rest rest
-
-pub hunk_goes : (least last number : ℕ) (lines others : List (List ℕ)) (x : PlainHunk × Ahead) → first_hunk least number lines ≡ Ok x → x.1.number ≤ last → AgreeTo last number lines others → HunkGoes least last number others x
+pub hunk_goes : (least last number : ℕ) (lines others : List (List ℕ)) (x : PlainHunk × Ahead) → first_hunk least number lines ≡ Ok x → x.1.number ≤ last → AgreeTo last number lines others → Goes (hunk_at least) last number others x
 unfolding first_hunk
 hunk_goes least last number [] others x h le agree = absurd cc
 hunk_goes least last number (line ∷ rest) others x h le agree =
@@ -147,7 +139,7 @@ hunk_goes least last number (line ∷ rest) others x h le agree =
     let g = guard_ok _ _ (change a.0 b.0.0, b.0.1) x b.2 in
     let there : b.0.1.number ≤ last = omega (arith, le, ap (λ (y : PlainHunk × Ahead). y.1.number) g.1) in
     let go = body_goes _ (left_of a.0) last (ahead (number + 1) rest) head.0 b.0 b.1 there head.2 in
-    subst (λ (y : PlainHunk × Ahead). HunkGoes least last number others y) g.1 (record {
+    subst (λ (y : PlainHunk × Ahead). Goes (hunk_at least) last number others y) g.1 (record {
       rest = go.rest;
       read = hunk_step least number line head.0 others a.0 (b.0.0, ahead b.0.1.number go.rest) _ head.1 a.1 go.read (settled_goes (change a.0 b.0.0) last b.0.1.number b.0.1.rest go.rest go.agree there g.0);
       agree = go.agree;
@@ -159,76 +151,35 @@ begins_too : (last number : ℕ) (rest others : List (List ℕ)) → AgreeTo las
 begins_too last number [] others agree le e = absurd cc
 begins_too last number (line ∷ rest) others agree le e = let a = agree_head last number line rest others agree le in rw a.1 e
 
-begins_some : (rest : List (List ℕ)) → begins_hunk rest ≡ true → 0 < length rest
-begins_some [] e = absurd cc
-begins_some (line ∷ rest) e = omega arith
-
-abbrev pub more_hunks : ℕ → PlainHunk × Ahead → Result (List PlainHunk × Ahead) Fault
-more_hunks most first = hunks_at most first.0.old_start first.1 >>= λ others. Ok (first.0 ∷ others.0, others.1)
+steady : IsSteady begins_hunk hunk_at SpellsIn (λ n. n)
+steady = record {
+  far = λ n. omega arith;
+  opens = begins_too;
+  one = λ least. record {
+    low = λ p e h. hunk_low least p.number p.rest e h;
+    up = λ p x h. (let up = hunk_up least p.number p.rest x h in (omega (arith, up.0), up.1));
+    stays = λ p others e h long agree. hunk_stays least p.number p.rest others e h long agree;
+    goes = λ last p others x h le agree. hunk_goes least last p.number p.rest others x h le agree;
+  };
+}
 
 pub hunks_low : (most least : ℕ) (p : Ahead) (e : Fault) → hunks_at most least p ≡ Err e → (p.number ≤ e.line) × (e.kind ≡ kinds.ShortEnd → e.line ≡ p.number + length p.rest)
-unfolding hunks_at
-hunks_low zero least p e h = absurd cc
-hunks_low (suc most) least p e h =
-    elim (chosen (begins_hunk p.rest) _ _ (Err e) h) [
-      | inl some ↦ elim (bind_err (hunk_at least p) (more_hunks most) e some.1) [
-        | inl bad ↦ hunk_low least p.number p.rest e bad
-        | inr good ↦ (
-            let up = hunk_up least p.number p.rest good.0 good.1 in
-            let l = hunks_low most good.0.0.old_start good.0.1 e (add_err good.0.0 (hunks_at most good.0.0.old_start good.0.1) e good.2) in
-            (omega (arith, up.0, l.0), λ short. l.1 short ∙ up.1))
-      ]
-      | inr none ↦ absurd (let bad : Ok ([], p) ≡ failed {A = List PlainHunk × Ahead} e = none.1 in cc)
-    ]
+hunks_low = low_of begins_hunk hunk_at SpellsIn (λ n. n) grammar steady
 
-hunks_err : (most least : ℕ) (p : Ahead) (e : Fault) → begins_hunk p.rest ≡ true → hunk_at least p ≡ Err e → hunks_at (suc most) least p ≡ Err e
-hunks_err most least p e begins h = hunks_step most least p begins ∙ (rw h refl)
-
-hunks_on : (most least : ℕ) (p : Ahead) (x : PlainHunk × Ahead) (e : Fault) → begins_hunk p.rest ≡ true → hunk_at least p ≡ Ok x → hunks_at most x.0.old_start x.1 ≡ Err e → hunks_at (suc most) least p ≡ Err e
-hunks_on most least p x e begins h more = hunks_step most least p begins ∙ (rw (h, more) refl)
-
-pub hunks_stay : (most most2 least : ℕ) (p : Ahead) (others : List (List ℕ)) (e : Fault) → hunks_at most least p ≡ Err e → e.kind ≢ kinds.ShortEnd → AgreeTo e.line p.number p.rest others → length others ≤ most2 → hunks_at most2 least (ahead p.number others) ≡ Err e
-unfolding hunks_at
-hunks_stay zero most2 least p others e h long agree enough = absurd cc
-hunks_stay (suc most) most2 least p others e h long agree enough =
-    let low = hunks_low (suc most) least p e h in
-    elim (chosen (begins_hunk p.rest) _ _ (Err e) h) [
-      | inl some ↦ (
-          let begins = begins_too e.line p.number p.rest others agree low.0 some.0 in
-          let k : most2 ≡ suc (most2 - 1) = omega (arith, enough, begins_some others begins) in
-          subst (λ n. hunks_at n least (ahead p.number others) ≡ Err e) (sym k) (elim (bind_err (hunk_at least p) (more_hunks most) e some.1) [
-            | inl bad ↦ hunks_err (most2 - 1) least (ahead p.number others) e begins (hunk_stays least p.number p.rest others e bad long agree)
-            | inr good ↦ (
-                let x = good.0 in
-                let rest : hunks_at most x.0.old_start x.1 ≡ Err e = add_err x.0 (hunks_at most x.0.old_start x.1) e good.2 in
-                let there = hunks_low most x.0.old_start x.1 e rest in
-                let go = hunk_goes least e.line p.number p.rest others x good.1 there.0 agree in
-                let fewer : length go.rest ≤ most2 - 1 = omega (arith, enough, hunk-shrinks least p.number others (x.0, ahead x.1.number go.rest) go.read) in
-                hunks_on (most2 - 1) least (ahead p.number others) (x.0, ahead x.1.number go.rest) e begins go.read (hunks_stay most (most2 - 1) x.0.old_start x.1 go.rest e rest long go.agree fewer))
-          ]))
-      | inr none ↦ absurd (let bad : Ok ([], p) ≡ failed {A = List PlainHunk × Ahead} e = none.1 in cc)
-    ]
+-- the lines in front of a fault, with others, are hunks
+pub hunks_fill : ((least : ℕ) (p : Ahead) (e : Fault) → hunk_at least p ≡ Err e → FillsHunks SpellsIn least p e) → (most least : ℕ) (p : Ahead) (e : Fault) → hunks_at most least p ≡ Err e → FillsHunks SpellsIn least p e
+hunks_fill = fill_of begins_hunk hunk_at SpellsIn (λ n. n) grammar steady (λ least own behind others h s. s)
 
 -- ---- the first fault
 
 pub fault-stays : (number : ℕ) (lines others : List (List ℕ)) (e : Fault) → reading number lines ≡ Err e → e.kind ≢ kinds.ShortEnd → AgreeTo e.line number lines others → reading number others ≡ Err e
-fault-stays number lines others e h long agree = hunks_stay (length lines) (length others) 0 (ahead number lines) others e h long agree (omega arith)
+fault-stays = stays begins_hunk hunk_at SpellsIn (λ n. n) grammar steady
 
 pub fault-short : (number : ℕ) (lines : List (List ℕ)) (e : Fault) → reading number lines ≡ Err e → e.kind ≡ kinds.ShortEnd → e.line ≡ number + length lines
-fault-short number lines e h short = (hunks_low (length lines) 0 (ahead number lines) e h).1 short
+fault-short = short begins_hunk hunk_at SpellsIn (λ n. n) grammar steady
 
 pub fault-unspelled : (number : ℕ) (lines others : List (List ℕ)) (e : Fault) (hs : List PlainHunk) (next : ℕ) (rest : List (List ℕ)) → reading number lines ≡ Err e → e.kind ≢ kinds.ShortEnd → AgreeTo e.line number lines others → IsPiece number others hs next rest → ⊥
-fault-unspelled number lines others e hs next rest h long agree piece =
-    let fails = fault-stays number lines others e h long agree in
-    let reads = reading_again number others hs next rest piece in
-    cc
+fault-unspelled number lines others e hs next rest h long agree piece = unread begins_hunk hunk_at SpellsIn (λ n. n) grammar steady number lines others e (hs, ahead next rest) h long agree (reading_again number others hs next rest piece)
 
 pub fault-late : (number : ℕ) (front behind others : List (List ℕ)) (e : Fault) (hs : List PlainHunk) (next : ℕ) (rest : List (List ℕ)) → IsPiece number (front ++ others) hs next rest → reading number (front ++ behind) ≡ Err e → number + length front ≤ e.line
-fault-late number front behind others e hs next rest piece h =
-    elim (cases_lt e.line (number + length front)) [
-      | inl early ↦ elim (short_or e.kind) [
-        | inl short ↦ omega (arith, fault-short number (front ++ behind) e h short, length-append front behind)
-        | inr long ↦ absurd (fault-unspelled number (front ++ behind) (front ++ others) e hs next rest h long (agree_front e.line number front behind others early) piece)
-      ]
-      | inr late ↦ late
-    ]
+fault-late number front behind others e hs next rest piece h = late begins_hunk hunk_at SpellsIn (λ n. n) grammar steady number front behind others e (hs, ahead next rest) (reading_again number (front ++ others) hs next rest piece) h

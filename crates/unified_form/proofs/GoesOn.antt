@@ -12,19 +12,20 @@ use Rattle.line_list.proofs.Choices.{chosen}
 use Rattle.hunk_core.proofs.TextLemmas.{has_some}
 use Rattle.hunk_core.specs.Refusals.{settled}
 use Rattle.hunk_core.proofs.FaultSteps.{failed, bind_err, short_or}
+use Rattle.hunk_core.proofs.Faults.{FillsHunks, no_hunk}
 use Rattle.hunk_core.proofs.Filling.{IsInside, none_in_front, front_with, whole_front, first_inside, past_inside, none_inside}
 use Rattle.unified_form.specs.declared.body.Left.{Left}
 use Rattle.unified_form.specs.declared.range.Ranges.{Ranges}
 use Rattle.unified_form.specs.Ranges.{opening}
 use Rattle.unified_form.specs.Bodies.{mark_at, marked_at, room_at, ended_by, first_line, line_at, body_at}
-use Rattle.unified_form.specs.Hunks.{at_line, left_of, change, first_hunk, hunk_at, begins_hunk, hunks_at, reading}
-use Rattle.unified_form.specs.Grammar.{one_more, counts_of, ranges_of, SpellsBody, SpellsRanges, AreFair, SpellsHunks}
+use Rattle.unified_form.specs.Hunks.{at_line, left_of, change, first_hunk, reading}
+use Rattle.unified_form.specs.Grammar.{one_more, counts_of, ranges_of, SpellsBody, SpellsRanges, AreFair}
 use Rattle.unified_form.specs.FirstFault.{CanGoOn}
 use Rattle.unified_form.proofs.Bodies.{made, is_left, marked-ok, room-back, mark_at-shows, TakesLine, line_takes, TakesBody, body_takes}
 use Rattle.unified_form.proofs.RangeGrammar.{opening-takes}
-use Rattle.unified_form.proofs.Pieces.{at_line-ok, is_ranges, TakesHunk, hunk_takes}
+use Rattle.unified_form.proofs.Pieces.{SpellsIn, at_line-ok, is_ranges}
 use Rattle.unified_form.proofs.BodyFaults.{backslash_one, marked_low, room_low, ended_low, rest_of_line, one_more_line, add_err, body_low}
-use Rattle.unified_form.proofs.FirstFault.{fault-short, fault-late, range_low, settled_err, with_body, more_hunks, hunks_low}
+use Rattle.unified_form.proofs.FirstFault.{fault-short, fault-late, range_low, settled_err, with_body, hunks_fill}
 
 -- ---- lines that fill a body up
 
@@ -139,33 +140,13 @@ body_fills (suc most) left p e h =
 
 -- ---- hunks
 
--- the lines in front of the fault, with others, are hunks
-record FillsHunks (least : ℕ) (p : Ahead) (e : Fault) : Type 0 where
-  others : List (List ℕ)
-  are_lines : AllByRecursion IsLine others
-  hs : List PlainHunk
-  spelled : SpellsHunks least (take (e.line - p.number) p.rest ++ others) hs
-  inside : IsInside p e
-
-no_hunk : (least : ℕ) (p : Ahead) (e : Fault) → e.line ≡ p.number → IsInside p e → FillsHunks least p e
-no_hunk least p e here inside = record { others = []; are_lines = tt; hs = []; spelled = rw (none_in_front e.line p.number p.rest here) refl; inside = inside }
-
-past_hunk : (least : ℕ) (p : Ahead) (e : Fault) (x : PlainHunk × Ahead) → TakesHunk least p x → x.1.number ≤ e.line → FillsHunks x.0.old_start x.1 e → FillsHunks least p e
-past_hunk least p e x t le more = record {
-  others = more.others;
-  are_lines = more.are_lines;
-  hs = x.0 ∷ more.hs;
-  spelled = (t.own, take (e.line - x.1.number) x.1.rest ++ more.others, front_with e.line p.number x.1.number p.rest t.own x.1.rest more.others t.parts t.number le, t.spelled, more.spelled);
-  inside = past_inside p x.1 e t.own t.parts t.number more.inside;
-}
-
 ranges_spelled : (least number : ℕ) (line : List ℕ) (r : Ranges) (body : List Marked) → at_line number (opening least line) ≡ Ok r → left_of r ≡ counts_of body → SpellsRanges line (ranges_of (change r body)) × AreFair least (ranges_of (change r body))
 ranges_spelled least number line r body h counts =
     let stated : r ≡ ranges_of (change r body) = is_ranges r.old_start r.old_count r.new_start r.new_count _ _ (ap (λ (l : Left). l.old) counts) (ap (λ (l : Left). l.new) counts) in
     opening-takes least line (ranges_of (change r body)) (at_line-ok number (opening least line) r h ∙ ap (λ (q : Ranges). Ok q) stated)
 
 -- a hunk whose body is filled up
-short_hunk : (least number : ℕ) (line : List ℕ) (rest : List (List ℕ)) (e : Fault) (r : Ranges) → at_line number (opening least line) ≡ Ok r → number + 1 ≤ e.line → FillsBody (left_of r) (ahead (number + 1) rest) e → FillsHunks least (ahead number (line ∷ rest)) e
+short_hunk : (least number : ℕ) (line : List ℕ) (rest : List (List ℕ)) (e : Fault) (r : Ranges) → at_line number (opening least line) ≡ Ok r → number + 1 ≤ e.line → FillsBody (left_of r) (ahead (number + 1) rest) e → FillsHunks SpellsIn least (ahead number (line ∷ rest)) e
 short_hunk least number line rest e r h le f =
     let own = line ∷ (take (e.line - (number + 1)) rest ++ f.others) in
     let ranges = ranges_spelled least number line r f.body h f.counts in
@@ -178,7 +159,7 @@ short_hunk least number line rest e r h le f =
     }
 
 -- a hunk that is whole
-whole_hunk : (least number : ℕ) (line : List ℕ) (rest : List (List ℕ)) (e : Fault) (r : Ranges) (body : List Marked × Ahead) → at_line number (opening least line) ≡ Ok r → TakesBody (left_of r) (ahead (number + 1) rest) body → e.line ≡ body.1.number → 0 < length body.1.rest → FillsHunks least (ahead number (line ∷ rest)) e
+whole_hunk : (least number : ℕ) (line : List ℕ) (rest : List (List ℕ)) (e : Fault) (r : Ranges) (body : List Marked × Ahead) → at_line number (opening least line) ≡ Ok r → TakesBody (left_of r) (ahead (number + 1) rest) body → e.line ≡ body.1.number → 0 < length body.1.rest → FillsHunks SpellsIn least (ahead number (line ∷ rest)) e
 whole_hunk least number line rest e r body h t here some =
     let own = line ∷ t.own in
     let ranges = ranges_spelled least number line r body.0 h t.counts in
@@ -192,12 +173,12 @@ whole_hunk least number line rest e r body h t here some =
       inside = past_inside (ahead number (line ∷ rest)) body.1 e own parts (omega (arith, t.number)) (λ long. omega (arith, here, some));
     }
 
-hunk_fills : (least number : ℕ) (lines : List (List ℕ)) (e : Fault) → first_hunk least number lines ≡ Err e → FillsHunks least (ahead number lines) e
+hunk_fills : (least number : ℕ) (lines : List (List ℕ)) (e : Fault) → first_hunk least number lines ≡ Err e → FillsHunks SpellsIn least (ahead number lines) e
 unfolding first_hunk
-hunk_fills least number [] e h = let is : fault number kinds.ShortEnd ≡ e = cc in no_hunk least (ahead number []) e (sym (ap (λ (x : Fault). x.line) is)) (none_inside {A = PlainHunk × Ahead} number e h)
+hunk_fills least number [] e h = let is : fault number kinds.ShortEnd ≡ e = cc in no_hunk SpellsIn least (ahead number []) e (sym (ap (λ (x : Fault). x.line) is)) (none_inside {A = PlainHunk × Ahead} number e h)
 hunk_fills least number (line ∷ rest) e h =
     elim (bind_err (at_line number (opening least line)) (with_body number rest) e h) [
-      | inl bad ↦ (let here = (range_low least number line e bad).0 in no_hunk least (ahead number (line ∷ rest)) e here (first_inside number line rest e here))
+      | inl bad ↦ (let here = (range_low least number line e bad).0 in no_hunk SpellsIn least (ahead number (line ∷ rest)) e here (first_inside number line rest e here))
       | inr good ↦ (
           let r = good.0 in
           elim (bind_err (body_at (r.old_count + r.new_count) (left_of r) (ahead (number + 1) rest)) (λ body. settled (change r body.0) body.1) e good.2) [
@@ -208,26 +189,11 @@ hunk_fills least number (line ∷ rest) e h =
           ])
     ]
 
-hunks_fill : (most least : ℕ) (p : Ahead) (e : Fault) → hunks_at most least p ≡ Err e → FillsHunks least p e
-unfolding hunks_at
-hunks_fill zero least p e h = absurd cc
-hunks_fill (suc most) least p e h =
-    elim (chosen (begins_hunk p.rest) _ _ (Err e) h) [
-      | inl some ↦ elim (bind_err (hunk_at least p) (more_hunks most) e some.1) [
-        | inl bad ↦ hunk_fills least p.number p.rest e bad
-        | inr good ↦ (
-            let x = good.0 in
-            let rest : hunks_at most x.0.old_start x.1 ≡ Err e = add_err x.0 (hunks_at most x.0.old_start x.1) e good.2 in
-            past_hunk least p e x (hunk_takes least p.number p.rest x good.1) (hunks_low most x.0.old_start x.1 e rest).0 (hunks_fill most x.0.old_start x.1 e rest))
-      ]
-      | inr none ↦ absurd (let bad : Ok ([], p) ≡ failed {A = List PlainHunk × Ahead} e = none.1 in cc)
-    ]
-
 -- ---- the first fault
 
 pub fault-goes_on : (number : ℕ) (lines : List (List ℕ)) (e : Fault) → reading number lines ≡ Err e → CanGoOn number (take (e.line - number) lines)
 fault-goes_on number lines e h =
-    let f = hunks_fill (length lines) 0 (ahead number lines) e h in
+    let f = hunks_fill (λ least p e h. hunk_fills least p.number p.rest e h) (length lines) 0 (ahead number lines) e h in
     let own = take (e.line - number) lines ++ f.others in
     record { others = f.others; are_lines = f.are_lines; hs = f.hs; next = number + length own; whole = record { own = own; parts = sym (append-nil own); spelled = f.spelled; ends = (refl, refl); counted = refl } }
 
@@ -239,7 +205,7 @@ fault-short_end number lines e h = (
     | inr long ↦ (
         let same : lines ++ [] ≡ lines = append-nil lines in
         let late = fault-late number lines [] g.others e g.hs g.next [] g.whole (subst (λ (ls : List (List ℕ)). reading number ls ≡ Err e) (sym same) h) in
-        let inside = (hunks_fill (length lines) 0 (ahead number lines) e h).inside long in
+        let inside = (hunks_fill (λ least p e h. hunk_fills least p.number p.rest e h) (length lines) 0 (ahead number lines) e h).inside long in
         absurd (omega (arith, late, inside)))
   ],
 )

@@ -1,9 +1,7 @@
 -- What the exits of the readers of a line and of a hunk owe, over plain values.
-use Rattle.std.proofs.Common.{◌≡◌, ℕ, ◌+◌, ◌-◌, ◌<◌, ◌≤◌, Bool, true, false, List, [], ◌∷◌, ◌++◌, length, length-append, sum_by, Option, None, Some, Result, Ok, Err, refl, sym, arith}
+use Rattle.std.proofs.Common.{◌≡◌, ℕ, ◌+◌, ◌-◌, ◌<◌, ◌≤◌, Bool, true, false, List, [], ◌∷◌, length, Option, None, Some, Result, Ok, Err, refl, sym, arith}
 use Rattle.std.specs.Prelude.{is_some}
-use Rattle.std.proofs.lemmas.List.Sums.{sum_by-append}
 use Rattle.hunk_core.specs.declared.BadKind.{BadKind}
-use Rattle.hunk_core.specs.declared.Hunk.{Hunk}
 use Rattle.hunk_core.specs.declared.BadKind.TheVariants as kinds
 use Rattle.hunk_core.specs.declared.fault.Place.{Place}
 use Rattle.hunk_core.specs.declared.fault.FormFault.{FormFault}
@@ -162,10 +160,3 @@ hunk_whole least number all rest r body p h read none = rw (h.parts, sym h.opens
 pub past_hunk_whole : (least number : ℕ) (all rest : List (List ℕ)) (r : Ranges) (p : Ahead) → Opens least all rest r → past_body (r.old_count + r.new_count) (left_of r) (ahead (number + 1) rest) ≡ Ok p → is_some (after_backslash p.rest) ≡ false → past_first least number all ≡ Ok (stated_range r, p)
 unfolding past_first
 past_hunk_whole least number all rest r p h read none = rw (h.parts, sym h.opens, read, none) refl
-
--- what is counted of the hunks that were read, with one more
-pub count_push : (hs more : List Hunk) (h : Hunk) (at from to : ℕ) → more ≡ hs ++ h ∷ [] → from < to → at + length hs ≤ from → at + length more ≤ to
-count_push hs more h at from to is goes few = rw (is, length-append hs (h ∷ [])) (omega (arith, goes, few))
-
-pub few_push : (hs more : List Hunk) (h : Hunk) (at from to : ℕ) → more ≡ hs ++ h ∷ [] → from + length h.body.items ≤ to → at + sum_by (λ (x : Hunk). length x.body.items) hs ≤ from → at + sum_by (λ (x : Hunk). length x.body.items) more ≤ to
-few_push hs more h at from to is goes few = rw (is, sum_by-append (λ (x : Hunk). length x.body.items) hs (h ∷ [])) (omega (arith, goes, few))

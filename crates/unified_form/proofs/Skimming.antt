@@ -1,5 +1,5 @@
--- Hunks passed over one after the other, as a loop does, and what reading gives of them.
-use Rattle.std.proofs.Common.{◌≡◌, ℕ, zero, suc, ◌-◌, ◌+◌, ◌≤◌, ◌<◌, Bool, true, false, cond, eqb, List, [], ◌∷◌, length, Option, None, Some, Result, Ok, Err, refl, sym, ap, subst, ◌∙◌, arith}
+-- The lines of a body passed over one after the other, as a loop does, and what reading gives of them.
+use Rattle.std.proofs.Common.{◌≡◌, ℕ, zero, suc, ◌-◌, ◌+◌, ◌≤◌, ◌<◌, Bool, true, false, cond, eqb, List, [], ◌∷◌, length, Option, None, Some, Result, Ok, Err, refl, sym, ap, ◌∙◌, arith}
 use Rattle.std.specs.Prelude.{is_some}
 use Rattle.hunk_core.specs.declared.fault.FormFault.{FormFault}
 use Rattle.hunk_core.specs.declared.fault.FormFault.TheVariants as errors
@@ -8,18 +8,16 @@ use Rattle.hunk_core.specs.PlainHunk.{Marked, PlainHunk, old_lines}
 use Rattle.hunk_core.specs.LineTests.{unended, after_backslash}
 use Rattle.hunk_core.specs.Reading.{◌>>=◌, Fault, fault, Fails, Ahead, ahead}
 use Rattle.hunk_core.specs.Refusals.{settled}
-use Rattle.hunk_core.proofs.ReadSteps.{bind_ok, done, ok_is, with_front}
+use Rattle.hunk_core.proofs.ReadSteps.{bind_ok, ok_is}
 use Rattle.unified_form.specs.declared.body.Left.{Left}
 use Rattle.unified_form.specs.declared.range.Ranges.{Ranges}
 use Rattle.unified_form.specs.declared.skim.OldRange.{OldRange}
 use Rattle.unified_form.specs.Ranges.{opening}
 use Rattle.unified_form.specs.Bodies.{is_last_line, marked_at, room_at, ended_by, first_line, line_at, body_at}
-use Rattle.unified_form.specs.Hunks.{at_line, left_of, change, first_hunk, hunk_at, hunks_at, begins_hunk}
-use Rattle.unified_form.specs.Skimmed.{past_ended, past_first_line, past_line, past_body, past_settled, past_first, old_range, stated_range, past_hunk, past_hunks, are_some}
+use Rattle.unified_form.specs.Hunks.{at_line, left_of, change, first_hunk}
+use Rattle.unified_form.specs.Skimmed.{past_ended, past_first_line, past_line, past_body, past_settled, past_first, old_range, stated_range}
 use Rattle.unified_form.proofs.Bodies.{body_takes}
 use Rattle.unified_form.proofs.Counts.{counts-old}
-use Rattle.unified_form.proofs.HunkLoops.{HunksSoFar, hunks_step as hunks_step_of}
-use Rattle.unified_form.proofs.Steps.{hunk-shrinks}
 
 -- ---- a body
 
@@ -60,24 +58,6 @@ body_past_empty (suc most) left p none = rw none refl
 pub body_past_done : (left : Left) (p : Ahead) (total : Result Ahead Fault) → left.old + left.new ≡ 0 → BodyPast left p total → total ≡ Ok p
 body_past_done left p total none so_far = sym so_far.same ∙ body_past_empty so_far.most left p none
 
--- ---- hunks
-
-pub record HunksPast (least : ℕ) (p : Ahead) (total : Result Ahead Fault) : Type 0 where
-  pub most : ℕ
-  pub enough : length p.rest ≤ most
-  pub same : past_hunks most least p ≡ total
-
-pub hunks_past_begin : (most least : ℕ) (p : Ahead) → length p.rest ≤ most → HunksPast least p (past_hunks most least p)
-hunks_past_begin most least p enough = record { most = most; enough = enough; same = refl }
-
-some_lines : (rest : List (List ℕ)) → begins_hunk rest ≡ true → 0 < length rest
-some_lines [] h = absurd cc
-some_lines (line ∷ rest) h = omega arith
-
-hunks_step : (most least : ℕ) (p : Ahead) → begins_hunk p.rest ≡ true → past_hunks (suc most) least p ≡ (past_hunk least p >>= λ first. past_hunks most first.0.start first.1)
-unfolding past_hunks
-hunks_step most least p opens = rw opens refl
-
 -- ---- what reading gives
 
 abbrev body_ok : List Marked → Ahead → Result (List Marked × Ahead) Fault
@@ -88,9 +68,6 @@ old_ok o p = Ok (o, p)
 
 abbrev hunk_ok : PlainHunk → Ahead → Result (PlainHunk × Ahead) Fault
 hunk_ok h p = Ok (h, p)
-
-abbrev hunks_ok : List PlainHunk → Ahead → Result (List PlainHunk × Ahead) Fault
-hunks_ok hs p = Ok (hs, p)
 
 body_again : (r : Result (List Marked × Ahead) Fault) (m : Marked) → (r >>= λ x. Ok x.1) ≡ ((r >>= λ others. body_ok (m ∷ others.0) others.1) >>= λ x. Ok x.1)
 body_again (Ok x) m = refl
@@ -161,93 +138,6 @@ pub hunk_is : (least number : ℕ) (rest : List (List ℕ)) → past_first least
 unfolding past_first first_hunk
 hunk_is least number [] = refl
 hunk_is least number (line ∷ rest) = ranged (number + 1) rest (at_line number (opening least line))
-
-hunks_again : (r : Result (List PlainHunk × Ahead) Fault) (h : PlainHunk) → (r >>= λ x. Ok x.1) ≡ ((r >>= λ others. hunks_ok (h ∷ others.0) others.1) >>= λ x. Ok x.1)
-hunks_again (Ok x) h = refl
-hunks_again (Err e) h = refl
-
-hunks_both : (b : Bool) (read : Result (PlainHunk × Ahead) Fault) (p : Ahead) (f : ℕ → Ahead → Result Ahead Fault) (g : ℕ → Ahead → Result (List PlainHunk × Ahead) Fault) → ((n : ℕ) (q : Ahead) → f n q ≡ (g n q >>= λ x. Ok x.1))
-    → cond b ((read >>= λ y. old_ok (old_range y.0) y.1) >>= λ first. f first.0.start first.1) (Ok p) ≡ (cond b (read >>= λ first. g first.0.old_start first.1 >>= λ others. hunks_ok (first.0 ∷ others.0) others.1) (hunks_ok [] p) >>= λ x. Ok x.1)
-hunks_both true (Ok y) p f g h = h y.0.old_start y.1 ∙ hunks_again (g y.0.old_start y.1) y.0
-hunks_both true (Err e) p f g h = refl
-hunks_both false read p f g h = refl
-
-pub hunks_are : (most least : ℕ) (p : Ahead) → past_hunks most least p ≡ (hunks_at most least p >>= λ x. Ok x.1)
-unfolding past_hunks hunks_at
-hunks_are zero least p = refl
-hunks_are (suc most) least p =
-    ap (λ o. cond (begins_hunk p.rest) (o >>= λ first. past_hunks most first.0.start first.1) (Ok p)) (hunk_is least p.number p.rest)
-    ∙ hunks_both (begins_hunk p.rest) (hunk_at least p) p (past_hunks most) (hunks_at most) (hunks_are most)
-
-past-shrinks : (least number : ℕ) (rest : List (List ℕ)) (x : OldRange × Ahead) → past_first least number rest ≡ Ok x → length x.1.rest < length rest
-past-shrinks least number rest x h =
-    let b = bind_ok (first_hunk least number rest) (λ y. old_ok (old_range y.0) y.1) x (sym (hunk_is least number rest) ∙ h) in
-    subst (λ (z : OldRange × Ahead). length z.1.rest < length rest) (ok_is _ _ b.2) (hunk-shrinks least number rest b.0 b.1)
-
-pub hunks_past_go_on : (least : ℕ) (p : Ahead) (x : OldRange × Ahead) (total : Result Ahead Fault) → begins_hunk p.rest ≡ true → past_hunk least p ≡ Ok x → HunksPast least p total → HunksPast x.0.start x.1 total
-hunks_past_go_on least p x total opens read so_far =
-    let most = so_far.most in
-    let some = some_lines p.rest opens in
-    let k : most ≡ suc (most - 1) = omega (arith, so_far.enough) in
-    let one : past_hunks most least p ≡ past_hunks (most - 1) x.0.start x.1 = ap (λ m. past_hunks m least p) k ∙ rw (hunks_step (most - 1) least p opens, read) refl in
-    record { most = most - 1; enough = omega (arith, so_far.enough, past-shrinks least p.number p.rest x read); same = sym one ∙ so_far.same }
-
-pub hunks_past_fail : (e : FormFault) (least : ℕ) (p : Ahead) (total : Result Ahead Fault) → begins_hunk p.rest ≡ true → Fails e (past_hunk least p) → HunksPast least p total → Fails e total
-hunks_past_fail errors.Memory least p total opens h so_far = tt
-hunks_past_fail (errors.Malformed line kind) least p total opens h so_far =
-    let some = some_lines p.rest opens in
-    let k : so_far.most ≡ suc (so_far.most - 1) = omega (arith, so_far.enough) in
-    let one : past_hunks so_far.most least p ≡ Err (record { line = line; kind = kind }) = ap (λ m. past_hunks m least p) k ∙ rw (hunks_step (so_far.most - 1) least p opens, h) refl in
-    sym so_far.same ∙ one
-
-none_past : (most least : ℕ) (p : Ahead) → begins_hunk p.rest ≡ false → past_hunks most least p ≡ Ok p
-unfolding past_hunks
-none_past zero least p none = refl
-none_past (suc most) least p none = rw none refl
-
-pub hunks_past_done : (least : ℕ) (p : Ahead) (total : Result Ahead Fault) → begins_hunk p.rest ≡ false → HunksPast least p total → total ≡ Ok p
-hunks_past_done least p total none so_far = sym so_far.same ∙ none_past so_far.most least p none
-
--- ---- the first hunk, and what stands behind it
-
-others_are : (b : Bool) (most least : ℕ) (p : Ahead) (x : List PlainHunk × Ahead) → begins_hunk p.rest ≡ b → length p.rest ≤ most → hunks_at most least p ≡ Ok x → b ≡ are_some x.0
-unfolding hunks_at
-others_are true zero least p x opens enough h = absurd (omega (arith, enough, some_lines p.rest opens))
-others_are true (suc most) least p x opens enough h =
-    let a = bind_ok (hunk_at least p) (λ first. hunks_at most first.0.old_start first.1 >>= λ others. hunks_ok (first.0 ∷ others.0) others.1) x (sym (hunks_step_of most least p opens) ∙ h) in
-    let b = bind_ok (hunks_at most a.0.0.old_start a.0.1) (λ others. hunks_ok (a.0.0 ∷ others.0) others.1) x a.2 in
-    subst (λ (z : List PlainHunk × Ahead). true ≡ are_some z.0) (ok_is _ _ b.2) refl
-others_are false zero least p x opens enough h = subst (λ (z : List PlainHunk × Ahead). false ≡ are_some z.0) (ok_is _ _ h) refl
-others_are false (suc most) least p x opens enough h =
-    let none : done ([], p) ≡ Ok x = sym (rw opens refl) ∙ h in
-    subst (λ (z : List PlainHunk × Ahead). false ≡ are_some z.0) (ok_is _ _ none) refl
-
-first_is : (h : PlainHunk) (r : Result (List PlainHunk × Ahead) Fault) (x : List PlainHunk × Ahead) → r ≡ Ok x → with_front (h ∷ []) r ≡ hunks_ok (h ∷ x.0) x.1
-first_is h r x e = rw e refl
-
-pub record Skims (h : PlainHunk) (behind q : Ahead) (total : Result (List PlainHunk × Ahead) Fault) : Type 0 where
-  pub others : List PlainHunk
-  pub more : begins_hunk behind.rest ≡ are_some others
-  pub is : total ≡ Ok (h ∷ others, q)
-
-pub skims : (h : PlainHunk) (behind q : Ahead) (total : Result (List PlainHunk × Ahead) Fault) → (s : HunksSoFar (h ∷ []) h.old_start behind total) → past_hunks s.most h.old_start behind ≡ Ok q → Skims h behind q total
-skims h behind q total s past =
-    let b = bind_ok (hunks_at s.most h.old_start behind) (λ x. Ok x.1) q (sym (hunks_are s.most h.old_start behind) ∙ past) in
-    record {
-      others = b.0.0;
-      more = others_are (begins_hunk behind.rest) s.most h.old_start behind b.0 refl s.enough b.1;
-      is = sym s.same ∙ first_is h (hunks_at s.most h.old_start behind) b.0 b.1 ∙ ap (hunks_ok (h ∷ b.0.0)) (ok_is _ _ b.2);
-    }
-
-failed : {X Y : Type 0} (r : Result (X × Y) Fault) (f : Fault) → (r >>= λ x. Ok x.1) ≡ Err f → r ≡ Err f
-failed (Ok x) f e = absurd cc
-failed (Err d) f e = cc
-
-pub skim_fails : (e : FormFault) (h : PlainHunk) (behind : Ahead) (total : Result (List PlainHunk × Ahead) Fault) → (s : HunksSoFar (h ∷ []) h.old_start behind total) → Fails e (past_hunks s.most h.old_start behind) → Fails e total
-skim_fails errors.Memory h behind total s fails = tt
-skim_fails (errors.Malformed line kind) h behind total s fails =
-    let f : hunks_at s.most h.old_start behind ≡ Err (fault line kind) = failed (hunks_at s.most h.old_start behind) (fault line kind) (sym (hunks_are s.most h.old_start behind) ∙ fails) in
-    sym s.same ∙ rw f refl
 
 -- ---- one row
 

@@ -1,5 +1,5 @@
 -- The grammar of the unified form, apart from any reading: which lines spell which hunks.
-use Rattle.std.specs.Prelude.{◌≡◌, ℕ, ◌+◌, ◌<◌, ◌≤◌, true, false, ◌⊎◌, List, [], ◌∷◌, ◌++◌, length, None}
+use Rattle.std.specs.Prelude.{◌≡◌, ℕ, ◌+◌, ◌<◌, ◌≤◌, true, ◌⊎◌, List, [], ◌∷◌, ◌++◌}
 use Rattle.hunk_core.specs.declared.Mark.{Mark}
 use Rattle.hunk_core.specs.declared.Mark.TheVariants.{Keep, Drop, Add}
 use Rattle.hunk_core.specs.PlainHunk.{Marked, PlainHunk}
@@ -8,7 +8,8 @@ use Rattle.unified_form.specs.declared.range.Ranges.{Ranges}
 use Rattle.num_text.specs.Numbers.{IsNumeral}
 use Rattle.unified_form.specs.Ranges.{Fits}
 use Rattle.unified_form.specs.Bodies.{is_last_line}
-use Rattle.hunk_core.specs.LineTests.{marked, unended, is_backslash, after_backslash}
+use Rattle.hunk_core.specs.LineTests.{marked, unended, is_backslash}
+use Rattle.hunk_core.specs.Following.{SpellsEach, IsPieceOf}
 use Rattle.unified_form.specs.Hunks.{begins_hunk}
 
 -- a space, a minus or a plus
@@ -82,17 +83,8 @@ SpellsHunk least (line ∷ rest) h = SpellsRanges line (ranges_of h) × AreFair 
 
 -- these lines are these hunks, the first behind one that starts at least
 abbrev pub SpellsHunks : ℕ → List (List ℕ) → List PlainHunk → Type 0
-SpellsHunks least piece [] = piece ≡ []
-SpellsHunks least piece (h ∷ hs) = (own : List (List ℕ)) × (rest : List (List ℕ)) × (piece ≡ own ++ rest) × SpellsHunk least own h × SpellsHunks h.old_start rest hs
+SpellsHunks least piece hs = SpellsEach (λ start own behind h. SpellsHunk start own h) least piece [] hs
 
--- neither a hunk nor a backslash line follows
-abbrev pub EndsPiece : List (List ℕ) → Type 0
-EndsPiece rest = (begins_hunk rest ≡ false) × (after_backslash rest ≡ None)
-
--- the lines ahead are these hunks, and then this rest, whose first line has this number
-pub record IsPiece (number : ℕ) (lines : List (List ℕ)) (hs : List PlainHunk) (next : ℕ) (rest : List (List ℕ)) : Type 0 where
-  pub own : List (List ℕ)
-  pub parts : lines ≡ own ++ rest
-  pub spelled : SpellsHunks 0 own hs
-  pub ends : EndsPiece rest
-  pub counted : next ≡ number + length own
+-- the lines ahead are these hunks, and then this rest, whose first line has this number: neither a hunk nor a backslash line
+abbrev pub IsPiece : ℕ → List (List ℕ) → List PlainHunk → ℕ → List (List ℕ) → Type 0
+IsPiece number lines hs next rest = IsPieceOf begins_hunk (λ own behind hs. SpellsHunks 0 own hs) number lines hs next rest

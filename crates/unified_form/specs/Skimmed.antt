@@ -1,11 +1,14 @@
 -- Hunks that follow each other, of which only the first is kept: what is ahead behind the others, without their lines.
-use Rattle.std.specs.Prelude.{◌≡◌, ℕ, zero, suc, ◌+◌, ◌==◌, List, [], ◌∷◌, ◌++◌, drop, slice_range, length, map, Bool, true, false, Option, Some, None, is_some, Result, Ok, Err, if◌then◌else◌}
+use Rattle.std.specs.Prelude.{◌≡◌, ℕ, zero, suc, ◌+◌, ◌<◌, ◌==◌, List, [], ◌∷◌, ◌++◌, drop, slice_range, length, map, Bool, true, false, Option, Some, None, is_some, Result, Ok, Err, if◌then◌else◌}
 use Rattle.line_list.specs.Lines.{lines}
 use Rattle.hunk_core.specs.declared.Mark.{Mark}
 use Rattle.hunk_core.specs.declared.BadKind.TheVariants as kinds
 use Rattle.hunk_core.specs.declared.fault.Place.{Place}
 use Rattle.hunk_core.specs.PlainHunk.{PlainHunk, hunk_of, old_lines}
-use Rattle.hunk_core.specs.Pieces.{SpellInTurn}
+use Rattle.hunk_core.specs.declared.Hunk.{Hunk}
+use Rattle.hunk_core.specs.Pieces.{SpansSoFar, SpellInTurn}
+use Rattle.hunk_core.specs.Turned.{IsLawful}
+use Rattle.line_list.specs.declared.Span.{Span}
 use Rattle.hunk_core.specs.LineTests.{after_backslash}
 use Rattle.hunk_core.specs.Reading.{Fault, fault, ◌>>=◌, Ahead, ahead, ahead_of}
 use Rattle.unified_form.specs.declared.body.Left.{Left}
@@ -16,7 +19,7 @@ use Rattle.unified_form.specs.declared.skim.Skim.{Skim}
 use Rattle.unified_form.specs.Ranges.{opening}
 use Rattle.unified_form.specs.Bodies.{is_last_line, marked_at, room_at}
 use Rattle.unified_form.specs.Grammar.{IsPiece, SpellsHunk}
-use Rattle.unified_form.specs.Hunks.{at_line, left_of, begins_hunk, hunk_at, reading}
+use Rattle.unified_form.specs.Hunks.{at_line, left_of, hunk_at, reading}
 
 -- what is left behind a line with this left, and what is ahead, where a backslash line may follow
 abbrev pub past_ended : ℕ → Mark → Left → List (List ℕ) → Option (List (List ℕ)) → Result (Left × Ahead) Fault
@@ -62,15 +65,15 @@ past_first least number (line ∷ rest) = do
 abbrev pub past_hunk : ℕ → Ahead → Result (OldRange × Ahead) Fault
 past_hunk least p = past_first least p.number p.rest
 
--- what is ahead behind at most so many hunks that follow each other
-unfoldable pub past_hunks : ℕ → ℕ → Ahead → Result Ahead Fault
-past_hunks zero least p = Ok p
-past_hunks (suc most) least p = if begins_hunk p.rest then (past_hunk least p >>= λ first. past_hunks most first.0.start first.1) else Ok p
-
 -- there is a hunk
 abbrev pub are_some : List PlainHunk → Bool
 are_some [] = false
 are_some (h ∷ hs) = true
+
+-- the first of the hunks from a place up to another is kept, and whether there are others; or there is none yet
+abbrev pub HasFirst : List ℕ → ℕ → List PlainHunk → ℕ → Bool → Hunk → Bool → Type 0
+HasFirst text from [] end none first more = (none ≡ true) × (more ≡ false) × (from ≡ end)
+HasFirst text from (h ∷ hs) end none first more = (none ≡ false) × (h ≡ hunk_of text first) × (more ≡ are_some hs) × IsLawful text first × (from < end)
 
 -- the first of the hunks that these lines begin with, whether there are others, and the place behind them all
 pub record IsSkimmed (text : List ℕ) (number : ℕ) (rest : List (List ℕ)) (s : Skim) : Type 0 where
@@ -94,3 +97,8 @@ pub record AreRows (text : List ℕ) (number : ℕ) (rest : List (List ℕ)) (r 
   pub pieces : SpellInTurn SpellsHunk text 0 r.spans.items hunks
   pub read : reading number rest ≡ Ok (hunks, ahead r.next (lines (drop r.end text)))
   pub piece : IsPiece number rest hunks r.next (lines (drop r.end text))
+
+-- the pieces and the old lines of hunks from a place up to another, the last of which starts so
+pub record HasRows (text : List ℕ) (from : ℕ) (hs : List PlainHunk) (end least : ℕ) (olds : List OldRange) (spans : List Span) : Type 0 where
+  pub olds_are : olds ≡ map old_range hs
+  pub pieces : SpansSoFar SpellsHunk text from spans hs end least

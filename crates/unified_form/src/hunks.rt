@@ -21,8 +21,10 @@ ghost use Rattle.unified_form.specs.Hunks.{hunk_at, begins_hunk, reading};
 
 use crate::body::{Left, read_body};
 use crate::range::{opening_of, opens_hunk};
-use hunk_core::{BadKind, FormFault, Hunk, HunkLine, Hunks, Place, backslash_end, bad};
-use line_list::{Feeds, Span, next_line, next_line_by};
+use hunk_core::{
+    BadKind, FormFault, Hunk, HunkForm, HunkLine, Hunks, Place, backslash_end, bad, read_whole,
+};
+use line_list::{Feeds, next_line, next_line_by};
 use std::alloc::Global;
 
 /// Whether a hunk opens at `at`.
@@ -42,6 +44,7 @@ pub fn opens_by(text: &[u8], at: usize, feeds: &mut Feeds) -> bool
     requires feeds { AreFeeds text.now feeds.old }
     ensures feeds { AreFeeds text.now feeds.new }
     ensures opens { result ≡ begins_hunk (lines (drop at text.now)) }
+    ensures some { result ≡ true → 0 < length (lines (drop at text.now)) }
 {
     match next_line_by(text, at, feeds) {
         None => false,
@@ -101,64 +104,35 @@ fn take_hunk(
     Ok((hunk, next))
 }
 
-/// The same, with what its piece of the text is.
-pub fn read_hunk(
-    alloc: Global,
-    text: &[u8],
-    least: u64,
-    place: Place,
-    spare: &mut Vec<HunkLine>,
-    feeds: &mut Feeds,
-) -> Result<(Hunk, Place), FormFault>
-    requires place { IsPlace text.now place }
-    requires feeds { AreFeeds text.now feeds.old }
-    ensures feeds { AreFeeds text.now feeds.new }
-    ensures place { IfOk result (λ x. IsPlace text.now x.1 × (place.at < x.1.at)) }
-    ensures whole { IfOk result (λ x. lines (drop place.at text.now) ≡ lines (slice_range text.now place.at x.1.at) ++ lines (drop x.1.at text.now)) }
-    ensures piece { IfOk result (λ x. SpellsHunk least (lines (slice_range text.now place.at x.1.at)) (hunk_of text.now x.0)) }
-    ensures few { IfOk result (λ x. place.at + vec_len x.0.body ≤ x.1.at) }
-    ensures lawful { IfOk result (λ x. IsLawful text.now x.0) }
-    ensures unbroken { IfOk result (λ x. first_broken (hunk_of text.now x.0) ≡ None) }
-    ensures exact { Gives (λ x. (hunk_of text.now x.0, ahead_of text.now x.1)) result (hunk_at least (ahead_of text.now place)) }
-{
-    take_hunk(alloc, text, least, place, spare, feeds)
+/// The unified form, with what its reading uses again: room for the lines of a body, and where the next lines end.
+#[derive(Drop)]
+pub struct Unified {
+    pub spare: Vec<HunkLine>,
+    pub feeds: Feeds,
 }
 
-/// The hunks that follow each other, by reading on.
-fn read_all(alloc: Global, text: &[u8], at: usize, line: u64) -> Result<Hunks, FormFault>
-    requires short { length text.now < 2 ^ 32 }
-    requires within { at ≤ length text.now }
-    requires small { line < 2 ^ 32 }
-    ensures within { IfOk result (λ h. h.end ≤ length text.now) }
-    ensures turn { IfOk result (λ h. AreInTurn at h.spans.items h.end) }
-    ensures whole { IfOk result (λ h. AreWhole text.now h.spans.items) }
-    ensures pieces { IfOk result (λ h. SpellInTurn SpellsHunk text.now 0 h.spans.items (hunks_of text.now h.items.items)) }
-    ensures sound { IfOk result (λ h. AreSound text.now h) }
-    ensures exact { Gives (read_of text.now) result
-        (reading line (lines (drop at text.now))) }
-{
-    let mut items = Vec::new(alloc);
-    let mut spans = Vec::new(alloc);
-    let mut spare = Vec::new(alloc);
-    let mut place = Place { at, number: line };
-    let mut least: u64 = 0;
-    let mut feeds = Feeds::unknown();
-    'hunks: while opens_by(text, place.at, &mut feeds) {
-        let (hunk, next) = read_hunk(alloc, text, least, place, &mut spare, &mut feeds)?;
-        spans.push(Span {
-            start: place.at as u32,
-            end: next.at as u32,
-        })?;
-        least = u64::from(hunk.old_start);
-        items.push(hunk)?;
-        place = next;
+impl HunkForm for Unified {
+    ghost begins = { begins_hunk };
+
+    ghost hunk_at = { hunk_at };
+
+    ghost Spells = { SpellsHunk };
+
+    ghost IsReady = { λ text u. AreFeeds text u.feeds };
+
+    fn opens(&mut self, text: &[u8], at: usize) -> bool {
+        opens_by(text, at, &mut self.feeds)
     }
-    Ok(Hunks {
-        items,
-        spans,
-        end: place.at,
-        next: place.number,
-    })
+
+    fn read_hunk(
+        &mut self,
+        alloc: Global,
+        text: &[u8],
+        least: u64,
+        place: Place,
+    ) -> Result<(Hunk, Place), FormFault> {
+        take_hunk(alloc, text, least, place, &mut self.spare, &mut self.feeds)
+    }
 }
 
 /// The hunks that follow each other from `at` on, where the line has this number.
@@ -183,7 +157,11 @@ pub fn read_hunks(alloc: Global, text: &[u8], at: usize, line: u64) -> Result<Hu
     ensures exact { Gives (read_of text.now) result
         (reading line (lines (drop at text.now))) }
 {
-    read_all(alloc, text, at, line)
+    let unified = Unified {
+        spare: Vec::new(alloc),
+        feeds: Feeds::unknown(),
+    };
+    read_whole(unified, alloc, text, at, line)
 }
 
 /// What makes a fault the first one.

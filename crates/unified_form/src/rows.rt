@@ -6,11 +6,11 @@ ghost use Rattle.line_list.specs.Lines.{lines};
 ghost use Rattle.hunk_core.specs.Pieces.{AreInTurn, AreWhole};
 ghost use Rattle.hunk_core.specs.Reading.{Fails, IsPlace, ahead_of};
 ghost use Rattle.unified_form.specs.Hunks.{begins_hunk, hunk_at, reading};
-ghost use Rattle.unified_form.specs.Skimmed.{AreRows, IsRow};
+ghost use Rattle.unified_form.specs.Skimmed.{AreRows, HasRows, IsRow};
 
 use crate::hunks::opens_by;
 use crate::skim::{OldRange, pass_hunk};
-use hunk_core::{FormFault, Place};
+use hunk_core::{FormFault, HunkWalk, Place, walk};
 use line_list::{Feeds, Span};
 use std::alloc::Global;
 
@@ -27,7 +27,7 @@ pub struct HunkRows {
 }
 
 /// The old lines of a hunk whose old start is at least `least`, and the place after it.
-fn read_row(
+pub fn read_row(
     text: &[u8],
     least: u64,
     place: Place,
@@ -41,6 +41,44 @@ fn read_row(
     ensures fails { IfErr result (λ e. Fails e (hunk_at least (ahead_of text.now place))) }
 {
     pass_hunk(text, least, place, feeds)
+}
+
+/// The rows that were read.
+#[derive(Drop)]
+struct Rows {
+    spans: Vec<Span>,
+    olds: Vec<OldRange>,
+    feeds: Feeds,
+}
+
+impl HunkWalk for Rows {
+    ghost begins = { begins_hunk };
+
+    ghost hunk_at = { hunk_at };
+
+    ghost IsReady = { λ text r. AreFeeds text r.feeds };
+
+    ghost Has = { λ text from hs end least r. HasRows text from hs end least r.olds.items r.spans.items };
+
+    fn opens(&mut self, text: &[u8], at: usize) -> bool {
+        opens_by(text, at, &mut self.feeds)
+    }
+
+    fn take(
+        &mut self,
+        _alloc: Global,
+        text: &[u8],
+        least: u64,
+        place: Place,
+    ) -> Result<(u32, Place), FormFault> {
+        let (old, next) = read_row(text, least, place, &mut self.feeds)?;
+        self.spans.push(Span {
+            start: place.at as u32,
+            end: next.at as u32,
+        })?;
+        self.olds.push(old)?;
+        Ok((old.start, next))
+    }
 }
 
 /// The pieces and the old lines of the hunks that follow each other from `at` on, where the line has this number. Their bodies are read,
@@ -59,25 +97,16 @@ pub fn read_rows(alloc: Global, text: &[u8], at: usize, line: u64) -> Result<Hun
     // A fault is the first one that reading meets.
     ensures fails { IfErr result (λ e. Fails e (reading line (lines (drop at text.now)))) }
 {
-    let mut spans = Vec::new(alloc);
-    let mut olds = Vec::new(alloc);
-    let mut place = Place { at, number: line };
-    let mut least: u64 = 0;
-    let mut feeds = Feeds::unknown();
-    'hunks: while opens_by(text, place.at, &mut feeds) {
-        let (old, next) = read_row(text, least, place, &mut feeds)?;
-        spans.push(Span {
-            start: place.at as u32,
-            end: next.at as u32,
-        })?;
-        olds.push(old)?;
-        least = u64::from(old.start);
-        place = next;
-    }
+    let mut rows = Rows {
+        spans: Vec::new(alloc),
+        olds: Vec::new(alloc),
+        feeds: Feeds::unknown(),
+    };
+    let end = walk(&mut rows, alloc, text, at, line)?;
     Ok(HunkRows {
-        spans,
-        olds,
-        end: place.at,
-        next: place.number,
+        spans: rows.spans,
+        olds: rows.olds,
+        end: end.at,
+        next: end.number,
     })
 }

@@ -5,13 +5,14 @@ ghost use Rattle.line_list.specs.Feeds.{AreFeeds};
 ghost use Rattle.line_list.specs.Lines.{lines};
 ghost use Rattle.hunk_core.specs.Reading.{Fails, Gives, IsPlace, ahead_of};
 ghost use Rattle.hunk_core.specs.Turned.{IsLawful};
-ghost use Rattle.unified_form.specs.Hunks.{begins_hunk, reading};
-ghost use Rattle.unified_form.specs.Skimmed.{IsSkimmed, past_body, past_hunk, past_hunks, past_line};
+ghost use Rattle.unified_form.specs.Hunks.{begins_hunk, hunk_at, reading};
+ghost use Rattle.unified_form.specs.Skimmed.{HasFirst, IsSkimmed, past_body, past_hunk, past_line};
 
 use crate::body::{Left, is_last, left_after, marked_line};
-use crate::hunks::{at_opening, opens_by, read_hunk};
+use crate::hunks::Unified;
 use crate::range::opening_of;
-use hunk_core::{BadKind, FormFault, Hunk, Place, backslash_end, bad};
+use crate::rows::read_row;
+use hunk_core::{BadKind, FormFault, Hunk, HunkForm, HunkWalk, Place, backslash_end, bad, walk};
 use line_list::{Feeds, next_line_by};
 use std::alloc::Global;
 
@@ -142,21 +143,46 @@ pub fn pass_hunk(
     Ok((old, next))
 }
 
-/// The place after the hunks that follow each other, of which the first starts at `least` or later.
-fn pass_hunks(text: &[u8], least: u64, place: Place, feeds: &mut Feeds) -> Result<Place, FormFault>
-    requires place { IsPlace text.now place }
-    requires feeds { AreFeeds text.now feeds.old }
-    ensures place { IfOk result (λ x. IsPlace text.now x × (place.at ≤ x.at)) }
-    ensures exact { (most : ℕ) → length (lines (drop place.at text.now)) ≤ most → Gives (ahead_of text.now) result (past_hunks most least (ahead_of text.now place)) }
-{
-    let mut least = least;
-    let mut place = place;
-    'hunks: while opens_by(text, place.at, feeds) {
-        let (old, next) = pass_hunk(text, least, place, feeds)?;
-        least = u64::from(old.start);
-        place = next;
+/// The first hunk that was read, if one was.
+#[derive(Drop)]
+struct Skimming {
+    unified: Unified,
+    first: Hunk,
+    is_none: bool,
+    more: bool,
+}
+
+impl HunkWalk for Skimming {
+    ghost begins = { begins_hunk };
+
+    ghost hunk_at = { hunk_at };
+
+    ghost IsReady = { λ text s. AreFeeds text s.unified.feeds };
+
+    ghost Has = { λ text from hs end least s. HasFirst text from hs end s.is_none s.first s.more };
+
+    fn opens(&mut self, text: &[u8], at: usize) -> bool {
+        self.unified.opens(text, at)
     }
-    Ok(place)
+
+    fn take(
+        &mut self,
+        alloc: Global,
+        text: &[u8],
+        least: u64,
+        place: Place,
+    ) -> Result<(u32, Place), FormFault> {
+        if self.is_none {
+            let (hunk, next) = self.unified.read_hunk(alloc, text, least, place)?;
+            let start = hunk.old_start;
+            self.first = hunk;
+            self.is_none = false;
+            return Ok((start, next));
+        }
+        let (old, next) = read_row(text, least, place, &mut self.unified.feeds)?;
+        self.more = true;
+        Ok((old.start, next))
+    }
 }
 
 /// The first of the hunks that follow each other from `at` on, where the line has this number, and the place after the last of
@@ -174,15 +200,23 @@ pub fn skim_hunks(alloc: Global, text: &[u8], at: usize, line: u64) -> Result<Sk
     // A fault is the first one that reading meets.
     ensures fails { IfErr result (λ e. Fails e (reading line (lines (drop at text.now)))) }
 {
-    let mut spare = Vec::new(alloc);
-    let mut feeds = Feeds::unknown();
-    let place = Place { at, number: line };
-    let (first, next) = read_hunk(alloc, text, 0, place, &mut spare, &mut feeds)?;
-    let more = at_opening(text, next.at);
-    let end = pass_hunks(text, u64::from(first.old_start), next, &mut feeds)?;
+    let mut skimming = Skimming {
+        unified: Unified {
+            spare: Vec::new(alloc),
+            feeds: Feeds::unknown(),
+        },
+        first: Hunk {
+            old_start: 0,
+            new_start: 0,
+            body: Vec::new(alloc),
+        },
+        is_none: true,
+        more: false,
+    };
+    let end = walk(&mut skimming, alloc, text, at, line)?;
     Ok(Skim {
-        first,
-        more,
+        first: skimming.first,
+        more: skimming.more,
         end: end.at,
         next: end.number,
     })

@@ -1,10 +1,8 @@
-use Rattle.std.proofs.Common.{◌≡◌, ◌+◌, ◌≤◌, ◌∙◌, arith, ap, refl, subst}
+use Rattle.std.proofs.Common.{◌≡◌, ◌+◌, ◌≤◌, ◌∙◌, arith, ap, refl}
 use Rattle.file_patch.specs.PlainPatch.{row_count}
 use Rattle.patch_text.proofs.ChangeLemmas.{rows-counted, rows-behind}
-use Rattle.hunk_core.specs.Reading.{Fails, ◌>>=◌}
-use Rattle.hunk_core.specs.declared.fault.FormFault.TheVariants.{Malformed}
-use Rattle.patch_text.proofs.Passed.{behind-fits, end-fits, fails-on, fault-given, fault-same, goes-far, lawful-patch, nothing-said, opening-fits, opening-low, start-fits, value-isnt, with_header}
-use Rattle.patch_text.specs.Patches.{change_behind}
+use Rattle.hunk_core.specs.Reading.{◌>>=◌}
+use Rattle.patch_text.proofs.Passed.{behind-fits, end-fits, fails-on, fault-given, goes-far, lawful-patch, nothing-said, opening-fits, opening-low, start-fits, with_header}
 use Rattle.patch_text.proofs.patches.read_patch.Goals as goal
 
 pub overflow_add-behind : goal.overflow_add-behind
@@ -53,7 +51,6 @@ returns c = record {
       });
   behind = (goes-far c.args.here.at c.args.header.at c.in_ok-read.read.end c.requires.header.low c.in_ok-read.ensures.is.some, refl, ap (λ n. c.args.here.hunks + n) (c.hunks.ensures c.args.text.now ∙ rows-counted c.args.text.now c.in_ok-read.read.change));
   exact = ap (λ r. r >>= with_header c.args.text.now c.args.header) c.in_ok-read.ensures.exact;
-  malformed = λ number kind e. absurd (value-isnt _ _ _ refl e);
 }
 
 pub hunks-requires : goal.hunks-requires
@@ -81,7 +78,6 @@ returns-in_err-read c = record {
   progress = nothing-said _ _ c.from_residual.result c.from_residual.ensures.1;
   behind = nothing-said _ _ c.from_residual.result c.from_residual.ensures.1;
   exact = fault-given _ c.in_err-read.field-0.0 c.from_residual.result _ c.from_residual.ensures.1 (fails-on c.in_err-read.field-0.0 _ (with_header c.args.text.now c.args.header) c.in_err-read.ensures.exact);
-  malformed = λ number kind e. subst (λ d. Fails d (change_behind c.args.text.now c.args.header)) (fault-same c.from_residual.result c.in_err-read.field-0.0 (Malformed number kind) c.from_residual.ensures.1 e) c.in_err-read.ensures.exact;
 }
 
 pub is_absent-requires-clause-lawful : goal.is_absent-requires-clause-lawful
