@@ -19,7 +19,7 @@ made_by (split_job j) = Err Usage
 made_by (recount_job input) = Err Usage
 made_by (gen_job j) = Ok j
 made_by (flip_job input) = Err Usage
-made_by (stack_job op) = Err Usage
+made_by (stack_job j) = Err Usage
 
 abbrev pub made_of : Result PlainToolJob WordFault → Result PlainGenJob WordFault
 made_of (Ok job) = made_by job
@@ -43,9 +43,9 @@ uses_scratch (Err fault) = false
 abbrev pub plain_patch : PlainOptions
 plain_patch = options_of []
 
--- the options of `patch -s -p0`, with the job's plan and buffer
+-- the options of `patch -s -p0`, with the job's plan, buffer and `--sync`
 abbrev pub options_for : PlainGenJob → PlainOptions
-options_for j = record plain_patch { strip = Some 0; silent = true; plan = j.plan; buffer = j.buffer }
+options_for j = record plain_patch { strip = Some 0; silent = true; plan = j.plan; buffer = j.buffer; sync = j.sync }
 
 -- the same job with another plan
 abbrev pub with_plan : PlanKind → PlainGenJob → PlainGenJob

@@ -41,5 +41,6 @@ pub fn options_for(job: GenJob) -> Options
         verbose: false,
         plan: job.plan,
         buffer: job.buffer,
+        sync: job.sync,
     }
 }

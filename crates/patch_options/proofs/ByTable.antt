@@ -9,7 +9,7 @@ use Rattle.clap.specs.declared.builder.command.Command.TheViews.{out-Command as 
 use Rattle.clap.specs.declared.error.Error.{Error}
 use Rattle.clap.specs.declared.error.kind.ErrorKind.TheVariants.{OutOfMemory}
 use Rattle.clap.specs.declared.parser.matches.ArgMatches.{ArgMatches}
-use Rattle.patch_options.specs.Simple.{PlainWord, plain_word, plain_table, word_rule, with_rules, without_help, simple_command, is_empty, takes, rows_by, rows_in}
+use Rattle.patch_options.specs.Simple.{PlainWord, plain_word, plain_table, word_rule, with_rules, without_help, with_last_values, simple_command, is_empty, takes, rows_by, rows_in}
 use Rattle.patch_options.specs.declared.options.WordFault.{WordFault}
 use Rattle.patch_options.specs.declared.options.WordFault.TheVariants.{Usage, Memory}
 use Rattle.patch_options.specs.declared.simple.Group.{Group}
@@ -47,10 +47,12 @@ first_group app g gs =
     ap (λ (ws : List PlainWord). with_rules app (map word_rule ws)) (map-append plain_word g.words.now (flat_map (λ h. h.words.now) gs))
     ∙ (ap (λ (rs : List Rule). with_rules app rs) (map-append word_rule words (plain_table gs)) ∙ with_rules_both app (map word_rule words) (map word_rule (plain_table gs)))
 
-pub begun : (old new : Command) (name : Text) (groups : List Group) → app_of old ≡ new_app name → fields_of new ≡ record (fields_of old) { disable_help_flag = true }
-    → simple_command name (plain_table groups) ≡ with_groups (app_of new) groups
+pub begun : (old plain new : Command) (name : Text) (groups : List Group) → app_of old ≡ new_app name → fields_of plain ≡ record (fields_of old) { disable_help_flag = true }
+    → fields_of new ≡ record (fields_of plain) { args_override_self = true } → simple_command name (plain_table groups) ≡ with_groups (app_of new) groups
 unfolding simple_command
-begun old new name groups is-new without = ap (λ (a : App). with_groups a groups) (sym (ap app_of_fields without ∙ ap without_help is-new))
+begun old plain new name groups is-new without last =
+    let is-plain : app_of plain ≡ without_help (new_app name) = ap app_of_fields without ∙ ap without_help is-new in
+    ap (λ (a : App). with_groups a groups) (sym (ap app_of_fields last ∙ ap with_last_values is-plain))
 
 pub group_more : (whole : App) (old new : Command) (groups : List Group) (n : ℕ) (group : Group) → n < length groups
     → whole ≡ with_groups (app_of old) (drop n groups) → app_of new ≡ with_words (app_of old) (get_or groups n group).words.now

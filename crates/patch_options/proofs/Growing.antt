@@ -7,14 +7,14 @@ use Rattle.patch_options.specs.Usage.{gap}
 
 -- ---- elements
 
-pub one_more : {X : Type 0} (f : X → List ℕ) (xs : List X) (n : ℕ) (x : X) (old new whole : List ℕ) → n < length xs
+pub one_more : {X Y : Type 0} (f : X → List Y) (xs : List X) (n : ℕ) (x : X) (old new whole : List Y) → n < length xs
     → old ++ flat_map f (drop n xs) ≡ whole → new ≡ old ++ f (get_or xs n x) → new ++ flat_map f (drop (n + 1) xs) ≡ whole
 one_more f xs n x old new whole within so_far is =
     let y = get_or xs n x in
     ap (λ l. l ++ flat_map f (drop (n + 1) xs)) is ∙ (append_assoc old (f y) (flat_map f (drop (n + 1) xs))
     ∙ (ap (λ l. old ++ l) (sym (flat_map-cons f y (drop (n + 1) xs))) ∙ (sym (at_drop_more (λ l. old ++ flat_map f l) xs n x within) ∙ so_far)))
 
-pub all_told : {X : Type 0} (f : X → List ℕ) (xs : List X) (n : ℕ) (text whole : List ℕ) → length xs ≤ n → text ++ flat_map f (drop n xs) ≡ whole → text ≡ whole
+pub all_told : {X Y : Type 0} (f : X → List Y) (xs : List X) (n : ℕ) (text whole : List Y) → length xs ≤ n → text ++ flat_map f (drop n xs) ≡ whole → text ≡ whole
 all_told f xs n text whole end so_far = sym (append-nil text) ∙ (sym (at_drop_all (λ l. text ++ flat_map f l) xs n end) ∙ so_far)
 
 -- ---- pieces

@@ -8,7 +8,7 @@ use Rattle.clap.specs.Words.{Row, Text}
 use Rattle.hunk_core.specs.declared.Form.TheVariants.{Unified, Context}
 use Rattle.patch_options.specs.Forms.{is_suffix, is_backup_kind, is_prefix, is_name, is_lasting_name, is_reject_file, is_directory, is_empty, is_macro_name, buffer_of, buffer_in, number_of, reject_form_of}
 use Rattle.patch_options.specs.PlainJob.{IsSuffix, HasContext, IsMacroName, IsLawful}
-use Rattle.patch_options.specs.Table.{is_command, options_of, value_of, has_form, outputs_agree, switches_agree, values_agree, names_agree, numbers_agree, words_agree}
+use Rattle.patch_options.specs.Table.{is_command, options_of, value_of, has_form, outputs_agree, switches_agree, values_agree, names_agree, numbers_agree, words_agree, others_agree}
 
 both : (a b : Bool) → (a && b) ≡ true → (a ≡ true) × (b ≡ true)
 both true b h = (refl, h)
@@ -94,8 +94,9 @@ unfolding outputs_agree
 lawful_options rows h =
     let rest = both (switches_agree rows) (values_agree rows && names_agree rows) h in
     let parts = both (values_agree rows) (names_agree rows) rest.1 in
-    let behind_numbers = both (numbers_agree rows) (words_agree rows && has_form is_macro_name (value_of rows (codes "ifdef"))) parts.0 in
-    let words = both (words_agree rows) (has_form is_macro_name (value_of rows (codes "ifdef"))) behind_numbers.1 in
+    let behind_numbers = both (numbers_agree rows) (words_agree rows && (others_agree rows && has_form is_macro_name (value_of rows (codes "ifdef")))) parts.0 in
+    let words = both (words_agree rows) (others_agree rows && has_form is_macro_name (value_of rows (codes "ifdef"))) behind_numbers.1 in
+    let others = both (others_agree rows) (has_form is_macro_name (value_of rows (codes "ifdef"))) words.1 in
     let behind_plan = both _ (has_form (λ t. is_some (reject_form_of t)) (value_of rows (codes "reject-format")) && (has_form is_suffix (value_of rows (codes "suffix")) && has_form is_backup_kind (value_of rows (codes "version-control")))) words.0 in
     let behind_form = both _ (has_form is_suffix (value_of rows (codes "suffix")) && has_form is_backup_kind (value_of rows (codes "version-control"))) behind_plan.1 in
     let suffix = both (has_form is_suffix (value_of rows (codes "suffix"))) (has_form is_backup_kind (value_of rows (codes "version-control"))) behind_form.1 in
@@ -109,7 +110,7 @@ lawful_options rows h =
       suffix = of_form is_suffix IsSuffix (value_of rows (codes "suffix")) suffix_is suffix.0;
       prefix = of_form is_prefix IsFront (value_of rows (codes "prefix")) prefix_is prefix.1;
       reject_form = context_is (value_of rows (codes "reject-format"));
-      define = of_form is_macro_name IsMacroName (value_of rows (codes "ifdef")) (λ text is. is) words.1;
+      define = of_form is_macro_name IsMacroName (value_of rows (codes "ifdef")) (λ text is. is) others.1;
       least = size.0;
       most = size.1;
     }

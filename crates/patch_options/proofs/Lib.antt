@@ -1,11 +1,11 @@
 pub mod Matching
 pub mod Numbers
-pub mod Passing
 pub mod ByTable
 pub mod Refusing
-pub mod Singles
 pub mod Lawful
 pub mod Jobs
 pub mod Growing
 pub mod Agreeing
 pub mod Arguments
+pub mod LongNames
+pub mod Repeats

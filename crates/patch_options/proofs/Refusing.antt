@@ -19,17 +19,6 @@ no_right false b none = refl
 pub all_yes : (a b : Bool) → a ≡ true → b ≡ true → (a && b) ≡ true
 all_yes a b holds more = ap (λ t. t && b) holds ∙ more
 
--- ---- switches that exclude each other
-
-pub first_is : (a b c : Bool) → a ≡ true → false ≡ (not a && (not b && not c))
-first_is a b c is = rw is refl
-
-pub second_is : (a b c : Bool) → b ≡ true → false ≡ (not a && (not b && not c))
-second_is a b c is = sym (no_right (not a) (not b && not c) (rw is refl))
-
-pub neither_is : (a b c x : Bool) → a ≡ false → b ≡ false → x ≡ c → not x ≡ (not a && (not b && not c))
-neither_is a b c x first second last = rw (first, second, last) refl
-
 -- ---- faults
 
 pub refused_as : (fault : WordFault) (a b : Bool) → (a ≡ false → b ≡ false) → (fault ≡ Memory) ⊎ ((fault ≡ Usage) × (a ≡ false)) → (fault ≡ Memory) ⊎ ((fault ≡ Usage) × (b ≡ false))

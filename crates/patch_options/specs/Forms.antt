@@ -1,6 +1,6 @@
 -- The forms that values have.
-use Rattle.std.specs.Prelude.{ℕ, ◌^◌, List, [], ◌∷◌, ◌++◌, codes, nat_le, nat_lt, Bool, true, false, not, ◌&&◌, ◌||◌, ◌==◌, if◌then◌else◌, bytes_eq, Option, None, Some, is_none, option_and_then}
-use Rattle.std.specs.List.{list_all, list_any}
+use Rattle.std.specs.Prelude.{ℕ, ◌^◌, List, [], ◌∷◌, ◌++◌, codes, nat_le, nat_lt, Bool, true, false, not, ◌&&◌, ◌||◌, ◌==◌, if◌then◌else◌, bytes_eq, Option, None, Some, is_none, nat_eq, option_and_then}
+use Rattle.std.specs.List.{list_all, list_any, starts_with}
 use Rattle.num_text.specs.Numbers.{number_at}
 use Rattle.outside.specs.Files.{is_temp}
 use Rattle.outside.specs.Names.{broken_given, given_form, is_here, is_slash, is_control}
@@ -8,6 +8,8 @@ use Rattle.hunk_core.specs.declared.Form.{Form}
 use Rattle.hunk_core.specs.declared.Form.TheVariants.{Unified, Context}
 use Rattle.patch_options.specs.declared.options.PlanKind.{PlanKind}
 use Rattle.patch_options.specs.declared.options.PlanKind.TheVariants.{Whole, Padded, Packed, Auto}
+use Rattle.patch_options.specs.declared.options.SyncKind.{SyncKind}
+use Rattle.patch_options.specs.declared.options.SyncKind.TheVariants.{Each, Never}
 
 abbrev pub is_empty : List ℕ → Bool
 is_empty [] = true
@@ -46,17 +48,51 @@ reject_form_of text = if bytes_eq text (codes "context") then Some Context
 unfoldable pub is_suffix : List ℕ → Bool
 is_suffix text = not (is_empty text) && (not (list_any is_slash text) && (not (list_any is_control text) && not (is_temp text)))
 
--- the kind of backups that a text names, where it is one of those that there are: none is asked for by it, and each has its one name
+-- a text is a word, or a front of it
+unfoldable pub is_front : List ℕ → List ℕ → Bool
+is_front text word = starts_with nat_eq word text
+
+-- it can be cut short from a kind of backups that there is: none is asked for by it, and each has its one name
+abbrev pub is_kind_front : List ℕ → Bool
+is_kind_front text = (is_front text (codes "none") || is_front text (codes "off")) || (is_front text (codes "simple") || is_front text (codes "never"))
+
+-- it can be cut short from a kind that numbers backups
+abbrev pub is_numbered_front : List ℕ → Bool
+is_numbered_front text = (is_front text (codes "existing") || is_front text (codes "nil")) || (is_front text (codes "numbered") || is_front text (codes "t"))
+
+-- the text names a kind of backups that there is, whole or cut short, and no other kind
 unfoldable pub is_backup_kind : List ℕ → Bool
-is_backup_kind text = bytes_eq text (codes "simple") || bytes_eq text (codes "never")
+is_backup_kind text = is_kind_front text && not (is_numbered_front text)
 
-abbrev pub is_none_asked : Option ℕ → Bool
-is_none_asked None = false
-is_none_asked (Some n) = n == 0
+abbrev pub is_digit : ℕ → Bool
+is_digit b = nat_le 48 b && nat_le b 57
 
--- files are got from no other system: the number is 0
+abbrev pub are_digits : List ℕ → Bool
+are_digits text = not (is_empty text) && list_all is_digit text
+
+-- digits, behind a sign or none; + 43, - 45
+abbrev pub is_signed : List ℕ → Bool
+is_signed [] = false
+is_signed (b ∷ bs) = if (b == 43) || (b == 45) then are_digits bs else are_digits (b ∷ bs)
+
+-- a number of any size: whatever it is, files are got from no other system
 unfoldable pub is_get : List ℕ → Bool
-is_get text = is_none_asked (number_of text)
+is_get text = is_signed text
+
+-- a way to write names that GNU `patch` has: here they are written as they are
+unfoldable pub is_quoting_style : List ℕ → Bool
+is_quoting_style text = (bytes_eq text (codes "literal") || bytes_eq text (codes "shell"))
+    || (bytes_eq text (codes "shell-always") || (bytes_eq text (codes "c") || bytes_eq text (codes "escape")))
+
+-- what is done about files that may not be written, where a run goes on
+unfoldable pub is_read_only : List ℕ → Bool
+is_read_only text = bytes_eq text (codes "warn") || bytes_eq text (codes "ignore")
+
+-- when what is written is on the disk, as a text names it
+unfoldable pub sync_of : List ℕ → Option SyncKind
+sync_of text = if bytes_eq text (codes "each") then Some Each
+    else if bytes_eq text (codes "none") then Some Never
+    else None
 
 -- a letter or an underscore
 abbrev pub begins_name : ℕ → Bool

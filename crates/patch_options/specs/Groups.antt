@@ -1,6 +1,5 @@
 -- The table of the words of `patch` (POSIX `patch`, OPTIONS; the manual of GNU diffutils, section 'patch Options').
-use Rattle.std.specs.Prelude.{ℕ, List, [], ◌∷◌, ◌++◌, codes}
-use Rattle.clap.specs.Words.{Text}
+use Rattle.std.specs.Prelude.{List, [], ◌∷◌, ◌++◌, codes}
 use Rattle.patch_options.specs.Simple.{PlainWord, named, operand, option, switch, long_switch}
 
 -- what is read, and how it is taken; the letters in ASCII: p 112, d 100, i 105, c 99, e 101, n 110, u 117, R 82, F 70, l 108, N 78, t 116, f 102
@@ -15,7 +14,7 @@ input_words = operand (codes "file") ∷ operand (codes "patchfile") ∷ option 
 abbrev pub output_words : List PlainWord
 output_words = option 111 (codes "output") ∷ option 114 (codes "reject-file") ∷ named (codes "reject-format")
     ∷ option 68 (codes "ifdef") ∷ switch 69 (codes "remove-empty-files") ∷ long_switch (codes "dry-run")
-    ∷ switch 115 (codes "silent") ∷ long_switch (codes "quiet") ∷ long_switch (codes "verbose") ∷ []
+    ∷ switch 115 (codes "silent") ∷ long_switch (codes "quiet") ∷ long_switch (codes "verbose") ∷ named (codes "sync") ∷ []
 
 -- what is kept of old bytes; b 98, z 122, B 66, V 86
 abbrev pub backup_words : List PlainWord
@@ -29,7 +28,7 @@ line_words = named (codes "plan") ∷ named (codes "buffer") ∷ []
 
 -- what other programs pass, and what changes nothing; g 103
 abbrev pub other_words : List PlainWord
-other_words = option 103 (codes "get") ∷ long_switch (codes "binary") ∷ []
+other_words = option 103 (codes "get") ∷ long_switch (codes "binary") ∷ named (codes "quoting-style") ∷ named (codes "read-only") ∷ []
 
 abbrev pub patch_table : List PlainWord
 patch_table = input_words ++ (output_words ++ (backup_words ++ (line_words ++ other_words)))

@@ -2,7 +2,9 @@ pub mod Forms
 pub mod Groups
 pub mod HasNames
 pub mod PlainJob
+pub mod Repeats
 pub mod Simple
 pub mod Table
 pub mod Usage
+pub mod Whole
 pub mod Words

@@ -7,6 +7,7 @@ use Rattle.hunk_core.specs.declared.Form.{Form}
 use Rattle.hunk_core.specs.declared.Form.TheVariants.{Normal, Ed}
 use Rattle.patch_options.specs.Forms.{is_macro_name}
 use Rattle.patch_options.specs.declared.options.PlanKind.{PlanKind}
+use Rattle.patch_options.specs.declared.options.SyncKind.{SyncKind}
 use Rattle.patch_options.specs.declared.options.Input.{Input}
 use Rattle.patch_options.specs.declared.options.Options.{Options}
 use Rattle.patch_options.specs.declared.options.Job.{Job}
@@ -42,6 +43,7 @@ pub record PlainOptions : Type 0 where
   pub verbose : Bool
   pub plan : PlanKind
   pub buffer : ℕ
+  pub sync : SyncKind
 
 abbrev pub plain_options : Options → PlainOptions
 plain_options o = record {
@@ -73,6 +75,7 @@ plain_options o = record {
   verbose = o.verbose;
   plan = o.plan;
   buffer = o.buffer;
+  sync = o.sync;
 }
 
 pub data PlainJob : Type 0 where

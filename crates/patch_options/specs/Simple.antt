@@ -63,9 +63,13 @@ with_rules app (rule ∷ rules) = with_rules (with_rule app rule) rules
 abbrev pub without_help : App → App
 without_help app = record app { top = record app.top { disable_help_flag = true } }
 
+-- with an option that is given again, its last value counts
+abbrev pub with_last_values : App → App
+with_last_values app = record app { top = record app.top { args_override_self = true } }
+
 -- the command with these arguments
 unfoldable pub simple_command : Text → List PlainWord → App
-simple_command name table = with_rules (without_help (new_app name)) (map word_rule table)
+simple_command name table = with_rules (with_last_values (without_help (new_app name))) (map word_rule table)
 
 abbrev pub is_empty : Kinds → Bool
 is_empty [] = true

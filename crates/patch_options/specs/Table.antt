@@ -1,21 +1,18 @@
 -- What each switch and each value of `patch` gives, over what `clap` matched.
-use Rattle.std.specs.Prelude.{ℕ, ◌+◌, List, [], ◌∷◌, codes, nat_le, nat_lt, Bool, true, false, not, ◌&&◌, ◌||◌, if◌then◌else◌, bytes_eq, Option, None, Some, is_some, option_map, option_and_then, unwrap_or}
-use Rattle.std.specs.List.{list_all}
+use Rattle.std.specs.Prelude.{ℕ, ◌+◌, List, codes, nat_le, nat_lt, Bool, true, false, not, ◌&&◌, ◌||◌, if◌then◌else◌, bytes_eq, Option, None, Some, is_some, option_map, option_and_then, unwrap_or}
 use Rattle.std.specs.Option.{option_map_or}
 use Rattle.std.specs.Borrow.{Bor}
 use Rattle.clap.specs.Words.{Row, Text, count_of, first_of}
 use Rattle.outside.specs.Names.{given_form, is_here}
 use Rattle.hunk_core.specs.declared.Form.{Form}
 use Rattle.hunk_core.specs.declared.Form.TheVariants.{Unified, Context, Normal, Ed}
-use Rattle.patch_options.specs.Forms.{number_of, buffer_of, plan_of, reject_form_of, is_suffix, is_backup_kind, is_get, is_macro_name, is_prefix, is_lasting_name, is_output, is_reject_file, is_directory, is_patch_file}
-use Rattle.patch_options.specs.Groups.{patch_table}
+use Rattle.patch_options.specs.Forms.{number_of, buffer_of, plan_of, reject_form_of, is_suffix, is_backup_kind, is_get, is_quoting_style, is_read_only, sync_of, is_macro_name, is_prefix, is_lasting_name, is_output, is_reject_file, is_directory, is_patch_file}
 use Rattle.patch_options.specs.PlainJob.{PlainOptions}
-use Rattle.patch_options.specs.Simple.{PlainWord}
 use Rattle.patch_options.specs.declared.options.PlanKind.TheVariants.{Auto}
+use Rattle.patch_options.specs.declared.options.SyncKind.{SyncKind}
+use Rattle.patch_options.specs.declared.options.SyncKind.TheVariants.{Each}
 use Rattle.patch_options.specs.declared.options.Input.{Input}
 use Rattle.patch_options.specs.declared.options.Input.TheVariants.{Standard, File}
-use Rattle.patch_options.specs.declared.simple.WordForm.{WordForm}
-use Rattle.patch_options.specs.declared.simple.WordForm.TheVariants.{Switch, Letter, Value, Values, Operand}
 
 -- how often the switch was given
 unfoldable pub uses : List Row → Text → ℕ
@@ -24,40 +21,24 @@ uses rows name = count_of name rows
 abbrev pub is_used : List Row → Text → Bool
 is_used rows name = nat_lt 0 (uses rows name)
 
-abbrev pub is_single : List Row → Text → Bool
-is_single rows name = nat_le (uses rows name) 1
-
--- what is asked of a switch alone
-abbrev pub when_switch : WordForm → Bool → Bool
-when_switch Switch b = b
-when_switch Letter b = b
-when_switch Value b = true
-when_switch Values b = true
-when_switch Operand b = true
-
 abbrev pub are_both_used : List Row → Text → Text → Bool
 are_both_used rows one other = is_used rows one && is_used rows other
 
-abbrev pub form_uses : List Row → ℕ
-form_uses rows = uses rows (codes "context") + uses rows (codes "ed") + uses rows (codes "normal") + uses rows (codes "unified")
+abbrev pub one_if : Bool → ℕ
+one_if b = if b then 1 else 0
 
--- a word is no switch, or is given once at most
-abbrev pub is_given_once : List Row → PlainWord → Bool
-is_given_once rows w = when_switch w.form (is_single rows w.name)
-
--- no switch is given twice
-unfoldable pub are_single : List Row → Bool
-are_single rows = list_all (is_given_once rows) patch_table
+-- how many forms the patch text may have alone
+abbrev pub forms_named : List Row → ℕ
+forms_named rows = one_if (is_used rows (codes "context")) + one_if (is_used rows (codes "ed")) + one_if (is_used rows (codes "normal")) + one_if (is_used rows (codes "unified"))
 
 abbrev pub exclusions_hold : List Row → Bool
-exclusions_hold rows = not (are_both_used rows (codes "backup-if-mismatch") (codes "no-backup-if-mismatch"))
-    && (not (are_both_used rows (codes "silent") (codes "verbose")) && not (are_both_used rows (codes "silent") (codes "quiet")))
+exclusions_hold rows = not (are_both_used rows (codes "backup-if-mismatch") (codes "no-backup-if-mismatch")) && not (are_both_used rows (codes "silent") (codes "verbose"))
 
--- no switch is given twice, and no two that exclude each other
+-- no two switches that exclude each other
 abbrev pub switches_agree : List Row → Bool
-switches_agree rows = are_single rows && (nat_le (form_uses rows) 1 && exclusions_hold rows)
+switches_agree rows = nat_le (forms_named rows) 1 && exclusions_hold rows
 
--- the value of an option or an operand
+-- the value of an option, the last one where it was given more than once, or of an operand
 unfoldable pub value_of : List Row → Text → Option Text
 value_of rows name = first_of name rows
 
@@ -75,9 +56,16 @@ words_agree rows = has_form (λ t. is_some (plan_of t)) (value_of rows (codes "p
     && (has_form (λ t. is_some (reject_form_of t)) (value_of rows (codes "reject-format"))
     && (has_form is_suffix (value_of rows (codes "suffix")) && has_form is_backup_kind (value_of rows (codes "version-control"))))
 
--- numbers, words, the suffix and the name that conditions test have their forms; what `get` and `version-control` ask for is so in any case
+abbrev pub writing_agrees : List Row → Bool
+writing_agrees rows = has_form is_read_only (value_of rows (codes "read-only")) && has_form (λ t. is_some (sync_of t)) (value_of rows (codes "sync"))
+
+abbrev pub others_agree : List Row → Bool
+others_agree rows = has_form is_quoting_style (value_of rows (codes "quoting-style")) && writing_agrees rows
+
+-- numbers, words, the suffix and the name that conditions test have their forms; what `get`, `version-control`, `quoting-style` and
+-- `read-only` ask for is so in any case
 abbrev pub values_agree : List Row → Bool
-values_agree rows = numbers_agree rows && (words_agree rows && has_form is_macro_name (value_of rows (codes "ifdef")))
+values_agree rows = numbers_agree rows && (words_agree rows && (others_agree rows && has_form is_macro_name (value_of rows (codes "ifdef"))))
 
 -- the text behind a reference
 abbrev pub text_of : Option (Bor Text) → Option Text
@@ -114,6 +102,10 @@ only_form rows = if is_used rows (codes "context") then Some Context
 -- a backup is made where a hunk failed or stands elsewhere than it says; with `--posix` only where that is asked for
 abbrev pub mismatch_backup : List Row → Bool
 mismatch_backup rows = if is_used rows (codes "posix") then is_used rows (codes "backup-if-mismatch") else not (is_used rows (codes "no-backup-if-mismatch"))
+
+-- when what is written is on the disk
+abbrev pub sync_in : List Row → SyncKind
+sync_in rows = unwrap_or (option_and_then sync_of (value_of rows (codes "sync"))) Each
 
 abbrev pub first_given : Option Text → Option Text → Option Text
 first_given None other = other
@@ -165,4 +157,5 @@ options_of rows = record {
   verbose = is_used rows (codes "verbose");
   plan = unwrap_or (option_and_then plan_of (value_of rows (codes "plan"))) Auto;
   buffer = unwrap_or (option_and_then buffer_of (value_of rows (codes "buffer"))) 65536;
+  sync = sync_in rows;
 }

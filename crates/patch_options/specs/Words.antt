@@ -3,6 +3,7 @@ use Rattle.std.specs.Prelude.{List, [], ◌∷◌, codes, if◌then◌else◌, b
 use Rattle.clap.specs.Words.{App, Row, Text}
 use Rattle.patch_options.specs.Groups.{patch_table}
 use Rattle.patch_options.specs.Simple.{simple_command, takes, rows_by}
+use Rattle.patch_options.specs.Whole.{whole_words}
 use Rattle.patch_options.specs.Table.{is_command, options_of}
 use Rattle.patch_options.specs.PlainJob.{PlainJob}
 use Rattle.patch_options.specs.PlainJob.PlainJob.{patch}
@@ -16,9 +17,13 @@ matched_job rows = if is_command rows then Ok (patch (options_of rows)) else Err
 unfoldable pub patch_command : App
 patch_command = simple_command (codes "patch") patch_table
 
+-- what the words of `patch` ask for whose long names are whole
+unfoldable pub whole_job : List Text → Result PlainJob WordFault
+whole_job words = if takes patch_command words then matched_job (rows_by patch_command words) else Err Usage
+
 -- what the words of `patch` ask for
 unfoldable pub patch_job : List Text → Result PlainJob WordFault
-patch_job words = if takes patch_command words then matched_job (rows_by patch_command words) else Err Usage
+patch_job words = whole_job (whole_words patch_table words)
 
 -- what the words ask for; the first is `patch`
 abbrev pub job_of : List Text → Result PlainJob WordFault

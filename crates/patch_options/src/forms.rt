@@ -2,9 +2,9 @@
 ghost use Rattle.std.specs.Prelude.{◌≡◌, ◌&&◌, ◌||◌, nat_le};
 ghost use Rattle.std.specs.List.{list_all};
 ghost use Rattle.outside.specs.Files.{is_temp};
-ghost use Rattle.patch_options.specs.Forms.{number_of, buffer_of, plan_of, reject_form_of, is_suffix, is_backup_kind, is_get, begins_name, goes_on_name, is_macro_name};
+ghost use Rattle.patch_options.specs.Forms.{number_of, buffer_of, plan_of, reject_form_of, is_suffix, is_front, is_kind_front, is_numbered_front, is_backup_kind, is_digit, are_digits, is_get, is_quoting_style, is_read_only, sync_of, begins_name, goes_on_name, is_macro_name};
 
-use crate::PlanKind;
+use crate::{PlanKind, SyncKind};
 use hunk_core::Form;
 use num_text::{Number, read_number};
 use outside::is_ending;
@@ -66,20 +66,99 @@ pub fn is_suffix(text: &str) -> bool
     !ends_as_temporary(text)
 }
 
-/// Whether the text names a kind of backups that there is: each backup has its one name, and none is asked for by this word.
+/// Whether the text is the word, or a front of it.
+#[tactic(auto, unfolding(crate::specs::Forms::is_front))]
+pub fn is_front(text: &str, word: &str) -> bool
+    ensures { result ≡ is_front text.now word.now }
+{
+    word.as_bytes().starts_with(text.as_bytes())
+}
+
+/// Whether the text names a kind of backups that there is, and none that numbers them: each backup has its one name, and none is asked
+/// for by this word.
 #[tactic(auto, unfolding(crate::specs::Forms::is_backup_kind))]
 pub fn is_backup_kind(text: &str) -> bool
     ensures { result ≡ is_backup_kind text.now }
 {
-    text == "simple" || text == "never"
+    is_kind_front(text) && !is_numbered_front(text)
 }
 
-/// Whether the text is the number 0: files are got from no other system.
+fn is_kind_front(text: &str) -> bool
+    ensures { result ≡ is_kind_front text.now }
+{
+    is_one_front(text, "none", "off") || is_one_front(text, "simple", "never")
+}
+
+fn is_numbered_front(text: &str) -> bool
+    ensures { result ≡ is_numbered_front text.now }
+{
+    is_one_front(text, "existing", "nil") || is_one_front(text, "numbered", "t")
+}
+
+fn is_one_front(text: &str, one: &str, other: &str) -> bool
+    ensures { result ≡ (is_front text.now one.now || is_front text.now other.now) }
+{
+    is_front(text, one) || is_front(text, other)
+}
+
+/// Whether the text writes a number, behind a sign or none. Files are got from no other system, whatever it is.
 #[tactic(auto, unfolding(crate::specs::Forms::is_get))]
 pub fn is_get(text: &str) -> bool
     ensures { result ≡ is_get text.now }
 {
-    number_of(text) == Some(0)
+    match text.as_bytes() {
+        [b'+' | b'-', rest @ ..] => are_digits(rest),
+        digits => are_digits(digits),
+    }
+}
+
+fn are_digits(text: &[u8]) -> bool
+    ensures { result ≡ are_digits text.now }
+{
+    !text.is_empty() && all_digits(text)
+}
+
+fn all_digits(text: &[u8]) -> bool
+    ensures { result ≡ list_all is_digit text.now }
+{
+    text.iter().all(|byte| is_digit(*byte))
+}
+
+fn is_digit(byte: u8) -> bool
+    ensures { result ≡ is_digit byte }
+{
+    b'0' <= byte && byte <= b'9'
+}
+
+/// Whether GNU `patch` writes names in a way that the text names. Here they are written as they are.
+#[tactic(auto, unfolding(crate::specs::Forms::is_quoting_style))]
+pub fn is_quoting_style(text: &str) -> bool
+    ensures { result ≡ is_quoting_style text.now }
+{
+    match text {
+        "literal" | "shell" | "shell-always" | "c" | "escape" => true,
+        _ => false,
+    }
+}
+
+/// Whether the text says what is done about files that may not be written, where a run goes on.
+#[tactic(auto, unfolding(crate::specs::Forms::is_read_only))]
+pub fn is_read_only(text: &str) -> bool
+    ensures { result ≡ is_read_only text.now }
+{
+    text == "warn" || text == "ignore"
+}
+
+/// When what is written is on the disk, if the text says that.
+#[tactic(auto, unfolding(crate::specs::Forms::sync_of))]
+pub fn sync_of(text: &str) -> Option<SyncKind>
+    ensures { result ≡ sync_of text.now }
+{
+    match text {
+        "each" => Some(SyncKind::Each),
+        "none" => Some(SyncKind::Never),
+        _ => None,
+    }
 }
 
 /// Whether a condition of the C preprocessor can test the name.

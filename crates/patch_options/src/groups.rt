@@ -195,6 +195,13 @@ const OUTPUT: &[Word] = &[
         shown: "--verbose",
         help: "say also which hunks stand where they say",
     },
+    Word {
+        form: WordForm::Value,
+        letter: None,
+        name: "sync",
+        shown: "--sync=each|none",
+        help: "wait for the disk at each file (each), or never",
+    },
 ];
 
 const BACKUPS: &[Word] = &[
@@ -241,7 +248,7 @@ const BACKUPS: &[Word] = &[
         form: WordForm::Value,
         letter: Some('V'),
         name: "version-control",
-        shown: "-V KIND, --version-control=simple|never",
+        shown: "-V KIND, --version-control=none|off|simple|never",
         help: "changes nothing",
     },
 ];
@@ -268,8 +275,8 @@ const OTHERS: &[Word] = &[
         form: WordForm::Value,
         letter: Some('g'),
         name: "get",
-        shown: "-g 0, --get=0",
-        help: "get no file from a version control system",
+        shown: "-g N, --get=N",
+        help: "changes nothing: no file is got from elsewhere",
     },
     Word {
         form: WordForm::Switch,
@@ -277,6 +284,20 @@ const OTHERS: &[Word] = &[
         name: "binary",
         shown: "--binary",
         help: "lines end with a line feed in any case",
+    },
+    Word {
+        form: WordForm::Value,
+        letter: None,
+        name: "quoting-style",
+        shown: "--quoting-style=literal|shell|shell-always|c|escape",
+        help: "changes nothing: names are written as they are",
+    },
+    Word {
+        form: WordForm::Value,
+        letter: None,
+        name: "read-only",
+        shown: "--read-only=warn|ignore",
+        help: "changes nothing",
     },
 ];
 

@@ -8,15 +8,18 @@ mod options;
 mod simple;
 mod table;
 mod telling;
+mod whole;
 mod words;
 
 pub use forms::number_of;
 pub use groups::patch_table;
 pub use names::{input_of, lasting_name_of, read_name};
-pub use options::{Input, Job, Options, PlanKind, WordFault};
-pub use simple::{Group, Word, WordForm, matched_by, values_of};
+pub use options::{Input, Job, Options, PlanKind, SyncKind, WordFault};
+pub use simple::{Group, Word, WordForm, last_values_count, matched_by, values_of};
 pub use table::{
-    buffer_in, is_buffer, is_number, is_plan, is_used, number_in, plan_in, uses, value_of,
+    buffer_in, is_buffer, is_number, is_plan, is_sync, is_used, number_in, plan_in, sync_in,
+    value_of,
 };
 pub use telling::{patch_usage, usage_of};
+pub use whole::{whole_words, whole_words_stay};
 pub use words::read_words;

@@ -25,6 +25,15 @@ pub enum PlanKind {
     Auto,
 }
 
+/// When what a run writes is on the disk.
+#[derive(Clone, Copy, Debug)]
+pub enum SyncKind {
+    /// Each file, before its name is changed; and the names.
+    Each,
+    /// When the system has it there.
+    Never,
+}
+
 /// One command of `patch`. Names are as given, without the directory before them.
 #[derive(Drop, Debug)]
 pub struct Options {
@@ -72,6 +81,8 @@ pub struct Options {
     pub plan: PlanKind,
     /// The size of a page in bytes, which bounds the lines of the file.
     pub buffer: u32,
+    /// It changes nothing but what the loss of power can leave.
+    pub sync: SyncKind,
 }
 
 /// What a tool is asked for.

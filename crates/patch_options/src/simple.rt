@@ -1,7 +1,10 @@
 //! Simple commands: the table of a tool's words, and what `clap` matches by it.
-ghost use Rattle.std.specs.Prelude.{◌≡◌, ◌≢◌, ◌⊎◌, map, string_bytes, true, false, option_map, IfOk, IfErr};
-ghost use Rattle.clap.specs.Words.{app_of, is_simple_and_free, kind_of, new_rule, rule_of};
-ghost use Rattle.patch_options.specs.Simple.{plain_word, plain_table, with_rules, word_rule, simple_command, takes, rows_by, rows_in, values_of};
+ghost use Rattle.std.specs.Prelude.{◌≡◌, ◌≢◌, ◌⊎◌, ℕ, List, Option, Some, map, string_bytes, true, false, option_map, IfOk, IfErr};
+ghost use Rattle.clap.specs.Words.{Row, Text, app_of, is_simple_and_free, kind_of, new_rule, rule_of};
+ghost use Rattle.patch_options.specs.Repeats.{HasOne, with_switch, with_value};
+ghost use Rattle.patch_options.specs.Table.{is_used, value_of};
+ghost use Rattle.patch_options.specs.declared.simple.WordForm.TheVariants.{Switch, Value};
+ghost use Rattle.patch_options.specs.Simple.{a_word, plain_word, plain_table, with_rules, word_rule, simple_command, takes, rows_by, rows_in, values_of};
 
 use crate::WordFault;
 use clap::error::ErrorKind;
@@ -15,9 +18,9 @@ pub enum WordForm {
     Switch,
     /// A switch that has a letter alone.
     Letter,
-    /// An option with a value, which is given once at most.
+    /// An option with a value. Its last value counts.
     Value,
-    /// An option with a value, which is given any number of times.
+    /// An option whose values all count.
     Values,
     /// An operand. Operands stand in the order of their rows.
     Operand,
@@ -76,7 +79,7 @@ pub fn why_refused(error: &Error) -> WordFault
     }
 }
 
-/// The simple command, without help and version flags and with no rules between its arguments.
+/// The simple command, without help and version flags and with no rules between its arguments. A value that is given again counts.
 fn command_of<'a>(
     alloc: Global,
     name: &'a str,
@@ -84,7 +87,9 @@ fn command_of<'a>(
 ) -> Result<Command<'a>, AllocError>
     ensures { IfOk result (λ c. app_of c ≡ simple_command name.entry.now (plain_table table.entry.now)) }
 {
-    let mut command = Command::new(alloc, name).disable_help_flag(true);
+    let mut command = Command::new(alloc, name)
+        .disable_help_flag(true)
+        .args_override_self(true);
     for group in table {
         command = match with_words(alloc, command, group.words) {
             Ok(longer) => longer,
@@ -140,6 +145,15 @@ fn lettered<'a>(alloc: Global, word: &'a Word) -> Arg<'a>
         None => Arg::new(alloc, word.name),
     }
 }
+
+/// An option that is given again is as if its first value hadn't been given, and a switch that is given is used, however often. A name
+/// is matched in one row at most, which stays so.
+pub fn last_values_count()
+    ensures again { (place : ℕ) (letter : Option ℕ) (name first last : Text) (rows : List Row) → HasOne name rows → with_value place (a_word Value letter name) last (with_value place (a_word Value letter name) first rows) ≡ with_value place (a_word Value letter name) last rows }
+    ensures value { (place : ℕ) (letter : Option ℕ) (name value : Text) (rows : List Row) → HasOne name rows → value_of (with_value place (a_word Value letter name) value rows) name ≡ Some value }
+    ensures one { (place : ℕ) (letter : Option ℕ) (name value : Text) (rows : List Row) → HasOne name rows → HasOne name (with_value place (a_word Value letter name) value rows) }
+    ensures switch { (place : ℕ) (letter : Option ℕ) (name : Text) (rows : List Row) → HasOne name rows → is_used (with_switch place (a_word Switch letter name) rows) name ≡ true }
+{}
 
 /// All values of an option in their order, if it was given.
 pub fn values_of<'m, 'a>(matches: &'m ArgMatches<'a>, name: &str) -> Option<&'m [&'a str]>

@@ -1,18 +1,17 @@
 //! What each switch and each value of `patch` gives.
 ghost use Rattle.std.specs.Prelude.{◌≡◌, ◌⊎◌, ◌||◌, ◌<◌, codes, true, false, is_some, IfOk, IfErr, string_bytes, option_map, option_and_then, unwrap_or};
-ghost use Rattle.std.specs.List.{list_all};
-ghost use Rattle.patch_options.specs.Forms.{number_of, buffer_of, plan_of, reject_form_of, is_suffix, is_backup_kind, is_get, is_macro_name};
+ghost use Rattle.patch_options.specs.Forms.{number_of, buffer_of, plan_of, reject_form_of, is_suffix, is_backup_kind, is_get, is_quoting_style, is_read_only, sync_of, is_macro_name};
 ghost use Rattle.patch_options.specs.HasNames.{HasNames};
 ghost use Rattle.patch_options.specs.PlainJob.{plain_options};
-ghost use Rattle.patch_options.specs.Simple.{plain_word, rows_in};
-ghost use Rattle.patch_options.specs.Table.{uses, value_of, text_of, has_form, is_used, is_given_once, are_both_used, form_uses, are_single, exclusions_hold, switches_agree, numbers_agree, words_agree, values_agree, is_command, options_of, only_form, mismatch_backup};
+ghost use Rattle.patch_options.specs.Simple.{rows_in};
+ghost use Rattle.patch_options.specs.Table.{uses, value_of, text_of, has_form, is_used, are_both_used, forms_named, exclusions_hold, switches_agree, numbers_agree, words_agree, writing_agrees, others_agree, values_agree, is_command, options_of, only_form, mismatch_backup, sync_in};
 
 use crate::forms::{
-    buffer_of, is_backup_kind, is_get, is_macro_name, is_suffix, number_of, plan_of, reject_form_of,
+    buffer_of, is_backup_kind, is_get, is_macro_name, is_quoting_style, is_read_only, is_suffix,
+    number_of, plan_of, reject_form_of, sync_of,
 };
-use crate::groups::patch_table;
 use crate::names::{Names, read_names};
-use crate::{Options, PlanKind, Word, WordFault, WordForm};
+use crate::{Options, PlanKind, SyncKind, WordFault};
 use clap::ArgMatches;
 use hunk_core::Form;
 use std::alloc::{AllocError, Global};
@@ -69,19 +68,20 @@ fn options_of(matches: &ArgMatches<'_>, names: Names, texts: Texts) -> Options
         verbose: is_used(matches, "verbose"),
         plan: plan_in(matches),
         buffer: buffer_in(matches),
+        sync: sync_in(matches),
     }
 }
 
 /// How often the switch was given.
 #[tactic(auto, unfolding(crate::specs::Table::uses))]
-pub fn uses(matches: &ArgMatches<'_>, name: &str) -> u32
+fn uses(matches: &ArgMatches<'_>, name: &str) -> u32
     ensures uses { result ≡ uses (rows_in matches.now) name.now }
     ensures few { result < 256 }
 {
     u32::from(matches.get_count(name))
 }
 
-/// The value of an option or an operand.
+/// The value of an option, the last one where it was given more than once, or of an operand.
 #[tactic(auto, unfolding(crate::specs::Table::value_of))]
 pub fn value_of<'a>(matches: &ArgMatches<'a>, name: &str) -> Option<&'a str>
     ensures { text_of result ≡ value_of (rows_in matches.now) name.now }
@@ -108,75 +108,41 @@ fn are_both_used(matches: &ArgMatches<'_>, one: &str, other: &str) -> bool
     is_used(matches, one) && is_used(matches, other)
 }
 
-/// Whether no switch was given twice, and no two that exclude each other.
+/// Whether no two switches were given that exclude each other.
 fn switches_agree(matches: &ArgMatches<'_>) -> bool
     ensures { result ≡ switches_agree (rows_in matches.now) }
 {
-    are_single(matches) && form_uses(matches) <= 1 && exclusions_hold(matches)
+    forms_named(matches) <= 1 && exclusions_hold(matches)
 }
 
-/// Whether no switch was given twice.
-fn are_single(matches: &ArgMatches<'_>) -> bool
-    ensures { result ≡ are_single (rows_in matches.now) }
-{
-    let groups = patch_table();
-    for group in groups {
-        if !each_single(matches, group.words) {
-            return false;
-        }
-    }
-    true
-}
-
-fn each_single(matches: &ArgMatches<'_>, words: &[Word]) -> bool
-    ensures { result ≡ list_all (λ w. is_given_once (rows_in matches.now) (plain_word w)) words.now }
-{
-    for word in words {
-        if !is_given_once(matches, word) {
-            return false;
-        }
-    }
-    true
-}
-
-/// Whether the word is no switch, or was given once at most.
-fn is_given_once(matches: &ArgMatches<'_>, word: &Word) -> bool
-    ensures { result ≡ is_given_once (rows_in matches.now) (plain_word word.now) }
-{
-    match word.form {
-        WordForm::Switch | WordForm::Letter => uses(matches, word.name) <= 1,
-        _ => true,
-    }
-}
-
-/// Whether no two switches were given together that exclude each other.
+/// Whether no two switches were given together that exclude each other, but for those of forms.
 fn exclusions_hold(matches: &ArgMatches<'_>) -> bool
     ensures { result ≡ exclusions_hold (rows_in matches.now) }
 {
     if are_both_used(matches, "backup-if-mismatch", "no-backup-if-mismatch") {
         return false;
     }
-    if are_both_used(matches, "silent", "verbose") {
-        return false;
-    }
-    !are_both_used(matches, "silent", "quiet")
+    !are_both_used(matches, "silent", "verbose")
 }
 
-/// How often a switch was given that admits one form alone.
-fn form_uses(matches: &ArgMatches<'_>) -> u32
-    ensures { result ≡ form_uses (rows_in matches.now) }
+/// How many switches were given that admit one form alone.
+fn forms_named(matches: &ArgMatches<'_>) -> u32
+    ensures { result ≡ forms_named (rows_in matches.now) }
 {
-    uses(matches, "context")
-        + uses(matches, "ed")
-        + uses(matches, "normal")
-        + uses(matches, "unified")
+    u32::from(is_used(matches, "context"))
+        + u32::from(is_used(matches, "ed"))
+        + u32::from(is_used(matches, "normal"))
+        + u32::from(is_used(matches, "unified"))
 }
 
 /// Whether numbers, words, the suffix and the name that conditions test have their forms.
 fn values_agree(matches: &ArgMatches<'_>) -> bool
     ensures { result ≡ values_agree (rows_in matches.now) }
 {
-    numbers_agree(matches) && words_agree(matches) && has_macro_name(value_of(matches, "ifdef"))
+    numbers_agree(matches)
+        && words_agree(matches)
+        && others_agree(matches)
+        && has_macro_name(value_of(matches, "ifdef"))
 }
 
 fn numbers_agree(matches: &ArgMatches<'_>) -> bool
@@ -185,7 +151,7 @@ fn numbers_agree(matches: &ArgMatches<'_>) -> bool
     is_number(value_of(matches, "strip"))
         && is_number(value_of(matches, "fuzz"))
         && is_buffer(value_of(matches, "buffer"))
-        && gets_nothing(value_of(matches, "get"))
+        && has_get_form(value_of(matches, "get"))
 }
 
 fn words_agree(matches: &ArgMatches<'_>) -> bool
@@ -195,6 +161,18 @@ fn words_agree(matches: &ArgMatches<'_>) -> bool
         && is_reject_form(value_of(matches, "reject-format"))
         && has_suffix_form(value_of(matches, "suffix"))
         && has_backup_kind(value_of(matches, "version-control"))
+}
+
+fn others_agree(matches: &ArgMatches<'_>) -> bool
+    ensures { result ≡ others_agree (rows_in matches.now) }
+{
+    has_quoting_style(value_of(matches, "quoting-style")) && writing_agrees(matches)
+}
+
+fn writing_agrees(matches: &ArgMatches<'_>) -> bool
+    ensures { result ≡ writing_agrees (rows_in matches.now) }
+{
+    has_read_only(value_of(matches, "read-only")) && is_sync(value_of(matches, "sync"))
 }
 
 /// Whether the text, if it was given, writes a number.
@@ -223,6 +201,34 @@ pub fn is_plan(text: Option<&str>) -> bool
 {
     match text {
         Some(text) => plan_of(text).is_some(),
+        None => true,
+    }
+}
+
+/// Whether the text, if it was given, says when what is written is on the disk.
+pub fn is_sync(text: Option<&str>) -> bool
+    ensures { result ≡ has_form (λ t. is_some (sync_of t)) (text_of text.entry) }
+{
+    match text {
+        Some(text) => sync_of(text).is_some(),
+        None => true,
+    }
+}
+
+fn has_quoting_style(text: Option<&str>) -> bool
+    ensures { result ≡ has_form is_quoting_style (text_of text.entry) }
+{
+    match text {
+        Some(text) => is_quoting_style(text),
+        None => true,
+    }
+}
+
+fn has_read_only(text: Option<&str>) -> bool
+    ensures { result ≡ has_form is_read_only (text_of text.entry) }
+{
+    match text {
+        Some(text) => is_read_only(text),
         None => true,
     }
 }
@@ -263,7 +269,7 @@ fn has_macro_name(text: Option<&str>) -> bool
     }
 }
 
-fn gets_nothing(text: Option<&str>) -> bool
+fn has_get_form(text: Option<&str>) -> bool
     ensures { result ≡ has_form is_get (text_of text.entry) }
 {
     match text {
@@ -315,6 +321,16 @@ fn reject_form_in(matches: &ArgMatches<'_>) -> Option<Form>
     match value_of(matches, "reject-format") {
         Some(text) => reject_form_of(text),
         None => None,
+    }
+}
+
+/// When what is written is on the disk.
+pub fn sync_in(matches: &ArgMatches<'_>) -> SyncKind
+    ensures { result ≡ sync_in (rows_in matches.now) }
+{
+    match value_of(matches, "sync") {
+        Some(text) => sync_of(text).unwrap_or(SyncKind::Each),
+        None => SyncKind::Each,
     }
 }
 

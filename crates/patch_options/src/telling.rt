@@ -14,7 +14,7 @@ Applies the file patches of a patch text to files.
 
 const BEHIND_PATCH: &str = "
   --help                      this text
-  --version                   the version
+  -v, --version               the version
 
 The status is 0 where every hunk was placed, 1 where one wasn't, else 2.
 ";

@@ -5,7 +5,8 @@ use crate::lines::{Lines, Part};
 use crate::mending::help_with;
 use crate::unfit::{add, copied, unfit_place};
 use crate::unsuited::put_unsuited;
-use crate::wanted::{wanted_by, with_value};
+use crate::wanted::{table_of, wanted_by, with_value};
+use patch_options::whole_words;
 use real_devices::Trouble;
 use run_answers::Why;
 
@@ -36,16 +37,23 @@ fn put_help(lines: &mut Lines, tool: &str, said: &str) {
 }
 
 /// The lines behind words that are not a command: the first that can't be taken, where one of them can't, or what is missing
-/// behind the last; and where the words are told.
+/// behind the last; and where the words are told. Long names are told whole.
 pub fn put_usage(lines: &mut Lines, tool: &str, words: &[String]) {
-    match unfit_place(lines, words) {
-        Some(place) => put_unfit(lines, tool, words, place),
-        None => put_lacking(lines, tool, words),
+    match whole_words(lines.alloc, table_of(tool), words) {
+        Ok(whole) => put_why(lines, tool, &whole),
+        Err(_) => lines.cut(),
     }
     lines.put_parts(
         "Try '# --help' for more information.\n",
         &[Part::Text(tool)],
     );
+}
+
+fn put_why(lines: &mut Lines, tool: &str, words: &[String]) {
+    match unfit_place(lines, words) {
+        Some(place) => put_unfit(lines, tool, words, place),
+        None => put_lacking(lines, tool, words),
+    }
 }
 
 /// The line of the word at this place, which can't be taken: where an option takes it as its value, or holds its value, what that

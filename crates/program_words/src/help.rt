@@ -1,11 +1,19 @@
 //! What the program tells of itself: its tools, and its version; and whose words are asked for.
 
 use crate::called::tool_of;
+use crate::wanted::table_of;
+use patch_options::whole_words;
+use std::alloc::{AllocError, Global};
 use tool_words::{Tool, tool_named};
 
-/// The version, and what the program is proved with, but for the letter of the kit, which differs from machine to machine. `make dist`
-/// reads it here.
-const VERSION: &str = "patchkit 0.1.0, proved with rattle-kit-13 logic dac8208d650f15bf\n";
+/// The version. `make dist` reads it here.
+const VERSION: &str = "0.1.0";
+
+/// What the program is proved with, but for the letter of the kit, which differs from machine to machine.
+const PROVED: &str = "proved with rattle-kit-13 logic dac8208d650f15bf";
+
+/// The version of the filters as which those of the same names work.
+const PATCHUTILS: &str = "0.4.2";
 
 /// The tools, one a line.
 const TOOLS: &str = "\
@@ -29,21 +37,34 @@ The tools:
 /// What is told.
 pub enum Telling {
     Text(&'static str),
+    /// The version of the tool of this name.
+    Version(&'static str),
     /// The words of `patch`.
     Patch,
     /// The words of another tool.
     Words(Tool),
 }
 
-/// What no word at all asks for, or the first `--help` or `--version` in front of a `--`. No command has these words there.
-pub fn told(words: &[String]) -> Option<Telling> {
+/// What no word at all asks for, or the first `--help` or `--version` in front of a `--`, whole or cut short. No command has these
+/// words there.
+pub fn told(alloc: Global, words: &[String]) -> Result<Option<Telling>, AllocError> {
     if words.is_empty() {
-        return Some(Telling::Text(TOOLS));
+        return Ok(Some(Telling::Text(TOOLS)));
     }
+    let tool = tool_of(words);
+    match whole_words(alloc, table_of(tool), words) {
+        Ok(whole) => Ok(told_in(&whole, tool)),
+        Err(error) => Err(error),
+    }
+}
+
+/// The same of words whose long names are whole.
+fn told_in(words: &[String], tool: &'static str) -> Option<Telling> {
     for word in words {
         match word.as_str() {
-            "--help" => return Some(help_of(tool_of(words))),
-            "--version" => return Some(Telling::Text(VERSION)),
+            "--help" => return Some(help_of(tool)),
+            "--version" => return Some(Telling::Version(tool)),
+            "-v" if matches!(tool, "patch") => return Some(Telling::Version(tool)),
             "--" => return None,
             _ => {}
         }
@@ -57,5 +78,29 @@ fn help_of(tool: &str) -> Telling {
         Some(tool) => Telling::Words(tool),
         None if matches!(tool, "patch") => Telling::Patch,
         None => Telling::Text(TOOLS),
+    }
+}
+
+/// The version of a tool. The second word is that of the program as which it works, since scripts take it for that.
+pub fn version_of(alloc: Global, tool: &str) -> Result<String, AllocError> {
+    match peer_of(tool) {
+        Some((peer, number)) => {
+            format!(in alloc;
+                "{tool} {number} (patchkit {VERSION}, works as {peer} {number})\n{PROVED}\n"
+            )
+        }
+        None if matches!(tool, "patchkit") => { format!(in alloc; "{tool} {VERSION}\n{PROVED}\n") }
+        None => format!(in alloc; "{tool} {VERSION} (patchkit {VERSION})\n{PROVED}\n"),
+    }
+}
+
+/// The program as which a tool works, and its version.
+fn peer_of(tool: &str) -> Option<(&'static str, &'static str)> {
+    match tool {
+        "patch" => Some(("GNU patch", "2.7.6")),
+        "lsdiff" | "filterdiff" | "grepdiff" | "splitdiff" | "recountdiff" => {
+            Some(("patchutils", PATCHUTILS))
+        }
+        _ => None,
     }
 }

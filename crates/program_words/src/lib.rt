@@ -29,7 +29,7 @@ mod which;
 pub use behind::{put_behind, put_long, put_usage};
 pub use called::{called_tool, tool_of, words_of};
 pub use ended::{Ended, put_texts};
-pub use help::{Telling, told};
+pub use help::{Telling, told, version_of};
 pub use lines::Lines;
 pub use pattern::put_pattern;
 pub use places::places_of;

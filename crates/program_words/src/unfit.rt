@@ -6,7 +6,9 @@ use std::alloc::{AllocError, Global};
 use tool_words::read_tool_words;
 
 /// Values that options take, with none first.
-const VALUES: [&str; 8] = ["", "512", "0", "a", "context", "simple", "push", "hunk"];
+const VALUES: [&str; 11] = [
+    "", "512", "0", "a", "context", "simple", "push", "hunk", "none", "warn", "c",
+];
 
 /// An operand that each tool takes, unless it wants a value from above.
 pub const OPERAND: &str = "20";

@@ -3,7 +3,7 @@
 use crate::behind::{wants_value, word_at};
 use crate::lines::{Lines, Part};
 use crate::unfit::{add, copied, missing_words};
-use crate::wanted::is_known;
+use crate::wanted::{is_known, name_from};
 
 /// The line of a word that can't be taken behind these: beside which word, where that is found for an option. Where it stands for
 /// one, that is given without its value too.
@@ -11,7 +11,7 @@ pub fn put_unsuited(lines: &mut Lines, tool: &str, front: &[String], word: &str,
     let (said, rival) = if !is_option(front, word) {
         ("#: can't take # here\n", 0)
     } else if !is_known(tool, option) {
-        ("#: there is no option #\n", 0)
+        return put_unknown(lines, tool, word, option);
     } else {
         match rival_of(lines, front, word) {
             0 => ("#: can't take # here\n", 0),
@@ -22,6 +22,25 @@ pub fn put_unsuited(lines: &mut Lines, tool: &str, front: &[String], word: &str,
         Part::Text(tool),
         Part::Quoted(word),
         Part::Quoted(word_at(front, rival)),
+    ];
+    lines.put_parts(said, &parts);
+}
+
+/// The line of an option that there isn't, or of a long one that is cut short from more than one.
+fn put_unknown(lines: &mut Lines, tool: &str, word: &str, option: &str) {
+    let name = option.strip_prefix("--").unwrap_or("");
+    let one = name_from(tool, name, 0);
+    let other = name_from(tool, name, 1);
+    let said = if name.is_empty() || other.is_empty() {
+        "#: there is no option #\n"
+    } else {
+        "#: # can be --# or --#\n"
+    };
+    let parts = [
+        Part::Text(tool),
+        Part::Quoted(word),
+        Part::Text(one),
+        Part::Text(other),
     ];
     lines.put_parts(said, &parts);
 }

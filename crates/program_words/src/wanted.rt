@@ -107,3 +107,35 @@ pub fn is_known(tool: &str, option: &str) -> bool {
     }
     row_of(table, option).is_some()
 }
+
+/// The long name that begins so, behind so many others that do; empty where there is none.
+pub fn name_from(tool: &str, front: &str, before: usize) -> &'static str {
+    let mut left = before;
+    for group in table_of(tool) {
+        for word in group.words {
+            if has_name(word) && word.name.starts_with(front) {
+                if left == 0 {
+                    return word.name;
+                }
+                left = left.saturating_sub(1);
+            }
+        }
+    }
+    for name in ["help", "version"].iter() {
+        if name.starts_with(front) {
+            if left == 0 {
+                return name;
+            }
+            left = left.saturating_sub(1);
+        }
+    }
+    ""
+}
+
+/// Whether the row's name is that of a long option.
+fn has_name(word: &Word) -> bool {
+    matches!(
+        word.form,
+        WordForm::Switch | WordForm::Value | WordForm::Values
+    )
+}

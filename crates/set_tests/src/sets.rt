@@ -5,7 +5,7 @@ ghost use Rattle.patch_options.specs.PlainJob.{plain_options, IsLawful};
 use crate::names::has_target;
 use filter_choice::{Outline, read_outline};
 use patch_header::Ways;
-use patch_options::{Input, Options, PlanKind};
+use patch_options::{Input, Options, PlanKind, SyncKind};
 use patch_set::{PatchSet, read_set};
 use patch_text::read_patches;
 use std::alloc::{AllocError, Global};
@@ -122,6 +122,7 @@ fn plain() -> Options
         verbose: false,
         plan: PlanKind::Auto,
         buffer: 65_536,
+        sync: SyncKind::Each,
     }
 }
 

@@ -25,7 +25,7 @@ op_in (split_job j) = None
 op_in (recount_job input) = None
 op_in (gen_job j) = None
 op_in (flip_job input) = None
-op_in (stack_job op) = Some op
+op_in (stack_job j) = Some j.op
 
 -- other tools' words are no command here
 abbrev pub supported : Option StackOp → Result StackOp WordFault

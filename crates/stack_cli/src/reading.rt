@@ -40,7 +40,7 @@ fn supported(job: &ToolJob) -> Result<StackOp, Why>
     ensures refused { IfErr result (λ why. (why ≡ Why.Usage) × (stack_op (Ok (plain_tool_job job.now)) ≡ Err WordFault.Usage)) }
 {
     match job {
-        ToolJob::Stack(op) => Ok(*op),
+        ToolJob::Stack(job) => Ok(job.op),
         _ => Err(Why::Usage),
     }
 }

@@ -3,7 +3,7 @@
 use gen_cli::run_gen;
 use mem_world::{MemScratch, MemSink, MemTree};
 use outside::Name;
-use patch_options::PlanKind;
+use patch_options::{PlanKind, SyncKind};
 use run_answers::Why;
 use std::alloc::{AllocError, Global};
 use tool_words::GenJob;
@@ -73,6 +73,7 @@ fn ended(alloc: Global, tree: &mut MemTree, out: &mut MemSink) -> Why {
         lines: 20,
         plan: PlanKind::Padded,
         buffer: 512,
+        sync: SyncKind::Each,
     };
     let scratch = MemScratch::new(alloc, Vec::new(alloc));
     let (exit, _scratch) = run_gen(alloc, job, tree, scratch, out);

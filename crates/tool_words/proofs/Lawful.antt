@@ -6,9 +6,9 @@ use Rattle.std.proofs.lemmas.List.Elements.{All-nil, All-cons}
 use Rattle.clap.specs.Words.{Row, Text}
 use Rattle.outside.specs.Files.{is_temp}
 use Rattle.patch_options.specs.Forms.{buffer_in, buffer_of, is_empty, is_lasting_name, is_name, number_of}
-use Rattle.patch_options.specs.Table.{is_single, value_of}
+use Rattle.patch_options.specs.Table.{value_of}
 use Rattle.patch_options.proofs.Lawful.{some_has, none_has, is_false}
-use Rattle.tool_words.specs.Asked.{asked, gen_of, is_gen, is_lawful, is_made, is_size, is_split_file, is_within, number_in}
+use Rattle.tool_words.specs.Asked.{asked, gen_of, is_gen, is_lawful, is_made, is_size, is_split_file, is_sync, is_within, number_in}
 use Rattle.tool_words.specs.PlainJobs.{AreRanges, IsLawfulToolJob, IsRange, IsSize}
 use Rattle.tool_words.specs.Ranges.{between, end_or, item_of, items_by, ordered, positive, positive_of, ranges_of, single}
 use Rattle.tool_words.specs.Selecting.{name_in}
@@ -165,7 +165,7 @@ pub lawful_job : (tool : Tool) (rows : List Row) → is_lawful tool rows ≡ tru
 lawful_job Lsdiff rows h = tt
 lawful_job Filterdiff rows h = record { hunks = ranges_have (value_of rows (codes "hunks")); lines = ranges_have (value_of rows (codes "lines")); files = ranges_have (value_of rows (codes "files")) }
 lawful_job Grepdiff rows h = tt
-lawful_job Splitdiff rows h = split_has (value_of rows (codes "file")) (both (is_single rows (codes "every") && is_single rows (codes "skip-binary")) _ h).1
+lawful_job Splitdiff rows h = split_has (value_of rows (codes "file")) (both (is_sync rows) _ h).1
 lawful_job Recountdiff rows h = tt
 lawful_job Patchgen rows h = gen_has rows h
 lawful_job Reversediff rows h = tt

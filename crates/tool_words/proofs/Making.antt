@@ -1,5 +1,5 @@
 -- Numbers and words that are given, by the values that they have.
-use Rattle.std.proofs.Common.{◌≡◌, ◌∙◌, ◌&&◌, ◌+◌, ◌<◌, ◌≤◌, ℕ, Bool, true, false, List, [], ◌∷◌, ◌++◌, Option, Some, None, IfSome, ap, get_or, length, map, sym, take, unwrap_or}
+use Rattle.std.proofs.Common.{◌≡◌, ◌∙◌, ◌+◌, ◌<◌, ◌≤◌, ℕ, Bool, List, [], ◌∷◌, ◌++◌, Option, Some, None, IfSome, ap, get_or, length, map, sym, take, unwrap_or}
 use Rattle.std.proofs.lemmas.List.{map_more, map_push, take_all}
 use Rattle.tool_words.specs.Asked.{is_made, is_size}
 
@@ -10,21 +10,6 @@ made_is seed-is files-is lines-is size = rw (sym seed-is, sym files-is, sym line
 pub given_or : {X : Type 0} (r o : Option X) (d : X) → r ≡ o → IfSome r (λ x. x ≡ unwrap_or o d)
 given_or None o d is = tt
 given_or (Some x) o d is = ap (λ v. unwrap_or v d) is
-
--- ---- two tests, and a third
-
-pub both_are : (a b : Bool) {v : Bool} → a ≡ true → v ≡ b → v ≡ (a && b)
-both_are a b first second = second ∙ sym (ap (λ t. t && b) first)
-
-pub third_is : (a b d : Bool) {v r : Bool} → v ≡ (a && b) → v ≡ true → r ≡ d → r ≡ (a && (b && d))
-third_is true true d both is third = third
-third_is true false d both is third = cc
-third_is false b d both is third = cc
-
-pub third_not : (a b d : Bool) {v : Bool} → v ≡ (a && b) → v ≡ false → v ≡ (a && (b && d))
-third_not true true d both none = cc
-third_not true false d both none = none
-third_not false b d both none = none
 
 -- ---- what is made of the elements of a list, one by one
 

@@ -4,12 +4,13 @@ use Rattle.std.specs.Option.{option_map_or}
 use Rattle.clap.specs.Words.{App, Row, Text, is_simple_and_free}
 use Rattle.clap.proofs.TakesLemmas.{passed_up}
 use Rattle.patch_options.specs.Simple.{PlainWord, simple_command, takes, rows_by}
+use Rattle.patch_options.specs.Whole.{whole_words}
 use Rattle.patch_options.specs.declared.options.WordFault.{WordFault}
 use Rattle.patch_options.specs.declared.options.WordFault.TheVariants.{Usage, Memory}
 use Rattle.tool_words.specs.Asked.{is_lawful, asked}
 use Rattle.tool_words.specs.PlainJobs.{PlainToolJob, IsLawfulToolJob, plain_tool_job}
 use Rattle.tool_words.specs.Tools.{command_of, name_of, table_of, tool_named}
-use Rattle.tool_words.specs.Words.{job_by, tool_job}
+use Rattle.tool_words.specs.Words.{job_by, tool_job, whole_job}
 use Rattle.tool_words.specs.declared.jobs.ToolJob.{ToolJob}
 use Rattle.tool_words.specs.declared.tools.Tool.{Tool}
 use Rattle.tool_words.proofs.Free.{command_is_free}
@@ -38,15 +39,15 @@ module _ (tool : Tool) (name : Text) (table : List PlainWord) (words : List Text
   is_free = ap is_simple_and_free command-is ∙ command_is_free tool
 
   -- a refusal of the words by the command
-  words_refused : (fault : WordFault) → (fault ≡ Memory) ⊎ ((fault ≡ Usage) × (takes (simple_command name table) words ≡ false)) → (fault ≡ Memory) ⊎ (job_by tool words ≡ Err fault)
-  unfolding job_by
+  words_refused : (fault : WordFault) → (fault ≡ Memory) ⊎ ((fault ≡ Usage) × (takes (simple_command name table) words ≡ false)) → (fault ≡ Memory) ⊎ (whole_job tool words ≡ Err fault)
+  unfolding whole_job
   words_refused fault (inl memory) = inl memory
   words_refused fault (inr usage) =
       let untaken : takes (command_of tool) words ≡ false = ap (λ (a : App). takes a words) (sym command-is) ∙ usage.1 in
       inr (if_not_first (takes (command_of tool) words) (is_lawful tool (rows_by (command_of tool) words)) (Ok (asked tool (rows_by (command_of tool) words))) (Err Usage) untaken ∙ ap (λ (f : WordFault). Err f) (sym usage.0))
 
   pub words_passed : {T : Type 0} (fault : WordFault) (answer : Result T WordFault) → (fault ≡ Memory) ⊎ ((fault ≡ Usage) × (takes (simple_command name table) words ≡ false))
-      → IsErrAnd answer (λ f. f ≡ fault) → IfErr answer (λ f. (f ≡ Memory) ⊎ (job_by tool words ≡ Err f))
+      → IsErrAnd answer (λ f. f ≡ fault) → IfErr answer (λ f. (f ≡ Memory) ⊎ (whole_job tool words ≡ Err f))
   words_passed fault answer refused passes = passed_up answer fault _ passes (words_refused fault refused)
 
   module _ (rows : List Row) (rows-are : rows ≡ rows_by (simple_command name table) words) where
@@ -54,15 +55,15 @@ module _ (tool : Tool) (name : Text) (table : List PlainWord) (words : List Text
     all = rows-are ∙ ap (λ (a : App). rows_by a words) command-is
 
     -- a refusal of what was matched
-    pub table_refused : (fault : WordFault) → (fault ≡ Memory) ⊎ ((fault ≡ Usage) × (is_lawful tool rows ≡ false)) → (fault ≡ Memory) ⊎ (job_by tool words ≡ Err fault)
-    unfolding job_by
+    pub table_refused : (fault : WordFault) → (fault ≡ Memory) ⊎ ((fault ≡ Usage) × (is_lawful tool rows ≡ false)) → (fault ≡ Memory) ⊎ (whole_job tool words ≡ Err fault)
+    unfolding whole_job
     table_refused fault (inl memory) = inl memory
     table_refused fault (inr usage) =
         let unlawful : is_lawful tool (rows_by (command_of tool) words) ≡ false = ap (is_lawful tool) (sym all) ∙ usage.1 in
         inr (if_not_second (takes (command_of tool) words) (is_lawful tool (rows_by (command_of tool) words)) (Ok (asked tool (rows_by (command_of tool) words))) (Err Usage) unlawful ∙ ap (λ (f : WordFault). Err f) (sym usage.0))
 
-    job_is : (value : PlainToolJob) → takes (simple_command name table) words ≡ true → is_lawful tool rows ≡ true → value ≡ asked tool rows → job_by tool words ≡ Ok value
-    unfolding job_by
+    job_is : (value : PlainToolJob) → takes (simple_command name table) words ≡ true → is_lawful tool rows ≡ true → value ≡ asked tool rows → whole_job tool words ≡ Ok value
+    unfolding whole_job
     job_is value takes_them lawful value-is =
         let taken : takes (command_of tool) words ≡ true = ap (λ (a : App). takes a words) (sym command-is) ∙ takes_them in
         let is_one : is_lawful tool (rows_by (command_of tool) words) ≡ true = ap (is_lawful tool) (sym all) ∙ lawful in
@@ -70,7 +71,7 @@ module _ (tool : Tool) (name : Text) (table : List PlainWord) (words : List Text
         if_both (takes (command_of tool) words) (is_lawful tool (rows_by (command_of tool) words)) (Ok (asked tool (rows_by (command_of tool) words))) (Err Usage) taken is_one ∙ ap (λ v. Ok v) same
 
     pub jobs_are : (r : Result ToolJob WordFault) → takes (simple_command name table) words ≡ true → IfOk r (λ job. plain_tool_job job ≡ asked tool rows) → IfOk r (λ job. is_lawful tool rows ≡ true)
-        → IfOk r (λ job. job_by tool words ≡ Ok (plain_tool_job job))
+        → IfOk r (λ job. whole_job tool words ≡ Ok (plain_tool_job job))
     jobs_are (Ok job) takes_them is lawful = job_is (plain_tool_job job) takes_them lawful is
     jobs_are (Err fault) takes_them is lawful = tt
 
@@ -78,6 +79,16 @@ pub jobs_lawful : (tool : Tool) (rows : List Row) (r : Result ToolJob WordFault)
     → IfOk r (λ job. IsLawfulToolJob (plain_tool_job job))
 jobs_lawful tool rows (Ok job) is lawful = subst IsLawfulToolJob (sym is) (lawful_job tool rows lawful)
 jobs_lawful tool rows (Err fault) is lawful = tt
+
+-- ---- by whole words
+
+pub job_whole : (tool : Tool) (words whole : List Text) → whole ≡ whole_words (table_of tool) words → job_by tool words ≡ whole_job tool whole
+unfolding job_by
+job_whole tool words whole is = ap (whole_job tool) (sym is)
+
+pub refused_whole : (tool : Tool) (words whole : List Text) → whole ≡ whole_words (table_of tool) words → (fault : WordFault) → (fault ≡ Memory) ⊎ (whole_job tool whole ≡ Err fault) → (fault ≡ Memory) ⊎ (job_by tool words ≡ Err fault)
+refused_whole tool words whole is fault (inl memory) = inl memory
+refused_whole tool words whole is fault (inr refused) = inr (job_whole tool words whole is ∙ refused)
 
 -- ---- the tool that the first word names
 

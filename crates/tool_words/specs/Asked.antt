@@ -4,8 +4,8 @@ use Rattle.std.specs.Option.{option_map_or}
 use Rattle.clap.specs.Words.{Row, Text}
 use Rattle.hunk_core.specs.declared.Form.{Form}
 use Rattle.hunk_core.specs.declared.Form.TheVariants.{Unified, Context, Normal, Ed}
-use Rattle.patch_options.specs.Forms.{number_of, buffer_of, plan_of, is_lasting_name}
-use Rattle.patch_options.specs.Table.{is_used, is_single, value_of, has_form}
+use Rattle.patch_options.specs.Forms.{number_of, buffer_of, plan_of, sync_of, is_lasting_name}
+use Rattle.patch_options.specs.Table.{is_used, value_of, has_form, sync_in}
 use Rattle.patch_options.specs.declared.options.PlanKind.TheVariants.{Auto}
 use Rattle.tool_words.specs.PlainJobs.{PlainListJob, PlainFilterJob, PlainGrepJob, PlainSplitJob, PlainGenJob, PlainToolJob}
 use Rattle.tool_words.specs.PlainJobs.PlainToolJob.{list_job, filter_job, grep_job, split_job, recount_job, gen_job, flip_job, stack_job}
@@ -13,6 +13,7 @@ use Rattle.tool_words.specs.Ranges.{ranges_of}
 use Rattle.tool_words.specs.Selecting.{is_number, number_or_0, name_in, is_select, select_of, is_input, input_in}
 use Rattle.tool_words.specs.declared.jobs.GrepOut.{GrepOut}
 use Rattle.tool_words.specs.declared.jobs.GrepOut.TheVariants.{Names, Hunks, Files}
+use Rattle.tool_words.specs.declared.jobs.StackJob.{StackJob}
 use Rattle.tool_words.specs.declared.jobs.StackOp.{StackOp}
 use Rattle.tool_words.specs.declared.jobs.StackOp.TheVariants.{Push, Pop, Applied}
 use Rattle.tool_words.specs.declared.tools.Tool.{Tool}
@@ -20,15 +21,16 @@ use Rattle.tool_words.specs.declared.tools.Tool.TheVariants.{Lsdiff, Filterdiff,
 
 -- the text that is read, and the file patches that are meant, are lawful
 abbrev pub is_subject : List Row → Bool
-is_subject rows = is_single rows (codes "skip-binary") && (is_select rows && is_input rows)
+is_subject rows = is_select rows && is_input rows
+
+-- where it is said when what is written is on the disk, that is one of the words for it
+abbrev pub is_sync : List Row → Bool
+is_sync rows = has_form (λ t. is_some (sync_of t)) (value_of rows (codes "sync"))
 
 -- ---- `lsdiff`
 
-unfoldable pub are_list_words : List Row → Bool
-are_list_words rows = is_single rows (codes "status") && (is_single rows (codes "line-number") && has_form is_number (value_of rows (codes "strip")))
-
 abbrev pub is_list : List Row → Bool
-is_list rows = are_list_words rows && is_subject rows
+is_list rows = has_form is_number (value_of rows (codes "strip")) && is_subject rows
 
 abbrev pub list_of : List Row → PlainListJob
 list_of rows = record {
@@ -85,8 +87,7 @@ is_grep_out text = is_some (grep_out_of text)
 
 -- a pattern is there; that it is an extended one is so in any case
 abbrev pub is_grep : List Row → Bool
-is_grep rows = (is_single rows (codes "extended-regexp") && is_some (value_of rows (codes "regex")))
-    && (has_form is_grep_out (value_of rows (codes "output-matching")) && is_subject rows)
+is_grep rows = is_some (value_of rows (codes "regex")) && (has_form is_grep_out (value_of rows (codes "output-matching")) && is_subject rows)
 
 abbrev pub grep_of : List Row → PlainGrepJob
 grep_of rows = record {
@@ -103,13 +104,14 @@ unfoldable pub is_split_file : List ℕ → Bool
 is_split_file text = not (bytes_eq text (codes "-")) && is_lasting_name text
 
 abbrev pub is_split : List Row → Bool
-is_split rows = (is_single rows (codes "every") && is_single rows (codes "skip-binary")) && option_map_or is_split_file (value_of rows (codes "file")) false
+is_split rows = is_sync rows && option_map_or is_split_file (value_of rows (codes "file")) false
 
 abbrev pub split_of : List Row → PlainSplitJob
 split_of rows = record {
   input = option_map_or name_in (value_of rows (codes "file")) [];
   every = is_used rows (codes "every");
   skip_binary = is_used rows (codes "skip-binary");
+  sync = sync_in rows;
 }
 
 -- ---- `patchgen`
@@ -132,7 +134,7 @@ number_in rows name = option_and_then number_of (value_of rows name)
 
 abbrev pub is_gen : List Row → Bool
 is_gen rows = is_made (number_in rows (codes "seed")) (number_in rows (codes "files")) (number_in rows (codes "lines"))
-    && (has_form (λ t. is_some (plan_of t)) (value_of rows (codes "plan")) && has_form (λ t. is_some (buffer_of t)) (value_of rows (codes "buffer")))
+    && (is_sync rows && (has_form (λ t. is_some (plan_of t)) (value_of rows (codes "plan")) && has_form (λ t. is_some (buffer_of t)) (value_of rows (codes "buffer"))))
 
 abbrev pub gen_of : List Row → PlainGenJob
 gen_of rows = record {
@@ -141,6 +143,7 @@ gen_of rows = record {
   lines = number_or_0 rows (codes "lines");
   plan = unwrap_or (option_and_then plan_of (value_of rows (codes "plan"))) Auto;
   buffer = unwrap_or (option_and_then buffer_of (value_of rows (codes "buffer"))) 65536;
+  sync = sync_in rows;
 }
 
 -- ---- `patchstack`
@@ -155,6 +158,12 @@ stack_op_of text = if bytes_eq text (codes "push") then Some Push
 abbrev pub stack_op_in : List Row → Option StackOp
 stack_op_in rows = option_and_then stack_op_of (value_of rows (codes "operation"))
 
+abbrev pub is_stack : List Row → Bool
+is_stack rows = is_sync rows && is_some (stack_op_in rows)
+
+abbrev pub stack_of : List Row → StackJob
+stack_of rows = record { op = unwrap_or (stack_op_in rows) Applied; sync = sync_in rows }
+
 -- ---- all of them
 
 -- what was matched in the words of a tool is lawful
@@ -166,7 +175,7 @@ is_lawful Splitdiff rows = is_split rows
 is_lawful Recountdiff rows = is_input rows
 is_lawful Patchgen rows = is_gen rows
 is_lawful Reversediff rows = is_input rows
-is_lawful Patchstack rows = is_some (stack_op_in rows)
+is_lawful Patchstack rows = is_stack rows
 
 -- what it asks for
 abbrev pub asked : Tool → List Row → PlainToolJob
@@ -177,4 +186,4 @@ asked Splitdiff rows = split_job (split_of rows)
 asked Recountdiff rows = recount_job (input_in rows)
 asked Patchgen rows = gen_job (gen_of rows)
 asked Reversediff rows = flip_job (input_in rows)
-asked Patchstack rows = stack_job (unwrap_or (stack_op_in rows) Applied)
+asked Patchstack rows = stack_job (stack_of rows)

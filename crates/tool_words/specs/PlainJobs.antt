@@ -5,6 +5,7 @@ use Rattle.hunk_core.specs.declared.Form.{Form}
 use Rattle.outside.specs.Files.{is_temp}
 use Rattle.patch_options.specs.declared.options.Input.{Input}
 use Rattle.patch_options.specs.declared.options.PlanKind.{PlanKind}
+use Rattle.patch_options.specs.declared.options.SyncKind.{SyncKind}
 use Rattle.tool_words.specs.declared.jobs.Select.{Select}
 use Rattle.tool_words.specs.declared.jobs.Ranges.{Ranges}
 use Rattle.tool_words.specs.declared.jobs.ListJob.{ListJob}
@@ -13,7 +14,7 @@ use Rattle.tool_words.specs.declared.jobs.GrepOut.{GrepOut}
 use Rattle.tool_words.specs.declared.jobs.GrepJob.{GrepJob}
 use Rattle.tool_words.specs.declared.jobs.SplitJob.{SplitJob}
 use Rattle.tool_words.specs.declared.jobs.GenJob.{GenJob}
-use Rattle.tool_words.specs.declared.jobs.StackOp.{StackOp}
+use Rattle.tool_words.specs.declared.jobs.StackJob.{StackJob}
 use Rattle.tool_words.specs.declared.jobs.ToolJob.{ToolJob}
 use Rattle.tool_words.specs.declared.jobs.ToolJob.TheVariants.{List as ListOf, Filter, Grep, Split, Recount, Gen, Flip, Stack}
 
@@ -60,6 +61,7 @@ pub record PlainSplitJob : Type 0 where
   pub input : List ℕ
   pub every : Bool
   pub skip_binary : Bool
+  pub sync : SyncKind
 
 -- what is made; each field is that of `GenJob`
 pub record PlainGenJob : Type 0 where
@@ -68,6 +70,7 @@ pub record PlainGenJob : Type 0 where
   pub lines : ℕ
   pub plan : PlanKind
   pub buffer : ℕ
+  pub sync : SyncKind
 
 pub data PlainToolJob : Type 0 where
   list_job : PlainListJob → PlainToolJob
@@ -77,7 +80,7 @@ pub data PlainToolJob : Type 0 where
   recount_job : Input → PlainToolJob
   gen_job : PlainGenJob → PlainToolJob
   flip_job : Input → PlainToolJob
-  stack_job : StackOp → PlainToolJob
+  stack_job : StackJob → PlainToolJob
 
 -- ---- what the structs of the code stand for
 
@@ -105,10 +108,10 @@ abbrev pub plain_grep_job : GrepJob → PlainGrepJob
 plain_grep_job j = record { input = j.input; select = plain_select j.select; pattern = string_bytes j.pattern; output = j.output }
 
 abbrev pub plain_split_job : SplitJob → PlainSplitJob
-plain_split_job j = record { input = j.input; every = j.every; skip_binary = j.skip_binary }
+plain_split_job j = record { input = j.input; every = j.every; skip_binary = j.skip_binary; sync = j.sync }
 
 abbrev pub plain_gen_job : GenJob → PlainGenJob
-plain_gen_job j = record { seed = j.seed; files = j.files; lines = j.lines; plan = j.plan; buffer = j.buffer }
+plain_gen_job j = record { seed = j.seed; files = j.files; lines = j.lines; plan = j.plan; buffer = j.buffer; sync = j.sync }
 
 abbrev pub plain_tool_job : ToolJob → PlainToolJob
 plain_tool_job (ListOf j) = list_job (plain_list_job j)
@@ -118,7 +121,7 @@ plain_tool_job (Split j) = split_job (plain_split_job j)
 plain_tool_job (Recount i) = recount_job i
 plain_tool_job (Gen j) = gen_job (plain_gen_job j)
 plain_tool_job (Flip i) = flip_job i
-plain_tool_job (Stack op) = stack_job op
+plain_tool_job (Stack j) = stack_job j
 
 -- ---- the jobs that a tool may get
 
@@ -155,4 +158,4 @@ IsLawfulToolJob (list_job j) = Unit {0}
 IsLawfulToolJob (grep_job j) = Unit {0}
 IsLawfulToolJob (recount_job i) = Unit {0}
 IsLawfulToolJob (flip_job i) = Unit {0}
-IsLawfulToolJob (stack_job op) = Unit {0}
+IsLawfulToolJob (stack_job j) = Unit {0}

@@ -32,10 +32,10 @@ grep_table = name_words ++ (named (codes "output-matching") ∷ switch 69 (codes
 
 -- a 97
 abbrev pub split_table : List PlainWord
-split_table = a_word Letter (Some 97) (codes "every") ∷ subject_table
+split_table = a_word Letter (Some 97) (codes "every") ∷ named (codes "sync") ∷ subject_table
 
 abbrev pub gen_table : List PlainWord
-gen_table = operand (codes "seed") ∷ operand (codes "files") ∷ operand (codes "lines") ∷ named (codes "plan") ∷ named (codes "buffer") ∷ []
+gen_table = operand (codes "seed") ∷ operand (codes "files") ∷ operand (codes "lines") ∷ named (codes "plan") ∷ named (codes "buffer") ∷ named (codes "sync") ∷ []
 
 abbrev pub stack_table : List PlainWord
-stack_table = operand (codes "operation") ∷ []
+stack_table = operand (codes "operation") ∷ named (codes "sync") ∷ []

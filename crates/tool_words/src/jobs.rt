@@ -2,7 +2,7 @@
 
 use hunk_core::Form;
 use outside::Name;
-use patch_options::{Input, PlanKind};
+use patch_options::{Input, PlanKind, SyncKind};
 
 /// Which file patches are meant, by what they are and by their names. A pattern matches a whole name.
 #[derive(Drop, Debug)]
@@ -87,6 +87,7 @@ pub struct SplitJob {
     pub every: bool,
     /// Binary changes are passed over, and don't refuse the file.
     pub skip_binary: bool,
+    pub sync: SyncKind,
 }
 
 /// One command of `patchgen`.
@@ -100,6 +101,7 @@ pub struct GenJob {
     pub plan: PlanKind,
     /// The size of a page in bytes, from 512 to 1,048,576.
     pub buffer: u32,
+    pub sync: SyncKind,
 }
 
 /// What is done with the patches of a stack.
@@ -111,6 +113,13 @@ pub enum StackOp {
     Pop,
     /// Those that are applied are counted.
     Applied,
+}
+
+/// One command of `patchstack`.
+#[derive(Clone, Copy, Debug)]
+pub struct StackJob {
+    pub op: StackOp,
+    pub sync: SyncKind,
 }
 
 /// What a tool beside `patch` is asked for.
@@ -125,5 +134,5 @@ pub enum ToolJob {
     Gen(GenJob),
     /// The text that is turned round.
     Flip(Input),
-    Stack(StackOp),
+    Stack(StackJob),
 }

@@ -12,7 +12,8 @@ mod words;
 
 pub use help::usage;
 pub use jobs::{
-    FilterJob, GenJob, GrepJob, GrepOut, ListJob, Ranges, Select, SplitJob, StackOp, ToolJob,
+    FilterJob, GenJob, GrepJob, GrepOut, ListJob, Ranges, Select, SplitJob, StackJob, StackOp,
+    ToolJob,
 };
 pub use tools::{Tool, tool_named};
 pub use words::read_tool_words;

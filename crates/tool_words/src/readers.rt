@@ -6,19 +6,20 @@ ghost use Rattle.tool_words.specs.PlainJobs.{plain_ranges, plain_tool_job};
 ghost use Rattle.tool_words.specs.PlainJobs.PlainToolJob.{list_job, filter_job, grep_job, split_job, recount_job, gen_job, flip_job, stack_job};
 ghost use Rattle.tool_words.specs.Ranges.{ranges_of};
 ghost use Rattle.tool_words.specs.Selecting.{is_input, input_in, name_in};
-ghost use Rattle.tool_words.specs.Asked.{are_list_words, is_list, list_of, are_ranges, is_form, form_of, is_filter, filter_of, is_grep_out, grep_out_of, is_grep, grep_of, is_split_file, is_split, split_of, is_size, is_gen, gen_of, stack_op_of, stack_op_in, is_lawful, asked};
+ghost use Rattle.tool_words.specs.Asked.{is_list, list_of, are_ranges, is_form, form_of, is_filter, filter_of, is_grep_out, grep_out_of, is_grep, grep_of, is_split_file, is_split, split_of, is_size, is_gen, gen_of, stack_op_of, stack_op_in, is_stack, stack_of, is_lawful, asked};
 
 use crate::ranges::read_ranges;
-use crate::selecting::{is_single, number_or_0, read_operand, read_subject};
+use crate::selecting::{number_or_0, read_operand, read_subject};
 use crate::{
-    FilterJob, GenJob, GrepJob, GrepOut, ListJob, Ranges, SplitJob, StackOp, Tool, ToolJob,
+    FilterJob, GenJob, GrepJob, GrepOut, ListJob, Ranges, SplitJob, StackJob, StackOp, Tool,
+    ToolJob,
 };
 use clap::ArgMatches;
 use hunk_core::Form;
 use outside::Name;
 use patch_options::{
-    WordFault, buffer_in, is_buffer, is_number, is_plan, is_used, lasting_name_of, number_in,
-    plan_in, value_of,
+    WordFault, buffer_in, is_buffer, is_number, is_plan, is_sync, is_used, lasting_name_of,
+    number_in, plan_in, sync_in, value_of,
 };
 use std::alloc::Global;
 
@@ -45,7 +46,7 @@ fn list_of(alloc: Global, matches: &ArgMatches<'_>) -> Result<ToolJob, WordFault
     ensures lawful { IfOk result (λ job. is_list (rows_in matches.now) ≡ true) }
     ensures refused { IfErr result (λ fault. (fault ≡ WordFault.Memory) ⊎ ((fault ≡ WordFault.Usage) × (is_list (rows_in matches.now) ≡ false))) }
 {
-    if !are_list_words(matches) {
+    if !is_number(value_of(matches, "strip")) {
         return Err(WordFault::Usage);
     }
     match read_subject(alloc, matches) {
@@ -58,15 +59,6 @@ fn list_of(alloc: Global, matches: &ArgMatches<'_>) -> Result<ToolJob, WordFault
         })),
         Err(fault) => Err(fault),
     }
-}
-
-#[tactic(auto, unfolding(crate::specs::Asked::are_list_words))]
-fn are_list_words(matches: &ArgMatches<'_>) -> bool
-    ensures { result ≡ are_list_words (rows_in matches.now) }
-{
-    is_single(matches, "status")
-        && is_single(matches, "line-number")
-        && is_number(value_of(matches, "strip"))
 }
 
 /// The ranges of the hunks, of the lines and of the file patches that are meant.
@@ -168,9 +160,6 @@ fn grep_of(alloc: Global, matches: &ArgMatches<'_>) -> Result<ToolJob, WordFault
     ensures lawful { IfOk result (λ job. is_grep (rows_in matches.now) ≡ true) }
     ensures refused { IfErr result (λ fault. (fault ≡ WordFault.Memory) ⊎ ((fault ≡ WordFault.Usage) × (is_grep (rows_in matches.now) ≡ false))) }
 {
-    if !is_single(matches, "extended-regexp") {
-        return Err(WordFault::Usage);
-    }
     let Some(pattern) = value_of(matches, "regex") else {
         return Err(WordFault::Usage);
     };
@@ -216,7 +205,7 @@ fn split_of(alloc: Global, matches: &ArgMatches<'_>) -> Result<ToolJob, WordFaul
     ensures lawful { IfOk result (λ job. is_split (rows_in matches.now) ≡ true) }
     ensures refused { IfErr result (λ fault. (fault ≡ WordFault.Memory) ⊎ ((fault ≡ WordFault.Usage) × (is_split (rows_in matches.now) ≡ false))) }
 {
-    if !is_single(matches, "every") || !is_single(matches, "skip-binary") {
+    if !is_sync(value_of(matches, "sync")) {
         return Err(WordFault::Usage);
     }
     let Some(text) = value_of(matches, "file") else {
@@ -227,6 +216,7 @@ fn split_of(alloc: Global, matches: &ArgMatches<'_>) -> Result<ToolJob, WordFaul
             input,
             every: is_used(matches, "every"),
             skip_binary: is_used(matches, "skip-binary"),
+            sync: sync_in(matches),
         })),
         Err(fault) => Err(fault),
     }
@@ -258,6 +248,9 @@ fn gen_of(matches: &ArgMatches<'_>) -> Result<ToolJob, WordFault>
     ensures lawful { IfOk result (λ job. is_gen (rows_in matches.now) ≡ true) }
     ensures refused { IfErr result (λ fault. (fault ≡ WordFault.Memory) ⊎ ((fault ≡ WordFault.Usage) × (is_gen (rows_in matches.now) ≡ false))) }
 {
+    if !is_sync(value_of(matches, "sync")) {
+        return Err(WordFault::Usage);
+    }
     if !is_plan(value_of(matches, "plan")) || !is_buffer(value_of(matches, "buffer")) {
         return Err(WordFault::Usage);
     }
@@ -278,6 +271,7 @@ fn gen_of(matches: &ArgMatches<'_>) -> Result<ToolJob, WordFault>
         lines,
         plan: plan_in(matches),
         buffer: buffer_in(matches),
+        sync: sync_in(matches),
     }))
 }
 
@@ -300,12 +294,18 @@ fn flip_of(alloc: Global, matches: &ArgMatches<'_>) -> Result<ToolJob, WordFault
 }
 
 fn stack_of(matches: &ArgMatches<'_>) -> Result<ToolJob, WordFault>
-    ensures job { IfOk result (λ job. plain_tool_job job ≡ stack_job (unwrap_or (stack_op_in (rows_in matches.now)) StackOp.Applied)) }
-    ensures lawful { IfOk result (λ job. is_some (stack_op_in (rows_in matches.now)) ≡ true) }
-    ensures refused { IfErr result (λ fault. (fault ≡ WordFault.Memory) ⊎ ((fault ≡ WordFault.Usage) × (is_some (stack_op_in (rows_in matches.now)) ≡ false))) }
+    ensures job { IfOk result (λ job. plain_tool_job job ≡ stack_job (stack_of (rows_in matches.now))) }
+    ensures lawful { IfOk result (λ job. is_stack (rows_in matches.now) ≡ true) }
+    ensures refused { IfErr result (λ fault. (fault ≡ WordFault.Memory) ⊎ ((fault ≡ WordFault.Usage) × (is_stack (rows_in matches.now) ≡ false))) }
 {
+    if !is_sync(value_of(matches, "sync")) {
+        return Err(WordFault::Usage);
+    }
     match stack_op_in(matches) {
-        Some(operation) => Ok(ToolJob::Stack(operation)),
+        Some(op) => Ok(ToolJob::Stack(StackJob {
+            op,
+            sync: sync_in(matches),
+        })),
         None => Err(WordFault::Usage),
     }
 }

@@ -1,7 +1,7 @@
 //! Which file patches a filter means by their names, and the text that it reads and how.
 ghost use Rattle.std.specs.Prelude.{◌≡◌, ◌⊎◌, ◌&&◌, ◌||◌, [], true, false, map, is_some, option_map, unwrap_or, IfOk, IfErr};
 ghost use Rattle.patch_options.specs.Simple.{rows_in};
-ghost use Rattle.patch_options.specs.Table.{is_single, value_of};
+ghost use Rattle.patch_options.specs.Table.{value_of};
 ghost use Rattle.tool_words.specs.PlainJobs.{plain_select};
 ghost use Rattle.tool_words.specs.Asked.{is_subject};
 ghost use Rattle.tool_words.specs.Selecting.{is_input, input_in, is_select, number_or_0, patterns, select_of};
@@ -9,7 +9,7 @@ ghost use Rattle.tool_words.specs.Selecting.{is_input, input_in, is_select, numb
 use crate::Select;
 use clap::ArgMatches;
 use patch_options::{
-    Input, WordFault, input_of, is_number, is_used, number_of, read_name, uses, value_of, values_of,
+    Input, WordFault, input_of, is_number, is_used, number_of, read_name, value_of, values_of,
 };
 use std::alloc::{AllocError, Global};
 
@@ -20,9 +20,6 @@ pub fn read_subject(alloc: Global, matches: &ArgMatches<'_>) -> Result<(Input, S
     ensures lawful { IfOk result (λ subject. is_subject (rows_in matches.now) ≡ true) }
     ensures refused { IfErr result (λ fault. (fault ≡ WordFault.Memory) ⊎ ((fault ≡ WordFault.Usage) × (is_subject (rows_in matches.now) ≡ false))) }
 {
-    if !is_single(matches, "skip-binary") {
-        return Err(WordFault::Usage);
-    }
     let input = read_operand(alloc, matches)?;
     match read_select(alloc, matches) {
         Ok(select) => Ok((input, select)),
@@ -31,13 +28,6 @@ pub fn read_subject(alloc: Global, matches: &ArgMatches<'_>) -> Result<(Input, S
             Err(fault)
         }
     }
-}
-
-/// Whether the switch was given once at most.
-pub fn is_single(matches: &ArgMatches<'_>, name: &str) -> bool
-    ensures { result ≡ is_single (rows_in matches.now) name.now }
-{
-    uses(matches, name) <= 1
 }
 
 /// The file patches that are meant, if the words for them are lawful.

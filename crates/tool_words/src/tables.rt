@@ -149,6 +149,14 @@ const BUFFER: Word = Word {
     help: "bytes of a buffer, 512 to 1048576 (65536)",
 };
 
+const SYNC: Word = Word {
+    form: WordForm::Value,
+    letter: None,
+    name: "sync",
+    shown: "--sync=each|none",
+    help: "wait for the disk at each file (each), or never",
+};
+
 const SKIP_BINARY: Word = Word {
     form: WordForm::Switch,
     letter: None,
@@ -283,7 +291,7 @@ static GREP: [Group; 3] = [
 
 static SPLIT: [Group; 1] = [Group {
     heading: "",
-    words: &[EVERY, SKIP_BINARY, SPLIT_FILE],
+    words: &[EVERY, SYNC, SKIP_BINARY, SPLIT_FILE],
 }];
 
 static INPUT: [Group; 1] = [Group {
@@ -291,7 +299,7 @@ static INPUT: [Group; 1] = [Group {
     words: &[FILE],
 }];
 
-static GEN: [Group; 2] = [
+static GEN: [Group; 3] = [
     Group {
         heading: "What is made:\n",
         words: &[SEED, FILE_COUNT, LINE_COUNT],
@@ -300,11 +308,15 @@ static GEN: [Group; 2] = [
         heading: "Lines of a file:\n",
         words: &[PLAN, BUFFER],
     },
+    Group {
+        heading: "Output:\n",
+        words: &[SYNC],
+    },
 ];
 
 static STACK: [Group; 1] = [Group {
     heading: "",
-    words: &[OPERATION],
+    words: &[OPERATION, SYNC],
 }];
 
 /// The words of `lsdiff`.

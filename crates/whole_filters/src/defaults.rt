@@ -8,7 +8,7 @@ ghost use Rattle.patch_set.specs.SetView.{IsRead, IsWhole, Meets};
 ghost use Rattle.whole_filters.specs.Texts.{defaults, dry_defaults};
 
 use filter_choice::{Digest, Outline, read_digest, read_outline};
-use patch_options::{Input, Options, PlanKind};
+use patch_options::{Input, Options, PlanKind, SyncKind};
 use patch_set::{PatchSet, SetFault, read_set};
 use std::alloc::Global;
 
@@ -81,5 +81,6 @@ fn default_options(skip_binary: bool) -> Options
         verbose: false,
         plan: PlanKind::Auto,
         buffer: 65_536,
+        sync: SyncKind::Each,
     }
 }

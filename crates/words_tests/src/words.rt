@@ -161,25 +161,54 @@ patch|--buffer|512 => buffer: 512
 patch|--buffer=1048576 => buffer: 1048576
 patch|--buffer=000512 => buffer: 512
 patch|--buffer=65536 =>
+patch|-p1|-p1 => strip: Some(1)
+patch|-p1|--strip=2 => strip: Some(2)
+patch|-p2|-Rp1 => strip: Some(1), reverse: true
+patch|-N|-N => forward: true
+patch|-NN|--forward => forward: true
+patch|-s|--quiet|--silent|-s => silent: true
+patch|-u|-u|--unified => only: Some(Unified)
+patch|-F1|--fuzz|0 => fuzz: 0
+patch|-zx|--suffix=y => suffix: Some("y")
+patch|-i|a|--input=b => input: File("b")
+patch|-d|a|-d|. =>
+patch|--plan=a|--plan=b => plan: Padded
+patch|--dry => dry_run: true
+patch|--dry-r|--rev|--st=1 => strip: Some(1), reverse: true, dry_run: true
+patch|--inp|a|--reject-fo=context|--qui => input: File("a"), reject_form: Some(Context), silent: true
+patch|--backup-i =>
+patch|--no-b => mismatch_backup: false
+patch|--|--dry => file: Some("--dry")
+patch|f|--dry|--|--rev => file: Some("f"), input: File("--rev"), dry_run: true
+patch|-g1|-g-1|--get=+5|--get|18446744073709551617 =>
+patch|-V|none|-V|off|-Vnev|--version-c=s =>
+patch|--quoting-style=literal|--quoting-style=shell|--quoting-style=shell-always|--quoting-style=c|--quot=escape =>
+patch|--read-only=warn|--read-only=ignore =>
+patch|--sync=none => sync: Never
+patch|--sync|none|--sync=each =>
 lsdiff|-snp1|-i|a*|-xb|-Ic|-Xd|--strip=2|--skip-binary|e => Ok(List(ListJob { input: File("e"), select: Select { strip: 1, include: [[97, 42]], exclude: [[98]], include_file: Some("c"), exclude_file: Some("d"), only_included: true, skip_binary: true }, status: true, numbers: true, shown_strip: 2 }))
 filterdiff|--hunks=1,2-5|--lines=-3|--files|7-|--format=ed => Ok(Filter(FilterJob { input: Standard, select: Select { strip: 0, include: [], exclude: [], include_file: None, exclude_file: None, only_included: false, skip_binary: false }, hunks: Some(Ranges { items: [(1, 1), (2, 5)] }), lines: Some(Ranges { items: [(1, 3)] }), files: Some(Ranges { items: [(7, 4294967295)] }), format: Some(Ed) }))
 grepdiff|-E|--output-matching=hunk|[a-z]+|f => Ok(Grep(GrepJob { input: File("f"), select: Select { strip: 0, include: [], exclude: [], include_file: None, exclude_file: None, only_included: false, skip_binary: false }, pattern: "[a-z]+", output: Hunks }))
-splitdiff|-a|./a//f/ => Ok(Split(SplitJob { input: "a/f", every: true, skip_binary: false }))
-splitdiff|--skip-binary|f => Ok(Split(SplitJob { input: "f", every: false, skip_binary: true }))
+splitdiff|-a|./a//f/ => Ok(Split(SplitJob { input: "a/f", every: true, skip_binary: false, sync: Each }))
+splitdiff|--skip-binary|f => Ok(Split(SplitJob { input: "f", every: false, skip_binary: true, sync: Each }))
 recountdiff|- => Ok(Recount(Standard))
-patchgen|0|1|20 => Ok(Gen(GenJob { seed: 0, files: 1, lines: 20, plan: Auto, buffer: 65536 }))
-patchgen|4294967295|1|20 => Ok(Gen(GenJob { seed: 4294967295, files: 1, lines: 20, plan: Auto, buffer: 65536 }))
-patchgen|7|1000|10000 => Ok(Gen(GenJob { seed: 7, files: 1000, lines: 10000, plan: Auto, buffer: 65536 }))
-patchgen|0|1|9999999 => Ok(Gen(GenJob { seed: 0, files: 1, lines: 9999999, plan: Auto, buffer: 65536 }))
-patchgen|0|2|5000000 => Ok(Gen(GenJob { seed: 0, files: 2, lines: 5000000, plan: Auto, buffer: 65536 }))
-patchgen|007|001|0020 => Ok(Gen(GenJob { seed: 7, files: 1, lines: 20, plan: Auto, buffer: 65536 }))
-patchgen|--plan=a|0|1|20 => Ok(Gen(GenJob { seed: 0, files: 1, lines: 20, plan: Whole, buffer: 65536 }))
-patchgen|--plan|b|0|1|20 => Ok(Gen(GenJob { seed: 0, files: 1, lines: 20, plan: Padded, buffer: 65536 }))
-patchgen|0|1|20|--plan=packed => Ok(Gen(GenJob { seed: 0, files: 1, lines: 20, plan: Packed, buffer: 65536 }))
-patchgen|0|--plan=auto|1|20 => Ok(Gen(GenJob { seed: 0, files: 1, lines: 20, plan: Auto, buffer: 65536 }))
-patchgen|--buffer=512|0|1|20 => Ok(Gen(GenJob { seed: 0, files: 1, lines: 20, plan: Auto, buffer: 512 }))
-patchgen|--buffer|1048576|0|1|20 => Ok(Gen(GenJob { seed: 0, files: 1, lines: 20, plan: Auto, buffer: 1048576 }))
-patchgen|--plan=b|--buffer=4096|7|3|40 => Ok(Gen(GenJob { seed: 7, files: 3, lines: 40, plan: Padded, buffer: 4096 }))
+patchgen|0|1|20 => Ok(Gen(GenJob { seed: 0, files: 1, lines: 20, plan: Auto, buffer: 65536, sync: Each }))
+patchgen|4294967295|1|20 => Ok(Gen(GenJob { seed: 4294967295, files: 1, lines: 20, plan: Auto, buffer: 65536, sync: Each }))
+patchgen|7|1000|10000 => Ok(Gen(GenJob { seed: 7, files: 1000, lines: 10000, plan: Auto, buffer: 65536, sync: Each }))
+patchgen|0|1|9999999 => Ok(Gen(GenJob { seed: 0, files: 1, lines: 9999999, plan: Auto, buffer: 65536, sync: Each }))
+patchgen|0|2|5000000 => Ok(Gen(GenJob { seed: 0, files: 2, lines: 5000000, plan: Auto, buffer: 65536, sync: Each }))
+patchgen|007|001|0020 => Ok(Gen(GenJob { seed: 7, files: 1, lines: 20, plan: Auto, buffer: 65536, sync: Each }))
+patchgen|--plan=a|0|1|20 => Ok(Gen(GenJob { seed: 0, files: 1, lines: 20, plan: Whole, buffer: 65536, sync: Each }))
+patchgen|--plan|b|0|1|20 => Ok(Gen(GenJob { seed: 0, files: 1, lines: 20, plan: Padded, buffer: 65536, sync: Each }))
+patchgen|0|1|20|--plan=packed => Ok(Gen(GenJob { seed: 0, files: 1, lines: 20, plan: Packed, buffer: 65536, sync: Each }))
+patchgen|0|--plan=auto|1|20 => Ok(Gen(GenJob { seed: 0, files: 1, lines: 20, plan: Auto, buffer: 65536, sync: Each }))
+patchgen|--buffer=512|0|1|20 => Ok(Gen(GenJob { seed: 0, files: 1, lines: 20, plan: Auto, buffer: 512, sync: Each }))
+patchgen|--buffer|1048576|0|1|20 => Ok(Gen(GenJob { seed: 0, files: 1, lines: 20, plan: Auto, buffer: 1048576, sync: Each }))
+patchgen|--plan=b|--buffer=4096|7|3|40 => Ok(Gen(GenJob { seed: 7, files: 3, lines: 40, plan: Padded, buffer: 4096, sync: Each }))
 reversediff|a/f => Ok(Flip(File("a/f")))
-patchstack|pop => Ok(Stack(Pop))
+patchstack|pop => Ok(Stack(StackJob { op: Pop, sync: Each }))
+patchstack|--sy=none|push => Ok(Stack(StackJob { op: Push, sync: Never }))
+patchgen|--pl=a|--plan=b|0|1|20|--sync=none => Ok(Gen(GenJob { seed: 0, files: 1, lines: 20, plan: Padded, buffer: 65536, sync: Never }))
+splitdiff|-aa|--skip|--skip-binary|--sync=none|f => Ok(Split(SplitJob { input: "f", every: true, skip_binary: true, sync: Never }))
+lsdiff|-ss|--li|--strip=1|--strip=2|-p3|-p4|-ia|--include=b|-Ic|-Id|e => Ok(List(ListJob { input: File("e"), select: Select { strip: 4, include: [[97], [98]], exclude: [], include_file: Some("d"), exclude_file: None, only_included: true, skip_binary: false }, status: true, numbers: true, shown_strip: 2 }))
 "#;

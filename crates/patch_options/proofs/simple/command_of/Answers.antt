@@ -3,7 +3,7 @@ use Rattle.patch_options.proofs.ByTable.{begun, group_more, groups_ended}
 use Rattle.patch_options.proofs.simple.command_of.Goals as goal
 
 pub loop-group-init : goal.loop-group-init
-loop-group-init c = begun c.new.result c.disable_help_flag-command.result c.args.name.now c.args.table.now c.new.ensures.app c.disable_help_flag-command.ensures
+loop-group-init c = begun c.new.result c.disable_help_flag.result c.args_override_self-command.result c.args.name.now c.args.table.now c.new.ensures.app c.disable_help_flag.ensures c.args_override_self-command.ensures
 
 pub loop-group-preserved : goal.loop-group-preserved
 loop-group-preserved c =

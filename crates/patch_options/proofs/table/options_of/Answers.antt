@@ -33,4 +33,5 @@ returns c =
       verbose = c.is_used-11.ensures i;
       plan = c.plan_in.ensures i;
       buffer = c.buffer_in.ensures i;
+      sync = c.sync_in.ensures i;
     }

@@ -1,4 +1,4 @@
-use Rattle.std.proofs.Common.{◌++◌, replicate, string_bytes, refl}
+use Rattle.std.proofs.Common.{◌++◌, replicate, string_bytes}
 use Rattle.patch_options.proofs.Growing.{space_more, spaces_told}
 use Rattle.patch_options.proofs.telling.put_spaces.Goals as goal
 

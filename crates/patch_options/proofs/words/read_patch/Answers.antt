@@ -1,33 +1,20 @@
-use Rattle.std.proofs.Common.{map, string_bytes}
-use Rattle.patch_options.specs.PlainJob.{plain_options}
-use Rattle.patch_options.specs.Simple.{plain_table, rows_in}
-use Rattle.patch_options.proofs.Jobs.{words_refused, table_refused, job_is, lawful_job}
-use Rattle.patch_options.proofs.Matching.{is_free, are_taken, rows_are, why_refused}
+use Rattle.std.proofs.Common.{◌∙◌, map, string_bytes, ap}
+use Rattle.std.proofs.lemmas.Result.{IfErr-weaker, IfOk-weaker}
+use Rattle.patch_options.specs.Whole.{whole_words}
+use Rattle.patch_options.proofs.Jobs.{job_whole, refused_whole}
 use Rattle.patch_options.proofs.words.read_patch.Goals as goal
 
-pub matched_by-requires : goal.matched_by-requires
-matched_by-requires c = is_free (plain_table c.patch_table.result.now) c.patch_table.ensures
-
-pub returns-in-Err-clause-refused : goal.returns-in-Err-clause-refused
-returns-in-Err-clause-refused c =
+pub returns-in-Ok-clause-job : goal.returns-in-Ok-clause-job
+returns-in-Ok-clause-job c =
     let words = map string_bytes c.args.words.now in
-    words_refused words c.in-Err.fault (why_refused (plain_table c.patch_table.result.now) c.patch_table.ensures words c.in-Err.fault c.in-Err.ensures.refused)
+    let whole = ap (map string_bytes) c.deref.ensures.value ∙ (c.in-Ok.ensures ∙ ap (λ table. whole_words table words) c.patch_table.ensures) in
+    IfOk-weaker c.read_whole.result _ _ (λ job is. job_whole words (map string_bytes c.deref.result.now) whole ∙ is) c.read_whole.ensures.job
 
-pub returns-in-Err-read-clause-refused : goal.returns-in-Err-read-clause-refused
-returns-in-Err-read-clause-refused c =
+pub returns-in-Ok-clause-lawful : goal.returns-in-Ok-clause-lawful
+returns-in-Ok-clause-lawful c = c.read_whole.ensures.lawful
+
+pub returns-in-Ok-clause-refused : goal.returns-in-Ok-clause-refused
+returns-in-Ok-clause-refused c =
     let words = map string_bytes c.args.words.now in
-    let rows = rows_in c.in-Ok.matches in
-    let table = plain_table c.patch_table.result.now in
-    let taken = are_taken table c.patch_table.ensures words c.in-Ok.ensures.taken in
-    table_refused words rows c.in-Err-read.fault taken (rows_are table c.patch_table.ensures words rows c.in-Ok.ensures.rows) c.in-Err-read.ensures.refused
-
-pub returns-in-Ok-read-clause-job : goal.returns-in-Ok-read-clause-job
-returns-in-Ok-read-clause-job c =
-    let words = map string_bytes c.args.words.now in
-    let rows = rows_in c.in-Ok.matches in
-    let table = plain_table c.patch_table.result.now in
-    job_is words rows (plain_options c.in-Ok-read.options) (are_taken table c.patch_table.ensures words c.in-Ok.ensures.taken) (rows_are table c.patch_table.ensures words rows c.in-Ok.ensures.rows)
-    c.in-Ok-read.ensures.command c.in-Ok-read.ensures.options
-
-pub returns-in-Ok-read-clause-lawful : goal.returns-in-Ok-read-clause-lawful
-returns-in-Ok-read-clause-lawful c = lawful_job (rows_in c.in-Ok.matches) (plain_options c.in-Ok-read.options) c.in-Ok-read.ensures.command c.in-Ok-read.ensures.options
+    let whole = ap (map string_bytes) c.deref.ensures.value ∙ (c.in-Ok.ensures ∙ ap (λ table. whole_words table words) c.patch_table.ensures) in
+    IfErr-weaker c.read_whole.result _ _ (refused_whole words (map string_bytes c.deref.result.now) whole) c.read_whole.ensures.refused

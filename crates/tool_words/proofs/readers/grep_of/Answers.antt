@@ -7,18 +7,11 @@ use Rattle.patch_options.proofs.Refusing.{refused_as, no_left, no_right, all_yes
 use Rattle.tool_words.specs.PlainJobs.PlainToolJob.{grep_job}
 use Rattle.tool_words.proofs.readers.grep_of.Goals as goal
 
-pub returns-then-not-is_single : goal.returns-then-not-is_single
-returns-then-not-is_single c = record {
-  job = tt;
-  lawful = tt;
-  refused = inr (refl, no_left _ _ (no_left _ _ (sym c.is_single.ensures ∙ c.if-not-is_single.true)));
-}
-
 pub returns-in_default : goal.returns-in_default
 returns-in_default c = record {
   job = tt;
   lawful = tt;
-  refused = inr (refl, no_left _ _ (no_right _ _ (ap (λ (text : Option Text). is_some text) (sym c.in_default.ensures))));
+  refused = inr (refl, no_left _ _ (ap (λ (text : Option Text). is_some text) (sym c.in_default.ensures)));
 }
 
 pub returns-in_default-output_in : goal.returns-in_default-output_in
@@ -45,7 +38,7 @@ returns-in-Ok-clause-job c = λ i. grep_job (record {
 
 pub returns-in-Ok-clause-lawful : goal.returns-in-Ok-clause-lawful
 returns-in-Ok-clause-lawful c =
-    all_yes _ _ (all_yes _ _ (sym c.is_single.ensures ∙ c.if-not-is_single.false) (ap (λ (text : Option Text). is_some text) (sym c.in-Some.ensures)))
+    all_yes _ _ (ap (λ (text : Option Text). is_some text) (sym c.in-Some.ensures))
     (all_yes _ _ (sym c.in-Some-output_in.ensures.lawful) c.in-Ok.ensures.lawful)
 
 pub returns-in-Ok-clause-refused : goal.returns-in-Ok-clause-refused

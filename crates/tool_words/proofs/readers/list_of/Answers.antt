@@ -1,13 +1,15 @@
-use Rattle.std.proofs.Common.{◌∙◌, inr, refl, sym}
+use Rattle.std.proofs.Common.{◌∙◌, ap, inr, refl, sym}
+use Rattle.patch_options.specs.Table.{has_form}
 use Rattle.patch_options.proofs.Refusing.{refused_as, no_left, no_right, all_yes}
 use Rattle.tool_words.specs.PlainJobs.PlainToolJob.{list_job}
+use Rattle.tool_words.specs.Selecting.{is_number}
 use Rattle.tool_words.proofs.readers.list_of.Goals as goal
 
-pub returns-then-not-are_list_words : goal.returns-then-not-are_list_words
-returns-then-not-are_list_words c = record {
+pub returns-then-not-is_number : goal.returns-then-not-is_number
+returns-then-not-is_number c = record {
   job = tt;
   lawful = tt;
-  refused = inr (refl, no_left _ _ (sym c.are_list_words.ensures ∙ c.if-not-are_list_words.true));
+  refused = inr (refl, no_left _ _ (ap (has_form is_number) (sym c.value_of.ensures) ∙ (sym c.is_number.ensures ∙ c.if-not-is_number.true)));
 }
 
 pub returns-in-Err : goal.returns-in-Err
@@ -27,7 +29,7 @@ returns-in-Ok-clause-job c = λ i. list_job (record {
 })
 
 pub returns-in-Ok-clause-lawful : goal.returns-in-Ok-clause-lawful
-returns-in-Ok-clause-lawful c = all_yes _ _ (sym c.are_list_words.ensures ∙ c.if-not-are_list_words.false) c.in-Ok.ensures.lawful
+returns-in-Ok-clause-lawful c = all_yes _ _ (ap (has_form is_number) (sym c.value_of.ensures) ∙ (sym c.is_number.ensures ∙ c.if-not-is_number.false)) c.in-Ok.ensures.lawful
 
 pub returns-in-Ok-clause-refused : goal.returns-in-Ok-clause-refused
 returns-in-Ok-clause-refused c = tt

@@ -1,16 +1,7 @@
-use Rattle.std.proofs.Common.{◌∙◌, inr, refl, sym}
 use Rattle.clap.proofs.TakesLemmas.{passed_up}
 use Rattle.outside.proofs.Exits.{if_ok_none}
 use Rattle.patch_options.proofs.Refusing.{refused_as, no_left, no_right, all_yes}
 use Rattle.tool_words.proofs.selecting.read_subject.Goals as goal
-
-pub returns-then-not-is_single : goal.returns-then-not-is_single
-returns-then-not-is_single c = record {
-  input = tt;
-  select = tt;
-  lawful = tt;
-  refused = inr (refl, no_left _ _ (sym c.is_single.ensures ∙ c.if-not-is_single.true));
-}
 
 pub returns-in_err-input : goal.returns-in_err-input
 returns-in_err-input c = record {
@@ -19,7 +10,7 @@ returns-in_err-input c = record {
   lawful = if_ok_none _ _ c.from_residual.result c.from_residual.ensures.1;
   refused = (
       let fault = c.in_err-input.field-0.0 in
-      passed_up c.from_residual.result fault _ c.from_residual.ensures.1 (refused_as fault _ _ (λ none. no_right _ _ (no_right _ _ none)) c.in_err-input.ensures.refused));
+      passed_up c.from_residual.result fault _ c.from_residual.ensures.1 (refused_as fault _ _ (λ none. no_right _ _ none) c.in_err-input.ensures.refused));
 }
 
 pub returns-in-Err : goal.returns-in-Err
@@ -27,13 +18,13 @@ returns-in-Err c = record {
   input = tt;
   select = tt;
   lawful = tt;
-  refused = refused_as c.in-Err.fault _ _ (λ none. no_right _ _ (no_left _ _ none)) c.in-Err.ensures.refused;
+  refused = refused_as c.in-Err.fault _ _ (λ none. no_left _ _ none) c.in-Err.ensures.refused;
 }
 
 pub returns-in-Ok : goal.returns-in-Ok
 returns-in-Ok c = record {
   input = c.in_ok-input.ensures.input;
   select = c.in-Ok.ensures.select;
-  lawful = all_yes _ _ (sym c.is_single.ensures ∙ c.if-not-is_single.false) (all_yes _ _ c.in-Ok.ensures.lawful c.in_ok-input.ensures.lawful);
+  lawful = all_yes _ _ c.in-Ok.ensures.lawful c.in_ok-input.ensures.lawful;
   refused = tt;
 }

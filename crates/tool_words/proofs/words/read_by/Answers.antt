@@ -1,24 +1,20 @@
-use Rattle.std.proofs.Common.{map, string_bytes}
-use Rattle.std.proofs.lemmas.Result.{IfErr-weaker}
-use Rattle.patch_options.specs.Simple.{plain_table, rows_in}
-use Rattle.tool_words.proofs.Reading.{is_free, words_passed, table_refused, jobs_are, jobs_lawful}
+use Rattle.std.proofs.Common.{◌∙◌, map, string_bytes, ap}
+use Rattle.std.proofs.lemmas.Result.{IfErr-weaker, IfOk-weaker}
+use Rattle.patch_options.specs.Whole.{whole_words}
+use Rattle.tool_words.proofs.Reading.{job_whole, refused_whole}
 use Rattle.tool_words.proofs.words.read_by.Goals as goal
 
-pub matched_by-requires : goal.matched_by-requires
-matched_by-requires c = is_free c.args.tool c.name.result.now (plain_table c.table.result.now) (map string_bytes c.args.words.now) c.name.ensures c.table.ensures
+pub returns-in-Ok-clause-job : goal.returns-in-Ok-clause-job
+returns-in-Ok-clause-job c =
+    let words = map string_bytes c.args.words.now in
+    let whole = ap (map string_bytes) c.deref.ensures.value ∙ (c.in-Ok.ensures ∙ ap (λ table. whole_words table words) c.table.ensures) in
+    IfOk-weaker c.read_whole.result _ _ (λ job is. job_whole c.args.tool words (map string_bytes c.deref.result.now) whole ∙ is) c.read_whole.ensures.job
 
-pub returns-in_err-matches-clause-refused : goal.returns-in_err-matches-clause-refused
-returns-in_err-matches-clause-refused c =
-    words_passed c.args.tool c.name.result.now (plain_table c.table.result.now) (map string_bytes c.args.words.now) c.name.ensures c.table.ensures
-    c.in_err-matches.field-0.0 c.from_residual.result c.in_err-matches.ensures.refused c.from_residual.ensures.1
+pub returns-in-Ok-clause-lawful : goal.returns-in-Ok-clause-lawful
+returns-in-Ok-clause-lawful c = c.read_whole.ensures.lawful
 
-pub returns : goal.returns
-returns c = record {
-  job = (
-      jobs_are c.args.tool c.name.result.now (plain_table c.table.result.now) (map string_bytes c.args.words.now) c.name.ensures c.table.ensures
-      (rows_in c.in_ok-matches.matches) c.in_ok-matches.ensures.rows c.job_of.result c.in_ok-matches.ensures.taken c.job_of.ensures.job c.job_of.ensures.lawful);
-  lawful = jobs_lawful c.args.tool (rows_in c.in_ok-matches.matches) c.job_of.result c.job_of.ensures.job c.job_of.ensures.lawful;
-  refused = (
-      IfErr-weaker c.job_of.result _ _ (table_refused c.args.tool c.name.result.now (plain_table c.table.result.now) (map string_bytes c.args.words.now) c.name.ensures c.table.ensures
-      (rows_in c.in_ok-matches.matches) c.in_ok-matches.ensures.rows) c.job_of.ensures.refused);
-}
+pub returns-in-Ok-clause-refused : goal.returns-in-Ok-clause-refused
+returns-in-Ok-clause-refused c =
+    let words = map string_bytes c.args.words.now in
+    let whole = ap (map string_bytes) c.deref.ensures.value ∙ (c.in-Ok.ensures ∙ ap (λ table. whole_words table words) c.table.ensures) in
+    IfErr-weaker c.read_whole.result _ _ (refused_whole c.args.tool words (map string_bytes c.deref.result.now) whole) c.read_whole.ensures.refused
