@@ -7,3 +7,4 @@ pub mod Chosen
 pub mod Front
 pub mod Directories
 pub mod First
+pub mod FirstHunks

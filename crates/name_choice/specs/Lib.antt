@@ -1,3 +1,4 @@
 pub mod Better
 pub mod Choice
+pub mod Making
 pub mod Rank

@@ -3,10 +3,11 @@ ghost use Rattle.std.specs.Prelude.{◌≡◌, ◌<◌, ◌^◌, length, Some, I
 ghost use Rattle.outside.specs.Files.{Files};
 ghost use Rattle.outside.specs.TreeView.{Rises};
 ghost use Rattle.outside.specs.Calls.{IsUntouched};
-ghost use Rattle.file_patch.specs.Absent.{told_absent};
 ghost use Rattle.name_choice.specs.Choice.{choice_among, created, existing, first_place, names_of, IsWithin, IsFound};
+ghost use Rattle.name_choice.specs.Making.{told_making};
 
 use crate::Choice;
+use crate::making::may_make;
 use crate::search::{best_existing, best_new, first_existing};
 use file_patch::{FilePatch, Target};
 use hunk_core::Side;
@@ -25,7 +26,7 @@ pub fn choose_among<T: Tree>(
     ensures cause { OnErr result (Rises (T.view tree.old) (T.view tree.new)) }
     ensures within { IfOk result (IsWithin (length patch.now.targets.items)) }
     ensures chosen { IfOk result (λ chosen. (files : Files) → (T.view tree.old).told ≡ Some files
-        → chosen ≡ choice_among (names_of patch.now.targets.items) operand (told_absent side patch.now) posix files) }
+        → chosen ≡ choice_among (names_of patch.now.targets.items) operand (told_making side patch.now) posix files) }
     ensures there { IfOk result (λ chosen. (files : Files) → (T.view tree.new).told ≡ Some files → IsFound patch.now.targets.items files chosen) }
 {
     choose_from(patch, operand, side, posix, tree)
@@ -45,7 +46,7 @@ fn choose_from<T: Tree>(
     ensures cause { OnErr result (Rises (T.view tree.old) (T.view tree.new)) }
     ensures within { IfOk result (IsWithin (length patch.now.targets.items)) }
     ensures chosen { IfOk result (λ chosen. (files : Files) → (T.view tree.old).told ≡ Some files
-        → chosen ≡ choice_among (names_of patch.now.targets.items) operand (told_absent side patch.now) posix files) }
+        → chosen ≡ choice_among (names_of patch.now.targets.items) operand (told_making side patch.now) posix files) }
 {
     if let Some(place) = existing(&patch.targets, posix, tree)? {
         return Ok(Choice::Existing(place));
@@ -53,7 +54,7 @@ fn choose_from<T: Tree>(
     if operand {
         return Ok(first_created(&patch.targets));
     }
-    if posix || !patch.creates(side) {
+    if posix || !may_make(patch, side) {
         return Ok(Choice::Nothing);
     }
     Ok(created(best_new(&patch.targets, tree)?))

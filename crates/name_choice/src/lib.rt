@@ -5,11 +5,12 @@ ghost use Rattle.std.specs.Prelude.{◌≡◌, ◌<◌, ◌^◌, length, Some, I
 ghost use Rattle.outside.specs.Files.{Files};
 ghost use Rattle.outside.specs.TreeView.{Rises};
 ghost use Rattle.outside.specs.Calls.{IsUntouched};
-ghost use Rattle.file_patch.specs.Absent.{told_absent};
 ghost use Rattle.name_choice.specs.Choice.{choice, names_of, side_of, IsWithin, IsFound};
+ghost use Rattle.name_choice.specs.Making.{told_making};
 
 mod among;
 mod laws;
+mod making;
 mod moved;
 mod rank;
 mod search;
@@ -50,7 +51,7 @@ pub fn choose<T: Tree>(
     ensures cause { OnErr result (Rises (T.view tree.old) (T.view tree.new)) }
     ensures within { IfOk result (IsWithin (length patch.now.targets.items)) }
     ensures chosen { IfOk result (λ chosen. (files : Files) → (T.view tree.old).told ≡ Some files
-        → chosen ≡ choice patch.now.header.action (told_absent (side_of reverse) patch.now) (names_of patch.now.targets.items) operand reverse posix files) }
+        → chosen ≡ choice patch.now.header.action (told_making (side_of reverse) patch.now) (names_of patch.now.targets.items) operand reverse posix files) }
     ensures there { IfOk result (λ chosen. (files : Files) → (T.view tree.new).told ≡ Some files → IsFound patch.now.targets.items files chosen) }
 {
     let side = side_of(reverse);

@@ -56,5 +56,9 @@ pub five_most : (rejected : Bool) (all made : ℕ) → all ≡ made + (if reject
 five_most true all made is few = omega arith
 five_most false all made is few = omega arith
 
+pub kept_few : (due : Bool) (n : ℕ) → n ≡ (if due then 1 else 0) → n ≤ 4
+kept_few true n is = omega arith
+kept_few false n is = omega arith
+
 pub two_four : (n : ℕ) → n ≤ 2 → n ≤ 4
 two_four n few = omega arith

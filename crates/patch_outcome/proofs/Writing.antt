@@ -21,7 +21,7 @@ use Rattle.patch_task.specs.Asking.{is_rename, renames}
 use Rattle.patch_task.proofs.Placing.{put_count}
 use Rattle.patch_task.specs.Turns.{PlainTurn}
 use Rattle.patch_task.specs.Outputs.{Tried}
-use Rattle.patch_outcome.specs.Outcome.{has_rejects, is_backup_due, is_moving, is_unwanted, is_removal, is_written, made_effects, written_effects, rejects_text, reject_effects, effects_of, wrote, is_unrejected}
+use Rattle.patch_outcome.specs.Outcome.{has_rejects, is_backup_due, is_moving, is_unwanted, is_removal, is_old_kept, is_written, made_effects, written_effects, rejects_text, reject_effects, effects_of, wrote, is_unrejected}
 
 -- ---- the effects of a file patch
 
@@ -43,7 +43,13 @@ module _ (t : PlainTurn) (f : Files) (s w : Target) (x : Tried) (due other : Boo
       ∙ ap (λ (b : Bool). moved_effects due b f s w x.output) (sym is_other)
 
 pub written_as : (t : PlainTurn) (f : Files) (s w : Target) (x : Tried) → is_written t x ≡ true → written_effects t f s w x ≡ made_effects t f s w x
-written_as t f s w x is = ap (λ (b : Bool). if b then made_effects t f s w x else []) is
+written_as t f s w x is = ap (λ (b : Bool). if b then made_effects t f s w x else backup_effects (is_old_kept t w s x.verdicts) f w) is
+
+-- of a target that isn't written the old bytes alone are put
+pub kept_as : (t : PlainTurn) (f : Files) (s w : Target) (x : Tried) (due : Bool) → is_written t x ≡ false → due ≡ is_old_kept t w s x.verdicts → written_effects t f s w x ≡ backup_effects due f w
+kept_as t f s w x due none is =
+    ap (λ (b : Bool). if b then made_effects t f s w x else backup_effects (is_old_kept t w s x.verdicts) f w) none
+    ∙ ap (λ (b : Bool). backup_effects b f w) (sym is)
 
 -- a rename has no removal
 pub moved_stays : (t : PlainTurn) (x : Tried) → renames t.item.patch ≡ true → is_removal t x ≡ false

@@ -141,8 +141,15 @@ made_effects t files s w x = if is_moving t files s w
     then moved_effects (is_backup_due t w s x.verdicts) (is_backup_due t s w x.verdicts) files s w x.output
     else backup_effects (is_backup_due t w s x.verdicts) files w ++ target_effects (is_removal t x) files w x.output
 
+-- with `-b` also where no hunk was placed, of the file that they were tried for; an output of the options has no old bytes
+abbrev pub keeps_old : PlainOptions → List Verdict → Bool
+keeps_old o vs = o.backup && is_none o.output && some_failed vs
+
+abbrev pub is_old_kept : PlainTurn → Target → Target → List Verdict → Bool
+is_old_kept t w other vs = keeps_old t.options vs && is_backup_due t w other vs
+
 abbrev pub written_effects : PlainTurn → Files → Target → Target → Tried → List Effect
-written_effects t files s w x = if is_written t x then made_effects t files s w x else []
+written_effects t files s w x = if is_written t x then made_effects t files s w x else backup_effects (is_old_kept t w s x.verdicts) files w
 
 abbrev pub rejects_text : PlainTurn → Target → Side → List Verdict → List ℕ
 rejects_text t w side vs = rejected_before t.past w.reject ++ own_reject t w side vs

@@ -12,9 +12,10 @@ ghost use Rattle.hunk_apply.specs.Session.{is_failed, is_inexact};
 ghost use Rattle.hunk_apply.specs.Written.{is_nothing};
 ghost use Rattle.reject_text.specs.Rejects.{AreHunks};
 ghost use Rattle.file_patch.specs.PlainPatch.{row_count};
+ghost use Rattle.patch_options.specs.PlainJob.{plain_options};
 ghost use Rattle.patch_task.specs.Asking.{renames};
 ghost use Rattle.patch_task.specs.Outputs.{Tried, IsSession};
-ghost use Rattle.patch_outcome.specs.Outcome.{is_backup_due, is_backup_apart, is_made_bare, is_written, is_unwanted, is_always_put, is_removal, is_moving, written_effects, effects_of, wrote, has_rejects};
+ghost use Rattle.patch_outcome.specs.Outcome.{is_backup_due, is_backup_apart, is_made_bare, is_old_kept, is_written, is_unwanted, is_always_put, is_removal, is_moving, keeps_old, written_effects, effects_of, wrote, has_rejects};
 ghost use Rattle.patch_task.specs.Making.{Makes, GoesQuietly, IsGone, IsTidy};
 ghost use Rattle.patch_task.specs.Named.{IsNamed};
 ghost use Rattle.patch_outcome.specs.TurnView.{plain_turn, IsTurn};
@@ -29,7 +30,7 @@ use hunk_core::{Side, Verdict};
 use outside::{Failed, Tree};
 use patch_options::Options;
 use patch_task::{
-    Made, RunFault, acts_new, forget, is_bare, renames, takes_files, write_moved, write_placed,
+    Made, RunFault, acts_new, is_bare, keep_old, renames, takes_files, write_moved, write_placed,
 };
 use replace_file::Temp;
 
@@ -89,7 +90,8 @@ fn with_reject(made: Made, rejected: bool) -> Made
     }
 }
 
-/// If the target is written, backs it up, and puts it or takes it away; the source of a rename goes, and is backed up too.
+/// If the target is written, backs it up, and puts it or takes it away; the source of a rename goes, and is backed up too. If
+/// it isn't, its bytes may be kept all the same.
 fn write_target<T: Tree>(
     turn: &Turn<'_>,
     source: &Target,
@@ -117,11 +119,8 @@ fn write_target<T: Tree>(
     ensures tidy { OnOk result (IsTidy (T.view tree.old) (T.view tree.new)) }
 {
     if !is_written(turn, side, session) {
-        forget(temp, target, tree)?;
-        return Ok(Made {
-            wrote: false,
-            effects: 0,
-        });
+        let kept = is_old_kept(turn, target, source, session);
+        return keep_old(target, kept, temp, tree);
     }
     let moving = match is_moving(turn, source, target, tree) {
         Ok(moving) => moving,
@@ -208,6 +207,28 @@ fn is_backup_due(turn: &Turn<'_>, target: &Target, other: &Target, session: &Ses
         return false;
     }
     !was_written(turn, &target.name)
+}
+
+/// Whether the bytes of a target that isn't written are kept; a rename has another target.
+fn is_old_kept(turn: &Turn<'_>, target: &Target, other: &Target, session: &Session) -> bool
+    requires turn { IsTurn turn.now }
+    ensures kept { (vs : List Verdict) → session.now.failed ≡ count_by is_failed vs → session.now.inexact ≡ list_any is_inexact vs → result ≡ is_old_kept (plain_turn turn.now) target.now other.now vs }
+    ensures apart { result ≡ true → target.now.backup ≢ target.now.name }
+{
+    if !keeps_old(turn.task.options, session) {
+        return false;
+    }
+    is_backup_due(turn, target, other, session)
+}
+
+/// Whether the options ask that the old bytes are kept where no hunk was placed.
+fn keeps_old(options: &Options, session: &Session) -> bool
+    ensures { (vs : List Verdict) → session.now.failed ≡ count_by is_failed vs → result ≡ keeps_old (plain_options options.now) vs }
+{
+    if !options.backup || options.output.is_some() {
+        return false;
+    }
+    session.failed > 0
 }
 
 /// Whether the backup's name is none of those that the file patch writes or takes away.

@@ -1,5 +1,5 @@
 -- A file patch without hunks keeps the bytes of its file.
-use Rattle.std.proofs.Common.{◌≡◌, ◌+◌, ℕ, zero, suc, List, [], ◌∷◌, length, drop, get_or, Bool, true, ◌==◌, arith, sym, ◌∙◌, ap}
+use Rattle.std.proofs.Common.{◌≡◌, ◌+◌, ℕ, zero, suc, List, [], ◌∷◌, length, drop, get_or, Bool, true, false, ◌==◌, if◌then◌else◌, arith, refl, sym, ◌∙◌, ap}
 use Rattle.std.proofs.lemmas.Bool.Decides.{Decides-eqb}
 use Rattle.std.proofs.lemmas.List.{drop_more, drop_all}
 use Rattle.line_list.specs.Lines.{lines}
@@ -13,6 +13,7 @@ use Rattle.hunk_apply.specs.Change.{change_output}
 use Rattle.hunk_apply.specs.Splice.{spliced, spliced_from, all_edits}
 use Rattle.hunk_apply.proofs.SpliceLemmas.{line-kept, nothing-left, spliced-whole}
 use Rattle.patch_task.specs.Asking.{is_bare}
+use Rattle.patch_task.specs.Outputs.{admitted, is_barred}
 use Rattle.patch_run.specs.OnePatch.{PlainTurn, text_of}
 
 -- without an edit the lines from one on are the file's
@@ -33,5 +34,9 @@ unchanged ls fuzz loose side (hunks []) is = ap join (unspliced ls)
 unchanged ls fuzz loose side (hunks (h ∷ hs)) is = let none : suc (length hs) ≡ 0 = (Decides-eqb (suc (length hs)) 0).0 is in absurd (omega (arith, none))
 unchanged ls fuzz loose side (script es) is = let none : 1 ≡ 0 = (Decides-eqb 1 0).0 is in absurd (omega (arith, none))
 
+admitted_none : (b : Bool) (c : PlainChange) → (hunk_count c == 0) ≡ true → (hunk_count (if b then hunks [] else c) == 0) ≡ true
+admitted_none true c is = refl
+admitted_none false c is = is
+
 pub bare_keeps : (t : PlainTurn) (side : Side) (bytes : List ℕ) → is_bare t.item.patch ≡ true → text_of t side (lines bytes) ≡ bytes
-bare_keeps t side bytes is = unchanged (lines bytes) t.options.fuzz t.options.loose side t.item.patch.change is ∙ join-lines bytes
+bare_keeps t side bytes is = unchanged (lines bytes) t.options.fuzz t.options.loose side (admitted t.options side t.item.patch (lines bytes)) (admitted_none (is_barred t.options side t.item.patch (lines bytes)) t.item.patch.change is) ∙ join-lines bytes

@@ -12,7 +12,7 @@ use Rattle.patch_options.specs.PlainJob.{PlainOptions}
 use Rattle.file_patch.specs.declared.derived.Target.{Target}
 use Rattle.patch_task.specs.TargetEffects.{put_if, backup_effects, target_effects, moving_effects, moved_effects}
 use Rattle.patch_task.specs.Asking.{moves, renames}
-use Rattle.patch_run.specs.OnePatch.{Item, PlainTurn, Start, skips, refuses, tries, Ending, ended, stopped, Tried, bytes_of, lines_in, target_at, written, tried, is_backup_due, is_removal, is_moving, is_written, made_effects, written_effects, has_rejects, rejects_text, reject_effects, effects_of, finished_at, start, ending_of, ending}
+use Rattle.patch_run.specs.OnePatch.{Item, PlainTurn, Start, skips, refuses, tries, Ending, ended, stopped, Tried, bytes_of, lines_in, target_at, written, tried, is_backup_due, is_old_kept, is_removal, is_moving, is_written, made_effects, written_effects, has_rejects, rejects_text, reject_effects, effects_of, finished_at, start, ending_of, ending}
 use Rattle.patch_run.specs.Run.{Run, begun, turn_of, with_ending, if_going, with_item, run_on, run_of}
 use Rattle.patch_run.specs.Laws.{removed_in, keeps_files, IsSource, TakesItsSource}
 use Rattle.patch_run.proofs.Standing.{first_of}
@@ -51,9 +51,9 @@ module _ (Q : List ℕ → Type 0) where
             (subst (λ b. Takes (target_effects b f w x.output)) (sym stays) tt)
 
     takes_written : Takes (written_effects t f s w x)
-    takes_written = elim (is_written t x) as (λ b. Takes (if b then made_effects t f s w x else [])) [
+    takes_written = elim (is_written t x) as (λ b. Takes (if b then made_effects t f s w x else backup_effects (is_old_kept t w s x.verdicts) f w)) [
       | true ↦ takes_made
-      | false ↦ tt
+      | false ↦ takes_put (is_old_kept t w s x.verdicts) w.backup (bytes_at f w.name)
     ]
 
     takes_effects : Takes (effects_of t f s w x)

@@ -7,9 +7,9 @@ use Rattle.outside.specs.TreeView.{TreeView, passes_both}
 use Rattle.outside.specs.SinkView.{SinkView, sink_passes_both}
 use Rattle.hunk_core.specs.declared.Verdict.{Verdict}
 use Rattle.hunk_core.specs.declared.Verdict.TheVariants.{Ignored}
-use Rattle.hunk_apply.specs.Change.{change_verdicts}
+use Rattle.patch_task.specs.Outputs.{verdicts_over}
 use Rattle.file_patch.specs.declared.FilePatch.{FilePatch}
-use Rattle.file_patch.specs.PlainPatch.{change_of, row_count}
+use Rattle.file_patch.specs.PlainPatch.{patch_of, row_count}
 use Rattle.line_store.specs.Store.{Seen}
 use Rattle.patch_options.specs.PlainJob.{PlainOptions}
 use Rattle.patch_set.specs.declared.set.Row.{Row}
@@ -140,7 +140,7 @@ placed_all o v k ws lines all long placed p r front rows patches was =
     placed p r front rows (take_all k v.patches (omega (arith, all)) ∙ patches) (take_all k v.rows (omega (arith, all, long)) ∙ was)
 
 pub placed_rows : (o : PlainOptions) (text : List ℕ) (front rest : List Verdict) (p : FilePatch) (r : Row) (lines : List (List ℕ)) → length front ≡ p.first_verdict
-    → (take (row_count p.change) rest ≡ replicate (row_count p.change) Ignored) ⊎ (take (row_count p.change) rest ≡ change_verdicts lines o.fuzz o.loose r.side (change_of text p.change))
+    → (take (row_count p.change) rest ≡ replicate (row_count p.change) Ignored) ⊎ (take (row_count p.change) rest ≡ verdicts_over o r.side (patch_of text p) lines)
     → IsPlacedOn o text p (front ++ rest) r lines
 placed_rows o text front rest p r lines long placed =
-    subst (λ (l : List Verdict). (l ≡ replicate (row_count p.change) Ignored) ⊎ (l ≡ change_verdicts lines o.fuzz o.loose r.side (change_of text p.change))) (sym (rows-last front rest p long)) placed
+    subst (λ (l : List Verdict). (l ≡ replicate (row_count p.change) Ignored) ⊎ (l ≡ verdicts_over o r.side (patch_of text p) lines)) (sym (rows-last front rest p long)) placed

@@ -10,7 +10,7 @@ use Rattle.outside.proofs.Names.{apart, temp_of_is_temp, get-put_other, get-gone
 use Rattle.file_patch.specs.declared.derived.Target.{Target}
 use Rattle.patch_task.specs.TargetEffects.{put_if, backup_effects, target_effects, moving_effects, moved_effects}
 use Rattle.patch_task.specs.Asking.{renames}
-use Rattle.patch_run.specs.OnePatch.{PlainTurn, Tried, is_backup_due, is_removal, is_moving, is_written, made_effects, written_effects, has_rejects, rejects_text, reject_effects, effects_of, wrote}
+use Rattle.patch_run.specs.OnePatch.{PlainTurn, Tried, is_backup_due, is_old_kept, is_removal, is_moving, is_written, made_effects, written_effects, has_rejects, rejects_text, reject_effects, effects_of, wrote}
 use Rattle.patch_run.specs.Run.{cleared}
 use Rattle.patch_outcome.proofs.Writing.{moved_stays, wrote_as}
 
@@ -88,9 +88,9 @@ module _ (q : List ℕ) where
             makes : is_written t x ≡ true → (not (is_removal t x) || is_some (get f w.name)) ≡ true → wrote t f w x ≡ true
             makes is there = wrote_as t f s w x wet ∙ both_of (is_written t x) (not (is_removal t x) || is_some (get f w.name)) is there
 
-            by : (b : Bool) → is_written t x ≡ b → Others (if b then made_effects t f s w x else [])
+            by : (b : Bool) → is_written t x ≡ b → Others (if b then made_effects t f s w x else backup_effects (is_old_kept t w s x.verdicts) f w)
             by true is = made_others (λ there. own (makes is there)) (λ moves. source (makes is (ap (λ b. not b || is_some (get f w.name)) (moved_stays t x moves))) moves)
-            by false is = tt
+            by false is = others_put (is_old_kept t w s x.verdicts) w.backup (bytes_at f w.name) back
 
       pub effects_others : q ≢ w.reject → (wrote t f w x ≡ true → q ≢ w.name) → (wrote t f w x ≡ true → renames t.item.patch ≡ true → q ≢ s.name) → Others (effects_of t f s w x)
       unfolding effects_of

@@ -26,10 +26,10 @@ use Rattle.patch_task.specs.Outputs.{IsSession}
 use Rattle.patch_task.specs.Making.{IsGone, IsPart, TidyAfter, UnlessFailed}
 use Rattle.patch_run.specs.OnePatch.{Item, PlainTurn, Tried, Story, Ending, ended, stopped, effects_of, tried_said, wrote, ending}
 use Rattle.hunk_core.specs.declared.Verdict.TheVariants.{Ignored}
-use Rattle.hunk_apply.specs.Change.{change_verdicts}
+use Rattle.patch_task.specs.Outputs.{verdicts_over}
 use Rattle.patch_options.specs.PlainJob.{PlainOptions}
 use Rattle.file_patch.specs.declared.FilePatch.{FilePatch}
-use Rattle.file_patch.specs.PlainPatch.{change_of, row_count}
+use Rattle.file_patch.specs.PlainPatch.{patch_of, row_count}
 use Rattle.patch_set.specs.declared.set.Row.{Row}
 use Rattle.patch_set.specs.SetView.{SetView}
 use Rattle.patch_run.specs.Applied.{Receipt}
@@ -258,7 +258,7 @@ pub record StaysSet (old new : SetView) : Type 0 where
 
 -- the verdicts of a file patch are those of these lines, or all its hunks are ignored
 abbrev pub IsPlacedOn : PlainOptions → List ℕ → FilePatch → List Verdict → Row → List (List ℕ) → Type 0
-IsPlacedOn o text p verdicts r lines = (rows_in verdicts p ≡ replicate (row_count p.change) Ignored) ⊎ (rows_in verdicts p ≡ change_verdicts lines o.fuzz o.loose r.side (change_of text p.change))
+IsPlacedOn o text p verdicts r lines = (rows_in verdicts p ≡ replicate (row_count p.change) Ignored) ⊎ (rows_in verdicts p ≡ verdicts_over o r.side (patch_of text p) lines)
 
 -- so are those of the last file patch
 abbrev pub IsPlacedLast : PlainOptions → SetView → List Verdict → List (List ℕ) → Type 0

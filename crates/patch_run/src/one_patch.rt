@@ -8,7 +8,7 @@ ghost use Rattle.outside.specs.Calls.{IsThere, IsUntouched};
 ghost use Rattle.outside.specs.Quiet.{IsQuiet};
 ghost use Rattle.hunk_core.specs.declared.Verdict.TheVariants.{Ignored};
 ghost use Rattle.line_store.specs.Store.{Keeps};
-ghost use Rattle.hunk_apply.specs.Change.{change_verdicts};
+ghost use Rattle.patch_task.specs.Outputs.{verdicts_over};
 ghost use Rattle.hunk_apply.specs.Session.{IsTried};
 ghost use Rattle.file_patch.specs.PlainPatch.{row_count};
 ghost use Rattle.patch_run.specs.OnePatch.{Tried, ignored_said, bytes_of, lines_in, effects_of, tried_said, some_failed, is_kept, finished_at, ending};
@@ -62,7 +62,7 @@ pub fn apply_one<P: Plan, T: Tree, O: Sink>(
     // Whatever the tree tells, hunks are placed only on lines that the plan lends.
     ensures placed { IfOk result (λ done. (lines : List (List ℕ)) → (P.seen plan.new).told ≡ Some lines
         → (verdicts.new ≡ replicate (length verdicts.old) Ignored)
-        ⊎ (verdicts.new ≡ change_verdicts lines turn.now.task.options.now.fuzz turn.now.task.options.now.loose done.row.side (plain_turn turn.now).item.patch.change)) }
+        ⊎ (verdicts.new ≡ verdicts_over (plain_turn turn.now).options done.row.side (plain_turn turn.now).item.patch lines)) }
 {
     match start(&turn.task, plan, tree, out)? {
         Decision::Skip(row) => skip(turn, row, verdicts, out),
@@ -137,7 +137,7 @@ fn try_at<P: LineStore, T: Tree, O: Sink>(
     ensures rows { length verdicts.new ≡ length verdicts.old }
     ensures few { IfOk result (λ done. done.effects ≤ 5) }
     ensures placed { IfOk result (λ done. (lines : List (List ℕ)) → (P.seen plan.new).told ≡ Some lines
-        → verdicts.new ≡ change_verdicts lines turn.now.task.options.now.fuzz turn.now.task.options.now.loose done.row.side (plain_turn turn.now).item.patch.change) }
+        → verdicts.new ≡ verdicts_over (plain_turn turn.now).options done.row.side (plain_turn turn.now).item.patch lines) }
 {
     let source = chosen(&turn.task, place);
     let target = written(&turn.task, place);

@@ -17,7 +17,7 @@ ghost use Rattle.patch_run.specs.Doing.{Does, Runs, IsReceipt, IsCutAt, NoneFail
 ghost use Rattle.patch_start.specs.Devices.{Told};
 ghost use Rattle.patch_outcome.specs.TurnView.{IsTurn, plain_turn};
 ghost use Rattle.hunk_core.specs.declared.Verdict.TheVariants.{Ignored};
-ghost use Rattle.hunk_apply.specs.Change.{change_verdicts};
+ghost use Rattle.patch_task.specs.Outputs.{verdicts_over};
 
 use crate::applied::Applied;
 use crate::one_patch::{Done, apply_one};
@@ -190,7 +190,7 @@ fn apply_front<P: Plan, T: Tree, O: Sink>(
     ensures few { IfOk result (λ done. done.effects ≤ 5) }
     ensures placed { IfOk result (λ done. (lines : List (List ℕ)) → (P.seen plan.new).told ≡ Some lines
         → (take (row_count turn.now.task.patch.now.change) verdicts.new ≡ replicate (row_count turn.now.task.patch.now.change) Ignored)
-        ⊎ (take (row_count turn.now.task.patch.now.change) verdicts.new ≡ change_verdicts lines turn.now.task.options.now.fuzz turn.now.task.options.now.loose done.row.side (plain_turn turn.now).item.patch.change)) }
+        ⊎ (take (row_count turn.now.task.patch.now.change) verdicts.new ≡ verdicts_over (plain_turn turn.now).options done.row.side (plain_turn turn.now).item.patch lines)) }
 {
     let count = turn.task.patch.hunks() as usize;
     let own = &mut verdicts[..count];

@@ -5,3 +5,4 @@ mod Deciding
 pub mod Places
 mod Parting
 mod Trying
+mod Barring

@@ -23,6 +23,7 @@ use Rattle.patch_set.specs.Asked.{is_posix}
 use Rattle.name_choice.specs.declared.Choice.{Choice}
 use Rattle.name_choice.specs.declared.Choice.TheVariants.{Existing, Create, Nothing}
 use Rattle.name_choice.specs.Choice.{choice, names_of, side_of}
+use Rattle.name_choice.specs.Making.{may_make}
 use Rattle.say_text.specs.Messages.{silenced, skipping_lines, patching_line, no_file_lines, prereq_line, reversed_line, exists_line}
 use Rattle.say_text.specs.Origins.{PlainOrigin}
 use Rattle.say_text.specs.Origins.PlainOrigin.{Itself, RenamedFrom, CopiedFrom}
@@ -160,7 +161,7 @@ on_choice t files (Create k) = on_target t files k
 on_choice t files Nothing = skips (no_file_lines t.item.patch.header.opening) (record { side = side_of t.options.reverse; target = None; wrote = false }) None
 
 abbrev pub choice_of : PlainTurn → Files → Choice
-choice_of t files = choice t.item.patch.header.action (creates (side_of t.options.reverse) t.item.patch) (names_of t.item.targets) (is_some t.options.file) t.options.reverse (is_posix t.options) files
+choice_of t files = choice t.item.patch.header.action (may_make (side_of t.options.reverse) t.item.patch) (names_of t.item.targets) (is_some t.options.file) t.options.reverse (is_posix t.options) files
 
 -- the first of a run
 abbrev pub is_first : List Mark → Bool

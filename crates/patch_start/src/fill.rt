@@ -1,6 +1,9 @@
 //! The hunks of a file patch, tried on the lines that were taken.
 
-ghost use Rattle.std.specs.Prelude.{◌≡◌, ◌⊎◌, [], ℕ, List, All, true, false, length, Some, IfOk, OnOk, IfErr, IsSomeAnd};
+ghost use Rattle.std.specs.Prelude.{◌≡◌, ◌⊎◌, [], ℕ, List, All, true, false, length, replicate, Some, IfOk, OnOk, IfErr, IsSomeAnd};
+ghost use Rattle.file_patch.specs.PlainPatch.{hunks};
+ghost use Rattle.hunk_apply.specs.Change.{change_output};
+ghost use Rattle.hunk_core.specs.declared.Verdict.TheVariants.{Nowhere};
 ghost use Rattle.outside.specs.Files.{is_temp};
 ghost use Rattle.outside.specs.TreeView.{Rises};
 ghost use Rattle.outside.specs.Calls.{IsThere};
@@ -11,19 +14,20 @@ ghost use Rattle.outside.specs.SinkView.{SinkPasses, Receives};
 ghost use Rattle.hunk_apply.specs.Faults.{HasApplyCause};
 ghost use Rattle.hunk_apply.specs.Session.{IsTried};
 ghost use Rattle.patch_options.specs.PlainJob.{IsMacroName};
-ghost use Rattle.patch_task.specs.Outputs.{tried, parted_output, IsSession};
+ghost use Rattle.patch_task.specs.Asking.{is_bare};
+ghost use Rattle.patch_task.specs.Outputs.{is_barred, output_on, tried, parted_output, IsSession};
 ghost use Rattle.patch_start.specs.Trying.{IsBegun, HasTryCause, HasLineCause};
 ghost use Rattle.patch_task.specs.Faults.{of_line};
 ghost use Rattle.patch_task.specs.Making.{IsGone, IsTidy, UnlessFailed};
 ghost use Rattle.patch_task.specs.TaskView.{plain_task, IsTask};
 
 use crate::discard::Discard;
-use hunk_apply::{ApplyFault, Session, apply_hunks};
+use hunk_apply::{ApplyFault, Session, apply_each, apply_hunks};
 use hunk_core::{Side, Verdict};
 use ifdef_out::{IfdefFault, put_ifdef};
 use line_store::{LineFault, LineStore};
 use outside::{Name, Sink, Tree};
-use patch_task::{RunFault, Task};
+use patch_task::{RunFault, Task, is_bare};
 use replace_file::{Temp, TempSink, begin_temp};
 
 /// What came of the hunks, and the temporary with the output, which a dry run has not.
@@ -159,12 +163,15 @@ fn try_parted<P: LineStore, O: Sink>(
     ensures sink { SinkPasses (O.view out.old) (O.view out.new) }
     ensures rest { O.same_rest out.old out.new }
     ensures cause { IfErr result (λ e. HasApplyCause e (P.seen plan.old) (P.seen plan.new) (O.view out.old) (O.view out.new)) }
-    ensures received { OnOk result ((lines : List (List ℕ)) → (P.seen plan.old).told ≡ Some lines → Receives (O.view out.old) (O.view out.new) (parted_output (plain_task task.now) side lines define.now)) }
+    ensures received { OnOk result ((lines : List (List ℕ)) → (P.seen plan.old).told ≡ Some lines → Receives (O.view out.old) (O.view out.new) (output_on (Some define.now) (plain_task task.now) side lines)) }
     ensures session { IfOk result (λ session. (lines : List (List ℕ)) → (P.seen plan.old).told ≡ Some lines → IsSession session verdicts.new (tried (plain_task task.now) side lines).text) }
     ensures verdicts { OnOk result ((lines : List (List ℕ)) → (P.seen plan.old).told ≡ Some lines → verdicts.new ≡ (tried (plain_task task.now) side lines).verdicts) }
     ensures tried { OnOk result (All IsTried verdicts.new) }
     ensures rows { length verdicts.new ≡ length verdicts.old }
 {
+    if is_barred(task, side, plan) {
+        return try_plain(task, side, verdicts, plan, out);
+    }
     let session = try_nowhere(task, side, verdicts, plan)?;
     put_parted(task, define, side, verdicts, plan, out)?;
     Ok(session)
@@ -183,6 +190,7 @@ fn put_parted<P: LineStore, O: Sink>(
     requires define { IsMacroName define.now }
     requires rows { length verdicts.now ≡ row_count task.now.patch.now.change }
     requires tried { All IsTried verdicts.now }
+    requires open { (lines : List (List ℕ)) → (P.seen plan.old).told ≡ Some lines → is_barred (plain_task task.now).options side (plain_task task.now).item.patch lines ≡ false }
     requires placed { (lines : List (List ℕ)) → (P.seen plan.old).told ≡ Some lines → verdicts.now ≡ (tried (plain_task task.now) side lines).verdicts }
     ensures keeps { Keeps (P.seen plan.old) (P.seen plan.new) }
     ensures sink { SinkPasses (O.view out.old) (O.view out.new) }
@@ -225,6 +233,9 @@ fn try_plain<P: LineStore, O: Sink>(
     ensures tried { OnOk result (All IsTried verdicts.new) }
     ensures rows { length verdicts.new ≡ length verdicts.old }
 {
+    if is_barred(task, side, plan) {
+        return bar(task, side, verdicts, plan, out);
+    }
     let options = task.options;
     apply_hunks(
         plan,
@@ -236,6 +247,63 @@ fn try_plain<P: LineStore, O: Sink>(
         verdicts,
         out,
     )
+}
+
+/// Whether the file patch makes its file, is forced, and lines stand there, so that none of its hunks has a place.
+fn is_barred<P: LineStore>(task: &Task<'_>, side: Side, plan: &P) -> bool
+    requires task { IsTask task.now }
+    ensures barred { (lines : List (List ℕ)) → (P.seen plan.now).told ≡ Some lines → result ≡ is_barred (plain_task task.now).options side (plain_task task.now).item.patch lines }
+    ensures hunks { result ≡ true → is_bare (plain_task task.now).item.patch ≡ false }
+{
+    if !task.options.force {
+        return false;
+    }
+    if is_bare(task.patch) {
+        return false;
+    }
+    if !task.patch.creates(side) {
+        return false;
+    }
+    plan.count() > 0
+}
+
+/// No hunk has a place, and the lines are written as they are.
+fn bar<P: LineStore, O: Sink>(
+    task: &Task<'_>,
+    side: Side,
+    verdicts: &mut [Verdict],
+    plan: &mut P,
+    out: &mut O,
+) -> Result<Session, ApplyFault>
+    requires task { IsTask task.now }
+    requires hunks { is_bare (plain_task task.now).item.patch ≡ false }
+    requires rows { length verdicts.old ≡ row_count task.now.patch.now.change }
+    ensures keeps { Keeps (P.seen plan.old) (P.seen plan.new) }
+    ensures sink { SinkPasses (O.view out.old) (O.view out.new) }
+    ensures rest { O.same_rest out.old out.new }
+    ensures cause { IfErr result (λ e. HasApplyCause e (P.seen plan.old) (P.seen plan.new) (O.view out.old) (O.view out.new)) }
+    ensures received { OnOk result ((lines : List (List ℕ)) → (P.seen plan.old).told ≡ Some lines → Receives (O.view out.old) (O.view out.new) (change_output lines task.now.options.now.fuzz task.now.options.now.loose side (hunks []))) }
+    ensures session { IfOk result (λ session. (lines : List (List ℕ)) → (P.seen plan.old).told ≡ Some lines → IsSession session verdicts.new (change_output lines task.now.options.now.fuzz task.now.options.now.loose side (hunks []))) }
+    ensures verdicts { verdicts.new ≡ replicate (row_count task.now.patch.now.change) Nowhere }
+{
+    let options = task.options;
+    verdicts.fill(Verdict::Nowhere);
+    let kept = apply_each(
+        plan,
+        task.set.text(),
+        &[],
+        side,
+        options.fuzz,
+        options.loose,
+        &mut [],
+        out,
+    )?;
+    Ok(Session {
+        applied: 0,
+        failed: task.patch.hunks(),
+        inexact: true,
+        output_empty: kept.output_empty,
+    })
 }
 
 /// Tries the hunks, and writes the output to the temporary.

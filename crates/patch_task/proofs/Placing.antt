@@ -25,6 +25,10 @@ pub target_same : (removal : Bool) (w : Target) (output : List ℕ) (f g : Files
 target_same true w output f g same = ap (λ (o : Option (List ℕ)). if is_some o then Remove w.name ∷ [] else []) (sym same)
 target_same false w output f g same = refl
 
+-- and so does its backup
+pub backup_same : (due : Bool) (w : Target) (f g : Files) → get g w.name ≡ get f w.name → backup_effects due f w ≡ backup_effects due g w
+backup_same due w f g same = ap (λ (o : Option (List ℕ)). put_if due w.backup (unwrap_or o [])) (sym same)
+
 pub removes : (w : Target) (output : List ℕ) (f : Files) → is_some (get f w.name) ≡ true → target_effects true f w output ≡ Remove w.name ∷ []
 removes w output f there = ap (λ (b : Bool). if b then Remove w.name ∷ [] else []) there
 

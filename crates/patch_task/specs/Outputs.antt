@@ -1,11 +1,16 @@
 -- What comes of the hunks of a file patch.
-use Rattle.std.specs.Prelude.{ℕ, List, count_by, Bool, nat_lt, Option, None, Some, ◌≡◌}
+use Rattle.std.specs.Prelude.{ℕ, List, [], length, replicate, count_by, Bool, not, ◌&&◌, if◌then◌else◌, nat_lt, Option, None, Some, ◌≡◌}
 use Rattle.hunk_core.specs.declared.Side.{Side}
 use Rattle.hunk_core.specs.declared.Verdict.{Verdict}
+use Rattle.hunk_core.specs.declared.Verdict.TheVariants.{Nowhere}
+use Rattle.patch_options.specs.PlainJob.{PlainOptions}
+use Rattle.file_patch.specs.PlainPatch.{PlainChange, PlainPatch, hunks, hunk_count}
+use Rattle.file_patch.specs.Absent.{creates}
 use Rattle.hunk_apply.specs.Change.{change_output, change_verdicts}
 use Rattle.hunk_apply.specs.Session.{is_placed, is_failed, is_inexact}
 use Rattle.ifdef_out.specs.Placed.{change_edits}
 use Rattle.ifdef_out.specs.Tagged.{ifdef_text}
+use Rattle.patch_task.specs.Asking.{is_bare}
 use Rattle.patch_task.specs.Turns.{PlainTurn}
 use Rattle.std.specs.List.{list_any}
 use Rattle.hunk_apply.specs.Written.{is_nothing}
@@ -18,20 +23,38 @@ pub record Tried : Type 0 where
   pub text : List ℕ
   pub output : List ℕ
 
+abbrev pub has_lines : List (List ℕ) → Bool
+has_lines ls = nat_lt 0 (length ls)
+
+-- with `-f` a file patch that makes a file is tried on one with lines, too; but its hunks have one place, the front of a file without a byte
+abbrev pub is_barred : PlainOptions → Side → PlainPatch → List (List ℕ) → Bool
+is_barred o side p ls = o.force && not (is_bare p) && creates side p && has_lines ls
+
+-- the hunks that can have a place on these lines
+abbrev pub admitted : PlainOptions → Side → PlainPatch → List (List ℕ) → PlainChange
+admitted o side p ls = if is_barred o side p ls then hunks [] else p.change
+
+-- where the hunks stand, and the text with those that have a place
+abbrev pub verdicts_over : PlainOptions → Side → PlainPatch → List (List ℕ) → List Verdict
+verdicts_over o side p ls = if is_barred o side p ls then replicate (hunk_count p.change) Nowhere else change_verdicts ls o.fuzz o.loose side p.change
+
+abbrev pub text_over : PlainOptions → Side → PlainPatch → List (List ℕ) → List ℕ
+text_over o side p ls = change_output ls o.fuzz o.loose side (admitted o side p ls)
+
 abbrev pub verdicts_on : PlainTurn → Side → List (List ℕ) → List Verdict
-verdicts_on t side ls = change_verdicts ls t.options.fuzz t.options.loose side t.item.patch.change
+verdicts_on t side ls = verdicts_over t.options side t.item.patch ls
 
 abbrev pub text_of : PlainTurn → Side → List (List ℕ) → List ℕ
-text_of t side ls = change_output ls t.options.fuzz t.options.loose side t.item.patch.change
+text_of t side ls = text_over t.options side t.item.patch ls
 
 -- the old and the new lines, parted by conditions
 abbrev pub parted_output : PlainTurn → Side → List (List ℕ) → List ℕ → List ℕ
 parted_output t side ls define = ifdef_text define ls (change_edits (verdicts_on t side ls) side t.item.patch.change)
 
--- which are written with `-D`, and else the new text
+-- which are written with `-D` where hunks can have a place, and else the new text
 abbrev pub output_on : Option (List ℕ) → PlainTurn → Side → List (List ℕ) → List ℕ
 output_on None t side ls = text_of t side ls
-output_on (Some define) t side ls = parted_output t side ls define
+output_on (Some define) t side ls = if is_barred t.options side t.item.patch ls then text_of t side ls else parted_output t side ls define
 
 abbrev pub tried : PlainTurn → Side → List (List ℕ) → Tried
 tried t side ls = record { side = side; verdicts = verdicts_on t side ls; text = text_of t side ls; output = output_on t.options.define t side ls }

@@ -13,5 +13,5 @@ pub use asking::{acts_deleted, acts_new, is_bare, renames, takes_files};
 pub use fault::RunFault;
 pub use moved::write_moved;
 pub use names::{chosen, shown, shown_reject, target_in, written, written_at};
-pub use placed::{Made, forget, write_placed};
+pub use placed::{Made, keep_old, write_placed};
 pub use task::Task;

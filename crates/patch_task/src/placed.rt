@@ -51,6 +51,30 @@ pub fn write_placed<T: Tree>(
     Ok(with_backup(due, wrote))
 }
 
+/// Takes the temporary away, and backs the target up, where its bytes are kept; nothing else is done to the target.
+pub fn keep_old<T: Tree>(
+    target: &Target,
+    kept: bool,
+    temp: Temp<'_>,
+    tree: &mut T,
+) -> Result<Made, RunFault>
+    requires named { IsNamed target.now }
+    requires temp { temp.name.now ≡ target.now.temp }
+    requires apart { kept ≡ true → target.now.backup ≢ target.now.name }
+    requires quiet { IsQuiet (T.view tree.old) }
+    requires there { IsThere (T.view tree.old) target.now.temp }
+    ensures goes { GoesQuietly (T.view tree.old) (T.view tree.new) result }
+    ensures makes { Makes (T.view tree.old) (T.view tree.new) result target.now.temp (λ f. backup_effects kept f target.now) }
+    ensures gone { OnOk result (IsGone (T.view tree.new) target.now.temp) }
+    ensures wrote { IfOk result (λ made. made.wrote ≡ false) }
+    ensures count { IfOk result (λ made. made.effects ≡ (if kept then 1 else 0)) }
+    ensures tidy { OnOk result (IsTidy (T.view tree.old) (T.view tree.new)) }
+{
+    forget(temp, target, tree)?;
+    put_backup(target, kept, tree)?;
+    Ok(with_backup(kept, false))
+}
+
 /// A backup, if it was due, and what was done to the target.
 fn with_backup(due: bool, wrote: bool) -> Made
     ensures wrote { result.wrote ≡ wrote }
@@ -118,7 +142,7 @@ fn erase<T: Tree>(temp: Temp<'_>, target: &Target, tree: &mut T) -> Result<bool,
 }
 
 /// Takes the temporary away.
-pub fn forget<T: Tree>(temp: Temp<'_>, target: &Target, tree: &mut T) -> Result<(), RunFault>
+fn forget<T: Tree>(temp: Temp<'_>, target: &Target, tree: &mut T) -> Result<(), RunFault>
     requires named { IsNamed target.now }
     requires temp { temp.name.now ≡ target.now.temp }
     requires quiet { IsQuiet (T.view tree.old) }

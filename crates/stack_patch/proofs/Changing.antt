@@ -1,5 +1,6 @@
 -- What the effects of a run change.
 use Rattle.std.proofs.Common.{◌≡◌, ℕ, ◌<◌, List, [], ◌∷◌, ◌++◌, length, Bool, true, false, not, ◌&&◌, ◌||◌, if◌then◌else◌, Option, None, Some, refl, sym, ap, subst, arith, zero, suc}
+use Rattle.std.proofs.lemmas.Bool.{and_parts}
 use Rattle.std.specs.Prelude.{slice_get, unwrap_or, is_some, is_none}
 use Rattle.std.specs.List.{AllByRecursion}
 use Rattle.std.specs.Option.{option_or}
@@ -13,7 +14,7 @@ use Rattle.patch_options.specs.PlainJob.{PlainOptions}
 use Rattle.file_patch.specs.declared.derived.Target.{Target}
 use Rattle.patch_task.specs.TargetEffects.{put_if, backup_effects, target_effects, moved_effects, moving_effects}
 use Rattle.patch_task.specs.Asking.{written_place}
-use Rattle.patch_run.specs.OnePatch.{Item, PlainTurn, Start, skips, refuses, tries, Story, Ending, ended, stopped, Tried, no_target, target_at, written_at, written, tried, is_backup_due, is_backup_apart, is_backup_asked, was_written, is_removal, is_moving, is_written, made_effects, written_effects, has_rejects, rejects_text, reject_effects, effects_of, start, ending_of, ending, bytes_of, lines_in}
+use Rattle.patch_run.specs.OnePatch.{Item, PlainTurn, Start, skips, refuses, tries, Story, Ending, ended, stopped, Tried, no_target, target_at, written_at, written, tried, is_backup_due, is_backup_apart, is_backup_asked, keeps_old, is_old_kept, was_written, is_removal, is_moving, is_written, made_effects, written_effects, has_rejects, rejects_text, reject_effects, effects_of, start, ending_of, ending, bytes_of, lines_in}
 use Rattle.patch_run.specs.Doing.{effects_in}
 use Rattle.patch_run.specs.Run.{Run, begun, turn_of, with_ending, if_going, with_item, run_on, run_of}
 use Rattle.series_stack.specs.Commands.{changed_by}
@@ -73,9 +74,9 @@ module _ (Q : List ℕ → Type 0) where
     ]
 
     written_only : Only (written_effects t f s w x)
-    written_only = elim (is_written t x) as (λ b. Only (if b then made_effects t f s w x else [])) [
+    written_only = elim (is_written t x) as (λ b. Only (if b then made_effects t f s w x else backup_effects (is_old_kept t w s x.verdicts) f w)) [
       | true ↦ made_only
-      | false ↦ tt
+      | false ↦ only_if (is_old_kept t w s x.verdicts) w.backup _ (λ kept. to.backup (due_asked t w s x.verdicts (and_parts (keeps_old t.options x.verdicts) (is_backup_due t w s x.verdicts) kept).1))
     ]
 
     rejects_only : Only (reject_effects t w x)

@@ -8,6 +8,7 @@ use Rattle.hunk_core.specs.Reading.{Fault}
 use Rattle.patch_options.specs.PlainJob.{PlainOptions}
 use Rattle.patch_options.specs.declared.options.Input.TheVariants.{Standard}
 use Rattle.patch_options.specs.declared.options.PlanKind.TheVariants.{Auto}
+use Rattle.patch_options.specs.declared.options.SyncKind.TheVariants.{Each}
 use Rattle.file_patch.specs.Numbered.{is_among}
 use Rattle.file_patch.specs.PlainPatch.{PlainPatch}
 use Rattle.patch_text.specs.Patches.{patches_of}
@@ -52,6 +53,7 @@ push_options = record {
   verbose = false;
   plan = Auto;
   buffer = 65536;
+  sync = Each;
 }
 
 -- ---- the file patches and their targets

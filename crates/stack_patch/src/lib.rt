@@ -20,7 +20,7 @@ mod names;
 pub use laws::{names_of_a_run, patches_of_a_stack};
 pub use names::{Saved, saved_names};
 use outside::{Name, Tree};
-use patch_options::{Input, Options, PlanKind};
+use patch_options::{Input, Options, PlanKind, SyncKind};
 use patch_set::{PatchSet, SetFault, read_set};
 use run_answers::{InputFault, read_file};
 use std::alloc::Global;
@@ -68,6 +68,7 @@ pub fn push_options() -> Options
         verbose: false,
         plan: PlanKind::Auto,
         buffer: 65_536,
+        sync: SyncKind::Each,
     }
 }
 

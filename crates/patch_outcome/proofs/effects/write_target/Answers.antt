@@ -1,42 +1,35 @@
 use Rattle.std.proofs.Common.{◌&&◌, ◌||◌, [], if◌then◌else◌, not, is_some, sym, length, ◌∙◌, ap, refl, arith, inr}
 use Rattle.std.proofs.lemmas.Result.{IfOk-weaker}
 use Rattle.std.specs.FinMap.{get}
-use Rattle.outside.specs.Files.{Files}
-use Rattle.outside.proofs.Exits.{if_ok_none, on_ok_none}
+use Rattle.outside.specs.Files.{Files, bytes_at}
 use Rattle.patch_task.specs.declared.fault.RunFault.TheVariants.{Tree}
-use Rattle.patch_task.proofs.Making.{makes_is, makes_value, makes_stops, untouched_works}
-use Rattle.patch_task.proofs.Tidy.{makes_tidy}
-use Rattle.patch_outcome.specs.Outcome.{is_removal, made_effects, written_effects}
+use Rattle.patch_task.proofs.Making.{makes_is, untouched_works}
+use Rattle.patch_task.proofs.Placing.{put_count}
+use Rattle.patch_outcome.specs.Outcome.{is_removal, written_effects}
 use Rattle.patch_outcome.specs.TurnView.{plain_turn}
-use Rattle.patch_outcome.proofs.Moving.{makes_after, makes_none, goes_after, goes_value, goes_fault, tidy_after, two_four}
-use Rattle.patch_outcome.proofs.Writing.{written_as, put_as, moved_as, moved_stays}
+use Rattle.patch_outcome.proofs.Moving.{makes_after, makes_none, goes_after, kept_few, tidy_after, two_four}
+use Rattle.patch_outcome.proofs.Writing.{kept_as, written_as, put_as, moved_as, moved_stays}
 use Rattle.patch_outcome.proofs.effects.write_target.Goals as goal
 
 pub returns-then-not-is_written : goal.returns-then-not-is_written
 returns-then-not-is_written g c = record {
-  wrote = λ f x told side session. sym (ap (λ b. b && (not (is_removal (plain_turn c.args.turn.now) x) || is_some (get f c.args.target.now.name))) (sym (c.is_written.ensures x side session) ∙ c.if-not-is_written.true));
-  count = λ f x told side session. sym (ap (λ b. length (if b then made_effects (plain_turn c.args.turn.now) f c.args.source.now c.args.target.now x else [])) (sym (c.is_written.ensures x side session) ∙ c.if-not-is_written.true));
+  wrote = (
+      IfOk-weaker c.keep_old.result _ _
+      (λ made is f x told side session. is ∙ sym (ap (λ b. b && (not (is_removal (plain_turn c.args.turn.now) x) || is_some (get f c.args.target.now.name))) (sym (c.is_written.ensures x side session) ∙ c.if-not-is_written.true)))
+      c.keep_old.ensures.wrote);
+  count = (
+      let due = c.is_old_kept-kept.result in
+      IfOk-weaker c.keep_old.result _ _
+      (λ made is f x told side session. is ∙ sym (ap length (kept_as (plain_turn c.args.turn.now) f c.args.source.now c.args.target.now x due (sym (c.is_written.ensures x side session) ∙ c.if-not-is_written.true) (c.is_old_kept-kept.ensures.kept x.verdicts session.failed session.inexact))
+      ∙ put_count due c.args.target.now.backup (bytes_at f c.args.target.now.name)))
+      c.keep_old.ensures.count);
   makes = λ x side session holds.
-      let t = plain_turn c.args.turn.now in
-      makes_is _ (λ f. written_effects t f c.args.source.now c.args.target.now x) (makes_value c.in_ok-forget.field-0 _ c.in_ok-forget.ensures.makes)
-      (λ f told. ap (λ b. if b then made_effects t f c.args.source.now c.args.target.now x else []) (sym (c.is_written.ensures x side session) ∙ c.if-not-is_written.true));
-  tidy = makes_tidy c.in_ok-forget.field-0 c.args.target.now.temp (λ f. []) (λ f told. c.in_ok-forget.ensures.makes) c.in_ok-forget.ensures.gone (λ f h q is. inr refl);
-  gone = c.in_ok-forget.ensures.gone;
-  goes = goes_value c.in_ok-forget.field-0 _ c.in_ok-forget.ensures.goes;
-  few = omega arith;
-}
-
-pub returns-in_err-forget : goal.returns-in_err-forget
-returns-in_err-forget g c = record {
-  wrote = if_ok_none _ _ c.from_residual.result c.from_residual.ensures.1;
-  count = if_ok_none _ _ c.from_residual.result c.from_residual.ensures.1;
-  few = if_ok_none _ _ c.from_residual.result c.from_residual.ensures.1;
-  gone = on_ok_none _ _ c.from_residual.result c.from_residual.ensures.1;
-  tidy = on_ok_none _ _ c.from_residual.result c.from_residual.ensures.1;
-  makes = λ x side session holds.
-      let es = λ (f : Files). written_effects (plain_turn c.args.turn.now) f c.args.source.now c.args.target.now x in
-      makes_stops c.in_err-forget.field-0.0 c.from_residual.result es es c.from_residual.ensures.1 c.in_err-forget.ensures.makes (λ f told. refl);
-  goes = goes_fault c.in_err-forget.field-0.0 c.from_residual.result c.from_residual.ensures.1 c.in_err-forget.ensures.goes;
+      makes_is c.keep_old.result _ c.keep_old.ensures.makes
+      (λ f told. kept_as (plain_turn c.args.turn.now) f c.args.source.now c.args.target.now x c.is_old_kept-kept.result (sym (c.is_written.ensures x side session) ∙ c.if-not-is_written.true) (c.is_old_kept-kept.ensures.kept x.verdicts session.failed session.inexact));
+  tidy = c.keep_old.ensures.tidy;
+  gone = c.keep_old.ensures.gone;
+  goes = c.keep_old.ensures.goes;
+  few = IfOk-weaker c.keep_old.result _ _ (λ made is. kept_few c.is_old_kept-kept.result made.effects is) c.keep_old.ensures.count;
 }
 
 pub returns-in-Err : goal.returns-in-Err
@@ -147,17 +140,23 @@ write_moved-requires-clause-apart g c due = (c.is_backup_due-due.ensures.apart d
 pub write_moved-requires-clause-source_apart : goal.write_moved-requires-clause-source_apart
 write_moved-requires-clause-source_apart g c due = (c.is_backup_due-source_due.ensures.other due (c.in-Ok.ensures.renames c.if-not-moving.false), c.is_backup_due-source_due.ensures.apart due)
 
-pub forget-requires-clause-there : goal.forget-requires-clause-there
-forget-requires-clause-there g c = c.requires.there
+pub keep_old-requires-clause-there : goal.keep_old-requires-clause-there
+keep_old-requires-clause-there g c = c.requires.there
 
-pub forget-requires-clause-temp : goal.forget-requires-clause-temp
-forget-requires-clause-temp g c = c.requires.temp
+pub keep_old-requires-clause-temp : goal.keep_old-requires-clause-temp
+keep_old-requires-clause-temp g c = c.requires.temp
 
-pub forget-requires-clause-named : goal.forget-requires-clause-named
-forget-requires-clause-named g c = c.requires.named
+pub keep_old-requires-clause-named : goal.keep_old-requires-clause-named
+keep_old-requires-clause-named g c = c.requires.named
 
-pub forget-requires-clause-quiet : goal.forget-requires-clause-quiet
-forget-requires-clause-quiet g c = c.requires.quiet
+pub keep_old-requires-clause-quiet : goal.keep_old-requires-clause-quiet
+keep_old-requires-clause-quiet g c = c.requires.quiet
+
+pub keep_old-requires-clause-apart : goal.keep_old-requires-clause-apart
+keep_old-requires-clause-apart g c = c.is_old_kept-kept.ensures.apart
+
+pub is_old_kept-kept-requires : goal.is_old_kept-kept-requires
+is_old_kept-kept-requires g c = record { turn = c.requires.turn }
 
 pub is_written-requires : goal.is_written-requires
 is_written-requires g c = record { turn = c.requires.turn }

@@ -6,7 +6,7 @@ use Rattle.outside.proofs.Exits.{if_ok_none}
 use Rattle.outside.proofs.Views.{untouched_quiet}
 use Rattle.hunk_core.specs.declared.Verdict.{Verdict}
 use Rattle.hunk_core.specs.declared.Verdict.TheVariants.{Ignored}
-use Rattle.hunk_apply.specs.Change.{change_verdicts}
+use Rattle.patch_task.specs.Outputs.{verdicts_over}
 use Rattle.patch_start.specs.declared.starting.Decision.{Decision}
 use Rattle.patch_start.specs.Starting.{IsWithin}
 use Rattle.patch_run.specs.declared.one_patch.Done.{Done}
@@ -53,7 +53,7 @@ returns-in-Skip g c = record {
       IfOk-weaker c.skip.result (λ (done : Done). done ≡ record { row = c.in-Skip.row; is_bad = true; effects = 0 })
       (λ (done : Done). (lines : List (List ℕ)) → (g.P.LineStore.seen c.start.new.plan).told ≡ Some lines
       → (c.skip.new.verdicts ≡ replicate (length c.args.verdicts.now) Ignored)
-      ⊎ (c.skip.new.verdicts ≡ change_verdicts lines c.args.turn.now.task.options.now.fuzz c.args.turn.now.task.options.now.loose done.row.side (plain_turn c.args.turn.now).item.patch.change))
+      ⊎ (c.skip.new.verdicts ≡ verdicts_over (plain_turn c.args.turn.now).options done.row.side (plain_turn c.args.turn.now).item.patch lines))
       (λ done is lines told. inl c.skip.ensures.ignored) c.skip.ensures.done);
   few = (
       IfOk-weaker c.skip.result (λ (done : Done). done ≡ record { row = c.in-Skip.row; is_bad = true; effects = 0 }) (λ (done : Done). done.effects ≤ 5)
@@ -74,10 +74,10 @@ returns-in-Try g c = record {
   placed = (
       IfOk-weaker c.try_at.result
       (λ (done : Done). (lines : List (List ℕ)) → (g.P.LineStore.seen c.try_at.new.plan).told ≡ Some lines
-      → c.try_at.new.verdicts ≡ change_verdicts lines c.args.turn.now.task.options.now.fuzz c.args.turn.now.task.options.now.loose done.row.side (plain_turn c.args.turn.now).item.patch.change)
+      → c.try_at.new.verdicts ≡ verdicts_over (plain_turn c.args.turn.now).options done.row.side (plain_turn c.args.turn.now).item.patch lines)
       (λ (done : Done). (lines : List (List ℕ)) → (g.P.LineStore.seen c.try_at.new.plan).told ≡ Some lines
       → (c.try_at.new.verdicts ≡ replicate (length c.args.verdicts.now) Ignored)
-      ⊎ (c.try_at.new.verdicts ≡ change_verdicts lines c.args.turn.now.task.options.now.fuzz c.args.turn.now.task.options.now.loose done.row.side (plain_turn c.args.turn.now).item.patch.change))
+      ⊎ (c.try_at.new.verdicts ≡ verdicts_over (plain_turn c.args.turn.now).options done.row.side (plain_turn c.args.turn.now).item.patch lines))
       (λ done placed lines told. inr (placed lines told)) c.try_at.ensures.placed);
 }
 

@@ -3,7 +3,7 @@ use Rattle.std.proofs.lemmas.Option.{same_Some}
 use Rattle.outside.specs.Files.{Files}
 use Rattle.outside.specs.TreeView.{passes_both}
 use Rattle.outside.specs.Calls.{IsUntouched, untouched_none}
-use Rattle.hunk_apply.specs.Change.{change_verdicts}
+use Rattle.patch_task.specs.Outputs.{verdicts_over}
 use Rattle.patch_set.specs.declared.set.Row.{Row}
 use Rattle.file_patch.specs.declared.derived.Target.{Target}
 use Rattle.patch_task.specs.declared.fault.RunFault.{RunFault}
@@ -178,7 +178,7 @@ returns g c = record {
   few = omega (arith, c.done_of.ensures.effects, c.in_ok-made.ensures.few);
   placed = λ lines told.
       c.in_ok-attempt.ensures.verdicts lines (sym c.in_ok-attempt.ensures.keeps.told ∙ told)
-      ∙ ap (λ (r : Row). change_verdicts lines c.args.turn.now.task.options.now.fuzz c.args.turn.now.task.options.now.loose r.side (plain_turn c.args.turn.now).item.patch.change) (sym c.done_of.ensures.row);
+      ∙ ap (λ (r : Row). verdicts_over (plain_turn c.args.turn.now).options r.side (plain_turn c.args.turn.now).item.patch lines) (sym c.done_of.ensures.row);
   stays = record {
     tree = passes_both c.in_ok-attempt.ensures.works.passes c.in_ok-made.ensures.tree;
     plan = kept_plan (g.P.LineStore.seen c.args.plan.now) (g.P.LineStore.seen c.try_hunks.new.plan) c.in_ok-attempt.ensures.keeps;

@@ -5,8 +5,8 @@ use Rattle.std.proofs.lemmas.Result.{IfOk-weaker}
 use Rattle.hunk_core.specs.declared.Verdict.{Verdict}
 use Rattle.file_patch.specs.declared.FilePatch.{FilePatch}
 use Rattle.hunk_core.specs.declared.Verdict.TheVariants.{Ignored}
-use Rattle.hunk_apply.specs.Change.{change_verdicts}
-use Rattle.file_patch.specs.PlainPatch.{change_of, row_count}
+use Rattle.patch_task.specs.Outputs.{verdicts_over}
+use Rattle.file_patch.specs.PlainPatch.{patch_of, row_count}
 use Rattle.patch_options.specs.PlainJob.{plain_options}
 use Rattle.patch_run.specs.Doing.{Does, IsPlacedOn}
 use Rattle.patch_run.specs.OnePatch.{Mark, PlainTurn, ending}
@@ -99,7 +99,7 @@ returns g c = record {
       let seen = g.P.LineStore.seen c.apply_front.new.plan in
       let at : q ≡ get_or v.patches k q = c.index-patches-k.is ∙ ap (λ (l : List FilePatch). get_or l k q) c.patches.ensures.patches in
       IfOk-weaker c.apply_front.result
-      (λ done. (lines : List (List ℕ)) → seen.told ≡ Some lines → (take (row_count q.change) rest ≡ replicate (row_count q.change) Ignored) ⊎ (take (row_count q.change) rest ≡ change_verdicts lines o.fuzz o.loose done.row.side (change_of v.text q.change)))
+      (λ done. (lines : List (List ℕ)) → seen.told ≡ Some lines → (take (row_count q.change) rest ≡ replicate (row_count q.change) Ignored) ⊎ (take (row_count q.change) rest ≡ verdicts_over o done.row.side (patch_of v.text q) lines))
       (λ done. (p : FilePatch) (lines : List (List ℕ)) → p ≡ get_or v.patches k p → seen.told ≡ Some lines → IsPlacedOn o v.text p (front ++ rest) done.row lines)
       (λ done placed p lines here told.
       subst (λ (x : FilePatch). IsPlacedOn o v.text x (front ++ rest) done.row lines) (same-patch v.patches k p q c.requires.within here at)

@@ -2,7 +2,7 @@ use Rattle.std.proofs.Common.{◌≡◌, ◌⊎◌, ℕ, List, [], length, take,
 use Rattle.std.proofs.lemmas.List.{take_at, drop_at, length-take, length-take-le}
 use Rattle.hunk_core.specs.declared.Verdict.{Verdict}
 use Rattle.hunk_core.specs.declared.Verdict.TheVariants.{Ignored}
-use Rattle.hunk_apply.specs.Change.{change_verdicts}
+use Rattle.patch_task.specs.Outputs.{verdicts_over}
 use Rattle.file_patch.specs.PlainPatch.{row_count}
 use Rattle.patch_run.specs.Doing.{Does}
 use Rattle.patch_run.specs.OnePatch.{ending}
@@ -40,9 +40,8 @@ returns g c = record {
       let is : count ≡ n = c.hunks-count.ensures [] ∙ rows-counted [] c.args.turn.now.task.patch.now.change in
       let ws = c.apply_one.new.verdicts in
       let own : length (take count c.args.verdicts.now) ≡ n = omega (arith, length-take count c.args.verdicts.now, is, c.requires.rows) in
-      let o = c.args.turn.now.task.options.now in
       let placed : List Verdict → ℕ → Type 0 = λ l m. IfOk c.apply_one.result (λ done. (lines : List (List ℕ)) → (g.P.LineStore.seen c.apply_one.new.plan).told ≡ Some lines
-      → (l ≡ replicate m Ignored) ⊎ (l ≡ change_verdicts lines o.fuzz o.loose done.row.side (plain_turn c.args.turn.now).item.patch.change)) in
+      → (l ≡ replicate m Ignored) ⊎ (l ≡ verdicts_over (plain_turn c.args.turn.now).options done.row.side (plain_turn c.args.turn.now).item.patch lines)) in
       subst (λ (l : List Verdict). placed l n) (sym (take_at ws (drop count c.args.verdicts.now) n (c.apply_one.ensures.rows ∙ own)))
       (subst (λ (m : ℕ). placed ws m) own c.apply_one.ensures.placed));
 }
