@@ -6,9 +6,10 @@ use crate::refusing::refused;
 use crate::runner::Runner;
 use outside::{Sink, put_all};
 use patch_options::patch_usage;
-use program_words::{Telling, called_tool, told, tool_of, words_of};
+use program_words::{Telling, called_tool, told, tool_of, version_of, words_of};
 use run_answers::Why;
 use std::alloc::AllocError;
+use std::io;
 use std::io::ErrorKind;
 use tool_words::usage;
 
@@ -28,7 +29,7 @@ fn answer_to<X: Runner>(rt: &HostRuntime, runner: &X, words: &[String]) -> u8 {
     };
     let status = match do_asked(rt, runner, tool, words, &mut outputs) {
         Ok(why) => outputs.end(rt.alloc(), tool, why),
-        Err(_) => refused(rt, tool, ErrorKind::OutOfMemory),
+        Err(error) => refused(rt, tool, error.kind()),
     };
     outputs.let_go();
     status
@@ -40,25 +41,26 @@ fn do_asked<X: Runner>(
     tool: &str,
     words: &[String],
     outputs: &mut Outputs,
-) -> Result<Why, AllocError> {
-    match told(words) {
+) -> io::Result<Why> {
+    match told(rt.alloc(), words)? {
         Some(Telling::Text(text)) => {
             let _ = put_all(&mut outputs.out, text.as_bytes());
             Ok(Why::Done)
         }
+        Some(Telling::Version(of)) => tell(&mut outputs.out, version_of(rt.alloc(), of)),
         Some(Telling::Patch) => tell(&mut outputs.out, patch_usage(rt.alloc())),
         Some(Telling::Words(of)) => tell(&mut outputs.out, usage(rt.alloc(), of)),
-        None => Ok(run_over(rt, runner, tool, words, outputs)),
+        None => run_over(rt, runner, tool, words, outputs),
     }
 }
 
-/// Tells the words of a tool, made of its table.
-fn tell<O: Sink>(out: &mut O, made: Result<String, AllocError>) -> Result<Why, AllocError> {
+/// Tells the words of a tool, made of its table, or its version.
+fn tell<O: Sink>(out: &mut O, made: Result<String, AllocError>) -> io::Result<Why> {
     match made {
         Ok(text) => {
             let _ = put_all(out, text.as_bytes());
             Ok(Why::Done)
         }
-        Err(error) => Err(error),
+        Err(error) => Err(error.into()),
     }
 }

@@ -3,39 +3,63 @@
 use crate::helping::put_help;
 use crate::outputs::Outputs;
 use crate::runner::Runner;
+use crate::syncing::syncs_of;
 use outside::put_all;
 use program_words::{Lines, places_of};
 use real_devices::{Disk, Input, Pages};
 use run_answers::Why;
+use std::env::VarError;
+use std::{env, io};
 
 /// The tools that may read a patch text from standard input of which something is said behind the run.
 const PATCH: &str = "patch";
 
 const RECOUNT: &str = "recountdiff";
 
-/// The run over the real files and standard input, and the lines behind its answer's.
+/// Where the scratch is made, if the environment names no directory for temporary files.
+const TEMPORARY: &str = "/tmp";
+
+/// The system takes no longer path with a name behind it.
+const LONGEST_DIRECTORY: usize = 4_000;
+
+/// The directory for temporary files.
+fn directory_in(named: &Result<String, VarError>) -> &str {
+    match named {
+        Ok(directory) if (1..=LONGEST_DIRECTORY).contains(&directory.len()) => directory.as_str(),
+        _ => TEMPORARY,
+    }
+}
+
+/// The run over the real files and standard input, and the lines behind its answer's. All that the files want of memory is taken
+/// before it begins.
 pub fn run_over<X: Runner>(
     rt: &HostRuntime,
     runner: &X,
     tool: &str,
     words: &[String],
     outputs: &mut Outputs,
-) -> Why {
+) -> io::Result<Why> {
     let alloc = rt.alloc();
     let is_patch = matches!(tool, PATCH | RECOUNT);
-    let mut tree = Disk::new(alloc, rt, places_of(alloc, tool, words));
+    let mut tree = Disk::new(
+        alloc,
+        rt,
+        places_of(alloc, tool, words),
+        syncs_of(alloc, words),
+    )?;
+    let named = env::var(rt, "TMPDIR");
+    let pages = Pages::new(alloc, rt, directory_in(&named))?;
     let mut input = Input::new(alloc, rt.stdin(), is_patch);
     let (why, pages) = runner.run(
         alloc,
         words,
         &mut tree,
-        Pages::new(alloc, rt),
+        pages,
         &mut input,
         &mut outputs.out,
         &mut outputs.err,
     );
     tree.end();
-    pages.end();
     let mut lines = Lines::new(alloc);
     put_help(
         &mut lines,
@@ -49,5 +73,5 @@ pub fn run_over<X: Runner>(
         &outputs.out,
     );
     let _ = put_all(&mut outputs.err, lines.text().as_bytes());
-    why
+    Ok(why)
 }

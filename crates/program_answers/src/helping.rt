@@ -10,6 +10,10 @@ use std::fs::File;
 use std::io::{Read, Write};
 use std::rt::Files;
 
+/// What is said of a temporary of another run.
+const TAKEN: &str =
+    ": a temporary of a run that was stopped or isn't done yet; it stays as it is\n";
+
 /// Puts them. The devices are those of the run.
 pub fn put_help<R: Files<File = File>, I: Read + Drop, O: Write + Drop>(
     lines: &mut Lines,
@@ -22,6 +26,7 @@ pub fn put_help<R: Files<File = File>, I: Read + Drop, O: Write + Drop>(
     pages: &Pages<'_, R>,
     out: &Output<O>,
 ) {
+    put_taken(lines, tool, tree.taken());
     put_patch(lines, tool, why, tree.passed());
     match why {
         Why::Done | Why::Rejected | Why::Garbage => {
@@ -34,7 +39,7 @@ pub fn put_help<R: Files<File = File>, I: Read + Drop, O: Write + Drop>(
         }
         Why::LongLine { length, .. } => put_long(lines, tool, tree.ends().last(), length),
         Why::Usage => put_usage(lines, tool, words),
-        Why::NoPatchFile => put_missing(lines, tool, tree.missing()),
+        Why::NoPatchFile => put_missing(lines, tool, tree.missing(lines.alloc)),
         Why::BadPattern => put_pattern(lines, tool, words),
         Why::BadState { file } => put_state(lines, tool, tree, file),
         Why::TreeFault => put_behind(lines, tool, why, tree.trouble()),
@@ -58,6 +63,16 @@ fn put_of_text<R: Files>(
         put_texts(lines, rt, tool, words, ended, of_input);
     } else {
         put_texts(lines, rt, tool, words, ended, of_file);
+    }
+}
+
+/// Which temporary is there that this run hasn't made.
+fn put_taken(lines: &mut Lines, tool: &str, name: &str) {
+    if !name.is_empty() {
+        lines.put(tool);
+        lines.put(": ");
+        lines.put(name);
+        lines.put(TAKEN);
     }
 }
 

@@ -8,6 +8,7 @@ mod helping;
 mod outputs;
 mod refusing;
 mod runner;
+mod syncing;
 
 pub use asking::answer;
 pub use runner::Runner;

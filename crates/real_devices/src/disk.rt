@@ -5,7 +5,7 @@ use crate::faults::Faults;
 use crate::line_ends::LineEnds;
 use crate::passed::Passed;
 use outside::{Failed, Name, Tree};
-use real_files::{OpenFiles, Path, Trouble};
+use real_files::{OpenFiles, Path, Syncs, Trouble};
 use std::alloc::{AllocError, Global};
 use std::fs::File;
 use std::io;
@@ -52,16 +52,26 @@ struct Seen {
 impl<'r, R: Files<File = File>> Disk<'r, R> {
     /// The tree of a stack of patches has saves, whose rights have rules of their own. Where the operator gives the directory
     /// that a run works in, nothing begins unless it is there, nor where a directory stands in place of a file that the words name.
-    pub fn new(alloc: Global, rt: &'r R, places: Places) -> Disk<'r, R> {
-        Disk {
-            files: OpenFiles::new(alloc, rt, places.is_stack),
+    /// All the memory that its calls want is taken here.
+    pub fn new(
+        alloc: Global,
+        rt: &'r R,
+        places: Places,
+        syncs: Syncs,
+    ) -> Result<Disk<'r, R>, AllocError> {
+        let files = match OpenFiles::new(alloc, rt, places.is_stack, syncs) {
+            Ok(files) => files,
+            Err(error) => return Err(error),
+        };
+        Ok(Disk {
+            files,
             faults: Faults::new(alloc),
             seen: Seen {
                 places,
                 passed: Passed::new(alloc),
                 ends: LineEnds::new(alloc),
             },
-        }
+        })
     }
 
     /// Takes away the temporaries that a run left which a fault of another file broke off. Nothing is called behind it.
@@ -75,8 +85,13 @@ impl<'r, R: Files<File = File>> Disk<'r, R> {
     }
 
     /// The name of the last file that was looked for and isn't there, and why, as `d/n: not found`.
-    pub fn missing(&self) -> Result<Option<String>, AllocError> {
-        self.files.missing(self.seen.places.has_input)
+    pub fn missing(&self, alloc: Global) -> Result<Option<String>, AllocError> {
+        self.files.missing(alloc, self.seen.places.has_input)
+    }
+
+    /// The first name that was taken already when a temporary was to be made, or nothing.
+    pub fn taken(&self) -> &str {
+        self.files.taken()
     }
 
     /// What is kept of the patch text that was read last.

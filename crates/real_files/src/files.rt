@@ -1,52 +1,69 @@
 //! The files: what is open, what is gathered, and whose rights each new file gets.
 //!
-//! Links are followed in the part of a name that the operator gave, and nowhere else: else a name that is one, or that goes
-//! through one, is no file here, and nothing is written below it. What is written is never a link itself.
+//! Links are followed in the part of a name that the operator gave, and nowhere else: else a name that is one, or that goes through
+//! one, is no file here, and nothing is written below it. What is written is never a link itself.
+//!
+//! A temporary goes by its file's name with `.ptmp` behind it, and stands under another name that no file has. So a file of the
+//! user's that is so named is read as any other.
 ghost use Rattle.std.specs.Prelude.{◌≤◌, length, IfOk};
 
-use crate::found::{found_behind, found_itself};
-use crate::fresh::{rights_due, take_away};
+use crate::directories::{Directories, Syncs};
+use crate::found::{Found, found_behind, found_itself, told};
 use crate::looks::Looks;
 use crate::missing::Missing;
-use crate::origins::usual;
 use crate::paths::{
-    Path, directory_of, no_file, not_a_directory, not_a_file, out_of_reach, plain, regular,
-    replaceable, target_of,
+    Path, no_file, not_a_directory, not_a_file, or_out_of_reach, regular, target_of,
 };
-use crate::reading::Reading;
+use crate::reading::{Reading, Seen};
 use crate::saves::Saves;
+use crate::spots::Place;
 use crate::temporaries::Temporaries;
-use crate::unsynced::Directories;
 use crate::writing::Writing;
 use std::alloc::{AllocError, Global};
-use std::fs::File;
+use std::fs::{File, OpenFile, OpenOptions};
+use std::io;
 use std::rt::Files;
-use std::{fs, io};
 
 #[derive(Drop)]
 pub struct OpenFiles<'r, R: Files<File = File>> {
-    rt: &'r R,
-    reading: Reading,
-    writing: Writing,
-    saves: Saves,
-    temporaries: Temporaries,
-    looks: Looks,
-    missing: Missing,
-    directories: Directories,
+    pub(crate) rt: &'r R,
+    pub(crate) is_stack: bool,
+    pub(crate) syncs: Syncs,
+    pub(crate) reading: Reading,
+    pub(crate) writing: Writing,
+    pub(crate) saves: Saves,
+    pub(crate) temporaries: Temporaries,
+    pub(crate) looks: Looks,
+    pub(crate) missing: Missing,
+    pub(crate) directories: Directories,
 }
 
 impl<'r, R: Files<File = File>> OpenFiles<'r, R> {
-    pub fn new(alloc: Global, rt: &'r R, is_stack: bool) -> OpenFiles<'r, R> {
-        OpenFiles {
+    /// Takes all the memory that calls on files want, but for many temporaries at once and for the saves of a stack.
+    pub fn new(
+        alloc: Global,
+        rt: &'r R,
+        is_stack: bool,
+        syncs: Syncs,
+    ) -> Result<OpenFiles<'r, R>, AllocError> {
+        let reading = Reading::new(alloc)?;
+        let writing = Writing::new(alloc)?;
+        let temporaries = Temporaries::new(alloc)?;
+        let looks = Looks::new(alloc)?;
+        let missing = Missing::new(alloc)?;
+        let directories = Directories::new(alloc, syncs)?;
+        Ok(OpenFiles {
             rt,
-            reading: Reading::new(alloc, is_stack),
-            writing: Writing::new(alloc),
+            is_stack,
+            syncs,
+            reading,
+            writing,
             saves: Saves::new(alloc, is_stack),
-            temporaries: Temporaries::new(alloc),
-            looks: Looks::new(alloc),
-            missing: Missing::new(alloc),
-            directories: Directories::new(alloc),
-        }
+            temporaries,
+            looks,
+            missing,
+            directories,
+        })
     }
 
     /// Whether the directory is there that a run works in, if one is given.
@@ -76,7 +93,7 @@ impl<'r, R: Files<File = File>> OpenFiles<'r, R> {
                 Err(not_a_file(found))
             }
             Ok(_) => Ok(()),
-            Err(error) => match out_of_reach(error) {
+            Err(error) => match or_out_of_reach(Err(error)) {
                 Ok(_) => Ok(()),
                 Err(error) => Err(error),
             },
@@ -84,9 +101,11 @@ impl<'r, R: Files<File = File>> OpenFiles<'r, R> {
     }
 
     pub fn size(&mut self, name: Path<'_>) -> io::Result<Option<u64>> {
-        self.writing.write_out(name.text)?;
-        let is_idle = self.temporaries.all.is_empty();
-        let found = match self.looks.file(self.rt, name, is_idle) {
+        let is_idle = self.temporaries.is_idle();
+        if is_idle && self.looks.was_read {
+            self.looks.forget();
+        }
+        let found = match self.look(name) {
             Ok(found) => found,
             Err(error) => return Err(error),
         };
@@ -99,16 +118,46 @@ impl<'r, R: Files<File = File>> OpenFiles<'r, R> {
         Ok(None)
     }
 
+    /// What stands at a name: as it was looked at last, unless the run has changed a name since.
+    fn look(&mut self, name: Path<'_>) -> io::Result<Found> {
+        if let Some(number) = self.temporaries.find(name.text) {
+            return self.look_at_temporary(number, name);
+        }
+        if let Some(found) = self.looks.kept(name) {
+            return Ok(found);
+        }
+        let found = match self.directories.found(self.rt, name) {
+            Ok(found) => found,
+            Err(error) => return Err(error),
+        };
+        self.looks.keep(name, found);
+        Ok(found)
+    }
+
+    fn look_at_temporary(&mut self, number: usize, name: Path<'_>) -> io::Result<Found> {
+        self.writing.flush(&mut self.temporaries)?;
+        let place = match self.directories.open_way(self.rt, target_of(name), false) {
+            Ok(place) => place,
+            Err(error) => return Err(error),
+        };
+        match self.temporaries.get(number) {
+            Some(temporary) => {
+                let real = place.beside(temporary.real.as_str());
+                self.directories.look(self.rt, real)
+            }
+            None => Err(no_file()),
+        }
+    }
+
     /// The name of the last file whose size was asked and that isn't there, and why.
-    pub fn missing(&self, has_input: bool) -> Result<Option<String>, AllocError> {
-        self.missing.text(self.rt, has_input)
+    pub fn missing(&self, alloc: Global, has_input: bool) -> Result<Option<String>, AllocError> {
+        self.missing.text(alloc, self.rt, has_input)
     }
 
     pub fn read_at(&mut self, name: Path<'_>, at: u64, buf: &mut [u8]) -> io::Result<usize>
         ensures { IfOk result (λ n. n ≤ length buf.old) }
     {
-        self.writing.write_out(name.text)?;
-        match self.reading.open(self.rt, &mut self.looks, name) {
+        match self.open_to_read(name) {
             Ok(seen) => {
                 self.temporaries.saw(seen.found, true);
                 self.looks.was_read = true;
@@ -119,136 +168,96 @@ impl<'r, R: Files<File = File>> OpenFiles<'r, R> {
         }
     }
 
+    /// Has a file open: the one that was looked at last, else the name is looked at anew, once.
+    fn open_to_read(&mut self, name: Path<'_>) -> io::Result<Seen> {
+        if self.temporaries.find(name.text).is_some() {
+            self.writing.flush(&mut self.temporaries)?;
+        }
+        if let Some(seen) = self.reading.seen_at(name.text) {
+            return Ok(seen);
+        }
+        for _ in 0..2 {
+            let found = match regular(self.look(name)) {
+                Ok(found) => found,
+                Err(error) => return Err(error),
+            };
+            match self.opened(name, found) {
+                Ok(Some(seen)) => return Ok(seen),
+                Ok(None) => self.looks.forget(),
+                Err(error) => return Err(error),
+            }
+        }
+        Err(no_file())
+    }
+
+    /// Opens a file that was seen, if it is still there.
+    fn opened(&mut self, name: Path<'_>, meant: Found) -> io::Result<Option<Seen>> {
+        let place = match self.reached(name) {
+            Ok(place) => place,
+            Err(error) => return Err(error),
+        };
+        let mut how = OpenOptions::new();
+        how.read(true);
+        let opened = match self.temporaries.find(name.text) {
+            Some(number) => match self.temporaries.get(number) {
+                Some(temporary) => {
+                    let real = place.beside(temporary.real.as_str());
+                    self.directories.open(self.rt, &how, real)
+                }
+                None => Err(no_file()),
+            },
+            None => self.directories.open(self.rt, &how, place),
+        };
+        let file = match opened {
+            Ok(file) => file,
+            Err(error) => return Err(error),
+        };
+        let found = match told(file.metadata()) {
+            Ok(found) => found,
+            Err(error) => return Err(error),
+        };
+        if !found.identity.is_same(meant.identity) {
+            return Ok(None);
+        }
+        let audience = if self.is_stack {
+            place.spot.inside.met(found.rights)
+        } else {
+            found.rights
+        };
+        let seen = Seen { found, audience };
+        self.reading.keep(name.text, file, seen)?;
+        Ok(Some(seen))
+    }
+
+    /// How a name is reached that is to be read. The system itself goes the way of one that the operator gave whole.
+    fn reached<'a>(&mut self, name: Path<'a>) -> io::Result<Place<'a>> {
+        if name.is_given() && !self.is_stack {
+            return Ok(Place::as_given(name));
+        }
+        self.directories.open_way(self.rt, name, false)
+    }
+
     /// Whether the first components of the name are a directory.
     pub fn has_dir(&mut self, name: Path<'_>, parts: u64) -> io::Result<bool> {
         let Some(last) = parts.checked_sub(1) else {
             return Ok(true);
         };
-        let directory = match name.text.match_indices('/').nth(last as usize) {
-            Some((slash, _)) => name.directory(slash),
-            None => name,
+        let Some((slash, _)) = name.text.match_indices('/').nth(last as usize) else {
+            return match self.look(name) {
+                Ok(found) => Ok(found.is_directory),
+                Err(error) => Err(error),
+            };
         };
-        match plain(self.rt, directory) {
-            Ok(found) => Ok(found.is_directory),
-            Err(error) => Err(error),
-        }
-    }
-
-    /// Makes the directories that are missing, and a new file that is empty; an old one of that name is taken away. Until it is
-    /// sealed, only its owner reads it. Where that fails, nothing of it is left.
-    pub fn start(&mut self, temp: Path<'_>) -> io::Result<()> {
-        let done = self.started(temp);
-        self.give_up(temp, done.is_err());
-        done
-    }
-
-    fn started(&mut self, temp: Path<'_>) -> io::Result<()> {
-        self.leave(temp.text);
-        self.writing.finish()?;
-        self.enter(temp, true)?;
-        let target = target_of(temp).text;
-        let old = match found_itself(self.rt, target) {
-            Ok(old) => old,
-            Err(error) => return Err(error),
+        let front = Path {
+            text: name.text.get(..=slash).unwrap_or(name.text),
+            given: name.given,
         };
-        let due = self
-            .saves
-            .due(target, old, usual(self.temporaries.origin, old));
-        let rights = match rights_due(self.rt, temp.text, due) {
-            Ok(rights) => rights,
-            Err(error) => return Err(error),
-        };
-        self.writing.make(self.rt, temp)?;
-        self.saves.start(target);
-        self.temporaries.begin(temp, rights)
-    }
-
-    /// Gathers a piece, and writes what was gathered where there is no room for it. Where that fails, the file is taken away.
-    pub fn append(&mut self, temp: Path<'_>, piece: &[u8]) -> io::Result<()> {
-        let done = self.writing.append(self.rt, temp, piece);
-        self.give_up(temp, done.is_err());
-        done
-    }
-
-    /// Writes what was gathered, gives the file its rights, and syncs it. Where that fails, the file is taken away.
-    pub fn seal(&mut self, temp: Path<'_>) -> io::Result<()> {
-        let rights = self.temporaries.end(temp.text);
-        let done = self.writing.seal(self.rt, temp, rights);
-        self.give_up(temp, done.is_err());
-        done
-    }
-
-    /// Renames the temporary. Nothing but a regular file is ever replaced, and no name changes while another temporary is being
-    /// filled that can't take its own.
-    pub fn swap(&mut self, temp: Path<'_>, to: Path<'_>) -> io::Result<()> {
-        self.close(temp)?;
-        self.close(to)?;
-        self.check_filled()?;
-        self.enter(to, false)?;
-        if temp.parent() != to.parent() {
-            self.enter(temp, false)?;
-        }
-        match replaceable(self.rt, to.text) {
-            Ok(()) => fs::rename(self.rt, temp.text, to.text),
-            Err(error) => Err(error),
-        }
-    }
-
-    /// Whether the temporary that is being filled, if there is one, can take its name.
-    fn check_filled(&self) -> io::Result<()> {
-        let Some(target) = self.temporaries.last_target() else {
-            return Ok(());
-        };
-        match directory_of(self.rt, target) {
-            Ok(_) => replaceable(self.rt, target.text),
-            Err(error) => Err(error),
-        }
-    }
-
-    /// The name that stands in the way of a swap that failed: one that a temporary which is being filled can't take, else the one
-    /// given.
-    pub fn blamed<'a>(&'a self, name: Path<'a>, failed: bool) -> Path<'a> {
-        if failed && self.check_filled().is_err() {
-            self.temporaries.last_target().unwrap_or(name)
-        } else {
-            name
-        }
-    }
-
-    /// Takes a temporary away whose call failed, as far as the system lets it.
-    pub fn give_up(&mut self, temp: Path<'_>, failed: bool) {
-        if failed {
-            self.leave(temp.text);
-            self.temporaries.end(temp.text);
-            take_away(self.rt, temp);
-        }
-    }
-
-    /// Closes what is open of the name, and lets what was gathered for it go.
-    fn leave(&mut self, name: &str) {
-        self.reading.close(name);
-        self.writing.leave(name);
-    }
-
-    /// Takes away what is still being filled, as far as the system lets it.
-    pub fn give_up_all(&mut self) {
-        self.writing.leave_all();
-        for temporary in &self.temporaries.all {
-            take_away(self.rt, temporary.path());
-        }
-    }
-
-    pub fn remove(&mut self, name: Path<'_>) -> io::Result<()> {
-        self.close(name)?;
-        self.temporaries.end(name.text);
-        self.enter(name, false)?;
-        let found = match regular(found_itself(self.rt, name.text)) {
-            Ok(found) => found,
-            Err(error) => return Err(error),
-        };
-        match self.saves.take_away(name.text, found.rights) {
-            Ok(()) => fs::remove_file(self.rt, name.text),
-            Err(error) => Err(error),
+        match self.directories.way(self.rt, front, false) {
+            Ok(way) => Ok(way.is_some()),
+            Err(error) => match or_out_of_reach(Err(error)) {
+                Ok(_) => Ok(false),
+                Err(error) => Err(error),
+            },
         }
     }
 
@@ -258,21 +267,13 @@ impl<'r, R: Files<File = File>> OpenFiles<'r, R> {
         self.directories.sync()
     }
 
+    /// The first name that was taken already when a temporary was to be made, or nothing: a run that was stopped has left it.
+    pub fn taken(&self) -> &str {
+        self.directories.taken()
+    }
+
     /// A directory that isn't synced yet.
     pub fn unsynced(&self) -> &str {
-        self.directories.first()
-    }
-
-    /// Closes what is open of the name.
-    fn close(&mut self, name: Path<'_>) -> io::Result<()> {
-        self.reading.close(name.text);
-        self.writing.close(name.text)
-    }
-
-    /// Has the directory that a name stands in open, to be synced. The name goes through directories alone; those that are
-    /// missing are made where `makes_way`.
-    fn enter(&mut self, name: Path<'_>, makes_way: bool) -> io::Result<()> {
-        let known = self.looks.directory(name);
-        self.directories.enter(self.rt, name, known, makes_way)
+        self.directories.unsynced()
     }
 }

@@ -36,8 +36,6 @@ pub struct Found {
     pub identity: Identity,
     pub rights: Rights,
     pub length: u64,
-    /// The directory that it stands in, where the way to it was looked at.
-    pub within: Identity,
 }
 
 impl Found {
@@ -49,7 +47,6 @@ impl Found {
         identity: Identity::HERE,
         rights: Rights::NONE,
         length: 0,
-        within: Identity::HERE,
     };
 
     /// What is told of what stands there, where that is no regular file.
@@ -81,6 +78,15 @@ pub fn found_itself<R: Files>(rt: &R, path: &str) -> io::Result<Found> {
     told(fs::symlink_metadata(rt, path))
 }
 
+/// What stands at a path, which may be a link where the operator gave it.
+pub fn found_at_path<R: Files>(rt: &R, path: &str, is_given: bool) -> io::Result<Found> {
+    if is_given {
+        found_behind(rt, path)
+    } else {
+        found_itself(rt, path)
+    }
+}
+
 /// What the system answered: nothing, where the error says so.
 pub fn told(answer: io::Result<Metadata>) -> io::Result<Found> {
     match answer {
@@ -95,7 +101,6 @@ pub fn told(answer: io::Result<Metadata>) -> io::Result<Found> {
             },
             rights: Rights::of(&found),
             length: found.len(),
-            within: Identity::HERE,
         }),
         Err(error) => match error.kind() {
             ErrorKind::NotFound | ErrorKind::NotADirectory => Ok(Found::NOTHING),

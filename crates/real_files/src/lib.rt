@@ -1,24 +1,31 @@
 //! The files of a run on the real disk: what stands at a name, what is open, and whose rights each new file gets.
 #![tactic(auto)]
 
+mod changing;
+mod directories;
 mod files;
 mod found;
 mod fresh;
+mod held;
 mod looks;
 mod missing;
+mod named;
 mod origins;
 mod paths;
 mod reading;
 mod rights;
 mod saves;
+mod spots;
 mod temporaries;
+mod text;
 mod trouble;
-mod unsynced;
 mod writing;
 
+pub use directories::Syncs;
 pub use files::OpenFiles;
-pub use fresh::make_anew;
+pub use fresh::make_nameless;
 pub use missing::missing_text;
 pub use paths::Path;
 pub use reading::read_whole;
+pub use text::{LONGEST_PATH, Text};
 pub use trouble::{Trouble, trouble_of};

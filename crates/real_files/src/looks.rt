@@ -1,107 +1,79 @@
-//! The file that was looked at last, so that another look at it asks the system once.
+//! The files that were looked at last, so that another look at one asks the system nothing.
 //!
-//! What is kept is which file and which directory a name led to through directories alone. That isn't taken on trust: each
-//! later use sees first that the name still leads to them, or else goes the whole way again.
+//! What is kept holds until the run changes a name itself, or comes to another file patch: none is taken on trust for long, and
+//! the file that is opened must be the one that was seen.
 
-use crate::found::{Found, Identity};
-use crate::paths::{Path, found_at, plain};
-use std::alloc::Global;
-use std::io;
-use std::rt::Files;
+use crate::found::Found;
+use crate::paths::Path;
+use crate::text::{LONGEST_PATH, Text};
+use std::alloc::{AllocError, Global};
 
-/// A regular file, and the directory that it stands in.
+/// How many are kept: the names of a file patch.
+const MOST: usize = 4;
+
 #[derive(Drop)]
 struct Look {
-    name: String,
+    name: Text,
     given: usize,
-    file: Identity,
-    directory: Identity,
+    found: Option<Found>,
 }
 
 #[derive(Drop)]
 pub struct Looks {
-    alloc: Global,
-    last: Option<Look>,
-    /// The bytes of the file were read.
+    looks: Vec<Look>,
+    next: usize,
+    /// The bytes of a file were read.
     pub was_read: bool,
 }
 
 impl Looks {
-    pub fn new(alloc: Global) -> Looks {
-        Looks {
-            alloc,
-            last: None,
-            was_read: false,
-        }
-    }
-
-    /// What stands at a path that goes through directories alone: the file that was looked at last, where the path still leads
-    /// to it. Where no temporary is being filled (`is_idle`), one whose bytes were read is looked at anew: the next look may be
-    /// for another file patch.
-    pub fn file<R: Files>(&mut self, rt: &R, path: Path<'_>, is_idle: bool) -> io::Result<Found> {
-        if is_idle && self.was_read {
-            return self.file_anew(rt, path);
-        }
-        if let Some(meant) = self.kept(path) {
-            if let Ok(found) = found_at(rt, path) {
-                if found.is_file && found.identity.is_same(meant) {
-                    return Ok(found);
-                }
-            }
-        }
-        self.file_anew(rt, path)
-    }
-
-    /// The same, with each directory on the way looked at.
-    pub fn file_anew<R: Files>(&mut self, rt: &R, path: Path<'_>) -> io::Result<Found> {
-        self.forget();
-        let found = match plain(rt, path) {
-            Ok(found) => found,
-            Err(error) => return Err(error),
-        };
-        if !found.is_file {
-            return Ok(found);
-        }
-        // Without memory nothing is kept.
-        if let Ok(name) = String::from_str(self.alloc, path.text) {
-            self.last = Some(Look {
+    pub fn new(alloc: Global) -> Result<Looks, AllocError> {
+        let mut looks = Vec::with_capacity(alloc, MOST)?;
+        for _ in 0..MOST {
+            let name = Text::new(alloc, LONGEST_PATH)?;
+            looks.push(Look {
                 name,
-                given: path.given,
-                file: found.identity,
-                directory: found.within,
-            });
+                given: 0,
+                found: None,
+            })?;
         }
-        Ok(found)
+        Ok(Looks {
+            looks,
+            next: 0,
+            was_read: false,
+        })
     }
 
-    /// Which file the path led to when it was looked at last.
-    pub fn kept(&self, path: Path<'_>) -> Option<Identity> {
-        match &self.last {
-            Some(look) if look.given == path.given && look.name.as_str() == path.text => {
-                Some(look.file)
+    /// What stood at the path when it was looked at last.
+    pub fn kept(&self, path: Path<'_>) -> Option<Found> {
+        for look in &self.looks {
+            if look.found.is_some() && look.given == path.given && look.name.is(path.text) {
+                return look.found;
             }
-            _ => None,
         }
+        None
     }
 
-    /// Which directory a path's last component stands in, where the last look led into it.
-    pub fn directory(&self, path: Path<'_>) -> Option<Identity> {
-        let Some(look) = &self.last else {
-            return None;
-        };
-        let last = Path {
-            text: look.name.as_str(),
-            given: look.given,
-        };
-        if last.is_beside(path) {
-            Some(look.directory)
-        } else {
-            None
+    /// Keeps what stands at a path, in place of the oldest look.
+    pub fn keep(&mut self, path: Path<'_>, found: Found) {
+        if let Some(look) = self.looks.get_mut(self.next) {
+            look.found = None;
+            if look.name.set(path.text).is_ok() {
+                look.given = path.given;
+                look.found = Some(found);
+            }
         }
+        self.next = if self.next.saturating_add(1) < MOST {
+            self.next.saturating_add(1)
+        } else {
+            0
+        };
     }
 
     pub fn forget(&mut self) {
-        self.last = None;
+        for look in self.looks.iter_mut() {
+            look.found = None;
+        }
         self.was_read = false;
     }
 }

@@ -1,11 +1,16 @@
 //! The file that was looked for last and isn't there, for the line that says which it is.
 
-use crate::paths::{Path, directory_of, found_at};
+use crate::found::found_at_path;
+use crate::paths::Path;
+use crate::text::Text;
 use crate::trouble::Trouble;
 use outside::Name;
 use std::alloc::{AllocError, Global};
 use std::io;
 use std::rt::Files;
+
+/// More than the system takes of a name, so that it is told of one that is too long.
+const LONGEST_NAME: usize = 8_192;
 
 /// What is told of a pipe or a device, where standard input may be read in its place.
 const NO_PIPE: &str = "not a regular file; anything else is only read as standard input";
@@ -15,37 +20,39 @@ const NO_WAY: &str = "a symbolic link is on the way to it, and isn't followed";
 
 #[derive(Drop)]
 pub struct Missing {
-    alloc: Global,
-    name: String,
+    name: Text,
     given: usize,
 }
 
 impl Missing {
-    pub fn new(alloc: Global) -> Missing {
-        Missing {
-            alloc,
-            name: String::new(alloc),
-            given: 0,
+    pub fn new(alloc: Global) -> Result<Missing, AllocError> {
+        let name = Text::new(alloc, LONGEST_NAME)?;
+        Ok(Missing { name, given: 0 })
+    }
+
+    /// Keeps the name. Of one for which there is no room it keeps nothing.
+    pub fn note(&mut self, name: Path<'_>) {
+        self.given = name.given;
+        if self.name.set(name.text).is_err() {
+            self.name.clear();
         }
     }
 
-    /// Keeps the name. Without memory that is nothing.
-    pub fn note(&mut self, name: Path<'_>) {
-        self.name.clear();
-        self.given = name.given;
-        let _ = self.name.push_str(name.text);
-    }
-
     /// The name, and why no file is read there, of a tool that may read standard input in its place.
-    pub fn text<R: Files>(&self, rt: &R, has_input: bool) -> Result<Option<String>, AllocError> {
-        if self.name.is_empty() {
+    pub fn text<R: Files>(
+        &self,
+        alloc: Global,
+        rt: &R,
+        has_input: bool,
+    ) -> Result<Option<String>, AllocError> {
+        if self.name.len() == 0 {
             return Ok(None);
         }
         let path = Path {
             text: self.name.as_str(),
             given: self.given,
         };
-        text_at(self.alloc, rt, path, has_input)
+        text_at(alloc, rt, path, has_input)
     }
 }
 
@@ -66,11 +73,11 @@ fn text_at<R: Files>(
     path: Path<'_>,
     has_input: bool,
 ) -> Result<Option<String>, AllocError> {
-    let found = match found_at(rt, path) {
+    let found = match found_at_path(rt, path.text, path.is_given()) {
         Ok(found) => found,
         Err(error) => return trouble_text(alloc, path.text, error),
     };
-    if found.is_file && directory_of(rt, path).is_ok() {
+    if found.is_file && is_behind_directories(rt, path) {
         return Ok(None);
     }
     let name = path.text;
@@ -85,6 +92,19 @@ fn text_at<R: Files>(
         Ok(text) => Ok(Some(text)),
         Err(error) => Err(error),
     }
+}
+
+/// Whether a name goes through directories alone.
+fn is_behind_directories<R: Files>(rt: &R, path: Path<'_>) -> bool {
+    for (slash, _) in path.text.match_indices('/') {
+        let end = slash.max(1);
+        let directory = path.text.get(..end).unwrap_or(path.text);
+        match found_at_path(rt, directory, end <= path.given) {
+            Ok(found) if found.is_directory => {}
+            _ => return false,
+        }
+    }
+    true
 }
 
 fn trouble_text(alloc: Global, name: &str, error: io::Error) -> Result<Option<String>, AllocError> {

@@ -1,16 +1,15 @@
 //! The file that was read last. It stays open for its next piece.
 ghost use Rattle.std.specs.Prelude.{◌≤◌, length, IfOk};
 
-use crate::found::{Found, told};
-use crate::looks::Looks;
-use crate::paths::{Path, no_file, regular, way_of};
+use crate::found::Found;
+use crate::paths::no_file;
 use crate::rights::Rights;
-use std::alloc::Global;
-use std::fs::{File, OpenFile};
+use crate::text::{LONGEST_PATH, Text};
+use std::alloc::{AllocError, Global};
+use std::fs::File;
 use std::io;
 use std::io::ErrorKind;
 use std::os::unix::fs::FileExt;
-use std::rt::Files;
 
 /// What a file is that is read.
 #[derive(Clone, Copy)]
@@ -22,99 +21,35 @@ pub struct Seen {
 
 #[derive(Drop)]
 struct Open {
-    name: String,
     file: File,
     seen: Seen,
 }
 
 #[derive(Drop)]
 pub struct Reading {
-    alloc: Global,
-    is_stack: bool,
+    name: Text,
     /// The file that is open to be read, if there is one.
     open: Option<Open>,
 }
 
 impl Reading {
-    /// Who can come to a file is asked for the saves of a stack alone.
-    pub fn new(alloc: Global, is_stack: bool) -> Reading {
-        Reading {
-            alloc,
-            is_stack,
-            open: None,
-        }
-    }
-
-    /// Has a file open: the one that was looked at last where it is still that, else the name is looked at anew.
-    pub fn open<R: Files<File = File>>(
-        &mut self,
-        rt: &R,
-        looks: &mut Looks,
-        name: Path<'_>,
-    ) -> io::Result<Seen> {
-        if let Some(seen) = self.seen_at(name.text) {
-            return Ok(seen);
-        }
-        let Some(meant) = looks.kept(name) else {
-            return self.open_anew(rt, looks, name);
-        };
-        let file = match File::open(rt, name.text) {
-            Ok(file) => file,
-            Err(error) => return Err(error),
-        };
-        match told(file.metadata()) {
-            Ok(found) if found.identity.is_same(meant) => self.keep(rt, name, file, found),
-            Ok(_) => self.open_anew(rt, looks, name),
-            Err(error) => Err(error),
-        }
-    }
-
-    fn open_anew<R: Files<File = File>>(
-        &mut self,
-        rt: &R,
-        looks: &mut Looks,
-        name: Path<'_>,
-    ) -> io::Result<Seen> {
-        let found = match regular(looks.file_anew(rt, name)) {
-            Ok(found) => found,
-            Err(error) => return Err(error),
-        };
-        match File::open(rt, name.text) {
-            Ok(file) => self.keep(rt, name, file, found),
-            Err(error) => Err(error),
-        }
+    pub fn new(alloc: Global) -> Result<Reading, AllocError> {
+        let name = Text::new(alloc, LONGEST_PATH + 8)?;
+        Ok(Reading { name, open: None })
     }
 
     /// Keeps a file open that has this name.
-    fn keep<R: Files>(
-        &mut self,
-        rt: &R,
-        name: Path<'_>,
-        file: File,
-        found: Found,
-    ) -> io::Result<Seen> {
-        let audience = if self.is_stack {
-            match way_of(rt, name) {
-                Ok(way) => way.inside.met(found.rights),
-                Err(error) => return Err(error),
-            }
-        } else {
-            found.rights
-        };
-        let seen = Seen { found, audience };
-        match String::from_str(self.alloc, name.text) {
-            Ok(name) => {
-                self.open = Some(Open { name, file, seen });
-                Ok(seen)
-            }
-            Err(error) => Err(error.into()),
-        }
+    pub fn keep(&mut self, name: &str, file: File, seen: Seen) -> io::Result<()> {
+        self.open = None;
+        self.name.set(name)?;
+        self.open = Some(Open { file, seen });
+        Ok(())
     }
 
     /// What the file is, if it has this name.
-    fn seen_at(&self, name: &str) -> Option<Seen> {
+    pub fn seen_at(&self, name: &str) -> Option<Seen> {
         match &self.open {
-            Some(open) if open.name.as_str() == name => Some(open.seen),
+            Some(open) if self.name.is(name) => Some(open.seen),
             _ => None,
         }
     }

@@ -78,7 +78,7 @@ impl Rights {
 
 /// Gives a file these rights: the owner and the group first, or the group alone, or neither, whichever the system allows, and
 /// then the bits. It is called while the file is its owner's alone, so that no bit ever speaks of another owner or group than it
-/// was meant for.
+/// was meant for; which ones it has is asked of the file itself, since whoever owns its directory can change what new files get.
 pub fn give(file: &File, wanted: Rights) -> io::Result<()> {
     let mut now = rights_of(file)?;
     if now.owner != wanted.owner || now.group != wanted.group {

@@ -1,69 +1,192 @@
-//! The temporaries that are being filled, the rights that each gets once it is sealed, and the file that the next one is filled
-//! from.
+//! The temporaries, each with the name that the system knows it by, and the file that the next one is filled from.
 
 use crate::found::Found;
 use crate::origins::Origin;
 use crate::paths::{Path, target_of};
 use crate::rights::Rights;
-use std::alloc::Global;
+use crate::text::{LONGEST_PATH, Text};
+use std::alloc::{AllocError, Global};
+use std::fs::File;
 use std::io;
+
+/// How many there is room for from the beginning. A file patch fills two at once.
+const MOST: usize = 4;
+
+/// More than the system takes of a name in a directory.
+const LONGEST_LAST: usize = 264;
+
+/// How far a temporary has come.
+#[derive(Clone, Copy)]
+enum Stage {
+    /// There is none.
+    Gone,
+    Filled,
+    Sealed,
+}
 
 #[derive(Drop)]
 pub struct Temporary {
-    name: String,
+    name: Text,
     given: usize,
-    rights: Rights,
+    /// Its last component as the system knows it.
+    pub real: Text,
+    pub file: Option<File>,
+    /// The rights that it is to get.
+    pub due: Rights,
+    stage: Stage,
+    /// When it was started.
+    started: u64,
 }
 
 impl Temporary {
+    fn new(alloc: Global) -> Result<Temporary, AllocError> {
+        let name = Text::new(alloc, LONGEST_PATH + 8)?;
+        let real = Text::new(alloc, LONGEST_LAST)?;
+        Ok(Temporary {
+            name,
+            given: 0,
+            real,
+            file: None,
+            due: Rights::NONE,
+            stage: Stage::Gone,
+            started: 0,
+        })
+    }
+
+    /// The name that it goes by here.
     pub fn path(&self) -> Path<'_> {
         Path {
             text: self.name.as_str(),
             given: self.given,
         }
     }
+
+    pub fn is_there(&self) -> bool {
+        !matches!(self.stage, Stage::Gone)
+    }
+
+    fn is_filled(&self) -> bool {
+        matches!(self.stage, Stage::Filled)
+    }
+
+    /// It is whole, and closed.
+    pub fn close(&mut self) {
+        self.file = None;
+        self.stage = Stage::Sealed;
+    }
 }
 
 #[derive(Drop)]
 pub struct Temporaries {
     alloc: Global,
-    /// In the order in which they were started.
-    pub all: Vec<Temporary>,
+    all: Vec<Temporary>,
+    time: u64,
     pub origin: Option<Origin>,
 }
 
 impl Temporaries {
-    pub fn new(alloc: Global) -> Temporaries {
-        Temporaries {
-            alloc,
-            all: Vec::new(alloc),
-            origin: None,
+    pub fn new(alloc: Global) -> Result<Temporaries, AllocError> {
+        let mut all = Vec::with_capacity(alloc, MOST)?;
+        for _ in 0..MOST {
+            match Temporary::new(alloc) {
+                Ok(temporary) => all.push(temporary)?,
+                Err(error) => return Err(error),
+            }
         }
+        Ok(Temporaries {
+            alloc,
+            all,
+            time: 0,
+            origin: None,
+        })
     }
 
-    /// Keeps one that was started, and its rights.
-    pub fn begin(&mut self, temp: Path<'_>, rights: Rights) -> io::Result<()> {
+    pub fn get(&self, number: usize) -> Option<&Temporary> {
+        self.all.get(number)
+    }
+
+    pub fn get_mut(&mut self, number: usize) -> Option<&mut Temporary> {
+        self.all.get_mut(number)
+    }
+
+    pub fn count(&self) -> usize {
+        self.all.len()
+    }
+
+    /// The number of the one that goes by this name.
+    pub fn find(&self, name: &str) -> Option<usize> {
+        for number in 0..self.all.len() {
+            if let Some(temporary) = self.all.get(number) {
+                if temporary.is_there() && temporary.name.is(name) {
+                    return Some(number);
+                }
+            }
+        }
+        None
+    }
+
+    /// The number of a place for one more. Only where many are there at once does that want memory.
+    pub fn place(&mut self) -> io::Result<usize> {
+        for number in 0..self.all.len() {
+            if let Some(temporary) = self.all.get(number) {
+                if !temporary.is_there() {
+                    return Ok(number);
+                }
+            }
+        }
+        let number = self.all.len();
+        let temporary = Temporary::new(self.alloc)?;
+        self.all.push(temporary)?;
+        Ok(number)
+    }
+
+    /// Keeps one that was started, whose real name stands there already.
+    pub fn begin(
+        &mut self,
+        number: usize,
+        temp: Path<'_>,
+        file: File,
+        due: Rights,
+    ) -> io::Result<()> {
         if let Some(origin) = &mut self.origin {
             origin.was_read = false;
         }
-        self.end(temp.text);
-        match String::from_str(self.alloc, temp.text) {
-            Ok(name) => {
-                let given = temp.given;
-                self.all.push(Temporary {
-                    name,
-                    given,
-                    rights,
-                })?;
-                Ok(())
-            }
-            Err(error) => Err(error.into()),
+        self.time = self.time.saturating_add(1);
+        if let Some(temporary) = self.all.get_mut(number) {
+            temporary.name.set(temp.text)?;
+            temporary.given = temp.given;
+            temporary.file = Some(file);
+            temporary.due = due;
+            temporary.stage = Stage::Filled;
+            temporary.started = self.time;
         }
+        Ok(())
     }
 
-    /// The name that the one is for which was started last.
+    /// Whether none is being filled.
+    pub fn is_idle(&self) -> bool {
+        self.last().is_none()
+    }
+
+    /// The number of the one that was started last of those that are being filled.
+    fn last(&self) -> Option<usize> {
+        let mut last = None;
+        let mut latest = 0;
+        for number in 0..self.all.len() {
+            if let Some(temporary) = self.all.get(number) {
+                if temporary.is_filled() && temporary.started > latest {
+                    latest = temporary.started;
+                    last = Some(number);
+                }
+            }
+        }
+        last
+    }
+
+    /// The name that this one is for.
     pub fn last_target(&self) -> Option<Path<'_>> {
-        match self.all.last() {
+        let number = self.last()?;
+        match self.all.get(number) {
             Some(last) => Some(target_of(last.path())),
             None => None,
         }
@@ -72,10 +195,12 @@ impl Temporaries {
     /// Keeps a file that was looked at, or that none is there. While temporaries are being filled it is what the last of them
     /// is filled from.
     pub fn saw(&mut self, found: Found, was_read: bool) {
-        match self.all.last_mut() {
-            Some(last) => {
-                if found.is_file {
-                    last.rights = found.rights;
+        match self.last() {
+            Some(number) => {
+                if let Some(last) = self.all.get_mut(number) {
+                    if found.is_file {
+                        last.due = found.rights;
+                    }
                 }
             }
             None if found.is_file => self.origin = Some(Origin { found, was_read }),
@@ -83,14 +208,11 @@ impl Temporaries {
         }
     }
 
-    /// Forgets one, and tells its rights.
-    pub fn end(&mut self, name: &str) -> Option<Rights> {
-        for place in 0..self.all.len() {
-            if self.all[place].name.as_str() == name {
-                let gone = self.all.remove(place);
-                return Some(gone.rights);
-            }
+    /// Forgets one, and closes it.
+    pub fn end(&mut self, number: usize) {
+        if let Some(temporary) = self.all.get_mut(number) {
+            temporary.file = None;
+            temporary.stage = Stage::Gone;
         }
-        None
     }
 }

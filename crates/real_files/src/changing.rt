@@ -1,0 +1,213 @@
+//! Files are made, filled, put at their names and taken away.
+
+use crate::files::OpenFiles;
+use crate::found::Found;
+use crate::fresh::{make_beside, rights_due};
+use crate::origins::usual;
+use crate::paths::{Path, no_file, regular, replaceable, target_of};
+use crate::rights::{Rights, give};
+use crate::spots::Place;
+use std::fs::File;
+use std::io;
+use std::rt::Files;
+
+impl<'r, R: Files<File = File>> OpenFiles<'r, R> {
+    /// Makes the directories that are missing, and a new file that is empty, for the temporary of that name; what was made for it
+    /// before is taken away. Until it is sealed, only its owner reads it. Where that fails, nothing of it is left.
+    pub fn start(&mut self, temp: Path<'_>) -> io::Result<()> {
+        self.give_up(temp, true);
+        self.writing.flush(&mut self.temporaries)?;
+        let number = self.temporaries.place()?;
+        let target = target_of(temp);
+        let place = match self.directories.open_way(self.rt, target, true) {
+            Ok(place) => place,
+            Err(error) => return Err(error),
+        };
+        self.directories.will_change(self.rt, place)?;
+        let old = match self.look_in(place, target) {
+            Ok(old) => old,
+            Err(error) => return Err(error),
+        };
+        let due = usual(self.temporaries.origin, old);
+        let due = self.saves.due(target.text, old, due);
+        let Some(temporary) = self.temporaries.get_mut(number) else {
+            return Err(no_file());
+        };
+        let name = &mut temporary.real;
+        let directories = &mut self.directories;
+        let rights = match rights_due(self.rt, directories, place, target, name, due) {
+            Ok(rights) => rights,
+            Err(error) => return Err(error),
+        };
+        let file = match make_beside(self.rt, directories, place, target.last(), name, 0o600) {
+            Ok(file) => file,
+            Err(error) => return Err(error),
+        };
+        self.saves.start(target.text);
+        self.begin(temp, number, file, rights)
+    }
+
+    /// Keeps a temporary that was made.
+    fn begin(&mut self, temp: Path<'_>, number: usize, file: File, due: Rights) -> io::Result<()> {
+        let done = self.temporaries.begin(number, temp, file, due);
+        self.give_up(temp, done.is_err());
+        done
+    }
+
+    /// What stands at a name itself, whose directory is open.
+    fn look_in(&mut self, place: Place<'_>, name: Path<'_>) -> io::Result<Found> {
+        if !name.is_given() {
+            if let Some(found) = self.looks.kept(name) {
+                return Ok(found);
+            }
+        }
+        self.directories.look(self.rt, place)
+    }
+
+    /// Gathers a piece, and writes what was gathered where there is no room for it. Where that fails, the file is taken away.
+    pub fn append(&mut self, temp: Path<'_>, piece: &[u8]) -> io::Result<()> {
+        let done = match self.temporaries.find(temp.text) {
+            Some(number) => self.writing.append(&mut self.temporaries, number, piece),
+            None => Err(no_file()),
+        };
+        self.give_up(temp, done.is_err());
+        done
+    }
+
+    /// Writes what was gathered, gives the file its rights, and syncs it. Where that fails, the file is taken away.
+    pub fn seal(&mut self, temp: Path<'_>) -> io::Result<()> {
+        let done = self.sealed(temp);
+        self.give_up(temp, done.is_err());
+        done
+    }
+
+    fn sealed(&mut self, temp: Path<'_>) -> io::Result<()> {
+        let Some(number) = self.temporaries.find(temp.text) else {
+            return Err(no_file());
+        };
+        self.writing.flush(&mut self.temporaries)?;
+        let Some(temporary) = self.temporaries.get_mut(number) else {
+            return Err(no_file());
+        };
+        let Some(file) = &temporary.file else {
+            return Err(no_file());
+        };
+        give(file, temporary.due)?;
+        if self.syncs.are_made() {
+            file.sync_all()?;
+        }
+        temporary.close();
+        Ok(())
+    }
+
+    /// Renames the temporary. Nothing but a regular file is ever replaced, and no name changes while another temporary is being
+    /// filled that can't take its own.
+    pub fn swap(&mut self, temp: Path<'_>, to: Path<'_>) -> io::Result<()> {
+        self.reading.close(temp.text);
+        self.reading.close(to.text);
+        let Some(number) = self.temporaries.find(temp.text) else {
+            return Err(no_file());
+        };
+        self.check_filled()?;
+        let (to, from) = match self.directories.both_ways(self.rt, to, target_of(temp)) {
+            Ok(both) => both,
+            Err(error) => return Err(error),
+        };
+        self.directories.will_change(self.rt, from)?;
+        self.directories.will_change(self.rt, to)?;
+        replaceable(self.directories.look(self.rt, to))?;
+        let Some(temporary) = self.temporaries.get(number) else {
+            return Err(no_file());
+        };
+        let real = from.beside(temporary.real.as_str());
+        self.directories.rename(self.rt, real, to)?;
+        self.looks.forget();
+        self.temporaries.end(number);
+        Ok(())
+    }
+
+    /// Whether the temporary that is being filled, if there is one, can take its name.
+    fn check_filled(&mut self) -> io::Result<()> {
+        let Some(target) = self.temporaries.last_target() else {
+            return Ok(());
+        };
+        match self.directories.open_way(self.rt, target, false) {
+            Ok(place) => replaceable(self.directories.look(self.rt, place)),
+            Err(error) => Err(error),
+        }
+    }
+
+    /// The name that stands in the way of a swap that failed: one that a temporary which is being filled can't take, else the one
+    /// given.
+    pub fn blamed<'a>(&'a mut self, name: Path<'a>, failed: bool) -> Path<'a> {
+        if failed && self.check_filled().is_err() {
+            self.temporaries.last_target().unwrap_or(name)
+        } else {
+            name
+        }
+    }
+
+    /// Takes a temporary away whose call failed, as far as the system lets it.
+    pub fn give_up(&mut self, temp: Path<'_>, failed: bool) {
+        if failed {
+            if let Some(number) = self.temporaries.find(temp.text) {
+                self.reading.close(temp.text);
+                let _ = self.take_away(number);
+            }
+        }
+    }
+
+    /// Takes a temporary away.
+    fn take_away(&mut self, number: usize) -> io::Result<()> {
+        self.writing.leave(number);
+        let Some(temporary) = self.temporaries.get(number) else {
+            return Err(no_file());
+        };
+        let target = target_of(temporary.path());
+        let place = match self.directories.open_way(self.rt, target, false) {
+            Ok(place) => place,
+            Err(error) => return Err(error),
+        };
+        self.directories.will_change(self.rt, place)?;
+        let real = place.beside(temporary.real.as_str());
+        let done = self.directories.remove(self.rt, real);
+        self.temporaries.end(number);
+        done
+    }
+
+    /// Takes away what is still there of temporaries, as far as the system lets it.
+    pub fn give_up_all(&mut self) {
+        for number in 0..self.temporaries.count() {
+            let is_there = match self.temporaries.get(number) {
+                Some(temporary) => temporary.is_there(),
+                None => false,
+            };
+            if is_there {
+                let _ = self.take_away(number);
+            }
+        }
+    }
+
+    /// Takes a name away. None that is for temporaries alone is taken from a file of the user's.
+    pub fn remove(&mut self, name: Path<'_>) -> io::Result<()> {
+        self.reading.close(name.text);
+        if let Some(number) = self.temporaries.find(name.text) {
+            return self.take_away(number);
+        }
+        if name.is_temporary() {
+            return Err(no_file());
+        }
+        let place = match self.directories.open_way(self.rt, name, false) {
+            Ok(place) => place,
+            Err(error) => return Err(error),
+        };
+        self.directories.will_change(self.rt, place)?;
+        let found = match regular(self.directories.look(self.rt, place)) {
+            Ok(found) => found,
+            Err(error) => return Err(error),
+        };
+        self.saves.take_away(name.text, found.rights)?;
+        self.looks.forget();
+        self.directories.remove(self.rt, place)
+    }
+}

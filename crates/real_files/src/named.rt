@@ -1,0 +1,92 @@
+//! What stands at names, and what is done with them, in directories that are held open.
+
+use crate::directories::Directories;
+use crate::found::{Found, found_behind, found_itself};
+use crate::paths::{Path, or_out_of_reach};
+use crate::spots::{Place, is_too_many, put_path};
+use std::fs::{File, OpenOptions};
+use std::rt::Files;
+use std::{fs, io};
+
+impl Directories {
+    /// What stands at a name that goes through directories alone. One that can't be reached has nothing.
+    pub fn found<R: Files<File = File>>(&mut self, rt: &R, name: Path<'_>) -> io::Result<Found> {
+        if name.is_given() {
+            return or_out_of_reach(found_behind(rt, name.text));
+        }
+        match self.way(rt, name, false) {
+            Ok(Some(place)) => or_out_of_reach(self.look(rt, place)),
+            Ok(None) => Ok(Found::NOTHING),
+            Err(error) => or_out_of_reach(Err(error)),
+        }
+    }
+
+    /// What stands there itself, a link and not what it points to.
+    pub fn look<R: Files<File = File>>(&mut self, rt: &R, place: Place<'_>) -> io::Result<Found> {
+        put_path(&self.held, place, &mut self.path)?;
+        found_itself(rt, self.path.as_str())
+    }
+
+    pub fn open<R: Files<File = File>>(
+        &mut self,
+        rt: &R,
+        how: &OpenOptions,
+        place: Place<'_>,
+    ) -> io::Result<File> {
+        put_path(&self.held, place, &mut self.path)?;
+        match how.open(rt, self.path.as_str()) {
+            Ok(file) => return Ok(file),
+            Err(error) => {
+                if !is_too_many(&error) {
+                    return Err(error);
+                }
+            }
+        }
+        self.held.let_go([place.spot.base, place.spot.held]);
+        how.open(rt, self.path.as_str())
+    }
+
+    pub fn remove<R: Files<File = File>>(&mut self, rt: &R, place: Place<'_>) -> io::Result<()> {
+        put_path(&self.held, place, &mut self.path)?;
+        fs::remove_file(rt, self.path.as_str())
+    }
+
+    pub fn rename<R: Files<File = File>>(
+        &mut self,
+        rt: &R,
+        from: Place<'_>,
+        to: Place<'_>,
+    ) -> io::Result<()> {
+        put_path(&self.held, from, &mut self.path)?;
+        put_path(&self.held, to, &mut self.second)?;
+        fs::rename(rt, self.path.as_str(), self.second.as_str())
+    }
+
+    /// The ways to two names, both open at once.
+    pub fn both_ways<'a, R: Files<File = File>>(
+        &mut self,
+        rt: &R,
+        first: Path<'a>,
+        second: Path<'a>,
+    ) -> io::Result<(Place<'a>, Place<'a>)> {
+        let one = match self.open_way(rt, first, false) {
+            Ok(one) => one,
+            Err(error) => return Err(error),
+        };
+        if first.is_beside(second) {
+            let other = Place {
+                spot: one.spot,
+                name: second,
+                other: None,
+            };
+            return Ok((one, other));
+        }
+        self.staying = one.spot.base;
+        let other = self.open_way(rt, second, false);
+        self.staying = None;
+        match other {
+            Ok(other) => Ok((one, other)),
+            Err(error) => Err(error),
+        }
+    }
+}
