@@ -1,0 +1,102 @@
+"""Changes of lists of names: each takes one cause of a difference away, from both outputs alike."""
+import re
+
+from filter_outputs import change, text_of
+from filter_parts import BEGINS, file_patches, names_of, parts, with_hunks
+from filter_patterns import is_one_of, without_patches
+
+LISTED = []
+NAMED = []
+NULL_NAMES = (b'', b'src/f.c', b'f.c')  # what ours lists where both names are /dev/null: none, or that of the Index line
+LINE = re.compile(rb'(?:(\d*)\t)?(?:([-+!?]?) )?(.*)')
+
+
+def rewritten(out, of_line):
+    """The list with each line changed by a function of its number, sign and name; None leaves it out."""
+    found = (of_line(*LINE.fullmatch(line).groups()) for line in out.split(b'\n')[:-1])
+    return b''.join(b'%s\t%s %s\n' % tuple(word or b'' for word in line) for line in found if line)
+
+
+def without_named(case, out, odd, besides=()):
+    """What is printed, without the file patches whose names a function calls odd."""
+    names = [names for names, _ in file_patches(text_of(case)) if odd(names)]
+    if case.runs[0].tool == 'filterdiff' or not names:
+        return without_patches(out, names)
+    odd_name = lambda name: name in besides or any(is_one_of(name, some) for some in names)  # noqa: E731
+    return rewritten(out, lambda number, sign, name: None if odd_name(name) else (number, sign, name))
+
+
+@change(NAMED, 'double-slashes')
+def without_double_slashes(case, out):
+    """No file patch with a name in which slashes stand side by side: which of its names is better may differ."""
+    return without_named(case, out, lambda names: any(b'//' in name for name in names))
+
+
+@change(NAMED, 'null-names')
+def without_null_names(case, out):
+    """No file patch of which both names are /dev/null."""
+    return without_named(case, out, lambda names: set(names) == {b'/dev/null'}, NULL_NAMES)
+
+
+@change(LISTED, 'strip-match-alone')
+def with_last_components(case, out):
+    """The last component of each name alone, where -p stands without a pattern."""
+    words, none = ' '.join(case.runs[0].words), b'patterns' in case.tree and not case.tree[b'patterns'].data
+    if not re.search(r'(^| )(-p|--strip-match)', words) or re.search(r'(^| )(-[ixIX]|--include|--exclude|--strip=)', words) and not none:
+        return out
+    return rewritten(out, lambda number, sign, name: (number, sign, name.split(b'/')[-1]))
+
+
+@change(LISTED, 'counted-from-diff')
+def with_header_lines(case, out):
+    """Each number of a line of git or diff in front of header lines is that of the first header line."""
+    found = parts(text_of(case))
+    headers = {b'%d' % (part.at + 1): b'%d' % (part.at + len(part.lines) + 1) for part in found if part.kind == 'block'}
+    return rewritten(out, lambda number, sign, name: (headers.get(number, number), sign, name))
+
+
+def lone_names(text):
+    """The names of the file patches of git that have no hunks."""
+    found = parts(text)
+    whole = [part.at for part in with_hunks(found) if part.kind != 'text']
+    lines = [line for part in found if part.at not in whole for line in part.lines]
+    return [name for line in lines if line.startswith((b'diff --git ', b'rename to ', b'copy to ')) for name in line.split(b' ')[2:]]
+
+
+@change(LISTED, 'files-without-hunks')
+def without_lone_files(case, out):
+    """No file that git makes, removes, renames or copies without a hunk, and none of header lines that have none."""
+    names = lone_names(text_of(case)) + [name for names, hunks in file_patches(text_of(case)) if not hunks for name in names]
+    return rewritten(out, lambda number, sign, name: None if is_one_of(name, names) else (number, sign, name))
+
+
+def header_lines(text):
+    """The header lines of a text, without their marks."""
+    return [line[4:] for part in parts(text) if part.kind == 'header' for line in part.lines]
+
+
+@change(LISTED, 'headerless-hunks')
+def without_lone_headers(case, out):
+    """No name of a header line that stands alone, and none that is empty, as of hunks without header lines."""
+    lines = [line for part in parts(text_of(case)) if part.kind == 'text' for line in part.lines if BEGINS.match(line)]
+    names = [b'', *(line[4:].split(b'\t')[0] for line in lines)] if case.facts.get('damaged') else []
+    return rewritten(out, lambda number, sign, name: None if is_one_of(name, names) else (number, sign, name))
+
+
+WHOLE_STAMP = re.compile(rb'\t(\(.*\)|20\d\d-\d\d-\d\d \d\d:\d\d:\d\d\.\d+ [-+]\d{4})?$|^[^\t ]*$')
+
+
+@change(LISTED, 'stamp-spellings')
+def without_signs(case, out):
+    """No sign where a stamp is in a short spelling, or the epoch."""
+    headers = [part for part in parts(text_of(case)) if part.kind == 'header']
+    odd = [names_of(part) for part in headers if not all(WHOLE_STAMP.search(line[4:]) for line in part.lines)]
+    odd_name = lambda name: any(is_one_of(name, names) or names[0].startswith(name) for names in odd)  # noqa: E731
+    return rewritten(out, lambda number, sign, name: (number, b'?' if odd_name(name) else sign, name))
+
+
+@change(LISTED, 'name-of-blanks')
+def without_blanks(case, out):
+    """Names up to their first blank, where a header line has blanks and no tab in it."""
+    told = {re.split(rb'[ \t]', line)[0] for line in header_lines(text_of(case)) if b' ' in line.split(b'\t')[0]}
+    return rewritten(out, lambda number, sign, name: (number, sign, name.split(b' ')[0] if name.split(b' ')[0] in told else name))

@@ -1,0 +1,60 @@
+"""Which key a word of the filters has that ours can't take; a word that no row names has none."""
+import re
+
+LONG = [
+    (r'--(with|no)-filename', 'several-files'),
+    (r'--clean', 'clean'),
+    (r'--only-match', 'only-match'),
+    (r'--as-numbered-lines', 'as-numbered-lines'),
+    (r'--(strip|addprefix|addoldprefix|addnewprefix|remove-timestamps)\b', 'output-names'),
+    (r'--empty-files-as', 'empty-as-absent'),
+    (r'--(annotate|number-files|list|filter|grep|hunks|lines|files|format|file|decompress)\b', 'filter-words'),
+    (r'--(hunk|excl|fo)=', 'filter-words'),
+]
+LETTERS = {
+    'lsdiff': {'H': 'several-files', 'h': 'several-files', 'v': 'hunks-in-lists', 'N': 'filter-words', 'E': 'empty-as-absent', 'z': 'filter-words'},
+    'grepdiff': {'H': 'several-files', 'h': 'several-files', 'v': 'hunks-in-lists', **dict.fromkeys('nNsfIXz', 'filter-words')},
+    'filterdiff': {'v': 'text-between', '#': 'filter-words', 'F': 'filter-words', 'z': 'filter-words', 'n': 'filter-words'},
+    'splitdiff': dict.fromkeys('dDEpv', 'split-names'),
+    'recountdiff': {},
+}
+VERBOSE = {'filterdiff': 'text-between', 'lsdiff': 'hunks-in-lists', 'grepdiff': 'hunks-in-lists'}
+
+
+def key_of_letters(tool, word):
+    """The key of the first letter of a word such as -nvH that ours has not."""
+    letters = LETTERS[tool]
+    return next((letters[letter] for letter in word[1:] if letter in letters), None)
+
+
+def key_of_range(word):
+    """The key of a range that ours can't take: one that begins with x, holds 0 or is all."""
+    return 'lines-of-zero' if word == '-' or re.fullmatch(r'x[\d,-]+|[\d,-]*\b0\b[\d,-]*', word) else None
+
+
+def key_of_word(tool, word):
+    """The key of a word, or None."""
+    if word == '--verbose':
+        return VERBOSE.get(tool)
+    if word.startswith('--'):
+        return next((key for pattern, key in LONG if re.match(pattern, word)), None)
+    if word.startswith('-') and len(word) > 1:
+        return key_of_letters(tool, word)
+    return key_of_range(word)
+
+
+def option_of(word):
+    """The option that a word gives, without its value."""
+    option = word.split('=')[0] if word.startswith('--') else word[:2]
+    return '-p' if option == '--strip-match' else option
+
+
+def key_of_refusal(run, told):
+    """The key of a call whose words ours refuses; told is what it says of them."""
+    named = re.findall(r'"([^"]*)"', told.split('\n')[1])
+    if "can't take" in told and len(named) == 2:
+        return 'filter-words' if option_of(named[0]) == option_of(named[1]) else None
+    if "can't take" in told and named in (['p'], ['q'], ['missing']):
+        return 'several-files'
+    words = [word for word in named if word and not (len(named) == 2 and word == named[0])]
+    return next((key for key in (key_of_word(run.tool, word) for word in words) if key), None)

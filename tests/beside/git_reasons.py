@@ -1,0 +1,229 @@
+"""Why ours leaves something else than GNU patch and `git apply` do of patches by git."""
+import re
+
+from case import Reasons
+from patch_reading import all_names, names_of, owner, parts_of
+from seen import refused, strip_count, untouched
+
+REASONS = Reasons()
+
+
+def statuses(differences):
+    """Returns the differences of the exit status."""
+    return [each for each in differences if each.what == "status"]
+
+
+def of_files(differences, names):
+    """Returns what differs of these files, their backups and rejects, and the directories that were made for them or weren't."""
+    def is_of(each):
+        return owner(each.name) in names or each.what == "missing" and each.gnu[0] == "dir" and any(name.startswith(each.name + b"/") for name in names)
+    return [each for each in differences if each.what not in ("status", "mode") and is_of(each)]
+
+
+def of_names(differences, names):
+    """Returns what differs of these files, and the status with it, also where that alone differs."""
+    return of_files(differences, names) + statuses(differences) if names else []
+
+
+def says(left, *texts):
+    """Returns whether a run tells one of these texts."""
+    return any(text in told for told in left.out + left.err for text in texts)
+
+
+def is_reversed(case):
+    """Returns whether the patch is taken back."""
+    return "-R" in case.runs[0].words
+
+
+def spelled_names(parts):
+    """Returns the names of these file patches as they are spelled."""
+    return {name for part in parts for name in part.spelled}
+
+
+def moves_of(parts):
+    """Returns the file patches that are renames or copies."""
+    return [part for part in parts if part.marks & {"rename", "copy"}]
+
+
+def sides(case, part):
+    """Returns where a rename or a copy takes its file from, and where it puts it, as it is applied."""
+    return (part.target, part.source) if is_reversed(case) else (part.source, part.target)
+
+
+@REASONS.of("peer-aborts")
+def git_refuses(case, gnu, _ours, differences):
+    """A text by git that `git apply` itself refuses, as a rename to a file that is there."""
+    return differences if case.peer == "git" and gnu.status == [1] and untouched(case, gnu) else []
+
+
+@REASONS.of("binary-changes")
+def refused_for_binary(case, _gnu, ours, differences):
+    """The whole text is refused for one binary change."""
+    return differences if refused(case, ours) and says(ours, b"a binary change") else []
+
+
+@REASONS.of("binary-changes")
+def binary_file(case, _gnu, _ours, differences):
+    """A binary change that was made, or was passed over otherwise."""
+    return of_names(differences, names_of(parts_of(case), "binary"))
+
+
+@REASONS.of("git-modes")
+def modes_alone(case, gnu, ours, differences):
+    """A text in which nothing but modes changes is refused as garbage."""
+    parts = parts_of(case) if refused(case, ours) and says(ours, b"Only garbage") and gnu.status != [2] else []
+    return differences if parts and all("mode" in part.marks and not part.hunks for part in parts) else []
+
+
+@REASONS.of("git-modes")
+def modes_of_files(case, _gnu, _ours, differences):
+    """The permission bits of files whose mode git sets."""
+    names = names_of(parts_of(case), "mode")
+    return [each for each in differences if each.what == "mode" and owner(each.name) in names]
+
+
+@REASONS.of("git-modes")
+def modes_alone_beside_others(case, gnu, _ours, differences):
+    """A file patch of modes alone that finds no file counts for the status there, and leaves a backup by -b."""
+    names = all_names(part for part in parts_of(case) if "mode" in part.marks and not part.hunks)
+    backups = [each for each in of_files(differences, names) if each.what == "missing" and each.name != owner(each.name)]
+    lost = any(name not in case.tree for name in names) and gnu.status == [1]
+    return backups + (statuses(differences) if lost else [])
+
+
+@REASONS.of("git-modes")
+def modes_of_moved(case, _gnu, _ours, differences):
+    """The permission bits of a moved or copied file, where another file stood or whose mode the text sets elsewhere."""
+    parts = parts_of(case)
+    known = {*case.tree, *names_of(parts, "mode")}
+    names = all_names(part for part in moves_of(parts) if part.names & known)
+    return [each for each in differences if each.what == "mode" and owner(each.name) in names]
+
+
+@REASONS.of("git-links")
+def run_ends_at_link(case, _gnu, ours, differences):
+    """A file that git puts where a link is ends the run, and the rest isn't done."""
+    ended = ours.status == [2] and says(ours, b"tree fault") and names_of(parts_of(case), "link")
+    return differences if ended else []
+
+
+@REASONS.of("git-links")
+def links(case, _gnu, _ours, differences):
+    """A link that git makes, changes, moves or takes away, and the status with it."""
+    there = {name for name, entry in case.tree.items() if entry.kind == "link"}
+    parts = parts_of(case)
+    moved = all_names(part for part in moves_of(parts) if part.names & there)
+    return of_names(differences, names_of(parts, "link") | moved)
+
+
+@REASONS.of("name-bytes")
+def name_bytes(case, _gnu, _ours, differences):
+    """A file whose name isn't in quotes and isn't in UTF-8, or has a control byte, is found there and not here."""
+    return of_names(differences, all_names(part for part in parts_of(case) if "quoted" not in part.marks and not all(map(is_plain, part.names))))
+
+
+def is_plain(name):
+    """Returns whether a name is in UTF-8 and has no control byte (a byte 0 is another cause)."""
+    return name.decode("utf-8", "replace").encode() == name and min(name.replace(b"\0", b""), default=32) >= 32 and 127 not in name
+
+
+@REASONS.of("name-ends-in-blank")
+def name_ends_in_blank(case, _gnu, _ours, differences):
+    """A name that ends in a blank has none there, and is another name."""
+    names = all_names(part for part in parts_of(case) if any(name.endswith(b" ") for name in part.names))
+    return of_names(differences, names | {name.rstrip(b" ") for name in names})
+
+
+@REASONS.of("newline-names")
+def newline_names(case, _gnu, _ours, differences):
+    """A file whose name has a line feed."""
+    named = [part for part in parts_of(case) if "newline" in part.marks]
+    return of_names(differences, all_names(named) | spelled_names(named))
+
+
+@REASONS.of("quoted-names")
+def quoted_names(case, _gnu, _ours, differences):
+    """A file whose name stands in double quotes: it is found there, and not here or under the spelled name."""
+    parts = [part for part in parts_of(case) if "quoted" in part.marks]
+    names = all_names(parts) | spelled_names(parts)
+    tops = {name.split(b"/")[0] + b"/" for name in names if b'"' in name}
+    spelled = [each for each in differences if each.what == "extra" and (each.name + b"/").startswith(tuple(tops))]
+    return of_names(differences, names) + spelled
+
+
+@REASONS.of("renamed-already")
+def renamed_already(case, _gnu, _ours, differences):
+    """A rename whose source is gone and whose target is there."""
+    def is_done(source, target):
+        return source not in case.tree and target in case.tree
+    return of_names(differences, all_names(part for part in parts_of(case) if "rename" in part.marks and is_done(*sides(case, part))))
+
+
+def entangled(case):
+    """Returns the names of renames and copies whose source or target another file patch touches, or whose target is there already."""
+    parts = parts_of(case)
+    found = set()
+    for part in moves_of(parts):
+        others = all_names(other for other in parts if other is not part)
+        if part.names & others or sides(case, part)[1] in case.tree:
+            found |= part.names
+    return all_names(part for part in parts if part.names & found)
+
+
+@REASONS.of("git-batch")
+def batch(case, _gnu, _ours, differences):
+    """Renames and copies whose source or target the text touches elsewhere, too."""
+    return of_names(differences, entangled(case))
+
+
+@REASONS.of("git-hunks-alone")
+def hunks_alone(case, _gnu, _ours, differences):
+    """Hunks that stand directly behind git's header lines."""
+    return of_names(differences, all_names(part for part in parts_of(case) if "git" in part.marks and "named" not in part.marks and part.hunks))
+
+
+@REASONS.of("blanks-in-git-names")
+def blanks_in_git_names(case, _gnu, _ours, differences):
+    """A rename, a copy or an empty file whose names have blanks: there only git's first line is read, and ends at a blank."""
+    parts = [part for part in parts_of(case) if "git" in part.marks and (not part.hunks or part.marks & {"rename", "copy"})]
+    return of_names(differences, all_names(part for part in parts if any(b" " in name or b"\t" in name for name in part.names)))
+
+
+@REASONS.of("no-prefix-names")
+def no_prefix_names(case, _gnu, _ours, differences):
+    """An empty file in the top directory whose name stands in git's first line alone, without a prefix: no name here."""
+    bare = [part for part in parts_of(case) if "git" in part.marks and not part.hunks and not moves_of([part]) and strip_count(case) == 0]
+    return of_names(differences, {name for part in bare for name in part.names if b"/" not in name})
+
+
+@REASONS.of("failed-renames")
+def failed_renames(case, _gnu, ours, differences):
+    """A rename or a copy of which each hunk failed: it is made there, and not here."""
+    kept = [part for part in moves_of(parts_of(case)) if part.hunks and sides(case, part)[1] not in ours.shape]
+    return of_files(differences, all_names(kept)) if says(ours, b"FAILED") else []
+
+
+@REASONS.of("gone-already")
+def empty_again(case, _gnu, _ours, differences):
+    """An empty file that git makes and that is there, or takes away and that is gone."""
+    def is_done(part, name):
+        return (("new file mode" in part.marks) != is_reversed(case)) == (name in case.tree)
+    bare = [part for part in parts_of(case) if part.marks & {"new file mode", "deleted file mode"} and not part.hunks]
+    return of_names(differences, {name for part in bare for name in part.names if is_done(part, name)})
+
+
+@REASONS.of("emptied-directories")
+def directories_of_gone(case, _gnu, ours, differences):
+    """A directory that the run made for a file which it then took away again, or moved on."""
+    names = all_names(parts_of(case))
+    holds = {name for name, it in ours.shape.items() if it[0] != "dir"}
+    def is_empty(each):
+        return any(name.startswith(each.name + b"/") for name in names) and not any(name.startswith(each.name + b"/") for name in holds)
+    return [each for each in differences if each.what == "extra" and each.ours[0] == "dir" and is_empty(each)]
+
+
+@REASONS.of("skipped-rejects")
+def skipped_rejects(case, gnu, _ours, differences):
+    """The reject of a file patch that both skipped, under a name that is told in quotes."""
+    skipped = says(gnu, b"ignored -- saving rejects to file \"", b"ignored -- saving rejects to file '")
+    return [each for each in differences if skipped and each.what == "missing" and each.name.endswith(b".rej") and re.search(rb"['\"\\\t\n]", each.name)]
