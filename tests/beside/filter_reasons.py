@@ -27,6 +27,12 @@ def refusal_status(case, theirs, ours, found):
     return ['refusal-status'] if theirs.status == [1] and ours.status == [2] and told_words else []
 
 
+def said_again(case, theirs, ours, found):
+    """An option that patchutils refuses where it is given again, and of which ours takes the last value."""
+    said = [word.split('=')[0] for word in case.runs[0].words if re.match(r'--(format|hunks|lines|files)=', word)]
+    return ['said-again'] if len(said) != len(set(said)) and theirs.status == [1] and ours.status == [0] else []
+
+
 def refused_words(case, theirs, ours, found):
     """Ours can't take a word."""
     if ours.status != [2] or 'the words are not a command' not in told(ours):
@@ -156,7 +162,7 @@ def fewest(case, theirs, ours, changes):
     return sorted({key for key, _ in needed})
 
 
-REASONS = (refusal_status, refused_words, refused_text, refused_pipe, refused_pattern, missing_recounted, pattern_files, cut, printed, other_numbers)
+REASONS = (refusal_status, said_again, refused_words, refused_text, refused_pipe, refused_pattern, missing_recounted, pattern_files, cut, printed, other_numbers)
 
 
 def key_of(case, theirs, ours, found):
